@@ -1,0 +1,23 @@
+//! The words that every other crate speaks in: texts, names, letters, lasso words, labels,
+//! acceptance conditions, and the automaton that a text describes.
+#![tactic(auto)]
+
+mod description;
+mod fault;
+mod formula;
+mod label;
+mod letter;
+mod limit;
+mod marks;
+mod names;
+mod seq;
+
+pub use description::{Description, Edge, Edges};
+pub use fault::{Failed, Memory, OpenFail};
+pub use formula::{Formula, Formulas};
+pub use label::{Label, Labels};
+pub use letter::{Lasso, Letter, Letters};
+pub use limit::Limit;
+pub use marks::Marks;
+pub use names::Names;
+pub use seq::{Numbers, Seq, Text, Words};

@@ -1,0 +1,77 @@
+//! The acceptance sets that an edge belongs to.
+
+ghost use Rattle.std.specs.Prelude.{◌≡◌, ◌==◌, ◌<◌, ℕ, [], ◌∷◌, ◌++◌, length, All, AllPairs, OnOk, OnErr, slice_get};
+ghost use Rattle.std.specs.List.{slice_index_or};
+
+use std::alloc::Global;
+use std::marker::Model;
+
+use crate::Memory;
+
+/// Numbers of acceptance sets, increasing and without repeats. Contracts see the list of the numbers.
+#[derive(Clone, Debug, Drop)]
+pub struct Marks {
+    items: Vec<u32>,
+}
+
+impl Model for Marks {
+    ghost use Rattle.std.specs.Prelude.{ℕ, List, ◌<◌, AllPairs};
+
+    ghost Value = { List ℕ };
+
+    ghost view = { λ s. s.items.items };
+
+    ghost invariant = { λ s. AllPairs (λ a b. a < b) s.items.items };
+}
+
+impl Marks {
+    /// No mark.
+    pub fn new(alloc: Global) -> Self
+        ensures { result ≡ [] }
+    {
+        Marks { items: Vec::new(alloc) }
+    }
+
+    /// The number of marks.
+    pub fn len(&self) -> usize
+        ensures { result ≡ length self.now }
+    {
+        self.items.len()
+    }
+
+    /// Whether there is no mark.
+    pub fn is_empty(&self) -> bool
+        ensures { result ≡ (length self.now == 0) }
+    {
+        self.items.is_empty()
+    }
+
+    /// The mark at this place, from 0.
+    pub fn at(&self, place: usize) -> &u32
+        requires { place < length self.now }
+        ensures value { Some result.now ≡ slice_get self.now place }
+        ensures item { (d : ℕ) → slice_index_or self.now place d ≡ result.now }
+    {
+        &self.items[place]
+    }
+
+    /// The marks, to go over. They increase.
+    pub fn as_slice(&self) -> &[u32]
+        ensures items { result.now ≡ self.now }
+        ensures increasing { AllPairs (λ a b. a < b) self.now }
+    {
+        &self.items
+    }
+
+    /// Adds a mark that is greater than all before it. Refused for want of memory, it leaves the marks as they were.
+    pub fn push(&mut self, item: u32) -> Result<(), Memory>
+        requires { All (λ mark. mark < item) self.old }
+        ensures ok { OnOk result (self.new ≡ self.old ++ item ∷ []) }
+        ensures err { OnErr result (self.new ≡ self.old) }
+    {
+        match self.items.push(item) {
+            Ok(()) => Ok(()),
+            Err(_) => Err(Memory),
+        }
+    }
+}

@@ -1,0 +1,77 @@
+//! The names of an automaton's atomic propositions.
+
+ghost use Rattle.std.specs.Prelude.{◌≡◌, ◌≢◌, ◌==◌, ◌<◌, ℕ, List, [], ◌∷◌, ◌++◌, length, All, AllPairs, OnOk, OnErr, slice_get};
+ghost use Rattle.std.specs.List.{slice_index_or};
+
+use std::alloc::Global;
+use std::marker::Model;
+
+use crate::{Memory, Text};
+
+/// Texts that differ from one another. Contracts see the list of the texts.
+#[derive(Clone, Debug, Drop)]
+pub struct Names {
+    items: Vec<Text>,
+}
+
+impl Model for Names {
+    ghost use Rattle.std.specs.Prelude.{ℕ, List, ◌≢◌, AllPairs};
+
+    ghost Value = { List (List ℕ) };
+
+    ghost view = { λ s. s.items.items };
+
+    ghost invariant = { λ s. AllPairs (λ a b. a ≢ b) s.items.items };
+}
+
+impl Names {
+    /// No name.
+    pub fn new(alloc: Global) -> Self
+        ensures { result ≡ [] }
+    {
+        Names { items: Vec::new(alloc) }
+    }
+
+    /// The number of names.
+    pub fn len(&self) -> usize
+        ensures { result ≡ length self.now }
+    {
+        self.items.len()
+    }
+
+    /// Whether there is no name.
+    pub fn is_empty(&self) -> bool
+        ensures { result ≡ (length self.now == 0) }
+    {
+        self.items.is_empty()
+    }
+
+    /// The name at this place, from 0.
+    pub fn at(&self, place: usize) -> &Text
+        requires { place < length self.now }
+        ensures value { Some result.now ≡ slice_get self.now place }
+        ensures item { (d : List ℕ) → slice_index_or self.now place d ≡ result.now }
+    {
+        &self.items[place]
+    }
+
+    /// The names, to go over. No two of them are equal.
+    pub fn as_slice(&self) -> &[Text]
+        ensures items { result.now ≡ self.now }
+        ensures distinct { AllPairs (λ a b. a ≢ b) self.now }
+    {
+        &self.items
+    }
+
+    /// Adds a name that isn't there yet. Refused for want of memory, it drops the name and leaves the list as it was.
+    pub fn push(&mut self, item: Text) -> Result<(), Memory>
+        requires { All (λ name. name ≢ item) self.old }
+        ensures ok { OnOk result (self.new ≡ self.old ++ item ∷ []) }
+        ensures err { OnErr result (self.new ≡ self.old) }
+    {
+        match self.items.push(item) {
+            Ok(()) => Ok(()),
+            Err(_) => Err(Memory),
+        }
+    }
+}
