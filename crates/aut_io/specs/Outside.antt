@@ -1,0 +1,44 @@
+-- What the outside is told and what it takes.
+use Rattle.std.specs.Prelude.{◌≡◌, ℕ, ◌+◌, ◌-◌, ◌^◌, ◌≤◌, min, List, [], ◌∷◌, ◌++◌, take, Option, Some, None, unwrap_or, Result, Ok, Err}
+use Rattle.std.specs.Cmp.Lexicographic.{slice_cmp}
+use Rattle.std.specs.Ordering.{nat_cmp}
+use Rattle.std.specs.FinMap.{FinMap, get}
+
+-- A count that never falls rose: it is greater after than before, or stands at the last value of a `u64`.
+abbrev pub Rose : ℕ → ℕ → Type 0
+Rose before after = min (before + 1) (2 ^ 64 - 1) ≤ after
+
+-- from names to the bytes that stand under them
+abbrev pub Texts : Type 0
+Texts = FinMap (slice_cmp nat_cmp) (List ℕ)
+
+-- the bytes under a name; a name that isn't there stands for the empty text
+abbrev pub text_of : Texts → List ℕ → List ℕ
+text_of texts name = unwrap_or (get texts name) []
+
+-- What is left once the name was opened, where the texts are told.
+abbrev pub Opened : Option Texts → List ℕ → Option (List ℕ) → Type 0
+Opened None name left = Unit {0}
+Opened (Some texts) name left = left ≡ Some (text_of texts name)
+
+-- nothing is open: nothing is left, where that is told
+abbrev pub Closed : Option (List ℕ) → Type 0
+Closed None = Unit {0}
+Closed (Some left) = left ≡ []
+
+-- What a read takes of what is left, and gives. A failed one takes nothing.
+abbrev pub Takes : {E : Type 0} → Option (List ℕ) → Option (List ℕ) → Result (Option ℕ) E → Type 0
+Takes None new result = new ≡ None
+Takes (Some old) new (Err e) = new ≡ Some old
+Takes (Some []) new (Ok byte) = (byte ≡ None) × (new ≡ Some [])
+Takes (Some (b ∷ rest)) new (Ok byte) = (byte ≡ Some b) × (new ≡ Some rest)
+
+-- what was written has gained the piece
+abbrev pub Gains : Option (List ℕ) → Option (List ℕ) → List ℕ → Type 0
+Gains None new piece = new ≡ None
+Gains (Some old) new piece = new ≡ Some (old ++ piece)
+
+-- what was written has gained a prefix of the piece
+abbrev pub GainsPrefix : Option (List ℕ) → Option (List ℕ) → List ℕ → Type 0
+GainsPrefix None new piece = new ≡ None
+GainsPrefix (Some old) new piece = (k : ℕ) × (new ≡ Some (old ++ take k piece))
