@@ -1,5 +1,8 @@
 -- What a label says, apart from how it lies in memory (HOA v1, label-expr).
-use Rattle.std.specs.Prelude.{ℕ, Bool, true, false, not, ◌&&◌, ◌||◌, List, [], ◌∷◌, map}
+use Rattle.std.specs.Prelude.{ℕ, Bool, true, false, not, ◌&&◌, ◌||◌, List, [], ◌∷◌, map, slice_get}
+use Rattle.std.specs.FinSet.{contains}
+use Rattle.std.specs.Option.{option_map_or}
+use Rattle.aut_base.specs.Word.{Sign}
 use Rattle.aut_base.specs.declared.label.Label.{Label}
 use Rattle.aut_base.specs.declared.label.Label.TheOpen.{Label-F}
 use Rattle.aut_base.specs.declared.label.Label.TheFolds.{fold-Label, fold-Labels}
@@ -19,18 +22,40 @@ mutual
     none : LabelTrees
     more : LabelTree → LabelTrees → LabelTrees
 
--- the list, as the trees hold it
+-- The truth of a label, where `holds` says which propositions hold.
+abbrev mutual
+  pub truth : (ℕ → Bool) → LabelTree → Bool
+  truth holds True = true
+  truth holds False = false
+  truth holds (Prop i) = holds i
+  truth holds (Not t) = not (truth holds t)
+  truth holds (And a b cs) = truth holds a && (truth holds b && all_true holds cs)
+  truth holds (Or a b cs) = truth holds a || (truth holds b || some_true holds cs)
+
+  pub all_true : (ℕ → Bool) → LabelTrees → Bool
+  all_true holds none = true
+  all_true holds (more t ts) = truth holds t && all_true holds ts
+
+  pub some_true : (ℕ → Bool) → LabelTrees → Bool
+  some_true holds none = false
+  some_true holds (more t ts) = truth holds t || some_true holds ts
+
+-- The i-th proposition holds at a letter that has the i-th name. Other names of the letter play no part.
+abbrev pub holds_at : List (List ℕ) → Sign → ℕ → Bool
+holds_at names letter i = option_map_or (contains letter) (slice_get names i) false
+
+-- the list, as a tree holds it
 abbrev pub trees : List LabelTree → LabelTrees
 trees [] = none
 trees (t ∷ ts) = more t (trees ts)
 
--- the trees of the parts of a conjunction or disjunction
+-- the parts of a conjunction or disjunction
 pub record Parts : Type 0 where
   pub first : LabelTree
   pub second : LabelTree
   pub others : List LabelTree
 
--- one level of a label, with the trees of what it holds
+-- one level of a label, with trees in the place of what it holds
 abbrev pub tree_step : Label-F LabelTree Parts → LabelTree
 tree_step Label-F.True = True
 tree_step Label-F.False = False
@@ -42,3 +67,11 @@ tree_step (Label-F.Or p) = Or p.first p.second (trees p.others)
 -- the tree of a label
 abbrev pub label_tree : Label → LabelTree
 label_tree = fold-Label LabelTree Parts tree_step (λ ls. record { first = ls.first.value; second = ls.second.value; others = ls.others.items })
+
+-- the parts of a conjunction or disjunction
+abbrev pub label_parts : Labels → Parts
+label_parts = fold-Labels LabelTree Parts tree_step (λ ls. record { first = ls.first.value; second = ls.second.value; others = ls.others.items })
+
+-- the same as one list, of two parts or more
+abbrev pub label_list : Labels → List LabelTree
+label_list ls = (label_parts ls).first ∷ (label_parts ls).second ∷ (label_parts ls).others

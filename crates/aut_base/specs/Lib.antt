@@ -1,1 +1,5 @@
+pub mod Acceptance
+pub mod Automaton
+pub mod Formula
 pub mod Label
+pub mod Word

@@ -1,0 +1,31 @@
+-- Which lasso words an automaton accepts. Nothing bounds how often the cycle is gone round, and there is no
+-- search: any two paths that fit will do.
+use Rattle.std.specs.Prelude.{◌≡◌, ℕ, ◌<◌, true, List, [], ◌∷◌, ◌++◌, map, Contains}
+use Rattle.aut_base.specs.Automaton.{Arrow, Automaton}
+use Rattle.aut_base.specs.Formula.{met}
+use Rattle.aut_base.specs.Label.{truth, holds_at}
+use Rattle.aut_base.specs.Word.{Sign, copies}
+
+-- a path from `p` to `q` along these edges, which reads these letters: each edge starts where the one before
+-- ends, and its label holds of the letter in its place
+abbrev pub IsPath : Automaton → ℕ → List Sign → List Arrow → ℕ → Type 0
+IsPath a p [] [] q = p ≡ q
+IsPath a p [] (e ∷ es) q = ⊥
+IsPath a p (x ∷ xs) [] q = ⊥
+IsPath a p (x ∷ xs) (e ∷ es) q =
+    (p ≡ e.from) × Contains a.edges e × (truth (holds_at a.names x) e.label ≡ true) × IsPath a e.to xs es q
+
+-- The automaton accepts the lasso word: a path from a start reads the stem and then the cycle `turns` times, and
+-- one from its end back to that end reads the cycle `rounds` times and meets the acceptance condition.
+pub record Accepts (a : Automaton) (u v : List Sign) : Type 0 where
+  pub start : ℕ
+  pub state : ℕ
+  pub turns : ℕ
+  pub rounds : ℕ
+  pub way : List Arrow
+  pub cycle : List Arrow
+  pub is_start : Contains a.starts start
+  pub leads : IsPath a start (u ++ copies turns v) way state
+  pub positive : 0 < rounds
+  pub returns : IsPath a state (copies rounds v) cycle state
+  pub meets : met (map (λ e. e.marks) cycle) a.formula ≡ true

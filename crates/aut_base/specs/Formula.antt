@@ -1,0 +1,79 @@
+-- What an acceptance condition says, apart from how it lies in memory (HOA v1, Acceptance).
+use Rattle.std.specs.Prelude.{ℕ, Bool, true, false, not, ◌&&◌, ◌||◌, ◌==◌, List, [], ◌∷◌}
+use Rattle.std.specs.List.{list_any, list_all}
+use Rattle.aut_base.specs.declared.formula.Formula.{Formula}
+use Rattle.aut_base.specs.declared.formula.Formula.TheOpen.{Formula-F}
+use Rattle.aut_base.specs.declared.formula.Formula.TheFolds.{fold-Formula, fold-Formulas}
+use Rattle.aut_base.specs.declared.formula.Formulas.{Formulas}
+
+-- an Emerson-Lei condition over sets that go by number; a conjunction or disjunction has two parts or more
+mutual
+  pub data FormulaTree : Type 0 where
+    True : FormulaTree
+    False : FormulaTree
+    -- the set, and whether `!` stands before it
+    Inf : ℕ → Bool → FormulaTree
+    Fin : ℕ → Bool → FormulaTree
+    And : FormulaTree → FormulaTree → FormulaTrees → FormulaTree
+    Or : FormulaTree → FormulaTree → FormulaTrees → FormulaTree
+
+  pub data FormulaTrees : Type 0 where
+    none : FormulaTrees
+    more : FormulaTree → FormulaTrees → FormulaTrees
+
+-- the edge with these marks is in the set
+abbrev pub is_in : ℕ → List ℕ → Bool
+is_in set marks = list_any (λ mark. mark == set) marks
+
+-- Whether a condition is met where the edges that come again and again are those of a cycle, given by the
+-- marks of each. `Inf(n)`: some edge is in n. `Inf(!n)`: some edge isn't. `Fin(n)`: none is. `Fin(!n)`: all are.
+abbrev mutual
+  pub met : List (List ℕ) → FormulaTree → Bool
+  met cycle True = true
+  met cycle False = false
+  met cycle (Inf set false) = list_any (is_in set) cycle
+  met cycle (Inf set true) = list_any (λ marks. not (is_in set marks)) cycle
+  met cycle (Fin set false) = list_all (λ marks. not (is_in set marks)) cycle
+  met cycle (Fin set true) = list_all (is_in set) cycle
+  met cycle (And a b cs) = met cycle a && (met cycle b && all_met cycle cs)
+  met cycle (Or a b cs) = met cycle a || (met cycle b || some_met cycle cs)
+
+  pub all_met : List (List ℕ) → FormulaTrees → Bool
+  all_met cycle none = true
+  all_met cycle (more f fs) = met cycle f && all_met cycle fs
+
+  pub some_met : List (List ℕ) → FormulaTrees → Bool
+  some_met cycle none = false
+  some_met cycle (more f fs) = met cycle f || some_met cycle fs
+
+-- the list, as a tree holds it
+abbrev pub trees : List FormulaTree → FormulaTrees
+trees [] = none
+trees (f ∷ fs) = more f (trees fs)
+
+-- the parts of a conjunction or disjunction
+pub record Parts : Type 0 where
+  pub first : FormulaTree
+  pub second : FormulaTree
+  pub others : List FormulaTree
+
+-- one level of a formula, with trees in the place of what it holds
+abbrev pub tree_step : Formula-F FormulaTree Parts → FormulaTree
+tree_step Formula-F.True = True
+tree_step Formula-F.False = False
+tree_step (Formula-F.Inf set neg) = Inf set neg
+tree_step (Formula-F.Fin set neg) = Fin set neg
+tree_step (Formula-F.And p) = And p.first p.second (trees p.others)
+tree_step (Formula-F.Or p) = Or p.first p.second (trees p.others)
+
+-- the tree of a formula
+abbrev pub formula_tree : Formula → FormulaTree
+formula_tree = fold-Formula FormulaTree Parts tree_step (λ fs. record { first = fs.first.value; second = fs.second.value; others = fs.others.items })
+
+-- the parts of a conjunction or disjunction
+abbrev pub formula_parts : Formulas → Parts
+formula_parts = fold-Formulas FormulaTree Parts tree_step (λ fs. record { first = fs.first.value; second = fs.second.value; others = fs.others.items })
+
+-- the same as one list, of two parts or more
+abbrev pub formula_list : Formulas → List FormulaTree
+formula_list fs = (formula_parts fs).first ∷ (formula_parts fs).second ∷ (formula_parts fs).others

@@ -1,0 +1,29 @@
+-- Letters and ultimately periodic words.
+use Rattle.std.specs.Prelude.{◌≡◌, ◌≢◌, ℕ, zero, suc, ◌+◌, ◌-◌, ◌%◌, ◌≤◌, List, [], ◌∷◌, ◌++◌, length, Option, nat_lt, if◌then◌else◌, slice_get}
+use Rattle.std.specs.Cmp.Lexicographic.{slice_cmp}
+use Rattle.std.specs.FinSet.{FinSet}
+use Rattle.std.specs.Ordering.{nat_cmp}
+
+-- The propositions that hold at one moment, by name. A name is a list of bytes.
+abbrev pub Sign : Type 0
+Sign = FinSet (slice_cmp nat_cmp)
+
+-- a list, this many times
+abbrev pub copies : {A : Type 0} → ℕ → List A → List A
+copies zero v = []
+copies (suc k) v = v ++ copies k v
+
+-- The n-th letter of the word that is `u` and then `v` again and again, from n = 0.
+abbrev pub letter_at : List Sign → List Sign → ℕ → Option Sign
+letter_at u v n = if nat_lt n (length u) then slice_get u n else slice_get v ((n - length u) % length v)
+
+-- both lasso words spell the same infinite word
+abbrev pub SpellsSame : List Sign → List Sign → List Sign → List Sign → Type 0
+SpellsSame u v x y = (n : ℕ) → letter_at u v n ≡ letter_at x y n
+
+-- the word is the shortest that spells its infinite word
+pub record IsReduced (u v : List Sign) : Type 0 where
+  -- the cycle is not two or more copies of a list
+  pub primitive : (w : List Sign) (k : ℕ) → 2 ≤ k → v ≢ copies k w
+  -- the stem is empty, or ends in a letter other than the cycle's last
+  pub stem : (x y : List Sign) (a b : Sign) → u ≡ x ++ a ∷ [] → v ≡ y ++ b ∷ [] → a ≢ b
