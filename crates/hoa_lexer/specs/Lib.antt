@@ -1,0 +1,5 @@
+pub mod Blanks
+pub mod Bytes
+pub mod Reading
+pub mod Spelling
+pub mod Text

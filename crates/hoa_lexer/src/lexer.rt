@@ -1,0 +1,112 @@
+//! The lexer.
+
+ghost use Rattle.std.specs.Prelude.{◌≡◌, ◌+◌, ◌-◌, ◌<◌, ◌≤◌, length, None, false, is_err, IsSome, IsErrOf, IfOk};
+ghost use Rattle.hoa_lexer.specs.Reading.{held_count, unread, Answers, Between, CountsFaults, Holds};
+
+use crate::{LexFault, Token};
+use aut_io::Inputs;
+use std::alloc::Global;
+
+/// Reads tokens from inputs, up to a number of bytes.
+#[derive(Debug, Drop)]
+pub struct Lexer {
+    most: u64,
+    taken: u64,
+    since: u64,
+    offset: u64,
+    held: Option<u8>,
+    spent: bool,
+    ghost within: { taken ≤ most },
+    ghost since_within: { since ≤ taken },
+    ghost held_within: { held_count held ≤ since },
+}
+
+impl Lexer {
+    /// A lexer that may take this many bytes in its life.
+    pub fn new(most: u64) -> Lexer
+        ensures most { result.most ≡ most }
+        ensures taken { result.taken ≡ 0 }
+        ensures since { result.since ≡ 0 }
+        ensures offset { result.offset ≡ 0 }
+        ensures held { result.held ≡ None }
+        ensures spent { result.spent ≡ false }
+    {
+        Lexer {
+            most,
+            taken: 0,
+            since: 0,
+            offset: 0,
+            held: None,
+            spent: false,
+        }
+    }
+
+    /// A new text begins: offsets count from here, and no byte is held.
+    pub fn begin(&mut self)
+        ensures most { self.new.most ≡ self.old.most }
+        ensures taken { self.new.taken ≡ self.old.taken }
+        ensures since { self.new.since ≡ 0 }
+        ensures offset { self.new.offset ≡ 0 }
+        ensures held { self.new.held ≡ None }
+        ensures spent { self.new.spent ≡ self.old.spent }
+    {
+        self.since = 0;
+        self.offset = 0;
+        self.held = None;
+    }
+
+    /// How many bytes were taken in the life of the lexer.
+    pub fn taken(&self) -> u64
+        ensures { result ≡ self.now.taken }
+    {
+        self.taken
+    }
+
+    /// Where the last token began, in bytes from the last `begin`.
+    pub fn offset(&self) -> u64
+        ensures { result ≡ self.now.offset }
+    {
+        self.offset
+    }
+
+    /// Whether there was a fault. A spent lexer is not asked again.
+    pub fn is_spent(&self) -> bool
+        ensures { result ≡ self.now.spent }
+    {
+        self.spent
+    }
+
+    /// The next token of the inputs' open text, or None where only blanks stood before its end.
+    pub fn next<I: Inputs>(
+        &mut self,
+        alloc: Global,
+        inputs: &mut I,
+    ) -> Result<Option<Token>, LexFault>
+        requires { self.old.spent ≡ false }
+
+        // The answer, by the bytes that were not read yet.
+        ensures answers { Between (I.left inputs.old) (I.left inputs.new) (λ old new.
+            Answers result (self.old.since - held_count self.old.held) self.new.offset (unread self.old.held old) (unread self.new.held new)) }
+        ensures holds { Holds result self.new.held }
+        ensures spent { self.new.spent ≡ is_err result }
+
+        // How many bytes were taken. A token uses at least one, also where the inputs don't tell what is left.
+        ensures most { self.new.most ≡ self.old.most }
+        ensures taken { Between (I.left inputs.old) (I.left inputs.new) (λ old new.
+            self.new.taken + length new ≡ self.old.taken + length old) }
+        ensures since { self.new.since + self.old.taken ≡ self.old.since + self.new.taken }
+        ensures later { self.old.taken ≤ self.new.taken }
+        ensures used { IfOk result (λ token. IsSome token
+            → self.old.taken + held_count self.new.held < self.new.taken + held_count self.old.held) }
+        ensures bytes { IsErrOf result LexFault.Bytes → self.new.taken ≡ self.new.most }
+
+        // The outside.
+        ensures reads { CountsFaults result (I.read_faults inputs.old) (I.read_faults inputs.new) }
+        ensures reads_later { I.read_faults inputs.old ≤ I.read_faults inputs.new }
+        ensures opens { I.open_faults inputs.new ≡ I.open_faults inputs.old }
+        ensures texts { I.texts inputs.new ≡ I.texts inputs.old }
+    {
+        self.spent = true;
+        Err(LexFault::Memory)
+    }
+}

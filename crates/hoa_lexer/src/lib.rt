@@ -1,0 +1,9 @@
+//! The tokens of HOA v1, read byte by byte: each the longest that the bytes allow, and not one byte more is
+//! taken than tells that it ends.
+#![tactic(auto)]
+
+mod lexer;
+mod token;
+
+pub use lexer::Lexer;
+pub use token::{LexFault, Token};

@@ -1,0 +1,50 @@
+//! Tokens, and why there may be none.
+
+use aut_base::Text;
+
+/// A token of HOA v1 (section "Grammar").
+#[derive(Clone, Debug, PartialEq, Eq, Drop)]
+pub enum Token {
+    /// A header's name, without the colon.
+    HeaderName(Text),
+    Identifier(Text),
+    /// A string, without its quotes and with its escapes resolved.
+    Str(Text),
+    Int(u32),
+    /// An alias, without the `@`.
+    Alias(Text),
+    Bang,
+    Amp,
+    Bar,
+    LeftParen,
+    RightParen,
+    LeftBrace,
+    RightBrace,
+    LeftBracket,
+    RightBracket,
+    /// `--BODY--`
+    Body,
+    /// `--END--`
+    End,
+    /// `--ABORT--`
+    Abort,
+}
+
+/// Why the lexer gives no token. It is spent after each of these.
+#[derive(Clone, Copy, Debug, PartialEq, Eq)]
+pub enum LexFault {
+    /// The bytes from this offset on are no token, however they go on.
+    BadToken(u64),
+    /// The text ended inside a comment.
+    OpenComment,
+    /// The text ended inside a string.
+    OpenString,
+    /// The text ended inside a token that more bytes could extend, or after a single `/`.
+    OpenToken,
+    /// A read failed.
+    Read,
+    /// As many bytes as the lexer may take were taken, and one more was asked for.
+    Bytes,
+    /// Want of memory.
+    Memory,
+}
