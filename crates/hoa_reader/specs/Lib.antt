@@ -1,3 +1,4 @@
 pub mod FirstForm
+pub mod Parsing
 pub mod Raw
 pub mod Reads
