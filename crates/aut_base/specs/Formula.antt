@@ -1,5 +1,5 @@
 -- What an acceptance condition says, apart from how it lies in memory (HOA v1, Acceptance).
-use Rattle.std.specs.Prelude.{ℕ, Bool, true, false, not, ◌&&◌, ◌||◌, ◌==◌, List, [], ◌∷◌}
+use Rattle.std.specs.Prelude.{◌<◌, ℕ, Bool, true, false, not, ◌&&◌, ◌||◌, ◌==◌, List, [], ◌∷◌}
 use Rattle.std.specs.List.{list_any, list_all}
 use Rattle.aut_base.specs.declared.formula.Formula.{Formula}
 use Rattle.aut_base.specs.declared.formula.Formula.TheOpen.{Formula-F}
@@ -45,6 +45,20 @@ abbrev mutual
   pub some_met : List (List ℕ) → FormulaTrees → Bool
   some_met cycle none = false
   some_met cycle (more f fs) = met cycle f || some_met cycle fs
+
+-- Every set that the condition names is below n.
+abbrev mutual
+  pub SetsBelow : ℕ → FormulaTree → Type 0
+  SetsBelow n True = Unit {0}
+  SetsBelow n False = Unit {0}
+  SetsBelow n (Inf set neg) = set < n
+  SetsBelow n (Fin set neg) = set < n
+  SetsBelow n (And a b cs) = SetsBelow n a × SetsBelow n b × EachSetsBelow n cs
+  SetsBelow n (Or a b cs) = SetsBelow n a × SetsBelow n b × EachSetsBelow n cs
+
+  pub EachSetsBelow : ℕ → FormulaTrees → Type 0
+  EachSetsBelow n none = Unit {0}
+  EachSetsBelow n (more f fs) = SetsBelow n f × EachSetsBelow n fs
 
 -- the list, as a tree holds it
 abbrev pub trees : List FormulaTree → FormulaTrees

@@ -1,5 +1,5 @@
 -- What a label says, apart from how it lies in memory (HOA v1, label-expr).
-use Rattle.std.specs.Prelude.{ℕ, Bool, true, false, not, ◌&&◌, ◌||◌, List, [], ◌∷◌, map, slice_get}
+use Rattle.std.specs.Prelude.{◌<◌, ℕ, Bool, true, false, not, ◌&&◌, ◌||◌, List, [], ◌∷◌, slice_get}
 use Rattle.std.specs.FinSet.{contains}
 use Rattle.std.specs.Option.{option_map_or}
 use Rattle.aut_base.specs.Word.{Sign}
@@ -39,6 +39,20 @@ abbrev mutual
   pub some_true : (ℕ → Bool) → LabelTrees → Bool
   some_true holds none = false
   some_true holds (more t ts) = truth holds t || some_true holds ts
+
+-- Every proposition of the label is below n.
+abbrev mutual
+  pub AllBelow : ℕ → LabelTree → Type 0
+  AllBelow n True = Unit {0}
+  AllBelow n False = Unit {0}
+  AllBelow n (Prop i) = i < n
+  AllBelow n (Not t) = AllBelow n t
+  AllBelow n (And a b cs) = AllBelow n a × AllBelow n b × EachBelow n cs
+  AllBelow n (Or a b cs) = AllBelow n a × AllBelow n b × EachBelow n cs
+
+  pub EachBelow : ℕ → LabelTrees → Type 0
+  EachBelow n none = Unit {0}
+  EachBelow n (more t ts) = AllBelow n t × EachBelow n ts
 
 -- The i-th proposition holds at a letter that has the i-th name. Other names of the letter play no part.
 abbrev pub holds_at : List (List ℕ) → Sign → ℕ → Bool

@@ -1,5 +1,11 @@
 //! The acceptance condition of an automaton.
 
+ghost use Rattle.std.specs.Prelude.{◌≡◌, ◌<◌, ℕ, [], ◌∷◌, ◌++◌, length, map, IfOk, OnOk, OnErr, slice_get};
+ghost use Rattle.aut_base.specs.Formula.{FormulaTree, Parts, formula_tree, formula_parts, formula_list};
+
+use crate::Memory;
+use std::alloc::Global;
+
 /// An Emerson-Lei condition over the acceptance sets (HOA v1, Acceptance). `neg` stands for the `!` before
 /// the set's number, and speaks of the edges that don't belong to the set.
 #[cycle(formula)]
@@ -20,4 +26,100 @@ pub struct Formulas {
     first: Box<Formula>,
     second: Box<Formula>,
     others: Vec<Formula>,
+}
+
+impl Formula {
+    /// The same condition, held apart.
+    #[cycle(formula_copy)]
+    pub fn copy(&self, alloc: Global) -> Result<Formula, Memory>
+        ensures { IfOk result (λ new. formula_tree new ≡ formula_tree self.now) }
+    {
+        match self {
+            Formula::True => Ok(Formula::True),
+            Formula::False => Ok(Formula::False),
+            Formula::Inf { set, neg } => Ok(Formula::Inf {
+                set: *set,
+                neg: *neg,
+            }),
+            Formula::Fin { set, neg } => Ok(Formula::Fin {
+                set: *set,
+                neg: *neg,
+            }),
+            Formula::And(parts) => Ok(Formula::And(parts.copy(alloc)?)),
+            Formula::Or(parts) => Ok(Formula::Or(parts.copy(alloc)?)),
+        }
+    }
+}
+
+#[tactic(auto, using(crate::proofs::FormulaTrees::formula_trees))]
+impl Formulas {
+    /// These two parts.
+    pub fn pair(alloc: Global, first: Formula, second: Formula) -> Result<Formulas, Memory>
+        ensures { IfOk result (λ new. formula_list new ≡ formula_tree first ∷ formula_tree second ∷ []) }
+    {
+        let first = Box::new(alloc, first)?;
+        let second = Box::new(alloc, second)?;
+        Ok(Formulas {
+            first,
+            second,
+            others: Vec::new(alloc),
+        })
+    }
+
+    /// Adds a part at the end. Refused for want of memory, it drops the part and leaves the others as they were.
+    pub fn push(&mut self, item: Formula) -> Result<(), Memory>
+        ensures ok { OnOk result (formula_list self.new ≡ formula_list self.old ++ formula_tree item ∷ []) }
+        ensures err { OnErr result (formula_list self.new ≡ formula_list self.old) }
+    {
+        match self.others.push(item) {
+            Ok(()) => Ok(()),
+            Err(_) => Err(Memory),
+        }
+    }
+
+    /// The number of parts.
+    pub fn len(&self) -> usize
+        ensures { result ≡ length (formula_list self.now) }
+    {
+        self.others.len() + 2
+    }
+
+    /// The part at this place, from 0.
+    pub fn at(&self, place: usize) -> &Formula
+        requires { place < length (formula_list self.now) }
+        ensures { slice_get (formula_list self.now) place ≡ Some (formula_tree result.now) }
+    {
+        match place {
+            0 => &self.first,
+            1 => &self.second,
+            _ => &self.others[place - 2],
+        }
+    }
+
+    /// The same parts, held apart.
+    #[cycle(formula_copy)]
+    pub fn copy(&self, alloc: Global) -> Result<Formulas, Memory>
+        ensures { IfOk result (λ new. formula_parts new ≡ formula_parts self.now) }
+    {
+        let first = self.first.copy(alloc)?;
+        let second = self.second.copy(alloc)?;
+        let others = copy_all(alloc, &self.others)?;
+        Ok(Formulas {
+            first: Box::new(alloc, first)?,
+            second: Box::new(alloc, second)?,
+            others,
+        })
+    }
+}
+
+#[cycle(formula_copy)]
+fn copy_all(alloc: Global, parts: &[Formula]) -> Result<Vec<Formula>, Memory>
+    ensures { IfOk result (λ new. map formula_tree new.items ≡ map formula_tree parts.now) }
+{
+    let mut copies = Vec::new(alloc);
+    'parts: for part in parts {
+        let copied = part.copy(alloc)?;
+        copies.push(copied)?;
+    }
+    Ok(copies)
 }

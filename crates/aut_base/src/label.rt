@@ -1,8 +1,11 @@
 //! The label of an edge: a Boolean formula over the propositions.
 
-use std::alloc::Global;
+ghost use Rattle.std.specs.Prelude.{◌≡◌, ◌<◌, ℕ, false, [], ◌∷◌, ◌++◌, length, map, IfOk, OnOk, OnErr, slice_get};
+ghost use Rattle.std.specs.List.{slice_index_or};
+ghost use Rattle.aut_base.specs.Label.{LabelTree, Parts, AllBelow, EachBelow, truth, all_true, some_true, trees, label_tree, label_parts, label_list};
 
 use crate::Memory;
+use std::alloc::Global;
 
 /// A Boolean formula over the atomic propositions, which go by their place in the automaton's list of names
 /// (HOA v1, label-expr).
@@ -24,4 +27,142 @@ pub struct Labels {
     first: Box<Label>,
     second: Box<Label>,
     others: Vec<Label>,
+}
+
+impl Label {
+    /// The same label, held apart.
+    #[cycle(label_copy)]
+    pub fn copy(&self, alloc: Global) -> Result<Label, Memory>
+        ensures { IfOk result (λ new. label_tree new ≡ label_tree self.now) }
+    {
+        match self {
+            Label::True => Ok(Label::True),
+            Label::False => Ok(Label::False),
+            Label::Prop(place) => Ok(Label::Prop(*place)),
+            Label::Not(inner) => {
+                let inner = inner.copy(alloc)?;
+                Ok(Label::Not(Box::new(alloc, inner)?))
+            }
+            Label::And(parts) => Ok(Label::And(parts.copy(alloc)?)),
+            Label::Or(parts) => Ok(Label::Or(parts.copy(alloc)?)),
+        }
+    }
+
+    /// Whether the label is true where `on` says of each proposition whether it holds.
+    #[cycle(label_truth)]
+    #[tactic(auto, using(crate::proofs::LabelTrees::label_trees))]
+    pub fn truth(&self, on: &[bool]) -> bool
+        requires { AllBelow (length on.now) (label_tree self.now) }
+        ensures { result ≡ truth (λ i. slice_index_or on.now i false) (label_tree self.now) }
+    {
+        match self {
+            Label::True => true,
+            Label::False => false,
+            Label::Prop(place) => on[*place as usize],
+            Label::Not(inner) => !inner.truth(on),
+            Label::And(parts) => parts.first.truth(on)
+                && (parts.second.truth(on) && all_true(&parts.others, on)),
+            Label::Or(parts) => parts.first.truth(on)
+                || (parts.second.truth(on) || some_true(&parts.others, on)),
+        }
+    }
+}
+
+#[tactic(auto, using(crate::proofs::LabelTrees::label_trees))]
+impl Labels {
+    /// These two parts.
+    pub fn pair(alloc: Global, first: Label, second: Label) -> Result<Labels, Memory>
+        ensures { IfOk result (λ new. label_list new ≡ label_tree first ∷ label_tree second ∷ []) }
+    {
+        let first = Box::new(alloc, first)?;
+        let second = Box::new(alloc, second)?;
+        Ok(Labels {
+            first,
+            second,
+            others: Vec::new(alloc),
+        })
+    }
+
+    /// Adds a part at the end. Refused for want of memory, it drops the part and leaves the others as they were.
+    pub fn push(&mut self, item: Label) -> Result<(), Memory>
+        ensures ok { OnOk result (label_list self.new ≡ label_list self.old ++ label_tree item ∷ []) }
+        ensures err { OnErr result (label_list self.new ≡ label_list self.old) }
+    {
+        match self.others.push(item) {
+            Ok(()) => Ok(()),
+            Err(_) => Err(Memory),
+        }
+    }
+
+    /// The number of parts.
+    pub fn len(&self) -> usize
+        ensures { result ≡ length (label_list self.now) }
+    {
+        self.others.len() + 2
+    }
+
+    /// The part at this place, from 0.
+    pub fn at(&self, place: usize) -> &Label
+        requires { place < length (label_list self.now) }
+        ensures { slice_get (label_list self.now) place ≡ Some (label_tree result.now) }
+    {
+        match place {
+            0 => &self.first,
+            1 => &self.second,
+            _ => &self.others[place - 2],
+        }
+    }
+
+    /// The same parts, held apart.
+    #[cycle(label_copy)]
+    pub fn copy(&self, alloc: Global) -> Result<Labels, Memory>
+        ensures { IfOk result (λ new. label_parts new ≡ label_parts self.now) }
+    {
+        let first = self.first.copy(alloc)?;
+        let second = self.second.copy(alloc)?;
+        let others = copy_all(alloc, &self.others)?;
+        Ok(Labels {
+            first: Box::new(alloc, first)?,
+            second: Box::new(alloc, second)?,
+            others,
+        })
+    }
+}
+
+#[cycle(label_copy)]
+fn copy_all(alloc: Global, parts: &[Label]) -> Result<Vec<Label>, Memory>
+    ensures { IfOk result (λ new. map label_tree new.items ≡ map label_tree parts.now) }
+{
+    let mut copies = Vec::new(alloc);
+    'parts: for part in parts {
+        let copied = part.copy(alloc)?;
+        copies.push(copied)?;
+    }
+    Ok(copies)
+}
+
+#[cycle(label_truth)]
+fn all_true(parts: &[Label], on: &[bool]) -> bool
+    requires { EachBelow (length on.now) (trees (map label_tree parts.now)) }
+    ensures { result ≡ all_true (λ i. slice_index_or on.now i false) (trees (map label_tree parts.now)) }
+{
+    'parts: for part in parts {
+        if !part.truth(on) {
+            return false;
+        }
+    }
+    true
+}
+
+#[cycle(label_truth)]
+fn some_true(parts: &[Label], on: &[bool]) -> bool
+    requires { EachBelow (length on.now) (trees (map label_tree parts.now)) }
+    ensures { result ≡ some_true (λ i. slice_index_or on.now i false) (trees (map label_tree parts.now)) }
+{
+    'parts: for part in parts {
+        if part.truth(on) {
+            return true;
+        }
+    }
+    false
 }

@@ -3,10 +3,9 @@
 ghost use Rattle.std.specs.Prelude.{◌≡◌, ◌==◌, ◌<◌, ℕ, [], ◌∷◌, ◌++◌, length, All, AllPairs, OnOk, OnErr, slice_get};
 ghost use Rattle.std.specs.List.{slice_index_or};
 
+use crate::Memory;
 use std::alloc::Global;
 use std::marker::Model;
-
-use crate::Memory;
 
 /// Numbers of acceptance sets, increasing and without repeats. Contracts see the list of the numbers.
 #[derive(Clone, Debug, Drop)]
@@ -29,7 +28,9 @@ impl Marks {
     pub fn new(alloc: Global) -> Self
         ensures { result ≡ [] }
     {
-        Marks { items: Vec::new(alloc) }
+        Marks {
+            items: Vec::new(alloc),
+        }
     }
 
     /// The number of marks.

@@ -3,10 +3,9 @@
 ghost use Rattle.std.specs.Prelude.{◌≡◌, ◌≢◌, ◌==◌, ◌<◌, ℕ, List, [], ◌∷◌, ◌++◌, length, All, AllPairs, OnOk, OnErr, slice_get};
 ghost use Rattle.std.specs.List.{slice_index_or};
 
+use crate::{Memory, Text};
 use std::alloc::Global;
 use std::marker::Model;
-
-use crate::{Memory, Text};
 
 /// Texts that differ from one another. Contracts see the list of the texts.
 #[derive(Clone, Debug, Drop)]
@@ -29,7 +28,9 @@ impl Names {
     pub fn new(alloc: Global) -> Self
         ensures { result ≡ [] }
     {
-        Names { items: Vec::new(alloc) }
+        Names {
+            items: Vec::new(alloc),
+        }
     }
 
     /// The number of names.

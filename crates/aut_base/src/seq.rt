@@ -3,11 +3,10 @@
 ghost use Rattle.std.specs.Prelude.{◌≡◌, ◌==◌, ◌<◌, [], ◌∷◌, ◌++◌, length, slice_get, IfOk, OnOk, OnErr};
 ghost use Rattle.std.specs.List.{slice_index_or};
 
+use crate::Memory;
 use std::alloc::Global;
 use std::hash::{Hash, Hasher};
 use std::marker::Model;
-
-use crate::Memory;
 
 /// A list that grows at its end. Contracts see the list of its items.
 #[derive(Clone, Debug, Drop)]
@@ -37,7 +36,9 @@ impl<T> Seq<T> {
     pub fn new(alloc: Global) -> Self
         ensures { result ≡ [] }
     {
-        Seq { items: Vec::new(alloc) }
+        Seq {
+            items: Vec::new(alloc),
+        }
     }
 
     /// The number of items.

@@ -1,0 +1,3 @@
+pub mod LabelTrees
+pub mod Places
+pub mod FormulaTrees
