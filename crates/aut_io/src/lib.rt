@@ -3,7 +3,19 @@
 #![tactic(auto)]
 
 mod inputs;
+mod listed;
+mod mem_inputs;
+mod mem_sink;
 mod sink;
+mod sure_inputs;
+mod sure_sink;
+#[cfg(test)]
+mod tests;
+mod text_store;
 
 pub use inputs::Inputs;
+pub use mem_inputs::MemInputs;
+pub use mem_sink::MemSink;
 pub use sink::Sink;
+pub use sure_inputs::SureInputs;
+pub use sure_sink::SureSink;

@@ -1,0 +1,68 @@
+//! A source in memory that never fails.
+
+ghost use Rattle.std.specs.Prelude.{◌≡◌, ℕ, Option, Some, List, ◌≤◌, [], length, IsOk, OnOk, OnErr, IsErrOf};
+ghost use Rattle.std.specs.FinMap.{from_entries};
+ghost use Rattle.std.specs.List.{zip};
+ghost use Rattle.aut_io.specs.Outside.{Rose, Opened, Closed, Takes};
+
+use crate::inputs::Inputs;
+use crate::text_store::TextStore;
+use aut_base::{Failed, Names, OpenFail, Text, Words};
+use std::marker::Model;
+
+/// Texts in memory under names. No call fails: a name that isn't there stands for the empty text.
+#[derive(Debug, Drop)]
+pub struct SureInputs {
+    store: TextStore,
+}
+
+impl Model for SureInputs {
+    ghost use Rattle.aut_io.specs.InMemory.{TextState, text_state_code};
+
+    ghost Value = { TextState };
+
+    ghost coded = { text_state_code };
+
+    ghost view = { λ s. s.store };
+}
+
+impl SureInputs {
+    /// These texts under these names, nothing open.
+    pub fn new(names: Names, texts: Words) -> Self
+        requires { length texts ≡ length names }
+        ensures { result ≡ record { texts = from_entries (zip names texts); left = [] } }
+    {
+        SureInputs {
+            store: TextStore::new(names, texts),
+        }
+    }
+}
+
+impl Inputs for SureInputs {
+    ghost texts = { λ s. Some s.texts };
+
+    ghost left = { λ s. Some s.left };
+
+    ghost open_faults = { λ _. 0 };
+
+    ghost read_faults = { λ _. 0 };
+
+    ghost may_open = { λ _. Unit {0} };
+
+    fn open(&mut self, name: &Text) -> Result<(), OpenFail>
+        ensures ok { IsOk result }
+        ensures opened { OnOk result (Opened (Some self.old.texts) name.now (Some self.new.left)) }
+        ensures texts { self.new.texts ≡ self.old.texts }
+    {
+        let _there = self.store.open(name);
+        Ok(())
+    }
+
+    fn next(&mut self) -> Result<Option<u8>, Failed>
+        ensures ok { IsOk result }
+        ensures takes { Takes (Some self.old.left) (Some self.new.left) result }
+        ensures texts { self.new.texts ≡ self.old.texts }
+    {
+        Ok(self.store.take())
+    }
+}
