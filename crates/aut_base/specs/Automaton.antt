@@ -1,7 +1,8 @@
 -- An automaton as a value: what a `Description` says, apart from how it lies in memory.
-use Rattle.std.specs.Prelude.{ℕ, List, map}
-use Rattle.aut_base.specs.Formula.{FormulaTree, formula_tree}
-use Rattle.aut_base.specs.Label.{LabelTree, label_tree}
+use Rattle.std.specs.Prelude.{◌≢◌, ◌<◌, ℕ, List, length, map, All, AllPairs}
+use Rattle.std.specs.List.Sorted.{IsNonDecreasing}
+use Rattle.aut_base.specs.Formula.{FormulaTree, SetsBelow, formula_tree}
+use Rattle.aut_base.specs.Label.{AllBelow, LabelTree, label_tree}
 use Rattle.aut_base.specs.declared.description.Description.{Description}
 use Rattle.aut_base.specs.declared.description.Edge.{Edge}
 
@@ -26,3 +27,18 @@ arrow e = record { from = e.from; label = label_tree e.label; to = e.to; marks =
 
 abbrev pub automaton : Description → Automaton
 automaton d = record { names = d.names; starts = d.starts; states = d.states; edges = map arrow d.edges; sets = d.sets; formula = formula_tree d.formula }
+
+-- the edge speaks of the automaton's own states, propositions and acceptance sets
+pub record IsArrowOf (a : Automaton) (e : Arrow) : Type 0 where
+  pub from : e.from < a.states
+  pub to : e.to < a.states
+  pub label : AllBelow (length a.names) e.label
+  pub marks : All (λ mark. mark < a.sets) e.marks
+
+-- Starts are distinct, edges stand in the order of the states that they leave, and every number is in range.
+pub record IsWellFormed (a : Automaton) : Type 0 where
+  pub starts_differ : AllPairs (λ p q. p ≢ q) a.starts
+  pub starts : All (λ p. p < a.states) a.starts
+  pub in_order : IsNonDecreasing (map (λ e. e.from) a.edges)
+  pub edges : All (IsArrowOf a) a.edges
+  pub formula : SetsBelow a.sets a.formula

@@ -1,0 +1,2 @@
+pub mod CanonicalLabel
+pub mod CanonicalText
