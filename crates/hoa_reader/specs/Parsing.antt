@@ -1,13 +1,49 @@
 -- Parts of the first form, as they are found in tokens.
-use Rattle.std.specs.Prelude.{◌≡◌, ◌≢◌, ℕ, List, [], ◌∷◌, ◌++◌, map, flat_map, All}
+use Rattle.std.specs.Prelude.{◌≡◌, ◌≢◌, ℕ, Bool, false, List, [], ◌∷◌, ◌++◌, map, flat_map, codes, All, Option, Some, None}
 use Rattle.hoa_lexer.specs.declared.token.Token.{Token}
 use Rattle.hoa_lexer.specs.declared.token.Token.TheVariants as token
-use Rattle.hoa_reader.specs.FirstForm.{Loop, FirstForm, IsGuardOf, loop_tokens, loop_written, IsFirstForm, form_tokens, form_written}
-use Rattle.hoa_reader.specs.Raw.{WrittenEdge, Written}
+use Rattle.hoa_reader.specs.declared.parse.Guard as declared
+use Rattle.hoa_reader.specs.declared.raw.RawEdge.{RawEdge}
+use Rattle.hoa_reader.specs.FirstForm.{Guard, Always, Holds, Fails, Loop, FirstForm, IsGuardOf, AllLower, guard_tokens, guard_written, marks_tokens, marks_of, loop_tokens, loop_written, property_tokens, IsFirstForm, form_tokens, form_written}
+use Rattle.hoa_reader.specs.Raw.{WrittenEdge, Written, written_edge}
 
--- the tokens do not go on with marks
-abbrev pub NextIsOther : List Token → Type 0
-NextIsOther tokens = (rest : List Token) → tokens ≢ token.LeftBrace ∷ rest
+-- the tokens don't go on with the words of a `properties:` line
+abbrev pub EndsProperties : Option (List (List ℕ)) → List Token → Type 0
+EndsProperties None tokens = (rest : List Token) → tokens ≢ token.HeaderName (codes "properties") ∷ rest
+EndsProperties (Some words) tokens = (word : List ℕ) (rest : List Token) → tokens ≢ token.Identifier word ∷ rest
+
+-- a `properties:` line, or none, stands at the front of the tokens
+pub record IsProperties (tokens : List Token) (words : Option (List (List ℕ))) (rest : List Token) : Type 0 where
+  pub lower : AllLower words
+  pub split : tokens ≡ property_tokens words ++ rest
+  pub ends : EndsProperties words rest
+
+-- none does, where `--BODY--` comes next
+abbrev pub NoProperties : List Token → Type 0
+NoProperties tokens = (words : Option (List (List ℕ))) (rest : List Token) → AllLower words → tokens ≡ property_tokens words ++ token.Body ∷ rest → ⊥
+
+abbrev pub guard_of : declared.Guard → Guard
+guard_of declared.Guard.Always = Always
+guard_of (declared.Guard.Holds i) = Holds i
+guard_of (declared.Guard.Fails i) = Fails i
+
+-- no label stands at the front of the tokens
+abbrev pub NoGuard : List Token → Type 0
+NoGuard tokens = (guard : Guard) (rest : List Token) → tokens ≡ guard_tokens guard ++ rest → ⊥
+
+-- the tokens don't go on with marks
+abbrev pub EndsMarks : Bool → List Token → Type 0
+EndsMarks marked tokens = marked ≡ false → (rest : List Token) → tokens ≢ token.LeftBrace ∷ rest
+
+-- the mark, or none, stands at the front of the tokens
+pub record AreMarks (tokens : List Token) (marks : List ℕ) (rest : List Token) : Type 0 where
+  pub marked : Bool
+  pub split : tokens ≡ marks_tokens marked ++ rest
+  pub shown : marks ≡ marks_of marked
+  pub ends : EndsMarks marked rest
+
+abbrev pub NoMarks : List Token → Type 0
+NoMarks tokens = (marked : Bool) (rest : List Token) → EndsMarks marked rest → tokens ≡ marks_tokens marked ++ rest → ⊥
 
 -- an edge stands at the front of the tokens
 pub record IsLoop (names : ℕ) (tokens : List Token) (edge : WrittenEdge) (rest : List Token) : Type 0 where
@@ -15,7 +51,10 @@ pub record IsLoop (names : ℕ) (tokens : List Token) (edge : WrittenEdge) (rest
   pub in_range : IsGuardOf names loop.guard
   pub split : tokens ≡ loop_tokens loop ++ rest
   pub shown : edge ≡ loop_written loop
-  pub stops : NextIsOther rest
+  pub ends : EndsMarks loop.marked rest
+
+abbrev pub NoLoop : ℕ → List Token → Type 0
+NoLoop names tokens = (loop : Loop) (rest : List Token) → IsGuardOf names loop.guard → EndsMarks loop.marked rest → tokens ≡ loop_tokens loop ++ rest → ⊥
 
 -- edges and `--END--` are the tokens
 pub record IsLoops (names : ℕ) (tokens : List Token) (edges : List WrittenEdge) : Type 0 where
@@ -23,6 +62,18 @@ pub record IsLoops (names : ℕ) (tokens : List Token) (edges : List WrittenEdge
   pub in_range : All (λ l. IsGuardOf names l.guard) loops
   pub split : tokens ≡ flat_map loop_tokens loops ++ token.End ∷ []
   pub shown : edges ≡ map loop_written loops
+
+abbrev pub NoLoops : ℕ → List Token → Type 0
+NoLoops names tokens = (loops : List Loop) → All (λ l. IsGuardOf names l.guard) loops → tokens ≡ flat_map loop_tokens loops ++ token.End ∷ [] → ⊥
+
+-- Edges were read, and `rest` is still to read.
+pub record IsLoopsSoFar (names : ℕ) (tokens : List Token) (edges : List RawEdge) (rest : List Token) : Type 0 where
+  pub loops : List Loop
+  pub in_range : All (λ l. IsGuardOf names l.guard) loops
+  pub split : tokens ≡ flat_map loop_tokens loops ++ rest
+  pub shown : map written_edge edges ≡ map loop_written loops
+  -- what refuses the rest refuses all
+  pub refuses : NoLoops names rest → NoLoops names tokens
 
 -- the tokens are an automaton of the first form
 pub record IsWhole (tokens : List Token) (raw : Written) : Type 0 where

@@ -1,9 +1,10 @@
 //! From the tokens of an automaton to what they write.
 
-ghost use Rattle.std.specs.Prelude.{◌≡◌, ◌≢◌, ◌<◌, ◌≤◌, ℕ, List, [], ◌∷◌, ◌++◌, length, map, flat_map, All, AllPairs, IfSome, IfNone, IfOk, IsTrue, IsErrOf, true, ◌↔◌};
+ghost use Rattle.std.specs.Prelude.{◌≡◌, ◌≢◌, ◌<◌, ◌≤◌, ℕ, List, [], ◌∷◌, ◌++◌, length, codes, drop, map, flat_map, All, AllPairs, IfSome, IfNone, IfOk, IfErr, IsTrue, IsErrOf, true, ◌↔◌};
 ghost use Rattle.hoa_lexer.specs.declared.token.Token.{Token};
-ghost use Rattle.hoa_reader.specs.FirstForm.{opening_tokens, acceptance_tokens, state_tokens, is_lower};
-ghost use Rattle.hoa_reader.specs.Parsing.{IsLoop, IsLoops, NextIsOther, IsWhole, Refuses};
+ghost use Rattle.hoa_reader.specs.FirstForm.{opening_tokens, acceptance_tokens, state_tokens, guard_tokens, guard_written, IsGuardOf, is_lower};
+ghost use Rattle.hoa_reader.specs.Parsing.{IsProperties, NoProperties, guard_of, NoGuard, AreMarks, NoMarks, IsLoop, NoLoop, IsLoops, NoLoops, IsWhole, Refuses};
+ghost use Rattle.hoa_reader.specs.Raw.{raw_tree, written_edge, written};
 
 use std::alloc::Global;
 
@@ -79,32 +80,36 @@ fn after_state(tokens: &[Token]) -> Option<&[Token]>
     }
 }
 
-/// The strings at the front, and what follows them.
-fn strings(alloc: Global, tokens: &[Token]) -> Result<(Words, &[Token]), Memory>
-    ensures front { IfOk result (λ found. tokens.now ≡ map Token.Str found.0 ++ found.1.now) }
-    ensures longest { IfOk result (λ found. (text : List ℕ) (rest : List Token) → found.1.now ≢ Token.Str text ∷ rest) }
+/// The strings at the front.
+#[tactic(auto, using(crate::proofs::Fronts::fronts))]
+fn strings(alloc: Global, tokens: &[Token]) -> Result<Words, Memory>
+    ensures front { IfOk result (λ texts. tokens.now ≡ map Token.Str texts ++ drop (length texts) tokens.now) }
+    ensures longest { IfOk result (λ texts. (text : List ℕ) (rest : List Token) → drop (length texts) tokens.now ≢ Token.Str text ∷ rest) }
 {
     let mut texts = Words::new(alloc);
-    let mut rest = tokens;
-    'strings: while let [Token::Str(text), tail @ ..] = rest {
-        texts.push(text.clone()?)?;
-        rest = tail;
+    'tokens: for token in tokens {
+        match token {
+            Token::Str(text) => texts.push(text.copy(alloc)?)?,
+            _ => return Ok(texts),
+        }
     }
-    Ok((texts, rest))
+    Ok(texts)
 }
 
-/// The identifiers at the front, and what follows them.
-fn identifiers(alloc: Global, tokens: &[Token]) -> Result<(Words, &[Token]), Memory>
-    ensures front { IfOk result (λ found. tokens.now ≡ map Token.Identifier found.0 ++ found.1.now) }
-    ensures longest { IfOk result (λ found. (text : List ℕ) (rest : List Token) → found.1.now ≢ Token.Identifier text ∷ rest) }
+/// The identifiers at the front.
+#[tactic(auto, using(crate::proofs::Fronts::fronts))]
+fn identifiers(alloc: Global, tokens: &[Token]) -> Result<Words, Memory>
+    ensures front { IfOk result (λ texts. tokens.now ≡ map Token.Identifier texts ++ drop (length texts) tokens.now) }
+    ensures longest { IfOk result (λ texts. (text : List ℕ) (rest : List Token) → drop (length texts) tokens.now ≢ Token.Identifier text ∷ rest) }
 {
     let mut texts = Words::new(alloc);
-    let mut rest = tokens;
-    'identifiers: while let [Token::Identifier(text), tail @ ..] = rest {
-        texts.push(text.clone()?)?;
-        rest = tail;
+    'tokens: for token in tokens {
+        match token {
+            Token::Identifier(text) => texts.push(text.copy(alloc)?)?,
+            _ => return Ok(texts),
+        }
     }
-    Ok((texts, rest))
+    Ok(texts)
 }
 
 /// Whether the texts differ from one another.
@@ -134,4 +139,171 @@ fn are_lower(words: &[Text]) -> bool
     ensures { IsTrue result ↔ All (λ word. is_lower word ≡ true) words.now }
 {
     words.iter().all(|word| is_lower(word))
+}
+
+/// Whether these are the names of an automaton: as many as announced, few, and different from one another.
+fn are_names(count: u32, names: &[Text]) -> bool
+    ensures { IsTrue result ↔ ((count ≡ length names.now) × (length names.now ≤ 8) × AllPairs (λ a b. a ≢ b) names.now) }
+{
+    names.len() <= 8 && count as usize == names.len() && are_distinct(names)
+}
+
+/// What follows the name of a `properties:` line.
+fn after_properties(tokens: &[Token]) -> Option<&[Token]>
+    ensures found { IfSome result (λ rest. tokens.now ≡ Token.HeaderName (codes "properties") ∷ rest.now) }
+    ensures none { IfNone result ((rest : List Token) → tokens.now ≡ Token.HeaderName (codes "properties") ∷ rest → ⊥) }
+{
+    match tokens {
+        [Token::HeaderName(name), rest @ ..] if is(name, b"properties") => Some(rest),
+        _ => None,
+    }
+}
+
+/// The words of the `properties:` line, if there is one, and what follows it.
+fn properties(alloc: Global, tokens: &[Token]) -> Result<(Option<Words>, &[Token]), ReadFault>
+    ensures found { IfOk result (λ found. IsProperties tokens.now found.0 found.1.now) }
+    ensures none { IsErrOf result ReadFault.NotYet → NoProperties tokens.now }
+{
+    let Some(rest) = after_properties(tokens) else {
+        return Ok((None, tokens));
+    };
+    let words = identifiers(alloc, rest)?;
+    if !are_lower(words.as_slice()) {
+        return Err(ReadFault::NotYet);
+    }
+    let after = &rest[words.len()..];
+    Ok((Some(words), after))
+}
+
+/// The label of an edge of the first form.
+#[derive(Clone, Copy)]
+enum Guard {
+    Always,
+    Holds(u32),
+    Fails(u32),
+}
+
+/// The label of an edge, and what follows it.
+fn label_at(tokens: &[Token]) -> Option<(Guard, &[Token])>
+    ensures found { IfSome result (λ found. tokens.now ≡ guard_tokens (guard_of found.0) ++ found.1.now) }
+    ensures none { IfNone result (NoGuard tokens.now) }
+{
+    match tokens {
+        [Token::Identifier(word), rest @ ..] if is(word, b"t") => Some((Guard::Always, rest)),
+        [Token::Int(place), rest @ ..] => Some((Guard::Holds(*place), rest)),
+        [Token::Bang, Token::Int(place), rest @ ..] => Some((Guard::Fails(*place), rest)),
+        _ => None,
+    }
+}
+
+impl Guard {
+    /// Whether it speaks of one of this many propositions.
+    fn is_of(self, names: u32) -> bool
+        ensures { IsTrue result ↔ IsGuardOf names (guard_of self) }
+    {
+        match self {
+            Guard::Always => true,
+            Guard::Holds(place) | Guard::Fails(place) => place < names,
+        }
+    }
+
+    #[tactic(auto, using(crate::proofs::RawTrees::raw_trees))]
+    fn label(self, alloc: Global) -> Result<RawLabel, ReadFault>
+        ensures label { IfOk result (λ label. raw_tree label ≡ guard_written (guard_of self)) }
+        ensures memory { IfErr result (λ fault. fault ≡ ReadFault.Memory) }
+    {
+        match self {
+            Guard::Always => Ok(RawLabel::True),
+            Guard::Holds(place) => Ok(RawLabel::Prop(place)),
+            Guard::Fails(place) => Ok(RawLabel::Not(Box::new(alloc, RawLabel::Prop(place))?)),
+        }
+    }
+}
+
+/// What follows the bracket that opens a label.
+fn after_bracket(tokens: &[Token]) -> Option<&[Token]>
+    ensures found { IfSome result (λ rest. tokens.now ≡ Token.LeftBracket ∷ rest.now) }
+    ensures none { IfNone result ((rest : List Token) → tokens.now ≡ Token.LeftBracket ∷ rest → ⊥) }
+{
+    match tokens {
+        [Token::LeftBracket, rest @ ..] => Some(rest),
+        _ => None,
+    }
+}
+
+/// What follows the bracket that closes a label, and the goal.
+fn after_goal(tokens: &[Token]) -> Option<&[Token]>
+    ensures found { IfSome result (λ rest. tokens.now ≡ Token.RightBracket ∷ Token.Int 0 ∷ rest.now) }
+    ensures none { IfNone result ((rest : List Token) → tokens.now ≡ Token.RightBracket ∷ Token.Int 0 ∷ rest → ⊥) }
+{
+    match tokens {
+        [Token::RightBracket, Token::Int(0), rest @ ..] => Some(rest),
+        _ => None,
+    }
+}
+
+/// The list of the number 0.
+fn zero(alloc: Global) -> Result<Numbers, Memory>
+    ensures { IfOk result (λ numbers. numbers ≡ 0 ∷ []) }
+{
+    let mut numbers = Numbers::new(alloc);
+    numbers.push(0)?;
+    Ok(numbers)
+}
+
+/// The marks of an edge, and what follows them.
+fn marks(alloc: Global, tokens: &[Token]) -> Result<(Numbers, &[Token]), ReadFault>
+    ensures found { IfOk result (λ found. AreMarks tokens.now found.0 found.1.now) }
+    ensures none { IsErrOf result ReadFault.NotYet → NoMarks tokens.now }
+{
+    match tokens {
+        [Token::LeftBrace, Token::Int(0), Token::RightBrace, rest @ ..] => Ok((zero(alloc)?, rest)),
+        [Token::LeftBrace, ..] => Err(ReadFault::NotYet),
+        _ => Ok((Numbers::new(alloc), tokens)),
+    }
+}
+
+/// An edge, and what follows it.
+fn edge(alloc: Global, names: u32, tokens: &[Token]) -> Result<(RawEdge, &[Token]), ReadFault>
+    ensures found { IfOk result (λ found. IsLoop names tokens.now (written_edge found.0) found.1.now) }
+    ensures none { IsErrOf result ReadFault.NotYet → NoLoop names tokens.now }
+{
+    let Some(rest) = after_bracket(tokens) else {
+        return Err(ReadFault::NotYet);
+    };
+    let Some((guard, rest)) = label_at(rest) else {
+        return Err(ReadFault::NotYet);
+    };
+    if !guard.is_of(names) {
+        return Err(ReadFault::NotYet);
+    }
+    let Some(rest) = after_goal(rest) else {
+        return Err(ReadFault::NotYet);
+    };
+    let (marks, rest) = marks(alloc, rest)?;
+    let label = Some(guard.label(alloc)?);
+    let to = zero(alloc)?;
+    Ok((RawEdge { label, to, marks }, rest))
+}
+
+/// Whether nothing is left but `--END--`.
+fn is_end(tokens: &[Token]) -> bool
+    ensures { IsTrue result ↔ (tokens.now ≡ Token.End ∷ []) }
+{
+    matches!(tokens, [Token::End])
+}
+
+/// The edges, up to `--END--`.
+fn edges(alloc: Global, names: u32, tokens: &[Token]) -> Result<RawEdges, ReadFault>
+    ensures found { IfOk result (λ edges. IsLoops names tokens.now (map written_edge edges)) }
+    ensures none { IsErrOf result ReadFault.NotYet → NoLoops names tokens.now }
+{
+    let mut edges = RawEdges::new(alloc);
+    let mut rest = tokens;
+    'edges: while !is_end(rest) {
+        let (edge, after) = edge(alloc, names, rest)?;
+        edges.push(edge)?;
+        rest = after;
+    }
+    Ok(edges)
 }

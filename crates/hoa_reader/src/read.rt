@@ -1,5 +1,12 @@
 //! From bytes to one automaton.
 
+ghost use Rattle.std.specs.Prelude.{◌≡◌};
+ghost use Rattle.hoa_reader.specs.declared.read.ReadFault.{ReadFault};
+
+use std::alloc::{AllocError, AllocFailed};
+
+use aut_base::Memory;
+
 /// Why no automaton was read.
 #[derive(Clone, Copy, Debug, PartialEq, Eq)]
 pub enum ReadFault {
@@ -13,6 +20,30 @@ pub enum ReadFault {
     Read,
     /// Want of memory.
     Memory,
+}
+
+impl From<Memory> for ReadFault {
+    ghost from_gives = { λ _ fault. fault ≡ ReadFault.Memory };
+
+    fn from(_want: Memory) -> ReadFault {
+        ReadFault::Memory
+    }
+}
+
+impl From<AllocError> for ReadFault {
+    ghost from_gives = { λ _ fault. fault ≡ ReadFault.Memory };
+
+    fn from(_want: AllocError) -> ReadFault {
+        ReadFault::Memory
+    }
+}
+
+impl<T: Drop> From<AllocFailed<T>> for ReadFault {
+    ghost from_gives = { λ _ fault. fault ≡ ReadFault.Memory };
+
+    fn from(_want: AllocFailed<T>) -> ReadFault {
+        ReadFault::Memory
+    }
 }
 
 pub fn read_raw() {}
