@@ -110,6 +110,13 @@ impl Seq<u8> {
         }
     }
 
+    /// The same text, held apart.
+    pub fn copy(&self, alloc: Global) -> Result<Text, Memory>
+        ensures { IfOk result (λ copy. copy ≡ self.now) }
+    {
+        Text::from_bytes(alloc, self.as_bytes())
+    }
+
     /// The bytes of the text.
     pub fn as_bytes(&self) -> &[u8]
         ensures { result.now ≡ self.now }
@@ -127,6 +134,26 @@ impl Seq<u8> {
             Err(_) => Err(Memory),
         }
     }
+}
+
+impl Seq<Text> {
+    /// The same texts, held apart.
+    pub fn copy(&self, alloc: Global) -> Result<Words, Memory>
+        ensures { IfOk result (λ copy. copy ≡ self.now) }
+    {
+        copy_all(alloc, self.as_slice())
+    }
+}
+
+/// The texts, in a list of their own.
+fn copy_all(alloc: Global, texts: &[Text]) -> Result<Words, Memory>
+    ensures { IfOk result (λ copy. copy ≡ texts.now) }
+{
+    let mut copies = Words::new(alloc);
+    'texts: for text in texts {
+        copies.push(text.copy(alloc)?)?;
+    }
+    Ok(copies)
 }
 
 impl<T: PartialEq> PartialEq for Seq<T> {

@@ -4,12 +4,12 @@ use Rattle.hoa_lexer.specs.declared.token.Token.{Token}
 use Rattle.hoa_lexer.specs.declared.token.Token.TheVariants as token
 use Rattle.hoa_reader.proofs.Fronts.{front_same}
 use Rattle.hoa_reader.specs.FirstForm.{AllLower, is_lower, property_tokens}
-use Rattle.hoa_reader.specs.Parsing.{NoProperties}
+use Rattle.hoa_reader.specs.Parsing.{IsProperties, NoProperties}
 
-same_identifier : (a b : List ℕ) → token.Identifier a ≡ token.Identifier b → a ≡ b
+pub same_identifier : (a b : List ℕ) → token.Identifier a ≡ token.Identifier b → a ≡ b
 same_identifier a b e = cc
 
-not_identifier : (rest : List Token) (a : List ℕ) (more : List Token) → token.Body ∷ rest ≡ token.Identifier a ∷ more → ⊥
+pub not_identifier : (rest : List Token) (a : List ℕ) (more : List Token) → token.Body ∷ rest ≡ token.Identifier a ∷ more → ⊥
 not_identifier rest a more e = cc
 
 -- words of which one does not begin in lower case
@@ -19,3 +19,12 @@ not_lower tokens r1 after words e1 e2 longest fails (Some others) rest lower e =
     let same = front_same token.Identifier same_identifier words others after (token.Body ∷ rest) (cc) longest (not_identifier rest) in
     let P : List (List ℕ) → Type 0 = λ ws. All (λ word. is_lower word ≡ true) ws in
     fails (subst P (sym same.0) lower)
+
+-- what follows the words is determined
+pub same_words : (ws vs : Option (List (List ℕ))) (tokens rest tail : List Token) → ((word : List ℕ) (more : List Token) → tail ≡ token.Identifier word ∷ more → ⊥) → ((more : List Token) → tail ≡ token.HeaderName (codes "properties") ∷ more → ⊥) → tokens ≡ property_tokens ws ++ tail → IsProperties tokens vs rest → rest ≡ tail
+same_words None None tokens rest tail p q a found = sym found.split ∙ a
+same_words None (Some v) tokens rest tail p q a found = absurd (q _ (sym a ∙ found.split))
+same_words (Some w) None tokens rest tail p q a found = absurd (found.ends _ (sym found.split ∙ a))
+same_words (Some w) (Some v) tokens rest tail p q a found =
+    let both = sym found.split ∙ a in
+    (front_same token.Identifier same_identifier v w rest tail (cc) found.ends p).1

@@ -1,11 +1,13 @@
 -- Parts of the first form, as they are found in tokens.
-use Rattle.std.specs.Prelude.{◌≡◌, ◌≢◌, ℕ, Bool, false, List, [], ◌∷◌, ◌++◌, map, flat_map, codes, All, Option, Some, None}
+use Rattle.std.specs.Prelude.{◌≡◌, ◌≢◌, ℕ, Bool, false, List, [], ◌∷◌, ◌++◌, map, flat_map, codes, All, AllPairs, length, ◌≤◌, Option, Some, None}
+use Rattle.aut_base.specs.Formula as formula
 use Rattle.hoa_lexer.specs.declared.token.Token.{Token}
 use Rattle.hoa_lexer.specs.declared.token.Token.TheVariants as token
 use Rattle.hoa_reader.specs.declared.parse.Guard as declared
 use Rattle.hoa_reader.specs.declared.raw.RawEdge.{RawEdge}
-use Rattle.hoa_reader.specs.FirstForm.{Guard, Always, Holds, Fails, Loop, FirstForm, IsGuardOf, AllLower, guard_tokens, guard_written, marks_tokens, marks_of, loop_tokens, loop_written, property_tokens, IsFirstForm, form_tokens, form_written}
-use Rattle.hoa_reader.specs.Raw.{WrittenEdge, Written, written_edge}
+use Rattle.hoa_reader.specs.FirstForm.{Guard, Always, Holds, Fails, Loop, FirstForm, IsGuardOf, AllLower, guard_tokens, guard_written, marks_tokens, marks_of, loop_tokens, loop_written, property_tokens, property_items, opening_tokens, acceptance_tokens, state_tokens, IsFirstForm, form_tokens, form_written}
+use Rattle.hoa_reader.specs.Raw as raw
+use Rattle.hoa_reader.specs.Raw.{WrittenEdge, WrittenItem, WrittenState, Written, written_edge}
 
 -- the tokens don't go on with the words of a `properties:` line
 abbrev pub EndsProperties : Option (List (List ℕ)) → List Token → Type 0
@@ -74,6 +76,25 @@ pub record IsLoopsSoFar (names : ℕ) (tokens : List Token) (edges : List RawEdg
   pub shown : map written_edge edges ≡ map loop_written loops
   -- what refuses the rest refuses all
   pub refuses : NoLoops names rest → NoLoops names tokens
+
+-- the header and the line of the state stand at the front of the tokens
+pub record IsHeader (tokens : List Token) (count : ℕ) (names : List (List ℕ)) (properties : Option (List (List ℕ))) (rest : List Token) : Type 0 where
+  pub counted : count ≡ length names
+  pub few : length names ≤ 8
+  pub distinct : AllPairs (λ a b. a ≢ b) names
+  pub lower : AllLower properties
+  pub split : tokens ≡ opening_tokens ++ token.Int count ∷ (map token.Str names ++ (acceptance_tokens ++ (property_tokens properties ++ (token.Body ∷ (state_tokens ++ rest)))))
+  -- no other header does
+  pub only : (form : FirstForm) → tokens ≡ form_tokens form → (names ≡ form.names) × (rest ≡ flat_map loop_tokens form.loops ++ token.End ∷ [])
+
+-- the items of a header
+abbrev pub items_of : ℕ → List (List ℕ) → Option (List (List ℕ)) → List WrittenItem
+items_of count names properties =
+    raw.States 1 ∷ raw.Start (0 ∷ []) ∷ raw.Ap count names ∷ raw.Acceptance 1 (formula.Inf 0 false) ∷ property_items properties
+
+-- the one state
+abbrev pub state_of : List WrittenEdge → WrittenState
+state_of edges = record { label = None; number = 0; marks = []; edges = edges }
 
 -- the tokens are an automaton of the first form
 pub record IsWhole (tokens : List Token) (raw : Written) : Type 0 where

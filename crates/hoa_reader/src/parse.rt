@@ -3,8 +3,8 @@
 ghost use Rattle.std.specs.Prelude.{◌≡◌, ◌≢◌, ◌<◌, ◌≤◌, ℕ, List, [], ◌∷◌, ◌++◌, length, codes, drop, map, flat_map, All, AllPairs, IfSome, IfNone, IfOk, IfErr, IsTrue, IsErrOf, true, ◌↔◌};
 ghost use Rattle.hoa_lexer.specs.declared.token.Token.{Token};
 ghost use Rattle.hoa_reader.specs.FirstForm.{opening_tokens, acceptance_tokens, state_tokens, guard_tokens, guard_written, IsGuardOf, is_lower};
-ghost use Rattle.hoa_reader.specs.Parsing.{IsProperties, NoProperties, guard_of, NoGuard, AreMarks, NoMarks, IsLoop, NoLoop, IsLoops, NoLoops, IsWhole, Refuses};
-ghost use Rattle.hoa_reader.specs.Raw.{raw_tree, written_edge, written};
+ghost use Rattle.hoa_reader.specs.Parsing.{IsProperties, NoProperties, guard_of, NoGuard, AreMarks, NoMarks, IsLoop, NoLoop, IsLoops, NoLoops, IsHeader, items_of, state_of, IsWhole, Refuses};
+ghost use Rattle.hoa_reader.specs.Raw.{raw_tree, written_edge, written_item, written_state, written};
 
 use std::alloc::Global;
 
@@ -112,6 +112,14 @@ fn identifiers(alloc: Global, tokens: &[Token]) -> Result<Words, Memory>
     Ok(texts)
 }
 
+/// What follows as many tokens as there are texts.
+fn behind<'a>(tokens: &'a [Token], texts: &Words) -> &'a [Token]
+    requires { length texts.now ≤ length tokens.now }
+    ensures { result.now ≡ drop (length texts.now) tokens.now }
+{
+    &tokens[texts.len()..]
+}
+
 /// Whether the texts differ from one another.
 fn are_distinct(texts: &[Text]) -> bool
     ensures { IsTrue result ↔ AllPairs (λ a b. a ≢ b) texts.now }
@@ -171,7 +179,7 @@ fn properties(alloc: Global, tokens: &[Token]) -> Result<(Option<Words>, &[Token
     if !are_lower(words.as_slice()) {
         return Err(ReadFault::NotYet);
     }
-    let after = &rest[words.len()..];
+    let after = behind(rest, &words);
     Ok((Some(words), after))
 }
 
@@ -306,4 +314,84 @@ fn edges(alloc: Global, names: u32, tokens: &[Token]) -> Result<RawEdges, ReadFa
         rest = after;
     }
     Ok(edges)
+}
+
+/// What the header of an automaton of the first form leaves open.
+#[derive(Drop)]
+struct Header {
+    count: u32,
+    names: Words,
+    properties: Option<Words>,
+}
+
+/// The header and the line of the state, and what follows them.
+fn header_at(alloc: Global, tokens: &[Token]) -> Result<(Header, &[Token]), ReadFault>
+    ensures found { IfOk result (λ found. IsHeader tokens.now found.0.count found.0.names found.0.properties found.1.now) }
+    ensures none { IsErrOf result ReadFault.NotYet → Refuses tokens.now }
+{
+    let Some((count, rest)) = after_opening(tokens) else {
+        return Err(ReadFault::NotYet);
+    };
+    let names = strings(alloc, rest)?;
+    if !are_names(count, names.as_slice()) {
+        return Err(ReadFault::NotYet);
+    }
+    let rest = behind(rest, &names);
+    let Some(rest) = after_acceptance(rest) else {
+        return Err(ReadFault::NotYet);
+    };
+    let (properties, rest) = properties(alloc, rest)?;
+    let Some(rest) = after_state(rest) else {
+        return Err(ReadFault::NotYet);
+    };
+    let header = Header { count, names, properties };
+    Ok((header, rest))
+}
+
+/// The items of a header.
+fn items(alloc: Global, header: Header) -> Result<Items, Memory>
+    ensures { IfOk result (λ items. map written_item items ≡ items_of header.count header.names header.properties) }
+{
+    let mut items = Items::new(alloc);
+    items.push(Item::States(1))?;
+    items.push(Item::Start(zero(alloc)?))?;
+    let Header { count, names, properties } = header;
+    items.push(Item::Ap { count, names })?;
+    let formula = Formula::Inf { set: 0, neg: false };
+    items.push(Item::Acceptance { sets: 1, formula })?;
+    if let Some(words) = properties {
+        items.push(Item::Properties(words))?;
+    }
+    Ok(items)
+}
+
+/// The body of an automaton with one state.
+fn states(alloc: Global, edges: RawEdges) -> Result<RawStates, Memory>
+    ensures { IfOk result (λ states. map written_state states ≡ state_of (map written_edge edges) ∷ []) }
+{
+    let mut states = RawStates::new(alloc);
+    states.push(RawState {
+        label: None,
+        number: 0,
+        marks: Numbers::new(alloc),
+        edges,
+    })?;
+    Ok(states)
+}
+
+/// What the tokens write, if they are an automaton of the first form.
+pub(crate) fn parse(alloc: Global, tokens: &[Token]) -> Result<Raw, ReadFault>
+    ensures found { IfOk result (λ raw. IsWhole tokens.now (written raw)) }
+    ensures none { IsErrOf result ReadFault.NotYet → Refuses tokens.now }
+{
+    let (header, rest) = header_at(alloc, tokens)?;
+    let edges = edges(alloc, header.count, rest)?;
+    let version = Text::from_bytes(alloc, b"v1")?;
+    let items = items(alloc, header)?;
+    let states = states(alloc, edges)?;
+    Ok(Raw {
+        version,
+        items,
+        states,
+    })
 }
