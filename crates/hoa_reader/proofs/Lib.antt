@@ -1,3 +1,4 @@
+pub mod Answering
 pub mod Distinct
 pub mod Exits
 pub mod Fronts

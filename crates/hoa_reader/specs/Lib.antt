@@ -1,3 +1,5 @@
+pub mod Collecting
+pub mod Faults
 pub mod FirstForm
 pub mod Parsing
 pub mod Raw

@@ -1,0 +1,14 @@
+-- What a fault of the lexer is to the reader.
+use Rattle.std.specs.Prelude.{ℕ}
+use Rattle.hoa_lexer.specs.declared.token.LexFault as lexing
+use Rattle.hoa_reader.specs.declared.fault.ReadFault.{ReadFault}
+use Rattle.hoa_reader.specs.declared.fault.ReadFault.TheVariants.{NotYet, Truncated, Bytes, Read, Memory}
+
+abbrev pub read_fault : lexing.LexFault → ReadFault
+read_fault (lexing.LexFault.BadToken k) = NotYet
+read_fault lexing.LexFault.OpenComment = Truncated
+read_fault lexing.LexFault.OpenString = Truncated
+read_fault lexing.LexFault.OpenToken = Truncated
+read_fault lexing.LexFault.Read = Read
+read_fault lexing.LexFault.Bytes = Bytes
+read_fault lexing.LexFault.Memory = Memory
