@@ -3,7 +3,7 @@
 ghost use Rattle.std.specs.Prelude.{◌≡◌, ℕ, Option, Some, List, ◌≤◌, [], length, IsOk, OnOk, OnErr, IsErrOf};
 ghost use Rattle.std.specs.FinMap.{from_entries};
 ghost use Rattle.std.specs.List.{zip};
-ghost use Rattle.aut_io.specs.Outside.{Rose, Opened, Closed, Takes};
+ghost use Rattle.aut_io.specs.Outside.{text_of, Takes, Rose, Opened, Closed};
 
 use crate::inputs::Inputs;
 use crate::text_store::TextStore;
@@ -51,7 +51,7 @@ impl Inputs for SureInputs {
 
     fn open(&mut self, name: &Text) -> Result<(), OpenFail>
         ensures ok { IsOk result }
-        ensures opened { OnOk result (Opened (Some self.old.texts) name.now (Some self.new.left)) }
+        ensures opened { self.new.left ≡ text_of self.old.texts name.now }
         ensures texts { self.new.texts ≡ self.old.texts }
     {
         let _there = self.store.open(name);

@@ -73,8 +73,8 @@ impl TextStore {
         ensures byte { result ≡ slice_get self.old.left 0 }
         ensures rest { self.new ≡ record { texts = self.old.texts; left = drop 1 self.old.left } }
     {
-        let Some(open) = self.open else { return None };
-        let text = self.texts.at(open);
+        let Some(place) = self.open else { return None };
+        let text = self.texts.at(place);
         if self.taken < text.len() {
             let byte = *text.at(self.taken);
             self.taken += 1;
@@ -86,7 +86,6 @@ impl TextStore {
 }
 
 /// The place of the text under a name.
-#[tactic(auto, using(crate::proofs::Texts::find_step))]
 fn place_of(names: &[Text], texts: &[Text], name: &Text) -> Option<usize>
     requires { length texts.now ≡ length names.now }
     ensures { MatchOption result (find (slice_cmp nat_cmp) name.now (zip names.now texts.now) ≡ None) (λ k. (k < length texts.now) × (find (slice_cmp nat_cmp) name.now (zip names.now texts.now) ≡ Some (slice_index_or texts.now k []))) }
