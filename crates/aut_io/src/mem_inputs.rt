@@ -1,12 +1,10 @@
 //! A source in memory that fails where it is told to.
 
-ghost use Rattle.std.specs.Prelude.{◌≡◌, ℕ, Option, Some, List, ◌≤◌, ◌||◌, [], not, is_err, length, OnOk, OnErr, IsErrOf};
-ghost use Rattle.std.specs.Cmp.Lexicographic.{slice_cmp};
+ghost use Rattle.std.specs.Prelude.{◌≡◌, ◌≤◌, ◌||◌, Some, [], not, is_err, length, OnOk, OnErr, IsErrOf};
 ghost use Rattle.std.specs.FinMap.{contains_key, from_entries};
 ghost use Rattle.std.specs.List.{zip};
-ghost use Rattle.std.specs.Ordering.{nat_cmp};
 ghost use Rattle.aut_io.specs.InMemory.{is_listed, raised};
-ghost use Rattle.aut_io.specs.Outside.{text_of, Takes, Rose, Opened, Closed};
+ghost use Rattle.aut_io.specs.Outside.{text_of, Takes};
 
 use crate::failing_calls::FailingCalls;
 use crate::inputs::Inputs;

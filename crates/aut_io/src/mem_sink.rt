@@ -1,8 +1,8 @@
 //! A sink in memory that fails where it is told to, and where it is full.
 
-ghost use Rattle.std.specs.Prelude.{◌≡◌, ℕ, Option, Some, List, ◌+◌, ◌<◌, ◌≤◌, ◌||◌, ◌++◌, [], true, not, nat_lt, is_err, length, take, if◌then◌else◌, IfOk, OnOk, OnErr};
+ghost use Rattle.std.specs.Prelude.{◌≡◌, ◌+◌, ◌≤◌, ◌||◌, ◌++◌, Some, [], not, nat_lt, is_err, length, take, if◌then◌else◌, IfOk, OnOk, OnErr};
 ghost use Rattle.aut_io.specs.InMemory.{half, is_listed, raised, room};
-ghost use Rattle.aut_io.specs.Outside.{Rose, Gains, GainsPrefix};
+ghost use Rattle.aut_io.specs.Outside.{GainsPrefix};
 
 use crate::failing_calls::FailingCalls;
 use crate::sink::Sink;

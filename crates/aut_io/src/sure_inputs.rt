@@ -1,9 +1,9 @@
 //! A source in memory that never fails.
 
-ghost use Rattle.std.specs.Prelude.{◌≡◌, ℕ, Option, Some, List, ◌≤◌, [], length, IsOk, OnOk, OnErr, IsErrOf};
+ghost use Rattle.std.specs.Prelude.{◌≡◌, Some, [], length, IsOk};
 ghost use Rattle.std.specs.FinMap.{from_entries};
 ghost use Rattle.std.specs.List.{zip};
-ghost use Rattle.aut_io.specs.Outside.{text_of, Takes, Rose, Opened, Closed};
+ghost use Rattle.aut_io.specs.Outside.{text_of, Takes};
 
 use crate::inputs::Inputs;
 use crate::text_store::TextStore;

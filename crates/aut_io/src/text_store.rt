@@ -1,6 +1,6 @@
 //! Texts under names, of which one at a time may be open.
 
-ghost use Rattle.std.specs.Prelude.{◌≡◌, ℕ, ◌<◌, List, [], is_some, length, MatchOption, drop, slice_get};
+ghost use Rattle.std.specs.Prelude.{◌≡◌, ◌<◌, None, Some, [], length, MatchOption, drop, slice_get};
 ghost use Rattle.std.specs.Cmp.Lexicographic.{slice_cmp};
 ghost use Rattle.std.specs.FinMap.{contains_key, find, from_entries};
 ghost use Rattle.std.specs.List.{slice_index_or, zip};
