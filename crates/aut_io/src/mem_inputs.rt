@@ -23,7 +23,8 @@ pub struct MemInputs {
 }
 
 impl Model for MemInputs {
-    ghost use Rattle.aut_io.specs.InMemory.{SourceState, source_state_code};
+    ghost use Rattle.aut_io.specs.Codes.{source_state_code};
+    ghost use Rattle.aut_io.specs.InMemory.{SourceState};
 
     ghost Value = { SourceState };
 

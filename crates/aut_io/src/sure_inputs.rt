@@ -17,7 +17,8 @@ pub struct SureInputs {
 }
 
 impl Model for SureInputs {
-    ghost use Rattle.aut_io.specs.InMemory.{TextState, text_state_code};
+    ghost use Rattle.aut_io.specs.Codes.{text_state_code};
+    ghost use Rattle.aut_io.specs.InMemory.{TextState};
 
     ghost Value = { TextState };
 

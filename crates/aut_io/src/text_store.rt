@@ -25,7 +25,8 @@ impl Model for TextStore {
     ghost use Rattle.std.specs.Prelude.{◌≡◌, ◌<◌, IfSome, length};
     ghost use Rattle.std.specs.FinMap.{from_entries};
     ghost use Rattle.std.specs.List.{zip};
-    ghost use Rattle.aut_io.specs.InMemory.{TextState, text_state_code, rest_of};
+    ghost use Rattle.aut_io.specs.Codes.{text_state_code};
+    ghost use Rattle.aut_io.specs.InMemory.{TextState, rest_of};
 
     ghost Value = { TextState };
 
