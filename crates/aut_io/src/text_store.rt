@@ -16,7 +16,7 @@ pub(crate) struct TextStore {
     names: Names,
     texts: Words,
     /// The place of the open text in the list.
-    open: Option<usize>,
+    opened: Option<usize>,
     /// How many bytes of the open text were taken.
     taken: usize,
 }
@@ -32,9 +32,9 @@ impl Model for TextStore {
 
     ghost coded = { text_state_code };
 
-    ghost view = { λ s. record { texts = from_entries (zip s.names s.texts); left = rest_of s.texts s.open s.taken } };
+    ghost view = { λ s. record { texts = from_entries (zip s.names s.texts); left = rest_of s.texts s.opened s.taken } };
 
-    ghost invariant = { λ s. (length s.texts ≡ length s.names) × IfSome s.open (λ k. k < length s.texts) };
+    ghost invariant = { λ s. (length s.texts ≡ length s.names) × IfSome s.opened (λ k. k < length s.texts) };
 }
 
 impl TextStore {
@@ -46,7 +46,7 @@ impl TextStore {
         TextStore {
             names,
             texts,
-            open: None,
+            opened: None,
             taken: 0,
         }
     }
@@ -57,15 +57,15 @@ impl TextStore {
         ensures opened { self.new ≡ record { texts = self.old.texts; left = text_of self.old.texts name.now } }
     {
         self.taken = 0;
-        self.open = place_of(self.names.as_slice(), self.texts.as_slice(), name);
-        self.open.is_some()
+        self.opened = place_of(self.names.as_slice(), self.texts.as_slice(), name);
+        self.opened.is_some()
     }
 
     /// Leaves nothing open.
     pub(crate) fn close(&mut self)
         ensures { self.new ≡ record { texts = self.old.texts; left = [] } }
     {
-        self.open = None;
+        self.opened = None;
     }
 
     /// Takes the next byte of the open text, if any is left.
@@ -74,7 +74,9 @@ impl TextStore {
         ensures byte { result ≡ slice_get self.old.left 0 }
         ensures rest { self.new ≡ record { texts = self.old.texts; left = drop 1 self.old.left } }
     {
-        let Some(place) = self.open else { return None };
+        let Some(place) = self.opened else {
+            return None
+        };
         let text = self.texts.at(place);
         if self.taken < text.len() {
             let byte = *text.at(self.taken);
