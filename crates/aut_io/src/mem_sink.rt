@@ -121,7 +121,7 @@ mod tests {
     /// What is kept of the writes of "abc", "de" and "fghi", and which of them fail.
     #[test]
     fn keeps_what_fits_and_half_of_a_failing_piece(rt: HostRuntime) -> Result<(), Fail> {
-        let rows: [(u32, &[u32], &[u8], &[u8], u64); 16] = [
+        let rows: [(u32, &[u32], &[u8], &[u8], u64); 19] = [
             (9, &[], b"abcdefghi", b"+++", 0),
             (9, &[0], b"adefghi", b"-++", 1),
             (9, &[1], b"abcdfghi", b"+-+", 1),
@@ -136,8 +136,11 @@ mod tests {
             (1, &[], b"a", b"---", 3),
             (1, &[0], b"a", b"---", 3),
             (1, &[1], b"a", b"---", 3),
+            (1, &[2], b"a", b"---", 3),
             (0, &[], b"", b"---", 3),
             (0, &[0], b"", b"---", 3),
+            (0, &[1], b"", b"---", 3),
+            (0, &[2], b"", b"---", 3),
         ];
         for (capacity, failing, kept, answers, faults) in rows.iter() {
             let listed = numbers(rt.alloc(), failing)?;
