@@ -1,12 +1,11 @@
 -- Looking a name up in a list of names, beside the list of the texts under them.
-use Rattle.std.proofs.Common.{◌≡◌, ℕ, ◌+◌, ◌<◌, Bool, true, false, cond, Option, None, Some, List, [], ◌∷◌, length, get_or, drop, refl, sym, ap, ◌∙◌, arith, add-one, is_some, MatchOption}
+use Rattle.std.proofs.Common.{◌≡◌, ℕ, ◌+◌, ◌<◌, Bool, cond, Option, None, Some, List, [], ◌∷◌, length, get_or, drop, refl, sym, ◌∙◌, arith, add-one, is_some, MatchOption}
 use Rattle.std.proofs.Math.Seq.{drop-cons}
 use Rattle.std.proofs.lemmas.List.{drop-drop}
-use Rattle.std.specs.Cmp.{IsTotalOrder}
 use Rattle.std.specs.Cmp.Lexicographic.{slice_cmp, pointwise, texts_ties, nat_list_cmp_total}
-use Rattle.std.specs.FinMap.{find, get, contains_key, from_entries, get-from_entries}
+use Rattle.std.specs.FinMap.{find, contains_key, from_entries, get-from_entries}
 use Rattle.std.specs.List.{zip}
-use Rattle.std.specs.Ordering.{nat_cmp, eq_by_cmp}
+use Rattle.std.specs.Ordering.{nat_cmp}
 use Rattle.std.specs.Prelude.{nat_eq}
 use Rattle.aut_io.specs.Outside.{text_of}
 use Rattle.aut_io.specs.InMemory.{rest_of}

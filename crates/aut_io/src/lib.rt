@@ -2,8 +2,8 @@
 //! rose, so no program over these traits can blame the outside for what is its own.
 #![tactic(auto)]
 
+mod failing_calls;
 mod inputs;
-mod listed;
 mod mem_inputs;
 mod mem_sink;
 mod sink;

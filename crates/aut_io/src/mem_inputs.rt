@@ -1,15 +1,13 @@
 //! A source in memory that fails where it is told to.
 
-ghost use Rattle.std.specs.Prelude.{◌≡◌, ℕ, Option, Some, List, ◌≤◌, ◌||◌, [], not, is_err, length, OnOk, OnErr, IsErrOf};
-ghost use Rattle.std.specs.Cmp.Lexicographic.{slice_cmp};
+ghost use Rattle.std.specs.Prelude.{◌≡◌, ◌≤◌, ◌||◌, Some, [], not, is_err, length, OnOk, OnErr, IsErrOf};
 ghost use Rattle.std.specs.FinMap.{contains_key, from_entries};
 ghost use Rattle.std.specs.List.{zip};
-ghost use Rattle.std.specs.Ordering.{nat_cmp};
 ghost use Rattle.aut_io.specs.InMemory.{is_listed, raised};
-ghost use Rattle.aut_io.specs.Outside.{Rose, Opened, Closed, Takes};
+ghost use Rattle.aut_io.specs.Outside.{text_of, Takes};
 
+use crate::failing_calls::FailingCalls;
 use crate::inputs::Inputs;
-use crate::listed::is_listed;
 use crate::text_store::TextStore;
 use aut_base::{Failed, Names, Numbers, OpenFail, Text, Words};
 use std::marker::Model;
@@ -19,20 +17,20 @@ use std::marker::Model;
 #[derive(Debug, Drop)]
 pub struct MemInputs {
     store: TextStore,
-    failing: Numbers,
-    calls: u64,
+    calls: FailingCalls,
     open_faults: u64,
     read_faults: u64,
 }
 
 impl Model for MemInputs {
-    ghost use Rattle.aut_io.specs.InMemory.{SourceState, source_state_code};
+    ghost use Rattle.aut_io.specs.Codes.{source_state_code};
+    ghost use Rattle.aut_io.specs.InMemory.{SourceState};
 
     ghost Value = { SourceState };
 
     ghost coded = { source_state_code };
 
-    ghost view = { λ m. record { texts = m.store.texts; left = m.store.left; failing = m.failing; calls = m.calls; open_faults = m.open_faults; read_faults = m.read_faults } };
+    ghost view = { λ m. record { texts = m.store.texts; left = m.store.left; failing = m.calls.listed; calls = m.calls.made; open_faults = m.open_faults; read_faults = m.read_faults } };
 }
 
 impl MemInputs {
@@ -43,21 +41,10 @@ impl MemInputs {
     {
         MemInputs {
             store: TextStore::new(names, texts),
-            failing,
-            calls: 0,
+            calls: FailingCalls::new(failing),
             open_faults: 0,
             read_faults: 0,
         }
-    }
-
-    /// Counts a call, and answers whether it is to fail.
-    fn count_call(&mut self) -> bool
-        ensures listed { result ≡ is_listed self.old.failing self.old.calls }
-        ensures counted { self.new ≡ record self.old { calls = raised self.old.calls } }
-    {
-        let fails = is_listed(&self.failing, self.calls);
-        self.calls = self.calls.saturating_add(1);
-        fails
     }
 }
 
@@ -76,7 +63,7 @@ impl Inputs for MemInputs {
         // It fails exactly where the call is listed or the name isn't there, and never for want of memory.
         ensures fails { is_err result ≡ (is_listed self.old.failing self.old.calls || not (contains_key self.old.texts name.now)) }
         ensures kind { OnErr result (IsErrOf result OpenFail.Failed) }
-        ensures opened { OnOk result (Opened (Some self.old.texts) name.now (Some self.new.left)) }
+        ensures opened { OnOk result (self.new.left ≡ text_of self.old.texts name.now) }
         ensures closed { OnErr result (self.new.left ≡ []) }
         ensures texts { self.new.texts ≡ self.old.texts }
 
@@ -88,7 +75,7 @@ impl Inputs for MemInputs {
         ensures later { self.old.open_faults ≤ self.new.open_faults }
         ensures reads { self.new.read_faults ≡ self.old.read_faults }
     {
-        if self.count_call() || !self.store.open(name) {
+        if self.calls.count() || !self.store.open(name) {
             self.store.close();
             self.open_faults = self.open_faults.saturating_add(1);
             return Err(OpenFail::Failed);
@@ -110,7 +97,7 @@ impl Inputs for MemInputs {
         ensures later { self.old.read_faults ≤ self.new.read_faults }
         ensures opens { self.new.open_faults ≡ self.old.open_faults }
     {
-        if self.count_call() {
+        if self.calls.count() {
             self.read_faults = self.read_faults.saturating_add(1);
             return Err(Failed);
         }
@@ -150,7 +137,6 @@ mod tests {
             assert_eq!(rt; answered.as_slice(), *answers, "failing {failing:?}");
             assert_eq!(rt; inputs.open_faults, *open_faults, "failing {failing:?}");
             assert_eq!(rt; inputs.read_faults, *read_faults, "failing {failing:?}");
-            assert_eq!(rt; inputs.calls, 9, "failing {failing:?}");
         }
         Ok(())
     }

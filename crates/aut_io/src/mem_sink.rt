@@ -1,10 +1,10 @@
 //! A sink in memory that fails where it is told to, and where it is full.
 
-ghost use Rattle.std.specs.Prelude.{◌≡◌, ℕ, Option, Some, List, ◌+◌, ◌<◌, ◌≤◌, ◌||◌, ◌++◌, [], true, not, nat_lt, is_err, length, take, if◌then◌else◌, IfOk, OnOk, OnErr};
+ghost use Rattle.std.specs.Prelude.{◌≡◌, ◌+◌, ◌≤◌, ◌||◌, ◌++◌, Some, [], not, nat_lt, is_err, length, take, if◌then◌else◌, IfOk, OnOk, OnErr};
 ghost use Rattle.aut_io.specs.InMemory.{half, is_listed, raised, room};
-ghost use Rattle.aut_io.specs.Outside.{Rose, Gains, GainsPrefix};
+ghost use Rattle.aut_io.specs.Outside.{GainsPrefix};
 
-use crate::listed::is_listed;
+use crate::failing_calls::FailingCalls;
 use crate::sink::Sink;
 use aut_base::{Failed, Memory, Numbers};
 use std::alloc::Global;
@@ -18,8 +18,7 @@ pub struct MemSink {
     /// Room for `capacity` bytes is taken when the sink is made.
     written: Vec<u8>,
     capacity: u32,
-    failing: Numbers,
-    calls: u64,
+    calls: FailingCalls,
     faults: u64,
 }
 
@@ -30,7 +29,7 @@ impl Model for MemSink {
 
     ghost Value = { SinkState };
 
-    ghost view = { λ s. record { written = s.written.items; capacity = s.capacity; failing = s.failing; calls = s.calls; faults = s.faults } };
+    ghost view = { λ s. record { written = s.written.items; capacity = s.capacity; failing = s.calls.listed; calls = s.calls.made; faults = s.faults } };
 
     ghost invariant = { λ s. (length s.written.items ≤ s.capacity) × (s.capacity ≤ vec_capacity s.written) };
 }
@@ -44,8 +43,7 @@ impl MemSink {
             Ok(written) => Ok(MemSink {
                 written,
                 capacity,
-                failing,
-                calls: 0,
+                calls: FailingCalls::new(failing),
                 faults: 0,
             }),
             Err(_) => Err(Memory),
@@ -58,16 +56,6 @@ impl MemSink {
         ensures fits { length self.now.written ≤ self.now.capacity }
     {
         &self.written
-    }
-
-    /// Counts a call, and answers whether it is to fail.
-    fn count_call(&mut self) -> bool
-        ensures listed { result ≡ is_listed self.old.failing self.old.calls }
-        ensures counted { self.new ≡ record self.old { calls = raised self.old.calls } }
-    {
-        let fails = is_listed(&self.failing, self.calls);
-        self.calls = self.calls.saturating_add(1);
-        fails
     }
 
     /// Writes as much of the piece as fits, and answers whether that is all of it.
@@ -113,7 +101,7 @@ impl Sink for MemSink {
         ensures calm { OnOk result (self.new.faults ≡ self.old.faults) }
         ensures later { self.old.faults ≤ self.new.faults }
     {
-        if self.count_call() {
+        if self.calls.count() {
             let _whole = self.keep(&piece[..piece.len() / 2]);
             return Err(self.fault());
         }
@@ -133,7 +121,7 @@ mod tests {
     /// What is kept of the writes of "abc", "de" and "fghi", and which of them fail.
     #[test]
     fn keeps_what_fits_and_half_of_a_failing_piece(rt: HostRuntime) -> Result<(), Fail> {
-        let rows: [(u32, &[u32], &[u8], &[u8], u64); 16] = [
+        let rows: [(u32, &[u32], &[u8], &[u8], u64); 19] = [
             (9, &[], b"abcdefghi", b"+++", 0),
             (9, &[0], b"adefghi", b"-++", 1),
             (9, &[1], b"abcdfghi", b"+-+", 1),
@@ -148,8 +136,11 @@ mod tests {
             (1, &[], b"a", b"---", 3),
             (1, &[0], b"a", b"---", 3),
             (1, &[1], b"a", b"---", 3),
+            (1, &[2], b"a", b"---", 3),
             (0, &[], b"", b"---", 3),
             (0, &[0], b"", b"---", 3),
+            (0, &[1], b"", b"---", 3),
+            (0, &[2], b"", b"---", 3),
         ];
         for (capacity, failing, kept, answers, faults) in rows.iter() {
             let listed = numbers(rt.alloc(), failing)?;

@@ -1,9 +1,9 @@
 //! A source in memory that never fails.
 
-ghost use Rattle.std.specs.Prelude.{◌≡◌, ℕ, Option, Some, List, ◌≤◌, [], length, IsOk, OnOk, OnErr, IsErrOf};
+ghost use Rattle.std.specs.Prelude.{◌≡◌, Some, [], length, IsOk};
 ghost use Rattle.std.specs.FinMap.{from_entries};
 ghost use Rattle.std.specs.List.{zip};
-ghost use Rattle.aut_io.specs.Outside.{Rose, Opened, Closed, Takes};
+ghost use Rattle.aut_io.specs.Outside.{text_of, Takes};
 
 use crate::inputs::Inputs;
 use crate::text_store::TextStore;
@@ -17,7 +17,8 @@ pub struct SureInputs {
 }
 
 impl Model for SureInputs {
-    ghost use Rattle.aut_io.specs.InMemory.{TextState, text_state_code};
+    ghost use Rattle.aut_io.specs.Codes.{text_state_code};
+    ghost use Rattle.aut_io.specs.InMemory.{TextState};
 
     ghost Value = { TextState };
 
@@ -51,7 +52,7 @@ impl Inputs for SureInputs {
 
     fn open(&mut self, name: &Text) -> Result<(), OpenFail>
         ensures ok { IsOk result }
-        ensures opened { OnOk result (Opened (Some self.old.texts) name.now (Some self.new.left)) }
+        ensures opened { self.new.left ≡ text_of self.old.texts name.now }
         ensures texts { self.new.texts ≡ self.old.texts }
     {
         let _there = self.store.open(name);

@@ -1,7 +1,6 @@
 //! A sink that never fails.
 
-ghost use Rattle.std.specs.Prelude.{◌≡◌, ℕ, Option, None, List, ◌≤◌, IsOk, OnOk, OnErr};
-ghost use Rattle.aut_io.specs.Outside.{Rose, Gains, GainsPrefix};
+ghost use Rattle.std.specs.Prelude.{None, IsOk};
 
 use crate::sink::Sink;
 use aut_base::Failed;

@@ -1,6 +1,6 @@
 //! Texts under names, of which one at a time may be open.
 
-ghost use Rattle.std.specs.Prelude.{◌≡◌, ℕ, ◌<◌, List, [], is_some, length, MatchOption, drop, slice_get};
+ghost use Rattle.std.specs.Prelude.{◌≡◌, ◌<◌, None, Some, [], length, MatchOption, drop, slice_get};
 ghost use Rattle.std.specs.Cmp.Lexicographic.{slice_cmp};
 ghost use Rattle.std.specs.FinMap.{contains_key, find, from_entries};
 ghost use Rattle.std.specs.List.{slice_index_or, zip};
@@ -16,7 +16,7 @@ pub(crate) struct TextStore {
     names: Names,
     texts: Words,
     /// The place of the open text in the list.
-    open: Option<usize>,
+    opened: Option<usize>,
     /// How many bytes of the open text were taken.
     taken: usize,
 }
@@ -25,15 +25,16 @@ impl Model for TextStore {
     ghost use Rattle.std.specs.Prelude.{◌≡◌, ◌<◌, IfSome, length};
     ghost use Rattle.std.specs.FinMap.{from_entries};
     ghost use Rattle.std.specs.List.{zip};
-    ghost use Rattle.aut_io.specs.InMemory.{TextState, text_state_code, rest_of};
+    ghost use Rattle.aut_io.specs.Codes.{text_state_code};
+    ghost use Rattle.aut_io.specs.InMemory.{TextState, rest_of};
 
     ghost Value = { TextState };
 
     ghost coded = { text_state_code };
 
-    ghost view = { λ s. record { texts = from_entries (zip s.names s.texts); left = rest_of s.texts s.open s.taken } };
+    ghost view = { λ s. record { texts = from_entries (zip s.names s.texts); left = rest_of s.texts s.opened s.taken } };
 
-    ghost invariant = { λ s. (length s.texts ≡ length s.names) × IfSome s.open (λ k. k < length s.texts) };
+    ghost invariant = { λ s. (length s.texts ≡ length s.names) × IfSome s.opened (λ k. k < length s.texts) };
 }
 
 impl TextStore {
@@ -45,7 +46,7 @@ impl TextStore {
         TextStore {
             names,
             texts,
-            open: None,
+            opened: None,
             taken: 0,
         }
     }
@@ -56,15 +57,15 @@ impl TextStore {
         ensures opened { self.new ≡ record { texts = self.old.texts; left = text_of self.old.texts name.now } }
     {
         self.taken = 0;
-        self.open = place_of(self.names.as_slice(), self.texts.as_slice(), name);
-        self.open.is_some()
+        self.opened = place_of(self.names.as_slice(), self.texts.as_slice(), name);
+        self.opened.is_some()
     }
 
     /// Leaves nothing open.
     pub(crate) fn close(&mut self)
         ensures { self.new ≡ record { texts = self.old.texts; left = [] } }
     {
-        self.open = None;
+        self.opened = None;
     }
 
     /// Takes the next byte of the open text, if any is left.
@@ -73,8 +74,10 @@ impl TextStore {
         ensures byte { result ≡ slice_get self.old.left 0 }
         ensures rest { self.new ≡ record { texts = self.old.texts; left = drop 1 self.old.left } }
     {
-        let Some(open) = self.open else { return None };
-        let text = self.texts.at(open);
+        let Some(place) = self.opened else {
+            return None
+        };
+        let text = self.texts.at(place);
         if self.taken < text.len() {
             let byte = *text.at(self.taken);
             self.taken += 1;
@@ -86,7 +89,6 @@ impl TextStore {
 }
 
 /// The place of the text under a name.
-#[tactic(auto, using(crate::proofs::Texts::find_step))]
 fn place_of(names: &[Text], texts: &[Text], name: &Text) -> Option<usize>
     requires { length texts.now ≡ length names.now }
     ensures { MatchOption result (find (slice_cmp nat_cmp) name.now (zip names.now texts.now) ≡ None) (λ k. (k < length texts.now) × (find (slice_cmp nat_cmp) name.now (zip names.now texts.now) ≡ Some (slice_index_or texts.now k []))) }

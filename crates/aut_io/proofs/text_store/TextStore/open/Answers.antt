@@ -1,4 +1,4 @@
-use Rattle.std.proofs.Common.{◌≡◌, refl, sym, ◌∙◌, is_some}
+use Rattle.std.proofs.Common.{◌≡◌, refl, ◌∙◌, is_some}
 use Rattle.std.specs.Cmp.Lexicographic.{slice_cmp}
 use Rattle.std.specs.FinMap.{contains_key, from_entries}
 use Rattle.std.specs.List.{zip}
