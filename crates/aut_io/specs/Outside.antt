@@ -21,10 +21,11 @@ abbrev pub Opened : Option Texts → List ℕ → Option (List ℕ) → Type 0
 Opened None name left = Unit {0}
 Opened (Some texts) name left = left ≡ Some (text_of texts name)
 
--- nothing is open: nothing is left, where that is told
-abbrev pub Closed : Option (List ℕ) → Type 0
-Closed None = Unit {0}
-Closed (Some left) = left ≡ []
+-- Nothing is open, so nothing is left. Where the texts are told, that is told too.
+abbrev pub Closed : Option Texts → Option (List ℕ) → Type 0
+Closed None None = Unit {0}
+Closed None (Some left) = left ≡ []
+Closed (Some texts) left = left ≡ Some []
 
 -- What a read takes of what is left, and gives. A failed one takes nothing.
 abbrev pub Takes : {E : Type 0} → Option (List ℕ) → Option (List ℕ) → Result (Option ℕ) E → Type 0

@@ -27,7 +27,7 @@ pub trait Inputs {
         requires { may_open name.now }
         ensures texts { texts self.new ≡ texts self.old }
         ensures opened { OnOk result (Opened (texts self.old) name.now (left self.new)) }
-        ensures closed { OnErr result (Closed (left self.new)) }
+        ensures closed { OnErr result (Closed (texts self.old) (left self.new)) }
 
         // `Failed` comes only where the count of open faults rose, and want of memory alone leaves it.
         ensures failed { IsErrOf result OpenFail.Failed → Rose (open_faults self.old) (open_faults self.new) }
