@@ -25,7 +25,7 @@ pub differs : (xs : List (List ℕ)) (i : ℕ) (x : List ℕ) → i < length xs 
 differs xs i x l is other all =
     let P : List (List ℕ) → Type 0 = λ ys. AllPairs (λ a b. a ≢ b) ys in
     let new : (k : ℕ) (d : List ℕ) → k < length (take i xs) → get_or (take i xs) k d ≢ x =
-        λ k d h e. false≢true (sym (other k d (omega arith) h) ∙ (same_texts (get_or (take i xs) k d) x).1 e) in
+    λ k d h e. false≢true (sym (other k d (omega arith) h) ∙ (same_texts (get_or (take i xs) k d) x).1 e) in
     subst P (ap (λ y. take i xs ++ y ∷ []) is ∙ sym (take_more xs i x l)) (all_pairs_push (λ a b. a ≢ b) (take i xs) x all new)
 
 pub ruleset distinct = (repeats, differs)

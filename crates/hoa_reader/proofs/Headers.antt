@@ -59,8 +59,8 @@ made_header tokens r1 r2 r3 r4 r5 count names slice words e1 e2 longest same ok 
       lower = p.lower;
       split = e1 ∙ ap (λ x. opening_tokens ++ token.Int count ∷ x) (e2 ∙ ap (λ x. map token.Str names ++ x) (e3 ∙ ap (λ x. acceptance_tokens ++ x) (p.split ∙ ap (λ x. property_tokens words ++ x) e4)));
       only = λ f e.
-        let s = same_names f tokens r1 r2 count names e1 e2 longest e in
-        (s.names, same_state f r4 r5 (same_properties f r3 r4 words (same_acceptance f r2 r3 s.after e3) p) e4);
+          let s = same_names f tokens r1 r2 count names e1 e2 longest e in
+          (s.names, same_state f r4 r5 (same_properties f r3 r4 words (same_acceptance f r2 r3 s.after e3) p) e4);
     }
 
 -- the line of the state is missing

@@ -1,4 +1,3 @@
-pub mod Answering
 pub mod Distinct
 pub mod Exits
 pub mod Fronts

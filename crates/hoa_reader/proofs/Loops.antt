@@ -48,7 +48,7 @@ same_marks false false r s p q e = e
 pub same_rest : (g h : Guard) (m n : Bool) (r s : List Token) → EndsMarks m r → EndsMarks n s → loop_tokens (record { guard = g; marked = m }) ++ r ≡ loop_tokens (record { guard = h; marked = n }) ++ s → r ≡ s
 same_rest g h m n r s p q e =
     let inner : guard_tokens g ++ token.RightBracket ∷ token.Int 0 ∷ (marks_tokens m ++ r) ≡ guard_tokens h ++ token.RightBracket ∷ token.Int 0 ∷ (marks_tokens n ++ s) =
-        sym (append_assoc (guard_tokens g) (token.RightBracket ∷ token.Int 0 ∷ marks_tokens m) r) ∙ (cc) ∙ append_assoc (guard_tokens h) (token.RightBracket ∷ token.Int 0 ∷ marks_tokens n) s in
+    sym (append_assoc (guard_tokens g) (token.RightBracket ∷ token.Int 0 ∷ marks_tokens m) r) ∙ (cc) ∙ append_assoc (guard_tokens h) (token.RightBracket ∷ token.Int 0 ∷ marks_tokens n) s in
     let past : token.Int 0 ∷ (marks_tokens m ++ r) ≡ token.Int 0 ∷ (marks_tokens n ++ s) = same_guard g h _ _ inner in
     same_marks m n r s p q (cc)
 

@@ -1,4 +1,5 @@
 pub mod Collecting
+pub mod Describing
 pub mod Faults
 pub mod FirstForm
 pub mod Parsing

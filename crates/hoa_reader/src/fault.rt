@@ -3,10 +3,9 @@
 ghost use Rattle.std.specs.Prelude.{◌≡◌};
 ghost use Rattle.hoa_reader.specs.declared.fault.ReadFault.{ReadFault};
 
-use std::alloc::{AllocError, AllocFailed};
-
 use aut_base::Memory;
 use hoa_lexer::LexFault;
+use std::alloc::{AllocError, AllocFailed};
 
 /// Why no automaton was read.
 #[derive(Clone, Copy, Debug, PartialEq, Eq)]

@@ -6,12 +6,10 @@ ghost use Rattle.hoa_reader.specs.FirstForm.{opening_tokens, acceptance_tokens, 
 ghost use Rattle.hoa_reader.specs.Parsing.{IsProperties, NoProperties, guard_of, NoGuard, AreMarks, NoMarks, IsLoop, NoLoop, IsLoops, NoLoops, IsHeader, items_of, state_of, IsWhole, Refuses};
 ghost use Rattle.hoa_reader.specs.Raw.{raw_tree, written_edge, written_item, written_state, written};
 
-use std::alloc::Global;
-
+use crate::{Item, Items, Raw, RawEdge, RawEdges, RawLabel, RawState, RawStates, ReadFault};
 use aut_base::{Formula, Memory, Numbers, Text, Words};
 use hoa_lexer::Token;
-
-use crate::{Item, Items, Raw, RawEdge, RawEdges, RawLabel, RawState, RawStates, ReadFault};
+use std::alloc::Global;
 
 /// The text is these bytes.
 fn is(text: &Text, bytes: &[u8]) -> bool
@@ -40,10 +38,7 @@ fn after_opening(tokens: &[Token]) -> Option<(u32, &[Token])>
             && is(version, b"v1")
             && is(states, b"States")
             && is(start, b"Start")
-            && is(ap, b"AP") =>
-        {
-            Some((*count, rest))
-        }
+            && is(ap, b"AP") => { Some((*count, rest)) }
         _ => None,
     }
 }
@@ -73,9 +68,12 @@ fn after_state(tokens: &[Token]) -> Option<&[Token]>
     ensures none { IfNone result ((rest : List Token) → tokens.now ≡ Token.Body ∷ (state_tokens ++ rest) → ⊥) }
 {
     match tokens {
-        [Token::Body, Token::HeaderName(state), Token::Int(0), rest @ ..] if is(state, b"State") => {
-            Some(rest)
-        }
+        [
+            Token::Body,
+            Token::HeaderName(state),
+            Token::Int(0),
+            rest @ ..,
+        ] if is(state, b"State") => { Some(rest) }
         _ => None,
     }
 }
@@ -265,7 +263,12 @@ fn marks(alloc: Global, tokens: &[Token]) -> Result<(Numbers, &[Token]), ReadFau
     ensures none { IsErrOf result ReadFault.NotYet → NoMarks tokens.now }
 {
     match tokens {
-        [Token::LeftBrace, Token::Int(0), Token::RightBrace, rest @ ..] => Ok((zero(alloc)?, rest)),
+        [
+            Token::LeftBrace,
+            Token::Int(0),
+            Token::RightBrace,
+            rest @ ..,
+        ] => Ok((zero(alloc)?, rest)),
         [Token::LeftBrace, ..] => Err(ReadFault::NotYet),
         _ => Ok((Numbers::new(alloc), tokens)),
     }
@@ -344,7 +347,11 @@ fn header_at(alloc: Global, tokens: &[Token]) -> Result<(Header, &[Token]), Read
     let Some(rest) = after_state(rest) else {
         return Err(ReadFault::NotYet);
     };
-    let header = Header { count, names, properties };
+    let header = Header {
+        count,
+        names,
+        properties,
+    };
     Ok((header, rest))
 }
 
@@ -355,7 +362,11 @@ fn items(alloc: Global, header: Header) -> Result<Items, Memory>
     let mut items = Items::new(alloc);
     items.push(Item::States(1))?;
     items.push(Item::Start(zero(alloc)?))?;
-    let Header { count, names, properties } = header;
+    let Header {
+        count,
+        names,
+        properties,
+    } = header;
     items.push(Item::Ap { count, names })?;
     let formula = Formula::Inf { set: 0, neg: false };
     items.push(Item::Acceptance { sets: 1, formula })?;

@@ -1,0 +1,12 @@
+//! `autfilt`: a filter of omega-automata whose every answer is proved.
+#![tactic(auto)]
+
+mod ended;
+mod run;
+
+pub use ended::Ended;
+pub use run::autfilt;
+
+fn main(rt: HostRuntime) {
+    let _ = rt;
+}
