@@ -1,4 +1,7 @@
+pub mod Answering
+pub mod Collected
 pub mod Distinct
+pub mod Ending
 pub mod Exits
 pub mod Fronts
 pub mod Headers

@@ -22,22 +22,6 @@ pub enum ReadFault {
     Memory,
 }
 
-impl From<Memory> for ReadFault {
-    ghost from_gives = { λ _ fault. fault ≡ ReadFault.Memory };
-
-    fn from(_want: Memory) -> ReadFault {
-        ReadFault::Memory
-    }
-}
-
-impl From<AllocError> for ReadFault {
-    ghost from_gives = { λ _ fault. fault ≡ ReadFault.Memory };
-
-    fn from(_want: AllocError) -> ReadFault {
-        ReadFault::Memory
-    }
-}
-
 impl<T: Drop> From<AllocFailed<T>> for ReadFault {
     ghost from_gives = { λ _ fault. fault ≡ ReadFault.Memory };
 

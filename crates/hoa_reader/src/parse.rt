@@ -2,14 +2,40 @@
 
 ghost use Rattle.std.specs.Prelude.{◌≡◌, ◌≢◌, ◌<◌, ◌≤◌, ℕ, List, [], ◌∷◌, ◌++◌, length, codes, drop, map, flat_map, All, AllPairs, IfSome, IfNone, IfOk, IfErr, IsTrue, IsErrOf, true, ◌↔◌};
 ghost use Rattle.hoa_lexer.specs.declared.token.Token.{Token};
+ghost use Rattle.hoa_reader.specs.declared.parse.ParseFault.{ParseFault};
 ghost use Rattle.hoa_reader.specs.FirstForm.{opening_tokens, acceptance_tokens, state_tokens, guard_tokens, guard_written, IsGuardOf, is_lower};
 ghost use Rattle.hoa_reader.specs.Parsing.{IsProperties, NoProperties, guard_of, NoGuard, AreMarks, NoMarks, IsLoop, NoLoop, IsLoops, NoLoops, IsHeader, items_of, state_of, IsWhole, Refuses};
 ghost use Rattle.hoa_reader.specs.Raw.{raw_tree, written_edge, written_item, written_state, written};
 
-use crate::{Item, Items, Raw, RawEdge, RawEdges, RawLabel, RawState, RawStates, ReadFault};
+use crate::{Item, Items, Raw, RawEdge, RawEdges, RawLabel, RawState, RawStates};
 use aut_base::{Formula, Memory, Numbers, Text, Words};
 use hoa_lexer::Token;
-use std::alloc::Global;
+use std::alloc::{AllocFailed, Global};
+
+/// Why tokens are no automaton of the first form.
+#[derive(Clone, Copy, Debug, PartialEq, Eq)]
+pub(crate) enum ParseFault {
+    /// They are of another form.
+    NotYet,
+    /// Want of memory.
+    Memory,
+}
+
+impl From<Memory> for ParseFault {
+    ghost from_gives = { λ _ fault. fault ≡ ParseFault.Memory };
+
+    fn from(_want: Memory) -> ParseFault {
+        ParseFault::Memory
+    }
+}
+
+impl<T: Drop> From<AllocFailed<T>> for ParseFault {
+    ghost from_gives = { λ _ fault. fault ≡ ParseFault.Memory };
+
+    fn from(_want: AllocFailed<T>) -> ParseFault {
+        ParseFault::Memory
+    }
+}
 
 /// The text is these bytes.
 fn is(text: &Text, bytes: &[u8]) -> bool
@@ -166,16 +192,16 @@ fn after_properties(tokens: &[Token]) -> Option<&[Token]>
 }
 
 /// The words of the `properties:` line, if there is one, and what follows it.
-fn properties(alloc: Global, tokens: &[Token]) -> Result<(Option<Words>, &[Token]), ReadFault>
+fn properties(alloc: Global, tokens: &[Token]) -> Result<(Option<Words>, &[Token]), ParseFault>
     ensures found { IfOk result (λ found. IsProperties tokens.now found.0 found.1.now) }
-    ensures none { IsErrOf result ReadFault.NotYet → NoProperties tokens.now }
+    ensures none { IsErrOf result ParseFault.NotYet → NoProperties tokens.now }
 {
     let Some(rest) = after_properties(tokens) else {
         return Ok((None, tokens));
     };
     let words = identifiers(alloc, rest)?;
     if !are_lower(words.as_slice()) {
-        return Err(ReadFault::NotYet);
+        return Err(ParseFault::NotYet);
     }
     let after = behind(rest, &words);
     Ok((Some(words), after))
@@ -214,9 +240,9 @@ impl Guard {
     }
 
     #[tactic(auto, using(crate::proofs::RawTrees::raw_trees))]
-    fn label(self, alloc: Global) -> Result<RawLabel, ReadFault>
+    fn label(self, alloc: Global) -> Result<RawLabel, ParseFault>
         ensures label { IfOk result (λ label. raw_tree label ≡ guard_written (guard_of self)) }
-        ensures memory { IfErr result (λ fault. fault ≡ ReadFault.Memory) }
+        ensures memory { IfErr result (λ fault. fault ≡ ParseFault.Memory) }
     {
         match self {
             Guard::Always => Ok(RawLabel::True),
@@ -258,9 +284,9 @@ fn zero(alloc: Global) -> Result<Numbers, Memory>
 }
 
 /// The marks of an edge, and what follows them.
-fn marks(alloc: Global, tokens: &[Token]) -> Result<(Numbers, &[Token]), ReadFault>
+fn marks(alloc: Global, tokens: &[Token]) -> Result<(Numbers, &[Token]), ParseFault>
     ensures found { IfOk result (λ found. AreMarks tokens.now found.0 found.1.now) }
-    ensures none { IsErrOf result ReadFault.NotYet → NoMarks tokens.now }
+    ensures none { IsErrOf result ParseFault.NotYet → NoMarks tokens.now }
 {
     match tokens {
         [
@@ -269,27 +295,27 @@ fn marks(alloc: Global, tokens: &[Token]) -> Result<(Numbers, &[Token]), ReadFau
             Token::RightBrace,
             rest @ ..,
         ] => Ok((zero(alloc)?, rest)),
-        [Token::LeftBrace, ..] => Err(ReadFault::NotYet),
+        [Token::LeftBrace, ..] => Err(ParseFault::NotYet),
         _ => Ok((Numbers::new(alloc), tokens)),
     }
 }
 
 /// An edge, and what follows it.
-fn edge(alloc: Global, names: u32, tokens: &[Token]) -> Result<(RawEdge, &[Token]), ReadFault>
+fn edge(alloc: Global, names: u32, tokens: &[Token]) -> Result<(RawEdge, &[Token]), ParseFault>
     ensures found { IfOk result (λ found. IsLoop names tokens.now (written_edge found.0) found.1.now) }
-    ensures none { IsErrOf result ReadFault.NotYet → NoLoop names tokens.now }
+    ensures none { IsErrOf result ParseFault.NotYet → NoLoop names tokens.now }
 {
     let Some(rest) = after_bracket(tokens) else {
-        return Err(ReadFault::NotYet);
+        return Err(ParseFault::NotYet);
     };
     let Some((guard, rest)) = label_at(rest) else {
-        return Err(ReadFault::NotYet);
+        return Err(ParseFault::NotYet);
     };
     if !guard.is_of(names) {
-        return Err(ReadFault::NotYet);
+        return Err(ParseFault::NotYet);
     }
     let Some(rest) = after_goal(rest) else {
-        return Err(ReadFault::NotYet);
+        return Err(ParseFault::NotYet);
     };
     let (marks, rest) = marks(alloc, rest)?;
     let label = Some(guard.label(alloc)?);
@@ -305,9 +331,9 @@ fn is_end(tokens: &[Token]) -> bool
 }
 
 /// The edges, up to `--END--`.
-fn edges(alloc: Global, names: u32, tokens: &[Token]) -> Result<RawEdges, ReadFault>
+fn edges(alloc: Global, names: u32, tokens: &[Token]) -> Result<RawEdges, ParseFault>
     ensures found { IfOk result (λ edges. IsLoops names tokens.now (map written_edge edges)) }
-    ensures none { IsErrOf result ReadFault.NotYet → NoLoops names tokens.now }
+    ensures none { IsErrOf result ParseFault.NotYet → NoLoops names tokens.now }
 {
     let mut edges = RawEdges::new(alloc);
     let mut rest = tokens;
@@ -328,24 +354,24 @@ struct Header {
 }
 
 /// The header and the line of the state, and what follows them.
-fn header_at(alloc: Global, tokens: &[Token]) -> Result<(Header, &[Token]), ReadFault>
+fn header_at(alloc: Global, tokens: &[Token]) -> Result<(Header, &[Token]), ParseFault>
     ensures found { IfOk result (λ found. IsHeader tokens.now found.0.count found.0.names found.0.properties found.1.now) }
-    ensures none { IsErrOf result ReadFault.NotYet → Refuses tokens.now }
+    ensures none { IsErrOf result ParseFault.NotYet → Refuses tokens.now }
 {
     let Some((count, rest)) = after_opening(tokens) else {
-        return Err(ReadFault::NotYet);
+        return Err(ParseFault::NotYet);
     };
     let names = strings(alloc, rest)?;
     if !are_names(count, names.as_slice()) {
-        return Err(ReadFault::NotYet);
+        return Err(ParseFault::NotYet);
     }
     let rest = behind(rest, &names);
     let Some(rest) = after_acceptance(rest) else {
-        return Err(ReadFault::NotYet);
+        return Err(ParseFault::NotYet);
     };
     let (properties, rest) = properties(alloc, rest)?;
     let Some(rest) = after_state(rest) else {
-        return Err(ReadFault::NotYet);
+        return Err(ParseFault::NotYet);
     };
     let header = Header {
         count,
@@ -391,9 +417,9 @@ fn states(alloc: Global, edges: RawEdges) -> Result<RawStates, Memory>
 }
 
 /// What the tokens write, if they are an automaton of the first form.
-pub(crate) fn parse(alloc: Global, tokens: &[Token]) -> Result<Raw, ReadFault>
+pub(crate) fn parse(alloc: Global, tokens: &[Token]) -> Result<Raw, ParseFault>
     ensures found { IfOk result (λ raw. IsWhole tokens.now (written raw)) }
-    ensures none { IsErrOf result ReadFault.NotYet → Refuses tokens.now }
+    ensures none { IsErrOf result ParseFault.NotYet → Refuses tokens.now }
 {
     let (header, rest) = header_at(alloc, tokens)?;
     let edges = edges(alloc, header.count, rest)?;
