@@ -39,7 +39,7 @@ Answers (Err Read) start offset old new = Unit {0}
 Answers (Err Memory) start offset old new = Unit {0}
 
 -- A fault of reading is answered only where their count rose, and no other answer comes where a read failed.
-abbrev pub CountsFaults : Result (Option Token) LexFault → ℕ → ℕ → Type 0
+abbrev pub CountsFaults : {A : Type 0} → Result A LexFault → ℕ → ℕ → Type 0
 CountsFaults (Err Read) before after = Rose before after
 CountsFaults _ before after = after ≡ before
 
