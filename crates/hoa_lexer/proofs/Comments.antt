@@ -1,7 +1,7 @@
 -- Comments, and what follows their end.
-use Rattle.std.proofs.Common.{◌≡◌, ◌≢◌, ℕ, zero, suc, ◌+◌, ◌<◌, ◌≤◌, ◌&&◌, ◌==◌, Bool, true, false, cond, List, [], ◌∷◌, ◌++◌, length, Option, Some, None, Ok, Err, inl, inr, refl, sym, subst, ◌∙◌, ap, arith, MatchBool, add-suc}
+use Rattle.std.proofs.Common.{◌≡◌, ℕ, zero, suc, ◌+◌, ◌<◌, ◌≤◌, ◌&&◌, ◌==◌, Bool, true, false, cond, List, [], ◌∷◌, ◌++◌, length, Option, Some, None, Ok, Err, inl, inr, refl, sym, subst, ◌∙◌, ap, arith, MatchBool}
 use Rattle.std.proofs.lemmas.Bool.{cases_Bool}
-use Rattle.std.proofs.lemmas.List.{append_assoc, append-nil, length-append}
+use Rattle.std.proofs.lemmas.List.{append_assoc, length-append}
 use Rattle.hoa_lexer.specs.Blanks.{Closes}
 use Rattle.hoa_lexer.specs.Reading.{unread}
 use Rattle.hoa_lexer.specs.Steps.{closing, Peeks, StepsIn, ClosesComment, IsReadFault}
@@ -86,10 +86,12 @@ closing_of_two : (d b c : ℕ) (bs rest : List ℕ)
     → (closing (suc d) (c ∷ bs) ≡ Some rest → IsClosed (suc d) (c ∷ bs) rest)
     → closing (suc d) (b ∷ c ∷ bs) ≡ Some rest → IsClosed (suc d) (b ∷ c ∷ bs) rest
 closing_of_two d b c bs rest out into on e = elim (cases_Bool ((b == 42) && (c == 47))) [
-  inl h ↦ closed_out d b c bs rest h (out (sym (steps_out d b c bs h) ∙ e))
+  | inl h ↦ closed_out d b c bs rest h (out (sym (steps_out d b c bs h) ∙ e))
   | inr h ↦ elim (cases_Bool ((b == 47) && (c == 42))) [
-    inl k ↦ closed_in d b c bs rest h k (into (sym (steps_in d b c bs h k) ∙ e))
-    | inr k ↦ closed_on d b c bs rest h k (on (sym (steps_on d b c bs h k) ∙ e)) ] ]
+    | inl k ↦ closed_in d b c bs rest h k (into (sym (steps_in d b c bs h k) ∙ e))
+    | inr k ↦ closed_on d b c bs rest h k (on (sym (steps_on d b c bs h k) ∙ e))
+  ]
+]
 
 -- what `closing` says to follow does follow
 pub closing_sound : (d : ℕ) (bytes rest : List ℕ) → closing d bytes ≡ Some rest → IsClosed d bytes rest

@@ -1,17 +1,17 @@
 -- The words in dashes.
-use Rattle.std.proofs.Common.{◌≡◌, ◌≢◌, ℕ, zero, suc, ◌+◌, ◌<◌, ◌≤◌, List, [], ◌∷◌, ◌++◌, length, take, drop, get_or, Option, Some, None, Result, Ok, Err, ◌⊎◌, inl, inr, refl, sym, subst, ◌∙◌, ap, arith, is_some, not, drop-cons}
+use Rattle.std.proofs.Common.{◌≡◌, ℕ, suc, ◌<◌, List, [], ◌∷◌, ◌++◌, length, take, drop, get_or, Option, None, Result, Err, ◌⊎◌, inl, inr, refl, sym, subst, ◌∙◌, ap, arith, is_some, not, drop-cons}
 use Rattle.std.specs.Prelude.{codes}
 use Rattle.std.proofs.lemmas.List.{append_assoc, append-nil, length-append, take-append-drop}
 use Rattle.hoa_lexer.specs.Reading.{unread}
 use Rattle.hoa_lexer.specs.Spelling.{Spells, closes_itself}
-use Rattle.hoa_lexer.specs.Steps.{Expects, IsDashed, IsReadFault, Pauses, ReadsToken, ReadsWord, HoldsAfter}
+use Rattle.hoa_lexer.specs.Steps.{Expects, IsDashed, IsReadFault, Pauses, ReadsToken, ReadsWord}
 use Rattle.hoa_lexer.specs.Text.{IsFront, HasFront, Begins, IsOpenToken, IsNoToken}
 use Rattle.hoa_lexer.proofs.Comments.{unheld}
 use Rattle.hoa_lexer.proofs.FirstBytes.{token_kind, front_head}
 use Rattle.hoa_lexer.specs.declared.token.LexFault.{LexFault}
 use Rattle.hoa_lexer.specs.declared.token.LexFault.TheVariants.{BadToken, OpenComment, OpenString, OpenToken, Read, Bytes, Memory}
 use Rattle.hoa_lexer.specs.declared.token.Token.{Token}
-use Rattle.hoa_lexer.specs.declared.token.Token.TheVariants.{HeaderName, Identifier, Str, Int, Alias, Bang, Amp, Bar, LeftParen, RightParen, LeftBrace, RightBrace, LeftBracket, RightBracket, Body, End, Abort}
+use Rattle.hoa_lexer.specs.declared.token.Token.TheVariants.{HeaderName, Identifier, Str, Int, Alias, Body, End, Abort}
 
 heads : (b c : ℕ) (xs ys : List ℕ) → b ∷ xs ≡ c ∷ ys → b ≡ c
 heads b c xs ys e = cc
@@ -57,7 +57,7 @@ dash_bad b x z e n = record {
   some = λ k. cc;
   no_comment = λ rest k. no_slash_here k;
   no_slash = λ k. no_slash_here k;
-  no_token = λ t. n (second_at b (z ++ t.more) _ (subst (λ (w : List ℕ). IsTail w t.front.rest) (ap (λ w. w ++ t.more) e) (front_tail (x ++ t.more) t.front)))
+  no_token = λ t. n (second_at b (z ++ t.more) _ (subst (λ (w : List ℕ). IsTail w t.front.rest) (ap (λ w. w ++ t.more) e) (front_tail (x ++ t.more) t.front)));
 }
 
 pub dash_end : (x : List ℕ) → x ≡ [] → IsOpenToken (45 ∷ x)
@@ -65,7 +65,7 @@ dash_end x e = subst (λ (w : List ℕ). IsOpenToken (45 ∷ w)) (sym e) (record
   some = λ k. cc;
   no_string = λ rest k. cc;
   unclosed = dash_open;
-  begins = inr (record { more = codes "-END--"; front = end_front })
+  begins = inr (record { more = codes "-END--"; front = end_front });
 })
 
 pub dash_err : (fault : LexFault) (h : Option ℕ) (offset : ℕ) (x z : List ℕ) → IsReadFault fault → h ≡ None → x ≡ z → ReadsToken (Err fault) offset (45 ∷ x) (unread h z)
@@ -75,7 +75,7 @@ dash_err Bytes h offset x z r k e = record {
   split = ap (λ w. 45 ∷ w) (e ∙ sym (unheld h z k));
   some = λ k. cc;
   unclosed = dash_open;
-  begins = record { more = codes "-END--"; front = end_front }
+  begins = record { more = codes "-END--"; front = end_front };
 }
 dash_err (BadToken n) h offset x z r k e = absurd r
 dash_err OpenComment h offset x z r k e = absurd r
@@ -99,8 +99,8 @@ dashes_bad b x z e n m o = record {
   no_comment = λ rest k. no_slash_here k;
   no_slash = λ k. no_slash_here k;
   no_token = λ t.
-    let tail = subst (λ (w : List ℕ). IsTail (45 ∷ w) t.front.rest) (ap (λ w. w ++ t.more) e) (front_tail (45 ∷ (x ++ t.more)) t.front) in
-    elim (third_at b (z ++ t.more) _ tail) [ inl k ↦ n k | inr h ↦ elim h [ inl k ↦ m k | inr k ↦ o k ] ]
+      let tail = subst (λ (w : List ℕ). IsTail (45 ∷ w) t.front.rest) (ap (λ w. w ++ t.more) e) (front_tail (45 ∷ (x ++ t.more)) t.front) in
+      elim (third_at b (z ++ t.more) _ tail) [ inl k ↦ n k | inr h ↦ elim h [ inl k ↦ m k | inr k ↦ o k ] ];
 }
 
 pub dashes_end : (x : List ℕ) → x ≡ [] → IsOpenToken (45 ∷ 45 ∷ x)
@@ -108,7 +108,7 @@ dashes_end x e = subst (λ (w : List ℕ). IsOpenToken (45 ∷ 45 ∷ w)) (sym e
   some = λ k. cc;
   no_string = λ rest k. cc;
   unclosed = dashes_open;
-  begins = inr (record { more = codes "END--"; front = end_front })
+  begins = inr (record { more = codes "END--"; front = end_front });
 })
 
 pub dashes_err : (fault : LexFault) (h : Option ℕ) (offset : ℕ) (x z : List ℕ) → IsReadFault fault → h ≡ None → x ≡ z → ReadsToken (Err fault) offset (45 ∷ 45 ∷ x) (unread h z)
@@ -118,7 +118,7 @@ dashes_err Bytes h offset x z r k e = record {
   split = ap (λ w. 45 ∷ 45 ∷ w) (e ∙ sym (unheld h z k));
   some = λ k. cc;
   unclosed = dashes_open;
-  begins = record { more = codes "END--"; front = end_front }
+  begins = record { more = codes "END--"; front = end_front };
 }
 dashes_err (BadToken n) h offset x z r k e = absurd r
 dashes_err OpenComment h offset x z r k e = absurd r
@@ -176,7 +176,7 @@ tail_open token letter b tail seen d w f =
 tail_begins : (token : Token) (letter b : ℕ) (tail seen : List ℕ) → IsDashed token letter tail → Expects tail seen b → Begins (45 ∷ 45 ∷ letter ∷ seen)
 tail_begins token letter b tail seen d w = record {
   more = b ∷ w.rest;
-  front = subst (λ (v : List ℕ). HasFront (45 ∷ 45 ∷ letter ∷ v)) (append-nil tail ∙ w.split) (record { token = token; rest = []; front = dashed_front token letter tail [] d })
+  front = subst (λ (v : List ℕ). HasFront (45 ∷ 45 ∷ letter ∷ v)) (append-nil tail ∙ w.split) (record { token = token; rest = []; front = dashed_front token letter tail [] d });
 }
 
 same_next : (seen p q : List ℕ) (b c : ℕ) → seen ++ c ∷ p ≡ seen ++ b ∷ q → c ≡ b
@@ -187,7 +187,7 @@ tail_bad : (token : Token) (letter b c : ℕ) (tail seen x more : List ℕ) → 
 tail_bad token letter b c tail seen x more d w e n t =
     let whole = same_tail token letter tail (x ++ t.more) t.front.rest d (front_tail (45 ∷ letter ∷ (x ++ t.more)) t.front) in
     n (same_next seen (more ++ t.more) (w.rest ++ t.front.rest) b c
-      (sym (append_assoc seen (c ∷ more) t.more) ∙ ap (λ v. v ++ t.more) (sym e) ∙ whole ∙ ap (λ v. v ++ t.front.rest) w.split ∙ append_assoc seen (b ∷ w.rest) t.front.rest))
+    (sym (append_assoc seen (c ∷ more) t.more) ∙ ap (λ v. v ++ t.more) (sym e) ∙ whole ∙ ap (λ v. v ++ t.front.rest) w.split ∙ append_assoc seen (b ∷ w.rest) t.front.rest))
 
 pub tail_answer : (token : Token) (letter offset : ℕ) (h : Option ℕ) (tail x z : List ℕ) → IsDashed token letter tail → h ≡ None → x ≡ tail ++ z → IsFront (45 ∷ 45 ∷ letter ∷ x) token (unread h z)
 tail_answer token letter offset h tail x z d k e =
@@ -199,7 +199,7 @@ tail_no_token token letter b c tail seen x more d w e n = record {
   some = λ k. cc;
   no_comment = λ rest k. no_slash_here k;
   no_slash = λ k. no_slash_here k;
-  no_token = tail_bad token letter b c tail seen x more d w e n
+  no_token = tail_bad token letter b c tail seen x more d w e n;
 }
 
 tail_open_token : (token : Token) (letter b : ℕ) (tail x : List ℕ) → IsDashed token letter tail → Expects tail x b → IsOpenToken (45 ∷ 45 ∷ letter ∷ x)
@@ -207,7 +207,7 @@ tail_open_token token letter b tail x d w = record {
   some = λ k. cc;
   no_string = λ rest k. cc;
   unclosed = tail_open token letter b tail x d w;
-  begins = inr (tail_begins token letter b tail x d w)
+  begins = inr (tail_begins token letter b tail x d w);
 }
 
 tail_pauses : (token : Token) (letter b : ℕ) (h : Option ℕ) (tail seen x z : List ℕ) → IsDashed token letter tail → h ≡ None → Expects tail seen b → x ≡ seen ++ z → Pauses (45 ∷ 45 ∷ letter ∷ x) (unread h z)
@@ -216,7 +216,7 @@ tail_pauses token letter b h tail seen x z d e w k = record {
   split = ap (λ v. 45 ∷ 45 ∷ letter ∷ v) (k ∙ ap (λ v. seen ++ v) (sym (unheld h z e)));
   some = λ k. cc;
   unclosed = tail_open token letter b tail seen d w;
-  begins = tail_begins token letter b tail seen d w
+  begins = tail_begins token letter b tail seen d w;
 }
 
 pub tail_err : (fault : LexFault) (token : Token) (letter offset : ℕ) (h : Option ℕ) (tail x z : List ℕ) → IsDashed token letter tail → h ≡ None → ReadsWord (Err fault) tail offset x z → ReadsToken (Err fault) offset (45 ∷ 45 ∷ letter ∷ x) (unread h z)
@@ -233,7 +233,7 @@ tail_err Memory token letter offset h tail x z d e r = absurd r
 expects_at : (word : List ℕ) (k : ℕ) → k < length word → Expects word (take k word) (get_or word k 0)
 expects_at word k l = record {
   rest = drop (suc k) word;
-  split = sym (take-append-drop k word) ∙ ap (λ v. take k word ++ v) (drop-cons word k 0 l)
+  split = sym (take-append-drop k word) ∙ ap (λ v. take k word ++ v) (drop-cons word k 0 l);
 }
 
 pub expect_bad : (word : List ℕ) (k byte place offset : ℕ) (h : Option ℕ) (x y z : List ℕ) → k < length word → h ≡ None → place ≡ offset → x ≡ take k word ++ y → unread h y ≡ byte ∷ z → (byte ≡ get_or word k 0 → ⊥) → ReadsWord (Err (BadToken place)) word offset x z

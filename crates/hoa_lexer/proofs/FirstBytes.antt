@@ -1,11 +1,10 @@
 -- The first byte of a spelled word tells the kind of its token.
-use Rattle.std.proofs.Common.{◌≡◌, ◌≢◌, ℕ, ◌+◌, ◌<◌, ◌≤◌, Bool, true, false, cond, List, [], ◌∷◌, ◌++◌, refl, sym, subst, ◌∙◌, ap, arith}
-use Rattle.std.specs.Prelude.{codes}
+use Rattle.std.proofs.Common.{◌≡◌, ◌≢◌, ℕ, ◌<◌, true, false, cond, List, [], ◌∷◌, ◌++◌, refl, sym, subst, ◌∙◌, ap, arith, Option, None, is_some, not}
 use Rattle.std.proofs.lemmas.Bool.{false≢true}
 use Rattle.std.proofs.lemmas.Bool.Decides.{nat_tests}
 use Rattle.hoa_lexer.specs.Bytes.{is_digit, is_letter, is_space}
-use Rattle.hoa_lexer.specs.Spelling.{Spells}
-use Rattle.hoa_lexer.specs.Text.{IsFront, HasFront}
+use Rattle.hoa_lexer.specs.Spelling.{Spells, closes_itself}
+use Rattle.hoa_lexer.specs.Text.{IsFront, HasFront, IsNoToken}
 use Rattle.hoa_lexer.specs.Steps.{IsMark}
 use Rattle.hoa_lexer.specs.declared.token.Token.{Token}
 use Rattle.hoa_lexer.specs.declared.token.Token.TheVariants.{HeaderName, Identifier, Str, Int, Alias, Bang, Amp, Bar, LeftParen, RightParen, LeftBrace, RightBrace, LeftBracket, RightBracket, Body, End, Abort}
@@ -162,3 +161,50 @@ no_kind LeftBrace b h l d s a m k = k LeftBrace (sym (kind_other b l d) ∙ h)
 no_kind RightBrace b h l d s a m k = k RightBrace (sym (kind_other b l d) ∙ h)
 no_kind LeftBracket b h l d s a m k = k LeftBracket (sym (kind_other b l d) ∙ h)
 no_kind RightBracket b h l d s a m k = k RightBracket (sym (kind_other b l d) ∙ h)
+
+-- a mark stands alone
+
+pub mark_front : (token : Token) (b : ℕ) (x : List ℕ) → IsMark token b → IsFront (b ∷ x) token x
+mark_front Bang b x h = record { word = b ∷ []; split = refl; spells = ap (λ c. c ∷ []) h; ends = tt }
+mark_front Amp b x h = record { word = b ∷ []; split = refl; spells = ap (λ c. c ∷ []) h; ends = tt }
+mark_front Bar b x h = record { word = b ∷ []; split = refl; spells = ap (λ c. c ∷ []) h; ends = tt }
+mark_front LeftParen b x h = record { word = b ∷ []; split = refl; spells = ap (λ c. c ∷ []) h; ends = tt }
+mark_front RightParen b x h = record { word = b ∷ []; split = refl; spells = ap (λ c. c ∷ []) h; ends = tt }
+mark_front LeftBrace b x h = record { word = b ∷ []; split = refl; spells = ap (λ c. c ∷ []) h; ends = tt }
+mark_front RightBrace b x h = record { word = b ∷ []; split = refl; spells = ap (λ c. c ∷ []) h; ends = tt }
+mark_front LeftBracket b x h = record { word = b ∷ []; split = refl; spells = ap (λ c. c ∷ []) h; ends = tt }
+mark_front RightBracket b x h = record { word = b ∷ []; split = refl; spells = ap (λ c. c ∷ []) h; ends = tt }
+mark_front (HeaderName name) b x h = absurd h
+mark_front (Identifier name) b x h = absurd h
+mark_front (Str text) b x h = absurd h
+mark_front (Int n) b x h = absurd h
+mark_front (Alias name) b x h = absurd h
+mark_front _ b x h = absurd h
+
+pub mark_holds : (token : Token) (h : Option ℕ) (b : ℕ) → IsMark token b → h ≡ None → is_some h ≡ not (closes_itself token)
+mark_holds Bang h b m e = ap is_some e
+mark_holds Amp h b m e = ap is_some e
+mark_holds Bar h b m e = ap is_some e
+mark_holds LeftParen h b m e = ap is_some e
+mark_holds RightParen h b m e = ap is_some e
+mark_holds LeftBrace h b m e = ap is_some e
+mark_holds RightBrace h b m e = ap is_some e
+mark_holds LeftBracket h b m e = ap is_some e
+mark_holds RightBracket h b m e = ap is_some e
+mark_holds (HeaderName name) h b m e = absurd m
+mark_holds (Identifier name) h b m e = absurd m
+mark_holds (Str text) h b m e = absurd m
+mark_holds (Int n) h b m e = absurd m
+mark_holds (Alias name) h b m e = absurd m
+mark_holds _ h b m e = absurd m
+
+-- a byte of no kind begins no token, however the text goes on
+pub no_kind_token : (b : ℕ) (x : List ℕ) → is_letter b ≡ false → is_digit b ≡ false → (b ≡ 34 → ⊥) → (b ≡ 64 → ⊥) → (b ≡ 45 → ⊥) → (b ≡ 47 → ⊥) → ((t : Token) → IsMark t b → ⊥) → IsNoToken (b ∷ x)
+no_kind_token b x l d s a m o k = record {
+  some = λ e. cc;
+  no_comment = λ rest e. o (let same : b ≡ 47 = cc in same);
+  no_slash = λ e. o (let same : b ≡ 47 = cc in same);
+  no_token = λ t.
+      let head = front_head b (x ++ t.more) t.front.token t.front.rest t.front.front in
+      no_kind t.front.token b head.kinds l d s a m k;
+}

@@ -1,15 +1,13 @@
 -- What may stand where a token is sought.
-use Rattle.std.proofs.Common.{◌≡◌, ◌≢◌, ℕ, zero, suc, ◌+◌, ◌-◌, ◌<◌, ◌≤◌, ◌&&◌, ◌==◌, Bool, true, false, List, [], ◌∷◌, ◌++◌, length, Option, Some, None, Result, Ok, Err, inl, inr, refl, sym, subst, ◌∙◌, ap, arith}
-use Rattle.std.specs.Prelude.{codes}
+use Rattle.std.proofs.Common.{◌≡◌, ◌≢◌, ℕ, zero, suc, ◌+◌, ◌&&◌, ◌==◌, true, false, List, [], ◌∷◌, ◌++◌, length, Option, Some, None, Result, Ok, Err, inl, inr, refl, sym, subst, ◌∙◌, ap, arith}
 use Rattle.std.proofs.lemmas.Bool.{false≢true, and_right, cases_Bool}
 use Rattle.std.proofs.lemmas.List.{append_assoc, append-nil, length-append}
 use Rattle.hoa_lexer.specs.Blanks.{Closes, IsBlanks, IsOpenComment}
 use Rattle.hoa_lexer.specs.Blanks.IsBlanks.{nothing, space, comment}
 use Rattle.hoa_lexer.specs.Bytes.{is_space}
 use Rattle.hoa_lexer.specs.Reading.{unread, held_count, Answers}
-use Rattle.hoa_lexer.specs.Spelling.{Spells}
-use Rattle.hoa_lexer.specs.Steps.{closing, Peeks, ClosesComment, IsReadFault, Skips, SkipsComment, SkipsBlanks, Pauses, ReadsToken}
-use Rattle.hoa_lexer.specs.Text.{IsFront, HasFront, Begins, IsNext, AfterBlanks, IsOpenString, IsOpenToken, IsNoToken, AsksForMore}
+use Rattle.hoa_lexer.specs.Steps.{closing, Peeks, ClosesComment, IsReadFault, IsSolid, Skips, SkipsComment, SkipsBlanks, Pauses, ReadsToken}
+use Rattle.hoa_lexer.specs.Text.{IsFront, HasFront, IsNext, AfterBlanks, IsOpenString, IsOpenToken, IsNoToken, AsksForMore}
 use Rattle.hoa_lexer.proofs.Comments.{closing_after, closing_sound, unheld, holding, steps_out, steps_in, steps_on}
 use Rattle.hoa_lexer.proofs.FirstBytes.{front_head, no_front, no_space, no_slash}
 use Rattle.hoa_lexer.specs.declared.token.LexFault.{LexFault}
@@ -66,7 +64,7 @@ front_after before (c ∷ cs) x y (comment body bs h r t) (space k s) e f =
 front_after before before' x y (comment body bs h r t) (comment body' bs' k s u) e f =
     front_after bs bs' x y r s
     (same_close body body' bs bs' x y h k
-      (let whole : 47 ∷ 42 ∷ ((body ++ bs) ++ x) ≡ 47 ∷ 42 ∷ ((body' ++ bs') ++ y) = sym (ap (λ z. z ++ x) t) ∙ e ∙ ap (λ z. z ++ y) u in cc)) f
+    (let whole : 47 ∷ 42 ∷ ((body ++ bs) ++ x) ≡ 47 ∷ 42 ∷ ((body' ++ bs') ++ y) = sym (ap (λ z. z ++ x) t) ∙ e ∙ ap (λ z. z ++ y) u in cc)) f
 
 pub blanks_append : (a b : List ℕ) → IsBlanks a → IsBlanks b → IsBlanks (a ++ b)
 blanks_append a b nothing k = k
@@ -79,7 +77,7 @@ pub skips_then : (x y z : List ℕ) → Skips x y → Skips y z → Skips x z
 skips_then x y z s r = record {
   before = s.before ++ r.before;
   split = s.split ∙ ap (λ w. s.before ++ w) r.split ∙ sym (append_assoc s.before r.before z);
-  blanks = blanks_append s.before r.before s.blanks r.blanks
+  blanks = blanks_append s.before r.before s.blanks r.blanks;
 }
 
 pub skip_space : (b : ℕ) (x y z : List ℕ) → is_space b ≡ true → y ≡ b ∷ z → Skips x y → Skips x z
@@ -108,17 +106,19 @@ reopen_two : (d b c : ℕ) (bs : List ℕ)
     → (closing (suc d) (c ∷ bs) ≡ None → Reopens (suc d) (c ∷ bs))
     → closing (suc d) (b ∷ c ∷ bs) ≡ None → Reopens (suc d) (b ∷ c ∷ bs)
 reopen_two d b c bs out into on e = elim (cases_Bool ((b == 42) && (c == 47))) [
-  inl h ↦ (let r = out (sym (steps_out d b c bs h) ∙ e) in record { more = r.more; closed = steps_out d b c (bs ++ r.more) h ∙ r.closed })
+  | inl h ↦ (let r = out (sym (steps_out d b c bs h) ∙ e) in record { more = r.more; closed = steps_out d b c (bs ++ r.more) h ∙ r.closed })
   | inr h ↦ elim (cases_Bool ((b == 47) && (c == 42))) [
-    inl k ↦ (let r = into (sym (steps_in d b c bs h k) ∙ e) in record { more = r.more; closed = steps_in d b c (bs ++ r.more) h k ∙ r.closed })
-    | inr k ↦ (let r = on (sym (steps_on d b c bs h k) ∙ e) in record { more = r.more; closed = steps_on d b c (bs ++ r.more) h k ∙ r.closed }) ] ]
+    | inl k ↦ (let r = into (sym (steps_in d b c bs h k) ∙ e) in record { more = r.more; closed = steps_in d b c (bs ++ r.more) h k ∙ r.closed })
+    | inr k ↦ (let r = on (sym (steps_on d b c bs h k) ∙ e) in record { more = r.more; closed = steps_on d b c (bs ++ r.more) h k ∙ r.closed })
+  ]
+]
 
 reopen : (d : ℕ) (bytes : List ℕ) → closing d bytes ≡ None → Reopens d bytes
 reopen zero bytes e = absurd (cc)
 reopen (suc d) [] e = record { more = closers (suc d); closed = closing_closers (suc d) }
 reopen (suc d) (b ∷ []) e = record {
   more = 10 ∷ closers (suc d);
-  closed = steps_on d b 10 (closers (suc d)) (and_right _ _ refl) (and_right _ _ refl) ∙ closing_closers d
+  closed = steps_on d b 10 (closers (suc d)) (and_right _ _ refl) (and_right _ _ refl) ∙ closing_closers d;
 }
 reopen (suc d) (b ∷ c ∷ bs) e =
     reopen_two d b c bs (reopen d bs) (reopen (suc (suc d)) bs) (reopen (suc d) (c ∷ bs)) e
@@ -142,11 +142,12 @@ asks_comment seen e =
       unclosed = λ a. open_front (42 ∷ seen) a.before a.bytes (λ rest k. let same : seen ≡ rest = cc in sym (ap (closing 1) same) ∙ e) a.split a.blanks a.holds;
       more = r.more;
       closes = record {
-        before = 47 ∷ 42 ∷ w.body; bytes = 33 ∷ [];
+        before = 47 ∷ 42 ∷ w.body;
+        bytes = 33 ∷ [];
         split = ap (λ z. 47 ∷ 42 ∷ z) w.split;
         blanks = comment w.body [] w.closes nothing (ap (λ z. 47 ∷ 42 ∷ z) (sym (append-nil w.body)));
-        holds = bang
-      }
+        holds = bang;
+      };
     }
 
 asks_slash : AsksForMore (47 ∷ [])
@@ -154,10 +155,12 @@ asks_slash = record {
   unclosed = λ a. open_front [] a.before a.bytes (λ rest k. absurd (cc)) a.split a.blanks a.holds;
   more = 42 ∷ 42 ∷ 47 ∷ 33 ∷ [];
   closes = record {
-    before = 47 ∷ 42 ∷ 42 ∷ 47 ∷ []; bytes = 33 ∷ []; split = refl;
+    before = 47 ∷ 42 ∷ 42 ∷ 47 ∷ [];
+    bytes = 33 ∷ [];
+    split = refl;
     blanks = comment (42 ∷ 47 ∷ []) [] tt nothing refl;
-    holds = bang
-  }
+    holds = bang;
+  };
 }
 
 no_after_nil : (before bytes : List ℕ) → [] ≡ before ++ bytes → HasFront bytes → ⊥
@@ -167,10 +170,10 @@ no_after_nil (b ∷ bs) bytes e f = cc
 asks_blanks : (before : List ℕ) → IsBlanks before → AsksForMore before
 asks_blanks before h = record {
   unclosed = λ a.
-    let w = front_after before a.before [] a.bytes h a.blanks (append-nil before ∙ a.split) a.holds in
-    no_after_nil w.before w.bytes w.split w.holds;
+      let w = front_after before a.before [] a.bytes h a.blanks (append-nil before ∙ a.split) a.holds in
+      no_after_nil w.before w.bytes w.split w.holds;
   more = 33 ∷ [];
-  closes = record { before = before; bytes = 33 ∷ []; split = refl; blanks = h; holds = bang }
+  closes = record { before = before; bytes = 33 ∷ []; split = refl; blanks = h; holds = bang };
 }
 
 -- the first two bytes of a comment, or what stands in place of the second
@@ -182,15 +185,18 @@ skip_closed (Ok done) start x y z e h =
     record {
       before = 47 ∷ 42 ∷ w.body;
       split = ap (λ v. 47 ∷ v) e ∙ ap (λ v. 47 ∷ 42 ∷ v) split;
-      blanks = comment w.body [] w.closes nothing (ap (λ v. 47 ∷ 42 ∷ v) (sym (append-nil w.body)))
+      blanks = comment w.body [] w.closes nothing (ap (λ v. 47 ∷ 42 ∷ v) (sym (append-nil w.body)));
     }
 skip_closed (Err OpenComment) start x y z e h = record {
-  before = []; bytes = 47 ∷ x; split = refl; blanks = nothing;
+  before = [];
+  bytes = 47 ∷ x;
+  split = refl;
+  blanks = nothing;
   holds = record {
     rest = y;
     opens = ap (λ v. 47 ∷ v) e;
-    open_still = λ body more k w. let done : closing 1 y ≡ Some more = ap (closing 1) k ∙ closing_after 1 body more w in cc
-  }
+    open_still = λ body more k w. let done : closing 1 y ≡ Some more = ap (closing 1) k ∙ closing_after 1 body more w in cc;
+  };
 }
 skip_closed (Err Bytes) start x y z e h =
     (47 ∷ 42 ∷ h.0, ap (λ v. 47 ∷ v) e ∙ ap (λ v. 47 ∷ 42 ∷ v) h.1, asks_comment h.0 h.2)
@@ -202,24 +208,33 @@ skip_closed (Err Memory) start x y z e h = absurd h
 
 pub skip_bad : (k start b : ℕ) (x y z : List ℕ) → k ≡ start → (b ≡ 42 → ⊥) → x ≡ b ∷ y → SkipsComment (Err (BadToken k)) start (47 ∷ x) z
 skip_bad k start b x y z s n e = record {
-  before = []; bytes = 47 ∷ x; split = refl; blanks = nothing;
-  holds = (ap (λ v. v + length (47 ∷ x)) s, record {
-    some = λ w. cc;
-    no_comment = λ rest w. n (let same : b ∷ y ≡ 42 ∷ rest = cc in cc);
-    no_slash = λ w. let same : b ∷ y ≡ [] = cc in cc;
-    no_token = λ w. front_slash (x ++ w.more) w.front
-  })
+  before = [];
+  bytes = 47 ∷ x;
+  split = refl;
+  blanks = nothing;
+  holds = (
+    ap (λ v. v + length (47 ∷ x)) s,
+    record {
+      some = λ w. cc;
+      no_comment = λ rest w. n (let same : b ∷ y ≡ 42 ∷ rest = cc in cc);
+      no_slash = λ w. let same : b ∷ y ≡ [] = cc in cc;
+      no_token = λ w. front_slash (x ++ w.more) w.front;
+    },
+  );
 }
 
 pub skip_end : (start : ℕ) (x z : List ℕ) → x ≡ [] → SkipsComment (Err OpenToken) start (47 ∷ x) z
 skip_end start x z e = record {
-  before = []; bytes = 47 ∷ x; split = refl; blanks = nothing;
+  before = [];
+  bytes = 47 ∷ x;
+  split = refl;
+  blanks = nothing;
   holds = record {
     some = λ w. cc;
     no_string = λ rest w. cc;
     unclosed = front_slash x;
-    begins = inl (ap (λ v. 47 ∷ v) e)
-  }
+    begins = inl (ap (λ v. 47 ∷ v) e);
+  };
 }
 
 pub skip_err : (fault : LexFault) (h : Option ℕ) (start : ℕ) (x z : List ℕ) → IsReadFault fault → h ≡ None → x ≡ z → SkipsComment (Err fault) start (47 ∷ x) (unread h z)
@@ -243,7 +258,7 @@ after_skips x y P Q f s a = record {
   bytes = a.bytes;
   split = s.split ∙ ap (λ w. s.before ++ w) a.split ∙ sym (append_assoc s.before a.before a.bytes);
   blanks = blanks_append s.before a.before s.blanks a.blanks;
-  holds = f a.bytes a.holds
+  holds = f a.bytes a.holds;
 }
 
 asks_after : (before at_hand : List ℕ) → IsBlanks before → AsksForMore at_hand → AsksForMore (before ++ at_hand)
@@ -251,7 +266,7 @@ asks_after before at_hand h a = record {
   unclosed = λ w. a.unclosed (front_after before w.before at_hand w.bytes h w.blanks w.split w.holds);
   more = a.more;
   closes = after_skips ((before ++ at_hand) ++ a.more) (at_hand ++ a.more) HasFront HasFront (λ bytes f. f)
-    (record { before = before; split = append_assoc before at_hand a.more; blanks = h }) a.closes
+      (record { before = before; split = append_assoc before at_hand a.more; blanks = h }) a.closes;
 }
 
 pub fails_after : (fault : LexFault) (start start' offset offset' : ℕ) (x y z : List ℕ) → Skips x y → start + length x ≡ start' + length y → Answers (Err fault) start' offset' y z → Answers (Err fault) start offset x z
@@ -288,6 +303,18 @@ blanks_stop h b x y z k s e = record { before = s.before; split = s.split ∙ ap
 pub blanks_to : (b : ℕ) (x y z : List ℕ) → Skips x y → y ≡ b ∷ z → Skips x (b ∷ z)
 blanks_to b x y z s e = record { before = s.before; split = s.split ∙ ap (λ w. s.before ++ w) e; blanks = s.blanks }
 
+pub skips_byte : (o h : Option ℕ) (b start : ℕ) (x y : List ℕ) → o ≡ Some b → h ≡ Some b → SkipsBlanks (Ok o) start x (unread h y) → Skips x (b ∷ y)
+skips_byte None h b start x y e k s = cc
+skips_byte (Some c) h b start x y e k s = record { before = s.before; split = s.split ∙ ap (λ w. s.before ++ w) (holding h b y k); blanks = s.blanks }
+
+pub solid_space : (o : Option ℕ) (b : ℕ) → o ≡ Some b → IsSolid (Ok o) → is_space b ≡ false
+solid_space None b e s = cc
+solid_space (Some c) b e s = (let same : b ≡ c = cc in ap is_space same ∙ s.0)
+
+pub solid_slash : (o : Option ℕ) (b : ℕ) → o ≡ Some b → IsSolid (Ok o) → b ≢ 47
+solid_slash None b e s = λ k. absurd (let other : None ≡ Some b = e in cc)
+solid_slash (Some c) b e s = (let same : b ≡ c = cc in λ k. s.1 (sym same ∙ k))
+
 -- a token after blanks
 
 -- where a token can come of the bytes, no blank stands at their front
@@ -301,7 +328,7 @@ pauses_ask : (y z : List ℕ) (p : Pauses y z) → AsksForMore p.at_hand
 pauses_ask y z p = record {
   unclosed = λ a. p.unclosed (solid_after p.at_hand a.before a.bytes p.begins.more p.some p.begins.front a.split a.blanks a.holds);
   more = p.begins.more;
-  closes = record { before = []; bytes = p.at_hand ++ p.begins.more; split = refl; blanks = nothing; holds = p.begins.front }
+  closes = record { before = []; bytes = p.at_hand ++ p.begins.more; split = refl; blanks = nothing; holds = p.begins.front };
 }
 
 at_once : (y : List ℕ) (P : List ℕ → Type 0) → P y → AfterBlanks y P
@@ -322,9 +349,12 @@ token_err fault start offset x y z s e h = fails_after fault start offset offset
 
 pub token_ok : (token : Token) (start offset : ℕ) (x y z : List ℕ) → Skips x y → start + length x ≡ offset + length y → IsFront y token z → IsNext x start token offset z
 token_ok token start offset x y z s e f = record {
-  before = s.before; bytes = y; split = s.split; blanks = s.blanks;
+  before = s.before;
+  bytes = y;
+  split = s.split;
+  blanks = s.blanks;
   place = omega (arith, e, simp length-append at (ap length s.split));
-  front = f
+  front = f;
 }
 
 pub err_offset : (fault : LexFault) (start offset offset' : ℕ) (x z : List ℕ) → Answers (Err fault) start offset x z → Answers (Err fault) start offset' x z

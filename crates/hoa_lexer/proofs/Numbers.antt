@@ -1,23 +1,23 @@
 -- Integers.
-use Rattle.std.proofs.Common.{◌≡◌, ◌≢◌, ℕ, zero, suc, ◌+◌, ◌-◌, ◌*◌, ◌^◌, ◌<◌, ◌≤◌, ◌&&◌, ◌==◌, Bool, true, false, not, is_some, lit<, List, [], ◌∷◌, ◌++◌, length, Option, Some, None, Result, Ok, Err, inl, inr, refl, sym, subst, ◌∙◌, ap, arith}
+use Rattle.std.proofs.Common.{◌≡◌, ℕ, zero, suc, ◌+◌, ◌-◌, ◌*◌, ◌^◌, ◌<◌, ◌≤◌, true, false, not, is_some, lit<, List, [], ◌∷◌, ◌++◌, Option, Some, None, Err, inr, refl, sym, subst, ◌∙◌, ap, arith}
 use Rattle.std.specs.Prelude.{fold}
 use Rattle.std.specs.List.{list_all}
-use Rattle.std.proofs.lemmas.Bool.{false≢true, and_parts, and_from}
+use Rattle.std.proofs.lemmas.Bool.{false≢true, and_parts}
 use Rattle.std.proofs.lemmas.Bool.Decides.{nat_tests}
 use Rattle.std.proofs.lemmas.List.{append_assoc, append-nil}
 use Rattle.std.proofs.lemmas.List.Sums.{fold-append}
 use Rattle.hoa_lexer.specs.Bytes.{is_digit}
 use Rattle.hoa_lexer.specs.Reading.{unread}
 use Rattle.hoa_lexer.specs.Spelling.{Spells, Ends, StopsAt, IsNumeral, value_of, closes_itself}
-use Rattle.hoa_lexer.specs.Steps.{Peeks, IsReadFault, Pauses, ReadsToken}
+use Rattle.hoa_lexer.specs.Steps.{IsReadFault, ReadsToken}
 use Rattle.hoa_lexer.specs.Text.{IsFront, HasFront, Begins, IsOpenToken, IsNoToken}
 use Rattle.hoa_lexer.proofs.Comments.{unheld, holding}
-use Rattle.hoa_lexer.proofs.FirstBytes.{kind, token_kind, kind_digit, front_head}
+use Rattle.hoa_lexer.proofs.FirstBytes.{token_kind, kind_digit, front_head}
 use Rattle.hoa_lexer.proofs.Words.{stops_not, all_push}
 use Rattle.hoa_lexer.specs.declared.token.LexFault.{LexFault}
 use Rattle.hoa_lexer.specs.declared.token.LexFault.TheVariants.{BadToken, OpenComment, OpenString, OpenToken, Read, Bytes, Memory}
 use Rattle.hoa_lexer.specs.declared.token.Token.{Token}
-use Rattle.hoa_lexer.specs.declared.token.Token.TheVariants.{HeaderName, Identifier, Str, Int, Alias, Bang, Amp, Bar, LeftParen, RightParen, LeftBrace, RightBrace, LeftBracket, RightBracket, Body, End, Abort}
+use Rattle.hoa_lexer.specs.declared.token.Token.TheVariants.{HeaderName, Identifier, Str, Int, Alias}
 
 -- digits after the first, and the value of all so far
 pub record IsDigits (first value : ℕ) (x y : List ℕ) : Type 0 where
@@ -38,7 +38,7 @@ digits_push first value value' b x y z d e h v = record {
   seen = d.seen ++ b ∷ [];
   digits = all_push is_digit b d.seen d.digits h;
   value_is = fold-append (λ value digit. 10 * value + (digit - 48)) 0 (first ∷ d.seen) (b ∷ []) ∙ ap (λ n. 10 * n + (b - 48)) d.value_is ∙ sym v;
-  split = d.split ∙ ap (λ w. d.seen ++ w) e ∙ sym (append_assoc d.seen (b ∷ []) z)
+  split = d.split ∙ ap (λ w. d.seen ++ w) e ∙ sym (append_assoc d.seen (b ∷ []) z);
 }
 
 grows : (a : ℕ) (ds : List ℕ) → a ≤ value_from a ds
@@ -71,7 +71,7 @@ number_token h first value b x y z d v l k w e n = record {
   word = first ∷ w.seen;
   split = ap (λ q. first ∷ q) (w.split ∙ ap (λ q. w.seen ++ q) (e ∙ sym (holding h b z k)));
   spells = (numeral first w.seen d v w.digits, w.value_is, l);
-  ends = ends_int value (unread h z) (subst (λ (q : List ℕ). StopsAt is_digit q) (sym (holding h b z k)) n)
+  ends = ends_int value (unread h z) (subst (λ (q : List ℕ). StopsAt is_digit q) (sym (holding h b z k)) n);
 }
 
 pub holds_int : (h : Option ℕ) (b n : ℕ) → h ≡ Some b → 0 < n → is_some h ≡ not (closes_itself (Int n))
@@ -99,8 +99,8 @@ number_begins first seen d v h l = record {
   front = record {
     token = Int (value_of (first ∷ seen));
     rest = 32 ∷ [];
-    front = record { word = first ∷ seen; split = refl; spells = (numeral first seen d v h, refl, l); ends = ends_int (value_of (first ∷ seen)) (32 ∷ []) refl }
-  }
+    front = record { word = first ∷ seen; split = refl; spells = (numeral first seen d v h, refl, l); ends = ends_int (value_of (first ∷ seen)) (32 ∷ []) refl };
+  };
 }
 
 digit_no_quote : (b : ℕ) → is_digit b ≡ true → b ≡ 34 → ⊥
@@ -118,7 +118,7 @@ number_end first value x y d v l w e =
       some = λ k. cc;
       no_string = λ rest k. digit_no_quote first d (let same : first ≡ 34 = cc in same);
       unclosed = number_open first x d v digits;
-      begins = inr (number_begins first x d v digits (omega arith))
+      begins = inr (number_begins first x d v digits (omega arith));
     }
 
 pub number_err : (fault : LexFault) (h : Option ℕ) (offset first value : ℕ) (x y z : List ℕ) → is_digit first ≡ true → 0 < first - 48 → value < 2 ^ 32 → IsReadFault fault → h ≡ None → IsDigits first value x y → y ≡ z → ReadsToken (Err fault) offset (first ∷ x) (unread h z)
@@ -127,7 +127,7 @@ number_err Bytes h offset first value x y z d v l r k w e = record {
   split = ap (λ q. first ∷ q) (w.split ∙ ap (λ q. w.seen ++ q) (e ∙ sym (unheld h z k)));
   some = λ q. cc;
   unclosed = number_open first w.seen d v w.digits;
-  begins = number_begins first w.seen d v w.digits (omega (arith, w.value_is))
+  begins = number_begins first w.seen d v w.digits (omega (arith, w.value_is));
 }
 number_err Read h offset first value x y z d v l r k w e = tt
 number_err (BadToken n) h offset first value x y z d v l r k w e = absurd r
@@ -166,8 +166,8 @@ number_great first value x y d v g w = record {
   no_comment = λ rest k. digit_no_slash first d (let same : first ≡ 47 = cc in same);
   no_slash = λ k. digit_no_slash first d (let same : first ≡ 47 = cc in same);
   no_token = λ t.
-    let f = t.front in
-    let head = front_head first (x ++ t.more) f.token f.rest f.front in
-    let whole : w.seen ++ (y ++ t.more) ≡ head.tail ++ f.rest = sym (append_assoc w.seen y t.more) ∙ sym (ap (λ q. q ++ t.more) w.split) ∙ head.split in
-    number_great_at f.token first w.seen (y ++ t.more) head.tail f.rest (sym (kind_digit first d) ∙ head.kinds) v (omega (arith, w.value_is)) head.spells f.front.ends whole w.digits
+      let f = t.front in
+      let head = front_head first (x ++ t.more) f.token f.rest f.front in
+      let whole : w.seen ++ (y ++ t.more) ≡ head.tail ++ f.rest = sym (append_assoc w.seen y t.more) ∙ sym (ap (λ q. q ++ t.more) w.split) ∙ head.split in
+      number_great_at f.token first w.seen (y ++ t.more) head.tail f.rest (sym (kind_digit first d) ∙ head.kinds) v (omega (arith, w.value_is)) head.spells f.front.ends whole w.digits;
 }

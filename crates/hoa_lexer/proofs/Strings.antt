@@ -1,18 +1,18 @@
 -- Strings in quotes.
-use Rattle.std.proofs.Common.{◌≡◌, ◌≢◌, ℕ, ◌==◌, Bool, true, false, cond, List, [], ◌∷◌, ◌++◌, Option, Some, None, Result, Ok, Err, ◌⊎◌, inl, inr, refl, sym, subst, ◌∙◌, ap, arith}
+use Rattle.std.proofs.Common.{◌≡◌, ℕ, ◌==◌, Bool, true, false, cond, List, [], ◌∷◌, ◌++◌, Option, Some, None, Ok, Err, inl, inr, refl, sym, subst, ◌∙◌, ap, arith}
 use Rattle.std.proofs.lemmas.Bool.{ne_eqb}
 use Rattle.std.proofs.lemmas.List.{append_assoc, append-nil}
 use Rattle.hoa_lexer.specs.Reading.{unread}
 use Rattle.hoa_lexer.specs.Spelling.{Spells, Quotes}
 use Rattle.hoa_lexer.specs.Spelling.Quotes.{nothing, escaped, plain}
-use Rattle.hoa_lexer.specs.Steps.{IsHalf, IsReadFault, Pauses, ReadsQuoted, ReadsToken}
-use Rattle.hoa_lexer.specs.Text.{IsFront, HasFront, Begins, IsOpenString}
+use Rattle.hoa_lexer.specs.Steps.{IsHalf, IsReadFault, ReadsQuoted, ReadsToken}
+use Rattle.hoa_lexer.specs.Text.{IsFront, HasFront, Begins}
 use Rattle.hoa_lexer.proofs.Comments.{unheld}
 use Rattle.hoa_lexer.proofs.FirstBytes.{token_kind, front_head}
 use Rattle.hoa_lexer.specs.declared.token.LexFault.{LexFault}
 use Rattle.hoa_lexer.specs.declared.token.LexFault.TheVariants.{BadToken, OpenComment, OpenString, OpenToken, Read, Bytes, Memory}
 use Rattle.hoa_lexer.specs.declared.token.Token.{Token}
-use Rattle.hoa_lexer.specs.declared.token.Token.TheVariants.{HeaderName, Identifier, Str, Int, Alias, Bang, Amp, Bar, LeftParen, RightParen, LeftBrace, RightBrace, LeftBracket, RightBracket, Body, End, Abort}
+use Rattle.hoa_lexer.specs.declared.token.Token.TheVariants.{HeaderName, Identifier, Str, Int, Alias}
 
 -- What follows the closing quote, if there is one; `true` after a `\`.
 abbrev after_quote : Bool → List ℕ → Option (List ℕ)
@@ -61,19 +61,19 @@ closed_front : (inner text : List ℕ) → Quotes inner text → HasFront (34 �
 closed_front inner text q = record {
   token = Str text;
   rest = [];
-  front = record { word = 34 ∷ (inner ++ 34 ∷ []); split = sym (append-nil (34 ∷ (inner ++ 34 ∷ []))); spells = (inner, q, refl); ends = tt }
+  front = record { word = 34 ∷ (inner ++ 34 ∷ []); split = sym (append-nil (34 ∷ (inner ++ 34 ∷ []))); spells = (inner, q, refl); ends = tt };
 }
 
 string_begins : (seen text half : List ℕ) → Quotes seen text → IsHalf half → Begins (34 ∷ (seen ++ half))
 string_begins seen text half q (inl e) = record {
   more = 34 ∷ [];
-  front = subst HasFront (ap (λ w. 34 ∷ (w ++ 34 ∷ [])) (sym (ap (λ w. seen ++ w) e ∙ append-nil seen))) (closed_front seen text q)
+  front = subst HasFront (ap (λ w. 34 ∷ (w ++ 34 ∷ [])) (sym (ap (λ w. seen ++ w) e ∙ append-nil seen))) (closed_front seen text q);
 }
 string_begins seen text half q (inr e) = record {
   more = 97 ∷ 34 ∷ [];
   front = subst HasFront
-    (ap (λ w. 34 ∷ w) (append_assoc seen (92 ∷ 97 ∷ []) (34 ∷ []) ∙ ap (λ w. seen ++ (w ++ 97 ∷ 34 ∷ [])) (sym e) ∙ sym (append_assoc seen half (97 ∷ 34 ∷ []))))
-    (closed_front (seen ++ 92 ∷ 97 ∷ []) (text ++ 97 ∷ []) (quotes_append seen (92 ∷ 97 ∷ []) text (97 ∷ []) q (escaped nothing)))
+      (ap (λ w. 34 ∷ w) (append_assoc seen (92 ∷ 97 ∷ []) (34 ∷ []) ∙ ap (λ w. seen ++ (w ++ 97 ∷ 34 ∷ [])) (sym e) ∙ sym (append_assoc seen half (97 ∷ 34 ∷ []))))
+      (closed_front (seen ++ 92 ∷ 97 ∷ []) (text ++ 97 ∷ []) (quotes_append seen (92 ∷ 97 ∷ []) text (97 ∷ []) q (escaped nothing)));
 }
 
 -- one byte
@@ -111,27 +111,28 @@ string_token h text x y z k q e = record {
   word = 34 ∷ (q.0 ++ 34 ∷ []);
   split = ap (λ w. 34 ∷ w) (q.2 ∙ ap (λ w. q.0 ++ w) (e ∙ ap (λ w. 34 ∷ w) (sym (unheld h z k))) ∙ sym (append_assoc q.0 (34 ∷ []) (unread h z)));
   spells = (q.0, q.1, refl);
-  ends = tt
+  ends = tt;
 }
 
 pub string_push : (b : ℕ) (text text' x y z : List ℕ) → (inner : List ℕ) × Quotes inner text × (x ≡ inner ++ y) → (seen : List ℕ) × Quotes seen (b ∷ []) × (y ≡ seen ++ z) → text' ≡ text ++ b ∷ [] → (inner : List ℕ) × Quotes inner text' × (x ≡ inner ++ z)
-string_push b text text' x y z h k e =
-    (h.0 ++ k.0,
-      subst (λ (w : List ℕ). Quotes (h.0 ++ k.0) w) (sym e) (quotes_append h.0 k.0 text (b ∷ []) h.1 k.1),
-      h.2 ∙ ap (λ w. h.0 ++ w) k.2 ∙ sym (append_assoc h.0 k.0 z))
+string_push b text text' x y z h k e = (
+  h.0 ++ k.0,
+  subst (λ (w : List ℕ). Quotes (h.0 ++ k.0) w) (sym e) (quotes_append h.0 k.0 text (b ∷ []) h.1 k.1),
+  h.2 ∙ ap (λ w. h.0 ++ w) k.2 ∙ sym (append_assoc h.0 k.0 z),
+)
 
 pub string_err : (fault : LexFault) (h : Option ℕ) (offset : ℕ) (text x y z : List ℕ) → h ≡ None → (inner : List ℕ) × Quotes inner text × (x ≡ inner ++ y) → ReadsQuoted (Err fault) y z → ReadsToken (Err fault) offset (34 ∷ x) (unread h z)
 string_err OpenString h offset text x y z k q r = record {
   rest = x;
   opens = refl;
-  open_still = λ inner text' more e w. unclosed q.0 text y inner text' more q.1 r w (sym q.2 ∙ e)
+  open_still = λ inner text' more e w. unclosed q.0 text y inner text' more q.1 r w (sym q.2 ∙ e);
 }
 string_err Bytes h offset text x y z k q r = record {
   at_hand = 34 ∷ (q.0 ++ r.0);
   split = ap (λ w. 34 ∷ w) (q.2 ∙ ap (λ w. q.0 ++ w) (r.2 ∙ ap (λ w. r.0 ++ w) (sym (unheld h z k))) ∙ sym (append_assoc q.0 r.0 (unread h z)));
   some = λ e. cc;
   unclosed = string_open q.0 text r.0 q.1 r.1;
-  begins = string_begins q.0 text r.0 q.1 r.1
+  begins = string_begins q.0 text r.0 q.1 r.1;
 }
 string_err Read h offset text x y z k q r = tt
 string_err (BadToken n) h offset text x y z k q r = absurd r

@@ -1,20 +1,20 @@
 -- Identifiers, names of headers and aliases.
-use Rattle.std.proofs.Common.{◌≡◌, ◌≢◌, ℕ, zero, suc, ◌+◌, ◌<◌, ◌≤◌, ◌&&◌, ◌==◌, Bool, true, false, List, [], ◌∷◌, ◌++◌, length, Option, Some, None, Result, Ok, Err, inl, inr, refl, sym, subst, ◌∙◌, ap, arith}
+use Rattle.std.proofs.Common.{◌≡◌, ℕ, Bool, true, false, List, [], ◌∷◌, ◌++◌, Option, Some, None, Ok, Err, inr, refl, sym, ◌∙◌, ap, arith}
 use Rattle.std.specs.List.{list_all}
-use Rattle.std.proofs.lemmas.Bool.{false≢true, and_parts, and_from, eqb-false, ne_eqb}
-use Rattle.std.proofs.lemmas.List.{append_assoc, append-nil, length-append}
+use Rattle.std.proofs.lemmas.Bool.{false≢true, and_parts, and_from}
+use Rattle.std.proofs.lemmas.List.{append_assoc, append-nil}
 use Rattle.std.proofs.lemmas.List.Folds.{list_all-append}
-use Rattle.hoa_lexer.specs.Bytes.{is_letter, is_word, is_digit}
+use Rattle.hoa_lexer.specs.Bytes.{is_letter, is_word}
 use Rattle.hoa_lexer.specs.Reading.{unread}
 use Rattle.hoa_lexer.specs.Spelling.{Spells, Ends, StopsAt, IsIdentifier, IsAliasName}
-use Rattle.hoa_lexer.specs.Steps.{Peeks, AddsWord, AddsWords, IsReadFault, Pauses, ReadsToken}
+use Rattle.hoa_lexer.specs.Steps.{AddsWord, AddsWords, ReadsToken}
 use Rattle.hoa_lexer.specs.Text.{IsFront, HasFront, Begins, IsOpenToken, IsNoToken}
-use Rattle.hoa_lexer.proofs.Comments.{unheld, holding}
-use Rattle.hoa_lexer.proofs.FirstBytes.{kind, token_kind, kind_letter, front_head}
+use Rattle.hoa_lexer.proofs.Comments.{unheld}
+use Rattle.hoa_lexer.proofs.FirstBytes.{token_kind, kind_letter, front_head}
 use Rattle.hoa_lexer.specs.declared.token.LexFault.{LexFault}
 use Rattle.hoa_lexer.specs.declared.token.LexFault.TheVariants.{BadToken, OpenComment, OpenString, OpenToken, Read, Bytes, Memory}
 use Rattle.hoa_lexer.specs.declared.token.Token.{Token}
-use Rattle.hoa_lexer.specs.declared.token.Token.TheVariants.{HeaderName, Identifier, Str, Int, Alias, Bang, Amp, Bar, LeftParen, RightParen, LeftBrace, RightBrace, LeftBracket, RightBracket, Body, End, Abort}
+use Rattle.hoa_lexer.specs.declared.token.Token.TheVariants.{HeaderName, Identifier, Str, Int, Alias}
 
 pub all_push : (p : ℕ → Bool) (b : ℕ) (seen : List ℕ) → list_all p seen ≡ true → p b ≡ true → list_all p (seen ++ b ∷ []) ≡ true
 all_push p b seen h k = list_all-append p seen (b ∷ []) ∙ and_from _ _ h (and_from _ _ k refl)
@@ -64,8 +64,8 @@ word_begins first seen l h = record {
   front = record {
     token = HeaderName (first ∷ seen);
     rest = [];
-    front = record { word = first ∷ (seen ++ 58 ∷ []); split = sym (append-nil (first ∷ (seen ++ 58 ∷ []))); spells = ((l, h), refl); ends = tt }
-  }
+    front = record { word = first ∷ (seen ++ 58 ∷ []); split = sym (append-nil (first ∷ (seen ++ 58 ∷ []))); spells = ((l, h), refl); ends = tt };
+  };
 }
 
 pub word_end : (first : ℕ) (name name' x : List ℕ) → is_letter first ≡ true → AddsWord name name' x [] → IsOpenToken (first ∷ x)
@@ -76,7 +76,7 @@ word_end first name name' x l a =
       some = λ e. cc;
       no_string = λ rest e. letter_no_quote first l (let same : first ≡ 34 = cc in same);
       unclosed = word_open first x l words;
-      begins = inr (word_begins first x l words)
+      begins = inr (word_begins first x l words);
     }
 
 pub word_err : (fault : LexFault) (h : Option ℕ) (offset first : ℕ) (name name' x z : List ℕ) → is_letter first ≡ true → (fault ≡ Bytes → h ≡ None) → AddsWords (Err fault) name name' x z → ReadsToken (Err fault) offset (first ∷ x) (unread h z)
@@ -85,7 +85,7 @@ word_err Bytes h offset first name name' x z l k a = record {
   split = ap (λ v. first ∷ v) (a.split ∙ ap (λ v. a.seen ++ v) (sym (unheld h z (k refl))));
   some = λ e. cc;
   unclosed = word_open first a.seen l a.words;
-  begins = word_begins first a.seen l a.words
+  begins = word_begins first a.seen l a.words;
 }
 word_err Read h offset first name name' x z l k a = tt
 word_err Memory h offset first name name' x z l k a = tt
@@ -123,9 +123,9 @@ alias_begins seen h = record {
       word = 64 ∷ (seen ++ 97 ∷ []);
       split = ap (λ v. 64 ∷ v) (sym (append_assoc seen (97 ∷ []) (32 ∷ [])));
       spells = (alias_name (seen ++ 97 ∷ []) (push_some seen 97) (all_push is_word 97 seen h refl), refl);
-      ends = refl
-    }
-  }
+      ends = refl;
+    };
+  };
 }
 
 pub alias_token : (h : Option ℕ) (b : ℕ) (name x z : List ℕ) → (name ≡ [] → ⊥) → h ≡ Some b → AddsWord [] name x (b ∷ z) → is_word b ≡ false → IsFront (64 ∷ x) (Alias name) (unread h z)
@@ -136,7 +136,7 @@ alias_token (Some c) b name x z n k a w =
       word = 64 ∷ name;
       split = ap (λ v. 64 ∷ v) (a.split ∙ ap (λ v. v ++ b ∷ z) (sym a.named) ∙ ap (λ v. name ++ v ∷ z) same);
       spells = (alias_name name n (ap (list_all is_word) a.named ∙ a.words), refl);
-      ends = ap is_word (sym same) ∙ w
+      ends = ap is_word (sym same) ∙ w;
     }
 
 no_alias_at : (token : Token) (b : ℕ) (z tail rest : List ℕ) → 64 ≡ token_kind token → Spells token (64 ∷ tail) → b ∷ z ≡ tail ++ rest → is_word b ≡ false → ⊥
@@ -158,9 +158,9 @@ alias_bad b x z e w = record {
   no_comment = λ rest k. cc;
   no_slash = λ k. cc;
   no_token = λ t.
-    let f = t.front in
-    let head = front_head 64 (x ++ t.more) f.token f.rest f.front in
-    no_alias_at f.token b (z ++ t.more) head.tail f.rest head.kinds head.spells (sym (ap (λ v. v ++ t.more) e) ∙ head.split) w
+      let f = t.front in
+      let head = front_head 64 (x ++ t.more) f.token f.rest f.front in
+      no_alias_at f.token b (z ++ t.more) head.tail f.rest head.kinds head.spells (sym (ap (λ v. v ++ t.more) e) ∙ head.split) w;
 }
 
 pub alias_end : (name name' x : List ℕ) → AddsWord name name' x [] → IsOpenToken (64 ∷ x)
@@ -171,7 +171,7 @@ alias_end name name' x a =
       some = λ e. cc;
       no_string = λ rest e. cc;
       unclosed = alias_open x words;
-      begins = inr (alias_begins x words)
+      begins = inr (alias_begins x words);
     }
 
 pub alias_err : (fault : LexFault) (h : Option ℕ) (offset : ℕ) (name name' x z : List ℕ) → (fault ≡ Bytes → h ≡ None) → AddsWords (Err fault) name name' x z → ReadsToken (Err fault) offset (64 ∷ x) (unread h z)
@@ -180,7 +180,7 @@ alias_err Bytes h offset name name' x z k a = record {
   split = ap (λ v. 64 ∷ v) (a.split ∙ ap (λ v. a.seen ++ v) (sym (unheld h z (k refl))));
   some = λ e. cc;
   unclosed = alias_open a.seen a.words;
-  begins = alias_begins a.seen a.words
+  begins = alias_begins a.seen a.words;
 }
 alias_err Read h offset name name' x z k a = tt
 alias_err Memory h offset name name' x z k a = tt

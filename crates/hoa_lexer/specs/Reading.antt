@@ -1,5 +1,5 @@
 -- What a lexer answers, of what it has not read yet.
-use Rattle.std.specs.Prelude.{◌≡◌, ℕ, ◌+◌, ◌-◌, ◌≤◌, ◌<◌, Bool, true, false, List, [], ◌∷◌, ◌++◌, length, Option, Some, None, Result, Ok, Err, is_some, not}
+use Rattle.std.specs.Prelude.{◌≡◌, ℕ, ◌+◌, List, [], ◌∷◌, ◌++◌, length, Option, Some, None, Result, Ok, Err, is_some, not}
 use Rattle.aut_io.specs.Outside.{Rose}
 use Rattle.hoa_lexer.specs.Blanks.{IsBlanks, IsOpenComment}
 use Rattle.hoa_lexer.specs.Spelling.{closes_itself}

@@ -1,9 +1,9 @@
 -- What the lexer's inner functions ensure.
-use Rattle.std.specs.Prelude.{◌≡◌, ◌≢◌, ℕ, zero, suc, ◌+◌, ◌≤◌, ◌&&◌, ◌==◌, Bool, true, false, if◌then◌else◌, List, [], ◌∷◌, ◌++◌, length, codes, is_some, not, Option, Some, None, Result, Ok, Err, ◌⊎◌}
+use Rattle.std.specs.Prelude.{◌≡◌, ◌≢◌, ℕ, zero, suc, ◌+◌, ◌≤◌, ◌&&◌, ◌==◌, true, false, if◌then◌else◌, List, [], ◌∷◌, ◌++◌, length, codes, is_some, not, Option, Some, None, Result, Ok, Err, ◌⊎◌}
 use Rattle.std.specs.List.{list_all}
 use Rattle.hoa_lexer.specs.Blanks.{IsBlanks}
 use Rattle.hoa_lexer.specs.Bytes.{is_space, is_word}
-use Rattle.hoa_lexer.specs.Reading.{held_count, unread, Answers}
+use Rattle.hoa_lexer.specs.Reading.{held_count, Answers}
 use Rattle.hoa_lexer.specs.Spelling.{Quotes, closes_itself}
 use Rattle.hoa_lexer.specs.Text.{IsFront, HasFront, Begins, IsOpenString, IsOpenToken, IsNoToken}
 use Rattle.hoa_lexer.specs.declared.lexer.Lexer.{Lexer}
@@ -75,9 +75,14 @@ SkipsComment (Err fault) start old new = Answers (Err fault) start 0 old new
 
 -- blanks, up to a byte that begins none or the end of the text
 abbrev pub SkipsBlanks : Result (Option ℕ) LexFault → ℕ → List ℕ → List ℕ → Type 0
-SkipsBlanks (Ok (Some b)) start old new = Skips old new × (is_space b ≡ false) × (b ≢ 47)
+SkipsBlanks (Ok (Some b)) start old new = Skips old new
 SkipsBlanks (Ok None) start old new = IsBlanks old × (new ≡ [])
 SkipsBlanks (Err fault) start old new = Answers (Err fault) start 0 old new
+
+-- a byte that begins no blank, if there is one
+abbrev pub IsSolid : Result (Option ℕ) LexFault → Type 0
+IsSolid (Ok (Some b)) = (is_space b ≡ false) × (b ≢ 47)
+IsSolid _ = Unit {0}
 
 -- letters, digits and `-` were used and stand at the end of the name
 pub record AddsWord (name name' old new : List ℕ) : Type 0 where

@@ -126,11 +126,7 @@ impl Lexer {
     }
 
     /// Blanks and the next token.
-    fn scan<I: Inputs>(
-        &mut self,
-        alloc: Global,
-        inputs: &mut I,
-    ) -> Result<Option<Token>, LexFault>
+    fn scan<I: Inputs>(&mut self, alloc: Global, inputs: &mut I) -> Result<Option<Token>, LexFault>
         ensures answers { Between (I.left inputs.old) (I.left inputs.new) (λ old new.
             Answers result (self.old.since - held_count self.old.held) self.new.offset (unread self.old.held old) (unread self.new.held new)) }
         ensures holds { Holds result self.new.held }
@@ -194,7 +190,10 @@ impl Lexer {
             b'-' => self.dashes(inputs),
             _ => {
                 self.held = None;
-                mark(first).ok_or(LexFault::BadToken(self.offset))
+                match mark(first) {
+                    Some(token) => Ok(token),
+                    None => Err(LexFault::BadToken(self.offset)),
+                }
             }
         }
     }

@@ -9,13 +9,14 @@ use crate::LexFault;
 use aut_io::Inputs;
 
 impl Lexer {
-    ghost use Rattle.hoa_lexer.specs.Steps.{Advances, ClosesComment, HoldsRead, SkipsBlanks, SkipsComment, StepsIn};
+    ghost use Rattle.hoa_lexer.specs.Steps.{Advances, ClosesComment, HoldsRead, IsSolid, SkipsBlanks, SkipsComment, StepsIn};
 
     /// Uses blanks. Holds the byte after them, or tells by None that the text ended.
     pub(super) fn skip_blanks<I: Inputs>(&mut self, inputs: &mut I) -> Result<Option<u8>, LexFault>
         ensures answers { Between (I.left inputs.old) (I.left inputs.new) (λ old new.
             SkipsBlanks result (self.old.since - held_count self.old.held) (unread self.old.held old) (unread self.new.held new)) }
         ensures held { IfOk result (λ byte. self.new.held ≡ byte) }
+        ensures solid { IsSolid result }
         ensures advances { Advances self.old self.new }
         ensures taken { Between (I.left inputs.old) (I.left inputs.new) (λ old new.
             self.new.taken + length new ≡ self.old.taken + length old) }

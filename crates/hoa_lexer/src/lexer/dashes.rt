@@ -62,7 +62,13 @@ impl Lexer {
     }
 
     /// A word in dashes of which the first letter was used.
-    fn dashed_tail<I: Inputs>(&mut self, inputs: &mut I, token: Token, letter: u8, tail: &[u8]) -> Result<Token, LexFault>
+    fn dashed_tail<I: Inputs>(
+        &mut self,
+        inputs: &mut I,
+        token: Token,
+        letter: u8,
+        tail: &[u8],
+    ) -> Result<Token, LexFault>
         requires word { IsDashed token letter tail.now }
         requires held { self.old.held ≡ None }
         ensures answers { Between (I.left inputs.old) (I.left inputs.new) (λ old new.

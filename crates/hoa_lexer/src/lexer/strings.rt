@@ -13,7 +13,11 @@ impl Lexer {
     ghost use Rattle.hoa_lexer.specs.Steps.{Advances, HoldsAfter, ReadsQuoted, ReadsToken};
 
     /// A string, the first quote of which is held.
-    pub(super) fn string<I: Inputs>(&mut self, alloc: Global, inputs: &mut I) -> Result<Token, LexFault>
+    pub(super) fn string<I: Inputs>(
+        &mut self,
+        alloc: Global,
+        inputs: &mut I,
+    ) -> Result<Token, LexFault>
         requires { self.old.held ≡ Some 34 }
         ensures answers { Between (I.left inputs.old) (I.left inputs.new) (λ old new.
             ReadsToken result self.old.offset (34 ∷ old) (unread self.new.held new)) }

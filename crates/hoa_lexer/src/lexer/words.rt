@@ -15,7 +15,12 @@ impl Lexer {
     ghost use Rattle.hoa_lexer.specs.Steps.{AddsWords, Advances, HoldsAfter, ReadsToken};
 
     /// An identifier or the name of a header, the first byte of which is held.
-    pub(super) fn word<I: Inputs>(&mut self, alloc: Global, inputs: &mut I, first: u8) -> Result<Token, LexFault>
+    pub(super) fn word<I: Inputs>(
+        &mut self,
+        alloc: Global,
+        inputs: &mut I,
+        first: u8,
+    ) -> Result<Token, LexFault>
         requires held { self.old.held ≡ Some first }
         requires letter { kinds.is_letter first ≡ true }
         ensures answers { Between (I.left inputs.old) (I.left inputs.new) (λ old new.
@@ -48,7 +53,11 @@ impl Lexer {
     }
 
     /// An alias, the first byte of which is held.
-    pub(super) fn alias<I: Inputs>(&mut self, alloc: Global, inputs: &mut I) -> Result<Token, LexFault>
+    pub(super) fn alias<I: Inputs>(
+        &mut self,
+        alloc: Global,
+        inputs: &mut I,
+    ) -> Result<Token, LexFault>
         requires { self.old.held ≡ Some 64 }
         ensures answers { Between (I.left inputs.old) (I.left inputs.new) (λ old new.
             ReadsToken result self.old.offset (64 ∷ old) (unread self.new.held new)) }
@@ -79,7 +88,11 @@ impl Lexer {
 
     /// Adds to a name all letters, digits and `-` that stand next. Holds the byte after them, or tells by None that
     /// the text ended.
-    fn word_bytes<I: Inputs>(&mut self, inputs: &mut I, name: &mut Text) -> Result<Option<u8>, LexFault>
+    fn word_bytes<I: Inputs>(
+        &mut self,
+        inputs: &mut I,
+        name: &mut Text,
+    ) -> Result<Option<u8>, LexFault>
         ensures answers { Between (I.left inputs.old) (I.left inputs.new) (λ old new.
             AddsWords result name.old name.new (unread self.old.held old) new) }
         ensures held { IfOk result (λ byte. self.new.held ≡ byte) }

@@ -1,5 +1,5 @@
-use Rattle.std.proofs.Common.{rules, arith, ◌≡◌, ◌+◌, ◌∷◌, ◌∙◌, ap, Some, None, Ok, Err, [], length, refl, sym}
-use Rattle.hoa_lexer.proofs.Between.{between_then, between_both, between_as, between_same}
+use Rattle.std.proofs.Common.{ap, Err}
+use Rattle.hoa_lexer.proofs.Between.{between_as}
 use Rattle.hoa_lexer.proofs.Words.{words_end, alias_end, alias_err}
 use Rattle.hoa_lexer.proofs.lexer.Lexer.alias.Goals as goal
 

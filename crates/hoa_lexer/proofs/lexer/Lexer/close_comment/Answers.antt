@@ -15,14 +15,14 @@ comment-preserved g c =
     let left = g.I.Inputs.left in
     record {
       answers = between_then (left c.args.inputs.now) (left c.comment.inputs) (left c.step_in.new.inputs) _ _ _
-        (λ x y z p q. comment_step c.comment.depth _ x _ _ p q)
-        c.comment.invariant.answers c.in-Ok.ensures.answers;
+          (λ x y z p q. comment_step c.comment.depth _ x _ _ p q)
+          c.comment.invariant.answers c.in-Ok.ensures.answers;
       advances = search rules;
       taken = between_then (left c.args.inputs.now) (left c.comment.inputs) (left c.step_in.new.inputs) _ _ _
-        (λ x y z p q. omega (arith, p, q))
-        c.comment.invariant.taken c.in-Ok.ensures.taken;
+          (λ x y z p q. omega (arith, p, q))
+          c.comment.invariant.taken c.in-Ok.ensures.taken;
       room = omega (arith, c.in-Ok.ensures.deeper);
       reads = search rules;
       opens = search rules;
-      texts = search rules
+      texts = search rules;
     }

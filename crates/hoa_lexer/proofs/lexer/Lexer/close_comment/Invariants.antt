@@ -1,4 +1,4 @@
-use Rattle.std.proofs.Common.{◌≡◌, ◌≢◌, ◌+◌, ◌-◌, ◌<◌, ◌≤◌, List, ℕ, [], ◌∷◌, ◌++◌, length, None, true, drop}
+use Rattle.std.proofs.Common.{◌≡◌, ◌+◌, ◌-◌, ◌<◌, List, ℕ, ◌++◌, length}
 use Rattle.hoa_lexer.specs.Reading.{held_count, unread, Between}
 use Rattle.hoa_lexer.specs.Steps.{Advances, closing}
 use Rattle.hoa_lexer.proofs.lexer.Lexer.close_comment.Given as goal
@@ -11,7 +11,7 @@ invariant-comment g l = record {
   room : l.depth + held_count l.self.held < l.self.taken;
   reads : g.I.Inputs.read_faults l.inputs ≡ g.I.Inputs.read_faults l.fn.inputs;
   opens : g.I.Inputs.open_faults l.inputs ≡ g.I.Inputs.open_faults l.fn.inputs;
-  texts : g.I.Inputs.texts l.inputs ≡ g.I.Inputs.texts l.fn.inputs
+  texts : g.I.Inputs.texts l.inputs ≡ g.I.Inputs.texts l.fn.inputs;
 }
 
 abbrev pub decreases-comment : goal.decreases-comment

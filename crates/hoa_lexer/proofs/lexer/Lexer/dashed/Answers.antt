@@ -1,7 +1,7 @@
-use Rattle.std.proofs.Common.{rules, arith, ◌≡◌, ◌+◌, ◌-◌, ◌<◌, ◌∷◌, ◌∙◌, ap, Some, None, Ok, Err, [], length, refl, sym, inr, inl}
-use Rattle.hoa_lexer.proofs.Between.{between_then, between_both, between_as, between_same}
-use Rattle.hoa_lexer.proofs.Comments.{byte_read, end_read, unheld}
-use Rattle.hoa_lexer.proofs.Dashes.{dashes_bad, dashes_end, dashes_err, along_bytes}
+use Rattle.std.proofs.Common.{◌∙◌, sym}
+use Rattle.hoa_lexer.proofs.Between.{between_as}
+use Rattle.hoa_lexer.proofs.Comments.{end_read, unheld}
+use Rattle.hoa_lexer.proofs.Dashes.{dashes_end, dashes_err}
 use Rattle.hoa_lexer.proofs.lexer.Lexer.dashed.Goals as goal
 
 pub returns-in-Ok-None-clause-answers : goal.returns-in-Ok-None-clause-answers

@@ -1,6 +1,4 @@
-use Rattle.std.proofs.Common.{rules, arith, ◌≡◌, ◌+◌, ◌-◌, ◌<◌, ◌∷◌, ◌∙◌, ap, Some, None, Ok, Err, [], length, refl, sym, inr, inl}
-use Rattle.hoa_lexer.proofs.Between.{between_then, between_both, between_as, between_same}
-use Rattle.hoa_lexer.proofs.Comments.{byte_read, end_read, unheld}
+use Rattle.hoa_lexer.proofs.Between.{between_as}
 use Rattle.hoa_lexer.proofs.Dashes.{tail_answer, tail_err}
 use Rattle.hoa_lexer.proofs.lexer.Lexer.dashed_tail.Goals as goal
 

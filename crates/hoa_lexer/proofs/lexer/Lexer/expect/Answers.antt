@@ -1,6 +1,6 @@
-use Rattle.std.proofs.Common.{rules, arith, ◌≡◌, ◌+◌, ◌-◌, ◌<◌, ◌∷◌, ◌∙◌, ap, Some, None, Ok, Err, [], length, refl, sym, inr, inl}
-use Rattle.hoa_lexer.proofs.Between.{between_then, between_both, between_as, between_same}
-use Rattle.hoa_lexer.proofs.Comments.{byte_read, end_read, unheld}
+use Rattle.std.proofs.Common.{arith}
+use Rattle.hoa_lexer.proofs.Between.{between_then}
+use Rattle.hoa_lexer.proofs.Comments.{byte_read, end_read}
 use Rattle.hoa_lexer.proofs.Dashes.{expect_bad, expect_end, expect_err}
 use Rattle.hoa_lexer.proofs.lexer.Lexer.expect.Goals as goal
 

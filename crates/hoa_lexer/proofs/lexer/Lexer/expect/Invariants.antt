@@ -1,7 +1,6 @@
-use Rattle.std.proofs.Common.{◌≡◌, ◌≢◌, ◌+◌, ◌-◌, ◌<◌, ◌≤◌, List, ℕ, [], ◌∷◌, ◌++◌, length, None, true, drop, take}
-use Rattle.hoa_lexer.specs.Reading.{held_count, unread, Between}
+use Rattle.std.proofs.Common.{◌≡◌, ◌+◌, ◌++◌, length, None, take}
+use Rattle.hoa_lexer.specs.Reading.{Between}
 use Rattle.hoa_lexer.specs.Steps.{Advances}
-
 use Rattle.hoa_lexer.proofs.lexer.Lexer.expect.Given as goal
 
 abbrev pub invariant-word : goal.invariant-word
@@ -12,5 +11,5 @@ invariant-word g l = record {
   held : l.self.held ≡ None;
   reads : g.I.Inputs.read_faults l.inputs ≡ g.I.Inputs.read_faults l.fn.inputs;
   opens : g.I.Inputs.open_faults l.inputs ≡ g.I.Inputs.open_faults l.fn.inputs;
-  texts : g.I.Inputs.texts l.inputs ≡ g.I.Inputs.texts l.fn.inputs
+  texts : g.I.Inputs.texts l.inputs ≡ g.I.Inputs.texts l.fn.inputs;
 }

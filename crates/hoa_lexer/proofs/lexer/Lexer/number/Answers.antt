@@ -1,7 +1,7 @@
-use Rattle.std.proofs.Common.{rules, arith, ◌≡◌, ◌+◌, ◌-◌, ◌<◌, ◌∷◌, ◌∙◌, ap, Some, None, Ok, Err, [], length, refl, sym}
-use Rattle.hoa_lexer.proofs.Between.{between_then, between_both, between_as, between_same}
+use Rattle.std.proofs.Common.{rules, arith, ◌-◌, ◌<◌, ◌∙◌, sym}
+use Rattle.hoa_lexer.proofs.Between.{between_then, between_as, between_same}
 use Rattle.hoa_lexer.proofs.Comments.{byte_read, end_read}
-use Rattle.hoa_lexer.proofs.Numbers.{digits_none, digits_push, number_zero, number_token, holds_int, number_end, number_err, number_great}
+use Rattle.hoa_lexer.proofs.Numbers.{digits_push, number_zero, number_token, holds_int, number_end, number_err, number_great}
 use Rattle.hoa_lexer.proofs.lexer.Lexer.number.Goals as goal
 
 pub returns-then-value-eq0-clause-answers : goal.returns-then-value-eq0-clause-answers
@@ -15,7 +15,7 @@ returns-then-not-is_digit-clause-answers g c =
     let first : 0 < c.args.first - 48 = omega (arith, c.from-value.ensures) in
     between_then (left c.args.inputs.now) (left c.digits.inputs) (left c.peek.new.inputs) _ _ _
     (λ x y z p q. number_token _ c.args.first c.digits.value c.in-Ok-Some.byte x _ z c.requires.digit first (omega arith)
-      (c.in-Ok-Some.ensures.held ∙ c.in-Ok-Some.field-0-is) p (byte_read _ _ _ z c.in-Ok-Some.field-0-is q) (sym c.is_digit.ensures ∙ c.if-not-is_digit.true))
+    (c.in-Ok-Some.ensures.held ∙ c.in-Ok-Some.field-0-is) p (byte_read _ _ _ z c.in-Ok-Some.field-0-is q) (sym c.is_digit.ensures ∙ c.if-not-is_digit.true))
     c.digits.invariant.answers c.in-Ok-Some.ensures.answers
 
 pub returns-then-not-is_digit-clause-holds : goal.returns-then-not-is_digit-clause-holds
@@ -31,13 +31,15 @@ digits-preserved g c =
     let one = c.in-Ok-Some.ensures.held ∙ c.in-Ok-Some.field-0-is in
     record {
       answers = between_then old at new _ _ _
-        (λ x y z p q. digits_push c.args.first c.digits.value _ c.in-Ok-Some.byte x _ z p (byte_read _ _ _ z c.in-Ok-Some.field-0-is q) (sym c.is_digit.ensures ∙ c.if-not-is_digit.false) (omega (arith, c.from-in-Ok-Some.ensures)))
-        c.digits.invariant.answers c.in-Ok-Some.ensures.answers;
+          (λ x y z p q. digits_push c.args.first c.digits.value _ c.in-Ok-Some.byte x _ z p (byte_read _ _ _ z c.in-Ok-Some.field-0-is q) (sym c.is_digit.ensures ∙ c.if-not-is_digit.false) (omega (arith, c.from-in-Ok-Some.ensures)))
+          c.digits.invariant.answers c.in-Ok-Some.ensures.answers;
       advances = search rules;
       taken = between_then old at new _ _ _ (λ x y z p q. omega (arith, p, q)) c.digits.invariant.taken c.peek.ensures.taken;
       some = omega arith;
       used = omega arith;
-      reads = search rules; opens = search rules; texts = search rules
+      reads = search rules;
+      opens = search rules;
+      texts = search rules;
     }
 
 pub returns-in-Ok-None-clause-answers : goal.returns-in-Ok-None-clause-answers

@@ -1,5 +1,4 @@
-use Rattle.std.proofs.Common.{rules, arith, ◌∙◌, ap, sym, Some, [], length}
-use Rattle.std.proofs.lemmas.Bool.{eqb-false}
+use Rattle.std.proofs.Common.{arith, ◌∙◌, ap, Some, [], length}
 use Rattle.hoa_lexer.proofs.Between.{between_then, between_both, between_as}
 use Rattle.hoa_lexer.proofs.Comments.{byte_read, end_read}
 use Rattle.hoa_lexer.proofs.Fronts.{skip_closed, skip_bad, skip_end, skip_err}

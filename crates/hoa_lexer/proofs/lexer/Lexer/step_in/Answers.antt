@@ -1,5 +1,5 @@
-use Rattle.std.proofs.Common.{rules, ◌≡◌, None, refl, arith, sym, ◌∙◌}
-use Rattle.hoa_lexer.proofs.Between.{between_then, between_both, between_as}
+use Rattle.std.proofs.Common.{arith, sym, ◌∙◌}
+use Rattle.hoa_lexer.proofs.Between.{between_then}
 use Rattle.hoa_lexer.proofs.Comments.{byte_read, step_err, step_closes, step_opens, step_stays}
 use Rattle.hoa_lexer.proofs.lexer.Lexer.step_in.Goals as goal
 

@@ -1,6 +1,5 @@
-use Rattle.std.proofs.Common.{rules, arith, ◌≡◌, ◌+◌, ◌-◌, ◌<◌, ◌∷◌, ◌∙◌, ap, Some, None, Ok, Err, [], length, refl, sym, inr, inl}
-use Rattle.hoa_lexer.proofs.Between.{between_then, between_both, between_as, between_same}
-use Rattle.hoa_lexer.proofs.Comments.{byte_read, end_read, unheld}
+use Rattle.std.proofs.Common.{rules, arith, ap, [], refl}
+use Rattle.hoa_lexer.proofs.Between.{between_then, between_same}
 use Rattle.hoa_lexer.specs.Reading.{held_count}
 use Rattle.hoa_lexer.proofs.Strings.{string_push, string_err, string_token, string_none, quoted_read, quoted_end}
 use Rattle.hoa_lexer.proofs.lexer.Lexer.string.Goals as goal
@@ -12,8 +11,11 @@ string-init g c =
       answers = between_same (left c.args.inputs.now) _ (λ x. ([], string_none _ c.new-text.ensures, refl));
       advances = search rules;
       taken = between_same (left c.args.inputs.now) _ (λ x. refl);
-      held = refl; used = omega (arith, ap held_count c.requires);
-      reads = refl; opens = refl; texts = refl
+      held = refl;
+      used = omega (arith, ap held_count c.requires);
+      reads = refl;
+      opens = refl;
+      texts = refl;
     }
 
 pub string-preserved : goal.string-preserved
@@ -24,12 +26,15 @@ string-preserved g c =
     let new = left c.quoted_byte.new.inputs in
     record {
       answers = between_then old at new _ _ _
-        (λ x y z p q. string_push _ _ _ x y z p (quoted_read _ _ y z c.in-Ok-Some.field-0-is q) (search rules))
-        c.string.invariant.answers c.in-Ok-Some.ensures.answers;
+          (λ x y z p q. string_push _ _ _ x y z p (quoted_read _ _ y z c.in-Ok-Some.field-0-is q) (search rules))
+          c.string.invariant.answers c.in-Ok-Some.ensures.answers;
       advances = search rules;
       taken = between_then old at new _ _ _ (λ x y z p q. omega (arith, p, q)) c.string.invariant.taken c.quoted_byte.ensures.taken;
-      held = c.quoted_byte.ensures.held; used = search rules;
-      reads = search rules; opens = search rules; texts = search rules
+      held = c.quoted_byte.ensures.held;
+      used = search rules;
+      reads = search rules;
+      opens = search rules;
+      texts = search rules;
     }
 
 pub returns-in-Ok-None-clause-answers : goal.returns-in-Ok-None-clause-answers

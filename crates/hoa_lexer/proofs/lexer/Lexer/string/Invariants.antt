@@ -1,5 +1,5 @@
-use Rattle.std.proofs.Common.{◌≡◌, ◌≢◌, ◌+◌, ◌-◌, ◌<◌, ◌≤◌, List, ℕ, [], ◌∷◌, ◌++◌, length, None, true, drop, take}
-use Rattle.hoa_lexer.specs.Reading.{held_count, unread, Between}
+use Rattle.std.proofs.Common.{◌≡◌, ◌+◌, ◌-◌, ◌<◌, List, ℕ, ◌++◌, length, None}
+use Rattle.hoa_lexer.specs.Reading.{held_count, Between}
 use Rattle.hoa_lexer.specs.Steps.{Advances}
 use Rattle.hoa_lexer.specs.Spelling.{Quotes}
 use Rattle.hoa_lexer.proofs.lexer.Lexer.string.Given as goal
@@ -13,7 +13,7 @@ invariant-string g l = record {
   used : l.fn.self.taken + held_count l.self.held < l.self.taken + held_count l.fn.self.held;
   reads : g.I.Inputs.read_faults l.inputs ≡ g.I.Inputs.read_faults l.fn.inputs;
   opens : g.I.Inputs.open_faults l.inputs ≡ g.I.Inputs.open_faults l.fn.inputs;
-  texts : g.I.Inputs.texts l.inputs ≡ g.I.Inputs.texts l.fn.inputs
+  texts : g.I.Inputs.texts l.inputs ≡ g.I.Inputs.texts l.fn.inputs;
 }
 
 abbrev pub decreases-string : goal.decreases-string
