@@ -1,1 +1,3 @@
+pub mod Codes
+pub mod InMemory
 pub mod Outside

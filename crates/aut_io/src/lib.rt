@@ -2,8 +2,20 @@
 //! rose, so no program over these traits can blame the outside for what is its own.
 #![tactic(auto)]
 
+mod failing_calls;
 mod inputs;
+mod mem_inputs;
+mod mem_sink;
 mod sink;
+mod sure_inputs;
+mod sure_sink;
+#[cfg(test)]
+mod tests;
+mod text_store;
 
 pub use inputs::Inputs;
+pub use mem_inputs::MemInputs;
+pub use mem_sink::MemSink;
 pub use sink::Sink;
+pub use sure_inputs::SureInputs;
+pub use sure_sink::SureSink;

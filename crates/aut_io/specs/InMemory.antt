@@ -1,0 +1,48 @@
+-- What callers see of the sources and sinks in memory.
+use Rattle.std.specs.Prelude.{ℕ, ◌+◌, ◌-◌, ◌/◌, ◌^◌, ◌==◌, Bool, min, Option, None, Some, List, [], take, drop, length}
+use Rattle.std.specs.List.{list_any, slice_index_or}
+use Rattle.aut_io.specs.Outside.{Texts}
+
+-- the texts of a source, and the rest of the open one
+pub record TextState : Type 0 where
+  pub texts : Texts
+  pub left : List ℕ
+
+-- A source in memory: `calls` were made so far, and those with a number in `failing` fail.
+pub record SourceState : Type 0 where
+  pub texts : Texts
+  pub left : List ℕ
+  pub failing : List ℕ
+  pub calls : ℕ
+  pub open_faults : ℕ
+  pub read_faults : ℕ
+
+-- A sink in memory, which takes up to `capacity` bytes: `calls` were made so far, and those with a number in
+-- `failing` fail.
+pub record SinkState : Type 0 where
+  pub written : List ℕ
+  pub capacity : ℕ
+  pub failing : List ℕ
+  pub calls : ℕ
+  pub faults : ℕ
+
+-- what is left of a list of texts, the one at a place being open, once so many of its bytes were taken
+abbrev pub rest_of : List (List ℕ) → Option ℕ → ℕ → List ℕ
+rest_of texts None taken = []
+rest_of texts (Some place) taken = drop taken (slice_index_or texts place [])
+
+-- a count one higher, which stands still at the last value of a `u64`
+abbrev pub raised : ℕ → ℕ
+raised count = min (count + 1) (2 ^ 64 - 1)
+
+-- whether the call with this number is to fail
+abbrev pub is_listed : List ℕ → ℕ → Bool
+is_listed failing call = list_any (λ n. n == call) failing
+
+-- what a failing write lets through: the first half, rounded down
+abbrev pub half : List ℕ → List ℕ
+half piece = take (length piece / 2) piece
+
+-- how many bytes a sink still takes
+abbrev pub room : SinkState → ℕ
+room sink = sink.capacity - length sink.written

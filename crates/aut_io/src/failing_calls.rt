@@ -1,0 +1,35 @@
+//! Calls that fail where they are told to.
+
+ghost use Rattle.std.specs.Prelude.{◌≡◌};
+ghost use Rattle.aut_io.specs.InMemory.{is_listed, raised};
+
+use aut_base::Numbers;
+
+/// The numbers of the calls that are to fail, and how many calls were made so far.
+#[derive(Debug, Drop)]
+pub(crate) struct FailingCalls {
+    listed: Numbers,
+    made: u64,
+}
+
+impl FailingCalls {
+    /// No call was made yet.
+    pub(crate) fn new(listed: Numbers) -> Self
+        ensures { result ≡ record { listed = listed; made = 0 } }
+    {
+        FailingCalls { listed, made: 0 }
+    }
+
+    /// Counts a call, and answers whether it is to fail.
+    pub(crate) fn count(&mut self) -> bool
+        ensures fails { result ≡ is_listed self.old.listed self.old.made }
+        ensures counted { self.new ≡ record self.old { made = raised self.old.made } }
+    {
+        let call = self.made;
+        self.made = call.saturating_add(1);
+        self.listed
+            .as_slice()
+            .iter()
+            .any(|number| u64::from(*number) == call)
+    }
+}

@@ -1,0 +1,174 @@
+//! A sink in memory that fails where it is told to, and where it is full.
+
+ghost use Rattle.std.specs.Prelude.{◌≡◌, ◌+◌, ◌≤◌, ◌||◌, ◌++◌, Some, [], not, nat_lt, is_err, length, take, if◌then◌else◌, IfOk, OnOk, OnErr};
+ghost use Rattle.aut_io.specs.InMemory.{half, is_listed, raised, room};
+ghost use Rattle.aut_io.specs.Outside.{GainsPrefix};
+
+use crate::failing_calls::FailingCalls;
+use crate::sink::Sink;
+use aut_base::{Failed, Memory, Numbers};
+use std::alloc::Global;
+use std::marker::Model;
+
+/// Keeps what is written, up to its capacity. A write fails where its number, counted from 0, is listed: then
+/// the first half of the piece is written, rounded down, as far as it fits. It also fails where the piece
+/// doesn't fit, and then what fits is written.
+#[derive(Debug, Drop)]
+pub struct MemSink {
+    /// Room for `capacity` bytes is taken when the sink is made.
+    written: Vec<u8>,
+    capacity: u32,
+    calls: FailingCalls,
+    faults: u64,
+}
+
+impl Model for MemSink {
+    ghost use Rattle.std.specs.Prelude.{◌≤◌, length};
+    ghost use Rattle.std.specs.Vec.{vec_capacity};
+    ghost use Rattle.aut_io.specs.InMemory.{SinkState};
+
+    ghost Value = { SinkState };
+
+    ghost view = { λ s. record { written = s.written.items; capacity = s.capacity; failing = s.calls.listed; calls = s.calls.made; faults = s.faults } };
+
+    ghost invariant = { λ s. (length s.written.items ≤ s.capacity) × (s.capacity ≤ vec_capacity s.written) };
+}
+
+impl MemSink {
+    /// An empty sink of this capacity.
+    pub fn new(alloc: Global, capacity: u32, failing: Numbers) -> Result<Self, Memory>
+        ensures { IfOk result (λ sink. sink ≡ record { written = []; capacity = capacity; failing = failing; calls = 0; faults = 0 }) }
+    {
+        match Vec::with_capacity(alloc, capacity as usize) {
+            Ok(written) => Ok(MemSink {
+                written,
+                capacity,
+                calls: FailingCalls::new(failing),
+                faults: 0,
+            }),
+            Err(_) => Err(Memory),
+        }
+    }
+
+    /// What was written.
+    pub fn bytes(&self) -> &[u8]
+        ensures written { result.now ≡ self.now.written }
+        ensures fits { length self.now.written ≤ self.now.capacity }
+    {
+        &self.written
+    }
+
+    /// Writes as much of the piece as fits, and answers whether that is all of it.
+    fn keep(&mut self, piece: &[u8]) -> bool
+        ensures whole { result ≡ not (nat_lt self.old.capacity (length self.old.written + length piece.now)) }
+        ensures kept { self.new ≡ record self.old { written = self.old.written ++ take (room self.old) piece.now } }
+    {
+        let room = self.capacity as usize - self.written.len();
+        let kept = piece.len().min(room);
+        let _reserved = self.written.extend_from_slice(&piece[..kept]);
+        kept == piece.len()
+    }
+
+    /// Counts a fault, and gives it.
+    fn fault(&mut self) -> Failed
+        ensures counted { self.new ≡ record self.old { faults = raised self.old.faults } }
+        ensures later { self.old.faults ≤ self.new.faults }
+    {
+        self.faults = self.faults.saturating_add(1);
+        Failed
+    }
+}
+
+impl Sink for MemSink {
+    ghost written = { λ s. Some s.written };
+
+    ghost faults = { λ s. s.faults };
+
+    fn write(&mut self, piece: &[u8]) -> Result<(), Failed>
+        // It fails exactly where the call is listed or the piece doesn't fit.
+        ensures fails { is_err result ≡ (is_listed self.old.failing self.old.calls || nat_lt self.old.capacity (length self.old.written + length piece.now)) }
+
+        // All that fits is written, of the piece or, where the call is listed, of its first half.
+        ensures kept { self.new.written ≡ self.old.written ++ take (room self.old) (if is_listed self.old.failing self.old.calls then half piece.now else piece.now) }
+        ensures ok { OnOk result (self.new.written ≡ self.old.written ++ piece.now) }
+        ensures err { OnErr result (GainsPrefix (Some self.old.written) (Some self.new.written) piece.now) }
+
+        // It counts the call and the fault.
+        ensures counted { self.new.calls ≡ raised self.old.calls }
+        ensures capacity { self.new.capacity ≡ self.old.capacity }
+        ensures failing { self.new.failing ≡ self.old.failing }
+        ensures failed { OnErr result (self.new.faults ≡ raised self.old.faults) }
+        ensures calm { OnOk result (self.new.faults ≡ self.old.faults) }
+        ensures later { self.old.faults ≤ self.new.faults }
+    {
+        if self.calls.count() {
+            let _whole = self.keep(&piece[..piece.len() / 2]);
+            return Err(self.fault());
+        }
+        if !self.keep(piece) {
+            return Err(self.fault());
+        }
+        Ok(())
+    }
+}
+
+#[cfg(test)]
+mod tests {
+    use super::*;
+    use crate::tests::{numbers, write_all};
+    use std::test::Fail;
+
+    /// What is kept of the writes of "abc", "de" and "fghi", and which of them fail.
+    #[test]
+    fn keeps_what_fits_and_half_of_a_failing_piece(rt: HostRuntime) -> Result<(), Fail> {
+        let rows: [(u32, &[u32], &[u8], &[u8], u64); 19] = [
+            (9, &[], b"abcdefghi", b"+++", 0),
+            (9, &[0], b"adefghi", b"-++", 1),
+            (9, &[1], b"abcdfghi", b"+-+", 1),
+            (9, &[2], b"abcdefg", b"++-", 1),
+            (9, &[2, 0], b"adefg", b"-+-", 2),
+            (9, &[3], b"abcdefghi", b"+++", 0),
+            (8, &[], b"abcdefgh", b"++-", 1),
+            (8, &[0], b"adefghi", b"-++", 1),
+            (8, &[1], b"abcdfghi", b"+-+", 1),
+            (8, &[2], b"abcdefg", b"++-", 1),
+            (6, &[2], b"abcdef", b"++-", 1),
+            (1, &[], b"a", b"---", 3),
+            (1, &[0], b"a", b"---", 3),
+            (1, &[1], b"a", b"---", 3),
+            (1, &[2], b"a", b"---", 3),
+            (0, &[], b"", b"---", 3),
+            (0, &[0], b"", b"---", 3),
+            (0, &[1], b"", b"---", 3),
+            (0, &[2], b"", b"---", 3),
+        ];
+        for (capacity, failing, kept, answers, faults) in rows.iter() {
+            let listed = numbers(rt.alloc(), failing)?;
+            let mut sink = MemSink::new(rt.alloc(), *capacity, listed)?;
+            let answered = write_all(rt.alloc(), &mut sink, &[b"abc", b"de", b"fghi"])?;
+            assert_eq!(rt;
+                sink.bytes(),
+                *kept,
+                "capacity {capacity}, failing {failing:?}"
+            );
+            assert_eq!(rt;
+                answered.as_slice(),
+                *answers,
+                "capacity {capacity}, failing {failing:?}"
+            );
+            assert_eq!(rt;
+                sink.faults,
+                *faults,
+                "capacity {capacity}, failing {failing:?}"
+            );
+        }
+        Ok(())
+    }
+
+    #[test]
+    fn an_empty_piece_fits_a_full_sink(rt: HostRuntime) -> Result<(), Fail> {
+        let mut sink = MemSink::new(rt.alloc(), 0, numbers(rt.alloc(), &[])?)?;
+        assert!(rt; sink.write(b"").is_ok());
+        Ok(())
+    }
+}

@@ -1,0 +1,69 @@
+//! A source in memory that never fails.
+
+ghost use Rattle.std.specs.Prelude.{◌≡◌, Some, [], length, IsOk};
+ghost use Rattle.std.specs.FinMap.{from_entries};
+ghost use Rattle.std.specs.List.{zip};
+ghost use Rattle.aut_io.specs.Outside.{text_of, Takes};
+
+use crate::inputs::Inputs;
+use crate::text_store::TextStore;
+use aut_base::{Failed, Names, OpenFail, Text, Words};
+use std::marker::Model;
+
+/// Texts in memory under names. No call fails: a name that isn't there stands for the empty text.
+#[derive(Debug, Drop)]
+pub struct SureInputs {
+    store: TextStore,
+}
+
+impl Model for SureInputs {
+    ghost use Rattle.aut_io.specs.Codes.{text_state_code};
+    ghost use Rattle.aut_io.specs.InMemory.{TextState};
+
+    ghost Value = { TextState };
+
+    ghost coded = { text_state_code };
+
+    ghost view = { λ s. s.store };
+}
+
+impl SureInputs {
+    /// These texts under these names, nothing open.
+    pub fn new(names: Names, texts: Words) -> Self
+        requires { length texts ≡ length names }
+        ensures { result ≡ record { texts = from_entries (zip names texts); left = [] } }
+    {
+        SureInputs {
+            store: TextStore::new(names, texts),
+        }
+    }
+}
+
+impl Inputs for SureInputs {
+    ghost texts = { λ s. Some s.texts };
+
+    ghost left = { λ s. Some s.left };
+
+    ghost open_faults = { λ _. 0 };
+
+    ghost read_faults = { λ _. 0 };
+
+    ghost may_open = { λ _. Unit {0} };
+
+    fn open(&mut self, name: &Text) -> Result<(), OpenFail>
+        ensures ok { IsOk result }
+        ensures opened { self.new.left ≡ text_of self.old.texts name.now }
+        ensures texts { self.new.texts ≡ self.old.texts }
+    {
+        let _there = self.store.open(name);
+        Ok(())
+    }
+
+    fn next(&mut self) -> Result<Option<u8>, Failed>
+        ensures ok { IsOk result }
+        ensures takes { Takes (Some self.old.left) (Some self.new.left) result }
+        ensures texts { self.new.texts ≡ self.old.texts }
+    {
+        Ok(self.store.take())
+    }
+}

@@ -1,0 +1,102 @@
+//! Texts under names, of which one at a time may be open.
+
+ghost use Rattle.std.specs.Prelude.{◌≡◌, ◌<◌, None, Some, [], length, MatchOption, drop, slice_get};
+ghost use Rattle.std.specs.Cmp.Lexicographic.{slice_cmp};
+ghost use Rattle.std.specs.FinMap.{contains_key, find, from_entries};
+ghost use Rattle.std.specs.List.{slice_index_or, zip};
+ghost use Rattle.std.specs.Ordering.{nat_cmp};
+ghost use Rattle.aut_io.specs.Outside.{text_of};
+
+use aut_base::{Names, Text, Words};
+use std::marker::Model;
+
+/// What the sources in memory stand on. Contracts see the texts, and what is left of the open one.
+#[derive(Debug, Drop)]
+pub(crate) struct TextStore {
+    names: Names,
+    texts: Words,
+    /// The place of the open text in the list.
+    opened: Option<usize>,
+    /// How many bytes of the open text were taken.
+    taken: usize,
+}
+
+impl Model for TextStore {
+    ghost use Rattle.std.specs.Prelude.{◌≡◌, ◌<◌, IfSome, length};
+    ghost use Rattle.std.specs.FinMap.{from_entries};
+    ghost use Rattle.std.specs.List.{zip};
+    ghost use Rattle.aut_io.specs.Codes.{text_state_code};
+    ghost use Rattle.aut_io.specs.InMemory.{TextState, rest_of};
+
+    ghost Value = { TextState };
+
+    ghost coded = { text_state_code };
+
+    ghost view = { λ s. record { texts = from_entries (zip s.names s.texts); left = rest_of s.texts s.opened s.taken } };
+
+    ghost invariant = { λ s. (length s.texts ≡ length s.names) × IfSome s.opened (λ k. k < length s.texts) };
+}
+
+impl TextStore {
+    /// These texts under these names, none of them open.
+    pub(crate) fn new(names: Names, texts: Words) -> Self
+        requires { length texts ≡ length names }
+        ensures { result ≡ record { texts = from_entries (zip names texts); left = [] } }
+    {
+        TextStore {
+            names,
+            texts,
+            opened: None,
+            taken: 0,
+        }
+    }
+
+    /// Opens the text under a name, and answers whether it is there. Where it isn't, nothing is open.
+    pub(crate) fn open(&mut self, name: &Text) -> bool
+        ensures there { result ≡ contains_key self.old.texts name.now }
+        ensures opened { self.new ≡ record { texts = self.old.texts; left = text_of self.old.texts name.now } }
+    {
+        self.taken = 0;
+        self.opened = place_of(self.names.as_slice(), self.texts.as_slice(), name);
+        self.opened.is_some()
+    }
+
+    /// Leaves nothing open.
+    pub(crate) fn close(&mut self)
+        ensures { self.new ≡ record { texts = self.old.texts; left = [] } }
+    {
+        self.opened = None;
+    }
+
+    /// Takes the next byte of the open text, if any is left.
+    #[tactic(auto, using(crate::proofs::Texts::drop_more))]
+    pub(crate) fn take(&mut self) -> Option<u8>
+        ensures byte { result ≡ slice_get self.old.left 0 }
+        ensures rest { self.new ≡ record { texts = self.old.texts; left = drop 1 self.old.left } }
+    {
+        let Some(place) = self.opened else {
+            return None
+        };
+        let text = self.texts.at(place);
+        if self.taken < text.len() {
+            let byte = *text.at(self.taken);
+            self.taken += 1;
+            Some(byte)
+        } else {
+            None
+        }
+    }
+}
+
+/// The place of the text under a name.
+fn place_of(names: &[Text], texts: &[Text], name: &Text) -> Option<usize>
+    requires { length texts.now ≡ length names.now }
+    ensures { MatchOption result (find (slice_cmp nat_cmp) name.now (zip names.now texts.now) ≡ None) (λ k. (k < length texts.now) × (find (slice_cmp nat_cmp) name.now (zip names.now texts.now) ≡ Some (slice_index_or texts.now k []))) }
+{
+    for (place, other) in names.iter().enumerate() {
+        if name == other {
+            return Some(place);
+        }
+    }
+    None
+}
