@@ -1,5 +1,5 @@
 -- What may stand between tokens: spaces, and comments, which nest (HOA v1, Grammar).
-use Rattle.std.specs.Prelude.{◌≡◌, ℕ, zero, suc, ◌&&◌, ◌==◌, true, false, MatchBool, List, [], ◌∷◌, ◌++◌}
+use Rattle.std.specs.Prelude.{◌≡◌, ℕ, zero, suc, ◌&&◌, ◌==◌, true, MatchBool, List, [], ◌∷◌, ◌++◌}
 use Rattle.hoa_lexer.specs.Bytes.{is_space}
 
 -- The bytes close this many open comments, and end where the last one does. Each `/*` opens one more, and its two

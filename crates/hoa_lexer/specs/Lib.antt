@@ -2,4 +2,5 @@ pub mod Blanks
 pub mod Bytes
 pub mod Reading
 pub mod Spelling
+pub mod Steps
 pub mod Text

@@ -1,5 +1,5 @@
 -- What a lexer answers, of what it has not read yet.
-use Rattle.std.specs.Prelude.{◌≡◌, ℕ, ◌+◌, ◌-◌, ◌≤◌, ◌<◌, Bool, true, false, List, [], ◌∷◌, ◌++◌, length, Option, Some, None, Result, Ok, Err, is_some, not}
+use Rattle.std.specs.Prelude.{◌≡◌, ℕ, ◌+◌, List, [], ◌∷◌, ◌++◌, length, Option, Some, None, Result, Ok, Err, is_some, not}
 use Rattle.aut_io.specs.Outside.{Rose}
 use Rattle.hoa_lexer.specs.Blanks.{IsBlanks, IsOpenComment}
 use Rattle.hoa_lexer.specs.Spelling.{closes_itself}
@@ -39,7 +39,7 @@ Answers (Err Read) start offset old new = Unit {0}
 Answers (Err Memory) start offset old new = Unit {0}
 
 -- A fault of reading is answered only where their count rose, and no other answer comes where a read failed.
-abbrev pub CountsFaults : Result (Option Token) LexFault → ℕ → ℕ → Type 0
+abbrev pub CountsFaults : {A : Type 0} → Result A LexFault → ℕ → ℕ → Type 0
 CountsFaults (Err Read) before after = Rose before after
 CountsFaults _ before after = after ≡ before
 

@@ -1,6 +1,6 @@
 -- The tokens of a text. Each is the longest that the bytes allow.
 use Rattle.std.specs.Prelude.{◌≡◌, ◌≢◌, ℕ, ◌+◌, ◌-◌, ◌⊎◌, List, [], ◌∷◌, ◌++◌, length}
-use Rattle.hoa_lexer.specs.Blanks.{IsBlanks, IsOpenComment}
+use Rattle.hoa_lexer.specs.Blanks.{IsBlanks}
 use Rattle.hoa_lexer.specs.Spelling.{Spells, Ends, Quotes}
 use Rattle.hoa_lexer.specs.declared.token.Token.{Token}
 

@@ -1,8 +1,20 @@
 //! The lexer.
 
-ghost use Rattle.std.specs.Prelude.{◌≡◌, ◌+◌, ◌-◌, ◌<◌, ◌≤◌, length, None, false, is_err, IsSome, IsErrOf, IfOk};
+ghost use Rattle.std.specs.Prelude.{◌≡◌, ◌≢◌, ◌+◌, ◌-◌, ◌<◌, ◌≤◌, ◌∷◌, length, None, false, is_err, IsSome, IsErrOf, IfOk, OnOk};
+ghost use Rattle.hoa_lexer.specs.Bytes as kinds;
 ghost use Rattle.hoa_lexer.specs.Reading.{held_count, unread, Answers, Between, CountsFaults, Holds};
 
+mod blanks;
+mod bytes;
+mod dashes;
+mod marks;
+mod numbers;
+mod reading;
+mod strings;
+mod words;
+
+use self::bytes::{is_digit, is_letter};
+use self::marks::mark;
 use crate::{LexFault, Token};
 use aut_io::Inputs;
 use std::alloc::Global;
@@ -22,6 +34,8 @@ pub struct Lexer {
 }
 
 impl Lexer {
+    ghost use Rattle.hoa_lexer.specs.Steps.{Advances, HoldsAfter, ReadsToken};
+
     /// A lexer that may take this many bytes in its life.
     pub fn new(most: u64) -> Lexer
         ensures most { result.most ≡ most }
@@ -106,7 +120,81 @@ impl Lexer {
         ensures opens { I.open_faults inputs.new ≡ I.open_faults inputs.old }
         ensures texts { I.texts inputs.new ≡ I.texts inputs.old }
     {
-        self.spent = true;
-        Err(LexFault::Memory)
+        let answer = self.scan(alloc, inputs);
+        self.spent = answer.is_err();
+        answer
+    }
+
+    /// Blanks and the next token.
+    fn scan<I: Inputs>(&mut self, alloc: Global, inputs: &mut I) -> Result<Option<Token>, LexFault>
+        ensures answers { Between (I.left inputs.old) (I.left inputs.new) (λ old new.
+            Answers result (self.old.since - held_count self.old.held) self.new.offset (unread self.old.held old) (unread self.new.held new)) }
+        ensures holds { Holds result self.new.held }
+        ensures used { IfOk result (λ token. IsSome token
+            → self.old.taken + held_count self.new.held < self.new.taken + held_count self.old.held) }
+        ensures most { self.new.most ≡ self.old.most }
+        ensures since { self.new.since + self.old.taken ≡ self.old.since + self.new.taken }
+        ensures later { self.old.taken ≤ self.new.taken }
+        ensures taken { Between (I.left inputs.old) (I.left inputs.new) (λ old new.
+            self.new.taken + length new ≡ self.old.taken + length old) }
+        ensures bytes { IsErrOf result LexFault.Bytes → self.new.taken ≡ self.new.most }
+        ensures reads { CountsFaults result (I.read_faults inputs.old) (I.read_faults inputs.new) }
+        ensures reads_later { I.read_faults inputs.old ≤ I.read_faults inputs.new }
+        ensures opens { I.open_faults inputs.new ≡ I.open_faults inputs.old }
+        ensures texts { I.texts inputs.new ≡ I.texts inputs.old }
+    {
+        let first = match self.skip_blanks(inputs) {
+            Ok(Some(first)) => first,
+            Ok(None) => return Ok(None),
+            Err(fault) => return Err(fault),
+        };
+        self.offset = self.since - 1;
+        match self.token(alloc, inputs, first) {
+            Ok(token) => Ok(Some(token)),
+            Err(fault) => Err(fault),
+        }
+    }
+
+    /// The token that begins with the byte that is held, which no blank does.
+    fn token<I: Inputs>(
+        &mut self,
+        alloc: Global,
+        inputs: &mut I,
+        first: u8,
+    ) -> Result<Token, LexFault>
+        requires held { self.old.held ≡ Some first }
+        requires space { kinds.is_space first ≡ false }
+        requires slash { first ≢ 47 }
+        ensures answers { Between (I.left inputs.old) (I.left inputs.new) (λ old new.
+            ReadsToken result self.old.offset (first ∷ old) (unread self.new.held new)) }
+        ensures holds { HoldsAfter result self.new.held }
+        ensures progress { OnOk result (self.old.taken + held_count self.new.held < self.new.taken + held_count self.old.held) }
+        ensures advances { Advances self.old self.new }
+        ensures taken { Between (I.left inputs.old) (I.left inputs.new) (λ old new.
+            self.new.taken + length new ≡ self.old.taken + length old) }
+        ensures bytes { IsErrOf result LexFault.Bytes → self.new.taken ≡ self.new.most }
+        ensures reads { CountsFaults result (I.read_faults inputs.old) (I.read_faults inputs.new) }
+        ensures reads_later { I.read_faults inputs.old ≤ I.read_faults inputs.new }
+        ensures opens { I.open_faults inputs.new ≡ I.open_faults inputs.old }
+        ensures texts { I.texts inputs.new ≡ I.texts inputs.old }
+    {
+        if is_letter(first) {
+            return self.word(alloc, inputs, first);
+        }
+        if is_digit(first) {
+            return self.number(inputs, first);
+        }
+        match first {
+            b'"' => self.string(alloc, inputs),
+            b'@' => self.alias(alloc, inputs),
+            b'-' => self.dashes(inputs),
+            _ => {
+                self.held = None;
+                match mark(first) {
+                    Some(token) => Ok(token),
+                    None => Err(LexFault::BadToken(self.offset)),
+                }
+            }
+        }
     }
 }

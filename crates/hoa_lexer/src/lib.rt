@@ -5,5 +5,8 @@
 mod lexer;
 mod token;
 
+#[cfg(test)]
+mod tests;
+
 pub use lexer::Lexer;
 pub use token::{LexFault, Token};

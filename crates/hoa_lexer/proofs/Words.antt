@@ -1,0 +1,190 @@
+-- Identifiers, names of headers and aliases.
+use Rattle.std.proofs.Common.{◌≡◌, ℕ, Bool, true, false, List, [], ◌∷◌, ◌++◌, Option, Some, None, Ok, Err, inr, refl, sym, ◌∙◌, ap, arith}
+use Rattle.std.specs.List.{list_all}
+use Rattle.std.proofs.lemmas.Bool.{false≢true, and_parts, and_from}
+use Rattle.std.proofs.lemmas.List.{append_assoc, append-nil}
+use Rattle.std.proofs.lemmas.List.Folds.{list_all-append}
+use Rattle.hoa_lexer.specs.Bytes.{is_letter, is_word}
+use Rattle.hoa_lexer.specs.Reading.{unread}
+use Rattle.hoa_lexer.specs.Spelling.{Spells, Ends, StopsAt, IsIdentifier, IsAliasName}
+use Rattle.hoa_lexer.specs.Steps.{AddsWord, AddsWords, ReadsToken}
+use Rattle.hoa_lexer.specs.Text.{IsFront, HasFront, Begins, IsOpenToken, IsNoToken}
+use Rattle.hoa_lexer.proofs.Comments.{unheld}
+use Rattle.hoa_lexer.proofs.FirstBytes.{token_kind, kind_letter, front_head}
+use Rattle.hoa_lexer.specs.declared.token.LexFault.{LexFault}
+use Rattle.hoa_lexer.specs.declared.token.LexFault.TheVariants.{BadToken, OpenComment, OpenString, OpenToken, Read, Bytes, Memory}
+use Rattle.hoa_lexer.specs.declared.token.Token.{Token}
+use Rattle.hoa_lexer.specs.declared.token.Token.TheVariants.{HeaderName, Identifier, Str, Int, Alias}
+
+pub all_push : (p : ℕ → Bool) (b : ℕ) (seen : List ℕ) → list_all p seen ≡ true → p b ≡ true → list_all p (seen ++ b ∷ []) ≡ true
+all_push p b seen h k = list_all-append p seen (b ∷ []) ∙ and_from _ _ h (and_from _ _ k refl)
+
+pub words_end : (o : Option ℕ) (name name' x z : List ℕ) → o ≡ None → AddsWords (Ok o) name name' x z → AddsWord name name' x []
+words_end None name name' x z e a = a.0
+words_end (Some b) name name' x z e a = cc
+
+-- what goes on has not stopped
+pub stops_not : (p : ℕ → Bool) (xs ys rest : List ℕ) → list_all p xs ≡ true → xs ≡ ys ++ rest → StopsAt p rest → ⊥
+stops_not p xs ys [] h e s = s
+stops_not p xs ys (r ∷ rs) h e s =
+    let parts = and_parts (list_all p ys) (list_all p (r ∷ rs)) (sym (list_all-append p ys (r ∷ rs)) ∙ ap (list_all p) (sym e) ∙ h) in
+    false≢true (sym s ∙ (and_parts (p r) (list_all p rs) parts.1).0)
+
+letter_no_quote : (b : ℕ) → is_letter b ≡ true → b ≡ 34 → ⊥
+letter_no_quote b h e = false≢true (ap is_letter (sym e) ∙ h)
+
+pub push_some : (xs : List ℕ) (b : ℕ) → xs ++ b ∷ [] ≡ [] → ⊥
+push_some [] b e = cc
+push_some (x ∷ xs) b e = cc
+
+-- an identifier or the name of a header
+
+header_open : (first : ℕ) (seen tail rest name : List ℕ) → IsIdentifier name → first ∷ tail ≡ name ++ 58 ∷ [] → seen ≡ tail ++ rest → list_all is_word seen ≡ true → ⊥
+header_open first seen tail rest [] i e s h = i
+header_open first seen tail rest (n ∷ ns) i e s h =
+    let tails : tail ≡ ns ++ 58 ∷ [] = cc in
+    stops_not is_word seen ns (58 ∷ rest) h (s ∙ ap (λ w. w ++ rest) tails ∙ append_assoc ns (58 ∷ []) rest) refl
+
+word_open_at : (token : Token) (first : ℕ) (seen tail rest : List ℕ) → 65 ≡ token_kind token → Spells token (first ∷ tail) → Ends token rest → seen ≡ tail ++ rest → list_all is_word seen ≡ true → ⊥
+word_open_at (HeaderName name) first seen tail rest k s e p h = header_open first seen tail rest name s.0 s.1 p h
+word_open_at (Identifier name) first seen tail rest k s e p h = stops_not is_word seen tail rest h p e.0
+word_open_at (Str text) first seen tail rest k s e p h = absurd (omega arith)
+word_open_at (Int n) first seen tail rest k s e p h = absurd (omega arith)
+word_open_at (Alias name) first seen tail rest k s e p h = absurd (omega arith)
+word_open_at _ first seen tail rest k s e p h = absurd (omega arith)
+
+word_open : (first : ℕ) (seen : List ℕ) → is_letter first ≡ true → list_all is_word seen ≡ true → HasFront (first ∷ seen) → ⊥
+word_open first seen l h f =
+    let head = front_head first seen f.token f.rest f.front in
+    word_open_at f.token first seen head.tail f.rest (sym (kind_letter first l) ∙ head.kinds) head.spells f.front.ends head.split h
+
+word_begins : (first : ℕ) (seen : List ℕ) → is_letter first ≡ true → list_all is_word seen ≡ true → Begins (first ∷ seen)
+word_begins first seen l h = record {
+  more = 58 ∷ [];
+  front = record {
+    token = HeaderName (first ∷ seen);
+    rest = [];
+    front = record { word = first ∷ (seen ++ 58 ∷ []); split = sym (append-nil (first ∷ (seen ++ 58 ∷ []))); spells = ((l, h), refl); ends = tt };
+  };
+}
+
+pub word_end : (first : ℕ) (name name' x : List ℕ) → is_letter first ≡ true → AddsWord name name' x [] → IsOpenToken (first ∷ x)
+word_end first name name' x l a =
+    let whole : a.seen ≡ x = sym (a.split ∙ append-nil a.seen) in
+    let words : list_all is_word x ≡ true = ap (list_all is_word) (sym whole) ∙ a.words in
+    record {
+      some = λ e. cc;
+      no_string = λ rest e. letter_no_quote first l (let same : first ≡ 34 = cc in same);
+      unclosed = word_open first x l words;
+      begins = inr (word_begins first x l words);
+    }
+
+pub word_err : (fault : LexFault) (h : Option ℕ) (offset first : ℕ) (name name' x z : List ℕ) → is_letter first ≡ true → (fault ≡ Bytes → h ≡ None) → AddsWords (Err fault) name name' x z → ReadsToken (Err fault) offset (first ∷ x) (unread h z)
+word_err Bytes h offset first name name' x z l k a = record {
+  at_hand = first ∷ a.seen;
+  split = ap (λ v. first ∷ v) (a.split ∙ ap (λ v. a.seen ++ v) (sym (unheld h z (k refl))));
+  some = λ e. cc;
+  unclosed = word_open first a.seen l a.words;
+  begins = word_begins first a.seen l a.words;
+}
+word_err Read h offset first name name' x z l k a = tt
+word_err Memory h offset first name name' x z l k a = tt
+word_err (BadToken n) h offset first name name' x z l k a = absurd a
+word_err OpenComment h offset first name name' x z l k a = absurd a
+word_err OpenString h offset first name name' x z l k a = absurd a
+word_err OpenToken h offset first name name' x z l k a = absurd a
+
+-- an alias
+
+alias_open_at : (token : Token) (seen tail rest : List ℕ) → 64 ≡ token_kind token → Spells token (64 ∷ tail) → Ends token rest → seen ≡ tail ++ rest → list_all is_word seen ≡ true → ⊥
+alias_open_at (Alias name) seen tail rest k s e p h = stops_not is_word seen tail rest h p e
+alias_open_at (HeaderName name) seen tail rest k s e p h = absurd (omega arith)
+alias_open_at (Identifier name) seen tail rest k s e p h = absurd (omega arith)
+alias_open_at (Str text) seen tail rest k s e p h = absurd (omega arith)
+alias_open_at (Int n) seen tail rest k s e p h = absurd (omega arith)
+alias_open_at _ seen tail rest k s e p h = absurd (omega arith)
+
+alias_open : (seen : List ℕ) → list_all is_word seen ≡ true → HasFront (64 ∷ seen) → ⊥
+alias_open seen h f =
+    let head = front_head 64 seen f.token f.rest f.front in
+    alias_open_at f.token seen head.tail f.rest head.kinds head.spells f.front.ends head.split h
+
+alias_name : (name : List ℕ) → (name ≡ [] → ⊥) → list_all is_word name ≡ true → IsAliasName name
+alias_name [] n h = n refl
+alias_name (b ∷ bs) n h = h
+
+alias_begins : (seen : List ℕ) → list_all is_word seen ≡ true → Begins (64 ∷ seen)
+alias_begins seen h = record {
+  more = 97 ∷ 32 ∷ [];
+  front = record {
+    token = Alias (seen ++ 97 ∷ []);
+    rest = 32 ∷ [];
+    front = record {
+      word = 64 ∷ (seen ++ 97 ∷ []);
+      split = ap (λ v. 64 ∷ v) (sym (append_assoc seen (97 ∷ []) (32 ∷ [])));
+      spells = (alias_name (seen ++ 97 ∷ []) (push_some seen 97) (all_push is_word 97 seen h refl), refl);
+      ends = refl;
+    };
+  };
+}
+
+pub alias_token : (h : Option ℕ) (b : ℕ) (name x z : List ℕ) → (name ≡ [] → ⊥) → h ≡ Some b → AddsWord [] name x (b ∷ z) → is_word b ≡ false → IsFront (64 ∷ x) (Alias name) (unread h z)
+alias_token None b name x z n k a w = cc
+alias_token (Some c) b name x z n k a w =
+    let same : b ≡ c = cc in
+    record {
+      word = 64 ∷ name;
+      split = ap (λ v. 64 ∷ v) (a.split ∙ ap (λ v. v ++ b ∷ z) (sym a.named) ∙ ap (λ v. name ++ v ∷ z) same);
+      spells = (alias_name name n (ap (list_all is_word) a.named ∙ a.words), refl);
+      ends = ap is_word (sym same) ∙ w;
+    }
+
+no_alias_at : (token : Token) (b : ℕ) (z tail rest : List ℕ) → 64 ≡ token_kind token → Spells token (64 ∷ tail) → b ∷ z ≡ tail ++ rest → is_word b ≡ false → ⊥
+no_alias_at (Alias []) b z tail rest k s p w = s.0
+no_alias_at (Alias (n ∷ ns)) b z [] rest k s p w = (let e = s.1 in cc)
+no_alias_at (Alias (n ∷ ns)) b z (t ∷ ts) rest k s p w =
+    let e : 64 ∷ t ∷ ts ≡ 64 ∷ n ∷ ns = s.1 in
+    let same : b ≡ n = cc in
+    false≢true (sym w ∙ ap is_word same ∙ (and_parts (is_word n) (list_all is_word ns) s.0).0)
+no_alias_at (HeaderName name) b z tail rest k s p w = absurd (omega arith)
+no_alias_at (Identifier name) b z tail rest k s p w = absurd (omega arith)
+no_alias_at (Str text) b z tail rest k s p w = absurd (omega arith)
+no_alias_at (Int n) b z tail rest k s p w = absurd (omega arith)
+no_alias_at _ b z tail rest k s p w = absurd (omega arith)
+
+pub alias_bad : (b : ℕ) (x z : List ℕ) → x ≡ b ∷ z → is_word b ≡ false → IsNoToken (64 ∷ x)
+alias_bad b x z e w = record {
+  some = λ k. cc;
+  no_comment = λ rest k. cc;
+  no_slash = λ k. cc;
+  no_token = λ t.
+      let f = t.front in
+      let head = front_head 64 (x ++ t.more) f.token f.rest f.front in
+      no_alias_at f.token b (z ++ t.more) head.tail f.rest head.kinds head.spells (sym (ap (λ v. v ++ t.more) e) ∙ head.split) w;
+}
+
+pub alias_end : (name name' x : List ℕ) → AddsWord name name' x [] → IsOpenToken (64 ∷ x)
+alias_end name name' x a =
+    let whole : a.seen ≡ x = sym (a.split ∙ append-nil a.seen) in
+    let words : list_all is_word x ≡ true = ap (list_all is_word) (sym whole) ∙ a.words in
+    record {
+      some = λ e. cc;
+      no_string = λ rest e. cc;
+      unclosed = alias_open x words;
+      begins = inr (alias_begins x words);
+    }
+
+pub alias_err : (fault : LexFault) (h : Option ℕ) (offset : ℕ) (name name' x z : List ℕ) → (fault ≡ Bytes → h ≡ None) → AddsWords (Err fault) name name' x z → ReadsToken (Err fault) offset (64 ∷ x) (unread h z)
+alias_err Bytes h offset name name' x z k a = record {
+  at_hand = 64 ∷ a.seen;
+  split = ap (λ v. 64 ∷ v) (a.split ∙ ap (λ v. a.seen ++ v) (sym (unheld h z (k refl))));
+  some = λ e. cc;
+  unclosed = alias_open a.seen a.words;
+  begins = alias_begins a.seen a.words;
+}
+alias_err Read h offset name name' x z k a = tt
+alias_err Memory h offset name name' x z k a = tt
+alias_err (BadToken n) h offset name name' x z k a = absurd a
+alias_err OpenComment h offset name name' x z k a = absurd a
+alias_err OpenString h offset name name' x z k a = absurd a
+alias_err OpenToken h offset name name' x z k a = absurd a

@@ -1,0 +1,174 @@
+-- What the lexer's inner functions ensure.
+use Rattle.std.specs.Prelude.{◌≡◌, ◌≢◌, ℕ, zero, suc, ◌+◌, ◌≤◌, ◌&&◌, ◌==◌, true, false, if◌then◌else◌, List, [], ◌∷◌, ◌++◌, length, codes, is_some, not, Option, Some, None, Result, Ok, Err, ◌⊎◌}
+use Rattle.std.specs.List.{list_all}
+use Rattle.hoa_lexer.specs.Blanks.{IsBlanks}
+use Rattle.hoa_lexer.specs.Bytes.{is_space, is_word}
+use Rattle.hoa_lexer.specs.Reading.{held_count, Answers}
+use Rattle.hoa_lexer.specs.Spelling.{Quotes, closes_itself}
+use Rattle.hoa_lexer.specs.Text.{IsFront, HasFront, Begins, IsOpenString, IsOpenToken, IsNoToken}
+use Rattle.hoa_lexer.specs.declared.lexer.Lexer.{Lexer}
+use Rattle.hoa_lexer.specs.declared.token.LexFault.{LexFault}
+use Rattle.hoa_lexer.specs.declared.token.LexFault.TheVariants.{BadToken, OpenComment, OpenString, OpenToken, Read, Bytes, Memory}
+use Rattle.hoa_lexer.specs.declared.token.Token.{Token}
+use Rattle.hoa_lexer.specs.declared.token.Token.TheVariants.{Bang, Amp, Bar, LeftParen, RightParen, LeftBrace, RightBrace, LeftBracket, RightBracket, Body, End, Abort}
+
+-- From one state of a lexer to a later one: bytes are only taken and used, and the place of the token stands.
+pub record Advances (old new : Lexer) : Type 0 where
+  pub most : new.most ≡ old.most
+  pub offset : new.offset ≡ old.offset
+  pub since : new.since + old.taken ≡ old.since + new.taken
+  pub later : old.taken ≤ new.taken
+  pub used : old.taken + held_count new.held ≤ new.taken + held_count old.held
+
+-- a read's answer, of what was unread before and what is left in the inputs
+abbrev pub Peeks : Result (Option ℕ) LexFault → List ℕ → List ℕ → Type 0
+Peeks (Ok (Some b)) old left = old ≡ b ∷ left
+Peeks (Ok None) old left = (old ≡ []) × (left ≡ [])
+Peeks (Err fault) old left = old ≡ left
+
+-- a byte that was read is held, and else none
+abbrev pub HoldsRead : Result (Option ℕ) LexFault → Option ℕ → Type 0
+HoldsRead (Ok byte) held = held ≡ byte
+HoldsRead (Err fault) held = held ≡ None
+
+-- the faults that a read has
+abbrev pub IsReadFault : LexFault → Type 0
+IsReadFault Read = Unit {0}
+IsReadFault Bytes = Unit {0}
+IsReadFault _ = ⊥
+
+-- What follows the end of this many open comments, if they are closed at all.
+abbrev pub closing : ℕ → List ℕ → Option (List ℕ)
+closing zero bytes = Some bytes
+closing (suc depth) [] = None
+closing (suc depth) (b ∷ []) = None
+closing (suc depth) (b ∷ c ∷ bytes) =
+    if (b == 42) && (c == 47) then closing depth bytes
+    else (if (b == 47) && (c == 42) then closing (suc (suc depth)) bytes else closing (suc depth) (c ∷ bytes))
+
+-- one step in open comments, from one depth to the next
+abbrev pub StepsIn : Result ℕ LexFault → ℕ → List ℕ → List ℕ → Type 0
+StepsIn (Ok next) depth old new = (closing next new ≡ closing depth old) × (seen : List ℕ) × (old ≡ seen ++ new)
+StepsIn (Err OpenComment) depth old new = closing depth old ≡ None
+StepsIn (Err Bytes) depth old new = (seen : List ℕ) × (old ≡ seen ++ new) × (length seen ≤ 1)
+StepsIn (Err Read) depth old new = Unit {0}
+StepsIn (Err _) depth old new = ⊥
+
+-- the rest of an open comment
+abbrev pub ClosesComment : Result (Unit {0}) LexFault → List ℕ → List ℕ → Type 0
+ClosesComment (Ok done) old new = closing 1 old ≡ Some new
+ClosesComment (Err OpenComment) old new = closing 1 old ≡ None
+ClosesComment (Err Bytes) old new = (seen : List ℕ) × (old ≡ seen ++ new) × (closing 1 seen ≡ None)
+ClosesComment (Err Read) old new = Unit {0}
+ClosesComment (Err _) old new = ⊥
+
+-- blanks were used
+pub record Skips (old new : List ℕ) : Type 0 where
+  pub before : List ℕ
+  pub split : old ≡ before ++ new
+  pub blanks : IsBlanks before
+
+-- a comment, or what stands in its place after a `/`
+abbrev pub SkipsComment : Result (Unit {0}) LexFault → ℕ → List ℕ → List ℕ → Type 0
+SkipsComment (Ok done) start old new = Skips old new
+SkipsComment (Err fault) start old new = Answers (Err fault) start 0 old new
+
+-- blanks, up to a byte that begins none or the end of the text
+abbrev pub SkipsBlanks : Result (Option ℕ) LexFault → ℕ → List ℕ → List ℕ → Type 0
+SkipsBlanks (Ok (Some b)) start old new = Skips old new
+SkipsBlanks (Ok None) start old new = IsBlanks old × (new ≡ [])
+SkipsBlanks (Err fault) start old new = Answers (Err fault) start 0 old new
+
+-- a byte that begins no blank, if there is one
+abbrev pub IsSolid : Result (Option ℕ) LexFault → Type 0
+IsSolid (Ok (Some b)) = (is_space b ≡ false) × (b ≢ 47)
+IsSolid _ = Unit {0}
+
+-- letters, digits and `-` were used and stand at the end of the name
+pub record AddsWord (name name' old new : List ℕ) : Type 0 where
+  pub seen : List ℕ
+  pub named : name' ≡ name ++ seen
+  pub words : list_all is_word seen ≡ true
+  pub split : old ≡ seen ++ new
+
+-- all letters, digits and `-` that stand next, up to another byte or the end of the text
+abbrev pub AddsWords : Result (Option ℕ) LexFault → List ℕ → List ℕ → List ℕ → List ℕ → Type 0
+AddsWords (Ok (Some b)) name name' old left = AddsWord name name' old (b ∷ left) × (is_word b ≡ false)
+AddsWords (Ok None) name name' old left = AddsWord name name' old [] × (left ≡ [])
+AddsWords (Err Bytes) name name' old left = AddsWord name name' old left
+AddsWords (Err Read) name name' old left = Unit {0}
+AddsWords (Err Memory) name name' old left = Unit {0}
+AddsWords (Err _) name name' old left = ⊥
+
+-- what stands in a string and means no whole byte yet: nothing, or `\`
+abbrev pub IsHalf : List ℕ → Type 0
+IsHalf bytes = (bytes ≡ []) ⊎ (bytes ≡ 92 ∷ [])
+
+-- the next byte that a string means, or its closing quote
+abbrev pub ReadsQuoted : Result (Option ℕ) LexFault → List ℕ → List ℕ → Type 0
+ReadsQuoted (Ok (Some b)) old left = (seen : List ℕ) × Quotes seen (b ∷ []) × (old ≡ seen ++ left)
+ReadsQuoted (Ok None) old left = old ≡ 34 ∷ left
+ReadsQuoted (Err OpenString) old left = IsHalf old
+ReadsQuoted (Err Bytes) old left = (seen : List ℕ) × IsHalf seen × (old ≡ seen ++ left)
+ReadsQuoted (Err Read) old left = Unit {0}
+ReadsQuoted (Err _) old left = ⊥
+
+-- the bytes at hand close no token, and can go on so that they close one
+pub record Pauses (old new : List ℕ) : Type 0 where
+  pub at_hand : List ℕ
+  pub split : old ≡ at_hand ++ new
+  pub some : at_hand ≢ []
+  pub unclosed : HasFront at_hand → ⊥
+  pub begins : Begins at_hand
+
+-- the token that stands next, where no blank does
+abbrev pub ReadsToken : Result Token LexFault → ℕ → List ℕ → List ℕ → Type 0
+ReadsToken (Ok token) offset old new = IsFront old token new
+ReadsToken (Err (BadToken k)) offset old new = (k ≡ offset) × IsNoToken old
+ReadsToken (Err OpenString) offset old new = IsOpenString old
+ReadsToken (Err OpenToken) offset old new = IsOpenToken old
+ReadsToken (Err Bytes) offset old new = Pauses old new
+ReadsToken (Err Read) offset old new = Unit {0}
+ReadsToken (Err Memory) offset old new = Unit {0}
+ReadsToken (Err OpenComment) offset old new = ⊥
+
+-- a byte past the token is held exactly where it was needed to close it
+abbrev pub HoldsAfter : Result Token LexFault → Option ℕ → Type 0
+HoldsAfter (Ok token) held = is_some held ≡ not (closes_itself token)
+HoldsAfter (Err fault) held = Unit {0}
+
+-- the token is spelled `--`, the letter and the tail
+abbrev pub IsDashed : Token → ℕ → List ℕ → Type 0
+IsDashed Body letter tail = (letter ≡ 66) × (tail ≡ codes "ODY--")
+IsDashed End letter tail = (letter ≡ 69) × (tail ≡ codes "ND--")
+IsDashed Abort letter tail = (letter ≡ 65) × (tail ≡ codes "BORT--")
+IsDashed _ letter tail = ⊥
+
+-- How far the bytes that stand next are those of a word. Where they are not all, `seen` is a front of the word, and
+-- a byte `b` of the word comes after it.
+pub record Expects (word seen : List ℕ) (b : ℕ) : Type 0 where
+  pub rest : List ℕ
+  pub split : word ≡ seen ++ b ∷ rest
+
+-- the bytes of a word stand next, or what stands in their place
+abbrev pub ReadsWord : Result (Unit {0}) LexFault → List ℕ → ℕ → List ℕ → List ℕ → Type 0
+ReadsWord (Ok done) word offset old new = old ≡ word ++ new
+ReadsWord (Err (BadToken k)) word offset old new =
+    (k ≡ offset) × (seen : List ℕ) × (b : ℕ) × (c : ℕ) × Expects word seen b × (more : List ℕ) × (old ≡ seen ++ c ∷ more) × (c ≢ b)
+ReadsWord (Err OpenToken) word offset old new = (b : ℕ) × Expects word old b
+ReadsWord (Err Bytes) word offset old new = (seen : List ℕ) × (b : ℕ) × Expects word seen b × (old ≡ seen ++ new)
+ReadsWord (Err Read) word offset old new = Unit {0}
+ReadsWord (Err _) word offset old new = ⊥
+
+-- the mark is spelled by this byte
+abbrev pub IsMark : Token → ℕ → Type 0
+IsMark Bang b = b ≡ 33
+IsMark Amp b = b ≡ 38
+IsMark Bar b = b ≡ 124
+IsMark LeftParen b = b ≡ 40
+IsMark RightParen b = b ≡ 41
+IsMark LeftBrace b = b ≡ 123
+IsMark RightBrace b = b ≡ 125
+IsMark LeftBracket b = b ≡ 91
+IsMark RightBracket b = b ≡ 93
+IsMark _ b = ⊥

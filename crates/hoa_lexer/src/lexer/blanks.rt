@@ -1,0 +1,152 @@
+//! Blanks between tokens.
+
+ghost use Rattle.std.specs.Prelude.{◌≡◌, ◌≢◌, ◌+◌, ◌-◌, ◌<◌, ◌≤◌, ◌∷◌, ◌&&◌, ◌==◌, length, None, OnOk, IfOk, IsErrOf};
+ghost use Rattle.hoa_lexer.specs.Reading.{held_count, unread, Between, CountsFaults};
+
+use super::Lexer;
+use super::bytes::is_space;
+use crate::LexFault;
+use aut_io::Inputs;
+
+impl Lexer {
+    ghost use Rattle.hoa_lexer.specs.Steps.{Advances, ClosesComment, HoldsRead, IsSolid, SkipsBlanks, SkipsComment, StepsIn};
+
+    /// Uses blanks. Holds the byte after them, or tells by None that the text ended.
+    pub(super) fn skip_blanks<I: Inputs>(&mut self, inputs: &mut I) -> Result<Option<u8>, LexFault>
+        ensures answers { Between (I.left inputs.old) (I.left inputs.new) (λ old new.
+            SkipsBlanks result (self.old.since - held_count self.old.held) (unread self.old.held old) (unread self.new.held new)) }
+        ensures held { IfOk result (λ byte. self.new.held ≡ byte) }
+        ensures solid { IsSolid result }
+        ensures advances { Advances self.old self.new }
+        ensures taken { Between (I.left inputs.old) (I.left inputs.new) (λ old new.
+            self.new.taken + length new ≡ self.old.taken + length old) }
+        ensures bytes { IsErrOf result LexFault.Bytes → self.new.taken ≡ self.new.most }
+        ensures reads { CountsFaults result (I.read_faults inputs.old) (I.read_faults inputs.new) }
+        ensures reads_later { I.read_faults inputs.old ≤ I.read_faults inputs.new }
+        ensures opens { I.open_faults inputs.new ≡ I.open_faults inputs.old }
+        ensures texts { I.texts inputs.new ≡ I.texts inputs.old }
+    {
+        'blanks: loop {
+            match self.peek(inputs) {
+                Ok(Some(b'/')) => match self.skip_comment(inputs) {
+                    Ok(()) => {}
+                    Err(fault) => return Err(fault),
+                },
+                Ok(Some(byte)) => {
+                    if !is_space(byte) {
+                        return Ok(Some(byte));
+                    }
+                    self.held = None;
+                }
+                Ok(None) => return Ok(None),
+                Err(fault) => return Err(fault),
+            }
+        }
+    }
+
+    /// Uses a comment, the first byte of which is held.
+    fn skip_comment<I: Inputs>(&mut self, inputs: &mut I) -> Result<(), LexFault>
+        requires { self.old.held ≡ Some 47 }
+        ensures answers { Between (I.left inputs.old) (I.left inputs.new) (λ old new.
+            SkipsComment result (self.old.since - 1) (47 ∷ old) (unread self.new.held new)) }
+        ensures progress { OnOk result (self.old.taken + held_count self.new.held < self.new.taken + held_count self.old.held) }
+        ensures advances { Advances self.old self.new }
+        ensures taken { Between (I.left inputs.old) (I.left inputs.new) (λ old new.
+            self.new.taken + length new ≡ self.old.taken + length old) }
+        ensures bytes { IsErrOf result LexFault.Bytes → self.new.taken ≡ self.new.most }
+        ensures reads { CountsFaults result (I.read_faults inputs.old) (I.read_faults inputs.new) }
+        ensures reads_later { I.read_faults inputs.old ≤ I.read_faults inputs.new }
+        ensures opens { I.open_faults inputs.new ≡ I.open_faults inputs.old }
+        ensures texts { I.texts inputs.new ≡ I.texts inputs.old }
+    {
+        self.held = None;
+        match self.peek(inputs) {
+            Ok(Some(b'*')) => {
+                self.held = None;
+                self.close_comment(inputs)
+            }
+            Ok(Some(_)) => Err(LexFault::BadToken(self.since - 2)),
+            Ok(None) => Err(LexFault::OpenToken),
+            Err(fault) => Err(fault),
+        }
+    }
+
+    /// Uses the rest of a comment, the first two bytes of which were used.
+    fn close_comment<I: Inputs>(&mut self, inputs: &mut I) -> Result<(), LexFault>
+        requires room { 1 < self.old.taken }
+        requires held { self.old.held ≡ None }
+        ensures answers { Between (I.left inputs.old) (I.left inputs.new) (λ old new.
+            ClosesComment result old (unread self.new.held new)) }
+        ensures advances { Advances self.old self.new }
+        ensures taken { Between (I.left inputs.old) (I.left inputs.new) (λ old new.
+            self.new.taken + length new ≡ self.old.taken + length old) }
+        ensures bytes { IsErrOf result LexFault.Bytes → self.new.taken ≡ self.new.most }
+        ensures reads { CountsFaults result (I.read_faults inputs.old) (I.read_faults inputs.new) }
+        ensures reads_later { I.read_faults inputs.old ≤ I.read_faults inputs.new }
+        ensures opens { I.open_faults inputs.new ≡ I.open_faults inputs.old }
+        ensures texts { I.texts inputs.new ≡ I.texts inputs.old }
+    {
+        let mut depth = 1;
+        'comment: while depth > 0 {
+            depth = match self.step_in(inputs, depth) {
+                Ok(next) => next,
+                Err(fault) => return Err(fault),
+            };
+        }
+        Ok(())
+    }
+
+    /// One step inside comments that are open to a depth: past a byte, or past two that open or close one. Tells how
+    /// deep it is from there on.
+    fn step_in<I: Inputs>(&mut self, inputs: &mut I, depth: u64) -> Result<u64, LexFault>
+        requires room { depth + held_count self.old.held < self.old.taken }
+        requires inside { 0 < depth }
+        ensures answers { Between (I.left inputs.old) (I.left inputs.new) (λ old new.
+            StepsIn result depth (unread self.old.held old) (unread self.new.held new)) }
+        ensures deeper { IfOk result (λ next.
+            next + self.old.taken + held_count self.new.held ≤ depth + self.new.taken + held_count self.old.held) }
+        ensures progress { OnOk result (self.old.taken + held_count self.new.held < self.new.taken + held_count self.old.held) }
+        ensures advances { Advances self.old self.new }
+        ensures taken { Between (I.left inputs.old) (I.left inputs.new) (λ old new.
+            self.new.taken + length new ≡ self.old.taken + length old) }
+        ensures bytes { IsErrOf result LexFault.Bytes → self.new.taken ≡ self.new.most }
+        ensures reads { CountsFaults result (I.read_faults inputs.old) (I.read_faults inputs.new) }
+        ensures reads_later { I.read_faults inputs.old ≤ I.read_faults inputs.new }
+        ensures opens { I.open_faults inputs.new ≡ I.open_faults inputs.old }
+        ensures texts { I.texts inputs.new ≡ I.texts inputs.old }
+    {
+        let first = match self.take(inputs) {
+            Ok(Some(byte)) => byte,
+            Ok(None) => return Err(LexFault::OpenComment),
+            Err(fault) => return Err(fault),
+        };
+        let second = match self.peek(inputs) {
+            Ok(Some(byte)) => byte,
+            Ok(None) => return Err(LexFault::OpenComment),
+            Err(fault) => return Err(fault),
+        };
+        if closes(first, second) {
+            self.held = None;
+            return Ok(depth - 1);
+        }
+        if opens(first, second) {
+            self.held = None;
+            return Ok(depth + 1);
+        }
+        Ok(depth)
+    }
+}
+
+/// Whether two bytes close a comment.
+fn closes(first: u8, second: u8) -> bool
+    ensures { result ≡ ((first == 42) && (second == 47)) }
+{
+    first == b'*' && second == b'/'
+}
+
+/// Whether two bytes open a comment.
+fn opens(first: u8, second: u8) -> bool
+    ensures { result ≡ ((first == 47) && (second == 42)) }
+{
+    first == b'/' && second == b'*'
+}
