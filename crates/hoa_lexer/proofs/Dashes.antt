@@ -7,7 +7,7 @@ use Rattle.hoa_lexer.specs.Spelling.{Spells, closes_itself}
 use Rattle.hoa_lexer.specs.Steps.{Expects, IsDashed, IsReadFault, Pauses, ReadsToken, ReadsWord}
 use Rattle.hoa_lexer.specs.Text.{IsFront, HasFront, Begins, IsOpenToken, IsNoToken}
 use Rattle.hoa_lexer.proofs.Comments.{unheld}
-use Rattle.hoa_lexer.proofs.FirstBytes.{token_kind, front_head}
+use Rattle.hoa_lexer.proofs.FirstBytes.{token_kind, front_head, solid}
 use Rattle.hoa_lexer.specs.declared.token.LexFault.{LexFault}
 use Rattle.hoa_lexer.specs.declared.token.LexFault.TheVariants.{BadToken, OpenComment, OpenString, OpenToken, Read, Bytes, Memory}
 use Rattle.hoa_lexer.specs.declared.token.Token.{Token}
@@ -55,6 +55,7 @@ second_at b bs rest (inr (inr e)) = cc
 pub dash_bad : (b : ℕ) (x z : List ℕ) → x ≡ b ∷ z → (b ≡ 45 → ⊥) → IsNoToken (45 ∷ x)
 dash_bad b x z e n = record {
   some = λ k. cc;
+  no_space = solid 45 _ refl;
   no_comment = λ rest k. no_slash_here k;
   no_slash = λ k. no_slash_here k;
   no_token = λ t. n (second_at b (z ++ t.more) _ (subst (λ (w : List ℕ). IsTail w t.front.rest) (ap (λ w. w ++ t.more) e) (front_tail (x ++ t.more) t.front)));
@@ -96,6 +97,7 @@ third_at b bs rest (inr (inr e)) = inr (inr (cc))
 pub dashes_bad : (b : ℕ) (x z : List ℕ) → x ≡ b ∷ z → (b ≡ 66 → ⊥) → (b ≡ 69 → ⊥) → (b ≡ 65 → ⊥) → IsNoToken (45 ∷ 45 ∷ x)
 dashes_bad b x z e n m o = record {
   some = λ k. cc;
+  no_space = solid 45 _ refl;
   no_comment = λ rest k. no_slash_here k;
   no_slash = λ k. no_slash_here k;
   no_token = λ t.
@@ -197,6 +199,7 @@ tail_answer token letter offset h tail x z d k e =
 tail_no_token : (token : Token) (letter b c : ℕ) (tail seen x more : List ℕ) → IsDashed token letter tail → Expects tail seen b → x ≡ seen ++ c ∷ more → (c ≡ b → ⊥) → IsNoToken (45 ∷ 45 ∷ letter ∷ x)
 tail_no_token token letter b c tail seen x more d w e n = record {
   some = λ k. cc;
+  no_space = solid 45 _ refl;
   no_comment = λ rest k. no_slash_here k;
   no_slash = λ k. no_slash_here k;
   no_token = tail_bad token letter b c tail seen x more d w e n;

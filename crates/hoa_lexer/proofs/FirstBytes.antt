@@ -1,6 +1,6 @@
 -- The first byte of a spelled word tells the kind of its token.
-use Rattle.std.proofs.Common.{◌≡◌, ◌≢◌, ℕ, ◌<◌, true, false, cond, List, [], ◌∷◌, ◌++◌, refl, sym, subst, ◌∙◌, ap, arith, Option, None, is_some, not}
-use Rattle.std.proofs.lemmas.Bool.{false≢true}
+use Rattle.std.proofs.Common.{◌≡◌, ◌≢◌, ℕ, ◌<◌, true, false, cond, List, [], ◌∷◌, ◌++◌, refl, sym, subst, ◌∙◌, ap, arith, Option, None, is_some, not, ⊎_elim}
+use Rattle.std.proofs.lemmas.Bool.{false≢true, cases_Bool}
 use Rattle.std.proofs.lemmas.Bool.Decides.{nat_tests}
 use Rattle.hoa_lexer.specs.Bytes.{is_digit, is_letter, is_space}
 use Rattle.hoa_lexer.specs.Spelling.{Spells, closes_itself}
@@ -198,10 +198,19 @@ mark_holds (Int n) h b m e = absurd m
 mark_holds (Alias name) h b m e = absurd m
 mark_holds _ h b m e = absurd m
 
+-- the first byte is no space
+pub solid : (b : ℕ) (x : List ℕ) → is_space b ≡ false → (c : ℕ) (rest : List ℕ) → b ∷ x ≡ c ∷ rest → is_space c ≡ true → ⊥
+solid b x n c rest e h = let same : b ≡ c = cc in false≢true (sym n ∙ ap is_space same ∙ h)
+
+-- a digit is no space
+pub digit_no_space : (b : ℕ) → is_digit b ≡ true → is_space b ≡ false
+digit_no_space b d = ⊎_elim (λ h. absurd (no_space (Int 0) b (kind_digit b d) h)) (λ h. h) (cases_Bool (is_space b))
+
 -- a byte of no kind begins no token, however the text goes on
-pub no_kind_token : (b : ℕ) (x : List ℕ) → is_letter b ≡ false → is_digit b ≡ false → (b ≡ 34 → ⊥) → (b ≡ 64 → ⊥) → (b ≡ 45 → ⊥) → (b ≡ 47 → ⊥) → ((t : Token) → IsMark t b → ⊥) → IsNoToken (b ∷ x)
-no_kind_token b x l d s a m o k = record {
+pub no_kind_token : (b : ℕ) (x : List ℕ) → is_space b ≡ false → is_letter b ≡ false → is_digit b ≡ false → (b ≡ 34 → ⊥) → (b ≡ 64 → ⊥) → (b ≡ 45 → ⊥) → (b ≡ 47 → ⊥) → ((t : Token) → IsMark t b → ⊥) → IsNoToken (b ∷ x)
+no_kind_token b x n l d s a m o k = record {
   some = λ e. cc;
+  no_space = solid b x n;
   no_comment = λ rest e. o (let same : b ≡ 47 = cc in same);
   no_slash = λ e. o (let same : b ≡ 47 = cc in same);
   no_token = λ t.

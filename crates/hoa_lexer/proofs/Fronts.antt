@@ -9,7 +9,7 @@ use Rattle.hoa_lexer.specs.Reading.{unread, held_count, Answers}
 use Rattle.hoa_lexer.specs.Steps.{closing, Peeks, ClosesComment, IsReadFault, IsSolid, Skips, SkipsComment, SkipsBlanks, Pauses, ReadsToken}
 use Rattle.hoa_lexer.specs.Text.{IsFront, HasFront, IsNext, AfterBlanks, IsOpenString, IsOpenToken, IsNoToken, AsksForMore}
 use Rattle.hoa_lexer.proofs.Comments.{closing_after, closing_sound, unheld, holding, steps_out, steps_in, steps_on}
-use Rattle.hoa_lexer.proofs.FirstBytes.{front_head, no_front, no_space, no_slash}
+use Rattle.hoa_lexer.proofs.FirstBytes.{front_head, no_front, no_space, no_slash, solid}
 use Rattle.hoa_lexer.specs.declared.token.LexFault.{LexFault}
 use Rattle.hoa_lexer.specs.declared.token.LexFault.TheVariants.{BadToken, OpenComment, OpenString, OpenToken, Read, Bytes, Memory}
 use Rattle.hoa_lexer.specs.declared.token.Token.{Token}
@@ -26,20 +26,20 @@ front_slash bs f = no_slash f.token (front_head 47 bs f.token f.rest f.front).ki
 along : (a b : List ℕ) → a ≡ b → HasFront a → HasFront b
 along a b e f = subst HasFront e f
 
-front_spaces : (b : ℕ) (bs bytes : List ℕ) → is_space b ≡ true → bytes ≡ b ∷ bs → HasFront bytes → ⊥
+pub front_spaces : (b : ℕ) (bs bytes : List ℕ) → is_space b ≡ true → bytes ≡ b ∷ bs → HasFront bytes → ⊥
 front_spaces b bs bytes h e f = front_space b bs h (along _ _ e f)
 
-front_slashes : (bs bytes : List ℕ) → bytes ≡ 47 ∷ bs → HasFront bytes → ⊥
+pub front_slashes : (bs bytes : List ℕ) → bytes ≡ 47 ∷ bs → HasFront bytes → ⊥
 front_slashes bs bytes e f = front_slash bs (along _ _ e f)
 
-space_no_slash : (b : ℕ) → is_space b ≡ true → b ≡ 47 → ⊥
+pub space_no_slash : (b : ℕ) → is_space b ≡ true → b ≡ 47 → ⊥
 space_no_slash b h e = false≢true (ap is_space (sym e) ∙ h)
 
 pub skips_none : (x : List ℕ) → Skips x x
 skips_none x = record { before = []; split = refl; blanks = nothing }
 
 -- two comments that open at one place close at one place
-same_close : (body body' bs bs' xs xs' : List ℕ) → Closes 1 body → Closes 1 body' → (body ++ bs) ++ xs ≡ (body' ++ bs') ++ xs' → bs ++ xs ≡ bs' ++ xs'
+pub same_close : (body body' bs bs' xs xs' : List ℕ) → Closes 1 body → Closes 1 body' → (body ++ bs) ++ xs ≡ (body' ++ bs') ++ xs' → bs ++ xs ≡ bs' ++ xs'
 same_close body body' bs bs' xs xs' h k e =
     let here = closing_after 1 body (bs ++ xs) h in
     let there = closing_after 1 body' (bs' ++ xs') k in
@@ -52,7 +52,7 @@ after_space : (b : ℕ) (bs : List ℕ) (P : List ℕ → Type 0) → is_space b
 after_space b bs P h a = record { before = b ∷ a.before; bytes = a.bytes; split = ap (λ xs. b ∷ xs) a.split; blanks = space h a.blanks; holds = a.holds }
 
 -- Where blanks are passed, and a token stands after others, it stands after the rest of those.
-front_after : (before before' x y : List ℕ) → IsBlanks before → IsBlanks before' → before ++ x ≡ before' ++ y → HasFront y → AfterBlanks x HasFront
+pub front_after : (before before' x y : List ℕ) → IsBlanks before → IsBlanks before' → before ++ x ≡ before' ++ y → HasFront y → AfterBlanks x HasFront
 front_after before before' x y nothing k e f = record { before = before'; bytes = y; split = e; blanks = k; holds = f }
 front_after (b ∷ bs) before' x y (space h r) nothing e f = absurd (front_spaces b (bs ++ x) y h (sym e) f)
 front_after (b ∷ bs) (c ∷ cs) x y (space h r) (space k s) e f = front_after bs cs x y r s (let whole : b ∷ (bs ++ x) ≡ c ∷ (cs ++ y) = e in cc) f
@@ -216,6 +216,7 @@ skip_bad k start b x y z s n e = record {
     ap (λ v. v + length (47 ∷ x)) s,
     record {
       some = λ w. cc;
+      no_space = solid 47 x refl;
       no_comment = λ rest w. n (let same : b ∷ y ≡ 42 ∷ rest = cc in cc);
       no_slash = λ w. let same : b ∷ y ≡ [] = cc in cc;
       no_token = λ w. front_slash (x ++ w.more) w.front;

@@ -1,6 +1,7 @@
 pub mod Between
 pub mod Comments
 pub mod Dashes
+pub mod Exclusive
 pub mod FirstBytes
 pub mod Fronts
 pub mod Numbers

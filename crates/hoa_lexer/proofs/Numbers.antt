@@ -12,7 +12,7 @@ use Rattle.hoa_lexer.specs.Spelling.{Spells, Ends, StopsAt, IsNumeral, value_of,
 use Rattle.hoa_lexer.specs.Steps.{IsReadFault, ReadsToken}
 use Rattle.hoa_lexer.specs.Text.{IsFront, HasFront, Begins, IsOpenToken, IsNoToken}
 use Rattle.hoa_lexer.proofs.Comments.{unheld, holding}
-use Rattle.hoa_lexer.proofs.FirstBytes.{token_kind, kind_digit, front_head}
+use Rattle.hoa_lexer.proofs.FirstBytes.{token_kind, kind_digit, digit_no_space, front_head, solid}
 use Rattle.hoa_lexer.proofs.Words.{stops_not, all_push}
 use Rattle.hoa_lexer.specs.declared.token.LexFault.{LexFault}
 use Rattle.hoa_lexer.specs.declared.token.LexFault.TheVariants.{BadToken, OpenComment, OpenString, OpenToken, Read, Bytes, Memory}
@@ -163,6 +163,7 @@ number_great_at _ first seen more tail rest k v g s e p h = absurd (omega arith)
 pub number_great : (first value : ℕ) (x y : List ℕ) → is_digit first ≡ true → 0 < first - 48 → 2 ^ 32 ≤ value → IsDigits first value x y → IsNoToken (first ∷ x)
 number_great first value x y d v g w = record {
   some = λ k. cc;
+  no_space = solid first x (digit_no_space first d);
   no_comment = λ rest k. digit_no_slash first d (let same : first ≡ 47 = cc in same);
   no_slash = λ k. digit_no_slash first d (let same : first ≡ 47 = cc in same);
   no_token = λ t.

@@ -10,7 +10,7 @@ use Rattle.hoa_lexer.specs.Spelling.{Spells, Ends, StopsAt, IsIdentifier, IsAlia
 use Rattle.hoa_lexer.specs.Steps.{AddsWord, AddsWords, ReadsToken}
 use Rattle.hoa_lexer.specs.Text.{IsFront, HasFront, Begins, IsOpenToken, IsNoToken}
 use Rattle.hoa_lexer.proofs.Comments.{unheld}
-use Rattle.hoa_lexer.proofs.FirstBytes.{token_kind, kind_letter, front_head}
+use Rattle.hoa_lexer.proofs.FirstBytes.{token_kind, kind_letter, front_head, solid}
 use Rattle.hoa_lexer.specs.declared.token.LexFault.{LexFault}
 use Rattle.hoa_lexer.specs.declared.token.LexFault.TheVariants.{BadToken, OpenComment, OpenString, OpenToken, Read, Bytes, Memory}
 use Rattle.hoa_lexer.specs.declared.token.Token.{Token}
@@ -155,6 +155,7 @@ no_alias_at _ b z tail rest k s p w = absurd (omega arith)
 pub alias_bad : (b : ℕ) (x z : List ℕ) → x ≡ b ∷ z → is_word b ≡ false → IsNoToken (64 ∷ x)
 alias_bad b x z e w = record {
   some = λ k. cc;
+  no_space = solid 64 x refl;
   no_comment = λ rest k. cc;
   no_slash = λ k. cc;
   no_token = λ t.

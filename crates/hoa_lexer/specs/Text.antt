@@ -1,6 +1,7 @@
 -- The tokens of a text. Each is the longest that the bytes allow.
-use Rattle.std.specs.Prelude.{◌≡◌, ◌≢◌, ℕ, ◌+◌, ◌-◌, ◌⊎◌, List, [], ◌∷◌, ◌++◌, length}
+use Rattle.std.specs.Prelude.{◌≡◌, ◌≢◌, ℕ, ◌+◌, ◌-◌, ◌⊎◌, true, List, [], ◌∷◌, ◌++◌, length}
 use Rattle.hoa_lexer.specs.Blanks.{IsBlanks}
+use Rattle.hoa_lexer.specs.Bytes.{is_space}
 use Rattle.hoa_lexer.specs.Spelling.{Spells, Ends, Quotes}
 use Rattle.hoa_lexer.specs.declared.token.Token.{Token}
 
@@ -58,9 +59,10 @@ pub record IsOpenToken (bytes : List ℕ) : Type 0 where
   pub unclosed : HasFront bytes → ⊥
   pub begins : (bytes ≡ 47 ∷ []) ⊎ Begins bytes
 
--- no token and no comment begins so, however the text goes on
+-- no blank stands here, and no token and no comment begins so, however the text goes on
 pub record IsNoToken (bytes : List ℕ) : Type 0 where
   pub some : bytes ≢ []
+  pub no_space : (b : ℕ) (rest : List ℕ) → bytes ≡ b ∷ rest → is_space b ≡ true → ⊥
   pub no_comment : (rest : List ℕ) → bytes ≢ 47 ∷ 42 ∷ rest
   pub no_slash : bytes ≢ 47 ∷ []
   pub no_token : Begins bytes → ⊥

@@ -13,7 +13,7 @@ returns-in-None-clause-answers g c =
     let left = g.I.Inputs.left in
     between_same (left c.args.inputs.now) _ (λ x. (
       refl,
-      no_kind_token c.args.first x
+      no_kind_token c.args.first x c.requires.space
           (sym c.is_letter.ensures ∙ c.if-is_letter.false) (sym c.is_digit.ensures ∙ c.if-is_digit.false)
           (λ (e : c.args.first ≡ 34). omega arith) (λ (e : c.args.first ≡ 64). omega arith) (λ (e : c.args.first ≡ 45). omega arith) c.requires.slash c.in-None.ensures,
     ))
