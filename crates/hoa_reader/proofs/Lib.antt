@@ -6,5 +6,6 @@ pub mod Exits
 pub mod Fronts
 pub mod Headers
 pub mod Loops
+pub mod OneForm
 pub mod Properties
 pub mod RawTrees

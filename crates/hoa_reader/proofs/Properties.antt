@@ -1,5 +1,5 @@
 -- The words of a `properties:` line, as they stand in tokens.
-use Rattle.std.proofs.Common.{◌≡◌, ℕ, true, List, ◌∷◌, ◌++◌, Option, Some, None, map, codes, sym, ap, ◌∙◌, subst, All}
+use Rattle.std.proofs.Common.{◌≡◌, refl, ℕ, true, List, ◌∷◌, ◌++◌, Option, Some, None, map, codes, sym, ap, ◌∙◌, subst, All}
 use Rattle.hoa_lexer.specs.declared.token.Token.{Token}
 use Rattle.hoa_lexer.specs.declared.token.Token.TheVariants as token
 use Rattle.hoa_reader.proofs.Fronts.{front_same}
@@ -28,3 +28,12 @@ same_words (Some w) None tokens rest tail p q a found = absurd (found.ends _ (sy
 same_words (Some w) (Some v) tokens rest tail p q a found =
     let both = sym found.split ∙ a in
     (front_same token.Identifier same_identifier v w rest tail (cc) found.ends p).1
+
+-- the words and what follows them are determined
+pub same_lines : (ws vs : Option (List (List ℕ))) (r s : List Token) → ((word : List ℕ) (more : List Token) → r ≡ token.Identifier word ∷ more → ⊥) → ((more : List Token) → r ≡ token.HeaderName (codes "properties") ∷ more → ⊥) → ((word : List ℕ) (more : List Token) → s ≡ token.Identifier word ∷ more → ⊥) → ((more : List Token) → s ≡ token.HeaderName (codes "properties") ∷ more → ⊥) → property_tokens ws ++ r ≡ property_tokens vs ++ s → (ws ≡ vs) × (r ≡ s)
+same_lines None None r s p q p' q' e = (refl, e)
+same_lines None (Some v) r s p q p' q' e = absurd (q _ e)
+same_lines (Some w) None r s p q p' q' e = absurd (q' _ (sym e))
+same_lines (Some w) (Some v) r s p q p' q' e =
+    let same = front_same token.Identifier same_identifier w v r s (cc) p p' in
+    (ap Some same.0, same.1)

@@ -1,9 +1,11 @@
 //! From bytes to one automaton.
 
-ghost use Rattle.std.specs.Prelude.{◌≡◌, ◌+◌, ◌≤◌, ◌<◌, length, None, false, IfOk, OnOk, IsSome, IsErrOf, IsTrue, ◌↔◌};
+ghost use Rattle.std.specs.Prelude.{◌≡◌, ◌+◌, ◌≤◌, ◌<◌, length, None, false, IfOk, IfSome, OnOk, IsSome, IsErrOf, IsTrue, ◌↔◌};
 ghost use Rattle.hoa_lexer.specs.Reading.{Between, held_count, unread};
 ghost use Rattle.hoa_lexer.specs.declared.token.Token.{Token};
 ghost use Rattle.hoa_reader.specs.Collecting.{AnswersOne, Collects, HoldsAfter};
+ghost use Rattle.hoa_reader.specs.Describing.{HasFirstForm};
+ghost use Rattle.hoa_reader.specs.Raw.{written};
 ghost use Rattle.hoa_reader.specs.Reads.{Answers, CountsFaults};
 
 use crate::parse::{ParseFault, parse};
@@ -102,6 +104,7 @@ pub fn read_raw<I: Inputs>(
     // The answer, by the bytes that were not read yet.
     ensures answers { Between (I.left inputs.old) (I.left inputs.new) (λ old new.
         Answers result (unread lexer.old.held old) (unread lexer.new.held new)) }
+    ensures form { IfOk result (λ raw. IfSome raw (λ raw. HasFirstForm (written raw))) }
     ensures held { OnOk result (lexer.new.held ≡ None) }
     ensures spent { OnOk result (lexer.new.spent ≡ false) }
 
