@@ -2,4 +2,5 @@ pub mod Acceptance
 pub mod Automaton
 pub mod Formula
 pub mod Label
+pub mod Marks
 pub mod Word
