@@ -1,5 +1,10 @@
+pub mod Copies
+pub mod FormulaTrees
 pub mod LabelTrees
 pub mod LetterNames
 pub mod Places
+pub mod SameEdges
+pub mod SameWord
+pub mod Spelled
 pub mod Texts
-pub mod FormulaTrees
+pub mod Walks
