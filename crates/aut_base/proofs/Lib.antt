@@ -1,7 +1,9 @@
 pub mod Copies
+pub mod Examples
 pub mod FormulaTrees
 pub mod LabelTrees
 pub mod LetterNames
+pub mod OneState
 pub mod Places
 pub mod SameEdges
 pub mod SameWord

@@ -60,7 +60,14 @@ all-map : {A B : Type 0} (p : B → Bool) (f : A → B) (xs : List A) → list_a
 all-map p f [] = refl
 all-map p f (x ∷ xs) = ap (λ b. p (f x) && b) (all-map p f xs)
 
--- a cycle gone round some times, turned to begin at another place
+-- a cycle gone round some times
+pub gone_alike : {A B : Type 0} (f : A → B) (k : ℕ) (cycle : List A) → 0 < k → Alike (map f (copies k cycle)) (map f cycle)
+gone_alike f k cycle some = record {
+  some = λ p. any-map p f _ ∙ (any-copies (λ x. p (f x)) k cycle some ∙ sym (any-map p f cycle));
+  each = λ p. all-map p f _ ∙ (all-copies (λ x. p (f x)) k cycle some ∙ sym (all-map p f cycle));
+}
+
+-- the same, turned to begin at another place
 pub turned_alike : {A B : Type 0} (f : A → B) (k n : ℕ) (cycle : List A) → 0 < k → Alike (map f (drop n (copies k cycle) ++ take n (copies k cycle))) (map f cycle)
 turned_alike f k n cycle some = record {
   some = λ p. any-map p f _ ∙ (any-turned (λ x. p (f x)) n (copies k cycle) ∙ (any-copies (λ x. p (f x)) k cycle some ∙ sym (any-map p f cycle)));
