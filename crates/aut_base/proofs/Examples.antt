@@ -1,5 +1,5 @@
 -- The worked examples.
-use Rattle.std.proofs.Common.{◌≡◌, ◌≢◌, ◌∙◌, ◌⊎◌, inl, inr, ℕ, zero, suc, ◌<◌, Bool, true, false, not, ◌||◌, refl, sym, ap, subst, lit<, List, ◌∷◌, [], ◌++◌, map, Contains, get_or, IsTrue, arith}
+use Rattle.std.proofs.Common.{◌≡◌, ◌∙◌, ◌⊎◌, inl, inr, ℕ, zero, suc, ◌<◌, Bool, true, false, not, ◌||◌, refl, sym, ap, subst, lit<, List, ◌∷◌, [], map, Contains, get_or, arith}
 use Rattle.std.specs.FinSet as set
 use Rattle.std.specs.List.{list_any}
 use Rattle.std.specs.Cmp.Lexicographic.{slice_cmp}
@@ -8,7 +8,7 @@ use Rattle.std.proofs.lemmas.Bool.{false≢true, cases_eq, and_left}
 use Rattle.std.proofs.lemmas.Cmp.{nat_list_cmp_total}
 use Rattle.aut_base.specs.Acceptance.{Accepts, IsPath}
 use Rattle.aut_base.specs.Automaton.{Arrow}
-use Rattle.aut_base.specs.Examples.{name_a, on, off, edge, a, one_state, again, so_often, ever_after, off_again, never, barred, WorkedExamples}
+use Rattle.aut_base.specs.Examples.{name_a, on, off, edge, a, one_state, ever_after, never, barred, WorkedExamples}
 use Rattle.aut_base.specs.Formula.{FormulaTree, met}
 use Rattle.aut_base.specs.Label.{truth, holds_at, LabelTree}
 use Rattle.aut_base.specs.Marks.{is_in}

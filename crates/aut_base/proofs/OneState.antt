@@ -1,8 +1,8 @@
 -- An automaton with one state accepts a word exactly where the marks along the word's cycle meet its condition.
-use Rattle.std.proofs.Common.{◌≡◌, ◌∙◌, ◌↔◌, ℕ, zero, suc, ◌<◌, Bool, true, false, not, List, [], ◌∷◌, ◌++◌, map, Contains, get_or, if◌then◌else◌, lit<, refl, sym, ap, subst, arith}
+use Rattle.std.proofs.Common.{◌≡◌, ◌∙◌, ◌↔◌, ℕ, zero, suc, ◌<◌, Bool, true, false, not, List, [], ◌∷◌, ◌++◌, map, Contains, get_or, lit<, refl, sym, ap, subst, arith}
 use Rattle.std.specs.FinSet.{contains}
 use Rattle.aut_base.specs.Acceptance.{Accepts, IsPath}
-use Rattle.aut_base.specs.Automaton.{Arrow, Automaton}
+use Rattle.aut_base.specs.Automaton.{Arrow}
 use Rattle.aut_base.specs.Examples.{name_a, edge, a, one_state}
 use Rattle.aut_base.specs.Formula.{FormulaTree, met}
 use Rattle.aut_base.specs.Label.{LabelTree, truth, holds_at}

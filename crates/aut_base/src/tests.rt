@@ -3,10 +3,9 @@
 ghost use Rattle.std.specs.Prelude.{◌≡◌, ◌<◌, ◌≤◌, ℕ, [], ◌∷◌, length, IfOk};
 ghost use Rattle.aut_base.specs.Label.{AllBelow, label_tree};
 
+use crate::{Formula, Formulas, Label, Labels, Letter, Marks, Memory, Text};
 use std::alloc::Global;
 use std::test::Fail;
-
-use crate::{Formula, Formulas, Label, Labels, Letter, Marks, Memory, Text};
 
 fn letter(alloc: Global, names: &[u8]) -> Result<Letter, Memory> {
     let mut letter = Letter::new(alloc);
