@@ -1,6 +1,8 @@
 pub mod Copies
 pub mod Examples
+pub mod FormulaSizes
 pub mod FormulaTrees
+pub mod LabelSizes
 pub mod LabelTrees
 pub mod LetterNames
 pub mod OneState

@@ -1,5 +1,5 @@
 -- What an acceptance condition says, apart from how it lies in memory (HOA v1, Acceptance).
-use Rattle.std.specs.Prelude.{◌<◌, ℕ, Bool, true, false, not, ◌&&◌, ◌||◌, List, [], ◌∷◌}
+use Rattle.std.specs.Prelude.{◌+◌, ◌<◌, ℕ, Bool, true, false, not, ◌&&◌, ◌||◌, List, [], ◌∷◌}
 use Rattle.std.specs.List.{list_any, list_all}
 use Rattle.aut_base.specs.Marks.{is_in}
 use Rattle.aut_base.specs.declared.formula.Formula.{Formula}
@@ -56,6 +56,20 @@ abbrev mutual
   pub EachSetsBelow : ℕ → FormulaTrees → Type 0
   EachSetsBelow n none = Unit {0}
   EachSetsBelow n (more f fs) = SetsBelow n f × EachSetsBelow n fs
+
+-- The number of signs in a condition, by which a recursion over its parts ends.
+abbrev mutual
+  pub formula_size : FormulaTree → ℕ
+  formula_size True = 1
+  formula_size False = 1
+  formula_size (Inf set neg) = 1
+  formula_size (Fin set neg) = 1
+  formula_size (And a b cs) = 1 + (formula_size a + (formula_size b + formulas_size cs))
+  formula_size (Or a b cs) = 1 + (formula_size a + (formula_size b + formulas_size cs))
+
+  pub formulas_size : FormulaTrees → ℕ
+  formulas_size none = 0
+  formulas_size (more f fs) = formula_size f + formulas_size fs
 
 -- the list, as a tree holds it
 abbrev pub trees : List FormulaTree → FormulaTrees
