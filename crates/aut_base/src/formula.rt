@@ -148,6 +148,7 @@ impl Formulas {
     }
 }
 
+// Copies of these, in order.
 #[cycle(formula_copy)]
 fn copy_all(alloc: Global, parts: &[Formula]) -> Result<Vec<Formula>, Memory>
     ensures { IfOk result (λ new. map formula_tree new.items ≡ map formula_tree parts.now) }
@@ -160,6 +161,7 @@ fn copy_all(alloc: Global, parts: &[Formula]) -> Result<Vec<Formula>, Memory>
     Ok(copies)
 }
 
+// Whether each of these is met by the cycle.
 #[cycle(formula_met)]
 fn all_met(parts: &[Formula], cycle: &[Marks]) -> bool
     requires { 0 < length cycle.now }
@@ -173,6 +175,7 @@ fn all_met(parts: &[Formula], cycle: &[Marks]) -> bool
     true
 }
 
+// Whether one of these is met by the cycle.
 #[cycle(formula_met)]
 fn some_met(parts: &[Formula], cycle: &[Marks]) -> bool
     requires { 0 < length cycle.now }

@@ -150,6 +150,7 @@ impl Labels {
     }
 }
 
+// Copies of these, in order.
 #[cycle(label_copy)]
 fn copy_all(alloc: Global, parts: &[Label]) -> Result<Vec<Label>, Memory>
     ensures { IfOk result (λ new. map label_tree new.items ≡ map label_tree parts.now) }
@@ -162,6 +163,7 @@ fn copy_all(alloc: Global, parts: &[Label]) -> Result<Vec<Label>, Memory>
     Ok(copies)
 }
 
+// Whether each of these is true.
 #[cycle(label_truth)]
 fn all_true(parts: &[Label], on: &[bool]) -> bool
     requires { EachBelow (length on.now) (trees (map label_tree parts.now)) }
@@ -175,6 +177,7 @@ fn all_true(parts: &[Label], on: &[bool]) -> bool
     true
 }
 
+// Whether one of these is true.
 #[cycle(label_truth)]
 fn some_true(parts: &[Label], on: &[bool]) -> bool
     requires { EachBelow (length on.now) (trees (map label_tree parts.now)) }
@@ -188,6 +191,7 @@ fn some_true(parts: &[Label], on: &[bool]) -> bool
     false
 }
 
+// Whether each of these holds of the letter.
 #[cycle(label_holds)]
 fn all_hold(parts: &[Label], names: &Names, letter: &Letter) -> bool
     requires { EachBelow (length names.now) (trees (map label_tree parts.now)) }
@@ -201,6 +205,7 @@ fn all_hold(parts: &[Label], names: &Names, letter: &Letter) -> bool
     true
 }
 
+// Whether one of these holds of the letter.
 #[cycle(label_holds)]
 fn some_hold(parts: &[Label], names: &Names, letter: &Letter) -> bool
     requires { EachBelow (length names.now) (trees (map label_tree parts.now)) }

@@ -63,7 +63,7 @@ impl Names {
         place_of(&self.items, name).is_some()
     }
 
-    /// The place of this name, from 0, if it is in the list.
+    /// The place of this name, from 0, or `None` exactly where the list doesn't have it.
     pub fn position(&self, name: &Text) -> Option<u32>
         requires { length self.now ≤ 2 ^ 32 }
         ensures { MatchOption result (All (λ other. other ≢ name.now) self.now) (λ place. slice_get self.now place ≡ Some name.now) }
@@ -95,6 +95,7 @@ impl Names {
     }
 }
 
+// The place of this name, or `None` exactly where it isn't there.
 fn place_of(items: &[Text], name: &Text) -> Option<usize>
     ensures { MatchOption result (All (λ other. other ≢ name.now) items.now) (λ place. slice_get items.now place ≡ Some name.now) }
 {

@@ -3,7 +3,7 @@
 ghost use Rattle.std.specs.Prelude.{◌≡◌, ◌<◌, ◌≤◌, ℕ, [], ◌∷◌, length, IfOk};
 ghost use Rattle.aut_base.specs.Label.{AllBelow, label_tree};
 
-use crate::{Formula, Formulas, Label, Labels, Letter, Marks, Memory, Text};
+use crate::{Formula, Formulas, Label, Labels, Lasso, Letter, Letters, Marks, Memory, Text};
 use std::alloc::Global;
 use std::test::Fail;
 
@@ -114,5 +114,19 @@ fn names_of_letters(rt: HostRuntime) -> Result<(), Fail> {
     assert_eq!(rt; names.position(&Text::from_bytes(alloc, b"ab")?), None);
     assert!(rt; letter.has(&Text::from_bytes(alloc, b"a")?));
     assert!(rt; !letter.has(&Text::from_bytes(alloc, b"c")?));
+    Ok(())
+}
+
+#[test]
+fn lasso_word_with_empty_stem(rt: HostRuntime) -> Result<(), Fail> {
+    let alloc = rt.alloc();
+    let mut cycle = Letters::new(alloc);
+    cycle.push(letter(alloc, b"a")?)?;
+    let word = Lasso {
+        stem: Letters::new(alloc),
+        cycle,
+    };
+    assert!(rt; word.stem.is_empty());
+    assert_eq!(rt; word.cycle.len(), 1);
     Ok(())
 }
