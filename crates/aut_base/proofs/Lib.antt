@@ -1,3 +1,14 @@
-pub mod LabelTrees
-pub mod Places
+pub mod Copies
+pub mod Examples
+pub mod FormulaSizes
 pub mod FormulaTrees
+pub mod LabelSizes
+pub mod LabelTrees
+pub mod LetterNames
+pub mod OneState
+pub mod Places
+pub mod SameEdges
+pub mod SameWord
+pub mod Spelled
+pub mod Texts
+pub mod Walks

@@ -1,10 +1,10 @@
 -- Which lasso words an automaton accepts. Nothing bounds how often the cycle is gone round, and there is no
 -- search: any two paths that fit will do.
-use Rattle.std.specs.Prelude.{◌≡◌, ℕ, ◌<◌, true, List, [], ◌∷◌, ◌++◌, map, Contains}
+use Rattle.std.specs.Prelude.{◌≡◌, ℕ, ◌<◌, true, List, [], ◌∷◌, ◌++◌, map, Contains, ◌↔◌, length}
 use Rattle.aut_base.specs.Automaton.{Arrow, Automaton}
 use Rattle.aut_base.specs.Formula.{met}
 use Rattle.aut_base.specs.Label.{truth, holds_at}
-use Rattle.aut_base.specs.Word.{Sign, copies}
+use Rattle.aut_base.specs.Word.{Sign, copies, SpellsSame}
 
 -- a path from `p` to `q` along these edges, which reads these letters: each edge starts where the one before
 -- ends, and its label holds of the letter in its place
@@ -29,3 +29,7 @@ pub record Accepts (a : Automaton) (u v : List Sign) : Type 0 where
   pub positive : 0 < rounds
   pub returns : IsPath a state (copies rounds v) cycle state
   pub meets : met (map (λ e. e.marks) cycle) a.formula ≡ true
+
+-- Lasso words that spell the same infinite word are accepted alike, by every automaton.
+abbrev pub SameWordSameVerdict : Type 0
+SameWordSameVerdict = (a : Automaton) (u v x y : List Sign) → 0 < length v → 0 < length y → SpellsSame u v x y → Accepts a u v ↔ Accepts a x y

@@ -1,6 +1,7 @@
 -- What an acceptance condition says, apart from how it lies in memory (HOA v1, Acceptance).
-use Rattle.std.specs.Prelude.{◌<◌, ℕ, Bool, true, false, not, ◌&&◌, ◌||◌, ◌==◌, List, [], ◌∷◌}
+use Rattle.std.specs.Prelude.{◌+◌, ◌<◌, ℕ, Bool, true, false, not, ◌&&◌, ◌||◌, List, [], ◌∷◌}
 use Rattle.std.specs.List.{list_any, list_all}
+use Rattle.aut_base.specs.Marks.{is_in}
 use Rattle.aut_base.specs.declared.formula.Formula.{Formula}
 use Rattle.aut_base.specs.declared.formula.Formula.TheOpen.{Formula-F}
 use Rattle.aut_base.specs.declared.formula.Formula.TheFolds.{fold-Formula, fold-Formulas}
@@ -20,10 +21,6 @@ mutual
   pub data FormulaTrees : Type 0 where
     none : FormulaTrees
     more : FormulaTree → FormulaTrees → FormulaTrees
-
--- the edge with these marks is in the set
-abbrev pub is_in : ℕ → List ℕ → Bool
-is_in set marks = list_any (λ mark. mark == set) marks
 
 -- Whether a condition is met where the edges that come again and again are those of a cycle, given by the
 -- marks of each. `Inf(n)`: some edge is in n. `Inf(!n)`: some edge isn't. `Fin(n)`: none is. `Fin(!n)`: all are.
@@ -59,6 +56,20 @@ abbrev mutual
   pub EachSetsBelow : ℕ → FormulaTrees → Type 0
   EachSetsBelow n none = Unit {0}
   EachSetsBelow n (more f fs) = SetsBelow n f × EachSetsBelow n fs
+
+-- The number of signs in a condition, by which a recursion over its parts ends.
+abbrev mutual
+  pub formula_size : FormulaTree → ℕ
+  formula_size True = 1
+  formula_size False = 1
+  formula_size (Inf set neg) = 1
+  formula_size (Fin set neg) = 1
+  formula_size (And a b cs) = 1 + (formula_size a + (formula_size b + formulas_size cs))
+  formula_size (Or a b cs) = 1 + (formula_size a + (formula_size b + formulas_size cs))
+
+  pub formulas_size : FormulaTrees → ℕ
+  formulas_size none = 0
+  formulas_size (more f fs) = formula_size f + formulas_size fs
 
 -- the list, as a tree holds it
 abbrev pub trees : List FormulaTree → FormulaTrees

@@ -1,5 +1,5 @@
 -- What a label says, apart from how it lies in memory (HOA v1, label-expr).
-use Rattle.std.specs.Prelude.{◌<◌, ℕ, Bool, true, false, not, ◌&&◌, ◌||◌, List, [], ◌∷◌, slice_get}
+use Rattle.std.specs.Prelude.{◌+◌, ◌<◌, ℕ, Bool, true, false, not, ◌&&◌, ◌||◌, List, [], ◌∷◌, slice_get}
 use Rattle.std.specs.FinSet.{contains}
 use Rattle.std.specs.Option.{option_map_or}
 use Rattle.aut_base.specs.Word.{Sign}
@@ -53,6 +53,20 @@ abbrev mutual
   pub EachBelow : ℕ → LabelTrees → Type 0
   EachBelow n none = Unit {0}
   EachBelow n (more t ts) = AllBelow n t × EachBelow n ts
+
+-- The number of signs in a label, by which a recursion over its parts ends.
+abbrev mutual
+  pub label_size : LabelTree → ℕ
+  label_size True = 1
+  label_size False = 1
+  label_size (Prop i) = 1
+  label_size (Not t) = 1 + label_size t
+  label_size (And a b cs) = 1 + (label_size a + (label_size b + labels_size cs))
+  label_size (Or a b cs) = 1 + (label_size a + (label_size b + labels_size cs))
+
+  pub labels_size : LabelTrees → ℕ
+  labels_size none = 0
+  labels_size (more t ts) = label_size t + labels_size ts
 
 -- The i-th proposition holds at a letter that has the i-th name. Other names of the letter play no part.
 abbrev pub holds_at : List (List ℕ) → Sign → ℕ → Bool

@@ -1,9 +1,11 @@
 //! The acceptance condition of an automaton.
 
-ghost use Rattle.std.specs.Prelude.{◌≡◌, ◌<◌, ℕ, [], ◌∷◌, ◌++◌, length, map, IfOk, OnOk, OnErr, slice_get};
-ghost use Rattle.aut_base.specs.Formula.{FormulaTree, Parts, formula_tree, formula_parts, formula_list};
+ghost use Rattle.std.specs.Prelude.{◌≡◌, ◌<◌, ℕ, not, [], ◌∷◌, ◌++◌, length, map, IfOk, OnOk, OnErr, slice_get};
+ghost use Rattle.std.specs.List.{list_any, list_all};
+ghost use Rattle.aut_base.specs.Marks.{is_in};
+ghost use Rattle.aut_base.specs.Formula.{FormulaTree, Parts, trees, met, all_met, some_met, formula_tree, formula_parts, formula_list};
 
-use crate::Memory;
+use crate::{Marks, Memory};
 use std::alloc::Global;
 
 /// An Emerson-Lei condition over the acceptance sets (HOA v1, Acceptance). `neg` stands for the `!` before
@@ -47,6 +49,40 @@ impl Formula {
             }),
             Formula::And(parts) => Ok(Formula::And(parts.copy(alloc)?)),
             Formula::Or(parts) => Ok(Formula::Or(parts.copy(alloc)?)),
+        }
+    }
+}
+
+impl Formula {
+    /// Whether the condition is met where the edges that come again and again are those of a cycle, given by the
+    /// marks of each.
+    #[cycle(formula_met)]
+    #[tactic(auto, using(crate::proofs::FormulaTrees::formula_trees))]
+    pub fn met_by(&self, cycle: &[Marks]) -> bool
+        requires { 0 < length cycle.now }
+        ensures { result ≡ met cycle.now (formula_tree self.now) }
+    {
+        match self {
+            Formula::True => true,
+            Formula::False => false,
+            Formula::Inf { set, neg } => {
+                if *neg {
+                    some_edge_outside(*set, cycle)
+                } else {
+                    some_edge_inside(*set, cycle)
+                }
+            }
+            Formula::Fin { set, neg } => {
+                if *neg {
+                    all_edges_inside(*set, cycle)
+                } else {
+                    all_edges_outside(*set, cycle)
+                }
+            }
+            Formula::And(parts) => parts.first.met_by(cycle)
+                && (parts.second.met_by(cycle) && all_met(&parts.others, cycle)),
+            Formula::Or(parts) => parts.first.met_by(cycle)
+                || (parts.second.met_by(cycle) || some_met(&parts.others, cycle)),
         }
     }
 }
@@ -112,6 +148,7 @@ impl Formulas {
     }
 }
 
+// Copies of these, in order.
 #[cycle(formula_copy)]
 fn copy_all(alloc: Global, parts: &[Formula]) -> Result<Vec<Formula>, Memory>
     ensures { IfOk result (λ new. map formula_tree new.items ≡ map formula_tree parts.now) }
@@ -122,4 +159,56 @@ fn copy_all(alloc: Global, parts: &[Formula]) -> Result<Vec<Formula>, Memory>
         copies.push(copied)?;
     }
     Ok(copies)
+}
+
+// Whether each of these is met by the cycle.
+#[cycle(formula_met)]
+fn all_met(parts: &[Formula], cycle: &[Marks]) -> bool
+    requires { 0 < length cycle.now }
+    ensures { result ≡ all_met cycle.now (trees (map formula_tree parts.now)) }
+{
+    'parts: for part in parts {
+        if !part.met_by(cycle) {
+            return false;
+        }
+    }
+    true
+}
+
+// Whether one of these is met by the cycle.
+#[cycle(formula_met)]
+fn some_met(parts: &[Formula], cycle: &[Marks]) -> bool
+    requires { 0 < length cycle.now }
+    ensures { result ≡ some_met cycle.now (trees (map formula_tree parts.now)) }
+{
+    'parts: for part in parts {
+        if part.met_by(cycle) {
+            return true;
+        }
+    }
+    false
+}
+
+fn some_edge_inside(set: u32, cycle: &[Marks]) -> bool
+    ensures { result ≡ list_any (is_in set) cycle.now }
+{
+    cycle.iter().any(|marks| marks.has(set))
+}
+
+fn some_edge_outside(set: u32, cycle: &[Marks]) -> bool
+    ensures { result ≡ list_any (λ marks. not (is_in set marks)) cycle.now }
+{
+    cycle.iter().any(|marks| !marks.has(set))
+}
+
+fn all_edges_inside(set: u32, cycle: &[Marks]) -> bool
+    ensures { result ≡ list_all (is_in set) cycle.now }
+{
+    cycle.iter().all(|marks| marks.has(set))
+}
+
+fn all_edges_outside(set: u32, cycle: &[Marks]) -> bool
+    ensures { result ≡ list_all (λ marks. not (is_in set marks)) cycle.now }
+{
+    cycle.iter().all(|marks| !marks.has(set))
 }

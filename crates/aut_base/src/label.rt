@@ -2,9 +2,9 @@
 
 ghost use Rattle.std.specs.Prelude.{◌≡◌, ◌<◌, ℕ, false, [], ◌∷◌, ◌++◌, length, map, IfOk, OnOk, OnErr, slice_get};
 ghost use Rattle.std.specs.List.{slice_index_or};
-ghost use Rattle.aut_base.specs.Label.{LabelTree, Parts, AllBelow, EachBelow, truth, all_true, some_true, trees, label_tree, label_parts, label_list};
+ghost use Rattle.aut_base.specs.Label.{LabelTree, Parts, AllBelow, EachBelow, truth, holds_at, all_true, some_true, trees, label_tree, label_parts, label_list};
 
-use crate::Memory;
+use crate::{Letter, Memory, Names};
 use std::alloc::Global;
 
 /// A Boolean formula over the atomic propositions, which go by their place in the automaton's list of names
@@ -64,6 +64,27 @@ impl Label {
                 && (parts.second.truth(on) && all_true(&parts.others, on)),
             Label::Or(parts) => parts.first.truth(on)
                 || (parts.second.truth(on) || some_true(&parts.others, on)),
+        }
+    }
+}
+
+impl Label {
+    /// Whether the label holds of the letter, where propositions go by their place in the list of names.
+    #[cycle(label_holds)]
+    #[tactic(auto, using(crate::proofs::LabelTrees::label_trees))]
+    pub fn holds(&self, names: &Names, letter: &Letter) -> bool
+        requires { AllBelow (length names.now) (label_tree self.now) }
+        ensures { result ≡ truth (holds_at names.now letter.now) (label_tree self.now) }
+    {
+        match self {
+            Label::True => true,
+            Label::False => false,
+            Label::Prop(place) => letter.has(names.at(*place as usize)),
+            Label::Not(inner) => !inner.holds(names, letter),
+            Label::And(parts) => parts.first.holds(names, letter)
+                && (parts.second.holds(names, letter) && all_hold(&parts.others, names, letter)),
+            Label::Or(parts) => parts.first.holds(names, letter)
+                || (parts.second.holds(names, letter) || some_hold(&parts.others, names, letter)),
         }
     }
 }
@@ -129,6 +150,7 @@ impl Labels {
     }
 }
 
+// Copies of these, in order.
 #[cycle(label_copy)]
 fn copy_all(alloc: Global, parts: &[Label]) -> Result<Vec<Label>, Memory>
     ensures { IfOk result (λ new. map label_tree new.items ≡ map label_tree parts.now) }
@@ -141,6 +163,7 @@ fn copy_all(alloc: Global, parts: &[Label]) -> Result<Vec<Label>, Memory>
     Ok(copies)
 }
 
+// Whether each of these is true.
 #[cycle(label_truth)]
 fn all_true(parts: &[Label], on: &[bool]) -> bool
     requires { EachBelow (length on.now) (trees (map label_tree parts.now)) }
@@ -154,6 +177,7 @@ fn all_true(parts: &[Label], on: &[bool]) -> bool
     true
 }
 
+// Whether one of these is true.
 #[cycle(label_truth)]
 fn some_true(parts: &[Label], on: &[bool]) -> bool
     requires { EachBelow (length on.now) (trees (map label_tree parts.now)) }
@@ -161,6 +185,34 @@ fn some_true(parts: &[Label], on: &[bool]) -> bool
 {
     'parts: for part in parts {
         if part.truth(on) {
+            return true;
+        }
+    }
+    false
+}
+
+// Whether each of these holds of the letter.
+#[cycle(label_holds)]
+fn all_hold(parts: &[Label], names: &Names, letter: &Letter) -> bool
+    requires { EachBelow (length names.now) (trees (map label_tree parts.now)) }
+    ensures { result ≡ all_true (holds_at names.now letter.now) (trees (map label_tree parts.now)) }
+{
+    'parts: for part in parts {
+        if !part.holds(names, letter) {
+            return false;
+        }
+    }
+    true
+}
+
+// Whether one of these holds of the letter.
+#[cycle(label_holds)]
+fn some_hold(parts: &[Label], names: &Names, letter: &Letter) -> bool
+    requires { EachBelow (length names.now) (trees (map label_tree parts.now)) }
+    ensures { result ≡ some_true (holds_at names.now letter.now) (trees (map label_tree parts.now)) }
+{
+    'parts: for part in parts {
+        if part.holds(names, letter) {
             return true;
         }
     }

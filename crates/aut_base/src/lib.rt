@@ -6,16 +6,20 @@ mod description;
 mod fault;
 mod formula;
 mod label;
+mod law;
 mod letter;
 mod limit;
 mod marks;
 mod names;
 mod seq;
+#[cfg(test)]
+mod tests;
 
 pub use description::{Description, Edge, Edges};
 pub use fault::{Failed, Memory, OpenFail};
 pub use formula::{Formula, Formulas};
 pub use label::{Label, Labels};
+pub use law::{same_word_same_verdict, worked_examples};
 pub use letter::{Lasso, Letter, Letters};
 pub use limit::Limit;
 pub use marks::Marks;

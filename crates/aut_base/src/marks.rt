@@ -2,6 +2,7 @@
 
 ghost use Rattle.std.specs.Prelude.{◌≡◌, ◌==◌, ◌<◌, ℕ, [], ◌∷◌, ◌++◌, length, All, AllPairs, OnOk, OnErr, slice_get};
 ghost use Rattle.std.specs.List.{slice_index_or};
+ghost use Rattle.aut_base.specs.Marks.{is_in};
 
 use crate::Memory;
 use std::alloc::Global;
@@ -54,6 +55,13 @@ impl Marks {
         ensures item { (d : ℕ) → slice_index_or self.now place d ≡ result.now }
     {
         &self.items[place]
+    }
+
+    /// Whether this set is among the marks.
+    pub fn has(&self, set: u32) -> bool
+        ensures { result ≡ is_in set self.now }
+    {
+        self.items.contains(&set)
     }
 
     /// The marks, to go over. They increase.

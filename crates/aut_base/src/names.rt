@@ -1,6 +1,6 @@
 //! The names of an automaton's atomic propositions.
 
-ghost use Rattle.std.specs.Prelude.{◌≡◌, ◌≢◌, ◌==◌, ◌<◌, ℕ, List, [], ◌∷◌, ◌++◌, length, All, AllPairs, OnOk, OnErr, slice_get};
+ghost use Rattle.std.specs.Prelude.{◌≡◌, ◌≢◌, ◌==◌, ◌<◌, ℕ, List, [], ◌∷◌, ◌++◌, length, All, AllPairs, Contains, MatchBool, MatchOption, ◌≤◌, ◌^◌, OnOk, OnErr, slice_get};
 ghost use Rattle.std.specs.List.{slice_index_or};
 
 use crate::{Memory, Text};
@@ -56,6 +56,24 @@ impl Names {
         &self.items[place]
     }
 
+    /// Whether this name is in the list.
+    pub fn has(&self, name: &Text) -> bool
+        ensures { MatchBool result (Contains self.now name.now) (All (λ other. other ≢ name.now) self.now) }
+    {
+        place_of(&self.items, name).is_some()
+    }
+
+    /// The place of this name, from 0, or `None` exactly where the list doesn't have it.
+    pub fn position(&self, name: &Text) -> Option<u32>
+        requires { length self.now ≤ 2 ^ 32 }
+        ensures { MatchOption result (All (λ other. other ≢ name.now) self.now) (λ place. slice_get self.now place ≡ Some name.now) }
+    {
+        match place_of(&self.items, name) {
+            Some(place) => Some(place as u32),
+            None => None,
+        }
+    }
+
     /// The names, to go over. No two of them are equal.
     pub fn as_slice(&self) -> &[Text]
         ensures items { result.now ≡ self.now }
@@ -75,4 +93,16 @@ impl Names {
             Err(_) => Err(Memory),
         }
     }
+}
+
+// The place of this name, or `None` exactly where it isn't there.
+fn place_of(items: &[Text], name: &Text) -> Option<usize>
+    ensures { MatchOption result (All (λ other. other ≢ name.now) items.now) (λ place. slice_get items.now place ≡ Some name.now) }
+{
+    'places: for place in 0..items.len() {
+        if items[place] == *name {
+            return Some(place);
+        }
+    }
+    None
 }

@@ -1,0 +1,5 @@
+use Rattle.aut_base.proofs.SameWord as law
+use Rattle.aut_base.proofs.law.same_word_same_verdict.Goals as goal
+
+pub returns : goal.returns
+returns c = law.same_word_same_verdict

@@ -1,0 +1,6 @@
+use Rattle.std.proofs.Common.{length}
+use Rattle.aut_base.specs.Label.{AllBelow, label_tree}
+use Rattle.aut_base.proofs.tests.labels_at_letters.Given as goal
+
+abbrev pub invariant-letters : goal.invariant-letters
+invariant-letters g l = AllBelow (length l.names) (label_tree l.label)

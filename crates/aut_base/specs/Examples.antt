@@ -1,0 +1,85 @@
+-- Small automata over one proposition `a`, for which one sees by eye what they accept.
+use Rattle.std.specs.Prelude.{ℕ, true, false, List, [], ◌∷◌}
+use Rattle.std.specs.FinSet as set
+use Rattle.aut_base.specs.Acceptance.{Accepts}
+use Rattle.aut_base.specs.Automaton.{Arrow, Automaton}
+use Rattle.aut_base.specs.Formula.{FormulaTree, FormulaTrees}
+use Rattle.aut_base.specs.Label.{LabelTree}
+use Rattle.aut_base.specs.Word.{Sign}
+
+-- the text "a"
+abbrev pub name_a : List ℕ
+name_a = 97 ∷ []
+
+-- the letter at which `a` holds, and the one at which it doesn't
+abbrev pub on : Sign
+on = set.from_list (name_a ∷ [])
+
+abbrev pub off : Sign
+off = set.empty
+
+abbrev pub edge : ℕ → LabelTree → ℕ → List ℕ → Arrow
+edge p label q marks = record { from = p; label = label; to = q; marks = marks }
+
+abbrev pub a : LabelTree
+a = LabelTree.Prop 0
+
+-- One state, with a loop for letters with `a` and a loop for those without, each with its marks.
+abbrev pub one_state : List ℕ → List ℕ → ℕ → FormulaTree → Automaton
+one_state at_on at_off sets formula = record {
+  names = name_a ∷ [];
+  starts = 0 ∷ [];
+  states = 1;
+  edges = edge 0 a 0 at_on ∷ edge 0 (LabelTree.Not a) 0 at_off ∷ [];
+  sets = sets;
+  formula = formula;
+}
+
+-- In the end `a` holds for ever: the automaton guesses when.
+abbrev pub ever_after : Automaton
+ever_after = record {
+  names = name_a ∷ [];
+  starts = 0 ∷ [];
+  states = 2;
+  edges = edge 0 LabelTree.True 0 [] ∷ edge 0 a 1 [] ∷ edge 1 a 1 (0 ∷ []) ∷ [];
+  sets = 1;
+  formula = FormulaTree.Inf 0 false;
+}
+
+-- some edge outside set 0, and every edge inside set 1
+abbrev pub barred : FormulaTree
+barred = FormulaTree.And (FormulaTree.Inf 0 true) (FormulaTree.Fin 1 true) FormulaTrees.none
+
+-- `a` holds again and again, or only so often
+abbrev pub again : Automaton
+again = one_state (0 ∷ []) [] 1 (FormulaTree.Inf 0 false)
+
+abbrev pub so_often : Automaton
+so_often = one_state (0 ∷ []) [] 1 (FormulaTree.Fin 0 false)
+
+-- Under `barred`: the loop at `off` is outside set 0, and both are inside set 1.
+abbrev pub off_again : Automaton
+off_again = one_state (0 ∷ 1 ∷ []) (1 ∷ []) 2 barred
+
+-- Under `barred`: no loop is outside set 0.
+abbrev pub never : Automaton
+never = one_state (0 ∷ 1 ∷ []) (0 ∷ []) 2 barred
+
+pub record WorkedExamples : Type 0 where
+  pub again_on : Accepts again [] (on ∷ [])
+  pub again_on_off : Accepts again [] (on ∷ off ∷ [])
+  pub again_late : Accepts again (off ∷ off ∷ []) (off ∷ on ∷ [])
+  pub again_off : ¬ Accepts again [] (off ∷ [])
+  pub again_early : ¬ Accepts again (on ∷ on ∷ []) (off ∷ [])
+  pub so_often_on : ¬ Accepts so_often [] (on ∷ [])
+  pub so_often_on_off : ¬ Accepts so_often [] (on ∷ off ∷ [])
+  pub so_often_late : ¬ Accepts so_often (off ∷ off ∷ []) (off ∷ on ∷ [])
+  pub so_often_off : Accepts so_often [] (off ∷ [])
+  pub so_often_early : Accepts so_often (on ∷ on ∷ []) (off ∷ [])
+  pub ever_after_on : Accepts ever_after [] (on ∷ [])
+  pub ever_after_late : Accepts ever_after (off ∷ []) (on ∷ [])
+  pub ever_after_on_off : ¬ Accepts ever_after [] (on ∷ off ∷ [])
+  pub off_again_off : Accepts off_again [] (off ∷ [])
+  pub off_again_on_off : Accepts off_again [] (on ∷ off ∷ [])
+  pub off_again_on : ¬ Accepts off_again [] (on ∷ [])
+  pub never_any : (u v : List Sign) → ¬ Accepts never u v
