@@ -1,2 +1,4 @@
+pub mod Faults
 pub mod Run
 pub mod Status
+pub mod Turn

@@ -3,6 +3,7 @@
 
 mod ended;
 mod run;
+mod turn;
 
 pub use ended::Ended;
 pub use run::autfilt;
