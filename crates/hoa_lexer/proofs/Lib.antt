@@ -5,4 +5,5 @@ pub mod FirstBytes
 pub mod Fronts
 pub mod Numbers
 pub mod Strings
+pub mod Unique
 pub mod Words
