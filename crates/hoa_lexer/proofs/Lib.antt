@@ -6,4 +6,5 @@ pub mod FirstBytes
 pub mod Fronts
 pub mod Numbers
 pub mod Strings
+pub mod Unique
 pub mod Words

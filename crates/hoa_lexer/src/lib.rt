@@ -2,11 +2,13 @@
 //! taken than tells that it ends.
 #![tactic(auto)]
 
+mod laws;
 mod lexer;
 mod token;
 
 #[cfg(test)]
 mod tests;
 
+pub use laws::{one_next_token, one_token_list};
 pub use lexer::Lexer;
 pub use token::{LexFault, Token};
