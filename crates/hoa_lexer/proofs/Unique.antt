@@ -1,17 +1,17 @@
 -- A text has at most one next token.
-use Rattle.std.proofs.Common.{◌≡◌, ◌≢◌, ℕ, zero, suc, ◌+◌, ◌-◌, ◌<◌, ◌≤◌, ◌==◌, Bool, true, false, List, [], ◌∷◌, ◌++◌, length, Option, Some, None, inl, inr, refl, sym, subst, ◌∙◌, ap, arith}
+use Rattle.std.proofs.Common.{◌≡◌, ℕ, ◌+◌, ◌-◌, ◌<◌, ◌≤◌, ◌==◌, Bool, true, List, [], ◌∷◌, ◌++◌, length, inl, inr, refl, sym, subst, ◌∙◌, ap, arith}
 use Rattle.std.specs.Prelude.{codes}
 use Rattle.std.specs.List.{list_all}
 use Rattle.std.proofs.lemmas.Bool.{false≢true, and_parts, cases_eq, eqb-false}
 use Rattle.std.proofs.lemmas.Bool.Decides.{nat_tests}
-use Rattle.std.proofs.lemmas.List.{append_assoc, append-nil, length-append}
+use Rattle.std.proofs.lemmas.List.{append_assoc, length-append}
 use Rattle.hoa_lexer.specs.Blanks.{IsBlanks}
 use Rattle.hoa_lexer.specs.Bytes.{is_digit, is_word}
 use Rattle.hoa_lexer.specs.Laws.{OneNextToken, OneTokenList}
 use Rattle.hoa_lexer.specs.Spelling.{Spells, Ends, StopsAt, IsIdentifier, IsNumeral, IsAliasName, Quotes, value_of}
 use Rattle.hoa_lexer.specs.Spelling.Quotes.{nothing, escaped, plain}
-use Rattle.hoa_lexer.specs.Text.{IsFront, HasFront, IsNext, Lexes}
-use Rattle.hoa_lexer.proofs.FirstBytes.{token_kind, front_head, kind, no_front}
+use Rattle.hoa_lexer.specs.Text.{IsFront, IsNext, Lexes}
+use Rattle.hoa_lexer.proofs.FirstBytes.{token_kind, front_head, no_front}
 use Rattle.hoa_lexer.proofs.Fronts.{same_place, asks_blanks_unclosed}
 use Rattle.hoa_lexer.proofs.Numbers.{int_stops, nonzero}
 use Rattle.hoa_lexer.specs.declared.token.Token.{Token}
@@ -84,13 +84,14 @@ same_int_zero n m b bs s s' rest rest' z h k e f =
 same_int_run : (n m b : ℕ) (bs s s' rest rest' : List ℕ) → 0 < b - 48 → Spells (Int n) (b ∷ s) → Spells (Int m) (b ∷ s') → bs ≡ s ++ rest → bs ≡ s' ++ rest' → Ends (Int n) rest → Ends (Int m) rest' → IsSame (Int n) (Int m) rest rest'
 same_int_run n m b bs s s' rest rest' z h k e f u v =
     let w = same_run is_digit s s' rest rest' (sym e ∙ f) (numeral_rest b s h.0) (numeral_rest b s' k.0)
-      (int_stops n rest (omega (arith, h.1, nonzero b s z)) u) (int_stops m rest' (omega (arith, k.1, nonzero b s' z)) v) in
+    (int_stops n rest (omega (arith, h.1, nonzero b s z)) u) (int_stops m rest' (omega (arith, k.1, nonzero b s' z)) v) in
     record { token = ap Int (sym h.1 ∙ ap (λ q. value_of (b ∷ q)) w.run ∙ k.1); after = w.after }
 
 one_int : (u : Token) (n b : ℕ) (bs s s' rest rest' : List ℕ) → 48 ≡ token_kind u → Spells (Int n) (b ∷ s) → Spells u (b ∷ s') → bs ≡ s ++ rest → bs ≡ s' ++ rest' → Ends (Int n) rest → Ends u rest' → IsSame (Int n) u rest rest'
 one_int (Int m) n b bs s s' rest rest' q h k e f u v = elim (cases_eq b 48) [
-  inl z ↦ same_int_zero n m b bs s s' rest rest' z h k e f
-  | inr z ↦ same_int_run n m b bs s s' rest rest' (omega (arith, z, digit_least b (numeral_first b s h.0))) h k e f u v ]
+  | inl z ↦ same_int_zero n m b bs s s' rest rest' z h k e f
+  | inr z ↦ same_int_run n m b bs s s' rest rest' (omega (arith, z, digit_least b (numeral_first b s h.0))) h k e f u v
+]
 one_int _ n b bs s s' rest rest' q h k e f u v = absurd (omega arith)
 
 -- identifiers and names of headers
@@ -294,7 +295,7 @@ same_front_at t u (b ∷ bs) rest rest' f g =
 pub one_next_token : OneNextToken
 one_next_token input start t u i k rest rest' f g =
     let place : f.bytes ≡ g.bytes = same_place f.before g.before f.bytes g.bytes f.blanks g.blanks (sym f.split ∙ g.split)
-      (record { token = t; rest = rest; front = f.front }) (record { token = u; rest = rest'; front = g.front }) in
+    (record { token = t; rest = rest; front = f.front }) (record { token = u; rest = rest'; front = g.front }) in
     let there : IsFront f.bytes u rest' = subst (λ (w : List ℕ). IsFront w u rest') (sym place) g.front in
     let same = same_front_at t u f.bytes rest rest' f.front there in
     let offset : i ≡ k = omega (arith, f.place, g.place, ap length place, simp length-append at (ap length f.split), simp length-append at (ap length g.split)) in
@@ -317,7 +318,7 @@ one_token_list input start (t ∷ ts) (u ∷ us) rest rest' f h g k =
     let same = one_next_token input start t.0 u.0 t.1 u.1 f.0 g.0 f.1 g.1 in
     let place = start + (length input - length f.0) in
     let there : Lexes f.0 place us rest' =
-      subst (λ (w : List ℕ). Lexes w (start + (length input - length w)) us rest') (sym same.2) g.2 in
+    subst (λ (w : List ℕ). Lexes w (start + (length input - length w)) us rest') (sym same.2) g.2 in
     let more = one_token_list f.0 place ts us rest rest' f.2 h there k in
     let first : t ≡ u = same_pair t u same.0 same.1 in
     let others = more.0 in

@@ -4,11 +4,10 @@
 
 mod laws;
 mod lexer;
-mod token;
-
 #[cfg(test)]
 mod tests;
+mod token;
 
-pub use laws::{one_next_token, one_token_list};
+pub use laws::{one_next_token, one_token_list, spelled_apart_is_read};
 pub use lexer::Lexer;
 pub use token::{LexFault, Token};

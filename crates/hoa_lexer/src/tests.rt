@@ -220,7 +220,8 @@ fn takes_no_byte_too_early(rt: HostRuntime) -> Result<(), Fail> {
 #[test]
 fn answers_each_failing_read(rt: HostRuntime) -> Result<(), Fail> {
     let text = b"HOA: v1 States: 12 @p \"q\" !0 \n";
-    let want = b"header@0=HOA word@5=v1 header@8=States int@16=12 alias@19=p text@22=q !@26 int@27=0 end";
+    let want =
+        b"header@0=HOA word@5=v1 header@8=States int@16=12 alias@19=p text@22=q !@26 int@27=0 end";
     // from one failing read up to another, where the answers before it end
     let rows: [(u32, u32, usize); 9] = [
         (1, 5, 0),
