@@ -1,2 +1,4 @@
 pub mod CanonicalLabel
 pub mod CanonicalText
+pub mod Pieces
+pub mod Tables

@@ -1,0 +1,61 @@
+-- Texts that are made of pieces.
+use Rattle.std.proofs.Common.{◌≡◌, ℕ, ◌-◌, ◌<◌, ◌≤◌, ◌∙◌, sym, ap, refl, arith, Bool, true, false, ◌||◌, List, [], ◌∷◌, ◌++◌, map, length, take, drop, get_or}
+use Rattle.std.proofs.lemmas.List.{append-nil, append_assoc, take_all, take_rest, length-drop}
+use Rattle.std.proofs.lemmas.List.Concat.{flat_map-append}
+use Rattle.std.specs.Fmt.{decimal}
+use Rattle.std.specs.List.{flat_map}
+use Rattle.std.specs.Prelude.{codes}
+use Rattle.hoa_writer.specs.CanonicalLabel.{joined, literal_text}
+use Rattle.hoa_writer.specs.CanonicalText.{marks_text}
+use Rattle.hoa_writer.specs.Pieces.{each_after, pieces_after, cube_piece}
+use Rattle.hoa_writer.specs.Tables.{literal, is_any}
+use Rattle.hoa_writer.specs.declared.label.Literal.{Literal}
+
+-- after the first piece, each stands after the separator
+pub joined_each : (separator piece : List ℕ) (pieces : List (List ℕ)) → joined separator (piece ∷ pieces) ≡ piece ++ each_after separator pieces
+joined_each separator piece [] = sym (append-nil piece)
+joined_each separator piece (next ∷ pieces) =
+    ap (λ t. piece ++ (separator ++ t)) (joined_each separator next pieces) ∙ ap (λ t. piece ++ t) (sym (append_assoc separator next (each_after separator pieces)))
+
+each_after-map : {A : Type 0} (separator : List ℕ) (f : A → List ℕ) (xs : List A) → each_after separator (map f xs) ≡ flat_map (λ x. separator ++ f x) xs
+each_after-map separator f [] = refl
+each_after-map separator f (x ∷ xs) = ap (λ t. (separator ++ f x) ++ t) (each_after-map separator f xs)
+
+joined_more : {A : Type 0} (separator : List ℕ) (f : A → List ℕ) (x : A) (xs : List A) → joined separator (map f (x ∷ xs)) ≡ f x ++ flat_map (λ y. separator ++ f y) xs
+joined_more separator f x xs = joined_each separator (f x) (map f xs) ∙ ap (λ t. f x ++ t) (each_after-map separator f xs)
+
+map-map : {A B C : Type 0} (f : B → C) (g : A → B) (xs : List A) → map f (map g xs) ≡ map (λ x. f (g x)) xs
+map-map f g [] = refl
+map-map f g (x ∷ xs) = ap (λ ys. f (g x) ∷ ys) (map-map f g xs)
+
+-- a cube with a literal, as it is written
+pub cube_piece_more : (cube : List Literal) (d : Literal) → 0 < length cube → cube_piece (map literal cube) ≡ literal_text (literal (get_or cube 0 d)) ++ flat_map (λ l. codes "&" ++ literal_text (literal l)) (drop 1 cube)
+cube_piece_more [] d h = absurd (omega arith)
+cube_piece_more (l ∷ ls) d h = ap (joined (codes "&")) (map-map literal_text literal (l ∷ ls)) ∙ joined_more (codes "&") (λ x. literal_text (literal x)) l ls
+
+-- marks, as they are written
+pub marks_text_more : (marks : List ℕ) → 0 < length marks → marks_text marks ≡ codes " {" ++ (decimal (get_or marks 0 0) ++ (flat_map (λ m. codes " " ++ decimal m) (drop 1 marks) ++ codes "}"))
+marks_text_more [] h = absurd (omega arith)
+marks_text_more (m ∷ ms) h =
+    ap (λ t. codes " {" ++ (t ++ codes "}")) (joined_more (codes " ") decimal m ms) ∙ ap (λ t. codes " {" ++ t) (append_assoc (decimal m) (flat_map (λ x. codes " " ++ decimal x) ms) (codes "}"))
+
+-- pieces, and then others
+pub pieces_split : (before : Bool) (separator : List ℕ) (xs ys : List (List ℕ)) → pieces_after before separator (xs ++ ys) ≡ pieces_after before separator xs ++ pieces_after (before || is_any xs) separator ys
+pieces_split true separator xs ys = flat_map-append (λ piece. separator ++ piece) xs ys
+pieces_split false separator [] ys = refl
+pieces_split false separator (x ∷ xs) ys =
+    joined_each separator x (xs ++ ys) ∙ (ap (λ t. x ++ t) (flat_map-append (λ piece. separator ++ piece) xs ys)
+    ∙ (sym (append_assoc x (each_after separator xs) (each_after separator ys)) ∙ ap (λ t. t ++ each_after separator ys) (sym (joined_each separator x xs))))
+
+pub is_any-map : {A B : Type 0} (f : A → B) (xs : List A) → is_any (map f xs) ≡ is_any xs
+is_any-map f [] = refl
+is_any-map f (x ∷ xs) = refl
+
+pub is_any-append : {A : Type 0} (xs ys : List A) → is_any (xs ++ ys) ≡ (is_any xs || is_any ys)
+is_any-append [] ys = refl
+is_any-append (x ∷ xs) ys = refl
+
+-- all but the first, gone over to the end
+pub all_others : {A : Type 0} (xs : List A) (i : ℕ) → length xs - 1 ≤ i → take i (take (length xs - 1) (drop 1 xs)) ≡ drop 1 xs
+all_others xs i h =
+    ap (take i) (take_rest xs 1) ∙ take_all i (drop 1 xs) (let size = length-drop 1 xs in omega arith)
