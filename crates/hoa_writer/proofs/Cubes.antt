@@ -1,7 +1,7 @@
 -- The cubes of a table are those of its truth function, and their text.
 use Rattle.std.proofs.Common.{◌≡◌, ℕ, zero, suc, ◌+◌, ◌-◌, ◌^◌, ◌∙◌, sym, ap, refl, arith, Bool, true, false, ◌||◌, ◌&&◌, cond, ◌⊎◌, inl, inr, List, [], ◌∷◌, ◌++◌, map, take, drop, length}
 use Rattle.std.proofs.Math.Nat.{pow-suc}
-use Rattle.std.proofs.lemmas.List.{map-append, length-append, length-map, take_at, drop_at}
+use Rattle.std.proofs.lemmas.List.{append-nil, map-append, length-append, length-map, take_at, drop_at}
 use Rattle.std.specs.Bool.{beq}
 use Rattle.std.specs.Cmp.Lexicographic.{pointwise}
 use Rattle.std.specs.List.{list_all}
@@ -9,7 +9,7 @@ use Rattle.std.specs.Prelude.{codes}
 use Rattle.aut_base.specs.Label.{LabelTree, True}
 use Rattle.hoa_writer.specs.CanonicalLabel.{Literal, label_text, valuations, is_independent, cubes, cube_text, cubes_text, joined}
 use Rattle.hoa_writer.specs.Pieces.{cube_piece, pieces_after}
-use Rattle.hoa_writer.specs.Tables.{table_cubes, is_any}
+use Rattle.hoa_writer.specs.Tables.{table_cubes, is_any, WritesCubes}
 use Rattle.hoa_writer.proofs.Tables.{map-map}
 
 pub length-valuations : (n : ℕ) → length (valuations n) ≡ 2 ^ n
@@ -118,8 +118,24 @@ cubes_always i (suc n) =
 pub label_text_true : (n : ℕ) (t : LabelTree) → t ≡ True → label_text n t ≡ codes "t"
 label_text_true n t e = ap (label_text n) e ∙ ap cubes_text (cubes_always 0 n)
 
-pub table_size : (n : ℕ) (g : List Bool → Bool) (table : List Bool) → table ≡ map g (valuations (n - 0)) → length table ≡ 2 ^ n
-table_size n g table e =
+-- all the truths, when no place is filled before
+pub whole_table : (n : ℕ) (g : List Bool → Bool) (table old : List Bool) → old ≡ [] → table ≡ old ++ map g (valuations (n - 0)) → table ≡ map g (valuations n)
+whole_table n g table old none e =
     let same : n - 0 ≡ n = omega arith in
-    let size = length-map (valuations n) g ∙ length-valuations n in
-    ap length e ∙ rw same size
+    e ∙ (ap (λ xs. xs ++ map g (valuations (n - 0))) none ∙ ap (λ k. map g (valuations k)) same)
+
+pub table_size : (n : ℕ) (g : List Bool → Bool) (table : List Bool) → table ≡ map g (valuations n) → length table ≡ 2 ^ n
+table_size n g table e = ap length e ∙ (length-map (valuations n) g ∙ length-valuations n)
+
+-- what is written of a label that has a cube
+pub label_written : (n : ℕ) (g : List Bool → Bool) (literals : List Literal) (table : List Bool) (now : Bool) (old new : List ℕ) → literals ≡ [] → table ≡ map g (valuations n) → WritesCubes literals table 0 n false now old new → now ≡ true → new ≡ old ++ cubes_text (cubes 0 n g)
+label_written n g literals table now old new none e w h =
+    let u = rw (none, e) at w in
+    u.text ∙ ap (λ t. old ++ t) (text_of_table n g (sym h ∙ u.some))
+
+-- and of one that has none
+pub no_label_written : (n : ℕ) (g : List Bool → Bool) (literals : List Literal) (table : List Bool) (now : Bool) (old new last : List ℕ) → literals ≡ [] → table ≡ map g (valuations n) → WritesCubes literals table 0 n false now old new → now ≡ false → last ≡ new ++ codes "f" → last ≡ old ++ cubes_text (cubes 0 n g)
+no_label_written n g literals table now old new last none e w h f =
+    let u = rw (none, e) at w in
+    let facts = none_of_table n g (sym h ∙ u.some) in
+    f ∙ (ap (λ t. t ++ codes "f") (u.text ∙ (ap (λ t. old ++ t) facts.0 ∙ append-nil old)) ∙ ap (λ t. old ++ t) (sym facts.1))

@@ -1,3 +1,4 @@
 pub mod Pieces
 pub mod Tables
 pub mod Cubes
+pub mod Formulas

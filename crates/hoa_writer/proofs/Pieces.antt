@@ -1,5 +1,6 @@
 -- Texts that are made of pieces.
-use Rattle.std.proofs.Common.{◌≡◌, ℕ, ◌-◌, ◌<◌, ◌≤◌, ◌∙◌, sym, ap, refl, arith, Bool, true, false, ◌||◌, List, [], ◌∷◌, ◌++◌, map, length, take, drop, get_or}
+use Rattle.std.proofs.Common.{◌≡◌, ℕ, eqb, ◌-◌, ◌<◌, ◌≤◌, ◌∙◌, sym, ap, refl, arith, Bool, true, false, ◌||◌, List, [], ◌∷◌, ◌++◌, map, length, take, drop, get_or}
+use Rattle.std.proofs.lemmas.Bool.{eqb-false}
 use Rattle.std.proofs.lemmas.List.{append-nil, append_assoc, take_all, take_rest, length-drop}
 use Rattle.std.proofs.lemmas.List.Concat.{flat_map-append}
 use Rattle.std.specs.Fmt.{decimal}
@@ -59,3 +60,29 @@ is_any-append (x ∷ xs) ys = refl
 pub all_others : {A : Type 0} (xs : List A) (i : ℕ) → length xs - 1 ≤ i → take i (take (length xs - 1) (drop 1 xs)) ≡ drop 1 xs
 all_others xs i h =
     ap (take i) (take_rest xs 1) ∙ take_all i (drop 1 xs) (let size = length-drop 1 xs in omega arith)
+
+-- a cube after its first literal and the others
+pub cube_written : (cube : List Literal) (d : Literal) (i : ℕ) (out one two : List ℕ) → 0 < length cube → length cube - 1 ≤ i → one ≡ out ++ literal_text (literal (get_or cube 0 d)) → two ≡ one ++ flat_map (λ l. codes "&" ++ literal_text (literal l)) (take i (take (length cube - 1) (drop 1 cube))) → two ≡ out ++ cube_piece (map literal cube)
+cube_written cube d i out one two some h first rest =
+    let others = flat_map (λ (l : Literal). codes "&" ++ literal_text (literal l)) in
+    rest ∙ (ap (λ ls. one ++ others ls) (all_others cube i h) ∙ (ap (λ t. t ++ others (drop 1 cube)) first
+    ∙ (append_assoc out (literal_text (literal (get_or cube 0 d))) (others (drop 1 cube)) ∙ ap (λ t. out ++ t) (sym (cube_piece_more cube d some)))))
+
+-- marks after the first and the others
+pub marks_written : (marks : List ℕ) (i : ℕ) (out one two three last : List ℕ) → 0 < length marks → length marks - 1 ≤ i → one ≡ out ++ codes " {" → two ≡ one ++ decimal (get_or marks 0 0) → three ≡ two ++ flat_map (λ m. codes " " ++ decimal m) (take i (take (length marks - 1) (drop 1 marks))) → last ≡ three ++ codes "}" → last ≡ out ++ marks_text marks
+marks_written marks i out one two three last some h open_ first rest close =
+    let others = flat_map (λ (m : ℕ). codes " " ++ decimal m) in
+    let all : three ≡ two ++ others (drop 1 marks) = rest ∙ ap (λ ms. two ++ others ms) (all_others marks i h) in
+    let text = marks_text_more marks some in
+    rw (close, all, first, open_, text, append_assoc, append_assoc, append_assoc) refl
+
+-- what a test for an empty list says
+pub some_item : (n : ℕ) (is_empty : Bool) → is_empty ≡ false → is_empty ≡ eqb n 0 → 0 < n
+some_item n is_empty f e =
+    let some = eqb-false n 0 (sym e ∙ f) in
+    omega arith
+
+-- one text and then another
+pub two_written : (out one two a b whole : List ℕ) → one ≡ out ++ a → two ≡ one ++ b → a ++ b ≡ whole → two ≡ out ++ whole
+two_written out one two a b whole first second e =
+    second ∙ (ap (λ t. t ++ b) first ∙ (append_assoc out a b ∙ ap (λ t. out ++ t) e))

@@ -48,18 +48,28 @@ pub(crate) fn push_label(out: &mut Text, room: &mut Room, label: &Label) -> Resu
     ensures text { OnOk result (out.new ≡ out.old ++ label_text (length room.old.valuation.items) (label_tree label.now)) }
     ensures room { OnOk result (length room.new.valuation.items ≡ length room.old.valuation.items) }
 {
-    let names = room.valuation.len();
     if let Label::True = label {
         return out.push(b't');
     }
-    room.table.clear();
-    room.cube.clear();
-    push_truths(&mut room.table, label, &mut room.valuation, 0)?;
-    let is_written = push_cubes(out, &mut room.cube, &room.table, 0, names as u32, false)?;
+    let names = room.valuation.len() as u32;
+    tabulate(room, label)?;
+    let is_written = push_cubes(out, &mut room.cube, &room.table, 0, names, false)?;
     if is_written {
         return Ok(());
     }
     out.push(b'f')
+}
+
+/// Makes the table of a label, and begins with no literal.
+fn tabulate(room: &mut Room, label: &Label) -> Result<(), Memory>
+    requires { AllBelow (length room.old.valuation.items) (label_tree label.now) }
+    ensures table { OnOk result (room.new.table.items ≡ map (truth_on (label_tree label.now)) (valuations (length room.old.valuation.items))) }
+    ensures size { OnOk result (length room.new.valuation.items ≡ length room.old.valuation.items) }
+    ensures cube { OnOk result (room.new.cube.items ≡ []) }
+{
+    room.table.clear();
+    room.cube.clear();
+    push_truths(&mut room.table, label, &mut room.valuation, 0)
 }
 
 /// Adds the truth of the label under each valuation that begins with the places before this one.
