@@ -2,3 +2,4 @@ pub mod Pieces
 pub mod Tables
 pub mod Cubes
 pub mod Formulas
+pub mod Lines

@@ -7,7 +7,8 @@ use Rattle.std.specs.Fmt.{decimal}
 use Rattle.std.specs.List.{flat_map}
 use Rattle.std.specs.Prelude.{codes}
 use Rattle.hoa_writer.specs.CanonicalLabel.{joined, literal_text}
-use Rattle.hoa_writer.specs.CanonicalText.{marks_text}
+use Rattle.hoa_writer.specs.CanonicalText.{marks_text, quoted}
+use Rattle.hoa_writer.specs.Lines.{names_line}
 use Rattle.hoa_writer.specs.Pieces.{each_after, pieces_after, cube_piece}
 use Rattle.hoa_writer.specs.Tables.{literal, is_any}
 use Rattle.hoa_writer.specs.declared.label.Literal.{Literal}
@@ -86,3 +87,13 @@ some_item n is_empty f e =
 pub two_written : (out one two a b whole : List ℕ) → one ≡ out ++ a → two ≡ one ++ b → a ++ b ≡ whole → two ≡ out ++ whole
 two_written out one two a b whole first second e =
     second ∙ (ap (λ t. t ++ b) first ∙ (append_assoc out a b ∙ ap (λ t. out ++ t) e))
+
+-- a line of four pieces
+pub line_written : (out one two three four last a b c d e : List ℕ) → one ≡ out ++ a → two ≡ one ++ b → three ≡ two ++ c → four ≡ three ++ d → last ≡ four ++ e → last ≡ out ++ ((a ++ (b ++ (c ++ d))) ++ e)
+line_written out one two three four last a b c d e f g h i j = rw (j, i, h, g, f) (simp append_assoc)
+
+-- the line of the names
+pub names_written : (names : List (List ℕ)) (i : ℕ) (out one two three last : List ℕ) → length names ≤ i → one ≡ out ++ codes "AP: " → two ≡ one ++ decimal (length names) → three ≡ two ++ flat_map (λ name. codes " " ++ quoted name) (take i names) → last ≡ three ++ codes "\n" → last ≡ out ++ names_line names
+names_written names i out one two three last end f g h j =
+    let all : take i names ≡ names = take_all i names end in
+    rw (j, h, all, g, f) (simp append_assoc)

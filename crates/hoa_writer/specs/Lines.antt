@@ -19,7 +19,7 @@ edges_of q edges = filter (λ e. e.from == q) (map arrow edges)
 
 -- From the place on, the edges leave this state or later ones in order, and their labels speak of n propositions.
 pub record LeadFrom (n q : ℕ) (edges : List Edge) (place : ℕ) : Type 0 where
-  pub place : place ≤ length edges
+  pub within : place ≤ length edges
   pub from : (i j : ℕ) (d : Edge) → place ≤ i → i ≤ j → j < length edges → (slice_index_or edges i d).from ≤ (slice_index_or edges j d).from
   pub least : (i : ℕ) (d : Edge) → place ≤ i → i < length edges → q ≤ (slice_index_or edges i d).from
   pub labels : (i : ℕ) (d : Edge) → i < length edges → AllBelow n (arrow (slice_index_or edges i d)).label
@@ -27,7 +27,7 @@ pub record LeadFrom (n q : ℕ) (edges : List Edge) (place : ℕ) : Type 0 where
 -- The edges of the state are written, and from `after` on stand those of later states.
 pub record WritesEdges (n q : ℕ) (edges : List Edge) (place after : ℕ) (old new : List ℕ) : Type 0 where
   pub text : new ≡ old ++ flat_map (edge_line n) (edges_of q (drop place edges))
-  pub after : after ≤ length edges
+  pub within : after ≤ length edges
   pub forward : place ≤ after
   pub later : (i : ℕ) (d : Edge) → after ≤ i → i < length edges → q < (slice_index_or edges i d).from
   pub others : (k : ℕ) → q < k → edges_of k (drop place edges) ≡ edges_of k (drop after edges)

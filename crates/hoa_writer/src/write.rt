@@ -140,16 +140,16 @@ fn push_edges(
     ensures room { OnOk result (length room.new.valuation.items ≡ length room.old.valuation.items) }
     ensures edges { IfOk result (λ after. WritesEdges (length room.old.valuation.items) state edges.now place after out.old out.new) }
 {
-    let mut place = place;
-    'edges: while place < edges.len() {
-        let edge = &edges[place];
+    let mut after = place;
+    'edges: while after < edges.len() {
+        let edge = &edges[after];
         if edge.from != state {
-            break;
+            return Ok(after);
         }
         push_edge(out, room, edge)?;
-        place += 1;
+        after += 1;
     }
-    Ok(place)
+    Ok(after)
 }
 
 /// Adds the line of an edge.
