@@ -1,14 +1,16 @@
 -- The edges of a state stand together, since the edges stand in order.
-use Rattle.std.proofs.Common.{◌≡◌, ◌≢◌, ℕ, zero, suc, eqb, cond, ◌+◌, ◌<◌, ◌≤◌, ◌∙◌, sym, ap, refl, arith, List, [], ◌∷◌, ◌++◌, map, drop, length, get_or}
+use Rattle.std.proofs.Common.{◌≡◌, ◌≢◌, ℕ, zero, suc, eqb, cond, ◌+◌, ◌<◌, ◌≤◌, ◌∙◌, sym, ap, subst, refl, arith, List, [], ◌∷◌, ◌++◌, map, drop, length, get_or}
 use Rattle.std.proofs.lemmas.Bool.{eq-eqb, ne_eqb}
 use Rattle.std.proofs.lemmas.List.{append-nil, append_assoc, drop_more, drop_all, get_or-drop, get_or-map, get_or_default, length-drop, length-map}
 use Rattle.std.proofs.lemmas.List.Concat.{flat_map-append}
+use Rattle.std.specs.Fmt.{decimal}
+use Rattle.std.specs.Prelude.{codes}
 use Rattle.std.specs.List.{flat_map, range_with_len}
 use Rattle.aut_base.specs.Automaton.{Arrow, Automaton, arrow, automaton, IsWellFormed, IsArrowOf}
 use Rattle.aut_base.specs.Label.{AllBelow}
 use Rattle.aut_base.specs.declared.description.Description.{Description}
 use Rattle.aut_base.specs.declared.description.Edge.{Edge}
-use Rattle.hoa_writer.specs.CanonicalText.{edge_line}
+use Rattle.hoa_writer.specs.CanonicalText.{line, edge_line, state_lines}
 use Rattle.hoa_writer.specs.Lines.{edges_of, LeadFrom, WritesEdges}
 
 edges_here : (q : ℕ) (e : Edge) (rest : List Edge) → e.from ≡ q → edges_of q (e ∷ rest) ≡ arrow e ∷ edges_of q rest
@@ -70,3 +72,66 @@ all_later n q edges place after e lead h within read other i d far near =
     let same : (get_or edges after e).from ≡ e.from = ap (λ x. x.from) (sym read) in
     let defaults : (get_or edges i e).from ≡ (get_or edges i d).from = ap (λ x. x.from) (get_or_default edges i e d near) in
     omega arith
+
+-- The states below `state` are written, and from the place on stand the edges of the others.
+pub record StatesSoFar (d : Description) (place state : ℕ) (old new : List ℕ) : Type 0 where
+  pub text : new ≡ old ++ flat_map (state_lines (automaton d)) (range_with_len 0 state)
+  pub within : place ≤ length d.edges
+  pub least : (i : ℕ) (e : Edge) → place ≤ i → i < length d.edges → state ≤ (get_or d.edges i e).from
+  pub others : (k : ℕ) → state ≤ k → edges_of k d.edges ≡ edges_of k (drop place d.edges)
+
+pub no_state : (d : Description) (out : List ℕ) → StatesSoFar d 0 0 out out
+no_state d out = record { text = sym (append-nil out); within = omega arith; least = λ i e h within. omega arith; others = λ k h. refl }
+
+-- what the edges of a well-formed automaton say
+pub leads : (d : Description) (place state : ℕ) (old new : List ℕ) → IsWellFormed (automaton d) → StatesSoFar d place state old new → LeadFrom (length d.names) state d.edges place
+leads d place state old new formed so =
+    let size = length-map d.edges arrow in
+    let froms = length-map (map arrow d.edges) (λ a. a.from) in
+    record {
+      within = so.within;
+      from = λ i j e h order near.
+        let fits : i < length d.edges = omega arith in
+        let first = get_or-map arrow d.edges i e (arrow e) fits in
+        let second = get_or-map arrow d.edges j e (arrow e) near in
+        let from_first = get_or-map (λ (a : Arrow). a.from) (map arrow d.edges) i (arrow e) 0 (omega arith) in
+        let from_second = get_or-map (λ (a : Arrow). a.from) (map arrow d.edges) j (arrow e) 0 (omega arith) in
+        let rises = formed.in_order i j 0 order (omega arith) in
+        let left = ap (λ a. a.from) first in
+        let right = ap (λ a. a.from) second in
+        omega arith;
+      least = so.least;
+      labels = λ i e near.
+        let same = get_or-map arrow d.edges i e (arrow e) near in
+        let mine = formed.edges i (arrow e) (omega arith) in
+        subst (λ (a : Arrow). AllBelow (length d.names) a.label) same mine.label;
+    }
+
+range_more : (a n : ℕ) → range_with_len a (suc n) ≡ range_with_len a n ++ (a + n) ∷ []
+range_more a zero = let same : a + zero ≡ a = omega arith in rw same refl
+range_more a (suc n) =
+    let same : a + 1 + n ≡ a + suc n = omega arith in
+    ap (λ ns. a ∷ ns) (range_more (a + 1) n) ∙ ap (λ k. a ∷ (range_with_len (a + 1) n ++ k ∷ [])) same
+
+lines_more : (f : ℕ → List ℕ) (n : ℕ) → flat_map f (range_with_len 0 (n + 1)) ≡ flat_map f (range_with_len 0 n) ++ f n
+lines_more f n =
+    let next : n + 1 ≡ suc n = omega arith in
+    let same : 0 + n ≡ n = omega arith in
+    ap (λ k. flat_map f (range_with_len 0 k)) next ∙ (ap (flat_map f) (range_more 0 n) ∙ (flat_map-append f (range_with_len 0 n) ((0 + n) ∷ []) ∙ (ap (λ k. flat_map f (range_with_len 0 n) ++ (f k ++ [])) same ∙ ap (λ t. flat_map f (range_with_len 0 n) ++ t) (append-nil (f n)))))
+
+-- one more state
+pub state_more : (d : Description) (place after state : ℕ) (old now step new : List ℕ) → StatesSoFar d place state old now → step ≡ now ++ line (codes "State: " ++ decimal state) → WritesEdges (length d.names) state d.edges place after step new → StatesSoFar d after (state + 1) old new
+state_more d place after state old now step new so head w =
+    let f = state_lines (automaton d) in
+    let first = line (codes "State: " ++ decimal state) in
+    let mine = so.others state (omega arith) in
+    let edges = flat_map (edge_line (length d.names)) (edges_of state (drop place d.edges)) in
+    let whole : first ++ edges ≡ f state = ap (λ es. first ++ flat_map (edge_line (length d.names)) es) (sym mine) in
+    let lines = flat_map f (range_with_len 0 state) in
+    record {
+      text = w.text ∙ (ap (λ t. t ++ edges) (head ∙ ap (λ t. t ++ first) so.text) ∙ (append_assoc (old ++ lines) first edges
+        ∙ (ap (λ t. (old ++ lines) ++ t) whole ∙ (append_assoc old lines (f state) ∙ ap (λ t. old ++ t) (sym (lines_more f state))))));
+      within = w.within;
+      least = λ i e h near. let far = w.later i e h near in omega arith;
+      others = λ k h. so.others k (omega arith) ∙ w.others k (omega arith);
+    }

@@ -97,3 +97,7 @@ pub names_written : (names : List (List ℕ)) (i : ℕ) (out one two three last 
 names_written names i out one two three last end f g h j =
     let all : take i names ≡ names = take_all i names end in
     rw (j, h, all, g, f) (simp append_assoc)
+
+-- seven pieces, one after another
+pub seven_written : (out one two three four five six last a b c d e f g : List ℕ) → one ≡ out ++ a → two ≡ one ++ b → three ≡ two ++ c → four ≡ three ++ d → five ≡ four ++ e → six ≡ five ++ f → last ≡ six ++ g → last ≡ out ++ (a ++ (b ++ (c ++ (d ++ (e ++ (f ++ g))))))
+seven_written out one two three four five six last a b c d e f g h i j k l m n = rw (n, m, l, k, j, i, h) (simp append_assoc)
