@@ -3,3 +3,5 @@ pub mod Tables
 pub mod Cubes
 pub mod Formulas
 pub mod Lines
+pub mod Labels
+pub mod WellFormed
