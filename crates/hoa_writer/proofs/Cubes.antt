@@ -42,7 +42,7 @@ cubes_of_table i (suc n) g =
     let low = map fails (valuations n) in
     let high = map holds (valuations n) in
     let halves : map g (valuations (suc n)) ≡ low ++ high = map-append g (map (λ v. false ∷ v) (valuations n)) (map (λ v. true ∷ v) (valuations n))
-        ∙ (ap (λ xs. xs ++ map g (map (λ v. true ∷ v) (valuations n))) (map-map g (λ v. false ∷ v) (valuations n)) ∙ ap (λ xs. low ++ xs) (map-map g (λ v. true ∷ v) (valuations n))) in
+    ∙ (ap (λ xs. xs ++ map g (map (λ v. true ∷ v) (valuations n))) (map-map g (λ v. false ∷ v) (valuations n)) ∙ ap (λ xs. low ++ xs) (map-map g (λ v. true ∷ v) (valuations n))) in
     table_halves i n (map g (valuations (suc n))) low high halves (length-map (valuations n) fails ∙ length-valuations n)
     ∙ (ap (λ b. branch i b (table_cubes (i + 1) n low) (table_cubes (i + 1) n high)) (pointwise-map fails holds (valuations n))
     ∙ (ap (λ cs. branch i (is_independent n g) cs (table_cubes (i + 1) n high)) (cubes_of_table (i + 1) n fails)
@@ -73,8 +73,8 @@ tidy_cubes i (suc n) g =
     let low = cubes (i + 1) n (λ v. g (false ∷ v)) in
     let high = cubes (i + 1) n (λ v. g (true ∷ v)) in
     elim (is_independent n g) as (λ b. IsTidy (branch i b low high)) [
-      true ↦ tidy_cubes (i + 1) n (λ v. g (false ∷ v))
-    | false ↦ inr (long-append (map (λ cube. record { prop = i; holds = false } ∷ cube) low) (map (λ cube. record { prop = i; holds = true } ∷ cube) high) (long_under (record { prop = i; holds = false }) low) (long_under (record { prop = i; holds = true }) high))
+      | true ↦ tidy_cubes (i + 1) n (λ v. g (false ∷ v))
+      | false ↦ inr (long-append (map (λ cube. record { prop = i; holds = false } ∷ cube) low) (map (λ cube. record { prop = i; holds = true } ∷ cube) high) (long_under (record { prop = i; holds = false }) low) (long_under (record { prop = i; holds = true }) high))
     ]
 
 long_pieces : (cs : List (List Literal)) → AllLong cs → map cube_piece cs ≡ map cube_text cs

@@ -75,7 +75,7 @@ some_same t u e = cc
 pub below_more : (n : ℕ) (ts : List LabelTree) (place : ℕ) (t : LabelTree) → BelowSoFar n ts place → slice_get ts place ≡ Some t → AllBelow n t → BelowSoFar n ts (place + 1)
 below_more n ts place t so e below k u near f =
     ⊎_elim (λ same. let equal : t ≡ u = some_same t u (sym e ∙ (ap (slice_get ts) (sym same) ∙ f)) in subst (AllBelow n) equal below)
-           (λ other. so k u (omega arith) f) (cases_eq k place)
+    (λ other. so k u (omega arith) f) (cases_eq k place)
 
 pub below_all : (n : ℕ) (ts : List LabelTree) (place : ℕ) → length ts ≤ place → BelowSoFar n ts place → All (AllBelow n) ts
 below_all n ts place end so k d near = so k (get_or ts k d) (omega arith) (slice_get-get_or ts k d near)

@@ -53,9 +53,9 @@ edge_more n q edges place after old now new e so h read same written =
 pub edges_end : (n q : ℕ) (edges : List Edge) (place after : ℕ) (old new : List ℕ) → EdgesSoFar n q edges place after old new → ((i : ℕ) (d : Edge) → after ≤ i → i < length edges → q < (get_or edges i d).from) → WritesEdges n q edges place after old new
 edges_end n q edges place after old new so later =
     let left : edges_of q (drop after edges) ≡ [] = edges_none q (drop after edges) (λ i d h.
-        let size = length-drop after edges in
-        let far = later (after + i) d (omega arith) (omega arith) in
-        rw get_or-drop far) in
+    let size = length-drop after edges in
+    let far = later (after + i) d (omega arith) (omega arith) in
+    rw get_or-drop far) in
     record {
       text = sym (append-nil new) ∙ (ap (λ es. new ++ flat_map (edge_line n) es) (sym left) ∙ so.text);
       within = so.within;
@@ -91,20 +91,20 @@ leads d place state old new formed so =
     record {
       within = so.within;
       from = λ i j e h order near.
-        let fits : i < length d.edges = omega arith in
-        let first = get_or-map arrow d.edges i e (arrow e) fits in
-        let second = get_or-map arrow d.edges j e (arrow e) near in
-        let from_first = get_or-map (λ (a : Arrow). a.from) (map arrow d.edges) i (arrow e) 0 (omega arith) in
-        let from_second = get_or-map (λ (a : Arrow). a.from) (map arrow d.edges) j (arrow e) 0 (omega arith) in
-        let rises = formed.in_order i j 0 order (omega arith) in
-        let left = ap (λ a. a.from) first in
-        let right = ap (λ a. a.from) second in
-        omega arith;
+          let fits : i < length d.edges = omega arith in
+          let first = get_or-map arrow d.edges i e (arrow e) fits in
+          let second = get_or-map arrow d.edges j e (arrow e) near in
+          let from_first = get_or-map (λ (a : Arrow). a.from) (map arrow d.edges) i (arrow e) 0 (omega arith) in
+          let from_second = get_or-map (λ (a : Arrow). a.from) (map arrow d.edges) j (arrow e) 0 (omega arith) in
+          let rises = formed.in_order i j 0 order (omega arith) in
+          let left = ap (λ a. a.from) first in
+          let right = ap (λ a. a.from) second in
+          omega arith;
       least = so.least;
       labels = λ i e near.
-        let same = get_or-map arrow d.edges i e (arrow e) near in
-        let mine = formed.edges i (arrow e) (omega arith) in
-        subst (λ (a : Arrow). AllBelow (length d.names) a.label) same mine.label;
+          let same = get_or-map arrow d.edges i e (arrow e) near in
+          let mine = formed.edges i (arrow e) (omega arith) in
+          subst (λ (a : Arrow). AllBelow (length d.names) a.label) same mine.label;
     }
 
 range_more : (a n : ℕ) → range_with_len a (suc n) ≡ range_with_len a n ++ (a + n) ∷ []
@@ -130,7 +130,7 @@ state_more d place after state old now step new so head w =
     let lines = flat_map f (range_with_len 0 state) in
     record {
       text = w.text ∙ (ap (λ t. t ++ edges) (head ∙ ap (λ t. t ++ first) so.text) ∙ (append_assoc (old ++ lines) first edges
-        ∙ (ap (λ t. (old ++ lines) ++ t) whole ∙ (append_assoc old lines (f state) ∙ ap (λ t. old ++ t) (sym (lines_more f state))))));
+          ∙ (ap (λ t. (old ++ lines) ++ t) whole ∙ (append_assoc old lines (f state) ∙ ap (λ t. old ++ t) (sym (lines_more f state))))));
       within = w.within;
       least = λ i e h near. let far = w.later i e h near in omega arith;
       others = λ k h. so.others k (omega arith) ∙ w.others k (omega arith);

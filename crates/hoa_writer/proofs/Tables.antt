@@ -120,7 +120,7 @@ both_texts literals fails holds low high all before mid old between new e first 
     let lows = under (literals ++ fails ∷ []) low in
     let highs = under (literals ++ holds ∷ []) high in
     let apart : under literals all ≡ lows ++ highs = ap (under literals) e ∙ (map-append (λ cube. cube_piece (literals ++ cube)) (map (λ cube. fails ∷ cube) low) (map (λ cube. holds ∷ cube) high)
-        ∙ (ap (λ xs. xs ++ under literals (map (λ cube. holds ∷ cube) high)) (map-front cube_piece literals fails low) ∙ ap (λ xs. lows ++ xs) (map-front cube_piece literals holds high))) in
+    ∙ (ap (λ xs. xs ++ under literals (map (λ cube. holds ∷ cube) high)) (map-front cube_piece literals fails low) ∙ ap (λ xs. lows ++ xs) (map-front cube_piece literals holds high))) in
     let any : (before || is_any lows) ≡ mid = ap (λ b. before || b) (is_any-map (λ cube. cube_piece ((literals ++ fails ∷ []) ++ cube)) low) ∙ sym m in
     let pieces : pieces_after before (codes " | ") (under literals all) ≡ pieces_after before (codes " | ") lows ++ pieces_after mid (codes " | ") highs = ap (pieces_after before (codes " | ")) apart ∙ (pieces_split before (codes " | ") lows highs ∙ ap (λ b. pieces_after before (codes " | ") lows ++ pieces_after b (codes " | ") highs) any) in
     second ∙ (ap (λ t. t ++ pieces_after mid (codes " | ") highs) first ∙ (append_assoc old (pieces_after before (codes " | ") lows) (pieces_after mid (codes " | ") highs) ∙ ap (λ t. old ++ t) (sym pieces)))
@@ -128,7 +128,7 @@ both_texts literals fails holds low high all before mid old between new e first 
 both_some : (fails holds : Literal) (low high all : List (List Literal)) (before mid now : Bool) → all ≡ map (λ cube. fails ∷ cube) low ++ map (λ cube. holds ∷ cube) high → mid ≡ (before || is_any low) → now ≡ (mid || is_any high) → now ≡ (before || is_any all)
 both_some fails holds low high all before mid now e m n =
     let any : is_any all ≡ (is_any low || is_any high) = ap is_any e ∙ (is_any-append (map (λ cube. fails ∷ cube) low) (map (λ cube. holds ∷ cube) high)
-        ∙ (ap (λ b. b || is_any (map (λ cube. holds ∷ cube) high)) (is_any-map (λ cube. fails ∷ cube) low) ∙ ap (λ b. is_any low || b) (is_any-map (λ cube. holds ∷ cube) high))) in
+    ∙ (ap (λ b. b || is_any (map (λ cube. holds ∷ cube) high)) (is_any-map (λ cube. fails ∷ cube) low) ∙ ap (λ b. is_any low || b) (is_any-map (λ cube. holds ∷ cube) high))) in
     n ∙ (ap (λ b. b || is_any high) m ∙ (or_assoc before (is_any low) (is_any high) ∙ ap (λ b. before || b) (sym any)))
 
 both_suc : (literals : List Literal) (table : List Bool) (i k : ℕ) (before mid now : Bool) (old between new : List ℕ) → pointwise beq (take (2 ^ k) table) (drop (2 ^ k) table) ≡ false → WritesCubes (literals ++ record { prop = i; holds = false } ∷ []) (take (2 ^ k) table) (i + 1) k before mid old between → WritesCubes (literals ++ record { prop = i; holds = true } ∷ []) (drop (2 ^ k) table) (i + 1) k mid now between new → WritesCubes literals table i (suc k) before now old new

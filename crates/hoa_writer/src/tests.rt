@@ -2,13 +2,12 @@
 
 use crate::formed::{is_below, is_well_formed};
 use crate::formula::push_formula;
-use crate::label::{push_label, Room};
+use crate::label::{Room, push_label};
 use crate::write_description;
 use aut_base::{
     Description, Edge, Edges, Formula, Formulas, Label, Labels, Marks, Memory, Names, Numbers, Text,
 };
 use std::alloc::Global;
-use std::process::Abort;
 use std::test::Fail;
 
 fn not(alloc: Global, inner: Label) -> Result<Label, Memory> {
@@ -39,12 +38,21 @@ fn labels_stand_by_their_cubes(rt: HostRuntime) -> Result<(), Fail> {
     let with_two = and(alloc, Label::Prop(0), Label::Prop(2))?;
     let also = and(alloc, Label::Prop(1), Label::Prop(2))?;
     let either = or(alloc, with_two, also)?;
-    assert_eq!(rt; label_text(alloc, 3, &either)?.as_bytes(), b"!0&1&2 | 0&2".as_slice());
+    assert_eq!(rt;
+        label_text(alloc, 3, &either)?.as_bytes(),
+        b"!0&1&2 | 0&2".as_slice()
+    );
     let some = or(alloc, Label::Prop(1), Label::Prop(0))?;
     let same = and(alloc, Label::Prop(2), some)?;
-    assert_eq!(rt; label_text(alloc, 3, &same)?.as_bytes(), b"!0&1&2 | 0&2".as_slice());
+    assert_eq!(rt;
+        label_text(alloc, 3, &same)?.as_bytes(),
+        b"!0&1&2 | 0&2".as_slice()
+    );
     let some = or(alloc, Label::Prop(0), Label::Prop(1))?;
-    assert_eq!(rt; label_text(alloc, 2, &some)?.as_bytes(), b"!0&1 | 0".as_slice());
+    assert_eq!(rt;
+        label_text(alloc, 2, &some)?.as_bytes(),
+        b"!0&1 | 0".as_slice()
+    );
     let last = not(alloc, Label::Prop(7))?;
     assert_eq!(rt; label_text(alloc, 8, &last)?.as_bytes(), b"!7".as_slice());
     Ok(())
@@ -57,8 +65,14 @@ fn constant_labels_are_letters(rt: HostRuntime) -> Result<(), Fail> {
     assert_eq!(rt; label_text(alloc, 1, &never)?.as_bytes(), b"f".as_slice());
     let always = or(alloc, Label::Prop(0), not(alloc, Label::Prop(0))?)?;
     assert_eq!(rt; label_text(alloc, 3, &always)?.as_bytes(), b"t".as_slice());
-    assert_eq!(rt; label_text(alloc, 3, &Label::True)?.as_bytes(), b"t".as_slice());
-    assert_eq!(rt; label_text(alloc, 0, &Label::False)?.as_bytes(), b"f".as_slice());
+    assert_eq!(rt;
+        label_text(alloc, 3, &Label::True)?.as_bytes(),
+        b"t".as_slice()
+    );
+    assert_eq!(rt;
+        label_text(alloc, 0, &Label::False)?.as_bytes(),
+        b"f".as_slice()
+    );
     Ok(())
 }
 
@@ -81,21 +95,30 @@ fn compound_parts_stand_in_parentheses(rt: HostRuntime) -> Result<(), Fail> {
     let alloc = rt.alloc();
     let both = Formula::And(Formulas::pair(alloc, inf(0, false), fin(1, true))?);
     let either = Formula::Or(Formulas::pair(alloc, both, Formula::True)?);
-    assert_eq!(rt; formula_text(alloc, &either)?.as_bytes(), b"(Inf(0) & Fin(!1)) | t".as_slice());
+    assert_eq!(rt;
+        formula_text(alloc, &either)?.as_bytes(),
+        b"(Inf(0) & Fin(!1)) | t".as_slice()
+    );
     let either = Formula::Or(Formulas::pair(alloc, fin(1, false), inf(2, true))?);
     let both = Formula::And(Formulas::pair(alloc, inf(0, false), either)?);
-    assert_eq!(rt; formula_text(alloc, &both)?.as_bytes(), b"Inf(0) & (Fin(1) | Inf(!2))".as_slice());
+    assert_eq!(rt;
+        formula_text(alloc, &both)?.as_bytes(),
+        b"Inf(0) & (Fin(1) | Inf(!2))".as_slice()
+    );
     let mut parts = Formulas::pair(alloc, inf(0, false), Formula::False)?;
     parts.push(inf(4294967295, false))?;
     let three = Formula::Or(parts);
-    assert_eq!(rt; formula_text(alloc, &three)?.as_bytes(), b"Inf(0) | f | Inf(4294967295)".as_slice());
+    assert_eq!(rt;
+        formula_text(alloc, &three)?.as_bytes(),
+        b"Inf(0) | f | Inf(4294967295)".as_slice()
+    );
     Ok(())
 }
 
 /// An automaton without edges, under the condition `Inf(0)`.
-fn plain(alloc: Global, states: u32, starts: &[u32]) -> Result<Description, Memory> {
+fn plain(alloc: Global, names: Names, states: u32, starts: &[u32]) -> Result<Description, Memory> {
     Ok(Description {
-        names: Names::new(alloc),
+        names,
         starts: Numbers::from_vec(Vec::from_slice(alloc, starts)?),
         states,
         edges: Edges::new(alloc),
@@ -117,8 +140,9 @@ fn text_of(alloc: Global, description: &Description, name: &[u8]) -> Result<Text
 
 /// The one-state automaton of the words in which `a` holds again and again.
 fn again(alloc: Global) -> Result<Description, Memory> {
-    let mut description = plain(alloc, 1, &[0])?;
-    description.names.push(Text::from_bytes(alloc, b"a")?)?;
+    let mut names = Names::new(alloc);
+    names.push(Text::from_bytes(alloc, b"a")?)?;
+    let mut description = plain(alloc, names, 1, &[0])?;
     let mut marks = Marks::new(alloc);
     marks.push(0)?;
     description.edges.push(Edge {
@@ -136,7 +160,8 @@ fn again(alloc: Global) -> Result<Description, Memory> {
     Ok(description)
 }
 
-const AGAIN: &[u8] = b"States: 1\nStart: 0\nAP: 1 \"a\"\nAcceptance: 1 Inf(0)\nproperties: trans-labels explicit-labels trans-acc\n--BODY--\nState: 0\n[0] 0 {0}\n[!0] 0\n--END--\n";
+const AGAIN: &[u8] =
+    b"States: 1\nStart: 0\nAP: 1 \"a\"\nAcceptance: 1 Inf(0)\nproperties: trans-labels explicit-labels trans-acc\n--BODY--\nState: 0\n[0] 0 {0}\n[!0] 0\n--END--\n";
 
 #[test]
 fn a_buchi_automaton_stands_line_by_line(rt: HostRuntime) -> Result<(), Fail> {
@@ -161,18 +186,22 @@ fn a_name_is_the_second_line(rt: HostRuntime) -> Result<(), Fail> {
 #[test]
 fn strings_escape_quotes_and_backslashes(rt: HostRuntime) -> Result<(), Fail> {
     let alloc = rt.alloc();
-    let mut description = plain(alloc, 1, &[0])?;
-    description.names.push(Text::from_bytes(alloc, b"a\"b")?)?;
-    description.names.push(Text::from_bytes(alloc, b"\\")?)?;
+    let mut names = Names::new(alloc);
+    names.push(Text::from_bytes(alloc, b"a\"b")?)?;
+    names.push(Text::from_bytes(alloc, b"\\")?)?;
+    let description = plain(alloc, names, 1, &[0])?;
     let text = text_of(alloc, &description, b"\"\\")?;
-    assert_eq!(rt; text.as_bytes(), b"HOA: v1\nname: \"\\\"\\\\\"\nStates: 1\nStart: 0\nAP: 2 \"a\\\"b\" \"\\\\\"\nAcceptance: 1 Inf(0)\nproperties: trans-labels explicit-labels trans-acc\n--BODY--\nState: 0\n--END--\n".as_slice());
+    assert_eq!(rt;
+        text.as_bytes(),
+        b"HOA: v1\nname: \"\\\"\\\\\"\nStates: 1\nStart: 0\nAP: 2 \"a\\\"b\" \"\\\\\"\nAcceptance: 1 Inf(0)\nproperties: trans-labels explicit-labels trans-acc\n--BODY--\nState: 0\n--END--\n".as_slice()
+    );
     Ok(())
 }
 
 #[test]
 fn starts_keep_their_order_and_each_state_has_a_line(rt: HostRuntime) -> Result<(), Fail> {
     let alloc = rt.alloc();
-    let mut description = plain(alloc, 2, &[1, 0])?;
+    let mut description = plain(alloc, Names::new(alloc), 2, &[1, 0])?;
     description.sets = 3;
     let mut marks = Marks::new(alloc);
     marks.push(0)?;
@@ -184,14 +213,20 @@ fn starts_keep_their_order_and_each_state_has_a_line(rt: HostRuntime) -> Result<
         marks,
     })?;
     let text = text_of(alloc, &description, b"")?;
-    assert_eq!(rt; text.as_bytes(), b"HOA: v1\nStates: 2\nStart: 1\nStart: 0\nAP: 0\nAcceptance: 3 Inf(0)\nproperties: trans-labels explicit-labels trans-acc\n--BODY--\nState: 0\nState: 1\n[t] 0 {0 2}\n--END--\n".as_slice());
+    assert_eq!(rt;
+        text.as_bytes(),
+        b"HOA: v1\nStates: 2\nStart: 1\nStart: 0\nAP: 0\nAcceptance: 3 Inf(0)\nproperties: trans-labels explicit-labels trans-acc\n--BODY--\nState: 0\nState: 1\n[t] 0 {0 2}\n--END--\n".as_slice()
+    );
     Ok(())
 }
 
 #[test]
 fn an_automaton_may_have_no_state(rt: HostRuntime) -> Result<(), Fail> {
     let alloc = rt.alloc();
-    let text = text_of(alloc, &plain(alloc, 0, &[])?, b"")?;
-    assert_eq!(rt; text.as_bytes(), b"HOA: v1\nStates: 0\nAP: 0\nAcceptance: 1 Inf(0)\nproperties: trans-labels explicit-labels trans-acc\n--BODY--\n--END--\n".as_slice());
+    let text = text_of(alloc, &plain(alloc, Names::new(alloc), 0, &[])?, b"")?;
+    assert_eq!(rt;
+        text.as_bytes(),
+        b"HOA: v1\nStates: 0\nAP: 0\nAcceptance: 1 Inf(0)\nproperties: trans-labels explicit-labels trans-acc\n--BODY--\n--END--\n".as_slice()
+    );
     Ok(())
 }

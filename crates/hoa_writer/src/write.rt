@@ -11,7 +11,7 @@ ghost use Rattle.hoa_writer.specs.CanonicalText.{formula_text, line, quoted, edg
 ghost use Rattle.hoa_writer.specs.Lines.{start_lines, names_line, WritesEdges, LeadFrom};
 
 use crate::formula::push_formula;
-use crate::label::{push_label, Room};
+use crate::label::{Room, push_label};
 use crate::number::push_number;
 use crate::parts::{push_marks, push_quoted};
 use aut_base::{Description, Edge, Formula, Memory, Text};
@@ -36,11 +36,7 @@ pub fn write_description(
 }
 
 /// Adds the lines before the body.
-fn push_header(
-    out: &mut Text,
-    description: &Description,
-    name: Option<&Text>,
-) -> Result<(), Memory>
+fn push_header(out: &mut Text, description: &Description, name: Option<&Text>) -> Result<(), Memory>
     requires { length description.now.names ≤ 8 }
     ensures { OnOk result (out.new ≡ out.old ++ header_lines (automaton description.now) (option_copied name.entry)) }
 {

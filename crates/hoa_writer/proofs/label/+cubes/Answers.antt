@@ -23,6 +23,6 @@ pub push_cubes-returns-clause-cubes : goal.push_cubes-returns-clause-cubes
 push_cubes-returns-clause-cubes t c =
     IfOk-weaker c.push_half-2.result _ _
     (λ now v.
-      let same = rw c.in_ok-is_written.ensures.kept at v in
-      both (map literal c.args.cube.now.items) c.args.table.now c.args.prop c.args.left c.args.is_written c.in_ok-is_written.is_written now c.args.out.now c.push_half.new.out c.push_half-2.new.out c.requires.size c.if-left-eq0.false (sym c.if-eq.false ∙ c.eq.ensures) c.in_ok-is_written.ensures.cubes same)
+    let same = rw c.in_ok-is_written.ensures.kept at v in
+    both (map literal c.args.cube.now.items) c.args.table.now c.args.prop c.args.left c.args.is_written c.in_ok-is_written.is_written now c.args.out.now c.push_half.new.out c.push_half-2.new.out c.requires.size c.if-left-eq0.false (sym c.if-eq.false ∙ c.eq.ensures) c.in_ok-is_written.ensures.cubes same)
     c.push_half-2.ensures.cubes

@@ -15,11 +15,11 @@ returns-clause-table t c =
     let within : c.args.place < length c.args.valuation.now = omega arith in
     let same : length c.push_truths.new.valuation ≡ length c.args.valuation.now = c.push_truths.auto.valuation ∙ length-set _ _ _ in
     on_ok_weaker c.push_truths-2.result
-      (λ e. truths_both (truth_on (label_tree c.args.label.now)) c.args.valuation.now c.push_truths.new.valuation c.args.place c.args.table.now.items c.push_truths.new.table.items _ within same c.in_ok-push_truths.ensures.kept c.in_ok-push_truths.ensures.table e)
-      c.push_truths-2.ensures.table
+    (λ e. truths_both (truth_on (label_tree c.args.label.now)) c.args.valuation.now c.push_truths.new.valuation c.args.place c.args.table.now.items c.push_truths.new.table.items _ within same c.in_ok-push_truths.ensures.kept c.in_ok-push_truths.ensures.table e)
+    c.push_truths-2.ensures.table
 
 pub returns-clause-kept : goal.returns-clause-kept
 returns-clause-kept t c =
     on_ok_weaker c.push_truths-2.result
-      (λ e. front_kept _ _ c.args.place _ e ∙ front_kept _ _ c.args.place _ c.in_ok-push_truths.ensures.kept)
-      c.push_truths-2.ensures.kept
+    (λ e. front_kept _ _ c.args.place _ e ∙ front_kept _ _ c.args.place _ c.in_ok-push_truths.ensures.kept)
+    c.push_truths-2.ensures.kept

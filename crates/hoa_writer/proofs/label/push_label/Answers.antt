@@ -10,8 +10,8 @@ use Rattle.hoa_writer.proofs.label.push_label.Goals as goal
 pub returns-in-True-clause-text : goal.returns-in-True-clause-text
 returns-in-True-clause-text c =
     on_ok_weaker c.push.result
-      (λ e. e ∙ ap (λ t. c.args.out.now ++ t) (sym (label_text_true (length c.args.room.now.valuation.items) (label_tree c.args.label.now) (ap label_tree c.in-True.is ∙ label_tree-True))))
-      c.push.ensures.ok
+    (λ e. e ∙ ap (λ t. c.args.out.now ++ t) (sym (label_text_true (length c.args.room.now.valuation.items) (label_tree c.args.label.now) (ap label_tree c.in-True.is ∙ label_tree-True))))
+    c.push.ensures.ok
 
 pub push_cubes-requires : goal.push_cubes-requires
 push_cubes-requires c =
@@ -34,7 +34,7 @@ returns c =
     let w = rw names at c.in_ok-is_written.ensures.cubes in
     record {
       text = on_ok_weaker c.push-2.result
-        (λ e. no_label_written (length c.args.room.now.valuation.items) (truth_on (label_tree c.args.label.now)) _ c.deref.result.now c.in_ok-is_written.is_written c.args.out.now c.push_cubes.new.out _ (ap (map literal) c.in_ok-tabulate.ensures.cube) (c.deref.ensures.value ∙ c.in_ok-tabulate.ensures.table) w c.if-is_written.false e)
-        c.push-2.ensures.ok;
+          (λ e. no_label_written (length c.args.room.now.valuation.items) (truth_on (label_tree c.args.label.now)) _ c.deref.result.now c.in_ok-is_written.is_written c.args.out.now c.push_cubes.new.out _ (ap (map literal) c.in_ok-tabulate.ensures.cube) (c.deref.ensures.value ∙ c.in_ok-tabulate.ensures.table) w c.if-is_written.false e)
+          c.push-2.ensures.ok;
       room = search (rules, c.in_ok-tabulate.ensures.size);
     }
