@@ -10,7 +10,7 @@ use Rattle.hoa_writer.specs.CanonicalLabel.{joined, literal_text}
 use Rattle.hoa_writer.specs.CanonicalText.{marks_text, quoted}
 use Rattle.hoa_writer.specs.Lines.{names_line}
 use Rattle.hoa_writer.specs.Pieces.{each_after, pieces_after, cube_piece}
-use Rattle.hoa_writer.specs.Tables.{literal, is_any}
+use Rattle.hoa_writer.specs.Tables.{literal_of, is_any}
 use Rattle.hoa_writer.specs.declared.label.Literal.{Literal}
 
 -- after the first piece, each stands after the separator
@@ -31,9 +31,9 @@ map-map f g [] = refl
 map-map f g (x ∷ xs) = ap (λ ys. f (g x) ∷ ys) (map-map f g xs)
 
 -- a cube with a literal, as it is written
-pub cube_piece_more : (cube : List Literal) (d : Literal) → 0 < length cube → cube_piece (map literal cube) ≡ literal_text (literal (get_or cube 0 d)) ++ flat_map (λ l. codes "&" ++ literal_text (literal l)) (drop 1 cube)
+pub cube_piece_more : (cube : List Literal) (d : Literal) → 0 < length cube → cube_piece (map literal_of cube) ≡ literal_text (literal_of (get_or cube 0 d)) ++ flat_map (λ l. codes "&" ++ literal_text (literal_of l)) (drop 1 cube)
 cube_piece_more [] d h = absurd (omega arith)
-cube_piece_more (l ∷ ls) d h = ap (joined (codes "&")) (map-map literal_text literal (l ∷ ls)) ∙ joined_more (codes "&") (λ x. literal_text (literal x)) l ls
+cube_piece_more (l ∷ ls) d h = ap (joined (codes "&")) (map-map literal_text literal_of (l ∷ ls)) ∙ joined_more (codes "&") (λ x. literal_text (literal_of x)) l ls
 
 -- marks, as they are written
 pub marks_text_more : (marks : List ℕ) → 0 < length marks → marks_text marks ≡ codes " {" ++ (decimal (get_or marks 0 0) ++ (flat_map (λ m. codes " " ++ decimal m) (drop 1 marks) ++ codes "}"))
@@ -63,11 +63,11 @@ all_others xs i h =
     ap (take i) (take_rest xs 1) ∙ take_all i (drop 1 xs) (let size = length-drop 1 xs in omega arith)
 
 -- a cube after its first literal and the others
-pub cube_written : (cube : List Literal) (d : Literal) (i : ℕ) (out one two : List ℕ) → 0 < length cube → length cube - 1 ≤ i → one ≡ out ++ literal_text (literal (get_or cube 0 d)) → two ≡ one ++ flat_map (λ l. codes "&" ++ literal_text (literal l)) (take i (take (length cube - 1) (drop 1 cube))) → two ≡ out ++ cube_piece (map literal cube)
+pub cube_written : (cube : List Literal) (d : Literal) (i : ℕ) (out one two : List ℕ) → 0 < length cube → length cube - 1 ≤ i → one ≡ out ++ literal_text (literal_of (get_or cube 0 d)) → two ≡ one ++ flat_map (λ l. codes "&" ++ literal_text (literal_of l)) (take i (take (length cube - 1) (drop 1 cube))) → two ≡ out ++ cube_piece (map literal_of cube)
 cube_written cube d i out one two some h first rest =
-    let others = flat_map (λ (l : Literal). codes "&" ++ literal_text (literal l)) in
+    let others = flat_map (λ (l : Literal). codes "&" ++ literal_text (literal_of l)) in
     rest ∙ (ap (λ ls. one ++ others ls) (all_others cube i h) ∙ (ap (λ t. t ++ others (drop 1 cube)) first
-    ∙ (append_assoc out (literal_text (literal (get_or cube 0 d))) (others (drop 1 cube)) ∙ ap (λ t. out ++ t) (sym (cube_piece_more cube d some)))))
+    ∙ (append_assoc out (literal_text (literal_of (get_or cube 0 d))) (others (drop 1 cube)) ∙ ap (λ t. out ++ t) (sym (cube_piece_more cube d some)))))
 
 -- marks after the first and the others
 pub marks_written : (marks : List ℕ) (i : ℕ) (out one two three last : List ℕ) → 0 < length marks → length marks - 1 ≤ i → one ≡ out ++ codes " {" → two ≡ one ++ decimal (get_or marks 0 0) → three ≡ two ++ flat_map (λ m. codes " " ++ decimal m) (take i (take (length marks - 1) (drop 1 marks))) → last ≡ three ++ codes "}" → last ≡ out ++ marks_text marks
@@ -75,7 +75,7 @@ marks_written marks i out one two three last some h open_ first rest close =
     let others = flat_map (λ (m : ℕ). codes " " ++ decimal m) in
     let all : three ≡ two ++ others (drop 1 marks) = rest ∙ ap (λ ms. two ++ others ms) (all_others marks i h) in
     let text = marks_text_more marks some in
-    rw (close, all, first, open_, text, append_assoc, append_assoc, append_assoc) refl
+    rw (close, all, first, open_, text) (simp append_assoc)
 
 -- what a test for an empty list says
 pub some_item : (n : ℕ) (is_empty : Bool) → is_empty ≡ false → is_empty ≡ eqb n 0 → 0 < n

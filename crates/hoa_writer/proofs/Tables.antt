@@ -1,5 +1,5 @@
 -- The table of a truth function, and its cubes.
-use Rattle.std.proofs.Common.{◌≡◌, ℕ, zero, suc, ◌+◌, ◌-◌, ◌*◌, ◌/◌, ◌^◌, ◌<◌, ◌≤◌, ◌∙◌, sym, ap, refl, arith, Bool, true, false, ◌||◌, List, [], ◌∷◌, ◌++◌, map, take, drop, set, length, slice_set}
+use Rattle.std.proofs.Common.{◌≡◌, ℕ, zero, suc, ◌+◌, ◌-◌, ◌/◌, ◌^◌, ◌<◌, ◌∙◌, sym, ap, refl, arith, Bool, true, false, ◌||◌, List, [], ◌∷◌, ◌++◌, map, take, drop, set, length}
 use Rattle.std.proofs.Math.Nat.{pow-suc, mul-div_cancel}
 use Rattle.std.proofs.lemmas.List.{append-nil, append_assoc, map-append, take_all, take_more_set, length-set, length-take-le, length-drop, take-set, take-take, take_rest}
 use Rattle.std.specs.Bool.{beq}

@@ -1,11 +1,11 @@
 -- What makes an automaton well formed.
-use Rattle.std.proofs.Common.{◌≡◌, ◌≢◌, ℕ, ◌<◌, ◌≤◌, ◌+◌, ◌∙◌, sym, ap, arith, List, [], ◌∷◌, map, length, get_or, All, AllPairs}
+use Rattle.std.proofs.Common.{◌≢◌, ℕ, ◌<◌, ◌≤◌, ◌∙◌, ap, arith, List, [], ◌∷◌, map, length, get_or, All, AllPairs}
 use Rattle.std.proofs.lemmas.List.{get_or-map, get_or_default, length-map}
 use Rattle.std.proofs.lemmas.List.Elements.{All-map}
 use Rattle.std.proofs.lemmas.List.Sorted.{IsNonDecreasingBy-from_all_adjacent}
 use Rattle.std.specs.List.{AllAdjacentBelow}
 use Rattle.std.specs.List.Sorted.{IsNonDecreasing}
-use Rattle.aut_base.specs.Automaton.{Arrow, Automaton, arrow, automaton, IsWellFormed, IsArrowOf}
+use Rattle.aut_base.specs.Automaton.{Arrow, arrow, automaton, IsWellFormed, IsArrowOf}
 use Rattle.aut_base.specs.Formula.{SetsBelow, formula_tree}
 use Rattle.aut_base.specs.declared.description.Description.{Description}
 use Rattle.aut_base.specs.declared.description.Edge.{Edge}

@@ -1,5 +1,5 @@
 -- Parts of the text, as the writer goes along.
-use Rattle.std.specs.Prelude.{◌≡◌, ℕ, ◌<◌, ◌≤◌, Bool, ◌==◌, List, ◌++◌, map, filter, flat_map, drop, length, codes}
+use Rattle.std.specs.Prelude.{◌≡◌, ℕ, ◌<◌, ◌≤◌, ◌==◌, List, ◌++◌, map, filter, flat_map, drop, length, codes}
 use Rattle.std.specs.Fmt.{decimal}
 use Rattle.std.specs.List.{slice_index_or}
 use Rattle.aut_base.specs.Automaton.{Arrow, arrow}

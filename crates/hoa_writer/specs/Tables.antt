@@ -1,5 +1,5 @@
 -- The cubes of a truth function that is given by its table.
-use Rattle.std.specs.Prelude.{◌≡◌, ℕ, zero, suc, ◌+◌, ◌^◌, Bool, true, false, not, ◌||◌, if◌then◌else◌, List, [], ◌∷◌, ◌++◌, map, take, drop, codes}
+use Rattle.std.specs.Prelude.{◌≡◌, ℕ, zero, suc, ◌+◌, ◌^◌, Bool, true, false, ◌||◌, if◌then◌else◌, List, [], ◌∷◌, ◌++◌, map, take, drop, codes}
 use Rattle.std.specs.Bool.{beq}
 use Rattle.std.specs.Cmp.Lexicographic.{pointwise}
 use Rattle.std.specs.List.{slice_index_or}
@@ -7,8 +7,8 @@ use Rattle.hoa_writer.specs.CanonicalLabel as canonical
 use Rattle.hoa_writer.specs.Pieces.{cube_piece, pieces_after}
 use Rattle.hoa_writer.specs.declared.label.Literal.{Literal}
 
-abbrev pub literal : Literal → canonical.Literal
-literal l = record { prop = l.prop; holds = l.holds }
+abbrev pub literal_of : Literal → canonical.Literal
+literal_of l = record { prop = l.prop; holds = l.holds }
 
 -- the cubes, where the table has the truth for each valuation in order
 abbrev pub table_cubes : ℕ → ℕ → List Bool → List (List canonical.Literal)

@@ -4,7 +4,7 @@ ghost use Rattle.std.specs.Prelude.{◌≡◌, ◌++◌, ◌-◌, ◌+◌, ◌�
 ghost use Rattle.aut_base.specs.Label.{AllBelow, label_tree};
 ghost use Rattle.hoa_writer.specs.CanonicalLabel.{valuations, truth_on, label_text, literal_text};
 ghost use Rattle.hoa_writer.specs.Pieces.{cube_piece};
-ghost use Rattle.hoa_writer.specs.Tables.{literal, WritesCubes};
+ghost use Rattle.hoa_writer.specs.Tables.{literal_of, WritesCubes};
 
 use crate::number::push_number;
 use aut_base::{Label, Memory, Text};
@@ -109,7 +109,7 @@ fn push_cubes(
     requires few { prop + left ≤ 8 }
     requires size { length table.now ≡ 2 ^ left }
     ensures kept { OnOk result (cube.new.items ≡ cube.old.items) }
-    ensures cubes { IfOk result (λ now. WritesCubes (map literal cube.old.items) table.now prop left is_written now out.old out.new) }
+    ensures cubes { IfOk result (λ now. WritesCubes (map literal_of cube.old.items) table.now prop left is_written now out.old out.new) }
 {
     if left == 0 {
         if !table[0] {
@@ -138,25 +138,25 @@ fn push_cubes(
 fn push_half(
     out: &mut Text,
     cube: &mut Vec<Literal>,
-    one: Literal,
+    literal: Literal,
     table: &[bool],
     left: u32,
     is_written: bool,
 ) -> Result<bool, Memory>
-    requires few { one.prop + 1 + left ≤ 8 }
+    requires few { literal.prop + 1 + left ≤ 8 }
     requires size { length table.now ≡ 2 ^ left }
     ensures kept { OnOk result (cube.new.items ≡ cube.old.items) }
-    ensures cubes { IfOk result (λ now. WritesCubes (map literal cube.old.items ++ literal one ∷ []) table.now (one.prop + 1) left is_written now out.old out.new) }
+    ensures cubes { IfOk result (λ now. WritesCubes (map literal_of cube.old.items ++ literal_of literal ∷ []) table.now (literal.prop + 1) left is_written now out.old out.new) }
 {
-    cube.push(one)?;
-    let is_written = push_cubes(out, cube, table, one.prop + 1, left, is_written)?;
+    cube.push(literal)?;
+    let is_written = push_cubes(out, cube, table, literal.prop + 1, left, is_written)?;
     let _ = cube.pop();
     Ok(is_written)
 }
 
 /// Adds a cube, or `t` if it has no literal.
 fn push_cube(out: &mut Text, cube: &[Literal]) -> Result<(), Memory>
-    ensures { OnOk result (out.new ≡ out.old ++ cube_piece (map literal cube.now)) }
+    ensures { OnOk result (out.new ≡ out.old ++ cube_piece (map literal_of cube.now)) }
 {
     if cube.is_empty() {
         return out.push(b't');
@@ -171,12 +171,12 @@ fn push_cube(out: &mut Text, cube: &[Literal]) -> Result<(), Memory>
 }
 
 /// Adds a literal.
-fn push_literal(out: &mut Text, one: Literal) -> Result<(), Memory>
-    ensures { OnOk result (out.new ≡ out.old ++ literal_text (literal one)) }
+fn push_literal(out: &mut Text, literal: Literal) -> Result<(), Memory>
+    ensures { OnOk result (out.new ≡ out.old ++ literal_text (literal_of literal)) }
 {
-    if one.holds {
-        return push_number(out, one.prop);
+    if literal.holds {
+        return push_number(out, literal.prop);
     }
     out.push(b'!')?;
-    push_number(out, one.prop)
+    push_number(out, literal.prop)
 }

@@ -1,4 +1,4 @@
-use Rattle.std.proofs.Common.{◌≡◌, ◌≤◌, sym, ap, subst, arith, length}
+use Rattle.std.proofs.Common.{◌≤◌, sym, ap, subst, arith, length}
 use Rattle.aut_base.specs.Label.{AllBelow, label_tree, label_list}
 use Rattle.hoa_writer.proofs.Labels.{size, size-And, size-Or, size_part, And_below, Or_below, below_all}
 use Rattle.hoa_writer.proofs.formed.+below.Goals as goal

@@ -1,11 +1,11 @@
-use Rattle.std.proofs.Common.{◌≡◌, ◌+◌, ◌*◌, ◌<◌, ◌∙◌, sym, ap, arith, refl, ◌++◌, take, length}
+use Rattle.std.proofs.Common.{◌∙◌, sym, ap, arith, refl, ◌++◌, take}
 use Rattle.std.proofs.lemmas.Result.{on_ok_weaker}
 use Rattle.std.specs.Prelude.{codes}
 use Rattle.aut_base.specs.Formula.{formula_tree, formula_list}
 use Rattle.aut_base.proofs.FormulaTrees.{formula_tree-Inf, formula_tree-Fin}
 use Rattle.hoa_writer.specs.CanonicalText.{formula_text, set_text}
 use Rattle.hoa_writer.specs.Pieces.{list_text, part_text}
-use Rattle.hoa_writer.proofs.Formulas.{size, list_size, size-And, size-Or, size_part, text-And, text-Or, list_more}
+use Rattle.hoa_writer.proofs.Formulas.{size, size-And, size-Or, size_part, text-And, text-Or, list_more}
 use Rattle.hoa_writer.proofs.Pieces.{two_written}
 use Rattle.hoa_writer.proofs.formula.+formula_text.Goals as goal
 

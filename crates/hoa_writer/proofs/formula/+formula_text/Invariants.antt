@@ -1,5 +1,5 @@
 -- Each part is smaller than the whole, and the parts so far are written.
-use Rattle.std.proofs.Common.{◌≡◌, ◌<◌, ◌≤◌, ◌+◌, ◌*◌, ◌++◌, take, length}
+use Rattle.std.proofs.Common.{◌≡◌, ◌+◌, ◌*◌, ◌++◌, take}
 use Rattle.aut_base.specs.Formula.{formula_tree, formula_list}
 use Rattle.hoa_writer.specs.Pieces.{list_text}
 use Rattle.hoa_writer.proofs.Formulas.{size, list_size}

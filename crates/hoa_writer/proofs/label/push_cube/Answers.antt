@@ -1,4 +1,4 @@
-use Rattle.std.proofs.Common.{◌<◌, arith, length}
+use Rattle.std.proofs.Common.{arith, length}
 use Rattle.hoa_writer.proofs.Pieces.{cube_written, some_item}
 use Rattle.hoa_writer.proofs.label.push_cube.Goals as goal
 

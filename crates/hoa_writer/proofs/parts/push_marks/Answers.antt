@@ -1,4 +1,4 @@
-use Rattle.std.proofs.Common.{◌<◌, arith, length}
+use Rattle.std.proofs.Common.{arith, length}
 use Rattle.std.proofs.lemmas.Result.{on_ok_weaker}
 use Rattle.hoa_writer.proofs.Pieces.{marks_written, some_item}
 use Rattle.hoa_writer.proofs.parts.push_marks.Goals as goal

@@ -1,5 +1,5 @@
 -- What is written so far, and what is left, make up the edges of the state.
-use Rattle.std.proofs.Common.{◌≡◌, ℕ, ◌<◌, ◌≤◌, ◌-◌, length}
+use Rattle.std.proofs.Common.{◌≡◌, ◌-◌, length}
 use Rattle.hoa_writer.proofs.Lines.{EdgesSoFar}
 use Rattle.hoa_writer.proofs.write.push_edges.Given as goal
 

@@ -1,4 +1,4 @@
-use Rattle.std.proofs.Common.{◌∙◌, length}
+use Rattle.std.proofs.Common.{◌∙◌}
 use Rattle.hoa_writer.proofs.Lines.{leads, state_more}
 use Rattle.hoa_writer.proofs.write.push_states.Goals as goal
 
