@@ -10,7 +10,7 @@ use Rattle.aut_base.specs.Label.{LabelTree, True}
 use Rattle.hoa_writer.specs.CanonicalLabel.{Literal, label_text, valuations, is_independent, cubes, cube_text, cubes_text, joined}
 use Rattle.hoa_writer.specs.Pieces.{cube_piece, pieces_after}
 use Rattle.hoa_writer.specs.Tables.{table_cubes, is_any, WritesCubes}
-use Rattle.hoa_writer.proofs.Tables.{map-map}
+use Rattle.hoa_writer.proofs.Pieces.{map-map}
 
 pub length-valuations : (n : ℕ) → length (valuations n) ≡ 2 ^ n
 length-valuations zero = refl

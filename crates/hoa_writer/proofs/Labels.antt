@@ -1,4 +1,4 @@
--- The size of a label, and what holds of its parts.
+-- The size of a label, and what holds of its parts, for the tests.
 use Rattle.std.proofs.Common.{◌≡◌, ℕ, zero, suc, ◌+◌, ◌<◌, ◌≤◌, ◌∙◌, sym, ap, subst, refl, arith, List, [], ◌∷◌, length, get_or, Some, slice_get, All}
 use Rattle.std.proofs.Common.{⊎_elim}
 use Rattle.std.proofs.lemmas.Bool.{cases_eq}

@@ -26,7 +26,7 @@ each_after-map separator f (x ∷ xs) = ap (λ t. (separator ++ f x) ++ t) (each
 joined_more : {A : Type 0} (separator : List ℕ) (f : A → List ℕ) (x : A) (xs : List A) → joined separator (map f (x ∷ xs)) ≡ f x ++ flat_map (λ y. separator ++ f y) xs
 joined_more separator f x xs = joined_each separator (f x) (map f xs) ∙ ap (λ t. f x ++ t) (each_after-map separator f xs)
 
-map-map : {A B C : Type 0} (f : B → C) (g : A → B) (xs : List A) → map f (map g xs) ≡ map (λ x. f (g x)) xs
+pub map-map : {A B C : Type 0} (f : B → C) (g : A → B) (xs : List A) → map f (map g xs) ≡ map (λ x. f (g x)) xs
 map-map f g [] = refl
 map-map f g (x ∷ xs) = ap (λ ys. f (g x) ∷ ys) (map-map f g xs)
 

@@ -8,11 +8,7 @@ use Rattle.std.specs.Prelude.{codes}
 use Rattle.hoa_writer.specs.CanonicalLabel.{Literal, valuations}
 use Rattle.hoa_writer.specs.Pieces.{cube_piece, pieces_after}
 use Rattle.hoa_writer.specs.Tables.{table_cubes, is_any, WritesCubes}
-use Rattle.hoa_writer.proofs.Pieces.{pieces_split, is_any-map, is_any-append}
-
-pub map-map : {A B C : Type 0} (f : B → C) (g : A → B) (xs : List A) → map f (map g xs) ≡ map (λ x. f (g x)) xs
-map-map f g [] = refl
-map-map f g (x ∷ xs) = ap (λ ys. f (g x) ∷ ys) (map-map f g xs)
+use Rattle.hoa_writer.proofs.Pieces.{map-map, pieces_split, is_any-map, is_any-append}
 
 map_same : {A B : Type 0} (f g : A → B) → ((x : A) → f x ≡ g x) → (xs : List A) → map f xs ≡ map g xs
 map_same f g same [] = refl

@@ -1,4 +1,4 @@
--- What makes an automaton well formed.
+-- What makes an automaton well formed, for the tests.
 use Rattle.std.proofs.Common.{◌≢◌, ℕ, ◌<◌, ◌≤◌, ◌∙◌, ap, arith, List, [], ◌∷◌, map, length, get_or, All, AllPairs}
 use Rattle.std.proofs.lemmas.List.{get_or-map, get_or_default, length-map}
 use Rattle.std.proofs.lemmas.List.Elements.{All-map}

@@ -48,6 +48,7 @@ pub(crate) fn push_label(out: &mut Text, room: &mut Room, label: &Label) -> Resu
     ensures text { OnOk result (out.new ≡ out.old ++ label_text (length room.old.valuation.items) (label_tree label.now)) }
     ensures room { OnOk result (length room.new.valuation.items ≡ length room.old.valuation.items) }
 {
+    // The most common label needs no table.
     if let Label::True = label {
         return out.push(b't');
     }
