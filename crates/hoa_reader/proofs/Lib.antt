@@ -1,3 +1,4 @@
+pub mod Described
 pub mod Distinct
 pub mod Exits
 pub mod Fronts
