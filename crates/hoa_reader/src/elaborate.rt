@@ -1,9 +1,9 @@
 //! From what a text writes to the automaton that it describes.
 
-ghost use Rattle.std.specs.Prelude.{◌≡◌, ◌≢◌, ◌<◌, ◌≤◌, ℕ, List, length, map, AllPairs, IfOk, None};
+ghost use Rattle.std.specs.Prelude.{◌≡◌, ◌≢◌, ◌<◌, List, map, AllPairs, IfOk};
 ghost use Rattle.aut_base.specs.Automaton.{arrow, automaton};
 ghost use Rattle.aut_base.specs.Label.{label_tree};
-ghost use Rattle.hoa_reader.specs.FirstForm.{FirstForm, Guard, Loop, IsFirstForm, form_automaton, form_written, guard_label, guard_written, loop_arrow, loop_written};
+ghost use Rattle.hoa_reader.specs.FirstForm.{FirstForm, Guard, Loop, form_automaton, form_written, guard_label, guard_written, loop_arrow, loop_written};
 ghost use Rattle.hoa_reader.specs.Describing.{HasFirstForm, IsGuard, IsProposition, IsLoop, AreLoops};
 ghost use Rattle.hoa_reader.specs.Raw.{RawTree, raw_tree, written, written_edge};
 
@@ -109,7 +109,6 @@ fn described_edge(alloc: Global, edge: &RawEdge) -> Result<Edge, Memory>
 }
 
 /// The label, which is of one literal at most.
-#[tactic(auto, using(crate::proofs::RawTrees::raw_trees))]
 fn described_label(alloc: Global, label: &RawLabel) -> Result<Label, Memory>
     requires { IsGuard (raw_tree label.now) }
     ensures { IfOk result (λ new. (guard : Guard) → raw_tree label.now ≡ guard_written guard → label_tree new ≡ guard_label guard) }
