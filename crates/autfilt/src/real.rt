@@ -29,7 +29,9 @@ pub struct RealInputs {
 
 impl RealInputs {
     /// Takes room for one block.
-    pub fn new(alloc: Global, stdin: Stdin) -> Result<Self, Memory> {
+    pub fn new(alloc: Global, stdin: Stdin) -> Result<Self, Memory>
+        ensures { IfOk result (λ inputs. (inputs.open_faults ≡ 0) × (inputs.read_faults ≡ 0)) }
+    {
         Ok(RealInputs {
             stdin,
             is_open: false,
@@ -114,7 +116,10 @@ pub struct RealSink<W> {
 
 impl<W> RealSink<W> {
     /// What this writer writes to.
-    pub fn new(writer: W) -> Self {
+    pub fn new(writer: W) -> Self
+        ensures writer { result.writer ≡ writer }
+        ensures faults { result.faults ≡ 0 }
+    {
         RealSink { writer, faults: 0 }
     }
 }

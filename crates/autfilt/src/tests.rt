@@ -15,7 +15,7 @@ const OUTPUT: &[u8] =
     b"HOA: v1\nStates: 1\nStart: 0\nAP: 1 \"a\"\nAcceptance: 1 Inf(0)\nproperties: trans-labels explicit-labels trans-acc\n--BODY--\nState: 0\n[0] 0 {0}\n[!0] 0\n--END--\n";
 
 /// What a run is over, apart from its words.
-#[derive(Clone, Copy, Drop)]
+#[derive(Clone, Copy)]
 struct Outside<'a> {
     /// What stands under `-`, if that can be opened.
     input: Option<&'a [u8]>,
