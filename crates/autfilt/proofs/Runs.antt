@@ -2,6 +2,7 @@
 use Rattle.std.proofs.Common.{◌≡◌, ◌≢◌, ℕ, ◌+◌, ◌-◌, ◌^◌, ◌<◌, ◌≤◌, min, Bool, true, false, List, [], ◌∷◌, ◌++◌, Option, Some, None, Result, Ok, Err, length, flat_map, refl, sym, ap, ◌∙◌, subst, inl, inr, append_assoc, append-nil, arith}
 use Rattle.aut_base.specs.declared.limit.Limit.TheVariants as limit
 use Rattle.aut_io.specs.Outside.{Gains, Rose}
+use Rattle.autfilt.proofs.Gains.{both, nothing}
 use Rattle.autfilt.specs.Run.{Calm, IsStream, end_of, output_of}
 use Rattle.autfilt.specs.Running.{AreFront, EndCauses, HasRun, RunsOver, ended_of, is_some_form}
 use Rattle.autfilt.specs.Turn.{Causes, IsPrinted, Turns}
@@ -12,18 +13,6 @@ use Rattle.hoa_reader.proofs.OneForm.{no_blank_automaton, one_automaton}
 use Rattle.hoa_reader.specs.FirstForm.{FirstForm, IsFirstForm, form_automaton, form_tokens}
 use Rattle.hoa_reader.specs.Reads.{IsRefused, Reads}
 use Rattle.hoa_writer.specs.CanonicalText.{canonical_text}
-
--- pieces that were written one after the other
-pub gains_then : (a b c : Option (List ℕ)) (p q : List ℕ) → Gains a b p → Gains b c q → Gains a c (p ++ q)
-gains_then None b c p q g h = let P : Option (List ℕ) → Type 0 = λ b. Gains b c q in subst P g h
-gains_then (Some a) b c p q g h =
-    let P : Option (List ℕ) → Type 0 = λ b. Gains b c q in
-    let last : c ≡ Some ((a ++ p) ++ q) = subst P g h in
-    last ∙ ap Some (append_assoc a p q)
-
-pub gains_none : (a : Option (List ℕ)) → Gains a a []
-gains_none None = refl
-gains_none (Some a) = ap Some (sym (append-nil a))
 
 gains_same : (a b c : Option (List ℕ)) (p q : List ℕ) → c ≡ b → p ≡ q → Gains a b p → Gains a c q
 gains_same a b c p q e k g =
@@ -47,14 +36,14 @@ some_push (g ∷ gs) f = refl
 
 -- nothing was read yet
 pub run_none : (x : List ℕ) (w : Option (List ℕ)) → HasRun x x w w false
-run_none x w = record { forms = []; front = refl; gains = gains_none w; is_printed = refl }
+run_none x w = record { forms = []; front = refl; gains = nothing w; is_printed = refl }
 
 -- one more automaton
 pub run_more : (x y z : List ℕ) (w w' w'' : Option (List ℕ)) (printed : Bool) → HasRun x y w w' printed → IsPrinted y z w' w'' → HasRun x z w w'' true
 run_more x y z w w' w'' printed h p = record {
   forms = h.forms ++ p.form ∷ [];
   front = front_push h.forms p.form x y z h.front p.valid p.read;
-  gains = gains_same w w'' w'' _ _ refl (sym (output_push h.forms p.form)) (gains_then w w' w'' (output_of h.forms) (canonical_text (form_automaton p.form) None) h.gains p.gains);
+  gains = gains_same w w'' w'' _ _ refl (sym (output_push h.forms p.form)) (both w w' w'' (output_of h.forms) (canonical_text (form_automaton p.form) None) h.gains p.gains);
   is_printed = sym (some_push h.forms p.form);
 }
 

@@ -1,4 +1,5 @@
 pub mod Faults
+pub mod Notes
 pub mod Run
 pub mod Running
 pub mod Status

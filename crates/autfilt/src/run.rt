@@ -1,7 +1,8 @@
 //! The top call.
 
 ghost use Rattle.std.specs.Prelude.{◌≡◌, ◌≢◌, ◌+◌, ◌<◌, [], length, false};
-ghost use Rattle.aut_io.specs.Outside.{Rose};
+ghost use Rattle.aut_io.specs.Outside.{Gains, GainsPrefix};
+ghost use Rattle.autfilt.specs.Notes.{line_of};
 ghost use Rattle.autfilt.specs.Run.{Calm, EndsBecause, PrintsStream, standard_input};
 ghost use Rattle.autfilt.specs.Running.{EndCauses, RunsOver, ended_of};
 ghost use Rattle.hoa_lexer.specs.Reading.{Between, unread};
@@ -13,6 +14,7 @@ use aut_io::{Inputs, Sink};
 use hoa_lexer::Lexer;
 
 use crate::ended::Ended;
+use crate::notes::note;
 use crate::turn::print_next;
 
 /// The most bytes that a run may take.
@@ -94,10 +96,16 @@ pub fn autfilt<I: Inputs, W: Sink, M: Sink>(
     ensures causes { words.now ≡ [] → EndsBecause result (I.open_faults inputs.old) (I.open_faults inputs.new)
         (I.read_faults inputs.old) (I.read_faults inputs.new) (W.faults out.old) (W.faults out.new) }
     ensures usage { words.now ≢ [] → result ≡ Ended.Usage }
+    // The line about the end goes to `notes`, as far as that takes it.
+    ensures note { Calm (M.faults notes.old) (M.faults notes.new) → Gains (M.written notes.old) (M.written notes.new) (line_of result) }
+    ensures note_prefix { GainsPrefix (M.written notes.old) (M.written notes.new) (line_of result) }
     ensures untouched { words.now ≢ [] → (I.left inputs.new ≡ I.left inputs.old) × (W.written out.new ≡ W.written out.old) }
 {
-    if !words.is_empty() {
-        return Ended::Usage;
-    }
-    print_stream(alloc, inputs, out)
+    let ended = if words.is_empty() {
+        print_stream(alloc, inputs, out)
+    } else {
+        Ended::Usage
+    };
+    note(notes, &ended);
+    ended
 }
