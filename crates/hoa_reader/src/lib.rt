@@ -6,6 +6,8 @@ mod fault;
 mod parse;
 mod raw;
 mod read;
+#[cfg(test)]
+mod tests;
 
 pub use elaborate::{ElabFault, describe};
 pub use fault::ReadFault;
