@@ -184,7 +184,3 @@ comment_err (BadToken n) depth x y z l h s = absurd s
 comment_err OpenString depth x y z l h s = absurd s
 comment_err OpenToken depth x y z l h s = absurd s
 comment_err Memory depth x y z l h s = absurd s
-
-pub comment_done : (depth : ℕ) (x y : List ℕ) → depth ≡ 0 → (closing depth y ≡ closing 1 x) × (seen : List ℕ) × (x ≡ seen ++ y) → closing 1 x ≡ Some y
-comment_done zero x y e h = sym h.0
-comment_done (suc d) x y e h = absurd (omega arith)

@@ -1,9 +1,9 @@
 -- The words in dashes.
-use Rattle.std.proofs.Common.{◌≡◌, ℕ, suc, ◌<◌, List, [], ◌∷◌, ◌++◌, length, take, drop, get_or, Option, None, Result, Err, ◌⊎◌, inl, inr, refl, sym, subst, ◌∙◌, ap, arith, is_some, not, drop-cons}
+use Rattle.std.proofs.Common.{◌≡◌, ℕ, suc, ◌<◌, List, [], ◌∷◌, ◌++◌, length, take, drop, get_or, Option, None, Err, ◌⊎◌, inl, inr, refl, sym, subst, ◌∙◌, ap, arith, drop-cons}
 use Rattle.std.specs.Prelude.{codes}
 use Rattle.std.proofs.lemmas.List.{append_assoc, append-nil, length-append, take-append-drop}
 use Rattle.hoa_lexer.specs.Reading.{unread}
-use Rattle.hoa_lexer.specs.Spelling.{Spells, closes_itself}
+use Rattle.hoa_lexer.specs.Spelling.{Spells}
 use Rattle.hoa_lexer.specs.Steps.{Expects, IsDashed, IsReadFault, Pauses, ReadsToken, ReadsWord}
 use Rattle.hoa_lexer.specs.Text.{IsFront, HasFront, Begins, IsOpenToken, IsNoToken}
 use Rattle.hoa_lexer.proofs.Comments.{unheld}
@@ -52,15 +52,6 @@ second_at b bs rest (inl e) = cc
 second_at b bs rest (inr (inl e)) = cc
 second_at b bs rest (inr (inr e)) = cc
 
-pub dash_bad : (b : ℕ) (x z : List ℕ) → x ≡ b ∷ z → (b ≡ 45 → ⊥) → IsNoToken (45 ∷ x)
-dash_bad b x z e n = record {
-  some = λ k. cc;
-  no_space = solid 45 _ refl;
-  no_comment = λ rest k. no_slash_here k;
-  no_slash = λ k. no_slash_here k;
-  no_token = λ t. n (second_at b (z ++ t.more) _ (subst (λ (w : List ℕ). IsTail w t.front.rest) (ap (λ w. w ++ t.more) e) (front_tail (x ++ t.more) t.front)));
-}
-
 pub dash_end : (x : List ℕ) → x ≡ [] → IsOpenToken (45 ∷ x)
 dash_end x e = subst (λ (w : List ℕ). IsOpenToken (45 ∷ w)) (sym e) (record {
   some = λ k. cc;
@@ -93,17 +84,6 @@ third_at : (b : ℕ) (bs rest : List ℕ) → IsTail (45 ∷ b ∷ bs) rest → 
 third_at b bs rest (inl e) = inl (cc)
 third_at b bs rest (inr (inl e)) = inr (inl (cc))
 third_at b bs rest (inr (inr e)) = inr (inr (cc))
-
-pub dashes_bad : (b : ℕ) (x z : List ℕ) → x ≡ b ∷ z → (b ≡ 66 → ⊥) → (b ≡ 69 → ⊥) → (b ≡ 65 → ⊥) → IsNoToken (45 ∷ 45 ∷ x)
-dashes_bad b x z e n m o = record {
-  some = λ k. cc;
-  no_space = solid 45 _ refl;
-  no_comment = λ rest k. no_slash_here k;
-  no_slash = λ k. no_slash_here k;
-  no_token = λ t.
-      let tail = subst (λ (w : List ℕ). IsTail (45 ∷ w) t.front.rest) (ap (λ w. w ++ t.more) e) (front_tail (45 ∷ (x ++ t.more)) t.front) in
-      elim (third_at b (z ++ t.more) _ tail) [ inl k ↦ n k | inr h ↦ elim h [ inl k ↦ m k | inr k ↦ o k ] ];
-}
 
 pub dashes_end : (x : List ℕ) → x ≡ [] → IsOpenToken (45 ∷ 45 ∷ x)
 dashes_end x e = subst (λ (w : List ℕ). IsOpenToken (45 ∷ 45 ∷ w)) (sym e) (record {
@@ -158,17 +138,6 @@ dashed_front (Str text) letter tail rest d = absurd d
 dashed_front (Int n) letter tail rest d = absurd d
 dashed_front (Alias name) letter tail rest d = absurd d
 dashed_front _ letter tail rest d = absurd d
-
-pub dashed_holds : (token : Token) (h : Option ℕ) (letter : ℕ) (tail : List ℕ) → IsDashed token letter tail → h ≡ None → is_some h ≡ not (closes_itself token)
-dashed_holds Body h letter tail d e = ap is_some e
-dashed_holds End h letter tail d e = ap is_some e
-dashed_holds Abort h letter tail d e = ap is_some e
-dashed_holds (HeaderName name) h letter tail d e = absurd d
-dashed_holds (Identifier name) h letter tail d e = absurd d
-dashed_holds (Str text) h letter tail d e = absurd d
-dashed_holds (Int n) h letter tail d e = absurd d
-dashed_holds (Alias name) h letter tail d e = absurd d
-dashed_holds _ h letter tail d e = absurd d
 
 tail_open : (token : Token) (letter b : ℕ) (tail seen : List ℕ) → IsDashed token letter tail → Expects tail seen b → HasFront (45 ∷ 45 ∷ letter ∷ seen) → ⊥
 tail_open token letter b tail seen d w f =
@@ -257,9 +226,3 @@ expect_err OpenComment word k offset h x y z r l n e w = absurd r
 expect_err OpenString word k offset h x y z r l n e w = absurd r
 expect_err OpenToken word k offset h x y z r l n e w = absurd r
 expect_err Memory word k offset h x y z r l n e w = absurd r
-
-pub along_offset : (result : Result Token LexFault) (offset offset' : ℕ) (x y : List ℕ) → offset ≡ offset' → ReadsToken result offset x y → ReadsToken result offset' x y
-along_offset result offset offset' x y e r = subst (λ (o : ℕ). ReadsToken result o x y) e r
-
-pub along_bytes : (result : Result Token LexFault) (offset offset' : ℕ) (x x' y : List ℕ) → offset ≡ offset' → x ≡ x' → ReadsToken result offset x y → ReadsToken result offset' x' y
-along_bytes result offset offset' x x' y e k r = along_offset result offset offset' x' y e (subst (λ (w : List ℕ). ReadsToken result offset w y) k r)

@@ -1,9 +1,9 @@
 -- The first byte of a spelled word tells the kind of its token.
-use Rattle.std.proofs.Common.{◌≡◌, ◌≢◌, ℕ, ◌<◌, true, false, cond, List, [], ◌∷◌, ◌++◌, refl, sym, subst, ◌∙◌, ap, arith, Option, None, is_some, not, ⊎_elim}
+use Rattle.std.proofs.Common.{◌≡◌, ◌≢◌, ℕ, ◌<◌, true, false, cond, List, [], ◌∷◌, ◌++◌, refl, sym, subst, ◌∙◌, ap, arith, ⊎_elim}
 use Rattle.std.proofs.lemmas.Bool.{false≢true, cases_Bool}
 use Rattle.std.proofs.lemmas.Bool.Decides.{nat_tests}
 use Rattle.hoa_lexer.specs.Bytes.{is_digit, is_letter, is_space}
-use Rattle.hoa_lexer.specs.Spelling.{Spells, closes_itself}
+use Rattle.hoa_lexer.specs.Spelling.{Spells}
 use Rattle.hoa_lexer.specs.Text.{IsFront, HasFront, IsNoToken}
 use Rattle.hoa_lexer.specs.Steps.{IsMark}
 use Rattle.hoa_lexer.specs.declared.token.Token.{Token}
@@ -180,23 +180,6 @@ mark_front (Str text) b x h = absurd h
 mark_front (Int n) b x h = absurd h
 mark_front (Alias name) b x h = absurd h
 mark_front _ b x h = absurd h
-
-pub mark_holds : (token : Token) (h : Option ℕ) (b : ℕ) → IsMark token b → h ≡ None → is_some h ≡ not (closes_itself token)
-mark_holds Bang h b m e = ap is_some e
-mark_holds Amp h b m e = ap is_some e
-mark_holds Bar h b m e = ap is_some e
-mark_holds LeftParen h b m e = ap is_some e
-mark_holds RightParen h b m e = ap is_some e
-mark_holds LeftBrace h b m e = ap is_some e
-mark_holds RightBrace h b m e = ap is_some e
-mark_holds LeftBracket h b m e = ap is_some e
-mark_holds RightBracket h b m e = ap is_some e
-mark_holds (HeaderName name) h b m e = absurd m
-mark_holds (Identifier name) h b m e = absurd m
-mark_holds (Str text) h b m e = absurd m
-mark_holds (Int n) h b m e = absurd m
-mark_holds (Alias name) h b m e = absurd m
-mark_holds _ h b m e = absurd m
 
 -- the first byte is no space
 pub solid : (b : ℕ) (x : List ℕ) → is_space b ≡ false → (c : ℕ) (rest : List ℕ) → b ∷ x ≡ c ∷ rest → is_space c ≡ true → ⊥

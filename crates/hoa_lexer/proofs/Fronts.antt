@@ -6,7 +6,7 @@ use Rattle.hoa_lexer.specs.Blanks.{Closes, IsBlanks, IsOpenComment}
 use Rattle.hoa_lexer.specs.Blanks.IsBlanks.{nothing, space, comment}
 use Rattle.hoa_lexer.specs.Bytes.{is_space}
 use Rattle.hoa_lexer.specs.Reading.{unread, held_count, Answers}
-use Rattle.hoa_lexer.specs.Steps.{closing, Peeks, ClosesComment, IsReadFault, IsSolid, Skips, SkipsComment, SkipsBlanks, Pauses, ReadsToken}
+use Rattle.hoa_lexer.specs.Steps.{closing, ClosesComment, IsReadFault, IsSolid, Skips, SkipsComment, SkipsBlanks, Pauses, ReadsToken}
 use Rattle.hoa_lexer.specs.Text.{IsFront, HasFront, IsNext, AfterBlanks, IsOpenString, IsOpenToken, IsNoToken, AsksForMore}
 use Rattle.hoa_lexer.proofs.Comments.{closing_after, closing_sound, unheld, holding, steps_out, steps_in, steps_on}
 use Rattle.hoa_lexer.proofs.FirstBytes.{front_head, no_front, no_space, no_slash, solid}
@@ -46,10 +46,6 @@ same_close body body' bs bs' xs xs' h k e =
     let whole : body ++ (bs ++ xs) ≡ body' ++ (bs' ++ xs') = sym (append_assoc body bs xs) ∙ e ∙ append_assoc body' bs' xs' in
     let same : Some (bs ++ xs) ≡ Some (bs' ++ xs') = sym here ∙ ap (closing 1) whole ∙ there in
     cc
-
--- blanks, and more of them
-after_space : (b : ℕ) (bs : List ℕ) (P : List ℕ → Type 0) → is_space b ≡ true → AfterBlanks bs P → AfterBlanks (b ∷ bs) P
-after_space b bs P h a = record { before = b ∷ a.before; bytes = a.bytes; split = ap (λ xs. b ∷ xs) a.split; blanks = space h a.blanks; holds = a.holds }
 
 -- Where blanks are passed, and a token stands after others, it stands after the rest of those.
 pub skips_rest : (before before' x y : List ℕ) → IsBlanks before → IsBlanks before' → before ++ x ≡ before' ++ y → HasFront y → Skips x y
@@ -311,16 +307,6 @@ blanks_err OpenComment h start x y z r k s e = absurd r
 blanks_err OpenString h start x y z r k s e = absurd r
 blanks_err OpenToken h start x y z r k s e = absurd r
 blanks_err Memory h start x y z r k s e = absurd r
-
-pub blanks_end : (o h : Option ℕ) (x y z : List ℕ) → o ≡ None → h ≡ o → Skips x y → Peeks (Ok o) y z → IsBlanks x × (unread h z ≡ [])
-blanks_end (Some b) h x y z e k s p = cc
-blanks_end None h x y z e k s p =
-    let empty : y ≡ [] = p.0 in
-    let whole : s.before ≡ x = sym (s.split ∙ ap (λ w. s.before ++ w) empty ∙ append-nil s.before) in
-    (subst IsBlanks whole s.blanks, unheld h z k ∙ p.1)
-
-pub blanks_stop : (h : Option ℕ) (b : ℕ) (x y z : List ℕ) → h ≡ Some b → Skips x y → y ≡ b ∷ z → Skips x (unread h z)
-blanks_stop h b x y z k s e = record { before = s.before; split = s.split ∙ ap (λ w. s.before ++ w) (e ∙ sym (holding h b z k)); blanks = s.blanks }
 
 pub blanks_to : (b : ℕ) (x y z : List ℕ) → Skips x y → y ≡ b ∷ z → Skips x (b ∷ z)
 blanks_to b x y z s e = record { before = s.before; split = s.split ∙ ap (λ w. s.before ++ w) e; blanks = s.blanks }

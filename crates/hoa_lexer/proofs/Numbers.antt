@@ -3,7 +3,6 @@ use Rattle.std.proofs.Common.{◌≡◌, ℕ, zero, suc, ◌+◌, ◌-◌, ◌*�
 use Rattle.std.specs.Prelude.{fold}
 use Rattle.std.specs.List.{list_all}
 use Rattle.std.proofs.lemmas.Bool.{false≢true, and_parts}
-use Rattle.std.proofs.lemmas.Bool.Decides.{nat_tests}
 use Rattle.std.proofs.lemmas.List.{append_assoc, append-nil}
 use Rattle.std.proofs.lemmas.List.Sums.{fold-append}
 use Rattle.hoa_lexer.specs.Bytes.{is_digit}
@@ -30,9 +29,6 @@ pub record IsDigits (first value : ℕ) (x y : List ℕ) : Type 0 where
 abbrev value_from : ℕ → List ℕ → ℕ
 value_from = fold (λ value digit. 10 * value + (digit - 48))
 
-pub digits_none : (first value : ℕ) (x : List ℕ) → value ≡ first - 48 → IsDigits first value x x
-digits_none first value x e = record { seen = []; digits = refl; value_is = omega arith; split = refl }
-
 pub digits_push : (first value value' b : ℕ) (x y z : List ℕ) → IsDigits first value x y → y ≡ b ∷ z → is_digit b ≡ true → value' ≡ 10 * value + (b - 48) → IsDigits first value' x z
 digits_push first value value' b x y z d e h v = record {
   seen = d.seen ++ b ∷ [];
@@ -44,9 +40,6 @@ digits_push first value value' b x y z d e h v = record {
 grows : (a : ℕ) (ds : List ℕ) → a ≤ value_from a ds
 grows a [] = omega arith
 grows a (d ∷ ds) = omega (arith, grows (10 * a + (d - 48)) ds)
-
-digit_value : (b : ℕ) → is_digit b ≡ true → b - 48 < 10
-digit_value b h = grind (arith, nat_tests)
 
 pub nonzero : (first : ℕ) (ds : List ℕ) → 0 < first - 48 → 0 < value_of (first ∷ ds)
 nonzero first ds h = omega (arith, grows (10 * 0 + (first - 48)) ds)

@@ -8,9 +8,9 @@ use Rattle.hoa_lexer.specs.Bytes.{is_letter, is_word}
 use Rattle.hoa_lexer.specs.Reading.{unread}
 use Rattle.hoa_lexer.specs.Spelling.{Spells, Ends, StopsAt, IsIdentifier, IsAliasName}
 use Rattle.hoa_lexer.specs.Steps.{AddsWord, AddsWords, ReadsToken}
-use Rattle.hoa_lexer.specs.Text.{IsFront, HasFront, Begins, IsOpenToken, IsNoToken}
+use Rattle.hoa_lexer.specs.Text.{HasFront, Begins, IsOpenToken}
 use Rattle.hoa_lexer.proofs.Comments.{unheld}
-use Rattle.hoa_lexer.proofs.FirstBytes.{token_kind, kind_letter, front_head, solid}
+use Rattle.hoa_lexer.proofs.FirstBytes.{token_kind, kind_letter, front_head}
 use Rattle.hoa_lexer.specs.declared.token.LexFault.{LexFault}
 use Rattle.hoa_lexer.specs.declared.token.LexFault.TheVariants.{BadToken, OpenComment, OpenString, OpenToken, Read, Bytes, Memory}
 use Rattle.hoa_lexer.specs.declared.token.Token.{Token}
@@ -128,17 +128,6 @@ alias_begins seen h = record {
   };
 }
 
-pub alias_token : (h : Option ℕ) (b : ℕ) (name x z : List ℕ) → (name ≡ [] → ⊥) → h ≡ Some b → AddsWord [] name x (b ∷ z) → is_word b ≡ false → IsFront (64 ∷ x) (Alias name) (unread h z)
-alias_token None b name x z n k a w = cc
-alias_token (Some c) b name x z n k a w =
-    let same : b ≡ c = cc in
-    record {
-      word = 64 ∷ name;
-      split = ap (λ v. 64 ∷ v) (a.split ∙ ap (λ v. v ++ b ∷ z) (sym a.named) ∙ ap (λ v. name ++ v ∷ z) same);
-      spells = (alias_name name n (ap (list_all is_word) a.named ∙ a.words), refl);
-      ends = ap is_word (sym same) ∙ w;
-    }
-
 no_alias_at : (token : Token) (b : ℕ) (z tail rest : List ℕ) → 64 ≡ token_kind token → Spells token (64 ∷ tail) → b ∷ z ≡ tail ++ rest → is_word b ≡ false → ⊥
 no_alias_at (Alias []) b z tail rest k s p w = s.0
 no_alias_at (Alias (n ∷ ns)) b z [] rest k s p w = (let e = s.1 in cc)
@@ -151,18 +140,6 @@ no_alias_at (Identifier name) b z tail rest k s p w = absurd (omega arith)
 no_alias_at (Str text) b z tail rest k s p w = absurd (omega arith)
 no_alias_at (Int n) b z tail rest k s p w = absurd (omega arith)
 no_alias_at _ b z tail rest k s p w = absurd (omega arith)
-
-pub alias_bad : (b : ℕ) (x z : List ℕ) → x ≡ b ∷ z → is_word b ≡ false → IsNoToken (64 ∷ x)
-alias_bad b x z e w = record {
-  some = λ k. cc;
-  no_space = solid 64 x refl;
-  no_comment = λ rest k. cc;
-  no_slash = λ k. cc;
-  no_token = λ t.
-      let f = t.front in
-      let head = front_head 64 (x ++ t.more) f.token f.rest f.front in
-      no_alias_at f.token b (z ++ t.more) head.tail f.rest head.kinds head.spells (sym (ap (λ v. v ++ t.more) e) ∙ head.split) w;
-}
 
 pub alias_end : (name name' x : List ℕ) → AddsWord name name' x [] → IsOpenToken (64 ∷ x)
 alias_end name name' x a =
