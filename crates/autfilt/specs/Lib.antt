@@ -1,2 +1,6 @@
+pub mod Faults
+pub mod Notes
 pub mod Run
+pub mod Running
 pub mod Status
+pub mod Turn

@@ -39,3 +39,13 @@ PrintsStream (Some texts) (Some written) written' result opens reads writes =
     (forms : List FirstForm) → IsStream (text_of texts standard_input) forms → length (text_of texts standard_input) < 2 ^ 40
     → opens → reads → writes
     → ((result ≡ end_of forms) × (written' ≡ Some (written ++ output_of forms))) ⊎ (result ≡ ended.Memory)
+
+-- Why a run ended so. A fault of the outside is answered only where its count rose, and no other answer but want of
+-- memory comes where a call failed.
+abbrev pub EndsBecause : Ended → ℕ → ℕ → ℕ → ℕ → ℕ → ℕ → Type 0
+EndsBecause ended.Usage opens opens' reads reads' writes writes' = ⊥
+EndsBecause ended.CannotOpen opens opens' reads reads' writes writes' = Rose opens opens' × (reads' ≡ reads) × (writes' ≡ writes)
+EndsBecause ended.ReadFault opens opens' reads reads' writes writes' = (opens' ≡ opens) × Rose reads reads' × (writes' ≡ writes)
+EndsBecause ended.WriteFault opens opens' reads reads' writes writes' = (opens' ≡ opens) × (reads' ≡ reads) × Rose writes writes'
+EndsBecause ended.Memory opens opens' reads reads' writes writes' = Unit {0}
+EndsBecause _ opens opens' reads reads' writes writes' = (opens' ≡ opens) × (reads' ≡ reads) × (writes' ≡ writes)

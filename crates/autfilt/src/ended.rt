@@ -2,8 +2,9 @@
 
 ghost use Rattle.std.specs.Prelude.{◌≡◌};
 ghost use Rattle.autfilt.specs.Status.{status_of};
+ghost use Rattle.autfilt.specs.declared.ended.Ended.{Ended};
 
-use aut_base::Limit;
+use aut_base::{Limit, Memory};
 
 /// How a run ended.
 #[derive(Clone, Copy, Debug, PartialEq, Eq)]
@@ -28,6 +29,14 @@ pub enum Ended {
     WriteFault,
     /// Want of memory.
     Memory,
+}
+
+impl From<Memory> for Ended {
+    ghost from_gives = { λ _ ended. ended ≡ Ended.Memory };
+
+    fn from(_want: Memory) -> Ended {
+        Ended::Memory
+    }
 }
 
 impl Ended {

@@ -2,11 +2,62 @@
 #![tactic(auto)]
 
 mod ended;
+mod notes;
+mod real;
 mod run;
+#[cfg(test)]
+mod tests;
+mod turn;
 
+use aut_base::{Memory, Text, Words};
 pub use ended::Ended;
+use notes::note;
+use real::{RealInputs, RealSink};
 pub use run::autfilt;
+use std::alloc::Global;
+use std::env::Args;
+use std::process::ExitCode;
+use std::rt::Stdin;
+use std::{env, io};
 
-fn main(rt: HostRuntime) {
-    let _ = rt;
+fn main(rt: HostRuntime) -> ExitCode {
+    let mut out = RealSink::new(rt.stdout());
+    let mut notes = RealSink::new(rt.stderr());
+    let ended = match made(rt.alloc(), env::args(&rt), rt.stdin()) {
+        Ok((words, mut inputs)) => {
+            autfilt(rt.alloc(), &words, &mut inputs, &mut out, &mut notes)
+        }
+        Err(ended) => {
+            note(&mut notes, &ended);
+            ended
+        }
+    };
+    ExitCode::from(ended.status())
+}
+
+/// What the run is called with. An argument that is no text makes no plan.
+fn made(
+    alloc: Global,
+    args: io::Result<Args<Global>>,
+    stdin: Stdin,
+) -> Result<(Words, RealInputs), Ended> {
+    let words = match args {
+        Ok(args) => words_of(alloc, args)?,
+        Err(error) => {
+            return match error.kind() {
+                io::ErrorKind::OutOfMemory => Err(Ended::Memory),
+                _ => Err(Ended::Usage),
+            };
+        }
+    };
+    Ok((words, RealInputs::new(alloc, stdin)?))
+}
+
+/// The words after the program's name.
+fn words_of(alloc: Global, args: Args<Global>) -> Result<Words, Memory> {
+    let mut words = Words::new(alloc);
+    for arg in args.skip(1) {
+        words.push(Text::from_vec(arg.into_bytes()))?;
+    }
+    Ok(words)
 }

@@ -52,19 +52,36 @@ after_space : (b : ℕ) (bs : List ℕ) (P : List ℕ → Type 0) → is_space b
 after_space b bs P h a = record { before = b ∷ a.before; bytes = a.bytes; split = ap (λ xs. b ∷ xs) a.split; blanks = space h a.blanks; holds = a.holds }
 
 -- Where blanks are passed, and a token stands after others, it stands after the rest of those.
-pub front_after : (before before' x y : List ℕ) → IsBlanks before → IsBlanks before' → before ++ x ≡ before' ++ y → HasFront y → AfterBlanks x HasFront
-front_after before before' x y nothing k e f = record { before = before'; bytes = y; split = e; blanks = k; holds = f }
-front_after (b ∷ bs) before' x y (space h r) nothing e f = absurd (front_spaces b (bs ++ x) y h (sym e) f)
-front_after (b ∷ bs) (c ∷ cs) x y (space h r) (space k s) e f = front_after bs cs x y r s (let whole : b ∷ (bs ++ x) ≡ c ∷ (cs ++ y) = e in cc) f
-front_after (b ∷ bs) before' x y (space h r) (comment body cs k s t) e f =
+pub skips_rest : (before before' x y : List ℕ) → IsBlanks before → IsBlanks before' → before ++ x ≡ before' ++ y → HasFront y → Skips x y
+skips_rest before before' x y nothing k e f = record { before = before'; split = e; blanks = k }
+skips_rest (b ∷ bs) before' x y (space h r) nothing e f = absurd (front_spaces b (bs ++ x) y h (sym e) f)
+skips_rest (b ∷ bs) (c ∷ cs) x y (space h r) (space k s) e f = skips_rest bs cs x y r s (let whole : b ∷ (bs ++ x) ≡ c ∷ (cs ++ y) = e in cc) f
+skips_rest (b ∷ bs) before' x y (space h r) (comment body cs k s t) e f =
     absurd (space_no_slash b h (let whole : b ∷ (bs ++ x) ≡ 47 ∷ 42 ∷ ((body ++ cs) ++ y) = e ∙ ap (λ z. z ++ y) t in cc))
-front_after before before' x y (comment body bs h r t) nothing e f = absurd (front_slashes (42 ∷ ((body ++ bs) ++ x)) y (sym e ∙ ap (λ z. z ++ x) t) f)
-front_after before (c ∷ cs) x y (comment body bs h r t) (space k s) e f =
+skips_rest before before' x y (comment body bs h r t) nothing e f = absurd (front_slashes (42 ∷ ((body ++ bs) ++ x)) y (sym e ∙ ap (λ z. z ++ x) t) f)
+skips_rest before (c ∷ cs) x y (comment body bs h r t) (space k s) e f =
     absurd (space_no_slash c k (let whole : 47 ∷ 42 ∷ ((body ++ bs) ++ x) ≡ c ∷ (cs ++ y) = sym (ap (λ z. z ++ x) t) ∙ e in cc))
-front_after before before' x y (comment body bs h r t) (comment body' bs' k s u) e f =
-    front_after bs bs' x y r s
+skips_rest before before' x y (comment body bs h r t) (comment body' bs' k s u) e f =
+    skips_rest bs bs' x y r s
     (same_close body body' bs bs' x y h k
     (let whole : 47 ∷ 42 ∷ ((body ++ bs) ++ x) ≡ 47 ∷ 42 ∷ ((body' ++ bs') ++ y) = sym (ap (λ z. z ++ x) t) ∙ e ∙ ap (λ z. z ++ y) u in cc)) f
+
+pub front_after : (before before' x y : List ℕ) → IsBlanks before → IsBlanks before' → before ++ x ≡ before' ++ y → HasFront y → AfterBlanks x HasFront
+front_after before before' x y h k e f =
+    let s = skips_rest before before' x y h k e f in
+    record { before = s.before; bytes = y; split = s.split; blanks = s.blanks; holds = f }
+
+-- where a token stands, no blank does
+no_blank : (x y before : List ℕ) → HasFront x → x ≡ before ++ y → IsBlanks before → x ≡ y
+no_blank x y before f e nothing = e
+no_blank x y (b ∷ bs) f e (space h r) = absurd (front_spaces b (bs ++ y) x h e f)
+no_blank x y before f e (comment body bs h r t) = absurd (front_slashes (42 ∷ ((body ++ bs) ++ y)) x (e ∙ ap (λ z. z ++ y) t) f)
+
+-- a text has one place where its next token stands
+pub same_place : (before before' x y : List ℕ) → IsBlanks before → IsBlanks before' → before ++ x ≡ before' ++ y → HasFront x → HasFront y → x ≡ y
+same_place before before' x y h k e f g =
+    let s = skips_rest before before' x y h k e g in
+    no_blank x y s.before f s.split s.blanks
 
 pub blanks_append : (a b : List ℕ) → IsBlanks a → IsBlanks b → IsBlanks (a ++ b)
 blanks_append a b nothing k = k
@@ -175,6 +192,10 @@ asks_blanks before h = record {
   more = 33 ∷ [];
   closes = record { before = before; bytes = 33 ∷ []; split = refl; blanks = h; holds = bang };
 }
+
+-- no token stands in blanks alone
+pub asks_blanks_unclosed : (before : List ℕ) → IsBlanks before → AfterBlanks before HasFront → ⊥
+asks_blanks_unclosed before h a = (asks_blanks before h).unclosed a
 
 -- the first two bytes of a comment, or what stands in place of the second
 

@@ -1,3 +1,4 @@
+pub mod Apart
 pub mod Between
 pub mod Comments
 pub mod Dashes
@@ -6,4 +7,5 @@ pub mod FirstBytes
 pub mod Fronts
 pub mod Numbers
 pub mod Strings
+pub mod Unique
 pub mod Words

@@ -48,14 +48,14 @@ grows a (d ∷ ds) = omega (arith, grows (10 * a + (d - 48)) ds)
 digit_value : (b : ℕ) → is_digit b ≡ true → b - 48 < 10
 digit_value b h = grind (arith, nat_tests)
 
-nonzero : (first : ℕ) (ds : List ℕ) → 0 < first - 48 → 0 < value_of (first ∷ ds)
+pub nonzero : (first : ℕ) (ds : List ℕ) → 0 < first - 48 → 0 < value_of (first ∷ ds)
 nonzero first ds h = omega (arith, grows (10 * 0 + (first - 48)) ds)
 
-ends_int : (n : ℕ) (rest : List ℕ) → StopsAt is_digit rest → Ends (Int n) rest
+pub ends_int : (n : ℕ) (rest : List ℕ) → StopsAt is_digit rest → Ends (Int n) rest
 ends_int zero rest h = tt
 ends_int (suc n) rest h = h
 
-int_stops : (n : ℕ) (rest : List ℕ) → 0 < n → Ends (Int n) rest → StopsAt is_digit rest
+pub int_stops : (n : ℕ) (rest : List ℕ) → 0 < n → Ends (Int n) rest → StopsAt is_digit rest
 int_stops zero rest h e = absurd (omega arith)
 int_stops (suc n) rest h e = e
 

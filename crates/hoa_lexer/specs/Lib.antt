@@ -1,5 +1,6 @@
 pub mod Blanks
 pub mod Bytes
+pub mod Laws
 pub mod Reading
 pub mod Spelling
 pub mod Steps

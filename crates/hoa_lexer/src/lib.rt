@@ -2,11 +2,12 @@
 //! taken than tells that it ends.
 #![tactic(auto)]
 
+mod laws;
 mod lexer;
-mod token;
-
 #[cfg(test)]
 mod tests;
+mod token;
 
+pub use laws::{one_next_token, one_token_list, spelled_apart_is_read};
 pub use lexer::Lexer;
 pub use token::{LexFault, Token};

@@ -1,6 +1,7 @@
 -- What an answer of the lexer is to the reader.
 use Rattle.std.proofs.Common.{◌≡◌, ◌+◌, ℕ, List, [], ◌∷◌, Option, Some, None, Result, Ok, Err, length, zero-add, refl, sym, ap, ◌∙◌}
 use Rattle.hoa_lexer.proofs.Exclusive.{IsStuck, blanks_no_token, no_token_stuck, open_comment_stuck, open_string_stuck, open_token_stuck, stuck_no_blanks, stuck_no_token}
+use Rattle.hoa_lexer.proofs.Unique.{one_next_token}
 use Rattle.hoa_lexer.specs.Blanks.{IsBlanks, IsOpenComment}
 use Rattle.hoa_lexer.specs.Text.{AfterBlanks, HasFront, IsNext, IsNoToken, IsOpenString, IsOpenToken}
 use Rattle.hoa_lexer.specs.Reading as lexer
@@ -52,7 +53,7 @@ gives (Some token) start offset old new a = token_of old new start offset token 
 
 -- the next token is determined
 pub same_token : (x y z : List ℕ) (t u : Token) → IsToken x t y → IsToken x u z → (t ≡ u) × (y ≡ z)
-same_token x y z t u a b = ?
+same_token x y z t u a b = let same = one_next_token x 0 t u a.offset b.offset y z a.next b.next in (same.0, same.2)
 
 -- blanks have no token
 pub no_blank_token : (x y : List ℕ) (t : Token) → IsBlanks x → IsToken x t y → ⊥

@@ -1,5 +1,6 @@
 pub mod Answering
 pub mod Collected
+pub mod Described
 pub mod Distinct
 pub mod Ending
 pub mod Exits

@@ -1,2 +1,5 @@
 pub mod CanonicalLabel
 pub mod CanonicalText
+pub mod Lines
+pub mod Pieces
+pub mod Tables

@@ -1,23 +1,14 @@
 //! The canonical text of an automaton.
 #![tactic(auto)]
 
-ghost use Rattle.std.specs.Prelude.{◌≡◌, ◌≤◌, length, IfOk};
-ghost use Rattle.std.specs.Option.{option_map, option_copied};
-ghost use Rattle.aut_base.specs.Automaton.{automaton, IsWellFormed};
-ghost use Rattle.hoa_writer.specs.CanonicalText.{canonical_text};
+#[cfg(test)]
+mod formed;
+mod formula;
+mod label;
+mod number;
+mod parts;
+#[cfg(test)]
+mod tests;
+mod write;
 
-use aut_base::{Description, Memory, Text};
-use std::alloc::Global;
-
-/// The canonical text of an automaton, and of its name if it has one.
-pub fn write_description(
-    alloc: Global,
-    description: &Description,
-    name: Option<&Text>,
-) -> Result<Text, Memory>
-    requires few { length description.now.names ≤ 8 }
-    requires well_formed { IsWellFormed (automaton description.now) }
-    ensures { IfOk result (λ text. text ≡ canonical_text (automaton description.now) (option_copied name.entry)) }
-{
-    Err(Memory)
-}
+pub use write::write_description;

@@ -1,0 +1,5 @@
+use Rattle.hoa_lexer.proofs.Unique.{one_token_list}
+use Rattle.hoa_lexer.proofs.laws.one_token_list.Goals as goal
+
+pub returns : goal.returns
+returns c = one_token_list
