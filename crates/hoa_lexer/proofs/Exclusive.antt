@@ -99,7 +99,7 @@ blanks_after before whole x (comment body bs h r t) (comment body' bs' k s u) e 
     blanks_after bs bs' x r s
     (sym (append-nil bs') ∙ sym (same_close body body' bs bs' x [] h k
     (let all : 47 ∷ 42 ∷ ((body ++ bs) ++ x) ≡ 47 ∷ 42 ∷ ((body' ++ bs') ++ []) =
-      sym (ap (λ w. w ++ x) t) ∙ sym e ∙ u ∙ sym (append-nil (47 ∷ 42 ∷ (body' ++ bs'))) in cc)))
+    sym (ap (λ w. w ++ x) t) ∙ sym e ∙ u ∙ sym (append-nil (47 ∷ 42 ∷ (body' ++ bs'))) in cc)))
 
 -- no blanks alone
 stuck_blank : (bytes : List ℕ) → IsStuck bytes → IsBlanks bytes → ⊥
