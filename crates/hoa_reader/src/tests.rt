@@ -1,7 +1,5 @@
 //! What the reader answers on texts, worked out by hand.
 
-ghost use Rattle.std.specs.Prelude.{◌≡◌, length, IfOk};
-
 use crate::{Item, Raw, RawEdge, RawLabel, ReadFault, describe, read_raw};
 use aut_base::{Formula, Label, Memory, Names, Numbers, Text, Words};
 use aut_io::{Inputs, MemInputs};
