@@ -7,15 +7,13 @@ ghost use Rattle.autfilt.specs.Run.{Calm, EndsBecause, PrintsStream, standard_in
 ghost use Rattle.autfilt.specs.Running.{EndCauses, RunsOver, ended_of};
 ghost use Rattle.hoa_lexer.specs.Reading.{Between, unread};
 
-use std::alloc::Global;
-
-use aut_base::{OpenFail, Text, Words};
-use aut_io::{Inputs, Sink};
-use hoa_lexer::Lexer;
-
 use crate::ended::Ended;
 use crate::notes::note;
 use crate::turn::print_next;
+use aut_base::{OpenFail, Text, Words};
+use aut_io::{Inputs, Sink};
+use hoa_lexer::Lexer;
+use std::alloc::Global;
 
 /// The most bytes that a run may take.
 const MOST_BYTES: u64 = 1 << 40;

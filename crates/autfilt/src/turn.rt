@@ -4,16 +4,13 @@ ghost use Rattle.std.specs.Prelude.{◌≡◌, ◌+◌, ◌≤◌, ◌<◌, leng
 ghost use Rattle.autfilt.specs.Turn.{Causes, Turns};
 ghost use Rattle.hoa_lexer.specs.Reading.{Between, held_count, unread};
 
-use std::alloc::Global;
-
+use crate::ended::Ended;
+use aut_base::Limit;
 use aut_io::{Inputs, Sink};
 use hoa_lexer::Lexer;
 use hoa_reader::{ElabFault, ReadFault, describe, read_raw};
 use hoa_writer::write_description;
-
-use aut_base::Limit;
-
-use crate::ended::Ended;
+use std::alloc::Global;
 
 impl From<ReadFault> for Ended {
     ghost use Rattle.std.specs.Prelude.{◌≡◌};

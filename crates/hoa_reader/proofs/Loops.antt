@@ -51,7 +51,7 @@ same_marks false false r s p q e = (refl, e)
 pub same_loop : (g h : Guard) (m n : Bool) (r s : List Token) → EndsMarks m r → EndsMarks n s → loop_tokens (record { guard = g; marked = m }) ++ r ≡ loop_tokens (record { guard = h; marked = n }) ++ s → (g ≡ h) × (m ≡ n) × (r ≡ s)
 same_loop g h m n r s p q e =
     let inner : guard_tokens g ++ token.RightBracket ∷ token.Int 0 ∷ (marks_tokens m ++ r) ≡ guard_tokens h ++ token.RightBracket ∷ token.Int 0 ∷ (marks_tokens n ++ s) =
-        sym (append_assoc (guard_tokens g) (token.RightBracket ∷ token.Int 0 ∷ marks_tokens m) r) ∙ (cc) ∙ append_assoc (guard_tokens h) (token.RightBracket ∷ token.Int 0 ∷ marks_tokens n) s in
+    sym (append_assoc (guard_tokens g) (token.RightBracket ∷ token.Int 0 ∷ marks_tokens m) r) ∙ (cc) ∙ append_assoc (guard_tokens h) (token.RightBracket ∷ token.Int 0 ∷ marks_tokens n) s in
     let past = same_guard g h (token.Int 0 ∷ (marks_tokens m ++ r)) (token.Int 0 ∷ (marks_tokens n ++ s)) inner in
     let goal : token.Int 0 ∷ (marks_tokens m ++ r) ≡ token.Int 0 ∷ (marks_tokens n ++ s) = past.1 in
     let last = same_marks m n r s p q (cc) in

@@ -24,14 +24,14 @@ returns-in-Ok-write-clause-turns g c =
     (λ old new. Answers (Ok c.in-Ok-Some.field-0) (unread c.args.lexer.now.held old) (unread c.read_raw.new.lexer.held new))
     (λ old new. IsPrinted (unread c.args.lexer.now.held old) (unread c.read_raw.new.lexer.held new) (written c.args.out.now) (written c.write.new.self))
     (λ old new a.
-        let P : Option Raw → Type 0 = λ r. Answers (Ok r) (unread c.args.lexer.now.held old) (unread c.read_raw.new.lexer.held new) in
-        let found = subst P c.in-Ok-Some.field-0-is a in
-        let same = c.in-Ok.ensures found.form found.shown in
-        let G : List ℕ → Type 0 = λ bytes. Gains (written c.args.out.now) (written c.write.new.self) bytes in
-        record {
-          form = found.form;
-          valid = found.valid;
-          read = found.read;
-          gains = subst G (c.as_bytes.ensures ∙ c.in-Ok-write_description.ensures ∙ ap (λ (a : Automaton). canonical_text a None) same) c.in-Ok-write.ensures.ok;
-        })
+    let P : Option Raw → Type 0 = λ r. Answers (Ok r) (unread c.args.lexer.now.held old) (unread c.read_raw.new.lexer.held new) in
+    let found = subst P c.in-Ok-Some.field-0-is a in
+    let same = c.in-Ok.ensures found.form found.shown in
+    let G : List ℕ → Type 0 = λ bytes. Gains (written c.args.out.now) (written c.write.new.self) bytes in
+    record {
+      form = found.form;
+      valid = found.valid;
+      read = found.read;
+      gains = subst G (c.as_bytes.ensures ∙ c.in-Ok-write_description.ensures ∙ ap (λ (a : Automaton). canonical_text a None) same) c.in-Ok-write.ensures.ok;
+    })
     c.in-Ok-Some.ensures.answers

@@ -20,9 +20,9 @@ returns-in-Ok-None-2-clause-answers g c =
     (λ y z. AnswersOne (Ok c.in-Ok-None.field-0) (unread c.tokens.lexer.held y) (unread c.token.new.lexer.held z))
     (λ x z. NoneCollected (unread c.args.lexer.now.held x))
     (λ x y z m a.
-        let P : Option Token → Type 0 = λ t. AnswersOne (Ok t) (unread c.tokens.lexer.held y) (unread c.token.new.lexer.held z) in
-        let ended = subst P c.in-Ok-None-2.field-0-is a in
-        ends_early ts _ _ some m ended.0)
+    let P : Option Token → Type 0 = λ t. AnswersOne (Ok t) (unread c.tokens.lexer.held y) (unread c.token.new.lexer.held z) in
+    let ended = subst P c.in-Ok-None-2.field-0-is a in
+    ends_early ts _ _ some m ended.0)
     c.tokens.invariant.midway c.in-Ok-None.ensures.answers
 
 pub returns-in-Err-clause-answers : goal.returns-in-Err-clause-answers
@@ -46,8 +46,8 @@ returns-then-is_last-clause-answers g c =
     (λ y z. AnswersOne (Ok c.in-Ok-Some.field-0) (unread c.tokens.lexer.held y) (unread c.token.new.lexer.held z))
     (λ x z. AreCollected (unread c.args.lexer.now.held x) c.push.new.self.items (unread c.token.new.lexer.held z))
     (λ x y z m a.
-        let P : Option Token → Type 0 = λ t. AnswersOne (Ok t) (unread c.tokens.lexer.held y) (unread c.token.new.lexer.held z) in
-        collected ts c.push.new.self.items c.in-Ok-Some.token _ _ _ c.in_ok-push.ensures.items last m (subst P c.in-Ok-Some.field-0-is a))
+    let P : Option Token → Type 0 = λ t. AnswersOne (Ok t) (unread c.tokens.lexer.held y) (unread c.token.new.lexer.held z) in
+    collected ts c.push.new.self.items c.in-Ok-Some.token _ _ _ c.in_ok-push.ensures.items last m (subst P c.in-Ok-Some.field-0-is a))
     c.tokens.invariant.midway c.in-Ok-Some.ensures.answers
 
 pub tokens-preserved : goal.tokens-preserved
@@ -64,8 +64,8 @@ tokens-preserved g c =
           (λ y z. AnswersOne (Ok c.in-Ok-Some.field-0) (unread c.tokens.lexer.held y) (unread c.token.new.lexer.held z))
           (λ x z. IsMidway (unread c.args.lexer.now.held x) c.push.new.self.items (unread c.token.new.lexer.held z))
           (λ x y z m a.
-              let P : Option Token → Type 0 = λ t. AnswersOne (Ok t) (unread c.tokens.lexer.held y) (unread c.token.new.lexer.held z) in
-              midway_more ts c.push.new.self.items c.in-Ok-Some.token _ _ _ c.in_ok-push.ensures.items other m (subst P c.in-Ok-Some.field-0-is a))
+          let P : Option Token → Type 0 = λ t. AnswersOne (Ok t) (unread c.tokens.lexer.held y) (unread c.token.new.lexer.held z) in
+          midway_more ts c.push.new.self.items c.in-Ok-Some.token _ _ _ c.in_ok-push.ensures.items other m (subst P c.in-Ok-Some.field-0-is a))
           inv.midway said.answers;
       spent = said.spent;
       most = said.most ∙ inv.most;

@@ -27,6 +27,6 @@ returns-in-Err-NotYet-clause-answers g c =
     (λ old new. Collects (Ok c.in-Ok-Some.field-0) (unread c.args.lexer.now.held old) (unread c.collect.new.lexer.held new))
     (λ old new. IsRefused (unread c.args.lexer.now.held old))
     (λ old new a.
-        let C : Option (Vec Token Global) → Type 0 = λ t. Collects (Ok t) (unread c.args.lexer.now.held old) (unread c.collect.new.lexer.held new) in
-        refuses_tokens c.in-Ok-Some.tokens.items _ _ (subst C c.in-Ok-Some.field-0-is a) refused)
+    let C : Option (Vec Token Global) → Type 0 = λ t. Collects (Ok t) (unread c.args.lexer.now.held old) (unread c.collect.new.lexer.held new) in
+    refuses_tokens c.in-Ok-Some.tokens.items _ _ (subst C c.in-Ok-Some.field-0-is a) refused)
     c.in-Ok-Some.ensures.answers
