@@ -10,3 +10,4 @@ pub mod Loops
 pub mod OneForm
 pub mod Properties
 pub mod RawTrees
+pub mod ValidityExamples
