@@ -72,8 +72,8 @@ most_of Aliases = 2048
 abbrev pub Passes : Count → Written → Type 0
 Passes count w = nat_lt (most_of count) (count_of count w) ≡ true
 
-abbrev pub Keeps : Count → Written → Type 0
-Keeps count w = nat_lt (most_of count) (count_of count w) ≡ false
+abbrev pub IsWithin : Count → Written → Type 0
+IsWithin count w = nat_lt (most_of count) (count_of count w) ≡ false
 
 -- all of them, in order
 abbrev pub counts : List Count
@@ -88,15 +88,15 @@ place_of Edges = 3
 place_of Aliases = 4
 
 -- each count of the list is within its number
-abbrev pub AllKeep : List Count → Written → Type 0
-AllKeep [] w = Unit {0}
-AllKeep (count ∷ others) w = Keeps count w × AllKeep others w
+abbrev pub AreWithin : List Count → Written → Type 0
+AreWithin [] w = Unit {0}
+AreWithin (count ∷ others) w = IsWithin count w × AreWithin others w
 
 -- it passes its number, and no earlier one does
 pub record PassesFirst (count : Count) (w : Written) : Type 0 where
   pub passes : Passes count w
-  pub earlier : AllKeep (take (place_of count) counts) w
+  pub earlier : AreWithin (take (place_of count) counts) w
 
 -- none passes its number
-abbrev pub IsWithinCounts : Written → Type 0
-IsWithinCounts = AllKeep counts
+abbrev pub PassesNone : Written → Type 0
+PassesNone = AreWithin counts
