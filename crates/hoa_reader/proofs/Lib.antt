@@ -11,3 +11,4 @@ pub mod OneForm
 pub mod Properties
 pub mod RawTrees
 pub mod ValidityExamples
+pub mod ValidityLaws
