@@ -1,6 +1,7 @@
 pub mod Answering
 pub mod Collected
 pub mod Described
+pub mod DescribedLaws
 pub mod Distinct
 pub mod Ending
 pub mod Exits

@@ -19,6 +19,20 @@ placed V10 = refl
 placed V11 = refl
 placed V12 = refl
 
+before_all : (rule : Rule) → place_of rule < 12
+before_all V1 = omega arith
+before_all V2 = omega arith
+before_all V3 = omega arith
+before_all V4 = omega arith
+before_all V5 = omega arith
+before_all V6 = omega arith
+before_all V7 = omega arith
+before_all V8 = omega arith
+before_all V9 = omega arith
+before_all V10 = omega arith
+before_all V11 = omega arith
+before_all V12 = omega arith
+
 -- the rule at a place before is kept
 kept_at : (rs : List Rule) (k n : ℕ) (rule : Rule) (w : Written) → k < n → slice_get rs k ≡ Some rule → AreKept (take n rs) w → IsKept rule w
 kept_at [] k n rule w l is kept = absurd (let no : None ≡ Some rule = is in cc)
@@ -37,3 +51,7 @@ one_first r s w a b =
     let same : place_of r ≡ place_of s = omega (arith, below, above) in
     let both : Some r ≡ Some s = sym (placed r) ∙ ap (slice_get rules) same ∙ placed s in
     cc
+
+-- nothing is broken in what is valid
+pub none_first : (r : Rule) (w : Written) → IsFirstBroken r w → IsValid w → ⊥
+none_first r w a valid = false≢true (sym a.broken ∙ kept_at rules (place_of r) 12 r w (before_all r) (placed r) valid)
