@@ -66,7 +66,7 @@ mutual
   each_expanded_below n ms (raw.more t ts) all e =
       let parts = both _ _ e in (expanded_below n ms t all parts.0, each_expanded_below n ms ts all parts.1)
 
-all_push : {X : Type 0} (P : X → Type 0) (xs : List X) (x : X) → AllByRecursion P xs → P x → AllByRecursion P (xs ++ x ∷ [])
+pub all_push : {X : Type 0} (P : X → Type 0) (xs : List X) (x : X) → AllByRecursion P xs → P x → AllByRecursion P (xs ++ x ∷ [])
 all_push P [] x all h = (h, tt)
 all_push P (y ∷ xs) x all h = (all.0, all_push P xs x all.1 h)
 
@@ -91,11 +91,11 @@ conjunction_below n [] all = tt
 conjunction_below n (t ∷ []) all = all.0
 conjunction_below n (t ∷ u ∷ ts) all = (all.0, all.1.0, each_below n ts all.1.1)
 
-all_weaker : {X : Type 0} (P Q : X → Type 0) (xs : List X) → ((x : X) → P x → Q x) → AllByRecursion P xs → AllByRecursion Q xs
+pub all_weaker : {X : Type 0} (P Q : X → Type 0) (xs : List X) → ((x : X) → P x → Q x) → AllByRecursion P xs → AllByRecursion Q xs
 all_weaker P Q [] weaker all = tt
 all_weaker P Q (x ∷ xs) weaker all = (weaker x all.0, all_weaker P Q xs weaker all.1)
 
-all_map : {X Y : Type 0} (P : Y → Type 0) (f : X → Y) (xs : List X) → AllByRecursion (λ x. P (f x)) xs → AllByRecursion P (map f xs)
+pub all_map : {X Y : Type 0} (P : Y → Type 0) (f : X → Y) (xs : List X) → AllByRecursion (λ x. P (f x)) xs → AllByRecursion P (map f xs)
 all_map P f [] all = tt
 all_map P f (x ∷ xs) all = (all.0, all_map P f xs all.1)
 

@@ -2,6 +2,7 @@ pub mod Answering
 pub mod Collected
 pub mod Described
 pub mod DescribedLaws
+pub mod DescribedStarts
 pub mod Distinct
 pub mod Ending
 pub mod Exits
