@@ -12,7 +12,7 @@ use Rattle.hoa_reader.specs.Raw as raw
 use Rattle.hoa_reader.specs.Raw.{RawTree, RawTrees}
 use Rattle.hoa_reader.specs.Validity.{AliasLine, all_leaves_pass, all_sets_below, props_below, same_text, sets_below}
 
-both : (x y : Bool) → (x && y) ≡ true → (x ≡ true) × (y ≡ true)
+pub both : (x y : Bool) → (x && y) ≡ true → (x ≡ true) × (y ≡ true)
 both true y e = (refl, e)
 both false y e = absurd (false≢true e)
 
@@ -35,7 +35,7 @@ mutual
   all_sets_in_range n (formula.more f fs) e = let parts = both _ _ e in (sets_in_range n f parts.0, all_sets_in_range n fs parts.1)
 
 -- what an alias stands for
-abbrev MeansBelow : ℕ → Meaning → Type 0
+abbrev pub MeansBelow : ℕ → Meaning → Type 0
 MeansBelow n m = AllBelow n m.label
 
 first_below : (n : ℕ) (m : Meaning) (ms : List Meaning) (name : List ℕ) (b : Bool) → AllBelow n m.label → AllBelow n (meaning_of ms name) → AllBelow n (option_map_or (λ (m : Meaning). m.label) (cond b (Some m) (find (λ (m : Meaning). same_text m.name name) ms)) label.False)

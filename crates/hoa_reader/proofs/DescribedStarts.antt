@@ -83,7 +83,7 @@ ascending (e ∷ es) a =
     AllPairs-cons (λ p q. p ≤ q) e.from (map (λ (f : Arrow). f.from) es)
     (all_at (λ q. e.from ≤ q) (map (λ (f : Arrow). f.from) es) (all_map (λ q. e.from ≤ q) (λ (f : Arrow). f.from) es a.0)) (ascending es a.1)
 
-all_of : {X : Type 0} (P : X → Type 0) (xs : List X) → ((x : X) → P x) → AllByRecursion P xs
+pub all_of : {X : Type 0} (P : X → Type 0) (xs : List X) → ((x : X) → P x) → AllByRecursion P xs
 all_of P [] each = tt
 all_of P (x ∷ xs) each = (each x, all_of P xs each)
 
