@@ -1,5 +1,5 @@
 -- The states of a described automaton: its starts differ, they are its own, and its edges stand in order.
-use Rattle.std.proofs.Common.{◌≡◌, ◌≢◌, ◌+◌, ◌<◌, ◌≤◌, ◌==◌, ◌⊎◌, inl, inr, max, ℕ, zero, suc, Bool, true, false, not, cond, ◌&&◌, List, [], ◌∷◌, ◌++◌, length, map, filter, nat_lt, get_or, refl, sym, ap, ◌∙◌, subst, arith, AllPairs, All}
+use Rattle.std.proofs.Common.{◌≡◌, ◌≢◌, ◌+◌, ◌<◌, ◌≤◌, ◌==◌, max, ℕ, zero, suc, Bool, true, false, not, cond, List, [], ◌∷◌, ◌++◌, map, filter, get_or, refl, sym, ap, ◌∙◌, subst, arith, AllPairs, All}
 use Rattle.std.proofs.lemmas.Bool.{false≢true, eqb-true}
 use Rattle.std.proofs.lemmas.Bool.Decides.{Decides-eqb}
 use Rattle.std.proofs.lemmas.List.Elements.{All-cons}
@@ -9,7 +9,7 @@ use Rattle.std.specs.Prelude.{flat_map}
 use Rattle.std.specs.List.{AllByRecursion, enumerate_from}
 use Rattle.std.specs.List.Sorted.{IsNonDecreasing}
 use Rattle.aut_base.specs.Automaton.{Arrow}
-use Rattle.hoa_reader.proofs.DescribedLaws.{all_map, all_push, all_weaker, numbers_are_below}
+use Rattle.hoa_reader.proofs.DescribedLaws.{all_map, all_weaker, numbers_are_below}
 use Rattle.hoa_reader.specs.Described.{after_all, arrow_of, arrows_from, arrows_of, below, edges_of, state_count, without_repeats}
 use Rattle.hoa_reader.specs.Raw.{Written, WrittenEdge, WrittenState}
 

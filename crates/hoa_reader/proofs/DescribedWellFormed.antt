@@ -1,5 +1,5 @@
 -- What a valid text describes is well formed.
-use Rattle.std.proofs.Common.{◌≡◌, ◌<◌, ◌+◌, ◌==◌, ℕ, Bool, true, false, ◌&&◌, List, [], ◌∷◌, ◌++◌, length, map, filter, nat_lt, get_or, Option, Some, None, arith, All}
+use Rattle.std.proofs.Common.{◌≡◌, ◌<◌, ◌+◌, ◌==◌, ℕ, Bool, true, List, [], ◌∷◌, ◌++◌, length, map, filter, nat_lt, get_or, Option, Some, None, All}
 use Rattle.std.proofs.lemmas.Bool.{false≢true, ltb-true}
 use Rattle.std.specs.Prelude.{filter_map, flat_map, option_to_list}
 use Rattle.std.specs.List.{AllByRecursion, enumerate_from, list_all}
@@ -9,9 +9,9 @@ use Rattle.aut_base.specs.Label.{AllBelow, LabelTree}
 use Rattle.aut_base.specs.Marks.{is_in}
 use Rattle.hoa_reader.proofs.DescribedLaws.{MeansBelow, all_map, all_weaker, both, expanded_below, letter_below, meanings_below, numbers_are_below, sets_in_range}
 use Rattle.hoa_reader.proofs.DescribedStarts.{all_at, all_filter, all_flat_map, all_of, all_used_below, all_without_repeats, edges_in_order, they_differ}
-use Rattle.hoa_reader.specs.Described.{Meaning, after_all, arrow_of, arrows_from, arrows_of, below, described, edges_of, expanded, marks_in_order, meanings_of, only_state, state_count}
+use Rattle.hoa_reader.specs.Described.{Meaning, after_all, arrow_of, arrows_from, arrows_of, below, described, edges_of, expanded, meanings_of, only_state, state_count}
 use Rattle.hoa_reader.specs.Raw.{RawTree, Written, WrittenEdge, WrittenState}
-use Rattle.hoa_reader.specs.Validity.{V5, V6, V8, V9, IsKept, IsValid, acceptance_of, alias_lines, body_labels, edges_written, is_one_state, marks_below, names_of, numbers_below, props_below, starts_written, state_labels, states_item, used_states}
+use Rattle.hoa_reader.specs.Validity.{V5, V6, V8, V9, IsKept, IsValid, acceptance_of, alias_lines, body_labels, edges_written, is_one_state, names_of, numbers_below, props_below, starts_written, state_labels, states_item, used_states}
 
 all_from : {X : Type 0} (p : X → Bool) (xs : List X) → list_all p xs ≡ true → AllByRecursion (λ x. p x ≡ true) xs
 all_from p [] e = tt
@@ -72,10 +72,12 @@ good_state : (n k : ℕ) (s : WrittenState) → (s.number < n) × (AllByRecursio
 good_state n k s h =
     let own = option_to_list s.label in
     let others = flat_map (λ (e : WrittenEdge). option_to_list e.label) s.edges in
-    let P : RawTree → Type 0 = λ t. props_below k t ≡ true in
-    (h.0, all_left P own others h.1.1,
-     all_both (λ (e : WrittenEdge). only_state e.to < n) (λ (e : WrittenEdge). Labels k (option_to_list e.label)) s.edges h.1.0
-     (all_unflat P (λ (e : WrittenEdge). option_to_list e.label) s.edges (all_right P own others h.1.1)))
+    let P : RawTree → Type 0 = λ t. props_below k t ≡ true in (
+      h.0,
+      all_left P own others h.1.1,
+      all_both (λ (e : WrittenEdge). only_state e.to < n) (λ (e : WrittenEdge). Labels k (option_to_list e.label)) s.edges h.1.0
+          (all_unflat P (λ (e : WrittenEdge). option_to_list e.label) s.edges (all_right P own others h.1.1)),
+    )
 
 arrow_good : (w : Written) (s : WrittenState) (i : ℕ) (e : WrittenEdge) → AllByRecursion (MeansBelow (length (names_of w))) (meanings_of w) → (s.number < state_count w) → Labels (length (names_of w)) (option_to_list s.label) → IsGoodEdge (state_count w) (length (names_of w)) e → IsArrowOf (described w) (arrow_of w s i e)
 arrow_good w s i e means number labels good =
@@ -102,9 +104,9 @@ edges_good w means good =
     let P : Arrow → Type 0 = IsArrowOf (described w) in
     all_at P (edges_of w) (all_flat_map P (arrows_from w) (below n) (all_of (λ q. AllByRecursion P (arrows_from w q)) (below n)
     (λ q. let ours : WrittenState → Bool = λ s. s.number == q in
-     all_flat_map P (arrows_of w) (filter ours w.states)
-     (all_weaker (IsGoodState n (length (names_of w))) (λ s. AllByRecursion P (arrows_of w s)) (filter ours w.states) (arrows_good w means)
-     (all_filter (IsGoodState n (length (names_of w))) ours w.states good)))))
+    all_flat_map P (arrows_of w) (filter ours w.states)
+    (all_weaker (IsGoodState n (length (names_of w))) (λ s. AllByRecursion P (arrows_of w s)) (filter ours w.states) (arrows_good w means)
+    (all_filter (IsGoodState n (length (names_of w))) ours w.states good)))))
 
 -- the groups of states that are one state each
 groups_below : (n : ℕ) {X : Type 0} (group : X → List ℕ) (xs : List X) → list_all (λ x. is_one_state (group x)) xs ≡ true → AreBelow n (flat_map group xs) → AllByRecursion (λ x. only_state (group x) < n) xs
@@ -129,11 +131,11 @@ well_formed w one states props sets =
     let means = meanings_below k [] (alias_lines w) tt labels.0 in
     let G : WrittenState → Type 0 = λ s. (s.number < n) × (AllByRecursion (λ (e : WrittenEdge). only_state e.to < n) s.edges × Labels k (state_labels s)) in
     let facts : AllByRecursion G w.states =
-        all_both (λ (s : WrittenState). s.number < n) (λ (s : WrittenState). AllByRecursion (λ (e : WrittenEdge). only_state e.to < n) s.edges × Labels k (state_labels s)) w.states
-        (all_unmap P (λ (s : WrittenState). s.number) w.states (all_left P numbers goals others))
-        (all_both (λ (s : WrittenState). AllByRecursion (λ (e : WrittenEdge). only_state e.to < n) s.edges) (λ (s : WrittenState). Labels k (state_labels s)) w.states
-        (all_unflat (λ (e : WrittenEdge). only_state e.to < n) (λ (s : WrittenState). s.edges) w.states to)
-        (all_unflat (λ t. props_below k t ≡ true) state_labels w.states (all_from (props_below k) (body_labels w) labels.1))) in
+    all_both (λ (s : WrittenState). s.number < n) (λ (s : WrittenState). AllByRecursion (λ (e : WrittenEdge). only_state e.to < n) s.edges × Labels k (state_labels s)) w.states
+    (all_unmap P (λ (s : WrittenState). s.number) w.states (all_left P numbers goals others))
+    (all_both (λ (s : WrittenState). AllByRecursion (λ (e : WrittenEdge). only_state e.to < n) s.edges) (λ (s : WrittenState). Labels k (state_labels s)) w.states
+    (all_unflat (λ (e : WrittenEdge). only_state e.to < n) (λ (s : WrittenState). s.edges) w.states to)
+    (all_unflat (λ t. props_below k t ≡ true) state_labels w.states (all_from (props_below k) (body_labels w) labels.1))) in
     let heads = map only_state (starts_written w) in
     record {
       starts_differ = they_differ heads;

@@ -1,9 +1,9 @@
 -- An automaton has one answer to the question of its validity.
-use Rattle.std.proofs.Common.{◌≡◌, ℕ, zero, suc, ◌<◌, Bool, true, false, ◌⊎◌, inl, inr, List, [], ◌∷◌, take, Option, Some, None, refl, sym, ap, ◌∙◌, subst, arith}
+use Rattle.std.proofs.Common.{◌≡◌, ℕ, zero, suc, ◌<◌, List, [], ◌∷◌, take, Some, None, refl, sym, ap, ◌∙◌, subst, arith}
 use Rattle.std.specs.Prelude.{slice_get}
 use Rattle.std.proofs.lemmas.Bool.{false≢true}
 use Rattle.hoa_reader.specs.Raw.{Written}
-use Rattle.hoa_reader.specs.Validity.{Rule, V1, V2, V3, V4, V5, V6, V7, V8, V9, V10, V11, V12, AreKept, IsBroken, IsFirstBroken, IsKept, IsValid, keeps, place_of, rules, rules_before}
+use Rattle.hoa_reader.specs.Validity.{Rule, V1, V2, V3, V4, V5, V6, V7, V8, V9, V10, V11, V12, AreKept, IsFirstBroken, IsKept, IsValid, place_of, rules}
 
 placed : (rule : Rule) → slice_get rules (place_of rule) ≡ Some rule
 placed V1 = refl

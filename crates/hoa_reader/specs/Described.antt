@@ -19,7 +19,7 @@ abbrev pub without_repeats : List ℕ → List ℕ
 without_repeats [] = []
 without_repeats (x ∷ xs) = x ∷ filter (λ y. not (y == x)) (without_repeats xs)
 
--- one more than the greatest number, 0 where there is none
+-- the least number that is above all of these
 abbrev pub after_all : List ℕ → ℕ
 after_all [] = 0
 after_all (x ∷ xs) = max (x + 1) (after_all xs)
