@@ -3,6 +3,7 @@ pub mod Collected
 pub mod Described
 pub mod DescribedLaws
 pub mod DescribedStarts
+pub mod DescribedSteps
 pub mod DescribedWellFormed
 pub mod Distinct
 pub mod Ending
