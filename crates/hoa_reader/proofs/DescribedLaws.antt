@@ -1,4 +1,4 @@
--- An automaton that is described speaks of its own propositions and sets, and starts at different states.
+-- The condition and the labels of a described automaton speak of its own sets and propositions.
 use Rattle.std.proofs.Common.{◌≡◌, ◌/◌, ◌%◌, ◌^◌, ◌<◌, ◌==◌, ℕ, zero, suc, Bool, true, false, cond, ◌&&◌, List, [], ◌∷◌, ◌++◌, map, find, nat_lt, Some, refl, arith}
 use Rattle.std.proofs.lemmas.Bool.{false≢true, ltb-true}
 use Rattle.std.specs.List.{AllByRecursion, list_all}
