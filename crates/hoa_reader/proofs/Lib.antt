@@ -1,6 +1,10 @@
 pub mod Answering
 pub mod Collected
 pub mod Described
+pub mod DescribedLaws
+pub mod DescribedStarts
+pub mod DescribedSteps
+pub mod DescribedWellFormed
 pub mod Distinct
 pub mod Ending
 pub mod Exits
@@ -10,3 +14,5 @@ pub mod Loops
 pub mod OneForm
 pub mod Properties
 pub mod RawTrees
+pub mod ValidityExamples
+pub mod ValidityLaws

@@ -1,4 +1,6 @@
 pub mod Collecting
+pub mod Counts
+pub mod Described
 pub mod Describing
 pub mod Faults
 pub mod FirstForm
@@ -6,3 +8,4 @@ pub mod Midway
 pub mod Parsing
 pub mod Raw
 pub mod Reads
+pub mod Validity

@@ -1,0 +1,300 @@
+-- What the rules, the described automaton and its counts come to on small automata, worked out by hand.
+use Rattle.std.proofs.Common.{◌≡◌, ℕ, true, false, List, [], ◌∷◌, Option, Some, None, codes, not, filter, map, replicate, refl}
+use Rattle.aut_base.specs.Automaton.{Arrow}
+use Rattle.aut_base.specs.Formula as formula
+use Rattle.aut_base.specs.Label as label
+use Rattle.aut_base.specs.Label.{LabelTree}
+use Rattle.hoa_reader.specs.Counts as counts
+use Rattle.hoa_reader.specs.Counts.{PassesFirst, PassesNone, count_of, height_in, size_in, weight}
+use Rattle.hoa_reader.specs.Described.{described, letter_label, starts_of, state_count}
+use Rattle.hoa_reader.specs.Raw as raw
+use Rattle.hoa_reader.specs.Raw.{RawTree, Written, WrittenEdge, WrittenItem, WrittenState}
+use Rattle.hoa_reader.specs.Validity.{Rule, V1, V2, V3, V4, V5, V6, V7, V8, V9, V10, V11, V12, IsFirstBroken, IsValid, keeps, rules}
+
+-- all the rules that are broken
+abbrev broken_rules : Written → List Rule
+broken_rules w = filter (λ rule. not (keeps rule w)) rules
+
+abbrev edge : Option RawTree → ℕ → List ℕ → WrittenEdge
+edge guard to marks = record { label = guard; to = to ∷ []; marks = marks }
+
+abbrev state : ℕ → List WrittenEdge → WrittenState
+state number edges = record { label = None; number = number; marks = []; edges = edges }
+
+-- the items behind those that all examples have, and the body
+abbrev text : List WrittenItem → List WrittenState → Written
+text items states = record { version = codes "v1"; items = raw.Acceptance 1 (formula.Inf 0 false) ∷ items; states = states }
+
+abbrev names_a_b : WrittenItem
+names_a_b = raw.Ap 2 (codes "a" ∷ codes "b" ∷ [])
+
+abbrev at_x : RawTree
+at_x = raw.Alias (codes "x")
+
+abbrev either : RawTree
+either = raw.Or (raw.Prop 0) (raw.Prop 1) raw.none
+
+-- Each rule broken alone.
+
+no_rule : broken_rules (text [] []) ≡ []
+no_rule = refl
+
+another_version : broken_rules (record (text [] []) { version = codes "v2" }) ≡ V1 ∷ []
+another_version = refl
+
+no_acceptance_line : broken_rules (record { version = codes "v1"; items = []; states = [] }) ≡ V2 ∷ []
+no_acceptance_line = refl
+
+two_acceptance_lines : broken_rules (text (raw.Acceptance 1 (formula.Inf 0 false) ∷ []) []) ≡ V2 ∷ []
+two_acceptance_lines = refl
+
+two_numbers_of_states : broken_rules (text (raw.States 1 ∷ raw.States 1 ∷ []) []) ≡ V2 ∷ []
+two_numbers_of_states = refl
+
+two_lines_of_names : broken_rules (text (raw.Ap 0 [] ∷ raw.Ap 0 [] ∷ []) []) ≡ V2 ∷ []
+two_lines_of_names = refl
+
+two_acceptance_names : broken_rules (text (raw.AccName ∷ raw.AccName ∷ []) []) ≡ V2 ∷ []
+two_acceptance_names = refl
+
+two_tools : broken_rules (text (raw.Tool ∷ raw.Tool ∷ []) []) ≡ V2 ∷ []
+two_tools = refl
+
+two_titles : broken_rules (text (raw.Name (codes "n") ∷ raw.Name (codes "m") ∷ []) []) ≡ V2 ∷ []
+two_titles = refl
+
+-- properties and unknown headers may stand again and again
+repeated_lines : broken_rules (text (raw.Properties [] ∷ raw.Properties [] ∷ raw.Other (codes "o") ∷ raw.Other (codes "o") ∷ []) []) ≡ []
+repeated_lines = refl
+
+capital_header : broken_rules (text (raw.Other (codes "Zone") ∷ []) []) ≡ V3 ∷ []
+capital_header = refl
+
+capital_property : broken_rules (text (raw.Properties (codes "weak" ∷ codes "Ample" ∷ []) ∷ []) []) ≡ V3 ∷ []
+capital_property = refl
+
+too_few_names : broken_rules (text (raw.Ap 2 (codes "a" ∷ []) ∷ []) []) ≡ V4 ∷ []
+too_few_names = refl
+
+equal_names : broken_rules (text (raw.Ap 3 (codes "a" ∷ codes "b" ∷ codes "a" ∷ []) ∷ []) []) ≡ V4 ∷ []
+equal_names = refl
+
+two_states_at_once : broken_rules (text (raw.Start (0 ∷ 1 ∷ []) ∷ []) []) ≡ V5 ∷ []
+two_states_at_once = refl
+
+goal_of_two_states : broken_rules (text [] (state 0 (record { label = Some raw.True; to = 0 ∷ 1 ∷ []; marks = [] } ∷ []) ∷ [])) ≡ V5 ∷ []
+goal_of_two_states = refl
+
+high_start : broken_rules (text (raw.Start (2 ∷ []) ∷ raw.States 2 ∷ []) []) ≡ V6 ∷ []
+high_start = refl
+
+high_state : broken_rules (text (raw.States 2 ∷ []) (state 2 [] ∷ [])) ≡ V6 ∷ []
+high_state = refl
+
+high_goal : broken_rules (text (raw.States 2 ∷ []) (state 0 (edge (Some raw.True) 2 [] ∷ []) ∷ [])) ≡ V6 ∷ []
+high_goal = refl
+
+alias_twice : broken_rules (text (raw.AliasOf (codes "x") raw.True ∷ raw.AliasOf (codes "x") raw.True ∷ []) []) ≡ V7 ∷ []
+alias_twice = refl
+
+alias_of_itself : broken_rules (text (raw.AliasOf (codes "x") (raw.Not at_x) ∷ []) []) ≡ V7 ∷ []
+alias_of_itself = refl
+
+alias_of_later_line : broken_rules (text (raw.AliasOf (codes "y") at_x ∷ raw.AliasOf (codes "x") raw.True ∷ []) []) ≡ V7 ∷ []
+alias_of_later_line = refl
+
+unknown_alias : broken_rules (text [] (state 0 (edge (Some at_x) 0 [] ∷ []) ∷ [])) ≡ V7 ∷ []
+unknown_alias = refl
+
+proposition_without_names : broken_rules (text [] (state 0 (edge (Some (raw.Prop 0)) 0 [] ∷ []) ∷ [])) ≡ V8 ∷ []
+proposition_without_names = refl
+
+-- also where nothing uses the alias
+proposition_of_alias : broken_rules (text (raw.AliasOf (codes "x") (raw.Not (raw.Prop 2)) ∷ names_a_b ∷ []) []) ≡ V8 ∷ []
+proposition_of_alias = refl
+
+high_set_of_condition : broken_rules (record { version = codes "v1"; items = raw.Acceptance 1 (formula.And (formula.Inf 0 false) (formula.Fin 1 true) formula.none) ∷ []; states = [] }) ≡ V9 ∷ []
+high_set_of_condition = refl
+
+high_mark_of_state : broken_rules (text [] (record (state 0 []) { marks = 0 ∷ 1 ∷ [] } ∷ [])) ≡ V9 ∷ []
+high_mark_of_state = refl
+
+high_mark_of_edge : broken_rules (text [] (state 0 (edge (Some raw.True) 0 (1 ∷ []) ∷ []) ∷ [])) ≡ V9 ∷ []
+high_mark_of_edge = refl
+
+state_twice : broken_rules (text [] (state 0 [] ∷ state 1 [] ∷ state 0 [] ∷ [])) ≡ V10 ∷ []
+state_twice = refl
+
+label_in_label : broken_rules (text [] (record (state 0 (edge (Some raw.True) 0 [] ∷ [])) { label = Some raw.True } ∷ [])) ≡ V11 ∷ []
+label_in_label = refl
+
+half_labelled : broken_rules (text [] (state 0 (edge (Some raw.True) 0 [] ∷ edge None 0 [] ∷ []) ∷ [])) ≡ V11 ∷ []
+half_labelled = refl
+
+three_letters_of_four : broken_rules (text (names_a_b ∷ []) (state 0 (replicate 3 (edge None 0 [])) ∷ [])) ≡ V12 ∷ []
+three_letters_of_four = refl
+
+four_letters_of_four : broken_rules (text (names_a_b ∷ []) (state 0 (replicate 4 (edge None 0 [])) ∷ [])) ≡ []
+four_letters_of_four = refl
+
+-- Of two broken rules the earlier one is first.
+
+abbrev goal_and_alias : Written
+goal_and_alias = text [] (state 0 (record { label = Some at_x; to = 0 ∷ 1 ∷ []; marks = [] } ∷ []) ∷ [])
+
+both_broken : broken_rules goal_and_alias ≡ V5 ∷ V7 ∷ []
+both_broken = refl
+
+earlier_is_first : IsFirstBroken V5 goal_and_alias
+earlier_is_first = record { broken = refl; earlier = (refl, (refl, (refl, (refl, tt)))) }
+
+-- An automaton with a label and marks at a state and with an alias.
+
+abbrev two_states : Written
+two_states = record {
+  version = codes "v1";
+  items =
+      raw.States 2 ∷ raw.Start (1 ∷ []) ∷ raw.Start (0 ∷ []) ∷ names_a_b ∷ raw.AliasOf (codes "x") either
+      ∷ raw.Acceptance 2 (formula.And (formula.Inf 0 false) (formula.Fin 1 false) formula.none) ∷ [];
+  states =
+      record { label = Some at_x; number = 1; marks = 1 ∷ []; edges = edge None 0 (0 ∷ []) ∷ edge None 1 [] ∷ [] }
+      ∷ state 0 (edge (Some (raw.Not at_x)) 1 (0 ∷ []) ∷ []) ∷ [];
+}
+
+abbrev either_holds : LabelTree
+either_holds = label.Or (label.Prop 0) (label.Prop 1) label.none
+
+abbrev arrow : ℕ → LabelTree → ℕ → List ℕ → Arrow
+arrow from guard to marks = record { from = from; label = guard; to = to; marks = marks }
+
+two_states_valid : IsValid two_states
+two_states_valid = (refl, (refl, (refl, (refl, (refl, (refl, (refl, (refl, (refl, (refl, (refl, (refl, tt))))))))))))
+
+two_states_described : described two_states ≡ record {
+  names = codes "a" ∷ codes "b" ∷ [];
+  starts = 1 ∷ 0 ∷ [];
+  states = 2;
+  edges = arrow 0 (label.Not either_holds) 1 (0 ∷ []) ∷ arrow 1 either_holds 0 (0 ∷ 1 ∷ []) ∷ arrow 1 either_holds 1 (1 ∷ []) ∷ [];
+  sets = 2;
+  formula = formula.And (formula.Inf 0 false) (formula.Fin 1 false) formula.none;
+}
+two_states_described = refl
+
+two_states_within : PassesNone two_states
+two_states_within = (refl, (refl, (refl, (refl, (refl, tt)))))
+
+-- Edges without labels stand for the letters in order, the first proposition changing fastest.
+
+abbrev goals_of_letters : Written
+goals_of_letters = text (names_a_b ∷ raw.States 4 ∷ []) (state 3 (edge None 0 [] ∷ edge None 1 [] ∷ edge None 2 [] ∷ edge None 3 [] ∷ []) ∷ [])
+
+abbrev both : LabelTree → LabelTree → LabelTree
+both s t = label.And s t label.none
+
+letters_in_order : (described goals_of_letters).edges ≡
+    arrow 3 (both (label.Not (label.Prop 0)) (label.Not (label.Prop 1))) 0 []
+    ∷ arrow 3 (both (label.Prop 0) (label.Not (label.Prop 1))) 1 []
+    ∷ arrow 3 (both (label.Not (label.Prop 0)) (label.Prop 1)) 2 []
+    ∷ arrow 3 (both (label.Prop 0) (label.Prop 1)) 3 [] ∷ []
+letters_in_order = refl
+
+letter_of_three : letter_label 3 5 ≡ label.And (label.Prop 0) (label.Not (label.Prop 1)) (label.more (label.Prop 2) label.none)
+letter_of_three = refl
+
+letters_of_one : letter_label 1 0 ∷ letter_label 1 1 ∷ [] ≡ label.Not (label.Prop 0) ∷ label.Prop 0 ∷ []
+letters_of_one = refl
+
+letter_of_none : letter_label 0 0 ≡ label.True
+letter_of_none = refl
+
+-- one edge without label, where there are no names
+always : (described (text [] (state 0 (edge None 0 [] ∷ []) ∷ []))).edges ≡ arrow 0 label.True 0 [] ∷ []
+always = refl
+
+-- Aliases that stand for other aliases are replaced all the way.
+
+abbrev chained : Written
+chained = text
+    (names_a_b ∷ raw.AliasOf (codes "x") (raw.And (raw.Prop 0) (raw.Prop 1) raw.none) ∷ raw.AliasOf (codes "y") (raw.Not at_x)
+    ∷ raw.AliasOf (codes "z") (raw.Or at_x raw.False (raw.more (raw.Alias (codes "y")) raw.none)) ∷ [])
+    (state 0 (edge (Some (raw.Alias (codes "z"))) 0 [] ∷ edge (Some (raw.Prop 1)) 0 [] ∷ []) ∷ [])
+
+abbrev both_hold : LabelTree
+both_hold = label.And (label.Prop 0) (label.Prop 1) label.none
+
+chained_valid : IsValid chained
+chained_valid = (refl, (refl, (refl, (refl, (refl, (refl, (refl, (refl, (refl, (refl, (refl, (refl, tt))))))))))))
+
+chain_replaced : (described chained).edges ≡
+    arrow 0 (label.Or both_hold label.False (label.more (label.Not both_hold) label.none)) 0 [] ∷ arrow 0 (label.Prop 1) 0 [] ∷ []
+chain_replaced = refl
+
+-- The label of `@z` is an Or of an And, `f` and a Not of that And: 1 + 3 + 1 + (1 + 3) signs, four of them one inside the other.
+-- The other edge holds no alias, and weighs nothing.
+
+height_of_chain : height_in chained (raw.Alias (codes "z")) ≡ 4
+height_of_chain = refl
+
+size_of_chain : size_in chained (raw.Alias (codes "z")) ≡ 9
+size_of_chain = refl
+
+weight_of_chain : weight chained ≡ 9
+weight_of_chain = refl
+
+aliases_of_chain : count_of counts.Aliases chained ≡ 4
+aliases_of_chain = refl
+
+-- A state's label weighs as often as the state has edges, and has its height without any.
+
+abbrev labelled : List WrittenEdge → Written
+labelled edges = text (names_a_b ∷ []) (record (state 0 edges) { label = Some (raw.Not (raw.Not either)) } ∷ [])
+
+weight_of_edges : weight (labelled (replicate 3 (edge None 0 []))) ≡ 15
+weight_of_edges = refl
+
+no_weight : weight (labelled []) ≡ 0
+no_weight = refl
+
+height_of_state : count_of counts.Aliases (labelled []) ≡ 4
+height_of_state = refl
+
+-- nothing is counted of edges without labels, nor of an alias that nothing uses
+uncounted : count_of counts.Aliases (text (raw.AliasOf (codes "x") (raw.Not raw.True) ∷ []) (state 0 (edge None 0 [] ∷ []) ∷ [])) ≡ 0
+uncounted = refl
+
+-- Without `States:` the greatest number that is used tells how many states there are.
+
+used_goal : state_count (text (raw.Start (1 ∷ []) ∷ []) (state 2 (edge (Some raw.True) 4 [] ∷ []) ∷ [])) ≡ 5
+used_goal = refl
+
+used_start : state_count (text (raw.Start (6 ∷ []) ∷ []) (state 2 [] ∷ [])) ≡ 7
+used_start = refl
+
+used_state : state_count (text (raw.Start (1 ∷ []) ∷ []) (state 2 [] ∷ [])) ≡ 3
+used_state = refl
+
+none_used : state_count (text [] []) ≡ 0
+none_used = refl
+
+repeated_starts : starts_of (text (raw.Start (2 ∷ []) ∷ raw.Start (0 ∷ []) ∷ raw.Start (2 ∷ []) ∷ raw.Start (1 ∷ []) ∷ []) []) ≡ 2 ∷ 0 ∷ 1 ∷ []
+repeated_starts = refl
+
+-- marks of a state and of its edge, joined
+joined_marks : map (λ e. e.marks) (described (record {
+  version = codes "v1";
+  items = raw.Acceptance 4 formula.True ∷ [];
+  states = record { label = None; number = 0; marks = 3 ∷ 1 ∷ []; edges = edge (Some raw.True) 0 (1 ∷ 0 ∷ 0 ∷ []) ∷ [] } ∷ [];
+})).edges ≡ (0 ∷ 1 ∷ 3 ∷ []) ∷ []
+joined_marks = refl
+
+-- Of two counts that pass their numbers the earlier one is first.
+
+many_sets : PassesFirst counts.Sets (record { version = codes "v1"; items = raw.Acceptance 513 formula.True ∷ raw.States 100001 ∷ []; states = [] })
+many_sets = record { passes = refl; earlier = (refl, tt) }
+
+many_states : PassesFirst counts.States (text (raw.States 100001 ∷ []) [])
+many_states = record { passes = refl; earlier = (refl, (refl, tt)) }
+
+-- each greatest number is still read
+greatest_numbers : map counts.most_of counts.counts ≡ 8 ∷ 512 ∷ 100000 ∷ 1000000 ∷ 2048 ∷ []
+greatest_numbers = refl

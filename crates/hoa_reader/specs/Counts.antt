@@ -1,0 +1,102 @@
+-- What is counted of a written automaton that keeps the rules, and the numbers that the counts may not pass.
+use Rattle.std.specs.Prelude.{◌≡◌, ◌+◌, ◌/◌, max, ℕ, Bool, true, false, not, if◌then◌else◌, nat_lt, List, [], ◌∷◌, length, map, take, sum_by}
+use Rattle.std.specs.Option.{option_map_or}
+use Rattle.aut_base.specs.Label as label
+use Rattle.aut_base.specs.Label.{LabelTree, LabelTrees, label_size}
+use Rattle.hoa_reader.specs.Described.{edges_of, expanded, meanings_of, state_count}
+use Rattle.hoa_reader.specs.Raw.{RawTree, Written, WrittenEdge, WrittenState}
+use Rattle.hoa_reader.specs.Validity.{acceptance_of, aliases_among, body_labels, names_of}
+
+-- how many signs of a label stand one inside the other at most, and of each of more labels
+abbrev mutual
+  pub height : LabelTree → ℕ
+  height label.True = 1
+  height label.False = 1
+  height (label.Prop i) = 1
+  height (label.Not t) = 1 + height t
+  height (label.And a b cs) = 1 + max (height a) (max (height b) (greatest_height cs))
+  height (label.Or a b cs) = 1 + max (height a) (max (height b) (greatest_height cs))
+
+  pub greatest_height : LabelTrees → ℕ
+  greatest_height label.none = 0
+  greatest_height (label.more t ts) = max (height t) (greatest_height ts)
+
+-- the greatest number, 0 where there is none
+abbrev pub greatest : List ℕ → ℕ
+greatest [] = 0
+greatest (x ∷ xs) = max x (greatest xs)
+
+-- height and size of a label whose aliases are replaced
+abbrev pub height_in : Written → RawTree → ℕ
+height_in w t = height (expanded (meanings_of w) t)
+
+abbrev pub size_in : Written → RawTree → ℕ
+size_in w t = label_size (expanded (meanings_of w) t)
+
+abbrev pub holds_alias : RawTree → Bool
+holds_alias t = not (aliases_among [] t)
+
+-- What an edge weighs: the label of its state is copied for it, and so are the labels of its aliases.
+abbrev pub own_weight : Written → RawTree → ℕ
+own_weight w t = if holds_alias t then size_in w t else 0
+
+abbrev pub edge_weight : Written → WrittenState → WrittenEdge → ℕ
+edge_weight w s e = option_map_or (size_in w) s.label (option_map_or (own_weight w) e.label 0)
+
+abbrev pub weight : Written → ℕ
+weight w = sum_by (λ s. sum_by (edge_weight w s) s.edges) w.states
+
+pub data Count : Type 0 where
+  Names : Count
+  Sets : Count
+  States : Count
+  Edges : Count
+  -- how far labels grow when their aliases are replaced
+  Aliases : Count
+
+abbrev pub count_of : Count → Written → ℕ
+count_of Names w = length (names_of w)
+count_of Sets w = (acceptance_of w).sets
+count_of States w = state_count w
+count_of Edges w = length (edges_of w)
+count_of Aliases w = max (greatest (map (height_in w) (body_labels w))) (weight w / 8192)
+
+-- the greatest number that is read
+abbrev pub most_of : Count → ℕ
+most_of Names = 8
+most_of Sets = 512
+most_of States = 100000
+most_of Edges = 1000000
+most_of Aliases = 2048
+
+abbrev pub Passes : Count → Written → Type 0
+Passes count w = nat_lt (most_of count) (count_of count w) ≡ true
+
+abbrev pub IsWithin : Count → Written → Type 0
+IsWithin count w = nat_lt (most_of count) (count_of count w) ≡ false
+
+-- all of them, in order
+abbrev pub counts : List Count
+counts = Names ∷ Sets ∷ States ∷ Edges ∷ Aliases ∷ []
+
+-- how many are examined before this one
+abbrev pub place_of : Count → ℕ
+place_of Names = 0
+place_of Sets = 1
+place_of States = 2
+place_of Edges = 3
+place_of Aliases = 4
+
+-- each count of the list is within its number
+abbrev pub AreWithin : List Count → Written → Type 0
+AreWithin [] w = Unit {0}
+AreWithin (count ∷ others) w = IsWithin count w × AreWithin others w
+
+-- it passes its number, and no earlier one does
+pub record PassesFirst (count : Count) (w : Written) : Type 0 where
+  pub passes : Passes count w
+  pub earlier : AreWithin (take (place_of count) counts) w
+
+-- none passes its number
+abbrev pub PassesNone : Written → Type 0
+PassesNone = AreWithin counts

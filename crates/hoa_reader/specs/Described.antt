@@ -1,0 +1,120 @@
+-- The automaton that is described by what is written. It is what it should be where no rule is broken.
+use Rattle.std.specs.Prelude.{◌/◌, ◌%◌, ◌^◌, ◌+◌, max, ℕ, zero, suc, not, ◌==◌, if◌then◌else◌, List, [], ◌∷◌, ◌++◌, length, map, filter, filter_map, find, flat_map, get_or}
+use Rattle.std.specs.List.{enumerate_from}
+use Rattle.std.specs.Option.{option_map_or}
+use Rattle.aut_base.specs.Automaton.{Arrow, Automaton}
+use Rattle.aut_base.specs.Label.{LabelTree, LabelTrees, trees}
+use Rattle.aut_base.specs.Marks.{is_in}
+use Rattle.hoa_reader.specs.Raw as raw
+use Rattle.hoa_reader.specs.Raw.{RawTree, RawTrees, Written, WrittenEdge, WrittenState}
+use Rattle.hoa_reader.specs.Validity.{AliasLine, acceptance_of, alias_lines, names_of, same_text, starts_written, states_item, used_states}
+
+-- the numbers below n, in order
+abbrev pub below : ℕ → List ℕ
+below zero = []
+below (suc n) = below n ++ n ∷ []
+
+-- the numbers in order, each where it stands first
+abbrev pub without_repeats : List ℕ → List ℕ
+without_repeats [] = []
+without_repeats (x ∷ xs) = x ∷ filter (λ y. not (y == x)) (without_repeats xs)
+
+-- the least number that is above all of these
+abbrev pub after_all : List ℕ → ℕ
+after_all [] = 0
+after_all (x ∷ xs) = max (x + 1) (after_all xs)
+
+-- the number of states is written, or follows from the numbers that are used
+abbrev pub state_count : Written → ℕ
+state_count w = get_or (filter_map states_item w.items) 0 (after_all (used_states w))
+
+-- the state that a start or an edge names
+abbrev pub only_state : List ℕ → ℕ
+only_state states = get_or states 0 0
+
+abbrev pub starts_of : Written → List ℕ
+starts_of w = without_repeats (map only_state (starts_written w))
+
+-- an alias and what it stands for, with no alias left in it
+pub record Meaning : Type 0 where
+  pub name : List ℕ
+  pub label : LabelTree
+
+abbrev pub meaning_of : List Meaning → List ℕ → LabelTree
+meaning_of meanings name = option_map_or (λ m. m.label) (find (λ m. same_text m.name name) meanings) LabelTree.False
+
+-- the label with each alias replaced by what it stands for
+abbrev mutual
+  pub expanded : List Meaning → RawTree → LabelTree
+  expanded meanings raw.True = LabelTree.True
+  expanded meanings raw.False = LabelTree.False
+  expanded meanings (raw.Prop i) = LabelTree.Prop i
+  expanded meanings (raw.Alias name) = meaning_of meanings name
+  expanded meanings (raw.Not t) = LabelTree.Not (expanded meanings t)
+  expanded meanings (raw.And a b cs) = LabelTree.And (expanded meanings a) (expanded meanings b) (each_expanded meanings cs)
+  expanded meanings (raw.Or a b cs) = LabelTree.Or (expanded meanings a) (expanded meanings b) (each_expanded meanings cs)
+
+  pub each_expanded : List Meaning → RawTrees → LabelTrees
+  each_expanded meanings raw.none = LabelTrees.none
+  each_expanded meanings (raw.more t ts) = LabelTrees.more (expanded meanings t) (each_expanded meanings ts)
+
+-- the aliases of the lines, behind those of earlier lines, of which they may speak
+abbrev pub meanings_after : List Meaning → List AliasLine → List Meaning
+meanings_after earlier [] = earlier
+meanings_after earlier (line ∷ lines) = meanings_after (earlier ++ record { name = line.name; label = expanded earlier line.label } ∷ []) lines
+
+abbrev pub meanings_of : Written → List Meaning
+meanings_of w = meanings_after [] (alias_lines w)
+
+-- Proposition k holds at the i-th letter where bit k of i is 1.
+abbrev pub literal : ℕ → ℕ → LabelTree
+literal i k = if (i / (2 ^ k)) % 2 == 1 then LabelTree.Prop k else LabelTree.Not (LabelTree.Prop k)
+
+-- the conjunction of the labels; of one it is the label itself
+abbrev pub conjunction : List LabelTree → LabelTree
+conjunction [] = LabelTree.True
+conjunction (t ∷ []) = t
+conjunction (t ∷ u ∷ ts) = LabelTree.And t u (trees ts)
+
+-- the label of the i-th letter over n names
+abbrev pub letter_label : ℕ → ℕ → LabelTree
+letter_label n i = conjunction (map (literal i) (below n))
+
+-- The label of the i-th edge of a state: the state's if it has one, else the edge's own, else the letter's.
+abbrev pub label_of : Written → WrittenState → ℕ → WrittenEdge → LabelTree
+label_of w s i e =
+    option_map_or (expanded (meanings_of w)) s.label
+    (option_map_or (expanded (meanings_of w)) e.label (letter_label (length (names_of w)) i))
+
+-- the sets that are among these marks, in order
+abbrev pub marks_in_order : ℕ → List ℕ → List ℕ
+marks_in_order sets marks = filter (λ set. is_in set marks) (below sets)
+
+-- The i-th edge of a state. It is in the state's sets and in its own.
+abbrev pub arrow_of : Written → WrittenState → ℕ → WrittenEdge → Arrow
+arrow_of w s i e = record {
+  from = s.number;
+  label = label_of w s i e;
+  to = only_state e.to;
+  marks = marks_in_order (acceptance_of w).sets (s.marks ++ e.marks);
+}
+
+abbrev pub arrows_of : Written → WrittenState → List Arrow
+arrows_of w s = map (λ p. arrow_of w s p.0 p.1) (enumerate_from 0 s.edges)
+
+-- the edges of a state; it has none where the body doesn't define it
+abbrev pub arrows_from : Written → ℕ → List Arrow
+arrows_from w q = flat_map (arrows_of w) (filter (λ s. s.number == q) w.states)
+
+abbrev pub edges_of : Written → List Arrow
+edges_of w = flat_map (arrows_from w) (below (state_count w))
+
+abbrev pub described : Written → Automaton
+described w = record {
+  names = names_of w;
+  starts = starts_of w;
+  states = state_count w;
+  edges = edges_of w;
+  sets = (acceptance_of w).sets;
+  formula = (acceptance_of w).formula;
+}
