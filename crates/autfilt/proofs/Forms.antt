@@ -1,7 +1,7 @@
 -- The automaton of the first form is well formed.
-use Rattle.std.proofs.Common.{◌≡◌, ℕ, zero, suc, ◌+◌, ◌<◌, ◌≤◌, List, [], ◌∷◌, length, map, All, AllPairs, get_or, refl, sym, ap, ◌∙◌, arith}
+use Rattle.std.proofs.Common.{◌≡◌, ℕ, zero, suc, ◌<◌, List, [], ◌∷◌, length, map, All, get_or, refl, arith}
 use Rattle.std.proofs.lemmas.List.Elements.{All-cons, All-nil, All-tail}
-use Rattle.aut_base.specs.Automaton.{Arrow, Automaton, IsArrowOf, IsWellFormed}
+use Rattle.aut_base.specs.Automaton.{Arrow, IsArrowOf, IsWellFormed}
 use Rattle.aut_base.specs.Label.{AllBelow}
 use Rattle.hoa_reader.specs.FirstForm.{FirstForm, Guard, Always, Holds, Fails, Loop, IsFirstForm, IsGuardOf, form_automaton, guard_label, loop_arrow, marks_of}
 use Rattle.std.specs.Prelude.{Bool, true, false}

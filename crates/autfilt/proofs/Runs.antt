@@ -1,5 +1,5 @@
 -- Streams of automata, and runs over them.
-use Rattle.std.proofs.Common.{◌≡◌, ◌≢◌, ℕ, ◌+◌, ◌-◌, ◌^◌, ◌<◌, ◌≤◌, min, Bool, true, false, List, [], ◌∷◌, ◌++◌, Option, Some, None, Result, Ok, Err, length, flat_map, refl, sym, ap, ◌∙◌, subst, inl, inr, append_assoc, append-nil, arith}
+use Rattle.std.proofs.Common.{◌≡◌, ℕ, ◌+◌, ◌<◌, Bool, true, false, List, [], ◌∷◌, ◌++◌, Option, None, Err, refl, sym, ap, ◌∙◌, subst, inl, inr, append_assoc, append-nil, arith}
 use Rattle.aut_base.specs.declared.limit.Limit.TheVariants as limit
 use Rattle.aut_io.specs.Outside.{Gains, Rose}
 use Rattle.autfilt.proofs.Gains.{both, nothing}
@@ -7,7 +7,7 @@ use Rattle.autfilt.specs.Run.{Calm, IsStream, end_of, output_of}
 use Rattle.autfilt.specs.Running.{AreFront, EndCauses, HasRun, RunsOver, ended_of, is_some_form}
 use Rattle.autfilt.specs.Turn.{Causes, IsPrinted, Turns}
 use Rattle.autfilt.specs.declared.ended.Ended.{Ended}
-use Rattle.autfilt.specs.declared.ended.Ended.TheVariants.{Output, NoneOutput, Usage, CannotOpen, ReadFault, Syntax, NotYet, Limit, WriteFault, Memory}
+use Rattle.autfilt.specs.declared.ended.Ended.TheVariants.{ReadFault, Syntax, NotYet, Limit, WriteFault, Memory}
 use Rattle.hoa_lexer.specs.Blanks.{IsBlanks}
 use Rattle.hoa_reader.proofs.OneForm.{no_blank_automaton, one_automaton}
 use Rattle.hoa_reader.specs.FirstForm.{FirstForm, IsFirstForm, form_automaton, form_tokens}

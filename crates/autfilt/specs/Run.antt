@@ -1,5 +1,5 @@
 -- The run of autfilt without words: a stream of automata from standard input, each printed in its canonical text.
-use Rattle.std.specs.Prelude.{◌≡◌, ◌≢◌, ℕ, ◌^◌, ◌<◌, ◌⊎◌, List, [], ◌∷◌, ◌++◌, length, flat_map, codes, Option, Some, None}
+use Rattle.std.specs.Prelude.{◌≡◌, ℕ, ◌^◌, ◌<◌, ◌⊎◌, List, [], ◌∷◌, ◌++◌, length, flat_map, codes, Option, Some, None}
 use Rattle.aut_io.specs.Outside.{Rose, Texts, text_of}
 use Rattle.autfilt.specs.declared.ended.Ended.{Ended}
 use Rattle.autfilt.specs.declared.ended.Ended.TheVariants as ended

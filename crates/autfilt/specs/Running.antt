@@ -3,7 +3,7 @@ use Rattle.std.specs.Prelude.{◌≡◌, ℕ, ◌+◌, ◌≤◌, ◌⊎◌, Boo
 use Rattle.aut_io.specs.Outside.{Gains, Rose, Texts}
 use Rattle.autfilt.specs.Run.{IsStream, end_of, output_of}
 use Rattle.autfilt.specs.declared.ended.Ended.{Ended}
-use Rattle.autfilt.specs.declared.ended.Ended.TheVariants.{Output, NoneOutput, Usage, CannotOpen, ReadFault, Syntax, NotYet, Limit, WriteFault, Memory}
+use Rattle.autfilt.specs.declared.ended.Ended.TheVariants.{Output, NoneOutput, ReadFault, Syntax, NotYet, Limit, WriteFault, Memory}
 use Rattle.aut_base.specs.declared.limit.Limit.TheVariants as limit
 use Rattle.hoa_lexer.specs.Reading.{Between, held_count, unread}
 use Rattle.hoa_lexer.specs.declared.lexer.Lexer.{Lexer}

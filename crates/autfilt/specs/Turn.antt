@@ -1,9 +1,9 @@
 -- One turn of the run: an automaton is read and its text written, or only blanks are left.
-use Rattle.std.specs.Prelude.{◌≡◌, ℕ, Bool, true, false, List, [], Option, None, Result, Ok, Err}
+use Rattle.std.specs.Prelude.{◌≡◌, ℕ, Bool, true, false, List, Option, None, Result, Ok, Err}
 use Rattle.aut_base.specs.declared.limit.Limit.TheVariants as limit
 use Rattle.aut_io.specs.Outside.{Gains, Rose}
 use Rattle.autfilt.specs.declared.ended.Ended.{Ended}
-use Rattle.autfilt.specs.declared.ended.Ended.TheVariants.{Output, NoneOutput, Usage, CannotOpen, ReadFault, Syntax, NotYet, Limit, WriteFault, Memory}
+use Rattle.autfilt.specs.declared.ended.Ended.TheVariants.{ReadFault, Syntax, NotYet, Limit, WriteFault, Memory}
 use Rattle.hoa_lexer.specs.Blanks.{IsBlanks}
 use Rattle.hoa_reader.specs.FirstForm.{FirstForm, IsFirstForm, form_automaton, form_tokens}
 use Rattle.hoa_reader.specs.Reads.{IsRefused, Reads}

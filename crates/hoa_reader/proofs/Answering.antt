@@ -1,5 +1,5 @@
 -- What an answer of the lexer is to the reader.
-use Rattle.std.proofs.Common.{◌≡◌, ◌+◌, ℕ, List, [], ◌∷◌, Option, Some, None, Result, Ok, Err, length, zero-add, refl, sym, ap, ◌∙◌}
+use Rattle.std.proofs.Common.{◌≡◌, ◌+◌, ℕ, List, Option, Some, None, Ok, Err, length, zero-add, sym}
 use Rattle.hoa_lexer.proofs.Exclusive.{IsStuck, blanks_no_token, no_token_stuck, open_comment_stuck, open_string_stuck, open_token_stuck, stuck_no_blanks, stuck_no_token}
 use Rattle.hoa_lexer.proofs.Unique.{one_next_token}
 use Rattle.hoa_lexer.specs.Blanks.{IsBlanks, IsOpenComment}

@@ -1,12 +1,12 @@
 -- The tokens of the first form end with `--END--`, and not before.
-use Rattle.std.proofs.Common.{◌≡◌, ◌≢◌, ℕ, Bool, true, false, List, [], ◌∷◌, ◌++◌, Option, Some, None, Err, flat_map, map, length, refl, sym, ap, ◌∙◌, subst}
+use Rattle.std.proofs.Common.{ℕ, Bool, true, false, List, [], ◌∷◌, ◌++◌, Option, Some, None, Err, flat_map, map, length, refl}
 use Rattle.hoa_lexer.specs.declared.token.Token.{Token}
 use Rattle.hoa_lexer.specs.declared.token.Token.TheVariants.{Body, End, Identifier, Int, Str}
 use Rattle.hoa_reader.proofs.Collected.{collected_not_blank, same_tokens}
 use Rattle.hoa_reader.specs.Collecting.{AreCollected, Collects, EndsOnce, NoEnd, NoneCollected}
 use Rattle.hoa_reader.specs.FirstForm.{FirstForm, Guard, Always, Holds, Fails, Loop, form_tokens, guard_tokens, marks_tokens, loop_tokens, property_tokens, opening_tokens, acceptance_tokens, state_tokens}
 use Rattle.hoa_reader.specs.Parsing.{Refuses}
-use Rattle.hoa_reader.specs.Reads.{Answers, IsRefused, Reads}
+use Rattle.hoa_reader.specs.Reads.{Answers, IsRefused}
 use Rattle.hoa_reader.specs.declared.fault.ReadFault.{ReadFault}
 use Rattle.hoa_reader.specs.declared.fault.ReadFault.TheVariants.{NotYet, Truncated, Bytes, Read, Memory}
 

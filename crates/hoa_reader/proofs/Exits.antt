@@ -1,5 +1,5 @@
 -- Where a fault is passed on by `?`.
-use Rattle.std.proofs.Common.{◌≡◌, Result, Ok, Err, sym, ◌∙◌, IsErrOf}
+use Rattle.std.proofs.Common.{◌≡◌, Result, Err, sym, ◌∙◌, IsErrOf}
 use Rattle.std.proofs.lemmas.Result.{err_from_is_err_and}
 use Rattle.std.specs.Result.{IsErrAnd}
 

@@ -1,5 +1,5 @@
 -- The header of the first form, as it stands in tokens.
-use Rattle.std.proofs.Common.{◌≡◌, ◌≢◌, ◌≤◌, ℕ, All, AllPairs, subst, List, [], ◌∷◌, ◌++◌, Option, Some, None, length, flat_map, map, codes, refl, sym, ap, ◌∙◌}
+use Rattle.std.proofs.Common.{◌≡◌, ◌≢◌, ◌≤◌, ℕ, All, AllPairs, subst, List, [], ◌∷◌, ◌++◌, Option, length, flat_map, map, codes, sym, ap, ◌∙◌}
 use Rattle.hoa_lexer.specs.declared.token.Token.{Token}
 use Rattle.hoa_lexer.specs.declared.token.Token.TheVariants as token
 use Rattle.hoa_reader.specs.FirstForm.{FirstForm, IsFirstForm, IsGuardOf, opening_tokens, acceptance_tokens, state_tokens, property_tokens, loop_tokens, form_tokens}

@@ -1,5 +1,5 @@
 -- Bytes begin with at most one automaton of the first form.
-use Rattle.std.proofs.Common.{◌≡◌, ℕ, List, [], ◌∷◌, ◌++◌, Option, Some, None, length, flat_map, map, refl, sym, ap, ◌∙◌, subst}
+use Rattle.std.proofs.Common.{◌≡◌, ℕ, List, [], ◌∷◌, ◌++◌, length, flat_map, map, refl, sym, ap, ◌∙◌, subst}
 use Rattle.hoa_lexer.specs.Blanks.{IsBlanks}
 use Rattle.hoa_lexer.specs.declared.token.Token.{Token}
 use Rattle.hoa_lexer.specs.declared.token.Token.TheVariants as token
@@ -9,7 +9,7 @@ use Rattle.hoa_reader.proofs.Ending.{form_ends}
 use Rattle.hoa_reader.proofs.Headers.{body_tokens, same_acceptance, same_names}
 use Rattle.hoa_reader.proofs.Loops.{same_loops}
 use Rattle.hoa_reader.proofs.Properties.{same_lines}
-use Rattle.hoa_reader.specs.FirstForm.{FirstForm, acceptance_tokens, form_tokens, loop_tokens, opening_tokens, property_tokens, state_tokens}
+use Rattle.hoa_reader.specs.FirstForm.{FirstForm, acceptance_tokens, form_tokens, loop_tokens, property_tokens}
 use Rattle.hoa_reader.specs.Reads.{Reads}
 
 -- the automaton from its parts

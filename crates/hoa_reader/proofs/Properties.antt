@@ -3,7 +3,7 @@ use Rattle.std.proofs.Common.{◌≡◌, refl, ℕ, true, List, ◌∷◌, ◌++
 use Rattle.hoa_lexer.specs.declared.token.Token.{Token}
 use Rattle.hoa_lexer.specs.declared.token.Token.TheVariants as token
 use Rattle.hoa_reader.proofs.Fronts.{front_same}
-use Rattle.hoa_reader.specs.FirstForm.{AllLower, is_lower, property_tokens}
+use Rattle.hoa_reader.specs.FirstForm.{is_lower, property_tokens}
 use Rattle.hoa_reader.specs.Parsing.{IsProperties, NoProperties}
 
 pub same_identifier : (a b : List ℕ) → token.Identifier a ≡ token.Identifier b → a ≡ b

@@ -1,5 +1,4 @@
 -- What a fault of the lexer is to the reader.
-use Rattle.std.specs.Prelude.{ℕ}
 use Rattle.hoa_lexer.specs.declared.token.LexFault as lexing
 use Rattle.hoa_reader.specs.declared.fault.ReadFault.{ReadFault}
 use Rattle.hoa_reader.specs.declared.fault.ReadFault.TheVariants.{NotYet, Truncated, Bytes, Read, Memory}

@@ -1,5 +1,5 @@
 -- The form of text that is read so far: one state, one acceptance set, labels of one literal at most.
-use Rattle.std.specs.Prelude.{◌≡◌, ◌≢◌, ℕ, ◌<◌, ◌≤◌, Bool, true, false, if◌then◌else◌, List, [], ◌∷◌, ◌++◌, length, map, flat_map, codes, All, AllPairs, Option, Some, None, ◌&&◌, ◌||◌, nat_le, ◌==◌}
+use Rattle.std.specs.Prelude.{◌≡◌, ◌≢◌, ℕ, ◌<◌, ◌≤◌, Bool, true, false, List, [], ◌∷◌, ◌++◌, length, map, flat_map, codes, All, AllPairs, Option, Some, None, ◌&&◌, ◌||◌, nat_le, ◌==◌}
 use Rattle.aut_base.specs.Automaton.{Arrow, Automaton}
 use Rattle.aut_base.specs.Formula as formula
 use Rattle.aut_base.specs.Label as label

@@ -1,5 +1,5 @@
 -- How far the tokens of an automaton were read.
-use Rattle.std.specs.Prelude.{◌≡◌, ℕ, ◌+◌, ◌≤◌, ◌<◌, ◌⊎◌, false, List, [], length, Option}
+use Rattle.std.specs.Prelude.{◌≡◌, ℕ, ◌+◌, ◌≤◌, false, List, length, Option}
 use Rattle.aut_io.specs.Outside.{Texts}
 use Rattle.hoa_lexer.specs.Reading.{Between, held_count, unread}
 use Rattle.hoa_lexer.specs.declared.lexer.Lexer.{Lexer}

@@ -5,7 +5,7 @@ use Rattle.hoa_lexer.specs.declared.token.Token.{Token}
 use Rattle.hoa_lexer.specs.declared.token.Token.TheVariants as token
 use Rattle.hoa_reader.specs.declared.parse.Guard as declared
 use Rattle.hoa_reader.specs.declared.raw.RawEdge.{RawEdge}
-use Rattle.hoa_reader.specs.FirstForm.{Guard, Always, Holds, Fails, Loop, FirstForm, IsGuardOf, AllLower, guard_tokens, guard_written, marks_tokens, marks_of, loop_tokens, loop_written, property_tokens, property_items, opening_tokens, acceptance_tokens, state_tokens, IsFirstForm, form_tokens, form_written}
+use Rattle.hoa_reader.specs.FirstForm.{Guard, Always, Holds, Fails, Loop, FirstForm, IsGuardOf, AllLower, guard_tokens, marks_tokens, marks_of, loop_tokens, loop_written, property_tokens, property_items, opening_tokens, acceptance_tokens, state_tokens, IsFirstForm, form_tokens, form_written}
 use Rattle.hoa_reader.specs.Raw as raw
 use Rattle.hoa_reader.specs.Raw.{WrittenEdge, WrittenItem, WrittenState, Written, written_edge}
 

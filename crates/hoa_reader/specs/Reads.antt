@@ -1,10 +1,9 @@
 -- Which tokens stand at the front of bytes, without their offsets, and what a reader answers.
-use Rattle.std.specs.Prelude.{◌≡◌, ◌≢◌, ℕ, ◌+◌, ◌≤◌, List, [], ◌∷◌, Option, Some, None, Result, Ok, Err}
+use Rattle.std.specs.Prelude.{◌≡◌, ℕ, List, [], ◌∷◌, Option, Some, None, Result, Ok, Err}
 use Rattle.aut_io.specs.Outside.{Rose}
 use Rattle.hoa_lexer.specs.Blanks.{IsBlanks}
 use Rattle.hoa_lexer.specs.Text.{IsNext}
 use Rattle.hoa_lexer.specs.declared.token.Token.{Token}
-use Rattle.hoa_lexer.specs.declared.token.Token.TheVariants.{End}
 use Rattle.hoa_reader.specs.declared.raw.Raw.{Raw}
 use Rattle.hoa_reader.specs.declared.fault.ReadFault.{ReadFault}
 use Rattle.hoa_reader.specs.declared.fault.ReadFault.TheVariants.{NotYet, Truncated, Bytes, Read, Memory}

@@ -2,7 +2,7 @@ use Rattle.std.proofs.Common.{◌++◌, ℕ, List, codes, subst}
 use Rattle.std.proofs.lemmas.Result.{on_err_weaker, on_ok_weaker}
 use Rattle.aut_io.specs.Outside.{Gains, GainsPrefix}
 use Rattle.autfilt.proofs.Gains.{at_err, both, first, second}
-use Rattle.autfilt.specs.Notes.{limit_line, limit_word}
+use Rattle.autfilt.specs.Notes.{limit_word}
 use Rattle.autfilt.proofs.notes.write_limit.Goals as goal
 
 pub returns-in_err-write-clause-err : goal.returns-in_err-write-clause-err

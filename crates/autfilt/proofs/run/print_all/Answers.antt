@@ -1,4 +1,4 @@
-use Rattle.std.proofs.Common.{◌≡◌, ◌+◌, ◌<◌, ℕ, Bool, true, false, Ok, Err, length, refl, sym, ap, subst, ◌∙◌, arith}
+use Rattle.std.proofs.Common.{◌≡◌, ◌+◌, ◌<◌, Bool, true, Ok, Err, length, subst, ◌∙◌, arith}
 use Rattle.autfilt.proofs.Runs.{FailsIn, ends_by, fails_in, run_done, run_more}
 use Rattle.autfilt.specs.Run.{Calm}
 use Rattle.autfilt.specs.Running.{HasRun, RunsOver}

@@ -1,4 +1,4 @@
-use Rattle.std.proofs.Common.{◌≡◌, ℕ, List, None, Ok, Option, ap, subst, sym, ◌∙◌}
+use Rattle.std.proofs.Common.{ℕ, List, None, Ok, Option, ap, subst, sym, ◌∙◌}
 use Rattle.aut_base.specs.Automaton.{Automaton, IsWellFormed}
 use Rattle.aut_io.specs.Outside.{Gains}
 use Rattle.autfilt.proofs.Forms.{well_formed}

@@ -1,5 +1,5 @@
 use Rattle.std.proofs.Common.{length}
-use Rattle.hoa_reader.specs.Parsing.{IsLoopsSoFar, NoLoops}
+use Rattle.hoa_reader.specs.Parsing.{IsLoopsSoFar}
 use Rattle.hoa_reader.proofs.parse.edges.Given as goal
 
 abbrev pub invariant-edges : goal.invariant-edges

@@ -1,4 +1,4 @@
-use Rattle.std.proofs.Common.{ap, sym, subst, ◌∙◌, ℕ, List, true, ◌≡◌, All}
+use Rattle.std.proofs.Common.{sym, subst, ℕ, List, true, ◌≡◌, All}
 use Rattle.std.proofs.lemmas.Bool.{false≢true}
 use Rattle.hoa_reader.proofs.Properties.{not_lower}
 use Rattle.hoa_reader.specs.FirstForm.{is_lower}

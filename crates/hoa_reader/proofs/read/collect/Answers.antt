@@ -1,11 +1,10 @@
-use Rattle.std.proofs.Common.{Option, is_some, vec_len, ◌≡◌, ◌==◌, ◌≢◌, ◌+◌, ◌≤◌, ℕ, List, [], Ok, Err, None, Some, refl, sym, ap, subst, ◌∙◌, arith, length, false}
+use Rattle.std.proofs.Common.{Option, is_some, vec_len, ◌≡◌, ◌==◌, ◌≢◌, ◌+◌, ℕ, [], Ok, Err, refl, ap, subst, ◌∙◌, arith, length}
 use Rattle.std.proofs.lemmas.Bool.{false≢true}
 use Rattle.hoa_lexer.proofs.Between.{between_then}
-use Rattle.hoa_lexer.specs.Reading.{held_count, unread}
+use Rattle.hoa_lexer.specs.Reading.{unread}
 use Rattle.hoa_lexer.specs.declared.token.Token.{Token}
 use Rattle.hoa_lexer.specs.declared.token.Token.TheVariants.{End}
 use Rattle.hoa_reader.specs.Collecting.{AnswersOne, AreCollected, Collects, IsMidway, NoneCollected}
-use Rattle.hoa_reader.specs.Reads.{IsToken}
 use Rattle.hoa_reader.proofs.Collected.{collected, ends_early, fails_midway, midway_more}
 use Rattle.hoa_reader.proofs.read.collect.Goals as goal
 

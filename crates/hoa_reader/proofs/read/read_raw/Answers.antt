@@ -4,7 +4,7 @@ use Rattle.std.specs.declared.vec.Vec.{Vec}
 use Rattle.hoa_lexer.proofs.Between.{between_as}
 use Rattle.hoa_lexer.specs.Reading.{unread}
 use Rattle.hoa_lexer.specs.declared.token.Token.{Token}
-use Rattle.hoa_reader.specs.Collecting.{AreCollected, Collects}
+use Rattle.hoa_reader.specs.Collecting.{Collects}
 use Rattle.hoa_reader.specs.Parsing.{Refuses}
 use Rattle.hoa_reader.specs.Reads.{Answers, IsRefused}
 use Rattle.hoa_reader.proofs.Ending.{fails, refuses_tokens}

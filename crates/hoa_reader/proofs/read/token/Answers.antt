@@ -1,4 +1,4 @@
-use Rattle.std.proofs.Common.{◌-◌, Ok, Err, ap, subst, sym}
+use Rattle.std.proofs.Common.{◌-◌, Ok, Err}
 use Rattle.hoa_lexer.proofs.Between.{between_as}
 use Rattle.hoa_lexer.specs.Reading as lexer
 use Rattle.hoa_lexer.specs.Reading.{held_count, unread}
