@@ -1,4 +1,4 @@
-use Rattle.std.proofs.Common.{◌≡◌, arith, refl}
+use Rattle.std.proofs.Common.{◌≡◌, arith}
 use Rattle.hoa_lexer.proofs.Between.{between_as}
 use Rattle.hoa_lexer.proofs.Comments.{byte_read, end_read}
 use Rattle.hoa_lexer.proofs.Dashes.{dash_bad, dash_end, dash_err}

@@ -1,5 +1,5 @@
 use Rattle.std.proofs.Common.{rules, arith, ◌+◌, ◌-◌, ◌*◌, ◌<◌, ◌∙◌, refl, sym}
-use Rattle.hoa_lexer.proofs.Between.{between_then, between_as, between_same}
+use Rattle.hoa_lexer.proofs.Between.{between_then, between_same}
 use Rattle.hoa_lexer.proofs.Comments.{byte_read, end_read}
 use Rattle.hoa_lexer.proofs.Numbers.{digits_push, number_zero, number_token, holds_int, number_end, number_err, number_bad}
 use Rattle.hoa_lexer.proofs.lexer.Lexer.number.Goals as goal
