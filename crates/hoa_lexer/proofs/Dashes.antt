@@ -7,14 +7,11 @@ use Rattle.hoa_lexer.specs.Spelling.{Spells}
 use Rattle.hoa_lexer.specs.Steps.{Expects, IsDashed, IsReadFault, Pauses, ReadsToken, ReadsWord}
 use Rattle.hoa_lexer.specs.Text.{IsFront, HasFront, Begins, IsOpenToken, IsNoToken}
 use Rattle.hoa_lexer.proofs.Comments.{unheld}
-use Rattle.hoa_lexer.proofs.FirstBytes.{token_kind, front_head, solid}
+use Rattle.hoa_lexer.proofs.FirstBytes.{token_kind, front_head, heads, solid}
 use Rattle.hoa_lexer.specs.declared.token.LexFault.{LexFault}
 use Rattle.hoa_lexer.specs.declared.token.LexFault.TheVariants.{BadToken, OpenComment, OpenString, OpenToken, Read, Bytes, Memory}
 use Rattle.hoa_lexer.specs.declared.token.Token.{Token}
 use Rattle.hoa_lexer.specs.declared.token.Token.TheVariants.{HeaderName, Identifier, Str, Int, Alias, Body, End, Abort}
-
-heads : (b c : ℕ) (xs ys : List ℕ) → b ∷ xs ≡ c ∷ ys → b ≡ c
-heads b c xs ys e = cc
 
 no_slash_here : {xs ys : List ℕ} → 45 ∷ xs ≡ 47 ∷ ys → ⊥
 no_slash_here {xs} {ys} e = omega (arith, heads 45 47 xs ys e)
@@ -52,6 +49,28 @@ second_at b bs rest (inl e) = cc
 second_at b bs rest (inr (inl e)) = cc
 second_at b bs rest (inr (inr e)) = cc
 
+dash_no_token : (b : ℕ) (x z : List ℕ) → (b ≡ 45 → ⊥) → x ≡ b ∷ z → IsNoToken (45 ∷ x)
+dash_no_token b x z n e = record {
+  some = λ k. cc;
+  no_space = solid 45 _ refl;
+  no_comment = λ rest k. no_slash_here k;
+  no_slash = λ k. no_slash_here k;
+  no_token = λ t. n (second_at b (z ++ t.more) t.front.rest (subst (λ (w : List ℕ). IsTail (w ++ t.more) t.front.rest) e (front_tail (x ++ t.more) t.front)));
+}
+
+dash_pauses : (x y : List ℕ) → x ≡ y → Pauses (45 ∷ x) y
+dash_pauses x y e = record {
+  at_hand = 45 ∷ [];
+  split = ap (λ w. 45 ∷ w) e;
+  some = λ k. cc;
+  unclosed = dash_open;
+  begins = record { more = codes "-END--"; front = end_front };
+}
+
+pub dash_bad : (k offset b : ℕ) (h : Option ℕ) (x z : List ℕ) → k ≡ offset → h ≡ None → (b ≡ 45 → ⊥) → x ≡ b ∷ z → ReadsToken (Err (BadToken k)) offset (45 ∷ x) (unread h z)
+dash_bad k offset b h x z s l n e =
+    (s, dash_no_token b x z n e, record { byte = b; past = inr (dash_pauses x (b ∷ unread h z) (e ∙ ap (λ w. b ∷ w) (sym (unheld h z l)))) })
+
 pub dash_end : (x : List ℕ) → x ≡ [] → IsOpenToken (45 ∷ x)
 dash_end x e = subst (λ (w : List ℕ). IsOpenToken (45 ∷ w)) (sym e) (record {
   some = λ k. cc;
@@ -62,13 +81,7 @@ dash_end x e = subst (λ (w : List ℕ). IsOpenToken (45 ∷ w)) (sym e) (record
 
 pub dash_err : (fault : LexFault) (h : Option ℕ) (offset : ℕ) (x z : List ℕ) → IsReadFault fault → h ≡ None → x ≡ z → ReadsToken (Err fault) offset (45 ∷ x) (unread h z)
 dash_err Read h offset x z r k e = tt
-dash_err Bytes h offset x z r k e = record {
-  at_hand = 45 ∷ [];
-  split = ap (λ w. 45 ∷ w) (e ∙ sym (unheld h z k));
-  some = λ k. cc;
-  unclosed = dash_open;
-  begins = record { more = codes "-END--"; front = end_front };
-}
+dash_err Bytes h offset x z r k e = dash_pauses x (unread h z) (e ∙ sym (unheld h z k))
 dash_err (BadToken n) h offset x z r k e = absurd r
 dash_err OpenComment h offset x z r k e = absurd r
 dash_err OpenString h offset x z r k e = absurd r
@@ -85,6 +98,32 @@ third_at b bs rest (inl e) = inl (cc)
 third_at b bs rest (inr (inl e)) = inr (inl (cc))
 third_at b bs rest (inr (inr e)) = inr (inr (cc))
 
+dashes_no_token : (b : ℕ) (x z : List ℕ) → (b ≡ 66 → ⊥) → (b ≡ 69 → ⊥) → (b ≡ 65 → ⊥) → x ≡ b ∷ z → IsNoToken (45 ∷ 45 ∷ x)
+dashes_no_token b x z m n o e = record {
+  some = λ k. cc;
+  no_space = solid 45 _ refl;
+  no_comment = λ rest k. no_slash_here k;
+  no_slash = λ k. no_slash_here k;
+  no_token = λ t.
+      elim (third_at b (z ++ t.more) t.front.rest (subst (λ (w : List ℕ). IsTail (45 ∷ (w ++ t.more)) t.front.rest) e (front_tail (45 ∷ (x ++ t.more)) t.front))) [
+        | inl q ↦ (m q)
+        | inr q ↦ elim q [ inl q ↦ (n q) | inr q ↦ (o q) ]
+      ];
+}
+
+dashes_pauses : (x y : List ℕ) → x ≡ y → Pauses (45 ∷ 45 ∷ x) y
+dashes_pauses x y e = record {
+  at_hand = 45 ∷ 45 ∷ [];
+  split = ap (λ w. 45 ∷ 45 ∷ w) e;
+  some = λ k. cc;
+  unclosed = dashes_open;
+  begins = record { more = codes "END--"; front = end_front };
+}
+
+pub dashes_bad : (k offset b : ℕ) (h : Option ℕ) (x z : List ℕ) → k ≡ offset → h ≡ None → (b ≡ 66 → ⊥) → (b ≡ 69 → ⊥) → (b ≡ 65 → ⊥) → x ≡ b ∷ z → ReadsToken (Err (BadToken k)) offset (45 ∷ 45 ∷ x) (unread h z)
+dashes_bad k offset b h x z s l m n o e =
+    (s, dashes_no_token b x z m n o e, record { byte = b; past = inr (dashes_pauses x (b ∷ unread h z) (e ∙ ap (λ w. b ∷ w) (sym (unheld h z l)))) })
+
 pub dashes_end : (x : List ℕ) → x ≡ [] → IsOpenToken (45 ∷ 45 ∷ x)
 dashes_end x e = subst (λ (w : List ℕ). IsOpenToken (45 ∷ 45 ∷ w)) (sym e) (record {
   some = λ k. cc;
@@ -95,13 +134,7 @@ dashes_end x e = subst (λ (w : List ℕ). IsOpenToken (45 ∷ 45 ∷ w)) (sym e
 
 pub dashes_err : (fault : LexFault) (h : Option ℕ) (offset : ℕ) (x z : List ℕ) → IsReadFault fault → h ≡ None → x ≡ z → ReadsToken (Err fault) offset (45 ∷ 45 ∷ x) (unread h z)
 dashes_err Read h offset x z r k e = tt
-dashes_err Bytes h offset x z r k e = record {
-  at_hand = 45 ∷ 45 ∷ [];
-  split = ap (λ w. 45 ∷ 45 ∷ w) (e ∙ sym (unheld h z k));
-  some = λ k. cc;
-  unclosed = dashes_open;
-  begins = record { more = codes "END--"; front = end_front };
-}
+dashes_err Bytes h offset x z r k e = dashes_pauses x (unread h z) (e ∙ sym (unheld h z k))
 dashes_err (BadToken n) h offset x z r k e = absurd r
 dashes_err OpenComment h offset x z r k e = absurd r
 dashes_err OpenString h offset x z r k e = absurd r
@@ -192,7 +225,11 @@ tail_pauses token letter b h tail seen x z d e w k = record {
 }
 
 pub tail_err : (fault : LexFault) (token : Token) (letter offset : ℕ) (h : Option ℕ) (tail x z : List ℕ) → IsDashed token letter tail → h ≡ None → ReadsWord (Err fault) tail offset x z → ReadsToken (Err fault) offset (45 ∷ 45 ∷ letter ∷ x) (unread h z)
-tail_err (BadToken k) token letter offset h tail x z d e r = (r.0, tail_no_token token letter r.2 r.3 tail r.1 x r.5 d r.4 r.6 r.7)
+tail_err (BadToken k) token letter offset h tail x z d e r = (
+  r.0,
+  tail_no_token token letter r.2 r.3 tail r.1 x z d r.4 r.5 r.6,
+  record { byte = r.3; past = inr (subst (λ (w : List ℕ). Pauses (45 ∷ 45 ∷ letter ∷ x) (r.3 ∷ w)) (sym (unheld h z e)) (tail_pauses token letter r.2 None tail r.1 x (r.3 ∷ z) d refl r.4 r.5)) },
+)
 tail_err OpenToken token letter offset h tail x z d e r = tail_open_token token letter r.0 tail x d r.1
 tail_err Bytes token letter offset h tail x z d e r = tail_pauses token letter r.1 h tail r.0 x z d e r.2 r.3
 tail_err Read token letter offset h tail x z d e r = tt
@@ -210,7 +247,7 @@ expects_at word k l = record {
 
 pub expect_bad : (word : List ℕ) (k byte place offset : ℕ) (h : Option ℕ) (x y z : List ℕ) → k < length word → h ≡ None → place ≡ offset → x ≡ take k word ++ y → unread h y ≡ byte ∷ z → (byte ≡ get_or word k 0 → ⊥) → ReadsWord (Err (BadToken place)) word offset x z
 expect_bad word k byte place offset h x y z l n o e r w =
-    (o, take k word, get_or word k 0, byte, expects_at word k l, z, e ∙ ap (λ v. take k word ++ v) (sym (unheld h y n) ∙ r), w)
+    (o, take k word, get_or word k 0, byte, expects_at word k l, e ∙ ap (λ v. take k word ++ v) (sym (unheld h y n) ∙ r), w)
 
 pub expect_end : (word : List ℕ) (k offset : ℕ) (h : Option ℕ) (x y z : List ℕ) → k < length word → h ≡ None → x ≡ take k word ++ y → unread h y ≡ [] → ReadsWord (Err OpenToken) word offset x z
 expect_end word k offset h x y z l n e r =

@@ -181,6 +181,9 @@ mark_front (Int n) b x h = absurd h
 mark_front (Alias name) b x h = absurd h
 mark_front _ b x h = absurd h
 
+pub heads : (b c : ℕ) (xs ys : List ℕ) → b ∷ xs ≡ c ∷ ys → b ≡ c
+heads b c xs ys e = cc
+
 -- the first byte is no space
 pub solid : (b : ℕ) (x : List ℕ) → is_space b ≡ false → (c : ℕ) (rest : List ℕ) → b ∷ x ≡ c ∷ rest → is_space c ≡ true → ⊥
 solid b x n c rest e h = let same : b ≡ c = cc in false≢true (sym n ∙ ap is_space same ∙ h)

@@ -1,13 +1,13 @@
 -- What may stand where a token is sought.
-use Rattle.std.proofs.Common.{◌≡◌, ◌≢◌, ℕ, zero, suc, ◌+◌, ◌&&◌, ◌==◌, true, false, List, [], ◌∷◌, ◌++◌, length, Option, Some, None, Result, Ok, Err, inl, inr, refl, sym, subst, ◌∙◌, ap, arith}
+use Rattle.std.proofs.Common.{◌≡◌, ◌≢◌, ℕ, zero, suc, ◌+◌, ◌&&◌, ◌==◌, true, false, List, [], ◌∷◌, ◌++◌, length, Option, Some, None, Result, Ok, Err, inl, inr, refl, sym, subst, ◌∙◌, ap, arith, ⊎_elim}
 use Rattle.std.proofs.lemmas.Bool.{false≢true, and_right, cases_Bool}
 use Rattle.std.proofs.lemmas.List.{append_assoc, append-nil, length-append}
 use Rattle.hoa_lexer.specs.Blanks.{Closes, IsBlanks, IsOpenComment}
 use Rattle.hoa_lexer.specs.Blanks.IsBlanks.{nothing, space, comment}
 use Rattle.hoa_lexer.specs.Bytes.{is_space}
 use Rattle.hoa_lexer.specs.Reading.{unread, held_count, Answers}
-use Rattle.hoa_lexer.specs.Steps.{closing, ClosesComment, IsReadFault, IsSolid, Skips, SkipsComment, SkipsBlanks, Pauses, ReadsToken}
-use Rattle.hoa_lexer.specs.Text.{IsFront, HasFront, IsNext, AfterBlanks, IsOpenString, IsOpenToken, IsNoToken, AsksForMore}
+use Rattle.hoa_lexer.specs.Steps.{closing, ClosesComment, IsReadFault, IsSolid, Skips, SkipsComment, SkipsBlanks, Pauses, ReadsToken, Tries}
+use Rattle.hoa_lexer.specs.Text.{IsFront, HasFront, IsNext, AfterBlanks, IsOpenString, IsOpenToken, IsNoToken, AsksForMore, AskedForOne}
 use Rattle.hoa_lexer.proofs.Comments.{closing_after, closing_sound, unheld, holding, steps_out, steps_in, steps_on}
 use Rattle.hoa_lexer.proofs.FirstBytes.{front_head, no_front, no_space, no_slash, solid}
 use Rattle.hoa_lexer.specs.declared.token.LexFault.{LexFault}
@@ -223,8 +223,8 @@ skip_closed (Err OpenString) start x y z e h = absurd h
 skip_closed (Err OpenToken) start x y z e h = absurd h
 skip_closed (Err Memory) start x y z e h = absurd h
 
-pub skip_bad : (k start b : ℕ) (x y z : List ℕ) → k ≡ start → (b ≡ 42 → ⊥) → x ≡ b ∷ y → SkipsComment (Err (BadToken k)) start (47 ∷ x) z
-skip_bad k start b x y z s n e = record {
+slash_no_comment : (k start b : ℕ) (x y : List ℕ) → k ≡ start → (b ≡ 42 → ⊥) → x ≡ b ∷ y → AfterBlanks (47 ∷ x) (λ bytes. (k + length bytes ≡ start + length (47 ∷ x)) × IsNoToken bytes)
+slash_no_comment k start b x y s n e = record {
   before = [];
   bytes = 47 ∷ x;
   split = refl;
@@ -240,6 +240,9 @@ skip_bad k start b x y z s n e = record {
     },
   );
 }
+
+pub skip_bad : (k start b : ℕ) (x y : List ℕ) → k ≡ start → (b ≡ 42 → ⊥) → x ≡ b ∷ y → SkipsComment (Err (BadToken k)) start (47 ∷ x) y
+skip_bad k start b x y s n e = (slash_no_comment k start b x y s n e, record { at_hand = 47 ∷ []; byte = b; split = ap (λ w. 47 ∷ w) e; asks = asks_slash })
 
 pub skip_end : (start : ℕ) (x z : List ℕ) → x ≡ [] → SkipsComment (Err OpenToken) start (47 ∷ x) z
 skip_end start x z e = record {
@@ -288,9 +291,16 @@ asks_after before at_hand h a = record {
 }
 
 pub fails_after : (fault : LexFault) (start start' offset offset' : ℕ) (x y z : List ℕ) → Skips x y → start + length x ≡ start' + length y → Answers (Err fault) start' offset' y z → Answers (Err fault) start offset x z
-fails_after (BadToken k) start start' offset offset' x y z s e a =
-    after_skips x y (λ bytes. (k + length bytes ≡ start' + length y) × IsNoToken bytes) (λ bytes. (k + length bytes ≡ start + length x) × IsNoToken bytes)
-    (λ bytes h. (h.0 ∙ sym e, h.1)) s a
+fails_after (BadToken k) start start' offset offset' x y z s e a = (
+  after_skips x y (λ bytes. (k + length bytes ≡ start' + length y) × IsNoToken bytes) (λ bytes. (k + length bytes ≡ start + length x) × IsNoToken bytes)
+      (λ bytes h. (h.0 ∙ sym e, h.1)) s a.0,
+  record {
+    at_hand = s.before ++ a.1.at_hand;
+    byte = a.1.byte;
+    split = s.split ∙ ap (λ w. s.before ++ w) a.1.split ∙ sym (append_assoc s.before a.1.at_hand (a.1.byte ∷ z));
+    asks = asks_after s.before a.1.at_hand s.blanks a.1.asks;
+  },
+)
 fails_after OpenComment start start' offset offset' x y z s e a = after_skips x y IsOpenComment IsOpenComment (λ bytes h. h) s a
 fails_after OpenString start start' offset offset' x y z s e a = after_skips x y IsOpenString IsOpenString (λ bytes h. h) s a
 fails_after OpenToken start start' offset offset' x y z s e a = after_skips x y IsOpenToken IsOpenToken (λ bytes h. h) s a
@@ -342,9 +352,15 @@ pauses_ask y z p = record {
 at_once : (y : List ℕ) (P : List ℕ → Type 0) → P y → AfterBlanks y P
 at_once y P h = record { before = []; bytes = y; split = refl; blanks = nothing; holds = h }
 
+asked_for_one : (y z : List ℕ) → Tries y z → AskedForOne y z
+asked_for_one y z t = ⊎_elim
+    (λ first. record { at_hand = []; byte = t.byte; split = first; asks = asks_blanks [] nothing })
+    (λ p. record { at_hand = p.at_hand; byte = t.byte; split = p.split; asks = pauses_ask y (t.byte ∷ z) p })
+    t.past
+
 -- the answer to what the token's own function answered, where nothing stands before it
 token_err_here : (fault : LexFault) (offset : ℕ) (y z : List ℕ) → ReadsToken (Err fault) offset y z → Answers (Err fault) offset offset y z
-token_err_here (BadToken k) offset y z h = at_once y (λ bytes. (k + length bytes ≡ offset + length y) × IsNoToken bytes) (ap (λ n. n + length y) h.0, h.1)
+token_err_here (BadToken k) offset y z h = (at_once y (λ bytes. (k + length bytes ≡ offset + length y) × IsNoToken bytes) (ap (λ n. n + length y) h.0, h.1), asked_for_one y z h.2)
 token_err_here OpenComment offset y z h = absurd h
 token_err_here OpenString offset y z h = at_once y IsOpenString h
 token_err_here OpenToken offset y z h = at_once y IsOpenToken h

@@ -1,3 +1,4 @@
+pub mod All
 pub mod Apart
 pub mod Between
 pub mod Comments

@@ -8,7 +8,7 @@ use Rattle.std.proofs.lemmas.List.Sums.{fold-append}
 use Rattle.hoa_lexer.specs.Bytes.{is_digit}
 use Rattle.hoa_lexer.specs.Reading.{unread}
 use Rattle.hoa_lexer.specs.Spelling.{Spells, Ends, StopsAt, IsNumeral, value_of, closes_itself}
-use Rattle.hoa_lexer.specs.Steps.{IsReadFault, ReadsToken}
+use Rattle.hoa_lexer.specs.Steps.{IsReadFault, Pauses, ReadsToken}
 use Rattle.hoa_lexer.specs.Text.{IsFront, HasFront, Begins, IsOpenToken, IsNoToken}
 use Rattle.hoa_lexer.proofs.Comments.{unheld, holding}
 use Rattle.hoa_lexer.proofs.FirstBytes.{token_kind, kind_digit, digit_no_space, front_head, solid}
@@ -114,14 +114,17 @@ number_end first value x y d v l w e =
       begins = inr (number_begins first x d v digits (omega arith));
     }
 
-pub number_err : (fault : LexFault) (h : Option ℕ) (offset first value : ℕ) (x y z : List ℕ) → is_digit first ≡ true → 0 < first - 48 → value < 2 ^ 32 → IsReadFault fault → h ≡ None → IsDigits first value x y → y ≡ z → ReadsToken (Err fault) offset (first ∷ x) (unread h z)
-number_err Bytes h offset first value x y z d v l r k w e = record {
+number_pauses : (first value : ℕ) (x y z : List ℕ) → is_digit first ≡ true → 0 < first - 48 → value < 2 ^ 32 → IsDigits first value x y → y ≡ z → Pauses (first ∷ x) z
+number_pauses first value x y z d v l w e = record {
   at_hand = first ∷ w.seen;
-  split = ap (λ q. first ∷ q) (w.split ∙ ap (λ q. w.seen ++ q) (e ∙ sym (unheld h z k)));
+  split = ap (λ q. first ∷ q) (w.split ∙ ap (λ q. w.seen ++ q) e);
   some = λ q. cc;
   unclosed = number_open first w.seen d v w.digits;
   begins = number_begins first w.seen d v w.digits (omega (arith, w.value_is));
 }
+
+pub number_err : (fault : LexFault) (h : Option ℕ) (offset first value : ℕ) (x y z : List ℕ) → is_digit first ≡ true → 0 < first - 48 → value < 2 ^ 32 → IsReadFault fault → h ≡ None → IsDigits first value x y → y ≡ z → ReadsToken (Err fault) offset (first ∷ x) (unread h z)
+number_err Bytes h offset first value x y z d v l r k w e = number_pauses first value x y (unread h z) d v l w (e ∙ sym (unheld h z k))
 number_err Read h offset first value x y z d v l r k w e = tt
 number_err (BadToken n) h offset first value x y z d v l r k w e = absurd r
 number_err OpenComment h offset first value x y z d v l r k w e = absurd r
@@ -153,7 +156,7 @@ number_great_at (Str text) first seen more tail rest k v g s e p h = absurd (ome
 number_great_at (Alias name) first seen more tail rest k v g s e p h = absurd (omega arith)
 number_great_at _ first seen more tail rest k v g s e p h = absurd (omega arith)
 
-pub number_great : (first value : ℕ) (x y : List ℕ) → is_digit first ≡ true → 0 < first - 48 → 2 ^ 32 ≤ value → IsDigits first value x y → IsNoToken (first ∷ x)
+number_great : (first value : ℕ) (x y : List ℕ) → is_digit first ≡ true → 0 < first - 48 → 2 ^ 32 ≤ value → IsDigits first value x y → IsNoToken (first ∷ x)
 number_great first value x y d v g w = record {
   some = λ k. cc;
   no_space = solid first x (digit_no_space first d);
@@ -165,3 +168,10 @@ number_great first value x y d v g w = record {
       let whole : w.seen ++ (y ++ t.more) ≡ head.tail ++ f.rest = sym (append_assoc w.seen y t.more) ∙ sym (ap (λ q. q ++ t.more) w.split) ∙ head.split in
       number_great_at f.token first w.seen (y ++ t.more) head.tail f.rest (sym (kind_digit first d) ∙ head.kinds) v (omega (arith, w.value_is)) head.spells f.front.ends whole w.digits;
 }
+
+pub number_bad : (k offset first value value' b : ℕ) (h : Option ℕ) (x y z : List ℕ) → k ≡ offset → h ≡ None → is_digit first ≡ true → 0 < first - 48 → value < 2 ^ 32 → IsDigits first value x y → y ≡ b ∷ z → is_digit b ≡ true → value' ≡ 10 * value + (b - 48) → 2 ^ 32 ≤ value' → ReadsToken (Err (BadToken k)) offset (first ∷ x) (unread h z)
+number_bad k offset first value value' b h x y z s n d v l w e g p m = (
+  s,
+  number_great first value' x z d v m (digits_push first value value' b x y z w e g p),
+  record { byte = b; past = inr (number_pauses first value x y (b ∷ unread h z) d v l w (e ∙ ap (λ q. b ∷ q) (sym (unheld h z n)))) },
+)

@@ -1,16 +1,17 @@
 -- Identifiers, names of headers and aliases.
-use Rattle.std.proofs.Common.{◌≡◌, ℕ, Bool, true, false, List, [], ◌∷◌, ◌++◌, Option, Some, None, Ok, Err, inr, refl, sym, ◌∙◌, ap, arith}
+use Rattle.std.proofs.Common.{◌≡◌, ℕ, Bool, true, false, List, [], ◌∷◌, ◌++◌, ◌==◌, length, Option, Some, None, Ok, Err, inr, refl, sym, ◌∙◌, ap, arith}
 use Rattle.std.specs.List.{list_all}
 use Rattle.std.proofs.lemmas.Bool.{false≢true, and_parts, and_from}
+use Rattle.std.proofs.lemmas.Bool.Decides.{nat_tests}
 use Rattle.std.proofs.lemmas.List.{append_assoc, append-nil}
 use Rattle.std.proofs.lemmas.List.Folds.{list_all-append}
 use Rattle.hoa_lexer.specs.Bytes.{is_letter, is_word}
 use Rattle.hoa_lexer.specs.Reading.{unread}
 use Rattle.hoa_lexer.specs.Spelling.{Spells, Ends, StopsAt, IsIdentifier, IsAliasName}
-use Rattle.hoa_lexer.specs.Steps.{AddsWord, AddsWords, ReadsToken}
-use Rattle.hoa_lexer.specs.Text.{HasFront, Begins, IsOpenToken}
+use Rattle.hoa_lexer.specs.Steps.{AddsWord, AddsWords, Pauses, ReadsToken}
+use Rattle.hoa_lexer.specs.Text.{HasFront, Begins, IsOpenToken, IsNoToken}
 use Rattle.hoa_lexer.proofs.Comments.{unheld}
-use Rattle.hoa_lexer.proofs.FirstBytes.{token_kind, kind_letter, front_head}
+use Rattle.hoa_lexer.proofs.FirstBytes.{token_kind, kind_letter, front_head, heads, solid}
 use Rattle.hoa_lexer.specs.declared.token.LexFault.{LexFault}
 use Rattle.hoa_lexer.specs.declared.token.LexFault.TheVariants.{BadToken, OpenComment, OpenString, OpenToken, Read, Bytes, Memory}
 use Rattle.hoa_lexer.specs.declared.token.Token.{Token}
@@ -96,6 +97,9 @@ word_err OpenToken h offset first name name' x z l k a = absurd a
 
 -- an alias
 
+no_slash_here : {xs ys : List ℕ} → 64 ∷ xs ≡ 47 ∷ ys → ⊥
+no_slash_here {xs} {ys} e = omega (arith, heads 64 47 xs ys e)
+
 alias_open_at : (token : Token) (seen tail rest : List ℕ) → 64 ≡ token_kind token → Spells token (64 ∷ tail) → Ends token rest → seen ≡ tail ++ rest → list_all is_word seen ≡ true → ⊥
 alias_open_at (Alias name) seen tail rest k s e p h = stops_not is_word seen tail rest h p e
 alias_open_at (HeaderName name) seen tail rest k s e p h = absurd (omega arith)
@@ -141,6 +145,40 @@ no_alias_at (Str text) b z tail rest k s p w = absurd (omega arith)
 no_alias_at (Int n) b z tail rest k s p w = absurd (omega arith)
 no_alias_at _ b z tail rest k s p w = absurd (omega arith)
 
+alias_no_token : (b : ℕ) (x z : List ℕ) → x ≡ b ∷ z → is_word b ≡ false → IsNoToken (64 ∷ x)
+alias_no_token b x z e w = record {
+  some = λ k. cc;
+  no_space = solid 64 x refl;
+  no_comment = λ rest k. no_slash_here k;
+  no_slash = λ k. no_slash_here k;
+  no_token = λ t.
+      let head = front_head 64 (x ++ t.more) t.front.token t.front.rest t.front.front in
+      no_alias_at t.front.token b (z ++ t.more) head.tail t.front.rest head.kinds head.spells (sym (ap (λ v. v ++ t.more) e) ∙ head.split) w;
+}
+
+alias_pauses : (seen x y : List ℕ) → list_all is_word seen ≡ true → x ≡ seen ++ y → Pauses (64 ∷ x) y
+alias_pauses seen x y w e = record {
+  at_hand = 64 ∷ seen;
+  split = ap (λ v. 64 ∷ v) e;
+  some = λ k. cc;
+  unclosed = alias_open seen w;
+  begins = alias_begins seen w;
+}
+
+nothing_added : (seen : List ℕ) → [] ≡ seen → (b : ℕ) (x z : List ℕ) → x ≡ seen ++ b ∷ z → x ≡ b ∷ z
+nothing_added [] n b x z e = e
+nothing_added (c ∷ cs) n b x z e = cc
+
+no_name : (name : List ℕ) → (length name == 0) ≡ true → name ≡ []
+no_name [] e = refl
+no_name (b ∷ bs) e = grind (arith, nat_tests)
+
+pub alias_bad : (k offset b : ℕ) (o h : Option ℕ) (name name' x z : List ℕ) → k ≡ offset → h ≡ None → o ≡ Some b → name ≡ [] → (length name' == 0) ≡ true → AddsWords (Ok o) name name' x z → ReadsToken (Err (BadToken k)) offset (64 ∷ x) (unread h z)
+alias_bad k offset b None h name name' x z s l e m n a = cc
+alias_bad k offset b (Some c) h name name' x z s l e m n a =
+    let read : x ≡ c ∷ z = nothing_added a.0.seen (sym (no_name name' n) ∙ a.0.named ∙ ap (λ v. v ++ a.0.seen) m) c x z a.0.split in
+    (s, alias_no_token c x z read a.1, record { byte = c; past = inr (alias_pauses [] x (c ∷ unread h z) refl (read ∙ ap (λ w. c ∷ w) (sym (unheld h z l)))) })
+
 pub alias_end : (name name' x : List ℕ) → AddsWord name name' x [] → IsOpenToken (64 ∷ x)
 alias_end name name' x a =
     let whole : a.seen ≡ x = sym (a.split ∙ append-nil a.seen) in
@@ -153,13 +191,8 @@ alias_end name name' x a =
     }
 
 pub alias_err : (fault : LexFault) (h : Option ℕ) (offset : ℕ) (name name' x z : List ℕ) → (fault ≡ Bytes → h ≡ None) → AddsWords (Err fault) name name' x z → ReadsToken (Err fault) offset (64 ∷ x) (unread h z)
-alias_err Bytes h offset name name' x z k a = record {
-  at_hand = 64 ∷ a.seen;
-  split = ap (λ v. 64 ∷ v) (a.split ∙ ap (λ v. a.seen ++ v) (sym (unheld h z (k refl))));
-  some = λ e. cc;
-  unclosed = alias_open a.seen a.words;
-  begins = alias_begins a.seen a.words;
-}
+alias_err Bytes h offset name name' x z k a =
+    alias_pauses a.seen x (unread h z) a.words (a.split ∙ ap (λ v. a.seen ++ v) (sym (unheld h z (k refl))))
 alias_err Read h offset name name' x z k a = tt
 alias_err Memory h offset name name' x z k a = tt
 alias_err (BadToken n) h offset name name' x z k a = absurd a

@@ -1,3 +1,4 @@
+pub mod All
 pub mod Blanks
 pub mod Bytes
 pub mod Laws

@@ -3,7 +3,7 @@ use Rattle.std.specs.Prelude.{◌≡◌, ℕ, ◌+◌, List, [], ◌∷◌, ◌+
 use Rattle.aut_io.specs.Outside.{Rose}
 use Rattle.hoa_lexer.specs.Blanks.{IsBlanks, IsOpenComment}
 use Rattle.hoa_lexer.specs.Spelling.{closes_itself}
-use Rattle.hoa_lexer.specs.Text.{IsNext, AfterBlanks, IsOpenString, IsOpenToken, IsNoToken, AsksForMore}
+use Rattle.hoa_lexer.specs.Text.{IsNext, AfterBlanks, IsOpenString, IsOpenToken, IsNoToken, AsksForMore, AskedForOne}
 use Rattle.hoa_lexer.specs.declared.token.LexFault.{LexFault}
 use Rattle.hoa_lexer.specs.declared.token.LexFault.TheVariants.{BadToken, OpenComment, OpenString, OpenToken, Read, Bytes, Memory}
 use Rattle.hoa_lexer.specs.declared.token.Token.{Token}
@@ -30,7 +30,7 @@ abbrev pub Answers : Result (Option Token) LexFault → ℕ → ℕ → List ℕ
 Answers (Ok (Some token)) start offset old new = IsNext old start token offset new
 Answers (Ok None) start offset old new = IsBlanks old × (new ≡ [])
 Answers (Err (BadToken k)) start offset old new =
-    AfterBlanks old (λ bytes. (k + length bytes ≡ start + length old) × IsNoToken bytes)
+    AfterBlanks old (λ bytes. (k + length bytes ≡ start + length old) × IsNoToken bytes) × AskedForOne old new
 Answers (Err OpenComment) start offset old new = AfterBlanks old IsOpenComment
 Answers (Err OpenString) start offset old new = AfterBlanks old IsOpenString
 Answers (Err OpenToken) start offset old new = AfterBlanks old IsOpenToken
@@ -43,8 +43,8 @@ abbrev pub CountsFaults : {A : Type 0} → Result A LexFault → ℕ → ℕ →
 CountsFaults (Err Read) before after = Rose before after
 CountsFaults _ before after = after ≡ before
 
--- A byte past the token is held exactly where that byte was needed to close it.
+-- A byte past the token is held exactly where that byte was needed to close it. After a fault none is held.
 abbrev pub Holds : Result (Option Token) LexFault → Option ℕ → Type 0
 Holds (Ok None) held = held ≡ None
 Holds (Ok (Some token)) held = is_some held ≡ not (closes_itself token)
-Holds (Err fault) held = Unit {0}
+Holds (Err fault) held = held ≡ None

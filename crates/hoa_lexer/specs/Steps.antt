@@ -121,10 +121,15 @@ pub record Pauses (old new : List ℕ) : Type 0 where
   pub unclosed : HasFront at_hand → ⊥
   pub begins : Begins at_hand
 
+-- a byte was used, past bytes that close no token and can go on so that they do, or past none
+pub record Tries (old new : List ℕ) : Type 0 where
+  pub byte : ℕ
+  pub past : (old ≡ byte ∷ new) ⊎ Pauses old (byte ∷ new)
+
 -- the token that stands next, where no blank does
 abbrev pub ReadsToken : Result Token LexFault → ℕ → List ℕ → List ℕ → Type 0
 ReadsToken (Ok token) offset old new = IsFront old token new
-ReadsToken (Err (BadToken k)) offset old new = (k ≡ offset) × IsNoToken old
+ReadsToken (Err (BadToken k)) offset old new = (k ≡ offset) × IsNoToken old × Tries old new
 ReadsToken (Err OpenString) offset old new = IsOpenString old
 ReadsToken (Err OpenToken) offset old new = IsOpenToken old
 ReadsToken (Err Bytes) offset old new = Pauses old new
@@ -132,10 +137,10 @@ ReadsToken (Err Read) offset old new = Unit {0}
 ReadsToken (Err Memory) offset old new = Unit {0}
 ReadsToken (Err OpenComment) offset old new = ⊥
 
--- a byte past the token is held exactly where it was needed to close it
+-- a byte past the token is held exactly where it was needed to close it, and none after a fault
 abbrev pub HoldsAfter : Result Token LexFault → Option ℕ → Type 0
 HoldsAfter (Ok token) held = is_some held ≡ not (closes_itself token)
-HoldsAfter (Err fault) held = Unit {0}
+HoldsAfter (Err fault) held = held ≡ None
 
 -- the token is spelled `--`, the letter and the tail
 abbrev pub IsDashed : Token → ℕ → List ℕ → Type 0
@@ -154,7 +159,7 @@ pub record Expects (word seen : List ℕ) (b : ℕ) : Type 0 where
 abbrev pub ReadsWord : Result (Unit {0}) LexFault → List ℕ → ℕ → List ℕ → List ℕ → Type 0
 ReadsWord (Ok done) word offset old new = old ≡ word ++ new
 ReadsWord (Err (BadToken k)) word offset old new =
-    (k ≡ offset) × (seen : List ℕ) × (b : ℕ) × (c : ℕ) × Expects word seen b × (more : List ℕ) × (old ≡ seen ++ c ∷ more) × (c ≢ b)
+    (k ≡ offset) × (seen : List ℕ) × (b : ℕ) × (c : ℕ) × Expects word seen b × (old ≡ seen ++ c ∷ new) × (c ≢ b)
 ReadsWord (Err OpenToken) word offset old new = (b : ℕ) × Expects word old b
 ReadsWord (Err Bytes) word offset old new = (seen : List ℕ) × (b : ℕ) × Expects word seen b × (old ≡ seen ++ new)
 ReadsWord (Err Read) word offset old new = Unit {0}

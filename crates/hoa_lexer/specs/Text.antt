@@ -72,3 +72,10 @@ pub record AsksForMore (at_hand : List ℕ) : Type 0 where
   pub unclosed : AfterBlanks at_hand HasFront → ⊥
   pub more : List ℕ
   pub closes : AfterBlanks (at_hand ++ more) HasFront
+
+-- the bytes at hand asked for more, and one more was used
+pub record AskedForOne (old new : List ℕ) : Type 0 where
+  pub at_hand : List ℕ
+  pub byte : ℕ
+  pub split : old ≡ at_hand ++ byte ∷ new
+  pub asks : AsksForMore at_hand

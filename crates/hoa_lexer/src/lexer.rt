@@ -4,6 +4,7 @@ ghost use Rattle.std.specs.Prelude.{◌≡◌, ◌≢◌, ◌+◌, ◌-◌, ◌<
 ghost use Rattle.hoa_lexer.specs.Bytes as kinds;
 ghost use Rattle.hoa_lexer.specs.Reading.{held_count, unread, Answers, Between, CountsFaults, Holds};
 
+mod all;
 mod blanks;
 mod bytes;
 mod dashes;

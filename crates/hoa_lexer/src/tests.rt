@@ -115,6 +115,24 @@ fn lexed(alloc: Global, text: &[u8], most: u64, failing: &[u32]) -> Result<Text,
     Ok(answers)
 }
 
+/// All tokens of a text with their offsets, or why there are none.
+fn listed(alloc: Global, text: &[u8]) -> Result<Text, Memory> {
+    let mut inputs = source(alloc, text, &[])?;
+    let _ = inputs.open(&Text::from_bytes(alloc, b"t")?);
+    let mut lexer = Lexer::new(1000);
+    let mut answers = Text::new(alloc);
+    match lexer.all(alloc, &mut inputs) {
+        Ok(tokens) => {
+            for (token, offset) in tokens.iter() {
+                show_token(alloc, &mut answers, token, *offset)?;
+            }
+            answers.extend(b"end")?;
+        }
+        Err(fault) => show_fault(alloc, &mut answers, fault)?,
+    }
+    Ok(answers)
+}
+
 #[test]
 fn tells_tokens_apart(rt: HostRuntime) -> Result<(), Fail> {
     let rows: [(&[u8], &[u8]); 17] = [
@@ -244,5 +262,23 @@ fn answers_each_failing_read(rt: HostRuntime) -> Result<(), Fail> {
     }
     let calm = lexed(rt.alloc(), text, 1000, &[32])?;
     assert_eq!(rt; calm.as_bytes(), want.as_slice());
+    Ok(())
+}
+
+#[test]
+fn lists_all_tokens(rt: HostRuntime) -> Result<(), Fail> {
+    let rows: [(&[u8], &[u8]); 4] = [
+        (b" /* no token */ ", b"end"),
+        (
+            b"/* c */ @p \"q\" 12 --END-- ",
+            b"alias@8=p text@11=q int@15=12 END@18 end",
+        ),
+        (b"/* c */ @p \"q", b"open string"),
+        (b"@p # ", b"bad@3"),
+    ];
+    for (text, want) in rows.iter() {
+        let got = listed(rt.alloc(), text)?;
+        assert_eq!(rt; got.as_bytes(), *want);
+    }
     Ok(())
 }

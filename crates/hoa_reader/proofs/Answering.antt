@@ -38,7 +38,7 @@ weaken bytes P Q f a = record { before = a.before; bytes = a.bytes; split = a.sp
 
 -- a fault
 pub fails : (fault : LexFault) (start offset : ℕ) (old new : List ℕ) → lexer.Answers (Err fault) start offset old new → AnswersOne (Err (read_fault fault)) old new
-fails (lexing.BadToken k) start offset old new a = stuck old (weaken old (λ bytes. (k + length bytes ≡ start + length old) × IsNoToken bytes) IsStuck (λ x h. no_token_stuck x h.1) a)
+fails (lexing.BadToken k) start offset old new a = stuck old (weaken old (λ bytes. (k + length bytes ≡ start + length old) × IsNoToken bytes) IsStuck (λ x h. no_token_stuck x h.1) a.0)
 fails lexing.OpenComment start offset old new a = stuck old (weaken old IsOpenComment IsStuck open_comment_stuck a)
 fails lexing.OpenString start offset old new a = stuck old (weaken old IsOpenString IsStuck open_string_stuck a)
 fails lexing.OpenToken start offset old new a = stuck old (weaken old IsOpenToken IsStuck open_token_stuck a)

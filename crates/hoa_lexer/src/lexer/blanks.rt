@@ -1,6 +1,6 @@
 //! Blanks between tokens.
 
-ghost use Rattle.std.specs.Prelude.{◌≡◌, ◌≢◌, ◌+◌, ◌-◌, ◌<◌, ◌≤◌, ◌∷◌, ◌&&◌, ◌==◌, length, None, OnOk, IfOk, IsErrOf};
+ghost use Rattle.std.specs.Prelude.{◌≡◌, ◌≢◌, ◌+◌, ◌-◌, ◌<◌, ◌≤◌, ◌∷◌, ◌&&◌, ◌==◌, length, None, OnOk, IfOk, IfErr, IsErrOf};
 ghost use Rattle.hoa_lexer.specs.Reading.{held_count, unread, Between, CountsFaults};
 
 use super::Lexer;
@@ -17,6 +17,7 @@ impl Lexer {
             SkipsBlanks result (self.old.since - held_count self.old.held) (unread self.old.held old) (unread self.new.held new)) }
         ensures held { IfOk result (λ byte. self.new.held ≡ byte) }
         ensures solid { IsSolid result }
+        ensures none_held { IfErr result (λ fault. self.new.held ≡ None) }
         ensures advances { Advances self.old self.new }
         ensures taken { Between (I.left inputs.old) (I.left inputs.new) (λ old new.
             self.new.taken + length new ≡ self.old.taken + length old) }
@@ -50,6 +51,7 @@ impl Lexer {
         ensures answers { Between (I.left inputs.old) (I.left inputs.new) (λ old new.
             SkipsComment result (self.old.since - 1) (47 ∷ old) (unread self.new.held new)) }
         ensures progress { OnOk result (self.old.taken + held_count self.new.held < self.new.taken + held_count self.old.held) }
+        ensures none_held { IfErr result (λ fault. self.new.held ≡ None) }
         ensures advances { Advances self.old self.new }
         ensures taken { Between (I.left inputs.old) (I.left inputs.new) (λ old new.
             self.new.taken + length new ≡ self.old.taken + length old) }
@@ -65,7 +67,10 @@ impl Lexer {
                 self.held = None;
                 self.close_comment(inputs)
             }
-            Ok(Some(_)) => Err(LexFault::BadToken(self.since - 2)),
+            Ok(Some(_)) => {
+                self.held = None;
+                Err(LexFault::BadToken(self.since - 2))
+            }
             Ok(None) => Err(LexFault::OpenToken),
             Err(fault) => Err(fault),
         }
@@ -77,6 +82,7 @@ impl Lexer {
         requires held { self.old.held ≡ None }
         ensures answers { Between (I.left inputs.old) (I.left inputs.new) (λ old new.
             ClosesComment result old (unread self.new.held new)) }
+        ensures none_held { IfErr result (λ fault. self.new.held ≡ None) }
         ensures advances { Advances self.old self.new }
         ensures taken { Between (I.left inputs.old) (I.left inputs.new) (λ old new.
             self.new.taken + length new ≡ self.old.taken + length old) }
@@ -106,6 +112,7 @@ impl Lexer {
         ensures deeper { IfOk result (λ next.
             next + self.old.taken + held_count self.new.held ≤ depth + self.new.taken + held_count self.old.held) }
         ensures progress { OnOk result (self.old.taken + held_count self.new.held < self.new.taken + held_count self.old.held) }
+        ensures none_held { IfErr result (λ fault. self.new.held ≡ None) }
         ensures advances { Advances self.old self.new }
         ensures taken { Between (I.left inputs.old) (I.left inputs.new) (λ old new.
             self.new.taken + length new ≡ self.old.taken + length old) }

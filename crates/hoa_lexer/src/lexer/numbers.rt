@@ -34,7 +34,7 @@ impl Lexer {
         if value == 0 {
             return Ok(Token::Int(0));
         }
-        'digits: while value <= u64::from(u32::MAX) {
+        'digits: loop {
             match self.peek(inputs) {
                 Ok(Some(byte)) => {
                     if !is_digit(byte) {
@@ -42,11 +42,13 @@ impl Lexer {
                     }
                     self.held = None;
                     value = 10 * value + u64::from(byte - b'0');
+                    if value > u64::from(u32::MAX) {
+                        return Err(LexFault::BadToken(self.offset));
+                    }
                 }
                 Ok(None) => return Err(LexFault::OpenToken),
                 Err(fault) => return Err(fault),
             }
         }
-        Err(LexFault::BadToken(self.offset))
     }
 }

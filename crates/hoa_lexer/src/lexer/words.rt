@@ -1,6 +1,6 @@
 //! Identifiers, names of headers and aliases.
 
-ghost use Rattle.std.specs.Prelude.{◌≡◌, ◌+◌, ◌<◌, ◌≤◌, ◌∷◌, length, None, true, OnOk, IfOk, IsErrOf};
+ghost use Rattle.std.specs.Prelude.{◌≡◌, ◌+◌, ◌<◌, ◌≤◌, ◌∷◌, length, None, true, OnOk, IfOk, IfErr, IsErrOf};
 ghost use Rattle.hoa_lexer.specs.Reading.{held_count, unread, Between, CountsFaults};
 ghost use Rattle.hoa_lexer.specs.Bytes as kinds;
 
@@ -36,11 +36,11 @@ impl Lexer {
         ensures opens { I.open_faults inputs.new ≡ I.open_faults inputs.old }
         ensures texts { I.texts inputs.new ≡ I.texts inputs.old }
     {
+        self.held = None;
         let mut name = Text::new(alloc);
         if name.push(first).is_err() {
             return Err(LexFault::Memory);
         }
-        self.held = None;
         match self.word_bytes(inputs, &mut name) {
             Ok(Some(b':')) => {
                 self.held = None;
@@ -77,6 +77,7 @@ impl Lexer {
         match self.word_bytes(inputs, &mut name) {
             Ok(Some(_)) => {
                 if name.is_empty() {
+                    self.held = None;
                     return Err(LexFault::BadToken(self.offset));
                 }
                 Ok(Token::Alias(name))
@@ -96,7 +97,7 @@ impl Lexer {
         ensures answers { Between (I.left inputs.old) (I.left inputs.new) (λ old new.
             AddsWords result name.old name.new (unread self.old.held old) new) }
         ensures held { IfOk result (λ byte. self.new.held ≡ byte) }
-        ensures none_held { IsErrOf result LexFault.Bytes → self.new.held ≡ None }
+        ensures none_held { IfErr result (λ fault. self.new.held ≡ None) }
         ensures advances { Advances self.old self.new }
         ensures taken { Between (I.left inputs.old) (I.left inputs.new) (λ old new.
             self.new.taken + length new ≡ self.old.taken + length old) }
@@ -112,10 +113,10 @@ impl Lexer {
                     if !is_word(byte) {
                         return Ok(Some(byte));
                     }
+                    self.held = None;
                     if name.push(byte).is_err() {
                         return Err(LexFault::Memory);
                     }
-                    self.held = None;
                 }
                 Ok(None) => return Ok(None),
                 Err(fault) => return Err(fault),

@@ -1,4 +1,4 @@
-use Rattle.std.proofs.Common.{◌≡◌, ◌+◌, ◌-◌, ◌<◌, length}
+use Rattle.std.proofs.Common.{◌≡◌, ◌+◌, ◌-◌, ◌^◌, ◌<◌, length}
 use Rattle.hoa_lexer.specs.Reading.{held_count, unread, Between}
 use Rattle.hoa_lexer.specs.Steps.{Advances}
 use Rattle.hoa_lexer.proofs.Numbers.{IsDigits}
@@ -10,6 +10,7 @@ invariant-digits g l = record {
   advances : Advances l.fn.self l.self;
   taken : Between (g.I.Inputs.left l.fn.inputs) (g.I.Inputs.left l.inputs) (λ old new. l.self.taken + length new ≡ l.fn.self.taken + length old);
   some : 0 < l.value;
+  fits : l.value < 2 ^ 32;
   used : l.fn.self.taken + held_count l.self.held < l.self.taken + held_count l.fn.self.held;
   reads : g.I.Inputs.read_faults l.inputs ≡ g.I.Inputs.read_faults l.fn.inputs;
   opens : g.I.Inputs.open_faults l.inputs ≡ g.I.Inputs.open_faults l.fn.inputs;

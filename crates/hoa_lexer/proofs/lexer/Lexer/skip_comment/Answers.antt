@@ -15,7 +15,7 @@ pub returns-in-Ok-Some-clause-answers : goal.returns-in-Ok-Some-clause-answers
 returns-in-Ok-Some-clause-answers g c =
     let left = g.I.Inputs.left in
     between_both (left c.args.inputs.now) (left c.peek.new.inputs) _ _ _
-    (λ x y p q. let read = byte_read _ c.in-Ok-Some.field-0-0 x y c.in-Ok-Some.field-0-is p in skip_bad _ _ _ x y [] (omega (arith, q, ap length read)) c.in-Ok-Some.field-0-0-test.1 read)
+    (λ x y p q. let read = byte_read _ c.in-Ok-Some.field-0-0 x y c.in-Ok-Some.field-0-is p in skip_bad _ _ _ x y (omega (arith, q, ap length read)) c.in-Ok-Some.field-0-0-test.1 read)
     c.in-Ok-Some.ensures.answers c.in-Ok-Some.ensures.taken
 
 pub returns-in-Ok-None-clause-answers : goal.returns-in-Ok-None-clause-answers

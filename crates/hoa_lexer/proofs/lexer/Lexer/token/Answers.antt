@@ -1,4 +1,4 @@
-use Rattle.std.proofs.Common.{arith, ◌≡◌, ◌∙◌, refl, sym}
+use Rattle.std.proofs.Common.{arith, ◌≡◌, ◌∙◌, inl, refl, sym}
 use Rattle.hoa_lexer.proofs.Between.{between_same}
 use Rattle.hoa_lexer.proofs.FirstBytes.{no_kind_token, mark_front}
 use Rattle.hoa_lexer.proofs.lexer.Lexer.token.Goals as goal
@@ -16,4 +16,5 @@ returns-in-None-clause-answers g c =
       no_kind_token c.args.first x c.requires.space
           (sym c.is_letter.ensures ∙ c.if-is_letter.false) (sym c.is_digit.ensures ∙ c.if-is_digit.false)
           (λ (e : c.args.first ≡ 34). omega arith) (λ (e : c.args.first ≡ 64). omega arith) (λ (e : c.args.first ≡ 45). omega arith) c.requires.slash c.in-None.ensures,
+      record { byte = c.args.first; past = inl refl },
     ))

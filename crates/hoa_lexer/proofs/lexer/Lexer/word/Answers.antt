@@ -1,4 +1,3 @@
-use Rattle.std.proofs.Common.{ap, Err}
 use Rattle.hoa_lexer.proofs.Between.{between_as}
 use Rattle.hoa_lexer.proofs.Words.{words_end, word_end, word_err}
 use Rattle.hoa_lexer.proofs.lexer.Lexer.word.Goals as goal
@@ -14,5 +13,5 @@ pub returns-in-Err-clause-answers : goal.returns-in-Err-clause-answers
 returns-in-Err-clause-answers g c =
     let left = g.I.Inputs.left in
     between_as (left c.args.inputs.now) (left c.word_bytes.new.inputs) _ _
-    (λ x z p. word_err _ _ _ c.args.first _ _ x z c.requires.letter (λ e. c.in-Err.ensures.none_held (ap Err e)) p)
+    (λ x z p. word_err _ _ _ c.args.first _ _ x z c.requires.letter (λ e. c.in-Err.ensures.none_held) p)
     c.in-Err.ensures.answers
