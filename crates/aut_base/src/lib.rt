@@ -21,7 +21,9 @@ pub use formula::{Formula, Formulas};
 pub use label::{Label, Labels};
 pub use law::{same_word_same_verdict, worked_examples};
 pub use letter::{Lasso, Letter, Letters};
-pub use limit::Limit;
+pub use limit::{
+    Limit, MOST_ALIASES, MOST_BYTES, MOST_DEPTH, MOST_EDGES, MOST_NAMES, MOST_SETS, MOST_STATES,
+};
 pub use marks::Marks;
 pub use names::Names;
 pub use seq::{Numbers, Seq, Text, Words};

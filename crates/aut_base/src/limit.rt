@@ -17,3 +17,24 @@ pub enum Limit {
     Classes,
     Pairs,
 }
+
+/// The most names of an automaton that is read.
+pub const MOST_NAMES: u32 = 8;
+
+/// The most acceptance sets of an automaton that is read.
+pub const MOST_SETS: u32 = 512;
+
+/// The most states of an automaton that is read.
+pub const MOST_STATES: u32 = 100_000;
+
+/// The most edges of an automaton that is read, those with implicit labels included.
+pub const MOST_EDGES: u32 = 1_000_000;
+
+/// How far the labels of an automaton may grow when their aliases are replaced.
+pub const MOST_ALIASES: u32 = 2_048;
+
+/// The most `(` and `!` of a label or an acceptance condition that may be open at once.
+pub const MOST_DEPTH: u32 = 512;
+
+/// The most bytes that a run takes.
+pub const MOST_BYTES: u64 = 1 << 40;

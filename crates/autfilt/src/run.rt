@@ -10,13 +10,10 @@ ghost use Rattle.hoa_lexer.specs.Reading.{Between, unread};
 use crate::ended::Ended;
 use crate::notes::note;
 use crate::turn::print_next;
-use aut_base::{OpenFail, Text, Words};
+use aut_base::{MOST_BYTES, OpenFail, Text, Words};
 use aut_io::{Inputs, Sink};
 use hoa_lexer::Lexer;
 use std::alloc::Global;
-
-/// The most bytes that a run may take.
-const MOST_BYTES: u64 = 1 << 40;
 
 /// Prints automata until only blanks are left.
 fn print_all<I: Inputs, W: Sink>(
