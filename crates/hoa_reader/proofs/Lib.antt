@@ -1,6 +1,5 @@
 pub mod Answering
 pub mod Collected
-pub mod Described
 pub mod DescribedLaws
 pub mod DescribedStarts
 pub mod DescribedSteps

@@ -2,6 +2,7 @@ pub mod Collecting
 pub mod Counts
 pub mod Described
 pub mod Describing
+pub mod Elaborating
 pub mod Faults
 pub mod FirstForm
 pub mod Midway

@@ -1,7 +1,7 @@
 //! What the reader answers on texts, worked out by hand.
 
-use crate::{Item, Raw, RawEdge, RawLabel, ReadFault, describe, read_raw};
-use aut_base::{Formula, Label, Memory, Names, Numbers, Text, Words};
+use crate::{Item, Raw, RawEdge, RawLabel, ReadFault, read_raw};
+use aut_base::{Formula, Memory, Names, Numbers, Text, Words};
 use aut_io::{Inputs, MemInputs};
 use hoa_lexer::Lexer;
 use std::alloc::Global;
@@ -334,33 +334,5 @@ fn takes_no_byte_too_early(rt: HostRuntime) -> Result<(), Fail> {
     assert_eq!(rt; lexer.taken(), both);
     assert_eq!(rt; inputs.next(), Ok(Some(b' ')));
     assert_eq!(rt; inputs.next(), Ok(Some(b'/')));
-    Ok(())
-}
-
-#[test]
-fn describes_what_was_read(rt: HostRuntime) -> Result<(), Fail> {
-    let alloc = rt.alloc();
-    let text = with_line(alloc, 8, b"[!1] 0 {0} [t] 0 [0] 0\n")?;
-    let mut inputs = opened(alloc, text.as_bytes(), &[])?;
-    let mut lexer = Lexer::new(1000);
-    let read = read_raw(alloc, &mut lexer, &mut inputs);
-    assert!(rt; matches!(read, Ok(Some(_))));
-    if let Ok(Some(raw)) = read {
-        let described = describe(alloc, &raw);
-        assert!(rt; described.is_ok());
-        if let Ok(found) = described {
-            assert_eq!(rt; found.names.len(), 2);
-            assert_eq!(rt; found.starts.as_slice(), [0].as_slice());
-            assert_eq!(rt; (found.states, found.sets), (1, 1));
-            let [first, second, third] = found.edges.as_slice() else {
-                panic!(rt; "three edges")
-            };
-            assert!(rt; matches!(first.label, Label::Not(_)));
-            assert_eq!(rt; first.marks.as_slice(), [0].as_slice());
-            assert!(rt; matches!(second.label, Label::True));
-            assert!(rt; second.marks.is_empty());
-            assert!(rt; matches!(third.label, Label::Prop(0)));
-        }
-    }
     Ok(())
 }
