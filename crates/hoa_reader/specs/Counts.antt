@@ -3,6 +3,7 @@ use Rattle.std.specs.Prelude.{◌≡◌, ◌+◌, ◌/◌, max, ℕ, Bool, true,
 use Rattle.std.specs.Option.{option_map_or}
 use Rattle.aut_base.specs.Label as label
 use Rattle.aut_base.specs.Label.{LabelTree, LabelTrees, label_size}
+use Rattle.aut_base.specs.declared.limit.TheConstants.{MOST_NAMES, MOST_SETS, MOST_STATES, MOST_EDGES, MOST_ALIASES}
 use Rattle.hoa_reader.specs.Described.{edges_of, expanded, meanings_of, state_count}
 use Rattle.hoa_reader.specs.Raw.{RawTree, Written, WrittenEdge, WrittenState}
 use Rattle.hoa_reader.specs.Validity.{acceptance_of, aliases_among, body_labels, names_of}
@@ -63,11 +64,11 @@ count_of Aliases w = max (greatest (map (height_in w) (body_labels w))) (weight 
 
 -- the greatest number that is read
 abbrev pub most_of : Count → ℕ
-most_of Names = 8
-most_of Sets = 512
-most_of States = 100000
-most_of Edges = 1000000
-most_of Aliases = 2048
+most_of Names = MOST_NAMES
+most_of Sets = MOST_SETS
+most_of States = MOST_STATES
+most_of Edges = MOST_EDGES
+most_of Aliases = MOST_ALIASES
 
 abbrev pub Passes : Count → Written → Type 0
 Passes count w = nat_lt (most_of count) (count_of count w) ≡ true

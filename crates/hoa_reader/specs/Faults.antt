@@ -1,10 +1,10 @@
 -- What a fault of the lexer is to the reader.
 use Rattle.hoa_lexer.specs.declared.token.LexFault as lexing
 use Rattle.hoa_reader.specs.declared.fault.ReadFault.{ReadFault}
-use Rattle.hoa_reader.specs.declared.fault.ReadFault.TheVariants.{NotYet, Truncated, Bytes, Read, Memory}
+use Rattle.hoa_reader.specs.declared.fault.ReadFault.TheVariants.{Syntax, Truncated, Bytes, Read, Memory}
 
 abbrev pub read_fault : lexing.LexFault → ReadFault
-read_fault (lexing.LexFault.BadToken k) = NotYet
+read_fault (lexing.LexFault.BadToken k) = Syntax k
 read_fault lexing.LexFault.OpenComment = Truncated
 read_fault lexing.LexFault.OpenString = Truncated
 read_fault lexing.LexFault.OpenToken = Truncated

@@ -1,13 +1,9 @@
-pub mod Collecting
 pub mod Counts
 pub mod Described
-pub mod Describing
+pub mod Elaborating
 pub mod Expecting
 pub mod Faults
-pub mod FirstForm
 pub mod Grammar
-pub mod Midway
-pub mod Parsing
 pub mod Raw
 pub mod Reads
 pub mod Standing

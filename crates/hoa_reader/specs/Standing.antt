@@ -37,11 +37,11 @@ pub record IsWhole (start : ℕ) (text : List ℕ) (w : Written) (rest : List �
 
 -- A token cannot stand at offset k. After one or more tokens `--ABORT--` is not such a token: it abandons the automaton.
 pub record IsMisplaced (k : ℕ) (tokens : List Token) (used : ℕ) (rest : List ℕ) : Type 0 where
-  pub token : Token
+  pub next_token : Token
   pub after : List ℕ
-  pub next : IsNext rest used token k after
-  pub dead : IsDead (tokens ++ token ∷ [])
-  pub no_abort : (tokens ≢ []) → token ≢ token.Abort
+  pub next : IsNext rest used next_token k after
+  pub dead : IsDead (tokens ++ next_token ∷ [])
+  pub no_abort : (tokens ≢ []) → next_token ≢ token.Abort
 
 -- the bytes at offset k can be no token
 abbrev pub IsNoTokenAt : ℕ → ℕ → List ℕ → Type 0
@@ -61,13 +61,13 @@ pub record IsDeep (start : ℕ) (text : List ℕ) : Type 0 where
   pub used : ℕ
   pub rest : List ℕ
   pub begun : IsBegun start text tokens used rest
-  pub token : Token
+  pub next_token : Token
   pub offset : ℕ
   pub after : List ℕ
-  pub next : IsNext rest used token offset after
+  pub next : IsNext rest used next_token offset after
   pub most : ℕ
-  pub viable : IsViable most (tokens ++ token ∷ [])
-  pub too_deep : IsViable most_depth (tokens ++ token ∷ []) → ⊥
+  pub viable : IsViable most (tokens ++ next_token ∷ [])
+  pub too_deep : IsViable most_depth (tokens ++ next_token ∷ []) → ⊥
 
 -- the automaton is abandoned
 pub record IsAborted (start : ℕ) (text : List ℕ) : Type 0 where

@@ -7,6 +7,8 @@ use Rattle.aut_base.specs.Formula as formula
 use Rattle.aut_base.specs.Formula.{FormulaTree, FormulaTrees}
 use Rattle.hoa_reader.specs.Raw as raw
 use Rattle.hoa_reader.specs.Raw.{RawTree, RawTrees, Written, WrittenEdge, WrittenItem, WrittenState, States, Start, Ap, AliasOf, Acceptance, AccName, Tool, Name, Properties, Other}
+use Rattle.hoa_reader.specs.declared.elaborate.Rule.{Rule}
+use Rattle.hoa_reader.specs.declared.elaborate.Rule.TheVariants.{V1, V2, V3, V4, V5, V6, V7, V8, V9, V10, V11, V12}
 
 abbrev pub same_text : List ℕ → List ℕ → Bool
 same_text = pointwise ◌==◌
@@ -236,20 +238,6 @@ has_edge_per_letter n s = (length s.edges == 0) || ((length s.edges == 2 ^ n) ||
 
 abbrev pub has_edges_for_all_letters : Written → Bool
 has_edges_for_all_letters w = list_all (has_edge_per_letter (length (names_of w))) w.states
-
-pub data Rule : Type 0 where
-  V1 : Rule
-  V2 : Rule
-  V3 : Rule
-  V4 : Rule
-  V5 : Rule
-  V6 : Rule
-  V7 : Rule
-  V8 : Rule
-  V9 : Rule
-  V10 : Rule
-  V11 : Rule
-  V12 : Rule
 
 abbrev pub keeps : Rule → Written → Bool
 keeps V1 = has_version_one

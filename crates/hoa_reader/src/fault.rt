@@ -10,16 +10,28 @@ use std::alloc::{AllocError, AllocFailed};
 /// Why no automaton was read.
 #[derive(Clone, Copy, Debug, PartialEq, Eq)]
 pub enum ReadFault {
-    /// The text is not of the form that is read so far.
-    NotYet,
-    /// The text ended inside an automaton.
+    /// The token at this offset cannot stand there, or the bytes there are no token.
+    Syntax(u64),
+    /// The text ended inside an automaton, a comment or a token.
     Truncated,
+    /// The automaton was abandoned by `--ABORT--`.
+    Aborted,
+    /// More `(` and `!` of a label or an acceptance condition are open than may be.
+    Depth,
     /// As many bytes as the lexer may take were taken, and one more was asked for.
     Bytes,
     /// A read failed.
     Read,
     /// Want of memory.
     Memory,
+}
+
+impl From<Memory> for ReadFault {
+    ghost from_gives = { λ _ fault. fault ≡ ReadFault.Memory };
+
+    fn from(_want: Memory) -> ReadFault {
+        ReadFault::Memory
+    }
 }
 
 impl<T: Drop> From<AllocFailed<T>> for ReadFault {
@@ -38,7 +50,7 @@ impl From<LexFault> for ReadFault {
 
     fn from(lexing: LexFault) -> ReadFault {
         match lexing {
-            LexFault::BadToken(_) => ReadFault::NotYet,
+            LexFault::BadToken(offset) => ReadFault::Syntax(offset),
             LexFault::OpenComment | LexFault::OpenString | LexFault::OpenToken => {
                 ReadFault::Truncated
             }

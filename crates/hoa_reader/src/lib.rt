@@ -4,13 +4,10 @@
 mod elaborate;
 mod fault;
 mod header;
-mod parse;
 mod raw;
 mod read;
-#[cfg(test)]
-mod tests;
 
-pub use elaborate::{ElabFault, describe};
+pub use elaborate::{ElabFault, Rule, describe};
 pub use fault::ReadFault;
 pub use raw::{Item, Items, Raw, RawEdge, RawEdges, RawLabel, RawLabels, RawState, RawStates};
 pub use read::read_raw;

@@ -1,5 +1,0 @@
-use Rattle.std.proofs.Common.{◌≡◌, take}
-use Rattle.hoa_reader.proofs.elaborate.described_names.Given as goal
-
-abbrev pub invariant-texts : goal.invariant-texts
-invariant-texts l = l.names ≡ take l.text-index l.texts

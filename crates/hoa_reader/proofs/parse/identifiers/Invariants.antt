@@ -1,6 +1,0 @@
-use Rattle.std.proofs.Common.{◌≡◌, map, take}
-use Rattle.hoa_lexer.specs.declared.token.Token.TheVariants.{Identifier}
-use Rattle.hoa_reader.proofs.parse.identifiers.Given as goal
-
-abbrev pub invariant-tokens : goal.invariant-tokens
-invariant-tokens l = take l.token-index l.tokens ≡ map Identifier l.texts
