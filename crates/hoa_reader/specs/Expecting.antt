@@ -165,31 +165,28 @@ move Edges LeftBracket = Takes (label_parts 0 ++ ClosingBracket ∷ Number ∷ M
 move Edges (Int n) = Takes (MoreNumbers ∷ MaybeMarks ∷ Edges ∷ [])
 move Edges _ = Passes
 
--- what is expected behind a token, if it can stand here; `passed` is what is expected if it stands behind the first part
-abbrev pub moved : Move → Option (List Part) → List Part → Option (List Part)
-moved (Takes parts) passed others = Some (parts ++ others)
-moved Passes passed others = passed
-moved Refuses passed others = None
-
-abbrev pub behind : List Part → Token → Option (List Part)
-behind [] token = None
-behind (part ∷ parts) token = moved (move part token) (behind parts token) parts
-
 -- how many `(` and `!` are open where this is expected
 abbrev pub open_at : List Part → ℕ
 open_at (Factor depth ∷ parts) = depth
 open_at (Atom depth ∷ parts) = depth
 open_at _ = 0
 
-abbrev pub if_within : ℕ → Option (List Part) → Option (List Part)
-if_within most None = None
-if_within most (Some parts) = if nat_le (open_at parts) most then Some parts else None
+-- What is expected behind a token, if it can stand here and opens no more than `most`. `passed` is what is expected if
+-- it stands behind the first part.
+abbrev pub moved : ℕ → Move → Option (List Part) → List Part → Option (List Part)
+moved most (Takes parts) passed others = if nat_le (open_at parts) most then Some (parts ++ others) else None
+moved most Passes passed others = passed
+moved most Refuses passed others = None
 
--- what is expected behind the tokens, if they can stand here and never open more than `most`
-abbrev pub after_one : ℕ → Option (List Part) → List Token → Option (List Part)
-after_one most None tokens = None
-after_one most (Some parts) [] = Some parts
-after_one most (Some parts) (t ∷ ts) = after_one most (if_within most (behind parts t)) ts
+abbrev pub behind : ℕ → List Part → Token → Option (List Part)
+behind most [] token = None
+behind most (part ∷ parts) token = moved most (move part token) (behind most parts token) parts
+
+-- What is expected behind the tokens, if they can stand here and never open more than `most`.
+abbrev pub after_some : ℕ → Option (List Part) → List Token → Option (List Part)
+after_some most None tokens = None
+after_some most (Some parts) [] = Some parts
+after_some most (Some parts) (t ∷ ts) = after_some most (behind most parts t) ts
 
 abbrev pub after : ℕ → List Part → List Token → Option (List Part)
-after most parts = after_one most (Some parts)
+after most parts = after_some most (Some parts)
