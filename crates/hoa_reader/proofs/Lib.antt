@@ -3,6 +3,9 @@ pub mod DescribedStarts
 pub mod DescribedSteps
 pub mod DescribedWellFormed
 pub mod Distinct
+pub mod Failing
+pub mod Leading
+pub mod Moving
 pub mod RawTrees
 pub mod ValidityExamples
 pub mod ValidityLaws

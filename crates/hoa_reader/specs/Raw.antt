@@ -7,7 +7,8 @@ use Rattle.hoa_reader.specs.declared.raw.Raw.{Raw}
 use Rattle.hoa_reader.specs.declared.raw.RawEdge.{RawEdge}
 use Rattle.hoa_reader.specs.declared.raw.RawLabel.{RawLabel}
 use Rattle.hoa_reader.specs.declared.raw.RawLabel.TheOpen.{RawLabel-F}
-use Rattle.hoa_reader.specs.declared.raw.RawLabel.TheFolds.{fold-RawLabel}
+use Rattle.hoa_reader.specs.declared.raw.RawLabel.TheFolds.{fold-RawLabel, fold-RawLabels}
+use Rattle.hoa_reader.specs.declared.raw.RawLabels.{RawLabels}
 use Rattle.hoa_reader.specs.declared.raw.RawState.{RawState}
 
 -- a label as it is written; a conjunction or disjunction has two parts or more
@@ -49,6 +50,14 @@ tree_step (RawLabel-F.Or p) = Or p.first p.second (raw_trees p.others)
 -- the tree of a label
 abbrev pub raw_tree : RawLabel → RawTree
 raw_tree = fold-RawLabel RawTree Parts tree_step (λ ls. record { first = ls.first.value; second = ls.second.value; others = ls.others.items })
+
+-- the parts of a conjunction or disjunction
+abbrev pub raw_parts : RawLabels → Parts
+raw_parts = fold-RawLabels RawTree Parts tree_step (λ ls. record { first = ls.first.value; second = ls.second.value; others = ls.others.items })
+
+-- the same as one list, of two parts or more
+abbrev pub raw_list : RawLabels → List RawTree
+raw_list ls = (raw_parts ls).first ∷ (raw_parts ls).second ∷ (raw_parts ls).others
 
 -- an edge of the body
 pub record WrittenEdge : Type 0 where

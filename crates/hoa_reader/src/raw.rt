@@ -1,6 +1,10 @@
 //! An automaton as its text writes it, before any rule is checked (HOA v1, Grammar).
 
-use aut_base::{Formula, Numbers, Seq, Text, Words};
+ghost use Rattle.std.specs.Prelude.{◌≡◌, ◌<◌, [], ◌∷◌, ◌++◌, length, IfOk, OnOk, OnErr, slice_get};
+ghost use Rattle.hoa_reader.specs.Raw.{raw_list, raw_tree};
+
+use aut_base::{Formula, Memory, Numbers, Seq, Text, Words};
+use std::alloc::Global;
 
 /// A label as it is written; an alias stands for the label that it was defined as.
 #[cycle(raw_label)]
@@ -22,6 +26,52 @@ pub struct RawLabels {
     first: Box<RawLabel>,
     second: Box<RawLabel>,
     others: Vec<RawLabel>,
+}
+
+#[tactic(auto, using(crate::proofs::RawTrees::raw_tree_rules))]
+impl RawLabels {
+    /// These two parts.
+    pub fn pair(alloc: Global, first: RawLabel, second: RawLabel) -> Result<RawLabels, Memory>
+        ensures { IfOk result (λ new. raw_list new ≡ raw_tree first ∷ raw_tree second ∷ []) }
+    {
+        let first = Box::new(alloc, first)?;
+        let second = Box::new(alloc, second)?;
+        Ok(RawLabels {
+            first,
+            second,
+            others: Vec::new(alloc),
+        })
+    }
+
+    /// Adds a part at the end. Refused for want of memory, it drops the part and leaves the others as they were.
+    pub fn push(&mut self, item: RawLabel) -> Result<(), Memory>
+        ensures ok { OnOk result (raw_list self.new ≡ raw_list self.old ++ raw_tree item ∷ []) }
+        ensures err { OnErr result (raw_list self.new ≡ raw_list self.old) }
+    {
+        match self.others.push(item) {
+            Ok(()) => Ok(()),
+            Err(_) => Err(Memory),
+        }
+    }
+
+    /// The number of parts.
+    pub fn len(&self) -> usize
+        ensures { result ≡ length (raw_list self.now) }
+    {
+        self.others.len() + 2
+    }
+
+    /// The part at this place, from 0.
+    pub fn at(&self, place: usize) -> &RawLabel
+        requires { place < length (raw_list self.now) }
+        ensures { slice_get (raw_list self.now) place ≡ Some (raw_tree result.now) }
+    {
+        match place {
+            0 => &self.first,
+            1 => &self.second,
+            _ => &self.others[place - 2],
+        }
+    }
 }
 
 /// An item of the header.
