@@ -1,3 +1,4 @@
+pub mod Advancing
 pub mod DescribedLaws
 pub mod DescribedStarts
 pub mod DescribedSteps
@@ -6,6 +7,8 @@ pub mod Distinct
 pub mod Failing
 pub mod Leading
 pub mod Moving
+pub mod Others
 pub mod RawTrees
+pub mod Tokens
 pub mod ValidityExamples
 pub mod ValidityLaws

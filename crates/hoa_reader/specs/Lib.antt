@@ -5,6 +5,7 @@ pub mod Expecting
 pub mod Faults
 pub mod Grammar
 pub mod Parsing
+pub mod Parts
 pub mod Raw
 pub mod Reads
 pub mod Standing

@@ -120,6 +120,9 @@ pub record State : Type 0 where
   pub opens : ℕ
   pub texts : Option Texts
 
+abbrev pub state : Lexer → Token → Option (List ℕ) → ℕ → ℕ → Option Texts → State
+state lexer ahead left reads opens texts = record { lexer = lexer; ahead = ahead; left = left; reads = reads; opens = opens; texts = texts }
+
 -- the place where a reader stands, where this is left of the inputs
 abbrev pub place : State → List ℕ → Place
 place s left = record { token = s.ahead; offset = s.lexer.offset; used = s.lexer.since - held_count s.lexer.held; rest = unread s.lexer.held left }
@@ -178,3 +181,7 @@ pub record IsWritten {X Y : Type 0} (Within : X → Type 0) (tokens : X → List
   pub within : Within phrase
   pub passed : Passed a (tokens phrase) b
   pub means : value ≡ meaning phrase
+
+-- something was read: a byte was used
+abbrev pub Uses : {T : Type 0} → Result T ReadFault → State → State → Type 0
+Uses result s s' = OnOk result (s.lexer.taken + held_count s'.lexer.held < s'.lexer.taken + held_count s.lexer.held)

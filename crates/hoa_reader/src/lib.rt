@@ -4,6 +4,7 @@
 mod elaborate;
 mod fault;
 mod header;
+mod parse;
 mod raw;
 mod read;
 
