@@ -3,6 +3,9 @@ pub mod DescribedStarts
 pub mod DescribedSteps
 pub mod DescribedWellFormed
 pub mod Distinct
+pub mod Following
+pub mod FollowingItems
+pub mod FollowingStates
 pub mod RawTrees
 pub mod ValidityExamples
 pub mod ValidityLaws
