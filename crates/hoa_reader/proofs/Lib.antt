@@ -1,11 +1,17 @@
+pub mod Completing
 pub mod DescribedLaws
 pub mod DescribedStarts
 pub mod DescribedSteps
 pub mod DescribedWellFormed
 pub mod Distinct
+pub mod Filling
+pub mod FillingItems
+pub mod FillingStates
 pub mod Following
 pub mod FollowingItems
 pub mod FollowingStates
+pub mod HeaderNames
 pub mod RawTrees
 pub mod ValidityExamples
 pub mod ValidityLaws
+pub mod Viability
