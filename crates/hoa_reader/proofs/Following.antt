@@ -19,7 +19,7 @@ after_append most (Some parts) [] v = refl
 after_append most (Some parts) (t ∷ ts) v = after_append most (behind most parts t) ts v
 
 -- a part that is taken, and one that is passed
-opened : (most : ℕ) (parts others : List Part) (passed : Option (List Part)) → open_at parts ≤ most → moved most (Takes parts) passed others ≡ Some (parts ++ others)
+pub opened : (most : ℕ) (parts others : List Part) (passed : Option (List Part)) → open_at parts ≤ most → moved most (Takes parts) passed others ≡ Some (parts ++ others)
 opened most parts others passed l = ap (λ b. cond b (Some (parts ++ others)) None) (le-leb (open_at parts) most l)
 
 pub taken : (most : ℕ) (part : Part) (parts others : List Part) (t : Token) (c : List Token) → move part t ≡ Takes parts → open_at parts ≤ most → after most (part ∷ others) (t ∷ c) ≡ after most (parts ++ others) c

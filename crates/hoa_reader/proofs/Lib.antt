@@ -1,4 +1,6 @@
 pub mod Completing
+pub mod DeadEnds
+pub mod Depths
 pub mod DescribedLaws
 pub mod DescribedStarts
 pub mod DescribedSteps
