@@ -1,10 +1,20 @@
 pub mod Advancing
+pub mod Completing
+pub mod DeadEnds
+pub mod Depths
 pub mod DescribedLaws
 pub mod DescribedStarts
 pub mod DescribedSteps
 pub mod DescribedWellFormed
 pub mod Distinct
 pub mod Failing
+pub mod Filling
+pub mod FillingItems
+pub mod FillingStates
+pub mod Following
+pub mod FollowingItems
+pub mod FollowingStates
+pub mod HeaderNames
 pub mod Leading
 pub mod Moving
 pub mod Others
@@ -12,3 +22,4 @@ pub mod RawTrees
 pub mod Tokens
 pub mod ValidityExamples
 pub mod ValidityLaws
+pub mod Viability

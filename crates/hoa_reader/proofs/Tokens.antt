@@ -1,28 +1,33 @@
 -- How a part of one token is read.
 use Rattle.std.proofs.Common.{◌≡◌, ℕ, Bool, true, false, List, [], ◌∷◌, ◌++◌, Option, Some, None, Result, Ok, Err, refl, sym, ap, subst, ◌∙◌}
+use Rattle.aut_io.specs.Outside.{Texts}
+use Rattle.hoa_lexer.specs.declared.lexer.Lexer.{Lexer}
 use Rattle.hoa_lexer.specs.declared.token.Token.{Token}
 use Rattle.hoa_reader.proofs.Leading.{refuses_behind}
 use Rattle.hoa_reader.proofs.Moving.{passes, reads_as, reads_nothing, refuses, takes, takes_last}
 use Rattle.hoa_reader.specs.Expecting.{Part, Takes, behind, move}
 use Rattle.hoa_reader.specs.Expecting as expecting
-use Rattle.hoa_reader.specs.Parsing.{Advances, Passed, Place, Reads, State, is_end, refusal}
-use Rattle.hoa_reader.specs.Parts.{IsMark}
+use Rattle.hoa_reader.specs.Parsing.{Advances, Passed, Place, Reads, State, is_end, refusal, state}
 use Rattle.hoa_reader.specs.declared.fault.ReadFault.{ReadFault}
 
+-- the same, of a token that is known by another name
+pub known : {T : Type 0} (p r : List Part) (R : T → Place → Place → Type 0) (result : Result T ReadFault) (lexer : Lexer) (k z : Token) (left : Option (List ℕ)) (reads opens : ℕ) (texts : Option Texts) (s' : State) → k ≡ z → Reads p r R result (state lexer z left reads opens texts) s' → Reads p r R result (state lexer k left reads opens texts) s'
+known p r R result lexer k z left reads opens texts s' is one = subst (λ (t : Token). Reads p r R result (state lexer t left reads opens texts) s') (sym is) one
+
 -- the token at hand is all of the part
-pub token_taken : {T : Type 0} (part : Part) (z : Token) (R : T → Place → Place → Type 0) (w : T) (s s' : State) (v : Unit {0}) → s.ahead ≡ z → move part z ≡ Takes [] → is_end z ≡ false → ((a b : Place) → Passed a (z ∷ []) b → R w a b) → Advances (Ok v) s s' → Reads (part ∷ []) [] R (Ok w) s s'
-token_taken part z R w s s' v is goes unended f one = reads_as (part ∷ []) [] _ R v w s s' f (takes part [] [] z s s' v is goes refl unended one)
+pub token_taken : {T : Type 0} (part : Part) (z : Token) (R : T → Place → Place → Type 0) (w : T) (lexer : Lexer) (k : Token) (left : Option (List ℕ)) (reads opens : ℕ) (texts : Option Texts) (s' : State) (v : Unit {0}) → k ≡ z → move part z ≡ Takes [] → is_end z ≡ false → ((a b : Place) → Passed a (z ∷ []) b → R w a b) → Advances (Ok v) (state lexer z left reads opens texts) s' → Reads (part ∷ []) [] R (Ok w) (state lexer k left reads opens texts) s'
+token_taken part z R w lexer k left reads opens texts s' v is goes unended f one =
+    known (part ∷ []) [] R (Ok w) lexer k z left reads opens texts s' is
+    (reads_as (part ∷ []) [] _ R v w (state lexer z left reads opens texts) s' f (takes part [] [] z (state lexer z left reads opens texts) s' v refl goes refl unended one))
 
-pub token_last : {T : Type 0} (part : Part) (z : Token) (R : T → Place → Place → Type 0) (f : ReadFault) (s s' : State) → s.ahead ≡ z → move part z ≡ Takes [] → is_end z ≡ false → Advances {T = Unit {0}} (Err f) s s' → Reads (part ∷ []) [] R (Err f) s s'
-token_last part z R f s s' is goes unended one = takes_last part [] [] [] R z f s s' is goes refl unended one
+pub token_last : {T : Type 0} (part : Part) (z : Token) (R : T → Place → Place → Type 0) (f : ReadFault) (lexer : Lexer) (k : Token) (left : Option (List ℕ)) (reads opens : ℕ) (texts : Option Texts) (s' : State) → k ≡ z → move part z ≡ Takes [] → is_end z ≡ false → Advances {T = Unit {0}} (Err f) (state lexer z left reads opens texts) s' → Reads (part ∷ []) [] R (Err f) (state lexer k left reads opens texts) s'
+token_last part z R f lexer k left reads opens texts s' is goes unended one =
+    known (part ∷ []) [] R (Err f) lexer k z left reads opens texts s' is
+    (takes_last part [] [] [] R z f (state lexer z left reads opens texts) s' refl goes refl unended one)
 
-pub token_read : (part : Part) (z : Token) (r : Result (Unit {0}) ReadFault) (s s' : State) → s.ahead ≡ z → move part z ≡ Takes [] → is_end z ≡ false → Advances r s s' → Reads (part ∷ []) [] (IsMark z) r s s'
-token_read part z (Ok v) s s' is goes unended one = token_taken part z (IsMark z) v s s' v is goes unended (λ a b h. h) one
-token_read part z (Err f) s s' is goes unended one = token_last part z (IsMark z) f s s' is goes unended one
-
-pub token_read_as : (part : Part) (z : Token) (R : Unit {0} → Place → Place → Type 0) (r : Result (Unit {0}) ReadFault) (s s' : State) → s.ahead ≡ z → move part z ≡ Takes [] → is_end z ≡ false → ((v : Unit {0}) (a b : Place) → Passed a (z ∷ []) b → R v a b) → Advances r s s' → Reads (part ∷ []) [] R r s s'
-token_read_as part z R (Ok v) s s' is goes unended f one = token_taken part z R v s s' v is goes unended (f v) one
-token_read_as part z R (Err f) s s' is goes unended g one = token_last part z R f s s' is goes unended one
+pub token_read : (part : Part) (z : Token) (R : Unit {0} → Place → Place → Type 0) (r : Result (Unit {0}) ReadFault) (s s' : State) → s.ahead ≡ z → move part z ≡ Takes [] → is_end z ≡ false → ((v : Unit {0}) (a b : Place) → Passed a (z ∷ []) b → R v a b) → Advances r s s' → Reads (part ∷ []) [] R r s s'
+token_read part z R (Ok v) s s' is goes unended f one = reads_as (part ∷ []) [] _ R v v s s' (f v) (takes part [] [] z s s' v is goes refl unended one)
+token_read part z R (Err f) s s' is goes unended g one = takes_last part [] [] [] R z f s s' is goes refl unended one
 
 subst_fault : {T : Type 0} (R : T → Place → Place → Type 0) (p r : List Part) (s : State) (f g : ReadFault) → g ≡ f → Reads p r R (Err g) s s → Reads p r R (Err f) s s
 subst_fault R p r s f g same one = subst (λ (h : ReadFault). Reads p r R (Err h) s s) same one

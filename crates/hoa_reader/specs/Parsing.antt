@@ -1,9 +1,10 @@
 -- What the inner functions of the reader say of the bytes. Each reads a part of the automaton from a place on.
-use Rattle.std.specs.Prelude.{◌≡◌, ◌≢◌, ℕ, ◌+◌, ◌-◌, ◌≤◌, ◌<◌, ◌⊎◌, Bool, true, false, List, [], ◌∷◌, ◌++◌, length, Option, Some, None, Result, Ok, Err, OnOk}
+use Rattle.std.specs.Prelude.{◌≡◌, ◌≢◌, ℕ, ◌+◌, ◌-◌, ◌≤◌, ◌<◌, ◌⊎◌, Bool, true, false, not, is_some, List, [], ◌∷◌, ◌++◌, length, Option, Some, None, Result, Ok, Err, OnOk}
 use Rattle.std.specs.List.{AllByRecursion}
 use Rattle.aut_io.specs.Outside.{Texts}
 use Rattle.hoa_lexer.specs.Blanks.{IsBlanks}
 use Rattle.hoa_lexer.specs.Reading.{Between, held_count, unread}
+use Rattle.hoa_lexer.specs.Spelling.{closes_itself}
 use Rattle.hoa_lexer.specs.Text.{AsksForMore, IsNext}
 use Rattle.hoa_lexer.specs.declared.lexer.Lexer.{Lexer}
 use Rattle.hoa_lexer.specs.declared.token.Token.{Token}
@@ -135,6 +136,10 @@ unread_in s = unread s.lexer.held
 abbrev pub Tells : State → State → (List ℕ → List ℕ → Type 0) → Type 0
 Tells s s' P = (x : List ℕ) → s.left ≡ Some x → (y : List ℕ) × (s'.left ≡ Some y) × P x y
 
+-- a byte past the token at hand is held exactly where it was needed to close it
+abbrev pub Holds : State → Type 0
+Holds s = is_some s.lexer.held ≡ not (closes_itself s.ahead)
+
 -- `Bytes` is answered only where all that may be taken was taken
 abbrev pub TookAll : {T : Type 0} → Result T ReadFault → Lexer → Type 0
 TookAll (Err fault.Bytes) lexer = lexer.taken ≡ lexer.most
@@ -148,6 +153,7 @@ pub record Moves {T : Type 0} (result : Result T ReadFault) (s s' : State) : Typ
   pub since : s'.lexer.since + s.lexer.taken ≡ s.lexer.since + s'.lexer.taken
   pub later : s.lexer.taken ≤ s'.lexer.taken
   pub used : OnOk result (s.lexer.taken + held_count s'.lexer.held ≤ s'.lexer.taken + held_count s.lexer.held)
+  pub holds : Holds s → OnOk result (Holds s')
   pub bytes : TookAll result s'.lexer
   pub reads : CountsFaults result s.reads s'.reads
   pub reads_later : s.reads ≤ s'.reads

@@ -6,7 +6,7 @@ use Rattle.hoa_reader.specs.Expecting.{ClosingParen}
 use Rattle.hoa_reader.proofs.parse.tokens.closing_paren.Goals as goal
 
 pub returns-in-RightParen : goal.returns-in-RightParen
-returns-in-RightParen g c = record { reads = token_read ClosingParen token.RightParen c.advance.result _ _ c.in-RightParen.is refl refl c.advance.ensures }
+returns-in-RightParen g c = record { reads = token_read ClosingParen token.RightParen _ c.advance.result _ _ c.in-RightParen.is refl refl (λ v a b h. h) c.advance.ensures }
 
 pub returns-in_default : goal.returns-in_default
 returns-in_default g c = record { reads = token_refused ClosingParen [] [] _ _ _ c.requires.unspent (no_closing_paren _ c.in_default.not-RightParen) c.refused.ensures }

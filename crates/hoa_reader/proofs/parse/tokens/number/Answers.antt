@@ -10,8 +10,8 @@ returns-in_default g c = record { reads = token_refused Number [] [] _ _ _ c.req
 
 pub returns-in-Ok : goal.returns-in-Ok
 returns-in-Ok g c = record {
-  reads = token_taken Number (token.Int c.in-Int.number) _ _ _ _ _ c.in-Int.is refl refl (λ a b h. h) c.in-Ok.ensures;
+  reads = token_taken Number (token.Int c.in-Int.number) _ _ _ _ _ _ _ _ _ _ c.in-Int.is refl refl (λ a b h. h) c.in-Ok.ensures;
 }
 
 pub returns-in-Err : goal.returns-in-Err
-returns-in-Err g c = record { reads = token_last Number (token.Int c.in-Int.number) _ _ _ _ c.in-Int.is refl refl c.in-Err.ensures }
+returns-in-Err g c = record { reads = token_last Number (token.Int c.in-Int.number) _ _ _ _ _ _ _ _ _ c.in-Int.is refl refl c.in-Err.ensures }
