@@ -64,8 +64,18 @@ advance_fails f g s s' same answers most taken since later bytes reads reads_lat
     subst (λ (h : ReadFault). Advances {T = Unit {0}} (Err h) s s') (sym same)
     (record {
       moves = record {
-        spent = tt; most = most; taken = taken; since = since; later = later; used = tt; holds = λ h. tt; bytes = took_all f s' bytes;
-        reads = counts_read f s.reads s'.reads reads; reads_later = reads_later; opens = opens; texts = texts;
+        spent = tt;
+        most = most;
+        taken = taken;
+        since = since;
+        later = later;
+        used = tt;
+        holds = λ h. tt;
+        bytes = took_all f s' bytes;
+        reads = counts_read f s.reads s'.reads reads;
+        reads_later = reads_later;
+        opens = opens;
+        texts = texts;
       };
       progress = tt;
       text = λ x e.

@@ -17,14 +17,25 @@ refuses_then p q a m b one two = record { target = two.target; goes = goes_then 
 
 deep_then : (p q : List Part) (a m : Place) → Goes p a q m → TooDeep q m → TooDeep p a
 deep_then p q a m one two = record {
-  target = two.target; b = two.b; goes = goes_then p q two.target a m two.b one two.goes; refused = two.refused;
-  most = two.most; more = two.more; left = two.left; taken = two.taken;
+  target = two.target;
+  b = two.b;
+  goes = goes_then p q two.target a m two.b one two.goes;
+  refused = two.refused;
+  most = two.most;
+  more = two.more;
+  left = two.left;
+  taken = two.taken;
 }
 
 unread_then : (p q : List Part) (a m : Place) (P : ℕ → List ℕ → Type 0) → Goes p a q m → Unread q m P → Unread p a P
 unread_then p q a m P one two = record {
-  target = two.target; b = two.b; goes = goes_then p q two.target a m two.b one two.goes;
-  left = two.left; taken = two.taken; unended = two.unended; bytes = two.bytes;
+  target = two.target;
+  b = two.b;
+  goes = goes_then p q two.target a m two.b one two.goes;
+  left = two.left;
+  taken = two.taken;
+  unended = two.unended;
+  bytes = two.bytes;
 }
 
 -- what was read before does not change why the rest could not be read
@@ -46,24 +57,32 @@ some_more left more others = ap (λ (ps : List Part). Some ps) (sym (append_asso
 
 refuses_more : (p more : List Part) (a b : Place) → Refuses p a b → Refuses (p ++ more) a b
 refuses_more p more a b one = record {
-  target = one.target ++ more; goes = goes_more p one.target more a b one.goes;
+  target = one.target ++ more;
+  goes = goes_more p one.target more a b one.goes;
   refused = λ most others. behind_more most one.target more others b.token ∙ one.refused most (more ++ others);
 }
 
 deep_more : (p more : List Part) (a : Place) → TooDeep p a → TooDeep (p ++ more) a
 deep_more p more a one = record {
-  target = one.target ++ more; b = one.b; goes = goes_more p one.target more a one.b one.goes;
+  target = one.target ++ more;
+  b = one.b;
+  goes = goes_more p one.target more a one.b one.goes;
   refused = λ others. behind_more most_depth one.target more others one.b.token ∙ one.refused (more ++ others);
-  most = one.most; more = one.more; left = one.left ++ more;
+  most = one.most;
+  more = one.more;
+  left = one.left ++ more;
   taken = λ others. behind_more one.most one.target more others one.b.token ∙ one.taken (more ++ others) ∙ some_more one.left more others;
 }
 
 unread_more : (p more : List Part) (a : Place) (P : ℕ → List ℕ → Type 0) → Unread p a P → Unread (p ++ more) a P
 unread_more p more a P one = record {
-  target = one.target ++ more; b = one.b; goes = goes_more p one.target more a one.b one.goes;
+  target = one.target ++ more;
+  b = one.b;
+  goes = goes_more p one.target more a one.b one.goes;
   left = one.left ++ more;
   taken = λ others. behind_more most_depth one.target more others one.b.token ∙ one.taken (more ++ others) ∙ some_more one.left more others;
-  unended = one.unended; bytes = one.bytes;
+  unended = one.unended;
+  bytes = one.bytes;
 }
 
 -- nor does what is expected behind it
@@ -80,10 +99,13 @@ fails_more fault.Memory p more a new h = tt
 -- there is no token behind one that the first part takes
 pub unread_behind : (part : Part) (parts others : List Part) (a : Place) (P : ℕ → List ℕ → Type 0) → move part a.token ≡ Takes parts → nat_le (open_at parts) most_depth ≡ true → is_end a.token ≡ false → P a.used a.rest → Unread (part ∷ others) a P
 unread_behind part parts others a P takes opens unended bytes = record {
-  target = part ∷ others; b = a; goes = goes_nowhere (part ∷ others) a;
+  target = part ∷ others;
+  b = a;
+  goes = goes_nowhere (part ∷ others) a;
   left = parts ++ others;
   taken = λ more. takes_behind most_depth part parts (others ++ more) a.token takes opens ∙ some_more parts others more;
-  unended = unended; bytes = bytes;
+  unended = unended;
+  bytes = bytes;
 }
 
 -- the lexer's fault is the reader's
@@ -98,7 +120,8 @@ fails_behind fault.Memory part parts others a new takes opens unended h = tt
 
 refused_here : (parts : List Part) (a : Place) (z : Token) → a.token ≡ z → ((most : ℕ) (others : List Part) → behind most (parts ++ others) z ≡ None) → Refuses parts a a
 refused_here parts a z is refused = record {
-  target = parts; goes = goes_nowhere parts a;
+  target = parts;
+  goes = goes_nowhere parts a;
   refused = λ most others. ap (λ (t : Token). behind most (parts ++ others) t) is ∙ refused most others;
 }
 

@@ -63,7 +63,11 @@ goes_on part parts others a b takes opens unended follows = record {
 -- the token at hand shows that the first part is over
 pub goes_past : (part : Part) (others : List Part) (a : Place) → move part a.token ≡ Passes → Goes (part ∷ others) a others a
 goes_past part others a passes = record {
-  tokens = []; passed = refl; left = part ∷ others; leads = record { runs = λ more. refl }; unended = tt;
+  tokens = [];
+  passed = refl;
+  left = part ∷ others;
+  leads = record { runs = λ more. refl };
+  unended = tt;
   over = λ most more. passes_behind most part (others ++ more) a.token passes;
 }
 
@@ -122,7 +126,9 @@ leads_more p left more u leads = record {
 
 pub goes_more : (p q more : List Part) (a b : Place) → Goes p a q b → Goes (p ++ more) a (q ++ more) b
 goes_more p q more a b one = record {
-  tokens = one.tokens; passed = one.passed; left = one.left ++ more;
+  tokens = one.tokens;
+  passed = one.passed;
+  left = one.left ++ more;
   leads = leads_more p one.left more one.tokens one.leads;
   unended = one.unended;
   over = λ most others.

@@ -43,16 +43,35 @@ moves_then v r s m s' one two = record {
 -- nothing was read
 pub moves_nowhere : {T : Type 0} (v : T) (s : State) → s.lexer.spent ≡ false → Moves (Ok v) s s
 moves_nowhere v s unspent = record {
-  spent = unspent; most = refl;
+  spent = unspent;
+  most = refl;
   taken = between_same s.left (λ x y. s.lexer.taken + length y ≡ s.lexer.taken + length x) (λ x. refl);
-  since = omega arith; later = omega arith; used = omega arith; holds = λ h. h; bytes = tt; reads = refl; reads_later = omega arith; opens = refl; texts = refl;
+  since = omega arith;
+  later = omega arith;
+  used = omega arith;
+  holds = λ h. h;
+  bytes = tt;
+  reads = refl;
+  reads_later = omega arith;
+  opens = refl;
+  texts = refl;
 }
 
 -- what was answered was another value, or a fault of no call
 pub moves_as : {S T : Type 0} (v : S) (w : T) (s s' : State) → Moves (Ok v) s s' → Moves (Ok w) s s'
 moves_as v w s s' one = record {
-  spent = one.spent; most = one.most; taken = one.taken; since = one.since; later = one.later; used = one.used; holds = one.holds; bytes = tt;
-  reads = one.reads; reads_later = one.reads_later; opens = one.opens; texts = one.texts;
+  spent = one.spent;
+  most = one.most;
+  taken = one.taken;
+  since = one.since;
+  later = one.later;
+  used = one.used;
+  holds = one.holds;
+  bytes = tt;
+  reads = one.reads;
+  reads_later = one.reads_later;
+  opens = one.opens;
+  texts = one.texts;
 }
 
 -- these faults come without a call that failed
@@ -63,8 +82,18 @@ IsOwn _ = Unit {0}
 
 moves_fault_of : {S T : Type 0} (v : S) (f : ReadFault) (s s' : State) → TookAll {T = T} (Err f) s'.lexer → CountsFaults {T = T} (Err f) s.reads s'.reads → Moves (Ok v) s s' → Moves {T = T} (Err f) s s'
 moves_fault_of v f s s' bytes reads one = record {
-  spent = tt; most = one.most; taken = one.taken; since = one.since; later = one.later; used = tt; holds = λ h. tt; bytes = bytes;
-  reads = reads; reads_later = one.reads_later; opens = one.opens; texts = one.texts;
+  spent = tt;
+  most = one.most;
+  taken = one.taken;
+  since = one.since;
+  later = one.later;
+  used = tt;
+  holds = λ h. tt;
+  bytes = bytes;
+  reads = reads;
+  reads_later = one.reads_later;
+  opens = one.opens;
+  texts = one.texts;
 }
 
 pub moves_fault : {S T : Type 0} (v : S) (f : ReadFault) (s s' : State) → IsOwn f → Moves (Ok v) s s' → Moves {T = T} (Err f) s s'
@@ -97,8 +126,18 @@ took_err S T fault.Memory lexer h = h
 -- the same fault, where another value was asked for
 pub moves_err : {S T : Type 0} (f : ReadFault) (s s' : State) → Moves {T = S} (Err f) s s' → Moves {T = T} (Err f) s s'
 moves_err {S = S} {T = T} f s s' one = record {
-  spent = tt; most = one.most; taken = one.taken; since = one.since; later = one.later; used = tt; holds = λ h. tt; bytes = took_err S T f s'.lexer one.bytes;
-  reads = counts_err S T f s.reads s'.reads one.reads; reads_later = one.reads_later; opens = one.opens; texts = one.texts;
+  spent = tt;
+  most = one.most;
+  taken = one.taken;
+  since = one.since;
+  later = one.later;
+  used = tt;
+  holds = λ h. tt;
+  bytes = took_err S T f s'.lexer one.bytes;
+  reads = counts_err S T f s.reads s'.reads one.reads;
+  reads_later = one.reads_later;
+  opens = one.opens;
+  texts = one.texts;
 }
 
 pub tells_then : (s m s' : State) (P Q R : List ℕ → List ℕ → Type 0) → ((x y z : List ℕ) → P x y → Q y z → R x z) → Tells s m P → Tells m s' Q → Tells s s' R

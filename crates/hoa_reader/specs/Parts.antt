@@ -1,20 +1,25 @@
 -- What each inner function of the reader reads, in the words of the grammar.
-use Rattle.std.specs.Prelude.{◌≡◌, ℕ, List, [], ◌∷◌, ◌++◌, map, flat_map, Option, Some, None}
+use Rattle.std.specs.Prelude.{◌≡◌, ℕ, Bool, if◌then◌else◌, codes, List, [], ◌∷◌, ◌++◌, map, flat_map, Option, Some, None}
 use Rattle.std.specs.List.{AllByRecursion}
 use Rattle.std.specs.Option.{option_map}
-use Rattle.aut_base.specs.Formula.{formula_tree}
+use Rattle.aut_base.specs.Formula.{FormulaTree, formula_tree}
 use Rattle.aut_base.specs.declared.formula.Formula.{Formula}
 use Rattle.hoa_lexer.specs.declared.token.Token.{Token}
 use Rattle.hoa_lexer.specs.declared.token.Token.TheVariants as token
 use Rattle.hoa_reader.specs.Expecting.{Part, label_parts, condition_parts, conj_parts, Number, Strings, AliasName, Word, AccValues, Quoted, MaybeQuoted, Words, Values}
-use Rattle.hoa_reader.specs.Grammar.{AccValue, AutomatonPhrase, AutomatonWithin, Condition, ConditionWithin, Conj, EdgePhrase, FandsWithin, Fands, Fatom, FatomWithin, Fatoms, FatomsWithin, ItemPhrase, ItemWithin, Label, LabelWithin, Lands, LandsWithin, Lnot, LnotWithin, Lnots, LnotsWithin, OptionalWithin, StatePhrase, StateWithin, Value, acc_value_token, all_of, and_number, automaton_meaning, automaton_tokens, condition_meaning, condition_tokens, conj_meaning, conj_tokens, conjunction, disjunction, edge_meaning, edge_tokens, fands_meaning, fands_tokens, fatom_meaning, fatom_tokens, fatoms_meaning, fatoms_tokens, item_meaning, item_tokens, label_meaning, label_tokens, lands_meaning, lands_tokens, lnot_meaning, lnot_tokens, lnots_meaning, lnots_tokens, marks_meaning, one_of, optional_label, optional_marks, optional_text, set_tokens, state_meaning, state_tokens, value_token}
+use Rattle.hoa_reader.specs.Grammar.{AccValue, AutomatonPhrase, AutomatonWithin, Condition, ConditionWithin, Conj, EdgePhrase, FandsWithin, Fands, Fatom, FatomWithin, Fatoms, FatomsWithin, ItemPhrase, ItemWithin, Label, LabelWithin, Lands, LandsWithin, Lnot, LnotWithin, Lnots, LnotsWithin, OptionalWithin, StatePhrase, StateWithin, Value, acc_value_token, all_of, and_number, automaton_meaning, automaton_tokens, bang_tokens, header_of, condition_meaning, condition_tokens, conj_meaning, conj_tokens, conjunction, disjunction, edge_meaning, edge_tokens, fands_meaning, fands_tokens, fatom_meaning, fatom_tokens, fatoms_meaning, fatoms_tokens, item_meaning, item_tokens, label_meaning, label_tokens, lands_meaning, lands_tokens, lnot_meaning, lnot_tokens, lnots_meaning, lnots_tokens, marks_meaning, one_of, optional_label, optional_marks, optional_text, set_tokens, state_meaning, state_tokens, value_token}
 use Rattle.hoa_reader.specs.Parsing.{IsWritten, Passed, Place}
 use Rattle.hoa_reader.specs.Raw as raw
-use Rattle.hoa_reader.specs.Raw.{RawTree, WrittenEdge, WrittenItem, WrittenState, raw_tree, written_edge, written_item, written_state}
+use Rattle.hoa_reader.specs.Raw.{RawTree, WrittenEdge, WrittenItem, WrittenState, raw_tree, written, written_edge, written_item, written_state}
 use Rattle.hoa_reader.specs.Standing.{most_depth}
 use Rattle.hoa_reader.specs.declared.header.Header.{Header}
 use Rattle.hoa_reader.specs.declared.header.Header.TheVariants as header
+use Rattle.hoa_reader.specs.Validity.{same_text}
+use Rattle.hoa_reader.specs.declared.parse.condition.SetAt.{SetAt}
+use Rattle.hoa_reader.specs.declared.parse.condition.Sign.{Sign}
+use Rattle.hoa_reader.specs.declared.parse.condition.Sign.TheVariants as sign
 use Rattle.hoa_reader.specs.declared.raw.Item.{Item}
+use Rattle.hoa_reader.specs.declared.raw.Raw.{Raw}
 use Rattle.hoa_reader.specs.declared.raw.RawEdge.{RawEdge}
 use Rattle.hoa_reader.specs.declared.raw.RawLabel.{RawLabel}
 use Rattle.hoa_reader.specs.declared.raw.RawState.{RawState}
@@ -127,3 +132,92 @@ IsOrFand depth l = IsWritten (FandWithin depth) (λ p. token.Bar ∷ fand_tokens
 
 abbrev pub IsCondition : ℕ → Formula → Place → Place → Type 0
 IsCondition depth l = IsWritten (ConditionWithin most_depth depth) condition_tokens condition_meaning (formula_tree l)
+
+-- ("&" fatom)* and ("|" fand)* behind a first part
+abbrev pub IsAndFatoms : ℕ → FormulaTree → Formula → Place → Place → Type 0
+IsAndFatoms depth first l = IsWritten (FatomsWithin most_depth depth) fatoms_tokens (λ fs. all_of first (fatoms_meaning fs)) (formula_tree l)
+
+abbrev pub IsOrFands : ℕ → FormulaTree → Formula → Place → Place → Type 0
+IsOrFands depth first l = IsWritten (FandsWithin most_depth depth) fands_tokens (λ ls. one_of first (fands_meaning ls)) (formula_tree l)
+
+-- what a word says in a condition, if anything
+abbrev pub sign_of : List ℕ → Option Sign
+sign_of word =
+    if same_text word (codes "t") then Some sign.True else if same_text word (codes "f") then Some sign.False else
+    if same_text word (codes "Inf") then Some sign.Inf else if same_text word (codes "Fin") then Some sign.Fin else None
+
+abbrev pub IsSet : SetAt → Place → Place → Type 0
+IsSet set a b = Passed a (set_tokens set.number set.neg) b
+
+abbrev pub IsMaybeBang : Bool → Place → Place → Type 0
+IsMaybeBang neg a b = Passed a (bang_tokens neg) b
+
+-- an item, and the items of a header
+abbrev pub IsItem : Item → Place → Place → Type 0
+IsItem item = IsWritten (ItemWithin most_depth) item_tokens item_meaning (written_item item)
+
+abbrev pub AreItems : List Item → Place → Place → Type 0
+AreItems items = IsWritten (AllByRecursion (ItemWithin most_depth)) (flat_map item_tokens) (map item_meaning) (map written_item items)
+
+-- what is expected behind the name of a header
+abbrev pub parts_of : Header → List Part
+parts_of header.States = Number ∷ []
+parts_of header.Start = conj_parts
+parts_of header.Ap = Number ∷ Strings ∷ []
+parts_of header.Alias = AliasName ∷ label_parts 0
+parts_of header.Acceptance = Number ∷ condition_parts 0
+parts_of header.AccName = Word ∷ AccValues ∷ []
+parts_of header.Tool = Quoted ∷ MaybeQuoted ∷ []
+parts_of header.Name = Quoted ∷ []
+parts_of header.Properties = Words ∷ []
+parts_of header.Other = Values ∷ []
+parts_of header.Opening = Values ∷ []
+parts_of header.State = Values ∷ []
+
+-- with this name before them the tokens are an item
+pub record IsItemWith (name : List ℕ) (tokens : List Token) (item : WrittenItem) : Type 0 where
+  pub phrase : ItemPhrase
+  pub within : ItemWithin most_depth phrase
+  pub spelled : token.HeaderName name ∷ tokens ≡ item_tokens phrase
+  pub means : item ≡ item_meaning phrase
+
+-- The tokens behind the name of a header, and what the item means.
+pub record ItemRest (header : Header) (name : List ℕ) (item : WrittenItem) (a b : Place) : Type 0 where
+  pub tokens : List Token
+  pub passed : Passed a tokens b
+  pub is_item : header_of name ≡ header → IsItemWith name tokens item
+
+abbrev pub IsItemOf : Header → List ℕ → Item → Place → Place → Type 0
+IsItemOf header name item = ItemRest header name (written_item item)
+
+-- the same, of a header whose name is known by what it says
+abbrev pub IsItemWritten : Header → Item → Place → Place → Type 0
+IsItemWritten header item a b = (name : List ℕ) → ItemRest header name (written_item item) a b
+
+-- a label in brackets, or none
+abbrev pub IsMaybeLabel : Option RawLabel → Place → Place → Type 0
+IsMaybeLabel label = IsWritten (OptionalWithin most_depth) optional_label (option_map label_meaning) (option_map raw_tree label)
+
+abbrev pub IsEdge : RawEdge → Place → Place → Type 0
+IsEdge edge = IsWritten (λ e. OptionalWithin most_depth e.label) edge_tokens edge_meaning (written_edge edge)
+
+abbrev pub AreEdges : List RawEdge → Place → Place → Type 0
+AreEdges edges = IsWritten (AllByRecursion (λ e. OptionalWithin most_depth e.label)) (flat_map edge_tokens) (map edge_meaning) (map written_edge edges)
+
+abbrev pub IsState : RawState → Place → Place → Type 0
+IsState state = IsWritten (StateWithin most_depth) state_tokens state_meaning (written_state state)
+
+-- the states of a body, behind which `--END--` is at hand
+pub record AreStates (states : List RawState) (a b : Place) : Type 0 where
+  pub written : IsWritten (AllByRecursion (StateWithin most_depth)) (flat_map state_tokens) (map state_meaning) (map written_state states) a b
+  pub ends : b.token ≡ token.End
+
+-- the tokens of an automaton before its `--END--`
+abbrev pub open_tokens : AutomatonPhrase → List Token
+open_tokens a =
+    token.HeaderName (codes "HOA") ∷ token.Identifier a.version ∷ (flat_map item_tokens a.items ++ (token.Body ∷ flat_map state_tokens a.states))
+
+-- an automaton, whose `--END--` is at hand
+pub record IsAutomaton (automaton : Raw) (a b : Place) : Type 0 where
+  pub is_written : IsWritten (AutomatonWithin most_depth) open_tokens automaton_meaning (written automaton) a b
+  pub ends : b.token ≡ token.End

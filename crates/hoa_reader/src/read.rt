@@ -4,6 +4,7 @@ ghost use Rattle.std.specs.Prelude.{◌≡◌, ◌+◌, ◌-◌, ◌≤◌, ◌<
 ghost use Rattle.hoa_lexer.specs.Reading.{Between, held_count, unread};
 ghost use Rattle.hoa_reader.specs.Reads.{Answers, CountsFaults};
 
+use crate::parse::automaton;
 use crate::{Raw, ReadFault};
 use aut_io::Inputs;
 use hoa_lexer::Lexer;
@@ -40,5 +41,13 @@ pub fn read_raw<I: Inputs>(
     ensures opens { I.open_faults inputs.new ≡ I.open_faults inputs.old }
     ensures texts { I.texts inputs.new ≡ I.texts inputs.old }
 {
-    Err(ReadFault::Memory)
+    let mut ahead = match lexer.next(alloc, inputs) {
+        Ok(Some(token)) => token,
+        Ok(None) => return Ok(None),
+        Err(fault) => return Err(ReadFault::from(fault)),
+    };
+    match automaton(alloc, lexer, inputs, &mut ahead) {
+        Ok(raw) => Ok(Some(raw)),
+        Err(fault) => Err(fault),
+    }
 }

@@ -13,7 +13,12 @@ use hoa_lexer::{Lexer, Token};
 use std::alloc::Global;
 
 /// Reads the token behind the one at hand, which is taken.
-pub(super) fn advance<I: Inputs>(alloc: Global, lexer: &mut Lexer, inputs: &mut I, ahead: &mut Token) -> Result<(), ReadFault>
+pub(super) fn advance<I: Inputs>(
+    alloc: Global,
+    lexer: &mut Lexer,
+    inputs: &mut I,
+    ahead: &mut Token,
+) -> Result<(), ReadFault>
     requires unspent { lexer.old.spent ≡ false }
     ensures { Advances result
         (state lexer.old ahead.old (I.left inputs.old) (I.read_faults inputs.old) (I.open_faults inputs.old) (I.texts inputs.old))
@@ -40,7 +45,12 @@ pub(super) fn refused(ahead: &Token, lexer: &Lexer) -> ReadFault
 }
 
 /// INT
-pub(super) fn number<I: Inputs>(alloc: Global, lexer: &mut Lexer, inputs: &mut I, ahead: &mut Token) -> Result<u32, ReadFault>
+pub(super) fn number<I: Inputs>(
+    alloc: Global,
+    lexer: &mut Lexer,
+    inputs: &mut I,
+    ahead: &mut Token,
+) -> Result<u32, ReadFault>
     requires unspent { lexer.old.spent ≡ false }
     ensures reads { Reads (part.Number ∷ []) [] IsNumber result
         (state lexer.old ahead.old (I.left inputs.old) (I.read_faults inputs.old) (I.open_faults inputs.old) (I.texts inputs.old))
@@ -57,7 +67,12 @@ pub(super) fn number<I: Inputs>(alloc: Global, lexer: &mut Lexer, inputs: &mut I
 }
 
 /// STRING
-pub(super) fn quoted<I: Inputs>(alloc: Global, lexer: &mut Lexer, inputs: &mut I, ahead: &mut Token) -> Result<Text, ReadFault>
+pub(super) fn quoted<I: Inputs>(
+    alloc: Global,
+    lexer: &mut Lexer,
+    inputs: &mut I,
+    ahead: &mut Token,
+) -> Result<Text, ReadFault>
     requires unspent { lexer.old.spent ≡ false }
     ensures reads { Reads (part.Quoted ∷ []) [] IsQuoted result
         (state lexer.old ahead.old (I.left inputs.old) (I.read_faults inputs.old) (I.open_faults inputs.old) (I.texts inputs.old))
@@ -74,7 +89,12 @@ pub(super) fn quoted<I: Inputs>(alloc: Global, lexer: &mut Lexer, inputs: &mut I
 }
 
 /// STRING?
-pub(super) fn maybe_quoted<I: Inputs>(alloc: Global, lexer: &mut Lexer, inputs: &mut I, ahead: &mut Token) -> Result<(), ReadFault>
+pub(super) fn maybe_quoted<I: Inputs>(
+    alloc: Global,
+    lexer: &mut Lexer,
+    inputs: &mut I,
+    ahead: &mut Token,
+) -> Result<(), ReadFault>
     requires unspent { lexer.old.spent ≡ false }
     ensures reads { Reads (part.MaybeQuoted ∷ []) [] IsOptionalText result
         (state lexer.old ahead.old (I.left inputs.old) (I.read_faults inputs.old) (I.open_faults inputs.old) (I.texts inputs.old))
@@ -87,7 +107,12 @@ pub(super) fn maybe_quoted<I: Inputs>(alloc: Global, lexer: &mut Lexer, inputs: 
 }
 
 /// IDENTIFIER
-pub(super) fn word<I: Inputs>(alloc: Global, lexer: &mut Lexer, inputs: &mut I, ahead: &mut Token) -> Result<Text, ReadFault>
+pub(super) fn word<I: Inputs>(
+    alloc: Global,
+    lexer: &mut Lexer,
+    inputs: &mut I,
+    ahead: &mut Token,
+) -> Result<Text, ReadFault>
     requires unspent { lexer.old.spent ≡ false }
     ensures reads { Reads (part.Word ∷ []) [] IsWord result
         (state lexer.old ahead.old (I.left inputs.old) (I.read_faults inputs.old) (I.open_faults inputs.old) (I.texts inputs.old))
@@ -104,7 +129,12 @@ pub(super) fn word<I: Inputs>(alloc: Global, lexer: &mut Lexer, inputs: &mut I, 
 }
 
 /// ANAME
-pub(super) fn alias_name<I: Inputs>(alloc: Global, lexer: &mut Lexer, inputs: &mut I, ahead: &mut Token) -> Result<Text, ReadFault>
+pub(super) fn alias_name<I: Inputs>(
+    alloc: Global,
+    lexer: &mut Lexer,
+    inputs: &mut I,
+    ahead: &mut Token,
+) -> Result<Text, ReadFault>
     requires unspent { lexer.old.spent ≡ false }
     ensures reads { Reads (part.AliasName ∷ []) [] IsAliasName result
         (state lexer.old ahead.old (I.left inputs.old) (I.read_faults inputs.old) (I.open_faults inputs.old) (I.texts inputs.old))
@@ -121,7 +151,12 @@ pub(super) fn alias_name<I: Inputs>(alloc: Global, lexer: &mut Lexer, inputs: &m
 }
 
 /// "("
-pub(super) fn opening_paren<I: Inputs>(alloc: Global, lexer: &mut Lexer, inputs: &mut I, ahead: &mut Token) -> Result<(), ReadFault>
+pub(super) fn opening_paren<I: Inputs>(
+    alloc: Global,
+    lexer: &mut Lexer,
+    inputs: &mut I,
+    ahead: &mut Token,
+) -> Result<(), ReadFault>
     requires unspent { lexer.old.spent ≡ false }
     ensures reads { Reads (part.OpeningParen ∷ []) [] (IsMark Token.LeftParen) result
         (state lexer.old ahead.old (I.left inputs.old) (I.read_faults inputs.old) (I.open_faults inputs.old) (I.texts inputs.old))
@@ -134,7 +169,12 @@ pub(super) fn opening_paren<I: Inputs>(alloc: Global, lexer: &mut Lexer, inputs:
 }
 
 /// ")"
-pub(super) fn closing_paren<I: Inputs>(alloc: Global, lexer: &mut Lexer, inputs: &mut I, ahead: &mut Token) -> Result<(), ReadFault>
+pub(super) fn closing_paren<I: Inputs>(
+    alloc: Global,
+    lexer: &mut Lexer,
+    inputs: &mut I,
+    ahead: &mut Token,
+) -> Result<(), ReadFault>
     requires unspent { lexer.old.spent ≡ false }
     ensures reads { Reads (part.ClosingParen ∷ []) [] (IsMark Token.RightParen) result
         (state lexer.old ahead.old (I.left inputs.old) (I.read_faults inputs.old) (I.open_faults inputs.old) (I.texts inputs.old))
@@ -147,7 +187,12 @@ pub(super) fn closing_paren<I: Inputs>(alloc: Global, lexer: &mut Lexer, inputs:
 }
 
 /// "]"
-pub(super) fn closing_bracket<I: Inputs>(alloc: Global, lexer: &mut Lexer, inputs: &mut I, ahead: &mut Token) -> Result<(), ReadFault>
+pub(super) fn closing_bracket<I: Inputs>(
+    alloc: Global,
+    lexer: &mut Lexer,
+    inputs: &mut I,
+    ahead: &mut Token,
+) -> Result<(), ReadFault>
     requires unspent { lexer.old.spent ≡ false }
     ensures reads { Reads (part.ClosingBracket ∷ []) [] (IsMark Token.RightBracket) result
         (state lexer.old ahead.old (I.left inputs.old) (I.read_faults inputs.old) (I.open_faults inputs.old) (I.texts inputs.old))
