@@ -4,5 +4,8 @@ pub mod DescribedSteps
 pub mod DescribedWellFormed
 pub mod Distinct
 pub mod RawTrees
+pub mod SameConditions
+pub mod SameLabels
+pub mod Stops
 pub mod ValidityExamples
 pub mod ValidityLaws
