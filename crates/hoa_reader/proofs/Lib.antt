@@ -1,3 +1,4 @@
+pub mod Clear
 pub mod DescribedLaws
 pub mod DescribedStarts
 pub mod DescribedSteps
@@ -5,6 +6,7 @@ pub mod DescribedWellFormed
 pub mod Distinct
 pub mod RawTrees
 pub mod SameConditions
+pub mod SameItems
 pub mod SameLabels
 pub mod Stops
 pub mod ValidityExamples
