@@ -4,10 +4,12 @@ pub mod DescribedStarts
 pub mod DescribedSteps
 pub mod DescribedWellFormed
 pub mod Distinct
+pub mod OneRaw
 pub mod RawTrees
 pub mod SameConditions
 pub mod SameItems
 pub mod SameLabels
+pub mod SameStates
 pub mod Stops
 pub mod ValidityExamples
 pub mod ValidityLaws
