@@ -4,8 +4,10 @@ pub mod DescribedStarts
 pub mod DescribedSteps
 pub mod DescribedWellFormed
 pub mod Distinct
+pub mod NoAbort
 pub mod OneRaw
 pub mod RawTrees
+pub mod Readings
 pub mod SameConditions
 pub mod SameItems
 pub mod SameLabels

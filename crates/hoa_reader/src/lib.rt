@@ -4,10 +4,12 @@
 mod elaborate;
 mod fault;
 mod header;
+mod laws;
 mod raw;
 mod read;
 
 pub use elaborate::{ElabFault, Rule, describe};
 pub use fault::ReadFault;
+pub use laws::{one_raw, whole_goes_no_further};
 pub use raw::{Item, Items, Raw, RawEdge, RawEdges, RawLabel, RawLabels, RawState, RawStates};
 pub use read::read_raw;

@@ -1,0 +1,13 @@
+//! Laws of the definitions, which no code runs.
+
+ghost use Rattle.hoa_reader.specs.GrammarLaws.{OneRaw, WholeGoesNoFurther};
+
+/// A list of tokens spells at most one automaton.
+pub fn one_raw()
+    ensures { OneRaw }
+{}
+
+/// What spells an automaton is no beginning of a longer one.
+pub fn whole_goes_no_further()
+    ensures { WholeGoesNoFurther }
+{}
