@@ -4,8 +4,10 @@ pub mod DescribedStarts
 pub mod DescribedSteps
 pub mod DescribedWellFormed
 pub mod Distinct
+pub mod Halts
 pub mod NoAbort
 pub mod OneRaw
+pub mod OneStanding
 pub mod RawTrees
 pub mod Readings
 pub mod SameConditions
@@ -13,5 +15,6 @@ pub mod SameItems
 pub mod SameLabels
 pub mod SameStates
 pub mod Stops
+pub mod StuckPlaces
 pub mod ValidityExamples
 pub mod ValidityLaws

@@ -1,6 +1,7 @@
 //! Laws of the definitions, which no code runs.
 
 ghost use Rattle.hoa_reader.specs.GrammarLaws.{OneRaw, WholeGoesNoFurther};
+ghost use Rattle.hoa_reader.specs.Standing.{OneStanding};
 
 /// A list of tokens spells at most one automaton.
 pub fn one_raw()
@@ -10,4 +11,9 @@ pub fn one_raw()
 /// What spells an automaton is no beginning of a longer one.
 pub fn whole_goes_no_further()
     ensures { WholeGoesNoFurther }
+{}
+
+/// No more than one thing stands next in a text.
+pub fn one_standing()
+    ensures { OneStanding }
 {}
