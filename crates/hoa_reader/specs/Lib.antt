@@ -9,3 +9,4 @@ pub mod Raw
 pub mod Reads
 pub mod Standing
 pub mod Validity
+pub mod WrittenDown
