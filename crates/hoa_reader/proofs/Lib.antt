@@ -8,6 +8,7 @@ pub mod Halts
 pub mod NoAbort
 pub mod OneRaw
 pub mod OneStanding
+pub mod PlainConditions
 pub mod PlainDepths
 pub mod PlainLabels
 pub mod RawTrees
