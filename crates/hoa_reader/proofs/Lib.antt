@@ -21,3 +21,4 @@ pub mod Stops
 pub mod StuckPlaces
 pub mod ValidityExamples
 pub mod ValidityLaws
+pub mod WrittenDown

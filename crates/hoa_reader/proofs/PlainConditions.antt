@@ -222,8 +222,8 @@ chains_within m d f (and_fatom g gs) no_fand h k l = (h, k, tt)
 chains_within m d f fs (or_fand g gs ls) h k l = let first = chain_within m d f fs h k in (first.0, first.1, l)
 
 mutual
-  pub plain_within : (m d : ℕ) (l : Condition) → ConditionWithin m d l → ConditionWithin m d (plain_condition (condition_meaning l))
-  plain_within m d (condition f fs ls) h = chains_within m d f fs ls (fatom_within m d f h.0) (fatoms_within m d fs h.1) (fands_within m d ls h.2)
+  pub condition_within : (m d : ℕ) (l : Condition) → ConditionWithin m d l → ConditionWithin m d (plain_condition (condition_meaning l))
+  condition_within m d (condition f fs ls) h = chains_within m d f fs ls (fatom_within m d f h.0) (fatoms_within m d fs h.1) (fands_within m d ls h.2)
 
   fands_within : (m d : ℕ) (ls : Fands) → FandsWithin m d ls → FandsWithin m d (plain_fands (formula_trees (fands_meaning ls)))
   fands_within m d no_fand h = tt
@@ -240,4 +240,4 @@ mutual
   fatom_within m d false_condition h = tt
   fatom_within m d (infinitely set neg) h = tt
   fatom_within m d (finitely set neg) h = tt
-  fatom_within m d (condition_group l) h = grouped_within m d (condition_meaning l) h.0 (plain_within m (suc d) l h.1)
+  fatom_within m d (condition_group l) h = grouped_within m d (condition_meaning l) h.0 (condition_within m (suc d) l h.1)

@@ -1,6 +1,6 @@
 //! Laws of the definitions, which no code runs.
 
-ghost use Rattle.hoa_reader.specs.GrammarLaws.{OneRaw, WholeGoesNoFurther};
+ghost use Rattle.hoa_reader.specs.GrammarLaws.{CanBeWrittenDown, OneRaw, WholeGoesNoFurther};
 ghost use Rattle.hoa_reader.specs.Standing.{OneStanding};
 
 /// A list of tokens spells at most one automaton.
@@ -16,4 +16,9 @@ pub fn whole_goes_no_further()
 /// No more than one thing stands next in a text.
 pub fn one_standing()
     ensures { OneStanding }
+{}
+
+/// What a list of tokens spells is also spelled by what is written down from it, with no more open than the list opens.
+pub fn can_be_written_down()
+    ensures { CanBeWrittenDown }
 {}
