@@ -17,6 +17,7 @@ pub mod SameConditions
 pub mod SameItems
 pub mod SameLabels
 pub mod SameStates
+pub mod Settled
 pub mod Stops
 pub mod StuckPlaces
 pub mod ValidityExamples

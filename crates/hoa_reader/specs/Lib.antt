@@ -8,5 +8,6 @@ pub mod GrammarLaws
 pub mod Raw
 pub mod Reads
 pub mod Standing
+pub mod StandingLaws
 pub mod Validity
 pub mod WrittenDown

@@ -2,6 +2,7 @@
 
 ghost use Rattle.hoa_reader.specs.GrammarLaws.{CanBeWrittenDown, OneRaw, WholeGoesNoFurther};
 ghost use Rattle.hoa_reader.specs.Standing.{OneStanding};
+ghost use Rattle.hoa_reader.specs.StandingLaws.{BadIsHopeless, SettledStays};
 
 /// A list of tokens spells at most one automaton.
 pub fn one_raw()
@@ -21,4 +22,14 @@ pub fn one_standing()
 /// What a list of tokens spells is also spelled by what is written down from it, with no more open than the list opens.
 pub fn can_be_written_down()
     ensures { CanBeWrittenDown }
+{}
+
+/// What the bytes at hand settle stays so, however the text goes on.
+pub fn settled_stays()
+    ensures { SettledStays }
+{}
+
+/// Where the bytes at hand are bad, no text that begins with them begins with an automaton.
+pub fn bad_is_hopeless()
+    ensures { BadIsHopeless }
 {}
