@@ -4,6 +4,7 @@ pub mod DescribedStarts
 pub mod DescribedSteps
 pub mod DescribedWellFormed
 pub mod Distinct
+pub mod GrammarExamples
 pub mod Halts
 pub mod NoAbort
 pub mod OneRaw

@@ -4,6 +4,7 @@ pub mod Elaborating
 pub mod Expecting
 pub mod Faults
 pub mod Grammar
+pub mod GrammarExamples
 pub mod GrammarLaws
 pub mod Raw
 pub mod Reads

@@ -1,5 +1,6 @@
 //! Laws of the definitions, which no code runs.
 
+ghost use Rattle.hoa_reader.specs.GrammarExamples.{GrammarExamples};
 ghost use Rattle.hoa_reader.specs.GrammarLaws.{CanBeWrittenDown, OneRaw, WholeGoesNoFurther};
 ghost use Rattle.hoa_reader.specs.Standing.{OneStanding};
 ghost use Rattle.hoa_reader.specs.StandingLaws.{BadIsHopeless, SettledStays};
@@ -32,4 +33,9 @@ pub fn settled_stays()
 /// Where the bytes at hand are bad, no text that begins with them begins with an automaton.
 pub fn bad_is_hopeless()
     ensures { BadIsHopeless }
+{}
+
+/// What some lists of tokens spell.
+pub fn grammar_examples()
+    ensures { GrammarExamples }
 {}
