@@ -1,8 +1,7 @@
 -- Lists of tokens, with what they spell, and some that spell nothing.
-use Rattle.std.proofs.Common.{◌≡◌, ℕ, true, false, List, [], ◌∷◌, ◌++◌, Some, None, refl, ap, arith}
+use Rattle.std.proofs.Common.{ℕ, true, false, [], ◌∷◌, Some, None, refl, ap, arith}
 use Rattle.std.specs.Prelude.{codes}
-use Rattle.hoa_lexer.specs.declared.token.Token.{Token}
-use Rattle.hoa_lexer.specs.declared.token.Token.TheVariants.{HeaderName, Identifier, Int, Abort}
+use Rattle.hoa_lexer.specs.declared.token.Token.TheVariants.{HeaderName, Identifier, Int}
 use Rattle.hoa_reader.specs.Grammar.{AutomatonPhrase, AutomatonWithin, ItemPhrase, Spells, StatePhrase, automaton_meaning, automaton_tokens}
 use Rattle.hoa_reader.specs.Grammar.Condition.{condition}
 use Rattle.hoa_reader.specs.Grammar.Fands.{no_fand, or_fand}
@@ -40,7 +39,7 @@ three = record {
   name = Some (codes "three");
   marks = Some (1 ∷ []);
   edges = record { label = None; to = record { first = 4; others = 5 ∷ [] }; marks = Some (0 ∷ 2 ∷ []) }
-    ∷ record { label = Some (label true_label no_lnot no_land); to = record { first = 3; others = [] }; marks = None } ∷ [];
+      ∷ record { label = Some (label true_label no_lnot no_land); to = record { first = 3; others = [] }; marks = None } ∷ [];
 }
 
 spells_three : Spells 1 (with_state state_three) (automaton_meaning (one_state three))
@@ -60,11 +59,11 @@ grammar_examples = record {
       let items = ap (λ (w : Written). w.items) same in
       cc;
   in_parentheses = by_phrase 1
-    (one_item (alias_item (codes "b") (label (group (label (proposition 0) no_lnot (or_land (alias (codes "a")) no_lnot no_land))) (and_lnot true_label no_lnot) no_land)))
-    ((((omega arith, (tt, tt, (tt, tt, tt))), (tt, tt), tt), tt), tt);
+      (one_item (alias_item (codes "b") (label (group (label (proposition 0) no_lnot (or_land (alias (codes "a")) no_lnot no_land))) (and_lnot true_label no_lnot) no_land)))
+      ((((omega arith, (tt, tt, (tt, tt, tt))), (tt, tt), tt), tt), tt);
   condition = by_phrase 1
-    (one_item (acceptance_item 2 (condition (infinitely 0 false) (and_fatom (condition_group (condition (finitely 1 true) no_fatom (or_fand false_condition no_fatom no_fand))) no_fatom) no_fand)))
-    (((tt, ((omega arith, (tt, tt, (tt, tt, tt))), tt), tt), tt), tt);
+      (one_item (acceptance_item 2 (condition (infinitely 0 false) (and_fatom (condition_group (condition (finitely 1 true) no_fatom (or_fand false_condition no_fatom no_fand))) no_fatom) no_fand)))
+      (((tt, ((omega arith, (tt, tt, (tt, tt, tt))), tt), tt), tt), tt);
   start = by_phrase 0 (one_item (start_item (record { first = 0; others = 1 ∷ [] }))) ((tt, tt), tt);
   dropped = by_phrase 0 (one_item (tool_item (codes "ltl") (Some (codes "2")))) ((tt, tt), tt);
   other = by_phrase 0 (one_item (other_item (codes "controllable-AP") refl (number_value 0 ∷ []))) ((tt, tt), tt);

@@ -1,5 +1,5 @@
 -- What a reading of a text comes to: its tokens, and what stands behind them.
-use Rattle.std.proofs.Common.{◌≡◌, ◌≢◌, ℕ, ◌+◌, ◌⊎◌, List, [], ◌∷◌, ◌++◌, length, map, inl, inr, refl, sym, subst, ◌∙◌, ap}
+use Rattle.std.proofs.Common.{◌≡◌, ◌≢◌, ℕ, ◌⊎◌, List, [], ◌∷◌, ◌++◌, map, inl, inr, refl, sym, subst, ◌∙◌, ap}
 use Rattle.std.proofs.lemmas.List.{append_assoc, append-nil}
 use Rattle.hoa_lexer.specs.Blanks.{IsBlanks}
 use Rattle.hoa_lexer.specs.Text.{AfterBlanks, HasFront, IsNext, IsNoToken, Lexes}
@@ -9,7 +9,7 @@ use Rattle.hoa_lexer.proofs.Exclusive.{IsStuck, no_token_stuck, blanks_no_token,
 use Rattle.hoa_lexer.proofs.Unique.{one_next_token}
 use Rattle.hoa_reader.specs.Grammar.{AutomatonPhrase, IsViable, Spells, automaton_meaning, automaton_tokens}
 use Rattle.hoa_reader.specs.Raw.{Written}
-use Rattle.hoa_reader.specs.Standing.{EndsOpen, IsBegun, IsDead, IsMisplaced, IsNoTokenAt, SpellsNothing, Standing, Stands, most_depth}
+use Rattle.hoa_reader.specs.Standing.{EndsOpen, IsBegun, IsMisplaced, IsNoTokenAt, SpellsNothing, Standing, Stands, most_depth}
 use Rattle.hoa_reader.specs.Standing.Standing.{Blank, Whole, Deep, Bad, Aborted, Cut}
 use Rattle.hoa_reader.proofs.NoAbort.{no_abort_inside}
 use Rattle.hoa_reader.proofs.OneRaw.{whole_goes_no_further}
@@ -67,8 +67,7 @@ pub reading : (s : Standing) (start : ℕ) (text : List ℕ) → Stands s start 
 reading Blank start text h = record { placed = []; rest = text; lexes = refl; halts = (refl, h) }
 reading (Whole w r) start text h = record { placed = h.placed; rest = r; lexes = h.lexes; halts = (h.spells, refl) }
 reading Deep start text h =
-    begun_reading Deep start text h.tokens h.used h.rest h.begun
-    (
+    begun_reading Deep start text h.tokens h.used h.rest h.begun (
       part start text h.tokens h.used h.rest h.begun,
       record {
         token = h.next_token;

@@ -1,9 +1,9 @@
 -- No automaton holds `--ABORT--`.
-use Rattle.std.proofs.Common.{◌≡◌, ℕ, Bool, true, false, List, [], ◌∷◌, ◌++◌, map, flat_map, Option, Some, None, refl, sym, subst, ◌∙◌, ap}
+use Rattle.std.proofs.Common.{ℕ, Bool, true, false, List, [], ◌∷◌, ◌++◌, map, flat_map, Option, Some, None, sym, subst, ◌∙◌}
 use Rattle.std.proofs.lemmas.List.{append_assoc}
 use Rattle.hoa_lexer.specs.declared.token.Token.{Token}
-use Rattle.hoa_lexer.specs.declared.token.Token.TheVariants.{Identifier, Str, Int, RightParen, RightBrace, RightBracket, Body, End, Abort}
-use Rattle.hoa_reader.specs.Grammar.{AccValue, AutomatonPhrase, Condition, EdgePhrase, Fands, Fatom, Fatoms, IsViable, ItemPhrase, Label, Lands, Lnot, Lnots, StatePhrase, Value, acc_value_token, and_number, automaton_tokens, bang_tokens, condition_tokens, conj_tokens, edge_tokens, fands_tokens, fatom_tokens, fatoms_tokens, item_tokens, label_tokens, lands_tokens, lnot_tokens, lnots_tokens, optional_label, optional_marks, optional_text, set_tokens, state_tokens, value_token}
+use Rattle.hoa_lexer.specs.declared.token.Token.TheVariants.{Identifier, Str, Int, RightParen, RightBrace, RightBracket, End, Abort}
+use Rattle.hoa_reader.specs.Grammar.{AccValue, AutomatonPhrase, Condition, EdgePhrase, Fands, Fatom, Fatoms, IsViable, ItemPhrase, Label, Lands, Lnot, Lnots, StatePhrase, Value, acc_value_token, and_number, automaton_tokens, condition_tokens, conj_tokens, edge_tokens, fands_tokens, fatom_tokens, fatoms_tokens, item_tokens, label_tokens, lands_tokens, lnot_tokens, lnots_tokens, optional_label, optional_marks, optional_text, set_tokens, state_tokens, value_token}
 use Rattle.hoa_reader.specs.Grammar.AccValue.{acc_number, acc_word}
 use Rattle.hoa_reader.specs.Grammar.Condition.{condition}
 use Rattle.hoa_reader.specs.Grammar.Fands.{no_fand, or_fand}

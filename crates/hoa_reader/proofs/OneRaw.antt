@@ -1,5 +1,5 @@
 -- A list of tokens spells at most one automaton, and nothing goes on behind one.
-use Rattle.std.proofs.Common.{◌≡◌, ℕ, Bool, true, false, List, [], ◌∷◌, ◌++◌, map, flat_map, refl, sym, ◌∙◌, ap}
+use Rattle.std.proofs.Common.{◌≡◌, true, false, List, [], ◌∷◌, ◌++◌, map, flat_map, refl, sym, ◌∙◌, ap}
 use Rattle.std.specs.Prelude.{codes}
 use Rattle.std.proofs.lemmas.List.{append_assoc, append-nil}
 use Rattle.hoa_lexer.specs.declared.token.Token.{Token}

@@ -1,17 +1,16 @@
 -- One thing stands next in a text.
-use Rattle.std.proofs.Common.{◌≡◌, ◌≢◌, ℕ, ◌+◌, ◌⊎◌, List, [], ◌∷◌, ◌++◌, length, map, inl, inr, refl, sym, subst, ◌∙◌, ap, arith}
+use Rattle.std.proofs.Common.{◌≡◌, ◌≢◌, ℕ, ◌⊎◌, List, [], ◌∷◌, ◌++◌, length, inl, inr, refl, sym, subst, ◌∙◌, ap, arith}
 use Rattle.std.proofs.lemmas.List.{map-append}
 use Rattle.hoa_lexer.specs.Blanks.{IsBlanks}
-use Rattle.hoa_lexer.specs.Text.{AfterBlanks}
 use Rattle.hoa_lexer.specs.declared.token.Token.{Token}
 use Rattle.hoa_lexer.specs.declared.token.Token.TheVariants as token
-use Rattle.hoa_lexer.proofs.Exclusive.{IsStuck, no_token_stuck, stuck_no_blanks}
+use Rattle.hoa_lexer.proofs.Exclusive.{no_token_stuck, stuck_no_blanks}
 use Rattle.hoa_lexer.proofs.Unique.{one_next_token}
 use Rattle.hoa_reader.specs.Grammar.{IsViable, Spells}
 use Rattle.hoa_reader.specs.Raw.{Written}
 use Rattle.hoa_reader.specs.Standing.{EndsOpen, IsMisplaced, IsNoTokenAt, OneStanding, Standing, most_depth}
 use Rattle.hoa_reader.specs.Standing.Standing.{Blank, Whole, Deep, Bad, Aborted, Cut}
-use Rattle.hoa_reader.proofs.Halts.{HasNext, Halts, IsPart, IsTooDeep, Reading, shown, halts_here, halts_viable, misplaced_next, next_no_blanks, next_not_stuck, no_token_at, no_token_at_stuck, one_next, reading}
+use Rattle.hoa_reader.proofs.Halts.{HasNext, Halts, shown, halts_here, halts_viable, misplaced_next, next_no_blanks, next_not_stuck, no_token_at, no_token_at_stuck, one_next, reading}
 use Rattle.hoa_reader.proofs.NoAbort.{no_abort_inside}
 use Rattle.hoa_reader.proofs.OneRaw.{one_raw}
 use Rattle.hoa_reader.proofs.Readings.{IsFurther, compared, place}

@@ -1,7 +1,7 @@
 -- An acceptance condition is written down as a phrase of the grammar, which opens no more than any other that means the
 -- same.
-use Rattle.std.proofs.Common.{◌≡◌, ℕ, suc, ◌≤◌, List, [], ◌∷◌, ◌++◌, refl, sym, ◌∙◌, ap, arith}
-use Rattle.std.proofs.lemmas.List.{append_assoc, append-nil}
+use Rattle.std.proofs.Common.{◌≡◌, ℕ, suc, ◌≤◌, ◌++◌, refl, ◌∙◌, arith}
+use Rattle.std.proofs.lemmas.List.{append-nil}
 use Rattle.aut_base.specs.Formula as formula
 use Rattle.aut_base.specs.Formula.{FormulaTree, FormulaTrees}
 use Rattle.hoa_reader.specs.Grammar.{Condition, ConditionWithin, Fands, FandsWithin, Fatom, FatomWithin, Fatoms, FatomsWithin, all_of, condition_meaning, condition_tokens, fands_meaning, fands_tokens, fatom_meaning, fatom_tokens, fatoms_meaning, fatoms_tokens, formula_trees}

@@ -1,5 +1,5 @@
 -- A label that is written down opens no more than any other label that means the same.
-use Rattle.std.proofs.Common.{◌≡◌, ℕ, suc, ◌≤◌, List, [], ◌∷◌, arith}
+use Rattle.std.proofs.Common.{ℕ, suc, ◌≤◌, arith}
 use Rattle.hoa_reader.specs.Grammar.{Label, LabelWithin, Lands, LandsWithin, Lnot, LnotWithin, Lnots, LnotsWithin, conjunction, label_meaning, lands_meaning, lnot_meaning, lnots_meaning}
 use Rattle.hoa_reader.specs.Grammar.Label.{label}
 use Rattle.hoa_reader.specs.Grammar.Lands.{no_land, or_land}

@@ -1,9 +1,9 @@
 -- A label is written down as a phrase of the grammar, which opens no more than any other that means the same.
-use Rattle.std.proofs.Common.{◌≡◌, ℕ, zero, suc, ◌≤◌, List, [], ◌∷◌, ◌++◌, refl, sym, ◌∙◌, ap, arith}
+use Rattle.std.proofs.Common.{◌≡◌, List, [], ◌∷◌, ◌++◌, refl, ◌∙◌, ap}
 use Rattle.std.proofs.lemmas.List.{append_assoc, append-nil}
 use Rattle.hoa_lexer.specs.declared.token.Token.{Token}
 use Rattle.hoa_lexer.specs.declared.token.Token.TheVariants.{Bang, Amp, Bar, LeftParen, RightParen}
-use Rattle.hoa_reader.specs.Grammar.{Label, LabelWithin, Lands, LandsWithin, Lnot, LnotWithin, Lnots, LnotsWithin, conjunction, disjunction, label_meaning, label_tokens, lands_meaning, lands_tokens, lnot_meaning, lnot_tokens, lnots_meaning, lnots_tokens}
+use Rattle.hoa_reader.specs.Grammar.{Label, Lands, Lnot, Lnots, conjunction, label_meaning, label_tokens, lands_meaning, lands_tokens, lnot_meaning, lnot_tokens, lnots_meaning, lnots_tokens}
 use Rattle.hoa_reader.specs.Grammar.Label.{label}
 use Rattle.hoa_reader.specs.Grammar.Lands.{no_land, or_land}
 use Rattle.hoa_reader.specs.Grammar.Lnots.{no_lnot, and_lnot}

@@ -1,11 +1,10 @@
 -- The tokens of an acceptance condition have one meaning and one end.
-use Rattle.std.proofs.Common.{◌≡◌, ℕ, Bool, true, false, List, [], ◌∷◌, ◌++◌, refl, sym, ◌∙◌, ap}
+use Rattle.std.proofs.Common.{◌≡◌, ℕ, Bool, true, false, List, [], ◌∷◌, ◌++◌, refl, sym, ◌∙◌}
 use Rattle.std.specs.Prelude.{codes}
 use Rattle.std.proofs.lemmas.List.{append_assoc}
-use Rattle.aut_base.specs.Formula as formula
 use Rattle.hoa_lexer.specs.declared.token.Token.{Token}
-use Rattle.hoa_lexer.specs.declared.token.Token.TheVariants.{HeaderName, Identifier, Str, Int, Alias, Bang, Amp, Bar, LeftParen, RightParen, LeftBrace, RightBrace, LeftBracket, RightBracket, Body, End, Abort}
-use Rattle.hoa_reader.specs.Grammar.{Condition, Fands, Fatoms, Fatom, bang_tokens, set_tokens, condition_tokens, fands_tokens, fatoms_tokens, fatom_tokens, condition_meaning, fands_meaning, fatoms_meaning, fatom_meaning}
+use Rattle.hoa_lexer.specs.declared.token.Token.TheVariants.{Amp, Bar, LeftParen, RightParen}
+use Rattle.hoa_reader.specs.Grammar.{Condition, Fands, Fatoms, Fatom, set_tokens, condition_tokens, fands_tokens, fatoms_tokens, fatom_tokens, condition_meaning, fands_meaning, fatoms_meaning, fatom_meaning}
 use Rattle.hoa_reader.specs.Grammar.Condition.{condition}
 use Rattle.hoa_reader.specs.Grammar.Fands.{no_fand, or_fand}
 use Rattle.hoa_reader.specs.Grammar.Fatoms.{no_fatom, and_fatom}

@@ -1,9 +1,9 @@
 -- The tokens of an item of the header have one meaning and one end.
 use Rattle.std.proofs.Common.{◌≡◌, ℕ, Bool, true, false, List, [], ◌∷◌, ◌++◌, map, flat_map, Option, Some, None, refl, sym, ◌∙◌, ap}
 use Rattle.std.specs.Prelude.{codes}
-use Rattle.std.proofs.lemmas.List.{append_assoc, map-id}
+use Rattle.std.proofs.lemmas.List.{map-id}
 use Rattle.hoa_lexer.specs.declared.token.Token.{Token}
-use Rattle.hoa_lexer.specs.declared.token.Token.TheVariants.{HeaderName, Identifier, Str, Int, Alias, Bang, Amp, Bar, LeftParen, RightParen, LeftBrace, RightBrace, LeftBracket, RightBracket, Body, End, Abort}
+use Rattle.hoa_lexer.specs.declared.token.Token.TheVariants.{HeaderName, Identifier, Str, Int, Alias, Amp, Bar, Body}
 use Rattle.hoa_reader.specs.Raw as raw
 use Rattle.hoa_reader.specs.Grammar.{AccValue, Conj, ItemPhrase, Value, acc_value_token, and_number, condition_tokens, conj_meaning, conj_tokens, header_of, item_meaning, item_tokens, label_tokens, optional_text, value_token}
 use Rattle.hoa_reader.specs.Grammar.AccValue.{acc_number, acc_word}
@@ -14,7 +14,7 @@ use Rattle.hoa_reader.specs.declared.header.Header.TheVariants as header
 use Rattle.hoa_reader.proofs.Clear.{Begins, IsClear, map_clear, stops_less}
 use Rattle.hoa_reader.proofs.SameConditions.{same_condition}
 use Rattle.hoa_reader.proofs.SameLabels.{same_label}
-use Rattle.hoa_reader.proofs.Stops.{Stops, IsSame, is_amp, is_join, join_no_amp, stops_not, first_token, later_tokens}
+use Rattle.hoa_reader.proofs.Stops.{Stops, IsSame, is_amp, is_join, stops_not, first_token, later_tokens}
 
 abbrev pub is_header : Token → Bool
 is_header (HeaderName name) = true

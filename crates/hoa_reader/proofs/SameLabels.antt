@@ -1,11 +1,11 @@
 -- The tokens of a label have one meaning and one end.
-use Rattle.std.proofs.Common.{◌≡◌, ℕ, Bool, true, false, List, [], ◌∷◌, ◌++◌, refl, sym, ◌∙◌, ap}
+use Rattle.std.proofs.Common.{◌≡◌, List, [], ◌∷◌, ◌++◌, refl, sym, ◌∙◌, ap}
 use Rattle.std.specs.Prelude.{codes}
 use Rattle.std.proofs.lemmas.List.{append_assoc}
 use Rattle.hoa_lexer.specs.declared.token.Token.{Token}
-use Rattle.hoa_lexer.specs.declared.token.Token.TheVariants.{HeaderName, Identifier, Str, Int, Alias, Bang, Amp, Bar, LeftParen, RightParen, LeftBrace, RightBrace, LeftBracket, RightBracket, Body, End, Abort}
+use Rattle.hoa_lexer.specs.declared.token.Token.TheVariants.{Bang, Amp, Bar, LeftParen, RightParen}
 use Rattle.hoa_reader.specs.Raw as raw
-use Rattle.hoa_reader.specs.Grammar.{Label, Lands, Lnots, Lnot, label_tokens, lands_tokens, lnots_tokens, lnot_tokens, label_meaning, lands_meaning, lnots_meaning, lnot_meaning, conjunction, disjunction}
+use Rattle.hoa_reader.specs.Grammar.{Label, Lands, Lnots, Lnot, label_tokens, lands_tokens, lnots_tokens, lnot_tokens, label_meaning, lands_meaning, lnots_meaning, lnot_meaning}
 use Rattle.hoa_reader.specs.Grammar.Label.{label}
 use Rattle.hoa_reader.specs.Grammar.Lands.{no_land, or_land}
 use Rattle.hoa_reader.specs.Grammar.Lnots.{no_lnot, and_lnot}

@@ -4,10 +4,10 @@ use Rattle.std.specs.Prelude.{codes}
 use Rattle.std.specs.Option.{option_map}
 use Rattle.std.proofs.lemmas.List.{append_assoc, map-id}
 use Rattle.hoa_lexer.specs.declared.token.Token.{Token}
-use Rattle.hoa_lexer.specs.declared.token.Token.TheVariants.{HeaderName, Identifier, Str, Int, Alias, Bang, Amp, Bar, LeftParen, RightParen, LeftBrace, RightBrace, LeftBracket, RightBracket, Body, End, Abort}
-use Rattle.hoa_reader.specs.Grammar.{Conj, EdgePhrase, Label, StatePhrase, conj_tokens, edge_meaning, edge_tokens, label_meaning, label_tokens, marks_meaning, optional_label, optional_marks, optional_text, state_meaning, state_tokens}
-use Rattle.hoa_reader.proofs.Clear.{Begins, IsClear, either, flat_clear, flat_stops, map_clear, stops_append, stops_less}
-use Rattle.hoa_reader.proofs.SameItems.{is_header, is_text, same_conj, same_text_end}
+use Rattle.hoa_lexer.specs.declared.token.Token.TheVariants.{HeaderName, Str, Int, Amp, LeftBrace, RightBrace, LeftBracket, RightBracket, End}
+use Rattle.hoa_reader.specs.Grammar.{EdgePhrase, Label, StatePhrase, conj_tokens, edge_meaning, edge_tokens, label_meaning, label_tokens, marks_meaning, optional_label, optional_marks, optional_text, state_meaning, state_tokens}
+use Rattle.hoa_reader.proofs.Clear.{Begins, IsClear, either, flat_clear, flat_stops, map_clear, stops_less}
+use Rattle.hoa_reader.proofs.SameItems.{is_text, same_conj, same_text_end}
 use Rattle.hoa_reader.proofs.SameLabels.{same_label}
 use Rattle.hoa_reader.proofs.Stops.{Stops, IsSame, is_amp, stops_not, append_two, first_token, later_tokens}
 

@@ -1,5 +1,5 @@
 -- What the bytes at hand settle stays so, however the text goes on.
-use Rattle.std.proofs.Common.{◌≡◌, ◌≢◌, ℕ, zero, suc, ◌+◌, ◌-◌, ◌==◌, Bool, true, List, [], ◌∷◌, ◌++◌, length, inl, inr, refl, sym, subst, ◌∙◌, ap, arith}
+use Rattle.std.proofs.Common.{◌≡◌, ◌≢◌, ℕ, zero, suc, ◌+◌, ◌-◌, ◌==◌, Bool, true, List, [], ◌∷◌, ◌++◌, length, inl, inr, refl, subst, ◌∙◌, ap, arith}
 use Rattle.std.proofs.lemmas.List.{append_assoc, length-append}
 use Rattle.hoa_lexer.specs.Bytes.{is_digit, is_space, is_word}
 use Rattle.hoa_lexer.specs.Spelling.{Ends, StopsAt}
@@ -7,7 +7,7 @@ use Rattle.hoa_lexer.specs.Text.{Begins, HasFront, IsFront, IsNext, IsNoToken, L
 use Rattle.hoa_lexer.specs.declared.token.Token.{Token}
 use Rattle.hoa_lexer.specs.declared.token.Token.TheVariants.{HeaderName, Identifier, Str, Int, Alias}
 use Rattle.hoa_reader.specs.Raw.{Written}
-use Rattle.hoa_reader.specs.Standing.{IsAborted, IsBad, IsBegun, IsDeep, IsMisplaced, IsNoTokenAt, IsWhole, Standing, Stands}
+use Rattle.hoa_reader.specs.Standing.{IsAborted, IsBad, IsBegun, IsDeep, IsMisplaced, IsNoTokenAt, IsWhole}
 use Rattle.hoa_reader.specs.Standing.Standing.{Blank, Whole, Deep, Bad, Aborted, Cut}
 use Rattle.hoa_reader.specs.StandingLaws.{BadIsHopeless, SettledStays}
 use Rattle.hoa_reader.proofs.OneStanding.{one_standing}

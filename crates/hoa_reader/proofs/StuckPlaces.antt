@@ -1,13 +1,12 @@
 -- A text has one place where it is stuck, and at that place either no token can stand or one is open.
-use Rattle.std.proofs.Common.{◌≡◌, ◌≢◌, ℕ, ◌⊎◌, true, List, [], ◌∷◌, ◌++◌, inl, inr, refl, sym, subst, ◌∙◌, ap}
+use Rattle.std.proofs.Common.{◌≡◌, ◌≢◌, ℕ, ◌⊎◌, List, [], ◌∷◌, ◌++◌, inl, inr, refl, sym, subst, ◌∙◌, ap}
 use Rattle.std.proofs.lemmas.Bool.{cases_eq}
 use Rattle.std.proofs.lemmas.List.{append_assoc, append-nil}
 use Rattle.hoa_lexer.specs.Blanks.{IsBlanks, IsOpenComment}
 use Rattle.hoa_lexer.specs.Blanks.IsBlanks.{nothing, space, comment}
-use Rattle.hoa_lexer.specs.Bytes.{is_space}
 use Rattle.hoa_lexer.specs.Spelling.{Quotes}
 use Rattle.hoa_lexer.specs.Spelling.Quotes.{nothing as unquoted, escaped, plain}
-use Rattle.hoa_lexer.specs.Text.{AfterBlanks, Begins, HasFront, IsNoToken, IsOpenString, IsOpenToken}
+use Rattle.hoa_lexer.specs.Text.{AfterBlanks, Begins, IsNoToken, IsOpenString, IsOpenToken}
 use Rattle.hoa_lexer.specs.declared.token.Token.TheVariants.{Str}
 use Rattle.hoa_lexer.proofs.Exclusive.{IsStuck, no_token_stuck, open_comment_stuck, open_string_stuck, open_token_stuck}
 use Rattle.hoa_lexer.proofs.Fronts.{same_close, space_no_slash}
@@ -93,18 +92,18 @@ string_begins : (bytes : List ℕ) → IsOpenString bytes → Begins bytes
 string_begins bytes o = elim (quoted_both o.rest).0 [
   | inl q ↦ absurd (o.open_still q.inner q.text q.more q.split q.quotes)
   | inr q ↦ record {
-      more = q.more;
+    more = q.more;
+    front = record {
+      token = Str q.text;
+      rest = [];
       front = record {
-        token = Str q.text;
-        rest = [];
-        front = record {
-          word = 34 ∷ (q.inner ++ 34 ∷ []);
-          split = ap (λ w. w ++ q.more) o.opens ∙ ap (λ w. 34 ∷ w) q.split ∙ sym (append-nil (34 ∷ (q.inner ++ 34 ∷ [])));
-          spells = (q.inner, q.quotes, refl);
-          ends = tt;
-        };
+        word = 34 ∷ (q.inner ++ 34 ∷ []);
+        split = ap (λ w. w ++ q.more) o.opens ∙ ap (λ w. 34 ∷ w) q.split ∙ sym (append-nil (34 ∷ (q.inner ++ 34 ∷ [])));
+        spells = (q.inner, q.quotes, refl);
+        ends = tt;
       };
-    }
+    };
+  }
 ]
 
 no_open_comment : (bytes : List ℕ) → IsNoToken bytes → IsOpenComment bytes → ⊥

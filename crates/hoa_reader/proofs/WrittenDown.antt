@@ -1,11 +1,11 @@
 -- What a list of tokens spells can be written down.
-use Rattle.std.proofs.Common.{◌≡◌, ℕ, suc, ◌≤◌, List, [], ◌∷◌, ◌++◌, map, flat_map, Option, Some, None, refl, sym, subst, ◌∙◌, ap, arith}
+use Rattle.std.proofs.Common.{◌≡◌, ℕ, List, [], ◌∷◌, ◌++◌, map, flat_map, Option, Some, None, refl, sym, ◌∙◌, ap}
 use Rattle.std.specs.Prelude.{codes}
 use Rattle.std.specs.List.{AllByRecursion}
 use Rattle.std.specs.Option.{option_map}
 use Rattle.hoa_lexer.specs.declared.token.Token.{Token}
-use Rattle.hoa_lexer.specs.declared.token.Token.TheVariants.{HeaderName, Identifier, Int, Alias, LeftBracket, RightBracket, Body, End}
-use Rattle.hoa_reader.specs.Grammar.{AutomatonPhrase, AutomatonWithin, Conj, EdgePhrase, ItemPhrase, ItemWithin, Label, OptionalWithin, Spells, StatePhrase, StateWithin, automaton_meaning, automaton_tokens, condition_meaning, conj_meaning, conj_tokens, edge_meaning, edge_tokens, item_meaning, item_tokens, label_meaning, marks_meaning, optional_label, optional_marks, state_meaning, state_tokens}
+use Rattle.hoa_lexer.specs.declared.token.Token.TheVariants.{HeaderName, Int, Alias, LeftBracket, RightBracket}
+use Rattle.hoa_reader.specs.Grammar.{AutomatonPhrase, AutomatonWithin, EdgePhrase, ItemPhrase, ItemWithin, Label, OptionalWithin, StatePhrase, StateWithin, automaton_meaning, automaton_tokens, condition_meaning, edge_meaning, edge_tokens, item_meaning, item_tokens, label_meaning, marks_meaning, optional_label, optional_marks, state_meaning, state_tokens}
 use Rattle.hoa_reader.specs.Grammar.ItemPhrase.{states_item, start_item, names_item, alias_item, acceptance_item, acc_name_item, tool_item, name_item, properties_item, other_item}
 use Rattle.hoa_reader.specs.GrammarLaws.{CanBeWrittenDown}
 use Rattle.hoa_reader.specs.Raw as raw

@@ -48,13 +48,13 @@ state_three =
 -- each with the least number of `(` and `!` that may be open
 pub record GrammarExamples : Type 0 where
   pub factors_first : Spells 1 (with_item alias_a)
-    (has_item (raw.AliasOf (codes "a") (raw.Or (raw.And (raw.Prop 0) (raw.Prop 1) raw.none) (raw.Not (raw.Prop 2)) raw.none)))
+      (has_item (raw.AliasOf (codes "a") (raw.Or (raw.And (raw.Prop 0) (raw.Prop 1) raw.none) (raw.Not (raw.Prop 2)) raw.none)))
   pub not_products_first : (most : ℕ) → Spells most (with_item alias_a)
-    (has_item (raw.AliasOf (codes "a") (raw.And (raw.Prop 0) (raw.Or (raw.Prop 1) (raw.Not (raw.Prop 2)) raw.none) raw.none))) → ⊥
+      (has_item (raw.AliasOf (codes "a") (raw.And (raw.Prop 0) (raw.Or (raw.Prop 1) (raw.Not (raw.Prop 2)) raw.none) raw.none))) → ⊥
   pub in_parentheses : Spells 1 (with_item alias_b)
-    (has_item (raw.AliasOf (codes "b") (raw.And (raw.Or (raw.Prop 0) (raw.Alias (codes "a")) raw.none) raw.True raw.none)))
+      (has_item (raw.AliasOf (codes "b") (raw.And (raw.Or (raw.Prop 0) (raw.Alias (codes "a")) raw.none) raw.True raw.none)))
   pub condition : Spells 1 (with_item two_sets)
-    (has_item (raw.Acceptance 2 (formula.And (formula.Inf 0 false) (formula.Or (formula.Fin 1 true) formula.False formula.none) formula.none)))
+      (has_item (raw.Acceptance 2 (formula.And (formula.Inf 0 false) (formula.Or (formula.Fin 1 true) formula.False formula.none) formula.none)))
   -- Start: 0 & 1
   pub start : Spells 0 (with_item (HeaderName (codes "Start") ∷ Int 0 ∷ Amp ∷ Int 1 ∷ [])) (has_item (raw.Start (0 ∷ 1 ∷ [])))
   -- tool: "ltl" "2", of which nothing is kept
@@ -62,7 +62,7 @@ pub record GrammarExamples : Type 0 where
   -- controllable-AP: 0
   pub other : Spells 0 (with_item (HeaderName (codes "controllable-AP") ∷ Int 0 ∷ [])) (has_item (raw.Other (codes "controllable-AP")))
   pub state : Spells 1 (with_state state_three)
-    (has_state
+      (has_state
       (record {
         label = Some (raw.Not (raw.Prop 0));
         number = 3;

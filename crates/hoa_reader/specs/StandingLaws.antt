@@ -1,7 +1,7 @@
 -- What stands next, where a text goes on.
 use Rattle.std.specs.Prelude.{ℕ, List, ◌++◌}
 use Rattle.hoa_reader.specs.Raw.{Written}
-use Rattle.hoa_reader.specs.Standing.{IsBad, IsWhole, Standing, Stands, Blank, Whole, Deep, Bad, Aborted, Cut}
+use Rattle.hoa_reader.specs.Standing.{IsBad, IsWhole, Standing, Stands, Blank, Whole, Cut}
 
 -- the same, where more bytes follow
 abbrev pub extended : Standing → List ℕ → Standing

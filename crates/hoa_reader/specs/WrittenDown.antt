@@ -1,6 +1,6 @@
 -- One way to write an automaton down: with no more parentheses than it takes, and with no sig where there are no marks.
 -- What is dropped when an automaton is read stands as the shortest that the grammar allows.
-use Rattle.std.specs.Prelude.{ℕ, Bool, true, false, List, [], ◌∷◌, ◌++◌, map, flat_map, codes, Option, Some, None}
+use Rattle.std.specs.Prelude.{ℕ, List, [], ◌∷◌, ◌++◌, map, flat_map, codes, Option, Some, None}
 use Rattle.aut_base.specs.Formula as formula
 use Rattle.aut_base.specs.Formula.{FormulaTree, FormulaTrees}
 use Rattle.hoa_lexer.specs.declared.token.Token.{Token}
