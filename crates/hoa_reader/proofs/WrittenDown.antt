@@ -1,17 +1,20 @@
 -- What a list of tokens spells can be written down.
-use Rattle.std.proofs.Common.{◌≡◌, ℕ, List, [], ◌∷◌, ◌++◌, map, flat_map, Option, Some, None, refl, sym, ◌∙◌, ap}
+use Rattle.std.proofs.Common.{◌≡◌, ℕ, List, [], ◌∷◌, ◌++◌, map, flat_map, Option, Some, None, refl, sym, subst, ◌∙◌, ap}
 use Rattle.std.specs.Prelude.{codes}
 use Rattle.std.specs.List.{AllByRecursion}
 use Rattle.std.specs.Option.{option_map}
 use Rattle.hoa_lexer.specs.declared.token.Token.{Token}
 use Rattle.hoa_lexer.specs.declared.token.Token.TheVariants.{HeaderName, Int, Alias, LeftBracket, RightBracket}
-use Rattle.hoa_reader.specs.Grammar.{AutomatonPhrase, AutomatonWithin, EdgePhrase, ItemPhrase, ItemWithin, Label, OptionalWithin, StatePhrase, StateWithin, automaton_meaning, automaton_tokens, condition_meaning, edge_meaning, edge_tokens, item_meaning, item_tokens, label_meaning, marks_meaning, optional_label, optional_marks, state_meaning, state_tokens}
+use Rattle.hoa_reader.specs.Grammar.{AutomatonPhrase, AutomatonWithin, EdgePhrase, ItemPhrase, ItemWithin, Label, OptionalWithin, Spells, StatePhrase, StateWithin, automaton_meaning, automaton_tokens, condition_meaning, edge_meaning, edge_tokens, item_meaning, item_tokens, label_meaning, marks_meaning, optional_label, optional_marks, state_meaning, state_tokens}
 use Rattle.hoa_reader.specs.Grammar.ItemPhrase.{states_item, start_item, names_item, alias_item, acceptance_item, acc_name_item, tool_item, name_item, properties_item, other_item}
 use Rattle.hoa_reader.specs.GrammarLaws.{CanBeWrittenDown}
 use Rattle.hoa_reader.specs.Raw as raw
 use Rattle.hoa_reader.specs.Raw.{RawTree, Written}
+use Rattle.hoa_reader.specs.Standing.{most_depth}
+use Rattle.hoa_reader.specs.StandingLaws.{WrittenDownIsRead}
 use Rattle.hoa_reader.specs.WrittenDown as down
 use Rattle.hoa_reader.specs.WrittenDown.{bracketed, marks_tokens, written_conj, written_tokens}
+use Rattle.hoa_lexer.proofs.Apart.{spelled_apart_is_read}
 use Rattle.hoa_reader.proofs.PlainConditions.{plain_condition, condition_spells, condition_means, condition_within}
 use Rattle.hoa_reader.proofs.PlainDepths.{plain_within}
 use Rattle.hoa_reader.proofs.PlainLabels.{plain_label, label_spells, label_means}
@@ -174,3 +177,15 @@ can_be_written_down m ts w s = record {
   spelled = ap written_tokens s.means ∙ sym (automaton_spells s.phrase);
   means = s.means ∙ sym (automaton_means s.phrase);
 }
+
+pub written_down_is_read : WrittenDownIsRead
+written_down_is_read ts w text s apart =
+    let read = spelled_apart_is_read (written_tokens w) text apart in (
+      read.rest,
+      read.blanks,
+      record {
+        placed = read.placed;
+        lexes = read.lexes;
+        spells = subst (λ (us : List Token). Spells most_depth us w) (sym read.tokens) (can_be_written_down most_depth ts w s);
+      },
+    )

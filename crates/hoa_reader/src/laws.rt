@@ -3,7 +3,7 @@
 ghost use Rattle.hoa_reader.specs.GrammarExamples.{GrammarExamples};
 ghost use Rattle.hoa_reader.specs.GrammarLaws.{CanBeWrittenDown, OneRaw, WholeGoesNoFurther};
 ghost use Rattle.hoa_reader.specs.Standing.{OneStanding};
-ghost use Rattle.hoa_reader.specs.StandingLaws.{BadIsHopeless, SettledStays};
+ghost use Rattle.hoa_reader.specs.StandingLaws.{BadIsHopeless, SettledStays, WrittenDownIsRead};
 
 /// A list of tokens spells at most one automaton.
 pub fn one_raw()
@@ -38,4 +38,9 @@ pub fn bad_is_hopeless()
 /// What some lists of tokens spell.
 pub fn grammar_examples()
     ensures { GrammarExamples }
+{}
+
+/// An automaton that is written down, with spaces behind each token, stands whole in its text.
+pub fn written_down_is_read()
+    ensures { WrittenDownIsRead }
 {}
