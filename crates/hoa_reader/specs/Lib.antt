@@ -4,9 +4,13 @@ pub mod Elaborating
 pub mod Expecting
 pub mod Faults
 pub mod Grammar
+pub mod GrammarExamples
+pub mod GrammarLaws
 pub mod Parsing
 pub mod Parts
 pub mod Raw
 pub mod Reads
 pub mod Standing
+pub mod StandingLaws
 pub mod Validity
+pub mod WrittenDown
