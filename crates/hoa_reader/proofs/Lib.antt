@@ -1,4 +1,5 @@
 pub mod Advancing
+pub mod Atoms
 pub mod Clear
 pub mod Completing
 pub mod DeadEnds
@@ -18,6 +19,9 @@ pub mod FollowingStates
 pub mod GrammarExamples
 pub mod Halts
 pub mod HeaderNames
+pub mod Joining
+pub mod LabelChains
+pub mod LabelReads
 pub mod Leading
 pub mod Moving
 pub mod NoAbort

@@ -140,11 +140,25 @@ IsAndFatoms depth first l = IsWritten (FatomsWithin most_depth depth) fatoms_tok
 abbrev pub IsOrFands : ℕ → FormulaTree → Formula → Place → Place → Type 0
 IsOrFands depth first l = IsWritten (FandsWithin most_depth depth) fands_tokens (λ ls. one_of first (fands_meaning ls)) (formula_tree l)
 
+-- what a token says as a label of its own, if it is one
+abbrev pub truth_value : List ℕ → Option RawTree
+truth_value word = if same_text word (codes "t") then Some raw.True else if same_text word (codes "f") then Some raw.False else None
+
+abbrev pub atom_of : Token → Option RawTree
+atom_of (token.Identifier word) = truth_value word
+atom_of (token.Int place) = Some (raw.Prop place)
+atom_of (token.Alias name) = Some (raw.Alias name)
+atom_of _ = None
+
 -- what a word says in a condition, if anything
 abbrev pub sign_of : List ℕ → Option Sign
 sign_of word =
     if same_text word (codes "t") then Some sign.True else if same_text word (codes "f") then Some sign.False else
     if same_text word (codes "Inf") then Some sign.Inf else if same_text word (codes "Fin") then Some sign.Fin else None
+
+abbrev pub sign_at : Token → Option Sign
+sign_at (token.Identifier word) = sign_of word
+sign_at _ = None
 
 abbrev pub IsSet : SetAt → Place → Place → Type 0
 IsSet set a b = Passed a (set_tokens set.number set.neg) b

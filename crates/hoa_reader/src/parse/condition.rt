@@ -5,7 +5,7 @@ ghost use Rattle.hoa_lexer.specs.declared.token.Token.{Token};
 ghost use Rattle.hoa_reader.specs.Expecting as part;
 ghost use Rattle.hoa_reader.specs.Expecting.{condition_parts, set_parts};
 ghost use Rattle.hoa_reader.specs.Parsing.{Reads, Uses, state};
-ghost use Rattle.hoa_reader.specs.Parts.{IsAndFatom, IsAndFatoms, IsCondition, IsFand, IsFatom, IsMaybeBang, IsSet, sign_of, IsOrFand, IsOrFands};
+ghost use Rattle.hoa_reader.specs.Parts.{IsAndFatom, IsAndFatoms, IsCondition, IsFand, IsFatom, IsMaybeBang, IsSet, sign_at, sign_of, IsOrFand, IsOrFands};
 ghost use Rattle.aut_base.specs.Formula.{formula_tree};
 
 use super::tokens::{advance, closing_paren, number, opening_paren, refused};
@@ -249,6 +249,16 @@ pub(crate) enum Sign {
     Fin,
 }
 
+/// What the token says in a condition, if anything.
+fn sign_at(token: &Token) -> Option<Sign>
+    ensures { result ≡ sign_at token.now }
+{
+    match token {
+        Token::Identifier(word) => sign_named(word),
+        _ => None,
+    }
+}
+
 /// What the word says, if anything.
 fn sign_named(word: &Text) -> Option<Sign>
     ensures { result ≡ sign_of word.now }
@@ -280,11 +290,7 @@ fn atom<I: Inputs>(
         (state lexer.old ahead.old (I.left inputs.old) (I.read_faults inputs.old) (I.open_faults inputs.old) (I.texts inputs.old))
         (state lexer.new ahead.new (I.left inputs.new) (I.read_faults inputs.new) (I.open_faults inputs.new) (I.texts inputs.new)) }
 {
-    let sign = match ahead {
-        Token::Identifier(word) => sign_named(word),
-        _ => None,
-    };
-    let Some(sign) = sign else {
+    let Some(sign) = sign_at(ahead) else {
         return Err(refused(ahead, lexer));
     };
     match advance(alloc, lexer, inputs, ahead) {

@@ -1,17 +1,18 @@
 //! Labels of edges, states and aliases.
 
-ghost use Rattle.std.specs.Prelude.{◌≡◌, ◌≢◌, ◌≤◌, ◌∷◌, [], false};
+ghost use Rattle.std.specs.Prelude.{◌≡◌, ◌≢◌, ◌≤◌, ◌∷◌, [], false, IfOk};
+ghost use Rattle.std.specs.Option.{option_map};
 ghost use Rattle.hoa_lexer.specs.declared.token.Token.{Token};
 ghost use Rattle.hoa_reader.specs.Expecting as part;
 ghost use Rattle.hoa_reader.specs.Expecting.{label_parts};
 ghost use Rattle.hoa_reader.specs.Parsing.{Reads, Uses, state};
-ghost use Rattle.hoa_reader.specs.Parts.{IsAndLnot, IsAndLnots, IsLabel, IsLand, IsLnot, IsOrLand, IsOrLands};
+ghost use Rattle.hoa_reader.specs.Parts.{atom_of, truth_value, IsAndLnot, IsAndLnots, IsLabel, IsLand, IsLnot, IsOrLand, IsOrLands};
 ghost use Rattle.hoa_reader.specs.Raw.{raw_tree};
 
 use super::tokens::{advance, closing_paren, refused};
 use crate::header::is;
 use crate::{RawLabel, RawLabels, ReadFault};
-use aut_base::MOST_DEPTH;
+use aut_base::{MOST_DEPTH, Memory, Text};
 use aut_io::Inputs;
 use hoa_lexer::{Lexer, Token};
 use std::alloc::Global;
@@ -271,6 +272,33 @@ fn group<I: Inputs>(
     }
 }
 
+/// What the token says as a label of its own, if it is one: "t" | "f" | INT | ANAME
+#[tactic(auto, using(crate::proofs::RawTrees::raw_tree_rules))]
+fn atom_at(alloc: Global, token: &Token) -> Result<Option<RawLabel>, Memory>
+    ensures { IfOk result (λ label. option_map raw_tree label ≡ atom_of token.now) }
+{
+    match token {
+        Token::Identifier(word) => Ok(truth_value(word)),
+        Token::Int(place) => Ok(Some(RawLabel::Prop(*place))),
+        Token::Alias(name) => Ok(Some(RawLabel::Alias(name.copy(alloc)?))),
+        _ => Ok(None),
+    }
+}
+
+/// "t" | "f"
+#[tactic(auto, using(crate::proofs::RawTrees::raw_tree_rules))]
+fn truth_value(word: &Text) -> Option<RawLabel>
+    ensures { option_map raw_tree result ≡ truth_value word.now }
+{
+    if is(word, b"t") {
+        Some(RawLabel::True)
+    } else if is(word, b"f") {
+        Some(RawLabel::False)
+    } else {
+        None
+    }
+}
+
 /// "t" | "f" | INT | ANAME
 fn atom<I: Inputs>(
     alloc: Global,
@@ -286,12 +314,10 @@ fn atom<I: Inputs>(
         (state lexer.old ahead.old (I.left inputs.old) (I.read_faults inputs.old) (I.open_faults inputs.old) (I.texts inputs.old))
         (state lexer.new ahead.new (I.left inputs.new) (I.read_faults inputs.new) (I.open_faults inputs.new) (I.texts inputs.new)) }
 {
-    let label = match ahead {
-        Token::Identifier(word) if is(word, b"t") => RawLabel::True,
-        Token::Identifier(word) if is(word, b"f") => RawLabel::False,
-        Token::Int(place) => RawLabel::Prop(*place),
-        Token::Alias(name) => RawLabel::Alias(name.copy(alloc)?),
-        _ => return Err(refused(ahead, lexer)),
+    let label = match atom_at(alloc, ahead) {
+        Ok(Some(label)) => label,
+        Ok(None) => return Err(refused(ahead, lexer)),
+        Err(_) => return Err(ReadFault::Memory),
     };
     match advance(alloc, lexer, inputs, ahead) {
         Ok(()) => Ok(label),
