@@ -55,3 +55,41 @@ no_atom depth (token.Alias name) no_bang no_paren e = absurd (let no : Some (raw
 no_atom depth token.Bang no_bang no_paren e = absurd (no_bang refl)
 no_atom depth token.LeftParen no_bang no_paren e = absurd (no_paren refl)
 no_atom depth z no_bang no_paren e = refl
+
+-- the word of a sign, and what is expected behind it
+abbrev pub sign_word : Sign → List ℕ
+sign_word sign.True = codes "t"
+sign_word sign.False = codes "f"
+sign_word sign.Inf = codes "Inf"
+sign_word sign.Fin = codes "Fin"
+
+same_sign : (g h : Sign) → Some h ≡ Some g → h ≡ g
+same_sign g h e = cc
+
+word_signs : (word : List ℕ) (g : Sign) (a b c d : Bool) → same_text word (codes "t") ≡ a → same_text word (codes "f") ≡ b → same_text word (codes "Inf") ≡ c → same_text word (codes "Fin") ≡ d
+    → cond a (Some sign.True) (cond b (Some sign.False) (cond c (Some sign.Inf) (cond d (Some sign.Fin) None))) ≡ Some g → word ≡ sign_word g
+word_signs word g true b c d p q r t e = same word (codes "t") p ∙ ap sign_word (same_sign g sign.True e)
+word_signs word g false true c d p q r t e = same word (codes "f") q ∙ ap sign_word (same_sign g sign.False e)
+word_signs word g false false true d p q r t e = same word (codes "Inf") r ∙ ap sign_word (same_sign g sign.Inf e)
+word_signs word g false false false true p q r t e = same word (codes "Fin") t ∙ ap sign_word (same_sign g sign.Fin e)
+word_signs word g false false false false p q r t e = absurd (let no : None ≡ Some g = e in cc)
+
+pub sign_found : (z : Token) (g : Sign) → sign_at z ≡ Some g → z ≡ token.Identifier (sign_word g)
+sign_found (token.Identifier word) g e =
+    ap token.Identifier (word_signs word g (same_text word (codes "t")) (same_text word (codes "f")) (same_text word (codes "Inf")) (same_text word (codes "Fin")) refl refl refl refl e)
+sign_found z g e = absurd (let no : None ≡ Some g = e in cc)
+
+no_word_sign : (word : List ℕ) (a b c d : Bool) → same_text word (codes "t") ≡ a → same_text word (codes "f") ≡ b → same_text word (codes "Inf") ≡ c → same_text word (codes "Fin") ≡ d
+    → cond a (Some sign.True) (cond b (Some sign.False) (cond c (Some sign.Inf) (cond d (Some sign.Fin) None))) ≡ None
+    → cond a (Takes []) (cond b (Takes []) (cond c (Takes set_parts) (cond d (Takes set_parts) Refuses))) ≡ Refuses
+no_word_sign word true b c d p q r t e = absurd (let no : Some sign.True ≡ None = e in cc)
+no_word_sign word false true c d p q r t e = absurd (let no : Some sign.False ≡ None = e in cc)
+no_word_sign word false false true d p q r t e = absurd (let no : Some sign.Inf ≡ None = e in cc)
+no_word_sign word false false false true p q r t e = absurd (let no : Some sign.Fin ≡ None = e in cc)
+no_word_sign word false false false false p q r t e = refl
+
+pub no_sign : (depth : ℕ) (z : Token) → z ≢ token.LeftParen → sign_at z ≡ None → move (Atom depth) z ≡ Refuses
+no_sign depth (token.Identifier word) no_paren e =
+    no_word_sign word (same_text word (codes "t")) (same_text word (codes "f")) (same_text word (codes "Inf")) (same_text word (codes "Fin")) refl refl refl refl e
+no_sign depth token.LeftParen no_paren e = absurd (no_paren refl)
+no_sign depth z no_paren e = refl

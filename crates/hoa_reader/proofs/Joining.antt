@@ -74,3 +74,12 @@ memory_after {T = T} p q t r P R v result s s' same one = subst (λ (x : Result 
 pub is_memory : {T : Type 0} (result : Result T ReadFault) → IsErr result × IsErrAnd result (λ f. f ≡ fault.Memory) → result ≡ Err fault.Memory
 is_memory (Ok v) h = absurd (false≢true h.0)
 is_memory (Err f) h = ap (λ (e : ReadFault). Err e) h.1
+
+-- parts that were read whole, before more that were
+pub reads_then_as : {S T U : Type 0} (p more : List Part) (P : S → Place → Place → Type 0) (Q : T → Place → Place → Type 0) (R : U → Place → Place → Type 0) (v : S) (w : T) (x : U) (s m s' : State)
+    → ((a b c : Place) → P v a b → Q w b c → R x a c) → Reads p [] P (Ok v) s m → Reads more [] Q (Ok w) m s' → Reads (p ++ more) [] R (Ok x) s s'
+reads_then_as p more P Q R v w x s m s' f one two = reads_then (p ++ more) more [] P Q R v w x s m s' f (reads_more p [] more P v s m one) two
+
+-- parts that were read whole, before more that could not be
+pub fails_behind_parts : {S T U : Type 0} (p more t : List Part) (P : S → Place → Place → Type 0) (Q : T → Place → Place → Type 0) (R : U → Place → Place → Type 0) (v : S) (f : ReadFault) (s m s' : State) → Reads p [] P (Ok v) s m → Reads more [] Q (Err f) m s' → Reads (p ++ more) t R (Err f) s s'
+fails_behind_parts p more t P Q R v f s m s' one two = fails_after (p ++ more) more [] t P Q R v f s m s' (reads_more p [] more P v s m one) two

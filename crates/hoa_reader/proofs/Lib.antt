@@ -2,6 +2,8 @@ pub mod Advancing
 pub mod Atoms
 pub mod Clear
 pub mod Completing
+pub mod ConditionChains
+pub mod ConditionReads
 pub mod DeadEnds
 pub mod Depths
 pub mod DescribedLaws
@@ -37,6 +39,7 @@ pub mod SameConditions
 pub mod SameItems
 pub mod SameLabels
 pub mod SameStates
+pub mod Sets
 pub mod Settled
 pub mod Stops
 pub mod StuckPlaces

@@ -3,8 +3,8 @@
 use Rattle.std.proofs.Common.{◌≡◌, ℕ, suc, ◌≤◌, ◌++◌, refl, ◌∙◌, arith}
 use Rattle.std.proofs.lemmas.List.{append-nil}
 use Rattle.aut_base.specs.Formula as formula
-use Rattle.aut_base.specs.Formula.{FormulaTree, FormulaTrees}
-use Rattle.hoa_reader.specs.Grammar.{Condition, ConditionWithin, Fands, FandsWithin, Fatom, FatomWithin, Fatoms, FatomsWithin, all_of, condition_meaning, condition_tokens, fands_meaning, fands_tokens, fatom_meaning, fatom_tokens, fatoms_meaning, fatoms_tokens, formula_trees}
+use Rattle.aut_base.specs.Formula.{FormulaTree, FormulaTrees, trees}
+use Rattle.hoa_reader.specs.Grammar.{Condition, ConditionWithin, Fands, FandsWithin, Fatom, FatomWithin, Fatoms, FatomsWithin, all_of, condition_meaning, condition_tokens, fands_meaning, fands_tokens, fatom_meaning, fatom_tokens, fatoms_meaning, fatoms_tokens}
 use Rattle.hoa_reader.specs.Grammar.Condition.{condition}
 use Rattle.hoa_reader.specs.Grammar.Fands.{no_fand, or_fand}
 use Rattle.hoa_reader.specs.Grammar.Fatoms.{no_fatom, and_fatom}
@@ -125,14 +125,14 @@ mutual
       let others = fands_mean ts in
       cc
 
-  fatoms_mean : (ts : FormulaTrees) → formula_trees (fatoms_meaning (plain_fatoms ts)) ≡ ts
+  fatoms_mean : (ts : FormulaTrees) → trees (fatoms_meaning (plain_fatoms ts)) ≡ ts
   fatoms_mean formula.none = refl
   fatoms_mean (formula.more t ts) =
       let first = fatom_means t in
       let others = fatoms_mean ts in
       cc
 
-  fands_mean : (ts : FormulaTrees) → formula_trees (fands_meaning (plain_fands ts)) ≡ ts
+  fands_mean : (ts : FormulaTrees) → trees (fands_meaning (plain_fands ts)) ≡ ts
   fands_mean formula.none = refl
   fands_mean (formula.more t ts) =
       let first = fand_means t in
@@ -209,14 +209,14 @@ grouped_within m d (formula.And t u ts) k h = (k, h)
 grouped_within m d (formula.Or t u ts) k h = (k, h)
 
 -- the parts of a conjunction
-chain_within : (m d : ℕ) (f : Fatom) (fs : Fatoms) → FatomWithin m d (plain_fatom (fatom_meaning f)) → FatomsWithin m d (plain_fatoms (formula_trees (fatoms_meaning fs)))
+chain_within : (m d : ℕ) (f : Fatom) (fs : Fatoms) → FatomWithin m d (plain_fatom (fatom_meaning f)) → FatomsWithin m d (plain_fatoms (trees (fatoms_meaning fs)))
     → FandWithin m d (all_of (fatom_meaning f) (fatoms_meaning fs))
 chain_within m d f no_fatom h k = fand_within m d (fatom_meaning f) h
 chain_within m d f (and_fatom g gs) h k = (h, k)
 
 -- the parts of a disjunction
-chains_within : (m d : ℕ) (f : Fatom) (fs : Fatoms) (ls : Fands) → FatomWithin m d (plain_fatom (fatom_meaning f)) → FatomsWithin m d (plain_fatoms (formula_trees (fatoms_meaning fs)))
-    → FandsWithin m d (plain_fands (formula_trees (fands_meaning ls))) → ConditionWithin m d (plain_condition (condition_meaning (condition f fs ls)))
+chains_within : (m d : ℕ) (f : Fatom) (fs : Fatoms) (ls : Fands) → FatomWithin m d (plain_fatom (fatom_meaning f)) → FatomsWithin m d (plain_fatoms (trees (fatoms_meaning fs)))
+    → FandsWithin m d (plain_fands (trees (fands_meaning ls))) → ConditionWithin m d (plain_condition (condition_meaning (condition f fs ls)))
 chains_within m d f no_fatom no_fand h k l = alone_within m d (fatom_meaning f) h
 chains_within m d f (and_fatom g gs) no_fand h k l = (h, k, tt)
 chains_within m d f fs (or_fand g gs ls) h k l = let first = chain_within m d f fs h k in (first.0, first.1, l)
@@ -225,13 +225,13 @@ mutual
   pub condition_within : (m d : ℕ) (l : Condition) → ConditionWithin m d l → ConditionWithin m d (plain_condition (condition_meaning l))
   condition_within m d (condition f fs ls) h = chains_within m d f fs ls (fatom_within m d f h.0) (fatoms_within m d fs h.1) (fands_within m d ls h.2)
 
-  fands_within : (m d : ℕ) (ls : Fands) → FandsWithin m d ls → FandsWithin m d (plain_fands (formula_trees (fands_meaning ls)))
+  fands_within : (m d : ℕ) (ls : Fands) → FandsWithin m d ls → FandsWithin m d (plain_fands (trees (fands_meaning ls)))
   fands_within m d no_fand h = tt
   fands_within m d (or_fand f fs ls) h =
       let first = chain_within m d f fs (fatom_within m d f h.0) (fatoms_within m d fs h.1) in
       (first.0, first.1, fands_within m d ls h.2)
 
-  fatoms_within : (m d : ℕ) (fs : Fatoms) → FatomsWithin m d fs → FatomsWithin m d (plain_fatoms (formula_trees (fatoms_meaning fs)))
+  fatoms_within : (m d : ℕ) (fs : Fatoms) → FatomsWithin m d fs → FatomsWithin m d (plain_fatoms (trees (fatoms_meaning fs)))
   fatoms_within m d no_fatom h = tt
   fatoms_within m d (and_fatom f fs) h = (fatom_within m d f h.0, fatoms_within m d fs h.1)
 

@@ -4,7 +4,7 @@ use Rattle.std.specs.Prelude.{◌≡◌, ℕ, suc, ◌≤◌, Bool, true, false,
 use Rattle.std.specs.List.{AllByRecursion}
 use Rattle.std.specs.Option.{option_map}
 use Rattle.aut_base.specs.Formula as formula
-use Rattle.aut_base.specs.Formula.{FormulaTree, FormulaTrees}
+use Rattle.aut_base.specs.Formula.{FormulaTree, trees}
 use Rattle.hoa_lexer.specs.declared.token.Token.{Token}
 use Rattle.hoa_lexer.specs.declared.token.Token.TheVariants as token
 use Rattle.hoa_reader.specs.Raw as raw
@@ -175,18 +175,13 @@ abbrev mutual
   fatom_tokens (finitely set neg) = token.Identifier (codes "Fin") ∷ set_tokens set neg
   fatom_tokens (condition_group l) = token.LeftParen ∷ (condition_tokens l ++ token.RightParen ∷ [])
 
--- the list, as a tree holds it
-abbrev pub formula_trees : List FormulaTree → FormulaTrees
-formula_trees [] = formula.none
-formula_trees (t ∷ ts) = formula.more t (formula_trees ts)
-
 abbrev pub all_of : FormulaTree → List FormulaTree → FormulaTree
 all_of t [] = t
-all_of t (u ∷ us) = formula.And t u (formula_trees us)
+all_of t (u ∷ us) = formula.And t u (trees us)
 
 abbrev pub one_of : FormulaTree → List FormulaTree → FormulaTree
 one_of t [] = t
-one_of t (u ∷ us) = formula.Or t u (formula_trees us)
+one_of t (u ∷ us) = formula.Or t u (trees us)
 
 abbrev mutual
   pub condition_meaning : Condition → FormulaTree

@@ -124,11 +124,14 @@ FandWithin depth p = FatomWithin most_depth depth p.first × FatomsWithin most_d
 abbrev pub fand_tokens : FandPhrase → List Token
 fand_tokens p = fatom_tokens p.first ++ fatoms_tokens p.others
 
+abbrev pub fand_meaning : FandPhrase → FormulaTree
+fand_meaning p = all_of (fatom_meaning p.first) (fatoms_meaning p.others)
+
 abbrev pub IsFand : ℕ → Formula → Place → Place → Type 0
-IsFand depth l = IsWritten (FandWithin depth) fand_tokens (λ p. all_of (fatom_meaning p.first) (fatoms_meaning p.others)) (formula_tree l)
+IsFand depth l = IsWritten (FandWithin depth) fand_tokens fand_meaning (formula_tree l)
 
 abbrev pub IsOrFand : ℕ → Formula → Place → Place → Type 0
-IsOrFand depth l = IsWritten (FandWithin depth) (λ p. token.Bar ∷ fand_tokens p) (λ p. all_of (fatom_meaning p.first) (fatoms_meaning p.others)) (formula_tree l)
+IsOrFand depth l = IsWritten (FandWithin depth) (λ p. token.Bar ∷ fand_tokens p) fand_meaning (formula_tree l)
 
 abbrev pub IsCondition : ℕ → Formula → Place → Place → Type 0
 IsCondition depth l = IsWritten (ConditionWithin most_depth depth) condition_tokens condition_meaning (formula_tree l)

@@ -1,6 +1,7 @@
 use Rattle.hoa_reader.proofs.Advancing.{advance_fails}
 use Rattle.hoa_reader.proofs.LabelChains as chains_check
-use Rattle.hoa_reader.proofs.LabelReads as reads_check
+use Rattle.hoa_reader.proofs.ConditionReads as reads_check
+use Rattle.hoa_reader.proofs.ConditionChains as chains2_check
 use Rattle.hoa_reader.proofs.parse.tokens.advance.Goals as goal
 
 pub returns-in-Err : goal.returns-in-Err
