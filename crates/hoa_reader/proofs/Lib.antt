@@ -4,6 +4,7 @@ pub mod DescribedLaws
 pub mod DescribedStarts
 pub mod DescribedSteps
 pub mod DescribedWellFormed
+pub mod Differing
 pub mod Distinct
 pub mod Ending
 pub mod Exits

@@ -7,6 +7,8 @@ pub mod Faults
 pub mod FirstForm
 pub mod Midway
 pub mod Parsing
+pub mod Pieces
+pub mod Places
 pub mod Raw
 pub mod Reads
 pub mod Validity

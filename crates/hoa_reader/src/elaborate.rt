@@ -3,6 +3,10 @@
 ghost use Rattle.hoa_reader.specs.Elaborating.{Elaborates};
 ghost use Rattle.hoa_reader.specs.Raw.{written};
 
+mod parts;
+mod places;
+mod rules;
+
 use crate::Raw;
 use aut_base::{Description, Limit, Memory};
 use std::alloc::Global;
