@@ -1,3 +1,4 @@
+pub mod AfterAll
 pub mod Answering
 pub mod Collected
 pub mod DescribedLaws
@@ -13,6 +14,8 @@ pub mod Headers
 pub mod Loops
 pub mod OneForm
 pub mod Properties
+pub mod LabelForms
+pub mod Leaves
 pub mod RawTrees
 pub mod ValidityExamples
 pub mod ValidityLaws

@@ -3,9 +3,11 @@
 ghost use Rattle.hoa_reader.specs.Elaborating.{Elaborates};
 ghost use Rattle.hoa_reader.specs.Raw.{written};
 
+mod leaves;
 mod parts;
 mod places;
 mod rules;
+mod used;
 
 use crate::Raw;
 use aut_base::{Description, Limit, Memory};

@@ -1,4 +1,4 @@
-//! Texts with their places, found by the text.
+//! What is known of each of several texts, found by the text.
 
 ghost use Rattle.std.specs.Prelude.{◌≡◌, ℕ, List, None, Some, true, is_none, IfOk};
 ghost use Rattle.std.specs.Map.{update};
@@ -9,13 +9,13 @@ use aut_base::{Memory, Text};
 use std::alloc::Global;
 use std::collections::BTreeMap;
 
-/// Texts that differ from one another, each with its place.
+/// Texts that differ from one another, with what is known of each.
 #[derive(Drop)]
-pub(crate) struct Places<'a> {
-    places: BTreeMap<&'a [u8], usize>,
+pub(crate) struct Places<'a, V> {
+    places: BTreeMap<&'a [u8], V>,
 }
 
-impl<'a> Places<'a> {
+impl<'a, V: Copy> Places<'a, V> {
     /// No text.
     pub(crate) fn new(alloc: Global) -> Self
         ensures { (q : List ℕ) → place_in result q ≡ None }
@@ -25,18 +25,18 @@ impl<'a> Places<'a> {
         }
     }
 
-    /// The place of the text, if it is there.
-    pub(crate) fn find(&self, text: &'a Text) -> Option<usize>
+    /// What is known of the text, if it is there.
+    pub(crate) fn find(&self, text: &'a Text) -> Option<V>
         ensures { result ≡ place_in self.now text.now }
     {
         self.places.get(&text.as_bytes()).copied()
     }
 
-    /// Gives the text this place, and answers whether it is new.
-    pub(crate) fn add(&mut self, text: &'a Text, place: usize) -> Result<bool, Memory>
+    /// Says this of the text, and answers whether it is new.
+    pub(crate) fn add(&mut self, text: &'a Text, value: V) -> Result<bool, Memory>
         ensures fresh { IfOk result (λ fresh. fresh ≡ is_none (place_in self.old text.now)) }
-        ensures added { IfOk result (λ fresh. (q : List ℕ) → place_in self.new q ≡ update same_text (place_in self.old) text.now (Some place) q) }
+        ensures added { IfOk result (λ fresh. (q : List ℕ) → place_in self.new q ≡ update same_text (place_in self.old) text.now (Some value) q) }
     {
-        Ok(self.places.insert(text.as_bytes(), place)?.is_none())
+        Ok(self.places.insert(text.as_bytes(), value)?.is_none())
     }
 }

@@ -120,7 +120,7 @@ pub(crate) fn texts_differ(alloc: Global, texts: &[Text]) -> Result<bool, Memory
 {
     let mut seen = Places::new(alloc);
     'texts: for text in texts {
-        if !seen.add(text, 0)? {
+        if !seen.add(text, ())? {
             return Ok(false);
         }
     }
