@@ -5,6 +5,7 @@ pub mod Describing
 pub mod Elaborating
 pub mod Faults
 pub mod FirstForm
+pub mod Gathered
 pub mod Midway
 pub mod Parsing
 pub mod Pieces

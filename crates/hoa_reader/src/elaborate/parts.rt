@@ -2,11 +2,13 @@
 
 ghost use Rattle.std.specs.Prelude.{◌≡◌, [], ◌++◌, map, flat_map, filter_map, get_or, option_to_list, IfOk, OnOk};
 ghost use Rattle.std.specs.Option.{option_map, option_map_or};
-ghost use Rattle.hoa_reader.specs.Raw.{raw_tree, written_edge, written_item, written_state};
+ghost use Rattle.hoa_reader.specs.Gathered.{ArePartsOf};
+ghost use Rattle.hoa_reader.specs.Raw.{raw_tree, written, written_edge, written_item, written_state};
 ghost use Rattle.hoa_reader.specs.Validity.{acceptance_item, alias_item, names_item, no_acceptance, start_item, states_item, state_labels};
 ghost use Rattle.hoa_reader.specs.Pieces.{alias_def, acceptance_def, label_refs, list_of};
 
-use crate::{Item, RawEdge, RawLabel, RawState};
+use crate::elaborate::used::after_used;
+use crate::{Item, Raw, RawEdge, RawLabel, RawState};
 use aut_base::{Formula, Memory, Numbers, Text};
 use std::alloc::Global;
 
@@ -121,4 +123,34 @@ fn add_label<'a>(labels: &mut Vec<&'a RawLabel>, label: &'a Option<RawLabel>) ->
         labels.push(label)?;
     }
     Ok(())
+}
+
+/// What the rules speak of.
+#[derive(Drop)]
+pub(crate) struct Parts<'a> {
+    pub(crate) names: &'a [Text],
+    pub(crate) acceptance: Option<AcceptanceDef<'a>>,
+    pub(crate) defs: Vec<AliasDef<'a>>,
+    pub(crate) starts: Vec<&'a Numbers>,
+    /// The labels of states and edges.
+    pub(crate) labels: Vec<&'a RawLabel>,
+    /// The least number that is above every number of a state.
+    pub(crate) after: u64,
+}
+
+/// What the rules speak of in what was read.
+pub(crate) fn parts_of(alloc: Global, raw: &Raw) -> Result<Parts<'_>, Memory>
+    ensures { IfOk result (ArePartsOf (written raw.now)) }
+{
+    let items = raw.items.as_slice();
+    let starts = starts_of(alloc, items)?;
+    let after = after_used(starts.as_slice(), raw.states.as_slice());
+    Ok(Parts {
+        names: names_of(items),
+        acceptance: acceptance_of(items),
+        defs: aliases_of(alloc, items)?,
+        starts,
+        labels: labels_of(alloc, raw.states.as_slice())?,
+        after,
+    })
 }
