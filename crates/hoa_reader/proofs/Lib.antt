@@ -12,6 +12,7 @@ pub mod Exits
 pub mod Fronts
 pub mod Headers
 pub mod Loops
+pub mod Meanings
 pub mod OneForm
 pub mod Properties
 pub mod LabelForms

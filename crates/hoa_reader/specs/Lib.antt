@@ -6,6 +6,7 @@ pub mod Elaborating
 pub mod Faults
 pub mod FirstForm
 pub mod Gathered
+pub mod Growing
 pub mod Midway
 pub mod Parsing
 pub mod Pieces

@@ -3,6 +3,7 @@
 ghost use Rattle.hoa_reader.specs.Elaborating.{Elaborates};
 ghost use Rattle.hoa_reader.specs.Raw.{written};
 
+mod aliases;
 mod broken;
 mod leaves;
 mod parts;
