@@ -9,6 +9,7 @@ pub mod Differing
 pub mod Distinct
 pub mod Ending
 pub mod Exits
+pub mod Expanding
 pub mod Fronts
 pub mod Headers
 pub mod Loops

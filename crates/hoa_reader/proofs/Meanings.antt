@@ -6,6 +6,7 @@ use Rattle.std.proofs.lemmas.Slice.Eq.{slice_eq-Decides}
 use Rattle.std.specs.Bool.{Decides}
 use Rattle.std.proofs.lemmas.List.{append-nil, append_assoc, map-append}
 use Rattle.std.proofs.lemmas.List.Folds.{list_any-append}
+use Rattle.std.proofs.lemmas.Option.{none-some, same_Some}
 use Rattle.std.specs.List.{list_any}
 use Rattle.std.specs.Map.{update}
 use Rattle.std.specs.Option.{option_map_or}
@@ -233,3 +234,8 @@ sizes_fit g (raw.more t ts) = omega arith
 -- the aliases before a place, where all are defined well
 pub names_by : (defs : List AliasDef) → meaning_names (meanings_by defs) ≡ line_names (map alias_def defs)
 names_by defs = names_after [] (map alias_def defs)
+
+pub at_or : {X : Type 0} (xs : List X) (i : ℕ) (x d : X) → slice_get xs i ≡ Some x → get_or xs i d ≡ x
+at_or [] i x d is = absurd (none-some x is)
+at_or (y ∷ ys) zero x d is = same_Some y x is
+at_or (y ∷ ys) (suc i) x d is = at_or ys i x d is

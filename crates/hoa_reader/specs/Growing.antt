@@ -1,5 +1,5 @@
 -- How labels grow when their aliases are replaced, counted as far as a 64-bit number goes.
-use Rattle.std.specs.Prelude.{◌≡◌, ◌+◌, ◌-◌, ◌^◌, min, max, ℕ, Bool, true, false, not, if◌then◌else◌, List, [], map, Option, Some, None, slice_get}
+use Rattle.std.specs.Prelude.{◌≡◌, ◌+◌, ◌-◌, ◌*◌, ◌^◌, min, max, ℕ, Bool, true, false, not, if◌then◌else◌, List, [], map, Option, Some, None, slice_get}
 use Rattle.std.specs.Option.{option_map_or}
 use Rattle.aut_base.specs.Label.{LabelTree, label_size}
 use Rattle.hoa_reader.specs.Counts.{height, holds_alias}
@@ -93,3 +93,11 @@ AreKnown ms defs known = (name : List ℕ) → IsKnownBy ms defs name (place_in 
 
 abbrev pub meanings_by : List AliasDef → List Meaning
 meanings_by defs = meanings_after [] (map alias_def defs)
+
+-- By this the replacement of aliases ends: an alias is replaced by what is none.
+abbrev pub alias_bit : Option (List ℕ) → ℕ
+alias_bit None = 0
+alias_bit (Some name) = 1
+
+abbrev pub steps_left : List AliasDef → RawTree → ℕ
+steps_left defs t = 2 * label_size (expanded (meanings_by defs) t) + alias_bit (alias_name t)

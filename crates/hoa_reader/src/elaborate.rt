@@ -5,6 +5,7 @@ ghost use Rattle.hoa_reader.specs.Raw.{written};
 
 mod aliases;
 mod broken;
+mod labels;
 mod leaves;
 mod parts;
 mod places;
