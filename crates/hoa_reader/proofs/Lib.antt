@@ -19,5 +19,6 @@ pub mod Properties
 pub mod LabelForms
 pub mod Leaves
 pub mod RawTrees
+pub mod Starts
 pub mod ValidityExamples
 pub mod ValidityLaws

@@ -7,6 +7,7 @@ mod aliases;
 mod broken;
 mod labels;
 mod leaves;
+mod marks;
 mod parts;
 mod places;
 mod rules;
