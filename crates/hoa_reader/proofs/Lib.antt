@@ -12,6 +12,7 @@ pub mod Exits
 pub mod Expanding
 pub mod Fronts
 pub mod Headers
+pub mod Indexing
 pub mod Loops
 pub mod Meanings
 pub mod OneForm
@@ -22,3 +23,4 @@ pub mod RawTrees
 pub mod Starts
 pub mod ValidityExamples
 pub mod ValidityLaws
+pub mod Weighing

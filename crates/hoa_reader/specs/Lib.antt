@@ -1,3 +1,4 @@
+pub mod Arrows
 pub mod Collecting
 pub mod Counts
 pub mod Described
@@ -14,3 +15,4 @@ pub mod Places
 pub mod Raw
 pub mod Reads
 pub mod Validity
+pub mod Weighing

@@ -5,8 +5,11 @@ ghost use Rattle.hoa_reader.specs.Raw.{written};
 
 mod aliases;
 mod broken;
+mod counts;
+mod edges;
 mod labels;
 mod leaves;
+mod limits;
 mod marks;
 mod parts;
 mod places;
