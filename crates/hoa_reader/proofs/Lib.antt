@@ -7,6 +7,7 @@ pub mod DescribedSteps
 pub mod DescribedWellFormed
 pub mod Differing
 pub mod Distinct
+pub mod EdgeCounts
 pub mod Ending
 pub mod Exits
 pub mod Expanding

@@ -53,7 +53,10 @@ fn grow_too_far<'a>(
     let none = Places::new(alloc);
     // Divided by 8,192, what the edges weigh is greater than the limit from this on.
     let most = (u64::from(MOST_ALIASES) + 1) * 8_192 - 1;
-    are_tall(&parts.labels, known) || are_heavy(raw.states.as_slice(), known, &none, most)
+    if are_tall(&parts.labels, known) {
+        return true;
+    }
+    are_heavy(raw.states.as_slice(), known, &none, most)
 }
 
 /// The first limit that is passed.
