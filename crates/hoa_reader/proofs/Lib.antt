@@ -16,6 +16,7 @@ pub mod Headers
 pub mod Indexing
 pub mod Loops
 pub mod Meanings
+pub mod NamesDiffer
 pub mod OneForm
 pub mod Properties
 pub mod LabelForms
