@@ -18,11 +18,11 @@ all_from : {X : Type 0} (p : X → Bool) (xs : List X) → list_all p xs ≡ tru
 all_from p [] e = tt
 all_from p (x ∷ xs) e = let parts = both _ _ e in (parts.0, all_from p xs parts.1)
 
-all_left : {X : Type 0} (P : X → Type 0) (xs ys : List X) → AllByRecursion P (xs ++ ys) → AllByRecursion P xs
+pub all_left : {X : Type 0} (P : X → Type 0) (xs ys : List X) → AllByRecursion P (xs ++ ys) → AllByRecursion P xs
 all_left P [] ys all = tt
 all_left P (x ∷ xs) ys all = (all.0, all_left P xs ys all.1)
 
-all_right : {X : Type 0} (P : X → Type 0) (xs ys : List X) → AllByRecursion P (xs ++ ys) → AllByRecursion P ys
+pub all_right : {X : Type 0} (P : X → Type 0) (xs ys : List X) → AllByRecursion P (xs ++ ys) → AllByRecursion P ys
 all_right P [] ys all = all
 all_right P (x ∷ xs) ys all = all_right P xs ys all.1
 
@@ -30,7 +30,7 @@ all_unflat : {X Y : Type 0} (P : Y → Type 0) (f : X → List Y) (xs : List X) 
 all_unflat P f [] all = tt
 all_unflat P f (x ∷ xs) all = (all_left P (f x) (flat_map f xs) all, all_unflat P f xs (all_right P (f x) (flat_map f xs) all))
 
-all_unmap : {X Y : Type 0} (P : Y → Type 0) (f : X → Y) (xs : List X) → AllByRecursion P (map f xs) → AllByRecursion (λ x. P (f x)) xs
+pub all_unmap : {X Y : Type 0} (P : Y → Type 0) (f : X → Y) (xs : List X) → AllByRecursion P (map f xs) → AllByRecursion (λ x. P (f x)) xs
 all_unmap P f [] all = tt
 all_unmap P f (x ∷ xs) all = (all.0, all_unmap P f xs all.1)
 
@@ -43,10 +43,10 @@ all_enumerated P i [] all = tt
 all_enumerated P i (x ∷ xs) all = (all.0, all_enumerated P (i + 1) xs all.1)
 
 -- the numbers of states are below the number of states
-abbrev AreBelow : ℕ → List ℕ → Type 0
+abbrev pub AreBelow : ℕ → List ℕ → Type 0
 AreBelow n = AllByRecursion (λ q. q < n)
 
-used_are_below : (used counts : List ℕ) → list_all (λ n. numbers_below n used) counts ≡ true → AreBelow (get_or counts 0 (after_all used)) used
+pub used_are_below : (used counts : List ℕ) → list_all (λ n. numbers_below n used) counts ≡ true → AreBelow (get_or counts 0 (after_all used)) used
 used_are_below used [] e = all_used_below used
 used_are_below used (n ∷ ns) e = all_weaker (λ q. nat_lt q n ≡ true) (λ q. q < n) used (λ q h. ltb-true q n h) (all_from (λ q. nat_lt q n) used (both _ _ e).0)
 

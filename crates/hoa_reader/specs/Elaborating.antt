@@ -3,21 +3,13 @@ use Rattle.std.specs.Prelude.{◌≡◌, Result, Ok, Err}
 use Rattle.aut_base.specs.Automaton.{IsWellFormed, automaton}
 use Rattle.aut_base.specs.declared.description.Description.{Description}
 use Rattle.aut_base.specs.declared.limit.Limit.{Limit}
-use Rattle.aut_base.specs.declared.limit.Limit.TheVariants as limit
-use Rattle.hoa_reader.specs.Counts.{Count, Names, Sets, States, Edges, Aliases, PassesFirst, PassesNone}
+use Rattle.hoa_reader.specs.Counts.{Count, PassesFirst, PassesNone}
 use Rattle.hoa_reader.specs.Described.{described}
+use Rattle.hoa_reader.specs.Gathered.{limit_of}
 use Rattle.hoa_reader.specs.Raw.{Written}
 use Rattle.hoa_reader.specs.Validity.{IsFirstBroken, IsValid}
 use Rattle.hoa_reader.specs.declared.elaborate.ElabFault.{ElabFault}
 use Rattle.hoa_reader.specs.declared.elaborate.ElabFault.TheVariants as fault
-
--- the limit on a count
-abbrev pub limit_of : Count → Limit
-limit_of Names = limit.Names
-limit_of Sets = limit.Sets
-limit_of States = limit.States
-limit_of Edges = limit.Edges
-limit_of Aliases = limit.Aliases
 
 -- It is valid, and this limit is the first that one of its counts passes.
 pub record PassesLimit (which : Limit) (w : Written) : Type 0 where

@@ -23,9 +23,9 @@ pub enum RawLabel {
 #[cycle(raw_label)]
 #[derive(Debug, Drop)]
 pub struct RawLabels {
-    first: Box<RawLabel>,
-    second: Box<RawLabel>,
-    others: Vec<RawLabel>,
+    pub(crate) first: Box<RawLabel>,
+    pub(crate) second: Box<RawLabel>,
+    pub(crate) others: Vec<RawLabel>,
 }
 
 #[tactic(auto, using(crate::proofs::RawTrees::raw_tree_rules))]

@@ -1,0 +1,14 @@
+use Rattle.std.proofs.Common.{◌≡◌, ◌≤◌, ◌^◌, ◌-◌, ◌+◌, max, map, take, drop, true, List, ℕ}
+use Rattle.hoa_reader.specs.Described.{meanings_after}
+use Rattle.hoa_reader.specs.Growing.{AreKnown, cap, capped_heights, capped_sizes, heights_in, meanings_by, sizes_in}
+use Rattle.hoa_reader.specs.Pieces.{alias_def, line_names}
+use Rattle.hoa_reader.specs.Raw.{raw_tree, raw_trees}
+use Rattle.hoa_reader.specs.Validity.{all_differ, same_text, uses_earlier}
+use Rattle.hoa_reader.proofs.elaborate.aliases.+growth.Given as goal
+
+abbrev pub invariant-all_growth-labels : goal.invariant-all_growth-labels
+invariant-all_growth-labels l = record {
+  fits : l.all.size ≤ 2 ^ 64 - 1;
+  height : max l.all.height (capped_heights (heights_in l.known) (raw_trees (map raw_tree (drop l.label-index l.labels)))) ≡ capped_heights (heights_in l.known) (raw_trees (map raw_tree l.labels));
+  size : cap (l.all.size + capped_sizes (sizes_in l.known) (raw_trees (map raw_tree (drop l.label-index l.labels)))) ≡ capped_sizes (sizes_in l.known) (raw_trees (map raw_tree l.labels));
+}

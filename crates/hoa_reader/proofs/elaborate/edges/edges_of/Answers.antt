@@ -1,0 +1,29 @@
+use Rattle.std.proofs.Common.{◌≡◌, ◌++◌, ◌+◌, ◌<◌, ◌∷◌, [], ◌∙◌, ℕ, List, Option, Some, None, get_or, length, map, sym, ap, subst, arith}
+use Rattle.std.proofs.lemmas.List.{append-nil, get_or_default}
+use Rattle.std.specs.Prelude.{flat_map}
+use Rattle.aut_base.specs.Automaton.{Arrow, arrow}
+use Rattle.hoa_reader.proofs.Indexing.{edges_more, got_map}
+use Rattle.hoa_reader.specs.Arrows.{IsDefinedAt, IsPlace, arrows_for, edges_for}
+use Rattle.hoa_reader.specs.Raw.{WrittenState, written_state}
+use Rattle.hoa_reader.specs.declared.raw.RawState.{RawState}
+use Rattle.hoa_reader.proofs.elaborate.edges.edges_of.Goals as goal
+
+pub numbers-preserved : goal.numbers-preserved
+numbers-preserved c =
+    let x = c.args.shared.now in
+    let ws = map written_state c.args.states.now in
+    let n = c.numbers.number in
+    let P : Option ℕ → Type 0 = λ o. IsPlace ws n o in
+    let items = c.in_ok-places.places.items in
+    let within : n < c.args.count = grind (arith, c.numbers-test.true, c.len-number-end.ensures, c.in_ok-places.ensures.len) in
+    let inside : n < length items = omega (arith, within, c.in_ok-places.ensures.len) in
+    let here : get_or items n None ≡ Some c.in-Some.place = get_or_default items n None c.index.result.now inside ∙ sym c.index.ensures ∙ c.in-Some.is in
+    let one : IsDefinedAt ws n c.in-Some.place = subst P here (c.in_ok-places.ensures.place n within) in
+    let state : written_state c.index-states-place.result ≡ one.state = ap written_state c.index-states-place.is ∙ got_map c.args.states.now c.in-Some.place one.state c.index-states-place.result one.there in
+    let goal : map arrow c.add_edges.new.edges ≡ edges_for x ws (n + 1) =
+    c.in_ok-add_edges.ensures
+    ∙ ap (λ (es : List Arrow). es ++ arrows_for x (written_state c.index-states-place.result)) c.numbers.invariant
+    ∙ ap (λ (s : WrittenState). edges_for x ws n ++ arrows_for x s) state
+    ∙ ap (λ (es : List Arrow). edges_for x ws n ++ es) (sym (ap (flat_map (arrows_for x)) one.alone ∙ append-nil (arrows_for x one.state)))
+    ∙ sym (edges_more x ws n) in
+    goal

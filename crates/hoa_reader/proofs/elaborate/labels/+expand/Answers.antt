@@ -1,0 +1,82 @@
+use Rattle.std.proofs.Common.{◌≡◌, ◌<◌, ◌≤◌, ◌+◌, ◌*◌, ◌∷◌, ℕ, List, map, Option, Some, None, IfOk, get_or, refl, sym, ap, ◌∙◌, subst, arith, false}
+use Rattle.aut_base.proofs.LabelTrees.{label_tree-False}
+use Rattle.aut_base.specs.Label.{LabelTree, label_size, label_tree, labels_size, trees}
+use Rattle.hoa_reader.proofs.Expanding.{and_of, bit_small, or_of, part_size, parts_expanded, size_pos}
+use Rattle.hoa_reader.proofs.LabelForms.{tree-Alias, tree-And, tree-Or}
+use Rattle.hoa_reader.proofs.Meanings.{at_or, meaning_missing}
+use Rattle.hoa_reader.specs.Described.{Meaning, each_expanded, expanded, meaning_of}
+use Rattle.hoa_reader.specs.Growing.{AreKnown, IsKnownBy, IsKnownOne, alias_name, meaning_names, meanings_by, steps_left}
+use Rattle.hoa_reader.specs.Places.{place_in}
+use Rattle.hoa_reader.specs.Raw as raw
+use Rattle.hoa_reader.specs.Raw.{RawTree, raw_tree, raw_trees}
+use Rattle.hoa_reader.specs.Validity.{is_listed}
+use Rattle.hoa_reader.specs.declared.elaborate.aliases.Known.{Known}
+use Rattle.hoa_reader.specs.declared.elaborate.parts.AliasDef.{AliasDef}
+use Rattle.hoa_reader.specs.declared.elaborate.places.Places.{Places}
+use Rattle.hoa_reader.specs.declared.raw.RawLabel.{RawLabel}
+use Rattle.hoa_reader.specs.declared.raw.RawLabel.TheVariants as raw_label
+use Rattle.hoa_reader.specs.declared.raw.RawLabels.{RawLabels}
+use Rattle.hoa_reader.proofs.elaborate.labels.+expand.Goals as goal
+
+found : (defs : List AliasDef) (known : Places Known) (name : List ℕ) (k : Known) → AreKnown (meanings_by defs) defs known → place_in known name ≡ Some k → IsKnownOne (meanings_by defs) defs name k
+found defs known name k all is = let P : Option Known → Type 0 = λ o. IsKnownBy (meanings_by defs) defs name o in subst P is (all name)
+
+is_alias : (defs : List AliasDef) (label : RawLabel) (name : List ℕ) → label ≡ raw_label.Alias name → expanded (meanings_by defs) (raw_tree label) ≡ meaning_of (meanings_by defs) name
+is_alias defs label name is = ap (λ l. expanded (meanings_by defs) (raw_tree l)) is ∙ ap (expanded (meanings_by defs)) (tree-Alias name)
+
+pub expand-returns-in-Some : goal.expand-returns-in-Some
+expand-returns-in-Some t c =
+    let defs = c.args.defs.now in
+    let name = c.in-Alias.name in
+    let one = found defs c.args.known.now name c.in-Some.alias c.requires (sym c.find.ensures ∙ c.in-Some.is) in
+    let here : get_or defs c.in-Some.alias.place c.index-defs-alias.result ≡ one.known.def = at_or defs c.in-Some.alias.place one.known.def c.index-defs-alias.result one.known.there in
+    let e : expanded (meanings_by defs) (raw_tree (get_or defs c.in-Some.alias.place c.index-defs-alias.result).label.now) ≡ expanded (meanings_by defs) (raw_tree c.args.label.now) =
+    ap (λ (d : AliasDef). expanded (meanings_by defs) (raw_tree d.label.now)) here ∙ sym one.known.same ∙ sym (is_alias defs c.args.label.now name c.in-Alias.is) in
+    subst (λ x. IfOk c.expand.result (λ new. label_tree new ≡ x)) e c.expand.ensures
+
+pub expand-returns-in-None : goal.expand-returns-in-None
+expand-returns-in-None t c =
+    let defs = c.args.defs.now in
+    let name = c.in-Alias.name in
+    let P : Option Known → Type 0 = λ o. IsKnownBy (meanings_by defs) defs name o in
+    let gone : is_listed (meaning_names (meanings_by defs)) name ≡ false = subst P (sym c.find.ensures ∙ c.in-None.is) (c.requires name) in
+    label_tree-False ∙ sym (is_alias defs c.args.label.now name c.in-Alias.is ∙ meaning_missing (meanings_by defs) name gone)
+
+pub expand-returns-in_ok-expand_parts-in-And : goal.expand-returns-in_ok-expand_parts-in-And
+expand-returns-in_ok-expand_parts-in-And t c =
+    let ms = meanings_by c.args.defs.now in
+    let p = c.in-And.parts in
+    and_of c.in_ok-expand_parts-in-And.field-0 (expanded ms (raw_tree p.first.value)) (expanded ms (raw_tree p.second.value)) (map (λ x. expanded ms (raw_tree x)) p.others.items) c.in_ok-expand_parts-in-And.ensures
+    ∙ ap (LabelTree.And (expanded ms (raw_tree p.first.value)) (expanded ms (raw_tree p.second.value))) (sym (parts_expanded ms p.others.items))
+    ∙ sym (ap (λ l. expanded ms (raw_tree l)) c.in-And.is ∙ ap (expanded ms) (tree-And p))
+
+pub expand-returns-in_ok-expand_parts-in-Or : goal.expand-returns-in_ok-expand_parts-in-Or
+expand-returns-in_ok-expand_parts-in-Or t c =
+    let ms = meanings_by c.args.defs.now in
+    let p = c.in-Or.parts in
+    or_of c.in_ok-expand_parts-in-Or.field-0 (expanded ms (raw_tree p.first.value)) (expanded ms (raw_tree p.second.value)) (map (λ x. expanded ms (raw_tree x)) p.others.items) c.in_ok-expand_parts-in-Or.ensures
+    ∙ ap (LabelTree.Or (expanded ms (raw_tree p.first.value)) (expanded ms (raw_tree p.second.value))) (sym (parts_expanded ms p.others.items))
+    ∙ sym (ap (λ l. expanded ms (raw_tree l)) c.in-Or.is ∙ ap (expanded ms) (tree-Or p))
+
+pub expand_parts-expand-requires : goal.expand_parts-expand-requires
+expand_parts-expand-requires t c =
+    let ms = meanings_by c.args.defs.now in
+    let p = c.args.parts.now in
+    let size : RawTree → ℕ = λ x. label_size (expanded ms x) in
+    let same : size (raw_tree c.deref.result.now) ≡ size (raw_tree p.first.value) = ap (λ x. size (raw_tree x)) c.deref.ensures in
+    let pos = size_pos (expanded ms (raw_tree p.second.value)) in
+    let bit = bit_small (alias_name (raw_tree c.deref.result.now)) in
+    let less : steps_left c.args.defs.now (raw_tree c.deref.result.now) < t = omega (arith, same, pos, bit, c.decreases) in
+    (less, c.requires)
+
+pub expand_parts-expand-requires-in-others : goal.expand_parts-expand-requires-in-others
+expand_parts-expand-requires-in-others t c =
+    let ms = meanings_by c.args.defs.now in
+    let p = c.args.parts.now in
+    let small : label_size (expanded ms (raw_tree c.part-item.result)) ≤ labels_size (each_expanded ms (raw_trees (map raw_tree p.others.items))) =
+    subst (λ (ps : List RawLabel). label_size (expanded ms (raw_tree c.part-item.result)) ≤ labels_size (each_expanded ms (raw_trees (map raw_tree ps)))) c.deref-part-items.ensures.value
+    (part_size ms c.deref-part-items.result.now c.others.part-index c.part-item.result c.others-test.true c.part-item.is) in
+    let pos = size_pos (expanded ms (raw_tree p.first.value)) in
+    let bit = bit_small (alias_name (raw_tree c.part-item.result)) in
+    let less : steps_left c.args.defs.now (raw_tree c.part-item.result) < t = omega (arith, small, pos, bit, c.decreases) in
+    (less, c.requires)

@@ -1,0 +1,40 @@
+use Rattle.std.proofs.Common.{◌≡◌, ◌<◌, ◌∙◌, ℕ, Bool, true, false, nat_lt, length, map, List, refl, sym, ap, arith}
+use Rattle.std.proofs.lemmas.Bool.Decides.{nat_tests}
+use Rattle.hoa_reader.proofs.EdgeCounts.{edge_count}
+use Rattle.hoa_reader.specs.Counts.{Names, Sets, States, Edges, Aliases, count_of, most_of}
+use Rattle.hoa_reader.specs.Raw.{written, written_state}
+use Rattle.hoa_reader.specs.Validity.{acceptance_of, names_of}
+use Rattle.hoa_reader.specs.Described.{edges_of, state_count}
+use Rattle.hoa_reader.specs.Weighing.{all_edges}
+use Rattle.hoa_reader.specs.declared.raw.RawState.{RawState}
+use Rattle.hoa_reader.proofs.elaborate.limits.first_passed.Goals as goal
+
+pub returns-then-has_more_edges : goal.returns-then-has_more_edges
+returns-then-has_more_edges c =
+    let w = written c.args.raw.now in
+    let names : nat_lt 8 (length (names_of w)) ≡ false = ap (λ (ns : List (List ℕ)). nat_lt 8 (length ns)) (sym c.requires.parts.names) ∙ grind (arith, nat_tests) in
+    let sets : nat_lt 512 (acceptance_of w).sets ≡ false = ap (nat_lt 512) (sym c.set_count.ensures) ∙ grind (arith, nat_tests) in
+    let states : nat_lt 100000 (state_count w) ≡ false = ap (nat_lt 100000) (sym c.state_count.ensures) ∙ grind (arith, nat_tests) in
+    let edges : c.has_more_edges.result ≡ nat_lt 1000000 (length (edges_of w)) =
+    c.has_more_edges.ensures ∙ ap (λ (ss : List RawState). nat_lt 1000000 (length (all_edges (map written_state ss)))) c.as_slice.ensures ∙ ap (nat_lt 1000000) (sym (edge_count w c.requires.below)) in
+    record { count = Edges; shown = refl; passes = record { passes = sym edges ∙ c.if-has_more_edges.true; earlier = (names, (sets, (states, tt))) } }
+
+pub returns-then-grow_too_far : goal.returns-then-grow_too_far
+returns-then-grow_too_far c =
+    let w = written c.args.raw.now in
+    let names : nat_lt 8 (length (names_of w)) ≡ false = ap (λ (ns : List (List ℕ)). nat_lt 8 (length ns)) (sym c.requires.parts.names) ∙ grind (arith, nat_tests) in
+    let sets : nat_lt 512 (acceptance_of w).sets ≡ false = ap (nat_lt 512) (sym c.set_count.ensures) ∙ grind (arith, nat_tests) in
+    let states : nat_lt 100000 (state_count w) ≡ false = ap (nat_lt 100000) (sym c.state_count.ensures) ∙ grind (arith, nat_tests) in
+    let edges : c.has_more_edges.result ≡ nat_lt 1000000 (length (edges_of w)) =
+    c.has_more_edges.ensures ∙ ap (λ (ss : List RawState). nat_lt 1000000 (length (all_edges (map written_state ss)))) c.as_slice.ensures ∙ ap (nat_lt 1000000) (sym (edge_count w c.requires.below)) in
+    record { count = Aliases; shown = refl; passes = record { passes = sym c.grow_too_far.ensures ∙ c.if-grow_too_far.true; earlier = (names, (sets, (states, (sym edges ∙ c.if-has_more_edges.false, tt)))) } }
+
+pub returns : goal.returns
+returns c =
+    let w = written c.args.raw.now in
+    let names : nat_lt 8 (length (names_of w)) ≡ false = ap (λ (ns : List (List ℕ)). nat_lt 8 (length ns)) (sym c.requires.parts.names) ∙ grind (arith, nat_tests) in
+    let sets : nat_lt 512 (acceptance_of w).sets ≡ false = ap (nat_lt 512) (sym c.set_count.ensures) ∙ grind (arith, nat_tests) in
+    let states : nat_lt 100000 (state_count w) ≡ false = ap (nat_lt 100000) (sym c.state_count.ensures) ∙ grind (arith, nat_tests) in
+    let edges : c.has_more_edges.result ≡ nat_lt 1000000 (length (edges_of w)) =
+    c.has_more_edges.ensures ∙ ap (λ (ss : List RawState). nat_lt 1000000 (length (all_edges (map written_state ss)))) c.as_slice.ensures ∙ ap (nat_lt 1000000) (sym (edge_count w c.requires.below)) in
+    (names, (sets, (states, (sym edges ∙ c.if-has_more_edges.false, (sym c.grow_too_far.ensures ∙ c.if-grow_too_far.false, tt)))))

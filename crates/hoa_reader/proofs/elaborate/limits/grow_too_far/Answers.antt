@@ -1,0 +1,43 @@
+use Rattle.std.proofs.Common.{◌≡◌, ◌+◌, ◌-◌, ◌*◌, ◌||◌, ◌∙◌, ℕ, Bool, true, false, nat_lt, map, List, [], refl, sym, ap, arith}
+use Rattle.std.specs.Prelude.{sum_by}
+use Rattle.hoa_reader.proofs.Weighing.{edge_weighed, either_passes, tall_law, weight_law}
+use Rattle.hoa_reader.specs.Counts.{Aliases, count_of, greatest, height, weight}
+use Rattle.hoa_reader.specs.Described.{Meaning, expanded, meanings_after, meanings_of}
+use Rattle.hoa_reader.specs.Gathered.{ArePartsOf}
+use Rattle.hoa_reader.specs.Growing.{AreKnown, cap, meanings_by}
+use Rattle.hoa_reader.specs.Pieces.{label_refs}
+use Rattle.hoa_reader.specs.Places.{place_in}
+use Rattle.hoa_reader.specs.Raw.{RawTree, Written, WrittenState, written, written_state}
+use Rattle.hoa_reader.specs.Validity.{body_labels}
+use Rattle.hoa_reader.specs.Weighing.{are_tall, counted}
+use Rattle.hoa_reader.specs.declared.elaborate.aliases.Known.{Known}
+use Rattle.hoa_reader.specs.declared.elaborate.parts.Parts.{Parts}
+use Rattle.hoa_reader.specs.declared.elaborate.places.Places.{Places}
+use Rattle.hoa_reader.specs.declared.raw.RawState.{RawState}
+use Rattle.hoa_reader.proofs.elaborate.limits.grow_too_far.Goals as goal
+
+grows : (w : Written) (p : Parts) (known : Places Known) (tall heavy : Bool) → ArePartsOf w p → AreKnown (meanings_by p.defs.items) p.defs.items known → tall ≡ are_tall known (body_labels w) → heavy ≡ nat_lt 16785407 (counted known w.states) → (tall || heavy) ≡ nat_lt 2048 (count_of Aliases w)
+grows w p known tall heavy parts all t h =
+    let ms = meanings_by p.defs.items in
+    let same : ms ≡ meanings_of w = ap (meanings_after []) parts.defs in
+    let W : List Meaning → ℕ = λ ms. sum_by (λ (s : WrittenState). sum_by (edge_weighed ms s) s.edges) w.states in
+    let law : cap (counted known w.states) ≡ cap (weight w) = weight_law ms p.defs.items known all w.states ∙ ap (λ ms. cap (W ms)) same in
+    either_passes (greatest (map (λ (t : RawTree). height (expanded (meanings_of w) t)) (body_labels w))) (weight w) (counted known w.states) tall heavy
+    (t ∙ tall_law ms p.defs.items known all (body_labels w) ∙ ap (λ ms. nat_lt 2048 (greatest (map (λ (t : RawTree). height (expanded ms t)) (body_labels w)))) same) h law
+
+pub returns-then-are_tall : goal.returns-then-are_tall
+returns-then-are_tall c =
+    let w = written c.args.raw.now in
+    let known = c.args.known.now in
+    let tall : true ≡ are_tall known (body_labels w) = sym c.if-are_tall.true ∙ c.are_tall.ensures ∙ ap (are_tall known) (ap (map label_refs) c.deref.ensures.value ∙ c.requires.parts.labels) in
+    grows w c.args.parts.now known true (nat_lt 16785407 (counted known w.states)) c.requires.parts c.requires.known tall refl
+
+pub returns : goal.returns
+returns c =
+    let w = written c.args.raw.now in
+    let known = c.args.known.now in
+    let tall : false ≡ are_tall known (body_labels w) = sym c.if-are_tall.false ∙ c.are_tall.ensures ∙ ap (are_tall known) (ap (map label_refs) c.deref.ensures.value ∙ c.requires.parts.labels) in
+    let most : (c.from.result + 1) * 8192 - 1 ≡ 16785407 = omega (arith, c.from.ensures) in
+    let heavy : c.are_heavy.result ≡ nat_lt 16785407 (counted known w.states) =
+    c.are_heavy.ensures ∙ ap (λ n. nat_lt n (counted known (map written_state c.as_slice.result.now))) most ∙ ap (λ (ss : List RawState). nat_lt 16785407 (counted known (map written_state ss))) c.as_slice.ensures in
+    grows w c.args.parts.now known false c.are_heavy.result c.requires.parts c.requires.known tall heavy

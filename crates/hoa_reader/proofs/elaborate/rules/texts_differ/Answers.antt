@@ -1,0 +1,31 @@
+use Rattle.std.proofs.Common.{◌≡◌, arith, Bool, true, false, not, ◌∷◌, [], ◌∙◌, ap, sym, take, drop, List, ◌+◌, is_some, is_none, get_or, ◌||◌, ◌++◌, ℕ}
+use Rattle.std.proofs.lemmas.List.Folds.{list_any-append}
+use Rattle.std.specs.List.{list_any}
+use Rattle.hoa_reader.proofs.Differing.{differ_more, found_or, one_more, parted, repeats, some_not_none}
+use Rattle.hoa_reader.specs.Places.{place_in}
+use Rattle.hoa_reader.specs.Validity.{all_differ, same_text}
+use Rattle.hoa_reader.proofs.elaborate.rules.texts_differ.Goals as goal
+
+pub returns-then-not-branch : goal.returns-then-not-branch
+returns-then-not-branch c =
+    let texts = c.args.texts.now in
+    let i = c.texts.text-index in
+    let text = c.text-item.result in
+    let there : is_some (place_in c.texts.seen text) ≡ true = grind (arith, some_not_none) in
+    repeats same_text (take i texts) text (drop (i + 1) texts) (sym (c.texts.invariant.seen text) ∙ there)
+    ∙ ap (all_differ same_text) (sym (parted texts i text c.texts-test.true c.text-item.is))
+
+pub texts-preserved : goal.texts-preserved
+texts-preserved c =
+    let texts = c.args.texts.now in
+    let i = c.texts.text-index in
+    let text = c.text-item.result in
+    let more = one_more texts i text c.texts-test.true c.text-item.is in
+    let away : is_some (place_in c.texts.seen text) ≡ false = grind (arith, some_not_none) in
+    record {
+      differ = ap (all_differ same_text) more ∙ differ_more same_text (take i texts) text c.texts.invariant.differ (sym (c.texts.invariant.seen text) ∙ away);
+      seen = λ q.
+        ap is_some (c.in_ok-add.ensures.added q)
+        ∙ found_or (same_text text q) (list_any (λ x. same_text x q) (take i texts)) _ (place_in c.texts.seen q) (c.texts.invariant.seen q)
+        ∙ sym (ap (list_any (λ x. same_text x q)) more ∙ list_any-append (λ x. same_text x q) (take i texts) (text ∷ []));
+    }

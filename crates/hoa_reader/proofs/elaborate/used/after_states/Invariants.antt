@@ -1,0 +1,11 @@
+use Rattle.std.proofs.Common.{◌≡◌, ◌≤◌, max, map, take, drop, List, ℕ, nat_le}
+use Rattle.std.specs.Prelude.{flat_map, filter_map}
+use Rattle.std.specs.List.{list_all}
+use Rattle.hoa_reader.specs.Described.{after_all}
+use Rattle.hoa_reader.specs.Pieces.{goals, numbers, starts_named}
+use Rattle.hoa_reader.specs.Raw.{WrittenEdge, written_edge, written_item, written_state}
+use Rattle.hoa_reader.specs.Validity.{states_item}
+use Rattle.hoa_reader.proofs.elaborate.used.after_states.Given as goal
+
+abbrev pub invariant-states : goal.invariant-states
+invariant-states l = max l.after (max (after_all (numbers (map written_state (drop l.state-index l.states)))) (after_all (goals (map written_state (drop l.state-index l.states))))) ≡ max l.least (max (after_all (numbers (map written_state l.states))) (after_all (goals (map written_state l.states))))

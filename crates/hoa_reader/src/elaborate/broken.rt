@@ -1,0 +1,108 @@
+//! The first rule that is broken.
+
+ghost use Rattle.std.specs.Prelude.{◌≡◌, IfOk, MatchOption};
+ghost use Rattle.hoa_reader.specs.Gathered.{ArePartsOf};
+ghost use Rattle.hoa_reader.specs.Raw.{written};
+ghost use Rattle.hoa_reader.specs.Validity.{IsFirstBroken, IsValid, keeps, names_single_states, propositions_have_names, sets_are_below};
+
+use crate::elaborate::leaves;
+use crate::elaborate::parts::Parts;
+use crate::elaborate::rules;
+use crate::elaborate::used;
+use crate::{Raw, Rule};
+use aut_base::Memory;
+use std::alloc::Global;
+
+/// All rules, in order.
+const RULES: [Rule; 12] = [
+    Rule::V1,
+    Rule::V2,
+    Rule::V3,
+    Rule::V4,
+    Rule::V5,
+    Rule::V6,
+    Rule::V7,
+    Rule::V8,
+    Rule::V9,
+    Rule::V10,
+    Rule::V11,
+    Rule::V12,
+];
+
+/// Whether each start and each edge names one state.
+fn names_single_states(raw: &Raw, parts: &Parts<'_>) -> bool
+    requires { ArePartsOf (written raw.now) parts.now }
+    ensures { result ≡ names_single_states (written raw.now) }
+{
+    rules::start_in_single_states(&parts.starts)
+        && rules::all_lead_to_single_states(raw.states.as_slice())
+}
+
+/// Whether every proposition has a name.
+fn propositions_have_names(raw: &Raw, parts: &Parts<'_>) -> bool
+    requires { ArePartsOf (written raw.now) parts.now }
+    ensures { result ≡ propositions_have_names (written raw.now) }
+{
+    let names = parts.names.len();
+    leaves::aliases_props_below(&parts.defs, names)
+        && leaves::labels_props_below(&parts.labels, names)
+}
+
+/// Whether every set is below their number.
+fn sets_are_below(raw: &Raw, parts: &Parts<'_>) -> bool
+    requires { ArePartsOf (written raw.now) parts.now }
+    ensures { result ≡ sets_are_below (written raw.now) }
+{
+    match &parts.acceptance {
+        Some(acceptance) => {
+            leaves::sets_below(acceptance.formula, acceptance.sets)
+                && rules::all_marks_are_below(raw.states.as_slice(), acceptance.sets)
+        }
+        None => rules::all_marks_are_below(raw.states.as_slice(), 0),
+    }
+}
+
+/// Whether the rule is kept.
+fn keeps<'a>(
+    alloc: Global,
+    rule: Rule,
+    raw: &'a Raw,
+    parts: &Parts<'a>,
+) -> Result<bool, Memory>
+    requires { ArePartsOf (written raw.now) parts.now }
+    ensures { IfOk result (λ kept. kept ≡ keeps rule (written raw.now)) }
+{
+    let items = raw.items.as_slice();
+    let states = raw.states.as_slice();
+    match rule {
+        Rule::V1 => Ok(rules::is_version_one(&raw.version)),
+        Rule::V2 => Ok(rules::stand_once(items)),
+        Rule::V3 => Ok(rules::may_all_be_passed_over(items)),
+        Rule::V4 => rules::all_names_agree(alloc, items),
+        Rule::V5 => Ok(names_single_states(raw, parts)),
+        Rule::V6 => Ok(used::are_counted(items, parts.after)),
+        Rule::V7 => leaves::defines_aliases(alloc, &parts.defs, &parts.labels),
+        Rule::V8 => Ok(propositions_have_names(raw, parts)),
+        Rule::V9 => Ok(sets_are_below(raw, parts)),
+        Rule::V10 => rules::numbers_differ(alloc, states),
+        Rule::V11 => Ok(rules::are_labelled_one_way(states)),
+        Rule::V12 => Ok(rules::have_edges_for_letters(states, parts.names.len())),
+    }
+}
+
+/// The first rule that is broken, or `None` exactly where all are kept.
+pub(crate) fn first_broken<'a>(
+    alloc: Global,
+    raw: &'a Raw,
+    parts: &Parts<'a>,
+) -> Result<Option<Rule>, Memory>
+    requires { ArePartsOf (written raw.now) parts.now }
+    ensures { IfOk result (λ broken. MatchOption broken (IsValid (written raw.now)) (λ rule. IsFirstBroken rule (written raw.now))) }
+{
+    'rules: for rule in &RULES {
+        if !keeps(alloc, *rule, raw, parts)? {
+            return Ok(Some(*rule));
+        }
+    }
+    Ok(None)
+}

@@ -1,0 +1,134 @@
+//! What the limits count.
+
+ghost use Rattle.std.specs.Prelude.{◌≡◌, ◌<◌, ◌+◌, nat_lt, length, map, MatchOption};
+ghost use Rattle.std.specs.Option.{option_map, option_map_or};
+ghost use Rattle.hoa_reader.specs.Counts.{holds_alias};
+ghost use Rattle.hoa_reader.specs.Growing.{capped_size, sizes_in};
+ghost use Rattle.hoa_reader.specs.Pieces.{label_refs};
+ghost use Rattle.hoa_reader.specs.Raw.{WrittenState, raw_tree, written_edge, written_state};
+ghost use Rattle.hoa_reader.specs.Weighing.{IsNone, all_edges, are_tall, counted, edge_counted, own_counted, state_counted};
+
+use crate::elaborate::aliases::{Known, growth_of};
+use crate::elaborate::leaves::aliases_among;
+use crate::elaborate::places::Places;
+use crate::{RawEdge, RawLabel, RawState};
+use aut_base::MOST_ALIASES;
+
+/// Whether there are more edges than this.
+#[tactic(auto, using(crate::proofs::Weighing::edges_counted))]
+pub(crate) fn has_more_edges(states: &[RawState], most: usize) -> bool
+    ensures { result ≡ nat_lt most (length (all_edges (map written_state states.now))) }
+{
+    let mut left = most;
+    'states: for state in states {
+        let edges = state.edges.len();
+        if edges > left {
+            return true;
+        }
+        left -= edges;
+    }
+    false
+}
+
+/// Whether one of the labels is taller than may be once its aliases are replaced.
+pub(crate) fn are_tall<'a>(labels: &[&'a RawLabel], known: &Places<'a, Known>) -> bool
+    ensures { result ≡ are_tall known.now (map label_refs labels.now) }
+{
+    'labels: for label in labels {
+        let growth = growth_of(label, known);
+        if growth.height > u64::from(MOST_ALIASES) {
+            return true;
+        }
+    }
+    false
+}
+
+/// Whether an alias stands in the label. `none` holds no name.
+fn holds_alias<'a>(label: &'a RawLabel, none: &Places<'a, ()>) -> bool
+    requires { IsNone none.now }
+    ensures { result ≡ holds_alias (raw_tree label.now) }
+{
+    !aliases_among(label, none)
+}
+
+/// What the label of an edge counts, where its state has none.
+fn own_count<'a>(edge: &'a RawEdge, known: &Places<'a, Known>, none: &Places<'a, ()>) -> u64
+    requires { IsNone none.now }
+    ensures { result ≡ option_map_or (own_counted known.now) (written_edge edge.now).label 0 }
+{
+    let Some(label) = &edge.label else {
+        return 0;
+    };
+    if !holds_alias(label, none) {
+        return 0;
+    }
+    growth_of(label, known).size
+}
+
+/// What the label of the state counts for each of its edges.
+fn state_count<'a>(state: &'a RawState, known: &Places<'a, Known>) -> Option<u64>
+    ensures { result ≡ option_map (capped_size (sizes_in known.now)) (written_state state.now).label }
+{
+    match &state.label {
+        Some(label) => Some(growth_of(label, known).size),
+        None => None,
+    }
+}
+
+/// What the edge counts, where its state counts this for each.
+fn edge_count<'a>(
+    own: Option<u64>,
+    edge: &'a RawEdge,
+    known: &Places<'a, Known>,
+    none: &Places<'a, ()>,
+) -> u64
+    requires { IsNone none.now }
+    ensures { (s : WrittenState) → own ≡ option_map (capped_size (sizes_in known.now)) s.label → result ≡ edge_counted known.now s (written_edge edge.now) }
+{
+    match own {
+        Some(count) => count,
+        None => own_count(edge, known, none),
+    }
+}
+
+/// What is left once the edges of the state are counted, or `None` exactly where they count more than this.
+fn left_after<'a>(
+    state: &'a RawState,
+    known: &Places<'a, Known>,
+    none: &Places<'a, ()>,
+    most: u64,
+) -> Option<u64>
+    requires { IsNone none.now }
+    ensures { MatchOption result (most < state_counted known.now (written_state state.now)) (λ left. left + state_counted known.now (written_state state.now) ≡ most) }
+{
+    let own = state_count(state, known);
+    let mut left = most;
+    'edges: for edge in state.edges.as_slice() {
+        let count = edge_count(own, edge, known, none);
+        if count > left {
+            return None;
+        }
+        left -= count;
+    }
+    Some(left)
+}
+
+/// Whether the edges of these states count more than this.
+pub(crate) fn are_heavy<'a>(
+    states: &'a [RawState],
+    known: &Places<'a, Known>,
+    none: &Places<'a, ()>,
+    most: u64,
+) -> bool
+    requires { IsNone none.now }
+    ensures { result ≡ nat_lt most (counted known.now (map written_state states.now)) }
+{
+    let mut left = most;
+    'states: for state in states {
+        match left_after(state, known, none, left) {
+            None => return true,
+            Some(rest) => left = rest,
+        }
+    }
+    false
+}

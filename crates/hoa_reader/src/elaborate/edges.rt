@@ -1,0 +1,143 @@
+//! The edges of the described automaton.
+
+ghost use Rattle.std.specs.Prelude.{◌≡◌, ◌<◌, ◌==◌, ◌++◌, ◌^◌, ℕ, None, Some, true, false, get_or, length, map, slice_set, IfOk, OnOk};
+ghost use Rattle.aut_base.specs.Automaton.{arrow};
+ghost use Rattle.aut_base.specs.Label.{label_tree};
+ghost use Rattle.aut_base.specs.Marks.{is_in};
+ghost use Rattle.hoa_reader.specs.Arrows.{HasKnown, IsPlace, arrow_for, arrows_for, edges_for, label_for};
+ghost use Rattle.hoa_reader.specs.Pieces.{numbers};
+ghost use Rattle.hoa_reader.specs.Raw.{written_edge, written_state};
+ghost use Rattle.hoa_reader.specs.Validity.{all_differ};
+
+use crate::elaborate::aliases::Known;
+use crate::elaborate::labels::{expand, letter_label};
+use crate::elaborate::marks::{flags_of, joined, only_state};
+use crate::elaborate::parts::AliasDef;
+use crate::elaborate::places::Places;
+use crate::{RawEdge, RawState};
+use aut_base::{Edge, Edges, Label, Memory};
+use std::alloc::Global;
+
+/// What all edges share: the numbers of names and sets, and the aliases with what is known of each.
+#[derive(Drop)]
+pub(crate) struct Shared<'a> {
+    pub(crate) names: u32,
+    pub(crate) sets: u32,
+    pub(crate) defs: Vec<AliasDef<'a>>,
+    pub(crate) known: Places<'a, Known>,
+}
+
+/// The label of the edge that stands at this place in its state.
+fn label_of<'a>(
+    alloc: Global,
+    shared: &Shared<'a>,
+    state: &'a RawState,
+    edge: &'a RawEdge,
+    letter: u64,
+) -> Result<Label, Memory>
+    requires { HasKnown shared.now }
+    ensures { IfOk result (λ new. label_tree new ≡ label_for shared.now (written_state state.now) letter (written_edge edge.now)) }
+{
+    match &state.label {
+        Some(label) => expand(alloc, label, &shared.defs, &shared.known),
+        None => match &edge.label {
+            Some(label) => expand(alloc, label, &shared.defs, &shared.known),
+            None => letter_label(alloc, shared.names, letter),
+        },
+    }
+}
+
+/// The edge that stands at this place in its state, by the flags of the state's sets.
+fn edge_of<'a>(
+    alloc: Global,
+    shared: &Shared<'a>,
+    state: &'a RawState,
+    own: &[bool],
+    edge: &'a RawEdge,
+    letter: u64,
+) -> Result<Edge, Memory>
+    requires known { HasKnown shared.now }
+    requires len { length own.now ≡ shared.now.sets }
+    requires few { length own.now < 2 ^ 32 }
+    requires set { (k : ℕ) → k < shared.now.sets → get_or own.now k false ≡ is_in k state.now.marks }
+    ensures { IfOk result (λ new. arrow new ≡ arrow_for shared.now (written_state state.now) letter (written_edge edge.now)) }
+{
+    let label = label_of(alloc, shared, state, edge, letter)?;
+    let marks = joined(alloc, own, edge.marks.as_slice())?;
+    Ok(Edge {
+        from: state.number,
+        label,
+        to: only_state(&edge.to),
+        marks,
+    })
+}
+
+/// Adds the edges of the state.
+fn add_edges<'a>(
+    alloc: Global,
+    edges: &mut Edges,
+    shared: &Shared<'a>,
+    state: &'a RawState,
+) -> Result<(), Memory>
+    requires { HasKnown shared.now }
+    ensures { OnOk result (map arrow edges.new ≡ map arrow edges.old ++ arrows_for shared.now (written_state state.now)) }
+{
+    let own = flags_of(alloc, shared.sets, state.marks.as_slice())?;
+    let mut letter = 0;
+    'written: for edge in state.edges.as_slice() {
+        let new = edge_of(alloc, shared, state, own.as_slice(), edge, letter)?;
+        edges.push(new)?;
+        letter += 1;
+    }
+    Ok(())
+}
+
+/// Says that the state of this number is defined at this place. A number past the end is passed over.
+fn put(places: &mut Vec<Option<usize>>, number: usize, place: usize)
+    ensures { places.new.items ≡ slice_set places.old.items number (Some place) }
+{
+    if number < places.len() {
+        places[number] = Some(place);
+    }
+}
+
+/// Where each state is defined, if it is.
+fn places_of(
+    alloc: Global,
+    states: &[RawState],
+    count: u32,
+) -> Result<Vec<Option<usize>>, Memory>
+    requires { all_differ ◌==◌ (numbers (map written_state states.now)) ≡ true }
+    ensures len { IfOk result (λ places. length places.items ≡ count) }
+    ensures place { IfOk result (λ places. (q : ℕ) → q < count → IsPlace (map written_state states.now) q (get_or places.items q None)) }
+{
+    let mut places: Vec<Option<usize>> = vec![in alloc; None; count as usize]?;
+    let mut place = 0;
+    'states: for state in states {
+        put(&mut places, state.number as usize, place);
+        place += 1;
+    }
+    Ok(places)
+}
+
+/// The edges, in the order of the states that they leave.
+pub(crate) fn edges_of<'a>(
+    alloc: Global,
+    shared: &Shared<'a>,
+    states: &'a [RawState],
+    count: u32,
+) -> Result<Edges, Memory>
+    requires known { HasKnown shared.now }
+    requires differ { all_differ ◌==◌ (numbers (map written_state states.now)) ≡ true }
+    ensures { IfOk result (λ edges. map arrow edges ≡ edges_for shared.now (map written_state states.now) count) }
+{
+    let places = places_of(alloc, states, count)?;
+    let mut edges = Edges::new(alloc);
+    'numbers: for number in 0..places.len() {
+        let Some(place) = places[number] else {
+            continue;
+        };
+        add_edges(alloc, &mut edges, shared, &states[place])?;
+    }
+    Ok(edges)
+}

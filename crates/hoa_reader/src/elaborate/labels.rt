@@ -1,0 +1,112 @@
+//! The labels of edges.
+
+ghost use Rattle.std.specs.Prelude.{◌≡◌, ◌≤◌, ◌==◌, ◌/◌, ◌%◌, ◌^◌, ◌∷◌, map, IfOk};
+ghost use Rattle.aut_base.specs.Label.{label_list, label_tree};
+ghost use Rattle.hoa_reader.specs.Described.{below, expanded, letter_label, literal};
+ghost use Rattle.hoa_reader.specs.Growing.{AreKnown, meanings_by};
+ghost use Rattle.hoa_reader.specs.Raw.{raw_tree};
+
+use crate::elaborate::aliases::Known;
+use crate::elaborate::parts::AliasDef;
+use crate::elaborate::places::Places;
+use crate::{RawLabel, RawLabels};
+use aut_base::{Label, Labels, Memory};
+use std::alloc::Global;
+
+/// The label with each alias replaced by what it stands for.
+#[cycle(expand)]
+#[tactic(auto, using(crate::proofs::LabelForms::raw_labels))]
+pub(crate) fn expand<'a>(
+    alloc: Global,
+    label: &'a RawLabel,
+    defs: &[AliasDef<'a>],
+    known: &Places<'a, Known>,
+) -> Result<Label, Memory>
+    requires { AreKnown (meanings_by defs.now) defs.now known.now }
+    ensures { IfOk result (λ new. label_tree new ≡ expanded (meanings_by defs.now) (raw_tree label.now)) }
+{
+    match label {
+        RawLabel::True => Ok(Label::True),
+        RawLabel::False => Ok(Label::False),
+        RawLabel::Prop(place) => Ok(Label::Prop(*place)),
+        RawLabel::Alias(name) => match known.find(name) {
+            Some(alias) => expand(alloc, defs[alias.place].label, defs, known),
+            None => Ok(Label::False),
+        },
+        RawLabel::Not(inner) => {
+            let inner = expand(alloc, inner, defs, known)?;
+            Ok(Label::Not(Box::new(alloc, inner)?))
+        }
+        RawLabel::And(parts) => Ok(Label::And(expand_parts(alloc, parts, defs, known)?)),
+        RawLabel::Or(parts) => Ok(Label::Or(expand_parts(alloc, parts, defs, known)?)),
+    }
+}
+
+// The same of each part.
+#[cycle(expand)]
+fn expand_parts<'a>(
+    alloc: Global,
+    parts: &'a RawLabels,
+    defs: &[AliasDef<'a>],
+    known: &Places<'a, Known>,
+) -> Result<Labels, Memory>
+    requires { AreKnown (meanings_by defs.now) defs.now known.now }
+    ensures { IfOk result (λ new. label_list new ≡ map (λ p. expanded (meanings_by defs.now) (raw_tree p)) (parts.now.first.value ∷ parts.now.second.value ∷ parts.now.others.items)) }
+{
+    let first = expand(alloc, &parts.first, defs, known)?;
+    let second = expand(alloc, &parts.second, defs, known)?;
+    let mut labels = Labels::pair(alloc, first, second)?;
+    'others: for part in &parts.others {
+        let part = expand(alloc, part, defs, known)?;
+        labels.push(part)?;
+    }
+    Ok(labels)
+}
+
+/// The proposition, where the bit of its place is set in the letter's number, else its negation.
+#[tactic(auto, using(aut_base::proofs::LabelTrees::label_trees))]
+fn literal(alloc: Global, letter: u64, place: u32) -> Result<Label, Memory>
+    ensures { IfOk result (λ new. label_tree new ≡ literal letter place) }
+{
+    let prop = Label::Prop(place);
+    if is_set(letter, place) {
+        return Ok(prop);
+    }
+    Ok(Label::Not(Box::new(alloc, prop)?))
+}
+
+/// Whether the bit of this place is set.
+fn is_set(number: u64, place: u32) -> bool
+    ensures { result ≡ ((number / (2 ^ place)) % 2 == 1) }
+{
+    if place >= 64 {
+        return false;
+    }
+    (number >> place) % 2 == 1
+}
+
+/// The label of the letter of this number over so many names.
+#[tactic(auto, using(aut_base::proofs::LabelTrees::label_trees))]
+pub(crate) fn letter_label(alloc: Global, names: u32, letter: u64) -> Result<Label, Memory>
+    ensures { IfOk result (λ new. label_tree new ≡ letter_label names letter) }
+{
+    match names {
+        0 => Ok(Label::True),
+        1 => literal(alloc, letter, 0),
+        _ => Ok(Label::And(literals(alloc, names, letter)?)),
+    }
+}
+
+/// The literals of the letter of this number over so many names.
+fn literals(alloc: Global, names: u32, letter: u64) -> Result<Labels, Memory>
+    requires { 2 ≤ names }
+    ensures { IfOk result (λ new. label_list new ≡ map (literal letter) (below names)) }
+{
+    let first = literal(alloc, letter, 0)?;
+    let second = literal(alloc, letter, 1)?;
+    let mut labels = Labels::pair(alloc, first, second)?;
+    'places: for place in 2..names {
+        labels.push(literal(alloc, letter, place)?)?;
+    }
+    Ok(labels)
+}

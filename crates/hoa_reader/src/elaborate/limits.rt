@@ -1,0 +1,90 @@
+//! The first limit that is passed.
+
+ghost use Rattle.std.specs.Prelude.{◌≡◌, true, nat_lt, MatchOption};
+ghost use Rattle.hoa_reader.specs.Counts.{Aliases, PassesNone, count_of, most_of};
+ghost use Rattle.hoa_reader.specs.Described.{state_count};
+ghost use Rattle.hoa_reader.specs.Gathered.{ArePartsOf, PassesSome};
+ghost use Rattle.hoa_reader.specs.Growing.{AreKnown, meanings_by};
+ghost use Rattle.hoa_reader.specs.Raw.{written};
+ghost use Rattle.hoa_reader.specs.Validity.{acceptance_of, keeps};
+ghost use Rattle.hoa_reader.specs.declared.elaborate.Rule.TheVariants.{V6};
+
+use crate::Raw;
+use crate::elaborate::aliases::Known;
+use crate::elaborate::counts::{are_heavy, are_tall, has_more_edges};
+use crate::elaborate::parts::{Parts, count_of_states};
+use crate::elaborate::places::Places;
+use aut_base::{Limit, MOST_ALIASES, MOST_EDGES, MOST_NAMES, MOST_SETS, MOST_STATES};
+use std::alloc::Global;
+
+/// The number of states.
+pub(crate) fn state_count(raw: &Raw, parts: &Parts<'_>) -> u64
+    requires { ArePartsOf (written raw.now) parts.now }
+    ensures { result ≡ state_count (written raw.now) }
+{
+    match count_of_states(raw.items.as_slice()) {
+        Some(count) => u64::from(count),
+        None => parts.after,
+    }
+}
+
+/// The number of acceptance sets.
+pub(crate) fn set_count(raw: &Raw, parts: &Parts<'_>) -> u32
+    requires { ArePartsOf (written raw.now) parts.now }
+    ensures { result ≡ (acceptance_of (written raw.now)).sets }
+{
+    match &parts.acceptance {
+        Some(acceptance) => acceptance.sets,
+        None => 0,
+    }
+}
+
+/// Whether labels grow further than they may.
+fn grow_too_far<'a>(
+    alloc: Global,
+    raw: &'a Raw,
+    parts: &Parts<'a>,
+    known: &Places<'a, Known>,
+) -> bool
+    requires parts { ArePartsOf (written raw.now) parts.now }
+    requires known { AreKnown (meanings_by parts.now.defs.items) parts.now.defs.items known.now }
+    ensures { result ≡ nat_lt (most_of Aliases) (count_of Aliases (written raw.now)) }
+{
+    let none = Places::new(alloc);
+    // Divided by 8,192, what the edges weigh is greater than the limit from this on.
+    let most = (u64::from(MOST_ALIASES) + 1) * 8_192 - 1;
+    if are_tall(&parts.labels, known) {
+        return true;
+    }
+    are_heavy(raw.states.as_slice(), known, &none, most)
+}
+
+/// The first limit that is passed.
+pub(crate) fn first_passed<'a>(
+    alloc: Global,
+    raw: &'a Raw,
+    parts: &Parts<'a>,
+    known: &Places<'a, Known>,
+) -> Option<Limit>
+    requires parts { ArePartsOf (written raw.now) parts.now }
+    requires known { AreKnown (meanings_by parts.now.defs.items) parts.now.defs.items known.now }
+    requires below { keeps V6 (written raw.now) ≡ true }
+    ensures { MatchOption result (PassesNone (written raw.now)) (λ which. PassesSome which (written raw.now)) }
+{
+    if parts.names.len() > MOST_NAMES as usize {
+        return Some(Limit::Names);
+    }
+    if set_count(raw, parts) > MOST_SETS {
+        return Some(Limit::Sets);
+    }
+    if state_count(raw, parts) > u64::from(MOST_STATES) {
+        return Some(Limit::States);
+    }
+    if has_more_edges(raw.states.as_slice(), MOST_EDGES as usize) {
+        return Some(Limit::Edges);
+    }
+    if grow_too_far(alloc, raw, parts, known) {
+        return Some(Limit::Aliases);
+    }
+    None
+}

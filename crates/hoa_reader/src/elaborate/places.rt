@@ -1,0 +1,42 @@
+//! What is known of each of several texts, found by the text.
+
+ghost use Rattle.std.specs.Prelude.{◌≡◌, ℕ, List, None, Some, true, is_none, IfOk};
+ghost use Rattle.std.specs.Map.{update};
+ghost use Rattle.hoa_reader.specs.Places.{place_in};
+ghost use Rattle.hoa_reader.specs.Validity.{same_text};
+
+use aut_base::{Memory, Text};
+use std::alloc::Global;
+use std::collections::BTreeMap;
+
+/// Texts that differ from one another, with what is known of each.
+#[derive(Drop)]
+pub(crate) struct Places<'a, V> {
+    places: BTreeMap<&'a [u8], V>,
+}
+
+impl<'a, V: Copy> Places<'a, V> {
+    /// No text.
+    pub(crate) fn new(alloc: Global) -> Self
+        ensures { (q : List ℕ) → place_in result q ≡ None }
+    {
+        Places {
+            places: BTreeMap::new(alloc),
+        }
+    }
+
+    /// What is known of the text, if it is there.
+    pub(crate) fn find(&self, text: &'a Text) -> Option<V>
+        ensures { result ≡ place_in self.now text.now }
+    {
+        self.places.get(&text.as_bytes()).copied()
+    }
+
+    /// Says this of the text, and answers whether it is new.
+    pub(crate) fn add(&mut self, text: &'a Text, value: V) -> Result<bool, Memory>
+        ensures fresh { IfOk result (λ fresh. fresh ≡ is_none (place_in self.old text.now)) }
+        ensures added { IfOk result (λ fresh. (q : List ℕ) → place_in self.new q ≡ update same_text (place_in self.old) text.now (Some value) q) }
+    {
+        Ok(self.places.insert(text.as_bytes(), value)?.is_none())
+    }
+}

@@ -1,0 +1,314 @@
+//! The rules that speak of a few lines, or of one state at a time.
+
+ghost use Rattle.std.specs.Prelude.{◌≡◌, ℕ, ◌==◌, ◌^◌, codes, count_by, is_none, is_some, not, map, IfOk};
+ghost use Rattle.std.specs.List.{list_all};
+ghost use Rattle.hoa_reader.specs.Pieces.{is_line, lines_once};
+ghost use Rattle.hoa_reader.specs.Raw.{written_edge, written_item, written_state};
+ghost use Rattle.hoa_reader.specs.Validity.{all_differ, begins_with_capital, has_edge_per_letter, is_one_state, labels_one_way, marks_below, may_be_passed_over, names_agree, numbers_below, same_text};
+
+use crate::elaborate::places::Places;
+use crate::{Item, RawEdge, RawState};
+use aut_base::{Memory, Numbers, Text};
+use std::alloc::Global;
+use std::collections::BTreeSet;
+
+/// A line that may stand once.
+#[derive(Clone, Copy)]
+pub(crate) enum Line {
+    States,
+    Names,
+    Acceptance,
+    AccName,
+    Tool,
+    Name,
+}
+
+/// Whether the version is `v1`.
+pub(crate) fn is_version_one(version: &Text) -> bool
+    ensures { result ≡ same_text version.now (codes "v1") }
+{
+    version.as_bytes() == b"v1".as_slice()
+}
+
+/// Whether the item is this line.
+fn is_line(item: &Item, line: Line) -> bool
+    ensures { result ≡ is_line line (written_item item.now) }
+{
+    match line {
+        Line::States => matches!(item, Item::States(_)),
+        Line::Names => matches!(item, Item::Ap { .. }),
+        Line::Acceptance => matches!(item, Item::Acceptance { .. }),
+        Line::AccName => matches!(item, Item::AccName),
+        Line::Tool => matches!(item, Item::Tool),
+        Line::Name => matches!(item, Item::Name(_)),
+    }
+}
+
+/// How many of the items are this line.
+fn count(items: &[Item], line: Line) -> usize
+    ensures { result ≡ count_by (is_line line) (map written_item items.now) }
+{
+    let mut count = 0;
+    'items: for item in items {
+        if !is_line(item, line) {
+            continue;
+        }
+        count += 1;
+    }
+    count
+}
+
+/// Whether the acceptance condition stands once, and each other line for the whole at most once.
+pub(crate) fn stand_once(items: &[Item]) -> bool
+    ensures { result ≡ lines_once (map written_item items.now) }
+{
+    count(items, Line::States) <= 1
+        && (count(items, Line::Names) <= 1
+            && (count(items, Line::Acceptance) == 1
+                && (count(items, Line::AccName) <= 1
+                    && (count(items, Line::Tool) <= 1 && count(items, Line::Name) <= 1))))
+}
+
+/// Whether the name begins with a capital letter.
+fn begins_with_capital(name: &Text) -> bool
+    ensures { result ≡ begins_with_capital name.now }
+{
+    match name.as_bytes() {
+        [first, ..] => first.is_ascii_uppercase(),
+        [] => false,
+    }
+}
+
+/// Whether none of the names begins with a capital letter.
+fn none_begins_with_capital(names: &[Text]) -> bool
+    ensures { result ≡ list_all (λ name. not (begins_with_capital name)) names.now }
+{
+    'names: for name in names {
+        if begins_with_capital(name) {
+            return false;
+        }
+    }
+    true
+}
+
+/// Whether the item may be passed over where it isn't known.
+fn may_be_passed_over(item: &Item) -> bool
+    ensures { result ≡ may_be_passed_over (written_item item.now) }
+{
+    match item {
+        Item::Properties(words) => none_begins_with_capital(words.as_slice()),
+        Item::Other(name) => !begins_with_capital(name),
+        _ => true,
+    }
+}
+
+/// Whether what isn't known may be passed over.
+pub(crate) fn may_all_be_passed_over(items: &[Item]) -> bool
+    ensures { result ≡ list_all may_be_passed_over (map written_item items.now) }
+{
+    'items: for item in items {
+        if !may_be_passed_over(item) {
+            return false;
+        }
+    }
+    true
+}
+
+/// Whether all of these differ.
+pub(crate) fn texts_differ(alloc: Global, texts: &[Text]) -> Result<bool, Memory>
+    ensures { IfOk result (λ differ. differ ≡ all_differ same_text texts.now) }
+{
+    let mut seen = Places::new(alloc);
+    'texts: for text in texts {
+        if !seen.add(text, ())? {
+            return Ok(false);
+        }
+    }
+    Ok(true)
+}
+
+/// Whether all of these differ.
+pub(crate) fn numbers_differ(alloc: Global, states: &[RawState]) -> Result<bool, Memory>
+    ensures { IfOk result (λ differ. differ ≡ all_differ ◌==◌ (map (λ s. s.number) (map written_state states.now))) }
+{
+    let mut seen = BTreeSet::new(alloc);
+    'states: for state in states {
+        if !seen.insert(state.number)? {
+            return Ok(false);
+        }
+    }
+    Ok(true)
+}
+
+/// Whether the names of an `AP:` line are as many as it says, and differ.
+fn names_agree(alloc: Global, item: &Item) -> Result<bool, Memory>
+    ensures { IfOk result (λ agree. agree ≡ names_agree (written_item item.now)) }
+{
+    match item {
+        Item::Ap { count, names } => {
+            if names.len() != *count as usize {
+                return Ok(false);
+            }
+            texts_differ(alloc, names.as_slice())
+        }
+        _ => Ok(true),
+    }
+}
+
+/// Whether the names of each `AP:` line are as many as it says, and differ.
+pub(crate) fn all_names_agree(alloc: Global, items: &[Item]) -> Result<bool, Memory>
+    ensures { IfOk result (λ agree. agree ≡ list_all names_agree (map written_item items.now)) }
+{
+    'items: for item in items {
+        if !names_agree(alloc, item)? {
+            return Ok(false);
+        }
+    }
+    Ok(true)
+}
+
+/// Whether each start is one state.
+pub(crate) fn start_in_single_states(starts: &[&Numbers]) -> bool
+    ensures { result ≡ list_all is_one_state (map (λ s. s.now) starts.now) }
+{
+    'starts: for states in starts {
+        if states.len() != 1 {
+            return false;
+        }
+    }
+    true
+}
+
+/// Whether each edge of the state leads to one state.
+fn lead_to_single_states(edges: &[RawEdge]) -> bool
+    ensures { result ≡ list_all (λ e. is_one_state e.to) (map written_edge edges.now) }
+{
+    'edges: for edge in edges {
+        if edge.to.len() != 1 {
+            return false;
+        }
+    }
+    true
+}
+
+/// Whether each edge of each state leads to one state.
+pub(crate) fn all_lead_to_single_states(states: &[RawState]) -> bool
+    ensures { result ≡ list_all (λ s. list_all (λ e. is_one_state e.to) s.edges) (map written_state states.now) }
+{
+    'states: for state in states {
+        if !lead_to_single_states(state.edges.as_slice()) {
+            return false;
+        }
+    }
+    true
+}
+
+/// Whether all of these are below the number.
+fn are_below(numbers: &[u32], count: u32) -> bool
+    ensures { result ≡ numbers_below count numbers.now }
+{
+    numbers.iter().all(|number| *number < count)
+}
+
+/// Whether the sets of the state and of its edges are below their number.
+fn marks_are_below(state: &RawState, sets: u32) -> bool
+    ensures { result ≡ marks_below sets (written_state state.now) }
+{
+    if !are_below(state.marks.as_slice(), sets) {
+        return false;
+    }
+    'edges: for edge in state.edges.as_slice() {
+        if !are_below(edge.marks.as_slice(), sets) {
+            return false;
+        }
+    }
+    true
+}
+
+/// Whether the sets of each state and of its edges are below their number.
+pub(crate) fn all_marks_are_below(states: &[RawState], sets: u32) -> bool
+    ensures { result ≡ list_all (marks_below sets) (map written_state states.now) }
+{
+    'states: for state in states {
+        if !marks_are_below(state, sets) {
+            return false;
+        }
+    }
+    true
+}
+
+/// Whether each of these edges has a label.
+fn all_labelled(edges: &[RawEdge]) -> bool
+    ensures { result ≡ list_all (λ e. is_some e.label) (map written_edge edges.now) }
+{
+    'edges: for edge in edges {
+        if edge.label.is_none() {
+            return false;
+        }
+    }
+    true
+}
+
+/// Whether none of these edges has a label.
+fn none_labelled(edges: &[RawEdge]) -> bool
+    ensures { result ≡ list_all (λ e. is_none e.label) (map written_edge edges.now) }
+{
+    'edges: for edge in edges {
+        if edge.label.is_some() {
+            return false;
+        }
+    }
+    true
+}
+
+/// Whether the state or all of its edges have labels, and not both.
+fn is_labelled_one_way(state: &RawState) -> bool
+    ensures { result ≡ labels_one_way (written_state state.now) }
+{
+    none_labelled(state.edges.as_slice())
+        || (state.label.is_none() && all_labelled(state.edges.as_slice()))
+}
+
+/// Whether each state is labelled one way.
+pub(crate) fn are_labelled_one_way(states: &[RawState]) -> bool
+    ensures { result ≡ list_all labels_one_way (map written_state states.now) }
+{
+    'states: for state in states {
+        if !is_labelled_one_way(state) {
+            return false;
+        }
+    }
+    true
+}
+
+/// Whether the number is 2 to the power of the other.
+fn is_power(number: usize, exponent: usize) -> bool
+    ensures { result ≡ (number == 2 ^ exponent) }
+{
+    if exponent >= 64 {
+        return false;
+    }
+    number as u64 == 1 << exponent
+}
+
+/// Whether the state has a label, no edges, or one for each letter over this many names.
+fn has_edges_for_letters(state: &RawState, names: usize) -> bool
+    ensures { result ≡ has_edge_per_letter names (written_state state.now) }
+{
+    let edges = state.edges.len();
+    edges == 0
+        || (is_power(edges, names)
+            || !(state.label.is_none() && none_labelled(state.edges.as_slice())))
+}
+
+/// Whether each state has a label, no edges, or one for each letter over this many names.
+pub(crate) fn have_edges_for_letters(states: &[RawState], names: usize) -> bool
+    ensures { result ≡ list_all (has_edge_per_letter names) (map written_state states.now) }
+{
+    'states: for state in states {
+        if !has_edges_for_letters(state, names) {
+            return false;
+        }
+    }
+    true
+}

@@ -1,0 +1,82 @@
+//! The number of states that follows from the numbers that are used.
+
+ghost use Rattle.std.specs.Prelude.{◌≡◌, ◌++◌, max, map, flat_map, filter_map, nat_le};
+ghost use Rattle.std.specs.List.{list_all};
+ghost use Rattle.hoa_reader.specs.Described.{after_all};
+ghost use Rattle.hoa_reader.specs.Pieces.{goals, numbers, starts_named};
+ghost use Rattle.hoa_reader.specs.Raw.{written_edge, written_item, written_state};
+ghost use Rattle.hoa_reader.specs.Validity.{states_item};
+
+use crate::{Item, RawEdge, RawState};
+use aut_base::Numbers;
+
+/// The least number that is above these, and no less than the other.
+fn after_numbers(numbers: &[u32], least: u64) -> u64
+    ensures { result ≡ max least (after_all numbers.now) }
+{
+    let mut after = least;
+    'numbers: for number in numbers {
+        after = after.max(u64::from(*number) + 1);
+    }
+    after
+}
+
+/// The same for the goals of these edges.
+#[tactic(auto, using(crate::proofs::AfterAll::after_alls))]
+fn after_edges(edges: &[RawEdge], least: u64) -> u64
+    ensures { result ≡ max least (after_all (flat_map (λ e. e.to) (map written_edge edges.now))) }
+{
+    let mut after = least;
+    'edges: for edge in edges {
+        after = after_numbers(edge.to.as_slice(), after);
+    }
+    after
+}
+
+/// The same for the starts.
+#[tactic(auto, using(crate::proofs::AfterAll::after_alls))]
+fn after_starts(starts: &[&Numbers], least: u64) -> u64
+    ensures { result ≡ max least (after_all (starts_named starts.now)) }
+{
+    let mut after = least;
+    'starts: for states in starts {
+        after = after_numbers(states.as_slice(), after);
+    }
+    after
+}
+
+/// The same for these states and the goals of their edges.
+#[tactic(auto, using(crate::proofs::AfterAll::after_alls))]
+fn after_states(states: &[RawState], least: u64) -> u64
+    ensures { result ≡ max least (max (after_all (numbers (map written_state states.now))) (after_all (goals (map written_state states.now)))) }
+{
+    let mut after = least;
+    'states: for state in states {
+        after = after.max(u64::from(state.number) + 1);
+        after = after_edges(state.edges.as_slice(), after);
+    }
+    after
+}
+
+/// The least number that is above every number of a state.
+#[tactic(auto, using(crate::proofs::AfterAll::after_alls))]
+pub(crate) fn after_used(starts: &[&Numbers], states: &[RawState]) -> u64
+    ensures { result ≡ after_all (starts_named starts.now ++ (numbers (map written_state states.now) ++ goals (map written_state states.now))) }
+{
+    after_states(states, after_starts(starts, 0))
+}
+
+/// Whether each `States:` line has this number or a greater one.
+pub(crate) fn are_counted(items: &[Item], after: u64) -> bool
+    ensures { result ≡ list_all (nat_le after) (filter_map states_item (map written_item items.now)) }
+{
+    'items: for item in items {
+        let Item::States(count) = item else {
+            continue;
+        };
+        if u64::from(*count) < after {
+            return false;
+        }
+    }
+    true
+}
