@@ -4,6 +4,7 @@ pub mod Elaborating
 pub mod Expecting
 pub mod Faults
 pub mod Grammar
+pub mod Naming
 pub mod Raw
 pub mod Reads
 pub mod Standing

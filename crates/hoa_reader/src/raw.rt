@@ -1,5 +1,10 @@
 //! An automaton as its text writes it, before any rule is checked (HOA v1, Grammar).
 
+ghost use Rattle.std.specs.Prelude.{◌≡◌};
+ghost use Rattle.std.specs.Option.{option_copied};
+ghost use Rattle.hoa_reader.specs.Naming.{name_of};
+ghost use Rattle.hoa_reader.specs.Raw.{written};
+
 use aut_base::{Formula, Numbers, Seq, Text, Words};
 
 /// A label as it is written; an alias stands for the label that it was defined as.
@@ -75,4 +80,18 @@ pub struct Raw {
     pub version: Text,
     pub items: Items,
     pub states: RawStates,
+}
+
+impl Raw {
+    /// The text of the first `name:` of the header, and None exactly where there is none.
+    pub fn name(&self) -> Option<&Text>
+        ensures { option_copied result ≡ name_of (written self.now) }
+    {
+        'items: for item in self.items.as_slice() {
+            if let Item::Name(text) = item {
+                return Some(text);
+            }
+        }
+        None
+    }
 }
