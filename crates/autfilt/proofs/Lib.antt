@@ -1,3 +1,3 @@
-pub mod Forms
 pub mod Gains
 pub mod Runs
+pub mod Turns

@@ -1,4 +1,4 @@
-pub mod Faults
+pub mod Ends
 pub mod Notes
 pub mod Run
 pub mod Running

@@ -10,7 +10,7 @@ mod tests;
 mod turn;
 
 use aut_base::{Memory, Text, Words};
-pub use ended::Ended;
+pub use ended::{End, Ended};
 use notes::note;
 use real::{RealInputs, RealSink};
 pub use run::autfilt;
@@ -27,9 +27,9 @@ fn main(rt: HostRuntime) -> ExitCode {
         Ok((words, mut inputs)) => {
             autfilt(rt.alloc(), &words, &mut inputs, &mut out, &mut notes)
         }
-        Err(ended) => {
-            note(&mut notes, &ended);
-            ended
+        Err(end) => {
+            note(&mut notes, &end);
+            Ended::from(end)
         }
     };
     ExitCode::from(ended.status())
@@ -40,13 +40,13 @@ fn made(
     alloc: Global,
     args: io::Result<Args<Global>>,
     stdin: Stdin,
-) -> Result<(Words, RealInputs), Ended> {
+) -> Result<(Words, RealInputs), End> {
     let words = match args {
         Ok(args) => words_of(alloc, args)?,
         Err(error) => {
             return match error.kind() {
-                io::ErrorKind::OutOfMemory => Err(Ended::Memory),
-                _ => Err(Ended::Usage),
+                io::ErrorKind::OutOfMemory => Err(End::Memory),
+                _ => Err(End::Usage),
             };
         }
     };
