@@ -41,8 +41,8 @@ const REST_OUT: &[u8] =
 /// What a run is over, apart from its words.
 #[derive(Clone, Copy)]
 struct Outside<'a> {
-    /// What stands under `-`, if that can be opened.
-    input: Option<&'a [u8]>,
+    /// What stands under `-`.
+    input: &'a [u8],
     /// The numbers of the failing calls of the inputs, and of the failing writes.
     failing_calls: &'a [u32],
     failing_writes: &'a [u32],
@@ -82,11 +82,8 @@ fn inputs(alloc: Global, outside: &Outside<'_>) -> Result<MemInputs, Memory> {
     let failing = numbers(alloc, outside.failing_calls)?;
     let mut names = Names::new(alloc);
     let mut texts = Words::new(alloc);
-    if let Some(input) = outside.input {
-        names.push(Text::from_bytes(alloc, b"-")?)?;
-        texts.push(Text::from_bytes(alloc, input)?)?;
-        return Ok(MemInputs::new(names, texts, failing));
-    }
+    names.push(Text::from_bytes(alloc, b"-")?)?;
+    texts.push(Text::from_bytes(alloc, outside.input)?)?;
     Ok(MemInputs::new(names, texts, failing))
 }
 
@@ -105,12 +102,63 @@ fn run(alloc: Global, words: &[&str], outside: &Outside<'_>) -> Result<Ran, Memo
 /// A run without words over this standard input. Nothing fails but these writes of the note.
 fn filter(alloc: Global, input: &[u8], failing_notes: &[u32]) -> Result<Ran, Memory> {
     let outside = Outside {
-        input: Some(input),
+        input,
         failing_calls: &[],
         failing_writes: &[],
         failing_notes,
     };
     run(alloc, &[], &outside)
+}
+
+/// A run without words over this standard input, where these calls of the inputs and these writes fail.
+fn run_failing(
+    alloc: Global,
+    input: &[u8],
+    failing_calls: &[u32],
+    failing_writes: &[u32],
+) -> Result<Ran, Memory> {
+    let outside = Outside {
+        input,
+        failing_calls,
+        failing_writes,
+        failing_notes: &[],
+    };
+    run(alloc, &[], &outside)
+}
+
+/// What of `ONE` and `TWO` is printed before this call of the inputs fails: their `--END--` are read by calls 100 and
+/// 215.
+fn texts_before(call: u32) -> &'static [&'static [u8]] {
+    if call < 101 {
+        &[]
+    } else if call < 216 {
+        &[ONE_OUT]
+    } else {
+        &[ONE_OUT, TWO_OUT]
+    }
+}
+
+/// What is noted of this call.
+fn note_at(call: u32) -> &'static [u8] {
+    if call == 0 {
+        b"autfilt: cannot open -\n"
+    } else {
+        b"autfilt: -: read error\n"
+    }
+}
+
+/// The texts before the one of this number, and half of that.
+fn broken_off(alloc: Global, texts: &[&[u8]], number: usize) -> Result<Text, Memory> {
+    let mut written = Text::new(alloc);
+    for (place, text) in texts.iter().enumerate() {
+        if place < number {
+            written.extend(text)?;
+        }
+        if place == number {
+            written.extend(&text[..text.len() / 2])?;
+        }
+    }
+    Ok(written)
 }
 
 /// The text of `ONE` with this many parentheses round the label of its first edge.
@@ -334,7 +382,7 @@ fn parentheses_nest_up_to_a_limit(rt: HostRuntime) -> Result<(), Fail> {
 #[test]
 fn refuses_a_word_before_anything_is_opened(rt: HostRuntime) -> Result<(), Fail> {
     let outside = Outside {
-        input: Some(ONE),
+        input: ONE,
         failing_calls: &[0, 1, 2, 3],
         failing_writes: &[0, 1, 2, 3],
         failing_notes: &[],
@@ -354,42 +402,19 @@ fn a_failed_call_of_the_inputs_ends_the_run_between_two_automata(
     rt: HostRuntime,
 ) -> Result<(), Fail> {
     let given = joined(rt.alloc(), &[ONE, TWO])?;
-    let both = joined(rt.alloc(), &[ONE_OUT, TWO_OUT])?;
-    let first = ONE.len() as u32;
-    let bytes = first + TWO.len() as u32;
-    for call in 0..bytes + 2 {
-        let outside = Outside {
-            input: Some(given.as_bytes()),
-            failing_calls: &[call],
-            failing_writes: &[],
-            failing_notes: &[],
-        };
-        let ran = run(rt.alloc(), &[], &outside)?;
-        let (ended, note): (Ended, &[u8]) = if call == 0 {
-            (Ended::CannotOpen, b"autfilt: cannot open -\n")
+    for call in 0..218 {
+        let ran = run_failing(rt.alloc(), given.as_bytes(), &[call], &[])?;
+        let written = joined(rt.alloc(), texts_before(call))?;
+        let ended = if call == 0 {
+            Ended::CannotOpen
         } else {
-            (Ended::ReadFault, b"autfilt: -: read error\n")
-        };
-        let written: &[u8] = if call < first {
-            b""
-        } else if call < bytes {
-            ONE_OUT
-        } else {
-            both.as_bytes()
+            Ended::ReadFault
         };
         assert_eq!(rt; ran.ended, ended, "call {call}");
         assert_eq!(rt; ran.ended.status(), 2, "call {call}");
-        assert_eq!(rt; ran.out.bytes(), written, "call {call}");
-        assert_eq!(rt; ran.notes.bytes(), note, "call {call}");
+        assert_eq!(rt; ran.out.bytes(), written.as_bytes(), "call {call}");
+        assert_eq!(rt; ran.notes.bytes(), note_at(call), "call {call}");
     }
-    let outside = Outside {
-        input: None,
-        failing_calls: &[],
-        failing_writes: &[],
-        failing_notes: &[],
-    };
-    let ran = run(rt.alloc(), &[], &outside)?;
-    assert_eq!(rt; ran.ended, Ended::CannotOpen);
     Ok(())
 }
 
@@ -397,26 +422,17 @@ fn a_failed_call_of_the_inputs_ends_the_run_between_two_automata(
 #[test]
 fn a_failed_write_ends_the_run_within_a_text(rt: HostRuntime) -> Result<(), Fail> {
     let given = joined(rt.alloc(), &[ONE, TWO, ONE])?;
-    let texts: [&[u8]; 3] = [ONE_OUT, TWO_OUT, ONE_OUT];
-    let mut written = Text::new(rt.alloc());
-    for (number, text) in texts.iter().enumerate() {
-        let outside = Outside {
-            input: Some(given.as_bytes()),
-            failing_calls: &[],
-            failing_writes: &[number as u32],
-            failing_notes: &[],
-        };
-        let ran = run(rt.alloc(), &[], &outside)?;
-        let half = joined(rt.alloc(), &[written.as_bytes(), &text[..text.len() / 2]])?;
+    for number in 0..3 {
+        let ran = run_failing(rt.alloc(), given.as_bytes(), &[], &[number])?;
+        let written = broken_off(rt.alloc(), &[ONE_OUT, TWO_OUT, ONE_OUT], number as usize)?;
         assert_eq!(rt; ran.ended, Ended::WriteFault, "write {number}");
         assert_eq!(rt; ran.ended.status(), 2, "write {number}");
-        assert_eq!(rt; ran.out.bytes(), half.as_bytes(), "write {number}");
+        assert_eq!(rt; ran.out.bytes(), written.as_bytes(), "write {number}");
         assert_eq!(rt;
             ran.notes.bytes(),
             b"autfilt: write error\n".as_slice(),
             "write {number}"
         );
-        written.extend(text)?;
     }
     Ok(())
 }

@@ -59,7 +59,7 @@ fn print<W: Sink>(alloc: Global, raw: &Raw, out: &mut W) -> Result<(), End>
 {
     let description = match describe(alloc, raw) {
         Ok(description) => description,
-        Err(fault) => return Err(End::from(fault)),
+        Err(refusal) => return Err(End::from(refusal)),
     };
     let text = match write_description(alloc, &description, raw.name()) {
         Ok(text) => text,
