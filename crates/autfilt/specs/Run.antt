@@ -133,7 +133,6 @@ pub record EndsBy (words : List (List ℕ)) (result : Ended) (text left written 
 -- Why a run ended so. A fault of the outside is answered only where its count rose, and no other answer but want of
 -- memory comes where a call failed.
 abbrev pub EndsBecause : Ended → ℕ → ℕ → ℕ → ℕ → ℕ → ℕ → Type 0
-EndsBecause ended.Usage opens opens' reads reads' writes writes' = ⊥
 EndsBecause ended.CannotOpen opens opens' reads reads' writes writes' = Rose opens opens' × (reads' ≡ reads) × (writes' ≡ writes)
 EndsBecause ended.ReadFault opens opens' reads reads' writes writes' = (opens' ≡ opens) × Rose reads reads' × (writes' ≡ writes)
 EndsBecause ended.WriteFault opens opens' reads reads' writes writes' = (opens' ≡ opens) × (reads' ≡ reads) × Rose writes writes'

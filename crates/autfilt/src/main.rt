@@ -2,6 +2,7 @@
 #![tactic(auto)]
 
 mod ended;
+mod laws;
 mod notes;
 mod real;
 mod run;
@@ -11,6 +12,7 @@ mod turn;
 
 use aut_base::{Memory, Text, Words};
 pub use ended::{End, Ended};
+pub use laws::one_end;
 use notes::note;
 use real::{RealInputs, RealSink};
 pub use run::autfilt;

@@ -1,10 +1,11 @@
 //! The top call.
 
-ghost use Rattle.std.specs.Prelude.{◌≡◌, ◌≢◌, []};
+ghost use Rattle.std.specs.Prelude.{◌≡◌, ◌≢◌, ◌↔◌, []};
 ghost use Rattle.autfilt.specs.Ends.{ended_of};
 ghost use Rattle.autfilt.specs.Run.{Calm, EndsBecause, EndsBy, Runs, input_of, standard_input};
 ghost use Rattle.autfilt.specs.Running.{RunsOver, end_of};
 ghost use Rattle.autfilt.specs.Turn.{Causes};
+ghost use Rattle.autfilt.specs.declared.ended.End.{End};
 ghost use Rattle.autfilt.specs.declared.ended.Ended.{Ended};
 
 use crate::ended::{End, Ended};
@@ -49,6 +50,7 @@ fn print_input<I: Inputs, W: Sink>(alloc: Global, inputs: &mut I, out: &mut W) -
     ensures runs { Runs result (input_of (I.texts inputs.old)) (I.left inputs.new) (W.written out.old) (W.written out.new) }
     ensures causes { EndsBecause (ended_of result) (I.open_faults inputs.old) (I.open_faults inputs.new)
         (I.read_faults inputs.old) (I.read_faults inputs.new) (W.faults out.old) (W.faults out.new) }
+    ensures no_usage { result ≢ End.Usage }
 {
     let name = match Text::from_bytes(alloc, b"-") {
         Ok(name) => name,
@@ -77,11 +79,11 @@ pub fn autfilt<I: Inputs, W: Sink, M: Sink>(
         (M.written notes.old) (M.written notes.new) (Calm (M.faults notes.old) (M.faults notes.new)) }
 
     // A fault of the outside is answered only where its count rose, and no other answer but want of memory comes then.
-    ensures causes { words.now ≡ [] → EndsBecause result (I.open_faults inputs.old) (I.open_faults inputs.new)
+    ensures causes { EndsBecause result (I.open_faults inputs.old) (I.open_faults inputs.new)
         (I.read_faults inputs.old) (I.read_faults inputs.new) (W.faults out.old) (W.faults out.new) }
 
-    // Words are refused, and then nothing is opened, read or written.
-    ensures usage { words.now ≢ [] → result ≡ Ended.Usage }
+    // Words are refused, and they alone; then nothing is opened, read or written.
+    ensures usage { (result ≡ Ended.Usage) ↔ (words.now ≢ []) }
     ensures untouched { words.now ≢ [] → (I.left inputs.new ≡ I.left inputs.old) × (W.written out.new ≡ W.written out.old) }
 {
     let end = if words.is_empty() {
