@@ -1,5 +1,5 @@
 -- Automata that were read one after the other, and runs over them.
-use Rattle.std.proofs.Common.{◌≡◌, ℕ, ◌+◌, ◌^◌, Bool, true, false, List, [], ◌∷◌, ◌++◌, length, take, Option, Some, None, Err, IsErrOf, refl, sym, ap, ◌∙◌, subst, inl, inr, append_assoc, append-nil, arith}
+use Rattle.std.proofs.Common.{◌≡◌, ℕ, ◌+◌, ◌^◌, ◌≤◌, Bool, true, false, List, [], ◌∷◌, ◌++◌, length, take, Option, Some, None, Err, IsErrOf, refl, sym, ap, ◌∙◌, subst, inl, inr, append_assoc, append-nil, arith}
 use Rattle.aut_base.specs.declared.limit.Limit.TheVariants as limit
 use Rattle.aut_io.specs.Outside.{Gains, GainsPrefix, Rose}
 use Rattle.autfilt.proofs.Gains.{both, nothing}
@@ -9,7 +9,7 @@ use Rattle.autfilt.specs.Running.{HasRun, RunsOver, end_of, is_some_automaton}
 use Rattle.autfilt.specs.Turn.{Causes, EndsHere, IsPrinted, IsPrintedInPart, TurnCauses, Turns}
 use Rattle.autfilt.specs.declared.ended.End.{End}
 use Rattle.autfilt.specs.declared.ended.End.TheVariants as end
-use Rattle.hoa_lexer.proofs.Between.{between_as, between_both, between_then}
+use Rattle.hoa_lexer.proofs.Between.{between_both, between_then}
 use Rattle.hoa_lexer.specs.Blanks.{IsBlanks}
 use Rattle.hoa_lexer.specs.Reading.{Between, unread}
 use Rattle.hoa_reader.specs.Raw.{Written}
@@ -78,21 +78,27 @@ ends_blank : (ws : List Written) (text rest now : List ℕ) → IsBlanks rest �
 ends_blank [] text rest now b e = (b, e)
 ends_blank (v ∷ vs) text rest now b e = (b, e)
 
-run_over : (ws : List Written) (a b c w w' : Option (List ℕ)) → Between a b (λ text rest. AreRead text text ws rest) → Gains w w' (all_printed ws)
-    → Between b c (λ rest now. IsBlanks rest × (now ≡ [])) → RunsOver (end_of (is_some_automaton ws)) a c w w'
-run_over ws a b c w w' front g t = record {
+few_taken : (taken : ℕ) (text now : List ℕ) → taken ≤ 2 ^ 40 → IsAt taken text now → length text ≤ 2 ^ 40 + length now
+few_taken taken text now few at = omega arith
+
+run_over : (ws : List Written) (taken : ℕ) (a b c w w' : Option (List ℕ)) → taken ≤ 2 ^ 40 → Between a b (λ text rest. AreRead text text ws rest) → Gains w w' (all_printed ws)
+    → Between b c (λ rest now. IsBlanks rest × (now ≡ [])) → Between a c (IsAt taken) → RunsOver (end_of (is_some_automaton ws)) a c w w'
+run_over ws taken a b c w w' few front g t k = record {
   automata = ws;
-  reads = between_then a b c (λ text rest. AreRead text text ws rest) (λ rest now. IsBlanks rest × (now ≡ []))
+  reads = between_both a c (λ text now. (rest : List ℕ) × AreRead text text ws rest × IsBlanks rest × (now ≡ [])) (IsAt taken)
       (λ text now. ReadsTo (end_of (is_some_automaton ws)) text ws now)
-      (λ text rest now p q. record { rest = rest; front = p; ends = ends_blank ws text rest now q.0 q.1 }) front t;
+      (λ text now p at. record { rest = p.0; front = p.1; ends = ends_blank ws text p.0 now p.2 p.3; within = few_taken taken text now few at })
+      (between_then a b c (λ text rest. AreRead text text ws rest) (λ rest now. IsBlanks rest × (now ≡ []))
+      (λ text now. (rest : List ℕ) × AreRead text text ws rest × IsBlanks rest × (now ≡ []))
+      (λ text rest now p q. (rest, p, q.0, q.1)) front t) k;
   prints = prints_all ws w w' g;
 }
 
-pub run_done : (result : End) (is : Bool) (a b c w w' w'' : Option (List ℕ)) → result ≡ end_of is → HasRun a b w w' is
-    → Between b c (λ rest now. IsBlanks rest × (now ≡ [])) → w'' ≡ w' → RunsOver result a c w w''
-run_done result is a b c w w' w'' e h t k =
+pub run_done : (result : End) (is : Bool) (taken : ℕ) (a b c w w' w'' : Option (List ℕ)) → taken ≤ 2 ^ 40 → result ≡ end_of is → HasRun a b w w' is
+    → Between b c (λ rest now. IsBlanks rest × (now ≡ [])) → Between a c (IsAt taken) → w'' ≡ w' → RunsOver result a c w w''
+run_done result is taken a b c w w' w'' few e h t at k =
     let P : End → Type 0 = λ x. RunsOver x a c w w'' in
-    subst P (sym (e ∙ ap end_of h.is_printed)) (run_over h.automata a b c w w'' h.front (gains_to w w' w'' _ k h.gains) t)
+    subst P (sym (e ∙ ap end_of h.is_printed)) (run_over h.automata taken a b c w w'' few h.front (gains_to w w' w'' _ k h.gains) t at)
 
 -- a count that rose in the last call rose in the run
 rose_since : (a b c : ℕ) → b ≡ a → Rose b c → Rose a c
@@ -163,12 +169,12 @@ abbrev IsHere : End → Option ℕ → List Written → List ℕ → List ℕ �
 IsHere e held ws text now = (rest : List ℕ) × AreRead text text ws rest × EndsHere e (place text rest) rest (unread held now)
 
 ends_between : (e : End) (n taken : ℕ) (held : Option ℕ) (is : Bool) (a b c w w' w'' : Option (List ℕ)) (r r' t t' : ℕ) → (e ≡ end.WriteFault → ⊥)
-    → HasRun a b w w' is → Between a b (IsAt n) → Between a c (IsAt taken) → TookAll e taken → TurnCauses (Err e) r r' t t'
+    → HasRun a b w w' is → Between a b (IsAt n) → taken ≤ 2 ^ 40 → Between a c (IsAt taken) → TookAll e taken → TurnCauses (Err e) r r' t t'
     → Between b c (λ old new. EndsHere e n old (unread held new)) × (w'' ≡ w') → RunsOver e a c w w''
-ends_between e n taken held is a b c w w' w'' r r' t t' between h k k' all causes turn = record {
+ends_between e n taken held is a b c w w' w'' r r' t t' between h k few k' all causes turn = record {
   automata = h.automata;
   reads = between_both a c (IsHere e held h.automata) (IsAt taken) (λ text now. ReadsTo e text h.automata now)
-      (λ text now p at. record { rest = p.0; front = p.1; ends = ends_at e text p.0 now held taken r r' t t' causes at all p.2 between })
+      (λ text now p at. record { rest = p.0; front = p.1; ends = ends_at e text p.0 now held taken r r' t t' causes at all p.2 between; within = few_taken taken text now few at })
       (between_then a b c (λ text rest. AreRead text text h.automata rest × IsAt n text rest) (λ rest now. EndsHere e n rest (unread held now)) (IsHere e held h.automata)
       (λ text rest now p q.
       let P : ℕ → Type 0 = λ n. EndsHere e n rest (unread held now) in
@@ -187,31 +193,32 @@ breaks_off ws w (Some old) b c g p =
     let q = subst P g p in
     record { earlier = ws; last = w; all = refl; part = q.0; gains = q.1 ∙ ap Some (append_assoc old (all_printed ws) (take q.0 (printed w))) }
 
-ends_writing : (n : ℕ) (is : Bool) (a b c w w' w'' : Option (List ℕ)) → HasRun a b w w' is → Between a b (IsAt n) → IsPrintedInPart n b c w' w'' → RunsOver end.WriteFault a c w w''
-ends_writing n is a b c w w' w'' h k p = record {
+ends_writing : (n taken : ℕ) (is : Bool) (a b c w w' w'' : Option (List ℕ)) → HasRun a b w w' is → Between a b (IsAt n) → taken ≤ 2 ^ 40 → Between a c (IsAt taken)
+    → IsPrintedInPart n b c w' w'' → RunsOver end.WriteFault a c w w''
+ends_writing n taken is a b c w w' w'' h k few k' p = record {
   automata = h.automata ++ p.automaton ∷ [];
-  reads = between_as a c (λ text now. AreRead text text (h.automata ++ p.automaton ∷ []) now) (λ text now. ReadsTo end.WriteFault text (h.automata ++ p.automaton ∷ []) now)
-      (λ text now f. record { rest = now; front = f; ends = refl })
-      (front_more n h.automata p.automaton a b c h.front k p.read);
+  reads = between_both a c (λ text now. AreRead text text (h.automata ++ p.automaton ∷ []) now) (IsAt taken) (λ text now. ReadsTo end.WriteFault text (h.automata ++ p.automaton ∷ []) now)
+      (λ text now f at. record { rest = now; front = f; ends = refl; within = few_taken taken text now few at })
+      (front_more n h.automata p.automaton a b c h.front k p.read) k';
   prints = breaks_off h.automata p.automaton w w' w'' h.gains p.gains;
 }
 
 -- the run ends where a turn does
 pub ends_by : (e : End) (n taken : ℕ) (held : Option ℕ) (is : Bool) (a b c w w' w'' : Option (List ℕ)) (r r' t t' : ℕ)
-    → HasRun a b w w' is → Between a b (IsAt n) → Between a c (IsAt taken) → TookAll e taken → TurnCauses (Err e) r r' t t'
+    → HasRun a b w w' is → Between a b (IsAt n) → taken ≤ 2 ^ 40 → Between a c (IsAt taken) → TookAll e taken → TurnCauses (Err e) r r' t t'
     → Turns (Err e) n held b c w' w'' → RunsOver e a c w w''
-ends_by end.WriteFault n taken held is a b c w w' w'' r r' t t' h k k' all causes turn = ends_writing n is a b c w w' w'' h k turn
-ends_by end.Output n taken held is a b c w w' w'' r r' t t' h k k' all causes turn = ends_between end.Output n taken held is a b c w w' w'' r r' t t' (λ e. cc) h k k' all causes turn
-ends_by end.NoneOutput n taken held is a b c w w' w'' r r' t t' h k k' all causes turn = ends_between end.NoneOutput n taken held is a b c w w' w'' r r' t t' (λ e. cc) h k k' all causes turn
-ends_by end.Usage n taken held is a b c w w' w'' r r' t t' h k k' all causes turn = ends_between end.Usage n taken held is a b c w w' w'' r r' t t' (λ e. cc) h k k' all causes turn
-ends_by end.CannotOpen n taken held is a b c w w' w'' r r' t t' h k k' all causes turn = ends_between end.CannotOpen n taken held is a b c w w' w'' r r' t t' (λ e. cc) h k k' all causes turn
-ends_by end.ReadFault n taken held is a b c w w' w'' r r' t t' h k k' all causes turn = ends_between end.ReadFault n taken held is a b c w w' w'' r r' t t' (λ e. cc) h k k' all causes turn
-ends_by (end.SyntaxAt x) n taken held is a b c w w' w'' r r' t t' h k k' all causes turn = ends_between (end.SyntaxAt x) n taken held is a b c w w' w'' r r' t t' (λ e. cc) h k k' all causes turn
-ends_by end.Truncated n taken held is a b c w w' w'' r r' t t' h k k' all causes turn = ends_between end.Truncated n taken held is a b c w w' w'' r r' t t' (λ e. cc) h k k' all causes turn
-ends_by end.Aborted n taken held is a b c w w' w'' r r' t t' h k k' all causes turn = ends_between end.Aborted n taken held is a b c w w' w'' r r' t t' (λ e. cc) h k k' all causes turn
-ends_by (end.Invalid x) n taken held is a b c w w' w'' r r' t t' h k k' all causes turn = ends_between (end.Invalid x) n taken held is a b c w w' w'' r r' t t' (λ e. cc) h k k' all causes turn
-ends_by (end.Limit x) n taken held is a b c w w' w'' r r' t t' h k k' all causes turn = ends_between (end.Limit x) n taken held is a b c w w' w'' r r' t t' (λ e. cc) h k k' all causes turn
-ends_by end.Memory n taken held is a b c w w' w'' r r' t t' h k k' all causes turn = ends_between end.Memory n taken held is a b c w w' w'' r r' t t' (λ e. cc) h k k' all causes turn
+ends_by end.WriteFault n taken held is a b c w w' w'' r r' t t' h k few k' all causes turn = ends_writing n taken is a b c w w' w'' h k few k' turn
+ends_by end.Output n taken held is a b c w w' w'' r r' t t' h k few k' all causes turn = ends_between end.Output n taken held is a b c w w' w'' r r' t t' (λ e. cc) h k few k' all causes turn
+ends_by end.NoneOutput n taken held is a b c w w' w'' r r' t t' h k few k' all causes turn = ends_between end.NoneOutput n taken held is a b c w w' w'' r r' t t' (λ e. cc) h k few k' all causes turn
+ends_by end.Usage n taken held is a b c w w' w'' r r' t t' h k few k' all causes turn = ends_between end.Usage n taken held is a b c w w' w'' r r' t t' (λ e. cc) h k few k' all causes turn
+ends_by end.CannotOpen n taken held is a b c w w' w'' r r' t t' h k few k' all causes turn = ends_between end.CannotOpen n taken held is a b c w w' w'' r r' t t' (λ e. cc) h k few k' all causes turn
+ends_by end.ReadFault n taken held is a b c w w' w'' r r' t t' h k few k' all causes turn = ends_between end.ReadFault n taken held is a b c w w' w'' r r' t t' (λ e. cc) h k few k' all causes turn
+ends_by (end.SyntaxAt x) n taken held is a b c w w' w'' r r' t t' h k few k' all causes turn = ends_between (end.SyntaxAt x) n taken held is a b c w w' w'' r r' t t' (λ e. cc) h k few k' all causes turn
+ends_by end.Truncated n taken held is a b c w w' w'' r r' t t' h k few k' all causes turn = ends_between end.Truncated n taken held is a b c w w' w'' r r' t t' (λ e. cc) h k few k' all causes turn
+ends_by end.Aborted n taken held is a b c w w' w'' r r' t t' h k few k' all causes turn = ends_between end.Aborted n taken held is a b c w w' w'' r r' t t' (λ e. cc) h k few k' all causes turn
+ends_by (end.Invalid x) n taken held is a b c w w' w'' r r' t t' h k few k' all causes turn = ends_between (end.Invalid x) n taken held is a b c w w' w'' r r' t t' (λ e. cc) h k few k' all causes turn
+ends_by (end.Limit x) n taken held is a b c w w' w'' r r' t t' h k few k' all causes turn = ends_between (end.Limit x) n taken held is a b c w w' w'' r r' t t' (λ e. cc) h k few k' all causes turn
+ends_by end.Memory n taken held is a b c w w' w'' r r' t t' h k few k' all causes turn = ends_between end.Memory n taken held is a b c w w' w'' r r' t t' (λ e. cc) h k few k' all causes turn
 
 pub took_all : (e : End) (taken most : ℕ) → most ≡ 2 ^ 40 → (IsErrOf {T = Bool} (Err e) (end.Limit limit.Bytes) → taken ≡ most) → TookAll e taken
 took_all (end.Limit limit.Bytes) taken most m h = h refl ∙ m

@@ -5,7 +5,7 @@ use Rattle.aut_base.specs.declared.limit.Limit.{Limit}
 use Rattle.aut_io.specs.Outside.{Gains, GainsPrefix}
 use Rattle.autfilt.specs.Ends.{end_of_reading}
 use Rattle.autfilt.specs.Run.{IsRead, StandsWith, printed}
-use Rattle.autfilt.specs.Turn.{Ends, EndsHere, IsPrinted, Turns}
+use Rattle.autfilt.specs.Turn.{EndsHere, IsPrinted, PrintsOne, Turns}
 use Rattle.autfilt.specs.declared.ended.End.{End}
 use Rattle.autfilt.specs.declared.ended.End.TheVariants as end
 use Rattle.hoa_lexer.proofs.Between.{between_as}
@@ -82,7 +82,7 @@ is_read w start left left' valid within h =
     (λ old new whole. record { whole = whole; valid = valid; within = within }) h
 
 pub turn_printed : (w : Written) (start : ℕ) (left left' out out' : Option (List ℕ))
-    → Between left left' (λ old new. Stands (Whole w new) start old) → Ends (Ok tt) w out out' → IsPrinted start left left' out out'
+    → Between left left' (λ old new. Stands (Whole w new) start old) → PrintsOne (Ok tt) w out out' → IsPrinted start left left' out out'
 turn_printed w start left left' out out' whole h =
     record { automaton = w; read = is_read w start left left' h.0 h.1 whole; gains = h.2 }
 
@@ -101,7 +101,7 @@ past_as which count start old new e h =
 
 -- it was read whole, and not printed
 pub turn_broken : (e : End) (w : Written) (start : ℕ) (held' : Option ℕ) (left left' out out' : Option (List ℕ))
-    → Between left left' (λ old new. Stands (Whole w new) start old) → Ends (Err e) w out out' → Turns (Err e) start held' left left' out out'
+    → Between left left' (λ old new. Stands (Whole w new) start old) → PrintsOne (Err e) w out out' → Turns (Err e) start held' left left' out out'
 turn_broken end.WriteFault w start held' left left' out out' whole h =
     record { automaton = w; read = is_read w start left left' h.0 h.1 whole; gains = h.2 }
 turn_broken (end.Invalid rule) w start held' left left' out out' whole h = (

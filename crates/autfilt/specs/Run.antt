@@ -1,5 +1,5 @@
 -- The run of autfilt without words: the automata of standard input, each printed in its canonical text.
-use Rattle.std.specs.Prelude.{◌≡◌, ◌≢◌, ℕ, ◌+◌, ◌-◌, ◌^◌, ◌⊎◌, List, [], ◌∷◌, ◌++◌, length, take, flat_map, codes, Option, Some, None}
+use Rattle.std.specs.Prelude.{◌≡◌, ◌≢◌, ℕ, ◌+◌, ◌-◌, ◌^◌, ◌≤◌, ◌⊎◌, List, [], ◌∷◌, ◌++◌, length, take, flat_map, codes, Option, Some, None}
 use Rattle.std.specs.Option.{option_map}
 use Rattle.aut_base.specs.declared.limit.Limit.TheVariants as limit
 use Rattle.aut_io.specs.Outside.{Gains, GainsPrefix, Rose, Texts, text_of}
@@ -97,11 +97,13 @@ Prints end.CannotOpen automata written written' = (automata ≡ []) × (written'
 Prints end.WriteFault automata written written' = BreaksOff automata written written'
 Prints _ automata written written' = Gains written written' (all_printed automata)
 
--- The automata stand at the front of the text, and what stands behind them ends the run so.
+-- The automata stand at the front of the text, and what stands behind them ends the run so. No more than 2^40 bytes
+-- were taken.
 pub record ReadsTo (end : End) (text : List ℕ) (automata : List Written) (left : List ℕ) : Type 0 where
   pub rest : List ℕ
   pub front : AreRead text text automata rest
   pub ends : EndsAt end text rest left
+  pub within : length text ≤ 2 ^ 40 + length left
 
 -- what the text of the inputs has to do with a run, where they tell it and the run opened it
 abbrev pub Reads : End → Option (List ℕ) → List Written → Option (List ℕ) → Type 0

@@ -15,13 +15,13 @@ use Rattle.hoa_reader.specs.Standing.{Stands, Deep, Bad, Aborted, Cut}
 use Rattle.hoa_reader.specs.Validity.{IsFirstBroken, IsValid}
 
 -- What becomes of an automaton that was read: its text is written, as far as the sink takes it, or nothing is.
-abbrev pub Ends : Result Unit End → Written → Option (List ℕ) → Option (List ℕ) → Type 0
-Ends (Ok done) w written written' = IsValid w × PassesNone w × Gains written written' (printed w)
-Ends (Err end.WriteFault) w written written' = IsValid w × PassesNone w × GainsPrefix written written' (printed w)
-Ends (Err (end.Invalid rule)) w written written' = IsFirstBroken rule w × (written' ≡ written)
-Ends (Err (end.Limit which)) w written written' = PassesLimit which w × (written' ≡ written)
-Ends (Err end.Memory) w written written' = written' ≡ written
-Ends (Err _) w written written' = ⊥
+abbrev pub PrintsOne : Result Unit End → Written → Option (List ℕ) → Option (List ℕ) → Type 0
+PrintsOne (Ok done) w written written' = IsValid w × PassesNone w × Gains written written' (printed w)
+PrintsOne (Err end.WriteFault) w written written' = IsValid w × PassesNone w × GainsPrefix written written' (printed w)
+PrintsOne (Err (end.Invalid rule)) w written written' = IsFirstBroken rule w × (written' ≡ written)
+PrintsOne (Err (end.Limit which)) w written written' = PassesLimit which w × (written' ≡ written)
+PrintsOne (Err end.Memory) w written written' = written' ≡ written
+PrintsOne (Err _) w written written' = ⊥
 
 -- What stands at the front of the old bytes where a turn ends the run so. `new` are the bytes that it didn't use.
 abbrev pub EndsHere : End → ℕ → List ℕ → List ℕ → Type 0

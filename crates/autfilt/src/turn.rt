@@ -3,7 +3,7 @@
 ghost use Rattle.std.specs.Prelude.{◌≡◌, ◌+◌, ◌<◌, length, false, None, IfOk, OnOk, IsTrue, IsErrOf};
 ghost use Rattle.aut_base.specs.declared.limit.Limit.{Limit};
 ghost use Rattle.autfilt.specs.declared.ended.End.{End};
-ghost use Rattle.autfilt.specs.Turn.{CountsFaults, Ends, TurnCauses, Turns};
+ghost use Rattle.autfilt.specs.Turn.{CountsFaults, PrintsOne, TurnCauses, Turns};
 ghost use Rattle.hoa_lexer.specs.Reading.{Between};
 ghost use Rattle.hoa_reader.specs.Raw.{written};
 
@@ -54,7 +54,7 @@ pub(crate) fn print_next<I: Inputs, W: Sink>(
 
 /// Prints an automaton that was read, if it is valid and within the limits.
 fn print<W: Sink>(alloc: Global, raw: &Raw, out: &mut W) -> Result<(), End>
-    ensures ends { Ends result (written raw.now) (W.written out.old) (W.written out.new) }
+    ensures ends { PrintsOne result (written raw.now) (W.written out.old) (W.written out.new) }
     ensures faults { CountsFaults result (W.faults out.old) (W.faults out.new) }
 {
     let description = match describe(alloc, raw) {

@@ -28,12 +28,13 @@ returns-in-Ok-false-clause-runs g c =
     let i = g.I.Inputs in
     let w = g.W.Sink in
     let P : Bool → Type 0 = λ b. Turns (Ok b) c.automata.lexer.since c.print_next.new.lexer.held (i.left c.automata.inputs) (i.left c.print_next.new.inputs) (w.written c.automata.out) (w.written c.print_next.new.out) in
+    let inv = c.automata.invariant in
     let turn = subst P c.in-Ok-false.field-0-test c.in-Ok-false.ensures.turns in
-    run_done c.end_of_text.result c.automata.printed _ _ _ _ _ _ c.end_of_text.ensures c.automata.invariant.ran turn.0 turn.1
+    run_done c.end_of_text.result c.automata.printed c.print_next.new.lexer.taken _ _ _ _ _ _ (omega (arith, c.print_next.new.lexer.within, c.in-Ok-false.ensures.most, inv.most)) c.end_of_text.ensures inv.ran turn.0 (at_after _ _ _ _ _ inv.taken c.in-Ok-false.ensures.taken) turn.1
 
 pub returns-in-Err-clause-runs : goal.returns-in-Err-clause-runs
 returns-in-Err-clause-runs g c =
     let inv = c.automata.invariant in
     let said = c.in-Err.ensures in
     ends_by c.in-Err.end c.automata.lexer.since c.print_next.new.lexer.taken c.print_next.new.lexer.held c.automata.printed _ _ _ _ _ _ _ _ _ _
-    inv.ran (begins_at _ _ _ _ inv.since inv.taken) (at_after _ _ _ _ _ inv.taken said.taken) (took_all c.in-Err.end _ _ (said.most ∙ inv.most) said.bytes) said.causes said.turns
+    inv.ran (begins_at _ _ _ _ inv.since inv.taken) (omega (arith, c.print_next.new.lexer.within, said.most, inv.most)) (at_after _ _ _ _ _ inv.taken said.taken) (took_all c.in-Err.end _ _ (said.most ∙ inv.most) said.bytes) said.causes said.turns
