@@ -1,3 +1,4 @@
-pub mod Forms
+pub mod Alike
 pub mod Gains
 pub mod Runs
+pub mod Turns

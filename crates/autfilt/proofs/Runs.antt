@@ -1,116 +1,255 @@
--- Streams of automata, and runs over them.
-use Rattle.std.proofs.Common.{◌≡◌, ℕ, ◌+◌, ◌<◌, Bool, true, false, List, [], ◌∷◌, ◌++◌, Option, None, Err, refl, sym, ap, ◌∙◌, subst, inl, inr, append_assoc, append-nil, arith}
+-- Automata that were read one after the other, and runs over them.
+use Rattle.std.proofs.Common.{◌≡◌, ℕ, ◌+◌, ◌^◌, ◌≤◌, Bool, true, false, List, [], ◌∷◌, ◌++◌, length, take, Option, Some, None, Err, IsErrOf, refl, sym, ap, ◌∙◌, subst, inl, inr, append_assoc, append-nil, arith}
 use Rattle.aut_base.specs.declared.limit.Limit.TheVariants as limit
-use Rattle.aut_io.specs.Outside.{Gains, Rose}
+use Rattle.aut_io.specs.Outside.{Gains, GainsPrefix, Rose}
 use Rattle.autfilt.proofs.Gains.{both, nothing}
-use Rattle.autfilt.specs.Run.{Calm, IsStream, end_of, output_of}
-use Rattle.autfilt.specs.Running.{AreFront, EndCauses, HasRun, RunsOver, ended_of, is_some_form}
-use Rattle.autfilt.specs.Turn.{Causes, IsPrinted, Turns}
-use Rattle.autfilt.specs.declared.ended.Ended.{Ended}
-use Rattle.autfilt.specs.declared.ended.Ended.TheVariants.{ReadFault, Syntax, NotYet, Limit, WriteFault, Memory}
+use Rattle.autfilt.proofs.Turns.{gains_as}
+use Rattle.autfilt.specs.Run.{AreRead, AsksForTooMany, BreaksOff, EndsAt, IsRead, Prints, ReadsTo, all_printed, place, printed}
+use Rattle.autfilt.specs.Running.{HasRun, RunsOver, end_of, is_some_automaton}
+use Rattle.autfilt.specs.Turn.{Causes, EndsHere, IsPrinted, IsPrintedInPart, TurnCauses, Turns}
+use Rattle.autfilt.specs.declared.ended.End.{End}
+use Rattle.autfilt.specs.declared.ended.End.TheVariants as end
+use Rattle.hoa_lexer.proofs.Between.{between_both, between_then}
 use Rattle.hoa_lexer.specs.Blanks.{IsBlanks}
-use Rattle.hoa_reader.proofs.OneForm.{no_blank_automaton, one_automaton}
-use Rattle.hoa_reader.specs.FirstForm.{FirstForm, IsFirstForm, form_automaton, form_tokens}
-use Rattle.hoa_reader.specs.Reads.{IsRefused, Reads}
-use Rattle.hoa_writer.specs.CanonicalText.{canonical_text}
+use Rattle.hoa_lexer.specs.Reading.{Between, unread}
+use Rattle.hoa_reader.specs.Raw.{Written}
 
-gains_same : (a b c : Option (List ℕ)) (p q : List ℕ) → c ≡ b → p ≡ q → Gains a b p → Gains a c q
-gains_same a b c p q e k g =
-    let P : Option (List ℕ) → Type 0 = λ b. Gains a b p in
-    let Q : List ℕ → Type 0 = λ p. Gains a c p in
-    subst Q k (subst P (sym e) g)
+gains_to : (a b c : Option (List ℕ)) (p : List ℕ) → c ≡ b → Gains a b p → Gains a c p
+gains_to a b c p e g = let P : Option (List ℕ) → Type 0 = λ b. Gains a b p in subst P (sym e) g
 
-front_push : (fs : List FirstForm) (f : FirstForm) (x y z : List ℕ) → AreFront x fs y → IsFirstForm f → Reads y (form_tokens f) z → AreFront x (fs ++ f ∷ []) z
-front_push [] f x y z e valid r = let P : List ℕ → Type 0 = λ b. Reads b (form_tokens f) z in (z, valid, subst P (sym e) r, refl)
-front_push (g ∷ gs) f x y z h valid r = (h.0, h.1, h.2, front_push gs f h.0 y z h.3 valid r)
+gains_nothing : (a b : Option (List ℕ)) → Gains a b [] → b ≡ a
+gains_nothing None b g = g
+gains_nothing (Some old) b g = g ∙ ap Some (append-nil old)
 
-output_push : (fs : List FirstForm) (f : FirstForm) → output_of (fs ++ f ∷ []) ≡ output_of fs ++ canonical_text (form_automaton f) None
-output_push [] f = append-nil (canonical_text (form_automaton f) None)
-output_push (g ∷ gs) f =
-    ap (λ x. canonical_text (form_automaton g) None ++ x) (output_push gs f)
-    ∙ sym (append_assoc (canonical_text (form_automaton g) None) (output_of gs) (canonical_text (form_automaton f) None))
+read_push : (text here : List ℕ) (ws : List Written) (w : Written) (rest next : List ℕ) → AreRead text here ws rest → IsRead (place text rest) rest w next → AreRead text here (ws ++ w ∷ []) next
+read_push text here [] w rest next e r = let P : List ℕ → Type 0 = λ x. IsRead (place text x) x w next in (next, subst P (sym e) r, refl)
+read_push text here (v ∷ vs) w rest next h r = (h.0, h.1, read_push text h.0 vs w rest next h.2 r)
 
-some_push : (fs : List FirstForm) (f : FirstForm) → is_some_form (fs ++ f ∷ []) ≡ true
-some_push [] f = refl
-some_push (g ∷ gs) f = refl
+printed_push : (ws : List Written) (w : Written) → all_printed (ws ++ w ∷ []) ≡ all_printed ws ++ printed w
+printed_push [] w = append-nil (printed w)
+printed_push (v ∷ vs) w = ap (λ x. printed v ++ x) (printed_push vs w) ∙ sym (append_assoc (printed v) (all_printed vs) (printed w))
+
+some_push : (ws : List Written) (w : Written) → is_some_automaton (ws ++ w ∷ []) ≡ true
+some_push [] w = refl
+some_push (v ∷ vs) w = refl
+
+-- where the bytes that are left begin
+abbrev pub IsAt : ℕ → List ℕ → List ℕ → Type 0
+IsAt n text rest = n + length rest ≡ length text
+
+place_is : (n : ℕ) (text rest : List ℕ) → IsAt n text rest → n ≡ place text rest
+place_is n text rest h = omega arith
 
 -- nothing was read yet
-pub run_none : (x : List ℕ) (w : Option (List ℕ)) → HasRun x x w w false
-run_none x w = record { forms = []; front = refl; gains = nothing w; is_printed = refl }
+pub run_none : (left written : Option (List ℕ)) → HasRun left left written written false
+run_none None written = record { automata = []; front = refl; gains = nothing written; is_printed = refl }
+run_none (Some text) written = record { automata = []; front = refl; gains = nothing written; is_printed = refl }
 
--- one more automaton
-pub run_more : (x y z : List ℕ) (w w' w'' : Option (List ℕ)) (printed : Bool) → HasRun x y w w' printed → IsPrinted y z w' w'' → HasRun x z w w'' true
-run_more x y z w w' w'' printed h p = record {
-  forms = h.forms ++ p.form ∷ [];
-  front = front_push h.forms p.form x y z h.front p.valid p.read;
-  gains = gains_same w w'' w'' _ _ refl (sym (output_push h.forms p.form)) (both w w' w'' (output_of h.forms) (canonical_text (form_automaton p.form) None) h.gains p.gains);
-  is_printed = sym (some_push h.forms p.form);
+-- what is known of the text when a turn begins
+front_at : (n : ℕ) (ws : List Written) (a b : Option (List ℕ)) → Between a b (λ text rest. AreRead text text ws rest) → Between a b (IsAt n)
+    → Between a b (λ text rest. AreRead text text ws rest × IsAt n text rest)
+front_at n ws a b h k =
+    between_both a b (λ text rest. AreRead text text ws rest) (IsAt n) (λ text rest. AreRead text text ws rest × IsAt n text rest) (λ text rest p q. (p, q)) h k
+
+-- one more was read
+front_more : (n : ℕ) (ws : List Written) (w : Written) (a b c : Option (List ℕ)) → Between a b (λ text rest. AreRead text text ws rest) → Between a b (IsAt n)
+    → Between b c (λ rest next. IsRead n rest w next) → Between a c (λ text next. AreRead text text (ws ++ w ∷ []) next)
+front_more n ws w a b c h k r =
+    between_then a b c (λ text rest. AreRead text text ws rest × IsAt n text rest) (λ rest next. IsRead n rest w next) (λ text next. AreRead text text (ws ++ w ∷ []) next)
+    (λ text rest next p q.
+    let P : ℕ → Type 0 = λ n. IsRead n rest w next in
+    read_push text text ws w rest next p.0 (subst P (place_is n text rest p.1) q))
+    (front_at n ws a b h k) r
+
+pub run_more : (n : ℕ) (a b c w w' w'' : Option (List ℕ)) (is : Bool) → HasRun a b w w' is → Between a b (IsAt n) → IsPrinted n b c w' w'' → HasRun a c w w'' true
+run_more n a b c w w' w'' is h k p = record {
+  automata = h.automata ++ p.automaton ∷ [];
+  front = front_more n h.automata p.automaton a b c h.front k p.read;
+  gains = gains_as w w'' _ _ (sym (printed_push h.automata p.automaton)) (both w w' w'' (all_printed h.automata) (printed p.automaton) h.gains p.gains);
+  is_printed = sym (some_push h.automata p.automaton);
 }
 
--- the automata of a stream are determined
-same_stream : (fs forms : List FirstForm) (x y : List ℕ) → AreFront x fs y → IsBlanks y → IsStream x forms → fs ≡ forms
-same_stream [] [] x y e b s = refl
-same_stream [] (g ∷ gs) x y e b s = absurd (no_blank_automaton g x s.0 s.2 (subst IsBlanks (sym e) b))
-same_stream (f ∷ fs) [] x y h b s = absurd (no_blank_automaton f x h.0 h.2 s)
-same_stream (f ∷ fs) (g ∷ gs) x y h b s =
-    let same = one_automaton f g x h.0 s.0 h.2 s.2 in
-    let P : List ℕ → Type 0 = λ z. IsStream z gs in
-    let first : f ≡ g = same.0 in
-    let rest : fs ≡ gs = same_stream fs gs h.0 y h.3 b (subst P (sym same.1) s.3) in
-    cc
+-- only blanks are left
+prints_all : (ws : List Written) (w w' : Option (List ℕ)) → Gains w w' (all_printed ws) → Prints (end_of (is_some_automaton ws)) ws w w'
+prints_all [] w w' g = (refl, gains_nothing w w' g)
+prints_all (v ∷ vs) w w' g = (λ e. (let k : (v ∷ vs) ≡ [] = e in cc), g)
 
--- a stream is not refused
-no_refusal : (fs forms : List FirstForm) (x y : List ℕ) → AreFront x fs y → IsRefused y → IsStream x forms → ⊥
-no_refusal [] [] x y e r s = r.no_blanks (subst IsBlanks e s)
-no_refusal [] (g ∷ gs) x y e r s = let P : List ℕ → Type 0 = λ b. Reads b (form_tokens g) s.0 in r.no_automaton g s.0 s.1 (subst P e s.2)
-no_refusal (f ∷ fs) [] x y h r s = no_blank_automaton f x h.0 h.2 s
-no_refusal (f ∷ fs) (g ∷ gs) x y h r s =
-    let same = one_automaton f g x h.0 s.0 h.2 s.2 in
-    let P : List ℕ → Type 0 = λ z. IsStream z gs in
-    no_refusal fs gs h.0 y h.3 r (subst P (sym same.1) s.3)
+ends_blank : (ws : List Written) (text rest now : List ℕ) → IsBlanks rest → now ≡ [] → EndsAt (end_of (is_some_automaton ws)) text rest now
+ends_blank [] text rest now b e = (b, e)
+ends_blank (v ∷ vs) text rest now b e = (b, e)
 
-end_same : (fs : List FirstForm) (printed : Bool) → printed ≡ is_some_form fs → ended_of printed ≡ end_of fs
-end_same [] printed e = ap ended_of e
-end_same (f ∷ fs) printed e = ap ended_of e
+few_taken : (taken : ℕ) (text now : List ℕ) → taken ≤ 2 ^ 40 → IsAt taken text now → length text ≤ 2 ^ 40 + length now
+few_taken taken text now few at = omega arith
 
-pub run_done : (x y : List ℕ) (w w' w'' : Option (List ℕ)) (printed : Bool) (result : Ended) (fits reads writes : Type 0) → result ≡ ended_of printed → HasRun x y w w' printed → IsBlanks y → w'' ≡ w' → RunsOver result x w w'' fits reads writes
-run_done x y w w' w'' printed result fits reads writes is h b e forms s f r t =
-    let same = same_stream h.forms forms x y h.front b s in
-    inl (is ∙ end_same h.forms printed h.is_printed ∙ ap end_of same, gains_same w w' w'' _ _ e (ap output_of same) h.gains)
+run_over : (ws : List Written) (taken : ℕ) (a b c w w' : Option (List ℕ)) → taken ≤ 2 ^ 40 → Between a b (λ text rest. AreRead text text ws rest) → Gains w w' (all_printed ws)
+    → Between b c (λ rest now. IsBlanks rest × (now ≡ [])) → Between a c (IsAt taken) → RunsOver (end_of (is_some_automaton ws)) a c w w'
+run_over ws taken a b c w w' few front g t k = record {
+  automata = ws;
+  reads = between_both a c (λ text now. (rest : List ℕ) × AreRead text text ws rest × IsBlanks rest × (now ≡ [])) (IsAt taken)
+      (λ text now. ReadsTo (end_of (is_some_automaton ws)) text ws now)
+      (λ text now p at. record { rest = p.0; front = p.1; ends = ends_blank ws text p.0 now p.2 p.3; within = few_taken taken text now few at })
+      (between_then a b c (λ text rest. AreRead text text ws rest) (λ rest now. IsBlanks rest × (now ≡ []))
+      (λ text now. (rest : List ℕ) × AreRead text text ws rest × IsBlanks rest × (now ≡ []))
+      (λ text rest now p q. (rest, p, q.0, q.1)) front t) k;
+  prints = prints_all ws w w' g;
+}
+
+pub run_done : (result : End) (is : Bool) (taken : ℕ) (a b c w w' w'' : Option (List ℕ)) → taken ≤ 2 ^ 40 → result ≡ end_of is → HasRun a b w w' is
+    → Between b c (λ rest now. IsBlanks rest × (now ≡ [])) → Between a c (IsAt taken) → w'' ≡ w' → RunsOver result a c w w''
+run_done result is taken a b c w w' w'' few e h t at k =
+    let P : End → Type 0 = λ x. RunsOver x a c w w'' in
+    subst P (sym (e ∙ ap end_of h.is_printed)) (run_over h.automata taken a b c w w'' few h.front (gains_to w w' w'' _ k h.gains) t at)
 
 -- a count that rose in the last call rose in the run
 rose_since : (a b c : ℕ) → b ≡ a → Rose b c → Rose a c
 rose_since a b c e r = let P : ℕ → Type 0 = λ n. Rose n c in subst P e r
 
--- a fault that would refuse the bytes can't come in a stream
-abbrev pub FailsIn : Ended → List ℕ → List ℕ → Option (List ℕ) → Option (List ℕ) → Type 0
-FailsIn NotYet x z w w' = (forms : List FirstForm) → IsStream x forms → ⊥
-FailsIn Syntax x z w w' = (forms : List FirstForm) → IsStream x forms → ⊥
-FailsIn _ x z w w' = Unit {0}
-
-pub fails_in : (ended : Ended) (x y z : List ℕ) (w w' w'' : Option (List ℕ)) (printed : Bool) → HasRun x y w w' printed → Turns (Err ended) y z w' w'' → FailsIn ended x z w w''
-fails_in NotYet x y z w w' w'' printed h t = λ forms s. no_refusal h.forms forms x y h.front t s
-fails_in Syntax x y z w w' w'' printed h t = λ forms s. no_refusal h.forms forms x y h.front t s
-fails_in _ x y z w w' w'' printed h t = tt
-
--- how the run ends at a fault
-pub ends_by : (ended : Ended) (x z : List ℕ) (w w'' : Option (List ℕ)) (left taken before most most' r r' r'' t t' t'' : ℕ)
-    → most' ≡ most → taken + left ≡ before → r' ≡ r → t' ≡ t → FailsIn ended x z w w'' → Causes (Err ended) taken most' r' r'' t' t''
-    → RunsOver ended x w w'' (before < most) (Calm r r'') (Calm t t'')
-ends_by NotYet x z w w'' left taken before most most' r r' r'' t t' t'' m n e k h c forms s f p q = absurd (h forms s)
-ends_by Syntax x z w w'' left taken before most most' r r' r'' t t' t'' m n e k h c forms s f p q = absurd (h forms s)
-ends_by ReadFault x z w w'' left taken before most most' r r' r'' t t' t'' m n e k h c forms s f p q = absurd (p (rose_since r r' r'' e c.0))
-ends_by WriteFault x z w w'' left taken before most most' r r' r'' t t' t'' m n e k h c forms s f p q = absurd (q (rose_since t t' t'' k c.1))
-ends_by (Limit limit.Bytes) x z w w'' left taken before most most' r r' r'' t t' t'' m n e k h c forms s f p q = absurd (omega (arith, c.2))
-ends_by Memory x z w w'' left taken before most most' r r' r'' t t' t'' m n e k h c forms s f p q = inr refl
-ends_by _ x z w w'' left taken before most most' r r' r'' t t' t'' m n e k h c forms s f p q = absurd c
-
 -- why it ends so
-pub cause_of : (ended : Ended) (taken most r r' r'' t t' t'' : ℕ) → r' ≡ r → t' ≡ t → Causes (Err ended) taken most r' r'' t' t'' → EndCauses ended r r'' t t''
-cause_of NotYet taken most r r' r'' t t' t'' e k c = (c.0 ∙ e, c.1 ∙ k)
-cause_of Syntax taken most r r' r'' t t' t'' e k c = (c.0 ∙ e, c.1 ∙ k)
-cause_of ReadFault taken most r r' r'' t t' t'' e k c = (rose_since r r' r'' e c.0, c.1 ∙ k)
-cause_of WriteFault taken most r r' r'' t t' t'' e k c = (c.0 ∙ e, rose_since t t' t'' k c.1)
-cause_of (Limit limit.Bytes) taken most r r' r'' t t' t'' e k c = (c.0 ∙ e, c.1 ∙ k)
-cause_of Memory taken most r r' r'' t t' t'' e k c = tt
-cause_of _ taken most r r' r'' t t' t'' e k c = absurd c
+pub cause_of : (e : End) (r r' r'' t t' t'' : ℕ) → r' ≡ r → t' ≡ t → TurnCauses (Err e) r' r'' t' t'' → Causes e r r'' t t''
+cause_of end.Output r r' r'' t t' t'' p q c = absurd c
+cause_of end.NoneOutput r r' r'' t t' t'' p q c = absurd c
+cause_of end.Usage r r' r'' t t' t'' p q c = absurd c
+cause_of end.CannotOpen r r' r'' t t' t'' p q c = absurd c
+cause_of end.ReadFault r r' r'' t t' t'' p q c = (rose_since r r' r'' p c.0, c.1 ∙ q)
+cause_of end.WriteFault r r' r'' t t' t'' p q c = (c.0 ∙ p, rose_since t t' t'' q c.1)
+cause_of end.Memory r r' r'' t t' t'' p q c = tt
+cause_of (end.SyntaxAt k) r r' r'' t t' t'' p q c = (c.0 ∙ p, c.1 ∙ q)
+cause_of end.Truncated r r' r'' t t' t'' p q c = (c.0 ∙ p, c.1 ∙ q)
+cause_of end.Aborted r r' r'' t t' t'' p q c = (c.0 ∙ p, c.1 ∙ q)
+cause_of (end.Invalid rule) r r' r'' t t' t'' p q c = (c.0 ∙ p, c.1 ∙ q)
+cause_of (end.Limit which) r r' r'' t t' t'' p q c = (c.0 ∙ p, c.1 ∙ q)
+
+-- the end by one byte too many is answered only where all that may be were taken
+abbrev pub TookAll : End → ℕ → Type 0
+TookAll (end.Limit limit.Bytes) taken = taken ≡ 2 ^ 40
+TookAll _ taken = Unit {0}
+
+too_many : (text rest now : List ℕ) (held : Option ℕ) (taken : ℕ) → IsAt taken text now → taken ≡ 2 ^ 40 → EndsHere (end.Limit limit.Bytes) (place text rest) rest (unread held now) → AsksForTooMany text rest now
+too_many text rest now None taken at all h = record { taken = sym at ∙ ap (λ n. n + length now) all; unused = now; asks = h; ends = inl refl }
+too_many text rest now (Some b) taken at all h = record { taken = sym at ∙ ap (λ n. n + length now) all; unused = b ∷ now; asks = h; ends = inr (b, refl) }
+
+ends_at : (e : End) (text rest now : List ℕ) (held : Option ℕ) (taken r r' t t' : ℕ) → TurnCauses (Err e) r r' t t' → IsAt taken text now → TookAll e taken
+    → EndsHere e (place text rest) rest (unread held now) → (e ≡ end.WriteFault → ⊥) → EndsAt e text rest now
+ends_at end.Output text rest now held taken r r' t t' c at all h between = absurd c
+ends_at end.NoneOutput text rest now held taken r r' t t' c at all h between = absurd c
+ends_at end.Usage text rest now held taken r r' t t' c at all h between = tt
+ends_at end.CannotOpen text rest now held taken r r' t t' c at all h between = tt
+ends_at end.ReadFault text rest now held taken r r' t t' c at all h between = tt
+ends_at end.WriteFault text rest now held taken r r' t t' c at all h between = absurd (between refl)
+ends_at end.Memory text rest now held taken r r' t t' c at all h between = tt
+ends_at (end.SyntaxAt k) text rest now held taken r r' t t' c at all h between = h
+ends_at end.Truncated text rest now held taken r r' t t' c at all h between = h
+ends_at end.Aborted text rest now held taken r r' t t' c at all h between = h
+ends_at (end.Invalid rule) text rest now held taken r r' t t' c at all h between = h
+ends_at (end.Limit limit.Depth) text rest now held taken r r' t t' c at all h between = h
+ends_at (end.Limit limit.Bytes) text rest now held taken r r' t t' c at all h between = too_many text rest now held taken at all h
+ends_at (end.Limit limit.Names) text rest now held taken r r' t t' c at all h between = h
+ends_at (end.Limit limit.Sets) text rest now held taken r r' t t' c at all h between = h
+ends_at (end.Limit limit.States) text rest now held taken r r' t t' c at all h between = h
+ends_at (end.Limit limit.Edges) text rest now held taken r r' t t' c at all h between = h
+ends_at (end.Limit limit.Aliases) text rest now held taken r r' t t' c at all h between = h
+ends_at (end.Limit limit.Terms) text rest now held taken r r' t t' c at all h between = h
+ends_at (end.Limit limit.BuchiStates) text rest now held taken r r' t t' c at all h between = h
+ends_at (end.Limit limit.Trees) text rest now held taken r r' t t' c at all h between = h
+ends_at (end.Limit limit.Nodes) text rest now held taken r r' t t' c at all h between = h
+ends_at (end.Limit limit.Classes) text rest now held taken r r' t t' c at all h between = h
+ends_at (end.Limit limit.Pairs) text rest now held taken r r' t t' c at all h between = h
+
+-- what is written where the run ends between two automata
+prints_here : (e : End) (ws : List Written) (w w' : Option (List ℕ)) (r r' t t' : ℕ) → TurnCauses (Err e) r r' t t' → (e ≡ end.WriteFault → ⊥) → Gains w w' (all_printed ws) → Prints e ws w w'
+prints_here end.Output ws w w' r r' t t' c between g = absurd c
+prints_here end.NoneOutput ws w w' r r' t t' c between g = absurd c
+prints_here end.Usage ws w w' r r' t t' c between g = absurd c
+prints_here end.CannotOpen ws w w' r r' t t' c between g = absurd c
+prints_here end.WriteFault ws w w' r r' t t' c between g = absurd (between refl)
+prints_here _ ws w w' r r' t t' c between g = g
+
+-- the run ends between two automata
+abbrev IsHere : End → Option ℕ → List Written → List ℕ → List ℕ → Type 0
+IsHere e held ws text now = (rest : List ℕ) × AreRead text text ws rest × EndsHere e (place text rest) rest (unread held now)
+
+ends_between : (e : End) (n taken : ℕ) (held : Option ℕ) (is : Bool) (a b c w w' w'' : Option (List ℕ)) (r r' t t' : ℕ) → (e ≡ end.WriteFault → ⊥)
+    → HasRun a b w w' is → Between a b (IsAt n) → taken ≤ 2 ^ 40 → Between a c (IsAt taken) → TookAll e taken → TurnCauses (Err e) r r' t t'
+    → Between b c (λ old new. EndsHere e n old (unread held new)) × (w'' ≡ w') → RunsOver e a c w w''
+ends_between e n taken held is a b c w w' w'' r r' t t' between h k few k' all causes turn = record {
+  automata = h.automata;
+  reads = between_both a c (IsHere e held h.automata) (IsAt taken) (λ text now. ReadsTo e text h.automata now)
+      (λ text now p at. record { rest = p.0; front = p.1; ends = ends_at e text p.0 now held taken r r' t t' causes at all p.2 between; within = few_taken taken text now few at })
+      (between_then a b c (λ text rest. AreRead text text h.automata rest × IsAt n text rest) (λ rest now. EndsHere e n rest (unread held now)) (IsHere e held h.automata)
+      (λ text rest now p q.
+      let P : ℕ → Type 0 = λ n. EndsHere e n rest (unread held now) in
+      (rest, p.0, subst P (place_is n text rest p.1) q))
+      (front_at n h.automata a b h.front k) turn.0) k';
+  prints = prints_here e h.automata w w'' r r' t t' causes between (gains_to w w' w'' _ turn.1 h.gains);
+}
+
+-- a part of one more text was written
+breaks_off : (ws : List Written) (w : Written) (a b c : Option (List ℕ)) → Gains a b (all_printed ws) → GainsPrefix b c (printed w) → BreaksOff (ws ++ w ∷ []) a c
+breaks_off ws w None b c g p =
+    let P : Option (List ℕ) → Type 0 = λ x. GainsPrefix x c (printed w) in
+    record { earlier = ws; last = w; all = refl; part = 0; gains = subst P g p }
+breaks_off ws w (Some old) b c g p =
+    let P : Option (List ℕ) → Type 0 = λ x. GainsPrefix x c (printed w) in
+    let q = subst P g p in
+    record { earlier = ws; last = w; all = refl; part = q.0; gains = q.1 ∙ ap Some (append_assoc old (all_printed ws) (take q.0 (printed w))) }
+
+ends_writing : (n taken : ℕ) (is : Bool) (a b c w w' w'' : Option (List ℕ)) → HasRun a b w w' is → Between a b (IsAt n) → taken ≤ 2 ^ 40 → Between a c (IsAt taken)
+    → IsPrintedInPart n b c w' w'' → RunsOver end.WriteFault a c w w''
+ends_writing n taken is a b c w w' w'' h k few k' p = record {
+  automata = h.automata ++ p.automaton ∷ [];
+  reads = between_both a c (λ text now. AreRead text text (h.automata ++ p.automaton ∷ []) now) (IsAt taken) (λ text now. ReadsTo end.WriteFault text (h.automata ++ p.automaton ∷ []) now)
+      (λ text now f at. record { rest = now; front = f; ends = refl; within = few_taken taken text now few at })
+      (front_more n h.automata p.automaton a b c h.front k p.read) k';
+  prints = breaks_off h.automata p.automaton w w' w'' h.gains p.gains;
+}
+
+-- the run ends where a turn does
+pub ends_by : (e : End) (n taken : ℕ) (held : Option ℕ) (is : Bool) (a b c w w' w'' : Option (List ℕ)) (r r' t t' : ℕ)
+    → HasRun a b w w' is → Between a b (IsAt n) → taken ≤ 2 ^ 40 → Between a c (IsAt taken) → TookAll e taken → TurnCauses (Err e) r r' t t'
+    → Turns (Err e) n held b c w' w'' → RunsOver e a c w w''
+ends_by end.WriteFault n taken held is a b c w w' w'' r r' t t' h k few k' all causes turn = ends_writing n taken is a b c w w' w'' h k few k' turn
+ends_by end.Output n taken held is a b c w w' w'' r r' t t' h k few k' all causes turn = ends_between end.Output n taken held is a b c w w' w'' r r' t t' (λ e. cc) h k few k' all causes turn
+ends_by end.NoneOutput n taken held is a b c w w' w'' r r' t t' h k few k' all causes turn = ends_between end.NoneOutput n taken held is a b c w w' w'' r r' t t' (λ e. cc) h k few k' all causes turn
+ends_by end.Usage n taken held is a b c w w' w'' r r' t t' h k few k' all causes turn = ends_between end.Usage n taken held is a b c w w' w'' r r' t t' (λ e. cc) h k few k' all causes turn
+ends_by end.CannotOpen n taken held is a b c w w' w'' r r' t t' h k few k' all causes turn = ends_between end.CannotOpen n taken held is a b c w w' w'' r r' t t' (λ e. cc) h k few k' all causes turn
+ends_by end.ReadFault n taken held is a b c w w' w'' r r' t t' h k few k' all causes turn = ends_between end.ReadFault n taken held is a b c w w' w'' r r' t t' (λ e. cc) h k few k' all causes turn
+ends_by (end.SyntaxAt x) n taken held is a b c w w' w'' r r' t t' h k few k' all causes turn = ends_between (end.SyntaxAt x) n taken held is a b c w w' w'' r r' t t' (λ e. cc) h k few k' all causes turn
+ends_by end.Truncated n taken held is a b c w w' w'' r r' t t' h k few k' all causes turn = ends_between end.Truncated n taken held is a b c w w' w'' r r' t t' (λ e. cc) h k few k' all causes turn
+ends_by end.Aborted n taken held is a b c w w' w'' r r' t t' h k few k' all causes turn = ends_between end.Aborted n taken held is a b c w w' w'' r r' t t' (λ e. cc) h k few k' all causes turn
+ends_by (end.Invalid x) n taken held is a b c w w' w'' r r' t t' h k few k' all causes turn = ends_between (end.Invalid x) n taken held is a b c w w' w'' r r' t t' (λ e. cc) h k few k' all causes turn
+ends_by (end.Limit x) n taken held is a b c w w' w'' r r' t t' h k few k' all causes turn = ends_between (end.Limit x) n taken held is a b c w w' w'' r r' t t' (λ e. cc) h k few k' all causes turn
+ends_by end.Memory n taken held is a b c w w' w'' r r' t t' h k few k' all causes turn = ends_between end.Memory n taken held is a b c w w' w'' r r' t t' (λ e. cc) h k few k' all causes turn
+
+pub took_all : (e : End) (taken most : ℕ) → most ≡ 2 ^ 40 → (IsErrOf {T = Bool} (Err e) (end.Limit limit.Bytes) → taken ≡ most) → TookAll e taken
+took_all (end.Limit limit.Bytes) taken most m h = h refl ∙ m
+took_all end.Output taken most m h = tt
+took_all end.NoneOutput taken most m h = tt
+took_all end.Usage taken most m h = tt
+took_all end.CannotOpen taken most m h = tt
+took_all end.ReadFault taken most m h = tt
+took_all (end.SyntaxAt x) taken most m h = tt
+took_all end.Truncated taken most m h = tt
+took_all end.Aborted taken most m h = tt
+took_all (end.Invalid x) taken most m h = tt
+took_all end.WriteFault taken most m h = tt
+took_all end.Memory taken most m h = tt
+took_all (end.Limit limit.Names) taken most m h = tt
+took_all (end.Limit limit.Sets) taken most m h = tt
+took_all (end.Limit limit.States) taken most m h = tt
+took_all (end.Limit limit.Edges) taken most m h = tt
+took_all (end.Limit limit.Aliases) taken most m h = tt
+took_all (end.Limit limit.Depth) taken most m h = tt
+took_all (end.Limit limit.Terms) taken most m h = tt
+took_all (end.Limit limit.BuchiStates) taken most m h = tt
+took_all (end.Limit limit.Trees) taken most m h = tt
+took_all (end.Limit limit.Nodes) taken most m h = tt
+took_all (end.Limit limit.Classes) taken most m h = tt
+took_all (end.Limit limit.Pairs) taken most m h = tt
+
+-- where a turn begins and ends
+pub begins_at : (since taken : ℕ) (a b : Option (List ℕ)) → since ≡ taken → Between a b (IsAt taken) → Between a b (IsAt since)
+begins_at since taken a b e h = let P : ℕ → Type 0 = λ n. Between a b (IsAt n) in subst P (sym e) h
+
+pub at_after : (taken taken' : ℕ) (a b c : Option (List ℕ)) → Between a b (IsAt taken) → Between b c (λ old new. taken' + length new ≡ taken + length old) → Between a c (IsAt taken')
+at_after taken taken' a b c h k =
+    between_then a b c (IsAt taken) (λ old new. taken' + length new ≡ taken + length old) (IsAt taken') (λ x y z p q. q ∙ p) h k

@@ -1,4 +1,5 @@
-pub mod Faults
+pub mod Ends
+pub mod Laws
 pub mod Notes
 pub mod Run
 pub mod Running

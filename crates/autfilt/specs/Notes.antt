@@ -1,9 +1,12 @@
 -- The line that is written about how a run ended.
 use Rattle.std.specs.Prelude.{ℕ, List, [], ◌++◌, codes}
+use Rattle.std.specs.Fmt.{decimal}
 use Rattle.aut_base.specs.declared.limit.Limit.{Limit}
 use Rattle.aut_base.specs.declared.limit.Limit.TheVariants as limit
-use Rattle.autfilt.specs.declared.ended.Ended.{Ended}
-use Rattle.autfilt.specs.declared.ended.Ended.TheVariants as ended
+use Rattle.autfilt.specs.declared.ended.End.{End}
+use Rattle.autfilt.specs.declared.ended.End.TheVariants as end
+use Rattle.hoa_reader.specs.declared.elaborate.Rule.{Rule}
+use Rattle.hoa_reader.specs.declared.elaborate.Rule.TheVariants.{V1, V2, V3, V4, V5, V6, V7, V8, V9, V10, V11, V12}
 
 -- the name of a limit
 abbrev pub limit_word : Limit → List ℕ
@@ -21,18 +24,32 @@ limit_word limit.Nodes = codes "nodes"
 limit_word limit.Classes = codes "classes"
 limit_word limit.Pairs = codes "pairs"
 
-abbrev pub limit_line : Limit → List ℕ
-limit_line which = codes "autfilt: -: limit exceeded: " ++ (limit_word which ++ codes "\n")
+-- the name of a rule
+abbrev pub rule_word : Rule → List ℕ
+rule_word V1 = codes "V1"
+rule_word V2 = codes "V2"
+rule_word V3 = codes "V3"
+rule_word V4 = codes "V4"
+rule_word V5 = codes "V5"
+rule_word V6 = codes "V6"
+rule_word V7 = codes "V7"
+rule_word V8 = codes "V8"
+rule_word V9 = codes "V9"
+rule_word V10 = codes "V10"
+rule_word V11 = codes "V11"
+rule_word V12 = codes "V12"
 
 -- a line, or nothing where all went well
-abbrev pub line_of : Ended → List ℕ
-line_of ended.Output = []
-line_of ended.NoneOutput = []
-line_of ended.Usage = codes "autfilt: bad arguments\n"
-line_of ended.CannotOpen = codes "autfilt: cannot open -\n"
-line_of ended.ReadFault = codes "autfilt: -: read error\n"
-line_of ended.Syntax = codes "autfilt: -: unexpected end of input\n"
-line_of ended.NotYet = codes "autfilt: -: not built yet\n"
-line_of (ended.Limit which) = limit_line which
-line_of ended.WriteFault = codes "autfilt: write error\n"
-line_of ended.Memory = codes "autfilt: out of memory\n"
+abbrev pub line_of : End → List ℕ
+line_of end.Output = []
+line_of end.NoneOutput = []
+line_of end.Usage = codes "autfilt: bad arguments\n"
+line_of end.CannotOpen = codes "autfilt: cannot open -\n"
+line_of end.ReadFault = codes "autfilt: -: read error\n"
+line_of (end.SyntaxAt k) = codes "autfilt: -: syntax error at byte " ++ (decimal k ++ codes "\n")
+line_of end.Truncated = codes "autfilt: -: unexpected end of input\n"
+line_of end.Aborted = codes "autfilt: -: automaton aborted\n"
+line_of (end.Invalid rule) = codes "autfilt: -: invalid automaton (" ++ (rule_word rule ++ codes ")\n")
+line_of (end.Limit which) = codes "autfilt: -: limit exceeded: " ++ (limit_word which ++ codes "\n")
+line_of end.WriteFault = codes "autfilt: write error\n"
+line_of end.Memory = codes "autfilt: out of memory\n"

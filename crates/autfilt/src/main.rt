@@ -2,6 +2,7 @@
 #![tactic(auto)]
 
 mod ended;
+mod laws;
 mod notes;
 mod real;
 mod run;
@@ -10,7 +11,8 @@ mod tests;
 mod turn;
 
 use aut_base::{Memory, Text, Words};
-pub use ended::Ended;
+pub use ended::{End, Ended};
+pub use laws::one_end;
 use notes::note;
 use real::{RealInputs, RealSink};
 pub use run::autfilt;
@@ -27,9 +29,9 @@ fn main(rt: HostRuntime) -> ExitCode {
         Ok((words, mut inputs)) => {
             autfilt(rt.alloc(), &words, &mut inputs, &mut out, &mut notes)
         }
-        Err(ended) => {
-            note(&mut notes, &ended);
-            ended
+        Err(end) => {
+            note(&mut notes, &end);
+            Ended::from(end)
         }
     };
     ExitCode::from(ended.status())
@@ -40,13 +42,13 @@ fn made(
     alloc: Global,
     args: io::Result<Args<Global>>,
     stdin: Stdin,
-) -> Result<(Words, RealInputs), Ended> {
+) -> Result<(Words, RealInputs), End> {
     let words = match args {
         Ok(args) => words_of(alloc, args)?,
         Err(error) => {
             return match error.kind() {
-                io::ErrorKind::OutOfMemory => Err(Ended::Memory),
-                _ => Err(Ended::Usage),
+                io::ErrorKind::OutOfMemory => Err(End::Memory),
+                _ => Err(End::Usage),
             };
         }
     };

@@ -1,13 +1,14 @@
 //! The top call.
 
-ghost use Rattle.std.specs.Prelude.{◌≡◌, ◌≢◌, ◌+◌, ◌<◌, [], length, false};
-ghost use Rattle.aut_io.specs.Outside.{Gains, GainsPrefix};
-ghost use Rattle.autfilt.specs.Notes.{line_of};
-ghost use Rattle.autfilt.specs.Run.{Calm, EndsBecause, PrintsStream, standard_input};
-ghost use Rattle.autfilt.specs.Running.{EndCauses, RunsOver, ended_of};
-ghost use Rattle.hoa_lexer.specs.Reading.{Between, unread};
+ghost use Rattle.std.specs.Prelude.{◌≡◌, ◌≢◌, ◌↔◌, []};
+ghost use Rattle.autfilt.specs.Ends.{ended_of};
+ghost use Rattle.autfilt.specs.Run.{Calm, EndsBecause, EndsBy, Runs, input_of, standard_input};
+ghost use Rattle.autfilt.specs.Running.{RunsOver, end_of};
+ghost use Rattle.autfilt.specs.Turn.{Causes};
+ghost use Rattle.autfilt.specs.declared.ended.End.{End};
+ghost use Rattle.autfilt.specs.declared.ended.Ended.{Ended};
 
-use crate::ended::Ended;
+use crate::ended::{End, Ended};
 use crate::notes::note;
 use crate::turn::print_next;
 use aut_base::{MOST_BYTES, OpenFail, Text, Words};
@@ -15,59 +16,50 @@ use aut_io::{Inputs, Sink};
 use hoa_lexer::Lexer;
 use std::alloc::Global;
 
-/// Prints automata until only blanks are left.
-fn print_all<I: Inputs, W: Sink>(
-    alloc: Global,
-    lexer: &mut Lexer,
-    inputs: &mut I,
-    out: &mut W,
-) -> Ended
-    requires { lexer.old.spent ≡ false }
-    ensures runs { Between (I.left inputs.old) (I.left inputs.new) (λ old new.
-        RunsOver result (unread lexer.old.held old) (W.written out.old) (W.written out.new) (lexer.old.taken + length old < lexer.old.most)
-        (Calm (I.read_faults inputs.old) (I.read_faults inputs.new)) (Calm (W.faults out.old) (W.faults out.new))) }
-    ensures causes { EndCauses result (I.read_faults inputs.old) (I.read_faults inputs.new) (W.faults out.old) (W.faults out.new) }
+/// Prints the automata of the open text until only blanks are left.
+fn print_all<I: Inputs, W: Sink>(alloc: Global, inputs: &mut I, out: &mut W) -> End
+    ensures runs { RunsOver result (I.left inputs.old) (I.left inputs.new) (W.written out.old) (W.written out.new) }
+    ensures causes { Causes result (I.read_faults inputs.old) (I.read_faults inputs.new) (W.faults out.old) (W.faults out.new) }
     ensures opens { I.open_faults inputs.new ≡ I.open_faults inputs.old }
-    ensures texts { I.texts inputs.new ≡ I.texts inputs.old }
 {
+    let mut lexer = Lexer::new(MOST_BYTES);
     let mut printed = false;
     'automata: loop {
-        match print_next(alloc, lexer, inputs, out) {
+        match print_next(alloc, &mut lexer, inputs, out) {
             Ok(true) => printed = true,
-            Ok(false) => return end_of_stream(printed),
-            Err(ended) => return ended,
+            Ok(false) => return end_of_text(printed),
+            Err(end) => return end,
         }
     }
 }
 
 /// The end of a run that read all.
-fn end_of_stream(printed: bool) -> Ended
-    ensures { result ≡ ended_of printed }
+fn end_of_text(printed: bool) -> End
+    ensures { result ≡ end_of printed }
 {
     if printed {
-        Ended::Output
+        End::Output
     } else {
-        Ended::NoneOutput
+        End::NoneOutput
     }
 }
 
 /// Prints the automata of standard input.
-fn print_stream<I: Inputs, W: Sink>(alloc: Global, inputs: &mut I, out: &mut W) -> Ended
+fn print_input<I: Inputs, W: Sink>(alloc: Global, inputs: &mut I, out: &mut W) -> End
     requires { I.may_open standard_input }
-    ensures prints { PrintsStream (I.texts inputs.old) (W.written out.old) (W.written out.new) result
-        (Calm (I.open_faults inputs.old) (I.open_faults inputs.new)) (Calm (I.read_faults inputs.old) (I.read_faults inputs.new))
-        (Calm (W.faults out.old) (W.faults out.new)) }
-    ensures causes { EndsBecause result (I.open_faults inputs.old) (I.open_faults inputs.new)
+    ensures runs { Runs result (input_of (I.texts inputs.old)) (I.left inputs.new) (W.written out.old) (W.written out.new) }
+    ensures causes { EndsBecause (ended_of result) (I.open_faults inputs.old) (I.open_faults inputs.new)
         (I.read_faults inputs.old) (I.read_faults inputs.new) (W.faults out.old) (W.faults out.new) }
+    ensures no_usage { result ≢ End.Usage }
 {
     let name = match Text::from_bytes(alloc, b"-") {
         Ok(name) => name,
-        Err(_) => return Ended::Memory,
+        Err(_) => return End::Memory,
     };
     match inputs.open(&name) {
-        Ok(()) => print_all(alloc, &mut Lexer::new(MOST_BYTES), inputs, out),
-        Err(OpenFail::Failed) => Ended::CannotOpen,
-        Err(OpenFail::Memory) => Ended::Memory,
+        Ok(()) => print_all(alloc, inputs, out),
+        Err(OpenFail::Failed) => End::CannotOpen,
+        Err(OpenFail::Memory) => End::Memory,
     }
 }
 
@@ -82,25 +74,23 @@ pub fn autfilt<I: Inputs, W: Sink, M: Sink>(
 ) -> Ended
     requires { words.now ≡ [] → I.may_open standard_input }
 
-    // What the run is for.
-    ensures prints { words.now ≡ [] → PrintsStream (I.texts inputs.old) (W.written out.old) (W.written out.new) result
-        (Calm (I.open_faults inputs.old) (I.open_faults inputs.new)) (Calm (I.read_faults inputs.old) (I.read_faults inputs.new))
-        (Calm (W.faults out.old) (W.faults out.new)) }
+    // What was read, what was written of it and what ended the run, with the line about that.
+    ensures run { EndsBy words.now result (input_of (I.texts inputs.old)) (I.left inputs.new) (W.written out.old) (W.written out.new)
+        (M.written notes.old) (M.written notes.new) (Calm (M.faults notes.old) (M.faults notes.new)) }
 
-    // Why it ended so: a fault is answered only where its count rose, and words only where there are some.
-    ensures causes { words.now ≡ [] → EndsBecause result (I.open_faults inputs.old) (I.open_faults inputs.new)
+    // A fault of the outside is answered only where its count rose, and no other answer but want of memory comes then.
+    ensures causes { EndsBecause result (I.open_faults inputs.old) (I.open_faults inputs.new)
         (I.read_faults inputs.old) (I.read_faults inputs.new) (W.faults out.old) (W.faults out.new) }
-    ensures usage { words.now ≢ [] → result ≡ Ended.Usage }
-    // The line about the end goes to `notes`, as far as that takes it.
-    ensures note { Calm (M.faults notes.old) (M.faults notes.new) → Gains (M.written notes.old) (M.written notes.new) (line_of result) }
-    ensures note_prefix { GainsPrefix (M.written notes.old) (M.written notes.new) (line_of result) }
+
+    // Words are refused, and they alone; then nothing is opened, read or written.
+    ensures usage { (result ≡ Ended.Usage) ↔ (words.now ≢ []) }
     ensures untouched { words.now ≢ [] → (I.left inputs.new ≡ I.left inputs.old) × (W.written out.new ≡ W.written out.old) }
 {
-    let ended = if words.is_empty() {
-        print_stream(alloc, inputs, out)
+    let end = if words.is_empty() {
+        print_input(alloc, inputs, out)
     } else {
-        Ended::Usage
+        End::Usage
     };
-    note(notes, &ended);
-    ended
+    note(notes, &end);
+    Ended::from(end)
 }

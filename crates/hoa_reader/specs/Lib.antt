@@ -13,6 +13,7 @@ pub mod GrammarExamples
 pub mod GrammarLaws
 pub mod Growing
 pub mod Midway
+pub mod Naming
 pub mod Parsing
 pub mod Parts
 pub mod Pieces

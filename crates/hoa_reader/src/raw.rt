@@ -1,10 +1,19 @@
 //! An automaton as its text writes it, before any rule is checked (HOA v1, Grammar).
 
+<<<<<<< HEAD
 ghost use Rattle.std.specs.Prelude.{◌≡◌, ◌<◌, [], ◌∷◌, ◌++◌, length, IfOk, OnOk, OnErr, slice_get};
 ghost use Rattle.hoa_reader.specs.Raw.{raw_list, raw_tree};
 
 use aut_base::{Formula, Memory, Numbers, Seq, Text, Words};
 use std::alloc::Global;
+=======
+ghost use Rattle.std.specs.Prelude.{◌≡◌};
+ghost use Rattle.std.specs.Option.{option_copied};
+ghost use Rattle.hoa_reader.specs.Naming.{name_of};
+ghost use Rattle.hoa_reader.specs.Raw.{written};
+
+use aut_base::{Formula, Numbers, Seq, Text, Words};
+>>>>>>> 06285e4ef4f63488b18c477103c78a8deb238908
 
 /// A label as it is written; an alias stands for the label that it was defined as.
 #[cycle(raw_label)]
@@ -125,4 +134,18 @@ pub struct Raw {
     pub version: Text,
     pub items: Items,
     pub states: RawStates,
+}
+
+impl Raw {
+    /// The text of the first `name:` of the header, and None exactly where there is none.
+    pub fn name(&self) -> Option<&Text>
+        ensures { option_copied result ≡ name_of (written self.now) }
+    {
+        'items: for item in self.items.as_slice() {
+            if let Item::Name(text) = item {
+                return Some(text);
+            }
+        }
+        None
+    }
 }

@@ -1,0 +1,9 @@
+//! Laws of the definitions, which no code runs.
+
+ghost use Rattle.autfilt.specs.Laws.{OneEnd};
+ghost use Rattle.hoa_reader.specs.Standing.{OneStanding};
+
+/// Where one thing alone stands next in a text, the text decides the end of a run.
+pub fn one_end()
+    ensures { OneStanding → OneEnd }
+{}
