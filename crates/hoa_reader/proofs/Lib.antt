@@ -1,4 +1,6 @@
 pub mod Advancing
+pub mod Bodies
+pub mod Chaining
 pub mod Completing
 pub mod DeadEnds
 pub mod Depths
