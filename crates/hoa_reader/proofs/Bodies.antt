@@ -7,12 +7,12 @@ use Rattle.hoa_lexer.specs.declared.token.Token.{Token}
 use Rattle.hoa_lexer.specs.declared.token.Token.TheVariants as token
 use Rattle.hoa_reader.proofs.Chaining.{Then, next_fails, next_parts}
 use Rattle.hoa_reader.proofs.Leading.{passed_then}
-use Rattle.hoa_reader.proofs.Moving.{moves_nowhere, reads_as, takes, takes_last, tells_same}
+use Rattle.hoa_reader.proofs.Moving.{moves_nowhere, passes, reads_as, reads_nothing, reads_then, takes, takes_last, tells_same}
 use Rattle.hoa_reader.specs.Expecting as part
 use Rattle.hoa_reader.specs.Expecting.{Part, behind, conj_parts, label_parts, move}
 use Rattle.hoa_reader.specs.Grammar.{conj_tokens, label_tokens, optional_label, optional_marks}
 use Rattle.hoa_reader.specs.Parsing.{Advances, Passed, Place, Reads, State}
-use Rattle.hoa_reader.specs.Parts.{AreMarks, IsConj, IsEdge, IsLabel, IsMark, IsMaybeLabel}
+use Rattle.hoa_reader.specs.Parts.{AreEdges, AreMarks, IsConj, IsEdge, IsLabel, IsMark, IsMaybeLabel}
 use Rattle.hoa_reader.specs.Raw.{RawTree, WrittenEdge, raw_tree}
 use Rattle.hoa_reader.specs.declared.fault.ReadFault.{ReadFault}
 use Rattle.hoa_reader.specs.declared.raw.RawEdge.{RawEdge}
@@ -113,3 +113,9 @@ edge_whole l to marks s m n s' unspent begins one two three =
     reads_as (part.Edges ∷ []) (part.Edges ∷ []) _ IsEdge marks (record { label = l; to = to; marks = marks }) s s'
     (λ a e h. edge_is l to marks a h.1.1.0 h.1.0 h.0 h.1.1.1 h.1.1.2 e h.1.2 h.2)
     (next_parts (part.Edges ∷ []) (part.MaybeMarks ∷ []) (part.Edges ∷ []) (λ (x : List ℕ). Then (Then (Nothing tt) (IsMaybeLabel l)) (IsConj x)) AreMarks to marks s n s' (edge_to l to s m n unspent begins one two) three)
+
+pub edges_over : (es : List RawEdge) (s m : State) → Reads (part.Edges ∷ []) (part.Edges ∷ []) AreEdges (Ok es) s m → m.lexer.spent ≡ false → move part.Edges m.ahead ≡ part.Passes → Reads (part.Edges ∷ []) [] AreEdges (Ok es) s m
+edges_over es s m one unspent over =
+    reads_then (part.Edges ∷ []) (part.Edges ∷ []) [] AreEdges Nothing AreEdges es tt es s m m
+    (λ a b c h k. subst (λ (x : Place). AreEdges es a x) k h) one
+    (passes part.Edges [] [] Nothing tt m m over (reads_nothing [] Nothing tt m unspent (λ a. refl)))
