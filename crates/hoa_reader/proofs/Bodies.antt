@@ -2,21 +2,26 @@
 use Rattle.std.proofs.Common.{◌≡◌, ◌≢◌, ℕ, false, List, [], ◌∷◌, ◌++◌, map, Option, Some, None, Ok, Err, refl, sym, ap, subst, ◌∙◌}
 use Rattle.std.proofs.lemmas.List.{append_assoc, append-nil}
 use Rattle.std.specs.Option.{option_map}
-use Rattle.std.specs.Prelude.{codes}
+use Rattle.std.specs.Prelude.{codes, flat_map}
 use Rattle.hoa_lexer.specs.declared.token.Token.{Token}
 use Rattle.hoa_lexer.specs.declared.token.Token.TheVariants as token
-use Rattle.hoa_reader.proofs.Chaining.{Then, next_fails, next_parts}
+use Rattle.hoa_reader.proofs.Chaining.{ListSo, Then, next_fails, next_parts}
+use Rattle.hoa_reader.proofs.HeaderNames.{IsNamed, named}
 use Rattle.hoa_reader.proofs.Leading.{passed_then}
-use Rattle.hoa_reader.proofs.Moving.{moves_nowhere, passes, reads_as, reads_nothing, reads_then, takes, takes_last, tells_same}
+use Rattle.hoa_reader.proofs.Moving.{moves_as, moves_nowhere, passes, reads_as, reads_nothing, reads_then, takes, takes_last, tells_as, tells_same}
 use Rattle.hoa_reader.specs.Expecting as part
-use Rattle.hoa_reader.specs.Expecting.{Part, behind, conj_parts, label_parts, move}
-use Rattle.hoa_reader.specs.Grammar.{conj_tokens, label_tokens, optional_label, optional_marks}
+use Rattle.hoa_reader.specs.Expecting.{Part, behind, conj_parts, if_header, label_parts, move}
+use Rattle.hoa_reader.specs.Grammar.{StateWithin, conj_tokens, edge_tokens, header_of, label_tokens, optional_label, optional_marks, optional_text, state_meaning, state_tokens}
 use Rattle.hoa_reader.specs.Parsing.{Advances, Passed, Place, Reads, State}
-use Rattle.hoa_reader.specs.Parts.{AreEdges, AreMarks, IsConj, IsEdge, IsLabel, IsMark, IsMaybeLabel}
-use Rattle.hoa_reader.specs.Raw.{RawTree, WrittenEdge, raw_tree}
+use Rattle.hoa_reader.specs.Parts.{AreEdges, AreMarks, AreStates, IsConj, IsEdge, IsLabel, IsMark, IsMaybeLabel, IsNumber, IsOptionalText, IsState}
+use Rattle.hoa_reader.specs.Raw.{RawTree, WrittenEdge, WrittenState, raw_tree, written_state}
+use Rattle.hoa_reader.specs.Standing.{most_depth}
 use Rattle.hoa_reader.specs.declared.fault.ReadFault.{ReadFault}
+use Rattle.hoa_reader.specs.declared.header.Header.{Header}
+use Rattle.hoa_reader.specs.declared.header.Header.TheVariants as header
 use Rattle.hoa_reader.specs.declared.raw.RawEdge.{RawEdge}
 use Rattle.hoa_reader.specs.declared.raw.RawLabel.{RawLabel}
+use Rattle.hoa_reader.specs.declared.raw.RawState.{RawState}
 
 edge_means : (l k : Option RawTree) (to to' marks marks' : List ℕ) → l ≡ k → to ≡ to' → marks ≡ marks' → (let e : WrittenEdge = record { label = l; to = to; marks = marks } in e) ≡ record { label = k; to = to'; marks = marks' }
 edge_means l k to to' marks marks' same_label same_to same_marks = cc
@@ -65,14 +70,17 @@ Nothing done a b = a ≡ b
 edge_starts : (s : State) → s.lexer.spent ≡ false → move part.Edges s.ahead ≢ part.Passes → Reads (part.Edges ∷ []) edge_parts Nothing (Ok tt) s s
 edge_starts s unspent begins = record {
   moves = moves_nowhere {T = Unit {0}} tt s unspent;
-  text = tells_same s _ (λ x. (refl, record {
-    tokens = [];
-    passed = refl;
-    left = part.Edges ∷ [];
-    leads = record { runs = λ others. refl };
-    unended = tt;
-    over = λ most others. edge_front most others s.ahead begins;
-  }));
+  text = tells_same s _ (λ x. (
+    refl,
+    record {
+      tokens = [];
+      passed = refl;
+      left = part.Edges ∷ [];
+      leads = record { runs = λ others. refl };
+      unended = tt;
+      over = λ most others. edge_front most others s.ahead begins;
+    },
+  ));
 }
 
 pub edge_unlabelled : (f : ReadFault) (s m : State) → s.lexer.spent ≡ false → move part.Edges s.ahead ≢ part.Passes → Reads (part.MaybeLabel ∷ []) [] IsMaybeLabel (Err f) s m → Reads (part.Edges ∷ []) (part.Edges ∷ []) IsEdge (Err f) s m
@@ -119,3 +127,83 @@ edges_over es s m one unspent over =
     reads_then (part.Edges ∷ []) (part.Edges ∷ []) [] AreEdges Nothing AreEdges es tt es s m m
     (λ a b c h k. subst (λ (x : Place). AreEdges es a x) k h) one
     (passes part.Edges [] [] Nothing tt m m over (reads_nothing [] Nothing tt m unspent (λ a. refl)))
+
+-- the name that opens a state, and what is read behind it so far
+abbrev pub state_name : Token
+state_name = token.HeaderName (codes "State")
+
+abbrev pub state_rest : List Part
+state_rest = part.MaybeLabel ∷ part.Number ∷ part.MaybeQuoted ∷ part.MaybeMarks ∷ part.Edges ∷ part.States ∷ []
+
+abbrev pub HasLabel : Option RawLabel → Place → Place → Type 0
+HasLabel l = Then (IsMark state_name tt) (IsMaybeLabel l)
+
+abbrev pub HasNumber : Option RawLabel → ℕ → Place → Place → Type 0
+HasNumber l n = Then (HasLabel l) (IsNumber n)
+
+abbrev pub HasName : Option RawLabel → ℕ → Unit {0} → Place → Place → Type 0
+HasName l n u = Then (HasNumber l n) (IsOptionalText u)
+
+abbrev pub HasMarks : Option RawLabel → ℕ → List ℕ → Place → Place → Type 0
+HasMarks l n marks = Then (HasName l n tt) (AreMarks marks)
+
+is_state_name : (z : Token) (name : List ℕ) → z ≡ token.HeaderName name → header_of name ≡ header.State → z ≡ state_name
+is_state_name z name is kind = is ∙ ap token.HeaderName (subst (IsNamed name) kind (named name))
+
+pub state_opens : (v : Unit {0}) (s m : State) → s.ahead ≡ state_name → Advances (Ok v) s m → Reads (part.States ∷ []) state_rest (IsMark state_name) (Ok v) s m
+state_opens v s m is one = takes part.States state_rest [] state_name s m v is refl refl refl one
+
+pub state_labelled : (v : Unit {0}) (l : Option RawLabel) (s m s' : State) → Reads (part.States ∷ []) state_rest (IsMark state_name) (Ok v) s m → Reads (part.MaybeLabel ∷ []) [] IsMaybeLabel (Ok l) m s'
+    → Reads (part.States ∷ []) (part.Number ∷ part.MaybeQuoted ∷ part.MaybeMarks ∷ part.Edges ∷ part.States ∷ []) HasLabel (Ok l) s s'
+state_labelled v l s m s' one two = next_parts (part.States ∷ []) (part.MaybeLabel ∷ []) (part.Number ∷ part.MaybeQuoted ∷ part.MaybeMarks ∷ part.Edges ∷ part.States ∷ []) (IsMark state_name) IsMaybeLabel v l s m s' one two
+
+pub state_numbered : (l : Option RawLabel) (n : ℕ) (s m s' : State) → Reads (part.States ∷ []) (part.Number ∷ part.MaybeQuoted ∷ part.MaybeMarks ∷ part.Edges ∷ part.States ∷ []) HasLabel (Ok l) s m → Reads (part.Number ∷ []) [] IsNumber (Ok n) m s'
+    → Reads (part.States ∷ []) (part.MaybeQuoted ∷ part.MaybeMarks ∷ part.Edges ∷ part.States ∷ []) (HasNumber l) (Ok n) s s'
+state_numbered l n s m s' one two = next_parts (part.States ∷ []) (part.Number ∷ []) (part.MaybeQuoted ∷ part.MaybeMarks ∷ part.Edges ∷ part.States ∷ []) HasLabel IsNumber l n s m s' one two
+
+pub state_named : (l : Option RawLabel) (n : ℕ) (u : Unit {0}) (s m s' : State) → Reads (part.States ∷ []) (part.MaybeQuoted ∷ part.MaybeMarks ∷ part.Edges ∷ part.States ∷ []) (HasNumber l) (Ok n) s m → Reads (part.MaybeQuoted ∷ []) [] IsOptionalText (Ok u) m s'
+    → Reads (part.States ∷ []) (part.MaybeMarks ∷ part.Edges ∷ part.States ∷ []) (HasName l n) (Ok u) s s'
+state_named l n u s m s' one two = next_parts (part.States ∷ []) (part.MaybeQuoted ∷ []) (part.MaybeMarks ∷ part.Edges ∷ part.States ∷ []) (HasNumber l) IsOptionalText n u s m s' one two
+
+pub state_marked : (l : Option RawLabel) (n : ℕ) (u : Unit {0}) (marks : List ℕ) (s m s' : State) → Reads (part.States ∷ []) (part.MaybeMarks ∷ part.Edges ∷ part.States ∷ []) (HasName l n) (Ok u) s m → Reads (part.MaybeMarks ∷ []) [] AreMarks (Ok marks) m s'
+    → Reads (part.States ∷ []) (part.Edges ∷ part.States ∷ []) (HasMarks l n) (Ok marks) s s'
+state_marked l n u marks s m s' one two = next_parts (part.States ∷ []) (part.MaybeMarks ∷ []) (part.Edges ∷ part.States ∷ []) (HasName l n) AreMarks u marks s m s' one two
+
+state_means : (l k : Option RawTree) (n : ℕ) (marks marks' : List ℕ) (edges edges' : List WrittenEdge) → l ≡ k → marks ≡ marks' → edges ≡ edges' → (let e : WrittenState = record { label = l; number = n; marks = marks; edges = edges } in e) ≡ record { label = k; number = n; marks = marks'; edges = edges' }
+state_means l k n marks marks' edges edges' same_label same_marks same_edges = cc
+
+state_is : (l : Option RawLabel) (n : ℕ) (marks : List ℕ) (edges : List RawEdge) (a b c d e f g : Place) → IsMark state_name tt a b → IsMaybeLabel l b c → IsNumber n c d → IsOptionalText tt d e → AreMarks marks e f → AreEdges edges f g
+    → IsState (record { label = l; number = n; marks = marks; edges = edges }) a g
+state_is l n marks edges a b c d e f g opens labelled numbered texts marked goes = record {
+  phrase = record { label = labelled.phrase; number = n; name = texts.0; marks = marked.phrase; edges = goes.phrase };
+  within = (labelled.within, goes.within);
+  passed = passed_then a b g (state_name ∷ []) _ opens (passed_then b c g (optional_label labelled.phrase) _ labelled.passed (passed_then c d g (token.Int n ∷ []) _ numbered
+      (passed_then d e g (optional_text texts.0) _ texts.1 (passed_then e f g (optional_marks marked.phrase) (flat_map edge_tokens goes.phrase) marked.passed goes.passed))));
+  means = state_means _ _ n _ _ _ _ labelled.means marked.means goes.means;
+}
+
+pub state_whole : (l : Option RawLabel) (n : ℕ) (marks : List ℕ) (edges : List RawEdge) (s m s' : State) → Reads (part.States ∷ []) (part.Edges ∷ part.States ∷ []) (HasMarks l n) (Ok marks) s m → Reads (part.Edges ∷ []) [] AreEdges (Ok edges) m s'
+    → Reads (part.States ∷ []) (part.States ∷ []) IsState (Ok (record { label = l; number = n; marks = marks; edges = edges })) s s'
+state_whole l n marks edges s m s' one two =
+    reads_as (part.States ∷ []) (part.States ∷ []) _ IsState edges (record { label = l; number = n; marks = marks; edges = edges }) s s'
+    (λ a g h. state_is l n marks edges a h.1.1.1.1.0 h.1.1.1.0 h.1.1.0 h.1.0 h.0 g h.1.1.1.1.1 h.1.1.1.1.2 h.1.1.1.2 h.1.1.2 h.1.2 h.2)
+    (next_parts (part.States ∷ []) (part.Edges ∷ []) (part.States ∷ []) (HasMarks l n) AreEdges marks edges s m s' one two)
+
+-- where `--END--` is at hand the states are over
+pub states_over : (states : List RawState) (s m : State) → Reads (part.States ∷ []) (part.States ∷ []) (ListSo (StateWithin most_depth) state_tokens state_meaning written_state) (Ok states) s m → m.ahead ≡ token.End
+    → Reads (part.States ∷ []) (part.States ∷ []) AreStates (Ok states) s m
+states_over states s m one is = record {
+  moves = moves_as states states s m one.moves;
+  text = tells_as s m _ _ (λ x y h. (record { written = h.0; ends = is }, h.1)) one.text;
+}
+
+no_state : (kind : Header) (parts : List Part) → kind ≢ header.State → if_header header.State kind parts ≡ part.Refuses
+no_state header.State parts other = absurd (other refl)
+no_state _ parts other = refl
+
+-- another header's name opens no state
+pub no_state_name : (name : List ℕ) (kind : Header) → kind ≡ header_of name → kind ≢ header.State → move part.States (token.HeaderName name) ≡ part.Refuses
+no_state_name name kind is other = no_state (header_of name) state_rest (λ e. other (is ∙ e))
+
+pub state_named_so : (name : List ℕ) → header.State ≡ header_of name → token.HeaderName name ≡ state_name
+state_named_so name kind = is_state_name (token.HeaderName name) name refl (sym kind)
