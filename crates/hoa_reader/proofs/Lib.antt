@@ -2,6 +2,8 @@ pub mod Advancing
 pub mod AfterAll
 pub mod Answering
 pub mod Atoms
+pub mod Bodies
+pub mod Chaining
 pub mod Clear
 pub mod Collected
 pub mod Completing

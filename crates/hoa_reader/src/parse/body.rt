@@ -1,6 +1,7 @@
 //! The states of a body and their edges.
 
-ghost use Rattle.std.specs.Prelude.{◌≡◌, ◌≢◌, ◌∷◌, [], false};
+ghost use Rattle.std.specs.Prelude.{◌≡◌, ◌≢◌, ◌∷◌, [], false, OnOk};
+ghost use Rattle.hoa_lexer.specs.declared.token.Token.{Token};
 ghost use Rattle.hoa_reader.specs.Expecting as part;
 ghost use Rattle.hoa_reader.specs.Expecting.{move};
 ghost use Rattle.hoa_reader.specs.Parsing.{Reads, Uses, state};
@@ -26,6 +27,7 @@ pub(super) fn states<I: Inputs>(
     ensures reads { Reads (part.States ∷ []) (part.States ∷ []) AreStates result
         (state lexer.old ahead.old (I.left inputs.old) (I.read_faults inputs.old) (I.open_faults inputs.old) (I.texts inputs.old))
         (state lexer.new ahead.new (I.left inputs.new) (I.read_faults inputs.new) (I.open_faults inputs.new) (I.texts inputs.new)) }
+    ensures ends { OnOk result (ahead.new ≡ Token.End) }
 {
     let mut states = RawStates::new(alloc);
     'states: loop {
@@ -50,6 +52,7 @@ fn state_at<I: Inputs>(
     ahead: &mut Token,
 ) -> Result<RawState, ReadFault>
     requires unspent { lexer.old.spent ≡ false }
+    requires begins { ahead.old ≢ Token.End }
     ensures reads { Reads (part.States ∷ []) (part.States ∷ []) IsState result
         (state lexer.old ahead.old (I.left inputs.old) (I.read_faults inputs.old) (I.open_faults inputs.old) (I.texts inputs.old))
         (state lexer.new ahead.new (I.left inputs.new) (I.read_faults inputs.new) (I.open_faults inputs.new) (I.texts inputs.new)) }
@@ -57,8 +60,12 @@ fn state_at<I: Inputs>(
         (state lexer.old ahead.old (I.left inputs.old) (I.read_faults inputs.old) (I.open_faults inputs.old) (I.texts inputs.old))
         (state lexer.new ahead.new (I.left inputs.new) (I.read_faults inputs.new) (I.open_faults inputs.new) (I.texts inputs.new)) }
 {
-    match ahead {
-        Token::HeaderName(name) if header_named(name) == Header::State => {}
+    let header = match ahead {
+        Token::HeaderName(name) => header_named(name),
+        _ => return Err(refused(ahead, lexer)),
+    };
+    match header {
+        Header::State => {}
         _ => return Err(refused(ahead, lexer)),
     }
     match advance(alloc, lexer, inputs, ahead) {

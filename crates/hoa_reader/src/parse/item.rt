@@ -1,6 +1,7 @@
 //! The items of a header.
 
-ghost use Rattle.std.specs.Prelude.{◌≡◌, ◌++◌, ◌∷◌, [], false};
+ghost use Rattle.std.specs.Prelude.{◌≡◌, ◌++◌, ◌∷◌, [], false, OnOk};
+ghost use Rattle.hoa_lexer.specs.declared.token.Token.{Token};
 ghost use Rattle.hoa_reader.specs.declared.header.Header.{Header};
 ghost use Rattle.hoa_reader.specs.Expecting as part;
 ghost use Rattle.hoa_reader.specs.Parsing.{Reads, Uses, state};
@@ -28,6 +29,7 @@ pub(super) fn items<I: Inputs>(
     ensures reads { Reads (part.Items ∷ []) (part.Items ∷ []) AreItems result
         (state lexer.old ahead.old (I.left inputs.old) (I.read_faults inputs.old) (I.open_faults inputs.old) (I.texts inputs.old))
         (state lexer.new ahead.new (I.left inputs.new) (I.read_faults inputs.new) (I.open_faults inputs.new) (I.texts inputs.new)) }
+    ensures ends { OnOk result (ahead.new ≡ Token.Body) }
 {
     let mut items = Items::new(alloc);
     'items: loop {

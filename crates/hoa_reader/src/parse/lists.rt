@@ -4,7 +4,7 @@ ghost use Rattle.std.specs.Prelude.{◌≡◌, ◌∷◌, [], false, IsTrue, ◌
 ghost use Rattle.hoa_lexer.specs.declared.token.Token.{Token};
 ghost use Rattle.hoa_reader.specs.Expecting as part;
 ghost use Rattle.hoa_reader.specs.Expecting.{conj_parts};
-ghost use Rattle.hoa_reader.specs.Parsing.{Reads, state};
+ghost use Rattle.hoa_reader.specs.Parsing.{Reads, Uses, state};
 ghost use Rattle.hoa_reader.specs.Parts.{AddsMarks, AddsNumbers, AreAccValues, AreMarks, AreTexts, AreValues, AreWords, IsConj};
 
 use super::tokens::{advance, number, refused};
@@ -23,6 +23,9 @@ pub(super) fn conj<I: Inputs>(
 ) -> Result<Numbers, ReadFault>
     requires unspent { lexer.old.spent ≡ false }
     ensures reads { Reads conj_parts [] IsConj result
+        (state lexer.old ahead.old (I.left inputs.old) (I.read_faults inputs.old) (I.open_faults inputs.old) (I.texts inputs.old))
+        (state lexer.new ahead.new (I.left inputs.new) (I.read_faults inputs.new) (I.open_faults inputs.new) (I.texts inputs.new)) }
+    ensures uses { Uses result
         (state lexer.old ahead.old (I.left inputs.old) (I.read_faults inputs.old) (I.open_faults inputs.old) (I.texts inputs.old))
         (state lexer.new ahead.new (I.left inputs.new) (I.read_faults inputs.new) (I.open_faults inputs.new) (I.texts inputs.new)) }
 {

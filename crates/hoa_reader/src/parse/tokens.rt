@@ -55,6 +55,9 @@ pub(super) fn number<I: Inputs>(
     ensures reads { Reads (part.Number ∷ []) [] IsNumber result
         (state lexer.old ahead.old (I.left inputs.old) (I.read_faults inputs.old) (I.open_faults inputs.old) (I.texts inputs.old))
         (state lexer.new ahead.new (I.left inputs.new) (I.read_faults inputs.new) (I.open_faults inputs.new) (I.texts inputs.new)) }
+    ensures uses { Uses result
+        (state lexer.old ahead.old (I.left inputs.old) (I.read_faults inputs.old) (I.open_faults inputs.old) (I.texts inputs.old))
+        (state lexer.new ahead.new (I.left inputs.new) (I.read_faults inputs.new) (I.open_faults inputs.new) (I.texts inputs.new)) }
 {
     let number = match ahead {
         Token::Int(number) => *number,
