@@ -16,10 +16,12 @@ pub mod FollowingItems
 pub mod FollowingStates
 pub mod HeaderNames
 pub mod Leading
+pub mod Looping
 pub mod Moving
 pub mod Others
 pub mod RawTrees
 pub mod Tokens
 pub mod ValidityExamples
 pub mod ValidityLaws
+pub mod Values
 pub mod Viability
