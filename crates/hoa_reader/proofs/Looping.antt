@@ -40,6 +40,19 @@ last_behind {T = T} p r part parts others z P R v f s lexer k left reads opens t
     fails_after p (part ∷ others) r r P R R v f s (state lexer k left reads opens texts) s' one
     (known (part ∷ others) r R (Err f) lexer k z left reads opens texts s' is (takes_last part parts others r R z f (state lexer z left reads opens texts) s' refl goes opened unended two))
 
+-- the same, where the token at hand has no other name
+pub taken_behind : {S T : Type 0} (p : List Part) (part : Part) (parts others : List Part) (z : Token) (P : Relation S) (R : Relation T) (v : S) (w : T) (s m s' : State) (u : Unit {0})
+    → m.ahead ≡ z → move part z ≡ Takes parts → nat_le (open_at parts) most_depth ≡ true → is_end z ≡ false → ((a b c : Place) → P v a b → Passed b (z ∷ []) c → R w a c)
+    → Reads p (part ∷ others) P (Ok v) s m → Advances (Ok u) m s' → Reads p (parts ++ others) R (Ok w) s s'
+taken_behind p part parts others z P R v w s m s' u is goes opened unended f one two =
+    reads_then p (part ∷ others) (parts ++ others) P _ R v u w s m s' f one (takes part parts others z m s' u is goes opened unended two)
+
+pub taken_last : {S T : Type 0} (p r : List Part) (part : Part) (parts others : List Part) (z : Token) (P : Relation S) (R : Relation T) (v : S) (f : ReadFault) (s m s' : State)
+    → m.ahead ≡ z → move part z ≡ Takes parts → nat_le (open_at parts) most_depth ≡ true → is_end z ≡ false
+    → Reads p (part ∷ others) P (Ok v) s m → Advances {T = Unit {0}} (Err f) m s' → Reads p r R (Err f) s s'
+taken_last p r part parts others z P R v f s m s' is goes opened unended one two =
+    fails_after p (part ∷ others) r r P R R v f s m s' one (takes_last part parts others r R z f m s' is goes opened unended two)
+
 -- the token at hand stands behind the first part
 pub passed_behind : {S T : Type 0} (p : List Part) (part : Part) (others : List Part) (P : Relation S) (R : Relation T) (v : S) (w : T) (s m : State)
     → move part m.ahead ≡ expecting.Passes → ((a b : Place) → P v a b → R w a b)

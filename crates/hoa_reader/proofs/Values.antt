@@ -1,13 +1,16 @@
 -- What is a value in a list of values.
-use Rattle.std.proofs.Common.{◌≡◌, ◌∷◌, ◌++◌, [], ℕ, true, false, List, map, refl, sym, subst}
+use Rattle.std.proofs.Common.{◌≡◌, ◌∷◌, ◌++◌, [], ℕ, true, false, List, map, flat_map, refl, sym, ap, subst, ◌∙◌}
 use Rattle.std.proofs.lemmas.Bool.{false≢true}
+use Rattle.std.proofs.lemmas.List.{append_assoc}
+use Rattle.std.proofs.lemmas.List.Concat.{flat_map-append}
 use Rattle.hoa_lexer.specs.declared.token.Token.{Token}
 use Rattle.hoa_lexer.specs.declared.token.Token.TheVariants as token
+use Rattle.hoa_reader.proofs.Leading.{passed_then}
 use Rattle.hoa_reader.proofs.Looping.{spelled_more}
 use Rattle.hoa_reader.specs.Expecting.{AccValues, Passes, Takes, Values, move}
-use Rattle.hoa_reader.specs.Grammar.{AccValue, Value, acc_number, acc_value_token, acc_word, number_value, text_value, value_token, word_value}
+use Rattle.hoa_reader.specs.Grammar.{AccValue, Value, acc_number, acc_value_token, acc_word, and_number, number_value, text_value, value_token, word_value}
 use Rattle.hoa_reader.specs.Parsing.{Passed, Place, is_end}
-use Rattle.hoa_reader.specs.Parts.{AreAccValues, AreValues, is_acc_value, is_value}
+use Rattle.hoa_reader.specs.Parts.{AddsMarks, AddsNumbers, AreAccValues, AreValues, is_acc_value, is_value}
 
 -- a token that is one
 pub record IsAccValue (z : Token) : Type 0 where
@@ -55,3 +58,27 @@ values_more z done a b c one p q =
 -- the numbers that follow these
 abbrev pub AddsInts : List ℕ → List ℕ → Place → Place → Type 0
 AddsInts before numbers a b = (more : List ℕ) × Passed a (map token.Int more) b × (numbers ≡ before ++ more)
+
+pub ints_more : (before numbers news : List ℕ) (n : ℕ) (a b c : Place) → news ≡ numbers ++ n ∷ [] → AddsInts before numbers a b → Passed b (token.Int n ∷ []) c → AddsInts before news a c
+ints_more before numbers news n a b c is p q =
+    (p.0 ++ n ∷ [], spelled_more token.Int p.0 n (p.0 ++ n ∷ []) a b c refl p.1 q, is ∙ ap (λ (ns : List ℕ). ns ++ n ∷ []) p.2 ∙ append_assoc before p.0 (n ∷ []))
+
+-- the brace behind them
+pub marks_closed : (before numbers : List ℕ) (a b c : Place) → AddsInts before numbers a b → Passed b (token.RightBrace ∷ []) c → AddsMarks before numbers a c
+marks_closed before numbers a b c p q = (p.0, passed_then a b c (map token.Int p.0) (token.RightBrace ∷ []) p.1 q, p.2)
+
+-- a mark behind those of a conjunction, and its number
+pub record AddsAmp (before numbers : List ℕ) (a b : Place) : Type 0 where
+  pub more : List ℕ
+  pub passed : Passed a (flat_map and_number more ++ token.Amp ∷ []) b
+  pub are : numbers ≡ before ++ more
+
+pub numbers_amp : (before numbers : List ℕ) (a b c : Place) → AddsNumbers before numbers a b → Passed b (token.Amp ∷ []) c → AddsAmp before numbers a c
+numbers_amp before numbers a b c p q = record { more = p.0; passed = passed_then a b c (flat_map and_number p.0) (token.Amp ∷ []) p.1 q; are = p.2 }
+
+pub numbers_more : (before numbers news : List ℕ) (n : ℕ) (a b c : Place) → news ≡ numbers ++ n ∷ [] → AddsAmp before numbers a b → Passed b (token.Int n ∷ []) c → AddsNumbers before news a c
+numbers_more before numbers news n a b c is p q =
+    (p.more ++ n ∷ [],
+    subst (λ (ts : List Token). Passed a ts c) (append_assoc (flat_map and_number p.more) (token.Amp ∷ []) (token.Int n ∷ []) ∙ sym (flat_map-append and_number p.more (n ∷ [])))
+    (passed_then a b c (flat_map and_number p.more ++ token.Amp ∷ []) (token.Int n ∷ []) p.passed q),
+    is ∙ ap (λ (ns : List ℕ). ns ++ n ∷ []) p.are ∙ append_assoc before p.more (n ∷ []))
