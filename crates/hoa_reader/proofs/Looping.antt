@@ -68,6 +68,12 @@ pub refused_behind : {S T : Type 0} (p r : List Part) (part : Part) (others : Li
 refused_behind p r part others P R v f s m is same one =
     fails_after p (part ∷ others) r r P R R v f s m m one (token_refused part others r R f m one.moves.spent is same)
 
+-- whatever is answered of what follows, where the value is answered as it is
+pub answer_behind : {S T : Type 0} (p q r : List Part) (P : Relation S) (Q : Relation T) (R : Relation T) (v : S) (result : Result T ReadFault) (s m s' : State)
+    → ((w : T) (a b c : Place) → P v a b → Q w b c → R w a c) → Reads p q P (Ok v) s m → Reads q r Q result m s' → Reads p r R result s s'
+answer_behind p q r P Q R v (Ok w) s m s' f one two = reads_then p q r P Q R v w w s m s' (f w) one two
+answer_behind p q r P Q R v (Err e) s m s' f one two = fails_after p q r r P Q R v e s m s' one two
+
 -- what is left to be used
 abbrev pub unused : Lexer → ℕ
 unused l = l.most + 1 - (l.taken - held_count l.held)

@@ -1,5 +1,5 @@
 -- What is a value in a list of values.
-use Rattle.std.proofs.Common.{◌≡◌, ◌∷◌, ◌++◌, [], ℕ, true, false, List, map, flat_map, refl, sym, ap, subst, ◌∙◌}
+use Rattle.std.proofs.Common.{◌≡◌, ◌∷◌, ◌++◌, [], ℕ, true, false, List, map, flat_map, Some, None, refl, sym, ap, subst, ◌∙◌}
 use Rattle.std.proofs.lemmas.Bool.{false≢true}
 use Rattle.std.proofs.lemmas.List.{append_assoc}
 use Rattle.std.proofs.lemmas.List.Concat.{flat_map-append}
@@ -10,7 +10,7 @@ use Rattle.hoa_reader.proofs.Looping.{spelled_more}
 use Rattle.hoa_reader.specs.Expecting.{AccValues, Passes, Takes, Values, move}
 use Rattle.hoa_reader.specs.Grammar.{AccValue, Value, acc_number, acc_value_token, acc_word, and_number, number_value, text_value, value_token, word_value}
 use Rattle.hoa_reader.specs.Parsing.{Passed, Place, is_end}
-use Rattle.hoa_reader.specs.Parts.{AddsMarks, AddsNumbers, AreAccValues, AreValues, is_acc_value, is_value}
+use Rattle.hoa_reader.specs.Parts.{AddsMarks, AddsNumbers, AreAccValues, AreMarks, AreValues, IsConj, IsNumber, is_acc_value, is_value}
 
 -- a token that is one
 pub record IsAccValue (z : Token) : Type 0 where
@@ -82,3 +82,23 @@ numbers_more before numbers news n a b c is p q =
     subst (λ (ts : List Token). Passed a ts c) (append_assoc (flat_map and_number p.more) (token.Amp ∷ []) (token.Int n ∷ []) ∙ sym (flat_map-append and_number p.more (n ∷ [])))
     (passed_then a b c (flat_map and_number p.more ++ token.Amp ∷ []) (token.Int n ∷ []) p.passed q),
     is ∙ ap (λ (ns : List ℕ). ns ++ n ∷ []) p.are ∙ append_assoc before p.more (n ∷ []))
+
+-- the whole of a conjunction, and of marks in braces
+pub conj_whole : (first : ℕ) (before numbers : List ℕ) (a b c : Place) → before ≡ first ∷ [] → IsNumber first a b → AddsNumbers before numbers b c → IsConj numbers a c
+conj_whole first before numbers a b c is p q = record {
+  phrase = record { first = first; others = q.0 };
+  within = tt;
+  passed = passed_then a b c (token.Int first ∷ []) (flat_map and_number q.0) p q.1;
+  means = q.2 ∙ ap (λ (ns : List ℕ). ns ++ q.0) is;
+}
+
+pub marks_whole : (before marks : List ℕ) (a b c : Place) → before ≡ [] → Passed a (token.LeftBrace ∷ []) b → AddsMarks before marks b c → AreMarks marks a c
+marks_whole before marks a b c none p q = record {
+  phrase = Some q.0;
+  within = tt;
+  passed = passed_then a b c (token.LeftBrace ∷ []) (map token.Int q.0 ++ token.RightBrace ∷ []) p q.1;
+  means = q.2 ∙ ap (λ (ns : List ℕ). ns ++ q.0) none;
+}
+
+pub no_marks_there : (marks : List ℕ) (a : Place) → marks ≡ [] → AreMarks marks a a
+no_marks_there marks a none = record { phrase = None; within = tt; passed = refl; means = none }
