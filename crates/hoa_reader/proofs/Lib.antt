@@ -15,6 +15,7 @@ pub mod Following
 pub mod FollowingItems
 pub mod FollowingStates
 pub mod HeaderNames
+pub mod ItemsRead
 pub mod Leading
 pub mod Looping
 pub mod Moving
