@@ -34,12 +34,14 @@ pub mod Halts
 pub mod HeaderNames
 pub mod Headers
 pub mod Indexing
+pub mod ItemsRead
 pub mod Joining
 pub mod LabelChains
 pub mod LabelForms
 pub mod LabelReads
 pub mod Leading
 pub mod Leaves
+pub mod Looping
 pub mod Loops
 pub mod Meanings
 pub mod Moving
@@ -67,6 +69,7 @@ pub mod StuckPlaces
 pub mod Tokens
 pub mod ValidityExamples
 pub mod ValidityLaws
+pub mod Values
 pub mod Viability
 pub mod Weighing
 pub mod WrittenDown

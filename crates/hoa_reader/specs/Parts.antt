@@ -1,5 +1,5 @@
 -- What each inner function of the reader reads, in the words of the grammar.
-use Rattle.std.specs.Prelude.{◌≡◌, ℕ, Bool, if◌then◌else◌, codes, List, [], ◌∷◌, ◌++◌, map, flat_map, Option, Some, None}
+use Rattle.std.specs.Prelude.{◌≡◌, ℕ, Bool, true, false, if◌then◌else◌, codes, List, [], ◌∷◌, ◌++◌, map, flat_map, Option, Some, None}
 use Rattle.std.specs.List.{AllByRecursion}
 use Rattle.std.specs.Option.{option_map}
 use Rattle.aut_base.specs.Formula.{FormulaTree, formula_tree}
@@ -53,8 +53,19 @@ AreTexts texts a b = Passed a (map token.Str texts) b
 abbrev pub AreWords : List (List ℕ) → Place → Place → Type 0
 AreWords words a b = Passed a (map token.Identifier words) b
 
+abbrev pub is_acc_value : Token → Bool
+is_acc_value (token.Int n) = true
+is_acc_value (token.Identifier word) = true
+is_acc_value _ = false
+
 abbrev pub AreAccValues : Unit {0} → Place → Place → Type 0
 AreAccValues done a b = (values : List AccValue) × Passed a (map acc_value_token values) b
+
+abbrev pub is_value : Token → Bool
+is_value (token.Int n) = true
+is_value (token.Str text) = true
+is_value (token.Identifier word) = true
+is_value _ = false
 
 abbrev pub AreValues : Unit {0} → Place → Place → Type 0
 AreValues done a b = (values : List Value) × Passed a (map value_token values) b

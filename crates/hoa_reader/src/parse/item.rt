@@ -1,7 +1,11 @@
 //! The items of a header.
 
+<<<<<<< HEAD
 ghost use Rattle.std.specs.Prelude.{◌≡◌, ◌++◌, ◌∷◌, [], false, OnOk};
 ghost use Rattle.hoa_lexer.specs.declared.token.Token.{Token};
+=======
+ghost use Rattle.std.specs.Prelude.{◌≡◌, ◌≢◌, ◌++◌, ◌∷◌, [], false};
+>>>>>>> 296fadca8780634f3c7c8bc26ddc06423acec20f
 ghost use Rattle.hoa_reader.specs.declared.header.Header.{Header};
 ghost use Rattle.hoa_reader.specs.Expecting as part;
 ghost use Rattle.hoa_reader.specs.Parsing.{Reads, Uses, state};
@@ -86,6 +90,8 @@ fn item_of<I: Inputs>(
     name: Text,
 ) -> Result<Item, ReadFault>
     requires unspent { lexer.old.spent ≡ false }
+    requires no_opening { header ≢ Header.Opening }
+    requires no_state { header ≢ Header.State }
     ensures reads { Reads (parts_of header) [] (IsItemOf header name) result
         (state lexer.old ahead.old (I.left inputs.old) (I.read_faults inputs.old) (I.open_faults inputs.old) (I.texts inputs.old))
         (state lexer.new ahead.new (I.left inputs.new) (I.read_faults inputs.new) (I.open_faults inputs.new) (I.texts inputs.new)) }

@@ -4,7 +4,12 @@ ghost use Rattle.std.specs.Prelude.{◌≡◌, ◌∷◌, [], false, IsTrue, ◌
 ghost use Rattle.hoa_lexer.specs.declared.token.Token.{Token};
 ghost use Rattle.hoa_reader.specs.Expecting as part;
 ghost use Rattle.hoa_reader.specs.Expecting.{conj_parts};
+<<<<<<< HEAD
 ghost use Rattle.hoa_reader.specs.Parsing.{Reads, Uses, state};
+=======
+ghost use Rattle.hoa_reader.specs.Parsing.{Reads, state};
+ghost use Rattle.hoa_reader.specs.Parts as written;
+>>>>>>> 296fadca8780634f3c7c8bc26ddc06423acec20f
 ghost use Rattle.hoa_reader.specs.Parts.{AddsMarks, AddsNumbers, AreAccValues, AreMarks, AreTexts, AreValues, AreWords, IsConj};
 
 use super::tokens::{advance, number, refused};
@@ -118,6 +123,13 @@ pub(super) fn words<I: Inputs>(
     }
 }
 
+/// INT | IDENTIFIER
+fn is_acc_value(token: &Token) -> bool
+    ensures { result ≡ written.is_acc_value token.now }
+{
+    matches!(token, Token::Int(_) | Token::Identifier(_))
+}
+
 /// (INT | IDENTIFIER)*
 pub(super) fn acc_values<I: Inputs>(
     alloc: Global,
@@ -131,15 +143,21 @@ pub(super) fn acc_values<I: Inputs>(
         (state lexer.new ahead.new (I.left inputs.new) (I.read_faults inputs.new) (I.open_faults inputs.new) (I.texts inputs.new)) }
 {
     'values: loop {
-        match ahead {
-            Token::Int(_) | Token::Identifier(_) => {}
-            _ => return Ok(()),
+        if !is_acc_value(ahead) {
+            return Ok(());
         }
         match advance(alloc, lexer, inputs, ahead) {
             Ok(()) => {}
             Err(fault) => return Err(fault),
         }
     }
+}
+
+/// INT | STRING | IDENTIFIER
+fn is_value(token: &Token) -> bool
+    ensures { result ≡ written.is_value token.now }
+{
+    matches!(token, Token::Int(_) | Token::Str(_) | Token::Identifier(_))
 }
 
 /// (INT | STRING | IDENTIFIER)*
@@ -155,9 +173,8 @@ pub(super) fn values<I: Inputs>(
         (state lexer.new ahead.new (I.left inputs.new) (I.read_faults inputs.new) (I.open_faults inputs.new) (I.texts inputs.new)) }
 {
     'values: loop {
-        match ahead {
-            Token::Int(_) | Token::Str(_) | Token::Identifier(_) => {}
-            _ => return Ok(()),
+        if !is_value(ahead) {
+            return Ok(());
         }
         match advance(alloc, lexer, inputs, ahead) {
             Ok(()) => {}

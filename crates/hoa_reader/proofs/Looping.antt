@@ -1,0 +1,83 @@
+-- How a list of parts is read, one turn of a loop after the other.
+use Rattle.std.proofs.Common.{◌≡◌, ℕ, ◌+◌, ◌-◌, ◌<◌, ◌≤◌, Bool, true, false, List, [], ◌∷◌, ◌++◌, map, Option, Result, Ok, Err, refl, sym, ap, subst, ◌∙◌, arith}
+use Rattle.std.proofs.lemmas.List.{map-append}
+use Rattle.std.specs.Prelude.{nat_le}
+use Rattle.aut_io.specs.Outside.{Texts}
+use Rattle.hoa_lexer.specs.Reading.{held_count}
+use Rattle.hoa_lexer.specs.declared.lexer.Lexer.{Lexer}
+use Rattle.hoa_lexer.specs.declared.token.Token.{Token}
+use Rattle.hoa_reader.proofs.Leading.{passed_then}
+use Rattle.hoa_reader.proofs.Moving.{Relation, fails_after, passes, reads_nothing, reads_then, takes, takes_last}
+use Rattle.hoa_reader.proofs.Tokens.{known, token_refused}
+use Rattle.hoa_reader.specs.Expecting.{Part, Takes, move, open_at}
+use Rattle.hoa_reader.specs.Expecting as expecting
+use Rattle.hoa_reader.specs.Parsing.{Advances, Passed, Place, Reads, State, is_end, refusal, state}
+use Rattle.hoa_reader.specs.Standing.{most_depth}
+use Rattle.hoa_reader.specs.declared.fault.ReadFault.{ReadFault}
+
+-- no tokens
+pub spelled_none : {X : Type 0} (f : X → Token) (xs : List X) (a : Place) → xs ≡ [] → Passed a (map f xs) a
+spelled_none {X = X} f xs a none = subst (λ (ys : List X). Passed a (map f ys) a) (sym none) refl
+
+-- one more token behind them
+pub spelled_more : {X : Type 0} (f : X → Token) (xs : List X) (x : X) (ys : List X) (a b c : Place) → ys ≡ xs ++ x ∷ [] → Passed a (map f xs) b → Passed b (f x ∷ []) c → Passed a (map f ys) c
+spelled_more f xs x ys a b c is p q =
+    subst (λ (ts : List Token). Passed a ts c) (sym (map-append f xs (x ∷ [])) ∙ sym (ap (map f) is)) (passed_then a b c (map f xs) (f x ∷ []) p q)
+
+-- the token at hand was taken by the first part, and more was read before
+pub token_behind : {S T : Type 0} (p : List Part) (part : Part) (parts others : List Part) (z : Token) (P : Relation S) (R : Relation T) (v : S) (w : T) (s : State) (lexer : Lexer) (k : Token) (left : Option (List ℕ)) (reads opens : ℕ) (texts : Option Texts) (s' : State) (u : Unit {0})
+    → k ≡ z → move part z ≡ Takes parts → nat_le (open_at parts) most_depth ≡ true → is_end z ≡ false → ((a b c : Place) → P v a b → Passed b (z ∷ []) c → R w a c)
+    → Reads p (part ∷ others) P (Ok v) s (state lexer k left reads opens texts) → Advances (Ok u) (state lexer z left reads opens texts) s' → Reads p (parts ++ others) R (Ok w) s s'
+token_behind p part parts others z P R v w s lexer k left reads opens texts s' u is goes opened unended f one two =
+    reads_then p (part ∷ others) (parts ++ others) P _ R v u w s (state lexer k left reads opens texts) s' f one
+    (known (part ∷ others) (parts ++ others) _ (Ok u) lexer k z left reads opens texts s' is (takes part parts others z (state lexer z left reads opens texts) s' u refl goes opened unended two))
+
+-- and there is no token behind it
+pub last_behind : {S T : Type 0} (p r : List Part) (part : Part) (parts others : List Part) (z : Token) (P : Relation S) (R : Relation T) (v : S) (f : ReadFault) (s : State) (lexer : Lexer) (k : Token) (left : Option (List ℕ)) (reads opens : ℕ) (texts : Option Texts) (s' : State)
+    → k ≡ z → move part z ≡ Takes parts → nat_le (open_at parts) most_depth ≡ true → is_end z ≡ false
+    → Reads p (part ∷ others) P (Ok v) s (state lexer k left reads opens texts) → Advances {T = Unit {0}} (Err f) (state lexer z left reads opens texts) s' → Reads p r R (Err f) s s'
+last_behind {T = T} p r part parts others z P R v f s lexer k left reads opens texts s' is goes opened unended one two =
+    fails_after p (part ∷ others) r r P R R v f s (state lexer k left reads opens texts) s' one
+    (known (part ∷ others) r R (Err f) lexer k z left reads opens texts s' is (takes_last part parts others r R z f (state lexer z left reads opens texts) s' refl goes opened unended two))
+
+-- the same, where the token at hand has no other name
+pub taken_behind : {S T : Type 0} (p : List Part) (part : Part) (parts others : List Part) (z : Token) (P : Relation S) (R : Relation T) (v : S) (w : T) (s m s' : State) (u : Unit {0})
+    → m.ahead ≡ z → move part z ≡ Takes parts → nat_le (open_at parts) most_depth ≡ true → is_end z ≡ false → ((a b c : Place) → P v a b → Passed b (z ∷ []) c → R w a c)
+    → Reads p (part ∷ others) P (Ok v) s m → Advances (Ok u) m s' → Reads p (parts ++ others) R (Ok w) s s'
+taken_behind p part parts others z P R v w s m s' u is goes opened unended f one two =
+    reads_then p (part ∷ others) (parts ++ others) P _ R v u w s m s' f one (takes part parts others z m s' u is goes opened unended two)
+
+pub taken_last : {S T : Type 0} (p r : List Part) (part : Part) (parts others : List Part) (z : Token) (P : Relation S) (R : Relation T) (v : S) (f : ReadFault) (s m s' : State)
+    → m.ahead ≡ z → move part z ≡ Takes parts → nat_le (open_at parts) most_depth ≡ true → is_end z ≡ false
+    → Reads p (part ∷ others) P (Ok v) s m → Advances {T = Unit {0}} (Err f) m s' → Reads p r R (Err f) s s'
+taken_last p r part parts others z P R v f s m s' is goes opened unended one two =
+    fails_after p (part ∷ others) r r P R R v f s m s' one (takes_last part parts others r R z f m s' is goes opened unended two)
+
+-- the token at hand stands behind the first part
+pub passed_behind : {S T : Type 0} (p : List Part) (part : Part) (others : List Part) (P : Relation S) (R : Relation T) (v : S) (w : T) (s m : State)
+    → move part m.ahead ≡ expecting.Passes → ((a b : Place) → P v a b → R w a b)
+    → Reads p (part ∷ others) P (Ok v) s m → Reads p others R (Ok w) s m
+passed_behind {S = S} p part others P R v w s m over f one =
+    reads_then p (part ∷ others) others P (λ (x : S) a b. a ≡ b) R v v w s m m (λ a b c h e. subst (λ (x : Place). R w a x) e (f a b h)) one
+    (passes part others others _ v m m over (reads_nothing others _ v m one.moves.spent (λ a. refl)))
+
+-- it cannot stand there
+pub refused_behind : {S T : Type 0} (p r : List Part) (part : Part) (others : List Part) (P : Relation S) (R : Relation T) (v : S) (f : ReadFault) (s m : State)
+    → move part m.ahead ≡ expecting.Refuses → f ≡ refusal m.ahead m.lexer.offset
+    → Reads p (part ∷ others) P (Ok v) s m → Reads p r R (Err f) s m
+refused_behind p r part others P R v f s m is same one =
+    fails_after p (part ∷ others) r r P R R v f s m m one (token_refused part others r R f m one.moves.spent is same)
+
+-- whatever is answered of what follows, where the value is answered as it is
+pub answer_behind : {S T : Type 0} (p q r : List Part) (P : Relation S) (Q : Relation T) (R : Relation T) (v : S) (result : Result T ReadFault) (s m s' : State)
+    → ((w : T) (a b c : Place) → P v a b → Q w b c → R w a c) → Reads p q P (Ok v) s m → Reads q r Q result m s' → Reads p r R result s s'
+answer_behind p q r P Q R v (Ok w) s m s' f one two = reads_then p q r P Q R v w w s m s' (f w) one two
+answer_behind p q r P Q R v (Err e) s m s' f one two = fails_after p q r r P Q R v e s m s' one two
+
+-- what is left to be used
+abbrev pub unused : Lexer → ℕ
+unused l = l.most + 1 - (l.taken - held_count l.held)
+
+-- it is less, where a byte was used
+pub fewer_unused : (l m : Lexer) → m.most ≡ l.most → l.taken + held_count m.held < m.taken + held_count l.held → held_count l.held ≤ l.since → l.since ≤ l.taken → m.taken ≤ m.most → unused m < unused l
+fewer_unused l m most used held since within = omega (arith, most, used, held, since, within)
