@@ -1,19 +1,12 @@
 //! An automaton as its text writes it, before any rule is checked (HOA v1, Grammar).
 
-<<<<<<< HEAD
 ghost use Rattle.std.specs.Prelude.{◌≡◌, ◌<◌, [], ◌∷◌, ◌++◌, length, IfOk, OnOk, OnErr, slice_get};
-ghost use Rattle.hoa_reader.specs.Raw.{raw_list, raw_tree};
+ghost use Rattle.std.specs.Option.{option_copied};
+ghost use Rattle.hoa_reader.specs.Naming.{name_of};
+ghost use Rattle.hoa_reader.specs.Raw.{raw_list, raw_tree, written};
 
 use aut_base::{Formula, Memory, Numbers, Seq, Text, Words};
 use std::alloc::Global;
-=======
-ghost use Rattle.std.specs.Prelude.{◌≡◌};
-ghost use Rattle.std.specs.Option.{option_copied};
-ghost use Rattle.hoa_reader.specs.Naming.{name_of};
-ghost use Rattle.hoa_reader.specs.Raw.{written};
-
-use aut_base::{Formula, Numbers, Seq, Text, Words};
->>>>>>> 06285e4ef4f63488b18c477103c78a8deb238908
 
 /// A label as it is written; an alias stands for the label that it was defined as.
 #[cycle(raw_label)]

@@ -1,11 +1,7 @@
 //! The items of a header.
 
-<<<<<<< HEAD
-ghost use Rattle.std.specs.Prelude.{◌≡◌, ◌++◌, ◌∷◌, [], false, OnOk};
+ghost use Rattle.std.specs.Prelude.{◌≡◌, ◌≢◌, ◌++◌, ◌∷◌, [], false, OnOk};
 ghost use Rattle.hoa_lexer.specs.declared.token.Token.{Token};
-=======
-ghost use Rattle.std.specs.Prelude.{◌≡◌, ◌≢◌, ◌++◌, ◌∷◌, [], false};
->>>>>>> 296fadca8780634f3c7c8bc26ddc06423acec20f
 ghost use Rattle.hoa_reader.specs.declared.header.Header.{Header};
 ghost use Rattle.hoa_reader.specs.Expecting as part;
 ghost use Rattle.hoa_reader.specs.Parsing.{Reads, Uses, state};

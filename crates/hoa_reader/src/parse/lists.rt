@@ -4,12 +4,8 @@ ghost use Rattle.std.specs.Prelude.{◌≡◌, ◌∷◌, [], false, IsTrue, ◌
 ghost use Rattle.hoa_lexer.specs.declared.token.Token.{Token};
 ghost use Rattle.hoa_reader.specs.Expecting as part;
 ghost use Rattle.hoa_reader.specs.Expecting.{conj_parts};
-<<<<<<< HEAD
 ghost use Rattle.hoa_reader.specs.Parsing.{Reads, Uses, state};
-=======
-ghost use Rattle.hoa_reader.specs.Parsing.{Reads, state};
 ghost use Rattle.hoa_reader.specs.Parts as written;
->>>>>>> 296fadca8780634f3c7c8bc26ddc06423acec20f
 ghost use Rattle.hoa_reader.specs.Parts.{AddsMarks, AddsNumbers, AreAccValues, AreMarks, AreTexts, AreValues, AreWords, IsConj};
 
 use super::tokens::{advance, number, refused};
