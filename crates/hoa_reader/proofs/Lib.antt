@@ -1,4 +1,5 @@
 pub mod Advancing
+pub mod Automata
 pub mod Bodies
 pub mod Chaining
 pub mod Completing
