@@ -22,6 +22,8 @@ pub mod Leading
 pub mod Moving
 pub mod Others
 pub mod RawTrees
+pub mod StandingAnswers
+pub mod StandingTokens
 pub mod Tokens
 pub mod ValidityExamples
 pub mod ValidityLaws

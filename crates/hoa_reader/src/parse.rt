@@ -2,9 +2,10 @@
 //! the rule in its comment. Each function begins at the token at hand, which the lexer gave last, and ends at the first
 //! token that is not its own.
 
-ghost use Rattle.std.specs.Prelude.{◌≡◌, ◌∷◌, [], codes, false, OnOk};
+ghost use Rattle.std.specs.Prelude.{◌≡◌, ◌∷◌, [], codes, false, true, OnOk};
 ghost use Rattle.hoa_lexer.specs.declared.token.Token.{Token};
 ghost use Rattle.hoa_reader.specs.Expecting as part;
+ghost use Rattle.hoa_reader.specs.Expecting.{move};
 ghost use Rattle.hoa_reader.specs.Parsing.{Reads, Uses, state};
 ghost use Rattle.hoa_reader.specs.Parts.{IsAutomaton};
 
@@ -18,10 +19,26 @@ mod tokens;
 use self::body::states;
 use self::item::items;
 use self::tokens::{advance, word};
+use crate::header::{Header, header_named};
 use crate::{Raw, ReadFault};
 use aut_io::Inputs;
 use hoa_lexer::{Lexer, Token};
 use std::alloc::Global;
+
+/// Whether an automaton begins with this token: only with `HOA:`.
+pub(crate) fn opens(token: &Token) -> bool
+    ensures opens { result ≡ true → token.now ≡ Token.HeaderName (codes "HOA") }
+    ensures others { result ≡ false → move part.Whole token.now ≡ part.Refuses }
+{
+    let header = match token {
+        Token::HeaderName(name) => header_named(name),
+        _ => return false,
+    };
+    match header {
+        Header::Opening => true,
+        _ => false,
+    }
+}
 
 /// automaton = "HOA:" IDENTIFIER item* "--BODY--" state* "--END--", up to the token `--END--`, which stays at hand:
 /// behind it nothing is read.
