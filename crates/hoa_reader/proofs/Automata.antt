@@ -1,20 +1,19 @@
 -- How an automaton is read.
-use Rattle.std.proofs.Common.{◌≡◌, ℕ, List, [], ◌∷◌, ◌++◌, map, Ok, Err, refl, ap, subst}
+use Rattle.std.proofs.Common.{◌≡◌, ℕ, List, [], ◌∷◌, ◌++◌, Ok, Err, refl}
 use Rattle.std.specs.Prelude.{codes, flat_map}
 use Rattle.hoa_lexer.specs.declared.token.Token.{Token}
 use Rattle.hoa_lexer.specs.declared.token.Token.TheVariants as token
 use Rattle.hoa_reader.proofs.Chaining.{Then, next_fails, next_parts}
 use Rattle.hoa_reader.proofs.Leading.{passed_then}
-use Rattle.hoa_reader.proofs.Moving.{fails_after, reads_as, reads_then, takes, takes_last}
+use Rattle.hoa_reader.proofs.Moving.{fails_after, reads_then, takes, takes_last}
 use Rattle.hoa_reader.specs.Expecting as part
 use Rattle.hoa_reader.specs.Expecting.{Part}
 use Rattle.hoa_reader.specs.Grammar.{item_tokens, state_tokens}
-use Rattle.hoa_reader.specs.Parsing.{Advances, Passed, Place, Reads, State}
+use Rattle.hoa_reader.specs.Parsing.{Advances, Place, Reads, State}
 use Rattle.hoa_reader.specs.Parts.{AreItems, AreStates, IsAutomaton, IsMark, IsWord}
 use Rattle.hoa_reader.specs.Raw.{Written, WrittenItem, WrittenState}
 use Rattle.hoa_reader.specs.declared.fault.ReadFault.{ReadFault}
 use Rattle.hoa_reader.specs.declared.raw.Item.{Item}
-use Rattle.hoa_reader.specs.declared.raw.Raw.{Raw}
 use Rattle.hoa_reader.specs.declared.raw.RawState.{RawState}
 
 -- the name that opens an automaton, and what is read behind it so far

@@ -1,5 +1,5 @@
 -- What the reading of an automaton says of what stands next in the text.
-use Rattle.std.proofs.Common.{◌≡◌, ◌≢◌, ℕ, ◌+◌, ◌-◌, ◌≤◌, true, false, List, [], ◌∷◌, ◌++◌, length, map, Option, Some, None, Result, Ok, Err, refl, sym, ap, subst, ◌∙◌, inl, inr, arith}
+use Rattle.std.proofs.Common.{◌≡◌, ◌≢◌, ℕ, ◌+◌, ◌-◌, ◌≤◌, true, false, List, [], ◌∷◌, ◌++◌, length, Option, Some, None, Result, Ok, Err, refl, sym, ap, subst, ◌∙◌, inl, inr, arith}
 use Rattle.std.proofs.lemmas.List.{append_assoc}
 use Rattle.std.specs.Prelude.{◌⊎◌, flat_map}
 use Rattle.hoa_lexer.specs.Blanks.{IsBlanks}
@@ -16,7 +16,7 @@ use Rattle.hoa_reader.proofs.Advancing.{between_tells}
 use Rattle.hoa_reader.proofs.Automata.{opening}
 use Rattle.hoa_reader.proofs.DeadEnds.{after_next, behind_refuses, dead, deep, nothing_unfinished, nothing_viable}
 use Rattle.hoa_reader.proofs.Leading.{unended_then}
-use Rattle.hoa_reader.proofs.StandingTokens.{StandBefore, StandWith, next_shorter, stand_before, stand_with}
+use Rattle.hoa_reader.proofs.StandingTokens.{StandBefore, next_shorter, stand_before, stand_with}
 use Rattle.hoa_reader.proofs.Viability.{viable}
 use Rattle.hoa_reader.specs.Expecting as part
 use Rattle.hoa_reader.specs.Expecting.{Part, after, behind, move}

@@ -3,7 +3,7 @@ use Rattle.std.proofs.Common.{◌≡◌, ℕ, ◌+◌, ◌-◌, ◌≤◌, List,
 use Rattle.std.proofs.lemmas.List.{length-append}
 use Rattle.hoa_lexer.specs.Text.{IsNext, Lexes}
 use Rattle.hoa_lexer.specs.declared.token.Token.{Token}
-use Rattle.hoa_reader.specs.Parsing.{Follows, Passed, Place}
+use Rattle.hoa_reader.specs.Parsing.{Passed, Place}
 
 -- The tokens stand at the front of the text, and that of `b` is next.
 pub record StandBefore (start : ℕ) (text : List ℕ) (tokens : List Token) (b : Place) : Type 0 where
