@@ -1,20 +1,18 @@
 -- How the states of a body and their edges are read.
-use Rattle.std.proofs.Common.{◌≡◌, ◌≢◌, ℕ, false, List, [], ◌∷◌, ◌++◌, map, Option, Some, None, Ok, Err, refl, sym, ap, subst, ◌∙◌}
-use Rattle.std.proofs.lemmas.List.{append_assoc, append-nil}
-use Rattle.std.specs.Option.{option_map}
+use Rattle.std.proofs.Common.{◌≡◌, ◌≢◌, ℕ, false, List, [], ◌∷◌, ◌++◌, Option, Some, Ok, Err, refl, sym, ap, subst, ◌∙◌}
 use Rattle.std.specs.Prelude.{codes, flat_map}
 use Rattle.hoa_lexer.specs.declared.token.Token.{Token}
 use Rattle.hoa_lexer.specs.declared.token.Token.TheVariants as token
 use Rattle.hoa_reader.proofs.Chaining.{ListSo, Then, next_fails, next_parts}
 use Rattle.hoa_reader.proofs.HeaderNames.{IsNamed, named}
 use Rattle.hoa_reader.proofs.Leading.{passed_then}
-use Rattle.hoa_reader.proofs.Moving.{moves_as, moves_nowhere, passes, reads_as, reads_nothing, reads_then, takes, takes_last, tells_as, tells_same}
+use Rattle.hoa_reader.proofs.Moving.{moves_as, moves_nowhere, passes, reads_as, reads_nothing, reads_then, takes, tells_as, tells_same}
 use Rattle.hoa_reader.specs.Expecting as part
 use Rattle.hoa_reader.specs.Expecting.{Part, behind, conj_parts, if_header, label_parts, move}
 use Rattle.hoa_reader.specs.Grammar.{StateWithin, conj_tokens, edge_tokens, header_of, label_tokens, optional_label, optional_marks, optional_text, state_meaning, state_tokens}
-use Rattle.hoa_reader.specs.Parsing.{Advances, Passed, Place, Reads, State}
+use Rattle.hoa_reader.specs.Parsing.{Advances, Place, Reads, State}
 use Rattle.hoa_reader.specs.Parts.{AreEdges, AreMarks, AreStates, IsConj, IsEdge, IsLabel, IsMark, IsMaybeLabel, IsNumber, IsOptionalText, IsState}
-use Rattle.hoa_reader.specs.Raw.{RawTree, WrittenEdge, WrittenState, raw_tree, written_state}
+use Rattle.hoa_reader.specs.Raw.{RawTree, WrittenEdge, WrittenState, written_state}
 use Rattle.hoa_reader.specs.Standing.{most_depth}
 use Rattle.hoa_reader.specs.declared.fault.ReadFault.{ReadFault}
 use Rattle.hoa_reader.specs.declared.header.Header.{Header}

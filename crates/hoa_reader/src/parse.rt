@@ -2,8 +2,10 @@
 //! the rule in its comment. Each function begins at the token at hand, which the lexer gave last, and ends at the first
 //! token that is not its own.
 
-ghost use Rattle.std.specs.Prelude.{◌≡◌, ◌∷◌, [], false};
+ghost use Rattle.std.specs.Prelude.{◌≡◌, ◌∷◌, [], codes, false, true, OnOk};
+ghost use Rattle.hoa_lexer.specs.declared.token.Token.{Token};
 ghost use Rattle.hoa_reader.specs.Expecting as part;
+ghost use Rattle.hoa_reader.specs.Expecting.{move};
 ghost use Rattle.hoa_reader.specs.Parsing.{Reads, Uses, state};
 ghost use Rattle.hoa_reader.specs.Parts.{IsAutomaton};
 
@@ -16,12 +18,27 @@ mod tokens;
 
 use self::body::states;
 use self::item::items;
-use self::tokens::{advance, refused, word};
+use self::tokens::{advance, word};
 use crate::header::{Header, header_named};
 use crate::{Raw, ReadFault};
 use aut_io::Inputs;
 use hoa_lexer::{Lexer, Token};
 use std::alloc::Global;
+
+/// Whether an automaton begins with this token: only with `HOA:`.
+pub(crate) fn opens(token: &Token) -> bool
+    ensures opens { result ≡ true → token.now ≡ Token.HeaderName (codes "HOA") }
+    ensures others { result ≡ false → move part.Whole token.now ≡ part.Refuses }
+{
+    let header = match token {
+        Token::HeaderName(name) => header_named(name),
+        _ => return false,
+    };
+    match header {
+        Header::Opening => true,
+        _ => false,
+    }
+}
 
 /// automaton = "HOA:" IDENTIFIER item* "--BODY--" state* "--END--", up to the token `--END--`, which stays at hand:
 /// behind it nothing is read.
@@ -32,17 +49,15 @@ pub(crate) fn automaton<I: Inputs>(
     ahead: &mut Token,
 ) -> Result<Raw, ReadFault>
     requires unspent { lexer.old.spent ≡ false }
+    requires opens { ahead.old ≡ Token.HeaderName (codes "HOA") }
     ensures reads { Reads (part.Whole ∷ []) (part.States ∷ []) IsAutomaton result
         (state lexer.old ahead.old (I.left inputs.old) (I.read_faults inputs.old) (I.open_faults inputs.old) (I.texts inputs.old))
         (state lexer.new ahead.new (I.left inputs.new) (I.read_faults inputs.new) (I.open_faults inputs.new) (I.texts inputs.new)) }
+    ensures ends { OnOk result (ahead.new ≡ Token.End) }
     ensures uses { Uses result
         (state lexer.old ahead.old (I.left inputs.old) (I.read_faults inputs.old) (I.open_faults inputs.old) (I.texts inputs.old))
         (state lexer.new ahead.new (I.left inputs.new) (I.read_faults inputs.new) (I.open_faults inputs.new) (I.texts inputs.new)) }
 {
-    match ahead {
-        Token::HeaderName(name) if header_named(name) == Header::Opening => {}
-        _ => return Err(refused(ahead, lexer)),
-    }
     match advance(alloc, lexer, inputs, ahead) {
         Ok(()) => {}
         Err(fault) => return Err(fault),

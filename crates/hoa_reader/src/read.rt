@@ -4,7 +4,7 @@ ghost use Rattle.std.specs.Prelude.{◌≡◌, ◌+◌, ◌-◌, ◌≤◌, ◌<
 ghost use Rattle.hoa_lexer.specs.Reading.{Between, held_count, unread};
 ghost use Rattle.hoa_reader.specs.Reads.{Answers, CountsFaults};
 
-use crate::parse::automaton;
+use crate::parse::{automaton, opens};
 use crate::{Raw, ReadFault};
 use aut_io::Inputs;
 use hoa_lexer::Lexer;
@@ -46,6 +46,9 @@ pub fn read_raw<I: Inputs>(
         Ok(None) => return Ok(None),
         Err(fault) => return Err(ReadFault::from(fault)),
     };
+    if !opens(&ahead) {
+        return Err(ReadFault::Syntax(lexer.offset()));
+    }
     match automaton(alloc, lexer, inputs, &mut ahead) {
         Ok(raw) => Ok(Some(raw)),
         Err(fault) => Err(fault),

@@ -1,4 +1,4 @@
-use Rattle.std.proofs.Common.{List, [], ◌∷◌, Ok, refl, sym, subst}
+use Rattle.std.proofs.Common.{List, [], ◌∷◌, Ok, sym, subst}
 use Rattle.hoa_reader.proofs.Bodies.{states_over}
 use Rattle.hoa_reader.proofs.Chaining.{ListSo, list_next, list_none}
 use Rattle.hoa_reader.proofs.Moving.{fails_after}

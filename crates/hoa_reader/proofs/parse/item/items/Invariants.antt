@@ -1,18 +1,18 @@
 use Rattle.std.proofs.Common.{◌+◌, ◌-◌, [], ◌∷◌, Ok}
 use Rattle.hoa_lexer.specs.Reading.{held_count}
+use Rattle.hoa_reader.proofs.Chaining.{ListSo}
 use Rattle.hoa_reader.specs.Expecting as part
+use Rattle.hoa_reader.specs.Grammar.{ItemWithin, item_meaning, item_tokens}
 use Rattle.hoa_reader.specs.Parsing.{Reads, state}
-use Rattle.hoa_reader.specs.Parts.{AreItems}
+use Rattle.hoa_reader.specs.Raw.{written_item}
+use Rattle.hoa_reader.specs.Standing.{most_depth}
 use Rattle.hoa_reader.proofs.parse.item.items.Given as goal
 
 abbrev pub invariant-items : goal.invariant-items
 invariant-items g l =
-    let left = g.I.Inputs.left in
-    let reads = g.I.Inputs.read_faults in
-    let opens = g.I.Inputs.open_faults in
-    let texts = g.I.Inputs.texts in
-    Reads (part.Items ∷ []) (part.Items ∷ []) AreItems (Ok l.items) (state l.fn.lexer l.fn.ahead (left l.fn.inputs) (reads l.fn.inputs) (opens l.fn.inputs) (texts l.fn.inputs))
-    (state l.lexer l.ahead (left l.inputs) (reads l.inputs) (opens l.inputs) (texts l.inputs))
+    Reads (part.Items ∷ []) (part.Items ∷ []) (ListSo (ItemWithin most_depth) item_tokens item_meaning written_item) (Ok l.items)
+    (state l.fn.lexer l.fn.ahead (g.I.Inputs.left l.fn.inputs) (g.I.Inputs.read_faults l.fn.inputs) (g.I.Inputs.open_faults l.fn.inputs) (g.I.Inputs.texts l.fn.inputs))
+    (state l.lexer l.ahead (g.I.Inputs.left l.inputs) (g.I.Inputs.read_faults l.inputs) (g.I.Inputs.open_faults l.inputs) (g.I.Inputs.texts l.inputs))
 
 abbrev pub decreases-items : goal.decreases-items
 decreases-items g l = l.lexer.most + 1 - (l.lexer.taken - held_count l.lexer.held)
