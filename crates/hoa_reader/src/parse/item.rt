@@ -1,6 +1,7 @@
 //! The items of a header.
 
 ghost use Rattle.std.specs.Prelude.{◌≡◌, ◌≢◌, ◌++◌, ◌∷◌, [], false};
+ghost use Rattle.hoa_lexer.specs.declared.token.Token.{Token};
 ghost use Rattle.hoa_reader.specs.declared.header.Header.{Header};
 ghost use Rattle.hoa_reader.specs.Expecting as part;
 ghost use Rattle.hoa_reader.specs.Parsing.{Reads, Uses, state};
@@ -52,6 +53,7 @@ fn item<I: Inputs>(
     ahead: &mut Token,
 ) -> Result<Item, ReadFault>
     requires unspent { lexer.old.spent ≡ false }
+    requires no_body { ahead.old ≢ Token.Body }
     ensures reads { Reads (part.Items ∷ []) (part.Items ∷ []) IsItem result
         (state lexer.old ahead.old (I.left inputs.old) (I.read_faults inputs.old) (I.open_faults inputs.old) (I.texts inputs.old))
         (state lexer.new ahead.new (I.left inputs.new) (I.read_faults inputs.new) (I.open_faults inputs.new) (I.texts inputs.new)) }
