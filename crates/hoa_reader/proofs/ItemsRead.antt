@@ -1,6 +1,6 @@
 -- How the items of a header are read.
-use Rattle.std.proofs.Common.{◌≡◌, ◌≢◌, ◌⊎◌, inl, inr, ℕ, ◌+◌, ◌<◌, true, List, [], ◌∷◌, ◌++◌, map, flat_map, Option, Result, Ok, Err, OnOk, refl, sym, ap, subst, ◌∙◌, arith}
-use Rattle.std.proofs.lemmas.List.{append-nil, append_assoc, map-append}
+use Rattle.std.proofs.Common.{◌≡◌, ◌≢◌, ◌⊎◌, inl, inr, ℕ, true, List, [], ◌∷◌, ◌++◌, map, flat_map, Result, Ok, Err, refl, sym, ap, subst, ◌∙◌, arith}
+use Rattle.std.proofs.lemmas.List.{append-nil, map-append}
 use Rattle.std.proofs.lemmas.List.Concat.{flat_map-append}
 use Rattle.std.specs.List.{AllByRecursion}
 use Rattle.std.specs.Prelude.{codes, nat_le}
@@ -13,8 +13,8 @@ use Rattle.hoa_reader.proofs.Moving.{Relation, fails_after, fails_first, moves_e
 use Rattle.hoa_reader.specs.Expecting.{Items, Part, Takes, header_move, move, open_at}
 use Rattle.hoa_reader.specs.Expecting as expecting
 use Rattle.hoa_reader.specs.Grammar.{ItemPhrase, ItemWithin, acc_name_item, acceptance_item, alias_item, header_of, item_meaning, item_tokens, name_item, names_item, other_item, properties_item, start_item, states_item, tool_item, acc_value_token, conj_tokens, condition_tokens, label_tokens, optional_text, value_token}
-use Rattle.hoa_reader.specs.Parsing.{Advances, IsWritten, Passed, Place, Reads, State, Uses}
-use Rattle.hoa_reader.specs.Parts.{AreAccValues, AreItems, AreTexts, AreValues, AreWords, IsAliasName, IsCondition, IsConj, IsItem, IsItemOf, IsItemWith, IsItemWritten, IsLabel, IsNumber, IsOptionalText, IsQuoted, IsWord, ItemRest, parts_of}
+use Rattle.hoa_reader.specs.Parsing.{Advances, Passed, Place, Reads, State, Uses}
+use Rattle.hoa_reader.specs.Parts.{AreAccValues, AreItems, AreTexts, AreValues, AreWords, IsAliasName, IsCondition, IsConj, IsItem, IsItemOf, IsItemWritten, IsLabel, IsNumber, IsOptionalText, IsQuoted, IsWord, ItemRest, parts_of}
 use Rattle.hoa_reader.specs.Raw as raw
 use Rattle.hoa_reader.specs.Raw.{WrittenItem, written_item}
 use Rattle.hoa_reader.specs.Standing.{most_depth}
@@ -106,9 +106,6 @@ item_of_part h k name P v i s s' is f one = item_known h k name (Ok i) s s' is (
 
 fails_as : {S T : Type 0} (p q r : List Part) (P : Relation S) (R : Relation T) (f : ReadFault) (s s' : State) → Reads p q P (Err f) s s' → Reads p r R (Err f) s s'
 fails_as p q r P R f s s' one = record { moves = moves_err f s s' one.moves; text = one.text }
-
-pub part_fails : {S : Type 0} (h k : Header) (name : List ℕ) (P : Relation S) (f : ReadFault) (s s' : State) → h ≡ k → Reads (parts_of k) [] P (Err f) s s' → Reads (parts_of h) [] (IsItemOf h name) (Err f) s s'
-part_fails h k name P f s s' is one = item_known h k name (Err f) s s' is (fails_as (parts_of k) [] [] P (IsItemOf k name) f s s' one)
 
 -- an item that has a form of its own
 pub item_of_form : (h k : Header) (name : List ℕ) (result : Result Item ReadFault) (s s' : State) → h ≡ k → Reads (parts_of k) [] (IsItemWritten k) result s s' → Reads (parts_of h) [] (IsItemOf h name) result s s'

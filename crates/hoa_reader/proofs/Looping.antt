@@ -1,17 +1,15 @@
 -- How a list of parts is read, one turn of a loop after the other.
-use Rattle.std.proofs.Common.{◌≡◌, ℕ, ◌+◌, ◌-◌, ◌<◌, ◌≤◌, Bool, true, false, List, [], ◌∷◌, ◌++◌, map, Option, Result, Ok, Err, refl, sym, ap, subst, ◌∙◌, arith}
+use Rattle.std.proofs.Common.{◌≡◌, ℕ, true, false, List, [], ◌∷◌, ◌++◌, map, Option, Result, Ok, Err, refl, sym, ap, subst, ◌∙◌}
 use Rattle.std.proofs.lemmas.List.{map-append}
 use Rattle.std.specs.Prelude.{nat_le}
 use Rattle.aut_io.specs.Outside.{Texts}
-use Rattle.hoa_lexer.specs.Reading.{held_count}
 use Rattle.hoa_lexer.specs.declared.lexer.Lexer.{Lexer}
 use Rattle.hoa_lexer.specs.declared.token.Token.{Token}
 use Rattle.hoa_reader.proofs.Leading.{passed_then}
-use Rattle.hoa_reader.proofs.Moving.{Relation, fails_after, passes, reads_nothing, reads_then, takes, takes_last}
-use Rattle.hoa_reader.proofs.Tokens.{known, token_refused}
+use Rattle.hoa_reader.proofs.Moving.{Relation, fails_after, reads_then, takes, takes_last}
+use Rattle.hoa_reader.proofs.Tokens.{known}
 use Rattle.hoa_reader.specs.Expecting.{Part, Takes, move, open_at}
-use Rattle.hoa_reader.specs.Expecting as expecting
-use Rattle.hoa_reader.specs.Parsing.{Advances, Passed, Place, Reads, State, is_end, refusal, state}
+use Rattle.hoa_reader.specs.Parsing.{Advances, Passed, Place, Reads, State, is_end, state}
 use Rattle.hoa_reader.specs.Standing.{most_depth}
 use Rattle.hoa_reader.specs.declared.fault.ReadFault.{ReadFault}
 
@@ -53,31 +51,8 @@ pub taken_last : {S T : Type 0} (p r : List Part) (part : Part) (parts others : 
 taken_last p r part parts others z P R v f s m s' is goes opened unended one two =
     fails_after p (part ∷ others) r r P R R v f s m s' one (takes_last part parts others r R z f m s' is goes opened unended two)
 
--- the token at hand stands behind the first part
-pub passed_behind : {S T : Type 0} (p : List Part) (part : Part) (others : List Part) (P : Relation S) (R : Relation T) (v : S) (w : T) (s m : State)
-    → move part m.ahead ≡ expecting.Passes → ((a b : Place) → P v a b → R w a b)
-    → Reads p (part ∷ others) P (Ok v) s m → Reads p others R (Ok w) s m
-passed_behind {S = S} p part others P R v w s m over f one =
-    reads_then p (part ∷ others) others P (λ (x : S) a b. a ≡ b) R v v w s m m (λ a b c h e. subst (λ (x : Place). R w a x) e (f a b h)) one
-    (passes part others others _ v m m over (reads_nothing others _ v m one.moves.spent (λ a. refl)))
-
--- it cannot stand there
-pub refused_behind : {S T : Type 0} (p r : List Part) (part : Part) (others : List Part) (P : Relation S) (R : Relation T) (v : S) (f : ReadFault) (s m : State)
-    → move part m.ahead ≡ expecting.Refuses → f ≡ refusal m.ahead m.lexer.offset
-    → Reads p (part ∷ others) P (Ok v) s m → Reads p r R (Err f) s m
-refused_behind p r part others P R v f s m is same one =
-    fails_after p (part ∷ others) r r P R R v f s m m one (token_refused part others r R f m one.moves.spent is same)
-
 -- whatever is answered of what follows, where the value is answered as it is
 pub answer_behind : {S T : Type 0} (p q r : List Part) (P : Relation S) (Q : Relation T) (R : Relation T) (v : S) (result : Result T ReadFault) (s m s' : State)
     → ((w : T) (a b c : Place) → P v a b → Q w b c → R w a c) → Reads p q P (Ok v) s m → Reads q r Q result m s' → Reads p r R result s s'
 answer_behind p q r P Q R v (Ok w) s m s' f one two = reads_then p q r P Q R v w w s m s' (f w) one two
 answer_behind p q r P Q R v (Err e) s m s' f one two = fails_after p q r r P Q R v e s m s' one two
-
--- what is left to be used
-abbrev pub unused : Lexer → ℕ
-unused l = l.most + 1 - (l.taken - held_count l.held)
-
--- it is less, where a byte was used
-pub fewer_unused : (l m : Lexer) → m.most ≡ l.most → l.taken + held_count m.held < m.taken + held_count l.held → held_count l.held ≤ l.since → l.since ≤ l.taken → m.taken ≤ m.most → unused m < unused l
-fewer_unused l m most used held since within = omega (arith, most, used, held, since, within)

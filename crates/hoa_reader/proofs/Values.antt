@@ -77,11 +77,12 @@ pub numbers_amp : (before numbers : List ℕ) (a b c : Place) → AddsNumbers be
 numbers_amp before numbers a b c p q = record { more = p.0; passed = passed_then a b c (flat_map and_number p.0) (token.Amp ∷ []) p.1 q; are = p.2 }
 
 pub numbers_more : (before numbers news : List ℕ) (n : ℕ) (a b c : Place) → news ≡ numbers ++ n ∷ [] → AddsAmp before numbers a b → Passed b (token.Int n ∷ []) c → AddsNumbers before news a c
-numbers_more before numbers news n a b c is p q =
-    (p.more ++ n ∷ [],
-    subst (λ (ts : List Token). Passed a ts c) (append_assoc (flat_map and_number p.more) (token.Amp ∷ []) (token.Int n ∷ []) ∙ sym (flat_map-append and_number p.more (n ∷ [])))
-    (passed_then a b c (flat_map and_number p.more ++ token.Amp ∷ []) (token.Int n ∷ []) p.passed q),
-    is ∙ ap (λ (ns : List ℕ). ns ++ n ∷ []) p.are ∙ append_assoc before p.more (n ∷ []))
+numbers_more before numbers news n a b c is p q = (
+  p.more ++ n ∷ [],
+  subst (λ (ts : List Token). Passed a ts c) (append_assoc (flat_map and_number p.more) (token.Amp ∷ []) (token.Int n ∷ []) ∙ sym (flat_map-append and_number p.more (n ∷ [])))
+      (passed_then a b c (flat_map and_number p.more ++ token.Amp ∷ []) (token.Int n ∷ []) p.passed q),
+  is ∙ ap (λ (ns : List ℕ). ns ++ n ∷ []) p.are ∙ append_assoc before p.more (n ∷ []),
+)
 
 -- the whole of a conjunction, and of marks in braces
 pub conj_whole : (first : ℕ) (before numbers : List ℕ) (a b c : Place) → before ≡ first ∷ [] → IsNumber first a b → AddsNumbers before numbers b c → IsConj numbers a c

@@ -53,6 +53,7 @@ AreTexts texts a b = Passed a (map token.Str texts) b
 abbrev pub AreWords : List (List ℕ) → Place → Place → Type 0
 AreWords words a b = Passed a (map token.Identifier words) b
 
+-- whether a token is a value behind the name of an acceptance
 abbrev pub is_acc_value : Token → Bool
 is_acc_value (token.Int n) = true
 is_acc_value (token.Identifier word) = true
@@ -61,6 +62,7 @@ is_acc_value _ = false
 abbrev pub AreAccValues : Unit {0} → Place → Place → Type 0
 AreAccValues done a b = (values : List AccValue) × Passed a (map acc_value_token values) b
 
+-- whether it is one behind the name of another header
 abbrev pub is_value : Token → Bool
 is_value (token.Int n) = true
 is_value (token.Str text) = true

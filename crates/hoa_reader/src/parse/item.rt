@@ -54,6 +54,7 @@ fn item<I: Inputs>(
     ahead: &mut Token,
 ) -> Result<Item, ReadFault>
     requires unspent { lexer.old.spent ≡ false }
+    requires no_body { ahead.old ≢ Token.Body }
     ensures reads { Reads (part.Items ∷ []) (part.Items ∷ []) IsItem result
         (state lexer.old ahead.old (I.left inputs.old) (I.read_faults inputs.old) (I.open_faults inputs.old) (I.texts inputs.old))
         (state lexer.new ahead.new (I.left inputs.new) (I.read_faults inputs.new) (I.open_faults inputs.new) (I.texts inputs.new)) }

@@ -20,7 +20,7 @@ returns-in-Err g c = record {
 pub returns-in-Err-number : goal.returns-in-Err-number
 returns-in-Err-number g c =
     let amp = taken_behind (MoreNumbers ∷ []) MoreNumbers (Number ∷ MoreNumbers ∷ []) [] token.Amp (AddsNumbers c.args.numbers) (AddsAmp c.args.numbers) c.numbers.numbers c.numbers.numbers _ _ _ _ c.in-Amp.is refl refl refl
-        (λ x y z p q. numbers_amp c.args.numbers c.numbers.numbers x y z p q) c.numbers.invariant c.in-Ok.ensures in
+    (λ x y z p q. numbers_amp c.args.numbers c.numbers.numbers x y z p q) c.numbers.invariant c.in-Ok.ensures in
     record {
       reads = fails_after (MoreNumbers ∷ []) (Number ∷ MoreNumbers ∷ []) [] [] (AddsAmp c.args.numbers) (AddsNumbers c.args.numbers) (AddsNumbers c.args.numbers) c.numbers.numbers c.in-Err-number.fault _ _ _ amp
           (fails_first (Number ∷ []) [] [] (MoreNumbers ∷ []) IsNumber (AddsNumbers c.args.numbers) c.in-Err-number.fault _ _ c.in-Err-number.ensures.reads);
@@ -29,7 +29,7 @@ returns-in-Err-number g c =
 pub numbers-preserved : goal.numbers-preserved
 numbers-preserved g c =
     let amp = taken_behind (MoreNumbers ∷ []) MoreNumbers (Number ∷ MoreNumbers ∷ []) [] token.Amp (AddsNumbers c.args.numbers) (AddsAmp c.args.numbers) c.numbers.numbers c.numbers.numbers _ _ _ _ c.in-Amp.is refl refl refl
-        (λ x y z p q. numbers_amp c.args.numbers c.numbers.numbers x y z p q) c.numbers.invariant c.in-Ok.ensures in
+    (λ x y z p q. numbers_amp c.args.numbers c.numbers.numbers x y z p q) c.numbers.invariant c.in-Ok.ensures in
     reads_then (MoreNumbers ∷ []) (Number ∷ MoreNumbers ∷ []) (MoreNumbers ∷ []) (AddsAmp c.args.numbers) IsNumber (AddsNumbers c.args.numbers) c.numbers.numbers c.in-Ok-number.next c.push.new.self _ _ _
     (λ x y z p q. numbers_more c.args.numbers c.numbers.numbers c.push.new.self c.in-Ok-number.next x y z c.in_ok-push.ensures.ok p q) amp
     (reads_more (Number ∷ []) [] (MoreNumbers ∷ []) IsNumber c.in-Ok-number.next _ _ c.in-Ok-number.ensures.reads)
