@@ -1,10 +1,10 @@
 -- What stands in a text decides which automata are read, and how the run ends.
-use Rattle.std.proofs.Common.{◌≡◌, ◌≢◌, ℕ, zero, suc, ◌<◌, ◌⊎◌, List, [], ◌∷◌, take, Option, Some, None, refl, sym, ap, ◌∙◌, subst, inl, inr, arith}
+use Rattle.std.proofs.Common.{◌≡◌, ◌≢◌, ℕ, zero, suc, ◌<◌, ◌⊎◌, List, [], ◌∷◌, ◌++◌, take, Option, Some, None, refl, sym, ap, ◌∙◌, subst, inl, inr, arith}
 use Rattle.std.specs.Prelude.{slice_get}
 use Rattle.std.proofs.lemmas.Bool.{false≢true}
 use Rattle.aut_base.specs.declared.limit.Limit.{Limit}
 use Rattle.aut_base.specs.declared.limit.Limit.TheVariants as limit
-use Rattle.autfilt.specs.Laws.{IsByText, OneEnd}
+use Rattle.autfilt.specs.Laws.{IsByText, OneEnd, OneFront}
 use Rattle.autfilt.specs.Run.{AreRead, EndsAt, IsRead, Prints, ReadsTo, Runs, StandsWith, place}
 use Rattle.autfilt.specs.Running.{end_of, is_some_automaton}
 use Rattle.autfilt.specs.declared.ended.End.{End}
@@ -132,6 +132,14 @@ one_fit (standing.Whole w next) ws e d (inl a) (inr b) = absurd (none_first a.0 
 one_fit (standing.Whole w next) ws e d (inr a) (inl b) = absurd (none_first b.0 w b.2 a.2.valid)
 one_fit (standing.Whole w next) ws e d (inr a) (inr b) = a.1 ∙ ap end.Limit (one_limit a.0 b.0 w a.2 b.2) ∙ sym b.1
 
+-- one automaton at most stands next
+one_next : OneStanding → (start : ℕ) (here : List ℕ) (w v : Written) (x y : List ℕ) → IsRead start here w x → IsRead start here v y → (w ≡ v) × (x ≡ y)
+one_next one start here w v x y a b =
+    let same : standing.Whole w x ≡ standing.Whole v y = one start here (standing.Whole w x) (standing.Whole v y) a.whole b.whole in
+    let first : w ≡ v = cc in
+    let after : x ≡ y = cc in
+    (first, after)
+
 -- the automata at the front, and where they end, are determined
 same_front : OneStanding → (text here : List ℕ) (all all' ws vs : List Written) (x y : List ℕ) (e d : End)
     → AreRead text here ws x → AreRead text here vs y → Shown (place text x) x all e → Shown (place text y) y all' d → (ws ≡ vs) × (x ≡ y)
@@ -143,9 +151,9 @@ same_front one text here all all' (w ∷ ws) [] x y e d a b s t =
     let P : List ℕ → Type 0 = λ z. Shown (place text z) z all' d in
     absurd (no_more one (place text here) here all' d w a.0 (subst P (sym b) t) a.1)
 same_front one text here all all' (w ∷ ws) (v ∷ vs) x y e d a b s t =
-    let next : standing.Whole w a.0 ≡ standing.Whole v b.0 = one (place text here) here (standing.Whole w a.0) (standing.Whole v b.0) a.1.whole b.1.whole in
-    let first : w ≡ v = cc in
-    let after : a.0 ≡ b.0 = cc in
+    let next = one_next one (place text here) here w v a.0 b.0 a.1 b.1 in
+    let first : w ≡ v = next.0 in
+    let after : a.0 ≡ b.0 = next.1 in
     let P : List ℕ → Type 0 = λ z. AreRead text z vs y in
     let rest = same_front one text a.0 all all' ws vs x y e d a.2 (subst P (sym after) b.2) s t in
     let others : ws ≡ vs = rest.0 in
@@ -190,3 +198,20 @@ one_end one text e d left left' before after before' after' a b p q =
     let x = reads e text left before after a p in
     let y = reads d text left' before' after' b q in
     alike one text a.automata b.automata x.rest y.rest e d x.front y.front x.ends y.ends
+
+longer : (w v : Written) (ws vs : List Written) → w ≡ v → ((more : List Written) × (vs ≡ ws ++ more)) ⊎ ((more : List Written) × (ws ≡ vs ++ more))
+    → ((more : List Written) × (v ∷ vs ≡ (w ∷ ws) ++ more)) ⊎ ((more : List Written) × (w ∷ ws ≡ (v ∷ vs) ++ more))
+longer w v ws vs e (inl h) = inl (h.0, ap (λ x. v ∷ x) h.1 ∙ ap (λ x. x ∷ (ws ++ h.0)) (sym e))
+longer w v ws vs e (inr h) = inr (h.0, ap (λ x. w ∷ x) h.1 ∙ ap (λ x. x ∷ (vs ++ h.0)) e)
+
+one_front_from : OneStanding → (text here : List ℕ) (ws vs : List Written) (x y : List ℕ) → AreRead text here ws x → AreRead text here vs y
+    → ((more : List Written) × (vs ≡ ws ++ more)) ⊎ ((more : List Written) × (ws ≡ vs ++ more))
+one_front_from one text here [] vs x y a b = inl (vs, refl)
+one_front_from one text here (w ∷ ws) [] x y a b = inr (w ∷ ws, refl)
+one_front_from one text here (w ∷ ws) (v ∷ vs) x y a b =
+    let next = one_next one (place text here) here w v a.0 b.0 a.1 b.1 in
+    let P : List ℕ → Type 0 = λ z. AreRead text z vs y in
+    longer w v ws vs next.0 (one_front_from one text a.0 ws vs x y a.2 (subst P (sym next.1) b.2))
+
+pub one_front : OneStanding → OneFront
+one_front one text ws vs rest rest' = one_front_from one text text ws vs rest rest'

@@ -1,12 +1,12 @@
 -- Automata that were read one after the other, and runs over them.
-use Rattle.std.proofs.Common.{◌≡◌, ℕ, ◌+◌, ◌^◌, ◌≤◌, Bool, true, false, List, [], ◌∷◌, ◌++◌, length, take, Option, Some, None, Err, IsErrOf, refl, sym, ap, ◌∙◌, subst, inl, inr, append_assoc, append-nil, arith}
+use Rattle.std.proofs.Common.{◌≡◌, ℕ, ◌+◌, ◌^◌, ◌≤◌, Bool, true, List, [], ◌∷◌, ◌++◌, length, take, Option, Some, None, Err, IsErrOf, refl, sym, ap, ◌∙◌, subst, inl, inr, append_assoc, append-nil, arith}
 use Rattle.aut_base.specs.declared.limit.Limit.TheVariants as limit
-use Rattle.aut_io.specs.Outside.{Gains, GainsPrefix, Rose}
-use Rattle.autfilt.proofs.Gains.{both, nothing}
+use Rattle.aut_io.specs.Outside.{Gains, GainsPrefix}
+use Rattle.autfilt.proofs.Gains.{both}
 use Rattle.autfilt.proofs.Turns.{gains_as}
 use Rattle.autfilt.specs.Run.{AreRead, AsksForTooMany, BreaksOff, EndsAt, IsRead, Prints, ReadsTo, all_printed, place, printed}
 use Rattle.autfilt.specs.Running.{HasRun, RunsOver, end_of, is_some_automaton}
-use Rattle.autfilt.specs.Turn.{Causes, EndsHere, IsPrinted, IsPrintedInPart, TurnCauses, Turns}
+use Rattle.autfilt.specs.Turn.{EndsHere, IsPrinted, IsPrintedInPart, TurnCauses, Turns}
 use Rattle.autfilt.specs.declared.ended.End.{End}
 use Rattle.autfilt.specs.declared.ended.End.TheVariants as end
 use Rattle.hoa_lexer.proofs.Between.{between_both, between_then}
@@ -39,11 +39,6 @@ IsAt n text rest = n + length rest ≡ length text
 
 place_is : (n : ℕ) (text rest : List ℕ) → IsAt n text rest → n ≡ place text rest
 place_is n text rest h = omega arith
-
--- nothing was read yet
-pub run_none : (left written : Option (List ℕ)) → HasRun left left written written false
-run_none None written = record { automata = []; front = refl; gains = nothing written; is_printed = refl }
-run_none (Some text) written = record { automata = []; front = refl; gains = nothing written; is_printed = refl }
 
 -- what is known of the text when a turn begins
 front_at : (n : ℕ) (ws : List Written) (a b : Option (List ℕ)) → Between a b (λ text rest. AreRead text text ws rest) → Between a b (IsAt n)
@@ -99,25 +94,6 @@ pub run_done : (result : End) (is : Bool) (taken : ℕ) (a b c w w' w'' : Option
 run_done result is taken a b c w w' w'' few e h t at k =
     let P : End → Type 0 = λ x. RunsOver x a c w w'' in
     subst P (sym (e ∙ ap end_of h.is_printed)) (run_over h.automata taken a b c w w'' few h.front (gains_to w w' w'' _ k h.gains) t at)
-
--- a count that rose in the last call rose in the run
-rose_since : (a b c : ℕ) → b ≡ a → Rose b c → Rose a c
-rose_since a b c e r = let P : ℕ → Type 0 = λ n. Rose n c in subst P e r
-
--- why it ends so
-pub cause_of : (e : End) (r r' r'' t t' t'' : ℕ) → r' ≡ r → t' ≡ t → TurnCauses (Err e) r' r'' t' t'' → Causes e r r'' t t''
-cause_of end.Output r r' r'' t t' t'' p q c = absurd c
-cause_of end.NoneOutput r r' r'' t t' t'' p q c = absurd c
-cause_of end.Usage r r' r'' t t' t'' p q c = absurd c
-cause_of end.CannotOpen r r' r'' t t' t'' p q c = absurd c
-cause_of end.ReadFault r r' r'' t t' t'' p q c = (rose_since r r' r'' p c.0, c.1 ∙ q)
-cause_of end.WriteFault r r' r'' t t' t'' p q c = (c.0 ∙ p, rose_since t t' t'' q c.1)
-cause_of end.Memory r r' r'' t t' t'' p q c = tt
-cause_of (end.SyntaxAt k) r r' r'' t t' t'' p q c = (c.0 ∙ p, c.1 ∙ q)
-cause_of end.Truncated r r' r'' t t' t'' p q c = (c.0 ∙ p, c.1 ∙ q)
-cause_of end.Aborted r r' r'' t t' t'' p q c = (c.0 ∙ p, c.1 ∙ q)
-cause_of (end.Invalid rule) r r' r'' t t' t'' p q c = (c.0 ∙ p, c.1 ∙ q)
-cause_of (end.Limit which) r r' r'' t t' t'' p q c = (c.0 ∙ p, c.1 ∙ q)
 
 -- the end by one byte too many is answered only where all that may be were taken
 abbrev pub TookAll : End → ℕ → Type 0

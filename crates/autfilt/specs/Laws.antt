@@ -1,9 +1,10 @@
 -- What the text alone decides of a run.
-use Rattle.std.specs.Prelude.{◌≡◌, ℕ, List, Option, Some}
+use Rattle.std.specs.Prelude.{◌≡◌, ℕ, ◌⊎◌, List, ◌++◌, Option, Some}
 use Rattle.aut_base.specs.declared.limit.Limit.TheVariants as limit
-use Rattle.autfilt.specs.Run.{Runs}
+use Rattle.autfilt.specs.Run.{AreRead, Runs}
 use Rattle.autfilt.specs.declared.ended.End.{End}
 use Rattle.autfilt.specs.declared.ended.End.TheVariants as end
+use Rattle.hoa_reader.specs.Raw.{Written}
 
 -- The text decided the end: no call failed, memory was not wanting, and not too many bytes were taken.
 abbrev pub IsByText : End → Type 0
@@ -23,3 +24,10 @@ OneEnd =
     (text : List ℕ) (e d : End) (left left' before after before' after' : Option (List ℕ))
     (a : Runs e (Some text) left before after) (b : Runs d (Some text) left' before' after')
     → IsByText e → IsByText d → (a.automata ≡ b.automata) × (e ≡ d)
+
+-- Of two lists of automata that stand at the front of a text, one begins with the other: a run that a fault ended has
+-- read the first ones of those that any other run reads.
+abbrev pub OneFront : Type 0
+OneFront =
+    (text : List ℕ) (ws vs : List Written) (rest rest' : List ℕ) → AreRead text text ws rest → AreRead text text vs rest'
+    → ((more : List Written) × (vs ≡ ws ++ more)) ⊎ ((more : List Written) × (ws ≡ vs ++ more))

@@ -12,7 +12,7 @@ mod turn;
 
 use aut_base::{Memory, Text, Words};
 pub use ended::{End, Ended};
-pub use laws::one_end;
+pub use laws::{one_end, one_front};
 use notes::note;
 use real::{RealInputs, RealSink};
 pub use run::autfilt;
