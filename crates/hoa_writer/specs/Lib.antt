@@ -1,5 +1,6 @@
 pub mod CanonicalLabel
 pub mod CanonicalText
+pub mod CanonicalWritten
 pub mod Lines
 pub mod Pieces
 pub mod Tables

@@ -1,0 +1,95 @@
+-- What the canonical text of an automaton writes, and that it reads back as the automaton.
+use Rattle.std.specs.Prelude.{◌≡◌, ℕ, ◌==◌, if◌then◌else◌, List, [], ◌∷◌, ◌++◌, length, map, filter, codes, Option, Some, None}
+use Rattle.std.specs.List.{range_with_len}
+use Rattle.aut_base.specs.Automaton.{Arrow, Automaton}
+use Rattle.aut_base.specs.Label as label
+use Rattle.aut_base.specs.Label.{LabelTree, trees}
+use Rattle.hoa_lexer.specs.Laws.{HasTokens}
+use Rattle.hoa_lexer.specs.declared.token.Token.{Token}
+use Rattle.hoa_reader.specs.Described.{described}
+use Rattle.hoa_reader.specs.Grammar.{Spells}
+use Rattle.hoa_reader.specs.Naming.{name_of}
+use Rattle.hoa_reader.specs.Raw as raw
+use Rattle.hoa_reader.specs.Raw.{RawTree, Written, WrittenEdge, WrittenItem, WrittenState, raw_trees}
+use Rattle.hoa_reader.specs.Validity.{IsValid}
+use Rattle.hoa_writer.specs.CanonicalLabel.{Literal, cubes, truth_on}
+
+-- a label as cubes write it: no cube is `f`, one empty cube is `t`
+abbrev pub literal_tree : Literal → LabelTree
+literal_tree l = if l.holds then label.Prop l.prop else label.Not (label.Prop l.prop)
+
+abbrev pub all_of : List LabelTree → LabelTree
+all_of [] = label.True
+all_of (t ∷ []) = t
+all_of (t ∷ u ∷ us) = label.And t u (trees us)
+
+abbrev pub one_of : List LabelTree → LabelTree
+one_of [] = label.False
+one_of (t ∷ []) = t
+one_of (t ∷ u ∷ us) = label.Or t u (trees us)
+
+abbrev pub cubes_tree : List (List Literal) → LabelTree
+cubes_tree cs = one_of (map (λ cube. all_of (map literal_tree cube)) cs)
+
+-- the canonical form of a label over n propositions
+abbrev pub canonical_label : ℕ → LabelTree → LabelTree
+canonical_label n t = cubes_tree (cubes 0 n (truth_on t))
+
+-- the label as it is written, without aliases
+abbrev mutual
+  pub written_label : LabelTree → RawTree
+  written_label label.True = raw.True
+  written_label label.False = raw.False
+  written_label (label.Prop i) = raw.Prop i
+  written_label (label.Not t) = raw.Not (written_label t)
+  written_label (label.And a b cs) = raw.And (written_label a) (written_label b) (written_labels cs)
+  written_label (label.Or a b cs) = raw.Or (written_label a) (written_label b) (written_labels cs)
+
+  pub written_labels : label.LabelTrees → raw.RawTrees
+  written_labels label.none = raw.none
+  written_labels (label.more t ts) = raw.more (written_label t) (written_labels ts)
+
+abbrev pub canonical_edge : ℕ → Arrow → WrittenEdge
+canonical_edge n e = record { label = Some (written_label (canonical_label n e.label)); to = e.to ∷ []; marks = e.marks }
+
+abbrev pub canonical_state : Automaton → ℕ → WrittenState
+canonical_state a q = record {
+  label = None;
+  number = q;
+  marks = [];
+  edges = map (canonical_edge (length a.names)) (filter (λ e. e.from == q) a.edges);
+}
+
+abbrev pub name_items : Option (List ℕ) → List WrittenItem
+name_items None = []
+name_items (Some name) = raw.Name name ∷ []
+
+abbrev pub canonical_items : Automaton → Option (List ℕ) → List WrittenItem
+canonical_items a name =
+    name_items name ++ (raw.States a.states ∷ (map (λ s. raw.Start (s ∷ [])) a.starts
+    ++ (raw.Ap (length a.names) a.names ∷ raw.Acceptance a.sets a.formula
+    ∷ raw.Properties (codes "trans-labels" ∷ codes "explicit-labels" ∷ codes "trans-acc" ∷ []) ∷ [])))
+
+-- what the canonical text of an automaton, and of its name if it has one, writes
+abbrev pub canonical_written : Automaton → Option (List ℕ) → Written
+canonical_written a name = record {
+  version = codes "v1";
+  items = canonical_items a name;
+  states = map (canonical_state a) (range_with_len 0 a.states);
+}
+
+-- the automaton with each label in its canonical form
+abbrev pub canonical : Automaton → Automaton
+canonical a = record a { edges = map (λ e. record e { label = canonical_label (length a.names) e.label }) a.edges }
+
+-- The text's tokens spell one automaton and no other. It is valid, and it describes the one that was written, with each
+-- label in its canonical form. No limit of a reader plays a part.
+pub record ReadsBack (text : List ℕ) (a : Automaton) (name : Option (List ℕ)) : Type 0 where
+  pub tokens : List Token
+  pub lexes : HasTokens text 0 tokens
+  pub most : ℕ
+  pub spells : Spells most tokens (canonical_written a name)
+  pub alone : (n : ℕ) (w : Written) → Spells n tokens w → w ≡ canonical_written a name
+  pub valid : IsValid (canonical_written a name)
+  pub described : described (canonical_written a name) ≡ canonical a
+  pub named : name_of (canonical_written a name) ≡ name
