@@ -91,5 +91,5 @@ pub record ReadsBack (text : List ℕ) (a : Automaton) (name : Option (List ℕ)
   pub spells : Spells most tokens (canonical_written a name)
   pub alone : (n : ℕ) (w : Written) → Spells n tokens w → w ≡ canonical_written a name
   pub valid : IsValid (canonical_written a name)
-  pub described : described (canonical_written a name) ≡ canonical a
+  pub describes : described (canonical_written a name) ≡ canonical a
   pub named : name_of (canonical_written a name) ≡ name
