@@ -100,7 +100,7 @@ fn chain(alloc: Global, length: u32, doubles: bool) -> Result<Raw, Fail> {
 #[test]
 fn aliases_grow_as_far_as_they_may(rt: HostRuntime) -> Result<(), Fail> {
     let rows = [
-        (1500, false, true),
+        (2047, false, true),
         (2048, false, false),
         (16, true, true),
         (30, true, false),
@@ -135,14 +135,18 @@ fn edges_without_labels_stand_for_the_letters(rt: HostRuntime) -> Result<(), Fai
         panic!(rt; "refused")
     };
     assert_eq!(rt; found.states, 4);
-    for letter in 0..4u32 {
-        let on = [letter % 2 == 1, letter / 2 == 1];
-        for place in 0..4usize {
-            assert_eq!(rt;
-                found.edges.at(place).label.truth(on.as_slice()),
-                place == letter as usize
-            );
-        }
+    let rows = [
+        "first: Not(Prop(0)), second: Not(Prop(1))",
+        "first: Prop(0), second: Not(Prop(1))",
+        "first: Not(Prop(0)), second: Prop(1)",
+        "first: Prop(0), second: Prop(1)",
+    ];
+    assert_eq!(rt; found.edges.len(), 4);
+    for (edge, row) in found.edges.as_slice().iter().zip(rows.iter()) {
+        let label = &edge.label;
+        let text = format!(in alloc; "{label:?}")?;
+        assert!(rt; text.as_str().contains(*row), "{}", text.as_str());
+        assert_eq!(rt; edge.marks.as_slice(), [0, 1].as_slice());
     }
     Ok(())
 }
