@@ -1,5 +1,5 @@
 -- A described automaton has as many edges as are written, where each state is below their number.
-use Rattle.std.proofs.Common.{◌≡◌, ◌==◌, ◌<◌, ◌+◌, ℕ, zero, suc, Bool, true, false, cond, List, [], ◌∷◌, ◌++◌, length, map, filter, nat_lt, get_or, refl, sym, ap, ◌∙◌, arith}
+use Rattle.std.proofs.Common.{◌≡◌, ◌==◌, ◌<◌, ◌+◌, ℕ, zero, suc, Bool, true, false, cond, List, [], ◌∷◌, ◌++◌, length, map, filter, nat_lt, refl, sym, ap, ◌∙◌, arith}
 use Rattle.std.proofs.lemmas.Bool.Decides.{nat_tests}
 use Rattle.std.proofs.lemmas.Grind.{flat_map-append}
 use Rattle.std.proofs.lemmas.List.{append-nil, length-append, length-map}
@@ -8,7 +8,7 @@ use Rattle.std.specs.Prelude.{filter_map, flat_map}
 use Rattle.std.specs.List.{AllByRecursion, enumerate_from}
 use Rattle.aut_base.specs.Automaton.{Arrow}
 use Rattle.hoa_reader.proofs.DescribedWellFormed.{AreBelow, all_left, all_right, all_unmap, used_are_below}
-use Rattle.hoa_reader.specs.Described.{after_all, arrow_of, arrows_from, arrows_of, below, edges_of, state_count}
+use Rattle.hoa_reader.specs.Described.{arrow_of, arrows_from, arrows_of, below, edges_of, state_count}
 use Rattle.hoa_reader.specs.Raw.{Written, WrittenEdge, WrittenState}
 use Rattle.hoa_reader.specs.Validity.{IsKept, edges_written, starts_written, states_item, used_states}
 use Rattle.hoa_reader.specs.Weighing.{all_edges}

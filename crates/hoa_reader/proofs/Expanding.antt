@@ -1,12 +1,12 @@
 -- Labels whose aliases are replaced, part by part.
-use Rattle.std.proofs.Common.{◌≡◌, ◌<◌, ◌≤◌, ◌+◌, ℕ, zero, suc, List, [], ◌∷◌, map, length, get_or, Option, Some, None, refl, sym, ap, ◌∙◌, arith}
+use Rattle.std.proofs.Common.{◌≡◌, ◌<◌, ◌≤◌, ℕ, zero, suc, List, [], ◌∷◌, map, length, get_or, Option, Some, None, refl, ap, ◌∙◌, arith}
 use Rattle.aut_base.proofs.LabelTrees.{label_tree-And, label_tree-Or}
 use Rattle.aut_base.specs.Label.{LabelTree, LabelTrees, label_list, label_size, label_tree, labels_size, trees}
 use Rattle.aut_base.specs.declared.label.Label.TheVariants as label
 use Rattle.aut_base.specs.declared.label.Labels.{Labels}
 use Rattle.hoa_reader.specs.Described.{Meaning, each_expanded, expanded}
 use Rattle.hoa_reader.specs.Growing.{alias_bit}
-use Rattle.hoa_reader.specs.Raw.{RawTree, raw_tree, raw_trees}
+use Rattle.hoa_reader.specs.Raw.{raw_tree, raw_trees}
 use Rattle.hoa_reader.specs.declared.raw.RawLabel.{RawLabel}
 
 pub size_pos : (t : LabelTree) → 1 ≤ label_size t

@@ -1,5 +1,5 @@
 -- What aliases stand for, as one more is defined.
-use Rattle.std.proofs.Common.{◌≡◌, ◌≢◌, ◌<◌, ◌≤◌, ◌+◌, ◌-◌, ◌^◌, min, max, ℕ, zero, suc, Bool, true, false, not, cond, ◌&&◌, ◌||◌, List, [], ◌∷◌, ◌++◌, map, length, get_or, slice_get, find, Option, Some, None, is_some, refl, sym, ap, ◌∙◌, subst, arith}
+use Rattle.std.proofs.Common.{◌≡◌, ◌<◌, ◌≤◌, ◌-◌, ◌^◌, ℕ, zero, suc, Bool, true, false, cond, ◌&&◌, ◌||◌, List, [], ◌∷◌, ◌++◌, map, length, get_or, slice_get, find, Option, Some, None, is_some, refl, sym, ap, ◌∙◌, subst, arith}
 use Rattle.std.proofs.lemmas.Bool.{false≢true}
 use Rattle.std.proofs.lemmas.Bool.Decides.{Decides-eqb}
 use Rattle.std.proofs.lemmas.Slice.Eq.{slice_eq-Decides}
@@ -7,7 +7,6 @@ use Rattle.std.specs.Bool.{Decides}
 use Rattle.std.proofs.lemmas.List.{append-nil, append_assoc, map-append}
 use Rattle.std.proofs.lemmas.List.Folds.{list_any-append}
 use Rattle.std.proofs.lemmas.Option.{none-some, same_Some}
-use Rattle.std.specs.List.{list_any}
 use Rattle.std.specs.Map.{update}
 use Rattle.std.specs.Option.{option_map_or}
 use Rattle.aut_base.specs.Label as label
@@ -123,8 +122,8 @@ known_more ms m defs meaning k h = record {
   same = h.same ∙ sym (expanded_push ms m (raw_tree h.def.label.now) h.among);
   plain = h.plain;
   among =
-    leaves_weaker (is_listed (meaning_names ms)) (is_listed (meaning_names (ms ++ m ∷ []))) (λ q e. listed_push ms m q ∙ left_or (is_listed (meaning_names ms) q) (same_text m.name q || false) e)
-    (raw_tree h.def.label.now) h.among;
+      leaves_weaker (is_listed (meaning_names ms)) (is_listed (meaning_names (ms ++ m ∷ []))) (λ q e. listed_push ms m q ∙ left_or (is_listed (meaning_names ms) q) (same_text m.name q || false) e)
+      (raw_tree h.def.label.now) h.among;
   height = h.height;
   size = h.size;
 }

@@ -1,21 +1,17 @@
 -- What is counted of labels, and what they weigh.
-use Rattle.std.proofs.Common.{◌≡◌, ◌<◌, ◌≤◌, ◌+◌, ◌-◌, ◌^◌, ◌/◌, min, max, ℕ, Bool, true, false, not, cond, ◌||◌, List, [], ◌∷◌, ◌++◌, length, map, Option, Some, None, is_some, nat_lt, refl, sym, ap, ◌∙◌, arith}
+use Rattle.std.proofs.Common.{◌≡◌, ◌<◌, ◌+◌, ◌-◌, ◌^◌, ◌/◌, max, ℕ, Bool, true, false, cond, ◌||◌, List, [], ◌∷◌, length, map, Option, Some, None, nat_lt, refl, arith}
 use Rattle.std.proofs.lemmas.Bool.Decides.{nat_tests}
 use Rattle.std.proofs.lemmas.List.{length-append}
 use Rattle.std.proofs.lemmas.List.Sums.{sum_by-cons}
 use Rattle.std.specs.Prelude.{sum_by}
-use Rattle.std.specs.List.{list_any}
 use Rattle.std.specs.Option.{option_map_or}
 use Rattle.aut_base.specs.Label.{label_size}
-use Rattle.hoa_reader.proofs.Leaves.{leaves_agree}
 use Rattle.hoa_reader.proofs.Meanings.{known_heights, known_sizes}
 use Rattle.hoa_reader.specs.Counts.{greatest, height, holds_alias}
 use Rattle.hoa_reader.specs.Described.{Meaning, expanded}
 use Rattle.hoa_reader.specs.Growing.{AreKnown, cap, capped_height, capped_size, heights_in, sizes_in}
-use Rattle.hoa_reader.specs.Places.{place_in}
 use Rattle.hoa_reader.specs.Raw.{RawTree, WrittenEdge, WrittenState}
-use Rattle.hoa_reader.specs.Validity.{is_listed}
-use Rattle.hoa_reader.specs.Weighing.{IsNone, all_edges, are_tall, counted, edge_counted, own_counted, state_counted}
+use Rattle.hoa_reader.specs.Weighing.{all_edges, are_tall, counted, edge_counted, own_counted, state_counted}
 use Rattle.hoa_reader.specs.declared.elaborate.aliases.Known.{Known}
 use Rattle.hoa_reader.specs.declared.elaborate.parts.AliasDef.{AliasDef}
 use Rattle.hoa_reader.specs.declared.elaborate.places.Places.{Places}

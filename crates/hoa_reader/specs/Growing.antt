@@ -1,8 +1,7 @@
 -- How labels grow when their aliases are replaced, counted as far as a 64-bit number goes.
-use Rattle.std.specs.Prelude.{◌≡◌, ◌+◌, ◌-◌, ◌*◌, ◌^◌, min, max, ℕ, Bool, true, false, not, if◌then◌else◌, List, [], map, Option, Some, None, slice_get}
-use Rattle.std.specs.Option.{option_map_or}
+use Rattle.std.specs.Prelude.{◌≡◌, ◌+◌, ◌-◌, ◌*◌, ◌^◌, min, max, ℕ, true, false, List, [], map, Option, Some, None, slice_get}
 use Rattle.aut_base.specs.Label.{LabelTree, label_size}
-use Rattle.hoa_reader.specs.Counts.{height, holds_alias}
+use Rattle.hoa_reader.specs.Counts.{height}
 use Rattle.hoa_reader.specs.Described.{Meaning, expanded, meaning_of, meanings_after}
 use Rattle.hoa_reader.specs.Pieces.{alias_def}
 use Rattle.hoa_reader.specs.Places.{place_in}

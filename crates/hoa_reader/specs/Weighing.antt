@@ -1,5 +1,5 @@
 -- What the limits count, by what is known of each alias.
-use Rattle.std.specs.Prelude.{ℕ, Bool, not, if◌then◌else◌, nat_lt, List, [], flat_map, sum_by, None, ◌≡◌}
+use Rattle.std.specs.Prelude.{ℕ, Bool, if◌then◌else◌, nat_lt, List, flat_map, sum_by, None, ◌≡◌}
 use Rattle.std.specs.List.{list_any}
 use Rattle.std.specs.Option.{option_map_or}
 use Rattle.aut_base.specs.declared.limit.TheConstants.{MOST_ALIASES}

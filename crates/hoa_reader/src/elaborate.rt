@@ -22,6 +22,8 @@ mod marks;
 mod parts;
 mod places;
 mod rules;
+#[cfg(test)]
+mod tests;
 mod used;
 
 use crate::Raw;

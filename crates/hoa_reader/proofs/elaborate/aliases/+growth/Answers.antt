@@ -1,4 +1,4 @@
-use Rattle.std.proofs.Common.{◌≡◌, ◌+◌, map, drop, [], List, ℕ, arith, ap, sym, ◌∙◌}
+use Rattle.std.proofs.Common.{◌≡◌, ◌+◌, map, drop, List, ℕ, arith, ap}
 use Rattle.std.proofs.lemmas.List.{drop_all}
 use Rattle.hoa_reader.proofs.Meanings.{sizes_fit}
 use Rattle.hoa_reader.specs.Growing.{cap, capped_sizes, sizes_in}

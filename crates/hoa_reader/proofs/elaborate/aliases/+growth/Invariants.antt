@@ -1,9 +1,6 @@
-use Rattle.std.proofs.Common.{◌≡◌, ◌≤◌, ◌^◌, ◌-◌, ◌+◌, max, map, take, drop, true, List, ℕ}
-use Rattle.hoa_reader.specs.Described.{meanings_after}
-use Rattle.hoa_reader.specs.Growing.{AreKnown, cap, capped_heights, capped_sizes, heights_in, meanings_by, sizes_in}
-use Rattle.hoa_reader.specs.Pieces.{alias_def, line_names}
+use Rattle.std.proofs.Common.{◌≡◌, ◌≤◌, ◌^◌, ◌-◌, ◌+◌, max, map, drop}
+use Rattle.hoa_reader.specs.Growing.{cap, capped_heights, capped_sizes, heights_in, sizes_in}
 use Rattle.hoa_reader.specs.Raw.{raw_tree, raw_trees}
-use Rattle.hoa_reader.specs.Validity.{all_differ, same_text, uses_earlier}
 use Rattle.hoa_reader.proofs.elaborate.aliases.+growth.Given as goal
 
 abbrev pub invariant-all_growth-labels : goal.invariant-all_growth-labels

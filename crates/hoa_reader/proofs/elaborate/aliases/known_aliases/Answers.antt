@@ -1,14 +1,13 @@
-use Rattle.std.proofs.Common.{◌≡◌, ◌&&◌, ◌+◌, ◌++◌, ℕ, Bool, true, false, drop, take, map, List, [], ◌∷◌, arith, refl, sym, ap, ◌∙◌, is_some, length, get_or, slice_get, Some, subst, ◌<◌}
+use Rattle.std.proofs.Common.{◌≡◌, ◌+◌, ◌++◌, ℕ, Bool, true, false, drop, take, map, List, [], ◌∷◌, refl, sym, ap, ◌∙◌, is_some, length, get_or, slice_get, Some, subst, ◌<◌}
 use Rattle.std.proofs.lemmas.Bool.{false≢true}
 use Rattle.std.proofs.lemmas.List.{map-append}
-use Rattle.std.specs.List.{list_any}
 use Rattle.hoa_reader.proofs.DescribedLaws.{both}
 use Rattle.hoa_reader.proofs.DescribedSteps.{meanings_push}
 use Rattle.hoa_reader.proofs.Differing.{one_more, parted, repeats, rest_at}
 use Rattle.hoa_reader.proofs.Leaves.{leaves_agree}
 use Rattle.hoa_reader.proofs.Meanings.{got, known_listed, known_push, names_by}
 use Rattle.hoa_reader.specs.Described.{Meaning, expanded, meanings_after}
-use Rattle.hoa_reader.specs.Growing.{AreKnown, meaning_names, meanings_by}
+use Rattle.hoa_reader.specs.Growing.{AreKnown, meanings_by}
 use Rattle.hoa_reader.specs.Pieces.{alias_def, line_names}
 use Rattle.hoa_reader.specs.Places.{place_in}
 use Rattle.hoa_reader.specs.Raw.{raw_tree}
@@ -69,11 +68,11 @@ defs-preserved c =
     record {
       place = ap (λ n. n + 1) c.defs.invariant.place;
       known =
-        subst P (sym (one_more_meaning defs i def c.defs-test.true c.def-item.is))
-        (known_push ms m defs c.defs.known c.add.new.self c.known_of-new.result c.defs.invariant.known (ap (λ ns. is_listed ns def.name.now) names ∙ away)
-        (c.known_of-new.ensures ms defs def at refl c.defs.invariant.known (ap (λ ns. aliases_among ns (raw_tree def.label.now)) names ∙ here.0))
-        c.in_ok-add.ensures.added);
+          subst P (sym (one_more_meaning defs i def c.defs-test.true c.def-item.is))
+          (known_push ms m defs c.defs.known c.add.new.self c.known_of-new.result c.defs.invariant.known (ap (λ ns. is_listed ns def.name.now) names ∙ away)
+          (c.known_of-new.ensures ms defs def at refl c.defs.invariant.known (ap (λ ns. aliases_among ns (raw_tree def.label.now)) names ∙ here.0))
+          c.in_ok-add.ensures.added);
       earlier =
-        ap (λ ns. uses_earlier ns (map alias_def (drop (i + 1) defs))) (ap named (one_more defs i def c.defs-test.true c.def-item.is) ∙ named-append (take i defs) (def ∷ []))
-        ∙ here.1;
+          ap (λ ns. uses_earlier ns (map alias_def (drop (i + 1) defs))) (ap named (one_more defs i def c.defs-test.true c.def-item.is) ∙ named-append (take i defs) (def ∷ []))
+          ∙ here.1;
     }

@@ -1,9 +1,7 @@
-use Rattle.std.proofs.Common.{◌≡◌, ◌+◌, max, map, take, drop, true, List, ℕ}
-use Rattle.hoa_reader.specs.Described.{meanings_after}
-use Rattle.hoa_reader.specs.Growing.{AreKnown, cap, capped_heights, capped_sizes, heights_in, meanings_by, sizes_in}
+use Rattle.std.proofs.Common.{◌≡◌, map, take, drop, true}
+use Rattle.hoa_reader.specs.Growing.{AreKnown, meanings_by}
 use Rattle.hoa_reader.specs.Pieces.{alias_def, line_names}
-use Rattle.hoa_reader.specs.Raw.{raw_tree, raw_trees}
-use Rattle.hoa_reader.specs.Validity.{all_differ, same_text, uses_earlier}
+use Rattle.hoa_reader.specs.Validity.{uses_earlier}
 use Rattle.hoa_reader.proofs.elaborate.aliases.known_aliases.Given as goal
 
 abbrev pub invariant-defs : goal.invariant-defs

@@ -1,16 +1,15 @@
-use Rattle.std.proofs.Common.{◌≡◌, true, List, ℕ, Option, Some, None, ap, sym, ◌∙◌, subst}
+use Rattle.std.proofs.Common.{◌≡◌, true, List, ℕ, Option, Some, ap, sym, ◌∙◌, subst}
 use Rattle.std.specs.Borrow.{Bor}
 use Rattle.std.specs.Option.{option_map}
 use Rattle.aut_base.specs.Label.{LabelTree}
 use Rattle.hoa_reader.proofs.Meanings.{is_that_alias, known_heights, known_sizes}
-use Rattle.hoa_reader.specs.Described.{Meaning, expanded, meaning_of}
-use Rattle.hoa_reader.specs.Growing.{AreKnown, IsKnownAs, IsKnownBy, IsKnownOne, alias_name, meaning_names}
+use Rattle.hoa_reader.specs.Described.{expanded}
+use Rattle.hoa_reader.specs.Growing.{IsKnownAs, IsKnownBy, IsKnownOne, alias_name, meaning_names}
 use Rattle.hoa_reader.specs.Validity.{aliases_among}
 use Rattle.hoa_reader.specs.Places.{place_in}
 use Rattle.hoa_reader.specs.Raw as raw
 use Rattle.hoa_reader.specs.Raw.{raw_tree}
 use Rattle.hoa_reader.specs.declared.elaborate.aliases.Known.{Known}
-use Rattle.hoa_reader.specs.declared.elaborate.parts.AliasDef.{AliasDef}
 use Rattle.hoa_reader.specs.declared.raw.RawLabel.{RawLabel}
 use Rattle.hoa_reader.proofs.elaborate.aliases.known_of.Goals as goal
 

@@ -1,4 +1,4 @@
-use Rattle.std.proofs.Common.{◌≡◌, map, List, ℕ, ap, sym, ◌∙◌, nat_le}
+use Rattle.std.proofs.Common.{map, List, ap, sym, ◌∙◌, nat_le}
 use Rattle.std.specs.Prelude.{filter_map}
 use Rattle.std.specs.List.{list_all}
 use Rattle.hoa_reader.proofs.AfterAll.{list_all_same, numbers_below-after}

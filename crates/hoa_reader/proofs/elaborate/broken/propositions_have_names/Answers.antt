@@ -1,4 +1,4 @@
-use Rattle.std.proofs.Common.{◌≡◌, ◌&&◌, true, map, List, ℕ, ap, sym, ◌∙◌, length}
+use Rattle.std.proofs.Common.{◌≡◌, ◌&&◌, true, map, List, ap, sym, ◌∙◌, length}
 use Rattle.std.specs.List.{list_all}
 use Rattle.hoa_reader.specs.Pieces.{alias_def, label_refs}
 use Rattle.hoa_reader.specs.Raw.{RawTree, written}

@@ -1,8 +1,6 @@
-use Rattle.std.proofs.Common.{◌≡◌, ◌≤◌, ◌<◌, ◌+◌, map, drop, length, nat_lt, List, ℕ}
-use Rattle.std.specs.Prelude.{sum_by}
-use Rattle.hoa_reader.specs.Pieces.{label_refs}
-use Rattle.hoa_reader.specs.Raw.{written_edge, written_state}
-use Rattle.hoa_reader.specs.Weighing.{all_edges, are_tall, counted, edge_counted, state_counted}
+use Rattle.std.proofs.Common.{◌≡◌, map, drop, length, nat_lt}
+use Rattle.hoa_reader.specs.Raw.{written_state}
+use Rattle.hoa_reader.specs.Weighing.{all_edges}
 use Rattle.hoa_reader.proofs.elaborate.counts.has_more_edges.Given as goal
 
 abbrev pub invariant-states : goal.invariant-states

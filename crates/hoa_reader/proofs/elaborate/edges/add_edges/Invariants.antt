@@ -1,8 +1,7 @@
-use Rattle.std.proofs.Common.{◌≡◌, ◌≤◌, ◌<◌, ◌++◌, map, take, drop, length, get_or, List, ℕ, None}
-use Rattle.std.specs.Prelude.{flat_map}
+use Rattle.std.proofs.Common.{◌≡◌, ◌++◌, map, drop, ℕ}
 use Rattle.std.specs.List.{enumerate_from}
 use Rattle.aut_base.specs.Automaton.{arrow}
-use Rattle.hoa_reader.specs.Arrows.{IsPlace, arrow_for, edges_for}
+use Rattle.hoa_reader.specs.Arrows.{arrow_for}
 use Rattle.hoa_reader.specs.Raw.{WrittenEdge, written_edge, written_state}
 use Rattle.hoa_reader.proofs.elaborate.edges.add_edges.Given as goal
 

@@ -1,7 +1,7 @@
 use Rattle.std.proofs.Common.{◌≡◌, ◌==◌, ◌<◌, ◌||◌, ◌++◌, ◌∙◌, ℕ, Bool, false, List, filter, get_or, length, sym, ap}
 use Rattle.std.proofs.lemmas.List.Folds.{list_any-append}
 use Rattle.aut_base.specs.Automaton.{Arrow}
-use Rattle.aut_base.specs.Label.{LabelTree, label_tree}
+use Rattle.aut_base.specs.Label.{LabelTree}
 use Rattle.aut_base.specs.Marks.{is_in}
 use Rattle.hoa_reader.proofs.Starts.{filter_below}
 use Rattle.hoa_reader.specs.Arrows.{label_for}

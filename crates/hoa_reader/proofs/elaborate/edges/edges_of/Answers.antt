@@ -1,11 +1,10 @@
-use Rattle.std.proofs.Common.{◌≡◌, ◌++◌, ◌+◌, ◌<◌, ◌∷◌, [], ◌∙◌, ℕ, List, Option, Some, None, get_or, length, map, sym, ap, subst, arith}
+use Rattle.std.proofs.Common.{◌≡◌, ◌++◌, ◌+◌, ◌<◌, ◌∙◌, ℕ, List, Option, Some, None, get_or, length, map, sym, ap, subst, arith}
 use Rattle.std.proofs.lemmas.List.{append-nil, get_or_default}
 use Rattle.std.specs.Prelude.{flat_map}
 use Rattle.aut_base.specs.Automaton.{Arrow, arrow}
 use Rattle.hoa_reader.proofs.Indexing.{edges_more, got_map}
 use Rattle.hoa_reader.specs.Arrows.{IsDefinedAt, IsPlace, arrows_for, edges_for}
 use Rattle.hoa_reader.specs.Raw.{WrittenState, written_state}
-use Rattle.hoa_reader.specs.declared.raw.RawState.{RawState}
 use Rattle.hoa_reader.proofs.elaborate.edges.edges_of.Goals as goal
 
 pub numbers-preserved : goal.numbers-preserved

@@ -1,13 +1,12 @@
-use Rattle.std.proofs.Common.{◌≡◌, ◌<◌, ◌≤◌, ◌+◌, ◌*◌, ◌∷◌, ℕ, List, map, Option, Some, None, IfOk, get_or, refl, sym, ap, ◌∙◌, subst, arith, false}
+use Rattle.std.proofs.Common.{◌≡◌, ◌<◌, ◌≤◌, ℕ, List, map, Option, Some, IfOk, get_or, sym, ap, ◌∙◌, subst, arith, false}
 use Rattle.aut_base.proofs.LabelTrees.{label_tree-False}
-use Rattle.aut_base.specs.Label.{LabelTree, label_size, label_tree, labels_size, trees}
+use Rattle.aut_base.specs.Label.{LabelTree, label_size, label_tree, labels_size}
 use Rattle.hoa_reader.proofs.Expanding.{and_of, bit_small, or_of, part_size, parts_expanded, size_pos}
 use Rattle.hoa_reader.proofs.LabelForms.{tree-Alias, tree-And, tree-Or}
 use Rattle.hoa_reader.proofs.Meanings.{at_or, meaning_missing}
-use Rattle.hoa_reader.specs.Described.{Meaning, each_expanded, expanded, meaning_of}
+use Rattle.hoa_reader.specs.Described.{each_expanded, expanded, meaning_of}
 use Rattle.hoa_reader.specs.Growing.{AreKnown, IsKnownBy, IsKnownOne, alias_name, meaning_names, meanings_by, steps_left}
 use Rattle.hoa_reader.specs.Places.{place_in}
-use Rattle.hoa_reader.specs.Raw as raw
 use Rattle.hoa_reader.specs.Raw.{RawTree, raw_tree, raw_trees}
 use Rattle.hoa_reader.specs.Validity.{is_listed}
 use Rattle.hoa_reader.specs.declared.elaborate.aliases.Known.{Known}
@@ -15,7 +14,6 @@ use Rattle.hoa_reader.specs.declared.elaborate.parts.AliasDef.{AliasDef}
 use Rattle.hoa_reader.specs.declared.elaborate.places.Places.{Places}
 use Rattle.hoa_reader.specs.declared.raw.RawLabel.{RawLabel}
 use Rattle.hoa_reader.specs.declared.raw.RawLabel.TheVariants as raw_label
-use Rattle.hoa_reader.specs.declared.raw.RawLabels.{RawLabels}
 use Rattle.hoa_reader.proofs.elaborate.labels.+expand.Goals as goal
 
 found : (defs : List AliasDef) (known : Places Known) (name : List ℕ) (k : Known) → AreKnown (meanings_by defs) defs known → place_in known name ≡ Some k → IsKnownOne (meanings_by defs) defs name k

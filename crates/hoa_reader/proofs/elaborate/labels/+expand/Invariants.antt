@@ -1,5 +1,4 @@
-use Rattle.std.proofs.Common.{◌≡◌, ◌+◌, ◌*◌, map, take, ◌∷◌, List, ℕ}
-use Rattle.std.specs.Prelude.{sum_by}
+use Rattle.std.proofs.Common.{◌≡◌, ◌+◌, ◌*◌, map, take, ◌∷◌, ℕ}
 use Rattle.aut_base.specs.Label.{label_list, label_size, labels_size}
 use Rattle.hoa_reader.specs.Described.{each_expanded, expanded}
 use Rattle.hoa_reader.specs.Growing.{meanings_by, steps_left}

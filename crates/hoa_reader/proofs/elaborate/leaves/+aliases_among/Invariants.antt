@@ -1,10 +1,7 @@
-use Rattle.std.proofs.Common.{◌≡◌, ◌≤◌, ◌==◌, ◌&&◌, ◌*◌, ◌+◌, true, false, not, is_some, is_none, [], ◌++◌, map, take, drop, length, List, ℕ, nat_lt}
-use Rattle.std.specs.List.{list_all, list_any}
-use Rattle.aut_base.specs.Formula.{formula_list, formula_size, formula_tree, formulas_size, trees}
-use Rattle.hoa_reader.specs.Pieces.{alias_def, label_refs}
+use Rattle.std.proofs.Common.{◌≡◌, true, is_some, map, drop}
 use Rattle.hoa_reader.specs.Places.{place_in}
 use Rattle.hoa_reader.specs.Raw.{raw_tree, raw_trees}
-use Rattle.hoa_reader.specs.Validity.{AliasLine, aliases_among, all_differ, all_leaves_pass, all_sets_below, is_listed, leaves_pass, props_below, same_text, sets_below, uses_earlier}
+use Rattle.hoa_reader.specs.Validity.{all_leaves_pass}
 use Rattle.hoa_reader.proofs.elaborate.leaves.+aliases_among.Given as goal
 
 abbrev pub invariant-all_among-parts : goal.invariant-all_among-parts

@@ -1,4 +1,4 @@
-use Rattle.std.proofs.Common.{◌≡◌, ℕ, Some, slice_get, ◌&&◌, ◌+◌, Bool, true, false, drop, List, arith, refl, sym, ap, ◌∙◌, ◌∷◌}
+use Rattle.std.proofs.Common.{◌≡◌, ℕ, Some, slice_get, ◌&&◌, ◌+◌, Bool, true, false, drop, List, arith, sym, ap, ◌∙◌}
 use Rattle.aut_base.proofs.FormulaSizes.{formula_size-at}
 use Rattle.aut_base.specs.Formula.{FormulaTree, formula_list, formula_tree, trees}
 use Rattle.hoa_reader.proofs.Leaves.{dropped}

@@ -1,8 +1,8 @@
-use Rattle.std.proofs.Common.{◌≡◌, ◌&&◌, ◌+◌, Bool, true, false, drop, take, map, List, [], ◌∷◌, arith, refl, sym, ap, ◌∙◌, is_some, MatchOption, ℕ}
+use Rattle.std.proofs.Common.{◌≡◌, ◌&&◌, ◌+◌, Bool, true, drop, map, List, ◌∷◌, arith, sym, ap, ◌∙◌, is_some}
 use Rattle.std.proofs.lemmas.List.{drop_more}
 use Rattle.std.specs.List.{list_all}
 use Rattle.hoa_reader.proofs.Leaves.{leaves_agree}
-use Rattle.hoa_reader.specs.Pieces.{HasDefined, alias_def, are_defined, label_refs, line_names}
+use Rattle.hoa_reader.specs.Pieces.{HasDefined, alias_def, label_refs, line_names}
 use Rattle.hoa_reader.specs.Places.{place_in}
 use Rattle.hoa_reader.specs.Raw.{RawTree, raw_tree}
 use Rattle.hoa_reader.specs.Validity.{aliases_among, is_listed}

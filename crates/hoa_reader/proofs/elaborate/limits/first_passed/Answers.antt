@@ -1,7 +1,7 @@
-use Rattle.std.proofs.Common.{◌≡◌, ◌<◌, ◌∙◌, ℕ, Bool, true, false, nat_lt, length, map, List, refl, sym, ap, arith}
+use Rattle.std.proofs.Common.{◌≡◌, ◌∙◌, ℕ, false, nat_lt, length, map, List, refl, sym, ap, arith}
 use Rattle.std.proofs.lemmas.Bool.Decides.{nat_tests}
 use Rattle.hoa_reader.proofs.EdgeCounts.{edge_count}
-use Rattle.hoa_reader.specs.Counts.{Names, Sets, States, Edges, Aliases, count_of, most_of}
+use Rattle.hoa_reader.specs.Counts.{Edges, Aliases}
 use Rattle.hoa_reader.specs.Raw.{written, written_state}
 use Rattle.hoa_reader.specs.Validity.{acceptance_of, names_of}
 use Rattle.hoa_reader.specs.Described.{edges_of, state_count}

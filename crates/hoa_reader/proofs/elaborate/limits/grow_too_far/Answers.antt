@@ -6,7 +6,6 @@ use Rattle.hoa_reader.specs.Described.{Meaning, expanded, meanings_after, meanin
 use Rattle.hoa_reader.specs.Gathered.{ArePartsOf}
 use Rattle.hoa_reader.specs.Growing.{AreKnown, cap, meanings_by}
 use Rattle.hoa_reader.specs.Pieces.{label_refs}
-use Rattle.hoa_reader.specs.Places.{place_in}
 use Rattle.hoa_reader.specs.Raw.{RawTree, Written, WrittenState, written, written_state}
 use Rattle.hoa_reader.specs.Validity.{body_labels}
 use Rattle.hoa_reader.specs.Weighing.{are_tall, counted}

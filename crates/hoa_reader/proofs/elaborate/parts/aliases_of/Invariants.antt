@@ -1,7 +1,7 @@
-use Rattle.std.proofs.Common.{◌≡◌, [], ◌++◌, map, flat_map, filter_map, get_or, take, drop, option_to_list, List}
-use Rattle.hoa_reader.specs.Raw.{written_edge, written_item, written_state}
-use Rattle.hoa_reader.specs.Validity.{acceptance_item, alias_item, names_item, no_acceptance, start_item, states_item, state_labels}
-use Rattle.hoa_reader.specs.Pieces.{alias_def, label_refs, list_of}
+use Rattle.std.proofs.Common.{◌≡◌, ◌++◌, map, filter_map, drop}
+use Rattle.hoa_reader.specs.Raw.{written_item}
+use Rattle.hoa_reader.specs.Validity.{alias_item}
+use Rattle.hoa_reader.specs.Pieces.{alias_def}
 use Rattle.hoa_reader.proofs.elaborate.parts.aliases_of.Given as goal
 
 abbrev pub invariant-items : goal.invariant-items

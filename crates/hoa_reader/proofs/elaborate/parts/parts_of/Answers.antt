@@ -1,6 +1,5 @@
-use Rattle.std.proofs.Common.{◌≡◌, ◌++◌, map, List, [], ℕ, ap, sym, ◌∙◌, get_or}
+use Rattle.std.proofs.Common.{◌≡◌, ◌++◌, map, List, [], ℕ, ap, ◌∙◌, get_or}
 use Rattle.std.specs.Prelude.{filter_map, flat_map}
-use Rattle.std.specs.Borrow.{Bor}
 use Rattle.hoa_reader.specs.Described.{after_all}
 use Rattle.hoa_reader.specs.Pieces.{goals, numbers, starts_named}
 use Rattle.hoa_reader.specs.Raw.{written_item, written_state}
@@ -21,7 +20,7 @@ returns c =
       starts = c.in_ok-starts.ensures ∙ ap (λ (is : List Item). filter_map start_item (map written_item is)) items;
       labels = c.in_ok-labels_of.ensures ∙ ap (λ (ss : List RawState). flat_map state_labels (map written_state ss)) c.as_slice-3.ensures;
       after =
-        c.after_used-after.ensures
-        ∙ ap (λ (ss : List RawState). after_all (starts_named c.as_slice.result.now ++ (numbers (map written_state ss) ++ goals (map written_state ss)))) c.as_slice-2.ensures
-        ∙ ap (λ (qs : List ℕ). after_all (qs ++ (numbers (map written_state c.args.raw.now.states) ++ goals (map written_state c.args.raw.now.states)))) named;
+          c.after_used-after.ensures
+          ∙ ap (λ (ss : List RawState). after_all (starts_named c.as_slice.result.now ++ (numbers (map written_state ss) ++ goals (map written_state ss)))) c.as_slice-2.ensures
+          ∙ ap (λ (qs : List ℕ). after_all (qs ++ (numbers (map written_state c.args.raw.now.states) ++ goals (map written_state c.args.raw.now.states)))) named;
     }

@@ -1,4 +1,4 @@
-use Rattle.std.proofs.Common.{◌≡◌, arith, ◌<◌, ◌^◌, ◌≤◌}
+use Rattle.std.proofs.Common.{arith, ◌<◌, ◌^◌, ◌≤◌}
 use Rattle.std.proofs.lemmas.Bool.Decides.{nat_tests}
 use Rattle.std.proofs.Math.Pow.{pow_mono}
 use Rattle.hoa_reader.proofs.elaborate.rules.is_power.Goals as goal

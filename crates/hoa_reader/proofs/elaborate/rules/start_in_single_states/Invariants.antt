@@ -1,11 +1,6 @@
-use Rattle.std.proofs.Common.{◌≡◌, ◌≤◌, ◌==◌, true, false, not, is_some, is_none, [], ◌++◌, count_by, map, take, drop, length, List, ℕ, Bor}
-use Rattle.std.specs.BTreeSet as tree
-use Rattle.std.specs.List.{list_all, list_any}
-use Rattle.std.specs.Ordering.{nat_cmp}
-use Rattle.hoa_reader.specs.Raw.{written_edge, written_item, written_state}
-use Rattle.hoa_reader.specs.Validity.{all_differ, begins_with_capital, has_edge_per_letter, is_one_state, labels_one_way, marks_below, may_be_passed_over, names_agree, numbers_below, same_text}
-use Rattle.hoa_reader.specs.Pieces.{is_line}
-use Rattle.hoa_reader.specs.Places.{place_in}
+use Rattle.std.proofs.Common.{◌≡◌, map, drop, List, ℕ, Bor}
+use Rattle.std.specs.List.{list_all}
+use Rattle.hoa_reader.specs.Validity.{is_one_state}
 use Rattle.hoa_reader.proofs.elaborate.rules.start_in_single_states.Given as goal
 
 abbrev pub invariant-starts : goal.invariant-starts

@@ -1,13 +1,8 @@
-use Rattle.std.proofs.Common.{◌≡◌, ◌+◌, max, map, take, drop, List, ℕ, arith, ap, ◌∙◌, ◌∷◌}
-use Rattle.std.specs.Prelude.{flat_map}
-use Rattle.std.specs.Borrow.{Bor}
-use Rattle.hoa_reader.proofs.AfterAll.{after_all-append, goals-cons}
+use Rattle.std.proofs.Common.{◌≡◌, ◌+◌, max, drop, arith, ap, ◌∙◌}
+use Rattle.hoa_reader.proofs.AfterAll.{after_all-append}
 use Rattle.hoa_reader.proofs.Differing.{rest_at}
 use Rattle.hoa_reader.specs.Described.{after_all}
-use Rattle.hoa_reader.specs.Pieces.{goals, numbers, starts_named}
-use Rattle.hoa_reader.specs.Raw.{WrittenEdge, written_edge, written_state}
-use Rattle.hoa_reader.specs.declared.raw.RawEdge.{RawEdge}
-use Rattle.hoa_reader.specs.declared.raw.RawState.{RawState}
+use Rattle.hoa_reader.specs.Pieces.{starts_named}
 use Rattle.hoa_reader.proofs.elaborate.used.after_starts.Goals as goal
 
 pub starts-preserved : goal.starts-preserved

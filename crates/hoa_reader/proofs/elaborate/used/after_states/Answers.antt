@@ -1,12 +1,10 @@
-use Rattle.std.proofs.Common.{◌≡◌, ◌+◌, max, map, take, drop, List, ℕ, arith, ap, ◌∙◌, ◌∷◌}
+use Rattle.std.proofs.Common.{◌≡◌, ◌+◌, max, map, drop, List, ℕ, arith, ap, ◌∙◌}
 use Rattle.std.specs.Prelude.{flat_map}
-use Rattle.std.specs.Borrow.{Bor}
-use Rattle.hoa_reader.proofs.AfterAll.{after_all-append, goals-cons}
+use Rattle.hoa_reader.proofs.AfterAll.{goals-cons}
 use Rattle.hoa_reader.proofs.Differing.{rest_at}
 use Rattle.hoa_reader.specs.Described.{after_all}
-use Rattle.hoa_reader.specs.Pieces.{goals, numbers, starts_named}
+use Rattle.hoa_reader.specs.Pieces.{goals, numbers}
 use Rattle.hoa_reader.specs.Raw.{WrittenEdge, written_edge, written_state}
-use Rattle.hoa_reader.specs.declared.raw.RawEdge.{RawEdge}
 use Rattle.hoa_reader.specs.declared.raw.RawState.{RawState}
 use Rattle.hoa_reader.proofs.elaborate.used.after_states.Goals as goal
 
