@@ -12,7 +12,8 @@ use Rattle.autfilt.specs.declared.ended.End.TheVariants as end
 use Rattle.hoa_reader.proofs.ValidityLaws.{none_first, one_first}
 use Rattle.hoa_reader.specs.Counts.{AreWithin, Count, Names, Sets, States, Edges, Aliases, IsWithin, PassesFirst, PassesNone, counts}
 use Rattle.hoa_reader.specs.Counts as counting
-use Rattle.hoa_reader.specs.Elaborating.{PassesLimit, limit_of}
+use Rattle.hoa_reader.specs.Elaborating.{PassesLimit}
+use Rattle.hoa_reader.specs.Gathered.{limit_of}
 use Rattle.hoa_reader.specs.Raw.{Written}
 use Rattle.hoa_reader.specs.Standing as standing
 use Rattle.hoa_reader.specs.Standing.{OneStanding, Standing, Stands}

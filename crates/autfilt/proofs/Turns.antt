@@ -12,7 +12,8 @@ use Rattle.hoa_lexer.proofs.Between.{between_as}
 use Rattle.hoa_lexer.specs.Reading.{Between, held_count, unread}
 use Rattle.hoa_reader.specs.Counts.{Count, Names, Sets, States, Edges, Aliases, PassesNone}
 use Rattle.hoa_reader.specs.Described.{described}
-use Rattle.hoa_reader.specs.Elaborating.{PassesLimit, limit_of}
+use Rattle.hoa_reader.specs.Elaborating.{PassesLimit}
+use Rattle.hoa_reader.specs.Gathered.{limit_of}
 use Rattle.hoa_reader.specs.Naming.{name_of}
 use Rattle.hoa_reader.specs.Raw.{Written, written}
 use Rattle.hoa_reader.specs.Reads.{Answers}

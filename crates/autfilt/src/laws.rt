@@ -1,14 +1,19 @@
 //! Laws of the definitions, which no code runs.
 
 ghost use Rattle.autfilt.specs.Laws.{OneEnd, OneFront};
-ghost use Rattle.hoa_reader.specs.Standing.{OneStanding};
 
-/// Where one thing alone stands next in a text, the text decides the end of a run.
+use hoa_reader::one_standing;
+
+/// The text decides the end of a run: one thing alone stands next in it.
 pub fn one_end()
-    ensures { OneStanding → OneEnd }
-{}
+    ensures { OneEnd }
+{
+    one_standing();
+}
 
-/// Where one thing alone stands next in a text, the automata that are read of it are the first ones of one list.
+/// The automata that are read of a text, as far as a run comes, are the first ones of one list.
 pub fn one_front()
-    ensures { OneStanding → OneFront }
-{}
+    ensures { OneFront }
+{
+    one_standing();
+}
