@@ -109,6 +109,6 @@ Stands (Bad k) start text = IsBad start text k
 Stands Aborted start text = IsAborted start text
 Stands Cut start text = IsCut start text
 
--- Exactly one thing stands next.
+-- No more than one thing stands next.
 abbrev pub OneStanding : Type 0
 OneStanding = (start : ℕ) (text : List ℕ) (a b : Standing) → Stands a start text → Stands b start text → a ≡ b
