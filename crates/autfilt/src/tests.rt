@@ -180,61 +180,63 @@ fn nested(alloc: Global, depth: u32) -> Result<Text, Memory> {
     Ok(text)
 }
 
+/// Streams, in pieces, and what is printed of them, in pieces.
+const PRINTED: [(&[&[u8]], &[&[u8]]); 9] = [
+    (&[ONE], &[ONE_OUT]),
+    (&[ONE_OUT, TWO_OUT], &[ONE_OUT, TWO_OUT]),
+    (
+        &[
+            b"HOA:v1 States:1\tStart:0\n\nAP:1\"a\"Acceptance:1 Inf ( 0 )--BODY--State:0[0]0{0}[ ! 0]0 --END--",
+            TWO,
+        ],
+        &[ONE_OUT, TWO_OUT],
+    ),
+    (
+        &[
+            b"HOA: v1\nStates: 1\nStart: 0\nAP: 8 \"a\" \"b\" \"c\" \"d\" \"e\" \"f\" \"g\" \"h\"\n",
+            REST,
+        ],
+        &[
+            b"HOA: v1\nStates: 1\nStart: 0\nAP: 8 \"a\" \"b\" \"c\" \"d\" \"e\" \"f\" \"g\" \"h\"\n",
+            REST_OUT,
+        ],
+    ),
+    (
+        &[
+            b"HOA: v1 States: 4 Start: 0 AP: 2 \"a\" \"b\" Acceptance: 0 t --BODY-- State: 0 0 1 2 3 --END--",
+        ],
+        &[
+            b"HOA: v1\nStates: 4\nStart: 0\nAP: 2 \"a\" \"b\"\nAcceptance: 0 t\nproperties: trans-labels explicit-labels trans-acc\n--BODY--\nState: 0\n[!0&!1] 0\n[0&!1] 1\n[!0&1] 2\n[0&1] 3\nState: 1\nState: 2\nState: 3\n--END--\n",
+        ],
+    ),
+    (
+        &[
+            b"HOA: v1\nStates: 1\nStart: 0\nAP: 3 \"a\" \"b\" \"c\"\nAcceptance: 1 Inf(0)\n--BODY--\nState: 0\n[0&2 | 1&2] 0 {0}\n[2 & (1 | 0)] 0\n[0 & !0] 0\n--END--\n",
+        ],
+        &[
+            b"HOA: v1\nStates: 1\nStart: 0\nAP: 3 \"a\" \"b\" \"c\"\nAcceptance: 1 Inf(0)\nproperties: trans-labels explicit-labels trans-acc\n--BODY--\nState: 0\n[!0&1&2 | 0&2] 0 {0}\n[!0&1&2 | 0&2] 0\n[f] 0\n--END--\n",
+        ],
+    ),
+    (&[RICH], &[RICH_OUT]),
+    (
+        &[
+            b"HOA: v1\nproperties: deterministic\nname: \"GFa\"\nStates: 1\nacc-name: Buchi\n/* a /* nested */ comment */\nStart: 0\nproperties: complete\nAP: 1 \"a\"\n",
+            REST,
+        ],
+        &[
+            b"HOA: v1\nname: \"GFa\"\nStates: 1\nStart: 0\nAP: 1 \"a\"\n",
+            REST_OUT,
+        ],
+    ),
+    (
+        &[ONE, b" \n/* nothing */\n", RICH, b"\n\n"],
+        &[ONE_OUT, RICH_OUT],
+    ),
+];
+
 #[test]
 fn prints_each_automaton_in_its_canonical_text(rt: HostRuntime) -> Result<(), Fail> {
-    let rows: [(&[&[u8]], &[&[u8]]); 9] = [
-        (&[ONE], &[ONE_OUT]),
-        (&[ONE_OUT, TWO_OUT], &[ONE_OUT, TWO_OUT]),
-        (
-            &[
-                b"HOA:v1 States:1\tStart:0\n\nAP:1\"a\"Acceptance:1 Inf ( 0 )--BODY--State:0[0]0{0}[ ! 0]0 --END--",
-                TWO,
-            ],
-            &[ONE_OUT, TWO_OUT],
-        ),
-        (
-            &[
-                b"HOA: v1\nStates: 1\nStart: 0\nAP: 8 \"a\" \"b\" \"c\" \"d\" \"e\" \"f\" \"g\" \"h\"\n",
-                REST,
-            ],
-            &[
-                b"HOA: v1\nStates: 1\nStart: 0\nAP: 8 \"a\" \"b\" \"c\" \"d\" \"e\" \"f\" \"g\" \"h\"\n",
-                REST_OUT,
-            ],
-        ),
-        (
-            &[
-                b"HOA: v1 States: 4 Start: 0 AP: 2 \"a\" \"b\" Acceptance: 0 t --BODY-- State: 0 0 1 2 3 --END--",
-            ],
-            &[
-                b"HOA: v1\nStates: 4\nStart: 0\nAP: 2 \"a\" \"b\"\nAcceptance: 0 t\nproperties: trans-labels explicit-labels trans-acc\n--BODY--\nState: 0\n[!0&!1] 0\n[0&!1] 1\n[!0&1] 2\n[0&1] 3\nState: 1\nState: 2\nState: 3\n--END--\n",
-            ],
-        ),
-        (
-            &[
-                b"HOA: v1\nStates: 1\nStart: 0\nAP: 3 \"a\" \"b\" \"c\"\nAcceptance: 1 Inf(0)\n--BODY--\nState: 0\n[0&2 | 1&2] 0 {0}\n[2 & (1 | 0)] 0\n[0 & !0] 0\n--END--\n",
-            ],
-            &[
-                b"HOA: v1\nStates: 1\nStart: 0\nAP: 3 \"a\" \"b\" \"c\"\nAcceptance: 1 Inf(0)\nproperties: trans-labels explicit-labels trans-acc\n--BODY--\nState: 0\n[!0&1&2 | 0&2] 0 {0}\n[!0&1&2 | 0&2] 0\n[f] 0\n--END--\n",
-            ],
-        ),
-        (&[RICH], &[RICH_OUT]),
-        (
-            &[
-                b"HOA: v1\nproperties: deterministic\nname: \"GFa\"\nStates: 1\nacc-name: Buchi\n/* a /* nested */ comment */\nStart: 0\nproperties: complete\nAP: 1 \"a\"\n",
-                REST,
-            ],
-            &[
-                b"HOA: v1\nname: \"GFa\"\nStates: 1\nStart: 0\nAP: 1 \"a\"\n",
-                REST_OUT,
-            ],
-        ),
-        (
-            &[ONE, b" \n/* nothing */\n", RICH, b"\n\n"],
-            &[ONE_OUT, RICH_OUT],
-        ),
-    ];
-    for (input, output) in rows.iter() {
+    for (input, output) in PRINTED.iter() {
         let given = joined(rt.alloc(), input)?;
         let written = joined(rt.alloc(), output)?;
         let ran = filter(rt.alloc(), given.as_bytes(), &[])?;
@@ -246,89 +248,91 @@ fn prints_each_automaton_in_its_canonical_text(rt: HostRuntime) -> Result<(), Fa
     Ok(())
 }
 
+/// Streams that end a run otherwise, or hold no automaton.
+const ENDS: [Row<'static>; 11] = [
+    Row {
+        input: &[],
+        output: &[],
+        ended: Ended::NoneOutput,
+        note: b"",
+    },
+    Row {
+        input: &[b" \n/* nothing */\n"],
+        output: &[],
+        ended: Ended::NoneOutput,
+        note: b"",
+    },
+    Row {
+        input: &[ONE, TWO, b"HOA: v1 Start"],
+        output: &[ONE_OUT, TWO_OUT],
+        ended: Ended::Syntax,
+        note: b"autfilt: -: unexpected end of input\n",
+    },
+    // The third automaton begins at byte 216.
+    Row {
+        input: &[ONE, TWO, b"HOA: v1 Start 0"],
+        output: &[ONE_OUT, TWO_OUT],
+        ended: Ended::Syntax,
+        note: b"autfilt: -: syntax error at byte 224\n",
+    },
+    Row {
+        input: &[b"-"],
+        output: &[],
+        ended: Ended::Syntax,
+        note: b"autfilt: -: unexpected end of input\n",
+    },
+    Row {
+        input: &[b"0"],
+        output: &[],
+        ended: Ended::Syntax,
+        note: b"autfilt: -: syntax error at byte 0\n",
+    },
+    Row {
+        input: &[b"HOA: v1 --ABORT--"],
+        output: &[],
+        ended: Ended::Syntax,
+        note: b"autfilt: -: automaton aborted\n",
+    },
+    Row {
+        input: &[TWO, b"HOA: v1\nStates: 1\nStart: 0&1\nAP: 1 \"a\"\n", REST],
+        output: &[TWO_OUT],
+        ended: Ended::Invalid,
+        note: b"autfilt: -: invalid automaton (V5)\n",
+    },
+    Row {
+        input: &[
+            b"HOA: v1\nStates: 1\nStart: 0\nAP: 1 \"a\"\nAlias: @x @y\nAlias: @y 0\n",
+            REST,
+        ],
+        output: &[],
+        ended: Ended::Invalid,
+        note: b"autfilt: -: invalid automaton (V7)\n",
+    },
+    Row {
+        input: &[
+            b"HOA: v1\nStates: 1\nStart: 0&1\nAP: 1 \"a\"\nAlias: @x @y\nAlias: @y 0\n",
+            REST,
+        ],
+        output: &[],
+        ended: Ended::Invalid,
+        note: b"autfilt: -: invalid automaton (V5)\n",
+    },
+    Row {
+        input: &[
+            ONE,
+            b"HOA: v1\nStates: 1\nStart: 0\nAP: 9 \"a\" \"b\" \"c\" \"d\" \"e\" \"f\" \"g\" \"h\" \"i\"\n",
+            REST,
+        ],
+        output: &[ONE_OUT],
+        ended: Ended::Limit(Limit::Names),
+        note: b"autfilt: -: limit exceeded: names\n",
+    },
+];
+
 /// Each run is made again with a failing write of the note, which changes nothing else.
 #[test]
 fn tells_what_ended_the_run(rt: HostRuntime) -> Result<(), Fail> {
-    let rows: [Row<'_>; 11] = [
-        Row {
-            input: &[],
-            output: &[],
-            ended: Ended::NoneOutput,
-            note: b"",
-        },
-        Row {
-            input: &[b" \n/* nothing */\n"],
-            output: &[],
-            ended: Ended::NoneOutput,
-            note: b"",
-        },
-        Row {
-            input: &[ONE, TWO, b"HOA: v1 Start"],
-            output: &[ONE_OUT, TWO_OUT],
-            ended: Ended::Syntax,
-            note: b"autfilt: -: unexpected end of input\n",
-        },
-        // The third automaton begins at byte 216.
-        Row {
-            input: &[ONE, TWO, b"HOA: v1 Start 0"],
-            output: &[ONE_OUT, TWO_OUT],
-            ended: Ended::Syntax,
-            note: b"autfilt: -: syntax error at byte 224\n",
-        },
-        Row {
-            input: &[b"-"],
-            output: &[],
-            ended: Ended::Syntax,
-            note: b"autfilt: -: unexpected end of input\n",
-        },
-        Row {
-            input: &[b"0"],
-            output: &[],
-            ended: Ended::Syntax,
-            note: b"autfilt: -: syntax error at byte 0\n",
-        },
-        Row {
-            input: &[b"HOA: v1 --ABORT--"],
-            output: &[],
-            ended: Ended::Syntax,
-            note: b"autfilt: -: automaton aborted\n",
-        },
-        Row {
-            input: &[TWO, b"HOA: v1\nStates: 1\nStart: 0&1\nAP: 1 \"a\"\n", REST],
-            output: &[TWO_OUT],
-            ended: Ended::Invalid,
-            note: b"autfilt: -: invalid automaton (V5)\n",
-        },
-        Row {
-            input: &[
-                b"HOA: v1\nStates: 1\nStart: 0\nAP: 1 \"a\"\nAlias: @x @y\nAlias: @y 0\n",
-                REST,
-            ],
-            output: &[],
-            ended: Ended::Invalid,
-            note: b"autfilt: -: invalid automaton (V7)\n",
-        },
-        Row {
-            input: &[
-                b"HOA: v1\nStates: 1\nStart: 0&1\nAP: 1 \"a\"\nAlias: @x @y\nAlias: @y 0\n",
-                REST,
-            ],
-            output: &[],
-            ended: Ended::Invalid,
-            note: b"autfilt: -: invalid automaton (V5)\n",
-        },
-        Row {
-            input: &[
-                ONE,
-                b"HOA: v1\nStates: 1\nStart: 0\nAP: 9 \"a\" \"b\" \"c\" \"d\" \"e\" \"f\" \"g\" \"h\" \"i\"\n",
-                REST,
-            ],
-            output: &[ONE_OUT],
-            ended: Ended::Limit(Limit::Names),
-            note: b"autfilt: -: limit exceeded: names\n",
-        },
-    ];
-    for row in rows.iter() {
+    for row in ENDS.iter() {
         let input = row.input;
         let given = joined(rt.alloc(), input)?;
         let written = joined(rt.alloc(), row.output)?;
