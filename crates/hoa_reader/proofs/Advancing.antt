@@ -32,14 +32,14 @@ counts_read lex.Read before after h = h
 counts_read lex.Bytes before after h = h
 counts_read lex.Memory before after h = h
 
-took_all : (f : LexFault) (s : State) → (IsErrOf {T = Option Token} (Err f) lex.Bytes → s.lexer.taken ≡ s.lexer.most) → TookAll {T = Unit {0}} (Err (read_fault f)) s.lexer
-took_all (lex.BadToken k) s h = tt
-took_all lex.OpenComment s h = tt
-took_all lex.OpenString s h = tt
-took_all lex.OpenToken s h = tt
-took_all lex.Read s h = tt
-took_all lex.Bytes s h = h refl
-took_all lex.Memory s h = tt
+took_all : (f : LexFault) (s : State) → (IsErrOf {T = Option Token} (Err f) lex.Bytes → s.lexer.taken ≡ s.lexer.most) → s.lexer.held ≡ None → TookAll {T = Unit {0}} (Err (read_fault f)) s.lexer
+took_all (lex.BadToken k) s h none = tt
+took_all lex.OpenComment s h k = tt
+took_all lex.OpenString s h k = tt
+took_all lex.OpenToken s h k = tt
+took_all lex.Read s h k = tt
+took_all lex.Bytes s h k = (h refl, k)
+took_all lex.Memory s h k = tt
 
 unlexed : (f : LexFault) (start offset : ℕ) (old new : List ℕ) → lexing.Answers (Err f) start offset old new → Unlexed (read_fault f) new start old
 unlexed (lex.BadToken k) start offset old new h = h.0
@@ -57,10 +57,11 @@ pub advance_fails : (f : LexFault) (g : ReadFault) (s s' : State) → g ≡ read
     → s'.lexer.since + s.lexer.taken ≡ s.lexer.since + s'.lexer.taken
     → s.lexer.taken ≤ s'.lexer.taken
     → (IsErrOf {T = Option Token} (Err f) lex.Bytes → s'.lexer.taken ≡ s'.lexer.most)
+    → s'.lexer.held ≡ None
     → lexing.CountsFaults {A = Option Token} (Err f) s.reads s'.reads
     → s.reads ≤ s'.reads → s'.opens ≡ s.opens → s'.texts ≡ s.texts
     → Advances {T = Unit {0}} (Err g) s s'
-advance_fails f g s s' same answers most taken since later bytes reads reads_later opens texts =
+advance_fails f g s s' same answers most taken since later bytes none reads reads_later opens texts =
     subst (λ (h : ReadFault). Advances {T = Unit {0}} (Err h) s s') (sym same)
     (record {
       moves = record {
@@ -71,7 +72,7 @@ advance_fails f g s s' same answers most taken since later bytes reads reads_lat
         later = later;
         used = tt;
         holds = λ h. tt;
-        bytes = took_all f s' bytes;
+        bytes = took_all f s' bytes none;
         reads = counts_read f s.reads s'.reads reads;
         reads_later = reads_later;
         opens = opens;

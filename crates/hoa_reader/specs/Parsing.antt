@@ -140,9 +140,9 @@ Tells s s' P = (x : List ℕ) → s.left ≡ Some x → (y : List ℕ) × (s'.le
 abbrev pub Holds : State → Type 0
 Holds s = is_some s.lexer.held ≡ not (closes_itself s.ahead)
 
--- `Bytes` is answered only where all that may be taken was taken
+-- `Bytes` is answered only where all that may be taken was taken, and used
 abbrev pub TookAll : {T : Type 0} → Result T ReadFault → Lexer → Type 0
-TookAll (Err fault.Bytes) lexer = lexer.taken ≡ lexer.most
+TookAll (Err fault.Bytes) lexer = (lexer.taken ≡ lexer.most) × (lexer.held ≡ None)
 TookAll _ lexer = Unit {0}
 
 -- Bytes were only taken and used, and faults are told as they came.

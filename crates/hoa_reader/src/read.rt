@@ -33,7 +33,7 @@ pub fn read_raw<I: Inputs>(
     ensures later { lexer.old.taken ≤ lexer.new.taken }
     ensures used { IfOk result (λ raw. IsSome raw
         → lexer.old.taken + held_count lexer.new.held < lexer.new.taken + held_count lexer.old.held) }
-    ensures bytes { IsErrOf result ReadFault.Bytes → lexer.new.taken ≡ lexer.new.most }
+    ensures bytes { IsErrOf result ReadFault.Bytes → (lexer.new.taken ≡ lexer.new.most) × (lexer.new.held ≡ None) }
 
     // The outside.
     ensures reads { CountsFaults result (I.read_faults inputs.old) (I.read_faults inputs.new) }
