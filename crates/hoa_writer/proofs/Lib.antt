@@ -8,3 +8,6 @@ pub mod WellFormed
 pub mod SpelledOut
 pub mod WordsSpelled
 pub mod ConditionsSpelled
+pub mod LabelsSpelled
+pub mod PhraseDepths
+pub mod ReadBackTokens
