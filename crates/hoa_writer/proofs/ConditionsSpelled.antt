@@ -1,20 +1,19 @@
 -- The text of an acceptance condition is spelled by a phrase of the grammar that means the condition.
-use Rattle.std.proofs.Common.{◌≡◌, ℕ, ◌^◌, ◌<◌, ◌≤◌, Bool, true, false, List, [], ◌∷◌, ◌++◌, refl, sym, subst, ◌∙◌, ap, arith}
-use Rattle.std.specs.Fmt.{decimal}
+use Rattle.std.proofs.Common.{◌≡◌, ℕ, ◌^◌, ◌<◌, ◌≤◌, Bool, true, false, List, [], ◌∷◌, ◌++◌, refl, sym, subst, arith}
 use Rattle.std.specs.Prelude.{codes}
 use Rattle.std.proofs.lemmas.List.{append-nil}
 use Rattle.aut_base.specs.Formula as formula
 use Rattle.aut_base.specs.Formula.{FormulaTree, FormulaTrees, SetsBelow, EachSetsBelow, trees}
 use Rattle.hoa_lexer.specs.declared.token.Token.{Token}
-use Rattle.hoa_lexer.specs.declared.token.Token.TheVariants.{Identifier, Int, Bang, Amp, Bar, LeftParen, RightParen}
+use Rattle.hoa_lexer.specs.declared.token.Token.TheVariants.{Identifier, Int, Amp, Bar, LeftParen, RightParen}
 use Rattle.hoa_reader.specs.Grammar.{Condition, Fands, Fatom, Fatoms, bang_tokens, set_tokens, condition_meaning, condition_tokens, fands_meaning, fands_tokens, fatom_meaning, fatom_tokens, fatoms_meaning, fatoms_tokens}
 use Rattle.hoa_reader.specs.Grammar.Condition.{condition}
 use Rattle.hoa_reader.specs.Grammar.Fands.{no_fand, or_fand}
 use Rattle.hoa_reader.specs.Grammar.Fatoms.{no_fatom, and_fatom}
 use Rattle.hoa_reader.specs.Grammar.Fatom.{true_condition, false_condition, infinitely, finitely, condition_group}
 use Rattle.hoa_writer.specs.CanonicalText.{set_text, part, formula_text, parts_text}
-use Rattle.hoa_writer.proofs.SpelledOut.{Free, Held, Stops, free_free, free_held, held_free, held_held, as_held, free_one, free_blank, free_none, held_identifier}
-use Rattle.hoa_writer.proofs.WordsSpelled.{number}
+use Rattle.hoa_writer.proofs.SpelledOut.{Free, Held, Stops, free_free, free_held, held_free, held_held, as_held, free_one, free_none, held_identifier, held_ended}
+use Rattle.hoa_writer.proofs.WordsSpelled.{number, bang, amp_apart, bar_apart}
 
 -- the phrase of a condition; a part that is a conjunction or disjunction is a group
 abbrev mutual
@@ -96,9 +95,6 @@ left = free_one LeftParen (codes "(") refl (λ rest. tt)
 right : Free (RightParen ∷ []) (codes ")")
 right = free_one RightParen (codes ")") refl (λ rest. tt)
 
-bang : Free (Bang ∷ []) (codes "!")
-bang = free_one Bang (codes "!") refl (λ rest. tt)
-
 set_spelled : (set : ℕ) (neg : Bool) → set < 2 ^ 32 → Held (bang_tokens neg ++ Int set ∷ []) (set_text set neg)
 set_spelled set true h = free_held bang (number set h)
 set_spelled set false h = number set h
@@ -108,12 +104,6 @@ named_spelled : (name : List ℕ) (set : ℕ) (neg : Bool) → set < 2 ^ 32 → 
 named_spelled name set true h k = held_free k (λ rest. (refl, refl)) (free_free left (held_free (set_spelled set true h) (λ rest. (refl, refl)) right))
 named_spelled name set false h k = held_free k (λ rest. (refl, refl)) (free_free left (held_free (set_spelled set false h) (λ rest. (refl, refl)) right))
 
-and_sign : Free (Amp ∷ []) (codes " & ")
-and_sign = free_free (free_blank 32 refl) (free_free (free_one Amp (codes "&") refl (λ rest. tt)) (free_blank 32 refl))
-
-or_sign : Free (Bar ∷ []) (codes " | ")
-or_sign = free_free (free_blank 32 refl) (free_free (free_one Bar (codes "|") refl (λ rest. tt)) (free_blank 32 refl))
-
 grouped : {ts : List Token} {text : List ℕ} → Held ts text → Held (LeftParen ∷ (ts ++ RightParen ∷ [])) (codes "(" ++ (text ++ codes ")"))
 grouped h = as_held (free_free left (held_free h (λ rest. (refl, refl)) right))
 
@@ -122,10 +112,10 @@ grouped h = as_held (free_free left (held_free h (λ rest. (refl, refl)) right))
 conjoined : {a b c : List Token} {x y z : List ℕ} → Held a x → Held b y → Held c z → ((rest : List ℕ) → Stops rest → Stops (z ++ rest)) → Held (a ++ ((Amp ∷ (b ++ c)) ++ [])) (x ++ (codes " & " ++ (y ++ z)))
 conjoined {a} {b} {c} {x} {y} {z} f g h stops =
     subst (λ (ts : List Token). Held (a ++ ts) (x ++ (codes " & " ++ (y ++ z)))) (sym (append-nil (Amp ∷ (b ++ c))))
-    (held_held f (λ rest s. (refl, refl)) (free_held and_sign (held_held g stops h)))
+    (held_held f (λ rest s. (refl, refl)) (free_held amp_apart (held_held g stops h)))
 
 disjoined : {a b c : List Token} {x y z : List ℕ} → Held a x → Held b y → Held c z → ((rest : List ℕ) → Stops rest → Stops (z ++ rest)) → Held (a ++ (Bar ∷ (b ++ c))) (x ++ (codes " | " ++ (y ++ z)))
-disjoined f g h stops = held_held f (λ rest s. (refl, refl)) (free_held or_sign (held_held g stops h))
+disjoined f g h stops = held_held f (λ rest s. (refl, refl)) (free_held bar_apart (held_held g stops h))
 
 ands_stop : (ts : FormulaTrees) (rest : List ℕ) → Stops rest → Stops (parts_text (codes " & ") ts ++ rest)
 ands_stop formula.none rest s = s
@@ -158,19 +148,16 @@ mutual
 
   atoms_spelled : (n : ℕ) (ts : FormulaTrees) → n ≤ 2 ^ 32 → EachSetsBelow n ts → Held (fatoms_tokens (part_atoms ts)) (parts_text (codes " & ") ts)
   atoms_spelled n formula.none l h = as_held free_none
-  atoms_spelled n (formula.more t ts) l h = free_held and_sign (held_held (atom_spelled n t l h.0) (ands_stop ts) (atoms_spelled n ts l h.1))
+  atoms_spelled n (formula.more t ts) l h = free_held amp_apart (held_held (atom_spelled n t l h.0) (ands_stop ts) (atoms_spelled n ts l h.1))
 
   fands_spelled : (n : ℕ) (ts : FormulaTrees) → n ≤ 2 ^ 32 → EachSetsBelow n ts → Held (fands_tokens (part_fands ts)) (parts_text (codes " | ") ts)
   fands_spelled n formula.none l h = as_held free_none
-  fands_spelled n (formula.more t ts) l h = free_held or_sign (held_held (atom_spelled n t l h.0) (ors_stop ts) (fands_spelled n ts l h.1))
-
-alone : {ts : List Token} {text : List ℕ} → Held ts text → Held (ts ++ []) text
-alone {ts} {text} h = subst (λ (us : List Token). Held us text) (sym (append-nil ts)) h
+  fands_spelled n (formula.more t ts) l h = free_held bar_apart (held_held (atom_spelled n t l h.0) (ors_stop ts) (fands_spelled n ts l h.1))
 
 pub condition_spelled : (n : ℕ) (t : FormulaTree) → n ≤ 2 ^ 32 → SetsBelow n t → Held (condition_tokens (text_condition t)) (formula_text t)
 condition_spelled n formula.True l h = true_spelled
 condition_spelled n formula.False l h = false_spelled
-condition_spelled n (formula.Inf set neg) l h = alone (inf_spelled set neg (omega arith))
-condition_spelled n (formula.Fin set neg) l h = alone (fin_spelled set neg (omega arith))
+condition_spelled n (formula.Inf set neg) l h = held_ended (inf_spelled set neg (omega arith))
+condition_spelled n (formula.Fin set neg) l h = held_ended (fin_spelled set neg (omega arith))
 condition_spelled n (formula.And t u ts) l h = conjoined (atom_spelled n t l h.0) (atom_spelled n u l h.1) (atoms_spelled n ts l h.2) (ands_stop ts)
 condition_spelled n (formula.Or t u ts) l h = disjoined (atom_spelled n t l h.0) (atom_spelled n u l h.1) (fands_spelled n ts l h.2) (ors_stop ts)

@@ -1,11 +1,9 @@
 -- The text of cubes is spelled by a phrase of the grammar that means their tree.
-use Rattle.std.proofs.Common.{◌≡◌, ℕ, zero, suc, ◌+◌, ◌^◌, ◌<◌, ◌≤◌, ◌⊎◌, inl, inr, Bool, true, false, cond, List, [], ◌∷◌, ◌++◌, map, length, refl, sym, subst, ◌∙◌, ap, arith}
-use Rattle.std.specs.Fmt.{decimal}
+use Rattle.std.proofs.Common.{◌≡◌, ℕ, zero, suc, ◌+◌, ◌^◌, ◌<◌, ◌≤◌, ◌⊎◌, inl, inr, Bool, true, false, cond, List, [], ◌∷◌, ◌++◌, map, refl, sym, subst, arith}
 use Rattle.std.specs.Prelude.{codes}
 use Rattle.std.proofs.lemmas.List.{append_assoc, append-nil}
 use Rattle.aut_base.specs.Label.{LabelTree, trees}
 use Rattle.hoa_lexer.specs.declared.token.Token.{Token}
-use Rattle.hoa_lexer.specs.declared.token.Token.TheVariants.{Identifier, Int, Bang, Amp, Bar}
 use Rattle.hoa_reader.specs.Grammar.{Label, Lands, Lnot, Lnots, conjunction, disjunction, label_meaning, label_tokens, lands_meaning, lands_tokens, lnot_meaning, lnot_tokens, lnots_meaning, lnots_tokens}
 use Rattle.hoa_reader.specs.Grammar.Label.{label}
 use Rattle.hoa_reader.specs.Grammar.Lands.{no_land, or_land}
@@ -14,8 +12,8 @@ use Rattle.hoa_reader.specs.Grammar.Lnot.{true_label, false_label, proposition, 
 use Rattle.hoa_reader.specs.Raw.{RawTree, raw_trees}
 use Rattle.hoa_writer.specs.CanonicalLabel.{Literal, cubes, is_independent, joined, literal_text, cube_text, cubes_text, label_text, truth_on}
 use Rattle.hoa_writer.specs.CanonicalWritten.{literal_tree, all_of, one_of, cubes_tree, canonical_label, written_label, written_labels}
-use Rattle.hoa_writer.proofs.SpelledOut.{Free, Held, Stops, free_free, free_held, held_free, held_held, as_held, free_one, free_blank, free_none, held_identifier}
-use Rattle.hoa_writer.proofs.WordsSpelled.{number}
+use Rattle.hoa_writer.proofs.SpelledOut.{Held, free_held, held_held, held_identifier, held_ended}
+use Rattle.hoa_writer.proofs.WordsSpelled.{number, bang, amp, bar_apart}
 
 -- the phrase of cubes
 
@@ -133,20 +131,11 @@ cubes_tidy m i (suc n) g h =
 literal_spelled : (l : Literal) → l.prop < 2 ^ 32 → Held (lnot_tokens (literal_lnot l)) (literal_text l)
 literal_spelled l h = elim l.holds as (λ b. Held (lnot_tokens (literal_lnot (record { prop = l.prop; holds = b }))) (literal_text (record { prop = l.prop; holds = b }))) [
   | true ↦ number l.prop h
-  | false ↦ free_held (free_one Bang (codes "!") refl (λ rest. tt)) (number l.prop h)
+  | false ↦ free_held bang (number l.prop h)
 ]
 
-amp : Free (Amp ∷ []) (codes "&")
-amp = free_one Amp (codes "&") refl (λ rest. tt)
-
-bar : Free (Bar ∷ []) (codes " | ")
-bar = free_free (free_blank 32 refl) (free_free (free_one Bar (codes "|") refl (λ rest. tt)) (free_blank 32 refl))
-
-alone : {ts : List Token} {text : List ℕ} → Held ts text → Held (ts ++ []) text
-alone {ts} {text} h = subst (λ (us : List Token). Held us text) (sym (append-nil ts)) h
-
 cube_spelled : (m : ℕ) (l : Literal) (ls : List Literal) → m ≤ 2 ^ 32 → l.prop < m → AreBelow m ls → Held (lnot_tokens (literal_lnot l) ++ lnots_tokens (literal_lnots ls)) (cube_text (l ∷ ls))
-cube_spelled m l [] b h k = alone (literal_spelled l (omega arith))
+cube_spelled m l [] b h k = held_ended (literal_spelled l (omega arith))
 cube_spelled m l (o ∷ os) b h k = held_held (literal_spelled l (omega arith)) (λ rest s. (refl, refl)) (free_held amp (cube_spelled m o os b k.0 k.1))
 
 regroup : (a b c : List Token) {text : List ℕ} → Held ((a ++ b) ++ c) text → Held (a ++ (b ++ c)) text
@@ -159,7 +148,7 @@ lands_spelled m l ls [] b h k w =
 lands_spelled m l ls ([] ∷ cs) b h k w = absurd w
 lands_spelled m l ls ((o ∷ os) ∷ cs) b h k w =
     regroup (lnot_tokens (literal_lnot l)) (lnots_tokens (literal_lnots ls)) (lands_tokens (cubes_lands ((o ∷ os) ∷ cs)))
-    (held_held (cube_spelled m l ls b h k) (λ rest s. (refl, refl)) (free_held bar (lands_spelled m o os cs b w.0 w.1 w.2)))
+    (held_held (cube_spelled m l ls b h k) (λ rest s. (refl, refl)) (free_held bar_apart (lands_spelled m o os cs b w.0 w.1 w.2)))
 
 tidy_spelled : (m : ℕ) (cs : List (List Literal)) → m ≤ 2 ^ 32 → AreTidy m cs → Held (label_tokens (cubes_label cs)) (cubes_text cs)
 tidy_spelled m cs b (inl e) = subst (λ (ds : List (List Literal)). Held (label_tokens (cubes_label ds)) (cubes_text ds)) (sym e) (held_identifier (codes "t") (refl, refl))

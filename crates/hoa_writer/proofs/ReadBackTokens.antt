@@ -1,7 +1,6 @@
 -- The canonical text of an automaton has tokens that spell what it writes.
-use Rattle.std.proofs.Common.{◌≡◌, ℕ, zero, suc, ◌+◌, ◌^◌, ◌<◌, ◌≤◌, ◌==◌, List, [], ◌∷◌, ◌++◌, map, filter, flat_map, length, get_or, Option, Some, None, All, refl, sym, subst, ◌∙◌, ap, arith}
+use Rattle.std.proofs.Common.{◌≡◌, ℕ, zero, suc, ◌^◌, ◌<◌, ◌==◌, List, [], ◌∷◌, ◌++◌, map, filter, flat_map, length, get_or, Option, Some, None, All, refl, sym, subst, ◌∙◌, ap, arith}
 use Rattle.std.specs.Fmt.{decimal}
-use Rattle.std.specs.Option.{option_map}
 use Rattle.std.specs.Prelude.{codes}
 use Rattle.std.specs.List.{range_with_len}
 use Rattle.std.proofs.lemmas.List.{append_assoc, append-nil, map-append}
@@ -14,16 +13,17 @@ use Rattle.hoa_lexer.specs.declared.token.Token.{Token}
 use Rattle.hoa_lexer.specs.declared.token.Token.TheVariants.{HeaderName, Identifier, Str, Int, LeftBracket, RightBracket, LeftBrace, RightBrace, Body, End}
 use Rattle.hoa_reader.specs.Grammar.{AutomatonPhrase, EdgePhrase, ItemPhrase, Spells, StatePhrase, automaton_meaning, automaton_tokens, edge_meaning, edge_tokens, item_meaning, item_tokens, label_tokens, marks_meaning, optional_marks, state_meaning, state_tokens}
 use Rattle.hoa_reader.specs.Grammar.ItemPhrase.{states_item, start_item, names_item, acceptance_item, name_item, properties_item}
+use Rattle.hoa_reader.proofs.OneRaw.{one_raw}
 use Rattle.hoa_reader.specs.Raw as raw
 use Rattle.hoa_reader.specs.Raw.{Written, WrittenEdge, WrittenItem, WrittenState}
-use Rattle.hoa_writer.specs.CanonicalLabel.{joined, label_text}
+use Rattle.hoa_writer.specs.CanonicalLabel.{joined}
 use Rattle.hoa_writer.specs.CanonicalText.{line, quoted, marks_text, edge_line, state_lines, name_line, header_lines, canonical_text, formula_text}
 use Rattle.hoa_writer.specs.CanonicalWritten.{canonical_edge, canonical_state, name_items, canonical_items, canonical_written}
 use Rattle.hoa_writer.proofs.ConditionsSpelled.{text_condition, text_condition_means, condition_spelled}
 use Rattle.hoa_writer.proofs.LabelsSpelled.{text_label, text_label_means, label_spelled}
 use Rattle.hoa_writer.proofs.PhraseDepths.{automaton_opens, automaton_within}
 use Rattle.hoa_writer.proofs.SpelledOut.{Free, Held, Stops, free_free, free_held, held_free, held_held, as_held, free_one, free_blank, free_none, free_header, free_each, free_is_read, held_identifier}
-use Rattle.hoa_writer.proofs.WordsSpelled.{number, string}
+use Rattle.hoa_writer.proofs.WordsSpelled.{number, string, gap}
 
 -- the phrase of an automaton
 
@@ -115,9 +115,6 @@ automaton_means a name =
 in_line : {ts : List Token} {text : List ℕ} → Held ts text → Free (ts ++ []) (line text)
 in_line h = held_free h (λ rest. (refl, refl)) (free_blank 10 refl)
 
-gap : Free [] (codes " ")
-gap = free_blank 32 refl
-
 -- marks
 
 ints_spelled : (m : ℕ) (ms : List ℕ) → m < 2 ^ 32 → All (λ k. k < 2 ^ 32) ms → Held (map Int (m ∷ ms)) (joined (codes " ") (map decimal (m ∷ ms)))
@@ -188,16 +185,16 @@ strings_stop : (names : List (List ℕ)) (rest : List ℕ) → Stops rest → St
 strings_stop [] rest s = s
 strings_stop (name ∷ names) rest s = (refl, refl)
 
-alone : {ts : List Token} {text : List ℕ} → Free (ts ++ []) text → Free ts text
-alone {ts} {text} f = subst (λ (us : List Token). Free us text) (append-nil ts) f
+ended : {ts : List Token} {text : List ℕ} → Free (ts ++ []) text → Free ts text
+ended {ts} {text} f = subst (λ (us : List Token). Free us text) (append-nil ts) f
 
 names_spelled : (names : List (List ℕ)) → length names < 2 ^ 32 → Free (item_tokens (names_item (length names) names)) (line (codes "AP: " ++ (decimal (length names) ++ flat_map (λ name. codes " " ++ quoted name) names)))
 names_spelled names l =
-    alone (in_line (free_held (free_free (free_header (codes "AP") (refl, refl)) gap) (held_held (number (length names) l) (strings_stop names) (as_held (strings_spelled names)))))
+    ended (in_line (free_held (free_free (free_header (codes "AP") (refl, refl)) gap) (held_held (number (length names) l) (strings_stop names) (as_held (strings_spelled names)))))
 
 acceptance_spelled : (a : Automaton) → a.sets < 2 ^ 32 → IsWellFormed a → Free (item_tokens (acceptance_item a.sets (text_condition a.formula))) (line (codes "Acceptance: " ++ (decimal a.sets ++ (codes " " ++ formula_text a.formula))))
 acceptance_spelled a sets w =
-    alone (in_line (free_held (free_free (free_header (codes "Acceptance") (refl, refl)) gap)
+    ended (in_line (free_held (free_free (free_header (codes "Acceptance") (refl, refl)) gap)
     (held_held (number a.sets sets) (λ rest s. (refl, refl)) (free_held gap (condition_spelled a.sets a.formula (omega arith) w.formula)))))
 
 properties_spelled : Free (item_tokens (properties_item text_properties)) (line (codes "properties: trans-labels explicit-labels trans-acc"))
@@ -234,22 +231,25 @@ automaton_spelled a name few sets names w =
     let end = free_free (free_one End (codes "--END--") refl (λ rest. tt)) (free_blank 10 refl) in
     free_free (header_spelled a name few sets names w) (free_free body (free_free (states_spelled a few sets names w.edges) end))
 
--- the tokens of a text, which spell what it writes
+-- the tokens of a text, which spell what it writes and nothing else
 pub record ReadsAs (text : List ℕ) (w : Written) : Type 0 where
   pub tokens : List Token
   pub lexes : HasTokens text 0 tokens
   pub most : ℕ
   pub spells : Spells most tokens w
+  pub alone : (n : ℕ) (v : Written) → Spells n tokens v → v ≡ w
 
 pub canonical_reads : (a : Automaton) (name : Option (List ℕ)) → a.states < 2 ^ 32 → a.sets < 2 ^ 32 → length a.names < 2 ^ 32 → IsWellFormed a → ReadsAs (canonical_text a name) (canonical_written a name)
-canonical_reads a name few sets names w = record {
-  tokens = automaton_tokens (text_automaton a name);
-  lexes = free_is_read (automaton_tokens (text_automaton a name)) (canonical_text a name) (automaton_spelled a name few sets names w);
-  most = automaton_opens (text_automaton a name);
-  spells = record {
-    phrase = text_automaton a name;
-    within = automaton_within (text_automaton a name);
-    spelled = refl;
-    means = sym (automaton_means a name);
-  };
-}
+canonical_reads a name few sets names w =
+    let phrase = text_automaton a name in
+    let tokens = automaton_tokens phrase in
+    let most = automaton_opens phrase in
+    let written = canonical_written a name in
+    let spells : Spells most tokens written = record { phrase = phrase; within = automaton_within phrase; spelled = refl; means = sym (automaton_means a name) } in
+    record {
+      tokens = tokens;
+      lexes = free_is_read tokens (canonical_text a name) (automaton_spelled a name few sets names w);
+      most = most;
+      spells = spells;
+      alone = λ n v s. one_raw n most tokens v written s spells;
+    }

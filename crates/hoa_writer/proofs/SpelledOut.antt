@@ -60,6 +60,9 @@ held_held {ts} {us} {a} {b} f stops g = record { before = λ rest s. parts ts us
 pub as_held : {ts : List Token} {a : List ℕ} → Free ts a → Held ts a
 as_held f = record { before = λ rest s. f.before rest }
 
+pub held_ended : {ts : List Token} {a : List ℕ} → Held ts a → Held (ts ++ []) a
+held_ended {ts} {a} h = subst (λ (us : List Token). Held us a) (sym (append-nil ts)) h
+
 pub free_none : Free [] []
 free_none = record { before = λ rest. ([], nothing, refl) }
 

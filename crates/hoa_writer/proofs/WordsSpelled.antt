@@ -1,6 +1,7 @@
--- How numbers and strings are spelled.
-use Rattle.std.proofs.Common.{◌≡◌, ◌≢◌, ℕ, zero, suc, ◌+◌, ◌-◌, ◌*◌, ◌^◌, ◌<◌, ◌≤◌, ◌/◌, ◌%◌, ◌==◌, ◌||◌, true, false, cond, List, [], ◌∷◌, ◌++◌, flat_map, inl, inr, refl, sym, subst, ◌∙◌, ap, arith}
+-- How numbers, strings and signs are spelled.
+use Rattle.std.proofs.Common.{◌≡◌, ℕ, ◌+◌, ◌-◌, ◌*◌, ◌^◌, ◌<◌, ◌≤◌, ◌/◌, ◌%◌, ◌==◌, ◌||◌, true, cond, List, [], ◌∷◌, ◌++◌, flat_map, inl, inr, refl, sym, subst, ◌∙◌, ap, arith}
 use Rattle.std.specs.Fmt.{decimal}
+use Rattle.std.specs.Prelude.{codes}
 use Rattle.std.proofs.lemmas.Bool.{cases_Bool, false≢true}
 use Rattle.std.proofs.lemmas.Bool.Decides.{nat_tests}
 use Rattle.std.proofs.lemmas.Fmt.{decimal_by_steps}
@@ -9,10 +10,10 @@ use Rattle.hoa_lexer.proofs.Words.{all_push}
 use Rattle.hoa_lexer.specs.Bytes.{is_digit}
 use Rattle.hoa_lexer.specs.Spelling.{IsNumeral, value_of, Quotes}
 use Rattle.hoa_lexer.specs.Spelling.Quotes.{nothing, escaped, plain}
-use Rattle.hoa_lexer.specs.declared.token.Token.TheVariants.{Str, Int}
+use Rattle.hoa_lexer.specs.declared.token.Token.TheVariants.{Str, Int, Bang, Amp, Bar}
 use Rattle.hoa_writer.specs.CanonicalText as canonical
 use Rattle.hoa_writer.specs.CanonicalText.{quoted}
-use Rattle.hoa_writer.proofs.SpelledOut.{Free, Held, free_one, held_int}
+use Rattle.hoa_writer.proofs.SpelledOut.{Free, Held, free_blank, free_free, free_one, held_int}
 
 -- numbers
 
@@ -60,3 +61,23 @@ quotes_escaped (b ∷ bs) = quotes_escape b (flat_map canonical.escaped bs) bs (
 
 pub string : (text : List ℕ) → Free (Str text ∷ []) (quoted text)
 string text = free_one (Str text) (quoted text) (flat_map canonical.escaped text, quotes_escaped text, refl) (λ rest. tt)
+
+-- signs
+
+pub gap : Free [] (codes " ")
+gap = free_blank 32 refl
+
+pub bang : Free (Bang ∷ []) (codes "!")
+bang = free_one Bang (codes "!") refl (λ rest. tt)
+
+pub amp : Free (Amp ∷ []) (codes "&")
+amp = free_one Amp (codes "&") refl (λ rest. tt)
+
+pub bar : Free (Bar ∷ []) (codes "|")
+bar = free_one Bar (codes "|") refl (λ rest. tt)
+
+pub amp_apart : Free (Amp ∷ []) (codes " & ")
+amp_apart = free_free gap (free_free amp gap)
+
+pub bar_apart : Free (Bar ∷ []) (codes " | ")
+bar_apart = free_free gap (free_free bar gap)
