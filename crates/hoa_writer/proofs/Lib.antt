@@ -5,3 +5,9 @@ pub mod Formulas
 pub mod Lines
 pub mod Labels
 pub mod WellFormed
+pub mod SpelledOut
+pub mod WordsSpelled
+pub mod ConditionsSpelled
+pub mod LabelsSpelled
+pub mod PhraseDepths
+pub mod ReadBackTokens
