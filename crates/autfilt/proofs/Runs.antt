@@ -96,15 +96,17 @@ run_done result is taken a b c w w' w'' few e h t at k =
     subst P (sym (e ∙ ap end_of h.is_printed)) (run_over h.automata taken a b c w w'' few h.front (gains_to w w' w'' _ k h.gains) t at)
 
 -- the end by one byte too many is answered only where all that may be were taken
-abbrev pub TookAll : End → ℕ → Type 0
-TookAll (end.Limit limit.Bytes) taken = taken ≡ 2 ^ 40
-TookAll _ taken = Unit {0}
+abbrev pub TookAll : End → ℕ → Option ℕ → Type 0
+TookAll (end.Limit limit.Bytes) taken held = (taken ≡ 2 ^ 40) × (held ≡ None)
+TookAll _ taken held = Unit {0}
 
-too_many : (text rest now : List ℕ) (held : Option ℕ) (taken : ℕ) → IsAt taken text now → taken ≡ 2 ^ 40 → EndsHere (end.Limit limit.Bytes) (place text rest) rest (unread held now) → AsksForTooMany text rest now
-too_many text rest now None taken at all h = record { taken = sym at ∙ ap (λ n. n + length now) all; unused = now; asks = h; ends = inl refl }
-too_many text rest now (Some b) taken at all h = record { taken = sym at ∙ ap (λ n. n + length now) all; unused = b ∷ now; asks = h; ends = inr (b, refl) }
+too_many : (text rest now : List ℕ) (held : Option ℕ) (taken : ℕ) → IsAt taken text now → (taken ≡ 2 ^ 40) × (held ≡ None) → EndsHere (end.Limit limit.Bytes) (place text rest) rest (unread held now) → AsksForTooMany text rest now
+too_many text rest now held taken at all h = record {
+  taken = sym at ∙ ap (λ n. n + length now) all.0;
+  asks = subst (λ (o : Option ℕ). EndsHere (end.Limit limit.Bytes) (place text rest) rest (unread o now)) all.1 h;
+}
 
-ends_at : (e : End) (text rest now : List ℕ) (held : Option ℕ) (taken r r' t t' : ℕ) → TurnCauses (Err e) r r' t t' → IsAt taken text now → TookAll e taken
+ends_at : (e : End) (text rest now : List ℕ) (held : Option ℕ) (taken r r' t t' : ℕ) → TurnCauses (Err e) r r' t t' → IsAt taken text now → TookAll e taken held
     → EndsHere e (place text rest) rest (unread held now) → (e ≡ end.WriteFault → ⊥) → EndsAt e text rest now
 ends_at end.Output text rest now held taken r r' t t' c at all h between = absurd c
 ends_at end.NoneOutput text rest now held taken r r' t t' c at all h between = absurd c
@@ -145,7 +147,7 @@ abbrev IsHere : End → Option ℕ → List Written → List ℕ → List ℕ �
 IsHere e held ws text now = (rest : List ℕ) × AreRead text text ws rest × EndsHere e (place text rest) rest (unread held now)
 
 ends_between : (e : End) (n taken : ℕ) (held : Option ℕ) (is : Bool) (a b c w w' w'' : Option (List ℕ)) (r r' t t' : ℕ) → (e ≡ end.WriteFault → ⊥)
-    → HasRun a b w w' is → Between a b (IsAt n) → taken ≤ 2 ^ 40 → Between a c (IsAt taken) → TookAll e taken → TurnCauses (Err e) r r' t t'
+    → HasRun a b w w' is → Between a b (IsAt n) → taken ≤ 2 ^ 40 → Between a c (IsAt taken) → TookAll e taken held → TurnCauses (Err e) r r' t t'
     → Between b c (λ old new. EndsHere e n old (unread held new)) × (w'' ≡ w') → RunsOver e a c w w''
 ends_between e n taken held is a b c w w' w'' r r' t t' between h k few k' all causes turn = record {
   automata = h.automata;
@@ -181,7 +183,7 @@ ends_writing n taken is a b c w w' w'' h k few k' p = record {
 
 -- the run ends where a turn does
 pub ends_by : (e : End) (n taken : ℕ) (held : Option ℕ) (is : Bool) (a b c w w' w'' : Option (List ℕ)) (r r' t t' : ℕ)
-    → HasRun a b w w' is → Between a b (IsAt n) → taken ≤ 2 ^ 40 → Between a c (IsAt taken) → TookAll e taken → TurnCauses (Err e) r r' t t'
+    → HasRun a b w w' is → Between a b (IsAt n) → taken ≤ 2 ^ 40 → Between a c (IsAt taken) → TookAll e taken held → TurnCauses (Err e) r r' t t'
     → Turns (Err e) n held b c w' w'' → RunsOver e a c w w''
 ends_by end.WriteFault n taken held is a b c w w' w'' r r' t t' h k few k' all causes turn = ends_writing n taken is a b c w w' w'' h k few k' turn
 ends_by end.Output n taken held is a b c w w' w'' r r' t t' h k few k' all causes turn = ends_between end.Output n taken held is a b c w w' w'' r r' t t' (λ e. cc) h k few k' all causes turn
@@ -196,31 +198,31 @@ ends_by (end.Invalid x) n taken held is a b c w w' w'' r r' t t' h k few k' all 
 ends_by (end.Limit x) n taken held is a b c w w' w'' r r' t t' h k few k' all causes turn = ends_between (end.Limit x) n taken held is a b c w w' w'' r r' t t' (λ e. cc) h k few k' all causes turn
 ends_by end.Memory n taken held is a b c w w' w'' r r' t t' h k few k' all causes turn = ends_between end.Memory n taken held is a b c w w' w'' r r' t t' (λ e. cc) h k few k' all causes turn
 
-pub took_all : (e : End) (taken most : ℕ) → most ≡ 2 ^ 40 → (IsErrOf {T = Bool} (Err e) (end.Limit limit.Bytes) → taken ≡ most) → TookAll e taken
-took_all (end.Limit limit.Bytes) taken most m h = h refl ∙ m
-took_all end.Output taken most m h = tt
-took_all end.NoneOutput taken most m h = tt
-took_all end.Usage taken most m h = tt
-took_all end.CannotOpen taken most m h = tt
-took_all end.ReadFault taken most m h = tt
-took_all (end.SyntaxAt x) taken most m h = tt
-took_all end.Truncated taken most m h = tt
-took_all end.Aborted taken most m h = tt
-took_all (end.Invalid x) taken most m h = tt
-took_all end.WriteFault taken most m h = tt
-took_all end.Memory taken most m h = tt
-took_all (end.Limit limit.Names) taken most m h = tt
-took_all (end.Limit limit.Sets) taken most m h = tt
-took_all (end.Limit limit.States) taken most m h = tt
-took_all (end.Limit limit.Edges) taken most m h = tt
-took_all (end.Limit limit.Aliases) taken most m h = tt
-took_all (end.Limit limit.Depth) taken most m h = tt
-took_all (end.Limit limit.Terms) taken most m h = tt
-took_all (end.Limit limit.BuchiStates) taken most m h = tt
-took_all (end.Limit limit.Trees) taken most m h = tt
-took_all (end.Limit limit.Nodes) taken most m h = tt
-took_all (end.Limit limit.Classes) taken most m h = tt
-took_all (end.Limit limit.Pairs) taken most m h = tt
+pub took_all : (e : End) (taken most : ℕ) (held : Option ℕ) → most ≡ 2 ^ 40 → (IsErrOf {T = Bool} (Err e) (end.Limit limit.Bytes) → (taken ≡ most) × (held ≡ None)) → TookAll e taken held
+took_all (end.Limit limit.Bytes) taken most held m h = let all = h refl in (all.0 ∙ m, all.1)
+took_all end.Output taken most held m h = tt
+took_all end.NoneOutput taken most held m h = tt
+took_all end.Usage taken most held m h = tt
+took_all end.CannotOpen taken most held m h = tt
+took_all end.ReadFault taken most held m h = tt
+took_all (end.SyntaxAt x) taken most held m h = tt
+took_all end.Truncated taken most held m h = tt
+took_all end.Aborted taken most held m h = tt
+took_all (end.Invalid x) taken most held m h = tt
+took_all end.WriteFault taken most held m h = tt
+took_all end.Memory taken most held m h = tt
+took_all (end.Limit limit.Names) taken most held m h = tt
+took_all (end.Limit limit.Sets) taken most held m h = tt
+took_all (end.Limit limit.States) taken most held m h = tt
+took_all (end.Limit limit.Edges) taken most held m h = tt
+took_all (end.Limit limit.Aliases) taken most held m h = tt
+took_all (end.Limit limit.Depth) taken most held m h = tt
+took_all (end.Limit limit.Terms) taken most held m h = tt
+took_all (end.Limit limit.BuchiStates) taken most held m h = tt
+took_all (end.Limit limit.Trees) taken most held m h = tt
+took_all (end.Limit limit.Nodes) taken most held m h = tt
+took_all (end.Limit limit.Classes) taken most held m h = tt
+took_all (end.Limit limit.Pairs) taken most held m h = tt
 
 -- where a turn begins and ends
 pub begins_at : (since taken : ℕ) (a b : Option (List ℕ)) → since ≡ taken → Between a b (IsAt taken) → Between a b (IsAt since)

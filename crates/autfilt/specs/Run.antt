@@ -58,13 +58,10 @@ pub record StandsWith (fault : Written → Type 0) (start : ℕ) (rest : List �
   pub whole : Stands (Whole automaton next) start rest
   pub holds : fault automaton
 
--- 2^40 bytes of the text were taken, and one more is asked for. `unused` are those that no token used: what is left,
--- maybe behind a byte that was taken last.
+-- 2^40 bytes of the text were taken, and one more is asked for.
 pub record AsksForTooMany (text rest left : List ℕ) : Type 0 where
   pub taken : length text ≡ 2 ^ 40 + length left
-  pub unused : List ℕ
-  pub asks : AsksOn (place text rest) rest unused
-  pub ends : (unused ≡ left) ⊎ ((b : ℕ) × (unused ≡ b ∷ left))
+  pub asks : AsksOn (place text rest) rest left
 
 -- What stands at the rest of the text where the run ends so. `left` is what is left in the inputs.
 abbrev pub EndsAt : End → List ℕ → List ℕ → List ℕ → Type 0

@@ -35,7 +35,7 @@ pub(crate) fn print_next<I: Inputs, W: Sink>(
         lexer.new.taken + length new ≡ lexer.old.taken + length old) }
     ensures since { lexer.new.since + lexer.old.taken ≡ lexer.old.since + lexer.new.taken }
     ensures used { IfOk result (λ more. IsTrue more → lexer.old.taken < lexer.new.taken) }
-    ensures bytes { IsErrOf result (End.Limit Limit.Bytes) → lexer.new.taken ≡ lexer.new.most }
+    ensures bytes { IsErrOf result (End.Limit Limit.Bytes) → (lexer.new.taken ≡ lexer.new.most) × (lexer.new.held ≡ None) }
 
     // The outside.
     ensures opens { I.open_faults inputs.new ≡ I.open_faults inputs.old }

@@ -37,4 +37,4 @@ returns-in-Err-clause-runs g c =
     let inv = c.automata.invariant in
     let said = c.in-Err.ensures in
     ends_by c.in-Err.end c.automata.lexer.since c.print_next.new.lexer.taken c.print_next.new.lexer.held c.automata.printed _ _ _ _ _ _ _ _ _ _
-    inv.ran (begins_at _ _ _ _ inv.since inv.taken) (omega (arith, c.print_next.new.lexer.within, said.most, inv.most)) (at_after _ _ _ _ _ inv.taken said.taken) (took_all c.in-Err.end _ _ (said.most ∙ inv.most) said.bytes) said.causes said.turns
+    inv.ran (begins_at _ _ _ _ inv.since inv.taken) (omega (arith, c.print_next.new.lexer.within, said.most, inv.most)) (at_after _ _ _ _ _ inv.taken said.taken) (took_all c.in-Err.end _ _ _ (said.most ∙ inv.most) said.bytes) said.causes said.turns
