@@ -5,3 +5,4 @@ pub mod Formulas
 pub mod Lines
 pub mod Labels
 pub mod WellFormed
+pub mod InOrder
