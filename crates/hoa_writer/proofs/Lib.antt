@@ -6,3 +6,4 @@ pub mod Lines
 pub mod Labels
 pub mod WellFormed
 pub mod InOrder
+pub mod CanonicalTrees
