@@ -7,3 +7,4 @@ pub mod Labels
 pub mod WellFormed
 pub mod InOrder
 pub mod CanonicalTrees
+pub mod CanonicalLines
