@@ -35,7 +35,7 @@ mutual
 three : (x y z : Bool) → x ≡ true → y ≡ true → z ≡ true → (x && (y && z)) ≡ true
 three x y z p q r = ap (λ b. b && (y && z)) p ∙ (ap (λ b. b && z) q ∙ r)
 
-two : (x y : Bool) → x ≡ true → y ≡ true → (x && y) ≡ true
+pub two : (x y : Bool) → x ≡ true → y ≡ true → (x && y) ≡ true
 two x y p q = ap (λ b. b && y) p ∙ q
 
 -- its leaves are propositions below n, and none is an alias

@@ -40,9 +40,9 @@ pub all_kept : {X : Type 0} (p : X → Bool) (xs : List X) → AllByRecursion (�
 all_kept p [] all = refl
 all_kept p (x ∷ xs) all = ap (λ b. cond b (x ∷ filter p xs) (filter p xs)) all.0 ∙ ap (λ ys. x ∷ ys) (all_kept p xs all.1)
 
-pub all_pass : {X : Type 0} (p : X → Bool) (xs : List X) → AllByRecursion (λ x. p x ≡ true) xs → list_all p xs ≡ true
-all_pass p [] all = refl
-all_pass p (x ∷ xs) all = ap (λ b. b && list_all p xs) all.0 ∙ all_pass p xs all.1
+pub every_passes : {X : Type 0} (p : X → Bool) (xs : List X) → AllByRecursion (λ x. p x ≡ true) xs → list_all p xs ≡ true
+every_passes p [] all = refl
+every_passes p (x ∷ xs) all = ap (λ b. b && list_all p xs) all.0 ∙ every_passes p xs all.1
 
 pub none_pass : {X : Type 0} (p : X → Bool) (xs : List X) → AllByRecursion (λ x. p x ≡ false) xs → list_any p xs ≡ false
 none_pass p [] all = refl

@@ -8,3 +8,5 @@ pub mod WellFormed
 pub mod InOrder
 pub mod CanonicalTrees
 pub mod CanonicalLines
+pub mod ReadBackRules
+pub mod ReadBackMeaning
