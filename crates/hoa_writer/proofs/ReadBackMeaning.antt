@@ -1,13 +1,15 @@
 -- What the canonical text of a well-formed automaton writes describes the automaton, with each label in its canonical form.
-use Rattle.std.proofs.Common.{◌≡◌, ◌≢◌, ◌==◌, ◌<◌, ◌≤◌, ◌+◌, ℕ, Bool, true, false, cond, List, [], ◌∷◌, length, filter, map, get_or, refl, sym, ap, ◌∙◌, arith, AllPairs, Option, All}
+use Rattle.std.proofs.Common.{◌≡◌, ◌≢◌, ◌==◌, ◌<◌, ◌≤◌, ◌+◌, ℕ, Bool, true, false, cond, List, [], ◌∷◌, length, filter, map, get_or, refl, sym, subst, ap, ◌∙◌, arith, AllPairs, Option, All}
 use Rattle.std.proofs.lemmas.Bool.{eqb-true}
 use Rattle.std.proofs.lemmas.List.{append-nil}
-use Rattle.std.proofs.lemmas.List.Elements.{recursion_from_All}
+use Rattle.std.proofs.lemmas.List.Elements.{All-map, recursion_from_All}
 use Rattle.std.specs.Prelude.{flat_map}
 use Rattle.std.specs.List.{AllByRecursion, enumerate_from, range_with_len}
-use Rattle.aut_base.specs.Automaton.{Arrow, Automaton, IsArrowOf, IsWellFormed}
+use Rattle.aut_base.specs.Automaton.{Arrow, Automaton, IsArrowOf, IsWellFormed, arrow, automaton}
 use Rattle.aut_base.specs.Formula.{FormulaTree}
 use Rattle.aut_base.specs.Label.{LabelTree}
+use Rattle.aut_base.specs.declared.description.Description.{Description}
+use Rattle.aut_base.specs.declared.description.Edge.{Edge}
 use Rattle.hoa_reader.proofs.DescribedLaws.{all_weaker, numbers_are_below}
 use Rattle.hoa_reader.specs.Described.{after_all, arrow_of, arrows_from, arrows_of, below, described, edges_of, marks_in_order, meanings_of, only_state, starts_of, without_repeats}
 use Rattle.hoa_reader.specs.Raw.{Written, WrittenState}
@@ -67,6 +69,11 @@ state_back a name q l marks =
 -- the marks of each edge stand in order
 abbrev pub MarksRise : Automaton → Type 0
 MarksRise a = All (λ (e : Arrow). AllPairs (λ x y. x < y) e.marks) a.edges
+
+-- as they do in an edge of a description, by the type of its marks
+pub marks_rise : (edges : List Edge) (d : Description) → edges ≡ d.edges → All (λ (e : Edge). AllPairs (λ x y. x < y) e.marks) edges → MarksRise (automaton d)
+marks_rise edges d same h =
+    All-map (λ (e : Arrow). AllPairs (λ x y. x < y) e.marks) arrow d.edges (subst (All (λ (e : Edge). AllPairs (λ x y. x < y) e.marks)) same h)
 
 marks_kept : (sets : ℕ) (es : List Arrow) → AllByRecursion (λ (e : Arrow). All (λ mark. mark < sets) e.marks) es → AllByRecursion (λ (e : Arrow). AllPairs (λ x y. x < y) e.marks) es → AllByRecursion (λ (e : Arrow). marks_in_order sets e.marks ≡ e.marks) es
 marks_kept sets [] all rise = tt
