@@ -80,7 +80,7 @@ canonical_written a name = record {
 
 -- the automaton with each label in its canonical form
 abbrev pub canonical : Automaton → Automaton
-canonical a = record a { edges = map {A = Arrow} (λ e. record e { label = canonical_label (length a.names) e.label }) a.edges }
+canonical a = record a { edges = map (λ (e : Arrow). record e { label = canonical_label (length a.names) e.label }) a.edges }
 
 -- The text's tokens spell one automaton and no other. It is valid, and it describes the one that was written, with each
 -- label in its canonical form. No limit of a reader plays a part.
