@@ -9,6 +9,7 @@ pub mod LabelsSpelled
 pub mod Lines
 pub mod PhraseDepths
 pub mod Pieces
+pub mod ReadBack
 pub mod ReadBackMeaning
 pub mod ReadBackRules
 pub mod ReadBackTokens

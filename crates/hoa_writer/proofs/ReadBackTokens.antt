@@ -160,8 +160,8 @@ states_spelled : (a : Automaton) → a.states < 2 ^ 32 → a.sets < 2 ^ 32 → l
 states_spelled a few sets names h =
     free_each (text_state a) state_tokens (state_lines a) (range_with_len 0 a.states)
     (λ k d near.
-        let below : k < a.states = omega (arith, length-range_with_len 0 a.states) in
-        state_spelled a (get_or (range_with_len 0 a.states) k d) few sets names h (omega (arith, get_or-range_with_len 0 a.states k d below)))
+    let below : k < a.states = omega (arith, length-range_with_len 0 a.states) in
+    state_spelled a (get_or (range_with_len 0 a.states) k d) few sets names h (omega (arith, get_or-range_with_len 0 a.states k d below)))
 
 -- the header
 
@@ -222,7 +222,7 @@ header_spelled a name few sets names w =
     let named : List Token = flat_map item_tokens (name_phrases name) in
     let started : List Token = flat_map item_tokens (map text_start a.starts) in
     let same : HeaderName (codes "HOA") ∷ Identifier (codes "v1") ∷ (named ++ (HeaderName (codes "States") ∷ Int a.states ∷ (started ++ flat_map item_tokens last)))
-        ≡ HeaderName (codes "HOA") ∷ Identifier (codes "v1") ∷ flat_map item_tokens (text_items a name) = cc in
+    ≡ HeaderName (codes "HOA") ∷ Identifier (codes "v1") ∷ flat_map item_tokens (text_items a name) = cc in
     subst (λ (ts : List Token). Free ts (header_lines a name)) same whole
 
 automaton_spelled : (a : Automaton) (name : Option (List ℕ)) → a.states < 2 ^ 32 → a.sets < 2 ^ 32 → length a.names < 2 ^ 32 → IsWellFormed a → Free (automaton_tokens (text_automaton a name)) (canonical_text a name)

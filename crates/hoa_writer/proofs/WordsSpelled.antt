@@ -52,7 +52,7 @@ quotes_escape : (b : ℕ) (inner text : List ℕ) → Quotes inner text → Quot
 quotes_escape b inner text q = elim (cases_Bool ((b == 34) || (b == 92))) [
   | inl e ↦ subst (λ (w : List ℕ). Quotes (w ++ inner) (b ∷ text)) (sym (ap (λ c. cond c (92 ∷ b ∷ []) (b ∷ [])) e)) (escaped q)
   | inr e ↦ subst (λ (w : List ℕ). Quotes (w ++ inner) (b ∷ text)) (sym (ap (λ c. cond c (92 ∷ b ∷ []) (b ∷ [])) e))
-    (plain (λ (s : b ≡ 34). false≢true (sym e ∙ ap (λ c. (c == 34) || (c == 92)) s)) (λ (s : b ≡ 92). false≢true (sym e ∙ ap (λ c. (c == 34) || (c == 92)) s)) q)
+      (plain (λ (s : b ≡ 34). false≢true (sym e ∙ ap (λ c. (c == 34) || (c == 92)) s)) (λ (s : b ≡ 92). false≢true (sym e ∙ ap (λ c. (c == 34) || (c == 92)) s)) q)
 ]
 
 quotes_escaped : (text : List ℕ) → Quotes (flat_map canonical.escaped text) text

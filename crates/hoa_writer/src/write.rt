@@ -1,6 +1,6 @@
 //! The lines of the text.
 
-ghost use Rattle.std.specs.Prelude.{◌≡◌, ◌≤◌, ◌++◌, length, map, take, drop, flat_map, codes, IfOk, OnOk};
+ghost use Rattle.std.specs.Prelude.{◌≡◌, ◌<◌, ◌≤◌, ◌^◌, ◌++◌, All, AllPairs, length, map, take, drop, flat_map, codes, IfOk, OnOk};
 ghost use Rattle.std.specs.Option.{option_copied};
 ghost use Rattle.std.specs.List.{range_with_len};
 ghost use Rattle.std.specs.Fmt.{decimal};
@@ -8,6 +8,7 @@ ghost use Rattle.aut_base.specs.Label.{AllBelow};
 ghost use Rattle.aut_base.specs.Automaton.{arrow, automaton, IsWellFormed};
 ghost use Rattle.aut_base.specs.Formula.{formula_tree};
 ghost use Rattle.hoa_writer.specs.CanonicalText.{formula_text, line, quoted, edge_line, state_lines, name_line, header_lines, canonical_text};
+ghost use Rattle.hoa_writer.specs.CanonicalWritten.{ReadsBack};
 ghost use Rattle.hoa_writer.specs.Lines.{start_lines, names_line, WritesEdges, LeadFrom};
 
 use crate::formula::push_formula;
@@ -25,14 +26,42 @@ pub fn write_description(
 ) -> Result<Text, Memory>
     requires few { length description.now.names ≤ 8 }
     requires well_formed { IsWellFormed (automaton description.now) }
-    ensures { IfOk result (λ text. text ≡ canonical_text (automaton description.now) (option_copied name.entry)) }
+    ensures text { IfOk result (λ text. text ≡ canonical_text (automaton description.now) (option_copied name.entry)) }
+    ensures reads_back { ReadsBack (canonical_text (automaton description.now) (option_copied name.entry)) (automaton description.now) (option_copied name.entry) }
 {
+    reads_back(description, name);
     let mut out = Text::new(alloc);
     push_header(&mut out, description, name)?;
     out.extend(b"--BODY--\n")?;
     push_states(alloc, &mut out, description)?;
     out.extend(b"--END--\n")?;
     Ok(out)
+}
+
+/// The canonical text reads back. Nothing is computed: names differ, marks rise and numbers are bounded by their types.
+fn reads_back(description: &Description, _name: Option<&Text>)
+    requires few { length description.now.names ≤ 8 }
+    requires well_formed { IsWellFormed (automaton description.now) }
+    ensures { ReadsBack (canonical_text (automaton description.now) (option_copied _name.entry)) (automaton description.now) (option_copied _name.entry) }
+{
+    fits(description.states);
+    fits(description.sets);
+    let _names = description.names.as_slice();
+    marks_rise(description.edges.as_slice());
+}
+
+/// A number of 32 bits is below 2^32. Nothing is computed.
+fn fits(_number: u32)
+    ensures { _number < 2 ^ 32 }
+{}
+
+/// The marks of each edge rise. Nothing is computed.
+fn marks_rise(edges: &[Edge])
+    ensures { All (λ e. AllPairs (λ a b. a < b) e.marks) edges.now }
+{
+    'edges: for edge in edges {
+        let _marks = edge.marks.as_slice();
+    }
 }
 
 /// Adds the lines before the body.
