@@ -2,6 +2,8 @@
 #![tactic(auto)]
 
 mod ended;
+#[cfg(test)]
+mod examples;
 mod laws;
 mod notes;
 mod real;

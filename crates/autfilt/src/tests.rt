@@ -2,6 +2,7 @@
 
 ghost use Rattle.std.specs.Prelude.{◌≡◌, length, IfOk};
 
+use crate::examples::EXAMPLES;
 use crate::{Ended, autfilt};
 use aut_base::{Limit, Memory, Names, Numbers, Text, Words};
 use aut_io::{MemInputs, MemSink};
@@ -437,6 +438,18 @@ fn a_failed_write_ends_the_run_within_a_text(rt: HostRuntime) -> Result<(), Fail
             b"autfilt: write error\n".as_slice(),
             "write {number}"
         );
+    }
+    Ok(())
+}
+
+#[test]
+fn reads_texts_in_the_style_of_other_tools(rt: HostRuntime) -> Result<(), Fail> {
+    for (input, output) in EXAMPLES.iter() {
+        let ran = filter(rt.alloc(), input, &[])?;
+        assert_eq!(rt; ran.ended, Ended::Output);
+        assert_eq!(rt; ran.out.bytes(), *output);
+        let again = filter(rt.alloc(), output, &[])?;
+        assert_eq!(rt; again.out.bytes(), *output);
     }
     Ok(())
 }
