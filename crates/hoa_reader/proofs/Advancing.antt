@@ -1,15 +1,14 @@
 -- What the lexer's fault says to the reader.
-use Rattle.std.proofs.Common.{◌≡◌, ◌+◌, ◌-◌, ◌≤◌, ℕ, List, [], ◌∷◌, ◌++◌, length, Option, Some, None, Result, Ok, Err, IsErrOf, refl, sym, subst, ◌∙◌, inl, inr}
+use Rattle.std.proofs.Common.{◌≡◌, ◌+◌, ◌-◌, ◌≤◌, ℕ, List, length, Option, Some, None, Err, IsErrOf, refl, sym, subst, inl, inr}
 use Rattle.hoa_lexer.specs.Reading as lexing
 use Rattle.hoa_lexer.specs.Reading.{Between, held_count, unread}
 use Rattle.hoa_lexer.specs.declared.token.LexFault.{LexFault}
 use Rattle.hoa_lexer.specs.declared.token.LexFault.TheVariants as lex
 use Rattle.hoa_lexer.specs.declared.token.Token.{Token}
 use Rattle.hoa_reader.specs.Faults.{read_fault}
-use Rattle.hoa_reader.specs.Parsing.{Advances, AdvancesTo, Moves, State, Tells, TookAll, Unlexed, place, unread_in}
+use Rattle.hoa_reader.specs.Parsing.{Advances, State, TookAll, Unlexed}
 use Rattle.hoa_reader.specs.Reads.{CountsFaults}
 use Rattle.hoa_reader.specs.declared.fault.ReadFault.{ReadFault}
-use Rattle.hoa_reader.specs.declared.fault.ReadFault.TheVariants as fault
 
 pub tells_between : (l k : Option (List ℕ)) (P : List ℕ → List ℕ → Type 0) → Between l k P → (x : List ℕ) → l ≡ Some x → (y : List ℕ) × (k ≡ Some y) × P x y
 tells_between None k P h x e = absurd (let no : None ≡ Some x = e in cc)

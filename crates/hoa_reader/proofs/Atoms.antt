@@ -1,12 +1,12 @@
 -- Labels and conditions of one word.
-use Rattle.std.proofs.Common.{◌≡◌, ◌≢◌, ℕ, Bool, true, false, cond, List, [], ◌∷◌, Option, Some, None, codes, refl, sym, ap, ◌∙◌}
+use Rattle.std.proofs.Common.{◌≡◌, ◌≢◌, ℕ, Bool, true, false, cond, List, [], ◌∷◌, Some, None, codes, refl, sym, ap, ◌∙◌}
 use Rattle.hoa_lexer.specs.declared.token.Token.{Token}
 use Rattle.hoa_lexer.specs.declared.token.Token.TheVariants as token
 use Rattle.hoa_reader.proofs.HeaderNames.{same}
-use Rattle.hoa_reader.specs.Expecting.{Atom, Factor, Move, Refuses, Takes, condition_word, label_word, move, set_parts}
+use Rattle.hoa_reader.specs.Expecting.{Atom, Factor, Refuses, Takes, label_word, move, set_parts}
 use Rattle.hoa_reader.specs.Grammar.{Lnot, LnotWithin, alias, false_label, lnot_meaning, lnot_tokens, proposition, true_label}
 use Rattle.hoa_reader.specs.Parsing.{is_end}
-use Rattle.hoa_reader.specs.Parts.{atom_of, sign_at, sign_of, truth_value}
+use Rattle.hoa_reader.specs.Parts.{atom_of, sign_at}
 use Rattle.hoa_reader.specs.Raw as raw
 use Rattle.hoa_reader.specs.Raw.{RawTree}
 use Rattle.hoa_reader.specs.Standing.{most_depth}

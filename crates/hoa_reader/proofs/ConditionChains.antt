@@ -1,13 +1,13 @@
 -- Chains of `&` and `|` in conditions, part by part.
-use Rattle.std.proofs.Common.{◌≡◌, ◌≤◌, ℕ, List, [], ◌∷◌, ◌++◌, Result, Ok, Err, refl, sym, ap, subst, ◌∙◌}
+use Rattle.std.proofs.Common.{◌≡◌, ℕ, List, [], ◌∷◌, ◌++◌, refl, sym, ap, ◌∙◌}
 use Rattle.std.proofs.lemmas.List.{append_assoc, append-nil}
 use Rattle.hoa_lexer.specs.declared.token.Token.{Token}
 use Rattle.hoa_lexer.specs.declared.token.Token.TheVariants as token
 use Rattle.hoa_reader.proofs.LabelChains.{subst_tokens}
 use Rattle.hoa_reader.proofs.Leading.{passed_then}
 use Rattle.hoa_reader.specs.Chains.{AddsFands, AddsFatoms}
-use Rattle.hoa_reader.specs.Grammar.{Condition, Fands, FandsWithin, Fatom, FatomWithin, Fatoms, FatomsWithin, and_fatom, all_of, one_of, condition, condition_meaning, condition_tokens, fands_meaning, fands_tokens, fatom_meaning, fatom_tokens, fatoms_meaning, fatoms_tokens, no_fand, no_fatom, or_fand}
-use Rattle.hoa_reader.specs.Parsing.{IsWritten, Passed, Place}
+use Rattle.hoa_reader.specs.Grammar.{Fands, FandsWithin, Fatom, FatomWithin, Fatoms, FatomsWithin, and_fatom, all_of, one_of, condition, condition_tokens, fands_meaning, fands_tokens, fatom_meaning, fatom_tokens, fatoms_meaning, fatoms_tokens, no_fand, no_fatom, or_fand}
+use Rattle.hoa_reader.specs.Parsing.{Place}
 use Rattle.hoa_reader.specs.Parts.{IsAndFatom, IsAndFatoms, IsCondition, IsFand, IsFatom, IsOrFand, IsOrFands, FandPhrase, fand_meaning, fand_tokens}
 use Rattle.aut_base.specs.Formula as formula
 use Rattle.aut_base.specs.Formula.{FormulaTree, FormulaTrees, formula_list, formula_parts, formula_tree, trees}

@@ -1,17 +1,14 @@
 -- Groups in conditions, token by token.
-use Rattle.std.proofs.Common.{◌≡◌, ◌≤◌, ◌<◌, ◌+◌, ℕ, suc, Bool, true, false, List, [], ◌∷◌, ◌++◌, Result, Ok, Err, refl, sym, ap, subst, ◌∙◌, arith}
+use Rattle.std.proofs.Common.{◌≡◌, ◌≤◌, ◌+◌, ℕ, suc, List, [], ◌∷◌, ◌++◌, Result, Ok, Err, refl, subst, arith}
 use Rattle.std.proofs.lemmas.Bool.{le-leb}
-use Rattle.hoa_lexer.specs.declared.token.Token.{Token}
 use Rattle.hoa_lexer.specs.declared.token.Token.TheVariants as token
-use Rattle.hoa_reader.proofs.Joining.{reads_before, reads_framed, reads_on, takes_on}
+use Rattle.hoa_reader.proofs.Joining.{takes_on}
 use Rattle.hoa_reader.proofs.Leading.{passed_then}
-use Rattle.hoa_reader.proofs.Moving.{fails_after, fails_first, reads_as, reads_more, reads_then, takes, takes_last}
+use Rattle.hoa_reader.proofs.Moving.{fails_after, fails_first, reads_more, reads_then, takes}
 use Rattle.hoa_reader.specs.Expecting.{ClosingParen, Atom, Part, condition_parts}
-use Rattle.hoa_reader.specs.Grammar.{ConditionWithin, FatomWithin, condition_group, condition_meaning, condition_tokens, fatom_meaning, fatom_tokens}
-use Rattle.hoa_reader.specs.Parsing.{Advances, IsWritten, Passed, Place, Reads, State}
+use Rattle.hoa_reader.specs.Grammar.{condition_group, condition_tokens}
+use Rattle.hoa_reader.specs.Parsing.{Advances, Passed, Place, Reads, State}
 use Rattle.hoa_reader.specs.Parts.{IsCondition, IsFatom, IsMark}
-use Rattle.aut_base.specs.Formula as formula
-use Rattle.aut_base.specs.Formula.{FormulaTree, formula_tree}
 use Rattle.hoa_reader.specs.Standing.{most_depth}
 use Rattle.hoa_reader.specs.declared.fault.ReadFault.{ReadFault}
 use Rattle.aut_base.specs.declared.formula.Formula.{Formula}

@@ -1,12 +1,11 @@
 -- How a part that could not be read ends the reading of more.
-use Rattle.std.proofs.Common.{◌≡◌, ◌≤◌, ℕ, Bool, true, false, List, [], ◌∷◌, ◌++◌, Option, Some, None, refl, sym, ap, ◌∙◌, inl, inr}
+use Rattle.std.proofs.Common.{◌≡◌, ℕ, true, false, List, ◌∷◌, ◌++◌, Some, None, refl, sym, ap, ◌∙◌, inl, inr}
 use Rattle.std.proofs.lemmas.List.{append_assoc}
-use Rattle.std.specs.Prelude.{nat_le, ◌⊎◌}
+use Rattle.std.specs.Prelude.{nat_le}
 use Rattle.hoa_lexer.specs.declared.token.Token.{Token}
 use Rattle.hoa_lexer.specs.declared.token.Token.TheVariants as token
-use Rattle.hoa_reader.proofs.Leading.{goes_more, goes_nowhere, goes_then, refuses_behind, takes_behind}
+use Rattle.hoa_reader.proofs.Leading.{goes_more, goes_nowhere, goes_then, takes_behind}
 use Rattle.hoa_reader.specs.Expecting.{Part, Takes, behind, move, open_at}
-use Rattle.hoa_reader.specs.Expecting as expecting
 use Rattle.hoa_reader.specs.Parsing.{Fails, Goes, Place, Refuses, TooDeep, Unlexed, Unread, is_end, refusal}
 use Rattle.hoa_reader.specs.Standing.{most_depth}
 use Rattle.hoa_reader.specs.declared.fault.ReadFault.{ReadFault}

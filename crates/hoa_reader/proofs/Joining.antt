@@ -1,12 +1,12 @@
 -- Readings put together, whatever the last of them answers.
-use Rattle.std.proofs.Common.{◌≡◌, ◌≤◌, ℕ, Bool, true, false, List, [], ◌∷◌, ◌++◌, Option, Some, None, Result, Ok, Err, refl, sym, ap, subst, ◌∙◌}
+use Rattle.std.proofs.Common.{◌≡◌, ◌≤◌, ℕ, Bool, true, false, List, [], ◌∷◌, ◌++◌, Some, None, Result, Ok, Err, refl, sym, ap, subst, ◌∙◌}
 use Rattle.std.proofs.lemmas.Bool.{false≢true}
 use Rattle.std.proofs.lemmas.List.{append_assoc}
 use Rattle.std.specs.Prelude.{nat_le, if◌then◌else◌}
 use Rattle.std.specs.Result.{IsErr, IsErrAnd}
 use Rattle.hoa_lexer.specs.declared.token.Token.{Token}
 use Rattle.hoa_reader.proofs.Leading.{goes_nowhere, takes_behind}
-use Rattle.hoa_reader.proofs.Moving.{fails_after, fails_first, moves_fault, moves_nowhere, no_memory, reads_as, reads_more, reads_then, takes, takes_last, tells_same}
+use Rattle.hoa_reader.proofs.Moving.{fails_after, fails_first, moves_fault, moves_nowhere, no_memory, reads_as, reads_more, reads_then, takes, tells_same}
 use Rattle.hoa_reader.proofs.Tokens.{token_passed}
 use Rattle.hoa_reader.specs.Expecting.{Move, Part, Passes, Takes, behind, move, moved, open_at}
 use Rattle.hoa_reader.specs.Parsing.{Advances, Fails, Passed, Place, Reads, State, is_end, place, unread_in}

@@ -1,12 +1,12 @@
 -- Chains of `&` and `|` in labels, part by part.
-use Rattle.std.proofs.Common.{◌≡◌, ◌≤◌, ℕ, List, [], ◌∷◌, ◌++◌, Result, Ok, Err, refl, sym, ap, subst, ◌∙◌}
+use Rattle.std.proofs.Common.{◌≡◌, ℕ, List, [], ◌∷◌, ◌++◌, refl, sym, ap, subst, ◌∙◌}
 use Rattle.std.proofs.lemmas.List.{append_assoc, append-nil}
 use Rattle.hoa_lexer.specs.declared.token.Token.{Token}
 use Rattle.hoa_lexer.specs.declared.token.Token.TheVariants as token
 use Rattle.hoa_reader.proofs.Leading.{passed_then}
 use Rattle.hoa_reader.specs.Chains.{AddsLands, AddsLnots}
-use Rattle.hoa_reader.specs.Grammar.{Label, Lands, LandsWithin, Lnot, LnotWithin, Lnots, LnotsWithin, and_lnot, conjunction, disjunction, group, label, label_meaning, label_tokens, lands_meaning, lands_tokens, lnot_meaning, lnot_tokens, lnots_meaning, lnots_tokens, negated, no_land, no_lnot, or_land}
-use Rattle.hoa_reader.specs.Parsing.{IsWritten, Passed, Place}
+use Rattle.hoa_reader.specs.Grammar.{Lands, LandsWithin, Lnot, LnotWithin, Lnots, LnotsWithin, and_lnot, conjunction, disjunction, label, label_tokens, lands_meaning, lands_tokens, lnot_meaning, lnot_tokens, lnots_meaning, lnots_tokens, no_land, no_lnot, or_land}
+use Rattle.hoa_reader.specs.Parsing.{Passed, Place}
 use Rattle.hoa_reader.specs.Parts.{IsAndLnot, IsAndLnots, IsLabel, IsLand, IsLnot, IsOrLand, IsOrLands, LandPhrase, land_meaning, land_tokens}
 use Rattle.hoa_reader.specs.Raw as raw
 use Rattle.hoa_reader.specs.Raw.{RawTree, RawTrees, raw_list, raw_parts, raw_tree, raw_trees}

@@ -1,13 +1,12 @@
 -- Negations and groups in labels, token by token.
-use Rattle.std.proofs.Common.{◌≡◌, ◌≤◌, ◌<◌, ◌+◌, ℕ, suc, Bool, true, false, List, [], ◌∷◌, ◌++◌, Result, Ok, Err, refl, sym, ap, subst, ◌∙◌, arith}
+use Rattle.std.proofs.Common.{◌≡◌, ◌≤◌, ◌+◌, ℕ, suc, List, [], ◌∷◌, ◌++◌, Result, Ok, Err, refl, ap, subst, ◌∙◌, arith}
 use Rattle.std.proofs.lemmas.Bool.{le-leb}
-use Rattle.hoa_lexer.specs.declared.token.Token.{Token}
 use Rattle.hoa_lexer.specs.declared.token.Token.TheVariants as token
-use Rattle.hoa_reader.proofs.Joining.{reads_before, reads_framed, reads_on, takes_on}
+use Rattle.hoa_reader.proofs.Joining.{takes_on}
 use Rattle.hoa_reader.proofs.Leading.{passed_then}
-use Rattle.hoa_reader.proofs.Moving.{fails_after, fails_first, reads_as, reads_more, reads_then, takes, takes_last}
+use Rattle.hoa_reader.proofs.Moving.{fails_after, fails_first, reads_as, reads_more, reads_then, takes}
 use Rattle.hoa_reader.specs.Expecting.{ClosingParen, Factor, Part, label_parts}
-use Rattle.hoa_reader.specs.Grammar.{LabelWithin, LnotWithin, group, label_meaning, label_tokens, lnot_meaning, lnot_tokens, negated}
+use Rattle.hoa_reader.specs.Grammar.{LnotWithin, group, label_tokens, lnot_meaning, lnot_tokens, negated}
 use Rattle.hoa_reader.specs.Parsing.{Advances, IsWritten, Passed, Place, Reads, State}
 use Rattle.hoa_reader.specs.Parts.{IsLabel, IsLnot, IsMark}
 use Rattle.hoa_reader.specs.Raw as raw

@@ -1,15 +1,11 @@
 -- How readings of parts are put together, one behind the other.
-use Rattle.std.proofs.Common.{◌≡◌, ◌≤◌, ℕ, Bool, true, false, if◌then◌else◌, List, [], ◌∷◌, ◌++◌, Option, Some, None, refl, sym, ap, subst, ◌∙◌, arith}
+use Rattle.std.proofs.Common.{◌≡◌, ℕ, Bool, true, false, if◌then◌else◌, List, [], ◌∷◌, ◌++◌, Option, Some, None, refl, sym, ap, subst, ◌∙◌}
 use Rattle.std.proofs.lemmas.List.{append_assoc, append-nil}
-use Rattle.std.specs.Prelude.{nat_le, ◌⊎◌}
-use Rattle.std.specs.List.{AllByRecursion}
+use Rattle.std.specs.Prelude.{nat_le}
 use Rattle.hoa_lexer.specs.declared.token.Token.{Token}
 use Rattle.hoa_reader.specs.Expecting.{Part, Move, Takes, Passes, Refuses, after, after_some, behind, move, moved, open_at}
-use Rattle.hoa_reader.specs.Parsing.{Fails, Follows, Goes, Leads, Passed, Place, TooDeep, Unended, Unlexed, Unread, is_end}
-use Rattle.hoa_reader.specs.Parsing as parsing
+use Rattle.hoa_reader.specs.Parsing.{Follows, Goes, Leads, Passed, Place, Unended, is_end}
 use Rattle.hoa_reader.specs.Standing.{most_depth}
-use Rattle.hoa_reader.specs.declared.fault.ReadFault.{ReadFault}
-use Rattle.hoa_reader.specs.declared.fault.ReadFault.TheVariants as fault
 
 pub after_append : (most : ℕ) (parts : Option (List Part)) (u v : List Token) → after_some most parts (u ++ v) ≡ after_some most (after_some most parts u) v
 after_append most None [] [] = refl

@@ -1,5 +1,5 @@
 -- How the readings of parts by the reader's functions are put together.
-use Rattle.std.proofs.Common.{◌≡◌, ◌≢◌, ◌+◌, ◌≤◌, ◌<◌, ℕ, Bool, true, false, List, [], ◌∷◌, ◌++◌, length, Option, Some, None, Result, Ok, Err, OnOk, IsErrOf, refl, sym, ap, subst, ◌∙◌, arith}
+use Rattle.std.proofs.Common.{◌≡◌, ◌+◌, ◌≤◌, ℕ, true, false, List, [], ◌∷◌, ◌++◌, length, None, Result, Ok, Err, OnOk, refl, sym, ap, subst, ◌∙◌, arith}
 use Rattle.std.specs.Prelude.{nat_le}
 use Rattle.hoa_lexer.proofs.Between.{between_same, between_then}
 use Rattle.hoa_lexer.specs.Reading.{held_count}
@@ -10,7 +10,7 @@ use Rattle.hoa_reader.proofs.Failing.{fails_behind, fails_here, fails_more, fail
 use Rattle.hoa_reader.proofs.Leading.{goes_more, goes_nowhere, goes_on, goes_past, goes_then}
 use Rattle.hoa_reader.specs.Expecting.{Part, Takes, behind, move, open_at}
 use Rattle.hoa_reader.specs.Expecting as expecting
-use Rattle.hoa_reader.specs.Parsing.{Advances, Fails, Follows, Goes, Moves, Passed, Place, Reads, Says, State, Tells, TookAll, is_end, place, refusal, unread_in}
+use Rattle.hoa_reader.specs.Parsing.{Advances, Fails, Moves, Passed, Place, Reads, State, Tells, TookAll, is_end, place, refusal, unread_in}
 use Rattle.hoa_reader.specs.Reads.{CountsFaults}
 use Rattle.hoa_reader.specs.Standing.{most_depth}
 use Rattle.hoa_reader.specs.declared.fault.ReadFault.{ReadFault}

@@ -1,10 +1,8 @@
 -- The set in a sign of an acceptance condition, token by token.
-use Rattle.std.proofs.Common.{◌≡◌, ℕ, Bool, true, List, [], ◌∷◌, ◌++◌, Result, Ok, Err, refl, sym, ap, ◌∙◌}
-use Rattle.std.proofs.lemmas.List.{append_assoc}
+use Rattle.std.proofs.Common.{◌≡◌, ℕ, Bool, true, List, [], ◌∷◌, ◌++◌, Ok, Err, refl, sym, ap, ◌∙◌}
 use Rattle.std.specs.Prelude.{nat_le}
 use Rattle.aut_base.specs.Formula.{formula_tree}
 use Rattle.aut_base.specs.declared.formula.Formula.{Formula}
-use Rattle.hoa_lexer.specs.declared.token.Token.{Token}
 use Rattle.hoa_lexer.specs.declared.token.Token.TheVariants as token
 use Rattle.hoa_reader.proofs.Atoms.{sign_word}
 use Rattle.hoa_reader.proofs.Joining.{reads_then_as}
@@ -13,7 +11,7 @@ use Rattle.hoa_reader.proofs.Leading.{passed_then}
 use Rattle.hoa_reader.proofs.Moving.{fails_after, reads_as, reads_then, takes}
 use Rattle.hoa_reader.specs.Expecting.{Atom, ClosingParen, MaybeBang, Number, OpeningParen, Part, Takes, move, open_at, set_parts}
 use Rattle.hoa_reader.specs.Grammar.{Fatom, FatomWithin, bang_tokens, fatom_meaning, fatom_tokens, set_tokens}
-use Rattle.hoa_reader.specs.Parsing.{Advances, IsWritten, Passed, Place, Reads, State, is_end}
+use Rattle.hoa_reader.specs.Parsing.{Advances, Passed, Place, Reads, State}
 use Rattle.hoa_reader.specs.Parts.{IsFatom, IsMark, IsMaybeBang, IsNumber, IsSet}
 use Rattle.hoa_reader.specs.Standing.{most_depth}
 use Rattle.hoa_reader.specs.declared.fault.ReadFault.{ReadFault}

@@ -1,5 +1,5 @@
 -- What the loops over chains of `&` and `|` have read.
-use Rattle.std.specs.Prelude.{◌≡◌, ℕ, List, ◌∷◌}
+use Rattle.std.specs.Prelude.{ℕ, ◌∷◌}
 use Rattle.aut_base.specs.Formula.{FormulaTree, formula_list}
 use Rattle.aut_base.specs.declared.formula.Formulas.{Formulas}
 use Rattle.hoa_reader.specs.Grammar.{fands_meaning, fands_tokens, FandsWithin, fatoms_meaning, fatoms_tokens, FatomsWithin, lands_meaning, lands_tokens, LandsWithin, lnots_meaning, lnots_tokens, LnotsWithin}

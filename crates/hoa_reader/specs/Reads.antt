@@ -1,10 +1,10 @@
 -- What a reader answers, of what it has not read yet.
-use Rattle.std.specs.Prelude.{◌≡◌, ℕ, ◌+◌, List, [], ◌++◌, Option, Some, None, Result, Ok, Err}
+use Rattle.std.specs.Prelude.{◌≡◌, ℕ, List, [], ◌++◌, Option, Some, None, Result, Ok, Err}
 use Rattle.aut_io.specs.Outside.{Rose}
 use Rattle.hoa_lexer.specs.Text.{AsksForMore}
 use Rattle.hoa_lexer.specs.declared.token.Token.{Token}
 use Rattle.hoa_reader.specs.Raw.{written}
-use Rattle.hoa_reader.specs.Standing.{IsBegun, Standing, Stands, Blank, Whole, Deep, Bad, Aborted, Cut}
+use Rattle.hoa_reader.specs.Standing.{IsBegun, Stands, Blank, Whole, Deep, Bad, Aborted, Cut}
 use Rattle.hoa_reader.specs.declared.fault.ReadFault.{ReadFault}
 use Rattle.hoa_reader.specs.declared.fault.ReadFault.TheVariants as fault
 use Rattle.hoa_reader.specs.declared.raw.Raw.{Raw}

@@ -1,5 +1,5 @@
 -- The canonical text of a well-formed automaton reads back.
-use Rattle.std.proofs.Common.{◌≡◌, ◌≢◌, ◌<◌, ◌≤◌, ◌^◌, ℕ, List, length, Option, AllPairs, arith}
+use Rattle.std.proofs.Common.{◌≢◌, ◌<◌, ◌≤◌, ◌^◌, ℕ, List, length, Option, AllPairs, arith}
 use Rattle.aut_base.specs.Automaton.{Automaton, IsWellFormed}
 use Rattle.hoa_writer.proofs.CanonicalLines.{canonical_named}
 use Rattle.hoa_writer.proofs.ReadBackMeaning.{MarksRise, canonical_describes}

@@ -1,4 +1,4 @@
-use Rattle.std.proofs.Common.{◌≡◌, ◌∷◌, [], ℕ, ◌+◌, ◌≤◌, ◌++◌, suc, refl, sym, ap, subst, ◌∙◌, arith}
+use Rattle.std.proofs.Common.{◌∷◌, [], ◌++◌, suc, refl, arith}
 use Rattle.std.proofs.lemmas.Bool.{le-leb, lt-leb}
 use Rattle.hoa_lexer.specs.declared.token.Token.TheVariants as token
 use Rattle.hoa_reader.proofs.Joining.{is_memory, memory_after, reads_before, reads_end, reads_framed, takes_on, too_deep}
@@ -13,7 +13,7 @@ use Rattle.hoa_reader.specs.Chains.{AddsFands, AddsFatoms}
 use Rattle.hoa_reader.specs.Expecting.{ClosingParen, Atom, Atoms, Conjunctions, condition_parts}
 use Rattle.hoa_reader.specs.Grammar.{no_fand, no_fatom}
 use Rattle.hoa_reader.specs.Parts.{IsAndFatom, IsAndFatoms, IsCondition, IsFand, IsFatom, IsOrFand, IsOrFands}
-use Rattle.aut_base.specs.Formula.{FormulaTree, formula_tree}
+use Rattle.aut_base.specs.Formula.{formula_tree}
 use Rattle.aut_base.specs.declared.formula.Formula.{Formula}
 use Rattle.aut_base.specs.declared.formula.Formula.TheVariants as rust
 use Rattle.hoa_reader.proofs.parse.condition.+condition.Goals as goal

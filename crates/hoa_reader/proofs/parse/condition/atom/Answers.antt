@@ -1,4 +1,4 @@
-use Rattle.std.proofs.Common.{◌∷◌, [], List, Some, refl, sym, ap, ◌∙◌}
+use Rattle.std.proofs.Common.{[], Some, refl, sym, ap, ◌∙◌}
 use Rattle.aut_base.proofs.FormulaTrees.{formula_tree-False, formula_tree-Fin, formula_tree-Inf, formula_tree-True}
 use Rattle.aut_base.specs.declared.formula.Formula.TheVariants as rust
 use Rattle.hoa_lexer.specs.declared.token.Token.TheVariants as token

@@ -1,12 +1,11 @@
-use Rattle.std.proofs.Common.{◌≡◌, ◌∷◌, [], List, Some, refl, sym, ap, subst, ◌∙◌}
+use Rattle.std.proofs.Common.{◌∷◌, [], refl, sym, ap, ◌∙◌}
 use Rattle.std.specs.Option.{option_map}
-use Rattle.hoa_lexer.specs.declared.token.Token.{Token}
 use Rattle.hoa_reader.proofs.Atoms.{atom_found, no_atom}
 use Rattle.hoa_reader.proofs.LabelChains.{subst_tokens}
 use Rattle.hoa_reader.proofs.Tokens.{token_last, token_refused, token_taken}
 use Rattle.hoa_reader.specs.Expecting.{Factor}
 use Rattle.hoa_reader.specs.Grammar.{lnot_tokens}
-use Rattle.hoa_reader.specs.Parts.{IsLnot, atom_of}
+use Rattle.hoa_reader.specs.Parts.{IsLnot}
 use Rattle.hoa_reader.specs.Raw.{raw_tree}
 use Rattle.hoa_reader.proofs.parse.label.atom.Goals as goal
 

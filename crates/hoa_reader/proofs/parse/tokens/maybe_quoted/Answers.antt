@@ -1,4 +1,4 @@
-use Rattle.std.proofs.Common.{[], refl, Some, None}
+use Rattle.std.proofs.Common.{refl, Some, None}
 use Rattle.hoa_lexer.specs.declared.token.Token.TheVariants as token
 use Rattle.hoa_reader.proofs.Others.{past_quoted}
 use Rattle.hoa_reader.proofs.Tokens.{token_passed, token_read}
