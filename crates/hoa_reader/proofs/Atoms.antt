@@ -28,12 +28,20 @@ same_some t u e = cc
 
 word_atom : (depth : ℕ) (word : List ℕ) (t : RawTree) (a b : Bool) → same_text word (codes "t") ≡ a → same_text word (codes "f") ≡ b → cond a (Some raw.True) (cond b (Some raw.False) None) ≡ Some t → IsAtom depth (token.Identifier word) t
 word_atom depth word t true b p q e = record {
-  phrase = true_label; within = tt; spelled = ap (λ (w : List ℕ). token.Identifier w ∷ []) (sym (same word (codes "t") p)); means = same_some t raw.True e;
-  taken = ap (λ (x : Bool). cond x (Takes []) (cond (same_text word (codes "f")) (Takes []) Refuses)) p; goes_on = refl;
+  phrase = true_label;
+  within = tt;
+  spelled = ap (λ (w : List ℕ). token.Identifier w ∷ []) (sym (same word (codes "t") p));
+  means = same_some t raw.True e;
+  taken = ap (λ (x : Bool). cond x (Takes []) (cond (same_text word (codes "f")) (Takes []) Refuses)) p;
+  goes_on = refl;
 }
 word_atom depth word t false true p q e = record {
-  phrase = false_label; within = tt; spelled = ap (λ (w : List ℕ). token.Identifier w ∷ []) (sym (same word (codes "f") q)); means = same_some t raw.False e;
-  taken = ap (λ (x : Bool). cond x (Takes []) (cond (same_text word (codes "f")) (Takes []) Refuses)) p ∙ ap (λ (x : Bool). cond x (Takes []) Refuses) q; goes_on = refl;
+  phrase = false_label;
+  within = tt;
+  spelled = ap (λ (w : List ℕ). token.Identifier w ∷ []) (sym (same word (codes "f") q));
+  means = same_some t raw.False e;
+  taken = ap (λ (x : Bool). cond x (Takes []) (cond (same_text word (codes "f")) (Takes []) Refuses)) p ∙ ap (λ (x : Bool). cond x (Takes []) Refuses) q;
+  goes_on = refl;
 }
 word_atom depth word t false false p q e = absurd (let no : None ≡ Some t = e in cc)
 

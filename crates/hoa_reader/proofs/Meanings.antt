@@ -123,8 +123,8 @@ known_more ms m defs meaning k h = record {
   same = h.same ∙ sym (expanded_push ms m (raw_tree h.def.label.now) h.among);
   plain = h.plain;
   among =
-    leaves_weaker (is_listed (meaning_names ms)) (is_listed (meaning_names (ms ++ m ∷ []))) (λ q e. listed_push ms m q ∙ left_or (is_listed (meaning_names ms) q) (same_text m.name q || false) e)
-    (raw_tree h.def.label.now) h.among;
+      leaves_weaker (is_listed (meaning_names ms)) (is_listed (meaning_names (ms ++ m ∷ []))) (λ q e. listed_push ms m q ∙ left_or (is_listed (meaning_names ms) q) (same_text m.name q || false) e)
+      (raw_tree h.def.label.now) h.among;
   height = h.height;
   size = h.size;
 }

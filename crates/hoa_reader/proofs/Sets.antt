@@ -85,7 +85,9 @@ pub sign_with_set : (depth : ℕ) (g : Sign) (set : SetAt) (phrase : Fatom) (l :
 sign_with_set depth g set phrase l v s m s' is parts within spelled means one two =
     reads_then (Atom depth ∷ []) set_parts [] _ IsSet (IsFatom depth) v set l s m s'
     (λ a b c h k. record {
-      phrase = phrase; within = within; means = means;
+      phrase = phrase;
+      within = within;
+      means = means;
       passed = subst_tokens a c (token.Identifier (sign_word g) ∷ set_tokens set.number set.neg) (fatom_tokens phrase) (sym spelled)
           (passed_then a b c (token.Identifier (sign_word g) ∷ []) (set_tokens set.number set.neg) h k);
     })

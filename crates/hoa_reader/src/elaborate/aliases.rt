@@ -53,11 +53,17 @@ pub(crate) fn growth_of<'a>(label: &'a RawLabel, known: &Places<'a, Known>) -> G
         RawLabel::Not(inner) => one_more(growth_of(inner, known)),
         RawLabel::And(parts) => one_more(both(
             growth_of(&parts.first, known),
-            both(growth_of(&parts.second, known), all_growth(&parts.others, known)),
+            both(
+                growth_of(&parts.second, known),
+                all_growth(&parts.others, known),
+            ),
         )),
         RawLabel::Or(parts) => one_more(both(
             growth_of(&parts.first, known),
-            both(growth_of(&parts.second, known), all_growth(&parts.others, known)),
+            both(
+                growth_of(&parts.second, known),
+                all_growth(&parts.others, known),
+            ),
         )),
     }
 }
@@ -114,11 +120,7 @@ fn alias_in(label: &RawLabel) -> Option<&Text>
 }
 
 /// What is known of an alias that is defined as this, at this place, by what is known of those before it.
-fn known_of<'a>(
-    place: usize,
-    label: &'a RawLabel,
-    known: &Places<'a, Known>,
-) -> Known
+fn known_of<'a>(place: usize, label: &'a RawLabel, known: &Places<'a, Known>) -> Known
     requires { leaves_pass (λ i. true) (λ name. is_some (place_in known.now name)) (raw_tree label.now) ≡ true }
     ensures { (ms : List Meaning) (defs : List AliasDef) (def : AliasDef) → slice_get defs place ≡ Some def → def.label.now ≡ label.now → AreKnown ms defs known.now
         → aliases_among (meaning_names ms) (raw_tree label.now) ≡ true → IsKnownAs ms defs (expanded ms (raw_tree label.now)) result }

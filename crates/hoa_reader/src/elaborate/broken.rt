@@ -5,10 +5,8 @@ ghost use Rattle.hoa_reader.specs.Gathered.{ArePartsOf};
 ghost use Rattle.hoa_reader.specs.Raw.{written};
 ghost use Rattle.hoa_reader.specs.Validity.{IsFirstBroken, IsValid, keeps, names_single_states, propositions_have_names, sets_are_below};
 
-use crate::elaborate::leaves;
 use crate::elaborate::parts::Parts;
-use crate::elaborate::rules;
-use crate::elaborate::used;
+use crate::elaborate::{leaves, rules, used};
 use crate::{Raw, Rule};
 use aut_base::Memory;
 use std::alloc::Global;
@@ -63,12 +61,7 @@ fn sets_are_below(raw: &Raw, parts: &Parts<'_>) -> bool
 }
 
 /// Whether the rule is kept.
-fn keeps<'a>(
-    alloc: Global,
-    rule: Rule,
-    raw: &'a Raw,
-    parts: &Parts<'a>,
-) -> Result<bool, Memory>
+fn keeps<'a>(alloc: Global, rule: Rule, raw: &'a Raw, parts: &Parts<'a>) -> Result<bool, Memory>
     requires { ArePartsOf (written raw.now) parts.now }
     ensures { IfOk result (λ kept. kept ≡ keeps rule (written raw.now)) }
 {

@@ -102,11 +102,7 @@ fn put(places: &mut Vec<Option<usize>>, number: usize, place: usize)
 }
 
 /// Where each state is defined, if it is.
-fn places_of(
-    alloc: Global,
-    states: &[RawState],
-    count: u32,
-) -> Result<Vec<Option<usize>>, Memory>
+fn places_of(alloc: Global, states: &[RawState], count: u32) -> Result<Vec<Option<usize>>, Memory>
     requires { all_differ ◌==◌ (numbers (map written_state states.now)) ≡ true }
     ensures len { IfOk result (λ places. length places.items ≡ count) }
     ensures place { IfOk result (λ places. (q : ℕ) → q < count → IsPlace (map written_state states.now) q (get_or places.items q None)) }

@@ -43,8 +43,8 @@ states-preserved c =
       at = ap (λ n. n + 1) before.at;
       len = ap length changed ∙ length-set index state.number (Some c.states.place) ∙ before.len;
       place = λ q l.
-        let P : List WrittenState → Type 0 = λ us. IsPlace us q (get_or c.put.new.places.items q None) in
-        let Q : List (Option ℕ) → Type 0 = λ ps. IsPlace (ws ++ written_state state ∷ []) q (get_or ps q None) in
-        subst P (sym more) (subst Q (sym changed)
-        (index_more ws (written_state state) index c.states.place c.args.count before.len (long states i c.states.place c.states-test.true before.at) (number_is_new states i state c.states-test.true c.state-item.is c.requires) before.place q l));
+          let P : List WrittenState → Type 0 = λ us. IsPlace us q (get_or c.put.new.places.items q None) in
+          let Q : List (Option ℕ) → Type 0 = λ ps. IsPlace (ws ++ written_state state ∷ []) q (get_or ps q None) in
+          subst P (sym more) (subst Q (sym changed)
+          (index_more ws (written_state state) index c.states.place c.args.count before.len (long states i c.states.place c.states-test.true before.at) (number_is_new states i state c.states-test.true c.state-item.is c.requires) before.place q l));
     }

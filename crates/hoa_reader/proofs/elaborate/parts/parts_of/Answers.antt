@@ -21,7 +21,7 @@ returns c =
       starts = c.in_ok-starts.ensures ∙ ap (λ (is : List Item). filter_map start_item (map written_item is)) items;
       labels = c.in_ok-labels_of.ensures ∙ ap (λ (ss : List RawState). flat_map state_labels (map written_state ss)) c.as_slice-3.ensures;
       after =
-        c.after_used-after.ensures
-        ∙ ap (λ (ss : List RawState). after_all (starts_named c.as_slice.result.now ++ (numbers (map written_state ss) ++ goals (map written_state ss)))) c.as_slice-2.ensures
-        ∙ ap (λ (qs : List ℕ). after_all (qs ++ (numbers (map written_state c.args.raw.now.states) ++ goals (map written_state c.args.raw.now.states)))) named;
+          c.after_used-after.ensures
+          ∙ ap (λ (ss : List RawState). after_all (starts_named c.as_slice.result.now ++ (numbers (map written_state ss) ++ goals (map written_state ss)))) c.as_slice-2.ensures
+          ∙ ap (λ (qs : List ℕ). after_all (qs ++ (numbers (map written_state c.args.raw.now.states) ++ goals (map written_state c.args.raw.now.states)))) named;
     }

@@ -39,8 +39,8 @@ states-preserved c =
     record {
       differ = ap (all_differ ◌==◌) more ∙ differ_more ◌==◌ (numbers (take i states)) state.number c.states.invariant.differ (sym (c.states.invariant.seen state.number) ∙ away);
       seen = λ q.
-        c.in_ok-insert.ensures.updates.0 q
-        ∙ ap (λ b. cond b true (tree.contains nat_cmp c.states.seen q)) (same_number state.number q)
-        ∙ among_or (state.number == q) (list_any (λ x. x == q) (numbers (take i states))) (tree.contains nat_cmp c.states.seen q) (c.states.invariant.seen q)
-        ∙ sym (ap (list_any (λ x. x == q)) more ∙ list_any-append (λ x. x == q) (numbers (take i states)) (state.number ∷ []));
+          c.in_ok-insert.ensures.updates.0 q
+          ∙ ap (λ b. cond b true (tree.contains nat_cmp c.states.seen q)) (same_number state.number q)
+          ∙ among_or (state.number == q) (list_any (λ x. x == q) (numbers (take i states))) (tree.contains nat_cmp c.states.seen q) (c.states.invariant.seen q)
+          ∙ sym (ap (list_any (λ x. x == q)) more ∙ list_any-append (λ x. x == q) (numbers (take i states)) (state.number ∷ []));
     }
