@@ -8,6 +8,8 @@ mod laws;
 mod parse;
 mod raw;
 mod read;
+#[cfg(test)]
+mod tests;
 
 pub use elaborate::{ElabFault, Rule, describe};
 pub use fault::ReadFault;

@@ -1,0 +1,274 @@
+//! An answer in words: parts of a conjunction or disjunction stand behind its sign.
+
+use crate::{Item, Raw, RawEdge, RawLabel, RawLabels, RawState, ReadFault};
+use aut_base::{Formula, Formulas, Memory, Text};
+use std::alloc::Global;
+
+/// Adds a number in base ten.
+fn show_number(alloc: Global, line: &mut Text, number: u64) -> Result<(), Memory> {
+    let mut digits = Text::new(alloc);
+    let mut rest = number;
+    for _ in 0..20 {
+        digits.push(b'0' + (rest % 10) as u8)?;
+        rest /= 10;
+        if rest == 0 {
+            break;
+        }
+    }
+    for digit in digits.as_bytes().iter().rev() {
+        line.push(*digit)?;
+    }
+    Ok(())
+}
+
+/// Adds a word, a space and a number.
+fn show_count(alloc: Global, line: &mut Text, word: &[u8], number: u32) -> Result<(), Memory> {
+    line.extend(word)?;
+    line.push(b' ')?;
+    show_number(alloc, line, u64::from(number))
+}
+
+/// Adds each number with a space before it.
+fn show_numbers(alloc: Global, line: &mut Text, numbers: &[u32]) -> Result<(), Memory> {
+    for number in numbers {
+        show_count(alloc, line, b"", *number)?;
+    }
+    Ok(())
+}
+
+/// Adds the numbers of sets, in braces, where there are any.
+fn show_marks(alloc: Global, line: &mut Text, marks: &[u32]) -> Result<(), Memory> {
+    if marks.is_empty() {
+        return Ok(());
+    }
+    line.extend(b" {")?;
+    show_numbers(alloc, line, marks)?;
+    line.extend(b" }")
+}
+
+/// Adds a text.
+fn show_text(line: &mut Text, text: &Text) -> Result<(), Memory> {
+    line.extend(b" <")?;
+    line.extend(text.as_bytes())?;
+    line.push(b'>')
+}
+
+/// Adds each text.
+fn show_texts(line: &mut Text, texts: &[Text]) -> Result<(), Memory> {
+    for text in texts {
+        show_text(line, text)?;
+    }
+    Ok(())
+}
+
+/// Adds a label.
+#[cycle(show_label)]
+fn show_label(alloc: Global, line: &mut Text, label: &RawLabel) -> Result<(), Memory> {
+    match label {
+        RawLabel::True => line.push(b't'),
+        RawLabel::False => line.push(b'f'),
+        RawLabel::Prop(place) => show_number(alloc, line, u64::from(*place)),
+        RawLabel::Alias(name) => {
+            line.push(b'@')?;
+            line.extend(name.as_bytes())
+        }
+        RawLabel::Not(inner) => {
+            line.push(b'!')?;
+            show_label(alloc, line, inner)
+        }
+        RawLabel::And(parts) => show_labels(alloc, line, b"(&", parts),
+        RawLabel::Or(parts) => show_labels(alloc, line, b"(|", parts),
+    }
+}
+
+/// Adds the parts of a label.
+#[cycle(show_label)]
+fn show_labels(
+    alloc: Global,
+    line: &mut Text,
+    sign: &[u8],
+    parts: &RawLabels,
+) -> Result<(), Memory> {
+    line.extend(sign)?;
+    line.push(b' ')?;
+    show_label(alloc, line, &parts.first)?;
+    line.push(b' ')?;
+    show_label(alloc, line, &parts.second)?;
+    for part in &parts.others {
+        line.push(b' ')?;
+        show_label(alloc, line, part)?;
+    }
+    line.push(b')')
+}
+
+/// Adds a set of a condition.
+fn show_set(
+    alloc: Global,
+    line: &mut Text,
+    word: &[u8],
+    set: u32,
+    neg: bool,
+) -> Result<(), Memory> {
+    line.extend(word)?;
+    if neg {
+        line.push(b'!')?;
+    }
+    show_number(alloc, line, u64::from(set))
+}
+
+/// Adds a condition of one node, or `?` for another.
+fn show_node(alloc: Global, line: &mut Text, formula: &Formula) -> Result<(), Memory> {
+    match formula {
+        Formula::True => line.push(b't'),
+        Formula::False => line.push(b'f'),
+        Formula::Inf { set, neg } => show_set(alloc, line, b"Inf ", *set, *neg),
+        Formula::Fin { set, neg } => show_set(alloc, line, b"Fin ", *set, *neg),
+        _ => line.push(b'?'),
+    }
+}
+
+/// Adds the parts of a condition, each of one node.
+fn show_nodes(alloc: Global, line: &mut Text, parts: &Formulas) -> Result<(), Memory> {
+    for place in 0..parts.len() {
+        line.push(b' ')?;
+        show_node(alloc, line, parts.at(place))?;
+    }
+    line.push(b')')
+}
+
+/// Adds a condition whose parts have one node each.
+fn show_flat(alloc: Global, line: &mut Text, formula: &Formula) -> Result<(), Memory> {
+    match formula {
+        Formula::And(parts) => {
+            line.extend(b"(&")?;
+            show_nodes(alloc, line, parts)
+        }
+        Formula::Or(parts) => {
+            line.extend(b"(|")?;
+            show_nodes(alloc, line, parts)
+        }
+        _ => show_node(alloc, line, formula),
+    }
+}
+
+/// Adds the parts of a condition, each of which is flat.
+fn show_flats(alloc: Global, line: &mut Text, parts: &Formulas) -> Result<(), Memory> {
+    for place in 0..parts.len() {
+        line.push(b' ')?;
+        show_flat(alloc, line, parts.at(place))?;
+    }
+    line.push(b')')
+}
+
+/// Adds a condition whose parts are flat.
+fn show_formula(alloc: Global, line: &mut Text, formula: &Formula) -> Result<(), Memory> {
+    match formula {
+        Formula::And(parts) => {
+            line.extend(b"(&")?;
+            show_flats(alloc, line, parts)
+        }
+        Formula::Or(parts) => {
+            line.extend(b"(|")?;
+            show_flats(alloc, line, parts)
+        }
+        _ => show_node(alloc, line, formula),
+    }
+}
+
+/// Adds an item of the header.
+fn show_item(alloc: Global, line: &mut Text, item: &Item) -> Result<(), Memory> {
+    match item {
+        Item::States(count) => show_count(alloc, line, b"; states", *count),
+        Item::Start(states) => {
+            line.extend(b"; start")?;
+            show_numbers(alloc, line, states.as_slice())
+        }
+        Item::Ap { count, names } => {
+            show_count(alloc, line, b"; ap", *count)?;
+            show_texts(line, names.as_slice())
+        }
+        Item::Alias { name, label } => {
+            line.extend(b"; alias")?;
+            show_text(line, name)?;
+            line.push(b' ')?;
+            show_label(alloc, line, label)
+        }
+        Item::Acceptance { sets, formula } => {
+            show_count(alloc, line, b"; acceptance", *sets)?;
+            line.push(b' ')?;
+            show_formula(alloc, line, formula)
+        }
+        Item::AccName => line.extend(b"; acc-name"),
+        Item::Tool => line.extend(b"; tool"),
+        Item::Name(text) => {
+            line.extend(b"; name")?;
+            show_text(line, text)
+        }
+        Item::Properties(words) => {
+            line.extend(b"; properties")?;
+            show_texts(line, words.as_slice())
+        }
+        Item::Other(name) => {
+            line.extend(b"; other")?;
+            show_text(line, name)
+        }
+    }
+}
+
+/// Adds a label in brackets, where there is one.
+fn show_maybe(alloc: Global, line: &mut Text, label: &Option<RawLabel>) -> Result<(), Memory> {
+    if let Some(label) = label {
+        line.extend(b" [")?;
+        show_label(alloc, line, label)?;
+        line.push(b']')?;
+    }
+    Ok(())
+}
+
+/// Adds an edge.
+fn show_edge(alloc: Global, line: &mut Text, edge: &RawEdge) -> Result<(), Memory> {
+    line.push(b',')?;
+    show_maybe(alloc, line, &edge.label)?;
+    show_numbers(alloc, line, edge.to.as_slice())?;
+    show_marks(alloc, line, edge.marks.as_slice())
+}
+
+/// Adds a state with its edges.
+fn show_state(alloc: Global, line: &mut Text, state: &RawState) -> Result<(), Memory> {
+    line.extend(b"; state")?;
+    show_maybe(alloc, line, &state.label)?;
+    show_count(alloc, line, b"", state.number)?;
+    show_marks(alloc, line, state.marks.as_slice())?;
+    for edge in state.edges.as_slice() {
+        show_edge(alloc, line, edge)?;
+    }
+    Ok(())
+}
+
+/// Adds all that was written, in order.
+pub(super) fn show(alloc: Global, line: &mut Text, raw: &Raw) -> Result<(), Memory> {
+    line.extend(raw.version.as_bytes())?;
+    for item in raw.items.as_slice() {
+        show_item(alloc, line, item)?;
+    }
+    for state in raw.states.as_slice() {
+        show_state(alloc, line, state)?;
+    }
+    Ok(())
+}
+
+/// Adds a fault.
+pub(super) fn show_fault(alloc: Global, line: &mut Text, fault: ReadFault) -> Result<(), Memory> {
+    match fault {
+        ReadFault::Syntax(offset) => {
+            line.extend(b"syntax ")?;
+            show_number(alloc, line, offset)
+        }
+        ReadFault::Truncated => line.extend(b"truncated"),
+        ReadFault::Aborted => line.extend(b"aborted"),
+        ReadFault::Depth => line.extend(b"depth"),
+        ReadFault::Bytes => line.extend(b"bytes"),
+        ReadFault::Read => line.extend(b"read"),
+        ReadFault::Memory => line.extend(b"memory"),
+    }
+}
