@@ -250,7 +250,7 @@ fn prints_each_automaton_in_its_canonical_text(rt: HostRuntime) -> Result<(), Fa
 }
 
 /// Streams that end a run otherwise, or hold no automaton.
-const ENDS: [Row<'static>; 11] = [
+const ENDS: [Row<'static>; 18] = [
     Row {
         input: &[],
         output: &[],
@@ -327,6 +327,48 @@ const ENDS: [Row<'static>; 11] = [
         output: &[ONE_OUT],
         ended: Ended::Limit(Limit::Names),
         note: b"autfilt: -: limit exceeded: names\n",
+    },
+    Row {
+        input: &[b"HOA: v1 States: 4294967295 Acceptance: 0 t --BODY-- --END--"],
+        output: &[],
+        ended: Ended::Limit(Limit::States),
+        note: b"autfilt: -: limit exceeded: states\n",
+    },
+    Row {
+        input: &[b"HOA: v1 Acceptance: 0 t --BODY-- State: 0 [t] 4294967295 --END--"],
+        output: &[],
+        ended: Ended::Limit(Limit::States),
+        note: b"autfilt: -: limit exceeded: states\n",
+    },
+    Row {
+        input: &[b"HOA: v1 AP: 4294967295 \"a\" Acceptance: 0 t --BODY-- --END--"],
+        output: &[],
+        ended: Ended::Invalid,
+        note: b"autfilt: -: invalid automaton (V4)\n",
+    },
+    Row {
+        input: &[b"HOA: v1 Acceptance: 4294967295 Inf(0) --BODY-- --END--"],
+        output: &[],
+        ended: Ended::Limit(Limit::Sets),
+        note: b"autfilt: -: limit exceeded: sets\n",
+    },
+    Row {
+        input: &[b"HOA: v1 Acceptance: 1 Inf(4294967295) --BODY-- --END--"],
+        output: &[],
+        ended: Ended::Invalid,
+        note: b"autfilt: -: invalid automaton (V9)\n",
+    },
+    Row {
+        input: &[b"HOA: v1 Acceptance: 1 t --BODY-- State: 0 [t] 0 {4294967295} --END--"],
+        output: &[],
+        ended: Ended::Invalid,
+        note: b"autfilt: -: invalid automaton (V9)\n",
+    },
+    Row {
+        input: &[b"HOA: v1 Acceptance: 1 t --BODY-- State: 0 [t] 0 {4294967296} --END--"],
+        output: &[],
+        ended: Ended::Syntax,
+        note: b"autfilt: -: syntax error at byte 49\n",
     },
 ];
 
@@ -450,6 +492,39 @@ fn reads_texts_in_the_style_of_other_tools(rt: HostRuntime) -> Result<(), Fail> 
         assert_eq!(rt; ran.out.bytes(), *output);
         let again = filter(rt.alloc(), output, &[])?;
         assert_eq!(rt; again.out.bytes(), *output);
+    }
+    Ok(())
+}
+
+/// An automaton whose one label is the last of so many aliases. Each negates or doubles the one before.
+fn with_aliases(alloc: Global, last: u32, doubles: bool) -> Result<Text, Fail> {
+    let mut text = Text::from_bytes(alloc, b"HOA: v1 AP: 1 \"a\" Acceptance: 0 t Alias: @a0 0 ")?;
+    for number in 1..last + 1 {
+        let before = number - 1;
+        let line = if doubles {
+            format!(in alloc; "Alias: @a{number} @a{before} & @a{before} ")?
+        } else {
+            format!(in alloc; "Alias: @a{number} !@a{before} ")?
+        };
+        text.extend(line.as_bytes())?;
+    }
+    text.extend(b"--BODY-- State: 0 ")?;
+    text.extend(format!(in alloc; "[@a{last}] 0 --END--")?.as_bytes())?;
+    Ok(text)
+}
+
+#[test]
+fn aliases_grow_up_to_a_limit(rt: HostRuntime) -> Result<(), Fail> {
+    let rows = [
+        (2047u32, false, Ended::Output),
+        (2048, false, Ended::Limit(Limit::Aliases)),
+        (16, true, Ended::Output),
+        (30, true, Ended::Limit(Limit::Aliases)),
+    ];
+    for (last, doubles, ended) in rows.iter() {
+        let text = with_aliases(rt.alloc(), *last, *doubles)?;
+        let ran = filter(rt.alloc(), text.as_bytes(), &[])?;
+        assert_eq!(rt; ran.ended, *ended, "{last}");
     }
     Ok(())
 }
