@@ -101,8 +101,8 @@ fn answers_each_text(rt: HostRuntime) -> Result<(), Fail> {
     Ok(())
 }
 
-/// Whatever part of the text there is, or may be taken, or can be read: the bytes before it are not enough. The blanks
-/// in front have 2, 18 and 1 bytes.
+/// Each front of the text: where the text ends there, where no more bytes may be taken, and where the next read fails.
+/// The blanks before the automaton have 2, 18 and 1 bytes.
 #[test]
 fn needs_each_byte_and_no_other(rt: HostRuntime) -> Result<(), Fail> {
     let alloc = rt.alloc();
