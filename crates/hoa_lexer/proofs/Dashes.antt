@@ -69,7 +69,12 @@ dash_pauses x y e = record {
 
 pub dash_bad : (k offset b : ℕ) (h : Option ℕ) (x z : List ℕ) → k ≡ offset → h ≡ None → (b ≡ 45 → ⊥) → x ≡ b ∷ z → ReadsToken (Err (BadToken k)) offset (45 ∷ x) (unread h z)
 dash_bad k offset b h x z s l n e =
-    (s, dash_no_token b x z n e, record { byte = b; past = inr (dash_pauses x (b ∷ unread h z) (e ∙ ap (λ w. b ∷ w) (sym (unheld h z l)))) })
+    let next : x ≡ b ∷ unread h z = e ∙ ap (λ w. b ∷ w) (sym (unheld h z l)) in (
+      s,
+      dash_no_token b x z n e,
+      record { byte = b; past = inr (dash_pauses x (b ∷ unread h z) next) },
+      record { used = 45 ∷ b ∷ []; split = ap (λ w. 45 ∷ w) next; none = dash_no_token b (b ∷ []) [] n refl },
+    )
 
 pub dash_end : (x : List ℕ) → x ≡ [] → IsOpenToken (45 ∷ x)
 dash_end x e = subst (λ (w : List ℕ). IsOpenToken (45 ∷ w)) (sym e) (record {
@@ -122,7 +127,12 @@ dashes_pauses x y e = record {
 
 pub dashes_bad : (k offset b : ℕ) (h : Option ℕ) (x z : List ℕ) → k ≡ offset → h ≡ None → (b ≡ 66 → ⊥) → (b ≡ 69 → ⊥) → (b ≡ 65 → ⊥) → x ≡ b ∷ z → ReadsToken (Err (BadToken k)) offset (45 ∷ 45 ∷ x) (unread h z)
 dashes_bad k offset b h x z s l m n o e =
-    (s, dashes_no_token b x z m n o e, record { byte = b; past = inr (dashes_pauses x (b ∷ unread h z) (e ∙ ap (λ w. b ∷ w) (sym (unheld h z l)))) })
+    let next : x ≡ b ∷ unread h z = e ∙ ap (λ w. b ∷ w) (sym (unheld h z l)) in (
+      s,
+      dashes_no_token b x z m n o e,
+      record { byte = b; past = inr (dashes_pauses x (b ∷ unread h z) next) },
+      record { used = 45 ∷ 45 ∷ b ∷ []; split = ap (λ w. 45 ∷ 45 ∷ w) next; none = dashes_no_token b (b ∷ []) [] m n o refl },
+    )
 
 pub dashes_end : (x : List ℕ) → x ≡ [] → IsOpenToken (45 ∷ 45 ∷ x)
 dashes_end x e = subst (λ (w : List ℕ). IsOpenToken (45 ∷ 45 ∷ w)) (sym e) (record {
@@ -229,6 +239,11 @@ tail_err (BadToken k) token letter offset h tail x z d e r = (
   r.0,
   tail_no_token token letter r.2 r.3 tail r.1 x z d r.4 r.5 r.6,
   record { byte = r.3; past = inr (subst (λ (w : List ℕ). Pauses (45 ∷ 45 ∷ letter ∷ x) (r.3 ∷ w)) (sym (unheld h z e)) (tail_pauses token letter r.2 None tail r.1 x (r.3 ∷ z) d refl r.4 r.5)) },
+  record {
+    used = 45 ∷ 45 ∷ letter ∷ (r.1 ++ r.3 ∷ []);
+    split = ap (λ w. 45 ∷ 45 ∷ letter ∷ w) (r.5 ∙ ap (λ w. r.1 ++ r.3 ∷ w) (sym (unheld h z e)) ∙ sym (append_assoc r.1 (r.3 ∷ []) (unread h z)));
+    none = tail_no_token token letter r.2 r.3 tail r.1 (r.1 ++ r.3 ∷ []) [] d r.4 refl r.6;
+  },
 )
 tail_err OpenToken token letter offset h tail x z d e r = tail_open_token token letter r.0 tail x d r.1
 tail_err Bytes token letter offset h tail x z d e r = tail_pauses token letter r.1 h tail r.0 x z d e r.2 r.3

@@ -7,7 +7,7 @@ use Rattle.hoa_lexer.specs.Blanks.IsBlanks.{nothing, space, comment}
 use Rattle.hoa_lexer.specs.Bytes.{is_space}
 use Rattle.hoa_lexer.specs.Reading.{unread, held_count, Answers}
 use Rattle.hoa_lexer.specs.Steps.{closing, ClosesComment, IsReadFault, IsSolid, Skips, SkipsComment, SkipsBlanks, Pauses, ReadsToken, Tries}
-use Rattle.hoa_lexer.specs.Text.{IsFront, HasFront, IsNext, AfterBlanks, IsOpenString, IsOpenToken, IsNoToken, AsksForMore, AskedForOne}
+use Rattle.hoa_lexer.specs.Text.{IsFront, HasFront, IsNext, AfterBlanks, IsOpenString, IsOpenToken, IsNoToken, AsksForMore, AskedForOne, IsShownBy}
 use Rattle.hoa_lexer.proofs.Comments.{closing_after, closing_sound, unheld, holding, steps_out, steps_in, steps_on}
 use Rattle.hoa_lexer.proofs.FirstBytes.{front_head, no_front, no_space, no_slash, solid}
 use Rattle.hoa_lexer.specs.declared.token.LexFault.{LexFault}
@@ -242,7 +242,11 @@ slash_no_comment k start b x y s n e = record {
 }
 
 pub skip_bad : (k start b : ℕ) (x y : List ℕ) → k ≡ start → (b ≡ 42 → ⊥) → x ≡ b ∷ y → SkipsComment (Err (BadToken k)) start (47 ∷ x) y
-skip_bad k start b x y s n e = (slash_no_comment k start b x y s n e, record { at_hand = 47 ∷ []; byte = b; split = ap (λ w. 47 ∷ w) e; asks = asks_slash })
+skip_bad k start b x y s n e = (
+  slash_no_comment k start b x y s n e,
+  record { at_hand = 47 ∷ []; byte = b; split = ap (λ w. 47 ∷ w) e; asks = asks_slash },
+  record { used = 47 ∷ b ∷ []; split = ap (λ w. 47 ∷ w) e; shows = slash_no_comment k start b (b ∷ []) [] s n refl },
+)
 
 pub skip_end : (start : ℕ) (x z : List ℕ) → x ≡ [] → SkipsComment (Err OpenToken) start (47 ∷ x) z
 skip_end start x z e = record {
@@ -290,6 +294,18 @@ asks_after before at_hand h a = record {
       (record { before = before; split = append_assoc before at_hand a.more; blanks = h }) a.closes;
 }
 
+shown_after : (k start start' : ℕ) (x y z : List ℕ) → Skips x y → start + length x ≡ start' + length y → IsShownBy k start' y z → IsShownBy k start x z
+shown_after k start start' x y z s e a =
+    let whole = ap length s.split ∙ length-append s.before y in
+    record {
+      used = s.before ++ a.used;
+      split = s.split ∙ ap (λ w. s.before ++ w) a.split ∙ sym (append_assoc s.before a.used z);
+      shows = after_skips (s.before ++ a.used) a.used (λ bytes. (k + length bytes ≡ start' + length a.used) × IsNoToken bytes)
+          (λ bytes. (k + length bytes ≡ start + length (s.before ++ a.used)) × IsNoToken bytes)
+          (λ bytes h. (omega (arith, h.0, e, whole, length-append s.before a.used), h.1))
+          (record { before = s.before; split = refl; blanks = s.blanks }) a.shows;
+    }
+
 pub fails_after : (fault : LexFault) (start start' offset offset' : ℕ) (x y z : List ℕ) → Skips x y → start + length x ≡ start' + length y → Answers (Err fault) start' offset' y z → Answers (Err fault) start offset x z
 fails_after (BadToken k) start start' offset offset' x y z s e a = (
   after_skips x y (λ bytes. (k + length bytes ≡ start' + length y) × IsNoToken bytes) (λ bytes. (k + length bytes ≡ start + length x) × IsNoToken bytes)
@@ -300,6 +316,7 @@ fails_after (BadToken k) start start' offset offset' x y z s e a = (
     split = s.split ∙ ap (λ w. s.before ++ w) a.1.split ∙ sym (append_assoc s.before a.1.at_hand (a.1.byte ∷ z));
     asks = asks_after s.before a.1.at_hand s.blanks a.1.asks;
   },
+  shown_after k start start' x y z s e a.2,
 )
 fails_after OpenComment start start' offset offset' x y z s e a = after_skips x y IsOpenComment IsOpenComment (λ bytes h. h) s a
 fails_after OpenString start start' offset offset' x y z s e a = after_skips x y IsOpenString IsOpenString (λ bytes h. h) s a
@@ -360,7 +377,15 @@ asked_for_one y z t = ⊎_elim
 
 -- the answer to what the token's own function answered, where nothing stands before it
 token_err_here : (fault : LexFault) (offset : ℕ) (y z : List ℕ) → ReadsToken (Err fault) offset y z → Answers (Err fault) offset offset y z
-token_err_here (BadToken k) offset y z h = (at_once y (λ bytes. (k + length bytes ≡ offset + length y) × IsNoToken bytes) (ap (λ n. n + length y) h.0, h.1), asked_for_one y z h.2)
+token_err_here (BadToken k) offset y z h = (
+  at_once y (λ bytes. (k + length bytes ≡ offset + length y) × IsNoToken bytes) (ap (λ n. n + length y) h.0, h.1),
+  asked_for_one y z h.2,
+  record {
+    used = h.3.used;
+    split = h.3.split;
+    shows = at_once h.3.used (λ bytes. (k + length bytes ≡ offset + length h.3.used) × IsNoToken bytes) (ap (λ n. n + length h.3.used) h.0, h.3.none);
+  },
+)
 token_err_here OpenComment offset y z h = absurd h
 token_err_here OpenString offset y z h = at_once y IsOpenString h
 token_err_here OpenToken offset y z h = at_once y IsOpenToken h

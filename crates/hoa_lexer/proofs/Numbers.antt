@@ -170,8 +170,14 @@ number_great first value x y d v g w = record {
 }
 
 pub number_bad : (k offset first value value' b : ℕ) (h : Option ℕ) (x y z : List ℕ) → k ≡ offset → h ≡ None → is_digit first ≡ true → 0 < first - 48 → value < 2 ^ 32 → IsDigits first value x y → y ≡ b ∷ z → is_digit b ≡ true → value' ≡ 10 * value + (b - 48) → 2 ^ 32 ≤ value' → ReadsToken (Err (BadToken k)) offset (first ∷ x) (unread h z)
-number_bad k offset first value value' b h x y z s n d v l w e g p m = (
-  s,
-  number_great first value' x z d v m (digits_push first value value' b x y z w e g p),
-  record { byte = b; past = inr (number_pauses first value x y (b ∷ unread h z) d v l w (e ∙ ap (λ q. b ∷ q) (sym (unheld h z n)))) },
-)
+number_bad k offset first value value' b h x y z s n d v l w e g p m =
+    let all = digits_push first value value' b x y z w e g p in (
+      s,
+      number_great first value' x z d v m all,
+      record { byte = b; past = inr (number_pauses first value x y (b ∷ unread h z) d v l w (e ∙ ap (λ q. b ∷ q) (sym (unheld h z n)))) },
+      record {
+        used = first ∷ all.seen;
+        split = ap (λ q. first ∷ q) (all.split ∙ ap (λ q. all.seen ++ q) (sym (unheld h z n)));
+        none = number_great first value' all.seen [] d v m (record { seen = all.seen; digits = all.digits; value_is = all.value_is; split = sym (append-nil all.seen) });
+      },
+    )

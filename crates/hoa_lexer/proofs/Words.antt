@@ -177,7 +177,12 @@ pub alias_bad : (k offset b : ℕ) (o h : Option ℕ) (name name' x z : List ℕ
 alias_bad k offset b None h name name' x z s l e m n a = cc
 alias_bad k offset b (Some c) h name name' x z s l e m n a =
     let read : x ≡ c ∷ z = nothing_added a.0.seen (sym (no_name name' n) ∙ a.0.named ∙ ap (λ v. v ++ a.0.seen) m) c x z a.0.split in
-    (s, alias_no_token c x z read a.1, record { byte = c; past = inr (alias_pauses [] x (c ∷ unread h z) refl (read ∙ ap (λ w. c ∷ w) (sym (unheld h z l)))) })
+    let next : x ≡ c ∷ unread h z = read ∙ ap (λ w. c ∷ w) (sym (unheld h z l)) in (
+      s,
+      alias_no_token c x z read a.1,
+      record { byte = c; past = inr (alias_pauses [] x (c ∷ unread h z) refl next) },
+      record { used = 64 ∷ c ∷ []; split = ap (λ w. 64 ∷ w) next; none = alias_no_token c (c ∷ []) [] refl a.1 },
+    )
 
 pub alias_end : (name name' x : List ℕ) → AddsWord name name' x [] → IsOpenToken (64 ∷ x)
 alias_end name name' x a =

@@ -3,7 +3,7 @@ use Rattle.std.specs.Prelude.{◌≡◌, ℕ, ◌+◌, List, [], ◌∷◌, ◌+
 use Rattle.aut_io.specs.Outside.{Rose}
 use Rattle.hoa_lexer.specs.Blanks.{IsBlanks, IsOpenComment}
 use Rattle.hoa_lexer.specs.Spelling.{closes_itself}
-use Rattle.hoa_lexer.specs.Text.{IsNext, AfterBlanks, IsOpenString, IsOpenToken, IsNoToken, AsksForMore, AskedForOne}
+use Rattle.hoa_lexer.specs.Text.{IsNext, AfterBlanks, IsOpenString, IsOpenToken, IsNoToken, AsksForMore, AskedForOne, IsShownBy}
 use Rattle.hoa_lexer.specs.declared.token.LexFault.{LexFault}
 use Rattle.hoa_lexer.specs.declared.token.LexFault.TheVariants.{BadToken, OpenComment, OpenString, OpenToken, Read, Bytes, Memory}
 use Rattle.hoa_lexer.specs.declared.token.Token.{Token}
@@ -31,6 +31,7 @@ Answers (Ok (Some token)) start offset old new = IsNext old start token offset n
 Answers (Ok None) start offset old new = IsBlanks old × (new ≡ [])
 Answers (Err (BadToken k)) start offset old new =
     AfterBlanks old (λ bytes. (k + length bytes ≡ start + length old) × IsNoToken bytes) × AskedForOne old new
+    × IsShownBy k start old new
 Answers (Err OpenComment) start offset old new = AfterBlanks old IsOpenComment
 Answers (Err OpenString) start offset old new = AfterBlanks old IsOpenString
 Answers (Err OpenToken) start offset old new = AfterBlanks old IsOpenToken

@@ -126,10 +126,16 @@ pub record Tries (old new : List ℕ) : Type 0 where
   pub byte : ℕ
   pub past : (old ≡ byte ∷ new) ⊎ Pauses old (byte ∷ new)
 
+-- the bytes that were used begin no token, whatever follows them
+pub record ShowsNone (old new : List ℕ) : Type 0 where
+  pub used : List ℕ
+  pub split : old ≡ used ++ new
+  pub none : IsNoToken used
+
 -- the token that stands next, where no blank does
 abbrev pub ReadsToken : Result Token LexFault → ℕ → List ℕ → List ℕ → Type 0
 ReadsToken (Ok token) offset old new = IsFront old token new
-ReadsToken (Err (BadToken k)) offset old new = (k ≡ offset) × IsNoToken old × Tries old new
+ReadsToken (Err (BadToken k)) offset old new = (k ≡ offset) × IsNoToken old × Tries old new × ShowsNone old new
 ReadsToken (Err OpenString) offset old new = IsOpenString old
 ReadsToken (Err OpenToken) offset old new = IsOpenToken old
 ReadsToken (Err Bytes) offset old new = Pauses old new

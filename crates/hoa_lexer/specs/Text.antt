@@ -79,3 +79,10 @@ pub record AskedForOne (old new : List ℕ) : Type 0 where
   pub byte : ℕ
   pub split : old ≡ at_hand ++ byte ∷ new
   pub asks : AsksForMore at_hand
+
+-- The bytes that were used show it, whatever follows them: after blanks among them stands what begins no token, and
+-- `k` is where that begins.
+pub record IsShownBy (k start : ℕ) (old new : List ℕ) : Type 0 where
+  pub used : List ℕ
+  pub split : old ≡ used ++ new
+  pub shows : AfterBlanks used (λ bytes. (k + length bytes ≡ start + length used) × IsNoToken bytes)

@@ -1,4 +1,5 @@
-use Rattle.std.proofs.Common.{arith, ◌≡◌, ◌∙◌, inl, refl, sym}
+use Rattle.std.proofs.Common.{arith, ◌≡◌, ◌∙◌, ℕ, List, [], ◌∷◌, inl, refl, sym}
+use Rattle.hoa_lexer.specs.Text.{IsNoToken}
 use Rattle.hoa_lexer.proofs.Between.{between_same}
 use Rattle.hoa_lexer.proofs.FirstBytes.{no_kind_token, mark_front}
 use Rattle.hoa_lexer.proofs.lexer.Lexer.token.Goals as goal
@@ -11,10 +12,13 @@ returns-in-Some-clause-answers g c =
 pub returns-in-None-clause-answers : goal.returns-in-None-clause-answers
 returns-in-None-clause-answers g c =
     let left = g.I.Inputs.left in
+    let none : (x : List ℕ) → IsNoToken (c.args.first ∷ x) = λ x.
+    no_kind_token c.args.first x c.requires.space
+    (sym c.is_letter.ensures ∙ c.if-is_letter.false) (sym c.is_digit.ensures ∙ c.if-is_digit.false)
+    (λ (e : c.args.first ≡ 34). omega arith) (λ (e : c.args.first ≡ 64). omega arith) (λ (e : c.args.first ≡ 45). omega arith) c.requires.slash c.in-None.ensures in
     between_same (left c.args.inputs.now) _ (λ x. (
       refl,
-      no_kind_token c.args.first x c.requires.space
-          (sym c.is_letter.ensures ∙ c.if-is_letter.false) (sym c.is_digit.ensures ∙ c.if-is_digit.false)
-          (λ (e : c.args.first ≡ 34). omega arith) (λ (e : c.args.first ≡ 64). omega arith) (λ (e : c.args.first ≡ 45). omega arith) c.requires.slash c.in-None.ensures,
+      none x,
       record { byte = c.args.first; past = inl refl },
+      record { used = c.args.first ∷ []; split = refl; none = none [] },
     ))
