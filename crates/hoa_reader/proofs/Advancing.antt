@@ -41,7 +41,7 @@ took_all lex.Bytes s h k = (h refl, k)
 took_all lex.Memory s h k = tt
 
 unlexed : (f : LexFault) (start offset : ℕ) (old new : List ℕ) → lexing.Answers (Err f) start offset old new → Unlexed (read_fault f) new start old
-unlexed (lex.BadToken k) start offset old new h = h.0
+unlexed (lex.BadToken k) start offset old new h = (h.0, h.2)
 unlexed lex.OpenComment start offset old new h = inr (inl h)
 unlexed lex.OpenString start offset old new h = inr (inr (inl h))
 unlexed lex.OpenToken start offset old new h = inr (inr (inr h))

@@ -38,15 +38,15 @@ unread_then p q a m P one two = record {
 }
 
 -- what was read before does not change why the rest could not be read
-pub fails_then : (f : ReadFault) (p q : List Part) (a m : Place) (new : List ℕ) → Goes p a q m → Fails f q m new → Fails f p a new
-fails_then (fault.Syntax k) p q a m new one (inl h) = inl (h.0, refuses_then p q a m h.0 one h.1, h.2, h.3)
-fails_then (fault.Syntax k) p q a m new one (inr h) = inr (unread_then p q a m _ one h)
-fails_then fault.Truncated p q a m new one h = unread_then p q a m _ one h
-fails_then fault.Aborted p q a m new one h = (h.0, refuses_then p q a m h.0 one h.1, h.2)
-fails_then fault.Depth p q a m new one h = deep_then p q a m one h
-fails_then fault.Bytes p q a m new one h = unread_then p q a m _ one h
-fails_then fault.Read p q a m new one h = tt
-fails_then fault.Memory p q a m new one h = tt
+pub fails_then : (f : ReadFault) (p q : List Part) (a m last : Place) → Goes p a q m → Fails f q m last → Fails f p a last
+fails_then (fault.Syntax k) p q a m last one (inl h) = inl (h.0, refuses_then p q a m h.0 one h.1, h.2, h.3, h.4)
+fails_then (fault.Syntax k) p q a m last one (inr h) = inr (unread_then p q a m _ one h)
+fails_then fault.Truncated p q a m last one h = unread_then p q a m _ one h
+fails_then fault.Aborted p q a m last one h = (h.0, refuses_then p q a m h.0 one h.1, h.2)
+fails_then fault.Depth p q a m last one h = deep_then p q a m one h
+fails_then fault.Bytes p q a m last one h = unread_then p q a m _ one h
+fails_then fault.Read p q a m last one h = tt
+fails_then fault.Memory p q a m last one h = tt
 
 behind_more : (most : ℕ) (p more others : List Part) (z : Token) → behind most ((p ++ more) ++ others) z ≡ behind most (p ++ (more ++ others)) z
 behind_more most p more others z = ap (λ (ps : List Part). behind most ps z) (append_assoc p more others)
@@ -85,15 +85,15 @@ unread_more p more a P one = record {
 }
 
 -- nor does what is expected behind it
-pub fails_more : (f : ReadFault) (p more : List Part) (a : Place) (new : List ℕ) → Fails f p a new → Fails f (p ++ more) a new
-fails_more (fault.Syntax k) p more a new (inl h) = inl (h.0, refuses_more p more a h.0 h.1, h.2, h.3)
-fails_more (fault.Syntax k) p more a new (inr h) = inr (unread_more p more a _ h)
-fails_more fault.Truncated p more a new h = unread_more p more a _ h
-fails_more fault.Aborted p more a new h = (h.0, refuses_more p more a h.0 h.1, h.2)
-fails_more fault.Depth p more a new h = deep_more p more a h
-fails_more fault.Bytes p more a new h = unread_more p more a _ h
-fails_more fault.Read p more a new h = tt
-fails_more fault.Memory p more a new h = tt
+pub fails_more : (f : ReadFault) (p more : List Part) (a last : Place) → Fails f p a last → Fails f (p ++ more) a last
+fails_more (fault.Syntax k) p more a last (inl h) = inl (h.0, refuses_more p more a h.0 h.1, h.2, h.3, h.4)
+fails_more (fault.Syntax k) p more a last (inr h) = inr (unread_more p more a _ h)
+fails_more fault.Truncated p more a last h = unread_more p more a _ h
+fails_more fault.Aborted p more a last h = (h.0, refuses_more p more a h.0 h.1, h.2)
+fails_more fault.Depth p more a last h = deep_more p more a h
+fails_more fault.Bytes p more a last h = unread_more p more a _ h
+fails_more fault.Read p more a last h = tt
+fails_more fault.Memory p more a last h = tt
 
 -- there is no token behind one that the first part takes
 pub unread_behind : (part : Part) (parts others : List Part) (a : Place) (P : ℕ → List ℕ → Type 0) → move part a.token ≡ Takes parts → nat_le (open_at parts) most_depth ≡ true → is_end a.token ≡ false → P a.used a.rest → Unread (part ∷ others) a P
@@ -108,14 +108,14 @@ unread_behind part parts others a P takes opens unended bytes = record {
 }
 
 -- the lexer's fault is the reader's
-pub fails_behind : (f : ReadFault) (part : Part) (parts others : List Part) (a : Place) (new : List ℕ) → move part a.token ≡ Takes parts → nat_le (open_at parts) most_depth ≡ true → is_end a.token ≡ false → Unlexed f new a.used a.rest → Fails f (part ∷ others) a new
-fails_behind (fault.Syntax k) part parts others a new takes opens unended h = inr (unread_behind part parts others a _ takes opens unended h)
-fails_behind fault.Truncated part parts others a new takes opens unended h = unread_behind part parts others a _ takes opens unended h
-fails_behind fault.Aborted part parts others a new takes opens unended h = absurd h
-fails_behind fault.Depth part parts others a new takes opens unended h = absurd h
-fails_behind fault.Bytes part parts others a new takes opens unended h = unread_behind part parts others a _ takes opens unended h
-fails_behind fault.Read part parts others a new takes opens unended h = tt
-fails_behind fault.Memory part parts others a new takes opens unended h = tt
+pub fails_behind : (f : ReadFault) (part : Part) (parts others : List Part) (a last : Place) → move part a.token ≡ Takes parts → nat_le (open_at parts) most_depth ≡ true → is_end a.token ≡ false → Unlexed f last.rest a.used a.rest → Fails f (part ∷ others) a last
+fails_behind (fault.Syntax k) part parts others a last takes opens unended h = inr (unread_behind part parts others a _ takes opens unended h)
+fails_behind fault.Truncated part parts others a last takes opens unended h = unread_behind part parts others a _ takes opens unended h
+fails_behind fault.Aborted part parts others a last takes opens unended h = absurd h
+fails_behind fault.Depth part parts others a last takes opens unended h = absurd h
+fails_behind fault.Bytes part parts others a last takes opens unended h = unread_behind part parts others a _ takes opens unended h
+fails_behind fault.Read part parts others a last takes opens unended h = tt
+fails_behind fault.Memory part parts others a last takes opens unended h = tt
 
 refused_here : (parts : List Part) (a : Place) (z : Token) → a.token ≡ z → ((most : ℕ) (others : List Part) → behind most (parts ++ others) z ≡ None) → Refuses parts a a
 refused_here parts a z is refused = record {
@@ -125,6 +125,6 @@ refused_here parts a z is refused = record {
 }
 
 -- A token that cannot stand where it does is a fault of syntax at its offset, or the end of an abandoned automaton.
-pub fails_here : (parts : List Part) (a : Place) (z : Token) (new : List ℕ) → a.token ≡ z → ((most : ℕ) (others : List Part) → behind most (parts ++ others) z ≡ None) → Fails (refusal z a.offset) parts a new
-fails_here parts a token.Abort new is refused = (a, refused_here parts a token.Abort is refused, is)
-fails_here parts a z new is refused = inl (a, refused_here parts a z is refused, refl, λ e. (let no : z ≡ token.Abort = sym is ∙ e in cc))
+pub fails_here : (parts : List Part) (a : Place) (z : Token) → a.token ≡ z → ((most : ℕ) (others : List Part) → behind most (parts ++ others) z ≡ None) → Fails (refusal z a.offset) parts a a
+fails_here parts a token.Abort is refused = (a, refused_here parts a token.Abort is refused, is)
+fails_here parts a z is refused = inl (a, refused_here parts a z is refused, refl, λ e. (let no : z ≡ token.Abort = sym is ∙ e in cc), refl)

@@ -9,7 +9,7 @@ use Rattle.hoa_reader.proofs.Leading.{goes_nowhere, takes_behind}
 use Rattle.hoa_reader.proofs.Moving.{fails_after, fails_first, moves_fault, moves_nowhere, no_memory, reads_as, reads_more, reads_then, takes, tells_same}
 use Rattle.hoa_reader.proofs.Tokens.{token_passed}
 use Rattle.hoa_reader.specs.Expecting.{Move, Part, Passes, Takes, behind, move, moved, open_at}
-use Rattle.hoa_reader.specs.Parsing.{Advances, Fails, Passed, Place, Reads, State, is_end, place, unread_in}
+use Rattle.hoa_reader.specs.Parsing.{Advances, Fails, Passed, Place, Reads, State, is_end, place}
 use Rattle.hoa_reader.specs.Standing.{most_depth}
 use Rattle.hoa_reader.specs.declared.fault.ReadFault.{ReadFault}
 use Rattle.hoa_reader.specs.declared.fault.ReadFault.TheVariants as fault
@@ -44,7 +44,7 @@ pub too_deep : {T : Type 0} (part : Part) (parts others r : List Part) (z : Toke
     → Reads (part ∷ others) r R (Err fault.Depth) s s
 too_deep part parts others r z R s unspent is goes over far same = record {
   moves = moves_fault {S = ℕ} 0 fault.Depth s s tt (moves_nowhere {T = ℕ} 0 s unspent);
-  text = tells_same s (λ x y. Fails fault.Depth (part ∷ others) (place s x) (unread_in s y)) (λ x. record {
+  text = tells_same s (λ x y. Fails fault.Depth (part ∷ others) (place s x) (place s y)) (λ x. record {
     target = part ∷ others;
     b = place s x;
     goes = goes_nowhere (part ∷ others) (place s x);

@@ -28,6 +28,7 @@ pub mod FollowingStates
 pub mod GrammarExamples
 pub mod Halts
 pub mod HeaderNames
+pub mod Hopeless
 pub mod Indexing
 pub mod ItemsRead
 pub mod Joining

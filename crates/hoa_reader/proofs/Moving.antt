@@ -10,7 +10,7 @@ use Rattle.hoa_reader.proofs.Failing.{fails_behind, fails_here, fails_more, fail
 use Rattle.hoa_reader.proofs.Leading.{goes_more, goes_nowhere, goes_on, goes_past, goes_then}
 use Rattle.hoa_reader.specs.Expecting.{Part, Takes, behind, move, open_at}
 use Rattle.hoa_reader.specs.Expecting as expecting
-use Rattle.hoa_reader.specs.Parsing.{Advances, Fails, Moves, Passed, Place, Reads, State, Tells, TookAll, is_end, place, refusal, unread_in}
+use Rattle.hoa_reader.specs.Parsing.{Advances, Fails, Moves, Passed, Place, Reads, State, Tells, TookAll, is_end, place, refusal}
 use Rattle.hoa_reader.specs.Reads.{CountsFaults}
 use Rattle.hoa_reader.specs.Standing.{most_depth}
 use Rattle.hoa_reader.specs.declared.fault.ReadFault.{ReadFault}
@@ -166,7 +166,7 @@ pub fails_after : {S T U : Type 0} (p q r t : List Part) (P : S → Place → Pl
     → Reads p q P (Ok v) s m → Reads q r Q (Err f) m s' → Reads p t R (Err f) s s'
 fails_after p q r t P Q R v f s m s' one two = record {
   moves = moves_err f s s' (moves_then v (Err f) s m s' one.moves two.moves);
-  text = tells_then s m s' _ _ _ (λ i j k h g. fails_then f p q (place s i) (place m j) (unread_in s' k) h.1 g) one.text two.text;
+  text = tells_then s m s' _ _ _ (λ i j k h g. fails_then f p q (place s i) (place m j) (place s' k) h.1 g) one.text two.text;
 }
 
 -- behind the parts more is expected
@@ -179,7 +179,7 @@ reads_more p q more P v s s' one = record {
 pub fails_first : {S T : Type 0} (p q r more : List Part) (P : S → Place → Place → Type 0) (R : T → Place → Place → Type 0) (f : ReadFault) (s s' : State) → Reads p q P (Err f) s s' → Reads (p ++ more) r R (Err f) s s'
 fails_first p q r more P R f s s' one = record {
   moves = moves_err f s s' one.moves;
-  text = tells_as s s' _ _ (λ x y h. fails_more f p more (place s x) (unread_in s' y) h) one.text;
+  text = tells_as s s' _ _ (λ x y h. fails_more f p more (place s x) (place s' y) h) one.text;
 }
 
 -- another value is answered
@@ -209,7 +209,7 @@ pub takes_last : {T : Type 0} (part : Part) (parts others r : List Part) (R : T 
     → Reads (part ∷ others) r R (Err f) s s'
 takes_last part parts others r R z f s s' is goes opens unended one = record {
   moves = moves_err f s s' one.moves;
-  text = tells_as s s' _ _ (λ x y h. fails_behind f part parts others (place s x) (unread_in s' y) (ap (move part) is ∙ goes) opens (ap is_end is ∙ unended) h) one.text;
+  text = tells_as s s' _ _ (λ x y h. fails_behind f part parts others (place s x) (place s' y) (ap (move part) is ∙ goes) opens (ap is_end is ∙ unended) h) one.text;
 }
 
 -- it stands behind the first part
@@ -222,7 +222,7 @@ passes part others r R v s s' over one = record {
 pub passes_then_fails : {T : Type 0} (part : Part) (others r : List Part) (R : T → Place → Place → Type 0) (f : ReadFault) (s s' : State) → move part s.ahead ≡ expecting.Passes → Reads others r R (Err f) s s' → Reads (part ∷ others) r R (Err f) s s'
 passes_then_fails part others r R f s s' over one = record {
   moves = one.moves;
-  text = tells_as s s' _ _ (λ x y h. fails_then f (part ∷ others) others (place s x) (place s x) (unread_in s' y) (goes_past part others (place s x) over) h) one.text;
+  text = tells_as s s' _ _ (λ x y h. fails_then f (part ∷ others) others (place s x) (place s x) (place s' y) (goes_past part others (place s x) over) h) one.text;
 }
 
 -- memory was wanting
@@ -240,5 +240,5 @@ own_refusal z k = tt
 pub refuses : {T : Type 0} (p r : List Part) (R : T → Place → Place → Type 0) (s : State) → s.lexer.spent ≡ false → ((most : ℕ) (others : List Part) → behind most (p ++ others) s.ahead ≡ None) → Reads p r R (Err (refusal s.ahead s.lexer.offset)) s s
 refuses p r R s unspent refused = record {
   moves = moves_fault {S = ℕ} 0 (refusal s.ahead s.lexer.offset) s s (own_refusal s.ahead s.lexer.offset) (moves_nowhere {T = ℕ} 0 s unspent);
-  text = tells_same s (λ x y. Fails (refusal s.ahead s.lexer.offset) p (place s x) (unread_in s y)) (λ x. fails_here p (place s x) s.ahead (unread_in s x) refl refused);
+  text = tells_same s (λ x y. Fails (refusal s.ahead s.lexer.offset) p (place s x) (place s y)) (λ x. fails_here p (place s x) s.ahead refl refused);
 }

@@ -43,7 +43,7 @@ next_on input rest more start i t n = record {
   front = front_on n.bytes rest more t n.front;
 }
 
-place_on : (start : ℕ) (text rest more : List ℕ) → start + (length text - length rest) ≡ start + (length (text ++ more) - length (rest ++ more))
+pub place_on : (start : ℕ) (text rest more : List ℕ) → start + (length text - length rest) ≡ start + (length (text ++ more) - length (rest ++ more))
 place_on start text rest more = omega (arith, length-append text more, length-append rest more)
 
 lexes_on : (input : List ℕ) (start : ℕ) (ts : List (Token × ℕ)) (rest more : List ℕ) → Lexes input start ts rest → Lexes (input ++ more) start ts (rest ++ more)
@@ -94,7 +94,7 @@ no_token_on bytes more n = record {
   no_token = λ g. n.no_token (begins_back bytes more g);
 }
 
-no_token_at_on : (k used : ℕ) (rest more : List ℕ) → IsNoTokenAt k used rest → IsNoTokenAt k used (rest ++ more)
+pub no_token_at_on : (k used : ℕ) (rest more : List ℕ) → IsNoTokenAt k used rest → IsNoTokenAt k used (rest ++ more)
 no_token_at_on k used rest more n = record {
   before = n.before;
   bytes = n.bytes ++ more;

@@ -6,7 +6,7 @@ use Rattle.hoa_lexer.specs.Blanks.{IsBlanks}
 use Rattle.hoa_lexer.proofs.Between.{between_as, between_both, between_then}
 use Rattle.hoa_lexer.specs.Reading as lexing
 use Rattle.hoa_lexer.specs.Reading.{Between, held_count, unread}
-use Rattle.hoa_lexer.specs.Text.{IsNext}
+use Rattle.hoa_lexer.specs.Text.{IsNext, IsShownBy}
 use Rattle.hoa_lexer.specs.declared.lexer.Lexer.{Lexer}
 use Rattle.hoa_lexer.specs.declared.token.LexFault.{LexFault}
 use Rattle.hoa_lexer.specs.declared.token.LexFault.TheVariants as lex
@@ -22,7 +22,7 @@ use Rattle.hoa_reader.specs.Expecting as part
 use Rattle.hoa_reader.specs.Expecting.{Part, after, behind, move}
 use Rattle.hoa_reader.specs.Faults.{read_fault}
 use Rattle.hoa_reader.specs.Grammar.{AutomatonPhrase, automaton_tokens, item_tokens, state_tokens}
-use Rattle.hoa_reader.specs.Parsing.{AsksPast, Fails, Goes, Passed, Place, Reads, Refuses, Says, State, TooDeep, Unended, Unread, place, unread_in}
+use Rattle.hoa_reader.specs.Parsing.{AsksPast, Fails, Goes, Passed, Place, Reads, Refuses, Says, State, TooDeep, Unended, Unread, place}
 use Rattle.hoa_reader.specs.Parts.{IsAutomaton, open_tokens}
 use Rattle.hoa_reader.specs.Raw.{written}
 use Rattle.hoa_reader.specs.Reads.{Answers, AsksOn}
@@ -48,11 +48,11 @@ pub record Starts (start : ℕ) (text : List ℕ) (a : Place) : Type 0 where
   pub used : a.used ≡ start + (length text - length a.rest)
 
 -- before any token
-nothing_begun : (start : ℕ) (text : List ℕ) → IsBegun start text [] start text
+pub nothing_begun : (start : ℕ) (text : List ℕ) → IsBegun start text [] start text
 nothing_begun start text = record { placed = []; shown = refl; lexes = refl; used_is = omega arith; viable = nothing_viable; unfinished = nothing_unfinished }
 
 -- before the token of `b`
-begun_before : (start : ℕ) (text : List ℕ) (a b : Place) (target : List Part) (g : Goes (part.Whole ∷ []) a target b) (s : StandBefore start text g.tokens b) → IsBegun start text g.tokens s.used s.rest
+pub begun_before : (start : ℕ) (text : List ℕ) (a b : Place) (target : List Part) (g : Goes (part.Whole ∷ []) a target b) (s : StandBefore start text g.tokens b) → IsBegun start text g.tokens s.used s.rest
 begun_before start text a b target g s = record {
   placed = s.placed;
   shown = s.shown;
@@ -63,7 +63,7 @@ begun_before start text a b target g s = record {
 }
 
 -- behind it
-begun_with : (start : ℕ) (text : List ℕ) (a : Place) (P : ℕ → List ℕ → Type 0) (u : Unread (part.Whole ∷ []) a P) → Starts start text a → IsBegun start text (u.goes.tokens ++ u.b.token ∷ []) u.b.used u.b.rest
+pub begun_with : (start : ℕ) (text : List ℕ) (a : Place) (P : ℕ → List ℕ → Type 0) (u : Unread (part.Whole ∷ []) a P) → Starts start text a → IsBegun start text (u.goes.tokens ++ u.b.token ∷ []) u.b.used u.b.rest
 begun_with start text a P u starts =
     let g = u.goes in
     let s = stand_with start text a u.b g.tokens starts.next starts.used g.passed in
@@ -105,8 +105,8 @@ misplaced start text a b k starts r at other =
       });
     }
 
-no_token : (start : ℕ) (text : List ℕ) (a : Place) (k : ℕ) → Starts start text a → Unread (part.Whole ∷ []) a (λ used rest. IsNoTokenAt k used rest) → IsBad start text k
-no_token start text a k starts u = record { tokens = u.goes.tokens ++ u.b.token ∷ []; used = u.b.used; rest = u.b.rest; begun = begun_with start text a _ u starts; fault = inr u.bytes }
+no_token : (start : ℕ) (text : List ℕ) (a : Place) (k : ℕ) (new : List ℕ) → Starts start text a → Unread (part.Whole ∷ []) a (λ used rest. IsNoTokenAt k used rest × IsShownBy k used rest new) → IsBad start text k
+no_token start text a k new starts u = record { tokens = u.goes.tokens ++ u.b.token ∷ []; used = u.b.used; rest = u.b.rest; begun = begun_with start text a _ u starts; fault = inr u.bytes.0 }
 
 aborted : (start : ℕ) (text : List ℕ) (a b : Place) → Starts start text a → a.token ≡ opening → Refuses (part.Whole ∷ []) a b → b.token ≡ token.Abort → IsAborted start text
 aborted start text a b starts is r abort =
@@ -167,15 +167,15 @@ asks_on start text a new starts u = record {
 }
 
 -- why no automaton was read
-pub answers_fault : (f : ReadFault) (start : ℕ) (text : List ℕ) (a : Place) (new : List ℕ) → Starts start text a → a.token ≡ opening → Fails f (part.Whole ∷ []) a new → Answers (Err f) start text new
-answers_fault (fault.Syntax k) start text a new starts is (inl h) = misplaced start text a h.0 k starts h.1 h.2 h.3
-answers_fault (fault.Syntax k) start text a new starts is (inr h) = no_token start text a k starts h
-answers_fault fault.Truncated start text a new starts is h = cut start text a starts h
-answers_fault fault.Aborted start text a new starts is h = aborted start text a h.0 starts is h.1 h.2
-answers_fault fault.Depth start text a new starts is h = too_deep start text a starts h
-answers_fault fault.Bytes start text a new starts is h = asks_on start text a new starts h
-answers_fault fault.Read start text a new starts is h = tt
-answers_fault fault.Memory start text a new starts is h = tt
+pub answers_fault : (f : ReadFault) (start : ℕ) (text : List ℕ) (a last : Place) → Starts start text a → a.token ≡ opening → Fails f (part.Whole ∷ []) a last → Answers (Err f) start text last.rest
+answers_fault (fault.Syntax k) start text a last starts is (inl h) = misplaced start text a h.0 k starts h.1 h.2 h.3
+answers_fault (fault.Syntax k) start text a last starts is (inr h) = no_token start text a k last.rest starts h
+answers_fault fault.Truncated start text a last starts is h = cut start text a starts h
+answers_fault fault.Aborted start text a last starts is h = aborted start text a h.0 starts is h.1 h.2
+answers_fault fault.Depth start text a last starts is h = too_deep start text a starts h
+answers_fault fault.Bytes start text a last starts is h = asks_on start text a last.rest starts h
+answers_fault fault.Read start text a last starts is h = tt
+answers_fault fault.Memory start text a last starts is h = tt
 
 -- an automaton that was read
 pub answers_whole : (raw : Raw) (start : ℕ) (text : List ℕ) (a b : Place) → Starts start text a → IsAutomaton raw a b → IsWhole start text (written raw) b.rest
@@ -239,20 +239,20 @@ between_none : (l k : Option (List ℕ)) (P : List ℕ → List ℕ → Type 0) 
 between_none None k P h e = h
 between_none (Some x) k P h e = let no : Some x ≡ None = e in cc
 
-first_so : (t : Option Token) (z : Token) (start offset : ℕ) (old new : List ℕ) → t ≡ Some z → lexing.Answers (Ok t) start offset old new → IsNext old start z offset new
+pub first_so : (t : Option Token) (z : Token) (start offset : ℕ) (old new : List ℕ) → t ≡ Some z → lexing.Answers (Ok t) start offset old new → IsNext old start z offset new
 first_so t z start offset old new some h = subst (λ (o : Option Token). lexing.Answers (Ok o) start offset old new) some h
 
 -- what the lexer said of the first token, and what was read then
-said_then : {T : Type 0} (t : Option Token) (lexer : Lexer) (left : Option (List ℕ)) (s s' : State) (r : Result T ReadFault) (Q : T → Place → Place → Type 0) (R : List ℕ → List ℕ → Type 0)
+pub said_then : {T : Type 0} (t : Option Token) (lexer : Lexer) (left : Option (List ℕ)) (s s' : State) (r : Result T ReadFault) (Q : T → Place → Place → Type 0) (R : List ℕ → List ℕ → Type 0)
     → t ≡ Some s.ahead → Between left s.left (λ x y. lexing.Answers (Ok t) (lexer.since - held_count lexer.held) s.lexer.offset (unread lexer.held x) (unread s.lexer.held y))
     → Between left s.left (λ x y. s.lexer.taken + length y ≡ lexer.taken + length x)
     → s.lexer.since + lexer.taken ≡ lexer.since + s.lexer.taken → lexer.taken ≤ s.lexer.taken → Reads (part.Whole ∷ []) (part.States ∷ []) Q r s s'
-    → ((x y z : List ℕ) → Starts (lexer.since - held_count lexer.held) (unread lexer.held x) (place s y) → Says (part.Whole ∷ []) (part.States ∷ []) Q r (place s y) (place s' z) (unread_in s' z) → R x z)
+    → ((x y z : List ℕ) → Starts (lexer.since - held_count lexer.held) (unread lexer.held x) (place s y) → Says (part.Whole ∷ []) (part.States ∷ []) Q r (place s y) (place s' z) → R x z)
     → Between left s'.left R
 said_then t lexer left s s' r Q R some next took since later read f =
     between_then left s.left s'.left
     (λ x y. Starts (lexer.since - held_count lexer.held) (unread lexer.held x) (place s y))
-    (λ y z. Says (part.Whole ∷ []) (part.States ∷ []) Q r (place s y) (place s' z) (unread_in s' z)) R f
+    (λ y z. Says (part.Whole ∷ []) (part.States ∷ []) Q r (place s y) (place s' z)) R f
     (between_both left s.left _ _ _ (λ x y h k. starts_so lexer s x y (first_so t s.ahead _ _ _ _ some h) since k later) next took)
     (between_tells s.left s'.left _ (between_none s.left s'.left _ read.moves.taken) read.text)
 
@@ -270,7 +270,7 @@ pub raw_fault : (f : ReadFault) (t : Option Token) (lexer : Lexer) (left : Optio
     → s.lexer.since + lexer.taken ≡ lexer.since + s.lexer.taken → lexer.taken ≤ s.lexer.taken → Reads (part.Whole ∷ []) (part.States ∷ []) IsAutomaton (Err f) s s'
     → Between left s'.left (λ x z. Answers (Err f) (lexer.since - held_count lexer.held) (unread lexer.held x) (unread s'.lexer.held z))
 raw_fault f t lexer left s s' opens some next took since later read =
-    said_then t lexer left s s' (Err f) IsAutomaton _ some next took since later read (λ x y z starts says. answers_fault f _ _ (place s y) (unread_in s' z) starts opens says)
+    said_then t lexer left s s' (Err f) IsAutomaton _ some next took since later read (λ x y z starts says. answers_fault f _ _ (place s y) (place s' z) starts opens says)
 
 -- the lexer gave no token
 pub raw_unlexed : (f : LexFault) (g : ReadFault) (start offset : ℕ) (left left' : Option (List ℕ)) (held held' : Option ℕ) → g ≡ read_fault f

@@ -5,7 +5,7 @@ use Rattle.aut_io.specs.Outside.{Texts}
 use Rattle.hoa_lexer.specs.Blanks.{IsBlanks}
 use Rattle.hoa_lexer.specs.Reading.{Between, held_count, unread}
 use Rattle.hoa_lexer.specs.Spelling.{closes_itself}
-use Rattle.hoa_lexer.specs.Text.{AsksForMore, IsNext}
+use Rattle.hoa_lexer.specs.Text.{AsksForMore, IsNext, IsShownBy}
 use Rattle.hoa_lexer.specs.declared.lexer.Lexer.{Lexer}
 use Rattle.hoa_lexer.specs.declared.token.Token.{Token}
 use Rattle.hoa_lexer.specs.declared.token.Token.TheVariants as token
@@ -15,17 +15,20 @@ use Rattle.hoa_reader.specs.Standing.{EndsOpen, IsNoTokenAt, most_depth}
 use Rattle.hoa_reader.specs.declared.fault.ReadFault.{ReadFault}
 use Rattle.hoa_reader.specs.declared.fault.ReadFault.TheVariants as fault
 
--- a token at hand, where it begins, how many bytes of the text were used with it, and the bytes behind it
+-- a token at hand, where it begins, how many bytes of the text were used with it, the byte behind it that is held, if
+-- any, and the bytes behind it
 pub record Place : Type 0 where
   pub token : Token
   pub offset : ℕ
   pub used : ℕ
+  pub held : Option ℕ
   pub rest : List ℕ
 
--- the token of `b` is the next one after that of `a`
+-- the token of `b` is the next one after that of `a`, and a byte past it is held where that was needed to close it
 pub record Follows (a b : Place) : Type 0 where
   pub next : IsNext a.rest a.used b.token b.offset b.rest
   pub used : b.used ≡ a.used + (length a.rest - length b.rest)
+  pub holds : is_some b.held ≡ not (closes_itself b.token)
 
 -- from `a` on these tokens were passed, and that of `b` is at hand
 abbrev pub Passed : Place → List Token → Place → Type 0
@@ -89,23 +92,24 @@ pub record AsksPast (new rest : List ℕ) : Type 0 where
 
 -- why the lexer gave no token behind `used` bytes of the text
 abbrev pub Unlexed : ReadFault → List ℕ → ℕ → List ℕ → Type 0
-Unlexed (fault.Syntax k) new used rest = IsNoTokenAt k used rest
+Unlexed (fault.Syntax k) new used rest = IsNoTokenAt k used rest × IsShownBy k used rest new
 Unlexed fault.Truncated new used rest = IsBlanks rest ⊎ EndsOpen rest
 Unlexed fault.Bytes new used rest = AsksPast new rest
 Unlexed fault.Read new used rest = Unit {0}
 Unlexed fault.Memory new used rest = Unit {0}
 Unlexed _ new used rest = ⊥
 
--- why these parts could not be read from `a` on
-abbrev pub Fails : ReadFault → List Part → Place → List ℕ → Type 0
-Fails (fault.Syntax k) parts a new =
-    ((b : Place) × Refuses parts a b × (k ≡ b.offset) × (b.token ≢ token.Abort)) ⊎ Unread parts a (λ used rest. IsNoTokenAt k used rest)
-Fails fault.Aborted parts a new = (b : Place) × Refuses parts a b × (b.token ≡ token.Abort)
-Fails fault.Depth parts a new = TooDeep parts a
-Fails fault.Truncated parts a new = Unread parts a (λ used rest. IsBlanks rest ⊎ EndsOpen rest)
-Fails fault.Bytes parts a new = Unread parts a (λ used rest. AsksPast new rest)
-Fails fault.Read parts a new = Unit {0}
-Fails fault.Memory parts a new = Unit {0}
+-- why these parts could not be read from `a` on, where the reader stopped at `last`
+abbrev pub Fails : ReadFault → List Part → Place → Place → Type 0
+Fails (fault.Syntax k) parts a last =
+    ((b : Place) × Refuses parts a b × (k ≡ b.offset) × (b.token ≢ token.Abort) × (b ≡ last))
+    ⊎ Unread parts a (λ used rest. IsNoTokenAt k used rest × IsShownBy k used rest last.rest)
+Fails fault.Aborted parts a last = (b : Place) × Refuses parts a b × (b.token ≡ token.Abort)
+Fails fault.Depth parts a last = TooDeep parts a
+Fails fault.Truncated parts a last = Unread parts a (λ used rest. IsBlanks rest ⊎ EndsOpen rest)
+Fails fault.Bytes parts a last = Unread parts a (λ used rest. AsksPast last.rest rest)
+Fails fault.Read parts a last = Unit {0}
+Fails fault.Memory parts a last = Unit {0}
 
 -- what is answered of a token that cannot stand at its offset
 abbrev pub refusal : Token → ℕ → ReadFault
@@ -126,7 +130,7 @@ state lexer ahead left reads opens texts = record { lexer = lexer; ahead = ahead
 
 -- the place where a reader stands, where this is left of the inputs
 abbrev pub place : State → List ℕ → Place
-place s left = record { token = s.ahead; offset = s.lexer.offset; used = s.lexer.since - held_count s.lexer.held; rest = unread s.lexer.held left }
+place s left = record { token = s.ahead; offset = s.lexer.offset; used = s.lexer.since - held_count s.lexer.held; held = s.lexer.held; rest = unread s.lexer.held left }
 
 -- what is not read yet
 abbrev pub unread_in : State → List ℕ → List ℕ
@@ -172,14 +176,14 @@ pub record Advances {T : Type 0} (result : Result T ReadFault) (s s' : State) : 
 
 -- What an answer says of the places before and after: the parts were read up to `target` and `Q` is true of the value,
 -- or why they could not be.
-abbrev pub Says : {T : Type 0} → List Part → List Part → (T → Place → Place → Type 0) → Result T ReadFault → Place → Place → List ℕ → Type 0
-Says parts target Q (Ok value) a b new = Q value a b × Goes parts a target b
-Says parts target Q (Err fault) a b new = Fails fault parts a new
+abbrev pub Says : {T : Type 0} → List Part → List Part → (T → Place → Place → Type 0) → Result T ReadFault → Place → Place → Type 0
+Says parts target Q (Ok value) a b = Q value a b × Goes parts a target b
+Says parts target Q (Err fault) a b = Fails fault parts a b
 
 -- The parts are read as far as `target`, and `Q` is true of the value that is answered.
 pub record Reads {T : Type 0} (parts target : List Part) (Q : T → Place → Place → Type 0) (result : Result T ReadFault) (s s' : State) : Type 0 where
   pub moves : Moves result s s'
-  pub text : Tells s s' (λ x y. Says parts target Q result (place s x) (place s' y) (unread_in s' y))
+  pub text : Tells s s' (λ x y. Says parts target Q result (place s x) (place s' y))
 
 -- It is written so from `a` to `b`.
 pub record IsWritten {X Y : Type 0} (Within : X → Type 0) (tokens : X → List Token) (meaning : X → Y) (value : Y) (a b : Place) : Type 0 where

@@ -3,8 +3,8 @@ use Rattle.std.specs.Prelude.{◌≡◌, ℕ, List, [], ◌++◌, Option, Some, 
 use Rattle.aut_io.specs.Outside.{Rose}
 use Rattle.hoa_lexer.specs.Text.{AsksForMore}
 use Rattle.hoa_lexer.specs.declared.token.Token.{Token}
-use Rattle.hoa_reader.specs.Raw.{written}
-use Rattle.hoa_reader.specs.Standing.{IsBegun, Stands, Blank, Whole, Deep, Bad, Aborted, Cut}
+use Rattle.hoa_reader.specs.Raw.{Written, written}
+use Rattle.hoa_reader.specs.Standing.{IsBad, IsBegun, IsWhole, Stands, Blank, Whole, Deep, Bad, Aborted, Cut}
 use Rattle.hoa_reader.specs.declared.fault.ReadFault.{ReadFault}
 use Rattle.hoa_reader.specs.declared.fault.ReadFault.TheVariants as fault
 use Rattle.hoa_reader.specs.declared.raw.Raw.{Raw}
@@ -30,6 +30,19 @@ Answers (Err fault.Depth) start old new = Stands Deep start old
 Answers (Err fault.Bytes) start old new = AsksOn start old new
 Answers (Err fault.Read) start old new = Unit {0}
 Answers (Err fault.Memory) start old new = Unit {0}
+
+-- The bytes that were taken show that the text cannot go on at offset k as it does: no text that begins with them begins
+-- with an automaton.
+pub record IsHopeless (k start : ℕ) (old left : List ℕ) : Type 0 where
+  pub used : List ℕ
+  pub split : old ≡ used ++ left
+  pub bad : IsBad start used k
+  pub hopeless : (more : List ℕ) (w : Written) (rest : List ℕ) → IsWhole start (used ++ more) w rest → ⊥
+
+-- What the bytes that were taken show of a fault. `left` is what is left in the inputs, behind a byte that is held.
+abbrev pub Shows : ReadFault → ℕ → List ℕ → List ℕ → Type 0
+Shows (fault.Syntax k) start old left = IsHopeless k start old left
+Shows _ start old left = Unit {0}
 
 -- A fault of reading is answered only where their count rose, and no other answer comes where a read failed.
 abbrev pub CountsFaults : {T : Type 0} → Result T ReadFault → ℕ → ℕ → Type 0

@@ -1,8 +1,8 @@
 //! From bytes to one automaton.
 
-ghost use Rattle.std.specs.Prelude.{◌≡◌, ◌+◌, ◌-◌, ◌≤◌, ◌<◌, length, None, false, IfOk, OnOk, IsSome, IsErrOf};
+ghost use Rattle.std.specs.Prelude.{◌≡◌, ◌+◌, ◌-◌, ◌≤◌, ◌<◌, length, None, false, IfErr, IfOk, OnOk, IsSome, IsErrOf};
 ghost use Rattle.hoa_lexer.specs.Reading.{Between, held_count, unread};
-ghost use Rattle.hoa_reader.specs.Reads.{Answers, CountsFaults};
+ghost use Rattle.hoa_reader.specs.Reads.{Answers, CountsFaults, Shows};
 
 use crate::parse::{automaton, opens};
 use crate::{Raw, ReadFault};
@@ -22,6 +22,9 @@ pub fn read_raw<I: Inputs>(
     // The answer, by the bytes that were not read yet.
     ensures answers { Between (I.left inputs.old) (I.left inputs.new) (λ old new.
         Answers result (lexer.old.since - held_count lexer.old.held) (unread lexer.old.held old) (unread lexer.new.held new)) }
+    // Where it is a fault of syntax, the bytes that were taken show it, however the text goes on.
+    ensures shown { IfErr result (λ fault. Between (I.left inputs.old) (I.left inputs.new) (λ old new.
+        Shows fault (lexer.old.since - held_count lexer.old.held) (unread lexer.old.held old) new)) }
     ensures held { OnOk result (lexer.new.held ≡ None) }
     ensures spent { OnOk result (lexer.new.spent ≡ false) }
 
