@@ -499,8 +499,8 @@ fn reads_texts_in_the_style_of_other_tools(rt: HostRuntime) -> Result<(), Fail> 
 /// An automaton whose one label is the last of so many aliases. Each negates or doubles the one before.
 fn with_aliases(alloc: Global, last: u32, doubles: bool) -> Result<Text, Fail> {
     let mut text = Text::from_bytes(alloc, b"HOA: v1 AP: 1 \"a\" Acceptance: 0 t Alias: @a0 0 ")?;
-    for number in 1..last + 1 {
-        let before = number - 1;
+    for before in 0..last {
+        let number = before + 1;
         let line = if doubles {
             format!(in alloc; "Alias: @a{number} @a{before} & @a{before} ")?
         } else {
