@@ -1,7 +1,10 @@
 pub mod Acceptance
 pub mod Automaton
+pub mod CanonicalLabel
 pub mod Examples
 pub mod Formula
 pub mod Label
+pub mod LabelText
 pub mod Marks
+pub mod Valuation
 pub mod Word

@@ -26,4 +26,4 @@ pub use limit::{
 };
 pub use marks::Marks;
 pub use names::Names;
-pub use seq::{Numbers, Seq, Text, Words};
+pub use seq::{Arcs, Flags, Numbers, Places, Seq, Text, Words};

@@ -23,6 +23,15 @@ pub type Words = Seq<Text>;
 /// Numbers of states, or any others.
 pub type Numbers = Seq<u32>;
 
+/// Arcs of a graph, each from a node to a node.
+pub type Arcs = Seq<(u32, u32)>;
+
+/// Truth values, as one for each node of a graph.
+pub type Flags = Seq<bool>;
+
+/// Places in a list, from 0.
+pub type Places = Seq<usize>;
+
 impl<T> Model for Seq<T> {
     ghost use Rattle.std.specs.Prelude.{List};
 
