@@ -1,5 +1,5 @@
 -- An automaton with one state accepts a word exactly where the marks along the word's cycle meet its condition.
-use Rattle.std.proofs.Common.{◌≡◌, ◌∙◌, ◌↔◌, ℕ, zero, suc, ◌<◌, Bool, true, false, not, List, [], ◌∷◌, ◌++◌, map, Contains, get_or, lit<, refl, sym, ap, subst, arith}
+use Rattle.std.proofs.Common.{◌≡◌, ◌∙◌, ◌↔◌, ℕ, zero, suc, ◌<◌, Bool, true, false, not, List, [], ◌∷◌, ◌++◌, map, length, Contains, get_or, lit<, refl, sym, ap, subst, arith}
 use Rattle.std.specs.FinSet.{contains}
 use Rattle.aut_base.specs.Acceptance.{Accepts, IsPath}
 use Rattle.aut_base.specs.Automaton.{Arrow}
@@ -66,8 +66,8 @@ marks_along at_on at_off sets f p (x ∷ xs) [] q path = absurd path
 marks_along at_on at_off sets f p (x ∷ xs) (e ∷ es) q path =
     cc (forced at_on at_off sets f x e path.1 path.2, marks_along at_on at_off sets f e.to xs es q path.3)
 
-pub one_state_accepts : (at_on at_off : List ℕ) (sets : ℕ) (f : FormulaTree) (u v : List Sign) → Accepts (one_state at_on at_off sets f) u v ↔ (met (map (marks_at at_on at_off) v) f ≡ true)
-one_state_accepts at_on at_off sets f u v = (from, to)
+pub one_state_accepts : (at_on at_off : List ℕ) (sets : ℕ) (f : FormulaTree) (u v : List Sign) → 0 < length v → Accepts (one_state at_on at_off sets f) u v ↔ (met (map (marks_at at_on at_off) v) f ≡ true)
+one_state_accepts at_on at_off sets f u v endless = (from, to)
   where
     -- however often the cycle is gone, the marks are the same
     same_marks : (k p q : ℕ) (cycle : List Arrow) → 0 < k → IsPath (one_state at_on at_off sets f) p (copies k v) cycle q → met (map (λ e. e.marks) cycle) f ≡ met (map (marks_at at_on at_off) v) f
@@ -81,6 +81,7 @@ one_state_accepts at_on at_off sets f u v = (from, to)
     to h =
         let round = goes at_on at_off sets f (copies 1 v) in
         record {
+          endless = endless;
           start = 0;
           state = 0;
           turns = 0;

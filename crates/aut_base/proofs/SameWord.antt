@@ -141,6 +141,7 @@ taken_up a w o l x y g some spells m =
     let gone : length (copies m.rounds y) ≡ m.rounds * length y = length-copies m.rounds y in
     let P : ℕ → Type 0 = λ n. Reads a w n t.here (back ++ front) t.here in
     record {
+      endless = some;
       start = g.start;
       state = t.here;
       turns = m.turns;

@@ -15,9 +15,10 @@ IsPath a p (x ∷ xs) [] q = ⊥
 IsPath a p (x ∷ xs) (e ∷ es) q =
     (p ≡ e.from) × Contains a.edges e × (truth (holds_at a.names x) e.label ≡ true) × IsPath a e.to xs es q
 
--- The automaton accepts the lasso word: a path from a start reads the stem and then the cycle `turns` times, and
--- one from its end back to that end reads the cycle `rounds` times and meets the acceptance condition.
+-- The automaton accepts the lasso word, whose cycle isn't empty: a path from a start reads the stem and then the cycle
+-- `turns` times, and one from its end back to that end reads the cycle `rounds` times and meets the acceptance condition.
 pub record Accepts (a : Automaton) (u v : List Sign) : Type 0 where
+  pub endless : 0 < length v
   pub start : ℕ
   pub state : ℕ
   pub turns : ℕ

@@ -34,9 +34,12 @@ pub record IsArrowOf (a : Automaton) (e : Arrow) : Type 0 where
   pub to : e.to < a.states
   pub label : AllBelow (length a.names) e.label
   pub marks : All (λ mark. mark < a.sets) e.marks
+  pub marks_rise : AllPairs (λ m n. m < n) e.marks
 
--- Starts are distinct, edges stand in the order of the states that they leave, and every number is in range.
+-- Names differ, starts are distinct, edges stand in the order of the states that they leave, the marks of an edge rise,
+-- and every number is in range.
 pub record IsWellFormed (a : Automaton) : Type 0 where
+  pub names_differ : AllPairs (λ name other. name ≢ other) a.names
   pub starts_differ : AllPairs (λ p q. p ≢ q) a.starts
   pub starts : All (λ p. p < a.states) a.starts
   pub in_order : IsNonDecreasing (map (λ e. e.from) a.edges)

@@ -65,6 +65,39 @@ off_again = one_state (0 ∷ 1 ∷ []) (1 ∷ []) 2 barred
 abbrev pub never : Automaton
 never = one_state (0 ∷ 1 ∷ []) (0 ∷ []) 2 barred
 
+-- Every other edge is in set 0, whatever is read: a cycle of one letter has to be gone round twice.
+abbrev pub alternating : Automaton
+alternating = record {
+  names = name_a ∷ [];
+  starts = 0 ∷ [];
+  states = 2;
+  edges = edge 0 LabelTree.True 1 [] ∷ edge 1 LabelTree.True 0 (0 ∷ []) ∷ [];
+  sets = 1;
+  formula = FormulaTree.Inf 0 false;
+}
+
+-- For ever on or for ever off, by the start.
+abbrev pub either_way : List ℕ → Automaton
+either_way starts = record {
+  names = name_a ∷ [];
+  starts = starts;
+  states = 2;
+  edges = edge 0 a 0 [] ∷ edge 1 (LabelTree.Not a) 1 [] ∷ [];
+  sets = 0;
+  formula = FormulaTree.True;
+}
+
+-- the text "b", of which none of these automata knows
+abbrev pub name_b : List ℕ
+name_b = 98 ∷ []
+
+-- letters with the foreign name, beside `a` and alone
+abbrev pub on_and_foreign : Sign
+on_and_foreign = set.from_list (name_a ∷ name_b ∷ [])
+
+abbrev pub foreign : Sign
+foreign = set.from_list (name_b ∷ [])
+
 pub record WorkedExamples : Type 0 where
   pub again_on : Accepts again [] (on ∷ [])
   pub again_on_off : Accepts again [] (on ∷ off ∷ [])
@@ -83,3 +116,13 @@ pub record WorkedExamples : Type 0 where
   pub off_again_on_off : Accepts off_again [] (on ∷ off ∷ [])
   pub off_again_on : ¬ Accepts off_again [] (on ∷ [])
   pub never_any : (u v : List Sign) → ¬ Accepts never u v
+  pub alternating_on : Accepts alternating [] (on ∷ [])
+  pub alternating_on_off_on : Accepts alternating [] (on ∷ off ∷ on ∷ [])
+  pub two_starts_on : Accepts (either_way (0 ∷ 1 ∷ [])) [] (on ∷ [])
+  pub two_starts_off : Accepts (either_way (0 ∷ 1 ∷ [])) [] (off ∷ [])
+  pub two_starts_on_off : ¬ Accepts (either_way (0 ∷ 1 ∷ [])) [] (on ∷ off ∷ [])
+  pub second_start_on : ¬ Accepts (either_way (1 ∷ [])) [] (on ∷ [])
+  pub no_start_any : (u v : List Sign) → ¬ Accepts (either_way []) u v
+  pub foreign_beside : Accepts again [] (on_and_foreign ∷ [])
+  pub foreign_alone : ¬ Accepts again [] (foreign ∷ [])
+  pub no_cycle : (u : List Sign) → ¬ Accepts again u []

@@ -6,5 +6,6 @@ pub mod Formula
 pub mod Label
 pub mod LabelText
 pub mod Marks
+pub mod Text
 pub mod Valuation
 pub mod Word

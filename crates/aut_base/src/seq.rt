@@ -1,7 +1,8 @@
 //! A list that contracts see as a list: where it lies in memory is out of sight.
 
-ghost use Rattle.std.specs.Prelude.{◌≡◌, ◌==◌, ◌<◌, [], ◌∷◌, ◌++◌, length, slice_get, IfOk, OnOk, OnErr};
+ghost use Rattle.std.specs.Prelude.{◌≡◌, ◌==◌, ◌<◌, ◌↔◌, [], ◌∷◌, ◌++◌, length, slice_get, IsTrue, IfOk, OnOk, OnErr};
 ghost use Rattle.std.specs.List.{slice_index_or};
+ghost use Rattle.aut_base.specs.Text.{same_text};
 
 use crate::Memory;
 use std::alloc::Global;
@@ -131,6 +132,14 @@ impl Seq<u8> {
         ensures { result.now ≡ self.now }
     {
         &self.items
+    }
+
+    /// Whether the text has just these bytes.
+    pub fn is(&self, bytes: &[u8]) -> bool
+        ensures same { result ≡ same_text self.now bytes.now }
+        ensures equal { IsTrue result ↔ (self.now ≡ bytes.now) }
+    {
+        self.as_bytes() == bytes
     }
 
     /// Adds bytes at the end. Refused for want of memory, it leaves the text as it was.

@@ -1,0 +1,7 @@
+-- Texts, which are lists of bytes.
+use Rattle.std.specs.Prelude.{ℕ, Bool, ◌==◌, List}
+use Rattle.std.specs.Cmp.Lexicographic.{pointwise}
+
+-- both texts have the same bytes
+abbrev pub same_text : List ℕ → List ℕ → Bool
+same_text = pointwise ◌==◌
