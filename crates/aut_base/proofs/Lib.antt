@@ -12,3 +12,4 @@ pub mod SameWord
 pub mod Spelled
 pub mod Texts
 pub mod Walks
+pub mod WellFormed

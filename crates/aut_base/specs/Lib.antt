@@ -1,10 +1,12 @@
 pub mod Acceptance
 pub mod Automaton
 pub mod CanonicalLabel
+pub mod Distinct
 pub mod Examples
 pub mod Formula
 pub mod Label
 pub mod LabelText
+pub mod Limits
 pub mod Marks
 pub mod Text
 pub mod Valuation

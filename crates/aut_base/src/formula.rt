@@ -1,9 +1,9 @@
 //! The acceptance condition of an automaton.
 
-ghost use Rattle.std.specs.Prelude.{◌≡◌, ◌<◌, ℕ, not, [], ◌∷◌, ◌++◌, length, map, IfOk, OnOk, OnErr, slice_get};
+ghost use Rattle.std.specs.Prelude.{◌≡◌, ◌<◌, ◌↔◌, ℕ, not, IsTrue, [], ◌∷◌, ◌++◌, length, map, IfOk, OnOk, OnErr, slice_get};
 ghost use Rattle.std.specs.List.{list_any, list_all};
 ghost use Rattle.aut_base.specs.Marks.{is_in};
-ghost use Rattle.aut_base.specs.Formula.{FormulaTree, Parts, trees, met, all_met, some_met, formula_tree, formula_parts, formula_list};
+ghost use Rattle.aut_base.specs.Formula.{FormulaTree, Parts, trees, SetsBelow, EachSetsBelow, met, all_met, some_met, formula_tree, formula_parts, formula_list};
 
 use crate::{Marks, Memory};
 use std::alloc::Global;
@@ -85,6 +85,38 @@ impl Formula {
                 || (parts.second.met_by(cycle) || some_met(&parts.others, cycle)),
         }
     }
+}
+
+impl Formula {
+    /// Whether every acceptance set of the condition is below this number.
+    #[cycle(formula_below)]
+    #[tactic(auto, using(crate::proofs::FormulaTrees::formula_trees))]
+    pub fn is_below(&self, sets: u32) -> bool
+        ensures { IsTrue result ↔ SetsBelow sets (formula_tree self.now) }
+    {
+        match self {
+            Formula::True | Formula::False => true,
+            Formula::Inf { set, .. } => *set < sets,
+            Formula::Fin { set, .. } => *set < sets,
+            Formula::And(parts) => parts.first.is_below(sets)
+                && (parts.second.is_below(sets) && all_below(&parts.others, sets)),
+            Formula::Or(parts) => parts.first.is_below(sets)
+                && (parts.second.is_below(sets) && all_below(&parts.others, sets)),
+        }
+    }
+}
+
+// Whether every acceptance set of these is below the number.
+#[cycle(formula_below)]
+fn all_below(parts: &[Formula], sets: u32) -> bool
+    ensures { IsTrue result ↔ EachSetsBelow sets (trees (map formula_tree parts.now)) }
+{
+    'parts: for part in parts {
+        if !part.is_below(sets) {
+            return false;
+        }
+    }
+    true
 }
 
 #[tactic(auto, using(crate::proofs::FormulaTrees::formula_trees))]

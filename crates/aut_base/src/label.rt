@@ -1,6 +1,6 @@
 //! The label of an edge: a Boolean formula over the propositions.
 
-ghost use Rattle.std.specs.Prelude.{◌≡◌, ◌<◌, ℕ, false, [], ◌∷◌, ◌++◌, length, map, IfOk, OnOk, OnErr, slice_get};
+ghost use Rattle.std.specs.Prelude.{◌≡◌, ◌<◌, ◌↔◌, ℕ, false, IsTrue, [], ◌∷◌, ◌++◌, length, map, IfOk, OnOk, OnErr, slice_get};
 ghost use Rattle.std.specs.List.{slice_index_or};
 ghost use Rattle.aut_base.specs.Label.{LabelTree, Parts, AllBelow, EachBelow, truth, holds_at, all_true, some_true, trees, label_tree, label_parts, label_list};
 
@@ -87,6 +87,38 @@ impl Label {
                 || (parts.second.holds(names, letter) || some_hold(&parts.others, names, letter)),
         }
     }
+}
+
+impl Label {
+    /// Whether every proposition of the label is below this number.
+    #[cycle(label_below)]
+    #[tactic(auto, using(crate::proofs::LabelTrees::label_trees))]
+    pub fn is_below(&self, names: usize) -> bool
+        ensures { IsTrue result ↔ AllBelow names (label_tree self.now) }
+    {
+        match self {
+            Label::True | Label::False => true,
+            Label::Prop(place) => (*place as usize) < names,
+            Label::Not(inner) => inner.is_below(names),
+            Label::And(parts) => parts.first.is_below(names)
+                && (parts.second.is_below(names) && all_below(&parts.others, names)),
+            Label::Or(parts) => parts.first.is_below(names)
+                && (parts.second.is_below(names) && all_below(&parts.others, names)),
+        }
+    }
+}
+
+// Whether every proposition of these is below the number.
+#[cycle(label_below)]
+fn all_below(parts: &[Label], names: usize) -> bool
+    ensures { IsTrue result ↔ EachBelow names (trees (map label_tree parts.now)) }
+{
+    'parts: for part in parts {
+        if !part.is_below(names) {
+            return false;
+        }
+    }
+    true
 }
 
 #[tactic(auto, using(crate::proofs::LabelTrees::label_trees))]

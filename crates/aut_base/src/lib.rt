@@ -14,6 +14,7 @@ mod names;
 mod seq;
 #[cfg(test)]
 mod tests;
+mod well_formed;
 
 pub use description::{Description, Edge, Edges};
 pub use fault::{Failed, Memory, OpenFail};
@@ -23,6 +24,7 @@ pub use law::{same_word_same_verdict, worked_examples};
 pub use letter::{Lasso, Letter, Letters};
 pub use limit::{
     Limit, MOST_ALIASES, MOST_BYTES, MOST_DEPTH, MOST_EDGES, MOST_NAMES, MOST_SETS, MOST_STATES,
+    limits_in_figures,
 };
 pub use marks::Marks;
 pub use names::Names;

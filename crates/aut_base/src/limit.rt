@@ -1,5 +1,7 @@
 //! The limits of a run.
 
+ghost use Rattle.aut_base.specs.Limits.{LimitsInFigures};
+
 /// Which limit was passed.
 #[derive(Clone, Copy, Debug, PartialEq, Eq)]
 pub enum Limit {
@@ -38,3 +40,8 @@ pub const MOST_DEPTH: u32 = 512;
 
 /// The most bytes that a run takes.
 pub const MOST_BYTES: u64 = 1 << 40;
+
+/// The limits in figures.
+pub fn limits_in_figures()
+    ensures { LimitsInFigures }
+{}

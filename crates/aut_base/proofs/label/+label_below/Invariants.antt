@@ -1,0 +1,7 @@
+-- The parts so far are below the number, so what is left decides.
+use Rattle.std.proofs.Common.{◌↔◌, map, drop}
+use Rattle.aut_base.specs.Label.{EachBelow, trees, label_tree}
+use Rattle.aut_base.proofs.label.+label_below.Given as goal
+
+abbrev pub invariant-all_below-parts : goal.invariant-all_below-parts
+invariant-all_below-parts l = EachBelow l.names (trees (map label_tree (drop l.part-index l.parts))) ↔ EachBelow l.names (trees (map label_tree l.parts))
