@@ -14,9 +14,9 @@ use Rattle.hoa_reader.specs.Counts.{AreWithin, Count, Names, Sets, States, Edges
 use Rattle.hoa_reader.specs.Counts as counting
 use Rattle.hoa_reader.specs.Elaborating.{PassesLimit}
 use Rattle.hoa_reader.specs.Gathered.{limit_of}
-use Rattle.hoa_reader.specs.Raw.{Written}
-use Rattle.hoa_reader.specs.Standing as standing
-use Rattle.hoa_reader.specs.Standing.{OneStanding, Standing, Stands}
+use Rattle.hoa_parser.specs.Raw.{Written}
+use Rattle.hoa_parser.specs.Standing as standing
+use Rattle.hoa_parser.specs.Standing.{OneStanding, Standing, Stands}
 use Rattle.hoa_reader.specs.Validity.{IsFirstBroken, IsValid}
 use Rattle.hoa_reader.specs.declared.elaborate.Rule.{Rule}
 

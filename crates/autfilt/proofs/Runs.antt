@@ -12,7 +12,7 @@ use Rattle.autfilt.specs.declared.ended.End.TheVariants as end
 use Rattle.hoa_lexer.proofs.Between.{between_both, between_then}
 use Rattle.hoa_lexer.specs.Blanks.{IsBlanks}
 use Rattle.hoa_lexer.specs.Reading.{Between, unread}
-use Rattle.hoa_reader.specs.Raw.{Written}
+use Rattle.hoa_parser.specs.Raw.{Written}
 
 gains_to : (a b c : Option (List ℕ)) (p : List ℕ) → c ≡ b → Gains a b p → Gains a c p
 gains_to a b c p e g = let P : Option (List ℕ) → Type 0 = λ b. Gains a b p in subst P (sym e) g

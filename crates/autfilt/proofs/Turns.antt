@@ -14,14 +14,14 @@ use Rattle.hoa_reader.specs.Counts.{Count, Names, Sets, States, Edges, Aliases, 
 use Rattle.hoa_reader.specs.Described.{described}
 use Rattle.hoa_reader.specs.Elaborating.{PassesLimit}
 use Rattle.hoa_reader.specs.Gathered.{limit_of}
-use Rattle.hoa_reader.specs.Naming.{name_of}
-use Rattle.hoa_reader.specs.Raw.{Written, written}
-use Rattle.hoa_reader.specs.Reads.{Answers}
-use Rattle.hoa_reader.specs.Standing.{Stands, Whole}
+use Rattle.hoa_parser.specs.Naming.{name_of}
+use Rattle.hoa_parser.specs.Raw.{Written, written}
+use Rattle.hoa_parser.specs.Reads.{Answers}
+use Rattle.hoa_parser.specs.Standing.{Stands, Whole}
 use Rattle.hoa_reader.specs.Validity.{IsValid}
-use Rattle.hoa_reader.specs.declared.fault.ReadFault.{ReadFault}
-use Rattle.hoa_reader.specs.declared.fault.ReadFault.TheVariants as fault
-use Rattle.hoa_reader.specs.declared.raw.Raw.{Raw}
+use Rattle.hoa_parser.specs.declared.fault.ReadFault.{ReadFault}
+use Rattle.hoa_parser.specs.declared.fault.ReadFault.TheVariants as fault
+use Rattle.hoa_parser.specs.declared.raw.Raw.{Raw}
 use Rattle.hoa_writer.specs.CanonicalText.{canonical_text}
 
 -- the bytes that were handed to the sink are the text of what was read

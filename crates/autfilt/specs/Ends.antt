@@ -5,7 +5,7 @@ use Rattle.autfilt.specs.declared.ended.End.TheVariants as end
 use Rattle.autfilt.specs.declared.ended.Ended.{Ended}
 use Rattle.autfilt.specs.declared.ended.Ended.TheVariants.{Output, NoneOutput, Usage, CannotOpen, ReadFault, Syntax, Invalid, Limit, WriteFault, Memory}
 use Rattle.hoa_reader.specs.declared.elaborate.ElabFault as describing
-use Rattle.hoa_reader.specs.declared.fault.ReadFault as reading
+use Rattle.hoa_parser.specs.declared.fault.ReadFault as reading
 
 -- the answer
 abbrev pub ended_of : End → Ended

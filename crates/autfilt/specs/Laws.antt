@@ -4,7 +4,7 @@ use Rattle.aut_base.specs.declared.limit.Limit.TheVariants as limit
 use Rattle.autfilt.specs.Run.{AreRead, Runs}
 use Rattle.autfilt.specs.declared.ended.End.{End}
 use Rattle.autfilt.specs.declared.ended.End.TheVariants as end
-use Rattle.hoa_reader.specs.Raw.{Written}
+use Rattle.hoa_parser.specs.Raw.{Written}
 
 -- The text decided the end: no call failed, memory was not wanting, and not too many bytes were taken.
 abbrev pub IsByText : End → Type 0

@@ -13,10 +13,10 @@ use Rattle.hoa_lexer.specs.Blanks.{IsBlanks}
 use Rattle.hoa_reader.specs.Counts.{PassesNone}
 use Rattle.hoa_reader.specs.Described.{described}
 use Rattle.hoa_reader.specs.Elaborating.{PassesLimit}
-use Rattle.hoa_reader.specs.Naming.{name_of}
-use Rattle.hoa_reader.specs.Raw.{Written}
-use Rattle.hoa_reader.specs.Reads.{AsksOn}
-use Rattle.hoa_reader.specs.Standing.{Stands, Whole, Deep, Bad, Aborted, Cut}
+use Rattle.hoa_parser.specs.Naming.{name_of}
+use Rattle.hoa_parser.specs.Raw.{Written}
+use Rattle.hoa_parser.specs.Reads.{AsksOn}
+use Rattle.hoa_parser.specs.Standing.{Stands, Whole, Deep, Bad, Aborted, Cut}
 use Rattle.hoa_reader.specs.Validity.{IsFirstBroken, IsValid}
 use Rattle.hoa_writer.specs.CanonicalText.{canonical_text}
 

@@ -6,7 +6,7 @@ use Rattle.autfilt.specs.declared.ended.End.{End}
 use Rattle.autfilt.specs.declared.ended.End.TheVariants.{Output, NoneOutput}
 use Rattle.hoa_lexer.specs.Reading.{Between}
 use Rattle.hoa_lexer.specs.declared.lexer.Lexer.{Lexer}
-use Rattle.hoa_reader.specs.Raw.{Written}
+use Rattle.hoa_parser.specs.Raw.{Written}
 
 abbrev pub is_some_automaton : List Written → Bool
 is_some_automaton [] = false

@@ -9,9 +9,9 @@ use Rattle.hoa_lexer.specs.Blanks.{IsBlanks}
 use Rattle.hoa_lexer.specs.Reading.{Between, unread}
 use Rattle.hoa_reader.specs.Counts.{PassesNone}
 use Rattle.hoa_reader.specs.Elaborating.{PassesLimit}
-use Rattle.hoa_reader.specs.Raw.{Written}
-use Rattle.hoa_reader.specs.Reads.{AsksOn}
-use Rattle.hoa_reader.specs.Standing.{Stands, Deep, Bad, Aborted, Cut}
+use Rattle.hoa_parser.specs.Raw.{Written}
+use Rattle.hoa_parser.specs.Reads.{AsksOn}
+use Rattle.hoa_parser.specs.Standing.{Stands, Deep, Bad, Aborted, Cut}
 use Rattle.hoa_reader.specs.Validity.{IsFirstBroken, IsValid}
 
 -- What becomes of an automaton that was read: its text is written, as far as the sink takes it, or nothing is.

@@ -5,7 +5,7 @@ ghost use Rattle.aut_base.specs.declared.limit.Limit.{Limit};
 ghost use Rattle.autfilt.specs.declared.ended.End.{End};
 ghost use Rattle.autfilt.specs.Turn.{CountsFaults, PrintsOne, TurnCauses, Turns};
 ghost use Rattle.hoa_lexer.specs.Reading.{Between};
-ghost use Rattle.hoa_reader.specs.Raw.{written};
+ghost use Rattle.hoa_parser.specs.Raw.{written};
 
 use crate::ended::End;
 use aut_base::Limit;

@@ -7,7 +7,7 @@ use Rattle.std.specs.Prelude.{flat_map}
 use Rattle.std.specs.List.{list_all}
 use Rattle.hoa_reader.specs.Described.{after_all}
 use Rattle.hoa_reader.specs.Pieces.{goals}
-use Rattle.hoa_reader.specs.Raw.{WrittenEdge, WrittenState}
+use Rattle.hoa_parser.specs.Raw.{WrittenEdge, WrittenState}
 use Rattle.hoa_reader.specs.Validity.{numbers_below}
 
 pub after_all-append : (xs ys : List ℕ) → after_all (xs ++ ys) ≡ max (after_all xs) (after_all ys)

@@ -8,9 +8,10 @@ use Rattle.aut_base.specs.Formula.{EachSetsBelow, FormulaTree, FormulaTrees, Set
 use Rattle.aut_base.specs.Label as label
 use Rattle.aut_base.specs.Label.{AllBelow, EachBelow, LabelTree, trees}
 use Rattle.hoa_reader.specs.Described.{Meaning, below, conjunction, each_expanded, expanded, letter_label, literal, meaning_of, meanings_after}
-use Rattle.hoa_reader.specs.Raw as raw
-use Rattle.hoa_reader.specs.Raw.{RawTree, RawTrees}
-use Rattle.hoa_reader.specs.Validity.{AliasLine, all_leaves_pass, all_sets_below, props_below, same_text, sets_below}
+use Rattle.hoa_parser.specs.Raw as raw
+use Rattle.hoa_parser.specs.Raw.{RawTree, RawTrees}
+use Rattle.aut_base.specs.Text.{same_text}
+use Rattle.hoa_reader.specs.Validity.{AliasLine, all_leaves_pass, all_sets_below, props_below, sets_below}
 
 pub both : (x y : Bool) → (x && y) ≡ true → (x ≡ true) × (y ≡ true)
 both true y e = (refl, e)

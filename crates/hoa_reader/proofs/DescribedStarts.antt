@@ -11,7 +11,7 @@ use Rattle.std.specs.List.Sorted.{IsNonDecreasing}
 use Rattle.aut_base.specs.Automaton.{Arrow}
 use Rattle.hoa_reader.proofs.DescribedLaws.{all_map, all_weaker, numbers_are_below}
 use Rattle.hoa_reader.specs.Described.{after_all, arrow_of, arrows_from, arrows_of, below, edges_of, state_count, without_repeats}
-use Rattle.hoa_reader.specs.Raw.{Written, WrittenEdge, WrittenState}
+use Rattle.hoa_parser.specs.Raw.{Written, WrittenEdge, WrittenState}
 
 pub all_at : {X : Type 0} (P : X → Type 0) (xs : List X) → AllByRecursion P xs → All P xs
 all_at P [] all = λ k d l. absurd (omega (arith, l))

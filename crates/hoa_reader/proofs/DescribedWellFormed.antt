@@ -10,7 +10,7 @@ use Rattle.aut_base.specs.Marks.{is_in}
 use Rattle.hoa_reader.proofs.DescribedLaws.{MeansBelow, all_map, all_weaker, both, expanded_below, letter_below, meanings_below, numbers_are_below, sets_in_range}
 use Rattle.hoa_reader.proofs.DescribedStarts.{all_at, all_filter, all_flat_map, all_of, all_used_below, all_without_repeats, edges_in_order, they_differ}
 use Rattle.hoa_reader.specs.Described.{Meaning, after_all, arrow_of, arrows_from, arrows_of, below, described, edges_of, expanded, meanings_of, only_state, state_count}
-use Rattle.hoa_reader.specs.Raw.{RawTree, Written, WrittenEdge, WrittenState}
+use Rattle.hoa_parser.specs.Raw.{RawTree, Written, WrittenEdge, WrittenState}
 use Rattle.hoa_reader.specs.Validity.{IsKept, IsValid, acceptance_of, alias_lines, body_labels, edges_written, is_one_state, names_of, numbers_below, props_below, starts_written, state_labels, states_item, used_states}
 use Rattle.hoa_reader.specs.declared.elaborate.Rule.TheVariants.{V5, V6, V8, V9}
 

@@ -9,7 +9,7 @@ use Rattle.std.specs.List.{AllByRecursion, enumerate_from}
 use Rattle.aut_base.specs.Automaton.{Arrow}
 use Rattle.hoa_reader.proofs.DescribedWellFormed.{AreBelow, all_left, all_right, all_unmap, used_are_below}
 use Rattle.hoa_reader.specs.Described.{arrow_of, arrows_from, arrows_of, below, edges_of, state_count}
-use Rattle.hoa_reader.specs.Raw.{Written, WrittenEdge, WrittenState}
+use Rattle.hoa_parser.specs.Raw.{Written, WrittenEdge, WrittenState}
 use Rattle.hoa_reader.specs.Validity.{IsKept, edges_written, starts_written, states_item, used_states}
 use Rattle.hoa_reader.specs.Weighing.{all_edges}
 use Rattle.hoa_reader.specs.declared.elaborate.Rule.TheVariants.{V6}

@@ -6,8 +6,8 @@ use Rattle.aut_base.specs.declared.label.Label.TheVariants as label
 use Rattle.aut_base.specs.declared.label.Labels.{Labels}
 use Rattle.hoa_reader.specs.Described.{Meaning, each_expanded, expanded}
 use Rattle.hoa_reader.specs.Growing.{alias_bit}
-use Rattle.hoa_reader.specs.Raw.{raw_tree, raw_trees}
-use Rattle.hoa_reader.specs.declared.raw.RawLabel.{RawLabel}
+use Rattle.hoa_parser.specs.Raw.{raw_tree, raw_trees}
+use Rattle.hoa_parser.specs.declared.raw.RawLabel.{RawLabel}
 
 pub size_pos : (t : LabelTree) → 1 ≤ label_size t
 size_pos LabelTree.True = omega arith

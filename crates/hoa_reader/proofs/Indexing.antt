@@ -12,9 +12,9 @@ use Rattle.aut_base.specs.Automaton.{Arrow}
 use Rattle.hoa_reader.specs.Arrows.{IsDefinedAt, IsPlace, arrows_for, edges_for, states_at}
 use Rattle.hoa_reader.specs.Described.{below}
 use Rattle.hoa_reader.specs.Pieces.{numbers}
-use Rattle.hoa_reader.specs.Raw.{WrittenState, written_state}
+use Rattle.hoa_parser.specs.Raw.{WrittenState, written_state}
 use Rattle.hoa_reader.specs.declared.elaborate.edges.Shared.{Shared}
-use Rattle.hoa_reader.specs.declared.raw.RawState.{RawState}
+use Rattle.hoa_parser.specs.declared.raw.RawState.{RawState}
 
 none_if : (b a : Bool) (x : WrittenState) (ys : List WrittenState) → (b || a) ≡ false → (a ≡ false → ys ≡ []) → cond b (x ∷ ys) ys ≡ []
 none_if true a x ys e h = absurd (false≢true (sym e))

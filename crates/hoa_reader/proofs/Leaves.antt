@@ -1,8 +1,8 @@
 -- The leaves of labels, tested by tests that agree.
 use Rattle.std.proofs.Common.{◌≡◌, ℕ, zero, suc, ◌+◌, Bool, ◌&&◌, List, [], ◌∷◌, drop, Some, slice_get, arith, refl, ap, ◌∙◌}
 use Rattle.std.proofs.lemmas.Option.{same_Some, none-some}
-use Rattle.hoa_reader.specs.Raw as raw
-use Rattle.hoa_reader.specs.Raw.{RawTree, RawTrees}
+use Rattle.hoa_parser.specs.Raw as raw
+use Rattle.hoa_parser.specs.Raw.{RawTree, RawTrees}
 use Rattle.hoa_reader.specs.Validity.{all_leaves_pass, leaves_pass}
 
 -- what is left from the place of an item on

@@ -7,9 +7,10 @@ use Rattle.std.specs.List.{AllByRecursion, list_all, list_any}
 use Rattle.hoa_reader.proofs.DescribedLaws.{both}
 use Rattle.hoa_reader.proofs.DescribedStarts.{all_at}
 use Rattle.hoa_reader.proofs.Meanings.{same_texts}
-use Rattle.hoa_reader.specs.Raw as raw
-use Rattle.hoa_reader.specs.Raw.{WrittenItem}
-use Rattle.hoa_reader.specs.Validity.{all_differ, names_agree, names_item, same_text}
+use Rattle.hoa_parser.specs.Raw as raw
+use Rattle.hoa_parser.specs.Raw.{WrittenItem}
+use Rattle.aut_base.specs.Text.{same_text}
+use Rattle.hoa_reader.specs.Validity.{all_differ, names_agree, names_item}
 
 neither : (a b : Bool) → not (a || b) ≡ true → (a ≡ false) × (b ≡ false)
 neither true b e = absurd (false≢true e)

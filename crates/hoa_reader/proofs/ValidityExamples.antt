@@ -7,8 +7,8 @@ use Rattle.aut_base.specs.Label.{LabelTree}
 use Rattle.hoa_reader.specs.Counts as counts
 use Rattle.hoa_reader.specs.Counts.{PassesFirst, PassesNone, count_of, height_in, size_in, weight}
 use Rattle.hoa_reader.specs.Described.{described, letter_label, starts_of, state_count}
-use Rattle.hoa_reader.specs.Raw as raw
-use Rattle.hoa_reader.specs.Raw.{RawTree, Written, WrittenEdge, WrittenItem, WrittenState}
+use Rattle.hoa_parser.specs.Raw as raw
+use Rattle.hoa_parser.specs.Raw.{RawTree, Written, WrittenEdge, WrittenItem, WrittenState}
 use Rattle.hoa_reader.specs.Validity.{IsFirstBroken, IsValid, keeps, rules}
 use Rattle.hoa_reader.specs.declared.elaborate.Rule.{Rule}
 use Rattle.hoa_reader.specs.declared.elaborate.Rule.TheVariants.{V1, V2, V3, V4, V5, V6, V7, V8, V9, V10, V11, V12}

@@ -2,7 +2,7 @@
 use Rattle.std.proofs.Common.{◌≡◌, ℕ, zero, suc, ◌<◌, List, [], ◌∷◌, take, Some, None, refl, sym, ap, ◌∙◌, subst, arith}
 use Rattle.std.specs.Prelude.{slice_get}
 use Rattle.std.proofs.lemmas.Bool.{false≢true}
-use Rattle.hoa_reader.specs.Raw.{Written}
+use Rattle.hoa_parser.specs.Raw.{Written}
 use Rattle.hoa_reader.specs.Validity.{AreKept, IsFirstBroken, IsKept, IsValid, place_of, rules}
 use Rattle.hoa_reader.specs.declared.elaborate.Rule.{Rule}
 use Rattle.hoa_reader.specs.declared.elaborate.Rule.TheVariants.{V1, V2, V3, V4, V5, V6, V7, V8, V9, V10, V11, V12}

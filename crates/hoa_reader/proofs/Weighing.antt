@@ -10,7 +10,7 @@ use Rattle.hoa_reader.proofs.Meanings.{known_heights, known_sizes}
 use Rattle.hoa_reader.specs.Counts.{greatest, height, holds_alias}
 use Rattle.hoa_reader.specs.Described.{Meaning, expanded}
 use Rattle.hoa_reader.specs.Growing.{AreKnown, cap, capped_height, capped_size, heights_in, sizes_in}
-use Rattle.hoa_reader.specs.Raw.{RawTree, WrittenEdge, WrittenState}
+use Rattle.hoa_parser.specs.Raw.{RawTree, WrittenEdge, WrittenState}
 use Rattle.hoa_reader.specs.Weighing.{all_edges, are_tall, counted, edge_counted, own_counted, state_counted}
 use Rattle.hoa_reader.specs.declared.elaborate.aliases.Known.{Known}
 use Rattle.hoa_reader.specs.declared.elaborate.parts.AliasDef.{AliasDef}

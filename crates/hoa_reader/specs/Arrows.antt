@@ -6,7 +6,7 @@ use Rattle.aut_base.specs.Automaton.{Arrow}
 use Rattle.aut_base.specs.Label.{LabelTree}
 use Rattle.hoa_reader.specs.Described.{below, expanded, letter_label, marks_in_order, only_state}
 use Rattle.hoa_reader.specs.Growing.{AreKnown, meanings_by}
-use Rattle.hoa_reader.specs.Raw.{WrittenEdge, WrittenState}
+use Rattle.hoa_parser.specs.Raw.{WrittenEdge, WrittenState}
 use Rattle.hoa_reader.specs.declared.elaborate.edges.Shared.{Shared}
 
 abbrev pub HasKnown : Shared → Type 0

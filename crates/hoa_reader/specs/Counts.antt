@@ -5,7 +5,7 @@ use Rattle.aut_base.specs.Label as label
 use Rattle.aut_base.specs.Label.{LabelTree, LabelTrees, label_size}
 use Rattle.aut_base.specs.declared.limit.TheConstants.{MOST_NAMES, MOST_SETS, MOST_STATES, MOST_EDGES, MOST_ALIASES}
 use Rattle.hoa_reader.specs.Described.{edges_of, expanded, meanings_of, state_count}
-use Rattle.hoa_reader.specs.Raw.{RawTree, Written, WrittenEdge, WrittenState}
+use Rattle.hoa_parser.specs.Raw.{RawTree, Written, WrittenEdge, WrittenState}
 use Rattle.hoa_reader.specs.Validity.{acceptance_of, aliases_among, body_labels, names_of}
 
 -- how many signs of a label stand one inside the other at most, and of each of more labels

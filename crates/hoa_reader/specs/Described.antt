@@ -5,9 +5,10 @@ use Rattle.std.specs.Option.{option_map_or}
 use Rattle.aut_base.specs.Automaton.{Arrow, Automaton}
 use Rattle.aut_base.specs.Label.{LabelTree, LabelTrees, trees}
 use Rattle.aut_base.specs.Marks.{is_in}
-use Rattle.hoa_reader.specs.Raw as raw
-use Rattle.hoa_reader.specs.Raw.{RawTree, RawTrees, Written, WrittenEdge, WrittenState}
-use Rattle.hoa_reader.specs.Validity.{AliasLine, acceptance_of, alias_lines, names_of, same_text, starts_written, states_item, used_states}
+use Rattle.hoa_parser.specs.Raw as raw
+use Rattle.hoa_parser.specs.Raw.{RawTree, RawTrees, Written, WrittenEdge, WrittenState}
+use Rattle.aut_base.specs.Text.{same_text}
+use Rattle.hoa_reader.specs.Validity.{AliasLine, acceptance_of, alias_lines, names_of, starts_written, states_item, used_states}
 
 -- the numbers below n, in order
 abbrev pub below : ℕ → List ℕ

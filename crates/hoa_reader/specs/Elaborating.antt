@@ -6,7 +6,7 @@ use Rattle.aut_base.specs.declared.limit.Limit.{Limit}
 use Rattle.hoa_reader.specs.Counts.{Count, PassesFirst, PassesNone}
 use Rattle.hoa_reader.specs.Described.{described}
 use Rattle.hoa_reader.specs.Gathered.{limit_of}
-use Rattle.hoa_reader.specs.Raw.{Written}
+use Rattle.hoa_parser.specs.Raw.{Written}
 use Rattle.hoa_reader.specs.Validity.{IsFirstBroken, IsValid}
 use Rattle.hoa_reader.specs.declared.elaborate.ElabFault.{ElabFault}
 use Rattle.hoa_reader.specs.declared.elaborate.ElabFault.TheVariants as fault

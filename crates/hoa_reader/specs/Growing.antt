@@ -5,8 +5,8 @@ use Rattle.hoa_reader.specs.Counts.{height}
 use Rattle.hoa_reader.specs.Described.{Meaning, expanded, meaning_of, meanings_after}
 use Rattle.hoa_reader.specs.Pieces.{alias_def}
 use Rattle.hoa_reader.specs.Places.{place_in}
-use Rattle.hoa_reader.specs.Raw as raw
-use Rattle.hoa_reader.specs.Raw.{RawTree, RawTrees, WrittenEdge, WrittenState, raw_tree}
+use Rattle.hoa_parser.specs.Raw as raw
+use Rattle.hoa_parser.specs.Raw.{RawTree, RawTrees, WrittenEdge, WrittenState, raw_tree}
 use Rattle.hoa_reader.specs.Validity.{aliases_among, is_listed}
 use Rattle.hoa_reader.specs.declared.elaborate.aliases.Known.{Known}
 use Rattle.hoa_reader.specs.declared.elaborate.parts.AliasDef.{AliasDef}

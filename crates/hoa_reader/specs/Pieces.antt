@@ -3,14 +3,15 @@ use Rattle.std.specs.Prelude.{◌≡◌, ℕ, Bool, true, map, flat_map, ◌&&�
 use Rattle.std.specs.Borrow.{Bor}
 use Rattle.aut_base.specs.Formula.{formula_tree}
 use Rattle.hoa_reader.specs.Places.{place_in}
-use Rattle.hoa_reader.specs.Raw.{RawTree, WrittenEdge, WrittenItem, WrittenState, raw_tree}
-use Rattle.hoa_reader.specs.Validity.{AcceptanceLine, AliasLine, acceptance_item, all_differ, is_acc_name, is_listed, is_name, is_tool, names_item, same_text, states_item, uses_earlier}
+use Rattle.hoa_parser.specs.Raw.{RawTree, WrittenEdge, WrittenItem, WrittenState, raw_tree}
+use Rattle.aut_base.specs.Text.{same_text}
+use Rattle.hoa_reader.specs.Validity.{AcceptanceLine, AliasLine, acceptance_item, all_differ, is_acc_name, is_listed, is_name, is_tool, names_item, states_item, uses_earlier}
 use Rattle.hoa_reader.specs.declared.elaborate.parts.AcceptanceDef.{AcceptanceDef}
 use Rattle.hoa_reader.specs.declared.elaborate.parts.AliasDef.{AliasDef}
 use Rattle.hoa_reader.specs.declared.elaborate.places.Places.{Places}
 use Rattle.hoa_reader.specs.declared.elaborate.rules.Line.{Line}
 use Rattle.hoa_reader.specs.declared.elaborate.rules.Line.TheVariants as line
-use Rattle.hoa_reader.specs.declared.raw.RawLabel.{RawLabel}
+use Rattle.hoa_parser.specs.declared.raw.RawLabel.{RawLabel}
 
 abbrev pub alias_def : AliasDef → AliasLine
 alias_def d = record { name = d.name.now; label = raw_tree d.label.now }

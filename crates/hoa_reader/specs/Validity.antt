@@ -1,17 +1,14 @@
 -- The rules that an automaton has to keep once it is written down, in the order in which they are examined. A text that
 -- breaks several of them is answered by the earliest.
 use Rattle.std.specs.Prelude.{◌≡◌, ◌^◌, ℕ, Bool, true, false, not, ◌&&◌, ◌||◌, ◌==◌, nat_lt, nat_le, List, [], ◌∷◌, ◌++◌, length, take, map, flat_map, filter_map, count_by, codes, get_or, Option, Some, None, is_some, is_none, option_to_list}
-use Rattle.std.specs.Cmp.Lexicographic.{pointwise}
 use Rattle.std.specs.List.{list_any, list_all}
 use Rattle.aut_base.specs.Formula as formula
 use Rattle.aut_base.specs.Formula.{FormulaTree, FormulaTrees}
-use Rattle.hoa_reader.specs.Raw as raw
-use Rattle.hoa_reader.specs.Raw.{RawTree, RawTrees, Written, WrittenEdge, WrittenItem, WrittenState, States, Start, Ap, AliasOf, Acceptance, AccName, Tool, Name, Properties, Other}
+use Rattle.aut_base.specs.Text.{same_text}
+use Rattle.hoa_parser.specs.Raw as raw
+use Rattle.hoa_parser.specs.Raw.{RawTree, RawTrees, Written, WrittenEdge, WrittenItem, WrittenState, States, Start, Ap, AliasOf, Acceptance, AccName, Tool, Name, Properties, Other}
 use Rattle.hoa_reader.specs.declared.elaborate.Rule.{Rule}
 use Rattle.hoa_reader.specs.declared.elaborate.Rule.TheVariants.{V1, V2, V3, V4, V5, V6, V7, V8, V9, V10, V11, V12}
-
-abbrev pub same_text : List ℕ → List ℕ → Bool
-same_text = pointwise ◌==◌
 
 -- the text is one of these
 abbrev pub is_listed : List (List ℕ) → List ℕ → Bool

@@ -6,7 +6,7 @@ use Rattle.aut_base.specs.declared.limit.TheConstants.{MOST_ALIASES}
 use Rattle.hoa_reader.specs.Counts.{holds_alias}
 use Rattle.hoa_reader.specs.Growing.{capped_height, capped_size, heights_in, sizes_in}
 use Rattle.hoa_reader.specs.Places.{place_in}
-use Rattle.hoa_reader.specs.Raw.{RawTree, WrittenEdge, WrittenState}
+use Rattle.hoa_parser.specs.Raw.{RawTree, WrittenEdge, WrittenState}
 use Rattle.hoa_reader.specs.declared.elaborate.aliases.Known.{Known}
 use Rattle.hoa_reader.specs.declared.elaborate.places.Places.{Places}
 

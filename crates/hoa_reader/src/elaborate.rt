@@ -8,7 +8,7 @@ ghost use Rattle.hoa_reader.specs.Described.{described};
 ghost use Rattle.hoa_reader.specs.Elaborating.{Elaborates};
 ghost use Rattle.hoa_reader.specs.Gathered.{ArePartsOf};
 ghost use Rattle.hoa_reader.specs.Growing.{AreKnown, meanings_by};
-ghost use Rattle.hoa_reader.specs.Raw.{written};
+ghost use Rattle.hoa_parser.specs.Raw.{written};
 ghost use Rattle.hoa_reader.specs.Validity.{IsValid, acceptance_of};
 
 mod aliases;
@@ -22,11 +22,9 @@ mod marks;
 mod parts;
 mod places;
 mod rules;
-#[cfg(test)]
-mod tests;
 mod used;
 
-use crate::Raw;
+use hoa_parser::Raw;
 use aliases::{Known, known_aliases};
 use aut_base::{Description, Formula, Limit, Memory};
 use broken::first_broken;

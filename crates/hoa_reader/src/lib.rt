@@ -1,21 +1,15 @@
-//! One automaton from its tokens, and what it describes.
+//! What an automaton that was read describes, if it keeps the rules and is within the limits.
+//!
+//! A caller sees `describe` and why it may refuse, and all of `hoa_parser`, which reads the automaton. The rules stand in
+//! `specs/Validity`, what is described in `specs/Described`, the counts in `specs/Counts`, and `specs/Elaborating` says what
+//! `describe` answers in these terms. The other definitions speak of the inner functions only.
 #![tactic(auto)]
 
 mod elaborate;
-mod fault;
-mod header;
-mod laws;
-mod parse;
-mod raw;
-mod read;
-#[cfg(test)]
-mod tests;
 
 pub use elaborate::{ElabFault, Rule, describe};
-pub use fault::ReadFault;
-pub use laws::{
-    bad_is_hopeless, can_be_written_down, grammar_examples, one_raw, one_standing, settled_stays,
-    whole_goes_no_further, written_down_is_read,
+pub use hoa_parser::{
+    Item, Items, Raw, RawEdge, RawEdges, RawLabel, RawLabels, RawState, RawStates, ReadFault,
+    bad_is_hopeless, can_be_written_down, grammar_examples, one_raw, one_standing, read_raw,
+    settled_stays, whole_goes_no_further, written_down_is_read,
 };
-pub use raw::{Item, Items, Raw, RawEdge, RawEdges, RawLabel, RawLabels, RawState, RawStates};
-pub use read::read_raw;

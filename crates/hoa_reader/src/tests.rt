@@ -7,7 +7,7 @@ mod show;
 mod written;
 
 use self::show::{show, show_fault};
-use crate::{Raw, ReadFault, read_raw};
+use hoa_parser::{Raw, ReadFault, read_raw};
 use aut_base::{Memory, Names, Numbers, Text, Words};
 use aut_io::{Inputs, MemInputs};
 use hoa_lexer::Lexer;

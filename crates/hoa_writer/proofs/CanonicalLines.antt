@@ -6,9 +6,9 @@ use Rattle.aut_base.specs.Automaton.{Arrow, Automaton}
 use Rattle.aut_base.specs.Formula.{FormulaTree}
 use Rattle.hoa_reader.proofs.DescribedLaws.{all_map, all_weaker}
 use Rattle.hoa_reader.proofs.DescribedStarts.{all_filter, all_flat_map}
-use Rattle.hoa_reader.specs.Naming.{name_item, name_of}
-use Rattle.hoa_reader.specs.Raw as raw
-use Rattle.hoa_reader.specs.Raw.{Written, WrittenEdge, WrittenItem, WrittenState}
+use Rattle.hoa_parser.specs.Naming.{name_item, name_of}
+use Rattle.hoa_parser.specs.Raw as raw
+use Rattle.hoa_parser.specs.Raw.{Written, WrittenEdge, WrittenItem, WrittenState}
 use Rattle.hoa_reader.specs.Validity.{acceptance_item, acceptance_of, alias_item, alias_lines, edges_written, names_item, names_of, start_item, starts_written, states_item}
 use Rattle.hoa_writer.proofs.InOrder.{range_within}
 use Rattle.hoa_writer.specs.CanonicalWritten.{canonical_edge, canonical_items, canonical_state, canonical_written}

@@ -4,12 +4,12 @@ use Rattle.std.specs.Prelude.{codes}
 use Rattle.std.proofs.lemmas.List.{append_assoc, append-nil}
 use Rattle.aut_base.specs.Label.{LabelTree, trees}
 use Rattle.hoa_lexer.specs.declared.token.Token.{Token}
-use Rattle.hoa_reader.specs.Grammar.{Label, Lands, Lnot, Lnots, conjunction, disjunction, label_meaning, label_tokens, lands_meaning, lands_tokens, lnot_meaning, lnot_tokens, lnots_meaning, lnots_tokens}
-use Rattle.hoa_reader.specs.Grammar.Label.{label}
-use Rattle.hoa_reader.specs.Grammar.Lands.{no_land, or_land}
-use Rattle.hoa_reader.specs.Grammar.Lnots.{no_lnot, and_lnot}
-use Rattle.hoa_reader.specs.Grammar.Lnot.{true_label, false_label, proposition, negated}
-use Rattle.hoa_reader.specs.Raw.{RawTree, raw_trees}
+use Rattle.hoa_parser.specs.Grammar.{Label, Lands, Lnot, Lnots, conjunction, disjunction, label_meaning, label_tokens, lands_meaning, lands_tokens, lnot_meaning, lnot_tokens, lnots_meaning, lnots_tokens}
+use Rattle.hoa_parser.specs.Grammar.Label.{label}
+use Rattle.hoa_parser.specs.Grammar.Lands.{no_land, or_land}
+use Rattle.hoa_parser.specs.Grammar.Lnots.{no_lnot, and_lnot}
+use Rattle.hoa_parser.specs.Grammar.Lnot.{true_label, false_label, proposition, negated}
+use Rattle.hoa_parser.specs.Raw.{RawTree, raw_trees}
 use Rattle.hoa_writer.specs.CanonicalLabel.{Literal, cubes, is_independent, joined, literal_text, cube_text, cubes_text, label_text, truth_on}
 use Rattle.hoa_writer.specs.CanonicalWritten.{literal_tree, all_of, one_of, cubes_tree, canonical_label, written_label, written_labels}
 use Rattle.hoa_writer.proofs.SpelledOut.{Held, free_held, held_held, held_identifier, held_ended}

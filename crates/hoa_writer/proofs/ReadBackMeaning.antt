@@ -12,7 +12,7 @@ use Rattle.aut_base.specs.declared.description.Description.{Description}
 use Rattle.aut_base.specs.declared.description.Edge.{Edge}
 use Rattle.hoa_reader.proofs.DescribedLaws.{all_weaker, numbers_are_below}
 use Rattle.hoa_reader.specs.Described.{after_all, arrow_of, arrows_from, arrows_of, below, described, edges_of, marks_in_order, meanings_of, only_state, starts_of, without_repeats}
-use Rattle.hoa_reader.specs.Raw.{Written, WrittenState}
+use Rattle.hoa_parser.specs.Raw.{Written, WrittenState}
 use Rattle.hoa_reader.specs.Validity.{AcceptanceLine, acceptance_of, used_states}
 use Rattle.hoa_writer.proofs.CanonicalLines.{acceptance_found, names_found, starts_found, states_found}
 use Rattle.hoa_writer.proofs.CanonicalTrees.{expanded_written}

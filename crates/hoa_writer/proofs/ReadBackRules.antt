@@ -9,8 +9,9 @@ use Rattle.aut_base.specs.Label.{LabelTree}
 use Rattle.hoa_reader.proofs.DescribedLaws.{all_map, all_weaker}
 use Rattle.hoa_reader.proofs.DescribedStarts.{all_append, all_flat_map, all_of}
 use Rattle.hoa_reader.proofs.Meanings.{same_texts}
-use Rattle.hoa_reader.specs.Raw.{RawTree, WrittenEdge, WrittenItem, WrittenState}
-use Rattle.hoa_reader.specs.Validity.{AcceptanceLine, AliasLine, IsKept, IsValid, acceptance_item, aliases_among, all_differ, all_edges_labelled, body_labels, edges_written, has_edge_per_letter, is_acc_name, is_name, is_one_state, is_tool, labels_one_way, marks_below, may_be_passed_over, names_agree, names_item, names_of, no_edge_labelled, numbers_below, props_below, same_text, sets_below, starts_written, state_labels, states_item, used_states, uses_earlier}
+use Rattle.hoa_parser.specs.Raw.{RawTree, WrittenEdge, WrittenItem, WrittenState}
+use Rattle.aut_base.specs.Text.{same_text}
+use Rattle.hoa_reader.specs.Validity.{AcceptanceLine, AliasLine, IsKept, IsValid, acceptance_item, aliases_among, all_differ, all_edges_labelled, body_labels, edges_written, has_edge_per_letter, is_acc_name, is_name, is_one_state, is_tool, labels_one_way, marks_below, may_be_passed_over, names_agree, names_item, names_of, no_edge_labelled, numbers_below, props_below, sets_below, starts_written, state_labels, states_item, used_states, uses_earlier}
 use Rattle.hoa_reader.specs.declared.elaborate.Rule.TheVariants.{V2, V3, V4, V5, V6, V7, V8, V9, V10, V11, V12}
 use Rattle.hoa_writer.proofs.CanonicalLines.{acceptance_found, all_starts, closing, counted_from, each_edge, each_state, edges_at, names_found, no_aliases, no_starts_counted, starting, starts_found, states_found}
 use Rattle.hoa_writer.proofs.CanonicalTrees.{no_alias, props_are_below, sets_are_below, two}

@@ -11,11 +11,11 @@ use Rattle.aut_base.specs.Automaton.{Arrow, Automaton, IsArrowOf, IsWellFormed}
 use Rattle.hoa_lexer.specs.Laws.{HasTokens}
 use Rattle.hoa_lexer.specs.declared.token.Token.{Token}
 use Rattle.hoa_lexer.specs.declared.token.Token.TheVariants.{HeaderName, Identifier, Str, Int, LeftBracket, RightBracket, LeftBrace, RightBrace, Body, End}
-use Rattle.hoa_reader.specs.Grammar.{AutomatonPhrase, EdgePhrase, ItemPhrase, Spells, StatePhrase, automaton_meaning, automaton_tokens, edge_meaning, edge_tokens, item_meaning, item_tokens, label_tokens, marks_meaning, optional_marks, state_meaning, state_tokens}
-use Rattle.hoa_reader.specs.Grammar.ItemPhrase.{states_item, start_item, names_item, acceptance_item, name_item, properties_item}
-use Rattle.hoa_reader.proofs.OneRaw.{one_raw}
-use Rattle.hoa_reader.specs.Raw as raw
-use Rattle.hoa_reader.specs.Raw.{Written, WrittenEdge, WrittenItem, WrittenState}
+use Rattle.hoa_parser.specs.Grammar.{AutomatonPhrase, EdgePhrase, ItemPhrase, Spells, StatePhrase, automaton_meaning, automaton_tokens, edge_meaning, edge_tokens, item_meaning, item_tokens, label_tokens, marks_meaning, optional_marks, state_meaning, state_tokens}
+use Rattle.hoa_parser.specs.Grammar.ItemPhrase.{states_item, start_item, names_item, acceptance_item, name_item, properties_item}
+use Rattle.hoa_parser.proofs.OneRaw.{one_raw}
+use Rattle.hoa_parser.specs.Raw as raw
+use Rattle.hoa_parser.specs.Raw.{Written, WrittenEdge, WrittenItem, WrittenState}
 use Rattle.hoa_writer.specs.CanonicalLabel.{joined}
 use Rattle.hoa_writer.specs.CanonicalText.{line, quoted, marks_text, edge_line, state_lines, name_line, header_lines, canonical_text, formula_text}
 use Rattle.hoa_writer.specs.CanonicalWritten.{canonical_edge, canonical_state, name_items, canonical_items, canonical_written}

@@ -7,10 +7,10 @@ use Rattle.aut_base.specs.Label.{LabelTree, trees}
 use Rattle.hoa_lexer.specs.Laws.{HasTokens}
 use Rattle.hoa_lexer.specs.declared.token.Token.{Token}
 use Rattle.hoa_reader.specs.Described.{described}
-use Rattle.hoa_reader.specs.Grammar.{Spells}
-use Rattle.hoa_reader.specs.Naming.{name_of}
-use Rattle.hoa_reader.specs.Raw as raw
-use Rattle.hoa_reader.specs.Raw.{RawTree, Written, WrittenEdge, WrittenItem, WrittenState, raw_trees}
+use Rattle.hoa_parser.specs.Grammar.{Spells}
+use Rattle.hoa_parser.specs.Naming.{name_of}
+use Rattle.hoa_parser.specs.Raw as raw
+use Rattle.hoa_parser.specs.Raw.{RawTree, Written, WrittenEdge, WrittenItem, WrittenState, raw_trees}
 use Rattle.hoa_reader.specs.Validity.{IsValid}
 use Rattle.hoa_writer.specs.CanonicalLabel.{Literal, cubes, truth_on}
 

@@ -2,12 +2,13 @@
 
 ghost use Rattle.std.specs.Prelude.{◌≡◌, IfOk, MatchOption};
 ghost use Rattle.hoa_reader.specs.Gathered.{ArePartsOf};
-ghost use Rattle.hoa_reader.specs.Raw.{written};
+ghost use Rattle.hoa_parser.specs.Raw.{written};
 ghost use Rattle.hoa_reader.specs.Validity.{IsFirstBroken, IsValid, keeps, names_single_states, propositions_have_names, sets_are_below};
 
 use crate::elaborate::parts::Parts;
 use crate::elaborate::{leaves, rules, used};
-use crate::{Raw, Rule};
+use crate::Rule;
+use hoa_parser::Raw;
 use aut_base::Memory;
 use std::alloc::Global;
 

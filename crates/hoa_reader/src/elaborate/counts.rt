@@ -5,13 +5,13 @@ ghost use Rattle.std.specs.Option.{option_map, option_map_or};
 ghost use Rattle.hoa_reader.specs.Counts.{holds_alias};
 ghost use Rattle.hoa_reader.specs.Growing.{capped_size, sizes_in};
 ghost use Rattle.hoa_reader.specs.Pieces.{label_refs};
-ghost use Rattle.hoa_reader.specs.Raw.{WrittenState, raw_tree, written_edge, written_state};
+ghost use Rattle.hoa_parser.specs.Raw.{WrittenState, raw_tree, written_edge, written_state};
 ghost use Rattle.hoa_reader.specs.Weighing.{IsNone, all_edges, are_tall, counted, edge_counted, own_counted, state_counted};
 
 use crate::elaborate::aliases::{Known, growth_of};
 use crate::elaborate::leaves::aliases_among;
 use crate::elaborate::places::Places;
-use crate::{RawEdge, RawLabel, RawState};
+use hoa_parser::{RawEdge, RawLabel, RawState};
 use aut_base::MOST_ALIASES;
 
 /// Whether there are more edges than this.

@@ -6,7 +6,7 @@ ghost use Rattle.aut_base.specs.Label.{label_tree};
 ghost use Rattle.aut_base.specs.Marks.{is_in};
 ghost use Rattle.hoa_reader.specs.Arrows.{HasKnown, IsPlace, arrow_for, arrows_for, edges_for, label_for};
 ghost use Rattle.hoa_reader.specs.Pieces.{numbers};
-ghost use Rattle.hoa_reader.specs.Raw.{written_edge, written_state};
+ghost use Rattle.hoa_parser.specs.Raw.{written_edge, written_state};
 ghost use Rattle.hoa_reader.specs.Validity.{all_differ};
 
 use crate::elaborate::aliases::Known;
@@ -14,7 +14,7 @@ use crate::elaborate::labels::{expand, letter_label};
 use crate::elaborate::marks::{flags_of, joined, only_state};
 use crate::elaborate::parts::AliasDef;
 use crate::elaborate::places::Places;
-use crate::{RawEdge, RawState};
+use hoa_parser::{RawEdge, RawState};
 use aut_base::{Edge, Edges, Label, Memory};
 use std::alloc::Global;
 

@@ -4,18 +4,18 @@ ghost use Rattle.std.specs.Prelude.{◌≡◌, ◌≤◌, ◌==◌, ◌/◌, ◌
 ghost use Rattle.aut_base.specs.Label.{label_list, label_tree};
 ghost use Rattle.hoa_reader.specs.Described.{below, expanded, letter_label, literal};
 ghost use Rattle.hoa_reader.specs.Growing.{AreKnown, meanings_by};
-ghost use Rattle.hoa_reader.specs.Raw.{raw_tree};
+ghost use Rattle.hoa_parser.specs.Raw.{raw_tree};
 
 use crate::elaborate::aliases::Known;
 use crate::elaborate::parts::AliasDef;
 use crate::elaborate::places::Places;
-use crate::{RawLabel, RawLabels};
+use hoa_parser::{RawLabel, RawLabels};
 use aut_base::{Label, Labels, Memory};
 use std::alloc::Global;
 
 /// The label with each alias replaced by what it stands for.
 #[cycle(expand)]
-#[tactic(auto, using(crate::proofs::LabelForms::raw_labels))]
+#[tactic(auto, using(hoa_parser::proofs::RawTrees::raw_tree_rules))]
 pub(crate) fn expand<'a>(
     alloc: Global,
     label: &'a RawLabel,

@@ -5,11 +5,11 @@ ghost use Rattle.hoa_reader.specs.Counts.{Aliases, PassesNone, count_of, most_of
 ghost use Rattle.hoa_reader.specs.Described.{state_count};
 ghost use Rattle.hoa_reader.specs.Gathered.{ArePartsOf, PassesSome};
 ghost use Rattle.hoa_reader.specs.Growing.{AreKnown, meanings_by};
-ghost use Rattle.hoa_reader.specs.Raw.{written};
+ghost use Rattle.hoa_parser.specs.Raw.{written};
 ghost use Rattle.hoa_reader.specs.Validity.{acceptance_of, keeps};
 ghost use Rattle.hoa_reader.specs.declared.elaborate.Rule.TheVariants.{V6};
 
-use crate::Raw;
+use hoa_parser::Raw;
 use crate::elaborate::aliases::Known;
 use crate::elaborate::counts::{are_heavy, are_tall, has_more_edges};
 use crate::elaborate::parts::{Parts, count_of_states};

@@ -3,7 +3,7 @@
 ghost use Rattle.std.specs.Prelude.{◌≡◌, ℕ, List, None, Some, true, is_none, IfOk};
 ghost use Rattle.std.specs.Map.{update};
 ghost use Rattle.hoa_reader.specs.Places.{place_in};
-ghost use Rattle.hoa_reader.specs.Validity.{same_text};
+ghost use Rattle.aut_base.specs.Text.{same_text};
 
 use aut_base::{Memory, Text};
 use std::alloc::Global;

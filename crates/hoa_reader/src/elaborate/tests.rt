@@ -1,9 +1,7 @@
 //! What is described, and what is refused, of automata that are put together or read here.
 
-use crate::{
-    ElabFault, Item, Items, Raw, RawEdge, RawEdges, RawLabel, RawLabels, RawState, RawStates,
-    describe, read_raw,
-};
+use crate::{ElabFault, describe, };
+use hoa_parser::{Item, Items, Raw, RawEdge, RawEdges, RawLabel, RawLabels, RawState, RawStates, read_raw};
 use aut_base::{Formula, Limit, Names, Numbers, Text, Words};
 use aut_io::{Inputs, MemInputs};
 use hoa_lexer::Lexer;

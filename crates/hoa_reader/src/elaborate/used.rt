@@ -4,10 +4,10 @@ ghost use Rattle.std.specs.Prelude.{◌≡◌, ◌++◌, max, map, flat_map, fil
 ghost use Rattle.std.specs.List.{list_all};
 ghost use Rattle.hoa_reader.specs.Described.{after_all};
 ghost use Rattle.hoa_reader.specs.Pieces.{goals, numbers, starts_named};
-ghost use Rattle.hoa_reader.specs.Raw.{written_edge, written_item, written_state};
+ghost use Rattle.hoa_parser.specs.Raw.{written_edge, written_item, written_state};
 ghost use Rattle.hoa_reader.specs.Validity.{states_item};
 
-use crate::{Item, RawEdge, RawState};
+use hoa_parser::{Item, RawEdge, RawState};
 use aut_base::Numbers;
 
 /// The least number that is above these, and no less than the other.

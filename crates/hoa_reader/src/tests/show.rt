@@ -1,6 +1,6 @@
 //! An answer in words: parts of a conjunction or disjunction stand behind its sign.
 
-use crate::{Item, Raw, RawEdge, RawLabel, RawLabels, RawState, ReadFault};
+use hoa_parser::{Item, Raw, RawEdge, RawLabel, RawLabels, RawState, ReadFault};
 use aut_base::{Formula, Formulas, Memory, Text};
 use std::alloc::Global;
 

@@ -1,7 +1,7 @@
 use Rattle.std.specs.Option.{option_copied}
 use Rattle.aut_base.specs.Automaton.{automaton}
 use Rattle.autfilt.proofs.Turns.{front_as, gains_as, is_printed}
-use Rattle.hoa_reader.specs.Raw.{written}
+use Rattle.hoa_parser.specs.Raw.{written}
 use Rattle.autfilt.proofs.turn.print.Goals as goal
 
 pub returns-in-Ok-write-clause-ends : goal.returns-in-Ok-write-clause-ends

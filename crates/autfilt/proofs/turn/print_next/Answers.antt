@@ -1,5 +1,5 @@
 use Rattle.autfilt.proofs.Turns.{is_whole, turn_broken, turn_printed, turn_refused}
-use Rattle.hoa_reader.specs.Raw.{written}
+use Rattle.hoa_parser.specs.Raw.{written}
 use Rattle.autfilt.proofs.turn.print_next.Goals as goal
 
 pub returns-in-Err-clause-turns : goal.returns-in-Err-clause-turns

@@ -3,7 +3,7 @@ use Rattle.aut_base.specs.Automaton.{Automaton, IsWellFormed, automaton}
 use Rattle.hoa_reader.proofs.DescribedWellFormed.{valid_is_well_formed}
 use Rattle.hoa_reader.specs.Counts.{PassesNone}
 use Rattle.hoa_reader.specs.Described.{described}
-use Rattle.hoa_reader.specs.Raw.{written}
+use Rattle.hoa_parser.specs.Raw.{written}
 use Rattle.hoa_reader.specs.Validity.{IsValid}
 use Rattle.hoa_reader.proofs.elaborate.describe.Goals as goal
 

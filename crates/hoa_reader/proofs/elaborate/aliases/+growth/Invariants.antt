@@ -1,6 +1,6 @@
 use Rattle.std.proofs.Common.{◌≡◌, ◌≤◌, ◌^◌, ◌-◌, ◌+◌, max, map, drop}
 use Rattle.hoa_reader.specs.Growing.{cap, capped_heights, capped_sizes, heights_in, sizes_in}
-use Rattle.hoa_reader.specs.Raw.{raw_tree, raw_trees}
+use Rattle.hoa_parser.specs.Raw.{raw_tree, raw_trees}
 use Rattle.hoa_reader.proofs.elaborate.aliases.+growth.Given as goal
 
 abbrev pub invariant-all_growth-labels : goal.invariant-all_growth-labels

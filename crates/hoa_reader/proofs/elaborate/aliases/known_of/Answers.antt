@@ -7,10 +7,10 @@ use Rattle.hoa_reader.specs.Described.{expanded}
 use Rattle.hoa_reader.specs.Growing.{IsKnownAs, IsKnownBy, IsKnownOne, alias_name, meaning_names}
 use Rattle.hoa_reader.specs.Validity.{aliases_among}
 use Rattle.hoa_reader.specs.Places.{place_in}
-use Rattle.hoa_reader.specs.Raw as raw
-use Rattle.hoa_reader.specs.Raw.{raw_tree}
+use Rattle.hoa_parser.specs.Raw as raw
+use Rattle.hoa_parser.specs.Raw.{raw_tree}
 use Rattle.hoa_reader.specs.declared.elaborate.aliases.Known.{Known}
-use Rattle.hoa_reader.specs.declared.raw.RawLabel.{RawLabel}
+use Rattle.hoa_parser.specs.declared.raw.RawLabel.{RawLabel}
 use Rattle.hoa_reader.proofs.elaborate.aliases.known_of.Goals as goal
 
 pub returns-in-Some-find : goal.returns-in-Some-find

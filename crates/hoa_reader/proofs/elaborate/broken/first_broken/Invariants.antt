@@ -1,5 +1,5 @@
 use Rattle.std.proofs.Common.{take}
-use Rattle.hoa_reader.specs.Raw.{written}
+use Rattle.hoa_parser.specs.Raw.{written}
 use Rattle.hoa_reader.specs.Validity.{AreKept, rules}
 use Rattle.hoa_reader.proofs.elaborate.broken.first_broken.Given as goal
 

@@ -2,10 +2,10 @@ use Rattle.std.proofs.Common.{map, List, ap, sym, ◌∙◌, nat_le}
 use Rattle.std.specs.Prelude.{filter_map}
 use Rattle.std.specs.List.{list_all}
 use Rattle.hoa_reader.proofs.AfterAll.{list_all_same, numbers_below-after}
-use Rattle.hoa_reader.specs.Raw.{written, written_item}
+use Rattle.hoa_parser.specs.Raw.{written, written_item}
 use Rattle.hoa_reader.specs.Validity.{keeps, numbers_below, states_item, used_states}
 use Rattle.hoa_reader.specs.declared.elaborate.Rule.{Rule}
-use Rattle.hoa_reader.specs.declared.raw.Item.{Item}
+use Rattle.hoa_parser.specs.declared.raw.Item.{Item}
 use Rattle.hoa_reader.proofs.elaborate.broken.keeps.Goals as goal
 
 pub returns-in-V6 : goal.returns-in-V6

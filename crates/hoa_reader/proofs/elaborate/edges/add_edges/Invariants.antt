@@ -2,7 +2,7 @@ use Rattle.std.proofs.Common.{◌≡◌, ◌++◌, map, drop, ℕ}
 use Rattle.std.specs.List.{enumerate_from}
 use Rattle.aut_base.specs.Automaton.{arrow}
 use Rattle.hoa_reader.specs.Arrows.{arrow_for}
-use Rattle.hoa_reader.specs.Raw.{WrittenEdge, written_edge, written_state}
+use Rattle.hoa_parser.specs.Raw.{WrittenEdge, written_edge, written_state}
 use Rattle.hoa_reader.proofs.elaborate.edges.add_edges.Given as goal
 
 abbrev pub invariant-written : goal.invariant-written

@@ -6,7 +6,7 @@ use Rattle.aut_base.specs.Marks.{is_in}
 use Rattle.hoa_reader.proofs.Starts.{filter_below}
 use Rattle.hoa_reader.specs.Arrows.{label_for}
 use Rattle.hoa_reader.specs.Described.{below, marks_in_order, only_state}
-use Rattle.hoa_reader.specs.Raw.{written_edge, written_state}
+use Rattle.hoa_parser.specs.Raw.{written_edge, written_state}
 use Rattle.hoa_reader.proofs.elaborate.edges.edge_of.Goals as goal
 
 both_sets : (sets : ℕ) (own : List Bool) (first second : List ℕ) → length own ≡ sets → ((k : ℕ) → k < sets → get_or own k false ≡ is_in k first) → filter (λ k. get_or own k false || is_in k second) (below (length own)) ≡ marks_in_order sets (first ++ second)

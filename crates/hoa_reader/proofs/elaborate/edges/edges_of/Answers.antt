@@ -4,7 +4,7 @@ use Rattle.std.specs.Prelude.{flat_map}
 use Rattle.aut_base.specs.Automaton.{Arrow, arrow}
 use Rattle.hoa_reader.proofs.Indexing.{edges_more, got_map}
 use Rattle.hoa_reader.specs.Arrows.{IsDefinedAt, IsPlace, arrows_for, edges_for}
-use Rattle.hoa_reader.specs.Raw.{WrittenState, written_state}
+use Rattle.hoa_parser.specs.Raw.{WrittenState, written_state}
 use Rattle.hoa_reader.proofs.elaborate.edges.edges_of.Goals as goal
 
 pub numbers-preserved : goal.numbers-preserved

@@ -1,7 +1,7 @@
 use Rattle.std.proofs.Common.{◌≡◌, map}
 use Rattle.aut_base.specs.Automaton.{arrow}
 use Rattle.hoa_reader.specs.Arrows.{edges_for}
-use Rattle.hoa_reader.specs.Raw.{written_state}
+use Rattle.hoa_parser.specs.Raw.{written_state}
 use Rattle.hoa_reader.proofs.elaborate.edges.edges_of.Given as goal
 
 abbrev pub invariant-numbers : goal.invariant-numbers

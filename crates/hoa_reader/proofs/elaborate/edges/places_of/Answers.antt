@@ -6,9 +6,9 @@ use Rattle.hoa_reader.proofs.Differing.{one_more, parted, repeats}
 use Rattle.hoa_reader.proofs.Indexing.{index_more}
 use Rattle.hoa_reader.specs.Arrows.{IsPlace}
 use Rattle.hoa_reader.specs.Pieces.{numbers}
-use Rattle.hoa_reader.specs.Raw.{WrittenState, written_state}
+use Rattle.hoa_parser.specs.Raw.{WrittenState, written_state}
 use Rattle.hoa_reader.specs.Validity.{all_differ}
-use Rattle.hoa_reader.specs.declared.raw.RawState.{RawState}
+use Rattle.hoa_parser.specs.declared.raw.RawState.{RawState}
 use Rattle.hoa_reader.proofs.elaborate.edges.places_of.Goals as goal
 
 abbrev named : List RawState → List ℕ

@@ -2,25 +2,25 @@ use Rattle.std.proofs.Common.{◌≡◌, ◌<◌, ◌≤◌, ℕ, List, map, Opt
 use Rattle.aut_base.proofs.LabelTrees.{label_tree-False}
 use Rattle.aut_base.specs.Label.{LabelTree, label_size, label_tree, labels_size}
 use Rattle.hoa_reader.proofs.Expanding.{and_of, bit_small, or_of, part_size, parts_expanded, size_pos}
-use Rattle.hoa_reader.proofs.LabelForms.{tree-Alias, tree-And, tree-Or}
+use Rattle.hoa_parser.proofs.RawTrees.{raw_tree-Alias, raw_tree-And-fields, raw_tree-Or-fields}
 use Rattle.hoa_reader.proofs.Meanings.{at_or, meaning_missing}
 use Rattle.hoa_reader.specs.Described.{each_expanded, expanded, meaning_of}
 use Rattle.hoa_reader.specs.Growing.{AreKnown, IsKnownBy, IsKnownOne, alias_name, meaning_names, meanings_by, steps_left}
 use Rattle.hoa_reader.specs.Places.{place_in}
-use Rattle.hoa_reader.specs.Raw.{RawTree, raw_tree, raw_trees}
+use Rattle.hoa_parser.specs.Raw.{RawTree, raw_tree, raw_trees}
 use Rattle.hoa_reader.specs.Validity.{is_listed}
 use Rattle.hoa_reader.specs.declared.elaborate.aliases.Known.{Known}
 use Rattle.hoa_reader.specs.declared.elaborate.parts.AliasDef.{AliasDef}
 use Rattle.hoa_reader.specs.declared.elaborate.places.Places.{Places}
-use Rattle.hoa_reader.specs.declared.raw.RawLabel.{RawLabel}
-use Rattle.hoa_reader.specs.declared.raw.RawLabel.TheVariants as raw_label
+use Rattle.hoa_parser.specs.declared.raw.RawLabel.{RawLabel}
+use Rattle.hoa_parser.specs.declared.raw.RawLabel.TheVariants as raw_label
 use Rattle.hoa_reader.proofs.elaborate.labels.+expand.Goals as goal
 
 found : (defs : List AliasDef) (known : Places Known) (name : List ℕ) (k : Known) → AreKnown (meanings_by defs) defs known → place_in known name ≡ Some k → IsKnownOne (meanings_by defs) defs name k
 found defs known name k all is = let P : Option Known → Type 0 = λ o. IsKnownBy (meanings_by defs) defs name o in subst P is (all name)
 
 is_alias : (defs : List AliasDef) (label : RawLabel) (name : List ℕ) → label ≡ raw_label.Alias name → expanded (meanings_by defs) (raw_tree label) ≡ meaning_of (meanings_by defs) name
-is_alias defs label name is = ap (λ l. expanded (meanings_by defs) (raw_tree l)) is ∙ ap (expanded (meanings_by defs)) (tree-Alias name)
+is_alias defs label name is = ap (λ l. expanded (meanings_by defs) (raw_tree l)) is ∙ ap (expanded (meanings_by defs)) (raw_tree-Alias name)
 
 pub expand-returns-in-Some : goal.expand-returns-in-Some
 expand-returns-in-Some t c =
@@ -46,7 +46,7 @@ expand-returns-in_ok-expand_parts-in-And t c =
     let p = c.in-And.parts in
     and_of c.in_ok-expand_parts-in-And.field-0 (expanded ms (raw_tree p.first.value)) (expanded ms (raw_tree p.second.value)) (map (λ x. expanded ms (raw_tree x)) p.others.items) c.in_ok-expand_parts-in-And.ensures
     ∙ ap (LabelTree.And (expanded ms (raw_tree p.first.value)) (expanded ms (raw_tree p.second.value))) (sym (parts_expanded ms p.others.items))
-    ∙ sym (ap (λ l. expanded ms (raw_tree l)) c.in-And.is ∙ ap (expanded ms) (tree-And p))
+    ∙ sym (ap (λ l. expanded ms (raw_tree l)) c.in-And.is ∙ ap (expanded ms) (raw_tree-And-fields p))
 
 pub expand-returns-in_ok-expand_parts-in-Or : goal.expand-returns-in_ok-expand_parts-in-Or
 expand-returns-in_ok-expand_parts-in-Or t c =
@@ -54,7 +54,7 @@ expand-returns-in_ok-expand_parts-in-Or t c =
     let p = c.in-Or.parts in
     or_of c.in_ok-expand_parts-in-Or.field-0 (expanded ms (raw_tree p.first.value)) (expanded ms (raw_tree p.second.value)) (map (λ x. expanded ms (raw_tree x)) p.others.items) c.in_ok-expand_parts-in-Or.ensures
     ∙ ap (LabelTree.Or (expanded ms (raw_tree p.first.value)) (expanded ms (raw_tree p.second.value))) (sym (parts_expanded ms p.others.items))
-    ∙ sym (ap (λ l. expanded ms (raw_tree l)) c.in-Or.is ∙ ap (expanded ms) (tree-Or p))
+    ∙ sym (ap (λ l. expanded ms (raw_tree l)) c.in-Or.is ∙ ap (expanded ms) (raw_tree-Or-fields p))
 
 pub expand_parts-expand-requires : goal.expand_parts-expand-requires
 expand_parts-expand-requires t c =

@@ -1,5 +1,5 @@
 use Rattle.std.proofs.Common.{◌≡◌, true, map, drop, nat_lt}
-use Rattle.hoa_reader.specs.Raw.{raw_tree, raw_trees}
+use Rattle.hoa_parser.specs.Raw.{raw_tree, raw_trees}
 use Rattle.hoa_reader.specs.Validity.{all_leaves_pass}
 use Rattle.hoa_reader.proofs.elaborate.leaves.+props_below.Given as goal
 

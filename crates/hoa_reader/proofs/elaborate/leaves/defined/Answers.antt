@@ -6,8 +6,9 @@ use Rattle.hoa_reader.proofs.Differing.{differ_more, found_or, one_more, parted,
 use Rattle.hoa_reader.proofs.Leaves.{leaves_agree}
 use Rattle.hoa_reader.specs.Pieces.{alias_def, line_names}
 use Rattle.hoa_reader.specs.Places.{place_in}
-use Rattle.hoa_reader.specs.Raw.{raw_tree}
-use Rattle.hoa_reader.specs.Validity.{AliasLine, aliases_among, all_differ, is_listed, same_text, uses_earlier}
+use Rattle.hoa_parser.specs.Raw.{raw_tree}
+use Rattle.aut_base.specs.Text.{same_text}
+use Rattle.hoa_reader.specs.Validity.{AliasLine, aliases_among, all_differ, is_listed, uses_earlier}
 use Rattle.hoa_reader.specs.declared.elaborate.parts.AliasDef.{AliasDef}
 use Rattle.hoa_reader.proofs.elaborate.leaves.defined.Goals as goal
 

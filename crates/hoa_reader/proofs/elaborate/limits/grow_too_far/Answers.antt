@@ -6,13 +6,13 @@ use Rattle.hoa_reader.specs.Described.{Meaning, expanded, meanings_after, meanin
 use Rattle.hoa_reader.specs.Gathered.{ArePartsOf}
 use Rattle.hoa_reader.specs.Growing.{AreKnown, cap, meanings_by}
 use Rattle.hoa_reader.specs.Pieces.{label_refs}
-use Rattle.hoa_reader.specs.Raw.{RawTree, Written, WrittenState, written, written_state}
+use Rattle.hoa_parser.specs.Raw.{RawTree, Written, WrittenState, written, written_state}
 use Rattle.hoa_reader.specs.Validity.{body_labels}
 use Rattle.hoa_reader.specs.Weighing.{are_tall, counted}
 use Rattle.hoa_reader.specs.declared.elaborate.aliases.Known.{Known}
 use Rattle.hoa_reader.specs.declared.elaborate.parts.Parts.{Parts}
 use Rattle.hoa_reader.specs.declared.elaborate.places.Places.{Places}
-use Rattle.hoa_reader.specs.declared.raw.RawState.{RawState}
+use Rattle.hoa_parser.specs.declared.raw.RawState.{RawState}
 use Rattle.hoa_reader.proofs.elaborate.limits.grow_too_far.Goals as goal
 
 grows : (w : Written) (p : Parts) (known : Places Known) (tall heavy : Bool) → ArePartsOf w p → AreKnown (meanings_by p.defs.items) p.defs.items known → tall ≡ are_tall known (body_labels w) → heavy ≡ nat_lt 16785407 (counted known w.states) → (tall || heavy) ≡ nat_lt 2048 (count_of Aliases w)

@@ -1,5 +1,5 @@
 use Rattle.std.proofs.Common.{◌≡◌, map, filter_map, drop}
-use Rattle.hoa_reader.specs.Raw.{written_item}
+use Rattle.hoa_parser.specs.Raw.{written_item}
 use Rattle.hoa_reader.specs.Validity.{states_item}
 use Rattle.hoa_reader.proofs.elaborate.parts.count_of_states.Given as goal
 

@@ -2,10 +2,10 @@ use Rattle.std.proofs.Common.{◌≡◌, ◌++◌, map, List, [], ℕ, ap, ◌�
 use Rattle.std.specs.Prelude.{filter_map, flat_map}
 use Rattle.hoa_reader.specs.Described.{after_all}
 use Rattle.hoa_reader.specs.Pieces.{goals, numbers, starts_named}
-use Rattle.hoa_reader.specs.Raw.{written_item, written_state}
+use Rattle.hoa_parser.specs.Raw.{written_item, written_state}
 use Rattle.hoa_reader.specs.Validity.{acceptance_item, alias_item, names_item, no_acceptance, start_item, state_labels}
-use Rattle.hoa_reader.specs.declared.raw.Item.{Item}
-use Rattle.hoa_reader.specs.declared.raw.RawState.{RawState}
+use Rattle.hoa_parser.specs.declared.raw.Item.{Item}
+use Rattle.hoa_parser.specs.declared.raw.RawState.{RawState}
 use Rattle.hoa_reader.proofs.elaborate.parts.parts_of.Goals as goal
 
 pub returns : goal.returns

@@ -1,6 +1,6 @@
 use Rattle.std.proofs.Common.{◌≡◌, map, drop}
 use Rattle.std.specs.List.{list_all}
-use Rattle.hoa_reader.specs.Raw.{written_state}
+use Rattle.hoa_parser.specs.Raw.{written_state}
 use Rattle.hoa_reader.specs.Validity.{is_one_state}
 use Rattle.hoa_reader.proofs.elaborate.rules.all_lead_to_single_states.Given as goal
 

@@ -1,6 +1,6 @@
 use Rattle.std.proofs.Common.{◌≡◌, map, drop}
 use Rattle.std.specs.List.{list_all}
-use Rattle.hoa_reader.specs.Raw.{written_item}
+use Rattle.hoa_parser.specs.Raw.{written_item}
 use Rattle.hoa_reader.specs.Validity.{names_agree}
 use Rattle.hoa_reader.proofs.elaborate.rules.all_names_agree.Given as goal
 

@@ -1,6 +1,6 @@
 use Rattle.std.proofs.Common.{◌≡◌, is_none, map, drop}
 use Rattle.std.specs.List.{list_all}
-use Rattle.hoa_reader.specs.Raw.{written_edge}
+use Rattle.hoa_parser.specs.Raw.{written_edge}
 use Rattle.hoa_reader.proofs.elaborate.rules.none_labelled.Given as goal
 
 abbrev pub invariant-edges : goal.invariant-edges

@@ -6,9 +6,9 @@ use Rattle.std.specs.BTreeSet as tree
 use Rattle.std.specs.List.{list_any}
 use Rattle.std.specs.Ordering.{is_eq, nat_cmp}
 use Rattle.hoa_reader.proofs.Differing.{among_or, differ_more, one_more, parted, repeats}
-use Rattle.hoa_reader.specs.Raw.{WrittenState, written_state}
+use Rattle.hoa_parser.specs.Raw.{WrittenState, written_state}
 use Rattle.hoa_reader.specs.Validity.{all_differ}
-use Rattle.hoa_reader.specs.declared.raw.RawState.{RawState}
+use Rattle.hoa_parser.specs.declared.raw.RawState.{RawState}
 use Rattle.hoa_reader.proofs.elaborate.rules.numbers_differ.Goals as goal
 
 abbrev numbers : List RawState → List ℕ

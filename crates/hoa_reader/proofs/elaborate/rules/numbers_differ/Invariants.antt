@@ -2,7 +2,7 @@ use Rattle.std.proofs.Common.{◌≡◌, ◌==◌, true, map, take, ℕ}
 use Rattle.std.specs.BTreeSet as tree
 use Rattle.std.specs.List.{list_any}
 use Rattle.std.specs.Ordering.{nat_cmp}
-use Rattle.hoa_reader.specs.Raw.{written_state}
+use Rattle.hoa_parser.specs.Raw.{written_state}
 use Rattle.hoa_reader.specs.Validity.{all_differ}
 use Rattle.hoa_reader.proofs.elaborate.rules.numbers_differ.Given as goal
 

@@ -3,8 +3,8 @@ use Rattle.std.specs.Prelude.{flat_map}
 use Rattle.hoa_reader.proofs.AfterAll.{after_all-append}
 use Rattle.hoa_reader.proofs.Differing.{rest_at}
 use Rattle.hoa_reader.specs.Described.{after_all}
-use Rattle.hoa_reader.specs.Raw.{WrittenEdge, written_edge}
-use Rattle.hoa_reader.specs.declared.raw.RawEdge.{RawEdge}
+use Rattle.hoa_parser.specs.Raw.{WrittenEdge, written_edge}
+use Rattle.hoa_parser.specs.declared.raw.RawEdge.{RawEdge}
 use Rattle.hoa_reader.proofs.elaborate.used.after_edges.Goals as goal
 
 abbrev ends : List RawEdge → List ℕ

@@ -1,7 +1,7 @@
 use Rattle.std.proofs.Common.{◌≡◌, max, map, drop}
 use Rattle.std.specs.Prelude.{flat_map}
 use Rattle.hoa_reader.specs.Described.{after_all}
-use Rattle.hoa_reader.specs.Raw.{WrittenEdge, written_edge}
+use Rattle.hoa_parser.specs.Raw.{WrittenEdge, written_edge}
 use Rattle.hoa_reader.proofs.elaborate.used.after_edges.Given as goal
 
 abbrev pub invariant-edges : goal.invariant-edges

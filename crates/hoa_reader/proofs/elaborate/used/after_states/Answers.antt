@@ -4,8 +4,8 @@ use Rattle.hoa_reader.proofs.AfterAll.{goals-cons}
 use Rattle.hoa_reader.proofs.Differing.{rest_at}
 use Rattle.hoa_reader.specs.Described.{after_all}
 use Rattle.hoa_reader.specs.Pieces.{goals, numbers}
-use Rattle.hoa_reader.specs.Raw.{WrittenEdge, written_edge, written_state}
-use Rattle.hoa_reader.specs.declared.raw.RawState.{RawState}
+use Rattle.hoa_parser.specs.Raw.{WrittenEdge, written_edge, written_state}
+use Rattle.hoa_parser.specs.declared.raw.RawState.{RawState}
 use Rattle.hoa_reader.proofs.elaborate.used.after_states.Goals as goal
 
 abbrev own : List RawState → ℕ

@@ -1,7 +1,7 @@
 use Rattle.std.proofs.Common.{◌≡◌, map, drop, nat_le}
 use Rattle.std.specs.Prelude.{filter_map}
 use Rattle.std.specs.List.{list_all}
-use Rattle.hoa_reader.specs.Raw.{written_item}
+use Rattle.hoa_parser.specs.Raw.{written_item}
 use Rattle.hoa_reader.specs.Validity.{states_item}
 use Rattle.hoa_reader.proofs.elaborate.used.are_counted.Given as goal
 

@@ -1,0 +1,5 @@
+use Rattle.hoa_parser.proofs.GrammarExamples.{grammar_examples}
+use Rattle.hoa_parser.proofs.laws.grammar_examples.Goals as goal
+
+pub returns : goal.returns
+returns c = grammar_examples

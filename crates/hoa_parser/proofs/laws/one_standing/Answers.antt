@@ -1,0 +1,5 @@
+use Rattle.hoa_parser.proofs.OneStanding.{one_standing}
+use Rattle.hoa_parser.proofs.laws.one_standing.Goals as goal
+
+pub returns : goal.returns
+returns c = one_standing

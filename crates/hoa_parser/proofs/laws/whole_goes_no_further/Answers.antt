@@ -1,0 +1,5 @@
+use Rattle.hoa_parser.proofs.OneRaw.{whole_goes_no_further}
+use Rattle.hoa_parser.proofs.laws.whole_goes_no_further.Goals as goal
+
+pub returns : goal.returns
+returns c = whole_goes_no_further

@@ -1,0 +1,60 @@
+use Rattle.std.proofs.Common.{◌+◌, ◌-◌, ◌*◌, ◌∷◌, [], Ok}
+use Rattle.hoa_lexer.specs.Reading.{held_count}
+use Rattle.hoa_parser.specs.Chains.{AddsLands, AddsLnots}
+use Rattle.hoa_parser.specs.Expecting.{Factors, Products}
+use Rattle.hoa_parser.specs.Parsing.{Reads, state}
+use Rattle.hoa_parser.specs.Raw.{raw_tree}
+use Rattle.hoa_parser.proofs.parse.label.+label.Given as goal
+
+abbrev pub decreases-and_lnot : goal.decreases-and_lnot
+decreases-and_lnot g l = 8 * (512 - l.depth) + 3
+
+abbrev pub decreases-and_lnots : goal.decreases-and_lnots
+decreases-and_lnots g l = 8 * (512 - l.depth) + 4
+
+abbrev pub decreases-group : goal.decreases-group
+decreases-group g l = 8 * (512 - l.depth) + 1
+
+abbrev pub decreases-label : goal.decreases-label
+decreases-label g l = 8 * (512 - l.depth) + 8
+
+abbrev pub decreases-land : goal.decreases-land
+decreases-land g l = 8 * (512 - l.depth) + 5
+
+abbrev pub decreases-lnot : goal.decreases-lnot
+decreases-lnot g l = 8 * (512 - l.depth) + 2
+
+abbrev pub decreases-negation : goal.decreases-negation
+decreases-negation g l = 8 * (512 - l.depth) + 1
+
+abbrev pub decreases-or_land : goal.decreases-or_land
+decreases-or_land g l = 8 * (512 - l.depth) + 6
+
+abbrev pub decreases-or_lands : goal.decreases-or_lands
+decreases-or_lands g l = 8 * (512 - l.depth) + 7
+
+abbrev pub invariant-and_lnots-lnots : goal.invariant-and_lnots-lnots
+invariant-and_lnots-lnots g l =
+    let left = g.I.Inputs.left in
+    let reads = g.I.Inputs.read_faults in
+    let opens = g.I.Inputs.open_faults in
+    let texts = g.I.Inputs.texts in
+    Reads (Factors l.fn.depth ∷ []) (Factors l.fn.depth ∷ []) (AddsLnots l.fn.depth (raw_tree l.fn.first)) (Ok l.parts)
+    (state l.fn.lexer l.fn.ahead (left l.fn.inputs) (reads l.fn.inputs) (opens l.fn.inputs) (texts l.fn.inputs))
+    (state l.lexer l.ahead (left l.inputs) (reads l.inputs) (opens l.inputs) (texts l.inputs))
+
+abbrev pub decreases-and_lnots-lnots : goal.decreases-and_lnots-lnots
+decreases-and_lnots-lnots g l = l.lexer.most + 1 - (l.lexer.taken - held_count l.lexer.held)
+
+abbrev pub invariant-or_lands-lands : goal.invariant-or_lands-lands
+invariant-or_lands-lands g l =
+    let left = g.I.Inputs.left in
+    let reads = g.I.Inputs.read_faults in
+    let opens = g.I.Inputs.open_faults in
+    let texts = g.I.Inputs.texts in
+    Reads (Products l.fn.depth ∷ []) (Products l.fn.depth ∷ []) (AddsLands l.fn.depth (raw_tree l.fn.first)) (Ok l.parts)
+    (state l.fn.lexer l.fn.ahead (left l.fn.inputs) (reads l.fn.inputs) (opens l.fn.inputs) (texts l.fn.inputs))
+    (state l.lexer l.ahead (left l.inputs) (reads l.inputs) (opens l.inputs) (texts l.inputs))
+
+abbrev pub decreases-or_lands-lands : goal.decreases-or_lands-lands
+decreases-or_lands-lands g l = l.lexer.most + 1 - (l.lexer.taken - held_count l.lexer.held)

@@ -1,0 +1,12 @@
+use Rattle.std.proofs.Common.{[], refl}
+use Rattle.hoa_lexer.specs.declared.token.Token.TheVariants as token
+use Rattle.hoa_parser.proofs.Others.{no_opening_paren}
+use Rattle.hoa_parser.proofs.Tokens.{token_read, token_refused}
+use Rattle.hoa_parser.specs.Expecting.{OpeningParen}
+use Rattle.hoa_parser.proofs.parse.tokens.opening_paren.Goals as goal
+
+pub returns-in-LeftParen : goal.returns-in-LeftParen
+returns-in-LeftParen g c = record { reads = token_read OpeningParen token.LeftParen _ c.advance.result _ _ c.in-LeftParen.is refl refl (λ v a b h. h) c.advance.ensures }
+
+pub returns-in_default : goal.returns-in_default
+returns-in_default g c = record { reads = token_refused OpeningParen [] [] _ _ _ c.requires.unspent (no_opening_paren _ c.in_default.not-LeftParen) c.refused.ensures }

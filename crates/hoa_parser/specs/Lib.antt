@@ -1,0 +1,14 @@
+pub mod Chains
+pub mod Expecting
+pub mod Faults
+pub mod Grammar
+pub mod GrammarExamples
+pub mod GrammarLaws
+pub mod Naming
+pub mod Parsing
+pub mod Parts
+pub mod Raw
+pub mod Reads
+pub mod Standing
+pub mod StandingLaws
+pub mod WrittenDown

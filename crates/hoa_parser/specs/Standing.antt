@@ -1,0 +1,114 @@
+-- What stands next in a text: an automaton, only blanks, or what a reader has to refuse.
+use Rattle.std.specs.Prelude.{◌≡◌, ◌≢◌, ℕ, ◌+◌, ◌-◌, ◌⊎◌, List, [], ◌∷◌, ◌++◌, length, map}
+use Rattle.hoa_lexer.specs.Blanks.{IsBlanks, IsOpenComment}
+use Rattle.hoa_lexer.specs.Text.{AfterBlanks, IsNext, IsNoToken, IsOpenString, IsOpenToken, Lexes}
+use Rattle.hoa_lexer.specs.declared.token.Token.{Token}
+use Rattle.hoa_lexer.specs.declared.token.Token.TheVariants as token
+use Rattle.hoa_parser.specs.Grammar.{IsViable, Spells}
+use Rattle.hoa_parser.specs.Raw.{Written}
+
+-- the most `(` and `!` that may be open at once
+abbrev pub most_depth : ℕ
+most_depth = 512
+
+-- the tokens spell no automaton, whatever is open in it
+abbrev pub SpellsNothing : List Token → Type 0
+SpellsNothing tokens = (most : ℕ) (w : Written) → Spells most tokens w → ⊥
+
+-- No automaton begins with these tokens.
+abbrev pub IsDead : List Token → Type 0
+IsDead tokens = (most : ℕ) → IsViable most tokens → ⊥
+
+-- Closed tokens at the front of the text, of which no more than may be are open: an automaton may begin so, and none is
+-- whole yet. `rest` follows them. The text begins `start` bytes after the start of its whole.
+pub record IsBegun (start : ℕ) (text : List ℕ) (tokens : List Token) (used : ℕ) (rest : List ℕ) : Type 0 where
+  pub placed : List (Token × ℕ)
+  pub shown : map (λ p. p.0) placed ≡ tokens
+  pub lexes : Lexes text start placed rest
+  pub used_is : used ≡ start + (length text - length rest)
+  pub viable : IsViable most_depth tokens
+  pub unfinished : SpellsNothing tokens
+
+-- an automaton stands whole, and `rest` follows its `--END--`
+pub record IsWhole (start : ℕ) (text : List ℕ) (w : Written) (rest : List ℕ) : Type 0 where
+  pub placed : List (Token × ℕ)
+  pub lexes : Lexes text start placed rest
+  pub spells : Spells most_depth (map (λ p. p.0) placed) w
+
+-- A token cannot stand at offset k. After one or more tokens `--ABORT--` is not such a token: it abandons the automaton.
+pub record IsMisplaced (k : ℕ) (tokens : List Token) (used : ℕ) (rest : List ℕ) : Type 0 where
+  pub next_token : Token
+  pub after : List ℕ
+  pub next : IsNext rest used next_token k after
+  pub dead : IsDead (tokens ++ next_token ∷ [])
+  pub no_abort : (tokens ≢ []) → next_token ≢ token.Abort
+
+-- the bytes at offset k can be no token
+abbrev pub IsNoTokenAt : ℕ → ℕ → List ℕ → Type 0
+IsNoTokenAt k used rest = AfterBlanks rest (λ bytes. (k + length bytes ≡ used + length rest) × IsNoToken bytes)
+
+-- The text cannot go on at offset k as it does.
+pub record IsBad (start : ℕ) (text : List ℕ) (k : ℕ) : Type 0 where
+  pub tokens : List Token
+  pub used : ℕ
+  pub rest : List ℕ
+  pub begun : IsBegun start text tokens used rest
+  pub fault : IsMisplaced k tokens used rest ⊎ IsNoTokenAt k used rest
+
+-- A token opens one more than may be open.
+pub record IsDeep (start : ℕ) (text : List ℕ) : Type 0 where
+  pub tokens : List Token
+  pub used : ℕ
+  pub rest : List ℕ
+  pub begun : IsBegun start text tokens used rest
+  pub next_token : Token
+  pub offset : ℕ
+  pub after : List ℕ
+  pub next : IsNext rest used next_token offset after
+  pub most : ℕ
+  pub viable : IsViable most (tokens ++ next_token ∷ [])
+  pub too_deep : IsViable most_depth (tokens ++ next_token ∷ []) → ⊥
+
+-- the automaton is abandoned
+pub record IsAborted (start : ℕ) (text : List ℕ) : Type 0 where
+  pub tokens : List Token
+  pub used : ℕ
+  pub rest : List ℕ
+  pub begun : IsBegun start text tokens used rest
+  pub some : tokens ≢ []
+  pub offset : ℕ
+  pub after : List ℕ
+  pub next : IsNext rest used token.Abort offset after
+
+-- a text ends inside a comment, a string or another token
+abbrev pub EndsOpen : List ℕ → Type 0
+EndsOpen rest = AfterBlanks rest IsOpenComment ⊎ (AfterBlanks rest IsOpenString ⊎ AfterBlanks rest IsOpenToken)
+
+-- The text ends inside an automaton.
+pub record IsCut (start : ℕ) (text : List ℕ) : Type 0 where
+  pub tokens : List Token
+  pub used : ℕ
+  pub rest : List ℕ
+  pub begun : IsBegun start text tokens used rest
+  pub ends : (tokens ≢ []) × IsBlanks rest ⊎ EndsOpen rest
+
+-- what stands next
+pub data Standing : Type 0 where
+  Blank : Standing
+  Whole : Written → List ℕ → Standing
+  Deep : Standing
+  Bad : ℕ → Standing
+  Aborted : Standing
+  Cut : Standing
+
+abbrev pub Stands : Standing → ℕ → List ℕ → Type 0
+Stands Blank start text = IsBlanks text
+Stands (Whole w rest) start text = IsWhole start text w rest
+Stands Deep start text = IsDeep start text
+Stands (Bad k) start text = IsBad start text k
+Stands Aborted start text = IsAborted start text
+Stands Cut start text = IsCut start text
+
+-- No more than one thing stands next.
+abbrev pub OneStanding : Type 0
+OneStanding = (start : ℕ) (text : List ℕ) (a b : Standing) → Stands a start text → Stands b start text → a ≡ b

@@ -1,0 +1,186 @@
+//! The states of a body and their edges.
+
+ghost use Rattle.std.specs.Prelude.{◌≡◌, ◌≢◌, ◌∷◌, [], false, OnOk};
+ghost use Rattle.hoa_lexer.specs.declared.token.Token.{Token};
+ghost use Rattle.hoa_parser.specs.Expecting as part;
+ghost use Rattle.hoa_parser.specs.Expecting.{move};
+ghost use Rattle.hoa_parser.specs.Parsing.{Reads, Uses, state};
+ghost use Rattle.hoa_parser.specs.Parts.{AreEdges, AreStates, IsEdge, IsMaybeLabel, IsState};
+
+use super::label::label;
+use super::lists::{conj, maybe_marks};
+use super::tokens::{advance, closing_bracket, maybe_quoted, number, refused};
+use crate::header::{Header, header_named};
+use crate::{RawEdge, RawEdges, RawLabel, RawState, RawStates, ReadFault};
+use aut_io::Inputs;
+use hoa_lexer::{Lexer, Token};
+use std::alloc::Global;
+
+/// state*, up to `--END--`
+pub(super) fn states<I: Inputs>(
+    alloc: Global,
+    lexer: &mut Lexer,
+    inputs: &mut I,
+    ahead: &mut Token,
+) -> Result<RawStates, ReadFault>
+    requires unspent { lexer.old.spent ≡ false }
+    ensures reads { Reads (part.States ∷ []) (part.States ∷ []) AreStates result
+        (state lexer.old ahead.old (I.left inputs.old) (I.read_faults inputs.old) (I.open_faults inputs.old) (I.texts inputs.old))
+        (state lexer.new ahead.new (I.left inputs.new) (I.read_faults inputs.new) (I.open_faults inputs.new) (I.texts inputs.new)) }
+    ensures ends { OnOk result (ahead.new ≡ Token.End) }
+{
+    let mut states = RawStates::new(alloc);
+    'states: loop {
+        match ahead {
+            Token::HeaderName(_) => {}
+            Token::End => return Ok(states),
+            _ => return Err(refused(ahead, lexer)),
+        }
+        let state = match state_at(alloc, lexer, inputs, ahead) {
+            Ok(state) => state,
+            Err(fault) => return Err(fault),
+        };
+        states.push(state)?;
+    }
+}
+
+/// state = "State:" ("[" label "]")? INT STRING? sig? edge*
+fn state_at<I: Inputs>(
+    alloc: Global,
+    lexer: &mut Lexer,
+    inputs: &mut I,
+    ahead: &mut Token,
+) -> Result<RawState, ReadFault>
+    requires unspent { lexer.old.spent ≡ false }
+    requires begins { ahead.old ≢ Token.End }
+    ensures reads { Reads (part.States ∷ []) (part.States ∷ []) IsState result
+        (state lexer.old ahead.old (I.left inputs.old) (I.read_faults inputs.old) (I.open_faults inputs.old) (I.texts inputs.old))
+        (state lexer.new ahead.new (I.left inputs.new) (I.read_faults inputs.new) (I.open_faults inputs.new) (I.texts inputs.new)) }
+    ensures uses { Uses result
+        (state lexer.old ahead.old (I.left inputs.old) (I.read_faults inputs.old) (I.open_faults inputs.old) (I.texts inputs.old))
+        (state lexer.new ahead.new (I.left inputs.new) (I.read_faults inputs.new) (I.open_faults inputs.new) (I.texts inputs.new)) }
+{
+    let header = match ahead {
+        Token::HeaderName(name) => header_named(name),
+        _ => return Err(refused(ahead, lexer)),
+    };
+    match header {
+        Header::State => {}
+        _ => return Err(refused(ahead, lexer)),
+    }
+    match advance(alloc, lexer, inputs, ahead) {
+        Ok(()) => {}
+        Err(fault) => return Err(fault),
+    }
+    let label = match maybe_label(alloc, lexer, inputs, ahead) {
+        Ok(label) => label,
+        Err(fault) => return Err(fault),
+    };
+    let number = match number(alloc, lexer, inputs, ahead) {
+        Ok(number) => number,
+        Err(fault) => return Err(fault),
+    };
+    match maybe_quoted(alloc, lexer, inputs, ahead) {
+        Ok(()) => {}
+        Err(fault) => return Err(fault),
+    }
+    let marks = match maybe_marks(alloc, lexer, inputs, ahead) {
+        Ok(marks) => marks,
+        Err(fault) => return Err(fault),
+    };
+    match edges(alloc, lexer, inputs, ahead) {
+        Ok(edges) => Ok(RawState {
+            label,
+            number,
+            marks,
+            edges,
+        }),
+        Err(fault) => Err(fault),
+    }
+}
+
+/// ("[" label "]")?
+fn maybe_label<I: Inputs>(
+    alloc: Global,
+    lexer: &mut Lexer,
+    inputs: &mut I,
+    ahead: &mut Token,
+) -> Result<Option<RawLabel>, ReadFault>
+    requires unspent { lexer.old.spent ≡ false }
+    ensures reads { Reads (part.MaybeLabel ∷ []) [] IsMaybeLabel result
+        (state lexer.old ahead.old (I.left inputs.old) (I.read_faults inputs.old) (I.open_faults inputs.old) (I.texts inputs.old))
+        (state lexer.new ahead.new (I.left inputs.new) (I.read_faults inputs.new) (I.open_faults inputs.new) (I.texts inputs.new)) }
+{
+    match ahead {
+        Token::LeftBracket => {}
+        _ => return Ok(None),
+    }
+    match advance(alloc, lexer, inputs, ahead) {
+        Ok(()) => {}
+        Err(fault) => return Err(fault),
+    }
+    let label = match label(alloc, lexer, inputs, ahead, 0) {
+        Ok(label) => label,
+        Err(fault) => return Err(fault),
+    };
+    match closing_bracket(alloc, lexer, inputs, ahead) {
+        Ok(()) => Ok(Some(label)),
+        Err(fault) => Err(fault),
+    }
+}
+
+/// edge*
+fn edges<I: Inputs>(
+    alloc: Global,
+    lexer: &mut Lexer,
+    inputs: &mut I,
+    ahead: &mut Token,
+) -> Result<RawEdges, ReadFault>
+    requires unspent { lexer.old.spent ≡ false }
+    ensures reads { Reads (part.Edges ∷ []) [] AreEdges result
+        (state lexer.old ahead.old (I.left inputs.old) (I.read_faults inputs.old) (I.open_faults inputs.old) (I.texts inputs.old))
+        (state lexer.new ahead.new (I.left inputs.new) (I.read_faults inputs.new) (I.open_faults inputs.new) (I.texts inputs.new)) }
+{
+    let mut edges = RawEdges::new(alloc);
+    'edges: loop {
+        match ahead {
+            Token::LeftBracket | Token::Int(_) => {}
+            _ => return Ok(edges),
+        }
+        let edge = match edge(alloc, lexer, inputs, ahead) {
+            Ok(edge) => edge,
+            Err(fault) => return Err(fault),
+        };
+        edges.push(edge)?;
+    }
+}
+
+/// edge = ("[" label "]")? conj sig?
+fn edge<I: Inputs>(
+    alloc: Global,
+    lexer: &mut Lexer,
+    inputs: &mut I,
+    ahead: &mut Token,
+) -> Result<RawEdge, ReadFault>
+    requires unspent { lexer.old.spent ≡ false }
+    requires begins { move part.Edges ahead.old ≢ part.Passes }
+    ensures reads { Reads (part.Edges ∷ []) (part.Edges ∷ []) IsEdge result
+        (state lexer.old ahead.old (I.left inputs.old) (I.read_faults inputs.old) (I.open_faults inputs.old) (I.texts inputs.old))
+        (state lexer.new ahead.new (I.left inputs.new) (I.read_faults inputs.new) (I.open_faults inputs.new) (I.texts inputs.new)) }
+    ensures uses { Uses result
+        (state lexer.old ahead.old (I.left inputs.old) (I.read_faults inputs.old) (I.open_faults inputs.old) (I.texts inputs.old))
+        (state lexer.new ahead.new (I.left inputs.new) (I.read_faults inputs.new) (I.open_faults inputs.new) (I.texts inputs.new)) }
+{
+    let label = match maybe_label(alloc, lexer, inputs, ahead) {
+        Ok(label) => label,
+        Err(fault) => return Err(fault),
+    };
+    let to = match conj(alloc, lexer, inputs, ahead) {
+        Ok(to) => to,
+        Err(fault) => return Err(fault),
+    };
+    match maybe_marks(alloc, lexer, inputs, ahead) {
+        Ok(marks) => Ok(RawEdge { label, to, marks }),
+        Err(fault) => Err(fault),
+    }
+}

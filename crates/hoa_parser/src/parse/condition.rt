@@ -1,0 +1,376 @@
+//! Acceptance conditions.
+
+ghost use Rattle.std.specs.Prelude.{◌≡◌, ◌≢◌, ◌≤◌, ◌∷◌, [], false};
+ghost use Rattle.hoa_lexer.specs.declared.token.Token.{Token};
+ghost use Rattle.hoa_parser.specs.Expecting as part;
+ghost use Rattle.hoa_parser.specs.Expecting.{condition_parts, set_parts};
+ghost use Rattle.hoa_parser.specs.Parsing.{Reads, Uses, state};
+ghost use Rattle.hoa_parser.specs.Parts.{IsAndFatom, IsAndFatoms, IsCondition, IsFand, IsFatom, IsMaybeBang, IsSet, sign_at, sign_of, IsOrFand, IsOrFands};
+ghost use Rattle.aut_base.specs.Formula.{formula_tree};
+
+use super::tokens::{advance, closing_paren, number, opening_paren, refused};
+use crate::ReadFault;
+use aut_base::{Formula, Formulas, MOST_DEPTH, Text};
+use aut_io::Inputs;
+use hoa_lexer::{Lexer, Token};
+use std::alloc::Global;
+
+/// formula = fand ("|" fand)*, where `depth` of `(` are open
+#[cycle(condition)]
+pub(super) fn condition<I: Inputs>(
+    alloc: Global,
+    lexer: &mut Lexer,
+    inputs: &mut I,
+    ahead: &mut Token,
+    depth: u32,
+) -> Result<Formula, ReadFault>
+    requires unspent { lexer.old.spent ≡ false }
+    requires depth { depth ≤ 512 }
+    ensures reads { Reads (condition_parts depth) [] (IsCondition depth) result
+        (state lexer.old ahead.old (I.left inputs.old) (I.read_faults inputs.old) (I.open_faults inputs.old) (I.texts inputs.old))
+        (state lexer.new ahead.new (I.left inputs.new) (I.read_faults inputs.new) (I.open_faults inputs.new) (I.texts inputs.new)) }
+{
+    let first = match fand(alloc, lexer, inputs, ahead, depth) {
+        Ok(first) => first,
+        Err(fault) => return Err(fault),
+    };
+    or_fands(alloc, lexer, inputs, ahead, depth, first)
+}
+
+/// ("|" fand)*, behind a first one
+#[cycle(condition)]
+fn or_fands<I: Inputs>(
+    alloc: Global,
+    lexer: &mut Lexer,
+    inputs: &mut I,
+    ahead: &mut Token,
+    depth: u32,
+    first: Formula,
+) -> Result<Formula, ReadFault>
+    requires unspent { lexer.old.spent ≡ false }
+    requires depth { depth ≤ 512 }
+    ensures reads { Reads (part.Conjunctions depth ∷ []) [] (IsOrFands depth (formula_tree first)) result
+        (state lexer.old ahead.old (I.left inputs.old) (I.read_faults inputs.old) (I.open_faults inputs.old) (I.texts inputs.old))
+        (state lexer.new ahead.new (I.left inputs.new) (I.read_faults inputs.new) (I.open_faults inputs.new) (I.texts inputs.new)) }
+{
+    match ahead {
+        Token::Bar => {}
+        _ => return Ok(first),
+    }
+    let second = match or_fand(alloc, lexer, inputs, ahead, depth) {
+        Ok(second) => second,
+        Err(fault) => return Err(fault),
+    };
+    let mut parts = Formulas::pair(alloc, first, second)?;
+    'fands: loop {
+        match ahead {
+            Token::Bar => {}
+            _ => return Ok(Formula::Or(parts)),
+        }
+        let next = match or_fand(alloc, lexer, inputs, ahead, depth) {
+            Ok(next) => next,
+            Err(fault) => return Err(fault),
+        };
+        parts.push(next)?;
+    }
+}
+
+/// "|" fand
+#[cycle(condition)]
+fn or_fand<I: Inputs>(
+    alloc: Global,
+    lexer: &mut Lexer,
+    inputs: &mut I,
+    ahead: &mut Token,
+    depth: u32,
+) -> Result<Formula, ReadFault>
+    requires unspent { lexer.old.spent ≡ false }
+    requires bar { ahead.old ≡ Token.Bar }
+    requires depth { depth ≤ 512 }
+    ensures reads { Reads (part.Conjunctions depth ∷ []) (part.Conjunctions depth ∷ []) (IsOrFand depth) result
+        (state lexer.old ahead.old (I.left inputs.old) (I.read_faults inputs.old) (I.open_faults inputs.old) (I.texts inputs.old))
+        (state lexer.new ahead.new (I.left inputs.new) (I.read_faults inputs.new) (I.open_faults inputs.new) (I.texts inputs.new)) }
+    ensures uses { Uses result
+        (state lexer.old ahead.old (I.left inputs.old) (I.read_faults inputs.old) (I.open_faults inputs.old) (I.texts inputs.old))
+        (state lexer.new ahead.new (I.left inputs.new) (I.read_faults inputs.new) (I.open_faults inputs.new) (I.texts inputs.new)) }
+{
+    match advance(alloc, lexer, inputs, ahead) {
+        Ok(()) => fand(alloc, lexer, inputs, ahead, depth),
+        Err(fault) => Err(fault),
+    }
+}
+
+/// fand = fatom ("&" fatom)*
+#[cycle(condition)]
+fn fand<I: Inputs>(
+    alloc: Global,
+    lexer: &mut Lexer,
+    inputs: &mut I,
+    ahead: &mut Token,
+    depth: u32,
+) -> Result<Formula, ReadFault>
+    requires unspent { lexer.old.spent ≡ false }
+    requires depth { depth ≤ 512 }
+    ensures reads { Reads (part.Atom depth ∷ part.Atoms depth ∷ []) [] (IsFand depth) result
+        (state lexer.old ahead.old (I.left inputs.old) (I.read_faults inputs.old) (I.open_faults inputs.old) (I.texts inputs.old))
+        (state lexer.new ahead.new (I.left inputs.new) (I.read_faults inputs.new) (I.open_faults inputs.new) (I.texts inputs.new)) }
+{
+    let first = match fatom(alloc, lexer, inputs, ahead, depth) {
+        Ok(first) => first,
+        Err(fault) => return Err(fault),
+    };
+    and_fatoms(alloc, lexer, inputs, ahead, depth, first)
+}
+
+/// ("&" fatom)*, behind a first one
+#[cycle(condition)]
+fn and_fatoms<I: Inputs>(
+    alloc: Global,
+    lexer: &mut Lexer,
+    inputs: &mut I,
+    ahead: &mut Token,
+    depth: u32,
+    first: Formula,
+) -> Result<Formula, ReadFault>
+    requires unspent { lexer.old.spent ≡ false }
+    requires depth { depth ≤ 512 }
+    ensures reads { Reads (part.Atoms depth ∷ []) [] (IsAndFatoms depth (formula_tree first)) result
+        (state lexer.old ahead.old (I.left inputs.old) (I.read_faults inputs.old) (I.open_faults inputs.old) (I.texts inputs.old))
+        (state lexer.new ahead.new (I.left inputs.new) (I.read_faults inputs.new) (I.open_faults inputs.new) (I.texts inputs.new)) }
+{
+    match ahead {
+        Token::Amp => {}
+        _ => return Ok(first),
+    }
+    let second = match and_fatom(alloc, lexer, inputs, ahead, depth) {
+        Ok(second) => second,
+        Err(fault) => return Err(fault),
+    };
+    let mut parts = Formulas::pair(alloc, first, second)?;
+    'fatoms: loop {
+        match ahead {
+            Token::Amp => {}
+            _ => return Ok(Formula::And(parts)),
+        }
+        let next = match and_fatom(alloc, lexer, inputs, ahead, depth) {
+            Ok(next) => next,
+            Err(fault) => return Err(fault),
+        };
+        parts.push(next)?;
+    }
+}
+
+/// "&" fatom
+#[cycle(condition)]
+fn and_fatom<I: Inputs>(
+    alloc: Global,
+    lexer: &mut Lexer,
+    inputs: &mut I,
+    ahead: &mut Token,
+    depth: u32,
+) -> Result<Formula, ReadFault>
+    requires unspent { lexer.old.spent ≡ false }
+    requires amp { ahead.old ≡ Token.Amp }
+    requires depth { depth ≤ 512 }
+    ensures reads { Reads (part.Atoms depth ∷ []) (part.Atoms depth ∷ []) (IsAndFatom depth) result
+        (state lexer.old ahead.old (I.left inputs.old) (I.read_faults inputs.old) (I.open_faults inputs.old) (I.texts inputs.old))
+        (state lexer.new ahead.new (I.left inputs.new) (I.read_faults inputs.new) (I.open_faults inputs.new) (I.texts inputs.new)) }
+    ensures uses { Uses result
+        (state lexer.old ahead.old (I.left inputs.old) (I.read_faults inputs.old) (I.open_faults inputs.old) (I.texts inputs.old))
+        (state lexer.new ahead.new (I.left inputs.new) (I.read_faults inputs.new) (I.open_faults inputs.new) (I.texts inputs.new)) }
+{
+    match advance(alloc, lexer, inputs, ahead) {
+        Ok(()) => fatom(alloc, lexer, inputs, ahead, depth),
+        Err(fault) => Err(fault),
+    }
+}
+
+/// fatom = "t" | "f" | ("Inf" | "Fin") "(" "!"? INT ")" | "(" formula ")"
+#[cycle(condition)]
+fn fatom<I: Inputs>(
+    alloc: Global,
+    lexer: &mut Lexer,
+    inputs: &mut I,
+    ahead: &mut Token,
+    depth: u32,
+) -> Result<Formula, ReadFault>
+    requires unspent { lexer.old.spent ≡ false }
+    requires depth { depth ≤ 512 }
+    ensures reads { Reads (part.Atom depth ∷ []) [] (IsFatom depth) result
+        (state lexer.old ahead.old (I.left inputs.old) (I.read_faults inputs.old) (I.open_faults inputs.old) (I.texts inputs.old))
+        (state lexer.new ahead.new (I.left inputs.new) (I.read_faults inputs.new) (I.open_faults inputs.new) (I.texts inputs.new)) }
+{
+    match ahead {
+        Token::LeftParen => group(alloc, lexer, inputs, ahead, depth),
+        _ => atom(alloc, lexer, inputs, ahead, depth),
+    }
+}
+
+/// "(" formula ")"
+#[cycle(condition)]
+fn group<I: Inputs>(
+    alloc: Global,
+    lexer: &mut Lexer,
+    inputs: &mut I,
+    ahead: &mut Token,
+    depth: u32,
+) -> Result<Formula, ReadFault>
+    requires unspent { lexer.old.spent ≡ false }
+    requires paren { ahead.old ≡ Token.LeftParen }
+    requires depth { depth ≤ 512 }
+    ensures reads { Reads (part.Atom depth ∷ []) [] (IsFatom depth) result
+        (state lexer.old ahead.old (I.left inputs.old) (I.read_faults inputs.old) (I.open_faults inputs.old) (I.texts inputs.old))
+        (state lexer.new ahead.new (I.left inputs.new) (I.read_faults inputs.new) (I.open_faults inputs.new) (I.texts inputs.new)) }
+{
+    if depth >= MOST_DEPTH {
+        return Err(ReadFault::Depth);
+    }
+    match advance(alloc, lexer, inputs, ahead) {
+        Ok(()) => {}
+        Err(fault) => return Err(fault),
+    }
+    let inner = match condition(alloc, lexer, inputs, ahead, depth + 1) {
+        Ok(inner) => inner,
+        Err(fault) => return Err(fault),
+    };
+    match closing_paren(alloc, lexer, inputs, ahead) {
+        Ok(()) => Ok(inner),
+        Err(fault) => Err(fault),
+    }
+}
+
+/// What a word says in a condition.
+#[derive(Clone, Copy, Debug, PartialEq, Eq)]
+pub(crate) enum Sign {
+    True,
+    False,
+    Inf,
+    Fin,
+}
+
+/// What the token says in a condition, if anything.
+fn sign_at(token: &Token) -> Option<Sign>
+    ensures { result ≡ sign_at token.now }
+{
+    match token {
+        Token::Identifier(word) => sign_named(word),
+        _ => None,
+    }
+}
+
+/// What the word says, if anything.
+fn sign_named(word: &Text) -> Option<Sign>
+    ensures { result ≡ sign_of word.now }
+{
+    if word.is(b"t") {
+        Some(Sign::True)
+    } else if word.is(b"f") {
+        Some(Sign::False)
+    } else if word.is(b"Inf") {
+        Some(Sign::Inf)
+    } else if word.is(b"Fin") {
+        Some(Sign::Fin)
+    } else {
+        None
+    }
+}
+
+/// "t" | "f" | ("Inf" | "Fin") "(" "!"? INT ")"
+fn atom<I: Inputs>(
+    alloc: Global,
+    lexer: &mut Lexer,
+    inputs: &mut I,
+    ahead: &mut Token,
+    depth: u32,
+) -> Result<Formula, ReadFault>
+    requires unspent { lexer.old.spent ≡ false }
+    requires no_paren { ahead.old ≢ Token.LeftParen }
+    ensures reads { Reads (part.Atom depth ∷ []) [] (IsFatom depth) result
+        (state lexer.old ahead.old (I.left inputs.old) (I.read_faults inputs.old) (I.open_faults inputs.old) (I.texts inputs.old))
+        (state lexer.new ahead.new (I.left inputs.new) (I.read_faults inputs.new) (I.open_faults inputs.new) (I.texts inputs.new)) }
+{
+    let Some(sign) = sign_at(ahead) else {
+        return Err(refused(ahead, lexer));
+    };
+    match advance(alloc, lexer, inputs, ahead) {
+        Ok(()) => {}
+        Err(fault) => return Err(fault),
+    }
+    match sign {
+        Sign::True => Ok(Formula::True),
+        Sign::False => Ok(Formula::False),
+        Sign::Inf => match set(alloc, lexer, inputs, ahead) {
+            Ok(set) => Ok(Formula::Inf {
+                set: set.number,
+                neg: set.neg,
+            }),
+            Err(fault) => Err(fault),
+        },
+        Sign::Fin => match set(alloc, lexer, inputs, ahead) {
+            Ok(set) => Ok(Formula::Fin {
+                set: set.number,
+                neg: set.neg,
+            }),
+            Err(fault) => Err(fault),
+        },
+    }
+}
+
+/// An acceptance set, and whether `!` stands before it.
+#[derive(Clone, Copy)]
+pub(crate) struct SetAt {
+    number: u32,
+    neg: bool,
+}
+
+/// "(" "!"? INT ")"
+fn set<I: Inputs>(
+    alloc: Global,
+    lexer: &mut Lexer,
+    inputs: &mut I,
+    ahead: &mut Token,
+) -> Result<SetAt, ReadFault>
+    requires unspent { lexer.old.spent ≡ false }
+    ensures reads { Reads set_parts [] IsSet result
+        (state lexer.old ahead.old (I.left inputs.old) (I.read_faults inputs.old) (I.open_faults inputs.old) (I.texts inputs.old))
+        (state lexer.new ahead.new (I.left inputs.new) (I.read_faults inputs.new) (I.open_faults inputs.new) (I.texts inputs.new)) }
+{
+    match opening_paren(alloc, lexer, inputs, ahead) {
+        Ok(()) => {}
+        Err(fault) => return Err(fault),
+    }
+    let neg = match maybe_bang(alloc, lexer, inputs, ahead) {
+        Ok(neg) => neg,
+        Err(fault) => return Err(fault),
+    };
+    let number = match number(alloc, lexer, inputs, ahead) {
+        Ok(number) => number,
+        Err(fault) => return Err(fault),
+    };
+    match closing_paren(alloc, lexer, inputs, ahead) {
+        Ok(()) => Ok(SetAt { number, neg }),
+        Err(fault) => Err(fault),
+    }
+}
+
+/// "!"?
+fn maybe_bang<I: Inputs>(
+    alloc: Global,
+    lexer: &mut Lexer,
+    inputs: &mut I,
+    ahead: &mut Token,
+) -> Result<bool, ReadFault>
+    requires unspent { lexer.old.spent ≡ false }
+    ensures reads { Reads (part.MaybeBang ∷ []) [] IsMaybeBang result
+        (state lexer.old ahead.old (I.left inputs.old) (I.read_faults inputs.old) (I.open_faults inputs.old) (I.texts inputs.old))
+        (state lexer.new ahead.new (I.left inputs.new) (I.read_faults inputs.new) (I.open_faults inputs.new) (I.texts inputs.new)) }
+{
+    match ahead {
+        Token::Bang => {}
+        _ => return Ok(false),
+    }
+    match advance(alloc, lexer, inputs, ahead) {
+        Ok(()) => Ok(true),
+        Err(fault) => Err(fault),
+    }
+}

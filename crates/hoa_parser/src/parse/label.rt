@@ -1,0 +1,325 @@
+//! Labels of edges, states and aliases.
+
+ghost use Rattle.std.specs.Prelude.{◌≡◌, ◌≢◌, ◌≤◌, ◌∷◌, [], false, IfOk};
+ghost use Rattle.std.specs.Option.{option_map};
+ghost use Rattle.hoa_lexer.specs.declared.token.Token.{Token};
+ghost use Rattle.hoa_parser.specs.Expecting as part;
+ghost use Rattle.hoa_parser.specs.Expecting.{label_parts};
+ghost use Rattle.hoa_parser.specs.Parsing.{Reads, Uses, state};
+ghost use Rattle.hoa_parser.specs.Parts.{atom_of, truth_value, IsAndLnot, IsAndLnots, IsLabel, IsLand, IsLnot, IsOrLand, IsOrLands};
+ghost use Rattle.hoa_parser.specs.Raw.{raw_tree};
+
+use super::tokens::{advance, closing_paren, refused};
+use crate::{RawLabel, RawLabels, ReadFault};
+use aut_base::{MOST_DEPTH, Memory, Text};
+use aut_io::Inputs;
+use hoa_lexer::{Lexer, Token};
+use std::alloc::Global;
+
+/// label = land ("|" land)*, where `depth` of `(` and `!` are open
+#[cycle(label)]
+pub(super) fn label<I: Inputs>(
+    alloc: Global,
+    lexer: &mut Lexer,
+    inputs: &mut I,
+    ahead: &mut Token,
+    depth: u32,
+) -> Result<RawLabel, ReadFault>
+    requires unspent { lexer.old.spent ≡ false }
+    requires depth { depth ≤ 512 }
+    ensures reads { Reads (label_parts depth) [] (IsLabel depth) result
+        (state lexer.old ahead.old (I.left inputs.old) (I.read_faults inputs.old) (I.open_faults inputs.old) (I.texts inputs.old))
+        (state lexer.new ahead.new (I.left inputs.new) (I.read_faults inputs.new) (I.open_faults inputs.new) (I.texts inputs.new)) }
+{
+    let first = match land(alloc, lexer, inputs, ahead, depth) {
+        Ok(first) => first,
+        Err(fault) => return Err(fault),
+    };
+    or_lands(alloc, lexer, inputs, ahead, depth, first)
+}
+
+/// ("|" land)*, behind a first one
+#[cycle(label)]
+fn or_lands<I: Inputs>(
+    alloc: Global,
+    lexer: &mut Lexer,
+    inputs: &mut I,
+    ahead: &mut Token,
+    depth: u32,
+    first: RawLabel,
+) -> Result<RawLabel, ReadFault>
+    requires unspent { lexer.old.spent ≡ false }
+    requires depth { depth ≤ 512 }
+    ensures reads { Reads (part.Products depth ∷ []) [] (IsOrLands depth (raw_tree first)) result
+        (state lexer.old ahead.old (I.left inputs.old) (I.read_faults inputs.old) (I.open_faults inputs.old) (I.texts inputs.old))
+        (state lexer.new ahead.new (I.left inputs.new) (I.read_faults inputs.new) (I.open_faults inputs.new) (I.texts inputs.new)) }
+{
+    match ahead {
+        Token::Bar => {}
+        _ => return Ok(first),
+    }
+    let second = match or_land(alloc, lexer, inputs, ahead, depth) {
+        Ok(second) => second,
+        Err(fault) => return Err(fault),
+    };
+    let mut parts = RawLabels::pair(alloc, first, second)?;
+    'lands: loop {
+        match ahead {
+            Token::Bar => {}
+            _ => return Ok(RawLabel::Or(parts)),
+        }
+        let next = match or_land(alloc, lexer, inputs, ahead, depth) {
+            Ok(next) => next,
+            Err(fault) => return Err(fault),
+        };
+        parts.push(next)?;
+    }
+}
+
+/// "|" land
+#[cycle(label)]
+fn or_land<I: Inputs>(
+    alloc: Global,
+    lexer: &mut Lexer,
+    inputs: &mut I,
+    ahead: &mut Token,
+    depth: u32,
+) -> Result<RawLabel, ReadFault>
+    requires unspent { lexer.old.spent ≡ false }
+    requires bar { ahead.old ≡ Token.Bar }
+    requires depth { depth ≤ 512 }
+    ensures reads { Reads (part.Products depth ∷ []) (part.Products depth ∷ []) (IsOrLand depth) result
+        (state lexer.old ahead.old (I.left inputs.old) (I.read_faults inputs.old) (I.open_faults inputs.old) (I.texts inputs.old))
+        (state lexer.new ahead.new (I.left inputs.new) (I.read_faults inputs.new) (I.open_faults inputs.new) (I.texts inputs.new)) }
+    ensures uses { Uses result
+        (state lexer.old ahead.old (I.left inputs.old) (I.read_faults inputs.old) (I.open_faults inputs.old) (I.texts inputs.old))
+        (state lexer.new ahead.new (I.left inputs.new) (I.read_faults inputs.new) (I.open_faults inputs.new) (I.texts inputs.new)) }
+{
+    match advance(alloc, lexer, inputs, ahead) {
+        Ok(()) => land(alloc, lexer, inputs, ahead, depth),
+        Err(fault) => Err(fault),
+    }
+}
+
+/// land = lnot ("&" lnot)*
+#[cycle(label)]
+fn land<I: Inputs>(
+    alloc: Global,
+    lexer: &mut Lexer,
+    inputs: &mut I,
+    ahead: &mut Token,
+    depth: u32,
+) -> Result<RawLabel, ReadFault>
+    requires unspent { lexer.old.spent ≡ false }
+    requires depth { depth ≤ 512 }
+    ensures reads { Reads (part.Factor depth ∷ part.Factors depth ∷ []) [] (IsLand depth) result
+        (state lexer.old ahead.old (I.left inputs.old) (I.read_faults inputs.old) (I.open_faults inputs.old) (I.texts inputs.old))
+        (state lexer.new ahead.new (I.left inputs.new) (I.read_faults inputs.new) (I.open_faults inputs.new) (I.texts inputs.new)) }
+{
+    let first = match lnot(alloc, lexer, inputs, ahead, depth) {
+        Ok(first) => first,
+        Err(fault) => return Err(fault),
+    };
+    and_lnots(alloc, lexer, inputs, ahead, depth, first)
+}
+
+/// ("&" lnot)*, behind a first one
+#[cycle(label)]
+fn and_lnots<I: Inputs>(
+    alloc: Global,
+    lexer: &mut Lexer,
+    inputs: &mut I,
+    ahead: &mut Token,
+    depth: u32,
+    first: RawLabel,
+) -> Result<RawLabel, ReadFault>
+    requires unspent { lexer.old.spent ≡ false }
+    requires depth { depth ≤ 512 }
+    ensures reads { Reads (part.Factors depth ∷ []) [] (IsAndLnots depth (raw_tree first)) result
+        (state lexer.old ahead.old (I.left inputs.old) (I.read_faults inputs.old) (I.open_faults inputs.old) (I.texts inputs.old))
+        (state lexer.new ahead.new (I.left inputs.new) (I.read_faults inputs.new) (I.open_faults inputs.new) (I.texts inputs.new)) }
+{
+    match ahead {
+        Token::Amp => {}
+        _ => return Ok(first),
+    }
+    let second = match and_lnot(alloc, lexer, inputs, ahead, depth) {
+        Ok(second) => second,
+        Err(fault) => return Err(fault),
+    };
+    let mut parts = RawLabels::pair(alloc, first, second)?;
+    'lnots: loop {
+        match ahead {
+            Token::Amp => {}
+            _ => return Ok(RawLabel::And(parts)),
+        }
+        let next = match and_lnot(alloc, lexer, inputs, ahead, depth) {
+            Ok(next) => next,
+            Err(fault) => return Err(fault),
+        };
+        parts.push(next)?;
+    }
+}
+
+/// "&" lnot
+#[cycle(label)]
+fn and_lnot<I: Inputs>(
+    alloc: Global,
+    lexer: &mut Lexer,
+    inputs: &mut I,
+    ahead: &mut Token,
+    depth: u32,
+) -> Result<RawLabel, ReadFault>
+    requires unspent { lexer.old.spent ≡ false }
+    requires amp { ahead.old ≡ Token.Amp }
+    requires depth { depth ≤ 512 }
+    ensures reads { Reads (part.Factors depth ∷ []) (part.Factors depth ∷ []) (IsAndLnot depth) result
+        (state lexer.old ahead.old (I.left inputs.old) (I.read_faults inputs.old) (I.open_faults inputs.old) (I.texts inputs.old))
+        (state lexer.new ahead.new (I.left inputs.new) (I.read_faults inputs.new) (I.open_faults inputs.new) (I.texts inputs.new)) }
+    ensures uses { Uses result
+        (state lexer.old ahead.old (I.left inputs.old) (I.read_faults inputs.old) (I.open_faults inputs.old) (I.texts inputs.old))
+        (state lexer.new ahead.new (I.left inputs.new) (I.read_faults inputs.new) (I.open_faults inputs.new) (I.texts inputs.new)) }
+{
+    match advance(alloc, lexer, inputs, ahead) {
+        Ok(()) => lnot(alloc, lexer, inputs, ahead, depth),
+        Err(fault) => Err(fault),
+    }
+}
+
+/// lnot = "!" lnot | "t" | "f" | INT | ANAME | "(" label ")"
+#[cycle(label)]
+fn lnot<I: Inputs>(
+    alloc: Global,
+    lexer: &mut Lexer,
+    inputs: &mut I,
+    ahead: &mut Token,
+    depth: u32,
+) -> Result<RawLabel, ReadFault>
+    requires unspent { lexer.old.spent ≡ false }
+    requires depth { depth ≤ 512 }
+    ensures reads { Reads (part.Factor depth ∷ []) [] (IsLnot depth) result
+        (state lexer.old ahead.old (I.left inputs.old) (I.read_faults inputs.old) (I.open_faults inputs.old) (I.texts inputs.old))
+        (state lexer.new ahead.new (I.left inputs.new) (I.read_faults inputs.new) (I.open_faults inputs.new) (I.texts inputs.new)) }
+{
+    match ahead {
+        Token::Bang => negation(alloc, lexer, inputs, ahead, depth),
+        Token::LeftParen => group(alloc, lexer, inputs, ahead, depth),
+        _ => atom(alloc, lexer, inputs, ahead, depth),
+    }
+}
+
+/// "!" lnot
+#[cycle(label)]
+fn negation<I: Inputs>(
+    alloc: Global,
+    lexer: &mut Lexer,
+    inputs: &mut I,
+    ahead: &mut Token,
+    depth: u32,
+) -> Result<RawLabel, ReadFault>
+    requires unspent { lexer.old.spent ≡ false }
+    requires bang { ahead.old ≡ Token.Bang }
+    requires depth { depth ≤ 512 }
+    ensures reads { Reads (part.Factor depth ∷ []) [] (IsLnot depth) result
+        (state lexer.old ahead.old (I.left inputs.old) (I.read_faults inputs.old) (I.open_faults inputs.old) (I.texts inputs.old))
+        (state lexer.new ahead.new (I.left inputs.new) (I.read_faults inputs.new) (I.open_faults inputs.new) (I.texts inputs.new)) }
+{
+    if depth >= MOST_DEPTH {
+        return Err(ReadFault::Depth);
+    }
+    match advance(alloc, lexer, inputs, ahead) {
+        Ok(()) => {}
+        Err(fault) => return Err(fault),
+    }
+    let inner = match lnot(alloc, lexer, inputs, ahead, depth + 1) {
+        Ok(inner) => inner,
+        Err(fault) => return Err(fault),
+    };
+    Ok(RawLabel::Not(Box::new(alloc, inner)?))
+}
+
+/// "(" label ")"
+#[cycle(label)]
+fn group<I: Inputs>(
+    alloc: Global,
+    lexer: &mut Lexer,
+    inputs: &mut I,
+    ahead: &mut Token,
+    depth: u32,
+) -> Result<RawLabel, ReadFault>
+    requires unspent { lexer.old.spent ≡ false }
+    requires paren { ahead.old ≡ Token.LeftParen }
+    requires depth { depth ≤ 512 }
+    ensures reads { Reads (part.Factor depth ∷ []) [] (IsLnot depth) result
+        (state lexer.old ahead.old (I.left inputs.old) (I.read_faults inputs.old) (I.open_faults inputs.old) (I.texts inputs.old))
+        (state lexer.new ahead.new (I.left inputs.new) (I.read_faults inputs.new) (I.open_faults inputs.new) (I.texts inputs.new)) }
+{
+    if depth >= MOST_DEPTH {
+        return Err(ReadFault::Depth);
+    }
+    match advance(alloc, lexer, inputs, ahead) {
+        Ok(()) => {}
+        Err(fault) => return Err(fault),
+    }
+    let inner = match label(alloc, lexer, inputs, ahead, depth + 1) {
+        Ok(inner) => inner,
+        Err(fault) => return Err(fault),
+    };
+    match closing_paren(alloc, lexer, inputs, ahead) {
+        Ok(()) => Ok(inner),
+        Err(fault) => Err(fault),
+    }
+}
+
+/// What the token says as a label of its own, if it is one: "t" | "f" | INT | ANAME
+#[tactic(auto, using(crate::proofs::RawTrees::raw_tree_rules))]
+fn atom_at(alloc: Global, token: &Token) -> Result<Option<RawLabel>, Memory>
+    ensures { IfOk result (λ label. option_map raw_tree label ≡ atom_of token.now) }
+{
+    match token {
+        Token::Identifier(word) => Ok(truth_value(word)),
+        Token::Int(place) => Ok(Some(RawLabel::Prop(*place))),
+        Token::Alias(name) => Ok(Some(RawLabel::Alias(name.copy(alloc)?))),
+        _ => Ok(None),
+    }
+}
+
+/// "t" | "f"
+#[tactic(auto, using(crate::proofs::RawTrees::raw_tree_rules))]
+fn truth_value(word: &Text) -> Option<RawLabel>
+    ensures { option_map raw_tree result ≡ truth_value word.now }
+{
+    if word.is(b"t") {
+        Some(RawLabel::True)
+    } else if word.is(b"f") {
+        Some(RawLabel::False)
+    } else {
+        None
+    }
+}
+
+/// "t" | "f" | INT | ANAME
+fn atom<I: Inputs>(
+    alloc: Global,
+    lexer: &mut Lexer,
+    inputs: &mut I,
+    ahead: &mut Token,
+    depth: u32,
+) -> Result<RawLabel, ReadFault>
+    requires unspent { lexer.old.spent ≡ false }
+    requires no_bang { ahead.old ≢ Token.Bang }
+    requires no_paren { ahead.old ≢ Token.LeftParen }
+    ensures reads { Reads (part.Factor depth ∷ []) [] (IsLnot depth) result
+        (state lexer.old ahead.old (I.left inputs.old) (I.read_faults inputs.old) (I.open_faults inputs.old) (I.texts inputs.old))
+        (state lexer.new ahead.new (I.left inputs.new) (I.read_faults inputs.new) (I.open_faults inputs.new) (I.texts inputs.new)) }
+{
+    let label = match atom_at(alloc, ahead) {
+        Ok(Some(label)) => label,
+        Ok(None) => return Err(refused(ahead, lexer)),
+        Err(_) => return Err(ReadFault::Memory),
+    };
+    match advance(alloc, lexer, inputs, ahead) {
+        Ok(()) => Ok(label),
+        Err(fault) => Err(fault),
+    }
+}

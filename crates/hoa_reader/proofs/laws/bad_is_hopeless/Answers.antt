@@ -1,5 +1,0 @@
-use Rattle.hoa_reader.proofs.Settled.{bad_is_hopeless}
-use Rattle.hoa_reader.proofs.laws.bad_is_hopeless.Goals as goal
-
-pub returns : goal.returns
-returns c = bad_is_hopeless

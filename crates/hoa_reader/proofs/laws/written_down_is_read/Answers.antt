@@ -1,5 +1,0 @@
-use Rattle.hoa_reader.proofs.WrittenDown.{written_down_is_read}
-use Rattle.hoa_reader.proofs.laws.written_down_is_read.Goals as goal
-
-pub returns : goal.returns
-returns c = written_down_is_read
