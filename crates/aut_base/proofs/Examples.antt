@@ -4,15 +4,15 @@ use Rattle.std.specs.FinSet as set
 use Rattle.std.specs.List.{list_any}
 use Rattle.std.specs.Cmp.Lexicographic.{slice_cmp}
 use Rattle.std.specs.Ordering.{nat_cmp}
-use Rattle.std.proofs.lemmas.Bool.{false≢true, cases_eq, and_left}
+use Rattle.std.proofs.lemmas.Bool.{false≢true, cases_eq, and_left, or_from}
 use Rattle.std.proofs.lemmas.Cmp.{nat_list_cmp_total}
 use Rattle.aut_base.specs.Acceptance.{Accepts, IsPath}
-use Rattle.aut_base.specs.Automaton.{Arrow}
+use Rattle.aut_base.specs.Automaton.{TreeEdge}
 use Rattle.aut_base.specs.Examples.{name_a, name_b, on, off, on_and_foreign, foreign, edge, a, again, one_state, either_way, ever_after, never, barred, WorkedExamples}
 use Rattle.aut_base.specs.Formula.{FormulaTree, met}
 use Rattle.aut_base.specs.Label.{truth, holds_at, LabelTree}
 use Rattle.aut_base.specs.Marks.{is_in}
-use Rattle.aut_base.specs.Word.{Sign, copies}
+use Rattle.aut_base.specs.Word.{NameSet, copies}
 use Rattle.aut_base.proofs.OneState.{marks_at, marks_if, one_state_accepts}
 
 on_a : set.contains on name_a ≡ true
@@ -22,7 +22,7 @@ off_a : set.contains off name_a ≡ false
 off_a = set.contains-empty (slice_cmp nat_cmp) name_a
 
 -- the letter, by whether `a` holds
-abbrev letter : Bool → Sign
+abbrev letter : Bool → NameSet
 letter true = on
 letter false = off
 
@@ -34,37 +34,33 @@ marks_of_word : (at_on at_off : List ℕ) (bs : List Bool) → map (marks_at at_
 marks_of_word at_on at_off [] = refl
 marks_of_word at_on at_off (b ∷ bs) = cc (marks_of at_on at_off b, marks_of_word at_on at_off bs)
 
-yes_at : (at_on at_off : List ℕ) (sets : ℕ) (f : FormulaTree) (u : List Sign) (bs : List Bool) → 0 < length (map letter bs) → met (map (marks_if at_on at_off) bs) f ≡ true → Accepts (one_state at_on at_off sets f) u (map letter bs)
+yes_at : (at_on at_off : List ℕ) (sets : ℕ) (f : FormulaTree) (u : List NameSet) (bs : List Bool) → 0 < length (map letter bs) → met (map (marks_if at_on at_off) bs) f ≡ true → Accepts (one_state at_on at_off sets f) u (map letter bs)
 yes_at at_on at_off sets f u bs endless h =
     (one_state_accepts at_on at_off sets f u (map letter bs) endless).1 (ap (λ marks. met marks f) (marks_of_word at_on at_off bs) ∙ h)
 
-no_at : (at_on at_off : List ℕ) (sets : ℕ) (f : FormulaTree) (u : List Sign) (bs : List Bool) → met (map (marks_if at_on at_off) bs) f ≡ false → ¬ Accepts (one_state at_on at_off sets f) u (map letter bs)
+no_at : (at_on at_off : List ℕ) (sets : ℕ) (f : FormulaTree) (u : List NameSet) (bs : List Bool) → met (map (marks_if at_on at_off) bs) f ≡ false → ¬ Accepts (one_state at_on at_off sets f) u (map letter bs)
 no_at at_on at_off sets f u bs h r =
     false≢true (sym h ∙ (ap (λ marks. met marks f) (sym (marks_of_word at_on at_off bs)) ∙ (one_state_accepts at_on at_off sets f u (map letter bs) r.endless).0 r))
-
-or_false : (b c : Bool) → b ≡ false → c ≡ false → (b || c) ≡ false
-or_false false c h k = k
-or_false true c h k = h
 
 -- `never` has no edge outside set 0
 inside_at : (b : Bool) → not (is_in 0 (marks_if (0 ∷ 1 ∷ []) (0 ∷ []) b)) ≡ false
 inside_at true = refl
 inside_at false = refl
 
-inside : (v : List Sign) → list_any (λ marks. not (is_in 0 marks)) (map (marks_at (0 ∷ 1 ∷ []) (0 ∷ [])) v) ≡ false
+inside : (v : List NameSet) → list_any (λ marks. not (is_in 0 marks)) (map (marks_at (0 ∷ 1 ∷ []) (0 ∷ [])) v) ≡ false
 inside [] = refl
-inside (x ∷ xs) = or_false _ _ (inside_at (set.contains x name_a)) (inside xs)
+inside (x ∷ xs) = or_from _ _ (inside_at (set.contains x name_a)) (inside xs)
 
-never_any : (u v : List Sign) → ¬ Accepts never u v
+never_any : (u v : List NameSet) → ¬ Accepts never u v
 never_any u v r =
     false≢true (sym (and_left _ _ (inside v)) ∙ (one_state_accepts (0 ∷ 1 ∷ []) (0 ∷ []) 2 barred u v r.endless).0 r)
 
 -- Once in its state 1, `ever_after` stays there, and reads `a` alone.
-AllOn : List Sign → Type 0
+AllOn : List NameSet → Type 0
 AllOn [] = Unit {0}
 AllOn (x ∷ xs) = (set.contains x name_a ≡ true) × AllOn xs
 
-one_of_three : (P : Arrow → Type 0) (d e f x : Arrow) → Contains (d ∷ e ∷ f ∷ []) x → P d → P e → P f → P x
+one_of_three : (P : TreeEdge → Type 0) (d e f x : TreeEdge) → Contains (d ∷ e ∷ f ∷ []) x → P d → P e → P f → P x
 one_of_three P d e f x there first second third = go there.0 there.1 there.2
   where
     go : (k : ℕ) → k < 3 → get_or (d ∷ e ∷ f ∷ []) k x ≡ x → P x
@@ -73,16 +69,16 @@ one_of_three P d e f x there first second third = go there.0 there.1 there.2
     go (suc (suc zero)) within is = subst P is third
     go (suc (suc (suc k))) within is = absurd (omega arith)
 
-record StaysOn (x : Sign) (e : Arrow) : Type 0 where
+record StaysOn (x : NameSet) (e : TreeEdge) : Type 0 where
   reads : set.contains x name_a ≡ true
   stays : e.to ≡ 1
 
-stays_on : (x : Sign) (p : ℕ) (e : Arrow) → p ≡ 1 → p ≡ e.from → Contains ever_after.edges e → truth (holds_at (name_a ∷ []) x) e.label ≡ true → StaysOn x e
+stays_on : (x : NameSet) (p : ℕ) (e : TreeEdge) → p ≡ 1 → p ≡ e.from → Contains ever_after.edges e → truth (holds_at (name_a ∷ []) x) e.label ≡ true → StaysOn x e
 stays_on x p e at from there =
     one_of_three (λ d. p ≡ d.from → truth (holds_at (name_a ∷ []) x) d.label ≡ true → StaysOn x d) (edge 0 LabelTree.True 0 []) (edge 0 a 1 []) (edge 1 a 1 (0 ∷ [])) e there
     (λ is h. absurd (omega arith)) (λ is h. absurd (omega arith)) (λ is h. record { reads = h; stays = refl }) from
 
-stays : (p : ℕ) (xs : List Sign) (es : List Arrow) (q : ℕ) → p ≡ 1 → IsPath ever_after p xs es q → (q ≡ 1) × AllOn xs
+stays : (p : ℕ) (xs : List NameSet) (es : List TreeEdge) (q : ℕ) → p ≡ 1 → IsPath ever_after p xs es q → (q ≡ 1) × AllOn xs
 unfolding AllOn
 stays p [] [] q at path = (sym path ∙ at, tt)
 stays p [] (e ∷ es) q at path = absurd path
@@ -93,17 +89,17 @@ stays p (x ∷ xs) (e ∷ es) q at path =
     (rest.0, (s.reads, rest.1))
 
 -- elsewhere it has no mark
-unmarked : (e : Arrow) → Contains ever_after.edges e → (e.to ≡ 1 → ⊥) → is_in 0 e.marks ≡ false
+unmarked : (e : TreeEdge) → Contains ever_after.edges e → (e.to ≡ 1 → ⊥) → is_in 0 e.marks ≡ false
 unmarked e there =
     one_of_three (λ d. (d.to ≡ 1 → ⊥) → is_in 0 d.marks ≡ false) (edge 0 LabelTree.True 0 []) (edge 0 a 1 []) (edge 1 a 1 (0 ∷ [])) e there
     (λ h. refl) (λ h. refl) (λ h. absurd (h refl))
 
-no_mark : (p : ℕ) (xs : List Sign) (es : List Arrow) (q : ℕ) → (q ≡ 1 → ⊥) → IsPath ever_after p xs es q → list_any (is_in 0) (map (λ e. e.marks) es) ≡ false
+no_mark : (p : ℕ) (xs : List NameSet) (es : List TreeEdge) (q : ℕ) → (q ≡ 1 → ⊥) → IsPath ever_after p xs es q → list_any (is_in 0) (map (λ e. e.marks) es) ≡ false
 no_mark p [] [] q away path = refl
 no_mark p [] (e ∷ es) q away path = absurd path
 no_mark p (x ∷ xs) [] q away path = absurd path
 no_mark p (x ∷ xs) (e ∷ es) q away path =
-    or_false _ _ (unmarked e path.1 (λ at. away (stays e.to xs es q at path.3).0)) (no_mark e.to xs es q away path.3)
+    or_from _ _ (unmarked e path.1 (λ at. away (stays e.to xs es q at path.3).0)) (no_mark e.to xs es q away path.3)
 
 no_round : (k : ℕ) → 0 < k → AllOn (copies k (on ∷ off ∷ [])) → ⊥
 unfolding AllOn
@@ -125,11 +121,11 @@ foreign_a : set.contains foreign name_a ≡ false
 foreign_a = set.contains-insert nat_list_cmp_total set.empty name_b name_a ∙ off_a
 
 -- Each edge of `either_way` is a loop: for letters with `a` at state 0, for those without at state 1.
-record IsLoop (x : Sign) (e : Arrow) : Type 0 where
+record IsLoop (x : NameSet) (e : TreeEdge) : Type 0 where
   stays : e.to ≡ e.from
   reads : e.from ≡ (if set.contains x name_a then 0 else 1)
 
-one_of_two : (P : Arrow → Type 0) (d e x : Arrow) → Contains (d ∷ e ∷ []) x → P d → P e → P x
+one_of_two : (P : TreeEdge → Type 0) (d e x : TreeEdge) → Contains (d ∷ e ∷ []) x → P d → P e → P x
 one_of_two P d e x there first second = go there.0 there.1 there.2
   where
     go : (k : ℕ) → k < 2 → get_or (d ∷ e ∷ []) k x ≡ x → P x
@@ -137,7 +133,7 @@ one_of_two P d e x there first second = go there.0 there.1 there.2
     go (suc zero) within is = subst P is second
     go (suc (suc k)) within is = absurd (omega arith)
 
-is_loop : (starts : List ℕ) (x : Sign) (e : Arrow) → Contains (either_way starts).edges e → truth (holds_at (name_a ∷ []) x) e.label ≡ true → IsLoop x e
+is_loop : (starts : List ℕ) (x : NameSet) (e : TreeEdge) → Contains (either_way starts).edges e → truth (holds_at (name_a ∷ []) x) e.label ≡ true → IsLoop x e
 is_loop starts x e there =
     one_of_two (λ d. truth (holds_at (name_a ∷ []) x) d.label ≡ true → IsLoop x d) (edge 0 a 0 []) (edge 1 (LabelTree.Not a) 1 []) e there
     (λ h. record { stays = refl; reads = ap (λ b. if b then 0 else 1) (sym h) }) (λ h. record { stays = refl; reads = ap (λ b. if b then 0 else 1) (sym (is_off (set.contains x name_a) h)) })
@@ -146,7 +142,7 @@ is_loop starts x e there =
     is_off false h = refl
     is_off true h = sym h
 
-stays_there : (starts : List ℕ) (p : ℕ) (xs : List Sign) (es : List Arrow) (q : ℕ) → IsPath (either_way starts) p xs es q → q ≡ p
+stays_there : (starts : List ℕ) (p : ℕ) (xs : List NameSet) (es : List TreeEdge) (q : ℕ) → IsPath (either_way starts) p xs es q → q ≡ p
 stays_there starts p [] [] q path = sym path
 stays_there starts p [] (e ∷ es) q path = absurd path
 stays_there starts p (x ∷ xs) [] q path = absurd path
@@ -154,11 +150,11 @@ stays_there starts p (x ∷ xs) (e ∷ es) q path =
     stays_there starts e.to xs es q path.3 ∙ ((is_loop starts x e path.1 path.2).stays ∙ sym path.0)
 
 -- where a path that begins with this letter stands
-stands : (starts : List ℕ) (p : ℕ) (x : Sign) (xs : List Sign) (es : List Arrow) (q : ℕ) → IsPath (either_way starts) p (x ∷ xs) es q → p ≡ (if set.contains x name_a then 0 else 1)
+stands : (starts : List ℕ) (p : ℕ) (x : NameSet) (xs : List NameSet) (es : List TreeEdge) (q : ℕ) → IsPath (either_way starts) p (x ∷ xs) es q → p ≡ (if set.contains x name_a then 0 else 1)
 stands starts p x xs [] q path = absurd path
 stands starts p x xs (e ∷ es) q path = path.0 ∙ (is_loop starts x e path.1 path.2).reads
 
-stands_second : (starts : List ℕ) (p : ℕ) (x y : Sign) (xs : List Sign) (es : List Arrow) (q : ℕ) → IsPath (either_way starts) p (x ∷ y ∷ xs) es q → p ≡ (if set.contains y name_a then 0 else 1)
+stands_second : (starts : List ℕ) (p : ℕ) (x y : NameSet) (xs : List NameSet) (es : List TreeEdge) (q : ℕ) → IsPath (either_way starts) p (x ∷ y ∷ xs) es q → p ≡ (if set.contains y name_a then 0 else 1)
 stands_second starts p x y xs [] q path = absurd path
 stands_second starts p x y xs (e ∷ es) q path =
     path.0 ∙ (sym (is_loop starts x e path.1 path.2).stays ∙ stands starts e.to y xs es q path.3)
@@ -190,10 +186,10 @@ second_start_on r = go r.rounds r.positive r.returns
         let one = at_one in
         absurd (omega arith)
 
-no_start_any : (u v : List Sign) → ¬ Accepts (either_way []) u v
+no_start_any : (u v : List NameSet) → ¬ Accepts (either_way []) u v
 no_start_any u v r = let none = r.is_start.1 in absurd (omega arith)
 
-no_cycle : (u : List Sign) → ¬ Accepts again u []
+no_cycle : (u : List NameSet) → ¬ Accepts again u []
 no_cycle u r = let none = r.endless in absurd (omega arith)
 
 pub worked_examples : WorkedExamples

@@ -9,10 +9,10 @@ use Rattle.std.proofs.lemmas.List.Elements.{All-contains}
 use Rattle.std.proofs.lemmas.Map.Lookups.{exact_bytes}
 use Rattle.std.proofs.lemmas.Map.Views.{tells_apart, Contains-from_any, list_any-from_Contains}
 
-abbrev pub Sign : Type 0
-Sign = set.FinSet (slice_cmp nat_cmp)
+abbrev pub NameSet : Type 0
+NameSet = set.FinSet (slice_cmp nat_cmp)
 
-abbrev pub sign : List (List ℕ) → Sign
+abbrev pub sign : List (List ℕ) → NameSet
 sign names = set.from_list names
 
 abbrev same : List ℕ → List ℕ → Bool
@@ -48,6 +48,6 @@ pub insert_pushed : (names : List (List ℕ)) (name : List ℕ) → sign (names 
 insert_pushed names name = set.from_list_push nat_list_cmp_total (slice_cmp-IsAntisymmetric nat_cmp-IsAntisymmetric) names name
 
 -- what is said of a list holds of the letter made of it
-pub pushed_ok : {E : Type 0} (names new : List (List ℕ)) (name : List ℕ) (letter : Sign) (result : Result (Unit {0}) E) → sign names ≡ letter → OnOk result (new ≡ names ++ name ∷ []) → OnOk result (sign new ≡ set.insert letter name)
+pub pushed_ok : {E : Type 0} (names new : List (List ℕ)) (name : List ℕ) (letter : NameSet) (result : Result (Unit {0}) E) → sign names ≡ letter → OnOk result (new ≡ names ++ name ∷ []) → OnOk result (sign new ≡ set.insert letter name)
 pushed_ok names new name letter (Ok u) is h = ap sign h ∙ (insert_pushed names name ∙ ap (λ l. set.insert l name) is)
 pushed_ok names new name letter (Err e) is h = h

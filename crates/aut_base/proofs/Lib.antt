@@ -1,3 +1,4 @@
+pub mod AllByRecursion
 pub mod Copies
 pub mod Examples
 pub mod FormulaSizes
@@ -5,11 +6,14 @@ pub mod FormulaTrees
 pub mod LabelSizes
 pub mod LabelTrees
 pub mod LetterNames
+pub mod Lists
+pub mod Numbers
 pub mod OneState
 pub mod Places
 pub mod SameEdges
 pub mod SameWord
 pub mod Spelled
 pub mod Texts
+pub mod Truth
 pub mod Walks
 pub mod WellFormed

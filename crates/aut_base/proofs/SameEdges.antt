@@ -2,11 +2,12 @@
 use Rattle.std.proofs.Common.{◌≡◌, ◌∙◌, ℕ, ◌<◌, Bool, true, false, not, ◌&&◌, ◌||◌, List, [], ◌∷◌, ◌++◌, map, take, drop, refl, sym, ap}
 use Rattle.std.specs.List.{list_any, list_all}
 use Rattle.std.proofs.lemmas.List.{take-append-drop}
-use Rattle.std.proofs.lemmas.List.Folds.{list_any-append, list_all-append}
+use Rattle.std.proofs.lemmas.List.Folds.{list_any-append, list_all-append, list_all-map}
 use Rattle.aut_base.specs.Formula.{FormulaTree, FormulaTrees, met, all_met, some_met}
 use Rattle.aut_base.specs.Marks.{is_in}
 use Rattle.aut_base.specs.Word.{copies}
 use Rattle.aut_base.proofs.Copies.{any-copies, all-copies}
+use Rattle.aut_base.proofs.Lists.{list_any-map, list_any-turned, list_all-turned}
 
 -- no test tells the two lists apart, whether some item passes it or all items do
 pub record Alike {A : Type 0} (xs ys : List A) : Type 0 where
@@ -32,44 +33,16 @@ mutual
   some_alike xs ys alike FormulaTrees.none = refl
   some_alike xs ys alike (FormulaTrees.more f fs) = cc (met_alike xs ys alike f, some_alike xs ys alike fs)
 
-or_comm : (a b : Bool) → (a || b) ≡ (b || a)
-or_comm false false = refl
-or_comm false true = refl
-or_comm true false = refl
-or_comm true true = refl
-
-and_comm : (a b : Bool) → (a && b) ≡ (b && a)
-and_comm false false = refl
-and_comm false true = refl
-and_comm true false = refl
-and_comm true true = refl
-
-any-turned : {A : Type 0} (p : A → Bool) (n : ℕ) (xs : List A) → list_any p (drop n xs ++ take n xs) ≡ list_any p xs
-any-turned p n xs =
-    list_any-append p (drop n xs) (take n xs) ∙ (or_comm (list_any p (drop n xs)) (list_any p (take n xs)) ∙ (sym (list_any-append p (take n xs) (drop n xs)) ∙ ap (list_any p) (take-append-drop n xs)))
-
-all-turned : {A : Type 0} (p : A → Bool) (n : ℕ) (xs : List A) → list_all p (drop n xs ++ take n xs) ≡ list_all p xs
-all-turned p n xs =
-    list_all-append p (drop n xs) (take n xs) ∙ (and_comm (list_all p (drop n xs)) (list_all p (take n xs)) ∙ (sym (list_all-append p (take n xs) (drop n xs)) ∙ ap (list_all p) (take-append-drop n xs)))
-
-any-map : {A B : Type 0} (p : B → Bool) (f : A → B) (xs : List A) → list_any p (map f xs) ≡ list_any (λ x. p (f x)) xs
-any-map p f [] = refl
-any-map p f (x ∷ xs) = ap (λ b. p (f x) || b) (any-map p f xs)
-
-all-map : {A B : Type 0} (p : B → Bool) (f : A → B) (xs : List A) → list_all p (map f xs) ≡ list_all (λ x. p (f x)) xs
-all-map p f [] = refl
-all-map p f (x ∷ xs) = ap (λ b. p (f x) && b) (all-map p f xs)
-
 -- a cycle gone round some times
 pub gone_alike : {A B : Type 0} (f : A → B) (k : ℕ) (cycle : List A) → 0 < k → Alike (map f (copies k cycle)) (map f cycle)
 gone_alike f k cycle some = record {
-  some = λ p. any-map p f _ ∙ (any-copies (λ x. p (f x)) k cycle some ∙ sym (any-map p f cycle));
-  each = λ p. all-map p f _ ∙ (all-copies (λ x. p (f x)) k cycle some ∙ sym (all-map p f cycle));
+  some = λ p. list_any-map p f _ ∙ (any-copies (λ x. p (f x)) k cycle some ∙ sym (list_any-map p f cycle));
+  each = λ p. list_all-map p f _ ∙ (all-copies (λ x. p (f x)) k cycle some ∙ sym (list_all-map p f cycle));
 }
 
 -- the same, turned to begin at another place
 pub turned_alike : {A B : Type 0} (f : A → B) (k n : ℕ) (cycle : List A) → 0 < k → Alike (map f (drop n (copies k cycle) ++ take n (copies k cycle))) (map f cycle)
 turned_alike f k n cycle some = record {
-  some = λ p. any-map p f _ ∙ (any-turned (λ x. p (f x)) n (copies k cycle) ∙ (any-copies (λ x. p (f x)) k cycle some ∙ sym (any-map p f cycle)));
-  each = λ p. all-map p f _ ∙ (all-turned (λ x. p (f x)) n (copies k cycle) ∙ (all-copies (λ x. p (f x)) k cycle some ∙ sym (all-map p f cycle)));
+  some = λ p. list_any-map p f _ ∙ (list_any-turned (λ x. p (f x)) n (copies k cycle) ∙ (any-copies (λ x. p (f x)) k cycle some ∙ sym (list_any-map p f cycle)));
+  each = λ p. list_all-map p f _ ∙ (list_all-turned (λ x. p (f x)) n (copies k cycle) ∙ (all-copies (λ x. p (f x)) k cycle some ∙ sym (list_all-map p f cycle)));
 }

@@ -5,22 +5,22 @@ use Rattle.std.proofs.Common.{◌≡◌, ◌∙◌, ℕ, ◌+◌, ◌-◌, ◌*�
 use Rattle.std.proofs.Math.Nat.{le-mul_of_pos_right}
 use Rattle.std.proofs.lemmas.List.{length-append, length-drop, length-take-le, take-append-drop}
 use Rattle.aut_base.specs.Acceptance.{Accepts, SameWordSameVerdict}
-use Rattle.aut_base.specs.Automaton.{Arrow, Automaton}
+use Rattle.aut_base.specs.Automaton.{TreeEdge, Automaton}
 use Rattle.aut_base.specs.Formula.{met}
-use Rattle.aut_base.specs.Word.{Sign, copies, letter_at, SpellsSame}
+use Rattle.aut_base.specs.Word.{NameSet, copies, letter_at, SpellsSame}
 use Rattle.aut_base.proofs.Copies.{length-copies}
 use Rattle.aut_base.proofs.SameEdges.{met_alike, turned_alike}
 use Rattle.aut_base.proofs.Spelled.{word_letter, round_letter}
 use Rattle.aut_base.proofs.Walks.{Reads, Agrees, as_long, reads_word, reads_path, ends, join, split_first, split_second, repeated}
 
-word_agrees : (w : ℕ → Option Sign) (u v : List Sign) (i : ℕ) → ((n : ℕ) → w n ≡ letter_at u v n) → 0 < length v → Agrees w 0 (u ++ copies i v)
+word_agrees : (w : ℕ → Option NameSet) (u v : List NameSet) (i : ℕ) → ((n : ℕ) → w n ≡ letter_at u v n) → 0 < length v → Agrees w 0 (u ++ copies i v)
 word_agrees w u v i spells some k within =
     let at : 0 + k ≡ k = omega arith in
     let long = length-append u (copies i v) in
     let times = length-copies i v in
     ap w at ∙ (spells k ∙ word_letter u v i k some (omega arith))
 
-round_agrees : (w : ℕ → Option Sign) (u v : List Sign) (s j : ℕ) → ((n : ℕ) → w n ≡ letter_at u v n) → 0 < length v → Agrees w (length u + s * length v) (copies j v)
+round_agrees : (w : ℕ → Option NameSet) (u v : List NameSet) (s j : ℕ) → ((n : ℕ) → w n ≡ letter_at u v n) → 0 < length v → Agrees w (length u + s * length v) (copies j v)
 round_agrees w u v s j spells some k within =
     let times = length-copies j v in
     spells (length u + s * length v + k) ∙ round_letter u v s j k _ some (omega arith) (omega arith)
@@ -58,19 +58,19 @@ moment o size x y some_size some_y =
     }
 
 -- A closed path, gone on with for `wait` steps, and gone from there.
-record Turned (a : Automaton) (w : ℕ → Option Sign) (n q wait : ℕ) (all : List Arrow) : Type 0 where
+record Turned (a : Automaton) (w : ℕ → Option NameSet) (n q wait : ℕ) (all : List TreeEdge) : Type 0 where
   here : ℕ
   on : Reads a w n q (take wait all) here
   round : Reads a w (n + wait) here (drop wait all ++ take wait all) here
 
-turn : (a : Automaton) (w : ℕ → Option Sign) (n m q wait : ℕ) (all : List Arrow) → wait ≤ length all → m ≡ n + length all → Reads a w n q all q → Reads a w m q all q → Turned a w n q wait all
+turn : (a : Automaton) (w : ℕ → Option NameSet) (n m q wait : ℕ) (all : List TreeEdge) → wait ≤ length all → m ≡ n + length all → Reads a w n q all q → Reads a w m q all q → Turned a w n q wait all
 turn a w n m q wait all enough at first again =
     let front = take wait all in
     let back = drop wait all in
     let parts : front ++ back ≡ all = take-append-drop wait all in
     let long : length front ≡ wait = length-take-le wait all enough in
     let left : length back ≡ length all - wait = length-drop wait all in
-    let P : ℕ → List Arrow → Type 0 = λ t es. Reads a w t q es q in
+    let P : ℕ → List TreeEdge → Type 0 = λ t es. Reads a w t q es q in
     let first' : Reads a w n q (front ++ back) q = subst (P n) (sym parts) first in
     let again' : Reads a w m q (front ++ back) q = subst (P m) (sym parts) again in
     record {
@@ -81,13 +81,13 @@ turn a w n m q wait all enough at first again =
 
 -- What acceptance says of the infinite word `w`, whose letters come again after every l from moment o on: a path
 -- leads to a closed path, which can be gone at each of those moments.
-record Looped (a : Automaton) (w : ℕ → Option Sign) (o l : ℕ) : Type 0 where
+record Looped (a : Automaton) (w : ℕ → Option NameSet) (o l : ℕ) : Type 0 where
   start : ℕ
   state : ℕ
   turns : ℕ
   rounds : ℕ
-  way : List Arrow
-  cycle : List Arrow
+  way : List TreeEdge
+  cycle : List TreeEdge
   is_start : Contains a.starts start
   long_way : length way ≡ o + turns * l
   long_cycle : length cycle ≡ rounds * l
@@ -96,9 +96,9 @@ record Looped (a : Automaton) (w : ℕ → Option Sign) (o l : ℕ) : Type 0 whe
   round : (s : ℕ) → Reads a w (o + s * l) state cycle state
   meets : met (map (λ e. e.marks) cycle) a.formula ≡ true
 
-looped : (a : Automaton) (u v : List Sign) → 0 < length v → Accepts a u v → Looped a (letter_at u v) (length u) (length v)
+looped : (a : Automaton) (u v : List NameSet) → 0 < length v → Accepts a u v → Looped a (letter_at u v) (length u) (length v)
 looped a u v some r =
-    let w : ℕ → Option Sign = letter_at u v in
+    let w : ℕ → Option NameSet = letter_at u v in
     let wide : r.rounds ≤ r.rounds * length v = le-mul_of_pos_right r.rounds some in
     let positive : 0 < r.rounds = r.positive in
     let word : length (u ++ copies r.turns v) ≡ length u + r.turns * length v = length-append u (copies r.turns v) ∙ ap (λ k. length u + k) (length-copies r.turns v) in
@@ -120,7 +120,7 @@ looped a u v some r =
     }
 
 -- the closed path, gone `times` times, and turned
-turned : (a : Automaton) (w : ℕ → Option Sign) (o l wait times : ℕ) (g : Looped a w o l) → wait ≤ times * length g.cycle → Turned a w (o + g.turns * l) g.state wait (copies times g.cycle)
+turned : (a : Automaton) (w : ℕ → Option NameSet) (o l wait times : ℕ) (g : Looped a w o l) → wait ≤ times * length g.cycle → Turned a w (o + g.turns * l) g.state wait (copies times g.cycle)
 turned a w o l wait times g enough =
     let all = copies times g.cycle in
     let long : length all ≡ times * length g.cycle = length-copies times g.cycle in
@@ -128,7 +128,7 @@ turned a w o l wait times g enough =
     let many = repeated a w o l g.rounds g.state g.cycle g.long_cycle g.round times in
     turn a w (o + g.turns * l) (o + (g.turns + times * g.rounds) * l) g.state wait all (omega arith) (omega arith) (many g.turns) (many (g.turns + times * g.rounds))
 
-taken_up : (a : Automaton) (w : ℕ → Option Sign) (o l : ℕ) (x y : List Sign) (g : Looped a w o l) → 0 < length y → ((n : ℕ) → w n ≡ letter_at x y n) → Moment (o + g.turns * l) (length g.cycle) (length x) (length y) → Accepts a x y
+taken_up : (a : Automaton) (w : ℕ → Option NameSet) (o l : ℕ) (x y : List NameSet) (g : Looped a w o l) → 0 < length y → ((n : ℕ) → w n ≡ letter_at x y n) → Moment (o + g.turns * l) (length g.cycle) (length x) (length y) → Accepts a x y
 taken_up a w o l x y g some spells m =
     let all = copies m.times g.cycle in
     let front = take m.wait all in
@@ -155,7 +155,7 @@ taken_up a w o l x y g some spells m =
       meets = met_alike (map (λ e. e.marks) (back ++ front)) (map (λ e. e.marks) g.cycle) (turned_alike (λ e. e.marks) m.times m.wait g.cycle m.some_times) a.formula ∙ g.meets;
     }
 
-carry : (a : Automaton) (u v x y : List Sign) → 0 < length v → 0 < length y → SpellsSame u v x y → Accepts a u v → Accepts a x y
+carry : (a : Automaton) (u v x y : List NameSet) → 0 < length v → 0 < length y → SpellsSame u v x y → Accepts a u v → Accepts a x y
 carry a u v x y some_v some_y same r =
     let g = looped a u v some_v r in
     taken_up a (letter_at u v) (length u) (length v) x y g some_y same (moment (length u + g.turns * length v) (length g.cycle) (length x) (length y) g.some_cycle some_y)

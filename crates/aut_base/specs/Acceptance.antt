@@ -1,14 +1,14 @@
 -- Which lasso words an automaton accepts. Nothing bounds how often the cycle is gone round, and there is no
 -- search: any two paths that fit will do.
 use Rattle.std.specs.Prelude.{◌≡◌, ℕ, ◌<◌, true, List, [], ◌∷◌, ◌++◌, map, Contains, ◌↔◌, length}
-use Rattle.aut_base.specs.Automaton.{Arrow, Automaton}
+use Rattle.aut_base.specs.Automaton.{TreeEdge, Automaton}
 use Rattle.aut_base.specs.Formula.{met}
 use Rattle.aut_base.specs.Label.{truth, holds_at}
-use Rattle.aut_base.specs.Word.{Sign, copies, SpellsSame}
+use Rattle.aut_base.specs.Word.{NameSet, copies, SpellsSame}
 
 -- a path from `p` to `q` along these edges, which reads these letters: each edge starts where the one before
 -- ends, and its label holds of the letter in its place
-abbrev pub IsPath : Automaton → ℕ → List Sign → List Arrow → ℕ → Type 0
+abbrev pub IsPath : Automaton → ℕ → List NameSet → List TreeEdge → ℕ → Type 0
 IsPath a p [] [] q = p ≡ q
 IsPath a p [] (e ∷ es) q = ⊥
 IsPath a p (x ∷ xs) [] q = ⊥
@@ -17,14 +17,14 @@ IsPath a p (x ∷ xs) (e ∷ es) q =
 
 -- The automaton accepts the lasso word, whose cycle isn't empty: a path from a start reads the stem and then the cycle
 -- `turns` times, and one from its end back to that end reads the cycle `rounds` times and meets the acceptance condition.
-pub record Accepts (a : Automaton) (u v : List Sign) : Type 0 where
+pub record Accepts (a : Automaton) (u v : List NameSet) : Type 0 where
   pub endless : 0 < length v
   pub start : ℕ
   pub state : ℕ
   pub turns : ℕ
   pub rounds : ℕ
-  pub way : List Arrow
-  pub cycle : List Arrow
+  pub way : List TreeEdge
+  pub cycle : List TreeEdge
   pub is_start : Contains a.starts start
   pub leads : IsPath a start (u ++ copies turns v) way state
   pub positive : 0 < rounds
@@ -33,4 +33,4 @@ pub record Accepts (a : Automaton) (u v : List Sign) : Type 0 where
 
 -- Lasso words that spell the same infinite word are accepted alike, by every automaton.
 abbrev pub SameWordSameVerdict : Type 0
-SameWordSameVerdict = (a : Automaton) (u v x y : List Sign) → 0 < length v → 0 < length y → SpellsSame u v x y → Accepts a u v ↔ Accepts a x y
+SameWordSameVerdict = (a : Automaton) (u v x y : List NameSet) → 0 < length v → 0 < length y → SpellsSame u v x y → Accepts a u v ↔ Accepts a x y

@@ -6,7 +6,7 @@ use Rattle.aut_base.specs.Label.{AllBelow, LabelTree, label_tree}
 use Rattle.aut_base.specs.declared.description.Description.{Description}
 use Rattle.aut_base.specs.declared.description.Edge.{Edge}
 
-pub record Arrow : Type 0 where
+pub record TreeEdge : Type 0 where
   pub from : ℕ
   pub label : LabelTree
   pub to : ℕ
@@ -18,18 +18,18 @@ pub record Automaton : Type 0 where
   pub names : List (List ℕ)
   pub starts : List ℕ
   pub states : ℕ
-  pub edges : List Arrow
+  pub edges : List TreeEdge
   pub sets : ℕ
   pub formula : FormulaTree
 
-abbrev pub arrow : Edge → Arrow
-arrow e = record { from = e.from; label = label_tree e.label; to = e.to; marks = e.marks }
+abbrev pub tree_edge : Edge → TreeEdge
+tree_edge e = record { from = e.from; label = label_tree e.label; to = e.to; marks = e.marks }
 
 abbrev pub automaton : Description → Automaton
-automaton d = record { names = d.names; starts = d.starts; states = d.states; edges = map arrow d.edges; sets = d.sets; formula = formula_tree d.formula }
+automaton d = record { names = d.names; starts = d.starts; states = d.states; edges = map tree_edge d.edges; sets = d.sets; formula = formula_tree d.formula }
 
 -- the edge speaks of the automaton's own states, propositions and acceptance sets
-pub record IsArrowOf (a : Automaton) (e : Arrow) : Type 0 where
+pub record IsEdgeOf (a : Automaton) (e : TreeEdge) : Type 0 where
   pub from : e.from < a.states
   pub to : e.to < a.states
   pub label : AllBelow (length a.names) e.label
@@ -43,5 +43,5 @@ pub record IsWellFormed (a : Automaton) : Type 0 where
   pub starts_differ : AllPairs (λ p q. p ≢ q) a.starts
   pub starts : All (λ p. p < a.states) a.starts
   pub in_order : IsNonDecreasing (map (λ e. e.from) a.edges)
-  pub edges : All (IsArrowOf a) a.edges
+  pub edges : All (IsEdgeOf a) a.edges
   pub formula : SetsBelow a.sets a.formula

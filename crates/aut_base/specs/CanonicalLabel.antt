@@ -2,7 +2,7 @@
 use Rattle.std.specs.Prelude.{ℕ, zero, suc, ◌+◌, Bool, true, false, if◌then◌else◌, List, [], ◌∷◌, ◌++◌, length, map}
 use Rattle.std.specs.Bool.{beq}
 use Rattle.std.specs.List.{list_all}
-use Rattle.aut_base.specs.Automaton.{Arrow, Automaton}
+use Rattle.aut_base.specs.Automaton.{TreeEdge, Automaton}
 use Rattle.aut_base.specs.Label.{LabelTree, True, False, Prop, Not, And, Or, trees}
 use Rattle.aut_base.specs.Valuation.{truth_on, valuations}
 
@@ -53,4 +53,4 @@ canonical_label n t = label_of n (truth_on t)
 
 -- the automaton with each label in its canonical form
 abbrev pub canonical : Automaton → Automaton
-canonical a = record a { edges = map (λ (e : Arrow). record e { label = canonical_label (length a.names) e.label }) a.edges }
+canonical a = record a { edges = map (λ (e : TreeEdge). record e { label = canonical_label (length a.names) e.label }) a.edges }

@@ -2,23 +2,23 @@
 use Rattle.std.specs.Prelude.{ℕ, true, false, List, [], ◌∷◌}
 use Rattle.std.specs.FinSet as set
 use Rattle.aut_base.specs.Acceptance.{Accepts}
-use Rattle.aut_base.specs.Automaton.{Arrow, Automaton}
+use Rattle.aut_base.specs.Automaton.{TreeEdge, Automaton}
 use Rattle.aut_base.specs.Formula.{FormulaTree, FormulaTrees}
 use Rattle.aut_base.specs.Label.{LabelTree}
-use Rattle.aut_base.specs.Word.{Sign}
+use Rattle.aut_base.specs.Word.{NameSet}
 
 -- the text "a"
 abbrev pub name_a : List ℕ
 name_a = 97 ∷ []
 
 -- the letter at which `a` holds, and the one at which it doesn't
-abbrev pub on : Sign
+abbrev pub on : NameSet
 on = set.from_list (name_a ∷ [])
 
-abbrev pub off : Sign
+abbrev pub off : NameSet
 off = set.empty
 
-abbrev pub edge : ℕ → LabelTree → ℕ → List ℕ → Arrow
+abbrev pub edge : ℕ → LabelTree → ℕ → List ℕ → TreeEdge
 edge p label q marks = record { from = p; label = label; to = q; marks = marks }
 
 abbrev pub a : LabelTree
@@ -92,10 +92,10 @@ abbrev pub name_b : List ℕ
 name_b = 98 ∷ []
 
 -- letters with the foreign name, beside `a` and alone
-abbrev pub on_and_foreign : Sign
+abbrev pub on_and_foreign : NameSet
 on_and_foreign = set.from_list (name_a ∷ name_b ∷ [])
 
-abbrev pub foreign : Sign
+abbrev pub foreign : NameSet
 foreign = set.from_list (name_b ∷ [])
 
 pub record WorkedExamples : Type 0 where
@@ -115,14 +115,14 @@ pub record WorkedExamples : Type 0 where
   pub off_again_off : Accepts off_again [] (off ∷ [])
   pub off_again_on_off : Accepts off_again [] (on ∷ off ∷ [])
   pub off_again_on : ¬ Accepts off_again [] (on ∷ [])
-  pub never_any : (u v : List Sign) → ¬ Accepts never u v
+  pub never_any : (u v : List NameSet) → ¬ Accepts never u v
   pub alternating_on : Accepts alternating [] (on ∷ [])
   pub alternating_on_off_on : Accepts alternating [] (on ∷ off ∷ on ∷ [])
   pub two_starts_on : Accepts (either_way (0 ∷ 1 ∷ [])) [] (on ∷ [])
   pub two_starts_off : Accepts (either_way (0 ∷ 1 ∷ [])) [] (off ∷ [])
   pub two_starts_on_off : ¬ Accepts (either_way (0 ∷ 1 ∷ [])) [] (on ∷ off ∷ [])
   pub second_start_on : ¬ Accepts (either_way (1 ∷ [])) [] (on ∷ [])
-  pub no_start_any : (u v : List Sign) → ¬ Accepts (either_way []) u v
+  pub no_start_any : (u v : List NameSet) → ¬ Accepts (either_way []) u v
   pub foreign_beside : Accepts again [] (on_and_foreign ∷ [])
   pub foreign_alone : ¬ Accepts again [] (foreign ∷ [])
-  pub no_cycle : (u : List Sign) → ¬ Accepts again u []
+  pub no_cycle : (u : List NameSet) → ¬ Accepts again u []

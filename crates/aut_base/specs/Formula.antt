@@ -77,13 +77,13 @@ trees [] = none
 trees (f ∷ fs) = more f (trees fs)
 
 -- the parts of a conjunction or disjunction
-pub record Parts : Type 0 where
+pub record FormulaParts : Type 0 where
   pub first : FormulaTree
   pub second : FormulaTree
   pub others : List FormulaTree
 
 -- one level of a formula, with trees in the place of what it holds
-abbrev pub tree_step : Formula-F FormulaTree Parts → FormulaTree
+abbrev pub tree_step : Formula-F FormulaTree FormulaParts → FormulaTree
 tree_step Formula-F.True = True
 tree_step Formula-F.False = False
 tree_step (Formula-F.Inf set neg) = Inf set neg
@@ -93,11 +93,11 @@ tree_step (Formula-F.Or p) = Or p.first p.second (trees p.others)
 
 -- the tree of a formula
 abbrev pub formula_tree : Formula → FormulaTree
-formula_tree = fold-Formula FormulaTree Parts tree_step (λ fs. record { first = fs.first.value; second = fs.second.value; others = fs.others.items })
+formula_tree = fold-Formula FormulaTree FormulaParts tree_step (λ fs. record { first = fs.first.value; second = fs.second.value; others = fs.others.items })
 
 -- the parts of a conjunction or disjunction
-abbrev pub formula_parts : Formulas → Parts
-formula_parts = fold-Formulas FormulaTree Parts tree_step (λ fs. record { first = fs.first.value; second = fs.second.value; others = fs.others.items })
+abbrev pub formula_parts : Formulas → FormulaParts
+formula_parts = fold-Formulas FormulaTree FormulaParts tree_step (λ fs. record { first = fs.first.value; second = fs.second.value; others = fs.others.items })
 
 -- the same as one list, of two parts or more
 abbrev pub formula_list : Formulas → List FormulaTree

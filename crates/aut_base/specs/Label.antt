@@ -2,7 +2,7 @@
 use Rattle.std.specs.Prelude.{◌+◌, ◌<◌, ℕ, Bool, true, false, not, ◌&&◌, ◌||◌, List, [], ◌∷◌, slice_get}
 use Rattle.std.specs.FinSet.{contains}
 use Rattle.std.specs.Option.{option_map_or}
-use Rattle.aut_base.specs.Word.{Sign}
+use Rattle.aut_base.specs.Word.{NameSet}
 use Rattle.aut_base.specs.declared.label.Label.{Label}
 use Rattle.aut_base.specs.declared.label.Label.TheOpen.{Label-F}
 use Rattle.aut_base.specs.declared.label.Label.TheFolds.{fold-Label, fold-Labels}
@@ -69,7 +69,7 @@ abbrev mutual
   labels_size (more t ts) = label_size t + labels_size ts
 
 -- The i-th proposition holds at a letter that has the i-th name. Other names of the letter play no part.
-abbrev pub holds_at : List (List ℕ) → Sign → ℕ → Bool
+abbrev pub holds_at : List (List ℕ) → NameSet → ℕ → Bool
 holds_at names letter i = option_map_or (contains letter) (slice_get names i) false
 
 -- the list, as a tree holds it
@@ -78,13 +78,13 @@ trees [] = none
 trees (t ∷ ts) = more t (trees ts)
 
 -- the parts of a conjunction or disjunction
-pub record Parts : Type 0 where
+pub record LabelParts : Type 0 where
   pub first : LabelTree
   pub second : LabelTree
   pub others : List LabelTree
 
 -- one level of a label, with trees in the place of what it holds
-abbrev pub tree_step : Label-F LabelTree Parts → LabelTree
+abbrev pub tree_step : Label-F LabelTree LabelParts → LabelTree
 tree_step Label-F.True = True
 tree_step Label-F.False = False
 tree_step (Label-F.Prop i) = Prop i
@@ -94,11 +94,11 @@ tree_step (Label-F.Or p) = Or p.first p.second (trees p.others)
 
 -- the tree of a label
 abbrev pub label_tree : Label → LabelTree
-label_tree = fold-Label LabelTree Parts tree_step (λ ls. record { first = ls.first.value; second = ls.second.value; others = ls.others.items })
+label_tree = fold-Label LabelTree LabelParts tree_step (λ ls. record { first = ls.first.value; second = ls.second.value; others = ls.others.items })
 
 -- the parts of a conjunction or disjunction
-abbrev pub label_parts : Labels → Parts
-label_parts = fold-Labels LabelTree Parts tree_step (λ ls. record { first = ls.first.value; second = ls.second.value; others = ls.others.items })
+abbrev pub label_parts : Labels → LabelParts
+label_parts = fold-Labels LabelTree LabelParts tree_step (λ ls. record { first = ls.first.value; second = ls.second.value; others = ls.others.items })
 
 -- the same as one list, of two parts or more
 abbrev pub label_list : Labels → List LabelTree

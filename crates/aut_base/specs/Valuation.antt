@@ -4,7 +4,7 @@ use Rattle.std.specs.Prelude.{◌≡◌, ℕ, zero, suc, ◌+◌, ◌*◌, ◌�
 use Rattle.std.specs.FinSet as set
 use Rattle.std.specs.List.{slice_index_or}
 use Rattle.aut_base.specs.Label.{LabelTree, truth}
-use Rattle.aut_base.specs.Word.{Sign}
+use Rattle.aut_base.specs.Word.{NameSet}
 
 -- bit k of the number is the k-th truth value
 abbrev pub number_of : List Bool → ℕ
@@ -31,7 +31,7 @@ names_on (name ∷ names) [] = []
 names_on (name ∷ names) (b ∷ v) = (if b then name ∷ [] else []) ++ names_on names v
 
 -- the letter at which just the propositions of the valuation hold
-abbrev pub letter_of : List (List ℕ) → List Bool → Sign
+abbrev pub letter_of : List (List ℕ) → List Bool → NameSet
 letter_of names v = set.from_list (names_on names v)
 
 -- the valuation of n propositions with the least number among those at which the function is true

@@ -5,8 +5,8 @@ use Rattle.std.specs.FinSet.{FinSet}
 use Rattle.std.specs.Ordering.{nat_cmp}
 
 -- The propositions that hold at one moment, by name. A name is a list of bytes.
-abbrev pub Sign : Type 0
-Sign = FinSet (slice_cmp nat_cmp)
+abbrev pub NameSet : Type 0
+NameSet = FinSet (slice_cmp nat_cmp)
 
 -- a list, this many times
 abbrev pub copies : {A : Type 0} → ℕ → List A → List A
@@ -14,16 +14,16 @@ copies zero v = []
 copies (suc k) v = v ++ copies k v
 
 -- The n-th letter of the word that is `u` and then `v` again and again, from n = 0.
-abbrev pub letter_at : List Sign → List Sign → ℕ → Option Sign
+abbrev pub letter_at : List NameSet → List NameSet → ℕ → Option NameSet
 letter_at u v n = if nat_lt n (length u) then slice_get u n else slice_get v ((n - length u) % length v)
 
 -- both lasso words spell the same infinite word
-abbrev pub SpellsSame : List Sign → List Sign → List Sign → List Sign → Type 0
+abbrev pub SpellsSame : List NameSet → List NameSet → List NameSet → List NameSet → Type 0
 SpellsSame u v x y = (n : ℕ) → letter_at u v n ≡ letter_at x y n
 
 -- the word is the shortest that spells its infinite word
-pub record IsReduced (u v : List Sign) : Type 0 where
+pub record IsReduced (u v : List NameSet) : Type 0 where
   -- the cycle is not two or more copies of a list
-  pub primitive : (w : List Sign) (k : ℕ) → 2 ≤ k → v ≢ copies k w
+  pub primitive : (w : List NameSet) (k : ℕ) → 2 ≤ k → v ≢ copies k w
   -- the stem is empty, or ends in a letter other than the cycle's last
-  pub stem : (x y : List Sign) (a b : Sign) → u ≡ x ++ a ∷ [] → v ≡ y ++ b ∷ [] → a ≢ b
+  pub stem : (x y : List NameSet) (a b : NameSet) → u ≡ x ++ a ∷ [] → v ≡ y ++ b ∷ [] → a ≢ b

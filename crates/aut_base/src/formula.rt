@@ -3,7 +3,7 @@
 ghost use Rattle.std.specs.Prelude.{◌≡◌, ◌<◌, ◌↔◌, ℕ, not, IsTrue, [], ◌∷◌, ◌++◌, length, map, IfOk, OnOk, OnErr, slice_get};
 ghost use Rattle.std.specs.List.{list_any, list_all};
 ghost use Rattle.aut_base.specs.Marks.{is_in};
-ghost use Rattle.aut_base.specs.Formula.{FormulaTree, Parts, trees, SetsBelow, EachSetsBelow, met, all_met, some_met, formula_tree, formula_parts, formula_list};
+ghost use Rattle.aut_base.specs.Formula.{FormulaTree, FormulaParts, trees, SetsBelow, EachSetsBelow, met, all_met, some_met, formula_tree, formula_parts, formula_list};
 
 use crate::{Marks, Memory};
 use std::alloc::Global;

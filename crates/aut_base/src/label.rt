@@ -2,7 +2,7 @@
 
 ghost use Rattle.std.specs.Prelude.{◌≡◌, ◌<◌, ◌↔◌, ℕ, false, IsTrue, [], ◌∷◌, ◌++◌, length, map, IfOk, OnOk, OnErr, slice_get};
 ghost use Rattle.std.specs.List.{slice_index_or};
-ghost use Rattle.aut_base.specs.Label.{LabelTree, Parts, AllBelow, EachBelow, truth, holds_at, all_true, some_true, trees, label_tree, label_parts, label_list};
+ghost use Rattle.aut_base.specs.Label.{LabelTree, LabelParts, AllBelow, EachBelow, truth, holds_at, all_true, some_true, trees, label_tree, label_parts, label_list};
 
 use crate::{Letter, Memory, Names};
 use std::alloc::Global;

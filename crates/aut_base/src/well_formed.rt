@@ -2,7 +2,7 @@
 
 ghost use Rattle.std.specs.Prelude.{◌≢◌, ℕ, ◌<◌, ◌≤◌, ◌↔◌, IsTrue, All, AllPairs, length, map};
 ghost use Rattle.std.specs.List.Sorted.{IsNonDecreasing};
-ghost use Rattle.aut_base.specs.Automaton.{arrow, automaton, IsArrowOf, IsWellFormed};
+ghost use Rattle.aut_base.specs.Automaton.{tree_edge, automaton, IsEdgeOf, IsWellFormed};
 ghost use Rattle.aut_base.specs.Distinct.{DiffersFromEarlier};
 
 use crate::{Description, Edge};
@@ -57,7 +57,7 @@ fn is_new(starts: &[u32], i: usize) -> bool
 }
 
 fn are_in_order(edges: &[Edge]) -> bool
-    ensures { IsTrue result ↔ IsNonDecreasing (map (λ e. e.from) (map arrow edges.now)) }
+    ensures { IsTrue result ↔ IsNonDecreasing (map (λ e. e.from) (map tree_edge edges.now)) }
 {
     'edges: for i in 1..edges.len() {
         if edges[i].from < edges[i - 1].from {
@@ -68,7 +68,7 @@ fn are_in_order(edges: &[Edge]) -> bool
 }
 
 fn are_edges(description: &Description, edges: &[Edge]) -> bool
-    ensures { IsTrue result ↔ All (IsArrowOf (automaton description.now)) (map arrow edges.now) }
+    ensures { IsTrue result ↔ All (IsEdgeOf (automaton description.now)) (map tree_edge edges.now) }
 {
     'edges: for edge in edges {
         if !is_edge(description, edge) {
@@ -79,7 +79,7 @@ fn are_edges(description: &Description, edges: &[Edge]) -> bool
 }
 
 fn is_edge(description: &Description, edge: &Edge) -> bool
-    ensures { IsTrue result ↔ IsArrowOf (automaton description.now) (arrow edge.now) }
+    ensures { IsTrue result ↔ IsEdgeOf (automaton description.now) (tree_edge edge.now) }
 {
     edge.from < description.states
         && edge.to < description.states

@@ -21,7 +21,3 @@ find_step name other names texts place within same there b is =
 pub place_text : (name : List ℕ) (names texts : List (List ℕ)) (place : Option ℕ) → MatchOption place (find (slice_cmp nat_cmp) name (zip names texts) ≡ None) (λ k. (k < length texts) × (find (slice_cmp nat_cmp) name (zip names texts) ≡ Some (get_or texts k []))) → (is_some place ≡ contains_key (from_entries {R = slice_cmp nat_cmp} (zip names texts)) name) × (rest_of texts place 0 ≡ text_of (from_entries (zip names texts)) name)
 place_text name names texts None none = let e = get-from_entries nat_list_cmp_total (zip names texts) name ∙ none in (rw e refl, rw e refl)
 place_text name names texts (Some k) found = let e = get-from_entries nat_list_cmp_total (zip names texts) name ∙ found.1 in (rw e refl, rw e refl)
-
--- one byte more taken
-pub drop_more : {A : Type 0} (taken : ℕ) (text : List A) → drop (taken + 1) text ≡ drop 1 (drop taken text)
-drop_more taken text = sym (drop-drop 1 taken text)

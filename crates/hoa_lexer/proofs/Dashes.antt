@@ -7,14 +7,15 @@ use Rattle.hoa_lexer.specs.Spelling.{Spells}
 use Rattle.hoa_lexer.specs.Steps.{Expects, IsDashed, IsReadFault, Pauses, ReadsToken, ReadsWord}
 use Rattle.hoa_lexer.specs.Text.{IsFront, HasFront, Begins, IsOpenToken, IsNoToken}
 use Rattle.hoa_lexer.proofs.Comments.{unheld}
-use Rattle.hoa_lexer.proofs.FirstBytes.{token_kind, front_head, heads, solid}
+use Rattle.hoa_lexer.proofs.FirstBytes.{token_kind, front_head, solid}
 use Rattle.hoa_lexer.specs.declared.token.LexFault.{LexFault}
 use Rattle.hoa_lexer.specs.declared.token.LexFault.TheVariants.{BadToken, OpenComment, OpenString, OpenToken, Read, Bytes, Memory}
 use Rattle.hoa_lexer.specs.declared.token.Token.{Token}
 use Rattle.hoa_lexer.specs.declared.token.Token.TheVariants.{HeaderName, Identifier, Str, Int, Alias, Body, End, Abort}
+use Rattle.aut_base.proofs.Lists.{cons-head}
 
 no_slash_here : {xs ys : List ℕ} → 45 ∷ xs ≡ 47 ∷ ys → ⊥
-no_slash_here {xs} {ys} e = omega (arith, heads 45 47 xs ys e)
+no_slash_here {xs} {ys} e = omega (arith, cons-head 45 47 xs ys e)
 
 -- what follows the first dash of a word in dashes
 abbrev IsTail : List ℕ → List ℕ → Type 0

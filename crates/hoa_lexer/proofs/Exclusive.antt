@@ -10,6 +10,7 @@ use Rattle.hoa_lexer.specs.declared.token.Token.{Token}
 use Rattle.hoa_lexer.specs.declared.token.Token.TheVariants.{HeaderName, Identifier, Str, Int, Alias}
 use Rattle.hoa_lexer.proofs.FirstBytes.{front_head, no_front, token_kind}
 use Rattle.hoa_lexer.proofs.Fronts.{front_after, front_slashes, front_spaces, same_close, space_no_slash}
+use Rattle.aut_base.proofs.Lists.{empty_right}
 
 -- what is neither a token nor begins with a blank
 pub record IsStuck (bytes : List ℕ) : Type 0 where
@@ -117,12 +118,8 @@ stuck_no_token input a f =
 pub stuck_no_blanks : (input : List ℕ) → AfterBlanks input IsStuck → IsBlanks input → ⊥
 stuck_no_blanks input a b = stuck_blank a.bytes a.holds (blanks_after a.before input a.bytes a.blanks b a.split)
 
-nothing_before : (before bytes : List ℕ) → [] ≡ before ++ bytes → bytes ≡ []
-nothing_before [] bytes e = sym e
-nothing_before (b ∷ bs) bytes e = cc
-
 -- No token stands in blanks.
 pub blanks_no_token : (input : List ℕ) → IsBlanks input → AfterBlanks input HasFront → ⊥
 blanks_no_token input b f =
     let next = front_after input f.before [] f.bytes b f.blanks (append-nil input ∙ f.split) f.holds in
-    no_front (subst HasFront (nothing_before next.before next.bytes next.split) next.holds)
+    no_front (subst HasFront (empty_right next.before next.bytes next.split) next.holds)

@@ -5,7 +5,7 @@ use Rattle.std.proofs.lemmas.Bool.Decides.{nat_tests}
 use Rattle.hoa_lexer.specs.Bytes.{is_digit, is_letter, is_space}
 use Rattle.hoa_lexer.specs.Spelling.{Spells}
 use Rattle.hoa_lexer.specs.Text.{IsFront, HasFront, IsNoToken}
-use Rattle.hoa_lexer.specs.Steps.{IsMark}
+use Rattle.hoa_lexer.specs.Steps.{IsSign}
 use Rattle.hoa_lexer.specs.declared.token.Token.{Token}
 use Rattle.hoa_lexer.specs.declared.token.Token.TheVariants.{HeaderName, Identifier, Str, Int, Alias, Bang, Amp, Bar, LeftParen, RightParen, LeftBrace, RightBrace, LeftBracket, RightBracket, Body, End, Abort}
 
@@ -143,7 +143,7 @@ no_slash (Alias name) h = omega arith
 no_slash _ h = omega arith
 
 -- a byte of no kind begins no token
-pub no_kind : (token : Token) (b : ℕ) → kind b ≡ token_kind token → is_letter b ≡ false → is_digit b ≡ false → b ≢ 34 → b ≢ 64 → b ≢ 45 → ((t : Token) → IsMark t b → ⊥) → ⊥
+pub no_kind : (token : Token) (b : ℕ) → kind b ≡ token_kind token → is_letter b ≡ false → is_digit b ≡ false → b ≢ 34 → b ≢ 64 → b ≢ 45 → ((t : Token) → IsSign t b → ⊥) → ⊥
 no_kind (HeaderName name) b h l d s a m k = absurd (false≢true (sym l ∙ ap is_letter (sym (kind_other b l d) ∙ h)))
 no_kind (Identifier name) b h l d s a m k = absurd (false≢true (sym l ∙ ap is_letter (sym (kind_other b l d) ∙ h)))
 no_kind (Str text) b h l d s a m k = s (sym (kind_other b l d) ∙ h)
@@ -164,7 +164,7 @@ no_kind RightBracket b h l d s a m k = k RightBracket (sym (kind_other b l d) �
 
 -- a mark stands alone
 
-pub mark_front : (token : Token) (b : ℕ) (x : List ℕ) → IsMark token b → IsFront (b ∷ x) token x
+pub mark_front : (token : Token) (b : ℕ) (x : List ℕ) → IsSign token b → IsFront (b ∷ x) token x
 mark_front Bang b x h = record { word = b ∷ []; split = refl; spells = ap (λ c. c ∷ []) h; ends = tt }
 mark_front Amp b x h = record { word = b ∷ []; split = refl; spells = ap (λ c. c ∷ []) h; ends = tt }
 mark_front Bar b x h = record { word = b ∷ []; split = refl; spells = ap (λ c. c ∷ []) h; ends = tt }
@@ -181,9 +181,6 @@ mark_front (Int n) b x h = absurd h
 mark_front (Alias name) b x h = absurd h
 mark_front _ b x h = absurd h
 
-pub heads : (b c : ℕ) (xs ys : List ℕ) → b ∷ xs ≡ c ∷ ys → b ≡ c
-heads b c xs ys e = cc
-
 -- the first byte is no space
 pub solid : (b : ℕ) (x : List ℕ) → is_space b ≡ false → (c : ℕ) (rest : List ℕ) → b ∷ x ≡ c ∷ rest → is_space c ≡ true → ⊥
 solid b x n c rest e h = let same : b ≡ c = cc in false≢true (sym n ∙ ap is_space same ∙ h)
@@ -193,7 +190,7 @@ pub digit_no_space : (b : ℕ) → is_digit b ≡ true → is_space b ≡ false
 digit_no_space b d = ⊎_elim (λ h. absurd (no_space (Int 0) b (kind_digit b d) h)) (λ h. h) (cases_Bool (is_space b))
 
 -- a byte of no kind begins no token, however the text goes on
-pub no_kind_token : (b : ℕ) (x : List ℕ) → is_space b ≡ false → is_letter b ≡ false → is_digit b ≡ false → (b ≡ 34 → ⊥) → (b ≡ 64 → ⊥) → (b ≡ 45 → ⊥) → (b ≡ 47 → ⊥) → ((t : Token) → IsMark t b → ⊥) → IsNoToken (b ∷ x)
+pub no_kind_token : (b : ℕ) (x : List ℕ) → is_space b ≡ false → is_letter b ≡ false → is_digit b ≡ false → (b ≡ 34 → ⊥) → (b ≡ 64 → ⊥) → (b ≡ 45 → ⊥) → (b ≡ 47 → ⊥) → ((t : Token) → IsSign t b → ⊥) → IsNoToken (b ∷ x)
 no_kind_token b x n l d s a m o k = record {
   some = λ e. cc;
   no_space = solid b x n;

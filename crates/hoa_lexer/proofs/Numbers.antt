@@ -12,11 +12,12 @@ use Rattle.hoa_lexer.specs.Steps.{IsReadFault, Pauses, ReadsToken}
 use Rattle.hoa_lexer.specs.Text.{IsFront, HasFront, Begins, IsOpenToken, IsNoToken}
 use Rattle.hoa_lexer.proofs.Comments.{unheld, holding}
 use Rattle.hoa_lexer.proofs.FirstBytes.{token_kind, kind_digit, digit_no_space, front_head, solid}
-use Rattle.hoa_lexer.proofs.Words.{stops_not, all_push}
+use Rattle.hoa_lexer.proofs.Words.{stops_not}
 use Rattle.hoa_lexer.specs.declared.token.LexFault.{LexFault}
 use Rattle.hoa_lexer.specs.declared.token.LexFault.TheVariants.{BadToken, OpenComment, OpenString, OpenToken, Read, Bytes, Memory}
 use Rattle.hoa_lexer.specs.declared.token.Token.{Token}
 use Rattle.hoa_lexer.specs.declared.token.Token.TheVariants.{HeaderName, Identifier, Str, Int, Alias}
+use Rattle.aut_base.proofs.Lists.{list_all-push}
 
 -- digits after the first, and the value of all so far
 pub record IsDigits (first value : ℕ) (x y : List ℕ) : Type 0 where
@@ -32,7 +33,7 @@ value_from = fold (λ value digit. 10 * value + (digit - 48))
 pub digits_push : (first value value' b : ℕ) (x y z : List ℕ) → IsDigits first value x y → y ≡ b ∷ z → is_digit b ≡ true → value' ≡ 10 * value + (b - 48) → IsDigits first value' x z
 digits_push first value value' b x y z d e h v = record {
   seen = d.seen ++ b ∷ [];
-  digits = all_push is_digit b d.seen d.digits h;
+  digits = list_all-push is_digit b d.seen d.digits h;
   value_is = fold-append (λ value digit. 10 * value + (digit - 48)) 0 (first ∷ d.seen) (b ∷ []) ∙ ap (λ n. 10 * n + (b - 48)) d.value_is ∙ sym v;
   split = d.split ∙ ap (λ w. d.seen ++ w) e ∙ sym (append_assoc d.seen (b ∷ []) z);
 }

@@ -16,6 +16,7 @@ use Rattle.hoa_lexer.proofs.Fronts.{same_place, asks_blanks_unclosed}
 use Rattle.hoa_lexer.proofs.Numbers.{int_stops, nonzero}
 use Rattle.hoa_lexer.specs.declared.token.Token.{Token}
 use Rattle.hoa_lexer.specs.declared.token.Token.TheVariants.{HeaderName, Identifier, Str, Int, Alias, Bang, Amp, Bar, LeftParen, RightParen, LeftBrace, RightBrace, LeftBracket, RightBracket, Body, End, Abort}
+use Rattle.aut_base.proofs.Lists.{append-cancel, cons-head, cons-tail}
 
 -- one token, and one rest
 record IsSame (t u : Token) (rest rest' : List ℕ) : Type 0 where
@@ -40,20 +41,10 @@ same_run p [] (c ∷ cs) rest rest' e h k u v = absurd (stops_here p c (cs ++ re
 same_run p (b ∷ bs) [] rest rest' e h k u v = absurd (stops_here p b (bs ++ rest) rest' (sym e) (and_parts (p b) (list_all p bs) h).0 v)
 same_run p (b ∷ bs) (c ∷ cs) rest rest' e h k u v =
     let first : b ≡ c = cc in
-    let tails : bs ++ rest ≡ cs ++ rest' = cc in
-    let w = same_run p bs cs rest rest' tails (and_parts (p b) (list_all p bs) h).1 (and_parts (p c) (list_all p cs) k).1 u v in
+    let cons-tail : bs ++ rest ≡ cs ++ rest' = cc in
+    let w = same_run p bs cs rest rest' cons-tail (and_parts (p b) (list_all p bs) h).1 (and_parts (p c) (list_all p cs) k).1 u v in
     let run = w.run in
     record { run = cc; after = w.after }
-
-heads : (b c : ℕ) (xs ys : List ℕ) → b ∷ xs ≡ c ∷ ys → b ≡ c
-heads b c xs ys e = cc
-
-tails : (b c : ℕ) (xs ys : List ℕ) → b ∷ xs ≡ c ∷ ys → xs ≡ ys
-tails b c xs ys e = cc
-
-cancel : (s rest rest' : List ℕ) → s ++ rest ≡ s ++ rest' → rest ≡ rest'
-cancel [] rest rest' e = e
-cancel (b ∷ bs) rest rest' e = cancel bs rest rest' (tails b b (bs ++ rest) (bs ++ rest') e)
 
 -- integers
 
@@ -106,14 +97,14 @@ header_run : (b : ℕ) (bs s rest name : List ℕ) → IsIdentifier name → b �
 header_run b bs s rest [] i e f = absurd i
 header_run b bs s rest (n ∷ ns) i e f =
     let first : n ≡ b = cc in
-    let tails : s ≡ ns ++ 58 ∷ [] = cc in
-    record { run = ns; name_is = ap (λ x. x ∷ ns) first; words = i.1; split = f ∙ ap (λ w. w ++ rest) tails ∙ append_assoc ns (58 ∷ []) rest }
+    let cons-tail : s ≡ ns ++ 58 ∷ [] = cc in
+    record { run = ns; name_is = ap (λ x. x ∷ ns) first; words = i.1; split = f ∙ ap (λ w. w ++ rest) cons-tail ∙ append_assoc ns (58 ∷ []) rest }
 
 identifier_run : (b : ℕ) (bs s rest name : List ℕ) → IsIdentifier name → b ∷ s ≡ name → bs ≡ s ++ rest → IsRun b bs name rest
 identifier_run b bs s rest [] i e f = absurd i
 identifier_run b bs s rest (n ∷ ns) i e f =
-    let tails : s ≡ ns = cc in
-    record { run = s; name_is = sym e; words = ap (list_all is_word) tails ∙ i.1; split = f }
+    let cons-tail : s ≡ ns = cc in
+    record { run = s; name_is = sym e; words = ap (list_all is_word) cons-tail ∙ i.1; split = f }
 
 colon_no : (rest tail : List ℕ) → 58 ∷ tail ≡ rest → StopsAt (λ b. b == 58) rest → ⊥
 colon_no [] tail e s = s
@@ -163,22 +154,22 @@ one_alias _ b bs s s' rest rest' name q h k e f u v = absurd (omega arith)
 
 same_quotes : (inner inner' text text' rest rest' : List ℕ) → Quotes inner text → Quotes inner' text' → inner ++ 34 ∷ rest ≡ inner' ++ 34 ∷ rest' → IsSameRun text text' rest rest'
 same_quotes inner inner' text text' rest rest' nothing nothing e = record { run = refl; after = cc }
-same_quotes inner (x ∷ y ∷ inner') text (z ∷ text') rest rest' nothing (escaped k) e = absurd (omega (arith, heads 34 92 rest (y ∷ (inner' ++ 34 ∷ rest')) e))
-same_quotes inner (x ∷ inner') text (z ∷ text') rest rest' nothing (plain n m k) e = absurd (n (sym (heads 34 x rest (inner' ++ 34 ∷ rest') e)))
-same_quotes (x ∷ y ∷ inner) inner' (z ∷ text) text' rest rest' (escaped h) nothing e = absurd (omega (arith, heads 92 34 (y ∷ (inner ++ 34 ∷ rest)) rest' e))
-same_quotes (x ∷ inner) inner' (z ∷ text) text' rest rest' (plain n m h) nothing e = absurd (n (heads x 34 (inner ++ 34 ∷ rest) rest' e))
+same_quotes inner (x ∷ y ∷ inner') text (z ∷ text') rest rest' nothing (escaped k) e = absurd (omega (arith, cons-head 34 92 rest (y ∷ (inner' ++ 34 ∷ rest')) e))
+same_quotes inner (x ∷ inner') text (z ∷ text') rest rest' nothing (plain n m k) e = absurd (n (sym (cons-head 34 x rest (inner' ++ 34 ∷ rest') e)))
+same_quotes (x ∷ y ∷ inner) inner' (z ∷ text) text' rest rest' (escaped h) nothing e = absurd (omega (arith, cons-head 92 34 (y ∷ (inner ++ 34 ∷ rest)) rest' e))
+same_quotes (x ∷ inner) inner' (z ∷ text) text' rest rest' (plain n m h) nothing e = absurd (n (cons-head x 34 (inner ++ 34 ∷ rest) rest' e))
 same_quotes (x ∷ y ∷ inner) (x' ∷ y' ∷ inner') (z ∷ text) (z' ∷ text') rest rest' (escaped h) (escaped k) e =
-    let first : y ≡ y' = heads y y' (inner ++ 34 ∷ rest) (inner' ++ 34 ∷ rest') (tails 92 92 (y ∷ (inner ++ 34 ∷ rest)) (y' ∷ (inner' ++ 34 ∷ rest')) e) in
-    let w = same_quotes inner inner' text text' rest rest' h k (tails y y' (inner ++ 34 ∷ rest) (inner' ++ 34 ∷ rest') (tails 92 92 (y ∷ (inner ++ 34 ∷ rest)) (y' ∷ (inner' ++ 34 ∷ rest')) e)) in
+    let first : y ≡ y' = cons-head y y' (inner ++ 34 ∷ rest) (inner' ++ 34 ∷ rest') (cons-tail 92 92 (y ∷ (inner ++ 34 ∷ rest)) (y' ∷ (inner' ++ 34 ∷ rest')) e) in
+    let w = same_quotes inner inner' text text' rest rest' h k (cons-tail y y' (inner ++ 34 ∷ rest) (inner' ++ 34 ∷ rest') (cons-tail 92 92 (y ∷ (inner ++ 34 ∷ rest)) (y' ∷ (inner' ++ 34 ∷ rest')) e)) in
     let run = w.run in
     record { run = cc; after = w.after }
 same_quotes (x ∷ y ∷ inner) (x' ∷ inner') (z ∷ text) (z' ∷ text') rest rest' (escaped h) (plain n m k) e =
-    absurd (m (sym (heads 92 x' (y ∷ (inner ++ 34 ∷ rest)) (inner' ++ 34 ∷ rest') e)))
+    absurd (m (sym (cons-head 92 x' (y ∷ (inner ++ 34 ∷ rest)) (inner' ++ 34 ∷ rest') e)))
 same_quotes (x ∷ inner) (x' ∷ y' ∷ inner') (z ∷ text) (z' ∷ text') rest rest' (plain n m h) (escaped k) e =
-    absurd (m (heads x 92 (inner ++ 34 ∷ rest) (y' ∷ (inner' ++ 34 ∷ rest')) e))
+    absurd (m (cons-head x 92 (inner ++ 34 ∷ rest) (y' ∷ (inner' ++ 34 ∷ rest')) e))
 same_quotes (x ∷ inner) (x' ∷ inner') (z ∷ text) (z' ∷ text') rest rest' (plain n m h) (plain n' m' k) e =
-    let first : x ≡ x' = heads x x' (inner ++ 34 ∷ rest) (inner' ++ 34 ∷ rest') e in
-    let w = same_quotes inner inner' text text' rest rest' h k (tails x x' (inner ++ 34 ∷ rest) (inner' ++ 34 ∷ rest') e) in
+    let first : x ≡ x' = cons-head x x' (inner ++ 34 ∷ rest) (inner' ++ 34 ∷ rest') e in
+    let w = same_quotes inner inner' text text' rest rest' h k (cons-tail x x' (inner ++ 34 ∷ rest) (inner' ++ 34 ∷ rest') e) in
     let run = w.run in
     record { run = cc; after = w.after }
 
@@ -199,7 +190,7 @@ fixed : (t : Token) (b : ℕ) (bs s s' rest rest' word : List ℕ) → b ∷ s �
 fixed t b bs s s' rest rest' word h k e f =
     let whole : b ∷ s ≡ b ∷ s' = h ∙ sym k in
     let same : s ≡ s' = cc in
-    record { token = refl; after = cancel s rest rest' (sym e ∙ f ∙ ap (λ w. w ++ rest') (sym same)) }
+    record { token = refl; after = append-cancel s rest rest' (sym e ∙ f ∙ ap (λ w. w ++ rest') (sym same)) }
 
 one_bang : (u : Token) (b : ℕ) (bs s s' rest rest' : List ℕ) → 33 ≡ token_kind u → Spells Bang (b ∷ s) → Spells u (b ∷ s') → bs ≡ s ++ rest → bs ≡ s' ++ rest' → IsSame Bang u rest rest'
 one_bang Bang b bs s s' rest rest' q h k e f = fixed Bang b bs s s' rest rest' _ h k e f
@@ -246,7 +237,7 @@ dashed_second letter b bs s rest more h e =
 apart : (c d : ℕ) (b : ℕ) (bs s s' rest rest' more more' : List ℕ) → (c ≡ d → ⊥) → b ∷ s ≡ 45 ∷ 45 ∷ c ∷ more → b ∷ s' ≡ 45 ∷ 45 ∷ d ∷ more' → bs ≡ s ++ rest → bs ≡ s' ++ rest' → ⊥
 apart c d b bs s s' rest rest' more more' n h k e f =
     let whole = sym (dashed_second c b bs s rest more h e) ∙ dashed_second d b bs s' rest' more' k f in
-    n (heads c d (more ++ rest) (more' ++ rest') (tails 45 45 (c ∷ (more ++ rest)) (d ∷ (more' ++ rest')) whole))
+    n (cons-head c d (more ++ rest) (more' ++ rest') (cons-tail 45 45 (c ∷ (more ++ rest)) (d ∷ (more' ++ rest')) whole))
 
 one_body : (u : Token) (b : ℕ) (bs s s' rest rest' : List ℕ) → 45 ≡ token_kind u → Spells Body (b ∷ s) → Spells u (b ∷ s') → bs ≡ s ++ rest → bs ≡ s' ++ rest' → IsSame Body u rest rest'
 one_body Body b bs s s' rest rest' q h k e f = fixed Body b bs s s' rest rest' _ h k e f

@@ -11,14 +11,12 @@ use Rattle.hoa_lexer.specs.Spelling.{Spells, Ends, StopsAt, IsIdentifier, IsAlia
 use Rattle.hoa_lexer.specs.Steps.{AddsWord, AddsWords, Pauses, ReadsToken}
 use Rattle.hoa_lexer.specs.Text.{HasFront, Begins, IsOpenToken, IsNoToken}
 use Rattle.hoa_lexer.proofs.Comments.{unheld}
-use Rattle.hoa_lexer.proofs.FirstBytes.{token_kind, kind_letter, front_head, heads, solid}
+use Rattle.hoa_lexer.proofs.FirstBytes.{token_kind, kind_letter, front_head, solid}
 use Rattle.hoa_lexer.specs.declared.token.LexFault.{LexFault}
 use Rattle.hoa_lexer.specs.declared.token.LexFault.TheVariants.{BadToken, OpenComment, OpenString, OpenToken, Read, Bytes, Memory}
 use Rattle.hoa_lexer.specs.declared.token.Token.{Token}
 use Rattle.hoa_lexer.specs.declared.token.Token.TheVariants.{HeaderName, Identifier, Str, Int, Alias}
-
-pub all_push : (p : ℕ → Bool) (b : ℕ) (seen : List ℕ) → list_all p seen ≡ true → p b ≡ true → list_all p (seen ++ b ∷ []) ≡ true
-all_push p b seen h k = list_all-append p seen (b ∷ []) ∙ and_from _ _ h (and_from _ _ k refl)
+use Rattle.aut_base.proofs.Lists.{list_all-push, push_not_empty, empty_of_length, cons-head}
 
 pub words_end : (o : Option ℕ) (name name' x z : List ℕ) → o ≡ None → AddsWords (Ok o) name name' x z → AddsWord name name' x []
 words_end None name name' x z e a = a.0
@@ -33,10 +31,6 @@ stops_not p xs ys (r ∷ rs) h e s =
 
 letter_no_quote : (b : ℕ) → is_letter b ≡ true → b ≡ 34 → ⊥
 letter_no_quote b h e = false≢true (ap is_letter (sym e) ∙ h)
-
-pub push_some : (xs : List ℕ) (b : ℕ) → xs ++ b ∷ [] ≡ [] → ⊥
-push_some [] b e = cc
-push_some (x ∷ xs) b e = cc
 
 -- an identifier or the name of a header
 
@@ -98,7 +92,7 @@ word_err OpenToken h offset first name name' x z l k a = absurd a
 -- an alias
 
 no_slash_here : {xs ys : List ℕ} → 64 ∷ xs ≡ 47 ∷ ys → ⊥
-no_slash_here {xs} {ys} e = omega (arith, heads 64 47 xs ys e)
+no_slash_here {xs} {ys} e = omega (arith, cons-head 64 47 xs ys e)
 
 alias_open_at : (token : Token) (seen tail rest : List ℕ) → 64 ≡ token_kind token → Spells token (64 ∷ tail) → Ends token rest → seen ≡ tail ++ rest → list_all is_word seen ≡ true → ⊥
 alias_open_at (Alias name) seen tail rest k s e p h = stops_not is_word seen tail rest h p e
@@ -126,7 +120,7 @@ alias_begins seen h = record {
     front = record {
       word = 64 ∷ (seen ++ 97 ∷ []);
       split = ap (λ v. 64 ∷ v) (sym (append_assoc seen (97 ∷ []) (32 ∷ [])));
-      spells = (alias_name (seen ++ 97 ∷ []) (push_some seen 97) (all_push is_word 97 seen h refl), refl);
+      spells = (alias_name (seen ++ 97 ∷ []) (push_not_empty seen 97) (list_all-push is_word 97 seen h refl), refl);
       ends = refl;
     };
   };
@@ -169,14 +163,10 @@ nothing_added : (seen : List ℕ) → [] ≡ seen → (b : ℕ) (x z : List ℕ)
 nothing_added [] n b x z e = e
 nothing_added (c ∷ cs) n b x z e = cc
 
-no_name : (name : List ℕ) → (length name == 0) ≡ true → name ≡ []
-no_name [] e = refl
-no_name (b ∷ bs) e = grind (arith, nat_tests)
-
 pub alias_bad : (k offset b : ℕ) (o h : Option ℕ) (name name' x z : List ℕ) → k ≡ offset → h ≡ None → o ≡ Some b → name ≡ [] → (length name' == 0) ≡ true → AddsWords (Ok o) name name' x z → ReadsToken (Err (BadToken k)) offset (64 ∷ x) (unread h z)
 alias_bad k offset b None h name name' x z s l e m n a = cc
 alias_bad k offset b (Some c) h name name' x z s l e m n a =
-    let read : x ≡ c ∷ z = nothing_added a.0.seen (sym (no_name name' n) ∙ a.0.named ∙ ap (λ v. v ++ a.0.seen) m) c x z a.0.split in
+    let read : x ≡ c ∷ z = nothing_added a.0.seen (sym (empty_of_length name' n) ∙ a.0.named ∙ ap (λ v. v ++ a.0.seen) m) c x z a.0.split in
     let next : x ≡ c ∷ unread h z = read ∙ ap (λ w. c ∷ w) (sym (unheld h z l)) in (
       s,
       alias_no_token c x z read a.1,

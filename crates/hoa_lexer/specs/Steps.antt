@@ -172,14 +172,14 @@ ReadsWord (Err Read) word offset old new = Unit {0}
 ReadsWord (Err _) word offset old new = ⊥
 
 -- the mark is spelled by this byte
-abbrev pub IsMark : Token → ℕ → Type 0
-IsMark Bang b = b ≡ 33
-IsMark Amp b = b ≡ 38
-IsMark Bar b = b ≡ 124
-IsMark LeftParen b = b ≡ 40
-IsMark RightParen b = b ≡ 41
-IsMark LeftBrace b = b ≡ 123
-IsMark RightBrace b = b ≡ 125
-IsMark LeftBracket b = b ≡ 91
-IsMark RightBracket b = b ≡ 93
-IsMark _ b = ⊥
+abbrev pub IsSign : Token → ℕ → Type 0
+IsSign Bang b = b ≡ 33
+IsSign Amp b = b ≡ 38
+IsSign Bar b = b ≡ 124
+IsSign LeftParen b = b ≡ 40
+IsSign RightParen b = b ≡ 41
+IsSign LeftBrace b = b ≡ 123
+IsSign RightBrace b = b ≡ 125
+IsSign LeftBracket b = b ≡ 91
+IsSign RightBracket b = b ≡ 93
+IsSign _ b = ⊥

@@ -8,14 +8,14 @@ mod all;
 mod blanks;
 mod bytes;
 mod dashes;
-mod marks;
+mod signs;
 mod numbers;
 mod reading;
 mod strings;
 mod words;
 
 use self::bytes::{is_digit, is_letter};
-use self::marks::mark;
+use self::signs::sign;
 use crate::{LexFault, Token};
 use aut_io::Inputs;
 use std::alloc::Global;
@@ -191,7 +191,7 @@ impl Lexer {
             b'-' => self.dashes(inputs),
             _ => {
                 self.held = None;
-                match mark(first) {
+                match sign(first) {
                     Some(token) => Ok(token),
                     None => Err(LexFault::BadToken(self.offset)),
                 }

@@ -6,7 +6,7 @@ use Rattle.hoa_parser.proofs.HeaderNames.{same}
 use Rattle.hoa_parser.specs.Expecting.{Atom, Factor, Refuses, Takes, label_word, move, set_parts}
 use Rattle.hoa_parser.specs.Grammar.{Lnot, LnotWithin, alias, false_label, lnot_meaning, lnot_tokens, proposition, true_label}
 use Rattle.hoa_parser.specs.Parsing.{is_end}
-use Rattle.hoa_parser.specs.Parts.{atom_of, sign_at}
+use Rattle.hoa_parser.specs.RuleReads.{atom_of, sign_at}
 use Rattle.hoa_parser.specs.Raw as raw
 use Rattle.hoa_parser.specs.Raw.{RawTree}
 use Rattle.hoa_parser.specs.Standing.{most_depth}

@@ -10,8 +10,8 @@ use Rattle.hoa_parser.proofs.Moving.{moves_as, moves_nowhere, passes, reads_as, 
 use Rattle.hoa_parser.specs.Expecting as part
 use Rattle.hoa_parser.specs.Expecting.{Part, behind, conj_parts, if_header, label_parts, move}
 use Rattle.hoa_parser.specs.Grammar.{StateWithin, conj_tokens, edge_tokens, header_of, label_tokens, optional_label, optional_marks, optional_text, state_meaning, state_tokens}
-use Rattle.hoa_parser.specs.Parsing.{Advances, Place, Reads, State}
-use Rattle.hoa_parser.specs.Parts.{AreEdges, AreMarks, AreStates, IsConj, IsEdge, IsLabel, IsMark, IsMaybeLabel, IsNumber, IsOptionalText, IsState}
+use Rattle.hoa_parser.specs.Parsing.{Advances, Cursor, Reads, State}
+use Rattle.hoa_parser.specs.RuleReads.{AreEdges, AreMarks, AreStates, IsConj, IsEdge, IsLabel, IsToken, IsMaybeLabel, IsNumber, IsOptionalText, IsState}
 use Rattle.hoa_parser.specs.Raw.{RawTree, WrittenEdge, WrittenState, written_state}
 use Rattle.hoa_parser.specs.Standing.{most_depth}
 use Rattle.hoa_parser.specs.declared.fault.ReadFault.{ReadFault}
@@ -25,16 +25,16 @@ edge_means : (l k : Option RawTree) (to to' marks marks' : List ℕ) → l ≡ k
 edge_means l k to to' marks marks' same_label same_to same_marks = cc
 
 -- a label in brackets
-label_opened : (v : Unit {0}) (s m : State) → s.ahead ≡ token.LeftBracket → Advances (Ok v) s m → Reads (part.MaybeLabel ∷ []) (label_parts 0 ++ part.ClosingBracket ∷ []) (IsMark token.LeftBracket) (Ok v) s m
+label_opened : (v : Unit {0}) (s m : State) → s.ahead ≡ token.LeftBracket → Advances (Ok v) s m → Reads (part.MaybeLabel ∷ []) (label_parts 0 ++ part.ClosingBracket ∷ []) (IsToken token.LeftBracket) (Ok v) s m
 label_opened v s m is one = takes part.MaybeLabel (label_parts 0 ++ part.ClosingBracket ∷ []) [] token.LeftBracket s m v is refl refl refl one
 
 pub label_fails : (v : Unit {0}) (f : ReadFault) (s m s' : State) → s.ahead ≡ token.LeftBracket → Advances (Ok v) s m → Reads (label_parts 0) [] (IsLabel 0) (Err f) m s' → Reads (part.MaybeLabel ∷ []) [] IsMaybeLabel (Err f) s s'
-label_fails v f s m s' is one two = next_fails (part.MaybeLabel ∷ []) (label_parts 0) (part.ClosingBracket ∷ []) [] (IsMark token.LeftBracket) (IsLabel 0) IsMaybeLabel v f s m s' (label_opened v s m is one) two
+label_fails v f s m s' is one two = next_fails (part.MaybeLabel ∷ []) (label_parts 0) (part.ClosingBracket ∷ []) [] (IsToken token.LeftBracket) (IsLabel 0) IsMaybeLabel v f s m s' (label_opened v s m is one) two
 
-label_read : (v : Unit {0}) (l : RawLabel) (s m n : State) → s.ahead ≡ token.LeftBracket → Advances (Ok v) s m → Reads (label_parts 0) [] (IsLabel 0) (Ok l) m n → Reads (part.MaybeLabel ∷ []) (part.ClosingBracket ∷ []) (λ (x : RawLabel). Then (IsMark token.LeftBracket v) (IsLabel 0 x)) (Ok l) s n
-label_read v l s m n is one two = next_parts (part.MaybeLabel ∷ []) (label_parts 0) (part.ClosingBracket ∷ []) (IsMark token.LeftBracket) (IsLabel 0) v l s m n (label_opened v s m is one) two
+label_read : (v : Unit {0}) (l : RawLabel) (s m n : State) → s.ahead ≡ token.LeftBracket → Advances (Ok v) s m → Reads (label_parts 0) [] (IsLabel 0) (Ok l) m n → Reads (part.MaybeLabel ∷ []) (part.ClosingBracket ∷ []) (λ (x : RawLabel). Then (IsToken token.LeftBracket v) (IsLabel 0 x)) (Ok l) s n
+label_read v l s m n is one two = next_parts (part.MaybeLabel ∷ []) (label_parts 0) (part.ClosingBracket ∷ []) (IsToken token.LeftBracket) (IsLabel 0) v l s m n (label_opened v s m is one) two
 
-bracketed : (u v : Unit {0}) (l : RawLabel) (a b c d : Place) → IsMark token.LeftBracket v a b → IsLabel 0 l b c → IsMark token.RightBracket u c d → IsMaybeLabel (Some l) a d
+bracketed : (u v : Unit {0}) (l : RawLabel) (a b c d : Cursor) → IsToken token.LeftBracket v a b → IsLabel 0 l b c → IsToken token.RightBracket u c d → IsMaybeLabel (Some l) a d
 bracketed u v l a b c d opens is closes = record {
   phrase = Some is.phrase;
   within = is.within;
@@ -42,15 +42,15 @@ bracketed u v l a b c d opens is closes = record {
   means = ap (λ t. Some t) is.means;
 }
 
-pub label_closed : (u v : Unit {0}) (l : RawLabel) (s m n s' : State) → s.ahead ≡ token.LeftBracket → Advances (Ok v) s m → Reads (label_parts 0) [] (IsLabel 0) (Ok l) m n → Reads (part.ClosingBracket ∷ []) [] (IsMark token.RightBracket) (Ok u) n s' → Reads (part.MaybeLabel ∷ []) [] IsMaybeLabel (Ok (Some l)) s s'
+pub label_closed : (u v : Unit {0}) (l : RawLabel) (s m n s' : State) → s.ahead ≡ token.LeftBracket → Advances (Ok v) s m → Reads (label_parts 0) [] (IsLabel 0) (Ok l) m n → Reads (part.ClosingBracket ∷ []) [] (IsToken token.RightBracket) (Ok u) n s' → Reads (part.MaybeLabel ∷ []) [] IsMaybeLabel (Ok (Some l)) s s'
 label_closed u v l s m n s' is one two three =
     reads_as (part.MaybeLabel ∷ []) [] _ IsMaybeLabel u (Some l) s s'
     (λ a d h. bracketed u v l a h.1.0 h.0 d h.1.1 h.1.2 h.2)
-    (next_parts (part.MaybeLabel ∷ []) (part.ClosingBracket ∷ []) [] _ (IsMark token.RightBracket) l u s n s' (label_read v l s m n is one two) three)
+    (next_parts (part.MaybeLabel ∷ []) (part.ClosingBracket ∷ []) [] _ (IsToken token.RightBracket) l u s n s' (label_read v l s m n is one two) three)
 
-pub label_unclosed : (v : Unit {0}) (l : RawLabel) (f : ReadFault) (s m n s' : State) → s.ahead ≡ token.LeftBracket → Advances (Ok v) s m → Reads (label_parts 0) [] (IsLabel 0) (Ok l) m n → Reads (part.ClosingBracket ∷ []) [] (IsMark token.RightBracket) (Err f) n s' → Reads (part.MaybeLabel ∷ []) [] IsMaybeLabel (Err f) s s'
+pub label_unclosed : (v : Unit {0}) (l : RawLabel) (f : ReadFault) (s m n s' : State) → s.ahead ≡ token.LeftBracket → Advances (Ok v) s m → Reads (label_parts 0) [] (IsLabel 0) (Ok l) m n → Reads (part.ClosingBracket ∷ []) [] (IsToken token.RightBracket) (Err f) n s' → Reads (part.MaybeLabel ∷ []) [] IsMaybeLabel (Err f) s s'
 label_unclosed v l f s m n s' is one two three =
-    next_fails (part.MaybeLabel ∷ []) (part.ClosingBracket ∷ []) [] [] _ (IsMark token.RightBracket) IsMaybeLabel l f s n s' (label_read v l s m n is one two) three
+    next_fails (part.MaybeLabel ∷ []) (part.ClosingBracket ∷ []) [] [] _ (IsToken token.RightBracket) IsMaybeLabel l f s n s' (label_read v l s m n is one two) three
 
 -- What begins an edge is what a label in brackets or a number is, before the rest of the edge.
 abbrev pub edge_parts : List Part
@@ -62,7 +62,7 @@ edge_front most others (token.Int n) begins = refl
 edge_front most others z begins = absurd (begins refl)
 
 -- nothing yet
-abbrev pub Nothing : Unit {0} → Place → Place → Type 0
+abbrev pub Nothing : Unit {0} → Cursor → Cursor → Type 0
 Nothing done a b = a ≡ b
 
 edge_starts : (s : State) → s.lexer.spent ≡ false → move part.Edges s.ahead ≢ part.Passes → Reads (part.Edges ∷ []) edge_parts Nothing (Ok tt) s s
@@ -105,7 +105,7 @@ pub edge_unmarked : (l : Option RawLabel) (to : List ℕ) (f : ReadFault) (s m n
 edge_unmarked l to f s m n s' unspent begins one two three =
     next_fails (part.Edges ∷ []) (part.MaybeMarks ∷ []) (part.Edges ∷ []) (part.Edges ∷ []) _ AreMarks IsEdge to f s n s' (edge_to l to s m n unspent begins one two) three
 
-edge_is : (l : Option RawLabel) (to marks : List ℕ) (a b c d : Place) → a ≡ b → IsMaybeLabel l b c → (e : Place) → IsConj to c d → AreMarks marks d e → IsEdge (record { label = l; to = to; marks = marks }) a e
+edge_is : (l : Option RawLabel) (to marks : List ℕ) (a b c d : Cursor) → a ≡ b → IsMaybeLabel l b c → (e : Cursor) → IsConj to c d → AreMarks marks d e → IsEdge (record { label = l; to = to; marks = marks }) a e
 edge_is l to marks a b c d none labelled e goes marked = record {
   phrase = record { label = labelled.phrase; to = goes.phrase; marks = marked.phrase };
   within = labelled.within;
@@ -123,7 +123,7 @@ edge_whole l to marks s m n s' unspent begins one two three =
 pub edges_over : (es : List RawEdge) (s m : State) → Reads (part.Edges ∷ []) (part.Edges ∷ []) AreEdges (Ok es) s m → m.lexer.spent ≡ false → move part.Edges m.ahead ≡ part.Passes → Reads (part.Edges ∷ []) [] AreEdges (Ok es) s m
 edges_over es s m one unspent over =
     reads_then (part.Edges ∷ []) (part.Edges ∷ []) [] AreEdges Nothing AreEdges es tt es s m m
-    (λ a b c h k. subst (λ (x : Place). AreEdges es a x) k h) one
+    (λ a b c h k. subst (λ (x : Cursor). AreEdges es a x) k h) one
     (passes part.Edges [] [] Nothing tt m m over (reads_nothing [] Nothing tt m unspent (λ a. refl)))
 
 -- the name that opens a state, and what is read behind it so far
@@ -133,27 +133,27 @@ state_name = token.HeaderName (codes "State")
 abbrev pub state_rest : List Part
 state_rest = part.MaybeLabel ∷ part.Number ∷ part.MaybeQuoted ∷ part.MaybeMarks ∷ part.Edges ∷ part.States ∷ []
 
-abbrev pub HasLabel : Option RawLabel → Place → Place → Type 0
-HasLabel l = Then (IsMark state_name tt) (IsMaybeLabel l)
+abbrev pub HasLabel : Option RawLabel → Cursor → Cursor → Type 0
+HasLabel l = Then (IsToken state_name tt) (IsMaybeLabel l)
 
-abbrev pub HasNumber : Option RawLabel → ℕ → Place → Place → Type 0
+abbrev pub HasNumber : Option RawLabel → ℕ → Cursor → Cursor → Type 0
 HasNumber l n = Then (HasLabel l) (IsNumber n)
 
-abbrev pub HasName : Option RawLabel → ℕ → Unit {0} → Place → Place → Type 0
+abbrev pub HasName : Option RawLabel → ℕ → Unit {0} → Cursor → Cursor → Type 0
 HasName l n u = Then (HasNumber l n) (IsOptionalText u)
 
-abbrev pub HasMarks : Option RawLabel → ℕ → List ℕ → Place → Place → Type 0
+abbrev pub HasMarks : Option RawLabel → ℕ → List ℕ → Cursor → Cursor → Type 0
 HasMarks l n marks = Then (HasName l n tt) (AreMarks marks)
 
 is_state_name : (z : Token) (name : List ℕ) → z ≡ token.HeaderName name → header_of name ≡ header.State → z ≡ state_name
 is_state_name z name is kind = is ∙ ap token.HeaderName (subst (IsNamed name) kind (named name))
 
-pub state_opens : (v : Unit {0}) (s m : State) → s.ahead ≡ state_name → Advances (Ok v) s m → Reads (part.States ∷ []) state_rest (IsMark state_name) (Ok v) s m
+pub state_opens : (v : Unit {0}) (s m : State) → s.ahead ≡ state_name → Advances (Ok v) s m → Reads (part.States ∷ []) state_rest (IsToken state_name) (Ok v) s m
 state_opens v s m is one = takes part.States state_rest [] state_name s m v is refl refl refl one
 
-pub state_labelled : (v : Unit {0}) (l : Option RawLabel) (s m s' : State) → Reads (part.States ∷ []) state_rest (IsMark state_name) (Ok v) s m → Reads (part.MaybeLabel ∷ []) [] IsMaybeLabel (Ok l) m s'
+pub state_labelled : (v : Unit {0}) (l : Option RawLabel) (s m s' : State) → Reads (part.States ∷ []) state_rest (IsToken state_name) (Ok v) s m → Reads (part.MaybeLabel ∷ []) [] IsMaybeLabel (Ok l) m s'
     → Reads (part.States ∷ []) (part.Number ∷ part.MaybeQuoted ∷ part.MaybeMarks ∷ part.Edges ∷ part.States ∷ []) HasLabel (Ok l) s s'
-state_labelled v l s m s' one two = next_parts (part.States ∷ []) (part.MaybeLabel ∷ []) (part.Number ∷ part.MaybeQuoted ∷ part.MaybeMarks ∷ part.Edges ∷ part.States ∷ []) (IsMark state_name) IsMaybeLabel v l s m s' one two
+state_labelled v l s m s' one two = next_parts (part.States ∷ []) (part.MaybeLabel ∷ []) (part.Number ∷ part.MaybeQuoted ∷ part.MaybeMarks ∷ part.Edges ∷ part.States ∷ []) (IsToken state_name) IsMaybeLabel v l s m s' one two
 
 pub state_numbered : (l : Option RawLabel) (n : ℕ) (s m s' : State) → Reads (part.States ∷ []) (part.Number ∷ part.MaybeQuoted ∷ part.MaybeMarks ∷ part.Edges ∷ part.States ∷ []) HasLabel (Ok l) s m → Reads (part.Number ∷ []) [] IsNumber (Ok n) m s'
     → Reads (part.States ∷ []) (part.MaybeQuoted ∷ part.MaybeMarks ∷ part.Edges ∷ part.States ∷ []) (HasNumber l) (Ok n) s s'
@@ -170,7 +170,7 @@ state_marked l n u marks s m s' one two = next_parts (part.States ∷ []) (part.
 state_means : (l k : Option RawTree) (n : ℕ) (marks marks' : List ℕ) (edges edges' : List WrittenEdge) → l ≡ k → marks ≡ marks' → edges ≡ edges' → (let e : WrittenState = record { label = l; number = n; marks = marks; edges = edges } in e) ≡ record { label = k; number = n; marks = marks'; edges = edges' }
 state_means l k n marks marks' edges edges' same_label same_marks same_edges = cc
 
-state_is : (l : Option RawLabel) (n : ℕ) (marks : List ℕ) (edges : List RawEdge) (a b c d e f g : Place) → IsMark state_name tt a b → IsMaybeLabel l b c → IsNumber n c d → IsOptionalText tt d e → AreMarks marks e f → AreEdges edges f g
+state_is : (l : Option RawLabel) (n : ℕ) (marks : List ℕ) (edges : List RawEdge) (a b c d e f g : Cursor) → IsToken state_name tt a b → IsMaybeLabel l b c → IsNumber n c d → IsOptionalText tt d e → AreMarks marks e f → AreEdges edges f g
     → IsState (record { label = l; number = n; marks = marks; edges = edges }) a g
 state_is l n marks edges a b c d e f g opens labelled numbered texts marked goes = record {
   phrase = record { label = labelled.phrase; number = n; name = texts.0; marks = marked.phrase; edges = goes.phrase };

@@ -8,19 +8,20 @@ use Rattle.hoa_lexer.specs.declared.token.Token.{Token}
 use Rattle.hoa_parser.proofs.Leading.{passed_then}
 use Rattle.hoa_parser.proofs.Moving.{fails_after, fails_first, reads_more, reads_nothing, reads_then}
 use Rattle.hoa_parser.specs.Expecting.{Part}
-use Rattle.hoa_parser.specs.Parsing.{IsWritten, Moves, Passed, Place, Reads, State, Uses}
+use Rattle.hoa_parser.specs.Parsing.{IsWritten, Moves, Passed, Cursor, Reads, State, Uses}
 use Rattle.hoa_parser.specs.declared.fault.ReadFault.{ReadFault}
+use Rattle.aut_base.proofs.AllByRecursion.{AllByRecursion-append}
 
 -- one, and then the other
-abbrev pub Then : (Place → Place → Type 0) → (Place → Place → Type 0) → Place → Place → Type 0
-Then P Q a c = (b : Place) × P a b × Q b c
+abbrev pub Then : (Cursor → Cursor → Type 0) → (Cursor → Cursor → Type 0) → Cursor → Cursor → Type 0
+Then P Q a c = (b : Cursor) × P a b × Q b c
 
-pub next_parts : {S T : Type 0} (p parts more : List Part) (P : S → Place → Place → Type 0) (Q : T → Place → Place → Type 0) (v : S) (w : T) (s m s' : State)
+pub next_parts : {S T : Type 0} (p parts more : List Part) (P : S → Cursor → Cursor → Type 0) (Q : T → Cursor → Cursor → Type 0) (v : S) (w : T) (s m s' : State)
     → Reads p (parts ++ more) P (Ok v) s m → Reads parts [] Q (Ok w) m s' → Reads p more (λ (x : T). Then (P v) (Q x)) (Ok w) s s'
 next_parts {T = T} p parts more P Q v w s m s' one two =
     reads_then p (parts ++ more) more P Q (λ (x : T). Then (P v) (Q x)) v w w s m s' (λ a b c h k. (b, h, k)) one (reads_more parts [] more Q w m s' two)
 
-pub next_fails : {S T U : Type 0} (p parts more r : List Part) (P : S → Place → Place → Type 0) (Q : T → Place → Place → Type 0) (R : U → Place → Place → Type 0) (v : S) (f : ReadFault) (s m s' : State)
+pub next_fails : {S T U : Type 0} (p parts more r : List Part) (P : S → Cursor → Cursor → Type 0) (Q : T → Cursor → Cursor → Type 0) (R : U → Cursor → Cursor → Type 0) (v : S) (f : ReadFault) (s m s' : State)
     → Reads p (parts ++ more) P (Ok v) s m → Reads parts [] Q (Err f) m s' → Reads p r R (Err f) s s'
 next_fails p parts more r P Q R v f s m s' one two =
     fails_after p (parts ++ more) r r P R R v f s m s' one (fails_first parts [] r more Q R f m s' two)
@@ -35,23 +36,19 @@ pub then_uses : {S T : Type 0} (v : S) (r : Result T ReadFault) (s m s' : State)
 then_uses v (Ok w) s m s' one last = omega (arith, one.used, last)
 then_uses v (Err f) s m s' one last = tt
 
-all_more : {X : Type 0} (P : X → Type 0) (xs ys : List X) → AllByRecursion P xs → AllByRecursion P ys → AllByRecursion P (xs ++ ys)
-all_more P [] ys h k = k
-all_more P (x ∷ xs) ys h k = (h.0, all_more P xs ys h.1 k)
-
 -- phrases and one more
-pub list_more : {X Y Z : Type 0} (W : X → Type 0) (tokens : X → List Token) (meaning : X → Y) (value : Z → Y) (zs : List Z) (z : Z) (a b c : Place)
+pub list_more : {X Y Z : Type 0} (W : X → Type 0) (tokens : X → List Token) (meaning : X → Y) (value : Z → Y) (zs : List Z) (z : Z) (a b c : Cursor)
     → IsWritten (AllByRecursion W) (flat_map tokens) (map meaning) (map value zs) a b → IsWritten W tokens meaning (value z) b c → IsWritten (AllByRecursion W) (flat_map tokens) (map meaning) (map value (zs ++ z ∷ [])) a c
 list_more W tokens meaning value zs z a b c h k = record {
   phrase = h.phrase ++ k.phrase ∷ [];
-  within = all_more W h.phrase (k.phrase ∷ []) h.within (k.within, tt);
+  within = AllByRecursion-append W h.phrase (k.phrase ∷ []) h.within (k.within, tt);
   passed = subst (λ (ts : List Token). Passed a ts c) (sym (flat_map-append tokens h.phrase (k.phrase ∷ [])))
       (passed_then a b c (flat_map tokens h.phrase) (tokens k.phrase ++ []) h.passed (subst (λ (ts : List Token). Passed b ts c) (sym (append-nil (tokens k.phrase))) k.passed));
   means = map-append value zs (z ∷ []) ∙ ap (λ ys. ys ++ value z ∷ []) h.means ∙ ap (λ y. map meaning h.phrase ++ y ∷ []) k.means ∙ sym (map-append meaning h.phrase (k.phrase ∷ []));
 }
 
 -- the list, so far
-abbrev pub ListSo : {X Y Z : Type 0} → (X → Type 0) → (X → List Token) → (X → Y) → (Z → Y) → List Z → Place → Place → Type 0
+abbrev pub ListSo : {X Y Z : Type 0} → (X → Type 0) → (X → List Token) → (X → Y) → (Z → Y) → List Z → Cursor → Cursor → Type 0
 ListSo W tokens meaning value zs = IsWritten (AllByRecursion W) (flat_map tokens) (map meaning) (map value zs)
 
 -- a list of phrases is read by reading one phrase after the other

@@ -4,6 +4,7 @@ use Rattle.std.specs.Prelude.{◌||◌}
 use Rattle.std.proofs.lemmas.List.{append_assoc}
 use Rattle.hoa_lexer.specs.declared.token.Token.{Token}
 use Rattle.hoa_parser.proofs.Stops.{Stops, IsSame, stops_not, first_token, later_tokens}
+use Rattle.aut_base.proofs.Truth.{left_of_or, right_of_or}
 
 -- tokens of phrases, of which these stop the last, have one meaning and one end
 abbrev pub IsClear : {P M : Type 0} → (P → List Token) → (P → M) → (Token → Bool) → Type 0
@@ -39,14 +40,6 @@ begun_not : (starts : Token → Bool) (ts more c : List Token) → Begins starts
 begun_not starts [] more c b s e = b
 begun_not starts (t ∷ ts) more c b s e = stops_not starts c t (ts ++ more) s b e
 
-or_left : (p q : Bool) → (p || q) ≡ false → p ≡ false
-or_left true q e = e
-or_left false q e = refl
-
-or_right : (p q : Bool) → (p || q) ≡ false → q ≡ false
-or_right true q e = cc
-or_right false q e = e
-
 abbrev pub either : (Token → Bool) → (Token → Bool) → Token → Bool
 either p q t = p t || q t
 
@@ -56,14 +49,14 @@ pub flat_clear : {P M : Type 0} (tokens : P → List Token) (meaning : P → M) 
     → IsClear (flat_map tokens) (map meaning) (either starts goes_on)
 flat_clear tokens meaning goes_on starts one begins apart [] [] c d e s k = record { value = refl; rest = e }
 flat_clear tokens meaning goes_on starts one begins apart [] (q ∷ qs) c d e s k =
-    absurd (begun_not starts (tokens q) (flat_map tokens qs ++ d) c (begins q) (stops_less (either starts goes_on) starts c (λ t. or_left (starts t) (goes_on t)) s) (e ∙ append_assoc (tokens q) (flat_map tokens qs) d))
+    absurd (begun_not starts (tokens q) (flat_map tokens qs ++ d) c (begins q) (stops_less (either starts goes_on) starts c (λ t. left_of_or (starts t) (goes_on t)) s) (e ∙ append_assoc (tokens q) (flat_map tokens qs) d))
 flat_clear tokens meaning goes_on starts one begins apart (p ∷ ps) [] c d e s k =
-    absurd (begun_not starts (tokens p) (flat_map tokens ps ++ c) d (begins p) (stops_less (either starts goes_on) starts d (λ t. or_left (starts t) (goes_on t)) k) (sym e ∙ append_assoc (tokens p) (flat_map tokens ps) c))
+    absurd (begun_not starts (tokens p) (flat_map tokens ps ++ c) d (begins p) (stops_less (either starts goes_on) starts d (λ t. left_of_or (starts t) (goes_on t)) k) (sym e ∙ append_assoc (tokens p) (flat_map tokens ps) c))
 flat_clear tokens meaning goes_on starts one begins apart (p ∷ ps) (q ∷ qs) c d e s k =
     let a = one p q (flat_map tokens ps ++ c) (flat_map tokens qs ++ d)
     (sym (append_assoc (tokens p) (flat_map tokens ps) c) ∙ e ∙ append_assoc (tokens q) (flat_map tokens qs) d)
-    (flat_stops tokens goes_on starts begins apart ps c (stops_less (either starts goes_on) goes_on c (λ t. or_right (starts t) (goes_on t)) s))
-    (flat_stops tokens goes_on starts begins apart qs d (stops_less (either starts goes_on) goes_on d (λ t. or_right (starts t) (goes_on t)) k)) in
+    (flat_stops tokens goes_on starts begins apart ps c (stops_less (either starts goes_on) goes_on c (λ t. right_of_or (starts t) (goes_on t)) s))
+    (flat_stops tokens goes_on starts begins apart qs d (stops_less (either starts goes_on) goes_on d (λ t. right_of_or (starts t) (goes_on t)) k)) in
     let b = flat_clear tokens meaning goes_on starts one begins apart ps qs c d a.rest s k in
     let x = a.value in
     let y = b.value in

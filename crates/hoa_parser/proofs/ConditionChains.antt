@@ -7,8 +7,8 @@ use Rattle.hoa_parser.proofs.LabelChains.{subst_tokens}
 use Rattle.hoa_parser.proofs.Leading.{passed_then}
 use Rattle.hoa_parser.specs.Chains.{AddsFands, AddsFatoms}
 use Rattle.hoa_parser.specs.Grammar.{Fands, FandsWithin, Fatom, FatomWithin, Fatoms, FatomsWithin, and_fatom, all_of, one_of, condition, condition_tokens, fands_meaning, fands_tokens, fatom_meaning, fatom_tokens, fatoms_meaning, fatoms_tokens, no_fand, no_fatom, or_fand}
-use Rattle.hoa_parser.specs.Parsing.{Place}
-use Rattle.hoa_parser.specs.Parts.{IsAndFatom, IsAndFatoms, IsCondition, IsFand, IsFatom, IsOrFand, IsOrFands, FandPhrase, fand_meaning, fand_tokens}
+use Rattle.hoa_parser.specs.Parsing.{Cursor}
+use Rattle.hoa_parser.specs.RuleReads.{IsAndFatom, IsAndFatoms, IsCondition, IsFand, IsFatom, IsOrFand, IsOrFands, FandPhrase, fand_meaning, fand_tokens}
 use Rattle.aut_base.specs.Formula as formula
 use Rattle.aut_base.specs.Formula.{FormulaTree, FormulaTrees, formula_list, formula_parts, formula_tree, trees}
 use Rattle.hoa_parser.specs.Standing.{most_depth}
@@ -55,7 +55,7 @@ with_fand_within depth no_fand p h k = (k.0, k.1, tt)
 with_fand_within depth (or_fand g gs ls) p h k = (h.0, h.1, with_fand_within depth ls p h.2 k)
 
 -- the first part behind another one
-pub adds_first_fatom : (depth : ℕ) (first : FormulaTree) (second : Formula) (parts : Formulas) (a b : Place) → formula_list parts ≡ first ∷ formula_tree second ∷ [] → IsAndFatom depth second a b → AddsFatoms depth first parts a b
+pub adds_first_fatom : (depth : ℕ) (first : FormulaTree) (second : Formula) (parts : Formulas) (a b : Cursor) → formula_list parts ≡ first ∷ formula_tree second ∷ [] → IsAndFatom depth second a b → AddsFatoms depth first parts a b
 adds_first_fatom depth first second parts a b list one = record {
   phrase = and_fatom one.phrase no_fatom;
   within = (one.within, tt);
@@ -63,7 +63,7 @@ adds_first_fatom depth first second parts a b list one = record {
   means = list ∙ ap (λ (t : FormulaTree). first ∷ t ∷ []) one.means;
 }
 
-pub adds_first_fand : (depth : ℕ) (first : FormulaTree) (second : Formula) (parts : Formulas) (a b : Place) → formula_list parts ≡ first ∷ formula_tree second ∷ [] → IsOrFand depth second a b → AddsFands depth first parts a b
+pub adds_first_fand : (depth : ℕ) (first : FormulaTree) (second : Formula) (parts : Formulas) (a b : Cursor) → formula_list parts ≡ first ∷ formula_tree second ∷ [] → IsOrFand depth second a b → AddsFands depth first parts a b
 adds_first_fand depth first second parts a b list one = record {
   phrase = with_fand no_fand one.phrase;
   within = (one.within.0, one.within.1, tt);
@@ -72,7 +72,7 @@ adds_first_fand depth first second parts a b list one = record {
 }
 
 -- one more part
-pub adds_fatom : (depth : ℕ) (first : FormulaTree) (parts more : Formulas) (next : Formula) (a b c : Place) → formula_list more ≡ formula_list parts ++ formula_tree next ∷ [] → AddsFatoms depth first parts a b → IsAndFatom depth next b c → AddsFatoms depth first more a c
+pub adds_fatom : (depth : ℕ) (first : FormulaTree) (parts more : Formulas) (next : Formula) (a b c : Cursor) → formula_list more ≡ formula_list parts ++ formula_tree next ∷ [] → AddsFatoms depth first parts a b → IsAndFatom depth next b c → AddsFatoms depth first more a c
 adds_fatom depth first parts more next a b c list so_far one = record {
   phrase = with_fatom so_far.phrase one.phrase;
   within = with_fatom_within depth so_far.phrase one.phrase so_far.within one.within;
@@ -82,7 +82,7 @@ adds_fatom depth first parts more next a b c list so_far one = record {
       ∙ sym (ap (λ (ts : List FormulaTree). first ∷ ts) (with_fatom_meaning so_far.phrase one.phrase));
 }
 
-pub adds_fand : (depth : ℕ) (first : FormulaTree) (parts more : Formulas) (next : Formula) (a b c : Place) → formula_list more ≡ formula_list parts ++ formula_tree next ∷ [] → AddsFands depth first parts a b → IsOrFand depth next b c → AddsFands depth first more a c
+pub adds_fand : (depth : ℕ) (first : FormulaTree) (parts more : Formulas) (next : Formula) (a b c : Cursor) → formula_list more ≡ formula_list parts ++ formula_tree next ∷ [] → AddsFands depth first parts a b → IsOrFand depth next b c → AddsFands depth first more a c
 adds_fand depth first parts more next a b c list so_far one = record {
   phrase = with_fand so_far.phrase one.phrase;
   within = with_fand_within depth so_far.phrase one.phrase so_far.within one.within;
@@ -111,7 +111,7 @@ or_of_list x y first zs (u ∷ us) e =
     ap (λ (t : FormulaTree). formula.Or t y (trees zs)) one ∙ ap (λ (t : FormulaTree). formula.Or first t (trees zs)) two ∙ ap (λ (ts : List FormulaTree). formula.Or first u (trees ts)) rest
 
 -- all of the parts, as one condition
-pub fatoms_whole : (depth : ℕ) (first : FormulaTree) (parts : Formulas) (l : Formula) (a b : Place) → formula_tree l ≡ formula.And (formula_parts parts).first (formula_parts parts).second (trees (formula_parts parts).others) → AddsFatoms depth first parts a b → IsAndFatoms depth first l a b
+pub fatoms_whole : (depth : ℕ) (first : FormulaTree) (parts : Formulas) (l : Formula) (a b : Cursor) → formula_tree l ≡ formula.And (formula_parts parts).first (formula_parts parts).second (trees (formula_parts parts).others) → AddsFatoms depth first parts a b → IsAndFatoms depth first l a b
 fatoms_whole depth first parts l a b is one = record {
   phrase = one.phrase;
   within = one.within;
@@ -119,7 +119,7 @@ fatoms_whole depth first parts l a b is one = record {
   means = is ∙ and_of_list (formula_parts parts).first (formula_parts parts).second first (formula_parts parts).others (fatoms_meaning one.phrase) one.means;
 }
 
-pub fands_whole : (depth : ℕ) (first : FormulaTree) (parts : Formulas) (l : Formula) (a b : Place) → formula_tree l ≡ formula.Or (formula_parts parts).first (formula_parts parts).second (trees (formula_parts parts).others) → AddsFands depth first parts a b → IsOrFands depth first l a b
+pub fands_whole : (depth : ℕ) (first : FormulaTree) (parts : Formulas) (l : Formula) (a b : Cursor) → formula_tree l ≡ formula.Or (formula_parts parts).first (formula_parts parts).second (trees (formula_parts parts).others) → AddsFands depth first parts a b → IsOrFands depth first l a b
 fands_whole depth first parts l a b is one = record {
   phrase = one.phrase;
   within = one.within;
@@ -128,7 +128,7 @@ fands_whole depth first parts l a b is one = record {
 }
 
 -- a first part, and a chain behind it
-pub fand_of : (depth : ℕ) (first l : Formula) (a b c : Place) → IsFatom depth first a b → IsAndFatoms depth (formula_tree first) l b c → IsFand depth l a c
+pub fand_of : (depth : ℕ) (first l : Formula) (a b c : Cursor) → IsFatom depth first a b → IsAndFatoms depth (formula_tree first) l b c → IsFand depth l a c
 fand_of depth first l a b c one chain = record {
   phrase = record { first = one.phrase; others = chain.phrase };
   within = (one.within, chain.within);
@@ -136,7 +136,7 @@ fand_of depth first l a b c one chain = record {
   means = chain.means ∙ ap (λ (t : FormulaTree). all_of t (fatoms_meaning chain.phrase)) one.means;
 }
 
-pub condition_of : (depth : ℕ) (first l : Formula) (a b c : Place) → IsFand depth first a b → IsOrFands depth (formula_tree first) l b c → IsCondition depth l a c
+pub condition_of : (depth : ℕ) (first l : Formula) (a b c : Cursor) → IsFand depth first a b → IsOrFands depth (formula_tree first) l b c → IsCondition depth l a c
 condition_of depth first l a b c one chain = record {
   phrase = condition one.phrase.first one.phrase.others chain.phrase;
   within = (one.within.0, one.within.1, chain.within);

@@ -4,13 +4,11 @@ use Rattle.std.proofs.lemmas.Bool.{leb-true}
 use Rattle.hoa_lexer.specs.declared.token.Token.{Token}
 use Rattle.hoa_parser.specs.Expecting.{Part, Move, Takes, Passes, Refuses, after, after_some, behind, moved, move, open_at}
 use Rattle.hoa_parser.specs.Grammar.{Label, Lands, Lnots, Lnot, label, no_land, or_land, no_lnot, and_lnot, true_label, false_label, proposition, alias, negated, group, LabelWithin, LandsWithin, LnotsWithin, LnotWithin, Condition, Fands, Fatoms, Fatom, condition, no_fand, or_fand, no_fatom, and_fatom, true_condition, false_condition, infinitely, finitely, condition_group, ConditionWithin, FandsWithin, FatomsWithin, FatomWithin, ItemPhrase, alias_item, acceptance_item, states_item, start_item, names_item, acc_name_item, tool_item, name_item, properties_item, other_item, ItemWithin, OptionalWithin, EdgePhrase, StatePhrase, StateWithin, AutomatonPhrase, AutomatonWithin, IsViable}
-use Rattle.hoa_reader.proofs.DescribedLaws.{all_weaker}
 use Rattle.hoa_parser.proofs.Following.{opened}
+use Rattle.aut_base.proofs.Lists.{none_some}
+use Rattle.aut_base.proofs.AllByRecursion.{AllByRecursion-weaker}
 
 -- what is expected
-
-none_some : {X : Type 0} (x : X) → None ≡ Some x → ⊥
-none_some x e = cc
 
 opened_more : (m n : ℕ) (ps others left : List Part) (passed : Option (List Part)) (b : Bool) → b ≡ leb (open_at ps) m → m ≤ n → cond b (Some (ps ++ others)) None ≡ Some left → moved n (Takes ps) passed others ≡ Some left
 opened_more m n ps others left passed true is l e = opened n ps others passed (omega (arith, leb-true (open_at ps) m (sym is))) ∙ e
@@ -93,13 +91,13 @@ optional_more m n (Some l) k w = label_more m n 0 l k w
 state_more : (m n : ℕ) (s : StatePhrase) → m ≤ n → StateWithin m s → StateWithin n s
 state_more m n s k w = (
   optional_more m n s.label k w.0,
-  all_weaker (λ (e : EdgePhrase). OptionalWithin m e.label) (λ (e : EdgePhrase). OptionalWithin n e.label) s.edges (λ e h. optional_more m n e.label k h) w.1,
+  AllByRecursion-weaker (λ (e : EdgePhrase). OptionalWithin m e.label) (λ (e : EdgePhrase). OptionalWithin n e.label) s.edges (λ e h. optional_more m n e.label k h) w.1,
 )
 
 pub within_more : (m n : ℕ) (p : AutomatonPhrase) → m ≤ n → AutomatonWithin m p → AutomatonWithin n p
 within_more m n p k w = (
-  all_weaker (ItemWithin m) (ItemWithin n) p.items (λ i h. item_more m n i k h) w.0,
-  all_weaker (StateWithin m) (StateWithin n) p.states (λ s h. state_more m n s k h) w.1,
+  AllByRecursion-weaker (ItemWithin m) (ItemWithin n) p.items (λ i h. item_more m n i k h) w.0,
+  AllByRecursion-weaker (StateWithin m) (StateWithin n) p.states (λ s h. state_more m n s k h) w.1,
 )
 
 pub viable_more : (m n : ℕ) (ts : List Token) → m ≤ n → IsViable m ts → IsViable n ts

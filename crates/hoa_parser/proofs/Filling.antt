@@ -9,7 +9,8 @@ use Rattle.hoa_parser.specs.Expecting.{Part, Move, Takes, Passes, Refuses, open_
 use Rattle.hoa_parser.specs.Grammar.{Lands, Lnots, Lnot, label, no_land, or_land, no_lnot, and_lnot, true_label, false_label, proposition, alias, negated, group, label_tokens, lands_tokens, lnots_tokens, lnot_tokens, LabelWithin, Fands, Fatoms, Fatom, condition, no_fand, or_fand, no_fatom, and_fatom, true_condition, false_condition, infinitely, finitely, condition_group, condition_tokens, fands_tokens, fatoms_tokens, fatom_tokens, ConditionWithin, set_tokens, bang_tokens}
 use Rattle.aut_base.specs.Text.{same_text}
 use Rattle.hoa_parser.proofs.Completing.{Fills, Derives}
-use Rattle.hoa_parser.proofs.HeaderNames.{either, same}
+use Rattle.hoa_parser.proofs.HeaderNames.{same}
+use Rattle.aut_base.proofs.Truth.{cond_either}
 
 -- what is so of a move: what is taken writes the part, and what is passed stands behind nothing
 abbrev pub Writes : ℕ → Part → Token → Move → Type 0
@@ -79,9 +80,9 @@ has_condition most depth ps u (v, w, f, (v', w', fs, (v'', w'', ls, d, e''), e')
 label_word_writes : (most depth : ℕ) (word : List ℕ) → Writes most (part.Factor depth) (token.Identifier word) (label_word word)
 label_word_writes most depth word =
     let P : Move → Type 0 = Writes most (part.Factor depth) (token.Identifier word) in
-    either P (same_text word (codes "t")) (Takes []) _
+    cond_either P (same_text word (codes "t")) (Takes []) _
     (λ h l u d. record { phrase = true_label; keeps = tt; spelled = let w : word ≡ codes "t" = same word (codes "t") h in cc })
-    (either P (same_text word (codes "f")) (Takes []) Refuses
+    (cond_either P (same_text word (codes "f")) (Takes []) Refuses
     (λ h l u d. record { phrase = false_label; keeps = tt; spelled = let w : word ≡ codes "f" = same word (codes "f") h in cc }) tt)
 
 pub factor_writes : (most depth : ℕ) (z : Token) → Writes most (part.Factor depth) z (move (part.Factor depth) z)
@@ -145,13 +146,13 @@ has_set most u (v, w, opening, (v', w', bang, (v'', w'', n, d, e''), e'), e) =
 condition_word_writes : (most depth : ℕ) (word : List ℕ) → Writes most (part.Atom depth) (token.Identifier word) (condition_word word)
 condition_word_writes most depth word =
     let P : Move → Type 0 = Writes most (part.Atom depth) (token.Identifier word) in
-    either P (same_text word (codes "t")) (Takes []) _
+    cond_either P (same_text word (codes "t")) (Takes []) _
     (λ h l u d. record { phrase = true_condition; keeps = tt; spelled = let w : word ≡ codes "t" = same word (codes "t") h in cc })
-    (either P (same_text word (codes "f")) (Takes []) _
+    (cond_either P (same_text word (codes "f")) (Takes []) _
     (λ h l u d. record { phrase = false_condition; keeps = tt; spelled = let w : word ≡ codes "f" = same word (codes "f") h in cc })
-    (either P (same_text word (codes "Inf")) (Takes set_parts) _
+    (cond_either P (same_text word (codes "Inf")) (Takes set_parts) _
     (λ h l u d. let x = has_set most u d in record { phrase = infinitely x.set x.neg; keeps = tt; spelled = ap (λ w. token.Identifier w ∷ u) (same word (codes "Inf") h) ∙ ap (λ w. token.Identifier (codes "Inf") ∷ w) x.split })
-    (either P (same_text word (codes "Fin")) (Takes set_parts) Refuses
+    (cond_either P (same_text word (codes "Fin")) (Takes set_parts) Refuses
     (λ h l u d. let x = has_set most u d in record { phrase = finitely x.set x.neg; keeps = tt; spelled = ap (λ w. token.Identifier w ∷ u) (same word (codes "Fin") h) ∙ ap (λ w. token.Identifier (codes "Fin") ∷ w) x.split }) tt)))
 
 pub atom_writes : (most depth : ℕ) (z : Token) → Writes most (part.Atom depth) z (move (part.Atom depth) z)

@@ -7,6 +7,7 @@ use Rattle.hoa_parser.specs.Grammar.{header_of}
 use Rattle.aut_base.specs.Text.{same_text}
 use Rattle.hoa_parser.specs.declared.header.Header.{Header}
 use Rattle.hoa_parser.specs.declared.header.Header.TheVariants as header
+use Rattle.aut_base.proofs.Truth.{cond_either}
 
 -- the name that every header of this kind has
 abbrev pub IsNamed : List ℕ → Header → Type 0
@@ -23,24 +24,20 @@ IsNamed name header.Opening = name ≡ codes "HOA"
 IsNamed name header.State = name ≡ codes "State"
 IsNamed name header.Other = Unit {0}
 
-pub either : {X : Type 0} (P : X → Type 0) (b : Bool) (x y : X) → (b ≡ true → P x) → P y → P (cond b x y)
-either P true x y f g = f refl
-either P false x y f g = g
-
 pub same : (a b : List ℕ) → same_text a b ≡ true → a ≡ b
 same a b e = (slice_eq-Decides Decides-eqb a b (same_text a b) refl).0 e
 
 pub named : (name : List ℕ) → IsNamed name (header_of name)
 named name =
     let P : Header → Type 0 = IsNamed name in
-    either P (same_text name (codes "States")) header.States _ (same name (codes "States"))
-    (either P (same_text name (codes "Start")) header.Start _ (same name (codes "Start"))
-    (either P (same_text name (codes "AP")) header.Ap _ (same name (codes "AP"))
-    (either P (same_text name (codes "Alias")) header.Alias _ (same name (codes "Alias"))
-    (either P (same_text name (codes "Acceptance")) header.Acceptance _ (same name (codes "Acceptance"))
-    (either P (same_text name (codes "acc-name")) header.AccName _ (same name (codes "acc-name"))
-    (either P (same_text name (codes "tool")) header.Tool _ (same name (codes "tool"))
-    (either P (same_text name (codes "name")) header.Name _ (same name (codes "name"))
-    (either P (same_text name (codes "properties")) header.Properties _ (same name (codes "properties"))
-    (either P (same_text name (codes "HOA")) header.Opening _ (same name (codes "HOA"))
-    (either P (same_text name (codes "State")) header.State header.Other (same name (codes "State")) tt))))))))))
+    cond_either P (same_text name (codes "States")) header.States _ (same name (codes "States"))
+    (cond_either P (same_text name (codes "Start")) header.Start _ (same name (codes "Start"))
+    (cond_either P (same_text name (codes "AP")) header.Ap _ (same name (codes "AP"))
+    (cond_either P (same_text name (codes "Alias")) header.Alias _ (same name (codes "Alias"))
+    (cond_either P (same_text name (codes "Acceptance")) header.Acceptance _ (same name (codes "Acceptance"))
+    (cond_either P (same_text name (codes "acc-name")) header.AccName _ (same name (codes "acc-name"))
+    (cond_either P (same_text name (codes "tool")) header.Tool _ (same name (codes "tool"))
+    (cond_either P (same_text name (codes "name")) header.Name _ (same name (codes "name"))
+    (cond_either P (same_text name (codes "properties")) header.Properties _ (same name (codes "properties"))
+    (cond_either P (same_text name (codes "HOA")) header.Opening _ (same name (codes "HOA"))
+    (cond_either P (same_text name (codes "State")) header.State header.Other (same name (codes "State")) tt))))))))))

@@ -22,12 +22,14 @@ use Rattle.hoa_parser.proofs.StandingTokens.{stand_before}
 use Rattle.hoa_parser.specs.Expecting as part
 use Rattle.hoa_parser.specs.Expecting.{move}
 use Rattle.hoa_parser.specs.Faults.{read_fault}
-use Rattle.hoa_parser.specs.Parsing.{Fails, Passed, Place, Reads, Refuses, State, place}
-use Rattle.hoa_parser.specs.Parts.{IsAutomaton}
+use Rattle.hoa_parser.specs.Parsing.{Fails, Passed, Cursor, Reads, Refuses, State, place}
+use Rattle.hoa_parser.specs.RuleReads.{IsAutomaton}
 use Rattle.hoa_parser.specs.Reads.{IsHopeless, Shows}
 use Rattle.hoa_parser.specs.Standing.{IsBad, IsBegun, IsDead, IsMisplaced, IsNoTokenAt}
 use Rattle.hoa_parser.specs.declared.fault.ReadFault.{ReadFault}
 use Rattle.hoa_parser.specs.declared.fault.ReadFault.TheVariants as fault
+use Rattle.aut_base.proofs.Truth.{true_from_not}
+use Rattle.aut_base.proofs.Lists.{right_empty}
 
 -- the byte that is held, if any
 abbrev held_bytes : Option ℕ → List ℕ
@@ -38,21 +40,17 @@ unread_is : (held : Option ℕ) (left : List ℕ) → unread held left ≡ held_
 unread_is None left = refl
 unread_is (Some b) left = refl
 
-not_false : (b : Bool) → false ≡ not b → b ≡ true
-not_false true e = refl
-not_false false e = absurd (false≢true e)
-
 -- where no byte past a token is held, the token is closed by its own last byte
 holds_closed : (held : Option ℕ) (z : Token) → is_some held ≡ not (closes_itself z) → held ≡ None → closes_itself z ≡ true
-holds_closed None z e n = not_false (closes_itself z) e
+holds_closed None z e n = true_from_not (closes_itself z) e
 holds_closed (Some b) z e n = cc
 
 closed_so : (held : Option ℕ) (z : Token) → (held ≡ None → closes_itself z ≡ true) → held_bytes held ≡ [] → closes_itself z ≡ true
 closed_so None z c e = c refl
 closed_so (Some b) z c e = cc
 
-passed_closed : (a b : Place) (ts : List Token) → Passed a ts b → (a.held ≡ None → closes_itself a.token ≡ true) → b.held ≡ None → closes_itself b.token ≡ true
-passed_closed a b [] p c = subst (λ (x : Place). x.held ≡ None → closes_itself x.token ≡ true) p c
+passed_closed : (a b : Cursor) (ts : List Token) → Passed a ts b → (a.held ≡ None → closes_itself a.token ≡ true) → b.held ≡ None → closes_itself b.token ≡ true
+passed_closed a b [] p c = subst (λ (x : Cursor). x.held ≡ None → closes_itself x.token ≡ true) p c
 passed_closed a b (t ∷ ts) p c = passed_closed p.0 b ts p.3 (holds_closed p.0.held p.0.token p.2.holds)
 
 -- what a token and the byte that closes it show without the bytes behind them
@@ -95,10 +93,6 @@ lexes_leaves (t ∷ ts) input start rest l =
     let others = lexes_leaves ts l.0 (start + (length input - length l.0)) rest l.2 in
     record { before = first.before ++ others.before; split = first.split ∙ ap (λ w. first.before ++ w) others.split ∙ sym (append_assoc first.before others.before rest) }
 
-right_none : (xs ys : List ℕ) → xs ++ ys ≡ [] → ys ≡ []
-right_none [] ys e = e
-right_none (x ∷ xs) ys e = cc
-
 lexes_off : (ts : List (Token × ℕ)) (input : List ℕ) (start : ℕ) (rest more : List ℕ) → rest ≢ [] → Lexes (input ++ more) start ts (rest ++ more) → Lexes input start ts rest
 lexes_off [] input start rest more some l = append_cancel_right input rest more l
 lexes_off (t ∷ ts) input start rest more some l =
@@ -106,7 +100,7 @@ lexes_off (t ∷ ts) input start rest more some l =
     let mid = leaves.before ++ rest in
     let same : l.0 ≡ mid ++ more = leaves.split ∙ sym (append_assoc leaves.before rest more) in (
       mid,
-      next_off input mid more start t.1 t.0 (λ e. absurd (some (right_none leaves.before rest e))) (subst (λ (w : List ℕ). IsNext (input ++ more) start t.0 t.1 w) same l.1),
+      next_off input mid more start t.1 t.0 (λ e. absurd (some (right_empty leaves.before rest e))) (subst (λ (w : List ℕ). IsNext (input ++ more) start t.0 t.1 w) same l.1),
       lexes_off ts mid (start + (length input - length mid)) rest more some
           (subst (λ (n : ℕ). Lexes (mid ++ more) n ts (rest ++ more)) (sym (place_on start input mid more))
           (subst (λ (w : List ℕ). Lexes w (start + (length (input ++ more) - length w)) ts (rest ++ more)) same l.2)),
@@ -141,7 +135,7 @@ hopeless_so k start text left tokens used rest begun some why =
 next_some : (input : List ℕ) (start : ℕ) (t : Token) (i : ℕ) (rest : List ℕ) → IsNext input start t i rest → input ≢ []
 next_some input start t i rest n e =
     let f : HasFront n.bytes = record { token = t; rest = rest; front = n.front } in
-    no_front (subst HasFront (right_none n.before n.bytes (sym n.split ∙ e)) f)
+    no_front (subst HasFront (right_empty n.before n.bytes (sym n.split ∙ e)) f)
 
 misplaced_at : (k start : ℕ) (text left : List ℕ) (tokens : List Token) (used : ℕ) (rest after : List ℕ) (z : Token) (held : Option ℕ) → IsBegun start text tokens used rest → IsNext rest used z k after → after ≡ unread held left → (held ≡ None → closes_itself z ≡ true)
     → IsDead (tokens ++ z ∷ []) → (tokens ≢ [] → z ≢ token.Abort) → IsHopeless k start text left
@@ -165,22 +159,22 @@ no_token_at k start text left tokens used rest new held begun by ends =
     let split : rest ≡ taken ++ left = by.split ∙ ap (λ w. by.used ++ w) (ends ∙ unread_is held left) ∙ sym (append_assoc by.used last left) in
     let at : IsNoTokenAt k used taken = no_token_at_on k used by.used last by.shows in
     hopeless_so k start text left tokens used taken (subst (λ (w : List ℕ). IsBegun start text tokens used w) split begun)
-    (λ e. at.holds.1.some (right_none at.before at.bytes (sym at.split ∙ e)))
+    (λ e. at.holds.1.some (right_empty at.before at.bytes (sym at.split ∙ e)))
     (inr at)
 
-misplaced_shown : (k start : ℕ) (text left : List ℕ) (a b last : Place) → Starts start text a → a.token ≡ opening → Refuses (part.Whole ∷ []) a b → k ≡ b.offset → b.token ≢ token.Abort → b ≡ last → last.rest ≡ unread last.held left → IsHopeless k start text left
+misplaced_shown : (k start : ℕ) (text left : List ℕ) (a b last : Cursor) → Starts start text a → a.token ≡ opening → Refuses (part.Whole ∷ []) a b → k ≡ b.offset → b.token ≢ token.Abort → b ≡ last → last.rest ≡ unread last.held left → IsHopeless k start text left
 misplaced_shown k start text left a b last starts is r at other same ends =
     let g = r.goes in
     let s = stand_before start text a b g.tokens starts.next starts.used g.passed in
     misplaced_at k start text left g.tokens s.used s.rest b.rest b.token b.held (begun_before start text a b r.target g s)
     (subst (λ (n : ℕ). IsNext s.rest s.used b.token n b.rest) (sym at) s.next)
-    (subst (λ (x : Place). x.rest ≡ unread x.held left) (sym same) ends)
+    (subst (λ (x : Cursor). x.rest ≡ unread x.held left) (sym same) ends)
     (passed_closed a b g.tokens g.passed (λ e. ap closes_itself is))
     (dead g.tokens (g.left ++ []) b.token (g.leads.runs []) (λ most. g.over most [] ∙ r.refused most []))
     (λ some. other)
 
 -- why no automaton was read
-shows_fault : (f : ReadFault) (start : ℕ) (text left : List ℕ) (a last : Place) → Starts start text a → a.token ≡ opening → Fails f (part.Whole ∷ []) a last → last.rest ≡ unread last.held left → Shows f start text left
+shows_fault : (f : ReadFault) (start : ℕ) (text left : List ℕ) (a last : Cursor) → Starts start text a → a.token ≡ opening → Fails f (part.Whole ∷ []) a last → last.rest ≡ unread last.held left → Shows f start text left
 shows_fault (fault.Syntax k) start text left a last starts is (inl h) ends = misplaced_shown k start text left a h.0 last starts is h.1 h.2 h.3 h.4 ends
 shows_fault (fault.Syntax k) start text left a last starts is (inr h) ends = no_token_at k start text left _ h.b.used h.b.rest last.rest last.held (begun_with start text a _ h starts) h.bytes.1 ends
 shows_fault fault.Truncated start text left a last starts is h ends = tt

@@ -13,8 +13,8 @@ use Rattle.hoa_parser.proofs.Moving.{Relation, fails_after, fails_first, moves_e
 use Rattle.hoa_parser.specs.Expecting.{Items, Part, Takes, header_move, move, open_at}
 use Rattle.hoa_parser.specs.Expecting as expecting
 use Rattle.hoa_parser.specs.Grammar.{ItemPhrase, ItemWithin, acc_name_item, acceptance_item, alias_item, header_of, item_meaning, item_tokens, name_item, names_item, other_item, properties_item, start_item, states_item, tool_item, acc_value_token, conj_tokens, condition_tokens, label_tokens, optional_text, value_token}
-use Rattle.hoa_parser.specs.Parsing.{Advances, Passed, Place, Reads, State, Uses}
-use Rattle.hoa_parser.specs.Parts.{AreAccValues, AreItems, AreTexts, AreValues, AreWords, IsAliasName, IsCondition, IsConj, IsItem, IsItemOf, IsItemWritten, IsLabel, IsNumber, IsOptionalText, IsQuoted, IsWord, ItemRest, parts_of}
+use Rattle.hoa_parser.specs.Parsing.{Advances, Passed, Cursor, Reads, State, Uses}
+use Rattle.hoa_parser.specs.RuleReads.{AreAccValues, AreItems, AreTexts, AreValues, AreWords, IsAliasName, IsCondition, IsConj, IsItem, IsItemOf, IsItemWritten, IsLabel, IsNumber, IsOptionalText, IsQuoted, IsWord, ItemRest, parts_of}
 use Rattle.hoa_parser.specs.Raw as raw
 use Rattle.hoa_parser.specs.Raw.{WrittenItem, written_item}
 use Rattle.hoa_parser.specs.Standing.{most_depth}
@@ -24,54 +24,55 @@ use Rattle.hoa_parser.specs.declared.header.Header.TheVariants as header
 use Rattle.hoa_parser.specs.declared.raw.Item.{Item}
 use Rattle.hoa_parser.specs.declared.raw.Item.TheVariants as item
 use Rattle.hoa_parser.specs.declared.raw.RawLabel.{RawLabel}
+use Rattle.aut_base.proofs.AllByRecursion.{AllByRecursion-push}
 
 name_of : (name : List ℕ) (h : Header) → header_of name ≡ h → IsNamed name h
 name_of name h is = subst (IsNamed name) is (named name)
 
 -- what follows the name of a header, where the name is all that is wanted of it
-rest_of : (name : List ℕ) (h : Header) (known : List ℕ) (ts : List Token) (phrase : ItemPhrase) (i : WrittenItem) (a b : Place) → (header_of name ≡ h → name ≡ known) → ItemWithin most_depth phrase → token.HeaderName known ∷ ts ≡ item_tokens phrase → i ≡ item_meaning phrase → Passed a ts b → ItemRest h name i a b
+rest_of : (name : List ℕ) (h : Header) (known : List ℕ) (ts : List Token) (phrase : ItemPhrase) (i : WrittenItem) (a b : Cursor) → (header_of name ≡ h → name ≡ known) → ItemWithin most_depth phrase → token.HeaderName known ∷ ts ≡ item_tokens phrase → i ≡ item_meaning phrase → Passed a ts b → ItemRest h name i a b
 rest_of name h known ts phrase i a b is within spelled means passed = record {
   tokens = ts;
   passed = passed;
   is_item = λ e. record { phrase = phrase; within = within; spelled = ap (λ (n : List ℕ). token.HeaderName n ∷ ts) (is e) ∙ spelled; means = means };
 }
 
-pub names_read : (count : ℕ) (names : List (List ℕ)) (a b c : Place) → IsNumber count a b → AreTexts names b c → IsItemWritten header.Ap (item.Ap count names) a c
+pub names_read : (count : ℕ) (names : List (List ℕ)) (a b c : Cursor) → IsNumber count a b → AreTexts names b c → IsItemWritten header.Ap (item.Ap count names) a c
 names_read count names a b c p q = λ name.
     rest_of name header.Ap (codes "AP") (token.Int count ∷ map token.Str names) (names_item count names) (raw.Ap count names) a c (λ e. name_of name header.Ap e) tt refl refl
     (passed_then a b c (token.Int count ∷ []) (map token.Str names) p q)
 
-pub alias_read : (text : List ℕ) (l : RawLabel) (a b c : Place) → IsAliasName text a b → IsLabel 0 l b c → IsItemWritten header.Alias (item.Alias text l) a c
+pub alias_read : (text : List ℕ) (l : RawLabel) (a b c : Cursor) → IsAliasName text a b → IsLabel 0 l b c → IsItemWritten header.Alias (item.Alias text l) a c
 alias_read text l a b c p q = λ name.
     rest_of name header.Alias (codes "Alias") (token.Alias text ∷ label_tokens q.phrase) (alias_item text q.phrase) (written_item (item.Alias text l)) a c (λ e. name_of name header.Alias e) q.within refl
     (ap (raw.AliasOf text) q.means) (passed_then a b c (token.Alias text ∷ []) (label_tokens q.phrase) p q.passed)
 
-pub acceptance_read : (sets : ℕ) (f : Formula) (a b c : Place) → IsNumber sets a b → IsCondition 0 f b c → IsItemWritten header.Acceptance (item.Acceptance sets f) a c
+pub acceptance_read : (sets : ℕ) (f : Formula) (a b c : Cursor) → IsNumber sets a b → IsCondition 0 f b c → IsItemWritten header.Acceptance (item.Acceptance sets f) a c
 acceptance_read sets f a b c p q = λ name.
     rest_of name header.Acceptance (codes "Acceptance") (token.Int sets ∷ condition_tokens q.phrase) (acceptance_item sets q.phrase) (written_item (item.Acceptance sets f)) a c (λ e. name_of name header.Acceptance e) q.within refl
     (ap (raw.Acceptance sets) q.means) (passed_then a b c (token.Int sets ∷ []) (condition_tokens q.phrase) p q.passed)
 
-pub acc_name_read : (word : List ℕ) (done : Unit {0}) (a b c : Place) → IsWord word a b → AreAccValues done b c → IsItemWritten header.AccName item.AccName a c
+pub acc_name_read : (word : List ℕ) (done : Unit {0}) (a b c : Cursor) → IsWord word a b → AreAccValues done b c → IsItemWritten header.AccName item.AccName a c
 acc_name_read word done a b c p q = λ name.
     rest_of name header.AccName (codes "acc-name") (token.Identifier word ∷ map acc_value_token q.0) (acc_name_item word q.0) raw.AccName a c (λ e. name_of name header.AccName e) tt refl refl
     (passed_then a b c (token.Identifier word ∷ []) (map acc_value_token q.0) p q.1)
 
-pub tool_read : (text : List ℕ) (done : Unit {0}) (a b c : Place) → IsQuoted text a b → IsOptionalText done b c → IsItemWritten header.Tool item.Tool a c
+pub tool_read : (text : List ℕ) (done : Unit {0}) (a b c : Cursor) → IsQuoted text a b → IsOptionalText done b c → IsItemWritten header.Tool item.Tool a c
 tool_read text done a b c p q = λ name.
     rest_of name header.Tool (codes "tool") (token.Str text ∷ optional_text q.0) (tool_item text q.0) raw.Tool a c (λ e. name_of name header.Tool e) tt refl refl
     (passed_then a b c (token.Str text ∷ []) (optional_text q.0) p q.1)
 
 -- the items of one part
-pub states_read : (name : List ℕ) (n : ℕ) (a b : Place) → IsNumber n a b → IsItemOf header.States name (item.States n) a b
+pub states_read : (name : List ℕ) (n : ℕ) (a b : Cursor) → IsNumber n a b → IsItemOf header.States name (item.States n) a b
 states_read name n a b p = rest_of name header.States (codes "States") (token.Int n ∷ []) (states_item n) (raw.States n) a b (λ e. name_of name header.States e) tt refl refl p
 
-pub start_read : (name : List ℕ) (states : List ℕ) (a b : Place) → IsConj states a b → IsItemOf header.Start name (item.Start states) a b
+pub start_read : (name : List ℕ) (states : List ℕ) (a b : Cursor) → IsConj states a b → IsItemOf header.Start name (item.Start states) a b
 start_read name states a b p = rest_of name header.Start (codes "Start") (conj_tokens p.phrase) (start_item p.phrase) (raw.Start states) a b (λ e. name_of name header.Start e) tt refl (ap raw.Start p.means) p.passed
 
-pub name_read : (name : List ℕ) (text : List ℕ) (a b : Place) → IsQuoted text a b → IsItemOf header.Name name (item.Name text) a b
+pub name_read : (name : List ℕ) (text : List ℕ) (a b : Cursor) → IsQuoted text a b → IsItemOf header.Name name (item.Name text) a b
 name_read name text a b p = rest_of name header.Name (codes "name") (token.Str text ∷ []) (name_item text) (raw.Name text) a b (λ e. name_of name header.Name e) tt refl refl p
 
-pub properties_read : (name : List ℕ) (words : List (List ℕ)) (a b : Place) → AreWords words a b → IsItemOf header.Properties name (item.Properties words) a b
+pub properties_read : (name : List ℕ) (words : List (List ℕ)) (a b : Cursor) → AreWords words a b → IsItemOf header.Properties name (item.Properties words) a b
 properties_read name words a b p = rest_of name header.Properties (codes "properties") (map token.Identifier words) (properties_item words) (raw.Properties words) a b (λ e. name_of name header.Properties e) tt refl refl p
 
 -- a header of a name that is not known
@@ -80,7 +81,7 @@ is_other h no_opening no_state (inl e) = e
 is_other h no_opening no_state (inr (inl e)) = absurd (no_opening e)
 is_other h no_opening no_state (inr (inr e)) = absurd (no_state e)
 
-pub other_read : (name : List ℕ) (done : Unit {0}) (a b : Place) → AreValues done a b → IsItemOf header.Other name (item.Other name) a b
+pub other_read : (name : List ℕ) (done : Unit {0}) (a b : Cursor) → AreValues done a b → IsItemOf header.Other name (item.Other name) a b
 other_read name done a b p = record {
   tokens = map value_token p.0;
   passed = p.1;
@@ -89,7 +90,7 @@ other_read name done a b p = record {
 
 -- of two parts, the second behind the first
 pub part_then : {S T U : Type 0} (part : Part) (parts : List Part) (P : Relation S) (Q : Relation T) (R : Relation U) (v : S) (w : T) (x : U) (s m s' : State)
-    → ((a b c : Place) → P v a b → Q w b c → R x a c) → Reads (part ∷ []) [] P (Ok v) s m → Reads parts [] Q (Ok w) m s' → Reads (part ∷ parts) [] R (Ok x) s s'
+    → ((a b c : Cursor) → P v a b → Q w b c → R x a c) → Reads (part ∷ []) [] P (Ok v) s m → Reads parts [] Q (Ok w) m s' → Reads (part ∷ parts) [] R (Ok x) s s'
 part_then part parts P Q R v w x s m s' f one two = reads_then (part ∷ parts) parts [] P Q R v w x s m s' f (reads_more (part ∷ []) [] parts P v s m one) two
 
 pub part_then_fails : {S T U : Type 0} (part : Part) (parts : List Part) (P : Relation S) (Q : Relation T) (R : Relation U) (v : S) (f : ReadFault) (s m s' : State)
@@ -101,7 +102,7 @@ pub item_known : (h k : Header) (name : List ℕ) (result : Result Item ReadFaul
 item_known h k name result s s' is one = subst (λ (x : Header). Reads (parts_of x) [] (IsItemOf x name) result s s') (sym is) one
 
 -- an item of one part
-pub item_of_part : {S : Type 0} (h k : Header) (name : List ℕ) (P : Relation S) (v : S) (i : Item) (s s' : State) → h ≡ k → ((a b : Place) → P v a b → IsItemOf k name i a b) → Reads (parts_of k) [] P (Ok v) s s' → Reads (parts_of h) [] (IsItemOf h name) (Ok i) s s'
+pub item_of_part : {S : Type 0} (h k : Header) (name : List ℕ) (P : Relation S) (v : S) (i : Item) (s s' : State) → h ≡ k → ((a b : Cursor) → P v a b → IsItemOf k name i a b) → Reads (parts_of k) [] P (Ok v) s s' → Reads (parts_of h) [] (IsItemOf h name) (Ok i) s s'
 item_of_part h k name P v i s s' is f one = item_known h k name (Ok i) s s' is (reads_as (parts_of k) [] P (IsItemOf k name) v i s s' f one)
 
 fails_as : {S T : Type 0} (p q r : List Part) (P : Relation S) (R : Relation T) (f : ReadFault) (s s' : State) → Reads p q P (Err f) s s' → Reads p r R (Err f) s s'
@@ -146,7 +147,7 @@ no_item h (inl e) = ap header_move e
 no_item h (inr e) = ap header_move e
 
 -- the name of a header, and what is behind it
-pub item_whole : (name : List ℕ) (i : Item) (a b c : Place) → Passed a (token.HeaderName name ∷ []) b → IsItemOf (header_of name) name i b c → IsItem i a c
+pub item_whole : (name : List ℕ) (i : Item) (a b c : Cursor) → Passed a (token.HeaderName name ∷ []) b → IsItemOf (header_of name) name i b c → IsItem i a c
 item_whole name i a b c p q =
     let with_name = q.is_item refl in
     record {
@@ -184,15 +185,11 @@ pub uses_then : {S : Type 0} (p q : List Part) (Q : Relation S) (result : Result
 uses_then p q Q (Ok w) s m s' v one two = omega (arith, one.progress, two.moves.used)
 uses_then p q Q (Err f) s m s' v one two = tt
 
-all_more : {X : Type 0} (P : X → Type 0) (xs : List X) (x : X) → AllByRecursion P xs → P x → AllByRecursion P (xs ++ x ∷ [])
-all_more P [] x p q = (q, tt)
-all_more P (y ∷ xs) x p q = (p.0, all_more P xs x p.1 q)
-
 -- one more item
-pub items_more : (items news : List Item) (i : Item) (a b c : Place) → news ≡ items ++ i ∷ [] → AreItems items a b → IsItem i b c → AreItems news a c
+pub items_more : (items news : List Item) (i : Item) (a b c : Cursor) → news ≡ items ++ i ∷ [] → AreItems items a b → IsItem i b c → AreItems news a c
 items_more items news i a b c is p q = record {
   phrase = p.phrase ++ q.phrase ∷ [];
-  within = all_more (ItemWithin most_depth) p.phrase q.phrase p.within q.within;
+  within = AllByRecursion-push (ItemWithin most_depth) p.phrase q.phrase p.within q.within;
   passed = subst (λ (ts : List Token). Passed a ts c)
       (sym (flat_map-append item_tokens p.phrase (q.phrase ∷ []) ∙ ap (λ (ts : List Token). flat_map item_tokens p.phrase ++ ts) (append-nil (item_tokens q.phrase))))
       (passed_then a b c (flat_map item_tokens p.phrase) (item_tokens q.phrase) p.passed q.passed);
@@ -200,5 +197,5 @@ items_more items news i a b c is p q = record {
       ∙ ap (λ (w : WrittenItem). map item_meaning p.phrase ++ w ∷ []) q.means ∙ sym (map-append item_meaning p.phrase (q.phrase ∷ []));
 }
 
-pub no_items_there : (items : List Item) (a : Place) → items ≡ [] → AreItems items a a
+pub no_items_there : (items : List Item) (a : Cursor) → items ≡ [] → AreItems items a a
 no_items_there items a none = record { phrase = []; within = tt; passed = refl; means = ap (map written_item) none }

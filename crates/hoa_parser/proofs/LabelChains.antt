@@ -6,15 +6,15 @@ use Rattle.hoa_lexer.specs.declared.token.Token.TheVariants as token
 use Rattle.hoa_parser.proofs.Leading.{passed_then}
 use Rattle.hoa_parser.specs.Chains.{AddsLands, AddsLnots}
 use Rattle.hoa_parser.specs.Grammar.{Lands, LandsWithin, Lnot, LnotWithin, Lnots, LnotsWithin, and_lnot, conjunction, disjunction, label, label_tokens, lands_meaning, lands_tokens, lnot_meaning, lnot_tokens, lnots_meaning, lnots_tokens, no_land, no_lnot, or_land}
-use Rattle.hoa_parser.specs.Parsing.{Passed, Place}
-use Rattle.hoa_parser.specs.Parts.{IsAndLnot, IsAndLnots, IsLabel, IsLand, IsLnot, IsOrLand, IsOrLands, LandPhrase, land_meaning, land_tokens}
+use Rattle.hoa_parser.specs.Parsing.{Passed, Cursor}
+use Rattle.hoa_parser.specs.RuleReads.{IsAndLnot, IsAndLnots, IsLabel, IsLand, IsLnot, IsOrLand, IsOrLands, LandPhrase, land_meaning, land_tokens}
 use Rattle.hoa_parser.specs.Raw as raw
 use Rattle.hoa_parser.specs.Raw.{RawTree, RawTrees, raw_list, raw_parts, raw_tree, raw_trees}
 use Rattle.hoa_parser.specs.Standing.{most_depth}
 use Rattle.hoa_parser.specs.declared.raw.RawLabel.{RawLabel}
 use Rattle.hoa_parser.specs.declared.raw.RawLabels.{RawLabels}
 
-pub subst_tokens : (a b : Place) (ts us : List Token) → ts ≡ us → Passed a ts b → Passed a us b
+pub subst_tokens : (a b : Cursor) (ts us : List Token) → ts ≡ us → Passed a ts b → Passed a us b
 subst_tokens a b ts us same passed = subst (λ (vs : List Token). Passed a vs b) same passed
 
 -- one more part at the end
@@ -57,7 +57,7 @@ with_land_within depth no_land p h k = (k.0, k.1, tt)
 with_land_within depth (or_land g gs ls) p h k = (h.0, h.1, with_land_within depth ls p h.2 k)
 
 -- the first part behind another one
-pub adds_first_lnot : (depth : ℕ) (first : RawTree) (second : RawLabel) (parts : RawLabels) (a b : Place) → raw_list parts ≡ first ∷ raw_tree second ∷ [] → IsAndLnot depth second a b → AddsLnots depth first parts a b
+pub adds_first_lnot : (depth : ℕ) (first : RawTree) (second : RawLabel) (parts : RawLabels) (a b : Cursor) → raw_list parts ≡ first ∷ raw_tree second ∷ [] → IsAndLnot depth second a b → AddsLnots depth first parts a b
 adds_first_lnot depth first second parts a b list one = record {
   phrase = and_lnot one.phrase no_lnot;
   within = (one.within, tt);
@@ -65,7 +65,7 @@ adds_first_lnot depth first second parts a b list one = record {
   means = list ∙ ap (λ (t : RawTree). first ∷ t ∷ []) one.means;
 }
 
-pub adds_first_land : (depth : ℕ) (first : RawTree) (second : RawLabel) (parts : RawLabels) (a b : Place) → raw_list parts ≡ first ∷ raw_tree second ∷ [] → IsOrLand depth second a b → AddsLands depth first parts a b
+pub adds_first_land : (depth : ℕ) (first : RawTree) (second : RawLabel) (parts : RawLabels) (a b : Cursor) → raw_list parts ≡ first ∷ raw_tree second ∷ [] → IsOrLand depth second a b → AddsLands depth first parts a b
 adds_first_land depth first second parts a b list one = record {
   phrase = with_land no_land one.phrase;
   within = (one.within.0, one.within.1, tt);
@@ -74,7 +74,7 @@ adds_first_land depth first second parts a b list one = record {
 }
 
 -- one more part
-pub adds_lnot : (depth : ℕ) (first : RawTree) (parts more : RawLabels) (next : RawLabel) (a b c : Place) → raw_list more ≡ raw_list parts ++ raw_tree next ∷ [] → AddsLnots depth first parts a b → IsAndLnot depth next b c → AddsLnots depth first more a c
+pub adds_lnot : (depth : ℕ) (first : RawTree) (parts more : RawLabels) (next : RawLabel) (a b c : Cursor) → raw_list more ≡ raw_list parts ++ raw_tree next ∷ [] → AddsLnots depth first parts a b → IsAndLnot depth next b c → AddsLnots depth first more a c
 adds_lnot depth first parts more next a b c list so_far one = record {
   phrase = with_lnot so_far.phrase one.phrase;
   within = with_lnot_within depth so_far.phrase one.phrase so_far.within one.within;
@@ -84,7 +84,7 @@ adds_lnot depth first parts more next a b c list so_far one = record {
       ∙ sym (ap (λ (ts : List RawTree). first ∷ ts) (with_lnot_meaning so_far.phrase one.phrase));
 }
 
-pub adds_land : (depth : ℕ) (first : RawTree) (parts more : RawLabels) (next : RawLabel) (a b c : Place) → raw_list more ≡ raw_list parts ++ raw_tree next ∷ [] → AddsLands depth first parts a b → IsOrLand depth next b c → AddsLands depth first more a c
+pub adds_land : (depth : ℕ) (first : RawTree) (parts more : RawLabels) (next : RawLabel) (a b c : Cursor) → raw_list more ≡ raw_list parts ++ raw_tree next ∷ [] → AddsLands depth first parts a b → IsOrLand depth next b c → AddsLands depth first more a c
 adds_land depth first parts more next a b c list so_far one = record {
   phrase = with_land so_far.phrase one.phrase;
   within = with_land_within depth so_far.phrase one.phrase so_far.within one.within;
@@ -113,7 +113,7 @@ or_of_list x y first zs (u ∷ us) e =
     ap (λ (t : RawTree). raw.Or t y (raw_trees zs)) one ∙ ap (λ (t : RawTree). raw.Or first t (raw_trees zs)) two ∙ ap (λ (ts : List RawTree). raw.Or first u (raw_trees ts)) rest
 
 -- all of the parts, as one label
-pub lnots_whole : (depth : ℕ) (first : RawTree) (parts : RawLabels) (l : RawLabel) (a b : Place) → raw_tree l ≡ raw.And (raw_parts parts).first (raw_parts parts).second (raw_trees (raw_parts parts).others) → AddsLnots depth first parts a b → IsAndLnots depth first l a b
+pub lnots_whole : (depth : ℕ) (first : RawTree) (parts : RawLabels) (l : RawLabel) (a b : Cursor) → raw_tree l ≡ raw.And (raw_parts parts).first (raw_parts parts).second (raw_trees (raw_parts parts).others) → AddsLnots depth first parts a b → IsAndLnots depth first l a b
 lnots_whole depth first parts l a b is one = record {
   phrase = one.phrase;
   within = one.within;
@@ -121,7 +121,7 @@ lnots_whole depth first parts l a b is one = record {
   means = is ∙ and_of_list (raw_parts parts).first (raw_parts parts).second first (raw_parts parts).others (lnots_meaning one.phrase) one.means;
 }
 
-pub lands_whole : (depth : ℕ) (first : RawTree) (parts : RawLabels) (l : RawLabel) (a b : Place) → raw_tree l ≡ raw.Or (raw_parts parts).first (raw_parts parts).second (raw_trees (raw_parts parts).others) → AddsLands depth first parts a b → IsOrLands depth first l a b
+pub lands_whole : (depth : ℕ) (first : RawTree) (parts : RawLabels) (l : RawLabel) (a b : Cursor) → raw_tree l ≡ raw.Or (raw_parts parts).first (raw_parts parts).second (raw_trees (raw_parts parts).others) → AddsLands depth first parts a b → IsOrLands depth first l a b
 lands_whole depth first parts l a b is one = record {
   phrase = one.phrase;
   within = one.within;
@@ -130,7 +130,7 @@ lands_whole depth first parts l a b is one = record {
 }
 
 -- a first part, and a chain behind it
-pub land_of : (depth : ℕ) (first l : RawLabel) (a b c : Place) → IsLnot depth first a b → IsAndLnots depth (raw_tree first) l b c → IsLand depth l a c
+pub land_of : (depth : ℕ) (first l : RawLabel) (a b c : Cursor) → IsLnot depth first a b → IsAndLnots depth (raw_tree first) l b c → IsLand depth l a c
 land_of depth first l a b c one chain = record {
   phrase = record { first = one.phrase; others = chain.phrase };
   within = (one.within, chain.within);
@@ -138,7 +138,7 @@ land_of depth first l a b c one chain = record {
   means = chain.means ∙ ap (λ (t : RawTree). conjunction t (lnots_meaning chain.phrase)) one.means;
 }
 
-pub label_of : (depth : ℕ) (first l : RawLabel) (a b c : Place) → IsLand depth first a b → IsOrLands depth (raw_tree first) l b c → IsLabel depth l a c
+pub label_of : (depth : ℕ) (first l : RawLabel) (a b c : Cursor) → IsLand depth first a b → IsOrLands depth (raw_tree first) l b c → IsLabel depth l a c
 label_of depth first l a b c one chain = record {
   phrase = label one.phrase.first one.phrase.others chain.phrase;
   within = (one.within.0, one.within.1, chain.within);

@@ -4,7 +4,7 @@ use Rattle.std.proofs.lemmas.List.{append_assoc, append-nil}
 use Rattle.std.specs.Prelude.{nat_le}
 use Rattle.hoa_lexer.specs.declared.token.Token.{Token}
 use Rattle.hoa_parser.specs.Expecting.{Part, Move, Takes, Passes, Refuses, after, after_some, behind, move, moved, open_at}
-use Rattle.hoa_parser.specs.Parsing.{Follows, Goes, Leads, Passed, Place, Unended, is_end}
+use Rattle.hoa_parser.specs.Parsing.{Follows, Goes, Leads, Passed, Cursor, Unended, is_end}
 use Rattle.hoa_parser.specs.Standing.{most_depth}
 
 pub after_append : (most : ℕ) (parts : Option (List Part)) (u v : List Token) → after_some most parts (u ++ v) ≡ after_some most (after_some most parts u) v
@@ -15,8 +15,8 @@ after_append most None (t ∷ u) (z ∷ v) = refl
 after_append most (Some parts) [] v = refl
 after_append most (Some parts) (t ∷ u) v = after_append most (behind most parts t) u v
 
-pub passed_then : (a m b : Place) (u v : List Token) → Passed a u m → Passed m v b → Passed a (u ++ v) b
-passed_then a m b [] v p q = subst (λ (x : Place). Passed x v b) (sym p) q
+pub passed_then : (a m b : Cursor) (u v : List Token) → Passed a u m → Passed m v b → Passed a (u ++ v) b
+passed_then a m b [] v p q = subst (λ (x : Cursor). Passed x v b) (sym p) q
 passed_then a m b (t ∷ u) v p q = (p.0, p.1, p.2, passed_then p.0 m b u v p.3 q)
 
 pub unended_then : (u v : List Token) → Unended u → Unended v → Unended (u ++ v)
@@ -42,11 +42,11 @@ leads_one part parts others z takes opens = record {
 }
 
 -- nothing was passed
-pub goes_nowhere : (parts : List Part) (a : Place) → Goes parts a parts a
+pub goes_nowhere : (parts : List Part) (a : Cursor) → Goes parts a parts a
 goes_nowhere parts a = record { tokens = []; passed = refl; left = parts; leads = record { runs = λ others. refl }; unended = tt; over = λ most others. refl }
 
 -- the token at hand is taken by the first part
-pub goes_on : (part : Part) (parts others : List Part) (a b : Place) → move part a.token ≡ Takes parts → nat_le (open_at parts) most_depth ≡ true → is_end a.token ≡ false → Follows a b → Goes (part ∷ others) a (parts ++ others) b
+pub goes_on : (part : Part) (parts others : List Part) (a b : Cursor) → move part a.token ≡ Takes parts → nat_le (open_at parts) most_depth ≡ true → is_end a.token ≡ false → Follows a b → Goes (part ∷ others) a (parts ++ others) b
 goes_on part parts others a b takes opens unended follows = record {
   tokens = a.token ∷ [];
   passed = (b, refl, follows, refl);
@@ -57,7 +57,7 @@ goes_on part parts others a b takes opens unended follows = record {
 }
 
 -- the token at hand shows that the first part is over
-pub goes_past : (part : Part) (others : List Part) (a : Place) → move part a.token ≡ Passes → Goes (part ∷ others) a others a
+pub goes_past : (part : Part) (others : List Part) (a : Cursor) → move part a.token ≡ Passes → Goes (part ∷ others) a others a
 goes_past part others a passes = record {
   tokens = [];
   passed = refl;
@@ -86,7 +86,7 @@ same_left q last leads =
 leads_nil : (p left : List Part) (u : List Token) → Leads p u left → Leads p (u ++ []) left
 leads_nil p left u leads = subst (λ (us : List Token). Leads p us left) (sym (append-nil u)) leads
 
-goes_both : (p q r : List Part) (a m b : Place) (one : Goes p a q m) (v : List Token) (left : List Part) → Passed m v b → Leads q v left → Unended v → ((most : ℕ) (others : List Part) → behind most (left ++ others) b.token ≡ behind most (r ++ others) b.token) → Goes p a r b
+goes_both : (p q r : List Part) (a m b : Cursor) (one : Goes p a q m) (v : List Token) (left : List Part) → Passed m v b → Leads q v left → Unended v → ((most : ℕ) (others : List Part) → behind most (left ++ others) b.token ≡ behind most (r ++ others) b.token) → Goes p a r b
 goes_both p q r a m b one [] left passed leads unended over = record {
   tokens = one.tokens ++ [];
   passed = passed_then a m b one.tokens [] one.passed passed;
@@ -94,7 +94,7 @@ goes_both p q r a m b one [] left passed leads unended over = record {
   leads = leads_nil p one.left one.tokens one.leads;
   unended = unended_then one.tokens [] one.unended unended;
   over = λ most others.
-      subst (λ (x : Place). behind most (one.left ++ others) x.token ≡ behind most (q ++ others) x.token) passed (one.over most others)
+      subst (λ (x : Cursor). behind most (one.left ++ others) x.token ≡ behind most (q ++ others) x.token) passed (one.over most others)
       ∙ sym (ap (λ (ps : List Part). behind most (ps ++ others) b.token) (same_left q left leads))
       ∙ over most others;
 }
@@ -108,7 +108,7 @@ goes_both p q r a m b one (z ∷ v) left passed leads unended over = record {
 }
 
 -- one reading and the next
-pub goes_then : (p q r : List Part) (a m b : Place) → Goes p a q m → Goes q m r b → Goes p a r b
+pub goes_then : (p q r : List Part) (a m b : Cursor) → Goes p a q m → Goes q m r b → Goes p a r b
 goes_then p q r a m b one two = goes_both p q r a m b one two.tokens two.left two.passed two.leads two.unended two.over
 
 -- behind the parts more may be expected
@@ -120,7 +120,7 @@ leads_more p left more u leads = record {
       ∙ ap (λ (ps : List Part). Some ps) (sym (append_assoc left more others));
 }
 
-pub goes_more : (p q more : List Part) (a b : Place) → Goes p a q b → Goes (p ++ more) a (q ++ more) b
+pub goes_more : (p q more : List Part) (a b : Cursor) → Goes p a q b → Goes (p ++ more) a (q ++ more) b
 goes_more p q more a b one = record {
   tokens = one.tokens;
   passed = one.passed;

@@ -10,7 +10,7 @@ use Rattle.hoa_parser.proofs.Failing.{fails_behind, fails_here, fails_more, fail
 use Rattle.hoa_parser.proofs.Leading.{goes_more, goes_nowhere, goes_on, goes_past, goes_then}
 use Rattle.hoa_parser.specs.Expecting.{Part, Takes, behind, move, open_at}
 use Rattle.hoa_parser.specs.Expecting as expecting
-use Rattle.hoa_parser.specs.Parsing.{Advances, Fails, Moves, Passed, Place, Reads, State, Tells, TookAll, is_end, place, refusal}
+use Rattle.hoa_parser.specs.Parsing.{Advances, Fails, Moves, Passed, Cursor, Reads, State, Tells, TookAll, is_end, place, refusal}
 use Rattle.hoa_parser.specs.Reads.{CountsFaults}
 use Rattle.hoa_parser.specs.Standing.{most_depth}
 use Rattle.hoa_parser.specs.declared.fault.ReadFault.{ReadFault}
@@ -151,18 +151,18 @@ tells_same s R f = λ x e. (x, e, f x)
 
 -- what is true of two places
 abbrev pub Relation : Type 0 → Type 1
-Relation T = T → Place → Place → Type 0
+Relation T = T → Cursor → Cursor → Type 0
 
 -- one part and the next
-pub reads_then : {S T U : Type 0} (p q r : List Part) (P : S → Place → Place → Type 0) (Q : T → Place → Place → Type 0) (R : U → Place → Place → Type 0) (v : S) (w : T) (x : U) (s m s' : State)
-    → ((a b c : Place) → P v a b → Q w b c → R x a c) → Reads p q P (Ok v) s m → Reads q r Q (Ok w) m s' → Reads p r R (Ok x) s s'
+pub reads_then : {S T U : Type 0} (p q r : List Part) (P : S → Cursor → Cursor → Type 0) (Q : T → Cursor → Cursor → Type 0) (R : U → Cursor → Cursor → Type 0) (v : S) (w : T) (x : U) (s m s' : State)
+    → ((a b c : Cursor) → P v a b → Q w b c → R x a c) → Reads p q P (Ok v) s m → Reads q r Q (Ok w) m s' → Reads p r R (Ok x) s s'
 reads_then p q r P Q R v w x s m s' f one two = record {
   moves = moves_as w x s s' (moves_then v (Ok w) s m s' one.moves two.moves);
   text = tells_then s m s' _ _ _ (λ i j k h g. (f _ _ _ h.0 g.0, goes_then p q r (place s i) (place m j) (place s' k) h.1 g.1)) one.text two.text;
 }
 
 -- one part, and the next could not be read
-pub fails_after : {S T U : Type 0} (p q r t : List Part) (P : S → Place → Place → Type 0) (Q : T → Place → Place → Type 0) (R : U → Place → Place → Type 0) (v : S) (f : ReadFault) (s m s' : State)
+pub fails_after : {S T U : Type 0} (p q r t : List Part) (P : S → Cursor → Cursor → Type 0) (Q : T → Cursor → Cursor → Type 0) (R : U → Cursor → Cursor → Type 0) (v : S) (f : ReadFault) (s m s' : State)
     → Reads p q P (Ok v) s m → Reads q r Q (Err f) m s' → Reads p t R (Err f) s s'
 fails_after p q r t P Q R v f s m s' one two = record {
   moves = moves_err f s s' (moves_then v (Err f) s m s' one.moves two.moves);
@@ -170,27 +170,27 @@ fails_after p q r t P Q R v f s m s' one two = record {
 }
 
 -- behind the parts more is expected
-pub reads_more : {S : Type 0} (p q more : List Part) (P : S → Place → Place → Type 0) (v : S) (s s' : State) → Reads p q P (Ok v) s s' → Reads (p ++ more) (q ++ more) P (Ok v) s s'
+pub reads_more : {S : Type 0} (p q more : List Part) (P : S → Cursor → Cursor → Type 0) (v : S) (s s' : State) → Reads p q P (Ok v) s s' → Reads (p ++ more) (q ++ more) P (Ok v) s s'
 reads_more p q more P v s s' one = record {
   moves = one.moves;
   text = tells_as s s' _ _ (λ x y h. (h.0, goes_more p q more (place s x) (place s' y) h.1)) one.text;
 }
 
-pub fails_first : {S T : Type 0} (p q r more : List Part) (P : S → Place → Place → Type 0) (R : T → Place → Place → Type 0) (f : ReadFault) (s s' : State) → Reads p q P (Err f) s s' → Reads (p ++ more) r R (Err f) s s'
+pub fails_first : {S T : Type 0} (p q r more : List Part) (P : S → Cursor → Cursor → Type 0) (R : T → Cursor → Cursor → Type 0) (f : ReadFault) (s s' : State) → Reads p q P (Err f) s s' → Reads (p ++ more) r R (Err f) s s'
 fails_first p q r more P R f s s' one = record {
   moves = moves_err f s s' one.moves;
   text = tells_as s s' _ _ (λ x y h. fails_more f p more (place s x) (place s' y) h) one.text;
 }
 
 -- another value is answered
-pub reads_as : {S T : Type 0} (p q : List Part) (P : S → Place → Place → Type 0) (R : T → Place → Place → Type 0) (v : S) (w : T) (s s' : State) → ((a b : Place) → P v a b → R w a b) → Reads p q P (Ok v) s s' → Reads p q R (Ok w) s s'
+pub reads_as : {S T : Type 0} (p q : List Part) (P : S → Cursor → Cursor → Type 0) (R : T → Cursor → Cursor → Type 0) (v : S) (w : T) (s s' : State) → ((a b : Cursor) → P v a b → R w a b) → Reads p q P (Ok v) s s' → Reads p q R (Ok w) s s'
 reads_as p q P R v w s s' f one = record {
   moves = moves_as v w s s' one.moves;
   text = tells_as s s' _ _ (λ x y h. (f _ _ h.0, h.1)) one.text;
 }
 
 -- nothing was read
-pub reads_nothing : {T : Type 0} (p : List Part) (R : T → Place → Place → Type 0) (w : T) (s : State) → s.lexer.spent ≡ false → ((a : Place) → R w a a) → Reads p p R (Ok w) s s
+pub reads_nothing : {T : Type 0} (p : List Part) (R : T → Cursor → Cursor → Type 0) (w : T) (s : State) → s.lexer.spent ≡ false → ((a : Cursor) → R w a a) → Reads p p R (Ok w) s s
 reads_nothing p R w s unspent f = record {
   moves = moves_nowhere w s unspent;
   text = tells_same s _ (λ x. (f _, goes_nowhere p (place s x)));
@@ -205,7 +205,7 @@ takes part parts others z s s' v is goes opens unended one = record {
 }
 
 -- it was taken, and there is no token behind it
-pub takes_last : {T : Type 0} (part : Part) (parts others r : List Part) (R : T → Place → Place → Type 0) (z : Token) (f : ReadFault) (s s' : State) → s.ahead ≡ z → move part z ≡ Takes parts → nat_le (open_at parts) most_depth ≡ true → is_end z ≡ false → Advances {T = Unit {0}} (Err f) s s'
+pub takes_last : {T : Type 0} (part : Part) (parts others r : List Part) (R : T → Cursor → Cursor → Type 0) (z : Token) (f : ReadFault) (s s' : State) → s.ahead ≡ z → move part z ≡ Takes parts → nat_le (open_at parts) most_depth ≡ true → is_end z ≡ false → Advances {T = Unit {0}} (Err f) s s'
     → Reads (part ∷ others) r R (Err f) s s'
 takes_last part parts others r R z f s s' is goes opens unended one = record {
   moves = moves_err f s s' one.moves;
@@ -213,20 +213,20 @@ takes_last part parts others r R z f s s' is goes opens unended one = record {
 }
 
 -- it stands behind the first part
-pub passes : {T : Type 0} (part : Part) (others r : List Part) (R : T → Place → Place → Type 0) (v : T) (s s' : State) → move part s.ahead ≡ expecting.Passes → Reads others r R (Ok v) s s' → Reads (part ∷ others) r R (Ok v) s s'
+pub passes : {T : Type 0} (part : Part) (others r : List Part) (R : T → Cursor → Cursor → Type 0) (v : T) (s s' : State) → move part s.ahead ≡ expecting.Passes → Reads others r R (Ok v) s s' → Reads (part ∷ others) r R (Ok v) s s'
 passes part others r R v s s' over one = record {
   moves = one.moves;
   text = tells_as s s' _ _ (λ x y h. (h.0, goes_then (part ∷ others) others r (place s x) (place s x) (place s' y) (goes_past part others (place s x) over) h.1)) one.text;
 }
 
-pub passes_then_fails : {T : Type 0} (part : Part) (others r : List Part) (R : T → Place → Place → Type 0) (f : ReadFault) (s s' : State) → move part s.ahead ≡ expecting.Passes → Reads others r R (Err f) s s' → Reads (part ∷ others) r R (Err f) s s'
+pub passes_then_fails : {T : Type 0} (part : Part) (others r : List Part) (R : T → Cursor → Cursor → Type 0) (f : ReadFault) (s s' : State) → move part s.ahead ≡ expecting.Passes → Reads others r R (Err f) s s' → Reads (part ∷ others) r R (Err f) s s'
 passes_then_fails part others r R f s s' over one = record {
   moves = one.moves;
   text = tells_as s s' _ _ (λ x y h. fails_then f (part ∷ others) others (place s x) (place s x) (place s' y) (goes_past part others (place s x) over) h) one.text;
 }
 
 -- memory was wanting
-pub no_memory : {S T : Type 0} (p q t r : List Part) (P : S → Place → Place → Type 0) (R : T → Place → Place → Type 0) (v : S) (s s' : State) → Reads p q P (Ok v) s s' → Reads t r R (Err fault.Memory) s s'
+pub no_memory : {S T : Type 0} (p q t r : List Part) (P : S → Cursor → Cursor → Type 0) (R : T → Cursor → Cursor → Type 0) (v : S) (s s' : State) → Reads p q P (Ok v) s s' → Reads t r R (Err fault.Memory) s s'
 no_memory p q t r P R v s s' one = record {
   moves = moves_fault v fault.Memory s s' tt one.moves;
   text = tells_as s s' _ _ (λ x y h. tt) one.text;
@@ -237,7 +237,7 @@ own_refusal token.Abort k = tt
 own_refusal z k = tt
 
 -- the token at hand cannot stand there
-pub refuses : {T : Type 0} (p r : List Part) (R : T → Place → Place → Type 0) (s : State) → s.lexer.spent ≡ false → ((most : ℕ) (others : List Part) → behind most (p ++ others) s.ahead ≡ None) → Reads p r R (Err (refusal s.ahead s.lexer.offset)) s s
+pub refuses : {T : Type 0} (p r : List Part) (R : T → Cursor → Cursor → Type 0) (s : State) → s.lexer.spent ≡ false → ((most : ℕ) (others : List Part) → behind most (p ++ others) s.ahead ≡ None) → Reads p r R (Err (refusal s.ahead s.lexer.offset)) s s
 refuses p r R s unspent refused = record {
   moves = moves_fault {S = ℕ} 0 (refusal s.ahead s.lexer.offset) s s (own_refusal s.ahead s.lexer.offset) (moves_nowhere {T = ℕ} 0 s unspent);
   text = tells_same s (λ x y. Fails (refusal s.ahead s.lexer.offset) p (place s x) (place s y)) (λ x. fails_here p (place s x) s.ahead refl refused);

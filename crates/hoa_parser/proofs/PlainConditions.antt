@@ -10,7 +10,7 @@ use Rattle.hoa_parser.specs.Grammar.Fands.{no_fand, or_fand}
 use Rattle.hoa_parser.specs.Grammar.Fatoms.{no_fatom, and_fatom}
 use Rattle.hoa_parser.specs.Grammar.Fatom.{true_condition, false_condition, infinitely, finitely, condition_group}
 use Rattle.hoa_parser.specs.WrittenDown.{written_formula, written_atoms, written_conjunctions}
-use Rattle.hoa_parser.specs.WrittenDown.Place.{Alone, InOr, InAnd}
+use Rattle.hoa_parser.specs.WrittenDown.Cursor.{Alone, InOr, InAnd}
 use Rattle.hoa_parser.proofs.PlainLabels.{and_line, or_line, more_line, in_group}
 
 -- the phrases of a tree between `&`, between `|` (a first factor and more), and alone

@@ -11,7 +11,7 @@ use Rattle.hoa_parser.specs.Grammar.Lnot.{true_label, false_label, proposition, 
 use Rattle.hoa_parser.specs.Raw as raw
 use Rattle.hoa_parser.specs.Raw.{RawTree, RawTrees, raw_trees}
 use Rattle.hoa_parser.specs.WrittenDown.{written_label, written_factors, written_products}
-use Rattle.hoa_parser.specs.WrittenDown.Place.{Alone, InOr, InAnd}
+use Rattle.hoa_parser.specs.WrittenDown.Cursor.{Alone, InOr, InAnd}
 
 -- the phrases of a tree between `&`, between `|` (a first factor and more), and alone
 abbrev mutual

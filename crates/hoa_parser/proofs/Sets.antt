@@ -11,8 +11,8 @@ use Rattle.hoa_parser.proofs.Leading.{passed_then}
 use Rattle.hoa_parser.proofs.Moving.{fails_after, reads_as, reads_then, takes}
 use Rattle.hoa_parser.specs.Expecting.{Atom, ClosingParen, MaybeBang, Number, OpeningParen, Part, Takes, move, open_at, set_parts}
 use Rattle.hoa_parser.specs.Grammar.{Fatom, FatomWithin, bang_tokens, fatom_meaning, fatom_tokens, set_tokens}
-use Rattle.hoa_parser.specs.Parsing.{Advances, Passed, Place, Reads, State}
-use Rattle.hoa_parser.specs.Parts.{IsFatom, IsMark, IsMaybeBang, IsNumber, IsSet}
+use Rattle.hoa_parser.specs.Parsing.{Advances, Passed, Cursor, Reads, State}
+use Rattle.hoa_parser.specs.RuleReads.{IsFatom, IsToken, IsMaybeBang, IsNumber, IsSet}
 use Rattle.hoa_parser.specs.Standing.{most_depth}
 use Rattle.hoa_parser.specs.declared.fault.ReadFault.{ReadFault}
 use Rattle.hoa_parser.specs.declared.parse.condition.SetAt.{SetAt}
@@ -20,20 +20,20 @@ use Rattle.hoa_parser.specs.declared.parse.condition.Sign.{Sign}
 use Rattle.hoa_parser.specs.declared.parse.condition.Sign.TheVariants as sign
 
 -- ")", INT ")" and "!"? INT ")", as far as they are the end of a set
-abbrev Closes : SetAt → Place → Place → Type 0
+abbrev Closes : SetAt → Cursor → Cursor → Type 0
 Closes set a b = Passed a (token.RightParen ∷ []) b
 
-abbrev Numbers : SetAt → Place → Place → Type 0
+abbrev Numbers : SetAt → Cursor → Cursor → Type 0
 Numbers set a b = Passed a (token.Int set.number ∷ token.RightParen ∷ []) b
 
-abbrev Negates : SetAt → Place → Place → Type 0
+abbrev Negates : SetAt → Cursor → Cursor → Type 0
 Negates set a b = Passed a (bang_tokens set.neg ++ (token.Int set.number ∷ token.RightParen ∷ [])) b
 
 -- The parts of a set, the last first. `r` is the answer to all of them.
-pub set_at_number : (number : ℕ) (neg : Bool) (s m s' : State) (v : Unit {0}) → Reads (Number ∷ []) [] IsNumber (Ok number) s m → Reads (ClosingParen ∷ []) [] (IsMark token.RightParen) (Ok v) m s' → Reads (Number ∷ ClosingParen ∷ []) [] Numbers (Ok (record { number = number; neg = neg })) s s'
+pub set_at_number : (number : ℕ) (neg : Bool) (s m s' : State) (v : Unit {0}) → Reads (Number ∷ []) [] IsNumber (Ok number) s m → Reads (ClosingParen ∷ []) [] (IsToken token.RightParen) (Ok v) m s' → Reads (Number ∷ ClosingParen ∷ []) [] Numbers (Ok (record { number = number; neg = neg })) s s'
 set_at_number number neg s m s' v one close =
     let set : SetAt = record { number = number; neg = neg } in
-    reads_then_as (Number ∷ []) (ClosingParen ∷ []) IsNumber (IsMark token.RightParen) Numbers number v set s m s'
+    reads_then_as (Number ∷ []) (ClosingParen ∷ []) IsNumber (IsToken token.RightParen) Numbers number v set s m s'
     (λ a b c h k. passed_then a b c (token.Int number ∷ []) (token.RightParen ∷ []) h k) one close
 
 pub set_at_bang : (number : ℕ) (neg : Bool) (s m s' : State) → Reads (MaybeBang ∷ []) [] IsMaybeBang (Ok neg) s m → Reads (Number ∷ ClosingParen ∷ []) [] Numbers (Ok (record { number = number; neg = neg })) m s' → Reads (MaybeBang ∷ Number ∷ ClosingParen ∷ []) [] Negates (Ok (record { number = number; neg = neg })) s s'
@@ -42,10 +42,10 @@ set_at_bang number neg s m s' one rest =
     reads_then_as (MaybeBang ∷ []) (Number ∷ ClosingParen ∷ []) IsMaybeBang Numbers Negates neg set set s m s'
     (λ a b c h k. passed_then a b c (bang_tokens neg) (token.Int number ∷ token.RightParen ∷ []) h k) one rest
 
-pub set_at_paren : (number : ℕ) (neg : Bool) (v : Unit {0}) (s m s' : State) → Reads (OpeningParen ∷ []) [] (IsMark token.LeftParen) (Ok v) s m → Reads (MaybeBang ∷ Number ∷ ClosingParen ∷ []) [] Negates (Ok (record { number = number; neg = neg })) m s' → Reads set_parts [] IsSet (Ok (record { number = number; neg = neg })) s s'
+pub set_at_paren : (number : ℕ) (neg : Bool) (v : Unit {0}) (s m s' : State) → Reads (OpeningParen ∷ []) [] (IsToken token.LeftParen) (Ok v) s m → Reads (MaybeBang ∷ Number ∷ ClosingParen ∷ []) [] Negates (Ok (record { number = number; neg = neg })) m s' → Reads set_parts [] IsSet (Ok (record { number = number; neg = neg })) s s'
 set_at_paren number neg v s m s' one rest =
     let set : SetAt = record { number = number; neg = neg } in
-    reads_then_as (OpeningParen ∷ []) (MaybeBang ∷ Number ∷ ClosingParen ∷ []) (IsMark token.LeftParen) Negates IsSet v set set s m s'
+    reads_then_as (OpeningParen ∷ []) (MaybeBang ∷ Number ∷ ClosingParen ∷ []) (IsToken token.LeftParen) Negates IsSet v set set s m s'
     (λ a b c h k. passed_then a b c (token.LeftParen ∷ []) (bang_tokens neg ++ (token.Int number ∷ token.RightParen ∷ [])) h k) one rest
 
 -- what is expected behind a sign

@@ -22,8 +22,8 @@ use Rattle.hoa_parser.specs.Expecting as part
 use Rattle.hoa_parser.specs.Expecting.{Part, after, behind, move}
 use Rattle.hoa_parser.specs.Faults.{read_fault}
 use Rattle.hoa_parser.specs.Grammar.{AutomatonPhrase, automaton_tokens, item_tokens, state_tokens}
-use Rattle.hoa_parser.specs.Parsing.{AsksPast, Fails, Goes, Passed, Place, Reads, Refuses, Says, State, TooDeep, Unended, Unread, place}
-use Rattle.hoa_parser.specs.Parts.{IsAutomaton, open_tokens}
+use Rattle.hoa_parser.specs.Parsing.{AsksPast, Fails, Goes, Passed, Cursor, Reads, Refuses, Says, State, TooDeep, Unended, Unread, place}
+use Rattle.hoa_parser.specs.RuleReads.{IsAutomaton, open_tokens}
 use Rattle.hoa_parser.specs.Raw.{written}
 use Rattle.hoa_parser.specs.Reads.{Answers, AsksOn}
 use Rattle.hoa_parser.specs.Standing.{EndsOpen, IsAborted, IsBad, IsBegun, IsCut, IsDeep, IsNoTokenAt, IsWhole, SpellsNothing, most_depth}
@@ -43,7 +43,7 @@ spells_nothing : (ts : List Token) → Unended ts → SpellsNothing ts
 spells_nothing ts unended most w s = never_ended (open_tokens s.phrase) (subst Unended (s.spelled ∙ sym (ended_tokens s.phrase)) unended)
 
 -- The first token of the text is that of `a`.
-pub record Starts (start : ℕ) (text : List ℕ) (a : Place) : Type 0 where
+pub record Starts (start : ℕ) (text : List ℕ) (a : Cursor) : Type 0 where
   pub next : IsNext text start a.token a.offset a.rest
   pub used : a.used ≡ start + (length text - length a.rest)
 
@@ -52,7 +52,7 @@ pub nothing_begun : (start : ℕ) (text : List ℕ) → IsBegun start text [] st
 nothing_begun start text = record { placed = []; shown = refl; lexes = refl; used_is = omega arith; viable = nothing_viable; unfinished = nothing_unfinished }
 
 -- before the token of `b`
-pub begun_before : (start : ℕ) (text : List ℕ) (a b : Place) (target : List Part) (g : Goes (part.Whole ∷ []) a target b) (s : StandBefore start text g.tokens b) → IsBegun start text g.tokens s.used s.rest
+pub begun_before : (start : ℕ) (text : List ℕ) (a b : Cursor) (target : List Part) (g : Goes (part.Whole ∷ []) a target b) (s : StandBefore start text g.tokens b) → IsBegun start text g.tokens s.used s.rest
 begun_before start text a b target g s = record {
   placed = s.placed;
   shown = s.shown;
@@ -63,7 +63,7 @@ begun_before start text a b target g s = record {
 }
 
 -- behind it
-pub begun_with : (start : ℕ) (text : List ℕ) (a : Place) (P : ℕ → List ℕ → Type 0) (u : Unread (part.Whole ∷ []) a P) → Starts start text a → IsBegun start text (u.goes.tokens ++ u.b.token ∷ []) u.b.used u.b.rest
+pub begun_with : (start : ℕ) (text : List ℕ) (a : Cursor) (P : ℕ → List ℕ → Type 0) (u : Unread (part.Whole ∷ []) a P) → Starts start text a → IsBegun start text (u.goes.tokens ++ u.b.token ∷ []) u.b.used u.b.rest
 begun_with start text a P u starts =
     let g = u.goes in
     let s = stand_with start text a u.b g.tokens starts.next starts.used g.passed in
@@ -81,13 +81,13 @@ some_more [] z e = cc
 some_more (t ∷ ts) z e = cc
 
 -- before a token that is not the first stand others
-some_before : (a b : Place) (ts : List Token) → Passed a ts b → a.token ≡ opening → b.token ≡ token.Abort → ts ≢ []
+some_before : (a b : Cursor) (ts : List Token) → Passed a ts b → a.token ≡ opening → b.token ≡ token.Abort → ts ≢ []
 some_before a b [] passed is abort e =
-    let no : opening ≡ token.Abort = sym is ∙ ap (λ (x : Place). x.token) passed ∙ abort in
+    let no : opening ≡ token.Abort = sym is ∙ ap (λ (x : Cursor). x.token) passed ∙ abort in
     cc
 some_before a b (t ∷ ts) passed is abort e = cc
 
-misplaced : (start : ℕ) (text : List ℕ) (a b : Place) (k : ℕ) → Starts start text a → Refuses (part.Whole ∷ []) a b → k ≡ b.offset → b.token ≢ token.Abort → IsBad start text k
+misplaced : (start : ℕ) (text : List ℕ) (a b : Cursor) (k : ℕ) → Starts start text a → Refuses (part.Whole ∷ []) a b → k ≡ b.offset → b.token ≢ token.Abort → IsBad start text k
 misplaced start text a b k starts r at other =
     let g = r.goes in
     let s = stand_before start text a b g.tokens starts.next starts.used g.passed in
@@ -105,10 +105,10 @@ misplaced start text a b k starts r at other =
       });
     }
 
-no_token : (start : ℕ) (text : List ℕ) (a : Place) (k : ℕ) (new : List ℕ) → Starts start text a → Unread (part.Whole ∷ []) a (λ used rest. IsNoTokenAt k used rest × IsShownBy k used rest new) → IsBad start text k
+no_token : (start : ℕ) (text : List ℕ) (a : Cursor) (k : ℕ) (new : List ℕ) → Starts start text a → Unread (part.Whole ∷ []) a (λ used rest. IsNoTokenAt k used rest × IsShownBy k used rest new) → IsBad start text k
 no_token start text a k new starts u = record { tokens = u.goes.tokens ++ u.b.token ∷ []; used = u.b.used; rest = u.b.rest; begun = begun_with start text a _ u starts; fault = inr u.bytes.0 }
 
-aborted : (start : ℕ) (text : List ℕ) (a b : Place) → Starts start text a → a.token ≡ opening → Refuses (part.Whole ∷ []) a b → b.token ≡ token.Abort → IsAborted start text
+aborted : (start : ℕ) (text : List ℕ) (a b : Cursor) → Starts start text a → a.token ≡ opening → Refuses (part.Whole ∷ []) a b → b.token ≡ token.Abort → IsAborted start text
 aborted start text a b starts is r abort =
     let g = r.goes in
     let s = stand_before start text a b g.tokens starts.next starts.used g.passed in
@@ -123,7 +123,7 @@ aborted start text a b starts is r abort =
       next = subst (λ (z : Token). IsNext s.rest s.used z b.offset b.rest) abort s.next;
     }
 
-too_deep : (start : ℕ) (text : List ℕ) (a : Place) → Starts start text a → TooDeep (part.Whole ∷ []) a → IsDeep start text
+too_deep : (start : ℕ) (text : List ℕ) (a : Cursor) → Starts start text a → TooDeep (part.Whole ∷ []) a → IsDeep start text
 too_deep start text a starts d =
     let g = d.goes in
     let s = stand_before start text a d.b g.tokens starts.next starts.used g.passed in
@@ -146,7 +146,7 @@ ends_so : (tokens : List Token) (rest : List ℕ) → tokens ≢ [] → IsBlanks
 ends_so tokens rest some (inl h) = inl (some, h)
 ends_so tokens rest some (inr h) = inr h
 
-cut : (start : ℕ) (text : List ℕ) (a : Place) → Starts start text a → Unread (part.Whole ∷ []) a (λ used rest. IsBlanks rest ⊎ EndsOpen rest) → IsCut start text
+cut : (start : ℕ) (text : List ℕ) (a : Cursor) → Starts start text a → Unread (part.Whole ∷ []) a (λ used rest. IsBlanks rest ⊎ EndsOpen rest) → IsCut start text
 cut start text a starts u = record {
   tokens = u.goes.tokens ++ u.b.token ∷ [];
   used = u.b.used;
@@ -155,7 +155,7 @@ cut start text a starts u = record {
   ends = ends_so (u.goes.tokens ++ u.b.token ∷ []) u.b.rest (some_more u.goes.tokens u.b.token) u.bytes;
 }
 
-asks_on : (start : ℕ) (text : List ℕ) (a : Place) (new : List ℕ) → Starts start text a → Unread (part.Whole ∷ []) a (λ used rest. AsksPast new rest) → AsksOn start text new
+asks_on : (start : ℕ) (text : List ℕ) (a : Cursor) (new : List ℕ) → Starts start text a → Unread (part.Whole ∷ []) a (λ used rest. AsksPast new rest) → AsksOn start text new
 asks_on start text a new starts u = record {
   tokens = u.goes.tokens ++ u.b.token ∷ [];
   used = u.b.used;
@@ -167,7 +167,7 @@ asks_on start text a new starts u = record {
 }
 
 -- why no automaton was read
-pub answers_fault : (f : ReadFault) (start : ℕ) (text : List ℕ) (a last : Place) → Starts start text a → a.token ≡ opening → Fails f (part.Whole ∷ []) a last → Answers (Err f) start text last.rest
+pub answers_fault : (f : ReadFault) (start : ℕ) (text : List ℕ) (a last : Cursor) → Starts start text a → a.token ≡ opening → Fails f (part.Whole ∷ []) a last → Answers (Err f) start text last.rest
 answers_fault (fault.Syntax k) start text a last starts is (inl h) = misplaced start text a h.0 k starts h.1 h.2 h.3
 answers_fault (fault.Syntax k) start text a last starts is (inr h) = no_token start text a k last.rest starts h
 answers_fault fault.Truncated start text a last starts is h = cut start text a starts h
@@ -178,7 +178,7 @@ answers_fault fault.Read start text a last starts is h = tt
 answers_fault fault.Memory start text a last starts is h = tt
 
 -- an automaton that was read
-pub answers_whole : (raw : Raw) (start : ℕ) (text : List ℕ) (a b : Place) → Starts start text a → IsAutomaton raw a b → IsWhole start text (written raw) b.rest
+pub answers_whole : (raw : Raw) (start : ℕ) (text : List ℕ) (a b : Cursor) → Starts start text a → IsAutomaton raw a b → IsWhole start text (written raw) b.rest
 answers_whole raw start text a b starts is =
     let w = is.is_written in
     let s = stand_with start text a b (open_tokens w.phrase) starts.next starts.used w.passed in
@@ -243,7 +243,7 @@ pub first_so : (t : Option Token) (z : Token) (start offset : ℕ) (old new : Li
 first_so t z start offset old new some h = subst (λ (o : Option Token). lexing.Answers (Ok o) start offset old new) some h
 
 -- what the lexer said of the first token, and what was read then
-pub said_then : {T : Type 0} (t : Option Token) (lexer : Lexer) (left : Option (List ℕ)) (s s' : State) (r : Result T ReadFault) (Q : T → Place → Place → Type 0) (R : List ℕ → List ℕ → Type 0)
+pub said_then : {T : Type 0} (t : Option Token) (lexer : Lexer) (left : Option (List ℕ)) (s s' : State) (r : Result T ReadFault) (Q : T → Cursor → Cursor → Type 0) (R : List ℕ → List ℕ → Type 0)
     → t ≡ Some s.ahead → Between left s.left (λ x y. lexing.Answers (Ok t) (lexer.since - held_count lexer.held) s.lexer.offset (unread lexer.held x) (unread s.lexer.held y))
     → Between left s.left (λ x y. s.lexer.taken + length y ≡ lexer.taken + length x)
     → s.lexer.since + lexer.taken ≡ lexer.since + s.lexer.taken → lexer.taken ≤ s.lexer.taken → Reads (part.Whole ∷ []) (part.States ∷ []) Q r s s'

@@ -3,10 +3,10 @@ use Rattle.std.proofs.Common.{◌≡◌, ℕ, ◌+◌, ◌-◌, ◌≤◌, List,
 use Rattle.std.proofs.lemmas.List.{length-append}
 use Rattle.hoa_lexer.specs.Text.{IsNext, Lexes}
 use Rattle.hoa_lexer.specs.declared.token.Token.{Token}
-use Rattle.hoa_parser.specs.Parsing.{Passed, Place}
+use Rattle.hoa_parser.specs.Parsing.{Passed, Cursor}
 
 -- The tokens stand at the front of the text, and that of `b` is next.
-pub record StandBefore (start : ℕ) (text : List ℕ) (tokens : List Token) (b : Place) : Type 0 where
+pub record StandBefore (start : ℕ) (text : List ℕ) (tokens : List Token) (b : Cursor) : Type 0 where
   pub placed : List (Token × ℕ)
   pub shown : map (λ p. p.0) placed ≡ tokens
   pub used : ℕ
@@ -17,7 +17,7 @@ pub record StandBefore (start : ℕ) (text : List ℕ) (tokens : List Token) (b 
   pub next : IsNext rest used b.token b.offset b.rest
 
 -- The tokens stand at the front of the text, and then that of `b`.
-pub record StandWith (start : ℕ) (text : List ℕ) (tokens : List Token) (b : Place) : Type 0 where
+pub record StandWith (start : ℕ) (text : List ℕ) (tokens : List Token) (b : Cursor) : Type 0 where
   pub placed : List (Token × ℕ)
   pub shown : map (λ p. p.0) placed ≡ tokens ++ b.token ∷ []
   pub lexes : Lexes text start placed b.rest
@@ -34,7 +34,7 @@ used_later : (start used later all rest last : ℕ) → used ≡ start + (all - 
 used_later start used later all rest last first second outer inner = omega (arith, first, second, outer, inner)
 
 -- from the first token on
-pub stand_before : (start : ℕ) (text : List ℕ) (a b : Place) (ts : List Token) → IsNext text start a.token a.offset a.rest → a.used ≡ start + (length text - length a.rest) → Passed a ts b → StandBefore start text ts b
+pub stand_before : (start : ℕ) (text : List ℕ) (a b : Cursor) (ts : List Token) → IsNext text start a.token a.offset a.rest → a.used ≡ start + (length text - length a.rest) → Passed a ts b → StandBefore start text ts b
 stand_before start text a b [] next used passed = record {
   placed = [];
   shown = refl;
@@ -43,7 +43,7 @@ stand_before start text a b [] next used passed = record {
   lexes = refl;
   used_is = omega arith;
   shorter = omega arith;
-  next = subst (λ (x : Place). IsNext text start x.token x.offset x.rest) passed next;
+  next = subst (λ (x : Cursor). IsNext text start x.token x.offset x.rest) passed next;
 }
 stand_before start text a b (t ∷ ts) next used passed =
     let later = stand_before a.used a.rest passed.0 b ts passed.2.next passed.2.used passed.3 in
@@ -59,9 +59,9 @@ stand_before start text a b (t ∷ ts) next used passed =
       next = later.next;
     }
 
-pub stand_with : (start : ℕ) (text : List ℕ) (a b : Place) (ts : List Token) → IsNext text start a.token a.offset a.rest → a.used ≡ start + (length text - length a.rest) → Passed a ts b → StandWith start text ts b
+pub stand_with : (start : ℕ) (text : List ℕ) (a b : Cursor) (ts : List Token) → IsNext text start a.token a.offset a.rest → a.used ≡ start + (length text - length a.rest) → Passed a ts b → StandWith start text ts b
 stand_with start text a b [] next used passed =
-    subst (λ (x : Place). StandWith start text [] x) passed
+    subst (λ (x : Cursor). StandWith start text [] x) passed
     (record {
       placed = (a.token, a.offset) ∷ [];
       shown = refl;

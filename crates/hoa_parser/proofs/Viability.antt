@@ -10,6 +10,7 @@ use Rattle.hoa_parser.proofs.Completing.{Derives, completable}
 use Rattle.hoa_parser.proofs.Filling.{Writes, single, factor_writes, factors_write, products_write, atom_writes, atoms_write, conjunctions_write}
 use Rattle.hoa_parser.proofs.FillingItems.{number_writes, more_numbers_write, quoted_writes, maybe_quoted_writes, strings_write, word_writes, words_write, alias_name_writes, acc_values_write, values_write, opening_paren_writes, maybe_bang_writes, closing_paren_writes, closing_bracket_writes, items_write}
 use Rattle.hoa_parser.proofs.FillingStates.{maybe_label_writes, maybe_marks_write, marks_write, edges_write, states_write, whole_writes}
+use Rattle.aut_base.proofs.Lists.{none_some}
 
 writes : (most : ℕ) (p : Part) (z : Token) → Writes most p z (move p z)
 writes most part.Whole z = whole_writes most z
@@ -59,9 +60,6 @@ divided most (p ∷ ps) others u (v, w, f, d, e) =
       later = x.later;
       split = e ∙ ap (λ y. v ++ y) x.split ∙ sym (append_assoc v x.before x.rest);
     }
-
-none_some : {X : Type 0} (x : X) → None ≡ Some x → ⊥
-none_some x e = cc
 
 taken_derives : (most : ℕ) (p : Part) (ps others parts : List Part) (z : Token) (u : List Token) (b : Bool) → b ≡ leb (open_at ps) most → Writes most p z (Takes ps) → cond b (Some (ps ++ others)) None ≡ Some parts → Derives most parts u → Derives most (p ∷ others) (z ∷ u)
 taken_derives most p ps others parts z u true l w e d =

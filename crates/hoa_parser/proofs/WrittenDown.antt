@@ -18,6 +18,8 @@ use Rattle.hoa_lexer.proofs.Apart.{spelled_apart_is_read}
 use Rattle.hoa_parser.proofs.PlainConditions.{plain_condition, condition_spells, condition_means, condition_within}
 use Rattle.hoa_parser.proofs.PlainDepths.{plain_within}
 use Rattle.hoa_parser.proofs.PlainLabels.{plain_label, label_spells, label_means}
+use Rattle.aut_base.proofs.AllByRecursion.{AllByRecursion-map_within}
+use Rattle.aut_base.proofs.Lists.{map-map_same}
 
 -- the phrase that is written down of a phrase
 abbrev plain_item : ItemPhrase → ItemPhrase
@@ -122,24 +124,17 @@ edge_means e =
     let marks = marks_mean (marks_meaning e.marks) in
     cc
 
-all_mean : {P M : Type 0} (plain : P → P) (meaning : P → M) → ((p : P) → meaning (plain p) ≡ meaning p) → (ps : List P) → map meaning (map plain ps) ≡ map meaning ps
-all_mean plain meaning one [] = refl
-all_mean plain meaning one (p ∷ ps) =
-    let first = one p in
-    let others = all_mean plain meaning one ps in
-    cc
-
 state_means : (s : StatePhrase) → state_meaning (plain_state s) ≡ state_meaning s
 state_means s =
     let label = optional_means s.label in
     let marks = marks_mean (marks_meaning s.marks) in
-    let edges = all_mean plain_edge edge_meaning edge_means s.edges in
+    let edges = map-map_same plain_edge edge_meaning edge_means s.edges in
     cc
 
 automaton_means : (a : AutomatonPhrase) → automaton_meaning (plain_automaton a) ≡ automaton_meaning a
 automaton_means a =
-    let items = all_mean plain_item item_meaning item_means a.items in
-    let states = all_mean plain_state state_meaning state_means a.states in
+    let items = map-map_same plain_item item_meaning item_means a.items in
+    let states = map-map_same plain_state state_meaning state_means a.states in
     cc
 
 -- it opens no more
@@ -160,15 +155,11 @@ optional_within : (m : ℕ) (l : Option Label) → OptionalWithin m l → Option
 optional_within m None h = tt
 optional_within m (Some l) h = plain_within m 0 l h
 
-all_within : {P : Type 0} (plain : P → P) (Q : P → Type 0) → ((p : P) → Q p → Q (plain p)) → (ps : List P) → AllByRecursion Q ps → AllByRecursion Q (map plain ps)
-all_within plain Q one [] h = tt
-all_within plain Q one (p ∷ ps) h = (one p h.0, all_within plain Q one ps h.1)
-
 state_within : (m : ℕ) (s : StatePhrase) → StateWithin m s → StateWithin m (plain_state s)
-state_within m s h = (optional_within m s.label h.0, all_within plain_edge (λ e. OptionalWithin m e.label) (λ e k. optional_within m e.label k) s.edges h.1)
+state_within m s h = (optional_within m s.label h.0, AllByRecursion-map_within plain_edge (λ e. OptionalWithin m e.label) (λ e k. optional_within m e.label k) s.edges h.1)
 
 automaton_within : (m : ℕ) (a : AutomatonPhrase) → AutomatonWithin m a → AutomatonWithin m (plain_automaton a)
-automaton_within m a h = (all_within plain_item (ItemWithin m) (item_within m) a.items h.0, all_within plain_state (StateWithin m) (state_within m) a.states h.1)
+automaton_within m a h = (AllByRecursion-map_within plain_item (ItemWithin m) (item_within m) a.items h.0, AllByRecursion-map_within plain_state (StateWithin m) (state_within m) a.states h.1)
 
 pub can_be_written_down : CanBeWrittenDown
 can_be_written_down m ts w s = record {

@@ -6,7 +6,7 @@ pub mod GrammarExamples
 pub mod GrammarLaws
 pub mod Naming
 pub mod Parsing
-pub mod Parts
+pub mod RuleReads
 pub mod Raw
 pub mod Reads
 pub mod Standing

@@ -17,7 +17,7 @@ use Rattle.hoa_parser.specs.declared.fault.ReadFault.TheVariants as fault
 
 -- a token at hand, where it begins, how many bytes of the text were used with it, the byte behind it that is held, if
 -- any, and the bytes behind it
-pub record Place : Type 0 where
+pub record Cursor : Type 0 where
   pub token : Token
   pub offset : ℕ
   pub used : ℕ
@@ -25,15 +25,15 @@ pub record Place : Type 0 where
   pub rest : List ℕ
 
 -- the token of `b` is the next one after that of `a`, and a byte past it is held where that was needed to close it
-pub record Follows (a b : Place) : Type 0 where
+pub record Follows (a b : Cursor) : Type 0 where
   pub next : IsNext a.rest a.used b.token b.offset b.rest
   pub used : b.used ≡ a.used + (length a.rest - length b.rest)
   pub holds : is_some b.held ≡ not (closes_itself b.token)
 
 -- from `a` on these tokens were passed, and that of `b` is at hand
-abbrev pub Passed : Place → List Token → Place → Type 0
+abbrev pub Passed : Cursor → List Token → Cursor → Type 0
 Passed a [] b = a ≡ b
-Passed a (t ∷ ts) b = (m : Place) × (t ≡ a.token) × Follows a m × Passed m ts b
+Passed a (t ∷ ts) b = (m : Cursor) × (t ≡ a.token) × Follows a m × Passed m ts b
 
 -- The tokens lead to what is left of these parts, whatever is expected behind the parts.
 pub record Leads (parts : List Part) (tokens : List Token) (left : List Part) : Type 0 where
@@ -49,7 +49,7 @@ abbrev pub Unended : List Token → Type 0
 Unended = AllByRecursion (λ t. is_end t ≡ false)
 
 -- From `a` on tokens were passed that lead from some expected parts to others, as the token of `b` shows.
-pub record Goes (parts : List Part) (a : Place) (target : List Part) (b : Place) : Type 0 where
+pub record Goes (parts : List Part) (a : Cursor) (target : List Part) (b : Cursor) : Type 0 where
   pub tokens : List Token
   pub passed : Passed a tokens b
   pub left : List Part
@@ -58,15 +58,15 @@ pub record Goes (parts : List Part) (a : Place) (target : List Part) (b : Place)
   pub over : (most : ℕ) (others : List Part) → behind most (left ++ others) b.token ≡ behind most (target ++ others) b.token
 
 -- The token of `b` cannot stand where it does.
-pub record Refuses (parts : List Part) (a b : Place) : Type 0 where
+pub record Refuses (parts : List Part) (a b : Cursor) : Type 0 where
   pub target : List Part
   pub goes : Goes parts a target b
   pub refused : (most : ℕ) (others : List Part) → behind most (target ++ others) b.token ≡ None
 
 -- A token was met that opens one more than may be open.
-pub record TooDeep (parts : List Part) (a : Place) : Type 0 where
+pub record TooDeep (parts : List Part) (a : Cursor) : Type 0 where
   pub target : List Part
-  pub b : Place
+  pub b : Cursor
   pub goes : Goes parts a target b
   pub refused : (others : List Part) → behind most_depth (target ++ others) b.token ≡ None
   pub most : ℕ
@@ -75,9 +75,9 @@ pub record TooDeep (parts : List Part) (a : Place) : Type 0 where
   pub taken : (others : List Part) → behind most (target ++ others) b.token ≡ Some (left ++ others)
 
 -- Behind a token that could stand there is no other, and this is so of the bytes there.
-pub record Unread (parts : List Part) (a : Place) (P : ℕ → List ℕ → Type 0) : Type 0 where
+pub record Unread (parts : List Part) (a : Cursor) (P : ℕ → List ℕ → Type 0) : Type 0 where
   pub target : List Part
-  pub b : Place
+  pub b : Cursor
   pub goes : Goes parts a target b
   pub left : List Part
   pub taken : (others : List Part) → behind most_depth (target ++ others) b.token ≡ Some (left ++ others)
@@ -100,11 +100,11 @@ Unlexed fault.Memory new used rest = Unit {0}
 Unlexed _ new used rest = ⊥
 
 -- why these parts could not be read from `a` on, where the reader stopped at `last`
-abbrev pub Fails : ReadFault → List Part → Place → Place → Type 0
+abbrev pub Fails : ReadFault → List Part → Cursor → Cursor → Type 0
 Fails (fault.Syntax k) parts a last =
-    ((b : Place) × Refuses parts a b × (k ≡ b.offset) × (b.token ≢ token.Abort) × (b ≡ last))
+    ((b : Cursor) × Refuses parts a b × (k ≡ b.offset) × (b.token ≢ token.Abort) × (b ≡ last))
     ⊎ Unread parts a (λ used rest. IsNoTokenAt k used rest × IsShownBy k used rest last.rest)
-Fails fault.Aborted parts a last = (b : Place) × Refuses parts a b × (b.token ≡ token.Abort)
+Fails fault.Aborted parts a last = (b : Cursor) × Refuses parts a b × (b.token ≡ token.Abort)
 Fails fault.Depth parts a last = TooDeep parts a
 Fails fault.Truncated parts a last = Unread parts a (λ used rest. IsBlanks rest ⊎ EndsOpen rest)
 Fails fault.Bytes parts a last = Unread parts a (λ used rest. AsksPast last.rest rest)
@@ -129,7 +129,7 @@ abbrev pub state : Lexer → Token → Option (List ℕ) → ℕ → ℕ → Opt
 state lexer ahead left reads opens texts = record { lexer = lexer; ahead = ahead; left = left; reads = reads; opens = opens; texts = texts }
 
 -- the place where a reader stands, where this is left of the inputs
-abbrev pub place : State → List ℕ → Place
+abbrev pub place : State → List ℕ → Cursor
 place s left = record { token = s.ahead; offset = s.lexer.offset; used = s.lexer.since - held_count s.lexer.held; held = s.lexer.held; rest = unread s.lexer.held left }
 
 -- what is not read yet
@@ -165,7 +165,7 @@ pub record Moves {T : Type 0} (result : Result T ReadFault) (s s' : State) : Typ
   pub texts : s'.texts ≡ s.texts
 
 -- the answer to the wish for the next token
-abbrev pub AdvancesTo : {T : Type 0} → Result T ReadFault → Place → Place → List ℕ → Type 0
+abbrev pub AdvancesTo : {T : Type 0} → Result T ReadFault → Cursor → Cursor → List ℕ → Type 0
 AdvancesTo (Ok done) a b new = Follows a b
 AdvancesTo (Err fault) a b new = Unlexed fault new a.used a.rest
 
@@ -176,17 +176,17 @@ pub record Advances {T : Type 0} (result : Result T ReadFault) (s s' : State) : 
 
 -- What an answer says of the places before and after: the parts were read up to `target` and `Q` is true of the value,
 -- or why they could not be.
-abbrev pub Says : {T : Type 0} → List Part → List Part → (T → Place → Place → Type 0) → Result T ReadFault → Place → Place → Type 0
+abbrev pub Says : {T : Type 0} → List Part → List Part → (T → Cursor → Cursor → Type 0) → Result T ReadFault → Cursor → Cursor → Type 0
 Says parts target Q (Ok value) a b = Q value a b × Goes parts a target b
 Says parts target Q (Err fault) a b = Fails fault parts a b
 
 -- The parts are read as far as `target`, and `Q` is true of the value that is answered.
-pub record Reads {T : Type 0} (parts target : List Part) (Q : T → Place → Place → Type 0) (result : Result T ReadFault) (s s' : State) : Type 0 where
+pub record Reads {T : Type 0} (parts target : List Part) (Q : T → Cursor → Cursor → Type 0) (result : Result T ReadFault) (s s' : State) : Type 0 where
   pub moves : Moves result s s'
   pub text : Tells s s' (λ x y. Says parts target Q result (place s x) (place s' y))
 
 -- It is written so from `a` to `b`.
-pub record IsWritten {X Y : Type 0} (Within : X → Type 0) (tokens : X → List Token) (meaning : X → Y) (value : Y) (a b : Place) : Type 0 where
+pub record IsWritten {X Y : Type 0} (Within : X → Type 0) (tokens : X → List Token) (meaning : X → Y) (value : Y) (a b : Cursor) : Type 0 where
   pub phrase : X
   pub within : Within phrase
   pub passed : Passed a (tokens phrase) b

@@ -32,13 +32,13 @@ raw_trees [] = none
 raw_trees (t ∷ ts) = more t (raw_trees ts)
 
 -- the parts of a conjunction or disjunction
-pub record Parts : Type 0 where
+pub record RawParts : Type 0 where
   pub first : RawTree
   pub second : RawTree
   pub others : List RawTree
 
 -- one level of a label, with trees in the place of what it holds
-abbrev pub tree_step : RawLabel-F RawTree Parts → RawTree
+abbrev pub tree_step : RawLabel-F RawTree RawParts → RawTree
 tree_step RawLabel-F.True = True
 tree_step RawLabel-F.False = False
 tree_step (RawLabel-F.Prop i) = Prop i
@@ -49,11 +49,11 @@ tree_step (RawLabel-F.Or p) = Or p.first p.second (raw_trees p.others)
 
 -- the tree of a label
 abbrev pub raw_tree : RawLabel → RawTree
-raw_tree = fold-RawLabel RawTree Parts tree_step (λ ls. record { first = ls.first.value; second = ls.second.value; others = ls.others.items })
+raw_tree = fold-RawLabel RawTree RawParts tree_step (λ ls. record { first = ls.first.value; second = ls.second.value; others = ls.others.items })
 
 -- the parts of a conjunction or disjunction
-abbrev pub raw_parts : RawLabels → Parts
-raw_parts = fold-RawLabels RawTree Parts tree_step (λ ls. record { first = ls.first.value; second = ls.second.value; others = ls.others.items })
+abbrev pub raw_parts : RawLabels → RawParts
+raw_parts = fold-RawLabels RawTree RawParts tree_step (λ ls. record { first = ls.first.value; second = ls.second.value; others = ls.others.items })
 
 -- the same as one list, of two parts or more
 abbrev pub raw_list : RawLabels → List RawTree

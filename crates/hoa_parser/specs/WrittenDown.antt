@@ -10,22 +10,22 @@ use Rattle.hoa_parser.specs.Raw as raw
 use Rattle.hoa_parser.specs.Raw.{RawTree, RawTrees, Written, WrittenEdge, WrittenItem, WrittenState}
 
 -- where a label or formula stands: for itself, between `|`, or between `&` or behind `!`
-pub data Place : Type 0 where
-  Alone : Place
-  InOr : Place
-  InAnd : Place
+pub data Cursor : Type 0 where
+  Alone : Cursor
+  InOr : Cursor
+  InAnd : Cursor
 
 -- a conjunction, and a disjunction, at this place
-abbrev pub conjunction_at : Place → List Token → List Token
+abbrev pub conjunction_at : Cursor → List Token → List Token
 conjunction_at InAnd tokens = token.LeftParen ∷ (tokens ++ token.RightParen ∷ [])
 conjunction_at _ tokens = tokens
 
-abbrev pub disjunction_at : Place → List Token → List Token
+abbrev pub disjunction_at : Cursor → List Token → List Token
 disjunction_at Alone tokens = tokens
 disjunction_at _ tokens = token.LeftParen ∷ (tokens ++ token.RightParen ∷ [])
 
 abbrev mutual
-  pub written_label : Place → RawTree → List Token
+  pub written_label : Cursor → RawTree → List Token
   written_label place raw.True = token.Identifier (codes "t") ∷ []
   written_label place raw.False = token.Identifier (codes "f") ∷ []
   written_label place (raw.Prop i) = token.Int i ∷ []
@@ -43,7 +43,7 @@ abbrev mutual
   written_products (raw.more t ts) = token.Bar ∷ (written_label InOr t ++ written_products ts)
 
 abbrev mutual
-  pub written_formula : Place → FormulaTree → List Token
+  pub written_formula : Cursor → FormulaTree → List Token
   written_formula place formula.True = token.Identifier (codes "t") ∷ []
   written_formula place formula.False = token.Identifier (codes "f") ∷ []
   written_formula place (formula.Inf set neg) = token.Identifier (codes "Inf") ∷ set_tokens set neg

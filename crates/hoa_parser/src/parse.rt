@@ -7,7 +7,7 @@ ghost use Rattle.hoa_lexer.specs.declared.token.Token.{Token};
 ghost use Rattle.hoa_parser.specs.Expecting as part;
 ghost use Rattle.hoa_parser.specs.Expecting.{move};
 ghost use Rattle.hoa_parser.specs.Parsing.{Reads, Uses, state};
-ghost use Rattle.hoa_parser.specs.Parts.{IsAutomaton};
+ghost use Rattle.hoa_parser.specs.RuleReads.{IsAutomaton};
 
 mod body;
 mod condition;

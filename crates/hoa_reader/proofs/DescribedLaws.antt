@@ -1,6 +1,6 @@
 -- The condition and the labels of a described automaton speak of its own sets and propositions.
 use Rattle.std.proofs.Common.{◌≡◌, ◌/◌, ◌%◌, ◌^◌, ◌<◌, ◌==◌, ℕ, zero, suc, Bool, true, false, cond, ◌&&◌, List, [], ◌∷◌, ◌++◌, map, find, nat_lt, Some, refl, arith}
-use Rattle.std.proofs.lemmas.Bool.{false≢true, ltb-true}
+use Rattle.std.proofs.lemmas.Bool.{false≢true, ltb-true, and_parts}
 use Rattle.std.specs.List.{AllByRecursion, list_all}
 use Rattle.std.specs.Option.{option_map_or}
 use Rattle.aut_base.specs.Formula as formula
@@ -12,10 +12,7 @@ use Rattle.hoa_parser.specs.Raw as raw
 use Rattle.hoa_parser.specs.Raw.{RawTree, RawTrees}
 use Rattle.aut_base.specs.Text.{same_text}
 use Rattle.hoa_reader.specs.Validity.{AliasLine, all_leaves_pass, all_sets_below, props_below, sets_below}
-
-pub both : (x y : Bool) → (x && y) ≡ true → (x ≡ true) × (y ≡ true)
-both true y e = (refl, e)
-both false y e = absurd (false≢true e)
+use Rattle.aut_base.proofs.AllByRecursion.{AllByRecursion-push, AllByRecursion-weaker, AllByRecursion-map}
 
 -- the condition
 mutual
@@ -25,15 +22,15 @@ mutual
   sets_in_range n (formula.Inf set neg) e = ltb-true set n e
   sets_in_range n (formula.Fin set neg) e = ltb-true set n e
   sets_in_range n (formula.And a b cs) e =
-      let first = both _ _ e in let second = both _ _ first.1 in
+      let first = and_parts _ _ e in let second = and_parts _ _ first.1 in
       (sets_in_range n a first.0, sets_in_range n b second.0, all_sets_in_range n cs second.1)
   sets_in_range n (formula.Or a b cs) e =
-      let first = both _ _ e in let second = both _ _ first.1 in
+      let first = and_parts _ _ e in let second = and_parts _ _ first.1 in
       (sets_in_range n a first.0, sets_in_range n b second.0, all_sets_in_range n cs second.1)
 
   all_sets_in_range : (n : ℕ) (fs : FormulaTrees) → all_sets_below n fs ≡ true → EachSetsBelow n fs
   all_sets_in_range n formula.none e = tt
-  all_sets_in_range n (formula.more f fs) e = let parts = both _ _ e in (sets_in_range n f parts.0, all_sets_in_range n fs parts.1)
+  all_sets_in_range n (formula.more f fs) e = let parts = and_parts _ _ e in (sets_in_range n f parts.0, all_sets_in_range n fs parts.1)
 
 -- what an alias stands for
 abbrev pub MeansBelow : ℕ → Meaning → Type 0
@@ -56,28 +53,24 @@ mutual
   expanded_below n ms (raw.Alias name) all e = meaning_below n ms name all
   expanded_below n ms (raw.Not t) all e = expanded_below n ms t all e
   expanded_below n ms (raw.And a b cs) all e =
-      let first = both _ _ e in let second = both _ _ first.1 in
+      let first = and_parts _ _ e in let second = and_parts _ _ first.1 in
       (expanded_below n ms a all first.0, expanded_below n ms b all second.0, each_expanded_below n ms cs all second.1)
   expanded_below n ms (raw.Or a b cs) all e =
-      let first = both _ _ e in let second = both _ _ first.1 in
+      let first = and_parts _ _ e in let second = and_parts _ _ first.1 in
       (expanded_below n ms a all first.0, expanded_below n ms b all second.0, each_expanded_below n ms cs all second.1)
 
   each_expanded_below : (n : ℕ) (ms : List Meaning) (ts : RawTrees) → AllByRecursion (MeansBelow n) ms → all_leaves_pass (λ i. nat_lt i n) (λ name. true) ts ≡ true → EachBelow n (each_expanded ms ts)
   each_expanded_below n ms raw.none all e = tt
   each_expanded_below n ms (raw.more t ts) all e =
-      let parts = both _ _ e in (expanded_below n ms t all parts.0, each_expanded_below n ms ts all parts.1)
-
-pub all_push : {X : Type 0} (P : X → Type 0) (xs : List X) (x : X) → AllByRecursion P xs → P x → AllByRecursion P (xs ++ x ∷ [])
-all_push P [] x all h = (h, tt)
-all_push P (y ∷ xs) x all h = (all.0, all_push P xs x all.1 h)
+      let parts = and_parts _ _ e in (expanded_below n ms t all parts.0, each_expanded_below n ms ts all parts.1)
 
 -- the aliases of all lines
 pub meanings_below : (n : ℕ) (ms : List Meaning) (lines : List AliasLine) → AllByRecursion (MeansBelow n) ms → list_all (λ (l : AliasLine). props_below n l.label) lines ≡ true → AllByRecursion (MeansBelow n) (meanings_after ms lines)
 meanings_below n ms [] all e = all
 meanings_below n ms (line ∷ lines) all e =
-    let parts = both _ _ e in
+    let parts = and_parts _ _ e in
     let new : Meaning = record { name = line.name; label = expanded ms line.label } in
-    meanings_below n (ms ++ new ∷ []) lines (all_push (MeansBelow n) ms new all (expanded_below n ms line.label all parts.0)) parts.1
+    meanings_below n (ms ++ new ∷ []) lines (AllByRecursion-push (MeansBelow n) ms new all (expanded_below n ms line.label all parts.0)) parts.1
 
 -- the label of a letter
 literal_below : (n i k : ℕ) → k < n → AllBelow n (literal i k)
@@ -92,21 +85,13 @@ conjunction_below n [] all = tt
 conjunction_below n (t ∷ []) all = all.0
 conjunction_below n (t ∷ u ∷ ts) all = (all.0, all.1.0, each_below n ts all.1.1)
 
-pub all_weaker : {X : Type 0} (P Q : X → Type 0) (xs : List X) → ((x : X) → P x → Q x) → AllByRecursion P xs → AllByRecursion Q xs
-all_weaker P Q [] weaker all = tt
-all_weaker P Q (x ∷ xs) weaker all = (weaker x all.0, all_weaker P Q xs weaker all.1)
-
-pub all_map : {X Y : Type 0} (P : Y → Type 0) (f : X → Y) (xs : List X) → AllByRecursion (λ x. P (f x)) xs → AllByRecursion P (map f xs)
-all_map P f [] all = tt
-all_map P f (x ∷ xs) all = (all.0, all_map P f xs all.1)
-
 pub numbers_are_below : (n : ℕ) → AllByRecursion (λ k. k < n) (below n)
 numbers_are_below zero = tt
 numbers_are_below (suc n) =
-    all_push (λ k. k < suc n) (below n) n
-    (all_weaker (λ k. k < n) (λ k. k < suc n) (below n) (λ k l. omega (arith, l)) (numbers_are_below n)) (omega arith)
+    AllByRecursion-push (λ k. k < suc n) (below n) n
+    (AllByRecursion-weaker (λ k. k < n) (λ k. k < suc n) (below n) (λ k l. omega (arith, l)) (numbers_are_below n)) (omega arith)
 
 pub letter_below : (n i : ℕ) → AllBelow n (letter_label n i)
 letter_below n i =
-    conjunction_below n (map (literal i) (below n)) (all_map (AllBelow n) (literal i) (below n)
-    (all_weaker (λ k. k < n) (λ k. AllBelow n (literal i k)) (below n) (literal_below n i) (numbers_are_below n)))
+    conjunction_below n (map (literal i) (below n)) (AllByRecursion-map (AllBelow n) (literal i) (below n)
+    (AllByRecursion-weaker (λ k. k < n) (λ k. AllBelow n (literal i k)) (below n) (literal_below n i) (numbers_are_below n)))

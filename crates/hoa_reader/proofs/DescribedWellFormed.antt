@@ -1,46 +1,19 @@
 -- What a valid text describes is well formed.
 use Rattle.std.proofs.Common.{◌≡◌, ◌<◌, ◌+◌, ◌==◌, ℕ, Bool, true, List, [], ◌∷◌, ◌++◌, length, map, filter, nat_lt, get_or, Option, Some, None, All}
-use Rattle.std.proofs.lemmas.Bool.{false≢true, ltb-true}
+use Rattle.std.proofs.lemmas.Bool.{false≢true, ltb-true, and_parts}
 use Rattle.std.specs.Prelude.{filter_map, flat_map, option_to_list}
 use Rattle.std.specs.List.{AllByRecursion, enumerate_from, list_all}
 use Rattle.std.specs.Option.{option_map_or}
-use Rattle.aut_base.specs.Automaton.{Arrow, IsArrowOf, IsWellFormed}
+use Rattle.aut_base.specs.Automaton.{TreeEdge, IsEdgeOf, IsWellFormed}
 use Rattle.aut_base.specs.Label.{AllBelow, LabelTree}
 use Rattle.aut_base.specs.Marks.{is_in}
-use Rattle.hoa_reader.proofs.DescribedLaws.{MeansBelow, all_map, all_weaker, both, expanded_below, letter_below, meanings_below, numbers_are_below, sets_in_range}
-use Rattle.hoa_reader.proofs.DescribedStarts.{all_at, all_filter, all_flat_map, all_of, all_used_below, all_without_repeats, edges_in_order, they_differ}
-use Rattle.hoa_reader.specs.Described.{Meaning, after_all, arrow_of, arrows_from, arrows_of, below, described, edges_of, expanded, meanings_of, only_state, state_count}
+use Rattle.hoa_reader.proofs.DescribedLaws.{MeansBelow, expanded_below, letter_below, meanings_below, numbers_are_below, sets_in_range}
+use Rattle.hoa_reader.proofs.DescribedStarts.{all_used_below, all_without_repeats, edges_in_order, they_differ}
+use Rattle.hoa_reader.specs.Described.{Meaning, after_all, tree_edge_of, tree_edges_from, tree_edges_of, below, described, edges_of, expanded, meanings_of, only_state, state_count}
 use Rattle.hoa_parser.specs.Raw.{RawTree, Written, WrittenEdge, WrittenState}
 use Rattle.hoa_reader.specs.Validity.{IsKept, IsValid, acceptance_of, alias_lines, body_labels, edges_written, is_one_state, names_of, numbers_below, props_below, starts_written, state_labels, states_item, used_states}
 use Rattle.hoa_reader.specs.declared.elaborate.Rule.TheVariants.{V5, V6, V8, V9}
-
-all_from : {X : Type 0} (p : X → Bool) (xs : List X) → list_all p xs ≡ true → AllByRecursion (λ x. p x ≡ true) xs
-all_from p [] e = tt
-all_from p (x ∷ xs) e = let parts = both _ _ e in (parts.0, all_from p xs parts.1)
-
-pub all_left : {X : Type 0} (P : X → Type 0) (xs ys : List X) → AllByRecursion P (xs ++ ys) → AllByRecursion P xs
-all_left P [] ys all = tt
-all_left P (x ∷ xs) ys all = (all.0, all_left P xs ys all.1)
-
-pub all_right : {X : Type 0} (P : X → Type 0) (xs ys : List X) → AllByRecursion P (xs ++ ys) → AllByRecursion P ys
-all_right P [] ys all = all
-all_right P (x ∷ xs) ys all = all_right P xs ys all.1
-
-all_unflat : {X Y : Type 0} (P : Y → Type 0) (f : X → List Y) (xs : List X) → AllByRecursion P (flat_map f xs) → AllByRecursion (λ x. AllByRecursion P (f x)) xs
-all_unflat P f [] all = tt
-all_unflat P f (x ∷ xs) all = (all_left P (f x) (flat_map f xs) all, all_unflat P f xs (all_right P (f x) (flat_map f xs) all))
-
-pub all_unmap : {X Y : Type 0} (P : Y → Type 0) (f : X → Y) (xs : List X) → AllByRecursion P (map f xs) → AllByRecursion (λ x. P (f x)) xs
-all_unmap P f [] all = tt
-all_unmap P f (x ∷ xs) all = (all.0, all_unmap P f xs all.1)
-
-all_both : {X : Type 0} (P Q : X → Type 0) (xs : List X) → AllByRecursion P xs → AllByRecursion Q xs → AllByRecursion (λ x. P x × Q x) xs
-all_both P Q [] a b = tt
-all_both P Q (x ∷ xs) a b = ((a.0, b.0), all_both P Q xs a.1 b.1)
-
-all_enumerated : {X : Type 0} (P : X → Type 0) (i : ℕ) (xs : List X) → AllByRecursion P xs → AllByRecursion (λ (p : ℕ × X). P p.1) (enumerate_from i xs)
-all_enumerated P i [] all = tt
-all_enumerated P i (x ∷ xs) all = (all.0, all_enumerated P (i + 1) xs all.1)
+use Rattle.aut_base.proofs.AllByRecursion.{AllByRecursion-left, AllByRecursion-right, AllByRecursion-both, AllByRecursion-enumerate_from, AllByRecursion-from_flat_map, AllByRecursion-from_map, AllByRecursion-from_list_all, AllByRecursion-map, AllByRecursion-weaker, All-from_AllByRecursion, AllByRecursion-filter, AllByRecursion-flat_map, AllByRecursion-of_each}
 
 -- the numbers of states are below the number of states
 abbrev pub AreBelow : ℕ → List ℕ → Type 0
@@ -48,7 +21,7 @@ AreBelow n = AllByRecursion (λ q. q < n)
 
 pub used_are_below : (used counts : List ℕ) → list_all (λ n. numbers_below n used) counts ≡ true → AreBelow (get_or counts 0 (after_all used)) used
 used_are_below used [] e = all_used_below used
-used_are_below used (n ∷ ns) e = all_weaker (λ q. nat_lt q n ≡ true) (λ q. q < n) used (λ q h. ltb-true q n h) (all_from (λ q. nat_lt q n) used (both _ _ e).0)
+used_are_below used (n ∷ ns) e = AllByRecursion-weaker (λ q. nat_lt q n ≡ true) (λ q. q < n) used (λ q h. ltb-true q n h) (AllByRecursion-from_list_all (λ q. nat_lt q n) used (and_parts _ _ e).0)
 
 one_below : (n : ℕ) (group : List ℕ) → (is_one_state group ≡ true) × AreBelow n group → only_state group < n
 one_below n [] h = absurd (false≢true h.0)
@@ -75,13 +48,13 @@ good_state n k s h =
     let others = flat_map (λ (e : WrittenEdge). option_to_list e.label) s.edges in
     let P : RawTree → Type 0 = λ t. props_below k t ≡ true in (
       h.0,
-      all_left P own others h.1.1,
-      all_both (λ (e : WrittenEdge). only_state e.to < n) (λ (e : WrittenEdge). Labels k (option_to_list e.label)) s.edges h.1.0
-          (all_unflat P (λ (e : WrittenEdge). option_to_list e.label) s.edges (all_right P own others h.1.1)),
+      AllByRecursion-left P own others h.1.1,
+      AllByRecursion-both (λ (e : WrittenEdge). only_state e.to < n) (λ (e : WrittenEdge). Labels k (option_to_list e.label)) s.edges h.1.0
+          (AllByRecursion-from_flat_map P (λ (e : WrittenEdge). option_to_list e.label) s.edges (AllByRecursion-right P own others h.1.1)),
     )
 
-arrow_good : (w : Written) (s : WrittenState) (i : ℕ) (e : WrittenEdge) → AllByRecursion (MeansBelow (length (names_of w))) (meanings_of w) → (s.number < state_count w) → Labels (length (names_of w)) (option_to_list s.label) → IsGoodEdge (state_count w) (length (names_of w)) e → IsArrowOf (described w) (arrow_of w s i e)
-arrow_good w s i e means number labels good =
+tree_edge_good : (w : Written) (s : WrittenState) (i : ℕ) (e : WrittenEdge) → AllByRecursion (MeansBelow (length (names_of w))) (meanings_of w) → (s.number < state_count w) → Labels (length (names_of w)) (option_to_list s.label) → IsGoodEdge (state_count w) (length (names_of w)) e → IsEdgeOf (described w) (tree_edge_of w s i e)
+tree_edge_good w s i e means number labels good =
     let k = length (names_of w) in
     let sets = (acceptance_of w).sets in
     let ours : ℕ → Bool = λ set. is_in set (s.marks ++ e.marks) in
@@ -89,61 +62,61 @@ arrow_good w s i e means number labels good =
       from = number;
       to = good.0;
       label = optional_below k (meanings_of w) s.label _ means labels (optional_below k (meanings_of w) e.label _ means good.1 (letter_below k i));
-      marks = all_at (λ mark. mark < sets) (filter ours (below sets)) (all_filter (λ mark. mark < sets) ours (below sets) (numbers_are_below sets));
+      marks = All-from_AllByRecursion (λ mark. mark < sets) (filter ours (below sets)) (AllByRecursion-filter (λ mark. mark < sets) ours (below sets) (numbers_are_below sets));
     }
 
-arrows_good : (w : Written) → AllByRecursion (MeansBelow (length (names_of w))) (meanings_of w) → (s : WrittenState) → IsGoodState (state_count w) (length (names_of w)) s → AllByRecursion (IsArrowOf (described w)) (arrows_of w s)
-arrows_good w means s good =
+tree_edges_good : (w : Written) → AllByRecursion (MeansBelow (length (names_of w))) (meanings_of w) → (s : WrittenState) → IsGoodState (state_count w) (length (names_of w)) s → AllByRecursion (IsEdgeOf (described w)) (tree_edges_of w s)
+tree_edges_good w means s good =
     let P : WrittenEdge → Type 0 = IsGoodEdge (state_count w) (length (names_of w)) in
-    all_map (IsArrowOf (described w)) (λ (p : ℕ × WrittenEdge). arrow_of w s p.0 p.1) (enumerate_from 0 s.edges)
-    (all_weaker (λ (p : ℕ × WrittenEdge). P p.1) (λ (p : ℕ × WrittenEdge). IsArrowOf (described w) (arrow_of w s p.0 p.1)) (enumerate_from 0 s.edges)
-    (λ p h. arrow_good w s p.0 p.1 means good.0 good.1 h) (all_enumerated P 0 s.edges good.2))
+    AllByRecursion-map (IsEdgeOf (described w)) (λ (p : ℕ × WrittenEdge). tree_edge_of w s p.0 p.1) (enumerate_from 0 s.edges)
+    (AllByRecursion-weaker (λ (p : ℕ × WrittenEdge). P p.1) (λ (p : ℕ × WrittenEdge). IsEdgeOf (described w) (tree_edge_of w s p.0 p.1)) (enumerate_from 0 s.edges)
+    (λ p h. tree_edge_good w s p.0 p.1 means good.0 good.1 h) (AllByRecursion-enumerate_from P 0 s.edges good.2))
 
-edges_good : (w : Written) → AllByRecursion (MeansBelow (length (names_of w))) (meanings_of w) → AllByRecursion (IsGoodState (state_count w) (length (names_of w))) w.states → All (IsArrowOf (described w)) (edges_of w)
+edges_good : (w : Written) → AllByRecursion (MeansBelow (length (names_of w))) (meanings_of w) → AllByRecursion (IsGoodState (state_count w) (length (names_of w))) w.states → All (IsEdgeOf (described w)) (edges_of w)
 edges_good w means good =
     let n = state_count w in
-    let P : Arrow → Type 0 = IsArrowOf (described w) in
-    all_at P (edges_of w) (all_flat_map P (arrows_from w) (below n) (all_of (λ q. AllByRecursion P (arrows_from w q)) (below n)
+    let P : TreeEdge → Type 0 = IsEdgeOf (described w) in
+    All-from_AllByRecursion P (edges_of w) (AllByRecursion-flat_map P (tree_edges_from w) (below n) (AllByRecursion-of_each (λ q. AllByRecursion P (tree_edges_from w q)) (below n)
     (λ q. let ours : WrittenState → Bool = λ s. s.number == q in
-    all_flat_map P (arrows_of w) (filter ours w.states)
-    (all_weaker (IsGoodState n (length (names_of w))) (λ s. AllByRecursion P (arrows_of w s)) (filter ours w.states) (arrows_good w means)
-    (all_filter (IsGoodState n (length (names_of w))) ours w.states good)))))
+    AllByRecursion-flat_map P (tree_edges_of w) (filter ours w.states)
+    (AllByRecursion-weaker (IsGoodState n (length (names_of w))) (λ s. AllByRecursion P (tree_edges_of w s)) (filter ours w.states) (tree_edges_good w means)
+    (AllByRecursion-filter (IsGoodState n (length (names_of w))) ours w.states good)))))
 
 -- the groups of states that are one state each
 groups_below : (n : ℕ) {X : Type 0} (group : X → List ℕ) (xs : List X) → list_all (λ x. is_one_state (group x)) xs ≡ true → AreBelow n (flat_map group xs) → AllByRecursion (λ x. only_state (group x) < n) xs
 groups_below n group xs ones used =
     let P : ℕ → Type 0 = λ q. q < n in
-    all_weaker (λ x. (is_one_state (group x) ≡ true) × AreBelow n (group x)) (λ x. only_state (group x) < n) xs (λ x h. one_below n (group x) h)
-    (all_both (λ x. is_one_state (group x) ≡ true) (λ x. AreBelow n (group x)) xs (all_from (λ x. is_one_state (group x)) xs ones) (all_unflat P group xs used))
+    AllByRecursion-weaker (λ x. (is_one_state (group x) ≡ true) × AreBelow n (group x)) (λ x. only_state (group x) < n) xs (λ x h. one_below n (group x) h)
+    (AllByRecursion-both (λ x. is_one_state (group x) ≡ true) (λ x. AreBelow n (group x)) xs (AllByRecursion-from_list_all (λ x. is_one_state (group x)) xs ones) (AllByRecursion-from_flat_map P group xs used))
 
 pub well_formed : (w : Written) → IsKept V5 w → IsKept V6 w → IsKept V8 w → IsKept V9 w → IsWellFormed (described w)
 well_formed w one states props sets =
     let n = state_count w in
     let k = length (names_of w) in
     let P : ℕ → Type 0 = λ q. q < n in
-    let singles = both _ _ one in
-    let labels = both _ _ props in
+    let singles = and_parts _ _ one in
+    let labels = and_parts _ _ props in
     let numbers = map (λ (s : WrittenState). s.number) w.states in
     let goals = flat_map (λ (e : WrittenEdge). e.to) (edges_written w) in
     let used : AreBelow n (used_states w) = used_are_below (used_states w) (filter_map states_item w.items) states in
-    let starts = all_left P (flat_map (λ (q : List ℕ). q) (starts_written w)) (numbers ++ goals) used in
-    let others = all_right P (flat_map (λ (q : List ℕ). q) (starts_written w)) (numbers ++ goals) used in
-    let to = groups_below n (λ (e : WrittenEdge). e.to) (edges_written w) singles.1 (all_right P numbers goals others) in
+    let starts = AllByRecursion-left P (flat_map (λ (q : List ℕ). q) (starts_written w)) (numbers ++ goals) used in
+    let others = AllByRecursion-right P (flat_map (λ (q : List ℕ). q) (starts_written w)) (numbers ++ goals) used in
+    let to = groups_below n (λ (e : WrittenEdge). e.to) (edges_written w) singles.1 (AllByRecursion-right P numbers goals others) in
     let means = meanings_below k [] (alias_lines w) tt labels.0 in
     let G : WrittenState → Type 0 = λ s. (s.number < n) × (AllByRecursion (λ (e : WrittenEdge). only_state e.to < n) s.edges × Labels k (state_labels s)) in
     let facts : AllByRecursion G w.states =
-    all_both (λ (s : WrittenState). s.number < n) (λ (s : WrittenState). AllByRecursion (λ (e : WrittenEdge). only_state e.to < n) s.edges × Labels k (state_labels s)) w.states
-    (all_unmap P (λ (s : WrittenState). s.number) w.states (all_left P numbers goals others))
-    (all_both (λ (s : WrittenState). AllByRecursion (λ (e : WrittenEdge). only_state e.to < n) s.edges) (λ (s : WrittenState). Labels k (state_labels s)) w.states
-    (all_unflat (λ (e : WrittenEdge). only_state e.to < n) (λ (s : WrittenState). s.edges) w.states to)
-    (all_unflat (λ t. props_below k t ≡ true) state_labels w.states (all_from (props_below k) (body_labels w) labels.1))) in
+    AllByRecursion-both (λ (s : WrittenState). s.number < n) (λ (s : WrittenState). AllByRecursion (λ (e : WrittenEdge). only_state e.to < n) s.edges × Labels k (state_labels s)) w.states
+    (AllByRecursion-from_map P (λ (s : WrittenState). s.number) w.states (AllByRecursion-left P numbers goals others))
+    (AllByRecursion-both (λ (s : WrittenState). AllByRecursion (λ (e : WrittenEdge). only_state e.to < n) s.edges) (λ (s : WrittenState). Labels k (state_labels s)) w.states
+    (AllByRecursion-from_flat_map (λ (e : WrittenEdge). only_state e.to < n) (λ (s : WrittenState). s.edges) w.states to)
+    (AllByRecursion-from_flat_map (λ t. props_below k t ≡ true) state_labels w.states (AllByRecursion-from_list_all (props_below k) (body_labels w) labels.1))) in
     let heads = map only_state (starts_written w) in
     record {
       starts_differ = they_differ heads;
-      starts = all_at P _ (all_without_repeats P heads (all_map P only_state (starts_written w) (groups_below n (λ (q : List ℕ). q) (starts_written w) singles.0 starts)));
+      starts = All-from_AllByRecursion P _ (all_without_repeats P heads (AllByRecursion-map P only_state (starts_written w) (groups_below n (λ (q : List ℕ). q) (starts_written w) singles.0 starts)));
       in_order = edges_in_order w;
-      edges = edges_good w means (all_weaker G (IsGoodState n k) w.states (good_state n k) facts);
-      formula = sets_in_range (acceptance_of w).sets (acceptance_of w).formula (both _ _ sets).0;
+      edges = edges_good w means (AllByRecursion-weaker G (IsGoodState n k) w.states (good_state n k) facts);
+      formula = sets_in_range (acceptance_of w).sets (acceptance_of w).formula (and_parts _ _ sets).0;
     }
 
 pub valid_is_well_formed : (w : Written) → IsValid w → IsWellFormed (described w)

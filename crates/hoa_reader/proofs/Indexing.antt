@@ -8,13 +8,14 @@ use Rattle.std.proofs.lemmas.List.Elements.{filter-append}
 use Rattle.std.proofs.lemmas.Option.{none-some, same_Some}
 use Rattle.std.specs.Prelude.{flat_map}
 use Rattle.std.specs.List.{list_any}
-use Rattle.aut_base.specs.Automaton.{Arrow}
-use Rattle.hoa_reader.specs.Arrows.{IsDefinedAt, IsPlace, arrows_for, edges_for, states_at}
+use Rattle.aut_base.specs.Automaton.{TreeEdge}
+use Rattle.hoa_reader.specs.TreeEdges.{IsDefinedAt, IsPlace, tree_edges_for, edges_for, states_at}
 use Rattle.hoa_reader.specs.Described.{below}
 use Rattle.hoa_reader.specs.Pieces.{numbers}
 use Rattle.hoa_parser.specs.Raw.{WrittenState, written_state}
 use Rattle.hoa_reader.specs.declared.elaborate.edges.Shared.{Shared}
 use Rattle.hoa_parser.specs.declared.raw.RawState.{RawState}
+use Rattle.aut_base.proofs.Lists.{slice_get-push_left, slice_get-push_last}
 
 none_if : (b a : Bool) (x : WrittenState) (ys : List WrittenState) → (b || a) ≡ false → (a ≡ false → ys ≡ []) → cond b (x ∷ ys) ys ≡ []
 none_if true a x ys e h = absurd (false≢true (sym e))
@@ -24,17 +25,6 @@ none_at : (ws : List WrittenState) (q : ℕ) → list_any (λ x. x == q) (number
 none_at [] q e = refl
 none_at (w ∷ ws) q e = none_if (w.number == q) (list_any (λ x. x == q) (numbers ws)) w (states_at ws q) e (none_at ws q)
 
-pub got_left : {X : Type 0} (xs : List X) (y : X) (i : ℕ) (x : X) → slice_get xs i ≡ Some x → slice_get (xs ++ y ∷ []) i ≡ Some x
-got_left [] y i x is = absurd (none-some x is)
-got_left (z ∷ xs) y zero x is = is
-got_left (z ∷ xs) y (suc i) x is = got_left xs y i x is
-
-got_last : {X : Type 0} (xs : List X) (y : X) (i : ℕ) → length xs ≡ i → slice_get (xs ++ y ∷ []) i ≡ Some y
-got_last [] y zero e = refl
-got_last [] y (suc i) e = absurd (omega (arith, e))
-got_last (x ∷ xs) y zero e = absurd (omega (arith, e))
-got_last (x ∷ xs) y (suc i) e = got_last xs y i (omega (arith, e))
-
 states_at-push : (ws : List WrittenState) (w : WrittenState) (q : ℕ) → states_at (ws ++ w ∷ []) q ≡ states_at ws q ++ cond (w.number == q) (w ∷ []) []
 states_at-push ws w q = filter-append (λ (s : WrittenState). s.number == q) ws (w ∷ [])
 
@@ -42,7 +32,7 @@ kept_at : (ws : List WrittenState) (w : WrittenState) (q : ℕ) (o : Option ℕ)
 kept_at ws w q None e h = states_at-push ws w q ∙ ap (λ (t : Bool). states_at ws q ++ cond t (w ∷ []) []) e ∙ append-nil (states_at ws q) ∙ h
 kept_at ws w q (Some p) e h = record {
   state = h.state;
-  there = got_left ws w p h.state h.there;
+  there = slice_get-push_left ws w p h.state h.there;
   alone = states_at-push ws w q ∙ ap (λ (t : Bool). states_at ws q ++ cond t (w ∷ []) []) e ∙ append-nil (states_at ws q) ∙ h.alone;
 }
 
@@ -54,7 +44,7 @@ at_one ws w index i q true e l long away h =
     let gone : list_any (λ x. x == q) (numbers ws) ≡ false = ap (λ n. list_any (λ x. x == n) (numbers ws)) (sym same) ∙ away in
     let new : IsDefinedAt (ws ++ w ∷ []) q i = record {
       state = w;
-      there = got_last ws w i long;
+      there = slice_get-push_last ws w i long;
       alone = states_at-push ws w q ∙ ap (λ (t : Bool). states_at ws q ++ cond t (w ∷ []) []) e ∙ ap (λ (xs : List WrittenState). xs ++ w ∷ []) (none_at ws q gone);
     } in
     subst P (sym here) new
@@ -71,10 +61,10 @@ pub below_more : (n : ℕ) → below (n + 1) ≡ below n ++ n ∷ []
 below_more n = let next : n + 1 ≡ suc n = omega arith in ap below next
 
 -- the edges of one more state
-pub edges_more : (x : Shared) (ws : List WrittenState) (n : ℕ) → edges_for x ws (n + 1) ≡ edges_for x ws n ++ flat_map (arrows_for x) (states_at ws n)
+pub edges_more : (x : Shared) (ws : List WrittenState) (n : ℕ) → edges_for x ws (n + 1) ≡ edges_for x ws n ++ flat_map (tree_edges_for x) (states_at ws n)
 edges_more x ws n =
-    let F : ℕ → List Arrow = λ q. flat_map (arrows_for x) (states_at ws q) in
-    ap (flat_map F) (below_more n) ∙ flat_map-append F (below n) (n ∷ []) ∙ ap (λ (es : List Arrow). edges_for x ws n ++ es) (append-nil (F n))
+    let F : ℕ → List TreeEdge = λ q. flat_map (tree_edges_for x) (states_at ws q) in
+    ap (flat_map F) (below_more n) ∙ flat_map-append F (below n) (n ∷ []) ∙ ap (λ (es : List TreeEdge). edges_for x ws n ++ es) (append-nil (F n))
 
 pub got_map : (states : List RawState) (i : ℕ) (s : WrittenState) (d : RawState) → slice_get (map written_state states) i ≡ Some s → written_state (get_or states i d) ≡ s
 got_map [] i s d is = absurd (none-some s is)

@@ -1,6 +1,6 @@
 -- What aliases stand for, as one more is defined.
 use Rattle.std.proofs.Common.{◌≡◌, ◌<◌, ◌≤◌, ◌-◌, ◌^◌, ℕ, zero, suc, Bool, true, false, cond, ◌&&◌, ◌||◌, List, [], ◌∷◌, ◌++◌, map, length, get_or, slice_get, find, Option, Some, None, is_some, refl, sym, ap, ◌∙◌, subst, arith}
-use Rattle.std.proofs.lemmas.Bool.{false≢true}
+use Rattle.std.proofs.lemmas.Bool.{false≢true, or_left, and_parts}
 use Rattle.std.proofs.lemmas.Bool.Decides.{Decides-eqb}
 use Rattle.std.proofs.lemmas.Slice.Eq.{slice_eq-Decides}
 use Rattle.std.specs.Bool.{Decides}
@@ -11,7 +11,6 @@ use Rattle.std.specs.Map.{update}
 use Rattle.std.specs.Option.{option_map_or}
 use Rattle.aut_base.specs.Label as label
 use Rattle.aut_base.specs.Label.{LabelTree, LabelTrees, label_size, labels_size}
-use Rattle.hoa_reader.proofs.DescribedLaws.{both}
 use Rattle.hoa_reader.specs.Counts.{greatest_height, height}
 use Rattle.hoa_reader.specs.Described.{Meaning, each_expanded, expanded, meaning_of, meanings_after}
 use Rattle.hoa_reader.specs.Growing.{AreKnown, IsKnownAs, IsKnownBy, alias_name, cap, capped_height, capped_heights, capped_size, capped_sizes, known_height, known_size, meaning_names, meanings_by}
@@ -80,22 +79,22 @@ mutual
   expanded_push ms m (raw.Alias name) e = meaning_push_old ms m name e
   expanded_push ms m (raw.Not t) e = ap label.Not (expanded_push ms m t e)
   expanded_push ms m (raw.And a b cs) e =
-      let first = both _ _ e in let second = both _ _ first.1 in
+      let first = and_parts _ _ e in let second = and_parts _ _ first.1 in
       let p = expanded_push ms m a first.0 in let q = expanded_push ms m b second.0 in let r = each_expanded_push ms m cs second.1 in
       ap (λ x. label.And x (expanded (ms ++ m ∷ []) b) (each_expanded (ms ++ m ∷ []) cs)) p ∙ ap (λ x. label.And (expanded ms a) x (each_expanded (ms ++ m ∷ []) cs)) q ∙ ap (λ x. label.And (expanded ms a) (expanded ms b) x) r
   expanded_push ms m (raw.Or a b cs) e =
-      let first = both _ _ e in let second = both _ _ first.1 in
+      let first = and_parts _ _ e in let second = and_parts _ _ first.1 in
       let p = expanded_push ms m a first.0 in let q = expanded_push ms m b second.0 in let r = each_expanded_push ms m cs second.1 in
       ap (λ x. label.Or x (expanded (ms ++ m ∷ []) b) (each_expanded (ms ++ m ∷ []) cs)) p ∙ ap (λ x. label.Or (expanded ms a) x (each_expanded (ms ++ m ∷ []) cs)) q ∙ ap (λ x. label.Or (expanded ms a) (expanded ms b) x) r
 
   each_expanded_push : (ms : List Meaning) (m : Meaning) (ts : RawTrees) → all_leaves_pass (λ i. true) (is_listed (meaning_names ms)) ts ≡ true → each_expanded (ms ++ m ∷ []) ts ≡ each_expanded ms ts
   each_expanded_push ms m raw.none e = refl
   each_expanded_push ms m (raw.more t ts) e =
-      let parts = both _ _ e in
+      let parts = and_parts _ _ e in
       ap (λ x. LabelTrees.more x (each_expanded (ms ++ m ∷ []) ts)) (expanded_push ms m t parts.0) ∙ ap (LabelTrees.more (expanded ms t)) (each_expanded_push ms m ts parts.1)
 
 together : (x y z w : Bool) → (x ≡ true → z ≡ true) → (y ≡ true → w ≡ true) → (x && y) ≡ true → (z && w) ≡ true
-together x y z w p q e = let parts = both x y e in ap (λ b. b && w) (p parts.0) ∙ q parts.1
+together x y z w p q e = let parts = and_parts x y e in ap (λ b. b && w) (p parts.0) ∙ q parts.1
 
 -- what passes a test passes a weaker one
 mutual
@@ -112,10 +111,6 @@ mutual
   all_leaves_weaker f g h raw.none e = refl
   all_leaves_weaker f g h (raw.more t ts) e = together _ _ _ _ (leaves_weaker f g h t) (all_leaves_weaker f g h ts) e
 
-left_or : (a b : Bool) → a ≡ true → (a || b) ≡ true
-left_or true b e = refl
-left_or false b e = absurd (false≢true e)
-
 known_more : (ms : List Meaning) (m : Meaning) (defs : List AliasDef) (meaning : LabelTree) (k : Known) → IsKnownAs ms defs meaning k → IsKnownAs (ms ++ m ∷ []) defs meaning k
 known_more ms m defs meaning k h = record {
   def = h.def;
@@ -123,7 +118,7 @@ known_more ms m defs meaning k h = record {
   same = h.same ∙ sym (expanded_push ms m (raw_tree h.def.label.now) h.among);
   plain = h.plain;
   among =
-      leaves_weaker (is_listed (meaning_names ms)) (is_listed (meaning_names (ms ++ m ∷ []))) (λ q e. listed_push ms m q ∙ left_or (is_listed (meaning_names ms) q) (same_text m.name q || false) e)
+      leaves_weaker (is_listed (meaning_names ms)) (is_listed (meaning_names (ms ++ m ∷ []))) (λ q e. listed_push ms m q ∙ or_left (is_listed (meaning_names ms) q) (same_text m.name q || false) e)
       (raw_tree h.def.label.now) h.among;
   height = h.height;
   size = h.size;
@@ -138,7 +133,7 @@ kept_known ms m defs q None s h = listed_push ms m q ∙ ap (λ b. b || (same_te
 kept_known ms m defs q (Some k) s h =
     let M : LabelTree → Type 0 = λ t. IsKnownAs (ms ++ m ∷ []) defs t k in
     record {
-      listed = listed_push ms m q ∙ left_or (is_listed (meaning_names ms) q) (same_text m.name q || false) h.listed;
+      listed = listed_push ms m q ∙ or_left (is_listed (meaning_names ms) q) (same_text m.name q || false) h.listed;
       known = subst M (sym (meaning_push_old ms m q h.listed)) (known_more ms m defs (meaning_of ms q) k h.known);
     }
 
@@ -222,11 +217,6 @@ is_that_alias (raw.Not t) name e = cc
 is_that_alias (raw.And a b cs) name e = cc
 is_that_alias (raw.Or a b cs) name e = cc
 
-pub got : {X : Type 0} (xs : List X) (i : ℕ) (x : X) → i < length xs → x ≡ get_or xs i x → slice_get xs i ≡ Some x
-got [] i x l is = absurd (omega (arith, l))
-got (y ∷ ys) zero x l is = ap Some (sym is)
-got (y ∷ ys) (suc i) x l is = got ys i x (omega (arith, l)) is
-
 pub sizes_fit : (g : List ℕ → ℕ) (ts : RawTrees) → capped_sizes g ts ≤ 2 ^ 64 - 1
 sizes_fit g raw.none = omega arith
 sizes_fit g (raw.more t ts) = omega arith
@@ -234,8 +224,3 @@ sizes_fit g (raw.more t ts) = omega arith
 -- the aliases before a place, where all are defined well
 pub names_by : (defs : List AliasDef) → meaning_names (meanings_by defs) ≡ line_names (map alias_def defs)
 names_by defs = names_after [] (map alias_def defs)
-
-pub at_or : {X : Type 0} (xs : List X) (i : ℕ) (x d : X) → slice_get xs i ≡ Some x → get_or xs i d ≡ x
-at_or [] i x d is = absurd (none-some x is)
-at_or (y ∷ ys) zero x d is = same_Some y x is
-at_or (y ∷ ys) (suc i) x d is = at_or ys i x d is

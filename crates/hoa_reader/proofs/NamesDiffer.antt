@@ -1,21 +1,16 @@
 -- The names of a valid automaton differ.
 use Rattle.std.proofs.Common.{◌≡◌, ◌≢◌, ℕ, Bool, true, false, not, ◌||◌, List, [], ◌∷◌, get_or, AllPairs, refl, sym, ap, ◌∙◌, arith}
-use Rattle.std.proofs.lemmas.Bool.{false≢true}
+use Rattle.std.proofs.lemmas.Bool.{false≢true, and_parts}
 use Rattle.std.proofs.lemmas.List.Kept.{AllPairs-cons}
 use Rattle.std.specs.Prelude.{filter_map}
 use Rattle.std.specs.List.{AllByRecursion, list_all, list_any}
-use Rattle.hoa_reader.proofs.DescribedLaws.{both}
-use Rattle.hoa_reader.proofs.DescribedStarts.{all_at}
 use Rattle.hoa_reader.proofs.Meanings.{same_texts}
 use Rattle.hoa_parser.specs.Raw as raw
 use Rattle.hoa_parser.specs.Raw.{WrittenItem}
 use Rattle.aut_base.specs.Text.{same_text}
 use Rattle.hoa_reader.specs.Validity.{all_differ, names_agree, names_item}
-
-neither : (a b : Bool) → not (a || b) ≡ true → (a ≡ false) × (b ≡ false)
-neither true b e = absurd (false≢true e)
-neither false true e = absurd (false≢true e)
-neither false false e = (refl, refl)
+use Rattle.aut_base.proofs.Truth.{neither}
+use Rattle.aut_base.proofs.AllByRecursion.{All-from_AllByRecursion}
 
 others_differ : (x : List ℕ) (xs : List (List ℕ)) → not (list_any (same_text x) xs) ≡ true → AllByRecursion (λ y. x ≢ y) xs
 others_differ x [] e = tt
@@ -26,12 +21,12 @@ others_differ x (y ∷ ys) e =
 pub pairs_differ : (xs : List (List ℕ)) → all_differ same_text xs ≡ true → AllPairs (λ a b. a ≢ b) xs
 pairs_differ [] e = λ i j d l m. absurd (omega (arith, m))
 pairs_differ (x ∷ xs) e =
-    let parts = both _ _ e in
-    AllPairs-cons (λ a b. a ≢ b) x xs (all_at (λ y. x ≢ y) xs (others_differ x xs parts.0)) (pairs_differ xs parts.1)
+    let parts = and_parts _ _ e in
+    AllPairs-cons (λ a b. a ≢ b) x xs (All-from_AllByRecursion (λ y. x ≢ y) xs (others_differ x xs parts.0)) (pairs_differ xs parts.1)
 
 pub names_differ : (items : List WrittenItem) → list_all names_agree items ≡ true → all_differ same_text (get_or (filter_map names_item items) 0 []) ≡ true
 names_differ [] e = refl
-names_differ (raw.Ap count names ∷ items) e = (both _ _ (both _ _ e).0).1
+names_differ (raw.Ap count names ∷ items) e = (and_parts _ _ (and_parts _ _ e).0).1
 names_differ (raw.States n ∷ items) e = names_differ items e
 names_differ (raw.Start states ∷ items) e = names_differ items e
 names_differ (raw.AliasOf name label ∷ items) e = names_differ items e

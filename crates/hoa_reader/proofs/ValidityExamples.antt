@@ -1,6 +1,6 @@
 -- What the rules, the described automaton and its counts come to on small automata, worked out by hand.
 use Rattle.std.proofs.Common.{◌≡◌, ℕ, true, false, List, [], ◌∷◌, Option, Some, None, codes, not, filter, map, replicate, refl}
-use Rattle.aut_base.specs.Automaton.{Arrow}
+use Rattle.aut_base.specs.Automaton.{TreeEdge}
 use Rattle.aut_base.specs.Formula as formula
 use Rattle.aut_base.specs.Label as label
 use Rattle.aut_base.specs.Label.{LabelTree}
@@ -166,8 +166,8 @@ two_states = record {
 abbrev either_holds : LabelTree
 either_holds = label.Or (label.Prop 0) (label.Prop 1) label.none
 
-abbrev arrow : ℕ → LabelTree → ℕ → List ℕ → Arrow
-arrow from guard to marks = record { from = from; label = guard; to = to; marks = marks }
+abbrev tree_edge : ℕ → LabelTree → ℕ → List ℕ → TreeEdge
+tree_edge from guard to marks = record { from = from; label = guard; to = to; marks = marks }
 
 two_states_valid : IsValid two_states
 two_states_valid = (refl, (refl, (refl, (refl, (refl, (refl, (refl, (refl, (refl, (refl, (refl, (refl, tt))))))))))))
@@ -176,7 +176,7 @@ two_states_described : described two_states ≡ record {
   names = codes "a" ∷ codes "b" ∷ [];
   starts = 1 ∷ 0 ∷ [];
   states = 2;
-  edges = arrow 0 (label.Not either_holds) 1 (0 ∷ []) ∷ arrow 1 either_holds 0 (0 ∷ 1 ∷ []) ∷ arrow 1 either_holds 1 (1 ∷ []) ∷ [];
+  edges = tree_edge 0 (label.Not either_holds) 1 (0 ∷ []) ∷ tree_edge 1 either_holds 0 (0 ∷ 1 ∷ []) ∷ tree_edge 1 either_holds 1 (1 ∷ []) ∷ [];
   sets = 2;
   formula = formula.And (formula.Inf 0 false) (formula.Fin 1 false) formula.none;
 }
@@ -194,10 +194,10 @@ abbrev both : LabelTree → LabelTree → LabelTree
 both s t = label.And s t label.none
 
 letters_in_order : (described goals_of_letters).edges ≡
-    arrow 3 (both (label.Not (label.Prop 0)) (label.Not (label.Prop 1))) 0 []
-    ∷ arrow 3 (both (label.Prop 0) (label.Not (label.Prop 1))) 1 []
-    ∷ arrow 3 (both (label.Not (label.Prop 0)) (label.Prop 1)) 2 []
-    ∷ arrow 3 (both (label.Prop 0) (label.Prop 1)) 3 [] ∷ []
+    tree_edge 3 (both (label.Not (label.Prop 0)) (label.Not (label.Prop 1))) 0 []
+    ∷ tree_edge 3 (both (label.Prop 0) (label.Not (label.Prop 1))) 1 []
+    ∷ tree_edge 3 (both (label.Not (label.Prop 0)) (label.Prop 1)) 2 []
+    ∷ tree_edge 3 (both (label.Prop 0) (label.Prop 1)) 3 [] ∷ []
 letters_in_order = refl
 
 letter_of_three : letter_label 3 5 ≡ label.And (label.Prop 0) (label.Not (label.Prop 1)) (label.more (label.Prop 2) label.none)
@@ -210,7 +210,7 @@ letter_of_none : letter_label 0 0 ≡ label.True
 letter_of_none = refl
 
 -- one edge without label, where there are no names
-always : (described (text [] (state 0 (edge None 0 [] ∷ []) ∷ []))).edges ≡ arrow 0 label.True 0 [] ∷ []
+always : (described (text [] (state 0 (edge None 0 [] ∷ []) ∷ []))).edges ≡ tree_edge 0 label.True 0 [] ∷ []
 always = refl
 
 -- Aliases that stand for other aliases are replaced all the way.
@@ -228,7 +228,7 @@ chained_valid : IsValid chained
 chained_valid = (refl, (refl, (refl, (refl, (refl, (refl, (refl, (refl, (refl, (refl, (refl, (refl, tt))))))))))))
 
 chain_replaced : (described chained).edges ≡
-    arrow 0 (label.Or both_hold label.False (label.more (label.Not both_hold) label.none)) 0 [] ∷ arrow 0 (label.Prop 1) 0 [] ∷ []
+    tree_edge 0 (label.Or both_hold label.False (label.more (label.Not both_hold) label.none)) 0 [] ∷ tree_edge 0 (label.Prop 1) 0 [] ∷ []
 chain_replaced = refl
 
 -- The label of `@z` is an Or of an And, `f` and a Not of that And: 1 + 3 + 1 + (1 + 3) signs, four of them one inside the other.

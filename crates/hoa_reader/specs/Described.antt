@@ -2,7 +2,7 @@
 use Rattle.std.specs.Prelude.{◌/◌, ◌%◌, ◌^◌, ◌+◌, max, ℕ, zero, suc, not, ◌==◌, if◌then◌else◌, List, [], ◌∷◌, ◌++◌, length, map, filter, filter_map, find, flat_map, get_or}
 use Rattle.std.specs.List.{enumerate_from}
 use Rattle.std.specs.Option.{option_map_or}
-use Rattle.aut_base.specs.Automaton.{Arrow, Automaton}
+use Rattle.aut_base.specs.Automaton.{TreeEdge, Automaton}
 use Rattle.aut_base.specs.Label.{LabelTree, LabelTrees, trees}
 use Rattle.aut_base.specs.Marks.{is_in}
 use Rattle.hoa_parser.specs.Raw as raw
@@ -92,23 +92,23 @@ abbrev pub marks_in_order : ℕ → List ℕ → List ℕ
 marks_in_order sets marks = filter (λ set. is_in set marks) (below sets)
 
 -- The i-th edge of a state. It is in the state's sets and in its own.
-abbrev pub arrow_of : Written → WrittenState → ℕ → WrittenEdge → Arrow
-arrow_of w s i e = record {
+abbrev pub tree_edge_of : Written → WrittenState → ℕ → WrittenEdge → TreeEdge
+tree_edge_of w s i e = record {
   from = s.number;
   label = label_of w s i e;
   to = only_state e.to;
   marks = marks_in_order (acceptance_of w).sets (s.marks ++ e.marks);
 }
 
-abbrev pub arrows_of : Written → WrittenState → List Arrow
-arrows_of w s = map (λ p. arrow_of w s p.0 p.1) (enumerate_from 0 s.edges)
+abbrev pub tree_edges_of : Written → WrittenState → List TreeEdge
+tree_edges_of w s = map (λ p. tree_edge_of w s p.0 p.1) (enumerate_from 0 s.edges)
 
 -- the edges of a state; it has none where the body doesn't define it
-abbrev pub arrows_from : Written → ℕ → List Arrow
-arrows_from w q = flat_map (arrows_of w) (filter (λ s. s.number == q) w.states)
+abbrev pub tree_edges_from : Written → ℕ → List TreeEdge
+tree_edges_from w q = flat_map (tree_edges_of w) (filter (λ s. s.number == q) w.states)
 
-abbrev pub edges_of : Written → List Arrow
-edges_of w = flat_map (arrows_from w) (below (state_count w))
+abbrev pub edges_of : Written → List TreeEdge
+edges_of w = flat_map (tree_edges_from w) (below (state_count w))
 
 abbrev pub described : Written → Automaton
 described w = record {

@@ -1,4 +1,4 @@
-pub mod Arrows
+pub mod TreeEdges
 pub mod Counts
 pub mod Described
 pub mod Elaborating

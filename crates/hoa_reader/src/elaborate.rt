@@ -22,6 +22,8 @@ mod marks;
 mod parts;
 mod places;
 mod rules;
+mod sizes;
+mod starts;
 mod used;
 
 use hoa_parser::Raw;
@@ -29,9 +31,10 @@ use aliases::{Known, known_aliases};
 use aut_base::{Description, Formula, Limit, Memory};
 use broken::first_broken;
 use edges::{Shared, edges_of};
-use limits::{first_passed, set_count, state_count};
+use limits::first_passed;
 use parts::{Parts, parts_of};
 use places::Places;
+use sizes::{set_count, state_count};
 use std::alloc::Global;
 
 /// The rules that an automaton has to keep, in the order in which they are examined.
@@ -106,8 +109,8 @@ fn description<'a>(
 {
     let sets = set_count(raw, &parts);
     let states = state_count(raw, &parts) as u32;
-    let names = marks::names_of(alloc, parts.names)?;
-    let starts = marks::starts_of(alloc, &parts.starts)?;
+    let names = starts::names_of(alloc, parts.names)?;
+    let starts = starts::starts_of(alloc, &parts.starts)?;
     let formula = condition(alloc, raw, &parts)?;
     let shared = Shared {
         names: parts.names.len() as u32,

@@ -2,16 +2,15 @@
 use Rattle.std.proofs.Common.{slice_get, ◌≡◌, ◌==◌, ◌<◌, ◌≤◌, ◌+◌, ℕ, Bool, true, false, cond, ◌&&◌, List, [], ◌∷◌, ◌++◌, length, map, filter, get_or, refl, ap, ◌∙◌, arith, Option, Some, None}
 use Rattle.std.specs.Prelude.{codes, filter_map}
 use Rattle.std.specs.List.{AllByRecursion, cons_option, fold, list_all, range_with_len}
-use Rattle.aut_base.specs.Automaton.{Arrow, Automaton}
+use Rattle.aut_base.specs.Automaton.{TreeEdge, Automaton}
 use Rattle.aut_base.specs.Formula.{FormulaTree}
-use Rattle.hoa_reader.proofs.DescribedLaws.{all_map, all_weaker}
-use Rattle.hoa_reader.proofs.DescribedStarts.{all_filter, all_flat_map}
 use Rattle.hoa_parser.specs.Naming.{name_item, name_of}
 use Rattle.hoa_parser.specs.Raw as raw
 use Rattle.hoa_parser.specs.Raw.{Written, WrittenEdge, WrittenItem, WrittenState}
 use Rattle.hoa_reader.specs.Validity.{acceptance_item, acceptance_of, alias_item, alias_lines, edges_written, names_item, names_of, start_item, starts_written, states_item}
 use Rattle.hoa_writer.proofs.InOrder.{range_within}
 use Rattle.hoa_writer.specs.CanonicalWritten.{canonical_edge, canonical_items, canonical_state, canonical_written}
+use Rattle.aut_base.proofs.AllByRecursion.{AllByRecursion-map, AllByRecursion-weaker, AllByRecursion-filter, AllByRecursion-flat_map}
 
 abbrev pub starting : List ℕ → List WrittenItem
 starting = map (λ s. raw.Start (s ∷ []))
@@ -75,15 +74,15 @@ no_starts_counted p n (s ∷ ss) rest h =
 -- a state of the body, and an edge
 pub each_state : (a : Automaton) (name : Option (List ℕ)) (P : WrittenState → Type 0) → ((q : ℕ) → q < a.states → P (canonical_state a q)) → AllByRecursion P (canonical_written a name).states
 each_state a name P h =
-    all_map P (canonical_state a) (range_with_len 0 a.states)
-    (all_weaker (λ x. (0 ≤ x) × (x < 0 + a.states)) (λ q. P (canonical_state a q)) (range_with_len 0 a.states) (λ q l. h q (omega (arith, l))) (range_within 0 a.states))
+    AllByRecursion-map P (canonical_state a) (range_with_len 0 a.states)
+    (AllByRecursion-weaker (λ x. (0 ≤ x) × (x < 0 + a.states)) (λ q. P (canonical_state a q)) (range_with_len 0 a.states) (λ q l. h q (omega (arith, l))) (range_within 0 a.states))
 
 pub edges_at : (a : Automaton) (q : ℕ) (P : WrittenEdge → Type 0) → AllByRecursion (λ e. P (canonical_edge (length a.names) e)) a.edges → AllByRecursion P (canonical_state a q).edges
 edges_at a q P all =
-    let ours : Arrow → Bool = λ e. e.from == q in
-    all_map P (canonical_edge (length a.names)) (filter ours a.edges) (all_filter (λ e. P (canonical_edge (length a.names) e)) ours a.edges all)
+    let ours : TreeEdge → Bool = λ e. e.from == q in
+    AllByRecursion-map P (canonical_edge (length a.names)) (filter ours a.edges) (AllByRecursion-filter (λ e. P (canonical_edge (length a.names) e)) ours a.edges all)
 
 pub each_edge : (a : Automaton) (name : Option (List ℕ)) (P : WrittenEdge → Type 0) → AllByRecursion (λ e. P (canonical_edge (length a.names) e)) a.edges → AllByRecursion P (edges_written (canonical_written a name))
 each_edge a name P all =
-    all_flat_map P (λ (s : WrittenState). s.edges) (canonical_written a name).states
+    AllByRecursion-flat_map P (λ (s : WrittenState). s.edges) (canonical_written a name).states
     (each_state a name (λ s. AllByRecursion P s.edges) (λ q l. edges_at a q P all))

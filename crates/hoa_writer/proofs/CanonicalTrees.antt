@@ -6,12 +6,11 @@ use Rattle.aut_base.specs.Formula as formula
 use Rattle.aut_base.specs.Formula.{EachSetsBelow, FormulaTree, FormulaTrees, SetsBelow}
 use Rattle.aut_base.specs.Label as label
 use Rattle.aut_base.specs.Label.{AllBelow, EachBelow, LabelTree, LabelTrees, trees}
-use Rattle.hoa_reader.proofs.DescribedLaws.{all_map, all_weaker}
-use Rattle.hoa_reader.proofs.DescribedStarts.{all_append}
 use Rattle.hoa_reader.specs.Described.{Meaning, each_expanded, expanded}
 use Rattle.hoa_reader.specs.Validity.{aliases_among, all_leaves_pass, all_sets_below, leaves_pass, props_below, sets_below}
 use Rattle.hoa_writer.specs.CanonicalLabel.{Literal, cubes, is_independent, truth_on}
 use Rattle.hoa_writer.specs.CanonicalWritten.{all_of, canonical_label, cubes_tree, literal_tree, one_of, written_label, written_labels}
+use Rattle.aut_base.proofs.AllByRecursion.{AllByRecursion-map, AllByRecursion-weaker, AllByRecursion-append}
 
 -- a label without aliases is what it is expanded to
 mutual
@@ -57,7 +56,7 @@ abbrev Within : ℕ → List Literal → Type 0
 Within n = AllByRecursion (λ (l : Literal). l.prop < n)
 
 led : (n : ℕ) (l : Literal) (cs : List (List Literal)) → l.prop < n → AllByRecursion (Within n) cs → AllByRecursion (Within n) (map (λ cube. l ∷ cube) cs)
-led n l cs h all = all_map (Within n) (λ cube. l ∷ cube) cs (all_weaker (Within n) (λ cube. Within n (l ∷ cube)) cs (λ cube k. (h, k)) all)
+led n l cs h all = AllByRecursion-map (Within n) (λ cube. l ∷ cube) cs (AllByRecursion-weaker (Within n) (λ cube. Within n (l ∷ cube)) cs (λ cube k. (h, k)) all)
 
 cubes_below : (k i n : ℕ) (g : List Bool → Bool) → i + n ≤ k → AllByRecursion (Within k) (cubes i n g)
 cubes_below k i zero g l = elim (g []) as (λ b. AllByRecursion (Within k) (cond b ([] ∷ []) [])) [ true ↦ (tt, tt) | false ↦ tt ]
@@ -72,7 +71,7 @@ cubes_below k i (suc n) g l =
     let second : AllByRecursion (Within k) high = cubes_below k (i + 1) n holds (omega (arith, l)) in
     elim (is_independent n g) as (λ b. AllByRecursion (Within k) (cond b low (map (λ cube. no ∷ cube) low ++ map (λ cube. yes ∷ cube) high))) [
       | true ↦ first
-      | false ↦ all_append (Within k) (map (λ cube. no ∷ cube) low) (map (λ cube. yes ∷ cube) high) (led k no low (omega (arith, l)) first) (led k yes high (omega (arith, l)) second)
+      | false ↦ AllByRecursion-append (Within k) (map (λ cube. no ∷ cube) low) (map (λ cube. yes ∷ cube) high) (led k no low (omega (arith, l)) first) (led k yes high (omega (arith, l)) second)
     ]
 
 literal_below : (n : ℕ) (l : Literal) → l.prop < n → AllBelow n (literal_tree l)
@@ -95,9 +94,9 @@ one_of_below n (t ∷ u ∷ us) all = (all.0, all.1.0, trees_below n us all.1.1)
 cubes_tree_below : (n : ℕ) (cs : List (List Literal)) → AllByRecursion (Within n) cs → AllBelow n (cubes_tree cs)
 cubes_tree_below n cs all =
     let tree : List Literal → LabelTree = λ cube. all_of (map literal_tree cube) in
-    one_of_below n (map tree cs) (all_map (AllBelow n) tree cs
-    (all_weaker (Within n) (λ cube. AllBelow n (tree cube)) cs
-    (λ cube h. all_of_below n (map literal_tree cube) (all_map (AllBelow n) literal_tree cube (all_weaker (λ (l : Literal). l.prop < n) (λ l. AllBelow n (literal_tree l)) cube (literal_below n) h))) all))
+    one_of_below n (map tree cs) (AllByRecursion-map (AllBelow n) tree cs
+    (AllByRecursion-weaker (Within n) (λ cube. AllBelow n (tree cube)) cs
+    (λ cube h. all_of_below n (map literal_tree cube) (AllByRecursion-map (AllBelow n) literal_tree cube (AllByRecursion-weaker (λ (l : Literal). l.prop < n) (λ l. AllBelow n (literal_tree l)) cube (literal_below n) h))) all))
 
 -- every proposition of a canonical label is below the number of names
 pub canonical_below : (n : ℕ) (t : LabelTree) → AllBelow n (canonical_label n t)

@@ -7,10 +7,10 @@ use Rattle.std.proofs.lemmas.List.Elements.{recursion_from_All}
 use Rattle.std.specs.Prelude.{flat_map}
 use Rattle.std.specs.List.{AllByRecursion, list_all, list_any, range_with_len}
 use Rattle.aut_base.specs.Marks.{is_in}
-use Rattle.hoa_reader.proofs.DescribedLaws.{all_weaker, numbers_are_below}
-use Rattle.hoa_reader.proofs.DescribedWellFormed.{all_unmap}
+use Rattle.hoa_reader.proofs.DescribedLaws.{numbers_are_below}
 use Rattle.hoa_reader.specs.Described.{below, marks_in_order, without_repeats}
 use Rattle.hoa_reader.specs.Validity.{all_differ}
+use Rattle.aut_base.proofs.AllByRecursion.{AllByRecursion-weaker, AllByRecursion-from_map}
 
 -- each item stands so to every later one
 abbrev pub Pairs : {X : Type 0} → (X → X → Type 0) → List X → Type 0
@@ -26,11 +26,11 @@ pairs_from R (x ∷ xs) h = (
 
 pub pairs_weaker : {X : Type 0} (R S : X → X → Type 0) (xs : List X) → ((x y : X) → R x y → S x y) → Pairs R xs → Pairs S xs
 pairs_weaker R S [] f h = tt
-pairs_weaker R S (x ∷ xs) f h = (all_weaker (R x) (S x) xs (f x) h.0, pairs_weaker R S xs f h.1)
+pairs_weaker R S (x ∷ xs) f h = (AllByRecursion-weaker (R x) (S x) xs (f x) h.0, pairs_weaker R S xs f h.1)
 
 pub pairs_unmap : {X Y : Type 0} (R : Y → Y → Type 0) (f : X → Y) (xs : List X) → Pairs R (map f xs) → Pairs (λ x y. R (f x) (f y)) xs
 pairs_unmap R f [] h = tt
-pairs_unmap R f (x ∷ xs) h = (all_unmap (R (f x)) f xs h.0, pairs_unmap R f xs h.1)
+pairs_unmap R f (x ∷ xs) h = (AllByRecursion-from_map (R (f x)) f xs h.0, pairs_unmap R f xs h.1)
 
 pub none_kept : {X : Type 0} (p : X → Bool) (xs : List X) → AllByRecursion (λ x. p x ≡ false) xs → filter p xs ≡ []
 none_kept p [] all = refl
@@ -62,7 +62,7 @@ no_repeats [] h = refl
 no_repeats (x ∷ xs) h =
     let p : ℕ → Bool = λ y. not (y == x) in
     ap (λ ys. x ∷ filter p ys) (no_repeats xs h.1)
-    ∙ ap (λ ys. x ∷ ys) (all_kept p xs (all_weaker (λ y. x ≢ y) (λ y. p y ≡ true) xs (other_way x) h.0))
+    ∙ ap (λ ys. x ∷ ys) (all_kept p xs (AllByRecursion-weaker (λ y. x ≢ y) (λ y. p y ≡ true) xs (other_way x) h.0))
 
 -- one more number
 lt_more : (m n : ℕ) (b c : Bool) → nat_lt m n ≡ b → (m == n) ≡ c → nat_lt m (suc n) ≡ (b || c)
@@ -78,7 +78,7 @@ abbrev At : {X : Type 0} → (X → ℕ) → ℕ → List X → List X
 At key n = filter (λ x. key x == n)
 
 none_under : {X : Type 0} (key : X → ℕ) (n : ℕ) (x : X) (xs : List X) → n ≤ key x → AllByRecursion (λ y. key x ≤ key y) xs → Under key n xs ≡ []
-none_under key n x xs l h = none_kept (λ y. nat_lt (key y) n) xs (all_weaker (λ y. key x ≤ key y) (λ y. nat_lt (key y) n ≡ false) xs (λ y k. le-ltb (key y) n (omega (arith, k))) h)
+none_under key n x xs l h = none_kept (λ y. nat_lt (key y) n) xs (AllByRecursion-weaker (λ y. key x ≤ key y) (λ y. nat_lt (key y) n ≡ false) xs (λ y k. le-ltb (key y) n (omega (arith, k))) h)
 
 one_more : {X : Type 0} (key : X → ℕ) (n : ℕ) (x : X) (xs : List X) (b c : Bool) → nat_lt (key x) n ≡ b → (key x == n) ≡ c → AllByRecursion (λ y. key x ≤ key y) xs → Under key n xs ++ At key n xs ≡ Under key (suc n) xs
     → cond b (x ∷ Under key n xs) (Under key n xs) ++ cond c (x ∷ At key n xs) (At key n xs) ≡ cond (b || c) (x ∷ Under key (suc n) xs) (Under key (suc n) xs)
@@ -108,7 +108,7 @@ by_numbers key (suc n) xs h =
 -- a list in order of numbers below n, put together number by number
 pub number_by_number : {X : Type 0} (key : X → ℕ) (n : ℕ) (xs : List X) → Pairs (λ x y. key x ≤ key y) xs → AllByRecursion (λ x. key x < n) xs → flat_map (λ q. filter (λ x. key x == q) xs) (below n) ≡ xs
 number_by_number key n xs h all =
-    by_numbers key n xs h ∙ all_kept (λ x. nat_lt (key x) n) xs (all_weaker (λ x. key x < n) (λ x. nat_lt (key x) n ≡ true) xs (λ x l. lt-ltb (key x) n l) all)
+    by_numbers key n xs h ∙ all_kept (λ x. nat_lt (key x) n) xs (AllByRecursion-weaker (λ x. key x < n) (λ x. nat_lt (key x) n ≡ true) xs (λ x l. lt-ltb (key x) n l) all)
 
 pub flat_map_same : {X Y : Type 0} (f g : X → List Y) (xs : List X) → AllByRecursion (λ x. f x ≡ g x) xs → flat_map f xs ≡ flat_map g xs
 flat_map_same f g [] all = refl
@@ -130,7 +130,7 @@ filter_by_one p (x ∷ xs) = one_kept x (p x) (filter p xs) ∙ ap (λ ys. cond 
 one_at : (m q : ℕ) (ms : List ℕ) (b : Bool) → (m == q) ≡ b → AllByRecursion (λ y. m < y) ms → cond (is_in q ms) (q ∷ []) [] ≡ At (λ x. x) q ms → cond (b || is_in q ms) (q ∷ []) [] ≡ cond b (m ∷ At (λ x. x) q ms) (At (λ x. x) q ms)
 one_at m q ms true e h ih =
     let same : m ≡ q = eqb-true m q e in
-    sym (ap (λ ys. m ∷ ys) (none_kept (λ x. x == q) ms (all_weaker (λ y. m < y) (λ y. (y == q) ≡ false) ms (λ y l. ne_eqb y q (λ f. omega (arith, l, same, f))) h)) ∙ ap (λ x. x ∷ []) same)
+    sym (ap (λ ys. m ∷ ys) (none_kept (λ x. x == q) ms (AllByRecursion-weaker (λ y. m < y) (λ y. (y == q) ≡ false) ms (λ y l. ne_eqb y q (λ f. omega (arith, l, same, f))) h)) ∙ ap (λ x. x ∷ []) same)
 one_at m q ms false e h ih = ih
 
 one_mark : (q : ℕ) (marks : List ℕ) → Pairs (λ x y. x < y) marks → cond (is_in q marks) (q ∷ []) [] ≡ At (λ x. x) q marks
@@ -140,24 +140,24 @@ one_mark q (m ∷ ms) h = one_at m q ms (m == q) refl h.0 (one_mark q ms h.1)
 pub in_order_already : (sets : ℕ) (marks : List ℕ) → Pairs (λ x y. x < y) marks → AllByRecursion (λ x. x < sets) marks → marks_in_order sets marks ≡ marks
 in_order_already sets marks h all =
     filter_by_one (λ q. is_in q marks) (below sets)
-    ∙ (flat_map_same (λ q. cond (is_in q marks) (q ∷ []) []) (λ q. At (λ x. x) q marks) (below sets) (all_weaker (λ q. q < sets) (λ q. cond (is_in q marks) (q ∷ []) [] ≡ At (λ x. x) q marks) (below sets) (λ q l. one_mark q marks h) (numbers_are_below sets))
+    ∙ (flat_map_same (λ q. cond (is_in q marks) (q ∷ []) []) (λ q. At (λ x. x) q marks) (below sets) (AllByRecursion-weaker (λ q. q < sets) (λ q. cond (is_in q marks) (q ∷ []) [] ≡ At (λ x. x) q marks) (below sets) (λ q l. one_mark q marks h) (numbers_are_below sets))
     ∙ number_by_number (λ x. x) sets marks (pairs_weaker (λ x y. x < y) (λ x y. x ≤ y) marks (λ x y l. omega (arith, l)) h) all)
 
 -- numbers that follow one another
 pub range_within : (i n : ℕ) → AllByRecursion (λ x. (i ≤ x) × (x < i + n)) (range_with_len i n)
 range_within i zero = tt
 range_within i (suc n) =
-    ((omega arith, omega arith), all_weaker (λ x. (i + 1 ≤ x) × (x < i + 1 + n)) (λ x. (i ≤ x) × (x < i + suc n)) (range_with_len (i + 1) n) (λ x h. (omega (arith, h), omega (arith, h))) (range_within (i + 1) n))
+    ((omega arith, omega arith), AllByRecursion-weaker (λ x. (i + 1 ≤ x) × (x < i + 1 + n)) (λ x. (i ≤ x) × (x < i + suc n)) (range_with_len (i + 1) n) (λ x h. (omega (arith, h), omega (arith, h))) (range_within (i + 1) n))
 
 pub range_rises : (i n : ℕ) → Pairs (λ x y. x < y) (range_with_len i n)
 range_rises i zero = tt
 range_rises i (suc n) =
-    (all_weaker (λ x. (i + 1 ≤ x) × (x < i + 1 + n)) (λ x. i < x) (range_with_len (i + 1) n) (λ x h. omega (arith, h)) (range_within (i + 1) n), range_rises (i + 1) n)
+    (AllByRecursion-weaker (λ x. (i + 1 ≤ x) × (x < i + 1 + n)) (λ x. i < x) (range_with_len (i + 1) n) (λ x h. omega (arith, h)) (range_within (i + 1) n), range_rises (i + 1) n)
 
 found_at : (i n q : ℕ) (b : Bool) → (i == q) ≡ b → i ≤ q → ((i + 1 ≤ q) → filter (λ x. x == q) (range_with_len (i + 1) n) ≡ q ∷ []) → cond b (i ∷ filter (λ x. x == q) (range_with_len (i + 1) n)) (filter (λ x. x == q) (range_with_len (i + 1) n)) ≡ q ∷ []
 found_at i n q true e l ih =
     let same : i ≡ q = eqb-true i q e in
-    ap (λ ys. i ∷ ys) (none_kept (λ x. x == q) (range_with_len (i + 1) n) (all_weaker (λ x. (i + 1 ≤ x) × (x < i + 1 + n)) (λ x. (x == q) ≡ false) (range_with_len (i + 1) n) (λ x h. ne_eqb x q (λ f. omega (arith, h, same, f))) (range_within (i + 1) n)))
+    ap (λ ys. i ∷ ys) (none_kept (λ x. x == q) (range_with_len (i + 1) n) (AllByRecursion-weaker (λ x. (i + 1 ≤ x) × (x < i + 1 + n)) (λ x. (x == q) ≡ false) (range_with_len (i + 1) n) (λ x h. ne_eqb x q (λ f. omega (arith, h, same, f))) (range_within (i + 1) n)))
     ∙ ap (λ x. x ∷ []) same
 found_at i n q false e l ih = ih (omega (arith, l, eqb-false i q e))
 

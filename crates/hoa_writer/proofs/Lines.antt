@@ -6,18 +6,18 @@ use Rattle.std.proofs.lemmas.List.Concat.{flat_map-append}
 use Rattle.std.specs.Fmt.{decimal}
 use Rattle.std.specs.Prelude.{codes}
 use Rattle.std.specs.List.{flat_map, range_with_len}
-use Rattle.aut_base.specs.Automaton.{Arrow, arrow, automaton, IsWellFormed}
+use Rattle.aut_base.specs.Automaton.{TreeEdge, tree_edge, automaton, IsWellFormed}
 use Rattle.aut_base.specs.Label.{AllBelow}
 use Rattle.aut_base.specs.declared.description.Description.{Description}
 use Rattle.aut_base.specs.declared.description.Edge.{Edge}
 use Rattle.hoa_writer.specs.CanonicalText.{line, edge_line, state_lines}
 use Rattle.hoa_writer.specs.Lines.{edges_of, LeadFrom, WritesEdges}
 
-edges_here : (q : ℕ) (e : Edge) (rest : List Edge) → e.from ≡ q → edges_of q (e ∷ rest) ≡ arrow e ∷ edges_of q rest
-edges_here q e rest same = ap (λ b. cond b (arrow e ∷ edges_of q rest) (edges_of q rest)) (eq-eqb e.from q same)
+edges_here : (q : ℕ) (e : Edge) (rest : List Edge) → e.from ≡ q → edges_of q (e ∷ rest) ≡ tree_edge e ∷ edges_of q rest
+edges_here q e rest same = ap (λ b. cond b (tree_edge e ∷ edges_of q rest) (edges_of q rest)) (eq-eqb e.from q same)
 
 edges_other : (q : ℕ) (e : Edge) (rest : List Edge) → (e.from ≡ q → ⊥) → edges_of q (e ∷ rest) ≡ edges_of q rest
-edges_other q e rest other = ap (λ b. cond b (arrow e ∷ edges_of q rest) (edges_of q rest)) (ne_eqb e.from q other)
+edges_other q e rest other = ap (λ b. cond b (tree_edge e ∷ edges_of q rest) (edges_of q rest)) (ne_eqb e.from q other)
 
 edges_none : (q : ℕ) (rest : List Edge) → ((i : ℕ) (d : Edge) → i < length rest → q < (get_or rest i d).from) → edges_of q rest ≡ []
 edges_none q [] later = refl
@@ -36,16 +36,16 @@ pub none_yet : (n q : ℕ) (edges : List Edge) (place : ℕ) (out : List ℕ) �
 none_yet n q edges place out h = record { within = h; forward = omega arith; text = refl; others = λ k later. refl }
 
 -- one more edge
-pub edge_more : (n q : ℕ) (edges : List Edge) (place after : ℕ) (old now new : List ℕ) (e : Edge) → EdgesSoFar n q edges place after old now → after < length edges → e ≡ get_or edges after e → e.from ≡ q → new ≡ now ++ edge_line n (arrow e) → EdgesSoFar n q edges place (after + 1) old new
+pub edge_more : (n q : ℕ) (edges : List Edge) (place after : ℕ) (old now new : List ℕ) (e : Edge) → EdgesSoFar n q edges place after old now → after < length edges → e ≡ get_or edges after e → e.from ≡ q → new ≡ now ++ edge_line n (tree_edge e) → EdgesSoFar n q edges place (after + 1) old new
 edge_more n q edges place after old now new e so h read same written =
     let rest = drop (after + 1) edges in
     let here : drop after edges ≡ e ∷ rest = drop_more edges after e h ∙ ap (λ x. x ∷ rest) (sym read) in
-    let mine : edges_of q (drop after edges) ≡ arrow e ∷ edges_of q rest = ap (edges_of q) here ∙ edges_here q e rest same in
+    let mine : edges_of q (drop after edges) ≡ tree_edge e ∷ edges_of q rest = ap (edges_of q) here ∙ edges_here q e rest same in
     let left = flat_map (edge_line n) (edges_of q rest) in
     record {
       within = omega (arith, so.within);
       forward = omega (arith, so.forward);
-      text = ap (λ t. t ++ left) written ∙ (append_assoc now (edge_line n (arrow e)) left ∙ (ap (λ es. now ++ flat_map (edge_line n) es) (sym mine) ∙ so.text));
+      text = ap (λ t. t ++ left) written ∙ (append_assoc now (edge_line n (tree_edge e)) left ∙ (ap (λ es. now ++ flat_map (edge_line n) es) (sym mine) ∙ so.text));
       others = λ k later. so.others k later ∙ (ap (edges_of k) here ∙ edges_other k e rest (λ other. omega arith));
     }
 
@@ -86,25 +86,25 @@ no_state d out = record { text = sym (append-nil out); within = omega arith; lea
 -- what the edges of a well-formed automaton say
 pub leads : (d : Description) (place state : ℕ) (old new : List ℕ) → IsWellFormed (automaton d) → StatesSoFar d place state old new → LeadFrom (length d.names) state d.edges place
 leads d place state old new formed so =
-    let size = length-map d.edges arrow in
-    let froms = length-map (map arrow d.edges) (λ a. a.from) in
+    let size = length-map d.edges tree_edge in
+    let froms = length-map (map tree_edge d.edges) (λ a. a.from) in
     record {
       within = so.within;
       from = λ i j e h order near.
           let fits : i < length d.edges = omega arith in
-          let first = get_or-map arrow d.edges i e (arrow e) fits in
-          let second = get_or-map arrow d.edges j e (arrow e) near in
-          let from_first = get_or-map (λ (a : Arrow). a.from) (map arrow d.edges) i (arrow e) 0 (omega arith) in
-          let from_second = get_or-map (λ (a : Arrow). a.from) (map arrow d.edges) j (arrow e) 0 (omega arith) in
+          let first = get_or-map tree_edge d.edges i e (tree_edge e) fits in
+          let second = get_or-map tree_edge d.edges j e (tree_edge e) near in
+          let from_first = get_or-map (λ (a : TreeEdge). a.from) (map tree_edge d.edges) i (tree_edge e) 0 (omega arith) in
+          let from_second = get_or-map (λ (a : TreeEdge). a.from) (map tree_edge d.edges) j (tree_edge e) 0 (omega arith) in
           let rises = formed.in_order i j 0 order (omega arith) in
           let left = ap (λ a. a.from) first in
           let right = ap (λ a. a.from) second in
           omega arith;
       least = so.least;
       labels = λ i e near.
-          let same = get_or-map arrow d.edges i e (arrow e) near in
-          let mine = formed.edges i (arrow e) (omega arith) in
-          subst (λ (a : Arrow). AllBelow (length d.names) a.label) same mine.label;
+          let same = get_or-map tree_edge d.edges i e (tree_edge e) near in
+          let mine = formed.edges i (tree_edge e) (omega arith) in
+          subst (λ (a : TreeEdge). AllBelow (length d.names) a.label) same mine.label;
     }
 
 range_more : (a n : ℕ) → range_with_len a (suc n) ≡ range_with_len a n ++ (a + n) ∷ []

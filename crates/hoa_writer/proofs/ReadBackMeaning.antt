@@ -5,43 +5,44 @@ use Rattle.std.proofs.lemmas.List.{append-nil}
 use Rattle.std.proofs.lemmas.List.Elements.{All-map, recursion_from_All}
 use Rattle.std.specs.Prelude.{flat_map}
 use Rattle.std.specs.List.{AllByRecursion, enumerate_from, range_with_len}
-use Rattle.aut_base.specs.Automaton.{Arrow, Automaton, IsArrowOf, IsWellFormed, arrow, automaton}
+use Rattle.aut_base.specs.Automaton.{TreeEdge, Automaton, IsEdgeOf, IsWellFormed, tree_edge, automaton}
 use Rattle.aut_base.specs.Formula.{FormulaTree}
 use Rattle.aut_base.specs.Label.{LabelTree}
 use Rattle.aut_base.specs.declared.description.Description.{Description}
 use Rattle.aut_base.specs.declared.description.Edge.{Edge}
-use Rattle.hoa_reader.proofs.DescribedLaws.{all_weaker, numbers_are_below}
-use Rattle.hoa_reader.specs.Described.{after_all, arrow_of, arrows_from, arrows_of, below, described, edges_of, marks_in_order, meanings_of, only_state, starts_of, without_repeats}
+use Rattle.hoa_reader.proofs.DescribedLaws.{numbers_are_below}
+use Rattle.hoa_reader.specs.Described.{after_all, tree_edge_of, tree_edges_from, tree_edges_of, below, described, edges_of, marks_in_order, meanings_of, only_state, starts_of, without_repeats}
 use Rattle.hoa_parser.specs.Raw.{Written, WrittenState}
 use Rattle.hoa_reader.specs.Validity.{AcceptanceLine, acceptance_of, used_states}
 use Rattle.hoa_writer.proofs.CanonicalLines.{acceptance_found, names_found, starts_found, states_found}
 use Rattle.hoa_writer.proofs.CanonicalTrees.{expanded_written}
 use Rattle.hoa_writer.proofs.InOrder.{Pairs, filter_map_of, flat_map_same, in_order_already, map_flat_map, no_repeats, number_by_number, one_in_range, pairs_from, pairs_unmap}
 use Rattle.hoa_writer.specs.CanonicalWritten.{canonical, canonical_edge, canonical_label, canonical_state, canonical_written}
+use Rattle.aut_base.proofs.AllByRecursion.{AllByRecursion-weaker}
 
-abbrev relabelled : ℕ → Arrow → Arrow
+abbrev relabelled : ℕ → TreeEdge → TreeEdge
 relabelled n e = record e { label = canonical_label n e.label }
 
 -- what is to hold of an edge of the state q: the order of its marks is that of the sets
-abbrev Stands : ℕ → ℕ → Arrow → Type 0
+abbrev Stands : ℕ → ℕ → TreeEdge → Type 0
 Stands q sets e = (e.from ≡ q) × (marks_in_order sets e.marks ≡ e.marks)
 
-abbrev arrow_with : ℕ → LabelTree → ℕ → List ℕ → Arrow
-arrow_with from l to marks = record { from = from; label = l; to = to; marks = marks }
+abbrev tree_edge_with : ℕ → LabelTree → ℕ → List ℕ → TreeEdge
+tree_edge_with from l to marks = record { from = from; label = l; to = to; marks = marks }
 
-same_arrow : (from from' to : ℕ) (l l' : LabelTree) (marks marks' : List ℕ) → from ≡ from' → l ≡ l' → marks ≡ marks' → arrow_with from l to marks ≡ arrow_with from' l' to marks'
-same_arrow from from' to l l' marks marks' p q r = cc
+same_tree_edge : (from from' to : ℕ) (l l' : LabelTree) (marks marks' : List ℕ) → from ≡ from' → l ≡ l' → marks ≡ marks' → tree_edge_with from l to marks ≡ tree_edge_with from' l' to marks'
+same_tree_edge from from' to l l' marks marks' p q r = cc
 
-arrow_back : (w : Written) (a : Automaton) (q i : ℕ) (e : Arrow) → Stands q (acceptance_of w).sets e → arrow_of w (canonical_state a q) i (canonical_edge (length a.names) e) ≡ relabelled (length a.names) e
-arrow_back w a q i e h =
-    same_arrow q e.from e.to _ (canonical_label (length a.names) e.label) (marks_in_order (acceptance_of w).sets e.marks) e.marks
+tree_edge_back : (w : Written) (a : Automaton) (q i : ℕ) (e : TreeEdge) → Stands q (acceptance_of w).sets e → tree_edge_of w (canonical_state a q) i (canonical_edge (length a.names) e) ≡ relabelled (length a.names) e
+tree_edge_back w a q i e h =
+    same_tree_edge q e.from e.to _ (canonical_label (length a.names) e.label) (marks_in_order (acceptance_of w).sets e.marks) e.marks
     (sym h.0) (expanded_written (meanings_of w) (canonical_label (length a.names) e.label)) h.1
 
-arrows_back : (w : Written) (a : Automaton) (q i : ℕ) (es : List Arrow) → AllByRecursion (Stands q (acceptance_of w).sets) es → map (λ p. arrow_of w (canonical_state a q) p.0 p.1) (enumerate_from i (map (canonical_edge (length a.names)) es)) ≡ map (relabelled (length a.names)) es
-arrows_back w a q i [] all = refl
-arrows_back w a q i (e ∷ es) all =
-    ap (λ x. x ∷ map (λ p. arrow_of w (canonical_state a q) p.0 p.1) (enumerate_from (i + 1) (map (canonical_edge (length a.names)) es))) (arrow_back w a q i e all.0)
-    ∙ ap (λ xs. relabelled (length a.names) e ∷ xs) (arrows_back w a q (i + 1) es all.1)
+tree_edges_back : (w : Written) (a : Automaton) (q i : ℕ) (es : List TreeEdge) → AllByRecursion (Stands q (acceptance_of w).sets) es → map (λ p. tree_edge_of w (canonical_state a q) p.0 p.1) (enumerate_from i (map (canonical_edge (length a.names)) es)) ≡ map (relabelled (length a.names)) es
+tree_edges_back w a q i [] all = refl
+tree_edges_back w a q i (e ∷ es) all =
+    ap (λ x. x ∷ map (λ p. tree_edge_of w (canonical_state a q) p.0 p.1) (enumerate_from (i + 1) (map (canonical_edge (length a.names)) es))) (tree_edge_back w a q i e all.0)
+    ∙ ap (λ xs. relabelled (length a.names) e ∷ xs) (tree_edges_back w a q (i + 1) es all.1)
 
 -- the state q, and its edges
 state_at : (a : Automaton) (q : ℕ) → q < a.states → filter (λ (s : WrittenState). s.number == q) (map (canonical_state a) (range_with_len 0 a.states)) ≡ canonical_state a q ∷ []
@@ -49,33 +50,33 @@ state_at a q l =
     filter_map_of (λ (s : WrittenState). s.number == q) (canonical_state a) (range_with_len 0 a.states)
     ∙ ap (map (canonical_state a)) (one_in_range 0 a.states q (omega arith) (omega (arith, l)))
 
-kept_too : (q sets : ℕ) (e : Arrow) (es : List Arrow) (b : Bool) → (e.from == q) ≡ b → marks_in_order sets e.marks ≡ e.marks → AllByRecursion (Stands q sets) es → AllByRecursion (Stands q sets) (cond b (e ∷ es) es)
+kept_too : (q sets : ℕ) (e : TreeEdge) (es : List TreeEdge) (b : Bool) → (e.from == q) ≡ b → marks_in_order sets e.marks ≡ e.marks → AllByRecursion (Stands q sets) es → AllByRecursion (Stands q sets) (cond b (e ∷ es) es)
 kept_too q sets e es true is h all = ((eqb-true e.from q is, h), all)
 kept_too q sets e es false is h all = all
 
-ours_stand : (q sets : ℕ) (es : List Arrow) → AllByRecursion (λ (e : Arrow). marks_in_order sets e.marks ≡ e.marks) es → AllByRecursion (Stands q sets) (filter (λ (e : Arrow). e.from == q) es)
+ours_stand : (q sets : ℕ) (es : List TreeEdge) → AllByRecursion (λ (e : TreeEdge). marks_in_order sets e.marks ≡ e.marks) es → AllByRecursion (Stands q sets) (filter (λ (e : TreeEdge). e.from == q) es)
 ours_stand q sets [] all = tt
-ours_stand q sets (e ∷ es) all = kept_too q sets e (filter (λ (e : Arrow). e.from == q) es) (e.from == q) refl all.0 (ours_stand q sets es all.1)
+ours_stand q sets (e ∷ es) all = kept_too q sets e (filter (λ (e : TreeEdge). e.from == q) es) (e.from == q) refl all.0 (ours_stand q sets es all.1)
 
-state_back : (a : Automaton) (name : Option (List ℕ)) (q : ℕ) → q < a.states → AllByRecursion (λ (e : Arrow). marks_in_order a.sets e.marks ≡ e.marks) a.edges → arrows_from (canonical_written a name) q ≡ map (relabelled (length a.names)) (filter (λ (e : Arrow). e.from == q) a.edges)
+state_back : (a : Automaton) (name : Option (List ℕ)) (q : ℕ) → q < a.states → AllByRecursion (λ (e : TreeEdge). marks_in_order a.sets e.marks ≡ e.marks) a.edges → tree_edges_from (canonical_written a name) q ≡ map (relabelled (length a.names)) (filter (λ (e : TreeEdge). e.from == q) a.edges)
 state_back a name q l marks =
     let w = canonical_written a name in
-    let es = filter (λ (e : Arrow). e.from == q) a.edges in
+    let es = filter (λ (e : TreeEdge). e.from == q) a.edges in
     let sets : a.sets ≡ (acceptance_of w).sets = sym (ap (λ (line : AcceptanceLine). line.sets) (acceptance_found a name)) in
     let stand : AllByRecursion (Stands q (acceptance_of w).sets) es =
-    all_weaker (Stands q a.sets) (Stands q (acceptance_of w).sets) es (λ e h. (h.0, ap (λ n. marks_in_order n e.marks) (sym sets) ∙ h.1)) (ours_stand q a.sets a.edges marks) in
-    ap (flat_map (arrows_of w)) (state_at a q l) ∙ (append-nil (arrows_of w (canonical_state a q)) ∙ arrows_back w a q 0 es stand)
+    AllByRecursion-weaker (Stands q a.sets) (Stands q (acceptance_of w).sets) es (λ e h. (h.0, ap (λ n. marks_in_order n e.marks) (sym sets) ∙ h.1)) (ours_stand q a.sets a.edges marks) in
+    ap (flat_map (tree_edges_of w)) (state_at a q l) ∙ (append-nil (tree_edges_of w (canonical_state a q)) ∙ tree_edges_back w a q 0 es stand)
 
 -- the marks of each edge stand in order
 abbrev pub MarksRise : Automaton → Type 0
-MarksRise a = All (λ (e : Arrow). AllPairs (λ x y. x < y) e.marks) a.edges
+MarksRise a = All (λ (e : TreeEdge). AllPairs (λ x y. x < y) e.marks) a.edges
 
 -- as they do in an edge of a description, by the type of its marks
 pub marks_rise : (edges : List Edge) (d : Description) → edges ≡ d.edges → All (λ (e : Edge). AllPairs (λ x y. x < y) e.marks) edges → MarksRise (automaton d)
 marks_rise edges d same h =
-    All-map (λ (e : Arrow). AllPairs (λ x y. x < y) e.marks) arrow d.edges (subst (All (λ (e : Edge). AllPairs (λ x y. x < y) e.marks)) same h)
+    All-map (λ (e : TreeEdge). AllPairs (λ x y. x < y) e.marks) tree_edge d.edges (subst (All (λ (e : Edge). AllPairs (λ x y. x < y) e.marks)) same h)
 
-marks_kept : (sets : ℕ) (es : List Arrow) → AllByRecursion (λ (e : Arrow). All (λ mark. mark < sets) e.marks) es → AllByRecursion (λ (e : Arrow). AllPairs (λ x y. x < y) e.marks) es → AllByRecursion (λ (e : Arrow). marks_in_order sets e.marks ≡ e.marks) es
+marks_kept : (sets : ℕ) (es : List TreeEdge) → AllByRecursion (λ (e : TreeEdge). All (λ mark. mark < sets) e.marks) es → AllByRecursion (λ (e : TreeEdge). AllPairs (λ x y. x < y) e.marks) es → AllByRecursion (λ (e : TreeEdge). marks_in_order sets e.marks ≡ e.marks) es
 marks_kept sets [] all rise = tt
 marks_kept sets (e ∷ es) all rise =
     (in_order_already sets e.marks (pairs_from (λ x y. x < y) e.marks rise.0) (recursion_from_All (λ mark. mark < sets) e.marks all.0), marks_kept sets es all.1 rise.1)
@@ -85,18 +86,18 @@ edges_back a name h rise =
     let w = canonical_written a name in
     let n = a.states in
     let new = relabelled (length a.names) in
-    let ours : ℕ → List Arrow = λ q. filter (λ (e : Arrow). e.from == q) a.edges in
-    let arrows = recursion_from_All (IsArrowOf a) a.edges h.edges in
-    let marks : AllByRecursion (λ (e : Arrow). marks_in_order a.sets e.marks ≡ e.marks) a.edges =
-    marks_kept a.sets a.edges (all_weaker (IsArrowOf a) (λ (e : Arrow). All (λ mark. mark < a.sets) e.marks) a.edges (λ e k. k.marks) arrows)
-    (recursion_from_All (λ (e : Arrow). AllPairs (λ x y. x < y) e.marks) a.edges rise) in
-    let order : Pairs (λ x y. x ≤ y) (map (λ (e : Arrow). e.from) a.edges) =
-    pairs_from (λ x y. x ≤ y) (map (λ (e : Arrow). e.from) a.edges) (λ i j d l m. h.in_order i j d (omega (arith, l)) m) in
-    ap (λ xs. flat_map (arrows_from w) (below (get_or xs 0 (after_all (used_states w))))) (states_found a name)
-    ∙ (flat_map_same (arrows_from w) (λ q. map new (ours q)) (below n) (all_weaker (λ q. q < n) (λ q. arrows_from w q ≡ map new (ours q)) (below n) (λ q l. state_back a name q l marks) (numbers_are_below n))
+    let ours : ℕ → List TreeEdge = λ q. filter (λ (e : TreeEdge). e.from == q) a.edges in
+    let tree_edges = recursion_from_All (IsEdgeOf a) a.edges h.edges in
+    let marks : AllByRecursion (λ (e : TreeEdge). marks_in_order a.sets e.marks ≡ e.marks) a.edges =
+    marks_kept a.sets a.edges (AllByRecursion-weaker (IsEdgeOf a) (λ (e : TreeEdge). All (λ mark. mark < a.sets) e.marks) a.edges (λ e k. k.marks) tree_edges)
+    (recursion_from_All (λ (e : TreeEdge). AllPairs (λ x y. x < y) e.marks) a.edges rise) in
+    let order : Pairs (λ x y. x ≤ y) (map (λ (e : TreeEdge). e.from) a.edges) =
+    pairs_from (λ x y. x ≤ y) (map (λ (e : TreeEdge). e.from) a.edges) (λ i j d l m. h.in_order i j d (omega (arith, l)) m) in
+    ap (λ xs. flat_map (tree_edges_from w) (below (get_or xs 0 (after_all (used_states w))))) (states_found a name)
+    ∙ (flat_map_same (tree_edges_from w) (λ q. map new (ours q)) (below n) (AllByRecursion-weaker (λ q. q < n) (λ q. tree_edges_from w q ≡ map new (ours q)) (below n) (λ q l. state_back a name q l marks) (numbers_are_below n))
     ∙ (map_flat_map new ours (below n)
-    ∙ ap (map new) (number_by_number (λ (e : Arrow). e.from) n a.edges (pairs_unmap (λ x y. x ≤ y) (λ (e : Arrow). e.from) a.edges order)
-    (all_weaker (IsArrowOf a) (λ (e : Arrow). e.from < n) a.edges (λ e k. k.from) arrows))))
+    ∙ ap (map new) (number_by_number (λ (e : TreeEdge). e.from) n a.edges (pairs_unmap (λ x y. x ≤ y) (λ (e : TreeEdge). e.from) a.edges order)
+    (AllByRecursion-weaker (IsEdgeOf a) (λ (e : TreeEdge). e.from < n) a.edges (λ e k. k.from) tree_edges))))
 
 only_ones : (starts : List ℕ) → map only_state (map (λ s. s ∷ []) starts) ≡ starts
 only_ones [] = refl
@@ -107,10 +108,10 @@ starts_back a name h =
     ap (λ groups. without_repeats (map only_state groups)) (starts_found a name)
     ∙ (ap without_repeats (only_ones a.starts) ∙ no_repeats a.starts (pairs_from (λ p q. p ≢ q) a.starts h.starts_differ))
 
-abbrev automaton_with : List (List ℕ) → List ℕ → ℕ → List Arrow → ℕ → FormulaTree → Automaton
+abbrev automaton_with : List (List ℕ) → List ℕ → ℕ → List TreeEdge → ℕ → FormulaTree → Automaton
 automaton_with names starts states edges sets f = record { names = names; starts = starts; states = states; edges = edges; sets = sets; formula = f }
 
-same_automaton : (names names' : List (List ℕ)) (starts starts' : List ℕ) (states states' : ℕ) (edges edges' : List Arrow) (sets sets' : ℕ) (f f' : FormulaTree) → names ≡ names' → starts ≡ starts' → states ≡ states' → edges ≡ edges' → sets ≡ sets' → f ≡ f' → automaton_with names starts states edges sets f ≡ automaton_with names' starts' states' edges' sets' f'
+same_automaton : (names names' : List (List ℕ)) (starts starts' : List ℕ) (states states' : ℕ) (edges edges' : List TreeEdge) (sets sets' : ℕ) (f f' : FormulaTree) → names ≡ names' → starts ≡ starts' → states ≡ states' → edges ≡ edges' → sets ≡ sets' → f ≡ f' → automaton_with names starts states edges sets f ≡ automaton_with names' starts' states' edges' sets' f'
 same_automaton names names' starts starts' states states' edges edges' sets sets' f f' p q r s t u = cc
 
 pub canonical_describes : (a : Automaton) (name : Option (List ℕ)) → IsWellFormed a → MarksRise a → described (canonical_written a name) ≡ canonical a

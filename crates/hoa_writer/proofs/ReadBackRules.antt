@@ -4,10 +4,8 @@ use Rattle.std.proofs.lemmas.Bool.{eq-eqb, false_from_ne_true, lt-ltb, ne_eqb}
 use Rattle.std.proofs.lemmas.List.Elements.{recursion_from_All}
 use Rattle.std.specs.Prelude.{flat_map, is_some, nat_le, option_to_list}
 use Rattle.std.specs.List.{AllByRecursion, list_all, range_with_len}
-use Rattle.aut_base.specs.Automaton.{Arrow, Automaton, IsArrowOf, IsWellFormed}
+use Rattle.aut_base.specs.Automaton.{TreeEdge, Automaton, IsEdgeOf, IsWellFormed}
 use Rattle.aut_base.specs.Label.{LabelTree}
-use Rattle.hoa_reader.proofs.DescribedLaws.{all_map, all_weaker}
-use Rattle.hoa_reader.proofs.DescribedStarts.{all_append, all_flat_map, all_of}
 use Rattle.hoa_reader.proofs.Meanings.{same_texts}
 use Rattle.hoa_parser.specs.Raw.{RawTree, WrittenEdge, WrittenItem, WrittenState}
 use Rattle.aut_base.specs.Text.{same_text}
@@ -17,6 +15,7 @@ use Rattle.hoa_writer.proofs.CanonicalLines.{acceptance_found, all_starts, closi
 use Rattle.hoa_writer.proofs.CanonicalTrees.{no_alias, props_are_below, sets_are_below, two}
 use Rattle.hoa_writer.proofs.InOrder.{all_differ_from, every_passes, pairs_from, pairs_weaker, range_rises}
 use Rattle.hoa_writer.specs.CanonicalWritten.{canonical_edge, canonical_label, canonical_state, canonical_written, written_label}
+use Rattle.aut_base.proofs.AllByRecursion.{AllByRecursion-map, AllByRecursion-weaker, AllByRecursion-append, AllByRecursion-flat_map, AllByRecursion-of_each}
 
 -- lines that stand once
 once : (p : WrittenItem → Bool) (k : ℕ) (a : Automaton) → ((s : ℕ) → p (WrittenItem.Start (s ∷ [])) ≡ false) → nat_le (counted_from p k (closing a)) 1 ≡ true → nat_le (counted_from p k (starting a.starts ++ closing a)) 1 ≡ true
@@ -60,12 +59,12 @@ names_counted a (Some text) h = all_starts names_agree a.starts (closing a) (λ 
 single_states : (a : Automaton) (name : Option (List ℕ)) → IsKept V5 (canonical_written a name)
 single_states a name =
     let one : ℕ → List ℕ = λ s. s ∷ [] in
-    two _ _ (ap (list_all is_one_state) (starts_found a name) ∙ every_passes is_one_state (map one a.starts) (all_map (λ q. is_one_state q ≡ true) one a.starts (all_of _ a.starts (λ s. refl))))
+    two _ _ (ap (list_all is_one_state) (starts_found a name) ∙ every_passes is_one_state (map one a.starts) (AllByRecursion-map (λ q. is_one_state q ≡ true) one a.starts (AllByRecursion-of_each _ a.starts (λ s. refl))))
     (every_passes (λ (e : WrittenEdge). is_one_state e.to) (edges_written (canonical_written a name))
-    (each_edge a name (λ (e : WrittenEdge). is_one_state e.to ≡ true) (all_of _ a.edges (λ e. refl))))
+    (each_edge a name (λ (e : WrittenEdge). is_one_state e.to ≡ true) (AllByRecursion-of_each _ a.edges (λ e. refl))))
 
-arrows : (a : Automaton) → IsWellFormed a → AllByRecursion (IsArrowOf a) a.edges
-arrows a h = recursion_from_All (IsArrowOf a) a.edges h.edges
+tree_edges : (a : Automaton) → IsWellFormed a → AllByRecursion (IsEdgeOf a) a.edges
+tree_edges a h = recursion_from_All (IsEdgeOf a) a.edges h.edges
 
 states_below : (a : Automaton) (name : Option (List ℕ)) → IsWellFormed a → IsKept V6 (canonical_written a name)
 states_below a name h =
@@ -74,25 +73,25 @@ states_below a name h =
     let P : ℕ → Type 0 = λ q. nat_lt q n ≡ true in
     let one : ℕ → List ℕ = λ s. s ∷ [] in
     let groups : AllByRecursion (AllByRecursion P) (map one a.starts) =
-    all_map (AllByRecursion P) one a.starts (all_weaker (λ s. s < n) (λ s. AllByRecursion P (one s)) a.starts (λ s l. (lt-ltb s n l, tt)) (recursion_from_All (λ s. s < n) a.starts h.starts)) in
+    AllByRecursion-map (AllByRecursion P) one a.starts (AllByRecursion-weaker (λ s. s < n) (λ s. AllByRecursion P (one s)) a.starts (λ s l. (lt-ltb s n l, tt)) (recursion_from_All (λ s. s < n) a.starts h.starts)) in
     let starts : AllByRecursion P (flat_map (λ (q : List ℕ). q) (starts_written w)) =
-    all_flat_map P (λ (q : List ℕ). q) (starts_written w) (subst (AllByRecursion (AllByRecursion P)) (sym (starts_found a name)) groups) in
+    AllByRecursion-flat_map P (λ (q : List ℕ). q) (starts_written w) (subst (AllByRecursion (AllByRecursion P)) (sym (starts_found a name)) groups) in
     let numbers : AllByRecursion P (map (λ (s : WrittenState). s.number) w.states) =
-    all_map P (λ (s : WrittenState). s.number) w.states (each_state a name (λ s. P s.number) (λ q l. lt-ltb q n l)) in
+    AllByRecursion-map P (λ (s : WrittenState). s.number) w.states (each_state a name (λ s. P s.number) (λ q l. lt-ltb q n l)) in
     let goals : AllByRecursion P (flat_map (λ (e : WrittenEdge). e.to) (edges_written w)) =
-    all_flat_map P (λ (e : WrittenEdge). e.to) (edges_written w)
-    (each_edge a name (λ e. AllByRecursion P e.to) (all_weaker (IsArrowOf a) (λ e. AllByRecursion P (e.to ∷ [])) a.edges (λ e k. (lt-ltb e.to n k.to, tt)) (arrows a h))) in
+    AllByRecursion-flat_map P (λ (e : WrittenEdge). e.to) (edges_written w)
+    (each_edge a name (λ e. AllByRecursion P e.to) (AllByRecursion-weaker (IsEdgeOf a) (λ e. AllByRecursion P (e.to ∷ [])) a.edges (λ e k. (lt-ltb e.to n k.to, tt)) (tree_edges a h))) in
     ap (list_all (λ k. numbers_below k (used_states w))) (states_found a name)
     ∙ two _ _ (every_passes (λ i. nat_lt i n) (used_states w)
-    (all_append P (flat_map (λ (q : List ℕ). q) (starts_written w)) (map (λ (s : WrittenState). s.number) w.states ++ flat_map (λ (e : WrittenEdge). e.to) (edges_written w)) starts
-    (all_append P (map (λ (s : WrittenState). s.number) w.states) (flat_map (λ (e : WrittenEdge). e.to) (edges_written w)) numbers goals))) refl
+    (AllByRecursion-append P (flat_map (λ (q : List ℕ). q) (starts_written w)) (map (λ (s : WrittenState). s.number) w.states ++ flat_map (λ (e : WrittenEdge). e.to) (edges_written w)) starts
+    (AllByRecursion-append P (map (λ (s : WrittenState). s.number) w.states) (flat_map (λ (e : WrittenEdge). e.to) (edges_written w)) numbers goals))) refl
 
 -- labels of the body
 each_label : (a : Automaton) (name : Option (List ℕ)) (P : RawTree → Type 0) → ((t : LabelTree) → P (written_label (canonical_label (length a.names) t))) → AllByRecursion P (body_labels (canonical_written a name))
 each_label a name P h =
-    all_flat_map P state_labels (canonical_written a name).states (each_state a name (λ s. AllByRecursion P (state_labels s))
-    (λ q l. all_flat_map P (λ (e : WrittenEdge). option_to_list e.label) (canonical_state a q).edges
-    (edges_at a q (λ e. AllByRecursion P (option_to_list e.label)) (all_of _ a.edges (λ e. (h e.label, tt))))))
+    AllByRecursion-flat_map P state_labels (canonical_written a name).states (each_state a name (λ s. AllByRecursion P (state_labels s))
+    (λ q l. AllByRecursion-flat_map P (λ (e : WrittenEdge). option_to_list e.label) (canonical_state a q).edges
+    (edges_at a q (λ e. AllByRecursion P (option_to_list e.label)) (AllByRecursion-of_each _ a.edges (λ e. (h e.label, tt))))))
 
 aliases_defined : (a : Automaton) (name : Option (List ℕ)) → IsKept V7 (canonical_written a name)
 aliases_defined a name =
@@ -117,8 +116,8 @@ sets_kept a name h =
     ∙ two _ _ (sets_are_below n a.formula h.formula)
     (every_passes (marks_below n) w.states (each_state a name (λ s. marks_below n s ≡ true)
     (λ q l. every_passes (λ (e : WrittenEdge). numbers_below n e.marks) (canonical_state a q).edges
-    (edges_at a q (λ e. numbers_below n e.marks ≡ true) (all_weaker (IsArrowOf a) (λ e. numbers_below n e.marks ≡ true) a.edges
-    (λ e k. every_passes (λ i. nat_lt i n) e.marks (all_weaker (λ i. i < n) (λ i. nat_lt i n ≡ true) e.marks (λ i m. lt-ltb i n m) (recursion_from_All (λ i. i < n) e.marks k.marks))) (arrows a h))))))
+    (edges_at a q (λ e. numbers_below n e.marks ≡ true) (AllByRecursion-weaker (IsEdgeOf a) (λ e. numbers_below n e.marks ≡ true) a.edges
+    (λ e k. every_passes (λ i. nat_lt i n) e.marks (AllByRecursion-weaker (λ i. i < n) (λ i. nat_lt i n ≡ true) e.marks (λ i m. lt-ltb i n m) (recursion_from_All (λ i. i < n) e.marks k.marks))) (tree_edges a h))))))
 
 -- states of the body
 numbers_of : (a : Automaton) (qs : List ℕ) → map (λ (s : WrittenState). s.number) (map (canonical_state a) qs) ≡ qs
@@ -138,10 +137,10 @@ or_true false c e = e
 one_way : (a : Automaton) (name : Option (List ℕ)) → IsKept V11 (canonical_written a name)
 one_way a name =
     every_passes labels_one_way (canonical_written a name).states (each_state a name (λ s. labels_one_way s ≡ true)
-    (λ q l. or_true (no_edge_labelled (canonical_state a q)) (all_edges_labelled (canonical_state a q)) (every_passes (λ (e : WrittenEdge). is_some e.label) (canonical_state a q).edges (edges_at a q (λ e. is_some e.label ≡ true) (all_of _ a.edges (λ e. refl))))))
+    (λ q l. or_true (no_edge_labelled (canonical_state a q)) (all_edges_labelled (canonical_state a q)) (every_passes (λ (e : WrittenEdge). is_some e.label) (canonical_state a q).edges (edges_at a q (λ e. is_some e.label ≡ true) (AllByRecursion-of_each _ a.edges (λ e. refl))))))
 
 -- no edge goes without a label
-edge_has_label : (n k q : ℕ) (es : List Arrow) → has_edge_per_letter n (record { label = None; number = q; marks = []; edges = map (canonical_edge k) es }) ≡ true
+edge_has_label : (n k q : ℕ) (es : List TreeEdge) → has_edge_per_letter n (record { label = None; number = q; marks = []; edges = map (canonical_edge k) es }) ≡ true
 edge_has_label n k q [] = refl
 edge_has_label n k q (e ∷ es) = or_true (length (map (canonical_edge k) (e ∷ es)) == 0) _ (or_true (length (map (canonical_edge k) (e ∷ es)) == 2 ^ n) true refl)
 
@@ -149,7 +148,7 @@ letters_kept : (a : Automaton) (name : Option (List ℕ)) → IsKept V12 (canoni
 letters_kept a name =
     let n = length (names_of (canonical_written a name)) in
     every_passes (has_edge_per_letter n) (canonical_written a name).states (each_state a name (λ s. has_edge_per_letter n s ≡ true)
-    (λ q l. edge_has_label n (length a.names) q (filter (λ (e : Arrow). e.from == q) a.edges)))
+    (λ q l. edge_has_label n (length a.names) q (filter (λ (e : TreeEdge). e.from == q) a.edges)))
 
 pub canonical_is_valid : (a : Automaton) (name : Option (List ℕ)) → IsWellFormed a → AllPairs (λ x y. x ≢ y) a.names → IsValid (canonical_written a name)
 canonical_is_valid a name h names = (

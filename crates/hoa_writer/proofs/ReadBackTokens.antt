@@ -7,7 +7,7 @@ use Rattle.std.proofs.lemmas.List.{append_assoc, append-nil, map-append}
 use Rattle.std.proofs.lemmas.List.Concat.{flat_map-append}
 use Rattle.std.proofs.lemmas.List.Elements.{All-filter}
 use Rattle.std.proofs.lemmas.List.FromFn.{length-range_with_len, get_or-range_with_len}
-use Rattle.aut_base.specs.Automaton.{Arrow, Automaton, IsArrowOf, IsWellFormed}
+use Rattle.aut_base.specs.Automaton.{TreeEdge, Automaton, IsEdgeOf, IsWellFormed}
 use Rattle.hoa_lexer.specs.Laws.{HasTokens}
 use Rattle.hoa_lexer.specs.declared.token.Token.{Token}
 use Rattle.hoa_lexer.specs.declared.token.Token.TheVariants.{HeaderName, Identifier, Str, Int, LeftBracket, RightBracket, LeftBrace, RightBrace, Body, End}
@@ -31,7 +31,7 @@ abbrev text_marks : List ℕ → Option (List ℕ)
 text_marks [] = None
 text_marks (m ∷ ms) = Some (m ∷ ms)
 
-abbrev text_edge : ℕ → Arrow → EdgePhrase
+abbrev text_edge : ℕ → TreeEdge → EdgePhrase
 text_edge n e = record { label = Some (text_label n e.label); to = record { first = e.to; others = [] }; marks = text_marks e.marks }
 
 abbrev text_state : Automaton → ℕ → StatePhrase
@@ -78,7 +78,7 @@ marks_mean : (ms : List ℕ) → marks_meaning (text_marks ms) ≡ ms
 marks_mean [] = refl
 marks_mean (m ∷ ms) = refl
 
-edge_means : (n : ℕ) (e : Arrow) → edge_meaning (text_edge n e) ≡ canonical_edge n e
+edge_means : (n : ℕ) (e : TreeEdge) → edge_meaning (text_edge n e) ≡ canonical_edge n e
 edge_means n e =
     let label = text_label_means n e.label in
     let marks = marks_mean e.marks in
@@ -133,7 +133,7 @@ marks_stop (m ∷ ms) rest s = (refl, refl)
 
 -- edges
 
-edge_spelled : (a : Automaton) (e : Arrow) → a.states < 2 ^ 32 → a.sets < 2 ^ 32 → length a.names < 2 ^ 32 → IsArrowOf a e → Free (edge_tokens (text_edge (length a.names) e)) (edge_line (length a.names) e)
+edge_spelled : (a : Automaton) (e : TreeEdge) → a.states < 2 ^ 32 → a.sets < 2 ^ 32 → length a.names < 2 ^ 32 → IsEdgeOf a e → Free (edge_tokens (text_edge (length a.names) e)) (edge_line (length a.names) e)
 edge_spelled a e few sets names h =
     let n = length a.names in
     let label = label_tokens (text_label n e.label) in
@@ -148,14 +148,14 @@ edge_spelled a e few sets names h =
 
 -- states
 
-state_spelled : (a : Automaton) (q : ℕ) → a.states < 2 ^ 32 → a.sets < 2 ^ 32 → length a.names < 2 ^ 32 → All (IsArrowOf a) a.edges → q < 2 ^ 32 → Free (state_tokens (text_state a q)) (state_lines a q)
+state_spelled : (a : Automaton) (q : ℕ) → a.states < 2 ^ 32 → a.sets < 2 ^ 32 → length a.names < 2 ^ 32 → All (IsEdgeOf a) a.edges → q < 2 ^ 32 → Free (state_tokens (text_state a q)) (state_lines a q)
 state_spelled a q few sets names h l =
     let edges = filter (λ e. e.from == q) a.edges in
-    let own = All-filter (λ e. e.from == q) (IsArrowOf a) a.edges h in
+    let own = All-filter (λ e. e.from == q) (IsEdgeOf a) a.edges h in
     free_free (in_line (free_held (free_free (free_header (codes "State") (refl, refl)) gap) (number q l)))
     (free_each (text_edge (length a.names)) edge_tokens (edge_line (length a.names)) edges (λ k d near. edge_spelled a (get_or edges k d) few sets names (own k d near)))
 
-states_spelled : (a : Automaton) → a.states < 2 ^ 32 → a.sets < 2 ^ 32 → length a.names < 2 ^ 32 → All (IsArrowOf a) a.edges
+states_spelled : (a : Automaton) → a.states < 2 ^ 32 → a.sets < 2 ^ 32 → length a.names < 2 ^ 32 → All (IsEdgeOf a) a.edges
     → Free (flat_map state_tokens (map (text_state a) (range_with_len 0 a.states))) (flat_map (state_lines a) (range_with_len 0 a.states))
 states_spelled a few sets names h =
     free_each (text_state a) state_tokens (state_lines a) (range_with_len 0 a.states)

@@ -6,7 +6,6 @@ use Rattle.std.proofs.lemmas.Bool.{cases_Bool, false≢true}
 use Rattle.std.proofs.lemmas.Bool.Decides.{nat_tests}
 use Rattle.std.proofs.lemmas.Fmt.{decimal_by_steps}
 use Rattle.std.proofs.lemmas.List.Sums.{fold-append}
-use Rattle.hoa_lexer.proofs.Words.{all_push}
 use Rattle.hoa_lexer.specs.Bytes.{is_digit}
 use Rattle.hoa_lexer.specs.Spelling.{IsNumeral, value_of, Quotes}
 use Rattle.hoa_lexer.specs.Spelling.Quotes.{nothing, escaped, plain}
@@ -14,6 +13,7 @@ use Rattle.hoa_lexer.specs.declared.token.Token.TheVariants.{Str, Int, Bang, Amp
 use Rattle.hoa_writer.specs.CanonicalText as canonical
 use Rattle.hoa_writer.specs.CanonicalText.{quoted}
 use Rattle.hoa_writer.proofs.SpelledOut.{Free, Held, free_blank, free_free, free_one, held_int}
+use Rattle.aut_base.proofs.Lists.{list_all-push}
 
 -- numbers
 
@@ -22,8 +22,8 @@ digit_is k h = grind (arith, nat_tests)
 
 numeral_push : (ds : List ℕ) (d : ℕ) → IsNumeral ds → 0 < value_of ds → is_digit d ≡ true → IsNumeral (ds ++ d ∷ [])
 numeral_push [] d h p e = absurd h
-numeral_push (b ∷ []) d h p e = (h, λ (same : b ≡ 48). absurd (omega arith), all_push is_digit d [] refl e)
-numeral_push (b ∷ c ∷ bs) d h p e = (h.0, h.1, all_push is_digit d (c ∷ bs) h.2 e)
+numeral_push (b ∷ []) d h p e = (h, λ (same : b ≡ 48). absurd (omega arith), list_all-push is_digit d [] refl e)
+numeral_push (b ∷ c ∷ bs) d h p e = (h.0, h.1, list_all-push is_digit d (c ∷ bs) h.2 e)
 
 value_push : (ds : List ℕ) (d : ℕ) → value_of (ds ++ d ∷ []) ≡ 10 * value_of ds + (d - 48)
 value_push ds d = fold-append (λ value digit. 10 * value + (digit - 48)) 0 ds (d ∷ [])

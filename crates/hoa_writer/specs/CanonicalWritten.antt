@@ -1,7 +1,7 @@
 -- What the canonical text of an automaton writes, and that it reads back as the automaton.
 use Rattle.std.specs.Prelude.{◌≡◌, ℕ, ◌==◌, if◌then◌else◌, List, [], ◌∷◌, ◌++◌, length, map, filter, codes, Option, Some, None}
 use Rattle.std.specs.List.{range_with_len}
-use Rattle.aut_base.specs.Automaton.{Arrow, Automaton}
+use Rattle.aut_base.specs.Automaton.{TreeEdge, Automaton}
 use Rattle.aut_base.specs.Label as label
 use Rattle.aut_base.specs.Label.{LabelTree, trees}
 use Rattle.hoa_lexer.specs.Laws.{HasTokens}
@@ -49,7 +49,7 @@ abbrev mutual
   written_labels label.none = raw.none
   written_labels (label.more t ts) = raw.more (written_label t) (written_labels ts)
 
-abbrev pub canonical_edge : ℕ → Arrow → WrittenEdge
+abbrev pub canonical_edge : ℕ → TreeEdge → WrittenEdge
 canonical_edge n e = record { label = Some (written_label (canonical_label n e.label)); to = e.to ∷ []; marks = e.marks }
 
 abbrev pub canonical_state : Automaton → ℕ → WrittenState
@@ -80,7 +80,7 @@ canonical_written a name = record {
 
 -- the automaton with each label in its canonical form
 abbrev pub canonical : Automaton → Automaton
-canonical a = record a { edges = map (λ (e : Arrow). record e { label = canonical_label (length a.names) e.label }) a.edges }
+canonical a = record a { edges = map (λ (e : TreeEdge). record e { label = canonical_label (length a.names) e.label }) a.edges }
 
 -- The text's tokens spell one automaton and no other. It is valid, and it describes the one that was written, with each
 -- label in its canonical form. No limit of a reader plays a part.

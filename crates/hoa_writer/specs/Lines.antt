@@ -2,7 +2,7 @@
 use Rattle.std.specs.Prelude.{◌≡◌, ℕ, ◌<◌, ◌≤◌, ◌==◌, List, ◌++◌, map, filter, flat_map, drop, length, codes}
 use Rattle.std.specs.Fmt.{decimal}
 use Rattle.std.specs.List.{slice_index_or}
-use Rattle.aut_base.specs.Automaton.{Arrow, arrow}
+use Rattle.aut_base.specs.Automaton.{TreeEdge, tree_edge}
 use Rattle.aut_base.specs.Label.{AllBelow}
 use Rattle.aut_base.specs.declared.description.Edge.{Edge}
 use Rattle.hoa_writer.specs.CanonicalText.{line, quoted, edge_line}
@@ -14,15 +14,15 @@ abbrev pub names_line : List (List ℕ) → List ℕ
 names_line names = line (codes "AP: " ++ (decimal (length names) ++ flat_map (λ name. codes " " ++ quoted name) names))
 
 -- the edges of a state
-abbrev pub edges_of : ℕ → List Edge → List Arrow
-edges_of q edges = filter (λ e. e.from == q) (map arrow edges)
+abbrev pub edges_of : ℕ → List Edge → List TreeEdge
+edges_of q edges = filter (λ e. e.from == q) (map tree_edge edges)
 
 -- From the place on, the edges leave this state or later ones in order, and their labels speak of n propositions.
 pub record LeadFrom (n q : ℕ) (edges : List Edge) (place : ℕ) : Type 0 where
   pub within : place ≤ length edges
   pub from : (i j : ℕ) (d : Edge) → place ≤ i → i ≤ j → j < length edges → (slice_index_or edges i d).from ≤ (slice_index_or edges j d).from
   pub least : (i : ℕ) (d : Edge) → place ≤ i → i < length edges → q ≤ (slice_index_or edges i d).from
-  pub labels : (i : ℕ) (d : Edge) → i < length edges → AllBelow n (arrow (slice_index_or edges i d)).label
+  pub labels : (i : ℕ) (d : Edge) → i < length edges → AllBelow n (tree_edge (slice_index_or edges i d)).label
 
 -- The edges of the state are written, and from `after` on stand those of later states.
 pub record WritesEdges (n q : ℕ) (edges : List Edge) (place after : ℕ) (old new : List ℕ) : Type 0 where

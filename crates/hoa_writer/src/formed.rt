@@ -2,7 +2,7 @@
 
 ghost use Rattle.std.specs.Prelude.{◌≢◌, ℕ, ◌<◌, ◌≤◌, ◌↔◌, IsTrue, All, length, slice_index, map};
 ghost use Rattle.std.specs.List.{AllAdjacentBelow};
-ghost use Rattle.aut_base.specs.Automaton.{arrow, automaton, IsArrowOf, IsWellFormed};
+ghost use Rattle.aut_base.specs.Automaton.{tree_edge, automaton, IsEdgeOf, IsWellFormed};
 ghost use Rattle.aut_base.specs.Formula.{SetsBelow, formula_tree};
 ghost use Rattle.aut_base.specs.Label.{AllBelow, label_tree, label_list};
 
@@ -73,7 +73,7 @@ fn in_order(edges: &[Edge]) -> bool
 
 fn are_edges(description: &Description, edges: &[Edge]) -> bool
     requires { length description.now.names ≤ 8 }
-    ensures { IsTrue result → All (λ e. IsArrowOf (automaton description.now) (arrow e)) edges.now }
+    ensures { IsTrue result → All (λ e. IsEdgeOf (automaton description.now) (tree_edge e)) edges.now }
 {
     'edges: for edge in edges {
         if !is_edge(description, edge) {
@@ -85,7 +85,7 @@ fn are_edges(description: &Description, edges: &[Edge]) -> bool
 
 fn is_edge(description: &Description, edge: &Edge) -> bool
     requires { length description.now.names ≤ 8 }
-    ensures { IsTrue result → IsArrowOf (automaton description.now) (arrow edge.now) }
+    ensures { IsTrue result → IsEdgeOf (automaton description.now) (tree_edge edge.now) }
 {
     edge.from < description.states
         && edge.to < description.states

@@ -5,7 +5,7 @@ ghost use Rattle.std.specs.Option.{option_copied};
 ghost use Rattle.std.specs.List.{range_with_len};
 ghost use Rattle.std.specs.Fmt.{decimal};
 ghost use Rattle.aut_base.specs.Label.{AllBelow};
-ghost use Rattle.aut_base.specs.Automaton.{arrow, automaton, IsWellFormed};
+ghost use Rattle.aut_base.specs.Automaton.{tree_edge, automaton, IsWellFormed};
 ghost use Rattle.aut_base.specs.Formula.{formula_tree};
 ghost use Rattle.hoa_writer.specs.CanonicalText.{formula_text, line, quoted, edge_line, state_lines, name_line, header_lines, canonical_text};
 ghost use Rattle.hoa_writer.specs.CanonicalWritten.{ReadsBack};
@@ -180,9 +180,9 @@ fn push_edges(
 /// Adds the line of an edge.
 fn push_edge(out: &mut Text, room: &mut Room, edge: &Edge) -> Result<(), Memory>
     requires few { length room.old.valuation.items ≤ 8 }
-    requires below { AllBelow (length room.old.valuation.items) (arrow edge.now).label }
+    requires below { AllBelow (length room.old.valuation.items) (tree_edge edge.now).label }
     ensures room { OnOk result (length room.new.valuation.items ≡ length room.old.valuation.items) }
-    ensures line { OnOk result (out.new ≡ out.old ++ edge_line (length room.old.valuation.items) (arrow edge.now)) }
+    ensures line { OnOk result (out.new ≡ out.old ++ edge_line (length room.old.valuation.items) (tree_edge edge.now)) }
 {
     out.push(b'[')?;
     push_label(out, room, &edge.label)?;

@@ -5,7 +5,7 @@ ghost use Rattle.hoa_lexer.specs.declared.token.Token.{Token};
 ghost use Rattle.hoa_parser.specs.Expecting as part;
 ghost use Rattle.hoa_parser.specs.Expecting.{condition_parts, set_parts};
 ghost use Rattle.hoa_parser.specs.Parsing.{Reads, Uses, state};
-ghost use Rattle.hoa_parser.specs.Parts.{IsAndFatom, IsAndFatoms, IsCondition, IsFand, IsFatom, IsMaybeBang, IsSet, sign_at, sign_of, IsOrFand, IsOrFands};
+ghost use Rattle.hoa_parser.specs.RuleReads.{IsAndFatom, IsAndFatoms, IsCondition, IsFand, IsFatom, IsMaybeBang, IsSet, sign_at, sign_of, IsOrFand, IsOrFands};
 ghost use Rattle.aut_base.specs.Formula.{formula_tree};
 
 use super::tokens::{advance, closing_paren, number, opening_paren, refused};
@@ -25,7 +25,7 @@ pub(super) fn condition<I: Inputs>(
     depth: u32,
 ) -> Result<Formula, ReadFault>
     requires unspent { lexer.old.spent ≡ false }
-    requires depth { depth ≤ 512 }
+    requires depth { depth ≤ MOST_DEPTH }
     ensures reads { Reads (condition_parts depth) [] (IsCondition depth) result
         (state lexer.old ahead.old (I.left inputs.old) (I.read_faults inputs.old) (I.open_faults inputs.old) (I.texts inputs.old))
         (state lexer.new ahead.new (I.left inputs.new) (I.read_faults inputs.new) (I.open_faults inputs.new) (I.texts inputs.new)) }
@@ -48,7 +48,7 @@ fn or_fands<I: Inputs>(
     first: Formula,
 ) -> Result<Formula, ReadFault>
     requires unspent { lexer.old.spent ≡ false }
-    requires depth { depth ≤ 512 }
+    requires depth { depth ≤ MOST_DEPTH }
     ensures reads { Reads (part.Conjunctions depth ∷ []) [] (IsOrFands depth (formula_tree first)) result
         (state lexer.old ahead.old (I.left inputs.old) (I.read_faults inputs.old) (I.open_faults inputs.old) (I.texts inputs.old))
         (state lexer.new ahead.new (I.left inputs.new) (I.read_faults inputs.new) (I.open_faults inputs.new) (I.texts inputs.new)) }
@@ -86,7 +86,7 @@ fn or_fand<I: Inputs>(
 ) -> Result<Formula, ReadFault>
     requires unspent { lexer.old.spent ≡ false }
     requires bar { ahead.old ≡ Token.Bar }
-    requires depth { depth ≤ 512 }
+    requires depth { depth ≤ MOST_DEPTH }
     ensures reads { Reads (part.Conjunctions depth ∷ []) (part.Conjunctions depth ∷ []) (IsOrFand depth) result
         (state lexer.old ahead.old (I.left inputs.old) (I.read_faults inputs.old) (I.open_faults inputs.old) (I.texts inputs.old))
         (state lexer.new ahead.new (I.left inputs.new) (I.read_faults inputs.new) (I.open_faults inputs.new) (I.texts inputs.new)) }
@@ -110,7 +110,7 @@ fn fand<I: Inputs>(
     depth: u32,
 ) -> Result<Formula, ReadFault>
     requires unspent { lexer.old.spent ≡ false }
-    requires depth { depth ≤ 512 }
+    requires depth { depth ≤ MOST_DEPTH }
     ensures reads { Reads (part.Atom depth ∷ part.Atoms depth ∷ []) [] (IsFand depth) result
         (state lexer.old ahead.old (I.left inputs.old) (I.read_faults inputs.old) (I.open_faults inputs.old) (I.texts inputs.old))
         (state lexer.new ahead.new (I.left inputs.new) (I.read_faults inputs.new) (I.open_faults inputs.new) (I.texts inputs.new)) }
@@ -133,7 +133,7 @@ fn and_fatoms<I: Inputs>(
     first: Formula,
 ) -> Result<Formula, ReadFault>
     requires unspent { lexer.old.spent ≡ false }
-    requires depth { depth ≤ 512 }
+    requires depth { depth ≤ MOST_DEPTH }
     ensures reads { Reads (part.Atoms depth ∷ []) [] (IsAndFatoms depth (formula_tree first)) result
         (state lexer.old ahead.old (I.left inputs.old) (I.read_faults inputs.old) (I.open_faults inputs.old) (I.texts inputs.old))
         (state lexer.new ahead.new (I.left inputs.new) (I.read_faults inputs.new) (I.open_faults inputs.new) (I.texts inputs.new)) }
@@ -171,7 +171,7 @@ fn and_fatom<I: Inputs>(
 ) -> Result<Formula, ReadFault>
     requires unspent { lexer.old.spent ≡ false }
     requires amp { ahead.old ≡ Token.Amp }
-    requires depth { depth ≤ 512 }
+    requires depth { depth ≤ MOST_DEPTH }
     ensures reads { Reads (part.Atoms depth ∷ []) (part.Atoms depth ∷ []) (IsAndFatom depth) result
         (state lexer.old ahead.old (I.left inputs.old) (I.read_faults inputs.old) (I.open_faults inputs.old) (I.texts inputs.old))
         (state lexer.new ahead.new (I.left inputs.new) (I.read_faults inputs.new) (I.open_faults inputs.new) (I.texts inputs.new)) }
@@ -195,7 +195,7 @@ fn fatom<I: Inputs>(
     depth: u32,
 ) -> Result<Formula, ReadFault>
     requires unspent { lexer.old.spent ≡ false }
-    requires depth { depth ≤ 512 }
+    requires depth { depth ≤ MOST_DEPTH }
     ensures reads { Reads (part.Atom depth ∷ []) [] (IsFatom depth) result
         (state lexer.old ahead.old (I.left inputs.old) (I.read_faults inputs.old) (I.open_faults inputs.old) (I.texts inputs.old))
         (state lexer.new ahead.new (I.left inputs.new) (I.read_faults inputs.new) (I.open_faults inputs.new) (I.texts inputs.new)) }
@@ -217,7 +217,7 @@ fn group<I: Inputs>(
 ) -> Result<Formula, ReadFault>
     requires unspent { lexer.old.spent ≡ false }
     requires paren { ahead.old ≡ Token.LeftParen }
-    requires depth { depth ≤ 512 }
+    requires depth { depth ≤ MOST_DEPTH }
     ensures reads { Reads (part.Atom depth ∷ []) [] (IsFatom depth) result
         (state lexer.old ahead.old (I.left inputs.old) (I.read_faults inputs.old) (I.open_faults inputs.old) (I.texts inputs.old))
         (state lexer.new ahead.new (I.left inputs.new) (I.read_faults inputs.new) (I.open_faults inputs.new) (I.texts inputs.new)) }

@@ -5,7 +5,7 @@ ghost use Rattle.hoa_lexer.specs.declared.token.Token.{Token};
 ghost use Rattle.hoa_parser.specs.declared.header.Header.{Header};
 ghost use Rattle.hoa_parser.specs.Expecting as part;
 ghost use Rattle.hoa_parser.specs.Parsing.{Reads, Uses, state};
-ghost use Rattle.hoa_parser.specs.Parts.{AreItems, IsItem, IsItemOf, IsItemWritten, parts_of};
+ghost use Rattle.hoa_parser.specs.RuleReads.{AreItems, IsItem, IsItemOf, IsItemWritten, parts_of};
 
 use super::condition::condition;
 use super::label::label;

@@ -6,7 +6,7 @@ ghost use Rattle.hoa_lexer.specs.declared.token.Token.{Token};
 ghost use Rattle.hoa_parser.specs.Expecting as part;
 ghost use Rattle.hoa_parser.specs.Expecting.{label_parts};
 ghost use Rattle.hoa_parser.specs.Parsing.{Reads, Uses, state};
-ghost use Rattle.hoa_parser.specs.Parts.{atom_of, truth_value, IsAndLnot, IsAndLnots, IsLabel, IsLand, IsLnot, IsOrLand, IsOrLands};
+ghost use Rattle.hoa_parser.specs.RuleReads.{atom_of, truth_value, IsAndLnot, IsAndLnots, IsLabel, IsLand, IsLnot, IsOrLand, IsOrLands};
 ghost use Rattle.hoa_parser.specs.Raw.{raw_tree};
 
 use super::tokens::{advance, closing_paren, refused};
@@ -26,7 +26,7 @@ pub(super) fn label<I: Inputs>(
     depth: u32,
 ) -> Result<RawLabel, ReadFault>
     requires unspent { lexer.old.spent ≡ false }
-    requires depth { depth ≤ 512 }
+    requires depth { depth ≤ MOST_DEPTH }
     ensures reads { Reads (label_parts depth) [] (IsLabel depth) result
         (state lexer.old ahead.old (I.left inputs.old) (I.read_faults inputs.old) (I.open_faults inputs.old) (I.texts inputs.old))
         (state lexer.new ahead.new (I.left inputs.new) (I.read_faults inputs.new) (I.open_faults inputs.new) (I.texts inputs.new)) }
@@ -49,7 +49,7 @@ fn or_lands<I: Inputs>(
     first: RawLabel,
 ) -> Result<RawLabel, ReadFault>
     requires unspent { lexer.old.spent ≡ false }
-    requires depth { depth ≤ 512 }
+    requires depth { depth ≤ MOST_DEPTH }
     ensures reads { Reads (part.Products depth ∷ []) [] (IsOrLands depth (raw_tree first)) result
         (state lexer.old ahead.old (I.left inputs.old) (I.read_faults inputs.old) (I.open_faults inputs.old) (I.texts inputs.old))
         (state lexer.new ahead.new (I.left inputs.new) (I.read_faults inputs.new) (I.open_faults inputs.new) (I.texts inputs.new)) }
@@ -87,7 +87,7 @@ fn or_land<I: Inputs>(
 ) -> Result<RawLabel, ReadFault>
     requires unspent { lexer.old.spent ≡ false }
     requires bar { ahead.old ≡ Token.Bar }
-    requires depth { depth ≤ 512 }
+    requires depth { depth ≤ MOST_DEPTH }
     ensures reads { Reads (part.Products depth ∷ []) (part.Products depth ∷ []) (IsOrLand depth) result
         (state lexer.old ahead.old (I.left inputs.old) (I.read_faults inputs.old) (I.open_faults inputs.old) (I.texts inputs.old))
         (state lexer.new ahead.new (I.left inputs.new) (I.read_faults inputs.new) (I.open_faults inputs.new) (I.texts inputs.new)) }
@@ -111,7 +111,7 @@ fn land<I: Inputs>(
     depth: u32,
 ) -> Result<RawLabel, ReadFault>
     requires unspent { lexer.old.spent ≡ false }
-    requires depth { depth ≤ 512 }
+    requires depth { depth ≤ MOST_DEPTH }
     ensures reads { Reads (part.Factor depth ∷ part.Factors depth ∷ []) [] (IsLand depth) result
         (state lexer.old ahead.old (I.left inputs.old) (I.read_faults inputs.old) (I.open_faults inputs.old) (I.texts inputs.old))
         (state lexer.new ahead.new (I.left inputs.new) (I.read_faults inputs.new) (I.open_faults inputs.new) (I.texts inputs.new)) }
@@ -134,7 +134,7 @@ fn and_lnots<I: Inputs>(
     first: RawLabel,
 ) -> Result<RawLabel, ReadFault>
     requires unspent { lexer.old.spent ≡ false }
-    requires depth { depth ≤ 512 }
+    requires depth { depth ≤ MOST_DEPTH }
     ensures reads { Reads (part.Factors depth ∷ []) [] (IsAndLnots depth (raw_tree first)) result
         (state lexer.old ahead.old (I.left inputs.old) (I.read_faults inputs.old) (I.open_faults inputs.old) (I.texts inputs.old))
         (state lexer.new ahead.new (I.left inputs.new) (I.read_faults inputs.new) (I.open_faults inputs.new) (I.texts inputs.new)) }
@@ -172,7 +172,7 @@ fn and_lnot<I: Inputs>(
 ) -> Result<RawLabel, ReadFault>
     requires unspent { lexer.old.spent ≡ false }
     requires amp { ahead.old ≡ Token.Amp }
-    requires depth { depth ≤ 512 }
+    requires depth { depth ≤ MOST_DEPTH }
     ensures reads { Reads (part.Factors depth ∷ []) (part.Factors depth ∷ []) (IsAndLnot depth) result
         (state lexer.old ahead.old (I.left inputs.old) (I.read_faults inputs.old) (I.open_faults inputs.old) (I.texts inputs.old))
         (state lexer.new ahead.new (I.left inputs.new) (I.read_faults inputs.new) (I.open_faults inputs.new) (I.texts inputs.new)) }
@@ -196,7 +196,7 @@ fn lnot<I: Inputs>(
     depth: u32,
 ) -> Result<RawLabel, ReadFault>
     requires unspent { lexer.old.spent ≡ false }
-    requires depth { depth ≤ 512 }
+    requires depth { depth ≤ MOST_DEPTH }
     ensures reads { Reads (part.Factor depth ∷ []) [] (IsLnot depth) result
         (state lexer.old ahead.old (I.left inputs.old) (I.read_faults inputs.old) (I.open_faults inputs.old) (I.texts inputs.old))
         (state lexer.new ahead.new (I.left inputs.new) (I.read_faults inputs.new) (I.open_faults inputs.new) (I.texts inputs.new)) }
@@ -219,7 +219,7 @@ fn negation<I: Inputs>(
 ) -> Result<RawLabel, ReadFault>
     requires unspent { lexer.old.spent ≡ false }
     requires bang { ahead.old ≡ Token.Bang }
-    requires depth { depth ≤ 512 }
+    requires depth { depth ≤ MOST_DEPTH }
     ensures reads { Reads (part.Factor depth ∷ []) [] (IsLnot depth) result
         (state lexer.old ahead.old (I.left inputs.old) (I.read_faults inputs.old) (I.open_faults inputs.old) (I.texts inputs.old))
         (state lexer.new ahead.new (I.left inputs.new) (I.read_faults inputs.new) (I.open_faults inputs.new) (I.texts inputs.new)) }
@@ -249,7 +249,7 @@ fn group<I: Inputs>(
 ) -> Result<RawLabel, ReadFault>
     requires unspent { lexer.old.spent ≡ false }
     requires paren { ahead.old ≡ Token.LeftParen }
-    requires depth { depth ≤ 512 }
+    requires depth { depth ≤ MOST_DEPTH }
     ensures reads { Reads (part.Factor depth ∷ []) [] (IsLnot depth) result
         (state lexer.old ahead.old (I.left inputs.old) (I.read_faults inputs.old) (I.open_faults inputs.old) (I.texts inputs.old))
         (state lexer.new ahead.new (I.left inputs.new) (I.read_faults inputs.new) (I.open_faults inputs.new) (I.texts inputs.new)) }

@@ -4,7 +4,7 @@ ghost use Rattle.std.specs.Prelude.{◌≡◌, [], ◌∷◌, false, IfSome, IfN
 ghost use Rattle.hoa_lexer.specs.declared.token.Token.{Token};
 ghost use Rattle.hoa_parser.specs.Expecting as part;
 ghost use Rattle.hoa_parser.specs.Parsing.{Advances, Reads, Uses, refusal, state};
-ghost use Rattle.hoa_parser.specs.Parts.{IsAliasName, IsMark, IsNumber, IsOptionalText, IsQuoted, IsWord};
+ghost use Rattle.hoa_parser.specs.RuleReads.{IsAliasName, IsToken, IsNumber, IsOptionalText, IsQuoted, IsWord};
 
 use crate::ReadFault;
 use aut_base::Text;
@@ -161,7 +161,7 @@ pub(super) fn opening_paren<I: Inputs>(
     ahead: &mut Token,
 ) -> Result<(), ReadFault>
     requires unspent { lexer.old.spent ≡ false }
-    ensures reads { Reads (part.OpeningParen ∷ []) [] (IsMark Token.LeftParen) result
+    ensures reads { Reads (part.OpeningParen ∷ []) [] (IsToken Token.LeftParen) result
         (state lexer.old ahead.old (I.left inputs.old) (I.read_faults inputs.old) (I.open_faults inputs.old) (I.texts inputs.old))
         (state lexer.new ahead.new (I.left inputs.new) (I.read_faults inputs.new) (I.open_faults inputs.new) (I.texts inputs.new)) }
 {
@@ -179,7 +179,7 @@ pub(super) fn closing_paren<I: Inputs>(
     ahead: &mut Token,
 ) -> Result<(), ReadFault>
     requires unspent { lexer.old.spent ≡ false }
-    ensures reads { Reads (part.ClosingParen ∷ []) [] (IsMark Token.RightParen) result
+    ensures reads { Reads (part.ClosingParen ∷ []) [] (IsToken Token.RightParen) result
         (state lexer.old ahead.old (I.left inputs.old) (I.read_faults inputs.old) (I.open_faults inputs.old) (I.texts inputs.old))
         (state lexer.new ahead.new (I.left inputs.new) (I.read_faults inputs.new) (I.open_faults inputs.new) (I.texts inputs.new)) }
 {
@@ -197,7 +197,7 @@ pub(super) fn closing_bracket<I: Inputs>(
     ahead: &mut Token,
 ) -> Result<(), ReadFault>
     requires unspent { lexer.old.spent ≡ false }
-    ensures reads { Reads (part.ClosingBracket ∷ []) [] (IsMark Token.RightBracket) result
+    ensures reads { Reads (part.ClosingBracket ∷ []) [] (IsToken Token.RightBracket) result
         (state lexer.old ahead.old (I.left inputs.old) (I.read_faults inputs.old) (I.open_faults inputs.old) (I.texts inputs.old))
         (state lexer.new ahead.new (I.left inputs.new) (I.read_faults inputs.new) (I.open_faults inputs.new) (I.texts inputs.new)) }
 {

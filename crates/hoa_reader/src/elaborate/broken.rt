@@ -6,7 +6,7 @@ ghost use Rattle.hoa_parser.specs.Raw.{written};
 ghost use Rattle.hoa_reader.specs.Validity.{IsFirstBroken, IsValid, keeps, names_single_states, propositions_have_names, sets_are_below};
 
 use crate::elaborate::parts::Parts;
-use crate::elaborate::{leaves, rules, used};
+use crate::elaborate::{leaves, rules};
 use crate::Rule;
 use hoa_parser::Raw;
 use aut_base::Memory;
@@ -74,7 +74,7 @@ fn keeps<'a>(alloc: Global, rule: Rule, raw: &'a Raw, parts: &Parts<'a>) -> Resu
         Rule::V3 => Ok(rules::may_all_be_passed_over(items)),
         Rule::V4 => rules::all_names_agree(alloc, items),
         Rule::V5 => Ok(names_single_states(raw, parts)),
-        Rule::V6 => Ok(used::are_counted(items, parts.after)),
+        Rule::V6 => Ok(rules::are_counted(items, parts.after)),
         Rule::V7 => leaves::defines_aliases(alloc, &parts.defs, &parts.labels),
         Rule::V8 => Ok(propositions_have_names(raw, parts)),
         Rule::V9 => Ok(sets_are_below(raw, parts)),

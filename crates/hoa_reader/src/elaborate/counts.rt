@@ -66,7 +66,7 @@ fn own_count<'a>(edge: &'a RawEdge, known: &Places<'a, Known>, none: &Places<'a,
 }
 
 /// What the label of the state counts for each of its edges.
-fn state_count<'a>(state: &'a RawState, known: &Places<'a, Known>) -> Option<u64>
+fn state_weight<'a>(state: &'a RawState, known: &Places<'a, Known>) -> Option<u64>
     ensures { result ≡ option_map (capped_size (sizes_in known.now)) (written_state state.now).label }
 {
     match &state.label {
@@ -101,7 +101,7 @@ fn left_after<'a>(
     requires { IsNone none.now }
     ensures { MatchOption result (most < state_counted known.now (written_state state.now)) (λ left. left + state_counted known.now (written_state state.now) ≡ most) }
 {
-    let own = state_count(state, known);
+    let own = state_weight(state, known);
     let mut left = most;
     'edges: for edge in state.edges.as_slice() {
         let count = edge_count(own, edge, known, none);

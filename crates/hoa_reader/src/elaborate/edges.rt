@@ -1,17 +1,18 @@
 //! The edges of the described automaton.
 
 ghost use Rattle.std.specs.Prelude.{◌≡◌, ◌<◌, ◌==◌, ◌++◌, ◌^◌, ℕ, None, Some, true, false, get_or, length, map, slice_set, IfOk, OnOk};
-ghost use Rattle.aut_base.specs.Automaton.{arrow};
+ghost use Rattle.aut_base.specs.Automaton.{tree_edge};
 ghost use Rattle.aut_base.specs.Label.{label_tree};
 ghost use Rattle.aut_base.specs.Marks.{is_in};
-ghost use Rattle.hoa_reader.specs.Arrows.{HasKnown, IsPlace, arrow_for, arrows_for, edges_for, label_for};
+ghost use Rattle.hoa_reader.specs.TreeEdges.{HasKnown, IsPlace, tree_edge_for, tree_edges_for, edges_for, label_for};
 ghost use Rattle.hoa_reader.specs.Pieces.{numbers};
 ghost use Rattle.hoa_parser.specs.Raw.{written_edge, written_state};
 ghost use Rattle.hoa_reader.specs.Validity.{all_differ};
 
 use crate::elaborate::aliases::Known;
 use crate::elaborate::labels::{expand, letter_label};
-use crate::elaborate::marks::{flags_of, joined, only_state};
+use crate::elaborate::marks::{flags_of, joined};
+use crate::elaborate::starts::only_state;
 use crate::elaborate::parts::AliasDef;
 use crate::elaborate::places::Places;
 use hoa_parser::{RawEdge, RawState};
@@ -60,7 +61,7 @@ fn edge_of<'a>(
     requires len { length own.now ≡ shared.now.sets }
     requires few { length own.now < 2 ^ 32 }
     requires set { (k : ℕ) → k < shared.now.sets → get_or own.now k false ≡ is_in k state.now.marks }
-    ensures { IfOk result (λ new. arrow new ≡ arrow_for shared.now (written_state state.now) letter (written_edge edge.now)) }
+    ensures { IfOk result (λ new. tree_edge new ≡ tree_edge_for shared.now (written_state state.now) letter (written_edge edge.now)) }
 {
     let label = label_of(alloc, shared, state, edge, letter)?;
     let marks = joined(alloc, own, edge.marks.as_slice())?;
@@ -80,7 +81,7 @@ fn add_edges<'a>(
     state: &'a RawState,
 ) -> Result<(), Memory>
     requires { HasKnown shared.now }
-    ensures { OnOk result (map arrow edges.new ≡ map arrow edges.old ++ arrows_for shared.now (written_state state.now)) }
+    ensures { OnOk result (map tree_edge edges.new ≡ map tree_edge edges.old ++ tree_edges_for shared.now (written_state state.now)) }
 {
     let own = flags_of(alloc, shared.sets, state.marks.as_slice())?;
     let mut letter = 0;
@@ -125,7 +126,7 @@ pub(crate) fn edges_of<'a>(
 ) -> Result<Edges, Memory>
     requires known { HasKnown shared.now }
     requires differ { all_differ ◌==◌ (numbers (map written_state states.now)) ≡ true }
-    ensures { IfOk result (λ edges. map arrow edges ≡ edges_for shared.now (map written_state states.now) count) }
+    ensures { IfOk result (λ edges. map tree_edge edges ≡ edges_for shared.now (map written_state states.now) count) }
 {
     let places = places_of(alloc, states, count)?;
     let mut edges = Edges::new(alloc);

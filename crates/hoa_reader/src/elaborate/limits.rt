@@ -2,42 +2,20 @@
 
 ghost use Rattle.std.specs.Prelude.{◌≡◌, true, nat_lt, MatchOption};
 ghost use Rattle.hoa_reader.specs.Counts.{Aliases, PassesNone, count_of, most_of};
-ghost use Rattle.hoa_reader.specs.Described.{state_count};
 ghost use Rattle.hoa_reader.specs.Gathered.{ArePartsOf, PassesSome};
 ghost use Rattle.hoa_reader.specs.Growing.{AreKnown, meanings_by};
 ghost use Rattle.hoa_parser.specs.Raw.{written};
-ghost use Rattle.hoa_reader.specs.Validity.{acceptance_of, keeps};
+ghost use Rattle.hoa_reader.specs.Validity.{keeps};
 ghost use Rattle.hoa_reader.specs.declared.elaborate.Rule.TheVariants.{V6};
 
 use hoa_parser::Raw;
 use crate::elaborate::aliases::Known;
 use crate::elaborate::counts::{are_heavy, are_tall, has_more_edges};
-use crate::elaborate::parts::{Parts, count_of_states};
+use crate::elaborate::parts::Parts;
 use crate::elaborate::places::Places;
+use crate::elaborate::sizes::{set_count, state_count};
 use aut_base::{Limit, MOST_ALIASES, MOST_EDGES, MOST_NAMES, MOST_SETS, MOST_STATES};
 use std::alloc::Global;
-
-/// The number of states.
-pub(crate) fn state_count(raw: &Raw, parts: &Parts<'_>) -> u64
-    requires { ArePartsOf (written raw.now) parts.now }
-    ensures { result ≡ state_count (written raw.now) }
-{
-    match count_of_states(raw.items.as_slice()) {
-        Some(count) => u64::from(count),
-        None => parts.after,
-    }
-}
-
-/// The number of acceptance sets.
-pub(crate) fn set_count(raw: &Raw, parts: &Parts<'_>) -> u32
-    requires { ArePartsOf (written raw.now) parts.now }
-    ensures { result ≡ (acceptance_of (written raw.now)).sets }
-{
-    match &parts.acceptance {
-        Some(acceptance) => acceptance.sets,
-        None => 0,
-    }
-}
 
 /// Whether labels grow further than they may.
 fn grow_too_far<'a>(

@@ -1,11 +1,11 @@
 //! The rules that speak of a few lines, or of one state at a time.
 
-ghost use Rattle.std.specs.Prelude.{◌≡◌, ℕ, ◌==◌, ◌^◌, codes, count_by, is_none, is_some, not, map, IfOk};
+ghost use Rattle.std.specs.Prelude.{◌≡◌, ℕ, ◌==◌, ◌^◌, codes, count_by, filter_map, is_none, is_some, nat_le, not, map, IfOk};
 ghost use Rattle.std.specs.List.{list_all};
 ghost use Rattle.hoa_reader.specs.Pieces.{is_line, lines_once};
 ghost use Rattle.hoa_parser.specs.Raw.{written_edge, written_item, written_state};
 ghost use Rattle.aut_base.specs.Text.{same_text};
-ghost use Rattle.hoa_reader.specs.Validity.{all_differ, begins_with_capital, has_edge_per_letter, is_one_state, labels_one_way, marks_below, may_be_passed_over, names_agree, numbers_below};
+ghost use Rattle.hoa_reader.specs.Validity.{all_differ, begins_with_capital, has_edge_per_letter, is_one_state, labels_one_way, marks_below, may_be_passed_over, names_agree, numbers_below, states_item};
 
 use crate::elaborate::places::Places;
 use hoa_parser::{Item, RawEdge, RawState};
@@ -308,6 +308,21 @@ pub(crate) fn have_edges_for_letters(states: &[RawState], names: usize) -> bool
 {
     'states: for state in states {
         if !has_edges_for_letters(state, names) {
+            return false;
+        }
+    }
+    true
+}
+
+/// Whether each `States:` line has this number or a greater one.
+pub(crate) fn are_counted(items: &[Item], after: u64) -> bool
+    ensures { result ≡ list_all (nat_le after) (filter_map states_item (map written_item items.now)) }
+{
+    'items: for item in items {
+        let Item::States(count) = item else {
+            continue;
+        };
+        if u64::from(*count) < after {
             return false;
         }
     }

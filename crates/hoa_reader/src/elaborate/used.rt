@@ -1,13 +1,11 @@
 //! The number of states that follows from the numbers that are used.
 
-ghost use Rattle.std.specs.Prelude.{◌≡◌, ◌++◌, max, map, flat_map, filter_map, nat_le};
-ghost use Rattle.std.specs.List.{list_all};
+ghost use Rattle.std.specs.Prelude.{◌≡◌, ◌++◌, max, map, flat_map};
 ghost use Rattle.hoa_reader.specs.Described.{after_all};
 ghost use Rattle.hoa_reader.specs.Pieces.{goals, numbers, starts_named};
-ghost use Rattle.hoa_parser.specs.Raw.{written_edge, written_item, written_state};
-ghost use Rattle.hoa_reader.specs.Validity.{states_item};
+ghost use Rattle.hoa_parser.specs.Raw.{written_edge, written_state};
 
-use hoa_parser::{Item, RawEdge, RawState};
+use hoa_parser::{RawEdge, RawState};
 use aut_base::Numbers;
 
 /// The least number that is above these, and no less than the other.
@@ -64,19 +62,4 @@ pub(crate) fn after_used(starts: &[&Numbers], states: &[RawState]) -> u64
     ensures { result ≡ after_all (starts_named starts.now ++ (numbers (map written_state states.now) ++ goals (map written_state states.now))) }
 {
     after_states(states, after_starts(starts, 0))
-}
-
-/// Whether each `States:` line has this number or a greater one.
-pub(crate) fn are_counted(items: &[Item], after: u64) -> bool
-    ensures { result ≡ list_all (nat_le after) (filter_map states_item (map written_item items.now)) }
-{
-    'items: for item in items {
-        let Item::States(count) = item else {
-            continue;
-        };
-        if u64::from(*count) < after {
-            return false;
-        }
-    }
-    true
 }

@@ -3,7 +3,7 @@ use Rattle.std.specs.Prelude.{flat_map}
 use Rattle.std.specs.Borrow.{Bor}
 use Rattle.std.specs.List.{enumerate_from}
 use Rattle.std.specs.Option.{option_map_or}
-use Rattle.aut_base.specs.Automaton.{Arrow, Automaton, arrow}
+use Rattle.aut_base.specs.Automaton.{TreeEdge, Automaton, tree_edge}
 use Rattle.aut_base.specs.Formula.{FormulaTree, formula_tree}
 use Rattle.hoa_reader.proofs.NamesDiffer.{names_differ, pairs_differ}
 use Rattle.hoa_reader.specs.Described.{Meaning, below, edges_of, expanded, letter_label, marks_in_order, meanings_after, meanings_of, only_state, starts_of, state_count, without_repeats}
@@ -20,7 +20,7 @@ names_of-requires c =
     subst P (sym c.requires.parts.names) (pairs_differ (names_of w) (names_differ w.items c.requires.valid.1.1.1.0))
 
 -- the edges, by all that they depend on
-abbrev edges_by : List Meaning → ℕ → ℕ → List WrittenState → ℕ → List Arrow
+abbrev edges_by : List Meaning → ℕ → ℕ → List WrittenState → ℕ → List TreeEdge
 edges_by ms names sets states count =
     flat_map (λ q. flat_map (λ (s : WrittenState). map (λ (p : ℕ × WrittenEdge). record {
       from = s.number;
@@ -40,18 +40,18 @@ returns c =
     let names : c.in_ok-names.names ≡ names_of w = c.in_ok-names.ensures ∙ parts.names in
     let starts : c.in_ok-starts.starts ≡ starts_of w =
     c.in_ok-starts.ensures ∙ ap (λ (groups : List (List ℕ)). without_repeats (map only_state groups)) (ap (map (λ (s : Bor (List ℕ)). s.now)) c.deref.ensures.value ∙ parts.starts) in
-    let edges : map arrow c.in_ok-edges.edges ≡ edges_of w =
+    let edges : map tree_edge c.in_ok-edges.edges ≡ edges_of w =
     c.in_ok-edges.ensures
     ∙ ap (λ (ss : List RawState). edges_by (meanings_by defs) n sets (map written_state ss) count) c.as_slice.ensures
     ∙ ap (λ ms. edges_by ms n sets w.states count) (ap (meanings_after []) parts.defs)
     ∙ ap (λ m. edges_by (meanings_of w) m sets w.states count) (ap length parts.names)
     ∙ ap (λ m. edges_by (meanings_of w) (length (names_of w)) m w.states count) c.set_count-sets.ensures
     ∙ ap (λ m. edges_by (meanings_of w) (length (names_of w)) (acceptance_of w).sets w.states m) c.state_count-states.ensures in
-    let A : List (List ℕ) → List ℕ → ℕ → List Arrow → ℕ → FormulaTree → Automaton = λ ns ss q es k f. record { names = ns; starts = ss; states = q; edges = es; sets = k; formula = f } in
+    let A : List (List ℕ) → List ℕ → ℕ → List TreeEdge → ℕ → FormulaTree → Automaton = λ ns ss q es k f. record { names = ns; starts = ss; states = q; edges = es; sets = k; formula = f } in
     let f = formula_tree c.in_ok-formula.formula in
-    ap (λ x. A x c.in_ok-starts.starts count (map arrow c.in_ok-edges.edges) sets f) names
-    ∙ ap (λ x. A (names_of w) x count (map arrow c.in_ok-edges.edges) sets f) starts
-    ∙ ap (λ x. A (names_of w) (starts_of w) x (map arrow c.in_ok-edges.edges) sets f) c.state_count-states.ensures
+    ap (λ x. A x c.in_ok-starts.starts count (map tree_edge c.in_ok-edges.edges) sets f) names
+    ∙ ap (λ x. A (names_of w) x count (map tree_edge c.in_ok-edges.edges) sets f) starts
+    ∙ ap (λ x. A (names_of w) (starts_of w) x (map tree_edge c.in_ok-edges.edges) sets f) c.state_count-states.ensures
     ∙ ap (λ x. A (names_of w) (starts_of w) (state_count w) x sets f) edges
     ∙ ap (λ x. A (names_of w) (starts_of w) (state_count w) (edges_of w) x f) c.set_count-sets.ensures
     ∙ ap (λ x. A (names_of w) (starts_of w) (state_count w) (edges_of w) (acceptance_of w).sets x) c.in_ok-formula.ensures

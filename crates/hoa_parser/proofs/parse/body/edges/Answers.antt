@@ -6,7 +6,7 @@ use Rattle.hoa_parser.proofs.Others.{past_edges}
 use Rattle.hoa_parser.specs.Expecting as part
 use Rattle.hoa_parser.specs.Grammar.{OptionalWithin, edge_meaning, edge_tokens}
 use Rattle.hoa_parser.specs.Parsing.{Reads, state}
-use Rattle.hoa_parser.specs.Parts.{AreEdges, IsEdge}
+use Rattle.hoa_parser.specs.RuleReads.{AreEdges, IsEdge}
 use Rattle.hoa_parser.specs.Raw.{written_edge}
 use Rattle.hoa_parser.specs.Standing.{most_depth}
 use Rattle.hoa_parser.specs.declared.raw.RawEdge.{RawEdge}

@@ -5,7 +5,7 @@ use Rattle.hoa_parser.proofs.Moving.{takes_last}
 use Rattle.hoa_parser.proofs.Others.{past_label}
 use Rattle.hoa_parser.proofs.Tokens.{token_passed}
 use Rattle.hoa_parser.specs.Expecting.{MaybeLabel}
-use Rattle.hoa_parser.specs.Parts.{IsMaybeLabel}
+use Rattle.hoa_parser.specs.RuleReads.{IsMaybeLabel}
 use Rattle.hoa_parser.proofs.parse.body.maybe_label.Goals as goal
 
 pub returns-in_default : goal.returns-in_default

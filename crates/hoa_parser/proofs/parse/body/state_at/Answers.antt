@@ -5,7 +5,7 @@ use Rattle.hoa_parser.proofs.Moving.{takes_last}
 use Rattle.hoa_parser.proofs.Others.{no_states}
 use Rattle.hoa_parser.proofs.Tokens.{known, token_refused}
 use Rattle.hoa_parser.specs.Expecting as part
-use Rattle.hoa_parser.specs.Parts.{AreEdges, AreMarks, IsMaybeLabel, IsNumber, IsOptionalText, IsState}
+use Rattle.hoa_parser.specs.RuleReads.{AreEdges, AreMarks, IsMaybeLabel, IsNumber, IsOptionalText, IsState}
 use Rattle.hoa_parser.proofs.parse.body.state_at.Goals as goal
 
 pub returns-in_default : goal.returns-in_default

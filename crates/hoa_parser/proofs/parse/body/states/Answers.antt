@@ -7,7 +7,7 @@ use Rattle.hoa_parser.proofs.Tokens.{token_refused}
 use Rattle.hoa_parser.specs.Expecting as part
 use Rattle.hoa_parser.specs.Grammar.{StateWithin, state_meaning, state_tokens}
 use Rattle.hoa_parser.specs.Parsing.{Reads, state}
-use Rattle.hoa_parser.specs.Parts.{AreStates, IsState}
+use Rattle.hoa_parser.specs.RuleReads.{AreStates, IsState}
 use Rattle.hoa_parser.specs.Raw.{written_state}
 use Rattle.hoa_parser.specs.Standing.{most_depth}
 use Rattle.hoa_parser.specs.declared.raw.RawState.{RawState}

@@ -12,7 +12,7 @@ use Rattle.hoa_parser.proofs.Tokens.{token_passed}
 use Rattle.hoa_parser.specs.Chains.{AddsFands, AddsFatoms}
 use Rattle.hoa_parser.specs.Expecting.{ClosingParen, Atom, Atoms, Conjunctions, condition_parts}
 use Rattle.hoa_parser.specs.Grammar.{no_fand, no_fatom}
-use Rattle.hoa_parser.specs.Parts.{IsAndFatom, IsAndFatoms, IsCondition, IsFand, IsFatom, IsOrFand, IsOrFands}
+use Rattle.hoa_parser.specs.RuleReads.{IsAndFatom, IsAndFatoms, IsCondition, IsFand, IsFatom, IsOrFand, IsOrFands}
 use Rattle.aut_base.specs.Formula.{formula_tree}
 use Rattle.aut_base.specs.declared.formula.Formula.{Formula}
 use Rattle.aut_base.specs.declared.formula.Formula.TheVariants as rust

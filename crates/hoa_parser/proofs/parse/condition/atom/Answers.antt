@@ -8,7 +8,7 @@ use Rattle.hoa_parser.proofs.Sets.{sign_alone, sign_opens, sign_parts, sign_take
 use Rattle.hoa_parser.proofs.Tokens.{token_refused}
 use Rattle.hoa_parser.specs.Expecting.{Atom}
 use Rattle.hoa_parser.specs.Grammar.{false_condition, finitely, infinitely, true_condition}
-use Rattle.hoa_parser.specs.Parts.{IsFatom}
+use Rattle.hoa_parser.specs.RuleReads.{IsFatom}
 use Rattle.hoa_parser.specs.declared.parse.condition.Sign.{Sign}
 use Rattle.hoa_parser.specs.declared.parse.condition.Sign.TheVariants as sign
 use Rattle.hoa_parser.proofs.parse.condition.atom.Goals as goal

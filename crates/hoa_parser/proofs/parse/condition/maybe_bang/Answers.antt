@@ -4,7 +4,7 @@ use Rattle.hoa_parser.proofs.Moving.{reads_as, takes, takes_last}
 use Rattle.hoa_parser.proofs.Others.{past_bang}
 use Rattle.hoa_parser.proofs.Tokens.{token_passed}
 use Rattle.hoa_parser.specs.Expecting.{MaybeBang}
-use Rattle.hoa_parser.specs.Parts.{IsMark, IsMaybeBang}
+use Rattle.hoa_parser.specs.RuleReads.{IsToken, IsMaybeBang}
 use Rattle.hoa_parser.proofs.parse.condition.maybe_bang.Goals as goal
 
 pub returns-in_default : goal.returns-in_default
@@ -12,7 +12,7 @@ returns-in_default g c = record { reads = token_passed MaybeBang IsMaybeBang fal
 
 pub returns-in-Ok : goal.returns-in-Ok
 returns-in-Ok g c = record {
-  reads = reads_as (MaybeBang ∷ []) [] (IsMark token.Bang) IsMaybeBang c.in-Ok.field-0 true _ _ (λ a b h. h) (takes MaybeBang [] [] token.Bang _ _ _ c.in-Bang.is refl refl refl c.in-Ok.ensures);
+  reads = reads_as (MaybeBang ∷ []) [] (IsToken token.Bang) IsMaybeBang c.in-Ok.field-0 true _ _ (λ a b h. h) (takes MaybeBang [] [] token.Bang _ _ _ c.in-Bang.is refl refl refl c.in-Ok.ensures);
 }
 
 pub returns-in-Err : goal.returns-in-Err

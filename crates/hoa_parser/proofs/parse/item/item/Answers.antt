@@ -5,7 +5,7 @@ use Rattle.hoa_parser.proofs.Others.{no_items}
 use Rattle.hoa_parser.proofs.Tokens.{known, token_refused}
 use Rattle.hoa_parser.specs.Expecting.{Items, header_move}
 use Rattle.hoa_parser.specs.Grammar.{header_of}
-use Rattle.hoa_parser.specs.Parts.{IsItem, IsItemOf, parts_of}
+use Rattle.hoa_parser.specs.RuleReads.{IsItem, IsItemOf, parts_of}
 use Rattle.hoa_parser.proofs.parse.item.item.Goals as goal
 
 pub returns-in_default : goal.returns-in_default

@@ -6,7 +6,7 @@ use Rattle.hoa_parser.proofs.Tokens.{token_refused}
 use Rattle.hoa_parser.specs.Expecting as part
 use Rattle.hoa_parser.specs.Grammar.{ItemWithin, item_meaning, item_tokens}
 use Rattle.hoa_parser.specs.Parsing.{Reads, state}
-use Rattle.hoa_parser.specs.Parts.{AreItems, IsItem}
+use Rattle.hoa_parser.specs.RuleReads.{AreItems, IsItem}
 use Rattle.hoa_parser.specs.Raw.{written_item}
 use Rattle.hoa_parser.specs.Standing.{most_depth}
 use Rattle.hoa_parser.specs.declared.raw.Item.{Item}

@@ -2,7 +2,7 @@ use Rattle.std.proofs.Common.{[], ◌∷◌}
 use Rattle.hoa_parser.proofs.ItemsRead.{part_then, part_then_fails, tool_read}
 use Rattle.hoa_parser.proofs.Moving.{fails_first}
 use Rattle.hoa_parser.specs.Expecting.{MaybeQuoted, Quoted}
-use Rattle.hoa_parser.specs.Parts.{IsItemWritten, IsQuoted, IsOptionalText}
+use Rattle.hoa_parser.specs.RuleReads.{IsItemWritten, IsQuoted, IsOptionalText}
 use Rattle.hoa_parser.specs.declared.header.Header.TheVariants as header
 use Rattle.hoa_parser.specs.declared.raw.Item.TheVariants as item
 use Rattle.hoa_parser.proofs.parse.item.tool.Goals as goal

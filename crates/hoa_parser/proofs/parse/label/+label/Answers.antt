@@ -12,7 +12,7 @@ use Rattle.hoa_parser.proofs.Tokens.{token_passed}
 use Rattle.hoa_parser.specs.Chains.{AddsLands, AddsLnots}
 use Rattle.hoa_parser.specs.Expecting.{ClosingParen, Factor, Factors, Products, label_parts}
 use Rattle.hoa_parser.specs.Grammar.{no_land, no_lnot}
-use Rattle.hoa_parser.specs.Parts.{IsAndLnot, IsAndLnots, IsLabel, IsLand, IsLnot, IsOrLand, IsOrLands}
+use Rattle.hoa_parser.specs.RuleReads.{IsAndLnot, IsAndLnots, IsLabel, IsLand, IsLnot, IsOrLand, IsOrLands}
 use Rattle.hoa_parser.specs.Raw.{RawTree, raw_tree}
 use Rattle.hoa_parser.specs.declared.raw.RawLabel.{RawLabel}
 use Rattle.hoa_parser.specs.declared.raw.RawLabel.TheVariants as rust

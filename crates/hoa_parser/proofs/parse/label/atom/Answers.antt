@@ -5,7 +5,7 @@ use Rattle.hoa_parser.proofs.LabelChains.{subst_tokens}
 use Rattle.hoa_parser.proofs.Tokens.{token_last, token_refused, token_taken}
 use Rattle.hoa_parser.specs.Expecting.{Factor}
 use Rattle.hoa_parser.specs.Grammar.{lnot_tokens}
-use Rattle.hoa_parser.specs.Parts.{IsLnot}
+use Rattle.hoa_parser.specs.RuleReads.{IsLnot}
 use Rattle.hoa_parser.specs.Raw.{raw_tree}
 use Rattle.hoa_parser.proofs.parse.label.atom.Goals as goal
 

@@ -3,7 +3,7 @@ use Rattle.hoa_parser.proofs.Looping.{answer_behind}
 use Rattle.hoa_parser.proofs.Moving.{fails_first, reads_more}
 use Rattle.hoa_parser.proofs.Values.{conj_whole}
 use Rattle.hoa_parser.specs.Expecting.{MoreNumbers, Number, conj_parts}
-use Rattle.hoa_parser.specs.Parts.{AddsNumbers, IsConj, IsNumber}
+use Rattle.hoa_parser.specs.RuleReads.{AddsNumbers, IsConj, IsNumber}
 use Rattle.hoa_parser.proofs.parse.lists.conj.Goals as goal
 
 pub returns-in-Err-clause-reads : goal.returns-in-Err-clause-reads

@@ -5,7 +5,7 @@ use Rattle.hoa_parser.proofs.Looping.{last_behind, taken_behind, taken_last, tok
 use Rattle.hoa_parser.proofs.Moving.{reads_nothing}
 use Rattle.hoa_parser.proofs.Values.{AddsInts, ints_more, marks_closed}
 use Rattle.hoa_parser.specs.Expecting.{Marks}
-use Rattle.hoa_parser.specs.Parts.{AddsMarks}
+use Rattle.hoa_parser.specs.RuleReads.{AddsMarks}
 use Rattle.hoa_parser.proofs.parse.lists.marks_behind.Goals as goal
 
 pub marks-init : goal.marks-init

@@ -6,7 +6,7 @@ use Rattle.hoa_parser.proofs.Others.{past_marks}
 use Rattle.hoa_parser.proofs.Tokens.{token_passed}
 use Rattle.hoa_parser.proofs.Values.{marks_whole, no_marks_there}
 use Rattle.hoa_parser.specs.Expecting.{Marks, MaybeMarks}
-use Rattle.hoa_parser.specs.Parts.{AddsMarks, AreMarks, IsMark}
+use Rattle.hoa_parser.specs.RuleReads.{AddsMarks, AreMarks, IsToken}
 use Rattle.hoa_parser.proofs.parse.lists.maybe_marks.Goals as goal
 
 pub returns-in_default : goal.returns-in_default
@@ -14,7 +14,7 @@ returns-in_default g c = record { reads = token_passed MaybeMarks _ _ _ c.requir
 
 pub returns-in-Ok : goal.returns-in-Ok
 returns-in-Ok g c = record {
-  reads = answer_behind (MaybeMarks ∷ []) (Marks ∷ []) [] (IsMark token.LeftBrace) (AddsMarks c.new-marks.result) AreMarks c.in-Ok.field-0 c.marks_behind.result _ _ _
+  reads = answer_behind (MaybeMarks ∷ []) (Marks ∷ []) [] (IsToken token.LeftBrace) (AddsMarks c.new-marks.result) AreMarks c.in-Ok.field-0 c.marks_behind.result _ _ _
       (λ w x y z p q. marks_whole c.new-marks.result w x y z c.new-marks.ensures p q)
       (takes MaybeMarks (Marks ∷ []) [] token.LeftBrace _ _ c.in-Ok.field-0 c.in-LeftBrace.is refl refl refl c.in-Ok.ensures) c.marks_behind.ensures.reads;
 }

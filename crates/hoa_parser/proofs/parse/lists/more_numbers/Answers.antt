@@ -5,7 +5,7 @@ use Rattle.hoa_parser.proofs.Looping.{taken_behind, taken_last}
 use Rattle.hoa_parser.proofs.Moving.{fails_after, fails_first, reads_more, reads_nothing, reads_then}
 use Rattle.hoa_parser.proofs.Values.{AddsAmp, numbers_amp, numbers_more}
 use Rattle.hoa_parser.specs.Expecting.{MoreNumbers, Number}
-use Rattle.hoa_parser.specs.Parts.{AddsNumbers, IsNumber}
+use Rattle.hoa_parser.specs.RuleReads.{AddsNumbers, IsNumber}
 use Rattle.hoa_parser.proofs.parse.lists.more_numbers.Goals as goal
 
 pub numbers-init : goal.numbers-init

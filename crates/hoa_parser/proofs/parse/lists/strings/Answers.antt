@@ -3,7 +3,7 @@ use Rattle.hoa_lexer.specs.declared.token.Token.TheVariants as token
 use Rattle.hoa_parser.proofs.Looping.{last_behind, spelled_more, spelled_none, token_behind}
 use Rattle.hoa_parser.proofs.Moving.{reads_nothing}
 use Rattle.hoa_parser.specs.Expecting.{Strings}
-use Rattle.hoa_parser.specs.Parts.{AreTexts}
+use Rattle.hoa_parser.specs.RuleReads.{AreTexts}
 use Rattle.hoa_parser.proofs.parse.lists.strings.Goals as goal
 
 pub texts-init : goal.texts-init

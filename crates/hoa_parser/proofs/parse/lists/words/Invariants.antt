@@ -2,7 +2,7 @@ use Rattle.std.proofs.Common.{◌+◌, ◌-◌, [], ◌∷◌, Ok}
 use Rattle.hoa_lexer.specs.Reading.{held_count}
 use Rattle.hoa_parser.specs.Expecting as part
 use Rattle.hoa_parser.specs.Parsing.{Reads, state}
-use Rattle.hoa_parser.specs.Parts.{AreWords}
+use Rattle.hoa_parser.specs.RuleReads.{AreWords}
 use Rattle.hoa_parser.proofs.parse.lists.words.Given as goal
 
 abbrev pub invariant-words : goal.invariant-words

@@ -1,11 +1,10 @@
 use Rattle.std.proofs.Common.{◌≡◌, ◌+◌, ◌++◌, ℕ, Bool, true, false, drop, take, map, List, [], ◌∷◌, refl, sym, ap, ◌∙◌, is_some, length, get_or, slice_get, Some, subst, ◌<◌}
-use Rattle.std.proofs.lemmas.Bool.{false≢true}
+use Rattle.std.proofs.lemmas.Bool.{false≢true, false_from_ne_true, and_parts}
 use Rattle.std.proofs.lemmas.List.{map-append}
-use Rattle.hoa_reader.proofs.DescribedLaws.{both}
 use Rattle.hoa_reader.proofs.DescribedSteps.{meanings_push}
-use Rattle.hoa_reader.proofs.Differing.{one_more, parted, repeats, rest_at}
+use Rattle.hoa_reader.proofs.Differing.{repeats}
 use Rattle.hoa_reader.proofs.Leaves.{leaves_agree}
-use Rattle.hoa_reader.proofs.Meanings.{got, known_listed, known_push, names_by}
+use Rattle.hoa_reader.proofs.Meanings.{known_listed, known_push, names_by}
 use Rattle.hoa_reader.specs.Described.{Meaning, expanded, meanings_after}
 use Rattle.hoa_reader.specs.Growing.{AreKnown, meanings_by}
 use Rattle.hoa_reader.specs.Pieces.{alias_def, line_names}
@@ -15,6 +14,7 @@ use Rattle.aut_base.specs.Text.{same_text}
 use Rattle.hoa_reader.specs.Validity.{AliasLine, aliases_among, all_differ, is_listed, uses_earlier}
 use Rattle.hoa_reader.specs.declared.elaborate.parts.AliasDef.{AliasDef}
 use Rattle.hoa_reader.proofs.elaborate.aliases.known_aliases.Goals as goal
+use Rattle.aut_base.proofs.Lists.{take-push, split-at, drop-at, slice_get-at}
 
 abbrev named : List AliasDef → List (List ℕ)
 named defs = line_names (map alias_def defs)
@@ -24,22 +24,18 @@ named-append xs ys = ap line_names (map-append alias_def xs ys) ∙ map-append (
 
 -- what is left of the lines begins with an alias that uses those before it
 uses_here : (before : List (List ℕ)) (defs : List AliasDef) (i : ℕ) (def : AliasDef) → i < length defs → def ≡ get_or defs i def → uses_earlier before (map alias_def (drop i defs)) ≡ true → (aliases_among before (raw_tree def.label.now) ≡ true) × (uses_earlier (before ++ def.name.now ∷ []) (map alias_def (drop (i + 1) defs)) ≡ true)
-uses_here before defs i def l is e = both _ _ (sym (ap (λ ds. uses_earlier before (map alias_def ds)) (rest_at defs i def l is)) ∙ e)
-
-not_true : (b : Bool) → (b ≡ true → ⊥) → b ≡ false
-not_true true h = absurd (h refl)
-not_true false h = refl
+uses_here before defs i def l is e = and_parts _ _ (sym (ap (λ ds. uses_earlier before (map alias_def ds)) (drop-at defs i def l is)) ∙ e)
 
 -- its name is not that of an earlier one
 name_is_new : (defs : List AliasDef) (i : ℕ) (def : AliasDef) → i < length defs → def ≡ get_or defs i def → all_differ same_text (named defs) ≡ true → is_listed (named (take i defs)) def.name.now ≡ false
 name_is_new defs i def l is differ =
-    let whole : named defs ≡ named (take i defs) ++ def.name.now ∷ named (drop (i + 1) defs) = ap named (parted defs i def l is) ∙ named-append (take i defs) (def ∷ drop (i + 1) defs) in
-    not_true _ (λ again. false≢true (repeats same_text (named (take i defs)) def.name.now (named (drop (i + 1) defs)) again ∙ ap (all_differ same_text) (sym whole) ∙ differ))
+    let whole : named defs ≡ named (take i defs) ++ def.name.now ∷ named (drop (i + 1) defs) = ap named (split-at defs i def l is) ∙ named-append (take i defs) (def ∷ drop (i + 1) defs) in
+    false_from_ne_true _ (λ again. false≢true (repeats same_text (named (take i defs)) def.name.now (named (drop (i + 1) defs)) again ∙ ap (all_differ same_text) (sym whole) ∙ differ))
 
 -- the aliases up to one more place
 one_more_meaning : (defs : List AliasDef) (i : ℕ) (def : AliasDef) → i < length defs → def ≡ get_or defs i def → meanings_by (take (i + 1) defs) ≡ meanings_by (take i defs) ++ record { name = def.name.now; label = expanded (meanings_by (take i defs)) (raw_tree def.label.now) } ∷ []
 one_more_meaning defs i def l is =
-    ap meanings_by (one_more defs i def l is)
+    ap meanings_by (take-push defs i def l is)
     ∙ ap (meanings_after []) (map-append alias_def (take i defs) (def ∷ []))
     ∙ meanings_push [] (map alias_def (take i defs)) (alias_def def)
 
@@ -62,9 +58,9 @@ defs-preserved c =
     let ms = meanings_by (take i defs) in
     let m : Meaning = record { name = def.name.now; label = expanded ms (raw_tree def.label.now) } in
     let here = uses_here (named (take i defs)) defs i def c.defs-test.true c.def-item.is c.defs.invariant.earlier in
-    let away = name_is_new defs i def c.defs-test.true c.def-item.is (both _ _ c.requires).0 in
+    let away = name_is_new defs i def c.defs-test.true c.def-item.is (and_parts _ _ c.requires).0 in
     let names = names_by (take i defs) in
-    let at : slice_get defs c.defs.place ≡ Some def = ap (slice_get defs) c.defs.invariant.place ∙ got defs i def c.defs-test.true c.def-item.is in
+    let at : slice_get defs c.defs.place ≡ Some def = ap (slice_get defs) c.defs.invariant.place ∙ slice_get-at defs i def c.defs-test.true c.def-item.is in
     let P : List Meaning → Type 0 = λ ms. AreKnown ms defs c.add.new.self in
     record {
       place = ap (λ n. n + 1) c.defs.invariant.place;
@@ -74,6 +70,6 @@ defs-preserved c =
           (c.known_of-new.ensures ms defs def at refl c.defs.invariant.known (ap (λ ns. aliases_among ns (raw_tree def.label.now)) names ∙ here.0))
           c.in_ok-add.ensures.added);
       earlier =
-          ap (λ ns. uses_earlier ns (map alias_def (drop (i + 1) defs))) (ap named (one_more defs i def c.defs-test.true c.def-item.is) ∙ named-append (take i defs) (def ∷ []))
+          ap (λ ns. uses_earlier ns (map alias_def (drop (i + 1) defs))) (ap named (take-push defs i def c.defs-test.true c.def-item.is) ∙ named-append (take i defs) (def ∷ []))
           ∙ here.1;
     }

@@ -1,12 +1,13 @@
 use Rattle.std.proofs.Common.{map, List, ap, sym, ◌∙◌, nat_le}
 use Rattle.std.specs.Prelude.{filter_map}
 use Rattle.std.specs.List.{list_all}
-use Rattle.hoa_reader.proofs.AfterAll.{list_all_same, numbers_below-after}
+use Rattle.hoa_reader.proofs.AfterAll.{numbers_below-after}
 use Rattle.hoa_parser.specs.Raw.{written, written_item}
 use Rattle.hoa_reader.specs.Validity.{keeps, numbers_below, states_item, used_states}
 use Rattle.hoa_reader.specs.declared.elaborate.Rule.{Rule}
 use Rattle.hoa_parser.specs.declared.raw.Item.{Item}
 use Rattle.hoa_reader.proofs.elaborate.broken.keeps.Goals as goal
+use Rattle.aut_base.proofs.Lists.{list_all-same}
 
 pub returns-in-V6 : goal.returns-in-V6
 returns-in-V6 c =
@@ -14,5 +15,5 @@ returns-in-V6 c =
     c.are_counted.ensures
     ∙ ap (λ (is : List Item). list_all (nat_le c.args.parts.now.after) (filter_map states_item (map written_item is))) c.as_slice-items.ensures
     ∙ ap (λ n. list_all (nat_le n) (filter_map states_item w.items)) c.requires.after
-    ∙ list_all_same (nat_le _) (λ n. numbers_below n (used_states w)) (λ n. sym (numbers_below-after n (used_states w))) (filter_map states_item w.items)
+    ∙ list_all-same (nat_le _) (λ n. numbers_below n (used_states w)) (λ n. sym (numbers_below-after n (used_states w))) (filter_map states_item w.items)
     ∙ ap (λ (r : Rule). keeps r w) (sym c.in-V6.is)

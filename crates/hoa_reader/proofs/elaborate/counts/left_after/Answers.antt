@@ -1,11 +1,11 @@
 use Rattle.std.proofs.Common.{◌≡◌, ◌+◌, ◌-◌, ◌∙◌, map, drop, List, ℕ, ap, sym, arith}
 use Rattle.std.proofs.lemmas.List.Sums.{sum_by-cons}
 use Rattle.std.specs.Prelude.{sum_by}
-use Rattle.hoa_reader.proofs.Differing.{rest_at}
 use Rattle.hoa_parser.specs.Raw.{written_edge, written_state}
 use Rattle.hoa_reader.specs.Weighing.{edge_counted, state_counted}
 use Rattle.hoa_parser.specs.declared.raw.RawEdge.{RawEdge}
 use Rattle.hoa_reader.proofs.elaborate.counts.left_after.Goals as goal
+use Rattle.aut_base.proofs.Lists.{drop-at}
 
 pub returns-then-count-left : goal.returns-then-count-left
 returns-then-count-left c =
@@ -17,7 +17,7 @@ returns-then-count-left c =
     let here : c.edge_count-count.result ≡ edge_counted c.args.known.now s (written_edge edge) = c.edge_count-count.ensures s c.state_count-own.ensures in
     let slice = c.as_slice-edge-items.ensures in
     let rest : S (drop i c.as_slice-edge-items.result.now) ≡ edge_counted c.args.known.now s (written_edge edge) + S (drop (i + 1) c.as_slice-edge-items.result.now) =
-    ap S (rest_at c.as_slice-edge-items.result.now i edge c.edges-test.true c.edge-item.is) ∙ sum_by-cons (edge_counted c.args.known.now s) (written_edge edge) (map written_edge (drop (i + 1) c.as_slice-edge-items.result.now)) in
+    ap S (drop-at c.as_slice-edge-items.result.now i edge c.edges-test.true c.edge-item.is) ∙ sum_by-cons (edge_counted c.args.known.now s) (written_edge edge) (map written_edge (drop (i + 1) c.as_slice-edge-items.result.now)) in
     let left : S (drop i edges) ≡ S (drop i c.as_slice-edge-items.result.now) = ap (λ (es : List RawEdge). S (drop i es)) (sym slice) in
     let before : c.edges.left + state_counted c.args.known.now s ≡ c.args.most + S (drop i edges) = c.edges.invariant in
     omega (arith, here, rest, left, before, c.if-count-left.true)
@@ -32,7 +32,7 @@ edges-preserved c =
     let here : c.edge_count-count.result ≡ edge_counted c.args.known.now s (written_edge edge) = c.edge_count-count.ensures s c.state_count-own.ensures in
     let slice = c.as_slice-edge-items.ensures in
     let rest : S (drop i c.as_slice-edge-items.result.now) ≡ edge_counted c.args.known.now s (written_edge edge) + S (drop (i + 1) c.as_slice-edge-items.result.now) =
-    ap S (rest_at c.as_slice-edge-items.result.now i edge c.edges-test.true c.edge-item.is) ∙ sum_by-cons (edge_counted c.args.known.now s) (written_edge edge) (map written_edge (drop (i + 1) c.as_slice-edge-items.result.now)) in
+    ap S (drop-at c.as_slice-edge-items.result.now i edge c.edges-test.true c.edge-item.is) ∙ sum_by-cons (edge_counted c.args.known.now s) (written_edge edge) (map written_edge (drop (i + 1) c.as_slice-edge-items.result.now)) in
     let left : S (drop i edges) ≡ S (drop i c.as_slice-edge-items.result.now) = ap (λ (es : List RawEdge). S (drop i es)) (sym slice) in
     let next : S (drop (i + 1) edges) ≡ S (drop (i + 1) c.as_slice-edge-items.result.now) = ap (λ (es : List RawEdge). S (drop (i + 1) es)) (sym slice) in
     let before : c.edges.left + state_counted c.args.known.now s ≡ c.args.most + S (drop i edges) = c.edges.invariant in

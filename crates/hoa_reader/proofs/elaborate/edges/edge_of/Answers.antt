@@ -1,10 +1,10 @@
 use Rattle.std.proofs.Common.{◌≡◌, ◌==◌, ◌<◌, ◌||◌, ◌++◌, ◌∙◌, ℕ, Bool, false, List, filter, get_or, length, sym, ap}
 use Rattle.std.proofs.lemmas.List.Folds.{list_any-append}
-use Rattle.aut_base.specs.Automaton.{Arrow}
+use Rattle.aut_base.specs.Automaton.{TreeEdge}
 use Rattle.aut_base.specs.Label.{LabelTree}
 use Rattle.aut_base.specs.Marks.{is_in}
 use Rattle.hoa_reader.proofs.Starts.{filter_below}
-use Rattle.hoa_reader.specs.Arrows.{label_for}
+use Rattle.hoa_reader.specs.TreeEdges.{label_for}
 use Rattle.hoa_reader.specs.Described.{below, marks_in_order, only_state}
 use Rattle.hoa_parser.specs.Raw.{written_edge, written_state}
 use Rattle.hoa_reader.proofs.elaborate.edges.edge_of.Goals as goal
@@ -25,7 +25,7 @@ returns c =
     c.in_ok-marks.ensures
     ∙ ap (λ (ms : List ℕ). filter (λ k. get_or c.args.own.now k false || is_in k ms) (below (length c.args.own.now))) c.as_slice.ensures
     ∙ both_sets sets c.args.own.now state.marks edge.marks c.requires.len c.requires.set in
-    let A : LabelTree → ℕ → List ℕ → Arrow = λ t to ms. record { from = state.number; label = t; to = to; marks = ms } in
+    let A : LabelTree → ℕ → List ℕ → TreeEdge = λ t to ms. record { from = state.number; label = t; to = to; marks = ms } in
     ap (λ t. A t c.only_state.result c.in_ok-marks.marks) c.in_ok-label.ensures
     ∙ ap (λ to. A tree to c.in_ok-marks.marks) c.only_state.ensures
     ∙ ap (λ ms. A tree (only_state edge.to) ms) marks

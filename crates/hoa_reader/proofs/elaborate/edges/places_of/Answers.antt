@@ -1,15 +1,16 @@
 use Rattle.std.proofs.Common.{◌≡◌, ◌==◌, ◌<◌, ◌+◌, ◌++◌, ◌∷◌, [], ◌∙◌, ℕ, Bool, true, false, List, Option, Some, None, get_or, set, length, map, take, drop, sym, ap, subst, arith, refl}
-use Rattle.std.proofs.lemmas.Bool.{false≢true}
+use Rattle.std.proofs.lemmas.Bool.{false≢true, false_from_ne_true}
 use Rattle.std.proofs.lemmas.List.{length-map, length-take, map-append, length-set}
 use Rattle.std.specs.List.{list_any}
-use Rattle.hoa_reader.proofs.Differing.{one_more, parted, repeats}
+use Rattle.hoa_reader.proofs.Differing.{repeats}
 use Rattle.hoa_reader.proofs.Indexing.{index_more}
-use Rattle.hoa_reader.specs.Arrows.{IsPlace}
+use Rattle.hoa_reader.specs.TreeEdges.{IsPlace}
 use Rattle.hoa_reader.specs.Pieces.{numbers}
 use Rattle.hoa_parser.specs.Raw.{WrittenState, written_state}
 use Rattle.hoa_reader.specs.Validity.{all_differ}
 use Rattle.hoa_parser.specs.declared.raw.RawState.{RawState}
 use Rattle.hoa_reader.proofs.elaborate.edges.places_of.Goals as goal
+use Rattle.aut_base.proofs.Lists.{take-push, split-at}
 
 abbrev named : List RawState → List ℕ
 named states = numbers (map written_state states)
@@ -17,14 +18,10 @@ named states = numbers (map written_state states)
 named-append : (xs ys : List RawState) → named (xs ++ ys) ≡ named xs ++ named ys
 named-append xs ys = ap numbers (map-append written_state xs ys) ∙ map-append (λ (s : WrittenState). s.number) (map written_state xs) (map written_state ys)
 
-not_true : (b : Bool) → (b ≡ true → ⊥) → b ≡ false
-not_true true h = absurd (h refl)
-not_true false h = refl
-
 number_is_new : (states : List RawState) (i : ℕ) (state : RawState) → i < length states → state ≡ get_or states i state → all_differ ◌==◌ (named states) ≡ true → list_any (λ x. x == state.number) (named (take i states)) ≡ false
 number_is_new states i state l is differ =
-    let whole : named states ≡ named (take i states) ++ state.number ∷ named (drop (i + 1) states) = ap named (parted states i state l is) ∙ named-append (take i states) (state ∷ drop (i + 1) states) in
-    not_true _ (λ again. false≢true (repeats ◌==◌ (named (take i states)) state.number (named (drop (i + 1) states)) again ∙ ap (all_differ ◌==◌) (sym whole) ∙ differ))
+    let whole : named states ≡ named (take i states) ++ state.number ∷ named (drop (i + 1) states) = ap named (split-at states i state l is) ∙ named-append (take i states) (state ∷ drop (i + 1) states) in
+    false_from_ne_true _ (λ again. false≢true (repeats ◌==◌ (named (take i states)) state.number (named (drop (i + 1) states)) again ∙ ap (all_differ ◌==◌) (sym whole) ∙ differ))
 
 long : (states : List RawState) (i n : ℕ) → i < length states → n ≡ i → length (map written_state (take i states)) ≡ n
 long states i n l e = let a = length-map (take i states) written_state in let b = length-take i states in omega (arith, a, b, l, e)
@@ -37,7 +34,7 @@ states-preserved c =
     let ws = map written_state (take i states) in
     let index = c.states.places.items in
     let changed : c.put.new.places.items ≡ set index state.number (Some c.states.place) = c.put.ensures in
-    let more : map written_state (take (i + 1) states) ≡ ws ++ written_state state ∷ [] = ap (map written_state) (one_more states i state c.states-test.true c.state-item.is) ∙ map-append written_state (take i states) (state ∷ []) in
+    let more : map written_state (take (i + 1) states) ≡ ws ++ written_state state ∷ [] = ap (map written_state) (take-push states i state c.states-test.true c.state-item.is) ∙ map-append written_state (take i states) (state ∷ []) in
     let before = c.states.invariant in
     record {
       at = ap (λ n. n + 1) before.at;

@@ -3,7 +3,7 @@ use Rattle.aut_base.proofs.LabelTrees.{label_tree-False}
 use Rattle.aut_base.specs.Label.{LabelTree, label_size, label_tree, labels_size}
 use Rattle.hoa_reader.proofs.Expanding.{and_of, bit_small, or_of, part_size, parts_expanded, size_pos}
 use Rattle.hoa_parser.proofs.RawTrees.{raw_tree-Alias, raw_tree-And-fields, raw_tree-Or-fields}
-use Rattle.hoa_reader.proofs.Meanings.{at_or, meaning_missing}
+use Rattle.hoa_reader.proofs.Meanings.{meaning_missing}
 use Rattle.hoa_reader.specs.Described.{each_expanded, expanded, meaning_of}
 use Rattle.hoa_reader.specs.Growing.{AreKnown, IsKnownBy, IsKnownOne, alias_name, meaning_names, meanings_by, steps_left}
 use Rattle.hoa_reader.specs.Places.{place_in}
@@ -15,6 +15,7 @@ use Rattle.hoa_reader.specs.declared.elaborate.places.Places.{Places}
 use Rattle.hoa_parser.specs.declared.raw.RawLabel.{RawLabel}
 use Rattle.hoa_parser.specs.declared.raw.RawLabel.TheVariants as raw_label
 use Rattle.hoa_reader.proofs.elaborate.labels.+expand.Goals as goal
+use Rattle.std.proofs.lemmas.Option.{get_or_from_slice_get}
 
 found : (defs : List AliasDef) (known : Places Known) (name : List ℕ) (k : Known) → AreKnown (meanings_by defs) defs known → place_in known name ≡ Some k → IsKnownOne (meanings_by defs) defs name k
 found defs known name k all is = let P : Option Known → Type 0 = λ o. IsKnownBy (meanings_by defs) defs name o in subst P is (all name)
@@ -27,7 +28,7 @@ expand-returns-in-Some t c =
     let defs = c.args.defs.now in
     let name = c.in-Alias.name in
     let one = found defs c.args.known.now name c.in-Some.alias c.requires (sym c.find.ensures ∙ c.in-Some.is) in
-    let here : get_or defs c.in-Some.alias.place c.index-defs-alias.result ≡ one.known.def = at_or defs c.in-Some.alias.place one.known.def c.index-defs-alias.result one.known.there in
+    let here : get_or defs c.in-Some.alias.place c.index-defs-alias.result ≡ one.known.def = get_or_from_slice_get defs c.in-Some.alias.place one.known.def c.index-defs-alias.result one.known.there in
     let e : expanded (meanings_by defs) (raw_tree (get_or defs c.in-Some.alias.place c.index-defs-alias.result).label.now) ≡ expanded (meanings_by defs) (raw_tree c.args.label.now) =
     ap (λ (d : AliasDef). expanded (meanings_by defs) (raw_tree d.label.now)) here ∙ sym one.known.same ∙ sym (is_alias defs c.args.label.now name c.in-Alias.is) in
     subst (λ x. IfOk c.expand.result (λ new. label_tree new ≡ x)) e c.expand.ensures

@@ -1,9 +1,9 @@
 use Rattle.std.proofs.Common.{◌≡◌, ℕ, Some, slice_get, ◌&&◌, ◌+◌, Bool, true, false, drop, List, arith, sym, ap, ◌∙◌}
 use Rattle.aut_base.proofs.FormulaSizes.{formula_size-at}
 use Rattle.aut_base.specs.Formula.{FormulaTree, formula_list, formula_tree, trees}
-use Rattle.hoa_reader.proofs.Leaves.{dropped}
 use Rattle.hoa_reader.specs.Validity.{all_sets_below, sets_below}
 use Rattle.hoa_reader.proofs.elaborate.leaves.+sets_below.Goals as goal
+use Rattle.aut_base.proofs.Lists.{drop-slice_get}
 
 pub all_sets_below-sets_below-requires : goal.all_sets_below-sets_below-requires
 all_sets_below-sets_below-requires t c =
@@ -11,7 +11,7 @@ all_sets_below-sets_below-requires t c =
     (omega (arith, small, c.decreases), tt)
 
 one_left : (n : ℕ) (xs : List FormulaTree) (i : ℕ) (x : FormulaTree) (b : Bool) → slice_get xs i ≡ Some x → b ≡ sets_below n x → all_sets_below n (trees (drop i xs)) ≡ (b && all_sets_below n (trees (drop (i + 1) xs)))
-one_left n xs i x b is e = ap (λ ts. all_sets_below n (trees ts)) (dropped xs i x is) ∙ ap (λ y. y && all_sets_below n (trees (drop (i + 1) xs))) (sym e)
+one_left n xs i x b is e = ap (λ ts. all_sets_below n (trees ts)) (drop-slice_get xs i x is) ∙ ap (λ y. y && all_sets_below n (trees (drop (i + 1) xs))) (sym e)
 
 pub all_sets_below-returns-then-not-sets_below : goal.all_sets_below-returns-then-not-sets_below
 all_sets_below-returns-then-not-sets_below t c =

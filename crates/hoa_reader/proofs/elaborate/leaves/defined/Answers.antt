@@ -2,7 +2,7 @@ use Rattle.std.proofs.Common.{◌≡◌, ◌&&◌, ◌+◌, ◌++◌, ℕ, true,
 use Rattle.std.proofs.lemmas.List.{drop_more, map-append}
 use Rattle.std.proofs.lemmas.List.Folds.{list_any-append}
 use Rattle.std.specs.List.{list_any}
-use Rattle.hoa_reader.proofs.Differing.{differ_more, found_or, one_more, parted, repeats, some_not_none}
+use Rattle.hoa_reader.proofs.Differing.{differ_more, found_or, repeats, some_not_none}
 use Rattle.hoa_reader.proofs.Leaves.{leaves_agree}
 use Rattle.hoa_reader.specs.Pieces.{alias_def, line_names}
 use Rattle.hoa_reader.specs.Places.{place_in}
@@ -11,6 +11,7 @@ use Rattle.aut_base.specs.Text.{same_text}
 use Rattle.hoa_reader.specs.Validity.{AliasLine, aliases_among, all_differ, is_listed, uses_earlier}
 use Rattle.hoa_reader.specs.declared.elaborate.parts.AliasDef.{AliasDef}
 use Rattle.hoa_reader.proofs.elaborate.leaves.defined.Goals as goal
+use Rattle.aut_base.proofs.Lists.{take-push, split-at}
 
 abbrev named : List AliasDef → List (List ℕ)
 named defs = line_names (map alias_def defs)
@@ -24,7 +25,7 @@ returns-then-not-branch c =
     let i = c.defs.def-index in
     let def = c.def-item.result in
     let there : is_some (place_in c.defs.names def.name.now) ≡ true = grind (arith, some_not_none) in
-    let whole : named defs ≡ named (take i defs) ++ def.name.now ∷ named (drop (i + 1) defs) = ap named (parted defs i def c.defs-test.true c.def-item.is) ∙ named-append (take i defs) (def ∷ drop (i + 1) defs) in
+    let whole : named defs ≡ named (take i defs) ++ def.name.now ∷ named (drop (i + 1) defs) = ap named (split-at defs i def c.defs-test.true c.def-item.is) ∙ named-append (take i defs) (def ∷ drop (i + 1) defs) in
     let no : all_differ same_text (named defs) ≡ false =
     ap (all_differ same_text) whole ∙ sym (repeats same_text (named (take i defs)) def.name.now (named (drop (i + 1) defs)) (sym (c.defs.invariant.names def.name.now) ∙ there)) in
     ap (λ b. b && uses_earlier [] (map alias_def defs)) no
@@ -37,7 +38,7 @@ defs-preserved c =
     let before = named (take i defs) in
     let rest = map alias_def (drop (i + 1) defs) in
     let away : is_some (place_in c.defs.names def.name.now) ≡ false = grind (arith, some_not_none) in
-    let more : named (take (i + 1) defs) ≡ before ++ def.name.now ∷ [] = ap named (one_more defs i def c.defs-test.true c.def-item.is) ∙ named-append (take i defs) (def ∷ []) in
+    let more : named (take (i + 1) defs) ≡ before ++ def.name.now ∷ [] = ap named (take-push defs i def c.defs-test.true c.def-item.is) ∙ named-append (take i defs) (def ∷ []) in
     let split : drop i defs ≡ def ∷ drop (i + 1) defs = drop_more defs i def c.defs-test.true ∙ ap (λ y. y ∷ drop (i + 1) defs) (sym c.def-item.is) in
     let yes : c.aliases_among.result ≡ true = grind arith in
     let known : aliases_among before (raw_tree def.label.now) ≡ true =

@@ -1,11 +1,12 @@
 use Rattle.std.proofs.Common.{◌≡◌, arith, true, false, ◌∷◌, [], ◌∙◌, ap, sym, take, drop, ◌+◌, is_some}
 use Rattle.std.proofs.lemmas.List.Folds.{list_any-append}
 use Rattle.std.specs.List.{list_any}
-use Rattle.hoa_reader.proofs.Differing.{differ_more, found_or, one_more, parted, repeats, some_not_none}
+use Rattle.hoa_reader.proofs.Differing.{differ_more, found_or, repeats, some_not_none}
 use Rattle.hoa_reader.specs.Places.{place_in}
 use Rattle.aut_base.specs.Text.{same_text}
 use Rattle.hoa_reader.specs.Validity.{all_differ}
 use Rattle.hoa_reader.proofs.elaborate.rules.texts_differ.Goals as goal
+use Rattle.aut_base.proofs.Lists.{take-push, split-at}
 
 pub returns-then-not-branch : goal.returns-then-not-branch
 returns-then-not-branch c =
@@ -14,14 +15,14 @@ returns-then-not-branch c =
     let text = c.text-item.result in
     let there : is_some (place_in c.texts.seen text) ≡ true = grind (arith, some_not_none) in
     repeats same_text (take i texts) text (drop (i + 1) texts) (sym (c.texts.invariant.seen text) ∙ there)
-    ∙ ap (all_differ same_text) (sym (parted texts i text c.texts-test.true c.text-item.is))
+    ∙ ap (all_differ same_text) (sym (split-at texts i text c.texts-test.true c.text-item.is))
 
 pub texts-preserved : goal.texts-preserved
 texts-preserved c =
     let texts = c.args.texts.now in
     let i = c.texts.text-index in
     let text = c.text-item.result in
-    let more = one_more texts i text c.texts-test.true c.text-item.is in
+    let more = take-push texts i text c.texts-test.true c.text-item.is in
     let away : is_some (place_in c.texts.seen text) ≡ false = grind (arith, some_not_none) in
     record {
       differ = ap (all_differ same_text) more ∙ differ_more same_text (take i texts) text c.texts.invariant.differ (sym (c.texts.invariant.seen text) ∙ away);

@@ -1,12 +1,12 @@
 use Rattle.std.proofs.Common.{◌≡◌, ◌+◌, max, map, drop, List, ℕ, arith, ap, ◌∙◌}
 use Rattle.std.specs.Prelude.{flat_map}
 use Rattle.hoa_reader.proofs.AfterAll.{goals-cons}
-use Rattle.hoa_reader.proofs.Differing.{rest_at}
 use Rattle.hoa_reader.specs.Described.{after_all}
 use Rattle.hoa_reader.specs.Pieces.{goals, numbers}
 use Rattle.hoa_parser.specs.Raw.{WrittenEdge, written_edge, written_state}
 use Rattle.hoa_parser.specs.declared.raw.RawState.{RawState}
 use Rattle.hoa_reader.proofs.elaborate.used.after_states.Goals as goal
+use Rattle.aut_base.proofs.Lists.{drop-at}
 
 abbrev own : List RawState → ℕ
 own states = after_all (numbers (map written_state states))
@@ -21,7 +21,7 @@ states-preserved c =
     let state = c.state-item.result in
     let edges : after_all (flat_map (λ (e : WrittenEdge). e.to) (map written_edge c.as_slice.result.now)) ≡ after_all (flat_map (λ (e : WrittenEdge). e.to) (map written_edge state.edges)) =
     ap (λ es. after_all (flat_map (λ (e : WrittenEdge). e.to) (map written_edge es))) c.as_slice.ensures in
-    let split = rest_at states i state c.states-test.true c.state-item.is in
+    let split = drop-at states i state c.states-test.true c.state-item.is in
     let first : own (drop i states) ≡ max (state.number + 1) (own (drop (i + 1) states)) = ap own split in
     let second : ends (drop i states) ≡ max (after_all (flat_map (λ (e : WrittenEdge). e.to) (map written_edge state.edges))) (ends (drop (i + 1) states)) =
     ap ends split ∙ goals-cons (written_state state) (map written_state (drop (i + 1) states)) in

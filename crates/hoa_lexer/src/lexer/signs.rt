@@ -1,14 +1,14 @@
-//! Marks of one byte.
+//! Signs of one byte.
 
 ghost use Rattle.std.specs.Prelude.{MatchOption};
 ghost use Rattle.hoa_lexer.specs.declared.token.Token as declared;
-ghost use Rattle.hoa_lexer.specs.Steps.{IsMark};
+ghost use Rattle.hoa_lexer.specs.Steps.{IsSign};
 
 use crate::Token;
 
-/// The mark that a byte is.
-pub(super) fn mark(byte: u8) -> Option<Token>
-    ensures { MatchOption result ((token : declared.Token) → IsMark token byte → ⊥) (λ token. IsMark token byte) }
+/// The sign that a byte is.
+pub(super) fn sign(byte: u8) -> Option<Token>
+    ensures { MatchOption result ((token : declared.Token) → IsSign token byte → ⊥) (λ token. IsSign token byte) }
 {
     match byte {
         b'!' => Some(Token::Bang),

@@ -1,0 +1,127 @@
+-- Lists, by their places and their pieces, beyond what the standard library says of them.
+use Rattle.aut_base.proofs.Truth.{and_comm, or_comm}
+use Rattle.std.proofs.Common.{◌≡◌, ◌≢◌, ◌∷◌, ◌++◌, ◌+◌, ◌-◌, ◌<◌, ◌≤◌, ◌∙◌, ◌==◌, ◌&&◌, ◌||◌, Bool, List, None, Some, [], ap, arith, drop, get_or, length, map, refl, slice_get, suc, sym, take, true, zero, ℕ}
+use Rattle.std.proofs.lemmas.Bool.{and_from}
+use Rattle.std.proofs.lemmas.Bool.Decides.{nat_tests}
+use Rattle.std.proofs.lemmas.List.{drop-drop, drop_more, take-append-drop, take_more}
+use Rattle.std.proofs.lemmas.List.Folds.{list_all-append, list_any-append}
+use Rattle.std.proofs.lemmas.Option.{none-some, same_Some}
+use Rattle.std.specs.List.{list_all, list_any}
+use Rattle.std.specs.Prelude.{flat_map}
+
+pub slice_get-append_left : {A : Type 0} (xs ys : List A) (n : ℕ) → n < length xs → slice_get (xs ++ ys) n ≡ slice_get xs n
+slice_get-append_left [] ys n within = absurd (omega arith)
+slice_get-append_left (x ∷ xs) ys zero within = refl
+slice_get-append_left (x ∷ xs) ys (suc n) within = slice_get-append_left xs ys n (omega arith)
+
+pub slice_get-append_right : {A : Type 0} (xs ys : List A) (n m : ℕ) → m ≡ length xs + n → slice_get (xs ++ ys) m ≡ slice_get ys n
+slice_get-append_right [] ys n m e = ap (slice_get ys) (omega arith)
+slice_get-append_right (x ∷ xs) ys n zero e = absurd (omega arith)
+slice_get-append_right (x ∷ xs) ys n (suc m) e = slice_get-append_right xs ys n m (omega arith)
+
+pub slice_get-push_left : {X : Type 0} (xs : List X) (y : X) (i : ℕ) (x : X) → slice_get xs i ≡ Some x → slice_get (xs ++ y ∷ []) i ≡ Some x
+slice_get-push_left [] y i x is = absurd (none-some x is)
+slice_get-push_left (z ∷ xs) y zero x is = is
+slice_get-push_left (z ∷ xs) y (suc i) x is = slice_get-push_left xs y i x is
+
+pub slice_get-push_last : {X : Type 0} (xs : List X) (y : X) (i : ℕ) → length xs ≡ i → slice_get (xs ++ y ∷ []) i ≡ Some y
+slice_get-push_last [] y zero e = refl
+slice_get-push_last [] y (suc i) e = absurd (omega (arith, e))
+slice_get-push_last (x ∷ xs) y zero e = absurd (omega (arith, e))
+slice_get-push_last (x ∷ xs) y (suc i) e = slice_get-push_last xs y i (omega (arith, e))
+
+pub slice_get-at : {X : Type 0} (xs : List X) (i : ℕ) (x : X) → i < length xs → x ≡ get_or xs i x → slice_get xs i ≡ Some x
+slice_get-at [] i x l is = absurd (omega (arith, l))
+slice_get-at (y ∷ ys) zero x l is = ap Some (sym is)
+slice_get-at (y ∷ ys) (suc i) x l is = slice_get-at ys i x (omega (arith, l)) is
+
+-- what is left of a list from a place on
+pub drop-at : {X : Type 0} (xs : List X) (i : ℕ) (x : X) → i < length xs → x ≡ get_or xs i x → drop i xs ≡ x ∷ drop (i + 1) xs
+drop-at xs i x l is = drop_more xs i x l ∙ ap (λ y. y ∷ drop (i + 1) xs) (sym is)
+
+
+pub take-push : {X : Type 0} (xs : List X) (i : ℕ) (x : X) → i < length xs → x ≡ get_or xs i x → take (i + 1) xs ≡ take i xs ++ x ∷ []
+take-push xs i x l is = take_more xs i x l ∙ ap (λ y. take i xs ++ y ∷ []) (sym is)
+
+-- a list before, at and after a place
+pub split-at : {X : Type 0} (xs : List X) (i : ℕ) (x : X) → i < length xs → x ≡ get_or xs i x → xs ≡ take i xs ++ x ∷ drop (i + 1) xs
+split-at xs i x l is = sym (take-append-drop i xs) ∙ ap (λ d. take i xs ++ d) (drop_more xs i x l ∙ ap (λ y. y ∷ drop (i + 1) xs) (sym is))
+
+-- what is left from the place of an item on
+pub drop-slice_get_suc : {X : Type 0} (xs : List X) (i : ℕ) (x : X) → slice_get xs i ≡ Some x → drop i xs ≡ x ∷ drop (suc i) xs
+drop-slice_get_suc [] i x is = absurd (none-some x is)
+drop-slice_get_suc (y ∷ ys) zero x is = ap (λ z. z ∷ ys) (same_Some y x is)
+drop-slice_get_suc (y ∷ ys) (suc i) x is = drop-slice_get_suc ys i x is
+
+pub drop-slice_get : {X : Type 0} (xs : List X) (i : ℕ) (x : X) → slice_get xs i ≡ Some x → drop i xs ≡ x ∷ drop (i + 1) xs
+drop-slice_get xs i x is = let next : suc i ≡ i + 1 = omega arith in drop-slice_get_suc xs i x is ∙ ap (λ n. x ∷ drop n xs) next
+
+-- one byte more taken
+pub drop-one_more : {A : Type 0} (taken : ℕ) (text : List A) → drop (taken + 1) text ≡ drop 1 (drop taken text)
+drop-one_more taken text = sym (drop-drop 1 taken text)
+
+
+pub slice_get-behind_two : {A : Type 0} (a b : A) (xs : List A) (place : ℕ) → 2 ≤ place → slice_get (a ∷ b ∷ xs) place ≡ slice_get xs (place - 2)
+slice_get-behind_two a b xs zero h = absurd (omega arith)
+slice_get-behind_two a b xs (suc zero) h = absurd (omega arith)
+slice_get-behind_two a b xs (suc (suc n)) h = let e : suc (suc n) - 2 ≡ n = omega arith in rw e refl
+
+pub list_any-map : {A B : Type 0} (p : B → Bool) (f : A → B) (xs : List A) → list_any p (map f xs) ≡ list_any (λ x. p (f x)) xs
+list_any-map p f [] = refl
+list_any-map p f (x ∷ xs) = ap (λ b. p (f x) || b) (list_any-map p f xs)
+
+pub list_any-turned : {A : Type 0} (p : A → Bool) (n : ℕ) (xs : List A) → list_any p (drop n xs ++ take n xs) ≡ list_any p xs
+list_any-turned p n xs =
+    list_any-append p (drop n xs) (take n xs) ∙ (or_comm (list_any p (drop n xs)) (list_any p (take n xs)) ∙ (sym (list_any-append p (take n xs) (drop n xs)) ∙ ap (list_any p) (take-append-drop n xs)))
+
+pub list_all-turned : {A : Type 0} (p : A → Bool) (n : ℕ) (xs : List A) → list_all p (drop n xs ++ take n xs) ≡ list_all p xs
+list_all-turned p n xs =
+    list_all-append p (drop n xs) (take n xs) ∙ (and_comm (list_all p (drop n xs)) (list_all p (take n xs)) ∙ (sym (list_all-append p (take n xs) (drop n xs)) ∙ ap (list_all p) (take-append-drop n xs)))
+
+pub list_all-same : {X : Type 0} (p q : X → Bool) → ((x : X) → p x ≡ q x) → (xs : List X) → list_all p xs ≡ list_all q xs
+list_all-same p q h [] = refl
+list_all-same p q h (x ∷ xs) = ap (λ b. b && list_all p xs) (h x) ∙ ap (λ b. q x && b) (list_all-same p q h xs)
+
+pub list_all-flat_map : {X Y : Type 0} (p : Y → Bool) (f : X → List Y) (xs : List X) → list_all p (flat_map f xs) ≡ list_all (λ x. list_all p (f x)) xs
+list_all-flat_map p f [] = refl
+list_all-flat_map p f (x ∷ xs) = list_all-append p (f x) (flat_map f xs) ∙ ap (λ b. list_all p (f x) && b) (list_all-flat_map p f xs)
+
+
+pub list_all-push : (p : ℕ → Bool) (b : ℕ) (seen : List ℕ) → list_all p seen ≡ true → p b ≡ true → list_all p (seen ++ b ∷ []) ≡ true
+list_all-push p b seen h k = list_all-append p seen (b ∷ []) ∙ and_from _ _ h (and_from _ _ k refl)
+
+pub push_not_empty : (xs : List ℕ) (b : ℕ) → xs ++ b ∷ [] ≡ [] → ⊥
+push_not_empty [] b e = cc
+push_not_empty (x ∷ xs) b e = cc
+
+pub empty_of_length : (name : List ℕ) → (length name == 0) ≡ true → name ≡ []
+empty_of_length [] e = refl
+empty_of_length (b ∷ bs) e = grind (arith, nat_tests)
+
+pub empty_right : (before bytes : List ℕ) → [] ≡ before ++ bytes → bytes ≡ []
+empty_right [] bytes e = sym e
+empty_right (b ∷ bs) bytes e = cc
+
+pub right_empty : (xs ys : List ℕ) → xs ++ ys ≡ [] → ys ≡ []
+right_empty [] ys e = e
+right_empty (x ∷ xs) ys e = cc
+
+pub cons-tail : (b c : ℕ) (xs ys : List ℕ) → b ∷ xs ≡ c ∷ ys → xs ≡ ys
+cons-tail b c xs ys e = cc
+
+pub append-cancel : (s rest rest' : List ℕ) → s ++ rest ≡ s ++ rest' → rest ≡ rest'
+append-cancel [] rest rest' e = e
+append-cancel (b ∷ bs) rest rest' e = append-cancel bs rest rest' (cons-tail b b (bs ++ rest) (bs ++ rest') e)
+
+pub cons-head : (b c : ℕ) (xs ys : List ℕ) → b ∷ xs ≡ c ∷ ys → b ≡ c
+cons-head b c xs ys e = cc
+
+pub none_some : {X : Type 0} (x : X) → None ≡ Some x → ⊥
+none_some x e = cc
+
+pub map-map_same : {P M : Type 0} (plain : P → P) (meaning : P → M) → ((p : P) → meaning (plain p) ≡ meaning p) → (ps : List P) → map meaning (map plain ps) ≡ map meaning ps
+map-map_same plain meaning one [] = refl
+map-map_same plain meaning one (p ∷ ps) =
+    let first = one p in
+    let others = map-map_same plain meaning one ps in
+    cc
