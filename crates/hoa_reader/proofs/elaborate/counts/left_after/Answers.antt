@@ -14,7 +14,7 @@ returns-then-count-left c =
     let i = c.edges.edge-index in
     let edge = c.edge-item.result in
     let S : List RawEdge → ℕ = λ es. sum_by (edge_counted c.args.known.now s) (map written_edge es) in
-    let here : c.edge_count-count.result ≡ edge_counted c.args.known.now s (written_edge edge) = c.edge_count-count.ensures s c.state_count-own.ensures in
+    let here : c.edge_count-count.result ≡ edge_counted c.args.known.now s (written_edge edge) = c.edge_count-count.ensures s c.state_weight-own.ensures in
     let slice = c.as_slice-edge-items.ensures in
     let rest : S (drop i c.as_slice-edge-items.result.now) ≡ edge_counted c.args.known.now s (written_edge edge) + S (drop (i + 1) c.as_slice-edge-items.result.now) =
     ap S (drop-at c.as_slice-edge-items.result.now i edge c.edges-test.true c.edge-item.is) ∙ sum_by-cons (edge_counted c.args.known.now s) (written_edge edge) (map written_edge (drop (i + 1) c.as_slice-edge-items.result.now)) in
@@ -29,7 +29,7 @@ edges-preserved c =
     let i = c.edges.edge-index in
     let edge = c.edge-item.result in
     let S : List RawEdge → ℕ = λ es. sum_by (edge_counted c.args.known.now s) (map written_edge es) in
-    let here : c.edge_count-count.result ≡ edge_counted c.args.known.now s (written_edge edge) = c.edge_count-count.ensures s c.state_count-own.ensures in
+    let here : c.edge_count-count.result ≡ edge_counted c.args.known.now s (written_edge edge) = c.edge_count-count.ensures s c.state_weight-own.ensures in
     let slice = c.as_slice-edge-items.ensures in
     let rest : S (drop i c.as_slice-edge-items.result.now) ≡ edge_counted c.args.known.now s (written_edge edge) + S (drop (i + 1) c.as_slice-edge-items.result.now) =
     ap S (drop-at c.as_slice-edge-items.result.now i edge c.edges-test.true c.edge-item.is) ∙ sum_by-cons (edge_counted c.args.known.now s) (written_edge edge) (map written_edge (drop (i + 1) c.as_slice-edge-items.result.now)) in
