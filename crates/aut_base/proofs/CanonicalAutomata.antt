@@ -1,5 +1,5 @@
 -- An automaton with its labels in canonical form, or with further names, accepts the same words.
-use Rattle.std.proofs.Common.{◌≡◌, ◌∙◌, ◌↔◌, ◌<◌, ℕ, false, List, [], ◌∷◌, ◌++◌, length, map, All, Contains, refl, sym, ap, subst}
+use Rattle.std.proofs.Common.{◌≡◌, ◌↔◌, ℕ, false, List, [], ◌∷◌, ◌++◌, length, map, refl, sym, ap, subst}
 use Rattle.std.proofs.lemmas.List.Elements.{All-contains, All-map, All-weaker}
 use Rattle.std.proofs.lemmas.List.Folds.{map_fixed}
 use Rattle.std.specs.FinSet.{contains}
@@ -8,7 +8,7 @@ use Rattle.std.specs.Option.{option_map_or}
 use Rattle.aut_base.specs.Acceptance.{Accepts}
 use Rattle.aut_base.specs.Automaton.{Arrow, Automaton, IsArrowOf, IsWellFormed}
 use Rattle.aut_base.specs.CanonicalLabel.{canonical, canonical_label}
-use Rattle.aut_base.specs.Label.{AllBelow, LabelTree, holds_at, truth}
+use Rattle.aut_base.specs.Label.{AllBelow, LabelTree, holds_at}
 use Rattle.aut_base.specs.LabelLaws.{LabelsBelow}
 use Rattle.aut_base.specs.Word.{Sign}
 use Rattle.aut_base.proofs.CanonicalBelow.{canonical_label_below}

@@ -1,7 +1,7 @@
 -- The propositions of a canonical label are among those of its truth function.
-use Rattle.std.proofs.Common.{◌≡◌, ◌<◌, ◌≤◌, ◌+◌, ℕ, zero, suc, Bool, true, false, cond, List, [], ◌∷◌, ◌++◌, map, arith}
+use Rattle.std.proofs.Common.{◌<◌, ◌≤◌, ◌+◌, ℕ, zero, suc, Bool, true, false, cond, List, [], ◌∷◌, ◌++◌, map, arith}
 use Rattle.std.specs.List.{AllByRecursion}
-use Rattle.aut_base.specs.CanonicalLabel.{Literal, all_of, canonical_label, cubes, cubes_tree, is_independent, label_of, literal_tree, one_of}
+use Rattle.aut_base.specs.CanonicalLabel.{Literal, all_of, canonical_label, cubes, is_independent, label_of, literal_tree, one_of}
 use Rattle.aut_base.specs.Label.{AllBelow, EachBelow, LabelTree, Prop, Not, trees}
 use Rattle.aut_base.specs.Valuation.{truth_on}
 

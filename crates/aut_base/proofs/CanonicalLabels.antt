@@ -1,6 +1,6 @@
 -- Canonical labels: each says what its label says, and labels that say the same at every letter have the same one.
-use Rattle.std.proofs.Common.{◌≡◌, ◌≢◌, ◌∙◌, ◌↔◌, ℕ, ◌<◌, Bool, List, length, AllPairs, refl, sym, ap, arith}
-use Rattle.aut_base.specs.CanonicalLabel.{canonical_label, label_of}
+use Rattle.std.proofs.Common.{◌≡◌, ◌≢◌, ◌∙◌, ◌↔◌, ℕ, ◌<◌, Bool, List, length, AllPairs, sym, ap}
+use Rattle.aut_base.specs.CanonicalLabel.{canonical_label}
 use Rattle.aut_base.specs.Label.{AllBelow, LabelTree, holds_at, truth}
 use Rattle.aut_base.specs.Valuation.{holds_in, letter_of, truth_on}
 use Rattle.aut_base.specs.Word.{Sign}

@@ -1,12 +1,12 @@
 -- A canonical label is true exactly where the truth function that it was made of is.
-use Rattle.std.proofs.Common.{◌≡◌, ◌∙◌, ℕ, zero, suc, ◌+◌, ◌<◌, Bool, true, false, cond, not, ◌&&◌, ◌||◌, List, [], ◌∷◌, ◌++◌, length, map, refl, sym, ap, arith}
+use Rattle.std.proofs.Common.{◌≡◌, ◌∙◌, ℕ, zero, suc, ◌+◌, ◌<◌, Bool, true, false, cond, not, ◌&&◌, ◌||◌, List, [], ◌∷◌, ◌++◌, length, map, refl, sym, ap}
 use Rattle.std.proofs.lemmas.List.Folds.{list_any-append}
 use Rattle.std.specs.Bool.{beq}
 use Rattle.std.specs.List.{list_all, list_any, range_with_len}
 use Rattle.aut_base.specs.CanonicalLabel.{Literal, all_of, canonical_label, cubes, cubes_tree, is_independent, label_of, literal_tree, one_of}
 use Rattle.aut_base.specs.Label.{AllBelow, EachBelow, LabelTree, LabelTrees, True, False, Prop, Not, And, Or, none, more, all_true, some_true, trees, truth}
 use Rattle.aut_base.specs.Valuation.{holds_in, truth_on, valuation_of}
-use Rattle.aut_base.proofs.ValuationLists.{all_same, holds_in-valuation_of, independent_agrees, length-map_range, length-valuation_of, valuation_of-same}
+use Rattle.aut_base.proofs.ValuationLists.{all_same, holds_in-valuation_of, independent_agrees, length-map_range, valuation_of-same}
 
 -- the literals of a cube, which all hold
 abbrev pub all_hold : (ℕ → Bool) → List Literal → Bool

@@ -1,5 +1,5 @@
 -- Labels in canonical form, as one sees by eye, and the order of valuations.
-use Rattle.std.specs.Prelude.{◌≡◌, ◌^◌, ℕ, true, false, List, [], ◌∷◌, map, codes}
+use Rattle.std.specs.Prelude.{◌≡◌, ◌^◌, ℕ, true, false, [], ◌∷◌, map, codes}
 use Rattle.std.specs.List.{range_with_len}
 use Rattle.aut_base.specs.Label.{LabelTree, Prop, Not, And, Or, none}
 use Rattle.aut_base.specs.LabelText.{label_text}
