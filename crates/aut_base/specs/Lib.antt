@@ -5,6 +5,8 @@ pub mod Distinct
 pub mod Examples
 pub mod Formula
 pub mod Label
+pub mod LabelExamples
+pub mod LabelLaws
 pub mod LabelText
 pub mod Limits
 pub mod Marks

@@ -1,8 +1,8 @@
 -- Valuations: which of n propositions hold, as a list of truth values by place. Bit k of a valuation's number is the
 -- truth of proposition k, as it is where labels are implicit (HOA v1, implicit labels). So proposition 0 varies fastest.
-use Rattle.std.specs.Prelude.{◌≡◌, ℕ, zero, suc, ◌+◌, ◌*◌, ◌≤◌, Bool, true, false, if◌then◌else◌, List, [], ◌∷◌, ◌++◌, flat_map, length}
+use Rattle.std.specs.Prelude.{◌≡◌, ℕ, zero, suc, ◌+◌, ◌*◌, ◌≤◌, Bool, true, false, if◌then◌else◌, List, [], ◌∷◌, ◌++◌, flat_map, map, length}
 use Rattle.std.specs.FinSet as set
-use Rattle.std.specs.List.{slice_index_or}
+use Rattle.std.specs.List.{range_with_len, slice_index_or}
 use Rattle.aut_base.specs.Label.{LabelTree, truth}
 use Rattle.aut_base.specs.Word.{NameSet}
 
@@ -19,6 +19,10 @@ valuations (suc n) = flat_map (λ v. (false ∷ v) ∷ (true ∷ v) ∷ []) (val
 -- whether the i-th proposition holds
 abbrev pub holds_in : List Bool → ℕ → Bool
 holds_in v i = slice_index_or v i false
+
+-- the valuation of n propositions in which the same ones hold
+abbrev pub valuation_of : ℕ → (ℕ → Bool) → List Bool
+valuation_of n holds = map holds (range_with_len 0 n)
 
 -- the truth of a label under a valuation
 abbrev pub truth_on : LabelTree → List Bool → Bool

@@ -20,7 +20,10 @@ pub use description::{Description, Edge, Edges};
 pub use fault::{Failed, Memory, OpenFail};
 pub use formula::{Formula, Formulas};
 pub use label::{Label, Labels};
-pub use law::{same_word_same_verdict, worked_examples};
+pub use law::{
+    canonical_accepts_the_same, canonical_examples, canonical_label_keeps_truth,
+    other_names_play_no_part, same_truth_same_label, same_word_same_verdict, worked_examples,
+};
 pub use letter::{Lasso, Letter, Letters};
 pub use limit::{
     Limit, MOST_ALIASES, MOST_BYTES, MOST_DEPTH, MOST_EDGES, MOST_NAMES, MOST_SETS, MOST_STATES,

@@ -1,0 +1,108 @@
+-- An automaton accepts what another accepts if, for each edge that can be gone at a letter, it has one between the same
+-- states and with the same marks that can be gone at that letter too.
+use Rattle.std.proofs.Common.{◌≡◌, ◌∙◌, ◌↔◌, ◌<◌, ℕ, true, List, [], ◌∷◌, ◌++◌, length, map, get_or, Contains, refl, sym, ap, subst, arith}
+use Rattle.std.proofs.lemmas.List.{get_or-map, length-map}
+use Rattle.std.proofs.lemmas.List.Elements.{Contains-get_or}
+use Rattle.aut_base.specs.Acceptance.{Accepts, IsPath}
+use Rattle.aut_base.specs.Automaton.{TreeEdge, Automaton}
+use Rattle.aut_base.specs.Formula.{met}
+use Rattle.aut_base.specs.Label.{holds_at, truth}
+use Rattle.aut_base.specs.Word.{NameSet, copies}
+
+-- an edge of the automaton that can be gone at the letter in place of this one
+pub record Twin (b : Automaton) (x : NameSet) (e : TreeEdge) : Type 0 where
+  pub twin : TreeEdge
+  pub there : Contains b.edges twin
+  pub from : twin.from ≡ e.from
+  pub to : twin.to ≡ e.to
+  pub marks : twin.marks ≡ e.marks
+  pub holds : truth (holds_at b.names x) twin.label ≡ true
+
+abbrev pub Follows : Automaton → Automaton → Type 0
+Follows a b = (e : TreeEdge) (x : NameSet) → Contains a.edges e → truth (holds_at a.names x) e.label ≡ true → Twin b x e
+
+-- a path of the other automaton, with the same marks
+pub record Path (b : Automaton) (p : ℕ) (xs : List NameSet) (es : List TreeEdge) (q : ℕ) : Type 0 where
+  pub edges : List TreeEdge
+  pub goes : IsPath b p xs edges q
+  pub marks : map (λ (e : TreeEdge). e.marks) edges ≡ map (λ (e : TreeEdge). e.marks) es
+
+pub path_follows : (a b : Automaton) → Follows a b → (p : ℕ) (xs : List NameSet) (es : List TreeEdge) (q : ℕ) → IsPath a p xs es q → Path b p xs es q
+path_follows a b follows p [] [] q path = record { edges = []; goes = path; marks = refl }
+path_follows a b follows p [] (e ∷ es) q path = absurd path
+path_follows a b follows p (x ∷ xs) [] q path = absurd path
+path_follows a b follows p (x ∷ xs) (e ∷ es) q path =
+    let step = follows e x path.1 path.2 in
+    let rest = path_follows a b follows e.to xs es q path.3 in
+    let P : ℕ → Type 0 = λ r. IsPath b r xs rest.edges q in
+    record {
+      edges = step.twin ∷ rest.edges;
+      goes = (path.0 ∙ sym step.from, step.there, step.holds, subst P (sym step.to) rest.goes);
+      marks = cc (step.marks, rest.marks);
+    }
+
+pub accepts_follows : (a b : Automaton) → Follows a b → ((s : ℕ) → Contains a.starts s → Contains b.starts s) → a.formula ≡ b.formula → (u v : List NameSet) → Accepts a u v → Accepts b u v
+accepts_follows a b follows starts formula u v r =
+    let way = path_follows a b follows r.start (u ++ copies r.turns v) r.way r.state r.leads in
+    let cycle = path_follows a b follows r.state (copies r.rounds v) r.cycle r.state r.returns in
+    record {
+      endless = r.endless;
+      start = r.start;
+      state = r.state;
+      turns = r.turns;
+      rounds = r.rounds;
+      way = way.edges;
+      cycle = cycle.edges;
+      is_start = starts r.start r.is_start;
+      leads = way.goes;
+      positive = r.positive;
+      returns = cycle.goes;
+      meets = ap (λ marks. met marks b.formula) cycle.marks ∙ (ap (met (map (λ (e : TreeEdge). e.marks) r.cycle)) (sym formula) ∙ r.meets);
+    }
+
+-- the edges of one automaton are those of the other, with labels that say the same
+pub record Relabels (a b : Automaton) (f : TreeEdge → TreeEdge) : Type 0 where
+  pub edges : b.edges ≡ map f a.edges
+  pub starts : b.starts ≡ a.starts
+  pub formula : b.formula ≡ a.formula
+  pub from : (e : TreeEdge) → (f e).from ≡ e.from
+  pub to : (e : TreeEdge) → (f e).to ≡ e.to
+  pub marks : (e : TreeEdge) → (f e).marks ≡ e.marks
+  pub says : (e : TreeEdge) (x : NameSet) → Contains a.edges e → truth (holds_at b.names x) (f e).label ≡ truth (holds_at a.names x) e.label
+
+old_follows : (a b : Automaton) (f : TreeEdge → TreeEdge) → Relabels a b f → Follows a b
+old_follows a b f new e x there holds =
+    let k = there.0 in
+    let within : k < length a.edges = there.1 in
+    let at : get_or (map f a.edges) k (f e) ≡ f e = get_or-map f a.edges k e (f e) within ∙ ap f there.2 in
+    record {
+      twin = f e;
+      there = subst (λ es. Contains es (f e)) (sym new.edges) (k, omega (arith, length-map a.edges f), at);
+      from = new.from e;
+      to = new.to e;
+      marks = new.marks e;
+      holds = new.says e x there ∙ holds;
+    }
+
+new_follows : (a b : Automaton) (f : TreeEdge → TreeEdge) → Relabels a b f → Follows b a
+new_follows a b f new e x there holds =
+    let mapped : Contains (map f a.edges) e = subst (λ es. Contains es e) new.edges there in
+    let k = mapped.0 in
+    let within : k < length a.edges = omega (arith, length-map a.edges f, mapped.1) in
+    let old : TreeEdge = get_or a.edges k e in
+    let is : f old ≡ e = sym (get_or-map f a.edges k e e within) ∙ mapped.2 in
+    let listed : Contains a.edges old = Contains-get_or a.edges k e within in
+    record {
+      twin = old;
+      there = listed;
+      from = sym (new.from old) ∙ ap (λ (d : TreeEdge). d.from) is;
+      to = sym (new.to old) ∙ ap (λ (d : TreeEdge). d.to) is;
+      marks = sym (new.marks old) ∙ ap (λ (d : TreeEdge). d.marks) is;
+      holds = sym (new.says old x listed) ∙ (ap (λ (d : TreeEdge). truth (holds_at b.names x) d.label) is ∙ holds);
+    }
+
+pub relabelled_accepts : (a b : Automaton) (f : TreeEdge → TreeEdge) → Relabels a b f → (u v : List NameSet) → Accepts b u v ↔ Accepts a u v
+relabelled_accepts a b f new u v = (
+  accepts_follows b a (new_follows a b f new) (λ s. subst (λ starts. Contains starts s) new.starts) new.formula u v,
+  accepts_follows a b (old_follows a b f new) (λ s. subst (λ starts. Contains starts s) (sym new.starts)) (sym new.formula) u v,
+)

@@ -1,0 +1,5 @@
+use Rattle.aut_base.proofs.LabelExamples as examples
+use Rattle.aut_base.proofs.law.canonical_examples.Goals as goal
+
+pub returns : goal.returns
+returns c = examples.canonical_examples

@@ -1,0 +1,5 @@
+use Rattle.aut_base.proofs.LabelLaws as law
+use Rattle.aut_base.proofs.law.canonical_label_keeps_truth.Goals as goal
+
+pub returns : goal.returns
+returns c = law.canonical_label_keeps_truth

@@ -1,0 +1,5 @@
+use Rattle.aut_base.proofs.CanonicalLabels as labels
+use Rattle.aut_base.proofs.law.same_truth_same_label.Goals as goal
+
+pub returns : goal.returns
+returns c = labels.same_truth_same_label
