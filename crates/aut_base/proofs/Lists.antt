@@ -57,8 +57,8 @@ pub drop-slice_get : {X : Type 0} (xs : List X) (i : ℕ) (x : X) → slice_get 
 drop-slice_get xs i x is = let next : suc i ≡ i + 1 = omega arith in drop-slice_get_suc xs i x is ∙ ap (λ n. x ∷ drop n xs) next
 
 -- one byte more taken
-pub drop-one_more : {A : Type 0} (taken : ℕ) (text : List A) → drop (taken + 1) text ≡ drop 1 (drop taken text)
-drop-one_more taken text = sym (drop-drop 1 taken text)
+pub drop_one_more : {A : Type 0} (taken : ℕ) (text : List A) → drop (taken + 1) text ≡ drop 1 (drop taken text)
+drop_one_more taken text = sym (drop-drop 1 taken text)
 
 
 pub slice_get-behind_two : {A : Type 0} (a b : A) (xs : List A) (place : ℕ) → 2 ≤ place → slice_get (a ∷ b ∷ xs) place ≡ slice_get xs (place - 2)

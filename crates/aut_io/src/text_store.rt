@@ -69,7 +69,7 @@ impl TextStore {
     }
 
     /// Takes the next byte of the open text, if any is left.
-    #[tactic(auto, using(crate::proofs::Texts::drop_more))]
+    #[tactic(auto, using(aut_base::proofs::Lists::drop_one_more))]
     pub(crate) fn take(&mut self) -> Option<u8>
         ensures byte { result ≡ slice_get self.old.left 0 }
         ensures rest { self.new ≡ record { texts = self.old.texts; left = drop 1 self.old.left } }
