@@ -1,23 +1,14 @@
 //! `autfilt`: a filter of omega-automata whose every answer is proved.
+//!
+//! What the command does is the function `autfilt` of `autfilt_command`; here stand the outside that it runs over, and
+//! `main`.
 #![tactic(auto)]
 
-mod ended;
-#[cfg(test)]
-mod examples;
-mod laws;
-mod notes;
 mod real;
-mod run;
-#[cfg(test)]
-mod tests;
-mod turn;
 
 use aut_base::{Memory, Text, Words};
-pub use ended::{End, Ended};
-pub use laws::{one_end, one_front};
-use notes::note;
+use autfilt_command::{End, Ended, autfilt, note};
 use real::{RealInputs, RealSink};
-pub use run::autfilt;
 use std::alloc::Global;
 use std::env::Args;
 use std::process::ExitCode;

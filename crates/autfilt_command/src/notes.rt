@@ -1,0 +1,158 @@
+//! The line about a fault. It is written in pieces, and no memory is taken for it.
+
+ghost use Rattle.std.specs.Prelude.{◌≡◌, ◌+◌, ◌<◌, ◌≤◌, [], ◌∷◌, ◌++◌, codes, OnOk, OnErr};
+ghost use Rattle.std.specs.Fmt.{decimal};
+ghost use Rattle.aut_io.specs.Outside.{Rose, Gains, GainsPrefix};
+ghost use Rattle.autfilt_command.specs.Notes.{line_of, limit_word, rule_word};
+ghost use Rattle.autfilt_command.specs.Run.{Calm};
+
+use crate::ended::End;
+use aut_base::{Failed, Limit};
+use aut_io::Sink;
+use hoa_reader::Rule;
+
+/// Writes the line about how a run ended, if that has one. Nothing is written after a write that failed, and nobody
+/// learns of it but by the count.
+pub fn note<M: Sink>(notes: &mut M, end: &End)
+    ensures whole { Calm (M.faults notes.old) (M.faults notes.new) → Gains (M.written notes.old) (M.written notes.new) (line_of end.now) }
+    ensures prefix { GainsPrefix (M.written notes.old) (M.written notes.new) (line_of end.now) }
+    ensures later { M.faults notes.old ≤ M.faults notes.new }
+{
+    match write_line(notes, end) {
+        Ok(()) => {}
+        Err(Failed) => {}
+    }
+}
+
+/// Writes the line, and answers whether all of it was written.
+fn write_line<M: Sink>(notes: &mut M, end: &End) -> Result<(), Failed>
+    ensures ok { OnOk result (Gains (M.written notes.old) (M.written notes.new) (line_of end.now)) }
+    ensures err { OnErr result (GainsPrefix (M.written notes.old) (M.written notes.new) (line_of end.now)) }
+    ensures failed { OnErr result (Rose (M.faults notes.old) (M.faults notes.new)) }
+    ensures calm { OnOk result (M.faults notes.new ≡ M.faults notes.old) }
+    ensures later { M.faults notes.old ≤ M.faults notes.new }
+{
+    match end {
+        End::Output | End::NoneOutput => Ok(()),
+        End::Usage => notes.write(b"autfilt: bad arguments\n"),
+        End::CannotOpen => notes.write(b"autfilt: cannot open -\n"),
+        End::ReadFault => notes.write(b"autfilt: -: read error\n"),
+        End::SyntaxAt(offset) => write_offset(notes, *offset),
+        End::Truncated => notes.write(b"autfilt: -: unexpected end of input\n"),
+        End::Aborted => notes.write(b"autfilt: -: automaton aborted\n"),
+        End::Invalid(rule) => write_pieces(
+            notes,
+            b"autfilt: -: invalid automaton (",
+            rule_word(rule),
+            b")\n",
+        ),
+        End::Limit(which) => write_pieces(
+            notes,
+            b"autfilt: -: limit exceeded: ",
+            limit_word(which),
+            b"\n",
+        ),
+        End::WriteFault => notes.write(b"autfilt: write error\n"),
+        End::Memory => notes.write(b"autfilt: out of memory\n"),
+    }
+}
+
+/// Writes three pieces one after the other.
+fn write_pieces<M: Sink>(
+    notes: &mut M,
+    front: &[u8],
+    word: &[u8],
+    back: &[u8],
+) -> Result<(), Failed>
+    ensures ok { OnOk result (Gains (M.written notes.old) (M.written notes.new) (front.now ++ (word.now ++ back.now))) }
+    ensures err { OnErr result (GainsPrefix (M.written notes.old) (M.written notes.new) (front.now ++ (word.now ++ back.now))) }
+    ensures failed { OnErr result (Rose (M.faults notes.old) (M.faults notes.new)) }
+    ensures calm { OnOk result (M.faults notes.new ≡ M.faults notes.old) }
+    ensures later { M.faults notes.old ≤ M.faults notes.new }
+{
+    notes.write(front)?;
+    notes.write(word)?;
+    notes.write(back)
+}
+
+/// Writes the line about an offset at which the text cannot go on.
+fn write_offset<M: Sink>(notes: &mut M, offset: u64) -> Result<(), Failed>
+    ensures ok { OnOk result (Gains (M.written notes.old) (M.written notes.new) (codes "autfilt: -: syntax error at byte " ++ (decimal offset ++ codes "\n"))) }
+    ensures err { OnErr result (GainsPrefix (M.written notes.old) (M.written notes.new) (codes "autfilt: -: syntax error at byte " ++ (decimal offset ++ codes "\n"))) }
+    ensures failed { OnErr result (Rose (M.faults notes.old) (M.faults notes.new)) }
+    ensures calm { OnOk result (M.faults notes.new ≡ M.faults notes.old) }
+    ensures later { M.faults notes.old ≤ M.faults notes.new }
+{
+    notes.write(b"autfilt: -: syntax error at byte ")?;
+    write_number(notes, offset)?;
+    notes.write(b"\n")
+}
+
+/// Writes a number in decimal digits.
+fn write_number<M: Sink>(notes: &mut M, number: u64) -> Result<(), Failed>
+    ensures ok { OnOk result (Gains (M.written notes.old) (M.written notes.new) (decimal number)) }
+    ensures err { OnErr result (GainsPrefix (M.written notes.old) (M.written notes.new) (decimal number)) }
+    ensures failed { OnErr result (Rose (M.faults notes.old) (M.faults notes.new)) }
+    ensures calm { OnOk result (M.faults notes.new ≡ M.faults notes.old) }
+    ensures later { M.faults notes.old ≤ M.faults notes.new }
+{
+    if number < 10 {
+        return write_digit(notes, number);
+    }
+    write_number(notes, number / 10)?;
+    write_digit(notes, number % 10)
+}
+
+/// Writes one digit.
+fn write_digit<M: Sink>(notes: &mut M, digit: u64) -> Result<(), Failed>
+    requires { digit < 10 }
+    ensures ok { OnOk result (Gains (M.written notes.old) (M.written notes.new) ((48 + digit) ∷ [])) }
+    ensures err { OnErr result (GainsPrefix (M.written notes.old) (M.written notes.new) ((48 + digit) ∷ [])) }
+    ensures failed { OnErr result (Rose (M.faults notes.old) (M.faults notes.new)) }
+    ensures calm { OnOk result (M.faults notes.new ≡ M.faults notes.old) }
+    ensures later { M.faults notes.old ≤ M.faults notes.new }
+{
+    let glyph = b'0' + digit as u8;
+    notes.write(&[glyph])
+}
+
+/// The name of a limit.
+fn limit_word(which: &Limit) -> &'static [u8]
+    ensures { result.now ≡ limit_word which.now }
+{
+    match which {
+        Limit::Names => b"names",
+        Limit::Sets => b"sets",
+        Limit::States => b"states",
+        Limit::Edges => b"edges",
+        Limit::Aliases => b"aliases",
+        Limit::Depth => b"depth",
+        Limit::Bytes => b"bytes",
+        Limit::Terms => b"terms",
+        Limit::BuchiStates => b"buchi-states",
+        Limit::Trees => b"trees",
+        Limit::Nodes => b"nodes",
+        Limit::Classes => b"classes",
+        Limit::Pairs => b"pairs",
+    }
+}
+
+/// The name of a rule.
+fn rule_word(rule: &Rule) -> &'static [u8]
+    ensures { result.now ≡ rule_word rule.now }
+{
+    match rule {
+        Rule::V1 => b"V1",
+        Rule::V2 => b"V2",
+        Rule::V3 => b"V3",
+        Rule::V4 => b"V4",
+        Rule::V5 => b"V5",
+        Rule::V6 => b"V6",
+        Rule::V7 => b"V7",
+        Rule::V8 => b"V8",
+        Rule::V9 => b"V9",
+        Rule::V10 => b"V10",
+        Rule::V11 => b"V11",
+        Rule::V12 => b"V12",
+    }
+}

@@ -1,0 +1,98 @@
+//! Runs the command on each row of the files of rows, and prints which came out otherwise.
+#![tactic(auto)]
+
+mod inputs;
+mod ran;
+mod row;
+mod rows;
+mod texts;
+
+use row::Row;
+use rows::{Fault, Rows, Stop, read_files};
+
+/// The files of rows, in the folder where the program runs.
+const FILES: [&str; 6] = [
+    "examples.rows",
+    "printed.rows",
+    "ends.rows",
+    "rules.rows",
+    "limits.rows",
+    "faults.rows",
+];
+
+/// The row that is being read, how many were run, and how many of these came out otherwise.
+#[derive(Drop)]
+struct Tally {
+    row: Row,
+    rows: u32,
+    different: u32,
+}
+
+fn main(rt: HostRuntime) -> Result<(), Stop> {
+    let mut tally = Tally {
+        row: Row::new(rt.alloc()),
+        rows: 0,
+        different: 0,
+    };
+    read_files(&rt, &FILES, &mut tally)?;
+    let Tally {
+        rows,
+        different,
+        ..
+    } = tally;
+    match println!(rt; "rows={rows} different={different}") {
+        Ok(()) => Ok(()),
+        Err(error) => Err(Stop {
+            file: "standard output",
+            line: 0,
+            fault: Fault::Io(error),
+        }),
+    }
+}
+
+impl Rows for Tally {
+    fn line(&mut self, rt: &HostRuntime, line: &str) -> Result<(), Fault> {
+        self.row.add(rt, line)
+    }
+
+    fn end(&mut self, rt: &HostRuntime) -> Result<(), Fault> {
+        if self.row.is_empty() {
+            return Ok(());
+        }
+        self.rows = self.rows.saturating_add(1);
+        if is_different(rt, &self.row)? {
+            self.different = self.different.saturating_add(1);
+        }
+        self.row = Row::new(rt.alloc());
+        Ok(())
+    }
+}
+
+/// Whether some run of a row comes out otherwise. Each that does is printed.
+fn is_different(rt: &HostRuntime, row: &Row) -> Result<bool, Fault> {
+    let (first, last) = row.runs();
+    let mut is_different = false;
+    for run in first..=last {
+        if differs(rt, row, run)? {
+            is_different = true;
+        }
+    }
+    Ok(is_different)
+}
+
+/// Whether the run of this number comes out otherwise. It is made once more with a failing write of the note, which
+/// changes nothing else.
+fn differs(rt: &HostRuntime, row: &Row, run: u32) -> Result<bool, Fault> {
+    let name = row.name();
+    let ran = row.run(rt.alloc(), run, false)?;
+    if !row.is_met_but_for_the_note(&ran)? || !row.is_noted(&ran) {
+        println!(rt; "= {name}\n# run {run}\n{ran}")?;
+        return Ok(true);
+    }
+    let again = row.run(rt.alloc(), run, true)?;
+    if !row.is_met_but_for_the_note(&again)? {
+        println!(rt; "= {name}\n# run {run}, with a failing write of the note\n{again}")?;
+        return Ok(true);
+    }
+    Ok(false)
+}

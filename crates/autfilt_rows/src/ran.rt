@@ -1,0 +1,52 @@
+//! What came out of a run.
+
+use aut_io::{Inputs, MemInputs, MemSink};
+use std::fmt;
+
+/// The status, what was written and noted, and how many bytes were left of the text that was opened.
+#[derive(Drop)]
+pub(crate) struct Ran {
+    pub(crate) status: u8,
+    pub(crate) out: MemSink,
+    pub(crate) notes: MemSink,
+    pub(crate) left: u32,
+}
+
+/// How many bytes are left of the open text. They are taken, past reads that fail.
+pub(crate) fn bytes_left(inputs: &mut MemInputs) -> u32 {
+    let mut left = 0u32;
+    for _ in 0..u32::MAX {
+        match inputs.next() {
+            Ok(Some(_)) => left = left.saturating_add(1),
+            Ok(None) => break,
+            Err(_) => {}
+        }
+    }
+    left
+}
+
+impl fmt::Display for Ran {
+    fn fmt<W: fmt::Write>(&self, f: &mut fmt::Formatter<W>) -> fmt::Result {
+        let status = self.status;
+        let left = self.left;
+        writeln!(f, "? {status}")?;
+        write_lines(f, ">", self.out.bytes())?;
+        write_lines(f, "!", self.notes.bytes())?;
+        writeln!(f, "left {left}")
+    }
+}
+
+/// Writes a text by lines with this mark, in the notation of rows.
+fn write_lines<W: fmt::Write>(f: &mut fmt::Formatter<W>, mark: &str, bytes: &[u8]) -> fmt::Result {
+    let text = match std::str::from_utf8(bytes) {
+        Ok(text) => text,
+        Err(_) => "(no plain text)",
+    };
+    for line in text.lines() {
+        writeln!(f, "{mark} {line}")?;
+    }
+    if !text.is_empty() && !text.ends_with('\n') {
+        writeln!(f, "# without the last line feed")?;
+    }
+    Ok(())
+}

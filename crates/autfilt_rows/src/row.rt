@@ -1,0 +1,251 @@
+//! One row: what a run is over, and what is wanted of it.
+
+use crate::inputs::Texts;
+use crate::ran::{Ran, bytes_left};
+use crate::rows::{Fault, kind_and_rest, number, numbers};
+use crate::texts::{add, add_escaped};
+use aut_base::{Memory, Numbers, Text, Words};
+use aut_io::{MemInputs, MemSink};
+use autfilt_command::autfilt;
+use std::alloc::Global;
+
+/// How many bytes the sinks take, where a row doesn't say otherwise.
+const CAPACITY: u32 = 100_000;
+
+/// A text under its name.
+#[derive(Drop)]
+struct Named {
+    name: Text,
+    text: Text,
+}
+
+/// What the number of a run tells, where a row is run more than once.
+#[derive(Clone, Copy)]
+enum Each {
+    Nothing,
+    /// Which call of the inputs fails.
+    Call,
+    /// How many bytes of each text are there.
+    Front,
+}
+
+/// What a run is over and what is wanted of it, as far as the lines were read.
+#[derive(Drop)]
+pub(crate) struct Row {
+    name: String,
+    words: Words,
+    texts: Vec<Named>,
+    failing_calls: Numbers,
+    failing_writes: Numbers,
+    failing_notes: Numbers,
+    capacity: u32,
+    each: Each,
+    first: u32,
+    last: u32,
+    status: Option<u8>,
+    output: Text,
+    note: Text,
+    left: Option<u32>,
+}
+
+impl Row {
+    /// No line was read yet.
+    pub(crate) fn new(alloc: Global) -> Row {
+        Row {
+            name: String::new(alloc),
+            words: Words::new(alloc),
+            texts: Vec::new(alloc),
+            failing_calls: Numbers::new(alloc),
+            failing_writes: Numbers::new(alloc),
+            failing_notes: Numbers::new(alloc),
+            capacity: CAPACITY,
+            each: Each::Nothing,
+            first: 0,
+            last: 0,
+            status: None,
+            output: Text::new(alloc),
+            note: Text::new(alloc),
+            left: None,
+        }
+    }
+
+    pub(crate) fn name(&self) -> &str {
+        self.name.as_str()
+    }
+
+    /// Whether no line was read.
+    pub(crate) fn is_empty(&self) -> bool {
+        self.name.as_str().is_empty()
+    }
+
+    /// The numbers of the first run and the last.
+    pub(crate) fn runs(&self) -> (u32, u32) {
+        (self.first, self.last)
+    }
+
+    /// Takes what a line says. The first line of a row is its name.
+    pub(crate) fn add(&mut self, rt: &HostRuntime, line: &str) -> Result<(), Fault> {
+        let (kind, rest) = kind_and_rest(line);
+        if self.is_empty() != (kind == "=") {
+            return Err(Fault::Name);
+        }
+        if let Some(form) = kind.strip_prefix('<') {
+            return self.add_input(rt, form, rest);
+        }
+        if let Some(form) = kind.strip_prefix('>') {
+            return add(rt, &mut self.output, form, rest);
+        }
+        if let Some(form) = kind.strip_prefix('!') {
+            return add(rt, &mut self.note, form, rest);
+        }
+        self.add_other(rt.alloc(), kind, rest)
+    }
+
+    /// Takes the name of the row. Its first text is that of standard input.
+    fn begin(&mut self, alloc: Global, name: &str) -> Result<(), Fault> {
+        if name.is_empty() {
+            return Err(Fault::Name);
+        }
+        self.name.push_str(name)?;
+        self.add_name(alloc, "-")
+    }
+
+    /// Adds to the last text.
+    fn add_input(&mut self, rt: &HostRuntime, form: &str, rest: &str) -> Result<(), Fault> {
+        match self.texts.last_mut() {
+            Some(last) => add(rt, &mut last.text, form, rest),
+            None => Ok(()),
+        }
+    }
+
+    /// Takes a line that is no line of a text.
+    fn add_other(&mut self, alloc: Global, kind: &str, rest: &str) -> Result<(), Fault> {
+        match kind {
+            "=" => self.begin(alloc, rest)?,
+            "?" => self.add_call(alloc, rest)?,
+            "@" => self.add_name(alloc, rest)?,
+            "failing-calls" => self.failing_calls = numbers(alloc, rest)?,
+            "failing-writes" => self.failing_writes = numbers(alloc, rest)?,
+            "failing-notes" => self.failing_notes = numbers(alloc, rest)?,
+            "capacity" => self.capacity = number(rest)?,
+            "left" => self.left = Some(number(rest)?),
+            "each-call" => self.repeat(Each::Call, rest)?,
+            "each-front" => self.repeat(Each::Front, rest)?,
+            _ => return Err(Fault::UnknownKind),
+        }
+        Ok(())
+    }
+
+    /// The status that is wanted, and the words.
+    fn add_call(&mut self, alloc: Global, rest: &str) -> Result<(), Fault> {
+        if self.status.is_some() {
+            return Err(Fault::Status);
+        }
+        for word in rest.split(' ') {
+            match self.status {
+                None => self.status = Some(status(word)?),
+                Some(_) => self.add_word(alloc, word)?,
+            }
+        }
+        Ok(())
+    }
+
+    /// Adds a word.
+    fn add_word(&mut self, alloc: Global, word: &str) -> Result<(), Fault> {
+        let mut text = Text::new(alloc);
+        add_escaped(alloc, &mut text, word, 0)?;
+        self.words.push(text)?;
+        Ok(())
+    }
+
+    /// Begins the text of this name.
+    fn add_name(&mut self, alloc: Global, name: &str) -> Result<(), Fault> {
+        let name = Text::from_bytes(alloc, name.as_bytes())?;
+        for named in &self.texts {
+            if named.name == name {
+                return Err(Fault::SameName);
+            }
+        }
+        let text = Text::new(alloc);
+        self.texts.push(Named { name, text })?;
+        Ok(())
+    }
+
+    /// Takes the numbers of the first run and the last.
+    fn repeat(&mut self, each: Each, rest: &str) -> Result<(), Fault> {
+        let (first, last) = kind_and_rest(rest);
+        self.each = each;
+        self.first = number(first)?;
+        self.last = number(last)?;
+        if self.last < self.first {
+            return Err(Fault::NoRun);
+        }
+        Ok(())
+    }
+
+    /// What comes out of the run of this number. Where `is_mute`, the first write of the note fails.
+    pub(crate) fn run(&self, alloc: Global, run: u32, is_mute: bool) -> Result<Ran, Memory> {
+        let mut inputs = self.inputs(alloc, run)?;
+        let mut out = MemSink::new(alloc, self.capacity, copied(alloc, &self.failing_writes)?)?;
+        let mut failing_notes = copied(alloc, &self.failing_notes)?;
+        if is_mute {
+            failing_notes.push(0)?;
+        }
+        let mut notes = MemSink::new(alloc, CAPACITY, failing_notes)?;
+        let ended = autfilt(alloc, &self.words, &mut inputs, &mut out, &mut notes);
+        Ok(Ran {
+            status: ended.status(),
+            out,
+            notes,
+            left: bytes_left(&mut inputs),
+        })
+    }
+
+    /// The inputs of the run of this number.
+    fn inputs(&self, alloc: Global, run: u32) -> Result<MemInputs, Memory> {
+        let mut failing = copied(alloc, &self.failing_calls)?;
+        let mut most = usize::MAX;
+        match self.each {
+            Each::Nothing => {}
+            Each::Call => failing.push(run)?,
+            Each::Front => most = run as usize,
+        }
+        let mut texts = Texts::new(alloc);
+        for named in &self.texts {
+            let bytes = named.text.as_bytes();
+            let front = &bytes[..bytes.len().min(most)];
+            texts = texts.with(named.name.copy(alloc)?, Text::from_bytes(alloc, front)?)?;
+        }
+        Ok(texts.inputs(failing))
+    }
+
+    /// Whether a run ends, writes and leaves what is wanted, whatever it notes.
+    pub(crate) fn is_met_but_for_the_note(&self, ran: &Ran) -> Result<bool, Fault> {
+        let Some(status) = self.status else {
+            return Err(Fault::Status);
+        };
+        Ok(
+            ran.status == status
+                && ran.out.bytes() == self.output.as_bytes()
+                && self.left.is_none_or(|left| left == ran.left),
+        )
+    }
+
+    /// Whether a run notes what is wanted.
+    pub(crate) fn is_noted(&self, ran: &Ran) -> bool {
+        ran.notes.bytes() == self.note.as_bytes()
+    }
+}
+
+/// An exit status.
+fn status(word: &str) -> Result<u8, Fault> {
+    match word.parse::<u8>() {
+        Ok(status) => Ok(status),
+        Err(_) => Err(Fault::NoNumber),
+    }
+}
+
+/// A copy of a list of numbers.
+fn copied(alloc: Global, list: &Numbers) -> Result<Numbers, Memory> {
+    Ok(Numbers::from_vec(Vec::from_slice(alloc, list.as_slice())?))
+}

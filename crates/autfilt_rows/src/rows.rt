@@ -1,0 +1,127 @@
+//! Files of rows, whatever they are rows of. The README of this crate has the notation in full.
+
+use aut_base::{Memory, Numbers};
+use std::alloc::{AllocError, AllocFailed, Global};
+use std::{fs, io};
+
+/// Why rows can't be read or run.
+#[derive(Debug, Drop)]
+pub(crate) enum Fault {
+    /// A file could not be read, or standard output not written.
+    Io(io::Error),
+    Memory,
+    /// The line is of no kind.
+    UnknownKind,
+    /// A `\` with a byte that makes no escape, or at the end.
+    UnknownEscape,
+    /// Where a number should stand is none below 2^32, or an expected status above 255.
+    NoNumber,
+    /// A row has lines before its name, a second name or an empty one.
+    Name,
+    /// A row says no status, or a second one.
+    Status,
+    /// Two texts of a row have one name.
+    SameName,
+    /// The number of the last run is below that of the first.
+    NoRun,
+}
+
+/// Where reading or running the rows ended before the last. Lines are counted from 1.
+#[derive(Debug, Drop)]
+pub(crate) struct Stop {
+    pub(crate) file: &'static str,
+    pub(crate) line: u32,
+    pub(crate) fault: Fault,
+}
+
+/// What takes rows, line by line.
+pub(crate) trait Rows {
+    /// Takes a line of a row. No empty line comes, and no comment.
+    fn line(&mut self, rt: &HostRuntime, line: &str) -> Result<(), Fault>;
+
+    /// Takes the end of a row, if there was a line since the last end.
+    fn end(&mut self, rt: &HostRuntime) -> Result<(), Fault>;
+}
+
+impl From<io::Error> for Fault {
+    fn from(error: io::Error) -> Fault {
+        Fault::Io(error)
+    }
+}
+
+impl From<Memory> for Fault {
+    fn from(_want: Memory) -> Fault {
+        Fault::Memory
+    }
+}
+
+impl From<AllocError> for Fault {
+    fn from(_want: AllocError) -> Fault {
+        Fault::Memory
+    }
+}
+
+impl<T: Drop> From<AllocFailed<T>> for Fault {
+    fn from(_want: AllocFailed<T>) -> Fault {
+        Fault::Memory
+    }
+}
+
+/// Gives the rows of a file, and keeps the number of the line that was read last.
+fn read_file<R: Rows>(
+    rt: &HostRuntime,
+    file: &str,
+    number: &mut u32,
+    rows: &mut R,
+) -> Result<(), Fault> {
+    let text = fs::read_to_string(rt, file)?;
+    for line in text.lines() {
+        *number = number.saturating_add(1);
+        if line.is_empty() {
+            rows.end(rt)?;
+        } else if !line.starts_with('#') {
+            rows.line(rt, line)?;
+        }
+    }
+    rows.end(rt)
+}
+
+/// Gives the rows of these files.
+pub(crate) fn read_files<R: Rows>(
+    rt: &HostRuntime,
+    files: &[&'static str],
+    rows: &mut R,
+) -> Result<(), Stop> {
+    for file in files {
+        let mut line = 0;
+        if let Err(fault) = read_file(rt, file, &mut line, rows) {
+            return Err(Stop { file, line, fault });
+        }
+    }
+    Ok(())
+}
+
+/// The kind of a line, which is its first word, and what stands after the space behind that.
+pub(crate) fn kind_and_rest(line: &str) -> (&str, &str) {
+    match line.split_once(' ') {
+        Some(parts) => parts,
+        None => (line, ""),
+    }
+}
+
+/// A number in decimal digits.
+pub(crate) fn number(word: &str) -> Result<u32, Fault> {
+    match word.parse::<u32>() {
+        Ok(number) => Ok(number),
+        Err(_) => Err(Fault::NoNumber),
+    }
+}
+
+/// Numbers with a space between any two.
+pub(crate) fn numbers(alloc: Global, rest: &str) -> Result<Numbers, Fault> {
+    let mut list = Numbers::new(alloc);
+    for word in rest.split(' ') {
+        list.push(number(word)?)?;
+    }
+    Ok(list)
+}
