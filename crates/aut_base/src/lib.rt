@@ -27,7 +27,7 @@ pub use law::{
 pub use letter::{Lasso, Letter, Letters};
 pub use limit::{
     Limit, MOST_ALIASES, MOST_BYTES, MOST_DEPTH, MOST_EDGES, MOST_NAMES, MOST_SETS, MOST_STATES,
-    limits_in_figures,
+    MOST_TERMS, limits_in_figures,
 };
 pub use marks::Marks;
 pub use names::Names;

@@ -41,6 +41,9 @@ pub const MOST_DEPTH: u32 = 512;
 /// The most bytes that a run takes.
 pub const MOST_BYTES: u64 = 1 << 40;
 
+/// The most terms of an acceptance condition whose terms are listed, and the most literals in them by the 1,024.
+pub const MOST_TERMS: u64 = 1_024;
+
 /// The limits in figures.
 pub fn limits_in_figures()
     ensures { LimitsInFigures }

@@ -1,4 +1,5 @@
 pub mod Alike
 pub mod Gains
+pub mod ReadsAs
 pub mod Runs
 pub mod Turns

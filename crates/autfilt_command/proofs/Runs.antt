@@ -4,7 +4,8 @@ use Rattle.aut_base.specs.declared.limit.Limit.TheVariants as limit
 use Rattle.aut_io.specs.Outside.{Gains, GainsPrefix}
 use Rattle.autfilt_command.proofs.Gains.{both}
 use Rattle.autfilt_command.proofs.Turns.{gains_as}
-use Rattle.autfilt_command.specs.Run.{AreRead, AsksForTooMany, BreaksOff, EndsAt, IsRead, Prints, ReadsTo, all_printed, place, printed}
+use Rattle.aut_base.proofs.AllByRecursion.{AllByRecursion-push}
+use Rattle.autfilt_command.specs.Run.{AllReadAs, AreRead, AsksForTooMany, BreaksOff, EndsAt, IsRead, Prints, ReadsAs, ReadsTo, all_printed, place, printed}
 use Rattle.autfilt_command.specs.Running.{HasRun, RunsOver, end_of, is_some_automaton}
 use Rattle.autfilt_command.specs.Turn.{EndsHere, IsPrinted, IsPrintedInPart, TurnCauses, Turns}
 use Rattle.autfilt_command.specs.declared.ended.End.{End}
@@ -59,6 +60,7 @@ front_more n ws w a b c h k r =
 pub run_more : (n : ℕ) (a b c w w' w'' : Option (List ℕ)) (is : Bool) → HasRun a b w w' is → Between a b (IsAt n) → IsPrinted n b c w' w'' → HasRun a c w w'' true
 run_more n a b c w w' w'' is h k p = record {
   automata = h.automata ++ p.automaton ∷ [];
+  read_as = AllByRecursion-push (λ w. ReadsAs (printed w) w) h.automata p.automaton h.read_as p.reads_as;
   front = front_more n h.automata p.automaton a b c h.front k p.read;
   gains = gains_as w w'' _ _ (sym (printed_push h.automata p.automaton)) (both w w' w'' (all_printed h.automata) (printed p.automaton) h.gains p.gains);
   is_printed = sym (some_push h.automata p.automaton);
@@ -76,10 +78,11 @@ ends_blank (v ∷ vs) text rest now b e = (b, e)
 few_taken : (taken : ℕ) (text now : List ℕ) → taken ≤ 2 ^ 40 → IsAt taken text now → length text ≤ 2 ^ 40 + length now
 few_taken taken text now few at = omega arith
 
-run_over : (ws : List Written) (taken : ℕ) (a b c w w' : Option (List ℕ)) → taken ≤ 2 ^ 40 → Between a b (λ text rest. AreRead text text ws rest) → Gains w w' (all_printed ws)
+run_over : (ws : List Written) → AllReadAs ws → (taken : ℕ) (a b c w w' : Option (List ℕ)) → taken ≤ 2 ^ 40 → Between a b (λ text rest. AreRead text text ws rest) → Gains w w' (all_printed ws)
     → Between b c (λ rest now. IsBlanks rest × (now ≡ [])) → Between a c (IsAt taken) → RunsOver (end_of (is_some_automaton ws)) a c w w'
-run_over ws taken a b c w w' few front g t k = record {
+run_over ws all_as taken a b c w w' few front g t k = record {
   automata = ws;
+  read_as = all_as;
   reads = between_both a c (λ text now. (rest : List ℕ) × AreRead text text ws rest × IsBlanks rest × (now ≡ [])) (IsAt taken)
       (λ text now. ReadsTo (end_of (is_some_automaton ws)) text ws now)
       (λ text now p at. record { rest = p.0; front = p.1; ends = ends_blank ws text p.0 now p.2 p.3; within = few_taken taken text now few at })
@@ -93,7 +96,7 @@ pub run_done : (result : End) (is : Bool) (taken : ℕ) (a b c w w' w'' : Option
     → Between b c (λ rest now. IsBlanks rest × (now ≡ [])) → Between a c (IsAt taken) → w'' ≡ w' → RunsOver result a c w w''
 run_done result is taken a b c w w' w'' few e h t at k =
     let P : End → Type 0 = λ x. RunsOver x a c w w'' in
-    subst P (sym (e ∙ ap end_of h.is_printed)) (run_over h.automata taken a b c w w'' few h.front (gains_to w w' w'' _ k h.gains) t at)
+    subst P (sym (e ∙ ap end_of h.is_printed)) (run_over h.automata h.read_as taken a b c w w'' few h.front (gains_to w w' w'' _ k h.gains) t at)
 
 -- the end by one byte too many is answered only where all that may be were taken
 abbrev pub TookAll : End → ℕ → Option ℕ → Type 0
@@ -151,6 +154,7 @@ ends_between : (e : End) (n taken : ℕ) (held : Option ℕ) (is : Bool) (a b c 
     → Between b c (λ old new. EndsHere e n old (unread held new)) × (w'' ≡ w') → RunsOver e a c w w''
 ends_between e n taken held is a b c w w' w'' r r' t t' between h k few k' all causes turn = record {
   automata = h.automata;
+  read_as = h.read_as;
   reads = between_both a c (IsHere e held h.automata) (IsAt taken) (λ text now. ReadsTo e text h.automata now)
       (λ text now p at. record { rest = p.0; front = p.1; ends = ends_at e text p.0 now held taken r r' t t' causes at all p.2 between; within = few_taken taken text now few at })
       (between_then a b c (λ text rest. AreRead text text h.automata rest × IsAt n text rest) (λ rest now. EndsHere e n rest (unread held now)) (IsHere e held h.automata)
@@ -175,6 +179,7 @@ ends_writing : (n taken : ℕ) (is : Bool) (a b c w w' w'' : Option (List ℕ)) 
     → IsPrintedInPart n b c w' w'' → RunsOver end.WriteFault a c w w''
 ends_writing n taken is a b c w w' w'' h k few k' p = record {
   automata = h.automata ++ p.automaton ∷ [];
+  read_as = AllByRecursion-push (λ w. ReadsAs (printed w) w) h.automata p.automaton h.read_as p.reads_as;
   reads = between_both a c (λ text now. AreRead text text (h.automata ++ p.automaton ∷ []) now) (IsAt taken) (λ text now. ReadsTo end.WriteFault text (h.automata ++ p.automaton ∷ []) now)
       (λ text now f at. record { rest = now; front = f; ends = refl; within = few_taken taken text now few at })
       (front_more n h.automata p.automaton a b c h.front k p.read) k';

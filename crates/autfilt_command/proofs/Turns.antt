@@ -3,6 +3,7 @@ use Rattle.std.proofs.Common.{◌≡◌, ℕ, ◌-◌, List, Option, Some, None,
 use Rattle.aut_base.specs.Automaton.{Automaton}
 use Rattle.aut_base.specs.declared.limit.Limit.{Limit}
 use Rattle.aut_io.specs.Outside.{Gains, GainsPrefix}
+use Rattle.autfilt_command.proofs.ReadsAs.{reads_as}
 use Rattle.autfilt_command.specs.Ends.{end_of_reading}
 use Rattle.autfilt_command.specs.Run.{IsRead, StandsWith, printed}
 use Rattle.autfilt_command.specs.Turn.{EndsHere, IsPrinted, PrintsOne, Turns}
@@ -85,7 +86,7 @@ is_read w start left left' valid within h =
 pub turn_printed : (w : Written) (start : ℕ) (left left' out out' : Option (List ℕ))
     → Between left left' (λ old new. Stands (Whole w new) start old) → PrintsOne (Ok tt) w out out' → IsPrinted start left left' out out'
 turn_printed w start left left' out out' whole h =
-    record { automaton = w; read = is_read w start left left' h.0 h.1 whole; gains = h.2 }
+    record { automaton = w; reads_as = reads_as w h.0 h.1; read = is_read w start left left' h.0 h.1 whole; gains = h.2 }
 
 -- the limits on counts are not the others
 past : (count : Count) (start : ℕ) (old new : List ℕ) → StandsWith (PassesLimit (limit_of count)) start old → EndsHere (end.Limit (limit_of count)) start old new
@@ -104,7 +105,7 @@ past_as which count start old new e h =
 pub turn_broken : (e : End) (w : Written) (start : ℕ) (held' : Option ℕ) (left left' out out' : Option (List ℕ))
     → Between left left' (λ old new. Stands (Whole w new) start old) → PrintsOne (Err e) w out out' → Turns (Err e) start held' left left' out out'
 turn_broken end.WriteFault w start held' left left' out out' whole h =
-    record { automaton = w; read = is_read w start left left' h.0 h.1 whole; gains = h.2 }
+    record { automaton = w; reads_as = reads_as w h.0 h.1; read = is_read w start left left' h.0 h.1 whole; gains = h.2 }
 turn_broken (end.Invalid rule) w start held' left left' out out' whole h = (
   between_as left left' (λ old new. Stands (Whole w new) start old) (λ old new. EndsHere (end.Invalid rule) start old (unread held' new))
       (λ old new s. record { automaton = w; next = new; whole = s; holds = h.0 }) whole,

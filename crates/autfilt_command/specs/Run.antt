@@ -1,7 +1,11 @@
 -- The run of autfilt without words: the automata of standard input, each printed in its canonical text.
-use Rattle.std.specs.Prelude.{◌≡◌, ◌≢◌, ℕ, ◌+◌, ◌-◌, ◌^◌, ◌≤◌, ◌⊎◌, List, [], ◌∷◌, ◌++◌, length, take, flat_map, codes, Option, Some, None}
+use Rattle.std.specs.Prelude.{◌≡◌, ◌≢◌, ℕ, ◌+◌, ◌-◌, ◌^◌, ◌≤◌, ◌⊎◌, List, [], ◌∷◌, ◌++◌, length, take, flat_map, codes, Option, Some, None, ◌↔◌}
+use Rattle.std.specs.List.{AllByRecursion}
 use Rattle.std.specs.Option.{option_map}
+use Rattle.aut_base.specs.Acceptance.{Accepts}
+use Rattle.aut_base.specs.Word.{NameSet}
 use Rattle.aut_base.specs.declared.limit.Limit.TheVariants as limit
+use Rattle.aut_base.specs.declared.limit.TheConstants.{MOST_BYTES}
 use Rattle.aut_io.specs.Outside.{Gains, GainsPrefix, Rose, Texts, text_of}
 use Rattle.autfilt_command.specs.Ends.{ended_of}
 use Rattle.autfilt_command.specs.Notes.{line_of}
@@ -10,9 +14,12 @@ use Rattle.autfilt_command.specs.declared.ended.End.TheVariants as end
 use Rattle.autfilt_command.specs.declared.ended.Ended.{Ended}
 use Rattle.autfilt_command.specs.declared.ended.Ended.TheVariants as ended
 use Rattle.hoa_lexer.specs.Blanks.{IsBlanks}
+use Rattle.hoa_lexer.specs.Laws.{HasTokens}
+use Rattle.hoa_lexer.specs.declared.token.Token.{Token}
 use Rattle.hoa_reader.specs.Counts.{PassesNone}
 use Rattle.hoa_reader.specs.Described.{described}
 use Rattle.hoa_reader.specs.Elaborating.{PassesLimit}
+use Rattle.hoa_parser.specs.Grammar.{Spells}
 use Rattle.hoa_parser.specs.Naming.{name_of}
 use Rattle.hoa_parser.specs.Raw.{Written}
 use Rattle.hoa_parser.specs.Reads.{AsksOn}
@@ -51,6 +58,22 @@ printed w = canonical_text (described w) (name_of w)
 abbrev pub all_printed : List Written → List ℕ
 all_printed = flat_map printed
 
+-- The text's tokens spell one automaton and no other. It is valid, and accepts exactly the lasso words that the automaton
+-- that was read accepts.
+pub record ReadsAs (text : List ℕ) (w : Written) : Type 0 where
+  pub tokens : List Token
+  pub lexes : HasTokens text 0 tokens
+  pub spelled : Written
+  pub most : ℕ
+  pub spells : Spells most tokens spelled
+  pub alone : (n : ℕ) (v : Written) → Spells n tokens v → v ≡ spelled
+  pub valid : IsValid spelled
+  pub accepts : (u v : List NameSet) → Accepts (described spelled) u v ↔ Accepts (described w) u v
+
+-- what is printed of each reads so
+abbrev pub AllReadAs : List Written → Type 0
+AllReadAs = AllByRecursion (λ w. ReadsAs (printed w) w)
+
 -- An automaton stands whole there, and `fault` is what there is to say of it.
 pub record StandsWith (fault : Written → Type 0) (start : ℕ) (rest : List ℕ) : Type 0 where
   pub automaton : Written
@@ -60,7 +83,7 @@ pub record StandsWith (fault : Written → Type 0) (start : ℕ) (rest : List �
 
 -- 2^40 bytes of the text were taken, and one more is asked for.
 pub record AsksForTooMany (text rest left : List ℕ) : Type 0 where
-  pub taken : length text ≡ 2 ^ 40 + length left
+  pub taken : length text ≡ MOST_BYTES + length left
   pub asks : AsksOn (place text rest) rest left
 
 -- What stands at the rest of the text where the run ends so. `left` is what is left in the inputs.
@@ -100,7 +123,7 @@ pub record ReadsTo (end : End) (text : List ℕ) (automata : List Written) (left
   pub rest : List ℕ
   pub front : AreRead text text automata rest
   pub ends : EndsAt end text rest left
-  pub within : length text ≤ 2 ^ 40 + length left
+  pub within : length text ≤ MOST_BYTES + length left
 
 -- what the text of the inputs has to do with a run, where they tell it and the run opened it
 abbrev pub Reads : End → Option (List ℕ) → List Written → Option (List ℕ) → Type 0
@@ -114,6 +137,8 @@ pub record Runs (end : End) (text left written written' : Option (List ℕ)) : T
   -- the automata that were read, each valid and within the limits
   pub automata : List Written
   pub reads : Reads end text automata left
+  -- each text that is printed of them reads as an automaton that accepts the same lasso words
+  pub read_as : AllReadAs automata
   pub prints : Prints end automata written written'
 
 -- no call failed of those that this count counts

@@ -1,7 +1,8 @@
 -- How far a run over an open text has come.
 use Rattle.std.specs.Prelude.{◌≡◌, ℕ, ◌+◌, ◌^◌, Bool, true, false, List, [], ◌∷◌, length, Option, None}
+use Rattle.aut_base.specs.declared.limit.TheConstants.{MOST_BYTES}
 use Rattle.aut_io.specs.Outside.{Gains, Texts}
-use Rattle.autfilt_command.specs.Run.{AreRead, Prints, ReadsTo, all_printed}
+use Rattle.autfilt_command.specs.Run.{AllReadAs, AreRead, Prints, ReadsTo, all_printed}
 use Rattle.autfilt_command.specs.declared.ended.End.{End}
 use Rattle.autfilt_command.specs.declared.ended.End.TheVariants.{Output, NoneOutput}
 use Rattle.hoa_lexer.specs.Reading.{Between}
@@ -20,6 +21,7 @@ end_of false = NoneOutput
 -- automata were read, and their texts written
 pub record HasRun (left left' written written' : Option (List ℕ)) (printed : Bool) : Type 0 where
   pub automata : List Written
+  pub read_as : AllReadAs automata
   pub front : Between left left' (λ text rest. AreRead text text automata rest)
   pub gains : Gains written written' (all_printed automata)
   pub is_printed : printed ≡ is_some_automaton automata
@@ -29,7 +31,7 @@ pub record IsRunning (lexer : Lexer) (left left' written written' : Option (List
   pub ran : HasRun left left' written written' printed
   pub spent : lexer.spent ≡ false
   pub held : lexer.held ≡ None
-  pub most : lexer.most ≡ 2 ^ 40
+  pub most : lexer.most ≡ MOST_BYTES
   pub since : lexer.since ≡ lexer.taken
   pub taken : Between left left' (λ text rest. lexer.taken + length rest ≡ length text)
   pub no_reads : reads' ≡ reads
@@ -40,5 +42,6 @@ pub record IsRunning (lexer : Lexer) (left left' written written' : Option (List
 -- A run over an open text that ended so.
 pub record RunsOver (end : End) (left left' written written' : Option (List ℕ)) : Type 0 where
   pub automata : List Written
+  pub read_as : AllReadAs automata
   pub reads : Between left left' (λ text now. ReadsTo end text automata now)
   pub prints : Prints end automata written written'

@@ -2,7 +2,7 @@
 use Rattle.std.specs.Prelude.{◌≡◌, ℕ, Bool, true, false, List, [], Option, Result, Ok, Err}
 use Rattle.aut_base.specs.declared.limit.Limit.TheVariants as limit
 use Rattle.aut_io.specs.Outside.{Gains, GainsPrefix, Rose}
-use Rattle.autfilt_command.specs.Run.{IsRead, StandsWith, printed}
+use Rattle.autfilt_command.specs.Run.{IsRead, ReadsAs, StandsWith, printed}
 use Rattle.autfilt_command.specs.declared.ended.End.{End}
 use Rattle.autfilt_command.specs.declared.ended.End.TheVariants as end
 use Rattle.hoa_lexer.specs.Blanks.{IsBlanks}
@@ -37,12 +37,14 @@ EndsHere _ start old new = Unit {0}
 -- An automaton was read, and its text written.
 pub record IsPrinted (start : ℕ) (left left' written written' : Option (List ℕ)) : Type 0 where
   pub automaton : Written
+  pub reads_as : ReadsAs (printed automaton) automaton
   pub read : Between left left' (λ old new. IsRead start old automaton new)
   pub gains : Gains written written' (printed automaton)
 
 -- An automaton was read, and a part of its text written.
 pub record IsPrintedInPart (start : ℕ) (left left' written written' : Option (List ℕ)) : Type 0 where
   pub automaton : Written
+  pub reads_as : ReadsAs (printed automaton) automaton
   pub read : Between left left' (λ old new. IsRead start old automaton new)
   pub gains : GainsPrefix written written' (printed automaton)
 

@@ -1,0 +1,29 @@
+-- What is printed of an automaton that was read reads as one that accepts the same lasso words.
+use Rattle.std.proofs.Common.{◌≤◌, arith}
+use Rattle.std.proofs.lemmas.Bool.{ltb-false}
+use Rattle.autfilt_command.specs.Run.{ReadsAs, printed}
+use Rattle.hoa_parser.specs.Naming.{name_of}
+use Rattle.hoa_parser.specs.Raw.{Written}
+use Rattle.hoa_reader.proofs.DescribedWellFormed.{valid_is_well_formed}
+use Rattle.hoa_reader.specs.Counts.{PassesNone, States, Sets, Names, count_of}
+use Rattle.hoa_reader.specs.Described.{described}
+use Rattle.hoa_reader.specs.Validity.{IsValid}
+use Rattle.hoa_writer.proofs.ReadBack.{text_reads_back}
+use Rattle.hoa_writer.specs.CanonicalWritten.{canonical_written}
+
+pub reads_as : (w : Written) → IsValid w → PassesNone w → ReadsAs (printed w) w
+reads_as w valid within =
+    let names : count_of Names w ≤ 8 = ltb-false 8 (count_of Names w) within.0 in
+    let sets : count_of Sets w ≤ 512 = ltb-false 512 (count_of Sets w) within.1.0 in
+    let states : count_of States w ≤ 100000 = ltb-false 100000 (count_of States w) within.1.1.0 in
+    let back = text_reads_back (described w) (name_of w) (valid_is_well_formed w valid) (omega (arith, states)) (omega (arith, sets)) (omega (arith, names)) in
+    record {
+      tokens = back.tokens;
+      lexes = back.lexes;
+      spelled = canonical_written (described w) (name_of w);
+      most = back.most;
+      spells = back.spells;
+      alone = back.alone;
+      valid = back.valid;
+      accepts = back.accepts;
+    }
