@@ -1,7 +1,6 @@
 -- What holds of each item of a list, item by item.
 use Rattle.std.proofs.Common.{◌≡◌, ◌≢◌, ◌∷◌, ◌++◌, ◌+◌, ◌-◌, ◌<◌, ◌≤◌, ◌∙◌, ◌==◌, ◌&&◌, ◌||◌, All, Bool, List, [], arith, cond, false, filter, map, refl, true, ℕ}
 use Rattle.std.proofs.lemmas.Bool.{and_parts}
-use Rattle.std.proofs.lemmas.List.Elements.{All-cons}
 use Rattle.std.specs.List.{AllByRecursion, enumerate_from, list_all}
 use Rattle.std.specs.Prelude.{flat_map}
 
@@ -32,10 +31,6 @@ AllByRecursion-left P (x ∷ xs) ys all = (all.0, AllByRecursion-left P xs ys al
 pub AllByRecursion-right : {X : Type 0} (P : X → Type 0) (xs ys : List X) → AllByRecursion P (xs ++ ys) → AllByRecursion P ys
 AllByRecursion-right P [] ys all = all
 AllByRecursion-right P (x ∷ xs) ys all = AllByRecursion-right P xs ys all.1
-
-pub All-from_AllByRecursion : {X : Type 0} (P : X → Type 0) (xs : List X) → AllByRecursion P xs → All P xs
-All-from_AllByRecursion P [] all = λ k d l. absurd (omega (arith, l))
-All-from_AllByRecursion P (x ∷ xs) all = All-cons P x xs all.0 (All-from_AllByRecursion P xs all.1)
 
 pub AllByRecursion-both : {X : Type 0} (P Q : X → Type 0) (xs : List X) → AllByRecursion P xs → AllByRecursion Q xs → AllByRecursion (λ x. P x × Q x) xs
 AllByRecursion-both P Q [] a b = tt

@@ -12,8 +12,9 @@ use Rattle.aut_base.specs.Automaton.{TreeEdge}
 use Rattle.hoa_reader.proofs.DescribedLaws.{numbers_are_below}
 use Rattle.hoa_reader.specs.Described.{after_all, tree_edge_of, tree_edges_from, tree_edges_of, below, edges_of, state_count, without_repeats}
 use Rattle.hoa_parser.specs.Raw.{Written, WrittenEdge, WrittenState}
-use Rattle.aut_base.proofs.AllByRecursion.{AllByRecursion-of_each, AllByRecursion-append, All-from_AllByRecursion, AllByRecursion-filter, AllByRecursion-filter_passes, AllByRecursion-flat_map, AllByRecursion-map, AllByRecursion-weaker}
+use Rattle.aut_base.proofs.AllByRecursion.{AllByRecursion-of_each, AllByRecursion-append, AllByRecursion-filter, AllByRecursion-filter_passes, AllByRecursion-flat_map, AllByRecursion-map, AllByRecursion-weaker}
 use Rattle.aut_base.proofs.Numbers.{other_number}
+use Rattle.std.proofs.lemmas.List.Elements.{All-from_recursion}
 
 pub all_without_repeats : (P : ℕ → Type 0) (xs : List ℕ) → AllByRecursion P xs → AllByRecursion P (without_repeats xs)
 all_without_repeats P [] all = tt
@@ -25,7 +26,7 @@ they_differ (x ∷ xs) =
     let p : ℕ → Bool = λ y. not (y == x) in
     let ys = filter p (without_repeats xs) in
     AllPairs-cons (λ p q. p ≢ q) x ys
-    (All-from_AllByRecursion (λ y. x ≢ y) ys (AllByRecursion-weaker (λ y. p y ≡ true) (λ y. x ≢ y) ys (other_number x) (AllByRecursion-filter_passes p (without_repeats xs))))
+    (All-from_recursion (λ y. x ≢ y) ys (AllByRecursion-weaker (λ y. p y ≡ true) (λ y. x ≢ y) ys (other_number x) (AllByRecursion-filter_passes p (without_repeats xs))))
     (AllPairs-filter (λ p q. p ≢ q) p (without_repeats xs) (they_differ xs))
 
 -- every number that is used is below the number of states that follows from them
@@ -52,7 +53,7 @@ ascending : (es : List TreeEdge) → Ascends es → AllPairs (λ p q. p ≤ q) (
 ascending [] a = λ i j d l m. absurd (omega (arith, m))
 ascending (e ∷ es) a =
     AllPairs-cons (λ p q. p ≤ q) e.from (map (λ (f : TreeEdge). f.from) es)
-    (All-from_AllByRecursion (λ q. e.from ≤ q) (map (λ (f : TreeEdge). f.from) es) (AllByRecursion-map (λ q. e.from ≤ q) (λ (f : TreeEdge). f.from) es a.0)) (ascending es a.1)
+    (All-from_recursion (λ q. e.from ≤ q) (map (λ (f : TreeEdge). f.from) es) (AllByRecursion-map (λ q. e.from ≤ q) (λ (f : TreeEdge). f.from) es a.0)) (ascending es a.1)
 
 leave : (w : Written) (s : WrittenState) → AllByRecursion (λ (e : TreeEdge). e.from ≡ s.number) (tree_edges_of w s)
 leave w s = AllByRecursion-map (λ (e : TreeEdge). e.from ≡ s.number) (λ (p : ℕ × WrittenEdge). tree_edge_of w s p.0 p.1) (enumerate_from 0 s.edges) (AllByRecursion-of_each _ (enumerate_from 0 s.edges) (λ p. refl))

@@ -1,5 +1,9 @@
 -- What a valid text describes is well formed.
-use Rattle.std.proofs.Common.{◌≡◌, ◌<◌, ◌+◌, ◌==◌, ℕ, Bool, true, List, [], ◌∷◌, ◌++◌, length, map, filter, nat_lt, get_or, Option, Some, None, All}
+use Rattle.std.proofs.Common.{◌≡◌, ◌<◌, ◌+◌, ◌==◌, ℕ, Bool, true, List, [], ◌∷◌, ◌++◌, length, map, filter, nat_lt, get_or, Option, Some, None, All, zero, suc, arith, AllPairs}
+use Rattle.std.proofs.lemmas.List.Kept.{AllPairs-filter}
+use Rattle.std.proofs.lemmas.List.Quantifiers.{all_pairs_push}
+use Rattle.std.proofs.lemmas.List.Elements.{All-from_recursion}
+use Rattle.hoa_reader.proofs.NamesDiffer.{names_differ, pairs_differ}
 use Rattle.std.proofs.lemmas.Bool.{false≢true, ltb-true, and_parts}
 use Rattle.std.specs.Prelude.{filter_map, flat_map, option_to_list}
 use Rattle.std.specs.List.{AllByRecursion, enumerate_from, list_all}
@@ -12,8 +16,8 @@ use Rattle.hoa_reader.proofs.DescribedStarts.{all_used_below, all_without_repeat
 use Rattle.hoa_reader.specs.Described.{Meaning, after_all, tree_edge_of, tree_edges_from, tree_edges_of, below, described, edges_of, expanded, meanings_of, only_state, state_count}
 use Rattle.hoa_parser.specs.Raw.{RawTree, Written, WrittenEdge, WrittenState}
 use Rattle.hoa_reader.specs.Validity.{IsKept, IsValid, acceptance_of, alias_lines, body_labels, edges_written, is_one_state, names_of, numbers_below, props_below, starts_written, state_labels, states_item, used_states}
-use Rattle.hoa_reader.specs.declared.elaborate.Rule.TheVariants.{V5, V6, V8, V9}
-use Rattle.aut_base.proofs.AllByRecursion.{AllByRecursion-left, AllByRecursion-right, AllByRecursion-both, AllByRecursion-enumerate_from, AllByRecursion-from_flat_map, AllByRecursion-from_map, AllByRecursion-from_list_all, AllByRecursion-map, AllByRecursion-weaker, All-from_AllByRecursion, AllByRecursion-filter, AllByRecursion-flat_map, AllByRecursion-of_each}
+use Rattle.hoa_reader.specs.declared.elaborate.Rule.TheVariants.{V4, V5, V6, V8, V9}
+use Rattle.aut_base.proofs.AllByRecursion.{AllByRecursion-left, AllByRecursion-right, AllByRecursion-both, AllByRecursion-enumerate_from, AllByRecursion-from_flat_map, AllByRecursion-from_map, AllByRecursion-from_list_all, AllByRecursion-map, AllByRecursion-weaker, AllByRecursion-filter, AllByRecursion-flat_map, AllByRecursion-of_each}
 
 -- the numbers of states are below the number of states
 abbrev pub AreBelow : ℕ → List ℕ → Type 0
@@ -53,6 +57,11 @@ good_state n k s h =
           (AllByRecursion-from_flat_map P (λ (e : WrittenEdge). option_to_list e.label) s.edges (AllByRecursion-right P own others h.1.1)),
     )
 
+below_rises : (n : ℕ) → AllPairs (λ x y. x < y) (below n)
+below_rises zero = λ i j d l m. absurd (omega (arith, m))
+below_rises (suc n) =
+    all_pairs_push (λ x y. x < y) (below n) n (below_rises n) (λ k d l. All-from_recursion (λ q. q < n) (below n) (numbers_are_below n) k d l)
+
 tree_edge_good : (w : Written) (s : WrittenState) (i : ℕ) (e : WrittenEdge) → AllByRecursion (MeansBelow (length (names_of w))) (meanings_of w) → (s.number < state_count w) → Labels (length (names_of w)) (option_to_list s.label) → IsGoodEdge (state_count w) (length (names_of w)) e → IsEdgeOf (described w) (tree_edge_of w s i e)
 tree_edge_good w s i e means number labels good =
     let k = length (names_of w) in
@@ -62,7 +71,8 @@ tree_edge_good w s i e means number labels good =
       from = number;
       to = good.0;
       label = optional_below k (meanings_of w) s.label _ means labels (optional_below k (meanings_of w) e.label _ means good.1 (letter_below k i));
-      marks = All-from_AllByRecursion (λ mark. mark < sets) (filter ours (below sets)) (AllByRecursion-filter (λ mark. mark < sets) ours (below sets) (numbers_are_below sets));
+      marks = All-from_recursion (λ mark. mark < sets) (filter ours (below sets)) (AllByRecursion-filter (λ mark. mark < sets) ours (below sets) (numbers_are_below sets));
+      marks_rise = AllPairs-filter (λ m n. m < n) ours (below sets) (below_rises sets);
     }
 
 tree_edges_good : (w : Written) → AllByRecursion (MeansBelow (length (names_of w))) (meanings_of w) → (s : WrittenState) → IsGoodState (state_count w) (length (names_of w)) s → AllByRecursion (IsEdgeOf (described w)) (tree_edges_of w s)
@@ -76,7 +86,7 @@ edges_good : (w : Written) → AllByRecursion (MeansBelow (length (names_of w)))
 edges_good w means good =
     let n = state_count w in
     let P : TreeEdge → Type 0 = IsEdgeOf (described w) in
-    All-from_AllByRecursion P (edges_of w) (AllByRecursion-flat_map P (tree_edges_from w) (below n) (AllByRecursion-of_each (λ q. AllByRecursion P (tree_edges_from w q)) (below n)
+    All-from_recursion P (edges_of w) (AllByRecursion-flat_map P (tree_edges_from w) (below n) (AllByRecursion-of_each (λ q. AllByRecursion P (tree_edges_from w q)) (below n)
     (λ q. let ours : WrittenState → Bool = λ s. s.number == q in
     AllByRecursion-flat_map P (tree_edges_of w) (filter ours w.states)
     (AllByRecursion-weaker (IsGoodState n (length (names_of w))) (λ s. AllByRecursion P (tree_edges_of w s)) (filter ours w.states) (tree_edges_good w means)
@@ -89,8 +99,8 @@ groups_below n group xs ones used =
     AllByRecursion-weaker (λ x. (is_one_state (group x) ≡ true) × AreBelow n (group x)) (λ x. only_state (group x) < n) xs (λ x h. one_below n (group x) h)
     (AllByRecursion-both (λ x. is_one_state (group x) ≡ true) (λ x. AreBelow n (group x)) xs (AllByRecursion-from_list_all (λ x. is_one_state (group x)) xs ones) (AllByRecursion-from_flat_map P group xs used))
 
-pub well_formed : (w : Written) → IsKept V5 w → IsKept V6 w → IsKept V8 w → IsKept V9 w → IsWellFormed (described w)
-well_formed w one states props sets =
+pub well_formed : (w : Written) → IsKept V4 w → IsKept V5 w → IsKept V6 w → IsKept V8 w → IsKept V9 w → IsWellFormed (described w)
+well_formed w counted one states props sets =
     let n = state_count w in
     let k = length (names_of w) in
     let P : ℕ → Type 0 = λ q. q < n in
@@ -112,12 +122,13 @@ well_formed w one states props sets =
     (AllByRecursion-from_flat_map (λ t. props_below k t ≡ true) state_labels w.states (AllByRecursion-from_list_all (props_below k) (body_labels w) labels.1))) in
     let heads = map only_state (starts_written w) in
     record {
+      names_differ = pairs_differ (names_of w) (names_differ w.items counted);
       starts_differ = they_differ heads;
-      starts = All-from_AllByRecursion P _ (all_without_repeats P heads (AllByRecursion-map P only_state (starts_written w) (groups_below n (λ (q : List ℕ). q) (starts_written w) singles.0 starts)));
+      starts = All-from_recursion P _ (all_without_repeats P heads (AllByRecursion-map P only_state (starts_written w) (groups_below n (λ (q : List ℕ). q) (starts_written w) singles.0 starts)));
       in_order = edges_in_order w;
       edges = edges_good w means (AllByRecursion-weaker G (IsGoodState n k) w.states (good_state n k) facts);
       formula = sets_in_range (acceptance_of w).sets (acceptance_of w).formula (and_parts _ _ sets).0;
     }
 
 pub valid_is_well_formed : (w : Written) → IsValid w → IsWellFormed (described w)
-valid_is_well_formed w v = well_formed w v.1.1.1.1.0 v.1.1.1.1.1.0 v.1.1.1.1.1.1.1.0 v.1.1.1.1.1.1.1.1.0
+valid_is_well_formed w v = well_formed w v.1.1.1.0 v.1.1.1.1.0 v.1.1.1.1.1.0 v.1.1.1.1.1.1.1.0 v.1.1.1.1.1.1.1.1.0

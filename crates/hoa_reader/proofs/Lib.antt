@@ -3,6 +3,7 @@ pub mod DescribedLaws
 pub mod DescribedStarts
 pub mod DescribedSteps
 pub mod DescribedWellFormed
+pub mod DescribingExamples
 pub mod Differing
 pub mod Distinct
 pub mod EdgeCounts
@@ -12,6 +13,5 @@ pub mod Leaves
 pub mod Meanings
 pub mod NamesDiffer
 pub mod Starts
-pub mod ValidityExamples
 pub mod ValidityLaws
 pub mod Weighing

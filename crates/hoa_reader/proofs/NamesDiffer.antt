@@ -10,7 +10,7 @@ use Rattle.hoa_parser.specs.Raw.{WrittenItem}
 use Rattle.aut_base.specs.Text.{same_text}
 use Rattle.hoa_reader.specs.Validity.{all_differ, names_agree, names_item}
 use Rattle.aut_base.proofs.Truth.{neither}
-use Rattle.aut_base.proofs.AllByRecursion.{All-from_AllByRecursion}
+use Rattle.std.proofs.lemmas.List.Elements.{All-from_recursion}
 
 others_differ : (x : List ℕ) (xs : List (List ℕ)) → not (list_any (same_text x) xs) ≡ true → AllByRecursion (λ y. x ≢ y) xs
 others_differ x [] e = tt
@@ -22,7 +22,7 @@ pub pairs_differ : (xs : List (List ℕ)) → all_differ same_text xs ≡ true �
 pairs_differ [] e = λ i j d l m. absurd (omega (arith, m))
 pairs_differ (x ∷ xs) e =
     let parts = and_parts _ _ e in
-    AllPairs-cons (λ a b. a ≢ b) x xs (All-from_AllByRecursion (λ y. x ≢ y) xs (others_differ x xs parts.0)) (pairs_differ xs parts.1)
+    AllPairs-cons (λ a b. a ≢ b) x xs (All-from_recursion (λ y. x ≢ y) xs (others_differ x xs parts.0)) (pairs_differ xs parts.1)
 
 pub names_differ : (items : List WrittenItem) → list_all names_agree items ≡ true → all_differ same_text (get_or (filter_map names_item items) 0 []) ≡ true
 names_differ [] e = refl

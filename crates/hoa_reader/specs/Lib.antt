@@ -1,10 +1,12 @@
-pub mod TreeEdges
 pub mod Counts
 pub mod Described
+pub mod DescribingExamples
+pub mod DescribingLaws
 pub mod Elaborating
 pub mod Gathered
 pub mod Growing
 pub mod Pieces
 pub mod Places
+pub mod TreeEdges
 pub mod Validity
 pub mod Weighing

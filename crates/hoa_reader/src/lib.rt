@@ -6,6 +6,7 @@
 #![tactic(auto)]
 
 mod elaborate;
+mod laws;
 
 pub use elaborate::{ElabFault, Rule, describe};
 pub use hoa_parser::{
@@ -13,3 +14,4 @@ pub use hoa_parser::{
     bad_is_hopeless, can_be_written_down, grammar_examples, one_raw, one_standing, read_raw,
     settled_stays, whole_goes_no_further, written_down_is_read,
 };
+pub use laws::{describing_examples, describing_laws};

@@ -5,7 +5,7 @@ ghost use Rattle.hoa_lexer.specs.declared.token.Token.{Token};
 ghost use Rattle.hoa_parser.specs.Expecting as part;
 ghost use Rattle.hoa_parser.specs.Expecting.{conj_parts};
 ghost use Rattle.hoa_parser.specs.Parsing.{Reads, Uses, state};
-ghost use Rattle.hoa_parser.specs.Parts as written;
+ghost use Rattle.hoa_parser.specs.RuleReads as written;
 ghost use Rattle.hoa_parser.specs.RuleReads.{AddsMarks, AddsNumbers, AreAccValues, AreMarks, AreTexts, AreValues, AreWords, IsConj};
 
 use super::tokens::{advance, number, refused};
