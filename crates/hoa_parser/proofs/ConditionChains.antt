@@ -14,6 +14,7 @@ use Rattle.aut_base.specs.Formula.{FormulaTree, FormulaTrees, formula_list, form
 use Rattle.hoa_parser.specs.Standing.{most_depth}
 use Rattle.aut_base.specs.declared.formula.Formula.{Formula}
 use Rattle.aut_base.specs.declared.formula.Formulas.{Formulas}
+use Rattle.hoa_parser.proofs.JoinedParts.{joined_parts}
 
 -- one more part at the end
 abbrev with_fatom : Fatoms → Fatom → Fatoms
@@ -92,31 +93,13 @@ adds_fand depth first parts more next a b c list so_far one = record {
       ∙ sym (ap (λ (ts : List FormulaTree). first ∷ ts) (with_fand_meaning so_far.phrase one.phrase));
 }
 
-and_of_list : (x y first : FormulaTree) (zs us : List FormulaTree) → x ∷ y ∷ zs ≡ first ∷ us → formula.And x y (trees zs) ≡ all_of first us
-and_of_list x y first zs [] e = absurd (let no : x ∷ y ∷ zs ≡ first ∷ [] = e in cc)
-and_of_list x y first zs (u ∷ us) e =
-    let same : x ∷ y ∷ zs ≡ first ∷ u ∷ us = e in
-    let one : x ≡ first = cc in
-    let two : y ≡ u = cc in
-    let rest : zs ≡ us = cc in
-    ap (λ (t : FormulaTree). formula.And t y (trees zs)) one ∙ ap (λ (t : FormulaTree). formula.And first t (trees zs)) two ∙ ap (λ (ts : List FormulaTree). formula.And first u (trees ts)) rest
-
-or_of_list : (x y first : FormulaTree) (zs us : List FormulaTree) → x ∷ y ∷ zs ≡ first ∷ us → formula.Or x y (trees zs) ≡ one_of first us
-or_of_list x y first zs [] e = absurd (let no : x ∷ y ∷ zs ≡ first ∷ [] = e in cc)
-or_of_list x y first zs (u ∷ us) e =
-    let same : x ∷ y ∷ zs ≡ first ∷ u ∷ us = e in
-    let one : x ≡ first = cc in
-    let two : y ≡ u = cc in
-    let rest : zs ≡ us = cc in
-    ap (λ (t : FormulaTree). formula.Or t y (trees zs)) one ∙ ap (λ (t : FormulaTree). formula.Or first t (trees zs)) two ∙ ap (λ (ts : List FormulaTree). formula.Or first u (trees ts)) rest
-
 -- all of the parts, as one condition
 pub fatoms_whole : (depth : ℕ) (first : FormulaTree) (parts : Formulas) (l : Formula) (a b : Cursor) → formula_tree l ≡ formula.And (formula_parts parts).first (formula_parts parts).second (trees (formula_parts parts).others) → AddsFatoms depth first parts a b → IsAndFatoms depth first l a b
 fatoms_whole depth first parts l a b is one = record {
   phrase = one.phrase;
   within = one.within;
   passed = one.passed;
-  means = is ∙ and_of_list (formula_parts parts).first (formula_parts parts).second first (formula_parts parts).others (fatoms_meaning one.phrase) one.means;
+  means = is ∙ joined_parts (λ x y zs. formula.And x y (trees zs)) all_of (λ t u us. refl) (formula_parts parts).first (formula_parts parts).second first (formula_parts parts).others (fatoms_meaning one.phrase) one.means;
 }
 
 pub fands_whole : (depth : ℕ) (first : FormulaTree) (parts : Formulas) (l : Formula) (a b : Cursor) → formula_tree l ≡ formula.Or (formula_parts parts).first (formula_parts parts).second (trees (formula_parts parts).others) → AddsFands depth first parts a b → IsOrFands depth first l a b
@@ -124,7 +107,7 @@ fands_whole depth first parts l a b is one = record {
   phrase = one.phrase;
   within = one.within;
   passed = one.passed;
-  means = is ∙ or_of_list (formula_parts parts).first (formula_parts parts).second first (formula_parts parts).others (fands_meaning one.phrase) one.means;
+  means = is ∙ joined_parts (λ x y zs. formula.Or x y (trees zs)) one_of (λ t u us. refl) (formula_parts parts).first (formula_parts parts).second first (formula_parts parts).others (fands_meaning one.phrase) one.means;
 }
 
 -- a first part, and a chain behind it

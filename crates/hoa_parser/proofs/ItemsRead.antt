@@ -14,7 +14,8 @@ use Rattle.hoa_parser.specs.Expecting.{Items, Part, Takes, header_move, move, op
 use Rattle.hoa_parser.specs.Expecting as expecting
 use Rattle.hoa_parser.specs.Grammar.{ItemPhrase, ItemWithin, acc_name_item, acceptance_item, alias_item, header_of, item_meaning, item_tokens, name_item, names_item, other_item, properties_item, start_item, states_item, tool_item, acc_value_token, conj_tokens, condition_tokens, label_tokens, optional_text, value_token}
 use Rattle.hoa_parser.specs.Parsing.{Advances, Passed, Cursor, Reads, State, Uses}
-use Rattle.hoa_parser.specs.RuleReads.{AreAccValues, AreItems, AreTexts, AreValues, AreWords, IsAliasName, IsCondition, IsConj, IsItem, IsItemOf, IsItemWritten, IsLabel, IsNumber, IsOptionalText, IsQuoted, IsWord, ItemRest, parts_of}
+use Rattle.hoa_parser.specs.Expecting.{header_parts}
+use Rattle.hoa_parser.specs.RuleReads.{AreAccValues, AreItems, AreTexts, AreValues, AreWords, IsAliasName, IsCondition, IsConj, IsItem, IsItemOf, IsItemWritten, IsLabel, IsNumber, IsOptionalText, IsQuoted, IsWord, ItemRest}
 use Rattle.hoa_parser.specs.Raw as raw
 use Rattle.hoa_parser.specs.Raw.{WrittenItem, written_item}
 use Rattle.hoa_parser.specs.Standing.{most_depth}
@@ -98,23 +99,23 @@ pub part_then_fails : {S T U : Type 0} (part : Part) (parts : List Part) (P : Re
 part_then_fails part parts P Q R v f s m s' one two = fails_after (part ∷ parts) parts [] [] P Q R v f s m s' (reads_more (part ∷ []) [] parts P v s m one) two
 
 -- the same, where the header is known by another name
-pub item_known : (h k : Header) (name : List ℕ) (result : Result Item ReadFault) (s s' : State) → h ≡ k → Reads (parts_of k) [] (IsItemOf k name) result s s' → Reads (parts_of h) [] (IsItemOf h name) result s s'
-item_known h k name result s s' is one = subst (λ (x : Header). Reads (parts_of x) [] (IsItemOf x name) result s s') (sym is) one
+pub item_known : (h k : Header) (name : List ℕ) (result : Result Item ReadFault) (s s' : State) → h ≡ k → Reads (header_parts k) [] (IsItemOf k name) result s s' → Reads (header_parts h) [] (IsItemOf h name) result s s'
+item_known h k name result s s' is one = subst (λ (x : Header). Reads (header_parts x) [] (IsItemOf x name) result s s') (sym is) one
 
 -- an item of one part
-pub item_of_part : {S : Type 0} (h k : Header) (name : List ℕ) (P : Relation S) (v : S) (i : Item) (s s' : State) → h ≡ k → ((a b : Cursor) → P v a b → IsItemOf k name i a b) → Reads (parts_of k) [] P (Ok v) s s' → Reads (parts_of h) [] (IsItemOf h name) (Ok i) s s'
-item_of_part h k name P v i s s' is f one = item_known h k name (Ok i) s s' is (reads_as (parts_of k) [] P (IsItemOf k name) v i s s' f one)
+pub item_of_part : {S : Type 0} (h k : Header) (name : List ℕ) (P : Relation S) (v : S) (i : Item) (s s' : State) → h ≡ k → ((a b : Cursor) → P v a b → IsItemOf k name i a b) → Reads (header_parts k) [] P (Ok v) s s' → Reads (header_parts h) [] (IsItemOf h name) (Ok i) s s'
+item_of_part h k name P v i s s' is f one = item_known h k name (Ok i) s s' is (reads_as (header_parts k) [] P (IsItemOf k name) v i s s' f one)
 
 fails_as : {S T : Type 0} (p q r : List Part) (P : Relation S) (R : Relation T) (f : ReadFault) (s s' : State) → Reads p q P (Err f) s s' → Reads p r R (Err f) s s'
 fails_as p q r P R f s s' one = record { moves = moves_err f s s' one.moves; text = one.text }
 
 -- an item that has a form of its own
-pub item_of_form : (h k : Header) (name : List ℕ) (result : Result Item ReadFault) (s s' : State) → h ≡ k → Reads (parts_of k) [] (IsItemWritten k) result s s' → Reads (parts_of h) [] (IsItemOf h name) result s s'
-item_of_form h k name (Ok i) s s' is one = item_known h k name (Ok i) s s' is (reads_as (parts_of k) [] (IsItemWritten k) (IsItemOf k name) i i s s' (λ a b p. p name) one)
-item_of_form h k name (Err f) s s' is one = item_known h k name (Err f) s s' is (fails_as (parts_of k) [] [] (IsItemWritten k) (IsItemOf k name) f s s' one)
+pub item_of_form : (h k : Header) (name : List ℕ) (result : Result Item ReadFault) (s s' : State) → h ≡ k → Reads (header_parts k) [] (IsItemWritten k) result s s' → Reads (header_parts h) [] (IsItemOf h name) result s s'
+item_of_form h k name (Ok i) s s' is one = item_known h k name (Ok i) s s' is (reads_as (header_parts k) [] (IsItemWritten k) (IsItemOf k name) i i s s' (λ a b p. p name) one)
+item_of_form h k name (Err f) s s' is one = item_known h k name (Err f) s s' is (fails_as (header_parts k) [] [] (IsItemWritten k) (IsItemOf k name) f s s' one)
 
 -- what the name of a header of an item leaves to be read
-pub header_takes : (h : Header) → h ≢ header.Opening → h ≢ header.State → header_move h ≡ Takes (parts_of h ++ Items ∷ [])
+pub header_takes : (h : Header) → h ≢ header.Opening → h ≢ header.State → header_move h ≡ Takes (header_parts h ++ Items ∷ [])
 header_takes header.Opening no_opening no_state = absurd (no_opening refl)
 header_takes header.State no_opening no_state = absurd (no_state refl)
 header_takes header.States no_opening no_state = refl
@@ -128,7 +129,7 @@ header_takes header.Name no_opening no_state = refl
 header_takes header.Properties no_opening no_state = refl
 header_takes header.Other no_opening no_state = refl
 
-header_opens : (h : Header) → nat_le (open_at (parts_of h ++ Items ∷ [])) most_depth ≡ true
+header_opens : (h : Header) → nat_le (open_at (header_parts h ++ Items ∷ [])) most_depth ≡ true
 header_opens header.Opening = refl
 header_opens header.State = refl
 header_opens header.States = refl
@@ -158,27 +159,27 @@ item_whole name i a b c p q =
     }
 
 header_name_taken : (name : List ℕ) (h : Header) (s s' : State) (v : Unit {0}) → h ≡ header_of name → h ≢ header.Opening → h ≢ header.State → s.ahead ≡ token.HeaderName name → Advances (Ok v) s s'
-    → Reads (Items ∷ []) (parts_of h ++ Items ∷ []) (λ (w : Unit {0}) a b. Passed a (token.HeaderName name ∷ []) b) (Ok v) s s'
+    → Reads (Items ∷ []) (header_parts h ++ Items ∷ []) (λ (w : Unit {0}) a b. Passed a (token.HeaderName name ∷ []) b) (Ok v) s s'
 header_name_taken name h s s' v same no_opening no_state is one =
-    subst (λ (ps : List Part). Reads (Items ∷ []) ps (λ (w : Unit {0}) a b. Passed a (token.HeaderName name ∷ []) b) (Ok v) s s') (append-nil (parts_of h ++ Items ∷ []))
-    (takes Items (parts_of h ++ Items ∷ []) [] (token.HeaderName name) s s' v is (ap header_move (sym same) ∙ header_takes h no_opening no_state) (header_opens h) refl one)
+    subst (λ (ps : List Part). Reads (Items ∷ []) ps (λ (w : Unit {0}) a b. Passed a (token.HeaderName name ∷ []) b) (Ok v) s s') (append-nil (header_parts h ++ Items ∷ []))
+    (takes Items (header_parts h ++ Items ∷ []) [] (token.HeaderName name) s s' v is (ap header_move (sym same) ∙ header_takes h no_opening no_state) (header_opens h) refl one)
 
 -- whatever is answered of what is behind the name
 pub item_behind : (name : List ℕ) (h : Header) (result : Result Item ReadFault) (s m s' : State) (v : Unit {0}) → h ≡ header_of name → h ≢ header.Opening → h ≢ header.State → s.ahead ≡ token.HeaderName name → Advances (Ok v) s m
-    → Reads (parts_of h) [] (IsItemOf h name) result m s' → Reads (Items ∷ []) (Items ∷ []) IsItem result s s'
+    → Reads (header_parts h) [] (IsItemOf h name) result m s' → Reads (Items ∷ []) (Items ∷ []) IsItem result s s'
 item_behind name h (Ok i) s m s' v same no_opening no_state is one two =
-    reads_then (Items ∷ []) (parts_of h ++ Items ∷ []) (Items ∷ []) _ (IsItemOf h name) IsItem v i i s m s'
+    reads_then (Items ∷ []) (header_parts h ++ Items ∷ []) (Items ∷ []) _ (IsItemOf h name) IsItem v i i s m s'
     (λ a b c p q. item_whole name i a b c p (subst (λ (k : Header). IsItemOf k name i b c) same q))
-    (header_name_taken name h s m v same no_opening no_state is one) (reads_more (parts_of h) [] (Items ∷ []) (IsItemOf h name) i m s' two)
+    (header_name_taken name h s m v same no_opening no_state is one) (reads_more (header_parts h) [] (Items ∷ []) (IsItemOf h name) i m s' two)
 item_behind name h (Err f) s m s' v same no_opening no_state is one two =
-    fails_after (Items ∷ []) (parts_of h ++ Items ∷ []) (Items ∷ []) (Items ∷ []) _ (IsItemOf h name) IsItem v f s m s'
-    (header_name_taken name h s m v same no_opening no_state is one) (fails_first (parts_of h) [] (Items ∷ []) (Items ∷ []) (IsItemOf h name) (IsItemOf h name) f m s' two)
+    fails_after (Items ∷ []) (header_parts h ++ Items ∷ []) (Items ∷ []) (Items ∷ []) _ (IsItemOf h name) IsItem v f s m s'
+    (header_name_taken name h s m v same no_opening no_state is one) (fails_first (header_parts h) [] (Items ∷ []) (Items ∷ []) (IsItemOf h name) (IsItemOf h name) f m s' two)
 
 -- there is no token behind the name
 pub no_item_behind : (name : List ℕ) (h : Header) (f : ReadFault) (s s' : State) → h ≡ header_of name → h ≢ header.Opening → h ≢ header.State → s.ahead ≡ token.HeaderName name → Advances {T = Unit {0}} (Err f) s s'
     → Reads (Items ∷ []) (Items ∷ []) IsItem (Err f) s s'
 no_item_behind name h f s s' same no_opening no_state is one =
-    takes_last Items (parts_of h ++ Items ∷ []) [] (Items ∷ []) IsItem (token.HeaderName name) f s s' is (ap header_move (sym same) ∙ header_takes h no_opening no_state) (header_opens h) refl one
+    takes_last Items (header_parts h ++ Items ∷ []) [] (Items ∷ []) IsItem (token.HeaderName name) f s s' is (ap header_move (sym same) ∙ header_takes h no_opening no_state) (header_opens h) refl one
 
 -- a byte was used
 pub uses_then : {S : Type 0} (p q : List Part) (Q : Relation S) (result : Result S ReadFault) (s m s' : State) (v : Unit {0}) → Advances (Ok v) s m → Reads p q Q result m s' → Uses result s s'

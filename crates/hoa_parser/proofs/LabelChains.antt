@@ -13,6 +13,7 @@ use Rattle.hoa_parser.specs.Raw.{RawTree, RawTrees, raw_list, raw_parts, raw_tre
 use Rattle.hoa_parser.specs.Standing.{most_depth}
 use Rattle.hoa_parser.specs.declared.raw.RawLabel.{RawLabel}
 use Rattle.hoa_parser.specs.declared.raw.RawLabels.{RawLabels}
+use Rattle.hoa_parser.proofs.JoinedParts.{joined_parts}
 
 pub subst_tokens : (a b : Cursor) (ts us : List Token) → ts ≡ us → Passed a ts b → Passed a us b
 subst_tokens a b ts us same passed = subst (λ (vs : List Token). Passed a vs b) same passed
@@ -94,31 +95,13 @@ adds_land depth first parts more next a b c list so_far one = record {
       ∙ sym (ap (λ (ts : List RawTree). first ∷ ts) (with_land_meaning so_far.phrase one.phrase));
 }
 
-and_of_list : (x y first : RawTree) (zs us : List RawTree) → x ∷ y ∷ zs ≡ first ∷ us → raw.And x y (raw_trees zs) ≡ conjunction first us
-and_of_list x y first zs [] e = absurd (let no : x ∷ y ∷ zs ≡ first ∷ [] = e in cc)
-and_of_list x y first zs (u ∷ us) e =
-    let same : x ∷ y ∷ zs ≡ first ∷ u ∷ us = e in
-    let one : x ≡ first = cc in
-    let two : y ≡ u = cc in
-    let rest : zs ≡ us = cc in
-    ap (λ (t : RawTree). raw.And t y (raw_trees zs)) one ∙ ap (λ (t : RawTree). raw.And first t (raw_trees zs)) two ∙ ap (λ (ts : List RawTree). raw.And first u (raw_trees ts)) rest
-
-or_of_list : (x y first : RawTree) (zs us : List RawTree) → x ∷ y ∷ zs ≡ first ∷ us → raw.Or x y (raw_trees zs) ≡ disjunction first us
-or_of_list x y first zs [] e = absurd (let no : x ∷ y ∷ zs ≡ first ∷ [] = e in cc)
-or_of_list x y first zs (u ∷ us) e =
-    let same : x ∷ y ∷ zs ≡ first ∷ u ∷ us = e in
-    let one : x ≡ first = cc in
-    let two : y ≡ u = cc in
-    let rest : zs ≡ us = cc in
-    ap (λ (t : RawTree). raw.Or t y (raw_trees zs)) one ∙ ap (λ (t : RawTree). raw.Or first t (raw_trees zs)) two ∙ ap (λ (ts : List RawTree). raw.Or first u (raw_trees ts)) rest
-
 -- all of the parts, as one label
 pub lnots_whole : (depth : ℕ) (first : RawTree) (parts : RawLabels) (l : RawLabel) (a b : Cursor) → raw_tree l ≡ raw.And (raw_parts parts).first (raw_parts parts).second (raw_trees (raw_parts parts).others) → AddsLnots depth first parts a b → IsAndLnots depth first l a b
 lnots_whole depth first parts l a b is one = record {
   phrase = one.phrase;
   within = one.within;
   passed = one.passed;
-  means = is ∙ and_of_list (raw_parts parts).first (raw_parts parts).second first (raw_parts parts).others (lnots_meaning one.phrase) one.means;
+  means = is ∙ joined_parts (λ x y zs. raw.And x y (raw_trees zs)) conjunction (λ t u us. refl) (raw_parts parts).first (raw_parts parts).second first (raw_parts parts).others (lnots_meaning one.phrase) one.means;
 }
 
 pub lands_whole : (depth : ℕ) (first : RawTree) (parts : RawLabels) (l : RawLabel) (a b : Cursor) → raw_tree l ≡ raw.Or (raw_parts parts).first (raw_parts parts).second (raw_trees (raw_parts parts).others) → AddsLands depth first parts a b → IsOrLands depth first l a b
@@ -126,7 +109,7 @@ lands_whole depth first parts l a b is one = record {
   phrase = one.phrase;
   within = one.within;
   passed = one.passed;
-  means = is ∙ or_of_list (raw_parts parts).first (raw_parts parts).second first (raw_parts parts).others (lands_meaning one.phrase) one.means;
+  means = is ∙ joined_parts (λ x y zs. raw.Or x y (raw_trees zs)) disjunction (λ t u us. refl) (raw_parts parts).first (raw_parts parts).second first (raw_parts parts).others (lands_meaning one.phrase) one.means;
 }
 
 -- a first part, and a chain behind it

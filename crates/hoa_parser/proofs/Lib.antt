@@ -21,6 +21,7 @@ pub mod Halts
 pub mod HeaderNames
 pub mod Hopeless
 pub mod ItemsRead
+pub mod JoinedParts
 pub mod Joining
 pub mod LabelChains
 pub mod LabelReads

@@ -65,20 +65,26 @@ condition_parts depth = Atom depth ∷ Atoms depth ∷ Conjunctions depth ∷ []
 abbrev pub conj_parts : List Part
 conj_parts = Number ∷ MoreNumbers ∷ []
 
--- what follows the name of a header
+-- what is expected behind the name of a header
+abbrev pub header_parts : Header → List Part
+header_parts header.States = Number ∷ []
+header_parts header.Start = conj_parts
+header_parts header.Ap = Number ∷ Strings ∷ []
+header_parts header.Alias = AliasName ∷ label_parts 0
+header_parts header.Acceptance = Number ∷ condition_parts 0
+header_parts header.AccName = Word ∷ AccValues ∷ []
+header_parts header.Tool = Quoted ∷ MaybeQuoted ∷ []
+header_parts header.Name = Quoted ∷ []
+header_parts header.Properties = Words ∷ []
+header_parts header.Other = Values ∷ []
+header_parts header.Opening = Values ∷ []
+header_parts header.State = Values ∷ []
+
+-- what follows the name of a header, where one may stand
 abbrev pub header_move : Header → Move
-header_move header.States = Takes (Number ∷ Items ∷ [])
-header_move header.Start = Takes (conj_parts ++ Items ∷ [])
-header_move header.Ap = Takes (Number ∷ Strings ∷ Items ∷ [])
-header_move header.Alias = Takes (AliasName ∷ (label_parts 0 ++ Items ∷ []))
-header_move header.Acceptance = Takes (Number ∷ (condition_parts 0 ++ Items ∷ []))
-header_move header.AccName = Takes (Word ∷ AccValues ∷ Items ∷ [])
-header_move header.Tool = Takes (Quoted ∷ MaybeQuoted ∷ Items ∷ [])
-header_move header.Name = Takes (Quoted ∷ Items ∷ [])
-header_move header.Properties = Takes (Words ∷ Items ∷ [])
-header_move header.Other = Takes (Values ∷ Items ∷ [])
 header_move header.Opening = Refuses
 header_move header.State = Refuses
+header_move h = Takes (header_parts h ++ Items ∷ [])
 
 abbrev pub if_header : Header → Header → List Part → Move
 if_header header.Opening header.Opening parts = Takes parts

@@ -6,7 +6,7 @@ use Rattle.aut_base.specs.Formula.{FormulaTree, formula_tree}
 use Rattle.aut_base.specs.declared.formula.Formula.{Formula}
 use Rattle.hoa_lexer.specs.declared.token.Token.{Token}
 use Rattle.hoa_lexer.specs.declared.token.Token.TheVariants as token
-use Rattle.hoa_parser.specs.Expecting.{Part, label_parts, condition_parts, conj_parts, Number, Strings, AliasName, Word, AccValues, Quoted, MaybeQuoted, Words, Values}
+use Rattle.hoa_parser.specs.Expecting.{Part, header_parts, label_parts, condition_parts, conj_parts, Number, Strings, AliasName, Word, AccValues, Quoted, MaybeQuoted, Words, Values}
 use Rattle.hoa_parser.specs.Grammar.{AccValue, AutomatonPhrase, AutomatonWithin, ConditionWithin, Conj, FandsWithin, Fatom, FatomWithin, Fatoms, FatomsWithin, ItemPhrase, ItemWithin, LabelWithin, LandsWithin, Lnot, LnotWithin, Lnots, LnotsWithin, OptionalWithin, StateWithin, Value, acc_value_token, all_of, and_number, automaton_meaning, bang_tokens, header_of, condition_meaning, condition_tokens, conj_meaning, conj_tokens, conjunction, disjunction, edge_meaning, edge_tokens, fands_meaning, fands_tokens, fatom_meaning, fatom_tokens, fatoms_meaning, fatoms_tokens, item_meaning, item_tokens, label_meaning, label_tokens, lands_meaning, lands_tokens, lnot_meaning, lnot_tokens, lnots_meaning, lnots_tokens, marks_meaning, one_of, optional_label, optional_marks, optional_text, set_tokens, state_meaning, state_tokens, value_token}
 use Rattle.hoa_parser.specs.Parsing.{IsWritten, Passed, Cursor}
 use Rattle.hoa_parser.specs.Raw as raw
@@ -188,21 +188,6 @@ IsItem item = IsWritten (ItemWithin most_depth) item_tokens item_meaning (writte
 
 abbrev pub AreItems : List Item → Cursor → Cursor → Type 0
 AreItems items = IsWritten (AllByRecursion (ItemWithin most_depth)) (flat_map item_tokens) (map item_meaning) (map written_item items)
-
--- what is expected behind the name of a header
-abbrev pub parts_of : Header → List Part
-parts_of header.States = Number ∷ []
-parts_of header.Start = conj_parts
-parts_of header.Ap = Number ∷ Strings ∷ []
-parts_of header.Alias = AliasName ∷ label_parts 0
-parts_of header.Acceptance = Number ∷ condition_parts 0
-parts_of header.AccName = Word ∷ AccValues ∷ []
-parts_of header.Tool = Quoted ∷ MaybeQuoted ∷ []
-parts_of header.Name = Quoted ∷ []
-parts_of header.Properties = Words ∷ []
-parts_of header.Other = Values ∷ []
-parts_of header.Opening = Values ∷ []
-parts_of header.State = Values ∷ []
 
 -- with this name before them the tokens are an item
 pub record IsItemWith (name : List ℕ) (tokens : List Token) (item : WrittenItem) : Type 0 where

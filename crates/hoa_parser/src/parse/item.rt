@@ -5,7 +5,8 @@ ghost use Rattle.hoa_lexer.specs.declared.token.Token.{Token};
 ghost use Rattle.hoa_parser.specs.declared.header.Header.{Header};
 ghost use Rattle.hoa_parser.specs.Expecting as part;
 ghost use Rattle.hoa_parser.specs.Parsing.{Reads, Uses, state};
-ghost use Rattle.hoa_parser.specs.RuleReads.{AreItems, IsItem, IsItemOf, IsItemWritten, parts_of};
+ghost use Rattle.hoa_parser.specs.Expecting.{header_parts};
+ghost use Rattle.hoa_parser.specs.RuleReads.{AreItems, IsItem, IsItemOf, IsItemWritten};
 
 use super::condition::condition;
 use super::label::label;
@@ -89,7 +90,7 @@ fn item_of<I: Inputs>(
     requires unspent { lexer.old.spent ≡ false }
     requires no_opening { header ≢ Header.Opening }
     requires no_state { header ≢ Header.State }
-    ensures reads { Reads (parts_of header) [] (IsItemOf header name) result
+    ensures reads { Reads (header_parts header) [] (IsItemOf header name) result
         (state lexer.old ahead.old (I.left inputs.old) (I.read_faults inputs.old) (I.open_faults inputs.old) (I.texts inputs.old))
         (state lexer.new ahead.new (I.left inputs.new) (I.read_faults inputs.new) (I.open_faults inputs.new) (I.texts inputs.new)) }
 {
@@ -132,7 +133,7 @@ fn names<I: Inputs>(
     ahead: &mut Token,
 ) -> Result<Item, ReadFault>
     requires unspent { lexer.old.spent ≡ false }
-    ensures reads { Reads (parts_of Header.Ap) [] (IsItemWritten Header.Ap) result
+    ensures reads { Reads (header_parts Header.Ap) [] (IsItemWritten Header.Ap) result
         (state lexer.old ahead.old (I.left inputs.old) (I.read_faults inputs.old) (I.open_faults inputs.old) (I.texts inputs.old))
         (state lexer.new ahead.new (I.left inputs.new) (I.read_faults inputs.new) (I.open_faults inputs.new) (I.texts inputs.new)) }
 {
@@ -154,7 +155,7 @@ fn alias<I: Inputs>(
     ahead: &mut Token,
 ) -> Result<Item, ReadFault>
     requires unspent { lexer.old.spent ≡ false }
-    ensures reads { Reads (parts_of Header.Alias) [] (IsItemWritten Header.Alias) result
+    ensures reads { Reads (header_parts Header.Alias) [] (IsItemWritten Header.Alias) result
         (state lexer.old ahead.old (I.left inputs.old) (I.read_faults inputs.old) (I.open_faults inputs.old) (I.texts inputs.old))
         (state lexer.new ahead.new (I.left inputs.new) (I.read_faults inputs.new) (I.open_faults inputs.new) (I.texts inputs.new)) }
 {
@@ -176,7 +177,7 @@ fn acceptance<I: Inputs>(
     ahead: &mut Token,
 ) -> Result<Item, ReadFault>
     requires unspent { lexer.old.spent ≡ false }
-    ensures reads { Reads (parts_of Header.Acceptance) [] (IsItemWritten Header.Acceptance) result
+    ensures reads { Reads (header_parts Header.Acceptance) [] (IsItemWritten Header.Acceptance) result
         (state lexer.old ahead.old (I.left inputs.old) (I.read_faults inputs.old) (I.open_faults inputs.old) (I.texts inputs.old))
         (state lexer.new ahead.new (I.left inputs.new) (I.read_faults inputs.new) (I.open_faults inputs.new) (I.texts inputs.new)) }
 {
@@ -198,7 +199,7 @@ fn acc_name<I: Inputs>(
     ahead: &mut Token,
 ) -> Result<Item, ReadFault>
     requires unspent { lexer.old.spent ≡ false }
-    ensures reads { Reads (parts_of Header.AccName) [] (IsItemWritten Header.AccName) result
+    ensures reads { Reads (header_parts Header.AccName) [] (IsItemWritten Header.AccName) result
         (state lexer.old ahead.old (I.left inputs.old) (I.read_faults inputs.old) (I.open_faults inputs.old) (I.texts inputs.old))
         (state lexer.new ahead.new (I.left inputs.new) (I.read_faults inputs.new) (I.open_faults inputs.new) (I.texts inputs.new)) }
 {
@@ -220,7 +221,7 @@ fn tool<I: Inputs>(
     ahead: &mut Token,
 ) -> Result<Item, ReadFault>
     requires unspent { lexer.old.spent ≡ false }
-    ensures reads { Reads (parts_of Header.Tool) [] (IsItemWritten Header.Tool) result
+    ensures reads { Reads (header_parts Header.Tool) [] (IsItemWritten Header.Tool) result
         (state lexer.old ahead.old (I.left inputs.old) (I.read_faults inputs.old) (I.open_faults inputs.old) (I.texts inputs.old))
         (state lexer.new ahead.new (I.left inputs.new) (I.read_faults inputs.new) (I.open_faults inputs.new) (I.texts inputs.new)) }
 {

@@ -5,7 +5,8 @@ use Rattle.hoa_parser.proofs.Others.{no_items}
 use Rattle.hoa_parser.proofs.Tokens.{known, token_refused}
 use Rattle.hoa_parser.specs.Expecting.{Items, header_move}
 use Rattle.hoa_parser.specs.Grammar.{header_of}
-use Rattle.hoa_parser.specs.RuleReads.{IsItem, IsItemOf, parts_of}
+use Rattle.hoa_parser.specs.Expecting.{header_parts}
+use Rattle.hoa_parser.specs.RuleReads.{IsItem, IsItemOf}
 use Rattle.hoa_parser.proofs.parse.item.item.Goals as goal
 
 pub returns-in_default : goal.returns-in_default
@@ -25,7 +26,7 @@ returns-in-Ok g c =
       reads = known (Items ∷ []) (Items ∷ []) IsItem c.item_of.result _ c.args.ahead.now (token.HeaderName c.in-HeaderName.name) _ _ _ _ _ c.in-HeaderName.is
           (item_behind name header c.item_of.result _ _ _ c.in-Ok.field-0 c.header_named-header.ensures c.in_default-header.not-Opening c.in_default-header.not-State (ap token.HeaderName (sym c.in_ok-name-in-HeaderName.ensures))
           c.in-Ok.ensures c.item_of.ensures.reads);
-      uses = uses_then (parts_of header) [] (IsItemOf header name) c.item_of.result _ _ _ c.in-Ok.field-0 c.in-Ok.ensures c.item_of.ensures.reads;
+      uses = uses_then (header_parts header) [] (IsItemOf header name) c.item_of.result _ _ _ c.in-Ok.field-0 c.in-Ok.ensures c.item_of.ensures.reads;
     }
 
 pub returns-in-Err : goal.returns-in-Err
