@@ -28,10 +28,11 @@ impl Texts {
             mut names,
             mut texts,
         } = self;
-        if !names.has(&name) {
-            names.push(name)?;
-            texts.push(text)?;
+        if names.has(&name) {
+            return Ok(Texts { names, texts });
         }
+        names.push(name)?;
+        texts.push(text)?;
         Ok(Texts { names, texts })
     }
 

@@ -38,15 +38,20 @@ impl fmt::Display for Ran {
 
 /// Writes a text by lines with this mark, in the notation of rows.
 fn write_lines<W: fmt::Write>(f: &mut fmt::Formatter<W>, mark: &str, bytes: &[u8]) -> fmt::Result {
-    let text = match std::str::from_utf8(bytes) {
-        Ok(text) => text,
-        Err(_) => "(no plain text)",
-    };
+    let text = shown(bytes);
     for line in text.lines() {
         writeln!(f, "{mark} {line}")?;
     }
-    if !text.is_empty() && !text.ends_with('\n') {
-        writeln!(f, "# without the last line feed")?;
+    if text.is_empty() || text.ends_with('\n') {
+        return Ok(());
     }
-    Ok(())
+    writeln!(f, "# without the last line feed")
+}
+
+/// The text of these bytes, if they are one.
+fn shown(bytes: &[u8]) -> &str {
+    match std::str::from_utf8(bytes) {
+        Ok(text) => text,
+        Err(_) => "(no plain text)",
+    }
 }
