@@ -8,5 +8,6 @@ pub mod FirstBytes
 pub mod Fronts
 pub mod Numbers
 pub mod Strings
+pub mod TokenExamples
 pub mod Unique
 pub mod Words

@@ -6,3 +6,4 @@ pub mod Reading
 pub mod Spelling
 pub mod Steps
 pub mod Text
+pub mod TokenExamples

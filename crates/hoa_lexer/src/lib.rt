@@ -4,10 +4,8 @@
 
 mod laws;
 mod lexer;
-#[cfg(test)]
-mod tests;
 mod token;
 
-pub use laws::{one_next_token, one_token_list, spelled_apart_is_read};
+pub use laws::{one_next_token, one_token_list, spelled_apart_is_read, token_examples};
 pub use lexer::Lexer;
 pub use token::{LexFault, Token};
