@@ -15,7 +15,7 @@ and_assoc : (a b c : Bool) → (a && (b && c)) ≡ ((a && b) && c)
 and_assoc true b c = refl
 and_assoc false b c = refl
 
-all-both_ways : (p : List Bool → Bool) (vs : List (List Bool)) → list_all p (both_ways vs) ≡ list_all (λ v. p (false ∷ v) && p (true ∷ v)) vs
+pub all-both_ways : (p : List Bool → Bool) (vs : List (List Bool)) → list_all p (both_ways vs) ≡ list_all (λ v. p (false ∷ v) && p (true ∷ v)) vs
 all-both_ways p [] = refl
 all-both_ways p (v ∷ vs) =
     ap (λ b. p (false ∷ v) && (p (true ∷ v) && b)) (all-both_ways p vs) ∙ and_assoc (p (false ∷ v)) (p (true ∷ v)) _

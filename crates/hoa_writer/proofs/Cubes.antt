@@ -1,24 +1,51 @@
 -- The cubes of a table are those of its truth function, and their text.
 use Rattle.std.proofs.Common.{◌≡◌, ℕ, zero, suc, ◌+◌, ◌-◌, ◌^◌, ◌∙◌, sym, ap, refl, arith, Bool, true, false, ◌&&◌, cond, ◌⊎◌, inl, inr, List, [], ◌∷◌, ◌++◌, map, take, drop, length}
 use Rattle.std.proofs.Math.Nat.{pow-suc}
+use Rattle.std.proofs.lemmas.List.Folds.{list_all-append, list_all-map}
 use Rattle.std.proofs.lemmas.List.{append-nil, map-append, length-append, length-map, take_at, drop_at}
 use Rattle.std.specs.Bool.{beq}
 use Rattle.std.specs.Cmp.Lexicographic.{pointwise}
 use Rattle.std.specs.List.{list_all}
 use Rattle.std.specs.Prelude.{codes}
+use Rattle.aut_base.proofs.ValuationLists.{all-both_ways}
 use Rattle.aut_base.specs.Label.{LabelTree, True}
-use Rattle.hoa_writer.specs.CanonicalLabel.{Literal, label_text, valuations, is_independent, cubes, cube_text, cubes_text, joined}
+use Rattle.aut_base.specs.Valuation.{valuations}
+use Rattle.aut_base.specs.CanonicalLabel.{Literal, is_independent, cubes}
+use Rattle.aut_base.specs.LabelText.{label_text, cube_text, cubes_text, joined}
 use Rattle.hoa_writer.specs.Pieces.{cube_piece, pieces_after}
-use Rattle.hoa_writer.specs.Tables.{table_cubes, is_any, WritesCubes}
+use Rattle.hoa_writer.specs.Tables.{table_order, table_cubes, is_any, WritesCubes}
 use Rattle.hoa_writer.proofs.Pieces.{map-map}
 
-pub length-valuations : (n : ℕ) → length (valuations n) ≡ 2 ^ n
-length-valuations zero = refl
-length-valuations (suc n) =
-    let low = map (λ v. false ∷ v) (valuations n) in
-    let high = map (λ v. true ∷ v) (valuations n) in
-    length-append low high ∙ (ap (λ k. k + length high) (length-map (valuations n) (λ v. false ∷ v) ∙ length-valuations n)
-    ∙ (ap (λ k. 2 ^ n + k) (length-map (valuations n) (λ v. true ∷ v) ∙ length-valuations n) ∙ omega (arith, pow-suc 2 n)))
+pub length-table_order : (n : ℕ) → length (table_order n) ≡ 2 ^ n
+length-table_order zero = refl
+length-table_order (suc n) =
+    let low = map (λ v. false ∷ v) (table_order n) in
+    let high = map (λ v. true ∷ v) (table_order n) in
+    length-append low high ∙ (ap (λ k. k + length high) (length-map (table_order n) (λ v. false ∷ v) ∙ length-table_order n)
+    ∙ (ap (λ k. 2 ^ n + k) (length-map (table_order n) (λ v. true ∷ v) ∙ length-table_order n) ∙ omega (arith, pow-suc 2 n)))
+
+between : (a b c d : Bool) → ((a && b) && (c && d)) ≡ ((a && c) && (b && d))
+between false b c d = refl
+between true false false d = refl
+between true false true d = refl
+between true true false d = refl
+between true true true d = refl
+
+both_tests : {A : Type 0} (p q : A → Bool) (xs : List A) → (list_all p xs && list_all q xs) ≡ list_all (λ x. p x && q x) xs
+both_tests p q [] = refl
+both_tests p q (x ∷ xs) = between (p x) (list_all p xs) (q x) (list_all q xs) ∙ ap (λ b. (p x && q x) && b) (both_tests p q xs)
+
+-- a test of all valuations is the same in either order
+all-table_order : (n : ℕ) (p : List Bool → Bool) → list_all p (table_order n) ≡ list_all p (valuations n)
+all-table_order zero p = refl
+all-table_order (suc n) p =
+    let low = map (λ v. false ∷ v) (table_order n) in
+    let high = map (λ v. true ∷ v) (table_order n) in
+    let fails : list_all p low ≡ list_all (λ v. p (false ∷ v)) (valuations n) = list_all-map p (λ v. false ∷ v) (table_order n) ∙ all-table_order n (λ v. p (false ∷ v)) in
+    let holds : list_all p high ≡ list_all (λ v. p (true ∷ v)) (valuations n) = list_all-map p (λ v. true ∷ v) (table_order n) ∙ all-table_order n (λ v. p (true ∷ v)) in
+    list_all-append p low high
+    ∙ (ap (λ b. b && list_all p high) fails ∙ (ap (λ b. list_all (λ v. p (false ∷ v)) (valuations n) && b) holds
+    ∙ (both_tests (λ v. p (false ∷ v)) (λ v. p (true ∷ v)) (valuations n) ∙ sym (all-both_ways p (valuations n)))))
 
 pointwise-map : {A : Type 0} (f g : A → Bool) (xs : List A) → pointwise beq (map f xs) (map g xs) ≡ list_all (λ x. beq (f x) (g x)) xs
 pointwise-map f g [] = refl
@@ -34,17 +61,17 @@ table_halves i n table low high e h =
     ap (λ xs. branch i (pointwise beq xs (drop (2 ^ n) table)) (table_cubes (i + 1) n xs) (table_cubes (i + 1) n (drop (2 ^ n) table))) first
     ∙ ap (λ ys. branch i (pointwise beq low ys) (table_cubes (i + 1) n low) (table_cubes (i + 1) n ys)) second
 
-pub cubes_of_table : (i n : ℕ) (g : List Bool → Bool) → table_cubes i n (map g (valuations n)) ≡ cubes i n g
+pub cubes_of_table : (i n : ℕ) (g : List Bool → Bool) → table_cubes i n (map g (table_order n)) ≡ cubes i n g
 cubes_of_table i zero g = refl
 cubes_of_table i (suc n) g =
     let fails : List Bool → Bool = λ v. g (false ∷ v) in
     let holds : List Bool → Bool = λ v. g (true ∷ v) in
-    let low = map fails (valuations n) in
-    let high = map holds (valuations n) in
-    let halves : map g (valuations (suc n)) ≡ low ++ high = map-append g (map (λ v. false ∷ v) (valuations n)) (map (λ v. true ∷ v) (valuations n))
-    ∙ (ap (λ xs. xs ++ map g (map (λ v. true ∷ v) (valuations n))) (map-map g (λ v. false ∷ v) (valuations n)) ∙ ap (λ xs. low ++ xs) (map-map g (λ v. true ∷ v) (valuations n))) in
-    table_halves i n (map g (valuations (suc n))) low high halves (length-map (valuations n) fails ∙ length-valuations n)
-    ∙ (ap (λ b. branch i b (table_cubes (i + 1) n low) (table_cubes (i + 1) n high)) (pointwise-map fails holds (valuations n))
+    let low = map fails (table_order n) in
+    let high = map holds (table_order n) in
+    let halves : map g (table_order (suc n)) ≡ low ++ high = map-append g (map (λ v. false ∷ v) (table_order n)) (map (λ v. true ∷ v) (table_order n))
+    ∙ (ap (λ xs. xs ++ map g (map (λ v. true ∷ v) (table_order n))) (map-map g (λ v. false ∷ v) (table_order n)) ∙ ap (λ xs. low ++ xs) (map-map g (λ v. true ∷ v) (table_order n))) in
+    table_halves i n (map g (table_order (suc n))) low high halves (length-map (table_order n) fails ∙ length-table_order n)
+    ∙ (ap (λ b. branch i b (table_cubes (i + 1) n low) (table_cubes (i + 1) n high)) (pointwise-map fails holds (table_order n) ∙ all-table_order n (λ v. beq (fails v) (holds v)))
     ∙ (ap (λ cs. branch i (is_independent n g) cs (table_cubes (i + 1) n high)) (cubes_of_table (i + 1) n fails)
     ∙ ap (λ cs. branch i (is_independent n g) (cubes (i + 1) n fails) cs) (cubes_of_table (i + 1) n holds)))
 
@@ -90,7 +117,7 @@ tidy_text ((l ∷ ls) ∷ cs) (inl e) h = absurd cc
 tidy_text ((l ∷ ls) ∷ cs) (inr f) h = ap (joined (codes " | ")) (long_pieces ((l ∷ ls) ∷ cs) f)
 
 -- what is written of a table that has a cube
-pub text_of_table : (n : ℕ) (g : List Bool → Bool) → true ≡ is_any (table_cubes 0 n (map g (valuations n))) → pieces_after false (codes " | ") (map cube_piece (table_cubes 0 n (map g (valuations n)))) ≡ cubes_text (cubes 0 n g)
+pub text_of_table : (n : ℕ) (g : List Bool → Bool) → true ≡ is_any (table_cubes 0 n (map g (table_order n))) → pieces_after false (codes " | ") (map cube_piece (table_cubes 0 n (map g (table_order n)))) ≡ cubes_text (cubes 0 n g)
 text_of_table n g h =
     let same = cubes_of_table 0 n g in
     ap (λ cs. pieces_after false (codes " | ") (map cube_piece cs)) same ∙ tidy_text (cubes 0 n g) (tidy_cubes 0 n g) (h ∙ ap is_any same)
@@ -100,9 +127,9 @@ no_cube [] h = refl
 no_cube (c ∷ cs) h = absurd cc
 
 -- one that has none says nothing, and its label is `f`
-pub none_of_table : (n : ℕ) (g : List Bool → Bool) → false ≡ is_any (table_cubes 0 n (map g (valuations n))) → (pieces_after false (codes " | ") (map cube_piece (table_cubes 0 n (map g (valuations n)))) ≡ []) × (cubes_text (cubes 0 n g) ≡ codes "f")
+pub none_of_table : (n : ℕ) (g : List Bool → Bool) → false ≡ is_any (table_cubes 0 n (map g (table_order n))) → (pieces_after false (codes " | ") (map cube_piece (table_cubes 0 n (map g (table_order n)))) ≡ []) × (cubes_text (cubes 0 n g) ≡ codes "f")
 none_of_table n g h =
-    let none = no_cube (table_cubes 0 n (map g (valuations n))) h in
+    let none = no_cube (table_cubes 0 n (map g (table_order n))) h in
     (ap (λ cs. pieces_after false (codes " | ") (map cube_piece cs)) none, ap cubes_text (sym (cubes_of_table 0 n g) ∙ none))
 
 always : {A : Type 0} (xs : List A) → list_all (λ x. true) xs ≡ true
@@ -119,22 +146,22 @@ pub label_text_true : (n : ℕ) (t : LabelTree) → t ≡ True → label_text n 
 label_text_true n t e = ap (label_text n) e ∙ ap cubes_text (cubes_always 0 n)
 
 -- all the truths, when no place is filled before
-pub whole_table : (n : ℕ) (g : List Bool → Bool) (table old : List Bool) → old ≡ [] → table ≡ old ++ map g (valuations (n - 0)) → table ≡ map g (valuations n)
+pub whole_table : (n : ℕ) (g : List Bool → Bool) (table old : List Bool) → old ≡ [] → table ≡ old ++ map g (table_order (n - 0)) → table ≡ map g (table_order n)
 whole_table n g table old none e =
     let same : n - 0 ≡ n = omega arith in
-    e ∙ (ap (λ xs. xs ++ map g (valuations (n - 0))) none ∙ ap (λ k. map g (valuations k)) same)
+    e ∙ (ap (λ xs. xs ++ map g (table_order (n - 0))) none ∙ ap (λ k. map g (table_order k)) same)
 
-pub table_size : (n : ℕ) (g : List Bool → Bool) (table : List Bool) → table ≡ map g (valuations n) → length table ≡ 2 ^ n
-table_size n g table e = ap length e ∙ (length-map (valuations n) g ∙ length-valuations n)
+pub table_size : (n : ℕ) (g : List Bool → Bool) (table : List Bool) → table ≡ map g (table_order n) → length table ≡ 2 ^ n
+table_size n g table e = ap length e ∙ (length-map (table_order n) g ∙ length-table_order n)
 
 -- what is written of a label that has a cube
-pub label_written : (n : ℕ) (g : List Bool → Bool) (literals : List Literal) (table : List Bool) (now : Bool) (old new : List ℕ) → literals ≡ [] → table ≡ map g (valuations n) → WritesCubes literals table 0 n false now old new → now ≡ true → new ≡ old ++ cubes_text (cubes 0 n g)
+pub label_written : (n : ℕ) (g : List Bool → Bool) (literals : List Literal) (table : List Bool) (now : Bool) (old new : List ℕ) → literals ≡ [] → table ≡ map g (table_order n) → WritesCubes literals table 0 n false now old new → now ≡ true → new ≡ old ++ cubes_text (cubes 0 n g)
 label_written n g literals table now old new none e w h =
     let u = rw (none, e) at w in
     u.text ∙ ap (λ t. old ++ t) (text_of_table n g (sym h ∙ u.some))
 
 -- and of one that has none
-pub no_label_written : (n : ℕ) (g : List Bool → Bool) (literals : List Literal) (table : List Bool) (now : Bool) (old new last : List ℕ) → literals ≡ [] → table ≡ map g (valuations n) → WritesCubes literals table 0 n false now old new → now ≡ false → last ≡ new ++ codes "f" → last ≡ old ++ cubes_text (cubes 0 n g)
+pub no_label_written : (n : ℕ) (g : List Bool → Bool) (literals : List Literal) (table : List Bool) (now : Bool) (old new last : List ℕ) → literals ≡ [] → table ≡ map g (table_order n) → WritesCubes literals table 0 n false now old new → now ≡ false → last ≡ new ++ codes "f" → last ≡ old ++ cubes_text (cubes 0 n g)
 no_label_written n g literals table now old new last none e w h f =
     let u = rw (none, e) at w in
     let facts = none_of_table n g (sym h ∙ u.some) in

@@ -1,4 +1,4 @@
--- The size of a condition, and the text of its parts.
+-- The text of a condition's parts.
 use Rattle.std.proofs.Common.{◌≡◌, ℕ, zero, suc, ◌+◌, ◌<◌, ◌≤◌, ◌∙◌, sym, ap, refl, arith, List, [], ◌∷◌, ◌++◌, take, Some, slice_get}
 use Rattle.std.proofs.lemmas.List.{append-nil, append_assoc}
 use Rattle.std.specs.List.{flat_map}
@@ -9,40 +9,6 @@ use Rattle.aut_base.specs.declared.formula.Formulas.{Formulas}
 use Rattle.aut_base.proofs.FormulaTrees.{formula_tree-And, formula_tree-Or}
 use Rattle.hoa_writer.specs.CanonicalText.{formula_text, parts_text}
 use Rattle.hoa_writer.specs.Pieces.{part_text, list_text}
-
-abbrev mutual
-  pub size : FormulaTree → ℕ
-  size True = 0
-  size False = 0
-  size (Inf set neg) = 0
-  size (Fin set neg) = 0
-  size (And a b cs) = size a + (size b + sizes cs) + 1
-  size (Or a b cs) = size a + (size b + sizes cs) + 1
-
-  pub sizes : FormulaTrees → ℕ
-  sizes none = 0
-  sizes (more f fs) = size f + sizes fs
-
-abbrev pub list_size : List FormulaTree → ℕ
-list_size [] = 0
-list_size (f ∷ fs) = size f + list_size fs
-
-sizes-trees : (fs : List FormulaTree) → sizes (trees fs) ≡ list_size fs
-sizes-trees [] = refl
-sizes-trees (f ∷ fs) = ap (λ n. size f + n) (sizes-trees fs)
-
--- a condition is larger than its parts together
-pub size-And : (p : Formulas) → size (formula_tree (formula.And p)) ≡ list_size (formula_list p) + 1
-size-And p = ap size (formula_tree-And p) ∙ ap (λ n. size (formula_parts p).first + (size (formula_parts p).second + n) + 1) (sizes-trees (formula_parts p).others)
-
-pub size-Or : (p : Formulas) → size (formula_tree (formula.Or p)) ≡ list_size (formula_list p) + 1
-size-Or p = ap size (formula_tree-Or p) ∙ ap (λ n. size (formula_parts p).first + (size (formula_parts p).second + n) + 1) (sizes-trees (formula_parts p).others)
-
--- a part is no larger than all together
-pub size_part : (fs : List FormulaTree) (place : ℕ) (f : FormulaTree) → slice_get fs place ≡ Some f → size f ≤ list_size fs
-size_part [] place f e = absurd cc
-size_part (g ∷ gs) zero f e = let same : g ≡ f = cc in let s = ap size same in omega arith
-size_part (g ∷ gs) (suc k) f e = let rest = size_part gs k f e in omega arith
 
 parts_text-trees : (separator : List ℕ) (fs : List FormulaTree) → parts_text separator (trees fs) ≡ flat_map (λ f. separator ++ part_text f) fs
 parts_text-trees separator [] = refl

@@ -10,8 +10,11 @@ use Rattle.hoa_parser.specs.Grammar.Lands.{no_land, or_land}
 use Rattle.hoa_parser.specs.Grammar.Lnots.{no_lnot, and_lnot}
 use Rattle.hoa_parser.specs.Grammar.Lnot.{true_label, false_label, proposition, negated}
 use Rattle.hoa_parser.specs.Raw.{RawTree, raw_trees}
-use Rattle.hoa_writer.specs.CanonicalLabel.{Literal, cubes, is_independent, joined, literal_text, cube_text, cubes_text, label_text, truth_on}
-use Rattle.hoa_writer.specs.CanonicalWritten.{literal_tree, all_of, one_of, cubes_tree, canonical_label, written_label, written_labels}
+use Rattle.aut_base.specs.CanonicalLabel.{Literal, cubes, is_independent}
+use Rattle.aut_base.specs.LabelText.{joined, literal_text, cube_text, cubes_text, label_text}
+use Rattle.aut_base.specs.Valuation.{truth_on}
+use Rattle.aut_base.specs.CanonicalLabel.{literal_tree, all_of, one_of, cubes_tree, canonical_label}
+use Rattle.hoa_writer.specs.CanonicalWritten.{written_label, written_labels}
 use Rattle.hoa_writer.proofs.SpelledOut.{Held, free_held, held_held, held_identifier, held_ended}
 use Rattle.hoa_writer.proofs.WordsSpelled.{number, bang, amp, bar_apart}
 

@@ -4,7 +4,6 @@ pub mod ConditionsSpelled
 pub mod Cubes
 pub mod Formulas
 pub mod InOrder
-pub mod Labels
 pub mod LabelsSpelled
 pub mod Lines
 pub mod PhraseDepths
@@ -15,5 +14,4 @@ pub mod ReadBackRules
 pub mod ReadBackTokens
 pub mod SpelledOut
 pub mod Tables
-pub mod WellFormed
 pub mod WordsSpelled

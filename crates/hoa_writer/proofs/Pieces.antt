@@ -6,7 +6,7 @@ use Rattle.std.proofs.lemmas.List.Concat.{flat_map-append}
 use Rattle.std.specs.Fmt.{decimal}
 use Rattle.std.specs.List.{flat_map}
 use Rattle.std.specs.Prelude.{codes}
-use Rattle.hoa_writer.specs.CanonicalLabel.{joined, literal_text}
+use Rattle.aut_base.specs.LabelText.{joined, literal_text}
 use Rattle.hoa_writer.specs.CanonicalText.{marks_text, quoted}
 use Rattle.hoa_writer.specs.Lines.{names_line}
 use Rattle.hoa_writer.specs.Pieces.{each_after, pieces_after, cube_piece}

@@ -1,23 +1,27 @@
 -- The canonical text of a well-formed automaton reads back.
-use Rattle.std.proofs.Common.{◌≢◌, ◌<◌, ◌≤◌, ◌^◌, ℕ, List, length, Option, AllPairs, arith}
-use Rattle.aut_base.specs.Automaton.{Automaton, IsWellFormed}
+use Rattle.std.proofs.Common.{◌↔◌, sym, subst}
+use Rattle.aut_base.proofs.CanonicalAutomata.{canonical_accepts_the_same, labels_below}
+use Rattle.aut_base.specs.Acceptance.{Accepts}
+use Rattle.aut_base.specs.Automaton.{Automaton}
+use Rattle.aut_base.specs.Word.{NameSet}
 use Rattle.hoa_writer.proofs.CanonicalLines.{canonical_named}
-use Rattle.hoa_writer.proofs.ReadBackMeaning.{MarksRise, canonical_describes}
+use Rattle.hoa_writer.proofs.ReadBackMeaning.{canonical_describes}
 use Rattle.hoa_writer.proofs.ReadBackRules.{canonical_is_valid}
 use Rattle.hoa_writer.proofs.ReadBackTokens.{canonical_reads}
-use Rattle.hoa_writer.specs.CanonicalText.{canonical_text}
-use Rattle.hoa_writer.specs.CanonicalWritten.{ReadsBack}
+use Rattle.hoa_writer.specs.CanonicalWritten.{CanonicalTextReadsBack}
 
-pub text_reads_back : (a : Automaton) (name : Option (List ℕ)) → a.states < 2 ^ 32 → a.sets < 2 ^ 32 → length a.names ≤ 8 → IsWellFormed a → AllPairs (λ x y. x ≢ y) a.names → MarksRise a → ReadsBack (canonical_text a name) a name
-text_reads_back a name states sets names formed differ rise =
-    let reads = canonical_reads a name states sets (omega (arith, names)) formed in
+pub text_reads_back : CanonicalTextReadsBack
+text_reads_back a name formed states sets names =
+    let reads = canonical_reads a name states sets names formed in
+    let describes = canonical_describes a name formed in
     record {
       tokens = reads.tokens;
       lexes = reads.lexes;
       most = reads.most;
       spells = reads.spells;
       alone = reads.alone;
-      valid = canonical_is_valid a name formed differ;
-      describes = canonical_describes a name formed rise;
+      valid = canonical_is_valid a name formed formed.names_differ;
+      describes = describes;
+      accepts = λ u v. let Same : Automaton → Type 0 = λ b. Accepts b u v ↔ Accepts a u v in subst Same (sym describes) (canonical_accepts_the_same a (labels_below a formed) u v);
       named = canonical_named a name;
     }

@@ -2,14 +2,12 @@
 use Rattle.std.proofs.Common.{◌≡◌, ◌≢◌, ◌==◌, ◌<◌, ◌≤◌, ◌+◌, ℕ, Bool, true, false, cond, List, [], ◌∷◌, length, filter, map, get_or, refl, sym, subst, ap, ◌∙◌, arith, AllPairs, Option, All}
 use Rattle.std.proofs.lemmas.Bool.{eqb-true}
 use Rattle.std.proofs.lemmas.List.{append-nil}
-use Rattle.std.proofs.lemmas.List.Elements.{All-map, recursion_from_All}
+use Rattle.std.proofs.lemmas.List.Elements.{recursion_from_All}
 use Rattle.std.specs.Prelude.{flat_map}
 use Rattle.std.specs.List.{AllByRecursion, enumerate_from, range_with_len}
-use Rattle.aut_base.specs.Automaton.{TreeEdge, Automaton, IsEdgeOf, IsWellFormed, tree_edge, automaton}
+use Rattle.aut_base.specs.Automaton.{TreeEdge, Automaton, IsEdgeOf, IsWellFormed}
 use Rattle.aut_base.specs.Formula.{FormulaTree}
 use Rattle.aut_base.specs.Label.{LabelTree}
-use Rattle.aut_base.specs.declared.description.Description.{Description}
-use Rattle.aut_base.specs.declared.description.Edge.{Edge}
 use Rattle.hoa_reader.proofs.DescribedLaws.{numbers_are_below}
 use Rattle.hoa_reader.specs.Described.{after_all, tree_edge_of, tree_edges_from, tree_edges_of, below, described, edges_of, marks_in_order, meanings_of, only_state, starts_of, without_repeats}
 use Rattle.hoa_parser.specs.Raw.{Written, WrittenState}
@@ -17,7 +15,8 @@ use Rattle.hoa_reader.specs.Validity.{AcceptanceLine, acceptance_of, used_states
 use Rattle.hoa_writer.proofs.CanonicalLines.{acceptance_found, names_found, starts_found, states_found}
 use Rattle.hoa_writer.proofs.CanonicalTrees.{expanded_written}
 use Rattle.hoa_writer.proofs.InOrder.{Pairs, filter_map_of, flat_map_same, in_order_already, map_flat_map, no_repeats, number_by_number, one_in_range, pairs_from, pairs_unmap}
-use Rattle.hoa_writer.specs.CanonicalWritten.{canonical, canonical_edge, canonical_label, canonical_state, canonical_written}
+use Rattle.aut_base.specs.CanonicalLabel.{canonical, canonical_label}
+use Rattle.hoa_writer.specs.CanonicalWritten.{canonical_edge, canonical_state, canonical_written}
 use Rattle.aut_base.proofs.AllByRecursion.{AllByRecursion-weaker}
 
 abbrev relabelled : ℕ → TreeEdge → TreeEdge
@@ -67,22 +66,13 @@ state_back a name q l marks =
     AllByRecursion-weaker (Stands q a.sets) (Stands q (acceptance_of w).sets) es (λ e h. (h.0, ap (λ n. marks_in_order n e.marks) (sym sets) ∙ h.1)) (ours_stand q a.sets a.edges marks) in
     ap (flat_map (tree_edges_of w)) (state_at a q l) ∙ (append-nil (tree_edges_of w (canonical_state a q)) ∙ tree_edges_back w a q 0 es stand)
 
--- the marks of each edge stand in order
-abbrev pub MarksRise : Automaton → Type 0
-MarksRise a = All (λ (e : TreeEdge). AllPairs (λ x y. x < y) e.marks) a.edges
-
--- as they do in an edge of a description, by the type of its marks
-pub marks_rise : (edges : List Edge) (d : Description) → edges ≡ d.edges → All (λ (e : Edge). AllPairs (λ x y. x < y) e.marks) edges → MarksRise (automaton d)
-marks_rise edges d same h =
-    All-map (λ (e : TreeEdge). AllPairs (λ x y. x < y) e.marks) tree_edge d.edges (subst (All (λ (e : Edge). AllPairs (λ x y. x < y) e.marks)) same h)
-
 marks_kept : (sets : ℕ) (es : List TreeEdge) → AllByRecursion (λ (e : TreeEdge). All (λ mark. mark < sets) e.marks) es → AllByRecursion (λ (e : TreeEdge). AllPairs (λ x y. x < y) e.marks) es → AllByRecursion (λ (e : TreeEdge). marks_in_order sets e.marks ≡ e.marks) es
 marks_kept sets [] all rise = tt
 marks_kept sets (e ∷ es) all rise =
     (in_order_already sets e.marks (pairs_from (λ x y. x < y) e.marks rise.0) (recursion_from_All (λ mark. mark < sets) e.marks all.0), marks_kept sets es all.1 rise.1)
 
-edges_back : (a : Automaton) (name : Option (List ℕ)) → IsWellFormed a → MarksRise a → edges_of (canonical_written a name) ≡ map (relabelled (length a.names)) a.edges
-edges_back a name h rise =
+edges_back : (a : Automaton) (name : Option (List ℕ)) → IsWellFormed a → edges_of (canonical_written a name) ≡ map (relabelled (length a.names)) a.edges
+edges_back a name h =
     let w = canonical_written a name in
     let n = a.states in
     let new = relabelled (length a.names) in
@@ -90,7 +80,7 @@ edges_back a name h rise =
     let tree_edges = recursion_from_All (IsEdgeOf a) a.edges h.edges in
     let marks : AllByRecursion (λ (e : TreeEdge). marks_in_order a.sets e.marks ≡ e.marks) a.edges =
     marks_kept a.sets a.edges (AllByRecursion-weaker (IsEdgeOf a) (λ (e : TreeEdge). All (λ mark. mark < a.sets) e.marks) a.edges (λ e k. k.marks) tree_edges)
-    (recursion_from_All (λ (e : TreeEdge). AllPairs (λ x y. x < y) e.marks) a.edges rise) in
+    (AllByRecursion-weaker (IsEdgeOf a) (λ (e : TreeEdge). AllPairs (λ x y. x < y) e.marks) a.edges (λ e k. k.marks_rise) tree_edges) in
     let order : Pairs (λ x y. x ≤ y) (map (λ (e : TreeEdge). e.from) a.edges) =
     pairs_from (λ x y. x ≤ y) (map (λ (e : TreeEdge). e.from) a.edges) (λ i j d l m. h.in_order i j d (omega (arith, l)) m) in
     ap (λ xs. flat_map (tree_edges_from w) (below (get_or xs 0 (after_all (used_states w))))) (states_found a name)
@@ -114,10 +104,10 @@ automaton_with names starts states edges sets f = record { names = names; starts
 same_automaton : (names names' : List (List ℕ)) (starts starts' : List ℕ) (states states' : ℕ) (edges edges' : List TreeEdge) (sets sets' : ℕ) (f f' : FormulaTree) → names ≡ names' → starts ≡ starts' → states ≡ states' → edges ≡ edges' → sets ≡ sets' → f ≡ f' → automaton_with names starts states edges sets f ≡ automaton_with names' starts' states' edges' sets' f'
 same_automaton names names' starts starts' states states' edges edges' sets sets' f f' p q r s t u = cc
 
-pub canonical_describes : (a : Automaton) (name : Option (List ℕ)) → IsWellFormed a → MarksRise a → described (canonical_written a name) ≡ canonical a
-canonical_describes a name h rise =
+pub canonical_describes : (a : Automaton) (name : Option (List ℕ)) → IsWellFormed a → described (canonical_written a name) ≡ canonical a
+canonical_describes a name h =
     let w = canonical_written a name in
     let line = acceptance_found a name in
     same_automaton _ a.names _ a.starts _ a.states _ (map (relabelled (length a.names)) a.edges) _ a.sets _ a.formula
-    (names_found a name) (starts_back a name h) (ap (λ xs. get_or xs 0 (after_all (used_states w))) (states_found a name)) (edges_back a name h rise)
+    (names_found a name) (starts_back a name h) (ap (λ xs. get_or xs 0 (after_all (used_states w))) (states_found a name)) (edges_back a name h)
     (ap (λ (l : AcceptanceLine). l.sets) line) (ap (λ (l : AcceptanceLine). l.formula) line)

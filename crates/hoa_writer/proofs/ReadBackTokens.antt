@@ -16,7 +16,7 @@ use Rattle.hoa_parser.specs.Grammar.ItemPhrase.{states_item, start_item, names_i
 use Rattle.hoa_parser.proofs.OneRaw.{one_raw}
 use Rattle.hoa_parser.specs.Raw as raw
 use Rattle.hoa_parser.specs.Raw.{Written, WrittenEdge, WrittenItem, WrittenState}
-use Rattle.hoa_writer.specs.CanonicalLabel.{joined}
+use Rattle.aut_base.specs.LabelText.{joined}
 use Rattle.hoa_writer.specs.CanonicalText.{line, quoted, marks_text, edge_line, state_lines, name_line, header_lines, canonical_text, formula_text}
 use Rattle.hoa_writer.specs.CanonicalWritten.{canonical_edge, canonical_state, name_items, canonical_items, canonical_written}
 use Rattle.hoa_writer.proofs.ConditionsSpelled.{text_condition, text_condition_means, condition_spelled}

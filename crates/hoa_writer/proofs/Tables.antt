@@ -5,9 +5,9 @@ use Rattle.std.proofs.lemmas.List.{append-nil, append_assoc, map-append, take_al
 use Rattle.std.specs.Bool.{beq}
 use Rattle.std.specs.Cmp.Lexicographic.{pointwise}
 use Rattle.std.specs.Prelude.{codes}
-use Rattle.hoa_writer.specs.CanonicalLabel.{Literal, valuations}
+use Rattle.aut_base.specs.CanonicalLabel.{Literal}
 use Rattle.hoa_writer.specs.Pieces.{cube_piece, pieces_after}
-use Rattle.hoa_writer.specs.Tables.{table_cubes, is_any, WritesCubes}
+use Rattle.hoa_writer.specs.Tables.{table_order, table_cubes, is_any, WritesCubes}
 use Rattle.hoa_writer.proofs.Pieces.{map-map, pieces_split, is_any-map, is_any-append}
 
 map_same : {A B : Type 0} (f g : A → B) → ((x : A) → f x ≡ g x) → (xs : List A) → map f xs ≡ map g xs
@@ -22,13 +22,13 @@ map-front f front a lists =
 
 -- the truths under the valuations that begin so
 abbrev pub truths_from : (List Bool → Bool) → List Bool → ℕ → List Bool
-truths_from f front k = map (λ rest. f (front ++ rest)) (valuations k)
+truths_from f front k = map (λ rest. f (front ++ rest)) (table_order k)
 
 truths_suc : (f : List Bool → Bool) (front : List Bool) (k : ℕ) → truths_from f front (suc k) ≡ truths_from f (front ++ false ∷ []) k ++ truths_from f (front ++ true ∷ []) k
 truths_suc f front k =
-    map-append (λ rest. f (front ++ rest)) (map (λ v. false ∷ v) (valuations k)) (map (λ v. true ∷ v) (valuations k))
-    ∙ (ap (λ xs. xs ++ map (λ rest. f (front ++ rest)) (map (λ v. true ∷ v) (valuations k))) (map-front f front false (valuations k))
-    ∙ ap (λ xs. truths_from f (front ++ false ∷ []) k ++ xs) (map-front f front true (valuations k)))
+    map-append (λ rest. f (front ++ rest)) (map (λ v. false ∷ v) (table_order k)) (map (λ v. true ∷ v) (table_order k))
+    ∙ (ap (λ xs. xs ++ map (λ rest. f (front ++ rest)) (map (λ v. true ∷ v) (table_order k))) (map-front f front false (table_order k))
+    ∙ ap (λ xs. truths_from f (front ++ false ∷ []) k ++ xs) (map-front f front true (table_order k)))
 
 -- a whole valuation has one truth
 pub truths_end : (f : List Bool → Bool) (v : List Bool) (place : ℕ) → place ≡ length v → f v ∷ [] ≡ truths_from f (take place v) (length v - place)

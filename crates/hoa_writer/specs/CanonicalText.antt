@@ -4,7 +4,7 @@ use Rattle.std.specs.Fmt.{decimal}
 use Rattle.std.specs.List.{range_with_len}
 use Rattle.aut_base.specs.Automaton.{TreeEdge, Automaton}
 use Rattle.aut_base.specs.Formula.{FormulaTree, FormulaTrees, True, False, Inf, Fin, And, Or, none, more}
-use Rattle.hoa_writer.specs.CanonicalLabel.{joined, label_text}
+use Rattle.aut_base.specs.LabelText.{joined, label_text}
 
 -- the bytes and a line feed
 abbrev pub line : List ℕ → List ℕ

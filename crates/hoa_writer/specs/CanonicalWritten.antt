@@ -1,9 +1,12 @@
 -- What the canonical text of an automaton writes, and that it reads back as the automaton.
-use Rattle.std.specs.Prelude.{◌≡◌, ℕ, ◌==◌, if◌then◌else◌, List, [], ◌∷◌, ◌++◌, length, map, filter, codes, Option, Some, None}
+use Rattle.std.specs.Prelude.{◌≡◌, ◌↔◌, ◌<◌, ◌^◌, ℕ, ◌==◌, if◌then◌else◌, List, [], ◌∷◌, ◌++◌, length, map, filter, codes, Option, Some, None}
 use Rattle.std.specs.List.{range_with_len}
-use Rattle.aut_base.specs.Automaton.{TreeEdge, Automaton}
+use Rattle.aut_base.specs.Acceptance.{Accepts}
+use Rattle.aut_base.specs.Automaton.{TreeEdge, Automaton, IsWellFormed}
+use Rattle.aut_base.specs.CanonicalLabel.{canonical, canonical_label}
 use Rattle.aut_base.specs.Label as label
-use Rattle.aut_base.specs.Label.{LabelTree, trees}
+use Rattle.aut_base.specs.Label.{LabelTree}
+use Rattle.aut_base.specs.Word.{NameSet}
 use Rattle.hoa_lexer.specs.Laws.{HasTokens}
 use Rattle.hoa_lexer.specs.declared.token.Token.{Token}
 use Rattle.hoa_reader.specs.Described.{described}
@@ -12,28 +15,7 @@ use Rattle.hoa_parser.specs.Naming.{name_of}
 use Rattle.hoa_parser.specs.Raw as raw
 use Rattle.hoa_parser.specs.Raw.{RawTree, Written, WrittenEdge, WrittenItem, WrittenState, raw_trees}
 use Rattle.hoa_reader.specs.Validity.{IsValid}
-use Rattle.hoa_writer.specs.CanonicalLabel.{Literal, cubes, truth_on}
-
--- a label as cubes write it: no cube is `f`, one empty cube is `t`
-abbrev pub literal_tree : Literal → LabelTree
-literal_tree l = if l.holds then label.Prop l.prop else label.Not (label.Prop l.prop)
-
-abbrev pub all_of : List LabelTree → LabelTree
-all_of [] = label.True
-all_of (t ∷ []) = t
-all_of (t ∷ u ∷ us) = label.And t u (trees us)
-
-abbrev pub one_of : List LabelTree → LabelTree
-one_of [] = label.False
-one_of (t ∷ []) = t
-one_of (t ∷ u ∷ us) = label.Or t u (trees us)
-
-abbrev pub cubes_tree : List (List Literal) → LabelTree
-cubes_tree cs = one_of (map (λ cube. all_of (map literal_tree cube)) cs)
-
--- the canonical form of a label over n propositions
-abbrev pub canonical_label : ℕ → LabelTree → LabelTree
-canonical_label n t = cubes_tree (cubes 0 n (truth_on t))
+use Rattle.hoa_writer.specs.CanonicalText.{canonical_text}
 
 -- the label as it is written, without aliases
 abbrev mutual
@@ -78,12 +60,8 @@ canonical_written a name = record {
   states = map (canonical_state a) (range_with_len 0 a.states);
 }
 
--- the automaton with each label in its canonical form
-abbrev pub canonical : Automaton → Automaton
-canonical a = record a { edges = map (λ (e : TreeEdge). record e { label = canonical_label (length a.names) e.label }) a.edges }
-
 -- The text's tokens spell one automaton and no other. It is valid, and it describes the one that was written, with each
--- label in its canonical form. No limit of a reader plays a part.
+-- label in its canonical form, so it accepts the same words. No limit of a reader plays a part.
 pub record ReadsBack (text : List ℕ) (a : Automaton) (name : Option (List ℕ)) : Type 0 where
   pub tokens : List Token
   pub lexes : HasTokens text 0 tokens
@@ -92,4 +70,9 @@ pub record ReadsBack (text : List ℕ) (a : Automaton) (name : Option (List ℕ)
   pub alone : (n : ℕ) (w : Written) → Spells n tokens w → w ≡ canonical_written a name
   pub valid : IsValid (canonical_written a name)
   pub describes : described (canonical_written a name) ≡ canonical a
+  pub accepts : (u v : List NameSet) → Accepts (described (canonical_written a name)) u v ↔ Accepts a u v
   pub named : name_of (canonical_written a name) ≡ name
+
+-- The canonical text of every well-formed automaton reads back, whose numbers a lexer can read.
+abbrev pub CanonicalTextReadsBack : Type 0
+CanonicalTextReadsBack = (a : Automaton) (name : Option (List ℕ)) → IsWellFormed a → a.states < 2 ^ 32 → a.sets < 2 ^ 32 → length a.names < 2 ^ 32 → ReadsBack (canonical_text a name) a name

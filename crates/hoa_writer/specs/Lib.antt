@@ -1,4 +1,3 @@
-pub mod CanonicalLabel
 pub mod CanonicalText
 pub mod CanonicalWritten
 pub mod Lines

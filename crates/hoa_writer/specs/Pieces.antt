@@ -1,7 +1,8 @@
 -- Texts that are made of pieces.
 use Rattle.std.specs.Prelude.{ℕ, Bool, true, false, List, [], ◌∷◌, ◌++◌, flat_map, codes}
 use Rattle.aut_base.specs.Formula.{FormulaTree}
-use Rattle.hoa_writer.specs.CanonicalLabel.{Literal, joined, cube_text}
+use Rattle.aut_base.specs.CanonicalLabel.{Literal}
+use Rattle.aut_base.specs.LabelText.{joined, cube_text}
 use Rattle.hoa_writer.specs.CanonicalText.{formula_text, part}
 
 -- the pieces, each after the separator

@@ -1,16 +1,22 @@
--- The cubes of a truth function that is given by its table.
+-- The cubes of a truth function that is given by its table. A table has the first proposition varying slowest, so that its
+-- halves are the tables where that proposition fails and where it holds.
 use Rattle.std.specs.Prelude.{◌≡◌, ℕ, zero, suc, ◌+◌, ◌^◌, Bool, true, false, ◌||◌, if◌then◌else◌, List, [], ◌∷◌, ◌++◌, map, take, drop, codes}
 use Rattle.std.specs.Bool.{beq}
 use Rattle.std.specs.Cmp.Lexicographic.{pointwise}
 use Rattle.std.specs.List.{slice_index_or}
-use Rattle.hoa_writer.specs.CanonicalLabel as canonical
+use Rattle.aut_base.specs.CanonicalLabel as canonical
 use Rattle.hoa_writer.specs.Pieces.{cube_piece, pieces_after}
 use Rattle.hoa_writer.specs.declared.label.Literal.{Literal}
+
+-- all valuations of n propositions, as they stand in a table
+abbrev pub table_order : ℕ → List (List Bool)
+table_order zero = [] ∷ []
+table_order (suc n) = map (λ v. false ∷ v) (table_order n) ++ map (λ v. true ∷ v) (table_order n)
 
 abbrev pub literal_of : Literal → canonical.Literal
 literal_of l = record { prop = l.prop; holds = l.holds }
 
--- the cubes, where the table has the truth for each valuation in order
+-- the cubes, where the table has the truth under each valuation in that order
 abbrev pub table_cubes : ℕ → ℕ → List Bool → List (List canonical.Literal)
 table_cubes i zero table = if slice_index_or table 0 false then [] ∷ [] else []
 table_cubes i (suc n) table =

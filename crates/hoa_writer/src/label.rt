@@ -2,9 +2,10 @@
 
 ghost use Rattle.std.specs.Prelude.{◌≡◌, ◌++◌, ◌-◌, ◌+◌, ◌≤◌, ◌^◌, [], ◌∷◌, map, take, length, OnOk, IfOk};
 ghost use Rattle.aut_base.specs.Label.{AllBelow, label_tree};
-ghost use Rattle.hoa_writer.specs.CanonicalLabel.{valuations, truth_on, label_text, literal_text};
+ghost use Rattle.aut_base.specs.LabelText.{label_text, literal_text};
+ghost use Rattle.aut_base.specs.Valuation.{truth_on};
 ghost use Rattle.hoa_writer.specs.Pieces.{cube_piece};
-ghost use Rattle.hoa_writer.specs.Tables.{literal_of, WritesCubes};
+ghost use Rattle.hoa_writer.specs.Tables.{table_order, literal_of, WritesCubes};
 
 use crate::number::push_number;
 use aut_base::{Label, Memory, Text};
@@ -64,7 +65,7 @@ pub(crate) fn push_label(out: &mut Text, room: &mut Room, label: &Label) -> Resu
 /// Makes the table of a label, and begins with no literal.
 fn tabulate(room: &mut Room, label: &Label) -> Result<(), Memory>
     requires { AllBelow (length room.old.valuation.items) (label_tree label.now) }
-    ensures table { OnOk result (room.new.table.items ≡ map (truth_on (label_tree label.now)) (valuations (length room.old.valuation.items))) }
+    ensures table { OnOk result (room.new.table.items ≡ map (truth_on (label_tree label.now)) (table_order (length room.old.valuation.items))) }
     ensures size { OnOk result (length room.new.valuation.items ≡ length room.old.valuation.items) }
     ensures cube { OnOk result (room.new.cube.items ≡ []) }
 {
@@ -82,7 +83,7 @@ fn push_truths(
 ) -> Result<(), Memory>
     requires within { place ≤ length valuation.old }
     requires below { AllBelow (length valuation.old) (label_tree label.now) }
-    ensures table { OnOk result (table.new.items ≡ table.old.items ++ map (λ rest. truth_on (label_tree label.now) (take place valuation.old ++ rest)) (valuations (length valuation.old - place))) }
+    ensures table { OnOk result (table.new.items ≡ table.old.items ++ map (λ rest. truth_on (label_tree label.now) (take place valuation.old ++ rest)) (table_order (length valuation.old - place))) }
     ensures kept { OnOk result (take place valuation.new ≡ take place valuation.old) }
 {
     if place == valuation.len() {

@@ -1,6 +1,5 @@
 //! Texts whose bytes are written by hand.
 
-use crate::formed::{is_below, is_well_formed};
 use crate::formula::push_formula;
 use crate::label::{Room, push_label};
 use crate::write_description;
@@ -22,14 +21,22 @@ fn or(alloc: Global, first: Label, second: Label) -> Result<Label, Memory> {
     Ok(Label::Or(Labels::pair(alloc, first, second)?))
 }
 
-fn label_text(alloc: Global, names: u32, label: &Label) -> Result<Text, Memory> {
+/// Whether a label over this many names has this text.
+fn has_text(alloc: Global, names: usize, label: Label, wanted: &[u8]) -> Result<bool, Memory> {
     let mut out = Text::new(alloc);
-    if names > 8 || !is_below(label, names) {
+    if names > 8 || !label.is_below(names) {
         return Err(Memory);
     }
-    let mut room = Room::new(alloc, names as usize)?;
-    push_label(&mut out, &mut room, label)?;
-    Ok(out)
+    let mut room = Room::new(alloc, names)?;
+    push_label(&mut out, &mut room, &label)?;
+    Ok(out.as_bytes() == wanted)
+}
+
+/// The first three propositions, all of them or at least one.
+fn three(alloc: Global) -> Result<Labels, Memory> {
+    let mut parts = Labels::pair(alloc, Label::Prop(0), Label::Prop(1))?;
+    parts.push(Label::Prop(2))?;
+    Ok(parts)
 }
 
 #[test]
@@ -38,23 +45,16 @@ fn labels_stand_by_their_cubes(rt: HostRuntime) -> Result<(), Fail> {
     let with_two = and(alloc, Label::Prop(0), Label::Prop(2))?;
     let also = and(alloc, Label::Prop(1), Label::Prop(2))?;
     let either = or(alloc, with_two, also)?;
-    assert_eq!(rt;
-        label_text(alloc, 3, &either)?.as_bytes(),
-        b"!0&1&2 | 0&2".as_slice()
-    );
+    assert!(rt; has_text(alloc, 3, either, b"!0&1&2 | 0&2")?);
     let some = or(alloc, Label::Prop(1), Label::Prop(0))?;
     let same = and(alloc, Label::Prop(2), some)?;
-    assert_eq!(rt;
-        label_text(alloc, 3, &same)?.as_bytes(),
-        b"!0&1&2 | 0&2".as_slice()
-    );
-    let some = or(alloc, Label::Prop(0), Label::Prop(1))?;
-    assert_eq!(rt;
-        label_text(alloc, 2, &some)?.as_bytes(),
-        b"!0&1 | 0".as_slice()
-    );
+    assert!(rt; has_text(alloc, 3, same, b"!0&1&2 | 0&2")?);
+    let some = Label::Or(three(alloc)?);
+    assert!(rt; has_text(alloc, 3, some, b"!0&!1&2 | !0&1 | 0")?);
+    let all = Label::And(three(alloc)?);
+    assert!(rt; has_text(alloc, 4, all, b"0&1&2")?);
     let last = not(alloc, Label::Prop(7))?;
-    assert_eq!(rt; label_text(alloc, 8, &last)?.as_bytes(), b"!7".as_slice());
+    assert!(rt; has_text(alloc, 8, last, b"!7")?);
     Ok(())
 }
 
@@ -62,17 +62,11 @@ fn labels_stand_by_their_cubes(rt: HostRuntime) -> Result<(), Fail> {
 fn constant_labels_are_letters(rt: HostRuntime) -> Result<(), Fail> {
     let alloc = rt.alloc();
     let never = and(alloc, Label::Prop(0), not(alloc, Label::Prop(0))?)?;
-    assert_eq!(rt; label_text(alloc, 1, &never)?.as_bytes(), b"f".as_slice());
+    assert!(rt; has_text(alloc, 1, never, b"f")?);
     let always = or(alloc, Label::Prop(0), not(alloc, Label::Prop(0))?)?;
-    assert_eq!(rt; label_text(alloc, 3, &always)?.as_bytes(), b"t".as_slice());
-    assert_eq!(rt;
-        label_text(alloc, 3, &Label::True)?.as_bytes(),
-        b"t".as_slice()
-    );
-    assert_eq!(rt;
-        label_text(alloc, 0, &Label::False)?.as_bytes(),
-        b"f".as_slice()
-    );
+    assert!(rt; has_text(alloc, 3, always, b"t")?);
+    assert!(rt; has_text(alloc, 3, Label::True, b"t")?);
+    assert!(rt; has_text(alloc, 0, Label::False, b"f")?);
     Ok(())
 }
 
@@ -128,7 +122,7 @@ fn plain(alloc: Global, names: Names, states: u32, starts: &[u32]) -> Result<Des
 }
 
 fn text_of(alloc: Global, description: &Description, name: &[u8]) -> Result<Text, Memory> {
-    if description.names.len() > 8 || !is_well_formed(description) {
+    if description.names.len() > 8 || !description.is_well_formed() {
         return Err(Memory);
     }
     if name.is_empty() {

@@ -1,6 +1,6 @@
 //! The lines of the text.
 
-ghost use Rattle.std.specs.Prelude.{◌≡◌, ◌<◌, ◌≤◌, ◌^◌, ◌++◌, All, AllPairs, length, map, take, drop, flat_map, codes, IfOk, OnOk};
+ghost use Rattle.std.specs.Prelude.{◌≡◌, ◌<◌, ◌≤◌, ◌^◌, ◌++◌, length, map, take, drop, flat_map, codes, IfOk, OnOk};
 ghost use Rattle.std.specs.Option.{option_copied};
 ghost use Rattle.std.specs.List.{range_with_len};
 ghost use Rattle.std.specs.Fmt.{decimal};
@@ -38,7 +38,7 @@ pub fn write_description(
     Ok(out)
 }
 
-/// The canonical text reads back. Nothing is computed: names differ, marks rise and numbers are bounded by their types.
+/// The canonical text reads back. Nothing is computed: the numbers are bounded by their types.
 fn reads_back(description: &Description, _name: Option<&Text>)
     requires few { length description.now.names ≤ 8 }
     requires well_formed { IsWellFormed (automaton description.now) }
@@ -46,23 +46,12 @@ fn reads_back(description: &Description, _name: Option<&Text>)
 {
     fits(description.states);
     fits(description.sets);
-    let _names = description.names.as_slice();
-    marks_rise(description.edges.as_slice());
 }
 
 /// A number of 32 bits is below 2^32. Nothing is computed.
 fn fits(_number: u32)
     ensures { _number < 2 ^ 32 }
 {}
-
-/// The marks of each edge rise. Nothing is computed.
-fn marks_rise(edges: &[Edge])
-    ensures { All (λ e. AllPairs (λ a b. a < b) e.marks) edges.now }
-{
-    'edges: for edge in edges {
-        let _marks = edge.marks.as_slice();
-    }
-}
 
 /// Adds the lines before the body.
 fn push_header(out: &mut Text, description: &Description, name: Option<&Text>) -> Result<(), Memory>

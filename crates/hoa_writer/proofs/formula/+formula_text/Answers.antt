@@ -1,24 +1,25 @@
 use Rattle.std.proofs.Common.{◌∙◌, sym, ap, arith, refl, ◌++◌, take}
 use Rattle.std.proofs.lemmas.Result.{on_ok_weaker}
 use Rattle.std.specs.Prelude.{codes}
-use Rattle.aut_base.specs.Formula.{formula_tree, formula_list}
+use Rattle.aut_base.proofs.FormulaSizes.{formula_size-And, formula_size-Or, formula_size-at}
+use Rattle.aut_base.specs.Formula.{formula_list, formula_size, formula_tree}
 use Rattle.aut_base.proofs.FormulaTrees.{formula_tree-Inf, formula_tree-Fin}
 use Rattle.hoa_writer.specs.CanonicalText.{formula_text, set_text}
 use Rattle.hoa_writer.specs.Pieces.{list_text, part_text}
-use Rattle.hoa_writer.proofs.Formulas.{size, size-And, size-Or, size_part, text-And, text-Or, list_more}
+use Rattle.hoa_writer.proofs.Formulas.{text-And, text-Or, list_more}
 use Rattle.hoa_writer.proofs.Pieces.{two_written}
 use Rattle.hoa_writer.proofs.formula.+formula_text.Goals as goal
 
 pub push_formula-push_parts-requires : goal.push_formula-push_parts-requires
 push_formula-push_parts-requires t c =
-    let larger = size-And c.in-And.parts in
-    let same = ap (λ f. size (formula_tree f)) c.in-And.is in
+    let larger = formula_size-And c.in-And.parts in
+    let same = ap (λ f. formula_size (formula_tree f)) c.in-And.is in
     (omega arith, tt)
 
 pub push_formula-push_parts-requires-in-Or : goal.push_formula-push_parts-requires-in-Or
 push_formula-push_parts-requires-in-Or t c =
-    let larger = size-Or c.in-Or.parts in
-    let same = ap (λ f. size (formula_tree f)) c.in-Or.is in
+    let larger = formula_size-Or c.in-Or.parts in
+    let same = ap (λ f. formula_size (formula_tree f)) c.in-Or.is in
     (omega arith, tt)
 
 pub push_formula-returns-in_ok-extend-in-Inf : goal.push_formula-returns-in_ok-extend-in-Inf
@@ -47,7 +48,7 @@ push_formula-returns-in-Or t c =
 
 pub push_parts-push_part-requires-in-parts : goal.push_parts-push_part-requires-in-parts
 push_parts-push_part-requires-in-parts t c =
-    let smaller = size_part (formula_list c.args.parts.now) c.parts.place (formula_tree c.at-in-parts.result.now) c.at-in-parts.ensures in
+    let smaller = formula_size-at (formula_list c.args.parts.now) c.parts.place (formula_tree c.at-in-parts.result.now) c.at-in-parts.ensures in
     (omega arith, tt)
 
 pub push_parts-parts-preserved : goal.push_parts-parts-preserved

@@ -2,7 +2,7 @@ use Rattle.std.proofs.Common.{◌≡◌, ◌<◌, ◌∙◌, ap, arith, length, 
 use Rattle.std.proofs.lemmas.List.{length-set}
 use Rattle.std.proofs.lemmas.Result.{on_ok_weaker}
 use Rattle.aut_base.specs.Label.{label_tree}
-use Rattle.hoa_writer.specs.CanonicalLabel.{truth_on}
+use Rattle.aut_base.specs.Valuation.{truth_on}
 use Rattle.hoa_writer.proofs.Tables.{truths_end, truths_both, front_kept}
 use Rattle.hoa_writer.proofs.label.+push_truths.Goals as goal
 

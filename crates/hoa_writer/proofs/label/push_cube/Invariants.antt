@@ -2,7 +2,7 @@
 use Rattle.std.proofs.Common.{◌≡◌, ◌++◌, take}
 use Rattle.std.specs.List.{flat_map}
 use Rattle.std.specs.Prelude.{codes}
-use Rattle.hoa_writer.specs.CanonicalLabel.{literal_text}
+use Rattle.aut_base.specs.LabelText.{literal_text}
 use Rattle.hoa_writer.specs.Tables.{literal_of}
 use Rattle.hoa_writer.proofs.label.push_cube.Given as goal
 

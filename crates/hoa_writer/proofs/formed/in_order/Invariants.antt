@@ -1,6 +1,0 @@
-use Rattle.std.proofs.Common.{◌≤◌}
-use Rattle.std.specs.List.{AllAdjacentBelow}
-use Rattle.hoa_writer.proofs.formed.in_order.Given as goal
-
-abbrev pub invariant-edges : goal.invariant-edges
-invariant-edges l = AllAdjacentBelow (λ x y. x.from ≤ y.from) l.edges l.i

@@ -1,6 +1,0 @@
--- The starts so far are others.
-use Rattle.std.proofs.Common.{◌≢◌, ℕ, ◌<◌, get_or}
-use Rattle.hoa_writer.proofs.formed.is_new.Given as goal
-
-abbrev pub invariant-starts : goal.invariant-starts
-invariant-starts l = (j : ℕ) → j < l.k → get_or l.starts j 0 ≢ get_or l.starts l.i 0
