@@ -1,5 +1,5 @@
 use Rattle.hoa_reader.proofs.DescribingExamples as examples
-use Rattle.hoa_parser.proofs.laws.describing_examples.Goals as goal
+use Rattle.hoa_reader.proofs.laws.describing_examples.Goals as goal
 
 pub returns : goal.returns
 returns c = examples.describing_examples

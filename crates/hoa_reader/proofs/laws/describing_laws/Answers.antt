@@ -1,6 +1,6 @@
 use Rattle.hoa_reader.proofs.DescribedWellFormed.{valid_is_well_formed}
 use Rattle.hoa_reader.proofs.ValidityLaws as validity
-use Rattle.hoa_parser.proofs.laws.describing_laws.Goals as goal
+use Rattle.hoa_reader.proofs.laws.describing_laws.Goals as goal
 
 pub returns : goal.returns
 returns c = record { one_first = validity.one_first; none_first = validity.none_first; well_formed = valid_is_well_formed }
