@@ -263,7 +263,9 @@ worked_examples = record {
     leads = refl;
     positive = lit< tt;
     returns = (
-      refl, (0, lit< tt, refl), refl,
+      refl,
+      (0, lit< tt, refl),
+      refl,
       (refl, (1, lit< tt, refl), refl, (refl, (0, lit< tt, refl), refl, (refl, (1, lit< tt, refl), refl, (refl, (0, lit< tt, refl), refl, (refl, (1, lit< tt, refl), refl, refl))))),
     );
     meets = refl;

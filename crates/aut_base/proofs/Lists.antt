@@ -39,7 +39,6 @@ slice_get-at (y ∷ ys) (suc i) x l is = slice_get-at ys i x (omega (arith, l)) 
 pub drop-at : {X : Type 0} (xs : List X) (i : ℕ) (x : X) → i < length xs → x ≡ get_or xs i x → drop i xs ≡ x ∷ drop (i + 1) xs
 drop-at xs i x l is = drop_more xs i x l ∙ ap (λ y. y ∷ drop (i + 1) xs) (sym is)
 
-
 pub take-push : {X : Type 0} (xs : List X) (i : ℕ) (x : X) → i < length xs → x ≡ get_or xs i x → take (i + 1) xs ≡ take i xs ++ x ∷ []
 take-push xs i x l is = take_more xs i x l ∙ ap (λ y. take i xs ++ y ∷ []) (sym is)
 
@@ -59,7 +58,6 @@ drop-slice_get xs i x is = let next : suc i ≡ i + 1 = omega arith in drop-slic
 -- one byte more taken
 pub drop_one_more : {A : Type 0} (taken : ℕ) (text : List A) → drop (taken + 1) text ≡ drop 1 (drop taken text)
 drop_one_more taken text = sym (drop-drop 1 taken text)
-
 
 pub slice_get-behind_two : {A : Type 0} (a b : A) (xs : List A) (place : ℕ) → 2 ≤ place → slice_get (a ∷ b ∷ xs) place ≡ slice_get xs (place - 2)
 slice_get-behind_two a b xs zero h = absurd (omega arith)
@@ -85,7 +83,6 @@ list_all-same p q h (x ∷ xs) = ap (λ b. b && list_all p xs) (h x) ∙ ap (λ 
 pub list_all-flat_map : {X Y : Type 0} (p : Y → Bool) (f : X → List Y) (xs : List X) → list_all p (flat_map f xs) ≡ list_all (λ x. list_all p (f x)) xs
 list_all-flat_map p f [] = refl
 list_all-flat_map p f (x ∷ xs) = list_all-append p (f x) (flat_map f xs) ∙ ap (λ b. list_all p (f x) && b) (list_all-flat_map p f xs)
-
 
 pub list_all-push : (p : ℕ → Bool) (b : ℕ) (seen : List ℕ) → list_all p seen ≡ true → p b ≡ true → list_all p (seen ++ b ∷ []) ≡ true
 list_all-push p b seen h k = list_all-append p seen (b ∷ []) ∙ and_from _ _ h (and_from _ _ k refl)
