@@ -1,6 +1,7 @@
 //! The canonical text of a label.
 
 ghost use Rattle.std.specs.Prelude.{◌≡◌, ◌++◌, ◌-◌, ◌+◌, ◌≤◌, ◌^◌, [], ◌∷◌, map, take, length, OnOk, IfOk};
+ghost use Rattle.aut_base.specs.declared.limit.TheConstants.{MOST_NAMES};
 ghost use Rattle.aut_base.specs.Label.{AllBelow, label_tree};
 ghost use Rattle.aut_base.specs.LabelText.{label_text, literal_text};
 ghost use Rattle.aut_base.specs.Valuation.{truth_on};
@@ -44,7 +45,7 @@ impl Room {
 
 /// Adds the canonical text of a label.
 pub(crate) fn push_label(out: &mut Text, room: &mut Room, label: &Label) -> Result<(), Memory>
-    requires few { length room.old.valuation.items ≤ 8 }
+    requires few { length room.old.valuation.items ≤ MOST_NAMES }
     requires below { AllBelow (length room.old.valuation.items) (label_tree label.now) }
     ensures text { OnOk result (out.new ≡ out.old ++ label_text (length room.old.valuation.items) (label_tree label.now)) }
     ensures room { OnOk result (length room.new.valuation.items ≡ length room.old.valuation.items) }
@@ -108,7 +109,7 @@ fn push_cubes(
     left: u32,
     is_written: bool,
 ) -> Result<bool, Memory>
-    requires few { prop + left ≤ 8 }
+    requires few { prop + left ≤ MOST_NAMES }
     requires size { length table.now ≡ 2 ^ left }
     ensures kept { OnOk result (cube.new.items ≡ cube.old.items) }
     ensures cubes { IfOk result (λ now. WritesCubes (map literal_of cube.old.items) table.now prop left is_written now out.old out.new) }
@@ -145,7 +146,7 @@ fn push_half(
     left: u32,
     is_written: bool,
 ) -> Result<bool, Memory>
-    requires few { literal.prop + 1 + left ≤ 8 }
+    requires few { literal.prop + 1 + left ≤ MOST_NAMES }
     requires size { length table.now ≡ 2 ^ left }
     ensures kept { OnOk result (cube.new.items ≡ cube.old.items) }
     ensures cubes { IfOk result (λ now. WritesCubes (map literal_of cube.old.items ++ literal_of literal ∷ []) table.now (literal.prop + 1) left is_written now out.old out.new) }

@@ -4,6 +4,7 @@ ghost use Rattle.std.specs.Prelude.{◌≡◌, ◌<◌, ◌≤◌, ◌^◌, ◌+
 ghost use Rattle.std.specs.Option.{option_copied};
 ghost use Rattle.std.specs.List.{range_with_len};
 ghost use Rattle.std.specs.Fmt.{decimal};
+ghost use Rattle.aut_base.specs.declared.limit.TheConstants.{MOST_NAMES};
 ghost use Rattle.aut_base.specs.Label.{AllBelow};
 ghost use Rattle.aut_base.specs.Automaton.{tree_edge, automaton, IsWellFormed};
 ghost use Rattle.aut_base.specs.Formula.{formula_tree};
@@ -24,7 +25,7 @@ pub fn write_description(
     description: &Description,
     name: Option<&Text>,
 ) -> Result<Text, Memory>
-    requires few { length description.now.names ≤ 8 }
+    requires few { length description.now.names ≤ MOST_NAMES }
     requires well_formed { IsWellFormed (automaton description.now) }
     ensures text { IfOk result (λ text. text ≡ canonical_text (automaton description.now) (option_copied name.entry)) }
     ensures reads_back { ReadsBack (canonical_text (automaton description.now) (option_copied name.entry)) (automaton description.now) (option_copied name.entry) }
@@ -40,7 +41,7 @@ pub fn write_description(
 
 /// The canonical text reads back. Nothing is computed: the numbers are bounded by their types.
 fn reads_back(description: &Description, _name: Option<&Text>)
-    requires few { length description.now.names ≤ 8 }
+    requires few { length description.now.names ≤ MOST_NAMES }
     requires well_formed { IsWellFormed (automaton description.now) }
     ensures { ReadsBack (canonical_text (automaton description.now) (option_copied _name.entry)) (automaton description.now) (option_copied _name.entry) }
 {
@@ -55,7 +56,7 @@ fn fits(_number: u32)
 
 /// Adds the lines before the body.
 fn push_header(out: &mut Text, description: &Description, name: Option<&Text>) -> Result<(), Memory>
-    requires { length description.now.names ≤ 8 }
+    requires { length description.now.names ≤ MOST_NAMES }
     ensures { OnOk result (out.new ≡ out.old ++ header_lines (automaton description.now) (option_copied name.entry)) }
 {
     out.extend(b"HOA: v1\n")?;
@@ -102,7 +103,7 @@ fn push_starts(out: &mut Text, starts: &[u32]) -> Result<(), Memory>
 
 /// Adds the line of the atomic propositions.
 fn push_names(out: &mut Text, names: &[Text]) -> Result<(), Memory>
-    requires { length names.now ≤ 8 }
+    requires { length names.now ≤ MOST_NAMES }
     ensures { OnOk result (out.new ≡ out.old ++ names_line names.now) }
 {
     out.extend(b"AP: ")?;
@@ -127,7 +128,7 @@ fn push_acceptance(out: &mut Text, sets: u32, formula: &Formula) -> Result<(), M
 
 /// Adds the states with their edges.
 fn push_states(alloc: Global, out: &mut Text, description: &Description) -> Result<(), Memory>
-    requires few { length description.now.names ≤ 8 }
+    requires few { length description.now.names ≤ MOST_NAMES }
     requires well_formed { IsWellFormed (automaton description.now) }
     ensures { OnOk result (out.new ≡ out.old ++ flat_map (state_lines (automaton description.now)) (range_with_len 0 description.now.states)) }
 {
@@ -149,7 +150,7 @@ fn push_edges(
     place: usize,
     state: u32,
 ) -> Result<usize, Memory>
-    requires few { length room.old.valuation.items ≤ 8 }
+    requires few { length room.old.valuation.items ≤ MOST_NAMES }
     requires lead { LeadFrom (length room.old.valuation.items) state edges.now place }
     ensures room { OnOk result (length room.new.valuation.items ≡ length room.old.valuation.items) }
     ensures edges { IfOk result (λ after. WritesEdges (length room.old.valuation.items) state edges.now place after out.old out.new) }
@@ -168,7 +169,7 @@ fn push_edges(
 
 /// Adds the line of an edge.
 fn push_edge(out: &mut Text, room: &mut Room, edge: &Edge) -> Result<(), Memory>
-    requires few { length room.old.valuation.items ≤ 8 }
+    requires few { length room.old.valuation.items ≤ MOST_NAMES }
     requires below { AllBelow (length room.old.valuation.items) (tree_edge edge.now).label }
     ensures room { OnOk result (length room.new.valuation.items ≡ length room.old.valuation.items) }
     ensures line { OnOk result (out.new ≡ out.old ++ edge_line (length room.old.valuation.items) (tree_edge edge.now)) }
