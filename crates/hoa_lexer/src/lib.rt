@@ -1,5 +1,9 @@
 //! The tokens of HOA v1, read byte by byte: each the longest that the bytes allow, and not one byte more is
 //! taken than tells that it ends.
+//!
+//! A caller sees the lexer, its tokens and faults, and laws. What the next token of a text is stands in `specs/Text` and
+//! `specs/Spelling`, and what an answer says in these terms in `specs/Reading` and `specs/All`. `specs/Steps`, `Blanks`
+//! and `Bytes` speak of the inner functions.
 #![tactic(auto)]
 
 mod laws;
