@@ -1,7 +1,6 @@
 pub mod Acceptance
 pub mod Automaton
 pub mod CanonicalLabel
-pub mod Distinct
 pub mod Examples
 pub mod Formula
 pub mod Label
@@ -13,3 +12,4 @@ pub mod Marks
 pub mod Text
 pub mod Valuation
 pub mod Word
+pub mod inner

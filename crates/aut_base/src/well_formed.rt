@@ -3,7 +3,7 @@
 ghost use Rattle.std.specs.Prelude.{◌≢◌, ℕ, ◌<◌, ◌≤◌, ◌↔◌, IsTrue, All, AllPairs, length, map};
 ghost use Rattle.std.specs.List.Sorted.{IsNonDecreasing};
 ghost use Rattle.aut_base.specs.Automaton.{tree_edge, automaton, IsEdgeOf, IsWellFormed};
-ghost use Rattle.aut_base.specs.Distinct.{DiffersFromEarlier};
+ghost use Rattle.aut_base.specs.inner.Distinct.{DiffersFromEarlier};
 
 use crate::{Description, Edge};
 

@@ -6,14 +6,14 @@ use Rattle.aut_base.specs.declared.limit.Limit.{Limit}
 use Rattle.aut_base.specs.declared.limit.Limit.TheVariants as limit
 use Rattle.autfilt_command.specs.Laws.{IsByText, OneEnd, OneFront}
 use Rattle.autfilt_command.specs.Run.{AreRead, EndsAt, IsRead, Prints, ReadsTo, Runs, StandsWith, place}
-use Rattle.autfilt_command.specs.Running.{end_of, is_some_automaton}
+use Rattle.autfilt_command.specs.inner.Running.{end_of, is_some_automaton}
 use Rattle.autfilt_command.specs.declared.ended.End.{End}
 use Rattle.autfilt_command.specs.declared.ended.End.TheVariants as end
-use Rattle.hoa_reader.proofs.ValidityLaws.{none_first, one_first}
+use Rattle.hoa_reader.proofs.validity.ValidityLaws.{none_first, one_first}
 use Rattle.hoa_reader.specs.Counts.{AreWithin, Count, Names, Sets, States, Edges, Aliases, IsWithin, PassesFirst, PassesNone, counts}
 use Rattle.hoa_reader.specs.Counts as counting
 use Rattle.hoa_reader.specs.Elaborating.{PassesLimit}
-use Rattle.hoa_reader.specs.Gathered.{limit_of}
+use Rattle.hoa_reader.specs.inner.Gathered.{limit_of}
 use Rattle.hoa_parser.specs.Raw.{Written}
 use Rattle.hoa_parser.specs.Standing as standing
 use Rattle.hoa_parser.specs.Standing.{OneStanding, Standing, Stands}

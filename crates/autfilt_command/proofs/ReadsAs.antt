@@ -4,11 +4,11 @@ use Rattle.std.proofs.lemmas.Bool.{ltb-false}
 use Rattle.autfilt_command.specs.Run.{ReadsAs, printed}
 use Rattle.hoa_parser.specs.Naming.{name_of}
 use Rattle.hoa_parser.specs.Raw.{Written}
-use Rattle.hoa_reader.proofs.DescribedWellFormed.{valid_is_well_formed}
+use Rattle.hoa_reader.proofs.description.WellFormed.{valid_is_well_formed}
 use Rattle.hoa_reader.specs.Counts.{PassesNone, States, Sets, Names, count_of}
 use Rattle.hoa_reader.specs.Described.{described}
 use Rattle.hoa_reader.specs.Validity.{IsValid}
-use Rattle.hoa_writer.proofs.ReadBack.{text_reads_back}
+use Rattle.hoa_writer.proofs.round_trip.ReadBack.{text_reads_back}
 use Rattle.hoa_writer.specs.CanonicalWritten.{canonical_written}
 
 pub reads_as : (w : Written) → IsValid w → PassesNone w → ReadsAs (printed w) w

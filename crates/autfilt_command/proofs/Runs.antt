@@ -6,11 +6,11 @@ use Rattle.autfilt_command.proofs.Gains.{both}
 use Rattle.autfilt_command.proofs.Turns.{gains_as}
 use Rattle.aut_base.proofs.AllByRecursion.{AllByRecursion-push}
 use Rattle.autfilt_command.specs.Run.{AllReadAs, AreRead, AsksForTooMany, BreaksOff, EndsAt, IsRead, Prints, ReadsAs, ReadsTo, all_printed, place, printed}
-use Rattle.autfilt_command.specs.Running.{HasRun, RunsOver, end_of, is_some_automaton}
-use Rattle.autfilt_command.specs.Turn.{EndsHere, IsPrinted, IsPrintedInPart, TurnCauses, Turns}
+use Rattle.autfilt_command.specs.inner.Running.{HasRun, RunsOver, end_of, is_some_automaton}
+use Rattle.autfilt_command.specs.inner.Turn.{EndsHere, IsPrinted, IsPrintedInPart, TurnCauses, Turns}
 use Rattle.autfilt_command.specs.declared.ended.End.{End}
 use Rattle.autfilt_command.specs.declared.ended.End.TheVariants as end
-use Rattle.hoa_lexer.proofs.Between.{between_both, between_then}
+use Rattle.hoa_lexer.proofs.next_token.Between.{between_both, between_then}
 use Rattle.hoa_lexer.specs.Blanks.{IsBlanks}
 use Rattle.hoa_lexer.specs.Reading.{Between, unread}
 use Rattle.hoa_parser.specs.Raw.{Written}

@@ -6,15 +6,15 @@ use Rattle.aut_io.specs.Outside.{Gains, GainsPrefix}
 use Rattle.autfilt_command.proofs.ReadsAs.{reads_as}
 use Rattle.autfilt_command.specs.Ends.{end_of_reading}
 use Rattle.autfilt_command.specs.Run.{IsRead, StandsWith, printed}
-use Rattle.autfilt_command.specs.Turn.{EndsHere, IsPrinted, PrintsOne, Turns}
+use Rattle.autfilt_command.specs.inner.Turn.{EndsHere, IsPrinted, PrintsOne, Turns}
 use Rattle.autfilt_command.specs.declared.ended.End.{End}
 use Rattle.autfilt_command.specs.declared.ended.End.TheVariants as end
-use Rattle.hoa_lexer.proofs.Between.{between_as}
+use Rattle.hoa_lexer.proofs.next_token.Between.{between_as}
 use Rattle.hoa_lexer.specs.Reading.{Between, held_count, unread}
 use Rattle.hoa_reader.specs.Counts.{Count, Names, Sets, States, Edges, Aliases, PassesNone}
 use Rattle.hoa_reader.specs.Described.{described}
 use Rattle.hoa_reader.specs.Elaborating.{PassesLimit}
-use Rattle.hoa_reader.specs.Gathered.{limit_of}
+use Rattle.hoa_reader.specs.inner.Gathered.{limit_of}
 use Rattle.hoa_parser.specs.Naming.{name_of}
 use Rattle.hoa_parser.specs.Raw.{Written, written}
 use Rattle.hoa_parser.specs.Reads.{Answers}

@@ -3,8 +3,8 @@
 ghost use Rattle.std.specs.Prelude.{◌≡◌, ◌≢◌, ◌↔◌, []};
 ghost use Rattle.autfilt_command.specs.Ends.{ended_of};
 ghost use Rattle.autfilt_command.specs.Run.{Calm, EndsBecause, EndsBy, Runs, input_of, standard_input};
-ghost use Rattle.autfilt_command.specs.Running.{RunsOver, end_of};
-ghost use Rattle.autfilt_command.specs.Turn.{Causes};
+ghost use Rattle.autfilt_command.specs.inner.Running.{RunsOver, end_of};
+ghost use Rattle.autfilt_command.specs.inner.Turn.{Causes};
 ghost use Rattle.autfilt_command.specs.declared.ended.End.{End};
 ghost use Rattle.autfilt_command.specs.declared.ended.Ended.{Ended};
 

@@ -3,7 +3,7 @@
 ghost use Rattle.std.specs.Prelude.{◌≡◌, ◌+◌, ◌<◌, length, false, None, IfOk, OnOk, IsTrue, IsErrOf};
 ghost use Rattle.aut_base.specs.declared.limit.Limit.{Limit};
 ghost use Rattle.autfilt_command.specs.declared.ended.End.{End};
-ghost use Rattle.autfilt_command.specs.Turn.{CountsFaults, PrintsOne, TurnCauses, Turns};
+ghost use Rattle.autfilt_command.specs.inner.Turn.{CountsFaults, PrintsOne, TurnCauses, Turns};
 ghost use Rattle.hoa_lexer.specs.Reading.{Between};
 ghost use Rattle.hoa_parser.specs.Raw.{written};
 

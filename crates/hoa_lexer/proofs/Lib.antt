@@ -1,13 +1,2 @@
-pub mod All
-pub mod Apart
-pub mod Between
-pub mod Comments
-pub mod Dashes
-pub mod Exclusive
-pub mod FirstBytes
-pub mod Fronts
-pub mod Numbers
-pub mod Strings
-pub mod TokenExamples
-pub mod Unique
-pub mod Words
+pub mod next_token
+pub mod spelling

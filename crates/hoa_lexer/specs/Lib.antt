@@ -4,6 +4,6 @@ pub mod Bytes
 pub mod Laws
 pub mod Reading
 pub mod Spelling
-pub mod Steps
 pub mod Text
 pub mod TokenExamples
+pub mod inner

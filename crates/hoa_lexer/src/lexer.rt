@@ -35,7 +35,7 @@ pub struct Lexer {
 }
 
 impl Lexer {
-    ghost use Rattle.hoa_lexer.specs.Steps.{Advances, HoldsAfter, ReadsToken};
+    ghost use Rattle.hoa_lexer.specs.inner.Steps.{Advances, HoldsAfter, ReadsToken};
 
     /// A lexer that may take this many bytes in its life.
     pub fn new(most: u64) -> Lexer

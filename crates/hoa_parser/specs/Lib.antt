@@ -1,14 +1,10 @@
-pub mod Chains
-pub mod Expecting
-pub mod Faults
 pub mod Grammar
 pub mod GrammarExamples
 pub mod GrammarLaws
 pub mod Naming
-pub mod Parsing
-pub mod RuleReads
 pub mod Raw
 pub mod Reads
 pub mod Standing
 pub mod StandingLaws
 pub mod WrittenDown
+pub mod inner

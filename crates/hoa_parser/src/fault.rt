@@ -44,7 +44,7 @@ impl<T: Drop> From<AllocFailed<T>> for ReadFault {
 
 impl From<LexFault> for ReadFault {
     ghost use Rattle.std.specs.Prelude.{◌≡◌};
-    ghost use Rattle.hoa_parser.specs.Faults.{read_fault};
+    ghost use Rattle.hoa_parser.specs.inner.Faults.{read_fault};
 
     ghost from_gives = { λ lexing fault. fault ≡ read_fault lexing };
 

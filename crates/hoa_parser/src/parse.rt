@@ -4,10 +4,10 @@
 
 ghost use Rattle.std.specs.Prelude.{◌≡◌, ◌∷◌, [], codes, false, true, OnOk};
 ghost use Rattle.hoa_lexer.specs.declared.token.Token.{Token};
-ghost use Rattle.hoa_parser.specs.Expecting as part;
-ghost use Rattle.hoa_parser.specs.Expecting.{move};
-ghost use Rattle.hoa_parser.specs.Parsing.{Reads, Uses, state};
-ghost use Rattle.hoa_parser.specs.RuleReads.{IsAutomaton};
+ghost use Rattle.hoa_parser.specs.inner.Expecting as part;
+ghost use Rattle.hoa_parser.specs.inner.Expecting.{move};
+ghost use Rattle.hoa_parser.specs.inner.Parsing.{Reads, Uses, state};
+ghost use Rattle.hoa_parser.specs.inner.RuleReads.{IsAutomaton};
 
 mod body;
 mod condition;

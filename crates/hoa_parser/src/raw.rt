@@ -30,7 +30,7 @@ pub struct RawLabels {
     pub others: Vec<RawLabel>,
 }
 
-#[tactic(auto, using(crate::proofs::RawTrees::raw_tree_rules))]
+#[tactic(auto, using(crate::proofs::grammar::RawTrees::raw_tree_rules))]
 impl RawLabels {
     /// These two parts.
     pub fn pair(alloc: Global, first: RawLabel, second: RawLabel) -> Result<RawLabels, Memory>

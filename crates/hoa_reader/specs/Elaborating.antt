@@ -5,7 +5,7 @@ use Rattle.aut_base.specs.declared.description.Description.{Description}
 use Rattle.aut_base.specs.declared.limit.Limit.{Limit}
 use Rattle.hoa_reader.specs.Counts.{Count, PassesFirst, PassesNone}
 use Rattle.hoa_reader.specs.Described.{described}
-use Rattle.hoa_reader.specs.Gathered.{limit_of}
+use Rattle.hoa_reader.specs.inner.Gathered.{limit_of}
 use Rattle.hoa_parser.specs.Raw.{Written}
 use Rattle.hoa_reader.specs.Validity.{IsFirstBroken, IsValid}
 use Rattle.hoa_reader.specs.declared.elaborate.ElabFault.{ElabFault}

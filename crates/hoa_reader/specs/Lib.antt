@@ -3,10 +3,5 @@ pub mod Described
 pub mod DescribingExamples
 pub mod DescribingLaws
 pub mod Elaborating
-pub mod Gathered
-pub mod Growing
-pub mod Pieces
-pub mod Places
-pub mod TreeEdges
 pub mod Validity
-pub mod Weighing
+pub mod inner

@@ -6,8 +6,8 @@ ghost use Rattle.aut_base.specs.Formula.{formula_tree};
 ghost use Rattle.hoa_reader.specs.Counts.{PassesNone};
 ghost use Rattle.hoa_reader.specs.Described.{described};
 ghost use Rattle.hoa_reader.specs.Elaborating.{Elaborates};
-ghost use Rattle.hoa_reader.specs.Gathered.{ArePartsOf};
-ghost use Rattle.hoa_reader.specs.Growing.{AreKnown, meanings_by};
+ghost use Rattle.hoa_reader.specs.inner.Gathered.{ArePartsOf};
+ghost use Rattle.hoa_reader.specs.inner.Growing.{AreKnown, meanings_by};
 ghost use Rattle.hoa_parser.specs.Raw.{written};
 ghost use Rattle.hoa_reader.specs.Validity.{IsValid, acceptance_of};
 

@@ -1,5 +1,3 @@
 pub mod CanonicalText
 pub mod CanonicalWritten
-pub mod Lines
-pub mod Pieces
-pub mod Tables
+pub mod inner

@@ -5,8 +5,8 @@ ghost use Rattle.aut_base.specs.declared.limit.TheConstants.{MOST_NAMES};
 ghost use Rattle.aut_base.specs.Label.{AllBelow, label_tree};
 ghost use Rattle.aut_base.specs.LabelText.{label_text, literal_text};
 ghost use Rattle.aut_base.specs.Valuation.{truth_on};
-ghost use Rattle.hoa_writer.specs.Pieces.{cube_piece};
-ghost use Rattle.hoa_writer.specs.Tables.{table_order, literal_of, WritesCubes};
+ghost use Rattle.hoa_writer.specs.inner.Pieces.{cube_piece};
+ghost use Rattle.hoa_writer.specs.inner.Tables.{table_order, literal_of, WritesCubes};
 
 use crate::number::push_number;
 use aut_base::{Label, Memory, Text};

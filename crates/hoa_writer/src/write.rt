@@ -10,7 +10,7 @@ ghost use Rattle.aut_base.specs.Automaton.{tree_edge, automaton, IsWellFormed};
 ghost use Rattle.aut_base.specs.Formula.{formula_tree};
 ghost use Rattle.hoa_writer.specs.CanonicalText.{formula_text, line, quoted, edge_line, state_lines, name_line, header_lines, canonical_text};
 ghost use Rattle.hoa_writer.specs.CanonicalWritten.{ReadsBack};
-ghost use Rattle.hoa_writer.specs.Lines.{start_lines, names_line, WritesEdges, LeadFrom};
+ghost use Rattle.hoa_writer.specs.inner.Lines.{start_lines, names_line, WritesEdges, LeadFrom};
 
 use crate::formula::push_formula;
 use crate::label::{Room, push_label};

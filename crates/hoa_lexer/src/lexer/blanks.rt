@@ -9,7 +9,7 @@ use crate::LexFault;
 use aut_io::Inputs;
 
 impl Lexer {
-    ghost use Rattle.hoa_lexer.specs.Steps.{Advances, ClosesComment, HoldsRead, IsSolid, SkipsBlanks, SkipsComment, StepsIn};
+    ghost use Rattle.hoa_lexer.specs.inner.Steps.{Advances, ClosesComment, HoldsRead, IsSolid, SkipsBlanks, SkipsComment, StepsIn};
 
     /// Uses blanks. Holds the byte after them, or tells by None that the text ended.
     pub(super) fn skip_blanks<I: Inputs>(&mut self, inputs: &mut I) -> Result<Option<u8>, LexFault>

@@ -8,7 +8,7 @@ use crate::{LexFault, Token};
 use aut_io::Inputs;
 
 impl Lexer {
-    ghost use Rattle.hoa_lexer.specs.Steps.{Advances, HoldsAfter, IsDashed, ReadsToken, ReadsWord};
+    ghost use Rattle.hoa_lexer.specs.inner.Steps.{Advances, HoldsAfter, IsDashed, ReadsToken, ReadsWord};
 
     /// A word in dashes, the first byte of which is held.
     pub(super) fn dashes<I: Inputs>(&mut self, inputs: &mut I) -> Result<Token, LexFault>

@@ -10,7 +10,7 @@ use crate::{LexFault, Token};
 use aut_io::Inputs;
 
 impl Lexer {
-    ghost use Rattle.hoa_lexer.specs.Steps.{Advances, HoldsAfter, ReadsToken};
+    ghost use Rattle.hoa_lexer.specs.inner.Steps.{Advances, HoldsAfter, ReadsToken};
 
     /// An integer, the first digit of which is held. It is refused as soon as it has no value that a `u32` holds.
     pub(super) fn number<I: Inputs>(&mut self, inputs: &mut I, first: u8) -> Result<Token, LexFault>

@@ -8,7 +8,7 @@ use crate::LexFault;
 use aut_io::Inputs;
 
 impl Lexer {
-    ghost use Rattle.hoa_lexer.specs.Steps.{Advances, Peeks, HoldsRead, IsReadFault};
+    ghost use Rattle.hoa_lexer.specs.inner.Steps.{Advances, Peeks, HoldsRead, IsReadFault};
 
     /// The next byte, which is held from then on, or None at the end of the text.
     pub(super) fn peek<I: Inputs>(&mut self, inputs: &mut I) -> Result<Option<u8>, LexFault>

@@ -2,7 +2,7 @@
 
 ghost use Rattle.std.specs.Prelude.{MatchOption};
 ghost use Rattle.hoa_lexer.specs.declared.token.Token as declared;
-ghost use Rattle.hoa_lexer.specs.Steps.{IsSign};
+ghost use Rattle.hoa_lexer.specs.inner.Steps.{IsSign};
 
 use crate::Token;
 

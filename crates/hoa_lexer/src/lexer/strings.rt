@@ -10,7 +10,7 @@ use aut_io::Inputs;
 use std::alloc::Global;
 
 impl Lexer {
-    ghost use Rattle.hoa_lexer.specs.Steps.{Advances, HoldsAfter, ReadsQuoted, ReadsToken};
+    ghost use Rattle.hoa_lexer.specs.inner.Steps.{Advances, HoldsAfter, ReadsQuoted, ReadsToken};
 
     /// A string, the first quote of which is held.
     pub(super) fn string<I: Inputs>(

@@ -12,7 +12,7 @@ use aut_io::Inputs;
 use std::alloc::Global;
 
 impl Lexer {
-    ghost use Rattle.hoa_lexer.specs.Steps.{AddsWords, Advances, HoldsAfter, ReadsToken};
+    ghost use Rattle.hoa_lexer.specs.inner.Steps.{AddsWords, Advances, HoldsAfter, ReadsToken};
 
     /// An identifier or the name of a header, the first byte of which is held.
     pub(super) fn word<I: Inputs>(

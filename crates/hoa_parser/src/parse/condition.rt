@@ -2,10 +2,10 @@
 
 ghost use Rattle.std.specs.Prelude.{◌≡◌, ◌≢◌, ◌≤◌, ◌∷◌, [], false};
 ghost use Rattle.hoa_lexer.specs.declared.token.Token.{Token};
-ghost use Rattle.hoa_parser.specs.Expecting as part;
-ghost use Rattle.hoa_parser.specs.Expecting.{condition_parts, set_parts};
-ghost use Rattle.hoa_parser.specs.Parsing.{Reads, Uses, state};
-ghost use Rattle.hoa_parser.specs.RuleReads.{IsAndFatom, IsAndFatoms, IsCondition, IsFand, IsFatom, IsMaybeBang, IsSet, sign_at, sign_of, IsOrFand, IsOrFands};
+ghost use Rattle.hoa_parser.specs.inner.Expecting as part;
+ghost use Rattle.hoa_parser.specs.inner.Expecting.{condition_parts, set_parts};
+ghost use Rattle.hoa_parser.specs.inner.Parsing.{Reads, Uses, state};
+ghost use Rattle.hoa_parser.specs.inner.RuleReads.{IsAndFatom, IsAndFatoms, IsCondition, IsFand, IsFatom, IsMaybeBang, IsSet, sign_at, sign_of, IsOrFand, IsOrFands};
 ghost use Rattle.aut_base.specs.Formula.{formula_tree};
 
 use super::tokens::{advance, closing_paren, number, opening_paren, refused};

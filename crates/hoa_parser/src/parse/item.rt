@@ -3,10 +3,10 @@
 ghost use Rattle.std.specs.Prelude.{◌≡◌, ◌≢◌, ◌++◌, ◌∷◌, [], false, OnOk};
 ghost use Rattle.hoa_lexer.specs.declared.token.Token.{Token};
 ghost use Rattle.hoa_parser.specs.declared.header.Header.{Header};
-ghost use Rattle.hoa_parser.specs.Expecting as part;
-ghost use Rattle.hoa_parser.specs.Parsing.{Reads, Uses, state};
-ghost use Rattle.hoa_parser.specs.Expecting.{header_parts};
-ghost use Rattle.hoa_parser.specs.RuleReads.{AreItems, IsItem, IsItemOf, IsItemWritten};
+ghost use Rattle.hoa_parser.specs.inner.Expecting as part;
+ghost use Rattle.hoa_parser.specs.inner.Parsing.{Reads, Uses, state};
+ghost use Rattle.hoa_parser.specs.inner.Expecting.{header_parts};
+ghost use Rattle.hoa_parser.specs.inner.RuleReads.{AreItems, IsItem, IsItemOf, IsItemWritten};
 
 use super::condition::condition;
 use super::label::label;

@@ -3,10 +3,10 @@
 ghost use Rattle.std.specs.Prelude.{◌≡◌, ◌≢◌, ◌≤◌, ◌∷◌, [], false, IfOk};
 ghost use Rattle.std.specs.Option.{option_map};
 ghost use Rattle.hoa_lexer.specs.declared.token.Token.{Token};
-ghost use Rattle.hoa_parser.specs.Expecting as part;
-ghost use Rattle.hoa_parser.specs.Expecting.{label_parts};
-ghost use Rattle.hoa_parser.specs.Parsing.{Reads, Uses, state};
-ghost use Rattle.hoa_parser.specs.RuleReads.{atom_of, truth_value, IsAndLnot, IsAndLnots, IsLabel, IsLand, IsLnot, IsOrLand, IsOrLands};
+ghost use Rattle.hoa_parser.specs.inner.Expecting as part;
+ghost use Rattle.hoa_parser.specs.inner.Expecting.{label_parts};
+ghost use Rattle.hoa_parser.specs.inner.Parsing.{Reads, Uses, state};
+ghost use Rattle.hoa_parser.specs.inner.RuleReads.{atom_of, truth_value, IsAndLnot, IsAndLnots, IsLabel, IsLand, IsLnot, IsOrLand, IsOrLands};
 ghost use Rattle.hoa_parser.specs.Raw.{raw_tree};
 
 use super::tokens::{advance, closing_paren, refused};
@@ -272,7 +272,7 @@ fn group<I: Inputs>(
 }
 
 /// What the token says as a label of its own, if it is one: "t" | "f" | INT | ANAME
-#[tactic(auto, using(crate::proofs::RawTrees::raw_tree_rules))]
+#[tactic(auto, using(crate::proofs::grammar::RawTrees::raw_tree_rules))]
 fn atom_at(alloc: Global, token: &Token) -> Result<Option<RawLabel>, Memory>
     ensures { IfOk result (λ label. option_map raw_tree label ≡ atom_of token.now) }
 {
@@ -285,7 +285,7 @@ fn atom_at(alloc: Global, token: &Token) -> Result<Option<RawLabel>, Memory>
 }
 
 /// "t" | "f"
-#[tactic(auto, using(crate::proofs::RawTrees::raw_tree_rules))]
+#[tactic(auto, using(crate::proofs::grammar::RawTrees::raw_tree_rules))]
 fn truth_value(word: &Text) -> Option<RawLabel>
     ensures { option_map raw_tree result ≡ truth_value word.now }
 {

@@ -2,11 +2,11 @@
 
 ghost use Rattle.std.specs.Prelude.{◌≡◌, ◌∷◌, [], false, IsTrue, ◌↔◌};
 ghost use Rattle.hoa_lexer.specs.declared.token.Token.{Token};
-ghost use Rattle.hoa_parser.specs.Expecting as part;
-ghost use Rattle.hoa_parser.specs.Expecting.{conj_parts};
-ghost use Rattle.hoa_parser.specs.Parsing.{Reads, Uses, state};
-ghost use Rattle.hoa_parser.specs.RuleReads as written;
-ghost use Rattle.hoa_parser.specs.RuleReads.{AddsMarks, AddsNumbers, AreAccValues, AreMarks, AreTexts, AreValues, AreWords, IsConj};
+ghost use Rattle.hoa_parser.specs.inner.Expecting as part;
+ghost use Rattle.hoa_parser.specs.inner.Expecting.{conj_parts};
+ghost use Rattle.hoa_parser.specs.inner.Parsing.{Reads, Uses, state};
+ghost use Rattle.hoa_parser.specs.inner.RuleReads as written;
+ghost use Rattle.hoa_parser.specs.inner.RuleReads.{AddsMarks, AddsNumbers, AreAccValues, AreMarks, AreTexts, AreValues, AreWords, IsConj};
 
 use super::tokens::{advance, number, refused};
 use crate::ReadFault;

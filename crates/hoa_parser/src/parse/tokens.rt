@@ -2,9 +2,9 @@
 
 ghost use Rattle.std.specs.Prelude.{◌≡◌, [], ◌∷◌, false, IfSome, IfNone, IsTrue, ◌↔◌};
 ghost use Rattle.hoa_lexer.specs.declared.token.Token.{Token};
-ghost use Rattle.hoa_parser.specs.Expecting as part;
-ghost use Rattle.hoa_parser.specs.Parsing.{Advances, Reads, Uses, refusal, state};
-ghost use Rattle.hoa_parser.specs.RuleReads.{IsAliasName, IsToken, IsNumber, IsOptionalText, IsQuoted, IsWord};
+ghost use Rattle.hoa_parser.specs.inner.Expecting as part;
+ghost use Rattle.hoa_parser.specs.inner.Parsing.{Advances, Reads, Uses, refusal, state};
+ghost use Rattle.hoa_parser.specs.inner.RuleReads.{IsAliasName, IsToken, IsNumber, IsOptionalText, IsQuoted, IsWord};
 
 use crate::ReadFault;
 use aut_base::Text;

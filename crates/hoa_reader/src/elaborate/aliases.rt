@@ -3,9 +3,9 @@
 ghost use Rattle.std.specs.Prelude.{◌≡◌, ◌+◌, max, List, map, true, is_some, slice_get, Some, IfOk};
 ghost use Rattle.std.specs.Option.{option_map};
 ghost use Rattle.hoa_reader.specs.Described.{Meaning, expanded};
-ghost use Rattle.hoa_reader.specs.Growing.{AreKnown, IsKnownAs, alias_name, cap, capped_height, capped_heights, capped_size, capped_sizes, heights_in, meaning_names, meanings_by, sizes_in};
-ghost use Rattle.hoa_reader.specs.Pieces.{alias_def, are_defined};
-ghost use Rattle.hoa_reader.specs.Places.{place_in};
+ghost use Rattle.hoa_reader.specs.inner.Growing.{AreKnown, IsKnownAs, alias_name, cap, capped_height, capped_heights, capped_size, capped_sizes, heights_in, meaning_names, meanings_by, sizes_in};
+ghost use Rattle.hoa_reader.specs.inner.Pieces.{alias_def, are_defined};
+ghost use Rattle.hoa_reader.specs.inner.Places.{place_in};
 ghost use Rattle.hoa_parser.specs.Raw.{raw_tree, raw_trees};
 ghost use Rattle.hoa_reader.specs.declared.elaborate.parts.AliasDef.{AliasDef};
 ghost use Rattle.hoa_reader.specs.Validity.{aliases_among, leaves_pass};
@@ -34,7 +34,7 @@ pub(crate) struct Growth {
 
 /// How tall and how large the label is once its aliases are replaced.
 #[cycle(growth)]
-#[tactic(auto, using(hoa_parser::proofs::RawTrees::raw_tree_rules))]
+#[tactic(auto, using(hoa_parser::proofs::grammar::RawTrees::raw_tree_rules))]
 pub(crate) fn growth_of<'a>(label: &'a RawLabel, known: &Places<'a, Known>) -> Growth
     ensures height { result.height ≡ capped_height (heights_in known.now) (raw_tree label.now) }
     ensures size { result.size ≡ capped_size (sizes_in known.now) (raw_tree label.now) }
@@ -104,7 +104,7 @@ fn one_more(inner: Growth) -> Growth
 }
 
 /// The alias that the label is.
-#[tactic(auto, using(hoa_parser::proofs::RawTrees::raw_tree_rules))]
+#[tactic(auto, using(hoa_parser::proofs::grammar::RawTrees::raw_tree_rules))]
 fn alias_in(label: &RawLabel) -> Option<&Text>
     ensures { option_map (λ t. t.now) result ≡ alias_name (raw_tree label.now) }
 {

@@ -3,10 +3,10 @@
 ghost use Rattle.std.specs.Prelude.{◌≡◌, ◌<◌, ◌+◌, nat_lt, length, map, MatchOption};
 ghost use Rattle.std.specs.Option.{option_map, option_map_or};
 ghost use Rattle.hoa_reader.specs.Counts.{holds_alias};
-ghost use Rattle.hoa_reader.specs.Growing.{capped_size, sizes_in};
-ghost use Rattle.hoa_reader.specs.Pieces.{label_refs};
+ghost use Rattle.hoa_reader.specs.inner.Growing.{capped_size, sizes_in};
+ghost use Rattle.hoa_reader.specs.inner.Pieces.{label_refs};
 ghost use Rattle.hoa_parser.specs.Raw.{WrittenState, raw_tree, written_edge, written_state};
-ghost use Rattle.hoa_reader.specs.Weighing.{IsNone, all_edges, are_tall, counted, edge_counted, own_counted, state_counted};
+ghost use Rattle.hoa_reader.specs.inner.Weighing.{IsNone, all_edges, are_tall, counted, edge_counted, own_counted, state_counted};
 
 use crate::elaborate::aliases::{Known, growth_of};
 use crate::elaborate::leaves::aliases_among;
@@ -15,7 +15,7 @@ use hoa_parser::{RawEdge, RawLabel, RawState};
 use aut_base::MOST_ALIASES;
 
 /// Whether there are more edges than this.
-#[tactic(auto, using(crate::proofs::Weighing::edges_counted))]
+#[tactic(auto, using(crate::proofs::counting::Weights::edges_counted))]
 pub(crate) fn has_more_edges(states: &[RawState], most: usize) -> bool
     ensures { result ≡ nat_lt most (length (all_edges (map written_state states.now))) }
 {

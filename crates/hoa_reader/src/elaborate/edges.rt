@@ -4,8 +4,8 @@ ghost use Rattle.std.specs.Prelude.{◌≡◌, ◌<◌, ◌==◌, ◌++◌, ◌^
 ghost use Rattle.aut_base.specs.Automaton.{tree_edge};
 ghost use Rattle.aut_base.specs.Label.{label_tree};
 ghost use Rattle.aut_base.specs.Marks.{is_in};
-ghost use Rattle.hoa_reader.specs.TreeEdges.{HasKnown, IsPlace, tree_edge_for, tree_edges_for, edges_for, label_for};
-ghost use Rattle.hoa_reader.specs.Pieces.{numbers};
+ghost use Rattle.hoa_reader.specs.inner.TreeEdges.{HasKnown, IsPlace, tree_edge_for, tree_edges_for, edges_for, label_for};
+ghost use Rattle.hoa_reader.specs.inner.Pieces.{numbers};
 ghost use Rattle.hoa_parser.specs.Raw.{written_edge, written_state};
 ghost use Rattle.hoa_reader.specs.Validity.{all_differ};
 

@@ -3,7 +3,7 @@
 ghost use Rattle.std.specs.Prelude.{◌≡◌, ◌≤◌, ◌==◌, ◌/◌, ◌%◌, ◌^◌, ◌∷◌, map, IfOk};
 ghost use Rattle.aut_base.specs.Label.{label_list, label_tree};
 ghost use Rattle.hoa_reader.specs.Described.{below, expanded, letter_label, literal};
-ghost use Rattle.hoa_reader.specs.Growing.{AreKnown, meanings_by};
+ghost use Rattle.hoa_reader.specs.inner.Growing.{AreKnown, meanings_by};
 ghost use Rattle.hoa_parser.specs.Raw.{raw_tree};
 
 use crate::elaborate::aliases::Known;
@@ -15,7 +15,7 @@ use std::alloc::Global;
 
 /// The label with each alias replaced by what it stands for.
 #[cycle(expand)]
-#[tactic(auto, using(hoa_parser::proofs::RawTrees::raw_tree_rules))]
+#[tactic(auto, using(hoa_parser::proofs::grammar::RawTrees::raw_tree_rules))]
 pub(crate) fn expand<'a>(
     alloc: Global,
     label: &'a RawLabel,

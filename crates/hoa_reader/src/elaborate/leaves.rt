@@ -3,8 +3,8 @@
 ghost use Rattle.std.specs.Prelude.{◌≡◌, ◌&&◌, map, true, false, is_some, nat_lt, MatchOption, IfOk};
 ghost use Rattle.std.specs.List.{list_all};
 ghost use Rattle.aut_base.specs.Formula.{formula_list, formula_tree, trees};
-ghost use Rattle.hoa_reader.specs.Pieces.{HasDefined, alias_def, are_defined, label_refs, line_names};
-ghost use Rattle.hoa_reader.specs.Places.{place_in};
+ghost use Rattle.hoa_reader.specs.inner.Pieces.{HasDefined, alias_def, are_defined, label_refs, line_names};
+ghost use Rattle.hoa_reader.specs.inner.Places.{place_in};
 ghost use Rattle.hoa_parser.specs.Raw.{raw_tree, raw_trees};
 ghost use Rattle.hoa_reader.specs.Validity.{aliases_among, all_leaves_pass, all_sets_below, leaves_pass, props_below, sets_below};
 
@@ -45,7 +45,7 @@ fn all_sets_below(parts: &Formulas, sets: u32) -> bool
 
 /// Whether each proposition of the label is below the number of names.
 #[cycle(props_below)]
-#[tactic(auto, using(hoa_parser::proofs::RawTrees::raw_tree_rules))]
+#[tactic(auto, using(hoa_parser::proofs::grammar::RawTrees::raw_tree_rules))]
 pub(crate) fn props_below(label: &RawLabel, names: usize) -> bool
     ensures { result ≡ props_below names (raw_tree label.now) }
 {
@@ -77,7 +77,7 @@ fn all_props_below(parts: &[RawLabel], names: usize) -> bool
 
 /// Whether each alias of the label is among these.
 #[cycle(aliases_among)]
-#[tactic(auto, using(hoa_parser::proofs::RawTrees::raw_tree_rules))]
+#[tactic(auto, using(hoa_parser::proofs::grammar::RawTrees::raw_tree_rules))]
 pub(crate) fn aliases_among<'a>(label: &'a RawLabel, names: &Places<'a, ()>) -> bool
     ensures { result ≡ leaves_pass (λ i. true) (λ name. is_some (place_in names.now name)) (raw_tree label.now) }
 {

@@ -2,8 +2,8 @@
 
 ghost use Rattle.std.specs.Prelude.{◌≡◌, true, nat_lt, MatchOption};
 ghost use Rattle.hoa_reader.specs.Counts.{Aliases, PassesNone, count_of, most_of};
-ghost use Rattle.hoa_reader.specs.Gathered.{ArePartsOf, PassesSome};
-ghost use Rattle.hoa_reader.specs.Growing.{AreKnown, meanings_by};
+ghost use Rattle.hoa_reader.specs.inner.Gathered.{ArePartsOf, PassesSome};
+ghost use Rattle.hoa_reader.specs.inner.Growing.{AreKnown, meanings_by};
 ghost use Rattle.hoa_parser.specs.Raw.{written};
 ghost use Rattle.hoa_reader.specs.Validity.{keeps};
 ghost use Rattle.hoa_reader.specs.declared.elaborate.Rule.TheVariants.{V6};

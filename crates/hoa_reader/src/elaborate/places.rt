@@ -2,7 +2,7 @@
 
 ghost use Rattle.std.specs.Prelude.{◌≡◌, ℕ, List, None, Some, true, is_none, IfOk};
 ghost use Rattle.std.specs.Map.{update};
-ghost use Rattle.hoa_reader.specs.Places.{place_in};
+ghost use Rattle.hoa_reader.specs.inner.Places.{place_in};
 ghost use Rattle.aut_base.specs.Text.{same_text};
 
 use aut_base::{Memory, Text};

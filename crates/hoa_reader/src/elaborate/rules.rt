@@ -2,7 +2,7 @@
 
 ghost use Rattle.std.specs.Prelude.{◌≡◌, ℕ, ◌==◌, ◌^◌, codes, count_by, filter_map, is_none, is_some, nat_le, not, map, IfOk};
 ghost use Rattle.std.specs.List.{list_all};
-ghost use Rattle.hoa_reader.specs.Pieces.{is_line, lines_once};
+ghost use Rattle.hoa_reader.specs.inner.Pieces.{is_line, lines_once};
 ghost use Rattle.hoa_parser.specs.Raw.{written_edge, written_item, written_state};
 ghost use Rattle.aut_base.specs.Text.{same_text};
 ghost use Rattle.hoa_reader.specs.Validity.{all_differ, begins_with_capital, has_edge_per_letter, is_one_state, labels_one_way, marks_below, may_be_passed_over, names_agree, numbers_below, states_item};

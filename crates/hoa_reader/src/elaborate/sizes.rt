@@ -3,7 +3,7 @@
 ghost use Rattle.std.specs.Prelude.{◌≡◌};
 ghost use Rattle.hoa_parser.specs.Raw.{written};
 ghost use Rattle.hoa_reader.specs.Described.{state_count};
-ghost use Rattle.hoa_reader.specs.Gathered.{ArePartsOf};
+ghost use Rattle.hoa_reader.specs.inner.Gathered.{ArePartsOf};
 ghost use Rattle.hoa_reader.specs.Validity.{acceptance_of};
 
 use crate::elaborate::parts::{Parts, count_of_states};

@@ -2,7 +2,7 @@
 
 ghost use Rattle.std.specs.Prelude.{◌≡◌, ◌++◌, max, map, flat_map};
 ghost use Rattle.hoa_reader.specs.Described.{after_all};
-ghost use Rattle.hoa_reader.specs.Pieces.{goals, numbers, starts_named};
+ghost use Rattle.hoa_reader.specs.inner.Pieces.{goals, numbers, starts_named};
 ghost use Rattle.hoa_parser.specs.Raw.{written_edge, written_state};
 
 use hoa_parser::{RawEdge, RawState};
@@ -20,7 +20,7 @@ fn after_numbers(numbers: &[u32], least: u64) -> u64
 }
 
 /// The same for the goals of these edges.
-#[tactic(auto, using(crate::proofs::AfterAll::after_alls))]
+#[tactic(auto, using(crate::proofs::counting::AfterAll::after_alls))]
 fn after_edges(edges: &[RawEdge], least: u64) -> u64
     ensures { result ≡ max least (after_all (flat_map (λ e. e.to) (map written_edge edges.now))) }
 {
@@ -32,7 +32,7 @@ fn after_edges(edges: &[RawEdge], least: u64) -> u64
 }
 
 /// The same for the starts.
-#[tactic(auto, using(crate::proofs::AfterAll::after_alls))]
+#[tactic(auto, using(crate::proofs::counting::AfterAll::after_alls))]
 fn after_starts(starts: &[&Numbers], least: u64) -> u64
     ensures { result ≡ max least (after_all (starts_named starts.now)) }
 {
@@ -44,7 +44,7 @@ fn after_starts(starts: &[&Numbers], least: u64) -> u64
 }
 
 /// The same for these states and the goals of their edges.
-#[tactic(auto, using(crate::proofs::AfterAll::after_alls))]
+#[tactic(auto, using(crate::proofs::counting::AfterAll::after_alls))]
 fn after_states(states: &[RawState], least: u64) -> u64
     ensures { result ≡ max least (max (after_all (numbers (map written_state states.now))) (after_all (goals (map written_state states.now)))) }
 {
@@ -57,7 +57,7 @@ fn after_states(states: &[RawState], least: u64) -> u64
 }
 
 /// The least number that is above every number of a state.
-#[tactic(auto, using(crate::proofs::AfterAll::after_alls))]
+#[tactic(auto, using(crate::proofs::counting::AfterAll::after_alls))]
 pub(crate) fn after_used(starts: &[&Numbers], states: &[RawState]) -> u64
     ensures { result ≡ after_all (starts_named starts.now ++ (numbers (map written_state states.now) ++ goals (map written_state states.now))) }
 {

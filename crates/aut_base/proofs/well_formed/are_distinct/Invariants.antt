@@ -1,6 +1,6 @@
 -- The starts so far differ.
 use Rattle.std.proofs.Common.{ℕ, ◌<◌}
-use Rattle.aut_base.specs.Distinct.{DiffersFromEarlier}
+use Rattle.aut_base.specs.inner.Distinct.{DiffersFromEarlier}
 use Rattle.aut_base.proofs.well_formed.are_distinct.Given as goal
 
 abbrev pub invariant-starts : goal.invariant-starts

@@ -1,6 +1,6 @@
 use Rattle.std.proofs.Common.{◌∙◌, Bool, Ok, subst, arith}
 use Rattle.autfilt_command.proofs.Runs.{at_after, begins_at, ends_by, run_done, run_more, took_all}
-use Rattle.autfilt_command.specs.Turn.{Turns}
+use Rattle.autfilt_command.specs.inner.Turn.{Turns}
 use Rattle.autfilt_command.proofs.run.print_all.Goals as goal
 
 pub automata-preserved : goal.automata-preserved

@@ -1,5 +1,5 @@
 use Rattle.std.proofs.Common.{◌-◌}
-use Rattle.autfilt_command.specs.Running.{IsRunning}
+use Rattle.autfilt_command.specs.inner.Running.{IsRunning}
 use Rattle.autfilt_command.proofs.run.print_all.Given as goal
 
 abbrev pub invariant-automata : goal.invariant-automata

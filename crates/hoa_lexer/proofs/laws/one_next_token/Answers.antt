@@ -1,4 +1,4 @@
-use Rattle.hoa_lexer.proofs.Unique.{one_next_token}
+use Rattle.hoa_lexer.proofs.next_token.Unique.{one_next_token}
 use Rattle.hoa_lexer.proofs.laws.one_next_token.Goals as goal
 
 pub returns : goal.returns

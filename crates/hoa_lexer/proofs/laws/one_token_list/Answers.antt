@@ -1,4 +1,4 @@
-use Rattle.hoa_lexer.proofs.Unique.{one_token_list}
+use Rattle.hoa_lexer.proofs.next_token.Unique.{one_token_list}
 use Rattle.hoa_lexer.proofs.laws.one_token_list.Goals as goal
 
 pub returns : goal.returns

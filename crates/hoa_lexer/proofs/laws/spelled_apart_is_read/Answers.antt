@@ -1,4 +1,4 @@
-use Rattle.hoa_lexer.proofs.Apart.{spelled_apart_is_read}
+use Rattle.hoa_lexer.proofs.spelling.Apart.{spelled_apart_is_read}
 use Rattle.hoa_lexer.proofs.laws.spelled_apart_is_read.Goals as goal
 
 pub returns : goal.returns

@@ -1,4 +1,4 @@
-use Rattle.hoa_parser.proofs.GrammarExamples.{grammar_examples}
+use Rattle.hoa_parser.proofs.grammar.GrammarExamples.{grammar_examples}
 use Rattle.hoa_parser.proofs.laws.grammar_examples.Goals as goal
 
 pub returns : goal.returns

@@ -1,4 +1,4 @@
-use Rattle.hoa_parser.proofs.Automata.{whole_bodied, whole_cut, whole_headed, whole_headless, whole_last, whole_named, whole_opens, whole_read, whole_unended, whole_unnamed}
+use Rattle.hoa_parser.proofs.reading.Automata.{whole_bodied, whole_cut, whole_headed, whole_headless, whole_last, whole_named, whole_opens, whole_read, whole_unended, whole_unnamed}
 use Rattle.hoa_parser.proofs.parse.automaton.Goals as goal
 
 pub returns-in-Err-clause-reads : goal.returns-in-Err-clause-reads

@@ -1,6 +1,6 @@
 use Rattle.std.proofs.Common.{refl}
-use Rattle.hoa_parser.proofs.Hopeless.{raw_fault_shows, raw_other_shows, raw_unlexed_shows}
-use Rattle.hoa_parser.proofs.StandingAnswers.{raw_fault, raw_other, raw_unlexed, raw_whole}
+use Rattle.hoa_parser.proofs.standing.Hopeless.{raw_fault_shows, raw_other_shows, raw_unlexed_shows}
+use Rattle.hoa_parser.proofs.standing.StandingAnswers.{raw_fault, raw_other, raw_unlexed, raw_whole}
 use Rattle.hoa_parser.proofs.read.read_raw.Goals as goal
 
 pub returns-in-Err-clause-answers : goal.returns-in-Err-clause-answers

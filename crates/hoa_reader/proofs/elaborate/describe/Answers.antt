@@ -1,6 +1,6 @@
 use Rattle.std.proofs.Common.{◌≡◌, sym, subst}
 use Rattle.aut_base.specs.Automaton.{Automaton, IsWellFormed, automaton}
-use Rattle.hoa_reader.proofs.DescribedWellFormed.{valid_is_well_formed}
+use Rattle.hoa_reader.proofs.description.WellFormed.{valid_is_well_formed}
 use Rattle.hoa_reader.specs.Counts.{PassesNone}
 use Rattle.hoa_reader.specs.Described.{described}
 use Rattle.hoa_parser.specs.Raw.{written}

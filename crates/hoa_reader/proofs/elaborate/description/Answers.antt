@@ -5,9 +5,9 @@ use Rattle.std.specs.List.{enumerate_from}
 use Rattle.std.specs.Option.{option_map_or}
 use Rattle.aut_base.specs.Automaton.{TreeEdge, Automaton, tree_edge}
 use Rattle.aut_base.specs.Formula.{FormulaTree, formula_tree}
-use Rattle.hoa_reader.proofs.NamesDiffer.{names_differ, pairs_differ}
+use Rattle.hoa_reader.proofs.validity.NamesDiffer.{names_differ, pairs_differ}
 use Rattle.hoa_reader.specs.Described.{Meaning, below, edges_of, expanded, letter_label, marks_in_order, meanings_after, meanings_of, only_state, starts_of, state_count, without_repeats}
-use Rattle.hoa_reader.specs.Growing.{meanings_by}
+use Rattle.hoa_reader.specs.inner.Growing.{meanings_by}
 use Rattle.hoa_parser.specs.Raw.{WrittenEdge, WrittenState, written, written_state}
 use Rattle.hoa_reader.specs.Validity.{acceptance_of, names_of}
 use Rattle.hoa_parser.specs.declared.raw.RawState.{RawState}

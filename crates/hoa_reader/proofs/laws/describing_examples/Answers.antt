@@ -1,4 +1,4 @@
-use Rattle.hoa_reader.proofs.DescribingExamples as examples
+use Rattle.hoa_reader.proofs.description.DescribingExamples as examples
 use Rattle.hoa_reader.proofs.laws.describing_examples.Goals as goal
 
 pub returns : goal.returns

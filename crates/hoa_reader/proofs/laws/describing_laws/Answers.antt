@@ -1,5 +1,5 @@
-use Rattle.hoa_reader.proofs.DescribedWellFormed.{valid_is_well_formed}
-use Rattle.hoa_reader.proofs.ValidityLaws as validity
+use Rattle.hoa_reader.proofs.description.WellFormed.{valid_is_well_formed}
+use Rattle.hoa_reader.proofs.validity.ValidityLaws as validity
 use Rattle.hoa_reader.proofs.laws.describing_laws.Goals as goal
 
 pub returns : goal.returns

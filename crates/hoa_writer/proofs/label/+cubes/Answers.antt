@@ -1,7 +1,7 @@
 use Rattle.std.proofs.Common.{◌∙◌, sym, rules, map}
 use Rattle.std.proofs.lemmas.Result.{IfOk-weaker}
-use Rattle.hoa_writer.specs.Tables.{literal_of}
-use Rattle.hoa_writer.proofs.Tables.{low_size, high_size, passed, both}
+use Rattle.hoa_writer.specs.inner.Tables.{literal_of}
+use Rattle.hoa_writer.proofs.text.Tables.{low_size, high_size, passed, both}
 use Rattle.hoa_writer.proofs.label.+cubes.Goals as goal
 
 pub push_cubes-push_cubes-requires : goal.push_cubes-push_cubes-requires

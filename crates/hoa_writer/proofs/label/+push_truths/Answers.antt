@@ -3,7 +3,7 @@ use Rattle.std.proofs.lemmas.List.{length-set}
 use Rattle.std.proofs.lemmas.Result.{on_ok_weaker}
 use Rattle.aut_base.specs.Label.{label_tree}
 use Rattle.aut_base.specs.Valuation.{truth_on}
-use Rattle.hoa_writer.proofs.Tables.{truths_end, truths_both, front_kept}
+use Rattle.hoa_writer.proofs.text.Tables.{truths_end, truths_both, front_kept}
 use Rattle.hoa_writer.proofs.label.+push_truths.Goals as goal
 
 pub returns-then-place-valuation-clause-table : goal.returns-then-place-valuation-clause-table

@@ -1,5 +1,5 @@
 use Rattle.std.proofs.Common.{arith, length}
-use Rattle.hoa_writer.proofs.Pieces.{cube_written, some_item}
+use Rattle.hoa_writer.proofs.text.Pieces.{cube_written, some_item}
 use Rattle.hoa_writer.proofs.label.push_cube.Goals as goal
 
 pub returns : goal.returns

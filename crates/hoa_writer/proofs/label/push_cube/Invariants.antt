@@ -3,7 +3,7 @@ use Rattle.std.proofs.Common.{◌≡◌, ◌++◌, take}
 use Rattle.std.specs.List.{flat_map}
 use Rattle.std.specs.Prelude.{codes}
 use Rattle.aut_base.specs.LabelText.{literal_text}
-use Rattle.hoa_writer.specs.Tables.{literal_of}
+use Rattle.hoa_writer.specs.inner.Tables.{literal_of}
 use Rattle.hoa_writer.proofs.label.push_cube.Given as goal
 
 abbrev pub invariant-others : goal.invariant-others

@@ -3,8 +3,8 @@ use Rattle.std.proofs.lemmas.Result.{on_ok_weaker}
 use Rattle.aut_base.proofs.LabelTrees.{label_tree-True}
 use Rattle.aut_base.specs.Label.{label_tree}
 use Rattle.aut_base.specs.Valuation.{truth_on}
-use Rattle.hoa_writer.specs.Tables.{literal_of}
-use Rattle.hoa_writer.proofs.Cubes.{label_text_true, table_size, label_written, no_label_written}
+use Rattle.hoa_writer.specs.inner.Tables.{literal_of}
+use Rattle.hoa_writer.proofs.text.Cubes.{label_text_true, table_size, label_written, no_label_written}
 use Rattle.hoa_writer.proofs.label.push_label.Goals as goal
 
 pub returns-in-True-clause-text : goal.returns-in-True-clause-text

@@ -1,5 +1,5 @@
 use Rattle.std.proofs.Common.{length}
-use Rattle.hoa_writer.proofs.Lines.{edges_end, all_later}
+use Rattle.hoa_writer.proofs.text.Lines.{edges_end, all_later}
 use Rattle.hoa_writer.proofs.write.push_edges.Goals as goal
 
 pub returns-then-edge-state-clause-edges : goal.returns-then-edge-state-clause-edges

@@ -1,6 +1,6 @@
 -- What is written so far, and what is left, make up the edges of the state.
 use Rattle.std.proofs.Common.{◌≡◌, ◌-◌, length}
-use Rattle.hoa_writer.proofs.Lines.{EdgesSoFar}
+use Rattle.hoa_writer.proofs.text.Lines.{EdgesSoFar}
 use Rattle.hoa_writer.proofs.write.push_edges.Given as goal
 
 abbrev pub invariant-edges : goal.invariant-edges

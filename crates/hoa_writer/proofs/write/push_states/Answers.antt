@@ -1,5 +1,5 @@
 use Rattle.std.proofs.Common.{◌∙◌}
-use Rattle.hoa_writer.proofs.Lines.{leads, state_more}
+use Rattle.hoa_writer.proofs.text.Lines.{leads, state_more}
 use Rattle.hoa_writer.proofs.write.push_states.Goals as goal
 
 pub push_edges-requires-clause-lead : goal.push_edges-requires-clause-lead

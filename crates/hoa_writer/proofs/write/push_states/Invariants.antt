@@ -1,6 +1,6 @@
 -- The states so far are written.
 use Rattle.std.proofs.Common.{◌≡◌, length}
-use Rattle.hoa_writer.proofs.Lines.{StatesSoFar}
+use Rattle.hoa_writer.proofs.text.Lines.{StatesSoFar}
 use Rattle.hoa_writer.proofs.write.push_states.Given as goal
 
 abbrev pub invariant-states : goal.invariant-states

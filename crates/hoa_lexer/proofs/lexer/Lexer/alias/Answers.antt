@@ -1,6 +1,6 @@
 use Rattle.std.proofs.Common.{arith, refl, sym, ◌∙◌}
-use Rattle.hoa_lexer.proofs.Between.{between_as}
-use Rattle.hoa_lexer.proofs.Words.{words_end, alias_bad, alias_end, alias_err}
+use Rattle.hoa_lexer.proofs.next_token.Between.{between_as}
+use Rattle.hoa_lexer.proofs.spelling.Words.{words_end, alias_bad, alias_end, alias_err}
 use Rattle.hoa_lexer.proofs.lexer.Lexer.alias.Goals as goal
 
 pub returns-then-is_empty-clause-answers : goal.returns-then-is_empty-clause-answers

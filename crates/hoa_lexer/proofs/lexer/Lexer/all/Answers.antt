@@ -3,8 +3,8 @@ use Rattle.hoa_lexer.specs.All.{AnswersAll}
 use Rattle.hoa_lexer.specs.Reading.{held_count, unread, Answers, Between}
 use Rattle.hoa_lexer.specs.Text.{Lexes}
 use Rattle.hoa_lexer.specs.declared.token.Token.{Token}
-use Rattle.hoa_lexer.proofs.All.{at_next, fails_behind, lexes_push}
-use Rattle.hoa_lexer.proofs.Between.{between_then, between_both}
+use Rattle.hoa_lexer.proofs.next_token.All.{at_next, fails_behind, lexes_push}
+use Rattle.hoa_lexer.proofs.next_token.Between.{between_then, between_both}
 use Rattle.hoa_lexer.proofs.lexer.Lexer.all.Goals as goal
 
 pub tokens-preserved : goal.tokens-preserved

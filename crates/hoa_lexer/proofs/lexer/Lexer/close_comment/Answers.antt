@@ -1,6 +1,6 @@
 use Rattle.std.proofs.Common.{rules, arith}
-use Rattle.hoa_lexer.proofs.Between.{between_then}
-use Rattle.hoa_lexer.proofs.Comments.{comment_step, comment_err}
+use Rattle.hoa_lexer.proofs.next_token.Between.{between_then}
+use Rattle.hoa_lexer.proofs.spelling.Comments.{comment_step, comment_err}
 use Rattle.hoa_lexer.proofs.lexer.Lexer.close_comment.Goals as goal
 
 pub returns-in-Err-clause-answers : goal.returns-in-Err-clause-answers

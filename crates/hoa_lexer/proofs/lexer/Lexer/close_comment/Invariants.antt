@@ -1,6 +1,6 @@
 use Rattle.std.proofs.Common.{◌≡◌, ◌+◌, ◌-◌, ◌<◌, List, ℕ, ◌++◌, length}
 use Rattle.hoa_lexer.specs.Reading.{held_count, unread, Between}
-use Rattle.hoa_lexer.specs.Steps.{Advances, closing}
+use Rattle.hoa_lexer.specs.inner.Steps.{Advances, closing}
 use Rattle.hoa_lexer.proofs.lexer.Lexer.close_comment.Given as goal
 
 abbrev pub invariant-comment : goal.invariant-comment

@@ -1,7 +1,7 @@
 use Rattle.std.proofs.Common.{◌≡◌, arith, ◌∙◌, sym}
-use Rattle.hoa_lexer.proofs.Between.{between_as}
-use Rattle.hoa_lexer.proofs.Comments.{byte_read, end_read, unheld}
-use Rattle.hoa_lexer.proofs.Dashes.{dashes_bad, dashes_end, dashes_err}
+use Rattle.hoa_lexer.proofs.next_token.Between.{between_as}
+use Rattle.hoa_lexer.proofs.spelling.Comments.{byte_read, end_read, unheld}
+use Rattle.hoa_lexer.proofs.spelling.Dashes.{dashes_bad, dashes_end, dashes_err}
 use Rattle.hoa_lexer.proofs.lexer.Lexer.dashed.Goals as goal
 
 pub returns-in-Ok-Some-clause-answers : goal.returns-in-Ok-Some-clause-answers

@@ -1,5 +1,5 @@
-use Rattle.hoa_lexer.proofs.Between.{between_as}
-use Rattle.hoa_lexer.proofs.Dashes.{tail_answer, tail_err}
+use Rattle.hoa_lexer.proofs.next_token.Between.{between_as}
+use Rattle.hoa_lexer.proofs.spelling.Dashes.{tail_answer, tail_err}
 use Rattle.hoa_lexer.proofs.lexer.Lexer.dashed_tail.Goals as goal
 
 pub returns-in-Ok-clause-answers : goal.returns-in-Ok-clause-answers

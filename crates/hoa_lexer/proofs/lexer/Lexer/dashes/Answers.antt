@@ -1,7 +1,7 @@
 use Rattle.std.proofs.Common.{◌≡◌, arith}
-use Rattle.hoa_lexer.proofs.Between.{between_as}
-use Rattle.hoa_lexer.proofs.Comments.{byte_read, end_read}
-use Rattle.hoa_lexer.proofs.Dashes.{dash_bad, dash_end, dash_err}
+use Rattle.hoa_lexer.proofs.next_token.Between.{between_as}
+use Rattle.hoa_lexer.proofs.spelling.Comments.{byte_read, end_read}
+use Rattle.hoa_lexer.proofs.spelling.Dashes.{dash_bad, dash_end, dash_err}
 use Rattle.hoa_lexer.proofs.lexer.Lexer.dashes.Goals as goal
 
 pub returns-in-Ok-Some-clause-answers : goal.returns-in-Ok-Some-clause-answers

@@ -1,7 +1,7 @@
 use Rattle.std.proofs.Common.{arith}
-use Rattle.hoa_lexer.proofs.Between.{between_then}
-use Rattle.hoa_lexer.proofs.Comments.{byte_read, end_read}
-use Rattle.hoa_lexer.proofs.Dashes.{expect_bad, expect_end, expect_err}
+use Rattle.hoa_lexer.proofs.next_token.Between.{between_then}
+use Rattle.hoa_lexer.proofs.spelling.Comments.{byte_read, end_read}
+use Rattle.hoa_lexer.proofs.spelling.Dashes.{expect_bad, expect_end, expect_err}
 use Rattle.hoa_lexer.proofs.lexer.Lexer.expect.Goals as goal
 
 pub returns-then-byte-wanted-clause-answers : goal.returns-then-byte-wanted-clause-answers

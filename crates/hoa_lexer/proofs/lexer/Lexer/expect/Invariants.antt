@@ -1,6 +1,6 @@
 use Rattle.std.proofs.Common.{◌≡◌, ◌+◌, ◌++◌, length, None, take}
 use Rattle.hoa_lexer.specs.Reading.{Between}
-use Rattle.hoa_lexer.specs.Steps.{Advances}
+use Rattle.hoa_lexer.specs.inner.Steps.{Advances}
 use Rattle.hoa_lexer.proofs.lexer.Lexer.expect.Given as goal
 
 abbrev pub invariant-word : goal.invariant-word

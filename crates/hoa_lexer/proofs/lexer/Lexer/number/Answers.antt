@@ -1,7 +1,7 @@
 use Rattle.std.proofs.Common.{rules, arith, ◌+◌, ◌-◌, ◌*◌, ◌<◌, ◌∙◌, refl, sym}
-use Rattle.hoa_lexer.proofs.Between.{between_then, between_same}
-use Rattle.hoa_lexer.proofs.Comments.{byte_read, end_read}
-use Rattle.hoa_lexer.proofs.Numbers.{digits_push, number_zero, number_token, holds_int, number_end, number_err, number_bad}
+use Rattle.hoa_lexer.proofs.next_token.Between.{between_then, between_same}
+use Rattle.hoa_lexer.proofs.spelling.Comments.{byte_read, end_read}
+use Rattle.hoa_lexer.proofs.spelling.Numbers.{digits_push, number_zero, number_token, holds_int, number_end, number_err, number_bad}
 use Rattle.hoa_lexer.proofs.lexer.Lexer.number.Goals as goal
 
 pub returns-then-value-eq0-clause-answers : goal.returns-then-value-eq0-clause-answers

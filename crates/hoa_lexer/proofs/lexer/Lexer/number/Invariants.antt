@@ -1,7 +1,7 @@
 use Rattle.std.proofs.Common.{◌≡◌, ◌+◌, ◌-◌, ◌^◌, ◌<◌, length}
 use Rattle.hoa_lexer.specs.Reading.{held_count, unread, Between}
-use Rattle.hoa_lexer.specs.Steps.{Advances}
-use Rattle.hoa_lexer.proofs.Numbers.{IsDigits}
+use Rattle.hoa_lexer.specs.inner.Steps.{Advances}
+use Rattle.hoa_lexer.proofs.spelling.Numbers.{IsDigits}
 use Rattle.hoa_lexer.proofs.lexer.Lexer.number.Given as goal
 
 abbrev pub invariant-digits : goal.invariant-digits

@@ -1,7 +1,7 @@
 use Rattle.std.proofs.Common.{◌∷◌, ◌∙◌, ap, Some, [], refl, sym, inr}
-use Rattle.hoa_lexer.proofs.Between.{between_then, between_as}
-use Rattle.hoa_lexer.proofs.Comments.{byte_read, unheld}
-use Rattle.hoa_lexer.proofs.Strings.{quoted_escape, quoted_plain, quoted_err}
+use Rattle.hoa_lexer.proofs.next_token.Between.{between_then, between_as}
+use Rattle.hoa_lexer.proofs.spelling.Comments.{byte_read, unheld}
+use Rattle.hoa_lexer.proofs.spelling.Strings.{quoted_escape, quoted_plain, quoted_err}
 use Rattle.hoa_lexer.proofs.lexer.Lexer.quoted_byte.Goals as goal
 
 pub returns-in-Ok-Some-take-clause-answers : goal.returns-in-Ok-Some-take-clause-answers

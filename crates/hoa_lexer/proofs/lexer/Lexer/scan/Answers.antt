@@ -1,8 +1,8 @@
 use Rattle.std.proofs.Common.{arith, ◌≡◌, ◌+◌, ◌-◌, ◌∷◌, ◌∙◌, ap, length}
-use Rattle.hoa_lexer.proofs.Between.{between_then, between_both}
+use Rattle.hoa_lexer.proofs.next_token.Between.{between_then, between_both}
 use Rattle.hoa_lexer.specs.Reading.{held_count, unread}
-use Rattle.hoa_lexer.specs.Steps.{Skips}
-use Rattle.hoa_lexer.proofs.Fronts.{token_ok, token_err, err_offset, skips_byte, solid_space, solid_slash, length_unread}
+use Rattle.hoa_lexer.specs.inner.Steps.{Skips}
+use Rattle.hoa_lexer.proofs.next_token.Fronts.{token_ok, token_err, err_offset, skips_byte, solid_space, solid_slash, length_unread}
 use Rattle.hoa_lexer.proofs.lexer.Lexer.scan.Goals as goal
 
 pub token-requires-clause-space : goal.token-requires-clause-space

@@ -1,9 +1,9 @@
 use Rattle.std.proofs.Common.{rules, arith, ◌≡◌, ◌+◌, ◌∷◌, ◌∙◌, ap, Some, length, refl, sym}
-use Rattle.hoa_lexer.proofs.Between.{between_then, between_both, between_same}
-use Rattle.hoa_lexer.proofs.Comments.{byte_read}
-use Rattle.hoa_lexer.proofs.Fronts.{skips_none, skip_space, skips_then, fails_after, blanks_err, blanks_to, length_unread}
+use Rattle.hoa_lexer.proofs.next_token.Between.{between_then, between_both, between_same}
+use Rattle.hoa_lexer.proofs.spelling.Comments.{byte_read}
+use Rattle.hoa_lexer.proofs.next_token.Fronts.{skips_none, skip_space, skips_then, fails_after, blanks_err, blanks_to, length_unread}
 use Rattle.hoa_lexer.specs.Reading.{held_count, unread}
-use Rattle.hoa_lexer.specs.Steps.{Skips}
+use Rattle.hoa_lexer.specs.inner.Steps.{Skips}
 use Rattle.hoa_lexer.proofs.lexer.Lexer.skip_blanks.Goals as goal
 
 pub blanks-init : goal.blanks-init

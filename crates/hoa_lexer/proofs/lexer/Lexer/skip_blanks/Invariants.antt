@@ -1,6 +1,6 @@
 use Rattle.std.proofs.Common.{◌≡◌, ◌+◌, ◌-◌, length}
 use Rattle.hoa_lexer.specs.Reading.{held_count, unread, Between}
-use Rattle.hoa_lexer.specs.Steps.{Advances, Skips}
+use Rattle.hoa_lexer.specs.inner.Steps.{Advances, Skips}
 use Rattle.hoa_lexer.proofs.lexer.Lexer.skip_blanks.Given as goal
 
 abbrev pub invariant-blanks : goal.invariant-blanks

@@ -1,7 +1,7 @@
 use Rattle.std.proofs.Common.{arith, ◌∙◌, ap, Some, [], length}
-use Rattle.hoa_lexer.proofs.Between.{between_then, between_both, between_as}
-use Rattle.hoa_lexer.proofs.Comments.{byte_read, end_read}
-use Rattle.hoa_lexer.proofs.Fronts.{skip_closed, skip_bad, skip_end, skip_err}
+use Rattle.hoa_lexer.proofs.next_token.Between.{between_then, between_both, between_as}
+use Rattle.hoa_lexer.proofs.spelling.Comments.{byte_read, end_read}
+use Rattle.hoa_lexer.proofs.next_token.Fronts.{skip_closed, skip_bad, skip_end, skip_err}
 use Rattle.hoa_lexer.proofs.lexer.Lexer.skip_comment.Goals as goal
 
 pub returns-in-Ok-Some-eq42-clause-answers : goal.returns-in-Ok-Some-eq42-clause-answers

@@ -1,6 +1,6 @@
 use Rattle.std.proofs.Common.{arith, sym, ◌∙◌}
-use Rattle.hoa_lexer.proofs.Between.{between_then}
-use Rattle.hoa_lexer.proofs.Comments.{byte_read, step_err, step_closes, step_opens, step_stays}
+use Rattle.hoa_lexer.proofs.next_token.Between.{between_then}
+use Rattle.hoa_lexer.proofs.spelling.Comments.{byte_read, step_err, step_closes, step_opens, step_stays}
 use Rattle.hoa_lexer.proofs.lexer.Lexer.step_in.Goals as goal
 
 pub returns-in-Err-peek-clause-answers : goal.returns-in-Err-peek-clause-answers

@@ -1,7 +1,7 @@
 use Rattle.std.proofs.Common.{rules, arith, ap, [], refl}
-use Rattle.hoa_lexer.proofs.Between.{between_then, between_same}
+use Rattle.hoa_lexer.proofs.next_token.Between.{between_then, between_same}
 use Rattle.hoa_lexer.specs.Reading.{held_count}
-use Rattle.hoa_lexer.proofs.Strings.{string_push, string_err, string_token, string_none, quoted_read, quoted_end}
+use Rattle.hoa_lexer.proofs.spelling.Strings.{string_push, string_err, string_token, string_none, quoted_read, quoted_end}
 use Rattle.hoa_lexer.proofs.lexer.Lexer.string.Goals as goal
 
 pub string-init : goal.string-init

@@ -1,6 +1,6 @@
 use Rattle.std.proofs.Common.{◌≡◌, ◌+◌, ◌-◌, ◌<◌, List, ℕ, ◌++◌, length, None}
 use Rattle.hoa_lexer.specs.Reading.{held_count, Between}
-use Rattle.hoa_lexer.specs.Steps.{Advances}
+use Rattle.hoa_lexer.specs.inner.Steps.{Advances}
 use Rattle.hoa_lexer.specs.Spelling.{Quotes}
 use Rattle.hoa_lexer.proofs.lexer.Lexer.string.Given as goal
 

@@ -1,7 +1,7 @@
 use Rattle.std.proofs.Common.{arith, ◌≡◌, ◌∙◌, ℕ, List, [], ◌∷◌, inl, refl, sym}
 use Rattle.hoa_lexer.specs.Text.{IsNoToken}
-use Rattle.hoa_lexer.proofs.Between.{between_same}
-use Rattle.hoa_lexer.proofs.FirstBytes.{no_kind_token, mark_front}
+use Rattle.hoa_lexer.proofs.next_token.Between.{between_same}
+use Rattle.hoa_lexer.proofs.spelling.FirstBytes.{no_kind_token, mark_front}
 use Rattle.hoa_lexer.proofs.lexer.Lexer.token.Goals as goal
 
 pub returns-in-Some-clause-answers : goal.returns-in-Some-clause-answers

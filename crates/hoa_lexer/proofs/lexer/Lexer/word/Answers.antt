@@ -1,5 +1,5 @@
-use Rattle.hoa_lexer.proofs.Between.{between_as}
-use Rattle.hoa_lexer.proofs.Words.{words_end, word_end, word_err}
+use Rattle.hoa_lexer.proofs.next_token.Between.{between_as}
+use Rattle.hoa_lexer.proofs.spelling.Words.{words_end, word_end, word_err}
 use Rattle.hoa_lexer.proofs.lexer.Lexer.word.Goals as goal
 
 pub returns-in-Ok-None-clause-answers : goal.returns-in-Ok-None-clause-answers

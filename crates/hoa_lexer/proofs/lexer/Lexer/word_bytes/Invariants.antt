@@ -1,6 +1,6 @@
 use Rattle.std.proofs.Common.{◌≡◌, ◌+◌, ◌-◌, length}
 use Rattle.hoa_lexer.specs.Reading.{held_count, unread, Between}
-use Rattle.hoa_lexer.specs.Steps.{Advances, AddsWord}
+use Rattle.hoa_lexer.specs.inner.Steps.{Advances, AddsWord}
 use Rattle.hoa_lexer.proofs.lexer.Lexer.word_bytes.Given as goal
 
 abbrev pub invariant-bytes : goal.invariant-bytes

@@ -1,4 +1,4 @@
-use Rattle.hoa_parser.proofs.Bodies.{edge_nowhere, edge_unlabelled, edge_unmarked, edge_whole}
+use Rattle.hoa_parser.proofs.reading.Bodies.{edge_nowhere, edge_unlabelled, edge_unmarked, edge_whole}
 use Rattle.hoa_parser.proofs.parse.body.edge.Goals as goal
 
 pub returns-in-Err-clause-reads : goal.returns-in-Err-clause-reads

@@ -1,12 +1,12 @@
 use Rattle.std.proofs.Common.{List, [], ◌∷◌, Ok, sym, subst}
-use Rattle.hoa_parser.proofs.Bodies.{edges_over}
-use Rattle.hoa_parser.proofs.Chaining.{list_next, list_none}
-use Rattle.hoa_parser.proofs.Moving.{fails_after}
-use Rattle.hoa_parser.proofs.Others.{past_edges}
-use Rattle.hoa_parser.specs.Expecting as part
+use Rattle.hoa_parser.proofs.reading.Bodies.{edges_over}
+use Rattle.hoa_parser.proofs.reading.RuleParts.{list_next, list_none}
+use Rattle.hoa_parser.proofs.reading.Moves.{fails_after}
+use Rattle.hoa_parser.proofs.grammar.OtherTokens.{past_edges}
+use Rattle.hoa_parser.specs.inner.Expecting as part
 use Rattle.hoa_parser.specs.Grammar.{OptionalWithin, edge_meaning, edge_tokens}
-use Rattle.hoa_parser.specs.Parsing.{Reads, state}
-use Rattle.hoa_parser.specs.RuleReads.{AreEdges, IsEdge}
+use Rattle.hoa_parser.specs.inner.Parsing.{Reads, state}
+use Rattle.hoa_parser.specs.inner.RuleReads.{AreEdges, IsEdge}
 use Rattle.hoa_parser.specs.Raw.{written_edge}
 use Rattle.hoa_parser.specs.Standing.{most_depth}
 use Rattle.hoa_parser.specs.declared.raw.RawEdge.{RawEdge}

@@ -1,11 +1,11 @@
 use Rattle.std.proofs.Common.{[], None, refl}
 use Rattle.hoa_lexer.specs.declared.token.Token.TheVariants as token
-use Rattle.hoa_parser.proofs.Bodies.{label_closed, label_fails, label_unclosed}
-use Rattle.hoa_parser.proofs.Moving.{takes_last}
-use Rattle.hoa_parser.proofs.Others.{past_label}
-use Rattle.hoa_parser.proofs.Tokens.{token_passed}
-use Rattle.hoa_parser.specs.Expecting.{MaybeLabel}
-use Rattle.hoa_parser.specs.RuleReads.{IsMaybeLabel}
+use Rattle.hoa_parser.proofs.reading.Bodies.{label_closed, label_fails, label_unclosed}
+use Rattle.hoa_parser.proofs.reading.Moves.{takes_last}
+use Rattle.hoa_parser.proofs.grammar.OtherTokens.{past_label}
+use Rattle.hoa_parser.proofs.reading.OneToken.{token_passed}
+use Rattle.hoa_parser.specs.inner.Expecting.{MaybeLabel}
+use Rattle.hoa_parser.specs.inner.RuleReads.{IsMaybeLabel}
 use Rattle.hoa_parser.proofs.parse.body.maybe_label.Goals as goal
 
 pub returns-in_default : goal.returns-in_default

@@ -1,11 +1,11 @@
 use Rattle.std.proofs.Common.{[], ◌∷◌, refl}
-use Rattle.hoa_parser.proofs.Bodies.{no_state_name, state_labelled, state_marked, state_name, state_named, state_named_so, state_numbered, state_opens, state_rest, state_whole}
-use Rattle.hoa_parser.proofs.Chaining.{next_fails}
-use Rattle.hoa_parser.proofs.Moving.{takes_last}
-use Rattle.hoa_parser.proofs.Others.{no_states}
-use Rattle.hoa_parser.proofs.Tokens.{known, token_refused}
-use Rattle.hoa_parser.specs.Expecting as part
-use Rattle.hoa_parser.specs.RuleReads.{AreEdges, AreMarks, IsMaybeLabel, IsNumber, IsOptionalText, IsState}
+use Rattle.hoa_parser.proofs.reading.Bodies.{no_state_name, state_labelled, state_marked, state_name, state_named, state_named_so, state_numbered, state_opens, state_rest, state_whole}
+use Rattle.hoa_parser.proofs.reading.RuleParts.{next_fails}
+use Rattle.hoa_parser.proofs.reading.Moves.{takes_last}
+use Rattle.hoa_parser.proofs.grammar.OtherTokens.{no_states}
+use Rattle.hoa_parser.proofs.reading.OneToken.{known, token_refused}
+use Rattle.hoa_parser.specs.inner.Expecting as part
+use Rattle.hoa_parser.specs.inner.RuleReads.{AreEdges, AreMarks, IsMaybeLabel, IsNumber, IsOptionalText, IsState}
 use Rattle.hoa_parser.proofs.parse.body.state_at.Goals as goal
 
 pub returns-in_default : goal.returns-in_default

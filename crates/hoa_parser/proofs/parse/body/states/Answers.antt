@@ -1,13 +1,13 @@
 use Rattle.std.proofs.Common.{List, [], ◌∷◌, Ok, sym, subst}
-use Rattle.hoa_parser.proofs.Bodies.{states_over}
-use Rattle.hoa_parser.proofs.Chaining.{ListSo, list_next, list_none}
-use Rattle.hoa_parser.proofs.Moving.{fails_after}
-use Rattle.hoa_parser.proofs.Others.{no_states}
-use Rattle.hoa_parser.proofs.Tokens.{token_refused}
-use Rattle.hoa_parser.specs.Expecting as part
+use Rattle.hoa_parser.proofs.reading.Bodies.{states_over}
+use Rattle.hoa_parser.proofs.reading.RuleParts.{ListSo, list_next, list_none}
+use Rattle.hoa_parser.proofs.reading.Moves.{fails_after}
+use Rattle.hoa_parser.proofs.grammar.OtherTokens.{no_states}
+use Rattle.hoa_parser.proofs.reading.OneToken.{token_refused}
+use Rattle.hoa_parser.specs.inner.Expecting as part
 use Rattle.hoa_parser.specs.Grammar.{StateWithin, state_meaning, state_tokens}
-use Rattle.hoa_parser.specs.Parsing.{Reads, state}
-use Rattle.hoa_parser.specs.RuleReads.{AreStates, IsState}
+use Rattle.hoa_parser.specs.inner.Parsing.{Reads, state}
+use Rattle.hoa_parser.specs.inner.RuleReads.{AreStates, IsState}
 use Rattle.hoa_parser.specs.Raw.{written_state}
 use Rattle.hoa_parser.specs.Standing.{most_depth}
 use Rattle.hoa_parser.specs.declared.raw.RawState.{RawState}

@@ -1,9 +1,9 @@
 use Rattle.std.proofs.Common.{◌+◌, ◌-◌, [], ◌∷◌, Ok}
 use Rattle.hoa_lexer.specs.Reading.{held_count}
-use Rattle.hoa_parser.proofs.Chaining.{ListSo}
-use Rattle.hoa_parser.specs.Expecting as part
+use Rattle.hoa_parser.proofs.reading.RuleParts.{ListSo}
+use Rattle.hoa_parser.specs.inner.Expecting as part
 use Rattle.hoa_parser.specs.Grammar.{StateWithin, state_meaning, state_tokens}
-use Rattle.hoa_parser.specs.Parsing.{Reads, state}
+use Rattle.hoa_parser.specs.inner.Parsing.{Reads, state}
 use Rattle.hoa_parser.specs.Raw.{written_state}
 use Rattle.hoa_parser.specs.Standing.{most_depth}
 use Rattle.hoa_parser.proofs.parse.body.states.Given as goal

@@ -1,18 +1,18 @@
 use Rattle.std.proofs.Common.{◌∷◌, [], ◌++◌, suc, refl, arith}
 use Rattle.std.proofs.lemmas.Bool.{le-leb, lt-leb}
 use Rattle.hoa_lexer.specs.declared.token.Token.TheVariants as token
-use Rattle.hoa_parser.proofs.Joining.{is_memory, memory_after, reads_before, reads_end, reads_framed, takes_on, too_deep}
-use Rattle.hoa_parser.proofs.ConditionChains.{adds_first_fand, adds_first_fatom, adds_fand, adds_fatom, condition_of, fand_of, fands_whole, fatoms_whole}
-use Rattle.hoa_parser.proofs.ConditionReads.{group_fails, group_reads, group_stays_open}
-use Rattle.hoa_parser.proofs.Leading.{passed_then}
-use Rattle.hoa_parser.proofs.Moving.{fails_after, fails_first, reads_as, reads_then, takes_last}
-use Rattle.hoa_parser.proofs.Others.{past_atoms, past_conjunctions}
+use Rattle.hoa_parser.proofs.reading.Joins.{is_memory, memory_after, reads_before, reads_end, reads_framed, takes_on, too_deep}
+use Rattle.hoa_parser.proofs.reading.ConditionChains.{adds_first_fand, adds_first_fatom, adds_fand, adds_fatom, condition_of, fand_of, fands_whole, fatoms_whole}
+use Rattle.hoa_parser.proofs.reading.ConditionReads.{group_fails, group_reads, group_stays_open}
+use Rattle.hoa_parser.proofs.reading.FrontParts.{passed_then}
+use Rattle.hoa_parser.proofs.reading.Moves.{fails_after, fails_first, reads_as, reads_then, takes_last}
+use Rattle.hoa_parser.proofs.grammar.OtherTokens.{past_atoms, past_conjunctions}
 use Rattle.aut_base.proofs.FormulaTrees.{formula_tree-And, formula_tree-Or}
-use Rattle.hoa_parser.proofs.Tokens.{token_passed}
-use Rattle.hoa_parser.specs.Chains.{AddsFands, AddsFatoms}
-use Rattle.hoa_parser.specs.Expecting.{ClosingParen, Atom, Atoms, Conjunctions, condition_parts}
+use Rattle.hoa_parser.proofs.reading.OneToken.{token_passed}
+use Rattle.hoa_parser.specs.inner.Chains.{AddsFands, AddsFatoms}
+use Rattle.hoa_parser.specs.inner.Expecting.{ClosingParen, Atom, Atoms, Conjunctions, condition_parts}
 use Rattle.hoa_parser.specs.Grammar.{no_fand, no_fatom}
-use Rattle.hoa_parser.specs.RuleReads.{IsAndFatom, IsAndFatoms, IsCondition, IsFand, IsFatom, IsOrFand, IsOrFands}
+use Rattle.hoa_parser.specs.inner.RuleReads.{IsAndFatom, IsAndFatoms, IsCondition, IsFand, IsFatom, IsOrFand, IsOrFands}
 use Rattle.aut_base.specs.Formula.{formula_tree}
 use Rattle.aut_base.specs.declared.formula.Formula.{Formula}
 use Rattle.aut_base.specs.declared.formula.Formula.TheVariants as rust

@@ -1,8 +1,8 @@
 use Rattle.std.proofs.Common.{◌+◌, ◌-◌, ◌*◌, ◌∷◌, [], Ok}
 use Rattle.hoa_lexer.specs.Reading.{held_count}
-use Rattle.hoa_parser.specs.Chains.{AddsFands, AddsFatoms}
-use Rattle.hoa_parser.specs.Expecting.{Atoms, Conjunctions}
-use Rattle.hoa_parser.specs.Parsing.{Reads, state}
+use Rattle.hoa_parser.specs.inner.Chains.{AddsFands, AddsFatoms}
+use Rattle.hoa_parser.specs.inner.Expecting.{Atoms, Conjunctions}
+use Rattle.hoa_parser.specs.inner.Parsing.{Reads, state}
 use Rattle.aut_base.specs.Formula.{formula_tree}
 use Rattle.hoa_parser.proofs.parse.condition.+condition.Given as goal
 

@@ -2,13 +2,13 @@ use Rattle.std.proofs.Common.{[], Some, refl, sym, ap, ◌∙◌}
 use Rattle.aut_base.proofs.FormulaTrees.{formula_tree-False, formula_tree-Fin, formula_tree-Inf, formula_tree-True}
 use Rattle.aut_base.specs.declared.formula.Formula.TheVariants as rust
 use Rattle.hoa_lexer.specs.declared.token.Token.TheVariants as token
-use Rattle.hoa_parser.proofs.Atoms.{no_sign, sign_found, sign_word}
-use Rattle.hoa_parser.proofs.Moving.{takes_last}
-use Rattle.hoa_parser.proofs.Sets.{sign_alone, sign_opens, sign_parts, sign_taken, sign_with_set, sign_without_set}
-use Rattle.hoa_parser.proofs.Tokens.{token_refused}
-use Rattle.hoa_parser.specs.Expecting.{Atom}
+use Rattle.hoa_parser.proofs.reading.Atoms.{no_sign, sign_found, sign_word}
+use Rattle.hoa_parser.proofs.reading.Moves.{takes_last}
+use Rattle.hoa_parser.proofs.reading.Sets.{sign_alone, sign_opens, sign_parts, sign_taken, sign_with_set, sign_without_set}
+use Rattle.hoa_parser.proofs.reading.OneToken.{token_refused}
+use Rattle.hoa_parser.specs.inner.Expecting.{Atom}
 use Rattle.hoa_parser.specs.Grammar.{false_condition, finitely, infinitely, true_condition}
-use Rattle.hoa_parser.specs.RuleReads.{IsFatom}
+use Rattle.hoa_parser.specs.inner.RuleReads.{IsFatom}
 use Rattle.hoa_parser.specs.declared.parse.condition.Sign.{Sign}
 use Rattle.hoa_parser.specs.declared.parse.condition.Sign.TheVariants as sign
 use Rattle.hoa_parser.proofs.parse.condition.atom.Goals as goal

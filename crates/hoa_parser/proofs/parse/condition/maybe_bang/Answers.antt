@@ -1,10 +1,10 @@
 use Rattle.std.proofs.Common.{true, false, [], ◌∷◌, refl}
 use Rattle.hoa_lexer.specs.declared.token.Token.TheVariants as token
-use Rattle.hoa_parser.proofs.Moving.{reads_as, takes, takes_last}
-use Rattle.hoa_parser.proofs.Others.{past_bang}
-use Rattle.hoa_parser.proofs.Tokens.{token_passed}
-use Rattle.hoa_parser.specs.Expecting.{MaybeBang}
-use Rattle.hoa_parser.specs.RuleReads.{IsToken, IsMaybeBang}
+use Rattle.hoa_parser.proofs.reading.Moves.{reads_as, takes, takes_last}
+use Rattle.hoa_parser.proofs.grammar.OtherTokens.{past_bang}
+use Rattle.hoa_parser.proofs.reading.OneToken.{token_passed}
+use Rattle.hoa_parser.specs.inner.Expecting.{MaybeBang}
+use Rattle.hoa_parser.specs.inner.RuleReads.{IsToken, IsMaybeBang}
 use Rattle.hoa_parser.proofs.parse.condition.maybe_bang.Goals as goal
 
 pub returns-in_default : goal.returns-in_default

@@ -1,10 +1,10 @@
 use Rattle.std.proofs.Common.{[], ◌∷◌}
 use Rattle.hoa_lexer.specs.declared.token.Token.TheVariants as token
-use Rattle.hoa_parser.proofs.Joining.{fails_behind_parts}
-use Rattle.hoa_parser.proofs.Moving.{fails_first}
-use Rattle.hoa_parser.proofs.Sets.{set_at_bang, set_at_number, set_at_paren}
-use Rattle.hoa_parser.specs.Expecting.{ClosingParen, MaybeBang, Number, OpeningParen}
-use Rattle.hoa_parser.specs.RuleReads.{IsToken, IsMaybeBang, IsNumber, IsSet}
+use Rattle.hoa_parser.proofs.reading.Joins.{fails_behind_parts}
+use Rattle.hoa_parser.proofs.reading.Moves.{fails_first}
+use Rattle.hoa_parser.proofs.reading.Sets.{set_at_bang, set_at_number, set_at_paren}
+use Rattle.hoa_parser.specs.inner.Expecting.{ClosingParen, MaybeBang, Number, OpeningParen}
+use Rattle.hoa_parser.specs.inner.RuleReads.{IsToken, IsMaybeBang, IsNumber, IsSet}
 use Rattle.hoa_parser.proofs.parse.condition.set.Goals as goal
 
 pub returns-in-Err : goal.returns-in-Err

@@ -1,8 +1,8 @@
 use Rattle.std.proofs.Common.{[], ◌∷◌}
-use Rattle.hoa_parser.proofs.ItemsRead.{part_then, part_then_fails, alias_read}
-use Rattle.hoa_parser.proofs.Moving.{fails_first}
-use Rattle.hoa_parser.specs.Expecting.{AliasName, label_parts}
-use Rattle.hoa_parser.specs.RuleReads.{IsItemWritten, IsAliasName, IsLabel}
+use Rattle.hoa_parser.proofs.reading.ItemsRead.{part_then, part_then_fails, alias_read}
+use Rattle.hoa_parser.proofs.reading.Moves.{fails_first}
+use Rattle.hoa_parser.specs.inner.Expecting.{AliasName, label_parts}
+use Rattle.hoa_parser.specs.inner.RuleReads.{IsItemWritten, IsAliasName, IsLabel}
 use Rattle.hoa_parser.specs.declared.header.Header.TheVariants as header
 use Rattle.hoa_parser.specs.declared.raw.Item.TheVariants as item
 use Rattle.hoa_parser.proofs.parse.item.alias.Goals as goal

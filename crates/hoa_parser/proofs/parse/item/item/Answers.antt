@@ -1,12 +1,12 @@
 use Rattle.std.proofs.Common.{[], ◌∷◌, sym, ap, ◌∙◌}
 use Rattle.hoa_lexer.specs.declared.token.Token.TheVariants as token
-use Rattle.hoa_parser.proofs.ItemsRead.{item_behind, no_item, no_item_behind, uses_then}
-use Rattle.hoa_parser.proofs.Others.{no_items}
-use Rattle.hoa_parser.proofs.Tokens.{known, token_refused}
-use Rattle.hoa_parser.specs.Expecting.{Items, header_move}
+use Rattle.hoa_parser.proofs.reading.ItemsRead.{item_behind, no_item, no_item_behind, uses_then}
+use Rattle.hoa_parser.proofs.grammar.OtherTokens.{no_items}
+use Rattle.hoa_parser.proofs.reading.OneToken.{known, token_refused}
+use Rattle.hoa_parser.specs.inner.Expecting.{Items, header_move}
 use Rattle.hoa_parser.specs.Grammar.{header_of}
-use Rattle.hoa_parser.specs.Expecting.{header_parts}
-use Rattle.hoa_parser.specs.RuleReads.{IsItem, IsItemOf}
+use Rattle.hoa_parser.specs.inner.Expecting.{header_parts}
+use Rattle.hoa_parser.specs.inner.RuleReads.{IsItem, IsItemOf}
 use Rattle.hoa_parser.proofs.parse.item.item.Goals as goal
 
 pub returns-in_default : goal.returns-in_default

@@ -1,5 +1,5 @@
-use Rattle.hoa_parser.proofs.ItemsRead.{is_other, item_of_part, name_read, other_read, properties_read, start_read, states_read}
-use Rattle.hoa_parser.specs.RuleReads.{AreValues, AreWords, IsConj, IsNumber, IsQuoted}
+use Rattle.hoa_parser.proofs.reading.ItemsRead.{is_other, item_of_part, name_read, other_read, properties_read, start_read, states_read}
+use Rattle.hoa_parser.specs.inner.RuleReads.{AreValues, AreWords, IsConj, IsNumber, IsQuoted}
 use Rattle.hoa_parser.specs.declared.header.Header.TheVariants as header
 use Rattle.hoa_parser.specs.declared.raw.Item.TheVariants as item
 use Rattle.hoa_parser.proofs.parse.item.item_of.Goals as goal

@@ -1,12 +1,12 @@
 use Rattle.std.proofs.Common.{List, [], ◌∷◌, Ok, sym, subst}
-use Rattle.hoa_parser.proofs.Chaining.{ListSo, list_next, list_none}
-use Rattle.hoa_parser.proofs.Moving.{fails_after}
-use Rattle.hoa_parser.proofs.Others.{no_items}
-use Rattle.hoa_parser.proofs.Tokens.{token_refused}
-use Rattle.hoa_parser.specs.Expecting as part
+use Rattle.hoa_parser.proofs.reading.RuleParts.{ListSo, list_next, list_none}
+use Rattle.hoa_parser.proofs.reading.Moves.{fails_after}
+use Rattle.hoa_parser.proofs.grammar.OtherTokens.{no_items}
+use Rattle.hoa_parser.proofs.reading.OneToken.{token_refused}
+use Rattle.hoa_parser.specs.inner.Expecting as part
 use Rattle.hoa_parser.specs.Grammar.{ItemWithin, item_meaning, item_tokens}
-use Rattle.hoa_parser.specs.Parsing.{Reads, state}
-use Rattle.hoa_parser.specs.RuleReads.{AreItems, IsItem}
+use Rattle.hoa_parser.specs.inner.Parsing.{Reads, state}
+use Rattle.hoa_parser.specs.inner.RuleReads.{AreItems, IsItem}
 use Rattle.hoa_parser.specs.Raw.{written_item}
 use Rattle.hoa_parser.specs.Standing.{most_depth}
 use Rattle.hoa_parser.specs.declared.raw.Item.{Item}

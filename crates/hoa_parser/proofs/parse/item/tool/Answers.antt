@@ -1,8 +1,8 @@
 use Rattle.std.proofs.Common.{[], ◌∷◌}
-use Rattle.hoa_parser.proofs.ItemsRead.{part_then, part_then_fails, tool_read}
-use Rattle.hoa_parser.proofs.Moving.{fails_first}
-use Rattle.hoa_parser.specs.Expecting.{MaybeQuoted, Quoted}
-use Rattle.hoa_parser.specs.RuleReads.{IsItemWritten, IsQuoted, IsOptionalText}
+use Rattle.hoa_parser.proofs.reading.ItemsRead.{part_then, part_then_fails, tool_read}
+use Rattle.hoa_parser.proofs.reading.Moves.{fails_first}
+use Rattle.hoa_parser.specs.inner.Expecting.{MaybeQuoted, Quoted}
+use Rattle.hoa_parser.specs.inner.RuleReads.{IsItemWritten, IsQuoted, IsOptionalText}
 use Rattle.hoa_parser.specs.declared.header.Header.TheVariants as header
 use Rattle.hoa_parser.specs.declared.raw.Item.TheVariants as item
 use Rattle.hoa_parser.proofs.parse.item.tool.Goals as goal

@@ -1,18 +1,18 @@
 use Rattle.std.proofs.Common.{◌∷◌, [], ◌++◌, suc, refl, ap, ◌∙◌, arith}
 use Rattle.std.proofs.lemmas.Bool.{le-leb, lt-leb}
 use Rattle.hoa_lexer.specs.declared.token.Token.TheVariants as token
-use Rattle.hoa_parser.proofs.Joining.{is_memory, memory_after, reads_before, reads_end, reads_framed, takes_on, too_deep}
-use Rattle.hoa_parser.proofs.LabelChains.{adds_first_land, adds_first_lnot, adds_land, adds_lnot, label_of, land_of, lands_whole, lnots_whole}
-use Rattle.hoa_parser.proofs.LabelReads.{group_fails, group_reads, group_stays_open, negation_fails, negation_reads}
-use Rattle.hoa_parser.proofs.Leading.{passed_then}
-use Rattle.hoa_parser.proofs.Moving.{fails_after, fails_first, reads_as, reads_then, takes_last}
-use Rattle.hoa_parser.proofs.Others.{past_factors, past_products}
-use Rattle.hoa_parser.proofs.RawTrees.{raw_tree-And, raw_tree-Not, raw_tree-Or}
-use Rattle.hoa_parser.proofs.Tokens.{token_passed}
-use Rattle.hoa_parser.specs.Chains.{AddsLands, AddsLnots}
-use Rattle.hoa_parser.specs.Expecting.{ClosingParen, Factor, Factors, Products, label_parts}
+use Rattle.hoa_parser.proofs.reading.Joins.{is_memory, memory_after, reads_before, reads_end, reads_framed, takes_on, too_deep}
+use Rattle.hoa_parser.proofs.reading.LabelChains.{adds_first_land, adds_first_lnot, adds_land, adds_lnot, label_of, land_of, lands_whole, lnots_whole}
+use Rattle.hoa_parser.proofs.reading.LabelReads.{group_fails, group_reads, group_stays_open, negation_fails, negation_reads}
+use Rattle.hoa_parser.proofs.reading.FrontParts.{passed_then}
+use Rattle.hoa_parser.proofs.reading.Moves.{fails_after, fails_first, reads_as, reads_then, takes_last}
+use Rattle.hoa_parser.proofs.grammar.OtherTokens.{past_factors, past_products}
+use Rattle.hoa_parser.proofs.grammar.RawTrees.{raw_tree-And, raw_tree-Not, raw_tree-Or}
+use Rattle.hoa_parser.proofs.reading.OneToken.{token_passed}
+use Rattle.hoa_parser.specs.inner.Chains.{AddsLands, AddsLnots}
+use Rattle.hoa_parser.specs.inner.Expecting.{ClosingParen, Factor, Factors, Products, label_parts}
 use Rattle.hoa_parser.specs.Grammar.{no_land, no_lnot}
-use Rattle.hoa_parser.specs.RuleReads.{IsAndLnot, IsAndLnots, IsLabel, IsLand, IsLnot, IsOrLand, IsOrLands}
+use Rattle.hoa_parser.specs.inner.RuleReads.{IsAndLnot, IsAndLnots, IsLabel, IsLand, IsLnot, IsOrLand, IsOrLands}
 use Rattle.hoa_parser.specs.Raw.{RawTree, raw_tree}
 use Rattle.hoa_parser.specs.declared.raw.RawLabel.{RawLabel}
 use Rattle.hoa_parser.specs.declared.raw.RawLabel.TheVariants as rust

@@ -1,8 +1,8 @@
 use Rattle.std.proofs.Common.{◌+◌, ◌-◌, ◌*◌, ◌∷◌, [], Ok}
 use Rattle.hoa_lexer.specs.Reading.{held_count}
-use Rattle.hoa_parser.specs.Chains.{AddsLands, AddsLnots}
-use Rattle.hoa_parser.specs.Expecting.{Factors, Products}
-use Rattle.hoa_parser.specs.Parsing.{Reads, state}
+use Rattle.hoa_parser.specs.inner.Chains.{AddsLands, AddsLnots}
+use Rattle.hoa_parser.specs.inner.Expecting.{Factors, Products}
+use Rattle.hoa_parser.specs.inner.Parsing.{Reads, state}
 use Rattle.hoa_parser.specs.Raw.{raw_tree}
 use Rattle.hoa_parser.proofs.parse.label.+label.Given as goal
 

@@ -1,11 +1,11 @@
 use Rattle.std.proofs.Common.{◌∷◌, [], refl, sym, ap, ◌∙◌}
 use Rattle.std.specs.Option.{option_map}
-use Rattle.hoa_parser.proofs.Atoms.{atom_found, no_atom}
-use Rattle.hoa_parser.proofs.LabelChains.{subst_tokens}
-use Rattle.hoa_parser.proofs.Tokens.{token_last, token_refused, token_taken}
-use Rattle.hoa_parser.specs.Expecting.{Factor}
+use Rattle.hoa_parser.proofs.reading.Atoms.{atom_found, no_atom}
+use Rattle.hoa_parser.proofs.reading.LabelChains.{subst_tokens}
+use Rattle.hoa_parser.proofs.reading.OneToken.{token_last, token_refused, token_taken}
+use Rattle.hoa_parser.specs.inner.Expecting.{Factor}
 use Rattle.hoa_parser.specs.Grammar.{lnot_tokens}
-use Rattle.hoa_parser.specs.RuleReads.{IsLnot}
+use Rattle.hoa_parser.specs.inner.RuleReads.{IsLnot}
 use Rattle.hoa_parser.specs.Raw.{raw_tree}
 use Rattle.hoa_parser.proofs.parse.label.atom.Goals as goal
 

@@ -1,9 +1,9 @@
 use Rattle.std.proofs.Common.{ℕ, List, [], ◌∷◌, ◌++◌, ap, ◌∙◌}
-use Rattle.hoa_parser.proofs.Looping.{answer_behind}
-use Rattle.hoa_parser.proofs.Moving.{fails_first, reads_more}
-use Rattle.hoa_parser.proofs.Values.{conj_whole}
-use Rattle.hoa_parser.specs.Expecting.{MoreNumbers, Number, conj_parts}
-use Rattle.hoa_parser.specs.RuleReads.{AddsNumbers, IsConj, IsNumber}
+use Rattle.hoa_parser.proofs.reading.LoopTurns.{answer_behind}
+use Rattle.hoa_parser.proofs.reading.Moves.{fails_first, reads_more}
+use Rattle.hoa_parser.proofs.grammar.Values.{conj_whole}
+use Rattle.hoa_parser.specs.inner.Expecting.{MoreNumbers, Number, conj_parts}
+use Rattle.hoa_parser.specs.inner.RuleReads.{AddsNumbers, IsConj, IsNumber}
 use Rattle.hoa_parser.proofs.parse.lists.conj.Goals as goal
 
 pub returns-in-Err-clause-reads : goal.returns-in-Err-clause-reads

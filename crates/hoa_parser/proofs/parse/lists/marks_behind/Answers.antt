@@ -1,11 +1,11 @@
 use Rattle.std.proofs.Common.{[], ◌∷◌, refl, sym}
 use Rattle.std.proofs.lemmas.List.{append-nil}
 use Rattle.hoa_lexer.specs.declared.token.Token.TheVariants as token
-use Rattle.hoa_parser.proofs.Looping.{last_behind, taken_behind, taken_last, token_behind}
-use Rattle.hoa_parser.proofs.Moving.{reads_nothing}
-use Rattle.hoa_parser.proofs.Values.{AddsInts, ints_more, marks_closed}
-use Rattle.hoa_parser.specs.Expecting.{Marks}
-use Rattle.hoa_parser.specs.RuleReads.{AddsMarks}
+use Rattle.hoa_parser.proofs.reading.LoopTurns.{last_behind, taken_behind, taken_last, token_behind}
+use Rattle.hoa_parser.proofs.reading.Moves.{reads_nothing}
+use Rattle.hoa_parser.proofs.grammar.Values.{AddsInts, ints_more, marks_closed}
+use Rattle.hoa_parser.specs.inner.Expecting.{Marks}
+use Rattle.hoa_parser.specs.inner.RuleReads.{AddsMarks}
 use Rattle.hoa_parser.proofs.parse.lists.marks_behind.Goals as goal
 
 pub marks-init : goal.marks-init

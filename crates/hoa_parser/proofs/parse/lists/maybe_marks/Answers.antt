@@ -1,12 +1,12 @@
 use Rattle.std.proofs.Common.{[], ◌∷◌, refl}
 use Rattle.hoa_lexer.specs.declared.token.Token.TheVariants as token
-use Rattle.hoa_parser.proofs.Looping.{answer_behind}
-use Rattle.hoa_parser.proofs.Moving.{takes, takes_last}
-use Rattle.hoa_parser.proofs.Others.{past_marks}
-use Rattle.hoa_parser.proofs.Tokens.{token_passed}
-use Rattle.hoa_parser.proofs.Values.{marks_whole, no_marks_there}
-use Rattle.hoa_parser.specs.Expecting.{Marks, MaybeMarks}
-use Rattle.hoa_parser.specs.RuleReads.{AddsMarks, AreMarks, IsToken}
+use Rattle.hoa_parser.proofs.reading.LoopTurns.{answer_behind}
+use Rattle.hoa_parser.proofs.reading.Moves.{takes, takes_last}
+use Rattle.hoa_parser.proofs.grammar.OtherTokens.{past_marks}
+use Rattle.hoa_parser.proofs.reading.OneToken.{token_passed}
+use Rattle.hoa_parser.proofs.grammar.Values.{marks_whole, no_marks_there}
+use Rattle.hoa_parser.specs.inner.Expecting.{Marks, MaybeMarks}
+use Rattle.hoa_parser.specs.inner.RuleReads.{AddsMarks, AreMarks, IsToken}
 use Rattle.hoa_parser.proofs.parse.lists.maybe_marks.Goals as goal
 
 pub returns-in_default : goal.returns-in_default

@@ -1,11 +1,11 @@
 use Rattle.std.proofs.Common.{[], ◌∷◌, refl, sym}
 use Rattle.std.proofs.lemmas.List.{append-nil}
 use Rattle.hoa_lexer.specs.declared.token.Token.TheVariants as token
-use Rattle.hoa_parser.proofs.Looping.{taken_behind, taken_last}
-use Rattle.hoa_parser.proofs.Moving.{fails_after, fails_first, reads_more, reads_nothing, reads_then}
-use Rattle.hoa_parser.proofs.Values.{AddsAmp, numbers_amp, numbers_more}
-use Rattle.hoa_parser.specs.Expecting.{MoreNumbers, Number}
-use Rattle.hoa_parser.specs.RuleReads.{AddsNumbers, IsNumber}
+use Rattle.hoa_parser.proofs.reading.LoopTurns.{taken_behind, taken_last}
+use Rattle.hoa_parser.proofs.reading.Moves.{fails_after, fails_first, reads_more, reads_nothing, reads_then}
+use Rattle.hoa_parser.proofs.grammar.Values.{AddsAmp, numbers_amp, numbers_more}
+use Rattle.hoa_parser.specs.inner.Expecting.{MoreNumbers, Number}
+use Rattle.hoa_parser.specs.inner.RuleReads.{AddsNumbers, IsNumber}
 use Rattle.hoa_parser.proofs.parse.lists.more_numbers.Goals as goal
 
 pub numbers-init : goal.numbers-init

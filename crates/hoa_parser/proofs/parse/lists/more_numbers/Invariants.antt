@@ -1,8 +1,8 @@
 use Rattle.std.proofs.Common.{◌+◌, ◌-◌, [], ◌∷◌, Ok}
 use Rattle.hoa_lexer.specs.Reading.{held_count}
-use Rattle.hoa_parser.specs.Expecting as part
-use Rattle.hoa_parser.specs.Parsing.{Reads, state}
-use Rattle.hoa_parser.specs.RuleReads.{AddsNumbers}
+use Rattle.hoa_parser.specs.inner.Expecting as part
+use Rattle.hoa_parser.specs.inner.Parsing.{Reads, state}
+use Rattle.hoa_parser.specs.inner.RuleReads.{AddsNumbers}
 use Rattle.hoa_parser.proofs.parse.lists.more_numbers.Given as goal
 
 abbrev pub invariant-numbers : goal.invariant-numbers

@@ -1,9 +1,9 @@
 use Rattle.std.proofs.Common.{[], ◌∷◌, refl, sym, ◌∙◌}
-use Rattle.hoa_parser.proofs.Looping.{last_behind, token_behind}
-use Rattle.hoa_parser.proofs.Moving.{reads_nothing}
-use Rattle.hoa_parser.proofs.Values.{value_at, values_more}
-use Rattle.hoa_parser.specs.Expecting.{Values}
-use Rattle.hoa_parser.specs.RuleReads.{AreValues}
+use Rattle.hoa_parser.proofs.reading.LoopTurns.{last_behind, token_behind}
+use Rattle.hoa_parser.proofs.reading.Moves.{reads_nothing}
+use Rattle.hoa_parser.proofs.grammar.Values.{value_at, values_more}
+use Rattle.hoa_parser.specs.inner.Expecting.{Values}
+use Rattle.hoa_parser.specs.inner.RuleReads.{AreValues}
 use Rattle.hoa_parser.proofs.parse.lists.values.Goals as goal
 
 pub values-init : goal.values-init

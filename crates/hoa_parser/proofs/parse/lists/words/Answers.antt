@@ -1,9 +1,9 @@
 use Rattle.std.proofs.Common.{ℕ, List, [], ◌∷◌, ◌++◌, refl, ap, ◌∙◌}
 use Rattle.hoa_lexer.specs.declared.token.Token.TheVariants as token
-use Rattle.hoa_parser.proofs.Looping.{last_behind, spelled_more, spelled_none, token_behind}
-use Rattle.hoa_parser.proofs.Moving.{reads_nothing}
-use Rattle.hoa_parser.specs.Expecting.{Words}
-use Rattle.hoa_parser.specs.RuleReads.{AreWords}
+use Rattle.hoa_parser.proofs.reading.LoopTurns.{last_behind, spelled_more, spelled_none, token_behind}
+use Rattle.hoa_parser.proofs.reading.Moves.{reads_nothing}
+use Rattle.hoa_parser.specs.inner.Expecting.{Words}
+use Rattle.hoa_parser.specs.inner.RuleReads.{AreWords}
 use Rattle.hoa_parser.proofs.parse.lists.words.Goals as goal
 
 pub words-init : goal.words-init

@@ -1,4 +1,4 @@
-use Rattle.hoa_parser.proofs.Advancing.{advance_fails}
+use Rattle.hoa_parser.proofs.reading.LexerFaults.{advance_fails}
 use Rattle.hoa_parser.proofs.parse.tokens.advance.Goals as goal
 
 pub returns-in-Err : goal.returns-in-Err

@@ -1,8 +1,8 @@
 use Rattle.std.proofs.Common.{[], refl}
 use Rattle.hoa_lexer.specs.declared.token.Token.TheVariants as token
-use Rattle.hoa_parser.proofs.Others.{no_closing_bracket}
-use Rattle.hoa_parser.proofs.Tokens.{token_read, token_refused}
-use Rattle.hoa_parser.specs.Expecting.{ClosingBracket}
+use Rattle.hoa_parser.proofs.grammar.OtherTokens.{no_closing_bracket}
+use Rattle.hoa_parser.proofs.reading.OneToken.{token_read, token_refused}
+use Rattle.hoa_parser.specs.inner.Expecting.{ClosingBracket}
 use Rattle.hoa_parser.proofs.parse.tokens.closing_bracket.Goals as goal
 
 pub returns-in-RightBracket : goal.returns-in-RightBracket

@@ -1,8 +1,8 @@
 use Rattle.std.proofs.Common.{[], refl}
 use Rattle.hoa_lexer.specs.declared.token.Token.TheVariants as token
-use Rattle.hoa_parser.proofs.Others.{no_closing_paren}
-use Rattle.hoa_parser.proofs.Tokens.{token_read, token_refused}
-use Rattle.hoa_parser.specs.Expecting.{ClosingParen}
+use Rattle.hoa_parser.proofs.grammar.OtherTokens.{no_closing_paren}
+use Rattle.hoa_parser.proofs.reading.OneToken.{token_read, token_refused}
+use Rattle.hoa_parser.specs.inner.Expecting.{ClosingParen}
 use Rattle.hoa_parser.proofs.parse.tokens.closing_paren.Goals as goal
 
 pub returns-in-RightParen : goal.returns-in-RightParen

@@ -1,8 +1,8 @@
 use Rattle.std.proofs.Common.{refl, Some, None}
 use Rattle.hoa_lexer.specs.declared.token.Token.TheVariants as token
-use Rattle.hoa_parser.proofs.Others.{past_quoted}
-use Rattle.hoa_parser.proofs.Tokens.{token_passed, token_read}
-use Rattle.hoa_parser.specs.Expecting.{MaybeQuoted}
+use Rattle.hoa_parser.proofs.grammar.OtherTokens.{past_quoted}
+use Rattle.hoa_parser.proofs.reading.OneToken.{token_passed, token_read}
+use Rattle.hoa_parser.specs.inner.Expecting.{MaybeQuoted}
 use Rattle.hoa_parser.proofs.parse.tokens.maybe_quoted.Goals as goal
 
 pub returns-in-Str : goal.returns-in-Str

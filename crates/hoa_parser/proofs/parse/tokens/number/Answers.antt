@@ -1,8 +1,8 @@
 use Rattle.std.proofs.Common.{[], refl}
 use Rattle.hoa_lexer.specs.declared.token.Token.TheVariants as token
-use Rattle.hoa_parser.proofs.Others.{no_number}
-use Rattle.hoa_parser.proofs.Tokens.{token_last, token_refused, token_taken}
-use Rattle.hoa_parser.specs.Expecting.{Number}
+use Rattle.hoa_parser.proofs.grammar.OtherTokens.{no_number}
+use Rattle.hoa_parser.proofs.reading.OneToken.{token_last, token_refused, token_taken}
+use Rattle.hoa_parser.specs.inner.Expecting.{Number}
 use Rattle.hoa_parser.proofs.parse.tokens.number.Goals as goal
 
 pub returns-in_default-clause-reads : goal.returns-in_default-clause-reads

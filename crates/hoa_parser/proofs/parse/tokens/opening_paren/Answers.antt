@@ -1,8 +1,8 @@
 use Rattle.std.proofs.Common.{[], refl}
 use Rattle.hoa_lexer.specs.declared.token.Token.TheVariants as token
-use Rattle.hoa_parser.proofs.Others.{no_opening_paren}
-use Rattle.hoa_parser.proofs.Tokens.{token_read, token_refused}
-use Rattle.hoa_parser.specs.Expecting.{OpeningParen}
+use Rattle.hoa_parser.proofs.grammar.OtherTokens.{no_opening_paren}
+use Rattle.hoa_parser.proofs.reading.OneToken.{token_read, token_refused}
+use Rattle.hoa_parser.specs.inner.Expecting.{OpeningParen}
 use Rattle.hoa_parser.proofs.parse.tokens.opening_paren.Goals as goal
 
 pub returns-in-LeftParen : goal.returns-in-LeftParen

@@ -1,9 +1,9 @@
 use Rattle.std.proofs.Common.{ℕ, List, [], ◌∷◌, refl, sym, subst}
 use Rattle.hoa_lexer.specs.declared.token.Token.TheVariants as token
-use Rattle.hoa_parser.proofs.Others.{no_quoted}
-use Rattle.hoa_parser.proofs.Tokens.{token_last, token_refused, token_taken}
-use Rattle.hoa_parser.specs.Expecting.{Quoted}
-use Rattle.hoa_parser.specs.Parsing.{Passed}
+use Rattle.hoa_parser.proofs.grammar.OtherTokens.{no_quoted}
+use Rattle.hoa_parser.proofs.reading.OneToken.{token_last, token_refused, token_taken}
+use Rattle.hoa_parser.specs.inner.Expecting.{Quoted}
+use Rattle.hoa_parser.specs.inner.Parsing.{Passed}
 use Rattle.hoa_parser.proofs.parse.tokens.quoted.Goals as goal
 
 pub returns-in_default : goal.returns-in_default

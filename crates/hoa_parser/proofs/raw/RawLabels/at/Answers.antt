@@ -1,7 +1,7 @@
 use Rattle.std.proofs.Common.{arith}
 use Rattle.aut_base.proofs.Places.{tree_behind_two}
 use Rattle.hoa_parser.specs.Raw.{raw_tree}
-use Rattle.hoa_parser.proofs.RawTrees.{raw_list-fields}
+use Rattle.hoa_parser.proofs.grammar.RawTrees.{raw_list-fields}
 use Rattle.hoa_parser.proofs.raw.RawLabels.at.Goals as goal
 
 pub returns-in_default : goal.returns-in_default

@@ -1,7 +1,7 @@
 use Rattle.std.proofs.Common.{◌≡◌, ◌+◌, map, drop, List, ℕ, arith, ap}
 use Rattle.std.proofs.lemmas.List.{drop_all}
-use Rattle.hoa_reader.proofs.Meanings.{sizes_fit}
-use Rattle.hoa_reader.specs.Growing.{cap, capped_sizes, sizes_in}
+use Rattle.hoa_reader.proofs.labels.Meanings.{sizes_fit}
+use Rattle.hoa_reader.specs.inner.Growing.{cap, capped_sizes, sizes_in}
 use Rattle.hoa_parser.specs.Raw.{raw_tree, raw_trees}
 use Rattle.hoa_parser.specs.declared.raw.RawLabel.{RawLabel}
 use Rattle.hoa_reader.proofs.elaborate.aliases.+growth.Goals as goal

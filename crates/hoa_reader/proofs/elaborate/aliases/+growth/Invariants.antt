@@ -1,5 +1,5 @@
 use Rattle.std.proofs.Common.{◌≡◌, ◌≤◌, ◌^◌, ◌-◌, ◌+◌, max, map, drop}
-use Rattle.hoa_reader.specs.Growing.{cap, capped_heights, capped_sizes, heights_in, sizes_in}
+use Rattle.hoa_reader.specs.inner.Growing.{cap, capped_heights, capped_sizes, heights_in, sizes_in}
 use Rattle.hoa_parser.specs.Raw.{raw_tree, raw_trees}
 use Rattle.hoa_reader.proofs.elaborate.aliases.+growth.Given as goal
 

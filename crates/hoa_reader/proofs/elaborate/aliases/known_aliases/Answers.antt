@@ -1,14 +1,14 @@
 use Rattle.std.proofs.Common.{◌≡◌, ◌+◌, ◌++◌, ℕ, Bool, true, false, drop, take, map, List, [], ◌∷◌, refl, sym, ap, ◌∙◌, is_some, length, get_or, slice_get, Some, subst, ◌<◌}
 use Rattle.std.proofs.lemmas.Bool.{false≢true, false_from_ne_true, and_parts}
 use Rattle.std.proofs.lemmas.List.{map-append}
-use Rattle.hoa_reader.proofs.DescribedSteps.{meanings_push}
-use Rattle.hoa_reader.proofs.Differing.{repeats}
-use Rattle.hoa_reader.proofs.Leaves.{leaves_agree}
-use Rattle.hoa_reader.proofs.Meanings.{known_listed, known_push, names_by}
+use Rattle.hoa_reader.proofs.description.OneMore.{meanings_push}
+use Rattle.hoa_reader.proofs.validity.AllDiffer.{repeats}
+use Rattle.hoa_reader.proofs.validity.Leaves.{leaves_agree}
+use Rattle.hoa_reader.proofs.labels.Meanings.{known_listed, known_push, names_by}
 use Rattle.hoa_reader.specs.Described.{Meaning, expanded, meanings_after}
-use Rattle.hoa_reader.specs.Growing.{AreKnown, meanings_by}
-use Rattle.hoa_reader.specs.Pieces.{alias_def, line_names}
-use Rattle.hoa_reader.specs.Places.{place_in}
+use Rattle.hoa_reader.specs.inner.Growing.{AreKnown, meanings_by}
+use Rattle.hoa_reader.specs.inner.Pieces.{alias_def, line_names}
+use Rattle.hoa_reader.specs.inner.Places.{place_in}
 use Rattle.hoa_parser.specs.Raw.{raw_tree}
 use Rattle.aut_base.specs.Text.{same_text}
 use Rattle.hoa_reader.specs.Validity.{AliasLine, aliases_among, all_differ, is_listed, uses_earlier}

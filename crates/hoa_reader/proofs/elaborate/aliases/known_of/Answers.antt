@@ -2,11 +2,11 @@ use Rattle.std.proofs.Common.{◌≡◌, true, List, ℕ, Option, Some, ap, sym,
 use Rattle.std.specs.Borrow.{Bor}
 use Rattle.std.specs.Option.{option_map}
 use Rattle.aut_base.specs.Label.{LabelTree}
-use Rattle.hoa_reader.proofs.Meanings.{is_that_alias, known_heights, known_sizes}
+use Rattle.hoa_reader.proofs.labels.Meanings.{is_that_alias, known_heights, known_sizes}
 use Rattle.hoa_reader.specs.Described.{expanded}
-use Rattle.hoa_reader.specs.Growing.{IsKnownAs, IsKnownBy, IsKnownOne, alias_name, meaning_names}
+use Rattle.hoa_reader.specs.inner.Growing.{IsKnownAs, IsKnownBy, IsKnownOne, alias_name, meaning_names}
 use Rattle.hoa_reader.specs.Validity.{aliases_among}
-use Rattle.hoa_reader.specs.Places.{place_in}
+use Rattle.hoa_reader.specs.inner.Places.{place_in}
 use Rattle.hoa_parser.specs.Raw as raw
 use Rattle.hoa_parser.specs.Raw.{raw_tree}
 use Rattle.hoa_reader.specs.declared.elaborate.aliases.Known.{Known}

@@ -1,7 +1,7 @@
 use Rattle.std.proofs.Common.{map, List, ap, sym, ◌∙◌, nat_le}
 use Rattle.std.specs.Prelude.{filter_map}
 use Rattle.std.specs.List.{list_all}
-use Rattle.hoa_reader.proofs.AfterAll.{numbers_below-after}
+use Rattle.hoa_reader.proofs.counting.AfterAll.{numbers_below-after}
 use Rattle.hoa_parser.specs.Raw.{written, written_item}
 use Rattle.hoa_reader.specs.Validity.{keeps, numbers_below, states_item, used_states}
 use Rattle.hoa_reader.specs.declared.elaborate.Rule.{Rule}

@@ -1,6 +1,6 @@
 use Rattle.std.proofs.Common.{◌≡◌, map, drop, nat_lt}
 use Rattle.hoa_parser.specs.Raw.{written_state}
-use Rattle.hoa_reader.specs.Weighing.{counted}
+use Rattle.hoa_reader.specs.inner.Weighing.{counted}
 use Rattle.hoa_reader.proofs.elaborate.counts.are_heavy.Given as goal
 
 abbrev pub invariant-states : goal.invariant-states

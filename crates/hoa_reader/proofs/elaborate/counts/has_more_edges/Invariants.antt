@@ -1,6 +1,6 @@
 use Rattle.std.proofs.Common.{◌≡◌, map, drop, length, nat_lt}
 use Rattle.hoa_parser.specs.Raw.{written_state}
-use Rattle.hoa_reader.specs.Weighing.{all_edges}
+use Rattle.hoa_reader.specs.inner.Weighing.{all_edges}
 use Rattle.hoa_reader.proofs.elaborate.counts.has_more_edges.Given as goal
 
 abbrev pub invariant-states : goal.invariant-states

@@ -2,7 +2,7 @@ use Rattle.std.proofs.Common.{◌≡◌, ◌+◌, ◌-◌, ◌∙◌, map, drop,
 use Rattle.std.proofs.lemmas.List.Sums.{sum_by-cons}
 use Rattle.std.specs.Prelude.{sum_by}
 use Rattle.hoa_parser.specs.Raw.{written_edge, written_state}
-use Rattle.hoa_reader.specs.Weighing.{edge_counted, state_counted}
+use Rattle.hoa_reader.specs.inner.Weighing.{edge_counted, state_counted}
 use Rattle.hoa_parser.specs.declared.raw.RawEdge.{RawEdge}
 use Rattle.hoa_reader.proofs.elaborate.counts.left_after.Goals as goal
 use Rattle.aut_base.proofs.Lists.{drop-at}

@@ -1,7 +1,7 @@
 use Rattle.std.proofs.Common.{◌≡◌, ◌+◌, map, drop}
 use Rattle.std.specs.Prelude.{sum_by}
 use Rattle.hoa_parser.specs.Raw.{written_edge, written_state}
-use Rattle.hoa_reader.specs.Weighing.{edge_counted, state_counted}
+use Rattle.hoa_reader.specs.inner.Weighing.{edge_counted, state_counted}
 use Rattle.hoa_reader.proofs.elaborate.counts.left_after.Given as goal
 
 abbrev pub invariant-edges : goal.invariant-edges

@@ -1,7 +1,7 @@
 use Rattle.std.proofs.Common.{◌≡◌, ◌++◌, map, drop, ℕ}
 use Rattle.std.specs.List.{enumerate_from}
 use Rattle.aut_base.specs.Automaton.{tree_edge}
-use Rattle.hoa_reader.specs.TreeEdges.{tree_edge_for}
+use Rattle.hoa_reader.specs.inner.TreeEdges.{tree_edge_for}
 use Rattle.hoa_parser.specs.Raw.{WrittenEdge, written_edge, written_state}
 use Rattle.hoa_reader.proofs.elaborate.edges.add_edges.Given as goal
 

@@ -3,8 +3,8 @@ use Rattle.std.proofs.lemmas.List.Folds.{list_any-append}
 use Rattle.aut_base.specs.Automaton.{TreeEdge}
 use Rattle.aut_base.specs.Label.{LabelTree}
 use Rattle.aut_base.specs.Marks.{is_in}
-use Rattle.hoa_reader.proofs.Starts.{filter_below}
-use Rattle.hoa_reader.specs.TreeEdges.{label_for}
+use Rattle.hoa_reader.proofs.labels.StartsAndMarks.{filter_below}
+use Rattle.hoa_reader.specs.inner.TreeEdges.{label_for}
 use Rattle.hoa_reader.specs.Described.{below, marks_in_order, only_state}
 use Rattle.hoa_parser.specs.Raw.{written_edge, written_state}
 use Rattle.hoa_reader.proofs.elaborate.edges.edge_of.Goals as goal

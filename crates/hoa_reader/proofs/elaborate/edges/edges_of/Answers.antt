@@ -2,8 +2,8 @@ use Rattle.std.proofs.Common.{◌≡◌, ◌++◌, ◌+◌, ◌<◌, ◌∙◌, 
 use Rattle.std.proofs.lemmas.List.{append-nil, get_or_default}
 use Rattle.std.specs.Prelude.{flat_map}
 use Rattle.aut_base.specs.Automaton.{TreeEdge, tree_edge}
-use Rattle.hoa_reader.proofs.Indexing.{edges_more, got_map}
-use Rattle.hoa_reader.specs.TreeEdges.{IsDefinedAt, IsPlace, tree_edges_for, edges_for}
+use Rattle.hoa_reader.proofs.labels.StatePlaces.{edges_more, got_map}
+use Rattle.hoa_reader.specs.inner.TreeEdges.{IsDefinedAt, IsPlace, tree_edges_for, edges_for}
 use Rattle.hoa_parser.specs.Raw.{WrittenState, written_state}
 use Rattle.hoa_reader.proofs.elaborate.edges.edges_of.Goals as goal
 

@@ -1,6 +1,6 @@
 use Rattle.std.proofs.Common.{◌≡◌, map}
 use Rattle.aut_base.specs.Automaton.{tree_edge}
-use Rattle.hoa_reader.specs.TreeEdges.{edges_for}
+use Rattle.hoa_reader.specs.inner.TreeEdges.{edges_for}
 use Rattle.hoa_parser.specs.Raw.{written_state}
 use Rattle.hoa_reader.proofs.elaborate.edges.edges_of.Given as goal
 

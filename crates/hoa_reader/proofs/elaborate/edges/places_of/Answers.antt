@@ -2,10 +2,10 @@ use Rattle.std.proofs.Common.{◌≡◌, ◌==◌, ◌<◌, ◌+◌, ◌++◌, �
 use Rattle.std.proofs.lemmas.Bool.{false≢true, false_from_ne_true}
 use Rattle.std.proofs.lemmas.List.{length-map, length-take, map-append, length-set}
 use Rattle.std.specs.List.{list_any}
-use Rattle.hoa_reader.proofs.Differing.{repeats}
-use Rattle.hoa_reader.proofs.Indexing.{index_more}
-use Rattle.hoa_reader.specs.TreeEdges.{IsPlace}
-use Rattle.hoa_reader.specs.Pieces.{numbers}
+use Rattle.hoa_reader.proofs.validity.AllDiffer.{repeats}
+use Rattle.hoa_reader.proofs.labels.StatePlaces.{index_more}
+use Rattle.hoa_reader.specs.inner.TreeEdges.{IsPlace}
+use Rattle.hoa_reader.specs.inner.Pieces.{numbers}
 use Rattle.hoa_parser.specs.Raw.{WrittenState, written_state}
 use Rattle.hoa_reader.specs.Validity.{all_differ}
 use Rattle.hoa_parser.specs.declared.raw.RawState.{RawState}

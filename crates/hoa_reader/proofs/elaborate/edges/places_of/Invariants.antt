@@ -1,5 +1,5 @@
 use Rattle.std.proofs.Common.{◌≡◌, ◌<◌, map, take, length, get_or, ℕ, None}
-use Rattle.hoa_reader.specs.TreeEdges.{IsPlace}
+use Rattle.hoa_reader.specs.inner.TreeEdges.{IsPlace}
 use Rattle.hoa_parser.specs.Raw.{written_state}
 use Rattle.hoa_reader.proofs.elaborate.edges.places_of.Given as goal
 

@@ -1,12 +1,12 @@
 use Rattle.std.proofs.Common.{◌≡◌, ◌<◌, ◌≤◌, ℕ, List, map, Option, Some, IfOk, get_or, sym, ap, ◌∙◌, subst, arith, false}
 use Rattle.aut_base.proofs.LabelTrees.{label_tree-False}
 use Rattle.aut_base.specs.Label.{LabelTree, label_size, label_tree, labels_size}
-use Rattle.hoa_reader.proofs.Expanding.{and_of, bit_small, or_of, part_size, parts_expanded, size_pos}
-use Rattle.hoa_parser.proofs.RawTrees.{raw_tree-Alias, raw_tree-And-fields, raw_tree-Or-fields}
-use Rattle.hoa_reader.proofs.Meanings.{meaning_missing}
+use Rattle.hoa_reader.proofs.labels.ExpandedLabels.{and_of, bit_small, or_of, part_size, parts_expanded, size_pos}
+use Rattle.hoa_parser.proofs.grammar.RawTrees.{raw_tree-Alias, raw_tree-And-fields, raw_tree-Or-fields}
+use Rattle.hoa_reader.proofs.labels.Meanings.{meaning_missing}
 use Rattle.hoa_reader.specs.Described.{each_expanded, expanded, meaning_of}
-use Rattle.hoa_reader.specs.Growing.{AreKnown, IsKnownBy, IsKnownOne, alias_name, meaning_names, meanings_by, steps_left}
-use Rattle.hoa_reader.specs.Places.{place_in}
+use Rattle.hoa_reader.specs.inner.Growing.{AreKnown, IsKnownBy, IsKnownOne, alias_name, meaning_names, meanings_by, steps_left}
+use Rattle.hoa_reader.specs.inner.Places.{place_in}
 use Rattle.hoa_parser.specs.Raw.{RawTree, raw_tree, raw_trees}
 use Rattle.hoa_reader.specs.Validity.{is_listed}
 use Rattle.hoa_reader.specs.declared.elaborate.aliases.Known.{Known}

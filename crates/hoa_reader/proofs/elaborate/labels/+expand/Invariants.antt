@@ -1,7 +1,7 @@
 use Rattle.std.proofs.Common.{◌≡◌, ◌+◌, ◌*◌, map, take, ◌∷◌, ℕ}
 use Rattle.aut_base.specs.Label.{label_list, label_size, labels_size}
 use Rattle.hoa_reader.specs.Described.{each_expanded, expanded}
-use Rattle.hoa_reader.specs.Growing.{meanings_by, steps_left}
+use Rattle.hoa_reader.specs.inner.Growing.{meanings_by, steps_left}
 use Rattle.hoa_parser.specs.Raw.{RawTree, raw_tree, raw_trees}
 use Rattle.hoa_reader.proofs.elaborate.labels.+expand.Given as goal
 

@@ -1,5 +1,5 @@
 use Rattle.std.proofs.Common.{◌≡◌, true, is_some, map, drop}
-use Rattle.hoa_reader.specs.Places.{place_in}
+use Rattle.hoa_reader.specs.inner.Places.{place_in}
 use Rattle.hoa_parser.specs.Raw.{raw_tree, raw_trees}
 use Rattle.hoa_reader.specs.Validity.{all_leaves_pass}
 use Rattle.hoa_reader.proofs.elaborate.leaves.+aliases_among.Given as goal

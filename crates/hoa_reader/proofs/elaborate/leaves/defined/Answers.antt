@@ -2,10 +2,10 @@ use Rattle.std.proofs.Common.{◌≡◌, ◌&&◌, ◌+◌, ◌++◌, ℕ, true,
 use Rattle.std.proofs.lemmas.List.{drop_more, map-append}
 use Rattle.std.proofs.lemmas.List.Folds.{list_any-append}
 use Rattle.std.specs.List.{list_any}
-use Rattle.hoa_reader.proofs.Differing.{differ_more, found_or, repeats, some_not_none}
-use Rattle.hoa_reader.proofs.Leaves.{leaves_agree}
-use Rattle.hoa_reader.specs.Pieces.{alias_def, line_names}
-use Rattle.hoa_reader.specs.Places.{place_in}
+use Rattle.hoa_reader.proofs.validity.AllDiffer.{differ_more, found_or, repeats, some_not_none}
+use Rattle.hoa_reader.proofs.validity.Leaves.{leaves_agree}
+use Rattle.hoa_reader.specs.inner.Pieces.{alias_def, line_names}
+use Rattle.hoa_reader.specs.inner.Places.{place_in}
 use Rattle.hoa_parser.specs.Raw.{raw_tree}
 use Rattle.aut_base.specs.Text.{same_text}
 use Rattle.hoa_reader.specs.Validity.{AliasLine, aliases_among, all_differ, is_listed, uses_earlier}

@@ -1,7 +1,7 @@
 use Rattle.std.proofs.Common.{◌≡◌, true, is_some, [], map, take, drop, List, ℕ}
 use Rattle.std.specs.List.{list_any}
-use Rattle.hoa_reader.specs.Pieces.{alias_def, line_names}
-use Rattle.hoa_reader.specs.Places.{place_in}
+use Rattle.hoa_reader.specs.inner.Pieces.{alias_def, line_names}
+use Rattle.hoa_reader.specs.inner.Places.{place_in}
 use Rattle.aut_base.specs.Text.{same_text}
 use Rattle.hoa_reader.specs.Validity.{all_differ, uses_earlier}
 use Rattle.hoa_reader.proofs.elaborate.leaves.defined.Given as goal

@@ -1,11 +1,11 @@
 use Rattle.std.proofs.Common.{◌≡◌, ◌∙◌, ℕ, false, nat_lt, length, map, List, refl, sym, ap, arith}
 use Rattle.std.proofs.lemmas.Bool.Decides.{nat_tests}
-use Rattle.hoa_reader.proofs.EdgeCounts.{edge_count}
+use Rattle.hoa_reader.proofs.counting.EdgeCounts.{edge_count}
 use Rattle.hoa_reader.specs.Counts.{Edges, Aliases}
 use Rattle.hoa_parser.specs.Raw.{written, written_state}
 use Rattle.hoa_reader.specs.Validity.{acceptance_of, names_of}
 use Rattle.hoa_reader.specs.Described.{edges_of, state_count}
-use Rattle.hoa_reader.specs.Weighing.{all_edges}
+use Rattle.hoa_reader.specs.inner.Weighing.{all_edges}
 use Rattle.hoa_parser.specs.declared.raw.RawState.{RawState}
 use Rattle.hoa_reader.proofs.elaborate.limits.first_passed.Goals as goal
 

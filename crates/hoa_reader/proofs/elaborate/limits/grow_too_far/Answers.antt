@@ -1,14 +1,14 @@
 use Rattle.std.proofs.Common.{◌≡◌, ◌+◌, ◌-◌, ◌*◌, ◌||◌, ◌∙◌, ℕ, Bool, true, false, nat_lt, map, List, [], refl, sym, ap, arith}
 use Rattle.std.specs.Prelude.{sum_by}
-use Rattle.hoa_reader.proofs.Weighing.{edge_weighed, either_passes, tall_law, weight_law}
+use Rattle.hoa_reader.proofs.counting.Weights.{edge_weighed, either_passes, tall_law, weight_law}
 use Rattle.hoa_reader.specs.Counts.{Aliases, count_of, greatest, height, weight}
 use Rattle.hoa_reader.specs.Described.{Meaning, expanded, meanings_after, meanings_of}
-use Rattle.hoa_reader.specs.Gathered.{ArePartsOf}
-use Rattle.hoa_reader.specs.Growing.{AreKnown, cap, meanings_by}
-use Rattle.hoa_reader.specs.Pieces.{label_refs}
+use Rattle.hoa_reader.specs.inner.Gathered.{ArePartsOf}
+use Rattle.hoa_reader.specs.inner.Growing.{AreKnown, cap, meanings_by}
+use Rattle.hoa_reader.specs.inner.Pieces.{label_refs}
 use Rattle.hoa_parser.specs.Raw.{RawTree, Written, WrittenState, written, written_state}
 use Rattle.hoa_reader.specs.Validity.{body_labels}
-use Rattle.hoa_reader.specs.Weighing.{are_tall, counted}
+use Rattle.hoa_reader.specs.inner.Weighing.{are_tall, counted}
 use Rattle.hoa_reader.specs.declared.elaborate.aliases.Known.{Known}
 use Rattle.hoa_reader.specs.declared.elaborate.parts.Parts.{Parts}
 use Rattle.hoa_reader.specs.declared.elaborate.places.Places.{Places}

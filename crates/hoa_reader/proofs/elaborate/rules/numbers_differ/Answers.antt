@@ -5,7 +5,7 @@ use Rattle.std.proofs.lemmas.List.Folds.{list_any-append}
 use Rattle.std.specs.BTreeSet as tree
 use Rattle.std.specs.List.{list_any}
 use Rattle.std.specs.Ordering.{is_eq, nat_cmp}
-use Rattle.hoa_reader.proofs.Differing.{among_or, differ_more, repeats}
+use Rattle.hoa_reader.proofs.validity.AllDiffer.{among_or, differ_more, repeats}
 use Rattle.hoa_parser.specs.Raw.{WrittenState, written_state}
 use Rattle.hoa_reader.specs.Validity.{all_differ}
 use Rattle.hoa_parser.specs.declared.raw.RawState.{RawState}

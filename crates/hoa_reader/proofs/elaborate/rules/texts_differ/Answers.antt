@@ -1,8 +1,8 @@
 use Rattle.std.proofs.Common.{◌≡◌, arith, true, false, ◌∷◌, [], ◌∙◌, ap, sym, take, drop, ◌+◌, is_some}
 use Rattle.std.proofs.lemmas.List.Folds.{list_any-append}
 use Rattle.std.specs.List.{list_any}
-use Rattle.hoa_reader.proofs.Differing.{differ_more, found_or, repeats, some_not_none}
-use Rattle.hoa_reader.specs.Places.{place_in}
+use Rattle.hoa_reader.proofs.validity.AllDiffer.{differ_more, found_or, repeats, some_not_none}
+use Rattle.hoa_reader.specs.inner.Places.{place_in}
 use Rattle.aut_base.specs.Text.{same_text}
 use Rattle.hoa_reader.specs.Validity.{all_differ}
 use Rattle.hoa_reader.proofs.elaborate.rules.texts_differ.Goals as goal

@@ -2,7 +2,7 @@ use Rattle.std.proofs.Common.{◌≡◌, true, is_some, take, List, ℕ}
 use Rattle.std.specs.List.{list_any}
 use Rattle.aut_base.specs.Text.{same_text}
 use Rattle.hoa_reader.specs.Validity.{all_differ}
-use Rattle.hoa_reader.specs.Places.{place_in}
+use Rattle.hoa_reader.specs.inner.Places.{place_in}
 use Rattle.hoa_reader.proofs.elaborate.rules.texts_differ.Given as goal
 
 abbrev pub invariant-texts : goal.invariant-texts

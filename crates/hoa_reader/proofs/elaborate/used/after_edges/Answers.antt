@@ -1,6 +1,6 @@
 use Rattle.std.proofs.Common.{◌≡◌, ◌+◌, max, map, drop, List, ℕ, arith, ap, ◌∙◌}
 use Rattle.std.specs.Prelude.{flat_map}
-use Rattle.hoa_reader.proofs.AfterAll.{after_all-append}
+use Rattle.hoa_reader.proofs.counting.AfterAll.{after_all-append}
 use Rattle.hoa_reader.specs.Described.{after_all}
 use Rattle.hoa_parser.specs.Raw.{WrittenEdge, written_edge}
 use Rattle.hoa_parser.specs.declared.raw.RawEdge.{RawEdge}

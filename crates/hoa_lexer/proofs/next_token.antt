@@ -1,0 +1,7 @@
+-- The next token of a text, and lists of tokens.
+pub mod All
+pub mod Between
+pub mod Exclusive
+pub mod Fronts
+pub mod TokenExamples
+pub mod Unique

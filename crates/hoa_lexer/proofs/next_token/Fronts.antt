@@ -1,0 +1,410 @@
+-- What may stand where a token is sought.
+use Rattle.std.proofs.Common.{◌≡◌, ◌≢◌, ℕ, zero, suc, ◌+◌, ◌&&◌, ◌==◌, true, false, List, [], ◌∷◌, ◌++◌, length, Option, Some, None, Result, Ok, Err, inl, inr, refl, sym, subst, ◌∙◌, ap, arith, ⊎_elim}
+use Rattle.std.proofs.lemmas.Bool.{false≢true, and_right, cases_Bool}
+use Rattle.std.proofs.lemmas.List.{append_assoc, append-nil, length-append}
+use Rattle.hoa_lexer.specs.Blanks.{Closes, IsBlanks, IsOpenComment}
+use Rattle.hoa_lexer.specs.Blanks.IsBlanks.{nothing, space, comment}
+use Rattle.hoa_lexer.specs.Bytes.{is_space}
+use Rattle.hoa_lexer.specs.Reading.{unread, held_count, Answers}
+use Rattle.hoa_lexer.specs.inner.Steps.{closing, ClosesComment, IsReadFault, IsSolid, Skips, SkipsComment, SkipsBlanks, Pauses, ReadsToken, Tries}
+use Rattle.hoa_lexer.specs.Text.{IsFront, HasFront, IsNext, AfterBlanks, IsOpenString, IsOpenToken, IsNoToken, AsksForMore, AskedForOne, IsShownBy}
+use Rattle.hoa_lexer.proofs.spelling.Comments.{closing_after, closing_sound, unheld, holding, steps_out, steps_in, steps_on}
+use Rattle.hoa_lexer.proofs.spelling.FirstBytes.{front_head, no_front, no_space, no_slash, solid}
+use Rattle.hoa_lexer.specs.declared.token.LexFault.{LexFault}
+use Rattle.hoa_lexer.specs.declared.token.LexFault.TheVariants.{BadToken, OpenComment, OpenString, OpenToken, Read, Bytes, Memory}
+use Rattle.hoa_lexer.specs.declared.token.Token.{Token}
+use Rattle.hoa_lexer.specs.declared.token.Token.TheVariants.{Bang}
+
+-- a front's first byte is no blank's
+
+front_space : (b : ℕ) (bs : List ℕ) → is_space b ≡ true → HasFront (b ∷ bs) → ⊥
+front_space b bs h f = no_space f.token b (front_head b bs f.token f.rest f.front).kinds h
+
+front_slash : (bs : List ℕ) → HasFront (47 ∷ bs) → ⊥
+front_slash bs f = no_slash f.token (front_head 47 bs f.token f.rest f.front).kinds
+
+along : (a b : List ℕ) → a ≡ b → HasFront a → HasFront b
+along a b e f = subst HasFront e f
+
+pub front_spaces : (b : ℕ) (bs bytes : List ℕ) → is_space b ≡ true → bytes ≡ b ∷ bs → HasFront bytes → ⊥
+front_spaces b bs bytes h e f = front_space b bs h (along _ _ e f)
+
+pub front_slashes : (bs bytes : List ℕ) → bytes ≡ 47 ∷ bs → HasFront bytes → ⊥
+front_slashes bs bytes e f = front_slash bs (along _ _ e f)
+
+pub space_no_slash : (b : ℕ) → is_space b ≡ true → b ≡ 47 → ⊥
+space_no_slash b h e = false≢true (ap is_space (sym e) ∙ h)
+
+pub skips_none : (x : List ℕ) → Skips x x
+skips_none x = record { before = []; split = refl; blanks = nothing }
+
+-- two comments that open at one place close at one place
+pub same_close : (body body' bs bs' xs xs' : List ℕ) → Closes 1 body → Closes 1 body' → (body ++ bs) ++ xs ≡ (body' ++ bs') ++ xs' → bs ++ xs ≡ bs' ++ xs'
+same_close body body' bs bs' xs xs' h k e =
+    let here = closing_after 1 body (bs ++ xs) h in
+    let there = closing_after 1 body' (bs' ++ xs') k in
+    let whole : body ++ (bs ++ xs) ≡ body' ++ (bs' ++ xs') = sym (append_assoc body bs xs) ∙ e ∙ append_assoc body' bs' xs' in
+    let same : Some (bs ++ xs) ≡ Some (bs' ++ xs') = sym here ∙ ap (closing 1) whole ∙ there in
+    cc
+
+-- Where blanks are passed, and a token stands after others, it stands after the rest of those.
+pub skips_rest : (before before' x y : List ℕ) → IsBlanks before → IsBlanks before' → before ++ x ≡ before' ++ y → HasFront y → Skips x y
+skips_rest before before' x y nothing k e f = record { before = before'; split = e; blanks = k }
+skips_rest (b ∷ bs) before' x y (space h r) nothing e f = absurd (front_spaces b (bs ++ x) y h (sym e) f)
+skips_rest (b ∷ bs) (c ∷ cs) x y (space h r) (space k s) e f = skips_rest bs cs x y r s (let whole : b ∷ (bs ++ x) ≡ c ∷ (cs ++ y) = e in cc) f
+skips_rest (b ∷ bs) before' x y (space h r) (comment body cs k s t) e f =
+    absurd (space_no_slash b h (let whole : b ∷ (bs ++ x) ≡ 47 ∷ 42 ∷ ((body ++ cs) ++ y) = e ∙ ap (λ z. z ++ y) t in cc))
+skips_rest before before' x y (comment body bs h r t) nothing e f = absurd (front_slashes (42 ∷ ((body ++ bs) ++ x)) y (sym e ∙ ap (λ z. z ++ x) t) f)
+skips_rest before (c ∷ cs) x y (comment body bs h r t) (space k s) e f =
+    absurd (space_no_slash c k (let whole : 47 ∷ 42 ∷ ((body ++ bs) ++ x) ≡ c ∷ (cs ++ y) = sym (ap (λ z. z ++ x) t) ∙ e in cc))
+skips_rest before before' x y (comment body bs h r t) (comment body' bs' k s u) e f =
+    skips_rest bs bs' x y r s
+    (same_close body body' bs bs' x y h k
+    (let whole : 47 ∷ 42 ∷ ((body ++ bs) ++ x) ≡ 47 ∷ 42 ∷ ((body' ++ bs') ++ y) = sym (ap (λ z. z ++ x) t) ∙ e ∙ ap (λ z. z ++ y) u in cc)) f
+
+pub front_after : (before before' x y : List ℕ) → IsBlanks before → IsBlanks before' → before ++ x ≡ before' ++ y → HasFront y → AfterBlanks x HasFront
+front_after before before' x y h k e f =
+    let s = skips_rest before before' x y h k e f in
+    record { before = s.before; bytes = y; split = s.split; blanks = s.blanks; holds = f }
+
+-- where a token stands, no blank does
+no_blank : (x y before : List ℕ) → HasFront x → x ≡ before ++ y → IsBlanks before → x ≡ y
+no_blank x y before f e nothing = e
+no_blank x y (b ∷ bs) f e (space h r) = absurd (front_spaces b (bs ++ y) x h e f)
+no_blank x y before f e (comment body bs h r t) = absurd (front_slashes (42 ∷ ((body ++ bs) ++ y)) x (e ∙ ap (λ z. z ++ y) t) f)
+
+-- a text has one place where its next token stands
+pub same_place : (before before' x y : List ℕ) → IsBlanks before → IsBlanks before' → before ++ x ≡ before' ++ y → HasFront x → HasFront y → x ≡ y
+same_place before before' x y h k e f g =
+    let s = skips_rest before before' x y h k e g in
+    no_blank x y s.before f s.split s.blanks
+
+pub blanks_append : (a b : List ℕ) → IsBlanks a → IsBlanks b → IsBlanks (a ++ b)
+blanks_append a b nothing k = k
+blanks_append (c ∷ cs) b (space h r) k = space h (blanks_append cs b r k)
+blanks_append a b (comment body bs h r t) k =
+    comment body (bs ++ b) h (blanks_append bs b r k)
+    (ap (λ z. z ++ b) t ∙ ap (λ z. 47 ∷ 42 ∷ z) (append_assoc body bs b))
+
+pub skips_then : (x y z : List ℕ) → Skips x y → Skips y z → Skips x z
+skips_then x y z s r = record {
+  before = s.before ++ r.before;
+  split = s.split ∙ ap (λ w. s.before ++ w) r.split ∙ sym (append_assoc s.before r.before z);
+  blanks = blanks_append s.before r.before s.blanks r.blanks;
+}
+
+pub skip_space : (b : ℕ) (x y z : List ℕ) → is_space b ≡ true → y ≡ b ∷ z → Skips x y → Skips x z
+skip_space b x y z h e s = skips_then x y z s (record { before = b ∷ []; split = e; blanks = space h nothing })
+
+bang : HasFront (33 ∷ [])
+bang = record { token = Bang; rest = []; front = record { word = 33 ∷ []; split = refl; spells = refl; ends = tt } }
+
+-- open comments can be closed
+
+abbrev closers : ℕ → List ℕ
+closers zero = 33 ∷ []
+closers (suc d) = 42 ∷ 47 ∷ closers d
+
+closing_closers : (d : ℕ) → closing d (closers d) ≡ Some (33 ∷ [])
+closing_closers zero = refl
+closing_closers (suc d) = closing_closers d
+
+record Reopens (d : ℕ) (bytes : List ℕ) : Type 0 where
+  more : List ℕ
+  closed : closing d (bytes ++ more) ≡ Some (33 ∷ [])
+
+reopen_two : (d b c : ℕ) (bs : List ℕ)
+    → (closing d bs ≡ None → Reopens d bs)
+    → (closing (suc (suc d)) bs ≡ None → Reopens (suc (suc d)) bs)
+    → (closing (suc d) (c ∷ bs) ≡ None → Reopens (suc d) (c ∷ bs))
+    → closing (suc d) (b ∷ c ∷ bs) ≡ None → Reopens (suc d) (b ∷ c ∷ bs)
+reopen_two d b c bs out into on e = elim (cases_Bool ((b == 42) && (c == 47))) [
+  | inl h ↦ (let r = out (sym (steps_out d b c bs h) ∙ e) in record { more = r.more; closed = steps_out d b c (bs ++ r.more) h ∙ r.closed })
+  | inr h ↦ elim (cases_Bool ((b == 47) && (c == 42))) [
+    | inl k ↦ (let r = into (sym (steps_in d b c bs h k) ∙ e) in record { more = r.more; closed = steps_in d b c (bs ++ r.more) h k ∙ r.closed })
+    | inr k ↦ (let r = on (sym (steps_on d b c bs h k) ∙ e) in record { more = r.more; closed = steps_on d b c (bs ++ r.more) h k ∙ r.closed })
+  ]
+]
+
+reopen : (d : ℕ) (bytes : List ℕ) → closing d bytes ≡ None → Reopens d bytes
+reopen zero bytes e = absurd (cc)
+reopen (suc d) [] e = record { more = closers (suc d); closed = closing_closers (suc d) }
+reopen (suc d) (b ∷ []) e = record {
+  more = 10 ∷ closers (suc d);
+  closed = steps_on d b 10 (closers (suc d)) (and_right _ _ refl) (and_right _ _ refl) ∙ closing_closers d;
+}
+reopen (suc d) (b ∷ c ∷ bs) e =
+    reopen_two d b c bs (reopen d bs) (reopen (suc (suc d)) bs) (reopen (suc d) (c ∷ bs)) e
+
+-- a comment that is open
+open_front : (x before bytes : List ℕ) → ((rest : List ℕ) → x ≡ 42 ∷ rest → closing 1 rest ≡ None) → 47 ∷ x ≡ before ++ bytes → IsBlanks before → HasFront bytes → ⊥
+open_front x before bytes h e nothing f = front_slashes x bytes (sym e) f
+open_front x (b ∷ bs) bytes h e (space k r) f = space_no_slash b k (let whole : 47 ∷ x ≡ b ∷ (bs ++ bytes) = e in cc)
+open_front x before bytes h e (comment body bs k r t) f =
+    let whole : 47 ∷ x ≡ 47 ∷ 42 ∷ ((body ++ bs) ++ bytes) = e ∙ ap (λ z. z ++ bytes) t in
+    let inside : x ≡ 42 ∷ ((body ++ bs) ++ bytes) = cc in
+    let left_open : closing 1 ((body ++ bs) ++ bytes) ≡ None = h _ inside in
+    let done : closing 1 ((body ++ bs) ++ bytes) ≡ Some (bs ++ bytes) = ap (closing 1) (append_assoc body bs bytes) ∙ closing_after 1 body (bs ++ bytes) k in
+    cc
+
+asks_comment : (seen : List ℕ) → closing 1 seen ≡ None → AsksForMore (47 ∷ 42 ∷ seen)
+asks_comment seen e =
+    let r = reopen 1 seen e in
+    let w = closing_sound 1 (seen ++ r.more) (33 ∷ []) r.closed in
+    record {
+      unclosed = λ a. open_front (42 ∷ seen) a.before a.bytes (λ rest k. let same : seen ≡ rest = cc in sym (ap (closing 1) same) ∙ e) a.split a.blanks a.holds;
+      more = r.more;
+      closes = record {
+        before = 47 ∷ 42 ∷ w.body;
+        bytes = 33 ∷ [];
+        split = ap (λ z. 47 ∷ 42 ∷ z) w.split;
+        blanks = comment w.body [] w.closes nothing (ap (λ z. 47 ∷ 42 ∷ z) (sym (append-nil w.body)));
+        holds = bang;
+      };
+    }
+
+asks_slash : AsksForMore (47 ∷ [])
+asks_slash = record {
+  unclosed = λ a. open_front [] a.before a.bytes (λ rest k. absurd (cc)) a.split a.blanks a.holds;
+  more = 42 ∷ 42 ∷ 47 ∷ 33 ∷ [];
+  closes = record {
+    before = 47 ∷ 42 ∷ 42 ∷ 47 ∷ [];
+    bytes = 33 ∷ [];
+    split = refl;
+    blanks = comment (42 ∷ 47 ∷ []) [] tt nothing refl;
+    holds = bang;
+  };
+}
+
+no_after_nil : (before bytes : List ℕ) → [] ≡ before ++ bytes → HasFront bytes → ⊥
+no_after_nil [] bytes e f = no_front (along _ _ (sym e) f)
+no_after_nil (b ∷ bs) bytes e f = cc
+
+asks_blanks : (before : List ℕ) → IsBlanks before → AsksForMore before
+asks_blanks before h = record {
+  unclosed = λ a.
+      let w = front_after before a.before [] a.bytes h a.blanks (append-nil before ∙ a.split) a.holds in
+      no_after_nil w.before w.bytes w.split w.holds;
+  more = 33 ∷ [];
+  closes = record { before = before; bytes = 33 ∷ []; split = refl; blanks = h; holds = bang };
+}
+
+-- no token stands in blanks alone
+pub asks_blanks_unclosed : (before : List ℕ) → IsBlanks before → AfterBlanks before HasFront → ⊥
+asks_blanks_unclosed before h a = (asks_blanks before h).unclosed a
+
+-- the first two bytes of a comment, or what stands in place of the second
+
+pub skip_closed : (result : Result (Unit {0}) LexFault) (start : ℕ) (x y z : List ℕ) → x ≡ 42 ∷ y → ClosesComment result y z → SkipsComment result start (47 ∷ x) z
+skip_closed (Ok done) start x y z e h =
+    let w = closing_sound 1 y z h in
+    let split = w.split in
+    record {
+      before = 47 ∷ 42 ∷ w.body;
+      split = ap (λ v. 47 ∷ v) e ∙ ap (λ v. 47 ∷ 42 ∷ v) split;
+      blanks = comment w.body [] w.closes nothing (ap (λ v. 47 ∷ 42 ∷ v) (sym (append-nil w.body)));
+    }
+skip_closed (Err OpenComment) start x y z e h = record {
+  before = [];
+  bytes = 47 ∷ x;
+  split = refl;
+  blanks = nothing;
+  holds = record {
+    rest = y;
+    opens = ap (λ v. 47 ∷ v) e;
+    open_still = λ body more k w. let done : closing 1 y ≡ Some more = ap (closing 1) k ∙ closing_after 1 body more w in cc;
+  };
+}
+skip_closed (Err Bytes) start x y z e h =
+    (47 ∷ 42 ∷ h.0, ap (λ v. 47 ∷ v) e ∙ ap (λ v. 47 ∷ 42 ∷ v) h.1, asks_comment h.0 h.2)
+skip_closed (Err Read) start x y z e h = tt
+skip_closed (Err (BadToken n)) start x y z e h = absurd h
+skip_closed (Err OpenString) start x y z e h = absurd h
+skip_closed (Err OpenToken) start x y z e h = absurd h
+skip_closed (Err Memory) start x y z e h = absurd h
+
+slash_no_comment : (k start b : ℕ) (x y : List ℕ) → k ≡ start → (b ≡ 42 → ⊥) → x ≡ b ∷ y → AfterBlanks (47 ∷ x) (λ bytes. (k + length bytes ≡ start + length (47 ∷ x)) × IsNoToken bytes)
+slash_no_comment k start b x y s n e = record {
+  before = [];
+  bytes = 47 ∷ x;
+  split = refl;
+  blanks = nothing;
+  holds = (
+    ap (λ v. v + length (47 ∷ x)) s,
+    record {
+      some = λ w. cc;
+      no_space = solid 47 x refl;
+      no_comment = λ rest w. n (let same : b ∷ y ≡ 42 ∷ rest = cc in cc);
+      no_slash = λ w. let same : b ∷ y ≡ [] = cc in cc;
+      no_token = λ w. front_slash (x ++ w.more) w.front;
+    },
+  );
+}
+
+pub skip_bad : (k start b : ℕ) (x y : List ℕ) → k ≡ start → (b ≡ 42 → ⊥) → x ≡ b ∷ y → SkipsComment (Err (BadToken k)) start (47 ∷ x) y
+skip_bad k start b x y s n e = (
+  slash_no_comment k start b x y s n e,
+  record { at_hand = 47 ∷ []; byte = b; split = ap (λ w. 47 ∷ w) e; asks = asks_slash },
+  record { used = 47 ∷ b ∷ []; split = ap (λ w. 47 ∷ w) e; shows = slash_no_comment k start b (b ∷ []) [] s n refl },
+)
+
+pub skip_end : (start : ℕ) (x z : List ℕ) → x ≡ [] → SkipsComment (Err OpenToken) start (47 ∷ x) z
+skip_end start x z e = record {
+  before = [];
+  bytes = 47 ∷ x;
+  split = refl;
+  blanks = nothing;
+  holds = record {
+    some = λ w. cc;
+    no_string = λ rest w. cc;
+    unclosed = front_slash x;
+    begins = inl (ap (λ v. 47 ∷ v) e);
+  };
+}
+
+pub skip_err : (fault : LexFault) (h : Option ℕ) (start : ℕ) (x z : List ℕ) → IsReadFault fault → h ≡ None → x ≡ z → SkipsComment (Err fault) start (47 ∷ x) (unread h z)
+skip_err Read h start x z r k e = tt
+skip_err Bytes h start x z r k e = (47 ∷ [], ap (λ v. 47 ∷ v) (e ∙ sym (unheld h z k)), asks_slash)
+skip_err (BadToken n) h start x z r k e = absurd r
+skip_err OpenComment h start x z r k e = absurd r
+skip_err OpenString h start x z r k e = absurd r
+skip_err OpenToken h start x z r k e = absurd r
+skip_err Memory h start x z r k e = absurd r
+
+pub length_unread : (h : Option ℕ) (y : List ℕ) → length (unread h y) ≡ held_count h + length y
+length_unread None y = omega arith
+length_unread (Some b) y = omega arith
+
+-- faults after blanks
+
+after_skips : (x y : List ℕ) (P Q : List ℕ → Type 0) → ((bytes : List ℕ) → P bytes → Q bytes) → Skips x y → AfterBlanks y P → AfterBlanks x Q
+after_skips x y P Q f s a = record {
+  before = s.before ++ a.before;
+  bytes = a.bytes;
+  split = s.split ∙ ap (λ w. s.before ++ w) a.split ∙ sym (append_assoc s.before a.before a.bytes);
+  blanks = blanks_append s.before a.before s.blanks a.blanks;
+  holds = f a.bytes a.holds;
+}
+
+asks_after : (before at_hand : List ℕ) → IsBlanks before → AsksForMore at_hand → AsksForMore (before ++ at_hand)
+asks_after before at_hand h a = record {
+  unclosed = λ w. a.unclosed (front_after before w.before at_hand w.bytes h w.blanks w.split w.holds);
+  more = a.more;
+  closes = after_skips ((before ++ at_hand) ++ a.more) (at_hand ++ a.more) HasFront HasFront (λ bytes f. f)
+      (record { before = before; split = append_assoc before at_hand a.more; blanks = h }) a.closes;
+}
+
+shown_after : (k start start' : ℕ) (x y z : List ℕ) → Skips x y → start + length x ≡ start' + length y → IsShownBy k start' y z → IsShownBy k start x z
+shown_after k start start' x y z s e a =
+    let whole = ap length s.split ∙ length-append s.before y in
+    record {
+      used = s.before ++ a.used;
+      split = s.split ∙ ap (λ w. s.before ++ w) a.split ∙ sym (append_assoc s.before a.used z);
+      shows = after_skips (s.before ++ a.used) a.used (λ bytes. (k + length bytes ≡ start' + length a.used) × IsNoToken bytes)
+          (λ bytes. (k + length bytes ≡ start + length (s.before ++ a.used)) × IsNoToken bytes)
+          (λ bytes h. (omega (arith, h.0, e, whole, length-append s.before a.used), h.1))
+          (record { before = s.before; split = refl; blanks = s.blanks }) a.shows;
+    }
+
+pub fails_after : (fault : LexFault) (start start' offset offset' : ℕ) (x y z : List ℕ) → Skips x y → start + length x ≡ start' + length y → Answers (Err fault) start' offset' y z → Answers (Err fault) start offset x z
+fails_after (BadToken k) start start' offset offset' x y z s e a = (
+  after_skips x y (λ bytes. (k + length bytes ≡ start' + length y) × IsNoToken bytes) (λ bytes. (k + length bytes ≡ start + length x) × IsNoToken bytes)
+      (λ bytes h. (h.0 ∙ sym e, h.1)) s a.0,
+  record {
+    at_hand = s.before ++ a.1.at_hand;
+    byte = a.1.byte;
+    split = s.split ∙ ap (λ w. s.before ++ w) a.1.split ∙ sym (append_assoc s.before a.1.at_hand (a.1.byte ∷ z));
+    asks = asks_after s.before a.1.at_hand s.blanks a.1.asks;
+  },
+  shown_after k start start' x y z s e a.2,
+)
+fails_after OpenComment start start' offset offset' x y z s e a = after_skips x y IsOpenComment IsOpenComment (λ bytes h. h) s a
+fails_after OpenString start start' offset offset' x y z s e a = after_skips x y IsOpenString IsOpenString (λ bytes h. h) s a
+fails_after OpenToken start start' offset offset' x y z s e a = after_skips x y IsOpenToken IsOpenToken (λ bytes h. h) s a
+fails_after Bytes start start' offset offset' x y z s e a =
+    (s.before ++ a.0, s.split ∙ ap (λ w. s.before ++ w) a.1 ∙ sym (append_assoc s.before a.0 z), asks_after s.before a.0 s.blanks a.2)
+fails_after Read start start' offset offset' x y z s e a = tt
+fails_after Memory start start' offset offset' x y z s e a = tt
+
+pub blanks_err : (fault : LexFault) (h : Option ℕ) (start : ℕ) (x y z : List ℕ) → IsReadFault fault → h ≡ None → Skips x y → y ≡ z → Answers (Err fault) start 0 x (unread h z)
+blanks_err Read h start x y z r k s e = tt
+blanks_err Bytes h start x y z r k s e = (s.before, s.split ∙ ap (λ w. s.before ++ w) (e ∙ sym (unheld h z k)), asks_blanks s.before s.blanks)
+blanks_err (BadToken n) h start x y z r k s e = absurd r
+blanks_err OpenComment h start x y z r k s e = absurd r
+blanks_err OpenString h start x y z r k s e = absurd r
+blanks_err OpenToken h start x y z r k s e = absurd r
+blanks_err Memory h start x y z r k s e = absurd r
+
+pub blanks_to : (b : ℕ) (x y z : List ℕ) → Skips x y → y ≡ b ∷ z → Skips x (b ∷ z)
+blanks_to b x y z s e = record { before = s.before; split = s.split ∙ ap (λ w. s.before ++ w) e; blanks = s.blanks }
+
+pub skips_byte : (o h : Option ℕ) (b start : ℕ) (x y : List ℕ) → o ≡ Some b → h ≡ Some b → SkipsBlanks (Ok o) start x (unread h y) → Skips x (b ∷ y)
+skips_byte None h b start x y e k s = cc
+skips_byte (Some c) h b start x y e k s = record { before = s.before; split = s.split ∙ ap (λ w. s.before ++ w) (holding h b y k); blanks = s.blanks }
+
+pub solid_space : (o : Option ℕ) (b : ℕ) → o ≡ Some b → IsSolid (Ok o) → is_space b ≡ false
+solid_space None b e s = cc
+solid_space (Some c) b e s = (let same : b ≡ c = cc in ap is_space same ∙ s.0)
+
+pub solid_slash : (o : Option ℕ) (b : ℕ) → o ≡ Some b → IsSolid (Ok o) → b ≢ 47
+solid_slash None b e s = λ k. absurd (let other : None ≡ Some b = e in cc)
+solid_slash (Some c) b e s = (let same : b ≡ c = cc in λ k. s.1 (sym same ∙ k))
+
+-- a token after blanks
+
+-- where a token can come of the bytes, no blank stands at their front
+solid_after : (at_hand before bytes more : List ℕ) → at_hand ≢ [] → HasFront (at_hand ++ more) → at_hand ≡ before ++ bytes → IsBlanks before → HasFront bytes → HasFront at_hand
+solid_after at_hand before bytes more n f e nothing w = along _ _ (sym e) w
+solid_after at_hand (b ∷ bs) bytes more n f e (space k r) w = absurd (front_spaces b ((bs ++ bytes) ++ more) (at_hand ++ more) k (ap (λ v. v ++ more) e) f)
+solid_after at_hand before bytes more n f e (comment body bs k r t) w =
+    absurd (front_slashes (42 ∷ (((body ++ bs) ++ bytes) ++ more)) (at_hand ++ more) (ap (λ v. v ++ more) (e ∙ ap (λ v. v ++ bytes) t)) f)
+
+pauses_ask : (y z : List ℕ) (p : Pauses y z) → AsksForMore p.at_hand
+pauses_ask y z p = record {
+  unclosed = λ a. p.unclosed (solid_after p.at_hand a.before a.bytes p.begins.more p.some p.begins.front a.split a.blanks a.holds);
+  more = p.begins.more;
+  closes = record { before = []; bytes = p.at_hand ++ p.begins.more; split = refl; blanks = nothing; holds = p.begins.front };
+}
+
+at_once : (y : List ℕ) (P : List ℕ → Type 0) → P y → AfterBlanks y P
+at_once y P h = record { before = []; bytes = y; split = refl; blanks = nothing; holds = h }
+
+asked_for_one : (y z : List ℕ) → Tries y z → AskedForOne y z
+asked_for_one y z t = ⊎_elim
+    (λ first. record { at_hand = []; byte = t.byte; split = first; asks = asks_blanks [] nothing })
+    (λ p. record { at_hand = p.at_hand; byte = t.byte; split = p.split; asks = pauses_ask y (t.byte ∷ z) p })
+    t.past
+
+-- the answer to what the token's own function answered, where nothing stands before it
+token_err_here : (fault : LexFault) (offset : ℕ) (y z : List ℕ) → ReadsToken (Err fault) offset y z → Answers (Err fault) offset offset y z
+token_err_here (BadToken k) offset y z h = (
+  at_once y (λ bytes. (k + length bytes ≡ offset + length y) × IsNoToken bytes) (ap (λ n. n + length y) h.0, h.1),
+  asked_for_one y z h.2,
+  record {
+    used = h.3.used;
+    split = h.3.split;
+    shows = at_once h.3.used (λ bytes. (k + length bytes ≡ offset + length h.3.used) × IsNoToken bytes) (ap (λ n. n + length h.3.used) h.0, h.3.none);
+  },
+)
+token_err_here OpenComment offset y z h = absurd h
+token_err_here OpenString offset y z h = at_once y IsOpenString h
+token_err_here OpenToken offset y z h = at_once y IsOpenToken h
+token_err_here Bytes offset y z h = (h.at_hand, h.split, pauses_ask y z h)
+token_err_here Read offset y z h = tt
+token_err_here Memory offset y z h = tt
+
+pub token_err : (fault : LexFault) (start offset : ℕ) (x y z : List ℕ) → Skips x y → start + length x ≡ offset + length y → ReadsToken (Err fault) offset y z → Answers (Err fault) start offset x z
+token_err fault start offset x y z s e h = fails_after fault start offset offset offset x y z s e (token_err_here fault offset y z h)
+
+pub token_ok : (token : Token) (start offset : ℕ) (x y z : List ℕ) → Skips x y → start + length x ≡ offset + length y → IsFront y token z → IsNext x start token offset z
+token_ok token start offset x y z s e f = record {
+  before = s.before;
+  bytes = y;
+  split = s.split;
+  blanks = s.blanks;
+  place = omega (arith, e, simp length-append at (ap length s.split));
+  front = f;
+}
+
+pub err_offset : (fault : LexFault) (start offset offset' : ℕ) (x z : List ℕ) → Answers (Err fault) start offset x z → Answers (Err fault) start offset' x z
+err_offset fault start offset offset' x z a = fails_after fault start start offset' offset x x z (skips_none x) refl a

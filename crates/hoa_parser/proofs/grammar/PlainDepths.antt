@@ -1,0 +1,102 @@
+-- A label that is written down opens no more than any other label that means the same.
+use Rattle.std.proofs.Common.{ℕ, suc, ◌≤◌, arith}
+use Rattle.hoa_parser.specs.Grammar.{Label, LabelWithin, Lands, LandsWithin, Lnot, LnotWithin, Lnots, LnotsWithin, conjunction, label_meaning, lands_meaning, lnot_meaning, lnots_meaning}
+use Rattle.hoa_parser.specs.Grammar.Label.{label}
+use Rattle.hoa_parser.specs.Grammar.Lands.{no_land, or_land}
+use Rattle.hoa_parser.specs.Grammar.Lnots.{no_lnot, and_lnot}
+use Rattle.hoa_parser.specs.Grammar.Lnot.{true_label, false_label, proposition, alias, negated, group}
+use Rattle.hoa_parser.specs.Raw as raw
+use Rattle.hoa_parser.specs.Raw.{RawTree, RawTrees, raw_trees}
+use Rattle.hoa_parser.proofs.grammar.PlainLabels.{plain_lnot, plain_first, plain_others, plain_lnots, plain_lands, plain_label}
+
+-- where fewer are open around it
+
+mutual
+  label_less : (m d e : ℕ) (l : Label) → e ≤ d → LabelWithin m d l → LabelWithin m e l
+  label_less m d e (label f fs ls) k h = (lnot_less m d e f k h.0, lnots_less m d e fs k h.1, lands_less m d e ls k h.2)
+
+  lands_less : (m d e : ℕ) (ls : Lands) → e ≤ d → LandsWithin m d ls → LandsWithin m e ls
+  lands_less m d e no_land k h = tt
+  lands_less m d e (or_land f fs ls) k h = (lnot_less m d e f k h.0, lnots_less m d e fs k h.1, lands_less m d e ls k h.2)
+
+  lnots_less : (m d e : ℕ) (fs : Lnots) → e ≤ d → LnotsWithin m d fs → LnotsWithin m e fs
+  lnots_less m d e no_lnot k h = tt
+  lnots_less m d e (and_lnot f fs) k h = (lnot_less m d e f k h.0, lnots_less m d e fs k h.1)
+
+  lnot_less : (m d e : ℕ) (f : Lnot) → e ≤ d → LnotWithin m d f → LnotWithin m e f
+  lnot_less m d e true_label k h = tt
+  lnot_less m d e false_label k h = tt
+  lnot_less m d e (proposition i) k h = tt
+  lnot_less m d e (alias name) k h = tt
+  lnot_less m d e (negated f) k h = (omega (arith, k, h.0), lnot_less m (suc d) (suc e) f (omega (arith, k)) h.1)
+  lnot_less m d e (group l) k h = (omega (arith, k, h.0), label_less m (suc d) (suc e) l (omega (arith, k)) h.1)
+
+-- what is within between `&` is within alone, and between `|`
+
+alone_within : (m d : ℕ) (t : RawTree) → LnotWithin m d (plain_lnot t) → LabelWithin m d (plain_label t)
+alone_within m d raw.True h = (tt, tt, tt)
+alone_within m d raw.False h = (tt, tt, tt)
+alone_within m d (raw.Prop i) h = (tt, tt, tt)
+alone_within m d (raw.Alias name) h = (tt, tt, tt)
+alone_within m d (raw.Not t) h = (h, tt, tt)
+alone_within m d (raw.And t u ts) h = label_less m (suc d) d (plain_label (raw.And t u ts)) (omega arith) h.1
+alone_within m d (raw.Or t u ts) h = label_less m (suc d) d (plain_label (raw.Or t u ts)) (omega arith) h.1
+
+abbrev LandWithin : ℕ → ℕ → RawTree → Type 0
+LandWithin m d t = LnotWithin m d (plain_first t) × LnotsWithin m d (plain_others t)
+
+land_within : (m d : ℕ) (t : RawTree) → LnotWithin m d (plain_lnot t) → LandWithin m d t
+land_within m d raw.True h = (tt, tt)
+land_within m d raw.False h = (tt, tt)
+land_within m d (raw.Prop i) h = (tt, tt)
+land_within m d (raw.Alias name) h = (tt, tt)
+land_within m d (raw.Not t) h = (h, tt)
+land_within m d (raw.And t u ts) h =
+    let l = label_less m (suc d) d (plain_label (raw.And t u ts)) (omega arith) h.1 in
+    (l.0, l.1)
+land_within m d (raw.Or t u ts) h = (h, tt)
+
+-- what is within alone, behind one more `(`, is within between `&`
+grouped_within : (m d : ℕ) (t : RawTree) → suc d ≤ m → LabelWithin m (suc d) (plain_label t) → LnotWithin m d (plain_lnot t)
+grouped_within m d raw.True k h = tt
+grouped_within m d raw.False k h = tt
+grouped_within m d (raw.Prop i) k h = tt
+grouped_within m d (raw.Alias name) k h = tt
+grouped_within m d (raw.Not t) k h = lnot_less m (suc d) d (plain_lnot (raw.Not t)) (omega arith) h.0
+grouped_within m d (raw.And t u ts) k h = (k, h)
+grouped_within m d (raw.Or t u ts) k h = (k, h)
+
+-- the parts of a conjunction
+chain_within : (m d : ℕ) (f : Lnot) (fs : Lnots) → LnotWithin m d (plain_lnot (lnot_meaning f)) → LnotsWithin m d (plain_lnots (raw_trees (lnots_meaning fs)))
+    → LandWithin m d (conjunction (lnot_meaning f) (lnots_meaning fs))
+chain_within m d f no_lnot h k = land_within m d (lnot_meaning f) h
+chain_within m d f (and_lnot g gs) h k = (h, k)
+
+-- the parts of a disjunction
+chains_within : (m d : ℕ) (f : Lnot) (fs : Lnots) (ls : Lands) → LnotWithin m d (plain_lnot (lnot_meaning f)) → LnotsWithin m d (plain_lnots (raw_trees (lnots_meaning fs)))
+    → LandsWithin m d (plain_lands (raw_trees (lands_meaning ls))) → LabelWithin m d (plain_label (label_meaning (label f fs ls)))
+chains_within m d f no_lnot no_land h k l = alone_within m d (lnot_meaning f) h
+chains_within m d f (and_lnot g gs) no_land h k l = (h, k, tt)
+chains_within m d f fs (or_land g gs ls) h k l = let first = chain_within m d f fs h k in (first.0, first.1, l)
+
+mutual
+  pub plain_within : (m d : ℕ) (l : Label) → LabelWithin m d l → LabelWithin m d (plain_label (label_meaning l))
+  plain_within m d (label f fs ls) h = chains_within m d f fs ls (lnot_within m d f h.0) (lnots_within m d fs h.1) (lands_within m d ls h.2)
+
+  lands_within : (m d : ℕ) (ls : Lands) → LandsWithin m d ls → LandsWithin m d (plain_lands (raw_trees (lands_meaning ls)))
+  lands_within m d no_land h = tt
+  lands_within m d (or_land f fs ls) h =
+      let first = chain_within m d f fs (lnot_within m d f h.0) (lnots_within m d fs h.1) in
+      (first.0, first.1, lands_within m d ls h.2)
+
+  lnots_within : (m d : ℕ) (fs : Lnots) → LnotsWithin m d fs → LnotsWithin m d (plain_lnots (raw_trees (lnots_meaning fs)))
+  lnots_within m d no_lnot h = tt
+  lnots_within m d (and_lnot f fs) h = (lnot_within m d f h.0, lnots_within m d fs h.1)
+
+  lnot_within : (m d : ℕ) (f : Lnot) → LnotWithin m d f → LnotWithin m d (plain_lnot (lnot_meaning f))
+  lnot_within m d true_label h = tt
+  lnot_within m d false_label h = tt
+  lnot_within m d (proposition i) h = tt
+  lnot_within m d (alias name) h = tt
+  lnot_within m d (negated f) h = (h.0, lnot_within m (suc d) f h.1)
+  lnot_within m d (group l) h = grouped_within m d (label_meaning l) h.0 (plain_within m (suc d) l h.1)

@@ -1,0 +1,105 @@
+-- What is a value in a list of values.
+use Rattle.std.proofs.Common.{◌≡◌, ◌∷◌, ◌++◌, [], ℕ, true, false, List, map, flat_map, Some, None, refl, sym, ap, subst, ◌∙◌}
+use Rattle.std.proofs.lemmas.Bool.{false≢true}
+use Rattle.std.proofs.lemmas.List.{append_assoc}
+use Rattle.std.proofs.lemmas.List.Concat.{flat_map-append}
+use Rattle.hoa_lexer.specs.declared.token.Token.{Token}
+use Rattle.hoa_lexer.specs.declared.token.Token.TheVariants as token
+use Rattle.hoa_parser.proofs.reading.FrontParts.{passed_then}
+use Rattle.hoa_parser.proofs.reading.LoopTurns.{spelled_more}
+use Rattle.hoa_parser.specs.inner.Expecting.{AccValues, Passes, Takes, Values, move}
+use Rattle.hoa_parser.specs.Grammar.{AccValue, Value, acc_number, acc_value_token, acc_word, and_number, number_value, text_value, value_token, word_value}
+use Rattle.hoa_parser.specs.inner.Parsing.{Passed, Cursor, is_end}
+use Rattle.hoa_parser.specs.inner.RuleReads.{AddsMarks, AddsNumbers, AreAccValues, AreMarks, AreValues, IsConj, IsNumber, is_acc_value, is_value}
+
+-- a token that is one
+pub record IsAccValue (z : Token) : Type 0 where
+  pub value : AccValue
+  pub is : z ≡ acc_value_token value
+  pub taken : move AccValues z ≡ Takes (AccValues ∷ [])
+  pub unended : is_end z ≡ false
+
+pub acc_value_at : (z : Token) → is_acc_value z ≡ true → IsAccValue z
+acc_value_at (token.Int n) h = record { value = acc_number n; is = refl; taken = refl; unended = refl }
+acc_value_at (token.Identifier word) h = record { value = acc_word word; is = refl; taken = refl; unended = refl }
+acc_value_at z h = absurd (false≢true h)
+
+pub no_acc_value : (z : Token) → is_acc_value z ≡ false → move AccValues z ≡ Passes
+no_acc_value (token.Int n) h = absurd (false≢true (sym h))
+no_acc_value (token.Identifier word) h = absurd (false≢true (sym h))
+no_acc_value z h = refl
+
+pub acc_values_more : (z : Token) (done : Unit {0}) (a b c : Cursor) → IsAccValue z → AreAccValues done a b → Passed b (z ∷ []) c → AreAccValues done a c
+acc_values_more z done a b c one p q =
+    (p.0 ++ one.value ∷ [], spelled_more acc_value_token p.0 one.value (p.0 ++ one.value ∷ []) a b c refl p.1 (subst (λ (t : Token). Passed b (t ∷ []) c) one.is q))
+
+pub record IsValue (z : Token) : Type 0 where
+  pub value : Value
+  pub is : z ≡ value_token value
+  pub taken : move Values z ≡ Takes (Values ∷ [])
+  pub unended : is_end z ≡ false
+
+pub value_at : (z : Token) → is_value z ≡ true → IsValue z
+value_at (token.Int n) h = record { value = number_value n; is = refl; taken = refl; unended = refl }
+value_at (token.Str text) h = record { value = text_value text; is = refl; taken = refl; unended = refl }
+value_at (token.Identifier word) h = record { value = word_value word; is = refl; taken = refl; unended = refl }
+value_at z h = absurd (false≢true h)
+
+pub no_value : (z : Token) → is_value z ≡ false → move Values z ≡ Passes
+no_value (token.Int n) h = absurd (false≢true (sym h))
+no_value (token.Str text) h = absurd (false≢true (sym h))
+no_value (token.Identifier word) h = absurd (false≢true (sym h))
+no_value z h = refl
+
+pub values_more : (z : Token) (done : Unit {0}) (a b c : Cursor) → IsValue z → AreValues done a b → Passed b (z ∷ []) c → AreValues done a c
+values_more z done a b c one p q =
+    (p.0 ++ one.value ∷ [], spelled_more value_token p.0 one.value (p.0 ++ one.value ∷ []) a b c refl p.1 (subst (λ (t : Token). Passed b (t ∷ []) c) one.is q))
+
+-- the numbers that follow these
+abbrev pub AddsInts : List ℕ → List ℕ → Cursor → Cursor → Type 0
+AddsInts before numbers a b = (more : List ℕ) × Passed a (map token.Int more) b × (numbers ≡ before ++ more)
+
+pub ints_more : (before numbers news : List ℕ) (n : ℕ) (a b c : Cursor) → news ≡ numbers ++ n ∷ [] → AddsInts before numbers a b → Passed b (token.Int n ∷ []) c → AddsInts before news a c
+ints_more before numbers news n a b c is p q =
+    (p.0 ++ n ∷ [], spelled_more token.Int p.0 n (p.0 ++ n ∷ []) a b c refl p.1 q, is ∙ ap (λ (ns : List ℕ). ns ++ n ∷ []) p.2 ∙ append_assoc before p.0 (n ∷ []))
+
+-- the brace behind them
+pub marks_closed : (before numbers : List ℕ) (a b c : Cursor) → AddsInts before numbers a b → Passed b (token.RightBrace ∷ []) c → AddsMarks before numbers a c
+marks_closed before numbers a b c p q = (p.0, passed_then a b c (map token.Int p.0) (token.RightBrace ∷ []) p.1 q, p.2)
+
+-- a mark behind those of a conjunction, and its number
+pub record AddsAmp (before numbers : List ℕ) (a b : Cursor) : Type 0 where
+  pub more : List ℕ
+  pub passed : Passed a (flat_map and_number more ++ token.Amp ∷ []) b
+  pub are : numbers ≡ before ++ more
+
+pub numbers_amp : (before numbers : List ℕ) (a b c : Cursor) → AddsNumbers before numbers a b → Passed b (token.Amp ∷ []) c → AddsAmp before numbers a c
+numbers_amp before numbers a b c p q = record { more = p.0; passed = passed_then a b c (flat_map and_number p.0) (token.Amp ∷ []) p.1 q; are = p.2 }
+
+pub numbers_more : (before numbers news : List ℕ) (n : ℕ) (a b c : Cursor) → news ≡ numbers ++ n ∷ [] → AddsAmp before numbers a b → Passed b (token.Int n ∷ []) c → AddsNumbers before news a c
+numbers_more before numbers news n a b c is p q = (
+  p.more ++ n ∷ [],
+  subst (λ (ts : List Token). Passed a ts c) (append_assoc (flat_map and_number p.more) (token.Amp ∷ []) (token.Int n ∷ []) ∙ sym (flat_map-append and_number p.more (n ∷ [])))
+      (passed_then a b c (flat_map and_number p.more ++ token.Amp ∷ []) (token.Int n ∷ []) p.passed q),
+  is ∙ ap (λ (ns : List ℕ). ns ++ n ∷ []) p.are ∙ append_assoc before p.more (n ∷ []),
+)
+
+-- the whole of a conjunction, and of marks in braces
+pub conj_whole : (first : ℕ) (before numbers : List ℕ) (a b c : Cursor) → before ≡ first ∷ [] → IsNumber first a b → AddsNumbers before numbers b c → IsConj numbers a c
+conj_whole first before numbers a b c is p q = record {
+  phrase = record { first = first; others = q.0 };
+  within = tt;
+  passed = passed_then a b c (token.Int first ∷ []) (flat_map and_number q.0) p q.1;
+  means = q.2 ∙ ap (λ (ns : List ℕ). ns ++ q.0) is;
+}
+
+pub marks_whole : (before marks : List ℕ) (a b c : Cursor) → before ≡ [] → Passed a (token.LeftBrace ∷ []) b → AddsMarks before marks b c → AreMarks marks a c
+marks_whole before marks a b c none p q = record {
+  phrase = Some q.0;
+  within = tt;
+  passed = passed_then a b c (token.LeftBrace ∷ []) (map token.Int q.0 ++ token.RightBrace ∷ []) p q.1;
+  means = q.2 ∙ ap (λ (ns : List ℕ). ns ++ q.0) none;
+}
+
+pub no_marks_there : (marks : List ℕ) (a : Cursor) → marks ≡ [] → AreMarks marks a a
+no_marks_there marks a none = record { phrase = None; within = tt; passed = refl; means = none }

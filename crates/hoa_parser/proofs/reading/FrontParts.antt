@@ -1,0 +1,134 @@
+-- How readings of parts are put together, one behind the other.
+use Rattle.std.proofs.Common.{◌≡◌, ℕ, Bool, true, false, if◌then◌else◌, List, [], ◌∷◌, ◌++◌, Option, Some, None, refl, sym, ap, subst, ◌∙◌}
+use Rattle.std.proofs.lemmas.List.{append_assoc, append-nil}
+use Rattle.std.specs.Prelude.{nat_le}
+use Rattle.hoa_lexer.specs.declared.token.Token.{Token}
+use Rattle.hoa_parser.specs.inner.Expecting.{Part, Move, Takes, Passes, Refuses, after, after_some, behind, move, moved, open_at}
+use Rattle.hoa_parser.specs.inner.Parsing.{Follows, Goes, Leads, Passed, Cursor, Unended, is_end}
+use Rattle.hoa_parser.specs.Standing.{most_depth}
+
+pub after_append : (most : ℕ) (parts : Option (List Part)) (u v : List Token) → after_some most parts (u ++ v) ≡ after_some most (after_some most parts u) v
+after_append most None [] [] = refl
+after_append most None [] (z ∷ v) = refl
+after_append most None (t ∷ u) [] = refl
+after_append most None (t ∷ u) (z ∷ v) = refl
+after_append most (Some parts) [] v = refl
+after_append most (Some parts) (t ∷ u) v = after_append most (behind most parts t) u v
+
+pub passed_then : (a m b : Cursor) (u v : List Token) → Passed a u m → Passed m v b → Passed a (u ++ v) b
+passed_then a m b [] v p q = subst (λ (x : Cursor). Passed x v b) (sym p) q
+passed_then a m b (t ∷ u) v p q = (p.0, p.1, p.2, passed_then p.0 m b u v p.3 q)
+
+pub unended_then : (u v : List Token) → Unended u → Unended v → Unended (u ++ v)
+unended_then [] v p q = q
+unended_then (t ∷ u) v p q = (p.0, unended_then u v p.1 q)
+
+-- a part that takes a token leaves what it leaves, whatever is behind it
+pub takes_behind : (most : ℕ) (part : Part) (parts others : List Part) (z : Token) → move part z ≡ Takes parts → nat_le (open_at parts) most ≡ true → behind most (part ∷ others) z ≡ Some (parts ++ others)
+takes_behind most part parts others z takes opens =
+    ap (λ (m : Move). moved most m (behind most others z) others) takes ∙ ap (λ (b : Bool). if b then Some (parts ++ others) else None) opens
+
+pub passes_behind : (most : ℕ) (part : Part) (others : List Part) (z : Token) → move part z ≡ Passes → behind most (part ∷ others) z ≡ behind most others z
+passes_behind most part others z passes = ap (λ (m : Move). moved most m (behind most others z) others) passes
+
+pub refuses_behind : (most : ℕ) (part : Part) (others : List Part) (z : Token) → move part z ≡ Refuses → behind most (part ∷ others) z ≡ None
+refuses_behind most part others z refuses = ap (λ (m : Move). moved most m (behind most others z) others) refuses
+
+pub leads_one : (part : Part) (parts others : List Part) (z : Token) → move part z ≡ Takes parts → nat_le (open_at parts) most_depth ≡ true → Leads (part ∷ others) (z ∷ []) (parts ++ others)
+leads_one part parts others z takes opens = record {
+  runs = λ more.
+      ap (λ (o : Option (List Part)). after_some most_depth o []) (takes_behind most_depth part parts (others ++ more) z takes opens)
+      ∙ ap (λ (ps : List Part). Some ps) (sym (append_assoc parts others more));
+}
+
+-- nothing was passed
+pub goes_nowhere : (parts : List Part) (a : Cursor) → Goes parts a parts a
+goes_nowhere parts a = record { tokens = []; passed = refl; left = parts; leads = record { runs = λ others. refl }; unended = tt; over = λ most others. refl }
+
+-- the token at hand is taken by the first part
+pub goes_on : (part : Part) (parts others : List Part) (a b : Cursor) → move part a.token ≡ Takes parts → nat_le (open_at parts) most_depth ≡ true → is_end a.token ≡ false → Follows a b → Goes (part ∷ others) a (parts ++ others) b
+goes_on part parts others a b takes opens unended follows = record {
+  tokens = a.token ∷ [];
+  passed = (b, refl, follows, refl);
+  left = parts ++ others;
+  leads = leads_one part parts others a.token takes opens;
+  unended = (unended, tt);
+  over = λ most more. refl;
+}
+
+-- the token at hand shows that the first part is over
+pub goes_past : (part : Part) (others : List Part) (a : Cursor) → move part a.token ≡ Passes → Goes (part ∷ others) a others a
+goes_past part others a passes = record {
+  tokens = [];
+  passed = refl;
+  left = part ∷ others;
+  leads = record { runs = λ more. refl };
+  unended = tt;
+  over = λ most more. passes_behind most part (others ++ more) a.token passes;
+}
+
+leads_then : (p q left last : List Part) (u v : List Token) (z : Token) → Leads p u left → ((others : List Part) → behind most_depth (left ++ others) z ≡ behind most_depth (q ++ others) z) → Leads q (z ∷ v) last → Leads p (u ++ z ∷ v) last
+leads_then p q left last u v z first over second = record {
+  runs = λ others.
+      after_append most_depth (Some (p ++ others)) u (z ∷ v)
+      ∙ ap (λ (o : Option (List Part)). after_some most_depth o (z ∷ v)) (first.runs others)
+      ∙ ap (λ (o : Option (List Part)). after_some most_depth o v) (over others)
+      ∙ second.runs others;
+}
+
+-- where no token was passed, all is still expected
+same_left : (q last : List Part) → Leads q [] last → last ≡ q
+same_left q last leads =
+    let all : Some (q ++ []) ≡ Some (last ++ []) = leads.runs [] in
+    let parts : q ++ [] ≡ last ++ [] = cc in
+    sym (append-nil last) ∙ sym parts ∙ append-nil q
+
+leads_nil : (p left : List Part) (u : List Token) → Leads p u left → Leads p (u ++ []) left
+leads_nil p left u leads = subst (λ (us : List Token). Leads p us left) (sym (append-nil u)) leads
+
+goes_both : (p q r : List Part) (a m b : Cursor) (one : Goes p a q m) (v : List Token) (left : List Part) → Passed m v b → Leads q v left → Unended v → ((most : ℕ) (others : List Part) → behind most (left ++ others) b.token ≡ behind most (r ++ others) b.token) → Goes p a r b
+goes_both p q r a m b one [] left passed leads unended over = record {
+  tokens = one.tokens ++ [];
+  passed = passed_then a m b one.tokens [] one.passed passed;
+  left = one.left;
+  leads = leads_nil p one.left one.tokens one.leads;
+  unended = unended_then one.tokens [] one.unended unended;
+  over = λ most others.
+      subst (λ (x : Cursor). behind most (one.left ++ others) x.token ≡ behind most (q ++ others) x.token) passed (one.over most others)
+      ∙ sym (ap (λ (ps : List Part). behind most (ps ++ others) b.token) (same_left q left leads))
+      ∙ over most others;
+}
+goes_both p q r a m b one (z ∷ v) left passed leads unended over = record {
+  tokens = one.tokens ++ z ∷ v;
+  passed = passed_then a m b one.tokens (z ∷ v) one.passed passed;
+  left = left;
+  leads = leads_then p q one.left left one.tokens v z one.leads (λ others. subst (λ (t : Token). behind most_depth (one.left ++ others) t ≡ behind most_depth (q ++ others) t) (sym passed.1) (one.over most_depth others)) leads;
+  unended = unended_then one.tokens (z ∷ v) one.unended unended;
+  over = over;
+}
+
+-- one reading and the next
+pub goes_then : (p q r : List Part) (a m b : Cursor) → Goes p a q m → Goes q m r b → Goes p a r b
+goes_then p q r a m b one two = goes_both p q r a m b one two.tokens two.left two.passed two.leads two.unended two.over
+
+-- behind the parts more may be expected
+pub leads_more : (p left more : List Part) (u : List Token) → Leads p u left → Leads (p ++ more) u (left ++ more)
+leads_more p left more u leads = record {
+  runs = λ others.
+      ap (λ (ps : List Part). after most_depth ps u) (append_assoc p more others)
+      ∙ leads.runs (more ++ others)
+      ∙ ap (λ (ps : List Part). Some ps) (sym (append_assoc left more others));
+}
+
+pub goes_more : (p q more : List Part) (a b : Cursor) → Goes p a q b → Goes (p ++ more) a (q ++ more) b
+goes_more p q more a b one = record {
+  tokens = one.tokens;
+  passed = one.passed;
+  left = one.left ++ more;
+  leads = leads_more p one.left more one.tokens one.leads;
+  unended = one.unended;
+  over = λ most others.
+      ap (λ (ps : List Part). behind most ps b.token) (append_assoc one.left more others)
+      ∙ one.over most (more ++ others)
+      ∙ sym (ap (λ (ps : List Part). behind most ps b.token) (append_assoc q more others));
+}

@@ -1,0 +1,10 @@
+-- What stands next in a text.
+pub mod DeadEnds
+pub mod Halts
+pub mod Hopeless
+pub mod OneStanding
+pub mod Readings
+pub mod Settled
+pub mod StandingAnswers
+pub mod StandingTokens
+pub mod StuckPlaces

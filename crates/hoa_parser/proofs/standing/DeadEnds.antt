@@ -1,0 +1,99 @@
+-- Where a token cannot stand, no automaton begins so; where something is expected, none is whole.
+use Rattle.std.proofs.Common.{◌≡◌, ℕ, ◌+◌, ◌≤◌, List, [], ◌∷◌, ◌++◌, Option, Some, None, refl, sym, ap, ◌∙◌, arith}
+use Rattle.hoa_lexer.specs.declared.token.Token.{Token}
+use Rattle.hoa_lexer.specs.declared.token.Token.TheVariants as token
+use Rattle.hoa_parser.specs.inner.Expecting as part
+use Rattle.hoa_parser.specs.inner.Expecting.{Part, Move, Takes, Passes, Refuses, after, after_some, behind, move, moved, open_at}
+use Rattle.hoa_parser.specs.Grammar.{IsViable, Spells}
+use Rattle.hoa_parser.specs.Standing.{IsDead, SpellsNothing, most_depth}
+use Rattle.hoa_parser.proofs.grammar.Depths.{after_more, viable_more, within_more}
+use Rattle.hoa_parser.proofs.grammar.AfterLabels.{after_append, opened}
+use Rattle.hoa_parser.proofs.grammar.AfterStates.{spelled_follows}
+use Rattle.hoa_parser.proofs.grammar.Viability.{viable}
+
+after_nothing : (most : ℕ) (expected : Option (List Part)) → after_some most expected [] ≡ expected
+after_nothing most None = refl
+after_nothing most (Some parts) = refl
+
+-- one more token
+pub after_next : (most : ℕ) (ts : List Token) (left : List Part) (z : Token) → after most (part.Whole ∷ []) ts ≡ Some left → after most (part.Whole ∷ []) (ts ++ z ∷ []) ≡ behind most left z
+after_next most ts left z e =
+    after_append most (Some (part.Whole ∷ [])) ts (z ∷ [])
+    ∙ ap (λ (o : Option (List Part)). after_some most o (z ∷ [])) e
+    ∙ after_nothing most (behind most left z)
+
+none_nothing : (left : List Part) → None ≡ Some left → ⊥
+none_nothing left e = cc
+
+-- What cannot stand begins no automaton.
+pub refused : (most : ℕ) (ts : List Token) → after most (part.Whole ∷ []) ts ≡ None → IsViable most ts → ⊥
+refused most ts e v =
+    none_nothing [] (sym (after_append most (Some (part.Whole ∷ [])) ts v.more ∙ ap (λ (o : Option (List Part)). after_some most o v.more) e)
+    ∙ spelled_follows most (ts ++ v.more) v.whole v.spelled)
+
+pub dead : (ts : List Token) (left : List Part) (z : Token) → after most_depth (part.Whole ∷ []) ts ≡ Some left → ((most : ℕ) → behind most left z ≡ None) → IsDead (ts ++ z ∷ [])
+dead ts left z e refuses most v =
+    let n : ℕ = most + most_depth in
+    let l : most_depth ≤ most + most_depth = omega arith in
+    let here = after_next n ts left z (after_more most_depth n ts (part.Whole ∷ []) left l e) in
+    refused n (ts ++ z ∷ []) (here ∙ refuses n) (viable_more most n (ts ++ z ∷ []) (omega arith) v)
+
+-- what a first part makes of a token
+pub behind_takes : (most : ℕ) (p : Part) (ps left : List Part) (z : Token) → move p z ≡ Takes ps → open_at ps ≤ most → behind most (p ∷ left) z ≡ Some (ps ++ left)
+behind_takes most p ps left z e l = ap (λ (m : Move). moved most m (behind most left z) left) e ∙ opened most ps left (behind most left z) l
+
+pub behind_passes : (most : ℕ) (p : Part) (left : List Part) (z : Token) → move p z ≡ Passes → behind most (p ∷ left) z ≡ behind most left z
+behind_passes most p left z e = ap (λ (m : Move). moved most m (behind most left z) left) e
+
+pub behind_refuses : (most : ℕ) (p : Part) (left : List Part) (z : Token) → move p z ≡ Refuses → behind most (p ∷ left) z ≡ None
+behind_refuses most p left z e = ap (λ (m : Move). moved most m (behind most left z) left) e
+
+-- `--ABORT--` can stand nowhere.
+abort_behind : (most : ℕ) (p : Part) (left : List Part) → behind most left token.Abort ≡ None → behind most (p ∷ left) token.Abort ≡ None
+abort_behind most part.MoreNumbers left h = h
+abort_behind most part.MaybeQuoted left h = h
+abort_behind most part.Strings left h = h
+abort_behind most part.Words left h = h
+abort_behind most part.AccValues left h = h
+abort_behind most part.Values left h = h
+abort_behind most (part.Factors depth) left h = h
+abort_behind most (part.Products depth) left h = h
+abort_behind most (part.Atoms depth) left h = h
+abort_behind most (part.Conjunctions depth) left h = h
+abort_behind most part.MaybeBang left h = h
+abort_behind most part.MaybeLabel left h = h
+abort_behind most part.MaybeMarks left h = h
+abort_behind most part.Edges left h = h
+abort_behind most _ left h = refl
+
+pub abort : (most : ℕ) (left : List Part) → behind most left token.Abort ≡ None
+abort most [] = refl
+abort most (p ∷ left) = abort_behind most p left (abort most left)
+
+pub abort_is_dead : (ts : List Token) (left : List Part) → after most_depth (part.Whole ∷ []) ts ≡ Some left → IsDead (ts ++ token.Abort ∷ [])
+abort_is_dead ts left e = dead ts left token.Abort e (λ most. abort most left)
+
+some_nothing : (p : Part) (left : List Part) → Some (p ∷ left) ≡ Some [] → ⊥
+some_nothing p left e = cc
+
+-- Where a part is expected, no automaton is whole.
+pub unfinished : (ts : List Token) (p : Part) (left : List Part) → after most_depth (part.Whole ∷ []) ts ≡ Some (p ∷ left) → SpellsNothing ts
+unfinished ts p left e most w s =
+    let n : ℕ = most + most_depth in
+    let there = after_more most_depth n ts (part.Whole ∷ []) (p ∷ left) (omega arith) e in
+    let more : Spells n ts w = record { phrase = s.phrase; within = within_more most n s.phrase (omega arith) s.within; spelled = s.spelled; means = s.means } in
+    some_nothing p left (sym there ∙ spelled_follows n ts w more)
+
+-- A token that could stand if more might be open.
+pub deep : (m : ℕ) (ts : List Token) (left left' : List Part) (z : Token) → after most_depth (part.Whole ∷ []) ts ≡ Some left → behind most_depth left z ≡ None → behind m left z ≡ Some left' → most_depth ≤ m → IsViable m (ts ++ z ∷ []) × (IsViable most_depth (ts ++ z ∷ []) → ⊥)
+deep m ts left left' z e here there l = (
+  viable m (ts ++ z ∷ []) left' (after_next m ts left z (after_more most_depth m ts (part.Whole ∷ []) left l e) ∙ there),
+  refused most_depth (ts ++ z ∷ []) (after_next most_depth ts left z e ∙ here),
+)
+
+-- before the first token
+pub nothing_viable : IsViable most_depth []
+nothing_viable = viable most_depth [] (part.Whole ∷ []) refl
+
+pub nothing_unfinished : SpellsNothing []
+nothing_unfinished = unfinished [] part.Whole [] refl

@@ -1,0 +1,161 @@
+-- What a reading of a text comes to: its tokens, and what stands behind them.
+use Rattle.std.proofs.Common.{◌≡◌, ◌≢◌, ℕ, ◌⊎◌, List, [], ◌∷◌, ◌++◌, map, inl, inr, refl, sym, subst, ◌∙◌, ap}
+use Rattle.std.proofs.lemmas.List.{append_assoc, append-nil}
+use Rattle.hoa_lexer.specs.Blanks.{IsBlanks}
+use Rattle.hoa_lexer.specs.Text.{AfterBlanks, HasFront, IsNext, IsNoToken, Lexes}
+use Rattle.hoa_lexer.specs.declared.token.Token.{Token}
+use Rattle.hoa_lexer.specs.declared.token.Token.TheVariants as token
+use Rattle.hoa_lexer.proofs.next_token.Exclusive.{IsStuck, no_token_stuck, blanks_no_token, stuck_no_token}
+use Rattle.hoa_lexer.proofs.next_token.Unique.{one_next_token}
+use Rattle.hoa_parser.specs.Grammar.{AutomatonPhrase, IsViable, Spells, automaton_meaning, automaton_tokens}
+use Rattle.hoa_parser.specs.Raw.{Written}
+use Rattle.hoa_parser.specs.Standing.{EndsOpen, IsBegun, IsMisplaced, IsNoTokenAt, SpellsNothing, Standing, Stands, most_depth}
+use Rattle.hoa_parser.specs.Standing.Standing.{Blank, Whole, Deep, Bad, Aborted, Cut}
+use Rattle.hoa_parser.proofs.grammar.NoAbort.{no_abort_inside}
+use Rattle.hoa_parser.proofs.grammar.OneRaw.{whole_goes_no_further}
+use Rattle.hoa_parser.proofs.standing.Readings.{place}
+use Rattle.hoa_parser.proofs.standing.StuckPlaces.{after_as, open_stuck}
+
+-- a token stands next
+pub record HasNext (used : ℕ) (rest : List ℕ) (token : Token) : Type 0 where
+  pub offset : ℕ
+  pub after : List ℕ
+  pub next : IsNext rest used token offset after
+
+-- begun, and not whole
+pub record IsPart (tokens : List Token) : Type 0 where
+  pub viable : IsViable most_depth tokens
+  pub unfinished : SpellsNothing tokens
+
+-- the token would open one more than may be
+pub record IsTooDeep (tokens : List Token) (used : ℕ) (rest : List ℕ) : Type 0 where
+  pub token : Token
+  pub next : HasNext used rest token
+  pub most : ℕ
+  pub viable : IsViable most (tokens ++ token ∷ [])
+  pub too_deep : IsViable most_depth (tokens ++ token ∷ []) → ⊥
+
+abbrev pub Halts : Standing → List Token → ℕ → List ℕ → Type 0
+Halts Blank tokens used rest = (tokens ≡ []) × IsBlanks rest
+Halts (Whole w r) tokens used rest = Spells most_depth tokens w × (r ≡ rest)
+Halts Deep tokens used rest = IsPart tokens × IsTooDeep tokens used rest
+Halts (Bad k) tokens used rest = IsPart tokens × (IsMisplaced k tokens used rest ⊎ IsNoTokenAt k used rest)
+Halts Aborted tokens used rest = IsPart tokens × (tokens ≢ []) × HasNext used rest token.Abort
+Halts Cut tokens used rest = IsPart tokens × ((tokens ≢ []) × IsBlanks rest ⊎ EndsOpen rest)
+
+abbrev pub shown : List (Token × ℕ) → List Token
+shown = map (λ p. p.0)
+
+pub record Reading (s : Standing) (start : ℕ) (text : List ℕ) : Type 0 where
+  pub placed : List (Token × ℕ)
+  pub rest : List ℕ
+  pub lexes : Lexes text start placed rest
+  pub halts : Halts s (shown placed) (place start text rest) rest
+
+part : (start : ℕ) (text : List ℕ) (tokens : List Token) (used : ℕ) (rest : List ℕ) → IsBegun start text tokens used rest → IsPart tokens
+part start text tokens used rest b = record { viable = b.viable; unfinished = b.unfinished }
+
+begun_reading : (s : Standing) (start : ℕ) (text : List ℕ) (tokens : List Token) (used : ℕ) (rest : List ℕ) → IsBegun start text tokens used rest → Halts s tokens used rest → Reading s start text
+begun_reading s start text tokens used rest b h = record {
+  placed = b.placed;
+  rest = rest;
+  lexes = b.lexes;
+  halts = subst (λ (n : ℕ). Halts s (shown b.placed) n rest) b.used_is (subst (λ (ts : List Token). Halts s ts used rest) (sym b.shown) h);
+}
+
+pub reading : (s : Standing) (start : ℕ) (text : List ℕ) → Stands s start text → Reading s start text
+reading Blank start text h = record { placed = []; rest = text; lexes = refl; halts = (refl, h) }
+reading (Whole w r) start text h = record { placed = h.placed; rest = r; lexes = h.lexes; halts = (h.spells, refl) }
+reading Deep start text h =
+    begun_reading Deep start text h.tokens h.used h.rest h.begun (
+      part start text h.tokens h.used h.rest h.begun,
+      record {
+        token = h.next_token;
+        next = record { offset = h.offset; after = h.after; next = h.next };
+        most = h.most;
+        viable = h.viable;
+        too_deep = h.too_deep;
+      },
+    )
+reading (Bad k) start text h = begun_reading (Bad k) start text h.tokens h.used h.rest h.begun (part start text h.tokens h.used h.rest h.begun, h.fault)
+reading Aborted start text h =
+    begun_reading Aborted start text h.tokens h.used h.rest h.begun
+    (part start text h.tokens h.used h.rest h.begun, h.some, record { offset = h.offset; after = h.after; next = h.next })
+reading Cut start text h = begun_reading Cut start text h.tokens h.used h.rest h.begun (part start text h.tokens h.used h.rest h.begun, h.ends)
+
+-- the smallest automaton
+abbrev smallest : AutomatonPhrase
+smallest = record { version = []; items = []; states = [] }
+
+pub viable_nothing : (m : ℕ) → IsViable m []
+viable_nothing m = record {
+  more = automaton_tokens smallest;
+  whole = automaton_meaning smallest;
+  spelled = record { phrase = smallest; within = (tt, tt); spelled = refl; means = refl };
+}
+
+pub viable_whole : (m : ℕ) (tokens : List Token) (w : Written) → Spells m tokens w → IsViable m tokens
+viable_whole m tokens w s = record { more = []; whole = w; spelled = subst (λ (ts : List Token). Spells m ts w) (sym (append-nil tokens)) s }
+
+pub viable_part : (m : ℕ) (ts us : List Token) → IsViable m (ts ++ us) → IsViable m ts
+viable_part m ts us v = record { more = us ++ v.more; whole = v.whole; spelled = subst (λ (xs : List Token). Spells m xs v.whole) (append_assoc ts us v.more) v.spelled }
+
+-- what halts is viable
+pub halts_viable : (s : Standing) (tokens : List Token) (used : ℕ) (rest : List ℕ) → Halts s tokens used rest → IsViable most_depth tokens
+halts_viable Blank tokens used rest h = subst (λ (ts : List Token). IsViable most_depth ts) (sym h.0) (viable_nothing most_depth)
+halts_viable (Whole w r) tokens used rest h = viable_whole most_depth tokens w h.0
+halts_viable Deep tokens used rest h = h.0.viable
+halts_viable (Bad k) tokens used rest h = h.0.viable
+halts_viable Aborted tokens used rest h = h.0.viable
+halts_viable Cut tokens used rest h = h.0.viable
+
+next_front : (used : ℕ) (rest : List ℕ) (t : Token) → HasNext used rest t → AfterBlanks rest HasFront
+next_front used rest t n = record {
+  before = n.next.before;
+  bytes = n.next.bytes;
+  split = n.next.split;
+  blanks = n.next.blanks;
+  holds = record { token = t; rest = n.after; front = n.next.front };
+}
+
+pub next_no_blanks : (used : ℕ) (rest : List ℕ) (t : Token) → HasNext used rest t → IsBlanks rest → ⊥
+next_no_blanks used rest t n b = blanks_no_token rest b (next_front used rest t n)
+
+pub next_not_stuck : (used : ℕ) (rest : List ℕ) (t : Token) → HasNext used rest t → AfterBlanks rest IsStuck → ⊥
+next_not_stuck used rest t n s = stuck_no_token rest s (next_front used rest t n)
+
+pub one_next : (used : ℕ) (rest : List ℕ) (t u : Token) → HasNext used rest t → HasNext used rest u → t ≡ u
+one_next used rest t u n m = (one_next_token rest used t u n.offset m.offset n.after m.after n.next m.next).0
+
+pub misplaced_next : (k : ℕ) (tokens : List Token) (used : ℕ) (rest : List ℕ) (m : IsMisplaced k tokens used rest) → HasNext used rest m.next_token
+misplaced_next k tokens used rest m = record { offset = k; after = m.after; next = m.next }
+
+abbrev pub no_token_at : (k used : ℕ) (rest : List ℕ) → IsNoTokenAt k used rest → AfterBlanks rest IsNoToken
+no_token_at k used rest n = record { before = n.before; bytes = n.bytes; split = n.split; blanks = n.blanks; holds = n.holds.1 }
+
+pub no_token_at_stuck : (k used : ℕ) (rest : List ℕ) → IsNoTokenAt k used rest → AfterBlanks rest IsStuck
+no_token_at_stuck k used rest n = after_as rest no_token_stuck (no_token_at k used rest n)
+
+-- where nothing viable goes on with the token
+next_kept : (m : ℕ) (tokens us : List Token) (t u : Token) → t ≡ u → IsViable m (tokens ++ t ∷ us) → IsViable m (tokens ++ u ∷ [])
+next_kept m tokens us t u e v =
+    viable_part m (tokens ++ u ∷ []) us
+    (subst (λ (xs : List Token). IsViable m xs) (ap (λ w. tokens ++ w ∷ us) e ∙ sym (append_assoc tokens (u ∷ []) us)) v)
+
+-- A reading that halts goes no further.
+pub halts_here : (s : Standing) (tokens us : List Token) (t : Token) (used : ℕ) (rest : List ℕ) → Halts s tokens used rest → HasNext used rest t → IsViable most_depth (tokens ++ t ∷ us) → ⊥
+halts_here Blank tokens us t used rest h n v = next_no_blanks used rest t n h.1
+halts_here (Whole w r) tokens us t used rest h n v =
+    let none : t ∷ us ≡ [] = whole_goes_no_further most_depth most_depth tokens (t ∷ us) w h.0 v in
+    cc
+halts_here Deep tokens us t used rest h n v = h.1.too_deep (next_kept most_depth tokens us t h.1.token (one_next used rest t h.1.token n h.1.next) v)
+halts_here (Bad k) tokens us t used rest h n v = elim h.1 [
+  | inl m ↦ m.dead most_depth (next_kept most_depth tokens us t m.next_token (one_next used rest t m.next_token n (misplaced_next k tokens used rest m)) v)
+  | inr o ↦ next_not_stuck used rest t n (no_token_at_stuck k used rest o)
+]
+halts_here Aborted tokens us t used rest h n v =
+    no_abort_inside most_depth tokens [] (next_kept most_depth tokens us t token.Abort (one_next used rest t token.Abort n h.2) v)
+halts_here Cut tokens us t used rest h n v = elim h.1 [
+  | inl b ↦ next_no_blanks used rest t n b.1
+  | inr o ↦ next_not_stuck used rest t n (open_stuck rest o)
+]

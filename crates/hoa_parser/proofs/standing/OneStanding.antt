@@ -1,0 +1,129 @@
+-- One thing stands next in a text.
+use Rattle.std.proofs.Common.{◌≡◌, ◌≢◌, ℕ, ◌⊎◌, List, [], ◌∷◌, ◌++◌, length, inl, inr, refl, sym, subst, ◌∙◌, ap, arith}
+use Rattle.std.proofs.lemmas.List.{map-append}
+use Rattle.hoa_lexer.specs.Blanks.{IsBlanks}
+use Rattle.hoa_lexer.specs.declared.token.Token.{Token}
+use Rattle.hoa_lexer.specs.declared.token.Token.TheVariants as token
+use Rattle.hoa_lexer.proofs.next_token.Exclusive.{no_token_stuck, stuck_no_blanks}
+use Rattle.hoa_lexer.proofs.next_token.Unique.{one_next_token}
+use Rattle.hoa_parser.specs.Grammar.{IsViable, Spells}
+use Rattle.hoa_parser.specs.Raw.{Written}
+use Rattle.hoa_parser.specs.Standing.{EndsOpen, IsMisplaced, IsNoTokenAt, OneStanding, Standing, most_depth}
+use Rattle.hoa_parser.specs.Standing.Standing.{Blank, Whole, Deep, Bad, Aborted, Cut}
+use Rattle.hoa_parser.proofs.standing.Halts.{HasNext, Halts, shown, halts_here, halts_viable, misplaced_next, next_no_blanks, next_not_stuck, no_token_at, no_token_at_stuck, one_next, reading}
+use Rattle.hoa_parser.proofs.grammar.NoAbort.{no_abort_inside}
+use Rattle.hoa_parser.proofs.grammar.OneRaw.{one_raw}
+use Rattle.hoa_parser.proofs.standing.Readings.{IsFurther, compared, place}
+use Rattle.hoa_parser.proofs.standing.StuckPlaces.{after_as, no_token_not_open, open_stuck, stuck_place}
+
+spells_some : (m : ℕ) (tokens : List Token) (w : Written) → tokens ≡ [] → Spells m tokens w → ⊥
+spells_some m tokens w e s = let all = sym e ∙ s.spelled in cc
+
+-- a token stands next, or the text is cut
+next_not_cut : (used : ℕ) (rest : List ℕ) (t : Token) (some : Type 0) → HasNext used rest t → some × IsBlanks rest ⊎ EndsOpen rest → ⊥
+next_not_cut used rest t some n (inl b) = next_no_blanks used rest t n b.1
+next_not_cut used rest t some n (inr o) = next_not_stuck used rest t n (open_stuck rest o)
+
+abbrev Fault : ℕ → List Token → ℕ → List ℕ → Type 0
+Fault k tokens used rest = IsMisplaced k tokens used rest ⊎ IsNoTokenAt k used rest
+
+fault_no_blanks : (k : ℕ) (tokens : List Token) (used : ℕ) (rest : List ℕ) → Fault k tokens used rest → IsBlanks rest → ⊥
+fault_no_blanks k tokens used rest (inl m) b = next_no_blanks used rest m.next_token (misplaced_next k tokens used rest m) b
+fault_no_blanks k tokens used rest (inr n) b = stuck_no_blanks rest (no_token_at_stuck k used rest n) b
+
+fault_not_open : (k : ℕ) (tokens : List Token) (used : ℕ) (rest : List ℕ) → Fault k tokens used rest → EndsOpen rest → ⊥
+fault_not_open k tokens used rest (inl m) o = next_not_stuck used rest m.next_token (misplaced_next k tokens used rest m) (open_stuck rest o)
+fault_not_open k tokens used rest (inr n) o = no_token_not_open rest (no_token_at k used rest n) o
+
+-- the token that stands next is dead
+fault_next : (k : ℕ) (tokens : List Token) (used : ℕ) (rest : List ℕ) (t : Token) → Fault k tokens used rest → HasNext used rest t → (m : ℕ) → IsViable m (tokens ++ t ∷ []) → ⊥
+fault_next k tokens used rest t (inl f) n m v =
+    f.dead m (subst (λ (u : Token). IsViable m (tokens ++ u ∷ [])) (one_next used rest t f.next_token n (misplaced_next k tokens used rest f)) v)
+fault_next k tokens used rest t (inr f) n m v = next_not_stuck used rest t n (no_token_at_stuck k used rest f)
+
+fault_abort : (k : ℕ) (tokens : List Token) (used : ℕ) (rest : List ℕ) → Fault k tokens used rest → (tokens ≢ []) → HasNext used rest token.Abort → ⊥
+fault_abort k tokens used rest (inl f) s n = f.no_abort s (one_next used rest f.next_token token.Abort (misplaced_next k tokens used rest f) n)
+fault_abort k tokens used rest (inr f) s n = next_not_stuck used rest token.Abort n (no_token_at_stuck k used rest f)
+
+one_no_token : (j k used : ℕ) (rest : List ℕ) → IsNoTokenAt j used rest → IsNoTokenAt k used rest → j ≡ k
+one_no_token j k used rest f g =
+    let same : f.bytes ≡ g.bytes = stuck_place rest (after_as rest no_token_stuck (no_token_at j used rest f)) (after_as rest no_token_stuck (no_token_at k used rest g)) in
+    omega (arith, ap length same, f.holds.0, g.holds.0)
+
+one_fault : (j k : ℕ) (tokens : List Token) (used : ℕ) (rest : List ℕ) → Fault j tokens used rest → Fault k tokens used rest → j ≡ k
+one_fault j k tokens used rest (inl f) (inl g) = (one_next_token rest used f.next_token g.next_token j k f.after g.after f.next g.next).1
+one_fault j k tokens used rest (inl f) (inr g) = absurd (next_not_stuck used rest f.next_token (misplaced_next j tokens used rest f) (no_token_at_stuck k used rest g))
+one_fault j k tokens used rest (inr f) (inl g) = absurd (next_not_stuck used rest g.next_token (misplaced_next k tokens used rest g) (no_token_at_stuck j used rest f))
+one_fault j k tokens used rest (inr f) (inr g) = one_no_token j k used rest f g
+
+blank_cut : (tokens : List Token) (used : ℕ) (rest : List ℕ) → Halts Blank tokens used rest → Halts Cut tokens used rest → ⊥
+blank_cut tokens used rest f g = elim g.1 [ inl b ↦ b.0 f.0 | inr o ↦ stuck_no_blanks rest (open_stuck rest o) f.1 ]
+
+fault_cut : (k : ℕ) (tokens : List Token) (used : ℕ) (rest : List ℕ) → Halts (Bad k) tokens used rest → Halts Cut tokens used rest → ⊥
+fault_cut k tokens used rest f g = elim g.1 [ inl b ↦ fault_no_blanks k tokens used rest f.1 b.1 | inr o ↦ fault_not_open k tokens used rest f.1 o ]
+
+deep_aborted : (tokens : List Token) (used : ℕ) (rest : List ℕ) → Halts Deep tokens used rest → Halts Aborted tokens used rest → ⊥
+deep_aborted tokens used rest f g =
+    no_abort_inside f.1.most tokens [] (subst (λ (u : Token). IsViable f.1.most (tokens ++ u ∷ [])) (one_next used rest f.1.token token.Abort f.1.next g.2) f.1.viable)
+
+-- what halts at one place is one thing
+one_halt : (a b : Standing) (tokens : List Token) (used : ℕ) (rest : List ℕ) → Halts a tokens used rest → Halts b tokens used rest → a ≡ b
+one_halt Blank Blank tokens used rest f g = refl
+one_halt Blank (Whole w r) tokens used rest f g = absurd (spells_some most_depth tokens w f.0 g.0)
+one_halt Blank Deep tokens used rest f g = absurd (next_no_blanks used rest g.1.token g.1.next f.1)
+one_halt Blank (Bad k) tokens used rest f g = absurd (fault_no_blanks k tokens used rest g.1 f.1)
+one_halt Blank Aborted tokens used rest f g = absurd (g.1 f.0)
+one_halt Blank Cut tokens used rest f g = absurd (blank_cut tokens used rest f g)
+one_halt (Whole w r) Blank tokens used rest f g = absurd (spells_some most_depth tokens w g.0 f.0)
+one_halt (Whole w r) (Whole v s) tokens used rest f g =
+    let same = one_raw most_depth most_depth tokens w v f.0 g.0 in
+    let ends : r ≡ s = f.1 ∙ sym g.1 in
+    cc
+one_halt (Whole w r) Deep tokens used rest f g = absurd (g.0.unfinished most_depth w f.0)
+one_halt (Whole w r) (Bad k) tokens used rest f g = absurd (g.0.unfinished most_depth w f.0)
+one_halt (Whole w r) Aborted tokens used rest f g = absurd (g.0.unfinished most_depth w f.0)
+one_halt (Whole w r) Cut tokens used rest f g = absurd (g.0.unfinished most_depth w f.0)
+one_halt Deep Blank tokens used rest f g = absurd (next_no_blanks used rest f.1.token f.1.next g.1)
+one_halt Deep (Whole w r) tokens used rest f g = absurd (f.0.unfinished most_depth w g.0)
+one_halt Deep Deep tokens used rest f g = refl
+one_halt Deep (Bad k) tokens used rest f g = absurd (fault_next k tokens used rest f.1.token g.1 f.1.next f.1.most f.1.viable)
+one_halt Deep Aborted tokens used rest f g = absurd (deep_aborted tokens used rest f g)
+one_halt Deep Cut tokens used rest f g = absurd (next_not_cut used rest f.1.token (tokens ≢ []) f.1.next g.1)
+one_halt (Bad k) Blank tokens used rest f g = absurd (fault_no_blanks k tokens used rest f.1 g.1)
+one_halt (Bad k) (Whole w r) tokens used rest f g = absurd (f.0.unfinished most_depth w g.0)
+one_halt (Bad k) Deep tokens used rest f g = absurd (fault_next k tokens used rest g.1.token f.1 g.1.next g.1.most g.1.viable)
+one_halt (Bad j) (Bad k) tokens used rest f g = ap Bad (one_fault j k tokens used rest f.1 g.1)
+one_halt (Bad k) Aborted tokens used rest f g = absurd (fault_abort k tokens used rest f.1 g.1 g.2)
+one_halt (Bad k) Cut tokens used rest f g = absurd (fault_cut k tokens used rest f g)
+one_halt Aborted Blank tokens used rest f g = absurd (f.1 g.0)
+one_halt Aborted (Whole w r) tokens used rest f g = absurd (f.0.unfinished most_depth w g.0)
+one_halt Aborted Deep tokens used rest f g = absurd (deep_aborted tokens used rest g f)
+one_halt Aborted (Bad k) tokens used rest f g = absurd (fault_abort k tokens used rest g.1 f.1 f.2)
+one_halt Aborted Aborted tokens used rest f g = refl
+one_halt Aborted Cut tokens used rest f g = absurd (next_not_cut used rest token.Abort (tokens ≢ []) f.2 g.1)
+one_halt Cut Blank tokens used rest f g = absurd (blank_cut tokens used rest g f)
+one_halt Cut (Whole w r) tokens used rest f g = absurd (f.0.unfinished most_depth w g.0)
+one_halt Cut Deep tokens used rest f g = absurd (next_not_cut used rest g.1.token (tokens ≢ []) g.1.next f.1)
+one_halt Cut (Bad k) tokens used rest f g = absurd (fault_cut k tokens used rest g f)
+one_halt Cut Aborted tokens used rest f g = absurd (next_not_cut used rest token.Abort (tokens ≢ []) g.2 f.1)
+one_halt Cut Cut tokens used rest f g = refl
+
+-- one that halts is not followed by another
+not_further : (a b : Standing) (ps qs : List (Token × ℕ)) (used used' : ℕ) (rest rest' : List ℕ) → Halts a (shown ps) used rest → Halts b (shown qs) used' rest' → IsFurther ps qs used rest → ⊥
+not_further a b ps qs used used' rest rest' f g h =
+    halts_here a (shown ps) (shown h.more) h.token.0 used rest f (record { offset = h.token.1; after = h.after; next = h.next })
+    (subst (λ (ts : List Token). IsViable most_depth ts) (ap shown h.goes_on ∙ map-append (λ p. p.0) ps (h.token ∷ h.more)) (halts_viable b (shown qs) used' rest' g))
+
+same_place : (b : Standing) (ps qs : List (Token × ℕ)) (start : ℕ) (text rest rest' : List ℕ) → ps ≡ qs → rest ≡ rest' → Halts b (shown qs) (place start text rest') rest' → Halts b (shown ps) (place start text rest) rest
+same_place b ps qs start text rest rest' e k h =
+    subst (λ (r : List ℕ). Halts b (shown ps) (place start text r) r) (sym k) (subst (λ (ts : List (Token × ℕ)). Halts b (shown ts) (place start text rest') rest') (sym e) h)
+
+pub one_standing : OneStanding
+one_standing start text a b f g =
+    let p = reading a start text f in
+    let q = reading b start text g in
+    elim (compared text start p.placed q.placed p.rest q.rest p.lexes q.lexes) [
+      | inl same ↦ one_halt a b (shown p.placed) (place start text p.rest) p.rest p.halts (same_place b p.placed q.placed start text p.rest q.rest same.0 same.1 q.halts)
+      | inr (inl h) ↦ absurd (not_further a b p.placed q.placed (place start text p.rest) (place start text q.rest) p.rest q.rest p.halts q.halts h)
+      | inr (inr h) ↦ absurd (not_further b a q.placed p.placed (place start text q.rest) (place start text p.rest) q.rest p.rest q.halts p.halts h)
+    ]

@@ -1,0 +1,6 @@
+-- Definitions that only inner functions speak in.
+pub mod Chains
+pub mod Expecting
+pub mod Faults
+pub mod Parsing
+pub mod RuleReads

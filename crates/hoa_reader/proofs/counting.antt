@@ -1,0 +1,4 @@
+-- What is counted.
+pub mod AfterAll
+pub mod EdgeCounts
+pub mod Weights

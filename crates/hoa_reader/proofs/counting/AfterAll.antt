@@ -1,0 +1,31 @@
+-- The least number above all of a list, part by part.
+use Rattle.std.proofs.Common.{◌≡◌, ◌+◌, max, ℕ, List, [], ◌∷◌, ◌++◌, Bool, ◌&&◌, arith, refl, ap, ◌∙◌, nat_lt, nat_le}
+use Rattle.std.proofs.lemmas.Bool.Decides.{nat_tests}
+use Rattle.std.proofs.lemmas.Grind.{flat_map-append}
+use Rattle.std.proofs.lemmas.List.Folds.{list_all-append}
+use Rattle.std.specs.Prelude.{flat_map}
+use Rattle.std.specs.List.{list_all}
+use Rattle.hoa_reader.specs.Described.{after_all}
+use Rattle.hoa_reader.specs.inner.Pieces.{goals}
+use Rattle.hoa_parser.specs.Raw.{WrittenEdge, WrittenState}
+use Rattle.hoa_reader.specs.Validity.{numbers_below}
+
+pub after_all-append : (xs ys : List ℕ) → after_all (xs ++ ys) ≡ max (after_all xs) (after_all ys)
+after_all-append [] ys = omega arith
+after_all-append (x ∷ xs) ys = let rest = after_all-append xs ys in omega (arith, rest)
+
+split_test : (x n m : ℕ) (b : Bool) → b ≡ nat_le m n → (nat_lt x n && b) ≡ nat_le (max (x + 1) m) n
+split_test x n m b e = grind (arith, nat_tests)
+
+-- all are below n where n is at least the least number above them
+pub numbers_below-after : (n : ℕ) (xs : List ℕ) → numbers_below n xs ≡ nat_le (after_all xs) n
+numbers_below-after n [] = grind (arith, nat_tests)
+numbers_below-after n (x ∷ xs) = split_test x n (after_all xs) (numbers_below n xs) (numbers_below-after n xs)
+
+-- the goals of the edges of one more state
+pub goals-cons : (s : WrittenState) (states : List WrittenState) → after_all (goals (s ∷ states)) ≡ max (after_all (flat_map (λ (e : WrittenEdge). e.to) s.edges)) (after_all (goals states))
+goals-cons s states =
+    ap after_all (flat_map-append (λ (e : WrittenEdge). e.to) s.edges (flat_map (λ (s : WrittenState). s.edges) states))
+    ∙ after_all-append (flat_map (λ (e : WrittenEdge). e.to) s.edges) (goals states)
+
+pub ruleset after_alls = (after_all-append, goals-cons)

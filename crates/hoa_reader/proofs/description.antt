@@ -1,0 +1,6 @@
+-- What is described.
+pub mod DescribingExamples
+pub mod LabelsInRange
+pub mod OneMore
+pub mod StatesInRange
+pub mod WellFormed

@@ -1,0 +1,6 @@
+-- The rules.
+pub mod AllDiffer
+pub mod DistinctTexts
+pub mod Leaves
+pub mod NamesDiffer
+pub mod ValidityLaws

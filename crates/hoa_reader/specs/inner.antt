@@ -1,0 +1,7 @@
+-- Definitions that only inner functions speak in.
+pub mod Gathered
+pub mod Growing
+pub mod Pieces
+pub mod Places
+pub mod TreeEdges
+pub mod Weighing

@@ -1,0 +1,33 @@
+-- What the rules speak of, picked out of what was written.
+use Rattle.std.specs.Prelude.{◌≡◌, map}
+use Rattle.std.specs.Option.{option_map_or}
+use Rattle.aut_base.specs.declared.limit.Limit.{Limit}
+use Rattle.aut_base.specs.declared.limit.Limit.TheVariants as limit
+use Rattle.hoa_reader.specs.Counts.{Count, Names, Sets, States, Edges, Aliases, PassesFirst}
+use Rattle.hoa_reader.specs.Described.{after_all}
+use Rattle.hoa_reader.specs.inner.Pieces.{acceptance_def, alias_def, label_refs}
+use Rattle.hoa_parser.specs.Raw.{Written}
+use Rattle.hoa_reader.specs.Validity.{acceptance_of, alias_lines, body_labels, names_of, no_acceptance, starts_written, used_states}
+use Rattle.hoa_reader.specs.declared.elaborate.parts.Parts.{Parts}
+
+pub record ArePartsOf (w : Written) (p : Parts) : Type 0 where
+  pub names : p.names.now ≡ names_of w
+  pub acceptance : option_map_or acceptance_def p.acceptance no_acceptance ≡ acceptance_of w
+  pub defs : map alias_def p.defs.items ≡ alias_lines w
+  pub starts : map (λ s. s.now) p.starts.items ≡ starts_written w
+  pub labels : map label_refs p.labels.items ≡ body_labels w
+  pub after : p.after ≡ after_all (used_states w)
+
+-- the limit on a count
+abbrev pub limit_of : Count → Limit
+limit_of Names = limit.Names
+limit_of Sets = limit.Sets
+limit_of States = limit.States
+limit_of Edges = limit.Edges
+limit_of Aliases = limit.Aliases
+
+-- this limit is the first that a count passes
+pub record PassesSome (which : Limit) (w : Written) : Type 0 where
+  pub count : Count
+  pub shown : which ≡ limit_of count
+  pub passes : PassesFirst count w

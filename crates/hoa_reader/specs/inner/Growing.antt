@@ -1,0 +1,102 @@
+-- How labels grow when their aliases are replaced, counted as far as a 64-bit number goes.
+use Rattle.std.specs.Prelude.{◌≡◌, ◌+◌, ◌-◌, ◌*◌, ◌^◌, min, max, ℕ, true, false, List, [], map, Option, Some, None, slice_get}
+use Rattle.aut_base.specs.Label.{LabelTree, label_size}
+use Rattle.hoa_reader.specs.Counts.{height}
+use Rattle.hoa_reader.specs.Described.{Meaning, expanded, meaning_of, meanings_after}
+use Rattle.hoa_reader.specs.inner.Pieces.{alias_def}
+use Rattle.hoa_reader.specs.inner.Places.{place_in}
+use Rattle.hoa_parser.specs.Raw as raw
+use Rattle.hoa_parser.specs.Raw.{RawTree, RawTrees, WrittenEdge, WrittenState, raw_tree}
+use Rattle.hoa_reader.specs.Validity.{aliases_among, is_listed}
+use Rattle.hoa_reader.specs.declared.elaborate.aliases.Known.{Known}
+use Rattle.hoa_reader.specs.declared.elaborate.parts.AliasDef.{AliasDef}
+use Rattle.hoa_reader.specs.declared.elaborate.places.Places.{Places}
+
+abbrev pub cap : ℕ → ℕ
+cap n = min n (2 ^ 64 - 1)
+
+-- by the height of each alias
+abbrev mutual
+  pub capped_height : (List ℕ → ℕ) → RawTree → ℕ
+  capped_height alias raw.True = 1
+  capped_height alias raw.False = 1
+  capped_height alias (raw.Prop i) = 1
+  capped_height alias (raw.Alias name) = alias name
+  capped_height alias (raw.Not t) = cap (capped_height alias t + 1)
+  capped_height alias (raw.And a b cs) = cap (max (capped_height alias a) (max (capped_height alias b) (capped_heights alias cs)) + 1)
+  capped_height alias (raw.Or a b cs) = cap (max (capped_height alias a) (max (capped_height alias b) (capped_heights alias cs)) + 1)
+
+  pub capped_heights : (List ℕ → ℕ) → RawTrees → ℕ
+  capped_heights alias raw.none = 0
+  capped_heights alias (raw.more t ts) = max (capped_height alias t) (capped_heights alias ts)
+
+-- by the size of each alias
+abbrev mutual
+  pub capped_size : (List ℕ → ℕ) → RawTree → ℕ
+  capped_size alias raw.True = 1
+  capped_size alias raw.False = 1
+  capped_size alias (raw.Prop i) = 1
+  capped_size alias (raw.Alias name) = alias name
+  capped_size alias (raw.Not t) = cap (capped_size alias t + 1)
+  capped_size alias (raw.And a b cs) = cap (cap (capped_size alias a + cap (capped_size alias b + capped_sizes alias cs)) + 1)
+  capped_size alias (raw.Or a b cs) = cap (cap (capped_size alias a + cap (capped_size alias b + capped_sizes alias cs)) + 1)
+
+  pub capped_sizes : (List ℕ → ℕ) → RawTrees → ℕ
+  capped_sizes alias raw.none = 0
+  capped_sizes alias (raw.more t ts) = cap (capped_size alias t + capped_sizes alias ts)
+
+-- what is known of an alias; one that isn't defined stands for `f`
+abbrev pub known_height : Option Known → ℕ
+known_height None = 1
+known_height (Some k) = k.height
+
+abbrev pub known_size : Option Known → ℕ
+known_size None = 1
+known_size (Some k) = k.size
+
+abbrev pub heights_in : Places Known → List ℕ → ℕ
+heights_in known name = known_height (place_in known name)
+
+abbrev pub sizes_in : Places Known → List ℕ → ℕ
+sizes_in known name = known_size (place_in known name)
+
+-- the alias that a label is
+abbrev pub alias_name : RawTree → Option (List ℕ)
+alias_name (raw.Alias name) = Some name
+alias_name _ = None
+
+abbrev pub meaning_names : List Meaning → List (List ℕ)
+meaning_names ms = map (λ m. m.name) ms
+
+-- The alias stands for this. The definition at its place says the same, and is no alias itself.
+pub record IsKnownAs (ms : List Meaning) (defs : List AliasDef) (meaning : LabelTree) (k : Known) : Type 0 where
+  pub def : AliasDef
+  pub there : slice_get defs k.place ≡ Some def
+  pub same : meaning ≡ expanded ms (raw_tree def.label.now)
+  pub plain : alias_name (raw_tree def.label.now) ≡ None
+  pub among : aliases_among (meaning_names ms) (raw_tree def.label.now) ≡ true
+  pub height : k.height ≡ cap (height meaning)
+  pub size : k.size ≡ cap (label_size meaning)
+
+pub record IsKnownOne (ms : List Meaning) (defs : List AliasDef) (name : List ℕ) (k : Known) : Type 0 where
+  pub listed : is_listed (meaning_names ms) name ≡ true
+  pub known : IsKnownAs ms defs (meaning_of ms name) k
+
+abbrev pub IsKnownBy : List Meaning → List AliasDef → List ℕ → Option Known → Type 0
+IsKnownBy ms defs name None = is_listed (meaning_names ms) name ≡ false
+IsKnownBy ms defs name (Some k) = IsKnownOne ms defs name k
+
+-- what is known of all aliases
+abbrev pub AreKnown : List Meaning → List AliasDef → Places Known → Type 0
+AreKnown ms defs known = (name : List ℕ) → IsKnownBy ms defs name (place_in known name)
+
+abbrev pub meanings_by : List AliasDef → List Meaning
+meanings_by defs = meanings_after [] (map alias_def defs)
+
+-- By this the replacement of aliases ends: an alias is replaced by what is none.
+abbrev pub alias_bit : Option (List ℕ) → ℕ
+alias_bit None = 0
+alias_bit (Some name) = 1
+
+abbrev pub steps_left : List AliasDef → RawTree → ℕ
+steps_left defs t = 2 * label_size (expanded (meanings_by defs) t) + alias_bit (alias_name t)

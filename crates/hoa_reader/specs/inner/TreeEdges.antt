@@ -1,0 +1,38 @@
+-- The edges that a description has, by what they share.
+use Rattle.std.specs.Prelude.{◌≡◌, ◌==◌, ◌++◌, ℕ, List, [], ◌∷◌, Option, Some, None, filter, flat_map, map, slice_get}
+use Rattle.std.specs.List.{enumerate_from}
+use Rattle.std.specs.Option.{option_map_or}
+use Rattle.aut_base.specs.Automaton.{TreeEdge}
+use Rattle.aut_base.specs.Label.{LabelTree}
+use Rattle.hoa_reader.specs.Described.{below, expanded, letter_label, marks_in_order, only_state}
+use Rattle.hoa_reader.specs.inner.Growing.{AreKnown, meanings_by}
+use Rattle.hoa_parser.specs.Raw.{WrittenEdge, WrittenState}
+use Rattle.hoa_reader.specs.declared.elaborate.edges.Shared.{Shared}
+
+abbrev pub HasKnown : Shared → Type 0
+HasKnown x = AreKnown (meanings_by x.defs.items) x.defs.items x.known
+
+abbrev pub label_for : Shared → WrittenState → ℕ → WrittenEdge → LabelTree
+label_for x s i e = option_map_or (expanded (meanings_by x.defs.items)) s.label (option_map_or (expanded (meanings_by x.defs.items)) e.label (letter_label x.names i))
+
+abbrev pub tree_edge_for : Shared → WrittenState → ℕ → WrittenEdge → TreeEdge
+tree_edge_for x s i e = record { from = s.number; label = label_for x s i e; to = only_state e.to; marks = marks_in_order x.sets (s.marks ++ e.marks) }
+
+abbrev pub tree_edges_for : Shared → WrittenState → List TreeEdge
+tree_edges_for x s = map (λ p. tree_edge_for x s p.0 p.1) (enumerate_from 0 s.edges)
+
+abbrev pub states_at : List WrittenState → ℕ → List WrittenState
+states_at states q = filter (λ s. s.number == q) states
+
+abbrev pub edges_for : Shared → List WrittenState → ℕ → List TreeEdge
+edges_for x states count = flat_map (λ q. flat_map (tree_edges_for x) (states_at states q)) (below count)
+
+-- the state of this number is defined at this place alone
+pub record IsDefinedAt (states : List WrittenState) (q place : ℕ) : Type 0 where
+  pub state : WrittenState
+  pub there : slice_get states place ≡ Some state
+  pub alone : states_at states q ≡ state ∷ []
+
+abbrev pub IsPlace : List WrittenState → ℕ → Option ℕ → Type 0
+IsPlace states q None = states_at states q ≡ []
+IsPlace states q (Some place) = IsDefinedAt states q place

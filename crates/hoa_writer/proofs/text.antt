@@ -1,0 +1,7 @@
+-- The text, piece by piece.
+pub mod Cubes
+pub mod Formulas
+pub mod InOrder
+pub mod Lines
+pub mod Pieces
+pub mod Tables

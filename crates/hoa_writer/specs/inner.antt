@@ -1,0 +1,4 @@
+-- Definitions that only inner functions speak in.
+pub mod Lines
+pub mod Pieces
+pub mod Tables
