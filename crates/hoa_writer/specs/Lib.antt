@@ -1,3 +1,4 @@
 pub mod CanonicalText
+pub mod CanonicalTextExamples
 pub mod CanonicalWritten
 pub mod inner

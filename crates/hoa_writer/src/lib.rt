@@ -14,5 +14,5 @@ mod parts;
 mod tests;
 mod write;
 
-pub use law::canonical_text_reads_back;
+pub use law::{canonical_text_examples, canonical_text_reads_back};
 pub use write::write_description;
