@@ -73,6 +73,10 @@ count_examples = record {
   uncounted = refl;
   many_sets = record { passes = refl; earlier = (refl, tt) };
   many_states = record { passes = refl; earlier = (refl, (refl, tt)) };
+  nine_names = record { passes = refl; earlier = tt };
+  eight_names = refl;
+  most_sets = refl;
+  most_states = refl;
   greatest_numbers = refl
 ;
 }
