@@ -8,9 +8,9 @@ mod all;
 mod blanks;
 mod bytes;
 mod dashes;
-mod signs;
 mod numbers;
 mod reading;
+mod signs;
 mod strings;
 mod words;
 

@@ -77,8 +77,7 @@ count_examples = record {
   eight_names = refl;
   most_sets = refl;
   most_states = refl;
-  greatest_numbers = refl
-;
+  greatest_numbers = refl;
 }
 
 pub describing_examples : DescribingExamples

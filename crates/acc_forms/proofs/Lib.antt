@@ -1,0 +1,12 @@
+pub mod AtomLaws
+pub mod DualLaw
+pub mod JoinLaws
+pub mod Lists
+pub mod Meanings
+pub mod Numbers
+pub mod ParityLaw
+pub mod Parts
+pub mod ShiftLaw
+pub mod Tallies
+pub mod TermLaws
+pub mod TermLists

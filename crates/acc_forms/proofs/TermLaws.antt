@@ -1,0 +1,99 @@
+-- The terms of a condition hold where it does, and the condition of terms where they do.
+use Rattle.std.proofs.Common.{◌≡◌, ◌∙◌, ℕ, Bool, true, false, ◌&&◌, ◌||◌, List, [], ◌∷◌, ◌++◌, map, refl, sym, ap}
+use Rattle.std.specs.List.{list_any, list_all, flat_map, fold}
+use Rattle.std.proofs.lemmas.List.Folds.{list_any-append, flat_map-map}
+use Rattle.aut_base.specs.Formula.{FormulaTree, FormulaTrees, True, False, Inf, Fin, And, Or, none, more, met, all_met, some_met, trees, formula_tree, formula_list, formula_parts}
+use Rattle.aut_base.specs.declared.formula.Formula.TheVariants as formula
+use Rattle.aut_base.specs.declared.formula.Formulas.{Formulas}
+use Rattle.aut_base.proofs.FormulaTrees.{formula_tree-And, formula_tree-Or}
+use Rattle.acc_forms.specs.Joined.{conj, disj}
+use Rattle.acc_forms.specs.Terms.{terms, each_terms, choices, pairs, literal_tree, some_term_met, of_term, of_terms}
+use Rattle.acc_forms.specs.declared.literal.Literal.{Literal}
+use Rattle.acc_forms.proofs.JoinLaws.{met-conj, met-disj}
+use Rattle.acc_forms.proofs.TermLists.{any-pairs}
+
+abbrev holds : List (List ℕ) → Literal → Bool
+holds cycle literal = met cycle (literal_tree literal)
+
+or_and_none : (a : Bool) → a ≡ ((a && true) || false)
+or_and_none true = refl
+or_and_none false = refl
+
+module _ (cycle : List (List ℕ)) where
+  mutual
+    pub met-terms : (f : FormulaTree) → met cycle f ≡ some_term_met cycle (terms f)
+    met-terms True = refl
+    met-terms False = refl
+    met-terms (Inf set neg) = or_and_none (met cycle (Inf set neg))
+    met-terms (Fin set neg) = or_and_none (met cycle (Fin set neg))
+    met-terms (And a b cs) =
+        ap (λ x. x && (met cycle b && all_met cycle cs)) (met-terms a)
+        ∙ ap (λ x. some_term_met cycle (terms a) && x) (ap (λ x. x && all_met cycle cs) (met-terms b) ∙ ap (λ x. some_term_met cycle (terms b) && x) (all_met-choices cs) ∙ sym (any-pairs (holds cycle) (terms b) (choices (each_terms cs))))
+        ∙ sym (any-pairs (holds cycle) (terms a) (choices (terms b ∷ each_terms cs)))
+    met-terms (Or a b cs) =
+        ap (λ x. x || (met cycle b || some_met cycle cs)) (met-terms a)
+        ∙ ap (λ x. some_term_met cycle (terms a) || x) (ap (λ x. x || some_met cycle cs) (met-terms b) ∙ ap (λ x. some_term_met cycle (terms b) || x) (some_met-each cs) ∙ sym (list_any-append (list_all (holds cycle)) (terms b) (flat_map (λ those. those) (each_terms cs))))
+        ∙ sym (list_any-append (list_all (holds cycle)) (terms a) (flat_map (λ those. those) (terms b ∷ each_terms cs)))
+
+    all_met-choices : (fs : FormulaTrees) → all_met cycle fs ≡ some_term_met cycle (choices (each_terms fs))
+    all_met-choices none = refl
+    all_met-choices (more f fs) =
+        ap (λ x. x && all_met cycle fs) (met-terms f) ∙ ap (λ x. some_term_met cycle (terms f) && x) (all_met-choices fs)
+        ∙ sym (any-pairs (holds cycle) (terms f) (choices (each_terms fs)))
+
+    some_met-each : (fs : FormulaTrees) → some_met cycle fs ≡ some_term_met cycle (flat_map (λ those. those) (each_terms fs))
+    some_met-each none = refl
+    some_met-each (more f fs) =
+        ap (λ x. x || some_met cycle fs) (met-terms f) ∙ ap (λ x. some_term_met cycle (terms f) || x) (some_met-each fs)
+        ∙ sym (list_any-append (list_all (holds cycle)) (terms f) (flat_map (λ those. those) (each_terms fs)))
+
+and_assoc : (a b c : Bool) → ((a && b) && c) ≡ (a && (b && c))
+and_assoc true b c = refl
+and_assoc false b c = refl
+
+or_assoc : (a b c : Bool) → ((a || b) || c) ≡ (a || (b || c))
+or_assoc true b c = refl
+or_assoc false b c = refl
+
+and_none : (a : Bool) → a ≡ (a && true)
+and_none true = refl
+and_none false = refl
+
+or_none : (a : Bool) → a ≡ (a || false)
+or_none true = refl
+or_none false = refl
+
+-- a term's literals joined to what there is
+met-fold_conj : (cycle : List (List ℕ)) (f : FormulaTree) (literals : List Literal) → met cycle (fold (λ g literal. conj g (literal_tree literal)) f literals) ≡ (met cycle f && list_all (holds cycle) literals)
+met-fold_conj cycle f [] = and_none (met cycle f)
+met-fold_conj cycle f (l ∷ ls) =
+    met-fold_conj cycle (conj f (literal_tree l)) ls
+    ∙ ap (λ b. b && list_all (holds cycle) ls) (met-conj cycle f (literal_tree l))
+    ∙ and_assoc (met cycle f) (met cycle (literal_tree l)) (list_all (holds cycle) ls)
+
+met-of_term : (cycle : List (List ℕ)) (literals : List Literal) → met cycle (of_term literals) ≡ list_all (holds cycle) literals
+met-of_term cycle literals = met-fold_conj cycle True literals
+
+met-fold_disj : (cycle : List (List ℕ)) (f : FormulaTree) (ts : List (List Literal)) → met cycle (fold (λ g term. disj g (of_term term)) f ts) ≡ (met cycle f || some_term_met cycle ts)
+met-fold_disj cycle f [] = or_none (met cycle f)
+met-fold_disj cycle f (t ∷ ts) =
+    met-fold_disj cycle (disj f (of_term t)) ts
+    ∙ ap (λ b. b || some_term_met cycle ts) (met-disj cycle f (of_term t) ∙ ap (λ b. met cycle f || b) (met-of_term cycle t))
+    ∙ or_assoc (met cycle f) (list_all (holds cycle) t) (some_term_met cycle ts)
+
+pub met-of_terms : (cycle : List (List ℕ)) (ts : List (List Literal)) → met cycle (of_terms ts) ≡ some_term_met cycle ts
+met-of_terms cycle ts = met-fold_disj cycle False ts
+
+-- the terms of a conjunction and a disjunction, by the list of its parts
+each_terms-trees : (fs : List FormulaTree) → each_terms (trees fs) ≡ map terms fs
+each_terms-trees [] = refl
+each_terms-trees (f ∷ fs) = ap (λ ts. terms f ∷ ts) (each_terms-trees fs)
+
+pub terms-And : (p : Formulas) → terms (formula_tree (formula.And p)) ≡ choices (map terms (formula_list p))
+terms-And p = ap terms (formula_tree-And p) ∙ ap (λ ts. choices (terms (formula_parts p).first ∷ terms (formula_parts p).second ∷ ts)) (each_terms-trees (formula_parts p).others)
+
+pub terms-Or : (p : Formulas) → terms (formula_tree (formula.Or p)) ≡ flat_map terms (formula_list p)
+terms-Or p =
+    ap terms (formula_tree-Or p)
+    ∙ ap (λ ts. flat_map (λ those. those) (terms (formula_parts p).first ∷ terms (formula_parts p).second ∷ ts)) (each_terms-trees (formula_parts p).others)
+    ∙ flat_map-map (λ those. those) terms (formula_list p)

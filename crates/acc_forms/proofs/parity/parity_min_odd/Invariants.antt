@@ -1,0 +1,8 @@
+-- The condition from the set at hand on.
+use Rattle.std.proofs.Common.{◌≡◌, ◌-◌}
+use Rattle.aut_base.specs.Formula.{formula_tree}
+use Rattle.acc_forms.specs.Parity.{parity_from}
+use Rattle.acc_forms.proofs.parity.parity_min_odd.Given as goal
+
+abbrev pub invariant-sets : goal.invariant-sets
+invariant-sets l = formula_tree l.formula ≡ parity_from (l.n - 1 - l.set) l.set

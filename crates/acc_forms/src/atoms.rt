@@ -1,0 +1,88 @@
+//! What the atoms of a condition tell.
+
+ghost use Rattle.std.specs.Prelude.{◌≡◌, ℕ, ◌<◌, List, [], ◌∷◌, ◌++◌, length, All, IsTrue, false};
+ghost use Rattle.std.specs.List.{list_all, list_any};
+ghost use Rattle.aut_base.specs.Formula.{formula_tree, formula_list, met};
+ghost use Rattle.acc_forms.specs.Atoms.{has_fin};
+
+use aut_base::{Formula, Formulas};
+
+/// Whether some `Fin` stands in the condition.
+pub fn has_fin(formula: &Formula) -> bool
+    ensures tree { result ≡ has_fin (formula_tree formula.now) }
+    ensures meaning { result ≡ false → ((cycle edges : List (List ℕ)) → IsTrue (met cycle (formula_tree formula.now)) → IsTrue (met (cycle ++ edges) (formula_tree formula.now))) }
+{
+    fin_stands_in(formula)
+}
+
+/// Whether the condition holds on a cycle whose edges carry no set.
+pub fn empty_meets(formula: &Formula) -> bool
+    ensures tree { result ≡ met ([] ∷ []) (formula_tree formula.now) }
+    ensures meaning { (cycle : List (List ℕ)) → 0 < length cycle → All (λ marks. marks ≡ []) cycle → result ≡ met cycle (formula_tree formula.now) }
+{
+    holds_without_sets(formula)
+}
+
+#[cycle(fin)]
+#[tactic(auto, using(aut_base::proofs::FormulaTrees::formula_trees))]
+fn fin_stands_in(formula: &Formula) -> bool
+    ensures { result ≡ has_fin (formula_tree formula.now) }
+{
+    match formula {
+        Formula::True | Formula::False | Formula::Inf { .. } => false,
+        Formula::Fin { .. } => true,
+        Formula::And(parts) => fin_stands_in_some(parts),
+        Formula::Or(parts) => fin_stands_in_some(parts),
+    }
+}
+
+#[cycle(fin)]
+fn fin_stands_in_some(parts: &Formulas) -> bool
+    ensures { result ≡ list_any has_fin (formula_list parts.now) }
+{
+    'parts: for place in 0..parts.len() {
+        if fin_stands_in(parts.at(place)) {
+            return true;
+        }
+    }
+    false
+}
+
+#[cycle(without_sets)]
+#[tactic(auto, using(aut_base::proofs::FormulaTrees::formula_trees))]
+fn holds_without_sets(formula: &Formula) -> bool
+    ensures { result ≡ met ([] ∷ []) (formula_tree formula.now) }
+{
+    match formula {
+        Formula::True => true,
+        Formula::False => false,
+        Formula::Inf { neg, .. } => *neg,
+        Formula::Fin { neg, .. } => !*neg,
+        Formula::And(parts) => all_hold_without_sets(parts),
+        Formula::Or(parts) => some_hold_without_sets(parts),
+    }
+}
+
+#[cycle(without_sets)]
+fn all_hold_without_sets(parts: &Formulas) -> bool
+    ensures { result ≡ list_all (met ([] ∷ [])) (formula_list parts.now) }
+{
+    'parts: for place in 0..parts.len() {
+        if !holds_without_sets(parts.at(place)) {
+            return false;
+        }
+    }
+    true
+}
+
+#[cycle(without_sets)]
+fn some_hold_without_sets(parts: &Formulas) -> bool
+    ensures { result ≡ list_any (met ([] ∷ [])) (formula_list parts.now) }
+{
+    'parts: for place in 0..parts.len() {
+        if holds_without_sets(parts.at(place)) {
+            return true;
+        }
+    }
+    false
+}

@@ -1,0 +1,34 @@
+//! The atoms of a condition.
+
+ghost use Rattle.std.specs.Prelude.{◌≡◌};
+ghost use Rattle.aut_base.specs.Formula.{formula_tree};
+
+use aut_base::{Formula, Seq};
+
+/// An atom of a condition. `neg` stands for the `!` before the set's number.
+#[derive(Clone, Copy, Debug, PartialEq, Eq)]
+pub enum Literal {
+    Inf { set: u32, neg: bool },
+    Fin { set: u32, neg: bool },
+}
+
+/// A term: all of these hold.
+pub type Literals = Seq<Literal>;
+
+/// Terms, one of which holds.
+pub type Terms = Seq<Literals>;
+
+impl Literal {
+    ghost use Rattle.acc_forms.specs.Terms.{literal_tree};
+
+    /// The atom as a condition.
+    #[tactic(auto, using(aut_base::proofs::FormulaTrees::formula_trees))]
+    pub(crate) fn formula(self) -> Formula
+        ensures { formula_tree result ≡ literal_tree self }
+    {
+        match self {
+            Literal::Inf { set, neg } => Formula::Inf { set, neg },
+            Literal::Fin { set, neg } => Formula::Fin { set, neg },
+        }
+    }
+}

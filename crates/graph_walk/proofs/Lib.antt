@@ -1,0 +1,10 @@
+pub mod BackLemmas
+pub mod ChainLemmas
+pub mod Depths
+pub mod FrameLemmas
+pub mod MarkLemmas
+pub mod Marked
+pub mod NumberLemmas
+pub mod PassLemmas
+pub mod SearchLemmas
+pub mod WalkLemmas

@@ -1,0 +1,15 @@
+-- The way back along the arcs that led to a node.
+use Rattle.std.specs.Prelude.{◌≡◌, ℕ, ◌+◌, ◌<◌, true, List, [], ◌∷◌, length, map, reverse, All}
+use Rattle.graph_walk.specs.Walk.{IsWalk, arc_at}
+use Rattle.graph_walk.specs.inner.Places.{flag}
+use Rattle.graph_walk.specs.inner.Search.{IsSearched}
+use Rattle.graph_walk.specs.declared.search.Search.{Search}
+
+-- the arcs at the places, taken from the last to the first, lead from `at` to q
+pub record LeadsBack (nodes : ℕ) (arcs : List (ℕ × ℕ)) (p q : ℕ) (s : Search) (places : List ℕ) (at : ℕ) : Type 0 where
+  pub searched : IsSearched nodes arcs (p ∷ []) s
+  pub marked : flag s.seen.items at ≡ true
+  pub deep : searched.searching.depth at + length places ≡ searched.searching.depth q
+  pub reached : flag s.seen.items q ≡ true
+  pub walks : IsWalk arcs at (map (arc_at arcs) (reverse places)) q
+  pub placed : All (λ place. place < length arcs) places

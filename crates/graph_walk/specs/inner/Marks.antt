@@ -1,0 +1,56 @@
+-- What is known of each node in a pass in depth.
+use Rattle.std.specs.Prelude.{◌≡◌, ℕ, ◌+◌, ◌^◌, ◌<◌, ◌≤◌, ◌↔◌, List, length}
+use Rattle.std.specs.List.{slice_index_or, sum_by}
+use Rattle.graph_walk.specs.Walk.{Reaches}
+use Rattle.graph_walk.specs.inner.Chains.{head, tail}
+use Rattle.graph_walk.specs.inner.Places.{At}
+use Rattle.graph_walk.specs.declared.pass.Mark.{Mark}
+use Rattle.graph_walk.specs.declared.pass.Mark.TheVariants.{Fresh, Open, Closed}
+
+-- the mark of a node
+abbrev pub mark_of : List Mark → ℕ → Mark
+mark_of marks x = slice_index_or marks x Fresh
+
+-- the component of x is closed under this number
+abbrev pub IsNumbered : List Mark → ℕ → ℕ → Type 0
+IsNumbered marks x number = mark_of marks x ≡ Closed number
+
+abbrev pub IsClosed : List Mark → ℕ → Type 0
+IsClosed marks x = (number : ℕ) × IsNumbered marks x number
+
+-- the number of a closed node, and 0 of any other
+abbrev pub number_of : Mark → ℕ
+number_of Fresh = 0
+number_of (Open place) = 0
+number_of (Closed number) = number
+
+abbrev pub one_if_fresh : Mark → ℕ
+one_if_fresh Fresh = 1
+one_if_fresh (Open place) = 0
+one_if_fresh (Closed number) = 0
+
+-- how many nodes were not entered
+abbrev pub fresh_count : List Mark → ℕ
+fresh_count marks = sum_by one_if_fresh marks
+
+-- the closed nodes are components, numbered from 0
+pub record AreNumbered (arcs : List (ℕ × ℕ)) (numbered : ℕ → ℕ → Type 0) (count : ℕ) : Type 0 where
+  pub below : (x number : ℕ) → numbered x number → number < count
+  pub stays : (x number place : ℕ) → numbered x number → place < length arcs → tail arcs place ≡ x → (other : ℕ) × numbered (head arcs place) other
+  pub same : (x y m n : ℕ) → numbered x m → numbered y n → (m ≡ n) ↔ (Reaches arcs x y × Reaches arcs y x)
+  pub all : (number : ℕ) → number < count → (x : ℕ) × numbered x number
+
+-- the marks, the list of the open nodes and the count of closed components belong together
+pub record Keeps (arcs : List (ℕ × ℕ)) (marks : List Mark) (order : List ℕ) (count : ℕ) : Type 0 where
+  pub stands : (x i : ℕ) → mark_of marks x ≡ Open i → At order i x
+  pub opened : (x i : ℕ) → At order i x → mark_of marks x ≡ Open i
+  pub closed : AreNumbered arcs (IsNumbered marks) count
+  pub room : count + fresh_count marks + length order ≤ length marks
+  pub few : length marks < 2 ^ 32
+
+-- of the open nodes, those from the place `from` on and before `to` are closed under the number
+pub record ClosesFrom (order : List ℕ) (from to number : ℕ) (old new : List Mark) : Type 0 where
+  pub size : length new ≡ length old
+  pub chosen : (i x : ℕ) → from ≤ i → i < to → At order i x → mark_of new x ≡ Closed number
+  pub others : (x : ℕ) → ((i : ℕ) → from ≤ i → i < to → At order i x → ⊥) → mark_of new x ≡ mark_of old x
+  pub fewer : fresh_count new ≤ fresh_count old

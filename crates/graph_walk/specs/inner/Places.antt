@@ -1,0 +1,11 @@
+-- Where an item stands, and which nodes are marked.
+use Rattle.std.specs.Prelude.{◌≡◌, ℕ, ◌<◌, Bool, false, List, length, slice_index}
+use Rattle.std.specs.List.{slice_index_or}
+
+-- x stands at the place i
+abbrev pub At : List ℕ → ℕ → ℕ → Type 0
+At xs i x = (i < length xs) × (slice_index xs i ≡ x)
+
+-- the flag of a node, which is not set past the end
+abbrev pub flag : List Bool → ℕ → Bool
+flag flags x = slice_index_or flags x false

@@ -1,0 +1,55 @@
+//! Holds the walks in graphs against a computation that knows nothing of them, on all graphs of three nodes, and runs
+//! them on three large graphs.
+#![tactic(auto)]
+
+mod large;
+mod small;
+
+use aut_base::Memory;
+use large::{LARGE, Shape};
+use std::alloc::Global;
+use std::io;
+
+/// Why a run ended early.
+#[derive(Debug, Drop)]
+enum Stop {
+    Io(io::Error),
+    Memory,
+}
+
+impl From<io::Error> for Stop {
+    fn from(error: io::Error) -> Stop {
+        Stop::Io(error)
+    }
+}
+
+impl From<Memory> for Stop {
+    fn from(_want: Memory) -> Stop {
+        Stop::Memory
+    }
+}
+
+fn main(rt: HostRuntime) -> Result<(), Stop> {
+    let alloc = rt.alloc();
+    let different = different(alloc)?;
+    println!(rt; "graphs=512 different={different}")?;
+    'shapes: for shape in [Shape::Line, Shape::Ring, Shape::Comb] {
+        let seen = large::explored(alloc, shape)?;
+        println!(rt;
+            "{shape:?} nodes={LARGE} reached={} components={} arcs={}",
+            seen.reached, seen.components, seen.arcs
+        )?;
+    }
+    Ok(())
+}
+
+/// The number of graphs of three nodes on which the two differ.
+fn different(alloc: Global) -> Result<u32, Memory> {
+    let mut different = 0u32;
+    'graphs: for arcs in 0..512u32 {
+        if !small::agrees(alloc, arcs)? {
+            different = different.saturating_add(1);
+        }
+    }
+    Ok(different)
+}
