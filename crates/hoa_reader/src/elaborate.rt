@@ -26,11 +26,11 @@ mod sizes;
 mod starts;
 mod used;
 
-use hoa_parser::Raw;
 use aliases::{Known, known_aliases};
 use aut_base::{Description, Formula, Limit, Memory};
 use broken::first_broken;
 use edges::{Shared, edges_of};
+use hoa_parser::Raw;
 use limits::first_passed;
 use parts::{Parts, parts_of};
 use places::Places;

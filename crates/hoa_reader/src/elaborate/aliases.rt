@@ -10,10 +10,10 @@ ghost use Rattle.hoa_parser.specs.Raw.{raw_tree, raw_trees};
 ghost use Rattle.hoa_reader.specs.declared.elaborate.parts.AliasDef.{AliasDef};
 ghost use Rattle.hoa_reader.specs.Validity.{aliases_among, leaves_pass};
 
-use hoa_parser::RawLabel;
 use crate::elaborate::parts::AliasDef;
 use crate::elaborate::places::Places;
 use aut_base::{Memory, Text};
+use hoa_parser::RawLabel;
 use std::alloc::Global;
 
 /// What is known of an alias: the place of a definition that says the same and is no alias itself, and how tall and

@@ -5,11 +5,11 @@ ghost use Rattle.hoa_reader.specs.inner.Gathered.{ArePartsOf};
 ghost use Rattle.hoa_parser.specs.Raw.{written};
 ghost use Rattle.hoa_reader.specs.Validity.{IsFirstBroken, IsValid, keeps, names_single_states, propositions_have_names, sets_are_below};
 
+use crate::Rule;
 use crate::elaborate::parts::Parts;
 use crate::elaborate::{leaves, rules};
-use crate::Rule;
-use hoa_parser::Raw;
 use aut_base::Memory;
+use hoa_parser::Raw;
 use std::alloc::Global;
 
 /// All rules, in order.

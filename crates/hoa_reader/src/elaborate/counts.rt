@@ -11,8 +11,8 @@ ghost use Rattle.hoa_reader.specs.inner.Weighing.{IsNone, all_edges, are_tall, c
 use crate::elaborate::aliases::{Known, growth_of};
 use crate::elaborate::leaves::aliases_among;
 use crate::elaborate::places::Places;
-use hoa_parser::{RawEdge, RawLabel, RawState};
 use aut_base::MOST_ALIASES;
+use hoa_parser::{RawEdge, RawLabel, RawState};
 
 /// Whether there are more edges than this.
 #[tactic(auto, using(crate::proofs::counting::Weights::edges_counted))]

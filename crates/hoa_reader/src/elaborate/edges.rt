@@ -12,11 +12,11 @@ ghost use Rattle.hoa_reader.specs.Validity.{all_differ};
 use crate::elaborate::aliases::Known;
 use crate::elaborate::labels::{expand, letter_label};
 use crate::elaborate::marks::{flags_of, joined};
-use crate::elaborate::starts::only_state;
 use crate::elaborate::parts::AliasDef;
 use crate::elaborate::places::Places;
-use hoa_parser::{RawEdge, RawState};
+use crate::elaborate::starts::only_state;
 use aut_base::{Edge, Edges, Label, Memory};
+use hoa_parser::{RawEdge, RawState};
 use std::alloc::Global;
 
 /// What all edges share: the numbers of names and sets, and the aliases with what is known of each.

@@ -9,8 +9,8 @@ ghost use Rattle.hoa_parser.specs.Raw.{raw_tree};
 use crate::elaborate::aliases::Known;
 use crate::elaborate::parts::AliasDef;
 use crate::elaborate::places::Places;
-use hoa_parser::{RawLabel, RawLabels};
 use aut_base::{Label, Labels, Memory};
+use hoa_parser::{RawLabel, RawLabels};
 use std::alloc::Global;
 
 /// The label with each alias replaced by what it stands for.

@@ -8,10 +8,10 @@ ghost use Rattle.hoa_reader.specs.inner.Places.{place_in};
 ghost use Rattle.hoa_parser.specs.Raw.{raw_tree, raw_trees};
 ghost use Rattle.hoa_reader.specs.Validity.{aliases_among, all_leaves_pass, all_sets_below, leaves_pass, props_below, sets_below};
 
-use hoa_parser::RawLabel;
 use crate::elaborate::parts::AliasDef;
 use crate::elaborate::places::Places;
 use aut_base::{Formula, Formulas, Memory};
+use hoa_parser::RawLabel;
 use std::alloc::Global;
 
 /// Whether each set of the condition is below their number.

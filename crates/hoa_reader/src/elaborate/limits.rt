@@ -8,13 +8,13 @@ ghost use Rattle.hoa_parser.specs.Raw.{written};
 ghost use Rattle.hoa_reader.specs.Validity.{keeps};
 ghost use Rattle.hoa_reader.specs.declared.elaborate.Rule.TheVariants.{V6};
 
-use hoa_parser::Raw;
 use crate::elaborate::aliases::Known;
 use crate::elaborate::counts::{are_heavy, are_tall, has_more_edges};
 use crate::elaborate::parts::Parts;
 use crate::elaborate::places::Places;
 use crate::elaborate::sizes::{set_count, state_count};
 use aut_base::{Limit, MOST_ALIASES, MOST_EDGES, MOST_NAMES, MOST_SETS, MOST_STATES};
+use hoa_parser::Raw;
 use std::alloc::Global;
 
 /// Whether labels grow further than they may.

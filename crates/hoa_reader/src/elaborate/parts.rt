@@ -8,8 +8,8 @@ ghost use Rattle.hoa_reader.specs.Validity.{acceptance_item, alias_item, names_i
 ghost use Rattle.hoa_reader.specs.inner.Pieces.{alias_def, acceptance_def, label_refs, list_of};
 
 use crate::elaborate::used::after_used;
-use hoa_parser::{Item, Raw, RawEdge, RawLabel, RawState};
 use aut_base::{Formula, Memory, Numbers, Text};
+use hoa_parser::{Item, Raw, RawEdge, RawLabel, RawState};
 use std::alloc::Global;
 
 /// An alias with its label.

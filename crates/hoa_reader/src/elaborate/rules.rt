@@ -8,8 +8,8 @@ ghost use Rattle.aut_base.specs.Text.{same_text};
 ghost use Rattle.hoa_reader.specs.Validity.{all_differ, begins_with_capital, has_edge_per_letter, is_one_state, labels_one_way, marks_below, may_be_passed_over, names_agree, numbers_below, states_item};
 
 use crate::elaborate::places::Places;
-use hoa_parser::{Item, RawEdge, RawState};
 use aut_base::{Memory, Numbers, Text};
+use hoa_parser::{Item, RawEdge, RawState};
 use std::alloc::Global;
 use std::collections::BTreeSet;
 
