@@ -1,5 +1,5 @@
 -- What holds of a tree holds of the condition that has it.
-use Rattle.std.proofs.Common.{◌≡◌, Result, Ok, Err, sym, subst}
+use Rattle.std.proofs.Common.{◌≡◌, Result, sym, subst}
 use Rattle.std.specs.Prelude.{IfOk}
 use Rattle.std.proofs.lemmas.Result.{IfOk-weaker}
 use Rattle.aut_base.specs.Formula.{FormulaTree, formula_tree}

@@ -1,5 +1,5 @@
 -- Sums and products that stop at a last number.
-use Rattle.std.proofs.Common.{◌≡◌, ◌∙◌, ℕ, zero, suc, ◌+◌, ◌*◌, ◌/◌, ◌%◌, ◌≤◌, ◌<◌, min, max, refl, sym, ap, subst, arith, ⊎_elim}
+use Rattle.std.proofs.Common.{◌≡◌, ◌∙◌, ℕ, zero, suc, ◌+◌, ◌*◌, ◌≤◌, ◌<◌, min, max, sym, ap, subst, arith, ⊎_elim}
 use Rattle.std.specs.Int.{div_ceil}
 use Rattle.std.proofs.Math.Nat.{min-eq_left, min-eq_right, zero-min, suc-min-suc}
 use Rattle.std.proofs.lemmas.Bool.{cases_lt}

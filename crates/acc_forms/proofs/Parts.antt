@@ -1,8 +1,8 @@
 -- What a condition's parts say of it, for each way to go down a condition.
-use Rattle.std.proofs.Common.{◌≡◌, ◌∙◌, ℕ, zero, suc, Bool, ◌&&◌, ◌||◌, List, [], ◌∷◌, map, Some, slice_get, refl, sym, ap, subst}
+use Rattle.std.proofs.Common.{◌≡◌, ◌∙◌, ℕ, zero, suc, ◌&&◌, ◌||◌, List, [], ◌∷◌, map, Some, slice_get, refl, sym, ap, subst}
 use Rattle.std.proofs.lemmas.Option.{same_Some, none-some}
 use Rattle.std.specs.List.{list_any, list_all}
-use Rattle.aut_base.specs.Formula.{FormulaTree, FormulaTrees, more, formula_tree, formula_parts, formula_list, trees, met, all_met, some_met, SetsBelow, EachSetsBelow}
+use Rattle.aut_base.specs.Formula.{FormulaTree, more, formula_tree, formula_parts, formula_list, trees, met, all_met, some_met, SetsBelow, EachSetsBelow}
 use Rattle.aut_base.specs.declared.formula.Formula.TheVariants.{And, Or}
 use Rattle.aut_base.specs.declared.formula.Formulas.{Formulas}
 use Rattle.aut_base.proofs.FormulaTrees.{formula_tree-And, formula_tree-Or}

@@ -1,11 +1,11 @@
 -- The tally of joined terms.
-use Rattle.std.proofs.Common.{◌≡◌, ◌∙◌, ℕ, ◌+◌, ◌*◌, ◌-◌, ◌^◌, min, List, length, map, take, ◌++◌, [], ◌∷◌, Some, slice_get, refl, sym, ap}
+use Rattle.std.proofs.Common.{◌≡◌, ◌∙◌, ℕ, ◌+◌, ◌*◌, ◌-◌, ◌^◌, min, List, length, map, take, ◌++◌, [], ◌∷◌, Some, slice_get, sym, ap}
 use Rattle.std.specs.List.{flat_map}
 use Rattle.std.proofs.lemmas.List.{map-append, append-nil}
 use Rattle.std.proofs.lemmas.List.Concat.{flat_map-append}
 use Rattle.aut_base.specs.Formula.{FormulaTree}
 use Rattle.acc_forms.specs.Terms.{pairs, literals, choices, terms}
-use Rattle.acc_forms.specs.inner.Tally.{tally_of, capped}
+use Rattle.acc_forms.specs.inner.Tally.{tally_of}
 use Rattle.acc_forms.specs.declared.literal.Literal.{Literal}
 use Rattle.acc_forms.specs.declared.tally.Tally.{Tally}
 use Rattle.acc_forms.proofs.Lists.{take_at}

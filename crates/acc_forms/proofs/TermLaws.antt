@@ -1,13 +1,13 @@
 -- The terms of a condition hold where it does, and the condition of terms where they do.
-use Rattle.std.proofs.Common.{◌≡◌, ◌∙◌, ℕ, Bool, true, false, ◌&&◌, ◌||◌, List, [], ◌∷◌, ◌++◌, map, refl, sym, ap}
-use Rattle.std.specs.List.{list_any, list_all, flat_map, fold}
+use Rattle.std.proofs.Common.{◌≡◌, ◌∙◌, ℕ, Bool, true, false, ◌&&◌, ◌||◌, List, [], ◌∷◌, map, refl, sym, ap}
+use Rattle.std.specs.List.{list_all, flat_map, fold}
 use Rattle.std.proofs.lemmas.List.Folds.{list_any-append, flat_map-map}
 use Rattle.aut_base.specs.Formula.{FormulaTree, FormulaTrees, True, False, Inf, Fin, And, Or, none, more, met, all_met, some_met, trees, formula_tree, formula_list, formula_parts}
 use Rattle.aut_base.specs.declared.formula.Formula.TheVariants as formula
 use Rattle.aut_base.specs.declared.formula.Formulas.{Formulas}
 use Rattle.aut_base.proofs.FormulaTrees.{formula_tree-And, formula_tree-Or}
 use Rattle.acc_forms.specs.Joined.{conj, disj}
-use Rattle.acc_forms.specs.Terms.{terms, each_terms, choices, pairs, literal_tree, some_term_met, of_term, of_terms}
+use Rattle.acc_forms.specs.Terms.{terms, each_terms, choices, literal_tree, some_term_met, of_term, of_terms}
 use Rattle.acc_forms.specs.declared.literal.Literal.{Literal}
 use Rattle.acc_forms.proofs.JoinLaws.{met-conj, met-disj}
 use Rattle.acc_forms.proofs.TermLists.{any-pairs}

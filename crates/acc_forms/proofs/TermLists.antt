@@ -1,13 +1,11 @@
 -- Lists of terms joined in all pairs: their laws, and how many terms and literals there are.
 use Rattle.std.proofs.Common.{◌≡◌, ◌∙◌, ℕ, ◌+◌, ◌*◌, Bool, true, false, ◌&&◌, ◌||◌, List, [], ◌∷◌, ◌++◌, length, map, take, get_or, ◌<◌, refl, sym, ap, arith}
-use Rattle.std.specs.List.{list_any, list_all, flat_map, sum_by}
+use Rattle.std.specs.List.{list_any, list_all}
 use Rattle.std.proofs.lemmas.List.{append_assoc, append-nil, length-append, length-map, map-append, map-id, take_more}
 use Rattle.std.proofs.lemmas.List.Concat.{flat_map-append}
 use Rattle.std.proofs.lemmas.List.Folds.{list_any-append, list_all-append}
 use Rattle.std.proofs.lemmas.List.Sums.{sum_by-append, sum_by-cons}
-use Rattle.std.proofs.Math.Nat.{mul_comm}
-use Rattle.aut_base.specs.Formula.{met}
-use Rattle.acc_forms.specs.Terms.{pairs, choices, literals, literal_tree, some_term_met}
+use Rattle.acc_forms.specs.Terms.{pairs, choices, literals}
 use Rattle.acc_forms.specs.declared.literal.Literal.{Literal}
 
 map-joined : (x y : List Literal) (zs : List (List Literal)) → map (λ z. (x ++ y) ++ z) zs ≡ map (λ z. x ++ z) (map (λ z. y ++ z) zs)

@@ -1,6 +1,6 @@
 -- Two conditions joined by And or by Or.
 use Rattle.std.specs.Prelude.{Bool, true, false, ◌||◌, if◌then◌else◌, List, [], ◌∷◌, ◌++◌}
-use Rattle.aut_base.specs.Formula.{FormulaTree, FormulaTrees, True, False, Inf, Fin, And, Or, none, more, trees}
+use Rattle.aut_base.specs.Formula.{FormulaTree, FormulaTrees, True, False, And, Or, none, more, trees}
 
 -- a tree's parts behind the second, as a list
 abbrev pub listed : FormulaTrees → List FormulaTree

@@ -1,5 +1,5 @@
 -- The condition of parity automata, by the least set.
-use Rattle.std.specs.Prelude.{◌≡◌, ℕ, zero, suc, ◌+◌, ◌-◌, ◌%◌, ◌<◌, Bool, false, ◌==◌, if◌then◌else◌, IsTrue, ◌⊎◌, List}
+use Rattle.std.specs.Prelude.{ℕ, zero, suc, ◌+◌, ◌-◌, ◌%◌, ◌<◌, Bool, false, ◌==◌, if◌then◌else◌, IsTrue, ◌⊎◌, List}
 use Rattle.std.specs.List.{list_any}
 use Rattle.aut_base.specs.Formula.{FormulaTree, Inf, Fin, And, Or, none}
 use Rattle.aut_base.specs.Marks.{is_in}

@@ -1,5 +1,5 @@
 -- The terms of a condition: each is a list of atoms, and the condition holds where all atoms of some term do.
-use Rattle.std.specs.Prelude.{ℕ, ◌+◌, max, length, Bool, List, [], ◌∷◌, ◌++◌, map}
+use Rattle.std.specs.Prelude.{ℕ, max, length, Bool, List, [], ◌∷◌, ◌++◌, map}
 use Rattle.std.specs.Int.{div_ceil}
 use Rattle.std.specs.List.{list_any, list_all, flat_map, fold, sum_by}
 use Rattle.aut_base.specs.Formula.{FormulaTree, FormulaTrees, True, False, And, Or, none, more, met}

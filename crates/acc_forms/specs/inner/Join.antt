@@ -1,5 +1,5 @@
 -- What is alike in a conjunction and a disjunction.
-use Rattle.std.specs.Prelude.{Bool, List, [], ◌∷◌}
+use Rattle.std.specs.Prelude.{Bool, List}
 use Rattle.aut_base.specs.Formula.{FormulaTree}
 use Rattle.acc_forms.specs.Joined.{conj, disj, conjuncts, disjuncts, all_of, some_of, is_true, is_false}
 use Rattle.acc_forms.specs.declared.join.Join.{Join}

@@ -1,8 +1,8 @@
-use Rattle.std.proofs.Common.{◌≡◌, ◌∙◌, ap, sym, arith}
-use Rattle.aut_base.specs.Formula.{formula_tree, formula_list, formula_size}
-use Rattle.aut_base.proofs.FormulaSizes.{formula_size-And, formula_size-Or, formula_size-at}
+use Rattle.std.proofs.Common.{◌∙◌, ap, sym, arith}
+use Rattle.aut_base.specs.Formula.{formula_tree, formula_list}
+use Rattle.aut_base.proofs.FormulaSizes.{formula_size-at}
 use Rattle.acc_forms.specs.Dual.{dual}
-use Rattle.acc_forms.proofs.Lists.{map_two, map_more, map_done}
+use Rattle.acc_forms.proofs.Lists.{map_more}
 use Rattle.acc_forms.proofs.Parts.{dual-And, dual-Or}
 use Rattle.acc_forms.proofs.duality.+dual.Goals as goal
 

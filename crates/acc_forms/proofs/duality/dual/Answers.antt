@@ -1,5 +1,5 @@
 use Rattle.std.proofs.Common.{◌≡◌, ℕ, List, not}
-use Rattle.aut_base.specs.Formula.{FormulaTree, formula_tree, met}
+use Rattle.aut_base.specs.Formula.{formula_tree, met}
 use Rattle.acc_forms.specs.Dual.{dual}
 use Rattle.acc_forms.proofs.DualLaw.{met-dual}
 use Rattle.acc_forms.proofs.Meanings.{holds_of_new}

@@ -1,5 +1,5 @@
-use Rattle.std.proofs.Common.{◌≡◌, ◌∙◌, ◌-◌, ◌^◌, ap, sym, arith}
-use Rattle.aut_base.specs.Formula.{formula_tree, formula_list, formula_size}
+use Rattle.std.proofs.Common.{◌∙◌, ◌-◌, ◌^◌, ap, sym, arith}
+use Rattle.aut_base.specs.Formula.{formula_tree, formula_list}
 use Rattle.aut_base.proofs.FormulaSizes.{formula_size-at}
 use Rattle.acc_forms.specs.Shift.{shift}
 use Rattle.acc_forms.proofs.Lists.{map_more}

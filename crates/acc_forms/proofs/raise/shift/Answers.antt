@@ -1,5 +1,5 @@
 use Rattle.std.proofs.Common.{◌≡◌, ℕ, List}
-use Rattle.aut_base.specs.Formula.{FormulaTree, formula_tree, met}
+use Rattle.aut_base.specs.Formula.{formula_tree, met}
 use Rattle.acc_forms.specs.Shift.{shift, raised, lowered}
 use Rattle.acc_forms.proofs.ShiftLaw.{met-shift, met-raised}
 use Rattle.acc_forms.proofs.Meanings.{holds_of_new}

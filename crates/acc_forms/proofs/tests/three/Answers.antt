@@ -1,5 +1,5 @@
-use Rattle.std.proofs.Common.{◌≡◌, ◌∙◌, ◌-◌, ◌^◌, true, false, List, [], ◌∷◌, ◌++◌, sym, ap, subst, arith}
-use Rattle.aut_base.specs.Formula.{FormulaTree, True, False, Inf, Fin, trees, formula_tree, formula_list, EachSetsBelow}
+use Rattle.std.proofs.Common.{◌≡◌, ◌∙◌, ◌-◌, ◌^◌, true, false, [], ◌∷◌, ◌++◌, sym, ap, subst, arith}
+use Rattle.aut_base.specs.Formula.{False, Inf, Fin, trees, formula_tree, formula_list, EachSetsBelow}
 use Rattle.aut_base.specs.declared.formula.Formula.TheVariants as formula
 use Rattle.aut_base.proofs.FormulaTrees.{formula_tree-Inf, formula_tree-Fin, formula_tree-False}
 use Rattle.acc_forms.proofs.Parts.{below-And}

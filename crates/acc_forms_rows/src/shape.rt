@@ -1,0 +1,152 @@
+//! The conditions that are gone through.
+
+ghost use Rattle.std.specs.Prelude.{◌-◌, ◌^◌, IfOk};
+ghost use Rattle.aut_base.specs.Formula.{SetsBelow, formula_tree};
+
+use acc_forms::Literal;
+use aut_base::{Formula, Formulas, Memory};
+use std::alloc::Global;
+
+/// The atoms over two sets.
+pub(crate) const ATOMS: [Literal; 8] = [
+    Literal::Inf { set: 0, neg: false },
+    Literal::Inf { set: 0, neg: true },
+    Literal::Inf { set: 1, neg: false },
+    Literal::Inf { set: 1, neg: true },
+    Literal::Fin { set: 0, neg: false },
+    Literal::Fin { set: 0, neg: true },
+    Literal::Fin { set: 1, neg: false },
+    Literal::Fin { set: 1, neg: true },
+];
+
+/// What parts stand under.
+#[derive(Clone, Copy)]
+pub(crate) enum Node {
+    And,
+    Or,
+}
+
+/// How one, two or three atoms stand in a condition.
+#[derive(Clone, Copy)]
+pub(crate) enum Shape {
+    One,
+    Two(Node),
+    Three(Node),
+    /// The first, and the other two under a node of their own.
+    Right(Node, Node),
+    /// The first two under a node of their own, and the third.
+    Left(Node, Node),
+}
+
+/// All of them.
+pub(crate) const SHAPES: [Shape; 13] = [
+    Shape::One,
+    Shape::Two(Node::And),
+    Shape::Two(Node::Or),
+    Shape::Three(Node::And),
+    Shape::Three(Node::Or),
+    Shape::Right(Node::And, Node::And),
+    Shape::Right(Node::And, Node::Or),
+    Shape::Right(Node::Or, Node::And),
+    Shape::Right(Node::Or, Node::Or),
+    Shape::Left(Node::And, Node::And),
+    Shape::Left(Node::And, Node::Or),
+    Shape::Left(Node::Or, Node::And),
+    Shape::Left(Node::Or, Node::Or),
+];
+
+const ONE_ATOM: [Literal; 1] = [Literal::Inf { set: 0, neg: false }];
+
+impl Shape {
+    /// The atoms that may stand second: one of any kind where none stands there.
+    pub(crate) fn seconds(self) -> &'static [Literal] {
+        match self {
+            Shape::One => &ONE_ATOM,
+            _ => &ATOMS,
+        }
+    }
+
+    /// The atoms that may stand third: one of any kind where none stands there.
+    pub(crate) fn thirds(self) -> &'static [Literal] {
+        match self {
+            Shape::One | Shape::Two(_) => &ONE_ATOM,
+            _ => &ATOMS,
+        }
+    }
+
+    /// The condition of this shape.
+    pub(crate) fn formula(
+        self,
+        alloc: Global,
+        first: Literal,
+        second: Literal,
+        third: Literal,
+    ) -> Result<Formula, Memory>
+        ensures { IfOk result (λ new. SetsBelow (2 ^ 32 - 2) (formula_tree new)) }
+    {
+        let (first, second, third) = (atom(first), atom(second), atom(third));
+        match self {
+            Shape::One => Ok(first),
+            Shape::Two(node) => pair(alloc, node, first, second),
+            Shape::Three(node) => triple(alloc, node, first, second, third),
+            Shape::Right(outer, inner) => {
+                let others = pair(alloc, inner, second, third)?;
+                pair(alloc, outer, first, others)
+            }
+            Shape::Left(outer, inner) => {
+                let others = pair(alloc, inner, first, second)?;
+                pair(alloc, outer, others, third)
+            }
+        }
+    }
+}
+
+/// The atom, of one of two sets.
+#[tactic(auto, using(aut_base::proofs::FormulaTrees::formula_trees))]
+pub(crate) fn atom(literal: Literal) -> Formula
+    ensures { SetsBelow (2 ^ 32 - 2) (formula_tree result) }
+{
+    match literal {
+        Literal::Inf { set, neg } => Formula::Inf { set: set % 2, neg },
+        Literal::Fin { set, neg } => Formula::Fin { set: set % 2, neg },
+    }
+}
+
+/// Two parts under a node.
+pub(crate) fn pair(
+    alloc: Global,
+    node: Node,
+    first: Formula,
+    second: Formula,
+) -> Result<Formula, Memory>
+    requires first { SetsBelow (2 ^ 32 - 2) (formula_tree first) }
+    requires second { SetsBelow (2 ^ 32 - 2) (formula_tree second) }
+    ensures { IfOk result (λ new. SetsBelow (2 ^ 32 - 2) (formula_tree new)) }
+{
+    let parts = Formulas::pair(alloc, first, second)?;
+    match node {
+        Node::And => Ok(Formula::And(parts)),
+        Node::Or => Ok(Formula::Or(parts)),
+    }
+}
+
+/// Three parts under a node.
+fn triple(
+    alloc: Global,
+    node: Node,
+    first: Formula,
+    second: Formula,
+    third: Formula,
+) -> Result<Formula, Memory>
+    requires first { SetsBelow (2 ^ 32 - 2) (formula_tree first) }
+    requires second { SetsBelow (2 ^ 32 - 2) (formula_tree second) }
+    requires third { SetsBelow (2 ^ 32 - 2) (formula_tree third) }
+    ensures { IfOk result (λ new. SetsBelow (2 ^ 32 - 2) (formula_tree new)) }
+{
+    let mut parts = Formulas::pair(alloc, first, second)?;
+    parts.push(third)?;
+    match node {
+        Node::And => Ok(Formula::And(parts)),
+        Node::Or => Ok(Formula::Or(parts)),
+    }
+}
