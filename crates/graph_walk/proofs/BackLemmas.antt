@@ -1,15 +1,15 @@
 -- The way back from a node that was reached.
-use Rattle.std.proofs.Common.{◌≡◌, ◌∙◌, ◌≢◌, ℕ, suc, ◌+◌, ◌-◌, ◌<◌, ◌≤◌, ◌⊎◌, inl, inr, ⊎_elim, Bool, true, false, List, [], ◌∷◌, ◌++◌, length, map, reverse, get_or, refl, sym, ap, subst, arith}
-use Rattle.std.specs.List.{All, Contains}
+use Rattle.std.proofs.Common.{◌≡◌, ◌∙◌, ◌≢◌, ℕ, ◌-◌, ◌<◌, ⊎_elim, Bool, true, false, List, [], ◌∷◌, ◌++◌, length, map, reverse, get_or, refl, sym, subst, arith}
+use Rattle.std.specs.List.{Contains}
 use Rattle.std.proofs.lemmas.Bool.{false≢true}
-use Rattle.std.proofs.lemmas.List.{get_or_read, length_push, length-map, length-reverse, get_or-reverse, reverse-append}
+use Rattle.std.proofs.lemmas.List.{get_or_read, length_push, length-reverse, get_or-reverse, reverse-append}
 use Rattle.std.proofs.lemmas.List.Elements.{All-nil, All-push}
 use Rattle.graph_walk.specs.Path.{IsShortest}
 use Rattle.graph_walk.specs.Walk.{IsWalk, Reaches, arc_at}
 use Rattle.graph_walk.specs.declared.search.Search.{Search}
 use Rattle.graph_walk.specs.inner.Back.{LeadsBack}
-use Rattle.graph_walk.specs.inner.Chains.{head, tail}
-use Rattle.graph_walk.specs.inner.Places.{At, flag}
+use Rattle.graph_walk.specs.inner.Chains.{tail}
+use Rattle.graph_walk.specs.inner.Places.{flag}
 use Rattle.graph_walk.specs.inner.Search.{IsLedBy, IsSearched}
 use Rattle.graph_walk.proofs.Marked.{flag_within}
 use Rattle.graph_walk.proofs.SearchLemmas.{walk_near}

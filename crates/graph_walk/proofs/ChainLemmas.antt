@@ -1,9 +1,8 @@
 -- Chains of arcs, one arc more at a time.
-use Rattle.std.proofs.Common.{◌≡◌, ◌∙◌, ◌≢◌, ℕ, ◌+◌, ◌-◌, ◌<◌, ◌≤◌, ◌⊎◌, inl, inr, ⊎_elim, List, [], ◌∷◌, ◌++◌, length, get_or, set, replicate, refl, sym, ap, subst, arith, get_or-set_same, get_or-set_other, length-set}
+use Rattle.std.proofs.Common.{◌≡◌, ◌∙◌, ◌≢◌, ℕ, ◌+◌, ◌-◌, ◌<◌, ◌≤◌, ⊎_elim, List, [], ◌∷◌, ◌++◌, length, get_or, set, replicate, refl, sym, ap, subst, arith, get_or-set_same, get_or-set_other, length-set}
 use Rattle.std.proofs.lemmas.Bool.{cases_lt, cases_eq}
 use Rattle.std.proofs.lemmas.List.{get_or_append_left, get_or_push, length_push, get_or-replicate, length-replicate}
-use Rattle.graph_walk.specs.Walk.{arc_at}
-use Rattle.graph_walk.specs.inner.Chains.{head, tail, IsLast, AreChained}
+use Rattle.graph_walk.specs.inner.Chains.{tail, IsLast, AreChained}
 
 pub none_chained : (nodes : ℕ) (arcs : List (ℕ × ℕ)) → AreChained nodes arcs 0 (replicate nodes 0) []
 none_chained nodes arcs = record {

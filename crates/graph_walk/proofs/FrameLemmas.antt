@@ -1,14 +1,13 @@
 -- The nodes whose arcs are being looked at, one step of the pass at a time.
-use Rattle.std.proofs.Common.{◌≡◌, ◌∙◌, ℕ, ◌+◌, ◌-◌, ◌<◌, ◌≤◌, min, ◌⊎◌, inl, inr, ⊎_elim, List, [], ◌∷◌, ◌++◌, length, refl, sym, ap, subst, arith}
+use Rattle.std.proofs.Common.{◌≡◌, ◌∙◌, ℕ, ◌+◌, ◌-◌, ◌<◌, ◌≤◌, min, inl, inr, ⊎_elim, List, [], ◌∷◌, ◌++◌, length, sym, ap, subst, arith}
 use Rattle.std.proofs.lemmas.Bool.{cases_lt, cases_eq}
-use Rattle.std.proofs.lemmas.List.{length_push}
 use Rattle.graph_walk.specs.Walk.{Reaches}
 use Rattle.graph_walk.specs.declared.pass.Frame.{Frame}
 use Rattle.graph_walk.specs.inner.Chains.{head, tail, IsLast}
 use Rattle.graph_walk.specs.inner.Frames.{IsSettled, ReachesPlace, Holds, Hold}
 use Rattle.graph_walk.specs.inner.Places.{At}
-use Rattle.graph_walk.proofs.Marked.{at_kept, at_end, at_before, at_cases, at_same}
-use Rattle.graph_walk.proofs.WalkLemmas.{reach_none, reach_then, reach_place}
+use Rattle.graph_walk.proofs.Marked.{at_end, at_cases, at_same}
+use Rattle.graph_walk.proofs.WalkLemmas.{reach_none, reach_then}
 
 -- what is settled at a place is settled at one before it
 pub settled_below : (order : List ℕ) (closed : ℕ → Type 0) (low lower w : ℕ) → lower ≤ low → IsSettled order closed low w → IsSettled order closed lower w

@@ -1,6 +1,5 @@
 -- The marks of a pass in depth: a node is entered, or a component is closed.
-use Rattle.std.proofs.Common.{◌≡◌, ◌∙◌, ◌≢◌, ℕ, ◌+◌, ◌-◌, ◌^◌, ◌<◌, ◌≤◌, ◌⊎◌, inl, inr, ⊎_elim, List, [], ◌∷◌, ◌++◌, length, get_or, set, take, refl, sym, ap, subst, arith, get_or-set_same, get_or-set_other, length-set, get_or-take, length-take}
-use Rattle.std.specs.List.{sum_by}
+use Rattle.std.proofs.Common.{◌≡◌, ◌∙◌, ◌≢◌, ℕ, ◌+◌, ◌<◌, ◌≤◌, ◌⊎◌, inl, inr, ⊎_elim, List, [], ◌∷◌, ◌++◌, length, set, take, refl, sym, ap, subst, arith, get_or-set_same, get_or-set_other, length-set, get_or-take, length-take}
 use Rattle.std.proofs.lemmas.Bool.{cases_lt, cases_eq}
 use Rattle.std.proofs.lemmas.List.{get_or_past, length_push}
 use Rattle.std.proofs.lemmas.List.Sums.{sum_by-set}
@@ -12,8 +11,8 @@ use Rattle.graph_walk.specs.inner.Chains.{head, tail}
 use Rattle.graph_walk.specs.inner.Frames.{IsSettled, Holds}
 use Rattle.graph_walk.specs.inner.Marks.{mark_of, number_of, IsNumbered, IsClosed, one_if_fresh, fresh_count, AreNumbered, Keeps, ClosesFrom}
 use Rattle.graph_walk.specs.inner.Places.{At}
-use Rattle.graph_walk.proofs.Marked.{at_kept, at_end, at_before, at_cases, at_same}
-use Rattle.graph_walk.proofs.WalkLemmas.{placed, reach_none, reach_then}
+use Rattle.graph_walk.proofs.Marked.{at_kept, at_end, at_cases, at_same}
+use Rattle.graph_walk.proofs.WalkLemmas.{placed, reach_then}
 
 -- the place of an open node, and 0 of any other
 abbrev place_of : Mark → ℕ

@@ -1,22 +1,21 @@
 -- The steps of a pass in depth.
-use Rattle.std.proofs.Common.{◌≡◌, ◌∙◌, ◌≢◌, ℕ, ◌+◌, ◌-◌, ◌*◌, ◌^◌, ◌<◌, ◌≤◌, min, ◌⊎◌, inl, inr, ⊎_elim, List, [], ◌∷◌, ◌++◌, length, get_or, set, take, reverse, replicate, refl, sym, ap, subst, arith, length-set, length-take, Option, Some, None, MatchOption, vec_len, option_to_list}
+use Rattle.std.proofs.Common.{◌≡◌, ◌∙◌, ◌≢◌, ℕ, ◌+◌, ◌-◌, ◌*◌, ◌^◌, ◌<◌, ◌≤◌, min, inl, inr, ⊎_elim, List, [], ◌∷◌, ◌++◌, length, get_or, set, take, reverse, replicate, refl, sym, ap, subst, arith, length-set, length-take, Option, Some, None, MatchOption, vec_len, option_to_list}
 use Rattle.std.specs.List.{All, sum_by}
 use Rattle.std.proofs.Math.Nat.{mul-le-mul_right}
 use Rattle.std.proofs.lemmas.Bool.{cases_lt, cases_eq}
 use Rattle.std.proofs.lemmas.List.{nil_from_length, get_or_default, get_or_past, get_or_read, get_or-replicate, length-replicate, length_push, reverse-append}
 use Rattle.std.proofs.lemmas.List.Folds.{sum_by-replicate}
 use Rattle.std.proofs.lemmas.List.Sums.{sum_by_push}
-use Rattle.graph_walk.specs.Walk.{Reaches}
 use Rattle.graph_walk.specs.declared.pass.Frame.{Frame}
 use Rattle.graph_walk.specs.declared.pass.Mark.{Mark}
 use Rattle.graph_walk.specs.declared.pass.Mark.TheVariants.{Fresh, Open, Closed}
 use Rattle.graph_walk.specs.declared.pass.Pass.{Pass}
 use Rattle.graph_walk.specs.inner.Chains.{head, tail, IsLast, AreChained}
 use Rattle.graph_walk.specs.inner.Frames.{IsSettled, ReachesPlace, Holds, Hold}
-use Rattle.graph_walk.specs.inner.Marks.{mark_of, IsNumbered, IsClosed, one_if_fresh, fresh_count, AreNumbered, Keeps, ClosesFrom}
-use Rattle.graph_walk.specs.inner.Pass.{IsMidway, IsIdle, NoneFreshened, left_of, steps_left, Steps, Enters, Closes, Finishes}
+use Rattle.graph_walk.specs.inner.Marks.{mark_of, IsClosed, one_if_fresh, fresh_count, Keeps, ClosesFrom}
+use Rattle.graph_walk.specs.inner.Pass.{IsMidway, IsIdle, NoneFreshened, left_of, Steps, Enters, Closes, Finishes}
 use Rattle.graph_walk.specs.inner.Places.{At}
-use Rattle.graph_walk.proofs.FrameLemmas.{settled_below, hold_moves, holds_looks, reaches_lower, holds_enters, holds_merge}
+use Rattle.graph_walk.proofs.FrameLemmas.{hold_moves, holds_looks, reaches_lower, holds_enters, holds_merge}
 use Rattle.graph_walk.proofs.MarkLemmas.{mark_set, mark_elsewhere, mark_within, fresh_less, fresh_no_more, numbered_kept, keeps_enters, at_taken, taken_at, settled_now, keeps_closes}
 use Rattle.graph_walk.proofs.Marked.{at_kept, at_end, at_before, at_read}
 use Rattle.graph_walk.proofs.WalkLemmas.{reach_then, reach_place}

@@ -1,18 +1,18 @@
 -- The steps of a search in breadth.
-use Rattle.std.proofs.Common.{◌≡◌, ◌∙◌, ◌≢◌, ℕ, zero, suc, ◌+◌, ◌-◌, ◌<◌, ◌≤◌, ◌⊎◌, inl, inr, ⊎_elim, Bool, true, false, List, [], ◌∷◌, ◌++◌, length, get_or, set, refl, sym, ap, subst, arith, get_or-set_same, get_or-set_other, length-set}
+use Rattle.std.proofs.Common.{◌≡◌, ◌∙◌, ◌≢◌, ℕ, zero, suc, ◌+◌, ◌-◌, ◌<◌, ◌≤◌, inl, inr, ⊎_elim, Bool, true, false, List, [], ◌∷◌, ◌++◌, length, get_or, set, refl, sym, ap, subst, arith, get_or-set_same, get_or-set_other, length-set}
 use Rattle.std.proofs.lemmas.List.{get_or_default, get_or_read, length_push}
 use Rattle.std.proofs.lemmas.List.Sums.{sum_by-set}
 use Rattle.std.specs.List.{Contains, sum_by}
 use Rattle.std.proofs.lemmas.Bool.{cases_lt, cases_eq}
 use Rattle.std.proofs.lemmas.List.Elements.{Contains-get_or}
 use Rattle.graph_walk.specs.Reach.{ReachedFrom, AreReached}
-use Rattle.graph_walk.specs.Walk.{IsWalk, Reaches, arc_at}
+use Rattle.graph_walk.specs.Walk.{IsWalk}
 use Rattle.graph_walk.specs.declared.search.Search.{Search}
 use Rattle.graph_walk.specs.inner.Chains.{head, tail, IsLast, AreChained}
 use Rattle.graph_walk.specs.inner.Places.{At, flag}
-use Rattle.graph_walk.specs.inner.Search.{IsAdded, Adds, IsSized, AreListed, HasStarts, IsNear, IsLedBy, IsLed, IsPast, IsClosed, Searching, Spreading, IsSearched, one_if_unset}
-use Rattle.graph_walk.proofs.Depths.{with_depth, with_depth_there, with_depth_elsewhere, depth_kept}
-use Rattle.graph_walk.proofs.Marked.{at_kept, at_end, at_before, at_cases, at_same, at_read, flag_within, flag_set, flag_kept, flag_cases}
+use Rattle.graph_walk.specs.inner.Search.{IsAdded, Adds, IsSized, AreListed, HasStarts, IsNear, IsLedBy, IsLed, IsClosed, Searching, Spreading, IsSearched, one_if_unset}
+use Rattle.graph_walk.proofs.Depths.{with_depth, with_depth_there, depth_kept}
+use Rattle.graph_walk.proofs.Marked.{at_kept, at_end, at_before, at_cases, at_same, at_read, flag_set, flag_kept, flag_cases}
 use Rattle.graph_walk.proofs.WalkLemmas.{reach_none, reach_then, reach_place, placed}
 
 -- before any arc was looked at

@@ -1,5 +1,5 @@
 -- What `reach` answers.
-use Rattle.std.specs.Prelude.{◌≡◌, ℕ, ◌<◌, ◌↔◌, Bool, true, false, IsTrue, List, length}
+use Rattle.std.specs.Prelude.{◌≡◌, ℕ, ◌<◌, ◌↔◌, Bool, false, IsTrue, List, length}
 use Rattle.std.specs.List.{Contains, slice_index_or}
 use Rattle.graph_walk.specs.Walk.{Reaches}
 

@@ -151,7 +151,8 @@ impl Pass {
         }
     }
 
-    /// Leaves a node whose arcs are done, and answers the one from which it was entered, if there is one.
+    /// Leaves a node whose arcs are done, and answers the one from which it was entered, if there is one. The
+    /// graph is there for the contract.
     fn finish(&mut self, graph: &Graph, top: Frame) -> Option<Frame>
         requires midway { IsMidway graph.now.nodes graph.now.arcs self.old top }
         requires done { top.next ≡ 0 }

@@ -56,7 +56,7 @@ impl Search {
         Ok(search)
     }
 
-    /// Marks a node to which the arc at a place led, unless it was seen before.
+    /// Marks a node to which the arc at a place led, unless it was seen before. At a start the place says nothing.
     fn add(&mut self, node: u32, place: usize) -> Result<(), AllocError>
         requires sized { IsSized self.old }
         requires within { node < length self.old.seen.items }
@@ -73,7 +73,7 @@ impl Search {
         Ok(())
     }
 
-    /// Looks at the arcs of the node that is listed at the place `done`.
+    /// Looks at the arcs of the node that is listed at the place `done`. The starts are there for the contract.
     fn spread(
         &mut self,
         graph: &Graph,

@@ -1,10 +1,9 @@
 -- A pass in depth.
-use Rattle.std.specs.Prelude.{◌≡◌, ℕ, ◌+◌, ◌*◌, ◌<◌, ◌≤◌, Option, Some, None, List, [], ◌∷◌, ◌++◌, length, reverse, take, slice_index, slice_set}
+use Rattle.std.specs.Prelude.{◌≡◌, ℕ, ◌+◌, ◌*◌, ◌<◌, Option, Some, None, List, [], ◌∷◌, ◌++◌, length, reverse, take, slice_index, slice_set}
 use Rattle.std.specs.List.{sum_by}
 use Rattle.graph_walk.specs.inner.Frames.{Hold}
 use Rattle.graph_walk.specs.inner.Marks.{mark_of, IsClosed, ClosesFrom, Keeps, fresh_count}
 use Rattle.graph_walk.specs.declared.pass.Frame.{Frame}
-use Rattle.graph_walk.specs.declared.pass.Mark.{Mark}
 use Rattle.graph_walk.specs.declared.pass.Mark.TheVariants.{Fresh, Open}
 use Rattle.graph_walk.specs.declared.pass.Pass.{Pass}
 

@@ -1,6 +1,4 @@
-use Rattle.std.proofs.Common.{◌≡◌, ◌∙◌, ◌<◌, length, sym, ap, arith, rules, subst}
-use Rattle.graph_walk.specs.Path.{IsShortest}
-use Rattle.graph_walk.specs.inner.Back.{LeadsBack}
+use Rattle.std.proofs.Common.{◌<◌, length, rules}
 use Rattle.graph_walk.proofs.BackLemmas.{back_ends, back_goes_on, not_marked, not_reached}
 use Rattle.graph_walk.proofs.shortest.path.Goals as goal
 

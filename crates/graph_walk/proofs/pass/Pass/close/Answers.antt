@@ -1,7 +1,4 @@
-use Rattle.std.proofs.Common.{◌≡◌, ℕ, ◌+◌, ◌<◌, List, length, arith, rules, ap, subst, set}
-use Rattle.std.specs.Vec.{vec_len}
-use Rattle.graph_walk.specs.declared.pass.Mark.TheVariants.{Closed}
-use Rattle.graph_walk.specs.inner.Marks.{ClosesFrom}
+use Rattle.std.proofs.Common.{◌<◌, length, arith, ap}
 use Rattle.graph_walk.proofs.PassLemmas.{closes_step}
 use Rattle.graph_walk.proofs.pass.Pass.close.Goals as goal
 

@@ -1,4 +1,4 @@
-use Rattle.std.proofs.Common.{◌≡◌, ◌≤◌}
+use Rattle.std.proofs.Common.{◌≡◌}
 use Rattle.graph_walk.specs.inner.Marks.{ClosesFrom}
 use Rattle.graph_walk.proofs.pass.Pass.close.Given as goal
 

@@ -1,5 +1,5 @@
-use Rattle.std.proofs.Common.{◌≡◌, ◌∙◌, ℕ, ◌+◌, ◌-◌, ◌<◌, length, get_or, arith, rules, refl, sym, ap, subst}
-use Rattle.graph_walk.specs.inner.Chains.{head, tail, IsLast}
+use Rattle.std.proofs.Common.{◌≡◌, ◌∙◌, ℕ, ◌+◌, ◌-◌, ◌<◌, length, arith, rules, refl}
+use Rattle.graph_walk.specs.inner.Chains.{head}
 use Rattle.graph_walk.proofs.PassLemmas.{chain_read, mark_read, place_within, sees_open, sees_fresh}
 use Rattle.graph_walk.proofs.pass.Pass.see.Goals as goal
 

@@ -1,6 +1,4 @@
-use Rattle.std.proofs.Common.{rules, ◌≡◌, ◌∙◌, ◌<◌, length, arith}
-use Rattle.graph_walk.specs.declared.pass.Mark.TheVariants.{Fresh}
-use Rattle.graph_walk.specs.inner.Marks.{mark_of}
+use Rattle.std.proofs.Common.{◌∙◌, ◌<◌, length, arith}
 use Rattle.graph_walk.proofs.PassLemmas.{enters_first, enters_one, mark_read}
 use Rattle.graph_walk.proofs.pass.Pass.visit.Goals as goal
 

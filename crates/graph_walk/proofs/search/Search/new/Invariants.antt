@@ -1,4 +1,4 @@
-use Rattle.std.proofs.Common.{◌≡◌, ◌+◌, ◌-◌, ◌<◌, ◌≤◌, length, vec_len}
+use Rattle.std.proofs.Common.{◌≡◌, ◌-◌, length}
 use Rattle.graph_walk.specs.inner.Search.{IsSized, Searching}
 use Rattle.graph_walk.proofs.search.Search.new.Given as goal
 

@@ -1,4 +1,4 @@
-use Rattle.std.proofs.Common.{arith, rules, refl}
+use Rattle.std.proofs.Common.{arith, rules}
 use Rattle.graph_walk.proofs.SearchLemmas.{spread_begins, spread_goes_on}
 use Rattle.graph_walk.proofs.search.Search.spread.Goals as goal
 
