@@ -4,11 +4,9 @@
 mod inputs;
 mod ran;
 mod row;
-mod rows;
-mod texts;
 
 use row::Row;
-use rows::{Fault, Rows, Stop, read_files};
+use row_files::{Count, Fault, Rows, Stop, read_files};
 
 /// The files of rows, in the folder where the program runs.
 const FILES: [&str; 6] = [
@@ -20,34 +18,20 @@ const FILES: [&str; 6] = [
     "faults.rows",
 ];
 
-/// The row that is being read, how many were run, and how many of these came out otherwise.
+/// The row that is being read, and how many there were before it.
 #[derive(Drop)]
 struct Tally {
     row: Row,
-    rows: u32,
-    different: u32,
+    count: Count,
 }
 
 fn main(rt: HostRuntime) -> Result<(), Stop> {
     let mut tally = Tally {
         row: Row::new(rt.alloc()),
-        rows: 0,
-        different: 0,
+        count: Count::new(),
     };
     read_files(&rt, &FILES, &mut tally)?;
-    let Tally {
-        rows,
-        different,
-        ..
-    } = tally;
-    match println!(rt; "rows={rows} different={different}") {
-        Ok(()) => Ok(()),
-        Err(error) => Err(Stop {
-            file: "standard output",
-            line: 0,
-            fault: Fault::Io(error),
-        }),
-    }
+    tally.count.print(&rt)
 }
 
 impl Rows for Tally {
@@ -59,10 +43,7 @@ impl Rows for Tally {
         if self.row.is_empty() {
             return Ok(());
         }
-        self.rows = self.rows.saturating_add(1);
-        if is_different(rt, &self.row)? {
-            self.different = self.different.saturating_add(1);
-        }
+        self.count.add(is_different(rt, &self.row)?);
         self.row = Row::new(rt.alloc());
         Ok(())
     }

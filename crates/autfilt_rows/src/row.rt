@@ -2,11 +2,10 @@
 
 use crate::inputs::Texts;
 use crate::ran::{Ran, bytes_left};
-use crate::rows::{Fault, kind_and_rest, number, numbers};
-use crate::texts::{add, add_escaped};
 use aut_base::{Memory, Numbers, Text, Words};
 use aut_io::{MemInputs, MemSink};
 use autfilt_command::autfilt;
+use row_files::{Fault, add, add_escaped, copied, kind_and_rest, number, numbers, range};
 use std::alloc::Global;
 
 /// How many bytes the sinks take, where a row doesn't say otherwise.
@@ -87,7 +86,7 @@ impl Row {
     pub(crate) fn add(&mut self, rt: &HostRuntime, line: &str) -> Result<(), Fault> {
         let (kind, rest) = kind_and_rest(line);
         if self.is_empty() != (kind == "=") {
-            return Err(Fault::Name);
+            return Err(Fault::Misplaced);
         }
         if let Some(form) = kind.strip_prefix('<') {
             return self.add_input(rt, form, rest);
@@ -104,7 +103,7 @@ impl Row {
     /// Takes the name of the row. Its first text is that of standard input.
     fn begin(&mut self, alloc: Global, name: &str) -> Result<(), Fault> {
         if name.is_empty() {
-            return Err(Fault::Name);
+            return Err(Fault::Missing);
         }
         self.name.push_str(name)?;
         self.add_name(alloc, "-")
@@ -139,7 +138,7 @@ impl Row {
     /// The status that is wanted, and the words.
     fn add_call(&mut self, alloc: Global, rest: &str) -> Result<(), Fault> {
         if self.status.is_some() {
-            return Err(Fault::Status);
+            return Err(Fault::Misplaced);
         }
         for word in rest.split(' ') {
             match self.status {
@@ -173,13 +172,10 @@ impl Row {
 
     /// Takes the numbers of the first run and the last.
     fn repeat(&mut self, each: Each, rest: &str) -> Result<(), Fault> {
-        let (first, last) = kind_and_rest(rest);
+        let (first, last) = range(rest)?;
         self.each = each;
-        self.first = number(first)?;
-        self.last = number(last)?;
-        if self.last < self.first {
-            return Err(Fault::NoRun);
-        }
+        self.first = first;
+        self.last = last;
         Ok(())
     }
 
@@ -222,7 +218,7 @@ impl Row {
     /// Whether a run ends, writes and leaves what is wanted, whatever it notes.
     pub(crate) fn is_met_but_for_the_note(&self, ran: &Ran) -> Result<bool, Fault> {
         let Some(status) = self.status else {
-            return Err(Fault::Status);
+            return Err(Fault::Missing);
         };
         Ok(
             ran.status == status
@@ -243,9 +239,4 @@ fn status(word: &str) -> Result<u8, Fault> {
         Ok(status) => Ok(status),
         Err(_) => Err(Fault::NoNumber),
     }
-}
-
-/// A copy of a list of numbers.
-fn copied(alloc: Global, list: &Numbers) -> Result<Numbers, Memory> {
-    Ok(Numbers::from_vec(Vec::from_slice(alloc, list.as_slice())?))
 }

@@ -1,7 +1,6 @@
 -- The canonical form of a label as a tree: its propositions, and how it reads back.
-use Rattle.std.proofs.Common.{◌≡◌, ◌<◌, ◌≤◌, ◌+◌, ℕ, zero, suc, Bool, true, false, cond, ◌&&◌, List, [], ◌∷◌, ◌++◌, map, nat_lt, refl, ap, ◌∙◌, arith}
+use Rattle.std.proofs.Common.{◌≡◌, ◌<◌, ℕ, Bool, true, ◌&&◌, List, nat_lt, refl, ap, ◌∙◌}
 use Rattle.std.proofs.lemmas.Bool.{lt-ltb}
-use Rattle.std.specs.List.{AllByRecursion}
 use Rattle.aut_base.specs.Formula as formula
 use Rattle.aut_base.specs.Formula.{EachSetsBelow, FormulaTree, FormulaTrees, SetsBelow}
 use Rattle.aut_base.specs.Label as label
@@ -10,9 +9,8 @@ use Rattle.hoa_reader.specs.Described.{Meaning, each_expanded, expanded}
 use Rattle.hoa_reader.specs.Validity.{aliases_among, all_leaves_pass, all_sets_below, leaves_pass, props_below, sets_below}
 use Rattle.aut_base.proofs.CanonicalBelow.{canonical_label_below}
 use Rattle.aut_base.specs.CanonicalLabel.{canonical_label}
-use Rattle.aut_base.specs.CanonicalLabel.{all_of, canonical_label, cubes_tree, literal_tree, one_of}
+use Rattle.aut_base.specs.CanonicalLabel.{canonical_label}
 use Rattle.hoa_writer.specs.CanonicalWritten.{written_label, written_labels}
-use Rattle.aut_base.proofs.AllByRecursion.{AllByRecursion-map, AllByRecursion-weaker, AllByRecursion-append}
 
 -- a label without aliases is what it is expanded to
 mutual

@@ -3,7 +3,6 @@ use Rattle.std.proofs.Common.{◌↔◌, sym, subst}
 use Rattle.aut_base.proofs.CanonicalAutomata.{canonical_accepts_the_same, labels_below}
 use Rattle.aut_base.specs.Acceptance.{Accepts}
 use Rattle.aut_base.specs.Automaton.{Automaton}
-use Rattle.aut_base.specs.Word.{NameSet}
 use Rattle.hoa_writer.proofs.round_trip.CanonicalLines.{canonical_named}
 use Rattle.hoa_writer.proofs.round_trip.ReadBackMeaning.{canonical_describes}
 use Rattle.hoa_writer.proofs.round_trip.ReadBackRules.{canonical_is_valid}

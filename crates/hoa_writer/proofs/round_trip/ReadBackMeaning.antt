@@ -1,5 +1,5 @@
 -- What the canonical text of a well-formed automaton writes describes the automaton, with each label in its canonical form.
-use Rattle.std.proofs.Common.{◌≡◌, ◌≢◌, ◌==◌, ◌<◌, ◌≤◌, ◌+◌, ℕ, Bool, true, false, cond, List, [], ◌∷◌, length, filter, map, get_or, refl, sym, subst, ap, ◌∙◌, arith, AllPairs, Option, All}
+use Rattle.std.proofs.Common.{◌≡◌, ◌≢◌, ◌==◌, ◌<◌, ◌≤◌, ◌+◌, ℕ, Bool, true, false, cond, List, [], ◌∷◌, length, filter, map, get_or, refl, sym, ap, ◌∙◌, arith, AllPairs, Option, All}
 use Rattle.std.proofs.lemmas.Bool.{eqb-true}
 use Rattle.std.proofs.lemmas.List.{append-nil}
 use Rattle.std.proofs.lemmas.List.Elements.{recursion_from_All}

@@ -1,9 +1,9 @@
 -- The text of a condition's parts.
-use Rattle.std.proofs.Common.{◌≡◌, ℕ, zero, suc, ◌+◌, ◌<◌, ◌≤◌, ◌∙◌, sym, ap, refl, arith, List, [], ◌∷◌, ◌++◌, take, Some, slice_get}
+use Rattle.std.proofs.Common.{◌≡◌, ℕ, zero, suc, ◌+◌, ◌<◌, ◌∙◌, sym, ap, refl, arith, List, [], ◌∷◌, ◌++◌, take, Some, slice_get}
 use Rattle.std.proofs.lemmas.List.{append-nil, append_assoc}
 use Rattle.std.specs.List.{flat_map}
 use Rattle.std.specs.Prelude.{codes}
-use Rattle.aut_base.specs.Formula.{FormulaTree, FormulaTrees, True, False, Inf, Fin, And, Or, none, more, trees, formula_tree, formula_list, formula_parts}
+use Rattle.aut_base.specs.Formula.{FormulaTree, trees, formula_tree, formula_list, formula_parts}
 use Rattle.aut_base.specs.declared.formula.Formula.TheVariants as formula
 use Rattle.aut_base.specs.declared.formula.Formulas.{Formulas}
 use Rattle.aut_base.proofs.FormulaTrees.{formula_tree-And, formula_tree-Or}

@@ -1,4 +1,4 @@
-//! Files of rows, whatever they are rows of. The README of this crate has the notation in full.
+//! Files, their rows, and the lines of these.
 
 use aut_base::{Memory, Numbers};
 use std::alloc::{AllocError, AllocFailed, Global};
@@ -6,7 +6,7 @@ use std::{fs, io};
 
 /// Why rows can't be read or run.
 #[derive(Debug, Drop)]
-pub(crate) enum Fault {
+pub enum Fault {
     /// A file could not be read, or standard output not written.
     Io(io::Error),
     Memory,
@@ -14,12 +14,12 @@ pub(crate) enum Fault {
     UnknownKind,
     /// A `\` with a byte that makes no escape, or at the end.
     UnknownEscape,
-    /// Where a number should stand is none below 2^32, or an expected status above 255.
+    /// Where a number should stand is none below 2^32, or one that is too great there.
     NoNumber,
-    /// A row has lines before its name, a second name or an empty one.
-    Name,
-    /// A row says no status, or a second one.
-    Status,
+    /// The line can't stand there: a row begins with another kind, or has it already.
+    Misplaced,
+    /// A row lacks a line that each must have, or a line what it must say.
+    Missing,
     /// Two texts of a row have one name.
     SameName,
     /// The number of the last run is below that of the first.
@@ -28,14 +28,14 @@ pub(crate) enum Fault {
 
 /// Where reading or running the rows ended before the last. Lines are counted from 1.
 #[derive(Debug, Drop)]
-pub(crate) struct Stop {
-    pub(crate) file: &'static str,
-    pub(crate) line: u32,
-    pub(crate) fault: Fault,
+pub struct Stop {
+    pub file: &'static str,
+    pub line: u32,
+    pub fault: Fault,
 }
 
 /// What takes rows, line by line.
-pub(crate) trait Rows {
+pub trait Rows {
     /// Takes a line of a row. No empty line comes, and no comment.
     fn line(&mut self, rt: &HostRuntime, line: &str) -> Result<(), Fault>;
 
@@ -87,7 +87,7 @@ fn read_file<R: Rows>(
 }
 
 /// Gives the rows of these files.
-pub(crate) fn read_files<R: Rows>(
+pub fn read_files<R: Rows>(
     rt: &HostRuntime,
     files: &[&'static str],
     rows: &mut R,
@@ -102,7 +102,7 @@ pub(crate) fn read_files<R: Rows>(
 }
 
 /// The kind of a line, which is its first word, and what stands after the space behind that.
-pub(crate) fn kind_and_rest(line: &str) -> (&str, &str) {
+pub fn kind_and_rest(line: &str) -> (&str, &str) {
     match line.split_once(' ') {
         Some(parts) => parts,
         None => (line, ""),
@@ -110,7 +110,7 @@ pub(crate) fn kind_and_rest(line: &str) -> (&str, &str) {
 }
 
 /// A number in decimal digits.
-pub(crate) fn number(word: &str) -> Result<u32, Fault> {
+pub fn number(word: &str) -> Result<u32, Fault> {
     match word.parse::<u32>() {
         Ok(number) => Ok(number),
         Err(_) => Err(Fault::NoNumber),
@@ -118,10 +118,26 @@ pub(crate) fn number(word: &str) -> Result<u32, Fault> {
 }
 
 /// Numbers with a space between any two.
-pub(crate) fn numbers(alloc: Global, rest: &str) -> Result<Numbers, Fault> {
+pub fn numbers(alloc: Global, rest: &str) -> Result<Numbers, Fault> {
     let mut list = Numbers::new(alloc);
     for word in rest.split(' ') {
         list.push(number(word)?)?;
     }
     Ok(list)
+}
+
+/// Two numbers with a space between them, the first not above the second.
+pub fn range(rest: &str) -> Result<(u32, u32), Fault> {
+    let (first, last) = kind_and_rest(rest);
+    let first = number(first)?;
+    let last = number(last)?;
+    if last < first {
+        return Err(Fault::NoRun);
+    }
+    Ok((first, last))
+}
+
+/// A copy of a list of numbers.
+pub fn copied(alloc: Global, list: &Numbers) -> Result<Numbers, Memory> {
+    Ok(Numbers::from_vec(Vec::from_slice(alloc, list.as_slice())?))
 }

@@ -1,12 +1,12 @@
 //! What a line says of a text: a line of it, a piece with escapes, repetition, or a file.
 
-use crate::rows::{Fault, kind_and_rest, number};
+use crate::{Fault, kind_and_rest, number};
 use aut_base::Text;
 use std::alloc::Global;
 use std::fs;
 
 /// Adds to a text what a line says of it. The form is what stands in the line's kind behind the mark of the text.
-pub(crate) fn add(rt: &HostRuntime, text: &mut Text, form: &str, rest: &str) -> Result<(), Fault> {
+pub fn add(rt: &HostRuntime, text: &mut Text, form: &str, rest: &str) -> Result<(), Fault> {
     match form {
         "" => add_line(text, rest),
         "\\" => add_escaped(rt.alloc(), text, rest, 0),
@@ -53,12 +53,7 @@ enum Place {
 }
 
 /// Adds a piece, with what its escapes stand for. The number is that of the repetition, from 0.
-pub(crate) fn add_escaped(
-    alloc: Global,
-    text: &mut Text,
-    piece: &str,
-    number: u32,
-) -> Result<(), Fault> {
+pub fn add_escaped(alloc: Global, text: &mut Text, piece: &str, number: u32) -> Result<(), Fault> {
     let mut place = Place::Plain;
     for byte in piece.bytes() {
         place = add_byte(alloc, text, place, byte, number)?;

@@ -1,0 +1,42 @@
+//! How many rows there are, and how many of them came out otherwise.
+
+use crate::{Fault, Stop};
+
+/// How many rows were run, and how many of these came out otherwise.
+#[derive(Clone, Copy, Debug)]
+pub struct Count {
+    rows: u32,
+    different: u32,
+}
+
+impl Count {
+    /// No row was run.
+    pub fn new() -> Count {
+        Count {
+            rows: 0,
+            different: 0,
+        }
+    }
+
+    /// One row more.
+    pub fn add(&mut self, is_different: bool) {
+        self.rows = self.rows.saturating_add(1);
+        if is_different {
+            self.different = self.different.saturating_add(1);
+        }
+    }
+
+    /// Writes the last line of a program of rows to standard output.
+    pub fn print(&self, rt: &HostRuntime) -> Result<(), Stop> {
+        let rows = self.rows;
+        let different = self.different;
+        match println!(rt; "rows={rows} different={different}") {
+            Ok(()) => Ok(()),
+            Err(error) => Err(Stop {
+                file: "standard output",
+                line: 0,
+                fault: Fault::Io(error),
+            }),
+        }
+    }
+}
