@@ -1,5 +1,5 @@
 -- What a valid text describes is well formed.
-use Rattle.std.proofs.Common.{◌≡◌, ◌<◌, ◌+◌, ◌==◌, ℕ, Bool, true, List, [], ◌∷◌, ◌++◌, length, map, filter, nat_lt, get_or, Option, Some, None, All, zero, suc, arith, AllPairs}
+use Rattle.std.proofs.Common.{◌≡◌, ◌<◌, ◌==◌, ℕ, Bool, true, List, [], ◌∷◌, ◌++◌, length, map, filter, nat_lt, get_or, Option, Some, None, All, zero, suc, arith, AllPairs}
 use Rattle.std.proofs.lemmas.List.Kept.{AllPairs-filter}
 use Rattle.std.proofs.lemmas.List.Quantifiers.{all_pairs_push}
 use Rattle.std.proofs.lemmas.List.Elements.{All-from_recursion}

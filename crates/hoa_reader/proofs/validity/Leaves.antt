@@ -1,6 +1,5 @@
 -- The leaves of labels, tested by tests that agree.
-use Rattle.std.proofs.Common.{◌≡◌, ℕ, zero, suc, ◌+◌, Bool, ◌&&◌, List, [], ◌∷◌, drop, Some, slice_get, arith, refl, ap, ◌∙◌}
-use Rattle.std.proofs.lemmas.Option.{same_Some, none-some}
+use Rattle.std.proofs.Common.{◌≡◌, ℕ, Bool, ◌&&◌, List, refl, ap, ◌∙◌}
 use Rattle.hoa_parser.specs.Raw as raw
 use Rattle.hoa_parser.specs.Raw.{RawTree, RawTrees}
 use Rattle.hoa_reader.specs.Validity.{all_leaves_pass, leaves_pass}

@@ -1,4 +1,4 @@
-use Rattle.std.proofs.Common.{◌≡◌, ◌+◌, ◌++◌, ℕ, Bool, true, false, drop, take, map, List, [], ◌∷◌, refl, sym, ap, ◌∙◌, is_some, length, get_or, slice_get, Some, subst, ◌<◌}
+use Rattle.std.proofs.Common.{◌≡◌, ◌+◌, ◌++◌, ℕ, true, false, drop, take, map, List, [], ◌∷◌, refl, sym, ap, ◌∙◌, is_some, length, get_or, slice_get, Some, subst, ◌<◌}
 use Rattle.std.proofs.lemmas.Bool.{false≢true, false_from_ne_true, and_parts}
 use Rattle.std.proofs.lemmas.List.{map-append}
 use Rattle.hoa_reader.proofs.description.OneMore.{meanings_push}

@@ -1,10 +1,9 @@
 use Rattle.std.proofs.Common.{◌≡◌, arith, ◌==◌, cond, true, false, ◌∷◌, [], ◌∙◌, ap, sym, take, drop, map, List, ◌+◌, ◌++◌, ℕ}
-use Rattle.std.proofs.lemmas.Bool.Decides.{nat_tests}
 use Rattle.std.proofs.lemmas.List.{map-append}
 use Rattle.std.proofs.lemmas.List.Folds.{list_any-append}
 use Rattle.std.specs.BTreeSet as tree
 use Rattle.std.specs.List.{list_any}
-use Rattle.std.specs.Ordering.{is_eq, nat_cmp}
+use Rattle.std.specs.Ordering.{nat_cmp}
 use Rattle.hoa_reader.proofs.validity.AllDiffer.{among_or, differ_more, repeats}
 use Rattle.hoa_parser.specs.Raw.{WrittenState, written_state}
 use Rattle.hoa_reader.specs.Validity.{all_differ}

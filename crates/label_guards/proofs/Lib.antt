@@ -1,0 +1,17 @@
+pub mod Agreement
+pub mod Brought
+pub mod Fixed
+pub mod Growth
+pub mod Joins
+pub mod LabelTruth
+pub mod Leasts
+pub mod LetterSteps
+pub mod Lists
+pub mod Outcomes
+pub mod Parts
+pub mod Pieces
+pub mod PlaceCubes
+pub mod Reduced
+pub mod Tables
+pub mod Unique
+pub mod Valuations

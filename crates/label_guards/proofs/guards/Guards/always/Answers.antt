@@ -1,0 +1,5 @@
+use Rattle.label_guards.proofs.LabelTruth.{always_is}
+use Rattle.label_guards.proofs.guards.Guards.always.Goals as goal
+
+pub returns : goal.returns
+returns c = always_is _ c.reduced.ensures

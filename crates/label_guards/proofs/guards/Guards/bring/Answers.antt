@@ -1,0 +1,13 @@
+use Rattle.std.proofs.Common.{get_or}
+use Rattle.label_guards.proofs.Brought.{brought_guard}
+use Rattle.label_guards.proofs.LabelTruth.{keeps}
+use Rattle.label_guards.proofs.guards.Guards.bring.Goals as goal
+
+pub returns-in_err-place-clause-keeps : goal.returns-in_err-place-clause-keeps
+returns-in_err-place-clause-keeps c = keeps c.bring_with.ensures.grows
+
+pub returns-clause-keeps : goal.returns-clause-keeps
+returns-clause-keeps c = keeps c.bring_with.ensures.grows
+
+pub returns-clause-brought : goal.returns-clause-brought
+returns-clause-brought c = brought_guard c.args.other.now c.reduced.ensures c.reduced-2.ensures (λ k. get_or c.args.to.now k 0) c.args.g _ c.requires.has c.in_ok-place.ensures.brought

@@ -1,0 +1,230 @@
+//! The store of guards: its operations, and the table of their results.
+
+ghost use Rattle.std.specs.Prelude.{◌≡◌, ◌⊎◌, ◌<◌, ◌≤◌, ℕ, [], length, IfNone, IfOk, IfSome, Some};
+ghost use Rattle.std.specs.Map.{lookup};
+ghost use Rattle.label_guards.specs.Nodes.{AreSides, Grows, IsChoice, IsReduced, StandsAt, level};
+ghost use Rattle.label_guards.specs.Operations.{AreJoins, IsJoin, IsShort, key_eq};
+ghost use Rattle.label_guards.specs.Store.{HasPlace, places};
+
+use crate::nodes::{Node, Nodes};
+use aut_base::Memory;
+use indexmap::IndexMap;
+use std::alloc::Global;
+use std::marker::Model;
+
+/// An operation on two guards.
+#[derive(Clone, Copy, Debug, PartialEq, Eq, Hash)]
+pub(crate) enum Operation {
+    And,
+    Or,
+    Xor,
+}
+
+/// The most propositions of a store.
+pub const MOST_PROPOSITIONS: u32 = 32;
+
+/// The place of a result, by the operation and the two places that it was asked for.
+type Results = IndexMap<(Operation, usize, usize), usize>;
+
+/// A store of guards.
+#[derive(Drop)]
+pub struct Guards {
+    nodes: Nodes,
+    results: Results,
+}
+
+impl Model for Guards {
+    ghost use Rattle.label_guards.specs.Store.{Store};
+    ghost use Rattle.label_guards.specs.Operations.{AreJoins};
+
+    ghost Value = { Store };
+
+    ghost view = { λ s. s.nodes };
+
+    ghost invariant = { λ s. AreJoins s.nodes s.results.entries };
+}
+
+impl Guards {
+    /// A store of labels over this many propositions. It has `f` and `t`, and nothing else yet.
+    pub fn new(alloc: Global, names: u32) -> Result<Guards, Memory>
+        requires { names ≤ MOST_PROPOSITIONS }
+        ensures { IfOk result (λ store. store.names ≡ names) }
+    {
+        Ok(Guards {
+            nodes: Nodes::new(alloc, names),
+            results: IndexMap::new(alloc),
+        })
+    }
+
+    /// A store with the same guards under the same numbers, held apart. It doesn't remember results.
+    pub fn copy(&self, alloc: Global) -> Result<Guards, Memory>
+        ensures { IfOk result (λ copy. copy ≡ self.now) }
+    {
+        Ok(Guards {
+            nodes: self.nodes.copy()?,
+            results: IndexMap::new(alloc),
+        })
+    }
+
+    /// The number of propositions.
+    pub fn names(&self) -> u32
+        ensures { result ≡ self.now.names }
+    {
+        self.nodes.names()
+    }
+
+    /// The number of places.
+    pub(crate) fn places(&self) -> usize
+        ensures { result ≡ places self.now }
+    {
+        self.nodes.places()
+    }
+
+    /// Tells a proof that the diagrams are reduced.
+    pub(crate) fn reduced(&self)
+        ensures { IsReduced self.now.names self.now.nodes }
+    {
+        self.nodes.reduced();
+    }
+
+    /// The proposition that is asked for first at this place, or the number of propositions at `f` and `t`.
+    pub(crate) fn level(&self, place: usize) -> u32
+        requires { HasPlace self.now place }
+        ensures level { result ≡ level self.now place }
+        ensures most { result ≤ self.now.names }
+        ensures asks { 2 ≤ place → result < self.now.names }
+    {
+        self.nodes.level(place)
+    }
+
+    /// The node at this place.
+    pub(crate) fn node_at(&self, place: usize) -> Node
+        requires inner { 2 ≤ place }
+        requires has { HasPlace self.now place }
+        ensures { StandsAt self.now place result }
+    {
+        self.nodes.node_at(place)
+    }
+
+    /// Where to go on if the proposition fails, and if it holds.
+    pub(crate) fn sides(&self, place: usize, prop: u32) -> (usize, usize)
+        requires has { HasPlace self.now place }
+        requires later { prop ≤ level self.now place }
+        requires within { prop < self.now.names }
+        ensures { AreSides self.now prop place result.0 result.1 }
+    {
+        self.nodes.sides(place, prop)
+    }
+
+    /// The place where the proposition decides between these two.
+    pub(crate) fn choice(&mut self, prop: u32, low: usize, high: usize) -> Result<usize, Memory>
+        requires low { HasPlace self.old low }
+        requires high { HasPlace self.old high }
+        requires low_later { prop < level self.old low }
+        requires high_later { prop < level self.old high }
+        ensures grows { Grows self.old self.new }
+        ensures kept { places self.old ≤ places self.new }
+        ensures made { IfOk result (λ place. IsChoice self.new prop low high place) }
+    {
+        self.nodes.make(prop, low, high)
+    }
+
+    /// The result in the table, if it is there.
+    fn known(&self, operation: Operation, g: usize, h: usize) -> Option<usize>
+        ensures { IfSome result (λ place. IsJoin self.now operation g h place) }
+    {
+        match self.results.get(&(operation, g, h)) {
+            Some(place) => Some(*place),
+            None => None,
+        }
+    }
+
+    /// Puts a result into the table.
+    fn note(&mut self, operation: Operation, g: usize, h: usize, place: usize) -> Result<(), Memory>
+        requires { IsJoin self.old operation g h place }
+        ensures { self.new ≡ self.old }
+    {
+        self.results.insert((operation, g, h), place)?;
+        Ok(())
+    }
+
+    /// The place of the operation's result.
+    pub(crate) fn combine(
+        &mut self,
+        operation: Operation,
+        g: usize,
+        h: usize,
+    ) -> Result<usize, Memory>
+        requires left { HasPlace self.old g }
+        requires right { HasPlace self.old h }
+        ensures grows { Grows self.old self.new }
+        ensures kept { places self.old ≤ places self.new }
+        ensures joined { IfOk result (λ place. IsJoin self.new operation g h place) }
+    {
+        self.reduced();
+        if let Some(place) = shortcut(operation, g, h) {
+            return Ok(place);
+        }
+        if let Some(place) = self.known(operation, g, h) {
+            return Ok(place);
+        }
+        let prop = self.level(g).min(self.level(h));
+        let (g_low, g_high) = self.sides(g, prop);
+        let (h_low, h_high) = self.sides(h, prop);
+        let low = self.combine(operation, g_low, h_low)?;
+        let high = self.combine(operation, g_high, h_high)?;
+        let place = self.choice(prop, low, high)?;
+        self.note(operation, g, h, place)?;
+        Ok(place)
+    }
+}
+
+/// The result, where it needs no look at the nodes.
+fn shortcut(operation: Operation, g: usize, h: usize) -> Option<usize>
+    ensures short { IfSome result (λ place. IsShort operation g h place) }
+    ensures inner { IfNone result ((2 ≤ g) ⊎ (2 ≤ h)) }
+{
+    match operation {
+        Operation::And => short_and(g, h),
+        Operation::Or => short_or(g, h),
+        Operation::Xor => short_xor(g, h),
+    }
+}
+
+fn short_and(g: usize, h: usize) -> Option<usize>
+    ensures short { IfSome result (λ place. IsShort Operation.And g h place) }
+    ensures inner { IfNone result ((2 ≤ g) ⊎ (2 ≤ h)) }
+{
+    match (g, h) {
+        (0, _) | (_, 0) => Some(0),
+        (1, _) => Some(h),
+        (_, 1) => Some(g),
+        _ => None,
+    }
+}
+
+fn short_or(g: usize, h: usize) -> Option<usize>
+    ensures short { IfSome result (λ place. IsShort Operation.Or g h place) }
+    ensures inner { IfNone result ((2 ≤ g) ⊎ (2 ≤ h)) }
+{
+    match (g, h) {
+        (1, _) | (_, 1) => Some(1),
+        (0, _) => Some(h),
+        (_, 0) => Some(g),
+        _ => None,
+    }
+}
+
+fn short_xor(g: usize, h: usize) -> Option<usize>
+    ensures short { IfSome result (λ place. IsShort Operation.Xor g h place) }
+    ensures inner { IfNone result ((2 ≤ g) ⊎ (2 ≤ h)) }
+{
+    if g == h {
+        return Some(0);
+    }
+    match (g, h) {
+        (0, _) => Some(h),
+        (_, 0) => Some(g),
+        _ => None,
+    }
+}

@@ -1,0 +1,19 @@
+//! Labels over a fixed number of propositions, kept so that two labels with the same truth have the same number.
+#![tactic(auto)]
+
+mod boolean;
+mod bring;
+mod cubes;
+mod fix;
+mod guard;
+mod guards;
+mod holds;
+mod labels;
+mod nodes;
+mod pick;
+mod table;
+#[cfg(test)]
+mod tests;
+
+pub use guard::{Guard, GuardList};
+pub use guards::{Guards, MOST_PROPOSITIONS};
