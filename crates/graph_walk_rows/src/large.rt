@@ -8,7 +8,7 @@ use aut_base::{Arcs, Memory, Numbers};
 use graph_walk::{Graph, components, path, reach};
 use std::alloc::Global;
 
-pub(crate) const LARGE: u32 = 100_000;
+pub(crate) const LARGE: u32 = 1_000_000;
 
 /// Each node but the first is entered from the one before it in a line, in a ring the first from the last, and in a comb
 /// each even one from the even one before it, and each odd one from the one before it.

@@ -1,0 +1,106 @@
+//! The calls, each made where it may be, and None elsewhere. They stand apart so that nothing that compares their answers
+//! carries their contracts.
+
+use aut_base::{Label, Letter, Memory, Names, Numbers, Text};
+use label_guards::{Guard, Guards};
+use std::alloc::Global;
+
+pub(crate) fn of_label(store: &mut Guards, label: &Label) -> Result<Option<Guard>, Memory> {
+    if !label.is_below(store.names() as usize) {
+        return Ok(None);
+    }
+    Ok(Some(store.of_label(label)?))
+}
+
+pub(crate) fn and(store: &mut Guards, g: Guard, h: Guard) -> Result<Option<Guard>, Memory> {
+    if !store.has(g) || !store.has(h) {
+        return Ok(None);
+    }
+    Ok(Some(store.and(g, h)?))
+}
+
+pub(crate) fn or(store: &mut Guards, g: Guard, h: Guard) -> Result<Option<Guard>, Memory> {
+    if !store.has(g) || !store.has(h) {
+        return Ok(None);
+    }
+    Ok(Some(store.or(g, h)?))
+}
+
+pub(crate) fn not(store: &mut Guards, g: Guard) -> Result<Option<Guard>, Memory> {
+    if !store.has(g) {
+        return Ok(None);
+    }
+    Ok(Some(store.not(g)?))
+}
+
+pub(crate) fn fix(
+    alloc: Global,
+    store: &mut Guards,
+    g: Guard,
+    prop: u32,
+    value: bool,
+) -> Result<Option<Guard>, Memory> {
+    if !store.has(g) || store.names() <= prop {
+        return Ok(None);
+    }
+    Ok(Some(store.fix(alloc, g, prop, value)?))
+}
+
+pub(crate) fn bring(
+    alloc: Global,
+    store: &mut Guards,
+    other: &Guards,
+    g: Guard,
+    to: &Numbers,
+) -> Result<Option<Guard>, Memory> {
+    if !other.has(g) || to.len() != other.names() as usize {
+        return Ok(None);
+    }
+    if !to.as_slice().iter().all(|place| *place < store.names()) {
+        return Ok(None);
+    }
+    Ok(Some(store.bring(alloc, other, g, to)?))
+}
+
+/// Whether the letter meets the guard.
+pub(crate) fn holds(store: &Guards, names: &Names, g: Guard, letter: &Letter) -> Option<bool> {
+    if !store.has(g) || names.len() != store.names() as usize {
+        return None;
+    }
+    Some(store.holds(names, g, letter))
+}
+
+/// The least letter that meets the guard, if one does.
+pub(crate) fn pick(
+    alloc: Global,
+    store: &Guards,
+    names: &Names,
+    g: Guard,
+) -> Result<Option<Letter>, Memory> {
+    if !store.has(g) || names.len() != store.names() as usize {
+        return Ok(None);
+    }
+    store.pick(alloc, names, g)
+}
+
+pub(crate) fn is_false(store: &Guards, g: Guard) -> Option<bool> {
+    if !store.has(g) {
+        return None;
+    }
+    Some(store.is_false(g))
+}
+
+pub(crate) fn same(store: &Guards, g: Guard, h: Guard) -> Option<bool> {
+    if !store.has(g) || !store.has(h) {
+        return None;
+    }
+    Some(store.same(g, h))
+}
+
+/// The text of a guard.
+pub(crate) fn cubes(alloc: Global, store: &Guards, g: Guard) -> Result<Option<Text>, Memory> {
+    if !store.has(g) {
+        return Ok(None);
+    }
+    Ok(Some(store.cubes(alloc, g)?))
+}
