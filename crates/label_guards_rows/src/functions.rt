@@ -44,16 +44,20 @@ impl Functions {
 
     /// Whether each call on this function alone is right.
     pub(crate) fn is_right(&mut self, alloc: Global, table: Table) -> Result<bool, Memory> {
+        if !self.is_negated_rightly(table)? || !self.holds_rightly(alloc, table)? {
+            return Ok(false);
+        }
+        if !self.picks_rightly(alloc, table)? || !self.fixes_rightly(alloc, table)? {
+            return Ok(false);
+        }
+        self.brings_rightly(alloc, table)
+    }
+
+    fn is_negated_rightly(&mut self, table: Table) -> Result<bool, Memory> {
         let g = self.guard(table);
         let opposite = not(&mut self.store, g)?;
-        Ok(
-            opposite == Some(self.guard(!table))
-                && is_false(&self.store, g) == Some(table == 0)
-                && self.holds_rightly(alloc, table)?
-                && self.picks_rightly(alloc, table)?
-                && self.fixes_rightly(alloc, table)?
-                && self.brings_rightly(alloc, table)?,
-        )
+        let is_false = is_false(&self.store, g);
+        Ok(opposite == Some(self.guard(!table)) && is_false == Some(table == 0))
     }
 
     fn holds_rightly(&self, alloc: Global, table: Table) -> Result<bool, Memory> {

@@ -87,11 +87,7 @@ fn literal(alloc: Global, valuation: u8, prop: u32) -> Result<Label, Memory> {
 
 /// The names in order.
 pub(crate) fn names(alloc: Global) -> Result<Names, Memory> {
-    let mut names = Names::new(alloc);
-    for name in NAMES {
-        names.push(Text::from_bytes(alloc, name)?)?;
-    }
-    Ok(names)
+    Ok(letter(alloc, 7)?.names().clone()?)
 }
 
 /// The letter of a valuation.

@@ -13,23 +13,30 @@ const MANY: u32 = 32;
 /// Prints the texts, a line each.
 pub(crate) fn print(rt: &HostRuntime) -> Result<(), Stop> {
     let alloc = rt.alloc();
-    let mut three = Guards::new(alloc, 3)?;
-    let first = of_label(&mut three, &in_cubes(alloc)?)?;
-    print_text(rt, "0&2 | 1&2", &three, first)?;
-    let second = of_label(&mut three, &nested(alloc)?)?;
-    print_text(rt, "2 & (1 | 0)", &three, second)?;
-    let never = of_label(&mut three, &label(alloc, 0)?)?;
-    print_text(rt, "no valuation", &three, never)?;
-    let always = of_label(&mut three, &label(alloc, 255)?)?;
-    print_text(rt, "every valuation", &three, always)?;
-    let mut many = Guards::new(alloc, MANY)?;
-    let all = all(&mut many)?;
-    print_text(rt, "all", &many, all)?;
+    print_label(rt, "0&2 | 1&2", &in_cubes(alloc)?)?;
+    print_label(rt, "2 & (1 | 0)", &nested(alloc)?)?;
+    print_label(rt, "no valuation", &label(alloc, 0)?)?;
+    print_label(rt, "every valuation", &label(alloc, 255)?)?;
+    print_many(rt)
+}
+
+/// Prints the text of a label of three propositions.
+fn print_label(rt: &HostRuntime, name: &str, label: &Label) -> Result<(), Stop> {
+    let mut store = Guards::new(rt.alloc(), 3)?;
+    let guard = of_label(&mut store, label)?;
+    print_text(rt, name, &store, guard)
+}
+
+/// Prints the texts of labels of many propositions: all hold, and one fails.
+fn print_many(rt: &HostRuntime) -> Result<(), Stop> {
+    let mut store = Guards::new(rt.alloc(), MANY)?;
+    let all = all(&mut store)?;
+    print_text(rt, "all", &store, all)?;
     let some_fails = match all {
-        Some(g) => not(&mut many, g)?,
+        Some(g) => not(&mut store, g)?,
         None => None,
     };
-    print_text(rt, "not all", &many, some_fails)
+    print_text(rt, "not all", &store, some_fails)
 }
 
 fn print_text(
