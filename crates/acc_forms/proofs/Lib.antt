@@ -1,9 +1,7 @@
 pub mod AtomLaws
 pub mod DualLaw
 pub mod JoinLaws
-pub mod Lists
 pub mod Meanings
-pub mod Numbers
 pub mod ParityLaw
 pub mod Parts
 pub mod ShiftLaw

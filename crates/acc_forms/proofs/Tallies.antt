@@ -8,8 +8,8 @@ use Rattle.acc_forms.specs.Terms.{pairs, literals, choices, terms}
 use Rattle.acc_forms.specs.inner.Tally.{tally_of}
 use Rattle.acc_forms.specs.declared.literal.Literal.{Literal}
 use Rattle.acc_forms.specs.declared.tally.Tally.{Tally}
-use Rattle.acc_forms.proofs.Lists.{take_at}
-use Rattle.acc_forms.proofs.Numbers.{capped_add, capped_mul}
+use Rattle.aut_base.proofs.Lists.{take-slice_get}
+use Rattle.aut_base.proofs.Capped.{capped_add, capped_mul}
 use Rattle.acc_forms.proofs.TermLists.{length-pairs, literals-pairs, choices-push}
 
 pub times_tally : (a b : Tally) (xs ys : List (List Literal)) (number first second all : ℕ) →
@@ -41,12 +41,12 @@ times_tally a b xs ys number first second all is_a is_b is_number is_first is_se
 -- the choices, and the terms, of one more part
 pub choices_more : (fs : List FormulaTree) (place : ℕ) (f : FormulaTree) → slice_get fs place ≡ Some f → choices (map terms (take (place + 1) fs)) ≡ pairs (choices (map terms (take place fs))) (terms f)
 choices_more fs place f is =
-    ap (λ gs. choices (map terms gs)) (take_at fs place f is)
+    ap (λ gs. choices (map terms gs)) (take-slice_get fs place f is)
     ∙ ap choices (map-append terms (take place fs) (f ∷ []))
     ∙ choices-push (map terms (take place fs)) (terms f)
 
 pub terms_more : (fs : List FormulaTree) (place : ℕ) (f : FormulaTree) → slice_get fs place ≡ Some f → flat_map terms (take (place + 1) fs) ≡ flat_map terms (take place fs) ++ terms f
 terms_more fs place f is =
-    ap (flat_map terms) (take_at fs place f is)
+    ap (flat_map terms) (take-slice_get fs place f is)
     ∙ flat_map-append terms (take place fs) (f ∷ [])
     ∙ ap (λ ts. flat_map terms (take place fs) ++ ts) (append-nil (terms f))

@@ -3,6 +3,7 @@ pub mod CanonicalAutomata
 pub mod CanonicalBelow
 pub mod CanonicalLabels
 pub mod CanonicalTruth
+pub mod Capped
 pub mod Copies
 pub mod Examples
 pub mod FormulaSizes
@@ -15,11 +16,13 @@ pub mod LetterNames
 pub mod Lists
 pub mod Numbers
 pub mod OneState
+pub mod Ordered
 pub mod OtherEdges
 pub mod Places
 pub mod SameEdges
 pub mod SameWord
 pub mod Spelled
+pub mod Steps
 pub mod Texts
 pub mod Truth
 pub mod ValuationLetters

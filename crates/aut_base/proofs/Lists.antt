@@ -1,6 +1,6 @@
 -- Lists, by their places and their pieces, beyond what the standard library says of them.
 use Rattle.aut_base.proofs.Truth.{and_comm, or_comm}
-use Rattle.std.proofs.Common.{◌≡◌, ◌≢◌, ◌∷◌, ◌++◌, ◌+◌, ◌-◌, ◌<◌, ◌≤◌, ◌∙◌, ◌==◌, ◌&&◌, ◌||◌, Bool, List, None, Some, [], ap, arith, drop, get_or, length, map, refl, slice_get, suc, sym, take, true, zero, ℕ}
+use Rattle.std.proofs.Common.{◌≡◌, ◌∷◌, ◌++◌, ◌+◌, ◌-◌, ◌<◌, ◌≤◌, ◌∙◌, ◌⊎◌, ◌==◌, ◌&&◌, ◌||◌, Bool, List, None, Some, [], ap, arith, drop, get_or, inl, inr, length, map, refl, slice_get, suc, sym, take, true, zero, ℕ}
 use Rattle.std.proofs.lemmas.Bool.{and_from}
 use Rattle.std.proofs.lemmas.Bool.Decides.{nat_tests}
 use Rattle.std.proofs.lemmas.List.{drop-drop, drop_more, take-append-drop, take_more}
@@ -23,6 +23,13 @@ pub slice_get-push_left : {X : Type 0} (xs : List X) (y : X) (i : ℕ) (x : X) �
 slice_get-push_left [] y i x is = absurd (none-some x is)
 slice_get-push_left (z ∷ xs) y zero x is = is
 slice_get-push_left (z ∷ xs) y (suc i) x is = slice_get-push_left xs y i x is
+
+-- what stands in a list with one item more
+pub slice_get-push_cases : {X : Type 0} (xs : List X) (y : X) (i : ℕ) (x : X) → slice_get (xs ++ y ∷ []) i ≡ Some x → (slice_get xs i ≡ Some x) ⊎ ((i ≡ length xs) × (y ≡ x))
+slice_get-push_cases [] y zero x h = inr (refl, same_Some y x h)
+slice_get-push_cases [] y (suc i) x h = absurd (none-some x h)
+slice_get-push_cases (z ∷ xs) y zero x h = inl h
+slice_get-push_cases (z ∷ xs) y (suc i) x h = elim (slice_get-push_cases xs y i x h) [ inl e ↦ inl e | inr e ↦ inr (ap suc e.0, e.1) ]
 
 pub slice_get-push_last : {X : Type 0} (xs : List X) (y : X) (i : ℕ) → length xs ≡ i → slice_get (xs ++ y ∷ []) i ≡ Some y
 slice_get-push_last [] y zero e = refl
@@ -54,6 +61,15 @@ drop-slice_get_suc (y ∷ ys) (suc i) x is = drop-slice_get_suc ys i x is
 
 pub drop-slice_get : {X : Type 0} (xs : List X) (i : ℕ) (x : X) → slice_get xs i ≡ Some x → drop i xs ≡ x ∷ drop (i + 1) xs
 drop-slice_get xs i x is = let next : suc i ≡ i + 1 = omega arith in drop-slice_get_suc xs i x is ∙ ap (λ n. x ∷ drop n xs) next
+
+-- one more element of a front
+pub take-slice_get_suc : {X : Type 0} (xs : List X) (i : ℕ) (x : X) → slice_get xs i ≡ Some x → take (suc i) xs ≡ take i xs ++ x ∷ []
+take-slice_get_suc [] i x is = absurd (none-some x is)
+take-slice_get_suc (y ∷ ys) zero x is = ap (λ z. z ∷ []) (same_Some y x is)
+take-slice_get_suc (y ∷ ys) (suc i) x is = ap (λ zs. y ∷ zs) (take-slice_get_suc ys i x is)
+
+pub take-slice_get : {X : Type 0} (xs : List X) (i : ℕ) (x : X) → slice_get xs i ≡ Some x → take (i + 1) xs ≡ take i xs ++ x ∷ []
+take-slice_get xs i x is = let next : i + 1 ≡ suc i = omega arith in ap (λ n. take n xs) next ∙ take-slice_get_suc xs i x is
 
 -- one byte more taken
 pub drop_one_more : {A : Type 0} (taken : ℕ) (text : List A) → drop (taken + 1) text ≡ drop 1 (drop taken text)

@@ -1,5 +1,5 @@
 -- Truth values, beyond what the standard library says of them.
-use Rattle.std.proofs.Common.{◌≡◌, ◌≢◌, ◌∷◌, ◌++◌, ◌+◌, ◌-◌, ◌<◌, ◌≤◌, ◌∙◌, ◌==◌, ◌&&◌, ◌||◌, Bool, ap, cond, false, not, refl, true}
+use Rattle.std.proofs.Common.{◌≡◌, ◌∙◌, ◌&&◌, ◌||◌, Bool, ap, cond, false, not, refl, true}
 use Rattle.std.proofs.lemmas.Bool.{false≢true}
 
 pub and_comm : (a b : Bool) → (a && b) ≡ (b && a)

@@ -21,7 +21,7 @@ pub enum Limit {
 }
 
 /// The most names of an automaton that is read.
-pub const MOST_NAMES: u32 = 8;
+pub const MOST_NAMES: u32 = 32;
 
 /// The most acceptance sets of an automaton that is read.
 pub const MOST_SETS: u32 = 512;

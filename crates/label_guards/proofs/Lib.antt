@@ -6,7 +6,6 @@ pub mod Joins
 pub mod LabelTruth
 pub mod Leasts
 pub mod LetterSteps
-pub mod Lists
 pub mod Outcomes
 pub mod Parts
 pub mod Pieces

@@ -6,7 +6,7 @@ use Rattle.std.proofs.lemmas.List.Elements.{Contains-get_or}
 use Rattle.label_guards.specs.declared.nodes.Node.{Node}
 use Rattle.label_guards.specs.Nodes.{level_among, level, IsNode, IsReduced, Adds, StandsAt, IsChoice}
 use Rattle.label_guards.specs.Store.{Store, HasPlace}
-use Rattle.label_guards.proofs.Lists.{at_push}
+use Rattle.aut_base.proofs.Lists.{slice_get-push_cases}
 use Rattle.label_guards.proofs.Outcomes.{outcome_at}
 
 abbrev prop_of : Node → ℕ
@@ -44,16 +44,16 @@ contains_at xs i x h = subst (Contains xs) (get_or_from_slice_get xs i x x h) (C
 pub reduced_push : (names : ℕ) (ns : List Node) (m : Node) → IsReduced names ns → (Contains ns m → ⊥) → IsNode names ns (2 + length ns) m → IsReduced names (ns ++ m ∷ [])
 reduced_push names ns m is new node = record {
   few = is.few;
-  node = λ i n h. elim (at_push ns m i n h) [
+  node = λ i n h. elim (slice_get-push_cases ns m i n h) [
     | inl e ↦ node_kept names ns (m ∷ []) i n (slice_get_within ns i n e) (is.node i n e)
     | inr e ↦ subst (λ k. IsNode names (ns ++ m ∷ []) (2 + k) n) (sym e.0) (subst (IsNode names (ns ++ m ∷ []) (2 + length ns)) e.1 (newest e.1))
   ];
-  once = λ i j n h k. elim (at_push ns m i n h) [
-    | inl a ↦ elim (at_push ns m j n k) [
+  once = λ i j n h k. elim (slice_get-push_cases ns m i n h) [
+    | inl a ↦ elim (slice_get-push_cases ns m j n k) [
       | inl b ↦ is.once i j n a b
       | inr b ↦ absurd (new (subst (Contains ns) (sym b.1) (contains_at ns i n a)))
     ]
-    | inr a ↦ elim (at_push ns m j n k) [
+    | inr a ↦ elim (slice_get-push_cases ns m j n k) [
       | inl b ↦ absurd (new (subst (Contains ns) (sym a.1) (contains_at ns j n b)))
       | inr b ↦ a.0 ∙ sym b.0
     ]

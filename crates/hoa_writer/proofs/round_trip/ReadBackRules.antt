@@ -13,7 +13,8 @@ use Rattle.hoa_reader.specs.Validity.{AcceptanceLine, AliasLine, IsKept, IsValid
 use Rattle.hoa_reader.specs.declared.elaborate.Rule.TheVariants.{V2, V3, V4, V5, V6, V7, V8, V9, V10, V11, V12}
 use Rattle.hoa_writer.proofs.round_trip.CanonicalLines.{acceptance_found, all_starts, closing, counted_from, each_edge, each_state, edges_at, names_found, no_aliases, no_starts_counted, starting, starts_found, states_found}
 use Rattle.hoa_writer.proofs.round_trip.CanonicalTrees.{no_alias, props_are_below, sets_are_below, two}
-use Rattle.hoa_writer.proofs.text.InOrder.{all_differ_from, every_passes, pairs_from, pairs_weaker, range_rises}
+use Rattle.aut_base.proofs.Ordered.{every_passes, pairs_from, pairs_weaker, range_rises}
+use Rattle.hoa_writer.proofs.text.InOrder.{all_differ_from}
 use Rattle.aut_base.specs.CanonicalLabel.{canonical_label}
 use Rattle.hoa_writer.specs.CanonicalWritten.{canonical_edge, canonical_state, canonical_written, written_label}
 use Rattle.aut_base.proofs.AllByRecursion.{AllByRecursion-map, AllByRecursion-weaker, AllByRecursion-append, AllByRecursion-flat_map, AllByRecursion-of_each}

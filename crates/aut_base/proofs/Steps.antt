@@ -1,42 +1,25 @@
--- The element at a place, and what has been done with a list up to there.
-use Rattle.std.proofs.Common.{◌≡◌, ◌∙◌, ℕ, zero, suc, ◌+◌, ◌≤◌, Bool, true, false, ◌&&◌, ◌||◌, List, [], ◌∷◌, ◌++◌, length, map, take, drop, Some, slice_get, sym, ap, arith}
-use Rattle.std.specs.List.{list_any, list_all}
-use Rattle.std.proofs.lemmas.Option.{same_Some, none-some}
-use Rattle.std.proofs.lemmas.List.{drop_all, append_assoc, append-nil}
-
-take_suc : {A : Type 0} (xs : List A) (k : ℕ) (x : A) → slice_get xs k ≡ Some x → take (suc k) xs ≡ take k xs ++ x ∷ []
-take_suc [] k x is = absurd (none-some x is)
-take_suc (y ∷ ys) zero x is = ap (λ z. z ∷ []) (same_Some y x is)
-take_suc (y ∷ ys) (suc k) x is = ap (λ zs. y ∷ zs) (take_suc ys k x is)
-
--- one more element of a front
-pub take_at : {A : Type 0} (xs : List A) (k : ℕ) (x : A) → slice_get xs k ≡ Some x → take (k + 1) xs ≡ take k xs ++ x ∷ []
-take_at xs k x is = let next : k + 1 ≡ suc k = omega arith in ap (λ n. take n xs) next ∙ take_suc xs k x is
-
-drop_suc : {A : Type 0} (xs : List A) (k : ℕ) (x : A) → slice_get xs k ≡ Some x → drop k xs ≡ x ∷ drop (suc k) xs
-drop_suc [] k x is = absurd (none-some x is)
-drop_suc (y ∷ ys) zero x is = ap (λ z. z ∷ ys) (same_Some y x is)
-drop_suc (y ∷ ys) (suc k) x is = drop_suc ys k x is
-
--- the first element of what is left
-pub drop_at : {A : Type 0} (xs : List A) (k : ℕ) (x : A) → slice_get xs k ≡ Some x → drop k xs ≡ x ∷ drop (k + 1) xs
-drop_at xs k x is = let next : suc k ≡ k + 1 = omega arith in drop_suc xs k x is ∙ ap (λ n. x ∷ drop n xs) next
+-- What has been done with a list up to a place, element by element, and what is to come.
+use Rattle.aut_base.proofs.Lists.{drop-slice_get}
+use Rattle.std.proofs.Common.{◌≡◌, ◌∙◌, ℕ, ◌+◌, ◌≤◌, Bool, true, false, ◌&&◌, ◌||◌, List, [], ◌∷◌, ◌++◌, length, map, drop, Some, slice_get, sym, ap}
+use Rattle.std.proofs.lemmas.List.{append-nil, append_assoc, drop_all}
+use Rattle.std.proofs.lemmas.Option.{none-some, same_Some}
+use Rattle.std.specs.List.{list_all, list_any}
 
 -- A test of the elements one after the other: those so far did not decide it.
 pub any_more : {A : Type 0} (p : A → Bool) (xs : List A) (k : ℕ) (x : A) → slice_get xs k ≡ Some x → list_any p (drop k xs) ≡ list_any p xs → p x ≡ false → list_any p (drop (k + 1) xs) ≡ list_any p xs
-any_more p xs k x is so_far fails = sym (ap (λ b. b || list_any p (drop (k + 1) xs)) fails) ∙ sym (ap (list_any p) (drop_at xs k x is)) ∙ so_far
+any_more p xs k x is so_far fails = sym (ap (λ b. b || list_any p (drop (k + 1) xs)) fails) ∙ sym (ap (list_any p) (drop-slice_get xs k x is)) ∙ so_far
 
 pub any_here : {A : Type 0} (p : A → Bool) (xs : List A) (k : ℕ) (x : A) → slice_get xs k ≡ Some x → list_any p (drop k xs) ≡ list_any p xs → p x ≡ true → true ≡ list_any p xs
-any_here p xs k x is so_far passes = sym (ap (λ b. b || list_any p (drop (k + 1) xs)) passes) ∙ sym (ap (list_any p) (drop_at xs k x is)) ∙ so_far
+any_here p xs k x is so_far passes = sym (ap (λ b. b || list_any p (drop (k + 1) xs)) passes) ∙ sym (ap (list_any p) (drop-slice_get xs k x is)) ∙ so_far
 
 pub any_none : {A : Type 0} (p : A → Bool) (xs : List A) (k : ℕ) → length xs ≤ k → list_any p (drop k xs) ≡ list_any p xs → false ≡ list_any p xs
 any_none p xs k all so_far = sym (ap (list_any p) (drop_all k xs all)) ∙ so_far
 
 pub all_more : {A : Type 0} (p : A → Bool) (xs : List A) (k : ℕ) (x : A) → slice_get xs k ≡ Some x → list_all p (drop k xs) ≡ list_all p xs → p x ≡ true → list_all p (drop (k + 1) xs) ≡ list_all p xs
-all_more p xs k x is so_far passes = sym (ap (λ b. b && list_all p (drop (k + 1) xs)) passes) ∙ sym (ap (list_all p) (drop_at xs k x is)) ∙ so_far
+all_more p xs k x is so_far passes = sym (ap (λ b. b && list_all p (drop (k + 1) xs)) passes) ∙ sym (ap (list_all p) (drop-slice_get xs k x is)) ∙ so_far
 
 pub all_not_here : {A : Type 0} (p : A → Bool) (xs : List A) (k : ℕ) (x : A) → slice_get xs k ≡ Some x → list_all p (drop k xs) ≡ list_all p xs → p x ≡ false → false ≡ list_all p xs
-all_not_here p xs k x is so_far fails = sym (ap (λ b. b && list_all p (drop (k + 1) xs)) fails) ∙ sym (ap (list_all p) (drop_at xs k x is)) ∙ so_far
+all_not_here p xs k x is so_far fails = sym (ap (λ b. b && list_all p (drop (k + 1) xs)) fails) ∙ sym (ap (list_all p) (drop-slice_get xs k x is)) ∙ so_far
 
 pub all_done : {A : Type 0} (p : A → Bool) (xs : List A) (k : ℕ) → length xs ≤ k → list_all p (drop k xs) ≡ list_all p xs → true ≡ list_all p xs
 all_done p xs k all so_far = sym (ap (list_all p) (drop_all k xs all)) ∙ so_far
@@ -55,7 +38,7 @@ map_more f xs k x old new y all is so_far e made =
     ap (λ zs. zs ++ map f (drop (k + 1) xs)) made
     ∙ append_assoc old (y ∷ []) (map f (drop (k + 1) xs))
     ∙ ap (λ z. old ++ z ∷ map f (drop (k + 1) xs)) e
-    ∙ sym (ap (λ zs. old ++ map f zs) (drop_at xs k x is))
+    ∙ sym (ap (λ zs. old ++ map f zs) (drop-slice_get xs k x is))
     ∙ so_far
 
 pub map_done : {A B : Type 0} (f : A → B) (xs : List A) (k : ℕ) (new all : List B) → length xs ≤ k → new ++ map f (drop k xs) ≡ all → new ≡ all
@@ -67,7 +50,7 @@ rest_more xs k x old new all y is so_far e made =
     ap (λ zs. zs ++ drop (k + 1) xs) made
     ∙ append_assoc old (y ∷ []) (drop (k + 1) xs)
     ∙ ap (λ z. old ++ z ∷ drop (k + 1) xs) e
-    ∙ sym (ap (λ zs. old ++ zs) (drop_at xs k x is))
+    ∙ sym (ap (λ zs. old ++ zs) (drop-slice_get xs k x is))
     ∙ so_far
 
 pub rest_done : {A : Type 0} (xs : List A) (k : ℕ) (new all : List A) → length xs ≤ k → new ++ drop k xs ≡ all → new ≡ all
