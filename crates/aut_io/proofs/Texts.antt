@@ -1,7 +1,6 @@
 -- Looking a name up in a list of names, beside the list of the texts under them.
-use Rattle.std.proofs.Common.{◌≡◌, ℕ, ◌+◌, ◌<◌, Bool, cond, Option, None, Some, List, [], ◌∷◌, length, get_or, drop, refl, sym, ◌∙◌, arith, add-one, is_some, MatchOption}
+use Rattle.std.proofs.Common.{◌≡◌, ℕ, ◌+◌, ◌<◌, Bool, cond, Option, None, Some, List, [], ◌∷◌, length, get_or, drop, refl, ◌∙◌, arith, add-one, is_some, MatchOption}
 use Rattle.std.proofs.Math.Seq.{drop-cons}
-use Rattle.std.proofs.lemmas.List.{drop-drop}
 use Rattle.std.specs.Cmp.Lexicographic.{slice_cmp, pointwise, texts_ties, nat_list_cmp_total}
 use Rattle.std.specs.FinMap.{find, contains_key, from_entries, get-from_entries}
 use Rattle.std.specs.List.{zip}

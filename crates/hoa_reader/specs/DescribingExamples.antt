@@ -174,12 +174,12 @@ pub record CountExamples : Type 0 where
   -- Of two counts that pass their numbers the earlier one is first.
   pub many_sets : PassesFirst counts.Sets (record { version = codes "v1"; items = raw.Acceptance 513 formula.True ∷ raw.States 100001 ∷ []; states = [] })
   pub many_states : PassesFirst counts.States (text (raw.States 100001 ∷ []) [])
-  pub nine_names : PassesFirst counts.Names (text (raw.Ap 9 (replicate 9 (codes "a")) ∷ []) [])
+  pub too_many_names : PassesFirst counts.Names (text (raw.Ap 33 (replicate 33 (codes "a")) ∷ []) [])
   -- each greatest number is still read
-  pub eight_names : IsWithin counts.Names (text (raw.Ap 8 (replicate 8 (codes "a")) ∷ []) [])
+  pub most_names : IsWithin counts.Names (text (raw.Ap 32 (replicate 32 (codes "a")) ∷ []) [])
   pub most_sets : IsWithin counts.Sets (record { version = codes "v1"; items = raw.Acceptance 512 formula.True ∷ []; states = [] })
   pub most_states : IsWithin counts.States (text (raw.States 100000 ∷ []) [])
-  pub greatest_numbers : map counts.most_of counts.counts ≡ 8 ∷ 512 ∷ 100000 ∷ 1000000 ∷ 2048 ∷ []
+  pub greatest_numbers : map counts.most_of counts.counts ≡ 32 ∷ 512 ∷ 100000 ∷ 1000000 ∷ 2048 ∷ []
 
 pub record DescribingExamples : Type 0 where
   pub rules : RuleExamples

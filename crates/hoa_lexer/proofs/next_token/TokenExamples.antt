@@ -1,5 +1,5 @@
 -- The worked examples.
-use Rattle.std.proofs.Common.{◌≡◌, ◌≢◌, ℕ, [], ◌∷◌, codes, refl, lit<, arith}
+use Rattle.std.proofs.Common.{◌≢◌, ℕ, [], ◌∷◌, codes, refl, lit<, arith}
 use Rattle.hoa_lexer.specs.Blanks.IsBlanks.{nothing, space, comment}
 use Rattle.hoa_lexer.specs.Spelling.Quotes.{nothing as no_quote, escaped, plain}
 use Rattle.hoa_lexer.specs.TokenExamples.{TokenExamples}

@@ -73,8 +73,8 @@ count_examples = record {
   uncounted = refl;
   many_sets = record { passes = refl; earlier = (refl, tt) };
   many_states = record { passes = refl; earlier = (refl, (refl, tt)) };
-  nine_names = record { passes = refl; earlier = tt };
-  eight_names = refl;
+  too_many_names = record { passes = refl; earlier = tt };
+  most_names = refl;
   most_sets = refl;
   most_states = refl;
   greatest_numbers = refl;
