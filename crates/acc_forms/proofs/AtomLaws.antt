@@ -7,6 +7,7 @@ use Rattle.std.proofs.lemmas.List.Folds.{list_any-append}
 use Rattle.aut_base.specs.Formula.{FormulaTree, FormulaTrees, True, False, Inf, Fin, And, Or, none, more, met, all_met, some_met}
 use Rattle.aut_base.specs.Marks.{is_in}
 use Rattle.acc_forms.specs.Atoms.{has_fin, some_fin}
+use Rattle.aut_base.proofs.Truth.{and-true, and_alike, or-false, or_alike}
 
 any-longer : {A : Type 0} (p : A → Bool) (xs ys : List A) → list_any p xs ≡ true → list_any p (xs ++ ys) ≡ true
 any-longer p xs ys some = list_any-append p xs ys ∙ or_left (list_any p xs) (list_any p ys) some
@@ -53,35 +54,19 @@ module _ (cycle edges : List (List ℕ)) where
         (λ rest. or_right (met (cycle ++ edges) f) _ (some_met-longer fs parts.1 rest))
         (or_cases (met cycle f) (some_met cycle fs) holds)
 
-or_twice : (a b c : Bool) → a ≡ c → b ≡ c → (a || b) ≡ c
-or_twice true b c e h = e
-or_twice false b c e h = h
-
-and_twice : (a b c : Bool) → a ≡ c → b ≡ c → (a && b) ≡ c
-and_twice true b c e h = h
-and_twice false b c e h = e
-
-or_none : (a : Bool) → (a || false) ≡ a
-or_none true = refl
-or_none false = refl
-
-and_none : (a : Bool) → (a && true) ≡ a
-and_none true = refl
-and_none false = refl
-
 -- a test on a list whose elements are all empty
 any-empty : (p : List ℕ → Bool) (cycle : List (List ℕ)) → 0 < length cycle → All (λ marks. marks ≡ []) cycle → list_any p cycle ≡ p []
 any-empty p [] some empty = absurd (omega arith)
-any-empty p (m ∷ []) some empty = or_none (p m) ∙ ap p (All-head (λ marks. marks ≡ []) m [] empty)
+any-empty p (m ∷ []) some empty = or-false (p m) ∙ ap p (All-head (λ marks. marks ≡ []) m [] empty)
 any-empty p (m ∷ n ∷ ms) some empty =
-    or_twice (p m) (list_any p (n ∷ ms)) (p []) (ap p (All-head (λ marks. marks ≡ []) m (n ∷ ms) empty))
+    or_alike (p m) (list_any p (n ∷ ms)) (p []) (ap p (All-head (λ marks. marks ≡ []) m (n ∷ ms) empty))
     (any-empty p (n ∷ ms) (omega arith) (All-tail (λ marks. marks ≡ []) m (n ∷ ms) empty))
 
 all-empty : (p : List ℕ → Bool) (cycle : List (List ℕ)) → 0 < length cycle → All (λ marks. marks ≡ []) cycle → list_all p cycle ≡ p []
 all-empty p [] some empty = absurd (omega arith)
-all-empty p (m ∷ []) some empty = and_none (p m) ∙ ap p (All-head (λ marks. marks ≡ []) m [] empty)
+all-empty p (m ∷ []) some empty = and-true (p m) ∙ ap p (All-head (λ marks. marks ≡ []) m [] empty)
 all-empty p (m ∷ n ∷ ms) some empty =
-    and_twice (p m) (list_all p (n ∷ ms)) (p []) (ap p (All-head (λ marks. marks ≡ []) m (n ∷ ms) empty))
+    and_alike (p m) (list_all p (n ∷ ms)) (p []) (ap p (All-head (λ marks. marks ≡ []) m (n ∷ ms) empty))
     (all-empty p (n ∷ ms) (omega arith) (All-tail (λ marks. marks ≡ []) m (n ∷ ms) empty))
 
 module _ (cycle : List (List ℕ)) (some : 0 < length cycle) (empty : All (λ marks. marks ≡ []) cycle) where

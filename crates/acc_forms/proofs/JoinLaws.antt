@@ -1,5 +1,5 @@
 -- Joins: what they mean, and where a join is one of the two conditions.
-use Rattle.std.proofs.Common.{◌≡◌, ◌∙◌, ℕ, Bool, true, false, cond, ◌&&◌, ◌||◌, List, [], ◌∷◌, ◌++◌, refl, sym, ap, ⊎_elim}
+use Rattle.std.proofs.Common.{◌≡◌, ◌∙◌, ℕ, true, false, cond, ◌&&◌, ◌||◌, List, [], ◌∷◌, ◌++◌, refl, sym, ap, ⊎_elim}
 use Rattle.std.specs.List.{list_any, list_all}
 use Rattle.std.proofs.lemmas.Bool.{cases_Bool, or_cases, and_left, and_right, or_left, or_right, or_from}
 use Rattle.std.proofs.lemmas.List.{append-nil}
@@ -13,6 +13,7 @@ use Rattle.acc_forms.specs.inner.Join.{joined, outweighs, is_neutral, parts_unde
 use Rattle.acc_forms.specs.declared.join.Join.{Join}
 use Rattle.acc_forms.specs.declared.join.Join.TheVariants as join
 use Rattle.acc_forms.proofs.Parts.{met-all_of, met-some_of}
+use Rattle.aut_base.proofs.Truth.{and-true, or-false}
 
 listed-trees : (fs : List FormulaTree) → listed (trees fs) ≡ fs
 listed-trees [] = refl
@@ -22,23 +23,15 @@ trees-listed : (fs : FormulaTrees) → trees (listed fs) ≡ fs
 trees-listed none = refl
 trees-listed (more f fs) = ap (more f) (trees-listed fs)
 
-and_none : (a : Bool) → a ≡ (a && true)
-and_none true = refl
-and_none false = refl
-
-or_none : (a : Bool) → a ≡ (a || false)
-or_none true = refl
-or_none false = refl
-
 module _ (cycle : List (List ℕ)) where
   met-all : (fs : List FormulaTree) → met cycle (all_of fs) ≡ list_all (met cycle) fs
   met-all [] = refl
-  met-all (f ∷ []) = and_none (met cycle f)
+  met-all (f ∷ []) = sym (and-true (met cycle f))
   met-all (a ∷ b ∷ cs) = met-all_of cycle a b cs
 
   met-some : (fs : List FormulaTree) → met cycle (some_of fs) ≡ list_any (met cycle) fs
   met-some [] = refl
-  met-some (f ∷ []) = or_none (met cycle f)
+  met-some (f ∷ []) = sym (or-false (met cycle f))
   met-some (a ∷ b ∷ cs) = met-some_of cycle a b cs
 
   all-listed : (fs : FormulaTrees) → list_all (met cycle) (listed fs) ≡ all_met cycle fs
@@ -52,17 +45,17 @@ module _ (cycle : List (List ℕ)) where
   all-conjuncts : (f : FormulaTree) → list_all (met cycle) (conjuncts f) ≡ met cycle f
   all-conjuncts True = refl
   all-conjuncts False = refl
-  all-conjuncts (Inf set neg) = sym (and_none (met cycle (Inf set neg)))
-  all-conjuncts (Fin set neg) = sym (and_none (met cycle (Fin set neg)))
+  all-conjuncts (Inf set neg) = and-true (met cycle (Inf set neg))
+  all-conjuncts (Fin set neg) = and-true (met cycle (Fin set neg))
   all-conjuncts (And a b cs) = ap (λ rest. met cycle a && (met cycle b && rest)) (all-listed cs)
-  all-conjuncts (Or a b cs) = sym (and_none (met cycle (Or a b cs)))
+  all-conjuncts (Or a b cs) = and-true (met cycle (Or a b cs))
 
   any-disjuncts : (f : FormulaTree) → list_any (met cycle) (disjuncts f) ≡ met cycle f
   any-disjuncts True = refl
   any-disjuncts False = refl
-  any-disjuncts (Inf set neg) = sym (or_none (met cycle (Inf set neg)))
-  any-disjuncts (Fin set neg) = sym (or_none (met cycle (Fin set neg)))
-  any-disjuncts (And a b cs) = sym (or_none (met cycle (And a b cs)))
+  any-disjuncts (Inf set neg) = or-false (met cycle (Inf set neg))
+  any-disjuncts (Fin set neg) = or-false (met cycle (Fin set neg))
+  any-disjuncts (And a b cs) = or-false (met cycle (And a b cs))
   any-disjuncts (Or a b cs) = ap (λ rest. met cycle a || (met cycle b || rest)) (any-listed cs)
 
   met-is_false : (f : FormulaTree) → is_false f ≡ true → met cycle f ≡ false

@@ -1,5 +1,5 @@
 -- The terms of a condition hold where it does, and the condition of terms where they do.
-use Rattle.std.proofs.Common.{◌≡◌, ◌∙◌, ℕ, Bool, true, false, ◌&&◌, ◌||◌, List, [], ◌∷◌, map, refl, sym, ap}
+use Rattle.std.proofs.Common.{◌≡◌, ◌∙◌, ℕ, Bool, true, ◌&&◌, ◌||◌, List, [], ◌∷◌, map, refl, sym, ap}
 use Rattle.std.specs.List.{list_all, flat_map, fold}
 use Rattle.std.proofs.lemmas.List.Folds.{list_any-append, flat_map-map}
 use Rattle.aut_base.specs.Formula.{FormulaTree, FormulaTrees, True, False, Inf, Fin, And, Or, none, more, met, all_met, some_met, trees, formula_tree, formula_list, formula_parts}
@@ -11,21 +11,19 @@ use Rattle.acc_forms.specs.Terms.{terms, each_terms, choices, literal_tree, some
 use Rattle.acc_forms.specs.declared.literal.Literal.{Literal}
 use Rattle.acc_forms.proofs.JoinLaws.{met-conj, met-disj}
 use Rattle.acc_forms.proofs.TermLists.{any-pairs}
+use Rattle.aut_base.proofs.Truth.{and-true, or-false}
+use Rattle.std.proofs.Math.Bool.{and_assoc, or_assoc}
 
 abbrev holds : List (List ℕ) → Literal → Bool
 holds cycle literal = met cycle (literal_tree literal)
-
-or_and_none : (a : Bool) → a ≡ ((a && true) || false)
-or_and_none true = refl
-or_and_none false = refl
 
 module _ (cycle : List (List ℕ)) where
   mutual
     pub met-terms : (f : FormulaTree) → met cycle f ≡ some_term_met cycle (terms f)
     met-terms True = refl
     met-terms False = refl
-    met-terms (Inf set neg) = or_and_none (met cycle (Inf set neg))
-    met-terms (Fin set neg) = or_and_none (met cycle (Fin set neg))
+    met-terms (Inf set neg) = sym (or-false (met cycle (Inf set neg) && true) ∙ and-true (met cycle (Inf set neg)))
+    met-terms (Fin set neg) = sym (or-false (met cycle (Fin set neg) && true) ∙ and-true (met cycle (Fin set neg)))
     met-terms (And a b cs) =
         ap (λ x. x && (met cycle b && all_met cycle cs)) (met-terms a)
         ∙ ap (λ x. some_term_met cycle (terms a) && x) (ap (λ x. x && all_met cycle cs) (met-terms b) ∙ ap (λ x. some_term_met cycle (terms b) && x) (all_met-choices cs) ∙ sym (any-pairs (holds cycle) (terms b) (choices (each_terms cs))))
@@ -47,25 +45,9 @@ module _ (cycle : List (List ℕ)) where
         ap (λ x. x || some_met cycle fs) (met-terms f) ∙ ap (λ x. some_term_met cycle (terms f) || x) (some_met-each fs)
         ∙ sym (list_any-append (list_all (holds cycle)) (terms f) (flat_map (λ those. those) (each_terms fs)))
 
-and_assoc : (a b c : Bool) → ((a && b) && c) ≡ (a && (b && c))
-and_assoc true b c = refl
-and_assoc false b c = refl
-
-or_assoc : (a b c : Bool) → ((a || b) || c) ≡ (a || (b || c))
-or_assoc true b c = refl
-or_assoc false b c = refl
-
-and_none : (a : Bool) → a ≡ (a && true)
-and_none true = refl
-and_none false = refl
-
-or_none : (a : Bool) → a ≡ (a || false)
-or_none true = refl
-or_none false = refl
-
 -- a term's literals joined to what there is
 met-fold_conj : (cycle : List (List ℕ)) (f : FormulaTree) (literals : List Literal) → met cycle (fold (λ g literal. conj g (literal_tree literal)) f literals) ≡ (met cycle f && list_all (holds cycle) literals)
-met-fold_conj cycle f [] = and_none (met cycle f)
+met-fold_conj cycle f [] = sym (and-true (met cycle f))
 met-fold_conj cycle f (l ∷ ls) =
     met-fold_conj cycle (conj f (literal_tree l)) ls
     ∙ ap (λ b. b && list_all (holds cycle) ls) (met-conj cycle f (literal_tree l))
@@ -75,7 +57,7 @@ met-of_term : (cycle : List (List ℕ)) (literals : List Literal) → met cycle 
 met-of_term cycle literals = met-fold_conj cycle True literals
 
 met-fold_disj : (cycle : List (List ℕ)) (f : FormulaTree) (ts : List (List Literal)) → met cycle (fold (λ g term. disj g (of_term term)) f ts) ≡ (met cycle f || some_term_met cycle ts)
-met-fold_disj cycle f [] = or_none (met cycle f)
+met-fold_disj cycle f [] = sym (or-false (met cycle f))
 met-fold_disj cycle f (t ∷ ts) =
     met-fold_disj cycle (disj f (of_term t)) ts
     ∙ ap (λ b. b || some_term_met cycle ts) (met-disj cycle f (of_term t) ∙ ap (λ b. met cycle f || b) (met-of_term cycle t))

@@ -7,6 +7,7 @@ use Rattle.std.proofs.lemmas.List.Folds.{list_any-append, list_all-append}
 use Rattle.std.proofs.lemmas.List.Sums.{sum_by-append, sum_by-cons}
 use Rattle.acc_forms.specs.Terms.{pairs, choices, literals}
 use Rattle.acc_forms.specs.declared.literal.Literal.{Literal}
+use Rattle.aut_base.proofs.Truth.{and_or, or_and}
 
 map-joined : (x y : List Literal) (zs : List (List Literal)) → map (λ z. (x ++ y) ++ z) zs ≡ map (λ z. x ++ z) (map (λ z. y ++ z) zs)
 map-joined x y [] = refl
@@ -66,16 +67,6 @@ literals-pairs (x ∷ xs) ys =
     sum ∙ sym (ap (λ n. n * length ys + literals ys * length (x ∷ xs)) own)
 
 -- a literal's test on joined terms
-and_or : (a b c : Bool) → ((a && b) || (a && c)) ≡ (a && (b || c))
-and_or true b c = refl
-and_or false b c = refl
-
-or_and : (a b c d : Bool) → c ≡ (a && d) → (c || (b && d)) ≡ ((a || b) && d)
-or_and true b c true e = ap (λ x. x || (b && true)) e
-or_and true true c false e = ap (λ x. x || false) e
-or_and true false c false e = ap (λ x. x || false) e
-or_and false b c d e = ap (λ x. x || (b && d)) e
-
 any-joined : (p : Literal → Bool) (x : List Literal) (ys : List (List Literal)) → list_any (list_all p) (map (λ y. x ++ y) ys) ≡ (list_all p x && list_any (list_all p) ys)
 any-joined p x [] = none_and (list_all p x)
   where

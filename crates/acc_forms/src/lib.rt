@@ -12,8 +12,6 @@ mod parity;
 mod raise;
 mod tally;
 mod terms;
-#[cfg(test)]
-mod tests;
 
 pub use atoms::{empty_meets, has_fin};
 pub use duality::dual;

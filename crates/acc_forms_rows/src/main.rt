@@ -2,6 +2,7 @@
 //! an evaluator of its own says, on every cycle of one or two edges.
 #![tactic(auto)]
 
+mod by_hand;
 mod compare;
 mod holds;
 mod shape;
@@ -55,5 +56,18 @@ fn main(rt: HostRuntime) -> Result<(), Stop> {
         }
     }
     println!(rt; "formulas={formulas} different={different}")?;
+    print_by_hand(&rt)
+}
+
+/// Tells whether what was worked out by hand came out.
+fn print_by_hand(rt: &HostRuntime) -> Result<(), Stop> {
+    let alloc = rt.alloc();
+    let turned = by_hand::are_turned(alloc)?;
+    let parities = by_hand::are_parities(alloc)?;
+    let joins = by_hand::are_joins(alloc)?;
+    let terms = by_hand::are_terms(alloc)?;
+    let counted = by_hand::are_counted(alloc)?;
+    println!(rt; "by hand: turned={turned} parities={parities} joins={joins}")?;
+    println!(rt; "by hand: terms={terms} counted={counted}")?;
     Ok(())
 }

@@ -7,18 +7,11 @@ use Rattle.aut_base.specs.CanonicalLabel.{Literal, all_of, canonical_label, cube
 use Rattle.aut_base.specs.Label.{AllBelow, EachBelow, LabelTree, LabelTrees, True, False, Prop, Not, And, Or, none, more, all_true, some_true, trees, truth}
 use Rattle.aut_base.specs.Valuation.{holds_in, truth_on, valuation_of}
 use Rattle.aut_base.proofs.ValuationLists.{all_same, holds_in-valuation_of, independent_agrees, length-map_range, valuation_of-same}
+use Rattle.aut_base.proofs.Truth.{and-true, and_or, or-false}
 
 -- the literals of a cube, which all hold
 abbrev pub all_hold : (ℕ → Bool) → List Literal → Bool
 all_hold holds = list_all (λ l. truth holds (literal_tree l))
-
-or_none : (a : Bool) → a ≡ (a || false)
-or_none true = refl
-or_none false = refl
-
-and_none : (a : Bool) → a ≡ (a && true)
-and_none true = refl
-and_none false = refl
 
 all_true-trees : (holds : ℕ → Bool) (ts : List LabelTree) → all_true holds (trees ts) ≡ list_all (truth holds) ts
 all_true-trees holds [] = refl
@@ -30,12 +23,12 @@ some_true-trees holds (t ∷ ts) = ap (λ b. truth holds t || b) (some_true-tree
 
 pub truth-all_of : (holds : ℕ → Bool) (ts : List LabelTree) → truth holds (all_of ts) ≡ list_all (truth holds) ts
 truth-all_of holds [] = refl
-truth-all_of holds (t ∷ []) = and_none (truth holds t)
+truth-all_of holds (t ∷ []) = sym (and-true (truth holds t))
 truth-all_of holds (t ∷ u ∷ us) = ap (λ b. truth holds t && (truth holds u && b)) (all_true-trees holds us)
 
 pub truth-one_of : (holds : ℕ → Bool) (ts : List LabelTree) → truth holds (one_of ts) ≡ list_any (truth holds) ts
 truth-one_of holds [] = refl
-truth-one_of holds (t ∷ []) = or_none (truth holds t)
+truth-one_of holds (t ∷ []) = sym (or-false (truth holds t))
 truth-one_of holds (t ∷ u ∷ us) = ap (λ b. truth holds t || (truth holds u || b)) (some_true-trees holds us)
 
 all-literals : (holds : ℕ → Bool) (cube : List Literal) → list_all (truth holds) (map literal_tree cube) ≡ all_hold holds cube
@@ -54,10 +47,6 @@ pub truth-cubes_tree : (holds : ℕ → Bool) (cs : List (List Literal)) → tru
 truth-cubes_tree holds cs =
     truth-one_of holds (map (λ cube. all_of (map literal_tree cube)) cs) ∙ any-cubes holds cs
 
-and_or : (a b c : Bool) → ((a && b) || (a && c)) ≡ (a && (b || c))
-and_or true b c = refl
-and_or false b c = refl
-
 and_false : (a : Bool) → false ≡ (a && false)
 and_false true = refl
 and_false false = refl
@@ -73,7 +62,7 @@ literal i b = record { prop = i; holds = b }
 
 chosen : (here : Bool) (f : Bool → Bool) → ((not here && f false) || (here && f true)) ≡ f here
 chosen true f = refl
-chosen false f = sym (or_none (f false))
+chosen false f = or-false (f false)
 
 either : (here : Bool) (f : Bool → Bool) → f false ≡ f true → f false ≡ f here
 either true f same = same

@@ -30,6 +30,24 @@ pub or_same : (a b : Bool) → b ≡ a → (a || b) ≡ a
 or_same false b e = e
 or_same true b e = refl
 
+pub or_alike : (a b c : Bool) → a ≡ c → b ≡ c → (a || b) ≡ c
+or_alike true b c e h = e
+or_alike false b c e h = h
+
+pub and_alike : (a b c : Bool) → a ≡ c → b ≡ c → (a && b) ≡ c
+and_alike true b c e h = h
+and_alike false b c e h = e
+
+pub and_or : (a b c : Bool) → ((a && b) || (a && c)) ≡ (a && (b || c))
+and_or true b c = refl
+and_or false b c = refl
+
+pub or_and : (a b c d : Bool) → c ≡ (a && d) → (c || (b && d)) ≡ ((a || b) && d)
+or_and true b c true e = ap (λ x. x || (b && true)) e
+or_and true true c false e = ap (λ x. x || false) e
+or_and true false c false e = ap (λ x. x || false) e
+or_and false b c d e = ap (λ x. x || (b && d)) e
+
 pub and_three : (a b c d e f : Bool) → a ≡ d → b ≡ e → c ≡ f → (a && (b && c)) ≡ (d && (e && f))
 and_three a b c d e f p q r = ap (λ x. x && (b && c)) p ∙ ap (λ x. d && (x && c)) q ∙ ap (λ x. d && (e && x)) r
 

@@ -6,19 +6,16 @@ use Rattle.std.specs.List.{list_all, range_with_len}
 use Rattle.std.specs.Prelude.{flat_map}
 use Rattle.aut_base.specs.CanonicalLabel.{is_independent}
 use Rattle.aut_base.specs.Valuation.{holds_in, valuations, valuation_of}
+use Rattle.std.proofs.Math.Bool.{and_assoc}
 
 -- both values in front of each list
 abbrev pub both_ways : List (List Bool) → List (List Bool)
 both_ways = flat_map (λ v. (false ∷ v) ∷ (true ∷ v) ∷ [])
 
-and_assoc : (a b c : Bool) → (a && (b && c)) ≡ ((a && b) && c)
-and_assoc true b c = refl
-and_assoc false b c = refl
-
 pub all-both_ways : (p : List Bool → Bool) (vs : List (List Bool)) → list_all p (both_ways vs) ≡ list_all (λ v. p (false ∷ v) && p (true ∷ v)) vs
 all-both_ways p [] = refl
 all-both_ways p (v ∷ vs) =
-    ap (λ b. p (false ∷ v) && (p (true ∷ v) && b)) (all-both_ways p vs) ∙ and_assoc (p (false ∷ v)) (p (true ∷ v)) _
+    ap (λ b. p (false ∷ v) && (p (true ∷ v) && b)) (all-both_ways p vs) ∙ sym (and_assoc (p (false ∷ v)) (p (true ∷ v)) _)
 
 -- what passes for every valuation passes for each list of that length
 pub each_valuation : (n : ℕ) (p : List Bool → Bool) → list_all p (valuations n) ≡ true → (v : List Bool) → length v ≡ n → p v ≡ true

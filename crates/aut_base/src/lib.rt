@@ -16,8 +16,6 @@ mod limit;
 mod marks;
 mod names;
 mod seq;
-#[cfg(test)]
-mod tests;
 mod well_formed;
 
 pub use description::{Description, Edge, Edges};

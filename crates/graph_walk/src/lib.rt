@@ -12,8 +12,6 @@ mod pass;
 mod reached;
 mod search;
 mod shortest;
-#[cfg(test)]
-mod tests;
 
 pub use graph::Graph;
 pub use numbered::components;

@@ -2,6 +2,7 @@
 //! them on three large graphs.
 #![tactic(auto)]
 
+mod by_hand;
 mod large;
 mod small;
 
@@ -33,6 +34,9 @@ fn main(rt: HostRuntime) -> Result<(), Stop> {
     let alloc = rt.alloc();
     let different = different(alloc)?;
     println!(rt; "graphs=512 different={different}")?;
+    let numbered = by_hand::are_reached_and_numbered(alloc)?;
+    let shortest = by_hand::are_shortest(alloc)?;
+    println!(rt; "by hand: numbered={numbered} shortest={shortest}")?;
     'shapes: for shape in [Shape::Line, Shape::Ring, Shape::Comb] {
         let seen = large::explored(alloc, shape)?;
         println!(rt;

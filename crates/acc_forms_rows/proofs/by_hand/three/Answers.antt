@@ -3,7 +3,7 @@ use Rattle.aut_base.specs.Formula.{False, Inf, Fin, trees, formula_tree, formula
 use Rattle.aut_base.specs.declared.formula.Formula.TheVariants as formula
 use Rattle.aut_base.proofs.FormulaTrees.{formula_tree-Inf, formula_tree-Fin, formula_tree-False}
 use Rattle.acc_forms.proofs.Parts.{below-And}
-use Rattle.acc_forms.proofs.tests.three.Goals as goal
+use Rattle.acc_forms_rows.proofs.by_hand.three.Goals as goal
 
 pub returns : goal.returns
 returns c =

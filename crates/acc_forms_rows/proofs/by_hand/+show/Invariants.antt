@@ -1,7 +1,7 @@
 -- Each part is smaller than the whole.
 use Rattle.std.proofs.Common.{◌+◌, ◌*◌}
 use Rattle.aut_base.specs.Formula.{formula_tree, formula_list, formula_size, formulas_size, trees}
-use Rattle.acc_forms.proofs.tests.+show.Given as goal
+use Rattle.acc_forms_rows.proofs.by_hand.+show.Given as goal
 
 abbrev pub decreases-show : goal.decreases-show
 decreases-show l = 2 * formula_size (formula_tree l.formula.now)

@@ -3,10 +3,9 @@
 ghost use Rattle.std.specs.Prelude.{◌≡◌, ◌<◌, All, IfOk};
 ghost use Rattle.graph_walk.specs.Walk.{HasNodes};
 
-use crate::{Graph, components, path, reach};
 use aut_base::{Arcs, Memory, Numbers, Places};
+use graph_walk::{Graph, components, path, reach};
 use std::alloc::Global;
-use std::test::Fail;
 
 /// The graph of these arcs, without those that have an end that is no node.
 fn graph(alloc: Global, nodes: u32, list: &[(u32, u32)]) -> Result<Graph, Memory>
@@ -73,39 +72,29 @@ const PAIRS: [(u32, u32); 5] = [(0, 1), (1, 0), (1, 2), (2, 3), (3, 2)];
 // Two ways of two arcs from 0 to 3, and one of three.
 const WAYS: [(u32, u32); 7] = [(0, 4), (4, 5), (5, 3), (0, 1), (1, 3), (0, 2), (2, 3)];
 
-#[test]
-fn reached_and_numbered(rt: HostRuntime) -> Result<(), Fail> {
-    let alloc = rt.alloc();
+/// Whether all nodes of the graphs are reached and numbered as they should be.
+pub(crate) fn are_reached_and_numbered(alloc: Global) -> Result<bool, Memory> {
     let ring = [true, true, true, true, true, true];
-    assert!(rt; agrees(alloc, 0, &[], &[], &[], &[])?);
-    assert!(rt; agrees(alloc, 1, &[(0, 0)], &[0], &[true], &[0])?);
-    assert!(rt;
-        agrees(
-            alloc,
-            2,
-            &[(0, 1), (0, 1)],
-            &[1, 1],
-            &[false, true],
-            &[1, 0]
-        )?
-    );
-    assert!(rt;
+    let twice = [(0, 1), (0, 1)];
+    let rows = [
+        agrees(alloc, 0, &[], &[], &[], &[])?,
+        agrees(alloc, 1, &[(0, 0)], &[0], &[true], &[0])?,
+        agrees(alloc, 2, &twice, &[1, 1], &[false, true], &[1, 0])?,
         agrees(
             alloc,
             4,
             &PAIRS,
             &[2],
             &[false, false, true, true],
-            &[1, 1, 0, 0]
-        )?
-    );
-    assert!(rt; agrees(alloc, 6, &RING, &[3], &ring, &[1, 1, 1, 1, 1, 0])?);
-    Ok(())
+            &[1, 1, 0, 0],
+        )?,
+        agrees(alloc, 6, &RING, &[3], &ring, &[1, 1, 1, 1, 1, 0])?,
+    ];
+    Ok(rows == [true; 5])
 }
 
-#[test]
-fn shortest_walks(rt: HostRuntime) -> Result<(), Fail> {
-    let alloc = rt.alloc();
+/// Whether shortest walks have the lengths that they should have, and one of them these nodes.
+pub(crate) fn are_shortest(alloc: Global) -> Result<bool, Memory> {
     'pairs: for (arcs, from, to, length) in [
         (RING.as_slice(), 1, 0, Some(4)),
         (RING.as_slice(), 2, 2, Some(0)),
@@ -114,9 +103,10 @@ fn shortest_walks(rt: HostRuntime) -> Result<(), Fail> {
         (WAYS.as_slice(), 0, 3, Some(2)),
     ] {
         let found = shortest(alloc, 6, arcs, from, to)?;
-        assert!(rt; found.map(|places| places.len()) == length);
+        if found.map(|places| places.len()) != length {
+            return Ok(false);
+        }
     }
     let around = shortest(alloc, 6, &RING, 1, 0)?;
-    assert!(rt; around.is_some_and(|places| places.as_slice() == [1, 2, 3, 4].as_slice()));
-    Ok(())
+    Ok(around.is_some_and(|places| places.as_slice() == [1, 2, 3, 4].as_slice()))
 }

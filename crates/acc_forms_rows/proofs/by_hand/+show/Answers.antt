@@ -1,7 +1,7 @@
 use Rattle.std.proofs.Common.{arith}
 use Rattle.aut_base.specs.Formula.{formula_tree, formula_list}
 use Rattle.aut_base.proofs.FormulaSizes.{formula_size-at}
-use Rattle.acc_forms.proofs.tests.+show.Goals as goal
+use Rattle.acc_forms_rows.proofs.by_hand.+show.Goals as goal
 
 pub show_parts-show-requires : goal.show_parts-show-requires
 show_parts-show-requires t c =

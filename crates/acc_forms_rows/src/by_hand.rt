@@ -3,13 +3,12 @@
 ghost use Rattle.std.specs.Prelude.{◌-◌, ◌^◌, IfOk};
 ghost use Rattle.aut_base.specs.Formula.{SetsBelow, formula_tree};
 
-use crate::{
+use acc_forms::{
     FormFault, conj, disj, disjuncts, dual, empty_meets, has_fin, of_terms, parity_min_odd, shift,
     terms_count,
 };
 use aut_base::{Formula, Formulas, Memory, Text};
 use std::alloc::Global;
-use std::test::Fail;
 
 fn inf(set: u32) -> Formula {
     Formula::Inf { set, neg: false }
@@ -89,44 +88,47 @@ fn is_shown(alloc: Global, formula: &Formula, text: &[u8]) -> Result<bool, Memor
     Ok(out.as_bytes() == text)
 }
 
-#[test]
-fn duals_and_shifts(rt: HostRuntime) -> Result<(), Fail> {
-    let alloc = rt.alloc();
+/// Whether the duals and shifts are those that they should be.
+pub(crate) fn are_turned(alloc: Global) -> Result<bool, Memory> {
     let formula = three(alloc)?;
     let other = dual(alloc, &formula)?;
     let raised = shift(alloc, &formula, 3)?;
-    assert!(rt; is_shown(alloc, &other, b"(Fin(0) | Inf(!1) | t)")?);
-    assert!(rt; is_shown(alloc, &raised, b"(Inf(3) & Fin(!4) & f)")?);
-    assert!(rt; has_fin(&formula) && !has_fin(&and(alloc, inf(0), inf(1))?));
-    assert!(rt; !empty_meets(&formula) && empty_meets(&other));
-    Ok(())
+    let turned = is_shown(alloc, &other, b"(Fin(0) | Inf(!1) | t)")?;
+    let shifted = is_shown(alloc, &raised, b"(Inf(3) & Fin(!4) & f)")?;
+    let infinite = and(alloc, inf(0), inf(1))?;
+    let found = [
+        has_fin(&formula),
+        has_fin(&infinite),
+        empty_meets(&formula),
+        empty_meets(&other),
+    ];
+    Ok(turned && shifted && found == [true, false, false, true])
 }
 
-#[test]
-fn parities(rt: HostRuntime) -> Result<(), Fail> {
-    let alloc = rt.alloc();
+/// Whether the parity condition of five priorities and its dual are those that they should be.
+pub(crate) fn are_parities(alloc: Global) -> Result<bool, Memory> {
     let five = parity_min_odd(alloc, 5)?;
     let other = dual(alloc, &five)?;
-    assert!(rt;
-        is_shown(
-            alloc,
-            &five,
-            b"(Fin(0) & (Inf(1) | (Fin(2) & (Inf(3) | Fin(4)))))"
-        )?
-    );
-    assert!(rt;
-        is_shown(
-            alloc,
-            &other,
-            b"(Inf(0) | (Fin(1) & (Inf(2) | (Fin(3) & Inf(4)))))"
-        )?
-    );
-    Ok(())
+    let odd = b"(Fin(0) & (Inf(1) | (Fin(2) & (Inf(3) | Fin(4)))))";
+    let even = b"(Inf(0) | (Fin(1) & (Inf(2) | (Fin(3) & Inf(4)))))";
+    Ok(is_shown(alloc, &five, odd)? && is_shown(alloc, &other, even)?)
 }
 
-#[test]
-fn joins(rt: HostRuntime) -> Result<(), Fail> {
-    let alloc = rt.alloc();
+/// Whether two conditions are joined to these.
+fn are_joined_to(
+    alloc: Global,
+    first: &Formula,
+    second: &Formula,
+    all: &[u8],
+    some: &[u8],
+) -> Result<bool, Memory> {
+    let both = conj(alloc, first, second)?;
+    let either = disj(alloc, first, second)?;
+    Ok(is_shown(alloc, &both, all)? && is_shown(alloc, &either, some)?)
+}
+
+/// Whether conditions are joined to those that they should be.
+pub(crate) fn are_joins(alloc: Global) -> Result<bool, Memory> {
     let (t, f) = (Formula::True, Formula::False);
     let zero = inf(0);
     let one = fin(1);
@@ -156,35 +158,46 @@ fn joins(rt: HostRuntime) -> Result<(), Fail> {
             b"((Inf(2) & Fin(3)) | (Inf(2) & Fin(3)))",
         ),
     ] {
-        assert!(rt; is_shown(alloc, &conj(alloc, first, second)?, all)?);
-        assert!(rt; is_shown(alloc, &disj(alloc, first, second)?, some)?);
+        if !are_joined_to(alloc, first, second, all, some)? {
+            return Ok(false);
+        }
     }
-    Ok(())
+    Ok(true)
 }
 
-// What the condition of the terms of a condition is shown as.
+/// Whether the condition of the terms of a condition is this.
 fn is_spread_to(alloc: Global, formula: &Formula, text: &[u8]) -> Result<bool, FormFault> {
     let found = disjuncts(alloc, formula)?;
     let spread = of_terms(alloc, &found)?;
     Ok(is_shown(alloc, &spread, text)?)
 }
 
-#[test]
-fn terms(rt: HostRuntime) -> Result<(), Fail> {
-    let alloc = rt.alloc();
+/// Whether the terms are those that they should be.
+pub(crate) fn are_terms(alloc: Global) -> Result<bool, FormFault> {
     let mixed = and(alloc, inf(0), or(alloc, fin(1), inf(2))?)?;
-    assert!(rt;
-        is_spread_to(alloc, &mixed, b"((Inf(0) & Fin(1)) | (Inf(0) & Inf(2)))") == Ok(true)
-    );
-    assert!(rt; is_spread_to(alloc, &three(alloc)?, b"f") == Ok(true));
-    assert!(rt; is_spread_to(alloc, &Formula::True, b"t") == Ok(true));
+    let rows = [
+        is_spread_to(alloc, &mixed, b"((Inf(0) & Fin(1)) | (Inf(0) & Inf(2)))")?,
+        is_spread_to(alloc, &three(alloc)?, b"f")?,
+        is_spread_to(alloc, &Formula::True, b"t")?,
+        is_spread_to(
+            alloc,
+            &and(alloc, chosen(alloc, 40)?, Formula::False)?,
+            b"f",
+        )?,
+    ];
+    Ok(rows == [true; 4])
+}
+
+/// Whether terms are counted, and refused, as they should be.
+pub(crate) fn are_counted(alloc: Global) -> Result<bool, Memory> {
     let ten = disjuncts(alloc, &chosen(alloc, 10)?);
-    assert!(rt; ten.is_ok_and(|found| found.len() == 1024));
     let eleven = disjuncts(alloc, &chosen(alloc, 11)?);
-    assert!(rt; eleven.is_err_and(|fault| fault == FormFault::Terms));
-    let many = chosen(alloc, 40)?;
-    assert!(rt; terms_count(&many) == 1 << 40);
-    assert!(rt; terms_count(&chosen(alloc, 100)?) == u64::MAX);
-    assert!(rt; is_spread_to(alloc, &and(alloc, many, Formula::False)?, b"f") == Ok(true));
-    Ok(())
+    let many = terms_count(&chosen(alloc, 40)?);
+    let most = terms_count(&chosen(alloc, 100)?);
+    Ok(
+        ten.is_ok_and(|found| found.len() == 1024)
+            && eleven.is_err_and(|fault| fault == FormFault::Terms)
+            && many == 1 << 40
+            && most == u64::MAX,
+    )
 }

@@ -3,9 +3,8 @@
 ghost use Rattle.std.specs.Prelude.{◌≡◌, ◌<◌, ◌≤◌, ℕ, [], ◌∷◌, length, IfOk};
 ghost use Rattle.aut_base.specs.Label.{AllBelow, label_tree};
 
-use crate::{Formula, Formulas, Label, Labels, Lasso, Letter, Letters, Marks, Memory, Text};
+use aut_base::{Formula, Formulas, Label, Labels, Letter, Marks, Memory, Text};
 use std::alloc::Global;
-use std::test::Fail;
 
 fn letter(alloc: Global, names: &[u8]) -> Result<Letter, Memory> {
     let mut letter = Letter::new(alloc);
@@ -51,26 +50,35 @@ fn verdicts(cycle: &[Marks]) -> [bool; 4]
     ]
 }
 
-#[test]
-fn conditions_on_cycles(rt: HostRuntime) -> Result<(), Fail> {
-    let alloc = rt.alloc();
+/// Whether the atoms are met on cycles as they should be.
+pub(crate) fn are_atoms(alloc: Global) -> Result<bool, Memory> {
     let inside = [one(alloc, 0)?, two(alloc, 0, 1)?];
     let both = [one(alloc, 0)?, one(alloc, 1)?];
     let outside = [Marks::new(alloc), one(alloc, 1)?];
+    Ok(
+        verdicts(&inside) == [true, false, false, true]
+            && verdicts(&both) == [true, true, false, false]
+            && verdicts(&outside) == [false, true, true, false]
+            && Formula::True.met_by(&outside)
+            && !Formula::False.met_by(&inside),
+    )
+}
+
+/// Whether a condition of several parts, Inf(0) & Fin(2) | Fin(!2), is met on cycles as it should be.
+pub(crate) fn are_parts(alloc: Global) -> Result<bool, Memory> {
+    let both = [one(alloc, 0)?, one(alloc, 1)?];
+    let outside = [Marks::new(alloc), one(alloc, 1)?];
     let twos = [two(alloc, 1, 2)?, one(alloc, 2)?];
-    assert_eq!(rt; verdicts(&inside), [true, false, false, true]);
-    assert_eq!(rt; verdicts(&both), [true, true, false, false]);
-    assert_eq!(rt; verdicts(&outside), [false, true, true, false]);
-    assert_eq!(rt; Formula::True.met_by(&outside), true);
-    assert_eq!(rt; Formula::False.met_by(&inside), false);
-    // Inf(0) & Fin(2) | Fin(!2)
+    let other = [one(alloc, 0)?, one(alloc, 2)?];
     let zero_alone = Formula::And(Formulas::pair(alloc, inf(0, false), fin(2, false))?);
     let mixed = Formula::Or(Formulas::pair(alloc, zero_alone, fin(2, true))?).copy(alloc)?;
-    assert_eq!(rt; mixed.met_by(&both), true);
-    assert_eq!(rt; mixed.met_by(&outside), false);
-    assert_eq!(rt; mixed.met_by(&twos), true);
-    assert_eq!(rt; mixed.met_by(&[one(alloc, 0)?, one(alloc, 2)?]), false);
-    Ok(())
+    let found = [
+        mixed.met_by(&both),
+        mixed.met_by(&outside),
+        mixed.met_by(&twos),
+        mixed.met_by(&other),
+    ];
+    Ok(found == [true, false, true, false])
 }
 
 // the first proposition, and not the second
@@ -81,12 +89,13 @@ fn first_alone(alloc: Global) -> Result<Label, Memory>
     Ok(Label::And(Labels::pair(alloc, Label::Prop(0), not_second)?))
 }
 
-#[test]
-fn labels_at_letters(rt: HostRuntime) -> Result<(), Fail> {
-    let alloc = rt.alloc();
+/// Whether a label holds at letters as it should.
+pub(crate) fn are_labels(alloc: Global) -> Result<bool, Memory> {
     let known = letter(alloc, b"ab")?;
     let names = known.names();
-    assert_eq!(rt; names.len(), 2);
+    if names.len() != 2 {
+        return Ok(false);
+    }
     let label = first_alone(alloc)?;
     'letters: for (held, want) in [
         (b"".as_slice(), false),
@@ -96,37 +105,26 @@ fn labels_at_letters(rt: HostRuntime) -> Result<(), Fail> {
         (b"ca".as_slice(), true),
     ] {
         let letter = letter(alloc, held)?;
-        assert_eq!(rt; label.holds(names, &letter), want, "at {held:?}");
+        if label.holds(names, &letter) != want {
+            return Ok(false);
+        }
     }
-    assert_eq!(rt; label.truth(&[true, false]), true);
-    assert_eq!(rt; label.truth(&[true, true]), false);
-    Ok(())
+    Ok(label.truth(&[true, false]) && !label.truth(&[true, true]))
 }
 
-#[test]
-fn names_of_letters(rt: HostRuntime) -> Result<(), Fail> {
-    let alloc = rt.alloc();
+/// Whether the names of a letter are those that were added to it, once each and in their order.
+pub(crate) fn are_names(alloc: Global) -> Result<bool, Memory> {
     let letter = letter(alloc, b"bab")?;
     let names = letter.names();
-    assert_eq!(rt; names.len(), 2);
-    assert_eq!(rt; names.position(&Text::from_bytes(alloc, b"b")?), Some(0));
-    assert_eq!(rt; names.position(&Text::from_bytes(alloc, b"a")?), Some(1));
-    assert_eq!(rt; names.position(&Text::from_bytes(alloc, b"ab")?), None);
-    assert!(rt; letter.has(&Text::from_bytes(alloc, b"a")?));
-    assert!(rt; !letter.has(&Text::from_bytes(alloc, b"c")?));
-    Ok(())
-}
-
-#[test]
-fn lasso_word_with_empty_stem(rt: HostRuntime) -> Result<(), Fail> {
-    let alloc = rt.alloc();
-    let mut cycle = Letters::new(alloc);
-    cycle.push(letter(alloc, b"a")?)?;
-    let word = Lasso {
-        stem: Letters::new(alloc),
-        cycle,
-    };
-    assert!(rt; word.stem.is_empty());
-    assert_eq!(rt; word.cycle.len(), 1);
-    Ok(())
+    let a = Text::from_bytes(alloc, b"a")?;
+    let b = Text::from_bytes(alloc, b"b")?;
+    let both = Text::from_bytes(alloc, b"ab")?;
+    Ok(
+        names.len() == 2
+            && names.position(&b) == Some(0)
+            && names.position(&a) == Some(1)
+            && names.position(&both).is_none()
+            && letter.has(&a)
+            && !letter.has(&both),
+    )
 }
