@@ -3,6 +3,7 @@
 
 mod boolean;
 mod bring;
+mod classes;
 mod cubes;
 mod fix;
 mod guard;
