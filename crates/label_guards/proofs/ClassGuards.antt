@@ -1,17 +1,17 @@
 -- What has been found is the classes, once no valuation is left.
-use Rattle.std.proofs.Common.{◌≡◌, ◌↔◌, ℕ, zero, suc, ◌<◌, ◌≤◌, ◌∙◌, Bool, true, false, not, ◌&&◌, List, [], ◌∷◌, length, map, All, AllPairs, Some, slice_get, sym, refl, ap, subst}
+use Rattle.std.proofs.Common.{◌≡◌, ℕ, zero, suc, ◌≤◌, ◌∙◌, Bool, true, false, not, ◌&&◌, List, [], ◌∷◌, length, map, All, Some, slice_get, sym, refl, ap}
 use Rattle.std.proofs.lemmas.List.Elements.{All-from_recursion}
 use Rattle.std.proofs.lemmas.Option.{none-some, same_Some}
 use Rattle.std.specs.List.{AllByRecursion, list_all}
 use Rattle.aut_base.proofs.Ordered.{Pairs}
 use Rattle.aut_base.proofs.ValuationLists.{length-valuation_of}
-use Rattle.aut_base.specs.Valuation.{IsLeast, holds_in, number_of, truth_on, valuation_of}
+use Rattle.aut_base.specs.Valuation.{IsLeast, holds_in, truth_on, valuation_of}
 use Rattle.label_guards.specs.declared.guard.Guard.{Guard}
-use Rattle.label_guards.specs.Classes.{AreAlike, AreClasses, IsBefore, IsMet, MeetsAt, agree}
+use Rattle.label_guards.specs.Classes.{AreClasses, IsBefore, IsMet, agree}
 use Rattle.label_guards.specs.Guards.{truth_in}
 use Rattle.label_guards.specs.Leasts.{IsNeverMetAt}
 use Rattle.label_guards.specs.Nodes.{IsReduced}
-use Rattle.label_guards.specs.Store.{Store, Has, label_in, outcome}
+use Rattle.label_guards.specs.Store.{Store, Has, label_in}
 use Rattle.label_guards.proofs.Firsts.{IsAlikeness, IsEarlier, IsFirst, Test, is_apart}
 use Rattle.label_guards.proofs.FoundClasses.{AreFound, IsUnderWay, agree_alike, agree_is, alike_agree, all_pairs}
 use Rattle.label_guards.proofs.LabelTruth.{keeps, truth_is}
@@ -21,7 +21,7 @@ true_false : false ≡ true → ⊥
 true_false h = cc
 
 -- where a test holds of an item of a list
-met_at : {X : Type 0} (f : X → Bool) (xs : List X) (i : ℕ) → slice_get (map f xs) i ≡ Some true → (x : X) × (slice_get xs i ≡ Some x) × (f x ≡ true)
+pub met_at : {X : Type 0} (f : X → Bool) (xs : List X) (i : ℕ) → slice_get (map f xs) i ≡ Some true → (x : X) × (slice_get xs i ≡ Some x) × (f x ≡ true)
 met_at f [] i h = absurd (none-some true h)
 met_at f (x ∷ xs) zero h = (x, refl, same_Some (f x) true h)
 met_at f (x ∷ xs) (suc i) h = met_at f xs i h
@@ -95,13 +95,16 @@ module _ (alike : Test) (is : IsAlikeness alike) where
     before_all v c [] [] first is_c earlier firsts found = tt
     before_all v c [] (d ∷ cs) first is_c earlier firsts found = absurd found
     before_all v c (w ∷ vs) [] first is_c earlier firsts found = absurd found
-    before_all v c (w ∷ vs) (d ∷ cs) first is_c earlier firsts found = (record {
-      first = v;
-      second = w;
-      is_first = least_found v c first is_c;
-      is_second = least_found w d firsts.0 (found.0, tt);
-      less = earlier.0.1;
-    }, before_all v c vs cs first is_c earlier.1 firsts.1 found.1)
+    before_all v c (w ∷ vs) (d ∷ cs) first is_c earlier firsts found = (
+      record {
+        first = v;
+        second = w;
+        is_first = least_found v c first is_c;
+        is_second = least_found w d firsts.0 (found.0, tt);
+        less = earlier.0.1;
+      },
+      before_all v c vs cs first is_c earlier.1 firsts.1 found.1,
+    )
 
     found_ordered : (vs : List (List Bool)) (cs : List Guard) → Pairs (IsEarlier alike) vs → AllByRecursion (IsFirst n alike) vs → AreFound s alike vs cs → Pairs (IsBefore s) cs
     found_ordered [] [] pairs firsts found = tt
@@ -116,7 +119,7 @@ are_classes old s was reduced list classes rest most has way few none =
     let vs : List (List Bool) = way.valuations in
     let said : (on : ℕ → Bool) → map (λ c. truth_in s c on) classes ≡ map (λ v. alike (holds_in v) on) vs = truths alike is old.names s reduced way.grows.names vs classes way.found in
     let not_apart : (on : ℕ → Bool) → is_apart alike vs on ≡ false = λ on.
-        sym (way.apart.truth on) ∙ (outcome_firsts s reduced rest way.apart.has on ∙ none (valuation_of s.names on) (length-valuation_of s.names on)) in
+    sym (way.apart.truth on) ∙ (outcome_firsts s reduced rest way.apart.has on ∙ none (valuation_of s.names on) (length-valuation_of s.names on)) in
     record {
       has = All-from_recursion (Has s) classes (found_has alike is old.names s reduced way.grows.names vs classes way.found);
       few = few;
@@ -124,8 +127,7 @@ are_classes old s was reduced list classes rest most has way few none =
       every = λ on. let some = some_met (λ v. alike (holds_in v) on) vs (not_apart on) in (some.0, ap (λ bs. slice_get bs some.0) (said on) ∙ some.1);
       alike = λ on also i j meets_i meets_j.
           let v = met_at (λ v. alike (holds_in v) on) vs i (ap (λ bs. slice_get bs i) (sym (said on)) ∙ meets_i) in
-          let w = met_at (λ v. alike (holds_in v) also) vs j (ap (λ bs. slice_get bs j) (sym (said also)) ∙ meets_j) in
-          (
+          let w = met_at (λ v. alike (holds_in v) also) vs j (ap (λ bs. slice_get bs j) (sym (said also)) ∙ meets_j) in (
             (λ e. let same : v.0 ≡ w.0 = same_Some v.0 w.0 (sym v.1 ∙ (ap (slice_get vs) e ∙ w.1)) in
                 alike_agree old was s (keeps way.grows) on also list has (joined alike is (holds_in v.0) on also v.2 (ap (λ x. alike (holds_in x) also) same ∙ w.2))),
             (λ h. one_place alike is vs way.firsts.pairs i j v.0 w.0 v.1 w.1 (across alike is (holds_in v.0) (holds_in w.0) on also v.2 w.2 (agree_alike old was s (keeps way.grows) on also list has h))),

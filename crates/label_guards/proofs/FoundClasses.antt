@@ -1,29 +1,26 @@
 -- The classes that a loop has found so far, and what they are in the end.
-use Rattle.std.proofs.Common.{◌≡◌, ◌↔◌, ℕ, zero, suc, ◌+◌, ◌<◌, ◌≤◌, ◌∙◌, Bool, true, false, not, ◌&&◌, List, [], ◌∷◌, ◌++◌, length, map, All, AllPairs, Some, slice_get, sym, refl, ap, subst, arith, length-append}
+use Rattle.std.proofs.Common.{◌≡◌, ℕ, suc, ◌+◌, ◌≤◌, ◌∙◌, Bool, true, false, not, ◌&&◌, List, [], ◌∷◌, ◌++◌, length, All, AllPairs, sym, refl, ap, subst, arith, length-append}
 use Rattle.std.proofs.lemmas.List.Elements.{All-from_recursion, recursion_from_All}
 use Rattle.std.proofs.lemmas.List.Kept.{AllPairs-cons}
-use Rattle.std.proofs.lemmas.Option.{none-some, same_Some}
 use Rattle.std.specs.Bool.{beq}
 use Rattle.std.specs.Cmp.{booleans_Decides}
-use Rattle.std.specs.List.{AllByRecursion, list_all}
+use Rattle.std.specs.List.{AllByRecursion}
 use Rattle.aut_base.proofs.AllByRecursion.{AllByRecursion-weaker}
 use Rattle.aut_base.proofs.Ordered.{Pairs, pairs_weaker}
 use Rattle.aut_base.specs.Label.{truth}
-use Rattle.aut_base.specs.Valuation.{IsLeast, holds_in, number_of, truth_on, valuation_of}
-use Rattle.aut_base.proofs.ValuationLists.{length-valuation_of}
+use Rattle.aut_base.specs.Valuation.{holds_in, number_of}
 use Rattle.label_guards.specs.declared.guard.Guard.{Guard}
-use Rattle.label_guards.specs.Classes.{AreAlike, AreClasses, HasMoreClasses, IsBefore, IsMet, MeetsAt, agree}
+use Rattle.label_guards.specs.Classes.{AreAlike, HasMoreClasses, agree}
 use Rattle.label_guards.specs.Guards.{truth_in}
-use Rattle.label_guards.specs.Leasts.{IsLeastNumber, IsNeverMetAt, bits_of}
+use Rattle.label_guards.specs.Leasts.{IsLeastNumber, bits_of}
 use Rattle.label_guards.specs.Nodes.{Grows, IsReduced}
 use Rattle.label_guards.specs.Operations.{IsPlaceOf}
-use Rattle.label_guards.specs.Store.{Store, Has, Keeps, label_in, outcome}
+use Rattle.label_guards.specs.Store.{Store, Has, Keeps, outcome}
 use Rattle.label_guards.proofs.ClassPlaces.{place_same}
 use Rattle.label_guards.proofs.Firsts.{AreFirsts, IsAlikeness, IsEarlier, IsFirst, Test, apart_push, firsts_push, is_apart}
 use Rattle.label_guards.proofs.Growth.{grows_none, grows_on, outcome_kept}
 use Rattle.label_guards.proofs.LabelTruth.{at, keeps, truth_is}
 use Rattle.label_guards.proofs.Parts.{place_kept, true_place}
-use Rattle.label_guards.proofs.Unique.{outcome_firsts}
 use Rattle.label_guards.proofs.Valuations.{bits_of-number}
 
 true_false : false ≡ true → ⊥

@@ -1,5 +1,5 @@
 -- Classes of what may hold, by the truths of a list of guards.
-use Rattle.std.specs.Prelude.{◌≡◌, ◌↔◌, ℕ, ◌+◌, ◌<◌, ◌≤◌, Bool, true, not, ◌&&◌, List, [], length, map, Some, slice_get, All, AllPairs}
+use Rattle.std.specs.Prelude.{◌≡◌, ◌↔◌, ℕ, ◌+◌, ◌<◌, ◌≤◌, Bool, true, List, [], length, map, Some, slice_get, All, AllPairs}
 use Rattle.std.specs.Bool.{beq}
 use Rattle.std.specs.List.{list_all}
 use Rattle.aut_base.specs.Valuation.{IsLeast, holds_in, number_of, truth_on}
@@ -46,12 +46,12 @@ pub record HasMoreClasses (s : Store) (list : List Guard) (most : ℕ) : Type 0 
   pub differ : AllPairs (λ v w. AreAlike s list (holds_in v) (holds_in w) → ⊥) valuations
 
 -- There are at most `most` classes, or there are more, and not both.
-abbrev pub NotBoth : Type 0
-NotBoth = (old new : Store) (list : List Guard) (most : ℕ) (classes : List Guard) → Keeps old new → All (Has old) list → AreClasses new list most classes → HasMoreClasses old list most → ⊥
+abbrev pub ClassesExcludeMore : Type 0
+ClassesExcludeMore = (old new : Store) (list : List Guard) (most : ℕ) (classes : List Guard) → Keeps old new → All (Has old) list → AreClasses new list most classes → HasMoreClasses old list most → ⊥
 
 -- The classes are determined, as a list of labels.
-abbrev pub OneListOfClasses : Type 0
-OneListOfClasses = (s : Store) (list : List Guard) (most more : ℕ) (classes others : List Guard) → AreClasses s list most classes → AreClasses s list more others → map (label_in s) classes ≡ map (label_in s) others
+abbrev pub ClassesAreDetermined : Type 0
+ClassesAreDetermined = (s : Store) (list : List Guard) (most more : ℕ) (classes others : List Guard) → AreClasses s list most classes → AreClasses s list more others → map (label_in s) classes ≡ map (label_in s) others
 
 -- Under no guards, the one class is always true.
 abbrev pub OneClassUnderNone : Type 0

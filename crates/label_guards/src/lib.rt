@@ -10,6 +10,7 @@ mod guard;
 mod guards;
 mod holds;
 mod labels;
+mod law;
 mod nodes;
 mod pick;
 mod table;
@@ -17,4 +18,5 @@ mod table;
 mod tests;
 
 pub use guard::{Guard, GuardList};
-pub use guards::{Guards, MOST_PROPOSITIONS};
+pub use guards::Guards;
+pub use law::{classes_are_determined, classes_exclude_more, one_class_under_none};
