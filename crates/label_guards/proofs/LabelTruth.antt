@@ -1,5 +1,5 @@
 -- The label of a place says what the place says.
-use Rattle.std.proofs.Common.{◌≡◌, ◌↔◌, ℕ, zero, suc, ◌<◌, ◌∙◌, Bool, true, false, not, nat_eq, IsTrue, List, length, sym, refl, ap, arith}
+use Rattle.std.proofs.Common.{◌≡◌, ◌↔◌, ◌⊎◌, ℕ, zero, suc, ◌<◌, ◌∙◌, Bool, true, false, not, nat_eq, IsTrue, List, [], length, inl, inr, sym, refl, ap, arith}
 use Rattle.aut_base.specs.CanonicalLabel.{canonical_label, label_of}
 use Rattle.aut_base.specs.Label.{LabelTree, truth, holds_at}
 use Rattle.aut_base.specs.Valuation.{holds_in, truth_on, letter_of}
@@ -42,6 +42,15 @@ never_is s is = guard_of s is (λ on. false) (at 0) (omega arith) (outcome-false
 
 pub always_is : (s : Store) → IsReduced s.names s.nodes → IsGuardOf s (λ on. true) (at 1)
 always_is s is = guard_of s is (λ on. true) (at 1) (omega arith) (outcome-true s.nodes)
+
+-- a store without nodes has the two constants alone
+pub only_constants : (s : Store) → IsReduced s.names s.nodes → s.nodes ≡ [] → (g : Guard) → Has s g → IsGuardOf s (λ on. false) g ⊎ IsGuardOf s (λ on. true) g
+only_constants s is none g has = let size : length s.nodes ≡ 0 = ap length none in this g.place (omega arith)
+  where
+    this : (place : ℕ) → place < 2 → IsGuardOf s (λ on. false) (at place) ⊎ IsGuardOf s (λ on. true) (at place)
+    this zero within = inl (never_is s is)
+    this (suc zero) within = inr (always_is s is)
+    this (suc (suc place)) within = absurd (omega arith)
 
 pub joined_guard : {old new : Store} → IsReduced old.names old.nodes → IsReduced new.names new.nodes → Grows old new → (operation : Operation) (g h : Guard) (place : ℕ) → Has old g → Has old h → IsJoin new operation g.place h.place place → IsGuardOf new (λ on. joins operation (truth_in old g on) (truth_in old h on)) (at place)
 joined_guard {old} {new} was is grows operation g h place left right joined = guard_of new is _ (at place) joined.has (λ on.

@@ -1,6 +1,7 @@
 -- The least valuation of a node is that of one of its sides.
 use Rattle.std.proofs.Common.{◌≡◌, ◌⊎◌, ℕ, zero, suc, ◌+◌, ◌^◌, ◌<◌, ◌≤◌, min, ◌∙◌, Bool, true, false, if◌then◌else◌, List, [], ◌∷◌, length, Option, Some, None, IfSome, sym, refl, ap, subst, inl, inr, arith}
 use Rattle.std.proofs.Math.Nat.{pow-le-pow_right}
+use Rattle.aut_base.specs.declared.limit.TheConstants.{MOST_NAMES}
 use Rattle.aut_base.specs.Valuation.{holds_in, letter_of, number_of}
 use Rattle.aut_base.specs.Word.{NameSet}
 use Rattle.label_guards.specs.declared.guard.Guard.{Guard}
@@ -143,7 +144,7 @@ module _ (s : Store) (is : IsReduced s.names s.nodes) (p : ℕ) (n : Node) (at :
       ]
 
 -- the number of a least valuation is small
-pub least_small : (s : Store) → IsReduced s.names s.nodes → (p : ℕ) (found : Option ℕ) → IsLeastAt s p found → IfSome found (λ number. number < 2 ^ 32)
+pub least_small : (s : Store) → IsReduced s.names s.nodes → (p : ℕ) (found : Option ℕ) → IsLeastAt s p found → IfSome found (λ number. number < 2 ^ MOST_NAMES)
 least_small s is p None least = tt
 least_small s is p (Some m) least =
     let v : List Bool = least.valuation in
@@ -151,9 +152,9 @@ least_small s is p (Some m) least =
     let b = least.is_number in
     let few = is.few in
     let d = least.size in
-    let e : length v ≤ 32 = omega arith in
+    let e : length v ≤ MOST_NAMES = omega arith in
     let f : 0 < 2 = omega arith in
-    let c : 2 ^ length v ≤ 2 ^ 32 = pow-le-pow_right f e in
+    let c : 2 ^ length v ≤ 2 ^ MOST_NAMES = pow-le-pow_right f e in
     omega arith
 
 -- what is found of a place is found of its guard

@@ -1,5 +1,10 @@
 pub mod Agreement
 pub mod Brought
+pub mod ClassGuards
+pub mod ClassLaws
+pub mod ClassPlaces
+pub mod Firsts
+pub mod FoundClasses
 pub mod Fixed
 pub mod Growth
 pub mod Joins

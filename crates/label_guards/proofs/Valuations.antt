@@ -1,6 +1,6 @@
 -- Valuations with one proposition set, and their numbers.
-use Rattle.std.proofs.Common.{◌≡◌, ℕ, zero, suc, ◌+◌, ◌*◌, ◌/◌, ◌%◌, ◌^◌, ◌<◌, ◌≤◌, ◌∙◌, Bool, true, false, if◌then◌else◌, nat_eq, List, [], ◌∷◌, length, refl, ap, arith}
-use Rattle.std.proofs.Math.Nat.{pow-suc}
+use Rattle.std.proofs.Common.{◌≡◌, ℕ, zero, suc, ◌+◌, ◌*◌, ◌/◌, ◌%◌, ◌^◌, ◌<◌, ◌≤◌, ◌∙◌, Bool, true, false, if◌then◌else◌, nat_eq, List, [], ◌∷◌, length, refl, sym, ap, arith}
+use Rattle.std.proofs.Math.Nat.{div-div-eq-div-mul, pow-suc}
 use Rattle.aut_base.specs.Valuation.{holds_in, number_of}
 use Rattle.label_guards.specs.Leasts.{bits_of}
 
@@ -64,3 +64,15 @@ bits_of-number (x ∷ v) (suc n) e = λ i. first x i ∷ (ap (bits_of n) (half x
     half : (y : Bool) → ((if y then 1 else 0) + 2 * number_of v) / 2 ≡ number_of v
     half true = omega arith
     half false = omega arith
+
+-- the truth of a proposition is a bit of the number
+pub bits_of-at : (n number i : ℕ) → i < n → nat_eq (number / 2 ^ i % 2) 1 ≡ holds_in (bits_of n number) i
+bits_of-at zero number i h = absurd (omega arith)
+bits_of-at (suc n) number zero h = let e : number / 2 ^ 0 ≡ number = omega arith in ap (λ m. nat_eq (m % 2) 1) e
+bits_of-at (suc n) number (suc i) h =
+    let a : 2 ^ suc i ≡ 2 * 2 ^ i = let b : 2 ^ suc i ≡ 2 ^ i * 2 = pow-suc 2 i in omega arith in
+    ap (λ m. nat_eq (number / m % 2) 1) a ∙ (ap (λ m. nat_eq (m % 2) 1) (sym (div-div-eq-div-mul number 2 (2 ^ i))) ∙ bits_of-at n (number / 2) i (omega arith))
+
+-- valuations of one number are the same
+pub same_valuation : (v w : List Bool) → length v ≡ length w → number_of v ≡ number_of w → v ≡ w
+same_valuation v w size e = sym (bits_of-number v (length w) size) ∙ (ap (bits_of (length w)) e ∙ bits_of-number w (length w) refl)

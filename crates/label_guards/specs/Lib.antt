@@ -1,3 +1,4 @@
+pub mod Classes
 pub mod Guards
 pub mod Leasts
 pub mod Nodes

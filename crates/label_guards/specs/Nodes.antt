@@ -1,6 +1,7 @@
 -- What holds of the nodes of a store: its diagrams are reduced and ordered, and no two of them are the same.
 use Rattle.std.specs.Prelude.{◌≡◌, ◌≢◌, ◌⊎◌, ℕ, ◌+◌, ◌<◌, ◌≤◌, Bool, if◌then◌else◌, List, [], ◌∷◌, ◌++◌, map, Some, slice_get, Contains}
 use Rattle.std.specs.List.{slice_index_or}
+use Rattle.aut_base.specs.declared.limit.TheConstants.{MOST_NAMES}
 use Rattle.label_guards.specs.declared.nodes.Node.{Node}
 use Rattle.label_guards.specs.Store.{Store, HasPlace, outcome}
 
@@ -21,7 +22,7 @@ pub record IsNode (names : ℕ) (ns : List Node) (place : ℕ) (n : Node) : Type
   pub high_later : n.prop < level_among names ns n.high
 
 pub record IsReduced (names : ℕ) (ns : List Node) : Type 0 where
-  pub few : names ≤ 32
+  pub few : names ≤ MOST_NAMES
   pub node : (i : ℕ) (n : Node) → slice_get ns i ≡ Some n → IsNode names ns (2 + i) n
   pub once : (i j : ℕ) (n : Node) → slice_get ns i ≡ Some n → slice_get ns j ≡ Some n → i ≡ j
 

@@ -70,7 +70,7 @@ impl Guards {
         Ok(Guard { place })
     }
 
-    /// Whether the guard is never true. Takes no time: `f` has one number.
+    /// Whether the guard is never true, in constant time: `f` has one number.
     pub fn is_false(&self, g: Guard) -> bool
         requires { Has self.now g }
         ensures valuations { IsTrue result ↔ IsNeverMet self.now g }
@@ -80,7 +80,7 @@ impl Guards {
         g.place == 0
     }
 
-    /// Whether the guards have the same truth. Takes no time: they then have the same number.
+    /// Whether the guards have the same truth, in constant time: they then have the same number.
     pub fn same(&self, g: Guard, h: Guard) -> bool
         requires left { Has self.now g }
         requires right { Has self.now h }

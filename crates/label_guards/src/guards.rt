@@ -1,10 +1,13 @@
 //! The store of guards: its operations, and the table of their results.
 
-ghost use Rattle.std.specs.Prelude.{◌≡◌, ◌⊎◌, ◌<◌, ◌≤◌, ℕ, [], length, IfNone, IfOk, IfSome, Some};
+ghost use Rattle.std.specs.Prelude.{◌≡◌, ◌⊎◌, ◌<◌, ◌≤◌, ℕ, [], true, false, length, IfNone, IfOk, IfSome, Some};
 ghost use Rattle.std.specs.Map.{lookup};
+ghost use Rattle.aut_base.specs.declared.limit.TheConstants.{MOST_NAMES};
+ghost use Rattle.label_guards.specs.declared.guard.Guard.{Guard};
+ghost use Rattle.label_guards.specs.Guards.{IsGuardOf};
 ghost use Rattle.label_guards.specs.Nodes.{AreSides, Grows, IsChoice, IsReduced, StandsAt, level};
 ghost use Rattle.label_guards.specs.Operations.{AreJoins, IsJoin, IsShort, key_eq};
-ghost use Rattle.label_guards.specs.Store.{HasPlace, places};
+ghost use Rattle.label_guards.specs.Store.{Has, HasPlace, places};
 
 use crate::nodes::{Node, Nodes};
 use aut_base::Memory;
@@ -19,9 +22,6 @@ pub(crate) enum Operation {
     Or,
     Xor,
 }
-
-/// The most propositions of a store.
-pub const MOST_PROPOSITIONS: u32 = 32;
 
 /// The place of a result, by the operation and the two places that it was asked for.
 type Results = IndexMap<(Operation, usize, usize), usize>;
@@ -47,11 +47,14 @@ impl Model for Guards {
 impl Guards {
     /// A store of labels over this many propositions. It has `f` and `t`, and nothing else yet.
     pub fn new(alloc: Global, names: u32) -> Result<Guards, Memory>
-        requires { names ≤ MOST_PROPOSITIONS }
-        ensures { IfOk result (λ store. store.names ≡ names) }
+        requires { names ≤ MOST_NAMES }
+        ensures names { IfOk result (λ store. store.names ≡ names) }
+        ensures bare { IfOk result (λ store. (g : Guard) → Has store g → IsGuardOf store (λ on. false) g ⊎ IsGuardOf store (λ on. true) g) }
     {
+        let nodes = Nodes::new(alloc, names);
+        nodes.reduced();
         Ok(Guards {
-            nodes: Nodes::new(alloc, names),
+            nodes,
             results: IndexMap::new(alloc),
         })
     }

@@ -3,12 +3,14 @@
 
 mod boolean;
 mod bring;
+mod classes;
 mod cubes;
 mod fix;
 mod guard;
 mod guards;
 mod holds;
 mod labels;
+mod law;
 mod nodes;
 mod pick;
 mod table;
@@ -16,4 +18,5 @@ mod table;
 mod tests;
 
 pub use guard::{Guard, GuardList};
-pub use guards::{Guards, MOST_PROPOSITIONS};
+pub use guards::Guards;
+pub use law::{classes_are_determined, classes_exclude_more, one_class_under_none};

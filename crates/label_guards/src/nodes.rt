@@ -1,6 +1,7 @@
 //! The nodes of reduced ordered binary decision diagrams (Bryant 1986), each kept once.
 
 ghost use Rattle.std.specs.Prelude.{◌≡◌, ◌<◌, ◌≤◌, ℕ, [], slice_get, IfOk, Some};
+ghost use Rattle.aut_base.specs.declared.limit.TheConstants.{MOST_NAMES};
 ghost use Rattle.label_guards.specs.Nodes.{Adds, AreSides, Grows, IsChoice, IsReduced, StandsAt, level};
 ghost use Rattle.label_guards.specs.Store.{HasPlace, places};
 
@@ -38,7 +39,7 @@ impl Model for Nodes {
 impl Nodes {
     /// No node yet.
     pub(crate) fn new(alloc: Global, names: u32) -> Nodes
-        requires { names ≤ 32 }
+        requires { names ≤ MOST_NAMES }
         ensures names { result.names ≡ names }
         ensures nodes { result.nodes ≡ [] }
     {

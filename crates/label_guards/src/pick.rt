@@ -2,6 +2,7 @@
 
 ghost use Rattle.std.specs.Prelude.{◌≡◌, ◌<◌, ◌≤◌, ◌^◌, ℕ, Bool, List, IfOk, IfSome, MatchOption, OnOk, if◌then◌else◌, length};
 ghost use Rattle.std.specs.FinSet as set;
+ghost use Rattle.aut_base.specs.declared.limit.TheConstants.{MOST_NAMES};
 ghost use Rattle.aut_base.specs.Valuation.{letter_of};
 ghost use Rattle.label_guards.specs.Guards.{IsNeverMet};
 ghost use Rattle.label_guards.specs.Leasts.{IsLeastAt, IsLeastLetter, bits_of, lesser_of};
@@ -62,8 +63,8 @@ impl Guards {
 
 /// The lesser of two numbers, where the proposition holds in the second.
 fn lesser(prop: u32, low: Option<u64>, high: Option<u64>) -> Option<u64>
-    requires prop { prop < 32 }
-    requires high { IfSome high (λ number. number < 2 ^ 32) }
+    requires prop { prop < MOST_NAMES }
+    requires high { IfSome high (λ number. number < 2 ^ MOST_NAMES) }
     ensures { result ≡ lesser_of (2 ^ prop) low high }
 {
     match (low, high) {
@@ -76,9 +77,9 @@ fn lesser(prop: u32, low: Option<u64>, high: Option<u64>) -> Option<u64>
 
 /// What a proposition adds to the number of a valuation.
 fn weight(prop: u32) -> u64
-    requires { prop < 32 }
+    requires { prop < MOST_NAMES }
     ensures weight { result ≡ 2 ^ prop }
-    ensures small { result < 2 ^ 32 }
+    ensures small { result < 2 ^ MOST_NAMES }
 {
     1 << prop
 }

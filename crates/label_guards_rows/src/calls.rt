@@ -2,7 +2,7 @@
 //! carries their contracts.
 
 use aut_base::{Label, Letter, Memory, Names, Numbers, Text};
-use label_guards::{Guard, Guards};
+use label_guards::{Guard, GuardList, Guards};
 use std::alloc::Global;
 
 pub(crate) fn of_label(store: &mut Guards, label: &Label) -> Result<Option<Guard>, Memory> {
@@ -95,6 +95,19 @@ pub(crate) fn same(store: &Guards, g: Guard, h: Guard) -> Option<bool> {
         return None;
     }
     Some(store.same(g, h))
+}
+
+/// The classes of the list, if there are no more than so many.
+pub(crate) fn classes(
+    alloc: Global,
+    store: &mut Guards,
+    list: &GuardList,
+    most: u32,
+) -> Result<Option<GuardList>, Memory> {
+    if !list.as_slice().iter().all(|g| store.has(*g)) {
+        return Ok(None);
+    }
+    store.classes(alloc, list, most)
 }
 
 /// The text of a guard.

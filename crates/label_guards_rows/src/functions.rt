@@ -1,80 +1,92 @@
-//! Every truth function of three propositions as a guard, and whether the calls make of it what its table asks for.
+//! Truth functions of a few propositions as guards, and whether the calls make of them what their tables ask for.
 
-use crate::calls::{and, bring, fix, holds, is_false, not, of_label, or, pick, same};
-use crate::tables::{Table, bit, brought, fixed, is_letter, label, letter, names};
+use crate::calls::{and, bring, classes, fix, holds, is_false, not, of_label, or, pick, same};
+use crate::tables::{self, Table, bit, brought, fixed, is_letter, label, letter, names, negated};
 use aut_base::{Memory, Names, Numbers};
-use label_guards::{Guard, Guards};
+use label_guards::{Guard, GuardList, Guards};
 use std::alloc::Global;
 
 /// Where the propositions of another store are brought, in turn.
-const PLACES: [[u32; 3]; 3] = [[2, 0, 1], [1, 1, 0], [0, 1, 2]];
+const PLACES: [[u16; 3]; 3] = [[2, 0, 1], [1, 1, 0], [0, 1, 2]];
 
-/// A store with the guard of each function, by its table.
+/// A store, and the guards of the functions with the first tables.
 #[derive(Drop)]
 pub(crate) struct Functions {
+    props: u8,
     store: Guards,
     guards: Vec<Guard>,
     names: Names,
 }
 
 impl Functions {
-    pub(crate) fn new(alloc: Global) -> Result<Functions, Memory> {
-        let mut store = Guards::new(alloc, 3)?;
-        let mut guards = Vec::new(alloc);
-        for table in 0..=255u8 {
-            let label = label(alloc, table)?;
-            if let Some(guard) = of_label(&mut store, &label)? {
-                guards.push(guard)?;
-            }
+    /// The functions of so many propositions, where the first ones have their guards at once.
+    pub(crate) fn new(alloc: Global, props: u8, first: u16) -> Result<Functions, Memory> {
+        let props = props.min(4);
+        let mut functions = Functions {
+            props,
+            store: Guards::new(alloc, u32::from(props))?,
+            guards: Vec::new(alloc),
+            names: names(alloc, props)?,
+        };
+        for table in 0..first {
+            let guard = functions.made(alloc, table)?;
+            functions.guards.push(guard)?;
         }
-        Ok(Functions {
-            store,
-            guards,
-            names: names(alloc)?,
-        })
+        Ok(functions)
     }
 
-    /// The guard of a function. It is `f` where there is none, which the comparisons show.
-    fn guard(&self, table: Table) -> Guard {
+    /// The guard of a function, from a label. It is `f` where there is none, which the comparisons show.
+    fn made(&mut self, alloc: Global, table: Table) -> Result<Guard, Memory> {
+        let label = label(alloc, table, self.props)?;
+        match of_label(&mut self.store, &label)? {
+            Some(guard) => Ok(guard),
+            None => Ok(self.store.never()),
+        }
+    }
+
+    /// The guard of a function.
+    fn guard(&mut self, alloc: Global, table: Table) -> Result<Guard, Memory> {
         match self.guards.get(usize::from(table)) {
-            Some(guard) => *guard,
-            None => self.store.never(),
+            Some(guard) => Ok(*guard),
+            None => self.made(alloc, table),
         }
     }
 
-    /// Whether each call on this function alone is right.
+    /// Whether each call on this function alone is right, but for `bring`.
     pub(crate) fn is_right(&mut self, alloc: Global, table: Table) -> Result<bool, Memory> {
-        if !self.is_negated_rightly(table)? || !self.holds_rightly(alloc, table)? {
+        if !self.is_negated_rightly(alloc, table)? || !self.holds_rightly(alloc, table)? {
             return Ok(false);
         }
-        if !self.picks_rightly(alloc, table)? || !self.fixes_rightly(alloc, table)? {
+        if !self.picks_rightly(alloc, table)? {
             return Ok(false);
         }
-        self.brings_rightly(alloc, table)
+        self.fixes_rightly(alloc, table)
     }
 
-    fn is_negated_rightly(&mut self, table: Table) -> Result<bool, Memory> {
-        let g = self.guard(table);
+    fn is_negated_rightly(&mut self, alloc: Global, table: Table) -> Result<bool, Memory> {
+        let g = self.guard(alloc, table)?;
         let opposite = not(&mut self.store, g)?;
         let is_false = is_false(&self.store, g);
-        Ok(opposite == Some(self.guard(!table)) && is_false == Some(table == 0))
+        let wanted = self.guard(alloc, negated(table, self.props))?;
+        Ok(opposite == Some(wanted) && is_false == Some(table == 0))
     }
 
-    fn holds_rightly(&self, alloc: Global, table: Table) -> Result<bool, Memory> {
-        for valuation in 0..8u8 {
-            let letter = letter(alloc, valuation)?;
-            let truth = holds(&self.store, &self.names, self.guard(table), &letter);
-            if truth != Some(bit(table, u32::from(valuation))) {
+    fn holds_rightly(&mut self, alloc: Global, table: Table) -> Result<bool, Memory> {
+        let g = self.guard(alloc, table)?;
+        for valuation in 0..tables::valuations(self.props) {
+            let letter = letter(alloc, valuation, self.props)?;
+            if holds(&self.store, &self.names, g, &letter) != Some(bit(table, valuation)) {
                 return Ok(false);
             }
         }
         Ok(true)
     }
 
-    fn picks_rightly(&self, alloc: Global, table: Table) -> Result<bool, Memory> {
-        match pick(alloc, &self.store, &self.names, self.guard(table))? {
+    fn picks_rightly(&mut self, alloc: Global, table: Table) -> Result<bool, Memory> {
+        let g = self.guard(alloc, table)?;
+        match pick(alloc, &self.store, &self.names, g)? {
             Some(letter) if table != 0 => {
-                is_letter(alloc, &letter, table.trailing_zeros() as u8)
+                is_letter(alloc, &letter, table.trailing_zeros() as u16, self.props)
             }
             Some(_) => Ok(false),
             None => Ok(table == 0),
@@ -82,52 +94,97 @@ impl Functions {
     }
 
     fn fixes_rightly(&mut self, alloc: Global, table: Table) -> Result<bool, Memory> {
-        let g = self.guard(table);
-        for prop in 0..3u32 {
-            for value in [false, true] {
-                let guard = fix(alloc, &mut self.store, g, prop, value)?;
-                if guard != Some(self.guard(fixed(table, prop, value))) {
-                    return Ok(false);
-                }
-            }
-        }
-        Ok(true)
-    }
-
-    /// Brings the guard from a copy of the store.
-    fn brings_rightly(&mut self, alloc: Global, table: Table) -> Result<bool, Memory> {
-        let g = self.guard(table);
-        let other = self.store.copy(alloc)?;
-        for to in PLACES {
-            let places = Numbers::from_vec(Vec::from_slice(alloc, to.as_slice())?);
-            let guard = bring(alloc, &mut self.store, &other, g, &places)?;
-            if guard != Some(self.guard(brought(table, to))) {
+        for prop in 0..self.props {
+            if !self.is_fixed_rightly(alloc, table, prop, false)?
+                || !self.is_fixed_rightly(alloc, table, prop, true)?
+            {
                 return Ok(false);
             }
         }
         Ok(true)
     }
 
-    /// With how many functions this one is joined or compared wrongly.
-    pub(crate) fn different_pairs(&mut self, first: Table) -> Result<u32, Memory> {
-        let mut different = 0u32;
-        for second in 0..=255u8 {
-            if !self.are_joined_rightly(first, second)? {
-                different = different.saturating_add(1);
-            }
-        }
-        Ok(different)
+    fn is_fixed_rightly(
+        &mut self,
+        alloc: Global,
+        table: Table,
+        prop: u8,
+        value: bool,
+    ) -> Result<bool, Memory> {
+        let g = self.guard(alloc, table)?;
+        let guard = fix(alloc, &mut self.store, g, u32::from(prop), value)?;
+        let wanted = self.guard(alloc, fixed(table, self.props, prop, value))?;
+        Ok(guard == Some(wanted))
     }
 
-    fn are_joined_rightly(&mut self, first: Table, second: Table) -> Result<bool, Memory> {
-        let g = self.guard(first);
-        let h = self.guard(second);
+    /// Whether the guard is brought rightly from a copy of the store, where there are three propositions.
+    pub(crate) fn is_brought_rightly(
+        &mut self,
+        alloc: Global,
+        table: Table,
+    ) -> Result<bool, Memory> {
+        let g = self.guard(alloc, table)?;
+        let other = self.store.copy(alloc)?;
+        for to in PLACES {
+            let places = numbers(alloc, to)?;
+            let guard = bring(alloc, &mut self.store, &other, g, &places)?;
+            if guard != Some(self.guard(alloc, brought(table, to))?) {
+                return Ok(false);
+            }
+        }
+        Ok(true)
+    }
+
+    /// Whether two functions are joined and compared rightly.
+    pub(crate) fn are_joined_rightly(
+        &mut self,
+        alloc: Global,
+        first: Table,
+        second: Table,
+    ) -> Result<bool, Memory> {
+        let g = self.guard(alloc, first)?;
+        let h = self.guard(alloc, second)?;
         let both = and(&mut self.store, g, h)?;
         let some = or(&mut self.store, g, h)?;
+        let is_same = same(&self.store, g, h);
         Ok(
-            both == Some(self.guard(first & second))
-                && some == Some(self.guard(first | second))
-                && same(&self.store, g, h) == Some(first == second),
+            both == Some(self.guard(alloc, first & second)?)
+                && some == Some(self.guard(alloc, first | second)?)
+                && is_same == Some(first == second),
         )
     }
+
+    /// Whether the classes of two functions are right, and one too many are refused.
+    pub(crate) fn are_classed_rightly(
+        &mut self,
+        alloc: Global,
+        first: Table,
+        second: Table,
+    ) -> Result<bool, Memory> {
+        let wanted = tables::classes(alloc, first, second, self.props)?;
+        let list = self.list(alloc, &[first, second])?;
+        let most = wanted.len().min(16) as u32;
+        let found = classes(alloc, &mut self.store, &list, most)?;
+        let fewer = classes(alloc, &mut self.store, &list, most.saturating_sub(1))?;
+        let wanted = self.list(alloc, &wanted)?;
+        Ok(found == Some(wanted) && fewer.is_none())
+    }
+
+    /// The guards of these functions.
+    fn list(&mut self, alloc: Global, tables: &[Table]) -> Result<GuardList, Memory> {
+        let mut list = GuardList::new(alloc);
+        for table in tables {
+            list.push(self.guard(alloc, *table)?)?;
+        }
+        Ok(list)
+    }
+}
+
+/// The list of these numbers.
+fn numbers(alloc: Global, of: [u16; 3]) -> Result<Numbers, Memory> {
+    let mut numbers = Numbers::new(alloc);
+    for number in of {
+        numbers.push(u32::from(number))?;
+    }
+    Ok(numbers)
 }

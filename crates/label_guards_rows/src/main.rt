@@ -1,14 +1,17 @@
-//! Runs the calls of `label_guards` on every truth function of three propositions, and compares what they answer with the
-//! tables of these functions. Then it prints the texts of some labels.
+//! Runs the calls of `label_guards` on every truth function of three propositions, and on a sample of those of four, and
+//! compares what they answer with the tables of these functions. Then it prints some classes and the texts of some labels.
 #![tactic(auto)]
 
 mod calls;
+mod classes;
 mod functions;
+mod sample;
 mod tables;
 mod texts;
 
 use aut_base::Memory;
 use functions::Functions;
+use sample::{SAMPLE, different_functions, different_pairs, different_samples};
 use std::io;
 
 /// Why a run ended early.
@@ -32,18 +35,13 @@ impl From<Memory> for Stop {
 
 fn main(rt: HostRuntime) -> Result<(), Stop> {
     let alloc = rt.alloc();
-    let mut functions = Functions::new(alloc)?;
-    let mut different = 0u32;
-    for table in 0..=255u8 {
-        if !functions.is_right(alloc, table)? {
-            different = different.saturating_add(1);
-        }
-    }
+    let mut functions = Functions::new(alloc, 3, 256)?;
+    let different = different_functions(alloc, &mut functions)?;
     println!(rt; "functions=256 different={different}")?;
-    let mut pairs = 0u32;
-    for first in 0..=255u8 {
-        pairs = pairs.saturating_add(functions.different_pairs(first)?);
-    }
-    println!(rt; "pairs=65536 different={pairs}")?;
+    let different = different_pairs(alloc, &mut functions)?;
+    println!(rt; "pairs=65536 different={different}")?;
+    let different = different_samples(alloc)?;
+    println!(rt; "samples={SAMPLE} different={different}")?;
+    classes::print(&rt)?;
     texts::print(&rt)
 }

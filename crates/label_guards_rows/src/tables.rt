@@ -1,111 +1,157 @@
-//! Truth functions of three propositions, by their tables, and what operations make of these. Nothing here knows of guards.
+//! Truth functions of a few propositions, by their tables, and what operations make of these. Nothing here knows of guards.
 
 use aut_base::{Label, Labels, Letter, Memory, Names, Text};
 use std::alloc::Global;
 
 /// The truth of a function on each valuation: bit v on that of number v. Bit k of v is the truth of proposition k.
-pub(crate) type Table = u8;
+pub(crate) type Table = u16;
 
-/// The names of the propositions.
-pub(crate) const NAMES: [&[u8]; 3] = [b"a", b"b", b"c"];
+/// How many valuations of so many propositions there are; of four at most, since a table has 16 bits.
+pub(crate) fn valuations(props: u8) -> u16 {
+    1u16.wrapping_shl(u32::from(props.min(4)))
+}
 
 /// Bit v of a table or of a valuation.
-pub(crate) fn bit(bits: u8, place: u32) -> bool {
-    bits.wrapping_shr(place) & 1 == 1
+pub(crate) fn bit(bits: u16, place: u16) -> bool {
+    bits.wrapping_shr(u32::from(place)) & 1 == 1
 }
 
 /// The table with this bit set, where it is wanted.
-fn with(table: Table, valuation: u8, is_wanted: bool) -> Table {
+fn with(table: Table, valuation: u16, is_wanted: bool) -> Table {
     if is_wanted {
-        return table | 1u8.wrapping_shl(u32::from(valuation));
+        return table | 1u16.wrapping_shl(u32::from(valuation));
+    }
+    table
+}
+
+/// The function that is true where this one isn't.
+pub(crate) fn negated(of: Table, props: u8) -> Table {
+    let mut table = 0u16;
+    for valuation in 0..valuations(props) {
+        table = with(table, valuation, !bit(of, valuation));
     }
     table
 }
 
 /// The same function with one proposition set.
-pub(crate) fn fixed(of: Table, prop: u32, value: bool) -> Table {
-    let mask = 1u8.wrapping_shl(prop);
-    let mut table = 0u8;
-    for valuation in 0..8u8 {
+pub(crate) fn fixed(of: Table, props: u8, prop: u8, value: bool) -> Table {
+    let mask = 1u16.wrapping_shl(u32::from(prop));
+    let mut table = 0u16;
+    for valuation in 0..valuations(props) {
         let set = if value {
             valuation | mask
         } else {
             valuation & !mask
         };
-        table = with(table, valuation, bit(of, u32::from(set)));
+        table = with(table, valuation, bit(of, set));
     }
     table
 }
 
-/// The same function of other propositions: proposition k becomes the one at place k of the list.
-pub(crate) fn brought(of: Table, to: [u32; 3]) -> Table {
-    let mut table = 0u8;
-    for valuation in 0..8u8 {
-        table = with(table, valuation, bit(of, u32::from(before(valuation, to))));
+/// The same function of three other propositions: proposition k becomes the one at place k of the list.
+pub(crate) fn brought(of: Table, to: [u16; 3]) -> Table {
+    let mut table = 0u16;
+    for valuation in 0..8u16 {
+        table = with(table, valuation, bit(of, before(valuation, to)));
     }
     table
 }
 
 /// The valuation of the other propositions.
-fn before(valuation: u8, to: [u32; 3]) -> u8 {
-    let mut before = 0u8;
-    for place in 0..3u8 {
+fn before(valuation: u16, to: [u16; 3]) -> u16 {
+    let mut before = 0u16;
+    for place in 0..3u16 {
         before = with(before, place, bit(valuation, to[usize::from(place)]));
     }
     before
 }
 
+/// The classes of two functions, in the order of their least valuations.
+pub(crate) fn classes(
+    alloc: Global,
+    first: Table,
+    second: Table,
+    props: u8,
+) -> Result<Vec<Table>, Memory> {
+    let mut classes = Vec::new(alloc);
+    for valuation in 0..valuations(props) {
+        let class = class_of(first, second, props, valuation);
+        if class.trailing_zeros() == u32::from(valuation) {
+            classes.push(class)?;
+        }
+    }
+    Ok(classes)
+}
+
+/// Where both functions are as they are on this valuation.
+fn class_of(first: Table, second: Table, props: u8, valuation: u16) -> Table {
+    let mut class = 0u16;
+    for other in 0..valuations(props) {
+        let is_alike = bit(first, other) == bit(first, valuation)
+            && bit(second, other) == bit(second, valuation);
+        class = with(class, other, is_alike);
+    }
+    class
+}
+
 /// A label with this table: one conjunction for each valuation on which it is true.
-pub(crate) fn label(alloc: Global, of: Table) -> Result<Label, Memory> {
+pub(crate) fn label(alloc: Global, of: Table, props: u8) -> Result<Label, Memory> {
     let mut label = Label::False;
-    for valuation in 0..8u8 {
-        if bit(of, u32::from(valuation)) {
-            label = Label::Or(Labels::pair(alloc, label, alone(alloc, valuation)?)?);
+    for valuation in 0..valuations(props) {
+        if bit(of, valuation) {
+            label = Label::Or(Labels::pair(alloc, label, alone(alloc, valuation, props)?)?);
         }
     }
     Ok(label)
 }
 
 /// The label that is true on this valuation alone.
-fn alone(alloc: Global, valuation: u8) -> Result<Label, Memory> {
-    let first = Labels::pair(
-        alloc,
-        literal(alloc, valuation, 0)?,
-        literal(alloc, valuation, 1)?,
-    )?;
-    let last = literal(alloc, valuation, 2)?;
-    Ok(Label::And(Labels::pair(alloc, Label::And(first), last)?))
+fn alone(alloc: Global, valuation: u16, props: u8) -> Result<Label, Memory> {
+    let mut label = Label::True;
+    for prop in 0..props {
+        label = Label::And(Labels::pair(alloc, label, literal(alloc, valuation, prop)?)?);
+    }
+    Ok(label)
 }
 
 /// A proposition, or its negation where it doesn't hold.
-fn literal(alloc: Global, valuation: u8, prop: u32) -> Result<Label, Memory> {
-    if bit(valuation, prop) {
-        return Ok(Label::Prop(prop));
+fn literal(alloc: Global, valuation: u16, prop: u8) -> Result<Label, Memory> {
+    if bit(valuation, u16::from(prop)) {
+        return Ok(Label::Prop(u32::from(prop)));
     }
-    Ok(Label::Not(Box::new(alloc, Label::Prop(prop))?))
+    Ok(Label::Not(Box::new(alloc, Label::Prop(u32::from(prop)))?))
+}
+
+/// The name of a proposition: `a`, `b` and so on.
+fn name(alloc: Global, prop: u8) -> Result<Text, Memory> {
+    Text::from_bytes(alloc, [b'a'.wrapping_add(prop)].as_slice())
 }
 
 /// The names in order.
-pub(crate) fn names(alloc: Global) -> Result<Names, Memory> {
-    Ok(letter(alloc, 7)?.names().clone()?)
+pub(crate) fn names(alloc: Global, props: u8) -> Result<Names, Memory> {
+    Ok(letter(alloc, u16::MAX, props)?.names().clone()?)
 }
 
 /// The letter of a valuation.
-pub(crate) fn letter(alloc: Global, valuation: u8) -> Result<Letter, Memory> {
+pub(crate) fn letter(alloc: Global, valuation: u16, props: u8) -> Result<Letter, Memory> {
     let mut letter = Letter::new(alloc);
-    for place in 0..3u32 {
-        if bit(valuation, place) {
-            letter.add(Text::from_bytes(alloc, NAMES[place as usize])?)?;
+    for prop in 0..props {
+        if bit(valuation, u16::from(prop)) {
+            letter.add(name(alloc, prop)?)?;
         }
     }
     Ok(letter)
 }
 
 /// Whether a letter is that of this valuation.
-pub(crate) fn is_letter(alloc: Global, letter: &Letter, valuation: u8) -> Result<bool, Memory> {
-    for place in 0..3u32 {
-        let name = Text::from_bytes(alloc, NAMES[place as usize])?;
-        if letter.has(&name) != bit(valuation, place) {
+pub(crate) fn is_letter(
+    alloc: Global,
+    letter: &Letter,
+    valuation: u16,
+    props: u8,
+) -> Result<bool, Memory> {
+    for prop in 0..props {
+        if letter.has(&name(alloc, prop)?) != bit(valuation, u16::from(prop)) {
             return Ok(false);
         }
     }

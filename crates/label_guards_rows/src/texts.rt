@@ -15,8 +15,8 @@ pub(crate) fn print(rt: &HostRuntime) -> Result<(), Stop> {
     let alloc = rt.alloc();
     print_label(rt, "0&2 | 1&2", &in_cubes(alloc)?)?;
     print_label(rt, "2 & (1 | 0)", &nested(alloc)?)?;
-    print_label(rt, "no valuation", &label(alloc, 0)?)?;
-    print_label(rt, "every valuation", &label(alloc, 255)?)?;
+    print_label(rt, "no valuation", &label(alloc, 0, 3)?)?;
+    print_label(rt, "every valuation", &label(alloc, 255, 3)?)?;
     print_many(rt)
 }
 

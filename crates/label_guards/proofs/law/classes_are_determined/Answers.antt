@@ -1,0 +1,5 @@
+use Rattle.label_guards.proofs.ClassLaws as laws
+use Rattle.label_guards.proofs.law.classes_are_determined.Goals as goal
+
+pub returns : goal.returns
+returns c = laws.classes_are_determined

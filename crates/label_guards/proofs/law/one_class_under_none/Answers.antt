@@ -1,0 +1,5 @@
+use Rattle.label_guards.proofs.ClassLaws as laws
+use Rattle.label_guards.proofs.law.one_class_under_none.Goals as goal
+
+pub returns : goal.returns
+returns c = laws.one_class_under_none
