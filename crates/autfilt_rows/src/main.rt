@@ -4,6 +4,7 @@
 mod inputs;
 mod ran;
 mod row;
+mod sure;
 
 use row::Row;
 use row_files::{Count, Fault, Rows, Stop, read_files};
@@ -31,7 +32,22 @@ fn main(rt: HostRuntime) -> Result<(), Stop> {
         count: Count::new(),
     };
     read_files(&rt, &FILES, &mut tally)?;
+    if !is_sure(&rt)? {
+        tally.count.add(true);
+    }
     tally.count.print(&rt)
+}
+
+/// Whether runs over inputs and sinks that can't fail end as they should. Where not, they count as one row more.
+fn is_sure(rt: &HostRuntime) -> Result<bool, Stop> {
+    match sure::end_by_the_text(rt.alloc()) {
+        Ok(is_right) => Ok(is_right),
+        Err(_) => Err(Stop {
+            file: "src/sure.rt",
+            line: 0,
+            fault: Fault::Memory,
+        }),
+    }
 }
 
 impl Rows for Tally {

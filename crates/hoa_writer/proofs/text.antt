@@ -1,7 +1,6 @@
 -- The text, piece by piece.
-pub mod Cubes
 pub mod Formulas
 pub mod InOrder
 pub mod Lines
 pub mod Pieces
-pub mod Tables
+pub mod Settled

@@ -76,3 +76,7 @@ pub record ReadsBack (text : List ℕ) (a : Automaton) (name : Option (List ℕ)
 -- The canonical text of every well-formed automaton reads back, whose numbers a lexer can read.
 abbrev pub CanonicalTextReadsBack : Type 0
 CanonicalTextReadsBack = (a : Automaton) (name : Option (List ℕ)) → IsWellFormed a → a.states < 2 ^ 32 → a.sets < 2 ^ 32 → length a.names < 2 ^ 32 → ReadsBack (canonical_text a name) a name
+
+-- An automaton and its canonical form have one text.
+abbrev pub CanonicalFormHasTheSameText : Type 0
+CanonicalFormHasTheSameText = (a : Automaton) (name : Option (List ℕ)) → canonical_text (canonical a) name ≡ canonical_text a name

@@ -1,11 +1,16 @@
 //! What holds of canonical texts.
 
 ghost use Rattle.hoa_writer.specs.CanonicalTextExamples.{CanonicalTextExamples};
-ghost use Rattle.hoa_writer.specs.CanonicalWritten.{CanonicalTextReadsBack};
+ghost use Rattle.hoa_writer.specs.CanonicalWritten.{CanonicalFormHasTheSameText, CanonicalTextReadsBack};
 
 /// The canonical text of a well-formed automaton reads back as the automaton, with its labels in canonical form.
 pub fn canonical_text_reads_back()
     ensures { CanonicalTextReadsBack }
+{}
+
+/// An automaton has the text of its canonical form: labels of one truth are written alike.
+pub fn canonical_form_has_the_same_text()
+    ensures { CanonicalFormHasTheSameText }
 {}
 
 /// A canonical text, byte for byte.

@@ -1,52 +1,46 @@
 //! The lines of the text.
 
-ghost use Rattle.std.specs.Prelude.{◌≡◌, ◌<◌, ◌≤◌, ◌^◌, ◌++◌, length, map, take, drop, flat_map, codes, IfOk, OnOk};
+ghost use Rattle.std.specs.Prelude.{◌≡◌, ◌<◌, ◌≤◌, ◌==◌, ◌++◌, ◌^◌, length, filter, flat_map, codes, IfOk, OnOk};
 ghost use Rattle.std.specs.Option.{option_copied};
 ghost use Rattle.std.specs.List.{range_with_len};
 ghost use Rattle.std.specs.Fmt.{decimal};
 ghost use Rattle.aut_base.specs.declared.limit.TheConstants.{MOST_NAMES};
-ghost use Rattle.aut_base.specs.Label.{AllBelow};
-ghost use Rattle.aut_base.specs.Automaton.{tree_edge, automaton, IsWellFormed};
 ghost use Rattle.aut_base.specs.Formula.{formula_tree};
-ghost use Rattle.hoa_writer.specs.CanonicalText.{formula_text, line, quoted, edge_line, state_lines, name_line, header_lines, canonical_text};
+ghost use Rattle.hoa_writer.specs.CanonicalText.{formula_text, line, edge_line, state_lines, name_line, header_lines, canonical_text};
 ghost use Rattle.hoa_writer.specs.CanonicalWritten.{ReadsBack};
-ghost use Rattle.hoa_writer.specs.inner.Lines.{start_lines, names_line, WritesEdges, LeadFrom};
+ghost use Rattle.hoa_writer.specs.inner.Lines.{start_lines, names_line, link_line};
+ghost use Rattle.aut_core.specs.Core.{automaton_of};
+ghost use Rattle.label_guards.specs.Store.{Has};
 
 use crate::formula::push_formula;
-use crate::label::{Room, push_label};
 use crate::number::push_number;
 use crate::parts::{push_marks, push_quoted};
-use aut_base::{Description, Edge, Formula, Memory, Text};
+use aut_base::{Formula, Memory, Text};
+use aut_core::{Automaton, Link};
+use label_guards::Guards;
 use std::alloc::Global;
 
 /// The canonical text of an automaton, and of its name if it has one.
-pub fn write_description(
-    alloc: Global,
-    description: &Description,
-    name: Option<&Text>,
-) -> Result<Text, Memory>
-    requires few { length description.now.names ≤ MOST_NAMES }
-    requires well_formed { IsWellFormed (automaton description.now) }
-    ensures text { IfOk result (λ text. text ≡ canonical_text (automaton description.now) (option_copied name.entry)) }
-    ensures reads_back { ReadsBack (canonical_text (automaton description.now) (option_copied name.entry)) (automaton description.now) (option_copied name.entry) }
+pub fn write_text(alloc: Global, a: &Automaton, name: Option<&Text>) -> Result<Text, Memory>
+    ensures text { IfOk result (λ text. text ≡ canonical_text (automaton_of a.now) (option_copied name.entry)) }
+    ensures reads_back { ReadsBack (canonical_text (automaton_of a.now) (option_copied name.entry)) (automaton_of a.now) (option_copied name.entry) }
 {
-    reads_back(description, name);
+    reads_back(a, name);
     let mut out = Text::new(alloc);
-    push_header(&mut out, description, name)?;
+    push_header(&mut out, a, name)?;
     out.extend(b"--BODY--\n")?;
-    push_states(alloc, &mut out, description)?;
+    push_states(alloc, &mut out, a)?;
     out.extend(b"--END--\n")?;
     Ok(out)
 }
 
 /// The canonical text reads back. Nothing is computed: the numbers are bounded by their types.
-fn reads_back(description: &Description, _name: Option<&Text>)
-    requires few { length description.now.names ≤ MOST_NAMES }
-    requires well_formed { IsWellFormed (automaton description.now) }
-    ensures { ReadsBack (canonical_text (automaton description.now) (option_copied _name.entry)) (automaton description.now) (option_copied _name.entry) }
+fn reads_back(a: &Automaton, _name: Option<&Text>)
+    ensures { ReadsBack (canonical_text (automaton_of a.now) (option_copied _name.entry)) (automaton_of a.now) (option_copied _name.entry) }
 {
-    fits(description.states);
-    fits(description.sets);
+    a.whole();
+    fits(a.states());
+    fits(a.sets());
 }
 
 /// A number of 32 bits is below 2^32. Nothing is computed.
@@ -55,16 +49,16 @@ fn fits(_number: u32)
 {}
 
 /// Adds the lines before the body.
-fn push_header(out: &mut Text, description: &Description, name: Option<&Text>) -> Result<(), Memory>
-    requires { length description.now.names ≤ MOST_NAMES }
-    ensures { OnOk result (out.new ≡ out.old ++ header_lines (automaton description.now) (option_copied name.entry)) }
+fn push_header(out: &mut Text, a: &Automaton, name: Option<&Text>) -> Result<(), Memory>
+    ensures { OnOk result (out.new ≡ out.old ++ header_lines (automaton_of a.now) (option_copied name.entry)) }
 {
+    a.whole();
     out.extend(b"HOA: v1\n")?;
     push_name(out, name)?;
-    push_numbered(out, b"States: ", description.states)?;
-    push_starts(out, description.starts.as_slice())?;
-    push_names(out, description.names.as_slice())?;
-    push_acceptance(out, description.sets, &description.formula)?;
+    push_numbered(out, b"States: ", a.states())?;
+    push_starts(out, a.starts().as_slice())?;
+    push_names(out, a.names().as_slice())?;
+    push_acceptance(out, a.sets(), a.formula())?;
     out.extend(b"properties: trans-labels explicit-labels trans-acc\n")
 }
 
@@ -127,57 +121,39 @@ fn push_acceptance(out: &mut Text, sets: u32, formula: &Formula) -> Result<(), M
 }
 
 /// Adds the states with their edges.
-fn push_states(alloc: Global, out: &mut Text, description: &Description) -> Result<(), Memory>
-    requires few { length description.now.names ≤ MOST_NAMES }
-    requires well_formed { IsWellFormed (automaton description.now) }
-    ensures { OnOk result (out.new ≡ out.old ++ flat_map (state_lines (automaton description.now)) (range_with_len 0 description.now.states)) }
+fn push_states(alloc: Global, out: &mut Text, a: &Automaton) -> Result<(), Memory>
+    ensures { OnOk result (out.new ≡ out.old ++ flat_map (state_lines (automaton_of a.now)) (range_with_len 0 a.now.states)) }
 {
-    let mut room = Room::new(alloc, description.names.len())?;
-    let edges = description.edges.as_slice();
-    let mut place = 0;
-    'states: for state in 0..description.states {
+    'states: for state in 0..a.states() {
         push_numbered(out, b"State: ", state)?;
-        place = push_edges(out, &mut room, edges, place, state)?;
+        push_links(alloc, out, a, state)?;
     }
     Ok(())
 }
 
-/// Adds the edges from this place on that leave the state, and answers the place behind them.
-fn push_edges(
-    out: &mut Text,
-    room: &mut Room,
-    edges: &[Edge],
-    place: usize,
-    state: u32,
-) -> Result<usize, Memory>
-    requires few { length room.old.valuation.items ≤ MOST_NAMES }
-    requires lead { LeadFrom (length room.old.valuation.items) state edges.now place }
-    ensures room { OnOk result (length room.new.valuation.items ≡ length room.old.valuation.items) }
-    ensures edges { IfOk result (λ after. WritesEdges (length room.old.valuation.items) state edges.now place after out.old out.new) }
+/// Adds the edges that leave the state.
+fn push_links(alloc: Global, out: &mut Text, a: &Automaton, state: u32) -> Result<(), Memory>
+    requires { state < a.now.states }
+    ensures { OnOk result (out.new ≡ out.old ++ flat_map (edge_line (length a.now.names)) (filter (λ e. e.from == state) (automaton_of a.now).edges)) }
 {
-    let mut after = place;
-    'edges: while after < edges.len() {
-        let edge = &edges[after];
-        if edge.from != state {
-            return Ok(after);
-        }
-        push_edge(out, room, edge)?;
-        after += 1;
+    a.whole();
+    let links = a.links_of(state);
+    'links: for link in links {
+        push_link(alloc, out, a.guards(), link)?;
     }
-    Ok(after)
+    Ok(())
 }
 
 /// Adds the line of an edge.
-fn push_edge(out: &mut Text, room: &mut Room, edge: &Edge) -> Result<(), Memory>
-    requires few { length room.old.valuation.items ≤ MOST_NAMES }
-    requires below { AllBelow (length room.old.valuation.items) (tree_edge edge.now).label }
-    ensures room { OnOk result (length room.new.valuation.items ≡ length room.old.valuation.items) }
-    ensures line { OnOk result (out.new ≡ out.old ++ edge_line (length room.old.valuation.items) (tree_edge edge.now)) }
+fn push_link(alloc: Global, out: &mut Text, guards: &Guards, link: &Link) -> Result<(), Memory>
+    requires { Has guards.now link.now.guard }
+    ensures { OnOk result (out.new ≡ out.old ++ link_line guards.now link.now) }
 {
     out.push(b'[')?;
-    push_label(out, room, &edge.label)?;
+    let label = guards.cubes(alloc, link.guard)?;
+    out.extend(label.as_bytes())?;
     out.extend(b"] ")?;
-    push_number(out, edge.to)?;
-    push_marks(out, edge.marks.as_slice())?;
+    push_number(out, link.to)?;
+    push_marks(out, link.marks.as_slice())?;
     out.push(b'\n')
 }

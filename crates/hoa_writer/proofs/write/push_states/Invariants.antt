@@ -1,10 +1,9 @@
 -- The states so far are written.
-use Rattle.std.proofs.Common.{◌≡◌, length}
-use Rattle.hoa_writer.proofs.text.Lines.{StatesSoFar}
+use Rattle.std.proofs.Common.{◌≡◌, ◌++◌}
+use Rattle.std.specs.List.{flat_map, range_with_len}
+use Rattle.aut_core.specs.Core.{automaton_of}
+use Rattle.hoa_writer.specs.CanonicalText.{state_lines}
 use Rattle.hoa_writer.proofs.write.push_states.Given as goal
 
 abbrev pub invariant-states : goal.invariant-states
-invariant-states l = record {
-  room : length l.room.valuation.items ≡ length l.description.names;
-  states : StatesSoFar l.description l.place l.state l.initial.out l.out;
-}
+invariant-states l = l.out ≡ l.initial.out ++ flat_map (state_lines (automaton_of l.a)) (range_with_len 0 l.state)

@@ -1,9 +1,10 @@
-use Rattle.std.proofs.Common.{arith}
+use Rattle.std.proofs.Common.{◌<◌, ◌^◌, arith, subst}
 use Rattle.std.specs.Option.{option_copied}
-use Rattle.aut_base.specs.Automaton.{automaton}
+use Rattle.aut_core.specs.Core.{automaton_of}
 use Rattle.hoa_writer.proofs.round_trip.ReadBack.{text_reads_back}
 use Rattle.hoa_writer.proofs.write.reads_back.Goals as goal
 
 pub returns : goal.returns
 returns c =
-    text_reads_back (automaton c.args.description.now) (option_copied c.args._name) c.requires.well_formed c.fits.ensures c.fits-2.ensures (omega arith)
+    let few = c.whole.ensures.parts.few in
+    text_reads_back (automaton_of c.args.a.now) (option_copied c.args._name) c.whole.ensures.well_formed (subst (λ n. n < 2 ^ 32) c.states.ensures c.fits.ensures) (subst (λ n. n < 2 ^ 32) c.sets.ensures c.fits-2.ensures) (omega (arith, few))

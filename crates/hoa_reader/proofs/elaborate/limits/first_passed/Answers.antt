@@ -1,5 +1,6 @@
 use Rattle.std.proofs.Common.{◌≡◌, ◌∙◌, ℕ, false, nat_lt, length, map, List, refl, sym, ap, arith}
 use Rattle.std.proofs.lemmas.Bool.Decides.{nat_tests}
+use Rattle.aut_base.specs.declared.limit.TheConstants.{MOST_NAMES}
 use Rattle.hoa_reader.proofs.counting.EdgeCounts.{edge_count}
 use Rattle.hoa_reader.specs.Counts.{Edges, Aliases}
 use Rattle.hoa_parser.specs.Raw.{written, written_state}
@@ -12,7 +13,7 @@ use Rattle.hoa_reader.proofs.elaborate.limits.first_passed.Goals as goal
 pub returns-then-has_more_edges : goal.returns-then-has_more_edges
 returns-then-has_more_edges c =
     let w = written c.args.raw.now in
-    let names : nat_lt 8 (length (names_of w)) ≡ false = ap (λ (ns : List (List ℕ)). nat_lt 8 (length ns)) (sym c.requires.parts.names) ∙ grind (arith, nat_tests) in
+    let names : nat_lt MOST_NAMES (length (names_of w)) ≡ false = ap (λ (ns : List (List ℕ)). nat_lt MOST_NAMES (length ns)) (sym c.requires.parts.names) ∙ grind (arith, nat_tests) in
     let sets : nat_lt 512 (acceptance_of w).sets ≡ false = ap (nat_lt 512) (sym c.set_count.ensures) ∙ grind (arith, nat_tests) in
     let states : nat_lt 100000 (state_count w) ≡ false = ap (nat_lt 100000) (sym c.state_count.ensures) ∙ grind (arith, nat_tests) in
     let edges : c.has_more_edges.result ≡ nat_lt 1000000 (length (edges_of w)) =
@@ -22,7 +23,7 @@ returns-then-has_more_edges c =
 pub returns-then-grow_too_far : goal.returns-then-grow_too_far
 returns-then-grow_too_far c =
     let w = written c.args.raw.now in
-    let names : nat_lt 8 (length (names_of w)) ≡ false = ap (λ (ns : List (List ℕ)). nat_lt 8 (length ns)) (sym c.requires.parts.names) ∙ grind (arith, nat_tests) in
+    let names : nat_lt MOST_NAMES (length (names_of w)) ≡ false = ap (λ (ns : List (List ℕ)). nat_lt MOST_NAMES (length ns)) (sym c.requires.parts.names) ∙ grind (arith, nat_tests) in
     let sets : nat_lt 512 (acceptance_of w).sets ≡ false = ap (nat_lt 512) (sym c.set_count.ensures) ∙ grind (arith, nat_tests) in
     let states : nat_lt 100000 (state_count w) ≡ false = ap (nat_lt 100000) (sym c.state_count.ensures) ∙ grind (arith, nat_tests) in
     let edges : c.has_more_edges.result ≡ nat_lt 1000000 (length (edges_of w)) =
@@ -32,7 +33,7 @@ returns-then-grow_too_far c =
 pub returns : goal.returns
 returns c =
     let w = written c.args.raw.now in
-    let names : nat_lt 8 (length (names_of w)) ≡ false = ap (λ (ns : List (List ℕ)). nat_lt 8 (length ns)) (sym c.requires.parts.names) ∙ grind (arith, nat_tests) in
+    let names : nat_lt MOST_NAMES (length (names_of w)) ≡ false = ap (λ (ns : List (List ℕ)). nat_lt MOST_NAMES (length ns)) (sym c.requires.parts.names) ∙ grind (arith, nat_tests) in
     let sets : nat_lt 512 (acceptance_of w).sets ≡ false = ap (nat_lt 512) (sym c.set_count.ensures) ∙ grind (arith, nat_tests) in
     let states : nat_lt 100000 (state_count w) ≡ false = ap (nat_lt 100000) (sym c.state_count.ensures) ∙ grind (arith, nat_tests) in
     let edges : c.has_more_edges.result ≡ nat_lt 1000000 (length (edges_of w)) =

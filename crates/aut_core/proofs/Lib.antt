@@ -1,0 +1,10 @@
+pub mod Deterministic
+pub mod Following
+pub mod Growth
+pub mod JoinedNames
+pub mod Made
+pub mod OfDescription
+pub mod OtherNames
+pub mod Rows
+pub mod SurveyedStates
+pub mod Surveys

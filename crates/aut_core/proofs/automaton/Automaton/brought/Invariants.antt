@@ -1,0 +1,11 @@
+use Rattle.std.proofs.Common.{◌≡◌, map, take}
+use Rattle.aut_core.specs.Core.{edge_of}
+use Rattle.aut_core.specs.OtherNames.{label_over}
+use Rattle.aut_core.proofs.Following.{StandFor}
+use Rattle.aut_core.proofs.automaton.Automaton.brought.Given as goal
+
+abbrev pub invariant-links : goal.invariant-links
+invariant-links l = record {
+  names : l.guards.names ≡ l.fn.guards.names;
+  links : StandFor l.guards l.links (map (λ m. record (edge_of l.self.store m) { label = label_over l.self.names l.names (edge_of l.self.store m).label }) (take l.link-index l.self.links));
+}

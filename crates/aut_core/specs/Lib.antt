@@ -1,0 +1,6 @@
+pub mod Core
+pub mod Deterministic
+pub mod FormulaCode
+pub mod Kept
+pub mod OtherNames
+pub mod Surveys

@@ -1,0 +1,18 @@
+//! Automata whose labels are guards of a store of their own.
+//!
+//! A caller sees `Automaton`: how one is made, what it has, whether it is deterministic and complete, and the same
+//! automaton over more names. What contracts see of it is defined in `specs/Core`, the two properties in
+//! `specs/Deterministic`, and names put together in `specs/OtherNames`.
+#![tactic(auto)]
+
+mod automaton;
+mod copies;
+mod described;
+mod join;
+mod link;
+mod over;
+mod survey;
+
+pub use automaton::Automaton;
+pub use join::{NameFault, join_names};
+pub use link::{Link, Links};

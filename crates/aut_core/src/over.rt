@@ -1,0 +1,98 @@
+//! An automaton over more names than its own.
+
+ghost use Rattle.std.specs.Prelude.{◌≡◌, ◌≤◌, ◌<◌, ℕ, All, Contains, IfOk, length, map, slice_get, Some};
+ghost use Rattle.std.specs.List.{slice_index_or};
+ghost use Rattle.aut_base.specs.declared.limit.TheConstants.{MOST_NAMES};
+ghost use Rattle.aut_base.specs.Automaton.{TreeEdge};
+ghost use Rattle.aut_core.specs.Core.{automaton_of, edge_of};
+ghost use Rattle.aut_core.specs.OtherNames.{AcceptTheSame, label_over, over_names};
+ghost use Rattle.label_guards.specs.Guards.{AreNames};
+ghost use Rattle.label_guards.specs.Store.{Has};
+
+use crate::automaton::Automaton;
+use crate::copies::{copy_marks, copy_names, copy_numbers};
+use crate::link::{Link, Links};
+use aut_base::{Memory, Names, Numbers, Text};
+use label_guards::Guards;
+use std::alloc::Global;
+
+impl Automaton {
+    /// The same automaton over a list of names that has all of its own, in any order. It accepts the same words.
+    pub fn over(&self, alloc: Global, names: &Names) -> Result<Automaton, Memory>
+        requires has { All (Contains names.now) self.now.names }
+        requires few { length names.now ≤ MOST_NAMES }
+        ensures over { IfOk result (λ made. automaton_of made ≡ over_names names.now (automaton_of self.now)) }
+        ensures accepts { IfOk result (λ made. AcceptTheSame (automaton_of made) (automaton_of self.now)) }
+    {
+        self.whole();
+        let _distinct = names.as_slice();
+        let to = places_in(alloc, self.names(), names)?;
+        let mut guards = Guards::new(alloc, names.len() as u32)?;
+        let links = self.brought(alloc, &mut guards, names, &to)?;
+        let starts = copy_numbers(self.starts())?;
+        let formula = self.formula().copy(alloc)?;
+        Automaton::from_parts(
+            alloc,
+            copy_names(names)?,
+            guards,
+            self.states(),
+            starts,
+            links,
+            self.sets(),
+            formula,
+        )
+    }
+
+    /// The links with guards of another store, over the names there.
+    fn brought(
+        &self,
+        alloc: Global,
+        guards: &mut Guards,
+        names: &Names,
+        to: &Numbers,
+    ) -> Result<Links, Memory>
+        requires names { AreNames guards.old names.now }
+        requires count { length to.now ≡ length self.now.names }
+        requires within { All (λ place. place < length names.now) to.now }
+        requires places { (k : ℕ) → k < length self.now.names → slice_get names.now (slice_index_or to.now k 0) ≡ slice_get self.now.names k }
+        ensures names { guards.new.names ≡ guards.old.names }
+        ensures has { IfOk result (All (λ l. Has guards.new l.guard)) }
+        ensures edges { IfOk result (λ links. map (edge_of guards.new) links ≡ map (λ (e : TreeEdge). record e { label = label_over self.now.names names.now e.label }) (map (edge_of self.now.store) self.now.links)) }
+    {
+        self.whole();
+        let mut links = Links::new(alloc);
+        'links: for link in self.links() {
+            links.push(Link {
+                from: link.from,
+                guard: guards.bring(alloc, self.guards(), link.guard, to)?,
+                to: link.to,
+                marks: copy_marks(&link.marks)?,
+            })?;
+        }
+        Ok(links)
+    }
+}
+
+/// The place of each name in the other list.
+fn places_in(alloc: Global, names: &Names, other: &Names) -> Result<Numbers, Memory>
+    requires few { length other.now ≤ MOST_NAMES }
+    requires has { All (Contains other.now) names.now }
+    ensures count { IfOk result (λ to. length to ≡ length names.now) }
+    ensures within { IfOk result (All (λ place. place < length other.now)) }
+    ensures places { IfOk result (λ to. (k : ℕ) → k < length names.now → slice_get other.now (slice_index_or to k 0) ≡ slice_get names.now k) }
+{
+    let mut to = Numbers::new(alloc);
+    'names: for name in names.as_slice() {
+        to.push(place_in(other, name))?;
+    }
+    Ok(to)
+}
+
+/// The place of a name that is in the list.
+fn place_in(names: &Names, name: &Text) -> u32
+    requires few { length names.now ≤ MOST_NAMES }
+    requires has { Contains names.now name.now }
+    ensures { slice_get names.now result ≡ Some name.now }
+{
+    names.position(name).unwrap_or(0)
+}

@@ -1,0 +1,63 @@
+//! What the guards of each state's links tell together.
+
+ghost use Rattle.std.specs.Prelude.{◌≡◌, All, IfOk, map};
+ghost use Rattle.std.specs.List.Sorted.{IsNonDecreasing};
+ghost use Rattle.aut_core.specs.Core.{edge_of};
+ghost use Rattle.aut_core.specs.Surveys.{AreSurveyed, IsSurvey};
+ghost use Rattle.label_guards.specs.Guards.{AreNames};
+ghost use Rattle.label_guards.specs.Store.{Has, Keeps};
+
+use crate::link::{Link, links_from};
+use aut_base::{Memory, Names};
+use label_guards::Guards;
+use std::alloc::Global;
+
+/// Whether no letter meets two links, and whether each letter meets one, of one state or of several.
+#[derive(Clone, Copy, Debug)]
+pub(crate) struct Survey {
+    pub(crate) apart: bool,
+    pub(crate) filled: bool,
+}
+
+/// What is true at every state. The disjunctions go into a store that is let go.
+pub(crate) fn survey_states(
+    alloc: Global,
+    guards: &Guards,
+    names: &Names,
+    links: &[Link],
+    states: u32,
+) -> Result<Survey, Memory>
+    requires names { AreNames guards.now names.now }
+    requires has { All (λ l. Has guards.now l.guard) links.now }
+    requires in_order { IsNonDecreasing (map (λ l. l.from) links.now) }
+    ensures { IfOk result (AreSurveyed names.now (map (edge_of guards.now) links.now) states) }
+{
+    let mut store = guards.copy(alloc)?;
+    let mut apart = true;
+    let mut filled = true;
+    'states: for state in 0..states {
+        let found = survey_state(&mut store, names, links_from(links, state))?;
+        apart = apart && found.apart;
+        filled = filled && found.filled;
+    }
+    Ok(Survey { apart, filled })
+}
+
+/// What is true of the links of one state. Each is compared with the disjunction of those before it.
+fn survey_state(store: &mut Guards, names: &Names, links: &[Link]) -> Result<Survey, Memory>
+    requires names { AreNames store.old names.now }
+    requires has { All (λ l. Has store.old l.guard) links.now }
+    ensures keeps { Keeps store.old store.new }
+    ensures found { IfOk result (IsSurvey names.now (map (edge_of store.old) links.now)) }
+{
+    let mut met = store.never();
+    let mut apart = true;
+    'links: for link in links {
+        let both = store.and(met, link.guard)?;
+        let none = store.is_false(both);
+        apart = apart && none;
+        met = store.or(met, link.guard)?;
+    }
+    let filled = store.same(met, store.always());
+    Ok(Survey { apart, filled })
+}

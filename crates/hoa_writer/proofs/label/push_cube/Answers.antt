@@ -1,8 +1,0 @@
-use Rattle.std.proofs.Common.{arith, length}
-use Rattle.hoa_writer.proofs.text.Pieces.{cube_written, some_item}
-use Rattle.hoa_writer.proofs.label.push_cube.Goals as goal
-
-pub returns : goal.returns
-returns c =
-    let cube = c.args.cube.now in
-    cube_written cube _ c.others.other-index c.args.out.now c.push_literal.new.out c.others.out (some_item (length cube) c.is_empty.result c.if-is_empty.false c.is_empty.ensures) (omega arith) c.in_ok-push_literal.ensures c.others.invariant
