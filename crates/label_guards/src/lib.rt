@@ -14,8 +14,6 @@ mod law;
 mod nodes;
 mod pick;
 mod table;
-#[cfg(test)]
-mod tests;
 
 pub use guard::{Guard, GuardList};
 pub use guards::Guards;
