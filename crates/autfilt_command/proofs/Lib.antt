@@ -1,3 +1,4 @@
+pub mod BuiltPlans
 pub mod Alike
 pub mod Gains
 pub mod ReadsAs

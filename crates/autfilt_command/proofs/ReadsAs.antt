@@ -1,6 +1,7 @@
 -- What is printed of an automaton that was read reads as one that accepts the same lasso words.
 use Rattle.std.proofs.Common.{◌≤◌, arith}
 use Rattle.std.proofs.lemmas.Bool.{ltb-false}
+use Rattle.aut_base.specs.declared.limit.TheConstants.{MOST_NAMES, MOST_SETS, MOST_STATES}
 use Rattle.autfilt_command.specs.Run.{ReadsAs, printed}
 use Rattle.hoa_parser.specs.Naming.{name_of}
 use Rattle.hoa_parser.specs.Raw.{Written}
@@ -13,9 +14,9 @@ use Rattle.hoa_writer.specs.CanonicalWritten.{canonical_written}
 
 pub reads_as : (w : Written) → IsValid w → PassesNone w → ReadsAs (printed w) w
 reads_as w valid within =
-    let names : count_of Names w ≤ 8 = ltb-false 8 (count_of Names w) within.0 in
-    let sets : count_of Sets w ≤ 512 = ltb-false 512 (count_of Sets w) within.1.0 in
-    let states : count_of States w ≤ 100000 = ltb-false 100000 (count_of States w) within.1.1.0 in
+    let names : count_of Names w ≤ MOST_NAMES = ltb-false MOST_NAMES (count_of Names w) within.0 in
+    let sets : count_of Sets w ≤ MOST_SETS = ltb-false MOST_SETS (count_of Sets w) within.1.0 in
+    let states : count_of States w ≤ MOST_STATES = ltb-false MOST_STATES (count_of States w) within.1.1.0 in
     let back = text_reads_back (described w) (name_of w) (valid_is_well_formed w valid) (omega (arith, states)) (omega (arith, sets)) (omega (arith, names)) in
     record {
       tokens = back.tokens;

@@ -1,3 +1,4 @@
+pub mod Built
 pub mod Ends
 pub mod Laws
 pub mod Notes

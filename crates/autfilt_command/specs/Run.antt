@@ -1,4 +1,4 @@
--- The run of autfilt without words: the automata of standard input, each printed in its canonical text.
+-- The run of autfilt over standard input: its automata, each printed in its canonical text.
 use Rattle.std.specs.Prelude.{◌≡◌, ◌≢◌, ℕ, ◌+◌, ◌-◌, ◌≤◌, List, [], ◌∷◌, ◌++◌, length, take, flat_map, codes, Option, Some, None, ◌↔◌}
 use Rattle.std.specs.List.{AllByRecursion}
 use Rattle.std.specs.Option.{option_map}
@@ -7,6 +7,7 @@ use Rattle.aut_base.specs.Word.{NameSet}
 use Rattle.aut_base.specs.declared.limit.Limit.TheVariants as limit
 use Rattle.aut_base.specs.declared.limit.TheConstants.{MOST_BYTES}
 use Rattle.aut_io.specs.Outside.{Gains, GainsPrefix, Rose, Texts, text_of}
+use Rattle.autfilt_command.specs.Built.{AskFor}
 use Rattle.autfilt_command.specs.Ends.{ended_of}
 use Rattle.autfilt_command.specs.Notes.{line_of}
 use Rattle.autfilt_command.specs.declared.ended.End.{End}
@@ -132,7 +133,7 @@ Reads end.CannotOpen (Some text) automata left = Unit {0}
 Reads end.Memory (Some text) automata left = (rest : List ℕ) × AreRead text text automata rest
 Reads end (Some text) automata left = (now : List ℕ) × (left ≡ Some now) × ReadsTo end text automata now
 
--- A run without words that ended so.
+-- A run that ended so, where the words ask for each automaton of standard input.
 pub record Runs (end : End) (text left written written' : Option (List ℕ)) : Type 0 where
   -- the automata that were read, each valid and within the limits
   pub automata : List Written
@@ -149,7 +150,7 @@ Calm before after = Rose before after → ⊥
 pub record EndsBy (words : List (List ℕ)) (result : Ended) (text left written written' noted noted' : Option (List ℕ)) (calm : Type 0) : Type 0 where
   pub end : End
   pub shown : result ≡ ended_of end
-  pub runs : words ≡ [] → Runs end text left written written'
+  pub runs : AskFor words → Runs end text left written written'
   -- the line is written, or a front of it where a write failed
   pub line : calm → Gains noted noted' (line_of end)
   pub line_front : GainsPrefix noted noted' (line_of end)

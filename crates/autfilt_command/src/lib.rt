@@ -5,12 +5,11 @@
 //! `one_front` are laws, which no code runs. What the contracts say stands in `specs`: begin with `Run.antt`.
 #![tactic(auto)]
 
+mod built;
 mod ended;
 mod laws;
 mod notes;
 mod run;
-#[cfg(test)]
-mod tests;
 mod turn;
 
 pub use ended::{End, Ended};

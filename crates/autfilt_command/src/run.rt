@@ -1,18 +1,21 @@
 //! The top call.
 
-ghost use Rattle.std.specs.Prelude.{◌≡◌, ◌≢◌, ◌↔◌, []};
+ghost use Rattle.std.specs.Prelude.{◌≡◌, ◌≢◌, ◌⊎◌};
+ghost use Rattle.autfilt_command.specs.Built.{AreRefused, AskFor};
 ghost use Rattle.autfilt_command.specs.Ends.{ended_of};
 ghost use Rattle.autfilt_command.specs.Run.{Calm, EndsBecause, EndsBy, Runs, input_of, standard_input};
-ghost use Rattle.autfilt_command.specs.inner.Running.{RunsOver, end_of};
+ghost use Rattle.autfilt_command.specs.inner.Running.{Refuses, RunsOver, end_of};
 ghost use Rattle.autfilt_command.specs.inner.Turn.{Causes};
 ghost use Rattle.autfilt_command.specs.declared.ended.End.{End};
 ghost use Rattle.autfilt_command.specs.declared.ended.Ended.{Ended};
 
+use crate::built::read_words;
 use crate::ended::{End, Ended};
 use crate::notes::note;
 use crate::turn::print_next;
 use aut_base::{MOST_BYTES, OpenFail, Text, Words};
 use aut_io::{Inputs, Sink};
+use filter_plan::UsageFault;
 use hoa_lexer::Lexer;
 use std::alloc::Global;
 
@@ -63,8 +66,29 @@ fn print_input<I: Inputs, W: Sink>(alloc: Global, inputs: &mut I, out: &mut W) -
     }
 }
 
-/// Reads automata from standard input and prints the canonical text of each. `words` are those of the command line
-/// after the program's name: there may be none so far. One line about a fault goes to `notes`.
+/// Carries out what the words ask for.
+fn carry_out<I: Inputs, W: Sink>(
+    alloc: Global,
+    words: &Words,
+    inputs: &mut I,
+    out: &mut W,
+) -> End
+    requires { AskFor words.now → I.may_open standard_input }
+    ensures runs { AskFor words.now → Runs result (input_of (I.texts inputs.old)) (I.left inputs.new) (W.written out.old) (W.written out.new) }
+    ensures causes { EndsBecause (ended_of result) (I.open_faults inputs.old) (I.open_faults inputs.new)
+        (I.read_faults inputs.old) (I.read_faults inputs.new) (W.faults out.old) (W.faults out.new) }
+    ensures usage { result ≡ End.Usage → AreRefused words.now }
+    ensures untouched { AreRefused words.now → Refuses result (I.left inputs.old) (I.left inputs.new) (W.written out.old) (W.written out.new) }
+{
+    match read_words(alloc, words) {
+        Ok(()) => print_input(alloc, inputs, out),
+        Err(UsageFault::Usage) => End::Usage,
+        Err(UsageFault::Memory) => End::Memory,
+    }
+}
+
+/// Reads the words of the command line after the program's name and does what they ask for: so far, it reads automata
+/// from standard input and prints the canonical text of each. One line about a fault goes to `notes`.
 pub fn autfilt<I: Inputs, W: Sink, M: Sink>(
     alloc: Global,
     words: &Words,
@@ -72,7 +96,7 @@ pub fn autfilt<I: Inputs, W: Sink, M: Sink>(
     out: &mut W,
     notes: &mut M,
 ) -> Ended
-    requires { words.now ≡ [] → I.may_open standard_input }
+    requires { AskFor words.now → I.may_open standard_input }
 
     // What was read, what was written of it and what ended the run, with the line about that.
     ensures run { EndsBy words.now result (input_of (I.texts inputs.old)) (I.left inputs.new) (W.written out.old) (W.written out.new)
@@ -82,15 +106,13 @@ pub fn autfilt<I: Inputs, W: Sink, M: Sink>(
     ensures causes { EndsBecause result (I.open_faults inputs.old) (I.open_faults inputs.new)
         (I.read_faults inputs.old) (I.read_faults inputs.new) (W.faults out.old) (W.faults out.new) }
 
-    // Words are refused, and they alone; then nothing is opened, read or written.
-    ensures usage { (result ≡ Ended.Usage) ↔ (words.now ≢ []) }
-    ensures untouched { words.now ≢ [] → (I.left inputs.new ≡ I.left inputs.old) × (W.written out.new ≡ W.written out.old) }
+    // Words that ask for nothing that the program can do are refused, and they alone; then nothing is opened, read or
+    // written.
+    ensures usage { result ≡ Ended.Usage → AreRefused words.now }
+    ensures refused { AreRefused words.now → (result ≡ Ended.Usage) ⊎ (result ≡ Ended.Memory) }
+    ensures untouched { AreRefused words.now → (I.left inputs.new ≡ I.left inputs.old) × (W.written out.new ≡ W.written out.old) }
 {
-    let end = if words.is_empty() {
-        print_input(alloc, inputs, out)
-    } else {
-        End::Usage
-    };
+    let end = carry_out(alloc, words, inputs, out);
     note(notes, &end);
     Ended::from(end)
 }

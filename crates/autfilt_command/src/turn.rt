@@ -1,18 +1,23 @@
 //! One turn of a run.
 
-ghost use Rattle.std.specs.Prelude.{◌≡◌, ◌+◌, ◌<◌, length, false, None, IfOk, OnOk, IsTrue, IsErrOf};
+ghost use Rattle.std.specs.Prelude.{◌≡◌, ◌+◌, ◌<◌, ◌≤◌, length, false, None, IfOk, OnOk, IsTrue, IsErrOf};
+ghost use Rattle.std.specs.Option.{option_copied};
+ghost use Rattle.aut_base.specs.Automaton.{IsWellFormed, automaton};
 ghost use Rattle.aut_base.specs.declared.limit.Limit.{Limit};
+ghost use Rattle.aut_base.specs.declared.limit.TheConstants.{MOST_NAMES};
 ghost use Rattle.autfilt_command.specs.declared.ended.End.{End};
 ghost use Rattle.autfilt_command.specs.inner.Turn.{CountsFaults, PrintsOne, TurnCauses, Turns};
 ghost use Rattle.hoa_lexer.specs.Reading.{Between};
 ghost use Rattle.hoa_parser.specs.Raw.{written};
+ghost use Rattle.hoa_writer.specs.CanonicalText.{canonical_text};
 
 use crate::ended::End;
-use aut_base::Limit;
+use aut_base::{Description, Limit, Memory, Text};
+use aut_core::Automaton;
 use aut_io::{Inputs, Sink};
 use hoa_lexer::Lexer;
 use hoa_reader::{Raw, describe, read_raw};
-use hoa_writer::write_description;
+use hoa_writer::write_text;
 use std::alloc::Global;
 
 /// Reads the next automaton and prints it. False where only blanks were left.
@@ -61,7 +66,7 @@ fn print<W: Sink>(alloc: Global, raw: &Raw, out: &mut W) -> Result<(), End>
         Ok(description) => description,
         Err(refusal) => return Err(End::from(refusal)),
     };
-    let text = match write_description(alloc, &description, raw.name()) {
+    let text = match text_of(alloc, &description, raw.name()) {
         Ok(text) => text,
         Err(_) => return Err(End::Memory),
     };
@@ -69,4 +74,18 @@ fn print<W: Sink>(alloc: Global, raw: &Raw, out: &mut W) -> Result<(), End>
         Ok(()) => Ok(()),
         Err(_) => Err(End::WriteFault),
     }
+}
+
+/// The canonical text of the automaton that is described, and of its name if it has one.
+fn text_of(
+    alloc: Global,
+    description: &Description,
+    name: Option<&Text>,
+) -> Result<Text, Memory>
+    requires few { length description.now.names ≤ MOST_NAMES }
+    requires well_formed { IsWellFormed (automaton description.now) }
+    ensures { IfOk result (λ text. text ≡ canonical_text (automaton description.now) (option_copied name.entry)) }
+{
+    let automaton = Automaton::from_description(alloc, description)?;
+    write_text(alloc, &automaton, name)
 }

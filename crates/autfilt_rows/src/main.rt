@@ -10,13 +10,14 @@ use row::Row;
 use row_files::{Count, Fault, Rows, Stop, read_files};
 
 /// The files of rows, in the folder where the program runs.
-const FILES: [&str; 6] = [
+const FILES: [&str; 7] = [
     "examples.rows",
     "printed.rows",
     "ends.rows",
     "rules.rows",
     "limits.rows",
     "faults.rows",
+    "words.rows",
 ];
 
 /// The row that is being read, and how many there were before it.

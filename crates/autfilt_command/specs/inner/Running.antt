@@ -1,10 +1,10 @@
 -- How far a run over an open text has come.
-use Rattle.std.specs.Prelude.{◌≡◌, ℕ, ◌+◌, Bool, true, false, List, [], ◌∷◌, length, Option, None}
+use Rattle.std.specs.Prelude.{◌≡◌, ℕ, ◌+◌, ◌⊎◌, Bool, true, false, List, [], ◌∷◌, length, Option, None}
 use Rattle.aut_base.specs.declared.limit.TheConstants.{MOST_BYTES}
 use Rattle.aut_io.specs.Outside.{Gains, Texts}
 use Rattle.autfilt_command.specs.Run.{AllReadAs, AreRead, Prints, ReadsTo, all_printed}
 use Rattle.autfilt_command.specs.declared.ended.End.{End}
-use Rattle.autfilt_command.specs.declared.ended.End.TheVariants.{Output, NoneOutput}
+use Rattle.autfilt_command.specs.declared.ended.End.TheVariants.{Memory, NoneOutput, Output, Usage}
 use Rattle.hoa_lexer.specs.Reading.{Between}
 use Rattle.hoa_lexer.specs.declared.lexer.Lexer.{Lexer}
 use Rattle.hoa_parser.specs.Raw.{Written}
@@ -45,3 +45,9 @@ pub record RunsOver (end : End) (left left' written written' : Option (List ℕ)
   pub read_as : AllReadAs automata
   pub reads : Between left left' (λ text now. ReadsTo end text automata now)
   pub prints : Prints end automata written written'
+
+-- Nothing was read or written, and words were refused or memory was wanting.
+pub record Refuses (end : End) (left left' written written' : Option (List ℕ)) : Type 0 where
+  pub only : (end ≡ Usage) ⊎ (end ≡ Memory)
+  pub unread : left' ≡ left
+  pub unwritten : written' ≡ written

@@ -7,11 +7,11 @@ use Rattle.autfilt_command.proofs.turn.print.Goals as goal
 pub returns-in-Ok-write-clause-ends : goal.returns-in-Ok-write-clause-ends
 returns-in-Ok-write-clause-ends g c =
     let said = c.in-Ok.ensures in
-    let same = is_printed (automaton c.in-Ok.description) (option_copied c.name.result) (written c.args.raw.now) _ _ c.as_bytes.ensures c.in-Ok-write_description.ensures.text said.same c.name.ensures in
+    let same = is_printed (automaton c.in-Ok.description) (option_copied c.name.result) (written c.args.raw.now) _ _ c.as_bytes.ensures c.in-Ok-text_of.ensures said.same c.name.ensures in
     (said.valid, said.within, gains_as _ _ _ _ same c.in-Ok-write.ensures.ok)
 
 pub returns-clause-ends : goal.returns-clause-ends
 returns-clause-ends g c =
     let said = c.in-Ok.ensures in
-    let same = is_printed (automaton c.in-Ok.description) (option_copied c.name.result) (written c.args.raw.now) _ _ c.as_bytes.ensures c.in-Ok-write_description.ensures.text said.same c.name.ensures in
+    let same = is_printed (automaton c.in-Ok.description) (option_copied c.name.result) (written c.args.raw.now) _ _ c.as_bytes.ensures c.in-Ok-text_of.ensures said.same c.name.ensures in
     (said.valid, said.within, front_as _ _ _ _ same c.in-Err-write.ensures.err)

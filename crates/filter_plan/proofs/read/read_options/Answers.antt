@@ -1,0 +1,54 @@
+use Rattle.std.proofs.Common.{List}
+use Rattle.clap.specs.Words.{Row, found_of, rows_of}
+use Rattle.filter_plan.proofs.Readings.{passed_on}
+use Rattle.filter_plan.proofs.TableParts.{AreParts, parts_of_table, table_of_parts}
+use Rattle.filter_plan.specs.declared.plan.Plan.{Plan}
+use Rattle.filter_plan.specs.inner.Given.{IsGiven, operands_of, patterns_of, ranges_of}
+use Rattle.filter_plan.proofs.read.read_options.Goals as goal
+
+parts : (rows : List Row) (p : Plan) → IsGiven rows p → AreParts rows p
+parts rows p is = parts_of_table rows p is.options
+
+pub returns-in_err-form-clause-usage : goal.returns-in_err-form-clause-usage
+returns-in_err-form-clause-usage c passed p is = c.in_err-form.ensures.usage (passed_on _ _ c.from_residual.ensures.1 passed) p.form (parts _ p is).form
+
+pub returns-in_err-ranges-clause-usage : goal.returns-in_err-ranges-clause-usage
+returns-in_err-ranges-clause-usage c passed p is = c.in_err-ranges.ensures.usage (passed_on _ _ c.from_residual-in_err-ranges.ensures.1 passed) (ranges_of p) (parts _ p is).ranges
+
+pub returns-in_err-most-clause-usage : goal.returns-in_err-most-clause-usage
+returns-in_err-most-clause-usage c passed p is = c.in_err-most.ensures.usage (passed_on _ _ c.from_residual-in_err-most.ensures.1 passed) p.most (parts _ p is).most
+
+pub returns-in_err-made-clause-usage : goal.returns-in_err-made-clause-usage
+returns-in_err-made-clause-usage c passed p is = c.in_err-made.ensures.usage (passed_on _ _ c.from_residual-in_err-made.ensures.1 passed) p.made (parts _ p is).made
+
+pub returns-in_err-streams-clause-usage : goal.returns-in_err-streams-clause-usage
+returns-in_err-streams-clause-usage c passed p is = c.in_err-streams.ensures.usage (passed_on _ _ c.from_residual-in_err-streams.ensures.1 passed) (parts _ p is).first
+
+pub returns-in_err-output-clause-usage : goal.returns-in_err-output-clause-usage
+returns-in_err-output-clause-usage c passed p is = c.in_err-output.ensures.usage (passed_on _ _ c.from_residual-in_err-output.ensures.1 passed) p.output (parts _ p is).output
+
+pub returns-in_err-remove_ap-clause-usage : goal.returns-in_err-remove_ap-clause-usage
+returns-in_err-remove_ap-clause-usage c passed p is = c.in_err-remove_ap.ensures.usage (passed_on _ _ c.from_residual-in_err-remove_ap.ensures.1 passed) p.remove_ap (parts _ p is).remove_ap
+
+pub returns-in_err-patterns-clause-usage : goal.returns-in_err-patterns-clause-usage
+returns-in_err-patterns-clause-usage c passed p is = c.in_err-patterns.ensures.usage (passed_on _ _ c.from_residual-in_err-patterns.ensures.1 passed) (patterns_of p) (parts _ p is).patterns
+
+pub returns-in_err-operands-clause-usage : goal.returns-in_err-operands-clause-usage
+returns-in_err-operands-clause-usage c passed p is = c.in_err-operands.ensures.usage (passed_on _ _ c.from_residual-in_err-operands.ensures.1 passed) (operands_of p) (parts _ p is).operands
+
+pub returns-clause-given : goal.returns-clause-given
+returns-clause-given c = record {
+  options = table_of_parts (rows_of (found_of c.args.matches.now)) _ (record {
+    patterns = c.in_ok-patterns.ensures.reads;
+    operands = c.in_ok-operands.ensures.reads;
+    ranges = c.in_ok-ranges.ensures.reads;
+    remove_ap = c.in_ok-remove_ap.ensures.reads;
+    form = c.in_ok-form.ensures.form;
+    output = c.in_ok-output.ensures.output;
+    most = c.in_ok-most.ensures.reads;
+    made = c.in_ok-made.ensures.reads;
+    first = c.in_ok-streams.ensures.once;
+    switches = c.read_switches-switches.ensures;
+  });
+  streams = c.in_ok-streams.ensures.streams;
+}

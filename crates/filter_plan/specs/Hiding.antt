@@ -1,0 +1,17 @@
+-- Which proposition is hidden, and how.
+use Rattle.std.specs.Prelude.{List, ℕ, [], codes}
+use Rattle.word_syntax.specs.Tokens.{IsFront}
+use Rattle.word_syntax.specs.declared.token.Token.TheVariants.{Name}
+use Rattle.filter_plan.specs.declared.plan.Hidden.{Hidden}
+use Rattle.filter_plan.specs.declared.plan.Hide.{Hide}
+use Rattle.filter_plan.specs.declared.plan.Hide.TheVariants.{Any, Absent, Present}
+
+-- what stands behind the name
+abbrev pub suffix : Hide → List ℕ
+suffix Any = []
+suffix Absent = codes "=0"
+suffix Present = codes "=1"
+
+-- the text begins with the name, and what says how it is hidden follows
+abbrev pub IsHidden : List ℕ → Hidden → Type 0
+IsHidden text h = IsFront text (Name h.name) (suffix h.how)

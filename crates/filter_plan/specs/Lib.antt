@@ -1,0 +1,9 @@
+pub mod Examples
+pub mod Formats
+pub mod Hiding
+pub mod Laws
+pub mod Numbers
+pub mod Spans
+pub mod Table
+pub mod Words
+pub mod inner

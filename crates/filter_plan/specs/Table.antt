@@ -1,0 +1,141 @@
+-- The options: one row each, in the order in which filters, operations and output apply.
+use Rattle.std.specs.Prelude.{◌≡◌, ◌↔◌, ◌≤◌, ⊤, ℕ, Bool, false, IsTrue, List, [], ◌∷◌, length, Option, Some, None, codes}
+use Rattle.std.specs.Str.{bytes_eq}
+use Rattle.clap.specs.Words.{Row, all_of}
+use Rattle.std.specs.Option.{unwrap_or}
+use Rattle.word_syntax.specs.Writing.{Writes, word_pattern}
+use Rattle.word_syntax.specs.declared.pattern.Pattern.{Pattern}
+use Rattle.filter_plan.specs.Formats.{IsFormat}
+use Rattle.filter_plan.specs.Hiding.{IsHidden}
+use Rattle.filter_plan.specs.Numbers.{IsNumber, IsMadeCount}
+use Rattle.filter_plan.specs.Spans.{IsRange}
+use Rattle.filter_plan.specs.declared.format.Piece.{Piece}
+use Rattle.filter_plan.specs.declared.plan.Form.{Form}
+use Rattle.filter_plan.specs.declared.plan.Form.TheVariants.{Deterministic, Parity, Buchi, RemoveFin, Dnf, Monitor}
+use Rattle.filter_plan.specs.declared.plan.Hidden.{Hidden}
+use Rattle.filter_plan.specs.declared.plan.Output.{Output}
+use Rattle.filter_plan.specs.declared.plan.Output.TheVariants.{Stats, Refute}
+use Rattle.filter_plan.specs.declared.plan.Plan.{Plan}
+use Rattle.filter_plan.specs.declared.range.Range.{Range}
+
+-- Whether an option takes a value, what that is read as, and where in the plan it stands.
+pub data Place : Type 0 where
+  -- no value: whether the option stands
+  Flag : (Plan → Bool) → Place
+  -- no value: the plan has this form where the option stands
+  FormFlag : Form → Place
+  Number : (Plan → Option ℕ) → Place
+  MadeCount : (Plan → Option ℕ) → Place
+  Span : (Plan → Option Range) → Place
+  File : (Plan → Option (List ℕ)) → Place
+  Word : (Plan → Option Pattern) → Place
+  Hiding : (Plan → Option Hidden) → Place
+  Format : (Plan → Option (List Piece)) → Place
+  -- the first of the streams
+  Stream : Place
+
+pub record OptionRow : Type 0 where
+  pub long : List ℕ
+  pub short : Option ℕ
+  pub place : Place
+
+abbrev pub option : List ℕ → Place → OptionRow
+option long place = record { long = long; short = None; place = place }
+
+-- with a letter beside the name
+abbrev pub lettered : List ℕ → ℕ → Place → OptionRow
+lettered long letter place = record { long = long; short = Some letter; place = place }
+
+-- the format of the figures, where these are printed
+abbrev pub figures : Output → Option (List Piece)
+figures (Stats pieces) = Some pieces
+figures _ = None
+
+-- the file of the automaton to refute against, where refutations are printed
+abbrev pub refuted : Output → Option (List ℕ)
+refuted (Refute file) = Some file
+refuted _ = None
+
+unfoldable pub table : List OptionRow
+table =
+    -- filters
+    option (codes "accept-word") (Word (λ p. p.accept_word))
+    ∷ option (codes "reject-word") (Word (λ p. p.reject_word))
+    ∷ option (codes "is-empty") (Flag (λ p. p.is_empty))
+    ∷ option (codes "included-in") (File (λ p. p.included_in))
+    ∷ option (codes "equivalent-to") (File (λ p. p.equivalent_to))
+    ∷ option (codes "intersect") (File (λ p. p.intersect))
+    ∷ option (codes "is-deterministic") (Flag (λ p. p.is_deterministic))
+    ∷ option (codes "is-complete") (Flag (λ p. p.is_complete))
+    ∷ option (codes "is-unambiguous") (Flag (λ p. p.is_unambiguous))
+    ∷ option (codes "states") (Span (λ p. p.states))
+    ∷ option (codes "edges") (Span (λ p. p.edges))
+    ∷ option (codes "acc-sets") (Span (λ p. p.acc_sets))
+    ∷ option (codes "ap") (Span (λ p. p.ap))
+    -- operations
+    ∷ option (codes "product") (File (λ p. p.product))
+    ∷ option (codes "product-or") (File (λ p. p.product_or))
+    ∷ option (codes "sum") (File (λ p. p.sum))
+    ∷ option (codes "remove-ap") (Hiding (λ p. p.remove_ap))
+    ∷ option (codes "remove-unreachable-states") (Flag (λ p. p.trim))
+    ∷ option (codes "complement") (Flag (λ p. p.complement))
+    -- forms
+    ∷ lettered (codes "deterministic") 68 (FormFlag Deterministic)
+    ∷ option (codes "parity") (FormFlag Parity)
+    ∷ option (codes "buchi") (FormFlag Buchi)
+    ∷ option (codes "remove-fin") (FormFlag RemoveFin)
+    ∷ option (codes "dnf-acceptance") (FormFlag Dnf)
+    ∷ lettered (codes "monitor") 77 (FormFlag Monitor)
+    ∷ lettered (codes "complete") 67 (Flag (λ p. p.complete))
+    -- output
+    ∷ option (codes "stats") (Format (λ p. figures p.output))
+    ∷ option (codes "refute") (File (λ p. refuted p.output))
+    ∷ lettered (codes "invert-match") 118 (Flag (λ p. p.invert))
+    ∷ lettered (codes "count") 99 (Flag (λ p. p.count))
+    ∷ lettered (codes "quiet") 113 (Flag (λ p. p.quiet))
+    ∷ lettered (codes "max-count") 110 (Number (λ p. p.most))
+    -- streams
+    ∷ lettered (codes "file") 70 Stream
+    ∷ option (codes "made") (MadeCount (λ p. p.made))
+    ∷ []
+
+-- the values that an option or operand was given
+abbrev pub values_of : List ℕ → List Row → List (List ℕ)
+values_of id rows = unwrap_or (all_of id rows) []
+
+-- the value of a flag that stands is `true`, by `clap`
+abbrev pub is_on : List (List ℕ) → Bool
+is_on [] = false
+is_on (value ∷ values) = bytes_eq value (codes "true")
+
+-- The option was given once and its value is read as this, or it wasn't given. One that was given twice reads as nothing.
+abbrev pub Reads : {X : Type 0} → (List ℕ → X → Type 0) → List (List ℕ) → Option X → Type 0
+Reads IsRead [] None = ⊤
+Reads IsRead (value ∷ []) (Some x) = IsRead value x
+Reads IsRead _ _ = ⊥
+
+-- a file stands in the plan as it is named
+abbrev pub IsFile : List ℕ → List ℕ → Type 0
+IsFile value file = file ≡ value
+
+-- a word stands in the plan as the pattern that it writes
+abbrev pub IsPattern : List ℕ → Pattern → Type 0
+IsPattern value pattern = Writes value (word_pattern pattern)
+
+-- The plan has in this place what the values of the option give. Since a plan has one form, two forms give none.
+abbrev pub Gives : Place → List (List ℕ) → Plan → Type 0
+Gives (Flag at) values p = at p ≡ is_on values
+Gives (FormFlag form) values p = IsTrue (is_on values) ↔ (p.form ≡ form)
+Gives (Number at) values p = Reads IsNumber values (at p)
+Gives (MadeCount at) values p = Reads IsMadeCount values (at p)
+Gives (Span at) values p = Reads IsRange values (at p)
+Gives (File at) values p = Reads IsFile values (at p)
+Gives (Word at) values p = Reads IsPattern values (at p)
+Gives (Hiding at) values p = Reads IsHidden values (at p)
+Gives (Format at) values p = Reads IsFormat values (at p)
+Gives Stream values p = length values ≤ 1
+
+-- each option of the list, where `rows` has what `clap` found
+abbrev pub EachGives : List OptionRow → List Row → Plan → Type 0
+EachGives [] rows p = ⊤
+EachGives (o ∷ os) rows p = Gives o.place (values_of o.long rows) p × EachGives os rows p

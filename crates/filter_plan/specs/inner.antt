@@ -1,0 +1,8 @@
+-- Definitions that only inner functions speak in.
+pub mod Entries
+pub mod Bounds
+pub mod Pieces
+pub mod Groups
+pub mod Forms
+pub mod Outputs
+pub mod Given

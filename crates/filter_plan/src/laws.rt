@@ -1,0 +1,18 @@
+//! Laws of the definition of a plan.
+
+ghost use Rattle.filter_plan.specs.Examples.{WordExamples};
+ghost use Rattle.filter_plan.specs.Laws.{OnePlan};
+
+use word_syntax::one_reading;
+
+/// The words have one plan at most.
+pub fn one_plan()
+    ensures { OnePlan }
+{
+    one_reading();
+}
+
+/// What `clap`'s definition makes of some words.
+pub fn word_examples()
+    ensures { WordExamples }
+{}

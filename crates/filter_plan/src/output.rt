@@ -1,0 +1,27 @@
+//! What is printed, among the words.
+
+ghost use Rattle.std.specs.Prelude.{◌≡◌, IfOk, IsErrOf};
+ghost use Rattle.clap.specs.Words.{found_of, rows_of};
+ghost use Rattle.filter_plan.specs.inner.Outputs.{IsOutput};
+ghost use Rattle.filter_plan.specs.declared.plan.Output.{Output};
+
+use crate::file::file_of;
+use crate::format::format_of;
+use crate::{Output, UsageFault};
+use clap::ArgMatches;
+use std::alloc::Global;
+
+/// What is printed of an automaton, or `Usage` exactly where the options for it can't be read, or stand both.
+pub(crate) fn output_of(alloc: Global, matches: &ArgMatches) -> Result<Output, UsageFault>
+    ensures output { IfOk result (IsOutput (rows_of (found_of matches.now))) }
+    ensures usage { IsErrOf result UsageFault.Usage → (output : Output) → IsOutput (rows_of (found_of matches.now)) output → ⊥ }
+{
+    let figures = format_of(alloc, matches, "stats")?;
+    let refuted = file_of(alloc, matches, "refute")?;
+    match (figures, refuted) {
+        (None, None) => Ok(Output::Hoa),
+        (Some(format), None) => Ok(Output::Stats(format)),
+        (None, Some(file)) => Ok(Output::Refute(file)),
+        (Some(_), Some(_)) => Err(UsageFault::Usage),
+    }
+}

@@ -1,0 +1,112 @@
+//! Ranges of numbers.
+
+ghost use Rattle.std.specs.Prelude.{◌≡◌, ◌++◌, ℕ, List, IsTrue, ◌↔◌, IfOk, IsErrOf, Option, MatchOption, codes};
+ghost use Rattle.std.specs.Str.Parse.{AllDigits};
+ghost use Rattle.clap.specs.Words.{found_of, rows_of};
+ghost use Rattle.filter_plan.specs.Numbers.{IsNumber};
+ghost use Rattle.filter_plan.specs.Spans.{IsIn, IsRange};
+ghost use Rattle.filter_plan.specs.Table.{Reads, values_of};
+ghost use Rattle.filter_plan.specs.inner.Bounds.{IsBounds, IsHigh, IsLow};
+ghost use Rattle.filter_plan.specs.declared.range.Range.{Range};
+
+use crate::UsageFault;
+use crate::number::number;
+use crate::values::value;
+use clap::ArgMatches;
+
+/// The numbers from `low` on, up to `high` where that is there. Both are in it.
+#[derive(Clone, Copy, Debug, PartialEq, Eq)]
+pub struct Range {
+    pub low: u32,
+    pub high: Option<u32>,
+}
+
+impl Range {
+    /// Whether the number is in the range.
+    pub fn has(&self, n: u64) -> bool
+        ensures { IsTrue result ↔ IsIn self.now n }
+    {
+        let is_below = match self.high {
+            Some(high) => n <= high as u64,
+            None => true,
+        };
+        self.low as u64 <= n && is_below
+    }
+}
+
+/// The range that the text writes, or `None` exactly where it writes none.
+fn read_range(text: &str) -> Option<Range>
+    ensures { MatchOption result ((r : Range) → IsRange text.now r → ⊥) (IsRange text.now) }
+{
+    match cut(text) {
+        Some((before, after)) => bounds(before, after),
+        None => single(text),
+    }
+}
+
+/// The range of one number.
+fn single(text: &str) -> Option<Range>
+    ensures { MatchOption result ((n : ℕ) → IsNumber text.now n → ⊥) (λ r. IsNumber text.now r.low × (r.high ≡ Some r.low)) }
+{
+    let low = number(text)?;
+    Some(Range {
+        low,
+        high: Some(low),
+    })
+}
+
+/// The range between two ends, of which one may be empty.
+fn bounds(before: &str, after: &str) -> Option<Range>
+    ensures { MatchOption result ((r : Range) → IsBounds before.now after.now r → ⊥) (IsBounds before.now after.now) }
+{
+    if before.is_empty() && after.is_empty() {
+        return None;
+    }
+    let low = low_end(before)?;
+    let high = high_end(after)?;
+    Some(Range { low, high })
+}
+
+/// The lower end, which is 0 where no text stands.
+fn low_end(text: &str) -> Option<u32>
+    ensures { MatchOption result ((n : ℕ) → IsLow text.now n → ⊥) (IsLow text.now) }
+{
+    if text.is_empty() {
+        return Some(0);
+    }
+    number(text)
+}
+
+/// The upper end, if text stands.
+fn high_end(text: &str) -> Option<Option<u32>>
+    ensures { MatchOption result ((n : Option ℕ) → IsHigh text.now n → ⊥) (IsHigh text.now) }
+{
+    if text.is_empty() {
+        return Some(None);
+    }
+    Some(Some(number(text)?))
+}
+
+/// What stands before the first two dots and what behind them, where no other dot stands before.
+fn cut(text: &str) -> Option<(&str, &str)>
+    ensures found { MatchOption result (Unit {0}) (λ x. text.now ≡ x.0.now ++ (codes ".." ++ x.1.now)) }
+    ensures only { (a b : List ℕ) → AllDigits 10 a → text.now ≡ a ++ (codes ".." ++ b) → MatchOption result ⊥ (λ x. (x.0.now ≡ a) × (x.1.now ≡ b)) }
+{
+    let (before, rest) = text.split_once('.')?;
+    let after = rest.strip_prefix('.')?;
+    Some((before, after))
+}
+
+/// The range that the option has as its value.
+pub(crate) fn range_of(matches: &ArgMatches, id: &str) -> Result<Option<Range>, UsageFault>
+    ensures reads { IfOk result (λ r. Reads IsRange (values_of id.now (rows_of (found_of matches.now))) r) }
+    ensures usage { IsErrOf result UsageFault.Usage → (r : Option Range) → Reads IsRange (values_of id.now (rows_of (found_of matches.now))) r → ⊥ }
+{
+    match value(matches, id)? {
+        Some(text) => match read_range(text) {
+            Some(range) => Ok(Some(range)),
+            None => Err(UsageFault::Usage),
+        },
+        None => Ok(None),
+    }
+}

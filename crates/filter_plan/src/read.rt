@@ -1,0 +1,81 @@
+//! From the words to the plan.
+
+ghost use Rattle.std.specs.Prelude.{◌≡◌, IfOk, IsErrOf};
+ghost use Rattle.clap.specs.Words.{found_of, rows_of};
+ghost use Rattle.filter_plan.specs.Words.{IsPlan};
+ghost use Rattle.filter_plan.specs.inner.Given.{IsGiven};
+ghost use Rattle.filter_plan.specs.declared.plan.Plan.{Plan};
+
+use crate::form::form_of;
+use crate::group::{read_operands, read_patterns, read_ranges, read_switches};
+use crate::hidden::hidden_of;
+use crate::matching::{decoded, parsed};
+use crate::number::{made_count_of, number_of};
+use crate::output::output_of;
+use crate::rules::keeps_rules;
+use crate::streams::read_streams;
+use crate::{Plan, UsageFault};
+use aut_base::Words;
+use clap::ArgMatches;
+use std::alloc::Global;
+
+/// The plan of the words after the program's name, or `Usage` exactly where they are none.
+pub fn read_plan(alloc: Global, words: &Words) -> Result<Plan, UsageFault>
+    ensures plan { IfOk result (IsPlan words.now) }
+    ensures usage { IsErrOf result UsageFault.Usage → (plan : Plan) → IsPlan words.now plan → ⊥ }
+{
+    let texts = decoded(alloc, words.as_slice())?;
+    let matches = parsed(alloc, texts.as_slice())?;
+    let plan = read_options(alloc, &matches)?;
+    if !keeps_rules(&plan) {
+        return Err(UsageFault::Usage);
+    }
+    Ok(plan)
+}
+
+/// The plan that the options and streams give, before the rules between options.
+fn read_options(alloc: Global, matches: &ArgMatches) -> Result<Plan, UsageFault>
+    ensures given { IfOk result (IsGiven (rows_of (found_of matches.now))) }
+    ensures usage { IsErrOf result UsageFault.Usage → (plan : Plan) → IsGiven (rows_of (found_of matches.now)) plan → ⊥ }
+{
+    let form = form_of(matches)?;
+    let ranges = read_ranges(matches)?;
+    let most = number_of(matches, "max-count")?;
+    let made = made_count_of(matches, "made")?;
+    let streams = read_streams(alloc, matches, made)?;
+    let output = output_of(alloc, matches)?;
+    let remove_ap = hidden_of(alloc, matches, "remove-ap")?;
+    let patterns = read_patterns(alloc, matches)?;
+    let operands = read_operands(alloc, matches)?;
+    let switches = read_switches(matches);
+    Ok(Plan {
+        invert: switches.invert,
+        count: switches.count,
+        quiet: switches.quiet,
+        most,
+        accept_word: patterns.accept_word,
+        reject_word: patterns.reject_word,
+        is_empty: switches.is_empty,
+        included_in: operands.included_in,
+        equivalent_to: operands.equivalent_to,
+        intersect: operands.intersect,
+        is_deterministic: switches.is_deterministic,
+        is_complete: switches.is_complete,
+        is_unambiguous: switches.is_unambiguous,
+        states: ranges.states,
+        edges: ranges.edges,
+        acc_sets: ranges.acc_sets,
+        ap: ranges.ap,
+        product: operands.product,
+        product_or: operands.product_or,
+        sum: operands.sum,
+        remove_ap,
+        trim: switches.trim,
+        complement: switches.complement,
+        form,
+        complete: switches.complete,
+        output,
+        streams,
+        made,
+    })
+}

@@ -1,0 +1,5 @@
+use Rattle.word_syntax.proofs.Readings.{one_reading}
+use Rattle.word_syntax.proofs.law.one_reading.Goals as goal
+
+pub returns : goal.returns
+returns c = one_reading

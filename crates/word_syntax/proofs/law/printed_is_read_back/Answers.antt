@@ -1,0 +1,5 @@
+use Rattle.word_syntax.proofs.PrintedWords.{printed_is_read_back}
+use Rattle.word_syntax.proofs.law.printed_is_read_back.Goals as goal
+
+pub returns : goal.returns
+returns c = printed_is_read_back

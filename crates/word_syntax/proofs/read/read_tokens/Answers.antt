@@ -1,0 +1,11 @@
+use Rattle.word_syntax.proofs.Midways.{midway_more, stopped_at_bytes, stopped_at_token}
+use Rattle.word_syntax.proofs.read.read_tokens.Goals as goal
+
+pub returns-in_default : goal.returns-in_default
+returns-in_default c = stopped_at_token c.args.bytes.now c.tokens.at c.in-Token.start c.in-Token.end c.tokens.reader c.in-Token.token c.tokens.invariant (rw c.in-Token.is at c.in_ok-token.ensures) (rw c.in_default.is at c.in_ok-next-in-Token.ensures)
+
+pub tokens-preserved : goal.tokens-preserved
+tokens-preserved c = midway_more c.args.bytes.now c.tokens.at c.in-Token.start c.in-Token.end c.tokens.reader c.in-Some.next c.in-Token.token c.tokens.invariant (rw c.in-Token.is at c.in_ok-token.ensures) (rw c.in-Some.is at c.in_ok-next-in-Token.ensures)
+
+pub returns-then-start-bytes : goal.returns-then-start-bytes
+returns-then-start-bytes c = stopped_at_bytes c.args.bytes.now c.tokens.at c.in-Nothing.start c.tokens.reader c.tokens.invariant (rw c.in-Nothing.is at c.in_ok-token.ensures) c.if-start-bytes.true

@@ -1,0 +1,91 @@
+-- How a pattern is written as tokens:
+--
+--     word        = (letter ";")* "cycle" "{" (letter ";")* letter "}"
+--     letter      = (conjunction "|")* conjunction
+--     conjunction = (operand "&")* operand
+--     operand     = "1" | "0" | NAME | "!" operand | "(" letter ")"
+--
+-- A formula's propositions go by the place of their names in the list of names.
+use Rattle.std.specs.Prelude.{◌≡◌, ℕ, zero, suc, List, [], ◌∷◌, ◌++◌, Some, Bool, if◌then◌else◌, filter, not, slice_get}
+use Rattle.aut_base.specs.CanonicalLabel.{all_of, one_of}
+use Rattle.aut_base.specs.Label as label
+use Rattle.aut_base.specs.Label.{LabelTree}
+use Rattle.aut_base.specs.Text.{same_text}
+use Rattle.word_syntax.specs.declared.token.Token.{Token}
+use Rattle.word_syntax.specs.declared.token.Token.TheVariants as token
+
+-- A pattern as a value: the letters of a lasso word, each as a formula over the names.
+pub record WordPattern : Type 0 where
+  pub names : List (List ℕ)
+  pub stem : List LabelTree
+  pub cycle : List LabelTree
+
+-- The rules for a letter, over a list of names, where no more than `room` of `(` and `!` may be open at once. A chain
+-- of `&` or `|` is one conjunction or disjunction of its parts in order, and a single part stands for itself.
+mutual
+  -- operand = "1" | "0" | NAME | "!" operand | "(" letter ")"
+  pub data IsOperand : List (List ℕ) → ℕ → List Token → LabelTree → Type 0 where
+    always : {names : List (List ℕ)} {room : ℕ} → IsOperand names room (token.True ∷ []) label.True
+    never : {names : List (List ℕ)} {room : ℕ} → IsOperand names room (token.False ∷ []) label.False
+    proposition : {names : List (List ℕ)} {room : ℕ} (name : List ℕ) (place : ℕ) → slice_get names place ≡ Some name → IsOperand names room (token.Name name ∷ []) (label.Prop place)
+    negated : {names : List (List ℕ)} {room : ℕ} {w : List Token} {t : LabelTree} → IsOperand names room w t → IsOperand names (suc room) (token.Not ∷ w) (label.Not t)
+    group : {names : List (List ℕ)} {room : ℕ} {w : List Token} {t : LabelTree} → IsLetter names room w t → IsOperand names (suc room) (token.LeftParen ∷ (w ++ token.RightParen ∷ [])) t
+
+  -- (operand "&")*
+  pub data AreOperands : List (List ℕ) → ℕ → List Token → List LabelTree → Type 0 where
+    no_operand : {names : List (List ℕ)} {room : ℕ} → AreOperands names room [] []
+    operand : {names : List (List ℕ)} {room : ℕ} {v w u : List Token} {ts us : List LabelTree} {t : LabelTree} → AreOperands names room v ts → IsOperand names room w t → u ≡ v ++ (w ++ token.And ∷ []) → us ≡ ts ++ t ∷ [] → AreOperands names room u us
+
+  -- conjunction = (operand "&")* operand
+  pub data IsConjunction : List (List ℕ) → ℕ → List Token → LabelTree → Type 0 where
+    joined : {names : List (List ℕ)} {room : ℕ} {v w u : List Token} {ts : List LabelTree} {t c : LabelTree} → AreOperands names room v ts → IsOperand names room w t → u ≡ v ++ w → c ≡ all_of (ts ++ t ∷ []) → IsConjunction names room u c
+
+  -- (conjunction "|")*
+  pub data AreConjunctions : List (List ℕ) → ℕ → List Token → List LabelTree → Type 0 where
+    no_conjunction : {names : List (List ℕ)} {room : ℕ} → AreConjunctions names room [] []
+    alternative : {names : List (List ℕ)} {room : ℕ} {v w u : List Token} {ts us : List LabelTree} {t : LabelTree} → AreConjunctions names room v ts → IsConjunction names room w t → u ≡ v ++ (w ++ token.Or ∷ []) → us ≡ ts ++ t ∷ [] → AreConjunctions names room u us
+
+  -- letter = (conjunction "|")* conjunction
+  pub data IsLetter : List (List ℕ) → ℕ → List Token → LabelTree → Type 0 where
+    either : {names : List (List ℕ)} {room : ℕ} {v w u : List Token} {ts : List LabelTree} {t l : LabelTree} → AreConjunctions names room v ts → IsConjunction names room w t → u ≡ v ++ w → l ≡ one_of (ts ++ t ∷ []) → IsLetter names room u l
+
+-- (letter ";")*
+pub data AreLetters (names : List (List ℕ)) (room : ℕ) : List Token → List LabelTree → Type 0 where
+  no_letter : AreLetters names room [] []
+  letter : {v w u : List Token} {ts us : List LabelTree} {t : LabelTree} → AreLetters names room v ts → IsLetter names room w t → u ≡ v ++ (w ++ token.Semicolon ∷ []) → us ≡ ts ++ t ∷ [] → AreLetters names room u us
+
+-- the names among the tokens, in order
+abbrev pub names_of : List Token → List (List ℕ)
+names_of [] = []
+names_of (token.Name name ∷ ts) = name ∷ names_of ts
+names_of (_ ∷ ts) = names_of ts
+
+-- each name once, where it first stands
+abbrev pub distinct : List (List ℕ) → List (List ℕ)
+distinct [] = []
+distinct (name ∷ names) = name ∷ filter (λ other. not (same_text name other)) (distinct names)
+
+-- the most `(` and `!` of a letter that may be open at once
+abbrev pub most_open : ℕ
+most_open = 512
+
+-- word = (letter ";")* "cycle" "{" (letter ";")* letter "}"
+-- The pattern's names are those that the tokens have, in the order in which they first appear.
+pub record IsWord (tokens : List Token) (p : WordPattern) : Type 0 where
+  pub stem_tokens : List Token
+  pub cycle_tokens : List Token
+  pub last_tokens : List Token
+  pub first : List LabelTree
+  pub last : LabelTree
+  pub names : p.names ≡ distinct (names_of tokens)
+  pub stem : AreLetters p.names most_open stem_tokens p.stem
+  pub letters : AreLetters p.names most_open cycle_tokens first
+  pub last_letter : IsLetter p.names most_open last_tokens last
+  pub cycle : p.cycle ≡ first ++ last ∷ []
+  pub spelled : tokens ≡ stem_tokens ++ (token.Cycle ∷ token.LeftBrace ∷ (cycle_tokens ++ (last_tokens ++ token.RightBrace ∷ [])))
+
+-- a word can begin with these tokens
+pub record Begins (tokens : List Token) : Type 0 where
+  pub more : List Token
+  pub pattern : WordPattern
+  pub word : IsWord (tokens ++ more) pattern

@@ -1,0 +1,9 @@
+pub mod Below
+pub mod Grammar
+pub mod Matching
+pub mod Printing
+pub mod ReadBack
+pub mod Tokens
+pub mod Words
+pub mod Writing
+pub mod inner

@@ -1,0 +1,40 @@
+-- What a printed word says when it is read back.
+use Rattle.std.specs.Prelude.{◌≡◌, ◌≢◌, ℕ, ◌<◌, ◌^◌, ◌↔◌, AllPairs, Contains, List, [], ◌∷◌, ◌++◌, length}
+use Rattle.std.specs.FinSet.{contains}
+use Rattle.aut_base.specs.Word.{NameSet, SpellsSame, copies}
+use Rattle.word_syntax.specs.Grammar.{WordPattern}
+use Rattle.word_syntax.specs.Matching.{Matches}
+use Rattle.word_syntax.specs.Printing.{word_text}
+use Rattle.word_syntax.specs.Writing.{Writes}
+
+-- both letters have the same of these names
+abbrev pub AgreesOn : List (List ℕ) → NameSet → NameSet → Type 0
+AgreesOn names x y = (name : List ℕ) → Contains names name → contains x name ≡ contains y name
+
+-- letter by letter
+abbrev pub AllAgree : List (List ℕ) → List NameSet → List NameSet → Type 0
+AllAgree names [] [] = Unit {0}
+AllAgree names [] (y ∷ ys) = ⊥
+AllAgree names (x ∷ xs) [] = ⊥
+AllAgree names (x ∷ xs) (y ∷ ys) = AgreesOn names x y × AllAgree names xs ys
+
+-- The lasso word x, y agrees on these names with u, v, where the cycle v was unrolled: some turns of it stand in the stem,
+-- and it is gone round some times. That is a lasso of the same infinite word.
+pub record AgreesUnrolled (names : List (List ℕ)) (u v x y : List NameSet) : Type 0 where
+  pub turns : ℕ
+  pub rounds : ℕ
+  pub some : 0 < rounds
+  pub same : SpellsSame (u ++ copies turns v) (copies rounds v) u v
+  pub stem : AllAgree names x (u ++ copies turns v)
+  pub cycle : AllAgree names y (copies rounds v)
+
+-- The printed text writes a pattern over these names. The words that match it are those that agree on these names with a
+-- lasso of the printed word's infinite word.
+pub record IsReadBack (names : List (List ℕ)) (u v : List NameSet) : Type 0 where
+  pub pattern : WordPattern
+  pub writes : Writes (word_text names u v) pattern
+  pub names_are : pattern.names ≡ names
+  pub matches : (x y : List NameSet) → Matches pattern x y ↔ AgreesUnrolled names u v x y
+
+abbrev pub PrintedIsReadBack : Type 0
+PrintedIsReadBack = (names : List (List ℕ)) (u v : List NameSet) → AllPairs (λ a b. a ≢ b) names → 0 < length v → length (word_text names u v) < 2 ^ 32 → IsReadBack names u v

@@ -1,0 +1,60 @@
+-- Periods of lists, and words that come again and again.
+use Rattle.std.specs.Prelude.{◌≡◌, ◌≢◌, ℕ, ◌+◌, ◌-◌, ◌*◌, ◌%◌, ◌<◌, ◌≤◌, List, length, slice_get, slice_index, Option, true}
+use Rattle.std.specs.FinSet.{contains}
+use Rattle.aut_base.specs.Word.{NameSet}
+
+-- the first `front` elements have the period: each is the same as the one so many places on
+abbrev pub IsPeriod : List NameSet → ℕ → ℕ → Type 0
+IsPeriod v front p = (k : ℕ) → k + p < front → slice_get v k ≡ slice_get v (k + p)
+
+-- the least period of the first `front` elements
+pub record IsLeastPeriod (v : List NameSet) (front p : ℕ) : Type 0 where
+  pub some : 0 < p
+  pub is : IsPeriod v front p
+  pub least : (q : ℕ) → 0 < q → IsPeriod v front q → p ≤ q
+
+-- the least periods of all fronts that are shorter than `count`
+abbrev pub AreLeastPeriods : List NameSet → ℕ → List ℕ → Type 0
+AreLeastPeriods v count periods = (front : ℕ) → front < count → IsLeastPeriod v front (slice_index periods front)
+
+-- a period of the first `front` elements that the front of one more can still have: none of its periods is less
+pub record IsCandidate (v : List NameSet) (front p : ℕ) : Type 0 where
+  pub some : 0 < p
+  pub is : IsPeriod v front p
+  pub small : p ≤ front + 1
+  pub least : (q : ℕ) → 0 < q → IsPeriod v (front + 1) q → p ≤ q
+
+-- the i-th element of the list again and again
+abbrev pub cyclic : List NameSet → ℕ → Option NameSet
+cyclic v i = slice_get v (i % length v)
+
+-- the first so many elements of the list, again and again, are the list again and again, and no fewer are
+pub record IsRoot (v : List NameSet) (size : ℕ) : Type 0 where
+  pub some : 0 < size
+  pub within : size ≤ length v
+  pub turns : ℕ
+  pub whole : length v ≡ turns * size
+  pub same : (i : ℕ) → i < length v → slice_get v i ≡ slice_get v (i % size)
+  pub least : (e k : ℕ) → 0 < e → 2 ≤ k → size ≡ k * e → ((i : ℕ) → slice_get v ((i + e) % size) ≡ slice_get v (i % size)) → ⊥
+
+-- A stem and a turned root: the stem's letters from `kept` on are those of the root again and again, from `from` on.
+pub record IsMidShared (stem root : List NameSet) (kept from : ℕ) : Type 0 where
+  pub within : kept ≤ length stem
+  pub inside : from < length root
+  pub same : (n : ℕ) → kept ≤ n → n < length stem → slice_get stem n ≡ cyclic root (from + (n - kept))
+  pub turns : ℕ
+  pub whole : from + (length stem - kept) ≡ turns * length root
+
+-- and the last letter that is kept is not the last of the turned root
+pub record IsShared (stem root : List NameSet) (kept from : ℕ) : Type 0 where
+  pub shared : IsMidShared stem root kept from
+  pub last : 0 < kept → slice_get stem (kept - 1) ≢ cyclic root (from + (length root - 1))
+
+-- the least period of each front, by its length
+pub record ArePeriods (v : List NameSet) (periods : List ℕ) : Type 0 where
+  pub size : length periods ≡ length v + 1
+  pub least : AreLeastPeriods v (length v + 1) periods
+
+-- each name of the first letter is in the second
+abbrev pub IsWithin : NameSet → NameSet → Type 0
+IsWithin a b = (name : List ℕ) → contains a name ≡ true → contains b name ≡ true

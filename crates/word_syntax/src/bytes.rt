@@ -1,0 +1,63 @@
+//! The kinds of bytes.
+
+ghost use Rattle.std.specs.Prelude.{◌≡◌, ◌≤◌, length, drop};
+ghost use Rattle.std.specs.List.{list_all, prefix_len};
+ghost use Rattle.word_syntax.specs.Printing.{is_small};
+ghost use Rattle.word_syntax.specs.Tokens as kinds;
+
+/// Space, tab, line feed or carriage return.
+pub(crate) fn is_blank(byte: u8) -> bool
+    ensures { result ≡ kinds.is_blank byte }
+{
+    byte == b' ' || byte == b'\t' || byte == b'\n' || byte == b'\r'
+}
+
+/// What a bare name begins with.
+pub(crate) fn is_letter(byte: u8) -> bool
+    ensures { result ≡ kinds.is_letter byte }
+{
+    (b'A' <= byte && byte <= b'Z') || (b'a' <= byte && byte <= b'z') || byte == b'_'
+}
+
+/// What a bare name goes on with.
+pub(crate) fn is_word(byte: u8) -> bool
+    ensures { result ≡ kinds.is_word byte }
+{
+    is_letter(byte) || (b'0' <= byte && byte <= b'9')
+}
+
+/// How many blanks stand at the front.
+pub(crate) fn blanks(bytes: &[u8]) -> usize
+    ensures { result ≡ prefix_len kinds.is_blank bytes.now }
+{
+    bytes.iter().take_while(|byte| is_blank(**byte)).count()
+}
+
+/// How many letters and digits stand at the front.
+pub(crate) fn words(bytes: &[u8]) -> usize
+    ensures { result ≡ prefix_len kinds.is_word bytes.now }
+{
+    bytes.iter().take_while(|byte| is_word(**byte)).count()
+}
+
+/// The bytes from this place on.
+pub(crate) fn from(bytes: &[u8], at: usize) -> &[u8]
+    requires { at ≤ length bytes.now }
+    ensures { result.now ≡ drop at bytes.now }
+{
+    &bytes[at..]
+}
+
+/// What a name without quotes begins with, where it is printed.
+pub(crate) fn is_small(byte: u8) -> bool
+    ensures { result ≡ is_small byte }
+{
+    (b'a' <= byte && byte <= b'z') || byte == b'_'
+}
+
+/// Whether all are letters and digits.
+pub(crate) fn are_words(bytes: &[u8]) -> bool
+    ensures { result ≡ list_all kinds.is_word bytes.now }
+{
+    bytes.iter().all(|byte| is_word(*byte))
+}

@@ -1,0 +1,64 @@
+//! Parts of a conjunction or disjunction that is being read.
+
+ghost use Rattle.std.specs.Prelude.{◌≡◌, [], ◌∷◌, ◌++◌, IfOk};
+ghost use Rattle.aut_base.specs.CanonicalLabel.{all_of, one_of};
+ghost use Rattle.aut_base.specs.Label.{label_tree};
+ghost use Rattle.word_syntax.specs.inner.Chains.{chain_list};
+ghost use Rattle.word_syntax.specs.inner.Machine.{is_none};
+
+use aut_base::{Label, Labels, Memory};
+use std::alloc::Global;
+
+/// The parts so far.
+#[derive(Debug, Drop)]
+pub(crate) enum Chain {
+    Nothing,
+    One(Label),
+    Several(Labels),
+}
+
+#[tactic(auto, using(aut_base::proofs::LabelTrees::label_trees))]
+impl Chain {
+    /// These parts and one more.
+    pub(crate) fn add(self, alloc: Global, label: Label) -> Result<Chain, Memory>
+        ensures { IfOk result (λ new. chain_list new ≡ chain_list self ++ label_tree label ∷ []) }
+    {
+        match self {
+            Chain::Nothing => Ok(Chain::One(label)),
+            Chain::One(first) => Ok(Chain::Several(Labels::pair(alloc, first, label)?)),
+            Chain::Several(mut labels) => {
+                labels.push(label)?;
+                Ok(Chain::Several(labels))
+            }
+        }
+    }
+
+    /// Their conjunction.
+    pub(crate) fn all(self) -> Label
+        ensures { label_tree result ≡ all_of (chain_list self) }
+    {
+        match self {
+            Chain::Nothing => Label::True,
+            Chain::One(label) => label,
+            Chain::Several(labels) => Label::And(labels),
+        }
+    }
+
+    /// Their disjunction.
+    pub(crate) fn one_of(self) -> Label
+        ensures { label_tree result ≡ one_of (chain_list self) }
+    {
+        match self {
+            Chain::Nothing => Label::False,
+            Chain::One(label) => label,
+            Chain::Several(labels) => Label::Or(labels),
+        }
+    }
+
+    /// Whether there is no part.
+    pub(crate) fn is_empty(&self) -> bool
+        ensures { result ≡ is_none (chain_list self.now) }
+    {
+        matches!(self, Chain::Nothing)
+    }
+}

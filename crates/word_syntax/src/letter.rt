@@ -1,0 +1,341 @@
+//! The reader of a letter, which takes one token at a time and keeps what is open.
+
+ghost use Rattle.std.specs.Prelude.{◌≡◌, true, false, ◌+◌, ◌<◌, ◌≤◌, ◌^◌, length, IfOk, Some, None};
+ghost use Rattle.std.specs.Option.{option_map};
+ghost use Rattle.aut_base.specs.Label.{label_tree};
+ghost use Rattle.word_syntax.specs.inner.Machine as machine;
+
+use crate::chain::Chain;
+use crate::names::place;
+use crate::token::Token;
+use aut_base::{Label, Memory, Names};
+use std::alloc::Global;
+
+/// The most `(` and `!` of a letter that may be open at once.
+const MOST_OPEN: u32 = 512;
+
+/// A letter, or a part of one in parentheses, as far as it is read.
+#[derive(Debug, Drop)]
+pub(crate) struct Level {
+    /// How many `(` and `!` are open around it.
+    around: u32,
+    /// Whole parts of its disjunction.
+    ors: Chain,
+    /// Whole parts of the conjunction that is being read.
+    ands: Chain,
+    /// How many `!` stand before the operand that is to come.
+    nots: u32,
+    ghost within: { around + nots ≤ 512 },
+}
+
+/// A letter as far as it is read.
+#[derive(Debug, Drop)]
+pub(crate) struct LetterReader {
+    /// The levels around the innermost one, that one last.
+    outer: Vec<Level>,
+    level: Level,
+    /// Whether an operand has just ended.
+    ready: bool,
+}
+
+impl Level {
+    ghost use Rattle.word_syntax.specs.inner.Chains.{level_tree};
+
+    // Nothing of it is read.
+    fn new(around: u32) -> Level
+        requires { around ≤ 512 }
+        ensures { level_tree result ≡ machine.fresh_level around }
+    {
+        Level {
+            around,
+            ors: Chain::Nothing,
+            ands: Chain::Nothing,
+            nots: 0,
+        }
+    }
+
+    // An operand has ended.
+    fn complete(self, alloc: Global, label: Label) -> Result<Level, Memory>
+        ensures { IfOk result (λ new. level_tree new ≡ machine.complete_level (level_tree self) (label_tree label)) }
+    {
+        let Level {
+            around,
+            ors,
+            ands,
+            nots,
+        } = self;
+        let label = negated(alloc, label, nots)?;
+        let ands = ands.add(alloc, label)?;
+        Ok(Level {
+            around,
+            ors,
+            ands,
+            nots: 0,
+        })
+    }
+
+    // The conjunction has ended, and another is to come.
+    fn or(self, alloc: Global) -> Result<Level, Memory>
+        ensures { IfOk result (λ new. level_tree new ≡ machine.or_level (level_tree self)) }
+    {
+        let Level {
+            around,
+            ors,
+            ands,
+            nots,
+        } = self;
+        let ors = ors.add(alloc, ands.all())?;
+        Ok(Level {
+            around,
+            ors,
+            ands: Chain::Nothing,
+            nots,
+        })
+    }
+
+    // What it says, where it is whole.
+    fn label(self, alloc: Global) -> Result<Label, Memory>
+        ensures { IfOk result (λ label. label_tree label ≡ machine.level_label (level_tree self)) }
+    {
+        let Level {
+            around: _,
+            ors,
+            ands,
+            nots: _,
+        } = self;
+        let ors = ors.add(alloc, ands.all())?;
+        Ok(ors.one_of())
+    }
+}
+
+// The label with this many `!` before it.
+fn negated(alloc: Global, label: Label, times: u32) -> Result<Label, Memory>
+    ensures { IfOk result (λ new. label_tree new ≡ machine.nots_on times (label_tree label)) }
+{
+    let mut negated = label;
+    'nots: for _ in 0..times {
+        negated = Label::Not(Box::new(alloc, negated)?);
+    }
+    Ok(negated)
+}
+
+impl LetterReader {
+    ghost use Rattle.word_syntax.specs.inner.Chains.{GoesInLetter, letter_state};
+
+    /// Nothing of the letter is read.
+    pub(crate) fn new(alloc: Global) -> LetterReader
+        ensures { letter_state result ≡ machine.fresh }
+    {
+        LetterReader {
+            outer: Vec::new(alloc),
+            level: Level::new(0),
+            ready: false,
+        }
+    }
+
+    /// Goes on with a token, or `None` where the token can't stand there. Names find their places.
+    pub(crate) fn step(
+        self,
+        alloc: Global,
+        names: &mut Names,
+        token: Token,
+    ) -> Result<Option<LetterReader>, Memory>
+        requires { length names.old < 2 ^ 32 }
+        ensures { IfOk result (λ next. GoesInLetter (letter_state self) token names.old names.new (option_map letter_state next)) }
+    {
+        if self.ready {
+            self.after_operand(alloc, token)
+        } else {
+            self.begin_operand(alloc, names, token)
+        }
+    }
+
+    // Where an operand is to come.
+    fn begin_operand(
+        self,
+        alloc: Global,
+        names: &mut Names,
+        token: Token,
+    ) -> Result<Option<LetterReader>, Memory>
+        requires few { length names.old < 2 ^ 32 }
+        requires awaits { self.ready ≡ false }
+        ensures { IfOk result (λ next. GoesInLetter (letter_state self) token names.old names.new (option_map letter_state next)) }
+    {
+        match token {
+            Token::True => Ok(Some(self.complete(alloc, Label::True)?)),
+            Token::False => Ok(Some(self.complete(alloc, Label::False)?)),
+            Token::Name(name) => {
+                let place = place(names, name)?;
+                Ok(Some(self.complete(alloc, Label::Prop(place))?))
+            }
+            Token::Not => Ok(self.not()),
+            Token::LeftParen => self.open(),
+            _ => Ok(None),
+        }
+    }
+
+    // Where an operand has ended.
+    fn after_operand(self, alloc: Global, token: Token) -> Result<Option<LetterReader>, Memory>
+        requires { self.ready ≡ true }
+        ensures { IfOk result (λ next. option_map letter_state next ≡ machine.after_operand (letter_state self) token) }
+    {
+        match token {
+            Token::And => Ok(Some(self.and())),
+            Token::Or => Ok(Some(self.or(alloc)?)),
+            Token::RightParen => self.close(alloc),
+            _ => Ok(None),
+        }
+    }
+
+    // An operand has ended.
+    fn complete(self, alloc: Global, label: Label) -> Result<LetterReader, Memory>
+        ensures { IfOk result (λ new. letter_state new ≡ machine.complete (letter_state self) (label_tree label)) }
+    {
+        let LetterReader {
+            outer,
+            level,
+            ready: _,
+        } = self;
+        let level = level.complete(alloc, label)?;
+        Ok(LetterReader {
+            outer,
+            level,
+            ready: true,
+        })
+    }
+
+    // `!`
+    fn not(self) -> Option<LetterReader>
+        ensures { option_map letter_state result ≡ machine.maybe_negated (letter_state self) }
+    {
+        let LetterReader {
+            outer,
+            level,
+            ready: _,
+        } = self;
+        let Level {
+            around,
+            ors,
+            ands,
+            nots,
+        } = level;
+        if around + nots >= MOST_OPEN {
+            return None;
+        }
+        let level = Level {
+            around,
+            ors,
+            ands,
+            nots: nots + 1,
+        };
+        Some(LetterReader {
+            outer,
+            level,
+            ready: false,
+        })
+    }
+
+    // `(`
+    fn open(self) -> Result<Option<LetterReader>, Memory>
+        ensures { IfOk result (λ next. option_map letter_state next ≡ machine.maybe_opened (letter_state self)) }
+    {
+        let LetterReader {
+            mut outer,
+            level,
+            ready: _,
+        } = self;
+        let around = level.around + level.nots;
+        if around >= MOST_OPEN {
+            return Ok(None);
+        }
+        outer.push(level)?;
+        Ok(Some(LetterReader {
+            outer,
+            level: Level::new(around + 1),
+            ready: false,
+        }))
+    }
+
+    // `&`
+    fn and(self) -> LetterReader
+        ensures { letter_state result ≡ machine.anded (letter_state self) }
+    {
+        let LetterReader {
+            outer,
+            level,
+            ready: _,
+        } = self;
+        LetterReader {
+            outer,
+            level,
+            ready: false,
+        }
+    }
+
+    // `|`
+    fn or(self, alloc: Global) -> Result<LetterReader, Memory>
+        ensures { IfOk result (λ new. letter_state new ≡ machine.ored (letter_state self)) }
+    {
+        let LetterReader {
+            outer,
+            level,
+            ready: _,
+        } = self;
+        let level = level.or(alloc)?;
+        Ok(LetterReader {
+            outer,
+            level,
+            ready: false,
+        })
+    }
+
+    // `)`
+    fn close(self, alloc: Global) -> Result<Option<LetterReader>, Memory>
+        ensures { IfOk result (λ next. option_map letter_state next ≡ machine.close (letter_state self)) }
+    {
+        let LetterReader {
+            mut outer,
+            level: inner,
+            ready: _,
+        } = self;
+        match outer.pop() {
+            Some(level) => {
+                let label = inner.label(alloc)?;
+                let level = level.complete(alloc, label)?;
+                Ok(Some(LetterReader {
+                    outer,
+                    level,
+                    ready: true,
+                }))
+            }
+            None => Ok(None),
+        }
+    }
+
+    /// The letter, where it is whole.
+    pub(crate) fn whole(self, alloc: Global) -> Result<Option<Label>, Memory>
+        ensures { IfOk result (λ label. option_map label_tree label ≡ machine.whole_letter (letter_state self)) }
+    {
+        let LetterReader {
+            outer,
+            level,
+            ready,
+        } = self;
+        if ready && outer.is_empty() {
+            Ok(Some(level.label(alloc)?))
+        } else {
+            Ok(None)
+        }
+    }
+
+    /// Whether nothing of the letter is read.
+    pub(crate) fn is_fresh(&self) -> bool
+        ensures { result ≡ machine.is_fresh (letter_state self.now) }
+    {
+        !self.ready
+            && self.outer.is_empty()
+            && self.level.ors.is_empty()
+            && self.level.ands.is_empty()
+            && self.level.nots == 0
+    }
+}

@@ -1,0 +1,30 @@
+//! The notation of lasso words and their patterns: reading and printing it, and what a pattern means.
+//!
+//! The tokens are defined in `specs/Tokens`, the grammar over them in `specs/Grammar`, and what a text writes, and where
+//! one that writes nothing goes wrong, in `specs/Writing`.
+#![tactic(auto)]
+
+mod automaton;
+mod bytes;
+mod chain;
+mod law;
+mod letter;
+mod letters;
+mod lexer;
+mod names;
+mod next;
+mod pattern;
+mod period;
+mod print;
+mod read;
+mod reduced;
+mod stage;
+mod token;
+mod word;
+
+pub use automaton::pattern_automaton;
+pub use law::{one_reading, one_reduced_lasso, printed_is_read_back};
+pub use pattern::{LabelList, Pattern, WordFault};
+pub use print::print_word;
+pub use read::{read_name, read_word};
+pub use reduced::reduce;

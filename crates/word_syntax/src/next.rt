@@ -1,0 +1,31 @@
+//! The next token of a text.
+
+ghost use Rattle.std.specs.Prelude.{◌≤◌, length, IfOk};
+ghost use Rattle.word_syntax.specs.inner.Nexts.{StandsNext};
+
+use crate::bytes::{blanks, from};
+use crate::lexer::front_token;
+use crate::token::Token;
+use aut_base::Memory;
+use std::alloc::Global;
+
+/// What stands next, behind blanks.
+#[derive(Debug, Drop)]
+pub(crate) enum Next {
+    /// A token, and the places of its first byte and behind its last.
+    Token(Token, usize, usize),
+    /// From this place on, the end of the text or bytes that are no token.
+    Nothing(usize),
+}
+
+/// What stands next in the text from this place on.
+pub(crate) fn next_token(alloc: Global, bytes: &[u8], at: usize) -> Result<Next, Memory>
+    requires { at ≤ length bytes.now }
+    ensures { IfOk result (λ next. StandsNext bytes.now at next) }
+{
+    let start = at + blanks(from(bytes, at));
+    match front_token(alloc, from(bytes, start))? {
+        Some((token, size)) => Ok(Next::Token(token, start, start + size)),
+        None => Ok(Next::Nothing(start)),
+    }
+}

@@ -1,0 +1,41 @@
+//! Patterns of lasso words, and why a text writes none.
+
+ghost use Rattle.std.specs.Prelude.{◌≡◌, ◌+◌, ◌<◌, ◌^◌, length};
+ghost use Rattle.word_syntax.specs.Below.{AllLabelsBelow, AllLabelsBelow-prop};
+
+use aut_base::{Label, Memory, Names, Seq};
+
+/// Labels, in order.
+pub type LabelList = Seq<Label>;
+
+/// A pattern of lasso words: a formula for each letter of the stem and of the cycle. A formula's propositions go by the
+/// place of their names in `names`.
+#[derive(Debug, Drop)]
+pub struct Pattern {
+    pub names: Names,
+    pub stem: LabelList,
+    pub cycle: LabelList,
+    ghost goes_on: { 0 < length cycle },
+    ghost few: { length stem + length cycle < 2 ^ 32 },
+    ghost stem_below: { AllLabelsBelow (length names) stem } by { AllLabelsBelow-prop (length names) stem },
+    ghost cycle_below: { AllLabelsBelow (length names) cycle } by { AllLabelsBelow-prop (length names) cycle },
+}
+
+/// Why a text writes no pattern.
+#[derive(Clone, Copy, Debug, PartialEq, Eq)]
+pub enum WordFault {
+    /// The text is no word: it can't go on at this offset as it does.
+    BadWord(u64),
+    /// Want of memory.
+    Memory,
+}
+
+impl From<Memory> for WordFault {
+    ghost use Rattle.word_syntax.specs.declared.pattern.WordFault.{WordFault};
+
+    ghost from_gives = { λ _ fault. fault ≡ WordFault.Memory };
+
+    fn from(_want: Memory) -> WordFault {
+        WordFault::Memory
+    }
+}

@@ -1,0 +1,76 @@
+//! Reading a pattern, or a name alone.
+
+ghost use Rattle.std.specs.Prelude.{◌≡◌, ◌+◌, ◌<◌, ◌≤◌, ◌^◌, length, IfOk, MatchOption};
+ghost use Rattle.word_syntax.specs.Writing.{AnswersWord, IsNameAtFront, IsStoppedAt, NoNameAtFront};
+ghost use Rattle.word_syntax.specs.inner.Reading.{IsThrough, StopsOrGoes};
+
+use crate::lexer::front_token;
+use crate::next::{Next, next_token};
+use crate::stage::Stage;
+use crate::token::Token;
+use crate::word::WordReader;
+use crate::{Pattern, WordFault};
+use aut_base::{Memory, Text};
+use std::alloc::Global;
+
+/// The pattern that the text writes. `BadWord` is answered exactly where it writes none, with the offset at which it
+/// goes wrong.
+pub fn read_word(alloc: Global, text: &Text) -> Result<Pattern, WordFault>
+    ensures { AnswersWord result text.now }
+{
+    let bytes = text.as_bytes();
+    if bytes.len() > u32::MAX as usize {
+        return Err(WordFault::BadWord(0));
+    }
+    let WordReader {
+        names,
+        stem,
+        cycle,
+        stage,
+        letter: _,
+    } = read_tokens(alloc, bytes)?;
+    match stage {
+        Stage::End => Ok(Pattern { names, stem, cycle }),
+        _ => Err(WordFault::BadWord(bytes.len() as u64)),
+    }
+}
+
+// All tokens of the text, taken by a reader of words.
+fn read_tokens(alloc: Global, bytes: &[u8]) -> Result<WordReader, WordFault>
+    requires { length bytes.now < 2 ^ 32 }
+    ensures { StopsOrGoes bytes.now result }
+{
+    let mut reader = WordReader::new(alloc);
+    let mut at = 0;
+    'tokens: loop {
+        match next_token(alloc, bytes, at)? {
+            Next::Token(token, start, end) => {
+                let Some(next) = reader.step(alloc, token)? else {
+                    return Err(WordFault::BadWord(start as u64));
+                };
+                reader = next;
+                at = end;
+            }
+            Next::Nothing(start) => {
+                if start < bytes.len() {
+                    return Err(WordFault::BadWord(start as u64));
+                }
+                return Ok(reader);
+            }
+        }
+    }
+}
+
+/// The name that stands as the first token at the first byte of the text, and how many bytes spell it. `None` is
+/// answered exactly where no name stands there.
+pub fn read_name(alloc: Global, text: &Text) -> Result<Option<(Text, usize)>, Memory>
+    ensures { IfOk result (λ found. MatchOption found (NoNameAtFront text.now) (λ name. IsNameAtFront text.now name.0 name.1)) }
+{
+    match front_token(alloc, text.as_bytes())? {
+        Some((token, size)) => match token {
+            Token::Name(name) => Ok(Some((name, size))),
+            _ => Ok(None),
+        },
+        None => Ok(None),
+    }
+}

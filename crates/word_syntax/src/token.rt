@@ -1,0 +1,27 @@
+//! The tokens of a word.
+
+use aut_base::Text;
+
+/// A token of the notation of words.
+#[derive(Debug, Drop)]
+pub enum Token {
+    /// `1` or `true`
+    True,
+    /// `0` or `false`
+    False,
+    /// A name, bare or without its quotes and with its escapes resolved.
+    Name(Text),
+    /// `!`
+    Not,
+    /// `&` or `&&`
+    And,
+    /// `|` or `||`
+    Or,
+    LeftParen,
+    RightParen,
+    Semicolon,
+    /// `cycle`
+    Cycle,
+    LeftBrace,
+    RightBrace,
+}

@@ -1,0 +1,211 @@
+//! The reader of a word, which takes one token at a time.
+
+ghost use Rattle.std.specs.Prelude.{◌≡◌, true, ◌<◌, ◌^◌, [], length, IfOk};
+ghost use Rattle.word_syntax.specs.inner.Machine as machine;
+
+use crate::LabelList;
+use crate::letter::LetterReader;
+use crate::stage::Stage;
+use crate::token::Token;
+use aut_base::{Memory, Names};
+use std::alloc::Global;
+
+/// A word as far as it is read.
+#[derive(Debug, Drop)]
+pub(crate) struct WordReader {
+    /// The names, in the order in which they first appear.
+    pub(crate) names: Names,
+    pub(crate) stem: LabelList,
+    pub(crate) cycle: LabelList,
+    pub(crate) stage: Stage,
+    pub(crate) letter: LetterReader,
+}
+
+impl WordReader {
+    ghost use Rattle.word_syntax.specs.inner.Chains.{Takes, word_state};
+
+    /// Nothing is read yet.
+    pub(crate) fn new(alloc: Global) -> WordReader
+        ensures state { word_state result ≡ machine.word_start }
+        ensures names { result.names ≡ [] }
+    {
+        WordReader {
+            names: Names::new(alloc),
+            stem: LabelList::new(alloc),
+            cycle: LabelList::new(alloc),
+            stage: Stage::Stem,
+            letter: LetterReader::new(alloc),
+        }
+    }
+
+    /// Goes on with a token, or `None` where the token can't stand there.
+    pub(crate) fn step(self, alloc: Global, token: Token) -> Result<Option<WordReader>, Memory>
+        requires { length self.names < 2 ^ 32 }
+        ensures { IfOk result (λ next. Takes self token next) }
+    {
+        match token {
+            Token::Semicolon => self.end_letter(alloc),
+            Token::RightBrace => self.end_word(alloc),
+            Token::Cycle => Ok(self.begin_cycle()),
+            Token::LeftBrace => Ok(self.open_cycle()),
+            _ => self.in_letter(alloc, token),
+        }
+    }
+
+    // A token of a letter.
+    fn in_letter(self, alloc: Global, token: Token) -> Result<Option<WordReader>, Memory>
+        requires few { length self.names < 2 ^ 32 }
+        requires of_letter { machine.is_of_letter token ≡ true }
+        ensures { IfOk result (λ next. Takes self token next) }
+    {
+        let WordReader {
+            mut names,
+            stem,
+            cycle,
+            stage,
+            letter,
+        } = self;
+        if !has_letters(stage) {
+            return Ok(None);
+        }
+        match letter.step(alloc, &mut names, token)? {
+            Some(letter) => Ok(Some(WordReader {
+                names,
+                stem,
+                cycle,
+                stage,
+                letter,
+            })),
+            None => Ok(None),
+        }
+    }
+
+    // `;`
+    fn end_letter(self, alloc: Global) -> Result<Option<WordReader>, Memory>
+        ensures { IfOk result (λ next. Takes self Token.Semicolon next) }
+    {
+        let WordReader {
+            names,
+            mut stem,
+            mut cycle,
+            stage,
+            letter,
+        } = self;
+        let Some(label) = letter.whole(alloc)? else {
+            return Ok(None);
+        };
+        match stage {
+            Stage::Stem => {
+                stem.push(label)?;
+                Ok(Some(WordReader {
+                    names,
+                    stem,
+                    cycle,
+                    stage,
+                    letter: LetterReader::new(alloc),
+                }))
+            }
+            Stage::Cycle => {
+                cycle.push(label)?;
+                Ok(Some(WordReader {
+                    names,
+                    stem,
+                    cycle,
+                    stage,
+                    letter: LetterReader::new(alloc),
+                }))
+            }
+            _ => Ok(None),
+        }
+    }
+
+    // `}`
+    fn end_word(self, alloc: Global) -> Result<Option<WordReader>, Memory>
+        ensures { IfOk result (λ next. Takes self Token.RightBrace next) }
+    {
+        let WordReader {
+            names,
+            stem,
+            mut cycle,
+            stage,
+            letter,
+        } = self;
+        let Some(label) = letter.whole(alloc)? else {
+            return Ok(None);
+        };
+        match stage {
+            Stage::Cycle => {
+                cycle.push(label)?;
+                Ok(Some(WordReader {
+                    names,
+                    stem,
+                    cycle,
+                    stage: Stage::End,
+                    letter: LetterReader::new(alloc),
+                }))
+            }
+            _ => Ok(None),
+        }
+    }
+
+    // `cycle`
+    fn begin_cycle(self) -> Option<WordReader>
+        ensures { Takes self Token.Cycle result }
+    {
+        let WordReader {
+            names,
+            stem,
+            cycle,
+            stage,
+            letter,
+        } = self;
+        match stage {
+            Stage::Stem => {
+                if !letter.is_fresh() {
+                    return None;
+                }
+                Some(WordReader {
+                    names,
+                    stem,
+                    cycle,
+                    stage: Stage::Brace,
+                    letter,
+                })
+            }
+            _ => None,
+        }
+    }
+
+    // `{`
+    fn open_cycle(self) -> Option<WordReader>
+        ensures { Takes self Token.LeftBrace result }
+    {
+        let WordReader {
+            names,
+            stem,
+            cycle,
+            stage,
+            letter,
+        } = self;
+        match stage {
+            Stage::Brace => Some(WordReader {
+                names,
+                stem,
+                cycle,
+                stage: Stage::Cycle,
+                letter,
+            }),
+            _ => None,
+        }
+    }
+}
+
+// Whether letters stand there.
+fn has_letters(stage: Stage) -> bool
+    ensures { result ≡ machine.has_letters stage }
+{
+    match stage {
+        Stage::Stem | Stage::Cycle => true,
+        Stage::Brace | Stage::End => false,
+    }
+}
