@@ -1,5 +1,5 @@
 -- The propositions of what is written are places in the list of names.
-use Rattle.std.proofs.Common.{◌≡◌, ◌∙◌, ◌∷◌, ◌++◌, ◌+◌, ◌<◌, List, Some, [], arith, length, length-append, ap, refl, slice_get, subst, sym, ℕ}
+use Rattle.std.proofs.Common.{◌≡◌, ◌∷◌, ◌++◌, ◌<◌, List, [], arith, length, length-append, ap, subst, sym, ℕ}
 use Rattle.std.proofs.lemmas.Option.{slice_get_within}
 use Rattle.std.specs.List.{AllByRecursion}
 use Rattle.aut_base.proofs.AllByRecursion.{AllByRecursion-push}

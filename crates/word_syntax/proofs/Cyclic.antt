@@ -1,11 +1,10 @@
 -- Places in a list that comes again and again.
-use Rattle.std.proofs.Common.{◌≡◌, ◌≢◌, ◌∙◌, ◌∷◌, ◌++◌, ◌+◌, ◌-◌, ◌*◌, ◌/◌, ◌%◌, ◌<◌, ◌≤◌, ◌⊎◌, List, Option, Some, [], ap, arith, drop, inl, inr, length, length-append, length-drop, refl, slice_get, subst, suc, sym, take, zero, if◌then◌else◌, ℕ}
-use Rattle.std.proofs.Math.Nat.{add-mod-mod, add-mod_left, add-mod_right, add-mul-mod_self_left, mod-add-div, mod-add-mod, mod-eq_of_lt, mod-lt, mul-le-mul_right}
+use Rattle.std.proofs.Common.{◌≡◌, ◌∙◌, ◌∷◌, ◌++◌, ◌+◌, ◌-◌, ◌*◌, ◌/◌, ◌%◌, ◌<◌, ◌≤◌, List, [], ap, arith, drop, inl, inr, length, length-append, length-drop, refl, slice_get, suc, sym, take, zero, if◌then◌else◌, ℕ}
+use Rattle.std.proofs.Math.Nat.{add-mod-mod, add-mod_right, add-mul-mod_self_left, mod-add-div, mod-eq_of_lt, mod-lt}
 use Rattle.std.proofs.lemmas.Bool.{cases_lt, le-ltb, lt-ltb}
 use Rattle.std.proofs.lemmas.List.{length-take-le}
 use Rattle.std.proofs.lemmas.Nat.{div-add-mod', div_below, mod_below}
-use Rattle.std.proofs.lemmas.Option.{same_Some}
-use Rattle.aut_base.proofs.Copies.{get-copies, length-copies}
+use Rattle.aut_base.proofs.Copies.{get-copies}
 use Rattle.aut_base.proofs.Lists.{slice_get-append_left, slice_get-append_right}
 use Rattle.aut_base.specs.Word.{NameSet, copies, letter_at}
 use Rattle.word_syntax.specs.inner.Periods.{cyclic}

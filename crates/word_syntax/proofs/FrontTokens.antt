@@ -1,10 +1,10 @@
 -- The token that is found at the front of bytes is the one that stands there.
-use Rattle.std.proofs.Common.{◌≡◌, ◌≢◌, ◌∙◌, ◌∷◌, ◌++◌, ◌+◌, ◌<◌, ◌≤◌, ◌&&◌, ◌||◌, ◌==◌, ◌⊎◌, Bool, List, None, Option, Some, [], ap, arith, codes, cond, drop, eq-eqb, false, get_or, inl, inr, length, length-append, nat_lt, ne_eqb, refl, subst, suc, sym, take, true, zero, ℕ}
-use Rattle.std.proofs.lemmas.Bool.{and_from, and_left, and_parts, and_right, cases_Bool, cond-false, cond-true, eqb-false, eqb-true, lt-ltb, ltb-true, or_from, or_left, or_parts}
-use Rattle.std.proofs.lemmas.List.{append_assoc, append-nil, take-append-drop, take-append-le}
+use Rattle.std.proofs.Common.{◌≡◌, ◌∙◌, ◌∷◌, ◌++◌, ◌+◌, ◌<◌, ◌≤◌, ◌&&◌, ◌==◌, Bool, List, None, Option, Some, [], ap, arith, codes, cond, drop, false, inl, inr, length, length-append, nat_lt, ne_eqb, refl, subst, suc, sym, take, true, ℕ}
+use Rattle.std.proofs.lemmas.Bool.{and_from, and_left, and_right, cases_Bool, cond-false, cond-true, eqb-false, eqb-true, lt-ltb, or_from, or_left, or_parts}
+use Rattle.std.proofs.lemmas.List.{append_assoc, take-append-drop}
 use Rattle.std.proofs.lemmas.List.Sums.{prefix_len-le-length}
-use Rattle.std.proofs.lemmas.Option.{none-some, same_Some, some_pair_parts}
-use Rattle.std.specs.List.{list_all, prefix_len, slice_index_or}
+use Rattle.std.proofs.lemmas.Option.{none-some, some_pair_parts}
+use Rattle.std.specs.List.{prefix_len}
 use Rattle.std.specs.Option.{option_map}
 use Rattle.aut_base.proofs.Texts as texts
 use Rattle.aut_base.specs.Text.{same_text}

@@ -1,5 +1,5 @@
 -- A token of a letter is one for the letter's reader.
-use Rattle.std.proofs.Common.{◌≡◌, ◌∙◌, Bool, List, None, Option, Some, ap, cond, false, refl, sym, true, ℕ}
+use Rattle.std.proofs.Common.{◌≡◌, ◌∙◌, List, None, Option, ap, cond, refl, true, ℕ}
 use Rattle.std.proofs.lemmas.Bool.{cond-true}
 use Rattle.std.specs.Option.{option_map}
 use Rattle.word_syntax.specs.inner.Machine.{LetterState, WordState, has_letters, is_of_letter, letter_step, with_letter, word_step}

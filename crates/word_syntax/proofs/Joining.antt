@@ -1,5 +1,5 @@
 -- Texts that are put together piece by piece.
-use Rattle.std.proofs.Common.{◌≡◌, ◌==◌, true, false, slice_index, ◌∙◌, ◌∷◌, ◌++◌, ◌+◌, ◌<◌, List, [], ap, arith, get_or, length, map, refl, sym, take, zero, suc, ℕ}
+use Rattle.std.proofs.Common.{◌≡◌, ◌==◌, true, false, slice_index, ◌∙◌, ◌∷◌, ◌++◌, ◌+◌, ◌<◌, List, [], ap, arith, get_or, length, map, refl, sym, take, ℕ}
 use Rattle.std.proofs.lemmas.List.{append_assoc, append-nil, length-map, length-take-le, map-append}
 use Rattle.std.proofs.lemmas.List.Concat.{flat_map-append}
 use Rattle.std.specs.Prelude.{flat_map}

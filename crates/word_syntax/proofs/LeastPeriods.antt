@@ -1,13 +1,12 @@
 -- Least periods of the fronts of a list, each from those before it (Knuth, Morris and Pratt 1977).
-use Rattle.std.proofs.Common.{[], ◌∷◌, ◌++◌, ◌≡◌, ◌≢◌, ◌∙◌, ◌+◌, ◌-◌, ◌*◌, ◌/◌, ◌%◌, ◌<◌, ◌≤◌, ◌⊎◌, List, Option, Some, ap, arith, inl, inr, length, refl, slice_get, slice_index, subst, suc, sym, zero, ℕ}
-use Rattle.std.proofs.Math.Nat.{add-mod_right, mod-eq_of_lt, mod-lt, mod_self, mul-le-mul_right, mul-mod_right}
+use Rattle.std.proofs.Common.{[], ◌∷◌, ◌++◌, ◌≡◌, ◌≢◌, ◌∙◌, ◌+◌, ◌-◌, ◌*◌, ◌/◌, ◌%◌, ◌<◌, ◌≤◌, List, ap, arith, inl, inr, length, slice_get, slice_index, subst, suc, sym, zero, ℕ}
+use Rattle.std.proofs.Math.Nat.{add-mod_right, mod-eq_of_lt, mod_self, mul-le-mul_right, mul-mod_right}
 use Rattle.std.proofs.Math.Seq.{get_or-append_seam}
 use Rattle.std.proofs.lemmas.Bool.{cases_lt, cases_eq}
 use Rattle.std.proofs.lemmas.List.{get_or_append_left}
 use Rattle.std.proofs.lemmas.Nat.{div-add-mod', mul-mod}
 use Rattle.aut_base.specs.Word.{NameSet}
-use Rattle.word_syntax.proofs.Cyclic.{mod_of_multiple}
-use Rattle.word_syntax.specs.inner.Periods.{AreLeastPeriods, ArePeriods, IsCandidate, IsLeastPeriod, IsPeriod, IsRoot}
+use Rattle.word_syntax.specs.inner.Periods.{AreLeastPeriods, IsCandidate, IsLeastPeriod, IsPeriod, IsRoot}
 
 at_same : (v : List NameSet) (i j : ℕ) → i ≡ j → slice_get v i ≡ slice_get v j
 at_same v i j e = ap (slice_get v) e

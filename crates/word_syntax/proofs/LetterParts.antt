@@ -1,13 +1,12 @@
 -- What a letter's reader has read is a part of a letter, as the grammar has it.
-use Rattle.std.proofs.Common.{◌≡◌, ◌∙◌, ◌∷◌, ◌++◌, ◌+◌, ◌-◌, ◌<◌, ◌≤◌, Bool, List, None, Option, Some, [], ap, arith, cond, false, refl, slice_get, subst, suc, sym, true, zero, ℕ}
+use Rattle.std.proofs.Common.{◌≡◌, ◌∙◌, ◌∷◌, ◌++◌, ◌+◌, ◌-◌, ◌<◌, ◌≤◌, Bool, List, Some, [], ap, arith, false, refl, slice_get, subst, suc, sym, true, zero, ℕ}
 use Rattle.std.proofs.lemmas.Bool.{ltb-true}
 use Rattle.std.proofs.lemmas.List.{append_assoc, append-nil}
 use Rattle.std.proofs.lemmas.Option.{cond_some, none-some, same_Some}
-use Rattle.aut_base.specs.CanonicalLabel.{all_of, one_of}
+use Rattle.aut_base.specs.CanonicalLabel.{all_of}
 use Rattle.aut_base.specs.Label as label
 use Rattle.aut_base.specs.Label.{LabelTree}
 use Rattle.word_syntax.proofs.LetterRuns.{awaiting, ended, level}
-use Rattle.word_syntax.specs.inner.Runs.{Runs}
 use Rattle.word_syntax.specs.Grammar.{AreConjunctions, AreOperands, IsConjunction, IsLetter, IsOperand, alternative, always, either, group, joined, negated, never, no_conjunction, no_operand, operand, proposition}
 use Rattle.word_syntax.specs.inner.Machine as machine
 use Rattle.word_syntax.specs.inner.Machine.{LetterState, LevelTree, complete_level, fresh_level, has_room, letter_step, level_label, nots_on}

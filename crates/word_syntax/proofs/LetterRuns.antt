@@ -1,5 +1,5 @@
 -- What is written as the grammar has it, the reader of a letter reads.
-use Rattle.std.proofs.Common.{◌≡◌, ◌∙◌, ◌∷◌, ◌++◌, ◌+◌, ◌<◌, ◌≤◌, List, None, Option, Some, [], ap, arith, false, refl, subst, suc, sym, true, zero, ℕ}
+use Rattle.std.proofs.Common.{◌≡◌, ◌∙◌, ◌∷◌, ◌++◌, ◌+◌, ◌≤◌, List, Option, Some, [], ap, arith, false, refl, suc, sym, true, ℕ}
 use Rattle.std.proofs.lemmas.Bool.{cond-true, lt-ltb}
 use Rattle.aut_base.specs.CanonicalLabel.{all_of, one_of}
 use Rattle.aut_base.specs.Label as label
@@ -8,7 +8,6 @@ use Rattle.word_syntax.proofs.Runs.{runs_over, runs_push, runs_then, runs_to}
 use Rattle.word_syntax.specs.inner.Runs.{Runs}
 use Rattle.word_syntax.specs.Grammar.{AreConjunctions, AreOperands, IsConjunction, IsLetter, IsOperand, alternative, always, either, group, joined, negated, never, no_conjunction, no_operand, operand, proposition}
 use Rattle.word_syntax.specs.inner.Chains.{Agrees}
-use Rattle.word_syntax.specs.inner.Machine as machine
 use Rattle.word_syntax.specs.inner.Machine.{LetterState, LevelTree, complete_level, fresh_level, has_room, letter_step, level_label, nots_on}
 use Rattle.word_syntax.specs.declared.token.Token.{Token}
 use Rattle.word_syntax.specs.declared.token.Token.TheVariants as token

@@ -1,5 +1,5 @@
 -- When two letters are the same, and copies of letters.
-use Rattle.std.proofs.Common.{◌≡◌, ◌≢◌, ◌∙◌, ◌∷◌, ◌++◌, ◌+◌, ◌<◌, ◌↔◌, Bool, Contains, IsTrue, List, [], ap, arith, get_or, length, refl, slice_get, Some, sym, take, true, false, ℕ}
+use Rattle.std.proofs.Common.{◌≡◌, ◌≢◌, ◌∙◌, ◌+◌, ◌<◌, ◌↔◌, Bool, IsTrue, List, ap, get_or, length, refl, slice_get, Some, sym, take, true, false, ℕ}
 use Rattle.std.specs.FinSet as set
 use Rattle.std.specs.FinMap.{nat_cmp-IsAntisymmetric, slice_cmp-IsAntisymmetric}
 use Rattle.std.proofs.lemmas.Cmp.{nat_list_cmp_total}

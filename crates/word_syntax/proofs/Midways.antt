@@ -1,24 +1,22 @@
 -- A text is read token by token.
-use Rattle.std.proofs.Common.{Bool, cond, true, false, ◌≡◌, ◌≢◌, ◌∙◌, ◌∷◌, ◌++◌, ◌+◌, ◌-◌, ◌<◌, ◌≤◌, ◌^◌, ◌⊎◌, List, None, Option, Some, [], ap, arith, drop, inl, inr, length, length-append, length-drop, map, refl, subst, suc, sym, zero, ℕ}
+use Rattle.std.proofs.Common.{Bool, cond, true, false, ◌≡◌, ◌≢◌, ◌∙◌, ◌∷◌, ◌++◌, ◌+◌, ◌<◌, ◌≤◌, ◌^◌, List, None, Option, Some, [], ap, arith, drop, inl, inr, length, length-append, length-drop, map, refl, subst, sym, ℕ}
 use Rattle.std.proofs.lemmas.List.{append-nil, drop_all, length-map}
 use Rattle.std.proofs.lemmas.Option.{none-some, option_and_then_some, same_Some}
 use Rattle.std.specs.List.{list_all}
 use Rattle.std.specs.Option.{option_map}
 use Rattle.aut_base.specs.Label.{LabelTree, label_tree}
-use Rattle.word_syntax.proofs.InLetters.{in_letter}
 use Rattle.word_syntax.proofs.NamePlaces.{agrees_front, distinct_differ, distinct_front, names_go, names_of-append, place_in, places_agree}
 use Rattle.word_syntax.proofs.Readings.{bad_writes_nothing}
 use Rattle.word_syntax.proofs.Runs.{runs_push}
 use Rattle.word_syntax.proofs.Words.{begins, begins_not, no_word, whole_word}
-use Rattle.word_syntax.specs.Grammar.{IsWord, WordPattern, distinct, names_of}
+use Rattle.word_syntax.specs.Grammar.{IsWord, distinct, names_of}
 use Rattle.word_syntax.specs.Tokens.{AfterBlanks, IsFront, Lexes, is_blank}
-use Rattle.word_syntax.specs.Writing.{AnswersWord, IsBadAt, IsStoppedAt, Stops, Writes, WritesNothing, ended, misplaced, no_token}
-use Rattle.word_syntax.specs.inner.Chains.{Agrees, GrowsBy, HasTaken, NamesGo, Takes, word_state}
+use Rattle.word_syntax.specs.Writing.{IsBadAt, IsStoppedAt, Stops, Writes, WritesNothing, ended, misplaced, no_token}
+use Rattle.word_syntax.specs.inner.Chains.{Agrees, HasTaken, NamesGo, word_state}
 use Rattle.word_syntax.specs.inner.Machine as machine
 use Rattle.word_syntax.specs.inner.Machine.{LetterState, WordState, letter_step, whole_letter, with_letter, word_start, word_step}
 use Rattle.word_syntax.specs.inner.Nexts.{IsNext, IsNothing, NoBlankFirst}
 use Rattle.word_syntax.specs.inner.Reading.{HasRead, IsMidway, IsThrough}
-use Rattle.word_syntax.specs.inner.Runs.{Runs}
 use Rattle.word_syntax.specs.declared.stage.Stage.{Stage}
 use Rattle.word_syntax.specs.declared.stage.Stage.TheVariants.{Stem, Brace, Cycle, End}
 use Rattle.word_syntax.specs.declared.word.WordReader.{WordReader}

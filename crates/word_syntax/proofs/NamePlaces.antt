@@ -2,12 +2,12 @@
 use Rattle.aut_base.proofs.Lists.{slice_get-append_left}
 use Rattle.aut_base.proofs.Texts as texts
 use Rattle.aut_base.specs.Text.{same_text}
-use Rattle.std.proofs.Common.{◌≡◌, ◌≢◌, ◌∙◌, ◌∷◌, ◌++◌, ◌+◌, ◌<◌, ◌⊎◌, All, Bool, Contains, List, None, Option, Some, [], ap, arith, cond, false, filter, get_or, inl, inr, length, not, refl, slice_get, subst, suc, sym, true, zero, ℕ}
+use Rattle.std.proofs.Common.{◌≡◌, ◌≢◌, ◌∙◌, ◌∷◌, ◌++◌, ◌<◌, ◌⊎◌, Contains, List, Some, [], ap, arith, cond, false, filter, get_or, inl, inr, length, not, refl, slice_get, subst, suc, sym, true, zero, ℕ}
 use Rattle.std.proofs.lemmas.Bool.{cases_Bool, cond-false, cond-true, false_from_ne_true, not_from_false, not_from_true}
 use Rattle.std.proofs.lemmas.Cmp.{nat_list_eq_equiv}
 use Rattle.std.proofs.lemmas.List.{append_assoc, append-nil}
 use Rattle.std.proofs.lemmas.List.Elements.{All-contains, filter-append}
-use Rattle.std.proofs.lemmas.Option.{get_or_from_slice_get, none-some, same_Some, slice_get_within}
+use Rattle.std.proofs.lemmas.Option.{none-some, same_Some, slice_get_within}
 use Rattle.word_syntax.specs.Grammar.{distinct, names_of}
 use Rattle.word_syntax.specs.inner.Chains.{Agrees, GrowsBy, NamesGo}
 use Rattle.word_syntax.proofs.LetterParts.{Knows}

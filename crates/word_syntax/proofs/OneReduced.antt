@@ -1,13 +1,13 @@
 -- Reduced lassos of one infinite word are the same.
-use Rattle.std.proofs.Common.{◌≡◌, ◌≢◌, ◌∙◌, ◌∷◌, ◌++◌, ◌+◌, ◌-◌, ◌*◌, ◌/◌, ◌%◌, ◌<◌, ◌≤◌, ◌⊎◌, List, Option, Some, [], ap, arith, inl, inr, length, length-append, refl, slice_get, subst, suc, sym, take, zero, ℕ}
-use Rattle.std.proofs.Math.Nat.{add-mod_right, mod-eq_of_lt, mod-lt}
-use Rattle.std.proofs.lemmas.Bool.{cases_lt, cases_order}
+use Rattle.std.proofs.Common.{◌≡◌, ◌∙◌, ◌∷◌, ◌++◌, ◌+◌, ◌-◌, ◌*◌, ◌/◌, ◌%◌, ◌<◌, ◌≤◌, List, Option, Some, [], ap, arith, inl, inr, length, length-append, refl, slice_get, suc, sym, take, zero, ℕ}
+use Rattle.std.proofs.Math.Nat.{mod-eq_of_lt, mod-lt}
+use Rattle.std.proofs.lemmas.Bool.{cases_order}
 use Rattle.std.proofs.lemmas.List.{length-take-le}
 use Rattle.std.proofs.lemmas.Nat.{div-add-mod'}
-use Rattle.std.proofs.lemmas.Option.{none-some, same_Some}
+use Rattle.std.proofs.lemmas.Option.{same_Some}
 use Rattle.aut_base.proofs.Copies.{length-copies}
 use Rattle.aut_base.proofs.Lists.{slice_get-push_last}
-use Rattle.aut_base.specs.Word.{IsReduced, NameSet, SpellsSame, copies, letter_at}
+use Rattle.aut_base.specs.Word.{IsReduced, NameSet, copies, letter_at}
 use Rattle.word_syntax.proofs.Cyclic.{at_cycle, at_stem, copies_at, cyclic_again, slice_get-take}
 use Rattle.word_syntax.specs.Words.{OneReducedLasso}
 use Rattle.word_syntax.specs.inner.Periods.{cyclic}

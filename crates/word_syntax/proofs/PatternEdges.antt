@@ -1,5 +1,5 @@
 -- The edges of a pattern's automaton, put together one by one.
-use Rattle.std.proofs.Common.{◌≡◌, ◌↔◌, ◌∙◌, ◌∷◌, ◌++◌, ◌+◌, ◌<◌, ◌≤◌, All, AllPairs, List, [], ap, arith, get_or, inl, inr, length, length-append, map, refl, subst, suc, sym, take, zero, ℕ}
+use Rattle.std.proofs.Common.{◌≡◌, ◌↔◌, ◌∙◌, ◌∷◌, ◌++◌, ◌+◌, ◌<◌, ◌≤◌, AllPairs, List, [], ap, arith, get_or, inl, inr, length, length-append, map, refl, subst, suc, sym, take, zero, ℕ}
 use Rattle.std.proofs.lemmas.Bool.{cases_eq}
 use Rattle.std.proofs.lemmas.List.{append_assoc, length-map, length-take-le, map-append}
 use Rattle.std.proofs.lemmas.List.Elements.{All-from_recursion}

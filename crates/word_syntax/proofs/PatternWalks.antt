@@ -1,12 +1,10 @@
 -- The automaton of a pattern goes from one letter to the next.
-use Rattle.std.proofs.Common.{◌≡◌, ◌≢◌, ◌∙◌, ◌==◌, ◌∷◌, ◌++◌, ◌+◌, ◌-◌, ◌*◌, ◌/◌, ◌%◌, ◌<◌, ◌≤◌, ◌⊎◌, Contains, List, None, Option, Some, [], ap, arith, cond, eq-eqb, get_or, if◌then◌else◌, inl, inr, length, length-append, nat_lt, ne_eqb, refl, slice_get, subst, suc, sym, true, zero, ℕ}
-use Rattle.std.proofs.Math.Nat.{add-mod_right, add-mul-mod_self_left, mod-add-mod, mod-eq_of_lt, mod-lt, mod_self}
-use Rattle.std.proofs.lemmas.Bool.{cases_eq, cases_lt, cond-false, cond-true, le-ltb, lt-ltb}
+use Rattle.std.proofs.Common.{◌≡◌, ◌∙◌, ◌∷◌, ◌++◌, ◌+◌, ◌-◌, ◌%◌, ◌<◌, ◌≤◌, ◌⊎◌, Contains, List, Some, [], ap, arith, cond, eq-eqb, get_or, inl, inr, length, length-append, nat_lt, ne_eqb, refl, slice_get, subst, suc, sym, true, zero, ℕ}
+use Rattle.std.proofs.Math.Nat.{mod-add-mod, mod-eq_of_lt, mod-lt, mod_self}
+use Rattle.std.proofs.lemmas.Bool.{cases_lt, cond-false, cond-true, le-ltb, lt-ltb}
 use Rattle.std.proofs.lemmas.Option.{get_or_from_slice_get, none-some, same_Some, slice_get_within}
-use Rattle.std.proofs.lemmas.Nat.{div-add-mod'}
-use Rattle.aut_base.proofs.Lists.{slice_get-append_left, slice_get-append_right}
 use Rattle.aut_base.specs.Acceptance.{IsPath}
-use Rattle.aut_base.specs.Automaton.{Automaton, TreeEdge}
+use Rattle.aut_base.specs.Automaton.{TreeEdge}
 use Rattle.aut_base.specs.Label.{LabelTree, holds_at, truth}
 use Rattle.aut_base.specs.Word.{NameSet}
 use Rattle.word_syntax.specs.Grammar.{WordPattern}

@@ -1,6 +1,6 @@
 -- The automaton of a pattern accepts the words that match it, and each word that it accepts has a spelling that matches.
-use Rattle.std.proofs.Common.{◌≡◌, ◌≢◌, ◌∙◌, ◌∷◌, ◌++◌, ◌+◌, ◌-◌, ◌*◌, ◌/◌, ◌%◌, ◌<◌, ◌≤◌, ◌⊎◌, ◌↔◌, Contains, List, None, Option, Some, [], ap, arith, drop, inl, inr, length, length-append, length-drop, map, refl, slice_get, subst, suc, sym, take, true, zero, ℕ}
-use Rattle.std.proofs.Math.Nat.{add-mul-mod_self_left, mod-eq_of_lt, mod-lt, mul-le-mul_left}
+use Rattle.std.proofs.Common.{◌≡◌, ◌∙◌, ◌∷◌, ◌++◌, ◌+◌, ◌-◌, ◌*◌, ◌/◌, ◌%◌, ◌<◌, ◌≤◌, ◌↔◌, Contains, List, Option, Some, [], ap, arith, drop, inl, inr, length, length-append, length-drop, refl, slice_get, subst, suc, sym, take, true, zero, ℕ}
+use Rattle.std.proofs.Math.Nat.{add-mul-mod_self_left, mod-eq_of_lt, mod-lt}
 use Rattle.std.proofs.lemmas.Bool.{cases_lt}
 use Rattle.std.proofs.lemmas.List.{append_assoc, append-nil, length-take-le}
 use Rattle.std.proofs.lemmas.Nat.{div-add-mod'}
@@ -15,7 +15,7 @@ use Rattle.aut_base.specs.Label.{LabelTree, holds_at, truth}
 use Rattle.aut_base.specs.Word.{NameSet, SpellsSame, copies, letter_at}
 use Rattle.word_syntax.proofs.Cyclic.{at_cycle, at_stem, copies_at, slice_get-drop, slice_get-take}
 use Rattle.word_syntax.proofs.OneReduced.{Repeats, cycle_repeats, same_at}
-use Rattle.word_syntax.proofs.PatternWalks.{MeetsFrom, Walk, labels, state_at, state_in_cycle, state_in_stem, total_is, walk, walked}
+use Rattle.word_syntax.proofs.PatternWalks.{MeetsFrom, labels, state_at, state_in_cycle, state_in_stem, walk, walked}
 use Rattle.word_syntax.specs.Grammar.{WordPattern}
 use Rattle.word_syntax.specs.Matching.{AcceptTogether, AcceptsPattern, AllMeet, Matches, word_automaton}
 use Rattle.word_syntax.specs.inner.Periods.{cyclic}

@@ -1,5 +1,5 @@
 -- The elements from the front on that pass a test.
-use Rattle.std.proofs.Common.{◌≡◌, ◌∙◌, ◌∷◌, ◌++◌, ◌+◌, Bool, List, [], ap, arith, cond, drop, false, inl, inr, length, refl, subst, suc, sym, take, true, ℕ}
+use Rattle.std.proofs.Common.{◌≡◌, ◌∙◌, ◌∷◌, ◌++◌, ◌+◌, Bool, List, [], ap, arith, drop, inl, inr, length, refl, subst, suc, sym, take, true, ℕ}
 use Rattle.std.proofs.lemmas.Bool.{and_from, and_parts, cases_Bool, cond-false, cond-true}
 use Rattle.std.specs.List.{list_all, prefix_len}
 use Rattle.word_syntax.specs.inner.Nexts.{StopsAt}

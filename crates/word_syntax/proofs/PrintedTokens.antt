@@ -1,7 +1,7 @@
 -- The tokens of a printed word.
-use Rattle.std.proofs.Common.{◌≡◌, ◌≢◌, ◌∙◌, ◌==◌, ◌||◌, ◌&&◌, ◌∷◌, ◌++◌, ◌+◌, ◌<◌, ◌⊎◌, Bool, List, None, Option, Some, [], ap, arith, codes, cond, eq-eqb, false, inl, inr, length, map, not, refl, subst, sym, true, ℕ}
-use Rattle.std.proofs.lemmas.Bool.{and_from, and_left, and_parts, cases_Bool, cond-false, cond-true, eqb-false, eqb-true, or_cases, or_left, or_parts, or_right, not-true}
-use Rattle.std.proofs.lemmas.List.{append_assoc, append-nil}
+use Rattle.std.proofs.Common.{◌≡◌, ◌∙◌, ◌==◌, ◌||◌, ◌&&◌, ◌∷◌, ◌++◌, ◌<◌, List, [], ap, arith, codes, cond, false, inl, inr, length, map, not, refl, subst, sym, true, ℕ}
+use Rattle.std.proofs.lemmas.Bool.{and_parts, cases_Bool, cond-false, cond-true, eqb-false, or_parts, or_right, not-true}
+use Rattle.std.proofs.lemmas.List.{append_assoc}
 use Rattle.std.specs.FinSet.{contains}
 use Rattle.std.specs.List.{list_all}
 use Rattle.std.specs.Prelude.{flat_map}
@@ -10,8 +10,8 @@ use Rattle.aut_base.specs.LabelText.{joined}
 use Rattle.aut_base.specs.Text.{same_text}
 use Rattle.aut_base.specs.Word.{NameSet}
 use Rattle.word_syntax.proofs.FrontTokens.{bare_ends, ends_anyhow}
-use Rattle.word_syntax.specs.Printing.{begins_small, escaped_byte, is_keyword, is_plain, is_small, letter_text, literal_text, name_text, word_text}
-use Rattle.word_syntax.specs.Tokens.{AfterBlanks, Ends, IsBare, IsBareName, IsFront, IsQuotedName, Lexes, Quotes, Spells, escaped, extends, is_blank, is_letter, is_word, nothing, plain}
+use Rattle.word_syntax.specs.Printing.{escaped_byte, is_keyword, is_plain, is_small, letter_text, literal_text, name_text, word_text}
+use Rattle.word_syntax.specs.Tokens.{Ends, IsBare, IsBareName, Lexes, Quotes, Spells, escaped, extends, is_letter, is_word, nothing, plain}
 use Rattle.word_syntax.specs.inner.Nexts.{StopsAt}
 use Rattle.word_syntax.specs.declared.token.Token.{Token}
 use Rattle.word_syntax.specs.declared.token.Token.TheVariants as token
@@ -52,8 +52,9 @@ lex_space text t ts end l = (l.0, l.1, record { before = 32 ∷ l.2.before; spli
 escaped_quotes : (n : List ℕ) → Quotes (flat_map escaped_byte n) n
 escaped_quotes [] = nothing
 escaped_quotes (b ∷ bs) = elim (cases_Bool ((b == 34) || (b == 92))) [
-    inl e ↦ subst (λ (x : List ℕ). Quotes (x ++ flat_map escaped_byte bs) (b ∷ bs)) (sym (cond-true _ _ _ e)) (escaped (escaped_quotes bs))
-  | inr e ↦ (let parts = or_parts (b == 34) (b == 92) e in subst (λ (x : List ℕ). Quotes (x ++ flat_map escaped_byte bs) (b ∷ bs)) (sym (cond-false _ _ _ e)) (plain (eqb-false b 34 parts.0) (eqb-false b 92 parts.1) (escaped_quotes bs))) ]
+  | inl e ↦ subst (λ (x : List ℕ). Quotes (x ++ flat_map escaped_byte bs) (b ∷ bs)) (sym (cond-true _ _ _ e)) (escaped (escaped_quotes bs))
+  | inr e ↦ (let parts = or_parts (b == 34) (b == 92) e in subst (λ (x : List ℕ). Quotes (x ++ flat_map escaped_byte bs) (b ∷ bs)) (sym (cond-false _ _ _ e)) (plain (eqb-false b 34 parts.0) (eqb-false b 92 parts.1) (escaped_quotes bs)))
+]
 
 small_letter : (b : ℕ) → is_small b ≡ true → is_letter b ≡ true
 small_letter b e = or_right _ _ e
@@ -82,16 +83,18 @@ quoted_alone (b ∷ bs) c = refl
 
 lex_name : (n rest : List ℕ) (ts : List Token) (end : List ℕ) → StopsAt is_word rest → Lexes rest ts end → Lexes (name_text n ++ rest) (token.Name n ∷ ts) end
 lex_name n rest ts end stop lexes = elim (cases_Bool (is_plain n)) [
-    inl e ↦ (let bare = plain_bare n e in subst (λ (x : List ℕ). Lexes (x ++ rest) (token.Name n ∷ ts) end) (sym (cond-true _ _ _ e)) (lex_cons (token.Name n) n rest ts end (inl (bare, refl)) (bare_stops n rest bare.bare stop) lexes))
+  | inl e ↦ (let bare = plain_bare n e in subst (λ (x : List ℕ). Lexes (x ++ rest) (token.Name n ∷ ts) end) (sym (cond-true _ _ _ e)) (lex_cons (token.Name n) n rest ts end (inl (bare, refl)) (bare_stops n rest bare.bare stop) lexes))
   | inr e ↦ (let word : List ℕ = 34 ∷ (flat_map escaped_byte n ++ 34 ∷ []) in
-      subst (λ (x : List ℕ). Lexes (x ++ rest) (token.Name n ∷ ts) end) (sym (cond-false _ _ _ e)) (lex_cons (token.Name n) (34 ∷ (flat_map escaped_byte n ++ 34 ∷ [])) rest ts end (inr (record { inner = flat_map escaped_byte n; quotes = escaped_quotes n; is = refl })) (ends_anyhow (34 ∷ (flat_map escaped_byte n ++ 34 ∷ [])) rest (quoted_alone (flat_map escaped_byte n))) lexes)) ]
+      subst (λ (x : List ℕ). Lexes (x ++ rest) (token.Name n ∷ ts) end) (sym (cond-false _ _ _ e)) (lex_cons (token.Name n) (34 ∷ (flat_map escaped_byte n ++ 34 ∷ [])) rest ts end (inr (record { inner = flat_map escaped_byte n; quotes = escaped_quotes n; is = refl })) (ends_anyhow (34 ∷ (flat_map escaped_byte n ++ 34 ∷ [])) rest (quoted_alone (flat_map escaped_byte n))) lexes))
+]
 
 -- a literal
 lex_literal : (x : NameSet) (n rest : List ℕ) (ts : List Token) (end : List ℕ) → StopsAt is_word rest → Lexes rest ts end → Lexes (literal_text x n ++ rest) (literal_tokens x n ++ ts) end
 lex_literal x n rest ts end stop lexes = elim (cases_Bool (contains x n)) [
-    inl e ↦ subst (λ (w : List ℕ). Lexes (w ++ rest) (literal_tokens x n ++ ts) end) (sym (cond-true _ _ _ e)) (subst (λ (w : List Token). Lexes (name_text n ++ rest) (w ++ ts) end) (sym (cond-true _ _ _ e)) (lex_name n rest ts end stop lexes))
+  | inl e ↦ subst (λ (w : List ℕ). Lexes (w ++ rest) (literal_tokens x n ++ ts) end) (sym (cond-true _ _ _ e)) (subst (λ (w : List Token). Lexes (name_text n ++ rest) (w ++ ts) end) (sym (cond-true _ _ _ e)) (lex_name n rest ts end stop lexes))
   | inr e ↦ subst (λ (w : List ℕ). Lexes (w ++ rest) (literal_tokens x n ++ ts) end) (sym (cond-false _ _ _ e)) (subst (λ (w : List Token). Lexes ((codes "!" ++ name_text n) ++ rest) (w ++ ts) end) (sym (cond-false _ _ _ e))
-      (lex_cons token.Not (codes "!") (name_text n ++ rest) (token.Name n ∷ ts) end refl (ends_anyhow (codes "!") (name_text n ++ rest) (λ c. refl)) (lex_name n rest ts end stop lexes))) ]
+      (lex_cons token.Not (codes "!") (name_text n ++ rest) (token.Name n ∷ ts) end refl (ends_anyhow (codes "!") (name_text n ++ rest) (λ c. refl)) (lex_name n rest ts end stop lexes)))
+]
 
 -- spaces in front of what begins with a token
 record Begun (text : List ℕ) (ts : List Token) (end : List ℕ) : Type 0 where
@@ -108,8 +111,9 @@ begun text first others ts end is l = record { first = first; others = others; i
 
 literal_begins : (x : NameSet) (n : List ℕ) (ts : List Token) → (first : Token) × (others : List Token) × (literal_tokens x n ++ ts ≡ first ∷ others)
 literal_begins x n ts = elim (cases_Bool (contains x n)) [
-    inl e ↦ (token.Name n, ts, ap (λ (w : List Token). w ++ ts) (cond-true _ _ _ e))
-  | inr e ↦ (token.Not, token.Name n ∷ ts, ap (λ (w : List Token). w ++ ts) (cond-false _ _ _ e)) ]
+  | inl e ↦ (token.Name n, ts, ap (λ (w : List Token). w ++ ts) (cond-true _ _ _ e))
+  | inr e ↦ (token.Not, token.Name n ∷ ts, ap (λ (w : List Token). w ++ ts) (cond-false _ _ _ e))
+]
 
 literals_begin : (x : NameSet) (n : List ℕ) (ns : List (List ℕ)) (ts : List Token) → (first : Token) × (others : List Token) × (literals_tokens x (n ∷ ns) ++ ts ≡ first ∷ others)
 literals_begin x n [] ts = literal_begins x n ts

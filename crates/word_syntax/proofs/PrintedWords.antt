@@ -1,9 +1,8 @@
 -- A printed word is a word of the grammar, and says what was printed.
-use Rattle.std.proofs.Common.{◌≡◌, ◌≢◌, ◌∙◌, ◌&&◌, ◌∷◌, ◌++◌, ◌+◌, ◌-◌, ◌*◌, ◌%◌, ◌<◌, ◌≤◌, ◌⊎◌, ◌↔◌, AllPairs, Bool, Contains, List, None, Option, Some, [], ap, arith, cond, false, filter, get_or, inl, inr, length, length-append, map, not, refl, slice_get, subst, suc, sym, true, zero, ℕ}
+use Rattle.std.proofs.Common.{◌≡◌, ◌∙◌, ◌&&◌, ◌∷◌, ◌++◌, ◌+◌, ◌-◌, ◌*◌, ◌%◌, ◌<◌, ◌↔◌, Bool, List, Option, Some, [], ap, arith, cond, false, inl, inr, length, length-append, map, not, refl, slice_get, subst, suc, sym, true, zero, ℕ}
 use Rattle.std.proofs.Math.Nat.{add-mul-mod_self_left}
 use Rattle.std.proofs.lemmas.Bool.{and_from, and_parts, cases_Bool, cases_lt, cond-false, cond-true, not_from_false}
 use Rattle.std.proofs.lemmas.List.{append_assoc, append-nil, map-append}
-use Rattle.std.proofs.lemmas.Option.{get_or_from_slice_get, same_Some, slice_get_within}
 use Rattle.std.specs.FinSet.{contains}
 use Rattle.std.specs.List.{AllByRecursion, list_all}
 use Rattle.std.specs.Option.{option_map_or}
@@ -13,19 +12,17 @@ use Rattle.aut_base.proofs.Lists.{slice_get-append_right}
 use Rattle.aut_base.proofs.Ordered.{Pairs, all_kept, pairs_from}
 use Rattle.aut_base.proofs.Spelled.{word_letter}
 use Rattle.aut_base.proofs.Truth.{and-true}
-use Rattle.aut_base.specs.CanonicalLabel.{all_of, one_of}
+use Rattle.aut_base.specs.CanonicalLabel.{all_of}
 use Rattle.aut_base.specs.Label as label
 use Rattle.aut_base.specs.Label.{LabelTree, all_true, holds_at, trees, truth}
 use Rattle.aut_base.specs.Text.{same_text}
-use Rattle.aut_base.specs.Word.{NameSet, SpellsSame, copies, letter_at}
+use Rattle.aut_base.specs.Word.{NameSet, SpellsSame, copies}
 use Rattle.word_syntax.proofs.Cyclic.{at_cycle, at_stem, copies_at, mod_of_multiple}
 use Rattle.word_syntax.proofs.NamePlaces.{Differ, Has, contains_has, differ_texts, has_contains, mutual_push, names_of-append, others}
 use Rattle.word_syntax.proofs.PrintedTokens.{cycle_tokens, letter_tokens, literal_tokens, literals_tokens, printed_tokens, stem_tokens, word_tokens}
-use Rattle.word_syntax.specs.Grammar.{AreConjunctions, AreLetters, AreOperands, IsConjunction, IsLetter, IsOperand, IsWord, WordPattern, alternative, always, distinct, either, group, joined, letter, names_of, negated, never, no_conjunction, no_letter, no_operand, operand, proposition}
+use Rattle.word_syntax.specs.Grammar.{AreLetters, AreOperands, IsConjunction, IsLetter, IsOperand, IsWord, WordPattern, always, distinct, either, joined, letter, names_of, negated, no_conjunction, no_letter, no_operand, operand, proposition}
 use Rattle.word_syntax.specs.Matching.{AllMeet, Matches}
-use Rattle.word_syntax.specs.Printing.{word_text}
-use Rattle.word_syntax.specs.ReadBack.{AgreesOn, AgreesUnrolled, AllAgree, IsReadBack, PrintedIsReadBack}
-use Rattle.word_syntax.specs.inner.Periods.{cyclic}
+use Rattle.word_syntax.specs.ReadBack.{AgreesOn, AgreesUnrolled, AllAgree, PrintedIsReadBack}
 use Rattle.word_syntax.specs.declared.token.Token.{Token}
 use Rattle.word_syntax.specs.declared.token.Token.TheVariants as token
 
@@ -42,8 +39,9 @@ letter_tree names x = all_of (literal_trees x 0 names)
 
 literal_operand : (names : List (List ℕ)) (x : NameSet) (i : ℕ) (n : List ℕ) → slice_get names i ≡ Some n → IsOperand names 512 (literal_tokens x n) (literal_tree x i n)
 literal_operand names x i n stands = elim (cases_Bool (contains x n)) [
-    inl e ↦ subst (λ (w : List Token). IsOperand names 512 w (literal_tree x i n)) (sym (cond-true _ _ _ e)) (subst (λ (t : LabelTree). IsOperand names 512 (token.Name n ∷ []) t) (sym (cond-true _ _ _ e)) (proposition n i stands))
-  | inr e ↦ subst (λ (w : List Token). IsOperand names 512 w (literal_tree x i n)) (sym (cond-false _ _ _ e)) (subst (λ (t : LabelTree). IsOperand names 512 (token.Not ∷ token.Name n ∷ []) t) (sym (cond-false _ _ _ e)) (negated {room = 511} (proposition n i stands))) ]
+  | inl e ↦ subst (λ (w : List Token). IsOperand names 512 w (literal_tree x i n)) (sym (cond-true _ _ _ e)) (subst (λ (t : LabelTree). IsOperand names 512 (token.Name n ∷ []) t) (sym (cond-true _ _ _ e)) (proposition n i stands))
+  | inr e ↦ subst (λ (w : List Token). IsOperand names 512 w (literal_tree x i n)) (sym (cond-false _ _ _ e)) (subst (λ (t : LabelTree). IsOperand names 512 (token.Not ∷ token.Name n ∷ []) t) (sym (cond-false _ _ _ e)) (negated {room = 511} (proposition n i stands)))
+]
 
 conjunction_from : (names : List (List ℕ)) (x : NameSet) (pre : List (List ℕ)) (i : ℕ) (n : List ℕ) (ns : List (List ℕ)) (v : List Token) (ts : List LabelTree) → names ≡ pre ++ (n ∷ ns) → i ≡ length pre → AreOperands names 512 v ts → IsConjunction names 512 (v ++ literals_tokens x (n ∷ ns)) (all_of (ts ++ literal_trees x i (n ∷ ns)))
 conjunction_from names x pre i n [] v ts is at before =
@@ -197,10 +195,11 @@ literal_truth : (names : List (List ℕ)) (x y : NameSet) (i : ℕ) (n : List �
 literal_truth names x y i n stands =
     let holds : holds_at names x i ≡ contains x n = ap (λ (o : Option (List ℕ)). option_map_or (contains x) o false) stands in
     elim (cases_Bool (contains y n)) [
-      inl e ↦ (let t : truth (holds_at names x) (literal_tree y i n) ≡ contains x n = ap (truth (holds_at names x)) (cond-true _ _ _ e) ∙ holds in
-        (λ h. sym t ∙ (h ∙ sym e), λ h. t ∙ (h ∙ e)))
-    | inr e ↦ (let t : truth (holds_at names x) (literal_tree y i n) ≡ not (contains x n) = ap (truth (holds_at names x)) (cond-false _ _ _ e) ∙ ap not holds in
-        (λ h. negated_true (contains x n) (sym t ∙ h) ∙ sym e, λ h. t ∙ ap not (h ∙ e))) ]
+      | inl e ↦ (let t : truth (holds_at names x) (literal_tree y i n) ≡ contains x n = ap (truth (holds_at names x)) (cond-true _ _ _ e) ∙ holds in
+          (λ h. sym t ∙ (h ∙ sym e), λ h. t ∙ (h ∙ e)))
+      | inr e ↦ (let t : truth (holds_at names x) (literal_tree y i n) ≡ not (contains x n) = ap (truth (holds_at names x)) (cond-false _ _ _ e) ∙ ap not holds in
+          (λ h. negated_true (contains x n) (sym t ∙ h) ∙ sym e, λ h. t ∙ ap not (h ∙ e)))
+    ]
   where
     negated_true : (b : Bool) → not b ≡ true → b ≡ false
     negated_true true h = sym h
@@ -211,11 +210,13 @@ trees_truth names x y pre i [] is at = (λ h n has. absurd has, λ h. refl)
 trees_truth names x y pre i (m ∷ ms) is at =
     let z : i ≡ length pre + 0 = omega arith in
     let one = literal_truth names x y i m (ap (λ (w : List (List ℕ)). slice_get w i) is ∙ slice_get-append_right pre (m ∷ ms) 0 i z) in
-    let rest = trees_truth names x y (pre ++ m ∷ []) (i + 1) ms (is ∙ sym (append_assoc pre (m ∷ []) ms)) (omega (arith, length-append pre (m ∷ []))) in
-    ((λ h. (let parts = and_parts _ _ h in λ n has. elim has [
-        inl e ↦ subst (λ (k : List ℕ). contains x k ≡ contains y k) e (one.0 parts.0)
-      | inr later ↦ rest.0 parts.1 n later ])),
-    λ h. and_from _ _ (one.1 (h m (inl refl))) (rest.1 (λ n has. h n (inr has))))
+    let rest = trees_truth names x y (pre ++ m ∷ []) (i + 1) ms (is ∙ sym (append_assoc pre (m ∷ []) ms)) (omega (arith, length-append pre (m ∷ []))) in (
+      (λ h. (let parts = and_parts _ _ h in λ n has. elim has [
+        | inl e ↦ subst (λ (k : List ℕ). contains x k ≡ contains y k) e (one.0 parts.0)
+        | inr later ↦ rest.0 parts.1 n later
+      ])),
+      λ h. and_from _ _ (one.1 (h m (inl refl))) (rest.1 (λ n has. h n (inr has))),
+    )
 
 letter_truth : (names : List (List ℕ)) (x y : NameSet) → (truth (holds_at names x) (letter_tree names y) ≡ true) ↔ AgreesOn names x y
 letter_truth names x y =
@@ -242,37 +243,39 @@ unrolled_same u v turns rounds some more n =
     let long : length (u ++ copies turns v) ≡ length u + turns * length v = length-append u (copies turns v) ∙ ap (λ (k : ℕ). length u + k) (length-copies turns v) in
     let size : length (copies rounds v) ≡ rounds * length v = length-copies rounds v in
     elim (cases_lt n (length u + turns * length v)) [
-      inl inside ↦ at_stem (u ++ copies turns v) (copies rounds v) n (omega arith) ∙ sym (word_letter u v turns n some inside)
-    | inr past ↦ (let positive : 0 < rounds * length v = times rounds (length v) more some in
-        let below : (n - (length u + turns * length v)) % (rounds * length v) < rounds * length v = omega arith in
-        let split : n - length u ≡ n - (length u + turns * length v) + length v * turns = omega arith in
-        at_cycle (u ++ copies turns v) (copies rounds v) n (omega arith) ∙ (ap (λ (k : ℕ). slice_get (copies rounds v) ((n - k) % length (copies rounds v))) long ∙ (ap (λ (k : ℕ). slice_get (copies rounds v) ((n - (length u + turns * length v)) % k)) size
-        ∙ (copies_at rounds v ((n - (length u + turns * length v)) % (rounds * length v)) below ∙ (ap (slice_get v) (mod_of_multiple (n - (length u + turns * length v)) (rounds * length v) rounds (length v) refl)
-        ∙ (ap (slice_get v) (sym (add-mul-mod_self_left (n - (length u + turns * length v)) (length v) turns) ∙ ap (λ (k : ℕ). k % length v) (sym split)) ∙ sym (at_cycle u v n (omega arith)))))))) ]
+      | inl inside ↦ at_stem (u ++ copies turns v) (copies rounds v) n (omega arith) ∙ sym (word_letter u v turns n some inside)
+      | inr past ↦ (let positive : 0 < rounds * length v = times rounds (length v) more some in
+          let below : (n - (length u + turns * length v)) % (rounds * length v) < rounds * length v = omega arith in
+          let split : n - length u ≡ n - (length u + turns * length v) + length v * turns = omega arith in
+          at_cycle (u ++ copies turns v) (copies rounds v) n (omega arith) ∙ (ap (λ (k : ℕ). slice_get (copies rounds v) ((n - k) % length (copies rounds v))) long ∙ (ap (λ (k : ℕ). slice_get (copies rounds v) ((n - (length u + turns * length v)) % k)) size
+          ∙ (copies_at rounds v ((n - (length u + turns * length v)) % (rounds * length v)) below ∙ (ap (slice_get v) (mod_of_multiple (n - (length u + turns * length v)) (rounds * length v) rounds (length v) refl)
+          ∙ (ap (slice_get v) (sym (add-mul-mod_self_left (n - (length u + turns * length v)) (length v) turns) ∙ ap (λ (k : ℕ). k % length v) (sym split)) ∙ sym (at_cycle u v n (omega arith))))))))
+    ]
   where
     times : (k l : ℕ) → 0 < k → 0 < l → 0 < k * l
     times zero l h m = absurd (omega arith)
     times (suc k) l h m = omega arith
 
 printed_matches : (names : List (List ℕ)) (u v : List NameSet) → 0 < length v → (x y : List NameSet) → Matches (printed_pattern names u v) x y ↔ AgreesUnrolled names u v x y
-printed_matches names u v some x y =
-    ((λ m. (let stem : map (letter_tree names) u ++ copies m.turns (map (letter_tree names) v) ≡ map (letter_tree names) (u ++ copies m.turns v) = sym (map-append (letter_tree names) u (copies m.turns v) ∙ ap (λ (ts : List LabelTree). map (letter_tree names) u ++ ts) (map-copies (letter_tree names) m.turns v)) in
-        record {
-          turns = m.turns;
-          rounds = m.rounds;
-          some = m.some;
-          same = unrolled_same u v m.turns m.rounds some m.some;
-          stem = (all_meet_agree names x (u ++ copies m.turns v)).0 (subst (λ (ts : List LabelTree). AllMeet names x ts) stem m.stem);
-          cycle = (all_meet_agree names y (copies m.rounds v)).0 (subst (λ (ts : List LabelTree). AllMeet names y ts) (sym (map-copies (letter_tree names) m.rounds v)) m.cycle);
-        })),
-    λ a. (let stem : map (letter_tree names) (u ++ copies a.turns v) ≡ map (letter_tree names) u ++ copies a.turns (map (letter_tree names) v) = map-append (letter_tree names) u (copies a.turns v) ∙ ap (λ (ts : List LabelTree). map (letter_tree names) u ++ ts) (map-copies (letter_tree names) a.turns v) in
-        record {
-          turns = a.turns;
-          rounds = a.rounds;
-          some = a.some;
-          stem = subst (λ (ts : List LabelTree). AllMeet names x ts) stem ((all_meet_agree names x (u ++ copies a.turns v)).1 a.stem);
-          cycle = subst (λ (ts : List LabelTree). AllMeet names y ts) (map-copies (letter_tree names) a.rounds v) ((all_meet_agree names y (copies a.rounds v)).1 a.cycle);
-        }))
+printed_matches names u v some x y = (
+  (λ m. (let stem : map (letter_tree names) u ++ copies m.turns (map (letter_tree names) v) ≡ map (letter_tree names) (u ++ copies m.turns v) = sym (map-append (letter_tree names) u (copies m.turns v) ∙ ap (λ (ts : List LabelTree). map (letter_tree names) u ++ ts) (map-copies (letter_tree names) m.turns v)) in
+      record {
+        turns = m.turns;
+        rounds = m.rounds;
+        some = m.some;
+        same = unrolled_same u v m.turns m.rounds some m.some;
+        stem = (all_meet_agree names x (u ++ copies m.turns v)).0 (subst (λ (ts : List LabelTree). AllMeet names x ts) stem m.stem);
+        cycle = (all_meet_agree names y (copies m.rounds v)).0 (subst (λ (ts : List LabelTree). AllMeet names y ts) (sym (map-copies (letter_tree names) m.rounds v)) m.cycle);
+      })),
+  λ a. (let stem : map (letter_tree names) (u ++ copies a.turns v) ≡ map (letter_tree names) u ++ copies a.turns (map (letter_tree names) v) = map-append (letter_tree names) u (copies a.turns v) ∙ ap (λ (ts : List LabelTree). map (letter_tree names) u ++ ts) (map-copies (letter_tree names) a.turns v) in
+      record {
+        turns = a.turns;
+        rounds = a.rounds;
+        some = a.some;
+        stem = subst (λ (ts : List LabelTree). AllMeet names x ts) stem ((all_meet_agree names x (u ++ copies a.turns v)).1 a.stem);
+        cycle = subst (λ (ts : List LabelTree). AllMeet names y ts) (map-copies (letter_tree names) a.rounds v) ((all_meet_agree names y (copies a.rounds v)).1 a.cycle);
+      }),
+)
 
 pub printed_is_read_back : PrintedIsReadBack
 printed_is_read_back names u [] differ some short = absurd (omega arith)

@@ -1,7 +1,7 @@
 -- A text is read in one way at most.
-use Rattle.std.proofs.Common.{◌≡◌, ◌≢◌, ◌∙◌, ◌∷◌, ◌++◌, ◌+◌, ◌-◌, ◌<◌, ◌≤◌, ◌^◌, ◌⊎◌, ◌==◌, ◌||◌, Bool, List, None, Option, Some, [], ap, arith, cond, drop, false, inl, inr, length, refl, subst, suc, sym, take, true, zero, ℕ}
-use Rattle.std.proofs.lemmas.Bool.{and_from, and_parts, cases_Bool, cond-false, cond-true, eqb-true, or_cases}
-use Rattle.std.proofs.lemmas.List.{append_assoc, append-nil, take-append-drop}
+use Rattle.std.proofs.Common.{◌≡◌, ◌∙◌, ◌∷◌, ◌++◌, ◌⊎◌, ◌==◌, Bool, List, None, [], ap, arith, drop, false, inl, inr, length, refl, subst, sym, true, ℕ}
+use Rattle.std.proofs.lemmas.Bool.{and_parts, cases_Bool, eqb-true, or_cases}
+use Rattle.std.proofs.lemmas.List.{append_assoc}
 use Rattle.std.proofs.lemmas.Option.{none-some}
 use Rattle.std.specs.List.{list_all, prefix_len}
 use Rattle.word_syntax.proofs.FrontTokens.{front_cons, front_stands, one_front}

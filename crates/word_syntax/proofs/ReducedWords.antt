@@ -1,11 +1,13 @@
 -- The stem that is left and the turned root are the reduced lasso of the same infinite word.
-use Rattle.std.proofs.Common.{◌≡◌, ◌≢◌, ◌∙◌, ◌∷◌, ◌++◌, ◌+◌, ◌-◌, ◌*◌, ◌/◌, ◌%◌, ◌<◌, ◌≤◌, ◌⊎◌, List, Option, Some, [], ap, arith, drop, inl, inr, length, length-append, length-drop, refl, slice_get, subst, suc, sym, take, zero, ℕ}
-use Rattle.std.proofs.Math.Nat.{add-mod_left, add-mod_right, mod-eq_of_lt}
+use Rattle.std.proofs.Common.{◌↔◌, ◌≡◌, ◌≢◌, ◌∙◌, ◌∷◌, ◌++◌, ◌+◌, ◌-◌, ◌*◌, ◌%◌, ◌<◌, ◌≤◌, ◌⊎◌, List, Some, [], ap, arith, drop, inl, inr, length, length-append, refl, slice_get, subst, suc, sym, take, zero, ℕ}
+use Rattle.std.proofs.Math.Nat.{add-mod_right, mod-eq_of_lt}
 use Rattle.std.proofs.lemmas.Bool.{cases_lt}
 use Rattle.std.proofs.lemmas.List.{length-take-le}
-use Rattle.std.proofs.lemmas.Option.{same_Some}
 use Rattle.aut_base.proofs.Copies.{length-copies}
 use Rattle.aut_base.proofs.Lists.{slice_get-push_last}
+use Rattle.aut_base.proofs.SameWord as same_word
+use Rattle.aut_base.specs.Acceptance.{Accepts}
+use Rattle.aut_base.specs.Automaton.{Automaton}
 use Rattle.aut_base.specs.Word.{IsReduced, NameSet, SpellsSame, copies, letter_at}
 use Rattle.word_syntax.proofs.Cyclic.{at_cycle, at_stem, copies_at, cyclic_again, length-turned, mod_of_multiple, slice_get-take, turned_at}
 use Rattle.word_syntax.specs.inner.Periods.{IsMidShared, IsRoot, IsShared, cyclic}
@@ -177,3 +179,7 @@ last_before root from before inside (inr b) = last_inside root from b.0 inside �
 
 pub shared_end : (stem root : List NameSet) (kept from before : ℕ) → IsMidShared stem root kept from → Before root from before → slice_get stem (kept - 1) ≢ slice_get root before → IsShared stem root kept from
 shared_end stem root kept from before m b differ = record { shared = m; last = λ some e. differ (e ∙ last_before root from before m.inside b) }
+
+-- so each automaton accepts both or neither
+pub made_accepted : (stem cycle u v : List NameSet) → 0 < length cycle → Made stem cycle u v → (a : Automaton) → Accepts a u v ↔ Accepts a stem cycle
+made_accepted stem cycle u v some m a = same_word.same_word_same_verdict a u v stem cycle (omega (arith, made_size stem cycle u v m, m.root.some)) some (made_same stem cycle u v m)

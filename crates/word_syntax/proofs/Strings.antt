@@ -1,5 +1,5 @@
 -- How a string is read byte by byte.
-use Rattle.std.proofs.Common.{◌≡◌, ◌≢◌, ◌∙◌, ◌==◌, ◌∷◌, ◌++◌, ◌+◌, ◌<◌, ◌≤◌, Bool, List, None, Option, Some, [], add_assoc, ap, arith, cond, drop, eq-eqb, get_or, length, ne_eqb, refl, sym, ℕ}
+use Rattle.std.proofs.Common.{◌≡◌, ◌∙◌, ◌∷◌, ◌++◌, ◌+◌, ◌<◌, List, None, Option, Some, [], add_assoc, ap, arith, drop, eq-eqb, get_or, length, ne_eqb, refl, sym, ℕ}
 use Rattle.std.proofs.lemmas.Bool.{cond-false, cond-true}
 use Rattle.std.proofs.lemmas.List.{append_assoc, append-nil, drop_more}
 use Rattle.std.specs.Option.{option_map}

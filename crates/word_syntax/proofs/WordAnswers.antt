@@ -1,13 +1,12 @@
 -- What the answers to a text are put together from.
-use Rattle.std.proofs.Common.{◌≡◌, ◌≢◌, ◌∙◌, ◌+◌, ◌<◌, ◌≤◌, ◌^◌, List, None, Option, Some, Result, Ok, Err, arith, drop, length, map, refl, subst, sym, ap, ℕ}
-use Rattle.std.proofs.lemmas.Option.{none-some, same_Some, some_pair_parts}
+use Rattle.std.proofs.Common.{◌≡◌, ◌≢◌, ◌∙◌, ◌<◌, ◌^◌, List, None, Option, Some, Result, Ok, Err, drop, length, map, subst, sym, ap, ℕ}
+use Rattle.std.proofs.lemmas.Option.{some_pair_parts}
 use Rattle.std.specs.Result.{IsErrAnd}
 use Rattle.aut_base.specs.Label.{label_tree}
 use Rattle.word_syntax.proofs.FrontTokens.{front_found, front_stands, none_found}
 use Rattle.word_syntax.proofs.Midways.{ended_early, stopped_bad, written}
-use Rattle.word_syntax.specs.Grammar.{WordPattern}
 use Rattle.word_syntax.specs.Tokens.{IsFront}
-use Rattle.word_syntax.specs.Writing.{AnswersWord, IsBadAt, IsNameAtFront, IsStoppedAt, NoNameAtFront, Writes, WritesNothing}
+use Rattle.word_syntax.specs.Writing.{AnswersWord, IsBadAt, IsNameAtFront, NoNameAtFront, Writes, WritesNothing}
 use Rattle.word_syntax.specs.inner.Fronts.{front_token}
 use Rattle.word_syntax.specs.inner.Reading.{IsThrough, StopsOrGoes}
 use Rattle.word_syntax.specs.declared.pattern.Pattern.{Pattern}

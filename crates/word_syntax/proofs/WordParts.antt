@@ -1,12 +1,11 @@
 -- What a word's reader has read is a part of a word, as the grammar has it.
-use Rattle.std.proofs.Common.{◌≡◌, ◌∙◌, ◌∷◌, ◌++◌, ◌+◌, ◌<◌, ◌≤◌, ◌&&◌, ◌==◌, Bool, List, None, Option, Some, [], ap, arith, cond, false, length, not, refl, subst, suc, sym, true, zero, ℕ}
-use Rattle.std.proofs.lemmas.Bool.{and_parts, cond-true, not-true}
+use Rattle.std.proofs.Common.{◌≡◌, ◌∙◌, ◌∷◌, ◌++◌, ◌&&◌, ◌==◌, Bool, List, None, Option, Some, [], ap, arith, cond, false, not, refl, subst, sym, true, ℕ}
+use Rattle.std.proofs.lemmas.Bool.{and_parts}
 use Rattle.std.proofs.lemmas.Bool.Decides.{nat_tests}
 use Rattle.std.proofs.lemmas.List.{append_assoc, append-nil}
 use Rattle.std.proofs.lemmas.Option.{cond_some, none-some, option_and_then_some, same_Some}
-use Rattle.std.specs.Option.{option_and_then, option_map}
+use Rattle.std.specs.Option.{option_map}
 use Rattle.aut_base.specs.Label.{LabelTree}
-use Rattle.word_syntax.proofs.InLetters.{in_letter}
 use Rattle.word_syntax.proofs.LetterParts.{IsLevel, IsPart, Knows, Surrounds, level_letter, nots, part_fresh, part_step}
 use Rattle.word_syntax.specs.Grammar.{AreConjunctions, AreLetters, AreOperands, IsLetter, alternative, letter, no_conjunction, no_letter, no_operand, operand}
 use Rattle.word_syntax.specs.inner.Machine as machine

@@ -1,5 +1,5 @@
 -- A word's reader and the grammar agree: on what is a word, on what a word can begin with, and on the pattern.
-use Rattle.std.proofs.Common.{◌≡◌, ◌≢◌, ◌∙◌, ◌∷◌, ◌++◌, ◌≤◌, List, None, Option, Some, [], ap, arith, refl, subst, sym, true, ℕ}
+use Rattle.std.proofs.Common.{◌≡◌, ◌≢◌, ◌∙◌, ◌∷◌, ◌++◌, List, None, Some, [], ap, arith, refl, subst, sym, ℕ}
 use Rattle.std.proofs.lemmas.List.{append_assoc, append-nil}
 use Rattle.std.specs.List.{AllByRecursion}
 use Rattle.aut_base.specs.Label.{LabelTree}
@@ -10,10 +10,10 @@ use Rattle.word_syntax.proofs.NamePlaces.{agrees_front, distinct_differ, distinc
 use Rattle.word_syntax.proofs.Runs.{runs_once, runs_over, runs_push, runs_stuck, runs_then, runs_to}
 use Rattle.word_syntax.specs.inner.Runs.{Runs}
 use Rattle.word_syntax.proofs.WordParts.{EndPart, IsWordPart, PartAt, word, word_part_start, word_part_step}
-use Rattle.word_syntax.specs.Grammar.{AreLetters, Begins, IsLetter, IsWord, WordPattern, distinct, letter, names_of, no_letter}
+use Rattle.word_syntax.specs.Grammar.{AreLetters, Begins, IsWord, WordPattern, distinct, letter, names_of, no_letter}
 use Rattle.word_syntax.specs.inner.Chains.{Agrees}
 use Rattle.word_syntax.specs.inner.Reading.{HasRead}
-use Rattle.word_syntax.specs.inner.Machine.{LetterState, WordState, fresh, letter_step, with_letter, word_start, word_step}
+use Rattle.word_syntax.specs.inner.Machine.{WordState, fresh, with_letter, word_start, word_step}
 use Rattle.word_syntax.specs.declared.stage.Stage.{Stage}
 use Rattle.word_syntax.specs.declared.stage.Stage.TheVariants.{Stem, Brace, Cycle, End}
 use Rattle.word_syntax.specs.declared.token.Token.{Token}

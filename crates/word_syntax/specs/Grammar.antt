@@ -6,11 +6,12 @@
 --     operand     = "1" | "0" | NAME | "!" operand | "(" letter ")"
 --
 -- A formula's propositions go by the place of their names in the list of names.
-use Rattle.std.specs.Prelude.{◌≡◌, ℕ, zero, suc, List, [], ◌∷◌, ◌++◌, Some, Bool, if◌then◌else◌, filter, not, slice_get}
+use Rattle.std.specs.Prelude.{◌≡◌, ℕ, suc, List, [], ◌∷◌, ◌++◌, Some, filter, not, slice_get}
 use Rattle.aut_base.specs.CanonicalLabel.{all_of, one_of}
 use Rattle.aut_base.specs.Label as label
 use Rattle.aut_base.specs.Label.{LabelTree}
 use Rattle.aut_base.specs.Text.{same_text}
+use Rattle.aut_base.specs.declared.limit.TheConstants.{MOST_DEPTH}
 use Rattle.word_syntax.specs.declared.token.Token.{Token}
 use Rattle.word_syntax.specs.declared.token.Token.TheVariants as token
 
@@ -67,7 +68,7 @@ distinct (name ∷ names) = name ∷ filter (λ other. not (same_text name other
 
 -- the most `(` and `!` of a letter that may be open at once
 abbrev pub most_open : ℕ
-most_open = 512
+most_open = MOST_DEPTH
 
 -- word = (letter ";")* "cycle" "{" (letter ";")* letter "}"
 -- The pattern's names are those that the tokens have, in the order in which they first appear.

@@ -1,11 +1,11 @@
 -- How a lasso word is printed: a conjunction of literals in the place of each letter.
-use Rattle.std.specs.Prelude.{◌≡◌, ℕ, ◌==◌, ◌&&◌, ◌||◌, Bool, false, not, if◌then◌else◌, Contains, IsTrue, List, [], ◌∷◌, ◌++◌, map, flat_map, codes, nat_le}
+use Rattle.std.specs.Prelude.{ℕ, ◌==◌, ◌&&◌, ◌||◌, Bool, false, not, if◌then◌else◌, Contains, IsTrue, List, [], ◌∷◌, ◌++◌, map, flat_map, codes, nat_le}
 use Rattle.std.specs.FinSet.{contains}
 use Rattle.std.specs.List.{list_all}
 use Rattle.aut_base.specs.LabelText.{joined}
 use Rattle.aut_base.specs.Text.{same_text}
 use Rattle.aut_base.specs.Word.{NameSet}
-use Rattle.word_syntax.specs.Tokens.{is_letter, is_word}
+use Rattle.word_syntax.specs.Tokens.{is_word}
 
 -- `a` to `z` or `_`
 abbrev pub is_small : ℕ → Bool

@@ -1,5 +1,5 @@
 -- Which pattern a text writes, and where a text that writes none goes wrong.
-use Rattle.std.specs.Prelude.{◌≡◌, ℕ, ◌+◌, ◌^◌, ◌<◌, ◌≤◌, ◌⊎◌, true, false, List, [], ◌∷◌, ◌++◌, length, map, drop, Result, Ok, Err, Option, Some, None}
+use Rattle.std.specs.Prelude.{◌≡◌, ℕ, ◌+◌, ◌^◌, ◌<◌, ◌≤◌, ◌⊎◌, true, false, List, [], ◌∷◌, ◌++◌, length, map, drop, Result, Ok, Err}
 use Rattle.std.specs.List.{list_all}
 use Rattle.aut_base.specs.Label.{label_tree}
 use Rattle.word_syntax.specs.Grammar.{Begins, IsWord, WordPattern}

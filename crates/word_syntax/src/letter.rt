@@ -1,5 +1,6 @@
 //! The reader of a letter, which takes one token at a time and keeps what is open.
 
+ghost use Rattle.aut_base.specs.declared.limit.TheConstants.{MOST_DEPTH};
 ghost use Rattle.std.specs.Prelude.{◌≡◌, true, false, ◌+◌, ◌<◌, ◌≤◌, ◌^◌, length, IfOk, Some, None};
 ghost use Rattle.std.specs.Option.{option_map};
 ghost use Rattle.aut_base.specs.Label.{label_tree};
@@ -8,11 +9,8 @@ ghost use Rattle.word_syntax.specs.inner.Machine as machine;
 use crate::chain::Chain;
 use crate::names::place;
 use crate::token::Token;
-use aut_base::{Label, Memory, Names};
+use aut_base::{Label, MOST_DEPTH, Memory, Names};
 use std::alloc::Global;
-
-/// The most `(` and `!` of a letter that may be open at once.
-const MOST_OPEN: u32 = 512;
 
 /// A letter, or a part of one in parentheses, as far as it is read.
 #[derive(Debug, Drop)]
@@ -25,7 +23,7 @@ pub(crate) struct Level {
     ands: Chain,
     /// How many `!` stand before the operand that is to come.
     nots: u32,
-    ghost within: { around + nots ≤ 512 },
+    ghost within: { around + nots ≤ MOST_DEPTH },
 }
 
 /// A letter as far as it is read.
@@ -43,7 +41,7 @@ impl Level {
 
     // Nothing of it is read.
     fn new(around: u32) -> Level
-        requires { around ≤ 512 }
+        requires { around ≤ MOST_DEPTH }
         ensures { level_tree result ≡ machine.fresh_level around }
     {
         Level {
@@ -103,8 +101,8 @@ impl Level {
             ands,
             nots: _,
         } = self;
-        let ors = ors.add(alloc, ands.all())?;
-        Ok(ors.one_of())
+        let whole = ors.add(alloc, ands.all())?;
+        Ok(whole.one_of())
     }
 }
 
@@ -219,7 +217,7 @@ impl LetterReader {
             ands,
             nots,
         } = level;
-        if around + nots >= MOST_OPEN {
+        if around + nots >= MOST_DEPTH {
             return None;
         }
         let level = Level {
@@ -245,7 +243,7 @@ impl LetterReader {
             ready: _,
         } = self;
         let around = level.around + level.nots;
-        if around >= MOST_OPEN {
+        if around >= MOST_DEPTH {
             return Ok(None);
         }
         outer.push(level)?;

@@ -51,9 +51,9 @@ fn read_tokens(alloc: Global, bytes: &[u8]) -> Result<WordReader, WordFault>
                 reader = next;
                 at = end;
             }
-            Next::Nothing(start) => {
-                if start < bytes.len() {
-                    return Err(WordFault::BadWord(start as u64));
+            Next::Nothing(place) => {
+                if place < bytes.len() {
+                    return Err(WordFault::BadWord(place as u64));
                 }
                 return Ok(reader);
             }

@@ -1,6 +1,8 @@
 //! The shortest lasso of an infinite word.
 
-ghost use Rattle.std.specs.Prelude.{IfOk};
+ghost use Rattle.std.specs.Prelude.{◌↔◌, IfOk};
+ghost use Rattle.aut_base.specs.Acceptance.{Accepts};
+ghost use Rattle.aut_base.specs.Automaton.{Automaton as AutomatonTree};
 ghost use Rattle.aut_base.specs.Word.{IsReduced, SpellsSame};
 
 use crate::letters::{before, behind, push_copies};
@@ -8,11 +10,11 @@ use crate::period::{root_size, shared_end};
 use aut_base::{Lasso, Letters, Memory};
 use std::alloc::Global;
 
-/// The reduced lasso of the same infinite word. By the law `same_word_same_verdict` of aut_base an automaton accepts both
-/// or neither.
+/// The reduced lasso of the same infinite word. Each automaton accepts both or neither.
 pub fn reduce(alloc: Global, word: &Lasso) -> Result<Lasso, Memory>
     ensures same { IfOk result (λ new. SpellsSame new.stem new.cycle word.now.stem word.now.cycle) }
     ensures reduced { IfOk result (λ new. IsReduced new.stem new.cycle) }
+    ensures accepted { IfOk result (λ new. (a : AutomatonTree) → Accepts a new.stem new.cycle ↔ Accepts a word.now.stem word.now.cycle) }
 {
     let letters = word.cycle.as_slice();
     let root = before(letters, root_size(alloc, letters)?);

@@ -1,4 +1,4 @@
-use Rattle.std.proofs.Common.{arith, length, subst, sym, ◌<◌}
+use Rattle.std.proofs.Common.{arith, subst, sym}
 use Rattle.std.proofs.lemmas.List.{length-map}
 use Rattle.aut_base.specs.Automaton.{Automaton, IsWellFormed, automaton}
 use Rattle.aut_base.specs.Label.{label_tree}

@@ -1,4 +1,4 @@
-use Rattle.std.proofs.Common.{List, [], ap, arith, length, map, subst, sym, ◌+◌, ◌++◌, ◌∷◌, ◌∙◌, ◌≡◌, ℕ}
+use Rattle.std.proofs.Common.{List, [], ap, arith, length, map, ◌+◌, ◌++◌, ◌∷◌, ◌∙◌, ◌≡◌, ℕ}
 use Rattle.std.proofs.lemmas.List.{length-append, length-map}
 use Rattle.aut_base.proofs.FormulaTrees.{formula_tree-True}
 use Rattle.aut_base.specs.Automaton.{tree_edge}

@@ -1,4 +1,4 @@
-use Rattle.std.proofs.Common.{◌≡◌, ◌+◌, ◌-◌, ◌≤◌, ◌++◌, ℕ, List, length, drop}
+use Rattle.std.proofs.Common.{◌≡◌, ◌-◌, ◌≤◌, length, drop}
 use Rattle.std.specs.Option.{option_map}
 use Rattle.word_syntax.specs.inner.Fronts.{unquoted}
 use Rattle.word_syntax.proofs.Strings.{quoted_after}

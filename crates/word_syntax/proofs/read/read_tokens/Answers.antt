@@ -7,5 +7,5 @@ returns-in_default c = stopped_at_token c.args.bytes.now c.tokens.at c.in-Token.
 pub tokens-preserved : goal.tokens-preserved
 tokens-preserved c = midway_more c.args.bytes.now c.tokens.at c.in-Token.start c.in-Token.end c.tokens.reader c.in-Some.next c.in-Token.token c.tokens.invariant (rw c.in-Token.is at c.in_ok-token.ensures) (rw c.in-Some.is at c.in_ok-next-in-Token.ensures)
 
-pub returns-then-start-bytes : goal.returns-then-start-bytes
-returns-then-start-bytes c = stopped_at_bytes c.args.bytes.now c.tokens.at c.in-Nothing.start c.tokens.reader c.tokens.invariant (rw c.in-Nothing.is at c.in_ok-token.ensures) c.if-start-bytes.true
+pub returns-then-place-bytes : goal.returns-then-place-bytes
+returns-then-place-bytes c = stopped_at_bytes c.args.bytes.now c.tokens.at c.in-Nothing.place c.tokens.reader c.tokens.invariant (rw c.in-Nothing.is at c.in_ok-token.ensures) c.if-place-bytes.true

@@ -1,4 +1,4 @@
-use Rattle.std.proofs.Common.{◌+◌, ◌<◌, ◌^◌, arith, length, map}
+use Rattle.std.proofs.Common.{◌<◌, ◌^◌, arith, length}
 use Rattle.std.proofs.lemmas.List.{length-map}
 use Rattle.aut_base.specs.Label.{label_tree}
 use Rattle.word_syntax.proofs.BelowNames.{cycle_below, some_cycle, stem_below}

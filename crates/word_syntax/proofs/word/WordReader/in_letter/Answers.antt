@@ -1,4 +1,4 @@
-use Rattle.std.proofs.Common.{◌≡◌, None, Some, rules, sym, true, ◌∙◌}
+use Rattle.std.proofs.Common.{◌≡◌, None, Some, rules, true}
 use Rattle.word_syntax.proofs.InLetters.{letter_taken}
 use Rattle.word_syntax.specs.inner.Machine as machine
 use Rattle.word_syntax.specs.inner.Chains.{letter_state, word_state}
