@@ -67,12 +67,7 @@ fn print_input<I: Inputs, W: Sink>(alloc: Global, inputs: &mut I, out: &mut W) -
 }
 
 /// Carries out what the words ask for.
-fn carry_out<I: Inputs, W: Sink>(
-    alloc: Global,
-    words: &Words,
-    inputs: &mut I,
-    out: &mut W,
-) -> End
+fn carry_out<I: Inputs, W: Sink>(alloc: Global, words: &Words, inputs: &mut I, out: &mut W) -> End
     requires { AskFor words.now → I.may_open standard_input }
     ensures runs { AskFor words.now → Runs result (input_of (I.texts inputs.old)) (I.left inputs.new) (W.written out.old) (W.written out.new) }
     ensures causes { EndsBecause (ended_of result) (I.open_faults inputs.old) (I.open_faults inputs.new)

@@ -77,11 +77,7 @@ fn print<W: Sink>(alloc: Global, raw: &Raw, out: &mut W) -> Result<(), End>
 }
 
 /// The canonical text of the automaton that is described, and of its name if it has one.
-fn text_of(
-    alloc: Global,
-    description: &Description,
-    name: Option<&Text>,
-) -> Result<Text, Memory>
+fn text_of(alloc: Global, description: &Description, name: Option<&Text>) -> Result<Text, Memory>
     requires few { length description.now.names ≤ MOST_NAMES }
     requires well_formed { IsWellFormed (automaton description.now) }
     ensures { IfOk result (λ text. text ≡ canonical_text (automaton description.now) (option_copied name.entry)) }
