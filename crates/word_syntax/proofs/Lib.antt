@@ -13,6 +13,7 @@ pub mod NamePlaces
 pub mod NextTokens
 pub mod Nots
 pub mod OneReduced
+pub mod OverNames
 pub mod PatternEdges
 pub mod PatternWalks
 pub mod PatternWords

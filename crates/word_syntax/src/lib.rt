@@ -13,6 +13,7 @@ mod letters;
 mod lexer;
 mod names;
 mod next;
+mod over;
 mod pattern;
 mod period;
 mod print;
@@ -24,6 +25,7 @@ mod word;
 
 pub use automaton::pattern_automaton;
 pub use law::{one_reading, one_reduced_lasso, printed_is_read_back};
+pub use over::is_over;
 pub use pattern::{LabelList, Pattern, WordFault};
 pub use print::print_word;
 pub use read::{read_name, read_word};
