@@ -1,14 +1,12 @@
 //! `autfilt`: a filter of omega-automata whose every answer is proved.
 //!
-//! What the command does is the function `autfilt` of `autfilt_command`; here stand the outside that it runs over, and
-//! `main`.
+//! What the command does is the function `autfilt` of `autfilt_command`, and what it runs over, standard input and outputs, is
+//! that of `real_io`. Here stands `main`.
 #![tactic(auto)]
-
-mod real;
 
 use aut_base::{Memory, Text, Words};
 use autfilt_command::{End, Ended, autfilt, note};
-use real::{RealInputs, RealSink};
+use real_io::{RealInputs, RealSink};
 use std::alloc::Global;
 use std::env::Args;
 use std::process::ExitCode;
@@ -35,7 +33,7 @@ fn made(
     alloc: Global,
     args: io::Result<Args<Global>>,
     stdin: Stdin,
-) -> Result<(Words, RealInputs), End> {
+) -> Result<(Words, RealInputs<Stdin>), End> {
     let words = match args {
         Ok(args) => words_of(alloc, args)?,
         Err(error) => {
