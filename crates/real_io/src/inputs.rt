@@ -1,6 +1,7 @@
 //! Inputs over one reader.
 
-ghost use Rattle.std.specs.Prelude.{◌≡◌, ◌≤◌, true, None, IfOk, OnErr, OnOk};
+ghost use Rattle.std.specs.Prelude.{◌≡◌, ◌≤◌, true, None, IfOk, IsErrOf, OnErr, OnOk};
+ghost use Rattle.aut_base.specs.declared.fault.OpenFail.{OpenFail};
 ghost use Rattle.std.specs.Io.KnownBytes.{prepend_known};
 ghost use Rattle.aut_io.specs.Outside.{Rose, Takes};
 ghost use Rattle.real_io.specs.Unread.{GivesFirst, held};
@@ -46,7 +47,17 @@ impl<R: Read + Drop> Inputs for RealInputs<R> {
 
     ghost may_open = { λ _. Unit {0} };
 
-    fn open(&mut self, name: &Text) -> Result<(), OpenFail> {
+    fn open(&mut self, name: &Text) -> Result<(), OpenFail>
+        ensures failed { IsErrOf result OpenFail.Failed → Rose self.old.open_faults self.new.open_faults }
+        ensures memory { IsErrOf result OpenFail.Memory → self.new.open_faults ≡ self.old.open_faults }
+        ensures calm { OnOk result (self.new.open_faults ≡ self.old.open_faults) }
+        ensures later { self.old.open_faults ≤ self.new.open_faults }
+        ensures reads { self.new.read_faults ≡ self.old.read_faults }
+
+        // Where the name is `-` the reader is open, and nothing of it is lost.
+        ensures opens { OnOk result (self.new.is_open ≡ true) }
+        ensures blocks { self.new.blocks ≡ self.old.blocks }
+    {
         self.is_open = name.as_bytes() == b"-".as_slice();
         if self.is_open {
             return Ok(());
