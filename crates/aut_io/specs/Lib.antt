@@ -1,3 +1,4 @@
 pub mod Codes
 pub mod InMemory
 pub mod Outside
+pub mod Seen

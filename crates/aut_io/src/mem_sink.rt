@@ -1,8 +1,7 @@
 //! A sink in memory that fails where it is told to, and where it is full.
 
-ghost use Rattle.std.specs.Prelude.{◌≡◌, ◌+◌, ◌≤◌, ◌||◌, ◌++◌, Some, [], not, nat_lt, is_err, length, take, if◌then◌else◌, IfOk, OnOk, OnErr};
+ghost use Rattle.std.specs.Prelude.{◌≡◌, ◌+◌, ◌≤◌, ◌||◌, ◌++◌, [], not, nat_lt, is_err, length, take, if◌then◌else◌, IfOk, OnErr};
 ghost use Rattle.aut_io.specs.InMemory.{half, is_listed, raised, room};
-ghost use Rattle.aut_io.specs.Outside.{GainsPrefix};
 
 use crate::failing_calls::FailingCalls;
 use crate::sink::Sink;
@@ -80,26 +79,23 @@ impl MemSink {
 }
 
 impl Sink for MemSink {
-    ghost written = { λ s. Some s.written };
+    ghost use Rattle.aut_io.specs.Seen.{Writes, sink_seen_of};
 
-    ghost faults = { λ s. s.faults };
+    ghost seen = { sink_seen_of };
 
     fn write(&mut self, piece: &[u8]) -> Result<(), Failed>
         // It fails exactly where the call is listed or the piece doesn't fit.
         ensures fails { is_err result ≡ (is_listed self.old.failing self.old.calls || nat_lt self.old.capacity (length self.old.written + length piece.now)) }
+        ensures writes { Writes (sink_seen_of self.old) piece.now result (sink_seen_of self.new) }
 
         // All that fits is written, of the piece or, where the call is listed, of its first half.
         ensures kept { self.new.written ≡ self.old.written ++ take (room self.old) (if is_listed self.old.failing self.old.calls then half piece.now else piece.now) }
-        ensures ok { OnOk result (self.new.written ≡ self.old.written ++ piece.now) }
-        ensures err { OnErr result (GainsPrefix (Some self.old.written) (Some self.new.written) piece.now) }
 
-        // It counts the call and the fault.
+        // It counts the call, and the fault by one.
         ensures counted { self.new.calls ≡ raised self.old.calls }
         ensures capacity { self.new.capacity ≡ self.old.capacity }
         ensures failing { self.new.failing ≡ self.old.failing }
         ensures failed { OnErr result (self.new.faults ≡ raised self.old.faults) }
-        ensures calm { OnOk result (self.new.faults ≡ self.old.faults) }
-        ensures later { self.old.faults ≤ self.new.faults }
     {
         if self.calls.count() {
             let _whole = self.keep(&piece[..piece.len() / 2]);
@@ -108,67 +104,6 @@ impl Sink for MemSink {
         if !self.keep(piece) {
             return Err(self.fault());
         }
-        Ok(())
-    }
-}
-
-#[cfg(test)]
-mod tests {
-    use super::*;
-    use crate::tests::{numbers, write_all};
-    use std::test::Fail;
-
-    /// What is kept of the writes of "abc", "de" and "fghi", and which of them fail.
-    #[test]
-    fn keeps_what_fits_and_half_of_a_failing_piece(rt: HostRuntime) -> Result<(), Fail> {
-        let rows: [(u32, &[u32], &[u8], &[u8], u64); 19] = [
-            (9, &[], b"abcdefghi", b"+++", 0),
-            (9, &[0], b"adefghi", b"-++", 1),
-            (9, &[1], b"abcdfghi", b"+-+", 1),
-            (9, &[2], b"abcdefg", b"++-", 1),
-            (9, &[2, 0], b"adefg", b"-+-", 2),
-            (9, &[3], b"abcdefghi", b"+++", 0),
-            (8, &[], b"abcdefgh", b"++-", 1),
-            (8, &[0], b"adefghi", b"-++", 1),
-            (8, &[1], b"abcdfghi", b"+-+", 1),
-            (8, &[2], b"abcdefg", b"++-", 1),
-            (6, &[2], b"abcdef", b"++-", 1),
-            (1, &[], b"a", b"---", 3),
-            (1, &[0], b"a", b"---", 3),
-            (1, &[1], b"a", b"---", 3),
-            (1, &[2], b"a", b"---", 3),
-            (0, &[], b"", b"---", 3),
-            (0, &[0], b"", b"---", 3),
-            (0, &[1], b"", b"---", 3),
-            (0, &[2], b"", b"---", 3),
-        ];
-        for (capacity, failing, kept, answers, faults) in rows.iter() {
-            let listed = numbers(rt.alloc(), failing)?;
-            let mut sink = MemSink::new(rt.alloc(), *capacity, listed)?;
-            let answered = write_all(rt.alloc(), &mut sink, &[b"abc", b"de", b"fghi"])?;
-            assert_eq!(rt;
-                sink.bytes(),
-                *kept,
-                "capacity {capacity}, failing {failing:?}"
-            );
-            assert_eq!(rt;
-                answered.as_slice(),
-                *answers,
-                "capacity {capacity}, failing {failing:?}"
-            );
-            assert_eq!(rt;
-                sink.faults,
-                *faults,
-                "capacity {capacity}, failing {failing:?}"
-            );
-        }
-        Ok(())
-    }
-
-    #[test]
-    fn an_empty_piece_fits_a_full_sink(rt: HostRuntime) -> Result<(), Fail> {
-        let mut sink = MemSink::new(rt.alloc(), 0, numbers(rt.alloc(), &[])?)?;
-        assert!(rt; sink.write(b"").is_ok());
         Ok(())
     }
 }

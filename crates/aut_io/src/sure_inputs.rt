@@ -1,9 +1,8 @@
 //! A source in memory that never fails.
 
-ghost use Rattle.std.specs.Prelude.{◌≡◌, Some, [], length, IsOk};
+ghost use Rattle.std.specs.Prelude.{◌≡◌, [], length, IsOk};
 ghost use Rattle.std.specs.FinMap.{from_entries};
 ghost use Rattle.std.specs.List.{zip};
-ghost use Rattle.aut_io.specs.Outside.{text_of, Takes};
 
 use crate::inputs::Inputs;
 use crate::text_store::TextStore;
@@ -40,20 +39,15 @@ impl SureInputs {
 }
 
 impl Inputs for SureInputs {
-    ghost texts = { λ s. Some s.texts };
+    ghost use Rattle.aut_io.specs.Seen.{Nexts, Opens, seen_of_sure};
 
-    ghost left = { λ s. Some s.left };
-
-    ghost open_faults = { λ _. 0 };
-
-    ghost read_faults = { λ _. 0 };
+    ghost seen = { seen_of_sure };
 
     ghost may_open = { λ _. Unit {0} };
 
     fn open(&mut self, name: &Text) -> Result<(), OpenFail>
         ensures ok { IsOk result }
-        ensures opened { self.new.left ≡ text_of self.old.texts name.now }
-        ensures texts { self.new.texts ≡ self.old.texts }
+        ensures opens { Opens (seen_of_sure self.old) name.now result (seen_of_sure self.new) }
     {
         let _there = self.store.open(name);
         Ok(())
@@ -61,8 +55,7 @@ impl Inputs for SureInputs {
 
     fn next(&mut self) -> Result<Option<u8>, Failed>
         ensures ok { IsOk result }
-        ensures takes { Takes (Some self.old.left) (Some self.new.left) result }
-        ensures texts { self.new.texts ≡ self.old.texts }
+        ensures nexts { Nexts (seen_of_sure self.old) result (seen_of_sure self.new) }
     {
         Ok(self.store.take())
     }

@@ -1,6 +1,7 @@
 //! A sink that never fails.
 
 ghost use Rattle.std.specs.Prelude.{None, IsOk};
+ghost use Rattle.aut_io.specs.Seen.{Writes};
 
 use crate::sink::Sink;
 use aut_base::Failed;
@@ -17,12 +18,11 @@ impl SureSink {
 }
 
 impl Sink for SureSink {
-    ghost written = { λ _. None };
+    ghost seen = { λ _. record { written = None; faults = 0 } };
 
-    ghost faults = { λ _. 0 };
-
-    fn write(&mut self, _piece: &[u8]) -> Result<(), Failed>
-        ensures { IsOk result }
+    fn write(&mut self, piece: &[u8]) -> Result<(), Failed>
+        ensures ok { IsOk result }
+        ensures writes { Writes (record { written = None; faults = 0 }) piece.now result (record { written = None; faults = 0 }) }
     {
         Ok(())
     }

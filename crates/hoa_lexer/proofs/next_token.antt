@@ -1,5 +1,4 @@
 -- The next token of a text, and lists of tokens.
-pub mod All
 pub mod Between
 pub mod Exclusive
 pub mod Fronts

@@ -1,9 +1,10 @@
 -- What the definitions amount to.
-use Rattle.std.specs.Prelude.{◌≡◌, ℕ, ◌==◌, true, List, [], ◌∷◌, ◌++◌, map}
+use Rattle.std.specs.Prelude.{◌≡◌, ℕ, ◌+◌, ◌==◌, true, is_some, not, length, Option, List, [], ◌∷◌, ◌++◌, map}
 use Rattle.std.specs.List.{list_all}
-use Rattle.hoa_lexer.specs.Blanks.{IsBlanks}
-use Rattle.hoa_lexer.specs.Spelling.{Spells}
-use Rattle.hoa_lexer.specs.Text.{IsNext, Lexes}
+use Rattle.hoa_lexer.specs.Blanks.{IsBlanks, IsOpenComment}
+use Rattle.hoa_lexer.specs.Reading.{unread}
+use Rattle.hoa_lexer.specs.Spelling.{Spells, closes_itself}
+use Rattle.hoa_lexer.specs.Text.{AfterBlanks, AskedForOne, IsNext, IsNoToken, IsOpenString, IsOpenToken, Lexes}
 use Rattle.hoa_lexer.specs.declared.token.Token.{Token}
 
 -- A text has at most one next token.
@@ -17,6 +18,39 @@ abbrev pub OneTokenList : Type 0
 OneTokenList =
     (input : List ℕ) (start : ℕ) (ts us : List (Token × ℕ)) (rest rest' : List ℕ)
     → Lexes input start ts rest → IsBlanks rest → Lexes input start us rest' → IsBlanks rest' → (ts ≡ us) × (rest ≡ rest')
+
+-- What stands next in a text: nothing but blanks, a token at an offset with what follows it, bytes at an offset that can be
+-- no token, or an end inside a comment, a string or another token.
+pub data Next : Type 0 where
+  NoMore : Next
+  OneToken : Token → ℕ → List ℕ → Next
+  NoToken : ℕ → Next
+  InComment : Next
+  InString : Next
+  InToken : Next
+
+abbrev pub StandsNext : Next → ℕ → List ℕ → Type 0
+StandsNext NoMore start text = IsBlanks text
+StandsNext (OneToken token offset rest) start text = IsNext text start token offset rest
+StandsNext (NoToken k) start text = AfterBlanks text (λ bytes. (k + length bytes ≡ start + length text) × IsNoToken bytes)
+StandsNext InComment start text = AfterBlanks text IsOpenComment
+StandsNext InString start text = AfterBlanks text IsOpenString
+StandsNext InToken start text = AfterBlanks text IsOpenToken
+
+-- No more than one of these holds of a text,
+abbrev pub OneNext : Type 0
+OneNext = (start : ℕ) (text : List ℕ) (a b : Next) → StandsNext a start text → StandsNext b start text → a ≡ b
+
+-- and there is no text of which none holds.
+abbrev pub SomeNext : Type 0
+SomeNext = (start : ℕ) (text : List ℕ) → ((a : Next) → StandsNext a start text → ⊥) → ⊥
+
+-- The last byte that is taken for a token is asked for: the bytes before it close no token and can go on so that they
+-- do. A byte behind the token is held where it was needed to close it.
+abbrev pub LastIsAskedFor : Type 0
+LastIsAskedFor =
+    (input : List ℕ) (start offset : ℕ) (token : Token) (held : Option ℕ) (left : List ℕ)
+    → IsNext input start token offset (unread held left) → is_some held ≡ not (closes_itself token) → AskedForOne input left
 
 -- one or more spaces
 abbrev pub IsGap : List ℕ → Type 0

@@ -1,7 +1,7 @@
-pub mod All
 pub mod Blanks
 pub mod Bytes
 pub mod Laws
+pub mod Moves
 pub mod Reading
 pub mod Spelling
 pub mod Text

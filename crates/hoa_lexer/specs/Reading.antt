@@ -1,9 +1,10 @@
 -- What a lexer answers, of what it has not read yet.
-use Rattle.std.specs.Prelude.{◌≡◌, ℕ, ◌+◌, List, [], ◌∷◌, ◌++◌, length, Option, Some, None, Result, Ok, Err, is_some, not}
-use Rattle.aut_io.specs.Outside.{Rose}
+use Rattle.std.specs.Prelude.{◌≡◌, ◌≢◌, ◌⊎◌, ℕ, ◌+◌, false, List, [], ◌∷◌, ◌++◌, length, Option, Some, None, Result, Ok, Err, is_some, not}
+use Rattle.aut_io.specs.Seen.{Seen}
 use Rattle.hoa_lexer.specs.Blanks.{IsBlanks, IsOpenComment}
+use Rattle.hoa_lexer.specs.Bytes.{is_space}
 use Rattle.hoa_lexer.specs.Spelling.{closes_itself}
-use Rattle.hoa_lexer.specs.Text.{IsNext, AfterBlanks, IsOpenString, IsOpenToken, IsNoToken, AsksForMore, AskedForOne, IsShownBy}
+use Rattle.hoa_lexer.specs.Text.{IsNext, AfterBlanks, IsOpenString, IsOpenToken, IsNoToken, AskedForOne, AsksPast, IsShownBy}
 use Rattle.hoa_lexer.specs.declared.token.LexFault.{LexFault}
 use Rattle.hoa_lexer.specs.declared.token.LexFault.TheVariants.{BadToken, OpenComment, OpenString, OpenToken, Read, Bytes, Memory}
 use Rattle.hoa_lexer.specs.declared.token.Token.{Token}
@@ -24,6 +25,9 @@ Between None new P = new ≡ None
 Between (Some old) None P = ⊥
 Between (Some old) (Some new) P = P old new
 
+abbrev pub Tells : Seen → Seen → (List ℕ → List ℕ → Type 0) → Type 0
+Tells seen seen' P = Between seen.left seen'.left P
+
 -- What each answer says of the unread bytes before and after. `start` is how many bytes of the text were used
 -- before, and `offset` the one that the lexer tells afterwards.
 abbrev pub Answers : Result (Option Token) LexFault → ℕ → ℕ → List ℕ → List ℕ → Type 0
@@ -32,17 +36,37 @@ Answers (Ok None) start offset old new = IsBlanks old × (new ≡ [])
 Answers (Err (BadToken k)) start offset old new =
     AfterBlanks old (λ bytes. (k + length bytes ≡ start + length old) × IsNoToken bytes) × AskedForOne old new
     × IsShownBy k start old new
-Answers (Err OpenComment) start offset old new = AfterBlanks old IsOpenComment
-Answers (Err OpenString) start offset old new = AfterBlanks old IsOpenString
-Answers (Err OpenToken) start offset old new = AfterBlanks old IsOpenToken
-Answers (Err Bytes) start offset old new = (at_hand : List ℕ) × (old ≡ at_hand ++ new) × AsksForMore at_hand
-Answers (Err Read) start offset old new = Unit {0}
-Answers (Err Memory) start offset old new = Unit {0}
+Answers (Err OpenComment) start offset old new = AfterBlanks old IsOpenComment × (new ≡ [])
+Answers (Err OpenString) start offset old new = AfterBlanks old IsOpenString × (new ≡ [])
+Answers (Err OpenToken) start offset old new = AfterBlanks old IsOpenToken × (new ≡ [])
+Answers (Err Bytes) start offset old new = AsksPast old new
+Answers (Err Read) start offset old new = AsksPast old new
+Answers (Err Memory) start offset old new = AsksPast old new
 
--- A fault of reading is answered only where their count rose, and no other answer comes where a read failed.
-abbrev pub CountsFaults : {A : Type 0} → Result A LexFault → ℕ → ℕ → Type 0
-CountsFaults (Err Read) before after = Rose before after
-CountsFaults _ before after = after ≡ before
+-- what a token can begin with, and no blank
+abbrev pub BeginsToken : List ℕ → Type 0
+BeginsToken [] = ⊥
+BeginsToken (b ∷ bytes) = (is_space b ≡ false) × (b ≢ 47)
+
+-- nothing, or what a comment begins with
+abbrev pub BeginsNoToken : List ℕ → Type 0
+BeginsNoToken [] = Unit {0}
+BeginsNoToken (b ∷ bytes) = b ≡ 47
+
+-- Of these bytes, which begin `start` bytes after the start of the text, the offset is where the first token begins; or it
+-- stands where it stood, and no token begins in them.
+pub record IsPlaced (start offset offset' : ℕ) (used : List ℕ) : Type 0 where
+  pub before : List ℕ
+  pub bytes : List ℕ
+  pub split : used ≡ before ++ bytes
+  pub blanks : IsBlanks before
+  pub place : BeginsToken bytes × (offset' ≡ start + length before) ⊎ BeginsNoToken bytes × (offset' ≡ offset)
+
+-- Where the offset stands after an answer. Of a token `Answers` tells it.
+abbrev pub Places : Result (Option Token) LexFault → ℕ → ℕ → ℕ → List ℕ → List ℕ → Type 0
+Places (Ok (Some token)) start offset offset' old new = Unit {0}
+Places (Ok None) start offset offset' old new = offset' ≡ offset
+Places (Err fault) start offset offset' old new = (used : List ℕ) × (old ≡ used ++ new) × IsPlaced start offset offset' used
 
 -- A byte past the token is held exactly where that byte was needed to close it. After a fault none is held.
 abbrev pub Holds : Result (Option Token) LexFault → Option ℕ → Type 0

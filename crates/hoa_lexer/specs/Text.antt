@@ -73,6 +73,12 @@ pub record AsksForMore (at_hand : List ℕ) : Type 0 where
   pub more : List ℕ
   pub closes : AfterBlanks (at_hand ++ more) HasFront
 
+-- the bytes that were taken ask for one more
+pub record AsksPast (old new : List ℕ) : Type 0 where
+  pub at_hand : List ℕ
+  pub split : old ≡ at_hand ++ new
+  pub asks : AsksForMore at_hand
+
 -- the bytes at hand asked for more, and one more was used
 pub record AskedForOne (old new : List ℕ) : Type 0 where
   pub at_hand : List ℕ

@@ -1,6 +1,6 @@
 //! Laws of the definitions, which no code runs.
 
-ghost use Rattle.hoa_lexer.specs.Laws.{OneNextToken, OneTokenList, SpelledApartIsRead};
+ghost use Rattle.hoa_lexer.specs.Laws.{LastIsAskedFor, OneNext, OneNextToken, OneTokenList, SomeNext, SpelledApartIsRead};
 ghost use Rattle.hoa_lexer.specs.TokenExamples.{TokenExamples};
 
 /// A text has at most one next token.
@@ -11,6 +11,21 @@ pub fn one_next_token()
 /// A text has at most one list of tokens up to blanks.
 pub fn one_token_list()
     ensures { OneTokenList }
+{}
+
+/// No more than one thing stands next in a text.
+pub fn one_next()
+    ensures { OneNext }
+{}
+
+/// In every text something stands next.
+pub fn some_next()
+    ensures { SomeNext }
+{}
+
+/// The last byte that is taken for a token is asked for.
+pub fn last_is_asked_for()
+    ensures { LastIsAskedFor }
 {}
 
 /// Tokens that are spelled one after the other, with spaces after each, are read back.

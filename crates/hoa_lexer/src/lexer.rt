@@ -1,10 +1,9 @@
 //! The lexer.
 
-ghost use Rattle.std.specs.Prelude.{◌≡◌, ◌≢◌, ◌+◌, ◌-◌, ◌<◌, ◌≤◌, ◌∷◌, length, None, false, is_err, IsSome, IsErrOf, IfOk, OnOk};
+ghost use Rattle.std.specs.Prelude.{◌≡◌, ◌≢◌, ◌+◌, ◌-◌, ◌<◌, ◌≤◌, ◌∷◌, None, false, is_err, IsSome, IfOk, OnOk};
 ghost use Rattle.hoa_lexer.specs.Bytes as kinds;
-ghost use Rattle.hoa_lexer.specs.Reading.{held_count, unread, Answers, Between, CountsFaults, Holds};
+ghost use Rattle.hoa_lexer.specs.Reading.{held_count, unread, Answers, Holds, Places, Tells};
 
-mod all;
 mod blanks;
 mod bytes;
 mod dashes;
@@ -35,6 +34,7 @@ pub struct Lexer {
 }
 
 impl Lexer {
+    ghost use Rattle.hoa_lexer.specs.Moves.{Moves, stop_of, stop_of_next};
     ghost use Rattle.hoa_lexer.specs.inner.Steps.{Advances, HoldsAfter, ReadsToken};
 
     /// A lexer that may take this many bytes in its life.
@@ -100,26 +100,17 @@ impl Lexer {
         requires { self.old.spent ≡ false }
 
         // The answer, by the bytes that were not read yet.
-        ensures answers { Between (I.left inputs.old) (I.left inputs.new) (λ old new.
+        ensures answers { Tells (I.seen inputs.old) (I.seen inputs.new) (λ old new.
             Answers result (self.old.since - held_count self.old.held) self.new.offset (unread self.old.held old) (unread self.new.held new)) }
+        ensures places { Tells (I.seen inputs.old) (I.seen inputs.new) (λ old new.
+            Places result (self.old.since - held_count self.old.held) self.old.offset self.new.offset (unread self.old.held old) (unread self.new.held new)) }
         ensures holds { Holds result self.new.held }
         ensures spent { self.new.spent ≡ is_err result }
 
-        // How many bytes were taken. A token uses at least one, also where the inputs don't tell what is left.
-        ensures most { self.new.most ≡ self.old.most }
-        ensures taken { Between (I.left inputs.old) (I.left inputs.new) (λ old new.
-            self.new.taken + length new ≡ self.old.taken + length old) }
-        ensures since { self.new.since + self.old.taken ≡ self.old.since + self.new.taken }
-        ensures later { self.old.taken ≤ self.new.taken }
+        // A token uses at least one byte, also where the inputs don't tell what is left.
         ensures used { IfOk result (λ token. IsSome token
             → self.old.taken + held_count self.new.held < self.new.taken + held_count self.old.held) }
-        ensures bytes { IsErrOf result LexFault.Bytes → self.new.taken ≡ self.new.most }
-
-        // The outside.
-        ensures reads { CountsFaults result (I.read_faults inputs.old) (I.read_faults inputs.new) }
-        ensures reads_later { I.read_faults inputs.old ≤ I.read_faults inputs.new }
-        ensures opens { I.open_faults inputs.new ≡ I.open_faults inputs.old }
-        ensures texts { I.texts inputs.new ≡ I.texts inputs.old }
+        ensures moves { Moves (stop_of_next result) self.old self.new (I.seen inputs.old) (I.seen inputs.new) }
     {
         let answer = self.scan(alloc, inputs);
         self.spent = answer.is_err();
@@ -128,31 +119,21 @@ impl Lexer {
 
     /// Blanks and the next token.
     fn scan<I: Inputs>(&mut self, alloc: Global, inputs: &mut I) -> Result<Option<Token>, LexFault>
-        ensures answers { Between (I.left inputs.old) (I.left inputs.new) (λ old new.
+        ensures answers { Tells (I.seen inputs.old) (I.seen inputs.new) (λ old new.
             Answers result (self.old.since - held_count self.old.held) self.new.offset (unread self.old.held old) (unread self.new.held new)) }
+        ensures places { Tells (I.seen inputs.old) (I.seen inputs.new) (λ old new.
+            Places result (self.old.since - held_count self.old.held) self.old.offset self.new.offset (unread self.old.held old) (unread self.new.held new)) }
         ensures holds { Holds result self.new.held }
         ensures used { IfOk result (λ token. IsSome token
             → self.old.taken + held_count self.new.held < self.new.taken + held_count self.old.held) }
-        ensures most { self.new.most ≡ self.old.most }
-        ensures since { self.new.since + self.old.taken ≡ self.old.since + self.new.taken }
-        ensures later { self.old.taken ≤ self.new.taken }
-        ensures taken { Between (I.left inputs.old) (I.left inputs.new) (λ old new.
-            self.new.taken + length new ≡ self.old.taken + length old) }
-        ensures bytes { IsErrOf result LexFault.Bytes → self.new.taken ≡ self.new.most }
-        ensures reads { CountsFaults result (I.read_faults inputs.old) (I.read_faults inputs.new) }
-        ensures reads_later { I.read_faults inputs.old ≤ I.read_faults inputs.new }
-        ensures opens { I.open_faults inputs.new ≡ I.open_faults inputs.old }
-        ensures texts { I.texts inputs.new ≡ I.texts inputs.old }
+        ensures moves { Moves (stop_of_next result) self.old self.new (I.seen inputs.old) (I.seen inputs.new) }
     {
-        let first = match self.skip_blanks(inputs) {
-            Ok(Some(first)) => first,
-            Ok(None) => return Ok(None),
-            Err(fault) => return Err(fault),
-        };
-        self.offset = self.since - 1;
-        match self.token(alloc, inputs, first) {
-            Ok(token) => Ok(Some(token)),
-            Err(fault) => Err(fault),
+        match self.skip_blanks(inputs)? {
+            Some(first) => {
+                self.offset = self.since - 1;
+                Ok(Some(self.token(alloc, inputs, first)?))
+            }
+            None => Ok(None),
         }
     }
 
@@ -166,18 +147,11 @@ impl Lexer {
         requires held { self.old.held ≡ Some first }
         requires space { kinds.is_space first ≡ false }
         requires slash { first ≢ 47 }
-        ensures answers { Between (I.left inputs.old) (I.left inputs.new) (λ old new.
+        ensures answers { Tells (I.seen inputs.old) (I.seen inputs.new) (λ old new.
             ReadsToken result self.old.offset (first ∷ old) (unread self.new.held new)) }
         ensures holds { HoldsAfter result self.new.held }
         ensures progress { OnOk result (self.old.taken + held_count self.new.held < self.new.taken + held_count self.old.held) }
-        ensures advances { Advances self.old self.new }
-        ensures taken { Between (I.left inputs.old) (I.left inputs.new) (λ old new.
-            self.new.taken + length new ≡ self.old.taken + length old) }
-        ensures bytes { IsErrOf result LexFault.Bytes → self.new.taken ≡ self.new.most }
-        ensures reads { CountsFaults result (I.read_faults inputs.old) (I.read_faults inputs.new) }
-        ensures reads_later { I.read_faults inputs.old ≤ I.read_faults inputs.new }
-        ensures opens { I.open_faults inputs.new ≡ I.open_faults inputs.old }
-        ensures texts { I.texts inputs.new ≡ I.texts inputs.old }
+        ensures advances { Advances (stop_of result) self.old self.new (I.seen inputs.old) (I.seen inputs.new) }
     {
         if is_letter(first) {
             return self.word(alloc, inputs, first);

@@ -2,14 +2,17 @@
 //! taken than tells that it ends.
 //!
 //! A caller sees the lexer, its tokens and faults, and laws. What the next token of a text is stands in `specs/Text` and
-//! `specs/Spelling`, and what an answer says in these terms in `specs/Reading` and `specs/All`. `specs/Steps`, `Blanks`
-//! and `Bytes` speak of the inner functions.
+//! `specs/Spelling`, what an answer says in these terms in `specs/Reading`, and what each call counts in `specs/Moves`.
+//! `specs/Blanks` and `Bytes` say what stands between tokens; `specs/inner` speaks of the inner functions.
 #![tactic(auto)]
 
 mod laws;
 mod lexer;
 mod token;
 
-pub use laws::{one_next_token, one_token_list, spelled_apart_is_read, token_examples};
+pub use laws::{
+    last_is_asked_for, one_next, one_next_token, one_token_list, some_next, spelled_apart_is_read,
+    token_examples,
+};
 pub use lexer::Lexer;
 pub use token::{LexFault, Token};

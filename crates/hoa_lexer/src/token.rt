@@ -1,6 +1,9 @@
 //! Tokens, and why there may be none.
 
-use aut_base::Text;
+ghost use Rattle.std.specs.Prelude.{◌≡◌};
+ghost use Rattle.hoa_lexer.specs.declared.token.LexFault.{LexFault};
+
+use aut_base::{Memory, Text};
 
 /// A token of HOA v1 (section "Grammar").
 #[derive(Clone, Debug, PartialEq, Eq, Drop)]
@@ -47,4 +50,12 @@ pub enum LexFault {
     Bytes,
     /// Want of memory.
     Memory,
+}
+
+impl From<Memory> for LexFault {
+    ghost from_gives = { λ _ fault. fault ≡ LexFault.Memory };
+
+    fn from(_want: Memory) -> LexFault {
+        LexFault::Memory
+    }
 }

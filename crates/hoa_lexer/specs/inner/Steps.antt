@@ -1,9 +1,11 @@
 -- What the lexer's inner functions ensure.
 use Rattle.std.specs.Prelude.{◌≡◌, ◌≢◌, ℕ, zero, suc, ◌+◌, ◌≤◌, ◌&&◌, ◌==◌, true, false, if◌then◌else◌, List, [], ◌∷◌, ◌++◌, length, codes, is_some, not, Option, Some, None, Result, Ok, Err, ◌⊎◌}
 use Rattle.std.specs.List.{list_all}
+use Rattle.aut_io.specs.Seen.{Seen}
 use Rattle.hoa_lexer.specs.Blanks.{IsBlanks}
 use Rattle.hoa_lexer.specs.Bytes.{is_space, is_word}
-use Rattle.hoa_lexer.specs.Reading.{held_count, Answers}
+use Rattle.hoa_lexer.specs.Moves.{Moves, Stop}
+use Rattle.hoa_lexer.specs.Reading.{Answers, BeginsNoToken}
 use Rattle.hoa_lexer.specs.Spelling.{Quotes, closes_itself}
 use Rattle.hoa_lexer.specs.Text.{IsFront, HasFront, Begins, IsOpenString, IsOpenToken, IsNoToken}
 use Rattle.hoa_lexer.specs.declared.lexer.Lexer.{Lexer}
@@ -12,13 +14,10 @@ use Rattle.hoa_lexer.specs.declared.token.LexFault.TheVariants.{BadToken, OpenCo
 use Rattle.hoa_lexer.specs.declared.token.Token.{Token}
 use Rattle.hoa_lexer.specs.declared.token.Token.TheVariants.{Bang, Amp, Bar, LeftParen, RightParen, LeftBrace, RightBrace, LeftBracket, RightBracket, Body, End, Abort}
 
--- From one state of a lexer to a later one: bytes are only taken and used, and the place of the token stands.
-pub record Advances (old new : Lexer) : Type 0 where
-  pub most : new.most ≡ old.most
+-- From one state of a lexer to a later one, where the place of the token stands.
+pub record Advances (stop : Stop) (old new : Lexer) (seen seen' : Seen) : Type 0 where
+  pub moves : Moves stop old new seen seen'
   pub offset : new.offset ≡ old.offset
-  pub since : new.since + old.taken ≡ old.since + new.taken
-  pub later : old.taken ≤ new.taken
-  pub used : old.taken + held_count new.held ≤ new.taken + held_count old.held
 
 -- a read's answer, of what was unread before and what is left in the inputs
 abbrev pub Peeks : Result (Option ℕ) LexFault → List ℕ → List ℕ → Type 0
@@ -49,17 +48,17 @@ closing (suc depth) (b ∷ c ∷ bytes) =
 -- one step in open comments, from one depth to the next
 abbrev pub StepsIn : Result ℕ LexFault → ℕ → List ℕ → List ℕ → Type 0
 StepsIn (Ok next) depth old new = (closing next new ≡ closing depth old) × (seen : List ℕ) × (old ≡ seen ++ new)
-StepsIn (Err OpenComment) depth old new = closing depth old ≡ None
+StepsIn (Err OpenComment) depth old new = (closing depth old ≡ None) × (new ≡ [])
 StepsIn (Err Bytes) depth old new = (seen : List ℕ) × (old ≡ seen ++ new) × (length seen ≤ 1)
-StepsIn (Err Read) depth old new = Unit {0}
+StepsIn (Err Read) depth old new = (seen : List ℕ) × (old ≡ seen ++ new) × (length seen ≤ 1)
 StepsIn (Err _) depth old new = ⊥
 
 -- the rest of an open comment
 abbrev pub ClosesComment : Result (Unit {0}) LexFault → List ℕ → List ℕ → Type 0
 ClosesComment (Ok done) old new = closing 1 old ≡ Some new
-ClosesComment (Err OpenComment) old new = closing 1 old ≡ None
+ClosesComment (Err OpenComment) old new = (closing 1 old ≡ None) × (new ≡ [])
 ClosesComment (Err Bytes) old new = (seen : List ℕ) × (old ≡ seen ++ new) × (closing 1 seen ≡ None)
-ClosesComment (Err Read) old new = Unit {0}
+ClosesComment (Err Read) old new = (seen : List ℕ) × (old ≡ seen ++ new) × (closing 1 seen ≡ None)
 ClosesComment (Err _) old new = ⊥
 
 -- blanks were used
@@ -79,6 +78,18 @@ SkipsBlanks (Ok (Some b)) start old new = Skips old new
 SkipsBlanks (Ok None) start old new = IsBlanks old × (new ≡ [])
 SkipsBlanks (Err fault) start old new = Answers (Err fault) start 0 old new
 
+-- where a fault comes among blanks, none of the bytes that were used begins a token
+pub record UsesBlanks (old new : List ℕ) : Type 0 where
+  pub before : List ℕ
+  pub bytes : List ℕ
+  pub split : old ≡ (before ++ bytes) ++ new
+  pub blanks : IsBlanks before
+  pub none : BeginsNoToken bytes
+
+abbrev pub BeginsNone : Result (Option ℕ) LexFault → List ℕ → List ℕ → Type 0
+BeginsNone (Ok byte) old new = Unit {0}
+BeginsNone (Err fault) old new = UsesBlanks old new
+
 -- a byte that begins no blank, if there is one
 abbrev pub IsSolid : Result (Option ℕ) LexFault → Type 0
 IsSolid (Ok (Some b)) = (is_space b ≡ false) × (b ≢ 47)
@@ -91,13 +102,19 @@ pub record AddsWord (name name' old new : List ℕ) : Type 0 where
   pub words : list_all is_word seen ≡ true
   pub split : old ≡ seen ++ new
 
+-- letters, digits and `-` were used
+pub record TakesWord (old new : List ℕ) : Type 0 where
+  pub seen : List ℕ
+  pub words : list_all is_word seen ≡ true
+  pub split : old ≡ seen ++ new
+
 -- all letters, digits and `-` that stand next, up to another byte or the end of the text
 abbrev pub AddsWords : Result (Option ℕ) LexFault → List ℕ → List ℕ → List ℕ → List ℕ → Type 0
 AddsWords (Ok (Some b)) name name' old left = AddsWord name name' old (b ∷ left) × (is_word b ≡ false)
 AddsWords (Ok None) name name' old left = AddsWord name name' old [] × (left ≡ [])
-AddsWords (Err Bytes) name name' old left = AddsWord name name' old left
-AddsWords (Err Read) name name' old left = Unit {0}
-AddsWords (Err Memory) name name' old left = Unit {0}
+AddsWords (Err Bytes) name name' old left = TakesWord old left
+AddsWords (Err Read) name name' old left = TakesWord old left
+AddsWords (Err Memory) name name' old left = TakesWord old left
 AddsWords (Err _) name name' old left = ⊥
 
 -- what stands in a string and means no whole byte yet: nothing, or `\`
@@ -108,9 +125,9 @@ IsHalf bytes = (bytes ≡ []) ⊎ (bytes ≡ 92 ∷ [])
 abbrev pub ReadsQuoted : Result (Option ℕ) LexFault → List ℕ → List ℕ → Type 0
 ReadsQuoted (Ok (Some b)) old left = (seen : List ℕ) × Quotes seen (b ∷ []) × (old ≡ seen ++ left)
 ReadsQuoted (Ok None) old left = old ≡ 34 ∷ left
-ReadsQuoted (Err OpenString) old left = IsHalf old
+ReadsQuoted (Err OpenString) old left = IsHalf old × (left ≡ [])
 ReadsQuoted (Err Bytes) old left = (seen : List ℕ) × IsHalf seen × (old ≡ seen ++ left)
-ReadsQuoted (Err Read) old left = Unit {0}
+ReadsQuoted (Err Read) old left = (seen : List ℕ) × IsHalf seen × (old ≡ seen ++ left)
 ReadsQuoted (Err _) old left = ⊥
 
 -- the bytes at hand close no token, and can go on so that they close one
@@ -136,11 +153,11 @@ pub record ShowsNone (old new : List ℕ) : Type 0 where
 abbrev pub ReadsToken : Result Token LexFault → ℕ → List ℕ → List ℕ → Type 0
 ReadsToken (Ok token) offset old new = IsFront old token new
 ReadsToken (Err (BadToken k)) offset old new = (k ≡ offset) × IsNoToken old × Tries old new × ShowsNone old new
-ReadsToken (Err OpenString) offset old new = IsOpenString old
-ReadsToken (Err OpenToken) offset old new = IsOpenToken old
+ReadsToken (Err OpenString) offset old new = IsOpenString old × (new ≡ [])
+ReadsToken (Err OpenToken) offset old new = IsOpenToken old × (new ≡ [])
 ReadsToken (Err Bytes) offset old new = Pauses old new
-ReadsToken (Err Read) offset old new = Unit {0}
-ReadsToken (Err Memory) offset old new = Unit {0}
+ReadsToken (Err Read) offset old new = Pauses old new
+ReadsToken (Err Memory) offset old new = Pauses old new
 ReadsToken (Err OpenComment) offset old new = ⊥
 
 -- a byte past the token is held exactly where it was needed to close it, and none after a fault
@@ -166,9 +183,9 @@ abbrev pub ReadsWord : Result (Unit {0}) LexFault → List ℕ → ℕ → List 
 ReadsWord (Ok done) word offset old new = old ≡ word ++ new
 ReadsWord (Err (BadToken k)) word offset old new =
     (k ≡ offset) × (seen : List ℕ) × (b : ℕ) × (c : ℕ) × Expects word seen b × (old ≡ seen ++ c ∷ new) × (c ≢ b)
-ReadsWord (Err OpenToken) word offset old new = (b : ℕ) × Expects word old b
+ReadsWord (Err OpenToken) word offset old new = (b : ℕ) × Expects word old b × (new ≡ [])
 ReadsWord (Err Bytes) word offset old new = (seen : List ℕ) × (b : ℕ) × Expects word seen b × (old ≡ seen ++ new)
-ReadsWord (Err Read) word offset old new = Unit {0}
+ReadsWord (Err Read) word offset old new = (seen : List ℕ) × (b : ℕ) × Expects word seen b × (old ≡ seen ++ new)
 ReadsWord (Err _) word offset old new = ⊥
 
 -- the mark is spelled by this byte

@@ -1,7 +1,7 @@
 //! Blanks between tokens.
 
 ghost use Rattle.std.specs.Prelude.{◌≡◌, ◌≢◌, ◌+◌, ◌-◌, ◌<◌, ◌≤◌, ◌∷◌, ◌&&◌, ◌==◌, length, None, OnOk, IfOk, IfErr, IsErrOf};
-ghost use Rattle.hoa_lexer.specs.Reading.{held_count, unread, Between, CountsFaults};
+ghost use Rattle.hoa_lexer.specs.Reading.{held_count, unread, Tells};
 
 use super::Lexer;
 use super::bytes::is_space;
@@ -9,38 +9,30 @@ use crate::LexFault;
 use aut_io::Inputs;
 
 impl Lexer {
-    ghost use Rattle.hoa_lexer.specs.inner.Steps.{Advances, ClosesComment, HoldsRead, IsSolid, SkipsBlanks, SkipsComment, StepsIn};
+    ghost use Rattle.hoa_lexer.specs.Moves.{stop_of, stop_of_next};
+    ghost use Rattle.hoa_lexer.specs.inner.Steps.{Advances, BeginsNone, ClosesComment, HoldsRead, IsSolid, SkipsBlanks, SkipsComment, StepsIn};
 
     /// Uses blanks. Holds the byte after them, or tells by None that the text ended.
     pub(super) fn skip_blanks<I: Inputs>(&mut self, inputs: &mut I) -> Result<Option<u8>, LexFault>
-        ensures answers { Between (I.left inputs.old) (I.left inputs.new) (λ old new.
+        ensures answers { Tells (I.seen inputs.old) (I.seen inputs.new) (λ old new.
             SkipsBlanks result (self.old.since - held_count self.old.held) (unread self.old.held old) (unread self.new.held new)) }
         ensures held { IfOk result (λ byte. self.new.held ≡ byte) }
         ensures solid { IsSolid result }
+        ensures begun { Tells (I.seen inputs.old) (I.seen inputs.new) (λ old new.
+            BeginsNone result (unread self.old.held old) (unread self.new.held new)) }
         ensures none_held { IfErr result (λ fault. self.new.held ≡ None) }
-        ensures advances { Advances self.old self.new }
-        ensures taken { Between (I.left inputs.old) (I.left inputs.new) (λ old new.
-            self.new.taken + length new ≡ self.old.taken + length old) }
-        ensures bytes { IsErrOf result LexFault.Bytes → self.new.taken ≡ self.new.most }
-        ensures reads { CountsFaults result (I.read_faults inputs.old) (I.read_faults inputs.new) }
-        ensures reads_later { I.read_faults inputs.old ≤ I.read_faults inputs.new }
-        ensures opens { I.open_faults inputs.new ≡ I.open_faults inputs.old }
-        ensures texts { I.texts inputs.new ≡ I.texts inputs.old }
+        ensures advances { Advances (stop_of_next result) self.old self.new (I.seen inputs.old) (I.seen inputs.new) }
     {
         'blanks: loop {
-            match self.peek(inputs) {
-                Ok(Some(b'/')) => match self.skip_comment(inputs) {
-                    Ok(()) => {}
-                    Err(fault) => return Err(fault),
-                },
-                Ok(Some(byte)) => {
+            match self.peek(inputs)? {
+                Some(b'/') => self.skip_comment(inputs)?,
+                Some(byte) => {
                     if !is_space(byte) {
                         return Ok(Some(byte));
                     }
                     self.held = None;
                 }
-                Ok(None) => return Ok(None),
-                Err(fault) => return Err(fault),
+                None => return Ok(None),
             }
         }
     }
@@ -48,31 +40,23 @@ impl Lexer {
     /// Uses a comment, the first byte of which is held.
     fn skip_comment<I: Inputs>(&mut self, inputs: &mut I) -> Result<(), LexFault>
         requires { self.old.held ≡ Some 47 }
-        ensures answers { Between (I.left inputs.old) (I.left inputs.new) (λ old new.
+        ensures answers { Tells (I.seen inputs.old) (I.seen inputs.new) (λ old new.
             SkipsComment result (self.old.since - 1) (47 ∷ old) (unread self.new.held new)) }
         ensures progress { OnOk result (self.old.taken + held_count self.new.held < self.new.taken + held_count self.old.held) }
         ensures none_held { IfErr result (λ fault. self.new.held ≡ None) }
-        ensures advances { Advances self.old self.new }
-        ensures taken { Between (I.left inputs.old) (I.left inputs.new) (λ old new.
-            self.new.taken + length new ≡ self.old.taken + length old) }
-        ensures bytes { IsErrOf result LexFault.Bytes → self.new.taken ≡ self.new.most }
-        ensures reads { CountsFaults result (I.read_faults inputs.old) (I.read_faults inputs.new) }
-        ensures reads_later { I.read_faults inputs.old ≤ I.read_faults inputs.new }
-        ensures opens { I.open_faults inputs.new ≡ I.open_faults inputs.old }
-        ensures texts { I.texts inputs.new ≡ I.texts inputs.old }
+        ensures advances { Advances (stop_of result) self.old self.new (I.seen inputs.old) (I.seen inputs.new) }
     {
         self.held = None;
-        match self.peek(inputs) {
-            Ok(Some(b'*')) => {
+        match self.peek(inputs)? {
+            Some(b'*') => {
                 self.held = None;
                 self.close_comment(inputs)
             }
-            Ok(Some(_)) => {
+            Some(_) => {
                 self.held = None;
                 Err(LexFault::BadToken(self.since - 2))
             }
-            Ok(None) => Err(LexFault::OpenToken),
-            Err(fault) => Err(fault),
+            None => Err(LexFault::OpenToken),
         }
     }
 
@@ -80,17 +64,10 @@ impl Lexer {
     fn close_comment<I: Inputs>(&mut self, inputs: &mut I) -> Result<(), LexFault>
         requires room { 1 < self.old.taken }
         requires held { self.old.held ≡ None }
-        ensures answers { Between (I.left inputs.old) (I.left inputs.new) (λ old new.
+        ensures answers { Tells (I.seen inputs.old) (I.seen inputs.new) (λ old new.
             ClosesComment result old (unread self.new.held new)) }
         ensures none_held { IfErr result (λ fault. self.new.held ≡ None) }
-        ensures advances { Advances self.old self.new }
-        ensures taken { Between (I.left inputs.old) (I.left inputs.new) (λ old new.
-            self.new.taken + length new ≡ self.old.taken + length old) }
-        ensures bytes { IsErrOf result LexFault.Bytes → self.new.taken ≡ self.new.most }
-        ensures reads { CountsFaults result (I.read_faults inputs.old) (I.read_faults inputs.new) }
-        ensures reads_later { I.read_faults inputs.old ≤ I.read_faults inputs.new }
-        ensures opens { I.open_faults inputs.new ≡ I.open_faults inputs.old }
-        ensures texts { I.texts inputs.new ≡ I.texts inputs.old }
+        ensures advances { Advances (stop_of result) self.old self.new (I.seen inputs.old) (I.seen inputs.new) }
     {
         let mut depth = 1;
         'comment: while depth > 0 {
@@ -107,30 +84,19 @@ impl Lexer {
     fn step_in<I: Inputs>(&mut self, inputs: &mut I, depth: u64) -> Result<u64, LexFault>
         requires room { depth + held_count self.old.held < self.old.taken }
         requires inside { 0 < depth }
-        ensures answers { Between (I.left inputs.old) (I.left inputs.new) (λ old new.
+        ensures answers { Tells (I.seen inputs.old) (I.seen inputs.new) (λ old new.
             StepsIn result depth (unread self.old.held old) (unread self.new.held new)) }
         ensures deeper { IfOk result (λ next.
             next + self.old.taken + held_count self.new.held ≤ depth + self.new.taken + held_count self.old.held) }
         ensures progress { OnOk result (self.old.taken + held_count self.new.held < self.new.taken + held_count self.old.held) }
         ensures none_held { IfErr result (λ fault. self.new.held ≡ None) }
-        ensures advances { Advances self.old self.new }
-        ensures taken { Between (I.left inputs.old) (I.left inputs.new) (λ old new.
-            self.new.taken + length new ≡ self.old.taken + length old) }
-        ensures bytes { IsErrOf result LexFault.Bytes → self.new.taken ≡ self.new.most }
-        ensures reads { CountsFaults result (I.read_faults inputs.old) (I.read_faults inputs.new) }
-        ensures reads_later { I.read_faults inputs.old ≤ I.read_faults inputs.new }
-        ensures opens { I.open_faults inputs.new ≡ I.open_faults inputs.old }
-        ensures texts { I.texts inputs.new ≡ I.texts inputs.old }
+        ensures advances { Advances (stop_of result) self.old self.new (I.seen inputs.old) (I.seen inputs.new) }
     {
-        let first = match self.take(inputs) {
-            Ok(Some(byte)) => byte,
-            Ok(None) => return Err(LexFault::OpenComment),
-            Err(fault) => return Err(fault),
+        let Some(first) = self.take(inputs)? else {
+            return Err(LexFault::OpenComment);
         };
-        let second = match self.peek(inputs) {
-            Ok(Some(byte)) => byte,
-            Ok(None) => return Err(LexFault::OpenComment),
-            Err(fault) => return Err(fault),
+        let Some(second) = self.peek(inputs)? else {
+            return Err(LexFault::OpenComment);
         };
         if closes(first, second) {
             self.held = None;

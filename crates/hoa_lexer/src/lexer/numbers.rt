@@ -1,7 +1,7 @@
 //! Integers.
 
-ghost use Rattle.std.specs.Prelude.{◌≡◌, ◌+◌, ◌<◌, ◌≤◌, ◌∷◌, length, true, OnOk, IsErrOf};
-ghost use Rattle.hoa_lexer.specs.Reading.{held_count, unread, Between, CountsFaults};
+ghost use Rattle.std.specs.Prelude.{◌≡◌, ◌+◌, ◌<◌, ◌∷◌, true, OnOk};
+ghost use Rattle.hoa_lexer.specs.Reading.{held_count, unread, Tells};
 ghost use Rattle.hoa_lexer.specs.Bytes as kinds;
 
 use super::Lexer;
@@ -10,24 +10,18 @@ use crate::{LexFault, Token};
 use aut_io::Inputs;
 
 impl Lexer {
+    ghost use Rattle.hoa_lexer.specs.Moves.{stop_of};
     ghost use Rattle.hoa_lexer.specs.inner.Steps.{Advances, HoldsAfter, ReadsToken};
 
     /// An integer, the first digit of which is held. It is refused as soon as it has no value that a `u32` holds.
     pub(super) fn number<I: Inputs>(&mut self, inputs: &mut I, first: u8) -> Result<Token, LexFault>
         requires held { self.old.held ≡ Some first }
         requires digit { kinds.is_digit first ≡ true }
-        ensures answers { Between (I.left inputs.old) (I.left inputs.new) (λ old new.
+        ensures answers { Tells (I.seen inputs.old) (I.seen inputs.new) (λ old new.
             ReadsToken result self.old.offset (first ∷ old) (unread self.new.held new)) }
         ensures holds { HoldsAfter result self.new.held }
         ensures progress { OnOk result (self.old.taken + held_count self.new.held < self.new.taken + held_count self.old.held) }
-        ensures advances { Advances self.old self.new }
-        ensures taken { Between (I.left inputs.old) (I.left inputs.new) (λ old new.
-            self.new.taken + length new ≡ self.old.taken + length old) }
-        ensures bytes { IsErrOf result LexFault.Bytes → self.new.taken ≡ self.new.most }
-        ensures reads { CountsFaults result (I.read_faults inputs.old) (I.read_faults inputs.new) }
-        ensures reads_later { I.read_faults inputs.old ≤ I.read_faults inputs.new }
-        ensures opens { I.open_faults inputs.new ≡ I.open_faults inputs.old }
-        ensures texts { I.texts inputs.new ≡ I.texts inputs.old }
+        ensures advances { Advances (stop_of result) self.old self.new (I.seen inputs.old) (I.seen inputs.new) }
     {
         self.held = None;
         let mut value = u64::from(first - b'0');
@@ -35,8 +29,8 @@ impl Lexer {
             return Ok(Token::Int(0));
         }
         'digits: loop {
-            match self.peek(inputs) {
-                Ok(Some(byte)) => {
+            match self.peek(inputs)? {
+                Some(byte) => {
                     if !is_digit(byte) {
                         return Ok(Token::Int(value as u32));
                     }
@@ -46,8 +40,7 @@ impl Lexer {
                         return Err(LexFault::BadToken(self.offset));
                     }
                 }
-                Ok(None) => return Err(LexFault::OpenToken),
-                Err(fault) => return Err(fault),
+                None => return Err(LexFault::OpenToken),
             }
         }
     }

@@ -1,29 +1,23 @@
 //! One byte after the other.
 
-ghost use Rattle.std.specs.Prelude.{◌≡◌, ◌+◌, ◌≤◌, length, None, OnOk, IfErr, IfOk, IsSome, IsErrOf, ◌<◌};
-ghost use Rattle.hoa_lexer.specs.Reading.{held_count, unread, Between, CountsFaults};
+ghost use Rattle.std.specs.Prelude.{◌≡◌, ◌+◌, ◌<◌, None, IfErr, IfOk, IsSome};
+ghost use Rattle.hoa_lexer.specs.Reading.{held_count, unread, Tells};
 
 use super::Lexer;
 use crate::LexFault;
 use aut_io::Inputs;
 
 impl Lexer {
+    ghost use Rattle.hoa_lexer.specs.Moves.{stop_of_next};
     ghost use Rattle.hoa_lexer.specs.inner.Steps.{Advances, Peeks, HoldsRead, IsReadFault};
 
     /// The next byte, which is held from then on, or None at the end of the text.
     pub(super) fn peek<I: Inputs>(&mut self, inputs: &mut I) -> Result<Option<u8>, LexFault>
-        ensures answers { Between (I.left inputs.old) (I.left inputs.new) (λ old new.
+        ensures answers { Tells (I.seen inputs.old) (I.seen inputs.new) (λ old new.
             Peeks result (unread self.old.held old) new) }
         ensures held { HoldsRead result self.new.held }
         ensures kinds { IfErr result IsReadFault }
-        ensures advances { Advances self.old self.new }
-        ensures taken { Between (I.left inputs.old) (I.left inputs.new) (λ old new.
-            self.new.taken + length new ≡ self.old.taken + length old) }
-        ensures bytes { IsErrOf result LexFault.Bytes → self.new.taken ≡ self.new.most }
-        ensures reads { CountsFaults result (I.read_faults inputs.old) (I.read_faults inputs.new) }
-        ensures reads_later { I.read_faults inputs.old ≤ I.read_faults inputs.new }
-        ensures opens { I.open_faults inputs.new ≡ I.open_faults inputs.old }
-        ensures texts { I.texts inputs.new ≡ I.texts inputs.old }
+        ensures advances { Advances (stop_of_next result) self.old self.new (I.seen inputs.old) (I.seen inputs.new) }
     {
         if let Some(byte) = self.held {
             return Ok(Some(byte));
@@ -45,19 +39,12 @@ impl Lexer {
 
     /// The next byte, which is used, or None at the end of the text.
     pub(super) fn take<I: Inputs>(&mut self, inputs: &mut I) -> Result<Option<u8>, LexFault>
-        ensures answers { Between (I.left inputs.old) (I.left inputs.new) (λ old new.
+        ensures answers { Tells (I.seen inputs.old) (I.seen inputs.new) (λ old new.
             Peeks result (unread self.old.held old) new) }
         ensures held { self.new.held ≡ None }
         ensures kinds { IfErr result IsReadFault }
-        ensures advances { Advances self.old self.new }
+        ensures advances { Advances (stop_of_next result) self.old self.new (I.seen inputs.old) (I.seen inputs.new) }
         ensures progress { IfOk result (λ byte. IsSome byte → self.old.taken < self.new.taken + held_count self.old.held) }
-        ensures taken { Between (I.left inputs.old) (I.left inputs.new) (λ old new.
-            self.new.taken + length new ≡ self.old.taken + length old) }
-        ensures bytes { IsErrOf result LexFault.Bytes → self.new.taken ≡ self.new.most }
-        ensures reads { CountsFaults result (I.read_faults inputs.old) (I.read_faults inputs.new) }
-        ensures reads_later { I.read_faults inputs.old ≤ I.read_faults inputs.new }
-        ensures opens { I.open_faults inputs.new ≡ I.open_faults inputs.old }
-        ensures texts { I.texts inputs.new ≡ I.texts inputs.old }
     {
         let byte = self.peek(inputs);
         self.held = None;

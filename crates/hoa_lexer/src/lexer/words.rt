@@ -1,7 +1,7 @@
 //! Identifiers, names of headers and aliases.
 
-ghost use Rattle.std.specs.Prelude.{◌≡◌, ◌+◌, ◌<◌, ◌≤◌, ◌∷◌, length, None, true, OnOk, IfOk, IfErr, IsErrOf};
-ghost use Rattle.hoa_lexer.specs.Reading.{held_count, unread, Between, CountsFaults};
+ghost use Rattle.std.specs.Prelude.{◌≡◌, ◌+◌, ◌<◌, ◌∷◌, None, true, OnOk, IfOk, IfErr};
+ghost use Rattle.hoa_lexer.specs.Reading.{held_count, unread, Tells};
 ghost use Rattle.hoa_lexer.specs.Bytes as kinds;
 
 use super::Lexer;
@@ -12,6 +12,7 @@ use aut_io::Inputs;
 use std::alloc::Global;
 
 impl Lexer {
+    ghost use Rattle.hoa_lexer.specs.Moves.{stop_of, stop_of_next};
     ghost use Rattle.hoa_lexer.specs.inner.Steps.{AddsWords, Advances, HoldsAfter, ReadsToken};
 
     /// An identifier or the name of a header, the first byte of which is held.
@@ -23,32 +24,22 @@ impl Lexer {
     ) -> Result<Token, LexFault>
         requires held { self.old.held ≡ Some first }
         requires letter { kinds.is_letter first ≡ true }
-        ensures answers { Between (I.left inputs.old) (I.left inputs.new) (λ old new.
+        ensures answers { Tells (I.seen inputs.old) (I.seen inputs.new) (λ old new.
             ReadsToken result self.old.offset (first ∷ old) (unread self.new.held new)) }
         ensures holds { HoldsAfter result self.new.held }
         ensures progress { OnOk result (self.old.taken + held_count self.new.held < self.new.taken + held_count self.old.held) }
-        ensures advances { Advances self.old self.new }
-        ensures taken { Between (I.left inputs.old) (I.left inputs.new) (λ old new.
-            self.new.taken + length new ≡ self.old.taken + length old) }
-        ensures bytes { IsErrOf result LexFault.Bytes → self.new.taken ≡ self.new.most }
-        ensures reads { CountsFaults result (I.read_faults inputs.old) (I.read_faults inputs.new) }
-        ensures reads_later { I.read_faults inputs.old ≤ I.read_faults inputs.new }
-        ensures opens { I.open_faults inputs.new ≡ I.open_faults inputs.old }
-        ensures texts { I.texts inputs.new ≡ I.texts inputs.old }
+        ensures advances { Advances (stop_of result) self.old self.new (I.seen inputs.old) (I.seen inputs.new) }
     {
         self.held = None;
         let mut name = Text::new(alloc);
-        if name.push(first).is_err() {
-            return Err(LexFault::Memory);
-        }
-        match self.word_bytes(inputs, &mut name) {
-            Ok(Some(b':')) => {
+        name.push(first)?;
+        match self.word_bytes(inputs, &mut name)? {
+            Some(b':') => {
                 self.held = None;
                 Ok(Token::HeaderName(name))
             }
-            Ok(Some(_)) => Ok(Token::Identifier(name)),
-            Ok(None) => Err(LexFault::OpenToken),
-            Err(fault) => Err(fault),
+            Some(_) => Ok(Token::Identifier(name)),
+            None => Err(LexFault::OpenToken),
         }
     }
 
@@ -59,31 +50,23 @@ impl Lexer {
         inputs: &mut I,
     ) -> Result<Token, LexFault>
         requires { self.old.held ≡ Some 64 }
-        ensures answers { Between (I.left inputs.old) (I.left inputs.new) (λ old new.
+        ensures answers { Tells (I.seen inputs.old) (I.seen inputs.new) (λ old new.
             ReadsToken result self.old.offset (64 ∷ old) (unread self.new.held new)) }
         ensures holds { HoldsAfter result self.new.held }
         ensures progress { OnOk result (self.old.taken + held_count self.new.held < self.new.taken + held_count self.old.held) }
-        ensures advances { Advances self.old self.new }
-        ensures taken { Between (I.left inputs.old) (I.left inputs.new) (λ old new.
-            self.new.taken + length new ≡ self.old.taken + length old) }
-        ensures bytes { IsErrOf result LexFault.Bytes → self.new.taken ≡ self.new.most }
-        ensures reads { CountsFaults result (I.read_faults inputs.old) (I.read_faults inputs.new) }
-        ensures reads_later { I.read_faults inputs.old ≤ I.read_faults inputs.new }
-        ensures opens { I.open_faults inputs.new ≡ I.open_faults inputs.old }
-        ensures texts { I.texts inputs.new ≡ I.texts inputs.old }
+        ensures advances { Advances (stop_of result) self.old self.new (I.seen inputs.old) (I.seen inputs.new) }
     {
         self.held = None;
         let mut name = Text::new(alloc);
-        match self.word_bytes(inputs, &mut name) {
-            Ok(Some(_)) => {
+        match self.word_bytes(inputs, &mut name)? {
+            Some(_) => {
                 if name.is_empty() {
                     self.held = None;
                     return Err(LexFault::BadToken(self.offset));
                 }
                 Ok(Token::Alias(name))
             }
-            Ok(None) => Err(LexFault::OpenToken),
-            Err(fault) => Err(fault),
+            None => Err(LexFault::OpenToken),
         }
     }
 
@@ -94,32 +77,22 @@ impl Lexer {
         inputs: &mut I,
         name: &mut Text,
     ) -> Result<Option<u8>, LexFault>
-        ensures answers { Between (I.left inputs.old) (I.left inputs.new) (λ old new.
+        ensures answers { Tells (I.seen inputs.old) (I.seen inputs.new) (λ old new.
             AddsWords result name.old name.new (unread self.old.held old) new) }
         ensures held { IfOk result (λ byte. self.new.held ≡ byte) }
         ensures none_held { IfErr result (λ fault. self.new.held ≡ None) }
-        ensures advances { Advances self.old self.new }
-        ensures taken { Between (I.left inputs.old) (I.left inputs.new) (λ old new.
-            self.new.taken + length new ≡ self.old.taken + length old) }
-        ensures bytes { IsErrOf result LexFault.Bytes → self.new.taken ≡ self.new.most }
-        ensures reads { CountsFaults result (I.read_faults inputs.old) (I.read_faults inputs.new) }
-        ensures reads_later { I.read_faults inputs.old ≤ I.read_faults inputs.new }
-        ensures opens { I.open_faults inputs.new ≡ I.open_faults inputs.old }
-        ensures texts { I.texts inputs.new ≡ I.texts inputs.old }
+        ensures advances { Advances (stop_of_next result) self.old self.new (I.seen inputs.old) (I.seen inputs.new) }
     {
         'bytes: loop {
-            match self.peek(inputs) {
-                Ok(Some(byte)) => {
+            match self.peek(inputs)? {
+                Some(byte) => {
                     if !is_word(byte) {
                         return Ok(Some(byte));
                     }
                     self.held = None;
-                    if name.push(byte).is_err() {
-                        return Err(LexFault::Memory);
-                    }
+                    name.push(byte)?;
                 }
-                Ok(None) => return Ok(None),
-                Err(fault) => return Err(fault),
+                None => return Ok(None),
             }
         }
     }

@@ -1,12 +1,24 @@
-use Rattle.std.proofs.Common.{◌/◌, ◌++◌, Some, length, min, refl, ap}
+use Rattle.std.proofs.Common.{◌/◌, ◌++◌, Some, length, min, refl, ap, arith, rules}
 use Rattle.aut_io.specs.InMemory.{room}
 use Rattle.aut_io.proofs.Prefixes.{take_half}
 use Rattle.aut_io.proofs.mem_sink.MemSinkSink.write.Goals as goal
 
-pub returns-then-count-clause-err : goal.returns-then-count-clause-err
-returns-then-count-clause-err c =
+pub returns-then-count-clause-writes : goal.returns-then-count-clause-writes
+returns-then-count-clause-writes c =
     let part = ap (λ p. Some (c.self.inside.written.items ++ p)) (take_half (room c.args.self.now) c.args.piece.now) in
-    (min (room c.args.self.now) (length c.args.piece.now / 2), rw (c.fault.ensures.counted, c.keep-whole.ensures.kept, ← c.self.view_is) (rw (← c.self.view_is) at part))
+    record {
+      ok = tt;
+      err = (min (room c.args.self.now) (length c.args.piece.now / 2), rw (c.fault.ensures.counted, c.keep-whole.ensures.kept, ← c.self.view_is) (rw (← c.self.view_is) at part));
+      failed = search rules;
+      calm = tt;
+      later = search rules;
+    }
 
-pub returns-then-not-keep-clause-err : goal.returns-then-not-keep-clause-err
-returns-then-not-keep-clause-err c = (room c.args.self.now, rw (c.fault-then-not-keep.ensures.counted, c.keep.ensures.kept, ← c.self.view_is) refl)
+pub returns-then-not-keep-clause-writes : goal.returns-then-not-keep-clause-writes
+returns-then-not-keep-clause-writes c = record {
+  ok = tt;
+  err = (room c.args.self.now, rw (c.fault-then-not-keep.ensures.counted, c.keep.ensures.kept, ← c.self.view_is) refl);
+  failed = search rules;
+  calm = tt;
+  later = search rules;
+}
