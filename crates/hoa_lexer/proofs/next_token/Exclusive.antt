@@ -62,7 +62,7 @@ open_string_stuck bytes o = record {
 begins_space : (b : ℕ) (bytes rest : List ℕ) → is_space b ≡ true → bytes ≡ b ∷ rest → Begins bytes → ⊥
 begins_space b bytes rest h e g = front_spaces b (rest ++ g.more) (bytes ++ g.more) h (ap (λ w. w ++ g.more) e) g.front
 
-begins_slash : (bytes rest : List ℕ) → bytes ≡ 47 ∷ rest → Begins bytes → ⊥
+pub begins_slash : (bytes rest : List ℕ) → bytes ≡ 47 ∷ rest → Begins bytes → ⊥
 begins_slash bytes rest e g = front_slashes (rest ++ g.more) (bytes ++ g.more) (ap (λ w. w ++ g.more) e) g.front
 
 pub open_token_stuck : (bytes : List ℕ) → IsOpenToken bytes → IsStuck bytes

@@ -2,12 +2,13 @@
 use Rattle.std.proofs.Common.{◌≡◌, ◌≢◌, ℕ, zero, suc, ◌+◌, ◌&&◌, ◌==◌, true, false, List, [], ◌∷◌, ◌++◌, length, Option, Some, None, Result, Ok, Err, inl, inr, refl, sym, subst, ◌∙◌, ap, arith, ⊎_elim}
 use Rattle.std.proofs.lemmas.Bool.{false≢true, and_right, cases_Bool}
 use Rattle.std.proofs.lemmas.List.{append_assoc, append-nil, length-append}
+use Rattle.aut_base.proofs.Lists.{cons-head}
 use Rattle.hoa_lexer.specs.Blanks.{Closes, IsBlanks, IsOpenComment}
 use Rattle.hoa_lexer.specs.Blanks.IsBlanks.{nothing, space, comment}
 use Rattle.hoa_lexer.specs.Bytes.{is_space}
-use Rattle.hoa_lexer.specs.Reading.{unread, held_count, Answers}
-use Rattle.hoa_lexer.specs.inner.Steps.{closing, ClosesComment, IsReadFault, IsSolid, Skips, SkipsComment, SkipsBlanks, Pauses, ReadsToken, Tries}
-use Rattle.hoa_lexer.specs.Text.{IsFront, HasFront, IsNext, AfterBlanks, IsOpenString, IsOpenToken, IsNoToken, AsksForMore, AskedForOne, IsShownBy}
+use Rattle.hoa_lexer.specs.Reading.{unread, held_count, Answers, BeginsNoToken, BeginsToken, Places}
+use Rattle.hoa_lexer.specs.inner.Steps.{closing, ClosesComment, IsReadFault, IsSolid, Skips, SkipsComment, SkipsBlanks, Pauses, ReadsToken, Tries, UsesBlanks}
+use Rattle.hoa_lexer.specs.Text.{IsFront, HasFront, IsNext, AfterBlanks, IsOpenString, IsOpenToken, IsNoToken, AsksForMore, AskedForOne, AsksPast, IsShownBy}
 use Rattle.hoa_lexer.proofs.spelling.Comments.{closing_after, closing_sound, unheld, holding, steps_out, steps_in, steps_on}
 use Rattle.hoa_lexer.proofs.spelling.FirstBytes.{front_head, no_front, no_space, no_slash, solid}
 use Rattle.hoa_lexer.specs.declared.token.LexFault.{LexFault}
@@ -204,20 +205,24 @@ skip_closed (Ok done) start x y z e h =
       split = ap (λ v. 47 ∷ v) e ∙ ap (λ v. 47 ∷ 42 ∷ v) split;
       blanks = comment w.body [] w.closes nothing (ap (λ v. 47 ∷ 42 ∷ v) (sym (append-nil w.body)));
     }
-skip_closed (Err OpenComment) start x y z e h = record {
-  before = [];
-  bytes = 47 ∷ x;
-  split = refl;
-  blanks = nothing;
-  holds = record {
-    rest = y;
-    opens = ap (λ v. 47 ∷ v) e;
-    open_still = λ body more k w. let done : closing 1 y ≡ Some more = ap (closing 1) k ∙ closing_after 1 body more w in cc;
-  };
-}
+skip_closed (Err OpenComment) start x y z e h = (
+  record {
+    before = [];
+    bytes = 47 ∷ x;
+    split = refl;
+    blanks = nothing;
+    holds = record {
+      rest = y;
+      opens = ap (λ v. 47 ∷ v) e;
+      open_still = λ body more k w. let done : closing 1 y ≡ Some more = ap (closing 1) k ∙ closing_after 1 body more w in let none = h.0 in cc;
+    };
+  },
+  h.1,
+)
 skip_closed (Err Bytes) start x y z e h =
-    (47 ∷ 42 ∷ h.0, ap (λ v. 47 ∷ v) e ∙ ap (λ v. 47 ∷ 42 ∷ v) h.1, asks_comment h.0 h.2)
-skip_closed (Err Read) start x y z e h = tt
+    record { at_hand = 47 ∷ 42 ∷ h.0; split = ap (λ v. 47 ∷ v) e ∙ ap (λ v. 47 ∷ 42 ∷ v) h.1; asks = asks_comment h.0 h.2 }
+skip_closed (Err Read) start x y z e h =
+    record { at_hand = 47 ∷ 42 ∷ h.0; split = ap (λ v. 47 ∷ v) e ∙ ap (λ v. 47 ∷ 42 ∷ v) h.1; asks = asks_comment h.0 h.2 }
 skip_closed (Err (BadToken n)) start x y z e h = absurd h
 skip_closed (Err OpenString) start x y z e h = absurd h
 skip_closed (Err OpenToken) start x y z e h = absurd h
@@ -248,23 +253,26 @@ skip_bad k start b x y s n e = (
   record { used = 47 ∷ b ∷ []; split = ap (λ w. 47 ∷ w) e; shows = slash_no_comment k start b (b ∷ []) [] s n refl },
 )
 
-pub skip_end : (start : ℕ) (x z : List ℕ) → x ≡ [] → SkipsComment (Err OpenToken) start (47 ∷ x) z
-skip_end start x z e = record {
-  before = [];
-  bytes = 47 ∷ x;
-  split = refl;
-  blanks = nothing;
-  holds = record {
-    some = λ w. cc;
-    no_string = λ rest w. cc;
-    unclosed = front_slash x;
-    begins = inl (ap (λ v. 47 ∷ v) e);
-  };
-}
+pub skip_end : (h : Option ℕ) (start : ℕ) (x z : List ℕ) → h ≡ None → x ≡ [] → z ≡ [] → SkipsComment (Err OpenToken) start (47 ∷ x) (unread h z)
+skip_end h start x z n e k = (
+  record {
+    before = [];
+    bytes = 47 ∷ x;
+    split = refl;
+    blanks = nothing;
+    holds = record {
+      some = λ w. cc;
+      no_string = λ rest w. cc;
+      unclosed = front_slash x;
+      begins = inl (ap (λ v. 47 ∷ v) e);
+    };
+  },
+  unheld h z n ∙ k,
+)
 
 pub skip_err : (fault : LexFault) (h : Option ℕ) (start : ℕ) (x z : List ℕ) → IsReadFault fault → h ≡ None → x ≡ z → SkipsComment (Err fault) start (47 ∷ x) (unread h z)
-skip_err Read h start x z r k e = tt
-skip_err Bytes h start x z r k e = (47 ∷ [], ap (λ v. 47 ∷ v) (e ∙ sym (unheld h z k)), asks_slash)
+skip_err Read h start x z r k e = record { at_hand = 47 ∷ []; split = ap (λ v. 47 ∷ v) (e ∙ sym (unheld h z k)); asks = asks_slash }
+skip_err Bytes h start x z r k e = record { at_hand = 47 ∷ []; split = ap (λ v. 47 ∷ v) (e ∙ sym (unheld h z k)); asks = asks_slash }
 skip_err (BadToken n) h start x z r k e = absurd r
 skip_err OpenComment h start x z r k e = absurd r
 skip_err OpenString h start x z r k e = absurd r
@@ -306,6 +314,13 @@ shown_after k start start' x y z s e a =
           (record { before = s.before; split = refl; blanks = s.blanks }) a.shows;
     }
 
+asks_behind : (x y z : List ℕ) → Skips x y → AsksPast y z → AsksPast x z
+asks_behind x y z s a = record {
+  at_hand = s.before ++ a.at_hand;
+  split = s.split ∙ ap (λ w. s.before ++ w) a.split ∙ sym (append_assoc s.before a.at_hand z);
+  asks = asks_after s.before a.at_hand s.blanks a.asks;
+}
+
 pub fails_after : (fault : LexFault) (start start' offset offset' : ℕ) (x y z : List ℕ) → Skips x y → start + length x ≡ start' + length y → Answers (Err fault) start' offset' y z → Answers (Err fault) start offset x z
 fails_after (BadToken k) start start' offset offset' x y z s e a = (
   after_skips x y (λ bytes. (k + length bytes ≡ start' + length y) × IsNoToken bytes) (λ bytes. (k + length bytes ≡ start + length x) × IsNoToken bytes)
@@ -318,17 +333,19 @@ fails_after (BadToken k) start start' offset offset' x y z s e a = (
   },
   shown_after k start start' x y z s e a.2,
 )
-fails_after OpenComment start start' offset offset' x y z s e a = after_skips x y IsOpenComment IsOpenComment (λ bytes h. h) s a
-fails_after OpenString start start' offset offset' x y z s e a = after_skips x y IsOpenString IsOpenString (λ bytes h. h) s a
-fails_after OpenToken start start' offset offset' x y z s e a = after_skips x y IsOpenToken IsOpenToken (λ bytes h. h) s a
+fails_after OpenComment start start' offset offset' x y z s e a = (after_skips x y IsOpenComment IsOpenComment (λ bytes h. h) s a.0, a.1)
+fails_after OpenString start start' offset offset' x y z s e a = (after_skips x y IsOpenString IsOpenString (λ bytes h. h) s a.0, a.1)
+fails_after OpenToken start start' offset offset' x y z s e a = (after_skips x y IsOpenToken IsOpenToken (λ bytes h. h) s a.0, a.1)
 fails_after Bytes start start' offset offset' x y z s e a =
-    (s.before ++ a.0, s.split ∙ ap (λ w. s.before ++ w) a.1 ∙ sym (append_assoc s.before a.0 z), asks_after s.before a.0 s.blanks a.2)
-fails_after Read start start' offset offset' x y z s e a = tt
-fails_after Memory start start' offset offset' x y z s e a = tt
+    asks_behind x y z s a
+fails_after Read start start' offset offset' x y z s e a =
+    asks_behind x y z s a
+fails_after Memory start start' offset offset' x y z s e a =
+    asks_behind x y z s a
 
 pub blanks_err : (fault : LexFault) (h : Option ℕ) (start : ℕ) (x y z : List ℕ) → IsReadFault fault → h ≡ None → Skips x y → y ≡ z → Answers (Err fault) start 0 x (unread h z)
-blanks_err Read h start x y z r k s e = tt
-blanks_err Bytes h start x y z r k s e = (s.before, s.split ∙ ap (λ w. s.before ++ w) (e ∙ sym (unheld h z k)), asks_blanks s.before s.blanks)
+blanks_err Read h start x y z r k s e = record { at_hand = s.before; split = s.split ∙ ap (λ w. s.before ++ w) (e ∙ sym (unheld h z k)); asks = asks_blanks s.before s.blanks }
+blanks_err Bytes h start x y z r k s e = record { at_hand = s.before; split = s.split ∙ ap (λ w. s.before ++ w) (e ∙ sym (unheld h z k)); asks = asks_blanks s.before s.blanks }
 blanks_err (BadToken n) h start x y z r k s e = absurd r
 blanks_err OpenComment h start x y z r k s e = absurd r
 blanks_err OpenString h start x y z r k s e = absurd r
@@ -387,11 +404,11 @@ token_err_here (BadToken k) offset y z h = (
   },
 )
 token_err_here OpenComment offset y z h = absurd h
-token_err_here OpenString offset y z h = at_once y IsOpenString h
-token_err_here OpenToken offset y z h = at_once y IsOpenToken h
-token_err_here Bytes offset y z h = (h.at_hand, h.split, pauses_ask y z h)
-token_err_here Read offset y z h = tt
-token_err_here Memory offset y z h = tt
+token_err_here OpenString offset y z h = (at_once y IsOpenString h.0, h.1)
+token_err_here OpenToken offset y z h = (at_once y IsOpenToken h.0, h.1)
+token_err_here Bytes offset y z h = record { at_hand = h.at_hand; split = h.split; asks = pauses_ask y z h }
+token_err_here Read offset y z h = record { at_hand = h.at_hand; split = h.split; asks = pauses_ask y z h }
+token_err_here Memory offset y z h = record { at_hand = h.at_hand; split = h.split; asks = pauses_ask y z h }
 
 pub token_err : (fault : LexFault) (start offset : ℕ) (x y z : List ℕ) → Skips x y → start + length x ≡ offset + length y → ReadsToken (Err fault) offset y z → Answers (Err fault) start offset x z
 token_err fault start offset x y z s e h = fails_after fault start offset offset offset x y z s e (token_err_here fault offset y z h)
@@ -408,3 +425,64 @@ token_ok token start offset x y z s e f = record {
 
 pub err_offset : (fault : LexFault) (start offset offset' : ℕ) (x z : List ℕ) → Answers (Err fault) start offset x z → Answers (Err fault) start offset' x z
 err_offset fault start offset offset' x z a = fails_after fault start start offset' offset x x z (skips_none x) refl a
+
+-- where the offset stands after a fault
+
+used_of : (fault : LexFault) (start offset : ℕ) (x z : List ℕ) → Answers (Err fault) start offset x z → (used : List ℕ) × (x ≡ used ++ z)
+used_of (BadToken k) start offset x z a = (a.2.used, a.2.split)
+used_of OpenComment start offset x z a = (x, sym (ap (λ w. x ++ w) a.1 ∙ append-nil x))
+used_of OpenString start offset x z a = (x, sym (ap (λ w. x ++ w) a.1 ∙ append-nil x))
+used_of OpenToken start offset x z a = (x, sym (ap (λ w. x ++ w) a.1 ∙ append-nil x))
+used_of Bytes start offset x z a = (a.at_hand, a.split)
+used_of Read start offset x z a = (a.at_hand, a.split)
+used_of Memory start offset x z a = (a.at_hand, a.split)
+
+begins_slash : (used x z : List ℕ) → 47 ∷ x ≡ used ++ z → BeginsNoToken used
+begins_slash [] x z e = tt
+begins_slash (b ∷ bs) x z e = sym (cons-head 47 b x (bs ++ z) e)
+
+pub comment_begun : (fault : LexFault) (start : ℕ) (x y z : List ℕ) → Skips x (47 ∷ y) → SkipsComment (Err fault) start (47 ∷ y) z → UsesBlanks x z
+comment_begun fault start x y z s a =
+    let u = used_of fault start 0 (47 ∷ y) z a in
+    record { before = s.before; bytes = u.0; split = s.split ∙ ap (λ w. s.before ++ w) u.1 ∙ sym (append_assoc s.before u.0 z); blanks = s.blanks; none = begins_slash u.0 y z u.1 }
+
+pub blanks_begun : (h : Option ℕ) (x y z : List ℕ) → h ≡ None → Skips x y → y ≡ z → UsesBlanks x (unread h z)
+blanks_begun h x y z n s e = record {
+  before = s.before;
+  bytes = [];
+  split = s.split ∙ ap (λ w. s.before ++ w) (e ∙ sym (unheld h z n)) ∙ ap (λ w. w ++ unread h z) (sym (append-nil s.before));
+  blanks = s.blanks;
+  none = tt;
+}
+
+pub places_blanks : (fault : LexFault) (start offset offset' : ℕ) (x z : List ℕ) → offset' ≡ offset → UsesBlanks x z → Places (Err fault) start offset offset' x z
+places_blanks fault start offset offset' x z e u = (u.before ++ u.bytes, u.split, record { before = u.before; bytes = u.bytes; split = refl; blanks = u.blanks; place = inr (u.none, e) })
+
+token_used : (fault : LexFault) (offset : ℕ) (y z : List ℕ) → ReadsToken (Err fault) offset y z → (used : List ℕ) × (used ≢ []) × (y ≡ used ++ z)
+token_used (BadToken k) offset y z h = (h.3.used, h.3.none.some, h.3.split)
+token_used OpenComment offset y z h = absurd h
+token_used OpenString offset y z h = (y, λ e. (let opens = h.0.opens in cc), sym (ap (λ w. y ++ w) h.1 ∙ append-nil y))
+token_used OpenToken offset y z h = (y, h.0.some, sym (ap (λ w. y ++ w) h.1 ∙ append-nil y))
+token_used Bytes offset y z h = (h.at_hand, h.some, h.split)
+token_used Read offset y z h = (h.at_hand, h.some, h.split)
+token_used Memory offset y z h = (h.at_hand, h.some, h.split)
+
+begins_token : (first : ℕ) (used y z : List ℕ) → is_space first ≡ false → first ≢ 47 → used ≢ [] → first ∷ y ≡ used ++ z → BeginsToken used
+begins_token first [] y z s n k e = k refl
+begins_token first (b ∷ bs) y z s n k e =
+    let same : first ≡ b = cons-head first b y (bs ++ z) e in
+    (ap is_space (sym same) ∙ s, λ w. n (same ∙ w))
+
+pub places_token : (fault : LexFault) (first start old offset : ℕ) (x y z : List ℕ) → is_space first ≡ false → first ≢ 47 → Skips x (first ∷ y) → start + length x ≡ offset + length (first ∷ y) → ReadsToken (Err fault) offset (first ∷ y) z → Places (Err fault) start old offset x z
+places_token fault first start old offset x y z solid no_slash s e h =
+    let u = token_used fault offset (first ∷ y) z h in (
+      s.before ++ u.0,
+      s.split ∙ ap (λ w. s.before ++ w) u.2 ∙ sym (append_assoc s.before u.0 z),
+      record {
+        before = s.before;
+        bytes = u.0;
+        split = refl;
+        blanks = s.blanks;
+        place = inl (begins_token first u.0 y z solid no_slash u.1 u.2, omega (arith, e, simp length-append at (ap length s.split)));
+      },
+    )

@@ -121,7 +121,10 @@ at_hand_open d seen last new (Some rest) p l e k =
     absurd (omega (arith, closes_long d v.body v.closes, simp length-append at (ap length v.split)))
 
 pub step_err : (h1 h2 : Option ℕ) (fault : LexFault) (first depth : ℕ) (x y z : List ℕ) → x ≡ first ∷ y → h1 ≡ None → unread h1 y ≡ z → h2 ≡ None → IsReadFault fault → StepsIn (Err fault) depth x (unread h2 z)
-step_err h1 h2 Read first depth x y z p e q k r = tt
+step_err h1 h2 Read first depth x y z p e q k r =
+    let a = unheld h1 y e in
+    let b = unheld h2 z k in
+    (first ∷ [], cc, omega arith)
 step_err h1 h2 Bytes first depth x y z p e q k r =
     let a = unheld h1 y e in
     let b = unheld h2 z k in
@@ -174,12 +177,15 @@ comment_step depth next x y z h s =
     (s.0 ∙ h.0, h.1 ++ s.1, h.2 ∙ ap (λ w. h.1 ++ w) s.2 ∙ sym (append_assoc h.1 s.1 z))
 
 pub comment_err : (fault : LexFault) (depth : ℕ) (x y z : List ℕ) → 0 < depth → (closing depth y ≡ closing 1 x) × (seen : List ℕ) × (x ≡ seen ++ y) → StepsIn (Err fault) depth y z → ClosesComment (Err fault) x z
-comment_err OpenComment depth x y z l h s = sym h.0 ∙ s
+comment_err OpenComment depth x y z l h s = (sym h.0 ∙ s.0, s.1)
 comment_err Bytes depth x y z l h s =
     let whole : x ≡ h.1 ++ (s.0 ++ z) = h.2 ∙ ap (λ w. h.1 ++ w) s.1 in
     let same : closing depth (s.0 ++ z) ≡ closing 1 (h.1 ++ (s.0 ++ z)) = ap (closing depth) (sym s.1) ∙ h.0 ∙ ap (closing 1) whole in
     (h.1 ++ s.0, whole ∙ sym (append_assoc h.1 s.0 z), at_hand_open depth h.1 s.0 z _ l s.2 same refl)
-comment_err Read depth x y z l h s = tt
+comment_err Read depth x y z l h s =
+    let whole : x ≡ h.1 ++ (s.0 ++ z) = h.2 ∙ ap (λ w. h.1 ++ w) s.1 in
+    let same : closing depth (s.0 ++ z) ≡ closing 1 (h.1 ++ (s.0 ++ z)) = ap (closing depth) (sym s.1) ∙ h.0 ∙ ap (closing 1) whole in
+    (h.1 ++ s.0, whole ∙ sym (append_assoc h.1 s.0 z), at_hand_open depth h.1 s.0 z _ l s.2 same refl)
 comment_err (BadToken n) depth x y z l h s = absurd s
 comment_err OpenString depth x y z l h s = absurd s
 comment_err OpenToken depth x y z l h s = absurd s

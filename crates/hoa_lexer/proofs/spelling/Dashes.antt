@@ -86,7 +86,7 @@ dash_end x e = subst (λ (w : List ℕ). IsOpenToken (45 ∷ w)) (sym e) (record
 })
 
 pub dash_err : (fault : LexFault) (h : Option ℕ) (offset : ℕ) (x z : List ℕ) → IsReadFault fault → h ≡ None → x ≡ z → ReadsToken (Err fault) offset (45 ∷ x) (unread h z)
-dash_err Read h offset x z r k e = tt
+dash_err Read h offset x z r k e = dash_pauses x (unread h z) (e ∙ sym (unheld h z k))
 dash_err Bytes h offset x z r k e = dash_pauses x (unread h z) (e ∙ sym (unheld h z k))
 dash_err (BadToken n) h offset x z r k e = absurd r
 dash_err OpenComment h offset x z r k e = absurd r
@@ -144,7 +144,7 @@ dashes_end x e = subst (λ (w : List ℕ). IsOpenToken (45 ∷ 45 ∷ w)) (sym e
 })
 
 pub dashes_err : (fault : LexFault) (h : Option ℕ) (offset : ℕ) (x z : List ℕ) → IsReadFault fault → h ≡ None → x ≡ z → ReadsToken (Err fault) offset (45 ∷ 45 ∷ x) (unread h z)
-dashes_err Read h offset x z r k e = tt
+dashes_err Read h offset x z r k e = dashes_pauses x (unread h z) (e ∙ sym (unheld h z k))
 dashes_err Bytes h offset x z r k e = dashes_pauses x (unread h z) (e ∙ sym (unheld h z k))
 dashes_err (BadToken n) h offset x z r k e = absurd r
 dashes_err OpenComment h offset x z r k e = absurd r
@@ -246,9 +246,9 @@ tail_err (BadToken k) token letter offset h tail x z d e r = (
     none = tail_no_token token letter r.2 r.3 tail r.1 (r.1 ++ r.3 ∷ []) [] d r.4 refl r.6;
   },
 )
-tail_err OpenToken token letter offset h tail x z d e r = tail_open_token token letter r.0 tail x d r.1
+tail_err OpenToken token letter offset h tail x z d e r = (tail_open_token token letter r.0 tail x d r.1, unheld h z e ∙ r.2)
 tail_err Bytes token letter offset h tail x z d e r = tail_pauses token letter r.1 h tail r.0 x z d e r.2 r.3
-tail_err Read token letter offset h tail x z d e r = tt
+tail_err Read token letter offset h tail x z d e r = tail_pauses token letter r.1 h tail r.0 x z d e r.2 r.3
 tail_err OpenComment token letter offset h tail x z d e r = absurd r
 tail_err OpenString token letter offset h tail x z d e r = absurd r
 tail_err Memory token letter offset h tail x z d e r = absurd r
@@ -265,13 +265,14 @@ pub expect_bad : (word : List ℕ) (k byte place offset : ℕ) (h : Option ℕ) 
 expect_bad word k byte place offset h x y z l n o e r w =
     (o, take k word, get_or word k 0, byte, expects_at word k l, e ∙ ap (λ v. take k word ++ v) (sym (unheld h y n) ∙ r), w)
 
-pub expect_end : (word : List ℕ) (k offset : ℕ) (h : Option ℕ) (x y z : List ℕ) → k < length word → h ≡ None → x ≡ take k word ++ y → unread h y ≡ [] → ReadsWord (Err OpenToken) word offset x z
-expect_end word k offset h x y z l n e r =
+pub expect_end : (word : List ℕ) (k offset : ℕ) (h : Option ℕ) (x y z : List ℕ) → k < length word → h ≡ None → x ≡ take k word ++ y → unread h y ≡ [] → z ≡ [] → ReadsWord (Err OpenToken) word offset x z
+expect_end word k offset h x y z l n e r w =
     let whole : take k word ≡ x = sym (e ∙ ap (λ v. take k word ++ v) (sym (unheld h y n) ∙ r) ∙ append-nil (take k word)) in
-    (get_or word k 0, subst (λ (v : List ℕ). Expects word v (get_or word k 0)) whole (expects_at word k l))
+    (get_or word k 0, subst (λ (v : List ℕ). Expects word v (get_or word k 0)) whole (expects_at word k l), w)
 
 pub expect_err : (fault : LexFault) (word : List ℕ) (k offset : ℕ) (h : Option ℕ) (x y z : List ℕ) → IsReadFault fault → k < length word → h ≡ None → x ≡ take k word ++ y → unread h y ≡ z → ReadsWord (Err fault) word offset x z
-expect_err Read word k offset h x y z r l n e w = tt
+expect_err Read word k offset h x y z r l n e w =
+    (take k word, get_or word k 0, expects_at word k l, e ∙ ap (λ v. take k word ++ v) (sym (unheld h y n) ∙ w))
 expect_err Bytes word k offset h x y z r l n e w =
     (take k word, get_or word k 0, expects_at word k l, e ∙ ap (λ v. take k word ++ v) (sym (unheld h y n) ∙ w))
 expect_err (BadToken m) word k offset h x y z r l n e w = absurd r

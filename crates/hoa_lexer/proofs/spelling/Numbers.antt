@@ -126,7 +126,7 @@ number_pauses first value x y z d v l w e = record {
 
 pub number_err : (fault : LexFault) (h : Option ℕ) (offset first value : ℕ) (x y z : List ℕ) → is_digit first ≡ true → 0 < first - 48 → value < 2 ^ 32 → IsReadFault fault → h ≡ None → IsDigits first value x y → y ≡ z → ReadsToken (Err fault) offset (first ∷ x) (unread h z)
 number_err Bytes h offset first value x y z d v l r k w e = number_pauses first value x y (unread h z) d v l w (e ∙ sym (unheld h z k))
-number_err Read h offset first value x y z d v l r k w e = tt
+number_err Read h offset first value x y z d v l r k w e = number_pauses first value x y (unread h z) d v l w (e ∙ sym (unheld h z k))
 number_err (BadToken n) h offset first value x y z d v l r k w e = absurd r
 number_err OpenComment h offset first value x y z d v l r k w e = absurd r
 number_err OpenString h offset first value x y z d v l r k w e = absurd r

@@ -5,7 +5,7 @@ use Rattle.std.proofs.lemmas.List.{append_assoc, append-nil}
 use Rattle.hoa_lexer.specs.Reading.{unread}
 use Rattle.hoa_lexer.specs.Spelling.{Spells, Quotes}
 use Rattle.hoa_lexer.specs.Spelling.Quotes.{nothing, escaped, plain}
-use Rattle.hoa_lexer.specs.inner.Steps.{IsHalf, IsReadFault, ReadsQuoted, ReadsToken}
+use Rattle.hoa_lexer.specs.inner.Steps.{IsHalf, IsReadFault, Pauses, ReadsQuoted, ReadsToken}
 use Rattle.hoa_lexer.specs.Text.{IsFront, HasFront, Begins}
 use Rattle.hoa_lexer.proofs.spelling.Comments.{unheld}
 use Rattle.hoa_lexer.proofs.spelling.FirstBytes.{token_kind, front_head}
@@ -93,7 +93,7 @@ quoted_end None y z e r = r
 quoted_end (Some c) y z e r = cc
 
 pub quoted_err : (fault : LexFault) (half x y z : List ℕ) → IsReadFault fault → IsHalf half → x ≡ half ++ y → y ≡ z → ReadsQuoted (Err fault) x z
-quoted_err Read half x y z r h e k = tt
+quoted_err Read half x y z r h e k = (half, h, e ∙ ap (λ w. half ++ w) k)
 quoted_err Bytes half x y z r h e k = (half, h, e ∙ ap (λ w. half ++ w) k)
 quoted_err (BadToken n) half x y z r h e k = absurd r
 quoted_err OpenComment half x y z r h e k = absurd r
@@ -121,20 +121,30 @@ string_push b text text' x y z h k e = (
   h.2 ∙ ap (λ w. h.0 ++ w) k.2 ∙ sym (append_assoc h.0 k.0 z),
 )
 
-pub string_err : (fault : LexFault) (h : Option ℕ) (offset : ℕ) (text x y z : List ℕ) → h ≡ None → (inner : List ℕ) × Quotes inner text × (x ≡ inner ++ y) → ReadsQuoted (Err fault) y z → ReadsToken (Err fault) offset (34 ∷ x) (unread h z)
-string_err OpenString h offset text x y z k q r = record {
-  rest = x;
-  opens = refl;
-  open_still = λ inner text' more e w. unclosed q.0 text y inner text' more q.1 r w (sym q.2 ∙ e);
-}
-string_err Bytes h offset text x y z k q r = record {
+string_pauses : (h : Option ℕ) (text x y z : List ℕ) → h ≡ None → (inner : List ℕ) × Quotes inner text × (x ≡ inner ++ y) → (seen : List ℕ) × IsHalf seen × (y ≡ seen ++ z) → Pauses (34 ∷ x) (unread h z)
+string_pauses h text x y z k q r = record {
   at_hand = 34 ∷ (q.0 ++ r.0);
   split = ap (λ w. 34 ∷ w) (q.2 ∙ ap (λ w. q.0 ++ w) (r.2 ∙ ap (λ w. r.0 ++ w) (sym (unheld h z k))) ∙ sym (append_assoc q.0 r.0 (unread h z)));
   some = λ e. cc;
   unclosed = string_open q.0 text r.0 q.1 r.1;
   begins = string_begins q.0 text r.0 q.1 r.1;
 }
-string_err Read h offset text x y z k q r = tt
+
+-- memory was wanting for a byte
+pub string_stops : (h : Option ℕ) (text : List ℕ) (b : ℕ) (x y z : List ℕ) → h ≡ None → (inner : List ℕ) × Quotes inner text × (x ≡ inner ++ y) → (seen : List ℕ) × Quotes seen (b ∷ []) × (y ≡ seen ++ z) → Pauses (34 ∷ x) (unread h z)
+string_stops h text b x y z k q r = string_pauses h (text ++ b ∷ []) x z z k (string_push b text (text ++ b ∷ []) x y z q r refl) ([], inl refl, refl)
+
+pub string_err : (fault : LexFault) (h : Option ℕ) (offset : ℕ) (text x y z : List ℕ) → h ≡ None → (inner : List ℕ) × Quotes inner text × (x ≡ inner ++ y) → ReadsQuoted (Err fault) y z → ReadsToken (Err fault) offset (34 ∷ x) (unread h z)
+string_err OpenString h offset text x y z k q r = (
+  record {
+    rest = x;
+    opens = refl;
+    open_still = λ inner text' more e w. unclosed q.0 text y inner text' more q.1 r.0 w (sym q.2 ∙ e);
+  },
+  unheld h z k ∙ r.1,
+)
+string_err Bytes h offset text x y z k q r = string_pauses h text x y z k q r
+string_err Read h offset text x y z k q r = string_pauses h text x y z k q r
 string_err (BadToken n) h offset text x y z k q r = absurd r
 string_err OpenComment h offset text x y z k q r = absurd r
 string_err OpenToken h offset text x y z k q r = absurd r

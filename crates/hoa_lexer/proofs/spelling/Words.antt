@@ -7,7 +7,7 @@ use Rattle.std.proofs.lemmas.List.Folds.{list_all-append}
 use Rattle.hoa_lexer.specs.Bytes.{is_letter, is_word}
 use Rattle.hoa_lexer.specs.Reading.{unread}
 use Rattle.hoa_lexer.specs.Spelling.{Spells, Ends, StopsAt, IsIdentifier, IsAliasName}
-use Rattle.hoa_lexer.specs.inner.Steps.{AddsWord, AddsWords, Pauses, ReadsToken}
+use Rattle.hoa_lexer.specs.inner.Steps.{AddsWord, AddsWords, Pauses, ReadsToken, TakesWord}
 use Rattle.hoa_lexer.specs.Text.{HasFront, Begins, IsOpenToken, IsNoToken}
 use Rattle.hoa_lexer.proofs.spelling.Comments.{unheld}
 use Rattle.hoa_lexer.proofs.spelling.FirstBytes.{token_kind, kind_letter, front_head, solid}
@@ -20,6 +20,18 @@ use Rattle.aut_base.proofs.Lists.{list_all-push, push_not_empty, empty_of_length
 pub words_end : (o : Option ℕ) (name name' x z : List ℕ) → o ≡ None → AddsWords (Ok o) name name' x z → AddsWord name name' x []
 words_end None name name' x z e a = a.0
 words_end (Some b) name name' x z e a = cc
+
+-- memory was wanting for a byte more
+pub takes_word : (b : ℕ) (name name' x y z : List ℕ) → AddsWord name name' x y → y ≡ b ∷ z → is_word b ≡ true → TakesWord x z
+takes_word b name name' x y z a e w = record {
+  seen = a.seen ++ b ∷ [];
+  words = list_all-push is_word b a.seen a.words w;
+  split = a.split ∙ ap (λ v. a.seen ++ v) e ∙ sym (append_assoc a.seen (b ∷ []) z);
+}
+
+pub words_left : (o : Option ℕ) (name name' x z : List ℕ) → o ≡ None → AddsWords (Ok o) name name' x z → z ≡ []
+words_left None name name' x z e a = a.1
+words_left (Some b) name name' x z e a = cc
 
 -- what goes on has not stopped
 pub stops_not : (p : ℕ → Bool) (xs ys rest : List ℕ) → list_all p xs ≡ true → xs ≡ ys ++ rest → StopsAt p rest → ⊥
@@ -73,16 +85,23 @@ word_end first name name' x l a =
       begins = inr (word_begins first x l words);
     }
 
-pub word_err : (fault : LexFault) (h : Option ℕ) (offset first : ℕ) (name name' x z : List ℕ) → is_letter first ≡ true → (fault ≡ Bytes → h ≡ None) → AddsWords (Err fault) name name' x z → ReadsToken (Err fault) offset (first ∷ x) (unread h z)
-word_err Bytes h offset first name name' x z l k a = record {
+word_pauses : (h : Option ℕ) (first : ℕ) (x z : List ℕ) → is_letter first ≡ true → h ≡ None → TakesWord x z → Pauses (first ∷ x) (unread h z)
+word_pauses h first x z l k a = record {
   at_hand = first ∷ a.seen;
-  split = ap (λ v. first ∷ v) (a.split ∙ ap (λ v. a.seen ++ v) (sym (unheld h z (k refl))));
+  split = ap (λ v. first ∷ v) (a.split ∙ ap (λ v. a.seen ++ v) (sym (unheld h z k)));
   some = λ e. cc;
   unclosed = word_open first a.seen l a.words;
   begins = word_begins first a.seen l a.words;
 }
-word_err Read h offset first name name' x z l k a = tt
-word_err Memory h offset first name name' x z l k a = tt
+
+-- memory was wanting for the first letter
+pub word_stops : (first : ℕ) (x : List ℕ) → is_letter first ≡ true → Pauses (first ∷ x) x
+word_stops first x l = word_pauses None first x x l refl (record { seen = []; words = refl; split = refl })
+
+pub word_err : (fault : LexFault) (h : Option ℕ) (offset first : ℕ) (name name' x z : List ℕ) → is_letter first ≡ true → h ≡ None → AddsWords (Err fault) name name' x z → ReadsToken (Err fault) offset (first ∷ x) (unread h z)
+word_err Bytes h offset first name name' x z l k a = word_pauses h first x z l k a
+word_err Read h offset first name name' x z l k a = word_pauses h first x z l k a
+word_err Memory h offset first name name' x z l k a = word_pauses h first x z l k a
 word_err (BadToken n) h offset first name name' x z l k a = absurd a
 word_err OpenComment h offset first name name' x z l k a = absurd a
 word_err OpenString h offset first name name' x z l k a = absurd a
@@ -184,11 +203,13 @@ alias_end name name' x a =
       begins = inr (alias_begins x words);
     }
 
-pub alias_err : (fault : LexFault) (h : Option ℕ) (offset : ℕ) (name name' x z : List ℕ) → (fault ≡ Bytes → h ≡ None) → AddsWords (Err fault) name name' x z → ReadsToken (Err fault) offset (64 ∷ x) (unread h z)
-alias_err Bytes h offset name name' x z k a =
-    alias_pauses a.seen x (unread h z) a.words (a.split ∙ ap (λ v. a.seen ++ v) (sym (unheld h z (k refl))))
-alias_err Read h offset name name' x z k a = tt
-alias_err Memory h offset name name' x z k a = tt
+alias_waits : (h : Option ℕ) (x z : List ℕ) → h ≡ None → TakesWord x z → Pauses (64 ∷ x) (unread h z)
+alias_waits h x z k a = alias_pauses a.seen x (unread h z) a.words (a.split ∙ ap (λ v. a.seen ++ v) (sym (unheld h z k)))
+
+pub alias_err : (fault : LexFault) (h : Option ℕ) (offset : ℕ) (name name' x z : List ℕ) → h ≡ None → AddsWords (Err fault) name name' x z → ReadsToken (Err fault) offset (64 ∷ x) (unread h z)
+alias_err Bytes h offset name name' x z k a = alias_waits h x z k a
+alias_err Read h offset name name' x z k a = alias_waits h x z k a
+alias_err Memory h offset name name' x z k a = alias_waits h x z k a
 alias_err (BadToken n) h offset name name' x z k a = absurd a
 alias_err OpenComment h offset name name' x z k a = absurd a
 alias_err OpenString h offset name name' x z k a = absurd a

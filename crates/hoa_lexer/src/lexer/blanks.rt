@@ -71,10 +71,7 @@ impl Lexer {
     {
         let mut depth = 1;
         'comment: while depth > 0 {
-            depth = match self.step_in(inputs, depth) {
-                Ok(next) => next,
-                Err(fault) => return Err(fault),
-            };
+            depth = self.step_in(inputs, depth)?;
         }
         Ok(())
     }

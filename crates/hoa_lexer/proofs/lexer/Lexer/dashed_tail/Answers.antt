@@ -1,17 +1,20 @@
+use Rattle.std.proofs.Common.{◌∷◌}
+use Rattle.hoa_lexer.specs.Reading.{unread}
+use Rattle.hoa_lexer.specs.inner.Steps.{ReadsToken}
 use Rattle.hoa_lexer.proofs.next_token.Between.{between_as}
+use Rattle.hoa_lexer.proofs.next_token.Moving.{handed_on}
 use Rattle.hoa_lexer.proofs.spelling.Dashes.{tail_answer, tail_err}
 use Rattle.hoa_lexer.proofs.lexer.Lexer.dashed_tail.Goals as goal
 
-pub returns-in-Ok-clause-answers : goal.returns-in-Ok-clause-answers
-returns-in-Ok-clause-answers g c =
-    let left = g.I.Inputs.left in
-    between_as (left c.args.inputs.now) (left c.expect.new.inputs) _ _
-    (λ x z p. tail_answer c.args.token c.args.letter 0 _ c.args.tail.now x z c.requires.word c.expect.ensures.held p)
-    c.in-Ok.ensures.answers
+pub returns-clause-answers : goal.returns-clause-answers
+returns-clause-answers g c =
+    between_as (g.I.Inputs.seen c.args.inputs.now).left (g.I.Inputs.seen c.expect.new.inputs).left _ _
+    (λ x z p. tail_answer c.args.token c.args.letter 0 _ c.args.tail.now x z c.requires.word c.in_ok-expect.ensures.held p)
+    c.in_ok-expect.ensures.answers
 
-pub returns-in-Err-clause-answers : goal.returns-in-Err-clause-answers
-returns-in-Err-clause-answers g c =
-    let left = g.I.Inputs.left in
-    between_as (left c.args.inputs.now) (left c.expect.new.inputs) _ _
-    (λ x z p. tail_err _ c.args.token c.args.letter _ _ c.args.tail.now x z c.requires.word c.expect.ensures.held p)
-    c.in-Err.ensures.answers
+pub returns-in_err-expect-clause-answers : goal.returns-in_err-expect-clause-answers
+returns-in_err-expect-clause-answers g c =
+    handed_on (λ r x z. ReadsToken r c.args.self.now.offset (45 ∷ 45 ∷ c.args.letter ∷ x) (unread c.expect.new.self.held z)) (g.I.Inputs.seen c.args.inputs.now).left (g.I.Inputs.seen c.expect.new.inputs).left _ _ c.from_residual.ensures.1
+    (between_as (g.I.Inputs.seen c.args.inputs.now).left (g.I.Inputs.seen c.expect.new.inputs).left _ _
+    (λ x z p. tail_err c.in_err-expect.field-0.0 c.args.token c.args.letter _ _ c.args.tail.now x z c.requires.word c.in_err-expect.ensures.held p)
+    c.in_err-expect.ensures.answers)

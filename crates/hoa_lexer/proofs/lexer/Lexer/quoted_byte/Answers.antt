@@ -1,28 +1,35 @@
-use Rattle.std.proofs.Common.{◌∷◌, ◌∙◌, ap, Some, [], refl, sym, inr}
+use Rattle.std.proofs.Common.{◌∷◌, ◌∙◌, ap, Some, [], refl, sym, inl, inr}
+use Rattle.hoa_lexer.specs.inner.Steps.{ReadsQuoted}
 use Rattle.hoa_lexer.proofs.next_token.Between.{between_then, between_as}
+use Rattle.hoa_lexer.proofs.next_token.Moving.{handed_on}
 use Rattle.hoa_lexer.proofs.spelling.Comments.{byte_read, unheld}
 use Rattle.hoa_lexer.proofs.spelling.Strings.{quoted_escape, quoted_plain, quoted_err}
 use Rattle.hoa_lexer.proofs.lexer.Lexer.quoted_byte.Goals as goal
 
-pub returns-in-Ok-Some-take-clause-answers : goal.returns-in-Ok-Some-take-clause-answers
-returns-in-Ok-Some-take-clause-answers g c =
-    let left = g.I.Inputs.left in
-    between_then (left c.args.inputs.now) (left c.take.new.inputs) (left c.take-in-Ok-Some-eq92.new.inputs) _ _ _
-    (λ x y z p q. quoted_escape c.in-Ok-Some-take.byte x y z (sym (unheld _ x c.requires) ∙ byte_read _ 92 _ y (c.in-Ok-Some-eq92.field-0-is ∙ ap Some c.in-Ok-Some-eq92.field-0-0-test) p)
-    (sym (unheld _ y c.take.ensures.held) ∙ byte_read _ _ _ z c.in-Ok-Some-take.field-0-is q))
-    c.in-Ok-Some-eq92.ensures.answers c.in-Ok-Some-take.ensures.answers
+pub returns-in-Some-2-clause-answers : goal.returns-in-Some-2-clause-answers
+returns-in-Some-2-clause-answers g c =
+    between_then (g.I.Inputs.seen c.args.inputs.now).left (g.I.Inputs.seen c.take.new.inputs).left (g.I.Inputs.seen c.take-in-Some-eq92.new.inputs).left _ _ _
+    (λ x y z p q. quoted_escape c.in-Some-2.byte x y z (sym (unheld _ x c.requires) ∙ byte_read _ 92 _ y (c.in-Some-eq92.is ∙ ap Some c.in-Some-eq92.field-0-test) p)
+    (sym (unheld _ y c.in_ok-take.ensures.held) ∙ byte_read _ _ _ z c.in-Some-2.is q))
+    c.in_ok-take.ensures.answers c.in_ok-byte-in-Some-eq92.ensures.answers
 
-pub returns-in-Err-take-clause-answers : goal.returns-in-Err-take-clause-answers
-returns-in-Err-take-clause-answers g c =
-    let left = g.I.Inputs.left in
-    between_then (left c.args.inputs.now) (left c.take.new.inputs) (left c.take-in-Ok-Some-eq92.new.inputs) _ _ _
-    (λ x y z p q. quoted_err _ (92 ∷ []) x y z c.in-Err-take.ensures.kinds (inr refl) (sym (unheld _ x c.requires) ∙ byte_read _ 92 _ y (c.in-Ok-Some-eq92.field-0-is ∙ ap Some c.in-Ok-Some-eq92.field-0-0-test) p)
-    (sym (unheld _ y c.take.ensures.held) ∙ q))
-    c.in-Ok-Some-eq92.ensures.answers c.in-Err-take.ensures.answers
+pub returns-in_err-byte-in-Some-eq92-clause-answers : goal.returns-in_err-byte-in-Some-eq92-clause-answers
+returns-in_err-byte-in-Some-eq92-clause-answers g c =
+    handed_on (λ r x z. ReadsQuoted r x z) (g.I.Inputs.seen c.args.inputs.now).left (g.I.Inputs.seen c.take-in-Some-eq92.new.inputs).left _ _ c.from_residual-in_err-byte-in-Some-eq92.ensures.1
+    (between_then (g.I.Inputs.seen c.args.inputs.now).left (g.I.Inputs.seen c.take.new.inputs).left (g.I.Inputs.seen c.take-in-Some-eq92.new.inputs).left _ _ _
+    (λ x y z p q. quoted_err c.in_err-byte-in-Some-eq92.field-0.0 (92 ∷ []) x y z c.in_err-byte-in-Some-eq92.ensures.kinds (inr refl) (sym (unheld _ x c.requires) ∙ byte_read _ 92 _ y (c.in-Some-eq92.is ∙ ap Some c.in-Some-eq92.field-0-test) p)
+    (sym (unheld _ y c.in_ok-take.ensures.held) ∙ q))
+    c.in_ok-take.ensures.answers c.in_err-byte-in-Some-eq92.ensures.answers)
 
-pub returns-in-Ok-Some-clause-answers : goal.returns-in-Ok-Some-clause-answers
-returns-in-Ok-Some-clause-answers g c =
-    let left = g.I.Inputs.left in
-    between_as (left c.args.inputs.now) (left c.take.new.inputs) _ _
-    (λ x z p. quoted_plain c.in-Ok-Some.byte x z (sym (unheld _ x c.requires) ∙ byte_read _ _ _ z c.in-Ok-Some.field-0-is p) c.in-Ok-Some.byte-test.0.1 c.in-Ok-Some.byte-test.1)
-    c.in-Ok-Some.ensures.answers
+pub returns-in_err-take-clause-answers : goal.returns-in_err-take-clause-answers
+returns-in_err-take-clause-answers g c =
+    handed_on (λ r x z. ReadsQuoted r x z) (g.I.Inputs.seen c.args.inputs.now).left (g.I.Inputs.seen c.take.new.inputs).left _ _ c.from_residual.ensures.1
+    (between_as (g.I.Inputs.seen c.args.inputs.now).left (g.I.Inputs.seen c.take.new.inputs).left _ _
+    (λ x z p. quoted_err c.in_err-take.field-0.0 [] x x z c.in_err-take.ensures.kinds (inl refl) refl (sym (unheld _ x c.requires) ∙ p))
+    c.in_err-take.ensures.answers)
+
+pub returns-in-Some-clause-answers : goal.returns-in-Some-clause-answers
+returns-in-Some-clause-answers g c =
+    between_as (g.I.Inputs.seen c.args.inputs.now).left (g.I.Inputs.seen c.take.new.inputs).left _ _
+    (λ x z p. quoted_plain c.in-Some.byte x z (sym (unheld _ x c.requires) ∙ byte_read _ _ _ z c.in-Some.is p) c.in-Some.byte-test.0.1 c.in-Some.byte-test.1)
+    c.in_ok-take.ensures.answers

@@ -1,16 +1,13 @@
-use Rattle.std.proofs.Common.{◌≡◌, ◌+◌, ◌-◌, length}
+use Rattle.std.proofs.Common.{◌+◌, ◌-◌}
 use Rattle.hoa_lexer.specs.Reading.{held_count, unread, Between}
+use Rattle.hoa_lexer.specs.Moves.{Elsewhere}
 use Rattle.hoa_lexer.specs.inner.Steps.{Advances, AddsWord}
 use Rattle.hoa_lexer.proofs.lexer.Lexer.word_bytes.Given as goal
 
 abbrev pub invariant-bytes : goal.invariant-bytes
 invariant-bytes g l = record {
-  answers : Between (g.I.Inputs.left l.fn.inputs) (g.I.Inputs.left l.inputs) (λ old new. AddsWord l.fn.name l.name (unread l.fn.self.held old) (unread l.self.held new));
-  advances : Advances l.fn.self l.self;
-  taken : Between (g.I.Inputs.left l.fn.inputs) (g.I.Inputs.left l.inputs) (λ old new. l.self.taken + length new ≡ l.fn.self.taken + length old);
-  reads : g.I.Inputs.read_faults l.inputs ≡ g.I.Inputs.read_faults l.fn.inputs;
-  opens : g.I.Inputs.open_faults l.inputs ≡ g.I.Inputs.open_faults l.fn.inputs;
-  texts : g.I.Inputs.texts l.inputs ≡ g.I.Inputs.texts l.fn.inputs;
+  answers : Between (g.I.Inputs.seen l.fn.inputs).left (g.I.Inputs.seen l.inputs).left (λ old new. AddsWord l.fn.name l.name (unread l.fn.self.held old) (unread l.self.held new));
+  advances : Advances Elsewhere l.fn.self l.self (g.I.Inputs.seen l.fn.inputs) (g.I.Inputs.seen l.inputs);
 }
 
 abbrev pub decreases-bytes : goal.decreases-bytes
