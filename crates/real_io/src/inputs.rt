@@ -1,9 +1,8 @@
 //! Inputs over one reader.
 
-ghost use Rattle.std.specs.Prelude.{◌≡◌, ◌≤◌, true, None, IfOk, IsErrOf, OnErr, OnOk};
-ghost use Rattle.aut_base.specs.declared.fault.OpenFail.{OpenFail};
+ghost use Rattle.std.specs.Prelude.{◌≡◌, true, None, IfOk, OnOk};
 ghost use Rattle.std.specs.Io.KnownBytes.{prepend_known};
-ghost use Rattle.aut_io.specs.Outside.{Rose, Takes};
+ghost use Rattle.aut_io.specs.Seen.{Nexts, Opens};
 ghost use Rattle.real_io.specs.Unread.{GivesFirst, held};
 
 use crate::blocks::Blocks;
@@ -37,22 +36,12 @@ impl<R: Read + Drop> RealInputs<R> {
 }
 
 impl<R: Read + Drop> Inputs for RealInputs<R> {
-    ghost texts = { λ _. None };
-
-    ghost left = { λ _. None };
-
-    ghost open_faults = { λ s. s.open_faults };
-
-    ghost read_faults = { λ s. s.read_faults };
+    ghost seen = { λ s. record { texts = None; left = None; open_faults = s.open_faults; read_faults = s.read_faults } };
 
     ghost may_open = { λ _. Unit {0} };
 
     fn open(&mut self, name: &Text) -> Result<(), OpenFail>
-        ensures failed { IsErrOf result OpenFail.Failed → Rose self.old.open_faults self.new.open_faults }
-        ensures memory { IsErrOf result OpenFail.Memory → self.new.open_faults ≡ self.old.open_faults }
-        ensures calm { OnOk result (self.new.open_faults ≡ self.old.open_faults) }
-        ensures later { self.old.open_faults ≤ self.new.open_faults }
-        ensures reads { self.new.read_faults ≡ self.old.read_faults }
+        ensures told { Opens (record { texts = None; left = None; open_faults = self.old.open_faults; read_faults = self.old.read_faults }) name.now result (record { texts = None; left = None; open_faults = self.new.open_faults; read_faults = self.new.read_faults }) }
 
         // Where the name is `-` the reader is open, and nothing of it is lost.
         ensures opens { OnOk result (self.new.is_open ≡ true) }
@@ -67,11 +56,7 @@ impl<R: Read + Drop> Inputs for RealInputs<R> {
     }
 
     fn next(&mut self) -> Result<Option<u8>, Failed>
-        ensures takes { Takes None None result }
-        ensures failed { OnErr result (Rose self.old.read_faults self.new.read_faults) }
-        ensures calm { OnOk result (self.new.read_faults ≡ self.old.read_faults) }
-        ensures later { self.old.read_faults ≤ self.new.read_faults }
-        ensures opens { self.new.open_faults ≡ self.old.open_faults }
+        ensures told { Nexts (record { texts = None; left = None; open_faults = self.old.open_faults; read_faults = self.old.read_faults }) result (record { texts = None; left = None; open_faults = self.new.open_faults; read_faults = self.new.read_faults }) }
 
         // The first byte of what the block still holds, followed by what the reader has left.
         ensures gives { self.old.is_open ≡ true → GivesFirst (prepend_known (held self.old.blocks.block.items self.old.blocks.place self.old.blocks.end) (R.remaining self.old.blocks.reader)) (prepend_known (held self.new.blocks.block.items self.new.blocks.place self.new.blocks.end) (R.remaining self.new.blocks.reader)) result }

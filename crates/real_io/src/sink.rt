@@ -1,8 +1,8 @@
 //! A sink over a writer.
 
-ghost use Rattle.std.specs.Prelude.{◌≡◌, ◌≤◌, None, OnErr, OnOk};
+ghost use Rattle.std.specs.Prelude.{◌≡◌, None, OnOk};
 ghost use Rattle.std.specs.Io.KnownBytes.{Appends};
-ghost use Rattle.aut_io.specs.Outside.{Gains, GainsPrefix, Rose};
+ghost use Rattle.aut_io.specs.Seen.{Writes};
 
 use aut_base::Failed;
 use aut_io::Sink;
@@ -26,16 +26,10 @@ impl<W> RealSink<W> {
 }
 
 impl<W: Write> Sink for RealSink<W> {
-    ghost written = { λ _. None };
-
-    ghost faults = { λ s. s.faults };
+    ghost seen = { λ s. record { written = None; faults = s.faults } };
 
     fn write(&mut self, piece: &[u8]) -> Result<(), Failed>
-        ensures ok { OnOk result (Gains None None piece.now) }
-        ensures err { OnErr result (GainsPrefix None None piece.now) }
-        ensures failed { OnErr result (Rose self.old.faults self.new.faults) }
-        ensures calm { OnOk result (self.new.faults ≡ self.old.faults) }
-        ensures later { self.old.faults ≤ self.new.faults }
+        ensures told { Writes (record { written = None; faults = self.old.faults }) piece.now result (record { written = None; faults = self.new.faults }) }
         ensures gains { OnOk result (Appends (W.contents self.old.writer) (W.contents self.new.writer) piece.now) }
     {
         match self.writer.write_all(piece) {
