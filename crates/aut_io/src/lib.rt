@@ -12,8 +12,6 @@ mod mem_sink;
 mod sink;
 mod sure_inputs;
 mod sure_sink;
-#[cfg(test)]
-mod tests;
 mod text_store;
 
 pub use inputs::Inputs;
