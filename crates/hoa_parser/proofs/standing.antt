@@ -3,8 +3,10 @@ pub mod DeadEnds
 pub mod Halts
 pub mod Hopeless
 pub mod OneStanding
+pub mod OpenEnds
 pub mod Readings
 pub mod Settled
+pub mod SomeStanding
 pub mod StandingAnswers
 pub mod StandingTokens
 pub mod StuckPlaces

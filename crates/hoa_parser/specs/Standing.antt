@@ -69,15 +69,14 @@ pub record IsDeep (start : ℕ) (text : List ℕ) : Type 0 where
   pub viable : IsViable most (tokens ++ next_token ∷ [])
   pub too_deep : IsViable most_depth (tokens ++ next_token ∷ []) → ⊥
 
--- the automaton is abandoned
-pub record IsAborted (start : ℕ) (text : List ℕ) : Type 0 where
+-- the automaton is abandoned, and `after` follows its `--ABORT--`
+pub record IsAborted (start : ℕ) (text after : List ℕ) : Type 0 where
   pub tokens : List Token
   pub used : ℕ
   pub rest : List ℕ
   pub begun : IsBegun start text tokens used rest
   pub some : tokens ≢ []
   pub offset : ℕ
-  pub after : List ℕ
   pub next : IsNext rest used token.Abort offset after
 
 -- a text ends inside a comment, a string or another token
@@ -98,7 +97,7 @@ pub data Standing : Type 0 where
   Whole : Written → List ℕ → Standing
   Deep : Standing
   Bad : ℕ → Standing
-  Aborted : Standing
+  Aborted : List ℕ → Standing
   Cut : Standing
 
 abbrev pub Stands : Standing → ℕ → List ℕ → Type 0
@@ -106,9 +105,13 @@ Stands Blank start text = IsBlanks text
 Stands (Whole w rest) start text = IsWhole start text w rest
 Stands Deep start text = IsDeep start text
 Stands (Bad k) start text = IsBad start text k
-Stands Aborted start text = IsAborted start text
+Stands (Aborted after) start text = IsAborted start text after
 Stands Cut start text = IsCut start text
 
--- No more than one thing stands next.
+-- No more than one thing stands next,
 abbrev pub OneStanding : Type 0
 OneStanding = (start : ℕ) (text : List ℕ) (a b : Standing) → Stands a start text → Stands b start text → a ≡ b
+
+-- and there is no text of which nothing does.
+abbrev pub SomeStanding : Type 0
+SomeStanding = (start : ℕ) (text : List ℕ) → ((s : Standing) → Stands s start text → ⊥) → ⊥

@@ -5,12 +5,13 @@ use Rattle.hoa_lexer.specs.Laws.{IsSpelledApart}
 use Rattle.hoa_lexer.specs.declared.token.Token.{Token}
 use Rattle.hoa_parser.specs.Grammar.{Spells}
 use Rattle.hoa_parser.specs.Raw.{Written}
-use Rattle.hoa_parser.specs.Standing.{IsBad, IsWhole, Standing, Stands, Blank, Whole, Cut, most_depth}
+use Rattle.hoa_parser.specs.Standing.{IsBad, IsWhole, Standing, Stands, Blank, Whole, Aborted, Cut, most_depth}
 use Rattle.hoa_parser.specs.WrittenDown.{written_tokens}
 
 -- the same, where more bytes follow
 abbrev pub extended : Standing → List ℕ → Standing
 extended (Whole w rest) more = Whole w (rest ++ more)
+extended (Aborted after) more = Aborted (after ++ more)
 extended s more = s
 
 -- what further bytes cannot change

@@ -14,8 +14,6 @@ pub enum ReadFault {
     Syntax(u64),
     /// The text ended inside an automaton, a comment or a token.
     Truncated,
-    /// The automaton was abandoned by `--ABORT--`.
-    Aborted,
     /// More `(` and `!` of a label or an acceptance condition are open than may be.
     Depth,
     /// As many bytes as the lexer may take were taken, and one more was asked for.

@@ -2,8 +2,10 @@
 
 ghost use Rattle.hoa_parser.specs.GrammarExamples.{GrammarExamples};
 ghost use Rattle.hoa_parser.specs.GrammarLaws.{CanBeWrittenDown, OneRaw, WholeGoesNoFurther};
-ghost use Rattle.hoa_parser.specs.Standing.{OneStanding};
+ghost use Rattle.hoa_parser.specs.Standing.{OneStanding, SomeStanding};
 ghost use Rattle.hoa_parser.specs.StandingLaws.{BadIsHopeless, SettledStays, WrittenDownIsRead};
+
+use hoa_lexer::some_next;
 
 /// A list of tokens spells at most one automaton.
 pub fn one_raw()
@@ -19,6 +21,13 @@ pub fn whole_goes_no_further()
 pub fn one_standing()
     ensures { OneStanding }
 {}
+
+/// In every text something stands next.
+pub fn some_standing()
+    ensures { SomeStanding }
+{
+    some_next();
+}
 
 /// What a list of tokens spells is also spelled by what is written down from it, with no more open than the list opens.
 pub fn can_be_written_down()

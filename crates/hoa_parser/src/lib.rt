@@ -15,7 +15,7 @@ mod read;
 pub use fault::ReadFault;
 pub use laws::{
     bad_is_hopeless, can_be_written_down, grammar_examples, one_raw, one_standing, settled_stays,
-    whole_goes_no_further, written_down_is_read,
+    some_standing, whole_goes_no_further, written_down_is_read,
 };
 pub use raw::{Item, Items, Raw, RawEdge, RawEdges, RawLabel, RawLabels, RawState, RawStates};
-pub use read::read_raw;
+pub use read::{Front, read_raw};

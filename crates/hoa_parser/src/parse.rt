@@ -6,7 +6,7 @@ ghost use Rattle.std.specs.Prelude.{◌≡◌, ◌∷◌, [], codes, false, true
 ghost use Rattle.hoa_lexer.specs.declared.token.Token.{Token};
 ghost use Rattle.hoa_parser.specs.inner.Expecting as part;
 ghost use Rattle.hoa_parser.specs.inner.Expecting.{move};
-ghost use Rattle.hoa_parser.specs.inner.Parsing.{Reads, Uses, state};
+ghost use Rattle.hoa_parser.specs.inner.Parsing.{Abandons, Reads, Uses, state};
 ghost use Rattle.hoa_parser.specs.inner.RuleReads.{IsAutomaton};
 
 mod body;
@@ -40,6 +40,14 @@ pub(crate) fn opens(token: &Token) -> bool
     }
 }
 
+/// Whether this fault, at the token at hand, is `--ABORT--`, which can stand nowhere: it abandons the automaton.
+pub(crate) fn abandons(fault: ReadFault, ahead: &Token) -> bool
+    ensures yes { result ≡ true → Abandons fault ahead.now }
+    ensures no { result ≡ false → Abandons fault ahead.now → ⊥ }
+{
+    matches!((fault, ahead), (ReadFault::Syntax(_), Token::Abort))
+}
+
 /// automaton = "HOA:" IDENTIFIER item* "--BODY--" state* "--END--", up to the token `--END--`, which stays at hand:
 /// behind it nothing is read.
 pub(crate) fn automaton<I: Inputs>(
@@ -51,35 +59,18 @@ pub(crate) fn automaton<I: Inputs>(
     requires unspent { lexer.old.spent ≡ false }
     requires opens { ahead.old ≡ Token.HeaderName (codes "HOA") }
     ensures reads { Reads (part.Whole ∷ []) (part.States ∷ []) IsAutomaton result
-        (state lexer.old ahead.old (I.left inputs.old) (I.read_faults inputs.old) (I.open_faults inputs.old) (I.texts inputs.old))
-        (state lexer.new ahead.new (I.left inputs.new) (I.read_faults inputs.new) (I.open_faults inputs.new) (I.texts inputs.new)) }
+        (state lexer.old ahead.old (I.seen inputs.old)) (state lexer.new ahead.new (I.seen inputs.new)) }
     ensures ends { OnOk result (ahead.new ≡ Token.End) }
-    ensures uses { Uses result
-        (state lexer.old ahead.old (I.left inputs.old) (I.read_faults inputs.old) (I.open_faults inputs.old) (I.texts inputs.old))
-        (state lexer.new ahead.new (I.left inputs.new) (I.read_faults inputs.new) (I.open_faults inputs.new) (I.texts inputs.new)) }
+    ensures uses { OnOk result (Uses lexer.old lexer.new) }
 {
-    match advance(alloc, lexer, inputs, ahead) {
-        Ok(()) => {}
-        Err(fault) => return Err(fault),
-    }
-    let version = match word(alloc, lexer, inputs, ahead) {
-        Ok(version) => version,
-        Err(fault) => return Err(fault),
-    };
-    let items = match items(alloc, lexer, inputs, ahead) {
-        Ok(items) => items,
-        Err(fault) => return Err(fault),
-    };
-    match advance(alloc, lexer, inputs, ahead) {
-        Ok(()) => {}
-        Err(fault) => return Err(fault),
-    }
-    match states(alloc, lexer, inputs, ahead) {
-        Ok(states) => Ok(Raw {
-            version,
-            items,
-            states,
-        }),
-        Err(fault) => Err(fault),
-    }
+    advance(alloc, lexer, inputs, ahead)?;
+    let version = word(alloc, lexer, inputs, ahead)?;
+    let items = items(alloc, lexer, inputs, ahead)?;
+    advance(alloc, lexer, inputs, ahead)?;
+    let states = states(alloc, lexer, inputs, ahead)?;
+    Ok(Raw {
+        version,
+        items,
+        states,
+    })
 }

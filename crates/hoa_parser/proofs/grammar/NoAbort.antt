@@ -1,8 +1,10 @@
 -- No automaton holds `--ABORT--`.
-use Rattle.std.proofs.Common.{ℕ, Bool, true, false, List, [], ◌∷◌, ◌++◌, map, flat_map, Option, Some, None, sym, subst, ◌∙◌}
+use Rattle.std.proofs.Common.{◌≡◌, ℕ, Bool, true, false, List, [], ◌∷◌, ◌++◌, map, flat_map, Option, Some, None, refl, sym, subst, ◌∙◌}
 use Rattle.std.proofs.lemmas.List.{append_assoc}
 use Rattle.hoa_lexer.specs.declared.token.Token.{Token}
 use Rattle.hoa_lexer.specs.declared.token.Token.TheVariants.{Identifier, Str, Int, RightParen, RightBrace, RightBracket, End, Abort}
+use Rattle.hoa_parser.specs.inner.Expecting as part
+use Rattle.hoa_parser.specs.inner.Expecting.{Part, behind}
 use Rattle.hoa_parser.specs.Grammar.{AccValue, AutomatonPhrase, Condition, EdgePhrase, Fands, Fatom, Fatoms, IsViable, ItemPhrase, Label, Lands, Lnot, Lnots, StatePhrase, Value, acc_value_token, and_number, automaton_tokens, condition_tokens, conj_tokens, edge_tokens, fands_tokens, fatom_tokens, fatoms_tokens, item_tokens, label_tokens, lands_tokens, lnot_tokens, lnots_tokens, optional_label, optional_marks, optional_text, set_tokens, state_tokens, value_token}
 use Rattle.hoa_parser.specs.Grammar.AccValue.{acc_number, acc_word}
 use Rattle.hoa_parser.specs.Grammar.Condition.{condition}
@@ -147,3 +149,25 @@ pub no_abort_inside : (m : ℕ) (ts us : List Token) → IsViable m (ts ++ Abort
 no_abort_inside m ts us v =
     let p = v.spelled in
     none_there ts (us ++ v.more) (subst NoAbort (sym p.spelled ∙ append_assoc ts (Abort ∷ us) v.more) (automaton_none p.phrase))
+
+-- It can stand nowhere.
+abort_behind : (most : ℕ) (p : Part) (left : List Part) → behind most left Abort ≡ None → behind most (p ∷ left) Abort ≡ None
+abort_behind most part.MoreNumbers left h = h
+abort_behind most part.MaybeQuoted left h = h
+abort_behind most part.Strings left h = h
+abort_behind most part.Words left h = h
+abort_behind most part.AccValues left h = h
+abort_behind most part.Values left h = h
+abort_behind most (part.Factors depth) left h = h
+abort_behind most (part.Products depth) left h = h
+abort_behind most (part.Atoms depth) left h = h
+abort_behind most (part.Conjunctions depth) left h = h
+abort_behind most part.MaybeBang left h = h
+abort_behind most part.MaybeLabel left h = h
+abort_behind most part.MaybeMarks left h = h
+abort_behind most part.Edges left h = h
+abort_behind most _ left h = refl
+
+pub abort : (most : ℕ) (left : List Part) → behind most left Abort ≡ None
+abort most [] = refl
+abort most (p ∷ left) = abort_behind most p left (abort most left)

@@ -5,8 +5,7 @@ use Rattle.std.proofs.lemmas.List.{append_assoc}
 use Rattle.std.proofs.lemmas.List.Concat.{flat_map-append}
 use Rattle.hoa_lexer.specs.declared.token.Token.{Token}
 use Rattle.hoa_lexer.specs.declared.token.Token.TheVariants as token
-use Rattle.hoa_parser.proofs.reading.FrontParts.{passed_then}
-use Rattle.hoa_parser.proofs.reading.LoopTurns.{spelled_more}
+use Rattle.hoa_parser.proofs.reading.FrontParts.{passed_then, spelled_more}
 use Rattle.hoa_parser.specs.inner.Expecting.{AccValues, Passes, Takes, Values, move}
 use Rattle.hoa_parser.specs.Grammar.{AccValue, Value, acc_number, acc_value_token, acc_word, and_number, number_value, text_value, value_token, word_value}
 use Rattle.hoa_parser.specs.inner.Parsing.{Passed, Cursor, is_end}

@@ -1,11 +1,12 @@
 -- What can stand may go on to a whole automaton.
 use Rattle.std.proofs.Common.{◌≡◌, ℕ, Bool, true, false, cond, List, [], ◌∷◌, ◌++◌, Option, Some, None, refl, sym, ap, ◌∙◌, subst, leb}
 use Rattle.std.proofs.lemmas.Bool.{leb-true}
-use Rattle.std.proofs.lemmas.List.{append_assoc}
+use Rattle.std.proofs.lemmas.List.{append_assoc, append-nil}
 use Rattle.hoa_lexer.specs.declared.token.Token.{Token}
 use Rattle.hoa_parser.specs.inner.Expecting as part
 use Rattle.hoa_parser.specs.inner.Expecting.{Part, Move, Takes, Passes, Refuses, after, after_some, behind, moved, move, open_at}
-use Rattle.hoa_parser.specs.Grammar.{automaton_meaning, IsViable}
+use Rattle.hoa_parser.specs.Grammar.{automaton_meaning, IsViable, Spells}
+use Rattle.hoa_parser.specs.Raw.{Written}
 use Rattle.hoa_parser.proofs.grammar.PartsWritten.{Derives, completable}
 use Rattle.hoa_parser.proofs.grammar.LabelsWritten.{Writes, single, factor_writes, factors_write, products_write, atom_writes, atoms_write, conjunctions_write}
 use Rattle.hoa_parser.proofs.grammar.ItemsWritten.{number_writes, more_numbers_write, quoted_writes, maybe_quoted_writes, strings_write, word_writes, words_write, alias_name_writes, acc_values_write, values_write, opening_paren_writes, maybe_bang_writes, closing_paren_writes, closing_bracket_writes, items_write}
@@ -95,3 +96,9 @@ viable most ts left e =
       whole = automaton_meaning whole.phrase;
       spelled = record { phrase = whole.phrase; within = whole.keeps; spelled = whole.spelled; means = refl };
     }
+
+-- Where nothing is expected behind them, they spell one.
+pub whole_so : (most : ℕ) (ts : List Token) → after most (part.Whole ∷ []) ts ≡ Some [] → (w : Written) × Spells most ts w
+whole_so most ts e =
+    let whole = single most part.Whole (ts ++ []) (after_derives most ts (part.Whole ∷ []) [] [] e refl) in
+    (automaton_meaning whole.phrase, record { phrase = whole.phrase; within = whole.keeps; spelled = sym (append-nil ts) ∙ whole.spelled; means = refl })

@@ -1,5 +1,5 @@
 -- Labels and conditions of one word.
-use Rattle.std.proofs.Common.{◌≡◌, ◌≢◌, ℕ, Bool, true, false, cond, List, [], ◌∷◌, Some, None, codes, refl, sym, ap, ◌∙◌}
+use Rattle.std.proofs.Common.{◌≡◌, ◌≢◌, ℕ, Bool, true, false, cond, List, [], ◌∷◌, Option, Some, None, is_some, codes, refl, sym, ap, ◌∙◌}
 use Rattle.hoa_lexer.specs.declared.token.Token.{Token}
 use Rattle.hoa_lexer.specs.declared.token.Token.TheVariants as token
 use Rattle.hoa_parser.proofs.grammar.HeaderNames.{same}
@@ -22,6 +22,14 @@ pub record IsAtom (depth : ℕ) (z : Token) (t : RawTree) : Type 0 where
   pub means : t ≡ lnot_meaning phrase
   pub taken : move (Factor depth) z ≡ Takes []
   pub goes_on : is_end z ≡ false
+
+pub none_there : (o : Option RawTree) → is_some o ≡ false → o ≡ None
+none_there None h = refl
+none_there (Some t) h = absurd (let no : true ≡ false = h in cc)
+
+pub some_there : (o : Option RawTree) → is_some o ≡ true → (t : RawTree) × (o ≡ Some t)
+some_there None h = absurd (let no : false ≡ true = h in cc)
+some_there (Some t) h = (t, refl)
 
 same_some : (t u : RawTree) → Some u ≡ Some t → t ≡ u
 same_some t u e = cc

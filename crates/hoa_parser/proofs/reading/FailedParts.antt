@@ -1,12 +1,13 @@
 -- How a part that could not be read ends the reading of more.
-use Rattle.std.proofs.Common.{◌≡◌, ℕ, true, false, List, ◌∷◌, ◌++◌, Some, None, refl, sym, ap, ◌∙◌, inl, inr}
+use Rattle.std.proofs.Common.{◌≡◌, ◌≢◌, ℕ, true, false, List, [], ◌∷◌, ◌++◌, Some, None, sym, ap, ◌∙◌, inl, inr}
 use Rattle.std.proofs.lemmas.List.{append_assoc}
 use Rattle.std.specs.Prelude.{nat_le}
 use Rattle.hoa_lexer.specs.declared.token.Token.{Token}
 use Rattle.hoa_lexer.specs.declared.token.Token.TheVariants as token
+use Rattle.hoa_parser.proofs.grammar.NoAbort.{abort}
 use Rattle.hoa_parser.proofs.reading.FrontParts.{goes_more, goes_nowhere, goes_then, takes_behind}
 use Rattle.hoa_parser.specs.inner.Expecting.{Part, Takes, behind, move, open_at}
-use Rattle.hoa_parser.specs.inner.Parsing.{Fails, Goes, Cursor, Refuses, TooDeep, Unlexed, Unread, is_end, refusal}
+use Rattle.hoa_parser.specs.inner.Parsing.{Cursor, Fails, Goes, HaltsHere, Refuses, TooDeep, Unlexed, Unread, is_end}
 use Rattle.hoa_parser.specs.Standing.{most_depth}
 use Rattle.hoa_parser.specs.declared.fault.ReadFault.{ReadFault}
 use Rattle.hoa_parser.specs.declared.fault.ReadFault.TheVariants as fault
@@ -14,11 +15,10 @@ use Rattle.hoa_parser.specs.declared.fault.ReadFault.TheVariants as fault
 refuses_then : (p q : List Part) (a m b : Cursor) → Goes p a q m → Refuses q m b → Refuses p a b
 refuses_then p q a m b one two = record { target = two.target; goes = goes_then p q two.target a m b one two.goes; refused = two.refused }
 
-deep_then : (p q : List Part) (a m : Cursor) → Goes p a q m → TooDeep q m → TooDeep p a
-deep_then p q a m one two = record {
+deep_then : (p q : List Part) (a m b : Cursor) → Goes p a q m → TooDeep q m b → TooDeep p a b
+deep_then p q a m b one two = record {
   target = two.target;
-  b = two.b;
-  goes = goes_then p q two.target a m two.b one two.goes;
+  goes = goes_then p q two.target a m b one two.goes;
   refused = two.refused;
   most = two.most;
   more = two.more;
@@ -26,8 +26,16 @@ deep_then p q a m one two = record {
   taken = two.taken;
 }
 
-unread_then : (p q : List Part) (a m : Cursor) (P : ℕ → List ℕ → Type 0) → Goes p a q m → Unread q m P → Unread p a P
-unread_then p q a m P one two = record {
+halts_then : (f : ReadFault) (p q : List Part) (a m b : Cursor) → Goes p a q m → HaltsHere f q m b → HaltsHere f p a b
+halts_then (fault.Syntax k) p q a m b one h = (refuses_then p q a m b one h.0, h.1)
+halts_then fault.Depth p q a m b one h = deep_then p q a m b one h
+halts_then fault.Memory p q a m b one h = (h.0, goes_then p q h.0 a m b one h.1)
+halts_then fault.Truncated p q a m b one h = absurd h
+halts_then fault.Bytes p q a m b one h = absurd h
+halts_then fault.Read p q a m b one h = absurd h
+
+unread_then : (f : ReadFault) (p q : List Part) (a m last : Cursor) → Goes p a q m → Unread f q m last → Unread f p a last
+unread_then f p q a m last one two = record {
   target = two.target;
   b = two.b;
   goes = goes_then p q two.target a m two.b one two.goes;
@@ -35,18 +43,14 @@ unread_then p q a m P one two = record {
   taken = two.taken;
   unended = two.unended;
   bytes = two.bytes;
+  held = two.held;
+  no_abort = two.no_abort;
 }
 
 -- what was read before does not change why the rest could not be read
 pub fails_then : (f : ReadFault) (p q : List Part) (a m last : Cursor) → Goes p a q m → Fails f q m last → Fails f p a last
-fails_then (fault.Syntax k) p q a m last one (inl h) = inl (h.0, refuses_then p q a m h.0 one h.1, h.2, h.3, h.4)
-fails_then (fault.Syntax k) p q a m last one (inr h) = inr (unread_then p q a m _ one h)
-fails_then fault.Truncated p q a m last one h = unread_then p q a m _ one h
-fails_then fault.Aborted p q a m last one h = (h.0, refuses_then p q a m h.0 one h.1, h.2)
-fails_then fault.Depth p q a m last one h = deep_then p q a m one h
-fails_then fault.Bytes p q a m last one h = unread_then p q a m _ one h
-fails_then fault.Read p q a m last one h = tt
-fails_then fault.Memory p q a m last one h = tt
+fails_then f p q a m last one (inl h) = inl (halts_then f p q a m last one h)
+fails_then f p q a m last one (inr h) = inr (unread_then f p q a m last one h)
 
 behind_more : (most : ℕ) (p more others : List Part) (z : Token) → behind most ((p ++ more) ++ others) z ≡ behind most (p ++ (more ++ others)) z
 behind_more most p more others z = ap (λ (ps : List Part). behind most ps z) (append_assoc p more others)
@@ -61,20 +65,27 @@ refuses_more p more a b one = record {
   refused = λ most others. behind_more most one.target more others b.token ∙ one.refused most (more ++ others);
 }
 
-deep_more : (p more : List Part) (a : Cursor) → TooDeep p a → TooDeep (p ++ more) a
-deep_more p more a one = record {
+deep_more : (p more : List Part) (a b : Cursor) → TooDeep p a b → TooDeep (p ++ more) a b
+deep_more p more a b one = record {
   target = one.target ++ more;
-  b = one.b;
-  goes = goes_more p one.target more a one.b one.goes;
-  refused = λ others. behind_more most_depth one.target more others one.b.token ∙ one.refused (more ++ others);
+  goes = goes_more p one.target more a b one.goes;
+  refused = λ others. behind_more most_depth one.target more others b.token ∙ one.refused (more ++ others);
   most = one.most;
   more = one.more;
   left = one.left ++ more;
-  taken = λ others. behind_more one.most one.target more others one.b.token ∙ one.taken (more ++ others) ∙ some_more one.left more others;
+  taken = λ others. behind_more one.most one.target more others b.token ∙ one.taken (more ++ others) ∙ some_more one.left more others;
 }
 
-unread_more : (p more : List Part) (a : Cursor) (P : ℕ → List ℕ → Type 0) → Unread p a P → Unread (p ++ more) a P
-unread_more p more a P one = record {
+halts_more : (f : ReadFault) (p more : List Part) (a b : Cursor) → HaltsHere f p a b → HaltsHere f (p ++ more) a b
+halts_more (fault.Syntax k) p more a b h = (refuses_more p more a b h.0, h.1)
+halts_more fault.Depth p more a b h = deep_more p more a b h
+halts_more fault.Memory p more a b h = (h.0 ++ more, goes_more p h.0 more a b h.1)
+halts_more fault.Truncated p more a b h = absurd h
+halts_more fault.Bytes p more a b h = absurd h
+halts_more fault.Read p more a b h = absurd h
+
+unread_more : (f : ReadFault) (p more : List Part) (a last : Cursor) → Unread f p a last → Unread f (p ++ more) a last
+unread_more f p more a last one = record {
   target = one.target ++ more;
   b = one.b;
   goes = goes_more p one.target more a one.b one.goes;
@@ -82,22 +93,26 @@ unread_more p more a P one = record {
   taken = λ others. behind_more most_depth one.target more others one.b.token ∙ one.taken (more ++ others) ∙ some_more one.left more others;
   unended = one.unended;
   bytes = one.bytes;
+  held = one.held;
+  no_abort = one.no_abort;
 }
 
 -- nor does what is expected behind it
 pub fails_more : (f : ReadFault) (p more : List Part) (a last : Cursor) → Fails f p a last → Fails f (p ++ more) a last
-fails_more (fault.Syntax k) p more a last (inl h) = inl (h.0, refuses_more p more a h.0 h.1, h.2, h.3, h.4)
-fails_more (fault.Syntax k) p more a last (inr h) = inr (unread_more p more a _ h)
-fails_more fault.Truncated p more a last h = unread_more p more a _ h
-fails_more fault.Aborted p more a last h = (h.0, refuses_more p more a h.0 h.1, h.2)
-fails_more fault.Depth p more a last h = deep_more p more a h
-fails_more fault.Bytes p more a last h = unread_more p more a _ h
-fails_more fault.Read p more a last h = tt
-fails_more fault.Memory p more a last h = tt
+fails_more f p more a last (inl h) = inl (halts_more f p more a last h)
+fails_more f p more a last (inr h) = inr (unread_more f p more a last h)
+
+-- what a part takes is not `--ABORT--`
+pub taken_no_abort : (part : Part) (parts : List Part) (z : Token) → move part z ≡ Takes parts → nat_le (open_at parts) most_depth ≡ true → z ≢ token.Abort
+taken_no_abort part parts z takes opens is =
+    let some : behind most_depth (part ∷ []) token.Abort ≡ Some (parts ++ []) = takes_behind most_depth part parts [] token.Abort (ap (move part) (sym is) ∙ takes) opens in
+    let none : behind most_depth (part ∷ []) token.Abort ≡ None = abort most_depth (part ∷ []) in
+    cc
 
 -- there is no token behind one that the first part takes
-pub unread_behind : (part : Part) (parts others : List Part) (a : Cursor) (P : ℕ → List ℕ → Type 0) → move part a.token ≡ Takes parts → nat_le (open_at parts) most_depth ≡ true → is_end a.token ≡ false → P a.used a.rest → Unread (part ∷ others) a P
-unread_behind part parts others a P takes opens unended bytes = record {
+pub unread_behind : (f : ReadFault) (part : Part) (parts others : List Part) (a last : Cursor) → move part a.token ≡ Takes parts → nat_le (open_at parts) most_depth ≡ true → is_end a.token ≡ false → last.held ≡ None → last.token ≡ a.token → Unlexed f a.used a.rest last.rest
+    → Unread f (part ∷ others) a last
+unread_behind f part parts others a last takes opens unended held stays bytes = record {
   target = part ∷ others;
   b = a;
   goes = goes_nowhere (part ∷ others) a;
@@ -105,26 +120,6 @@ unread_behind part parts others a P takes opens unended bytes = record {
   taken = λ more. takes_behind most_depth part parts (others ++ more) a.token takes opens ∙ some_more parts others more;
   unended = unended;
   bytes = bytes;
+  held = held;
+  no_abort = λ is. taken_no_abort part parts a.token takes opens (sym stays ∙ is);
 }
-
--- the lexer's fault is the reader's
-pub fails_behind : (f : ReadFault) (part : Part) (parts others : List Part) (a last : Cursor) → move part a.token ≡ Takes parts → nat_le (open_at parts) most_depth ≡ true → is_end a.token ≡ false → Unlexed f last.rest a.used a.rest → Fails f (part ∷ others) a last
-fails_behind (fault.Syntax k) part parts others a last takes opens unended h = inr (unread_behind part parts others a _ takes opens unended h)
-fails_behind fault.Truncated part parts others a last takes opens unended h = unread_behind part parts others a _ takes opens unended h
-fails_behind fault.Aborted part parts others a last takes opens unended h = absurd h
-fails_behind fault.Depth part parts others a last takes opens unended h = absurd h
-fails_behind fault.Bytes part parts others a last takes opens unended h = unread_behind part parts others a _ takes opens unended h
-fails_behind fault.Read part parts others a last takes opens unended h = tt
-fails_behind fault.Memory part parts others a last takes opens unended h = tt
-
-refused_here : (parts : List Part) (a : Cursor) (z : Token) → a.token ≡ z → ((most : ℕ) (others : List Part) → behind most (parts ++ others) z ≡ None) → Refuses parts a a
-refused_here parts a z is refused = record {
-  target = parts;
-  goes = goes_nowhere parts a;
-  refused = λ most others. ap (λ (t : Token). behind most (parts ++ others) t) is ∙ refused most others;
-}
-
--- A token that cannot stand where it does is a fault of syntax at its offset, or the end of an abandoned automaton.
-pub fails_here : (parts : List Part) (a : Cursor) (z : Token) → a.token ≡ z → ((most : ℕ) (others : List Part) → behind most (parts ++ others) z ≡ None) → Fails (refusal z a.offset) parts a a
-fails_here parts a token.Abort is refused = (a, refused_here parts a token.Abort is refused, is)
-fails_here parts a z is refused = inl (a, refused_here parts a z is refused, refl, λ e. (let no : z ≡ token.Abort = sym is ∙ e in cc), refl)

@@ -1,6 +1,6 @@
 -- How readings of parts are put together, one behind the other.
-use Rattle.std.proofs.Common.{◌≡◌, ℕ, Bool, true, false, if◌then◌else◌, List, [], ◌∷◌, ◌++◌, Option, Some, None, refl, sym, ap, subst, ◌∙◌}
-use Rattle.std.proofs.lemmas.List.{append_assoc, append-nil}
+use Rattle.std.proofs.Common.{◌≡◌, ℕ, Bool, true, false, if◌then◌else◌, List, [], ◌∷◌, ◌++◌, map, Option, Some, None, refl, sym, ap, subst, ◌∙◌}
+use Rattle.std.proofs.lemmas.List.{append_assoc, append-nil, map-append}
 use Rattle.std.specs.Prelude.{nat_le}
 use Rattle.hoa_lexer.specs.declared.token.Token.{Token}
 use Rattle.hoa_parser.specs.inner.Expecting.{Part, Move, Takes, Passes, Refuses, after, after_some, behind, move, moved, open_at}
@@ -41,9 +41,12 @@ leads_one part parts others z takes opens = record {
       ∙ ap (λ (ps : List Part). Some ps) (sym (append_assoc parts others more));
 }
 
--- nothing was passed
+-- no token was passed, and the one at hand is to these parts what it is to those
+pub goes_over : (p q : List Part) (a : Cursor) → ((most : ℕ) (others : List Part) → behind most (p ++ others) a.token ≡ behind most (q ++ others) a.token) → Goes p a q a
+goes_over p q a over = record { tokens = []; passed = refl; left = p; leads = record { runs = λ others. refl }; unended = tt; over = over }
+
 pub goes_nowhere : (parts : List Part) (a : Cursor) → Goes parts a parts a
-goes_nowhere parts a = record { tokens = []; passed = refl; left = parts; leads = record { runs = λ others. refl }; unended = tt; over = λ most others. refl }
+goes_nowhere parts a = goes_over parts parts a (λ most others. refl)
 
 -- the token at hand is taken by the first part
 pub goes_on : (part : Part) (parts others : List Part) (a b : Cursor) → move part a.token ≡ Takes parts → nat_le (open_at parts) most_depth ≡ true → is_end a.token ≡ false → Follows a b → Goes (part ∷ others) a (parts ++ others) b
@@ -54,17 +57,6 @@ goes_on part parts others a b takes opens unended follows = record {
   leads = leads_one part parts others a.token takes opens;
   unended = (unended, tt);
   over = λ most more. refl;
-}
-
--- the token at hand shows that the first part is over
-pub goes_past : (part : Part) (others : List Part) (a : Cursor) → move part a.token ≡ Passes → Goes (part ∷ others) a others a
-goes_past part others a passes = record {
-  tokens = [];
-  passed = refl;
-  left = part ∷ others;
-  leads = record { runs = λ more. refl };
-  unended = tt;
-  over = λ most more. passes_behind most part (others ++ more) a.token passes;
 }
 
 leads_then : (p q left last : List Part) (u v : List Token) (z : Token) → Leads p u left → ((others : List Part) → behind most_depth (left ++ others) z ≡ behind most_depth (q ++ others) z) → Leads q (z ∷ v) last → Leads p (u ++ z ∷ v) last
@@ -132,3 +124,12 @@ goes_more p q more a b one = record {
       ∙ one.over most (more ++ others)
       ∙ sym (ap (λ (ps : List Part). behind most ps b.token) (append_assoc q more others));
 }
+
+-- no tokens
+pub spelled_none : {X : Type 0} (f : X → Token) (xs : List X) (a : Cursor) → xs ≡ [] → Passed a (map f xs) a
+spelled_none {X = X} f xs a none = subst (λ (ys : List X). Passed a (map f ys) a) (sym none) refl
+
+-- one more token behind them
+pub spelled_more : {X : Type 0} (f : X → Token) (xs : List X) (x : X) (ys : List X) (a b c : Cursor) → ys ≡ xs ++ x ∷ [] → Passed a (map f xs) b → Passed b (f x ∷ []) c → Passed a (map f ys) c
+spelled_more f xs x ys a b c is p q =
+    subst (λ (ts : List Token). Passed a ts c) (sym (map-append f xs (x ∷ [])) ∙ sym (ap (map f) is)) (passed_then a b c (map f xs) (f x ∷ []) p q)

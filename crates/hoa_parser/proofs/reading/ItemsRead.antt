@@ -1,20 +1,20 @@
 -- How the items of a header are read.
-use Rattle.std.proofs.Common.{◌≡◌, ◌≢◌, ◌⊎◌, inl, inr, ℕ, true, List, [], ◌∷◌, ◌++◌, map, flat_map, Result, Ok, Err, refl, sym, ap, subst, ◌∙◌, arith}
-use Rattle.std.proofs.lemmas.List.{append-nil, map-append}
-use Rattle.std.proofs.lemmas.List.Concat.{flat_map-append}
+use Rattle.std.proofs.Common.{◌≡◌, ◌≢◌, ◌⊎◌, inl, inr, ℕ, true, List, [], ◌∷◌, ◌++◌, map, Result, Ok, Err, refl, sym, ap, subst, ◌∙◌}
+use Rattle.std.proofs.lemmas.List.{append-nil}
 use Rattle.std.specs.Prelude.{codes, nat_le}
 use Rattle.aut_base.specs.declared.formula.Formula.{Formula}
 use Rattle.hoa_lexer.specs.declared.token.Token.{Token}
 use Rattle.hoa_lexer.specs.declared.token.Token.TheVariants as token
 use Rattle.hoa_parser.proofs.grammar.HeaderNames.{IsNamed, named}
 use Rattle.hoa_parser.proofs.reading.FrontParts.{passed_then}
-use Rattle.hoa_parser.proofs.reading.Moves.{Relation, fails_after, fails_first, moves_err, reads_as, reads_more, reads_then, takes, takes_last}
+use Rattle.hoa_parser.proofs.reading.RuleParts.{next_answer}
+use Rattle.hoa_parser.proofs.reading.Steps.{Read, reads_as, takes, takes_last}
 use Rattle.hoa_parser.specs.inner.Expecting.{Items, Part, Takes, header_move, move, open_at}
 use Rattle.hoa_parser.specs.inner.Expecting as expecting
 use Rattle.hoa_parser.specs.Grammar.{ItemPhrase, ItemWithin, acc_name_item, acceptance_item, alias_item, header_of, item_meaning, item_tokens, name_item, names_item, other_item, properties_item, start_item, states_item, tool_item, acc_value_token, conj_tokens, condition_tokens, label_tokens, optional_text, value_token}
-use Rattle.hoa_parser.specs.inner.Parsing.{Advances, Passed, Cursor, Reads, State, Uses}
+use Rattle.hoa_parser.specs.inner.Parsing.{Advanced, Cursor, FailsAt, Passed, Reads, ReadsTo, State, Unadvanced}
 use Rattle.hoa_parser.specs.inner.Expecting.{header_parts}
-use Rattle.hoa_parser.specs.inner.RuleReads.{AreAccValues, AreItems, AreTexts, AreValues, AreWords, IsAliasName, IsCondition, IsConj, IsItem, IsItemOf, IsItemWritten, IsLabel, IsNumber, IsOptionalText, IsQuoted, IsWord, ItemRest}
+use Rattle.hoa_parser.specs.inner.RuleReads.{AreAccValues, AreTexts, AreValues, AreWords, IsAliasName, IsCondition, IsConj, IsItem, IsItemOf, IsItemWritten, IsLabel, IsNumber, IsOptionalText, IsQuoted, IsWord, ItemRest}
 use Rattle.hoa_parser.specs.Raw as raw
 use Rattle.hoa_parser.specs.Raw.{WrittenItem, written_item}
 use Rattle.hoa_parser.specs.Standing.{most_depth}
@@ -24,7 +24,6 @@ use Rattle.hoa_parser.specs.declared.header.Header.TheVariants as header
 use Rattle.hoa_parser.specs.declared.raw.Item.{Item}
 use Rattle.hoa_parser.specs.declared.raw.Item.TheVariants as item
 use Rattle.hoa_parser.specs.declared.raw.RawLabel.{RawLabel}
-use Rattle.aut_base.proofs.AllByRecursion.{AllByRecursion-push}
 
 name_of : (name : List ℕ) (h : Header) → header_of name ≡ h → IsNamed name h
 name_of name h is = subst (IsNamed name) is (named name)
@@ -88,31 +87,6 @@ other_read name done a b p = record {
   is_item = λ e. record { phrase = other_item name e p.0; within = tt; spelled = refl; means = refl };
 }
 
--- of two parts, the second behind the first
-pub part_then : {S T U : Type 0} (part : Part) (parts : List Part) (P : Relation S) (Q : Relation T) (R : Relation U) (v : S) (w : T) (x : U) (s m s' : State)
-    → ((a b c : Cursor) → P v a b → Q w b c → R x a c) → Reads (part ∷ []) [] P (Ok v) s m → Reads parts [] Q (Ok w) m s' → Reads (part ∷ parts) [] R (Ok x) s s'
-part_then part parts P Q R v w x s m s' f one two = reads_then (part ∷ parts) parts [] P Q R v w x s m s' f (reads_more (part ∷ []) [] parts P v s m one) two
-
-pub part_then_fails : {S T U : Type 0} (part : Part) (parts : List Part) (P : Relation S) (Q : Relation T) (R : Relation U) (v : S) (f : ReadFault) (s m s' : State)
-    → Reads (part ∷ []) [] P (Ok v) s m → Reads parts [] Q (Err f) m s' → Reads (part ∷ parts) [] R (Err f) s s'
-part_then_fails part parts P Q R v f s m s' one two = fails_after (part ∷ parts) parts [] [] P Q R v f s m s' (reads_more (part ∷ []) [] parts P v s m one) two
-
--- the same, where the header is known by another name
-pub item_known : (h k : Header) (name : List ℕ) (result : Result Item ReadFault) (s s' : State) → h ≡ k → Reads (header_parts k) [] (IsItemOf k name) result s s' → Reads (header_parts h) [] (IsItemOf h name) result s s'
-item_known h k name result s s' is one = subst (λ (x : Header). Reads (header_parts x) [] (IsItemOf x name) result s s') (sym is) one
-
--- an item of one part
-pub item_of_part : {S : Type 0} (h k : Header) (name : List ℕ) (P : Relation S) (v : S) (i : Item) (s s' : State) → h ≡ k → ((a b : Cursor) → P v a b → IsItemOf k name i a b) → Reads (header_parts k) [] P (Ok v) s s' → Reads (header_parts h) [] (IsItemOf h name) (Ok i) s s'
-item_of_part h k name P v i s s' is f one = item_known h k name (Ok i) s s' is (reads_as (header_parts k) [] P (IsItemOf k name) v i s s' f one)
-
-fails_as : {S T : Type 0} (p q r : List Part) (P : Relation S) (R : Relation T) (f : ReadFault) (s s' : State) → Reads p q P (Err f) s s' → Reads p r R (Err f) s s'
-fails_as p q r P R f s s' one = record { moves = moves_err f s s' one.moves; text = one.text }
-
--- an item that has a form of its own
-pub item_of_form : (h k : Header) (name : List ℕ) (result : Result Item ReadFault) (s s' : State) → h ≡ k → Reads (header_parts k) [] (IsItemWritten k) result s s' → Reads (header_parts h) [] (IsItemOf h name) result s s'
-item_of_form h k name (Ok i) s s' is one = item_known h k name (Ok i) s s' is (reads_as (header_parts k) [] (IsItemWritten k) (IsItemOf k name) i i s s' (λ a b p. p name) one)
-item_of_form h k name (Err f) s s' is one = item_known h k name (Err f) s s' is (fails_as (header_parts k) [] [] (IsItemWritten k) (IsItemOf k name) f s s' one)
-
 -- what the name of a header of an item leaves to be read
 pub header_takes : (h : Header) → h ≢ header.Opening → h ≢ header.State → header_move h ≡ Takes (header_parts h ++ Items ∷ [])
 header_takes header.Opening no_opening no_state = absurd (no_opening refl)
@@ -128,7 +102,7 @@ header_takes header.Name no_opening no_state = refl
 header_takes header.Properties no_opening no_state = refl
 header_takes header.Other no_opening no_state = refl
 
-header_opens : (h : Header) → nat_le (open_at (header_parts h ++ Items ∷ [])) most_depth ≡ true
+pub header_opens : (h : Header) → nat_le (open_at (header_parts h ++ Items ∷ [])) most_depth ≡ true
 header_opens header.Opening = refl
 header_opens header.State = refl
 header_opens header.States = refl
@@ -157,45 +131,30 @@ item_whole name i a b c p q =
       means = with_name.means;
     }
 
-header_name_taken : (name : List ℕ) (h : Header) (s s' : State) (v : Unit {0}) → h ≡ header_of name → h ≢ header.Opening → h ≢ header.State → s.ahead ≡ token.HeaderName name → Advances (Ok v) s s'
-    → Reads (Items ∷ []) (header_parts h ++ Items ∷ []) (λ (w : Unit {0}) a b. Passed a (token.HeaderName name ∷ []) b) (Ok v) s s'
-header_name_taken name h s s' v same no_opening no_state is one =
-    subst (λ (ps : List Part). Reads (Items ∷ []) ps (λ (w : Unit {0}) a b. Passed a (token.HeaderName name ∷ []) b) (Ok v) s s') (append-nil (header_parts h ++ Items ∷ []))
-    (takes Items (header_parts h ++ Items ∷ []) [] (token.HeaderName name) s s' v is (ap header_move (sym same) ∙ header_takes h no_opening no_state) (header_opens h) refl one)
+-- the name of a header is taken
+pub header_taken : (name : List ℕ) (h : Header) {s s' : State} → h ≡ header_of name → h ≢ header.Opening → h ≢ header.State → s.ahead ≡ token.HeaderName name → Advanced s s' → ReadsTo (Items ∷ []) (header_parts h ++ Items ∷ []) (Read (token.HeaderName name)) s s'
+header_taken name h {s} {s'} same no_opening no_state is one =
+    subst (λ (ps : List Part). ReadsTo (Items ∷ []) ps (Read (token.HeaderName name)) s s') (append-nil (header_parts h ++ Items ∷ []))
+    (takes Items [] (token.HeaderName name) is (ap header_move (sym same) ∙ header_takes h no_opening no_state) (header_opens h) refl one)
+
+pub header_last : {f : ReadFault} (name : List ℕ) (h : Header) {s s' : State} → h ≡ header_of name → h ≢ header.Opening → h ≢ header.State → s.ahead ≡ token.HeaderName name → Unadvanced f s s' → FailsAt f (Items ∷ []) s s'
+header_last name h same no_opening no_state is one = takes_last Items [] (token.HeaderName name) is (ap header_move (sym same) ∙ header_takes h no_opening no_state) (header_opens h) refl one
+
+-- an item that has a form of its own
+pub item_of_form : (h : Header) (name : List ℕ) (result : Result Item ReadFault) (s s' : State) → Reads (header_parts h) [] (IsItemWritten h) result s s' → Reads (header_parts h) [] (IsItemOf h name) result s s'
+item_of_form h name (Ok i) s s' one = reads_as (λ a b p. p name) one
+item_of_form h name (Err f) s s' one = one
 
 -- whatever is answered of what is behind the name
-pub item_behind : (name : List ℕ) (h : Header) (result : Result Item ReadFault) (s m s' : State) (v : Unit {0}) → h ≡ header_of name → h ≢ header.Opening → h ≢ header.State → s.ahead ≡ token.HeaderName name → Advances (Ok v) s m
+pub item_behind : {s m : State} (name : List ℕ) (h : Header) (result : Result Item ReadFault) (s' : State) → h ≡ header_of name → h ≢ header.Opening → h ≢ header.State → s.ahead ≡ token.HeaderName name → Advanced s m
     → Reads (header_parts h) [] (IsItemOf h name) result m s' → Reads (Items ∷ []) (Items ∷ []) IsItem result s s'
-item_behind name h (Ok i) s m s' v same no_opening no_state is one two =
-    reads_then (Items ∷ []) (header_parts h ++ Items ∷ []) (Items ∷ []) _ (IsItemOf h name) IsItem v i i s m s'
-    (λ a b c p q. item_whole name i a b c p (subst (λ (k : Header). IsItemOf k name i b c) same q))
-    (header_name_taken name h s m v same no_opening no_state is one) (reads_more (header_parts h) [] (Items ∷ []) (IsItemOf h name) i m s' two)
-item_behind name h (Err f) s m s' v same no_opening no_state is one two =
-    fails_after (Items ∷ []) (header_parts h ++ Items ∷ []) (Items ∷ []) (Items ∷ []) _ (IsItemOf h name) IsItem v f s m s'
-    (header_name_taken name h s m v same no_opening no_state is one) (fails_first (header_parts h) [] (Items ∷ []) (Items ∷ []) (IsItemOf h name) (IsItemOf h name) f m s' two)
+item_behind name h result s' same no_opening no_state is one two =
+    next_answer (header_parts h) (Items ∷ []) (IsItemOf h name) IsItem result s' (λ w a d p. item_whole name w a p.0 d p.1 (subst (λ (k : Header). IsItemOf k name w p.0 d) same p.2))
+    (header_taken name h same no_opening no_state is one) two
 
--- there is no token behind the name
-pub no_item_behind : (name : List ℕ) (h : Header) (f : ReadFault) (s s' : State) → h ≡ header_of name → h ≢ header.Opening → h ≢ header.State → s.ahead ≡ token.HeaderName name → Advances {T = Unit {0}} (Err f) s s'
-    → Reads (Items ∷ []) (Items ∷ []) IsItem (Err f) s s'
-no_item_behind name h f s s' same no_opening no_state is one =
-    takes_last Items (header_parts h ++ Items ∷ []) [] (Items ∷ []) IsItem (token.HeaderName name) f s s' is (ap header_move (sym same) ∙ header_takes h no_opening no_state) (header_opens h) refl one
+same_names : (name other : List ℕ) → token.HeaderName name ≡ token.HeaderName other → name ≡ other
+same_names name other e = cc
 
--- a byte was used
-pub uses_then : {S : Type 0} (p q : List Part) (Q : Relation S) (result : Result S ReadFault) (s m s' : State) (v : Unit {0}) → Advances (Ok v) s m → Reads p q Q result m s' → Uses result s s'
-uses_then p q Q (Ok w) s m s' v one two = omega (arith, one.progress, two.moves.used)
-uses_then p q Q (Err f) s m s' v one two = tt
-
--- one more item
-pub items_more : (items news : List Item) (i : Item) (a b c : Cursor) → news ≡ items ++ i ∷ [] → AreItems items a b → IsItem i b c → AreItems news a c
-items_more items news i a b c is p q = record {
-  phrase = p.phrase ++ q.phrase ∷ [];
-  within = AllByRecursion-push (ItemWithin most_depth) p.phrase q.phrase p.within q.within;
-  passed = subst (λ (ts : List Token). Passed a ts c)
-      (sym (flat_map-append item_tokens p.phrase (q.phrase ∷ []) ∙ ap (λ (ts : List Token). flat_map item_tokens p.phrase ++ ts) (append-nil (item_tokens q.phrase))))
-      (passed_then a b c (flat_map item_tokens p.phrase) (item_tokens q.phrase) p.passed q.passed);
-  means = ap (map written_item) is ∙ map-append written_item items (i ∷ []) ∙ ap (λ (ws : List WrittenItem). ws ++ written_item i ∷ []) p.means
-      ∙ ap (λ (w : WrittenItem). map item_meaning p.phrase ++ w ∷ []) q.means ∙ sym (map-append item_meaning p.phrase (q.phrase ∷ []));
-}
-
-pub no_items_there : (items : List Item) (a : Cursor) → items ≡ [] → AreItems items a a
-no_items_there items a none = record { phrase = []; within = tt; passed = refl; means = ap (map written_item) none }
+-- the header of a name is that of the same name
+pub header_again : (h : Header) (name other : List ℕ) → h ≡ header_of name → token.HeaderName name ≡ token.HeaderName other → h ≡ header_of other
+header_again h name other same e = same ∙ ap header_of (same_names name other e)

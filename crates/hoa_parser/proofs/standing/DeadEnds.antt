@@ -9,6 +9,7 @@ use Rattle.hoa_parser.specs.Standing.{IsDead, SpellsNothing, most_depth}
 use Rattle.hoa_parser.proofs.grammar.Depths.{after_more, viable_more, within_more}
 use Rattle.hoa_parser.proofs.grammar.AfterLabels.{after_append, opened}
 use Rattle.hoa_parser.proofs.grammar.AfterStates.{spelled_follows}
+use Rattle.hoa_parser.proofs.grammar.NoAbort.{abort}
 use Rattle.hoa_parser.proofs.grammar.Viability.{viable}
 
 after_nothing : (most : ℕ) (expected : Option (List Part)) → after_some most expected [] ≡ expected
@@ -49,27 +50,6 @@ pub behind_refuses : (most : ℕ) (p : Part) (left : List Part) (z : Token) → 
 behind_refuses most p left z e = ap (λ (m : Move). moved most m (behind most left z) left) e
 
 -- `--ABORT--` can stand nowhere.
-abort_behind : (most : ℕ) (p : Part) (left : List Part) → behind most left token.Abort ≡ None → behind most (p ∷ left) token.Abort ≡ None
-abort_behind most part.MoreNumbers left h = h
-abort_behind most part.MaybeQuoted left h = h
-abort_behind most part.Strings left h = h
-abort_behind most part.Words left h = h
-abort_behind most part.AccValues left h = h
-abort_behind most part.Values left h = h
-abort_behind most (part.Factors depth) left h = h
-abort_behind most (part.Products depth) left h = h
-abort_behind most (part.Atoms depth) left h = h
-abort_behind most (part.Conjunctions depth) left h = h
-abort_behind most part.MaybeBang left h = h
-abort_behind most part.MaybeLabel left h = h
-abort_behind most part.MaybeMarks left h = h
-abort_behind most part.Edges left h = h
-abort_behind most _ left h = refl
-
-pub abort : (most : ℕ) (left : List Part) → behind most left token.Abort ≡ None
-abort most [] = refl
-abort most (p ∷ left) = abort_behind most p left (abort most left)
-
 pub abort_is_dead : (ts : List Token) (left : List Part) → after most_depth (part.Whole ∷ []) ts ≡ Some left → IsDead (ts ++ token.Abort ∷ [])
 abort_is_dead ts left e = dead ts left token.Abort e (λ most. abort most left)
 

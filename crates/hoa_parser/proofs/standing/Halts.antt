@@ -40,7 +40,7 @@ Halts Blank tokens used rest = (tokens ≡ []) × IsBlanks rest
 Halts (Whole w r) tokens used rest = Spells most_depth tokens w × (r ≡ rest)
 Halts Deep tokens used rest = IsPart tokens × IsTooDeep tokens used rest
 Halts (Bad k) tokens used rest = IsPart tokens × (IsMisplaced k tokens used rest ⊎ IsNoTokenAt k used rest)
-Halts Aborted tokens used rest = IsPart tokens × (tokens ≢ []) × HasNext used rest token.Abort
+Halts (Aborted r) tokens used rest = IsPart tokens × (tokens ≢ []) × (offset : ℕ) × IsNext rest used token.Abort offset r
 Halts Cut tokens used rest = IsPart tokens × ((tokens ≢ []) × IsBlanks rest ⊎ EndsOpen rest)
 
 abbrev pub shown : List (Token × ℕ) → List Token
@@ -78,9 +78,9 @@ reading Deep start text h =
       },
     )
 reading (Bad k) start text h = begun_reading (Bad k) start text h.tokens h.used h.rest h.begun (part start text h.tokens h.used h.rest h.begun, h.fault)
-reading Aborted start text h =
-    begun_reading Aborted start text h.tokens h.used h.rest h.begun
-    (part start text h.tokens h.used h.rest h.begun, h.some, record { offset = h.offset; after = h.after; next = h.next })
+reading (Aborted r) start text h =
+    begun_reading (Aborted r) start text h.tokens h.used h.rest h.begun
+    (part start text h.tokens h.used h.rest h.begun, h.some, h.offset, h.next)
 reading Cut start text h = begun_reading Cut start text h.tokens h.used h.rest h.begun (part start text h.tokens h.used h.rest h.begun, h.ends)
 
 -- the smallest automaton
@@ -106,7 +106,7 @@ halts_viable Blank tokens used rest h = subst (λ (ts : List Token). IsViable mo
 halts_viable (Whole w r) tokens used rest h = viable_whole most_depth tokens w h.0
 halts_viable Deep tokens used rest h = h.0.viable
 halts_viable (Bad k) tokens used rest h = h.0.viable
-halts_viable Aborted tokens used rest h = h.0.viable
+halts_viable (Aborted r) tokens used rest h = h.0.viable
 halts_viable Cut tokens used rest h = h.0.viable
 
 next_front : (used : ℕ) (rest : List ℕ) (t : Token) → HasNext used rest t → AfterBlanks rest HasFront
@@ -142,6 +142,9 @@ next_kept m tokens us t u e v =
     viable_part m (tokens ++ u ∷ []) us
     (subst (λ (xs : List Token). IsViable m xs) (ap (λ w. tokens ++ w ∷ us) e ∙ sym (append_assoc tokens (u ∷ []) us)) v)
 
+pub abandons : (tokens : List Token) (used : ℕ) (rest r : List ℕ) → Halts (Aborted r) tokens used rest → HasNext used rest token.Abort
+abandons tokens used rest r h = record { offset = h.2; after = r; next = h.3 }
+
 -- A reading that halts goes no further.
 pub halts_here : (s : Standing) (tokens us : List Token) (t : Token) (used : ℕ) (rest : List ℕ) → Halts s tokens used rest → HasNext used rest t → IsViable most_depth (tokens ++ t ∷ us) → ⊥
 halts_here Blank tokens us t used rest h n v = next_no_blanks used rest t n h.1
@@ -153,8 +156,8 @@ halts_here (Bad k) tokens us t used rest h n v = elim h.1 [
   | inl m ↦ m.dead most_depth (next_kept most_depth tokens us t m.next_token (one_next used rest t m.next_token n (misplaced_next k tokens used rest m)) v)
   | inr o ↦ next_not_stuck used rest t n (no_token_at_stuck k used rest o)
 ]
-halts_here Aborted tokens us t used rest h n v =
-    no_abort_inside most_depth tokens [] (next_kept most_depth tokens us t token.Abort (one_next used rest t token.Abort n h.2) v)
+halts_here (Aborted r) tokens us t used rest h n v =
+    no_abort_inside most_depth tokens [] (next_kept most_depth tokens us t token.Abort (one_next used rest t token.Abort n (abandons tokens used rest r h)) v)
 halts_here Cut tokens us t used rest h n v = elim h.1 [
   | inl b ↦ next_no_blanks used rest t n b.1
   | inr o ↦ next_not_stuck used rest t n (open_stuck rest o)

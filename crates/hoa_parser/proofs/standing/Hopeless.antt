@@ -1,33 +1,36 @@
--- Where a text is bad, the bytes that were taken show it.
-use Rattle.std.proofs.Common.{◌≡◌, ◌≢◌, ◌≤◌, ℕ, suc, ◌+◌, ◌-◌, true, not, is_some, List, [], ◌∷◌, ◌++◌, length, Option, Some, None, Ok, Err, refl, sym, ap, subst, ◌∙◌, inl, inr}
+-- Where a text is bad, the bytes that were taken show it; and no byte is taken past the one that shows an answer.
+use Rattle.std.proofs.Common.{◌≡◌, ◌≢◌, ℕ, suc, ◌+◌, ◌-◌, true, not, is_some, List, [], ◌∷◌, ◌++◌, length, Option, Some, None, Result, Ok, Err, refl, sym, ap, subst, ◌∙◌, inl, inr}
 use Rattle.std.proofs.lemmas.Bool.{false≢true}
-use Rattle.std.proofs.lemmas.List.{append_assoc, append_cancel_right}
+use Rattle.std.proofs.lemmas.List.{append_assoc, append-nil, append_cancel_right}
 use Rattle.std.specs.Prelude.{◌⊎◌}
+use Rattle.aut_io.specs.Seen.{Seen}
 use Rattle.hoa_lexer.proofs.next_token.Between.{between_as}
 use Rattle.hoa_lexer.proofs.spelling.FirstBytes.{no_front}
+use Rattle.hoa_lexer.specs.Blanks.{IsBlanks}
+use Rattle.hoa_lexer.specs.Laws.{LastIsAskedFor}
 use Rattle.hoa_lexer.specs.Reading as lexing
-use Rattle.hoa_lexer.specs.Reading.{Between, held_count, unread}
+use Rattle.hoa_lexer.specs.Reading.{Tells, held_count, unread}
 use Rattle.hoa_lexer.specs.Spelling.{Ends, closes_itself}
-use Rattle.hoa_lexer.specs.Text.{HasFront, IsNext, IsShownBy, Lexes}
+use Rattle.hoa_lexer.specs.Text.{AskedForOne, HasFront, IsNext, IsShownBy, Lexes}
 use Rattle.hoa_lexer.specs.declared.lexer.Lexer.{Lexer}
 use Rattle.hoa_lexer.specs.declared.token.LexFault.{LexFault}
 use Rattle.hoa_lexer.specs.declared.token.LexFault.TheVariants as lex
 use Rattle.hoa_lexer.specs.declared.token.Token.{Token}
 use Rattle.hoa_lexer.specs.declared.token.Token.TheVariants as token
-use Rattle.hoa_parser.proofs.reading.Automata.{opening}
 use Rattle.hoa_parser.proofs.standing.DeadEnds.{behind_refuses, dead}
-use Rattle.hoa_parser.proofs.standing.Settled.{bad_is_hopeless, no_token_at_on, place_on}
-use Rattle.hoa_parser.proofs.standing.StandingAnswers.{Starts, begun_before, begun_with, first_so, nothing_begun, said_then}
-use Rattle.hoa_parser.proofs.standing.StandingTokens.{stand_before}
+use Rattle.hoa_parser.proofs.standing.OpenEnds.{open_end_asks}
+use Rattle.hoa_parser.proofs.standing.Settled.{bad_is_hopeless, place_on}
+use Rattle.hoa_parser.proofs.standing.StandingAnswers.{Opened, Starts, before, begun_with, nothing_begun, said_then}
 use Rattle.hoa_parser.specs.inner.Expecting as part
-use Rattle.hoa_parser.specs.inner.Expecting.{move}
+use Rattle.hoa_parser.specs.inner.Expecting.{Part, move}
 use Rattle.hoa_parser.specs.inner.Faults.{read_fault}
-use Rattle.hoa_parser.specs.inner.Parsing.{Fails, Passed, Cursor, Reads, Refuses, State, place}
-use Rattle.hoa_parser.specs.inner.RuleReads.{IsAutomaton}
-use Rattle.hoa_parser.specs.Reads.{IsHopeless, Shows}
-use Rattle.hoa_parser.specs.Standing.{IsBad, IsBegun, IsDead, IsMisplaced, IsNoTokenAt}
+use Rattle.hoa_parser.specs.inner.Parsing.{Abandons, Cursor, Fails, FailsAt, Goes, Passed, Refuses, State, Unread, place}
+use Rattle.hoa_parser.specs.Reads.{AskedForLast, IsHopeless, Shows}
+use Rattle.hoa_parser.specs.Standing.{EndsOpen, IsBad, IsBegun, IsDead, IsMisplaced, IsNoTokenAt}
 use Rattle.hoa_parser.specs.declared.fault.ReadFault.{ReadFault}
 use Rattle.hoa_parser.specs.declared.fault.ReadFault.TheVariants as fault
+use Rattle.hoa_parser.specs.declared.read.Front.{Front}
+use Rattle.hoa_parser.specs.declared.read.Front.TheVariants as front
 use Rattle.aut_base.proofs.Truth.{true_from_not}
 use Rattle.aut_base.proofs.Lists.{right_empty}
 
@@ -48,10 +51,6 @@ holds_closed (Some b) z e n = cc
 closed_so : (held : Option ℕ) (z : Token) → (held ≡ None → closes_itself z ≡ true) → held_bytes held ≡ [] → closes_itself z ≡ true
 closed_so None z c e = c refl
 closed_so (Some b) z c e = cc
-
-passed_closed : (a b : Cursor) (ts : List Token) → Passed a ts b → (a.held ≡ None → closes_itself a.token ≡ true) → b.held ≡ None → closes_itself b.token ≡ true
-passed_closed a b [] p c = subst (λ (x : Cursor). x.held ≡ None → closes_itself x.token ≡ true) p c
-passed_closed a b (t ∷ ts) p c = passed_closed p.0 b ts p.3 (holds_closed p.0.held p.0.token p.2.holds)
 
 -- what a token and the byte that closes it show without the bytes behind them
 
@@ -152,71 +151,136 @@ misplaced_at k start text left tokens used rest after z held begun next ends clo
 
 -- no token
 
-no_token_at : (k start : ℕ) (text left : List ℕ) (tokens : List Token) (used : ℕ) (rest new : List ℕ) (held : Option ℕ) → IsBegun start text tokens used rest → IsShownBy k used rest new → new ≡ unread held left → IsHopeless k start text left
-no_token_at k start text left tokens used rest new held begun by ends =
-    let last = held_bytes held in
-    let taken = by.used ++ last in
-    let split : rest ≡ taken ++ left = by.split ∙ ap (λ w. by.used ++ w) (ends ∙ unread_is held left) ∙ sym (append_assoc by.used last left) in
-    let at : IsNoTokenAt k used taken = no_token_at_on k used by.used last by.shows in
-    hopeless_so k start text left tokens used taken (subst (λ (w : List ℕ). IsBegun start text tokens used w) split begun)
+no_token_at : (k start : ℕ) (text left : List ℕ) (tokens : List Token) (used : ℕ) (rest : List ℕ) → IsBegun start text tokens used rest → IsShownBy k used rest left → IsHopeless k start text left
+no_token_at k start text left tokens used rest begun by =
+    let at : IsNoTokenAt k used by.used = by.shows in
+    hopeless_so k start text left tokens used by.used (subst (λ (w : List ℕ). IsBegun start text tokens used w) by.split begun)
     (λ e. at.holds.1.some (right_empty at.before at.bytes (sym at.split ∙ e)))
     (inr at)
 
-misplaced_shown : (k start : ℕ) (text left : List ℕ) (a b last : Cursor) → Starts start text a → a.token ≡ opening → Refuses (part.Whole ∷ []) a b → k ≡ b.offset → b.token ≢ token.Abort → b ≡ last → last.rest ≡ unread last.held left → IsHopeless k start text left
-misplaced_shown k start text left a b last starts is r at other same ends =
+-- the last byte was asked for
+
+asked_last : (start : ℕ) (text left : List ℕ) (tokens : List Token) (used : ℕ) (rest : List ℕ) → IsBegun start text tokens used rest → AskedForOne rest left → AskedForLast start text left
+asked_last start text left tokens used rest begun one = record {
+  byte = one.byte;
+  asked = record { tokens = tokens; used = used; rest = rest; begun = begun; asks = record { at_hand = one.at_hand; split = one.split; asks = one.asks } };
+}
+
+passed_holds : (a b : Cursor) (ts : List Token) → Passed a ts b → is_some a.held ≡ not (closes_itself a.token) → is_some b.held ≡ not (closes_itself b.token)
+passed_holds a b [] p h = subst (λ (x : Cursor). is_some x.held ≡ not (closes_itself x.token)) p h
+passed_holds a b (t ∷ ts) p h = passed_holds p.0 b ts p.3 p.2.holds
+
+-- for the token at hand
+asked_for_token : LastIsAskedFor → (start : ℕ) (text left : List ℕ) (a last : Cursor) (target : List Part) → Starts start text a → Goes (part.Whole ∷ []) a target last → last.rest ≡ unread last.held left → AskedForLast start text left
+asked_for_token law start text left a last target starts g ends =
+    let s = before start text a last target g starts in
+    asked_last start text left g.tokens s.used s.rest s.begun
+    (law s.rest s.used last.offset last.token last.held left (subst (λ (w : List ℕ). IsNext s.rest s.used last.token last.offset w) ends s.next) (passed_holds a last g.tokens g.passed starts.holds))
+
+misplaced_shown : (k start : ℕ) (text left : List ℕ) (a b : Cursor) → Starts start text a → Refuses (part.Whole ∷ []) a b → k ≡ b.offset → b.token ≢ token.Abort → b.rest ≡ unread b.held left → IsHopeless k start text left
+misplaced_shown k start text left a b starts r at other ends =
     let g = r.goes in
-    let s = stand_before start text a b g.tokens starts.next starts.used g.passed in
-    misplaced_at k start text left g.tokens s.used s.rest b.rest b.token b.held (begun_before start text a b r.target g s)
+    let s = before start text a b r.target g starts in
+    misplaced_at k start text left g.tokens s.used s.rest b.rest b.token b.held s.begun
     (subst (λ (n : ℕ). IsNext s.rest s.used b.token n b.rest) (sym at) s.next)
-    (subst (λ (x : Cursor). x.rest ≡ unread x.held left) (sym same) ends)
-    (passed_closed a b g.tokens g.passed (λ e. ap closes_itself is))
+    ends
+    (holds_closed b.held b.token (passed_holds a b g.tokens g.passed starts.holds))
     (dead g.tokens (g.left ++ []) b.token (g.leads.runs []) (λ most. g.over most [] ∙ r.refused most []))
     (λ some. other)
 
+nothing_held : (held : Option ℕ) (left : List ℕ) → held ≡ None → unread held left ≡ left
+nothing_held held left none = ap (λ (h : Option ℕ). unread h left) none
+
+-- why the lexer gave no other token
+shows_unread : (f : ReadFault) (start : ℕ) (text left : List ℕ) (a last : Cursor) → Starts start text a → Unread f (part.Whole ∷ []) a last → last.rest ≡ left → Shows (Err f) start text left
+shows_unread (fault.Syntax k) start text left a last starts u ends =
+    let begun = begun_with _ start text a last u starts in (
+      no_token_at k start text left _ u.b.used u.b.rest begun (subst (λ (w : List ℕ). IsShownBy k u.b.used u.b.rest w) ends u.bytes.2),
+      asked_last start text left _ u.b.used u.b.rest begun (subst (λ (w : List ℕ). AskedForOne u.b.rest w) ends u.bytes.1),
+    )
+shows_unread fault.Truncated start text left a last starts u ends =
+    let none : left ≡ [] = sym ends ∙ u.bytes.1 in (
+      none,
+      record {
+        tokens = u.goes.tokens ++ u.b.token ∷ [];
+        used = u.b.used;
+        rest = u.b.rest;
+        begun = begun_with _ start text a last u starts;
+        asks = record { at_hand = u.b.rest; split = sym (append-nil u.b.rest) ∙ ap (λ (w : List ℕ). u.b.rest ++ w) (sym none); asks = open_end_asks u.b.rest u.bytes.0 };
+      },
+    )
+shows_unread fault.Depth start text left a last starts u ends = absurd u.bytes
+shows_unread fault.Bytes start text left a last starts u ends = tt
+shows_unread fault.Read start text left a last starts u ends = tt
+shows_unread fault.Memory start text left a last starts u ends = tt
+
 -- why no automaton was read
-shows_fault : (f : ReadFault) (start : ℕ) (text left : List ℕ) (a last : Cursor) → Starts start text a → a.token ≡ opening → Fails f (part.Whole ∷ []) a last → last.rest ≡ unread last.held left → Shows f start text left
-shows_fault (fault.Syntax k) start text left a last starts is (inl h) ends = misplaced_shown k start text left a h.0 last starts is h.1 h.2 h.3 h.4 ends
-shows_fault (fault.Syntax k) start text left a last starts is (inr h) ends = no_token_at k start text left _ h.b.used h.b.rest last.rest last.held (begun_with start text a _ h starts) h.bytes.1 ends
-shows_fault fault.Truncated start text left a last starts is h ends = tt
-shows_fault fault.Aborted start text left a last starts is h ends = tt
-shows_fault fault.Depth start text left a last starts is h ends = tt
-shows_fault fault.Bytes start text left a last starts is h ends = tt
-shows_fault fault.Read start text left a last starts is h ends = tt
-shows_fault fault.Memory start text left a last starts is h ends = tt
+pub shows_fault : LastIsAskedFor → (f : ReadFault) (start : ℕ) (text left : List ℕ) (a last : Cursor) → (Abandons f last.token → ⊥) → Starts start text a → Fails f (part.Whole ∷ []) a last → last.rest ≡ unread last.held left → Shows (Err f) start text left
+shows_fault law f start text left a last other starts (inr u) ends = shows_unread f start text left a last starts u (ends ∙ nothing_held last.held left u.held)
+shows_fault law (fault.Syntax k) start text left a last other starts (inl h) ends = (misplaced_shown k start text left a last starts h.0 h.1 other ends, asked_for_token law start text left a last h.0.target starts h.0.goes ends)
+shows_fault law fault.Depth start text left a last other starts (inl h) ends = asked_for_token law start text left a last h.target starts h.goes ends
+shows_fault law fault.Truncated start text left a last other starts (inl h) ends = absurd h
+shows_fault law fault.Bytes start text left a last other starts (inl h) ends = tt
+shows_fault law fault.Read start text left a last other starts (inl h) ends = tt
+shows_fault law fault.Memory start text left a last other starts (inl h) ends = tt
+
+-- the automaton was abandoned
+pub shows_aborted : LastIsAskedFor → (f : ReadFault) (start : ℕ) (text left : List ℕ) (a last : Cursor) → Abandons f last.token → Starts start text a → Fails f (part.Whole ∷ []) a last → last.rest ≡ unread last.held left → AskedForLast start text left
+shows_aborted law (fault.Syntax k) start text left a last abort starts (inl h) ends = asked_for_token law start text left a last h.0.target starts h.0.goes ends
+shows_aborted law (fault.Syntax k) start text left a last abort starts (inr u) ends = absurd (u.no_abort abort)
+shows_aborted law fault.Truncated start text left a last never starts h ends = absurd never
+shows_aborted law fault.Depth start text left a last never starts h ends = absurd never
+shows_aborted law fault.Bytes start text left a last never starts h ends = absurd never
+shows_aborted law fault.Read start text left a last never starts h ends = absurd never
+shows_aborted law fault.Memory start text left a last never starts h ends = absurd never
+
+shows_open : (start : ℕ) (old left : List ℕ) → IsBlanks old ⊎ EndsOpen old → left ≡ [] → Shows (Err fault.Truncated) start old left
+shows_open start old left ends none = (
+  none,
+  record { tokens = []; used = start; rest = old; begun = nothing_begun start old; asks = record { at_hand = old; split = sym (append-nil old) ∙ ap (λ (w : List ℕ). old ++ w) (sym none); asks = open_end_asks old ends } },
+)
 
 -- no token was there
-shows_lexing : (f : LexFault) (start offset : ℕ) (old left : List ℕ) (held : Option ℕ) → lexing.Answers (Err f) start offset old (unread held left) → Shows (read_fault f) start old left
-shows_lexing (lex.BadToken k) start offset old left held h = no_token_at k start old left [] start old (unread held left) held (nothing_begun start old) h.2 refl
-shows_lexing lex.OpenComment start offset old left held h = tt
-shows_lexing lex.OpenString start offset old left held h = tt
-shows_lexing lex.OpenToken start offset old left held h = tt
-shows_lexing lex.Read start offset old left held h = tt
-shows_lexing lex.Bytes start offset old left held h = tt
-shows_lexing lex.Memory start offset old left held h = tt
+pub shows_lexing : (f : LexFault) (start offset : ℕ) (old left : List ℕ) → lexing.Answers (Err f) start offset old left → Shows (Err (read_fault f)) start old left
+shows_lexing (lex.BadToken k) start offset old left h = (no_token_at k start old left [] start old (nothing_begun start old) h.2, asked_last start old left [] start old (nothing_begun start old) h.1)
+shows_lexing lex.OpenComment start offset old left h = shows_open start old left (inr (inl h.0)) h.1
+shows_lexing lex.OpenString start offset old left h = shows_open start old left (inr (inr (inl h.0))) h.1
+shows_lexing lex.OpenToken start offset old left h = shows_open start old left (inr (inr (inr h.0))) h.1
+shows_lexing lex.Read start offset old left h = tt
+shows_lexing lex.Bytes start offset old left h = tt
+shows_lexing lex.Memory start offset old left h = tt
 
-pub raw_fault_shows : (f : ReadFault) (t : Option Token) (lexer : Lexer) (left : Option (List ℕ)) (s s' : State) → s.ahead ≡ opening
-    → t ≡ Some s.ahead → Between left s.left (λ x y. lexing.Answers (Ok t) (lexer.since - held_count lexer.held) s.lexer.offset (unread lexer.held x) (unread s.lexer.held y))
-    → Between left s.left (λ x y. s.lexer.taken + length y ≡ lexer.taken + length x)
-    → s.lexer.since + lexer.taken ≡ lexer.since + s.lexer.taken → lexer.taken ≤ s.lexer.taken → Reads (part.Whole ∷ []) (part.States ∷ []) IsAutomaton (Err f) s s'
-    → Between left s'.left (λ x z. Shows f (lexer.since - held_count lexer.held) (unread lexer.held x) z)
-raw_fault_shows f t lexer left s s' opens some next took since later read =
-    said_then t lexer left s s' (Err f) IsAutomaton _ some next took since later read (λ x y z starts says. shows_fault f _ _ z (place s y) (place s' z) starts opens says refl)
+-- it was another than `HOA:`
+pub shows_other : LastIsAskedFor → (start k : ℕ) (text left : List ℕ) (z : Token) (held : Option ℕ) → IsNext text start z k (unread held left) → is_some held ≡ not (closes_itself z) → move part.Whole z ≡ part.Refuses → Shows (Err (fault.Syntax k)) start text left
+shows_other law start k text left z held next holds other = (
+  misplaced_at k start text left [] start text (unread held left) z held (nothing_begun start text) next refl (holds_closed held z holds) (dead [] (part.Whole ∷ []) z refl (λ most. behind_refuses most part.Whole [] z other)) (λ some. absurd (some refl)),
+  asked_last start text left [] start text (nothing_begun start text) (law text start k z held left next holds),
+)
+
+-- what is left in the inputs before and after an answer
+abbrev pub Left : Lexer → Seen → Seen → (ℕ → List ℕ → List ℕ → Type 0) → Type 0
+Left lexer seen seen' R = Tells seen seen' (λ x y. R (lexer.since - held_count lexer.held) (unread lexer.held x) y)
+
+pub raw_aborted_shows : LastIsAskedFor → (f : ReadFault) (lexer : Lexer) (seen : Seen) (s s' : State) → Opened lexer seen s → Abandons f s'.ahead → FailsAt f (part.Whole ∷ []) s s' → Left lexer seen s'.seen (Shows (Ok front.Aborted))
+raw_aborted_shows law f lexer seen s s' opened abandons read =
+    said_then lexer seen s s' (Fails f (part.Whole ∷ [])) _ opened read.text
+    (λ x y z starts says. shows_aborted law f _ _ z (place s y) (place s' z) abandons starts says refl)
+
+pub raw_fault_shows : LastIsAskedFor → (f : ReadFault) (lexer : Lexer) (seen : Seen) (s s' : State) → Opened lexer seen s → (Abandons f s'.ahead → ⊥) → FailsAt f (part.Whole ∷ []) s s' → Left lexer seen s'.seen (Shows (Err f))
+raw_fault_shows law f lexer seen s s' opened other read =
+    said_then lexer seen s s' (Fails f (part.Whole ∷ [])) _ opened read.text
+    (λ x y z starts says. shows_fault law f _ _ z (place s y) (place s' z) other starts says refl)
 
 -- the lexer gave no token
-pub raw_unlexed_shows : (f : LexFault) (g : ReadFault) (start offset : ℕ) (left left' : Option (List ℕ)) (held held' : Option ℕ) → g ≡ read_fault f
-    → Between left left' (λ x y. lexing.Answers (Err f) start offset (unread held x) (unread held' y)) → Between left left' (λ x y. Shows g start (unread held x) y)
-raw_unlexed_shows f g start offset left left' held held' same said =
-    between_as left left' _ _ (λ x y h. subst (λ (e : ReadFault). Shows e start (unread held x) y) (sym same) (shows_lexing f start offset (unread held x) y held' h)) said
+pub raw_unlexed_shows : (f : LexFault) (result : Result Front ReadFault) (lexer lexer' : Lexer) (offset : ℕ) (seen seen' : Seen) → (e : ReadFault) × (result ≡ Err e) × (e ≡ read_fault f) → lexer'.held ≡ None
+    → Tells seen seen' (λ x y. lexing.Answers (Err f) (lexer.since - held_count lexer.held) offset (unread lexer.held x) (unread lexer'.held y)) → Left lexer seen seen' (Shows result)
+raw_unlexed_shows f result lexer lexer' offset seen seen' same none said =
+    between_as seen.left seen'.left _ _
+    (λ x y h. subst (λ (r : Result Front ReadFault). Shows r (lexer.since - held_count lexer.held) (unread lexer.held x) y) (sym (same.1 ∙ ap Err same.2))
+    (shows_lexing f _ offset (unread lexer.held x) y (subst (λ (w : List ℕ). lexing.Answers (Err f) (lexer.since - held_count lexer.held) offset (unread lexer.held x) w) (nothing_held lexer'.held y none) h))) said
 
 -- it gave another token than `HOA:`
-pub raw_other_shows : (t : Option Token) (z : Token) (k offset start : ℕ) (left left' : Option (List ℕ)) (held held' : Option ℕ) → k ≡ offset → move part.Whole z ≡ part.Refuses
-    → t ≡ Some z → lexing.Holds (Ok t) held' → Between left left' (λ x y. lexing.Answers (Ok t) start offset (unread held x) (unread held' y)) → Between left left' (λ x y. Shows (fault.Syntax k) start (unread held x) y)
-raw_other_shows t z k offset start left left' held held' same other some holds said =
-    let closed = holds_closed held' z (subst (λ (o : Option Token). lexing.Holds (Ok o) held') some holds) in
-    between_as left left' _ _
-    (λ x y h.
-    misplaced_at k start (unread held x) y [] start (unread held x) (unread held' y) z held' (nothing_begun start (unread held x))
-    (subst (λ (n : ℕ). IsNext (unread held x) start z n (unread held' y)) (sym same) (first_so t z _ _ _ _ some h)) refl closed
-    (dead [] (part.Whole ∷ []) z refl (λ most. behind_refuses most part.Whole [] z other))
-    (λ some. absurd (some refl)))
-    said
+pub raw_other_shows : LastIsAskedFor → (k : ℕ) (lexer : Lexer) (seen : Seen) (s : State) → Opened lexer seen s → k ≡ s.lexer.offset → move part.Whole s.ahead ≡ part.Refuses → Left lexer seen s.seen (Shows (Err (fault.Syntax k)))
+raw_other_shows law k lexer seen s opened same other =
+    between_as seen.left s.seen.left _ _
+    (λ x y h. shows_other law _ k (unread lexer.held x) y s.ahead s.lexer.held (subst (λ (n : ℕ). IsNext (unread lexer.held x) (lexer.since - held_count lexer.held) s.ahead n (unread s.lexer.held y)) (sym same) h) opened.holds other) opened.next

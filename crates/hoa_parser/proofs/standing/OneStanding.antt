@@ -10,7 +10,7 @@ use Rattle.hoa_parser.specs.Grammar.{IsViable, Spells}
 use Rattle.hoa_parser.specs.Raw.{Written}
 use Rattle.hoa_parser.specs.Standing.{EndsOpen, IsMisplaced, IsNoTokenAt, OneStanding, Standing, most_depth}
 use Rattle.hoa_parser.specs.Standing.Standing.{Blank, Whole, Deep, Bad, Aborted, Cut}
-use Rattle.hoa_parser.proofs.standing.Halts.{HasNext, Halts, shown, halts_here, halts_viable, misplaced_next, next_no_blanks, next_not_stuck, no_token_at, no_token_at_stuck, one_next, reading}
+use Rattle.hoa_parser.proofs.standing.Halts.{abandons, HasNext, Halts, shown, halts_here, halts_viable, misplaced_next, next_no_blanks, next_not_stuck, no_token_at, no_token_at_stuck, one_next, reading}
 use Rattle.hoa_parser.proofs.grammar.NoAbort.{no_abort_inside}
 use Rattle.hoa_parser.proofs.grammar.OneRaw.{one_raw}
 use Rattle.hoa_parser.proofs.standing.Readings.{IsFurther, compared, place}
@@ -62,9 +62,9 @@ blank_cut tokens used rest f g = elim g.1 [ inl b ↦ b.0 f.0 | inr o ↦ stuck_
 fault_cut : (k : ℕ) (tokens : List Token) (used : ℕ) (rest : List ℕ) → Halts (Bad k) tokens used rest → Halts Cut tokens used rest → ⊥
 fault_cut k tokens used rest f g = elim g.1 [ inl b ↦ fault_no_blanks k tokens used rest f.1 b.1 | inr o ↦ fault_not_open k tokens used rest f.1 o ]
 
-deep_aborted : (tokens : List Token) (used : ℕ) (rest : List ℕ) → Halts Deep tokens used rest → Halts Aborted tokens used rest → ⊥
-deep_aborted tokens used rest f g =
-    no_abort_inside f.1.most tokens [] (subst (λ (u : Token). IsViable f.1.most (tokens ++ u ∷ [])) (one_next used rest f.1.token token.Abort f.1.next g.2) f.1.viable)
+deep_aborted : (tokens : List Token) (used : ℕ) (rest : List ℕ) → Halts Deep tokens used rest → HasNext used rest token.Abort → ⊥
+deep_aborted tokens used rest f n =
+    no_abort_inside f.1.most tokens [] (subst (λ (u : Token). IsViable f.1.most (tokens ++ u ∷ [])) (one_next used rest f.1.token token.Abort f.1.next n) f.1.viable)
 
 -- what halts at one place is one thing
 one_halt : (a b : Standing) (tokens : List Token) (used : ℕ) (rest : List ℕ) → Halts a tokens used rest → Halts b tokens used rest → a ≡ b
@@ -72,7 +72,7 @@ one_halt Blank Blank tokens used rest f g = refl
 one_halt Blank (Whole w r) tokens used rest f g = absurd (spells_some most_depth tokens w f.0 g.0)
 one_halt Blank Deep tokens used rest f g = absurd (next_no_blanks used rest g.1.token g.1.next f.1)
 one_halt Blank (Bad k) tokens used rest f g = absurd (fault_no_blanks k tokens used rest g.1 f.1)
-one_halt Blank Aborted tokens used rest f g = absurd (g.1 f.0)
+one_halt Blank (Aborted r') tokens used rest f g = absurd (g.1 f.0)
 one_halt Blank Cut tokens used rest f g = absurd (blank_cut tokens used rest f g)
 one_halt (Whole w r) Blank tokens used rest f g = absurd (spells_some most_depth tokens w g.0 f.0)
 one_halt (Whole w r) (Whole v s) tokens used rest f g =
@@ -81,31 +81,31 @@ one_halt (Whole w r) (Whole v s) tokens used rest f g =
     cc
 one_halt (Whole w r) Deep tokens used rest f g = absurd (g.0.unfinished most_depth w f.0)
 one_halt (Whole w r) (Bad k) tokens used rest f g = absurd (g.0.unfinished most_depth w f.0)
-one_halt (Whole w r) Aborted tokens used rest f g = absurd (g.0.unfinished most_depth w f.0)
+one_halt (Whole w r) (Aborted r') tokens used rest f g = absurd (g.0.unfinished most_depth w f.0)
 one_halt (Whole w r) Cut tokens used rest f g = absurd (g.0.unfinished most_depth w f.0)
 one_halt Deep Blank tokens used rest f g = absurd (next_no_blanks used rest f.1.token f.1.next g.1)
 one_halt Deep (Whole w r) tokens used rest f g = absurd (f.0.unfinished most_depth w g.0)
 one_halt Deep Deep tokens used rest f g = refl
 one_halt Deep (Bad k) tokens used rest f g = absurd (fault_next k tokens used rest f.1.token g.1 f.1.next f.1.most f.1.viable)
-one_halt Deep Aborted tokens used rest f g = absurd (deep_aborted tokens used rest f g)
+one_halt Deep (Aborted r') tokens used rest f g = absurd (deep_aborted tokens used rest f (abandons tokens used rest r' g))
 one_halt Deep Cut tokens used rest f g = absurd (next_not_cut used rest f.1.token (tokens ≢ []) f.1.next g.1)
 one_halt (Bad k) Blank tokens used rest f g = absurd (fault_no_blanks k tokens used rest f.1 g.1)
 one_halt (Bad k) (Whole w r) tokens used rest f g = absurd (f.0.unfinished most_depth w g.0)
 one_halt (Bad k) Deep tokens used rest f g = absurd (fault_next k tokens used rest g.1.token f.1 g.1.next g.1.most g.1.viable)
 one_halt (Bad j) (Bad k) tokens used rest f g = ap Bad (one_fault j k tokens used rest f.1 g.1)
-one_halt (Bad k) Aborted tokens used rest f g = absurd (fault_abort k tokens used rest f.1 g.1 g.2)
+one_halt (Bad k) (Aborted r') tokens used rest f g = absurd (fault_abort k tokens used rest f.1 g.1 (abandons tokens used rest r' g))
 one_halt (Bad k) Cut tokens used rest f g = absurd (fault_cut k tokens used rest f g)
-one_halt Aborted Blank tokens used rest f g = absurd (f.1 g.0)
-one_halt Aborted (Whole w r) tokens used rest f g = absurd (f.0.unfinished most_depth w g.0)
-one_halt Aborted Deep tokens used rest f g = absurd (deep_aborted tokens used rest g f)
-one_halt Aborted (Bad k) tokens used rest f g = absurd (fault_abort k tokens used rest g.1 f.1 f.2)
-one_halt Aborted Aborted tokens used rest f g = refl
-one_halt Aborted Cut tokens used rest f g = absurd (next_not_cut used rest token.Abort (tokens ≢ []) f.2 g.1)
+one_halt (Aborted r) Blank tokens used rest f g = absurd (f.1 g.0)
+one_halt (Aborted r') (Whole w r) tokens used rest f g = absurd (f.0.unfinished most_depth w g.0)
+one_halt (Aborted r) Deep tokens used rest f g = absurd (deep_aborted tokens used rest g (abandons tokens used rest r f))
+one_halt (Aborted r) (Bad k) tokens used rest f g = absurd (fault_abort k tokens used rest g.1 f.1 (abandons tokens used rest r f))
+one_halt (Aborted r) (Aborted r') tokens used rest f g = ap Aborted (one_next_token rest used token.Abort token.Abort f.2 g.2 r r' f.3 g.3).2
+one_halt (Aborted r) Cut tokens used rest f g = absurd (next_not_cut used rest token.Abort (tokens ≢ []) (abandons tokens used rest r f) g.1)
 one_halt Cut Blank tokens used rest f g = absurd (blank_cut tokens used rest g f)
 one_halt Cut (Whole w r) tokens used rest f g = absurd (f.0.unfinished most_depth w g.0)
 one_halt Cut Deep tokens used rest f g = absurd (next_not_cut used rest g.1.token (tokens ≢ []) g.1.next f.1)
 one_halt Cut (Bad k) tokens used rest f g = absurd (fault_cut k tokens used rest g f)
-one_halt Cut Aborted tokens used rest f g = absurd (next_not_cut used rest token.Abort (tokens ≢ []) g.2 f.1)
+one_halt Cut (Aborted r') tokens used rest f g = absurd (next_not_cut used rest token.Abort (tokens ≢ []) (abandons tokens used rest r' g) f.1)
 one_halt Cut Cut tokens used rest f g = refl
 
 -- one that halts is not followed by another

@@ -21,7 +21,7 @@ next_shorter : (input : List ℕ) (start : ℕ) (t : Token) (i : ℕ) (rest : Li
 next_shorter input start t i rest f =
     omega (arith, simp length-append at (ap length f.split), simp length-append at (ap length f.front.split))
 
-lexes_shorter : (input : List ℕ) (start : ℕ) (ts : List (Token × ℕ)) (rest : List ℕ) → Lexes input start ts rest → length rest ≤ length input
+pub lexes_shorter : (input : List ℕ) (start : ℕ) (ts : List (Token × ℕ)) (rest : List ℕ) → Lexes input start ts rest → length rest ≤ length input
 lexes_shorter input start [] rest f = omega (arith, ap length f)
 lexes_shorter input start (t ∷ ts) rest f =
     omega (arith, next_shorter input start t.0 t.1 f.0 f.1, lexes_shorter f.0 (start + (length input - length f.0)) ts rest f.2)

@@ -142,16 +142,15 @@ bad_on start text more k h = record {
   ];
 }
 
-aborted_on : (start : ℕ) (text more : List ℕ) → IsAborted start text → IsAborted start (text ++ more)
-aborted_on start text more h = record {
+aborted_on : (start : ℕ) (text after more : List ℕ) → IsAborted start text after → IsAborted start (text ++ more) (after ++ more)
+aborted_on start text after more h = record {
   tokens = h.tokens;
   used = h.used;
   rest = h.rest ++ more;
   begun = begun_on start text h.tokens h.used h.rest more h.begun;
   some = h.some;
   offset = h.offset;
-  after = h.after ++ more;
-  next = next_on h.rest h.after more h.used h.offset _ h.next;
+  next = next_on h.rest after more h.used h.offset _ h.next;
 }
 
 pub settled_stays : SettledStays
@@ -159,7 +158,7 @@ settled_stays Blank start text more i h = absurd i
 settled_stays (Whole w rest) start text more i h = whole_on start text more w rest h
 settled_stays Deep start text more i h = deep_on start text more h
 settled_stays (Bad k) start text more i h = bad_on start text more k h
-settled_stays Aborted start text more i h = aborted_on start text more h
+settled_stays (Aborted after) start text more i h = aborted_on start text after more h
 settled_stays Cut start text more i h = absurd i
 
 pub bad_is_hopeless : BadIsHopeless

@@ -1,34 +1,38 @@
 -- What the reading of an automaton says of what stands next in the text.
-use Rattle.std.proofs.Common.{◌≡◌, ◌≢◌, ℕ, ◌+◌, ◌-◌, ◌≤◌, true, false, List, [], ◌∷◌, ◌++◌, length, Option, Some, None, Result, Ok, Err, refl, sym, ap, subst, ◌∙◌, inl, inr, arith}
+use Rattle.std.proofs.Common.{◌≡◌, ◌≢◌, ℕ, ◌+◌, ◌-◌, ◌≤◌, true, false, List, [], ◌∷◌, ◌++◌, length, Option, Some, None, is_some, not, Result, Ok, Err, refl, sym, ap, subst, ◌∙◌, inl, inr, arith}
 use Rattle.std.proofs.lemmas.List.{append_assoc}
 use Rattle.std.specs.Prelude.{◌⊎◌, flat_map}
+use Rattle.aut_io.specs.Seen.{Seen}
 use Rattle.hoa_lexer.specs.Blanks.{IsBlanks}
 use Rattle.hoa_lexer.proofs.next_token.Between.{between_as, between_both, between_then}
+use Rattle.hoa_lexer.specs.Moves.{Elsewhere, Moves, stop_of_next}
 use Rattle.hoa_lexer.specs.Reading as lexing
-use Rattle.hoa_lexer.specs.Reading.{Between, held_count, unread}
-use Rattle.hoa_lexer.specs.Text.{IsNext, IsShownBy}
+use Rattle.hoa_lexer.specs.Reading.{Tells, held_count, unread}
+use Rattle.hoa_lexer.specs.Spelling.{closes_itself}
+use Rattle.hoa_lexer.specs.Text.{IsNext}
 use Rattle.hoa_lexer.specs.declared.lexer.Lexer.{Lexer}
 use Rattle.hoa_lexer.specs.declared.token.LexFault.{LexFault}
 use Rattle.hoa_lexer.specs.declared.token.LexFault.TheVariants as lex
 use Rattle.hoa_lexer.specs.declared.token.Token.{Token}
 use Rattle.hoa_lexer.specs.declared.token.Token.TheVariants as token
-use Rattle.hoa_parser.proofs.reading.LexerFaults.{between_tells}
 use Rattle.hoa_parser.proofs.reading.Automata.{opening}
 use Rattle.hoa_parser.proofs.standing.DeadEnds.{after_next, behind_refuses, dead, deep, nothing_unfinished, nothing_viable}
 use Rattle.hoa_parser.proofs.reading.FrontParts.{unended_then}
-use Rattle.hoa_parser.proofs.standing.StandingTokens.{StandBefore, next_shorter, stand_before, stand_with}
+use Rattle.hoa_parser.proofs.standing.StandingTokens.{next_shorter, stand_before, stand_with}
 use Rattle.hoa_parser.proofs.grammar.Viability.{viable}
 use Rattle.hoa_parser.specs.inner.Expecting as part
 use Rattle.hoa_parser.specs.inner.Expecting.{Part, after, behind, move}
 use Rattle.hoa_parser.specs.inner.Faults.{read_fault}
 use Rattle.hoa_parser.specs.Grammar.{AutomatonPhrase, automaton_tokens, item_tokens, state_tokens}
-use Rattle.hoa_parser.specs.inner.Parsing.{AsksPast, Fails, Goes, Passed, Cursor, Reads, Refuses, Says, State, TooDeep, Unended, Unread, place}
+use Rattle.hoa_parser.specs.inner.Parsing.{Abandons, Cursor, Fails, FailsAt, Goes, Passed, Places, ReadsTo, Refuses, Relation, State, TooDeep, Unended, Unread, place}
 use Rattle.hoa_parser.specs.inner.RuleReads.{IsAutomaton, open_tokens}
 use Rattle.hoa_parser.specs.Raw.{written}
-use Rattle.hoa_parser.specs.Reads.{Answers, AsksOn}
-use Rattle.hoa_parser.specs.Standing.{EndsOpen, IsAborted, IsBad, IsBegun, IsCut, IsDeep, IsNoTokenAt, IsWhole, SpellsNothing, most_depth}
+use Rattle.hoa_parser.specs.Reads.{Answers}
+use Rattle.hoa_parser.specs.Standing.{EndsOpen, IsAborted, IsBad, IsBegun, IsDeep, IsWhole, SpellsNothing, most_depth}
 use Rattle.hoa_parser.specs.declared.fault.ReadFault.{ReadFault}
 use Rattle.hoa_parser.specs.declared.fault.ReadFault.TheVariants as fault
+use Rattle.hoa_parser.specs.declared.read.Front.{Front}
+use Rattle.hoa_parser.specs.declared.read.Front.TheVariants as front
 use Rattle.hoa_parser.specs.declared.raw.Raw.{Raw}
 
 -- every automaton ends with `--END--`
@@ -42,29 +46,43 @@ ended_tokens p = ap (λ (ts : List Token). opening ∷ token.Identifier p.versio
 spells_nothing : (ts : List Token) → Unended ts → SpellsNothing ts
 spells_nothing ts unended most w s = never_ended (open_tokens s.phrase) (subst Unended (s.spelled ∙ sym (ended_tokens s.phrase)) unended)
 
--- The first token of the text is that of `a`.
+-- The first token of the text is that of `a`, and a byte past it is held exactly where it was needed.
 pub record Starts (start : ℕ) (text : List ℕ) (a : Cursor) : Type 0 where
   pub next : IsNext text start a.token a.offset a.rest
   pub used : a.used ≡ start + (length text - length a.rest)
+  pub holds : is_some a.held ≡ not (closes_itself a.token)
 
 -- before any token
 pub nothing_begun : (start : ℕ) (text : List ℕ) → IsBegun start text [] start text
 nothing_begun start text = record { placed = []; shown = refl; lexes = refl; used_is = omega arith; viable = nothing_viable; unfinished = nothing_unfinished }
 
 -- before the token of `b`
-pub begun_before : (start : ℕ) (text : List ℕ) (a b : Cursor) (target : List Part) (g : Goes (part.Whole ∷ []) a target b) (s : StandBefore start text g.tokens b) → IsBegun start text g.tokens s.used s.rest
-begun_before start text a b target g s = record {
-  placed = s.placed;
-  shown = s.shown;
-  lexes = s.lexes;
-  used_is = s.used_is;
-  viable = viable most_depth g.tokens (g.left ++ []) (g.leads.runs []);
-  unfinished = spells_nothing g.tokens g.unended;
-}
+pub record Before (start : ℕ) (text : List ℕ) (tokens : List Token) (b : Cursor) : Type 0 where
+  pub used : ℕ
+  pub rest : List ℕ
+  pub begun : IsBegun start text tokens used rest
+  pub next : IsNext rest used b.token b.offset b.rest
+
+pub before : (start : ℕ) (text : List ℕ) (a b : Cursor) (target : List Part) (g : Goes (part.Whole ∷ []) a target b) → Starts start text a → Before start text g.tokens b
+before start text a b target g starts =
+    let s = stand_before start text a b g.tokens starts.next starts.used g.passed in
+    record {
+      used = s.used;
+      rest = s.rest;
+      begun = record {
+        placed = s.placed;
+        shown = s.shown;
+        lexes = s.lexes;
+        used_is = s.used_is;
+        viable = viable most_depth g.tokens (g.left ++ []) (g.leads.runs []);
+        unfinished = spells_nothing g.tokens g.unended;
+      };
+      next = s.next;
+    }
 
 -- behind it
-pub begun_with : (start : ℕ) (text : List ℕ) (a : Cursor) (P : ℕ → List ℕ → Type 0) (u : Unread (part.Whole ∷ []) a P) → Starts start text a → IsBegun start text (u.goes.tokens ++ u.b.token ∷ []) u.b.used u.b.rest
-begun_with start text a P u starts =
+pub begun_with : (f : ReadFault) (start : ℕ) (text : List ℕ) (a last : Cursor) (u : Unread f (part.Whole ∷ []) a last) → Starts start text a → IsBegun start text (u.goes.tokens ++ u.b.token ∷ []) u.b.used u.b.rest
+begun_with f start text a last u starts =
     let g = u.goes in
     let s = stand_with start text a u.b g.tokens starts.next starts.used g.passed in
     record {
@@ -90,12 +108,12 @@ some_before a b (t ∷ ts) passed is abort e = cc
 misplaced : (start : ℕ) (text : List ℕ) (a b : Cursor) (k : ℕ) → Starts start text a → Refuses (part.Whole ∷ []) a b → k ≡ b.offset → b.token ≢ token.Abort → IsBad start text k
 misplaced start text a b k starts r at other =
     let g = r.goes in
-    let s = stand_before start text a b g.tokens starts.next starts.used g.passed in
+    let s = before start text a b r.target g starts in
     record {
       tokens = g.tokens;
       used = s.used;
       rest = s.rest;
-      begun = begun_before start text a b r.target g s;
+      begun = s.begun;
       fault = inl (record {
         next_token = b.token;
         after = b.rest;
@@ -105,37 +123,33 @@ misplaced start text a b k starts r at other =
       });
     }
 
-no_token : (start : ℕ) (text : List ℕ) (a : Cursor) (k : ℕ) (new : List ℕ) → Starts start text a → Unread (part.Whole ∷ []) a (λ used rest. IsNoTokenAt k used rest × IsShownBy k used rest new) → IsBad start text k
-no_token start text a k new starts u = record { tokens = u.goes.tokens ++ u.b.token ∷ []; used = u.b.used; rest = u.b.rest; begun = begun_with start text a _ u starts; fault = inr u.bytes.0 }
-
-aborted : (start : ℕ) (text : List ℕ) (a b : Cursor) → Starts start text a → a.token ≡ opening → Refuses (part.Whole ∷ []) a b → b.token ≡ token.Abort → IsAborted start text
+aborted : (start : ℕ) (text : List ℕ) (a b : Cursor) → Starts start text a → a.token ≡ opening → Refuses (part.Whole ∷ []) a b → b.token ≡ token.Abort → IsAborted start text b.rest
 aborted start text a b starts is r abort =
     let g = r.goes in
-    let s = stand_before start text a b g.tokens starts.next starts.used g.passed in
+    let s = before start text a b r.target g starts in
     record {
       tokens = g.tokens;
       used = s.used;
       rest = s.rest;
-      begun = begun_before start text a b r.target g s;
+      begun = s.begun;
       some = some_before a b g.tokens g.passed is abort;
       offset = b.offset;
-      after = b.rest;
       next = subst (λ (z : Token). IsNext s.rest s.used z b.offset b.rest) abort s.next;
     }
 
-too_deep : (start : ℕ) (text : List ℕ) (a : Cursor) → Starts start text a → TooDeep (part.Whole ∷ []) a → IsDeep start text
-too_deep start text a starts d =
+too_deep : (start : ℕ) (text : List ℕ) (a b : Cursor) → Starts start text a → TooDeep (part.Whole ∷ []) a b → IsDeep start text
+too_deep start text a b starts d =
     let g = d.goes in
-    let s = stand_before start text a d.b g.tokens starts.next starts.used g.passed in
-    let both = deep d.most g.tokens (g.left ++ []) (d.left ++ []) d.b.token (g.leads.runs []) (g.over most_depth [] ∙ d.refused []) (g.over d.most [] ∙ d.taken []) d.more in
+    let s = before start text a b d.target g starts in
+    let both = deep d.most g.tokens (g.left ++ []) (d.left ++ []) b.token (g.leads.runs []) (g.over most_depth [] ∙ d.refused []) (g.over d.most [] ∙ d.taken []) d.more in
     record {
       tokens = g.tokens;
       used = s.used;
       rest = s.rest;
-      begun = begun_before start text a d.b d.target g s;
-      next_token = d.b.token;
-      offset = d.b.offset;
-      after = d.b.rest;
+      begun = s.begun;
+      next_token = b.token;
+      offset = b.offset;
+      after = b.rest;
       next = s.next;
       most = d.most;
       viable = both.0;
@@ -146,36 +160,43 @@ ends_so : (tokens : List Token) (rest : List ℕ) → tokens ≢ [] → IsBlanks
 ends_so tokens rest some (inl h) = inl (some, h)
 ends_so tokens rest some (inr h) = inr h
 
-cut : (start : ℕ) (text : List ℕ) (a : Cursor) → Starts start text a → Unread (part.Whole ∷ []) a (λ used rest. IsBlanks rest ⊎ EndsOpen rest) → IsCut start text
-cut start text a starts u = record {
+-- why the lexer gave no other token
+answers_unread : (f : ReadFault) (start : ℕ) (text : List ℕ) (a last : Cursor) → Starts start text a → Unread f (part.Whole ∷ []) a last → Answers (Err f) start text last.rest
+answers_unread (fault.Syntax k) start text a last starts u =
+    record { tokens = u.goes.tokens ++ u.b.token ∷ []; used = u.b.used; rest = u.b.rest; begun = begun_with _ start text a last u starts; fault = inr u.bytes.0 }
+answers_unread fault.Truncated start text a last starts u = record {
   tokens = u.goes.tokens ++ u.b.token ∷ [];
   used = u.b.used;
   rest = u.b.rest;
-  begun = begun_with start text a _ u starts;
-  ends = ends_so (u.goes.tokens ++ u.b.token ∷ []) u.b.rest (some_more u.goes.tokens u.b.token) u.bytes;
+  begun = begun_with _ start text a last u starts;
+  ends = ends_so (u.goes.tokens ++ u.b.token ∷ []) u.b.rest (some_more u.goes.tokens u.b.token) u.bytes.0;
 }
-
-asks_on : (start : ℕ) (text : List ℕ) (a : Cursor) (new : List ℕ) → Starts start text a → Unread (part.Whole ∷ []) a (λ used rest. AsksPast new rest) → AsksOn start text new
-asks_on start text a new starts u = record {
-  tokens = u.goes.tokens ++ u.b.token ∷ [];
-  used = u.b.used;
-  rest = u.b.rest;
-  begun = begun_with start text a _ u starts;
-  at_hand = u.bytes.at_hand;
-  split = u.bytes.split;
-  asks = u.bytes.asks;
-}
+answers_unread fault.Depth start text a last starts u = absurd u.bytes
+answers_unread fault.Bytes start text a last starts u = record { tokens = u.goes.tokens ++ u.b.token ∷ []; used = u.b.used; rest = u.b.rest; begun = begun_with _ start text a last u starts; asks = u.bytes }
+answers_unread fault.Read start text a last starts u = record { tokens = u.goes.tokens ++ u.b.token ∷ []; used = u.b.used; rest = u.b.rest; begun = begun_with _ start text a last u starts; asks = u.bytes }
+answers_unread fault.Memory start text a last starts u = record { tokens = u.goes.tokens ++ u.b.token ∷ []; used = u.b.used; rest = u.b.rest; begun = begun_with _ start text a last u starts; behind = inl u.bytes }
 
 -- why no automaton was read
-pub answers_fault : (f : ReadFault) (start : ℕ) (text : List ℕ) (a last : Cursor) → Starts start text a → a.token ≡ opening → Fails f (part.Whole ∷ []) a last → Answers (Err f) start text last.rest
-answers_fault (fault.Syntax k) start text a last starts is (inl h) = misplaced start text a h.0 k starts h.1 h.2 h.3
-answers_fault (fault.Syntax k) start text a last starts is (inr h) = no_token start text a k last.rest starts h
-answers_fault fault.Truncated start text a last starts is h = cut start text a starts h
-answers_fault fault.Aborted start text a last starts is h = aborted start text a h.0 starts is h.1 h.2
-answers_fault fault.Depth start text a last starts is h = too_deep start text a starts h
-answers_fault fault.Bytes start text a last starts is h = asks_on start text a last.rest starts h
-answers_fault fault.Read start text a last starts is h = tt
-answers_fault fault.Memory start text a last starts is h = tt
+pub answers_fault : (f : ReadFault) (start : ℕ) (text : List ℕ) (a last : Cursor) → (Abandons f last.token → ⊥) → Starts start text a → Fails f (part.Whole ∷ []) a last → Answers (Err f) start text last.rest
+answers_fault f start text a last other starts (inr u) = answers_unread f start text a last starts u
+answers_fault (fault.Syntax k) start text a last other starts (inl h) = misplaced start text a last k starts h.0 h.1 other
+answers_fault fault.Depth start text a last other starts (inl h) = too_deep start text a last starts h
+answers_fault fault.Memory start text a last other starts (inl h) =
+    let s = before start text a last h.0 h.1 starts in
+    record { tokens = h.1.tokens; used = s.used; rest = s.rest; begun = s.begun; behind = inr (record { next_token = last.token; offset = last.offset; next = s.next }) }
+answers_fault fault.Truncated start text a last other starts (inl h) = absurd h
+answers_fault fault.Bytes start text a last other starts (inl h) = absurd h
+answers_fault fault.Read start text a last other starts (inl h) = absurd h
+
+-- the automaton was abandoned
+pub answers_aborted : (f : ReadFault) (start : ℕ) (text : List ℕ) (a last : Cursor) → Abandons f last.token → Starts start text a → a.token ≡ opening → Fails f (part.Whole ∷ []) a last → IsAborted start text last.rest
+answers_aborted (fault.Syntax k) start text a last abort starts is (inl h) = aborted start text a last starts is h.0 abort
+answers_aborted (fault.Syntax k) start text a last abort starts is (inr u) = absurd (u.no_abort abort)
+answers_aborted fault.Truncated start text a last never starts is h = absurd never
+answers_aborted fault.Depth start text a last never starts is h = absurd never
+answers_aborted fault.Bytes start text a last never starts is h = absurd never
+answers_aborted fault.Read start text a last never starts is h = absurd never
+answers_aborted fault.Memory start text a last never starts is h = absurd never
 
 -- an automaton that was read
 pub answers_whole : (raw : Raw) (start : ℕ) (text : List ℕ) (a b : Cursor) → Starts start text a → IsAutomaton raw a b → IsWhole start text (written raw) b.rest
@@ -212,12 +233,12 @@ answers_other start text z k new next other = record {
 -- no token was there
 pub answers_lexing : (f : LexFault) (start offset : ℕ) (old new : List ℕ) → lexing.Answers (Err f) start offset old new → Answers (Err (read_fault f)) start old new
 answers_lexing (lex.BadToken k) start offset old new h = record { tokens = []; used = start; rest = old; begun = nothing_begun start old; fault = inr h.0 }
-answers_lexing lex.OpenComment start offset old new h = record { tokens = []; used = start; rest = old; begun = nothing_begun start old; ends = inr (inl h) }
-answers_lexing lex.OpenString start offset old new h = record { tokens = []; used = start; rest = old; begun = nothing_begun start old; ends = inr (inr (inl h)) }
-answers_lexing lex.OpenToken start offset old new h = record { tokens = []; used = start; rest = old; begun = nothing_begun start old; ends = inr (inr (inr h)) }
-answers_lexing lex.Read start offset old new h = tt
-answers_lexing lex.Bytes start offset old new h = record { tokens = []; used = start; rest = old; begun = nothing_begun start old; at_hand = h.0; split = h.1; asks = h.2 }
-answers_lexing lex.Memory start offset old new h = tt
+answers_lexing lex.OpenComment start offset old new h = record { tokens = []; used = start; rest = old; begun = nothing_begun start old; ends = inr (inl h.0) }
+answers_lexing lex.OpenString start offset old new h = record { tokens = []; used = start; rest = old; begun = nothing_begun start old; ends = inr (inr (inl h.0)) }
+answers_lexing lex.OpenToken start offset old new h = record { tokens = []; used = start; rest = old; begun = nothing_begun start old; ends = inr (inr (inr h.0)) }
+answers_lexing lex.Read start offset old new h = record { tokens = []; used = start; rest = old; begun = nothing_begun start old; asks = h }
+answers_lexing lex.Bytes start offset old new h = record { tokens = []; used = start; rest = old; begun = nothing_begun start old; asks = h }
+answers_lexing lex.Memory start offset old new h = record { tokens = []; used = start; rest = old; begun = nothing_begun start old; behind = inl h }
 
 length_unread : (held : Option ℕ) (left : List ℕ) → length (unread held left) ≡ held_count held + length left
 length_unread None left = omega arith
@@ -227,59 +248,71 @@ used_so : (since since' taken taken' hold hold' x y old new : ℕ) → hold ≤ 
 used_so since since' taken taken' hold hold' x y old new within same took later is is' shorter = omega (arith, within, same, took, later, is, is', shorter)
 
 -- the first token that the lexer gave
-pub starts_so : (lexer : Lexer) (s : State) (x y : List ℕ) → IsNext (unread lexer.held x) (lexer.since - held_count lexer.held) s.ahead s.lexer.offset (unread s.lexer.held y)
+starts_so : (lexer : Lexer) (s : State) (x y : List ℕ) → IsNext (unread lexer.held x) (lexer.since - held_count lexer.held) s.ahead s.lexer.offset (unread s.lexer.held y) → is_some s.lexer.held ≡ not (closes_itself s.ahead)
     → s.lexer.since + lexer.taken ≡ lexer.since + s.lexer.taken → s.lexer.taken + length y ≡ lexer.taken + length x → lexer.taken ≤ s.lexer.taken → Starts (lexer.since - held_count lexer.held) (unread lexer.held x) (place s y)
-starts_so lexer s x y next since took later = record {
+starts_so lexer s x y next holds since took later = record {
   next = next;
   used = used_so lexer.since s.lexer.since lexer.taken s.lexer.taken (held_count lexer.held) (held_count s.lexer.held) (length x) (length y) _ _
       lexer.held_within since took later (length_unread lexer.held x) (length_unread s.lexer.held y) (next_shorter _ _ _ _ _ next);
+  holds = holds;
 }
 
-between_none : (l k : Option (List ℕ)) (P : List ℕ → List ℕ → Type 0) → Between l k P → l ≡ None → k ≡ None
-between_none None k P h e = h
-between_none (Some x) k P h e = let no : Some x ≡ None = e in cc
+-- what the lexer said of the first token
+pub record Opened (lexer : Lexer) (seen : Seen) (s : State) : Type 0 where
+  pub moves : Moves Elsewhere lexer s.lexer seen s.seen
+  pub holds : is_some s.lexer.held ≡ not (closes_itself s.ahead)
+  pub next : Tells seen s.seen (λ x y. IsNext (unread lexer.held x) (lexer.since - held_count lexer.held) s.ahead s.lexer.offset (unread s.lexer.held y))
 
-pub first_so : (t : Option Token) (z : Token) (start offset : ℕ) (old new : List ℕ) → t ≡ Some z → lexing.Answers (Ok t) start offset old new → IsNext old start z offset new
+-- and what was read then
+pub said_then : (lexer : Lexer) (seen : Seen) (s s' : State) (A : Relation) (R : List ℕ → List ℕ → Type 0) → Opened lexer seen s → Places s s' A
+    → ((x y z : List ℕ) → Starts (lexer.since - held_count lexer.held) (unread lexer.held x) (place s y) → A (place s y) (place s' z) → R x z) → Tells seen s'.seen R
+said_then lexer seen s s' A R opened read f =
+    between_then seen.left s.seen.left s'.seen.left
+    (λ x y. Starts (lexer.since - held_count lexer.held) (unread lexer.held x) (place s y))
+    (λ y z. A (place s y) (place s' z)) R f
+    (between_both seen.left s.seen.left _ _ _ (λ x y h k. starts_so lexer s x y h opened.holds opened.moves.since k opened.moves.later) opened.next opened.moves.taken)
+    read
+
+first_so : (t : Option Token) (z : Token) (start offset : ℕ) (old new : List ℕ) → t ≡ Some z → lexing.Answers (Ok t) start offset old new → IsNext old start z offset new
 first_so t z start offset old new some h = subst (λ (o : Option Token). lexing.Answers (Ok o) start offset old new) some h
 
--- what the lexer said of the first token, and what was read then
-pub said_then : {T : Type 0} (t : Option Token) (lexer : Lexer) (left : Option (List ℕ)) (s s' : State) (r : Result T ReadFault) (Q : T → Cursor → Cursor → Type 0) (R : List ℕ → List ℕ → Type 0)
-    → t ≡ Some s.ahead → Between left s.left (λ x y. lexing.Answers (Ok t) (lexer.since - held_count lexer.held) s.lexer.offset (unread lexer.held x) (unread s.lexer.held y))
-    → Between left s.left (λ x y. s.lexer.taken + length y ≡ lexer.taken + length x)
-    → s.lexer.since + lexer.taken ≡ lexer.since + s.lexer.taken → lexer.taken ≤ s.lexer.taken → Reads (part.Whole ∷ []) (part.States ∷ []) Q r s s'
-    → ((x y z : List ℕ) → Starts (lexer.since - held_count lexer.held) (unread lexer.held x) (place s y) → Says (part.Whole ∷ []) (part.States ∷ []) Q r (place s y) (place s' z) → R x z)
-    → Between left s'.left R
-said_then t lexer left s s' r Q R some next took since later read f =
-    between_then left s.left s'.left
-    (λ x y. Starts (lexer.since - held_count lexer.held) (unread lexer.held x) (place s y))
-    (λ y z. Says (part.Whole ∷ []) (part.States ∷ []) Q r (place s y) (place s' z)) R f
-    (between_both left s.left _ _ _ (λ x y h k. starts_so lexer s x y (first_so t s.ahead _ _ _ _ some h) since k later) next took)
-    (between_tells s.left s'.left _ (between_none s.left s'.left _ read.moves.taken) read.text)
+-- the lexer gave a token
+pub opened_so : (t : Option Token) (lexer : Lexer) (seen : Seen) (s : State) → t ≡ Some s.ahead → Tells seen s.seen (λ x y. lexing.Answers (Ok t) (lexer.since - held_count lexer.held) s.lexer.offset (unread lexer.held x) (unread s.lexer.held y))
+    → lexing.Holds (Ok t) s.lexer.held → Moves (stop_of_next {A = Token} (Ok t)) lexer s.lexer seen s.seen → Opened lexer seen s
+opened_so t lexer seen s some answers holds moves = record {
+  moves = subst (λ (o : Option Token). Moves (stop_of_next {A = Token} (Ok o)) lexer s.lexer seen s.seen) some moves;
+  holds = subst (λ (o : Option Token). lexing.Holds (Ok o) s.lexer.held) some holds;
+  next = between_as seen.left s.seen.left _ _ (λ x y h. first_so t s.ahead _ s.lexer.offset _ _ some h) answers;
+}
 
-pub raw_whole : (raw : Raw) (t : Option Token) (lexer : Lexer) (left : Option (List ℕ)) (s s' : State)
-    → t ≡ Some s.ahead → Between left s.left (λ x y. lexing.Answers (Ok t) (lexer.since - held_count lexer.held) s.lexer.offset (unread lexer.held x) (unread s.lexer.held y))
-    → Between left s.left (λ x y. s.lexer.taken + length y ≡ lexer.taken + length x)
-    → s.lexer.since + lexer.taken ≡ lexer.since + s.lexer.taken → lexer.taken ≤ s.lexer.taken → Reads (part.Whole ∷ []) (part.States ∷ []) IsAutomaton (Ok raw) s s'
-    → Between left s'.left (λ x z. Answers (Ok (Some raw)) (lexer.since - held_count lexer.held) (unread lexer.held x) (unread s'.lexer.held z))
-raw_whole raw t lexer left s s' some next took since later read =
-    said_then t lexer left s s' (Ok raw) IsAutomaton _ some next took since later read (λ x y z starts says. answers_whole raw _ _ (place s y) (place s' z) starts says.0)
+-- the unread bytes before and after an answer
+abbrev pub Between : Lexer → Seen → State → (ℕ → List ℕ → List ℕ → Type 0) → Type 0
+Between lexer seen s R = Tells seen s.seen (λ x y. R (lexer.since - held_count lexer.held) (unread lexer.held x) (unread s.lexer.held y))
 
-pub raw_fault : (f : ReadFault) (t : Option Token) (lexer : Lexer) (left : Option (List ℕ)) (s s' : State) → s.ahead ≡ opening
-    → t ≡ Some s.ahead → Between left s.left (λ x y. lexing.Answers (Ok t) (lexer.since - held_count lexer.held) s.lexer.offset (unread lexer.held x) (unread s.lexer.held y))
-    → Between left s.left (λ x y. s.lexer.taken + length y ≡ lexer.taken + length x)
-    → s.lexer.since + lexer.taken ≡ lexer.since + s.lexer.taken → lexer.taken ≤ s.lexer.taken → Reads (part.Whole ∷ []) (part.States ∷ []) IsAutomaton (Err f) s s'
-    → Between left s'.left (λ x z. Answers (Err f) (lexer.since - held_count lexer.held) (unread lexer.held x) (unread s'.lexer.held z))
-raw_fault f t lexer left s s' opens some next took since later read =
-    said_then t lexer left s s' (Err f) IsAutomaton _ some next took since later read (λ x y z starts says. answers_fault f _ _ (place s y) (place s' z) starts opens says)
+pub raw_whole : (raw : Raw) (lexer : Lexer) (seen : Seen) (s s' : State) → Opened lexer seen s → ReadsTo (part.Whole ∷ []) (part.States ∷ []) (IsAutomaton raw) s s' → Between lexer seen s' (Answers (Ok (front.Whole raw)))
+raw_whole raw lexer seen s s' opened read =
+    said_then lexer seen s s' (λ a b. IsAutomaton raw a b × Goes (part.Whole ∷ []) a (part.States ∷ []) b) _ opened read.text
+    (λ x y z starts says. answers_whole raw _ _ (place s y) (place s' z) starts says.0)
+
+pub raw_aborted : (f : ReadFault) (lexer : Lexer) (seen : Seen) (s s' : State) → Opened lexer seen s → s.ahead ≡ opening → Abandons f s'.ahead → FailsAt f (part.Whole ∷ []) s s' → Between lexer seen s' (Answers (Ok front.Aborted))
+raw_aborted f lexer seen s s' opened is abandons read =
+    said_then lexer seen s s' (Fails f (part.Whole ∷ [])) _ opened read.text
+    (λ x y z starts says. answers_aborted f _ _ (place s y) (place s' z) abandons starts is says)
+
+pub raw_fault : (f : ReadFault) (lexer : Lexer) (seen : Seen) (s s' : State) → Opened lexer seen s → (Abandons f s'.ahead → ⊥) → FailsAt f (part.Whole ∷ []) s s' → Between lexer seen s' (Answers (Err f))
+raw_fault f lexer seen s s' opened other read =
+    said_then lexer seen s s' (Fails f (part.Whole ∷ [])) _ opened read.text
+    (λ x y z starts says. answers_fault f _ _ (place s y) (place s' z) other starts says)
 
 -- the lexer gave no token
-pub raw_unlexed : (f : LexFault) (g : ReadFault) (start offset : ℕ) (left left' : Option (List ℕ)) (held held' : Option ℕ) → g ≡ read_fault f
-    → Between left left' (λ x y. lexing.Answers (Err f) start offset (unread held x) (unread held' y)) → Between left left' (λ x y. Answers (Err g) start (unread held x) (unread held' y))
-raw_unlexed f g start offset left left' held held' same said =
-    between_as left left' _ _ (λ x y h. subst (λ (e : ReadFault). Answers (Err e) start (unread held x) (unread held' y)) (sym same) (answers_lexing f start offset _ _ h)) said
+pub raw_unlexed : (f : LexFault) (result : Result Front ReadFault) (lexer lexer' : Lexer) (offset : ℕ) (seen seen' : Seen) → (e : ReadFault) × (result ≡ Err e) × (e ≡ read_fault f)
+    → Tells seen seen' (λ x y. lexing.Answers (Err f) (lexer.since - held_count lexer.held) offset (unread lexer.held x) (unread lexer'.held y))
+    → Tells seen seen' (λ x y. Answers result (lexer.since - held_count lexer.held) (unread lexer.held x) (unread lexer'.held y))
+raw_unlexed f result lexer lexer' offset seen seen' same said =
+    between_as seen.left seen'.left _ _
+    (λ x y h. subst (λ (r : Result Front ReadFault). Answers r (lexer.since - held_count lexer.held) (unread lexer.held x) (unread lexer'.held y)) (sym (same.1 ∙ ap Err same.2)) (answers_lexing f _ offset _ _ h)) said
 
 -- it gave another token than `HOA:`
-pub raw_other : (t : Option Token) (z : Token) (k offset start : ℕ) (left left' : Option (List ℕ)) (held held' : Option ℕ) → k ≡ offset → move part.Whole z ≡ part.Refuses
-    → t ≡ Some z → Between left left' (λ x y. lexing.Answers (Ok t) start offset (unread held x) (unread held' y)) → Between left left' (λ x y. Answers (Err (fault.Syntax k)) start (unread held x) (unread held' y))
-raw_other t z k offset start left left' held held' same other some said =
-    between_as left left' _ _ (λ x y h. answers_other start (unread held x) z k (unread held' y) (subst (λ (n : ℕ). IsNext (unread held x) start z n (unread held' y)) (sym same) (first_so t z _ _ _ _ some h)) other) said
+pub raw_other : (k : ℕ) (lexer : Lexer) (seen : Seen) (s : State) → Opened lexer seen s → k ≡ s.lexer.offset → move part.Whole s.ahead ≡ part.Refuses → Between lexer seen s (Answers (Err (fault.Syntax k)))
+raw_other k lexer seen s opened same other =
+    between_as seen.left s.seen.left _ _ (λ x y h. answers_other _ (unread lexer.held x) s.ahead k (unread s.lexer.held y) (subst (λ (n : ℕ). IsNext (unread lexer.held x) (lexer.since - held_count lexer.held) s.ahead n (unread s.lexer.held y)) (sym same) h) other) opened.next

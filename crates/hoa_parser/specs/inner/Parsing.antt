@@ -1,16 +1,17 @@
 -- What the inner functions of the reader say of the bytes. Each reads a part of the automaton from a place on.
-use Rattle.std.specs.Prelude.{◌≡◌, ◌≢◌, ℕ, ◌+◌, ◌-◌, ◌≤◌, ◌<◌, ◌⊎◌, Bool, true, false, not, is_some, List, [], ◌∷◌, ◌++◌, length, Option, Some, None, Result, Ok, Err, OnOk}
+use Rattle.std.specs.Prelude.{◌≡◌, ◌≢◌, ℕ, ◌+◌, ◌-◌, ◌≤◌, ◌<◌, ◌⊎◌, Bool, true, false, not, is_some, List, [], ◌∷◌, ◌++◌, length, Option, Some, None, Result, Ok, Err}
 use Rattle.std.specs.List.{AllByRecursion}
-use Rattle.aut_io.specs.Outside.{Texts}
+use Rattle.aut_io.specs.Seen.{Seen}
 use Rattle.hoa_lexer.specs.Blanks.{IsBlanks}
-use Rattle.hoa_lexer.specs.Reading.{Between, held_count, unread}
+use Rattle.hoa_lexer.specs.Moves.{Moves, Elsewhere}
+use Rattle.hoa_lexer.specs.Reading.{Tells, held_count, unread}
 use Rattle.hoa_lexer.specs.Spelling.{closes_itself}
-use Rattle.hoa_lexer.specs.Text.{AsksForMore, IsNext, IsShownBy}
+use Rattle.hoa_lexer.specs.Text.{AskedForOne, AsksPast, IsNext, IsShownBy}
 use Rattle.hoa_lexer.specs.declared.lexer.Lexer.{Lexer}
 use Rattle.hoa_lexer.specs.declared.token.Token.{Token}
 use Rattle.hoa_lexer.specs.declared.token.Token.TheVariants as token
 use Rattle.hoa_parser.specs.inner.Expecting.{Part, after, behind}
-use Rattle.hoa_parser.specs.Reads.{CountsFaults}
+use Rattle.hoa_parser.specs.Reads.{stop_of_fault}
 use Rattle.hoa_parser.specs.Standing.{EndsOpen, IsNoTokenAt, most_depth}
 use Rattle.hoa_parser.specs.declared.fault.ReadFault.{ReadFault}
 use Rattle.hoa_parser.specs.declared.fault.ReadFault.TheVariants as fault
@@ -57,16 +58,15 @@ pub record Goes (parts : List Part) (a : Cursor) (target : List Part) (b : Curso
   pub unended : Unended tokens
   pub over : (most : ℕ) (others : List Part) → behind most (left ++ others) b.token ≡ behind most (target ++ others) b.token
 
--- The token of `b` cannot stand where it does.
+-- The token of `b`, which the reader has at hand, cannot stand where it does.
 pub record Refuses (parts : List Part) (a b : Cursor) : Type 0 where
   pub target : List Part
   pub goes : Goes parts a target b
   pub refused : (most : ℕ) (others : List Part) → behind most (target ++ others) b.token ≡ None
 
--- A token was met that opens one more than may be open.
-pub record TooDeep (parts : List Part) (a : Cursor) : Type 0 where
+-- It opens one more than may be open.
+pub record TooDeep (parts : List Part) (a b : Cursor) : Type 0 where
   pub target : List Part
-  pub b : Cursor
   pub goes : Goes parts a target b
   pub refused : (others : List Part) → behind most_depth (target ++ others) b.token ≡ None
   pub most : ℕ
@@ -74,116 +74,115 @@ pub record TooDeep (parts : List Part) (a : Cursor) : Type 0 where
   pub left : List Part
   pub taken : (others : List Part) → behind most (target ++ others) b.token ≡ Some (left ++ others)
 
--- Behind a token that could stand there is no other, and this is so of the bytes there.
-pub record Unread (parts : List Part) (a : Cursor) (P : ℕ → List ℕ → Type 0) : Type 0 where
+-- why a reader stops at the token that it has at hand
+abbrev pub HaltsHere : ReadFault → List Part → Cursor → Cursor → Type 0
+HaltsHere (fault.Syntax k) parts a b = Refuses parts a b × (k ≡ b.offset)
+HaltsHere fault.Depth parts a b = TooDeep parts a b
+HaltsHere fault.Memory parts a b = (target : List Part) × Goes parts a target b
+HaltsHere _ parts a b = ⊥
+
+-- why the lexer gave no token behind `used` bytes of the text, where `new` is unread afterwards
+abbrev pub Unlexed : ReadFault → ℕ → List ℕ → List ℕ → Type 0
+Unlexed (fault.Syntax k) used rest new = IsNoTokenAt k used rest × AskedForOne rest new × IsShownBy k used rest new
+Unlexed fault.Truncated used rest new = (IsBlanks rest ⊎ EndsOpen rest) × (new ≡ [])
+Unlexed fault.Depth used rest new = ⊥
+Unlexed fault.Bytes used rest new = AsksPast rest new
+Unlexed fault.Read used rest new = AsksPast rest new
+Unlexed fault.Memory used rest new = AsksPast rest new
+
+-- Behind a token that could stand there the lexer gave no other, and stopped at `last`.
+pub record Unread (fault : ReadFault) (parts : List Part) (a last : Cursor) : Type 0 where
   pub target : List Part
   pub b : Cursor
   pub goes : Goes parts a target b
   pub left : List Part
   pub taken : (others : List Part) → behind most_depth (target ++ others) b.token ≡ Some (left ++ others)
   pub unended : is_end b.token ≡ false
-  pub bytes : P b.used b.rest
-
--- the bytes ask for one more than is there
-pub record AsksPast (new rest : List ℕ) : Type 0 where
-  pub at_hand : List ℕ
-  pub split : rest ≡ at_hand ++ new
-  pub asks : AsksForMore at_hand
-
--- why the lexer gave no token behind `used` bytes of the text
-abbrev pub Unlexed : ReadFault → List ℕ → ℕ → List ℕ → Type 0
-Unlexed (fault.Syntax k) new used rest = IsNoTokenAt k used rest × IsShownBy k used rest new
-Unlexed fault.Truncated new used rest = IsBlanks rest ⊎ EndsOpen rest
-Unlexed fault.Bytes new used rest = AsksPast new rest
-Unlexed fault.Read new used rest = Unit {0}
-Unlexed fault.Memory new used rest = Unit {0}
-Unlexed _ new used rest = ⊥
+  pub bytes : Unlexed fault b.used b.rest last.rest
+  pub held : last.held ≡ None
+  pub no_abort : last.token ≢ token.Abort
 
 -- why these parts could not be read from `a` on, where the reader stopped at `last`
 abbrev pub Fails : ReadFault → List Part → Cursor → Cursor → Type 0
-Fails (fault.Syntax k) parts a last =
-    ((b : Cursor) × Refuses parts a b × (k ≡ b.offset) × (b.token ≢ token.Abort) × (b ≡ last))
-    ⊎ Unread parts a (λ used rest. IsNoTokenAt k used rest × IsShownBy k used rest last.rest)
-Fails fault.Aborted parts a last = (b : Cursor) × Refuses parts a b × (b.token ≡ token.Abort)
-Fails fault.Depth parts a last = TooDeep parts a
-Fails fault.Truncated parts a last = Unread parts a (λ used rest. IsBlanks rest ⊎ EndsOpen rest)
-Fails fault.Bytes parts a last = Unread parts a (λ used rest. AsksPast last.rest rest)
-Fails fault.Read parts a last = Unit {0}
-Fails fault.Memory parts a last = Unit {0}
-
--- what is answered of a token that cannot stand at its offset
-abbrev pub refusal : Token → ℕ → ReadFault
-refusal token.Abort offset = fault.Aborted
-refusal _ offset = fault.Syntax offset
+Fails fault parts a last = HaltsHere fault parts a last ⊎ Unread fault parts a last
 
 -- All that a reader sees and changes: the lexer, the token at hand, and the inputs as far as they tell.
 pub record State : Type 0 where
   pub lexer : Lexer
   pub ahead : Token
-  pub left : Option (List ℕ)
-  pub reads : ℕ
-  pub opens : ℕ
-  pub texts : Option Texts
+  pub seen : Seen
 
-abbrev pub state : Lexer → Token → Option (List ℕ) → ℕ → ℕ → Option Texts → State
-state lexer ahead left reads opens texts = record { lexer = lexer; ahead = ahead; left = left; reads = reads; opens = opens; texts = texts }
+abbrev pub state : Lexer → Token → Seen → State
+state lexer ahead seen = record { lexer = lexer; ahead = ahead; seen = seen }
 
 -- the place where a reader stands, where this is left of the inputs
 abbrev pub place : State → List ℕ → Cursor
 place s left = record { token = s.ahead; offset = s.lexer.offset; used = s.lexer.since - held_count s.lexer.held; held = s.lexer.held; rest = unread s.lexer.held left }
 
--- what is not read yet
-abbrev pub unread_in : State → List ℕ → List ℕ
-unread_in s = unread s.lexer.held
+-- what is true of two places
+abbrev pub Relation : Type 1
+Relation = Cursor → Cursor → Type 0
 
--- a fact of what was left before and after, where the inputs tell it
-abbrev pub Tells : State → State → (List ℕ → List ℕ → Type 0) → Type 0
-Tells s s' P = (x : List ℕ) → s.left ≡ Some x → (y : List ℕ) × (s'.left ≡ Some y) × P x y
+-- it is true of the places before and after, where the inputs tell what is left
+abbrev pub Places : State → State → Relation → Type 0
+Places s s' A = Tells s.seen s'.seen (λ x y. A (place s x) (place s' y))
 
 -- a byte past the token at hand is held exactly where it was needed to close it
 abbrev pub Holds : State → Type 0
 Holds s = is_some s.lexer.held ≡ not (closes_itself s.ahead)
 
--- `Bytes` is answered only where all that may be taken was taken, and used
-abbrev pub TookAll : {T : Type 0} → Result T ReadFault → Lexer → Type 0
-TookAll (Err fault.Bytes) lexer = (lexer.taken ≡ lexer.most) × (lexer.held ≡ None)
-TookAll _ lexer = Unit {0}
+-- the fault is that `--ABORT--` cannot stand there
+abbrev pub Abandons : ReadFault → Token → Type 0
+Abandons (fault.Syntax k) z = z ≡ token.Abort
+Abandons _ z = ⊥
 
--- Bytes were only taken and used, and faults are told as they came.
-pub record Moves {T : Type 0} (result : Result T ReadFault) (s s' : State) : Type 0 where
-  pub spent : OnOk result (s'.lexer.spent ≡ false)
-  pub most : s'.lexer.most ≡ s.lexer.most
-  pub taken : Between s.left s'.left (λ x y. s'.lexer.taken + length y ≡ s.lexer.taken + length x)
-  pub since : s'.lexer.since + s.lexer.taken ≡ s.lexer.since + s'.lexer.taken
-  pub later : s.lexer.taken ≤ s'.lexer.taken
-  pub used : OnOk result (s.lexer.taken + held_count s'.lexer.held ≤ s'.lexer.taken + held_count s.lexer.held)
-  pub holds : Holds s → OnOk result (Holds s')
-  pub bytes : TookAll result s'.lexer
-  pub reads : CountsFaults result s.reads s'.reads
-  pub reads_later : s.reads ≤ s'.reads
-  pub opens : s'.opens ≡ s.opens
-  pub texts : s'.texts ≡ s.texts
+-- After a fault no byte is held, but for one past a token that was refused, or read before memory was wanting. Where
+-- that token is `--ABORT--`, none is, and the lexer may be used on.
+abbrev pub Leaves : ReadFault → State → Type 0
+Leaves (fault.Syntax k) s = Abandons (fault.Syntax k) s.ahead → (s.lexer.held ≡ None) × (s.lexer.spent ≡ false)
+Leaves fault.Memory s = Unit {0}
+Leaves _ s = s.lexer.held ≡ None
 
--- the answer to the wish for the next token
-abbrev pub AdvancesTo : {T : Type 0} → Result T ReadFault → Cursor → Cursor → List ℕ → Type 0
-AdvancesTo (Ok done) a b new = Follows a b
-AdvancesTo (Err fault) a b new = Unlexed fault new a.used a.rest
+-- something was read: a byte was used
+abbrev pub Uses : Lexer → Lexer → Type 0
+Uses old new = old.taken + held_count new.held < new.taken + held_count old.held
 
-pub record Advances {T : Type 0} (result : Result T ReadFault) (s s' : State) : Type 0 where
-  pub moves : Moves result s s'
-  pub progress : OnOk result (s.lexer.taken + held_count s'.lexer.held < s'.lexer.taken + held_count s.lexer.held)
-  pub text : Tells s s' (λ x y. AdvancesTo result (place s x) (place s' y) (unread_in s' y))
+-- The next token came.
+pub record Advanced (s s' : State) : Type 0 where
+  pub moves : Moves Elsewhere s.lexer s'.lexer s.seen s'.seen
+  pub uses : Uses s.lexer s'.lexer
+  pub spent : s'.lexer.spent ≡ false
+  pub holds : Holds s'
+  pub text : Places s s' Follows
 
--- What an answer says of the places before and after: the parts were read up to `target` and `Q` is true of the value,
--- or why they could not be.
-abbrev pub Says : {T : Type 0} → List Part → List Part → (T → Cursor → Cursor → Type 0) → Result T ReadFault → Cursor → Cursor → Type 0
-Says parts target Q (Ok value) a b = Q value a b × Goes parts a target b
-Says parts target Q (Err fault) a b = Fails fault parts a b
+-- No token came, and the one at hand stays.
+pub record Unadvanced (fault : ReadFault) (s s' : State) : Type 0 where
+  pub moves : Moves (stop_of_fault fault) s.lexer s'.lexer s.seen s'.seen
+  pub held : s'.lexer.held ≡ None
+  pub stays : s'.ahead ≡ s.ahead
+  pub text : Places s s' (λ a b. Unlexed fault a.used a.rest b.rest)
 
--- The parts are read as far as `target`, and `Q` is true of the value that is answered.
-pub record Reads {T : Type 0} (parts target : List Part) (Q : T → Cursor → Cursor → Type 0) (result : Result T ReadFault) (s s' : State) : Type 0 where
-  pub moves : Moves result s s'
-  pub text : Tells s s' (λ x y. Says parts target Q result (place s x) (place s' y))
+abbrev pub Advances : {T : Type 0} → Result T ReadFault → State → State → Type 0
+Advances (Ok value) s s' = Advanced s s'
+Advances (Err fault) s s' = Unadvanced fault s s'
+
+-- The parts were read as far as `target`, and `A` is true of the places before and after.
+pub record ReadsTo (parts target : List Part) (A : Relation) (s s' : State) : Type 0 where
+  pub moves : Moves Elsewhere s.lexer s'.lexer s.seen s'.seen
+  pub spent : s'.lexer.spent ≡ false
+  pub holds : Holds s → Holds s'
+  pub text : Places s s' (λ a b. A a b × Goes parts a target b)
+
+-- They could not be read.
+pub record FailsAt (fault : ReadFault) (parts : List Part) (s s' : State) : Type 0 where
+  pub moves : Moves (stop_of_fault fault) s.lexer s'.lexer s.seen s'.seen
+  pub leaves : Holds s → Leaves fault s'
+  pub text : Places s s' (Fails fault parts)
+
+-- What an answer says: the parts were read as far as `target`, and `Q` is true of the value, or they could not be.
+abbrev pub Reads : {T : Type 0} → List Part → List Part → (T → Relation) → Result T ReadFault → State → State → Type 0
+Reads parts target Q (Ok value) s s' = ReadsTo parts target (Q value) s s'
+Reads parts target Q (Err fault) s s' = FailsAt fault parts s s'
 
 -- It is written so from `a` to `b`.
 pub record IsWritten {X Y : Type 0} (Within : X → Type 0) (tokens : X → List Token) (meaning : X → Y) (value : Y) (a b : Cursor) : Type 0 where
@@ -191,7 +190,3 @@ pub record IsWritten {X Y : Type 0} (Within : X → Type 0) (tokens : X → List
   pub within : Within phrase
   pub passed : Passed a (tokens phrase) b
   pub means : value ≡ meaning phrase
-
--- something was read: a byte was used
-abbrev pub Uses : {T : Type 0} → Result T ReadFault → State → State → Type 0
-Uses result s s' = OnOk result (s.lexer.taken + held_count s'.lexer.held < s'.lexer.taken + held_count s.lexer.held)

@@ -25,8 +25,7 @@ pub(super) fn states<I: Inputs>(
 ) -> Result<RawStates, ReadFault>
     requires unspent { lexer.old.spent ≡ false }
     ensures reads { Reads (part.States ∷ []) (part.States ∷ []) AreStates result
-        (state lexer.old ahead.old (I.left inputs.old) (I.read_faults inputs.old) (I.open_faults inputs.old) (I.texts inputs.old))
-        (state lexer.new ahead.new (I.left inputs.new) (I.read_faults inputs.new) (I.open_faults inputs.new) (I.texts inputs.new)) }
+        (state lexer.old ahead.old (I.seen inputs.old)) (state lexer.new ahead.new (I.seen inputs.new)) }
     ensures ends { OnOk result (ahead.new ≡ Token.End) }
 {
     let mut states = RawStates::new(alloc);
@@ -34,12 +33,9 @@ pub(super) fn states<I: Inputs>(
         match ahead {
             Token::HeaderName(_) => {}
             Token::End => return Ok(states),
-            _ => return Err(refused(ahead, lexer)),
+            _ => return Err(refused(lexer)),
         }
-        let state = match state_at(alloc, lexer, inputs, ahead) {
-            Ok(state) => state,
-            Err(fault) => return Err(fault),
-        };
+        let state = state_at(alloc, lexer, inputs, ahead)?;
         states.push(state)?;
     }
 }
@@ -54,49 +50,29 @@ fn state_at<I: Inputs>(
     requires unspent { lexer.old.spent ≡ false }
     requires begins { ahead.old ≢ Token.End }
     ensures reads { Reads (part.States ∷ []) (part.States ∷ []) IsState result
-        (state lexer.old ahead.old (I.left inputs.old) (I.read_faults inputs.old) (I.open_faults inputs.old) (I.texts inputs.old))
-        (state lexer.new ahead.new (I.left inputs.new) (I.read_faults inputs.new) (I.open_faults inputs.new) (I.texts inputs.new)) }
-    ensures uses { Uses result
-        (state lexer.old ahead.old (I.left inputs.old) (I.read_faults inputs.old) (I.open_faults inputs.old) (I.texts inputs.old))
-        (state lexer.new ahead.new (I.left inputs.new) (I.read_faults inputs.new) (I.open_faults inputs.new) (I.texts inputs.new)) }
+        (state lexer.old ahead.old (I.seen inputs.old)) (state lexer.new ahead.new (I.seen inputs.new)) }
+    ensures uses { OnOk result (Uses lexer.old lexer.new) }
 {
     let header = match ahead {
         Token::HeaderName(name) => header_named(name),
-        _ => return Err(refused(ahead, lexer)),
+        _ => return Err(refused(lexer)),
     };
     match header {
         Header::State => {}
-        _ => return Err(refused(ahead, lexer)),
+        _ => return Err(refused(lexer)),
     }
-    match advance(alloc, lexer, inputs, ahead) {
-        Ok(()) => {}
-        Err(fault) => return Err(fault),
-    }
-    let label = match maybe_label(alloc, lexer, inputs, ahead) {
-        Ok(label) => label,
-        Err(fault) => return Err(fault),
-    };
-    let number = match number(alloc, lexer, inputs, ahead) {
-        Ok(number) => number,
-        Err(fault) => return Err(fault),
-    };
-    match maybe_quoted(alloc, lexer, inputs, ahead) {
-        Ok(()) => {}
-        Err(fault) => return Err(fault),
-    }
-    let marks = match maybe_marks(alloc, lexer, inputs, ahead) {
-        Ok(marks) => marks,
-        Err(fault) => return Err(fault),
-    };
-    match edges(alloc, lexer, inputs, ahead) {
-        Ok(edges) => Ok(RawState {
-            label,
-            number,
-            marks,
-            edges,
-        }),
-        Err(fault) => Err(fault),
-    }
+    advance(alloc, lexer, inputs, ahead)?;
+    let label = maybe_label(alloc, lexer, inputs, ahead)?;
+    let number = number(alloc, lexer, inputs, ahead)?;
+    maybe_quoted(alloc, lexer, inputs, ahead)?;
+    let marks = maybe_marks(alloc, lexer, inputs, ahead)?;
+    let edges = edges(alloc, lexer, inputs, ahead)?;
+    Ok(RawState {
+        label,
+        number,
+        marks,
+        edges,
+    })
 }
 
 /// ("[" label "]")?
@@ -108,25 +84,16 @@ fn maybe_label<I: Inputs>(
 ) -> Result<Option<RawLabel>, ReadFault>
     requires unspent { lexer.old.spent ≡ false }
     ensures reads { Reads (part.MaybeLabel ∷ []) [] IsMaybeLabel result
-        (state lexer.old ahead.old (I.left inputs.old) (I.read_faults inputs.old) (I.open_faults inputs.old) (I.texts inputs.old))
-        (state lexer.new ahead.new (I.left inputs.new) (I.read_faults inputs.new) (I.open_faults inputs.new) (I.texts inputs.new)) }
+        (state lexer.old ahead.old (I.seen inputs.old)) (state lexer.new ahead.new (I.seen inputs.new)) }
 {
     match ahead {
         Token::LeftBracket => {}
         _ => return Ok(None),
     }
-    match advance(alloc, lexer, inputs, ahead) {
-        Ok(()) => {}
-        Err(fault) => return Err(fault),
-    }
-    let label = match label(alloc, lexer, inputs, ahead, 0) {
-        Ok(label) => label,
-        Err(fault) => return Err(fault),
-    };
-    match closing_bracket(alloc, lexer, inputs, ahead) {
-        Ok(()) => Ok(Some(label)),
-        Err(fault) => Err(fault),
-    }
+    advance(alloc, lexer, inputs, ahead)?;
+    let label = label(alloc, lexer, inputs, ahead, 0)?;
+    closing_bracket(alloc, lexer, inputs, ahead)?;
+    Ok(Some(label))
 }
 
 /// edge*
@@ -138,8 +105,7 @@ fn edges<I: Inputs>(
 ) -> Result<RawEdges, ReadFault>
     requires unspent { lexer.old.spent ≡ false }
     ensures reads { Reads (part.Edges ∷ []) [] AreEdges result
-        (state lexer.old ahead.old (I.left inputs.old) (I.read_faults inputs.old) (I.open_faults inputs.old) (I.texts inputs.old))
-        (state lexer.new ahead.new (I.left inputs.new) (I.read_faults inputs.new) (I.open_faults inputs.new) (I.texts inputs.new)) }
+        (state lexer.old ahead.old (I.seen inputs.old)) (state lexer.new ahead.new (I.seen inputs.new)) }
 {
     let mut edges = RawEdges::new(alloc);
     'edges: loop {
@@ -147,10 +113,7 @@ fn edges<I: Inputs>(
             Token::LeftBracket | Token::Int(_) => {}
             _ => return Ok(edges),
         }
-        let edge = match edge(alloc, lexer, inputs, ahead) {
-            Ok(edge) => edge,
-            Err(fault) => return Err(fault),
-        };
+        let edge = edge(alloc, lexer, inputs, ahead)?;
         edges.push(edge)?;
     }
 }
@@ -165,22 +128,11 @@ fn edge<I: Inputs>(
     requires unspent { lexer.old.spent ≡ false }
     requires begins { move part.Edges ahead.old ≢ part.Passes }
     ensures reads { Reads (part.Edges ∷ []) (part.Edges ∷ []) IsEdge result
-        (state lexer.old ahead.old (I.left inputs.old) (I.read_faults inputs.old) (I.open_faults inputs.old) (I.texts inputs.old))
-        (state lexer.new ahead.new (I.left inputs.new) (I.read_faults inputs.new) (I.open_faults inputs.new) (I.texts inputs.new)) }
-    ensures uses { Uses result
-        (state lexer.old ahead.old (I.left inputs.old) (I.read_faults inputs.old) (I.open_faults inputs.old) (I.texts inputs.old))
-        (state lexer.new ahead.new (I.left inputs.new) (I.read_faults inputs.new) (I.open_faults inputs.new) (I.texts inputs.new)) }
+        (state lexer.old ahead.old (I.seen inputs.old)) (state lexer.new ahead.new (I.seen inputs.new)) }
+    ensures uses { OnOk result (Uses lexer.old lexer.new) }
 {
-    let label = match maybe_label(alloc, lexer, inputs, ahead) {
-        Ok(label) => label,
-        Err(fault) => return Err(fault),
-    };
-    let to = match conj(alloc, lexer, inputs, ahead) {
-        Ok(to) => to,
-        Err(fault) => return Err(fault),
-    };
-    match maybe_marks(alloc, lexer, inputs, ahead) {
-        Ok(marks) => Ok(RawEdge { label, to, marks }),
-        Err(fault) => Err(fault),
-    }
+    let label = maybe_label(alloc, lexer, inputs, ahead)?;
+    let to = conj(alloc, lexer, inputs, ahead)?;
+    let marks = maybe_marks(alloc, lexer, inputs, ahead)?;
+    Ok(RawEdge { label, to, marks })
 }

@@ -1,6 +1,6 @@
 //! Acceptance conditions.
 
-ghost use Rattle.std.specs.Prelude.{◌≡◌, ◌≢◌, ◌≤◌, ◌∷◌, [], false};
+ghost use Rattle.std.specs.Prelude.{◌≡◌, ◌≢◌, ◌≤◌, ◌∷◌, [], false, OnOk};
 ghost use Rattle.hoa_lexer.specs.declared.token.Token.{Token};
 ghost use Rattle.hoa_parser.specs.inner.Expecting as part;
 ghost use Rattle.hoa_parser.specs.inner.Expecting.{condition_parts, set_parts};
@@ -27,13 +27,9 @@ pub(super) fn condition<I: Inputs>(
     requires unspent { lexer.old.spent ≡ false }
     requires depth { depth ≤ MOST_DEPTH }
     ensures reads { Reads (condition_parts depth) [] (IsCondition depth) result
-        (state lexer.old ahead.old (I.left inputs.old) (I.read_faults inputs.old) (I.open_faults inputs.old) (I.texts inputs.old))
-        (state lexer.new ahead.new (I.left inputs.new) (I.read_faults inputs.new) (I.open_faults inputs.new) (I.texts inputs.new)) }
+        (state lexer.old ahead.old (I.seen inputs.old)) (state lexer.new ahead.new (I.seen inputs.new)) }
 {
-    let first = match fand(alloc, lexer, inputs, ahead, depth) {
-        Ok(first) => first,
-        Err(fault) => return Err(fault),
-    };
+    let first = fand(alloc, lexer, inputs, ahead, depth)?;
     or_fands(alloc, lexer, inputs, ahead, depth, first)
 }
 
@@ -50,27 +46,20 @@ fn or_fands<I: Inputs>(
     requires unspent { lexer.old.spent ≡ false }
     requires depth { depth ≤ MOST_DEPTH }
     ensures reads { Reads (part.Conjunctions depth ∷ []) [] (IsOrFands depth (formula_tree first)) result
-        (state lexer.old ahead.old (I.left inputs.old) (I.read_faults inputs.old) (I.open_faults inputs.old) (I.texts inputs.old))
-        (state lexer.new ahead.new (I.left inputs.new) (I.read_faults inputs.new) (I.open_faults inputs.new) (I.texts inputs.new)) }
+        (state lexer.old ahead.old (I.seen inputs.old)) (state lexer.new ahead.new (I.seen inputs.new)) }
 {
     match ahead {
         Token::Bar => {}
         _ => return Ok(first),
     }
-    let second = match or_fand(alloc, lexer, inputs, ahead, depth) {
-        Ok(second) => second,
-        Err(fault) => return Err(fault),
-    };
+    let second = or_fand(alloc, lexer, inputs, ahead, depth)?;
     let mut parts = Formulas::pair(alloc, first, second)?;
     'fands: loop {
         match ahead {
             Token::Bar => {}
             _ => return Ok(Formula::Or(parts)),
         }
-        let next = match or_fand(alloc, lexer, inputs, ahead, depth) {
-            Ok(next) => next,
-            Err(fault) => return Err(fault),
-        };
+        let next = or_fand(alloc, lexer, inputs, ahead, depth)?;
         parts.push(next)?;
     }
 }
@@ -88,16 +77,11 @@ fn or_fand<I: Inputs>(
     requires bar { ahead.old ≡ Token.Bar }
     requires depth { depth ≤ MOST_DEPTH }
     ensures reads { Reads (part.Conjunctions depth ∷ []) (part.Conjunctions depth ∷ []) (IsOrFand depth) result
-        (state lexer.old ahead.old (I.left inputs.old) (I.read_faults inputs.old) (I.open_faults inputs.old) (I.texts inputs.old))
-        (state lexer.new ahead.new (I.left inputs.new) (I.read_faults inputs.new) (I.open_faults inputs.new) (I.texts inputs.new)) }
-    ensures uses { Uses result
-        (state lexer.old ahead.old (I.left inputs.old) (I.read_faults inputs.old) (I.open_faults inputs.old) (I.texts inputs.old))
-        (state lexer.new ahead.new (I.left inputs.new) (I.read_faults inputs.new) (I.open_faults inputs.new) (I.texts inputs.new)) }
+        (state lexer.old ahead.old (I.seen inputs.old)) (state lexer.new ahead.new (I.seen inputs.new)) }
+    ensures uses { OnOk result (Uses lexer.old lexer.new) }
 {
-    match advance(alloc, lexer, inputs, ahead) {
-        Ok(()) => fand(alloc, lexer, inputs, ahead, depth),
-        Err(fault) => Err(fault),
-    }
+    advance(alloc, lexer, inputs, ahead)?;
+    fand(alloc, lexer, inputs, ahead, depth)
 }
 
 /// fand = fatom ("&" fatom)*
@@ -112,13 +96,9 @@ fn fand<I: Inputs>(
     requires unspent { lexer.old.spent ≡ false }
     requires depth { depth ≤ MOST_DEPTH }
     ensures reads { Reads (part.Atom depth ∷ part.Atoms depth ∷ []) [] (IsFand depth) result
-        (state lexer.old ahead.old (I.left inputs.old) (I.read_faults inputs.old) (I.open_faults inputs.old) (I.texts inputs.old))
-        (state lexer.new ahead.new (I.left inputs.new) (I.read_faults inputs.new) (I.open_faults inputs.new) (I.texts inputs.new)) }
+        (state lexer.old ahead.old (I.seen inputs.old)) (state lexer.new ahead.new (I.seen inputs.new)) }
 {
-    let first = match fatom(alloc, lexer, inputs, ahead, depth) {
-        Ok(first) => first,
-        Err(fault) => return Err(fault),
-    };
+    let first = fatom(alloc, lexer, inputs, ahead, depth)?;
     and_fatoms(alloc, lexer, inputs, ahead, depth, first)
 }
 
@@ -135,27 +115,20 @@ fn and_fatoms<I: Inputs>(
     requires unspent { lexer.old.spent ≡ false }
     requires depth { depth ≤ MOST_DEPTH }
     ensures reads { Reads (part.Atoms depth ∷ []) [] (IsAndFatoms depth (formula_tree first)) result
-        (state lexer.old ahead.old (I.left inputs.old) (I.read_faults inputs.old) (I.open_faults inputs.old) (I.texts inputs.old))
-        (state lexer.new ahead.new (I.left inputs.new) (I.read_faults inputs.new) (I.open_faults inputs.new) (I.texts inputs.new)) }
+        (state lexer.old ahead.old (I.seen inputs.old)) (state lexer.new ahead.new (I.seen inputs.new)) }
 {
     match ahead {
         Token::Amp => {}
         _ => return Ok(first),
     }
-    let second = match and_fatom(alloc, lexer, inputs, ahead, depth) {
-        Ok(second) => second,
-        Err(fault) => return Err(fault),
-    };
+    let second = and_fatom(alloc, lexer, inputs, ahead, depth)?;
     let mut parts = Formulas::pair(alloc, first, second)?;
     'fatoms: loop {
         match ahead {
             Token::Amp => {}
             _ => return Ok(Formula::And(parts)),
         }
-        let next = match and_fatom(alloc, lexer, inputs, ahead, depth) {
-            Ok(next) => next,
-            Err(fault) => return Err(fault),
-        };
+        let next = and_fatom(alloc, lexer, inputs, ahead, depth)?;
         parts.push(next)?;
     }
 }
@@ -173,16 +146,11 @@ fn and_fatom<I: Inputs>(
     requires amp { ahead.old ≡ Token.Amp }
     requires depth { depth ≤ MOST_DEPTH }
     ensures reads { Reads (part.Atoms depth ∷ []) (part.Atoms depth ∷ []) (IsAndFatom depth) result
-        (state lexer.old ahead.old (I.left inputs.old) (I.read_faults inputs.old) (I.open_faults inputs.old) (I.texts inputs.old))
-        (state lexer.new ahead.new (I.left inputs.new) (I.read_faults inputs.new) (I.open_faults inputs.new) (I.texts inputs.new)) }
-    ensures uses { Uses result
-        (state lexer.old ahead.old (I.left inputs.old) (I.read_faults inputs.old) (I.open_faults inputs.old) (I.texts inputs.old))
-        (state lexer.new ahead.new (I.left inputs.new) (I.read_faults inputs.new) (I.open_faults inputs.new) (I.texts inputs.new)) }
+        (state lexer.old ahead.old (I.seen inputs.old)) (state lexer.new ahead.new (I.seen inputs.new)) }
+    ensures uses { OnOk result (Uses lexer.old lexer.new) }
 {
-    match advance(alloc, lexer, inputs, ahead) {
-        Ok(()) => fatom(alloc, lexer, inputs, ahead, depth),
-        Err(fault) => Err(fault),
-    }
+    advance(alloc, lexer, inputs, ahead)?;
+    fatom(alloc, lexer, inputs, ahead, depth)
 }
 
 /// fatom = "t" | "f" | ("Inf" | "Fin") "(" "!"? INT ")" | "(" formula ")"
@@ -197,8 +165,7 @@ fn fatom<I: Inputs>(
     requires unspent { lexer.old.spent ≡ false }
     requires depth { depth ≤ MOST_DEPTH }
     ensures reads { Reads (part.Atom depth ∷ []) [] (IsFatom depth) result
-        (state lexer.old ahead.old (I.left inputs.old) (I.read_faults inputs.old) (I.open_faults inputs.old) (I.texts inputs.old))
-        (state lexer.new ahead.new (I.left inputs.new) (I.read_faults inputs.new) (I.open_faults inputs.new) (I.texts inputs.new)) }
+        (state lexer.old ahead.old (I.seen inputs.old)) (state lexer.new ahead.new (I.seen inputs.new)) }
 {
     match ahead {
         Token::LeftParen => group(alloc, lexer, inputs, ahead, depth),
@@ -219,24 +186,15 @@ fn group<I: Inputs>(
     requires paren { ahead.old ≡ Token.LeftParen }
     requires depth { depth ≤ MOST_DEPTH }
     ensures reads { Reads (part.Atom depth ∷ []) [] (IsFatom depth) result
-        (state lexer.old ahead.old (I.left inputs.old) (I.read_faults inputs.old) (I.open_faults inputs.old) (I.texts inputs.old))
-        (state lexer.new ahead.new (I.left inputs.new) (I.read_faults inputs.new) (I.open_faults inputs.new) (I.texts inputs.new)) }
+        (state lexer.old ahead.old (I.seen inputs.old)) (state lexer.new ahead.new (I.seen inputs.new)) }
 {
     if depth >= MOST_DEPTH {
         return Err(ReadFault::Depth);
     }
-    match advance(alloc, lexer, inputs, ahead) {
-        Ok(()) => {}
-        Err(fault) => return Err(fault),
-    }
-    let inner = match condition(alloc, lexer, inputs, ahead, depth + 1) {
-        Ok(inner) => inner,
-        Err(fault) => return Err(fault),
-    };
-    match closing_paren(alloc, lexer, inputs, ahead) {
-        Ok(()) => Ok(inner),
-        Err(fault) => Err(fault),
-    }
+    advance(alloc, lexer, inputs, ahead)?;
+    let inner = condition(alloc, lexer, inputs, ahead, depth + 1)?;
+    closing_paren(alloc, lexer, inputs, ahead)?;
+    Ok(inner)
 }
 
 /// What a word says in a condition.
@@ -286,33 +244,23 @@ fn atom<I: Inputs>(
     requires unspent { lexer.old.spent ≡ false }
     requires no_paren { ahead.old ≢ Token.LeftParen }
     ensures reads { Reads (part.Atom depth ∷ []) [] (IsFatom depth) result
-        (state lexer.old ahead.old (I.left inputs.old) (I.read_faults inputs.old) (I.open_faults inputs.old) (I.texts inputs.old))
-        (state lexer.new ahead.new (I.left inputs.new) (I.read_faults inputs.new) (I.open_faults inputs.new) (I.texts inputs.new)) }
+        (state lexer.old ahead.old (I.seen inputs.old)) (state lexer.new ahead.new (I.seen inputs.new)) }
 {
     let Some(sign) = sign_at(ahead) else {
-        return Err(refused(ahead, lexer));
+        return Err(refused(lexer));
     };
-    match advance(alloc, lexer, inputs, ahead) {
-        Ok(()) => {}
-        Err(fault) => return Err(fault),
-    }
+    advance(alloc, lexer, inputs, ahead)?;
     match sign {
         Sign::True => Ok(Formula::True),
         Sign::False => Ok(Formula::False),
-        Sign::Inf => match set(alloc, lexer, inputs, ahead) {
-            Ok(set) => Ok(Formula::Inf {
-                set: set.number,
-                neg: set.neg,
-            }),
-            Err(fault) => Err(fault),
-        },
-        Sign::Fin => match set(alloc, lexer, inputs, ahead) {
-            Ok(set) => Ok(Formula::Fin {
-                set: set.number,
-                neg: set.neg,
-            }),
-            Err(fault) => Err(fault),
-        },
+        Sign::Inf => {
+            let SetAt { number, neg } = set(alloc, lexer, inputs, ahead)?;
+            Ok(Formula::Inf { set: number, neg })
+        }
+        Sign::Fin => {
+            let SetAt { number, neg } = set(alloc, lexer, inputs, ahead)?;
+            Ok(Formula::Fin { set: number, neg })
+        }
     }
 }
 
@@ -332,25 +280,13 @@ fn set<I: Inputs>(
 ) -> Result<SetAt, ReadFault>
     requires unspent { lexer.old.spent ≡ false }
     ensures reads { Reads set_parts [] IsSet result
-        (state lexer.old ahead.old (I.left inputs.old) (I.read_faults inputs.old) (I.open_faults inputs.old) (I.texts inputs.old))
-        (state lexer.new ahead.new (I.left inputs.new) (I.read_faults inputs.new) (I.open_faults inputs.new) (I.texts inputs.new)) }
+        (state lexer.old ahead.old (I.seen inputs.old)) (state lexer.new ahead.new (I.seen inputs.new)) }
 {
-    match opening_paren(alloc, lexer, inputs, ahead) {
-        Ok(()) => {}
-        Err(fault) => return Err(fault),
-    }
-    let neg = match maybe_bang(alloc, lexer, inputs, ahead) {
-        Ok(neg) => neg,
-        Err(fault) => return Err(fault),
-    };
-    let number = match number(alloc, lexer, inputs, ahead) {
-        Ok(number) => number,
-        Err(fault) => return Err(fault),
-    };
-    match closing_paren(alloc, lexer, inputs, ahead) {
-        Ok(()) => Ok(SetAt { number, neg }),
-        Err(fault) => Err(fault),
-    }
+    opening_paren(alloc, lexer, inputs, ahead)?;
+    let neg = maybe_bang(alloc, lexer, inputs, ahead)?;
+    let number = number(alloc, lexer, inputs, ahead)?;
+    closing_paren(alloc, lexer, inputs, ahead)?;
+    Ok(SetAt { number, neg })
 }
 
 /// "!"?
@@ -362,15 +298,12 @@ fn maybe_bang<I: Inputs>(
 ) -> Result<bool, ReadFault>
     requires unspent { lexer.old.spent ≡ false }
     ensures reads { Reads (part.MaybeBang ∷ []) [] IsMaybeBang result
-        (state lexer.old ahead.old (I.left inputs.old) (I.read_faults inputs.old) (I.open_faults inputs.old) (I.texts inputs.old))
-        (state lexer.new ahead.new (I.left inputs.new) (I.read_faults inputs.new) (I.open_faults inputs.new) (I.texts inputs.new)) }
+        (state lexer.old ahead.old (I.seen inputs.old)) (state lexer.new ahead.new (I.seen inputs.new)) }
 {
     match ahead {
         Token::Bang => {}
         _ => return Ok(false),
     }
-    match advance(alloc, lexer, inputs, ahead) {
-        Ok(()) => Ok(true),
-        Err(fault) => Err(fault),
-    }
+    advance(alloc, lexer, inputs, ahead)?;
+    Ok(true)
 }

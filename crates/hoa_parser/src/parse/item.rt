@@ -11,7 +11,7 @@ ghost use Rattle.hoa_parser.specs.inner.RuleReads.{AreItems, IsItem, IsItemOf, I
 use super::condition::condition;
 use super::label::label;
 use super::lists::{acc_values, conj, strings, values, words};
-use super::tokens::{advance, alias_name, maybe_quoted, number, quoted, refused, word};
+use super::tokens::{alias_name, maybe_quoted, number, quoted, refused, take, word};
 use crate::header::{Header, header_named};
 use crate::{Item, Items, ReadFault};
 use aut_base::Text;
@@ -28,8 +28,7 @@ pub(super) fn items<I: Inputs>(
 ) -> Result<Items, ReadFault>
     requires unspent { lexer.old.spent ≡ false }
     ensures reads { Reads (part.Items ∷ []) (part.Items ∷ []) AreItems result
-        (state lexer.old ahead.old (I.left inputs.old) (I.read_faults inputs.old) (I.open_faults inputs.old) (I.texts inputs.old))
-        (state lexer.new ahead.new (I.left inputs.new) (I.read_faults inputs.new) (I.open_faults inputs.new) (I.texts inputs.new)) }
+        (state lexer.old ahead.old (I.seen inputs.old)) (state lexer.new ahead.new (I.seen inputs.new)) }
     ensures ends { OnOk result (ahead.new ≡ Token.Body) }
 {
     let mut items = Items::new(alloc);
@@ -37,12 +36,9 @@ pub(super) fn items<I: Inputs>(
         match ahead {
             Token::HeaderName(_) => {}
             Token::Body => return Ok(items),
-            _ => return Err(refused(ahead, lexer)),
+            _ => return Err(refused(lexer)),
         }
-        let item = match item(alloc, lexer, inputs, ahead) {
-            Ok(item) => item,
-            Err(fault) => return Err(fault),
-        };
+        let item = item(alloc, lexer, inputs, ahead)?;
         items.push(item)?;
     }
 }
@@ -57,24 +53,20 @@ fn item<I: Inputs>(
     requires unspent { lexer.old.spent ≡ false }
     requires no_body { ahead.old ≢ Token.Body }
     ensures reads { Reads (part.Items ∷ []) (part.Items ∷ []) IsItem result
-        (state lexer.old ahead.old (I.left inputs.old) (I.read_faults inputs.old) (I.open_faults inputs.old) (I.texts inputs.old))
-        (state lexer.new ahead.new (I.left inputs.new) (I.read_faults inputs.new) (I.open_faults inputs.new) (I.texts inputs.new)) }
-    ensures uses { Uses result
-        (state lexer.old ahead.old (I.left inputs.old) (I.read_faults inputs.old) (I.open_faults inputs.old) (I.texts inputs.old))
-        (state lexer.new ahead.new (I.left inputs.new) (I.read_faults inputs.new) (I.open_faults inputs.new) (I.texts inputs.new)) }
+        (state lexer.old ahead.old (I.seen inputs.old)) (state lexer.new ahead.new (I.seen inputs.new)) }
+    ensures uses { OnOk result (Uses lexer.old lexer.new) }
 {
-    let name = match ahead {
-        Token::HeaderName(name) => name.copy(alloc)?,
-        _ => return Err(refused(ahead, lexer)),
+    let header = match ahead {
+        Token::HeaderName(name) => header_named(name),
+        _ => return Err(refused(lexer)),
     };
-    let header = header_named(&name);
     match header {
-        Header::Opening | Header::State => return Err(refused(ahead, lexer)),
+        Header::Opening | Header::State => return Err(refused(lexer)),
         _ => {}
     }
-    match advance(alloc, lexer, inputs, ahead) {
-        Ok(()) => item_of(alloc, lexer, inputs, ahead, header, name),
-        Err(fault) => Err(fault),
+    match take(alloc, lexer, inputs, ahead)? {
+        Token::HeaderName(name) => item_of(alloc, lexer, inputs, ahead, header, name),
+        _ => unreachable!(),
     }
 }
 
@@ -91,37 +83,22 @@ fn item_of<I: Inputs>(
     requires no_opening { header ≢ Header.Opening }
     requires no_state { header ≢ Header.State }
     ensures reads { Reads (header_parts header) [] (IsItemOf header name) result
-        (state lexer.old ahead.old (I.left inputs.old) (I.read_faults inputs.old) (I.open_faults inputs.old) (I.texts inputs.old))
-        (state lexer.new ahead.new (I.left inputs.new) (I.read_faults inputs.new) (I.open_faults inputs.new) (I.texts inputs.new)) }
+        (state lexer.old ahead.old (I.seen inputs.old)) (state lexer.new ahead.new (I.seen inputs.new)) }
 {
     match header {
-        Header::States => match number(alloc, lexer, inputs, ahead) {
-            Ok(states) => Ok(Item::States(states)),
-            Err(fault) => Err(fault),
-        },
-        Header::Start => match conj(alloc, lexer, inputs, ahead) {
-            Ok(states) => Ok(Item::Start(states)),
-            Err(fault) => Err(fault),
-        },
+        Header::States => Ok(Item::States(number(alloc, lexer, inputs, ahead)?)),
+        Header::Start => Ok(Item::Start(conj(alloc, lexer, inputs, ahead)?)),
         Header::Ap => names(alloc, lexer, inputs, ahead),
         Header::Alias => alias(alloc, lexer, inputs, ahead),
         Header::Acceptance => acceptance(alloc, lexer, inputs, ahead),
         Header::AccName => acc_name(alloc, lexer, inputs, ahead),
         Header::Tool => tool(alloc, lexer, inputs, ahead),
-        Header::Name => match quoted(alloc, lexer, inputs, ahead) {
-            Ok(text) => Ok(Item::Name(text)),
-            Err(fault) => Err(fault),
-        },
-        Header::Properties => match words(alloc, lexer, inputs, ahead) {
-            Ok(words) => Ok(Item::Properties(words)),
-            Err(fault) => Err(fault),
-        },
-        Header::Other | Header::Opening | Header::State => match values(
-            alloc, lexer, inputs, ahead,
-        ) {
-            Ok(()) => Ok(Item::Other(name)),
-            Err(fault) => Err(fault),
-        },
+        Header::Name => Ok(Item::Name(quoted(alloc, lexer, inputs, ahead)?)),
+        Header::Properties => Ok(Item::Properties(words(alloc, lexer, inputs, ahead)?)),
+        Header::Other | Header::Opening | Header::State => {
+            values(alloc, lexer, inputs, ahead)?;
+            Ok(Item::Other(name))
+        }
     }
 }
 
@@ -134,17 +111,11 @@ fn names<I: Inputs>(
 ) -> Result<Item, ReadFault>
     requires unspent { lexer.old.spent ≡ false }
     ensures reads { Reads (header_parts Header.Ap) [] (IsItemWritten Header.Ap) result
-        (state lexer.old ahead.old (I.left inputs.old) (I.read_faults inputs.old) (I.open_faults inputs.old) (I.texts inputs.old))
-        (state lexer.new ahead.new (I.left inputs.new) (I.read_faults inputs.new) (I.open_faults inputs.new) (I.texts inputs.new)) }
+        (state lexer.old ahead.old (I.seen inputs.old)) (state lexer.new ahead.new (I.seen inputs.new)) }
 {
-    let count = match number(alloc, lexer, inputs, ahead) {
-        Ok(count) => count,
-        Err(fault) => return Err(fault),
-    };
-    match strings(alloc, lexer, inputs, ahead) {
-        Ok(names) => Ok(Item::Ap { count, names }),
-        Err(fault) => Err(fault),
-    }
+    let count = number(alloc, lexer, inputs, ahead)?;
+    let names = strings(alloc, lexer, inputs, ahead)?;
+    Ok(Item::Ap { count, names })
 }
 
 /// "Alias:" ANAME label
@@ -156,17 +127,11 @@ fn alias<I: Inputs>(
 ) -> Result<Item, ReadFault>
     requires unspent { lexer.old.spent ≡ false }
     ensures reads { Reads (header_parts Header.Alias) [] (IsItemWritten Header.Alias) result
-        (state lexer.old ahead.old (I.left inputs.old) (I.read_faults inputs.old) (I.open_faults inputs.old) (I.texts inputs.old))
-        (state lexer.new ahead.new (I.left inputs.new) (I.read_faults inputs.new) (I.open_faults inputs.new) (I.texts inputs.new)) }
+        (state lexer.old ahead.old (I.seen inputs.old)) (state lexer.new ahead.new (I.seen inputs.new)) }
 {
-    let name = match alias_name(alloc, lexer, inputs, ahead) {
-        Ok(name) => name,
-        Err(fault) => return Err(fault),
-    };
-    match label(alloc, lexer, inputs, ahead, 0) {
-        Ok(label) => Ok(Item::Alias { name, label }),
-        Err(fault) => Err(fault),
-    }
+    let name = alias_name(alloc, lexer, inputs, ahead)?;
+    let label = label(alloc, lexer, inputs, ahead, 0)?;
+    Ok(Item::Alias { name, label })
 }
 
 /// "Acceptance:" INT formula
@@ -178,17 +143,11 @@ fn acceptance<I: Inputs>(
 ) -> Result<Item, ReadFault>
     requires unspent { lexer.old.spent ≡ false }
     ensures reads { Reads (header_parts Header.Acceptance) [] (IsItemWritten Header.Acceptance) result
-        (state lexer.old ahead.old (I.left inputs.old) (I.read_faults inputs.old) (I.open_faults inputs.old) (I.texts inputs.old))
-        (state lexer.new ahead.new (I.left inputs.new) (I.read_faults inputs.new) (I.open_faults inputs.new) (I.texts inputs.new)) }
+        (state lexer.old ahead.old (I.seen inputs.old)) (state lexer.new ahead.new (I.seen inputs.new)) }
 {
-    let sets = match number(alloc, lexer, inputs, ahead) {
-        Ok(sets) => sets,
-        Err(fault) => return Err(fault),
-    };
-    match condition(alloc, lexer, inputs, ahead, 0) {
-        Ok(formula) => Ok(Item::Acceptance { sets, formula }),
-        Err(fault) => Err(fault),
-    }
+    let sets = number(alloc, lexer, inputs, ahead)?;
+    let formula = condition(alloc, lexer, inputs, ahead, 0)?;
+    Ok(Item::Acceptance { sets, formula })
 }
 
 /// "acc-name:" IDENTIFIER (INT | IDENTIFIER)*
@@ -200,17 +159,11 @@ fn acc_name<I: Inputs>(
 ) -> Result<Item, ReadFault>
     requires unspent { lexer.old.spent ≡ false }
     ensures reads { Reads (header_parts Header.AccName) [] (IsItemWritten Header.AccName) result
-        (state lexer.old ahead.old (I.left inputs.old) (I.read_faults inputs.old) (I.open_faults inputs.old) (I.texts inputs.old))
-        (state lexer.new ahead.new (I.left inputs.new) (I.read_faults inputs.new) (I.open_faults inputs.new) (I.texts inputs.new)) }
+        (state lexer.old ahead.old (I.seen inputs.old)) (state lexer.new ahead.new (I.seen inputs.new)) }
 {
-    match word(alloc, lexer, inputs, ahead) {
-        Ok(_) => {}
-        Err(fault) => return Err(fault),
-    }
-    match acc_values(alloc, lexer, inputs, ahead) {
-        Ok(()) => Ok(Item::AccName),
-        Err(fault) => Err(fault),
-    }
+    word(alloc, lexer, inputs, ahead)?;
+    acc_values(alloc, lexer, inputs, ahead)?;
+    Ok(Item::AccName)
 }
 
 /// "tool:" STRING STRING?
@@ -222,15 +175,9 @@ fn tool<I: Inputs>(
 ) -> Result<Item, ReadFault>
     requires unspent { lexer.old.spent ≡ false }
     ensures reads { Reads (header_parts Header.Tool) [] (IsItemWritten Header.Tool) result
-        (state lexer.old ahead.old (I.left inputs.old) (I.read_faults inputs.old) (I.open_faults inputs.old) (I.texts inputs.old))
-        (state lexer.new ahead.new (I.left inputs.new) (I.read_faults inputs.new) (I.open_faults inputs.new) (I.texts inputs.new)) }
+        (state lexer.old ahead.old (I.seen inputs.old)) (state lexer.new ahead.new (I.seen inputs.new)) }
 {
-    match quoted(alloc, lexer, inputs, ahead) {
-        Ok(_) => {}
-        Err(fault) => return Err(fault),
-    }
-    match maybe_quoted(alloc, lexer, inputs, ahead) {
-        Ok(()) => Ok(Item::Tool),
-        Err(fault) => Err(fault),
-    }
+    quoted(alloc, lexer, inputs, ahead)?;
+    maybe_quoted(alloc, lexer, inputs, ahead)?;
+    Ok(Item::Tool)
 }

@@ -1,6 +1,6 @@
 //! Labels of edges, states and aliases.
 
-ghost use Rattle.std.specs.Prelude.{◌≡◌, ◌≢◌, ◌≤◌, ◌∷◌, [], false, IfOk};
+ghost use Rattle.std.specs.Prelude.{◌≡◌, ◌≢◌, ◌≤◌, ◌∷◌, [], false, is_some, OnOk};
 ghost use Rattle.std.specs.Option.{option_map};
 ghost use Rattle.hoa_lexer.specs.declared.token.Token.{Token};
 ghost use Rattle.hoa_parser.specs.inner.Expecting as part;
@@ -9,9 +9,9 @@ ghost use Rattle.hoa_parser.specs.inner.Parsing.{Reads, Uses, state};
 ghost use Rattle.hoa_parser.specs.inner.RuleReads.{atom_of, truth_value, IsAndLnot, IsAndLnots, IsLabel, IsLand, IsLnot, IsOrLand, IsOrLands};
 ghost use Rattle.hoa_parser.specs.Raw.{raw_tree};
 
-use super::tokens::{advance, closing_paren, refused};
+use super::tokens::{advance, closing_paren, refused, take};
 use crate::{RawLabel, RawLabels, ReadFault};
-use aut_base::{MOST_DEPTH, Memory, Text};
+use aut_base::{MOST_DEPTH, Text};
 use aut_io::Inputs;
 use hoa_lexer::{Lexer, Token};
 use std::alloc::Global;
@@ -28,13 +28,9 @@ pub(super) fn label<I: Inputs>(
     requires unspent { lexer.old.spent ≡ false }
     requires depth { depth ≤ MOST_DEPTH }
     ensures reads { Reads (label_parts depth) [] (IsLabel depth) result
-        (state lexer.old ahead.old (I.left inputs.old) (I.read_faults inputs.old) (I.open_faults inputs.old) (I.texts inputs.old))
-        (state lexer.new ahead.new (I.left inputs.new) (I.read_faults inputs.new) (I.open_faults inputs.new) (I.texts inputs.new)) }
+        (state lexer.old ahead.old (I.seen inputs.old)) (state lexer.new ahead.new (I.seen inputs.new)) }
 {
-    let first = match land(alloc, lexer, inputs, ahead, depth) {
-        Ok(first) => first,
-        Err(fault) => return Err(fault),
-    };
+    let first = land(alloc, lexer, inputs, ahead, depth)?;
     or_lands(alloc, lexer, inputs, ahead, depth, first)
 }
 
@@ -51,27 +47,20 @@ fn or_lands<I: Inputs>(
     requires unspent { lexer.old.spent ≡ false }
     requires depth { depth ≤ MOST_DEPTH }
     ensures reads { Reads (part.Products depth ∷ []) [] (IsOrLands depth (raw_tree first)) result
-        (state lexer.old ahead.old (I.left inputs.old) (I.read_faults inputs.old) (I.open_faults inputs.old) (I.texts inputs.old))
-        (state lexer.new ahead.new (I.left inputs.new) (I.read_faults inputs.new) (I.open_faults inputs.new) (I.texts inputs.new)) }
+        (state lexer.old ahead.old (I.seen inputs.old)) (state lexer.new ahead.new (I.seen inputs.new)) }
 {
     match ahead {
         Token::Bar => {}
         _ => return Ok(first),
     }
-    let second = match or_land(alloc, lexer, inputs, ahead, depth) {
-        Ok(second) => second,
-        Err(fault) => return Err(fault),
-    };
+    let second = or_land(alloc, lexer, inputs, ahead, depth)?;
     let mut parts = RawLabels::pair(alloc, first, second)?;
     'lands: loop {
         match ahead {
             Token::Bar => {}
             _ => return Ok(RawLabel::Or(parts)),
         }
-        let next = match or_land(alloc, lexer, inputs, ahead, depth) {
-            Ok(next) => next,
-            Err(fault) => return Err(fault),
-        };
+        let next = or_land(alloc, lexer, inputs, ahead, depth)?;
         parts.push(next)?;
     }
 }
@@ -89,16 +78,11 @@ fn or_land<I: Inputs>(
     requires bar { ahead.old ≡ Token.Bar }
     requires depth { depth ≤ MOST_DEPTH }
     ensures reads { Reads (part.Products depth ∷ []) (part.Products depth ∷ []) (IsOrLand depth) result
-        (state lexer.old ahead.old (I.left inputs.old) (I.read_faults inputs.old) (I.open_faults inputs.old) (I.texts inputs.old))
-        (state lexer.new ahead.new (I.left inputs.new) (I.read_faults inputs.new) (I.open_faults inputs.new) (I.texts inputs.new)) }
-    ensures uses { Uses result
-        (state lexer.old ahead.old (I.left inputs.old) (I.read_faults inputs.old) (I.open_faults inputs.old) (I.texts inputs.old))
-        (state lexer.new ahead.new (I.left inputs.new) (I.read_faults inputs.new) (I.open_faults inputs.new) (I.texts inputs.new)) }
+        (state lexer.old ahead.old (I.seen inputs.old)) (state lexer.new ahead.new (I.seen inputs.new)) }
+    ensures uses { OnOk result (Uses lexer.old lexer.new) }
 {
-    match advance(alloc, lexer, inputs, ahead) {
-        Ok(()) => land(alloc, lexer, inputs, ahead, depth),
-        Err(fault) => Err(fault),
-    }
+    advance(alloc, lexer, inputs, ahead)?;
+    land(alloc, lexer, inputs, ahead, depth)
 }
 
 /// land = lnot ("&" lnot)*
@@ -113,13 +97,9 @@ fn land<I: Inputs>(
     requires unspent { lexer.old.spent ≡ false }
     requires depth { depth ≤ MOST_DEPTH }
     ensures reads { Reads (part.Factor depth ∷ part.Factors depth ∷ []) [] (IsLand depth) result
-        (state lexer.old ahead.old (I.left inputs.old) (I.read_faults inputs.old) (I.open_faults inputs.old) (I.texts inputs.old))
-        (state lexer.new ahead.new (I.left inputs.new) (I.read_faults inputs.new) (I.open_faults inputs.new) (I.texts inputs.new)) }
+        (state lexer.old ahead.old (I.seen inputs.old)) (state lexer.new ahead.new (I.seen inputs.new)) }
 {
-    let first = match lnot(alloc, lexer, inputs, ahead, depth) {
-        Ok(first) => first,
-        Err(fault) => return Err(fault),
-    };
+    let first = lnot(alloc, lexer, inputs, ahead, depth)?;
     and_lnots(alloc, lexer, inputs, ahead, depth, first)
 }
 
@@ -136,27 +116,20 @@ fn and_lnots<I: Inputs>(
     requires unspent { lexer.old.spent ≡ false }
     requires depth { depth ≤ MOST_DEPTH }
     ensures reads { Reads (part.Factors depth ∷ []) [] (IsAndLnots depth (raw_tree first)) result
-        (state lexer.old ahead.old (I.left inputs.old) (I.read_faults inputs.old) (I.open_faults inputs.old) (I.texts inputs.old))
-        (state lexer.new ahead.new (I.left inputs.new) (I.read_faults inputs.new) (I.open_faults inputs.new) (I.texts inputs.new)) }
+        (state lexer.old ahead.old (I.seen inputs.old)) (state lexer.new ahead.new (I.seen inputs.new)) }
 {
     match ahead {
         Token::Amp => {}
         _ => return Ok(first),
     }
-    let second = match and_lnot(alloc, lexer, inputs, ahead, depth) {
-        Ok(second) => second,
-        Err(fault) => return Err(fault),
-    };
+    let second = and_lnot(alloc, lexer, inputs, ahead, depth)?;
     let mut parts = RawLabels::pair(alloc, first, second)?;
     'lnots: loop {
         match ahead {
             Token::Amp => {}
             _ => return Ok(RawLabel::And(parts)),
         }
-        let next = match and_lnot(alloc, lexer, inputs, ahead, depth) {
-            Ok(next) => next,
-            Err(fault) => return Err(fault),
-        };
+        let next = and_lnot(alloc, lexer, inputs, ahead, depth)?;
         parts.push(next)?;
     }
 }
@@ -174,16 +147,11 @@ fn and_lnot<I: Inputs>(
     requires amp { ahead.old ≡ Token.Amp }
     requires depth { depth ≤ MOST_DEPTH }
     ensures reads { Reads (part.Factors depth ∷ []) (part.Factors depth ∷ []) (IsAndLnot depth) result
-        (state lexer.old ahead.old (I.left inputs.old) (I.read_faults inputs.old) (I.open_faults inputs.old) (I.texts inputs.old))
-        (state lexer.new ahead.new (I.left inputs.new) (I.read_faults inputs.new) (I.open_faults inputs.new) (I.texts inputs.new)) }
-    ensures uses { Uses result
-        (state lexer.old ahead.old (I.left inputs.old) (I.read_faults inputs.old) (I.open_faults inputs.old) (I.texts inputs.old))
-        (state lexer.new ahead.new (I.left inputs.new) (I.read_faults inputs.new) (I.open_faults inputs.new) (I.texts inputs.new)) }
+        (state lexer.old ahead.old (I.seen inputs.old)) (state lexer.new ahead.new (I.seen inputs.new)) }
+    ensures uses { OnOk result (Uses lexer.old lexer.new) }
 {
-    match advance(alloc, lexer, inputs, ahead) {
-        Ok(()) => lnot(alloc, lexer, inputs, ahead, depth),
-        Err(fault) => Err(fault),
-    }
+    advance(alloc, lexer, inputs, ahead)?;
+    lnot(alloc, lexer, inputs, ahead, depth)
 }
 
 /// lnot = "!" lnot | "t" | "f" | INT | ANAME | "(" label ")"
@@ -198,8 +166,7 @@ fn lnot<I: Inputs>(
     requires unspent { lexer.old.spent ≡ false }
     requires depth { depth ≤ MOST_DEPTH }
     ensures reads { Reads (part.Factor depth ∷ []) [] (IsLnot depth) result
-        (state lexer.old ahead.old (I.left inputs.old) (I.read_faults inputs.old) (I.open_faults inputs.old) (I.texts inputs.old))
-        (state lexer.new ahead.new (I.left inputs.new) (I.read_faults inputs.new) (I.open_faults inputs.new) (I.texts inputs.new)) }
+        (state lexer.old ahead.old (I.seen inputs.old)) (state lexer.new ahead.new (I.seen inputs.new)) }
 {
     match ahead {
         Token::Bang => negation(alloc, lexer, inputs, ahead, depth),
@@ -221,20 +188,13 @@ fn negation<I: Inputs>(
     requires bang { ahead.old ≡ Token.Bang }
     requires depth { depth ≤ MOST_DEPTH }
     ensures reads { Reads (part.Factor depth ∷ []) [] (IsLnot depth) result
-        (state lexer.old ahead.old (I.left inputs.old) (I.read_faults inputs.old) (I.open_faults inputs.old) (I.texts inputs.old))
-        (state lexer.new ahead.new (I.left inputs.new) (I.read_faults inputs.new) (I.open_faults inputs.new) (I.texts inputs.new)) }
+        (state lexer.old ahead.old (I.seen inputs.old)) (state lexer.new ahead.new (I.seen inputs.new)) }
 {
     if depth >= MOST_DEPTH {
         return Err(ReadFault::Depth);
     }
-    match advance(alloc, lexer, inputs, ahead) {
-        Ok(()) => {}
-        Err(fault) => return Err(fault),
-    }
-    let inner = match lnot(alloc, lexer, inputs, ahead, depth + 1) {
-        Ok(inner) => inner,
-        Err(fault) => return Err(fault),
-    };
+    advance(alloc, lexer, inputs, ahead)?;
+    let inner = lnot(alloc, lexer, inputs, ahead, depth + 1)?;
     Ok(RawLabel::Not(Box::new(alloc, inner)?))
 }
 
@@ -251,36 +211,38 @@ fn group<I: Inputs>(
     requires paren { ahead.old ≡ Token.LeftParen }
     requires depth { depth ≤ MOST_DEPTH }
     ensures reads { Reads (part.Factor depth ∷ []) [] (IsLnot depth) result
-        (state lexer.old ahead.old (I.left inputs.old) (I.read_faults inputs.old) (I.open_faults inputs.old) (I.texts inputs.old))
-        (state lexer.new ahead.new (I.left inputs.new) (I.read_faults inputs.new) (I.open_faults inputs.new) (I.texts inputs.new)) }
+        (state lexer.old ahead.old (I.seen inputs.old)) (state lexer.new ahead.new (I.seen inputs.new)) }
 {
     if depth >= MOST_DEPTH {
         return Err(ReadFault::Depth);
     }
-    match advance(alloc, lexer, inputs, ahead) {
-        Ok(()) => {}
-        Err(fault) => return Err(fault),
-    }
-    let inner = match label(alloc, lexer, inputs, ahead, depth + 1) {
-        Ok(inner) => inner,
-        Err(fault) => return Err(fault),
-    };
-    match closing_paren(alloc, lexer, inputs, ahead) {
-        Ok(()) => Ok(inner),
-        Err(fault) => Err(fault),
+    advance(alloc, lexer, inputs, ahead)?;
+    let inner = label(alloc, lexer, inputs, ahead, depth + 1)?;
+    closing_paren(alloc, lexer, inputs, ahead)?;
+    Ok(inner)
+}
+
+/// Whether the token is a label of its own: "t" | "f" | INT | ANAME
+fn is_atom(token: &Token) -> bool
+    ensures { result ≡ is_some (atom_of token.now) }
+{
+    match token {
+        Token::Identifier(word) => truth_value(word).is_some(),
+        Token::Int(_) | Token::Alias(_) => true,
+        _ => false,
     }
 }
 
-/// What the token says as a label of its own, if it is one: "t" | "f" | INT | ANAME
+/// What the token says as a label of its own, if it is one.
 #[tactic(auto, using(crate::proofs::grammar::RawTrees::raw_tree_rules))]
-fn atom_at(alloc: Global, token: &Token) -> Result<Option<RawLabel>, Memory>
-    ensures { IfOk result (λ label. option_map raw_tree label ≡ atom_of token.now) }
+fn atom_of(token: Token) -> Option<RawLabel>
+    ensures { option_map raw_tree result ≡ atom_of token }
 {
     match token {
-        Token::Identifier(word) => Ok(truth_value(word)),
-        Token::Int(place) => Ok(Some(RawLabel::Prop(*place))),
-        Token::Alias(name) => Ok(Some(RawLabel::Alias(name.copy(alloc)?))),
-        _ => Ok(None),
+        Token::Identifier(word) => truth_value(&word),
+        Token::Int(place) => Some(RawLabel::Prop(place)),
+        Token::Alias(name) => Some(RawLabel::Alias(name)),
+        _ => None,
     }
 }
 
@@ -310,16 +272,13 @@ fn atom<I: Inputs>(
     requires no_bang { ahead.old ≢ Token.Bang }
     requires no_paren { ahead.old ≢ Token.LeftParen }
     ensures reads { Reads (part.Factor depth ∷ []) [] (IsLnot depth) result
-        (state lexer.old ahead.old (I.left inputs.old) (I.read_faults inputs.old) (I.open_faults inputs.old) (I.texts inputs.old))
-        (state lexer.new ahead.new (I.left inputs.new) (I.read_faults inputs.new) (I.open_faults inputs.new) (I.texts inputs.new)) }
+        (state lexer.old ahead.old (I.seen inputs.old)) (state lexer.new ahead.new (I.seen inputs.new)) }
 {
-    let label = match atom_at(alloc, ahead) {
-        Ok(Some(label)) => label,
-        Ok(None) => return Err(refused(ahead, lexer)),
-        Err(_) => return Err(ReadFault::Memory),
-    };
-    match advance(alloc, lexer, inputs, ahead) {
-        Ok(()) => Ok(label),
-        Err(fault) => Err(fault),
+    if !is_atom(ahead) {
+        return Err(refused(lexer));
+    }
+    match atom_of(take(alloc, lexer, inputs, ahead)?) {
+        Some(label) => Ok(label),
+        None => unreachable!(),
     }
 }

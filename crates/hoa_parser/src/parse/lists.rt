@@ -1,6 +1,6 @@
 //! Parts that are lists of tokens.
 
-ghost use Rattle.std.specs.Prelude.{◌≡◌, ◌∷◌, [], false, IsTrue, ◌↔◌};
+ghost use Rattle.std.specs.Prelude.{◌≡◌, ◌∷◌, [], false, IsTrue, ◌↔◌, OnOk};
 ghost use Rattle.hoa_lexer.specs.declared.token.Token.{Token};
 ghost use Rattle.hoa_parser.specs.inner.Expecting as part;
 ghost use Rattle.hoa_parser.specs.inner.Expecting.{conj_parts};
@@ -8,7 +8,7 @@ ghost use Rattle.hoa_parser.specs.inner.Parsing.{Reads, Uses, state};
 ghost use Rattle.hoa_parser.specs.inner.RuleReads as written;
 ghost use Rattle.hoa_parser.specs.inner.RuleReads.{AddsMarks, AddsNumbers, AreAccValues, AreMarks, AreTexts, AreValues, AreWords, IsConj};
 
-use super::tokens::{advance, number, refused};
+use super::tokens::{advance, number, quoted, refused, word};
 use crate::ReadFault;
 use aut_base::{Numbers, Words};
 use aut_io::Inputs;
@@ -24,17 +24,11 @@ pub(super) fn conj<I: Inputs>(
 ) -> Result<Numbers, ReadFault>
     requires unspent { lexer.old.spent ≡ false }
     ensures reads { Reads conj_parts [] IsConj result
-        (state lexer.old ahead.old (I.left inputs.old) (I.read_faults inputs.old) (I.open_faults inputs.old) (I.texts inputs.old))
-        (state lexer.new ahead.new (I.left inputs.new) (I.read_faults inputs.new) (I.open_faults inputs.new) (I.texts inputs.new)) }
-    ensures uses { Uses result
-        (state lexer.old ahead.old (I.left inputs.old) (I.read_faults inputs.old) (I.open_faults inputs.old) (I.texts inputs.old))
-        (state lexer.new ahead.new (I.left inputs.new) (I.read_faults inputs.new) (I.open_faults inputs.new) (I.texts inputs.new)) }
+        (state lexer.old ahead.old (I.seen inputs.old)) (state lexer.new ahead.new (I.seen inputs.new)) }
+    ensures uses { OnOk result (Uses lexer.old lexer.new) }
 {
     let mut numbers = Numbers::new(alloc);
-    let first = match number(alloc, lexer, inputs, ahead) {
-        Ok(first) => first,
-        Err(fault) => return Err(fault),
-    };
+    let first = number(alloc, lexer, inputs, ahead)?;
     numbers.push(first)?;
     more_numbers(alloc, lexer, inputs, ahead, numbers)
 }
@@ -49,22 +43,15 @@ pub(super) fn more_numbers<I: Inputs>(
 ) -> Result<Numbers, ReadFault>
     requires unspent { lexer.old.spent ≡ false }
     ensures reads { Reads (part.MoreNumbers ∷ []) [] (AddsNumbers numbers) result
-        (state lexer.old ahead.old (I.left inputs.old) (I.read_faults inputs.old) (I.open_faults inputs.old) (I.texts inputs.old))
-        (state lexer.new ahead.new (I.left inputs.new) (I.read_faults inputs.new) (I.open_faults inputs.new) (I.texts inputs.new)) }
+        (state lexer.old ahead.old (I.seen inputs.old)) (state lexer.new ahead.new (I.seen inputs.new)) }
 {
     'numbers: loop {
         match ahead {
             Token::Amp => {}
             _ => return Ok(numbers),
         }
-        match advance(alloc, lexer, inputs, ahead) {
-            Ok(()) => {}
-            Err(fault) => return Err(fault),
-        }
-        let next = match number(alloc, lexer, inputs, ahead) {
-            Ok(next) => next,
-            Err(fault) => return Err(fault),
-        };
+        advance(alloc, lexer, inputs, ahead)?;
+        let next = number(alloc, lexer, inputs, ahead)?;
         numbers.push(next)?;
     }
 }
@@ -78,19 +65,16 @@ pub(super) fn strings<I: Inputs>(
 ) -> Result<Words, ReadFault>
     requires unspent { lexer.old.spent ≡ false }
     ensures reads { Reads (part.Strings ∷ []) [] AreTexts result
-        (state lexer.old ahead.old (I.left inputs.old) (I.read_faults inputs.old) (I.open_faults inputs.old) (I.texts inputs.old))
-        (state lexer.new ahead.new (I.left inputs.new) (I.read_faults inputs.new) (I.open_faults inputs.new) (I.texts inputs.new)) }
+        (state lexer.old ahead.old (I.seen inputs.old)) (state lexer.new ahead.new (I.seen inputs.new)) }
 {
     let mut texts = Words::new(alloc);
     'texts: loop {
         match ahead {
-            Token::Str(text) => texts.push(text.copy(alloc)?)?,
+            Token::Str(_) => {}
             _ => return Ok(texts),
         }
-        match advance(alloc, lexer, inputs, ahead) {
-            Ok(()) => {}
-            Err(fault) => return Err(fault),
-        }
+        let text = quoted(alloc, lexer, inputs, ahead)?;
+        texts.push(text)?;
     }
 }
 
@@ -103,19 +87,16 @@ pub(super) fn words<I: Inputs>(
 ) -> Result<Words, ReadFault>
     requires unspent { lexer.old.spent ≡ false }
     ensures reads { Reads (part.Words ∷ []) [] AreWords result
-        (state lexer.old ahead.old (I.left inputs.old) (I.read_faults inputs.old) (I.open_faults inputs.old) (I.texts inputs.old))
-        (state lexer.new ahead.new (I.left inputs.new) (I.read_faults inputs.new) (I.open_faults inputs.new) (I.texts inputs.new)) }
+        (state lexer.old ahead.old (I.seen inputs.old)) (state lexer.new ahead.new (I.seen inputs.new)) }
 {
     let mut words = Words::new(alloc);
     'words: loop {
         match ahead {
-            Token::Identifier(word) => words.push(word.copy(alloc)?)?,
+            Token::Identifier(_) => {}
             _ => return Ok(words),
         }
-        match advance(alloc, lexer, inputs, ahead) {
-            Ok(()) => {}
-            Err(fault) => return Err(fault),
-        }
+        let word = word(alloc, lexer, inputs, ahead)?;
+        words.push(word)?;
     }
 }
 
@@ -135,17 +116,13 @@ pub(super) fn acc_values<I: Inputs>(
 ) -> Result<(), ReadFault>
     requires unspent { lexer.old.spent ≡ false }
     ensures reads { Reads (part.AccValues ∷ []) [] AreAccValues result
-        (state lexer.old ahead.old (I.left inputs.old) (I.read_faults inputs.old) (I.open_faults inputs.old) (I.texts inputs.old))
-        (state lexer.new ahead.new (I.left inputs.new) (I.read_faults inputs.new) (I.open_faults inputs.new) (I.texts inputs.new)) }
+        (state lexer.old ahead.old (I.seen inputs.old)) (state lexer.new ahead.new (I.seen inputs.new)) }
 {
     'values: loop {
         if !is_acc_value(ahead) {
             return Ok(());
         }
-        match advance(alloc, lexer, inputs, ahead) {
-            Ok(()) => {}
-            Err(fault) => return Err(fault),
-        }
+        advance(alloc, lexer, inputs, ahead)?;
     }
 }
 
@@ -165,17 +142,13 @@ pub(super) fn values<I: Inputs>(
 ) -> Result<(), ReadFault>
     requires unspent { lexer.old.spent ≡ false }
     ensures reads { Reads (part.Values ∷ []) [] AreValues result
-        (state lexer.old ahead.old (I.left inputs.old) (I.read_faults inputs.old) (I.open_faults inputs.old) (I.texts inputs.old))
-        (state lexer.new ahead.new (I.left inputs.new) (I.read_faults inputs.new) (I.open_faults inputs.new) (I.texts inputs.new)) }
+        (state lexer.old ahead.old (I.seen inputs.old)) (state lexer.new ahead.new (I.seen inputs.new)) }
 {
     'values: loop {
         if !is_value(ahead) {
             return Ok(());
         }
-        match advance(alloc, lexer, inputs, ahead) {
-            Ok(()) => {}
-            Err(fault) => return Err(fault),
-        }
+        advance(alloc, lexer, inputs, ahead)?;
     }
 }
 
@@ -188,18 +161,15 @@ pub(super) fn maybe_marks<I: Inputs>(
 ) -> Result<Numbers, ReadFault>
     requires unspent { lexer.old.spent ≡ false }
     ensures reads { Reads (part.MaybeMarks ∷ []) [] AreMarks result
-        (state lexer.old ahead.old (I.left inputs.old) (I.read_faults inputs.old) (I.open_faults inputs.old) (I.texts inputs.old))
-        (state lexer.new ahead.new (I.left inputs.new) (I.read_faults inputs.new) (I.open_faults inputs.new) (I.texts inputs.new)) }
+        (state lexer.old ahead.old (I.seen inputs.old)) (state lexer.new ahead.new (I.seen inputs.new)) }
 {
     let marks = Numbers::new(alloc);
     match ahead {
         Token::LeftBrace => {}
         _ => return Ok(marks),
     }
-    match advance(alloc, lexer, inputs, ahead) {
-        Ok(()) => marks_behind(alloc, lexer, inputs, ahead, marks),
-        Err(fault) => Err(fault),
-    }
+    advance(alloc, lexer, inputs, ahead)?;
+    marks_behind(alloc, lexer, inputs, ahead, marks)
 }
 
 /// INT* "}", behind the marks that were read before
@@ -212,22 +182,16 @@ fn marks_behind<I: Inputs>(
 ) -> Result<Numbers, ReadFault>
     requires unspent { lexer.old.spent ≡ false }
     ensures reads { Reads (part.Marks ∷ []) [] (AddsMarks marks) result
-        (state lexer.old ahead.old (I.left inputs.old) (I.read_faults inputs.old) (I.open_faults inputs.old) (I.texts inputs.old))
-        (state lexer.new ahead.new (I.left inputs.new) (I.read_faults inputs.new) (I.open_faults inputs.new) (I.texts inputs.new)) }
+        (state lexer.old ahead.old (I.seen inputs.old)) (state lexer.new ahead.new (I.seen inputs.new)) }
 {
     'marks: loop {
         match ahead {
             Token::Int(mark) => marks.push(*mark)?,
             Token::RightBrace => break,
-            _ => return Err(refused(ahead, lexer)),
+            _ => return Err(refused(lexer)),
         }
-        match advance(alloc, lexer, inputs, ahead) {
-            Ok(()) => {}
-            Err(fault) => return Err(fault),
-        }
+        advance(alloc, lexer, inputs, ahead)?;
     }
-    match advance(alloc, lexer, inputs, ahead) {
-        Ok(()) => Ok(marks),
-        Err(fault) => Err(fault),
-    }
+    advance(alloc, lexer, inputs, ahead)?;
+    Ok(marks)
 }

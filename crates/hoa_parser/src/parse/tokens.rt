@@ -1,9 +1,10 @@
 //! Parts of one token.
 
-ghost use Rattle.std.specs.Prelude.{◌≡◌, [], ◌∷◌, false, IfSome, IfNone, IsTrue, ◌↔◌};
+ghost use Rattle.std.specs.Prelude.{◌≡◌, [], ◌∷◌, false, IfOk, OnOk};
 ghost use Rattle.hoa_lexer.specs.declared.token.Token.{Token};
 ghost use Rattle.hoa_parser.specs.inner.Expecting as part;
-ghost use Rattle.hoa_parser.specs.inner.Parsing.{Advances, Reads, Uses, refusal, state};
+ghost use Rattle.hoa_parser.specs.declared.fault.ReadFault.{ReadFault};
+ghost use Rattle.hoa_parser.specs.inner.Parsing.{Advances, Reads, Uses, state};
 ghost use Rattle.hoa_parser.specs.inner.RuleReads.{IsAliasName, IsToken, IsNumber, IsOptionalText, IsQuoted, IsWord};
 
 use crate::ReadFault;
@@ -11,8 +12,27 @@ use aut_base::Text;
 use aut_io::Inputs;
 use hoa_lexer::{Lexer, Token};
 use std::alloc::Global;
+use std::mem;
 
-/// Reads the token behind the one at hand, which is taken.
+/// Takes the token at hand, in whose place comes the one behind it.
+pub(super) fn take<I: Inputs>(
+    alloc: Global,
+    lexer: &mut Lexer,
+    inputs: &mut I,
+    ahead: &mut Token,
+) -> Result<Token, ReadFault>
+    requires unspent { lexer.old.spent ≡ false }
+    ensures takes { IfOk result (λ token. token ≡ ahead.old) }
+    ensures advances { Advances result
+        (state lexer.old ahead.old (I.seen inputs.old)) (state lexer.new ahead.new (I.seen inputs.new)) }
+{
+    match lexer.next(alloc, inputs)? {
+        Some(token) => Ok(mem::replace(ahead, token)),
+        None => Err(ReadFault::Truncated),
+    }
+}
+
+/// Reads the token behind the one at hand, which says no more.
 pub(super) fn advance<I: Inputs>(
     alloc: Global,
     lexer: &mut Lexer,
@@ -21,27 +41,17 @@ pub(super) fn advance<I: Inputs>(
 ) -> Result<(), ReadFault>
     requires unspent { lexer.old.spent ≡ false }
     ensures { Advances result
-        (state lexer.old ahead.old (I.left inputs.old) (I.read_faults inputs.old) (I.open_faults inputs.old) (I.texts inputs.old))
-        (state lexer.new ahead.new (I.left inputs.new) (I.read_faults inputs.new) (I.open_faults inputs.new) (I.texts inputs.new)) }
+        (state lexer.old ahead.old (I.seen inputs.old)) (state lexer.new ahead.new (I.seen inputs.new)) }
 {
-    match lexer.next(alloc, inputs) {
-        Ok(Some(token)) => {
-            *ahead = token;
-            Ok(())
-        }
-        Ok(None) => Err(ReadFault::Truncated),
-        Err(fault) => Err(ReadFault::from(fault)),
-    }
+    take(alloc, lexer, inputs, ahead)?;
+    Ok(())
 }
 
 /// What is answered of a token that cannot stand where it does: the one at hand, which the lexer gave last.
-pub(super) fn refused(ahead: &Token, lexer: &Lexer) -> ReadFault
-    ensures { result ≡ refusal ahead.now lexer.now.offset }
+pub(super) fn refused(lexer: &Lexer) -> ReadFault
+    ensures { result ≡ ReadFault.Syntax lexer.now.offset }
 {
-    match ahead {
-        Token::Abort => ReadFault::Aborted,
-        _ => ReadFault::Syntax(lexer.offset()),
-    }
+    ReadFault::Syntax(lexer.offset())
 }
 
 /// INT
@@ -53,20 +63,15 @@ pub(super) fn number<I: Inputs>(
 ) -> Result<u32, ReadFault>
     requires unspent { lexer.old.spent ≡ false }
     ensures reads { Reads (part.Number ∷ []) [] IsNumber result
-        (state lexer.old ahead.old (I.left inputs.old) (I.read_faults inputs.old) (I.open_faults inputs.old) (I.texts inputs.old))
-        (state lexer.new ahead.new (I.left inputs.new) (I.read_faults inputs.new) (I.open_faults inputs.new) (I.texts inputs.new)) }
-    ensures uses { Uses result
-        (state lexer.old ahead.old (I.left inputs.old) (I.read_faults inputs.old) (I.open_faults inputs.old) (I.texts inputs.old))
-        (state lexer.new ahead.new (I.left inputs.new) (I.read_faults inputs.new) (I.open_faults inputs.new) (I.texts inputs.new)) }
+        (state lexer.old ahead.old (I.seen inputs.old)) (state lexer.new ahead.new (I.seen inputs.new)) }
+    ensures uses { OnOk result (Uses lexer.old lexer.new) }
 {
     let number = match ahead {
         Token::Int(number) => *number,
-        _ => return Err(refused(ahead, lexer)),
+        _ => return Err(refused(lexer)),
     };
-    match advance(alloc, lexer, inputs, ahead) {
-        Ok(()) => Ok(number),
-        Err(fault) => Err(fault),
-    }
+    advance(alloc, lexer, inputs, ahead)?;
+    Ok(number)
 }
 
 /// STRING
@@ -78,16 +83,16 @@ pub(super) fn quoted<I: Inputs>(
 ) -> Result<Text, ReadFault>
     requires unspent { lexer.old.spent ≡ false }
     ensures reads { Reads (part.Quoted ∷ []) [] IsQuoted result
-        (state lexer.old ahead.old (I.left inputs.old) (I.read_faults inputs.old) (I.open_faults inputs.old) (I.texts inputs.old))
-        (state lexer.new ahead.new (I.left inputs.new) (I.read_faults inputs.new) (I.open_faults inputs.new) (I.texts inputs.new)) }
+        (state lexer.old ahead.old (I.seen inputs.old)) (state lexer.new ahead.new (I.seen inputs.new)) }
+    ensures uses { OnOk result (Uses lexer.old lexer.new) }
 {
-    let text = match ahead {
-        Token::Str(text) => text.copy(alloc)?,
-        _ => return Err(refused(ahead, lexer)),
-    };
-    match advance(alloc, lexer, inputs, ahead) {
-        Ok(()) => Ok(text),
-        Err(fault) => Err(fault),
+    match ahead {
+        Token::Str(_) => {}
+        _ => return Err(refused(lexer)),
+    }
+    match take(alloc, lexer, inputs, ahead)? {
+        Token::Str(text) => Ok(text),
+        _ => unreachable!(),
     }
 }
 
@@ -100,13 +105,14 @@ pub(super) fn maybe_quoted<I: Inputs>(
 ) -> Result<(), ReadFault>
     requires unspent { lexer.old.spent ≡ false }
     ensures reads { Reads (part.MaybeQuoted ∷ []) [] IsOptionalText result
-        (state lexer.old ahead.old (I.left inputs.old) (I.read_faults inputs.old) (I.open_faults inputs.old) (I.texts inputs.old))
-        (state lexer.new ahead.new (I.left inputs.new) (I.read_faults inputs.new) (I.open_faults inputs.new) (I.texts inputs.new)) }
+        (state lexer.old ahead.old (I.seen inputs.old)) (state lexer.new ahead.new (I.seen inputs.new)) }
 {
     match ahead {
-        Token::Str(_) => advance(alloc, lexer, inputs, ahead),
-        _ => Ok(()),
+        Token::Str(_) => {}
+        _ => return Ok(()),
     }
+    advance(alloc, lexer, inputs, ahead)?;
+    Ok(())
 }
 
 /// IDENTIFIER
@@ -118,16 +124,16 @@ pub(super) fn word<I: Inputs>(
 ) -> Result<Text, ReadFault>
     requires unspent { lexer.old.spent ≡ false }
     ensures reads { Reads (part.Word ∷ []) [] IsWord result
-        (state lexer.old ahead.old (I.left inputs.old) (I.read_faults inputs.old) (I.open_faults inputs.old) (I.texts inputs.old))
-        (state lexer.new ahead.new (I.left inputs.new) (I.read_faults inputs.new) (I.open_faults inputs.new) (I.texts inputs.new)) }
+        (state lexer.old ahead.old (I.seen inputs.old)) (state lexer.new ahead.new (I.seen inputs.new)) }
+    ensures uses { OnOk result (Uses lexer.old lexer.new) }
 {
-    let word = match ahead {
-        Token::Identifier(word) => word.copy(alloc)?,
-        _ => return Err(refused(ahead, lexer)),
-    };
-    match advance(alloc, lexer, inputs, ahead) {
-        Ok(()) => Ok(word),
-        Err(fault) => Err(fault),
+    match ahead {
+        Token::Identifier(_) => {}
+        _ => return Err(refused(lexer)),
+    }
+    match take(alloc, lexer, inputs, ahead)? {
+        Token::Identifier(word) => Ok(word),
+        _ => unreachable!(),
     }
 }
 
@@ -140,16 +146,15 @@ pub(super) fn alias_name<I: Inputs>(
 ) -> Result<Text, ReadFault>
     requires unspent { lexer.old.spent ≡ false }
     ensures reads { Reads (part.AliasName ∷ []) [] IsAliasName result
-        (state lexer.old ahead.old (I.left inputs.old) (I.read_faults inputs.old) (I.open_faults inputs.old) (I.texts inputs.old))
-        (state lexer.new ahead.new (I.left inputs.new) (I.read_faults inputs.new) (I.open_faults inputs.new) (I.texts inputs.new)) }
+        (state lexer.old ahead.old (I.seen inputs.old)) (state lexer.new ahead.new (I.seen inputs.new)) }
 {
-    let name = match ahead {
-        Token::Alias(name) => name.copy(alloc)?,
-        _ => return Err(refused(ahead, lexer)),
-    };
-    match advance(alloc, lexer, inputs, ahead) {
-        Ok(()) => Ok(name),
-        Err(fault) => Err(fault),
+    match ahead {
+        Token::Alias(_) => {}
+        _ => return Err(refused(lexer)),
+    }
+    match take(alloc, lexer, inputs, ahead)? {
+        Token::Alias(name) => Ok(name),
+        _ => unreachable!(),
     }
 }
 
@@ -162,13 +167,14 @@ pub(super) fn opening_paren<I: Inputs>(
 ) -> Result<(), ReadFault>
     requires unspent { lexer.old.spent ≡ false }
     ensures reads { Reads (part.OpeningParen ∷ []) [] (IsToken Token.LeftParen) result
-        (state lexer.old ahead.old (I.left inputs.old) (I.read_faults inputs.old) (I.open_faults inputs.old) (I.texts inputs.old))
-        (state lexer.new ahead.new (I.left inputs.new) (I.read_faults inputs.new) (I.open_faults inputs.new) (I.texts inputs.new)) }
+        (state lexer.old ahead.old (I.seen inputs.old)) (state lexer.new ahead.new (I.seen inputs.new)) }
 {
     match ahead {
-        Token::LeftParen => advance(alloc, lexer, inputs, ahead),
-        _ => Err(refused(ahead, lexer)),
+        Token::LeftParen => {}
+        _ => return Err(refused(lexer)),
     }
+    advance(alloc, lexer, inputs, ahead)?;
+    Ok(())
 }
 
 /// ")"
@@ -180,13 +186,14 @@ pub(super) fn closing_paren<I: Inputs>(
 ) -> Result<(), ReadFault>
     requires unspent { lexer.old.spent ≡ false }
     ensures reads { Reads (part.ClosingParen ∷ []) [] (IsToken Token.RightParen) result
-        (state lexer.old ahead.old (I.left inputs.old) (I.read_faults inputs.old) (I.open_faults inputs.old) (I.texts inputs.old))
-        (state lexer.new ahead.new (I.left inputs.new) (I.read_faults inputs.new) (I.open_faults inputs.new) (I.texts inputs.new)) }
+        (state lexer.old ahead.old (I.seen inputs.old)) (state lexer.new ahead.new (I.seen inputs.new)) }
 {
     match ahead {
-        Token::RightParen => advance(alloc, lexer, inputs, ahead),
-        _ => Err(refused(ahead, lexer)),
+        Token::RightParen => {}
+        _ => return Err(refused(lexer)),
     }
+    advance(alloc, lexer, inputs, ahead)?;
+    Ok(())
 }
 
 /// "]"
@@ -198,11 +205,12 @@ pub(super) fn closing_bracket<I: Inputs>(
 ) -> Result<(), ReadFault>
     requires unspent { lexer.old.spent ≡ false }
     ensures reads { Reads (part.ClosingBracket ∷ []) [] (IsToken Token.RightBracket) result
-        (state lexer.old ahead.old (I.left inputs.old) (I.read_faults inputs.old) (I.open_faults inputs.old) (I.texts inputs.old))
-        (state lexer.new ahead.new (I.left inputs.new) (I.read_faults inputs.new) (I.open_faults inputs.new) (I.texts inputs.new)) }
+        (state lexer.old ahead.old (I.seen inputs.old)) (state lexer.new ahead.new (I.seen inputs.new)) }
 {
     match ahead {
-        Token::RightBracket => advance(alloc, lexer, inputs, ahead),
-        _ => Err(refused(ahead, lexer)),
+        Token::RightBracket => {}
+        _ => return Err(refused(lexer)),
     }
+    advance(alloc, lexer, inputs, ahead)?;
+    Ok(())
 }

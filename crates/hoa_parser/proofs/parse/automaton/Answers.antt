@@ -1,20 +1,26 @@
-use Rattle.hoa_parser.proofs.reading.Automata.{whole_bodied, whole_cut, whole_headed, whole_headless, whole_last, whole_named, whole_opens, whole_read, whole_unended, whole_unnamed}
+use Rattle.std.proofs.Common.{[], refl}
+use Rattle.hoa_lexer.specs.declared.token.Token.TheVariants as token
+use Rattle.hoa_parser.proofs.reading.Automata.{opening, whole_is}
+use Rattle.hoa_parser.proofs.reading.Steps.{fails_after, handed_on, next_fails, next_reads, reads_as, reads_then, takes, takes_last}
+use Rattle.hoa_parser.specs.inner.Expecting as part
 use Rattle.hoa_parser.proofs.parse.automaton.Goals as goal
 
-pub returns-in-Err-clause-reads : goal.returns-in-Err-clause-reads
-returns-in-Err-clause-reads g c = whole_last _ _ _ c.requires.opens c.in-Err.ensures
+pub returns-in_err-advance-clause-reads : goal.returns-in_err-advance-clause-reads
+returns-in_err-advance-clause-reads g c = handed_on _ _ _ c.from_residual.ensures.1 (takes_last part.Whole [] opening c.requires.opens refl refl refl c.in_err-advance.ensures)
 
-pub returns-in-Err-word-clause-reads : goal.returns-in-Err-word-clause-reads
-returns-in-Err-word-clause-reads g c = whole_unnamed _ _ _ _ _ (whole_opens _ _ _ c.requires.opens c.in-Ok.ensures) c.in-Err-word.ensures.reads
+pub returns-in_err-version-clause-reads : goal.returns-in_err-version-clause-reads
+returns-in_err-version-clause-reads g c = handed_on _ _ _ c.from_residual-in_err-version.ensures.1 (next_fails _ (takes part.Whole [] opening c.requires.opens refl refl refl c.in_ok-advance.ensures) c.in_err-version.ensures.reads)
 
-pub returns-in-Err-items-clause-reads : goal.returns-in-Err-items-clause-reads
-returns-in-Err-items-clause-reads g c = whole_headless _ _ _ _ _ (whole_named _ _ _ _ _ (whole_opens _ _ _ c.requires.opens c.in-Ok.ensures) c.in-Ok-word.ensures.reads) c.in-Err-items.ensures.reads
+pub returns-in_err-items-clause-reads : goal.returns-in_err-items-clause-reads
+returns-in_err-items-clause-reads g c = handed_on _ _ _ c.from_residual-in_err-items.ensures.1 (fails_after (next_reads (takes part.Whole [] opening c.requires.opens refl refl refl c.in_ok-advance.ensures) c.in_ok-version.ensures.reads) c.in_err-items.ensures.reads)
 
-pub returns-in-Err-advance-clause-reads : goal.returns-in-Err-advance-clause-reads
-returns-in-Err-advance-clause-reads g c = whole_cut _ _ _ _ _ _ (whole_headed _ _ _ _ _ (whole_named _ _ _ _ _ (whole_opens _ _ _ c.requires.opens c.in-Ok.ensures) c.in-Ok-word.ensures.reads) c.in-Ok-items.ensures.reads) c.in-Ok-items.ensures.ends c.in-Err-advance.ensures
+pub returns-in_err-advance-2-clause-reads : goal.returns-in_err-advance-2-clause-reads
+returns-in_err-advance-2-clause-reads g c = handed_on _ _ _ c.from_residual-in_err-advance-2.ensures.1 (fails_after (reads_then (next_reads (takes part.Whole [] opening c.requires.opens refl refl refl c.in_ok-advance.ensures) c.in_ok-version.ensures.reads) c.in_ok-items.ensures.reads) (takes_last part.Items [] token.Body c.in_ok-items.ensures.ends refl refl refl c.in_err-advance-2.ensures))
 
-pub returns-in-Ok-states-clause-reads : goal.returns-in-Ok-states-clause-reads
-returns-in-Ok-states-clause-reads g c = whole_read _ _ _ _ _ _ _ (whole_bodied _ _ _ _ _ _ (whole_headed _ _ _ _ _ (whole_named _ _ _ _ _ (whole_opens _ _ _ c.requires.opens c.in-Ok.ensures) c.in-Ok-word.ensures.reads) c.in-Ok-items.ensures.reads) c.in-Ok-items.ensures.ends c.in-Ok-advance.ensures) c.in-Ok-states.ensures.reads
+pub returns-in_err-states-clause-reads : goal.returns-in_err-states-clause-reads
+returns-in_err-states-clause-reads g c = handed_on _ _ _ c.from_residual-in_err-states.ensures.1 (fails_after (reads_then (reads_then (next_reads (takes part.Whole [] opening c.requires.opens refl refl refl c.in_ok-advance.ensures) c.in_ok-version.ensures.reads) c.in_ok-items.ensures.reads) (takes part.Items [] token.Body c.in_ok-items.ensures.ends refl refl refl c.in_ok-advance-2.ensures)) c.in_err-states.ensures.reads)
 
-pub returns-in-Err-states-clause-reads : goal.returns-in-Err-states-clause-reads
-returns-in-Err-states-clause-reads g c = whole_unended _ _ _ _ _ _ _ (whole_bodied _ _ _ _ _ _ (whole_headed _ _ _ _ _ (whole_named _ _ _ _ _ (whole_opens _ _ _ c.requires.opens c.in-Ok.ensures) c.in-Ok-word.ensures.reads) c.in-Ok-items.ensures.reads) c.in-Ok-items.ensures.ends c.in-Ok-advance.ensures) c.in-Err-states.ensures.reads
+pub returns-clause-reads : goal.returns-clause-reads
+returns-clause-reads g c =
+    reads_as (λ a f h. whole_is _ _ _ a _ _ _ _ f h.1.1.1.1 h.1.1.1.2 h.1.1.2 h.1.2 h.2)
+    (reads_then (reads_then (reads_then (next_reads (takes part.Whole [] opening c.requires.opens refl refl refl c.in_ok-advance.ensures) c.in_ok-version.ensures.reads) c.in_ok-items.ensures.reads) (takes part.Items [] token.Body c.in_ok-items.ensures.ends refl refl refl c.in_ok-advance-2.ensures)) c.in_ok-states.ensures.reads)

@@ -1,26 +1,23 @@
 use Rattle.std.proofs.Common.{[], None, refl}
 use Rattle.hoa_lexer.specs.declared.token.Token.TheVariants as token
-use Rattle.hoa_parser.proofs.reading.Bodies.{label_closed, label_fails, label_unclosed}
-use Rattle.hoa_parser.proofs.reading.Moves.{takes_last}
 use Rattle.hoa_parser.proofs.grammar.OtherTokens.{past_label}
-use Rattle.hoa_parser.proofs.reading.OneToken.{token_passed}
+use Rattle.hoa_parser.proofs.reading.Bodies.{bracketed}
+use Rattle.hoa_parser.proofs.reading.Steps.{handed_on, next_fails, next_reads, reads_as, takes, takes_last, token_passed}
 use Rattle.hoa_parser.specs.inner.Expecting.{MaybeLabel}
 use Rattle.hoa_parser.specs.inner.RuleReads.{IsMaybeLabel}
 use Rattle.hoa_parser.proofs.parse.body.maybe_label.Goals as goal
 
 pub returns-in_default : goal.returns-in_default
-returns-in_default g c = record {
-  reads = token_passed MaybeLabel IsMaybeLabel None _ c.requires.unspent (past_label _ c.in_default.not-LeftBracket) (λ a. record { phrase = None; within = tt; passed = refl; means = refl });
-}
+returns-in_default g c = record { reads = token_passed MaybeLabel (IsMaybeLabel None) _ c.requires.unspent (past_label _ c.in_default.not-LeftBracket) (λ a. record { phrase = None; within = tt; passed = refl; means = refl }) }
 
-pub returns-in-Err : goal.returns-in-Err
-returns-in-Err g c = record { reads = takes_last MaybeLabel _ [] [] IsMaybeLabel token.LeftBracket _ _ _ c.in-LeftBracket.is refl refl refl c.in-Err.ensures }
+pub returns-in_err-advance : goal.returns-in_err-advance
+returns-in_err-advance g c = record { reads = handed_on _ _ _ c.from_residual.ensures.1 (takes_last MaybeLabel [] token.LeftBracket c.in-LeftBracket.is refl refl refl c.in_err-advance.ensures) }
 
-pub returns-in-Err-label : goal.returns-in-Err-label
-returns-in-Err-label g c = record { reads = label_fails _ _ _ _ _ c.in-LeftBracket.is c.in-Ok.ensures c.in-Err-label.ensures.reads }
+pub returns-in_err-label : goal.returns-in_err-label
+returns-in_err-label g c = record { reads = handed_on _ _ _ c.from_residual-in_err-label.ensures.1 (next_fails _ (takes MaybeLabel [] token.LeftBracket c.in-LeftBracket.is refl refl refl c.in_ok-advance.ensures) c.in_err-label.ensures.reads) }
 
-pub returns-in-Ok-closing_bracket : goal.returns-in-Ok-closing_bracket
-returns-in-Ok-closing_bracket g c = record { reads = label_closed _ _ _ _ _ _ _ c.in-LeftBracket.is c.in-Ok.ensures c.in-Ok-label.ensures.reads c.in-Ok-closing_bracket.ensures.reads }
+pub returns-in_err-closing_bracket : goal.returns-in_err-closing_bracket
+returns-in_err-closing_bracket g c = record { reads = handed_on _ _ _ c.from_residual-in_err-closing_bracket.ensures.1 (next_fails _ (next_reads (takes MaybeLabel [] token.LeftBracket c.in-LeftBracket.is refl refl refl c.in_ok-advance.ensures) c.in_ok-label.ensures.reads) c.in_err-closing_bracket.ensures.reads) }
 
-pub returns-in-Err-closing_bracket : goal.returns-in-Err-closing_bracket
-returns-in-Err-closing_bracket g c = record { reads = label_unclosed _ _ _ _ _ _ _ c.in-LeftBracket.is c.in-Ok.ensures c.in-Ok-label.ensures.reads c.in-Err-closing_bracket.ensures.reads }
+pub returns : goal.returns
+returns g c = record { reads = reads_as (λ a d h. bracketed _ a _ _ d h.1.1 h.1.2 h.2) (next_reads (next_reads (takes MaybeLabel [] token.LeftBracket c.in-LeftBracket.is refl refl refl c.in_ok-advance.ensures) c.in_ok-label.ensures.reads) c.in_ok-closing_bracket.ensures.reads) }

@@ -1,8 +1,8 @@
-use Rattle.std.proofs.Common.{◌+◌, ◌-◌, ◌*◌, ◌∷◌, [], Ok}
+use Rattle.std.proofs.Common.{◌+◌, ◌-◌, ◌*◌, ◌∷◌, []}
 use Rattle.hoa_lexer.specs.Reading.{held_count}
 use Rattle.hoa_parser.specs.inner.Chains.{AddsFands, AddsFatoms}
 use Rattle.hoa_parser.specs.inner.Expecting.{Atoms, Conjunctions}
-use Rattle.hoa_parser.specs.inner.Parsing.{Reads, state}
+use Rattle.hoa_parser.specs.inner.Parsing.{ReadsTo, state}
 use Rattle.aut_base.specs.Formula.{formula_tree}
 use Rattle.hoa_parser.proofs.parse.condition.+condition.Given as goal
 
@@ -32,26 +32,16 @@ decreases-or_fands g l = 8 * (512 - l.depth) + 7
 
 abbrev pub invariant-and_fatoms-fatoms : goal.invariant-and_fatoms-fatoms
 invariant-and_fatoms-fatoms g l =
-    let left = g.I.Inputs.left in
-    let reads = g.I.Inputs.read_faults in
-    let opens = g.I.Inputs.open_faults in
-    let texts = g.I.Inputs.texts in
-    Reads (Atoms l.fn.depth ∷ []) (Atoms l.fn.depth ∷ []) (AddsFatoms l.fn.depth (formula_tree l.fn.first)) (Ok l.parts)
-    (state l.fn.lexer l.fn.ahead (left l.fn.inputs) (reads l.fn.inputs) (opens l.fn.inputs) (texts l.fn.inputs))
-    (state l.lexer l.ahead (left l.inputs) (reads l.inputs) (opens l.inputs) (texts l.inputs))
+    ReadsTo (Atoms l.fn.depth ∷ []) (Atoms l.fn.depth ∷ []) (AddsFatoms l.fn.depth (formula_tree l.fn.first) l.parts)
+    (state l.fn.lexer l.fn.ahead (g.I.Inputs.seen l.fn.inputs)) (state l.lexer l.ahead (g.I.Inputs.seen l.inputs))
 
 abbrev pub decreases-and_fatoms-fatoms : goal.decreases-and_fatoms-fatoms
 decreases-and_fatoms-fatoms g l = l.lexer.most + 1 - (l.lexer.taken - held_count l.lexer.held)
 
 abbrev pub invariant-or_fands-fands : goal.invariant-or_fands-fands
 invariant-or_fands-fands g l =
-    let left = g.I.Inputs.left in
-    let reads = g.I.Inputs.read_faults in
-    let opens = g.I.Inputs.open_faults in
-    let texts = g.I.Inputs.texts in
-    Reads (Conjunctions l.fn.depth ∷ []) (Conjunctions l.fn.depth ∷ []) (AddsFands l.fn.depth (formula_tree l.fn.first)) (Ok l.parts)
-    (state l.fn.lexer l.fn.ahead (left l.fn.inputs) (reads l.fn.inputs) (opens l.fn.inputs) (texts l.fn.inputs))
-    (state l.lexer l.ahead (left l.inputs) (reads l.inputs) (opens l.inputs) (texts l.inputs))
+    ReadsTo (Conjunctions l.fn.depth ∷ []) (Conjunctions l.fn.depth ∷ []) (AddsFands l.fn.depth (formula_tree l.fn.first) l.parts)
+    (state l.fn.lexer l.fn.ahead (g.I.Inputs.seen l.fn.inputs)) (state l.lexer l.ahead (g.I.Inputs.seen l.inputs))
 
 abbrev pub decreases-or_fands-fands : goal.decreases-or_fands-fands
 decreases-or_fands-fands g l = l.lexer.most + 1 - (l.lexer.taken - held_count l.lexer.held)

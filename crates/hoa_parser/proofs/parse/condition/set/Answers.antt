@@ -1,38 +1,20 @@
 use Rattle.std.proofs.Common.{[], ◌∷◌}
-use Rattle.hoa_lexer.specs.declared.token.Token.TheVariants as token
-use Rattle.hoa_parser.proofs.reading.Joins.{fails_behind_parts}
-use Rattle.hoa_parser.proofs.reading.Moves.{fails_first}
-use Rattle.hoa_parser.proofs.reading.Sets.{set_at_bang, set_at_number, set_at_paren}
-use Rattle.hoa_parser.specs.inner.Expecting.{ClosingParen, MaybeBang, Number, OpeningParen}
-use Rattle.hoa_parser.specs.inner.RuleReads.{IsToken, IsMaybeBang, IsNumber, IsSet}
+use Rattle.hoa_parser.proofs.reading.Steps.{fails_before, handed_on, next_fails, next_reads, reads_as, reads_before}
+use Rattle.hoa_parser.proofs.reading.Sets.{set_of}
+use Rattle.hoa_parser.specs.inner.Expecting.{ClosingParen, MaybeBang, Number}
 use Rattle.hoa_parser.proofs.parse.condition.set.Goals as goal
 
-pub returns-in-Err : goal.returns-in-Err
-returns-in-Err g c = record { reads = fails_first (OpeningParen ∷ []) [] [] (MaybeBang ∷ Number ∷ ClosingParen ∷ []) (IsToken token.LeftParen) IsSet _ _ _ c.in-Err.ensures.reads }
+pub returns-in_err-opening_paren : goal.returns-in_err-opening_paren
+returns-in_err-opening_paren g c = record { reads = handed_on _ _ _ c.from_residual.ensures.1 (fails_before (MaybeBang ∷ Number ∷ ClosingParen ∷ []) c.in_err-opening_paren.ensures.reads) }
 
-pub returns-in-Err-maybe_bang : goal.returns-in-Err-maybe_bang
-returns-in-Err-maybe_bang g c = record {
-  reads = fails_behind_parts (OpeningParen ∷ []) (MaybeBang ∷ Number ∷ ClosingParen ∷ []) [] (IsToken token.LeftParen) IsSet IsSet c.in-Ok.field-0 _ _ _ _ c.in-Ok.ensures.reads
-      (fails_first (MaybeBang ∷ []) [] [] (Number ∷ ClosingParen ∷ []) IsMaybeBang IsSet _ _ _ c.in-Err-maybe_bang.ensures.reads);
-}
+pub returns-in_err-neg : goal.returns-in_err-neg
+returns-in_err-neg g c = record { reads = handed_on _ _ _ c.from_residual-in_err-neg.ensures.1 (next_fails _ (reads_before (MaybeBang ∷ Number ∷ ClosingParen ∷ []) c.in_ok-opening_paren.ensures.reads) c.in_err-neg.ensures.reads) }
 
-pub returns-in-Err-number : goal.returns-in-Err-number
-returns-in-Err-number g c = record {
-  reads = fails_behind_parts (OpeningParen ∷ []) (MaybeBang ∷ Number ∷ ClosingParen ∷ []) [] (IsToken token.LeftParen) IsSet IsSet c.in-Ok.field-0 _ _ _ _ c.in-Ok.ensures.reads
-      (fails_behind_parts (MaybeBang ∷ []) (Number ∷ ClosingParen ∷ []) [] IsMaybeBang IsSet IsSet c.in-Ok-maybe_bang.neg _ _ _ _ c.in-Ok-maybe_bang.ensures.reads
-      (fails_first (Number ∷ []) [] [] (ClosingParen ∷ []) IsNumber IsSet _ _ _ c.in-Err-number.ensures.reads));
-}
+pub returns-in_err-number : goal.returns-in_err-number
+returns-in_err-number g c = record { reads = handed_on _ _ _ c.from_residual-in_err-number.ensures.1 (next_fails _ (next_reads (reads_before (MaybeBang ∷ Number ∷ ClosingParen ∷ []) c.in_ok-opening_paren.ensures.reads) c.in_ok-neg.ensures.reads) c.in_err-number.ensures.reads) }
 
-pub returns-in-Ok-closing_paren : goal.returns-in-Ok-closing_paren
-returns-in-Ok-closing_paren g c = record {
-  reads = set_at_paren c.in-Ok-number.number c.in-Ok-maybe_bang.neg c.in-Ok.field-0 _ _ _ c.in-Ok.ensures.reads
-      (set_at_bang c.in-Ok-number.number c.in-Ok-maybe_bang.neg _ _ _ c.in-Ok-maybe_bang.ensures.reads
-      (set_at_number c.in-Ok-number.number c.in-Ok-maybe_bang.neg _ _ _ c.in-Ok-closing_paren.field-0 c.in-Ok-number.ensures.reads c.in-Ok-closing_paren.ensures.reads));
-}
+pub returns-in_err-closing_paren : goal.returns-in_err-closing_paren
+returns-in_err-closing_paren g c = record { reads = handed_on _ _ _ c.from_residual-in_err-closing_paren.ensures.1 (next_fails _ (next_reads (next_reads (reads_before (MaybeBang ∷ Number ∷ ClosingParen ∷ []) c.in_ok-opening_paren.ensures.reads) c.in_ok-neg.ensures.reads) c.in_ok-number.ensures.reads) c.in_err-closing_paren.ensures.reads) }
 
-pub returns-in-Err-closing_paren : goal.returns-in-Err-closing_paren
-returns-in-Err-closing_paren g c = record {
-  reads = fails_behind_parts (OpeningParen ∷ []) (MaybeBang ∷ Number ∷ ClosingParen ∷ []) [] (IsToken token.LeftParen) IsSet IsSet c.in-Ok.field-0 _ _ _ _ c.in-Ok.ensures.reads
-      (fails_behind_parts (MaybeBang ∷ []) (Number ∷ ClosingParen ∷ []) [] IsMaybeBang IsSet IsSet c.in-Ok-maybe_bang.neg _ _ _ _ c.in-Ok-maybe_bang.ensures.reads
-      (fails_behind_parts (Number ∷ []) (ClosingParen ∷ []) [] IsNumber (IsToken token.RightParen) IsSet c.in-Ok-number.number _ _ _ _ c.in-Ok-number.ensures.reads c.in-Err-closing_paren.ensures.reads));
-}
+pub returns : goal.returns
+returns g c = record { reads = reads_as (λ a e h. set_of c.in_ok-number.number c.in_ok-neg.neg a h.1.1.0 h.1.0 h.0 e h.1.1.1 h.1.1.2 h.1.2 h.2) (next_reads (next_reads (next_reads (reads_before (MaybeBang ∷ Number ∷ ClosingParen ∷ []) c.in_ok-opening_paren.ensures.reads) c.in_ok-neg.ensures.reads) c.in_ok-number.ensures.reads) c.in_ok-closing_paren.ensures.reads) }

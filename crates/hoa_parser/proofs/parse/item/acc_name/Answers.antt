@@ -1,22 +1,14 @@
 use Rattle.std.proofs.Common.{[], ◌∷◌}
-use Rattle.hoa_parser.proofs.reading.ItemsRead.{part_then, part_then_fails, acc_name_read}
-use Rattle.hoa_parser.proofs.reading.Moves.{fails_first}
-use Rattle.hoa_parser.specs.inner.Expecting.{AccValues, Word}
-use Rattle.hoa_parser.specs.inner.RuleReads.{IsItemWritten, IsWord, AreAccValues}
-use Rattle.hoa_parser.specs.declared.header.Header.TheVariants as header
-use Rattle.hoa_parser.specs.declared.raw.Item.TheVariants as item
+use Rattle.hoa_parser.proofs.reading.ItemsRead.{acc_name_read}
+use Rattle.hoa_parser.proofs.reading.Steps.{fails_before, handed_on, next_fails, next_reads, reads_as, reads_before}
+use Rattle.hoa_parser.specs.inner.Expecting.{AccValues}
 use Rattle.hoa_parser.proofs.parse.item.acc_name.Goals as goal
 
-pub returns-in-Err : goal.returns-in-Err
-returns-in-Err g c = record { reads = fails_first (Word ∷ []) [] [] (AccValues ∷ []) IsWord (IsItemWritten header.AccName) c.in-Err.fault _ _ c.in-Err.ensures.reads }
+pub returns-in_err-word : goal.returns-in_err-word
+returns-in_err-word g c = record { reads = handed_on _ _ _ c.from_residual.ensures.1 (fails_before (AccValues ∷ []) c.in_err-word.ensures.reads) }
 
-pub returns-in-Ok-acc_values : goal.returns-in-Ok-acc_values
-returns-in-Ok-acc_values g c = record {
-  reads = part_then Word (AccValues ∷ []) IsWord AreAccValues (IsItemWritten header.AccName) c.in-Ok.field-0 c.in-Ok-acc_values.field-0 item.AccName _ _ _
-      (λ x y z p q. acc_name_read c.in-Ok.field-0 c.in-Ok-acc_values.field-0 x y z p q) c.in-Ok.ensures.reads c.in-Ok-acc_values.ensures.reads;
-}
+pub returns-in_err-acc_values : goal.returns-in_err-acc_values
+returns-in_err-acc_values g c = record { reads = handed_on _ _ _ c.from_residual-in_err-acc_values.ensures.1 (next_fails _ (reads_before (AccValues ∷ []) c.in_ok-word.ensures.reads) c.in_err-acc_values.ensures.reads) }
 
-pub returns-in-Err-acc_values : goal.returns-in-Err-acc_values
-returns-in-Err-acc_values g c = record {
-  reads = part_then_fails Word (AccValues ∷ []) IsWord AreAccValues (IsItemWritten header.AccName) c.in-Ok.field-0 c.in-Err-acc_values.fault _ _ _ c.in-Ok.ensures.reads c.in-Err-acc_values.ensures.reads;
-}
+pub returns : goal.returns
+returns g c = record { reads = reads_as (λ a d h. acc_name_read _ _ a h.0 d h.1 h.2) (next_reads (reads_before (AccValues ∷ []) c.in_ok-word.ensures.reads) c.in_ok-acc_values.ensures.reads) }

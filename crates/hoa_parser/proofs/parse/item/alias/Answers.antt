@@ -1,22 +1,13 @@
-use Rattle.std.proofs.Common.{[], ◌∷◌}
-use Rattle.hoa_parser.proofs.reading.ItemsRead.{part_then, part_then_fails, alias_read}
-use Rattle.hoa_parser.proofs.reading.Moves.{fails_first}
-use Rattle.hoa_parser.specs.inner.Expecting.{AliasName, label_parts}
-use Rattle.hoa_parser.specs.inner.RuleReads.{IsItemWritten, IsAliasName, IsLabel}
-use Rattle.hoa_parser.specs.declared.header.Header.TheVariants as header
-use Rattle.hoa_parser.specs.declared.raw.Item.TheVariants as item
+use Rattle.hoa_parser.proofs.reading.ItemsRead.{alias_read}
+use Rattle.hoa_parser.proofs.reading.Steps.{fails_before, handed_on, next_fails, next_reads, reads_as, reads_before}
+use Rattle.hoa_parser.specs.inner.Expecting.{label_parts}
 use Rattle.hoa_parser.proofs.parse.item.alias.Goals as goal
 
-pub returns-in-Err : goal.returns-in-Err
-returns-in-Err g c = record { reads = fails_first (AliasName ∷ []) [] [] (label_parts 0) IsAliasName (IsItemWritten header.Alias) c.in-Err.fault _ _ c.in-Err.ensures.reads }
+pub returns-in_err-name : goal.returns-in_err-name
+returns-in_err-name g c = record { reads = handed_on _ _ _ c.from_residual.ensures.1 (fails_before (label_parts 0) c.in_err-name.ensures.reads) }
 
-pub returns-in-Ok-label : goal.returns-in-Ok-label
-returns-in-Ok-label g c = record {
-  reads = part_then AliasName (label_parts 0) IsAliasName (IsLabel 0) (IsItemWritten header.Alias) c.in-Ok.name c.in-Ok-label.label (item.Alias c.in-Ok.name c.in-Ok-label.label) _ _ _
-      (λ x y z p q. alias_read c.in-Ok.name c.in-Ok-label.label x y z p q) c.in-Ok.ensures.reads c.in-Ok-label.ensures.reads;
-}
+pub returns-in_err-label : goal.returns-in_err-label
+returns-in_err-label g c = record { reads = handed_on _ _ _ c.from_residual-in_err-label.ensures.1 (next_fails _ (reads_before (label_parts 0) c.in_ok-name.ensures.reads) c.in_err-label.ensures.reads) }
 
-pub returns-in-Err-label : goal.returns-in-Err-label
-returns-in-Err-label g c = record {
-  reads = part_then_fails AliasName (label_parts 0) IsAliasName (IsLabel 0) (IsItemWritten header.Alias) c.in-Ok.name c.in-Err-label.fault _ _ _ c.in-Ok.ensures.reads c.in-Err-label.ensures.reads;
-}
+pub returns : goal.returns
+returns g c = record { reads = reads_as (λ a d h. alias_read c.in_ok-name.name c.in_ok-label.label a h.0 d h.1 h.2) (next_reads (reads_before (label_parts 0) c.in_ok-name.ensures.reads) c.in_ok-label.ensures.reads) }

@@ -1,38 +1,25 @@
-use Rattle.std.proofs.Common.{[], ◌∷◌, sym, ap, ◌∙◌}
-use Rattle.hoa_lexer.specs.declared.token.Token.TheVariants as token
-use Rattle.hoa_parser.proofs.reading.ItemsRead.{item_behind, no_item, no_item_behind, uses_then}
+use Rattle.std.proofs.Common.{[], refl, sym, ap, ◌∙◌}
 use Rattle.hoa_parser.proofs.grammar.OtherTokens.{no_items}
-use Rattle.hoa_parser.proofs.reading.OneToken.{known, token_refused}
+use Rattle.hoa_parser.proofs.reading.ItemsRead.{header_again, header_last, item_behind, no_item}
+use Rattle.hoa_parser.proofs.reading.RuleParts.{uses_then}
+use Rattle.hoa_parser.proofs.reading.Steps.{handed_on, token_refused}
 use Rattle.hoa_parser.specs.inner.Expecting.{Items, header_move}
-use Rattle.hoa_parser.specs.Grammar.{header_of}
-use Rattle.hoa_parser.specs.inner.Expecting.{header_parts}
-use Rattle.hoa_parser.specs.inner.RuleReads.{IsItem, IsItemOf}
 use Rattle.hoa_parser.proofs.parse.item.item.Goals as goal
 
-pub returns-in_default : goal.returns-in_default
-returns-in_default g c = record { reads = token_refused Items [] (Items ∷ []) IsItem _ _ c.requires.unspent (no_items _ c.in_default.not-HeaderName c.requires.no_body) c.refused.ensures; uses = tt }
+pub returns-in_default-clause-reads : goal.returns-in_default-clause-reads
+returns-in_default-clause-reads g c = token_refused Items [] _ _ c.requires.unspent c.refused.ensures (no_items _ c.in_default.not-HeaderName c.requires.no_body)
 
 pub returns-in-Opening-clause-reads : goal.returns-in-Opening-clause-reads
 returns-in-Opening-clause-reads g c =
-    let same = c.header_named-header.ensures ∙ ap header_of c.in_ok-name-in-HeaderName.ensures in
-    known (Items ∷ []) (Items ∷ []) IsItem _ _ c.args.ahead.now (token.HeaderName c.in-HeaderName.name) _ _ _ _ _ c.in-HeaderName.is
-    (token_refused Items [] (Items ∷ []) IsItem c.refused-in-Opening.result _ c.requires.unspent (sym (ap header_move same) ∙ no_item c.header_named-header.result c.in-Opening.is) c.refused-in-Opening.ensures)
+    rw c.in-HeaderName.is (token_refused Items [] _ _ c.requires.unspent c.refused-in-Opening.ensures (ap header_move (sym c.header_named-header.ensures) ∙ no_item c.header_named-header.result c.in-Opening.is))
 
-pub returns-in-Ok : goal.returns-in-Ok
-returns-in-Ok g c =
-    let name = c.in_ok-name-in-HeaderName.name in
-    let header = c.header_named-header.result in
-    record {
-      reads = known (Items ∷ []) (Items ∷ []) IsItem c.item_of.result _ c.args.ahead.now (token.HeaderName c.in-HeaderName.name) _ _ _ _ _ c.in-HeaderName.is
-          (item_behind name header c.item_of.result _ _ _ c.in-Ok.field-0 c.header_named-header.ensures c.in_default-header.not-Opening c.in_default-header.not-State (ap token.HeaderName (sym c.in_ok-name-in-HeaderName.ensures))
-          c.in-Ok.ensures c.item_of.ensures.reads);
-      uses = uses_then (header_parts header) [] (IsItemOf header name) c.item_of.result _ _ _ c.in-Ok.field-0 c.in-Ok.ensures c.item_of.ensures.reads;
-    }
+pub returns-in_err-name-clause-reads : goal.returns-in_err-name-clause-reads
+returns-in_err-name-clause-reads g c = handed_on _ _ _ c.from_residual.ensures.1 (rw c.in-HeaderName.is (header_last c.in-HeaderName.name c.header_named-header.result c.header_named-header.ensures c.in_default-header.not-Opening c.in_default-header.not-State refl c.in_err-name.ensures.advances))
 
-pub returns-in-Err : goal.returns-in-Err
-returns-in-Err g c = record {
-  reads = known (Items ∷ []) (Items ∷ []) IsItem _ _ c.args.ahead.now (token.HeaderName c.in-HeaderName.name) _ _ _ _ _ c.in-HeaderName.is
-      (no_item_behind c.in_ok-name-in-HeaderName.name c.header_named-header.result c.in-Err.fault _ _ c.header_named-header.ensures c.in_default-header.not-Opening c.in_default-header.not-State
-      (ap token.HeaderName (sym c.in_ok-name-in-HeaderName.ensures)) c.in-Err.ensures);
-  uses = tt;
-}
+pub returns-clause-reads : goal.returns-clause-reads
+returns-clause-reads g c =
+    rw c.in-HeaderName.is (item_behind c.in-HeaderName-2.name c.header_named-header.result c.item_of.result _ (header_again c.header_named-header.result c.in-HeaderName.name c.in-HeaderName-2.name c.header_named-header.ensures (sym c.in_ok-name.ensures.takes ∙ c.in-HeaderName-2.is))
+    c.in_default-header.not-Opening c.in_default-header.not-State (sym c.in_ok-name.ensures.takes ∙ c.in-HeaderName-2.is) c.in_ok-name.ensures.advances c.item_of.ensures.reads)
+
+pub returns-clause-uses : goal.returns-clause-uses
+returns-clause-uses g c = uses_then _ _ _ c.item_of.result _ c.in_ok-name.ensures.advances c.item_of.ensures.reads

@@ -1,22 +1,14 @@
 use Rattle.std.proofs.Common.{[], ◌∷◌}
-use Rattle.hoa_parser.proofs.reading.ItemsRead.{part_then, part_then_fails, names_read}
-use Rattle.hoa_parser.proofs.reading.Moves.{fails_first}
-use Rattle.hoa_parser.specs.inner.Expecting.{Number, Strings}
-use Rattle.hoa_parser.specs.inner.RuleReads.{IsItemWritten, IsNumber, AreTexts}
-use Rattle.hoa_parser.specs.declared.header.Header.TheVariants as header
-use Rattle.hoa_parser.specs.declared.raw.Item.TheVariants as item
+use Rattle.hoa_parser.proofs.reading.ItemsRead.{names_read}
+use Rattle.hoa_parser.proofs.reading.Steps.{fails_before, handed_on, next_fails, next_reads, reads_as, reads_before}
+use Rattle.hoa_parser.specs.inner.Expecting.{Strings}
 use Rattle.hoa_parser.proofs.parse.item.names.Goals as goal
 
-pub returns-in-Err : goal.returns-in-Err
-returns-in-Err g c = record { reads = fails_first (Number ∷ []) [] [] (Strings ∷ []) IsNumber (IsItemWritten header.Ap) c.in-Err.fault _ _ c.in-Err.ensures.reads }
+pub returns-in_err-count : goal.returns-in_err-count
+returns-in_err-count g c = record { reads = handed_on _ _ _ c.from_residual.ensures.1 (fails_before (Strings ∷ []) c.in_err-count.ensures.reads) }
 
-pub returns-in-Ok-strings : goal.returns-in-Ok-strings
-returns-in-Ok-strings g c = record {
-  reads = part_then Number (Strings ∷ []) IsNumber AreTexts (IsItemWritten header.Ap) c.in-Ok.count c.in-Ok-strings.names (item.Ap c.in-Ok.count c.in-Ok-strings.names) _ _ _
-      (λ x y z p q. names_read c.in-Ok.count c.in-Ok-strings.names x y z p q) c.in-Ok.ensures.reads c.in-Ok-strings.ensures.reads;
-}
+pub returns-in_err-names : goal.returns-in_err-names
+returns-in_err-names g c = record { reads = handed_on _ _ _ c.from_residual-in_err-names.ensures.1 (next_fails _ (reads_before (Strings ∷ []) c.in_ok-count.ensures.reads) c.in_err-names.ensures.reads) }
 
-pub returns-in-Err-strings : goal.returns-in-Err-strings
-returns-in-Err-strings g c = record {
-  reads = part_then_fails Number (Strings ∷ []) IsNumber AreTexts (IsItemWritten header.Ap) c.in-Ok.count c.in-Err-strings.fault _ _ _ c.in-Ok.ensures.reads c.in-Err-strings.ensures.reads;
-}
+pub returns : goal.returns
+returns g c = record { reads = reads_as (λ a d h. names_read c.in_ok-count.count c.in_ok-names.names a h.0 d h.1 h.2) (next_reads (reads_before (Strings ∷ []) c.in_ok-count.ensures.reads) c.in_ok-names.ensures.reads) }

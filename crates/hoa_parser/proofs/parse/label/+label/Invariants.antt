@@ -1,8 +1,8 @@
-use Rattle.std.proofs.Common.{◌+◌, ◌-◌, ◌*◌, ◌∷◌, [], Ok}
+use Rattle.std.proofs.Common.{◌+◌, ◌-◌, ◌*◌, ◌∷◌, []}
 use Rattle.hoa_lexer.specs.Reading.{held_count}
 use Rattle.hoa_parser.specs.inner.Chains.{AddsLands, AddsLnots}
 use Rattle.hoa_parser.specs.inner.Expecting.{Factors, Products}
-use Rattle.hoa_parser.specs.inner.Parsing.{Reads, state}
+use Rattle.hoa_parser.specs.inner.Parsing.{ReadsTo, state}
 use Rattle.hoa_parser.specs.Raw.{raw_tree}
 use Rattle.hoa_parser.proofs.parse.label.+label.Given as goal
 
@@ -35,26 +35,16 @@ decreases-or_lands g l = 8 * (512 - l.depth) + 7
 
 abbrev pub invariant-and_lnots-lnots : goal.invariant-and_lnots-lnots
 invariant-and_lnots-lnots g l =
-    let left = g.I.Inputs.left in
-    let reads = g.I.Inputs.read_faults in
-    let opens = g.I.Inputs.open_faults in
-    let texts = g.I.Inputs.texts in
-    Reads (Factors l.fn.depth ∷ []) (Factors l.fn.depth ∷ []) (AddsLnots l.fn.depth (raw_tree l.fn.first)) (Ok l.parts)
-    (state l.fn.lexer l.fn.ahead (left l.fn.inputs) (reads l.fn.inputs) (opens l.fn.inputs) (texts l.fn.inputs))
-    (state l.lexer l.ahead (left l.inputs) (reads l.inputs) (opens l.inputs) (texts l.inputs))
+    ReadsTo (Factors l.fn.depth ∷ []) (Factors l.fn.depth ∷ []) (AddsLnots l.fn.depth (raw_tree l.fn.first) l.parts)
+    (state l.fn.lexer l.fn.ahead (g.I.Inputs.seen l.fn.inputs)) (state l.lexer l.ahead (g.I.Inputs.seen l.inputs))
 
 abbrev pub decreases-and_lnots-lnots : goal.decreases-and_lnots-lnots
 decreases-and_lnots-lnots g l = l.lexer.most + 1 - (l.lexer.taken - held_count l.lexer.held)
 
 abbrev pub invariant-or_lands-lands : goal.invariant-or_lands-lands
 invariant-or_lands-lands g l =
-    let left = g.I.Inputs.left in
-    let reads = g.I.Inputs.read_faults in
-    let opens = g.I.Inputs.open_faults in
-    let texts = g.I.Inputs.texts in
-    Reads (Products l.fn.depth ∷ []) (Products l.fn.depth ∷ []) (AddsLands l.fn.depth (raw_tree l.fn.first)) (Ok l.parts)
-    (state l.fn.lexer l.fn.ahead (left l.fn.inputs) (reads l.fn.inputs) (opens l.fn.inputs) (texts l.fn.inputs))
-    (state l.lexer l.ahead (left l.inputs) (reads l.inputs) (opens l.inputs) (texts l.inputs))
+    ReadsTo (Products l.fn.depth ∷ []) (Products l.fn.depth ∷ []) (AddsLands l.fn.depth (raw_tree l.fn.first) l.parts)
+    (state l.fn.lexer l.fn.ahead (g.I.Inputs.seen l.fn.inputs)) (state l.lexer l.ahead (g.I.Inputs.seen l.inputs))
 
 abbrev pub decreases-or_lands-lands : goal.decreases-or_lands-lands
 decreases-or_lands-lands g l = l.lexer.most + 1 - (l.lexer.taken - held_count l.lexer.held)

@@ -1,31 +1,21 @@
-use Rattle.std.proofs.Common.{◌∷◌, [], refl, sym, ap, ◌∙◌}
+use Rattle.std.proofs.Common.{[], sym, ap, ◌∙◌}
 use Rattle.std.specs.Option.{option_map}
-use Rattle.hoa_parser.proofs.reading.Atoms.{atom_found, no_atom}
-use Rattle.hoa_parser.proofs.reading.LabelChains.{subst_tokens}
-use Rattle.hoa_parser.proofs.reading.OneToken.{token_last, token_refused, token_taken}
+use Rattle.hoa_parser.proofs.reading.Atoms.{no_atom, none_there, some_there}
+use Rattle.hoa_parser.proofs.reading.LabelReads.{atom_last, atom_taken}
+use Rattle.hoa_parser.proofs.reading.Steps.{handed_on, token_refused}
 use Rattle.hoa_parser.specs.inner.Expecting.{Factor}
-use Rattle.hoa_parser.specs.Grammar.{lnot_tokens}
-use Rattle.hoa_parser.specs.inner.RuleReads.{IsLnot}
+use Rattle.hoa_parser.specs.inner.RuleReads.{atom_of}
 use Rattle.hoa_parser.specs.Raw.{raw_tree}
 use Rattle.hoa_parser.proofs.parse.label.atom.Goals as goal
 
-pub returns-in-Ok-None : goal.returns-in-Ok-None
-returns-in-Ok-None g c = record {
-  reads = token_refused (Factor c.args.depth) [] [] _ _ _ c.requires.unspent
-      (no_atom c.args.depth c.args.ahead.now c.requires.no_bang c.requires.no_paren (sym c.in-Ok-None.ensures ∙ ap (option_map raw_tree) c.in-Ok-None.field-0-is)) c.refused.ensures;
+pub returns-then-not-is_atom : goal.returns-then-not-is_atom
+returns-then-not-is_atom g c = record {
+  reads = token_refused (Factor c.args.depth) [] _ _ c.requires.unspent c.refused.ensures
+      (no_atom c.args.depth c.args.ahead.now c.requires.no_bang c.requires.no_paren (none_there _ (sym c.is_atom.ensures ∙ c.if-not-is_atom.true)));
 }
 
-pub returns-in-Ok : goal.returns-in-Ok
-returns-in-Ok g c =
-    let z = c.args.ahead.now in
-    let found = atom_found c.args.depth z (raw_tree c.in-Ok-Some.label) (sym c.in-Ok-Some.ensures ∙ ap (option_map raw_tree) c.in-Ok-Some.field-0-is) in
-    record {
-      reads = token_taken (Factor c.args.depth) z (IsLnot c.args.depth) c.in-Ok-Some.label _ _ _ _ _ _ _ _ refl found.taken found.goes_on
-          (λ a b h. record { phrase = found.phrase; within = found.within; passed = subst_tokens a b (z ∷ []) (lnot_tokens found.phrase) (sym found.spelled) h; means = found.means }) c.in-Ok.ensures;
-    }
+pub returns-in_err-take : goal.returns-in_err-take
+returns-in_err-take g c = record { reads = handed_on _ _ _ c.from_residual.ensures.1 (atom_last c.args.depth _ _ _ (some_there _ (sym c.is_atom.ensures ∙ c.if-not-is_atom.false)).1 c.in_err-take.ensures.advances) }
 
-pub returns-in-Err-advance : goal.returns-in-Err-advance
-returns-in-Err-advance g c =
-    let z = c.args.ahead.now in
-    let found = atom_found c.args.depth z (raw_tree c.in-Ok-Some.label) (sym c.in-Ok-Some.ensures ∙ ap (option_map raw_tree) c.in-Ok-Some.field-0-is) in
-    record { reads = token_last (Factor c.args.depth) z (IsLnot c.args.depth) _ _ _ _ _ _ _ _ refl found.taken found.goes_on c.in-Err-advance.ensures }
+pub returns : goal.returns
+returns g c = record { reads = atom_taken c.args.depth c.in-Some.label _ _ (ap atom_of (sym c.in_ok-take.ensures.takes) ∙ sym c.atom_of.ensures ∙ ap (option_map raw_tree) c.in-Some.is) c.in_ok-take.ensures.advances }

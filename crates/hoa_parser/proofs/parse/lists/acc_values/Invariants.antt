@@ -1,18 +1,14 @@
-use Rattle.std.proofs.Common.{◌+◌, ◌-◌, [], ◌∷◌, Ok}
+use Rattle.std.proofs.Common.{◌+◌, ◌-◌, [], ◌∷◌}
 use Rattle.hoa_lexer.specs.Reading.{held_count}
 use Rattle.hoa_parser.specs.inner.Expecting as part
-use Rattle.hoa_parser.specs.inner.Parsing.{Reads, state}
+use Rattle.hoa_parser.specs.inner.Parsing.{ReadsTo, state}
 use Rattle.hoa_parser.specs.inner.RuleReads.{AreAccValues}
 use Rattle.hoa_parser.proofs.parse.lists.acc_values.Given as goal
 
 abbrev pub invariant-values : goal.invariant-values
 invariant-values g l =
-    let left = g.I.Inputs.left in
-    let reads = g.I.Inputs.read_faults in
-    let opens = g.I.Inputs.open_faults in
-    let texts = g.I.Inputs.texts in
-    Reads (part.AccValues ∷ []) (part.AccValues ∷ []) AreAccValues (Ok tt) (state l.fn.lexer l.fn.ahead (left l.fn.inputs) (reads l.fn.inputs) (opens l.fn.inputs) (texts l.fn.inputs))
-    (state l.lexer l.ahead (left l.inputs) (reads l.inputs) (opens l.inputs) (texts l.inputs))
+    ReadsTo (part.AccValues ∷ []) (part.AccValues ∷ []) (AreAccValues tt)
+    (state l.fn.lexer l.fn.ahead (g.I.Inputs.seen l.fn.inputs)) (state l.lexer l.ahead (g.I.Inputs.seen l.inputs))
 
 abbrev pub decreases-values : goal.decreases-values
 decreases-values g l = l.lexer.most + 1 - (l.lexer.taken - held_count l.lexer.held)

@@ -1,21 +1,29 @@
-use Rattle.std.proofs.Common.{ℕ, List, [], ◌∷◌, ◌++◌, refl, ap, ◌∙◌}
+use Rattle.std.proofs.Common.{◌≡◌, ℕ, List, [], ◌∷◌, sym, ap, ◌∙◌}
 use Rattle.hoa_lexer.specs.declared.token.Token.TheVariants as token
-use Rattle.hoa_parser.proofs.reading.LoopTurns.{last_behind, spelled_more, spelled_none, token_behind}
-use Rattle.hoa_parser.proofs.reading.Moves.{reads_nothing}
-use Rattle.hoa_parser.specs.inner.Expecting.{Strings}
-use Rattle.hoa_parser.specs.inner.RuleReads.{AreTexts}
+use Rattle.hoa_parser.proofs.reading.FrontParts.{spelled_more, spelled_none}
+use Rattle.hoa_parser.proofs.grammar.OtherTokens.{past_strings}
+use Rattle.hoa_parser.proofs.reading.Steps.{fails_after, fails_for, handed_on, no_memory, reads_as, reads_end, reads_for, reads_nothing, reads_then}
+use Rattle.hoa_lexer.specs.declared.token.Token.{Token}
+use Rattle.hoa_parser.specs.inner.Expecting.{Part, Quoted, Strings, behind}
 use Rattle.hoa_parser.proofs.parse.lists.strings.Goals as goal
 
+-- one more stands here
+one_more : (z : Token) (text : List ℕ) → z ≡ token.Str text → (most : ℕ) (others : List Part) → behind most (Strings ∷ others) z ≡ behind most (Quoted ∷ Strings ∷ others) z
+one_more z text is most others = ap (behind most (Strings ∷ others)) is ∙ sym (ap (behind most (Quoted ∷ Strings ∷ others)) is)
+
 pub texts-init : goal.texts-init
-texts-init g c = reads_nothing (Strings ∷ []) _ _ _ c.requires.unspent (λ a. spelled_none token.Str c.new-texts.result a c.new-texts.ensures)
+texts-init g c = reads_nothing (Strings ∷ []) _ _ c.requires.unspent (λ a. spelled_none token.Str c.new-texts.result a c.new-texts.ensures)
+
+pub returns-in_default : goal.returns-in_default
+returns-in_default g c = record { reads = reads_end Strings (past_strings _ c.in_default.not-Str) c.texts.invariant }
+
+pub returns-in_err-text : goal.returns-in_err-text
+returns-in_err-text g c = record { reads = handed_on _ _ _ c.from_residual.ensures.1 (fails_after c.texts.invariant (fails_for (Strings ∷ []) c.texts.invariant.spent (one_more _ c.in-Str.field-0 c.in-Str.is) c.in_err-text.ensures.reads)) }
+
+pub returns-in_err-push : goal.returns-in_err-push
+returns-in_err-push g c = record { reads = handed_on _ _ _ c.from_residual-in_err-push.ensures.1 (no_memory (reads_then c.texts.invariant (reads_for (Strings ∷ []) c.texts.invariant.spent (one_more _ c.in-Str.field-0 c.in-Str.is) c.in_ok-text.ensures.reads))) }
 
 pub texts-preserved : goal.texts-preserved
 texts-preserved g c =
-    token_behind (Strings ∷ []) Strings (Strings ∷ []) [] (token.Str c.in-Str.text) AreTexts AreTexts c.texts.texts c.push.new.self _ _ _ _ _ _ _ _ _ c.in-Str.is refl refl refl
-    (λ x y z p q. spelled_more token.Str c.texts.texts c.in-Str.text c.push.new.self x y z (c.in_ok-push-in-Str.ensures.ok ∙ ap (λ (t : List ℕ). c.texts.texts ++ t ∷ []) c.in_ok-copy-in-Str.ensures) p q)
-    c.texts.invariant c.in-Ok.ensures
-
-pub returns-in-Err : goal.returns-in-Err
-returns-in-Err g c = record {
-  reads = last_behind (Strings ∷ []) [] Strings (Strings ∷ []) [] (token.Str c.in-Str.text) AreTexts AreTexts c.texts.texts c.in-Err.fault _ _ _ _ _ _ _ _ c.in-Str.is refl refl refl c.texts.invariant c.in-Err.ensures;
-}
+    reads_as (λ a d h. spelled_more token.Str c.texts.texts c.in_ok-text.text c.push.new.self a h.0 d c.in_ok-push.ensures.ok h.1 h.2)
+    (reads_then c.texts.invariant (reads_for (Strings ∷ []) c.texts.invariant.spent (one_more _ c.in-Str.field-0 c.in-Str.is) c.in_ok-text.ensures.reads))

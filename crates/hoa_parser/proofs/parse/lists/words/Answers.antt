@@ -1,21 +1,29 @@
-use Rattle.std.proofs.Common.{ℕ, List, [], ◌∷◌, ◌++◌, refl, ap, ◌∙◌}
+use Rattle.std.proofs.Common.{◌≡◌, ℕ, List, [], ◌∷◌, sym, ap, ◌∙◌}
 use Rattle.hoa_lexer.specs.declared.token.Token.TheVariants as token
-use Rattle.hoa_parser.proofs.reading.LoopTurns.{last_behind, spelled_more, spelled_none, token_behind}
-use Rattle.hoa_parser.proofs.reading.Moves.{reads_nothing}
-use Rattle.hoa_parser.specs.inner.Expecting.{Words}
-use Rattle.hoa_parser.specs.inner.RuleReads.{AreWords}
+use Rattle.hoa_parser.proofs.reading.FrontParts.{spelled_more, spelled_none}
+use Rattle.hoa_parser.proofs.grammar.OtherTokens.{past_words}
+use Rattle.hoa_parser.proofs.reading.Steps.{fails_after, fails_for, handed_on, no_memory, reads_as, reads_end, reads_for, reads_nothing, reads_then}
+use Rattle.hoa_lexer.specs.declared.token.Token.{Token}
+use Rattle.hoa_parser.specs.inner.Expecting.{Part, Word, Words, behind}
 use Rattle.hoa_parser.proofs.parse.lists.words.Goals as goal
 
+-- one more stands here
+one_more : (z : Token) (text : List ℕ) → z ≡ token.Identifier text → (most : ℕ) (others : List Part) → behind most (Words ∷ others) z ≡ behind most (Word ∷ Words ∷ others) z
+one_more z text is most others = ap (behind most (Words ∷ others)) is ∙ sym (ap (behind most (Word ∷ Words ∷ others)) is)
+
 pub words-init : goal.words-init
-words-init g c = reads_nothing (Words ∷ []) _ _ _ c.requires.unspent (λ a. spelled_none token.Identifier c.new-words.result a c.new-words.ensures)
+words-init g c = reads_nothing (Words ∷ []) _ _ c.requires.unspent (λ a. spelled_none token.Identifier c.new-words.result a c.new-words.ensures)
+
+pub returns-in_default : goal.returns-in_default
+returns-in_default g c = record { reads = reads_end Words (past_words _ c.in_default.not-Identifier) c.words.invariant }
+
+pub returns-in_err-word : goal.returns-in_err-word
+returns-in_err-word g c = record { reads = handed_on _ _ _ c.from_residual.ensures.1 (fails_after c.words.invariant (fails_for (Words ∷ []) c.words.invariant.spent (one_more _ c.in-Identifier.field-0 c.in-Identifier.is) c.in_err-word.ensures.reads)) }
+
+pub returns-in_err-push : goal.returns-in_err-push
+returns-in_err-push g c = record { reads = handed_on _ _ _ c.from_residual-in_err-push.ensures.1 (no_memory (reads_then c.words.invariant (reads_for (Words ∷ []) c.words.invariant.spent (one_more _ c.in-Identifier.field-0 c.in-Identifier.is) c.in_ok-word.ensures.reads))) }
 
 pub words-preserved : goal.words-preserved
 words-preserved g c =
-    token_behind (Words ∷ []) Words (Words ∷ []) [] (token.Identifier c.in-Identifier.word) AreWords AreWords c.words.words c.push.new.self _ _ _ _ _ _ _ _ _ c.in-Identifier.is refl refl refl
-    (λ x y z p q. spelled_more token.Identifier c.words.words c.in-Identifier.word c.push.new.self x y z (c.in_ok-push-in-Identifier.ensures.ok ∙ ap (λ (t : List ℕ). c.words.words ++ t ∷ []) c.in_ok-copy-in-Identifier.ensures) p q)
-    c.words.invariant c.in-Ok.ensures
-
-pub returns-in-Err : goal.returns-in-Err
-returns-in-Err g c = record {
-  reads = last_behind (Words ∷ []) [] Words (Words ∷ []) [] (token.Identifier c.in-Identifier.word) AreWords AreWords c.words.words c.in-Err.fault _ _ _ _ _ _ _ _ c.in-Identifier.is refl refl refl c.words.invariant c.in-Err.ensures;
-}
+    reads_as (λ a d h. spelled_more token.Identifier c.words.words c.in_ok-word.word c.push.new.self a h.0 d c.in_ok-push.ensures.ok h.1 h.2)
+    (reads_then c.words.invariant (reads_for (Words ∷ []) c.words.invariant.spent (one_more _ c.in-Identifier.field-0 c.in-Identifier.is) c.in_ok-word.ensures.reads))

@@ -1,18 +1,15 @@
-use Rattle.std.proofs.Common.{ℕ, List, [], ◌∷◌, refl, sym, subst}
+use Rattle.std.proofs.Common.{[], refl, sym, ◌∙◌}
 use Rattle.hoa_lexer.specs.declared.token.Token.TheVariants as token
 use Rattle.hoa_parser.proofs.grammar.OtherTokens.{no_quoted}
-use Rattle.hoa_parser.proofs.reading.OneToken.{token_last, token_refused, token_taken}
+use Rattle.hoa_parser.proofs.reading.Steps.{handed_on, takes, takes_last, token_refused}
 use Rattle.hoa_parser.specs.inner.Expecting.{Quoted}
-use Rattle.hoa_parser.specs.inner.Parsing.{Passed}
 use Rattle.hoa_parser.proofs.parse.tokens.quoted.Goals as goal
 
-pub returns-in_default : goal.returns-in_default
-returns-in_default g c = record { reads = token_refused Quoted [] [] _ _ _ c.requires.unspent (no_quoted _ c.in_default.not-Str) c.refused.ensures }
+pub returns-in_default-clause-reads : goal.returns-in_default-clause-reads
+returns-in_default-clause-reads g c = token_refused Quoted [] _ _ c.requires.unspent c.refused.ensures (no_quoted _ c.in_default.not-Str)
 
-pub returns-in-Ok : goal.returns-in-Ok
-returns-in-Ok g c = record {
-  reads = token_taken Quoted (token.Str c.in-Str.text) _ _ _ _ _ _ _ _ _ _ c.in-Str.is refl refl (λ a b h. subst (λ (t : List ℕ). Passed a (token.Str t ∷ []) b) (sym c.in_ok-text-in-Str.ensures) h) c.in-Ok.ensures;
-}
+pub returns-in_err-text-clause-reads : goal.returns-in_err-text-clause-reads
+returns-in_err-text-clause-reads g c = handed_on _ _ _ c.from_residual.ensures.1 (takes_last Quoted [] (token.Str c.in-Str.field-0) c.in-Str.is refl refl refl c.in_err-text.ensures.advances)
 
-pub returns-in-Err : goal.returns-in-Err
-returns-in-Err g c = record { reads = token_last Quoted (token.Str c.in-Str.text) _ _ _ _ _ _ _ _ _ c.in-Str.is refl refl c.in-Err.ensures }
+pub returns-clause-reads : goal.returns-clause-reads
+returns-clause-reads g c = takes Quoted [] (token.Str c.in-Str-2.text) (sym c.in_ok-text.ensures.takes ∙ c.in-Str-2.is) refl refl refl c.in_ok-text.ensures.advances
