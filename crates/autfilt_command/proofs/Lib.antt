@@ -1,6 +1,7 @@
-pub mod BuiltPlans
 pub mod Alike
+pub mod BuiltPlans
 pub mod Gains
+pub mod Noting
 pub mod ReadsAs
 pub mod Runs
 pub mod Turns

@@ -1,38 +1,44 @@
--- Automata that were read one after the other, and runs over them.
-use Rattle.std.proofs.Common.{◌≡◌, ℕ, ◌+◌, ◌^◌, ◌≤◌, Bool, true, List, [], ◌∷◌, ◌++◌, length, take, Option, Some, None, Err, IsErrOf, refl, sym, ap, ◌∙◌, subst, append_assoc, append-nil, arith}
-use Rattle.aut_base.specs.declared.limit.Limit.TheVariants as limit
-use Rattle.aut_io.specs.Outside.{Gains, GainsPrefix}
-use Rattle.autfilt_command.proofs.Gains.{both}
+-- Items that were read one after the other, and runs over them.
+use Rattle.std.proofs.Common.{◌≡◌, ℕ, ◌+◌, ◌^◌, ◌≤◌, Bool, true, false, cond, List, [], ◌∷◌, ◌++◌, length, take, Option, Some, None, Ok, Err, refl, sym, ap, ◌∙◌, subst, append_assoc, append-nil, arith}
+use Rattle.aut_base.specs.declared.limit.TheConstants.{MOST_BYTES}
+use Rattle.aut_io.specs.Outside.{Gains, GainsPrefix, Rose}
+use Rattle.aut_io.specs.Seen.{Seen, SinkSeen}
+use Rattle.autfilt_command.proofs.Gains.{both, nothing}
 use Rattle.autfilt_command.proofs.Turns.{gains_as}
 use Rattle.aut_base.proofs.AllByRecursion.{AllByRecursion-push}
-use Rattle.autfilt_command.specs.Run.{AllReadAs, AreRead, AsksForTooMany, BreaksOff, EndsAt, IsRead, Prints, ReadsAs, ReadsTo, all_printed, place, printed}
-use Rattle.autfilt_command.specs.inner.Running.{HasRun, RunsOver, end_of, is_some_automaton}
-use Rattle.autfilt_command.specs.inner.Turn.{EndsHere, IsPrinted, IsPrintedInPart, TurnCauses, Turns}
+use Rattle.autfilt_command.specs.Notes.{line_of}
+use Rattle.autfilt_command.specs.Run.{AllReadAs, AreCalm, AreRead, BreaksOff, EndsAt, EndsByTally, HasNoted, IsAllRead, IsGood, IsPrintedAs, IsRead, Item, Notes, Prints, Read, ReadsTo, Skipped, Tally, all_noted, all_printed, counted, end_of, noted, place, printed, stop_of_end, tally, text_printed}
+use Rattle.autfilt_command.specs.inner.Running.{CountsFaults, HasRun, RunsOver}
+use Rattle.autfilt_command.specs.inner.Turn.{CountsWrites, IsPrintedInPart, Takes, Turns}
 use Rattle.autfilt_command.specs.declared.ended.End.{End}
 use Rattle.autfilt_command.specs.declared.ended.End.TheVariants as end
+use Rattle.autfilt_command.specs.declared.turn.Turn.{Turn}
 use Rattle.hoa_lexer.proofs.next_token.Between.{between_both, between_then}
-use Rattle.hoa_lexer.specs.Blanks.{IsBlanks}
-use Rattle.hoa_lexer.specs.Reading.{Between, unread}
+use Rattle.hoa_lexer.specs.Moves.{CountsReads, IsWithin, Stop}
+use Rattle.hoa_lexer.specs.Reading.{Between, Tells}
 use Rattle.hoa_parser.specs.Raw.{Written}
 
-gains_to : (a b c : Option (List ℕ)) (p : List ℕ) → c ≡ b → Gains a b p → Gains a c p
-gains_to a b c p e g = let P : Option (List ℕ) → Type 0 = λ b. Gains a b p in subst P (sym e) g
+read_push : (text here : List ℕ) (items : List Item) (item : Item) (rest next : List ℕ) → AreRead text here items rest → IsRead (place text rest) rest item next → AreRead text here (items ++ item ∷ []) next
+read_push text here [] item rest next e r = let P : List ℕ → Type 0 = λ x. IsRead (place text x) x item next in (next, subst P (sym e) r, refl)
+read_push text here (v ∷ vs) item rest next h r = (h.0, h.1, read_push text h.0 vs item rest next h.2 r)
 
-gains_nothing : (a b : Option (List ℕ)) → Gains a b [] → b ≡ a
-gains_nothing None b g = g
-gains_nothing (Some old) b g = g ∙ ap Some (append-nil old)
+printed_push : (items : List Item) (item : Item) → all_printed (items ++ item ∷ []) ≡ all_printed items ++ printed item
+printed_push [] item = append-nil (printed item)
+printed_push (v ∷ vs) item = ap (λ x. printed v ++ x) (printed_push vs item) ∙ sym (append_assoc (printed v) (all_printed vs) (printed item))
 
-read_push : (text here : List ℕ) (ws : List Written) (w : Written) (rest next : List ℕ) → AreRead text here ws rest → IsRead (place text rest) rest w next → AreRead text here (ws ++ w ∷ []) next
-read_push text here [] w rest next e r = let P : List ℕ → Type 0 = λ x. IsRead (place text x) x w next in (next, subst P (sym e) r, refl)
-read_push text here (v ∷ vs) w rest next h r = (h.0, h.1, read_push text h.0 vs w rest next h.2 r)
+noted_push : (items : List Item) (item : Item) → all_noted (items ++ item ∷ []) ≡ all_noted items ++ noted item
+noted_push [] item = append-nil (noted item)
+noted_push (v ∷ vs) item = ap (λ x. noted v ++ x) (noted_push vs item) ∙ sym (append_assoc (noted v) (all_noted vs) (noted item))
 
-printed_push : (ws : List Written) (w : Written) → all_printed (ws ++ w ∷ []) ≡ all_printed ws ++ printed w
-printed_push [] w = append-nil (printed w)
-printed_push (v ∷ vs) w = ap (λ x. printed v ++ x) (printed_push vs w) ∙ sym (append_assoc (printed v) (all_printed vs) (printed w))
+counted_both : (a b : Item) (t : Tally) → counted a (counted b t) ≡ counted b (counted a t)
+counted_both (Read v) (Read w) t = refl
+counted_both (Read v) Skipped t = refl
+counted_both Skipped (Read w) t = refl
+counted_both Skipped Skipped t = refl
 
-some_push : (ws : List Written) (w : Written) → is_some_automaton (ws ++ w ∷ []) ≡ true
-some_push [] w = refl
-some_push (v ∷ vs) w = refl
+tally_push : (items : List Item) (item : Item) → tally (items ++ item ∷ []) ≡ counted item (tally items)
+tally_push [] item = refl
+tally_push (v ∷ vs) item = ap (counted v) (tally_push vs item) ∙ counted_both v item (tally vs)
 
 -- where the bytes that are left begin
 abbrev pub IsAt : ℕ → List ℕ → List ℕ → Type 0
@@ -42,197 +48,151 @@ place_is : (n : ℕ) (text rest : List ℕ) → IsAt n text rest → n ≡ place
 place_is n text rest h = omega arith
 
 -- what is known of the text when a turn begins
-front_at : (n : ℕ) (ws : List Written) (a b : Option (List ℕ)) → Between a b (λ text rest. AreRead text text ws rest) → Between a b (IsAt n)
-    → Between a b (λ text rest. AreRead text text ws rest × IsAt n text rest)
-front_at n ws a b h k =
-    between_both a b (λ text rest. AreRead text text ws rest) (IsAt n) (λ text rest. AreRead text text ws rest × IsAt n text rest) (λ text rest p q. (p, q)) h k
+front_at : (n : ℕ) (items : List Item) (a b : Option (List ℕ)) → Between a b (λ text rest. AreRead text text items rest) → Between a b (IsAt n)
+    → Between a b (λ text rest. AreRead text text items rest × IsAt n text rest)
+front_at n items a b h k =
+    between_both a b (λ text rest. AreRead text text items rest) (IsAt n) (λ text rest. AreRead text text items rest × IsAt n text rest) (λ text rest p q. (p, q)) h k
 
 -- one more was read
-front_more : (n : ℕ) (ws : List Written) (w : Written) (a b c : Option (List ℕ)) → Between a b (λ text rest. AreRead text text ws rest) → Between a b (IsAt n)
-    → Between b c (λ rest next. IsRead n rest w next) → Between a c (λ text next. AreRead text text (ws ++ w ∷ []) next)
-front_more n ws w a b c h k r =
-    between_then a b c (λ text rest. AreRead text text ws rest × IsAt n text rest) (λ rest next. IsRead n rest w next) (λ text next. AreRead text text (ws ++ w ∷ []) next)
+front_more : (n : ℕ) (items : List Item) (item : Item) (a b c : Option (List ℕ)) → Between a b (λ text rest. AreRead text text items rest) → Between a b (IsAt n)
+    → Between b c (λ rest next. IsRead n rest item next) → Between a c (λ text next. AreRead text text (items ++ item ∷ []) next)
+front_more n items item a b c h k r =
+    between_then a b c (λ text rest. AreRead text text items rest × IsAt n text rest) (λ rest next. IsRead n rest item next) (λ text next. AreRead text text (items ++ item ∷ []) next)
     (λ text rest next p q.
-    let P : ℕ → Type 0 = λ n. IsRead n rest w next in
-    read_push text text ws w rest next p.0 (subst P (place_is n text rest p.1) q))
-    (front_at n ws a b h k) r
+    let P : ℕ → Type 0 = λ n. IsRead n rest item next in
+    read_push text text items item rest next p.0 (subst P (place_is n text rest p.1) q))
+    (front_at n items a b h k) r
 
-pub run_more : (n : ℕ) (a b c w w' w'' : Option (List ℕ)) (is : Bool) → HasRun a b w w' is → Between a b (IsAt n) → IsPrinted n b c w' w'' → HasRun a c w w'' true
-run_more n a b c w w' w'' is h k p = record {
-  automata = h.automata ++ p.automaton ∷ [];
-  read_as = AllByRecursion-push (λ w. ReadsAs (printed w) w) h.automata p.automaton h.read_as p.reads_as;
-  front = front_more n h.automata p.automaton a b c h.front k p.read;
-  gains = gains_as w w'' _ _ (sym (printed_push h.automata p.automaton)) (both w w' w'' (all_printed h.automata) (printed p.automaton) h.gains p.gains);
-  is_printed = sym (some_push h.automata p.automaton);
+noted_as : (a b : SinkSeen) (p q : List ℕ) (noting : Bool) → p ≡ q → HasNoted p noting a b → HasNoted q noting a b
+noted_as a b p q noting e h = subst (λ (x : List ℕ). HasNoted x noting a b) e h
+
+calm_then : (s m t : Seen) (o p q : SinkSeen) → AreCalm s m o p → AreCalm m t p q → AreCalm s t o q
+calm_then s m t o p q one two = record { opens = two.opens ∙ one.opens; reads = two.reads ∙ one.reads; writes = two.writes ∙ one.writes }
+
+pub run_more : (item : Item) (n : ℕ) (s m t : Seen) (o p q k l j : SinkSeen) (noting noting' : Bool) (counts : Tally)
+    → HasRun s m o p k l noting counts → Tells s m (IsAt n) → Takes item n m.left t.left p.written q.written
+    → ((text : List ℕ) → HasNoted text noting k l → HasNoted (text ++ noted item) noting' k j) → AreCalm m t p q → t.texts ≡ m.texts
+    → HasRun s t o q k j noting' (counted item counts)
+run_more item n s m t o p q k l j noting noting' counts h at one step calm texts = record {
+  items = h.items ++ item ∷ [];
+  read_as = AllByRecursion-push IsPrintedAs h.items item h.read_as one.read_as;
+  front = front_more n h.items item s.left m.left t.left h.front at one.read;
+  gains = gains_as o.written q.written _ _ (sym (printed_push h.items item)) (both o.written p.written q.written (all_printed h.items) (printed item) h.gains one.gains);
+  noted = noted_as k j _ _ noting' (sym (noted_push h.items item)) (step (all_noted h.items) h.noted);
+  counted = tally_push h.items item ∙ ap (counted item) h.counted;
+  calm = calm_then s m t o p q h.calm calm;
+  texts = texts ∙ h.texts;
 }
 
--- only blanks are left
-prints_all : (ws : List Written) (w w' : Option (List ℕ)) → Gains w w' (all_printed ws) → Prints (end_of (is_some_automaton ws)) ws w w'
-prints_all [] w w' g = (refl, gains_nothing w w' g)
-prints_all (v ∷ vs) w w' g = (λ e. (let k : (v ∷ vs) ≡ [] = e in cc), g)
+here : (a : Option (List ℕ)) → Between a a (λ text rest. AreRead text text [] rest)
+here None = refl
+here (Some text) = refl
 
-ends_blank : (ws : List Written) (text rest now : List ℕ) → IsBlanks rest → now ≡ [] → EndsAt (end_of (is_some_automaton ws)) text rest now
-ends_blank [] text rest now b e = (b, e)
-ends_blank (v ∷ vs) text rest now b e = (b, e)
-
-few_taken : (taken : ℕ) (text now : List ℕ) → taken ≤ 2 ^ 40 → IsAt taken text now → length text ≤ 2 ^ 40 + length now
-few_taken taken text now few at = omega arith
-
-run_over : (ws : List Written) → AllReadAs ws → (taken : ℕ) (a b c w w' : Option (List ℕ)) → taken ≤ 2 ^ 40 → Between a b (λ text rest. AreRead text text ws rest) → Gains w w' (all_printed ws)
-    → Between b c (λ rest now. IsBlanks rest × (now ≡ [])) → Between a c (IsAt taken) → RunsOver (end_of (is_some_automaton ws)) a c w w'
-run_over ws all_as taken a b c w w' few front g t k = record {
-  automata = ws;
-  read_as = all_as;
-  reads = between_both a c (λ text now. (rest : List ℕ) × AreRead text text ws rest × IsBlanks rest × (now ≡ [])) (IsAt taken)
-      (λ text now. ReadsTo (end_of (is_some_automaton ws)) text ws now)
-      (λ text now p at. record { rest = p.0; front = p.1; ends = ends_blank ws text p.0 now p.2 p.3; within = few_taken taken text now few at })
-      (between_then a b c (λ text rest. AreRead text text ws rest) (λ rest now. IsBlanks rest × (now ≡ []))
-      (λ text now. (rest : List ℕ) × AreRead text text ws rest × IsBlanks rest × (now ≡ []))
-      (λ text rest now p q. (rest, p, q.0, q.1)) front t) k;
-  prints = prints_all ws w w' g;
+-- nothing was read yet
+pub run_none : (s : Seen) (o k : SinkSeen) → HasRun s s o o k k true (record { printed = false; skipped = false })
+run_none s o k = record {
+  items = [];
+  read_as = tt;
+  front = here s.left;
+  gains = nothing o.written;
+  noted = (nothing k.written, refl);
+  counted = refl;
+  calm = record { opens = refl; reads = refl; writes = refl };
+  texts = refl;
 }
 
-pub run_done : (result : End) (is : Bool) (taken : ℕ) (a b c w w' w'' : Option (List ℕ)) → taken ≤ 2 ^ 40 → result ≡ end_of is → HasRun a b w w' is
-    → Between b c (λ rest now. IsBlanks rest × (now ≡ [])) → Between a c (IsAt taken) → w'' ≡ w' → RunsOver result a c w w''
-run_done result is taken a b c w w' w'' few e h t at k =
-    let P : End → Type 0 = λ x. RunsOver x a c w w'' in
-    subst P (sym (e ∙ ap end_of h.is_printed)) (run_over h.automata h.read_as taken a b c w w'' few h.front (gains_to w w' w'' _ k h.gains) t at)
+-- what is known of the text where the run ends
+record IsOver (e : End) (items : List Item) (taken : ℕ) (text now : List ℕ) : Type 0 where
+  rest : List ℕ
+  front : AreRead text text items rest
+  ends : EndsAt e (place text rest) rest now
 
--- the end by one byte too many is answered only where all that may be were taken
-abbrev pub TookAll : End → ℕ → Option ℕ → Type 0
-TookAll (end.Limit limit.Bytes) taken held = (taken ≡ 2 ^ 40) × (held ≡ None)
-TookAll _ taken held = Unit {0}
+reads_to : (e : End) (items : List Item) (n taken : ℕ) (a b c : Option (List ℕ)) → Between a b (λ text rest. AreRead text text items rest) → Between a b (IsAt n) → Between b c (EndsAt e n) → Between a c (IsAt taken)
+    → taken ≤ MOST_BYTES → IsWithin (stop_of_end e) taken MOST_BYTES → Between a c (λ text now. ReadsTo e text items now)
+reads_to e items n taken a b c h k ends at few within =
+    between_both a c (IsOver e items taken) (IsAt taken) (λ text now. ReadsTo e text items now)
+    (λ text now over counted. record { rest = over.rest; front = over.front; ends = over.ends; taken = taken; counted = counted; few = few; within = within })
+    (between_then a b c (λ text rest. AreRead text text items rest × IsAt n text rest) (EndsAt e n) (IsOver e items taken)
+    (λ text rest now p q. record { rest = rest; front = p.0; ends = subst (λ (m : ℕ). EndsAt e m rest now) (place_is n text rest p.1) q })
+    (front_at n items a b h k) ends)
+    at
 
-too_many : (text rest now : List ℕ) (held : Option ℕ) (taken : ℕ) → IsAt taken text now → (taken ≡ 2 ^ 40) × (held ≡ None) → EndsHere (end.Limit limit.Bytes) (place text rest) rest (unread held now) → AsksForTooMany text rest now
-too_many text rest now held taken at all h = record {
-  taken = sym at ∙ ap (λ n. n + length now) all.0;
-  asks = subst (λ (o : Option ℕ). EndsHere (end.Limit limit.Bytes) (place text rest) rest (unread o now)) all.1 h;
+-- a write of the last automaton failed
+breaks_off : (items : List Item) (w : Written) (a b c : Option (List ℕ)) → Gains a b (all_printed items) → GainsPrefix b c (text_printed w) → BreaksOff (items ++ Read w ∷ []) a c
+breaks_off items w None b c h p =
+    let q : c ≡ None = subst (λ (x : Option (List ℕ)). GainsPrefix x c (text_printed w)) h p in
+    record { earlier = items; last = w; all = refl; part = 0; gains = q }
+breaks_off items w (Some old) b c h p =
+    let q = subst (λ (x : Option (List ℕ)). GainsPrefix x c (text_printed w)) h p in
+    record { earlier = items; last = w; all = refl; part = q.0; gains = q.1 ∙ ap Some (append_assoc old (all_printed items) (take q.0 (text_printed w))) }
+
+-- the items at the end of a run: those before, and where a write failed the one whose text was being written
+record Ends (e : End) (n : ℕ) (items : List Item) (m t : Seen) (o p q : SinkSeen) : Type 0 where
+  all : List Item
+  read_as : AllReadAs items → AllReadAs all
+  same_notes : all_noted all ≡ all_noted items
+  tallied : EndsByTally e all
+  prints : Prints e all o.written q.written
+  reads : (s : Seen) (taken : ℕ) → Tells s m (λ text rest. AreRead text text items rest) → Tells s m (IsAt n) → Tells s t (IsAt taken) → taken ≤ MOST_BYTES → IsWithin (stop_of_end e) taken MOST_BYTES
+      → Tells s t (λ text now. ReadsTo e text all now)
+
+gains_to : (a b c : Option (List ℕ)) (p : List ℕ) → c ≡ b → Gains a b p → Gains a c p
+gains_to a b c p e g = let P : Option (List ℕ) → Type 0 = λ b. Gains a b p in subst P (sym e) g
+
+-- the run ends where no write failed
+ends_at : (e : End) (n : ℕ) (items : List Item) (m t : Seen) (o p q : SinkSeen) → EndsByTally e items → (Gains o.written q.written (all_printed items) → Prints e items o.written q.written)
+    → Gains o.written p.written (all_printed items) → Between m.left t.left (EndsAt e n) → q.written ≡ p.written → Ends e n items m t o p q
+ends_at e n items m t o p q tallied prints gains ends same = record {
+  all = items;
+  read_as = λ h. h;
+  same_notes = refl;
+  tallied = tallied;
+  prints = prints (gains_to o.written p.written q.written _ same gains);
+  reads = λ s taken h k at few within. reads_to e items n taken s.left m.left t.left h k ends at few within;
 }
 
-ends_at : (e : End) (text rest now : List ℕ) (held : Option ℕ) (taken r r' t t' : ℕ) → TurnCauses (Err e) r r' t t' → IsAt taken text now → TookAll e taken held
-    → EndsHere e (place text rest) rest (unread held now) → (e ≡ end.WriteFault → ⊥) → EndsAt e text rest now
-ends_at end.Output text rest now held taken r r' t t' c at all h between = absurd c
-ends_at end.NoneOutput text rest now held taken r r' t t' c at all h between = absurd c
-ends_at end.Usage text rest now held taken r r' t t' c at all h between = tt
-ends_at end.CannotOpen text rest now held taken r r' t t' c at all h between = tt
-ends_at end.ReadFault text rest now held taken r r' t t' c at all h between = tt
-ends_at end.WriteFault text rest now held taken r r' t t' c at all h between = absurd (between refl)
-ends_at end.Memory text rest now held taken r r' t t' c at all h between = tt
-ends_at (end.SyntaxAt k) text rest now held taken r r' t t' c at all h between = h
-ends_at end.Truncated text rest now held taken r r' t t' c at all h between = h
-ends_at end.Aborted text rest now held taken r r' t t' c at all h between = h
-ends_at (end.Invalid rule) text rest now held taken r r' t t' c at all h between = h
-ends_at (end.Limit limit.Depth) text rest now held taken r r' t t' c at all h between = h
-ends_at (end.Limit limit.Bytes) text rest now held taken r r' t t' c at all h between = too_many text rest now held taken at all h
-ends_at (end.Limit limit.Names) text rest now held taken r r' t t' c at all h between = h
-ends_at (end.Limit limit.Sets) text rest now held taken r r' t t' c at all h between = h
-ends_at (end.Limit limit.States) text rest now held taken r r' t t' c at all h between = h
-ends_at (end.Limit limit.Edges) text rest now held taken r r' t t' c at all h between = h
-ends_at (end.Limit limit.Aliases) text rest now held taken r r' t t' c at all h between = h
-ends_at (end.Limit limit.Terms) text rest now held taken r r' t t' c at all h between = h
-ends_at (end.Limit limit.BuchiStates) text rest now held taken r r' t t' c at all h between = h
-ends_at (end.Limit limit.Trees) text rest now held taken r r' t t' c at all h between = h
-ends_at (end.Limit limit.Nodes) text rest now held taken r r' t t' c at all h between = h
-ends_at (end.Limit limit.Classes) text rest now held taken r r' t t' c at all h between = h
-ends_at (end.Limit limit.Pairs) text rest now held taken r r' t t' c at all h between = h
-
--- what is written where the run ends between two automata
-prints_here : (e : End) (ws : List Written) (w w' : Option (List ℕ)) (r r' t t' : ℕ) → TurnCauses (Err e) r r' t t' → (e ≡ end.WriteFault → ⊥) → Gains w w' (all_printed ws) → Prints e ws w w'
-prints_here end.Output ws w w' r r' t t' c between g = absurd c
-prints_here end.NoneOutput ws w w' r r' t t' c between g = absurd c
-prints_here end.Usage ws w w' r r' t t' c between g = absurd c
-prints_here end.CannotOpen ws w w' r r' t t' c between g = absurd c
-prints_here end.WriteFault ws w w' r r' t t' c between g = absurd (between refl)
-prints_here _ ws w w' r r' t t' c between g = g
-
--- the run ends between two automata
-abbrev IsHere : End → Option ℕ → List Written → List ℕ → List ℕ → Type 0
-IsHere e held ws text now = (rest : List ℕ) × AreRead text text ws rest × EndsHere e (place text rest) rest (unread held now)
-
-ends_between : (e : End) (n taken : ℕ) (held : Option ℕ) (is : Bool) (a b c w w' w'' : Option (List ℕ)) (r r' t t' : ℕ) → (e ≡ end.WriteFault → ⊥)
-    → HasRun a b w w' is → Between a b (IsAt n) → taken ≤ 2 ^ 40 → Between a c (IsAt taken) → TookAll e taken held → TurnCauses (Err e) r r' t t'
-    → Between b c (λ old new. EndsHere e n old (unread held new)) × (w'' ≡ w') → RunsOver e a c w w''
-ends_between e n taken held is a b c w w' w'' r r' t t' between h k few k' all causes turn = record {
-  automata = h.automata;
-  read_as = h.read_as;
-  reads = between_both a c (IsHere e held h.automata) (IsAt taken) (λ text now. ReadsTo e text h.automata now)
-      (λ text now p at. record { rest = p.0; front = p.1; ends = ends_at e text p.0 now held taken r r' t t' causes at all p.2 between; within = few_taken taken text now few at })
-      (between_then a b c (λ text rest. AreRead text text h.automata rest × IsAt n text rest) (λ rest now. EndsHere e n rest (unread held now)) (IsHere e held h.automata)
-      (λ text rest now p q.
-      let P : ℕ → Type 0 = λ n. EndsHere e n rest (unread held now) in
-      (rest, p.0, subst P (place_is n text rest p.1) q))
-      (front_at n h.automata a b h.front k) turn.0) k';
-  prints = prints_here e h.automata w w'' r r' t t' causes between (gains_to w w' w'' _ turn.1 h.gains);
+ends_writing : (n : ℕ) (items : List Item) (m t : Seen) (o p q : SinkSeen) → Gains o.written p.written (all_printed items) → IsPrintedInPart n m.left t.left p.written q.written → Ends end.WriteFault n items m t o p q
+ends_writing n items m t o p q gains part = record {
+  all = items ++ Read part.automaton ∷ [];
+  read_as = λ h. AllByRecursion-push IsPrintedAs items (Read part.automaton) h part.read_as;
+  same_notes = noted_push items (Read part.automaton) ∙ append-nil (all_noted items);
+  tallied = tt;
+  prints = breaks_off items part.automaton o.written p.written q.written gains part.gains;
+  reads = λ s taken h k at few within.
+      between_both s.left t.left (λ text now. AreRead text text (items ++ Read part.automaton ∷ []) now) (IsAt taken) (λ text now. ReadsTo end.WriteFault text (items ++ Read part.automaton ∷ []) now)
+      (λ text now f counted. record { rest = now; front = f; ends = refl; taken = taken; counted = counted; few = few; within = tt })
+      (front_more n items (Read part.automaton) s.left m.left t.left h k part.read) at;
 }
 
--- a part of one more text was written
-breaks_off : (ws : List Written) (w : Written) (a b c : Option (List ℕ)) → Gains a b (all_printed ws) → GainsPrefix b c (printed w) → BreaksOff (ws ++ w ∷ []) a c
-breaks_off ws w None b c g p =
-    let P : Option (List ℕ) → Type 0 = λ x. GainsPrefix x c (printed w) in
-    record { earlier = ws; last = w; all = refl; part = 0; gains = subst P g p }
-breaks_off ws w (Some old) b c g p =
-    let P : Option (List ℕ) → Type 0 = λ x. GainsPrefix x c (printed w) in
-    let q = subst P g p in
-    record { earlier = ws; last = w; all = refl; part = q.0; gains = q.1 ∙ ap Some (append_assoc old (all_printed ws) (take q.0 (printed w))) }
+ends_by : (e : End) (n : ℕ) (items : List Item) (m t : Seen) (o p q : SinkSeen) → Gains o.written p.written (all_printed items) → Turns (Err e) n m.left t.left p.written q.written → Ends e n items m t o p q
+ends_by end.WriteFault n items m t o p q g h = ends_writing n items m t o p q g h
+ends_by end.ReadFault n items m t o p q g h = ends_at end.ReadFault n items m t o p q tt (λ x. x) g h.0 h.1
+ends_by (end.SyntaxAt k) n items m t o p q g h = ends_at (end.SyntaxAt k) n items m t o p q tt (λ x. x) g h.0 h.1
+ends_by end.Truncated n items m t o p q g h = ends_at end.Truncated n items m t o p q tt (λ x. x) g h.0 h.1
+ends_by (end.Invalid rule) n items m t o p q g h = ends_at (end.Invalid rule) n items m t o p q tt (λ x. x) g h.0 h.1
+ends_by (end.Limit which) n items m t o p q g h = ends_at (end.Limit which) n items m t o p q tt (λ x. x) g h.0 h.1
+ends_by end.Memory n items m t o p q g h = ends_at end.Memory n items m t o p q tt (λ x. x) g h.0 h.1
+ends_by end.Output n items m t o p q g h = absurd h
+ends_by end.NoneOutput n items m t o p q g h = absurd h
+ends_by end.Aborts n items m t o p q g h = absurd h
+ends_by end.Usage n items m t o p q g h = absurd h
+ends_by end.CannotOpen n items m t o p q g h = absurd h
 
-ends_writing : (n taken : ℕ) (is : Bool) (a b c w w' w'' : Option (List ℕ)) → HasRun a b w w' is → Between a b (IsAt n) → taken ≤ 2 ^ 40 → Between a c (IsAt taken)
-    → IsPrintedInPart n b c w' w'' → RunsOver end.WriteFault a c w w''
-ends_writing n taken is a b c w w' w'' h k few k' p = record {
-  automata = h.automata ++ p.automaton ∷ [];
-  read_as = AllByRecursion-push (λ w. ReadsAs (printed w) w) h.automata p.automaton h.read_as p.reads_as;
-  reads = between_both a c (λ text now. AreRead text text (h.automata ++ p.automaton ∷ []) now) (IsAt taken) (λ text now. ReadsTo end.WriteFault text (h.automata ++ p.automaton ∷ []) now)
-      (λ text now f at. record { rest = now; front = f; ends = refl; within = few_taken taken text now few at })
-      (front_more n h.automata p.automaton a b c h.front k p.read) k';
-  prints = breaks_off h.automata p.automaton w w' w'' h.gains p.gains;
+-- where only blanks are left
+finished : (counts : Tally) (n : ℕ) (items : List Item) (m t : Seen) (o p q : SinkSeen) → tally items ≡ counts → Gains o.written p.written (all_printed items) → Between m.left t.left IsAllRead → q.written ≡ p.written → Ends (end_of counts) n items m t o p q
+finished (record { printed = printed; skipped = true }) n items m t o p q e g h k = ends_at end.Aborts n items m t o p q (sym (ap end_of e)) (λ x. x) g h k
+finished (record { printed = true; skipped = false }) n items m t o p q e g h k = ends_at end.Output n items m t o p q (sym (ap end_of e)) (λ x. x) g h k
+finished (record { printed = false; skipped = false }) n items m t o p q e g h k = ends_at end.NoneOutput n items m t o p q (sym (ap end_of e)) (λ x. x) g h k
+
+run_over : (e : End) (n taken : ℕ) (s m t : Seen) (o p q k l j : SinkSeen) (noting : Bool) (counts : Tally) (h : HasRun s m o p k l noting counts)
+    → Tells s m (IsAt n) → Tells s t (IsAt taken) → taken ≤ MOST_BYTES → IsWithin (stop_of_end e) taken MOST_BYTES → Ends e n h.items m t o p q
+    → ((text : List ℕ) → HasNoted text noting k l → Notes (text ++ line_of e) k j) → CountsFaults e s t o q → RunsOver e s t o q k j
+run_over e n taken s m t o p q k l j noting counts h at at' few within over notes causes = record {
+  items = over.all;
+  read_as = over.read_as h.read_as;
+  reads = over.reads s taken h.front at at' few within;
+  tallied = over.tallied;
+  prints = over.prints;
+  noted = subst (λ (x : List ℕ). Notes (x ++ line_of e) k j) (sym over.same_notes) (notes (all_noted h.items) h.noted);
+  causes = causes;
 }
-
--- the run ends where a turn does
-pub ends_by : (e : End) (n taken : ℕ) (held : Option ℕ) (is : Bool) (a b c w w' w'' : Option (List ℕ)) (r r' t t' : ℕ)
-    → HasRun a b w w' is → Between a b (IsAt n) → taken ≤ 2 ^ 40 → Between a c (IsAt taken) → TookAll e taken held → TurnCauses (Err e) r r' t t'
-    → Turns (Err e) n held b c w' w'' → RunsOver e a c w w''
-ends_by end.WriteFault n taken held is a b c w w' w'' r r' t t' h k few k' all causes turn = ends_writing n taken is a b c w w' w'' h k few k' turn
-ends_by end.Output n taken held is a b c w w' w'' r r' t t' h k few k' all causes turn = ends_between end.Output n taken held is a b c w w' w'' r r' t t' (λ e. cc) h k few k' all causes turn
-ends_by end.NoneOutput n taken held is a b c w w' w'' r r' t t' h k few k' all causes turn = ends_between end.NoneOutput n taken held is a b c w w' w'' r r' t t' (λ e. cc) h k few k' all causes turn
-ends_by end.Usage n taken held is a b c w w' w'' r r' t t' h k few k' all causes turn = ends_between end.Usage n taken held is a b c w w' w'' r r' t t' (λ e. cc) h k few k' all causes turn
-ends_by end.CannotOpen n taken held is a b c w w' w'' r r' t t' h k few k' all causes turn = ends_between end.CannotOpen n taken held is a b c w w' w'' r r' t t' (λ e. cc) h k few k' all causes turn
-ends_by end.ReadFault n taken held is a b c w w' w'' r r' t t' h k few k' all causes turn = ends_between end.ReadFault n taken held is a b c w w' w'' r r' t t' (λ e. cc) h k few k' all causes turn
-ends_by (end.SyntaxAt x) n taken held is a b c w w' w'' r r' t t' h k few k' all causes turn = ends_between (end.SyntaxAt x) n taken held is a b c w w' w'' r r' t t' (λ e. cc) h k few k' all causes turn
-ends_by end.Truncated n taken held is a b c w w' w'' r r' t t' h k few k' all causes turn = ends_between end.Truncated n taken held is a b c w w' w'' r r' t t' (λ e. cc) h k few k' all causes turn
-ends_by end.Aborted n taken held is a b c w w' w'' r r' t t' h k few k' all causes turn = ends_between end.Aborted n taken held is a b c w w' w'' r r' t t' (λ e. cc) h k few k' all causes turn
-ends_by (end.Invalid x) n taken held is a b c w w' w'' r r' t t' h k few k' all causes turn = ends_between (end.Invalid x) n taken held is a b c w w' w'' r r' t t' (λ e. cc) h k few k' all causes turn
-ends_by (end.Limit x) n taken held is a b c w w' w'' r r' t t' h k few k' all causes turn = ends_between (end.Limit x) n taken held is a b c w w' w'' r r' t t' (λ e. cc) h k few k' all causes turn
-ends_by end.Memory n taken held is a b c w w' w'' r r' t t' h k few k' all causes turn = ends_between end.Memory n taken held is a b c w w' w'' r r' t t' (λ e. cc) h k few k' all causes turn
-
-pub took_all : (e : End) (taken most : ℕ) (held : Option ℕ) → most ≡ 2 ^ 40 → (IsErrOf {T = Bool} (Err e) (end.Limit limit.Bytes) → (taken ≡ most) × (held ≡ None)) → TookAll e taken held
-took_all (end.Limit limit.Bytes) taken most held m h = let all = h refl in (all.0 ∙ m, all.1)
-took_all end.Output taken most held m h = tt
-took_all end.NoneOutput taken most held m h = tt
-took_all end.Usage taken most held m h = tt
-took_all end.CannotOpen taken most held m h = tt
-took_all end.ReadFault taken most held m h = tt
-took_all (end.SyntaxAt x) taken most held m h = tt
-took_all end.Truncated taken most held m h = tt
-took_all end.Aborted taken most held m h = tt
-took_all (end.Invalid x) taken most held m h = tt
-took_all end.WriteFault taken most held m h = tt
-took_all end.Memory taken most held m h = tt
-took_all (end.Limit limit.Names) taken most held m h = tt
-took_all (end.Limit limit.Sets) taken most held m h = tt
-took_all (end.Limit limit.States) taken most held m h = tt
-took_all (end.Limit limit.Edges) taken most held m h = tt
-took_all (end.Limit limit.Aliases) taken most held m h = tt
-took_all (end.Limit limit.Depth) taken most held m h = tt
-took_all (end.Limit limit.Terms) taken most held m h = tt
-took_all (end.Limit limit.BuchiStates) taken most held m h = tt
-took_all (end.Limit limit.Trees) taken most held m h = tt
-took_all (end.Limit limit.Nodes) taken most held m h = tt
-took_all (end.Limit limit.Classes) taken most held m h = tt
-took_all (end.Limit limit.Pairs) taken most held m h = tt
-
--- where a turn begins and ends
-pub begins_at : (since taken : ℕ) (a b : Option (List ℕ)) → since ≡ taken → Between a b (IsAt taken) → Between a b (IsAt since)
-begins_at since taken a b e h = let P : ℕ → Type 0 = λ n. Between a b (IsAt n) in subst P (sym e) h
-
-pub at_after : (taken taken' : ℕ) (a b c : Option (List ℕ)) → Between a b (IsAt taken) → Between b c (λ old new. taken' + length new ≡ taken + length old) → Between a c (IsAt taken')
-at_after taken taken' a b c h k =
-    between_then a b c (IsAt taken) (λ old new. taken' + length new ≡ taken + length old) (IsAt taken') (λ x y z p q. q ∙ p) h k

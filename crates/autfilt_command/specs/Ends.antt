@@ -3,7 +3,7 @@ use Rattle.aut_base.specs.declared.limit.Limit.TheVariants as limit
 use Rattle.autfilt_command.specs.declared.ended.End.{End}
 use Rattle.autfilt_command.specs.declared.ended.End.TheVariants as end
 use Rattle.autfilt_command.specs.declared.ended.Ended.{Ended}
-use Rattle.autfilt_command.specs.declared.ended.Ended.TheVariants.{Output, NoneOutput, Usage, CannotOpen, ReadFault, Syntax, Invalid, Limit, WriteFault, Memory}
+use Rattle.autfilt_command.specs.declared.ended.Ended.TheVariants.{Output, NoneOutput, Aborts, Usage, CannotOpen, ReadFault, Syntax, Invalid, Limit, WriteFault, Memory}
 use Rattle.hoa_reader.specs.declared.elaborate.ElabFault as describing
 use Rattle.hoa_parser.specs.declared.fault.ReadFault as reading
 
@@ -16,7 +16,7 @@ ended_of end.CannotOpen = CannotOpen
 ended_of end.ReadFault = ReadFault
 ended_of (end.SyntaxAt k) = Syntax
 ended_of end.Truncated = Syntax
-ended_of end.Aborted = Syntax
+ended_of end.Aborts = Aborts
 ended_of (end.Invalid rule) = Invalid
 ended_of (end.Limit which) = Limit which
 ended_of end.WriteFault = WriteFault
@@ -26,7 +26,6 @@ ended_of end.Memory = Memory
 abbrev pub end_of_reading : reading.ReadFault → End
 end_of_reading (reading.ReadFault.Syntax k) = end.SyntaxAt k
 end_of_reading reading.ReadFault.Truncated = end.Truncated
-end_of_reading reading.ReadFault.Aborted = end.Aborted
 end_of_reading reading.ReadFault.Depth = end.Limit limit.Depth
 end_of_reading reading.ReadFault.Bytes = end.Limit limit.Bytes
 end_of_reading reading.ReadFault.Read = end.ReadFault

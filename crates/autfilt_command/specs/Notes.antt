@@ -39,7 +39,11 @@ rule_word V10 = codes "V10"
 rule_word V11 = codes "V11"
 rule_word V12 = codes "V12"
 
--- a line, or nothing where all went well
+-- the line about an automaton that is skipped
+abbrev pub aborted_line : List ℕ
+aborted_line = codes "autfilt: -: automaton aborted\n"
+
+-- the line about an end, or nothing where all was read
 abbrev pub line_of : End → List ℕ
 line_of end.Output = []
 line_of end.NoneOutput = []
@@ -48,7 +52,7 @@ line_of end.CannotOpen = codes "autfilt: cannot open -\n"
 line_of end.ReadFault = codes "autfilt: -: read error\n"
 line_of (end.SyntaxAt k) = codes "autfilt: -: syntax error at byte " ++ (decimal k ++ codes "\n")
 line_of end.Truncated = codes "autfilt: -: unexpected end of input\n"
-line_of end.Aborted = codes "autfilt: -: automaton aborted\n"
+line_of end.Aborts = []
 line_of (end.Invalid rule) = codes "autfilt: -: invalid automaton (" ++ (rule_word rule ++ codes ")\n")
 line_of (end.Limit which) = codes "autfilt: -: limit exceeded: " ++ (limit_word which ++ codes "\n")
 line_of end.WriteFault = codes "autfilt: write error\n"

@@ -15,13 +15,15 @@ pub enum Ended {
     Output,
     /// All was read, and none was kept.
     NoneOutput,
+    /// All was read, and automata that are abandoned were skipped.
+    Aborts,
     /// The words are no plan.
     Usage,
     /// A text could not be opened.
     CannotOpen,
     /// A read failed.
     ReadFault,
-    /// A text cannot go on as it does, ended inside an automaton, or abandoned one.
+    /// A text cannot go on as it does, or ended inside an automaton.
     Syntax,
     /// An automaton breaks a rule.
     Invalid,
@@ -38,6 +40,7 @@ pub enum Ended {
 pub enum End {
     Output,
     NoneOutput,
+    Aborts,
     Usage,
     CannotOpen,
     ReadFault,
@@ -45,8 +48,6 @@ pub enum End {
     SyntaxAt(u64),
     /// The text ended inside an automaton, a comment or a token.
     Truncated,
-    /// An automaton was abandoned by `--ABORT--`.
-    Aborted,
     /// The first rule that an automaton breaks.
     Invalid(Rule),
     Limit(Limit),
@@ -72,7 +73,6 @@ impl From<ReadFault> for End {
         match fault {
             ReadFault::Syntax(offset) => End::SyntaxAt(offset),
             ReadFault::Truncated => End::Truncated,
-            ReadFault::Aborted => End::Aborted,
             ReadFault::Depth => End::Limit(Limit::Depth),
             ReadFault::Bytes => End::Limit(Limit::Bytes),
             ReadFault::Read => End::ReadFault,
@@ -106,10 +106,11 @@ impl From<End> for Ended {
         match end {
             End::Output => Ended::Output,
             End::NoneOutput => Ended::NoneOutput,
+            End::Aborts => Ended::Aborts,
             End::Usage => Ended::Usage,
             End::CannotOpen => Ended::CannotOpen,
             End::ReadFault => Ended::ReadFault,
-            End::SyntaxAt(_) | End::Truncated | End::Aborted => Ended::Syntax,
+            End::SyntaxAt(_) | End::Truncated => Ended::Syntax,
             End::Invalid(_) => Ended::Invalid,
             End::Limit(which) => Ended::Limit(which),
             End::WriteFault => Ended::WriteFault,

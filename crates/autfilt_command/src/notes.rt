@@ -1,10 +1,11 @@
 //! The line about a fault. It is written in pieces, and no memory is taken for it.
 
-ghost use Rattle.std.specs.Prelude.{◌≡◌, ◌+◌, ◌<◌, ◌≤◌, [], ◌∷◌, ◌++◌, codes, OnOk, OnErr};
+
+ghost use Rattle.std.specs.Prelude.{◌≡◌, ℕ, ◌+◌, ◌<◌, List, [], ◌∷◌, ◌++◌, codes};
 ghost use Rattle.std.specs.Fmt.{decimal};
-ghost use Rattle.aut_io.specs.Outside.{Rose, Gains, GainsPrefix};
-ghost use Rattle.autfilt_command.specs.Notes.{line_of, limit_word, rule_word};
-ghost use Rattle.autfilt_command.specs.Run.{Calm};
+ghost use Rattle.aut_io.specs.Seen.{SinkSeen, Writes};
+ghost use Rattle.autfilt_command.specs.Notes.{aborted_line, line_of, limit_word, rule_word};
+ghost use Rattle.autfilt_command.specs.Run.{HasNoted, Notes};
 
 use crate::ended::End;
 use aut_base::{Failed, Limit};
@@ -14,9 +15,7 @@ use hoa_reader::Rule;
 /// Writes the line about how a run ended, if that has one. Nothing is written after a write that failed, and nobody
 /// learns of it but by the count.
 pub fn note<M: Sink>(notes: &mut M, end: &End)
-    ensures whole { Calm (M.faults notes.old) (M.faults notes.new) → Gains (M.written notes.old) (M.written notes.new) (line_of end.now) }
-    ensures prefix { GainsPrefix (M.written notes.old) (M.written notes.new) (line_of end.now) }
-    ensures later { M.faults notes.old ≤ M.faults notes.new }
+    ensures { Notes (line_of end.now) (M.seen notes.old) (M.seen notes.new) }
 {
     match write_line(notes, end) {
         Ok(()) => {}
@@ -24,22 +23,39 @@ pub fn note<M: Sink>(notes: &mut M, end: &End)
     }
 }
 
+/// Notes that an automaton is skipped, unless a note before failed, and answers whether none failed so far.
+pub(crate) fn note_skipped<M: Sink>(notes: &mut M, noting: bool) -> bool
+    ensures { (first : SinkSeen) → (text : List ℕ) → HasNoted text noting first (M.seen notes.old) → HasNoted (text ++ aborted_line) result first (M.seen notes.new) }
+{
+    if !noting {
+        return false;
+    }
+    match notes.write(b"autfilt: -: automaton aborted\n") {
+        Ok(()) => true,
+        Err(Failed) => false,
+    }
+}
+
+/// Notes how the run ended, unless a note before failed.
+pub(crate) fn note_end<M: Sink>(notes: &mut M, noting: bool, end: &End)
+    ensures { (first : SinkSeen) → (text : List ℕ) → HasNoted text noting first (M.seen notes.old) → Notes (text ++ line_of end.now) first (M.seen notes.new) }
+{
+    if noting {
+        note(notes, end);
+    }
+}
+
 /// Writes the line, and answers whether all of it was written.
 fn write_line<M: Sink>(notes: &mut M, end: &End) -> Result<(), Failed>
-    ensures ok { OnOk result (Gains (M.written notes.old) (M.written notes.new) (line_of end.now)) }
-    ensures err { OnErr result (GainsPrefix (M.written notes.old) (M.written notes.new) (line_of end.now)) }
-    ensures failed { OnErr result (Rose (M.faults notes.old) (M.faults notes.new)) }
-    ensures calm { OnOk result (M.faults notes.new ≡ M.faults notes.old) }
-    ensures later { M.faults notes.old ≤ M.faults notes.new }
+    ensures { Writes (M.seen notes.old) (line_of end.now) result (M.seen notes.new) }
 {
     match end {
-        End::Output | End::NoneOutput => Ok(()),
+        End::Output | End::NoneOutput | End::Aborts => Ok(()),
         End::Usage => notes.write(b"autfilt: bad arguments\n"),
         End::CannotOpen => notes.write(b"autfilt: cannot open -\n"),
         End::ReadFault => notes.write(b"autfilt: -: read error\n"),
         End::SyntaxAt(offset) => write_offset(notes, *offset),
         End::Truncated => notes.write(b"autfilt: -: unexpected end of input\n"),
-        End::Aborted => notes.write(b"autfilt: -: automaton aborted\n"),
         End::Invalid(rule) => write_pieces(
             notes,
             b"autfilt: -: invalid automaton (",
@@ -64,11 +80,7 @@ fn write_pieces<M: Sink>(
     word: &[u8],
     back: &[u8],
 ) -> Result<(), Failed>
-    ensures ok { OnOk result (Gains (M.written notes.old) (M.written notes.new) (front.now ++ (word.now ++ back.now))) }
-    ensures err { OnErr result (GainsPrefix (M.written notes.old) (M.written notes.new) (front.now ++ (word.now ++ back.now))) }
-    ensures failed { OnErr result (Rose (M.faults notes.old) (M.faults notes.new)) }
-    ensures calm { OnOk result (M.faults notes.new ≡ M.faults notes.old) }
-    ensures later { M.faults notes.old ≤ M.faults notes.new }
+    ensures { Writes (M.seen notes.old) (front.now ++ (word.now ++ back.now)) result (M.seen notes.new) }
 {
     notes.write(front)?;
     notes.write(word)?;
@@ -77,11 +89,7 @@ fn write_pieces<M: Sink>(
 
 /// Writes the line about an offset at which the text cannot go on.
 fn write_offset<M: Sink>(notes: &mut M, offset: u64) -> Result<(), Failed>
-    ensures ok { OnOk result (Gains (M.written notes.old) (M.written notes.new) (codes "autfilt: -: syntax error at byte " ++ (decimal offset ++ codes "\n"))) }
-    ensures err { OnErr result (GainsPrefix (M.written notes.old) (M.written notes.new) (codes "autfilt: -: syntax error at byte " ++ (decimal offset ++ codes "\n"))) }
-    ensures failed { OnErr result (Rose (M.faults notes.old) (M.faults notes.new)) }
-    ensures calm { OnOk result (M.faults notes.new ≡ M.faults notes.old) }
-    ensures later { M.faults notes.old ≤ M.faults notes.new }
+    ensures { Writes (M.seen notes.old) (codes "autfilt: -: syntax error at byte " ++ (decimal offset ++ codes "\n")) result (M.seen notes.new) }
 {
     notes.write(b"autfilt: -: syntax error at byte ")?;
     write_number(notes, offset)?;
@@ -90,11 +98,7 @@ fn write_offset<M: Sink>(notes: &mut M, offset: u64) -> Result<(), Failed>
 
 /// Writes a number in decimal digits.
 fn write_number<M: Sink>(notes: &mut M, number: u64) -> Result<(), Failed>
-    ensures ok { OnOk result (Gains (M.written notes.old) (M.written notes.new) (decimal number)) }
-    ensures err { OnErr result (GainsPrefix (M.written notes.old) (M.written notes.new) (decimal number)) }
-    ensures failed { OnErr result (Rose (M.faults notes.old) (M.faults notes.new)) }
-    ensures calm { OnOk result (M.faults notes.new ≡ M.faults notes.old) }
-    ensures later { M.faults notes.old ≤ M.faults notes.new }
+    ensures { Writes (M.seen notes.old) (decimal number) result (M.seen notes.new) }
 {
     if number < 10 {
         return write_digit(notes, number);
@@ -106,11 +110,7 @@ fn write_number<M: Sink>(notes: &mut M, number: u64) -> Result<(), Failed>
 /// Writes one digit.
 fn write_digit<M: Sink>(notes: &mut M, digit: u64) -> Result<(), Failed>
     requires { digit < 10 }
-    ensures ok { OnOk result (Gains (M.written notes.old) (M.written notes.new) ((48 + digit) ∷ [])) }
-    ensures err { OnErr result (GainsPrefix (M.written notes.old) (M.written notes.new) ((48 + digit) ∷ [])) }
-    ensures failed { OnErr result (Rose (M.faults notes.old) (M.faults notes.new)) }
-    ensures calm { OnOk result (M.faults notes.new ≡ M.faults notes.old) }
-    ensures later { M.faults notes.old ≤ M.faults notes.new }
+    ensures { Writes (M.seen notes.old) ((48 + digit) ∷ []) result (M.seen notes.new) }
 {
     let glyph = b'0' + digit as u8;
     notes.write(&[glyph])

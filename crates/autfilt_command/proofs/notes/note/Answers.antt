@@ -1,6 +1,8 @@
-use Rattle.autfilt_command.proofs.Gains.{all}
-use Rattle.autfilt_command.specs.Notes.{line_of}
+use Rattle.std.proofs.Common.{true, false}
 use Rattle.autfilt_command.proofs.notes.note.Goals as goal
 
-pub returns-in-Ok-clause-prefix : goal.returns-in-Ok-clause-prefix
-returns-in-Ok-clause-prefix g c = all (g.M.Sink.written c.args.notes.now) (g.M.Sink.written c.write_line.new.notes) (line_of c.args.end.now) c.in-Ok.ensures.ok
+pub returns-in-Ok : goal.returns-in-Ok
+returns-in-Ok g c = (true, (c.in-Ok.ensures.ok, c.in-Ok.ensures.calm))
+
+pub returns-in-Err : goal.returns-in-Err
+returns-in-Err g c = (false, (c.in-Err.ensures.err, c.in-Err.ensures.failed))

@@ -1,32 +1,11 @@
-use Rattle.std.proofs.Common.{◌++◌}
-use Rattle.std.proofs.lemmas.Result.{on_err_weaker, on_ok_weaker}
-use Rattle.autfilt_command.proofs.Gains.{at_err, both, first, second}
+use Rattle.autfilt_command.proofs.Noting.{writes_first, writes_then}
 use Rattle.autfilt_command.proofs.notes.write_pieces.Goals as goal
 
-pub returns-in_err-write-clause-err : goal.returns-in_err-write-clause-err
-returns-in_err-write-clause-err g c =
-    let written = g.M.Sink.written in
-    at_err c.from_residual.result _ (first (written c.args.notes.now) (written c.write.new.self) c.args.front.now (c.args.word.now ++ c.args.back.now) c.in_err-write.ensures.err)
+pub returns-in_err-write : goal.returns-in_err-write
+returns-in_err-write g c = writes_first _ _ _ _ _ _ c.from_residual.ensures.1 c.in_err-write.ensures
 
-pub returns-in_err-write-2-clause-err : goal.returns-in_err-write-2-clause-err
-returns-in_err-write-2-clause-err g c =
-    let written = g.M.Sink.written in
-    at_err c.from_residual-in_err-write-2.result _
-    (second (written c.args.notes.now) (written c.write.new.self) (written c.write-2.new.self) c.args.front.now (c.args.word.now ++ c.args.back.now) c.in_ok-write.ensures.ok
-    (first (written c.write.new.self) (written c.write-2.new.self) c.args.word.now c.args.back.now c.in_err-write-2.ensures.err))
+pub returns-in_err-write-2 : goal.returns-in_err-write-2
+returns-in_err-write-2 g c = writes_then _ _ _ _ _ _ _ c.in_ok-write.ensures (writes_first _ _ _ _ _ _ c.from_residual-in_err-write-2.ensures.1 c.in_err-write-2.ensures)
 
-pub returns-clause-ok : goal.returns-clause-ok
-returns-clause-ok g c =
-    let written = g.M.Sink.written in
-    on_ok_weaker c.write-3.result
-    (λ end. both (written c.args.notes.now) (written c.write.new.self) (written c.write-3.new.self) c.args.front.now (c.args.word.now ++ c.args.back.now) c.in_ok-write.ensures.ok
-    (both (written c.write.new.self) (written c.write-2.new.self) (written c.write-3.new.self) c.args.word.now c.args.back.now c.in_ok-write-2.ensures.ok end))
-    c.write-3.ensures.ok
-
-pub returns-clause-err : goal.returns-clause-err
-returns-clause-err g c =
-    let written = g.M.Sink.written in
-    on_err_weaker c.write-3.result
-    (λ end. second (written c.args.notes.now) (written c.write.new.self) (written c.write-3.new.self) c.args.front.now (c.args.word.now ++ c.args.back.now) c.in_ok-write.ensures.ok
-    (second (written c.write.new.self) (written c.write-2.new.self) (written c.write-3.new.self) c.args.word.now c.args.back.now c.in_ok-write-2.ensures.ok end))
-    c.write-3.ensures.err
+pub returns : goal.returns
+returns g c = writes_then _ _ _ _ _ _ _ c.in_ok-write.ensures (writes_then _ _ _ _ _ _ _ c.in_ok-write-2.ensures c.write-3.ensures)
