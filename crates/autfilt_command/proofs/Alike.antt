@@ -5,8 +5,7 @@ use Rattle.std.proofs.lemmas.Bool.{false≢true}
 use Rattle.aut_base.specs.declared.limit.Limit.{Limit}
 use Rattle.aut_base.specs.declared.limit.Limit.TheVariants as limit
 use Rattle.autfilt_command.specs.Laws.{IsByText, OneEnd, OneFront}
-use Rattle.autfilt_command.specs.Run.{AreRead, EndsAt, IsRead, Prints, ReadsTo, Runs, StandsWith, place}
-use Rattle.autfilt_command.specs.inner.Running.{end_of, is_some_automaton}
+use Rattle.autfilt_command.specs.Run.{AreRead, EndsAt, EndsByTally, IsGood, IsRead, Item, Read, ReadsIn, ReadsTo, Runs, Skipped, StandsWith, end_of, place, tally}
 use Rattle.autfilt_command.specs.declared.ended.End.{End}
 use Rattle.autfilt_command.specs.declared.ended.End.TheVariants as end
 use Rattle.hoa_reader.proofs.validity.ValidityLaws.{none_first, one_first}
@@ -59,90 +58,91 @@ one_limit : (x y : Limit) (w : Written) → PassesLimit x w → PassesLimit y w 
 one_limit x y w a b = a.shown ∙ ap limit_of (one_count a.count b.count w a.passes b.passes) ∙ sym b.shown
 
 -- the ends that fit what stands next
-abbrev Fits : Standing → List Written → End → Type 0
-Fits standing.Blank ws e = e ≡ end_of (is_some_automaton ws)
-Fits (standing.Whole w next) ws e = ((rule : Rule) × (e ≡ end.Invalid rule) × IsFirstBroken rule w) ⊎ ((which : Limit) × (e ≡ end.Limit which) × PassesLimit which w)
-Fits standing.Deep ws e = e ≡ end.Limit limit.Depth
-Fits (standing.Bad k) ws e = e ≡ end.SyntaxAt k
-Fits standing.Aborted ws e = e ≡ end.Aborted
-Fits standing.Cut ws e = e ≡ end.Truncated
+abbrev Fits : Standing → List Item → End → Type 0
+Fits standing.Blank items e = e ≡ end_of (tally items)
+Fits (standing.Whole w next) items e = ((rule : Rule) × (e ≡ end.Invalid rule) × IsFirstBroken rule w) ⊎ ((which : Limit) × (e ≡ end.Limit which) × PassesLimit which w)
+Fits standing.Deep items e = e ≡ end.Limit limit.Depth
+Fits (standing.Bad k) items e = e ≡ end.SyntaxAt k
+Fits (standing.Aborted next) items e = ⊥
+Fits standing.Cut items e = e ≡ end.Truncated
 
-record Shown (start : ℕ) (rest : List ℕ) (ws : List Written) (e : End) : Type 0 where
+record Shown (start : ℕ) (rest : List ℕ) (items : List Item) (e : End) : Type 0 where
   what : Standing
   stands : Stands what start rest
-  fits : Fits what ws e
+  fits : Fits what items e
 
-some_end : (ws : List Written) → ws ≢ [] → end.Output ≡ end_of (is_some_automaton ws)
-some_end [] h = absurd (h refl)
-some_end (w ∷ ws) h = refl
+broken : (rule : Rule) (start : ℕ) (rest left : List ℕ) (items : List Item) → StandsWith (IsFirstBroken rule) start rest left → Shown start rest items (end.Invalid rule)
+broken rule start rest left items h = record { what = standing.Whole h.automaton left; stands = h.whole; fits = inl (rule, refl, h.holds) }
 
-no_end : (ws : List Written) → ws ≡ [] → end.NoneOutput ≡ end_of (is_some_automaton ws)
-no_end ws e = ap (λ ws. end_of (is_some_automaton ws)) (sym e)
+past : (which : Limit) (start : ℕ) (rest left : List ℕ) (items : List Item) → StandsWith (PassesLimit which) start rest left → Shown start rest items (end.Limit which)
+past which start rest left items h = record { what = standing.Whole h.automaton left; stands = h.whole; fits = inr (which, refl, h.holds) }
 
-broken : (rule : Rule) (start : ℕ) (rest : List ℕ) (ws : List Written) → StandsWith (IsFirstBroken rule) start rest → Shown start rest ws (end.Invalid rule)
-broken rule start rest ws h = record { what = standing.Whole h.automaton h.next; stands = h.whole; fits = inl (rule, refl, h.holds) }
+shown : (e : End) (start : ℕ) (rest left : List ℕ) (items : List Item) → IsByText e → EndsAt e start rest left → EndsByTally e items → Shown start rest items e
+shown end.Output start rest left items by h t = record { what = standing.Blank; stands = h.0; fits = t }
+shown end.NoneOutput start rest left items by h t = record { what = standing.Blank; stands = h.0; fits = t }
+shown end.Aborts start rest left items by h t = record { what = standing.Blank; stands = h.0; fits = t }
+shown (end.SyntaxAt k) start rest left items by h t = record { what = standing.Bad k; stands = h.bad; fits = refl }
+shown end.Truncated start rest left items by h t = record { what = standing.Cut; stands = h.cut; fits = refl }
+shown (end.Invalid rule) start rest left items by h t = broken rule start rest left items h
+shown (end.Limit limit.Depth) start rest left items by h t = record { what = standing.Deep; stands = h.deep; fits = refl }
+shown (end.Limit limit.Bytes) start rest left items by h t = absurd by
+shown (end.Limit limit.Names) start rest left items by h t = past limit.Names start rest left items h
+shown (end.Limit limit.Sets) start rest left items by h t = past limit.Sets start rest left items h
+shown (end.Limit limit.States) start rest left items by h t = past limit.States start rest left items h
+shown (end.Limit limit.Edges) start rest left items by h t = past limit.Edges start rest left items h
+shown (end.Limit limit.Aliases) start rest left items by h t = past limit.Aliases start rest left items h
+shown (end.Limit limit.Terms) start rest left items by h t = past limit.Terms start rest left items h
+shown (end.Limit limit.BuchiStates) start rest left items by h t = past limit.BuchiStates start rest left items h
+shown (end.Limit limit.Trees) start rest left items by h t = past limit.Trees start rest left items h
+shown (end.Limit limit.Nodes) start rest left items by h t = past limit.Nodes start rest left items h
+shown (end.Limit limit.Classes) start rest left items by h t = past limit.Classes start rest left items h
+shown (end.Limit limit.Pairs) start rest left items by h t = past limit.Pairs start rest left items h
+shown end.Usage start rest left items by h t = absurd by
+shown end.CannotOpen start rest left items by h t = absurd by
+shown end.ReadFault start rest left items by h t = absurd by
+shown end.WriteFault start rest left items by h t = absurd by
+shown end.Memory start rest left items by h t = absurd by
 
-past : (which : Limit) (start : ℕ) (rest : List ℕ) (ws : List Written) → StandsWith (PassesLimit which) start rest → Shown start rest ws (end.Limit which)
-past which start rest ws h = record { what = standing.Whole h.automaton h.next; stands = h.whole; fits = inr (which, refl, h.holds) }
+unfit_whole : (w : Written) (next : List ℕ) (items : List Item) (e : End) → Fits (standing.Whole w next) items e → IsValid w → PassesNone w → ⊥
+unfit_whole w next items e (inl h) valid within = none_first h.0 w h.2 valid
+unfit_whole w next items e (inr h) valid within = no_count h.2.count w h.2.passes within
 
-shown : (e : End) (text rest left : List ℕ) (ws : List Written) (out out' : Option (List ℕ)) → IsByText e → EndsAt e text rest left → Prints e ws out out' → Shown (place text rest) rest ws e
-shown end.Output text rest left ws out out' by h p = record { what = standing.Blank; stands = h.0; fits = some_end ws p.0 }
-shown end.NoneOutput text rest left ws out out' by h p = record { what = standing.Blank; stands = h.0; fits = no_end ws p.0 }
-shown (end.SyntaxAt k) text rest left ws out out' by h p = record { what = standing.Bad k; stands = h; fits = refl }
-shown end.Truncated text rest left ws out out' by h p = record { what = standing.Cut; stands = h; fits = refl }
-shown end.Aborted text rest left ws out out' by h p = record { what = standing.Aborted; stands = h; fits = refl }
-shown (end.Invalid rule) text rest left ws out out' by h p = broken rule (place text rest) rest ws h
-shown (end.Limit limit.Depth) text rest left ws out out' by h p = record { what = standing.Deep; stands = h; fits = refl }
-shown (end.Limit limit.Bytes) text rest left ws out out' by h p = absurd by
-shown (end.Limit limit.Names) text rest left ws out out' by h p = past limit.Names (place text rest) rest ws h
-shown (end.Limit limit.Sets) text rest left ws out out' by h p = past limit.Sets (place text rest) rest ws h
-shown (end.Limit limit.States) text rest left ws out out' by h p = past limit.States (place text rest) rest ws h
-shown (end.Limit limit.Edges) text rest left ws out out' by h p = past limit.Edges (place text rest) rest ws h
-shown (end.Limit limit.Aliases) text rest left ws out out' by h p = past limit.Aliases (place text rest) rest ws h
-shown (end.Limit limit.Terms) text rest left ws out out' by h p = past limit.Terms (place text rest) rest ws h
-shown (end.Limit limit.BuchiStates) text rest left ws out out' by h p = past limit.BuchiStates (place text rest) rest ws h
-shown (end.Limit limit.Trees) text rest left ws out out' by h p = past limit.Trees (place text rest) rest ws h
-shown (end.Limit limit.Nodes) text rest left ws out out' by h p = past limit.Nodes (place text rest) rest ws h
-shown (end.Limit limit.Classes) text rest left ws out out' by h p = past limit.Classes (place text rest) rest ws h
-shown (end.Limit limit.Pairs) text rest left ws out out' by h p = past limit.Pairs (place text rest) rest ws h
-shown end.Usage text rest left ws out out' by h p = absurd by
-shown end.CannotOpen text rest left ws out out' by h p = absurd by
-shown end.ReadFault text rest left ws out out' by h p = absurd by
-shown end.WriteFault text rest left ws out out' by h p = absurd by
-shown end.Memory text rest left ws out out' by h p = absurd by
+-- no end fits what is read
+unfit : (item : Item) (next : List ℕ) (items : List Item) (e : End) (s : Standing) (start : ℕ) (rest : List ℕ) → OneStanding → Stands s start rest → Fits s items e → IsRead start rest item next → ⊥
+unfit (Read w) next items e s start rest one stands fits r = unfit_whole w next items e (subst (λ (x : Standing). Fits x items e) (one start rest s (standing.Whole w next) stands r.whole) fits) r.valid r.within
+unfit Skipped next items e s start rest one stands fits r = subst (λ (x : Standing). Fits x items e) (one start rest s (standing.Aborted next) stands r) fits
 
--- no end fits an automaton that is read
-unfit : (w : Written) (next : List ℕ) (ws : List Written) (e : End) → Fits (standing.Whole w next) ws e → IsValid w → PassesNone w → ⊥
-unfit w next ws e (inl h) valid within = none_first h.0 w h.2 valid
-unfit w next ws e (inr h) valid within = no_count h.2.count w h.2.passes within
-
-no_more : OneStanding → (start : ℕ) (rest : List ℕ) (ws : List Written) (e : End) (w : Written) (next : List ℕ) → Shown start rest ws e → IsRead start rest w next → ⊥
-no_more one start rest ws e w next s r =
-    let P : Standing → Type 0 = λ x. Fits x ws e in
-    unfit w next ws e (subst P (one start rest s.what (standing.Whole w next) s.stands r.whole) s.fits) r.valid r.within
+no_more : OneStanding → (start : ℕ) (rest : List ℕ) (items : List Item) (e : End) (item : Item) (next : List ℕ) → Shown start rest items e → IsRead start rest item next → ⊥
+no_more one start rest items e item next s r = unfit item next items e s.what start rest one s.stands s.fits r
 
 -- one end at most fits
-one_fit : (s : Standing) (ws : List Written) (e d : End) → Fits s ws e → Fits s ws d → e ≡ d
-one_fit standing.Blank ws e d a b = a ∙ sym b
-one_fit standing.Deep ws e d a b = a ∙ sym b
-one_fit (standing.Bad k) ws e d a b = a ∙ sym b
-one_fit standing.Aborted ws e d a b = a ∙ sym b
-one_fit standing.Cut ws e d a b = a ∙ sym b
-one_fit (standing.Whole w next) ws e d (inl a) (inl b) = a.1 ∙ ap end.Invalid (one_first a.0 b.0 w a.2 b.2) ∙ sym b.1
-one_fit (standing.Whole w next) ws e d (inl a) (inr b) = absurd (none_first a.0 w a.2 b.2.valid)
-one_fit (standing.Whole w next) ws e d (inr a) (inl b) = absurd (none_first b.0 w b.2 a.2.valid)
-one_fit (standing.Whole w next) ws e d (inr a) (inr b) = a.1 ∙ ap end.Limit (one_limit a.0 b.0 w a.2 b.2) ∙ sym b.1
+one_fit : (s : Standing) (items : List Item) (e d : End) → Fits s items e → Fits s items d → e ≡ d
+one_fit standing.Blank items e d a b = a ∙ sym b
+one_fit standing.Deep items e d a b = a ∙ sym b
+one_fit (standing.Bad k) items e d a b = a ∙ sym b
+one_fit (standing.Aborted next) items e d a b = absurd a
+one_fit standing.Cut items e d a b = a ∙ sym b
+one_fit (standing.Whole w next) items e d (inl a) (inl b) = a.1 ∙ ap end.Invalid (one_first a.0 b.0 w a.2 b.2) ∙ sym b.1
+one_fit (standing.Whole w next) items e d (inl a) (inr b) = absurd (none_first a.0 w a.2 b.2.valid)
+one_fit (standing.Whole w next) items e d (inr a) (inl b) = absurd (none_first b.0 w b.2 a.2.valid)
+one_fit (standing.Whole w next) items e d (inr a) (inr b) = a.1 ∙ ap end.Limit (one_limit a.0 b.0 w a.2 b.2) ∙ sym b.1
 
--- one automaton at most stands next
-one_next : OneStanding → (start : ℕ) (here : List ℕ) (w v : Written) (x y : List ℕ) → IsRead start here w x → IsRead start here v y → (w ≡ v) × (x ≡ y)
-one_next one start here w v x y a b =
+-- one item at most stands next
+one_next : OneStanding → (start : ℕ) (here : List ℕ) (w v : Item) (x y : List ℕ) → IsRead start here w x → IsRead start here v y → (w ≡ v) × (x ≡ y)
+one_next one start here (Read w) (Read v) x y a b =
     let same : standing.Whole w x ≡ standing.Whole v y = one start here (standing.Whole w x) (standing.Whole v y) a.whole b.whole in
     let first : w ≡ v = cc in
     let after : x ≡ y = cc in
-    (first, after)
+    (ap Read first, after)
+one_next one start here (Read w) Skipped x y a b = let same : standing.Whole w x ≡ standing.Aborted y = one start here (standing.Whole w x) (standing.Aborted y) a.whole b in absurd (cc)
+one_next one start here Skipped (Read v) x y a b = let same : standing.Aborted x ≡ standing.Whole v y = one start here (standing.Aborted x) (standing.Whole v y) a b.whole in absurd (cc)
+one_next one start here Skipped Skipped x y a b =
+    let same : standing.Aborted x ≡ standing.Aborted y = one start here (standing.Aborted x) (standing.Aborted y) a b in
+    let after : x ≡ y = cc in
+    (refl, after)
 
--- the automata at the front, and where they end, are determined
-same_front : OneStanding → (text here : List ℕ) (all all' ws vs : List Written) (x y : List ℕ) (e d : End)
+-- the items at the front, and where they end, are determined
+same_front : OneStanding → (text here : List ℕ) (all all' ws vs : List Item) (x y : List ℕ) (e d : End)
     → AreRead text here ws x → AreRead text here vs y → Shown (place text x) x all e → Shown (place text y) y all' d → (ws ≡ vs) × (x ≡ y)
 same_front one text here all all' [] [] x y e d a b s t = (refl, sym a ∙ b)
 same_front one text here all all' [] (v ∷ vs) x y e d a b s t =
@@ -161,52 +161,45 @@ same_front one text here all all' (w ∷ ws) (v ∷ vs) x y e d a b s t =
     let whole : (w ∷ ws) ≡ (v ∷ vs) = cc in
     (whole, rest.1)
 
-alike : OneStanding → (text : List ℕ) (ws vs : List Written) (x y : List ℕ) (e d : End)
+alike : OneStanding → (text : List ℕ) (ws vs : List Item) (x y : List ℕ) (e d : End)
     → AreRead text text ws x → AreRead text text vs y → Shown (place text x) x ws e → Shown (place text y) y vs d → (ws ≡ vs) × (e ≡ d)
 alike one text ws vs x y e d a b s t =
     let same = same_front one text text ws vs ws vs x y e d a b s t in
-    let P : List Written → Type 0 = λ z. Shown (place text y) y z d in
+    let P : List Item → Type 0 = λ z. Shown (place text y) y z d in
     let Q : List ℕ → Type 0 = λ z. Shown (place text z) z ws d in
     let t' = subst Q (sym same.1) (subst P (sym same.0) t) in
-    let R : Standing → Type 0 = λ z. Fits z ws e in
-    (same.0, one_fit t'.what ws e d (subst R (one (place text x) x s.what t'.what s.stands t'.stands) s.fits) t'.fits)
+    let R : Standing → Type 0 = λ z. Fits z ws d in
+    (same.0, one_fit s.what ws e d s.fits (subst R (one (place text x) x t'.what s.what t'.stands s.stands) t'.fits))
 
--- where such a run ended
-record Ended (text : List ℕ) (ws : List Written) (e : End) : Type 0 where
-  rest : List ℕ
-  front : AreRead text text ws rest
-  ends : Shown (place text rest) rest ws e
-
-ended : (e : End) (text : List ℕ) (ws : List Written) (now : List ℕ) (out out' : Option (List ℕ)) → IsByText e → ReadsTo e text ws now → Prints e ws out out' → Ended text ws e
-ended e text ws now out out' by h p = record { rest = h.rest; front = h.front; ends = shown e text h.rest now ws out out' by h.ends p }
-
-reads : (e : End) (text : List ℕ) (left out out' : Option (List ℕ)) (r : Runs e (Some text) left out out') → IsByText e → Ended text r.automata e
-reads end.Output text left out out' r by = ended end.Output text r.automata r.reads.0 out out' by r.reads.2 r.prints
-reads end.NoneOutput text left out out' r by = ended end.NoneOutput text r.automata r.reads.0 out out' by r.reads.2 r.prints
-reads (end.SyntaxAt k) text left out out' r by = ended (end.SyntaxAt k) text r.automata r.reads.0 out out' by r.reads.2 r.prints
-reads end.Truncated text left out out' r by = ended end.Truncated text r.automata r.reads.0 out out' by r.reads.2 r.prints
-reads end.Aborted text left out out' r by = ended end.Aborted text r.automata r.reads.0 out out' by r.reads.2 r.prints
-reads (end.Invalid rule) text left out out' r by = ended (end.Invalid rule) text r.automata r.reads.0 out out' by r.reads.2 r.prints
-reads (end.Limit which) text left out out' r by = ended (end.Limit which) text r.automata r.reads.0 out out' by r.reads.2 r.prints
-reads end.ReadFault text left out out' r by = ended end.ReadFault text r.automata r.reads.0 out out' by r.reads.2 r.prints
-reads end.WriteFault text left out out' r by = ended end.WriteFault text r.automata r.reads.0 out out' by r.reads.2 r.prints
-reads end.Usage text left out out' r by = ended end.Usage text r.automata r.reads.0 out out' by r.reads.2 r.prints
-reads end.CannotOpen text left out out' r by = absurd by
-reads end.Memory text left out out' r by = absurd by
+-- where the text decided the end, it was opened
+opened : (e : End) (text : List ℕ) (left out out' : Option (List ℕ)) (items : List Item) → Runs e (Some text) left out out' items → IsByText e → ReadsIn e text items left
+opened end.Output text left out out' items r by = r.reads
+opened end.NoneOutput text left out out' items r by = r.reads
+opened end.Aborts text left out out' items r by = r.reads
+opened (end.SyntaxAt k) text left out out' items r by = r.reads
+opened end.Truncated text left out out' items r by = r.reads
+opened (end.Invalid rule) text left out out' items r by = r.reads
+opened (end.Limit which) text left out out' items r by = r.reads
+opened end.ReadFault text left out out' items r by = absurd by
+opened end.WriteFault text left out out' items r by = absurd by
+opened end.Usage text left out out' items r by = absurd by
+opened end.CannotOpen text left out out' items r by = absurd by
+opened end.Memory text left out out' items r by = absurd by
 
 pub one_end : OneStanding → OneEnd
-one_end one text e d left left' before after before' after' a b p q =
-    let x = reads e text left before after a p in
-    let y = reads d text left' before' after' b q in
-    alike one text a.automata b.automata x.rest y.rest e d x.front y.front x.ends y.ends
+one_end one text e d left left' before after before' after' items others p q a b =
+    let x = opened e text left before after items p a in
+    let y = opened d text left' before' after' others q b in
+    alike one text items others x.reads.rest y.reads.rest e d x.reads.front y.reads.front
+    (shown e (place text x.reads.rest) x.reads.rest x.now items a x.reads.ends p.tallied) (shown d (place text y.reads.rest) y.reads.rest y.now others b y.reads.ends q.tallied)
 
-longer : (w v : Written) (ws vs : List Written) → w ≡ v → ((more : List Written) × (vs ≡ ws ++ more)) ⊎ ((more : List Written) × (ws ≡ vs ++ more))
-    → ((more : List Written) × (v ∷ vs ≡ (w ∷ ws) ++ more)) ⊎ ((more : List Written) × (w ∷ ws ≡ (v ∷ vs) ++ more))
+longer : (w v : Item) (ws vs : List Item) → w ≡ v → ((more : List Item) × (vs ≡ ws ++ more)) ⊎ ((more : List Item) × (ws ≡ vs ++ more))
+    → ((more : List Item) × (v ∷ vs ≡ (w ∷ ws) ++ more)) ⊎ ((more : List Item) × (w ∷ ws ≡ (v ∷ vs) ++ more))
 longer w v ws vs e (inl h) = inl (h.0, ap (λ x. v ∷ x) h.1 ∙ ap (λ x. x ∷ (ws ++ h.0)) (sym e))
 longer w v ws vs e (inr h) = inr (h.0, ap (λ x. w ∷ x) h.1 ∙ ap (λ x. x ∷ (vs ++ h.0)) e)
 
-one_front_from : OneStanding → (text here : List ℕ) (ws vs : List Written) (x y : List ℕ) → AreRead text here ws x → AreRead text here vs y
-    → ((more : List Written) × (vs ≡ ws ++ more)) ⊎ ((more : List Written) × (ws ≡ vs ++ more))
+one_front_from : OneStanding → (text here : List ℕ) (ws vs : List Item) (x y : List ℕ) → AreRead text here ws x → AreRead text here vs y
+    → ((more : List Item) × (vs ≡ ws ++ more)) ⊎ ((more : List Item) × (ws ≡ vs ++ more))
 one_front_from one text here [] vs x y a b = inl (vs, refl)
 one_front_from one text here (w ∷ ws) [] x y a b = inr (w ∷ ws, refl)
 one_front_from one text here (w ∷ ws) (v ∷ vs) x y a b =

@@ -1,5 +1,6 @@
 pub mod Alike
 pub mod BuiltPlans
+pub mod Carried
 pub mod Gains
 pub mod Noting
 pub mod ReadsAs

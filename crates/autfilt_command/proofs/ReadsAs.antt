@@ -2,7 +2,7 @@
 use Rattle.std.proofs.Common.{◌≤◌, arith}
 use Rattle.std.proofs.lemmas.Bool.{ltb-false}
 use Rattle.aut_base.specs.declared.limit.TheConstants.{MOST_NAMES, MOST_SETS, MOST_STATES}
-use Rattle.autfilt_command.specs.Run.{ReadsAs, printed}
+use Rattle.autfilt_command.specs.Run.{ReadsAs, text_printed}
 use Rattle.hoa_parser.specs.Naming.{name_of}
 use Rattle.hoa_parser.specs.Raw.{Written}
 use Rattle.hoa_reader.proofs.description.WellFormed.{valid_is_well_formed}
@@ -12,7 +12,7 @@ use Rattle.hoa_reader.specs.Validity.{IsValid}
 use Rattle.hoa_writer.proofs.round_trip.ReadBack.{text_reads_back}
 use Rattle.hoa_writer.specs.CanonicalWritten.{canonical_written}
 
-pub reads_as : (w : Written) → IsValid w → PassesNone w → ReadsAs (printed w) w
+pub reads_as : (w : Written) → IsValid w → PassesNone w → ReadsAs (text_printed w) w
 reads_as w valid within =
     let names : count_of Names w ≤ MOST_NAMES = ltb-false MOST_NAMES (count_of Names w) within.0 in
     let sets : count_of Sets w ≤ MOST_SETS = ltb-false MOST_SETS (count_of Sets w) within.1.0 in

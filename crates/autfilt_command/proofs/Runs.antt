@@ -1,5 +1,7 @@
 -- Items that were read one after the other, and runs over them.
 use Rattle.std.proofs.Common.{◌≡◌, ℕ, ◌+◌, ◌^◌, ◌≤◌, Bool, true, false, cond, List, [], ◌∷◌, ◌++◌, length, take, Option, Some, None, Ok, Err, refl, sym, ap, ◌∙◌, subst, append_assoc, append-nil, arith}
+use Rattle.aut_base.specs.declared.limit.Limit.{Limit}
+use Rattle.aut_base.specs.declared.limit.Limit.TheVariants as limit
 use Rattle.aut_base.specs.declared.limit.TheConstants.{MOST_BYTES}
 use Rattle.aut_io.specs.Outside.{Gains, GainsPrefix, Rose}
 use Rattle.aut_io.specs.Seen.{Seen, SinkSeen}
@@ -13,8 +15,9 @@ use Rattle.autfilt_command.specs.inner.Turn.{CountsWrites, IsPrintedInPart, Take
 use Rattle.autfilt_command.specs.declared.ended.End.{End}
 use Rattle.autfilt_command.specs.declared.ended.End.TheVariants as end
 use Rattle.autfilt_command.specs.declared.turn.Turn.{Turn}
+use Rattle.autfilt_command.specs.declared.turn.Turn.TheVariants as turn
 use Rattle.hoa_lexer.proofs.next_token.Between.{between_both, between_then}
-use Rattle.hoa_lexer.specs.Moves.{CountsReads, IsWithin, Stop}
+use Rattle.hoa_lexer.specs.Moves.{AtEnd, CountsReads, IsWithin}
 use Rattle.hoa_lexer.specs.Reading.{Between, Tells}
 use Rattle.hoa_parser.specs.Raw.{Written}
 
@@ -179,10 +182,73 @@ ends_by end.Usage n items m t o p q g h = absurd h
 ends_by end.CannotOpen n items m t o p q g h = absurd h
 
 -- where only blanks are left
-finished : (counts : Tally) (n : ℕ) (items : List Item) (m t : Seen) (o p q : SinkSeen) → tally items ≡ counts → Gains o.written p.written (all_printed items) → Between m.left t.left IsAllRead → q.written ≡ p.written → Ends (end_of counts) n items m t o p q
-finished (record { printed = printed; skipped = true }) n items m t o p q e g h k = ends_at end.Aborts n items m t o p q (sym (ap end_of e)) (λ x. x) g h k
-finished (record { printed = true; skipped = false }) n items m t o p q e g h k = ends_at end.Output n items m t o p q (sym (ap end_of e)) (λ x. x) g h k
-finished (record { printed = false; skipped = false }) n items m t o p q e g h k = ends_at end.NoneOutput n items m t o p q (sym (ap end_of e)) (λ x. x) g h k
+abbrev tally_of : Bool → Bool → Tally
+tally_of printed skipped = record { printed = printed; skipped = skipped }
+
+finished : (printed skipped : Bool) (n : ℕ) (items : List Item) (m t : Seen) (o p q : SinkSeen) → tally items ≡ tally_of printed skipped → Gains o.written p.written (all_printed items) → Between m.left t.left IsAllRead → q.written ≡ p.written → Ends (end_of (tally_of printed skipped)) n items m t o p q
+finished printed true n items m t o p q e g h k = ends_at end.Aborts n items m t o p q (sym (ap end_of e)) (λ x. x) g h k
+finished true false n items m t o p q e g h k = ends_at end.Output n items m t o p q (sym (ap end_of e)) (λ x. x) g h k
+finished false false n items m t o p q e g h k = ends_at end.NoneOutput n items m t o p q (sym (ap end_of e)) (λ x. x) g h k
+
+pub begins_at : (since taken : ℕ) (a b : Option (List ℕ)) → since ≡ taken → Between a b (IsAt taken) → Between a b (IsAt since)
+begins_at since taken a b e h = let P : ℕ → Type 0 = λ n. Between a b (IsAt n) in subst P (sym e) h
+
+pub at_after : (taken taken' : ℕ) (a b c : Option (List ℕ)) → Between a b (IsAt taken) → Between b c (λ old new. taken' + length new ≡ taken + length old) → Between a c (IsAt taken')
+at_after taken taken' a b c h k =
+    between_then a b c (IsAt taken) (λ old new. taken' + length new ≡ taken + length old) (IsAt taken') (λ x y z p q. q ∙ p) h k
+
+-- why the run ended
+
+calm_limit : (which : Limit) (a b : ℕ) → CountsReads (stop_of_end (end.Limit which)) a b → b ≡ a
+calm_limit limit.Names a b h = h
+calm_limit limit.Sets a b h = h
+calm_limit limit.States a b h = h
+calm_limit limit.Edges a b h = h
+calm_limit limit.Aliases a b h = h
+calm_limit limit.Depth a b h = h
+calm_limit limit.Bytes a b h = h
+calm_limit limit.Terms a b h = h
+calm_limit limit.BuchiStates a b h = h
+calm_limit limit.Trees a b h = h
+calm_limit limit.Nodes a b h = h
+calm_limit limit.Classes a b h = h
+calm_limit limit.Pairs a b h = h
+
+rose_after : (a b c : ℕ) → b ≡ a → Rose b c → Rose a c
+rose_after a b c e h = subst (λ (n : ℕ). Rose n c) e h
+
+-- what a turn counted that ended the run
+record TurnCounts (e : End) (m t : Seen) (p q : SinkSeen) : Type 0 where
+  opens : t.open_faults ≡ m.open_faults
+  reads : CountsReads (stop_of_end e) m.read_faults t.read_faults
+  writes : CountsWrites {A = Turn} (Err e) p.faults q.faults
+
+ends_calm : (s m t : Seen) (o p q : SinkSeen) → AreCalm s m o p → t.open_faults ≡ m.open_faults → t.read_faults ≡ m.read_faults → q.faults ≡ p.faults → AreCalm s t o q
+ends_calm s m t o p q calm a b c = calm_then s m t o p q calm (record { opens = a; reads = b; writes = c })
+
+ends_because : (e : End) (n : ℕ) (s m t : Seen) (o p q : SinkSeen) → AreCalm s m o p → TurnCounts e m t p q → Turns (Err e) n m.left t.left p.written q.written → CountsFaults e s t o q
+ends_because end.ReadFault n s m t o p q calm k turn = (k.opens ∙ calm.opens, rose_after _ _ _ calm.reads k.reads, k.writes ∙ calm.writes)
+ends_because end.WriteFault n s m t o p q calm k turn = (k.opens ∙ calm.opens, k.reads ∙ calm.reads, rose_after _ _ _ calm.writes k.writes)
+ends_because (end.SyntaxAt x) n s m t o p q calm k turn = ends_calm s m t o p q calm k.opens k.reads k.writes
+ends_because end.Truncated n s m t o p q calm k turn = ends_calm s m t o p q calm k.opens k.reads k.writes
+ends_because (end.Invalid rule) n s m t o p q calm k turn = ends_calm s m t o p q calm k.opens k.reads k.writes
+ends_because (end.Limit which) n s m t o p q calm k turn = ends_calm s m t o p q calm k.opens (calm_limit which _ _ k.reads) k.writes
+ends_because end.Memory n s m t o p q calm k turn = ends_calm s m t o p q calm k.opens k.reads k.writes
+ends_because end.Output n s m t o p q calm k turn = absurd turn
+ends_because end.NoneOutput n s m t o p q calm k turn = absurd turn
+ends_because end.Aborts n s m t o p q calm k turn = absurd turn
+ends_because end.Usage n s m t o p q calm k turn = absurd turn
+ends_because end.CannotOpen n s m t o p q calm k turn = absurd turn
+
+finished_because : (printed skipped : Bool) (s t : Seen) (o q : SinkSeen) → AreCalm s t o q → CountsFaults (end_of (tally_of printed skipped)) s t o q
+finished_because printed true s t o q h = h
+finished_because true false s t o q h = h
+finished_because false false s t o q h = h
+
+finished_within : (printed skipped : Bool) (taken most : ℕ) → IsWithin AtEnd taken most → IsWithin (stop_of_end (end_of (tally_of printed skipped))) taken most
+finished_within printed true taken most h = h
+finished_within true false taken most h = h
+finished_within false false taken most h = h
 
 run_over : (e : End) (n taken : ℕ) (s m t : Seen) (o p q k l j : SinkSeen) (noting : Bool) (counts : Tally) (h : HasRun s m o p k l noting counts)
     → Tells s m (IsAt n) → Tells s t (IsAt taken) → taken ≤ MOST_BYTES → IsWithin (stop_of_end e) taken MOST_BYTES → Ends e n h.items m t o p q
@@ -196,3 +262,28 @@ run_over e n taken s m t o p q k l j noting counts h at at' few within over note
   noted = subst (λ (x : List ℕ). Notes (x ++ line_of e) k j) (sym over.same_notes) (notes (all_noted h.items) h.noted);
   causes = causes;
 }
+
+pub run_finished : (result d : End) (n taken most : ℕ) (s m t : Seen) (o p q k l j : SinkSeen) (noting : Bool) (counts : Tally)
+    → result ≡ d → d ≡ end_of counts → HasRun s m o p k l noting counts → Tells s m (IsAt n) → Tells s t (IsAt taken) → taken ≤ most → most ≡ MOST_BYTES → IsWithin AtEnd taken most
+    → Turns (Ok turn.Finished) n m.left t.left p.written q.written → AreCalm m t p q
+    → ((text : List ℕ) → HasNoted text noting k l → Notes (text ++ line_of d) k j) → RunsOver result s t o q k j
+run_finished result d n taken most s m t o p q k l j noting counts same is h at at' few most_is within turn calm notes =
+    let W : ℕ → Type 0 = λ x. IsWithin (stop_of_end (end_of counts)) taken x in
+    let L : ℕ → Type 0 = λ x. taken ≤ x in
+    let N : End → Type 0 = λ e. (text : List ℕ) → HasNoted text noting k l → Notes (text ++ line_of e) k j in
+    let R : End → Type 0 = λ e. RunsOver e s t o q k j in
+    subst R (sym (same ∙ is))
+    (run_over (end_of counts) n taken s m t o p q k l j noting counts h at at' (subst L most_is few) (subst W most_is (finished_within counts.printed counts.skipped taken most within))
+    (finished counts.printed counts.skipped n h.items m t o p q h.counted h.gains turn.0 turn.1) (subst N is notes) (finished_because counts.printed counts.skipped s t o q (calm_then s m t o p q h.calm calm)))
+
+pub run_ended : (result e : End) (n taken most : ℕ) (s m t : Seen) (o p q k l j : SinkSeen) (noting : Bool) (counts : Tally)
+    → result ≡ e → HasRun s m o p k l noting counts → Tells s m (IsAt n) → Tells s t (IsAt taken) → taken ≤ most → most ≡ MOST_BYTES → IsWithin (stop_of_end e) taken most
+    → Turns (Err e) n m.left t.left p.written q.written → t.open_faults ≡ m.open_faults → CountsReads (stop_of_end e) m.read_faults t.read_faults → CountsWrites {A = Turn} (Err e) p.faults q.faults
+    → ((text : List ℕ) → HasNoted text noting k l → Notes (text ++ line_of e) k j) → RunsOver result s t o q k j
+run_ended result e n taken most s m t o p q k l j noting counts same h at at' few most_is within turn opens reads writes notes =
+    let W : ℕ → Type 0 = λ x. IsWithin (stop_of_end e) taken x in
+    let L : ℕ → Type 0 = λ x. taken ≤ x in
+    let R : End → Type 0 = λ e. RunsOver e s t o q k j in
+    subst R (sym same)
+    (run_over e n taken s m t o p q k l j noting counts h at at' (subst L most_is few) (subst W most_is within)
+    (ends_by e n h.items m t o p q h.gains turn) notes (ends_because e n s m t o p q h.calm (record { opens = opens; reads = reads; writes = writes }) turn))

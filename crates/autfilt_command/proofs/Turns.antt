@@ -10,7 +10,9 @@ use Rattle.autfilt_command.specs.Run.{EndsAt, IsAllRead, IsGood, IsRead, Item, R
 use Rattle.autfilt_command.specs.inner.Turn.{IsPrintedInPart, PrintsOne, Takes, Turns}
 use Rattle.autfilt_command.specs.declared.ended.End.{End}
 use Rattle.autfilt_command.specs.declared.ended.End.TheVariants as end
+use Rattle.autfilt_command.specs.declared.turn.Turn.{Turn}
 use Rattle.autfilt_command.specs.declared.turn.Turn.TheVariants as turn
+use Rattle.std.specs.Result.{IsErrAnd}
 use Rattle.hoa_lexer.proofs.next_token.Between.{between_as, between_both}
 use Rattle.hoa_lexer.specs.Reading.{Between, held_count, unread}
 use Rattle.hoa_reader.specs.Counts.{Count, Names, Sets, States, Edges, Aliases, PassesNone}
@@ -172,3 +174,15 @@ turn_broken end.Memory w start left left' out out' whole h = (
   h,
 )
 turn_broken _ w start left left' out out' whole h = absurd h
+
+-- an end that `?` hands on
+pub turns_on : (r : Result Turn End) (e : End) (start : ℕ) (left left' out out' : Option (List ℕ)) → IsErrAnd r (λ y. y ≡ e) → Turns (Err e) start left left' out out' → Turns r start left left' out out'
+turns_on (Ok t) e start left left' out out' h one = absurd h
+turns_on (Err d) e start left left' out out' h one = subst (λ (x : End). Turns (Err x) start left left' out out') (sym h) one
+
+-- both facts of what a reader answers
+pub both_facts : (r : Result Front ReadFault) (start : ℕ) (held held' : Option ℕ) (left left' : Option (List ℕ))
+    → Between left left' (λ old new. Answers r (start - held_count held) (unread held old) (unread held' new))
+    → Between left left' (λ old new. Shows r (start - held_count held) (unread held old) new)
+    → Between left left' (AnswersFrom r start held held')
+both_facts r start held held' left left' a b = between_both left left' _ _ _ (λ old new p q. (p, q)) a b

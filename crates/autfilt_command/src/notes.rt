@@ -1,6 +1,5 @@
 //! The line about a fault. It is written in pieces, and no memory is taken for it.
 
-
 ghost use Rattle.std.specs.Prelude.{◌≡◌, ℕ, ◌+◌, ◌<◌, List, [], ◌∷◌, ◌++◌, codes};
 ghost use Rattle.std.specs.Fmt.{decimal};
 ghost use Rattle.aut_io.specs.Seen.{SinkSeen, Writes};
@@ -36,13 +35,15 @@ pub(crate) fn note_skipped<M: Sink>(notes: &mut M, noting: bool) -> bool
     }
 }
 
-/// Notes how the run ended, unless a note before failed.
-pub(crate) fn note_end<M: Sink>(notes: &mut M, noting: bool, end: &End)
-    ensures { (first : SinkSeen) → (text : List ℕ) → HasNoted text noting first (M.seen notes.old) → Notes (text ++ line_of end.now) first (M.seen notes.new) }
+/// Notes how the run ended, unless a note before failed, and gives the end back.
+pub(crate) fn note_end<M: Sink>(notes: &mut M, noting: bool, end: End) -> End
+    ensures same { result ≡ end }
+    ensures noted { (first : SinkSeen) → (text : List ℕ) → HasNoted text noting first (M.seen notes.old) → Notes (text ++ line_of end) first (M.seen notes.new) }
 {
     if noting {
-        note(notes, end);
+        note(notes, &end);
     }
+    end
 }
 
 /// Writes the line, and answers whether all of it was written.

@@ -9,7 +9,7 @@ ghost use Rattle.autfilt_command.specs.declared.ended.Ended.{Ended};
 
 use crate::built::read_words;
 use crate::ended::{End, Ended};
-use crate::notes::{note, note_end, note_skipped};
+use crate::notes::{note_end, note_skipped};
 use crate::turn::{Turn, take_turn};
 use aut_base::{MOST_BYTES, OpenFail, Text, Words};
 use aut_io::{Inputs, Sink};
@@ -31,21 +31,15 @@ fn print_all<I: Inputs, W: Sink, M: Sink>(
     let mut printed = false;
     let mut skipped = false;
     'automata: loop {
-        let end = match take_turn(alloc, &mut lexer, inputs, out) {
-            Ok(Turn::Printed) => {
-                printed = true;
-                continue;
-            }
+        match take_turn(alloc, &mut lexer, inputs, out) {
+            Ok(Turn::Printed) => printed = true,
             Ok(Turn::Skipped) => {
                 skipped = true;
                 noting = note_skipped(notes, noting);
-                continue;
             }
-            Ok(Turn::Finished) => end_of_text(printed, skipped),
-            Err(end) => end,
-        };
-        note_end(notes, noting, &end);
-        return end;
+            Ok(Turn::Finished) => return note_end(notes, noting, end_of_text(printed, skipped)),
+            Err(end) => return note_end(notes, noting, end),
+        }
     }
 }
 
@@ -72,13 +66,11 @@ fn print_input<I: Inputs, W: Sink, M: Sink>(
     requires { I.may_open standard_input }
     ensures { CarriesOut result (I.seen inputs.old) (I.seen inputs.new) (W.seen out.old) (W.seen out.new) (M.seen notes.old) (M.seen notes.new) }
 {
-    let end = match open_input(alloc, inputs) {
-        Ok(()) => return print_all(alloc, inputs, out, notes),
-        Err(OpenFail::Failed) => End::CannotOpen,
-        Err(OpenFail::Memory) => End::Memory,
-    };
-    note(notes, &end);
-    end
+    match open_input(alloc, inputs) {
+        Ok(()) => print_all(alloc, inputs, out, notes),
+        Err(OpenFail::Failed) => note_end(notes, true, End::CannotOpen),
+        Err(OpenFail::Memory) => note_end(notes, true, End::Memory),
+    }
 }
 
 /// Opens standard input.
@@ -117,11 +109,9 @@ pub fn autfilt<I: Inputs, W: Sink, M: Sink>(
     ensures refused { AreRefused words.now → (result ≡ Ended.Usage) ⊎ (result ≡ Ended.Memory) }
     ensures untouched { AreRefused words.now → (I.seen inputs.new ≡ I.seen inputs.old) × (W.seen out.new ≡ W.seen out.old) }
 {
-    let end = match read_words(alloc, words) {
-        Ok(()) => return Ended::from(print_input(alloc, inputs, out, notes)),
-        Err(UsageFault::Usage) => End::Usage,
-        Err(UsageFault::Memory) => End::Memory,
-    };
-    note(notes, &end);
-    Ended::from(end)
+    match read_words(alloc, words) {
+        Ok(()) => Ended::from(print_input(alloc, inputs, out, notes)),
+        Err(UsageFault::Usage) => Ended::from(note_end(notes, true, End::Usage)),
+        Err(UsageFault::Memory) => Ended::from(note_end(notes, true, End::Memory)),
+    }
 }

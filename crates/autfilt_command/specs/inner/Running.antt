@@ -9,7 +9,7 @@ use Rattle.autfilt_command.specs.Ends.{ended_of}
 use Rattle.autfilt_command.specs.Notes.{line_of}
 use Rattle.autfilt_command.specs.Run.{AllReadAs, AreCalm, AreRead, EndsBecause, EndsByTally, HasNoted, Item, Notes, Prints, ReadsTo, Runs, Tally, all_noted, all_printed, input_of, standard_input, tally}
 use Rattle.autfilt_command.specs.declared.ended.End.{End}
-use Rattle.autfilt_command.specs.declared.ended.End.TheVariants as end
+use Rattle.autfilt_command.specs.declared.ended.End.TheVariants as ends
 use Rattle.hoa_lexer.specs.Reading.{Between, Tells}
 use Rattle.hoa_lexer.specs.declared.lexer.Lexer.{Lexer}
 
@@ -35,9 +35,9 @@ pub record IsRunning (lexer : Lexer) (seen seen' : Seen) (out out' notes notes' 
 
 -- why a run over an open text ended
 abbrev pub CountsFaults : End → Seen → Seen → SinkSeen → SinkSeen → Type 0
-CountsFaults end.ReadFault seen seen' out out' = (seen'.open_faults ≡ seen.open_faults) × Rose seen.read_faults seen'.read_faults × (out'.faults ≡ out.faults)
-CountsFaults end.WriteFault seen seen' out out' = (seen'.open_faults ≡ seen.open_faults) × (seen'.read_faults ≡ seen.read_faults) × Rose out.faults out'.faults
-CountsFaults end.CannotOpen seen seen' out out' = ⊥
+CountsFaults ends.ReadFault seen seen' out out' = (seen'.open_faults ≡ seen.open_faults) × Rose seen.read_faults seen'.read_faults × (out'.faults ≡ out.faults)
+CountsFaults ends.WriteFault seen seen' out out' = (seen'.open_faults ≡ seen.open_faults) × (seen'.read_faults ≡ seen.read_faults) × Rose out.faults out'.faults
+CountsFaults ends.CannotOpen seen seen' out out' = ⊥
 CountsFaults _ seen seen' out out' = AreCalm seen seen' out out'
 
 -- A run over an open text that ended so, and what was noted of it.
@@ -56,7 +56,7 @@ pub record CarriesOut (end : End) (seen seen' : Seen) (out out' notes notes' : S
   pub runs : Runs end (input_of seen.texts) seen'.left out.written out'.written items
   pub noted : Notes (all_noted items ++ line_of end) notes notes'
   pub causes : EndsBecause (ended_of end) seen seen' out out'
-  pub asked : end ≢ end.Usage
+  pub asked : end ≢ ends.Usage
 
 -- Standard input was opened; or it was not, and the count tells whether a call failed.
 abbrev pub OpensInput : Result (Unit {0}) OpenFail → Seen → Seen → Type 0
