@@ -10,10 +10,11 @@ use row::Row;
 use row_files::{Count, Fault, Rows, Stop, read_files};
 
 /// The files of rows, in the folder where the program runs.
-const FILES: [&str; 7] = [
+const FILES: [&str; 8] = [
     "examples.rows",
     "printed.rows",
     "ends.rows",
+    "aborts.rows",
     "rules.rows",
     "limits.rows",
     "faults.rows",

@@ -10,7 +10,7 @@ use crate::words::show_number;
 use aut_base::{Memory, Names, Numbers, Text, Words};
 use aut_io::{Inputs, MemInputs};
 use hoa_lexer::Lexer;
-use hoa_parser::read_raw;
+use hoa_parser::{Front, read_raw};
 use std::alloc::Global;
 use std::fmt;
 
@@ -128,7 +128,7 @@ fn ask_automaton(
     requires { lexer.old.spent ≡ false }
 {
     match read_raw(alloc, lexer, inputs) {
-        Ok(Some(raw)) => {
+        Ok(Front::Whole(raw)) => {
             match call {
                 Call::Describe => show_described(alloc, answer, &raw, false)?,
                 Call::Description => show_described(alloc, answer, &raw, true)?,
@@ -136,7 +136,11 @@ fn ask_automaton(
             }
             return Ok(true);
         }
-        Ok(None) => answer.extend(b"none")?,
+        Ok(Front::Aborted) => {
+            answer.extend(b"aborted")?;
+            return Ok(true);
+        }
+        Ok(Front::Blank) => answer.extend(b"none")?,
         Err(fault) => show_read_fault(alloc, answer, fault)?,
     }
     Ok(false)
@@ -171,15 +175,23 @@ fn ask_all(
 ) -> Result<bool, Memory>
     requires { lexer.old.spent ≡ false }
 {
-    match lexer.all(alloc, inputs) {
-        Ok(tokens) => {
-            for (token, offset) in tokens.iter() {
-                show_token(alloc, answer, token, *offset)?;
-                answer.push(b' ')?;
-            }
-            answer.extend(b"end")?;
+    let mut tokens = Text::new(alloc);
+    for _ in 0..u32::MAX {
+        if lexer.is_spent() {
+            break;
         }
-        Err(fault) => show_fault(alloc, answer, fault)?,
+        match lexer.next(alloc, inputs) {
+            Ok(Some(token)) => {
+                show_token(alloc, &mut tokens, &token, lexer.offset())?;
+                tokens.push(b' ')?;
+            }
+            Ok(None) => {
+                answer.extend(tokens.as_bytes())?;
+                answer.extend(b"end")?;
+                break;
+            }
+            Err(fault) => show_fault(alloc, answer, fault)?,
+        }
     }
     Ok(false)
 }

@@ -140,7 +140,6 @@ pub(crate) fn show_read_fault(
             show_number(alloc, line, offset)
         }
         ReadFault::Truncated => line.extend(b"truncated"),
-        ReadFault::Aborted => line.extend(b"aborted"),
         ReadFault::Depth => line.extend(b"depth"),
         ReadFault::Bytes => line.extend(b"bytes"),
         ReadFault::Read => line.extend(b"read"),

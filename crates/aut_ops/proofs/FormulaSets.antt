@@ -1,0 +1,81 @@
+-- The sets of conditions that are made of others.
+use Rattle.std.proofs.Common.{◌+◌, ◌<◌, ◌≤◌, ◌||◌, ℕ, Bool, true, false, cond, List, [], ◌∷◌, ◌++◌, arith}
+use Rattle.std.specs.List.{AllByRecursion}
+use Rattle.acc_forms.specs.Joined.{all_of, conj, conjuncts, disj, disjuncts, is_false, is_true, listed, some_of}
+use Rattle.acc_forms.specs.Shift.{shift, shifts}
+use Rattle.aut_base.proofs.AllByRecursion.{AllByRecursion-append}
+use Rattle.aut_base.specs.Formula.{And, EachSetsBelow, False, Fin, FormulaTree, FormulaTrees, Inf, Or, SetsBelow, True, more, none, trees}
+
+mutual
+  pub sets_weaker : (m n : ℕ) → m ≤ n → (f : FormulaTree) → SetsBelow m f → SetsBelow n f
+  sets_weaker m n le True below = tt
+  sets_weaker m n le False below = tt
+  sets_weaker m n le (Inf set neg) below = omega (arith, below, le)
+  sets_weaker m n le (Fin set neg) below = omega (arith, below, le)
+  sets_weaker m n le (And f g fs) below = (sets_weaker m n le f below.0, sets_weaker m n le g below.1, each_weaker m n le fs below.2)
+  sets_weaker m n le (Or f g fs) below = (sets_weaker m n le f below.0, sets_weaker m n le g below.1, each_weaker m n le fs below.2)
+
+  each_weaker : (m n : ℕ) → m ≤ n → (fs : FormulaTrees) → EachSetsBelow m fs → EachSetsBelow n fs
+  each_weaker m n le none below = tt
+  each_weaker m n le (more f fs) below = (sets_weaker m n le f below.0, each_weaker m n le fs below.1)
+
+mutual
+  pub sets_shift : (k m n : ℕ) → m + k ≤ n → (f : FormulaTree) → SetsBelow m f → SetsBelow n (shift k f)
+  sets_shift k m n le True below = tt
+  sets_shift k m n le False below = tt
+  sets_shift k m n le (Inf set neg) below = omega (arith, below, le)
+  sets_shift k m n le (Fin set neg) below = omega (arith, below, le)
+  sets_shift k m n le (And f g fs) below = (sets_shift k m n le f below.0, sets_shift k m n le g below.1, each_shift k m n le fs below.2)
+  sets_shift k m n le (Or f g fs) below = (sets_shift k m n le f below.0, sets_shift k m n le g below.1, each_shift k m n le fs below.2)
+
+  each_shift : (k m n : ℕ) → m + k ≤ n → (fs : FormulaTrees) → EachSetsBelow m fs → EachSetsBelow n (shifts k fs)
+  each_shift k m n le none below = tt
+  each_shift k m n le (more f fs) below = (sets_shift k m n le f below.0, each_shift k m n le fs below.1)
+
+each_listed : (n : ℕ) (fs : FormulaTrees) → EachSetsBelow n fs → AllByRecursion (SetsBelow n) (listed fs)
+each_listed n none below = tt
+each_listed n (more f fs) below = (below.0, each_listed n fs below.1)
+
+each_trees : (n : ℕ) (fs : List FormulaTree) → AllByRecursion (SetsBelow n) fs → EachSetsBelow n (trees fs)
+each_trees n [] below = tt
+each_trees n (f ∷ fs) below = (below.0, each_trees n fs below.1)
+
+sets_all_of : (n : ℕ) (fs : List FormulaTree) → AllByRecursion (SetsBelow n) fs → SetsBelow n (all_of fs)
+sets_all_of n [] below = tt
+sets_all_of n (f ∷ []) below = below.0
+sets_all_of n (f ∷ g ∷ fs) below = (below.0, below.1.0, each_trees n fs below.1.1)
+
+sets_some_of : (n : ℕ) (fs : List FormulaTree) → AllByRecursion (SetsBelow n) fs → SetsBelow n (some_of fs)
+sets_some_of n [] below = tt
+sets_some_of n (f ∷ []) below = below.0
+sets_some_of n (f ∷ g ∷ fs) below = (below.0, below.1.0, each_trees n fs below.1.1)
+
+sets_conjuncts : (n : ℕ) (f : FormulaTree) → SetsBelow n f → AllByRecursion (SetsBelow n) (conjuncts f)
+sets_conjuncts n True below = tt
+sets_conjuncts n False below = (tt, tt)
+sets_conjuncts n (Inf set neg) below = (below, tt)
+sets_conjuncts n (Fin set neg) below = (below, tt)
+sets_conjuncts n (And f g fs) below = (below.0, (below.1, each_listed n fs below.2))
+sets_conjuncts n (Or f g fs) below = (below, tt)
+
+sets_disjuncts : (n : ℕ) (f : FormulaTree) → SetsBelow n f → AllByRecursion (SetsBelow n) (disjuncts f)
+sets_disjuncts n True below = (tt, tt)
+sets_disjuncts n False below = tt
+sets_disjuncts n (Inf set neg) below = (below, tt)
+sets_disjuncts n (Fin set neg) below = (below, tt)
+sets_disjuncts n (And f g fs) below = (below, tt)
+sets_disjuncts n (Or f g fs) below = (below.0, (below.1, each_listed n fs below.2))
+
+pub sets_conj : (n : ℕ) (f g : FormulaTree) → SetsBelow n f → SetsBelow n g → SetsBelow n (conj f g)
+sets_conj n f g one two = either (is_false f || is_false g)
+  where
+    either : (b : Bool) → SetsBelow n (cond b False (all_of (conjuncts f ++ conjuncts g)))
+    either true = tt
+    either false = sets_all_of n (conjuncts f ++ conjuncts g) (AllByRecursion-append (SetsBelow n) (conjuncts f) (conjuncts g) (sets_conjuncts n f one) (sets_conjuncts n g two))
+
+pub sets_disj : (n : ℕ) (f g : FormulaTree) → SetsBelow n f → SetsBelow n g → SetsBelow n (disj f g)
+sets_disj n f g one two = either (is_true f || is_true g)
+  where
+    either : (b : Bool) → SetsBelow n (cond b True (some_of (disjuncts f ++ disjuncts g)))
+    either true = tt
+    either false = sets_some_of n (disjuncts f ++ disjuncts g) (AllByRecursion-append (SetsBelow n) (disjuncts f) (disjuncts g) (sets_disjuncts n f one) (sets_disjuncts n g two))

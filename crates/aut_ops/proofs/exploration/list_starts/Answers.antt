@@ -1,0 +1,56 @@
+use Rattle.std.proofs.Common.{◌≡◌, ◌∙◌, ◌∷◌, ◌++◌, ◌<◌, ℕ, List, [], ap, arith, drop, get_or, length, map, refl, subst, sym, take}
+use Rattle.std.proofs.lemmas.List.{get_or_default, take_all}
+use Rattle.aut_ops.proofs.Faults.{passed_on}
+use Rattle.aut_ops.proofs.Listings.{beyond_front, listed_none, listed_then, rows_next, rows_whole}
+use Rattle.aut_ops.specs.Products.{all_pairs}
+use Rattle.aut_ops.specs.declared.limit.TheConstants.{MOST_PAIRS}
+use Rattle.aut_ops.specs.inner.Pairings.{AreBeyond, AreListed, ArePlaces, with_pairs}
+use Rattle.aut_ops.proofs.exploration.list_starts.Goals as goal
+
+pub firsts-init : goal.firsts-init
+firsts-init c = record {
+  store = refl;
+  links = refl;
+  listed = subst (λ ps. AreListed [] ps [] c.new-starts.result []) (sym c.requires) (subst (λ ks. AreListed [] [] [] ks []) (sym c.new-starts.ensures) (listed_none [] []));
+  few = omega (arith, ap (λ (xs : List (ℕ × ℕ)). length xs) c.requires);
+}
+
+pub returns-in_err-list_row-clause-many : goal.returns-in_err-list_row-clause-many
+returns-in_err-list_row-clause-many c is =
+    let ps = c.args.firsts.now in
+    let i = c.firsts.first-index in
+    let p : ℕ = get_or ps i 0 in
+    let within : c.firsts.first-index < length c.args.firsts.now = omega (arith, c.firsts-test.true, ap (λ (xs : List ℕ). length xs) c.as_slice-first-items.ensures) in
+    let at = get_or_default ps i 0 p within in
+    let row : ℕ → List (ℕ × ℕ) = λ first. map (λ second. (first, second)) c.args.seconds.now in
+    let many = c.in_err-list_row.ensures.many (passed_on c.from_residual.result _ _ c.from_residual.ensures.1 is) in
+    let same : map (λ (second : ℕ). (get_or c.as_slice-first-items.result.now i 0, second)) c.as_slice.result.now ≡ row p = λ j. map (λ (second : ℕ). (get_or (c.as_slice-first-items.ensures j) i 0, second)) (c.as_slice.ensures j) in
+    beyond_front MOST_PAIRS [] c.firsts.pairing.pairs (all_pairs (take i ps) c.args.seconds.now) (row p) _ (all_pairs ps c.args.seconds.now) c.firsts.invariant.listed.pairs (rows_whole row ps i p within at) (subst (AreBeyond MOST_PAIRS c.firsts.pairing.pairs) same many)
+
+pub firsts-preserved : goal.firsts-preserved
+firsts-preserved c =
+    let ps = c.args.firsts.now in
+    let i = c.firsts.first-index in
+    let p : ℕ = get_or ps i 0 in
+    let within : c.firsts.first-index < length c.args.firsts.now = omega (arith, c.firsts-test.true, ap (λ (xs : List ℕ). length xs) c.as_slice-first-items.ensures) in
+    let at = get_or_default ps i 0 p within in
+    let row : ℕ → List (ℕ × ℕ) = λ first. map (λ second. (first, second)) c.args.seconds.now in
+    let same : map (λ (second : ℕ). (get_or c.as_slice-first-items.result.now i 0, second)) c.as_slice.result.now ≡ row p = λ j. map (λ (second : ℕ). (get_or (c.as_slice-first-items.ensures j) i 0, second)) (c.as_slice.ensures j) in
+    let one = subst (AreListed c.firsts.pairing.pairs c.list_row.new.pairing.pairs c.firsts.starts c.list_row.new.starts) same c.in_ok-list_row.ensures.listed in
+    let all = listed_then [] c.firsts.pairing.pairs c.list_row.new.pairing.pairs [] c.firsts.starts c.list_row.new.starts (all_pairs (take i ps) c.args.seconds.now) (row p) c.firsts.invariant.listed one in
+    record {
+      store = c.list_row.ensures.store ∙ c.firsts.invariant.store;
+      links = c.list_row.ensures.links ∙ c.firsts.invariant.links;
+      listed = subst (AreListed [] c.list_row.new.pairing.pairs [] c.list_row.new.starts) (sym (rows_next row ps i p within at)) all;
+      few = c.in_ok-list_row.ensures.few;
+    }
+
+pub returns-clause-pairs : goal.returns-clause-pairs
+returns-clause-pairs c =
+    let end = take_all c.firsts.first-index c.args.firsts.now (omega (arith, c.firsts-test.false, ap (λ (xs : List ℕ). length xs) c.as_slice-first-items.ensures)) in
+    (c.firsts.invariant.listed.pairs ∙ ap (λ ps. with_pairs [] (all_pairs ps c.args.seconds.now)) end)
+
+pub returns-clause-places : goal.returns-clause-places
+returns-clause-places c =
+    let end = take_all c.firsts.first-index c.args.firsts.now (omega (arith, c.firsts-test.false, ap (λ (xs : List ℕ). length xs) c.as_slice-first-items.ensures)) in
+    subst (λ ps. ArePlaces c.firsts.pairing.pairs c.firsts.starts (all_pairs ps c.args.seconds.now)) end (c.firsts.invariant.listed.places [] tt)

@@ -1,0 +1,29 @@
+-- Lists in breadth-first order.
+use Rattle.std.specs.Prelude.{◌≡◌, Bool, if◌then◌else◌, List, [], ◌∷◌, ◌++◌, All, Contains, flat_map, fold}
+use Rattle.std.specs.List.{list_any}
+
+-- steps that lead from one item to another by way of these
+abbrev pub Leads : {X : Type 0} → (X → List X) → X → List X → X → Type 0
+Leads next x [] y = x ≡ y
+Leads next x (z ∷ zs) y = Contains (next x) z × Leads next z zs y
+
+-- steps lead to the item from one of the starts
+pub record IsReached {X : Type 0} (starts : List X) (next : X → List X) (y : X) : Type 0 where
+  pub start : X
+  pub is_start : Contains starts start
+  pub way : List X
+  pub leads : Leads next start way y
+
+-- the list, and the item behind it unless it is there
+abbrev pub with_new : {X : Type 0} → (X → X → Bool) → List X → X → List X
+with_new same seen x = if list_any (same x) seen then seen else seen ++ x ∷ []
+
+-- the items in order, each where it first stands
+abbrev pub once : {X : Type 0} → (X → X → Bool) → List X → List X
+once same xs = fold (with_new same) [] xs
+
+-- The list of what is reached in breadth-first order: the starts, and then what follows each item of the list in turn,
+-- each where it first stands, and nothing that isn't reached. Law: there is at most one such list.
+pub record IsBreadthFirst {X : Type 0} (same : X → X → Bool) (starts : List X) (next : X → List X) (list : List X) : Type 0 where
+  pub in_turn : list ≡ once same (starts ++ flat_map next list)
+  pub reached : All (IsReached starts next) list

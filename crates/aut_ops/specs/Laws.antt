@@ -1,0 +1,41 @@
+-- What holds of the pairs of a product.
+use Rattle.std.specs.Prelude.{◌≡◌, ◌≢◌, ◌↔◌, ℕ, ◌<◌, ◌≤◌, List, AllPairs, Contains, length}
+use Rattle.aut_base.specs.Acceptance.{IsPath}
+use Rattle.aut_base.specs.Automaton.{Automaton, IsWellFormed, TreeEdge}
+use Rattle.aut_base.specs.Formula.{FormulaTree}
+use Rattle.aut_base.specs.Word.{NameSet}
+use Rattle.aut_ops.specs.BreadthFirst.{IsReached}
+use Rattle.aut_ops.specs.Products.{ArePairs, HasMorePairs, IsProduct, next_pairs, start_pairs}
+
+-- Two automata have one list of pairs. Its pairs differ, and are just those that are reached.
+pub record PairsLaw (a b : Automaton) (pairs : List (ℕ × ℕ)) : Type 0 where
+  pub one : (others : List (ℕ × ℕ)) → ArePairs a b others → others ≡ pairs
+  pub differ : AllPairs (λ p q. p ≢ q) pairs
+  pub exactly : (pair : ℕ × ℕ) → Contains pairs pair ↔ IsReached (start_pairs a b) (next_pairs a b) pair
+
+abbrev pub PairsAreDetermined : Type 0
+PairsAreDetermined = (a b : Automaton) (pairs : List (ℕ × ℕ)) → ArePairs a b pairs → PairsLaw a b pairs
+
+-- So they have one product.
+abbrev pub ProductsAreDetermined : Type 0
+ProductsAreDetermined = (join : FormulaTree → FormulaTree → FormulaTree) (a b made other : Automaton) → IsProduct join a b made → IsProduct join a b other → made ≡ other
+
+-- A product of at most so many states isn't one of more pairs.
+abbrev pub FewPairsExcludeMore : Type 0
+FewPairsExcludeMore = (join : FormulaTree → FormulaTree → FormulaTree) (a b made : Automaton) (most : ℕ) → IsProduct join a b made → made.states ≤ most → HasMorePairs most a b → ⊥
+
+-- some letters lead from a start of each of the automata to the states of the pair
+pub record AreLedTo (a b : Automaton) (pair : ℕ × ℕ) : Type 0 where
+  pub letters : List NameSet
+  pub first : ℕ
+  pub second : ℕ
+  pub is_first : Contains a.starts first
+  pub is_second : Contains b.starts second
+  pub way : List TreeEdge
+  pub other : List TreeEdge
+  pub leads : IsPath a first letters way pair.0
+  pub leads_too : IsPath b second letters other pair.1
+
+-- The pairs that are reached are those to which one list of letters leads in both automata.
+abbrev pub ReachedByLetters : Type 0
+ReachedByLetters = (a b : Automaton) → b.names ≡ a.names → IsWellFormed a → IsWellFormed b → (pair : ℕ × ℕ) → IsReached (start_pairs a b) (next_pairs a b) pair ↔ AreLedTo a b pair

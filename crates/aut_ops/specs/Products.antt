@@ -1,0 +1,93 @@
+-- Products of automata: both go on at once.
+use Rattle.std.specs.Prelude.{◌≡◌, ◌≢◌, ℕ, ◌+◌, ◌<◌, ◌==◌, Bool, ◌&&◌, if◌then◌else◌, List, [], ◌∷◌, ◌++◌, All, AllPairs, flat_map, length, map}
+use Rattle.std.specs.List.{position_or_len}
+use Rattle.acc_forms.specs.Joined.{conj, disj}
+use Rattle.acc_forms.specs.Shift.{shift}
+use Rattle.aut_base.specs.Automaton.{Automaton, TreeEdge}
+use Rattle.aut_base.specs.Formula.{FormulaTree}
+use Rattle.aut_base.specs.Label.{LabelTree}
+use Rattle.aut_core.specs.OtherNames.{joined_names, over_names}
+use Rattle.aut_core.specs.Surveys.{edges_from}
+use Rattle.aut_ops.specs.BreadthFirst.{IsBreadthFirst, IsReached}
+use Rattle.aut_ops.specs.Completion.{completed}
+use Rattle.aut_ops.specs.Labels.{both_labels, is_never}
+
+-- an edge of each of two automata, gone at one letter
+pub record JointEdge : Type 0 where
+  pub from : ℕ × ℕ
+  pub label : LabelTree
+  pub to : ℕ × ℕ
+  pub marks : List ℕ
+
+-- The two edges as one, unless no letter meets both. The marks of the second are raised by the number of the first's sets.
+abbrev pub joint_edge : ℕ → ℕ → TreeEdge → TreeEdge → List JointEdge
+joint_edge names sets d e =
+    if is_never names (both_labels names d.label e.label) then []
+    else record { from = (d.from, e.from); label = both_labels names d.label e.label; to = (d.to, e.to); marks = d.marks ++ map (λ mark. mark + sets) e.marks } ∷ []
+
+-- the edges of the first with those of the second, in the order of the first's
+abbrev pub joint_rows : ℕ → ℕ → List TreeEdge → List TreeEdge → List JointEdge
+joint_rows names sets ds es = flat_map (λ d. flat_map (joint_edge names sets d) es) ds
+
+-- the edges that leave a pair of states
+abbrev pub joint_edges : Automaton → Automaton → ℕ × ℕ → List JointEdge
+joint_edges a b pair = joint_rows (length a.names) a.sets (edges_from pair.0 a.edges) (edges_from pair.1 b.edges)
+
+-- each of the first with each of the second, in the order of the first
+abbrev pub all_pairs : List ℕ → List ℕ → List (ℕ × ℕ)
+all_pairs ps qs = flat_map (λ p. map (λ q. (p, q)) qs) ps
+
+-- the pairs of starts
+abbrev pub start_pairs : Automaton → Automaton → List (ℕ × ℕ)
+start_pairs a b = all_pairs a.starts b.starts
+
+-- the pairs to which the edges of a pair lead
+abbrev pub next_pairs : Automaton → Automaton → ℕ × ℕ → List (ℕ × ℕ)
+next_pairs a b pair = map (λ j. j.to) (joint_edges a b pair)
+
+abbrev pub same_pair : ℕ × ℕ → ℕ × ℕ → Bool
+same_pair p q = (p.0 == q.0) && (p.1 == q.1)
+
+-- the pairs are those reached, in breadth-first order
+abbrev pub ArePairs : Automaton → Automaton → List (ℕ × ℕ) → Type 0
+ArePairs a b = IsBreadthFirst same_pair (start_pairs a b) (next_pairs a b)
+
+-- the edge between the numbers of the pairs, which are their places
+abbrev pub numbered : List (ℕ × ℕ) → JointEdge → TreeEdge
+numbered pairs j = record { from = position_or_len (same_pair j.from) pairs; label = j.label; to = position_or_len (same_pair j.to) pairs; marks = j.marks }
+
+-- the product of two automata over the same names, whose states are these pairs
+abbrev pub product_on : (FormulaTree → FormulaTree → FormulaTree) → List (ℕ × ℕ) → Automaton → Automaton → Automaton
+product_on join pairs a b = record {
+  names = a.names;
+  starts = map (λ pair. position_or_len (same_pair pair) pairs) (start_pairs a b);
+  states = length pairs;
+  edges = map (numbered pairs) (flat_map (joint_edges a b) pairs);
+  sets = a.sets + b.sets;
+  formula = join a.formula (shift a.sets b.formula);
+}
+
+-- the product of two automata over the same names, under this join of their conditions
+pub record IsProduct (join : FormulaTree → FormulaTree → FormulaTree) (a b made : Automaton) : Type 0 where
+  pub pairs : List (ℕ × ℕ)
+  pub in_order : ArePairs a b pairs
+  pub is : made ≡ product_on join pairs a b
+
+-- more than `most` pairs of states are reached
+pub record HasMorePairs (most : ℕ) (a b : Automaton) : Type 0 where
+  pub pairs : List (ℕ × ℕ)
+  pub differ : AllPairs (λ p q. p ≢ q) pairs
+  pub reached : All (IsReached (start_pairs a b) (next_pairs a b)) pairs
+  pub more : most < length pairs
+
+-- the automaton over the names of both
+abbrev pub over_both : Automaton → Automaton → Automaton → Automaton
+over_both a b x = over_names (joined_names a.names b.names) x
+
+-- The automaton in which both go on at once, and both conditions have to be met.
+abbrev pub IsProductOf : Automaton → Automaton → Automaton → Type 0
+IsProductOf a b = IsProduct conj (over_both a b a) (over_both a b b)
+
+-- The same under one of the two conditions, of the automata made complete.
+abbrev pub IsEitherOf : Automaton → Automaton → Automaton → Type 0
+IsEitherOf a b = IsProduct disj (over_both a b (completed a)) (over_both a b (completed b))

@@ -1,0 +1,9 @@
+-- Faults of names, as those of a product.
+use Rattle.aut_core.specs.declared.join.NameFault.{NameFault}
+use Rattle.aut_core.specs.declared.join.NameFault.TheVariants as name_fault
+use Rattle.aut_ops.specs.declared.fault.PairFault.{PairFault}
+use Rattle.aut_ops.specs.declared.fault.PairFault.TheVariants as fault
+
+abbrev pub pair_fault : NameFault → PairFault
+pair_fault name_fault.Names = fault.Names
+pair_fault name_fault.Memory = fault.Memory

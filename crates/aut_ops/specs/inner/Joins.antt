@@ -1,0 +1,19 @@
+-- The two ways in which the conditions of a product are joined.
+use Rattle.std.specs.Prelude.{ℕ, ◌<◌, List}
+use Rattle.acc_forms.specs.Joined.{conj, disj}
+use Rattle.aut_base.specs.Automaton.{Automaton}
+use Rattle.aut_base.specs.Formula.{FormulaTree}
+use Rattle.aut_base.specs.Word.{NameSet}
+use Rattle.aut_ops.specs.Languages.{AcceptsBoth, AcceptsEither}
+use Rattle.aut_ops.specs.declared.join.Join.{Join}
+use Rattle.aut_ops.specs.declared.join.Join.TheVariants.{All, Any}
+use Rattle.aut_ops.specs.inner.Runs.{HasRuns}
+
+abbrev pub join_of : Join → FormulaTree → FormulaTree → FormulaTree
+join_of All = conj
+join_of Any = disj
+
+-- What a product accepts under the join. Under one of the two conditions each automaton has to have a run over each word.
+abbrev pub JoinAccepts : Join → Automaton → Automaton → Automaton → Type 0
+JoinAccepts All made a b = AcceptsBoth made a b
+JoinAccepts Any made a b = HasRuns a → HasRuns b → AcceptsEither made a b

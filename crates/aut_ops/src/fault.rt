@@ -1,0 +1,38 @@
+//! Why a product could not be made.
+
+ghost use Rattle.std.specs.Prelude.{◌≡◌};
+ghost use Rattle.aut_ops.specs.declared.fault.PairFault.{PairFault};
+ghost use Rattle.aut_ops.specs.inner.Faults.{pair_fault};
+
+use aut_base::Memory;
+use aut_core::NameFault;
+
+/// Why a product could not be made.
+#[derive(Clone, Copy, Debug, PartialEq, Eq)]
+pub enum PairFault {
+    /// Together the automata have more names than an automaton may have.
+    Names,
+    /// More pairs of states are reached than `MOST_PAIRS`.
+    Pairs,
+    /// Want of memory.
+    Memory,
+}
+
+impl From<Memory> for PairFault {
+    ghost from_gives = { λ _ fault. fault ≡ PairFault.Memory };
+
+    fn from(_want: Memory) -> PairFault {
+        PairFault::Memory
+    }
+}
+
+impl From<NameFault> for PairFault {
+    ghost from_gives = { λ came fault. fault ≡ pair_fault came };
+
+    fn from(came: NameFault) -> PairFault {
+        match came {
+            NameFault::Names => PairFault::Names,
+            NameFault::Memory => PairFault::Memory,
+        }
+    }
+}

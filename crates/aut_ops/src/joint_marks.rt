@@ -1,0 +1,24 @@
+//! The marks of two edges together.
+
+ghost use Rattle.std.specs.Prelude.{◌≡◌, ◌+◌, ◌<◌, ◌^◌, ◌++◌, All, IfOk, map};
+
+use aut_base::{Marks, Memory};
+
+pub(crate) fn copy_marks(marks: &Marks) -> Result<Marks, Memory>
+    ensures { IfOk result (λ copy. copy ≡ marks.now) }
+{
+    Ok(marks.clone()?)
+}
+
+/// The marks, and behind them the others, raised by this number, which is above the first.
+pub(crate) fn joint_marks(marks: &Marks, others: &Marks, by: u32) -> Result<Marks, Memory>
+    requires marks { All (λ mark. mark < by) marks.now }
+    requires others { All (λ mark. mark + by < 2 ^ 32) others.now }
+    ensures { IfOk result (λ all. all ≡ marks.now ++ map (λ mark. mark + by) others.now) }
+{
+    let mut all = copy_marks(marks)?;
+    'others: for mark in others.as_slice() {
+        all.push(*mark + by)?;
+    }
+    Ok(all)
+}

@@ -1,0 +1,23 @@
+//! What holds of the pairs of a product.
+
+ghost use Rattle.aut_ops.specs.Laws.{FewPairsExcludeMore, PairsAreDetermined, ProductsAreDetermined, ReachedByLetters};
+
+/// Two automata have one list of pairs, which are just those that are reached.
+pub fn pairs_are_determined()
+    ensures { PairsAreDetermined }
+{}
+
+/// Two automata have one product under a join of their conditions.
+pub fn products_are_determined()
+    ensures { ProductsAreDetermined }
+{}
+
+/// A product with at most so many states isn't one of more pairs.
+pub fn few_pairs_exclude_more()
+    ensures { FewPairsExcludeMore }
+{}
+
+/// The pairs that are reached are those to which one list of letters leads in both automata.
+pub fn reached_by_letters()
+    ensures { ReachedByLetters }
+{}

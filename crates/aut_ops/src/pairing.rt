@@ -1,0 +1,164 @@
+//! The pairs of states that two automata reach together, and the links between them.
+
+ghost use Rattle.std.specs.Prelude.{◌≡◌, ◌<◌, ◌≤◌, [], All, IfOk, IsErrOf, OnOk, Some, flat_map, length, map, slice_get};
+ghost use Rattle.aut_ops.specs.BreadthFirst.{with_new};
+ghost use Rattle.aut_ops.specs.Products.{same_pair};
+ghost use Rattle.aut_ops.specs.declared.fault.PairFault.{PairFault};
+ghost use Rattle.aut_ops.specs.declared.limit.TheConstants.{MOST_PAIRS};
+ghost use Rattle.aut_ops.specs.inner.Pairings.{Adds, AreBeyond, CanMeet, followed, meeting};
+
+use crate::fault::PairFault;
+use crate::joint_marks::joint_marks;
+use crate::limit::MOST_PAIRS;
+use aut_base::Memory;
+use aut_core::{Link, Links};
+use indexmap::IndexSet;
+use label_guards::Guards;
+use std::alloc::Global;
+use std::marker::Model;
+
+/// A product as far as it is made: the pairs in the order in which they were met, and the links between their places.
+#[derive(Drop)]
+pub(crate) struct Pairing {
+    guards: Guards,
+    pairs: IndexSet<(u32, u32)>,
+    links: Links,
+}
+
+impl Model for Pairing {
+    ghost use Rattle.aut_ops.specs.inner.Pairings.{Stage};
+
+    ghost Value = { Stage };
+
+    ghost view = { λ s. record { store = s.guards; pairs = s.pairs.keys; links = s.links } };
+}
+
+impl Pairing {
+    /// No pair yet, and this store.
+    pub(crate) fn new(alloc: Global, guards: Guards) -> Pairing
+        ensures store { result.store ≡ guards }
+        ensures pairs { result.pairs ≡ [] }
+        ensures links { result.links ≡ [] }
+    {
+        Pairing {
+            guards,
+            pairs: IndexSet::new(alloc),
+            links: Links::new(alloc),
+        }
+    }
+
+    /// The number of pairs.
+    pub(crate) fn len(&self) -> usize
+        ensures { result ≡ length self.now.pairs }
+    {
+        self.pairs.len()
+    }
+
+    /// The pair at this place.
+    pub(crate) fn pair_at(&self, place: usize) -> (u32, u32)
+        requires { place < length self.now.pairs }
+        ensures { slice_get self.now.pairs place ≡ Some result }
+    {
+        self.pairs.as_slice()[place]
+    }
+
+    /// The store and the links.
+    pub(crate) fn into_parts(self) -> (Guards, Links)
+        ensures store { result.0 ≡ self.store }
+        ensures links { result.1 ≡ self.links }
+    {
+        (self.guards, self.links)
+    }
+
+    /// The number of the pair, which is its place. It is added unless it is there.
+    pub(crate) fn number(&mut self, pair: (u32, u32)) -> Result<u32, PairFault>
+        ensures store { self.new.store ≡ self.old.store }
+        ensures links { self.new.links ≡ self.old.links }
+        ensures pairs { OnOk result (self.new.pairs ≡ with_new same_pair self.old.pairs pair) }
+        ensures place { IfOk result (λ place. slice_get self.new.pairs place ≡ Some pair) }
+        ensures few { OnOk result (length self.new.pairs ≤ MOST_PAIRS) }
+        ensures many { IsErrOf result PairFault.Pairs → MOST_PAIRS < length (with_new same_pair self.old.pairs pair) }
+        ensures named { IsErrOf result PairFault.Names → ⊥ }
+    {
+        let place = put(&mut self.pairs, pair)?;
+        if self.pairs.len() > MOST_PAIRS as usize {
+            return Err(PairFault::Pairs);
+        }
+        Ok(place as u32)
+    }
+
+    /// Adds the link that goes both of these at once, from the pair at this place, unless no letter meets both.
+    fn meet(&mut self, at: u32, link: &Link, other: &Link, sets: u32) -> Result<(), PairFault>
+        requires meet { CanMeet self.old at sets link.now other.now }
+        requires few { length self.old.pairs ≤ MOST_PAIRS }
+        ensures adds { OnOk result (Adds self.old self.new (meeting self.old.store sets link.now other.now)) }
+        ensures few { OnOk result (length self.new.pairs ≤ MOST_PAIRS) }
+        ensures many { IsErrOf result PairFault.Pairs → AreBeyond MOST_PAIRS self.old.pairs (map (λ j. j.to) (meeting self.old.store sets link.now other.now)) }
+        ensures named { IsErrOf result PairFault.Names → ⊥ }
+    {
+        let guard = self.guards.and(link.guard, other.guard)?;
+        if self.guards.is_false(guard) {
+            return Ok(());
+        }
+        let to = self.number((link.to, other.to))?;
+        let marks = joint_marks(&link.marks, &other.marks, sets)?;
+        self.links.push(Link {
+            from: at,
+            guard,
+            to,
+            marks,
+        })?;
+        Ok(())
+    }
+
+    /// Adds the links that go this one and one of the others at once.
+    fn follow(
+        &mut self,
+        at: u32,
+        link: &Link,
+        others: &[Link],
+        sets: u32,
+    ) -> Result<(), PairFault>
+        requires meet { All (CanMeet self.old at sets link.now) others.now }
+        requires few { length self.old.pairs ≤ MOST_PAIRS }
+        ensures adds { OnOk result (Adds self.old self.new (followed self.old.store sets others.now link.now)) }
+        ensures few { OnOk result (length self.new.pairs ≤ MOST_PAIRS) }
+        ensures many { IsErrOf result PairFault.Pairs → AreBeyond MOST_PAIRS self.old.pairs (map (λ j. j.to) (followed self.old.store sets others.now link.now)) }
+        ensures named { IsErrOf result PairFault.Names → ⊥ }
+    {
+        'others: for other in others {
+            self.meet(at, link, other, sets)?;
+        }
+        Ok(())
+    }
+
+    /// Adds the links that go one of the first and one of the others at once.
+    pub(crate) fn spread(
+        &mut self,
+        at: u32,
+        links: &[Link],
+        others: &[Link],
+        sets: u32,
+    ) -> Result<(), PairFault>
+        requires meet { All (λ l. All (CanMeet self.old at sets l) others.now) links.now }
+        requires few { length self.old.pairs ≤ MOST_PAIRS }
+        ensures adds { OnOk result (Adds self.old self.new (flat_map (followed self.old.store sets others.now) links.now)) }
+        ensures few { OnOk result (length self.new.pairs ≤ MOST_PAIRS) }
+        ensures many { IsErrOf result PairFault.Pairs → AreBeyond MOST_PAIRS self.old.pairs (map (λ j. j.to) (flat_map (followed self.old.store sets others.now) links.now)) }
+        ensures named { IsErrOf result PairFault.Names → ⊥ }
+    {
+        'links: for link in links {
+            self.follow(at, link, others, sets)?;
+        }
+        Ok(())
+    }
+}
+
+/// The place of the pair, which is added unless it is there.
+fn put(pairs: &mut IndexSet<(u32, u32)>, pair: (u32, u32)) -> Result<usize, Memory>
+    ensures pairs { OnOk result (pairs.new.keys ≡ with_new same_pair pairs.old.keys pair) }
+    ensures place { IfOk result (λ place. slice_get pairs.new.keys place ≡ Some pair) }
+{
+    let (place, _) = pairs.insert_full(pair)?;
+    Ok(place)
+}

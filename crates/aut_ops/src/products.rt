@@ -1,0 +1,124 @@
+//! Products of two automata.
+
+ghost use Rattle.std.specs.Prelude.{◌≡◌, ◌+◌, ◌<◌, ◌≤◌, ◌^◌, IfOk, IsErrOf, OnOk, length};
+ghost use Rattle.aut_base.specs.declared.limit.TheConstants.{MOST_NAMES};
+ghost use Rattle.aut_core.specs.Core.{automaton_of};
+ghost use Rattle.aut_core.specs.OtherNames.{joined_names};
+ghost use Rattle.aut_ops.specs.Completion.{completed};
+ghost use Rattle.aut_ops.specs.Languages.{AcceptsBoth, AcceptsEither};
+ghost use Rattle.aut_ops.specs.Products.{HasMorePairs, IsEitherOf, IsProduct, IsProductOf, over_both};
+ghost use Rattle.aut_ops.specs.declared.fault.PairFault.{PairFault};
+ghost use Rattle.aut_ops.specs.declared.limit.TheConstants.{MOST_PAIRS};
+ghost use Rattle.aut_ops.specs.inner.Joins.{JoinAccepts, join_of};
+ghost use Rattle.label_guards.specs.Store.{Keeps};
+
+use crate::completion::complete;
+use crate::copies::copy_names;
+use crate::exploration::{explore, list_starts};
+use crate::fault::PairFault;
+use crate::join::Join;
+use crate::pairing::Pairing;
+use crate::shared::share;
+use aut_core::{Automaton, join_names};
+use std::alloc::Global;
+
+/// The product: an automaton that accepts what both accept. Its states are the pairs of states that some letters lead to in
+/// both from their starts, in breadth-first order.
+pub fn product(alloc: Global, a: &Automaton, b: &Automaton) -> Result<Automaton, PairFault>
+    requires sets { a.now.sets + b.now.sets < 2 ^ 32 }
+    ensures shape { IfOk result (λ made. IsProductOf (automaton_of a.now) (automaton_of b.now) (automaton_of made)) }
+    ensures accepts { IfOk result (λ made. AcceptsBoth (automaton_of made) (automaton_of a.now) (automaton_of b.now)) }
+    ensures within { OnOk result (length (joined_names a.now.names b.now.names) ≤ MOST_NAMES) }
+    ensures few { IfOk result (λ made. made.states ≤ MOST_PAIRS) }
+    ensures names { IsErrOf result PairFault.Names → MOST_NAMES < length (joined_names a.now.names b.now.names) }
+    ensures names_first { IsErrOf result PairFault.Pairs → length (joined_names a.now.names b.now.names) ≤ MOST_NAMES }
+    ensures pairs { IsErrOf result PairFault.Pairs → HasMorePairs MOST_PAIRS (over_both (automaton_of a.now) (automaton_of b.now) (automaton_of a.now)) (over_both (automaton_of a.now) (automaton_of b.now) (automaton_of b.now)) }
+{
+    product_by(alloc, a, b, Join::All)
+}
+
+/// The union as a product: an automaton that accepts what one of the two accepts. Both are made complete first, and it has to
+/// meet one of their conditions. The limits are those of a product of the complete automata.
+pub fn product_or(alloc: Global, a: &Automaton, b: &Automaton) -> Result<Automaton, PairFault>
+    requires states { (completed (automaton_of a.now)).states < 2 ^ 32 }
+    requires other_states { (completed (automaton_of b.now)).states < 2 ^ 32 }
+    requires sets { (completed (automaton_of a.now)).sets + (completed (automaton_of b.now)).sets < 2 ^ 32 }
+    ensures shape { IfOk result (λ made. IsEitherOf (automaton_of a.now) (automaton_of b.now) (automaton_of made)) }
+    ensures accepts { IfOk result (λ made. AcceptsEither (automaton_of made) (automaton_of a.now) (automaton_of b.now)) }
+    ensures within { OnOk result (length (joined_names a.now.names b.now.names) ≤ MOST_NAMES) }
+    ensures few { IfOk result (λ made. made.states ≤ MOST_PAIRS) }
+    ensures names { IsErrOf result PairFault.Names → MOST_NAMES < length (joined_names a.now.names b.now.names) }
+    ensures names_first { IsErrOf result PairFault.Pairs → length (joined_names a.now.names b.now.names) ≤ MOST_NAMES }
+    ensures pairs { IsErrOf result PairFault.Pairs → HasMorePairs MOST_PAIRS (over_both (automaton_of a.now) (automaton_of b.now) (completed (automaton_of a.now))) (over_both (automaton_of a.now) (automaton_of b.now) (completed (automaton_of b.now))) }
+{
+    a.whole();
+    b.whole();
+    let first = complete(alloc, a)?;
+    let second = complete(alloc, b)?;
+    first.whole();
+    second.whole();
+    product_by(alloc, &first, &second, Join::Any)
+}
+
+/// The product over the names of both, under this join of their conditions.
+fn product_by(
+    alloc: Global,
+    a: &Automaton,
+    b: &Automaton,
+    join: Join,
+) -> Result<Automaton, PairFault>
+    requires sets { a.now.sets + b.now.sets < 2 ^ 32 }
+    ensures shape { IfOk result (λ made. IsProduct (join_of join) (over_both (automaton_of a.now) (automaton_of b.now) (automaton_of a.now)) (over_both (automaton_of a.now) (automaton_of b.now) (automaton_of b.now)) (automaton_of made)) }
+    ensures accepts { IfOk result (λ made. JoinAccepts join (automaton_of made) (automaton_of a.now) (automaton_of b.now)) }
+    ensures within { OnOk result (length (joined_names a.now.names b.now.names) ≤ MOST_NAMES) }
+    ensures few { IfOk result (λ made. made.states ≤ MOST_PAIRS) }
+    ensures names { IsErrOf result PairFault.Names → MOST_NAMES < length (joined_names a.now.names b.now.names) }
+    ensures names_first { IsErrOf result PairFault.Pairs → length (joined_names a.now.names b.now.names) ≤ MOST_NAMES }
+    ensures pairs { IsErrOf result PairFault.Pairs → HasMorePairs MOST_PAIRS (over_both (automaton_of a.now) (automaton_of b.now) (automaton_of a.now)) (over_both (automaton_of a.now) (automaton_of b.now) (automaton_of b.now)) }
+{
+    a.whole();
+    b.whole();
+    let names = join_names(alloc, a.names(), b.names())?;
+    let _distinct = names.as_slice();
+    let both = share(alloc, a, b, &names)?;
+    product_over(alloc, &both.first, &both.second, join)
+}
+
+/// The product of two automata over the same names, where the second's store has the guards of the first.
+fn product_over(
+    alloc: Global,
+    a: &Automaton,
+    b: &Automaton,
+    join: Join,
+) -> Result<Automaton, PairFault>
+    requires names { b.now.names ≡ a.now.names }
+    requires store { Keeps a.now.store b.now.store }
+    requires sets { a.now.sets + b.now.sets < 2 ^ 32 }
+    ensures shape { IfOk result (λ made. IsProduct (join_of join) (automaton_of a.now) (automaton_of b.now) (automaton_of made)) }
+    ensures accepts { IfOk result (λ made. JoinAccepts join (automaton_of made) (automaton_of a.now) (automaton_of b.now)) }
+    ensures few { IfOk result (λ made. made.states ≤ MOST_PAIRS) }
+    ensures named { IsErrOf result PairFault.Names → ⊥ }
+    ensures pairs { IsErrOf result PairFault.Pairs → HasMorePairs MOST_PAIRS (automaton_of a.now) (automaton_of b.now) }
+{
+    a.whole();
+    b.whole();
+    let sets = a.sets();
+    let store = b.guards().copy(alloc)?;
+    let mut pairing = Pairing::new(alloc, store);
+    let starts = list_starts(alloc, &mut pairing, a.starts(), b.starts())?;
+    explore(&mut pairing, a, b)?;
+    let states = pairing.len() as u32;
+    let (guards, links) = pairing.into_parts();
+    let formula = join.condition(alloc, a.formula(), b.formula(), sets)?;
+    let names = copy_names(a.names())?;
+    Ok(Automaton::from_parts(
+        alloc,
+        names,
+        guards,
+        states,
+        starts,
+        links,
+        sets + b.sets(),
+        formula,
+    )?)
+}

@@ -1,0 +1,11 @@
+pub mod BuchiLaw
+pub mod CopiesLaw
+pub mod GeneralisedLaw
+pub mod LevelSteps
+pub mod LevelWalks
+pub mod LevelledEdges
+pub mod LevelledLaw
+pub mod LevelledWhole
+pub mod Pigeonhole
+pub mod Turns
+pub mod WatchLists

@@ -1,0 +1,102 @@
+-- The Büchi form of an automaton, by levels: a run waits on a level for an edge that meets the level's literal, moves to
+-- the next one, and from the last one back to the first. That last step carries the mark.
+use Rattle.std.specs.Prelude.{◌≡◌, ℕ, ◌+◌, ◌*◌, ◌/◌, ◌<◌, ◌==◌, max, Bool, true, false, if◌then◌else◌, Option, None, Some, List, [], ◌∷◌, length, map, flat_map, slice_get}
+use Rattle.std.specs.List.{fold, list_all, range_with_len}
+use Rattle.std.specs.Option.{option_and_then}
+use Rattle.aut_base.specs.Automaton.{Automaton, TreeEdge}
+use Rattle.aut_base.specs.Formula.{FormulaTree}
+use Rattle.acc_forms.specs.Joined.{conjuncts}
+use Rattle.acc_forms.specs.Terms.{count, terms}
+use Rattle.acc_forms.specs.declared.literal.Literal.{Literal}
+use Rattle.acc_forms.specs.declared.literal.Literal.TheVariants.{Inf}
+use Rattle.aut_core.specs.Surveys.{edges_from}
+use Rattle.aut_base.specs.declared.limit.TheConstants.{MOST_TERMS}
+use Rattle.fin_removal.specs.Copies.{copied, owned_sets}
+use Rattle.fin_removal.specs.Meeting.{meets_at, literal_places}
+
+-- What a state waits for: each of these literals in turn, or never anything.
+abbrev pub Watch : Type 0
+Watch = Option (List Literal)
+
+-- how many levels such a state has
+abbrev pub levels : Watch → ℕ
+levels None = 1
+levels (Some literals) = literal_places literals
+
+-- whether the edge with these marks meets the level, which it never does where nothing is waited for
+abbrev pub meets_level : Watch → ℕ → List ℕ → Bool
+meets_level None level marks = false
+meets_level (Some literals) level marks = meets_at literals level marks
+
+-- the level after an edge that meets it: the next one, and after the last one the first
+abbrev pub next_level : Watch → ℕ → ℕ
+next_level watch level = if level + 1 == levels watch then 0 else level + 1
+
+-- the level after the edge
+abbrev pub level_after : Watch → ℕ → List ℕ → ℕ
+level_after watch level marks = if meets_level watch level marks then next_level watch level else level
+
+-- the mark of the edge at this level: only the one that meets the last level has it
+abbrev pub marks_at : Watch → ℕ → List ℕ → List ℕ
+marks_at watch level marks = if meets_level watch level marks then (if level + 1 == levels watch then 0 ∷ [] else []) else []
+
+-- the state at this level, where there is room for k levels
+abbrev pub state_at : ℕ → ℕ → ℕ → ℕ
+state_at k state level = state * k + level
+
+-- the edge as it leaves this level
+abbrev pub edge_at : ℕ → Watch → ℕ → TreeEdge → TreeEdge
+edge_at k watch level e = record { from = state_at k e.from level; label = e.label; to = state_at k e.to (level_after watch level e.marks); marks = marks_at watch level e.marks }
+
+-- the edges that leave the levels of one state
+abbrev pub level_edges : ℕ → List TreeEdge → Watch → List TreeEdge
+level_edges k edges watch = flat_map (λ level. map (edge_at k watch level) edges) (range_with_len 0 (levels watch))
+
+-- the automaton with room for k levels at each state, where `watch` says what a state waits for
+abbrev pub levelled : ℕ → (ℕ → Watch) → Automaton → Automaton
+levelled k watch a = record {
+  names = a.names;
+  starts = map (λ start. state_at k start 0) a.starts;
+  states = a.states * k;
+  edges = flat_map (λ state. level_edges k (edges_from state a.edges) (watch state)) (range_with_len 0 a.states);
+  sets = 1;
+  formula = FormulaTree.Inf 0 false;
+}
+
+abbrev pub inf_literals : FormulaTree → List Literal
+inf_literals (FormulaTree.Inf set neg) = Inf set neg ∷ []
+inf_literals f = []
+
+abbrev pub is_inf_atom : FormulaTree → Bool
+is_inf_atom (FormulaTree.Inf set neg) = true
+is_inf_atom f = false
+
+-- A generalised Büchi condition: `t`, an Inf, or an And of Infs alone. The literals of its parts are what a run waits for.
+abbrev pub is_generalised_buchi : FormulaTree → Bool
+is_generalised_buchi f = list_all is_inf_atom (conjuncts f)
+
+-- What the states of each copy wait for. Under a generalised Büchi condition there is one copy, the automaton itself, else
+-- the main copy waits for nothing, and each of the others for its sets.
+abbrev pub watches : FormulaTree → List Watch
+watches f = if is_generalised_buchi f then Some (flat_map inf_literals (conjuncts f)) ∷ [] else None ∷ map (λ sets. Some sets) (owned_sets (terms f))
+
+-- the greatest number of levels
+abbrev pub most_levels : List Watch → ℕ
+most_levels those = fold (λ most watch. max most (levels watch)) 1 those
+
+-- what the state waits for, where each copy has n states
+abbrev pub watch_of : ℕ → List Watch → ℕ → Watch
+watch_of n those state = option_and_then (λ watch. watch) (slice_get those (state / n))
+
+-- The Büchi form. Law: it accepts the same lasso words.
+abbrev pub buchi : Automaton → Automaton
+buchi a = levelled (most_levels (watches a.formula)) (watch_of a.states (watches a.formula)) (if is_generalised_buchi a.formula then a else copied a)
+
+-- how many states it has
+abbrev pub buchi_states : Automaton → ℕ
+buchi_states a = a.states * length (watches a.formula) * most_levels (watches a.formula)
+
+-- the condition has to be listed by its terms, and they are too many
+pub record NeedsTooManyTerms (f : FormulaTree) : Type 0 where
+  pub needed : is_generalised_buchi f ≡ false
+  pub many : MOST_TERMS < count (terms f)

@@ -1,0 +1,2 @@
+pub mod Buchi
+pub mod Faults

@@ -1,0 +1,15 @@
+//! The Büchi form of an automaton: one acceptance set, which an accepting run is in again and again.
+//!
+//! A caller sees `to_buchi` and the limit on its states. The construction is defined in `specs/Buchi`.
+#![tactic(auto)]
+
+mod buchi;
+mod fault;
+mod generalised;
+mod levels;
+mod links;
+mod parts;
+mod watches;
+
+pub use buchi::{MOST_BUCHI_STATES, to_buchi};
+pub use fault::BuchiFault;

@@ -1,0 +1,15 @@
+pub mod Conditions
+pub mod CopiedEdges
+pub mod CopiedLaw
+pub mod CopiedParts
+pub mod CopiedPaths
+pub mod CopiedWhole
+pub mod CopyMarks
+pub mod CopyNumbers
+pub mod Fits
+pub mod LinkSteps
+pub mod Members
+pub mod Paths
+pub mod Rising
+pub mod TermCopies
+pub mod TermMet

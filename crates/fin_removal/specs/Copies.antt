@@ -1,0 +1,93 @@
+-- An automaton without Fin: beside the automaton itself stands a copy of it for each term of its condition. A run moves
+-- into a copy when it will meet the term's Fin literals for ever, and is there held to them.
+use Rattle.std.specs.Prelude.{ℕ, ◌+◌, ◌*◌, ◌^◌, ◌<◌, ◌≤◌, Bool, false, if◌then◌else◌, List, [], ◌∷◌, ◌++◌, length, map, filter, flat_map}
+use Rattle.std.specs.List.{list_all, range_with_len, sum_by}
+use Rattle.aut_base.specs.Automaton.{Automaton, TreeEdge}
+use Rattle.aut_base.specs.declared.limit.TheConstants.{MOST_TERMS}
+use Rattle.acc_forms.specs.Atoms.{has_fin}
+use Rattle.acc_forms.specs.Terms.{count, of_terms, terms}
+use Rattle.acc_forms.specs.declared.literal.Literal.{Literal}
+use Rattle.acc_forms.specs.declared.literal.Literal.TheVariants.{Inf}
+use Rattle.fin_removal.specs.Meeting.{fins, infs, meets, meets_at, literal_places}
+use Rattle.fin_removal.specs.declared.term_copy.TermCopy.{TermCopy}
+
+-- the copy for a term, under a name that other crates can use
+abbrev pub CopyOfTerm : Type 0
+CopyOfTerm = TermCopy
+
+-- how many sets a term owns
+abbrev pub sets_of : List Literal → ℕ
+sets_of term = literal_places (infs term)
+
+-- The copies of these terms, numbered from `number` on. Each owns its sets, numbered from `first` on.
+abbrev pub copies_from : ℕ → ℕ → List (List Literal) → List TermCopy
+copies_from number first [] = []
+copies_from number first (term ∷ terms) = record { number = number; first = first; fins = fins term; infs = infs term } ∷ copies_from (number + 1) (first + sets_of term) terms
+
+-- the copies of a condition's terms; number 0 is the automaton itself, the main copy
+abbrev pub term_copies : List (List Literal) → List TermCopy
+term_copies terms = copies_from 1 0 terms
+
+-- the state of the copy with this number, where each has n states
+abbrev pub state_in : ℕ → ℕ → ℕ → ℕ
+state_in n number state = number * n + state
+
+-- the edge stays in the main copy, unmarked
+abbrev pub stay : TreeEdge → TreeEdge
+stay e = record e { marks = [] }
+
+-- the edge leads from the main copy into this one, unmarked
+abbrev pub enter : ℕ → TreeEdge → TermCopy → TreeEdge
+enter n e copy = record { from = e.from; label = e.label; to = state_in n copy.number e.to; marks = [] }
+
+-- the edge in the main copy, and then into each of the others
+abbrev pub main_edges : ℕ → List TermCopy → TreeEdge → List TreeEdge
+main_edges n copies e = stay e ∷ map (enter n e) copies
+
+-- the copy has edges with these marks: they meet every Fin literal of its term
+abbrev pub allows : TermCopy → List ℕ → Bool
+allows copy marks = list_all (meets marks) copy.fins
+
+-- The copy's sets for an edge that had these marks: the set of each Inf literal that it meets, or the only set of a
+-- term without Inf literals.
+abbrev pub marks_in : TermCopy → List ℕ → List ℕ
+marks_in copy marks = map (λ place. copy.first + place) (filter (λ place. meets_at copy.infs place marks) (range_with_len 0 (literal_places copy.infs)))
+
+abbrev pub edge_in : ℕ → TermCopy → TreeEdge → TreeEdge
+edge_in n copy e = record { from = state_in n copy.number e.from; label = e.label; to = state_in n copy.number e.to; marks = marks_in copy e.marks }
+
+-- the edges within a copy
+abbrev pub copy_edges : ℕ → List TreeEdge → TermCopy → List TreeEdge
+copy_edges n edges copy = map (edge_in n copy) (filter (λ e. allows copy e.marks) edges)
+
+-- Inf of each of the copy's sets
+abbrev pub owned : TermCopy → List Literal
+owned copy = map (λ set. Inf set false) (range_with_len copy.first (literal_places copy.infs))
+
+-- the terms of the new condition: for each term, Inf of each of its sets
+abbrev pub owned_sets : List (List Literal) → List (List Literal)
+owned_sets terms = map owned (term_copies terms)
+
+-- The automaton with its copies. Law: it accepts the same lasso words, and has no Fin.
+abbrev pub copied : Automaton → Automaton
+copied a = record {
+  names = a.names;
+  starts = a.starts;
+  states = (1 + length (terms a.formula)) * a.states;
+  edges = flat_map (main_edges a.states (term_copies (terms a.formula))) a.edges ++ flat_map (copy_edges a.states a.edges) (term_copies (terms a.formula));
+  sets = sum_by sets_of (terms a.formula);
+  formula = of_terms (owned_sets (terms a.formula));
+}
+
+-- the automaton itself where its condition has no Fin, else with its copies
+abbrev pub without_fin : Automaton → Automaton
+without_fin a = if has_fin a.formula then copied a else a
+
+-- the terms are too many to be listed
+abbrev pub HasTooManyTerms : Automaton → Type 0
+HasTooManyTerms a = MOST_TERMS < count (terms a.formula)
+
+-- The copies can be numbered, where the terms are listed at all. A caller knows it from the number of states and of what
+-- the terms count, which is no less than the number of terms.
+abbrev pub CopiesFit : Automaton → Type 0
+CopiesFit a = count (terms a.formula) ≤ MOST_TERMS → (copied a).states < 2 ^ 32

@@ -1,0 +1,17 @@
+pub mod Accepted
+pub mod Backwards
+pub mod Conditions
+pub mod Dividing
+pub mod Grouping
+pub mod Judgements
+pub mod Lettered
+pub mod Marked
+pub mod Members
+pub mod Outcomes
+pub mod Parts
+pub mod Passable
+pub mod Picking
+pub mod Searching
+pub mod Sufficient
+pub mod Touring
+pub mod Trails

@@ -1,0 +1,71 @@
+-- The edges of links whose label is not false, link by link.
+use Rattle.std.proofs.Common.{◌≡◌, ◌∙◌, ℕ, ◌+◌, ◌<◌, ◌≤◌, List, [], ◌∷◌, ◌++◌, length, Some, slice_get, inl, inr, ap, arith, refl, subst, sym}
+use Rattle.std.specs.List.{Contains}
+use Rattle.std.proofs.lemmas.Bool.{cases_lt}
+use Rattle.std.proofs.lemmas.List.Elements.{Contains-append_left, Contains-push, Contains-push_cases}
+use Rattle.std.proofs.lemmas.Option.{same_Some, slice_get_within}
+use Rattle.aut_core.specs.Core.{Core}
+use Rattle.aut_core.specs.declared.link.Link.{Link}
+use Rattle.label_guards.specs.Guards.{IsNeverMet}
+use Rattle.lasso_emptiness.specs.declared.live.LiveEdge.{LiveEdge}
+use Rattle.lasso_emptiness.specs.inner.Live.{ArePassable, IsPassable}
+use Rattle.lasso_emptiness.proofs.Members.{contains_nil}
+
+-- these are the edges of the links before a place whose label is not false
+pub record PassableBelow (c : Core) (place : ℕ) (edges : List LiveEdge) : Type 0 where
+  pub each : (e : LiveEdge) → Contains edges e → IsPassable c e
+  pub whole : (e : LiveEdge) → IsPassable c e → e.link < place → Contains edges e
+
+pub passable_none : (c : Core) → PassableBelow c 0 []
+passable_none c = record {
+  each = λ e here. absurd (contains_nil e here);
+  whole = λ e passable below. absurd (omega arith);
+}
+
+same_edge : (d e : LiveEdge) → d.from ≡ e.from → d.to ≡ e.to → d.link ≡ e.link → d ≡ e
+same_edge d e from to link =
+    ap (λ (x : ℕ). let made : LiveEdge = record { from = x; to = d.to; link = d.link } in made) from
+    ∙ ap (λ (x : ℕ). let made : LiveEdge = record { from = e.from; to = x; link = d.link } in made) to
+    ∙ ap (λ (x : ℕ). let made : LiveEdge = record { from = e.from; to = e.to; link = x } in made) link
+
+-- the edge of a link
+abbrev pub edge_from : Link → ℕ → LiveEdge
+edge_from l place = record { from = l.from; to = l.to; link = place }
+
+module _ (c : Core) (place : ℕ) (edges new : List LiveEdge) (l : Link) (is : slice_get c.links place ≡ Some l) (before : PassableBelow c place edges) where
+  -- an edge of the link at the place
+  is_here : (e : LiveEdge) (passable : IsPassable c e) → e.link ≡ place → passable.link ≡ l
+  is_here e passable same = same_Some _ _ (sym passable.at.stands ∙ ap (slice_get c.links) same ∙ is)
+
+  pub passable_pushed : new ≡ edges ++ edge_from l place ∷ [] → (IsNeverMet c.store l.guard → ⊥) → PassableBelow c (place + 1) new
+  passable_pushed made some = subst (PassableBelow c (place + 1)) (sym made) (record { each = each; whole = whole })
+    where
+      each : (e : LiveEdge) → Contains (edges ++ edge_from l place ∷ []) e → IsPassable c e
+      each e here = elim (Contains-push_cases edges (edge_from l place) e here) [
+        | inl old ↦ before.each e old
+        | inr same ↦ subst (IsPassable c) same (record { link = l; at = record { stands = is; from = refl; to = refl }; some = some })
+      ]
+
+      whole : (e : LiveEdge) → IsPassable c e → e.link < place + 1 → Contains (edges ++ edge_from l place ∷ []) e
+      whole e passable below = elim (cases_lt e.link place) [
+        | inl earlier ↦ Contains-append_left edges (edge_from l place ∷ []) e (before.whole e passable earlier)
+        | inr later ↦ (let at : e.link ≡ place = omega arith in
+            let link = is_here e passable at in
+            let same : edge_from l place ≡ e = sym (same_edge e (edge_from l place) (passable.at.from ∙ ap (λ (m : Link). m.from) link) (passable.at.to ∙ ap (λ (m : Link). m.to) link) at) in
+            subst (Contains (edges ++ edge_from l place ∷ [])) same (Contains-push edges (edge_from l place)))
+      ]
+
+  pub passable_skipped : IsNeverMet c.store l.guard → PassableBelow c (place + 1) edges
+  passable_skipped never = record {
+    each = before.each;
+    whole = λ e passable below. elim (cases_lt e.link place) [
+      | inl earlier ↦ before.whole e passable earlier
+      | inr later ↦ (let at : e.link ≡ place = omega arith in absurd (passable.some (subst (λ (m : Link). IsNeverMet c.store m.guard) (sym (is_here e passable at)) never)))
+    ];
+  }
+
+pub passable_all : (c : Core) (place : ℕ) (edges : List LiveEdge) → length c.links ≤ place → PassableBelow c place edges → ArePassable c edges
+passable_all c place edges all below = record {
+  each = below.each;
+  whole = λ e passable. let within = slice_get_within c.links e.link passable.link passable.at.stands in below.whole e passable (omega arith);
+}

@@ -1,0 +1,88 @@
+use Rattle.std.proofs.Common.{◌∙◌, List, ap, arith, map, subst, sym}
+use Rattle.std.specs.List.{All, Contains}
+use Rattle.std.specs.Prelude.{OnOk}
+use Rattle.std.proofs.lemmas.Option.{same_Some}
+use Rattle.aut_base.specs.Formula.{formula_list, formula_size, formula_tree, met}
+use Rattle.aut_base.specs.declared.formula.Formula.{Formula}
+use Rattle.aut_base.proofs.FormulaSizes.{formula_size-And, formula_size-Or, formula_size-at}
+use Rattle.aut_base.proofs.FormulaTrees.{formula_tree-Fin, formula_tree-True}
+use Rattle.aut_base.proofs.Steps.{any_more}
+use Rattle.acc_forms.proofs.Parts.{met-And, met-Or}
+use Rattle.lasso_emptiness.specs.declared.live.LiveEdge.{LiveEdge}
+use Rattle.lasso_emptiness.specs.inner.Edges.{marks_of, met_along}
+use Rattle.lasso_emptiness.specs.inner.Needed.{Serves, ServesAll, ServesOne}
+use Rattle.lasso_emptiness.proofs.Judgements.{not_met}
+use Rattle.lasso_emptiness.proofs.Members.{all_passes_at}
+use Rattle.lasso_emptiness.proofs.Outcomes.{ok_weaker}
+use Rattle.lasso_emptiness.proofs.Sufficient.{fin_fewer, serves-And, serves-Or, suits_all_more, suits_one, suits_same}
+use Rattle.lasso_emptiness.proofs.needed.+needed.Goals as goal
+
+pub add_for_all-add_needed-requires : goal.add_for_all-add_needed-requires
+add_for_all-add_needed-requires t c =
+    let part = formula_tree c.at.result.now in
+    let smaller = formula_size-at (formula_list c.args.parts.now) c.parts.place part c.at.ensures in
+    (omega arith, (c.requires.within, (all_passes_at (met (map (marks_of c.args.links.now) c.args.edges.now)) (formula_list c.args.parts.now) c.parts.place part c.at.ensures c.requires.met, c.parts.invariant.inside)))
+
+pub add_for_all-parts-preserved : goal.add_for_all-parts-preserved
+add_for_all-parts-preserved t c =
+    suits_all_more c.args.links.now c.args.edges.now (formula_list c.args.parts.now) c.parts.place (formula_tree c.at.result.now) _ _ _ c.at.ensures c.parts.invariant c.in_ok-add_needed.ensures
+
+pub add_for_one-add_needed-requires : goal.add_for_one-add_needed-requires
+add_for_one-add_needed-requires t c =
+    let smaller = formula_size-at (formula_list c.args.parts.now) c.parts.place (formula_tree c.at-in-Met.result.now) c.at-in-Met.ensures in
+    let same = same_Some _ _ (sym c.at.ensures ∙ c.at-in-Met.ensures) in
+    (omega arith, (c.requires.within, (ap (met_along c.args.links.now c.args.edges.now) (sym same) ∙ c.in-Met.ensures, subst (All (Contains c.args.edges.now)) (sym c.parts.invariant.same) c.requires.inside)))
+
+pub add_for_one-returns-in-Met : goal.add_for_one-returns-in-Met
+add_for_one-returns-in-Met t c =
+    let old = subst (λ (es : List LiveEdge). OnOk c.add_needed.result (Serves c.args.links.now c.args.edges.now (formula_tree c.at-in-Met.result.now) es c.add_needed.new.needed)) c.parts.invariant.same c.add_needed.ensures in
+    ok_weaker c.add_needed.result (Serves c.args.links.now c.args.edges.now (formula_tree c.at-in-Met.result.now) c.args.needed.now c.add_needed.new.needed) (ServesOne c.args.links.now c.args.edges.now (formula_list c.args.parts.now) c.args.needed.now c.add_needed.new.needed)
+    (suits_one c.args.links.now c.args.edges.now (formula_list c.args.parts.now) c.parts.place (formula_tree c.at-in-Met.result.now) c.args.needed.now c.add_needed.new.needed c.at-in-Met.ensures)
+    old
+
+pub add_for_one-parts-preserved : goal.add_for_one-parts-preserved
+add_for_one-parts-preserved t c =
+    let cycle = map (marks_of c.args.links.now) c.args.edges.now in
+    let part = formula_tree c.at.result.now in
+    record {
+      same = c.parts.invariant.same;
+      none_met = any_more (met cycle) (formula_list c.args.parts.now) c.parts.place part c.at.ensures c.parts.invariant.none_met (not_met cycle part c.judge.result c.judge.ensures c.in_default.not-Met);
+    }
+
+pub add_needed-add_for_all-requires : goal.add_needed-add_for_all-requires
+add_needed-add_for_all-requires t c =
+    let smaller = ap (λ (f : Formula). formula_size (formula_tree f)) c.in-And.is ∙ formula_size-And c.in-And.parts in
+    let parts = sym (ap (λ (f : Formula). met_along c.args.links.now c.args.edges.now (formula_tree f)) c.in-And.is ∙ met-And (map (marks_of c.args.links.now) c.args.edges.now) c.in-And.parts) in
+    (omega arith, (c.requires.within, (parts ∙ c.requires.met, c.requires.inside)))
+
+pub add_needed-add_for_one-requires : goal.add_needed-add_for_one-requires
+add_needed-add_for_one-requires t c =
+    let smaller = ap (λ (f : Formula). formula_size (formula_tree f)) c.in-Or.is ∙ formula_size-Or c.in-Or.parts in
+    let parts = sym (ap (λ (f : Formula). met_along c.args.links.now c.args.edges.now (formula_tree f)) c.in-Or.is ∙ met-Or (map (marks_of c.args.links.now) c.args.edges.now) c.in-Or.parts) in
+    (omega arith, (c.requires.within, (parts ∙ c.requires.met, c.requires.inside)))
+
+pub add_needed-returns-in-True : goal.add_needed-returns-in-True
+add_needed-returns-in-True t c =
+    suits_same c.args.links.now c.args.edges.now _ c.args.needed.now c.requires.inside (λ cycle within has. ap (λ (f : Formula). met_along c.args.links.now cycle (formula_tree f)) c.in-True.is ∙ ap (met_along c.args.links.now cycle) formula_tree-True)
+
+pub add_needed-returns-in-Fin : goal.add_needed-returns-in-Fin
+add_needed-returns-in-Fin t c =
+    let fin = ap formula_tree c.in-Fin.is ∙ formula_tree-Fin c.in-Fin.set c.in-Fin.neg in
+    suits_same c.args.links.now c.args.edges.now _ c.args.needed.now c.requires.inside
+    (λ cycle within has. ap (met_along c.args.links.now cycle) fin ∙ fin_fewer c.args.links.now c.args.edges.now c.in-Fin.set c.in-Fin.neg cycle within (sym (ap (met_along c.args.links.now c.args.edges.now) fin) ∙ c.requires.met))
+
+pub add_needed-returns-in-And : goal.add_needed-returns-in-And
+add_needed-returns-in-And t c =
+    let links = c.args.links.now in
+    let edges = c.args.edges.now in
+    ok_weaker c.add_for_all.result (ServesAll links edges (formula_list c.in-And.parts) c.args.needed.now c.add_for_all.new.needed) (Serves links edges (formula_tree c.args.condition.now) c.args.needed.now c.add_for_all.new.needed)
+    (λ parts. subst (λ (f : Formula). Serves links edges (formula_tree f) c.args.needed.now c.add_for_all.new.needed) (sym c.in-And.is) (serves-And links edges c.in-And.parts c.args.needed.now c.add_for_all.new.needed parts))
+    c.add_for_all.ensures
+
+pub add_needed-returns-in-Or : goal.add_needed-returns-in-Or
+add_needed-returns-in-Or t c =
+    let links = c.args.links.now in
+    let edges = c.args.edges.now in
+    ok_weaker c.add_for_one.result (ServesOne links edges (formula_list c.in-Or.parts) c.args.needed.now c.add_for_one.new.needed) (Serves links edges (formula_tree c.args.condition.now) c.args.needed.now c.add_for_one.new.needed)
+    (λ parts. subst (λ (f : Formula). Serves links edges (formula_tree f) c.args.needed.now c.add_for_one.new.needed) (sym c.in-Or.is) (serves-Or links edges c.in-Or.parts c.args.needed.now c.add_for_one.new.needed parts))
+    c.add_for_one.ensures

@@ -1,0 +1,101 @@
+use Rattle.std.proofs.Common.{◌<◌, List, ap, arith, false, length, subst, sym, true}
+use Rattle.std.specs.List.{All, Contains}
+use Rattle.std.proofs.lemmas.List.Elements.{All-contains}
+use Rattle.std.proofs.lemmas.Result.{IfOk-weaker}
+use Rattle.aut_base.specs.Formula.{FormulaTree, formula_tree}
+use Rattle.lasso_emptiness.specs.declared.live.LiveEdge.{LiveEdge}
+use Rattle.lasso_emptiness.specs.inner.Edges.{IsWithin}
+use Rattle.lasso_emptiness.specs.inner.Groups.{IsJoined}
+use Rattle.lasso_emptiness.specs.inner.Judged.{fins}
+use Rattle.lasso_emptiness.specs.inner.Splits.{IsSurveyed}
+use Rattle.lasso_emptiness.specs.inner.Trails.{Finds, FindsInAny, InSome, IsAccepting, NoneAccepting}
+use Rattle.lasso_emptiness.proofs.Conditions.{fins-taken}
+use Rattle.lasso_emptiness.proofs.Members.{all_from}
+use Rattle.lasso_emptiness.proofs.Outcomes.{none_said, some_said}
+use Rattle.lasso_emptiness.proofs.Searching.{accepting_weaker, finds_of_groups, finds_of_split, found_off, within_all}
+use Rattle.lasso_emptiness.proofs.search.+search.Goals as goal
+
+pub search-search_in-requires : goal.search-search_in-requires
+search-search_in-requires t c =
+    let Within = IsWithin (length c.args.links.now) c.args.states in (
+      omega arith,
+      (
+        all_from (All Within) c.in_ok-groups.groups.items (λ group listed. all_from Within group (λ e here. All-contains Within c.args.edges.now e c.requires ((c.in_ok-groups.ensures.each group listed).inside e here))),
+        all_from IsJoined c.in_ok-groups.groups.items (λ group listed. (c.in_ok-groups.ensures.each group listed).joined),
+      ),
+    )
+
+pub search-returns : goal.search-returns
+search-returns t c =
+    let f = formula_tree c.args.condition.now in
+    IfOk-weaker c.search_in.result (FindsInAny c.args.links.now c.in_ok-groups.groups.items f) (Finds c.args.links.now (Contains c.args.edges.now) f)
+    (finds_of_groups c.args.links.now c.args.edges.now c.in_ok-groups.groups.items f c.in_ok-groups.ensures)
+    c.search_in.ensures
+
+pub search_in-divide-requires : goal.search_in-divide-requires
+search_in-divide-requires t c =
+    let said = subst (IsSurveyed c.args.links.now c.args.groups.items (formula_tree c.args.condition.now)) c.in-Open.is c.in_ok-group.ensures in
+    let Linked = λ (e : LiveEdge). e.link < length c.args.links.now in
+    all_from (All Linked) c.in-Open.left.items (λ group listed. all_from Linked group (λ e here. (within_all (IsWithin (length c.args.links.now) c.args.states) c.args.groups.items c.requires.within group (said.1.inside group listed) e here).link))
+
+pub search_in-search-requires : goal.search_in-search-requires
+search_in-search-requires t c =
+    let f = formula_tree c.args.condition.now in
+    let said = subst (IsSurveyed c.args.links.now c.args.groups.items f) c.in-Open.is c.in_ok-group.ensures in
+    let fewer = fins-taken c.in-Open.side.set c.in-Open.side.neg true f said.0 in
+    let same = ap fins c.in_ok-holds-in-Open.ensures in
+    let Within = IsWithin (length c.args.links.now) c.args.states in (
+      omega arith,
+      subst (All Within) (sym c.as_slice-in-Open.ensures) (all_from Within c.in_ok-parts-in-Open.parts.off (λ e here.
+          let some = c.in_ok-parts-in-Open.ensures.off_some e here in
+          within_all Within c.args.groups.items c.requires.within some.group (said.1.inside some.group some.listed) e some.here)),
+    )
+
+pub search_in-returns-in-Some : goal.search_in-returns-in-Some
+search_in-returns-in-Some t c =
+    let links = c.args.links.now in
+    let f = formula_tree c.args.condition.now in
+    let side = c.in-Open.side in
+    let said = subst (IsSurveyed links c.args.groups.items f) c.in-Open.is c.in_ok-group.ensures in
+    let found = some_said (NoneAccepting links (Contains c.as_slice-in-Open.result.now) (formula_tree c.in_ok-holds-in-Open.holds)) (IsAccepting links (Contains c.as_slice-in-Open.result.now) (formula_tree c.in_ok-holds-in-Open.holds)) c.in_ok-cycle-in-Open.field-0 c.in-Some.cycle c.in-Some.is c.in_ok-cycle-in-Open.ensures in
+    let off = subst (λ (es : List LiveEdge). IsAccepting links (Contains es) (formula_tree c.in_ok-holds-in-Open.holds) c.in-Some.cycle) c.as_slice-in-Open.ensures found in
+    found_off links side.set side.neg f c.args.groups.items c.in-Open.left.items c.in_ok-parts-in-Open.parts.crossed.items c.in_ok-parts-in-Open.parts.off said.1 c.in_ok-parts-in-Open.ensures c.in-Some.cycle
+    (subst (λ (g : FormulaTree). IsAccepting links (Contains c.in_ok-parts-in-Open.parts.off) g c.in-Some.cycle) c.in_ok-holds-in-Open.ensures off)
+
+pub search_in-search_in-requires : goal.search_in-search_in-requires
+search_in-search_in-requires t c =
+    let f = formula_tree c.args.condition.now in
+    let said = subst (IsSurveyed c.args.links.now c.args.groups.items f) c.in-Open.is c.in_ok-group.ensures in
+    let fewer = fins-taken c.in-Open.side.set c.in-Open.side.neg false f said.0 in
+    let same = ap fins c.in_ok-fails-in-Open.ensures in
+    let Within = IsWithin (length c.args.links.now) c.args.states in
+    let crossed = c.in_ok-parts-in-Open.parts.crossed.items in (
+      omega arith,
+      (
+        all_from (All Within) crossed (λ group listed. All-contains (All Within) c.args.groups.items group c.requires.within (said.1.inside group (c.in_ok-parts-in-Open.ensures.inside group listed))),
+        all_from IsJoined crossed (λ group listed. All-contains IsJoined c.args.groups.items group c.requires.joined (said.1.inside group (c.in_ok-parts-in-Open.ensures.inside group listed))),
+      ),
+    )
+
+pub search_in-returns-in_ok-cycle-in-Met : goal.search_in-returns-in_ok-cycle-in-Met
+search_in-returns-in_ok-cycle-in-Met t c =
+    let links = c.args.links.now in
+    let f = formula_tree c.args.condition.now in
+    let said = subst (IsSurveyed links c.args.groups.items f) c.in-Met.is c.in_ok-group.ensures in
+    accepting_weaker links (Contains c.in-Met.group) (InSome c.args.groups.items) f c.in_ok-cycle-in-Met.cycle
+    (λ e here. record { group = c.in-Met.group; listed = said.listed; here = here })
+    (subst (λ (es : List LiveEdge). IsAccepting links (Contains es) f c.in_ok-cycle-in-Met.cycle) c.as_slice.ensures c.in_ok-cycle-in-Met.ensures)
+
+pub search_in-returns-in_ok-fails-in-Open : goal.search_in-returns-in_ok-fails-in-Open
+search_in-returns-in_ok-fails-in-Open t c =
+    let links = c.args.links.now in
+    let f = formula_tree c.args.condition.now in
+    let side = c.in-Open.side in
+    let off = c.in_ok-parts-in-Open.parts.off in
+    let crossed = c.in_ok-parts-in-Open.parts.crossed.items in
+    let said = subst (IsSurveyed links c.args.groups.items f) c.in-Open.is c.in_ok-group.ensures in
+    let none = none_said (NoneAccepting links (Contains c.as_slice-in-Open.result.now) (formula_tree c.in_ok-holds-in-Open.holds)) (IsAccepting links (Contains c.as_slice-in-Open.result.now) (formula_tree c.in_ok-holds-in-Open.holds)) c.in_ok-cycle-in-Open.field-0 c.in_default.is c.in_ok-cycle-in-Open.ensures in
+    let none_off = subst (λ (g : FormulaTree). NoneAccepting links (Contains off) g) c.in_ok-holds-in-Open.ensures (subst (λ (es : List LiveEdge). NoneAccepting links (Contains es) (formula_tree c.in_ok-holds-in-Open.holds)) c.as_slice-in-Open.ensures none) in
+    IfOk-weaker c.search_in.result (FindsInAny links crossed (formula_tree c.in_ok-fails-in-Open.fails)) (FindsInAny links c.args.groups.items f)
+    (λ found finds. finds_of_split links side.set side.neg f c.args.groups.items c.in-Open.left.items crossed off said.1 c.in_ok-parts-in-Open.ensures none_off found (subst (λ (g : FormulaTree). FindsInAny links crossed g found) c.in_ok-fails-in-Open.ensures finds))
+    c.search_in.ensures

@@ -1,0 +1,19 @@
+use Rattle.std.proofs.Common.{◌≡◌, ◌++◌, map, refl}
+use Rattle.std.specs.List.{Contains}
+use Rattle.graph_walk.specs.Path.{IsShortest}
+use Rattle.graph_walk.specs.Walk.{Reaches}
+use Rattle.lasso_emptiness.specs.inner.Tours.{GoesOn, edge_at}
+use Rattle.lasso_emptiness.proofs.Outcomes.{ok_weaker, some_said}
+use Rattle.lasso_emptiness.proofs.Touring.{way_added}
+use Rattle.lasso_emptiness.proofs.Trails.{has_nodes}
+use Rattle.lasso_emptiness.proofs.tour.add_way.Goals as goal
+
+pub path-requires-clause-nodes : goal.path-requires-clause-nodes
+path-requires-clause-nodes c = has_nodes _ _ _ c.args.edges.now refl c.requires.arcs c.requires.ends
+
+pub returns-in-Some : goal.returns-in-Some
+returns-in-Some c =
+    ok_weaker c.add_places.result (c.add_places.new.way ≡ c.args.way.now ++ map (edge_at c.args.edges.now) c.as_slice.result.now) (GoesOn (Contains c.args.edges.now) c.args.from c.args.to c.args.way.now c.add_places.new.way)
+    (way_added c.args.edges.now c.args.graph.now.arcs _ c.as_slice.result.now c.args.from c.args.to c.args.way.now c.add_places.new.way c.requires.arcs c.as_slice.ensures
+    (some_said (¬ Reaches c.args.graph.now.arcs c.args.from c.args.to) (IsShortest c.args.graph.now.arcs c.args.from c.args.to) c.in_ok-places.field-0 c.in-Some.places c.in-Some.is c.in_ok-places.ensures))
+    c.add_places.ensures

@@ -1,0 +1,12 @@
+-- What the inner functions speak of.
+pub mod Edges
+pub mod Groups
+pub mod Judged
+pub mod Letters
+pub mod Live
+pub mod Needed
+pub mod Picked
+pub mod Splits
+pub mod Taken
+pub mod Tours
+pub mod Trails

@@ -1,0 +1,35 @@
+-- Edges by their ends and the place of their link, and the sides of acceptance sets that they are on.
+use Rattle.std.specs.Prelude.{ℕ, ◌<◌, Bool, true, false, not, List, [], map}
+use Rattle.std.specs.List.{slice_index_or}
+use Rattle.aut_base.specs.Formula.{FormulaTree, met}
+use Rattle.aut_base.specs.Marks.{is_in}
+use Rattle.aut_core.specs.declared.link.Link.{Link}
+use Rattle.lasso_emptiness.specs.declared.live.LiveEdge.{LiveEdge}
+
+-- Whether an edge with these marks is in the set, or where the set is negated outside of it. `Inf` asks that some edge
+-- of a cycle be on its side, `Fin` that none be.
+abbrev pub on_side : ℕ → Bool → List ℕ → Bool
+on_side set false marks = is_in set marks
+on_side set true marks = not (is_in set marks)
+
+-- the acceptance sets of the edge, which its link has
+abbrev pub marks_of : List Link → LiveEdge → List ℕ
+marks_of links e = slice_index_or (map (λ l. l.marks) links) e.link []
+
+-- whether the condition is met by a cycle of these edges
+abbrev pub met_along : List Link → List LiveEdge → FormulaTree → Bool
+met_along links edges f = met (map (marks_of links) edges) f
+
+-- the edge has a link, and states for its ends
+pub record IsWithin (links : ℕ) (states : ℕ) (e : LiveEdge) : Type 0 where
+  pub link : e.link < links
+  pub from : e.from < states
+  pub to : e.to < states
+
+-- the edge as an arc of a graph
+abbrev pub arc_of : LiveEdge → ℕ × ℕ
+arc_of e = (e.from, e.to)
+
+-- the same turned around
+abbrev pub back_arc_of : LiveEdge → ℕ × ℕ
+back_arc_of e = (e.to, e.from)

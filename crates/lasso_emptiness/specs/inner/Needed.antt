@@ -1,0 +1,29 @@
+-- Edges that a closed path has to pass for a condition to be met.
+use Rattle.std.specs.Prelude.{◌≡◌, ℕ, ◌<◌, true, List, All, Contains, length, map}
+use Rattle.std.specs.List.{list_all, list_any}
+use Rattle.aut_base.specs.Formula.{FormulaTree, met}
+use Rattle.aut_core.specs.declared.link.Link.{Link}
+use Rattle.lasso_emptiness.specs.declared.live.LiveEdge.{LiveEdge}
+use Rattle.lasso_emptiness.specs.inner.Edges.{marks_of}
+
+-- Edges were added, so that each cycle of these edges that has all of them passes the test.
+pub record Suits (links : List Link) (edges : List LiveEdge) (test : List (List ℕ) → Type 0) (old new : List LiveEdge) : Type 0 where
+  pub kept : All (Contains new) old
+  pub inside : All (Contains edges) new
+  pub enough : (cycle : List LiveEdge) → All (Contains edges) cycle → All (Contains cycle) new → test (map (marks_of links) cycle)
+
+-- .. meets the condition
+abbrev pub Serves : List Link → List LiveEdge → FormulaTree → List LiveEdge → List LiveEdge → Type 0
+Serves links edges f = Suits links edges (λ marks. met marks f ≡ true)
+
+abbrev pub ServesAll : List Link → List LiveEdge → List FormulaTree → List LiveEdge → List LiveEdge → Type 0
+ServesAll links edges fs = Suits links edges (λ marks. list_all (met marks) fs ≡ true)
+
+abbrev pub ServesOne : List Link → List LiveEdge → List FormulaTree → List LiveEdge → List LiveEdge → Type 0
+ServesOne links edges fs = Suits links edges (λ marks. list_any (met marks) fs ≡ true)
+
+-- edges of these, one at least: each cycle of these edges that has all of them meets the condition
+pub record AreNeeded (links : List Link) (edges : List LiveEdge) (f : FormulaTree) (needed : List LiveEdge) : Type 0 where
+  pub some : 0 < length needed
+  pub inside : All (Contains edges) needed
+  pub enough : (cycle : List LiveEdge) → All (Contains edges) cycle → All (Contains cycle) needed → met (map (marks_of links) cycle) f ≡ true

@@ -1,0 +1,107 @@
+//! Edges of an automaton as a search sees them, and the graph that they make.
+
+ghost use Rattle.std.specs.Prelude.{◌≡◌, ◌<◌, ℕ, [], true, false, All, IfOk, length, map};
+ghost use Rattle.std.specs.List.{slice_index_or};
+ghost use Rattle.lasso_emptiness.specs.declared.live.LiveEdge.{LiveEdge};
+ghost use Rattle.lasso_emptiness.specs.inner.Edges.{arc_of, back_arc_of};
+ghost use Rattle.lasso_emptiness.specs.inner.Live.{ArePassable, AreReachedEdges};
+ghost use Rattle.lasso_emptiness.specs.inner.Picked.{Picks};
+
+use aut_base::{Arcs, Memory, Seq};
+use aut_core::Automaton;
+use graph_walk::{Graph, reach};
+use std::alloc::Global;
+
+/// An edge: its ends, and the place of its link in the automaton.
+#[derive(Clone, Copy, Debug)]
+pub(crate) struct LiveEdge {
+    pub(crate) from: u32,
+    pub(crate) to: u32,
+    pub(crate) link: usize,
+}
+
+/// Edges, in order.
+pub(crate) type LiveEdges = Seq<LiveEdge>;
+
+/// The edges whose label isn't false.
+pub(crate) fn passable_edges(alloc: Global, a: &Automaton) -> Result<LiveEdges, Memory>
+    ensures { IfOk result (ArePassable a.now) }
+{
+    a.whole();
+    let mut edges = LiveEdges::new(alloc);
+    'links: for (place, link) in a.links().iter().enumerate() {
+        if a.guards().is_false(link.guard) {
+            continue;
+        }
+        edges.push(LiveEdge {
+            from: link.from,
+            to: link.to,
+            link: place,
+        })?;
+    }
+    Ok(edges)
+}
+
+/// Those of the edges that leave a state which is reached along them from a start.
+pub(crate) fn reached_edges(
+    alloc: Global,
+    a: &Automaton,
+    edges: &[LiveEdge],
+) -> Result<LiveEdges, Memory>
+    requires { All (λ e. (e.from < a.now.states) × (e.to < a.now.states)) edges.now }
+    ensures { IfOk result (AreReachedEdges a.now.starts edges.now) }
+{
+    a.whole();
+    let graph = graph_of(alloc, a.states(), edges)?;
+    let flags = reach(alloc, &graph, a.starts())?;
+    flagged_edges(alloc, edges, flags.as_slice())
+}
+
+/// Those of the edges that leave a flagged state.
+fn flagged_edges(alloc: Global, edges: &[LiveEdge], flags: &[bool]) -> Result<LiveEdges, Memory>
+    requires { All (λ e. e.from < length flags.now) edges.now }
+    ensures { IfOk result (Picks (λ e. slice_index_or flags.now e.from false ≡ true) edges.now []) }
+{
+    let mut flagged = LiveEdges::new(alloc);
+    'edges: for edge in edges {
+        if !flags[edge.from as usize] {
+            continue;
+        }
+        flagged.push(*edge)?;
+    }
+    Ok(flagged)
+}
+
+/// The graph of these edges.
+pub(crate) fn graph_of(alloc: Global, states: u32, edges: &[LiveEdge]) -> Result<Graph, Memory>
+    ensures nodes { IfOk result (λ graph. graph.nodes ≡ states) }
+    ensures arcs { IfOk result (λ graph. graph.arcs ≡ map arc_of edges.now) }
+{
+    let mut arcs = Arcs::new(alloc);
+    'edges: for edge in edges {
+        arcs.push((edge.from, edge.to))?;
+    }
+    Ok(Graph {
+        nodes: states,
+        arcs,
+    })
+}
+
+/// The graph of these edges, each turned around.
+pub(crate) fn backward_graph_of(
+    alloc: Global,
+    states: u32,
+    edges: &[LiveEdge],
+) -> Result<Graph, Memory>
+    ensures nodes { IfOk result (λ graph. graph.nodes ≡ states) }
+    ensures arcs { IfOk result (λ graph. graph.arcs ≡ map back_arc_of edges.now) }
+{
+    let mut arcs = Arcs::new(alloc);
+    'edges: for edge in edges {
+        arcs.push((edge.to, edge.from))?;
+    }
+    Ok(Graph {
+        nodes: states,
+        arcs,
+    })
+}

@@ -1,0 +1,131 @@
+//! Edges of a component that a closed path has to pass for a condition to be met.
+
+ghost use Rattle.std.specs.Prelude.{◌≡◌, ◌<◌, ℕ, true, List, All, Contains, IfOk, OnOk, length, map};
+ghost use Rattle.std.specs.List.{list_all, list_any};
+ghost use Rattle.aut_base.specs.Formula.{FormulaTree, formula_tree, formula_list, met};
+ghost use Rattle.lasso_emptiness.specs.declared.live.LiveEdge.{LiveEdge};
+ghost use Rattle.lasso_emptiness.specs.inner.Edges.{marks_of, met_along};
+ghost use Rattle.lasso_emptiness.specs.inner.Needed.{AreNeeded, Serves, ServesAll, ServesOne};
+
+use crate::judge::judge;
+use crate::live::{LiveEdge, LiveEdges};
+use crate::side::Side;
+use crate::verdict::Verdict;
+use aut_base::{Formula, Formulas, Memory};
+use aut_core::Link;
+use std::alloc::Global;
+
+/// Edges of a component, one at least, such that each cycle of the component's edges that passes all of them meets the
+/// condition.
+pub(crate) fn needed_edges(
+    alloc: Global,
+    links: &[Link],
+    edges: &[LiveEdge],
+    condition: &Formula,
+) -> Result<LiveEdges, Memory>
+    requires within { All (λ e. e.link < length links.now) edges.now }
+    requires some { 0 < length edges.now }
+    requires met { met_along links.now edges.now (formula_tree condition.now) ≡ true }
+    ensures { IfOk result (AreNeeded links.now edges.now (formula_tree condition.now)) }
+{
+    let mut needed = LiveEdges::new(alloc);
+    add_needed(links, edges, condition, &mut needed)?;
+    if !needed.is_empty() {
+        return Ok(needed);
+    }
+    needed.push(edges[0])?;
+    Ok(needed)
+}
+
+/// Adds edges such that each cycle of the component's edges that passes all of them meets the condition. For each `Inf`
+/// that is needed it is one edge at most.
+#[cycle(needed)]
+fn add_needed(
+    links: &[Link],
+    edges: &[LiveEdge],
+    condition: &Formula,
+    needed: &mut LiveEdges,
+) -> Result<(), Memory>
+    requires within { All (λ e. e.link < length links.now) edges.now }
+    requires met { met_along links.now edges.now (formula_tree condition.now) ≡ true }
+    requires inside { All (Contains edges.now) needed.old }
+    ensures { OnOk result (Serves links.now edges.now (formula_tree condition.now) needed.old needed.new) }
+{
+    match condition {
+        Formula::True => Ok(()),
+        Formula::False => Ok(()),
+        Formula::Fin { .. } => Ok(()),
+        Formula::Inf { set, neg } => add_on_side(
+            links,
+            edges,
+            Side {
+                set: *set,
+                neg: *neg,
+            },
+            needed,
+        ),
+        Formula::And(parts) => add_for_all(links, edges, parts, needed),
+        Formula::Or(parts) => add_for_one(links, edges, parts, needed),
+    }
+}
+
+/// Adds an edge on this side, where none is there yet.
+fn add_on_side(
+    links: &[Link],
+    edges: &[LiveEdge],
+    side: Side,
+    needed: &mut LiveEdges,
+) -> Result<(), Memory>
+    requires within { All (λ e. e.link < length links.now) edges.now }
+    requires met { met_along links.now edges.now (FormulaTree.Inf side.set side.neg) ≡ true }
+    requires inside { All (Contains edges.now) needed.old }
+    ensures { OnOk result (Serves links.now edges.now (FormulaTree.Inf side.set side.neg) needed.old needed.new) }
+{
+    if side.first_of(links, needed.as_slice()).is_some() {
+        return Ok(());
+    }
+    match side.first_of(links, edges) {
+        Some(edge) => needed.push(edge),
+        None => Ok(()),
+    }
+}
+
+/// Adds what each part needs.
+#[cycle(needed)]
+fn add_for_all(
+    links: &[Link],
+    edges: &[LiveEdge],
+    parts: &Formulas,
+    needed: &mut LiveEdges,
+) -> Result<(), Memory>
+    requires within { All (λ e. e.link < length links.now) edges.now }
+    requires met { list_all (met (map (marks_of links.now) edges.now)) (formula_list parts.now) ≡ true }
+    requires inside { All (Contains edges.now) needed.old }
+    ensures { OnOk result (ServesAll links.now edges.now (formula_list parts.now) needed.old needed.new) }
+{
+    'parts: for place in 0..parts.len() {
+        add_needed(links, edges, parts.at(place), needed)?;
+    }
+    Ok(())
+}
+
+/// Adds what the first part needs that all edges meet.
+#[cycle(needed)]
+fn add_for_one(
+    links: &[Link],
+    edges: &[LiveEdge],
+    parts: &Formulas,
+    needed: &mut LiveEdges,
+) -> Result<(), Memory>
+    requires within { All (λ e. e.link < length links.now) edges.now }
+    requires met { list_any (met (map (marks_of links.now) edges.now)) (formula_list parts.now) ≡ true }
+    requires inside { All (Contains edges.now) needed.old }
+    ensures { OnOk result (ServesOne links.now edges.now (formula_list parts.now) needed.old needed.new) }
+{
+    'parts: for place in 0..parts.len() {
+        if let Verdict::Met = judge(links, edges, parts.at(place)) {
+            return add_needed(links, edges, parts.at(place), needed);
+        }
+    }
+    Ok(())
+}

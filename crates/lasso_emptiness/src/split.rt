@@ -1,0 +1,62 @@
+//! Groups of edges, divided by the side of a `Fin`.
+
+ghost use Rattle.std.specs.Prelude.{◌≡◌, ◌<◌, ℕ, List, All, IfOk, OnOk, length};
+ghost use Rattle.lasso_emptiness.specs.declared.live.LiveEdge.{LiveEdge};
+ghost use Rattle.lasso_emptiness.specs.inner.Splits.{AddsOff, IsSplit};
+
+use crate::groups::Groups;
+use crate::live::{LiveEdge, LiveEdges};
+use crate::side::Side;
+use aut_base::Memory;
+use aut_core::Link;
+use std::alloc::Global;
+
+/// Groups divided by a side.
+#[derive(Drop)]
+pub(crate) struct Split {
+    /// The edges that are not on the side.
+    pub(crate) off: LiveEdges,
+    /// The groups that have an edge on it.
+    pub(crate) crossed: Groups,
+}
+
+/// Divides the groups by this side.
+pub(crate) fn divide(
+    alloc: Global,
+    links: &[Link],
+    mut groups: Groups,
+    side: Side,
+) -> Result<Split, Memory>
+    requires { All (All (λ e. e.link < length links.now)) groups.items }
+    ensures { IfOk result (λ parts. IsSplit links.now side.set side.neg groups.items parts.off parts.crossed.items) }
+{
+    let mut off = LiveEdges::new(alloc);
+    let mut crossed = Groups::new(alloc);
+    'groups: while let Some(group) = groups.pop() {
+        add_off_side(links, group.as_slice(), side, &mut off)?;
+        if side.first_of(links, group.as_slice()).is_none() {
+            continue;
+        }
+        crossed.push(group)?;
+    }
+    Ok(Split { off, crossed })
+}
+
+/// Adds the edges that are not on this side.
+fn add_off_side(
+    links: &[Link],
+    edges: &[LiveEdge],
+    side: Side,
+    off: &mut LiveEdges,
+) -> Result<(), Memory>
+    requires { All (λ e. e.link < length links.now) edges.now }
+    ensures { OnOk result (AddsOff links.now side.set side.neg edges.now off.old off.new) }
+{
+    'edges: for edge in edges {
+        if side.has_edge(links, *edge) {
+            continue;
+        }
+        off.push(*edge)?;
+    }
+    Ok(())
+}

@@ -1,0 +1,60 @@
+//! A condition in which one `Fin` is decided.
+
+ghost use Rattle.std.specs.Prelude.{◌≡◌, ℕ, map, IfOk};
+ghost use Rattle.aut_base.specs.Formula.{FormulaTree, formula_tree, formula_list};
+ghost use Rattle.lasso_emptiness.specs.inner.Judged.{is_same_side};
+ghost use Rattle.lasso_emptiness.specs.inner.Taken.{taken};
+
+use crate::side::Side;
+use aut_base::{Formula, Formulas, Memory};
+use std::alloc::Global;
+
+/// The condition with each `Fin` of this side taken as true, or as false.
+#[cycle(take)]
+#[tactic(auto, using(aut_base::proofs::FormulaTrees::formula_trees))]
+pub(crate) fn take(
+    alloc: Global,
+    condition: &Formula,
+    side: Side,
+    value: bool,
+) -> Result<Formula, Memory>
+    ensures { IfOk result (λ new. formula_tree new ≡ taken side.set side.neg value (formula_tree condition.now)) }
+{
+    match condition {
+        Formula::True => Ok(Formula::True),
+        Formula::False => Ok(Formula::False),
+        Formula::Inf { set, neg } => Ok(Formula::Inf {
+            set: *set,
+            neg: *neg,
+        }),
+        Formula::Fin { set, neg } => Ok(take_fin(*set, *neg, side, value)),
+        Formula::And(parts) => Ok(Formula::And(take_parts(alloc, parts, side, value)?)),
+        Formula::Or(parts) => Ok(Formula::Or(take_parts(alloc, parts, side, value)?)),
+    }
+}
+
+/// `Fin` of this set.
+#[tactic(auto, using(aut_base::proofs::FormulaTrees::formula_trees))]
+fn take_fin(set: u32, neg: bool, side: Side, value: bool) -> Formula
+    ensures { formula_tree result ≡ taken side.set side.neg value (FormulaTree.Fin set neg) }
+{
+    if side.set != set || side.neg != neg {
+        return Formula::Fin { set, neg };
+    }
+    if value { Formula::True } else { Formula::False }
+}
+
+/// The parts, each in the same way.
+#[cycle(take)]
+fn take_parts(alloc: Global, parts: &Formulas, side: Side, value: bool) -> Result<Formulas, Memory>
+    ensures { IfOk result (λ new. formula_list new ≡ map (taken side.set side.neg value) (formula_list parts.now)) }
+{
+    let first = take(alloc, parts.at(0), side, value)?;
+    let second = take(alloc, parts.at(1), side, value)?;
+    let mut new = Formulas::pair(alloc, first, second)?;
+    'parts: for place in 2..parts.len() {
+        let part = take(alloc, parts.at(place), side, value)?;
+        new.push(part)?;
+    }
+    Ok(new)
+}

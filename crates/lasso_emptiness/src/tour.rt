@@ -1,0 +1,75 @@
+//! Paths along edges.
+
+ghost use Rattle.std.specs.Prelude.{◌≡◌, ◌<◌, ◌++◌, ℕ, List, All, Contains, IfOk, OnOk, length, map};
+ghost use Rattle.graph_walk.specs.Walk.{Reaches};
+ghost use Rattle.lasso_emptiness.specs.declared.live.LiveEdge.{LiveEdge};
+ghost use Rattle.lasso_emptiness.specs.inner.Edges.{IsWithin, arc_of};
+ghost use Rattle.lasso_emptiness.specs.inner.Groups.{IsJoined};
+ghost use Rattle.lasso_emptiness.specs.inner.Tours.{GoesOn, IsTour, edge_at};
+
+use crate::live::{LiveEdge, LiveEdges, graph_of};
+use aut_base::Memory;
+use graph_walk::{Graph, path};
+use std::alloc::Global;
+
+/// A closed path along the edges of a component that passes all of some of them, of which there is one at least.
+pub(crate) fn tour(
+    alloc: Global,
+    states: u32,
+    edges: &[LiveEdge],
+    needed: &[LiveEdge],
+) -> Result<LiveEdges, Memory>
+    requires ends { All (λ e. (e.from < states) × (e.to < states)) edges.now }
+    requires joined { IsJoined edges.now }
+    requires inside { All (Contains edges.now) needed.now }
+    requires some { 0 < length needed.now }
+    ensures { IfOk result (IsTour edges.now needed.now) }
+{
+    let graph = graph_of(alloc, states, edges)?;
+    let first = needed[0];
+    let mut cycle = LiveEdges::new(alloc);
+    let mut at = first.from;
+    'needed: for edge in needed {
+        add_way(alloc, &graph, edges, at, edge.from, &mut cycle)?;
+        cycle.push(*edge)?;
+        at = edge.to;
+    }
+    add_way(alloc, &graph, edges, at, first.from, &mut cycle)?;
+    Ok(cycle)
+}
+
+/// Adds a shortest path from one state to another.
+pub(crate) fn add_way(
+    alloc: Global,
+    graph: &Graph,
+    edges: &[LiveEdge],
+    from: u32,
+    to: u32,
+    way: &mut LiveEdges,
+) -> Result<(), Memory>
+    requires arcs { graph.now.arcs ≡ map arc_of edges.now }
+    requires ends { All (λ e. (e.from < graph.now.nodes) × (e.to < graph.now.nodes)) edges.now }
+    requires from { from < graph.now.nodes }
+    requires to { to < graph.now.nodes }
+    requires reaches { Reaches (map arc_of edges.now) from to }
+    ensures { OnOk result (GoesOn (Contains edges.now) from to way.old way.new) }
+{
+    if from == to {
+        return Ok(());
+    }
+    match path(alloc, graph, from, to)? {
+        Some(places) => add_places(edges, places.as_slice(), way),
+        None => Ok(()),
+    }
+}
+
+/// Adds the edges at these places.
+fn add_places(edges: &[LiveEdge], places: &[usize], way: &mut LiveEdges) -> Result<(), Memory>
+    requires { All (λ place. place < length edges.now) places.now }
+    ensures { OnOk result (way.new ≡ way.old ++ map (edge_at edges.now) places.now) }
+{
+    'places: for place in places {
+        way.push(edges[*place])?;
+    }
+    Ok(())
+}

@@ -1,0 +1,144 @@
+//! The call, and the word of a closed path.
+
+ghost use Rattle.std.specs.Prelude.{◌≡◌, ◌<◌, ◌↔◌, ℕ, true, false, IsTrue, List, All, Contains, IfOk, MatchOption, length, map};
+ghost use Rattle.aut_core.specs.Core.{automaton_of};
+ghost use Rattle.aut_core.specs.declared.link.Link.{Link};
+ghost use Rattle.graph_walk.specs.Reach.{ReachedFrom};
+ghost use Rattle.graph_walk.specs.Walk.{Reaches};
+ghost use Rattle.std.specs.List.{slice_index_or};
+ghost use Rattle.lasso_emptiness.specs.Emptiness.{AcceptsNothing, IsAcceptedWord};
+ghost use Rattle.lasso_emptiness.specs.declared.live.LiveEdge.{LiveEdge};
+ghost use Rattle.lasso_emptiness.specs.inner.Edges.{IsWithin, arc_of};
+ghost use Rattle.lasso_emptiness.specs.inner.Letters.{AreLettersOf, IsLetterOf, IsOwnWord};
+ghost use Rattle.lasso_emptiness.specs.inner.Live.{ArePassable, IsPassable};
+ghost use Rattle.lasso_emptiness.specs.inner.Trails.{IsAccepting};
+ghost use Rattle.lasso_emptiness.specs.inner.Tours.{IsStem};
+
+use crate::live::{
+    LiveEdge, LiveEdges, backward_graph_of, graph_of, passable_edges, reached_edges,
+};
+use crate::search::search;
+use crate::tour::add_way;
+use aut_base::{Flags, Lasso, Letter, Letters, Memory, Numbers};
+use aut_core::Automaton;
+use graph_walk::reach;
+use std::alloc::Global;
+use word_syntax::reduce;
+
+/// A lasso word that the automaton accepts, or None where it accepts none.
+pub fn accepted_word(alloc: Global, a: &Automaton) -> Result<Option<Lasso>, Memory>
+    ensures { IfOk result (λ found. MatchOption found (AcceptsNothing (automaton_of a.now)) (IsAcceptedWord (automaton_of a.now))) }
+{
+    a.whole();
+    let passable = passable_edges(alloc, a)?;
+    let reached = reached_edges(alloc, a, passable.as_slice())?;
+    let found = search(
+        alloc,
+        a.links(),
+        a.states(),
+        reached.as_slice(),
+        a.formula(),
+    )?;
+    match found {
+        Some(cycle) => {
+            let word = word_around(alloc, a, passable.as_slice(), cycle.as_slice())?;
+            Ok(Some(reduce(alloc, &word)?))
+        }
+        None => Ok(None),
+    }
+}
+
+/// A word that leads from a start to a closed path and then around it.
+fn word_around(
+    alloc: Global,
+    a: &Automaton,
+    passable: &[LiveEdge],
+    cycle: &[LiveEdge],
+) -> Result<Lasso, Memory>
+    requires passable { ArePassable a.now passable.now }
+    requires reached { (e : LiveEdge) → Contains cycle.now e → ReachedFrom (map arc_of passable.now) a.now.starts e.from }
+    requires accepting { IsAccepting a.now.links (IsPassable a.now) a.now.formula cycle.now }
+    ensures { IfOk result (IsOwnWord (automaton_of a.now)) }
+{
+    a.whole();
+    let stem = stem_to(alloc, a, passable, cycle[0].from)?;
+    Ok(Lasso {
+        stem: letters_along(alloc, a, stem.as_slice())?,
+        cycle: letters_along(alloc, a, cycle)?,
+    })
+}
+
+/// A shortest path from the first start that reaches a state to that state.
+fn stem_to(
+    alloc: Global,
+    a: &Automaton,
+    edges: &[LiveEdge],
+    state: u32,
+) -> Result<LiveEdges, Memory>
+    requires ends { All (λ e. (e.from < a.now.states) × (e.to < a.now.states)) edges.now }
+    requires state { state < a.now.states }
+    requires reached { ReachedFrom (map arc_of edges.now) a.now.starts state }
+    ensures { IfOk result (IsStem a.now.starts edges.now state) }
+{
+    a.whole();
+    let flags = reaching(alloc, a.states(), edges, state)?;
+    let mut stem = LiveEdges::new(alloc);
+    match first_flagged(a.starts().as_slice(), flags.as_slice()) {
+        Some(start) => {
+            let graph = graph_of(alloc, a.states(), edges)?;
+            add_way(alloc, &graph, edges, start, state, &mut stem)?;
+            Ok(stem)
+        }
+        None => Ok(stem),
+    }
+}
+
+/// The first of these states that is flagged, or None where none is.
+fn first_flagged(states: &[u32], flags: &[bool]) -> Option<u32>
+    requires { All (λ p. p < length flags.now) states.now }
+    ensures { MatchOption result (All (λ p. slice_index_or flags.now p false ≡ false) states.now) (λ p. Contains states.now p × (slice_index_or flags.now p false ≡ true)) }
+{
+    'states: for state in states {
+        if flags[*state as usize] {
+            return Some(*state);
+        }
+    }
+    None
+}
+
+/// For each state whether it reaches this one.
+fn reaching(alloc: Global, states: u32, edges: &[LiveEdge], state: u32) -> Result<Flags, Memory>
+    requires ends { All (λ e. (e.from < states) × (e.to < states)) edges.now }
+    requires state { state < states }
+    ensures size { IfOk result (λ flags. length flags ≡ states) }
+    ensures exact { IfOk result (λ flags. (p : ℕ) → p < states → IsTrue (slice_index_or flags p false) ↔ Reaches (map arc_of edges.now) p state) }
+{
+    let mut from = Numbers::new(alloc);
+    from.push(state)?;
+    reach(alloc, &backward_graph_of(alloc, states, edges)?, &from)
+}
+
+/// A letter for each of the edges.
+fn letters_along(alloc: Global, a: &Automaton, edges: &[LiveEdge]) -> Result<Letters, Memory>
+    requires { All (IsPassable a.now) edges.now }
+    ensures { IfOk result (AreLettersOf a.now edges.now) }
+{
+    let mut letters = Letters::new(alloc);
+    'edges: for edge in edges {
+        letters.push(letter_on(alloc, a, *edge)?)?;
+    }
+    Ok(letters)
+}
+
+/// The least letter that meets the label of an edge.
+fn letter_on(alloc: Global, a: &Automaton, edge: LiveEdge) -> Result<Letter, Memory>
+    requires { IsPassable a.now edge }
+    ensures { IfOk result (IsLetterOf a.now edge) }
+{
+    a.whole();
+    let guard = a.links()[edge.link].guard;
+    match a.guards().pick(alloc, a.names(), guard)? {
+        Some(letter) => Ok(letter),
+        None => Ok(Letter::new(alloc)),
+    }
+}
