@@ -9,7 +9,6 @@ pub mod FrontParts
 pub mod ItemsRead
 pub mod LabelChains
 pub mod LabelReads
-pub mod Moves
 pub mod RuleParts
 pub mod Sets
 pub mod Steps

@@ -2,6 +2,7 @@
 pub mod DeadEnds
 pub mod Halts
 pub mod Hopeless
+pub mod NextCases
 pub mod OneStanding
 pub mod OpenEnds
 pub mod Readings
@@ -9,4 +10,3 @@ pub mod Settled
 pub mod SomeStanding
 pub mod StandingAnswers
 pub mod StandingTokens
-pub mod StuckPlaces

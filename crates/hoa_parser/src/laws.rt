@@ -5,8 +5,6 @@ ghost use Rattle.hoa_parser.specs.GrammarLaws.{CanBeWrittenDown, OneRaw, WholeGo
 ghost use Rattle.hoa_parser.specs.Standing.{OneStanding, SomeStanding};
 ghost use Rattle.hoa_parser.specs.StandingLaws.{BadIsHopeless, SettledStays, WrittenDownIsRead};
 
-use hoa_lexer::some_next;
-
 /// A list of tokens spells at most one automaton.
 pub fn one_raw()
     ensures { OneRaw }
@@ -25,9 +23,7 @@ pub fn one_standing()
 /// In every text something stands next.
 pub fn some_standing()
     ensures { SomeStanding }
-{
-    some_next();
-}
+{}
 
 /// What a list of tokens spells is also spelled by what is written down from it, with no more open than the list opens.
 pub fn can_be_written_down()

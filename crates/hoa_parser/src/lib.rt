@@ -1,8 +1,8 @@
 //! One automaton of HOA v1 from the tokens of its text, as it is written and before any rule is examined.
 //!
-//! A caller sees `read_raw`, the `Raw` that it answers and why it may answer none, and laws of the definitions. What stands
-//! next in a text is defined in `specs/Standing`, the grammar in `specs/Grammar`, and `specs/Reads` says what `read_raw`
-//! answers in these terms. The other definitions speak of the inner functions only.
+//! A caller sees `read_raw`, the `Front` of the text that it answers, the `Raw` in it, why it may answer none, and laws of
+//! the definitions. What stands next in a text is defined in `specs/Standing`, the grammar in `specs/Grammar`, and
+//! `specs/Reads` says what `read_raw` answers in these terms. `specs/inner` speaks of the inner functions only.
 #![tactic(auto)]
 
 mod fault;

@@ -8,7 +8,7 @@ ghost use Rattle.hoa_parser.specs.Reads.{Answers, Holds, Shows, stop_of_front};
 use crate::parse::{abandons, automaton, opens};
 use crate::{Raw, ReadFault};
 use aut_io::Inputs;
-use hoa_lexer::{Lexer, last_is_asked_for};
+use hoa_lexer::Lexer;
 use std::alloc::Global;
 
 /// What stands at the front of a text.
@@ -45,7 +45,6 @@ pub fn read_raw<I: Inputs>(
         → lexer.old.taken + held_count lexer.new.held < lexer.new.taken + held_count lexer.old.held) }
     ensures moves { Moves (stop_of_front result) lexer.old lexer.new (I.seen inputs.old) (I.seen inputs.new) }
 {
-    last_is_asked_for();
     let Some(mut ahead) = lexer.next(alloc, inputs)? else {
         return Ok(Front::Blank);
     };

@@ -2,7 +2,7 @@
 use Rattle.std.proofs.Common.{◌≡◌, ℕ, List, refl}
 use Rattle.hoa_lexer.specs.declared.token.Token.{Token}
 use Rattle.hoa_lexer.specs.declared.token.Token.TheVariants as token
-use Rattle.hoa_parser.specs.inner.Expecting.{Passes, Refuses, move, Whole, Number, MoreNumbers, Quoted, MaybeQuoted, Strings, Word, Words, AliasName, AccValues, Values, Factor, Factors, Products, Atom, Atoms, Conjunctions, OpeningParen, MaybeBang, ClosingParen, ClosingBracket, Items, States, MaybeLabel, MaybeMarks, Marks, Edges}
+use Rattle.hoa_parser.specs.inner.Expecting.{Passes, Refuses, move, Number, MoreNumbers, Quoted, MaybeQuoted, Strings, Word, Words, AliasName, Factors, Products, Atoms, Conjunctions, OpeningParen, MaybeBang, ClosingParen, ClosingBracket, Items, States, MaybeLabel, MaybeMarks, Marks, Edges}
 
 pub no_number : (z : Token) → (((x : ℕ) → z ≡ token.Int x → ⊥)) → move Number z ≡ Refuses
 no_number (token.Int n) not_Int = absurd (not_Int n refl)
@@ -48,17 +48,6 @@ pub past_numbers : (z : Token) → (z ≡ token.Amp → ⊥) → move MoreNumber
 past_numbers token.Amp not_Amp = absurd (not_Amp refl)
 past_numbers z not_Amp = refl
 
-pub past_acc_values : (z : Token) → (((x : ℕ) → z ≡ token.Int x → ⊥)) → (((x : List ℕ) → z ≡ token.Identifier x → ⊥)) → move AccValues z ≡ Passes
-past_acc_values (token.Identifier word) not_Int not_Identifier = absurd (not_Identifier word refl)
-past_acc_values (token.Int n) not_Int not_Identifier = absurd (not_Int n refl)
-past_acc_values z not_Int not_Identifier = refl
-
-pub past_values : (z : Token) → (((x : ℕ) → z ≡ token.Int x → ⊥)) → (((x : List ℕ) → z ≡ token.Str x → ⊥)) → (((x : List ℕ) → z ≡ token.Identifier x → ⊥)) → move Values z ≡ Passes
-past_values (token.Identifier word) not_Int not_Str not_Identifier = absurd (not_Identifier word refl)
-past_values (token.Str text) not_Int not_Str not_Identifier = absurd (not_Str text refl)
-past_values (token.Int n) not_Int not_Str not_Identifier = absurd (not_Int n refl)
-past_values z not_Int not_Str not_Identifier = refl
-
 pub past_bang : (z : Token) → (z ≡ token.Bang → ⊥) → move MaybeBang z ≡ Passes
 past_bang token.Bang not_Bang = absurd (not_Bang refl)
 past_bang z not_Bang = refl
@@ -97,19 +86,6 @@ pub past_conjunctions : (depth : ℕ) (z : Token) → (z ≡ token.Bar → ⊥) 
 past_conjunctions depth token.Bar not_Bar = absurd (not_Bar refl)
 past_conjunctions depth z not_Bar = refl
 
-pub no_factor : (depth : ℕ) (z : Token) → (z ≡ token.Bang → ⊥) → (((x : List ℕ) → z ≡ token.Identifier x → ⊥)) → (((x : ℕ) → z ≡ token.Int x → ⊥)) → (((x : List ℕ) → z ≡ token.Alias x → ⊥)) → (z ≡ token.LeftParen → ⊥) → move (Factor depth) z ≡ Refuses
-no_factor depth (token.Identifier word) not_Bang not_Identifier not_Int not_Alias not_LeftParen = absurd (not_Identifier word refl)
-no_factor depth (token.Int n) not_Bang not_Identifier not_Int not_Alias not_LeftParen = absurd (not_Int n refl)
-no_factor depth (token.Alias name) not_Bang not_Identifier not_Int not_Alias not_LeftParen = absurd (not_Alias name refl)
-no_factor depth token.Bang not_Bang not_Identifier not_Int not_Alias not_LeftParen = absurd (not_Bang refl)
-no_factor depth token.LeftParen not_Bang not_Identifier not_Int not_Alias not_LeftParen = absurd (not_LeftParen refl)
-no_factor depth z not_Bang not_Identifier not_Int not_Alias not_LeftParen = refl
-
-pub no_atom : (depth : ℕ) (z : Token) → (((x : List ℕ) → z ≡ token.Identifier x → ⊥)) → (z ≡ token.LeftParen → ⊥) → move (Atom depth) z ≡ Refuses
-no_atom depth (token.Identifier word) not_Identifier not_LeftParen = absurd (not_Identifier word refl)
-no_atom depth token.LeftParen not_Identifier not_LeftParen = absurd (not_LeftParen refl)
-no_atom depth z not_Identifier not_LeftParen = refl
-
 pub no_items : (z : Token) → (((x : List ℕ) → z ≡ token.HeaderName x → ⊥)) → (z ≡ token.Body → ⊥) → move Items z ≡ Refuses
 no_items (token.HeaderName name) not_HeaderName not_Body = absurd (not_HeaderName name refl)
 no_items token.Body not_HeaderName not_Body = absurd (not_Body refl)
@@ -119,7 +95,3 @@ pub no_states : (z : Token) → (((x : List ℕ) → z ≡ token.HeaderName x �
 no_states (token.HeaderName name) not_HeaderName not_End = absurd (not_HeaderName name refl)
 no_states token.End not_HeaderName not_End = absurd (not_End refl)
 no_states z not_HeaderName not_End = refl
-
-pub no_whole : (z : Token) → (((x : List ℕ) → z ≡ token.HeaderName x → ⊥)) → move Whole z ≡ Refuses
-no_whole (token.HeaderName name) not_HeaderName = absurd (not_HeaderName name refl)
-no_whole z not_HeaderName = refl

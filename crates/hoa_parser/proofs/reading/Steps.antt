@@ -9,10 +9,10 @@ use Rattle.hoa_lexer.specs.declared.token.Token.{Token}
 use Rattle.hoa_lexer.specs.declared.token.Token.TheVariants as token
 use Rattle.hoa_parser.proofs.reading.FailedParts.{fails_more, fails_then, taken_no_abort, unread_behind}
 use Rattle.hoa_parser.proofs.reading.FrontParts.{goes_more, goes_nowhere, goes_on, goes_over, goes_then, passes_behind, refuses_behind, takes_behind}
-use Rattle.hoa_parser.proofs.reading.Moves.{moves_nowhere, moves_then}
+use Rattle.hoa_lexer.proofs.next_token.Moving.{moves_nowhere, moves_then}
 use Rattle.hoa_parser.specs.inner.Expecting as expecting
 use Rattle.hoa_parser.specs.inner.Expecting.{Move, Part, Takes, behind, move, moved, open_at}
-use Rattle.hoa_parser.specs.inner.Parsing.{Advanced, Cursor, FailsAt, Leaves, Passed, Reads, ReadsTo, Relation, State, Unadvanced, is_end, place}
+use Rattle.hoa_parser.specs.inner.Parsing.{Advanced, Advances, Cursor, FailsAt, Leaves, Passed, Reads, ReadsTo, Relation, State, Unadvanced, is_end, place}
 use Rattle.hoa_parser.specs.Standing.{most_depth}
 use Rattle.hoa_parser.specs.declared.fault.ReadFault.{ReadFault}
 use Rattle.hoa_parser.specs.declared.fault.ReadFault.TheVariants as fault
@@ -192,3 +192,8 @@ no_memory {p} {q} {A} {s} {s'} one = record {
 pub handed_on : {T : Type 0} {p : List Part} {f : ReadFault} {s s' : State} (r : List Part) (Q : T → Relation) (result : Result T ReadFault) → IsErrAnd result (λ y. y ≡ f) → FailsAt f p s s' → Reads p r Q result s s'
 handed_on r Q (Ok x) h one = absurd h
 handed_on {p = p} {s = s} {s' = s'} r Q (Err y) h one = subst (λ (e : ReadFault). FailsAt e p s s') (sym h) one
+
+-- a part of one token, and whatever is answered of the token behind it
+pub token_read : (part : Part) (z : Token) (Q : Unit {0} → Relation) (result : Result (Unit {0}) ReadFault) (s s' : State) → s.ahead ≡ z → move part z ≡ Takes [] → is_end z ≡ false → ((v : Unit {0}) (a b : Cursor) → Read z a b → Q v a b) → Advances result s s' → Reads (part ∷ []) [] Q result s s'
+token_read part z Q (Ok v) s s' is goes unended f one = reads_as (f v) (takes part [] z is goes refl unended one)
+token_read part z Q (Err e) s s' is goes unended f one = takes_last part [] z is goes refl unended one

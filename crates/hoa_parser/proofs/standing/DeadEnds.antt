@@ -7,7 +7,7 @@ use Rattle.hoa_parser.specs.inner.Expecting.{Part, Move, Takes, Passes, Refuses,
 use Rattle.hoa_parser.specs.Grammar.{IsViable, Spells}
 use Rattle.hoa_parser.specs.Standing.{IsDead, SpellsNothing, most_depth}
 use Rattle.hoa_parser.proofs.grammar.Depths.{after_more, viable_more, within_more}
-use Rattle.hoa_parser.proofs.grammar.AfterLabels.{after_append, opened}
+use Rattle.hoa_parser.proofs.grammar.AfterLabels.{after_append}
 use Rattle.hoa_parser.proofs.grammar.AfterStates.{spelled_follows}
 use Rattle.hoa_parser.proofs.grammar.NoAbort.{abort}
 use Rattle.hoa_parser.proofs.grammar.Viability.{viable}
@@ -39,13 +39,7 @@ dead ts left z e refuses most v =
     let here = after_next n ts left z (after_more most_depth n ts (part.Whole ∷ []) left l e) in
     refused n (ts ++ z ∷ []) (here ∙ refuses n) (viable_more most n (ts ++ z ∷ []) (omega arith) v)
 
--- what a first part makes of a token
-pub behind_takes : (most : ℕ) (p : Part) (ps left : List Part) (z : Token) → move p z ≡ Takes ps → open_at ps ≤ most → behind most (p ∷ left) z ≡ Some (ps ++ left)
-behind_takes most p ps left z e l = ap (λ (m : Move). moved most m (behind most left z) left) e ∙ opened most ps left (behind most left z) l
-
-pub behind_passes : (most : ℕ) (p : Part) (left : List Part) (z : Token) → move p z ≡ Passes → behind most (p ∷ left) z ≡ behind most left z
-behind_passes most p left z e = ap (λ (m : Move). moved most m (behind most left z) left) e
-
+-- a first part that refuses the token
 pub behind_refuses : (most : ℕ) (p : Part) (left : List Part) (z : Token) → move p z ≡ Refuses → behind most (p ∷ left) z ≡ None
 behind_refuses most p left z e = ap (λ (m : Move). moved most m (behind most left z) left) e
 

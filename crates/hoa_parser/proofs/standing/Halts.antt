@@ -2,11 +2,9 @@
 use Rattle.std.proofs.Common.{◌≡◌, ◌≢◌, ℕ, ◌⊎◌, List, [], ◌∷◌, ◌++◌, map, inl, inr, refl, sym, subst, ◌∙◌, ap}
 use Rattle.std.proofs.lemmas.List.{append_assoc, append-nil}
 use Rattle.hoa_lexer.specs.Blanks.{IsBlanks}
-use Rattle.hoa_lexer.specs.Text.{AfterBlanks, HasFront, IsNext, IsNoToken, Lexes}
+use Rattle.hoa_lexer.specs.Text.{IsNext, Lexes}
 use Rattle.hoa_lexer.specs.declared.token.Token.{Token}
 use Rattle.hoa_lexer.specs.declared.token.Token.TheVariants as token
-use Rattle.hoa_lexer.proofs.next_token.Exclusive.{IsStuck, no_token_stuck, blanks_no_token, stuck_no_token}
-use Rattle.hoa_lexer.proofs.next_token.Unique.{one_next_token}
 use Rattle.hoa_parser.specs.Grammar.{AutomatonPhrase, IsViable, Spells, automaton_meaning, automaton_tokens}
 use Rattle.hoa_parser.specs.Raw.{Written}
 use Rattle.hoa_parser.specs.Standing.{EndsOpen, IsBegun, IsMisplaced, IsNoTokenAt, SpellsNothing, Standing, Stands, most_depth}
@@ -14,13 +12,7 @@ use Rattle.hoa_parser.specs.Standing.Standing.{Blank, Whole, Deep, Bad, Aborted,
 use Rattle.hoa_parser.proofs.grammar.NoAbort.{no_abort_inside}
 use Rattle.hoa_parser.proofs.grammar.OneRaw.{whole_goes_no_further}
 use Rattle.hoa_parser.proofs.standing.Readings.{place}
-use Rattle.hoa_parser.proofs.standing.StuckPlaces.{after_as, open_stuck}
-
--- a token stands next
-pub record HasNext (used : ℕ) (rest : List ℕ) (token : Token) : Type 0 where
-  pub offset : ℕ
-  pub after : List ℕ
-  pub next : IsNext rest used token offset after
+use Rattle.hoa_parser.proofs.standing.NextCases.{HasNext, next_no_blanks, next_no_fault, next_not_open, one_token}
 
 -- begun, and not whole
 pub record IsPart (tokens : List Token) : Type 0 where
@@ -109,32 +101,8 @@ halts_viable (Bad k) tokens used rest h = h.0.viable
 halts_viable (Aborted r) tokens used rest h = h.0.viable
 halts_viable Cut tokens used rest h = h.0.viable
 
-next_front : (used : ℕ) (rest : List ℕ) (t : Token) → HasNext used rest t → AfterBlanks rest HasFront
-next_front used rest t n = record {
-  before = n.next.before;
-  bytes = n.next.bytes;
-  split = n.next.split;
-  blanks = n.next.blanks;
-  holds = record { token = t; rest = n.after; front = n.next.front };
-}
-
-pub next_no_blanks : (used : ℕ) (rest : List ℕ) (t : Token) → HasNext used rest t → IsBlanks rest → ⊥
-next_no_blanks used rest t n b = blanks_no_token rest b (next_front used rest t n)
-
-pub next_not_stuck : (used : ℕ) (rest : List ℕ) (t : Token) → HasNext used rest t → AfterBlanks rest IsStuck → ⊥
-next_not_stuck used rest t n s = stuck_no_token rest s (next_front used rest t n)
-
-pub one_next : (used : ℕ) (rest : List ℕ) (t u : Token) → HasNext used rest t → HasNext used rest u → t ≡ u
-one_next used rest t u n m = (one_next_token rest used t u n.offset m.offset n.after m.after n.next m.next).0
-
 pub misplaced_next : (k : ℕ) (tokens : List Token) (used : ℕ) (rest : List ℕ) (m : IsMisplaced k tokens used rest) → HasNext used rest m.next_token
 misplaced_next k tokens used rest m = record { offset = k; after = m.after; next = m.next }
-
-abbrev pub no_token_at : (k used : ℕ) (rest : List ℕ) → IsNoTokenAt k used rest → AfterBlanks rest IsNoToken
-no_token_at k used rest n = record { before = n.before; bytes = n.bytes; split = n.split; blanks = n.blanks; holds = n.holds.1 }
-
-pub no_token_at_stuck : (k used : ℕ) (rest : List ℕ) → IsNoTokenAt k used rest → AfterBlanks rest IsStuck
-no_token_at_stuck k used rest n = after_as rest no_token_stuck (no_token_at k used rest n)
 
 -- where nothing viable goes on with the token
 next_kept : (m : ℕ) (tokens us : List Token) (t u : Token) → t ≡ u → IsViable m (tokens ++ t ∷ us) → IsViable m (tokens ++ u ∷ [])
@@ -151,14 +119,14 @@ halts_here Blank tokens us t used rest h n v = next_no_blanks used rest t n h.1
 halts_here (Whole w r) tokens us t used rest h n v =
     let none : t ∷ us ≡ [] = whole_goes_no_further most_depth most_depth tokens (t ∷ us) w h.0 v in
     cc
-halts_here Deep tokens us t used rest h n v = h.1.too_deep (next_kept most_depth tokens us t h.1.token (one_next used rest t h.1.token n h.1.next) v)
+halts_here Deep tokens us t used rest h n v = h.1.too_deep (next_kept most_depth tokens us t h.1.token (one_token used rest t h.1.token n h.1.next) v)
 halts_here (Bad k) tokens us t used rest h n v = elim h.1 [
-  | inl m ↦ m.dead most_depth (next_kept most_depth tokens us t m.next_token (one_next used rest t m.next_token n (misplaced_next k tokens used rest m)) v)
-  | inr o ↦ next_not_stuck used rest t n (no_token_at_stuck k used rest o)
+  | inl m ↦ m.dead most_depth (next_kept most_depth tokens us t m.next_token (one_token used rest t m.next_token n (misplaced_next k tokens used rest m)) v)
+  | inr o ↦ next_no_fault k used rest t n o
 ]
 halts_here (Aborted r) tokens us t used rest h n v =
-    no_abort_inside most_depth tokens [] (next_kept most_depth tokens us t token.Abort (one_next used rest t token.Abort n (abandons tokens used rest r h)) v)
+    no_abort_inside most_depth tokens [] (next_kept most_depth tokens us t token.Abort (one_token used rest t token.Abort n (abandons tokens used rest r h)) v)
 halts_here Cut tokens us t used rest h n v = elim h.1 [
   | inl b ↦ next_no_blanks used rest t n b.1
-  | inr o ↦ next_not_stuck used rest t n (open_stuck rest o)
+  | inr o ↦ next_not_open used rest t n o
 ]

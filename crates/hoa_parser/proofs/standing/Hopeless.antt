@@ -7,7 +7,7 @@ use Rattle.aut_io.specs.Seen.{Seen}
 use Rattle.hoa_lexer.proofs.next_token.Between.{between_as}
 use Rattle.hoa_lexer.proofs.spelling.FirstBytes.{no_front}
 use Rattle.hoa_lexer.specs.Blanks.{IsBlanks}
-use Rattle.hoa_lexer.specs.Laws.{LastIsAskedFor}
+use Rattle.hoa_lexer.proofs.next_token.Asked.{last_is_asked_for}
 use Rattle.hoa_lexer.specs.Reading as lexing
 use Rattle.hoa_lexer.specs.Reading.{Tells, held_count, unread}
 use Rattle.hoa_lexer.specs.Spelling.{Ends, closes_itself}
@@ -171,11 +171,11 @@ passed_holds a b [] p h = subst (λ (x : Cursor). is_some x.held ≡ not (closes
 passed_holds a b (t ∷ ts) p h = passed_holds p.0 b ts p.3 p.2.holds
 
 -- for the token at hand
-asked_for_token : LastIsAskedFor → (start : ℕ) (text left : List ℕ) (a last : Cursor) (target : List Part) → Starts start text a → Goes (part.Whole ∷ []) a target last → last.rest ≡ unread last.held left → AskedForLast start text left
-asked_for_token law start text left a last target starts g ends =
+asked_for_token : (start : ℕ) (text left : List ℕ) (a last : Cursor) (target : List Part) → Starts start text a → Goes (part.Whole ∷ []) a target last → last.rest ≡ unread last.held left → AskedForLast start text left
+asked_for_token start text left a last target starts g ends =
     let s = before start text a last target g starts in
     asked_last start text left g.tokens s.used s.rest s.begun
-    (law s.rest s.used last.offset last.token last.held left (subst (λ (w : List ℕ). IsNext s.rest s.used last.token last.offset w) ends s.next) (passed_holds a last g.tokens g.passed starts.holds))
+    (last_is_asked_for s.rest s.used last.offset last.token last.held left (subst (λ (w : List ℕ). IsNext s.rest s.used last.token last.offset w) ends s.next) (passed_holds a last g.tokens g.passed starts.holds))
 
 misplaced_shown : (k start : ℕ) (text left : List ℕ) (a b : Cursor) → Starts start text a → Refuses (part.Whole ∷ []) a b → k ≡ b.offset → b.token ≢ token.Abort → b.rest ≡ unread b.held left → IsHopeless k start text left
 misplaced_shown k start text left a b starts r at other ends =
@@ -215,24 +215,24 @@ shows_unread fault.Read start text left a last starts u ends = tt
 shows_unread fault.Memory start text left a last starts u ends = tt
 
 -- why no automaton was read
-pub shows_fault : LastIsAskedFor → (f : ReadFault) (start : ℕ) (text left : List ℕ) (a last : Cursor) → (Abandons f last.token → ⊥) → Starts start text a → Fails f (part.Whole ∷ []) a last → last.rest ≡ unread last.held left → Shows (Err f) start text left
-shows_fault law f start text left a last other starts (inr u) ends = shows_unread f start text left a last starts u (ends ∙ nothing_held last.held left u.held)
-shows_fault law (fault.Syntax k) start text left a last other starts (inl h) ends = (misplaced_shown k start text left a last starts h.0 h.1 other ends, asked_for_token law start text left a last h.0.target starts h.0.goes ends)
-shows_fault law fault.Depth start text left a last other starts (inl h) ends = asked_for_token law start text left a last h.target starts h.goes ends
-shows_fault law fault.Truncated start text left a last other starts (inl h) ends = absurd h
-shows_fault law fault.Bytes start text left a last other starts (inl h) ends = tt
-shows_fault law fault.Read start text left a last other starts (inl h) ends = tt
-shows_fault law fault.Memory start text left a last other starts (inl h) ends = tt
+pub shows_fault : (f : ReadFault) (start : ℕ) (text left : List ℕ) (a last : Cursor) → (Abandons f last.token → ⊥) → Starts start text a → Fails f (part.Whole ∷ []) a last → last.rest ≡ unread last.held left → Shows (Err f) start text left
+shows_fault f start text left a last other starts (inr u) ends = shows_unread f start text left a last starts u (ends ∙ nothing_held last.held left u.held)
+shows_fault (fault.Syntax k) start text left a last other starts (inl h) ends = (misplaced_shown k start text left a last starts h.0 h.1 other ends, asked_for_token start text left a last h.0.target starts h.0.goes ends)
+shows_fault fault.Depth start text left a last other starts (inl h) ends = asked_for_token start text left a last h.target starts h.goes ends
+shows_fault fault.Truncated start text left a last other starts (inl h) ends = absurd h
+shows_fault fault.Bytes start text left a last other starts (inl h) ends = tt
+shows_fault fault.Read start text left a last other starts (inl h) ends = tt
+shows_fault fault.Memory start text left a last other starts (inl h) ends = tt
 
 -- the automaton was abandoned
-pub shows_aborted : LastIsAskedFor → (f : ReadFault) (start : ℕ) (text left : List ℕ) (a last : Cursor) → Abandons f last.token → Starts start text a → Fails f (part.Whole ∷ []) a last → last.rest ≡ unread last.held left → AskedForLast start text left
-shows_aborted law (fault.Syntax k) start text left a last abort starts (inl h) ends = asked_for_token law start text left a last h.0.target starts h.0.goes ends
-shows_aborted law (fault.Syntax k) start text left a last abort starts (inr u) ends = absurd (u.no_abort abort)
-shows_aborted law fault.Truncated start text left a last never starts h ends = absurd never
-shows_aborted law fault.Depth start text left a last never starts h ends = absurd never
-shows_aborted law fault.Bytes start text left a last never starts h ends = absurd never
-shows_aborted law fault.Read start text left a last never starts h ends = absurd never
-shows_aborted law fault.Memory start text left a last never starts h ends = absurd never
+pub shows_aborted : (f : ReadFault) (start : ℕ) (text left : List ℕ) (a last : Cursor) → Abandons f last.token → Starts start text a → Fails f (part.Whole ∷ []) a last → last.rest ≡ unread last.held left → AskedForLast start text left
+shows_aborted (fault.Syntax k) start text left a last abort starts (inl h) ends = asked_for_token start text left a last h.0.target starts h.0.goes ends
+shows_aborted (fault.Syntax k) start text left a last abort starts (inr u) ends = absurd (u.no_abort abort)
+shows_aborted fault.Truncated start text left a last never starts h ends = absurd never
+shows_aborted fault.Depth start text left a last never starts h ends = absurd never
+shows_aborted fault.Bytes start text left a last never starts h ends = absurd never
+shows_aborted fault.Read start text left a last never starts h ends = absurd never
+shows_aborted fault.Memory start text left a last never starts h ends = absurd never
 
 shows_open : (start : ℕ) (old left : List ℕ) → IsBlanks old ⊎ EndsOpen old → left ≡ [] → Shows (Err fault.Truncated) start old left
 shows_open start old left ends none = (
@@ -251,25 +251,25 @@ shows_lexing lex.Bytes start offset old left h = tt
 shows_lexing lex.Memory start offset old left h = tt
 
 -- it was another than `HOA:`
-pub shows_other : LastIsAskedFor → (start k : ℕ) (text left : List ℕ) (z : Token) (held : Option ℕ) → IsNext text start z k (unread held left) → is_some held ≡ not (closes_itself z) → move part.Whole z ≡ part.Refuses → Shows (Err (fault.Syntax k)) start text left
-shows_other law start k text left z held next holds other = (
+pub shows_other : (start k : ℕ) (text left : List ℕ) (z : Token) (held : Option ℕ) → IsNext text start z k (unread held left) → is_some held ≡ not (closes_itself z) → move part.Whole z ≡ part.Refuses → Shows (Err (fault.Syntax k)) start text left
+shows_other start k text left z held next holds other = (
   misplaced_at k start text left [] start text (unread held left) z held (nothing_begun start text) next refl (holds_closed held z holds) (dead [] (part.Whole ∷ []) z refl (λ most. behind_refuses most part.Whole [] z other)) (λ some. absurd (some refl)),
-  asked_last start text left [] start text (nothing_begun start text) (law text start k z held left next holds),
+  asked_last start text left [] start text (nothing_begun start text) (last_is_asked_for text start k z held left next holds),
 )
 
 -- what is left in the inputs before and after an answer
 abbrev pub Left : Lexer → Seen → Seen → (ℕ → List ℕ → List ℕ → Type 0) → Type 0
 Left lexer seen seen' R = Tells seen seen' (λ x y. R (lexer.since - held_count lexer.held) (unread lexer.held x) y)
 
-pub raw_aborted_shows : LastIsAskedFor → (f : ReadFault) (lexer : Lexer) (seen : Seen) (s s' : State) → Opened lexer seen s → Abandons f s'.ahead → FailsAt f (part.Whole ∷ []) s s' → Left lexer seen s'.seen (Shows (Ok front.Aborted))
-raw_aborted_shows law f lexer seen s s' opened abandons read =
+pub raw_aborted_shows : (f : ReadFault) (lexer : Lexer) (seen : Seen) (s s' : State) → Opened lexer seen s → Abandons f s'.ahead → FailsAt f (part.Whole ∷ []) s s' → Left lexer seen s'.seen (Shows (Ok front.Aborted))
+raw_aborted_shows f lexer seen s s' opened abandons read =
     said_then lexer seen s s' (Fails f (part.Whole ∷ [])) _ opened read.text
-    (λ x y z starts says. shows_aborted law f _ _ z (place s y) (place s' z) abandons starts says refl)
+    (λ x y z starts says. shows_aborted f _ _ z (place s y) (place s' z) abandons starts says refl)
 
-pub raw_fault_shows : LastIsAskedFor → (f : ReadFault) (lexer : Lexer) (seen : Seen) (s s' : State) → Opened lexer seen s → (Abandons f s'.ahead → ⊥) → FailsAt f (part.Whole ∷ []) s s' → Left lexer seen s'.seen (Shows (Err f))
-raw_fault_shows law f lexer seen s s' opened other read =
+pub raw_fault_shows : (f : ReadFault) (lexer : Lexer) (seen : Seen) (s s' : State) → Opened lexer seen s → (Abandons f s'.ahead → ⊥) → FailsAt f (part.Whole ∷ []) s s' → Left lexer seen s'.seen (Shows (Err f))
+raw_fault_shows f lexer seen s s' opened other read =
     said_then lexer seen s s' (Fails f (part.Whole ∷ [])) _ opened read.text
-    (λ x y z starts says. shows_fault law f _ _ z (place s y) (place s' z) other starts says refl)
+    (λ x y z starts says. shows_fault f _ _ z (place s y) (place s' z) other starts says refl)
 
 -- the lexer gave no token
 pub raw_unlexed_shows : (f : LexFault) (result : Result Front ReadFault) (lexer lexer' : Lexer) (offset : ℕ) (seen seen' : Seen) → (e : ReadFault) × (result ≡ Err e) × (e ≡ read_fault f) → lexer'.held ≡ None
@@ -280,7 +280,7 @@ raw_unlexed_shows f result lexer lexer' offset seen seen' same none said =
     (shows_lexing f _ offset (unread lexer.held x) y (subst (λ (w : List ℕ). lexing.Answers (Err f) (lexer.since - held_count lexer.held) offset (unread lexer.held x) w) (nothing_held lexer'.held y none) h))) said
 
 -- it gave another token than `HOA:`
-pub raw_other_shows : LastIsAskedFor → (k : ℕ) (lexer : Lexer) (seen : Seen) (s : State) → Opened lexer seen s → k ≡ s.lexer.offset → move part.Whole s.ahead ≡ part.Refuses → Left lexer seen s.seen (Shows (Err (fault.Syntax k)))
-raw_other_shows law k lexer seen s opened same other =
+pub raw_other_shows : (k : ℕ) (lexer : Lexer) (seen : Seen) (s : State) → Opened lexer seen s → k ≡ s.lexer.offset → move part.Whole s.ahead ≡ part.Refuses → Left lexer seen s.seen (Shows (Err (fault.Syntax k)))
+raw_other_shows k lexer seen s opened same other =
     between_as seen.left s.seen.left _ _
-    (λ x y h. shows_other law _ k (unread lexer.held x) y s.ahead s.lexer.held (subst (λ (n : ℕ). IsNext (unread lexer.held x) (lexer.since - held_count lexer.held) s.ahead n (unread s.lexer.held y)) (sym same) h) opened.holds other) opened.next
+    (λ x y h. shows_other _ k (unread lexer.held x) y s.ahead s.lexer.held (subst (λ (n : ℕ). IsNext (unread lexer.held x) (lexer.since - held_count lexer.held) s.ahead n (unread s.lexer.held y)) (sym same) h) opened.holds other) opened.next

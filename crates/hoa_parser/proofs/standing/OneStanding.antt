@@ -1,20 +1,20 @@
 -- One thing stands next in a text.
-use Rattle.std.proofs.Common.{◌≡◌, ◌≢◌, ℕ, ◌⊎◌, List, [], ◌∷◌, ◌++◌, length, inl, inr, refl, sym, subst, ◌∙◌, ap, arith}
+use Rattle.std.proofs.Common.{◌≡◌, ◌≢◌, ℕ, ◌⊎◌, List, [], ◌∷◌, ◌++◌, inl, inr, refl, sym, subst, ◌∙◌, ap}
 use Rattle.std.proofs.lemmas.List.{map-append}
 use Rattle.hoa_lexer.specs.Blanks.{IsBlanks}
 use Rattle.hoa_lexer.specs.declared.token.Token.{Token}
 use Rattle.hoa_lexer.specs.declared.token.Token.TheVariants as token
-use Rattle.hoa_lexer.proofs.next_token.Exclusive.{no_token_stuck, stuck_no_blanks}
+use Rattle.hoa_lexer.specs.Laws.Next.{NoMore, NoToken}
 use Rattle.hoa_lexer.proofs.next_token.Unique.{one_next_token}
 use Rattle.hoa_parser.specs.Grammar.{IsViable, Spells}
 use Rattle.hoa_parser.specs.Raw.{Written}
 use Rattle.hoa_parser.specs.Standing.{EndsOpen, IsMisplaced, IsNoTokenAt, OneStanding, Standing, most_depth}
 use Rattle.hoa_parser.specs.Standing.Standing.{Blank, Whole, Deep, Bad, Aborted, Cut}
-use Rattle.hoa_parser.proofs.standing.Halts.{abandons, HasNext, Halts, shown, halts_here, halts_viable, misplaced_next, next_no_blanks, next_not_stuck, no_token_at, no_token_at_stuck, one_next, reading}
+use Rattle.hoa_parser.proofs.standing.Halts.{Halts, abandons, halts_here, halts_viable, misplaced_next, reading, shown}
 use Rattle.hoa_parser.proofs.grammar.NoAbort.{no_abort_inside}
 use Rattle.hoa_parser.proofs.grammar.OneRaw.{one_raw}
 use Rattle.hoa_parser.proofs.standing.Readings.{IsFurther, compared, place}
-use Rattle.hoa_parser.proofs.standing.StuckPlaces.{after_as, no_token_not_open, open_stuck, stuck_place}
+use Rattle.hoa_parser.proofs.standing.NextCases.{HasNext, blanks_no_fault, next_no_blanks, next_no_fault, next_not_open, one_no_token, one_token, open_only}
 
 spells_some : (m : ℕ) (tokens : List Token) (w : Written) → tokens ≡ [] → Spells m tokens w → ⊥
 spells_some m tokens w e s = let all = sym e ∙ s.spelled in cc
@@ -22,49 +22,44 @@ spells_some m tokens w e s = let all = sym e ∙ s.spelled in cc
 -- a token stands next, or the text is cut
 next_not_cut : (used : ℕ) (rest : List ℕ) (t : Token) (some : Type 0) → HasNext used rest t → some × IsBlanks rest ⊎ EndsOpen rest → ⊥
 next_not_cut used rest t some n (inl b) = next_no_blanks used rest t n b.1
-next_not_cut used rest t some n (inr o) = next_not_stuck used rest t n (open_stuck rest o)
+next_not_cut used rest t some n (inr o) = next_not_open used rest t n o
 
 abbrev Fault : ℕ → List Token → ℕ → List ℕ → Type 0
 Fault k tokens used rest = IsMisplaced k tokens used rest ⊎ IsNoTokenAt k used rest
 
 fault_no_blanks : (k : ℕ) (tokens : List Token) (used : ℕ) (rest : List ℕ) → Fault k tokens used rest → IsBlanks rest → ⊥
 fault_no_blanks k tokens used rest (inl m) b = next_no_blanks used rest m.next_token (misplaced_next k tokens used rest m) b
-fault_no_blanks k tokens used rest (inr n) b = stuck_no_blanks rest (no_token_at_stuck k used rest n) b
+fault_no_blanks k tokens used rest (inr n) b = blanks_no_fault k used rest b n
 
 fault_not_open : (k : ℕ) (tokens : List Token) (used : ℕ) (rest : List ℕ) → Fault k tokens used rest → EndsOpen rest → ⊥
-fault_not_open k tokens used rest (inl m) o = next_not_stuck used rest m.next_token (misplaced_next k tokens used rest m) (open_stuck rest o)
-fault_not_open k tokens used rest (inr n) o = no_token_not_open rest (no_token_at k used rest n) o
+fault_not_open k tokens used rest (inl m) o = next_not_open used rest m.next_token (misplaced_next k tokens used rest m) o
+fault_not_open k tokens used rest (inr n) o = open_only (NoToken k) used rest n o
 
 -- the token that stands next is dead
 fault_next : (k : ℕ) (tokens : List Token) (used : ℕ) (rest : List ℕ) (t : Token) → Fault k tokens used rest → HasNext used rest t → (m : ℕ) → IsViable m (tokens ++ t ∷ []) → ⊥
 fault_next k tokens used rest t (inl f) n m v =
-    f.dead m (subst (λ (u : Token). IsViable m (tokens ++ u ∷ [])) (one_next used rest t f.next_token n (misplaced_next k tokens used rest f)) v)
-fault_next k tokens used rest t (inr f) n m v = next_not_stuck used rest t n (no_token_at_stuck k used rest f)
+    f.dead m (subst (λ (u : Token). IsViable m (tokens ++ u ∷ [])) (one_token used rest t f.next_token n (misplaced_next k tokens used rest f)) v)
+fault_next k tokens used rest t (inr f) n m v = next_no_fault k used rest t n f
 
 fault_abort : (k : ℕ) (tokens : List Token) (used : ℕ) (rest : List ℕ) → Fault k tokens used rest → (tokens ≢ []) → HasNext used rest token.Abort → ⊥
-fault_abort k tokens used rest (inl f) s n = f.no_abort s (one_next used rest f.next_token token.Abort (misplaced_next k tokens used rest f) n)
-fault_abort k tokens used rest (inr f) s n = next_not_stuck used rest token.Abort n (no_token_at_stuck k used rest f)
-
-one_no_token : (j k used : ℕ) (rest : List ℕ) → IsNoTokenAt j used rest → IsNoTokenAt k used rest → j ≡ k
-one_no_token j k used rest f g =
-    let same : f.bytes ≡ g.bytes = stuck_place rest (after_as rest no_token_stuck (no_token_at j used rest f)) (after_as rest no_token_stuck (no_token_at k used rest g)) in
-    omega (arith, ap length same, f.holds.0, g.holds.0)
+fault_abort k tokens used rest (inl f) s n = f.no_abort s (one_token used rest f.next_token token.Abort (misplaced_next k tokens used rest f) n)
+fault_abort k tokens used rest (inr f) s n = next_no_fault k used rest token.Abort n f
 
 one_fault : (j k : ℕ) (tokens : List Token) (used : ℕ) (rest : List ℕ) → Fault j tokens used rest → Fault k tokens used rest → j ≡ k
 one_fault j k tokens used rest (inl f) (inl g) = (one_next_token rest used f.next_token g.next_token j k f.after g.after f.next g.next).1
-one_fault j k tokens used rest (inl f) (inr g) = absurd (next_not_stuck used rest f.next_token (misplaced_next j tokens used rest f) (no_token_at_stuck k used rest g))
-one_fault j k tokens used rest (inr f) (inl g) = absurd (next_not_stuck used rest g.next_token (misplaced_next k tokens used rest g) (no_token_at_stuck j used rest f))
+one_fault j k tokens used rest (inl f) (inr g) = absurd (next_no_fault k used rest f.next_token (misplaced_next j tokens used rest f) g)
+one_fault j k tokens used rest (inr f) (inl g) = absurd (next_no_fault j used rest g.next_token (misplaced_next k tokens used rest g) f)
 one_fault j k tokens used rest (inr f) (inr g) = one_no_token j k used rest f g
 
 blank_cut : (tokens : List Token) (used : ℕ) (rest : List ℕ) → Halts Blank tokens used rest → Halts Cut tokens used rest → ⊥
-blank_cut tokens used rest f g = elim g.1 [ inl b ↦ b.0 f.0 | inr o ↦ stuck_no_blanks rest (open_stuck rest o) f.1 ]
+blank_cut tokens used rest f g = elim g.1 [ inl b ↦ b.0 f.0 | inr o ↦ open_only NoMore used rest f.1 o ]
 
 fault_cut : (k : ℕ) (tokens : List Token) (used : ℕ) (rest : List ℕ) → Halts (Bad k) tokens used rest → Halts Cut tokens used rest → ⊥
 fault_cut k tokens used rest f g = elim g.1 [ inl b ↦ fault_no_blanks k tokens used rest f.1 b.1 | inr o ↦ fault_not_open k tokens used rest f.1 o ]
 
 deep_aborted : (tokens : List Token) (used : ℕ) (rest : List ℕ) → Halts Deep tokens used rest → HasNext used rest token.Abort → ⊥
 deep_aborted tokens used rest f n =
-    no_abort_inside f.1.most tokens [] (subst (λ (u : Token). IsViable f.1.most (tokens ++ u ∷ [])) (one_next used rest f.1.token token.Abort f.1.next n) f.1.viable)
+    no_abort_inside f.1.most tokens [] (subst (λ (u : Token). IsViable f.1.most (tokens ++ u ∷ [])) (one_token used rest f.1.token token.Abort f.1.next n) f.1.viable)
 
 -- what halts at one place is one thing
 one_halt : (a b : Standing) (tokens : List Token) (used : ℕ) (rest : List ℕ) → Halts a tokens used rest → Halts b tokens used rest → a ≡ b

@@ -1,16 +1,17 @@
 -- Where a text ends among blanks, or inside a comment, a string or another token, one byte more is asked for.
-use Rattle.std.proofs.Common.{◌≡◌, ℕ, zero, suc, ◌&&◌, ◌==◌, ◌⊎◌, List, [], ◌∷◌, ◌++◌, Option, Some, None, inl, inr, refl, sym, ap, ◌∙◌}
-use Rattle.std.proofs.lemmas.Bool.{and_right, cases_Bool}
+use Rattle.std.proofs.Common.{◌≡◌, ◌≢◌, length, ℕ, zero, suc, ◌&&◌, ◌==◌, ◌⊎◌, List, [], ◌∷◌, ◌++◌, Option, Some, None, inl, inr, refl, sym, ap, ◌∙◌, arith}
+use Rattle.std.proofs.lemmas.Bool.{and_right, cases_Bool, cases_eq}
 use Rattle.std.proofs.lemmas.List.{append_assoc, append-nil}
 use Rattle.hoa_lexer.specs.Blanks.{Closes, IsBlanks, IsOpenComment}
 use Rattle.hoa_lexer.specs.Blanks.IsBlanks.{nothing, comment}
-use Rattle.hoa_lexer.specs.Text.{AfterBlanks, AsksForMore, Begins, HasFront}
-use Rattle.hoa_lexer.specs.declared.token.Token.TheVariants.{Bang}
+use Rattle.hoa_lexer.specs.Spelling.{Quotes}
+use Rattle.hoa_lexer.specs.Spelling.Quotes.{nothing as unquoted, escaped, plain}
+use Rattle.hoa_lexer.specs.Text.{AfterBlanks, AsksForMore, Begins, HasFront, IsOpenString}
+use Rattle.hoa_lexer.specs.declared.token.Token.TheVariants.{Bang, Str}
 use Rattle.hoa_lexer.specs.inner.Steps.{closing}
-use Rattle.hoa_lexer.proofs.next_token.Exclusive.{blanks_no_token, stuck_no_token}
 use Rattle.hoa_lexer.proofs.next_token.Fronts.{blanks_append}
 use Rattle.hoa_lexer.proofs.spelling.Comments.{closing_sound, steps_in, steps_on, steps_out}
-use Rattle.hoa_parser.proofs.standing.StuckPlaces.{open_stuck, string_begins}
+use Rattle.hoa_parser.proofs.standing.NextCases.{HasNext, next_no_blanks, next_not_open}
 use Rattle.hoa_parser.specs.Standing.{EndsOpen}
 
 -- so many open comments are closed, and a token follows
@@ -50,6 +51,68 @@ reopen (suc d) (b ∷ c ∷ bs) e = reopen_two d b c bs (reopen d bs) (reopen (s
 
 bang : HasFront (33 ∷ [])
 bang = record { token = Bang; rest = []; front = record { word = 33 ∷ []; split = refl; spells = refl; ends = tt } }
+
+-- a string closes in the bytes, or behind more of them
+record IsClosed (bytes : List ℕ) : Type 0 where
+  inner : List ℕ
+  text : List ℕ
+  more : List ℕ
+  quotes : Quotes inner text
+  split : bytes ≡ inner ++ 34 ∷ more
+
+record CanClose (bytes : List ℕ) : Type 0 where
+  inner : List ℕ
+  text : List ℕ
+  more : List ℕ
+  quotes : Quotes inner text
+  split : bytes ++ more ≡ inner ++ 34 ∷ []
+
+abbrev Quoted : List ℕ → Type 0
+Quoted bytes = IsClosed bytes ⊎ CanClose bytes
+
+abbrev tail_of : List ℕ → List ℕ
+tail_of [] = []
+tail_of (b ∷ bs) = bs
+
+quoted_plain : (b : ℕ) (bs : List ℕ) → b ≢ 34 → b ≢ 92 → Quoted bs → Quoted (b ∷ bs)
+quoted_plain b bs n m (inl q) = inl (record { inner = b ∷ q.inner; text = b ∷ q.text; more = q.more; quotes = plain n m q.quotes; split = ap (λ w. b ∷ w) q.split })
+quoted_plain b bs n m (inr q) = inr (record { inner = b ∷ q.inner; text = b ∷ q.text; more = q.more; quotes = plain n m q.quotes; split = ap (λ w. b ∷ w) q.split })
+
+quoted_escape : (b : ℕ) (bs : List ℕ) → b ≡ 92 → Quoted (tail_of bs) → Quoted (b ∷ bs)
+quoted_escape b [] e q = inr (record { inner = 92 ∷ 97 ∷ []; text = 97 ∷ []; more = 97 ∷ 34 ∷ []; quotes = escaped unquoted; split = ap (λ c. c ∷ 97 ∷ 34 ∷ []) e })
+quoted_escape b (c ∷ cs) e (inl q) = inl (record { inner = 92 ∷ c ∷ q.inner; text = c ∷ q.text; more = q.more; quotes = escaped q.quotes; split = (let rest = q.split in cc) })
+quoted_escape b (c ∷ cs) e (inr q) = inr (record { inner = 92 ∷ c ∷ q.inner; text = c ∷ q.text; more = q.more; quotes = escaped q.quotes; split = (let rest = q.split in cc) })
+
+quoted_step : (b : ℕ) (bs : List ℕ) → Quoted bs → Quoted (tail_of bs) → Quoted (b ∷ bs)
+quoted_step b bs q r = elim (cases_eq b 34) [
+  | inl e ↦ inl (record { inner = []; text = []; more = bs; quotes = unquoted; split = ap (λ c. c ∷ bs) e })
+  | inr n ↦ elim (cases_eq b 92) [ inl e ↦ quoted_escape b bs e r | inr m ↦ quoted_plain b bs n m q ]
+]
+
+quoted_both : (bytes : List ℕ) → Quoted bytes × Quoted (tail_of bytes)
+quoted_both [] =
+    let none : Quoted [] = inr (record { inner = []; text = []; more = 34 ∷ []; quotes = unquoted; split = refl }) in
+    (none, none)
+quoted_both (b ∷ bs) = let both = quoted_both bs in (quoted_step b bs both.0 both.1, both.0)
+
+-- so an open string can be closed
+string_begins : (bytes : List ℕ) → IsOpenString bytes → Begins bytes
+string_begins bytes o = elim (quoted_both o.rest).0 [
+  | inl q ↦ absurd (o.open_still q.inner q.text q.more q.split q.quotes)
+  | inr q ↦ record {
+    more = q.more;
+    front = record {
+      token = Str q.text;
+      rest = [];
+      front = record {
+        word = 34 ∷ (q.inner ++ 34 ∷ []);
+        split = ap (λ w. w ++ q.more) o.opens ∙ ap (λ w. 34 ∷ w) q.split ∙ sym (append-nil (34 ∷ (q.inner ++ 34 ∷ [])));
+        spells = (q.inner, q.quotes, refl);
+        ends = tt;
+      };
+    };
+  }
+]
 
 -- more bytes follow, and then a token is closed
 record Goes (rest : List ℕ) : Type 0 where
@@ -100,10 +163,13 @@ open_goes rest (inl a) = comment_goes rest a
 open_goes rest (inr (inl a)) = behind_begins rest a.before a.bytes a.blanks a.split (string_begins a.bytes a.holds)
 open_goes rest (inr (inr a)) = elim a.holds.begins [ inl e ↦ slash_goes rest a.before a.bytes a.blanks a.split e | inr b ↦ behind_begins rest a.before a.bytes a.blanks a.split b ]
 
+front_next : (rest : List ℕ) (a : AfterBlanks rest HasFront) → HasNext 0 rest a.holds.token
+front_next rest a = record { offset = length a.before; after = a.holds.rest; next = record { before = a.before; bytes = a.bytes; split = a.split; blanks = a.blanks; place = omega arith; front = a.holds.front } }
+
 pub open_end_asks : (rest : List ℕ) → IsBlanks rest ⊎ EndsOpen rest → AsksForMore rest
 open_end_asks rest (inl h) =
     let g = behind_blanks rest rest [] (33 ∷ []) [] h (sym (append-nil rest)) nothing refl in
-    record { unclosed = blanks_no_token rest h; more = g.more; closes = g.closes }
+    record { unclosed = λ a. next_no_blanks 0 rest a.holds.token (front_next rest a) h; more = g.more; closes = g.closes }
 open_end_asks rest (inr o) =
     let g = open_goes rest o in
-    record { unclosed = stuck_no_token rest (open_stuck rest o); more = g.more; closes = g.closes }
+    record { unclosed = λ a. next_not_open 0 rest a.holds.token (front_next rest a) o; more = g.more; closes = g.closes }

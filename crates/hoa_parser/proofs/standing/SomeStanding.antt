@@ -3,7 +3,8 @@ use Rattle.std.proofs.Common.{◌≡◌, ◌≢◌, ℕ, zero, suc, ◌+◌, ◌
 use Rattle.std.proofs.lemmas.List.{length-append, map-append}
 use Rattle.hoa_lexer.proofs.spelling.FirstBytes.{spelled_some}
 use Rattle.hoa_lexer.specs.Blanks.{IsBlanks}
-use Rattle.hoa_lexer.specs.Laws.{Next, SomeNext, StandsNext}
+use Rattle.hoa_lexer.proofs.next_token.Cases.{some_next}
+use Rattle.hoa_lexer.specs.Laws.{Next, StandsNext}
 use Rattle.hoa_lexer.specs.Laws.Next.{NoMore, OneToken, NoToken, InComment, InString, InToken}
 use Rattle.hoa_lexer.specs.Spelling as spelling
 use Rattle.hoa_lexer.specs.Text.{IsNext, Lexes}
@@ -165,15 +166,15 @@ next_so start text tokens used rest p ps InToken none r later h =
     none Cut (record { tokens = tokens; used = used; rest = rest; begun = begun start text tokens used rest p ps r; ends = inr (inr (inr h)) })
 
 -- from there on something stands next
-reached : SomeNext → (n start : ℕ) (text : List ℕ) (tokens : List Token) (used : ℕ) (rest : List ℕ) (p : Part) (ps : List Part) → Nothing start text → Reached start text tokens used rest (p ∷ ps) → length rest ≤ n → ⊥
-reached law zero start text tokens used rest p ps none r l =
-    law used rest (λ a h. next_so start text tokens used rest p ps a none r (λ t k next q qs n s. absurd (omega (arith, l, next_less rest used t k next n))) h)
-reached law (suc m) start text tokens used rest p ps none r l =
-    law used rest
+reached : (n start : ℕ) (text : List ℕ) (tokens : List Token) (used : ℕ) (rest : List ℕ) (p : Part) (ps : List Part) → Nothing start text → Reached start text tokens used rest (p ∷ ps) → length rest ≤ n → ⊥
+reached zero start text tokens used rest p ps none r l =
+    some_next used rest (λ a h. next_so start text tokens used rest p ps a none r (λ t k next q qs n s. absurd (omega (arith, l, next_less rest used t k next n))) h)
+reached (suc m) start text tokens used rest p ps none r l =
+    some_next used rest
     (λ a h.
     next_so start text tokens used rest p ps a none r
-    (λ t k next q qs n s. reached law m start text (tokens ++ t ∷ []) (used + (length rest - length next)) next q qs none s (omega (arith, l, next_less rest used t k next n))) h)
+    (λ t k next q qs n s. reached m start text (tokens ++ t ∷ []) (used + (length rest - length next)) next q qs none s (omega (arith, l, next_less rest used t k next n))) h)
 
-pub some_standing : SomeNext → SomeStanding
-some_standing law start text none =
-    reached law (length text) start text [] start text part.Whole [] none (record { placed = []; shown = refl; lexes = refl; used_is = omega arith; shorter = omega arith; leads = refl }) (omega arith)
+pub some_standing : SomeStanding
+some_standing start text none =
+    reached (length text) start text [] start text part.Whole [] none (record { placed = []; shown = refl; lexes = refl; used_is = omega arith; shorter = omega arith; leads = refl }) (omega arith)

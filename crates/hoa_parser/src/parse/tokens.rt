@@ -108,11 +108,9 @@ pub(super) fn maybe_quoted<I: Inputs>(
         (state lexer.old ahead.old (I.seen inputs.old)) (state lexer.new ahead.new (I.seen inputs.new)) }
 {
     match ahead {
-        Token::Str(_) => {}
-        _ => return Ok(()),
+        Token::Str(_) => advance(alloc, lexer, inputs, ahead),
+        _ => Ok(()),
     }
-    advance(alloc, lexer, inputs, ahead)?;
-    Ok(())
 }
 
 /// IDENTIFIER
@@ -170,11 +168,9 @@ pub(super) fn opening_paren<I: Inputs>(
         (state lexer.old ahead.old (I.seen inputs.old)) (state lexer.new ahead.new (I.seen inputs.new)) }
 {
     match ahead {
-        Token::LeftParen => {}
-        _ => return Err(refused(lexer)),
+        Token::LeftParen => advance(alloc, lexer, inputs, ahead),
+        _ => Err(refused(lexer)),
     }
-    advance(alloc, lexer, inputs, ahead)?;
-    Ok(())
 }
 
 /// ")"
@@ -189,11 +185,9 @@ pub(super) fn closing_paren<I: Inputs>(
         (state lexer.old ahead.old (I.seen inputs.old)) (state lexer.new ahead.new (I.seen inputs.new)) }
 {
     match ahead {
-        Token::RightParen => {}
-        _ => return Err(refused(lexer)),
+        Token::RightParen => advance(alloc, lexer, inputs, ahead),
+        _ => Err(refused(lexer)),
     }
-    advance(alloc, lexer, inputs, ahead)?;
-    Ok(())
 }
 
 /// "]"
@@ -208,9 +202,7 @@ pub(super) fn closing_bracket<I: Inputs>(
         (state lexer.old ahead.old (I.seen inputs.old)) (state lexer.new ahead.new (I.seen inputs.new)) }
 {
     match ahead {
-        Token::RightBracket => {}
-        _ => return Err(refused(lexer)),
+        Token::RightBracket => advance(alloc, lexer, inputs, ahead),
+        _ => Err(refused(lexer)),
     }
-    advance(alloc, lexer, inputs, ahead)?;
-    Ok(())
 }

@@ -14,7 +14,7 @@ pub returns-then-not-opens-clause-answers : goal.returns-then-not-opens-clause-a
 returns-then-not-opens-clause-answers g c = raw_other _ _ _ _ (opened_so _ _ _ _ c.in-Some.is c.in_ok-ahead.ensures.answers c.in_ok-ahead.ensures.holds c.in_ok-ahead.ensures.moves) c.offset.ensures (c.if-not-opens.ensures.others refl)
 
 pub returns-then-not-opens-clause-shown : goal.returns-then-not-opens-clause-shown
-returns-then-not-opens-clause-shown g c = raw_other_shows c.last_is_asked_for.ensures _ _ _ _ (opened_so _ _ _ _ c.in-Some.is c.in_ok-ahead.ensures.answers c.in_ok-ahead.ensures.holds c.in_ok-ahead.ensures.moves) c.offset.ensures (c.if-not-opens.ensures.others refl)
+returns-then-not-opens-clause-shown g c = raw_other_shows _ _ _ _ (opened_so _ _ _ _ c.in-Some.is c.in_ok-ahead.ensures.answers c.in_ok-ahead.ensures.holds c.in_ok-ahead.ensures.moves) c.offset.ensures (c.if-not-opens.ensures.others refl)
 
 pub returns-in-Ok-clause-answers : goal.returns-in-Ok-clause-answers
 returns-in-Ok-clause-answers g c = raw_whole c.in-Ok.raw _ _ _ _ (opened_so _ _ _ _ c.in-Some.is c.in_ok-ahead.ensures.answers c.in_ok-ahead.ensures.holds c.in_ok-ahead.ensures.moves) c.in-Ok.ensures.reads
@@ -23,10 +23,10 @@ pub returns-then-abandons-clause-answers : goal.returns-then-abandons-clause-ans
 returns-then-abandons-clause-answers g c = raw_aborted c.in-Err.fault _ _ _ _ (opened_so _ _ _ _ c.in-Some.is c.in_ok-ahead.ensures.answers c.in_ok-ahead.ensures.holds c.in_ok-ahead.ensures.moves) (c.if-not-opens.ensures.opens refl) (c.if-abandons.ensures.yes refl) c.in-Err.ensures.reads
 
 pub returns-then-abandons-clause-shown : goal.returns-then-abandons-clause-shown
-returns-then-abandons-clause-shown g c = raw_aborted_shows c.last_is_asked_for.ensures c.in-Err.fault _ _ _ _ (opened_so _ _ _ _ c.in-Some.is c.in_ok-ahead.ensures.answers c.in_ok-ahead.ensures.holds c.in_ok-ahead.ensures.moves) (c.if-abandons.ensures.yes refl) c.in-Err.ensures.reads
+returns-then-abandons-clause-shown g c = raw_aborted_shows c.in-Err.fault _ _ _ _ (opened_so _ _ _ _ c.in-Some.is c.in_ok-ahead.ensures.answers c.in_ok-ahead.ensures.holds c.in_ok-ahead.ensures.moves) (c.if-abandons.ensures.yes refl) c.in-Err.ensures.reads
 
 pub returns-clause-answers : goal.returns-clause-answers
 returns-clause-answers g c = raw_fault c.in-Err.fault _ _ _ _ (opened_so _ _ _ _ c.in-Some.is c.in_ok-ahead.ensures.answers c.in_ok-ahead.ensures.holds c.in_ok-ahead.ensures.moves) (c.if-abandons.ensures.no refl) c.in-Err.ensures.reads
 
 pub returns-clause-shown : goal.returns-clause-shown
-returns-clause-shown g c = raw_fault_shows c.last_is_asked_for.ensures c.in-Err.fault _ _ _ _ (opened_so _ _ _ _ c.in-Some.is c.in_ok-ahead.ensures.answers c.in_ok-ahead.ensures.holds c.in_ok-ahead.ensures.moves) (c.if-abandons.ensures.no refl) c.in-Err.ensures.reads
+returns-clause-shown g c = raw_fault_shows c.in-Err.fault _ _ _ _ (opened_so _ _ _ _ c.in-Some.is c.in_ok-ahead.ensures.answers c.in_ok-ahead.ensures.holds c.in_ok-ahead.ensures.moves) (c.if-abandons.ensures.no refl) c.in-Err.ensures.reads

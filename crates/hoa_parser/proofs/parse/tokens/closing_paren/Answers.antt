@@ -1,15 +1,12 @@
 use Rattle.std.proofs.Common.{[], refl}
 use Rattle.hoa_lexer.specs.declared.token.Token.TheVariants as token
 use Rattle.hoa_parser.proofs.grammar.OtherTokens.{no_closing_paren}
-use Rattle.hoa_parser.proofs.reading.Steps.{handed_on, takes, takes_last, token_refused}
+use Rattle.hoa_parser.proofs.reading.Steps.{token_read, token_refused}
 use Rattle.hoa_parser.specs.inner.Expecting.{ClosingParen}
 use Rattle.hoa_parser.proofs.parse.tokens.closing_paren.Goals as goal
 
+pub returns-in-RightParen : goal.returns-in-RightParen
+returns-in-RightParen g c = record { reads = token_read ClosingParen token.RightParen _ c.advance.result _ _ c.in-RightParen.is refl refl (λ v a b h. h) c.advance.ensures }
+
 pub returns-in_default : goal.returns-in_default
 returns-in_default g c = record { reads = token_refused ClosingParen [] _ _ c.requires.unspent c.refused.ensures (no_closing_paren _ c.in_default.not-RightParen) }
-
-pub returns-in_err-advance : goal.returns-in_err-advance
-returns-in_err-advance g c = record { reads = handed_on _ _ _ c.from_residual.ensures.1 (takes_last ClosingParen [] token.RightParen c.in-RightParen.is refl refl refl c.in_err-advance.ensures) }
-
-pub returns : goal.returns
-returns g c = record { reads = takes ClosingParen [] token.RightParen c.in-RightParen.is refl refl refl c.in_ok-advance.ensures }
