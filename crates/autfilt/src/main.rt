@@ -1,8 +1,10 @@
 //! `autfilt`: a filter of omega-automata whose every answer is proved.
 //!
 //! What the command does is the function `autfilt` of `autfilt_command`, and what it runs over, standard input and outputs, is
-//! that of `real_io`. Here stands `main`.
+//! that of `real_io`. Here stands `main`, and what it makes of its arguments.
 #![tactic(auto)]
+
+ghost use Rattle.std.specs.Prelude.{◌≡◌, drop, map, IfOk};
 
 use aut_base::{Memory, Text, Words};
 use autfilt_command::{End, Ended, autfilt, note};
@@ -46,11 +48,29 @@ fn made(
     Ok((words, RealInputs::new(alloc, stdin)?))
 }
 
-/// The words after the program's name.
+/// The words that the arguments ask the run for.
 fn words_of(alloc: Global, args: Args<Global>) -> Result<Words, Memory> {
-    let mut words = Words::new(alloc);
-    for arg in args.skip(1) {
-        words.push(Text::from_vec(arg.into_bytes()))?;
+    let args: Vec<String> = args.collect(alloc)?;
+    words_behind(alloc, &args)
+}
+
+/// The words after the program's name, which is the first argument.
+fn words_behind(alloc: Global, args: &[String]) -> Result<Words, Memory>
+    ensures { IfOk result (λ words. words ≡ map (λ s. s.bytes.items) (drop 1 args.now)) }
+{
+    match args.split_first() {
+        Some((_, words)) => texts_of(alloc, words),
+        None => Ok(Words::new(alloc)),
     }
-    Ok(words)
+}
+
+/// The words, as texts of our own.
+fn texts_of(alloc: Global, words: &[String]) -> Result<Words, Memory>
+    ensures { IfOk result (λ texts. texts ≡ map (λ s. s.bytes.items) words.now) }
+{
+    let mut texts = Words::new(alloc);
+    'words: for word in words {
+        texts.push(Text::from_bytes(alloc, word.as_bytes())?)?;
+    }
+    Ok(texts)
 }
