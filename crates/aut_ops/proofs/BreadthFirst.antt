@@ -1,14 +1,14 @@
 -- What holds of lists in breadth-first order.
-use Rattle.std.proofs.Common.{◌≡◌, ◌≢◌, ◌∙◌, ◌↔◌, ◌⊎◌, ◌+◌, ◌<◌, ◌≤◌, ℕ, zero, suc, Bool, true, false, cond, List, [], ◌∷◌, ◌++◌, All, AllPairs, Contains, ap, append_assoc, arith, drop, fold, get_or, inl, inr, length, length-append, refl, subst, sym, take}
+use Rattle.std.proofs.Common.{◌≡◌, ◌≢◌, ◌∙◌, ◌↔◌, ◌⊎◌, ◌<◌, ◌≤◌, ℕ, zero, suc, Bool, true, false, cond, List, [], ◌∷◌, ◌++◌, All, AllPairs, Contains, ap, append_assoc, arith, drop, fold, get_or, inl, inr, length, length-append, refl, subst, sym, take}
 use Rattle.std.proofs.lemmas.Bool.{cases_lt}
 use Rattle.std.proofs.lemmas.List.{append-nil, get_or-take, length-take-le, take-append-drop, take-append-le, take_all}
-use Rattle.std.proofs.lemmas.List.Elements.{All-contains, All-push, Contains-append_cases, Contains-append_left, Contains-append_right, Contains-get_or, Contains-push}
+use Rattle.std.proofs.lemmas.List.Elements.{All-contains, All-push, Contains-append_left, Contains-append_right, Contains-get_or, Contains-push}
 use Rattle.std.proofs.lemmas.List.Quantifiers.{all_pairs_push}
 use Rattle.std.proofs.lemmas.List.Sums.{fold-append}
 use Rattle.std.proofs.lemmas.Grind.{flat_map-append}
 use Rattle.std.specs.List.{list_any}
 use Rattle.std.specs.Prelude.{flat_map}
-use Rattle.aut_ops.proofs.Members.{Tells, each_there, first_there, found_there, from_flat_map, later_there, none_there, there_cases, there_flat_map, there_found}
+use Rattle.aut_ops.proofs.Members.{Tells, found_there, none_there, there_cases, there_flat_map, there_found}
 use Rattle.aut_ops.specs.BreadthFirst.{IsBreadthFirst, IsReached, Leads, once, with_new}
 
 -- what is reached
@@ -166,8 +166,7 @@ module _ {X : Type 0} (same : X → X → Bool) (tells : Tells same) where
         let long = front_longer list is k within in
         let long_too : k < length (front k other) = omega (arith, long, ap length same_front) in
         let one = front_begins list is k in
-        let two = front_begins other also k in
-        (
+        let two = front_begins other also k in (
           omega (arith, long_too, ap length two.1, length-append (front k other) two.0),
           ap (take (suc k)) one.1 ∙ (take-append-le (suc k) (front k list) one.0 long ∙ (ap (take (suc k)) same_front ∙ (sym (take-append-le (suc k) (front k other) two.0 long_too) ∙ sym (ap (take (suc k)) two.1)))),
         )

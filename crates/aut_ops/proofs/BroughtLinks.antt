@@ -1,9 +1,8 @@
 -- Guards that are brought into a store where each proposition has the same number.
-use Rattle.std.proofs.Common.{◌≡◌, ◌∙◌, ◌+◌, ◌<◌, ℕ, List, All, ap, arith, get_or, length, subst, sym}
+use Rattle.std.proofs.Common.{◌≡◌, ◌∙◌, ◌+◌, ◌<◌, ℕ, List, All, ap, arith, get_or, length}
 use Rattle.std.proofs.lemmas.List.{get_or_default}
 use Rattle.std.proofs.lemmas.List.FromFn.{get_or-range_with_len, length-range_with_len}
 use Rattle.std.specs.List.{range_with_len, slice_index_or}
-use Rattle.aut_base.specs.Automaton.{TreeEdge}
 use Rattle.aut_core.specs.Core.{edge_of}
 use Rattle.aut_core.specs.declared.link.Link.{Link}
 use Rattle.label_guards.specs.Guards.{IsGuardOf, truth_in}

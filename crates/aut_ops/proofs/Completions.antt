@@ -1,38 +1,21 @@
 -- What holds of an automaton with a sink.
-use Rattle.std.proofs.Common.{◌≡◌, ◌≢◌, ◌∙◌, ◌↔◌, ◌⊎◌, ◌==◌, ◌+◌, ◌*◌, ◌<◌, ◌≤◌, ◌&&◌, ◌||◌, ℕ, zero, suc, Bool, true, false, cond, not, IsTrue, List, [], ◌∷◌, ◌++◌, All, AllPairs, Contains, ap, arith, get_or, inl, inr, length, map, refl, subst, sym}
-use Rattle.std.proofs.Math.Nat.{le-mul_of_pos_right}
-use Rattle.std.proofs.lemmas.Bool.{and_from, and_parts, cases_Bool, cases_lt, eqb-false, eqb-true, eq-eqb, false≢true, ne_eqb}
-use Rattle.std.proofs.lemmas.List.{length-map}
-use Rattle.std.proofs.lemmas.List.Elements.{All-append, All-contains, All-cons, All-from_recursion, All-head, All-tail, All-weaker, Contains-append_cases, Contains-append_left, Contains-append_right, filter-append, filter_passes}
-use Rattle.std.proofs.lemmas.List.Folds.{Any-from_list_any, list_any_at}
-use Rattle.std.proofs.lemmas.List.Quantifiers.{all_pairs_push}
+use Rattle.std.proofs.Common.{◌≡◌, ◌≢◌, ◌∙◌, ◌⊎◌, ◌==◌, ◌+◌, ◌<◌, ◌≤◌, ℕ, Bool, true, false, cond, not, List, [], ◌∷◌, ◌++◌, All, AllPairs, Contains, ap, arith, inl, inr, length, refl, subst, sym}
+use Rattle.std.proofs.lemmas.Bool.{eqb-true, eq-eqb}
+use Rattle.std.proofs.lemmas.List.Elements.{All-append, All-contains, All-from_recursion, Contains-append_cases, Contains-append_left, Contains-append_right, filter-append}
 use Rattle.std.proofs.lemmas.List.{append-nil}
-use Rattle.std.specs.List.{list_all, list_any, range_with_len}
+use Rattle.std.specs.List.{list_any, range_with_len}
 use Rattle.std.specs.Prelude.{flat_map}
-use Rattle.acc_forms.proofs.AtomLaws.{met-empty}
-use Rattle.acc_forms.proofs.JoinLaws.{met-conj}
 use Rattle.acc_forms.specs.Joined.{conj}
 use Rattle.aut_base.proofs.CanonicalBelow.{label_of_below}
-use Rattle.aut_base.proofs.Copies.{length-copies}
-use Rattle.aut_base.proofs.Walks.{as_long}
-use Rattle.aut_base.specs.Acceptance.{Accepts, IsPath}
 use Rattle.aut_base.specs.Automaton.{Automaton, IsEdgeOf, IsWellFormed, TreeEdge}
-use Rattle.aut_base.specs.Formula.{Fin, FormulaTree, SetsBelow, met}
-use Rattle.aut_base.specs.Label.{AllBelow, True, holds_at, truth}
-use Rattle.aut_base.specs.Marks.{is_in}
-use Rattle.aut_base.specs.Valuation.{letter_of, truth_on}
-use Rattle.aut_base.specs.Word.{NameSet, copies}
-use Rattle.aut_core.proofs.Deterministic.{deterministic_if}
-use Rattle.aut_core.specs.Deterministic.{AreApart, GoesOn, IsComplete, IsDeterministic, is_met}
-use Rattle.aut_core.specs.OtherNames.{AcceptTheSame}
-use Rattle.aut_core.specs.Surveys.{AreAllApart, edges_from}
-use Rattle.aut_ops.proofs.CycleMarks.{not_in_past}
+use Rattle.aut_base.specs.Formula.{Fin, FormulaTree, SetsBelow}
+use Rattle.aut_base.specs.Label.{True}
+use Rattle.aut_base.specs.Valuation.{truth_on}
+use Rattle.aut_core.specs.Surveys.{edges_from}
 use Rattle.aut_ops.proofs.FormulaSets.{sets_conj, sets_weaker}
-use Rattle.aut_ops.proofs.Labels.{at_letter, never_each, never_false, not_never, truth_none}
-use Rattle.aut_ops.proofs.LassoRuns.{marks_of}
 use Rattle.aut_ops.proofs.Members.{each_there, first_there, from_filter, from_flat_map, from_range, none_there, there_cases, there_filter, there_flat_map, there_range_zero}
-use Rattle.aut_ops.proofs.Rows.{AllFrom, Climbs, climbs_in_order, climbs_rows, other_row, own_row, row_of, rows_before}
-use Rattle.aut_ops.specs.Completion.{completed, filled_edges, gap_edges, is_met_unmarked, lacks_nothing, sink_marks, with_sink}
+use Rattle.aut_ops.proofs.Rows.{AllFrom, climbs_in_order, climbs_rows, other_row, own_row, row_of, rows_before}
+use Rattle.aut_ops.specs.Completion.{filled_edges, gap_edges, is_met_unmarked, sink_marks, with_sink}
 use Rattle.aut_ops.specs.Labels.{is_never, no_label}
 
 -- the sink's loop, and the edge to the sink

@@ -1,8 +1,8 @@
 -- The pairs that are listed when it was gone on from some of them.
-use Rattle.std.proofs.Common.{◌≡◌, ◌≢◌, ◌∙◌, ◌==◌, ◌+◌, ◌-◌, ◌<◌, ◌≤◌, ◌^◌, ℕ, zero, suc, List, [], ◌∷◌, ◌++◌, All, AllPairs, Contains, Some, ap, append-nil, append_assoc, arith, filter, get_or, length, length-append, map, refl, slice_get, subst, sym, take}
+use Rattle.std.proofs.Common.{◌≡◌, ◌≢◌, ◌∙◌, ◌==◌, ◌+◌, ◌<◌, ◌≤◌, ◌^◌, ℕ, List, [], ◌∷◌, ◌++◌, All, AllPairs, Contains, Some, ap, append-nil, append_assoc, arith, filter, length, length-append, map, refl, slice_get, subst, sym, take}
 use Rattle.std.proofs.lemmas.Grind.{flat_map-append}
 use Rattle.std.proofs.lemmas.List.{map-append, take_all, take-append-le}
-use Rattle.std.proofs.lemmas.List.Elements.{All-append, All-contains, All-filter, All-weaker, Contains-append_cases}
+use Rattle.std.proofs.lemmas.List.Elements.{All-contains, All-weaker}
 use Rattle.std.proofs.lemmas.List.Folds.{flat_map-map}
 use Rattle.std.proofs.lemmas.List.Sums.{fold-append}
 use Rattle.std.proofs.lemmas.Bool.{eqb-true}
@@ -10,7 +10,7 @@ use Rattle.std.proofs.lemmas.Option.{get_or_from_slice_get, slice_get_within}
 use Rattle.std.specs.List.{AllZip}
 use Rattle.std.specs.Prelude.{flat_map}
 use Rattle.aut_base.proofs.Lists.{take-slice_get}
-use Rattle.aut_base.specs.Automaton.{Automaton, TreeEdge}
+use Rattle.aut_base.specs.Automaton.{Automaton}
 use Rattle.aut_core.proofs.Growth.{keeps_on}
 use Rattle.aut_core.specs.Core.{Core, IsCore, IsLinkOf, automaton_of, edge_of}
 use Rattle.aut_core.specs.Surveys.{edges_from}
@@ -20,11 +20,11 @@ use Rattle.aut_ops.proofs.BreadthFirst.{added, added_differ, added_each, once_di
 use Rattle.aut_ops.proofs.FilledStates.{row_edges, row_have}
 use Rattle.aut_ops.proofs.JointEdges.{reached_within}
 use Rattle.aut_ops.proofs.Members.{each_there, from_filter}
-use Rattle.aut_ops.proofs.Pairings.{adds_itself, adds_then, ends}
+use Rattle.aut_ops.proofs.Pairings.{ends}
 use Rattle.aut_ops.proofs.Places.{pair_tells}
 use Rattle.aut_ops.specs.BreadthFirst.{IsReached, once, with_new}
 use Rattle.aut_ops.specs.Products.{ArePairs, HasMorePairs, JointEdge, joint_edge, joint_edges, next_pairs, same_pair, start_pairs}
-use Rattle.aut_ops.specs.inner.Pairings.{Adds, AreBeyond, AreEdges, CanMeet, IsNumbered, Stage, followed, meeting, with_pairs}
+use Rattle.aut_ops.specs.inner.Pairings.{Adds, AreBeyond, AreEdges, CanMeet, IsNumbered, Stage, followed, with_pairs}
 
 -- It was gone on from the pairs before this place.
 pub record IsExplored (most : ℕ) (a b : Core) (old now : Stage) (done : ℕ) : Type 0 where
@@ -158,8 +158,7 @@ module _ (most : ℕ) (a b : Core) (core_a : IsCore a) (core_b : IsCore b) (name
   -- it was gone on from all
   pub explored_all : (old s : Stage) (done : ℕ) → IsExplored most a b old s done → length s.pairs ≤ done → ArePairs first second s.pairs × AreEdges s (flat_map steps s.pairs)
   explored_all old s done so_far end =
-      let all : take done s.pairs ≡ s.pairs = take_all done s.pairs end in
-      (
+      let all : take done s.pairs ≡ s.pairs = take_all done s.pairs end in (
         record {
           in_turn = so_far.in_turn ∙ ap (λ ys. once same_pair (start_pairs first second ++ ys)) (ap (λ ps. ends (flat_map steps ps)) all ∙ map-flat_map (λ (j : JointEdge). j.to) steps s.pairs);
           reached = so_far.reached;

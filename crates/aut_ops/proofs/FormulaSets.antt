@@ -1,5 +1,5 @@
 -- The sets of conditions that are made of others.
-use Rattle.std.proofs.Common.{◌+◌, ◌<◌, ◌≤◌, ◌||◌, ℕ, Bool, true, false, cond, List, [], ◌∷◌, ◌++◌, arith}
+use Rattle.std.proofs.Common.{◌+◌, ◌≤◌, ◌||◌, ℕ, Bool, true, false, cond, List, [], ◌∷◌, ◌++◌, arith}
 use Rattle.std.specs.List.{AllByRecursion}
 use Rattle.acc_forms.specs.Joined.{all_of, conj, conjuncts, disj, disjuncts, is_false, is_true, listed, some_of}
 use Rattle.acc_forms.specs.Shift.{shift, shifts}

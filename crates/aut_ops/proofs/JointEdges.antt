@@ -1,18 +1,16 @@
 -- The edges of a product, and the pairs between which they lead.
-use Rattle.std.proofs.Common.{◌≡◌, ◌≢◌, ◌∙◌, ◌↔◌, ◌==◌, ◌&&◌, ◌+◌, ◌<◌, ℕ, Bool, true, false, cond, List, [], ◌∷◌, ◌++◌, All, AllPairs, Contains, Some, ap, arith, get_or, inl, inr, length, map, refl, slice_get, subst, sym}
-use Rattle.std.proofs.lemmas.Bool.{cases_Bool, eq-eqb, eqb-true, false≢true}
+use Rattle.std.proofs.Common.{◌≡◌, ◌≢◌, ◌∙◌, ◌==◌, ◌+◌, ◌<◌, ℕ, Bool, true, false, cond, List, [], ◌∷◌, ◌++◌, AllPairs, Contains, Some, ap, arith, inl, inr, length, map, refl, slice_get, subst, sym}
+use Rattle.std.proofs.lemmas.Bool.{eq-eqb, eqb-true}
 use Rattle.std.proofs.lemmas.List.Elements.{All-contains}
-use Rattle.std.specs.List.{position_or_len}
 use Rattle.std.specs.Prelude.{flat_map}
 use Rattle.aut_base.specs.Automaton.{Automaton, IsEdgeOf, IsWellFormed, TreeEdge}
-use Rattle.aut_base.specs.Formula.{FormulaTree}
 use Rattle.aut_core.specs.Surveys.{edges_from}
 use Rattle.aut_ops.proofs.BreadthFirst.{listed_differ, next_listed, reached_keeps, start_listed}
 use Rattle.aut_ops.proofs.Members.{first_there, from_filter, from_flat_map, from_map, none_there, there_cases, there_filter, there_flat_map, there_map}
 use Rattle.aut_ops.proofs.Places.{pair_tells, place_there}
 use Rattle.aut_ops.specs.BreadthFirst.{IsReached}
 use Rattle.aut_ops.specs.Labels.{both_labels, is_never}
-use Rattle.aut_ops.specs.Products.{ArePairs, JointEdge, joint_edge, joint_edges, joint_rows, next_pairs, numbered, product_on, same_pair, start_pairs}
+use Rattle.aut_ops.specs.Products.{ArePairs, JointEdge, joint_edge, joint_edges, next_pairs, numbered, same_pair, start_pairs}
 
 -- the two edges as one
 abbrev pub joined : ℕ → ℕ → TreeEdge → TreeEdge → JointEdge

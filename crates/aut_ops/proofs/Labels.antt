@@ -1,9 +1,7 @@
 -- What labels say that are put together.
-use Rattle.std.proofs.Common.{◌≡◌, ◌≢◌, ◌∙◌, ◌↔◌, ◌⊎◌, ◌+◌, ◌++◌, ◌<◌, ℕ, zero, suc, Bool, true, false, not, ◌&&◌, ◌||◌, IsTrue, if◌then◌else◌, List, [], ◌∷◌, All, AllPairs, Contains, ap, arith, get_or, inl, inr, length, map, refl, subst, sym}
+use Rattle.std.proofs.Common.{◌≡◌, ◌≢◌, ◌∙◌, ◌↔◌, ◌⊎◌, ◌+◌, ◌++◌, ◌<◌, ℕ, zero, suc, Bool, true, false, not, ◌&&◌, ◌||◌, IsTrue, if◌then◌else◌, List, [], ◌∷◌, All, AllPairs, Contains, ap, arith, inl, inr, length, map, refl, sym}
 use Rattle.std.proofs.lemmas.Bool.{cases_Bool, false≢true}
-use Rattle.std.proofs.lemmas.List.Elements.{All-contains}
 use Rattle.std.specs.List.{list_all, list_any, slice_index_or}
-use Rattle.std.specs.Prelude.{flat_map}
 use Rattle.aut_base.proofs.CanonicalTruth.{label_of-same, truth-label_of, truth_below}
 use Rattle.aut_base.proofs.ValuationLetters.{letter_of_holds}
 use Rattle.aut_base.proofs.ValuationLists.{all_valuations, each_valuation, holds_in-valuation_of, length-valuation_of}

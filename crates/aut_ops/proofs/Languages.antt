@@ -1,5 +1,5 @@
 -- Languages of automata in place of others that accept the same.
-use Rattle.std.proofs.Common.{◌≡◌, ◌∙◌, ◌↔◌, inl, inr}
+use Rattle.std.proofs.Common.{inl, inr}
 use Rattle.aut_base.specs.Automaton.{Automaton}
 use Rattle.aut_core.specs.OtherNames.{AcceptTheSame}
 use Rattle.aut_ops.specs.Languages.{AcceptsBoth, AcceptsEither}

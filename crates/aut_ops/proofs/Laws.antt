@@ -1,6 +1,6 @@
 -- The pairs of a product are determined, and are those to which letters lead.
-use Rattle.std.proofs.Common.{◌≡◌, ◌≢◌, ◌∙◌, ◌↔◌, ◌&&◌, ◌+◌, ◌<◌, ◌≤◌, ℕ, zero, suc, Bool, true, false, Decides, List, [], ◌∷◌, ◌++◌, All, AllPairs, Contains, ap, arith, length, refl, subst, sym}
-use Rattle.std.proofs.lemmas.Bool.{and_from, and_parts, cases_Bool, false≢true}
+use Rattle.std.proofs.Common.{◌≡◌, ◌∙◌, ◌&&◌, ℕ, Bool, true, false, List, [], ◌∷◌, ◌++◌, Contains, ap, arith, length, refl, subst, sym}
+use Rattle.std.proofs.lemmas.Bool.{and_from, and_parts}
 use Rattle.std.proofs.lemmas.List.Elements.{All-contains}
 use Rattle.std.proofs.lemmas.Map.Made.{IsDistinct-from_AllPairs, is_member-Decides, length-le_from_is_member}
 use Rattle.std.specs.Cmp.{IsEquivalence}
@@ -17,9 +17,9 @@ use Rattle.aut_ops.proofs.Members.{from_map, there_map}
 use Rattle.aut_ops.proofs.Paths.{path_join}
 use Rattle.aut_ops.proofs.Places.{pair_tells}
 use Rattle.aut_ops.specs.BreadthFirst.{IsReached}
-use Rattle.aut_ops.specs.Labels.{both_labels, is_never}
+use Rattle.aut_ops.specs.Labels.{both_labels}
 use Rattle.aut_ops.specs.Laws.{AreLedTo, FewPairsExcludeMore, PairsAreDetermined, ProductsAreDetermined, ReachedByLetters}
-use Rattle.aut_ops.specs.Products.{ArePairs, JointEdge, joint_edges, next_pairs, product_on, same_pair, start_pairs}
+use Rattle.aut_ops.specs.Products.{JointEdge, joint_edges, next_pairs, product_on, same_pair, start_pairs}
 
 pub pairs_are_determined : PairsAreDetermined
 pairs_are_determined a b pairs listed = record {

@@ -2,6 +2,7 @@ pub mod AllPairsOf
 pub mod BreadthFirst
 pub mod BroughtLinks
 pub mod CompleteRuns
+pub mod CompletedSizes
 pub mod Completions
 pub mod CycleMarks
 pub mod Explorations

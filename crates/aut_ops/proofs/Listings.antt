@@ -1,15 +1,14 @@
 -- Pairs that are listed one by one, and their places.
-use Rattle.std.proofs.Common.{◌≡◌, ◌∙◌, ◌+◌, ◌<◌, ◌≤◌, ℕ, List, [], ◌∷◌, ◌++◌, All, Contains, Some, ap, append-nil, append_assoc, arith, drop, get_or, length, map, refl, slice_get, subst, sym, take}
+use Rattle.std.proofs.Common.{◌≡◌, ◌∙◌, ◌+◌, ◌<◌, ℕ, List, [], ◌∷◌, ◌++◌, Contains, Some, ap, append-nil, append_assoc, drop, get_or, length, map, refl, slice_get, subst, sym, take}
 use Rattle.std.proofs.lemmas.Grind.{flat_map-append}
-use Rattle.std.proofs.lemmas.List.{map-append, take_all}
+use Rattle.std.proofs.lemmas.List.{map-append}
 use Rattle.std.proofs.lemmas.List.Elements.{Contains-append_left}
 use Rattle.std.proofs.lemmas.List.Sums.{fold-append}
-use Rattle.std.specs.List.{AllZip}
 use Rattle.std.specs.Prelude.{flat_map}
 use Rattle.aut_base.proofs.Lists.{split-at, take-push}
-use Rattle.aut_ops.proofs.BreadthFirst.{added, with_new_longer}
+use Rattle.aut_ops.proofs.BreadthFirst.{with_new_longer}
 use Rattle.aut_ops.proofs.Pairings.{beyond_then, beyond_wider, longer_at, zip_append}
-use Rattle.aut_ops.proofs.Places.{pair_tells, place_is}
+use Rattle.aut_ops.proofs.Places.{pair_tells}
 use Rattle.aut_ops.specs.BreadthFirst.{with_new}
 use Rattle.aut_ops.specs.Products.{same_pair}
 use Rattle.aut_ops.specs.inner.Pairings.{AreBeyond, AreListed, ArePlaces, with_pairs}

@@ -1,10 +1,9 @@
 -- The automaton of what was explored.
-use Rattle.std.proofs.Common.{◌≡◌, ◌≢◌, ◌∙◌, ◌+◌, ◌++◌, ◌∷◌, ◌≤◌, ℕ, List, [], All, AllPairs, Contains, Some, ap, length, map, refl, slice_get, subst, sym}
+use Rattle.std.proofs.Common.{◌≡◌, ◌≢◌, ◌∙◌, ◌+◌, ◌++◌, ◌∷◌, ℕ, List, [], AllPairs, Contains, ap, length, map, refl, subst, sym}
 use Rattle.std.specs.List.{AllZip, position_or_len}
 use Rattle.std.specs.Prelude.{flat_map}
 use Rattle.acc_forms.specs.Shift.{shift}
 use Rattle.aut_base.proofs.CanonicalAutomata.{labels_below}
-use Rattle.aut_base.specs.Acceptance.{Accepts}
 use Rattle.aut_base.specs.Automaton.{Automaton, IsWellFormed, TreeEdge}
 use Rattle.aut_base.specs.Formula.{FormulaTree, SetsBelow, True}
 use Rattle.aut_base.specs.Word.{NameSet, copies}
@@ -12,7 +11,7 @@ use Rattle.aut_core.proofs.OtherNames.{AreAmong, over_accepts}
 use Rattle.aut_core.specs.Core.{AreParts, Core, IsCore, automaton_of, edge_of}
 use Rattle.aut_core.specs.OtherNames.{AcceptTheSame, over_names}
 use Rattle.aut_core.specs.declared.link.Link.{Link}
-use Rattle.label_guards.specs.Store.{Has, Keeps, Store}
+use Rattle.label_guards.specs.Store.{Keeps, Store}
 use Rattle.aut_ops.proofs.FormulaSets.{sets_conj, sets_disj}
 use Rattle.aut_ops.proofs.JointEdges.{pairs_differ}
 use Rattle.aut_ops.proofs.Languages.{both_like, either_like}
@@ -28,7 +27,7 @@ use Rattle.aut_ops.specs.declared.join.Join.{Join}
 use Rattle.aut_ops.specs.declared.join.Join.TheVariants as join
 use Rattle.aut_ops.specs.inner.Joins.{JoinAccepts, join_of}
 use Rattle.aut_ops.specs.inner.Pairings.{AreEdges, ArePlaces, IsNumbered, Stage}
-use Rattle.aut_ops.specs.inner.Runs.{HasRun, HasRuns, LassoRun}
+use Rattle.aut_ops.specs.inner.Runs.{HasRuns, LassoRun}
 
 sets_join : (j : Join) (n : ℕ) (f g : FormulaTree) → SetsBelow n f → SetsBelow n g → SetsBelow n (join_of j f g)
 sets_join join.All n f g one two = sets_conj n f g one two

@@ -1,7 +1,7 @@
 -- A product that grows edge by edge.
-use Rattle.std.proofs.Common.{◌≡◌, ◌∙◌, ◌↔◌, ◌&&◌, ◌+◌, ◌<◌, ◌≤◌, ℕ, zero, suc, Bool, true, false, cond, IsTrue, List, [], ◌∷◌, ◌++◌, All, Contains, Some, ap, append-nil, append_assoc, arith, fold, get_or, drop, length, map, refl, slice_get, subst, sym, take}
+use Rattle.std.proofs.Common.{◌≡◌, ◌∙◌, ◌↔◌, ◌&&◌, ◌+◌, ◌<◌, ℕ, Bool, true, false, cond, IsTrue, List, [], ◌∷◌, ◌++◌, All, Contains, Some, ap, append-nil, append_assoc, arith, get_or, drop, length, map, refl, slice_get, subst, sym, take}
 use Rattle.std.proofs.lemmas.List.{map-append, take-append-drop}
-use Rattle.std.proofs.lemmas.List.Elements.{All-append, All-map, All-push, All-tail, All-weaker, Contains-append_left, Contains-append_right}
+use Rattle.std.proofs.lemmas.List.Elements.{All-append, All-push, All-tail, All-weaker, Contains-append_left, Contains-append_right}
 use Rattle.std.proofs.lemmas.List.Sums.{fold-append}
 use Rattle.std.proofs.lemmas.Option.{slice_get_within}
 use Rattle.std.specs.List.{AllZip}
@@ -18,12 +18,12 @@ use Rattle.label_guards.specs.declared.guard.Guard.{Guard}
 use Rattle.aut_ops.proofs.BreadthFirst.{added, with_new_longer}
 use Rattle.aut_ops.proofs.JointEdges.{joined}
 use Rattle.aut_ops.proofs.Labels.{label_both, never_is}
-use Rattle.aut_ops.proofs.Members.{first_there, each_there, there_map}
+use Rattle.aut_ops.proofs.Members.{each_there}
 use Rattle.aut_ops.proofs.Places.{pair_tells}
 use Rattle.aut_ops.specs.BreadthFirst.{with_new}
 use Rattle.aut_ops.specs.Labels.{both_labels, is_never}
 use Rattle.aut_ops.specs.Products.{JointEdge, joint_edge, same_pair}
-use Rattle.aut_ops.specs.inner.Pairings.{Adds, AreBeyond, AreEdges, ArePlaces, CanMeet, IsNumbered, Stage, followed, meeting, with_pairs}
+use Rattle.aut_ops.specs.inner.Pairings.{Adds, AreBeyond, AreEdges, CanMeet, IsNumbered, Stage, followed, meeting, with_pairs}
 
 abbrev pub ends : List JointEdge → List (ℕ × ℕ)
 ends = map (λ j. j.to)
@@ -53,9 +53,9 @@ adds_nothing s t pairs links keeps = record {
   keeps = keeps;
   pairs = refl;
   links = λ before are. record {
-      has = All-weaker (λ (l : Link). Has s l.guard) (λ (l : Link). Has t l.guard) (λ l h. keeps.has l.guard h) links are.has;
-      edges = subst (AllZip (IsNumbered pairs) (map (edge_of t) links)) (sym (append-nil before)) (subst (λ es. AllZip (IsNumbered pairs) es before) (sym (kept_edges links keeps are.has)) are.edges);
-    };
+    has = All-weaker (λ (l : Link). Has s l.guard) (λ (l : Link). Has t l.guard) (λ l h. keeps.has l.guard h) links are.has;
+    edges = subst (AllZip (IsNumbered pairs) (map (edge_of t) links)) (sym (append-nil before)) (subst (λ es. AllZip (IsNumbered pairs) es before) (sym (kept_edges links keeps are.has)) are.edges);
+  };
 }
 
 pub adds_itself : (s : Stage) → Adds s s []
@@ -70,12 +70,12 @@ adds_one s t pairs more links new l j keeps listed pushed has from to label mark
       keeps = keeps;
       pairs = listed;
       links = λ before are. record {
-          has = subst (All (λ (m : Link). Has t m.guard)) (sym pushed) (All-push (λ (m : Link). Has t m.guard) links l (All-weaker (λ (m : Link). Has s m.guard) (λ (m : Link). Has t m.guard) (λ m h. keeps.has m.guard h) links are.has) has);
-          edges = subst (λ es. AllZip (IsNumbered more) es (before ++ j ∷ [])) (sym (ap (map (edge_of t)) pushed ∙ map-append (edge_of t) links (l ∷ [])))
-              (zip_append (IsNumbered more) (map (edge_of t) links) (edge_of t l ∷ []) before (j ∷ [])
-              (subst (λ es. AllZip (IsNumbered more) es before) (sym (kept_edges links keeps are.has)) (numbered_longer pairs more long.0 (map (edge_of s) links) before is are.edges))
-              (record { from = longer_at pairs more long.0 l.from j.from is from; to = to; label = label; marks = marks }, tt));
-        };
+        has = subst (All (λ (m : Link). Has t m.guard)) (sym pushed) (All-push (λ (m : Link). Has t m.guard) links l (All-weaker (λ (m : Link). Has s m.guard) (λ (m : Link). Has t m.guard) (λ m h. keeps.has m.guard h) links are.has) has);
+        edges = subst (λ es. AllZip (IsNumbered more) es (before ++ j ∷ [])) (sym (ap (map (edge_of t)) pushed ∙ map-append (edge_of t) links (l ∷ [])))
+            (zip_append (IsNumbered more) (map (edge_of t) links) (edge_of t l ∷ []) before (j ∷ [])
+            (subst (λ es. AllZip (IsNumbered more) es before) (sym (kept_edges links keeps are.has)) (numbered_longer pairs more long.0 (map (edge_of s) links) before is are.edges))
+            (record { from = longer_at pairs more long.0 l.from j.from is from; to = to; label = label; marks = marks }, tt));
+      };
     }
 
 -- one after the other

@@ -1,8 +1,8 @@
 -- The place of an item in a list of different items.
-use Rattle.std.proofs.Common.{◌≡◌, ◌≢◌, ◌∙◌, ◌↔◌, ◌==◌, ◌&&◌, ◌<◌, ℕ, Bool, true, List, All, AllPairs, Contains, Some, ap, arith, get_or, length, slice_get, subst, sym}
+use Rattle.std.proofs.Common.{◌≡◌, ◌≢◌, ◌∙◌, ◌==◌, ℕ, Bool, List, AllPairs, Contains, Some, ap, arith, get_or, slice_get, sym}
 use Rattle.std.proofs.lemmas.Bool.{and_from, and_parts, eq-eqb, eqb-true, false_from_ne_true}
 use Rattle.std.proofs.lemmas.List.Sums.{position_or_len_is}
-use Rattle.std.proofs.lemmas.Option.{get_or_from_slice_get, same_Some, slice_get_within}
+use Rattle.std.proofs.lemmas.Option.{get_or_from_slice_get, slice_get_within}
 use Rattle.std.specs.List.{position_or_len}
 use Rattle.aut_base.proofs.Lists.{slice_get-at}
 use Rattle.aut_ops.proofs.Members.{Tells}

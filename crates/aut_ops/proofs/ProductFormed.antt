@@ -1,7 +1,7 @@
 -- A product of well-formed automata is well formed.
-use Rattle.std.proofs.Common.{◌≡◌, ◌≢◌, ◌∙◌, ◌&&◌, ◌+◌, ◌<◌, ◌≤◌, ℕ, zero, suc, List, [], ◌∷◌, ◌++◌, All, AllPairs, Contains, Some, ap, arith, get_or, length, map, refl, slice_get, subst, sym}
+use Rattle.std.proofs.Common.{◌≡◌, ◌≢◌, ◌∙◌, ◌&&◌, ◌+◌, ◌<◌, ℕ, suc, List, [], ◌∷◌, All, AllPairs, Contains, Some, ap, arith, get_or, length, map, refl, slice_get, subst, sym}
 use Rattle.std.proofs.lemmas.List.{map-append}
-use Rattle.std.proofs.lemmas.List.Elements.{All-append, All-contains, All-map, All-weaker, Contains-get_or}
+use Rattle.std.proofs.lemmas.List.Elements.{All-append, All-contains, All-map, All-weaker}
 use Rattle.std.proofs.lemmas.Option.{same_Some, slice_get_within}
 use Rattle.std.specs.List.{position_or_len}
 use Rattle.std.specs.Prelude.{flat_map}
@@ -13,11 +13,10 @@ use Rattle.aut_base.specs.Label.{AllBelow}
 use Rattle.aut_base.specs.Valuation.{truth_on}
 use Rattle.aut_ops.proofs.AllPairsOf.{pairs_append, pairs_first, pairs_map, pairs_rest}
 use Rattle.aut_ops.proofs.FormulaSets.{sets_shift, sets_weaker}
-use Rattle.aut_ops.proofs.JointEdges.{EdgeOf, edge_of, from_start, made_of, pairs_differ, start_there}
+use Rattle.aut_ops.proofs.JointEdges.{edge_of, from_start, made_of, pairs_differ, start_there}
 use Rattle.aut_ops.proofs.Members.{each_there, from_flat_map, from_map}
 use Rattle.aut_ops.proofs.Places.{pair_tells, place_is, place_there}
 use Rattle.aut_ops.proofs.Rows.{AllFrom, Climbs, climbs_in_order, climbs_lower, climbs_row}
-use Rattle.aut_ops.specs.Labels.{both_labels}
 use Rattle.aut_ops.specs.Products.{ArePairs, JointEdge, joint_edges, numbered, product_on, same_pair, start_pairs}
 
 -- all pairs of one state and these

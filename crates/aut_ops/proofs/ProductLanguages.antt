@@ -1,5 +1,5 @@
 -- What products accept.
-use Rattle.std.proofs.Common.{◌≡◌, ◌∙◌, ◌↔◌, ◌⊎◌, ◌&&◌, ◌||◌, ℕ, true, List, ap, inl, inr, sym}
+use Rattle.std.proofs.Common.{◌≡◌, ◌∙◌, ◌⊎◌, ℕ, List, inl, inr, sym}
 use Rattle.std.proofs.lemmas.Bool.{and_from, and_parts, or_cases, or_left, or_right}
 use Rattle.acc_forms.proofs.JoinLaws.{met-conj, met-disj}
 use Rattle.acc_forms.specs.Joined.{conj, disj}
@@ -9,8 +9,8 @@ use Rattle.aut_base.specs.Automaton.{Automaton, IsWellFormed}
 use Rattle.aut_base.specs.Formula.{met}
 use Rattle.aut_base.specs.Word.{NameSet}
 use Rattle.aut_ops.proofs.LassoRuns.{accepts_of, marks_of, run_of}
-use Rattle.aut_ops.specs.inner.Runs.{HasRun, HasRuns, LassoRun}
-use Rattle.aut_ops.proofs.ProductRuns.{JointRun, Joined, Parts, join_runs, part_runs}
+use Rattle.aut_ops.specs.inner.Runs.{HasRuns}
+use Rattle.aut_ops.proofs.ProductRuns.{join_runs, part_runs}
 use Rattle.aut_ops.specs.Languages.{AcceptsBoth, AcceptsEither}
 use Rattle.aut_ops.specs.Products.{ArePairs, product_on}
 
@@ -21,8 +21,7 @@ module _ (a b : Automaton) (names : b.names ≡ a.names) (formed : IsWellFormed 
   from_all : (u v : List NameSet) → Accepts all u v → Accepts a u v × Accepts b u v
   from_all u v r =
       let parts = part_runs conj a b names formed also pairs listed u v r.turns r.rounds (run_of all u v r) in
-      let both = and_parts (met (marks_of r.cycle) a.formula) (met (marks_of r.cycle) (shift a.sets b.formula)) (sym (met-conj (marks_of r.cycle) a.formula (shift a.sets b.formula)) ∙ r.meets) in
-      (
+      let both = and_parts (met (marks_of r.cycle) a.formula) (met (marks_of r.cycle) (shift a.sets b.formula)) (sym (met-conj (marks_of r.cycle) a.formula (shift a.sets b.formula)) ∙ r.meets) in (
         accepts_of a u v r.turns r.rounds parts.first_run r.endless r.positive (sym (parts.first a.formula formed.formula) ∙ both.0),
         accepts_of b u v r.turns r.rounds parts.second_run r.endless r.positive (sym (parts.second b.formula also.formula) ∙ both.1),
       )

@@ -1,5 +1,5 @@
 -- A run of a product is a run of each of the two automata.
-use Rattle.std.proofs.Common.{◌≡◌, ◌≢◌, ◌∙◌, ◌↔◌, ◌&&◌, ◌+◌, ◌*◌, ◌<◌, ◌≤◌, ℕ, zero, suc, Bool, true, false, List, [], ◌∷◌, ◌++◌, All, AllPairs, Contains, Some, ap, arith, length, map, refl, slice_get, subst, sym}
+use Rattle.std.proofs.Common.{◌≡◌, ◌∙◌, ◌&&◌, ◌+◌, ◌*◌, ◌<◌, ◌≤◌, ℕ, List, [], ◌∷◌, ◌++◌, Contains, Some, ap, arith, length, refl, slice_get, subst, sym}
 use Rattle.std.proofs.Math.Nat.{le-mul_of_pos_right, mul_comm}
 use Rattle.std.proofs.lemmas.Bool.{and_from, and_parts}
 use Rattle.std.proofs.lemmas.List.Elements.{All-contains}
@@ -7,21 +7,21 @@ use Rattle.std.proofs.lemmas.Option.{get_or_from_slice_get, same_Some, slice_get
 use Rattle.std.specs.List.{AllZip, position_or_len}
 use Rattle.acc_forms.specs.Shift.{shift}
 use Rattle.aut_base.proofs.CanonicalBelow.{label_of_below}
-use Rattle.aut_base.specs.Acceptance.{Accepts, IsPath}
+use Rattle.aut_base.specs.Acceptance.{IsPath}
 use Rattle.aut_base.specs.Automaton.{Automaton, IsEdgeOf, IsWellFormed, TreeEdge}
 use Rattle.aut_base.specs.Formula.{FormulaTree, SetsBelow, met}
 use Rattle.aut_base.specs.Label.{AllBelow, LabelTree, holds_at, truth}
 use Rattle.aut_base.specs.Valuation.{truth_on}
 use Rattle.aut_base.specs.Word.{NameSet, copies}
 use Rattle.aut_ops.proofs.CycleMarks.{AgreeBelow, AgreeRaised, joint_first, joint_second, met_below, met_raised}
-use Rattle.aut_ops.proofs.JointEdges.{EdgeOf, edge_of, edge_there, from_start, joined, next_there, pairs_differ, start_there, there_start}
+use Rattle.aut_ops.proofs.JointEdges.{edge_of, edge_there, from_start, joined, next_there, pairs_differ, start_there, there_start}
 use Rattle.aut_ops.proofs.Labels.{not_never, truth_both}
 use Rattle.aut_ops.proofs.LassoRuns.{Likewise, later, marks_of}
 use Rattle.aut_ops.specs.inner.Runs.{LassoRun}
 use Rattle.aut_ops.proofs.Members.{from_map, there_map}
 use Rattle.aut_ops.proofs.Places.{one_place, pair_tells, place_there}
-use Rattle.aut_ops.proofs.Simulations.{Answer, RunImage, Simulates, run_image}
-use Rattle.aut_ops.specs.Labels.{both_labels, is_never}
+use Rattle.aut_ops.proofs.Simulations.{Simulates, run_image}
+use Rattle.aut_ops.specs.Labels.{both_labels}
 use Rattle.aut_ops.specs.Products.{ArePairs, numbered, product_on, same_pair, start_pairs}
 
 -- a run of the product, with runs of both whose cycles it goes round

@@ -1,5 +1,5 @@
 -- Automata that follow each other edge by edge, between states that stand for one another.
-use Rattle.std.proofs.Common.{◌≡◌, ◌∙◌, ℕ, true, List, [], ◌∷◌, ◌++◌, Contains, map, refl, subst, sym}
+use Rattle.std.proofs.Common.{◌≡◌, ℕ, true, List, [], ◌∷◌, ◌++◌, Contains, refl, subst}
 use Rattle.std.specs.List.{AllZip}
 use Rattle.aut_base.specs.Acceptance.{IsPath}
 use Rattle.aut_base.specs.Automaton.{Automaton, TreeEdge}

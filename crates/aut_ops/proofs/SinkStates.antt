@@ -1,8 +1,8 @@
 -- An automaton with a sink is complete, and deterministic where it was before.
-use Rattle.std.proofs.Common.{◌≡◌, ◌≢◌, ◌∙◌, ◌↔◌, ◌⊎◌, ◌==◌, ◌+◌, ◌<◌, ◌≤◌, ◌&&◌, ℕ, zero, suc, Bool, true, false, cond, not, IsTrue, List, [], ◌∷◌, ◌++◌, All, AllPairs, Contains, ap, arith, get_or, inl, inr, length, refl, subst, sym}
+use Rattle.std.proofs.Common.{◌≡◌, ◌∙◌, ◌⊎◌, ◌==◌, ◌<◌, ◌≤◌, ℕ, zero, Bool, true, false, cond, not, List, [], ◌∷◌, ◌++◌, All, AllPairs, Contains, ap, arith, inl, inr, length, refl, subst, sym}
 use Rattle.std.proofs.lemmas.Bool.{and_from, and_parts, cases_Bool, cases_lt, eq-eqb, eqb-false, eqb-true, false≢true, ne_eqb}
 use Rattle.std.proofs.lemmas.List.{append-nil}
-use Rattle.std.proofs.lemmas.List.Elements.{All-contains, All-filter, All-weaker, Contains-get_or}
+use Rattle.std.proofs.lemmas.List.Elements.{All-filter}
 use Rattle.std.proofs.lemmas.List.Folds.{Any-from_list_any, list_any_at}
 use Rattle.std.proofs.lemmas.List.Kept.{AllPairs-filter}
 use Rattle.std.proofs.lemmas.List.Quantifiers.{all_pairs_push}
@@ -10,8 +10,8 @@ use Rattle.std.specs.List.{list_all, list_any, range_with_len}
 use Rattle.aut_base.proofs.CanonicalAutomata.{labels_below}
 use Rattle.aut_base.proofs.CanonicalBelow.{label_of_below}
 use Rattle.aut_base.proofs.Truth.{true_from_not}
-use Rattle.aut_base.specs.Automaton.{Automaton, IsEdgeOf, IsWellFormed, TreeEdge}
-use Rattle.aut_base.specs.Label.{AllBelow, holds_at, truth}
+use Rattle.aut_base.specs.Automaton.{Automaton, IsWellFormed, TreeEdge}
+use Rattle.aut_base.specs.Label.{AllBelow, holds_at}
 use Rattle.aut_base.specs.Valuation.{letter_of, truth_on}
 use Rattle.aut_base.specs.Word.{NameSet}
 use Rattle.aut_core.proofs.Deterministic.{deterministic_if}
@@ -20,9 +20,9 @@ use Rattle.aut_core.specs.OtherNames.{AcceptTheSame}
 use Rattle.aut_core.specs.Surveys.{AreAllApart, edges_from}
 use Rattle.aut_ops.proofs.Completions.{edges_own, gap, gap_there, loop, loop_there, old_there, sink_row, state_row, with_sink_formed}
 use Rattle.aut_ops.proofs.Labels.{at_letter, never_each, never_false, not_never, truth_none}
-use Rattle.aut_ops.proofs.Members.{each_there, from_filter, from_range, later_there, none_there, there_cases, there_filter, there_range_zero}
+use Rattle.aut_ops.proofs.Members.{from_filter, from_range, later_there, none_there, there_cases, there_filter, there_range_zero}
 use Rattle.aut_ops.proofs.SinkRuns.{sink_keeps_language}
-use Rattle.aut_ops.specs.Completion.{completed, filled_edges, gap_edges, lacks_nothing, with_sink}
+use Rattle.aut_ops.specs.Completion.{completed, lacks_nothing, with_sink}
 use Rattle.aut_ops.specs.Labels.{is_never, no_label}
 
 -- whether every item passes, place by place

@@ -1,10 +1,10 @@
 -- The links of two automata side by side.
-use Rattle.std.proofs.Common.{◌≡◌, ◌∙◌, ◌+◌, ◌++◌, ◌∷◌, ℕ, false, List, [], All, ap, length, map, refl, subst, sym}
+use Rattle.std.proofs.Common.{◌≡◌, ◌∙◌, ◌+◌, ◌++◌, ℕ, false, List, [], ap, length, map, subst, sym}
 use Rattle.std.proofs.lemmas.List.Elements.{All-map}
 use Rattle.std.proofs.lemmas.Simd.{map-map}
 use Rattle.acc_forms.specs.Joined.{conj, disj}
 use Rattle.acc_forms.specs.Shift.{shift}
-use Rattle.aut_base.specs.Automaton.{Automaton, TreeEdge}
+use Rattle.aut_base.specs.Automaton.{TreeEdge}
 use Rattle.aut_base.specs.Formula.{Fin, FormulaTree, Inf}
 use Rattle.aut_core.specs.Core.{AreParts, Core, IsCore, automaton_of, edge_of}
 use Rattle.aut_core.specs.declared.link.Link.{Link}

@@ -1,8 +1,7 @@
 -- What holds of two automata side by side: a run is one of the first or one of the second.
-use Rattle.std.proofs.Common.{◌≡◌, ◌≢◌, ◌∙◌, ◌↔◌, ◌⊎◌, ◌==◌, ◌+◌, ◌<◌, ◌≤◌, ◌&&◌, ◌||◌, ℕ, zero, suc, Bool, true, false, not, List, [], ◌∷◌, ◌++◌, All, AllPairs, Contains, ap, arith, get_or, inl, inr, length, map, refl, subst, sym}
+use Rattle.std.proofs.Common.{◌≡◌, ◌≢◌, ◌∙◌, ◌⊎◌, ◌==◌, ◌+◌, ◌<◌, ◌≤◌, ◌&&◌, ◌||◌, ℕ, true, false, not, List, [], ◌∷◌, ◌++◌, All, Contains, ap, arith, inl, inr, length, map, refl, subst, sym}
 use Rattle.std.proofs.lemmas.Bool.{and_from, eq-eqb, ne_eqb}
-use Rattle.std.proofs.lemmas.List.{length-map}
-use Rattle.std.proofs.lemmas.List.Elements.{All-append, All-contains, All-from_recursion, All-head, All-map, All-push, All-tail, All-weaker, Contains-append_cases, Contains-append_left, Contains-append_right, same_from_all_zip}
+use Rattle.std.proofs.lemmas.List.Elements.{All-append, All-contains, All-head, All-map, All-push, All-tail, All-weaker, Contains-append_cases, Contains-append_left, Contains-append_right, same_from_all_zip}
 use Rattle.std.proofs.lemmas.List.Folds.{list_any-append}
 use Rattle.std.proofs.lemmas.List.Quantifiers.{all_pairs_push}
 use Rattle.std.specs.List.{AllZip, list_all, list_any}
@@ -12,7 +11,7 @@ use Rattle.acc_forms.specs.Shift.{shift}
 use Rattle.aut_base.proofs.Truth.{and-true, and_comm, or-false, or_comm}
 use Rattle.aut_base.specs.Acceptance.{Accepts, IsPath}
 use Rattle.aut_base.specs.Automaton.{Automaton, IsEdgeOf, IsWellFormed, TreeEdge}
-use Rattle.aut_base.specs.Formula.{Fin, FormulaTree, Inf, met}
+use Rattle.aut_base.specs.Formula.{Fin, Inf, met}
 use Rattle.aut_base.specs.Label.{AllBelow, holds_at, truth}
 use Rattle.aut_base.specs.Marks.{is_in}
 use Rattle.aut_base.specs.Word.{NameSet, copies}
@@ -20,8 +19,7 @@ use Rattle.aut_ops.proofs.AllPairsOf.{pairs_append, pairs_map}
 use Rattle.aut_ops.proofs.CycleMarks.{AgreeRaised, is_in_raise, met_raised, not_in_past, raise}
 use Rattle.aut_ops.proofs.FormulaSets.{sets_conj, sets_disj, sets_shift, sets_weaker}
 use Rattle.aut_ops.proofs.LassoRuns.{accepts_of, marks_of, run_of}
-use Rattle.aut_ops.specs.inner.Runs.{LassoRun}
-use Rattle.aut_ops.proofs.Members.{each_there, from_map, there_map}
+use Rattle.aut_ops.proofs.Members.{from_map, there_map}
 use Rattle.aut_ops.proofs.Rows.{Climbs, climbs_append, climbs_in_order, climbs_lower, in_order_climbs}
 use Rattle.aut_ops.proofs.Simulations.{Answer, Simulates, run_image}
 use Rattle.aut_ops.proofs.SinkRuns.{cycle_long, path_marks}

@@ -1,5 +1,5 @@
 -- What holds of the pairs of a product.
-use Rattle.std.specs.Prelude.{◌≡◌, ◌≢◌, ◌↔◌, ℕ, ◌<◌, ◌≤◌, List, AllPairs, Contains, length}
+use Rattle.std.specs.Prelude.{◌≡◌, ◌≢◌, ◌↔◌, ℕ, ◌≤◌, List, AllPairs, Contains}
 use Rattle.aut_base.specs.Acceptance.{IsPath}
 use Rattle.aut_base.specs.Automaton.{Automaton, IsWellFormed, TreeEdge}
 use Rattle.aut_base.specs.Formula.{FormulaTree}

@@ -122,7 +122,14 @@ fn filled_links(alloc: Global, guards: &mut Guards, a: &Automaton) -> Result<Lin
     a.whole();
     let mut links = Links::new(alloc);
     'states: for state in 0..a.states() {
-        fill_state(alloc, guards, &mut links, a.links_of(state), state, a.states())?;
+        fill_state(
+            alloc,
+            guards,
+            &mut links,
+            a.links_of(state),
+            state,
+            a.states(),
+        )?;
     }
     Ok(links)
 }

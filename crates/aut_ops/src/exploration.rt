@@ -61,11 +61,7 @@ fn list_row(
 }
 
 /// Goes on from each pair in turn, and so lists all pairs that are reached and the links between them.
-pub(crate) fn explore(
-    pairing: &mut Pairing,
-    a: &Automaton,
-    b: &Automaton,
-) -> Result<(), PairFault>
+pub(crate) fn explore(pairing: &mut Pairing, a: &Automaton, b: &Automaton) -> Result<(), PairFault>
     requires names { b.now.names ≡ a.now.names }
     requires first { Keeps a.now.store pairing.old.store }
     requires second { Keeps b.now.store pairing.old.store }

@@ -112,13 +112,7 @@ impl Pairing {
     }
 
     /// Adds the links that go this one and one of the others at once.
-    fn follow(
-        &mut self,
-        at: u32,
-        link: &Link,
-        others: &[Link],
-        sets: u32,
-    ) -> Result<(), PairFault>
+    fn follow(&mut self, at: u32, link: &Link, others: &[Link], sets: u32) -> Result<(), PairFault>
         requires meet { All (CanMeet self.old at sets link.now) others.now }
         requires few { length self.old.pairs ≤ MOST_PAIRS }
         ensures adds { OnOk result (Adds self.old self.new (followed self.old.store sets others.now link.now)) }

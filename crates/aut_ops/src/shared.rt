@@ -81,12 +81,7 @@ fn in_place(alloc: Global, count: u32) -> Result<Numbers, Memory>
 }
 
 /// The automaton's links with guards of this store, where each proposition has the same number.
-fn brought(
-    alloc: Global,
-    guards: &mut Guards,
-    a: &Automaton,
-    to: &Numbers,
-) -> Result<Links, Memory>
+fn brought(alloc: Global, guards: &mut Guards, a: &Automaton, to: &Numbers) -> Result<Links, Memory>
     requires names { guards.old.names ≡ a.now.store.names }
     requires to { to.now ≡ range_with_len 0 a.now.store.names }
     ensures keeps { Keeps guards.old guards.new }

@@ -36,12 +36,7 @@ pub fn sum(alloc: Global, a: &Automaton, b: &Automaton) -> Result<Automaton, Nam
 }
 
 /// The sum over these names, which are those of both joined.
-fn sum_over(
-    alloc: Global,
-    a: &Automaton,
-    b: &Automaton,
-    names: &Names,
-) -> Result<Automaton, Memory>
+fn sum_over(alloc: Global, a: &Automaton, b: &Automaton, names: &Names) -> Result<Automaton, Memory>
     requires both { HaveBoth a.now.names b.now.names names.now }
     requires few { length names.now ≤ MOST_NAMES }
     requires states { a.now.states + b.now.states < 2 ^ 32 }

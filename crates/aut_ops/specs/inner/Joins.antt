@@ -1,9 +1,7 @@
 -- The two ways in which the conditions of a product are joined.
-use Rattle.std.specs.Prelude.{ℕ, ◌<◌, List}
 use Rattle.acc_forms.specs.Joined.{conj, disj}
 use Rattle.aut_base.specs.Automaton.{Automaton}
 use Rattle.aut_base.specs.Formula.{FormulaTree}
-use Rattle.aut_base.specs.Word.{NameSet}
 use Rattle.aut_ops.specs.Languages.{AcceptsBoth, AcceptsEither}
 use Rattle.aut_ops.specs.declared.join.Join.{Join}
 use Rattle.aut_ops.specs.declared.join.Join.TheVariants.{All, Any}

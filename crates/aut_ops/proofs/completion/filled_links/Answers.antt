@@ -1,5 +1,5 @@
-use Rattle.std.proofs.Common.{ap, refl, sym, subst}
-use Rattle.aut_core.proofs.Growth.{keeps_none, keeps_on}
+use Rattle.std.proofs.Common.{subst}
+use Rattle.aut_core.proofs.Growth.{keeps_on}
 use Rattle.aut_ops.proofs.FilledStates.{row_have, state_more}
 use Rattle.label_guards.specs.Store.{Keeps, Store}
 use Rattle.aut_ops.proofs.completion.filled_links.Goals as goal

@@ -1,4 +1,3 @@
-use Rattle.std.proofs.Common.{◌≡◌, List, All, refl}
 use Rattle.std.proofs.lemmas.Result.{IfOk-weaker}
 use Rattle.aut_core.proofs.Growth.{keeps_none, keeps_on}
 use Rattle.aut_core.specs.declared.link.Link.{Link}

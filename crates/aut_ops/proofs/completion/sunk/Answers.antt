@@ -1,4 +1,4 @@
-use Rattle.std.proofs.Common.{◌∙◌, ap, sym}
+use Rattle.std.proofs.Common.{◌∙◌, ap}
 use Rattle.std.proofs.lemmas.Result.{IfOk-weaker}
 use Rattle.aut_core.specs.Core.{automaton_of}
 use Rattle.aut_ops.proofs.Completions.{with_sink_formed}

@@ -1,4 +1,4 @@
-use Rattle.std.proofs.Common.{◌≡◌, ◌∙◌, ◌∷◌, ◌++◌, ℕ, List, [], drop, get_or, map, refl, subst, sym, take}
+use Rattle.std.proofs.Common.{◌∙◌, ◌∷◌, ℕ, [], get_or, map, subst, sym, take}
 use Rattle.std.proofs.lemmas.List.{get_or_default}
 use Rattle.aut_ops.proofs.Faults.{passed_on}
 use Rattle.aut_ops.proofs.Listings.{beyond_front, listed_one, listed_then, row_next, row_whole}

@@ -1,4 +1,4 @@
-use Rattle.std.proofs.Common.{◌≡◌, ◌∙◌, ◌∷◌, ◌++◌, ◌<◌, ℕ, List, [], ap, arith, drop, get_or, length, map, refl, subst, sym, take}
+use Rattle.std.proofs.Common.{◌≡◌, ◌∙◌, ◌<◌, ℕ, List, [], ap, arith, get_or, length, map, refl, subst, sym, take}
 use Rattle.std.proofs.lemmas.List.{get_or_default, take_all}
 use Rattle.aut_ops.proofs.Faults.{passed_on}
 use Rattle.aut_ops.proofs.Listings.{beyond_front, listed_none, listed_then, rows_next, rows_whole}

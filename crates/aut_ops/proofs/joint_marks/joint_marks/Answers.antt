@@ -1,4 +1,4 @@
-use Rattle.std.proofs.Common.{◌≡◌, ℕ, List, AllPairs, ap, arith, length, subst}
+use Rattle.std.proofs.Common.{ℕ, List, ap, arith, length}
 use Rattle.std.specs.List.{slice_index_or}
 use Rattle.aut_ops.proofs.ListSteps.{joint_below}
 use Rattle.aut_ops.proofs.joint_marks.joint_marks.Goals as goal

@@ -1,4 +1,4 @@
-use Rattle.std.proofs.Common.{◌≡◌, ◌∙◌, ◌≤◌, List, ℕ, All, Contains, length, subst, sym}
+use Rattle.std.proofs.Common.{◌≡◌, ◌∙◌, ◌≤◌, List, ℕ, All, Contains, length, subst}
 use Rattle.std.proofs.lemmas.Result.{IfOk-weaker}
 use Rattle.aut_base.specs.Automaton.{Automaton}
 use Rattle.aut_base.specs.declared.limit.TheConstants.{MOST_NAMES}

@@ -1,4 +1,4 @@
-use Rattle.std.proofs.Common.{◌≡◌, ◌∙◌, ◌+◌, ◌<◌, ◌++◌, ◌∷◌, ℕ, List, [], All, ap, arith, map, subst, sym}
+use Rattle.std.proofs.Common.{◌∙◌, ◌+◌, ◌<◌, ◌++◌, ◌∷◌, ℕ, List, [], All, ap, map, subst, sym}
 use Rattle.std.proofs.lemmas.List.Elements.{All-map}
 use Rattle.aut_core.specs.declared.link.Link.{Link}
 use Rattle.aut_ops.proofs.ListSteps.{map_more}

@@ -1,10 +1,8 @@
-use Rattle.std.proofs.Common.{refl}
-use Rattle.aut_core.specs.declared.link.Link.{Link}
 use Rattle.aut_ops.proofs.Faults.{passed_on}
 use Rattle.aut_ops.proofs.Members.{read_has}
 use Rattle.aut_ops.proofs.Pairings.{adds_next, beyond_next, can_still, meeting_kept}
 use Rattle.aut_ops.specs.declared.limit.TheConstants.{MOST_PAIRS}
-use Rattle.aut_ops.specs.inner.Pairings.{CanMeet, followed, meeting}
+use Rattle.aut_ops.specs.inner.Pairings.{CanMeet, meeting}
 use Rattle.aut_ops.proofs.pairing.Pairing.follow.Goals as goal
 
 pub meet-requires-clause-meet : goal.meet-requires-clause-meet

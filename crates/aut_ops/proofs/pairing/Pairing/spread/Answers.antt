@@ -1,7 +1,6 @@
 use Rattle.std.proofs.Common.{All}
 use Rattle.std.proofs.lemmas.List.Elements.{All-weaker}
 use Rattle.aut_core.specs.declared.link.Link.{Link}
-use Rattle.label_guards.specs.Store.{Has}
 use Rattle.aut_ops.proofs.Faults.{passed_on}
 use Rattle.aut_ops.proofs.Members.{read_has}
 use Rattle.aut_ops.proofs.Pairings.{adds_next, beyond_next, can_still, spread_kept}
