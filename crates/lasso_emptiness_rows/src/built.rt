@@ -3,40 +3,47 @@
 use crate::slow;
 use crate::small::{Ask, Atom, Join, Small, SmallEdge};
 use aut_base::{
-    Description, Edge, Edges, Formula, Formulas, Label, Letter, Marks, Memory, Names, Numbers, Text,
+    Description, Edge, Edges, Formula, Formulas, Label, Lasso, Letter, Marks, Memory, Names,
+    Numbers, Text,
 };
 use aut_core::Automaton;
 use lasso_emptiness::accepted_word;
 use std::alloc::Global;
 
+/// A word, as the truth of the name in each letter. A letter with another name stands as two.
+#[derive(Drop)]
+struct Truths {
+    stem: Vec<bool>,
+    cycle: Vec<bool>,
+}
+
 /// Whether the search finds a reduced word that is accepted, or none where no short word is.
 pub(crate) fn agrees(alloc: Global, row: &Small) -> Result<bool, Memory> {
-    match found(alloc, described(alloc, row)?)? {
-        Some((stem, cycle)) => Ok(slow::accepts(row, &stem, &cycle) && is_reduced(&stem, &cycle)),
+    match found(alloc, &described(alloc, row)?)? {
+        Some(word) => is_right(alloc, row, &word),
         None => Ok(!slow::accepts_some(row)),
     }
 }
 
-/// The stem and the cycle of the word that is found, as the truth of the name in each letter. A letter with another name
-/// stands as two.
-pub(crate) fn found(
-    alloc: Global,
-    described: Description,
-) -> Result<Option<(Vec<bool>, Vec<bool>)>, Memory> {
+/// Whether the word is reduced and accepted.
+fn is_right(alloc: Global, row: &Small, word: &Lasso) -> Result<bool, Memory> {
+    let truths = Truths {
+        stem: letter_truths(alloc, word.stem.as_slice())?,
+        cycle: letter_truths(alloc, word.cycle.as_slice())?,
+    };
+    Ok(slow::accepts(row, &truths.stem, &truths.cycle) && is_reduced(&truths.stem, &truths.cycle))
+}
+
+/// What the search finds, or None where the description isn't well formed.
+pub(crate) fn found(alloc: Global, described: &Description) -> Result<Option<Lasso>, Memory> {
     if !described.is_well_formed() || described.names.len() > 32 {
         return Ok(None);
     }
-    let automaton = Automaton::from_description(alloc, &described)?;
-    match accepted_word(alloc, &automaton)? {
-        Some(word) => Ok(Some((
-            truths(alloc, word.stem.as_slice())?,
-            truths(alloc, word.cycle.as_slice())?,
-        ))),
-        None => Ok(None),
-    }
+    let automaton = Automaton::from_description(alloc, described)?;
+    accepted_word(alloc, &automaton)
 }
 
-fn truths(alloc: Global, letters: &[Letter]) -> Result<Vec<bool>, Memory> {
+fn letter_truths(alloc: Global, letters: &[Letter]) -> Result<Vec<bool>, Memory> {
     let name = Text::from_bytes(alloc, b"a")?;
     let mut truths = Vec::new(alloc);
     for letter in letters {

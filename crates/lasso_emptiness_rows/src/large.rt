@@ -24,8 +24,8 @@ pub(crate) enum Shape {
 
 /// The length of stem and cycle of the word that is found, or zero twice.
 pub(crate) fn found_lengths(alloc: Global, shape: Shape) -> Result<(usize, usize), Memory> {
-    match found(alloc, line(alloc, shape)?)? {
-        Some((stem, cycle)) => Ok((stem.len(), cycle.len())),
+    match found(alloc, &line(alloc, shape)?)? {
+        Some(word) => Ok((word.stem.len(), word.cycle.len())),
         None => Ok((0, 0)),
     }
 }
