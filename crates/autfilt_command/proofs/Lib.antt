@@ -1,8 +1,5 @@
-pub mod Alike
-pub mod BuiltPlans
-pub mod Carried
-pub mod Gains
-pub mod Noting
-pub mod ReadsAs
-pub mod Runs
-pub mod Turns
+mod Ending
+mod Noting
+mod Running
+mod Stepped
+mod Stepping

@@ -1,6 +1,7 @@
-pub mod Built
+pub mod Asked
 pub mod Ends
 pub mod Laws
+pub mod Noted
 pub mod Notes
 pub mod Run
 pub mod Status

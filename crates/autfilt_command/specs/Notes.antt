@@ -3,6 +3,8 @@ use Rattle.std.specs.Prelude.{ℕ, List, [], ◌++◌, codes}
 use Rattle.std.specs.Fmt.{decimal}
 use Rattle.aut_base.specs.declared.limit.Limit.{Limit}
 use Rattle.aut_base.specs.declared.limit.Limit.TheVariants as limit
+use Rattle.autfilt_run.specs.declared.fault.RunFault.{RunFault}
+use Rattle.autfilt_run.specs.declared.fault.RunFault.TheVariants as fault
 use Rattle.autfilt_command.specs.declared.ended.End.{End}
 use Rattle.autfilt_command.specs.declared.ended.End.TheVariants as end
 use Rattle.hoa_reader.specs.declared.elaborate.Rule.{Rule}
@@ -39,21 +41,29 @@ rule_word V10 = codes "V10"
 rule_word V11 = codes "V11"
 rule_word V12 = codes "V12"
 
--- the line about an automaton that is skipped
-abbrev pub aborted_line : List ℕ
-aborted_line = codes "autfilt: -: automaton aborted\n"
+-- the line about an automaton that is skipped, of the text of this name
+abbrev pub aborted_line : List ℕ → List ℕ
+aborted_line name = codes "autfilt: " ++ (name ++ codes ": automaton aborted\n")
+
+-- the line about something that the text of this name has
+abbrev pub line_about : List ℕ → List ℕ → List ℕ
+line_about name words = codes "autfilt: " ++ (name ++ (codes ": " ++ (words ++ codes "\n")))
+
+-- the line about a fault, where the text of this name is in hand
+abbrev pub line_of_fault : RunFault → List ℕ → List ℕ
+line_of_fault fault.CannotOpen name = codes "autfilt: cannot open " ++ (name ++ codes "\n")
+line_of_fault fault.ReadFault name = line_about name (codes "read error")
+line_of_fault (fault.SyntaxAt k) name = line_about name (codes "syntax error at byte " ++ decimal k)
+line_of_fault fault.Truncated name = line_about name (codes "unexpected end of input")
+line_of_fault (fault.Invalid rule) name = line_about name (codes "invalid automaton (" ++ (rule_word rule ++ codes ")"))
+line_of_fault (fault.Limit which) name = line_about name (codes "limit exceeded: " ++ limit_word which)
+line_of_fault fault.WriteFault name = codes "autfilt: write error\n"
+line_of_fault fault.Memory name = codes "autfilt: out of memory\n"
 
 -- the line about an end, or nothing where all was read
-abbrev pub line_of : End → List ℕ
-line_of end.Output = []
-line_of end.NoneOutput = []
-line_of end.Usage = codes "autfilt: bad arguments\n"
-line_of end.CannotOpen = codes "autfilt: cannot open -\n"
-line_of end.ReadFault = codes "autfilt: -: read error\n"
-line_of (end.SyntaxAt k) = codes "autfilt: -: syntax error at byte " ++ (decimal k ++ codes "\n")
-line_of end.Truncated = codes "autfilt: -: unexpected end of input\n"
-line_of end.Aborts = []
-line_of (end.Invalid rule) = codes "autfilt: -: invalid automaton (" ++ (rule_word rule ++ codes ")\n")
-line_of (end.Limit which) = codes "autfilt: -: limit exceeded: " ++ (limit_word which ++ codes "\n")
-line_of end.WriteFault = codes "autfilt: write error\n"
-line_of end.Memory = codes "autfilt: out of memory\n"
+abbrev pub line_of : End → List ℕ → List ℕ
+line_of end.Output name = []
+line_of end.NoneOutput name = []
+line_of end.Aborts name = []
+line_of end.Usage name = codes "autfilt: bad arguments\n"
+line_of (end.Fault f) name = line_of_fault f name

@@ -1,3 +1,2 @@
 -- Definitions that only inner functions speak in.
 pub mod Running
-pub mod Turn

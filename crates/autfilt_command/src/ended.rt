@@ -1,12 +1,13 @@
 //! How a run ends.
 
 ghost use Rattle.std.specs.Prelude.{◌≡◌};
+ghost use Rattle.autfilt_command.specs.Ends.{ended_at};
 ghost use Rattle.autfilt_command.specs.Status.{status_of};
 ghost use Rattle.autfilt_command.specs.declared.ended.End.{End};
 ghost use Rattle.autfilt_command.specs.declared.ended.Ended.{Ended};
 
 use aut_base::{Limit, Memory};
-use hoa_reader::{ElabFault, ReadFault, Rule};
+use autfilt_run::RunFault;
 
 /// How a run ended.
 #[derive(Clone, Copy, Debug, PartialEq, Eq)]
@@ -42,57 +43,17 @@ pub enum End {
     NoneOutput,
     Aborts,
     Usage,
-    CannotOpen,
-    ReadFault,
-    /// The offset at which the text cannot go on as it does.
-    SyntaxAt(u64),
-    /// The text ended inside an automaton, a comment or a token.
-    Truncated,
-    /// The first rule that an automaton breaks.
-    Invalid(Rule),
-    Limit(Limit),
-    WriteFault,
-    Memory,
+    /// The session was over before its work was done.
+    Fault(RunFault),
 }
 
 impl From<Memory> for End {
-    ghost from_gives = { λ _ end. end ≡ End.Memory };
+    ghost use Rattle.autfilt_run.specs.declared.fault.RunFault.{RunFault};
+
+    ghost from_gives = { λ _ end. end ≡ End.Fault RunFault.Memory };
 
     fn from(_want: Memory) -> End {
-        End::Memory
-    }
-}
-
-impl From<ReadFault> for End {
-    ghost use Rattle.std.specs.Prelude.{◌≡◌};
-    ghost use Rattle.autfilt_command.specs.Ends.{end_of_reading};
-
-    ghost from_gives = { λ fault end. end ≡ end_of_reading fault };
-
-    fn from(fault: ReadFault) -> End {
-        match fault {
-            ReadFault::Syntax(offset) => End::SyntaxAt(offset),
-            ReadFault::Truncated => End::Truncated,
-            ReadFault::Depth => End::Limit(Limit::Depth),
-            ReadFault::Bytes => End::Limit(Limit::Bytes),
-            ReadFault::Read => End::ReadFault,
-            ReadFault::Memory => End::Memory,
-        }
-    }
-}
-
-impl From<ElabFault> for End {
-    ghost use Rattle.std.specs.Prelude.{◌≡◌};
-    ghost use Rattle.autfilt_command.specs.Ends.{end_of_describing};
-
-    ghost from_gives = { λ fault end. end ≡ end_of_describing fault };
-
-    fn from(fault: ElabFault) -> End {
-        match fault {
-            ElabFault::Invalid(rule) => End::Invalid(rule),
-            ElabFault::Limit(which) => End::Limit(which),
-            ElabFault::Memory => End::Memory,
-        }
+        End::Fault(RunFault::Memory)
     }
 }
 
@@ -108,14 +69,23 @@ impl From<End> for Ended {
             End::NoneOutput => Ended::NoneOutput,
             End::Aborts => Ended::Aborts,
             End::Usage => Ended::Usage,
-            End::CannotOpen => Ended::CannotOpen,
-            End::ReadFault => Ended::ReadFault,
-            End::SyntaxAt(_) | End::Truncated => Ended::Syntax,
-            End::Invalid(_) => Ended::Invalid,
-            End::Limit(which) => Ended::Limit(which),
-            End::WriteFault => Ended::WriteFault,
-            End::Memory => Ended::Memory,
+            End::Fault(fault) => ended_at(fault),
         }
+    }
+}
+
+/// The answer at a fault of the session.
+fn ended_at(fault: RunFault) -> Ended
+    ensures { result ≡ ended_at fault }
+{
+    match fault {
+        RunFault::CannotOpen => Ended::CannotOpen,
+        RunFault::ReadFault => Ended::ReadFault,
+        RunFault::SyntaxAt(_) | RunFault::Truncated => Ended::Syntax,
+        RunFault::Invalid(_) => Ended::Invalid,
+        RunFault::Limit(which) => Ended::Limit(which),
+        RunFault::WriteFault => Ended::WriteFault,
+        RunFault::Memory => Ended::Memory,
     }
 }
 

@@ -2,15 +2,15 @@
 //!
 //! `autfilt` takes the words of the command line, a source of texts, a sink for the output and one for notes, and answers
 //! how the run ended. `note` writes the line about an end, for a caller that can't come as far as a run. `one_end` and
-//! `one_front` are laws, which no code runs. What the contracts say stands in `specs`: begin with `Run.antt`.
+//! `one_front` are laws, which no code runs. What the contracts say stands in `specs`: begin with `Run.antt`, and with
+//! `Events.antt` of `autfilt_run`.
 #![tactic(auto)]
 
-mod built;
+mod asked;
 mod ended;
 mod laws;
 mod notes;
 mod run;
-mod turn;
 
 pub use ended::{End, Ended};
 pub use laws::{one_end, one_front};

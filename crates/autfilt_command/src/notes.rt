@@ -1,76 +1,79 @@
-//! The line about a fault. It is written in pieces, and no memory is taken for it.
+//! The lines about faults and about what is skipped. They are written in pieces, and no memory is taken for them.
 
-ghost use Rattle.std.specs.Prelude.{◌≡◌, ℕ, ◌+◌, ◌<◌, List, [], ◌∷◌, ◌++◌, codes};
+ghost use Rattle.std.specs.Prelude.{◌≡◌, ℕ, List, ◌++◌, codes};
 ghost use Rattle.std.specs.Fmt.{decimal};
 ghost use Rattle.aut_io.specs.Seen.{SinkSeen, Writes};
-ghost use Rattle.autfilt_command.specs.Notes.{aborted_line, line_of, limit_word, rule_word};
-ghost use Rattle.autfilt_command.specs.Run.{HasNoted, Notes};
+ghost use Rattle.autfilt_command.specs.Noted.{HasNoted, Notes};
+ghost use Rattle.autfilt_command.specs.Notes.{aborted_line, limit_word, line_about, line_of, line_of_fault, rule_word};
 
 use crate::ended::End;
 use aut_base::{Failed, Limit};
 use aut_io::Sink;
+use autfilt_run::{RunFault, write_number};
 use hoa_reader::Rule;
 
-/// Writes the line about how a run ended, if that has one. Nothing is written after a write that failed, and nobody
-/// learns of it but by the count.
-pub fn note<M: Sink>(notes: &mut M, end: &End)
-    ensures { Notes (line_of end.now) (M.seen notes.old) (M.seen notes.new) }
+/// Writes the line about how a run ended, if that has one, where the text of this name is in hand. Nothing is written after
+/// a write that failed, and nobody learns of it but by the count.
+pub fn note<M: Sink>(notes: &mut M, name: &[u8], end: &End)
+    ensures { Notes (line_of end.now name.now) (M.seen notes.old) (M.seen notes.new) }
 {
-    match write_line(notes, end) {
+    match write_line(notes, name, end) {
         Ok(()) => {}
         Err(Failed) => {}
     }
 }
 
-/// Notes that an automaton is skipped, unless a note before failed, and answers whether none failed so far.
-pub(crate) fn note_skipped<M: Sink>(notes: &mut M, noting: bool) -> bool
-    ensures { (first : SinkSeen) → (text : List ℕ) → HasNoted text noting first (M.seen notes.old) → HasNoted (text ++ aborted_line) result first (M.seen notes.new) }
+/// Notes that an automaton of the text of this name is skipped, unless a note before failed, and answers whether none failed
+/// so far.
+pub(crate) fn note_skipped<M: Sink>(notes: &mut M, noting: bool, name: &[u8]) -> bool
+    ensures { (first : SinkSeen) → (text : List ℕ) → HasNoted text noting first (M.seen notes.old) → HasNoted (text ++ aborted_line name.now) result first (M.seen notes.new) }
 {
     if !noting {
         return false;
     }
-    match notes.write(b"autfilt: -: automaton aborted\n") {
+    match write_pieces(notes, b"autfilt: ", name, b": automaton aborted\n") {
         Ok(()) => true,
         Err(Failed) => false,
     }
 }
 
 /// Notes how the run ended, unless a note before failed, and gives the end back.
-pub(crate) fn note_end<M: Sink>(notes: &mut M, noting: bool, end: End) -> End
+pub(crate) fn note_end<M: Sink>(notes: &mut M, noting: bool, name: &[u8], end: End) -> End
     ensures same { result ≡ end }
-    ensures noted { (first : SinkSeen) → (text : List ℕ) → HasNoted text noting first (M.seen notes.old) → Notes (text ++ line_of end) first (M.seen notes.new) }
+    ensures noted { (first : SinkSeen) → (text : List ℕ) → HasNoted text noting first (M.seen notes.old) → Notes (text ++ line_of end name.now) first (M.seen notes.new) }
 {
     if noting {
-        note(notes, &end);
+        note(notes, name, &end);
     }
     end
 }
 
 /// Writes the line, and answers whether all of it was written.
-fn write_line<M: Sink>(notes: &mut M, end: &End) -> Result<(), Failed>
-    ensures { Writes (M.seen notes.old) (line_of end.now) result (M.seen notes.new) }
+fn write_line<M: Sink>(notes: &mut M, name: &[u8], end: &End) -> Result<(), Failed>
+    ensures { Writes (M.seen notes.old) (line_of end.now name.now) result (M.seen notes.new) }
 {
     match end {
         End::Output | End::NoneOutput | End::Aborts => Ok(()),
         End::Usage => notes.write(b"autfilt: bad arguments\n"),
-        End::CannotOpen => notes.write(b"autfilt: cannot open -\n"),
-        End::ReadFault => notes.write(b"autfilt: -: read error\n"),
-        End::SyntaxAt(offset) => write_offset(notes, *offset),
-        End::Truncated => notes.write(b"autfilt: -: unexpected end of input\n"),
-        End::Invalid(rule) => write_pieces(
-            notes,
-            b"autfilt: -: invalid automaton (",
-            rule_word(rule),
-            b")\n",
-        ),
-        End::Limit(which) => write_pieces(
-            notes,
-            b"autfilt: -: limit exceeded: ",
-            limit_word(which),
-            b"\n",
-        ),
-        End::WriteFault => notes.write(b"autfilt: write error\n"),
-        End::Memory => notes.write(b"autfilt: out of memory\n"),
+        End::Fault(fault) => write_fault(notes, name, fault),
+    }
+}
+
+/// Writes the line about a fault.
+fn write_fault<M: Sink>(notes: &mut M, name: &[u8], fault: &RunFault) -> Result<(), Failed>
+    ensures { Writes (M.seen notes.old) (line_of_fault fault.now name.now) result (M.seen notes.new) }
+{
+    match fault {
+        RunFault::CannotOpen => write_pieces(notes, b"autfilt: cannot open ", name, b"\n"),
+        RunFault::WriteFault => notes.write(b"autfilt: write error\n"),
+        RunFault::Memory => notes.write(b"autfilt: out of memory\n"),
+        RunFault::ReadFault => write_pieces(notes, b"autfilt: ", name, b": read error\n"),
+        RunFault::Truncated => {
+            write_pieces(notes, b"autfilt: ", name, b": unexpected end of input\n")
+        }
+        RunFault::SyntaxAt(offset) => write_offset(notes, name, *offset),
+        RunFault::Invalid(rule) => write_rule(notes, name, rule),
+        RunFault::Limit(which) => write_limit(notes, name, which),
     }
 }
 
@@ -89,32 +92,30 @@ fn write_pieces<M: Sink>(
 }
 
 /// Writes the line about an offset at which the text cannot go on.
-fn write_offset<M: Sink>(notes: &mut M, offset: u64) -> Result<(), Failed>
-    ensures { Writes (M.seen notes.old) (codes "autfilt: -: syntax error at byte " ++ (decimal offset ++ codes "\n")) result (M.seen notes.new) }
+fn write_offset<M: Sink>(notes: &mut M, name: &[u8], offset: u64) -> Result<(), Failed>
+    ensures { Writes (M.seen notes.old) (line_about name.now (codes "syntax error at byte " ++ decimal offset)) result (M.seen notes.new) }
 {
-    notes.write(b"autfilt: -: syntax error at byte ")?;
+    write_pieces(notes, b"autfilt: ", name, b": syntax error at byte ")?;
     write_number(notes, offset)?;
     notes.write(b"\n")
 }
 
-/// Writes a number in decimal digits.
-fn write_number<M: Sink>(notes: &mut M, number: u64) -> Result<(), Failed>
-    ensures { Writes (M.seen notes.old) (decimal number) result (M.seen notes.new) }
+/// Writes the line about a rule that is broken.
+fn write_rule<M: Sink>(notes: &mut M, name: &[u8], rule: &Rule) -> Result<(), Failed>
+    ensures { Writes (M.seen notes.old) (line_about name.now (codes "invalid automaton (" ++ (rule_word rule.now ++ codes ")"))) result (M.seen notes.new) }
 {
-    if number < 10 {
-        return write_digit(notes, number);
-    }
-    write_number(notes, number / 10)?;
-    write_digit(notes, number % 10)
+    write_pieces(notes, b"autfilt: ", name, b": invalid automaton (")?;
+    notes.write(rule_word(rule))?;
+    notes.write(b")\n")
 }
 
-/// Writes one digit.
-fn write_digit<M: Sink>(notes: &mut M, digit: u64) -> Result<(), Failed>
-    requires { digit < 10 }
-    ensures { Writes (M.seen notes.old) ((48 + digit) ∷ []) result (M.seen notes.new) }
+/// Writes the line about a limit that is passed.
+fn write_limit<M: Sink>(notes: &mut M, name: &[u8], which: &Limit) -> Result<(), Failed>
+    ensures { Writes (M.seen notes.old) (line_about name.now (codes "limit exceeded: " ++ limit_word which.now)) result (M.seen notes.new) }
 {
-    let glyph = b'0' + digit as u8;
-    notes.write(&[glyph])
+    write_pieces(notes, b"autfilt: ", name, b": limit exceeded: ")?;
+    notes.write(limit_word(which))?;
+    notes.write(b"\n")
 }
 
 /// The name of a limit.

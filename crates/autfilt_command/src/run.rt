@@ -1,93 +1,100 @@
 //! The top call.
 
-ghost use Rattle.std.specs.Prelude.{◌≡◌, ◌⊎◌};
-ghost use Rattle.autfilt_command.specs.Built.{AreRefused, AskFor};
-ghost use Rattle.autfilt_command.specs.Run.{EndsBecause, EndsBy, end_of, input_of, standard_input};
-ghost use Rattle.autfilt_command.specs.inner.Running.{CarriesOut, OpensInput, RunsOver};
-ghost use Rattle.autfilt_command.specs.declared.ended.End.{End};
+ghost use Rattle.std.specs.Prelude.{◌≡◌, ◌⊎◌, All};
+ghost use Rattle.autfilt_command.specs.Asked.{AreRefused, AsksFor, names_opened};
+ghost use Rattle.autfilt_command.specs.Run.{EndsBecause, EndsBy, end_of};
+ghost use Rattle.autfilt_command.specs.inner.Running.{Carries, Finishes, IsFresh};
 ghost use Rattle.autfilt_command.specs.declared.ended.Ended.{Ended};
+ghost use Rattle.autfilt_run.specs.Built.{IsBuilt};
+ghost use Rattle.autfilt_run.specs.Plans.{count_text, name_at, streams_of};
+ghost use Rattle.autfilt_run.specs.declared.session.Stage.{Stage};
+ghost use Rattle.filter_plan.specs.declared.plan.Plan.{Plan};
 
-use crate::built::read_words;
+use crate::asked::read_words;
 use crate::ended::{End, Ended};
 use crate::notes::{note_end, note_skipped};
-use crate::turn::{Turn, take_turn};
-use aut_base::{MOST_BYTES, OpenFail, Text, Words};
+use aut_base::Words;
 use aut_io::{Inputs, Sink};
-use filter_plan::UsageFault;
-use hoa_lexer::Lexer;
+use autfilt_run::{Made, RunFault, Session, Turn};
+use filter_plan::{Plan, UsageFault};
 use std::alloc::Global;
 
-/// Prints the automata of the open text until only blanks are left, and notes those that are skipped, and the end.
-fn print_all<I: Inputs, W: Sink, M: Sink>(
+/// Carries out a plan over inputs, and notes what is skipped, and the end.
+fn carry_out<I: Inputs, W: Sink, M: Sink>(
     alloc: Global,
+    plan: Plan,
     inputs: &mut I,
     out: &mut W,
     notes: &mut M,
 ) -> End
-    ensures { RunsOver result (I.seen inputs.old) (I.seen inputs.new) (W.seen out.old) (W.seen out.new) (M.seen notes.old) (M.seen notes.new) }
+    requires built { IsBuilt plan }
+    requires names { All I.may_open (streams_of plan) }
+    ensures { Carries plan result (I.seen inputs.old) (I.seen inputs.new) (W.seen out.old) (W.seen out.new) (M.seen notes.old) (M.seen notes.new) }
 {
-    let mut lexer = Lexer::new(MOST_BYTES);
+    let mut session = Session::new(plan);
+    match session.prepare(alloc, inputs) {
+        Ok(_) => take_steps(alloc, session, inputs, out, notes),
+        Err(fault) => note_end(notes, true, b"", End::Fault(fault)),
+    }
+}
+
+/// Takes the steps of a session until it is done.
+fn take_steps<I: Inputs, W: Sink, M: Sink>(
+    alloc: Global,
+    session: Session,
+    inputs: &mut I,
+    out: &mut W,
+    notes: &mut M,
+) -> End
+    requires begun { IsFresh session }
+    requires names { All I.may_open (streams_of session.plan) }
+    ensures { Carries session.plan result (I.seen inputs.old) (I.seen inputs.new) (W.seen out.old) (W.seen out.new) (M.seen notes.old) (M.seen notes.new) }
+{
+    let mut session = session;
     let mut noting = true;
-    let mut printed = false;
-    let mut skipped = false;
-    'automata: loop {
-        match take_turn(alloc, &mut lexer, inputs, out) {
-            Ok(Turn::Printed) => printed = true,
-            Ok(Turn::Skipped) => {
-                skipped = true;
-                noting = note_skipped(notes, noting);
+    'steps: loop {
+        match session.step(alloc, inputs, out) {
+            Ok(Turn::Done) => {
+                let end = finish(&mut session, out);
+                return note_end(notes, noting, session.name_in_hand(), end);
             }
-            Ok(Turn::Finished) => return note_end(notes, noting, end_of_text(printed, skipped)),
-            Err(end) => return note_end(notes, noting, end),
+            Ok(Turn::Skipped) => noting = note_skipped(notes, noting, session.name_in_hand()),
+            Ok(_) => {}
+            Err(fault) => {
+                return note_end(notes, noting, session.name_in_hand(), End::Fault(fault));
+            }
         }
     }
 }
 
-/// The end of a run that read all.
-fn end_of_text(printed: bool, skipped: bool) -> End
-    ensures { result ≡ end_of (record { printed = printed; skipped = skipped }) }
+/// Writes what is due at the end, and tells how the run ended.
+fn finish<W: Sink>(session: &mut Session, out: &mut W) -> End
+    requires { session.old.stage ≡ Stage.Done }
+    ensures finishes { Finishes result (count_text session.old.plan session.old.kept) (record { kept = session.old.kept; skipped = session.old.skipped }) (W.seen out.old) (W.seen out.new) }
+    ensures same { name_at (streams_of session.new.plan) session.new.tried ≡ name_at (streams_of session.old.plan) session.old.tried }
 {
-    if skipped {
+    match session.finish(out) {
+        Ok(()) => end_of(session),
+        Err(fault) => End::Fault(fault),
+    }
+}
+
+/// The end of a run that read all.
+fn end_of(session: &Session) -> End
+    ensures { result ≡ end_of (record { kept = session.now.kept; skipped = session.now.skipped }) }
+{
+    if session.skipped() > 0 {
         End::Aborts
-    } else if printed {
+    } else if session.kept() > 0 {
         End::Output
     } else {
         End::NoneOutput
     }
 }
 
-/// Prints the automata of standard input.
-fn print_input<I: Inputs, W: Sink, M: Sink>(
-    alloc: Global,
-    inputs: &mut I,
-    out: &mut W,
-    notes: &mut M,
-) -> End
-    requires { I.may_open standard_input }
-    ensures { CarriesOut result (I.seen inputs.old) (I.seen inputs.new) (W.seen out.old) (W.seen out.new) (M.seen notes.old) (M.seen notes.new) }
-{
-    match open_input(alloc, inputs) {
-        Ok(()) => print_all(alloc, inputs, out, notes),
-        Err(OpenFail::Failed) => note_end(notes, true, End::CannotOpen),
-        Err(OpenFail::Memory) => note_end(notes, true, End::Memory),
-    }
-}
-
-/// Opens standard input.
-fn open_input<I: Inputs>(alloc: Global, inputs: &mut I) -> Result<(), OpenFail>
-    requires { I.may_open standard_input }
-    ensures { OpensInput result (I.seen inputs.old) (I.seen inputs.new) }
-{
-    let name = match Text::from_bytes(alloc, b"-") {
-        Ok(name) => name,
-        Err(_) => return Err(OpenFail::Memory),
-    };
-    inputs.open(&name)
-}
-
-/// Reads the words of the command line after the program's name and does what they ask for: so far, it reads automata
-/// from standard input and prints the canonical text of each. Automata that `--ABORT--` abandons are skipped, with a line
-/// in `notes` each. One line about a fault goes there, too.
+/// Reads the words of the command line after the program's name and does what they ask for: reads automata from the streams,
+/// judges each, and writes the canonical text of those that are kept, or how many they are. Automata that `--ABORT--`
+/// abandons are skipped, with a line in `notes` each. One line about a fault goes there, too.
 pub fn autfilt<I: Inputs, W: Sink, M: Sink>(
     alloc: Global,
     words: &Words,
@@ -95,7 +102,8 @@ pub fn autfilt<I: Inputs, W: Sink, M: Sink>(
     out: &mut W,
     notes: &mut M,
 ) -> Ended
-    requires { AskFor words.now → I.may_open standard_input }
+    // No other name is opened than those of the plan's streams.
+    requires { (plan : Plan) → AsksFor words.now plan → All I.may_open (names_opened plan) }
 
     // What was read, what was written and noted of it and what ended the run.
     ensures run { EndsBy words.now result (I.seen inputs.old) (I.seen inputs.new) (W.seen out.old) (W.seen out.new) (M.seen notes.old) (M.seen notes.new) }
@@ -109,9 +117,18 @@ pub fn autfilt<I: Inputs, W: Sink, M: Sink>(
     ensures refused { AreRefused words.now → (result ≡ Ended.Usage) ⊎ (result ≡ Ended.Memory) }
     ensures untouched { AreRefused words.now → (I.seen inputs.new ≡ I.seen inputs.old) × (W.seen out.new ≡ W.seen out.old) }
 {
-    match read_words(alloc, words) {
-        Ok(()) => Ended::from(print_input(alloc, inputs, out, notes)),
-        Err(UsageFault::Usage) => Ended::from(note_end(notes, true, End::Usage)),
-        Err(UsageFault::Memory) => Ended::from(note_end(notes, true, End::Memory)),
+    let plan = match read_words(alloc, words) {
+        Ok(plan) => plan,
+        Err(UsageFault::Usage) => return Ended::from(note_end(notes, true, b"", End::Usage)),
+        Err(UsageFault::Memory) => {
+            return Ended::from(note_end(notes, true, b"", End::Fault(RunFault::Memory)));
+        }
+    };
+    match plan.made {
+        None => Ended::from(carry_out(alloc, plan, inputs, out, notes)),
+        Some(count) => {
+            let mut made = Made::new(count);
+            Ended::from(carry_out(alloc, plan, &mut made, out, notes))
+        }
     }
 }

@@ -1,65 +1,88 @@
--- How far a run over an open text has come.
-use Rattle.std.specs.Prelude.{◌≡◌, ◌≢◌, ℕ, ◌+◌, ◌++◌, Bool, false, List, length, None, Result, Ok, Err}
+-- How far a run has come.
+use Rattle.std.specs.Prelude.{◌≡◌, ◌≢◌, ◌⊎◌, ℕ, ◌+◌, Bool, true, false, List, length, drop, Option, Some, None}
 use Rattle.aut_base.specs.declared.limit.TheConstants.{MOST_BYTES}
-use Rattle.aut_io.specs.Outside.{Gains, Rose}
-use Rattle.aut_base.specs.declared.fault.OpenFail.{OpenFail}
-use Rattle.aut_base.specs.declared.fault.OpenFail.TheVariants as fail
-use Rattle.aut_io.specs.Seen.{Opens, Seen, SinkSeen}
+use Rattle.aut_io.specs.Outside.{Gains, GainsPrefix, Rose, Texts}
+use Rattle.aut_io.specs.Seen.{Seen, SinkSeen}
 use Rattle.autfilt_command.specs.Ends.{ended_of}
+use Rattle.autfilt_command.specs.Noted.{HasNoted, Notes}
 use Rattle.autfilt_command.specs.Notes.{line_of}
-use Rattle.autfilt_command.specs.Run.{AllReadAs, AreCalm, AreRead, EndsBecause, EndsByTally, HasNoted, Item, Notes, Prints, ReadsTo, Runs, Tally, all_noted, all_printed, input_of, standard_input, tally}
+use Rattle.autfilt_command.specs.Run.{AreCalm, EndsBecause, Runs, all_noted, end_of}
 use Rattle.autfilt_command.specs.declared.ended.End.{End}
-use Rattle.autfilt_command.specs.declared.ended.End.TheVariants as ends
-use Rattle.hoa_lexer.specs.Reading.{Between, Tells}
-use Rattle.hoa_lexer.specs.declared.lexer.Lexer.{Lexer}
+use Rattle.autfilt_command.specs.declared.ended.End.TheVariants as end
+use Rattle.autfilt_run.specs.Events.{AreJudged, Event, Happen, Point, Stream, Tally, all_written, start_of, tally}
+use Rattle.autfilt_run.specs.Plans.{count_text, name_at, streams_of}
+use Rattle.autfilt_run.specs.declared.fault.RunFault.TheVariants as fault
+use Rattle.autfilt_run.specs.declared.session.Session.{Session}
+use Rattle.autfilt_run.specs.declared.session.Stage.TheVariants.{Prepared}
+use Rattle.filter_plan.specs.declared.plan.Plan.{Plan}
 
--- items were read, their texts written, and those that were skipped noted
-pub record HasRun (seen seen' : Seen) (out out' notes notes' : SinkSeen) (noting : Bool) (counts : Tally) : Type 0 where
-  pub items : List Item
-  pub read_as : AllReadAs items
-  pub front : Tells seen seen' (λ text rest. AreRead text text items rest)
-  pub gains : Gains out.written out'.written (all_printed items)
-  pub noted : HasNoted (all_noted items) noting notes notes'
-  pub counted : tally items ≡ counts
+-- a session that was prepared and took no step
+pub record IsFresh (s : Session) : Type 0 where
+  pub stage : s.stage ≡ Prepared
+  pub opened : s.opened ≡ 0
+  pub is_closed : s.is_open ≡ false
+  pub kept : s.kept ≡ 0
+  pub skipped : s.skipped ≡ 0
+  pub taken : s.lexer.taken ≡ 0
+  pub most : s.lexer.most ≡ MOST_BYTES
+
+-- A session stands at the stream: none is open, or this one is, and so many bytes of it were taken.
+abbrev pub IsIn : Option Stream → Session → Option (List ℕ) → ℕ → Type 0
+IsIn None s left before = (s.is_open ≡ false) × (s.lexer.taken ≡ before)
+IsIn (Some t) s left before =
+    (s.is_open ≡ true) × (left ≡ Some t.rest) × (name_at (streams_of s.plan) s.tried ≡ t.name)
+    × (s.lexer.since + length t.rest ≡ length t.text) × (s.lexer.taken ≡ before + s.lexer.since)
+
+-- a session stands where a run stands, with this left in the inputs
+pub record StandsAt (s : Session) (left : Option (List ℕ)) (p : Point) : Type 0 where
+  pub coming : p.coming ≡ drop s.opened (streams_of s.plan)
+  pub kept : p.kept ≡ s.kept
+  pub left_is : p.left ≡ left
+  pub stream : IsIn p.stream s left p.before
+
+-- where a run stands, after the events
+pub record Reached (plan : Plan) (texts : Texts) (events : List Event) (first left : Option (List ℕ)) (s : Session) : Type 0 where
+  pub point : Point
+  pub happen : Happen plan texts events (start_of plan first) point
+  pub stands : StandsAt s left point
+
+-- Events happened, what is due of them was written, and those that were skipped were noted.
+pub record HasRun (s : Session) (seen seen' : Seen) (out out' notes notes' : SinkSeen) (noting : Bool) : Type 0 where
+  pub events : List Event
+  pub judged : AreJudged s.plan events
+  pub happened : (texts : Texts) → seen.texts ≡ Some texts → Reached s.plan texts events seen.left seen'.left s
+  pub gains : Gains out.written out'.written (all_written events)
+  pub noted : HasNoted (all_noted events) noting notes notes'
+  pub tallied : tally events ≡ record { kept = s.kept; skipped = s.skipped }
   pub calm : AreCalm seen seen' out out'
   pub texts : seen'.texts ≡ seen.texts
 
--- What a loop over automata keeps.
-pub record IsRunning (lexer : Lexer) (seen seen' : Seen) (out out' notes notes' : SinkSeen) (noting : Bool) (counts : Tally) : Type 0 where
-  pub ran : HasRun seen seen' out out' notes notes' noting counts
-  pub spent : lexer.spent ≡ false
-  pub held : lexer.held ≡ None
-  pub most : lexer.most ≡ MOST_BYTES
-  pub since : lexer.since ≡ lexer.taken
-  pub taken : Tells seen seen' (λ text rest. lexer.taken + length rest ≡ length text)
+-- What a loop over steps keeps.
+pub record IsRunning (plan : Plan) (s : Session) (seen seen' : Seen) (out out' notes notes' : SinkSeen) (noting : Bool) : Type 0 where
+  pub ran : HasRun s seen seen' out out' notes notes' noting
+  pub same_plan : s.plan ≡ plan
+  pub stage : s.stage ≡ Prepared
+  pub most : s.lexer.most ≡ MOST_BYTES
 
--- why a run over an open text ended
-abbrev pub CountsFaults : End → Seen → Seen → SinkSeen → SinkSeen → Type 0
-CountsFaults ends.ReadFault seen seen' out out' = (seen'.open_faults ≡ seen.open_faults) × Rose seen.read_faults seen'.read_faults × (out'.faults ≡ out.faults)
-CountsFaults ends.WriteFault seen seen' out out' = (seen'.open_faults ≡ seen.open_faults) × (seen'.read_faults ≡ seen.read_faults) × Rose out.faults out'.faults
-CountsFaults ends.CannotOpen seen seen' out out' = ⊥
-CountsFaults _ seen seen' out out' = AreCalm seen seen' out out'
+-- All of the text that is due at the end was written, and the counts tell how the run ended; or a part of it was.
+pub record FinishesWell (e : End) (text : List ℕ) (t : Tally) (out out' : SinkSeen) : Type 0 where
+  pub end : e ≡ end_of t
+  pub gains : Gains out.written out'.written text
+  pub writes : out'.faults ≡ out.faults
 
--- A run over an open text that ended so, and what was noted of it.
-pub record RunsOver (end : End) (seen seen' : Seen) (out out' notes notes' : SinkSeen) : Type 0 where
-  pub items : List Item
-  pub read_as : AllReadAs items
-  pub reads : Tells seen seen' (λ text now. ReadsTo end text items now)
-  pub tallied : EndsByTally end items
-  pub prints : Prints end items out.written out'.written
-  pub noted : Notes (all_noted items ++ line_of end) notes notes'
-  pub causes : CountsFaults end seen seen' out out'
+pub record FinishesInPart (e : End) (text : List ℕ) (out out' : SinkSeen) : Type 0 where
+  pub end : e ≡ end.Fault fault.WriteFault
+  pub gains : GainsPrefix out.written out'.written text
+  pub writes : Rose out.faults out'.faults
 
--- A run over standard input.
-pub record CarriesOut (end : End) (seen seen' : Seen) (out out' notes notes' : SinkSeen) : Type 0 where
-  pub items : List Item
-  pub runs : Runs end (input_of seen.texts) seen'.left out.written out'.written items
-  pub noted : Notes (all_noted items ++ line_of end) notes notes'
-  pub causes : EndsBecause (ended_of end) seen seen' out out'
-  pub asked : end ≢ ends.Usage
+abbrev pub Finishes : End → List ℕ → Tally → SinkSeen → SinkSeen → Type 0
+Finishes e text t out out' = FinishesWell e text t out out' ⊎ FinishesInPart e text out out'
 
--- Standard input was opened; or it was not, and the count tells whether a call failed.
-abbrev pub OpensInput : Result (Unit {0}) OpenFail → Seen → Seen → Type 0
-OpensInput (Ok done) seen seen' = Opens seen standard_input (Ok done) seen'
-OpensInput (Err fail.Failed) seen seen' = Opens seen standard_input (Err fail.Failed) seen'
-OpensInput (Err fail.Memory) seen seen' = (seen'.open_faults ≡ seen.open_faults) × (seen'.read_faults ≡ seen.read_faults)
+-- A plan was carried out, and what was noted of it.
+pub record Carries (plan : Plan) (e : End) (seen seen' : Seen) (out out' notes notes' : SinkSeen) : Type 0 where
+  pub events : List Event
+  pub name : List ℕ
+  pub runs : Runs plan e events name seen seen' out out'
+  pub noted : Notes (all_noted events ++ line_of e name) notes notes'
+  pub causes : EndsBecause (ended_of e) seen seen' out out'
+  pub asked : e ≢ end.Usage

@@ -1,0 +1,148 @@
+-- What a turn of a session is as an event of the run.
+use Rattle.std.proofs.Common.{◌≡◌, ℕ, ◌+◌, ◌≤◌, true, List, Option, Some, Ok, Err, refl, sym, ap, ◌∙◌, subst, arith}
+use Rattle.aut_base.specs.declared.limit.TheConstants.{MOST_BYTES}
+use Rattle.aut_io.specs.Outside.{Gains, Texts}
+use Rattle.aut_io.specs.Seen.{Seen, SinkSeen}
+use Rattle.autfilt_command.proofs.Stepping.{GoesOn, ReadsOnAs, ends_stream, is_open, name_as, opens_stream, reads_on}
+use Rattle.autfilt_command.specs.Run.{AreCalm}
+use Rattle.autfilt_command.specs.inner.Running.{StandsAt}
+use Rattle.autfilt_run.proofs.Gains.{nothing}
+use Rattle.autfilt_run.specs.Events.{Dropped, Ended, Event, Goes, IsGood, IsJudged, Kept, Opened, Point, ReadsOn, Skipped, Stream, Tally, counted, written_of}
+use Rattle.autfilt_run.specs.Plans.{asks_on, name_at, streams_of}
+use Rattle.autfilt_run.specs.Runs.{IsAllRead}
+use Rattle.autfilt_run.specs.Turns as turns
+use Rattle.autfilt_run.specs.Turns.{Progress, after, progress}
+use Rattle.autfilt_run.specs.declared.session.Session.{Session}
+use Rattle.autfilt_run.specs.declared.session.Turn.TheVariants as turn
+use Rattle.hoa_lexer.specs.Moves.{AtEnd, Elsewhere}
+use Rattle.hoa_parser.specs.Standing.{Aborted, Stands}
+
+-- A step of a session was this event.
+pub record Stepped (event : Event) (old new : Session) (m t : Seen) (p q : SinkSeen) : Type 0 where
+  pub judged : IsJudged old.plan event
+  pub goes : (texts : Texts) → m.texts ≡ Some texts → (at : Point) → StandsAt old m.left at → GoesOn (λ x. Goes texts event at x) new t.left
+  pub gains : Gains p.written q.written (written_of event)
+  pub tallied : counted (record { kept = old.kept; skipped = old.skipped }) event ≡ record { kept = new.kept; skipped = new.skipped }
+  pub calm : AreCalm m t p q
+  pub texts : t.texts ≡ m.texts
+
+-- what a step keeps besides
+pub record StepsAs (old new : Session) : Type 0 where
+  pub plan : new.plan ≡ old.plan
+  pub most : new.lexer.most ≡ MOST_BYTES
+  pub few : new.lexer.taken ≤ MOST_BYTES
+
+still_gains : (p q : SinkSeen) → q ≡ p → Gains p.written q.written []
+still_gains p q same = subst (λ (x : SinkSeen). Gains p.written x.written []) (sym same) (nothing p.written)
+
+still_writes : (p q : SinkSeen) → q ≡ p → q.faults ≡ p.faults
+still_writes p q same = ap (λ (x : SinkSeen). x.faults) same
+
+-- the parts of what a session has done
+record IsAfter (old new : Session) (opened : ℕ) (open : Bool) (kept skipped : ℕ) : Type 0 where
+  opened : new.opened ≡ opened
+  open : new.is_open ≡ open
+  kept : new.kept ≡ kept
+  skipped : new.skipped ≡ skipped
+
+parts_of : (old new : Session) (a : Progress) → progress new ≡ a → IsAfter old new a.opened a.is_open a.kept a.skipped
+parts_of old new a e = record {
+  opened = ap (λ (x : Progress). x.opened) e;
+  open = ap (λ (x : Progress). x.is_open) e;
+  kept = ap (λ (x : Progress). x.kept) e;
+  skipped = ap (λ (x : Progress). x.skipped) e;
+}
+
+tally_as : (k s k' s' : ℕ) → k' ≡ k → s' ≡ s → record { kept = k; skipped = s } ≡ record { kept = k'; skipped = s' }
+tally_as k s k' s' a b = sym (ap (λ (x : ℕ). record { kept = x; skipped = s' }) a ∙ ap (λ (y : ℕ). record { kept = k; skipped = y }) b)
+
+keeps_on : (old new : Session) → StepsAs old new → new.opened ≡ old.opened → new.tried ≡ old.tried → ReadsOnAs old new
+keeps_on old new as opened tried = record { plan = as.plan; opened = opened; tried = tried; few = as.few }
+
+kept_at : (old new : Session) (left : Option (List ℕ)) (at : Point) (P : ℕ → Type 0) → StandsAt old left at → new.kept ≡ old.kept → P new.kept → P at.kept
+kept_at old new left at P stands same h = subst P (same ∙ sym stands.kept) h
+
+pub opened : (old new : Session) (m t : Seen) (p q : SinkSeen) → StepsAs old new → progress new ≡ after turn.Opened (progress old) → (h : turns.Turns turn.Opened old new m t p q) → Stepped (Opened h.name) old new m t p q
+opened old new m t p q as done h =
+    let x = parts_of old new (after turn.Opened (progress old)) done in
+    record {
+      judged = tt;
+      goes = λ texts told at stands. opens_stream texts old new m t at h.name told stands h.opening h.opens h.begins h.in_hand as.plan x.opened x.open x.kept;
+      gains = still_gains p q h.output;
+      tallied = tally_as old.kept old.skipped new.kept new.skipped x.kept x.skipped;
+      calm = record { opens = h.opens.calm; reads = h.opens.reads; writes = still_writes p q h.output };
+      texts = h.opens.texts;
+    }
+
+pub ended : (old new : Session) (m t : Seen) (p q : SinkSeen) → StepsAs old new → progress new ≡ after turn.StreamEnd (progress old) → turns.Turns turn.StreamEnd old new m t p q → Stepped Ended old new m t p q
+ended old new m t p q as done h =
+    let x = parts_of old new (after turn.StreamEnd (progress old)) done in
+    record {
+      judged = tt;
+      goes = λ texts told at stands. ends_stream old new m t at stands h.reading.is_open x.open x.kept h.read h.moves as.most (keeps_on old new as x.opened h.in_hand);
+      gains = still_gains p q h.output;
+      tallied = tally_as old.kept old.skipped new.kept new.skipped x.kept x.skipped;
+      calm = record { opens = h.moves.opens; reads = h.moves.reads; writes = still_writes p q h.output };
+      texts = h.moves.texts;
+    }
+
+pub dropped : (old new : Session) (m t : Seen) (p q : SinkSeen) → StepsAs old new → progress new ≡ after turn.Dropped (progress old) → (h : turns.Turns turn.Dropped old new m t p q) → Stepped (Dropped h.automaton) old new m t p q
+dropped old new m t p q as done h =
+    let x = parts_of old new (after turn.Dropped (progress old)) done in
+    record {
+      judged = h.dropped;
+      goes = λ texts told at stands.
+          let on = reads_on (λ start rest next. IsGood start rest h.automaton next) old new m t at Elsewhere stands h.reads.reading.is_open (x.open ∙ h.reads.reading.is_open) h.reads.read h.reads.moves (keeps_on old new as x.opened h.reads.in_hand) in
+          record {
+            point = on.point;
+            goes = kept_at old new m.left at (λ (k : ℕ). ReadsOn at (λ start rest next. IsGood start rest h.automaton next) k on.point) stands x.kept on.goes;
+            stands = on.stands;
+          };
+      gains = still_gains p q h.reads.output;
+      tallied = tally_as old.kept old.skipped new.kept new.skipped x.kept x.skipped;
+      calm = record { opens = h.reads.moves.opens; reads = h.reads.moves.reads; writes = still_writes p q h.reads.output };
+      texts = h.reads.moves.texts;
+    }
+
+pub kept : (old new : Session) (m t : Seen) (p q : SinkSeen) → StepsAs old new → progress new ≡ after turn.Kept (progress old) → (h : turns.Turns turn.Kept old new m t p q) → Stepped (Kept h.automaton h.text) old new m t p q
+kept old new m t p q as done h =
+    let x = parts_of old new (after turn.Kept (progress old)) done in
+    record {
+      judged = (h.kept, h.due);
+      goes = λ texts told at stands.
+          let on = reads_on (λ start rest next. IsGood start rest h.automaton next) old new m t at Elsewhere stands h.reading.is_open (x.open ∙ h.reading.is_open) h.read h.moves (keeps_on old new as x.opened h.in_hand) in
+          record {
+            point = on.point;
+            goes = subst (λ (k : ℕ). ReadsOn at (λ start rest next. IsGood start rest h.automaton next) k on.point) (x.kept ∙ ap (λ (k : ℕ). k + 1) (sym stands.kept)) on.goes;
+            stands = on.stands;
+          };
+      gains = h.gains;
+      tallied = tally_as (old.kept + 1) old.skipped new.kept new.skipped x.kept x.skipped;
+      calm = record { opens = h.moves.opens; reads = h.moves.reads; writes = h.writes };
+      texts = h.moves.texts;
+    }
+
+same_name : (o : Option Stream) (a b : Stream) → o ≡ Some a → o ≡ Some b → a.name ≡ b.name
+same_name o a b e f = let same : Some a ≡ Some b = sym e ∙ f in let one : a ≡ b = cc in ap (λ (x : Stream). x.name) one
+
+-- the one that was skipped is of the stream whose name is in hand
+pub skipped : (old new : Session) (m t : Seen) (p q : SinkSeen) → StepsAs old new → progress new ≡ after turn.Skipped (progress old) → turns.Turns turn.Skipped old new m t p q
+    → Stepped (Skipped (name_at (streams_of new.plan) new.tried)) old new m t p q
+skipped old new m t p q as done h =
+    let x = parts_of old new (after turn.Skipped (progress old)) done in
+    record {
+      judged = tt;
+      goes = λ texts told at stands.
+          let on = reads_on (λ start rest next. Stands (Aborted next) start rest) old new m t at Elsewhere stands h.reading.is_open (x.open ∙ h.reading.is_open) h.read h.moves (keeps_on old new as x.opened h.in_hand) in
+          let reads = kept_at old new m.left at (λ (k : ℕ). ReadsOn at (λ start rest next. Stands (Aborted next) start rest) k on.point) stands x.kept on.goes in
+          let open = is_open old m.left at stands h.reading.is_open in
+          record {
+            point = on.point;
+            goes = record { reads = reads; named = same_name at.stream reads.stream open.stream reads.is_open open.is ∙ sym open.named ∙ sym (name_as old new as.plan h.in_hand) };
+            stands = on.stands;
+          };
+      gains = still_gains p q h.output;
+      tallied = tally_as old.kept (old.skipped + 1) new.kept new.skipped x.kept x.skipped;
+      calm = record { opens = h.moves.opens; reads = h.moves.reads; writes = still_writes p q h.output };
+      texts = h.moves.texts;
+    }

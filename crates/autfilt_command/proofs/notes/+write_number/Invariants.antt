@@ -1,5 +1,0 @@
--- Each call has a digit less to write.
-use Rattle.autfilt_command.proofs.notes.+write_number.Given as goal
-
-abbrev pub decreases-write_number : goal.decreases-write_number
-decreases-write_number g l = l.number

@@ -1,0 +1,5 @@
+-- Each call has a digit less to write.
+use Rattle.autfilt_run.proofs.number.+write_number.Given as goal
+
+abbrev pub decreases-write_number : goal.decreases-write_number
+decreases-write_number g l = l.number

@@ -1,0 +1,163 @@
+-- What happens in a run over streams, one after the other, and where the run stands then.
+use Rattle.std.specs.Prelude.{◌≡◌, ℕ, ◌+◌, ◌-◌, ◌<◌, ◌≤◌, true, List, [], ◌∷◌, length, flat_map, Option, Some, None}
+use Rattle.std.specs.List.{AllByRecursion}
+use Rattle.aut_base.specs.declared.limit.TheConstants.{MOST_BYTES}
+use Rattle.aut_io.specs.Outside.{Texts, text_of}
+use Rattle.autfilt_run.specs.Due.{IsDue}
+use Rattle.autfilt_run.specs.Filters.{IsDropped, IsKept}
+use Rattle.autfilt_run.specs.Plans.{asks_on, streams_of}
+use Rattle.filter_plan.specs.declared.plan.Plan.{Plan}
+use Rattle.hoa_lexer.specs.Blanks.{IsBlanks}
+use Rattle.hoa_parser.specs.Raw.{Written}
+use Rattle.hoa_parser.specs.Standing.{Stands, Whole, Aborted}
+use Rattle.hoa_reader.specs.Counts.{PassesNone}
+use Rattle.hoa_reader.specs.Described.{described}
+use Rattle.hoa_reader.specs.Validity.{IsValid}
+
+-- how many bytes of the text stand before its rest
+abbrev pub place : List ℕ → List ℕ → ℕ
+place text rest = length text - length rest
+
+-- An automaton stands whole at the front of the rest, which begins `start` bytes after the start of the text. It is
+-- valid and within the limits, and `next` follows it.
+pub record IsGood (start : ℕ) (rest : List ℕ) (w : Written) (next : List ℕ) : Type 0 where
+  pub whole : Stands (Whole w next) start rest
+  pub valid : IsValid w
+  pub within : PassesNone w
+
+pub data Event : Type 0 where
+  -- the next stream, of this name, is opened
+  Opened : List ℕ → Event
+  -- an automaton is read and kept, and this text is written of it
+  Kept : Written → List ℕ → Event
+  -- an automaton is read and dropped
+  Dropped : Written → Event
+  -- an automaton of the stream of this name is abandoned, and skipped
+  Skipped : List ℕ → Event
+  -- only blanks are left of the stream
+  Ended : Event
+
+-- ---- where a run stands
+
+-- a stream that is open: its name, its text, and the rest that was not read yet
+pub record Stream : Type 0 where
+  pub name : List ℕ
+  pub text : List ℕ
+  pub rest : List ℕ
+
+pub record Point : Type 0 where
+  -- the names of the streams that were not opened yet
+  pub coming : List (List ℕ)
+  pub stream : Option Stream
+  -- what is left in the inputs, where it is told
+  pub left : Option (List ℕ)
+  -- how many bytes were taken of the streams before
+  pub before : ℕ
+  -- how many automata were kept
+  pub kept : ℕ
+
+-- the start of a run over inputs of which this is left
+abbrev pub start_of : Plan → Option (List ℕ) → Point
+start_of p left = record { coming = streams_of p; stream = None; left = left; before = 0; kept = 0 }
+
+-- the point where more was read of the open stream
+abbrev pub read_on : Point → Stream → List ℕ → ℕ → Point
+read_on p s next kept = record {
+  coming = p.coming;
+  stream = Some (record { name = s.name; text = s.text; rest = next });
+  left = Some next;
+  before = p.before;
+  kept = kept;
+}
+
+-- the point where the stream of this name was opened
+abbrev pub opened_at : Point → List (List ℕ) → List ℕ → List ℕ → Point
+opened_at p others name text = record {
+  coming = others;
+  stream = Some (record { name = name; text = text; rest = text });
+  left = Some text;
+  before = p.before;
+  kept = p.kept;
+}
+
+-- the point where the open stream was read to its end
+abbrev pub ended_at : Point → Stream → Point
+ended_at p s = record { coming = p.coming; stream = None; left = Some []; before = p.before + length s.text; kept = p.kept }
+
+-- More of the open stream is read: `read` tells what stands at its rest, and no more bytes are taken than may be.
+pub record ReadsOn (p : Point) (read : ℕ → List ℕ → List ℕ → Type 0) (kept : ℕ) (q : Point) : Type 0 where
+  pub stream : Stream
+  pub is_open : p.stream ≡ Some stream
+  pub next : List ℕ
+  pub stands : read (place stream.text stream.rest) stream.rest next
+  pub few : p.before + place stream.text next ≤ MOST_BYTES
+  pub to : q ≡ read_on p stream next kept
+
+-- An abandoned automaton of the stream of this name is skipped.
+pub record PassesOver (name : List ℕ) (p q : Point) : Type 0 where
+  pub reads : ReadsOn p (λ start rest next. Stands (Aborted next) start rest) p.kept q
+  pub named : reads.stream.name ≡ name
+
+-- no stream is open, and the next one is that of this name
+pub record OpensStream (texts : Texts) (name : List ℕ) (p q : Point) : Type 0 where
+  pub closed : p.stream ≡ None
+  pub others : List (List ℕ)
+  pub next : p.coming ≡ name ∷ others
+  pub to : q ≡ opened_at p others name (text_of texts name)
+
+-- Only blanks are left of the open stream. Its end is met by asking for one byte more.
+pub record EndsStream (p q : Point) : Type 0 where
+  pub stream : Stream
+  pub is_open : p.stream ≡ Some stream
+  pub blank : IsBlanks stream.rest
+  pub few : p.before + length stream.text < MOST_BYTES
+  pub to : q ≡ ended_at p stream
+
+-- What an event asks of the point before it, and the point behind it.
+abbrev pub Goes : Texts → Event → Point → Point → Type 0
+Goes texts (Opened name) p q = OpensStream texts name p q
+Goes texts (Kept w text) p q = ReadsOn p (λ start rest next. IsGood start rest w next) (p.kept + 1) q
+Goes texts (Dropped w) p q = ReadsOn p (λ start rest next. IsGood start rest w next) p.kept q
+Goes texts (Skipped name) p q = PassesOver name p q
+Goes texts Ended p q = EndsStream p q
+
+-- The events happen one after the other. Before each of them more automata are asked for.
+abbrev pub Happen : Plan → Texts → List Event → Point → Point → Type 0
+Happen plan texts [] p q = p ≡ q
+Happen plan texts (event ∷ events) p q = (asks_on plan p.kept ≡ true) × ((m : Point) × Goes texts event p m × Happen plan texts events m q)
+
+-- ---- what the events are, whatever the texts
+
+-- the verdict on the automaton that was read is this one, and the text that is written of it is the one that is due
+abbrev pub IsJudged : Plan → Event → Type 0
+IsJudged plan (Kept w text) = IsKept plan (described w) × IsDue plan w text
+IsJudged plan (Dropped w) = IsDropped plan (described w)
+IsJudged plan _ = Unit {0}
+
+abbrev pub AreJudged : Plan → List Event → Type 0
+AreJudged plan = AllByRecursion (IsJudged plan)
+
+-- what is written of an event
+abbrev pub written_of : Event → List ℕ
+written_of (Kept w text) = text
+written_of _ = []
+
+abbrev pub all_written : List Event → List ℕ
+all_written = flat_map written_of
+
+-- how many automata were kept, and how many were skipped
+pub record Tally : Type 0 where
+  pub kept : ℕ
+  pub skipped : ℕ
+
+abbrev pub counted : Tally → Event → Tally
+counted t (Kept w text) = record { kept = t.kept + 1; skipped = t.skipped }
+counted t (Skipped name) = record { kept = t.kept; skipped = t.skipped + 1 }
+counted t _ = t
+
+abbrev pub tally_from : Tally → List Event → Tally
+tally_from t [] = t
+tally_from t (event ∷ events) = tally_from (counted t event) events
+
+abbrev pub tally : List Event → Tally
+tally = tally_from (record { kept = 0; skipped = 0 })

@@ -1,0 +1,37 @@
+-- What ends a session but its work: which fault of a crate below becomes which.
+use Rattle.aut_base.specs.declared.fault.OpenFail.{OpenFail}
+use Rattle.aut_base.specs.declared.fault.OpenFail.TheVariants as opening
+use Rattle.aut_base.specs.declared.limit.Limit.TheVariants as limit
+use Rattle.autfilt_run.specs.declared.fault.RunFault.{RunFault}
+use Rattle.autfilt_run.specs.declared.fault.RunFault.TheVariants as fault
+use Rattle.hoa_lexer.specs.Moves.{Stop, AtEnd, AtFault, AtMost, Elsewhere}
+use Rattle.hoa_parser.specs.declared.fault.ReadFault as reading
+use Rattle.hoa_reader.specs.declared.elaborate.ElabFault as describing
+
+-- the fault where a text could not be opened
+abbrev pub fault_of_opening : OpenFail → RunFault
+fault_of_opening opening.Failed = fault.CannotOpen
+fault_of_opening opening.Memory = fault.Memory
+
+-- the fault at one of the reader
+abbrev pub fault_of_reading : reading.ReadFault → RunFault
+fault_of_reading (reading.ReadFault.Syntax k) = fault.SyntaxAt k
+fault_of_reading reading.ReadFault.Truncated = fault.Truncated
+fault_of_reading reading.ReadFault.Depth = fault.Limit limit.Depth
+fault_of_reading reading.ReadFault.Bytes = fault.Limit limit.Bytes
+fault_of_reading reading.ReadFault.Read = fault.ReadFault
+fault_of_reading reading.ReadFault.Memory = fault.Memory
+
+-- the fault at an automaton that was read and describes nothing
+abbrev pub fault_of_describing : describing.ElabFault → RunFault
+fault_of_describing (describing.ElabFault.Invalid rule) = fault.Invalid rule
+fault_of_describing (describing.ElabFault.Limit which) = fault.Limit which
+fault_of_describing describing.ElabFault.Memory = fault.Memory
+
+-- Where a fault comes, as to the limit of bytes: it is told exactly where one byte more is asked for when that many were
+-- taken, and the end of a text is met by asking, too.
+abbrev pub stop_of_fault : RunFault → Stop
+stop_of_fault fault.Truncated = AtEnd
+stop_of_fault fault.ReadFault = AtFault
+stop_of_fault (fault.Limit limit.Bytes) = AtMost
+stop_of_fault _ = Elsewhere

@@ -1,0 +1,11 @@
+pub mod Built
+pub mod Due
+pub mod Events
+pub mod Faults
+pub mod Filters
+pub mod Made
+pub mod MadeExamples
+pub mod Plans
+pub mod Runs
+pub mod Turns
+pub mod inner

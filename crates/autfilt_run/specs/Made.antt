@@ -1,0 +1,52 @@
+-- The generated text: automata over one name, each a ring of states with one edge from every state to the one behind it
+-- and one from the last state to the first.
+use Rattle.std.specs.Prelude.{ℕ, ◌+◌, ◌-◌, ◌%◌, ◌==◌, if◌then◌else◌, List, [], ◌∷◌, ◌++◌, codes, flat_map, Some}
+use Rattle.std.specs.FinMap.{from_entries}
+use Rattle.std.specs.Fmt.{decimal}
+use Rattle.std.specs.List.{range_with_len}
+use Rattle.aut_io.specs.Outside.{Texts}
+use Rattle.aut_io.specs.Seen.{Seen}
+
+-- the bytes and a line feed
+abbrev pub line : List ℕ → List ℕ
+line bytes = bytes ++ 10 ∷ []
+
+-- a state, and the edge to the state behind it
+abbrev pub state_on : ℕ → List ℕ
+state_on state = line (codes "State: " ++ decimal state) ++ line (codes "[0] " ++ decimal (state + 1))
+
+-- Only a ring of an odd number of states has a mark: it accepts where `a` always holds. The others accept nothing.
+abbrev pub mark : ℕ → List ℕ
+mark ring = if ring % 2 == 1 then codes " {0}" else []
+
+-- the last state, and the edge to the first
+abbrev pub state_back : ℕ → List ℕ
+state_back ring = line (codes "State: " ++ decimal (ring - 1)) ++ line (codes "[0] 0" ++ mark ring)
+
+-- the automaton of so many states, of which there is at least one
+abbrev pub ring_text : ℕ → List ℕ
+ring_text ring =
+    line (codes "HOA: v1") ++ (line (codes "States: " ++ decimal ring) ++ (line (codes "Start: 0")
+    ++ (line (codes "AP: 1 \"a\"") ++ (line (codes "Acceptance: 1 Inf(0)") ++ (line (codes "--BODY--")
+    ++ (flat_map state_on (range_with_len 0 (ring - 1)) ++ (state_back ring ++ line (codes "--END--"))))))))
+
+-- the rings of one to so many states
+abbrev pub made_text : ℕ → List ℕ
+made_text count = flat_map ring_text (range_with_len 1 count)
+
+-- the name of the generated text
+abbrev pub made_name : List ℕ
+made_name = codes "made"
+
+-- the generated text under its name, and nothing else
+abbrev pub made_texts : ℕ → Texts
+made_texts count = from_entries ((made_name, made_text count) ∷ [])
+
+-- what callers see: how many automata the text has, and the rest of the open text
+pub record MadeState : Type 0 where
+  pub count : ℕ
+  pub left : List ℕ
+
+-- what the generated text tells: its calls never fail
+abbrev pub seen_of_made : MadeState → Seen
+seen_of_made m = record { texts = Some (made_texts m.count); left = Some m.left; open_faults = 0; read_faults = 0 }

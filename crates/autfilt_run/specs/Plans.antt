@@ -1,0 +1,34 @@
+-- What a plan says of a run: its streams, how many automata are asked for, and when something is printed.
+use Rattle.std.specs.Prelude.{ℕ, ◌==◌, Bool, true, false, not, ◌&&◌, ◌||◌, if◌then◌else◌, List, [], ◌∷◌, ◌++◌, Option, Some, None, codes}
+use Rattle.std.specs.Fmt.{decimal}
+use Rattle.std.specs.List.{slice_index_or}
+use Rattle.autfilt_run.specs.Made.{made_name}
+use Rattle.filter_plan.specs.declared.plan.Plan.{Plan}
+
+-- the names of the streams, in the order in which they are read
+abbrev pub streams_or : List (List ℕ) → Option ℕ → List (List ℕ)
+streams_or streams None = streams
+streams_or streams (Some n) = made_name ∷ []
+
+abbrev pub streams_of : Plan → List (List ℕ)
+streams_of p = streams_or p.streams p.made
+
+-- whether more automata are asked for, once so many were kept
+abbrev pub is_below : Option ℕ → ℕ → Bool
+is_below None kept = true
+is_below (Some most) kept = not (kept == most)
+
+abbrev pub asks_on : Plan → ℕ → Bool
+asks_on p kept = is_below p.most kept
+
+-- whether something is printed of each automaton that is kept
+abbrev pub prints_each : Plan → Bool
+prints_each p = not (p.quiet || p.count)
+
+-- the name of the stream that was tried last, once so many were tried
+abbrev pub name_at : List (List ℕ) → ℕ → List ℕ
+name_at streams tried = slice_index_or ([] ∷ streams) tried []
+
+-- what is written at the end: the number of automata that were kept and a line feed, where only that is asked for
+abbrev pub count_text : Plan → ℕ → List ℕ
+count_text p kept = if p.count && not p.quiet then decimal kept ++ codes "\n" else []

@@ -1,0 +1,112 @@
+-- Where a run ends, and at what.
+use Rattle.std.specs.Prelude.{◌≡◌, ℕ, ◌+◌, ◌≤◌, ◌⊎◌, true, false, List, [], ◌∷◌, Option, Some, None}
+use Rattle.aut_base.specs.declared.limit.Limit.TheVariants as limit
+use Rattle.aut_base.specs.declared.limit.TheConstants.{MOST_BYTES}
+use Rattle.aut_io.specs.Outside.{Texts}
+use Rattle.autfilt_run.specs.Events.{Event, Happen, Point, Stream, place, start_of}
+use Rattle.autfilt_run.specs.Faults.{stop_of_fault}
+use Rattle.autfilt_run.specs.Plans.{asks_on}
+use Rattle.autfilt_run.specs.declared.fault.RunFault.{RunFault}
+use Rattle.autfilt_run.specs.declared.fault.RunFault.TheVariants as fault
+use Rattle.filter_plan.specs.declared.plan.Plan.{Plan}
+use Rattle.hoa_lexer.specs.Blanks.{IsBlanks}
+use Rattle.hoa_lexer.specs.Moves.{IsWithin}
+use Rattle.hoa_lexer.specs.Reading.{unread}
+use Rattle.hoa_parser.specs.Raw.{Written}
+use Rattle.hoa_parser.specs.Reads.{AskedForLast, AsksOn, IsHopeless, MayHaveBegun}
+use Rattle.hoa_parser.specs.Standing.{Stands, Whole, Deep, Bad, Cut}
+use Rattle.hoa_reader.specs.Elaborating.{PassesLimit}
+use Rattle.hoa_reader.specs.Validity.{IsFirstBroken}
+
+-- ---- what stands at the rest of a text where a run ends. The rest begins `start` bytes after the start of the text, and
+-- `left` is what is left in the inputs.
+
+-- An automaton stands whole there, `fault` is what there is to say of it, and `next` follows it.
+pub record StandsWith (fault : Written → Type 0) (start : ℕ) (rest next : List ℕ) : Type 0 where
+  pub automaton : Written
+  pub whole : Stands (Whole automaton next) start rest
+  pub holds : fault automaton
+
+-- A token cannot stand at offset k, and nothing is taken past the byte that shows it.
+pub record IsSyntaxFault (k start : ℕ) (rest left : List ℕ) : Type 0 where
+  pub bad : Stands (Bad k) start rest
+  pub shown : IsHopeless k start rest left
+  pub last : AskedForLast start rest left
+
+-- The text ends inside an automaton, and one byte more was asked for.
+pub record IsTruncated (start : ℕ) (rest left : List ℕ) : Type 0 where
+  pub cut : Stands Cut start rest
+  pub nothing : left ≡ []
+  pub asks : AsksOn start rest left
+
+-- A token opens one more than may be open, and nothing is taken past it.
+pub record IsTooDeep (start : ℕ) (rest left : List ℕ) : Type 0 where
+  pub deep : Stands Deep start rest
+  pub last : AskedForLast start rest left
+
+-- Memory was wanting for an automaton that may have begun, or for one that was read whole. A byte may be held.
+abbrev pub WantsMemory : ℕ → List ℕ → List ℕ → Type 0
+WantsMemory start rest left = ((held : Option ℕ) × MayHaveBegun start rest (unread held left)) ⊎ StandsWith (λ w. Unit {0}) start rest left
+
+-- only blanks are left
+abbrev pub IsAllRead : List ℕ → List ℕ → Type 0
+IsAllRead rest left = IsBlanks rest × (left ≡ [])
+
+abbrev pub StopsAt : RunFault → ℕ → List ℕ → List ℕ → Type 0
+StopsAt (fault.SyntaxAt k) start rest left = IsSyntaxFault k start rest left
+StopsAt fault.Truncated start rest left = IsTruncated start rest left
+StopsAt (fault.Invalid rule) start rest left = StandsWith (IsFirstBroken rule) start rest left
+StopsAt (fault.Limit limit.Depth) start rest left = IsTooDeep start rest left
+StopsAt (fault.Limit limit.Bytes) start rest left = AsksOn start rest left
+StopsAt (fault.Limit which) start rest left = StandsWith (PassesLimit which) start rest left
+StopsAt fault.ReadFault start rest left = AsksOn start rest left
+StopsAt fault.Memory start rest left = WantsMemory start rest left
+StopsAt fault.CannotOpen start rest left = ⊥
+StopsAt fault.WriteFault start rest left = ⊥
+
+-- ---- the ends of a run
+
+-- The count that was asked for is reached, or there is nothing left to read.
+abbrev pub IsDone : Plan → Point → Type 0
+IsDone plan p = (asks_on plan p.kept ≡ false) ⊎ ((p.stream ≡ None) × (p.coming ≡ []))
+
+-- more automata are asked for, and the next stream is that of this name
+pub record WantsStream (plan : Plan) (p : Point) (name : List ℕ) : Type 0 where
+  pub asks : asks_on plan p.kept ≡ true
+  pub closed : p.stream ≡ None
+  pub others : List (List ℕ)
+  pub next : p.coming ≡ name ∷ others
+
+-- More automata are asked for, and something stands at the rest of the open stream.
+pub record AtStream (plan : Plan) (p : Point) (left : Option (List ℕ)) (stops : ℕ → List ℕ → List ℕ → Type 0) : Type 0 where
+  pub asks : asks_on plan p.kept ≡ true
+  pub stream : Stream
+  pub is_open : p.stream ≡ Some stream
+  pub now : List ℕ
+  pub told : left ≡ Some now
+  pub stands : stops (place stream.text stream.rest) stream.rest now
+
+-- memory was wanting before anything was taken, at an opening, after which nothing is open, or in a stream
+abbrev pub LacksMemory : Plan → Point → Option (List ℕ) → Type 0
+LacksMemory plan p left = (left ≡ p.left) ⊎ (((name : List ℕ) × WantsStream plan p name × (left ≡ Some [])) ⊎ AtStream plan p left WantsMemory)
+
+-- Where a run stands when this fault ends it, and what is left in the inputs then. `name` is the name in hand where a text
+-- could not be opened. A write failed of what was read before.
+abbrev pub Stops : Plan → RunFault → List ℕ → Point → Option (List ℕ) → Type 0
+Stops plan fault.CannotOpen name p left = WantsStream plan p name × (left ≡ Some [])
+Stops plan fault.WriteFault name p left = left ≡ p.left
+Stops plan fault.Memory name p left = LacksMemory plan p left
+Stops plan f name p left = AtStream plan p left (StopsAt f)
+
+-- how many bytes were taken of the streams, where the run stands here and so much is left
+abbrev pub taken_in : Option Stream → Option (List ℕ) → ℕ
+taken_in (Some s) (Some now) = place s.text now
+taken_in _ _ = 0
+
+abbrev pub taken_of : Point → Option (List ℕ) → ℕ
+taken_of p left = p.before + taken_in p.stream left
+
+-- no more bytes were taken than may be; and all of them exactly where one more is asked for
+pub record IsCounted (f : RunFault) (p : Point) (left : Option (List ℕ)) : Type 0 where
+  pub few : taken_of p left ≤ MOST_BYTES
+  pub within : IsWithin (stop_of_fault f) (taken_of p left) MOST_BYTES

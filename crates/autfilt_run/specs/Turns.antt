@@ -1,0 +1,158 @@
+-- What one step of a session does.
+use Rattle.std.specs.Prelude.{◌≡◌, ℕ, ◌+◌, ◌<◌, ◌≤◌, ◌⊎◌, Bool, true, false, List, [], ◌∷◌, length, slice_get, Option, Some, None, Result, Ok, Err}
+use Rattle.aut_base.specs.declared.fault.OpenFail.{OpenFail}
+use Rattle.aut_base.specs.declared.fault.OpenFail.TheVariants as opening
+use Rattle.aut_io.specs.Outside.{Gains, GainsPrefix, Rose}
+use Rattle.aut_io.specs.Seen.{Opens, Seen, SinkSeen}
+use Rattle.autfilt_run.specs.Due.{IsDue}
+use Rattle.autfilt_run.specs.Events.{IsGood}
+use Rattle.autfilt_run.specs.Faults.{stop_of_fault}
+use Rattle.autfilt_run.specs.Filters.{IsDropped, IsKept}
+use Rattle.autfilt_run.specs.Plans.{asks_on, name_at, streams_of}
+use Rattle.autfilt_run.specs.Runs.{IsAllRead, StopsAt, WantsMemory}
+use Rattle.autfilt_run.specs.declared.fault.RunFault.{RunFault}
+use Rattle.autfilt_run.specs.declared.fault.RunFault.TheVariants as fault
+use Rattle.autfilt_run.specs.declared.session.Session.{Session}
+use Rattle.autfilt_run.specs.declared.session.Turn.{Turn}
+use Rattle.autfilt_run.specs.declared.session.Turn.TheVariants as turn
+use Rattle.hoa_lexer.specs.Moves.{Moves, Stop, AtEnd, Elsewhere}
+use Rattle.hoa_lexer.specs.Reading.{Between}
+use Rattle.hoa_parser.specs.Raw.{Written}
+use Rattle.hoa_parser.specs.Standing.{Aborted, Stands}
+use Rattle.hoa_reader.specs.Described.{described}
+
+-- ---- what a session is seen as
+
+-- How far a session has come: how many streams were opened, whether the last one is open, how many automata were kept, and
+-- how many skipped.
+pub record Progress : Type 0 where
+  pub opened : ℕ
+  pub is_open : Bool
+  pub kept : ℕ
+  pub skipped : ℕ
+
+abbrev pub progress : Session → Progress
+progress s = record { opened = s.opened; is_open = s.is_open; kept = s.kept; skipped = s.skipped }
+
+abbrev pub asks : Session → Bool
+asks s = asks_on s.plan s.kept
+
+-- more automata are asked for, and a stream is open
+pub record IsReading (s : Session) : Type 0 where
+  pub asks : asks s ≡ true
+  pub is_open : s.is_open ≡ true
+
+-- more automata are asked for, none is open, and the next stream is that of this name
+pub record IsOpening (s : Session) (name : List ℕ) : Type 0 where
+  pub asks : asks s ≡ true
+  pub is_closed : s.is_open ≡ false
+  pub named : slice_get (streams_of s.plan) s.opened ≡ Some name
+
+-- The count that was asked for is reached, or there is nothing left to read.
+abbrev pub IsDoneWith : Session → Type 0
+IsDoneWith s = (asks s ≡ false) ⊎ ((s.is_open ≡ false) × (s.opened ≡ length (streams_of s.plan)))
+
+-- ---- the outside of a step
+
+-- nothing outside is touched
+pub record IsStill (seen seen' : Seen) (out out' : SinkSeen) : Type 0 where
+  pub inputs : seen' ≡ seen
+  pub output : out' ≡ out
+
+-- A stream is opened, or isn't. Memory may be wanting before it is tried.
+abbrev pub OpensNext : Seen → List ℕ → Result (Unit {0}) OpenFail → Seen → Type 0
+OpensNext seen name (Err opening.Memory) seen' = (seen' ≡ seen) ⊎ Opens seen name (Err opening.Memory) seen'
+OpensNext seen name r seen' = Opens seen name r seen'
+
+-- What is read, with what stands in the inputs before and after. Nothing is written.
+pub record Reads (stop : Stop) (stands : List ℕ → List ℕ → Type 0) (old new : Session) (seen seen' : Seen) (out out' : SinkSeen) : Type 0 where
+  pub reading : IsReading old
+  pub in_hand : new.tried ≡ old.tried
+  pub read : Between seen.left seen'.left stands
+  pub moves : Moves stop old.lexer new.lexer seen seen'
+  pub output : out' ≡ out
+
+-- An automaton was read and kept, and the text that is due of it was written.
+pub record Keeps (old new : Session) (seen seen' : Seen) (out out' : SinkSeen) : Type 0 where
+  pub reading : IsReading old
+  pub in_hand : new.tried ≡ old.tried
+  pub automaton : Written
+  pub text : List ℕ
+  pub read : Between seen.left seen'.left (λ rest next. IsGood old.lexer.since rest automaton next)
+  pub kept : IsKept old.plan (described automaton)
+  pub due : IsDue old.plan automaton text
+  pub moves : Moves Elsewhere old.lexer new.lexer seen seen'
+  pub gains : Gains out.written out'.written text
+  pub writes : out'.faults ≡ out.faults
+
+-- An automaton was read and is to be kept, but its text could not be written whole.
+pub record KeepsInPart (old new : Session) (seen seen' : Seen) (out out' : SinkSeen) : Type 0 where
+  pub reading : IsReading old
+  pub in_hand : new.tried ≡ old.tried
+  pub automaton : Written
+  pub text : List ℕ
+  pub read : Between seen.left seen'.left (λ rest next. IsGood old.lexer.since rest automaton next)
+  pub kept : IsKept old.plan (described automaton)
+  pub due : IsDue old.plan automaton text
+  pub moves : Moves Elsewhere old.lexer new.lexer seen seen'
+  pub gains : GainsPrefix out.written out'.written text
+  pub writes : Rose out.faults out'.faults
+
+-- An automaton was read and dropped. Nothing is written.
+pub record Drops (old new : Session) (seen seen' : Seen) (out out' : SinkSeen) : Type 0 where
+  pub automaton : Written
+  pub dropped : IsDropped old.plan (described automaton)
+  pub reads : Reads Elsewhere (λ rest next. IsGood old.lexer.since rest automaton next) old new seen seen' out out'
+
+-- A new text begins for the lexer.
+pub record Begins (old new : Session) : Type 0 where
+  pub most : new.lexer.most ≡ old.lexer.most
+  pub taken : new.lexer.taken ≡ old.lexer.taken
+  pub since : new.lexer.since ≡ 0
+
+-- The next stream is tried. Nothing is written.
+pub record Tries (r : Result (Unit {0}) OpenFail) (old new : Session) (seen seen' : Seen) (out out' : SinkSeen) : Type 0 where
+  pub name : List ℕ
+  pub opening : IsOpening old name
+  pub in_hand : name_at (streams_of new.plan) new.tried ≡ name
+  pub opens : OpensNext seen name r seen'
+  pub begins : Begins old new
+  pub output : out' ≡ out
+
+-- ---- the answers
+
+-- what a turn says
+abbrev pub Turns : Turn → Session → Session → Seen → Seen → SinkSeen → SinkSeen → Type 0
+Turns turn.Done old new seen seen' out out' = IsDoneWith old × IsStill seen seen' out out'
+Turns turn.Opened old new seen seen' out out' = Tries (Ok tt) old new seen seen' out out'
+Turns turn.StreamEnd old new seen seen' out out' = Reads AtEnd IsAllRead old new seen seen' out out'
+Turns turn.Kept old new seen seen' out out' = Keeps old new seen seen' out out'
+Turns turn.Dropped old new seen seen' out out' = Drops old new seen seen' out out'
+Turns turn.Skipped old new seen seen' out out' = Reads Elsewhere (λ rest next. Stands (Aborted next) old.lexer.since rest) old new seen seen' out out'
+
+-- what a fault says
+abbrev pub Fails : RunFault → Session → Session → Seen → Seen → SinkSeen → SinkSeen → Type 0
+Fails fault.CannotOpen old new seen seen' out out' = Tries (Err opening.Failed) old new seen seen' out out'
+Fails fault.WriteFault old new seen seen' out out' = KeepsInPart old new seen seen' out out'
+Fails fault.Memory old new seen seen' out out' =
+    Tries (Err opening.Memory) old new seen seen' out out' ⊎ Reads Elsewhere (WantsMemory old.lexer.since) old new seen seen' out out'
+Fails f old new seen seen' out out' = Reads (stop_of_fault f) (StopsAt f old.lexer.since) old new seen seen' out out'
+
+abbrev pub Steps : Result Turn RunFault → Session → Session → Seen → Seen → SinkSeen → SinkSeen → Type 0
+Steps (Ok t) = Turns t
+Steps (Err f) = Fails f
+
+-- how far the session has come after a turn
+abbrev pub after : Turn → Progress → Progress
+after turn.Done p = p
+after turn.Opened p = record p { opened = p.opened + 1; is_open = true }
+after turn.StreamEnd p = record p { is_open = false }
+after turn.Kept p = record p { kept = p.kept + 1 }
+after turn.Dropped p = p
+after turn.Skipped p = record p { skipped = p.skipped + 1 }
+
+-- The text of the count, where it is due, was written, or a part of it.
+abbrev pub Finishes : Result (Unit {0}) RunFault → List ℕ → SinkSeen → SinkSeen → Type 0
+Finishes (Ok done) text out out' = Gains out.written out'.written text × (out'.faults ≡ out.faults)
+Finishes (Err fault.WriteFault) text out out' = GainsPrefix out.written out'.written text × Rose out.faults out'.faults
+Finishes (Err f) text out out' = ⊥

@@ -1,0 +1,18 @@
+//! A session: automata of streams, one after the other, each read, judged and written as a plan asks.
+//!
+//! A caller makes a `Session` of a plan, prepares it, takes steps until `Turn::Done`, and finishes. It sees what each step
+//! did by its `Turn`, or by a `RunFault`, after which the session is over. `Made` are the inputs of the stream that is
+//! generated. What the contracts say stands in `specs`: `Turns` says what one step does, `Events` what a run is, `Filters`
+//! and `Due` the verdict on an automaton and the text that is due of it, and `Built` which plans are carried out so far.
+#![tactic(auto)]
+
+mod fault;
+mod judge;
+mod made;
+mod number;
+mod session;
+
+pub use fault::RunFault;
+pub use made::{MOST_MADE, Made, made_examples};
+pub use number::write_number;
+pub use session::{Prep, Session, Stage, Turn};

@@ -1,0 +1,28 @@
+//! Numbers in decimal digits, written without memory.
+
+ghost use Rattle.std.specs.Prelude.{◌≡◌, ◌+◌, ◌<◌, [], ◌∷◌};
+ghost use Rattle.std.specs.Fmt.{decimal};
+ghost use Rattle.aut_io.specs.Seen.{Writes};
+
+use aut_base::Failed;
+use aut_io::Sink;
+
+/// Writes a number in decimal digits, one after the other.
+pub fn write_number<M: Sink>(sink: &mut M, number: u64) -> Result<(), Failed>
+    ensures { Writes (M.seen sink.old) (decimal number) result (M.seen sink.new) }
+{
+    if number < 10 {
+        return write_digit(sink, number);
+    }
+    write_number(sink, number / 10)?;
+    write_digit(sink, number % 10)
+}
+
+/// Writes one digit.
+fn write_digit<M: Sink>(sink: &mut M, digit: u64) -> Result<(), Failed>
+    requires { digit < 10 }
+    ensures { Writes (M.seen sink.old) ((48 + digit) ∷ []) result (M.seen sink.new) }
+{
+    let glyph = b'0' + digit as u8;
+    sink.write(&[glyph])
+}

@@ -1,0 +1,365 @@
+//! The session.
+
+ghost use Rattle.std.specs.Prelude.{◌≡◌, ◌≢◌, ◌+◌, ◌++◌, ◌<◌, ◌≤◌, ◌↔◌, ◌⊎◌, [], All, IfOk, IsTrue, None, Ok, OnErr, OnOk, codes, false, length, true};
+ghost use Rattle.std.specs.Fmt.{decimal};
+ghost use Rattle.std.specs.List.{slice_index_or};
+ghost use Rattle.aut_base.specs.declared.limit.TheConstants.{MOST_BYTES};
+ghost use Rattle.aut_io.specs.Seen.{SinkSeen, Writes};
+ghost use Rattle.autfilt_run.specs.Built.{IsBuilt};
+ghost use Rattle.autfilt_run.specs.Plans.{count_text, name_at, streams_of};
+ghost use Rattle.autfilt_run.specs.Turns.{Finishes, OpensNext, Steps, after, asks, progress};
+ghost use Rattle.autfilt_run.specs.inner.Handling.{Handles};
+ghost use Rattle.hoa_parser.specs.Raw.{written};
+
+use crate::fault::RunFault;
+use crate::judge::is_kept;
+use crate::number::write_number;
+use aut_base::{Failed, MOST_BYTES, OpenFail, Text};
+use aut_core::Automaton;
+use aut_io::{Inputs, Sink};
+use filter_plan::Plan;
+use hoa_lexer::Lexer;
+use hoa_reader::{Front, Raw, describe, read_raw};
+use hoa_writer::write_text;
+use std::alloc::Global;
+
+/// What a step did.
+#[derive(Clone, Copy, Debug, PartialEq, Eq)]
+pub enum Turn {
+    /// The next stream was opened.
+    Opened,
+    /// An automaton was read and kept, and its text was written where one is due.
+    Kept,
+    /// An automaton was read and dropped.
+    Dropped,
+    /// An abandoned automaton was skipped.
+    Skipped,
+    /// Only blanks were left of the stream.
+    StreamEnd,
+    /// The count that was asked for is reached, or there is nothing left to read.
+    Done,
+}
+
+/// How the operands were read.
+#[derive(Clone, Copy, Debug, PartialEq, Eq)]
+pub enum Prep {
+    /// All of them.
+    Ready,
+    /// An abandoned automaton was skipped before one of them.
+    Skipped,
+}
+
+/// What may be done with a session next.
+#[derive(Clone, Copy, Debug, PartialEq, Eq)]
+pub enum Stage {
+    /// `prepare`.
+    New,
+    /// `step`.
+    Prepared,
+    /// `finish`.
+    Done,
+    /// Nothing.
+    Over,
+}
+
+/// Automata of streams, one after the other, each read, judged and written as a plan asks.
+#[derive(Drop)]
+pub struct Session {
+    plan: Plan,
+    lexer: Lexer,
+    /// How many streams were opened, and how many were tried.
+    opened: usize,
+    tried: usize,
+    is_open: bool,
+    kept: u64,
+    skipped: u64,
+    stage: Stage,
+    ghost built: { IsBuilt plan },
+    ghost opened_within: { opened ≤ length (streams_of plan) },
+    ghost tried_within: { tried ≤ length (streams_of plan) },
+    // Each automaton takes a byte or more.
+    ghost counted: { kept + skipped ≤ lexer.taken },
+    ghost spent: { stage ≡ Stage.New ⊎ stage ≡ Stage.Prepared → lexer.spent ≡ false },
+    ghost held: { stage ≡ Stage.New ⊎ stage ≡ Stage.Prepared → lexer.held ≡ None },
+}
+
+impl Session {
+    /// A session for a plan, which may take 2^40 bytes.
+    pub fn new(plan: Plan) -> Session
+        requires { IsBuilt plan }
+        ensures plan { result.plan ≡ plan }
+        ensures begins { progress result ≡ record { opened = 0; is_open = false; kept = 0; skipped = 0 } }
+        ensures most { result.lexer.most ≡ MOST_BYTES }
+        ensures taken { result.lexer.taken ≡ 0 }
+        ensures tried { result.tried ≡ 0 }
+        ensures stage { result.stage ≡ Stage.New }
+    {
+        Session {
+            plan,
+            lexer: Lexer::new(MOST_BYTES),
+            opened: 0,
+            tried: 0,
+            is_open: false,
+            kept: 0,
+            skipped: 0,
+            stage: Stage::New,
+        }
+    }
+
+    /// Reads the operands of the plan. So far no plan that is carried out has any, so nothing is opened or read.
+    pub fn prepare<I: Inputs>(&mut self, _alloc: Global, inputs: &mut I) -> Result<Prep, RunFault>
+        requires { self.old.stage ≡ Stage.New }
+        ensures ready { result ≡ Ok Prep.Ready }
+        ensures stage { self.new.stage ≡ Stage.Prepared }
+        ensures plan { self.new.plan ≡ self.old.plan }
+        ensures lexer { self.new.lexer ≡ self.old.lexer }
+        ensures progress { progress self.new ≡ progress self.old }
+        ensures tried { self.new.tried ≡ self.old.tried }
+        ensures inputs { I.seen inputs.new ≡ I.seen inputs.old }
+    {
+        self.stage = Stage::Prepared;
+        Ok(Prep::Ready)
+    }
+
+    /// Opens the next stream, or reads the next automaton of the open one, judges it, and writes its text where one is due.
+    pub fn step<I: Inputs, W: Sink>(
+        &mut self,
+        alloc: Global,
+        inputs: &mut I,
+        out: &mut W,
+    ) -> Result<Turn, RunFault>
+        requires stage { self.old.stage ≡ Stage.Prepared }
+        requires names { All I.may_open (streams_of self.old.plan) }
+
+        // What happened, outside and to the lexer.
+        ensures steps { Steps result self.old self.new (I.seen inputs.old) (I.seen inputs.new) (W.seen out.old) (W.seen out.new) }
+        ensures plan { self.new.plan ≡ self.old.plan }
+
+        // How far the session has come, and what may be done with it next.
+        ensures progress { IfOk result (λ turn. progress self.new ≡ after turn (progress self.old)) }
+        ensures prepared { IfOk result (λ turn. turn ≢ Turn.Done → self.new.stage ≡ Stage.Prepared) }
+        ensures done { IfOk result (λ turn. turn ≡ Turn.Done → self.new.stage ≡ Stage.Done) }
+        ensures over { OnErr result (self.new.stage ≡ Stage.Over) }
+    {
+        self.stage = Stage::Over;
+        let turn = self.turn(alloc, inputs, out)?;
+        self.stage = match turn {
+            Turn::Done => Stage::Done,
+            _ => Stage::Prepared,
+        };
+        Ok(turn)
+    }
+
+    /// One step. What may be done next is said by `step`.
+    fn turn<I: Inputs, W: Sink>(
+        &mut self,
+        alloc: Global,
+        inputs: &mut I,
+        out: &mut W,
+    ) -> Result<Turn, RunFault>
+        requires spent { self.old.lexer.spent ≡ false }
+        requires held { self.old.lexer.held ≡ None }
+        requires stage { self.old.stage ≡ Stage.Over }
+        requires names { All I.may_open (streams_of self.old.plan) }
+        ensures steps { Steps result self.old self.new (I.seen inputs.old) (I.seen inputs.new) (W.seen out.old) (W.seen out.new) }
+        ensures plan { self.new.plan ≡ self.old.plan }
+        ensures stage { self.new.stage ≡ Stage.Over }
+        ensures progress { IfOk result (λ turn. progress self.new ≡ after turn (progress self.old)) }
+        ensures spent { OnOk result (self.new.lexer.spent ≡ false) }
+        ensures held { OnOk result (self.new.lexer.held ≡ None) }
+    {
+        if !self.asks_on() {
+            return Ok(Turn::Done);
+        }
+        if self.is_open {
+            self.read_next(alloc, inputs, out)
+        } else {
+            self.open_next(alloc, inputs)
+        }
+    }
+
+    /// Whether more automata are asked for.
+    fn asks_on(&self) -> bool
+        ensures { result ≡ asks self.now }
+    {
+        match self.plan.most {
+            Some(most) => self.kept != u64::from(most),
+            None => true,
+        }
+    }
+
+    /// Opens the next stream, if there is one.
+    fn open_next<I: Inputs>(&mut self, alloc: Global, inputs: &mut I) -> Result<Turn, RunFault>
+        requires asks { asks self.old ≡ true }
+        requires closed { self.old.is_open ≡ false }
+        requires spent { self.old.lexer.spent ≡ false }
+        requires held { self.old.lexer.held ≡ None }
+        requires stage { self.old.stage ≡ Stage.Over }
+        requires names { All I.may_open (streams_of self.old.plan) }
+        ensures steps { (out : SinkSeen) → Steps result self.old self.new (I.seen inputs.old) (I.seen inputs.new) out out }
+        ensures plan { self.new.plan ≡ self.old.plan }
+        ensures stage { self.new.stage ≡ Stage.Over }
+        ensures progress { IfOk result (λ turn. progress self.new ≡ after turn (progress self.old)) }
+        ensures spent { OnOk result (self.new.lexer.spent ≡ false) }
+        ensures held { OnOk result (self.new.lexer.held ≡ None) }
+    {
+        if self.opened == stream_count(&self.plan) {
+            return Ok(Turn::Done);
+        }
+        self.tried = self.opened + 1;
+        self.lexer.begin();
+        open_stream(alloc, &self.plan, self.opened, inputs)?;
+        self.opened += 1;
+        self.is_open = true;
+        Ok(Turn::Opened)
+    }
+
+    /// Reads what stands next in the open stream.
+    fn read_next<I: Inputs, W: Sink>(
+        &mut self,
+        alloc: Global,
+        inputs: &mut I,
+        out: &mut W,
+    ) -> Result<Turn, RunFault>
+        requires asks { asks self.old ≡ true }
+        requires is_open { self.old.is_open ≡ true }
+        requires spent { self.old.lexer.spent ≡ false }
+        requires held { self.old.lexer.held ≡ None }
+        requires stage { self.old.stage ≡ Stage.Over }
+        ensures steps { Steps result self.old self.new (I.seen inputs.old) (I.seen inputs.new) (W.seen out.old) (W.seen out.new) }
+        ensures plan { self.new.plan ≡ self.old.plan }
+        ensures stage { self.new.stage ≡ Stage.Over }
+        ensures progress { IfOk result (λ turn. progress self.new ≡ after turn (progress self.old)) }
+        ensures spent { OnOk result (self.new.lexer.spent ≡ false) }
+        ensures held { OnOk result (self.new.lexer.held ≡ None) }
+    {
+        match read_raw(alloc, &mut self.lexer, inputs)? {
+            Front::Blank => {
+                self.is_open = false;
+                Ok(Turn::StreamEnd)
+            }
+            Front::Aborted => {
+                self.skipped += 1;
+                Ok(Turn::Skipped)
+            }
+            Front::Whole(raw) => {
+                if handle(alloc, &self.plan, &raw, out)? {
+                    self.kept += 1;
+                    Ok(Turn::Kept)
+                } else {
+                    Ok(Turn::Dropped)
+                }
+            }
+        }
+    }
+
+    /// Where only the number of automata is asked for, writes how many were kept, and a line feed.
+    pub fn finish<W: Sink>(&mut self, out: &mut W) -> Result<(), RunFault>
+        requires { self.old.stage ≡ Stage.Done }
+        ensures finishes { Finishes result (count_text self.old.plan self.old.kept) (W.seen out.old) (W.seen out.new) }
+        ensures stage { self.new.stage ≡ Stage.Over }
+        ensures plan { self.new.plan ≡ self.old.plan }
+        ensures progress { progress self.new ≡ progress self.old }
+        ensures tried { self.new.tried ≡ self.old.tried }
+    {
+        self.stage = Stage::Over;
+        if !self.plan.count || self.plan.quiet {
+            return Ok(());
+        }
+        match write_line(out, self.kept) {
+            Ok(()) => Ok(()),
+            Err(Failed) => Err(RunFault::WriteFault),
+        }
+    }
+
+    /// Whether the session is over: after a fault, and once it is finished.
+    pub fn is_over(&self) -> bool
+        ensures { IsTrue result ↔ (self.now.stage ≡ Stage.Over) }
+    {
+        matches!(self.stage, Stage::Over)
+    }
+
+    /// How many automata were kept.
+    pub fn kept(&self) -> u64
+        ensures { result ≡ self.now.kept }
+    {
+        self.kept
+    }
+
+    /// How many automata were skipped.
+    pub fn skipped(&self) -> u64
+        ensures { result ≡ self.now.skipped }
+    {
+        self.skipped
+    }
+
+    /// The name of the stream that was tried last, or nothing where none was.
+    pub fn name_in_hand(&self) -> &[u8]
+        ensures { result.now ≡ name_at (streams_of self.now.plan) self.now.tried }
+    {
+        if self.tried == 0 {
+            return b"";
+        }
+        match self.plan.made {
+            Some(_) => b"made",
+            None => self.plan.streams.at(self.tried - 1).as_bytes(),
+        }
+    }
+}
+
+/// How many streams the plan has.
+fn stream_count(plan: &Plan) -> usize
+    ensures { result ≡ length (streams_of plan.now) }
+{
+    match plan.made {
+        Some(_) => 1,
+        None => plan.streams.len(),
+    }
+}
+
+/// Opens the stream at this place.
+fn open_stream<I: Inputs>(
+    alloc: Global,
+    plan: &Plan,
+    place: usize,
+    inputs: &mut I,
+) -> Result<(), OpenFail>
+    requires place { place < length (streams_of plan.now) }
+    requires names { All I.may_open (streams_of plan.now) }
+    ensures { OpensNext (I.seen inputs.old) (slice_index_or (streams_of plan.now) place []) result (I.seen inputs.new) }
+{
+    if plan.made.is_none() {
+        return inputs.open(plan.streams.at(place));
+    }
+    match Text::from_bytes(alloc, b"made") {
+        Ok(name) => inputs.open(&name),
+        Err(_) => Err(OpenFail::Memory),
+    }
+}
+
+/// Judges an automaton that was read, writes its text where one is due, and answers whether it is kept.
+fn handle<W: Sink>(alloc: Global, plan: &Plan, raw: &Raw, out: &mut W) -> Result<bool, RunFault>
+    ensures { Handles result plan.now (written raw.now) (W.seen out.old) (W.seen out.new) }
+{
+    let description = describe(alloc, raw)?;
+    let automaton = Automaton::from_description(alloc, &description)?;
+    if !is_kept(plan, &automaton) {
+        return Ok(false);
+    }
+    if plan.quiet || plan.count {
+        return Ok(true);
+    }
+    let text = write_text(alloc, &automaton, raw.name())?;
+    match out.write(text.as_bytes()) {
+        Ok(()) => Ok(true),
+        Err(Failed) => Err(RunFault::WriteFault),
+    }
+}
+
+/// Writes a number and a line feed.
+fn write_line<W: Sink>(out: &mut W, number: u64) -> Result<(), Failed>
+    ensures { Writes (W.seen out.old) (decimal number ++ codes "\n") result (W.seen out.new) }
+{
+    write_number(out, number)?;
+    out.write(b"\n")
+}
