@@ -279,8 +279,8 @@ within_at None old left at is h few =
     let here : taken_of at left ≡ at.before = ap (λ x. at.before + taken_in x left) is ∙ omega arith in
     omega (arith, here, h.1, few)
 within_at (Some t) old left at is h few =
-    let here : taken_of at left ≡ at.before + place t.text t.rest = ap (λ x. at.before + taken_in x left) is ∙ ap (λ l. at.before + taken_in (Some t) l) h.1.0 in
-    omega (arith, here, h.1.1.1.0, h.1.1.1.1, few)
+    let here : taken_of at left ≡ at.before + place t.text t.rest = ap (λ x. at.before + taken_in x left) is ∙ ap (λ l. at.before + taken_in (Some t) l) h.1 in
+    omega (arith, here, h.3, h.4, few)
 
 -- a run that read all, whichever of its ends it has
 all_read : (e : End) (name : List ℕ) (old : Session) (s m : Seen) (o p q k l j : SinkSeen) (noting : Bool) → HasRun old s m o p k l noting → IsDoneWith old

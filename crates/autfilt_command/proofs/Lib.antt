@@ -1,3 +1,4 @@
+mod Alike
 mod Ending
 mod Noting
 mod Running

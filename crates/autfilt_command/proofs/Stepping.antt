@@ -18,8 +18,8 @@ use Rattle.hoa_lexer.specs.Reading.{Between}
 pub happen_push : (plan : Plan) (texts : Texts) (events : List Event) (event : Event) (p m q : Point) → Happen plan texts events p m → asks_on plan m.kept ≡ true → Goes texts event m q → Happen plan texts (events ++ event ∷ []) p q
 happen_push plan texts [] event p m q h asks goes =
     let P : Point → Type 0 = λ x. Happen plan texts (event ∷ []) x q in
-    subst P (sym h) (asks, (q, goes, refl))
-happen_push plan texts (e ∷ es) event p m q h asks goes = (h.0, (h.1.0, h.1.1.0, happen_push plan texts es event h.1.0 m q h.1.1.1 asks goes))
+    subst P (sym h) (asks, q, goes, refl)
+happen_push plan texts (e ∷ es) event p m q h asks goes = (h.0, h.1, h.2, happen_push plan texts es event h.1 m q h.3 asks goes)
 
 -- what is left afterwards, where it was told before
 record IsTold (P : List ℕ → Type 0) (left : Option (List ℕ)) : Type 0 where
@@ -45,7 +45,7 @@ pub record IsOpen (s : Session) (left : Option (List ℕ)) (p : Point) : Type 0 
 
 open_as : (s : Session) (left : Option (List ℕ)) (p : Point) (o : Option Stream) → p.stream ≡ o → IsIn o s left p.before → s.is_open ≡ true → IsOpen s left p
 open_as s left p None is h open = absurd (false≢true (sym h.0 ∙ open))
-open_as s left p (Some t) is h open = record { stream = t; is = is; told = h.1.0; named = h.1.1.0; since = h.1.1.1.0; taken = h.1.1.1.1 }
+open_as s left p (Some t) is h open = record { stream = t; is = is; told = h.1; named = h.2; since = h.3; taken = h.4 }
 
 pub is_open : (s : Session) (left : Option (List ℕ)) (p : Point) → StandsAt s left p → s.is_open ≡ true → IsOpen s left p
 is_open s left p h open = open_as s left p p.stream refl h.stream open

@@ -1,32 +1,45 @@
--- What the text alone decides of a run.
-use Rattle.std.specs.Prelude.{◌≡◌, ℕ, ◌⊎◌, List, ◌++◌, Option, Some}
+-- What the texts alone decide of a run.
+use Rattle.std.specs.Prelude.{◌≡◌, ℕ, ◌⊎◌, List, ◌++◌, Option}
 use Rattle.aut_base.specs.declared.limit.Limit.TheVariants as limit
-use Rattle.autfilt_command.specs.Run.{AreRead, Item, Runs}
+use Rattle.aut_io.specs.Outside.{Texts}
+use Rattle.autfilt_command.specs.Run.{EndsByTally, RunsTo}
 use Rattle.autfilt_command.specs.declared.ended.End.{End}
 use Rattle.autfilt_command.specs.declared.ended.End.TheVariants as end
+use Rattle.autfilt_run.specs.Events.{AreJudged, Event, Happen, Point, start_of}
+use Rattle.autfilt_run.specs.declared.fault.RunFault.TheVariants as fault
+use Rattle.filter_plan.specs.declared.plan.Plan.{Plan}
 
--- The text decided the end: no call failed, memory was not wanting, and not too many bytes were taken.
+-- The texts decided the end: no call failed, memory was not wanting, and not too many bytes were taken.
 abbrev pub IsByText : End → Type 0
 IsByText end.Output = Unit {0}
 IsByText end.NoneOutput = Unit {0}
-IsByText (end.SyntaxAt k) = Unit {0}
-IsByText end.Truncated = Unit {0}
 IsByText end.Aborts = Unit {0}
-IsByText (end.Invalid rule) = Unit {0}
-IsByText (end.Limit limit.Bytes) = ⊥
-IsByText (end.Limit which) = Unit {0}
+IsByText (end.Fault (fault.SyntaxAt k)) = Unit {0}
+IsByText (end.Fault fault.Truncated) = Unit {0}
+IsByText (end.Fault (fault.Invalid rule)) = Unit {0}
+IsByText (end.Fault (fault.Limit limit.Bytes)) = ⊥
+IsByText (end.Fault (fault.Limit which)) = Unit {0}
 IsByText _ = ⊥
 
--- Two runs over one text that the text ended read and skip the same automata and end alike.
+-- what the texts and the plan say of a run that they ended
+pub record IsEnded (plan : Plan) (texts : Texts) (left : Option (List ℕ)) (events : List Event) (e : End) : Type 0 where
+  pub by_text : IsByText e
+  pub judged : AreJudged plan events
+  pub tallied : EndsByTally e events
+  pub left_over : Option (List ℕ)
+  pub name : List ℕ
+  pub runs : RunsTo plan texts left left_over events e name
+
+-- Two runs of one plan over the same texts that the texts ended: the same events happened, and they end alike.
 abbrev pub OneEnd : Type 0
 OneEnd =
-    (text : List ℕ) (e d : End) (left left' before after before' after' : Option (List ℕ)) (items others : List Item)
-    → Runs e (Some text) left before after items → Runs d (Some text) left' before' after' others
-    → IsByText e → IsByText d → (items ≡ others) × (e ≡ d)
+    (plan : Plan) (texts : Texts) (left : Option (List ℕ)) (events others : List Event) (e d : End)
+    → IsEnded plan texts left events e → IsEnded plan texts left others d → (events ≡ others) × (e ≡ d)
 
--- Of two lists of what stands at the front of a text, one begins with the other: a run that a fault ended has
--- read the first ones of those that any other run reads.
+-- Of the events of two runs of one plan over the same texts, those of one are the first ones of the other: a run that a fault
+-- ended has read and written the first of what any other run reads and writes.
 abbrev pub OneFront : Type 0
 OneFront =
-    (text : List ℕ) (ws vs : List Item) (rest rest' : List ℕ) → AreRead text text ws rest → AreRead text text vs rest'
-    → ((more : List Item) × (vs ≡ ws ++ more)) ⊎ ((more : List Item) × (ws ≡ vs ++ more))
+    (plan : Plan) (texts : Texts) (events others : List Event) (p q r : Point) → AreJudged plan events → AreJudged plan others
+    → Happen plan texts events p q → Happen plan texts others p r
+    → ((more : List Event) × (others ≡ events ++ more)) ⊎ ((more : List Event) × (events ≡ others ++ more))

@@ -4,14 +4,14 @@ ghost use Rattle.autfilt_command.specs.Laws.{OneEnd, OneFront};
 
 use hoa_reader::one_standing;
 
-/// The text decides the end of a run: one thing alone stands next in it.
+/// The texts decide the end of a run, and what is read and written before.
 pub fn one_end()
     ensures { OneEnd }
 {
     one_standing();
 }
 
-/// The automata that are read of a text, as far as a run comes, are the first ones of one list.
+/// What a run reads and writes, as far as it comes, is the first of what any other run of the plan over the texts does.
 pub fn one_front()
     ensures { OneFront }
 {

@@ -1,5 +1,5 @@
 -- Filters don't see whether labels are canonical.
-use Rattle.std.proofs.Common.{◌≡◌, ◌↔◌, ◌<◌, Bool, true, false, List, [], ◌∷◌, length, map, Contains, get_or, refl, sym, ap, ◌∙◌, subst, arith}
+use Rattle.std.proofs.Common.{◌≡◌, ℕ, ◌<◌, Bool, true, false, List, [], ◌∷◌, length, map, Contains, get_or, refl, sym, ap, ◌∙◌, subst, arith}
 use Rattle.std.proofs.lemmas.List.{get_or-map, length-map}
 use Rattle.std.proofs.lemmas.List.Elements.{All-contains, All-contains_itself, All-map, Contains-get_or}
 use Rattle.aut_base.proofs.CanonicalAutomata.{labels_below, relabelled}
@@ -15,7 +15,7 @@ use Rattle.autfilt_run.specs.Filters.{AllHold, Filter, Holds, filters, IsDetermi
 use Rattle.autfilt_run.specs.inner.Judging.{Judges, KeepsOrDrops, KeepsOrDropsBy}
 use Rattle.filter_plan.specs.declared.plan.Plan.{Plan}
 
-settled : Automaton → TreeEdge → TreeEdge
+abbrev settled : Automaton → TreeEdge → TreeEdge
 settled a = relabelled (length a.names)
 
 -- a letter meets an edge under both labels
@@ -65,9 +65,9 @@ goes_one a state letter below h =
     let x = from_map (settled a) a.edges h.edge h.is_edge in
     record {
       edge = x.0;
-      is_edge = x.1.0;
-      from = ap (λ (e : TreeEdge). e.from) x.1.1 ∙ h.from;
-      meets = sym (same_met a x.0 letter below x.1.0) ∙ ap (is_met a.names letter) x.1.1 ∙ h.meets;
+      is_edge = x.1;
+      from = ap (λ (e : TreeEdge). e.from) x.2 ∙ h.from;
+      meets = sym (same_met a x.0 letter below x.1) ∙ ap (is_met a.names letter) x.2 ∙ h.meets;
     }
 
 goes_other : (a : Automaton) (state : ℕ) (letter : NameSet) → LabelsBelow a → GoesOn a state letter → GoesOn (canonical a) state letter
@@ -112,3 +112,8 @@ kept_by false false fs a below h = judged_one false fs a below h
 -- the verdict on the automaton that was read is that on the one with canonical labels
 pub verdict_of : (b : Bool) (p : Plan) (a : Automaton) → IsWellFormed a → KeepsOrDrops b p (canonical a) → KeepsOrDrops b p a
 verdict_of b p a formed h = kept_by b p.invert (filters p) a (labels_below a formed) h
+
+-- the same of an automaton of a store
+pub verdict_read : (b : Bool) (p : Plan) (core a read : Automaton) → core ≡ canonical a → a ≡ read → IsWellFormed a → KeepsOrDrops b p core → KeepsOrDrops b p read
+verdict_read b p core a read is same formed h =
+    subst (λ (x : Automaton). KeepsOrDrops b p x) same (verdict_of b p a formed (subst (λ (x : Automaton). KeepsOrDrops b p x) is h))

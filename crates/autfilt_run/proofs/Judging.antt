@@ -1,8 +1,9 @@
 -- Filters that are judged one after the other.
-use Rattle.std.proofs.Common.{◌≡◌, ℕ, Bool, true, false, not, ◌&&◌, ◌||◌, List, [], ◌∷◌, ◌++◌, All, Option, Some, None, IsTrue, ◌↔◌, refl, sym, ap, ◌∙◌, subst, append_assoc, xor}
+use Rattle.std.proofs.Common.{◌≡◌, ℕ, Bool, true, false, not, ◌&&◌, ◌||◌, List, [], ◌∷◌, ◌++◌, All, Option, Some, None, IsTrue, ◌↔◌, refl, sym, ap, ◌∙◌, subst, append_assoc}
 use Rattle.aut_base.specs.Automaton.{Automaton}
 use Rattle.autfilt_run.specs.Filters.{AllHold, FailsAt, Filter, Holds, flagged, ranged}
-use Rattle.autfilt_run.specs.inner.Judging.{IsInAny, Judges, KeepsOrDropsBy}
+use Rattle.autfilt_run.specs.inner.Judging.{IsInAny, Judges}
+use Rattle.filter_plan.specs.Spans.{IsIn}
 use Rattle.filter_plan.specs.declared.range.Range.{Range}
 
 hold_both : (fs gs : List Filter) (a : Automaton) → AllHold fs a → AllHold gs a → AllHold (fs ++ gs) a
@@ -44,14 +45,13 @@ pub judges_flag : (asked b : Bool) (f : Filter) (a : Automaton) → (IsTrue b �
 judges_flag false b f a h = tt
 judges_flag true b f a h = one_holds b f a h
 
-pub judges_range : (f : Range → Filter) (r : Option Range) (n : ℕ) (b : Bool) (a : Automaton) → ((x : Range) → Holds (f x) a ↔ IsInAny (Some x) n) → (IsTrue b ↔ IsInAny r n) → Judges b (ranged f r) a
-judges_range f None n true a same h = tt
-judges_range f None n false a same h = let t : IsTrue false = h.1 tt in cc
-judges_range f (Some x) n b a same h = one_holds b (f x) a (λ t. (same x).1 (h.0 t), λ k. h.1 ((same x).0 k))
+-- one filter by a figure of the automaton
+pub judges_figure : (f : Range → Filter) (r : Option Range) (n figure : ℕ) (b : Bool) (a : Automaton) → n ≡ figure → ((x : Range) → Holds (f x) a ↔ IsIn x figure) → (IsTrue b ↔ IsInAny r n) → Judges b (ranged f r) a
+judges_figure f None n figure true a is same h = tt
+judges_figure f None n figure false a is same h = let t : IsTrue false = h.1 tt in cc
+judges_figure f (Some x) n figure b a is same h =
+    let there = subst (λ (k : ℕ). IsTrue b ↔ IsIn x k) is h in
+    one_holds b (f x) a (λ t. (same x).1 (there.0 t), λ k. there.1 ((same x).0 k))
 
--- kept where all hold, or the other way round
-pub keeps_by : (b inverts : Bool) (fs : List Filter) (a : Automaton) → Judges b fs a → (c : Bool) → c ≡ xor b inverts → KeepsOrDropsBy c inverts fs a
-keeps_by true true fs a h c e = subst (λ (x : Bool). KeepsOrDropsBy x true fs a) (sym e) h
-keeps_by true false fs a h c e = subst (λ (x : Bool). KeepsOrDropsBy x false fs a) (sym e) h
-keeps_by false true fs a h c e = subst (λ (x : Bool). KeepsOrDropsBy x true fs a) (sym e) h
-keeps_by false false fs a h c e = subst (λ (x : Bool). KeepsOrDropsBy x false fs a) (sym e) h
+pub judges_as : (b c : Bool) (fs : List Filter) (a : Automaton) → c ≡ b → Judges b fs a → Judges c fs a
+judges_as b c fs a e h = subst (λ (x : Bool). Judges x fs a) (sym e) h

@@ -2,9 +2,11 @@ mod Bytes
 mod Canonical
 mod DecimalDigits
 pub mod Gains
+mod Handling
 mod Judging
 mod MadeTexts
 mod ReadsAs
 mod Reading
 mod Rings
+mod Turning
 pub mod Writing

@@ -142,6 +142,13 @@ abbrev pub Steps : Result Turn RunFault → Session → Session → Seen → See
 Steps (Ok t) = Turns t
 Steps (Err f) = Fails f
 
+-- where an automaton is read, bytes are taken, also where the inputs don't tell what is left
+abbrev pub Rises : Turn → ℕ → ℕ → Type 0
+Rises turn.Kept before after = before < after
+Rises turn.Dropped before after = before < after
+Rises turn.Skipped before after = before < after
+Rises _ before after = Unit {0}
+
 -- how far the session has come after a turn
 abbrev pub after : Turn → Progress → Progress
 after turn.Done p = p

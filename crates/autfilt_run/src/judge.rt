@@ -1,6 +1,6 @@
 //! The verdict on an automaton.
 
-ghost use Rattle.std.specs.Prelude.{◌↔◌, IsTrue};
+ghost use Rattle.std.specs.Prelude.{◌≡◌, ◌↔◌, ◌&&◌, ◌||◌, IsTrue, not};
 ghost use Rattle.aut_core.specs.Core.{automaton_of};
 ghost use Rattle.autfilt_run.specs.Filters.{filters};
 ghost use Rattle.autfilt_run.specs.inner.Judging.{IsInAny, Judges, KeepsOrDrops};
@@ -12,19 +12,36 @@ use filter_plan::{Plan, Range};
 pub(crate) fn is_kept(plan: &Plan, a: &Automaton) -> bool
     ensures { KeepsOrDrops result plan.now (automaton_of a.now) }
 {
-    holds_all(plan, a) != plan.invert
+    let holds = holds_all(plan, a);
+    if plan.invert { !holds } else { holds }
 }
 
 /// Whether all filters of the plan hold.
 fn holds_all(plan: &Plan, a: &Automaton) -> bool
     ensures { Judges result (filters plan.now) (automaton_of a.now) }
 {
-    (!plan.is_deterministic || a.is_deterministic())
-        && (!plan.is_complete || a.is_complete())
-        && has(&plan.states, u64::from(a.states()))
-        && has(&plan.edges, a.links().len() as u64)
-        && has(&plan.acc_sets, u64::from(a.sets()))
-        && has(&plan.ap, a.names().len() as u64)
+    let is_deterministic = holds_if(plan.is_deterministic, a.is_deterministic());
+    let is_complete = holds_if(plan.is_complete, a.is_complete());
+    let states = has(&plan.states, u64::from(a.states()));
+    let edges = has(&plan.edges, a.links().len() as u64);
+    let sets = has(&plan.acc_sets, u64::from(a.sets()));
+    let names = has(&plan.ap, a.names().len() as u64);
+    let sizes = both(states, both(edges, both(sets, names)));
+    both(is_deterministic, both(is_complete, sizes))
+}
+
+/// Whether both hold.
+fn both(first: bool, second: bool) -> bool
+    ensures { result ≡ (first && second) }
+{
+    first && second
+}
+
+/// Whether what is asked for holds.
+fn holds_if(is_asked: bool, holds: bool) -> bool
+    ensures { result ≡ (not is_asked || holds) }
+{
+    !is_asked || holds
 }
 
 /// Whether the number is in the range, if there is one.

@@ -7,10 +7,12 @@
 #![tactic(auto)]
 
 mod fault;
+mod handle;
 mod judge;
 mod made;
 mod number;
 mod session;
+mod streams;
 
 pub use fault::RunFault;
 pub use made::{MOST_MADE, Made, made_examples};

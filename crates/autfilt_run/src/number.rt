@@ -1,6 +1,6 @@
 //! Numbers in decimal digits, written without memory.
 
-ghost use Rattle.std.specs.Prelude.{◌≡◌, ◌+◌, ◌<◌, [], ◌∷◌};
+ghost use Rattle.std.specs.Prelude.{◌+◌, ◌++◌, ◌<◌, [], ◌∷◌, codes};
 ghost use Rattle.std.specs.Fmt.{decimal};
 ghost use Rattle.aut_io.specs.Seen.{Writes};
 
@@ -25,4 +25,12 @@ fn write_digit<M: Sink>(sink: &mut M, digit: u64) -> Result<(), Failed>
 {
     let glyph = b'0' + digit as u8;
     sink.write(&[glyph])
+}
+
+/// Writes a number and a line feed.
+pub(crate) fn write_line<W: Sink>(out: &mut W, number: u64) -> Result<(), Failed>
+    ensures { Writes (W.seen out.old) (decimal number ++ codes "\n") result (W.seen out.new) }
+{
+    write_number(out, number)?;
+    out.write(b"\n")
 }

@@ -1,26 +1,18 @@
 //! The session.
 
-ghost use Rattle.std.specs.Prelude.{◌≡◌, ◌≢◌, ◌+◌, ◌++◌, ◌<◌, ◌≤◌, ◌↔◌, ◌⊎◌, [], All, IfOk, IsTrue, None, Ok, OnErr, OnOk, codes, false, length, true};
-ghost use Rattle.std.specs.Fmt.{decimal};
-ghost use Rattle.std.specs.List.{slice_index_or};
-ghost use Rattle.aut_base.specs.declared.limit.TheConstants.{MOST_BYTES};
-ghost use Rattle.aut_io.specs.Seen.{SinkSeen, Writes};
+ghost use Rattle.std.specs.Prelude.{◌≡◌, ◌+◌, ◌≤◌, ◌⊎◌, None, false, length};
 ghost use Rattle.autfilt_run.specs.Built.{IsBuilt};
-ghost use Rattle.autfilt_run.specs.Plans.{count_text, name_at, streams_of};
-ghost use Rattle.autfilt_run.specs.Turns.{Finishes, OpensNext, Steps, after, asks, progress};
-ghost use Rattle.autfilt_run.specs.inner.Handling.{Handles};
-ghost use Rattle.hoa_parser.specs.Raw.{written};
+ghost use Rattle.autfilt_run.specs.Plans.{streams_of};
+ghost use Rattle.autfilt_run.specs.declared.session.Stage.{Stage};
+
+mod reading;
 
 use crate::fault::RunFault;
-use crate::judge::is_kept;
-use crate::number::write_number;
-use aut_base::{Failed, MOST_BYTES, OpenFail, Text};
-use aut_core::Automaton;
+use crate::number::write_line;
+use aut_base::{Failed, MOST_BYTES};
 use aut_io::{Inputs, Sink};
 use filter_plan::Plan;
 use hoa_lexer::Lexer;
-use hoa_reader::{Front, Raw, describe, read_raw};
-use hoa_writer::write_text;
 use std::alloc::Global;
 
 /// What a step did.
@@ -84,6 +76,11 @@ pub struct Session {
 }
 
 impl Session {
+    ghost use Rattle.std.specs.Prelude.{◌≢◌, ◌↔◌, All, IfOk, IsTrue, Ok, OnErr};
+    ghost use Rattle.aut_base.specs.declared.limit.TheConstants.{MOST_BYTES};
+    ghost use Rattle.autfilt_run.specs.Plans.{count_text, name_at};
+    ghost use Rattle.autfilt_run.specs.Turns.{Finishes, Rises, Steps, after, progress};
+
     /// A session for a plan, which may take 2^40 bytes.
     pub fn new(plan: Plan) -> Session
         requires { IsBuilt plan }
@@ -135,6 +132,10 @@ impl Session {
         ensures steps { Steps result self.old self.new (I.seen inputs.old) (I.seen inputs.new) (W.seen out.old) (W.seen out.new) }
         ensures plan { self.new.plan ≡ self.old.plan }
 
+        // The lexer of the session may take as many bytes as before, and takes some for each automaton.
+        ensures most { self.new.lexer.most ≡ self.old.lexer.most }
+        ensures rises { IfOk result (λ turn. Rises turn self.old.lexer.taken self.new.lexer.taken) }
+
         // How far the session has come, and what may be done with it next.
         ensures progress { IfOk result (λ turn. progress self.new ≡ after turn (progress self.old)) }
         ensures prepared { IfOk result (λ turn. turn ≢ Turn.Done → self.new.stage ≡ Stage.Prepared) }
@@ -148,109 +149,6 @@ impl Session {
             _ => Stage::Prepared,
         };
         Ok(turn)
-    }
-
-    /// One step. What may be done next is said by `step`.
-    fn turn<I: Inputs, W: Sink>(
-        &mut self,
-        alloc: Global,
-        inputs: &mut I,
-        out: &mut W,
-    ) -> Result<Turn, RunFault>
-        requires spent { self.old.lexer.spent ≡ false }
-        requires held { self.old.lexer.held ≡ None }
-        requires stage { self.old.stage ≡ Stage.Over }
-        requires names { All I.may_open (streams_of self.old.plan) }
-        ensures steps { Steps result self.old self.new (I.seen inputs.old) (I.seen inputs.new) (W.seen out.old) (W.seen out.new) }
-        ensures plan { self.new.plan ≡ self.old.plan }
-        ensures stage { self.new.stage ≡ Stage.Over }
-        ensures progress { IfOk result (λ turn. progress self.new ≡ after turn (progress self.old)) }
-        ensures spent { OnOk result (self.new.lexer.spent ≡ false) }
-        ensures held { OnOk result (self.new.lexer.held ≡ None) }
-    {
-        if !self.asks_on() {
-            return Ok(Turn::Done);
-        }
-        if self.is_open {
-            self.read_next(alloc, inputs, out)
-        } else {
-            self.open_next(alloc, inputs)
-        }
-    }
-
-    /// Whether more automata are asked for.
-    fn asks_on(&self) -> bool
-        ensures { result ≡ asks self.now }
-    {
-        match self.plan.most {
-            Some(most) => self.kept != u64::from(most),
-            None => true,
-        }
-    }
-
-    /// Opens the next stream, if there is one.
-    fn open_next<I: Inputs>(&mut self, alloc: Global, inputs: &mut I) -> Result<Turn, RunFault>
-        requires asks { asks self.old ≡ true }
-        requires closed { self.old.is_open ≡ false }
-        requires spent { self.old.lexer.spent ≡ false }
-        requires held { self.old.lexer.held ≡ None }
-        requires stage { self.old.stage ≡ Stage.Over }
-        requires names { All I.may_open (streams_of self.old.plan) }
-        ensures steps { (out : SinkSeen) → Steps result self.old self.new (I.seen inputs.old) (I.seen inputs.new) out out }
-        ensures plan { self.new.plan ≡ self.old.plan }
-        ensures stage { self.new.stage ≡ Stage.Over }
-        ensures progress { IfOk result (λ turn. progress self.new ≡ after turn (progress self.old)) }
-        ensures spent { OnOk result (self.new.lexer.spent ≡ false) }
-        ensures held { OnOk result (self.new.lexer.held ≡ None) }
-    {
-        if self.opened == stream_count(&self.plan) {
-            return Ok(Turn::Done);
-        }
-        self.tried = self.opened + 1;
-        self.lexer.begin();
-        open_stream(alloc, &self.plan, self.opened, inputs)?;
-        self.opened += 1;
-        self.is_open = true;
-        Ok(Turn::Opened)
-    }
-
-    /// Reads what stands next in the open stream.
-    fn read_next<I: Inputs, W: Sink>(
-        &mut self,
-        alloc: Global,
-        inputs: &mut I,
-        out: &mut W,
-    ) -> Result<Turn, RunFault>
-        requires asks { asks self.old ≡ true }
-        requires is_open { self.old.is_open ≡ true }
-        requires spent { self.old.lexer.spent ≡ false }
-        requires held { self.old.lexer.held ≡ None }
-        requires stage { self.old.stage ≡ Stage.Over }
-        ensures steps { Steps result self.old self.new (I.seen inputs.old) (I.seen inputs.new) (W.seen out.old) (W.seen out.new) }
-        ensures plan { self.new.plan ≡ self.old.plan }
-        ensures stage { self.new.stage ≡ Stage.Over }
-        ensures progress { IfOk result (λ turn. progress self.new ≡ after turn (progress self.old)) }
-        ensures spent { OnOk result (self.new.lexer.spent ≡ false) }
-        ensures held { OnOk result (self.new.lexer.held ≡ None) }
-    {
-        match read_raw(alloc, &mut self.lexer, inputs)? {
-            Front::Blank => {
-                self.is_open = false;
-                Ok(Turn::StreamEnd)
-            }
-            Front::Aborted => {
-                self.skipped += 1;
-                Ok(Turn::Skipped)
-            }
-            Front::Whole(raw) => {
-                if handle(alloc, &self.plan, &raw, out)? {
-                    self.kept += 1;
-                    Ok(Turn::Kept)
-                } else {
-                    Ok(Turn::Dropped)
-                }
-            }
-        }
     }
 
     /// Where only the number of automata is asked for, writes how many were kept, and a line feed.
@@ -305,61 +203,4 @@ impl Session {
             None => self.plan.streams.at(self.tried - 1).as_bytes(),
         }
     }
-}
-
-/// How many streams the plan has.
-fn stream_count(plan: &Plan) -> usize
-    ensures { result ≡ length (streams_of plan.now) }
-{
-    match plan.made {
-        Some(_) => 1,
-        None => plan.streams.len(),
-    }
-}
-
-/// Opens the stream at this place.
-fn open_stream<I: Inputs>(
-    alloc: Global,
-    plan: &Plan,
-    place: usize,
-    inputs: &mut I,
-) -> Result<(), OpenFail>
-    requires place { place < length (streams_of plan.now) }
-    requires names { All I.may_open (streams_of plan.now) }
-    ensures { OpensNext (I.seen inputs.old) (slice_index_or (streams_of plan.now) place []) result (I.seen inputs.new) }
-{
-    if plan.made.is_none() {
-        return inputs.open(plan.streams.at(place));
-    }
-    match Text::from_bytes(alloc, b"made") {
-        Ok(name) => inputs.open(&name),
-        Err(_) => Err(OpenFail::Memory),
-    }
-}
-
-/// Judges an automaton that was read, writes its text where one is due, and answers whether it is kept.
-fn handle<W: Sink>(alloc: Global, plan: &Plan, raw: &Raw, out: &mut W) -> Result<bool, RunFault>
-    ensures { Handles result plan.now (written raw.now) (W.seen out.old) (W.seen out.new) }
-{
-    let description = describe(alloc, raw)?;
-    let automaton = Automaton::from_description(alloc, &description)?;
-    if !is_kept(plan, &automaton) {
-        return Ok(false);
-    }
-    if plan.quiet || plan.count {
-        return Ok(true);
-    }
-    let text = write_text(alloc, &automaton, raw.name())?;
-    match out.write(text.as_bytes()) {
-        Ok(()) => Ok(true),
-        Err(Failed) => Err(RunFault::WriteFault),
-    }
-}
-
-/// Writes a number and a line feed.
-fn write_line<W: Sink>(out: &mut W, number: u64) -> Result<(), Failed>
-    ensures { Writes (W.seen out.old) (decimal number ++ codes "\n") result (W.seen out.new) }
-{
-    write_number(out, number)?;
-    out.write(b"\n")
 }

@@ -1,0 +1,77 @@
+-- What a step answers where something was read.
+use Rattle.std.proofs.Common.{◌≡◌, ℕ, Bool, List, Option, Some, None, Result, Ok, Err, refl, sym, subst, inl, inr}
+use Rattle.std.specs.Result.{IsErrAnd}
+use Rattle.aut_base.specs.declared.limit.Limit.{Limit}
+use Rattle.aut_base.specs.declared.limit.Limit.TheVariants as limit
+use Rattle.aut_io.specs.Seen.{Seen, SinkSeen}
+use Rattle.autfilt_run.proofs.Reading.{AnswersAt, is_broken, is_good, is_past, is_wanting, stops}
+use Rattle.autfilt_run.specs.Faults.{fault_of_reading, stop_of_fault}
+use Rattle.autfilt_run.specs.Turns.{Fails, IsReading, Reads, Steps}
+use Rattle.autfilt_run.specs.inner.Handling.{Handles}
+use Rattle.autfilt_run.specs.declared.fault.RunFault.{RunFault}
+use Rattle.autfilt_run.specs.declared.fault.RunFault.TheVariants as fault
+use Rattle.autfilt_run.specs.declared.session.Session.{Session}
+use Rattle.autfilt_run.specs.declared.session.Turn.{Turn}
+use Rattle.hoa_lexer.specs.Moves.{Elsewhere, Moves, Stop}
+use Rattle.hoa_lexer.specs.Reading.{Between}
+use Rattle.hoa_parser.specs.Raw.{Written}
+use Rattle.hoa_parser.specs.Reads as reads
+use Rattle.hoa_parser.specs.Reads.{Holds}
+use Rattle.hoa_parser.specs.Standing.{Stands, Whole}
+use Rattle.hoa_parser.specs.declared.fault.ReadFault.{ReadFault}
+use Rattle.hoa_parser.specs.declared.fault.ReadFault.TheVariants as reading
+use Rattle.hoa_reader.specs.Counts.{Count, Names, Sets, States, Edges, Aliases}
+use Rattle.hoa_reader.specs.Elaborating.{PassesLimit}
+use Rattle.hoa_reader.specs.inner.Gathered.{limit_of}
+
+-- a fault of the reader
+pub not_read : (f : ReadFault) (old new : Session) (s t : Seen) (o : SinkSeen) (held' : Option ℕ) → IsReading old → new.tried ≡ old.tried → Holds (Err f) held' → Between s.left t.left (AnswersAt (Err f) old.lexer.since held')
+    → Moves (reads.stop_of_fault f) old.lexer new.lexer s t → Fails (fault_of_reading f) old new s t o o
+not_read (reading.Syntax k) old new s t o held' r hand n at moves = record { reading = r; in_hand = hand; read = stops (reading.Syntax k) old.lexer.since held' s.left t.left n at; moves = moves; output = refl }
+not_read reading.Truncated old new s t o held' r hand n at moves = record { reading = r; in_hand = hand; read = stops reading.Truncated old.lexer.since held' s.left t.left n at; moves = moves; output = refl }
+not_read reading.Depth old new s t o held' r hand n at moves = record { reading = r; in_hand = hand; read = stops reading.Depth old.lexer.since held' s.left t.left n at; moves = moves; output = refl }
+not_read reading.Bytes old new s t o held' r hand n at moves = record { reading = r; in_hand = hand; read = stops reading.Bytes old.lexer.since held' s.left t.left n at; moves = moves; output = refl }
+not_read reading.Read old new s t o held' r hand n at moves = record { reading = r; in_hand = hand; read = stops reading.Read old.lexer.since held' s.left t.left n at; moves = moves; output = refl }
+not_read reading.Memory old new s t o held' r hand n at moves = inr (record { reading = r; in_hand = hand; read = stops reading.Memory old.lexer.since held' s.left t.left n at; moves = moves; output = refl })
+
+-- the limits on counts stop nowhere in particular
+elsewhere : (count : Count) → stop_of_fault (fault.Limit (limit_of count)) ≡ Elsewhere
+elsewhere Names = refl
+elsewhere Sets = refl
+elsewhere States = refl
+elsewhere Edges = refl
+elsewhere Aliases = refl
+
+stop_is : (which : Limit) (w : Written) → PassesLimit which w → stop_of_fault (fault.Limit which) ≡ Elsewhere
+stop_is which w p = subst (λ (x : Limit). stop_of_fault (fault.Limit x) ≡ Elsewhere) (sym p.shown) (elsewhere p.count)
+
+-- it was read whole, and is not kept or dropped
+pub not_handled : (f : RunFault) (w : Written) (old new : Session) (s t : Seen) (o o' : SinkSeen) → IsReading old → new.tried ≡ old.tried → Between s.left t.left (λ rest next. Stands (Whole w next) old.lexer.since rest)
+    → Moves Elsewhere old.lexer new.lexer s t → Handles (Err f) old.plan w o o' → Fails f old new s t o o'
+not_handled fault.WriteFault w old new s t o o' r hand whole moves h = record {
+  reading = r;
+  in_hand = hand;
+  automaton = w;
+  text = h.0;
+  read = is_good w old.lexer.since s.left t.left h.1.valid h.1.within whole;
+  kept = h.1.kept;
+  due = h.1.due;
+  moves = moves;
+  gains = h.2;
+  writes = h.3;
+}
+not_handled (fault.Invalid rule) w old new s t o o' r hand whole moves h = record { reading = r; in_hand = hand; read = is_broken rule w old.lexer.since s.left t.left h.0 whole; moves = moves; output = h.1 }
+not_handled (fault.Limit which) w old new s t o o' r hand whole moves h = record {
+  reading = r;
+  in_hand = hand;
+  read = is_past which w old.lexer.since s.left t.left h.0 whole;
+  moves = subst (λ (x : Stop). Moves x old.lexer new.lexer s t) (sym (stop_is which w h.0)) moves;
+  output = h.1;
+}
+not_handled fault.Memory w old new s t o o' r hand whole moves h = inr (record { reading = r; in_hand = hand; read = is_wanting w old.lexer.since s.left t.left whole; moves = moves; output = h })
+not_handled _ w old new s t o o' r hand whole moves h = absurd h
+
+-- a fault that `?` hands on
+pub steps_on : (r : Result Turn RunFault) (f : RunFault) (old new : Session) (s t : Seen) (o o' : SinkSeen) → IsErrAnd r (λ y. y ≡ f) → Fails f old new s t o o' → Steps r old new s t o o'
+steps_on (Ok turn) f old new s t o o' h fails = absurd h
+steps_on (Err g) f old new s t o o' h fails = subst (λ (x : RunFault). Fails x old new s t o o') (sym h) fails

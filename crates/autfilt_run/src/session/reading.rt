@@ -1,0 +1,126 @@
+//! One step: the next stream is opened, or what stands next in the open one is read.
+
+ghost use Rattle.std.specs.Prelude.{◌≡◌, All, IfOk, None, OnOk, false, true};
+ghost use Rattle.aut_io.specs.Seen.{SinkSeen};
+ghost use Rattle.autfilt_run.specs.Plans.{streams_of};
+ghost use Rattle.autfilt_run.specs.Turns.{Rises, Steps, after, asks, progress};
+ghost use Rattle.autfilt_run.specs.declared.session.Stage.{Stage};
+
+use super::{Session, Stage, Turn};
+use crate::fault::RunFault;
+use crate::handle::handle;
+use crate::streams::{open_stream, stream_count};
+use aut_io::{Inputs, Sink};
+use hoa_reader::{Front, read_raw};
+use std::alloc::Global;
+
+impl Session {
+    /// One step. What may be done next is said by `step`.
+    pub(super) fn turn<I: Inputs, W: Sink>(
+        &mut self,
+        alloc: Global,
+        inputs: &mut I,
+        out: &mut W,
+    ) -> Result<Turn, RunFault>
+        requires spent { self.old.lexer.spent ≡ false }
+        requires held { self.old.lexer.held ≡ None }
+        requires stage { self.old.stage ≡ Stage.Over }
+        requires names { All I.may_open (streams_of self.old.plan) }
+        ensures steps { Steps result self.old self.new (I.seen inputs.old) (I.seen inputs.new) (W.seen out.old) (W.seen out.new) }
+        ensures plan { self.new.plan ≡ self.old.plan }
+        ensures most { self.new.lexer.most ≡ self.old.lexer.most }
+        ensures rises { IfOk result (λ turn. Rises turn self.old.lexer.taken self.new.lexer.taken) }
+        ensures stage { self.new.stage ≡ Stage.Over }
+        ensures progress { IfOk result (λ turn. progress self.new ≡ after turn (progress self.old)) }
+        ensures spent { OnOk result (self.new.lexer.spent ≡ false) }
+        ensures held { OnOk result (self.new.lexer.held ≡ None) }
+    {
+        if !self.asks_on() {
+            return Ok(Turn::Done);
+        }
+        if self.is_open {
+            self.read_next(alloc, inputs, out)
+        } else {
+            self.open_next(alloc, inputs)
+        }
+    }
+
+    /// Whether more automata are asked for.
+    fn asks_on(&self) -> bool
+        ensures { result ≡ asks self.now }
+    {
+        match self.plan.most {
+            Some(most) => self.kept != u64::from(most),
+            None => true,
+        }
+    }
+
+    /// Opens the next stream, if there is one.
+    fn open_next<I: Inputs>(&mut self, alloc: Global, inputs: &mut I) -> Result<Turn, RunFault>
+        requires asks { asks self.old ≡ true }
+        requires closed { self.old.is_open ≡ false }
+        requires spent { self.old.lexer.spent ≡ false }
+        requires held { self.old.lexer.held ≡ None }
+        requires stage { self.old.stage ≡ Stage.Over }
+        requires names { All I.may_open (streams_of self.old.plan) }
+        ensures steps { (out : SinkSeen) → Steps result self.old self.new (I.seen inputs.old) (I.seen inputs.new) out out }
+        ensures plan { self.new.plan ≡ self.old.plan }
+        ensures most { self.new.lexer.most ≡ self.old.lexer.most }
+        ensures rises { IfOk result (λ turn. Rises turn self.old.lexer.taken self.new.lexer.taken) }
+        ensures stage { self.new.stage ≡ Stage.Over }
+        ensures progress { IfOk result (λ turn. progress self.new ≡ after turn (progress self.old)) }
+        ensures spent { OnOk result (self.new.lexer.spent ≡ false) }
+        ensures held { OnOk result (self.new.lexer.held ≡ None) }
+    {
+        if self.opened == stream_count(&self.plan) {
+            return Ok(Turn::Done);
+        }
+        self.tried = self.opened + 1;
+        self.lexer.begin();
+        open_stream(alloc, &self.plan, self.opened, inputs)?;
+        self.opened += 1;
+        self.is_open = true;
+        Ok(Turn::Opened)
+    }
+
+    /// Reads what stands next in the open stream.
+    fn read_next<I: Inputs, W: Sink>(
+        &mut self,
+        alloc: Global,
+        inputs: &mut I,
+        out: &mut W,
+    ) -> Result<Turn, RunFault>
+        requires asks { asks self.old ≡ true }
+        requires is_open { self.old.is_open ≡ true }
+        requires spent { self.old.lexer.spent ≡ false }
+        requires held { self.old.lexer.held ≡ None }
+        requires stage { self.old.stage ≡ Stage.Over }
+        ensures steps { Steps result self.old self.new (I.seen inputs.old) (I.seen inputs.new) (W.seen out.old) (W.seen out.new) }
+        ensures plan { self.new.plan ≡ self.old.plan }
+        ensures most { self.new.lexer.most ≡ self.old.lexer.most }
+        ensures rises { IfOk result (λ turn. Rises turn self.old.lexer.taken self.new.lexer.taken) }
+        ensures stage { self.new.stage ≡ Stage.Over }
+        ensures progress { IfOk result (λ turn. progress self.new ≡ after turn (progress self.old)) }
+        ensures spent { OnOk result (self.new.lexer.spent ≡ false) }
+        ensures held { OnOk result (self.new.lexer.held ≡ None) }
+    {
+        match read_raw(alloc, &mut self.lexer, inputs)? {
+            Front::Blank => {
+                self.is_open = false;
+                Ok(Turn::StreamEnd)
+            }
+            Front::Aborted => {
+                self.skipped += 1;
+                Ok(Turn::Skipped)
+            }
+            Front::Whole(raw) => {
+                if handle(alloc, &self.plan, &raw, out)? {
+                    self.kept += 1;
+                    Ok(Turn::Kept)
+                } else {
+                    Ok(Turn::Dropped)
+                }
+            }
+        }
+    }
+}

@@ -1,0 +1,41 @@
+//! The streams of a plan.
+
+ghost use Rattle.std.specs.Prelude.{◌≡◌, ◌<◌, [], All, length};
+ghost use Rattle.std.specs.List.{slice_index_or};
+ghost use Rattle.autfilt_run.specs.Plans.{streams_of};
+ghost use Rattle.autfilt_run.specs.Turns.{OpensNext};
+
+use aut_base::{OpenFail, Text};
+use aut_io::Inputs;
+use filter_plan::Plan;
+use std::alloc::Global;
+
+/// How many streams the plan has.
+pub(crate) fn stream_count(plan: &Plan) -> usize
+    ensures { result ≡ length (streams_of plan.now) }
+{
+    match plan.made {
+        Some(_) => 1,
+        None => plan.streams.len(),
+    }
+}
+
+/// Opens the stream at this place.
+pub(crate) fn open_stream<I: Inputs>(
+    alloc: Global,
+    plan: &Plan,
+    place: usize,
+    inputs: &mut I,
+) -> Result<(), OpenFail>
+    requires place { place < length (streams_of plan.now) }
+    requires names { All I.may_open (streams_of plan.now) }
+    ensures { OpensNext (I.seen inputs.old) (slice_index_or (streams_of plan.now) place []) result (I.seen inputs.new) }
+{
+    if plan.made.is_none() {
+        return inputs.open(plan.streams.at(place));
+    }
+    match Text::from_bytes(alloc, b"made") {
+        Ok(name) => inputs.open(&name),
+        Err(_) => Err(OpenFail::Memory),
+    }
+}
