@@ -8,4 +8,5 @@ unfolding lib.Utf8.encode
 standard_text = (45 ∷ [], (refl, refl))
 
 pub returns-then-is-clause-bytes : goal.returns-then-is-clause-bytes
-returns-then-is-clause-bytes g c bytes = absurd (bytes (subst IsUtf8 (sym (c.is.ensures.equal.0 c.if-is.true)) standard_text))
+returns-then-is-clause-bytes g c bytes =
+    absurd (bytes (subst IsUtf8 (sym (c.is.ensures.equal.0 c.if-is.true)) standard_text))
