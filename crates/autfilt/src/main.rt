@@ -1,14 +1,14 @@
 //! `autfilt`: a filter of omega-automata whose every answer is proved.
 //!
-//! What the command does is the function `autfilt` of `autfilt_command`, and what it runs over, standard input and outputs, is
-//! that of `real_io`. Here stands `main`, and what it makes of its arguments.
+//! What the command does is the function `autfilt` of `autfilt_command`, and what it runs over, files and standard input and
+//! outputs, is that of `real_io`. Here stands `main`, and what it makes of its arguments.
 #![tactic(auto)]
 
 ghost use Rattle.std.specs.Prelude.{◌≡◌, drop, map, IfOk};
 
 use aut_base::{Memory, Text, Words};
 use autfilt_command::{End, Ended, autfilt, note};
-use real_io::{RealInputs, RealSink};
+use real_io::{Opener, RealInputs, RealSink, SystemFiles};
 use std::alloc::Global;
 use std::env::Args;
 use std::process::ExitCode;
@@ -18,7 +18,8 @@ use std::{env, io};
 fn main(rt: HostRuntime) -> ExitCode {
     let mut out = RealSink::new(rt.stdout());
     let mut notes = RealSink::new(rt.stderr());
-    let ended = match made(rt.alloc(), env::args(&rt), rt.stdin()) {
+    let files = SystemFiles::new(&rt);
+    let ended = match made(rt.alloc(), env::args(&rt), rt.stdin(), files) {
         Ok((words, mut inputs)) => {
             autfilt(rt.alloc(), &words, &mut inputs, &mut out, &mut notes)
         }
@@ -31,11 +32,12 @@ fn main(rt: HostRuntime) -> ExitCode {
 }
 
 /// What the run is called with. An argument that is no text makes no plan.
-fn made(
+fn made<O: Opener + Drop>(
     alloc: Global,
     args: io::Result<Args<Global>>,
     stdin: Stdin,
-) -> Result<(Words, RealInputs<Stdin>), End> {
+    files: O,
+) -> Result<(Words, RealInputs<Stdin, O>), End> {
     let words = match args {
         Ok(args) => words_of(alloc, args)?,
         Err(error) => {
@@ -45,7 +47,7 @@ fn made(
             };
         }
     };
-    Ok((words, RealInputs::new(alloc, stdin)?))
+    Ok((words, RealInputs::new(alloc, stdin, files)?))
 }
 
 /// The words that the arguments ask the run for.

@@ -1,1 +1,3 @@
+pub mod Left
+pub mod Opening
 pub mod Unread

@@ -1,73 +1,121 @@
-//! Inputs over one reader.
+//! Inputs over standard input and files.
 
-ghost use Rattle.std.specs.Prelude.{◌≡◌, true, None, IfOk, OnOk};
-ghost use Rattle.std.specs.Io.KnownBytes.{prepend_known};
+ghost use Rattle.std.specs.Prelude.{◌≡◌, ◌≢◌, [], IfOk, IsUtf8};
 ghost use Rattle.aut_io.specs.Seen.{Nexts, Opens};
-ghost use Rattle.real_io.specs.Unread.{GivesFirst, held};
+ghost use Rattle.real_io.specs.Left.{KeepsStandard, of_standard, seen_of, unread, unread_standard};
+ghost use Rattle.real_io.specs.Opening.{IsAnswered, OpensFile, fail_of, standard_name};
+ghost use Rattle.real_io.specs.Unread.{GivesFirst};
 
-use crate::blocks::Blocks;
+use crate::block::Block;
+use crate::opener::Opener;
 use aut_base::{Failed, Memory, OpenFail, Text};
 use aut_io::Inputs;
 use std::alloc::Global;
-use std::io::Read;
+use std::io::{ErrorKind, Read};
+use std::str::from_utf8;
 
-/// A reader under the name `-`. No other name can be opened so far.
+/// Where the open text is read from.
 #[derive(Drop)]
-pub struct RealInputs<R> {
-    /// What was read and not given stays where the name is opened again, since the system gives each byte once.
-    blocks: Blocks<R>,
-    is_open: bool,
+pub(crate) enum Origin<F> {
+    /// Nothing is open.
+    Nothing,
+    /// Standard input.
+    Standard,
+    File(F),
+}
+
+/// Standard input under the name `-`, and files under all other names, which are read through one block.
+#[derive(Drop)]
+pub struct RealInputs<R, O: Opener> {
+    standard: R,
+    opener: O,
+    origin: Origin<O::File>,
+    /// Bytes of the open file, or of standard input where no file is open: what was read of it and not given stays,
+    /// since the system gives each byte once.
+    block: Block,
     open_faults: u64,
     read_faults: u64,
 }
 
-impl<R: Read + Drop> RealInputs<R> {
+impl<R: Read + Drop, O: Opener + Drop> RealInputs<R, O> {
     /// Takes room for one block.
-    pub fn new(alloc: Global, reader: R) -> Result<Self, Memory>
-        ensures { IfOk result (λ inputs. (inputs.open_faults ≡ 0) × (inputs.read_faults ≡ 0)) }
+    pub fn new(alloc: Global, standard: R, opener: O) -> Result<Self, Memory>
+        ensures counts { IfOk result (λ inputs. (inputs.open_faults ≡ 0) × (inputs.read_faults ≡ 0)) }
+        ensures standard { IfOk result (λ inputs. (inputs.standard ≡ standard) × (inputs.block ≡ [])) }
+        ensures opener { IfOk result (λ inputs. inputs.opener ≡ opener) }
+        ensures closed { IfOk result (λ inputs. inputs.origin ≡ Origin.Nothing) }
     {
         Ok(RealInputs {
-            blocks: Blocks::new(alloc, reader)?,
-            is_open: false,
+            standard,
+            opener,
+            origin: Origin::Nothing,
+            block: Block::new(alloc)?,
             open_faults: 0,
             read_faults: 0,
         })
     }
 }
 
-impl<R: Read + Drop> Inputs for RealInputs<R> {
-    ghost seen = { λ s. record { texts = None; left = None; open_faults = s.open_faults; read_faults = s.read_faults } };
+impl<R: Read + Drop, O: Opener + Drop> Inputs for RealInputs<R, O> {
+    ghost seen = { seen_of };
 
     ghost may_open = { λ _. Unit {0} };
 
     fn open(&mut self, name: &Text) -> Result<(), OpenFail>
-        ensures told { Opens (record { texts = None; left = None; open_faults = self.old.open_faults; read_faults = self.old.read_faults }) name.now result (record { texts = None; left = None; open_faults = self.new.open_faults; read_faults = self.new.read_faults }) }
+        ensures told { Opens (seen_of self.old) name.now result (seen_of self.new) }
 
-        // Where the name is `-` the reader is open, and nothing of it is lost.
-        ensures opens { OnOk result (self.new.is_open ≡ true) }
-        ensures blocks { self.new.blocks ≡ self.old.blocks }
+        // What is open then: standard input, a file as the opener gave it, or nothing.
+        ensures standard { name.now ≡ standard_name → (result ≡ Ok tt) × (self.new.origin ≡ Origin.Standard) }
+        ensures bytes { ¬ IsUtf8 name.now → (result ≡ Err OpenFail.Failed) × (self.new.origin ≡ Origin.Nothing) }
+        ensures file { name.now ≢ standard_name → IsUtf8 name.now → OpensFile (O.answers self.old.opener name.now) result self.new.origin }
+
+        // The block keeps bytes of standard input until a file is opened, and no others: it is empty where one is opened.
+        ensures block { self.new.block ≡ of_standard self.new.origin (of_standard self.old.origin self.old.block) }
+        ensures kept { (self.new.standard ≡ self.old.standard) × (self.new.opener ≡ self.old.opener) }
     {
-        self.is_open = name.as_bytes() == b"-".as_slice();
-        if self.is_open {
+        if let Origin::File(_) = &self.origin {
+            self.block.clear();
+        }
+        self.origin = Origin::Nothing;
+        if name.is(b"-") {
+            self.origin = Origin::Standard;
             return Ok(());
         }
-        self.open_faults = self.open_faults.saturating_add(1);
-        Err(OpenFail::Failed)
+        match open_file(&self.opener, name) {
+            Ok(file) => {
+                self.block.clear();
+                self.origin = Origin::File(file);
+                Ok(())
+            }
+            Err(OpenFail::Failed) => {
+                self.open_faults = self.open_faults.saturating_add(1);
+                Err(OpenFail::Failed)
+            }
+            Err(OpenFail::Memory) => Err(OpenFail::Memory),
+        }
     }
 
     fn next(&mut self) -> Result<Option<u8>, Failed>
-        ensures told { Nexts (record { texts = None; left = None; open_faults = self.old.open_faults; read_faults = self.old.read_faults }) result (record { texts = None; left = None; open_faults = self.new.open_faults; read_faults = self.new.read_faults }) }
+        ensures told { Nexts (seen_of self.old) result (seen_of self.new) }
 
-        // The first byte of what the block still holds, followed by what the reader has left.
-        ensures gives { self.old.is_open ≡ true → GivesFirst (prepend_known (held self.old.blocks.block.items self.old.blocks.place self.old.blocks.end) (R.remaining self.old.blocks.reader)) (prepend_known (held self.new.blocks.block.items self.new.blocks.place self.new.blocks.end) (R.remaining self.new.blocks.reader)) result }
+        // The first byte of what the block still holds, followed by what the reader of the open text has left.
+        ensures gives { GivesFirst (unread R.remaining O.File.remaining self.old) (unread R.remaining O.File.remaining self.new) result }
+        ensures closed { self.old.origin ≡ Origin.Nothing → result ≡ Ok None }
+
+        // The same of standard input where it is open. A read takes nothing of it where it isn't.
+        ensures standard { self.old.origin ≡ Origin.Standard → GivesFirst (unread_standard R.remaining self.old) (unread_standard R.remaining self.new) result }
+        ensures kept { self.old.origin ≢ Origin.Standard → KeepsStandard self.old self.new }
+        ensures opener { self.new.opener ≡ self.old.opener }
     {
-        if !self.is_open {
-            return Ok(None);
-        }
-        match self.blocks.next() {
+        let read = match &mut self.origin {
+            Origin::Nothing => return Ok(None),
+            Origin::Standard => self.block.next(&mut self.standard),
+            Origin::File(file) => self.block.next(file),
+        };
+        match read {
             Ok(Some(byte)) => Ok(Some(byte)),
             Ok(None) => {
-                self.is_open = false;
+                self.origin = Origin::Nothing;
                 Ok(None)
             }
             Err(fault) => {
@@ -75,5 +123,29 @@ impl<R: Read + Drop> Inputs for RealInputs<R> {
                 Err(fault)
             }
         }
+    }
+}
+
+/// Opens the file under a name, where the name is text.
+fn open_file<O: Opener>(opener: &O, name: &Text) -> Result<O::File, OpenFail>
+    ensures bytes { ¬ IsUtf8 name.now → result ≡ Err OpenFail.Failed }
+    ensures text { IsUtf8 name.now → IsAnswered (O.answers opener.now name.now) result }
+{
+    let Ok(path) = from_utf8(name.as_bytes()) else {
+        return Err(OpenFail::Failed)
+    };
+    match opener.open(path) {
+        Ok(file) => Ok(file),
+        Err(error) => Err(fail_of(error.kind())),
+    }
+}
+
+/// Why a text is not opened: want of memory is told apart.
+fn fail_of(kind: ErrorKind) -> OpenFail
+    ensures { result ≡ fail_of kind }
+{
+    match kind {
+        ErrorKind::OutOfMemory => OpenFail::Memory,
+        _ => OpenFail::Failed,
     }
 }

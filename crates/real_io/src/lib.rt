@@ -4,10 +4,11 @@
 //! reader or writer are known. `specs/Unread` has the words for it.
 #![tactic(auto)]
 
-mod blocks;
+mod block;
 mod inputs;
+mod opener;
 mod sink;
 
-pub use blocks::Blocks;
 pub use inputs::RealInputs;
+pub use opener::{Opener, SystemFiles};
 pub use sink::RealSink;

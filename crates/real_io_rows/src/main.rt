@@ -1,113 +1,64 @@
-//! Runs the adapters of `real_io` over a file of several blocks that it writes itself, and over a directory, which can't be
-//! read.
+//! Runs the adapters of `real_io` over a file of several blocks that it writes itself, and counts the rows that come out
+//! otherwise.
 #![tactic(auto)]
 
-use aut_base::{Failed, Memory};
-use aut_io::Sink;
-use real_io::{Blocks, RealSink};
-use std::alloc::{AllocFailed, Global};
-use std::fs::File;
-use std::{fs, io};
+ghost use Rattle.std.specs.Prelude.{ℕ, List};
 
-/// The file's name and size: three blocks and a part of one.
+mod no_memory;
+mod pattern;
+mod rows;
+mod stop;
+
+use crate::no_memory::NoMemory;
+use crate::pattern::{is_pattern, write_pattern};
+use crate::rows::{ROWS, Row, is_met};
+use crate::stop::Stop;
+use aut_base::{OpenFail, Text};
+use aut_io::Inputs;
+use real_io::{RealInputs, SystemFiles};
+use std::alloc::Global;
+use std::fs;
+use std::fs::File;
+
+/// The file of several blocks.
 const NAME: &str = "blocks.bytes";
 
-const SIZE: u32 = 200_001;
-
-/// How many bytes a piece has.
-const PIECE: u32 = 7_001;
-
-/// Why a run ended early.
-#[derive(Debug, Drop)]
-enum Stop {
-    Io(io::Error),
-    Memory,
-    /// A write or a read failed that should not.
-    Failed,
-}
-
-impl From<io::Error> for Stop {
-    fn from(error: io::Error) -> Stop {
-        Stop::Io(error)
-    }
-}
-
-impl From<Memory> for Stop {
-    fn from(_want: Memory) -> Stop {
-        Stop::Memory
-    }
-}
-
-impl<T: Drop> From<AllocFailed<T>> for Stop {
-    fn from(_want: AllocFailed<T>) -> Stop {
-        Stop::Memory
-    }
-}
-
-impl From<Failed> for Stop {
-    fn from(_fault: Failed) -> Stop {
-        Stop::Failed
-    }
-}
+/// A file whose name is that of standard input.
+const STANDARD_NAME: &str = "-";
 
 fn main(rt: HostRuntime) -> Result<(), Stop> {
     let alloc = rt.alloc();
-    write(alloc, File::create(&rt, NAME)?)?;
-    let written = fs::read(&rt, NAME)?;
-    let kept = is_pattern(&written);
-    let given = are_given(alloc, File::open(&rt, NAME)?)?;
+    write_pattern(alloc, File::create(&rt, NAME)?)?;
+    let written = is_pattern(&fs::read(&rt, NAME)?);
+    fs::write(&rt, STANDARD_NAME, "no pattern")?;
+
+    // The file stands for standard input, too.
+    let mut inputs = RealInputs::new(alloc, File::open(&rt, NAME)?, SystemFiles::new(&rt))?;
+    let different = count_different(alloc, &mut inputs)?;
     fs::remove_file(&rt, NAME)?;
-    let refused = is_refused(alloc, File::open(&rt, ".")?)?;
-    println!(rt; "written={kept} given={given} refused={refused}")?;
+    fs::remove_file(&rt, STANDARD_NAME)?;
+    let memory = is_want_of_memory(alloc)?;
+    let rows = ROWS.len();
+    println!(rt; "written={written} memory={memory} rows={rows} different={different}")?;
     Ok(())
 }
 
-/// The byte at this place of the file. No two blocks are alike.
-fn pattern(place: u32) -> u8 {
-    (place % 251) as u8
-}
-
-/// Writes the file piece by piece.
-fn write(alloc: Global, file: File) -> Result<(), Stop> {
-    let mut sink = RealSink::new(file);
-    let mut piece = Vec::new(alloc);
-    for place in 0..SIZE {
-        piece.push(pattern(place))?;
-        if place % PIECE == PIECE - 1 {
-            sink.write(&piece)?;
-            piece.clear();
+/// How many rows come out otherwise. They are run one after the other over the same inputs.
+fn count_different<I: Inputs>(alloc: Global, inputs: &mut I) -> Result<u32, Stop>
+    requires { (name : List ℕ) → I.may_open name }
+{
+    let mut different: u32 = 0;
+    for row in &ROWS {
+        if !is_met(alloc, inputs, row)? {
+            different = different.saturating_add(1);
         }
     }
-    sink.write(&piece)?;
-    Ok(())
+    Ok(different)
 }
 
-/// Whether these are the bytes of the file.
-fn is_pattern(bytes: &[u8]) -> bool {
-    if bytes.len() != SIZE as usize {
-        return false;
-    }
-    for place in 0..SIZE {
-        if bytes[place as usize] != pattern(place) {
-            return false;
-        }
-    }
-    true
-}
-
-/// Whether the file gives its bytes one after the other, and then its end.
-fn are_given(alloc: Global, file: File) -> Result<bool, Stop> {
-    let mut blocks = Blocks::new(alloc, file)?;
-    for place in 0..SIZE {
-        if blocks.next()? != Some(pattern(place)) {
-            return Ok(false);
-        }
-    }
-    Ok(blocks.next()?.is_none())
-}
-
-/// Whether a read of this fails, and is not taken for the end.
-fn is_refused(alloc: Global, directory: File) -> Result<bool, Stop> {
-    let mut blocks = Blocks::new(alloc, directory)?;
-    Ok(blocks.next().is_err())
+/// Whether want of memory is told apart where a file is opened.
+fn is_want_of_memory(alloc: Global) -> Result<bool, Stop> {
+    let mut inputs = RealInputs::new(alloc, b"".as_slice(), NoMemory)?;
+    let name = Text::from_bytes(alloc, NAME.as_bytes())?;
+    Ok(inputs.open(&name) == Err(OpenFail::Memory) && inputs.next()?.is_none())
 }

@@ -1,0 +1,33 @@
+-- What real inputs tell, and what they have still to give.
+use Rattle.std.specs.Prelude.{◌≡◌, ℕ, List, [], Option, None, Some}
+use Rattle.std.specs.Io.KnownBytes.{prepend_known}
+use Rattle.aut_io.specs.Seen.{Seen}
+use Rattle.real_io.specs.declared.inputs.Origin.{Origin}
+use Rattle.real_io.specs.declared.inputs.Origin.TheVariants.{File, Nothing, Standard}
+use Rattle.real_io.specs.declared.inputs.RealInputs.{RealInputs}
+
+-- Of all texts they tell only how many calls failed.
+abbrev pub seen_of : {R O F : Type 0} → RealInputs R O F → Seen
+seen_of s = record { texts = None; left = None; open_faults = s.open_faults; read_faults = s.read_faults }
+
+-- the bytes of the block that are standard input's: while a file is open, they are the file's
+abbrev pub of_standard : {F : Type 0} → Origin F → List ℕ → List ℕ
+of_standard (File file) block = []
+of_standard _ block = block
+
+-- what the open text has left, where it is known: the block, and then what the reader of the text has
+abbrev pub left_of : {R F : Type 0} → (R → Option (List ℕ)) → (F → Option (List ℕ)) → R → Origin F → List ℕ → Option (List ℕ)
+left_of of_reader of_file standard Nothing block = Some []
+left_of of_reader of_file standard Standard block = prepend_known block (of_reader standard)
+left_of of_reader of_file standard (File file) block = prepend_known block (of_file file)
+
+abbrev pub unread : {R O F : Type 0} → (R → Option (List ℕ)) → (F → Option (List ℕ)) → RealInputs R O F → Option (List ℕ)
+unread of_reader of_file s = left_of of_reader of_file s.standard s.origin s.block
+
+-- what standard input has left, where it is known
+abbrev pub unread_standard : {R O F : Type 0} → (R → Option (List ℕ)) → RealInputs R O F → Option (List ℕ)
+unread_standard of_reader s = prepend_known (of_standard s.origin s.block) (of_reader s.standard)
+
+-- Standard input is as it was: its reader, and what the block holds of it.
+abbrev pub KeepsStandard : {R O F : Type 0} → RealInputs R O F → RealInputs R O F → Type 0
+KeepsStandard old new = (new.standard ≡ old.standard) × (of_standard new.origin new.block ≡ of_standard old.origin old.block)

@@ -1,0 +1,116 @@
+//! Bytes of a reader, which are read by blocks.
+
+ghost use Rattle.std.specs.Prelude.{◌≡◌, ◌≤◌, ◌<◌, ◌∷◌, [], None, length, IfOk, OnErr, OnOk};
+ghost use Rattle.std.specs.Io.KnownBytes.{Consumes, IsAtEnd, Keeps, prepend_known};
+ghost use Rattle.real_io.specs.Unread.{GivesFirst, held};
+
+use aut_base::{Failed, Memory};
+use std::alloc::Global;
+use std::io::{ErrorKind, Read};
+use std::marker::Model;
+
+/// How many bytes are read at once.
+const BLOCK: usize = 65536;
+
+/// The block that was read last. Contracts see those of its bytes that were not given yet.
+#[derive(Drop)]
+pub(crate) struct Block {
+    bytes: Vec<u8>,
+    /// The bytes from `place` to `end` were not given yet.
+    place: usize,
+    end: usize,
+}
+
+impl Model for Block {
+    ghost use Rattle.std.specs.Prelude.{◌≤◌, ◌<◌, ℕ, List, vec_len};
+    ghost use Rattle.real_io.specs.Unread.{held};
+
+    ghost Value = { List ℕ };
+
+    ghost view = { λ b. held b.bytes.items b.place b.end };
+
+    ghost invariant = { λ b. (0 < vec_len b.bytes) × (b.place ≤ b.end) × (b.end ≤ vec_len b.bytes) };
+}
+
+impl Block {
+    /// Takes room for one block. Nothing is read yet.
+    pub(crate) fn new(alloc: Global) -> Result<Self, Memory>
+        ensures { IfOk result (λ block. block ≡ []) }
+    {
+        Ok(Block {
+            bytes: vec![in alloc; 0; BLOCK]?,
+            place: 0,
+            end: 0,
+        })
+    }
+
+    /// Lets the bytes go that were not given yet.
+    pub(crate) fn clear(&mut self)
+        ensures { self.new ≡ [] }
+    {
+        self.place = 0;
+        self.end = 0;
+    }
+
+    /// The next byte, or `None` at the end of the reader: the first of those that the block still holds, followed by
+    /// those that the reader has left.
+    pub(crate) fn next<R: Read>(&mut self, reader: &mut R) -> Result<Option<u8>, Failed>
+        ensures gives { GivesFirst (prepend_known self.old (R.remaining reader.old)) (prepend_known self.new (R.remaining reader.new)) result }
+        ensures end { IfOk result (λ byte. byte ≡ None → self.new ≡ []) }
+    {
+        if self.place < self.end {
+            return Ok(Some(self.give()));
+        }
+        self.fill(reader)?;
+        if self.place == self.end {
+            return Ok(None);
+        }
+        Ok(Some(self.give()))
+    }
+
+    /// The first byte that the block holds.
+    fn give(&mut self) -> u8
+        requires { 0 < length self.old }
+        ensures { self.old ≡ result ∷ self.new }
+    {
+        let byte = self.bytes[self.place];
+        self.place += 1;
+        byte
+    }
+
+    /// Reads the next block. It holds nothing only at the end of the reader.
+    fn fill<R: Read>(&mut self, reader: &mut R) -> Result<(), Failed>
+        requires { self.old ≡ [] }
+        ensures takes { OnOk result (Consumes (R.remaining reader.old) (R.remaining reader.new) self.new) }
+        ensures end { OnOk result (self.new ≡ [] → IsAtEnd (R.remaining reader.new)) }
+        ensures keeps { OnErr result (Keeps (R.remaining reader.old) (R.remaining reader.new)) }
+        ensures empty { OnErr result (self.new ≡ []) }
+    {
+        self.place = 0;
+        self.end = 0;
+        self.end = read_block(reader, &mut self.bytes)?;
+        Ok(())
+    }
+}
+
+/// Reads into the block, once more where a signal came between, and answers how many bytes were read.
+fn read_block<R: Read>(reader: &mut R, block: &mut [u8]) -> Result<usize, Failed>
+    requires { 0 < length block.old }
+    ensures size { length block.new ≡ length block.old }
+    ensures within { IfOk result (λ count. count ≤ length block.new) }
+    ensures takes { IfOk result (λ count. Consumes (R.remaining reader.old) (R.remaining reader.new) (held block.new 0 count)) }
+    ensures end { IfOk result (λ count. count ≡ 0 → IsAtEnd (R.remaining reader.new)) }
+    ensures keeps { OnErr result (Keeps (R.remaining reader.old) (R.remaining reader.new)) }
+{
+    'tries: for _ in 0..u64::MAX {
+        match reader.read(block) {
+            Ok(count) => return Ok(count),
+            Err(error) => {
+                if error.kind() != ErrorKind::Interrupted {
+                    return Err(Failed);
+                }
+            }
+        }
+    }
+    Err(Failed)
+}
