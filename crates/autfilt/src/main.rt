@@ -24,7 +24,7 @@ fn main(rt: HostRuntime) -> ExitCode {
             autfilt(rt.alloc(), &words, &mut inputs, &mut out, &mut notes)
         }
         Err(end) => {
-            note(&mut notes, &end);
+            note(&mut notes, b"", &end);
             Ended::from(end)
         }
     };
@@ -42,7 +42,7 @@ fn made<O: Opener + Drop>(
         Ok(args) => words_of(alloc, args)?,
         Err(error) => {
             return match error.kind() {
-                io::ErrorKind::OutOfMemory => Err(End::Memory),
+                io::ErrorKind::OutOfMemory => Err(End::from(Memory)),
                 _ => Err(End::Usage),
             };
         }

@@ -78,13 +78,13 @@ record Look (p : Point) (what : List ℕ → Standing) (to : Stream → List ℕ
   stands : Stands (what next) (place stream.text stream.rest) stream.rest
   goes : q ≡ to stream next
 
-look_at : (p q : Point) (w : Written) (kept : ℕ) → ReadsOn p (λ start rest next. IsGood start rest w next) kept q → Look p (λ x. standing.Whole w x) (λ s x. read_on p s x kept) q
+abbrev look_at : (p q : Point) (w : Written) (kept : ℕ) → ReadsOn p (λ start rest next. IsGood start rest w next) kept q → Look p (λ x. standing.Whole w x) (λ s x. read_on p s x kept) q
 look_at p q w kept h = record { stream = h.stream; is_open = h.is_open; next = h.next; stands = h.stands.whole; goes = h.to }
 
-look_over : (p q : Point) (name : List ℕ) → PassesOver name p q → Look p (λ x. standing.Aborted x) (λ s x. read_on p s x p.kept) q
+abbrev look_over : (p q : Point) (name : List ℕ) → PassesOver name p q → Look p (λ x. standing.Aborted x) (λ s x. read_on p s x p.kept) q
 look_over p q name h = record { stream = h.reads.stream; is_open = h.reads.is_open; next = h.reads.next; stands = h.reads.stands; goes = h.reads.to }
 
-look_behind : (p q : Point) → EndsStream p q → Look p (λ x. standing.Blank) (λ s x. ended_at p s) q
+abbrev look_behind : (p q : Point) → EndsStream p q → Look p (λ x. standing.Blank) (λ s x. ended_at p s) q
 look_behind p q h = record { stream = h.stream; is_open = h.is_open; next = []; stands = h.blank; goes = h.to }
 
 one_stream : (o : Option Stream) (s t : Stream) → o ≡ Some s → o ≡ Some t → s ≡ t
@@ -315,10 +315,10 @@ no_more one plan texts f Ended p q h g = halted_look one plan p q f _ _ h (look_
 
 closed_goes : (texts : Texts) (e : Event) (p q : Point) → p.stream ≡ None → p.coming ≡ [] → Goes texts e p q → ⊥
 closed_goes texts (Opened n) p q closed none g = let all : (n ∷ g.others) ≡ [] = sym g.next ∙ none in cc
-closed_goes texts (Kept w t) p q closed none g = let open : None ≡ Some g.stream = sym closed ∙ g.is_open in cc
-closed_goes texts (Dropped w) p q closed none g = let open : None ≡ Some g.stream = sym closed ∙ g.is_open in cc
-closed_goes texts (Skipped n) p q closed none g = let open : None ≡ Some g.reads.stream = sym closed ∙ g.reads.is_open in cc
-closed_goes texts Ended p q closed none g = let open : None ≡ Some g.stream = sym closed ∙ g.is_open in cc
+closed_goes texts (Kept w t) p q closed none g = let some : None ≡ Some g.stream = sym closed ∙ g.is_open in cc
+closed_goes texts (Dropped w) p q closed none g = let some : None ≡ Some g.stream = sym closed ∙ g.is_open in cc
+closed_goes texts (Skipped n) p q closed none g = let some : None ≡ Some g.reads.stream = sym closed ∙ g.reads.is_open in cc
+closed_goes texts Ended p q closed none g = let some : None ≡ Some g.stream = sym closed ∙ g.is_open in cc
 
 done_goes : (plan : Plan) (texts : Texts) (e : Event) (p q : Point) → IsDone plan p → asks_on plan p.kept ≡ true → Goes texts e p q → ⊥
 done_goes plan texts e p q (inl reached) asks g = false≢true (sym reached ∙ asks)
@@ -366,7 +366,7 @@ both_halted one plan p f g a b =
 
 not_done : (plan : Plan) (p : Point) (f : RunFault) → Halted plan p f → IsDone plan p → ⊥
 not_done plan p f h (inl reached) = false≢true (sym reached ∙ h.asks)
-not_done plan p f h (inr done) = let open : None ≡ Some h.stream = sym done.0 ∙ h.is_open in cc
+not_done plan p f h (inr done) = let some : None ≡ Some h.stream = sym done.0 ∙ h.is_open in cc
 
 alike : OneStanding → (plan : Plan) (p : Point) (events : List Event) (e d : End) → IsByText e → IsByText d → Ends plan p events e → Ends plan p events d → e ≡ d
 alike one plan p events (end.Fault f) (end.Fault g) x y a b = ap end.Fault (both_halted one plan p f g a b)

@@ -71,19 +71,19 @@ faults_of p q e = ap (λ (x : SinkSeen). x.faults) e
 -- ---- a fault of the stream that is open
 
 counted : (f : RunFault) (old new : Session) (m t : Seen) (at : Point) → StepsAs old new → old.is_open ≡ true → StandsAt old m.left at → Moves (stop_of_fault f) old.lexer new.lexer m t → IsCounted f at t.left
-counted f old new m t at as open stands moves =
-    let same = stream_counted old new m t at (stop_of_fault f) stands open moves in
+counted f old new m t at steady opened_so stands moves =
+    let same = stream_counted old new m t at (stop_of_fault f) stands opened_so moves in
     record {
-      few = subst (λ (n : ℕ). n ≤ MOST_BYTES) (sym same) as.few;
-      within = subst (λ (n : ℕ). IsWithin (stop_of_fault f) n MOST_BYTES) (sym same) (subst (λ (n : ℕ). IsWithin (stop_of_fault f) new.lexer.taken n) as.most moves.within);
+      few = subst (λ (n : ℕ). n ≤ MOST_BYTES) (sym same) steady.few;
+      within = subst (λ (n : ℕ). IsWithin (stop_of_fault f) n MOST_BYTES) (sym same) (subst (λ (n : ℕ). IsWithin (stop_of_fault f) new.lexer.taken n) steady.most moves.within);
     }
 
 reading_halts : (f : RunFault) (R : ℕ → List ℕ → List ℕ → Type 0) (name : List ℕ) (old new : Session) (m t : Seen) (p q : SinkSeen) → StepsAs old new
     → ((at : Point) → AtStream old.plan at t.left R → Stops old.plan f name at t.left) → Reads (stop_of_fault f) (R old.lexer.since) old new m t p q
     → (at : Point) → StandsAt old m.left at → Halts f old.plan name t.left at
-reading_halts f R name old new m t p q as stops h at stands = (
+reading_halts f R name old new m t p q steady stops h at stands = (
   stops at (stops_at R old.plan old m t at stands h.reading.is_open (asks_at old m.left at stands h.reading.asks) h.read),
-  counted f old new m t at as h.reading.is_open stands h.moves,
+  counted f old new m t at steady h.reading.is_open stands h.moves,
 )
 
 -- one after which no count rose
@@ -92,8 +92,8 @@ calm_halt : (f : RunFault) (name : List ℕ) (old new : Session) (m t : Seen) (p
     → ((events : List Event) (a b : Option (List ℕ)) → Gains a b (all_written events) → Prints old.plan (end.Fault f) events a b)
     → ((s : Seen) (o : SinkSeen) → AreCalm s t o q → EndsBecause (ended_of (end.Fault f)) s t o q)
     → Reads (stop_of_fault f) (StopsAt f old.lexer.since) old new m t p q → HaltsAt f old name m t p q
-calm_halt f name old new m t p q as calm stops prints causes h = record {
-  halts = λ texts told at stands. reading_halts f (StopsAt f) name old new m t p q as stops h at stands;
+calm_halt f name old new m t p q steady calm stops prints causes h = record {
+  halts = λ texts told at stands. reading_halts f (StopsAt f) name old new m t p q steady stops h at stands;
   output = h.output;
   prints = prints;
   causes = λ s o before. causes s o (calm_then s m t o p q before (record { opens = h.moves.opens; reads = calm; writes = faults_of p q h.output }));
@@ -127,10 +127,10 @@ closed_counted f old left left' at stands closed few stop =
     record { few = omega (arith, none, c.taken, few); within = subst (λ (x : Stop). IsWithin x (taken_of at left') MOST_BYTES) (sym stop) tt }
 
 unopened : (name : List ℕ) (old new : Session) (m t : Seen) (p q : SinkSeen) → StepsAs old new → (h : Tries (Err opening.Failed) old new m t p q) → name ≡ h.name → HaltsAt fault.CannotOpen old name m t p q
-unopened name old new m t p q as h same = record {
+unopened name old new m t p q steady h same = record {
   halts = λ texts told at stands. (
       (subst (WantsStream old.plan at) (sym same) (wants_stream old.plan old m.left at h.name stands h.opening (asks_at old m.left at stands h.opening.asks)), untold_closed m.texts t.left texts told h.opens.closed),
-      closed_counted fault.CannotOpen old m.left t.left at stands h.opening.is_closed (omega (arith, h.begins.taken, as.few)) refl,
+      closed_counted fault.CannotOpen old m.left t.left at stands h.opening.is_closed (omega (arith, h.begins.taken, steady.few)) refl,
   );
   output = h.output;
   prints = λ events a b g. g;
@@ -152,10 +152,10 @@ opening_calm m t name (inl same) = (ap (λ (x : Seen). x.open_faults) same, ap (
 opening_calm m t name (inr h) = (h.memory refl, h.reads)
 
 lacking : (name : List ℕ) (old new : Session) (m t : Seen) (p q : SinkSeen) → StepsAs old new → Fails fault.Memory old new m t p q → HaltsAt fault.Memory old name m t p q
-lacking name old new m t p q as (inl h) = record {
+lacking name old new m t p q steady (inl h) = record {
   halts = λ texts told at stands. (
       opening_lacks old m t h.name texts at told stands (wants_stream old.plan old m.left at h.name stands h.opening (asks_at old m.left at stands h.opening.asks)) h.opens,
-      closed_counted fault.Memory old m.left t.left at stands h.opening.is_closed (omega (arith, h.begins.taken, as.few)) refl,
+      closed_counted fault.Memory old m.left t.left at stands h.opening.is_closed (omega (arith, h.begins.taken, steady.few)) refl,
   );
   output = h.output;
   prints = λ events a b g. g;
@@ -163,8 +163,8 @@ lacking name old new m t p q as (inl h) = record {
       let calm = opening_calm m t h.name h.opens in
       calm_then s m t o p q before (record { opens = calm.0; reads = calm.1; writes = faults_of p q h.output });
 }
-lacking name old new m t p q as (inr h) = record {
-  halts = λ texts told at stands. reading_halts fault.Memory WantsMemory name old new m t p q as (λ x s. inr (inr s)) h at stands;
+lacking name old new m t p q steady (inr h) = record {
+  halts = λ texts told at stands. reading_halts fault.Memory WantsMemory name old new m t p q steady (λ x s. inr (inr s)) h at stands;
   output = h.output;
   prints = λ events a b g. g;
   causes = λ s o before. calm_then s m t o p q before (record { opens = h.moves.opens; reads = h.moves.reads; writes = faults_of p q h.output });
@@ -173,20 +173,20 @@ lacking name old new m t p q as (inr h) = record {
 -- ---- every fault but that of a write
 
 halted : (f : RunFault) (name : List ℕ) (old new : Session) (m t : Seen) (p q : SinkSeen) → f ≢ fault.WriteFault → StepsAs old new → Fails f old new m t p q → name ≡ name_at (streams_of new.plan) new.tried → HaltsAt f old name m t p q
-halted fault.WriteFault name old new m t p q n as h is = absurd (n refl)
-halted fault.CannotOpen name old new m t p q n as h is = unopened name old new m t p q as h (is ∙ h.in_hand)
-halted fault.Memory name old new m t p q n as h is = lacking name old new m t p q as h
-halted fault.ReadFault name old new m t p q n as h is = record {
-  halts = λ texts told at stands. reading_halts fault.ReadFault (StopsAt fault.ReadFault) name old new m t p q as (λ x s. s) h at stands;
+halted fault.WriteFault name old new m t p q n steady h is = absurd (n refl)
+halted fault.CannotOpen name old new m t p q n steady h is = unopened name old new m t p q steady h (is ∙ h.in_hand)
+halted fault.Memory name old new m t p q n steady h is = lacking name old new m t p q steady h
+halted fault.ReadFault name old new m t p q n steady h is = record {
+  halts = λ texts told at stands. reading_halts fault.ReadFault (StopsAt fault.ReadFault) name old new m t p q steady (λ x s. s) h at stands;
   output = h.output;
   prints = λ events a b g. g;
   causes = λ s o before. (h.moves.opens ∙ before.opens, rose_from s.read_faults m.read_faults t.read_faults before.reads h.moves.reads, faults_of p q h.output ∙ before.writes);
 }
-halted (fault.SyntaxAt k) name old new m t p q n as h is = calm_halt (fault.SyntaxAt k) name old new m t p q as h.moves.reads (λ x s. s) (λ events a b g. g) (λ s o calm. calm) h
-halted fault.Truncated name old new m t p q n as h is = calm_halt fault.Truncated name old new m t p q as h.moves.reads (λ x s. s) (λ events a b g. g) (λ s o calm. calm) h
-halted (fault.Invalid rule) name old new m t p q n as h is = calm_halt (fault.Invalid rule) name old new m t p q as h.moves.reads (λ x s. s) (λ events a b g. g) (λ s o calm. calm) h
-halted (fault.Limit which) name old new m t p q n as h is =
-    calm_halt (fault.Limit which) name old new m t p q as (calm_limit which _ _ h.moves.reads) (λ x s. s) (λ events a b g. g) (λ s o calm. calm) h
+halted (fault.SyntaxAt k) name old new m t p q n steady h is = calm_halt (fault.SyntaxAt k) name old new m t p q steady h.moves.reads (λ x s. s) (λ events a b g. g) (λ s o calm. calm) h
+halted fault.Truncated name old new m t p q n steady h is = calm_halt fault.Truncated name old new m t p q steady h.moves.reads (λ x s. s) (λ events a b g. g) (λ s o calm. calm) h
+halted (fault.Invalid rule) name old new m t p q n steady h is = calm_halt (fault.Invalid rule) name old new m t p q steady h.moves.reads (λ x s. s) (λ events a b g. g) (λ s o calm. calm) h
+halted (fault.Limit which) name old new m t p q n steady h is =
+    calm_halt (fault.Limit which) name old new m t p q steady (calm_limit which _ _ h.moves.reads) (λ x s. s) (λ events a b g. g) (λ s o calm. calm) h
 
 -- ---- a write that failed
 
@@ -206,28 +206,28 @@ record IsLast (w : Written) (t : Seen) (at : Point) : Type 0 where
   counted : IsCounted fault.WriteFault point t.left
 
 last_of : (old new : Session) (m t : Seen) (p q : SinkSeen) → StepsAs old new → (h : KeepsInPart old new m t p q) → (at : Point) → StandsAt old m.left at → IsLast h.automaton t at
-last_of old new m t p q as h at stands =
-    let open = is_open old m.left at stands h.reading.is_open in
-    let to = read_to (λ start rest next. IsGood start rest h.automaton next) (at.kept + 1) old new m t at Elsewhere open h.read h.moves as.few in
-    let point = read_on at to.stream to.next (at.kept + 1) in
-    let here : taken_of point t.left ≡ at.before + place to.stream.text to.next = ap (λ l. at.before + taken_in point.stream l) to.told in
+last_of old new m t p q steady h at stands =
+    let there = is_open old m.left at stands h.reading.is_open in
+    let to = read_to (λ start rest next. IsGood start rest h.automaton next) (at.kept + 1) old new m t at Elsewhere there h.read h.moves steady.few in
+    let point = read_on at there.stream to.next (at.kept + 1) in
+    let here : taken_of point t.left ≡ at.before + place there.stream.text to.next = ap (λ l. at.before + taken_in point.stream l) to.told in
     record {
       point = point;
       goes = to.goes;
       left = to.told;
-      counted = record { few = omega (arith, here, to.since, to.taken, as.few); within = tt };
+      counted = record { few = omega (arith, here, to.since, to.taken, steady.few); within = tt };
     }
 
 pub write_failed : (old new : Session) (s m t : Seen) (o p q k l j : SinkSeen) (noting : Bool) (name : List ℕ) → StepsAs old new → HasRun old s m o p k l noting → KeepsInPart old new m t p q
     → ((text : List ℕ) → HasNoted text noting k l → Notes (text ++ line_of (end.Fault fault.WriteFault) name) k j) → Carries old.plan (end.Fault fault.WriteFault) s t o q k j
-write_failed old new s m t o p q k l j noting name as h part notes = record {
+write_failed old new s m t o p q k l j noting name steady h part notes = record {
   events = h.events ++ Kept part.automaton part.text ∷ [];
   name = name;
   runs = record {
     judged = AllByRecursion-push (IsJudged old.plan) h.events (Kept part.automaton part.text) h.judged (part.kept, part.due);
     happened = λ texts told.
         let r = h.happened texts told in
-        let x = last_of old new m t p q as part r.point r.stands in
+        let x = last_of old new m t p q steady part r.point r.stands in
         record {
           point = x.point;
           happen = happen_push old.plan texts h.events (Kept part.automaton part.text) (start_of old.plan s.left) r.point x.point r.happen (asks_at old m.left r.point r.stands part.reading.asks) x.goes;
@@ -243,17 +243,17 @@ write_failed old new s m t o p q k l j noting name as h part notes = record {
 
 pub run_failed : (f : RunFault) (name : List ℕ) (old new : Session) (s m t : Seen) (o p q k l j : SinkSeen) (noting : Bool) → StepsAs old new → HasRun old s m o p k l noting → Fails f old new m t p q
     → name ≡ name_at (streams_of new.plan) new.tried → ((text : List ℕ) → HasNoted text noting k l → Notes (text ++ line_of (end.Fault f) name) k j) → Carries old.plan (end.Fault f) s t o q k j
-run_failed fault.WriteFault name old new s m t o p q k l j noting as h fails is notes = write_failed old new s m t o p q k l j noting name as h fails notes
-run_failed fault.CannotOpen name old new s m t o p q k l j noting as h fails is notes = run_halted fault.CannotOpen name old s m t o p q k l j noting h (halted fault.CannotOpen name old new m t p q (λ x. cc) as fails is) notes
-run_failed fault.Memory name old new s m t o p q k l j noting as h fails is notes = run_halted fault.Memory name old s m t o p q k l j noting h (halted fault.Memory name old new m t p q (λ x. cc) as fails is) notes
-run_failed fault.ReadFault name old new s m t o p q k l j noting as h fails is notes = run_halted fault.ReadFault name old s m t o p q k l j noting h (halted fault.ReadFault name old new m t p q (λ x. cc) as fails is) notes
-run_failed (fault.SyntaxAt n) name old new s m t o p q k l j noting as h fails is notes =
-    run_halted (fault.SyntaxAt n) name old s m t o p q k l j noting h (halted (fault.SyntaxAt n) name old new m t p q (λ x. cc) as fails is) notes
-run_failed fault.Truncated name old new s m t o p q k l j noting as h fails is notes = run_halted fault.Truncated name old s m t o p q k l j noting h (halted fault.Truncated name old new m t p q (λ x. cc) as fails is) notes
-run_failed (fault.Invalid rule) name old new s m t o p q k l j noting as h fails is notes =
-    run_halted (fault.Invalid rule) name old s m t o p q k l j noting h (halted (fault.Invalid rule) name old new m t p q (λ x. cc) as fails is) notes
-run_failed (fault.Limit which) name old new s m t o p q k l j noting as h fails is notes =
-    run_halted (fault.Limit which) name old s m t o p q k l j noting h (halted (fault.Limit which) name old new m t p q (λ x. cc) as fails is) notes
+run_failed fault.WriteFault name old new s m t o p q k l j noting steady h fails is notes = write_failed old new s m t o p q k l j noting name steady h fails notes
+run_failed fault.CannotOpen name old new s m t o p q k l j noting steady h fails is notes = run_halted fault.CannotOpen name old s m t o p q k l j noting h (halted fault.CannotOpen name old new m t p q (λ x. cc) steady fails is) notes
+run_failed fault.Memory name old new s m t o p q k l j noting steady h fails is notes = run_halted fault.Memory name old s m t o p q k l j noting h (halted fault.Memory name old new m t p q (λ x. cc) steady fails is) notes
+run_failed fault.ReadFault name old new s m t o p q k l j noting steady h fails is notes = run_halted fault.ReadFault name old s m t o p q k l j noting h (halted fault.ReadFault name old new m t p q (λ x. cc) steady fails is) notes
+run_failed (fault.SyntaxAt n) name old new s m t o p q k l j noting steady h fails is notes =
+    run_halted (fault.SyntaxAt n) name old s m t o p q k l j noting h (halted (fault.SyntaxAt n) name old new m t p q (λ x. cc) steady fails is) notes
+run_failed fault.Truncated name old new s m t o p q k l j noting steady h fails is notes = run_halted fault.Truncated name old s m t o p q k l j noting h (halted fault.Truncated name old new m t p q (λ x. cc) steady fails is) notes
+run_failed (fault.Invalid rule) name old new s m t o p q k l j noting steady h fails is notes =
+    run_halted (fault.Invalid rule) name old s m t o p q k l j noting h (halted (fault.Invalid rule) name old new m t p q (λ x. cc) steady fails is) notes
+run_failed (fault.Limit which) name old new s m t o p q k l j noting steady h fails is notes =
+    run_halted (fault.Limit which) name old s m t o p q k l j noting h (halted (fault.Limit which) name old new m t p q (λ x. cc) steady fails is) notes
 
 -- ---- the end of a run that read all
 

@@ -1,5 +1,8 @@
 mod Alike
+mod BuiltPlans
+mod Carried
 mod Ending
+mod MadePlans
 mod Noting
 mod Running
 mod Stepped

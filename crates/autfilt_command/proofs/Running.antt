@@ -6,11 +6,14 @@ use Rattle.aut_io.specs.Seen.{Seen, SinkSeen}
 use Rattle.autfilt_command.proofs.Stepped.{Stepped}
 use Rattle.autfilt_command.proofs.Stepping.{happen_push}
 use Rattle.autfilt_command.specs.Noted.{HasNoted, Notes}
+use Rattle.aut_base.specs.declared.limit.TheConstants.{MOST_BYTES}
 use Rattle.autfilt_command.specs.Run.{AreCalm, all_noted, noted}
-use Rattle.autfilt_command.specs.inner.Running.{HasRun, IsFresh, Reached, StandsAt}
+use Rattle.autfilt_command.specs.declared.ended.End.{End}
+use Rattle.autfilt_command.specs.inner.Running.{Carries, Finishes, HasRun, IsFresh, Reached, StandsAt}
 use Rattle.autfilt_run.proofs.Gains.{both, nothing}
 use Rattle.autfilt_run.specs.Events.{Event, Tally, IsJudged, AreJudged, Happen, Point, all_written, counted, start_of, tally, tally_from, written_of}
-use Rattle.autfilt_run.specs.Plans.{asks_on, streams_of}
+use Rattle.autfilt_run.specs.Plans.{asks_on, count_text, streams_of}
+use Rattle.autfilt_run.specs.Turns.{Progress, progress}
 use Rattle.autfilt_run.specs.declared.session.Session.{Session}
 use Rattle.filter_plan.specs.declared.plan.Plan.{Plan}
 
@@ -87,3 +90,22 @@ run_none session s o k fresh = record {
   calm = record { opens = refl; reads = refl; writes = refl };
   texts = refl;
 }
+
+-- ---- what a loop keeps
+
+pub few_of : (s : Session) → s.lexer.most ≡ MOST_BYTES → s.lexer.taken ≤ s.lexer.most → s.lexer.taken ≤ MOST_BYTES
+few_of s most within = subst (λ (n : ℕ). s.lexer.taken ≤ n) most within
+
+pub carries_as : (plan : Plan) (e d : End) (own : Plan) → own ≡ plan → (s t : Seen) (o q k j : SinkSeen) → e ≡ d → Carries own d s t o q k j → Carries plan e s t o q k j
+carries_as plan e d own same s t o q k j is h = subst (λ (x : Plan). Carries x e s t o q k j) same (subst (λ (x : End). Carries own x s t o q k j) (sym is) h)
+
+-- what is written at the end is that of the session that was done
+pub finish_as : (e : End) (old new : Session) (r q : SinkSeen) → new.plan ≡ old.plan → progress new ≡ progress old → Finishes e (count_text new.plan new.kept) (record { kept = new.kept; skipped = new.skipped }) r q
+    → Finishes e (count_text old.plan old.kept) (record { kept = old.kept; skipped = old.skipped }) r q
+finish_as e old new r q plan done h =
+    let kept : new.kept ≡ old.kept = ap (λ (x : Progress). x.kept) done in
+    let skipped : new.skipped ≡ old.skipped = ap (λ (x : Progress). x.skipped) done in
+    let A : Plan → Type 0 = λ x. Finishes e (count_text x new.kept) (record { kept = new.kept; skipped = new.skipped }) r q in
+    let B : ℕ → Type 0 = λ n. Finishes e (count_text old.plan n) (record { kept = n; skipped = new.skipped }) r q in
+    let C : ℕ → Type 0 = λ n. Finishes e (count_text old.plan old.kept) (record { kept = old.kept; skipped = n }) r q in
+    subst C skipped (subst B kept (subst A plan h))

@@ -1,5 +1,5 @@
 -- What a turn of a session is as an event of the run.
-use Rattle.std.proofs.Common.{◌≡◌, ℕ, ◌+◌, ◌≤◌, true, List, Option, Some, Ok, Err, refl, sym, ap, ◌∙◌, subst, arith}
+use Rattle.std.proofs.Common.{◌≡◌, ℕ, ◌+◌, ◌≤◌, Bool, true, List, [], Option, Some, Ok, Err, refl, sym, ap, ◌∙◌, subst, arith}
 use Rattle.aut_base.specs.declared.limit.TheConstants.{MOST_BYTES}
 use Rattle.aut_io.specs.Outside.{Gains, Texts}
 use Rattle.aut_io.specs.Seen.{Seen, SinkSeen}
@@ -32,6 +32,9 @@ pub record StepsAs (old new : Session) : Type 0 where
   pub most : new.lexer.most ≡ MOST_BYTES
   pub few : new.lexer.taken ≤ MOST_BYTES
 
+pub steps_as : (old new : Session) → new.plan ≡ old.plan → new.lexer.most ≡ MOST_BYTES → new.lexer.taken ≤ new.lexer.most → StepsAs old new
+steps_as old new plan most within = record { plan = plan; most = most; few = subst (λ (n : ℕ). new.lexer.taken ≤ n) most within }
+
 still_gains : (p q : SinkSeen) → q ≡ p → Gains p.written q.written []
 still_gains p q same = subst (λ (x : SinkSeen). Gains p.written x.written []) (sym same) (nothing p.written)
 
@@ -39,35 +42,38 @@ still_writes : (p q : SinkSeen) → q ≡ p → q.faults ≡ p.faults
 still_writes p q same = ap (λ (x : SinkSeen). x.faults) same
 
 -- the parts of what a session has done
-record IsAfter (old new : Session) (opened : ℕ) (open : Bool) (kept skipped : ℕ) : Type 0 where
-  opened : new.opened ≡ opened
-  open : new.is_open ≡ open
-  kept : new.kept ≡ kept
-  skipped : new.skipped ≡ skipped
+record IsAfter (new : Session) (a : Progress) : Type 0 where
+  opened : new.opened ≡ a.opened
+  is_open : new.is_open ≡ a.is_open
+  kept : new.kept ≡ a.kept
+  skipped : new.skipped ≡ a.skipped
 
-parts_of : (old new : Session) (a : Progress) → progress new ≡ a → IsAfter old new a.opened a.is_open a.kept a.skipped
-parts_of old new a e = record {
+parts_of : (new : Session) (a : Progress) → progress new ≡ a → IsAfter new a
+parts_of new a e = record {
   opened = ap (λ (x : Progress). x.opened) e;
-  open = ap (λ (x : Progress). x.is_open) e;
+  is_open = ap (λ (x : Progress). x.is_open) e;
   kept = ap (λ (x : Progress). x.kept) e;
   skipped = ap (λ (x : Progress). x.skipped) e;
 }
 
-tally_as : (k s k' s' : ℕ) → k' ≡ k → s' ≡ s → record { kept = k; skipped = s } ≡ record { kept = k'; skipped = s' }
-tally_as k s k' s' a b = sym (ap (λ (x : ℕ). record { kept = x; skipped = s' }) a ∙ ap (λ (y : ℕ). record { kept = k; skipped = y }) b)
+abbrev tally_of : ℕ → ℕ → Tally
+tally_of kept skipped = record { kept = kept; skipped = skipped }
+
+tally_as : (k s k' s' : ℕ) → k' ≡ k → s' ≡ s → tally_of k s ≡ tally_of k' s'
+tally_as k s k' s' a b = ap (λ (x : ℕ). tally_of x s) (sym a) ∙ ap (λ (x : ℕ). tally_of k' x) (sym b)
 
 keeps_on : (old new : Session) → StepsAs old new → new.opened ≡ old.opened → new.tried ≡ old.tried → ReadsOnAs old new
-keeps_on old new as opened tried = record { plan = as.plan; opened = opened; tried = tried; few = as.few }
+keeps_on old new steady opened tried = record { plan = steady.plan; opened = opened; tried = tried; few = steady.few }
 
 kept_at : (old new : Session) (left : Option (List ℕ)) (at : Point) (P : ℕ → Type 0) → StandsAt old left at → new.kept ≡ old.kept → P new.kept → P at.kept
 kept_at old new left at P stands same h = subst P (same ∙ sym stands.kept) h
 
 pub opened : (old new : Session) (m t : Seen) (p q : SinkSeen) → StepsAs old new → progress new ≡ after turn.Opened (progress old) → (h : turns.Turns turn.Opened old new m t p q) → Stepped (Opened h.name) old new m t p q
-opened old new m t p q as done h =
-    let x = parts_of old new (after turn.Opened (progress old)) done in
+opened old new m t p q steady done h =
+    let x = parts_of new (after turn.Opened (progress old)) done in
     record {
       judged = tt;
-      goes = λ texts told at stands. opens_stream texts old new m t at h.name told stands h.opening h.opens h.begins h.in_hand as.plan x.opened x.open x.kept;
+      goes = λ texts told at stands. opens_stream texts old new m t at h.name told stands h.opening h.opens h.begins h.in_hand steady.plan x.opened x.is_open x.kept;
       gains = still_gains p q h.output;
       tallied = tally_as old.kept old.skipped new.kept new.skipped x.kept x.skipped;
       calm = record { opens = h.opens.calm; reads = h.opens.reads; writes = still_writes p q h.output };
@@ -75,11 +81,11 @@ opened old new m t p q as done h =
     }
 
 pub ended : (old new : Session) (m t : Seen) (p q : SinkSeen) → StepsAs old new → progress new ≡ after turn.StreamEnd (progress old) → turns.Turns turn.StreamEnd old new m t p q → Stepped Ended old new m t p q
-ended old new m t p q as done h =
-    let x = parts_of old new (after turn.StreamEnd (progress old)) done in
+ended old new m t p q steady done h =
+    let x = parts_of new (after turn.StreamEnd (progress old)) done in
     record {
       judged = tt;
-      goes = λ texts told at stands. ends_stream old new m t at stands h.reading.is_open x.open x.kept h.read h.moves as.most (keeps_on old new as x.opened h.in_hand);
+      goes = λ texts told at stands. ends_stream old new m t at stands h.reading.is_open x.is_open x.kept h.read h.moves steady.most (keeps_on old new steady x.opened h.in_hand);
       gains = still_gains p q h.output;
       tallied = tally_as old.kept old.skipped new.kept new.skipped x.kept x.skipped;
       calm = record { opens = h.moves.opens; reads = h.moves.reads; writes = still_writes p q h.output };
@@ -87,12 +93,12 @@ ended old new m t p q as done h =
     }
 
 pub dropped : (old new : Session) (m t : Seen) (p q : SinkSeen) → StepsAs old new → progress new ≡ after turn.Dropped (progress old) → (h : turns.Turns turn.Dropped old new m t p q) → Stepped (Dropped h.automaton) old new m t p q
-dropped old new m t p q as done h =
-    let x = parts_of old new (after turn.Dropped (progress old)) done in
+dropped old new m t p q steady done h =
+    let x = parts_of new (after turn.Dropped (progress old)) done in
     record {
       judged = h.dropped;
       goes = λ texts told at stands.
-          let on = reads_on (λ start rest next. IsGood start rest h.automaton next) old new m t at Elsewhere stands h.reads.reading.is_open (x.open ∙ h.reads.reading.is_open) h.reads.read h.reads.moves (keeps_on old new as x.opened h.reads.in_hand) in
+          let on = reads_on (λ start rest next. IsGood start rest h.automaton next) old new m t at Elsewhere stands h.reads.reading.is_open (x.is_open ∙ h.reads.reading.is_open) h.reads.read h.reads.moves (keeps_on old new steady x.opened h.reads.in_hand) in
           record {
             point = on.point;
             goes = kept_at old new m.left at (λ (k : ℕ). ReadsOn at (λ start rest next. IsGood start rest h.automaton next) k on.point) stands x.kept on.goes;
@@ -105,12 +111,12 @@ dropped old new m t p q as done h =
     }
 
 pub kept : (old new : Session) (m t : Seen) (p q : SinkSeen) → StepsAs old new → progress new ≡ after turn.Kept (progress old) → (h : turns.Turns turn.Kept old new m t p q) → Stepped (Kept h.automaton h.text) old new m t p q
-kept old new m t p q as done h =
-    let x = parts_of old new (after turn.Kept (progress old)) done in
+kept old new m t p q steady done h =
+    let x = parts_of new (after turn.Kept (progress old)) done in
     record {
       judged = (h.kept, h.due);
       goes = λ texts told at stands.
-          let on = reads_on (λ start rest next. IsGood start rest h.automaton next) old new m t at Elsewhere stands h.reading.is_open (x.open ∙ h.reading.is_open) h.read h.moves (keeps_on old new as x.opened h.in_hand) in
+          let on = reads_on (λ start rest next. IsGood start rest h.automaton next) old new m t at Elsewhere stands h.reading.is_open (x.is_open ∙ h.reading.is_open) h.read h.moves (keeps_on old new steady x.opened h.in_hand) in
           record {
             point = on.point;
             goes = subst (λ (k : ℕ). ReadsOn at (λ start rest next. IsGood start rest h.automaton next) k on.point) (x.kept ∙ ap (λ (k : ℕ). k + 1) (sym stands.kept)) on.goes;
@@ -128,17 +134,17 @@ same_name o a b e f = let same : Some a ≡ Some b = sym e ∙ f in let one : a 
 -- the one that was skipped is of the stream whose name is in hand
 pub skipped : (old new : Session) (m t : Seen) (p q : SinkSeen) → StepsAs old new → progress new ≡ after turn.Skipped (progress old) → turns.Turns turn.Skipped old new m t p q
     → Stepped (Skipped (name_at (streams_of new.plan) new.tried)) old new m t p q
-skipped old new m t p q as done h =
-    let x = parts_of old new (after turn.Skipped (progress old)) done in
+skipped old new m t p q steady done h =
+    let x = parts_of new (after turn.Skipped (progress old)) done in
     record {
       judged = tt;
       goes = λ texts told at stands.
-          let on = reads_on (λ start rest next. Stands (Aborted next) start rest) old new m t at Elsewhere stands h.reading.is_open (x.open ∙ h.reading.is_open) h.read h.moves (keeps_on old new as x.opened h.in_hand) in
+          let on = reads_on (λ start rest next. Stands (Aborted next) start rest) old new m t at Elsewhere stands h.reading.is_open (x.is_open ∙ h.reading.is_open) h.read h.moves (keeps_on old new steady x.opened h.in_hand) in
           let reads = kept_at old new m.left at (λ (k : ℕ). ReadsOn at (λ start rest next. Stands (Aborted next) start rest) k on.point) stands x.kept on.goes in
-          let open = is_open old m.left at stands h.reading.is_open in
+          let there = is_open old m.left at stands h.reading.is_open in
           record {
             point = on.point;
-            goes = record { reads = reads; named = same_name at.stream reads.stream open.stream reads.is_open open.is ∙ sym open.named ∙ sym (name_as old new as.plan h.in_hand) };
+            goes = record { reads = reads; named = same_name at.stream reads.stream there.stream reads.is_open there.is ∙ sym there.named ∙ sym (name_as old new steady.plan h.in_hand) };
             stands = on.stands;
           };
       gains = still_gains p q h.output;

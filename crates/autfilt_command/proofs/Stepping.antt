@@ -44,11 +44,11 @@ pub record IsOpen (s : Session) (left : Option (List ℕ)) (p : Point) : Type 0 
   pub taken : s.lexer.taken ≡ p.before + s.lexer.since
 
 open_as : (s : Session) (left : Option (List ℕ)) (p : Point) (o : Option Stream) → p.stream ≡ o → IsIn o s left p.before → s.is_open ≡ true → IsOpen s left p
-open_as s left p None is h open = absurd (false≢true (sym h.0 ∙ open))
-open_as s left p (Some t) is h open = record { stream = t; is = is; told = h.1; named = h.2; since = h.3; taken = h.4 }
+open_as s left p None is h opened_so = absurd (false≢true (sym h.0 ∙ opened_so))
+open_as s left p (Some t) is h opened_so = record { stream = t; is = is; told = h.1; named = h.2; since = h.3; taken = h.4 }
 
 pub is_open : (s : Session) (left : Option (List ℕ)) (p : Point) → StandsAt s left p → s.is_open ≡ true → IsOpen s left p
-is_open s left p h open = open_as s left p p.stream refl h.stream open
+is_open s left p h opened_so = open_as s left p p.stream refl h.stream opened_so
 
 pub record IsClosed (s : Session) (p : Point) : Type 0 where
   pub is : p.stream ≡ None
@@ -91,16 +91,15 @@ taken_after : (since since' taken taken' before : ℕ) → taken ≡ before + si
 taken_after since since' taken taken' before a b = omega (arith, a, b)
 
 -- what was read of the open stream, and how far the lexer has come
-pub record ReadTo (R : ℕ → List ℕ → List ℕ → Type 0) (new : Session) (left : Option (List ℕ)) (p : Point) (kept : ℕ) : Type 0 where
-  pub stream : Stream
+pub record ReadTo (R : ℕ → List ℕ → List ℕ → Type 0) (new : Session) (left : Option (List ℕ)) (p : Point) (stream : Stream) (kept : ℕ) : Type 0 where
   pub next : List ℕ
   pub told : left ≡ Some next
   pub goes : ReadsOn p R kept (read_on p stream next kept)
   pub since : new.lexer.since + length next ≡ length stream.text
   pub taken : new.lexer.taken ≡ p.before + new.lexer.since
 
-pub read_to : (R : ℕ → List ℕ → List ℕ → Type 0) (kept : ℕ) (old new : Session) (s t : Seen) (p : Point) (stop : Stop) → IsOpen old s.left p → Between s.left t.left (R old.lexer.since) → Moves stop old.lexer new.lexer s t
-    → new.lexer.taken ≤ MOST_BYTES → ReadTo R new t.left p kept
+pub read_to : (R : ℕ → List ℕ → List ℕ → Type 0) (kept : ℕ) (old new : Session) (s t : Seen) (p : Point) (stop : Stop) → (at : IsOpen old s.left p) → Between s.left t.left (R old.lexer.since) → Moves stop old.lexer new.lexer s t
+    → new.lexer.taken ≤ MOST_BYTES → ReadTo R new t.left p at.stream kept
 read_to R kept old new s t p stop at read moves few =
     let stream = at.stream in
     let x = told s.left t.left stream.rest (R old.lexer.since) at.told read in
@@ -111,7 +110,6 @@ read_to R kept old new s t p stop at read moves few =
     let since = since_after old.lexer.since new.lexer.since old.lexer.taken new.lexer.taken (length stream.rest) (length x.now) (length stream.text) at.since counted moves.since in
     let taken = taken_after old.lexer.since new.lexer.since old.lexer.taken new.lexer.taken p.before at.taken moves.since in
     record {
-      stream = stream;
       next = x.now;
       told = x.told;
       goes = record {
@@ -128,8 +126,8 @@ read_to R kept old new s t p stop at read moves few =
 
 pub reads_on : (R : ℕ → List ℕ → List ℕ → Type 0) (old new : Session) (s t : Seen) (p : Point) (stop : Stop) → StandsAt old s.left p → old.is_open ≡ true → new.is_open ≡ true
     → Between s.left t.left (R old.lexer.since) → Moves stop old.lexer new.lexer s t → ReadsOnAs old new → GoesOn (λ q. ReadsOn p R new.kept q) new t.left
-reads_on R old new s t p stop stands open open' read moves keeps =
-    let at = is_open old s.left p stands open in
+reads_on R old new s t p stop stands opened_so opened_now read moves keeps =
+    let at = is_open old s.left p stands opened_so in
     let to = read_to R new.kept old new s t p stop at read moves keeps.few in
     record {
       point = read_on p at.stream to.next new.kept;
@@ -138,14 +136,14 @@ reads_on R old new s t p stop stands open open' read moves keeps =
           coming = stands.coming ∙ stands_as old new keeps.plan keeps.opened;
           kept = refl;
           left_is = sym to.told;
-          stream = (open', to.told, name_as old new keeps.plan keeps.tried ∙ at.named, to.since, to.taken);
+          stream = (opened_now, to.told, name_as old new keeps.plan keeps.tried ∙ at.named, to.since, to.taken);
       };
     }
 
 -- so many bytes were taken
 pub stream_counted : (old new : Session) (s t : Seen) (p : Point) (stop : Stop) → StandsAt old s.left p → old.is_open ≡ true → Moves stop old.lexer new.lexer s t → taken_of p t.left ≡ new.lexer.taken
-stream_counted old new s t p stop stands open moves =
-    let at = is_open old s.left p stands open in
+stream_counted old new s t p stop stands opened_so moves =
+    let at = is_open old s.left p stands opened_so in
     let stream = at.stream in
     let n = told s.left t.left stream.rest (λ a b. new.lexer.taken + length b ≡ old.lexer.taken + length a) at.told moves.taken in
     let since = since_after old.lexer.since new.lexer.since old.lexer.taken new.lexer.taken (length stream.rest) (length n.now) (length stream.text) at.since n.holds moves.since in
@@ -156,8 +154,8 @@ stream_counted old new s t p stop stands open moves =
 -- what stands at the rest of the open stream ends the run
 pub stops_at : (R : ℕ → List ℕ → List ℕ → Type 0) (plan : Plan) (old : Session) (s t : Seen) (p : Point) → StandsAt old s.left p → old.is_open ≡ true → asks_on plan p.kept ≡ true
     → Between s.left t.left (R old.lexer.since) → AtStream plan p t.left R
-stops_at R plan old s t p stands open asks read =
-    let at = is_open old s.left p stands open in
+stops_at R plan old s t p stands opened_so asks read =
+    let at = is_open old s.left p stands opened_so in
     let x = told s.left t.left at.stream.rest (R old.lexer.since) at.told read in
     record {
       asks = asks;
@@ -172,8 +170,8 @@ stops_at R plan old s t p stands open asks read =
 
 pub ends_stream : (old new : Session) (s t : Seen) (p : Point) → StandsAt old s.left p → old.is_open ≡ true → new.is_open ≡ false → new.kept ≡ old.kept
     → Between s.left t.left IsAllRead → Moves AtEnd old.lexer new.lexer s t → new.lexer.most ≡ MOST_BYTES → ReadsOnAs old new → GoesOn (λ q. EndsStream p q) new t.left
-ends_stream old new s t p stands open closed kept read moves most keeps =
-    let at = is_open old s.left p stands open in
+ends_stream old new s t p stands opened_so closed kept read moves most keeps =
+    let at = is_open old s.left p stands opened_so in
     let stream = at.stream in
     let x = told s.left t.left stream.rest IsAllRead at.told read in
     let n = told s.left t.left stream.rest (λ a b. new.lexer.taken + length b ≡ old.lexer.taken + length a) at.told moves.taken in
@@ -196,7 +194,7 @@ ends_stream old new s t p stands open closed kept read moves most keeps =
 
 -- ---- the next stream is opened
 
-rest_from : (names : List (List ℕ)) (k : ℕ) (name : List ℕ) → slice_get names k ≡ Some name → drop k names ≡ name ∷ drop (k + 1) names
+rest_from : (names : List (List ℕ)) (k : ℕ) (name : List ℕ) → slice_get names k ≡ Some name → drop k names ≡ name ∷ drop (suc k) names
 rest_from [] k name h = let none : None ≡ Some name = h in cc
 rest_from (x ∷ xs) zero name h = let same : Some x ≡ Some name = h in let first : x ≡ name = cc in ap (λ y. y ∷ xs) first
 rest_from (x ∷ xs) (suc k) name h = rest_from xs k name h
@@ -206,24 +204,27 @@ pub wants_stream : (plan : Plan) (old : Session) (left : Option (List ℕ)) (p :
 wants_stream plan old left p name stands opening asks = record {
   asks = asks;
   closed = (is_closed old left p stands opening.is_closed).is;
-  others = drop (old.opened + 1) (streams_of old.plan);
+  others = drop (suc old.opened) (streams_of old.plan);
   next = stands.coming ∙ rest_from (streams_of old.plan) old.opened name opening.named;
 }
 
+next_place : (k n : ℕ) → n ≡ k + 1 → suc k ≡ n
+next_place k n h = omega (arith, h)
+
 pub opens_stream : (texts : Texts) (old new : Session) (s t : Seen) (p : Point) (name : List ℕ) → s.texts ≡ Some texts → StandsAt old s.left p → IsOpening old name → Opens s name (Ok tt) t → Begins old new
     → name_at (streams_of new.plan) new.tried ≡ name → new.plan ≡ old.plan → new.opened ≡ old.opened + 1 → new.is_open ≡ true → new.kept ≡ old.kept → GoesOn (λ q. OpensStream texts name p q) new t.left
-opens_stream texts old new s t p name told_texts stands opening opens begins named plan opened open kept =
+opens_stream texts old new s t p name told_texts stands opening opens begins named plan opened opened_so kept =
     let at = is_closed old s.left p stands opening.is_closed in
-    let others = drop (old.opened + 1) (streams_of old.plan) in
+    let others = drop (suc old.opened) (streams_of old.plan) in
     let left : t.left ≡ Some (text_of texts name) = subst (λ (x : Option Texts). Opened x name t.left) told_texts opens.opened in
     let start : new.lexer.since ≡ 0 = begins.since in
     record {
       point = opened_at p others name (text_of texts name);
       goes = record { closed = at.is; others = others; next = stands.coming ∙ rest_from (streams_of old.plan) old.opened name opening.named; to = refl };
       stands = record {
-          coming = ap (λ (n : ℕ). drop n (streams_of old.plan)) (sym opened) ∙ ap (λ (x : Plan). drop new.opened (streams_of x)) (sym plan);
+          coming = ap (λ (n : ℕ). drop n (streams_of old.plan)) (next_place old.opened new.opened opened) ∙ ap (λ (x : Plan). drop new.opened (streams_of x)) (sym plan);
           kept = stands.kept ∙ sym kept;
           left_is = sym left;
-          stream = (open, left, named, omega (arith, start), omega (arith, start, begins.taken, at.taken));
+          stream = (opened_so, left, named, omega (arith, start), omega (arith, start, begins.taken, at.taken));
       };
     }

@@ -59,7 +59,10 @@ fn take_steps<I: Inputs, W: Sink, M: Sink>(
                 return note_end(notes, noting, session.name_in_hand(), end);
             }
             Ok(Turn::Skipped) => noting = note_skipped(notes, noting, session.name_in_hand()),
-            Ok(_) => {}
+            Ok(Turn::Opened) => {}
+            Ok(Turn::Kept) => {}
+            Ok(Turn::Dropped) => {}
+            Ok(Turn::StreamEnd) => {}
             Err(fault) => {
                 return note_end(notes, noting, session.name_in_hand(), End::Fault(fault));
             }

@@ -124,7 +124,7 @@ Goes texts Ended p q = EndsStream p q
 -- The events happen one after the other. Before each of them more automata are asked for.
 abbrev pub Happen : Plan → Texts → List Event → Point → Point → Type 0
 Happen plan texts [] p q = p ≡ q
-Happen plan texts (event ∷ events) p q = (asks_on plan p.kept ≡ true) × ((m : Point) × Goes texts event p m × Happen plan texts events m q)
+Happen plan texts (event ∷ events) p q = (asks_on plan p.kept ≡ true) × (m : Point) × Goes texts event p m × Happen plan texts events m q
 
 -- ---- what the events are, whatever the texts
 

@@ -1,5 +1,5 @@
 -- How far a run has come.
-use Rattle.std.specs.Prelude.{◌≡◌, ◌≢◌, ◌⊎◌, ℕ, ◌+◌, Bool, true, false, List, length, drop, Option, Some, None}
+use Rattle.std.specs.Prelude.{◌≡◌, ◌≢◌, ◌⊎◌, ℕ, ◌+◌, ◌++◌, Bool, true, false, List, length, drop, Option, Some, None}
 use Rattle.aut_base.specs.declared.limit.TheConstants.{MOST_BYTES}
 use Rattle.aut_io.specs.Outside.{Gains, GainsPrefix, Rose, Texts}
 use Rattle.aut_io.specs.Seen.{Seen, SinkSeen}
@@ -56,6 +56,11 @@ pub record HasRun (s : Session) (seen seen' : Seen) (out out' notes notes' : Sin
   pub tallied : tally events ≡ record { kept = s.kept; skipped = s.skipped }
   pub calm : AreCalm seen seen' out out'
   pub texts : seen'.texts ≡ seen.texts
+
+-- how many streams are open
+abbrev pub open_count : Bool → ℕ
+open_count true = 1
+open_count false = 0
 
 -- What a loop over steps keeps.
 pub record IsRunning (plan : Plan) (s : Session) (seen seen' : Seen) (out out' notes notes' : SinkSeen) (noting : Bool) : Type 0 where

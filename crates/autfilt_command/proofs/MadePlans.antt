@@ -1,0 +1,18 @@
+-- How many automata are made.
+use Rattle.std.proofs.Common.{◌≡◌, ℕ, ◌≤◌, List, [], ◌∷◌, Option, Some, None, subst}
+use Rattle.filter_plan.proofs.TableParts.{parts_of_table}
+use Rattle.filter_plan.specs.Numbers.{IsMadeCount}
+use Rattle.filter_plan.specs.Table.{Reads}
+use Rattle.filter_plan.specs.Words.{IsPlan}
+use Rattle.filter_plan.specs.declared.plan.Plan.{Plan}
+
+read_of : (values : List (List ℕ)) (n : ℕ) → Reads IsMadeCount values (Some n) → (1 ≤ n) × (n ≤ 10000)
+read_of [] n h = absurd h
+read_of (value ∷ []) n h = (h.1, h.2)
+read_of (value ∷ other ∷ values) n h = absurd h
+
+read_as : (values : List (List ℕ)) (o : Option ℕ) (n : ℕ) → Reads IsMadeCount values o → o ≡ Some n → (1 ≤ n) × (n ≤ 10000)
+read_as values o n h is = read_of values n (subst (λ (x : Option ℕ). Reads IsMadeCount values x) is h)
+
+pub made_within : (words : List (List ℕ)) (p : Plan) (n : ℕ) → IsPlan words p → p.made ≡ Some n → (1 ≤ n) × (n ≤ 10000)
+made_within words p n plan is = read_as _ p.made n (parts_of_table _ p plan.options).made is
