@@ -10,7 +10,7 @@ use row::Row;
 use row_files::{Count, Fault, Rows, Stop, read_files};
 
 /// The files of rows, in the folder where the program runs.
-const FILES: [&str; 8] = [
+const FILES: [&str; 13] = [
     "examples.rows",
     "printed.rows",
     "ends.rows",
@@ -19,6 +19,11 @@ const FILES: [&str; 8] = [
     "limits.rows",
     "faults.rows",
     "words.rows",
+    "streams.rows",
+    "counts.rows",
+    "figures.rows",
+    "made.rows",
+    "large.rows",
 ];
 
 /// The row that is being read, and how many there were before it.
