@@ -1,6 +1,5 @@
 -- Flags that are exact are determined, and so is what is made by them.
 use Rattle.std.proofs.Common.{◌≡◌, ◌∙◌, ◌↔◌, ◌<◌, ℕ, zero, suc, Bool, true, false, IsTrue, List, [], ◌∷◌, ap, arith, length, refl, sym}
-use Rattle.aut_base.specs.Automaton.{Automaton}
 use Rattle.aut_ops.specs.Laws.{PrunedIsDetermined, TrimmedIsDetermined}
 use Rattle.aut_ops.specs.Passable.{between, is_flagged}
 use Rattle.aut_ops.specs.Trimming.{renumbered}

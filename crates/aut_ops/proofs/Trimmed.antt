@@ -1,7 +1,6 @@
 -- What holds of a trimmed automaton.
-use Rattle.std.proofs.Common.{◌≡◌, ◌∙◌, ◌<◌, ◌&&◌, ℕ, zero, suc, Bool, true, false, IsTrue, List, [], ◌∷◌, Contains, ap, arith, get_or, length, refl, sym}
-use Rattle.std.proofs.lemmas.Bool.{and_parts, false≢true}
-use Rattle.aut_base.specs.Acceptance.{Accepts}
+use Rattle.std.proofs.Common.{◌≡◌, ◌&&◌, ℕ, Bool, true, List, Contains, length}
+use Rattle.std.proofs.lemmas.Bool.{and_parts}
 use Rattle.aut_base.specs.Automaton.{Automaton, IsWellFormed, TreeEdge}
 use Rattle.aut_core.specs.OtherNames.{AcceptTheSame}
 use Rattle.aut_ops.proofs.Between.{between_accepts, between_formed}

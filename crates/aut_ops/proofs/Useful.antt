@@ -1,5 +1,5 @@
 -- Which states are useful, as the searches find them, and the language of a pruned automaton.
-use Rattle.std.proofs.Common.{◌≡◌, ◌∙◌, ◌<◌, ◌&&◌, ◌||◌, ℕ, Bool, true, false, IsTrue, List, [], ◌∷◌, All, Contains, ap, arith, filter, get_or, inl, inr, length, map, nat_eq, refl, subst, sym}
+use Rattle.std.proofs.Common.{◌≡◌, ◌∙◌, ◌<◌, ◌&&◌, ◌||◌, ℕ, Bool, true, false, IsTrue, List, [], ◌∷◌, All, Contains, ap, arith, filter, inl, inr, length, map, nat_eq, refl, subst, sym}
 use Rattle.std.proofs.lemmas.Bool.{and_from, and_parts, cases_Bool, eq-eqb, eqb-true, false≢true}
 use Rattle.std.proofs.lemmas.List.{length-map}
 use Rattle.std.proofs.lemmas.List.Elements.{All-contains, All-map, All-weaker}
@@ -7,7 +7,7 @@ use Rattle.std.proofs.lemmas.List.FromFn.{get_or-map-range_with_len, length-rang
 use Rattle.std.specs.List.{list_any, range_with_len}
 use Rattle.aut_base.specs.Acceptance.{Accepts, IsPath}
 use Rattle.aut_base.specs.Automaton.{Automaton, IsWellFormed, TreeEdge}
-use Rattle.aut_base.specs.Formula.{FormulaTree, Inf, met}
+use Rattle.aut_base.specs.Formula.{Inf, met}
 use Rattle.aut_base.specs.Marks.{is_in}
 use Rattle.aut_base.specs.Word.{NameSet, copies}
 use Rattle.aut_core.specs.Core.{Core, IsCore, IsLinkOf, automaton_of, edge_of}

@@ -41,11 +41,7 @@ pub(crate) fn passable_graph(alloc: Global, a: &Automaton) -> Result<Graph, Memo
 }
 
 /// Copies of the links whose label isn't false and whose ends are both flagged.
-pub(crate) fn links_between(
-    alloc: Global,
-    a: &Automaton,
-    flags: &[bool],
-) -> Result<Links, Memory>
+pub(crate) fn links_between(alloc: Global, a: &Automaton, flags: &[bool]) -> Result<Links, Memory>
     requires { length flags.now ≡ a.now.states }
     ensures { IfOk result (λ links. links ≡ filter (link_stays a.now flags.now) a.now.links) }
 {

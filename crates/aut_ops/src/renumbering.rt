@@ -42,11 +42,7 @@ pub(crate) fn number_flagged(
 }
 
 /// The new numbers of these states.
-pub(crate) fn renumbered(
-    alloc: Global,
-    ranks: &Numbers,
-    states: &[u32],
-) -> Result<Numbers, Memory>
+pub(crate) fn renumbered(alloc: Global, ranks: &Numbers, states: &[u32]) -> Result<Numbers, Memory>
     requires { All (λ p. p < length ranks.now) states.now }
     ensures { IfOk result (λ new. new ≡ map (new_number ranks.now) states.now) }
 {

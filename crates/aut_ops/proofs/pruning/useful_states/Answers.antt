@@ -6,7 +6,6 @@ use Rattle.aut_core.specs.declared.link.Link.{Link}
 use Rattle.aut_ops.proofs.Alone.{links_from_states}
 use Rattle.aut_ops.proofs.Between.{graph_nodes, graph_reached}
 use Rattle.aut_ops.proofs.Useful.{found_useful, turned_nodes}
-use Rattle.aut_ops.specs.Passable.{passable_arcs}
 use Rattle.aut_ops.specs.inner.Renumbering.{both_flagged, link_closes, turned_arc}
 use Rattle.graph_walk.specs.Components.{AreComponents}
 use Rattle.graph_walk.specs.Reach.{AreReached}
