@@ -1,4 +1,6 @@
 pub mod AllPairsOf
+pub mod Alone
+pub mod Between
 pub mod BreadthFirst
 pub mod BroughtLinks
 pub mod CompleteRuns
@@ -8,6 +10,7 @@ pub mod CycleMarks
 pub mod Explorations
 pub mod Faults
 pub mod FilledStates
+pub mod FlagLaws
 pub mod FormulaSets
 pub mod JointEdges
 pub mod Labels
@@ -25,9 +28,14 @@ pub mod Places
 pub mod ProductFormed
 pub mod ProductLanguages
 pub mod ProductRuns
+pub mod RangeSteps
+pub mod Ranks
+pub mod Renumbered
 pub mod Rows
 pub mod Simulations
 pub mod SinkRuns
 pub mod SinkStates
 pub mod SumLinks
 pub mod SumRuns
+pub mod Trimmed
+pub mod Useful

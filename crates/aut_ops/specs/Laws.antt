@@ -1,4 +1,4 @@
--- What holds of the pairs of a product.
+-- What holds of the pairs of a product, and of automata with some of their states alone.
 use Rattle.std.specs.Prelude.{◌≡◌, ◌≢◌, ◌↔◌, ℕ, ◌≤◌, List, AllPairs, Contains}
 use Rattle.aut_base.specs.Acceptance.{IsPath}
 use Rattle.aut_base.specs.Automaton.{Automaton, IsWellFormed, TreeEdge}
@@ -6,6 +6,8 @@ use Rattle.aut_base.specs.Formula.{FormulaTree}
 use Rattle.aut_base.specs.Word.{NameSet}
 use Rattle.aut_ops.specs.BreadthFirst.{IsReached}
 use Rattle.aut_ops.specs.Products.{ArePairs, HasMorePairs, IsProduct, next_pairs, start_pairs}
+use Rattle.aut_ops.specs.Pruning.{IsPruned}
+use Rattle.aut_ops.specs.Trimming.{IsTrimmed}
 
 -- Two automata have one list of pairs. Its pairs differ, and are just those that are reached.
 pub record PairsLaw (a b : Automaton) (pairs : List (ℕ × ℕ)) : Type 0 where
@@ -39,3 +41,11 @@ pub record AreLedTo (a b : Automaton) (pair : ℕ × ℕ) : Type 0 where
 -- The pairs that are reached are those to which one list of letters leads in both automata.
 abbrev pub ReachedByLetters : Type 0
 ReachedByLetters = (a b : Automaton) → b.names ≡ a.names → IsWellFormed a → IsWellFormed b → (pair : ℕ × ℕ) → IsReached (start_pairs a b) (next_pairs a b) pair ↔ AreLedTo a b pair
+
+-- An automaton has one trimmed one.
+abbrev pub TrimmedIsDetermined : Type 0
+TrimmedIsDetermined = (a made other : Automaton) → IsTrimmed a made → IsTrimmed a other → made ≡ other
+
+-- An automaton has one pruned one.
+abbrev pub PrunedIsDetermined : Type 0
+PrunedIsDetermined = (a made other : Automaton) → IsPruned a made → IsPruned a other → made ≡ other

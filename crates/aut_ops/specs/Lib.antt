@@ -3,6 +3,9 @@ pub mod Completion
 pub mod Labels
 pub mod Languages
 pub mod Laws
+pub mod Passable
 pub mod Products
+pub mod Pruning
 pub mod Sums
+pub mod Trimming
 pub mod inner

@@ -17,7 +17,7 @@ pub(crate) fn copy_numbers(numbers: &Numbers) -> Result<Numbers, Memory>
     Ok(numbers.clone()?)
 }
 
-fn copy_link(link: &Link) -> Result<Link, Memory>
+pub(crate) fn copy_link(link: &Link) -> Result<Link, Memory>
     ensures { IfOk result (λ copy. copy ≡ link.now) }
 {
     Ok(link.clone()?)

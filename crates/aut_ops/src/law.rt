@@ -1,6 +1,6 @@
-//! What holds of the pairs of a product.
+//! What holds of the pairs of a product, and of automata with some of their states alone.
 
-ghost use Rattle.aut_ops.specs.Laws.{FewPairsExcludeMore, PairsAreDetermined, ProductsAreDetermined, ReachedByLetters};
+ghost use Rattle.aut_ops.specs.Laws.{FewPairsExcludeMore, PairsAreDetermined, ProductsAreDetermined, PrunedIsDetermined, ReachedByLetters, TrimmedIsDetermined};
 
 /// Two automata have one list of pairs, which are just those that are reached.
 pub fn pairs_are_determined()
@@ -20,4 +20,14 @@ pub fn few_pairs_exclude_more()
 /// The pairs that are reached are those to which one list of letters leads in both automata.
 pub fn reached_by_letters()
     ensures { ReachedByLetters }
+{}
+
+/// An automaton has one trimmed one.
+pub fn trimmed_is_determined()
+    ensures { TrimmedIsDetermined }
+{}
+
+/// An automaton has one pruned one.
+pub fn pruned_is_determined()
+    ensures { PrunedIsDetermined }
 {}

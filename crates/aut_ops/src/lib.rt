@@ -1,4 +1,4 @@
-//! Automata made of automata: complete ones, sums and products.
+//! Automata made of automata: complete ones, sums and products, and automata with some of their states alone.
 #![tactic(auto)]
 
 mod completion;
@@ -10,15 +10,22 @@ mod joint_marks;
 mod law;
 mod limit;
 mod pairing;
+mod passable;
 mod products;
+mod pruning;
+mod renumbering;
 mod shared;
 mod sums;
+mod trimming;
 
 pub use completion::complete;
 pub use fault::PairFault;
 pub use law::{
-    few_pairs_exclude_more, pairs_are_determined, products_are_determined, reached_by_letters,
+    few_pairs_exclude_more, pairs_are_determined, products_are_determined, pruned_is_determined,
+    reached_by_letters, trimmed_is_determined,
 };
 pub use limit::MOST_PAIRS;
 pub use products::{product, product_or};
+pub use pruning::prune;
 pub use sums::sum;
+pub use trimming::trim;

@@ -1,0 +1,5 @@
+use Rattle.aut_ops.proofs.FlagLaws as laws
+use Rattle.aut_ops.proofs.law.trimmed_is_determined.Goals as goal
+
+pub returns : goal.returns
+returns c = laws.trimmed_is_determined

@@ -1,0 +1,86 @@
+//! The links whose label isn't false, and those of them between flagged states.
+
+ghost use Rattle.std.specs.Prelude.{◌≡◌, ◌<◌, All, IfOk, filter, length};
+ghost use Rattle.aut_core.specs.Core.{automaton_of};
+ghost use Rattle.aut_ops.specs.Passable.{is_flagged, passable_arcs};
+ghost use Rattle.aut_ops.specs.inner.Renumbering.{link_passable, link_stays};
+ghost use Rattle.label_guards.specs.Store.{Has};
+
+use crate::copies::copy_link;
+use aut_base::{Arcs, Memory, Numbers};
+use aut_core::{Automaton, Link, Links};
+use graph_walk::Graph;
+use std::alloc::Global;
+
+/// Whether the label of the link isn't false.
+pub(crate) fn is_passable(a: &Automaton, link: &Link) -> bool
+    requires { Has a.now.store link.now.guard }
+    ensures { result ≡ link_passable a.now link.now }
+{
+    a.whole();
+    !a.guards().is_false(link.guard)
+}
+
+/// The graph of the links whose label isn't false.
+pub(crate) fn passable_graph(alloc: Global, a: &Automaton) -> Result<Graph, Memory>
+    ensures nodes { IfOk result (λ graph. graph.nodes ≡ a.now.states) }
+    ensures arcs { IfOk result (λ graph. graph.arcs ≡ passable_arcs (automaton_of a.now)) }
+{
+    a.whole();
+    let mut arcs = Arcs::new(alloc);
+    'links: for link in a.links() {
+        if !is_passable(a, link) {
+            continue;
+        }
+        arcs.push((link.from, link.to))?;
+    }
+    Ok(Graph {
+        nodes: a.states(),
+        arcs,
+    })
+}
+
+/// Copies of the links whose label isn't false and whose ends are both flagged.
+pub(crate) fn links_between(alloc: Global, a: &Automaton, flags: &[bool]) -> Result<Links, Memory>
+    requires { length flags.now ≡ a.now.states }
+    ensures { IfOk result (λ links. links ≡ filter (link_stays a.now flags.now) a.now.links) }
+{
+    a.whole();
+    let mut links = Links::new(alloc);
+    'links: for link in a.links() {
+        if !stays(a, link, flags) {
+            continue;
+        }
+        links.push(copy_link(link)?)?;
+    }
+    Ok(links)
+}
+
+/// Whether the label of the link isn't false and both of its ends are flagged.
+fn stays(a: &Automaton, link: &Link, flags: &[bool]) -> bool
+    requires guard { Has a.now.store link.now.guard }
+    requires from { link.now.from < length flags.now }
+    requires to { link.now.to < length flags.now }
+    ensures { result ≡ link_stays a.now flags.now link.now }
+{
+    is_passable(a, link) && flags[link.from as usize] && flags[link.to as usize]
+}
+
+/// The starts that are flagged, in order.
+pub(crate) fn flagged_starts(
+    alloc: Global,
+    starts: &[u32],
+    flags: &[bool],
+) -> Result<Numbers, Memory>
+    requires { All (λ p. p < length flags.now) starts.now }
+    ensures { IfOk result (λ new. new ≡ filter (is_flagged flags.now) starts.now) }
+{
+    let mut new = Numbers::new(alloc);
+    'starts: for start in starts {
+        if !flags[*start as usize] {
+            continue;
+        }
+        new.push(*start)?;
+    }
+    Ok(new)
+}
