@@ -2,6 +2,7 @@ pub mod Built
 pub mod Due
 pub mod Events
 pub mod Faults
+pub mod Figures
 pub mod Filters
 pub mod Made
 pub mod MadeExamples

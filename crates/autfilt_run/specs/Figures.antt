@@ -1,0 +1,43 @@
+-- The line of figures of an automaton.
+use Rattle.std.specs.Prelude.{◌≡◌, ◌⊎◌, ℕ, List, [], ◌∷◌, ◌++◌, length, codes}
+use Rattle.std.specs.Fmt.{decimal}
+use Rattle.aut_base.specs.Automaton.{Automaton}
+use Rattle.aut_base.specs.declared.letter.Lasso.{Lasso}
+use Rattle.aut_ops.specs.Trimming.{IsTrimmed}
+use Rattle.filter_plan.specs.declared.format.Piece.{Piece}
+use Rattle.filter_plan.specs.declared.format.Piece.TheVariants.{Byte, States, Edges, Sets, Word}
+use Rattle.lasso_emptiness.specs.Emptiness.{AcceptsNothing, IsAcceptedWord}
+use Rattle.word_syntax.specs.Printing.{word_text}
+
+-- the automaton with its reached states alone, and a figure of it
+pub record ShowsReached (figure : Automaton → ℕ) (a : Automaton) (text : List ℕ) : Type 0 where
+  pub trimmed : Automaton
+  pub is_trimmed : IsTrimmed a trimmed
+  pub shown : text ≡ decimal (figure trimmed)
+
+-- a reduced word that the automaton accepts, over its names
+pub record ShowsWord (a : Automaton) (text : List ℕ) : Type 0 where
+  pub word : Lasso
+  pub accepted : IsAcceptedWord a word
+  pub shown : text ≡ word_text a.names word.stem word.cycle
+
+-- What stands for a piece of the format. A word is shown, and where none is accepted nothing is.
+abbrev pub IsShownAs : Piece → Automaton → List ℕ → Type 0
+IsShownAs (Byte b) a text = text ≡ b ∷ []
+IsShownAs States a text = ShowsReached (λ t. t.states) a text
+IsShownAs Edges a text = ShowsReached (λ t. length t.edges) a text
+IsShownAs Sets a text = text ≡ decimal a.sets
+IsShownAs Word a text = ShowsWord a text ⊎ (AcceptsNothing a × (text ≡ []))
+
+-- what stands for a piece, and then for those behind it
+pub record IsFollowed (P Q : List ℕ → Type 0) (text : List ℕ) : Type 0 where
+  pub front : List ℕ
+  pub rest : List ℕ
+  pub all : text ≡ front ++ rest
+  pub first : P front
+  pub behind : Q rest
+
+-- The pieces one after the other, and a line feed.
+abbrev pub IsLine : List Piece → Automaton → List ℕ → Type 0
+IsLine [] a text = text ≡ codes "\n"
+IsLine (piece ∷ pieces) a text = IsFollowed (IsShownAs piece a) (IsLine pieces a) text
