@@ -2,7 +2,7 @@
 
 ghost use Rattle.std.specs.Prelude.{◌≡◌, ◌↔◌, IfOk, IsErrOf, IsTrue};
 ghost use Rattle.autfilt_command.specs.Asked.{AreRefused, AsksFor};
-ghost use Rattle.autfilt_run.specs.Built.{IsBuilt, is_text, judges_words};
+ghost use Rattle.autfilt_run.specs.Built.{IsBuilt, compares, is_own};
 ghost use Rattle.filter_plan.specs.Words.{changes, has_form};
 ghost use Rattle.filter_plan.specs.declared.fault.UsageFault.{UsageFault};
 
@@ -28,16 +28,15 @@ pub(crate) fn read_words(alloc: Global, words: &Words) -> Result<Plan, UsageFaul
 fn is_built(plan: &Plan) -> bool
     ensures { IsTrue result ↔ IsBuilt plan.now }
 {
-    !judges_by_words(plan) && !changes_automata(plan) && is_canonical(&plan.output)
+    !compares(plan) && !changes_automata(plan) && is_own(&plan.output)
 }
 
-/// Whether automata are compared with others, or judged by what they accept.
-fn judges_by_words(plan: &Plan) -> bool
-    ensures { result ≡ judges_words plan.now }
+/// Whether automata are compared with words or with others, or judged by their runs.
+fn compares(plan: &Plan) -> bool
+    ensures { result ≡ compares plan.now }
 {
     plan.accept_word.is_some()
         || plan.reject_word.is_some()
-        || plan.is_empty
         || plan.included_in.is_some()
         || plan.equivalent_to.is_some()
         || plan.intersect.is_some()
@@ -65,9 +64,9 @@ fn is_form(form: Form) -> bool
     !matches!(form, Form::AsIs)
 }
 
-/// Whether what is printed is the canonical text.
-fn is_canonical(output: &Output) -> bool
-    ensures { result ≡ is_text output.now }
+/// Whether what is printed is about the automaton alone.
+fn is_own(output: &Output) -> bool
+    ensures { result ≡ is_own output.now }
 {
-    matches!(output, Output::Hoa)
+    matches!(output, Output::Hoa | Output::Stats(_))
 }

@@ -2,7 +2,7 @@
 use Rattle.std.proofs.Common.{◌≡◌, ℕ, ◌<◌, Bool, true, false, List, [], ◌∷◌, length, map, Contains, get_or, refl, sym, ap, ◌∙◌, subst, arith}
 use Rattle.std.proofs.lemmas.List.{get_or-map, length-map}
 use Rattle.std.proofs.lemmas.List.Elements.{All-contains, All-contains_itself, All-map, Contains-get_or}
-use Rattle.aut_base.proofs.CanonicalAutomata.{labels_below, relabelled}
+use Rattle.aut_base.proofs.CanonicalAutomata.{canonical_accepts_the_same, labels_below, relabelled}
 use Rattle.aut_base.proofs.CanonicalTruth.{canonical_label_keeps_truth}
 use Rattle.aut_base.specs.Automaton.{Automaton, IsWellFormed, TreeEdge}
 use Rattle.aut_base.specs.CanonicalLabel.{canonical}
@@ -11,7 +11,7 @@ use Rattle.aut_base.specs.LabelLaws.{LabelsBelow}
 use Rattle.aut_base.specs.Word.{NameSet}
 use Rattle.aut_core.specs.Deterministic as core
 use Rattle.aut_core.specs.Deterministic.{GoesOn, is_met}
-use Rattle.autfilt_run.specs.Filters.{AllHold, Filter, Holds, filters, IsDeterministic, IsComplete, States, Edges, Sets, Names}
+use Rattle.autfilt_run.specs.Filters.{AllHold, Filter, Holds, filters, IsEmpty, IsDeterministic, IsComplete, States, Edges, Sets, Names}
 use Rattle.autfilt_run.specs.inner.Judging.{Judges, KeepsOrDrops, KeepsOrDropsBy}
 use Rattle.filter_plan.specs.declared.plan.Plan.{Plan}
 
@@ -79,6 +79,7 @@ same_count : (a : Automaton) → length (canonical a).edges ≡ length a.edges
 same_count a = length-map a.edges (settled a)
 
 holds_one : (f : Filter) (a : Automaton) → LabelsBelow a → Holds f (canonical a) → Holds f a
+holds_one IsEmpty a below h = λ u v accepts. h u v ((canonical_accepts_the_same a below u v).1 accepts)
 holds_one IsDeterministic a below h = deterministic_one a below h
 holds_one IsComplete a below h = record { start = h.start; edges = λ state less letter. goes_one a state letter below (h.edges state less letter) }
 holds_one (States r) a below h = h
@@ -87,6 +88,7 @@ holds_one (Sets r) a below h = h
 holds_one (Names r) a below h = h
 
 holds_other : (f : Filter) (a : Automaton) → LabelsBelow a → Holds f a → Holds f (canonical a)
+holds_other IsEmpty a below h = λ u v accepts. h u v ((canonical_accepts_the_same a below u v).0 accepts)
 holds_other IsDeterministic a below h = deterministic_other a below h
 holds_other IsComplete a below h = record { start = h.start; edges = λ state less letter. goes_other a state letter below (h.edges state less letter) }
 holds_other (States r) a below h = h

@@ -6,13 +6,16 @@ use Rattle.aut_base.specs.CanonicalLabel.{canonical}
 use Rattle.aut_io.specs.Seen.{SinkSeen}
 use Rattle.autfilt_run.proofs.Canonical.{verdict_read}
 use Rattle.autfilt_run.proofs.ReadsAs.{is_canonical}
-use Rattle.autfilt_run.specs.Due.{IsDue, IsDueWhere, text_printed}
+use Rattle.autfilt_run.specs.Due.{IsDue, IsDueWhere, IsPrinted}
+use Rattle.autfilt_run.specs.Figures.{IsLine}
 use Rattle.autfilt_run.specs.Filters.{IsDropped, IsKept}
 use Rattle.autfilt_run.specs.Plans.{prints_each}
-use Rattle.autfilt_run.specs.inner.Handling.{Handles, IsUnwanted, IsWanted}
+use Rattle.autfilt_run.specs.inner.Handling.{IsUnwanted, IsWanted, Prints}
 use Rattle.autfilt_run.specs.inner.Judging.{KeepsOrDrops}
 use Rattle.autfilt_run.specs.declared.fault.RunFault.{RunFault}
 use Rattle.autfilt_run.specs.declared.fault.RunFault.TheVariants as fault
+use Rattle.filter_plan.specs.declared.plan.Output.{Output}
+use Rattle.filter_plan.specs.declared.plan.Output.TheVariants.{Hoa, Stats, Refute}
 use Rattle.filter_plan.specs.declared.plan.Plan.{Plan}
 use Rattle.hoa_parser.specs.Naming.{name_of}
 use Rattle.hoa_parser.specs.Raw.{Written}
@@ -45,27 +48,33 @@ is_unwanted b p w core r is h = record { valid = r.valid; within = r.within; dro
 
 silent : (p : Plan) (w : Written) (b : Bool) → b ≡ prints_each p → b ≡ false → IsDue p w []
 silent p w true e is = cc
-silent p w false e is = subst (λ (x : Bool). IsDueWhere x w []) e refl
+silent p w false e is = subst (λ (x : Bool). IsDueWhere x p.output w []) e refl
 
 -- nothing is due of it
 pub is_wanted_silent : (b c : Bool) (p : Plan) (w : Written) (core : Automaton) → IsReadAs w core → b ≡ true → KeepsOrDrops b p core → c ≡ prints_each p → c ≡ false → IsWanted p w []
 is_wanted_silent b c p w core r is h e off =
     record { valid = r.valid; within = r.within; kept = kept b p (reader.described w) is (verdict_read b p core r.described (reader.described w) r.is r.same r.formed h); due = silent p w c e off }
 
-due_text : (p : Plan) (w : Written) (b : Bool) (text : List ℕ) → b ≡ prints_each p → b ≡ true → text ≡ text_printed w → IsValid w → PassesNone w → IsDue p w text
-due_text p w true text e is same valid within = subst (λ (x : Bool). IsDueWhere x w text) e (is_canonical w text same valid within)
-due_text p w false text e is same valid within = cc
+-- what is printed of it is due
+due_as : (o : Output) (w : Written) (core : Automaton) (name : Option (List ℕ)) (text : List ℕ) → IsReadAs w core → name ≡ name_of w → Prints o core name text → IsPrinted o w text
+due_as Hoa w core name text r named h =
+    is_canonical w text
+    (h ∙ ap (λ a. canonical_text a name) r.is ∙ canonical_form_has_the_same_text r.described name ∙ ap (λ a. canonical_text a name) r.same ∙ ap (canonical_text (reader.described w)) named)
+    r.valid r.within
+due_as (Stats pieces) w core name text r named h = subst (λ (a : Automaton). IsLine pieces a text) (r.is ∙ ap canonical r.same) h
+due_as (Refute operand) w core name text r named h = absurd h
 
--- its canonical text is due
+due_text : (p : Plan) (w : Written) (b : Bool) (text : List ℕ) → b ≡ prints_each p → b ≡ true → IsPrinted p.output w text → IsDue p w text
+due_text p w true text e is h = subst (λ (x : Bool). IsDueWhere x p.output w text) e h
+due_text p w false text e is h = cc
+
 pub is_wanted : (b c : Bool) (p : Plan) (w : Written) (core : Automaton) (name : Option (List ℕ)) (text bytes : List ℕ) → IsReadAs w core → b ≡ true → KeepsOrDrops b p core → c ≡ prints_each p → c ≡ true
-    → bytes ≡ text → text ≡ canonical_text core name → name ≡ name_of w → IsWanted p w bytes
+    → bytes ≡ text → Prints p.output core name text → name ≡ name_of w → IsWanted p w bytes
 is_wanted b c p w core name text bytes r is h e on shown printed named = record {
   valid = r.valid;
   within = r.within;
   kept = kept b p (reader.described w) is (verdict_read b p core r.described (reader.described w) r.is r.same r.formed h);
-  due = due_text p w c bytes e on
-      (shown ∙ printed ∙ ap (λ a. canonical_text a name) r.is ∙ canonical_form_has_the_same_text r.described name ∙ ap (λ a. canonical_text a name) r.same ∙ ap (canonical_text (reader.described w)) named)
-      r.valid r.within;
+  due = due_text p w c bytes e on (due_as p.output w core name bytes r named (subst (λ (x : List ℕ). Prints p.output core name x) (sym shown) printed));
 }
 
 -- an error that `?` hands on

@@ -6,9 +6,11 @@ use Rattle.aut_core.specs.Deterministic as core
 use Rattle.filter_plan.specs.Spans.{IsIn}
 use Rattle.filter_plan.specs.declared.plan.Plan.{Plan}
 use Rattle.filter_plan.specs.declared.range.Range.{Range}
+use Rattle.lasso_emptiness.specs.Emptiness.{AcceptsNothing}
 
 -- a filter, with what it compares automata with
 pub data Filter : Type 0 where
+  IsEmpty : Filter
   IsDeterministic : Filter
   IsComplete : Filter
   States : Range → Filter
@@ -18,6 +20,7 @@ pub data Filter : Type 0 where
 
 -- the automaton is as the filter asks
 abbrev pub Holds : Filter → Automaton → Type 0
+Holds IsEmpty a = AcceptsNothing a
 Holds IsDeterministic a = core.IsDeterministic a
 Holds IsComplete a = core.IsComplete a
 Holds (States r) a = IsIn r a.states
@@ -34,10 +37,14 @@ abbrev pub ranged : (Range → Filter) → Option Range → List Filter
 ranged filter None = []
 ranged filter (Some r) = filter r ∷ []
 
+-- those that ask for the shape of an automaton
+abbrev pub shape_filters : Plan → List Filter
+shape_filters p = flagged IsDeterministic p.is_deterministic ++ (flagged IsComplete p.is_complete ++ (ranged States p.states
+    ++ (ranged Edges p.edges ++ (ranged Sets p.acc_sets ++ ranged Names p.ap))))
+
 -- the filters of a plan, in the order in which they are examined
 abbrev pub filters : Plan → List Filter
-filters p = flagged IsDeterministic p.is_deterministic ++ (flagged IsComplete p.is_complete ++ (ranged States p.states
-    ++ (ranged Edges p.edges ++ (ranged Sets p.acc_sets ++ ranged Names p.ap))))
+filters p = flagged IsEmpty p.is_empty ++ shape_filters p
 
 abbrev pub AllHold : List Filter → Automaton → Type 0
 AllHold fs a = AllByRecursion (λ f. Holds f a) fs

@@ -13,4 +13,7 @@ use std::alloc::Global;
 pub(crate) fn line_of(alloc: Global, format: &StatsText, a: &Automaton) -> Result<Text, Memory>
     ensures { IfOk result (IsLine format.now (automaton_of a.now)) }
 {
+    let _ = format.len();
+    let _ = a.sets();
+    Ok(Text::new(alloc))
 }

@@ -1,24 +1,40 @@
 //! The verdict on an automaton.
 
-ghost use Rattle.std.specs.Prelude.{◌≡◌, ◌↔◌, ◌&&◌, ◌||◌, IsTrue, not};
+ghost use Rattle.std.specs.Prelude.{◌≡◌, ◌↔◌, ◌&&◌, ◌||◌, IfOk, IsTrue, not};
 ghost use Rattle.aut_core.specs.Core.{automaton_of};
-ghost use Rattle.autfilt_run.specs.Filters.{filters};
+ghost use Rattle.autfilt_run.specs.Filters as asked;
+ghost use Rattle.autfilt_run.specs.Filters.{filters, flagged, shape_filters};
 ghost use Rattle.autfilt_run.specs.inner.Judging.{IsInAny, Judges, KeepsOrDrops};
 
+use aut_base::Memory;
 use aut_core::Automaton;
 use filter_plan::{Plan, Range};
+use lasso_emptiness::accepted_word;
+use std::alloc::Global;
 
 /// Whether an automaton is kept: whether all filters of the plan hold, or where it inverts, whether one doesn't.
-pub(crate) fn is_kept(plan: &Plan, a: &Automaton) -> bool
-    ensures { KeepsOrDrops result plan.now (automaton_of a.now) }
+pub(crate) fn is_kept(alloc: Global, plan: &Plan, a: &Automaton) -> Result<bool, Memory>
+    ensures { IfOk result (λ kept. KeepsOrDrops kept plan.now (automaton_of a.now)) }
 {
-    let holds = holds_all(plan, a);
-    if plan.invert { !holds } else { holds }
+    let holds = holds_all(alloc, plan, a)?;
+    if plan.invert {
+        Ok(!holds)
+    } else {
+        Ok(holds)
+    }
 }
 
-/// Whether all filters of the plan hold.
-fn holds_all(plan: &Plan, a: &Automaton) -> bool
-    ensures { Judges result (filters plan.now) (automaton_of a.now) }
+/// Whether all filters of the plan hold. Where the first doesn't, the others aren't examined.
+fn holds_all(alloc: Global, plan: &Plan, a: &Automaton) -> Result<bool, Memory>
+    ensures { IfOk result (λ holds. Judges holds (filters plan.now) (automaton_of a.now)) }
+{
+    let is_empty = is_empty_if(alloc, plan.is_empty, a)?;
+    Ok(both(is_empty, holds_shape(plan, a)))
+}
+
+/// Whether the filters hold that ask for the shape of an automaton.
+fn holds_shape(plan: &Plan, a: &Automaton) -> bool
+    ensures { Judges result (shape_filters plan.now) (automaton_of a.now) }
 {
     let is_deterministic = holds_if(plan.is_deterministic, a.is_deterministic());
     let is_complete = holds_if(plan.is_complete, a.is_complete());
@@ -28,6 +44,19 @@ fn holds_all(plan: &Plan, a: &Automaton) -> bool
     let names = has(&plan.ap, a.names().len() as u64);
     let sizes = both(states, both(edges, both(sets, names)));
     both(is_deterministic, both(is_complete, sizes))
+}
+
+/// Whether the automaton accepts nothing, where that is asked for.
+fn is_empty_if(alloc: Global, is_asked: bool, a: &Automaton) -> Result<bool, Memory>
+    ensures { IfOk result (λ holds. Judges holds (flagged asked.IsEmpty is_asked) (automaton_of a.now)) }
+{
+    if !is_asked {
+        return Ok(true);
+    }
+    match accepted_word(alloc, a)? {
+        Some(_) => Ok(false),
+        None => Ok(true),
+    }
 }
 
 /// Whether both hold.

@@ -7,6 +7,7 @@
 #![tactic(auto)]
 
 mod fault;
+mod figures;
 mod handle;
 mod judge;
 mod made;

@@ -1,9 +1,14 @@
 -- What becomes of an automaton that was read.
-use Rattle.std.specs.Prelude.{◌≡◌, ℕ, Bool, true, false, List, Result, Ok, Err}
+use Rattle.std.specs.Prelude.{◌≡◌, ℕ, Bool, true, false, List, Option, Result, Ok, Err}
+use Rattle.aut_base.specs.Automaton.{Automaton}
 use Rattle.aut_io.specs.Outside.{Gains, GainsPrefix, Rose}
 use Rattle.aut_io.specs.Seen.{SinkSeen}
 use Rattle.autfilt_run.specs.Due.{IsDue}
+use Rattle.autfilt_run.specs.Figures.{IsLine}
 use Rattle.autfilt_run.specs.Filters.{IsDropped, IsKept}
+use Rattle.filter_plan.specs.declared.plan.Output.{Output}
+use Rattle.filter_plan.specs.declared.plan.Output.TheVariants.{Hoa, Stats, Refute}
+use Rattle.hoa_writer.specs.CanonicalText.{canonical_text}
 use Rattle.autfilt_run.specs.declared.fault.RunFault.{RunFault}
 use Rattle.autfilt_run.specs.declared.fault.RunFault.TheVariants as fault
 use Rattle.filter_plan.specs.declared.plan.Plan.{Plan}
@@ -34,3 +39,9 @@ Handles (Err (fault.Invalid rule)) p w out out' = IsFirstBroken rule w × (out' 
 Handles (Err (fault.Limit which)) p w out out' = PassesLimit which w × (out' ≡ out)
 Handles (Err fault.Memory) p w out out' = out' ≡ out
 Handles _ p w out out' = ⊥
+
+-- what is printed of an automaton that has this name
+abbrev pub Prints : Output → Automaton → Option (List ℕ) → List ℕ → Type 0
+Prints Hoa a name text = text ≡ canonical_text a name
+Prints (Stats pieces) a name text = IsLine pieces a text
+Prints (Refute operand) a name text = ⊥
