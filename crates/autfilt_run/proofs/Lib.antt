@@ -1,6 +1,7 @@
 mod Bytes
 mod Canonical
 mod DecimalDigits
+mod FigureLines
 pub mod Gains
 mod Handling
 mod Judging

@@ -1,19 +1,88 @@
 //! The line of figures of an automaton.
 
-ghost use Rattle.std.specs.Prelude.{IfOk};
+ghost use Rattle.std.specs.Prelude.{◌≡◌, ◌++◌, IfOk, OnOk, length};
+ghost use Rattle.std.specs.Fmt.{decimal};
 ghost use Rattle.aut_core.specs.Core.{automaton_of};
-ghost use Rattle.autfilt_run.specs.Figures.{IsLine};
+ghost use Rattle.autfilt_run.specs.Figures.{IsLine, IsShownAs, ShowsReached};
+ghost use Rattle.filter_plan.specs.declared.format.Piece.TheVariants as piece;
 
 use aut_base::{Memory, Text};
 use aut_core::Automaton;
-use filter_plan::StatsText;
+use aut_ops::trim;
+use filter_plan::{Piece, StatsText};
+use lasso_emptiness::accepted_word;
 use std::alloc::Global;
+use word_syntax::print_word;
 
 /// The line that this format asks for.
 pub(crate) fn line_of(alloc: Global, format: &StatsText, a: &Automaton) -> Result<Text, Memory>
     ensures { IfOk result (IsLine format.now (automaton_of a.now)) }
 {
-    let _ = format.len();
-    let _ = a.sets();
-    Ok(Text::new(alloc))
+    let mut line = Text::new(alloc);
+    'pieces: for piece in format.as_slice() {
+        let shown = piece_text(alloc, *piece, a)?;
+        line.extend(shown.as_bytes())?;
+    }
+    line.push(b'\n')?;
+    Ok(line)
+}
+
+/// What stands for a piece of the format.
+fn piece_text(alloc: Global, piece: Piece, a: &Automaton) -> Result<Text, Memory>
+    ensures { IfOk result (IsShownAs piece (automaton_of a.now)) }
+{
+    match piece {
+        Piece::Byte(byte) => Text::from_bytes(alloc, &[byte]),
+        Piece::States => states_text(alloc, a),
+        Piece::Edges => edges_text(alloc, a),
+        Piece::Sets => number_text(alloc, u64::from(a.sets())),
+        Piece::Word => accepted_text(alloc, a),
+    }
+}
+
+/// The number of states that are reached.
+fn states_text(alloc: Global, a: &Automaton) -> Result<Text, Memory>
+    ensures { IfOk result (ShowsReached (λ t. t.states) (automaton_of a.now)) }
+{
+    let trimmed = trim(alloc, a)?;
+    number_text(alloc, u64::from(trimmed.states()))
+}
+
+/// The number of edges of the states that are reached, without those whose labels are false.
+fn edges_text(alloc: Global, a: &Automaton) -> Result<Text, Memory>
+    ensures { IfOk result (ShowsReached (λ t. length t.edges) (automaton_of a.now)) }
+{
+    let trimmed = trim(alloc, a)?;
+    number_text(alloc, trimmed.links().len() as u64)
+}
+
+/// A word that is accepted, or nothing where none is.
+fn accepted_text(alloc: Global, a: &Automaton) -> Result<Text, Memory>
+    ensures { IfOk result (IsShownAs piece.Word (automaton_of a.now)) }
+{
+    match accepted_word(alloc, a)? {
+        Some(word) => print_word(alloc, &word, a.names()),
+        None => Ok(Text::new(alloc)),
+    }
+}
+
+/// A number in decimal digits.
+fn number_text(alloc: Global, number: u64) -> Result<Text, Memory>
+    ensures { IfOk result (λ text. text ≡ decimal number) }
+{
+    let mut text = Text::new(alloc);
+    push_number(&mut text, number)?;
+    Ok(text)
+}
+
+/// Adds a number in decimal digits.
+#[tactic(auto, using(std::proofs::lemmas::Fmt::decimal_digit, std::proofs::lemmas::Fmt::decimal_step))]
+fn push_number(out: &mut Text, number: u64) -> Result<(), Memory>
+    ensures { OnOk result (out.new ≡ out.old ++ decimal number) }
+{
+    if number < 10 {
+        return out.push(b'0' + number as u8);
+    }
+    push_number(out, number / 10)?;
+    out.push(b'0' + (number % 10) as u8)
 }

@@ -54,8 +54,8 @@ fn is_empty_if(alloc: Global, is_asked: bool, a: &Automaton) -> Result<bool, Mem
         return Ok(true);
     }
     match accepted_word(alloc, a)? {
-        Some(_) => Ok(false),
-        None => Ok(true),
+        Some(_) => return Ok(false),
+        None => return Ok(true),
     }
 }
 
