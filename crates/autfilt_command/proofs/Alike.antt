@@ -1,22 +1,24 @@
 -- What stands in the texts decides which events happen, and how the run ends.
-use Rattle.std.proofs.Common.{◌≡◌, ◌≢◌, ℕ, zero, suc, ◌+◌, ◌<◌, ◌⊎◌, Bool, true, false, List, [], ◌∷◌, ◌++◌, take, Option, Some, None, refl, sym, ap, ◌∙◌, subst, inl, inr, arith}
+use Rattle.std.proofs.Common.{◌≡◌, ℕ, zero, suc, ◌+◌, ◌<◌, ◌⊎◌, Bool, true, false, List, [], ◌∷◌, ◌++◌, take, Option, Some, None, refl, sym, ap, ◌∙◌, subst, inl, inr, arith}
 use Rattle.std.specs.Prelude.{slice_get}
 use Rattle.std.proofs.lemmas.Bool.{false≢true}
 use Rattle.aut_base.specs.Automaton.{Automaton}
 use Rattle.aut_base.specs.declared.limit.Limit.{Limit}
 use Rattle.aut_base.specs.declared.limit.Limit.TheVariants as limit
 use Rattle.aut_io.specs.Outside.{Texts, text_of}
-use Rattle.autfilt_command.specs.Laws.{IsByText, IsEnded, OneEnd, OneFront}
+use Rattle.autfilt_command.specs.Laws.{IsByText, OneEnd, OneFront}
 use Rattle.autfilt_command.specs.Run.{EndsAt, EndsByTally, end_of}
 use Rattle.autfilt_command.specs.declared.ended.End.{End}
 use Rattle.autfilt_command.specs.declared.ended.End.TheVariants as end
-use Rattle.autfilt_run.specs.Due.{IsDue, IsDueWhere, text_printed}
+use Rattle.autfilt_run.specs.Due.{IsDue, IsDueWhere}
 use Rattle.autfilt_run.specs.Events.{AreJudged, Dropped, Ended, Event, Goes, Happen, IsGood, IsJudged, Kept, Opened, OpensStream, PassesOver, Point, ReadsOn, EndsStream, Skipped, Stream, ended_at, opened_at, place, read_on, start_of, tally}
 use Rattle.autfilt_run.specs.Filters.{AllHold, FailsAt, Filter, Holds, IsDropped, IsDroppedBy, IsKept, IsKeptBy, filters}
 use Rattle.autfilt_run.specs.Plans.{asks_on, prints_each}
-use Rattle.autfilt_run.specs.Runs.{AtStream, IsDone, StandsWith, Stops, StopsAt}
+use Rattle.autfilt_run.specs.Runs.{AtStream, IsDone, StandsWith, StopsAt}
 use Rattle.autfilt_run.specs.declared.fault.RunFault.{RunFault}
 use Rattle.autfilt_run.specs.declared.fault.RunFault.TheVariants as fault
+use Rattle.filter_plan.specs.declared.plan.Output.{Output}
+use Rattle.filter_plan.specs.declared.plan.Output.TheVariants.{Hoa}
 use Rattle.filter_plan.specs.declared.plan.Plan.{Plan}
 use Rattle.hoa_parser.specs.Raw.{Written}
 use Rattle.hoa_parser.specs.Standing as standing
@@ -127,12 +129,16 @@ not_kept false fs a k d = not_both fs a k d
 kept_or_dropped : (plan : Plan) (w v : Written) → w ≡ v → IsKept plan (described w) → IsDropped plan (described v) → ⊥
 kept_or_dropped plan w v same k d = not_kept plan.invert (filters plan) (described v) (subst (λ (x : Written). IsKept plan (described x)) same k) d
 
-due_where : (b : Bool) (w : Written) (t u : List ℕ) → IsDueWhere b w t → IsDueWhere b w u → t ≡ u
+due_where : (b : Bool) (w : Written) (t u : List ℕ) → IsDueWhere b Hoa w t → IsDueWhere b Hoa w u → t ≡ u
 due_where true w t u a b = a.same ∙ sym b.same
 due_where false w t u a b = a ∙ sym b
 
-one_text : (plan : Plan) (w v : Written) (t u : List ℕ) → w ≡ v → IsDue plan w t → IsDue plan v u → t ≡ u
-one_text plan w v t u same a b = due_where (prints_each plan) v t u (subst (λ (x : Written). IsDue plan x t) same a) b
+-- the canonical text of an automaton is one
+one_text : (plan : Plan) (w v : Written) (t u : List ℕ) → plan.output ≡ Hoa → w ≡ v → IsDue plan w t → IsDue plan v u → t ≡ u
+one_text plan w v t u text same a b =
+    let P : Output → Type 0 = λ o. IsDueWhere (prints_each plan) o v t in
+    let Q : Output → Type 0 = λ o. IsDueWhere (prints_each plan) o v u in
+    due_where (prints_each plan) v t u (subst P text (subst (λ (x : Written). IsDue plan x t) same a)) (subst Q text b)
 
 -- ---- one event happens next
 
@@ -150,10 +156,10 @@ both_open texts name other p q r a b =
     (ap Opened first, a.to ∙ ap (λ x. opened_at p x name (text_of texts name)) rest ∙ ap (λ x. opened_at p b.others x (text_of texts x)) first ∙ sym b.to)
 
 both_kept : (plan : Plan) (p q r : Point) (w v : Written) (t u : List ℕ) (kept : ℕ) (a : Look p (λ x. standing.Whole w x) (λ s x. read_on p s x kept) q) (b : Look p (λ x. standing.Whole v x) (λ s x. read_on p s x kept) r)
-    → standing.Whole w a.next ≡ standing.Whole v b.next → IsDue plan w t → IsDue plan v u → Same (Kept w t) (Kept v u) q r
-both_kept plan p q r w v t u kept a b e due due' =
+    → standing.Whole w a.next ≡ standing.Whole v b.next → plan.output ≡ Hoa → IsDue plan w t → IsDue plan v u → Same (Kept w t) (Kept v u) q r
+both_kept plan p q r w v t u kept a b e hoa due due' =
     let same = whole_is w v a.next b.next e in
-    (ap (λ x. Kept x t) same.0 ∙ ap (Kept v) (one_text plan w v t u same.0 due due'), one_point p q r _ _ _ a b same.1)
+    (ap (λ x. Kept x t) same.0 ∙ ap (Kept v) (one_text plan w v t u hoa same.0 due due'), one_point p q r _ _ _ a b same.1)
 
 both_dropped : (p q r : Point) (w v : Written) (kept : ℕ) (a : Look p (λ x. standing.Whole w x) (λ s x. read_on p s x kept) q) (b : Look p (λ x. standing.Whole v x) (λ s x. read_on p s x kept) r)
     → standing.Whole w a.next ≡ standing.Whole v b.next → Same (Dropped w) (Dropped v) q r
@@ -171,38 +177,38 @@ both_skipped p q r name other h k e =
 both_ended : (p q r : Point) → EndsStream p q → EndsStream p r → Same Ended Ended q r
 both_ended p q r h k = (refl, one_point p q r _ _ _ (look_behind p q h) (look_behind p r k) refl)
 
-one_next : OneStanding → (plan : Plan) (texts : Texts) (e f : Event) (p q r : Point) → IsJudged plan e → IsJudged plan f → Goes texts e p q → Goes texts f p r → Same e f q r
-one_next one plan texts (Opened n) (Opened m) p q r j i a b = both_open texts n m p q r a b
-one_next one plan texts (Opened n) (Kept v u) p q r j i a b = absurd (unopened texts n p q r _ _ a (look_at p r v (p.kept + 1) b))
-one_next one plan texts (Opened n) (Dropped v) p q r j i a b = absurd (unopened texts n p q r _ _ a (look_at p r v p.kept b))
-one_next one plan texts (Opened n) (Skipped m) p q r j i a b = absurd (unopened texts n p q r _ _ a (look_over p r m b))
-one_next one plan texts (Opened n) Ended p q r j i a b = absurd (unopened texts n p q r _ _ a (look_behind p r b))
-one_next one plan texts (Kept w t) (Opened m) p q r j i a b = absurd (unopened texts m p r q _ _ b (look_at p q w (p.kept + 1) a))
-one_next one plan texts (Kept w t) (Kept v u) p q r j i a b =
+one_next : OneStanding → (plan : Plan) → plan.output ≡ Hoa → (texts : Texts) (e f : Event) (p q r : Point) → IsJudged plan e → IsJudged plan f → Goes texts e p q → Goes texts f p r → Same e f q r
+one_next one plan hoa texts (Opened n) (Opened m) p q r j i a b = both_open texts n m p q r a b
+one_next one plan hoa texts (Opened n) (Kept v u) p q r j i a b = absurd (unopened texts n p q r _ _ a (look_at p r v (p.kept + 1) b))
+one_next one plan hoa texts (Opened n) (Dropped v) p q r j i a b = absurd (unopened texts n p q r _ _ a (look_at p r v p.kept b))
+one_next one plan hoa texts (Opened n) (Skipped m) p q r j i a b = absurd (unopened texts n p q r _ _ a (look_over p r m b))
+one_next one plan hoa texts (Opened n) Ended p q r j i a b = absurd (unopened texts n p q r _ _ a (look_behind p r b))
+one_next one plan hoa texts (Kept w t) (Opened m) p q r j i a b = absurd (unopened texts m p r q _ _ b (look_at p q w (p.kept + 1) a))
+one_next one plan hoa texts (Kept w t) (Kept v u) p q r j i a b =
     let x = look_at p q w (p.kept + 1) a in
     let y = look_at p r v (p.kept + 1) b in
-    both_kept plan p q r w v t u (p.kept + 1) x y (one_look one p q r _ _ _ _ x y) j.1 i.1
-one_next one plan texts (Kept w t) (Dropped v) p q r j i a b = absurd (kept_or_dropped plan w v (whole_is w v _ _ (one_look one p q r _ _ _ _ (look_at p q w (p.kept + 1) a) (look_at p r v p.kept b))).0 j.0 i)
-one_next one plan texts (Kept w t) (Skipped m) p q r j i a b = let e = one_look one p q r _ _ _ _ (look_at p q w (p.kept + 1) a) (look_over p r m b) in cc
-one_next one plan texts (Kept w t) Ended p q r j i a b = let e = one_look one p q r _ _ _ _ (look_at p q w (p.kept + 1) a) (look_behind p r b) in cc
-one_next one plan texts (Dropped w) (Opened m) p q r j i a b = absurd (unopened texts m p r q _ _ b (look_at p q w p.kept a))
-one_next one plan texts (Dropped w) (Kept v u) p q r j i a b = absurd (kept_or_dropped plan v w (sym (whole_is w v _ _ (one_look one p q r _ _ _ _ (look_at p q w p.kept a) (look_at p r v (p.kept + 1) b))).0) i.0 j)
-one_next one plan texts (Dropped w) (Dropped v) p q r j i a b =
+    both_kept plan p q r w v t u (p.kept + 1) x y (one_look one p q r _ _ _ _ x y) hoa j.1 i.1
+one_next one plan hoa texts (Kept w t) (Dropped v) p q r j i a b = absurd (kept_or_dropped plan w v (whole_is w v _ _ (one_look one p q r _ _ _ _ (look_at p q w (p.kept + 1) a) (look_at p r v p.kept b))).0 j.0 i)
+one_next one plan hoa texts (Kept w t) (Skipped m) p q r j i a b = let e = one_look one p q r _ _ _ _ (look_at p q w (p.kept + 1) a) (look_over p r m b) in cc
+one_next one plan hoa texts (Kept w t) Ended p q r j i a b = let e = one_look one p q r _ _ _ _ (look_at p q w (p.kept + 1) a) (look_behind p r b) in cc
+one_next one plan hoa texts (Dropped w) (Opened m) p q r j i a b = absurd (unopened texts m p r q _ _ b (look_at p q w p.kept a))
+one_next one plan hoa texts (Dropped w) (Kept v u) p q r j i a b = absurd (kept_or_dropped plan v w (sym (whole_is w v _ _ (one_look one p q r _ _ _ _ (look_at p q w p.kept a) (look_at p r v (p.kept + 1) b))).0) i.0 j)
+one_next one plan hoa texts (Dropped w) (Dropped v) p q r j i a b =
     let x = look_at p q w p.kept a in
     let y = look_at p r v p.kept b in
     both_dropped p q r w v p.kept x y (one_look one p q r _ _ _ _ x y)
-one_next one plan texts (Dropped w) (Skipped m) p q r j i a b = let e = one_look one p q r _ _ _ _ (look_at p q w p.kept a) (look_over p r m b) in cc
-one_next one plan texts (Dropped w) Ended p q r j i a b = let e = one_look one p q r _ _ _ _ (look_at p q w p.kept a) (look_behind p r b) in cc
-one_next one plan texts (Skipped n) (Opened m) p q r j i a b = absurd (unopened texts m p r q _ _ b (look_over p q n a))
-one_next one plan texts (Skipped n) (Kept v u) p q r j i a b = let e = one_look one p q r _ _ _ _ (look_over p q n a) (look_at p r v (p.kept + 1) b) in cc
-one_next one plan texts (Skipped n) (Dropped v) p q r j i a b = let e = one_look one p q r _ _ _ _ (look_over p q n a) (look_at p r v p.kept b) in cc
-one_next one plan texts (Skipped n) (Skipped m) p q r j i a b = both_skipped p q r n m a b (one_look one p q r _ _ _ _ (look_over p q n a) (look_over p r m b))
-one_next one plan texts (Skipped n) Ended p q r j i a b = let e = one_look one p q r _ _ _ _ (look_over p q n a) (look_behind p r b) in cc
-one_next one plan texts Ended (Opened m) p q r j i a b = absurd (unopened texts m p r q _ _ b (look_behind p q a))
-one_next one plan texts Ended (Kept v u) p q r j i a b = let e = one_look one p q r _ _ _ _ (look_behind p q a) (look_at p r v (p.kept + 1) b) in cc
-one_next one plan texts Ended (Dropped v) p q r j i a b = let e = one_look one p q r _ _ _ _ (look_behind p q a) (look_at p r v p.kept b) in cc
-one_next one plan texts Ended (Skipped m) p q r j i a b = let e = one_look one p q r _ _ _ _ (look_behind p q a) (look_over p r m b) in cc
-one_next one plan texts Ended Ended p q r j i a b = both_ended p q r a b
+one_next one plan hoa texts (Dropped w) (Skipped m) p q r j i a b = let e = one_look one p q r _ _ _ _ (look_at p q w p.kept a) (look_over p r m b) in cc
+one_next one plan hoa texts (Dropped w) Ended p q r j i a b = let e = one_look one p q r _ _ _ _ (look_at p q w p.kept a) (look_behind p r b) in cc
+one_next one plan hoa texts (Skipped n) (Opened m) p q r j i a b = absurd (unopened texts m p r q _ _ b (look_over p q n a))
+one_next one plan hoa texts (Skipped n) (Kept v u) p q r j i a b = let e = one_look one p q r _ _ _ _ (look_over p q n a) (look_at p r v (p.kept + 1) b) in cc
+one_next one plan hoa texts (Skipped n) (Dropped v) p q r j i a b = let e = one_look one p q r _ _ _ _ (look_over p q n a) (look_at p r v p.kept b) in cc
+one_next one plan hoa texts (Skipped n) (Skipped m) p q r j i a b = both_skipped p q r n m a b (one_look one p q r _ _ _ _ (look_over p q n a) (look_over p r m b))
+one_next one plan hoa texts (Skipped n) Ended p q r j i a b = let e = one_look one p q r _ _ _ _ (look_over p q n a) (look_behind p r b) in cc
+one_next one plan hoa texts Ended (Opened m) p q r j i a b = absurd (unopened texts m p r q _ _ b (look_behind p q a))
+one_next one plan hoa texts Ended (Kept v u) p q r j i a b = let e = one_look one p q r _ _ _ _ (look_behind p q a) (look_at p r v (p.kept + 1) b) in cc
+one_next one plan hoa texts Ended (Dropped v) p q r j i a b = let e = one_look one p q r _ _ _ _ (look_behind p q a) (look_at p r v p.kept b) in cc
+one_next one plan hoa texts Ended (Skipped m) p q r j i a b = let e = one_look one p q r _ _ _ _ (look_behind p q a) (look_over p r m b) in cc
+one_next one plan hoa texts Ended Ended p q r j i a b = both_ended p q r a b
 
 -- ---- one list begins with the other
 
@@ -212,11 +218,11 @@ longer e f es fs same (inl h) = inl (h.0, ap (λ x. f ∷ x) h.1 ∙ ap (λ x. x
 longer e f es fs same (inr h) = inr (h.0, ap (λ x. e ∷ x) h.1 ∙ ap (λ x. x ∷ (fs ++ h.0)) same)
 
 pub one_front : OneStanding → OneFront
-one_front one plan texts [] fs p q r j i a b = inl (fs, refl)
-one_front one plan texts (e ∷ es) [] p q r j i a b = inr (e ∷ es, refl)
-one_front one plan texts (e ∷ es) (f ∷ fs) p q r j i a b =
-    let same = one_next one plan texts e f p a.1 b.1 j.0 i.0 a.2 b.2 in
-    longer e f es fs same.0 (one_front one plan texts es fs a.1 q r j.1 i.1 a.3 (subst (λ (x : Point). Happen plan texts fs x r) (sym same.1) b.3))
+one_front one plan hoa texts [] fs p q r j i a b = inl (fs, refl)
+one_front one plan hoa texts (e ∷ es) [] p q r j i a b = inr (e ∷ es, refl)
+one_front one plan hoa texts (e ∷ es) (f ∷ fs) p q r j i a b =
+    let same = one_next one plan hoa texts e f p a.1 b.1 j.0 i.0 a.2 b.2 in
+    longer e f es fs same.0 (one_front one plan hoa texts es fs a.1 q r j.1 i.1 a.3 (subst (λ (x : Point). Happen plan texts fs x r) (sym same.1) b.3))
 
 -- ---- the ends
 
@@ -332,14 +338,14 @@ over one plan texts events end.Aborts e p q h asks g = done_goes plan texts e p 
 over one plan texts events end.Usage e p q h asks g = done_goes plan texts e p q h.0 asks g
 
 -- the events of two runs that ended
-same_events : OneStanding → (plan : Plan) (texts : Texts) (es fs all all' : List Event) (e d : End) (p q r : Point) → AreJudged plan es → AreJudged plan fs → Happen plan texts es p q → Happen plan texts fs p r
+same_events : OneStanding → (plan : Plan) → plan.output ≡ Hoa → (texts : Texts) (es fs all all' : List Event) (e d : End) (p q r : Point) → AreJudged plan es → AreJudged plan fs → Happen plan texts es p q → Happen plan texts fs p r
     → Ends plan q all e → Ends plan r all' d → (es ≡ fs) × (q ≡ r)
-same_events one plan texts [] [] all all' e d p q r j i a b x y = (refl, sym a ∙ b)
-same_events one plan texts [] (f ∷ fs) all all' e d p q r j i a b x y = absurd (over one plan texts all e f p b.1 (subst (λ (z : Point). Ends plan z all e) (sym a) x) b.0 b.2)
-same_events one plan texts (e' ∷ es) [] all all' e d p q r j i a b x y = absurd (over one plan texts all' d e' p a.1 (subst (λ (z : Point). Ends plan z all' d) (sym b) y) a.0 a.2)
-same_events one plan texts (e' ∷ es) (f ∷ fs) all all' e d p q r j i a b x y =
-    let same = one_next one plan texts e' f p a.1 b.1 j.0 i.0 a.2 b.2 in
-    let rest = same_events one plan texts es fs all all' e d a.1 q r j.1 i.1 a.3 (subst (λ (z : Point). Happen plan texts fs z r) (sym same.1) b.3) x y in
+same_events one plan hoa texts [] [] all all' e d p q r j i a b x y = (refl, sym a ∙ b)
+same_events one plan hoa texts [] (f ∷ fs) all all' e d p q r j i a b x y = absurd (over one plan texts all e f p b.1 (subst (λ (z : Point). Ends plan z all e) (sym a) x) b.0 b.2)
+same_events one plan hoa texts (e' ∷ es) [] all all' e d p q r j i a b x y = absurd (over one plan texts all' d e' p a.1 (subst (λ (z : Point). Ends plan z all' d) (sym b) y) a.0 a.2)
+same_events one plan hoa texts (e' ∷ es) (f ∷ fs) all all' e d p q r j i a b x y =
+    let same = one_next one plan hoa texts e' f p a.1 b.1 j.0 i.0 a.2 b.2 in
+    let rest = same_events one plan hoa texts es fs all all' e d a.1 q r j.1 i.1 a.3 (subst (λ (z : Point). Happen plan texts fs z r) (sym same.1) b.3) x y in
     let first : e' ≡ f = same.0 in
     let others : es ≡ fs = rest.0 in
     let whole : (e' ∷ es) ≡ (f ∷ fs) = cc in
@@ -392,10 +398,10 @@ alike one plan p events end.Aborts end.Usage x y a b = absurd y
 alike one plan p events end.Usage d x y a b = absurd x
 
 pub one_end : OneStanding → OneEnd
-one_end one plan texts left events others e d a b =
+one_end one plan hoa texts left events others e d a b =
     let x = ends_at plan e events a.name a.runs.point a.left_over a.by_text a.tallied a.runs.ends in
     let y = ends_at plan d others b.name b.runs.point b.left_over b.by_text b.tallied b.runs.ends in
-    let same = same_events one plan texts events others events others e d (start_of plan left) a.runs.point b.runs.point a.judged b.judged a.runs.happen b.runs.happen x y in
+    let same = same_events one plan hoa texts events others events others e d (start_of plan left) a.runs.point b.runs.point a.judged b.judged a.runs.happen b.runs.happen x y in
     let P : List Event → Type 0 = λ z. Ends plan b.runs.point z d in
     let Q : Point → Type 0 = λ z. Ends plan z events d in
     (same.0, alike one plan a.runs.point events e d a.by_text b.by_text x (subst Q (sym same.1) (subst P (sym same.0) y)))

@@ -1,5 +1,5 @@
 -- Of two plans of the same words, the program carries out both or neither.
-use Rattle.std.proofs.Common.{◌≡◌, ◌∙◌, ◌||◌, Bool, Option, Some, None, ap, refl, sym}
+use Rattle.std.proofs.Common.{◌≡◌, ◌∙◌, ◌||◌, Option, Some, None, ap, refl, sym}
 use Rattle.std.specs.Option.{option_map}
 use Rattle.std.specs.Prelude.{is_some}
 use Rattle.autfilt_run.specs.Built.{IsBuilt, is_own, compares}

@@ -1,20 +1,19 @@
 -- From a plan that was carried out to what the words ask for.
-use Rattle.std.proofs.Common.{◌≡◌, ℕ, true, List, [], ◌++◌, Option, Some, None, Err, IsErrOf, refl, sym, ◌∙◌, subst, inl, inr, arith}
-use Rattle.aut_base.specs.declared.limit.TheConstants.{MOST_BYTES}
-use Rattle.aut_io.specs.Outside.{Rose, Texts}
+use Rattle.std.proofs.Common.{◌≡◌, ℕ, true, List, [], Option, Some, None, Err, IsErrOf, refl, sym, subst, inl, arith}
+use Rattle.aut_io.specs.Outside.{Rose}
 use Rattle.aut_io.specs.Seen.{Seen, SinkSeen}
 use Rattle.autfilt_command.specs.Asked.{AreRefused, AsksFor}
 use Rattle.autfilt_command.specs.Ends.{ended_at, ended_of}
 use Rattle.autfilt_command.specs.Noted.{HasNoted, Notes}
 use Rattle.autfilt_command.specs.Notes.{line_of}
-use Rattle.autfilt_command.specs.Run.{AreCalm, EndsBecause, EndsBy, Runs, RunsOver, RunsOverAs, RunsOverMade, all_noted}
+use Rattle.autfilt_command.specs.Run.{EndsBecause, EndsBy, Runs, RunsOver, RunsOverAs, RunsOverMade}
 use Rattle.autfilt_command.specs.declared.ended.End.{End}
 use Rattle.autfilt_command.specs.declared.ended.End.TheVariants as end
 use Rattle.autfilt_command.specs.declared.ended.Ended.{Ended}
 use Rattle.autfilt_command.specs.inner.Running.{Carries}
 use Rattle.autfilt_run.proofs.Gains.{nothing}
 use Rattle.autfilt_run.specs.Events.{start_of}
-use Rattle.autfilt_run.specs.Made.{MadeState, seen_of_made}
+use Rattle.autfilt_run.specs.Made.{seen_of_made}
 use Rattle.autfilt_run.specs.declared.fault.RunFault.{RunFault}
 use Rattle.autfilt_run.specs.declared.fault.RunFault.TheVariants as fault
 use Rattle.filter_plan.specs.declared.fault.UsageFault.{UsageFault}

@@ -1,12 +1,12 @@
 -- Runs that a fault ends, and runs that read all.
-use Rattle.std.proofs.Common.{◌≡◌, ◌≢◌, ℕ, ◌+◌, ◌≤◌, ◌==◌, Bool, true, false, if◌then◌else◌, List, [], ◌∷◌, ◌++◌, length, take, drop, Option, Some, None, Result, Ok, Err, refl, sym, ap, ◌∙◌, subst, inl, inr, append_assoc, append-nil, arith}
+use Rattle.std.proofs.Common.{◌≡◌, ◌≢◌, ℕ, ◌+◌, ◌≤◌, ◌==◌, Bool, true, false, if◌then◌else◌, List, [], ◌∷◌, ◌++◌, length, take, drop, Option, Some, None, Err, refl, sym, ap, ◌∙◌, subst, inl, inr, append_assoc, append-nil, arith}
 use Rattle.std.proofs.lemmas.List.{drop_all}
 use Rattle.aut_base.proofs.AllByRecursion.{AllByRecursion-push}
 use Rattle.aut_base.specs.declared.limit.Limit.{Limit}
 use Rattle.aut_base.specs.declared.limit.Limit.TheVariants as limit
 use Rattle.aut_base.specs.declared.limit.TheConstants.{MOST_BYTES}
 use Rattle.aut_io.specs.Outside.{Closed, Gains, GainsPrefix, Rose, Texts}
-use Rattle.aut_io.specs.Seen.{Opens, Seen, SinkSeen}
+use Rattle.aut_io.specs.Seen.{Seen, SinkSeen}
 use Rattle.aut_base.specs.declared.fault.OpenFail.TheVariants as opening
 use Rattle.autfilt_command.proofs.Running.{asks_at, calm_then, gains_as, noted_push}
 use Rattle.autfilt_command.proofs.Stepped.{StepsAs}
@@ -17,9 +17,9 @@ use Rattle.autfilt_command.specs.Notes.{line_of}
 use Rattle.autfilt_command.specs.Run.{AreCalm, BreaksOff, EndsAt, EndsBecause, EndsByTally, Prints, all_noted, end_of}
 use Rattle.autfilt_command.specs.declared.ended.End.{End}
 use Rattle.autfilt_command.specs.declared.ended.End.TheVariants as end
-use Rattle.autfilt_command.specs.inner.Running.{Carries, Finishes, FinishesInPart, FinishesWell, HasRun, IsIn, StandsAt}
+use Rattle.autfilt_command.specs.inner.Running.{Carries, Finishes, FinishesWell, HasRun, IsIn, StandsAt}
 use Rattle.autfilt_run.proofs.Gains.{both}
-use Rattle.autfilt_run.specs.Events.{AreJudged, Event, IsGood, IsJudged, Kept, Point, ReadsOn, Stream, Tally, all_written, place, read_on, start_of, tally}
+use Rattle.autfilt_run.specs.Events.{Event, IsGood, IsJudged, Kept, Point, ReadsOn, Stream, Tally, all_written, place, read_on, start_of, tally}
 use Rattle.autfilt_run.specs.Faults.{stop_of_fault}
 use Rattle.autfilt_run.specs.Plans.{asks_on, count_text, name_at, streams_of}
 use Rattle.autfilt_run.specs.Runs.{AtStream, IsCounted, IsDone, LacksMemory, Stops, StopsAt, WantsMemory, WantsStream, taken_in, taken_of}
@@ -28,7 +28,7 @@ use Rattle.autfilt_run.specs.declared.fault.RunFault.{RunFault}
 use Rattle.autfilt_run.specs.declared.fault.RunFault.TheVariants as fault
 use Rattle.autfilt_run.specs.declared.session.Session.{Session}
 use Rattle.filter_plan.specs.declared.plan.Plan.{Plan}
-use Rattle.hoa_lexer.specs.Moves.{AtEnd, AtFault, AtMost, CountsReads, Elsewhere, IsWithin, Moves, Stop}
+use Rattle.hoa_lexer.specs.Moves.{CountsReads, Elsewhere, IsWithin, Moves, Stop}
 use Rattle.hoa_parser.specs.Raw.{Written}
 
 -- ---- what is common to the faults
@@ -129,15 +129,15 @@ closed_counted f old left left' at stands closed few stop =
 unopened : (name : List ℕ) (old new : Session) (m t : Seen) (p q : SinkSeen) → StepsAs old new → (h : Tries (Err opening.Failed) old new m t p q) → name ≡ h.name → HaltsAt fault.CannotOpen old name m t p q
 unopened name old new m t p q steady h same = record {
   halts = λ texts told at stands. (
-      (subst (WantsStream old.plan at) (sym same) (wants_stream old.plan old m.left at h.name stands h.opening (asks_at old m.left at stands h.opening.asks)), untold_closed m.texts t.left texts told h.opens.closed),
-      closed_counted fault.CannotOpen old m.left t.left at stands h.opening.is_closed (omega (arith, h.begins.taken, steady.few)) refl,
+    (subst (WantsStream old.plan at) (sym same) (wants_stream old.plan old m.left at h.name stands h.opening (asks_at old m.left at stands h.opening.asks)), untold_closed m.texts t.left texts told h.opens.closed),
+    closed_counted fault.CannotOpen old m.left t.left at stands h.opening.is_closed (omega (arith, h.begins.taken, steady.few)) refl,
   );
   output = h.output;
   prints = λ events a b g. g;
   causes = λ s o calm. (
-      rose_from s.open_faults m.open_faults t.open_faults calm.opens (h.opens.failed refl),
-      h.opens.reads ∙ calm.reads,
-      faults_of p q h.output ∙ calm.writes,
+    rose_from s.open_faults m.open_faults t.open_faults calm.opens (h.opens.failed refl),
+    h.opens.reads ∙ calm.reads,
+    faults_of p q h.output ∙ calm.writes,
   );
 }
 
@@ -154,8 +154,8 @@ opening_calm m t name (inr h) = (h.memory refl, h.reads)
 lacking : (name : List ℕ) (old new : Session) (m t : Seen) (p q : SinkSeen) → StepsAs old new → Fails fault.Memory old new m t p q → HaltsAt fault.Memory old name m t p q
 lacking name old new m t p q steady (inl h) = record {
   halts = λ texts told at stands. (
-      opening_lacks old m t h.name texts at told stands (wants_stream old.plan old m.left at h.name stands h.opening (asks_at old m.left at stands h.opening.asks)) h.opens,
-      closed_counted fault.Memory old m.left t.left at stands h.opening.is_closed (omega (arith, h.begins.taken, steady.few)) refl,
+    opening_lacks old m t h.name texts at told stands (wants_stream old.plan old m.left at h.name stands h.opening (asks_at old m.left at stands h.opening.asks)) h.opens,
+    closed_counted fault.Memory old m.left t.left at stands h.opening.is_closed (omega (arith, h.begins.taken, steady.few)) refl,
   );
   output = h.output;
   prints = λ events a b g. g;
@@ -336,7 +336,7 @@ finished : (e : End) (name : List ℕ) (old : Session) (s m : Seen) (o p q k l j
     → Finishes e (count_text old.plan old.kept) (record { kept = old.kept; skipped = old.skipped }) p q → ((text : List ℕ) → HasNoted text noting k l → Notes (text ++ line_of e name) k j) → Carries old.plan e s m o q k j
 finished e name old s m o p q k l j noting few h done (inl f) notes =
     let C : End → Type 0 = λ x. FinishesWell x (count_text old.plan old.kept) (record { kept = old.kept; skipped = old.skipped }) p q
-        → ((text : List ℕ) → HasNoted text noting k l → Notes (text ++ line_of x name) k j) → Carries old.plan x s m o q k j in
+    → ((text : List ℕ) → HasNoted text noting k l → Notes (text ++ line_of x name) k j) → Carries old.plan x s m o q k j in
     subst C (sym f.end)
     (end_is C
     (λ g n. all_read end.Output name old s m o p q k l j noting h done (λ events x. x) (λ at d x. (d, x)) (λ events a b x. x) (λ x. x) (λ x. cc) g n)

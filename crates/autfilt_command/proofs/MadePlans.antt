@@ -1,5 +1,5 @@
 -- How many automata are made.
-use Rattle.std.proofs.Common.{◌≡◌, ℕ, ◌≤◌, List, [], ◌∷◌, Option, Some, None, subst}
+use Rattle.std.proofs.Common.{◌≡◌, ℕ, ◌≤◌, List, [], ◌∷◌, Option, Some, subst}
 use Rattle.filter_plan.proofs.TableParts.{parts_of_table}
 use Rattle.filter_plan.specs.Numbers.{IsMadeCount}
 use Rattle.filter_plan.specs.Table.{Reads}

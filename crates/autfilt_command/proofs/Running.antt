@@ -1,17 +1,17 @@
 -- Runs: the events so far and one more, and the end.
-use Rattle.std.proofs.Common.{◌≡◌, ◌≢◌, ℕ, ◌+◌, ◌≤◌, Bool, true, false, List, [], ◌∷◌, ◌++◌, length, drop, Option, Some, None, Result, Ok, Err, refl, sym, ap, ◌∙◌, subst, inl, inr, append_assoc, append-nil, arith}
+use Rattle.std.proofs.Common.{◌≡◌, ℕ, ◌≤◌, Bool, true, List, [], ◌∷◌, ◌++◌, drop, Option, Some, refl, sym, ap, ◌∙◌, subst, append_assoc, append-nil}
 use Rattle.aut_base.proofs.AllByRecursion.{AllByRecursion-push}
-use Rattle.aut_io.specs.Outside.{Gains, GainsPrefix, Rose, Texts}
+use Rattle.aut_io.specs.Outside.{Gains, Texts}
 use Rattle.aut_io.specs.Seen.{Seen, SinkSeen}
 use Rattle.autfilt_command.proofs.Stepped.{Stepped}
 use Rattle.autfilt_command.proofs.Stepping.{happen_push}
-use Rattle.autfilt_command.specs.Noted.{HasNoted, Notes}
+use Rattle.autfilt_command.specs.Noted.{HasNoted}
 use Rattle.aut_base.specs.declared.limit.TheConstants.{MOST_BYTES}
 use Rattle.autfilt_command.specs.Run.{AreCalm, all_noted, noted}
 use Rattle.autfilt_command.specs.declared.ended.End.{End}
 use Rattle.autfilt_command.specs.inner.Running.{Carries, Finishes, HasRun, IsFresh, Reached, StandsAt}
 use Rattle.autfilt_run.proofs.Gains.{both, nothing}
-use Rattle.autfilt_run.specs.Events.{Event, Tally, IsJudged, AreJudged, Happen, Point, all_written, counted, start_of, tally, tally_from, written_of}
+use Rattle.autfilt_run.specs.Events.{Event, Tally, IsJudged, AreJudged, Point, all_written, counted, start_of, tally_from, written_of}
 use Rattle.autfilt_run.specs.Plans.{asks_on, count_text, streams_of}
 use Rattle.autfilt_run.specs.Turns.{Progress, progress}
 use Rattle.autfilt_run.specs.declared.session.Session.{Session}
@@ -75,14 +75,14 @@ run_none session s o k fresh = record {
   events = [];
   judged = tt;
   happened = λ texts told. record {
-      point = start_of session.plan s.left;
-      happen = refl;
-      stands = record {
-          coming = ap (λ (n : ℕ). drop n (streams_of session.plan)) (sym fresh.opened);
-          kept = sym fresh.kept;
-          left_is = refl;
-          stream = (fresh.is_closed, fresh.taken);
-      };
+    point = start_of session.plan s.left;
+    happen = refl;
+    stands = record {
+      coming = ap (λ (n : ℕ). drop n (streams_of session.plan)) (sym fresh.opened);
+      kept = sym fresh.kept;
+      left_is = refl;
+      stream = (fresh.is_closed, fresh.taken);
+    };
   };
   gains = nothing o.written;
   noted = (nothing k.written, refl);

@@ -1,5 +1,5 @@
 -- What a turn of a session is as an event of the run.
-use Rattle.std.proofs.Common.{◌≡◌, ℕ, ◌+◌, ◌≤◌, Bool, true, List, [], Option, Some, Ok, Err, refl, sym, ap, ◌∙◌, subst, arith}
+use Rattle.std.proofs.Common.{◌≡◌, ℕ, ◌+◌, ◌≤◌, List, [], Option, Some, sym, ap, ◌∙◌, subst}
 use Rattle.aut_base.specs.declared.limit.TheConstants.{MOST_BYTES}
 use Rattle.aut_io.specs.Outside.{Gains, Texts}
 use Rattle.aut_io.specs.Seen.{Seen, SinkSeen}
@@ -8,13 +8,12 @@ use Rattle.autfilt_command.specs.Run.{AreCalm}
 use Rattle.autfilt_command.specs.inner.Running.{StandsAt}
 use Rattle.autfilt_run.proofs.Gains.{nothing}
 use Rattle.autfilt_run.specs.Events.{Dropped, Ended, Event, Goes, IsGood, IsJudged, Kept, Opened, Point, ReadsOn, Skipped, Stream, Tally, counted, written_of}
-use Rattle.autfilt_run.specs.Plans.{asks_on, name_at, streams_of}
-use Rattle.autfilt_run.specs.Runs.{IsAllRead}
+use Rattle.autfilt_run.specs.Plans.{name_at, streams_of}
 use Rattle.autfilt_run.specs.Turns as turns
 use Rattle.autfilt_run.specs.Turns.{Progress, after, progress}
 use Rattle.autfilt_run.specs.declared.session.Session.{Session}
 use Rattle.autfilt_run.specs.declared.session.Turn.TheVariants as turn
-use Rattle.hoa_lexer.specs.Moves.{AtEnd, Elsewhere}
+use Rattle.hoa_lexer.specs.Moves.{Elsewhere}
 use Rattle.hoa_parser.specs.Standing.{Aborted, Stands}
 
 -- A step of a session was this event.

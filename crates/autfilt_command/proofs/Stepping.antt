@@ -1,14 +1,14 @@
 -- One step of a session, as an event of the run.
-use Rattle.std.proofs.Common.{◌≡◌, ℕ, zero, suc, ◌+◌, ◌-◌, ◌<◌, ◌≤◌, Bool, true, false, List, [], ◌∷◌, ◌++◌, length, drop, slice_get, Option, Some, None, Ok, refl, sym, ap, ◌∙◌, subst, inl, inr, arith}
+use Rattle.std.proofs.Common.{◌≡◌, ℕ, zero, suc, ◌+◌, ◌≤◌, true, false, List, [], ◌∷◌, ◌++◌, length, drop, slice_get, Option, Some, None, Ok, refl, sym, ap, ◌∙◌, subst, arith}
 use Rattle.std.proofs.lemmas.Bool.{false≢true}
 use Rattle.aut_base.specs.declared.limit.TheConstants.{MOST_BYTES}
 use Rattle.aut_io.specs.Outside.{Opened, Texts, text_of}
-use Rattle.aut_io.specs.Seen.{Opens, Seen, SinkSeen}
+use Rattle.aut_io.specs.Seen.{Opens, Seen}
 use Rattle.autfilt_command.specs.inner.Running.{IsIn, StandsAt}
-use Rattle.autfilt_run.specs.Events.{EndsStream, Event, Goes, Happen, IsGood, OpensStream, PassesOver, Point, ReadsOn, Stream, ended_at, opened_at, place, read_on}
+use Rattle.autfilt_run.specs.Events.{EndsStream, Event, Goes, Happen, OpensStream, Point, ReadsOn, Stream, ended_at, opened_at, place, read_on}
 use Rattle.autfilt_run.specs.Plans.{asks_on, name_at, streams_of}
 use Rattle.autfilt_run.specs.Runs.{AtStream, IsAllRead, WantsStream, taken_in, taken_of}
-use Rattle.autfilt_run.specs.Turns.{Begins, IsOpening, IsReading}
+use Rattle.autfilt_run.specs.Turns.{Begins, IsOpening}
 use Rattle.autfilt_run.specs.declared.session.Session.{Session}
 use Rattle.filter_plan.specs.declared.plan.Plan.{Plan}
 use Rattle.hoa_lexer.specs.Moves.{AtEnd, Moves, Stop}
@@ -113,12 +113,12 @@ read_to R kept old new s t p stop at read moves few =
       next = x.now;
       told = x.told;
       goes = record {
-          stream = stream;
-          is_open = at.is;
-          next = x.now;
-          stands = subst (λ (k : ℕ). R k stream.rest x.now) (place_is old.lexer.since stream.text stream.rest at.since) x.holds;
-          few = omega (arith, place_is new.lexer.since stream.text x.now since, taken, few);
-          to = refl;
+        stream = stream;
+        is_open = at.is;
+        next = x.now;
+        stands = subst (λ (k : ℕ). R k stream.rest x.now) (place_is old.lexer.since stream.text stream.rest at.since) x.holds;
+        few = omega (arith, place_is new.lexer.since stream.text x.now since, taken, few);
+        to = refl;
       };
       since = since;
       taken = taken;
@@ -133,10 +133,10 @@ reads_on R old new s t p stop stands opened_so opened_now read moves keeps =
       point = read_on p at.stream to.next new.kept;
       goes = to.goes;
       stands = record {
-          coming = stands.coming ∙ stands_as old new keeps.plan keeps.opened;
-          kept = refl;
-          left_is = sym to.told;
-          stream = (opened_now, to.told, name_as old new keeps.plan keeps.tried ∙ at.named, to.since, to.taken);
+        coming = stands.coming ∙ stands_as old new keeps.plan keeps.opened;
+        kept = refl;
+        left_is = sym to.told;
+        stream = (opened_now, to.told, name_as old new keeps.plan keeps.tried ∙ at.named, to.since, to.taken);
       };
     }
 
@@ -185,10 +185,10 @@ ends_stream old new s t p stands opened_so closed kept read moves most keeps =
       point = ended_at p stream;
       goes = record { stream = stream; is_open = at.is; blank = x.holds.0; few = omega (arith, since, taken, none, moves.within, most); to = refl };
       stands = record {
-          coming = stands.coming ∙ stands_as old new keeps.plan keeps.opened;
-          kept = stands.kept ∙ sym kept;
-          left_is = ap Some (sym x.holds.1) ∙ sym x.told;
-          stream = (closed, omega (arith, since, taken, none));
+        coming = stands.coming ∙ stands_as old new keeps.plan keeps.opened;
+        kept = stands.kept ∙ sym kept;
+        left_is = ap Some (sym x.holds.1) ∙ sym x.told;
+        stream = (closed, omega (arith, since, taken, none));
       };
     }
 
@@ -222,9 +222,9 @@ opens_stream texts old new s t p name told_texts stands opening opens begins nam
       point = opened_at p others name (text_of texts name);
       goes = record { closed = at.is; others = others; next = stands.coming ∙ rest_from (streams_of old.plan) old.opened name opening.named; to = refl };
       stands = record {
-          coming = ap (λ (n : ℕ). drop n (streams_of old.plan)) (next_place old.opened new.opened opened) ∙ ap (λ (x : Plan). drop new.opened (streams_of x)) (sym plan);
-          kept = stands.kept ∙ sym kept;
-          left_is = sym left;
-          stream = (opened_so, left, named, omega (arith, start), omega (arith, start, begins.taken, at.taken));
+        coming = ap (λ (n : ℕ). drop n (streams_of old.plan)) (next_place old.opened new.opened opened) ∙ ap (λ (x : Plan). drop new.opened (streams_of x)) (sym plan);
+        kept = stands.kept ∙ sym kept;
+        left_is = sym left;
+        stream = (opened_so, left, named, omega (arith, start), omega (arith, start, begins.taken, at.taken));
       };
     }

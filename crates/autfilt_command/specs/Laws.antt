@@ -5,8 +5,9 @@ use Rattle.aut_io.specs.Outside.{Texts}
 use Rattle.autfilt_command.specs.Run.{EndsByTally, RunsTo}
 use Rattle.autfilt_command.specs.declared.ended.End.{End}
 use Rattle.autfilt_command.specs.declared.ended.End.TheVariants as end
-use Rattle.autfilt_run.specs.Events.{AreJudged, Event, Happen, Point, start_of}
+use Rattle.autfilt_run.specs.Events.{AreJudged, Event, Happen, Point}
 use Rattle.autfilt_run.specs.declared.fault.RunFault.TheVariants as fault
+use Rattle.filter_plan.specs.declared.plan.Output.TheVariants.{Hoa}
 use Rattle.filter_plan.specs.declared.plan.Plan.{Plan}
 
 -- The texts decided the end: no call failed, memory was not wanting, and not too many bytes were taken.
@@ -30,16 +31,17 @@ pub record IsEnded (plan : Plan) (texts : Texts) (left : Option (List ℕ)) (eve
   pub name : List ℕ
   pub runs : RunsTo plan texts left left_over events e name
 
--- Two runs of one plan over the same texts that the texts ended: the same events happened, and they end alike.
+-- Two runs over the same texts of one plan, which prints canonical texts, that the texts ended: the same events happened, and
+-- they end alike. (Which word stands in a line of figures is left open.)
 abbrev pub OneEnd : Type 0
 OneEnd =
-    (plan : Plan) (texts : Texts) (left : Option (List ℕ)) (events others : List Event) (e d : End)
+    (plan : Plan) → plan.output ≡ Hoa → (texts : Texts) (left : Option (List ℕ)) (events others : List Event) (e d : End)
     → IsEnded plan texts left events e → IsEnded plan texts left others d → (events ≡ others) × (e ≡ d)
 
--- Of the events of two runs of one plan over the same texts, those of one are the first ones of the other: a run that a fault
+-- Of the events of two such runs, those of one are the first ones of the other: a run that a fault
 -- ended has read and written the first of what any other run reads and writes.
 abbrev pub OneFront : Type 0
 OneFront =
-    (plan : Plan) (texts : Texts) (events others : List Event) (p q r : Point) → AreJudged plan events → AreJudged plan others
+    (plan : Plan) → plan.output ≡ Hoa → (texts : Texts) (events others : List Event) (p q r : Point) → AreJudged plan events → AreJudged plan others
     → Happen plan texts events p q → Happen plan texts others p r
     → ((more : List Event) × (others ≡ events ++ more)) ⊎ ((more : List Event) × (events ≡ others ++ more))

@@ -10,7 +10,7 @@ use row::Row;
 use row_files::{Count, Fault, Rows, Stop, read_files};
 
 /// The files of rows, in the folder where the program runs.
-const FILES: [&str; 13] = [
+const FILES: [&str; 14] = [
     "examples.rows",
     "printed.rows",
     "ends.rows",
@@ -22,6 +22,7 @@ const FILES: [&str; 13] = [
     "streams.rows",
     "counts.rows",
     "figures.rows",
+    "emptiness.rows",
     "made.rows",
     "large.rows",
 ];

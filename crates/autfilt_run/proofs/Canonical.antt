@@ -1,7 +1,7 @@
 -- Filters don't see whether labels are canonical.
 use Rattle.std.proofs.Common.{◌≡◌, ℕ, ◌<◌, Bool, true, false, List, [], ◌∷◌, length, map, Contains, get_or, refl, sym, ap, ◌∙◌, subst, arith}
 use Rattle.std.proofs.lemmas.List.{get_or-map, length-map}
-use Rattle.std.proofs.lemmas.List.Elements.{All-contains, All-contains_itself, All-map, Contains-get_or}
+use Rattle.std.proofs.lemmas.List.Elements.{All-contains, All-map, Contains-get_or}
 use Rattle.aut_base.proofs.CanonicalAutomata.{canonical_accepts_the_same, labels_below, relabelled}
 use Rattle.aut_base.proofs.CanonicalTruth.{canonical_label_keeps_truth}
 use Rattle.aut_base.specs.Automaton.{Automaton, IsWellFormed, TreeEdge}

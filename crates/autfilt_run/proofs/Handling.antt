@@ -1,9 +1,8 @@
 -- What becomes of an automaton that was read.
-use Rattle.std.proofs.Common.{◌≡◌, ℕ, Bool, true, false, not, List, [], Option, Result, Ok, Err, refl, sym, ap, ◌∙◌, subst}
+use Rattle.std.proofs.Common.{◌≡◌, ℕ, Bool, true, false, List, [], Option, Result, Ok, Err, refl, sym, ap, ◌∙◌, subst}
 use Rattle.std.specs.Result.{IsErrAnd}
 use Rattle.aut_base.specs.Automaton.{Automaton, IsWellFormed}
 use Rattle.aut_base.specs.CanonicalLabel.{canonical}
-use Rattle.aut_io.specs.Seen.{SinkSeen}
 use Rattle.autfilt_run.proofs.Canonical.{verdict_read}
 use Rattle.autfilt_run.proofs.ReadsAs.{is_canonical}
 use Rattle.autfilt_run.specs.Due.{IsDue, IsDueWhere, IsPrinted}
@@ -13,7 +12,6 @@ use Rattle.autfilt_run.specs.Plans.{prints_each}
 use Rattle.autfilt_run.specs.inner.Handling.{IsUnwanted, IsWanted, Prints}
 use Rattle.autfilt_run.specs.inner.Judging.{KeepsOrDrops}
 use Rattle.autfilt_run.specs.declared.fault.RunFault.{RunFault}
-use Rattle.autfilt_run.specs.declared.fault.RunFault.TheVariants as fault
 use Rattle.filter_plan.specs.declared.plan.Output.{Output}
 use Rattle.filter_plan.specs.declared.plan.Output.TheVariants.{Hoa, Stats, Refute}
 use Rattle.filter_plan.specs.declared.plan.Plan.{Plan}
@@ -21,7 +19,6 @@ use Rattle.hoa_parser.specs.Naming.{name_of}
 use Rattle.hoa_parser.specs.Raw.{Written}
 use Rattle.hoa_reader.specs.Counts.{PassesNone}
 use Rattle.hoa_reader.specs.Described as reader
-
 use Rattle.hoa_reader.specs.Validity.{IsValid}
 use Rattle.hoa_writer.proofs.text.Settled.{canonical_form_has_the_same_text}
 use Rattle.hoa_writer.specs.CanonicalText.{canonical_text}

@@ -1,9 +1,12 @@
 -- Filters that are judged one after the other.
-use Rattle.std.proofs.Common.{◌≡◌, ℕ, Bool, true, false, not, ◌&&◌, ◌||◌, List, [], ◌∷◌, ◌++◌, All, Option, Some, None, IsTrue, ◌↔◌, refl, sym, ap, ◌∙◌, subst, append_assoc}
+use Rattle.std.proofs.Common.{◌≡◌, ℕ, Bool, true, false, not, ◌&&◌, ◌||◌, List, [], ◌∷◌, ◌++◌, Option, Some, None, IsTrue, ◌↔◌, refl, sym, ap, ◌∙◌, subst, append_assoc}
+use Rattle.std.specs.Prelude.{MatchOption}
 use Rattle.aut_base.specs.Automaton.{Automaton}
-use Rattle.autfilt_run.specs.Filters.{AllHold, FailsAt, Filter, Holds, flagged, ranged}
+use Rattle.aut_base.specs.declared.letter.Lasso.{Lasso}
+use Rattle.autfilt_run.specs.Filters.{AllHold, FailsAt, Filter, Holds, IsEmpty, flagged, ranged}
 use Rattle.autfilt_run.specs.inner.Judging.{IsInAny, Judges}
 use Rattle.filter_plan.specs.Spans.{IsIn}
+use Rattle.lasso_emptiness.specs.Emptiness.{AcceptsNothing, IsAcceptedWord}
 use Rattle.filter_plan.specs.declared.range.Range.{Range}
 
 hold_both : (fs gs : List Filter) (a : Automaton) → AllHold fs a → AllHold gs a → AllHold (fs ++ gs) a
@@ -55,3 +58,11 @@ judges_figure f (Some x) n figure b a is same h =
 
 pub judges_as : (b c : Bool) (fs : List Filter) (a : Automaton) → c ≡ b → Judges b fs a → Judges c fs a
 judges_as b c fs a e h = subst (λ (x : Bool). Judges x fs a) (sym e) h
+
+-- a word is accepted, so the filter that asks for none doesn't hold
+fails_by : (a : Automaton) (w : Lasso) → IsAcceptedWord a w → FailsAt (IsEmpty ∷ []) a
+fails_by a w h = record { before = []; filter = IsEmpty; after = []; all = refl; held = tt; fails = λ empty. empty w.stem w.cycle h.accepts }
+
+pub not_empty : (asked : Bool) (a : Automaton) (found : Option Lasso) (w : Lasso) → asked ≡ true → found ≡ Some w → MatchOption found (AcceptsNothing a) (IsAcceptedWord a) → FailsAt (flagged IsEmpty asked) a
+not_empty asked a found w is there h =
+    subst (λ (b : Bool). FailsAt (flagged IsEmpty b) a) (sym is) (fails_by a w (subst (λ (x : Option Lasso). MatchOption x (AcceptsNothing a) (IsAcceptedWord a)) there h))

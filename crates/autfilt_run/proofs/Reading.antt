@@ -1,10 +1,9 @@
 -- What the reader answers, in the words of a session.
-use Rattle.std.proofs.Common.{◌≡◌, ℕ, ◌-◌, List, Option, Some, None, Result, Ok, Err, refl, sym, ap, ◌∙◌, subst, inl, inr, arith}
+use Rattle.std.proofs.Common.{◌≡◌, ℕ, ◌-◌, List, Option, None, Result, Ok, Err, sym, subst, inl, inr, arith}
 use Rattle.aut_base.specs.declared.limit.Limit.{Limit}
 use Rattle.autfilt_run.specs.Events.{IsGood}
 use Rattle.autfilt_run.specs.Faults.{fault_of_reading}
 use Rattle.autfilt_run.specs.Runs.{IsAllRead, StandsWith, StopsAt, WantsMemory}
-use Rattle.autfilt_run.specs.declared.fault.RunFault.{RunFault}
 use Rattle.autfilt_run.specs.declared.fault.RunFault.TheVariants as run
 use Rattle.hoa_lexer.proofs.next_token.Between.{between_as, between_both}
 use Rattle.hoa_lexer.specs.Reading.{Between, held_count, unread}

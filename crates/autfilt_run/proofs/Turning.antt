@@ -1,12 +1,11 @@
 -- What a step answers where something was read.
-use Rattle.std.proofs.Common.{◌≡◌, ℕ, Bool, List, Option, Some, None, Result, Ok, Err, refl, sym, subst, inl, inr}
+use Rattle.std.proofs.Common.{◌≡◌, ℕ, Option, Result, Ok, Err, refl, sym, subst, inr}
 use Rattle.std.specs.Result.{IsErrAnd}
 use Rattle.aut_base.specs.declared.limit.Limit.{Limit}
-use Rattle.aut_base.specs.declared.limit.Limit.TheVariants as limit
 use Rattle.aut_io.specs.Seen.{Seen, SinkSeen}
 use Rattle.autfilt_run.proofs.Reading.{AnswersAt, is_broken, is_good, is_past, is_wanting, stops}
 use Rattle.autfilt_run.specs.Faults.{fault_of_reading, stop_of_fault}
-use Rattle.autfilt_run.specs.Turns.{Fails, IsReading, Reads, Steps}
+use Rattle.autfilt_run.specs.Turns.{Fails, IsReading, Steps}
 use Rattle.autfilt_run.specs.inner.Handling.{Handles}
 use Rattle.autfilt_run.specs.declared.fault.RunFault.{RunFault}
 use Rattle.autfilt_run.specs.declared.fault.RunFault.TheVariants as fault

@@ -20,7 +20,12 @@ use hoa_writer::write_text;
 use std::alloc::Global;
 
 /// Judges an automaton that was read, writes its text where one is due, and answers whether it is kept.
-pub(crate) fn handle<W: Sink>(alloc: Global, plan: &Plan, raw: &Raw, out: &mut W) -> Result<bool, RunFault>
+pub(crate) fn handle<W: Sink>(
+    alloc: Global,
+    plan: &Plan,
+    raw: &Raw,
+    out: &mut W,
+) -> Result<bool, RunFault>
     requires { is_own plan.now.output ≡ true }
     ensures { Handles result plan.now (written raw.now) (W.seen out.old) (W.seen out.new) }
 {

@@ -17,11 +17,7 @@ pub(crate) fn is_kept(alloc: Global, plan: &Plan, a: &Automaton) -> Result<bool,
     ensures { IfOk result (λ kept. KeepsOrDrops kept plan.now (automaton_of a.now)) }
 {
     let holds = holds_all(alloc, plan, a)?;
-    if plan.invert {
-        Ok(!holds)
-    } else {
-        Ok(holds)
-    }
+    if plan.invert { Ok(!holds) } else { Ok(holds) }
 }
 
 /// Whether all filters of the plan hold. Where the first doesn't, the others aren't examined.

@@ -10,7 +10,7 @@ use Rattle.autfilt_command.specs.Run.{AreCalm, EndsBecause, Runs, all_noted, end
 use Rattle.autfilt_command.specs.declared.ended.End.{End}
 use Rattle.autfilt_command.specs.declared.ended.End.TheVariants as end
 use Rattle.autfilt_run.specs.Events.{AreJudged, Event, Happen, Point, Stream, Tally, all_written, start_of, tally}
-use Rattle.autfilt_run.specs.Plans.{count_text, name_at, streams_of}
+use Rattle.autfilt_run.specs.Plans.{name_at, streams_of}
 use Rattle.autfilt_run.specs.declared.fault.RunFault.TheVariants as fault
 use Rattle.autfilt_run.specs.declared.session.Session.{Session}
 use Rattle.autfilt_run.specs.declared.session.Stage.TheVariants.{Prepared}

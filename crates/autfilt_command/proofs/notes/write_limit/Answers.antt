@@ -1,7 +1,6 @@
-use Rattle.std.proofs.Common.{ap}
 use Rattle.std.specs.Prelude.{codes}
 use Rattle.autfilt_command.proofs.Noting.{line_is}
-use Rattle.autfilt_command.specs.Notes.{limit_word, line_about}
+use Rattle.autfilt_command.specs.Notes.{limit_word}
 use Rattle.autfilt_run.proofs.Writing.{writes_as, writes_first, writes_then}
 use Rattle.autfilt_command.proofs.notes.write_limit.Goals as goal
 

@@ -119,7 +119,7 @@ steps-preserved-in-Ok-Skipped g c =
     let done = subst (λ (x : Turn). progress new ≡ after x (progress old)) is said.progress in
     let step = skipped old new m t p q steady done did in
     let noted = subst (λ (x : List ℕ). (first : SinkSeen) → (text : List ℕ) → HasNoted text c.steps.noting first (g.M.Sink.seen c.steps.notes) → HasNoted (text ++ aborted_line x) c.note_skipped-noting.result first (g.M.Sink.seen c.note_skipped-noting.new.notes))
-        c.name_in_hand-in-Ok-Skipped.ensures c.note_skipped-noting.ensures in
+    c.name_in_hand-in-Ok-Skipped.ensures c.note_skipped-noting.ensures in
     record {
       ran = run_more _ old new (g.I.Inputs.seen c.args.inputs.now) m t (g.W.Sink.seen c.args.out.now) p q _ _ _ c.steps.noting c.note_skipped-noting.result said.plan did.reading.asks inv.ran step (λ text h. noted _ text h);
       same_plan = said.plan ∙ inv.same_plan;

@@ -2,7 +2,7 @@ use Rattle.std.proofs.Common.{◌∙◌, ap, length, sym}
 use Rattle.std.proofs.lemmas.List.{length-map}
 use Rattle.aut_core.specs.Core.{automaton_of, edge_of}
 use Rattle.autfilt_run.proofs.Judging.{judges_as, judges_figure, judges_flag, judges_then}
-use Rattle.autfilt_run.specs.Filters.{Edges, IsComplete, IsDeterministic, Names, Sets, States, flagged, ranged}
+use Rattle.autfilt_run.specs.Filters.{Edges, IsComplete, IsDeterministic, Names, Sets, States}
 use Rattle.autfilt_run.proofs.judge.holds_shape.Goals as goal
 
 pub returns : goal.returns

@@ -65,10 +65,10 @@ returns-clause-steps g c =
       automaton = written c.in-Whole.raw;
       dropped = h.0.dropped;
       reads = record {
-          reading = record { asks = c.requires.asks; is_open = c.requires.is_open };
-          in_hand = refl;
-          read = is_good (written c.in-Whole.raw) c.args.self.now.lexer.since s.left t.left h.0.valid h.0.within whole;
-          moves = moves;
-          output = h.1;
+        reading = record { asks = c.requires.asks; is_open = c.requires.is_open };
+        in_hand = refl;
+        read = is_good (written c.in-Whole.raw) c.args.self.now.lexer.since s.left t.left h.0.valid h.0.within whole;
+        moves = moves;
+        output = h.1;
       };
     }
