@@ -2,6 +2,7 @@
 pub mod Atoms
 pub mod Automata
 pub mod Bodies
+pub mod Chains
 pub mod ConditionChains
 pub mod ConditionReads
 pub mod FailedParts

@@ -10,6 +10,7 @@ use Rattle.hoa_lexer.specs.declared.token.Token.{Token}
 use Rattle.hoa_lexer.specs.declared.token.Token.TheVariants.{Identifier, Int, Alias}
 use Rattle.hoa_lexer.proofs.spelling.FirstBytes.{spelled_some}
 use Rattle.aut_base.proofs.Lists.{empty_of_length}
+use Rattle.hoa_lexer.proofs.next_token.Fronts.{front_of}
 use Rattle.hoa_lexer.proofs.next_token.Unique.{one_next_token}
 
 stops_on : (p : ℕ → Bool) (rest more : List ℕ) → StopsAt p rest → StopsAt p (rest ++ more)
@@ -66,9 +67,6 @@ next_on at_hand more start a = record {
   };
 }
 
-front_again : (input : List ℕ) (start offset : ℕ) (token : Token) (rest : List ℕ) → IsNext input start token offset rest → AfterBlanks input HasFront
-front_again input start offset token rest n = record { before = n.before; bytes = n.bytes; split = n.split; blanks = n.blanks; holds = record { token = token; rest = rest; front = n.front } }
-
 -- What the bytes at hand would close ends before the last byte, and so before the token does.
 too_early : (input : List ℕ) (start offset byte : ℕ) (token : Token) (held : Option ℕ) (left at_hand : List ℕ) → IsNext input start token offset (unread held left) → is_some held ≡ not (closes_itself token) → input ≡ at_hand ++ byte ∷ left → AfterBlanks at_hand HasFront → ⊥
 too_early input start offset byte token None left at_hand n h e a =
@@ -88,7 +86,7 @@ asked input start offset byte token held left at_hand n h e = record {
   asks = record {
     unclosed = too_early input start offset byte token held left at_hand n h e;
     more = byte ∷ left;
-    closes = subst (λ (w : List ℕ). AfterBlanks w HasFront) e (front_again input start offset token (unread held left) n);
+    closes = subst (λ (w : List ℕ). AfterBlanks w HasFront) e (front_of input start token offset (unread held left) n);
   };
 }
 

@@ -13,15 +13,12 @@ use Rattle.hoa_lexer.specs.declared.token.Token.{Token}
 use Rattle.hoa_lexer.specs.declared.token.Token.TheVariants.{Str}
 use Rattle.hoa_lexer.specs.inner.Steps.{closing}
 use Rattle.hoa_lexer.proofs.next_token.Exclusive.{IsStuck, begins_slash, blanks_no_token, no_token_stuck, open_comment_stuck, open_string_stuck, open_token_stuck, stuck_no_blanks, stuck_no_token}
-use Rattle.hoa_lexer.proofs.next_token.Fronts.{blanks_append}
+use Rattle.hoa_lexer.proofs.next_token.Fronts.{blanks_append, front_of}
 use Rattle.hoa_lexer.proofs.next_token.StuckPlaces.{after_as, no_open_comment, no_open_string, no_open_token, stuck_place}
 use Rattle.hoa_lexer.proofs.next_token.Unique.{one_next_token}
 use Rattle.hoa_lexer.proofs.spelling.Comments.{closing_after, closing_sound}
 
 -- one thing alone
-
-front_of : (start : ℕ) (text : List ℕ) (t : Token) (k : ℕ) (rest : List ℕ) → IsNext text start t k rest → AfterBlanks text HasFront
-front_of start text t k rest n = record { before = n.before; bytes = n.bytes; split = n.split; blanks = n.blanks; holds = record { token = t; rest = rest; front = n.front } }
 
 abbrev Bad : ℕ → ℕ → List ℕ → Type 0
 Bad k start text = AfterBlanks text (λ bytes. (k + length bytes ≡ start + length text) × IsNoToken bytes)
@@ -65,19 +62,19 @@ blank_not : (text : List ℕ) → IsBlanks text → AfterBlanks text IsStuck →
 blank_not text b a = stuck_no_blanks text a b
 
 token_not : (start : ℕ) (text : List ℕ) (t : Token) (k : ℕ) (rest : List ℕ) → IsNext text start t k rest → AfterBlanks text IsStuck → ⊥
-token_not start text t k rest n a = stuck_no_token text a (front_of start text t k rest n)
+token_not start text t k rest n a = stuck_no_token text a (front_of text start t k rest n)
 
 same_token : (t u : Token) (k j : ℕ) (rest rest' : List ℕ) → (t ≡ u) × (k ≡ j) × (rest ≡ rest') → OneToken t k rest ≡ OneToken u j rest'
 same_token t u k j rest rest' e = let a = e.0 in let b = e.1 in let c = e.2 in cc
 
 pub one_next : OneNext
 one_next start text NoMore NoMore h k = refl
-one_next start text NoMore (OneToken t j rest) h k = absurd (blanks_no_token text h (front_of start text t j rest k))
+one_next start text NoMore (OneToken t j rest) h k = absurd (blanks_no_token text h (front_of text start t j rest k))
 one_next start text NoMore (NoToken j) h k = absurd (blank_not text h (bad_stuck j start text k))
 one_next start text NoMore InComment h k = absurd (blank_not text h (after_as text open_comment_stuck k))
 one_next start text NoMore InString h k = absurd (blank_not text h (after_as text open_string_stuck k))
 one_next start text NoMore InToken h k = absurd (blank_not text h (after_as text open_token_stuck k))
-one_next start text (OneToken t i rest) NoMore h k = absurd (blanks_no_token text k (front_of start text t i rest h))
+one_next start text (OneToken t i rest) NoMore h k = absurd (blanks_no_token text k (front_of text start t i rest h))
 one_next start text (OneToken t i rest) (OneToken u j rest') h k = same_token t u i j rest rest' (one_next_token text start t u i j rest rest' h k)
 one_next start text (OneToken t i rest) (NoToken j) h k = absurd (token_not start text t i rest h (bad_stuck j start text k))
 one_next start text (OneToken t i rest) InComment h k = absurd (token_not start text t i rest h (after_as text open_comment_stuck k))

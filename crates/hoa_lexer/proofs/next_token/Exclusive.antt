@@ -8,9 +8,8 @@ use Rattle.hoa_lexer.specs.Spelling.{Quotes, Spells}
 use Rattle.hoa_lexer.specs.Text.{AfterBlanks, Begins, HasFront, IsNoToken, IsOpenString, IsOpenToken}
 use Rattle.hoa_lexer.specs.declared.token.Token.{Token}
 use Rattle.hoa_lexer.specs.declared.token.Token.TheVariants.{HeaderName, Identifier, Str, Int, Alias}
-use Rattle.hoa_lexer.proofs.spelling.FirstBytes.{front_head, no_front, token_kind}
-use Rattle.hoa_lexer.proofs.next_token.Fronts.{front_after, front_slashes, front_spaces, same_close, space_no_slash}
-use Rattle.aut_base.proofs.Lists.{empty_right}
+use Rattle.hoa_lexer.proofs.spelling.FirstBytes.{front_head, token_kind}
+use Rattle.hoa_lexer.proofs.next_token.Fronts.{asks_blanks, front_after, front_slashes, front_spaces, same_close, space_no_slash}
 
 -- what is neither a token nor begins with a blank
 pub record IsStuck (bytes : List ℕ) : Type 0 where
@@ -120,6 +119,4 @@ stuck_no_blanks input a b = stuck_blank a.bytes a.holds (blanks_after a.before i
 
 -- No token stands in blanks.
 pub blanks_no_token : (input : List ℕ) → IsBlanks input → AfterBlanks input HasFront → ⊥
-blanks_no_token input b f =
-    let next = front_after input f.before [] f.bytes b f.blanks (append-nil input ∙ f.split) f.holds in
-    no_front (subst HasFront (empty_right next.before next.bytes next.split) next.holds)
+blanks_no_token input b f = (asks_blanks input b).unclosed f

@@ -148,7 +148,7 @@ open_front x before bytes h e (comment body bs k r t) f =
     let done : closing 1 ((body ++ bs) ++ bytes) ≡ Some (bs ++ bytes) = ap (closing 1) (append_assoc body bs bytes) ∙ closing_after 1 body (bs ++ bytes) k in
     cc
 
-asks_comment : (seen : List ℕ) → closing 1 seen ≡ None → AsksForMore (47 ∷ 42 ∷ seen)
+pub asks_comment : (seen : List ℕ) → closing 1 seen ≡ None → AsksForMore (47 ∷ 42 ∷ seen)
 asks_comment seen e =
     let r = reopen 1 seen e in
     let w = closing_sound 1 (seen ++ r.more) (33 ∷ []) r.closed in
@@ -164,7 +164,7 @@ asks_comment seen e =
       };
     }
 
-asks_slash : AsksForMore (47 ∷ [])
+pub asks_slash : AsksForMore (47 ∷ [])
 asks_slash = record {
   unclosed = λ a. open_front [] a.before a.bytes (λ rest k. absurd (cc)) a.split a.blanks a.holds;
   more = 42 ∷ 42 ∷ 47 ∷ 33 ∷ [];
@@ -181,7 +181,7 @@ no_after_nil : (before bytes : List ℕ) → [] ≡ before ++ bytes → HasFront
 no_after_nil [] bytes e f = no_front (along _ _ (sym e) f)
 no_after_nil (b ∷ bs) bytes e f = cc
 
-asks_blanks : (before : List ℕ) → IsBlanks before → AsksForMore before
+pub asks_blanks : (before : List ℕ) → IsBlanks before → AsksForMore before
 asks_blanks before h = record {
   unclosed = λ a.
       let w = front_after before a.before [] a.bytes h a.blanks (append-nil before ∙ a.split) a.holds in
@@ -189,10 +189,6 @@ asks_blanks before h = record {
   more = 33 ∷ [];
   closes = record { before = before; bytes = 33 ∷ []; split = refl; blanks = h; holds = bang };
 }
-
--- no token stands in blanks alone
-pub asks_blanks_unclosed : (before : List ℕ) → IsBlanks before → AfterBlanks before HasFront → ⊥
-asks_blanks_unclosed before h a = (asks_blanks before h).unclosed a
 
 -- the first two bytes of a comment, or what stands in place of the second
 
@@ -294,7 +290,7 @@ after_skips x y P Q f s a = record {
   holds = f a.bytes a.holds;
 }
 
-asks_after : (before at_hand : List ℕ) → IsBlanks before → AsksForMore at_hand → AsksForMore (before ++ at_hand)
+pub asks_after : (before at_hand : List ℕ) → IsBlanks before → AsksForMore at_hand → AsksForMore (before ++ at_hand)
 asks_after before at_hand h a = record {
   unclosed = λ w. a.unclosed (front_after before w.before at_hand w.bytes h w.blanks w.split w.holds);
   more = a.more;
@@ -369,6 +365,9 @@ solid_slash (Some c) b e s = (let same : b ≡ c = cc in λ k. s.1 (sym same ∙
 
 -- a token after blanks
 
+pub front_of : (input : List ℕ) (start : ℕ) (token : Token) (offset : ℕ) (rest : List ℕ) → IsNext input start token offset rest → AfterBlanks input HasFront
+front_of input start token offset rest n = record { before = n.before; bytes = n.bytes; split = n.split; blanks = n.blanks; holds = record { token = token; rest = rest; front = n.front } }
+
 -- where a token can come of the bytes, no blank stands at their front
 solid_after : (at_hand before bytes more : List ℕ) → at_hand ≢ [] → HasFront (at_hand ++ more) → at_hand ≡ before ++ bytes → IsBlanks before → HasFront bytes → HasFront at_hand
 solid_after at_hand before bytes more n f e nothing w = along _ _ (sym e) w
@@ -383,7 +382,7 @@ pauses_ask y z p = record {
   closes = record { before = []; bytes = p.at_hand ++ p.begins.more; split = refl; blanks = nothing; holds = p.begins.front };
 }
 
-at_once : (y : List ℕ) (P : List ℕ → Type 0) → P y → AfterBlanks y P
+pub at_once : (y : List ℕ) (P : List ℕ → Type 0) → P y → AfterBlanks y P
 at_once y P h = record { before = []; bytes = y; split = refl; blanks = nothing; holds = h }
 
 asked_for_one : (y z : List ℕ) → Tries y z → AskedForOne y z

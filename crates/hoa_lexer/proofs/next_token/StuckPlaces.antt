@@ -87,7 +87,7 @@ quoted_both [] =
 quoted_both (b ∷ bs) = let both = quoted_both bs in (quoted_step b bs both.0 both.1, both.0)
 
 -- so an open string can be closed
-string_begins : (bytes : List ℕ) → IsOpenString bytes → Begins bytes
+pub string_begins : (bytes : List ℕ) → IsOpenString bytes → Begins bytes
 string_begins bytes o = elim (quoted_both o.rest).0 [
   | inl q ↦ absurd (o.open_still q.inner q.text q.more q.split q.quotes)
   | inr q ↦ record {

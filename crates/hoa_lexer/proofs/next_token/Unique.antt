@@ -12,7 +12,8 @@ use Rattle.hoa_lexer.specs.Spelling.{Spells, Ends, StopsAt, IsIdentifier, IsNume
 use Rattle.hoa_lexer.specs.Spelling.Quotes.{nothing, escaped, plain}
 use Rattle.hoa_lexer.specs.Text.{IsFront, IsNext, Lexes}
 use Rattle.hoa_lexer.proofs.spelling.FirstBytes.{token_kind, front_head, no_front}
-use Rattle.hoa_lexer.proofs.next_token.Fronts.{same_place, asks_blanks_unclosed}
+use Rattle.hoa_lexer.proofs.next_token.Fronts.{front_of, same_place}
+use Rattle.hoa_lexer.proofs.next_token.Exclusive.{blanks_no_token}
 use Rattle.hoa_lexer.proofs.spelling.Numbers.{int_stops, nonzero}
 use Rattle.hoa_lexer.specs.declared.token.Token.{Token}
 use Rattle.hoa_lexer.specs.declared.token.Token.TheVariants.{HeaderName, Identifier, Str, Int, Alias, Bang, Amp, Bar, LeftParen, RightParen, LeftBrace, RightBrace, LeftBracket, RightBracket, Body, End, Abort}
@@ -293,8 +294,7 @@ one_next_token input start t u i k rest rest' f g =
     (same.token, offset, same.after)
 
 no_next_of_blanks : (input : List ℕ) (start : ℕ) (t : Token) (i : ℕ) (rest : List ℕ) → IsBlanks input → IsNext input start t i rest → ⊥
-no_next_of_blanks input start t i rest h f =
-    asks_blanks_unclosed input h (record { before = f.before; bytes = f.bytes; split = f.split; blanks = f.blanks; holds = record { token = t; rest = rest; front = f.front } })
+no_next_of_blanks input start t i rest h f = blanks_no_token input h (front_of input start t i rest f)
 
 same_pair : (p q : Token × ℕ) → p.0 ≡ q.0 → p.1 ≡ q.1 → p ≡ q
 same_pair (t, i) (u, k) e f = cc

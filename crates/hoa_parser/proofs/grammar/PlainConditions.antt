@@ -1,7 +1,9 @@
 -- An acceptance condition is written down as a phrase of the grammar, which opens no more than any other that means the
 -- same.
-use Rattle.std.proofs.Common.{◌≡◌, ℕ, suc, ◌≤◌, ◌++◌, refl, ◌∙◌, arith}
+use Rattle.std.proofs.Common.{◌≡◌, ℕ, suc, ◌≤◌, ◌∷◌, ◌++◌, refl, ◌∙◌, arith}
+use Rattle.std.proofs.Math.Path.{ap₂}
 use Rattle.std.proofs.lemmas.List.{append-nil}
+use Rattle.hoa_lexer.specs.declared.token.Token.TheVariants.{Amp}
 use Rattle.aut_base.specs.Formula as formula
 use Rattle.aut_base.specs.Formula.{FormulaTree, FormulaTrees, trees}
 use Rattle.hoa_parser.specs.Grammar.{Condition, ConditionWithin, Fands, FandsWithin, Fatom, FatomWithin, Fatoms, FatomsWithin, all_of, condition_meaning, condition_tokens, fands_meaning, fands_tokens, fatom_meaning, fatom_tokens, fatoms_meaning, fatoms_tokens}
@@ -9,6 +11,7 @@ use Rattle.hoa_parser.specs.Grammar.Condition.{condition}
 use Rattle.hoa_parser.specs.Grammar.Fands.{no_fand, or_fand}
 use Rattle.hoa_parser.specs.Grammar.Fatoms.{no_fatom, and_fatom}
 use Rattle.hoa_parser.specs.Grammar.Fatom.{true_condition, false_condition, infinitely, finitely, condition_group}
+use Rattle.hoa_parser.proofs.grammar.JoinedParts.{ap₃}
 use Rattle.hoa_parser.specs.WrittenDown.{written_formula, written_atoms, written_conjunctions}
 use Rattle.hoa_parser.specs.WrittenDown.Cursor.{Alone, InOr, InAnd}
 use Rattle.hoa_parser.proofs.grammar.PlainLabels.{and_line, or_line, more_line, in_group}
@@ -64,19 +67,12 @@ mutual
   fand_spells formula.False = refl
   fand_spells (formula.Inf set neg) = append-nil (fatom_tokens (infinitely set neg))
   fand_spells (formula.Fin set neg) = append-nil (fatom_tokens (finitely set neg))
-  fand_spells (formula.And t u ts) =
-      let first = fatom_spells t in
-      let second = fatom_spells u in
-      let others = fatoms_spells ts in
-      cc
+  fand_spells (formula.And t u ts) = ap₃ (λ x y z. x ++ Amp ∷ (y ++ z)) (fatom_spells t) (fatom_spells u) (fatoms_spells ts)
   fand_spells (formula.Or t u ts) = append-nil _ ∙ in_group _ _ (or_line _ _ _ _ _ _ _ _ (fand_spells t) (fand_spells u) (fands_spells ts))
 
   fatoms_spells : (ts : FormulaTrees) → fatoms_tokens (plain_fatoms ts) ≡ written_atoms ts
   fatoms_spells formula.none = refl
-  fatoms_spells (formula.more t ts) =
-      let first = fatom_spells t in
-      let others = fatoms_spells ts in
-      cc
+  fatoms_spells (formula.more t ts) = ap₂ (λ y z. Amp ∷ (y ++ z)) (fatom_spells t) (fatoms_spells ts)
 
   fands_spells : (ts : FormulaTrees) → fands_tokens (plain_fands ts) ≡ written_conjunctions ts
   fands_spells formula.none = refl
@@ -98,62 +94,32 @@ mutual
   fatom_means formula.False = refl
   fatom_means (formula.Inf set neg) = refl
   fatom_means (formula.Fin set neg) = refl
-  fatom_means (formula.And t u ts) =
-      let first = fatom_means t in
-      let second = fatom_means u in
-      let others = fatoms_mean ts in
-      cc
-  fatom_means (formula.Or t u ts) =
-      let first = fand_means t in
-      let second = fand_means u in
-      let others = fands_mean ts in
-      cc
+  fatom_means (formula.And t u ts) = ap₃ formula.And (fatom_means t) (fatom_means u) (fatoms_mean ts)
+  fatom_means (formula.Or t u ts) = ap₃ formula.Or (fand_means t) (fand_means u) (fands_mean ts)
 
   fand_means : (t : FormulaTree) → all_of (fatom_meaning (plain_head t)) (fatoms_meaning (plain_tail t)) ≡ t
   fand_means formula.True = refl
   fand_means formula.False = refl
   fand_means (formula.Inf set neg) = refl
   fand_means (formula.Fin set neg) = refl
-  fand_means (formula.And t u ts) =
-      let first = fatom_means t in
-      let second = fatom_means u in
-      let others = fatoms_mean ts in
-      cc
-  fand_means (formula.Or t u ts) =
-      let first = fand_means t in
-      let second = fand_means u in
-      let others = fands_mean ts in
-      cc
+  fand_means (formula.And t u ts) = ap₃ formula.And (fatom_means t) (fatom_means u) (fatoms_mean ts)
+  fand_means (formula.Or t u ts) = ap₃ formula.Or (fand_means t) (fand_means u) (fands_mean ts)
 
   fatoms_mean : (ts : FormulaTrees) → trees (fatoms_meaning (plain_fatoms ts)) ≡ ts
   fatoms_mean formula.none = refl
-  fatoms_mean (formula.more t ts) =
-      let first = fatom_means t in
-      let others = fatoms_mean ts in
-      cc
+  fatoms_mean (formula.more t ts) = ap₂ formula.more (fatom_means t) (fatoms_mean ts)
 
   fands_mean : (ts : FormulaTrees) → trees (fands_meaning (plain_fands ts)) ≡ ts
   fands_mean formula.none = refl
-  fands_mean (formula.more t ts) =
-      let first = fand_means t in
-      let others = fands_mean ts in
-      cc
+  fands_mean (formula.more t ts) = ap₂ formula.more (fand_means t) (fands_mean ts)
 
 pub condition_means : (t : FormulaTree) → condition_meaning (plain_condition t) ≡ t
 condition_means formula.True = refl
 condition_means formula.False = refl
 condition_means (formula.Inf set neg) = refl
 condition_means (formula.Fin set neg) = refl
-condition_means (formula.And t u ts) =
-    let first = fatom_means t in
-    let second = fatom_means u in
-    let others = fatoms_mean ts in
-    cc
-condition_means (formula.Or t u ts) =
-    let first = fand_means t in
-    let second = fand_means u in
-    let others = fands_mean ts in
-    cc
+condition_means (formula.And t u ts) = ap₃ formula.And (fatom_means t) (fatom_means u) (fatoms_mean ts)
+condition_means (formula.Or t u ts) = ap₃ formula.Or (fand_means t) (fand_means u) (fands_mean ts)
 
 -- where fewer are open around it
 

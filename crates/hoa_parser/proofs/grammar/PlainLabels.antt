@@ -1,5 +1,6 @@
 -- A label is written down as a phrase of the grammar, which opens no more than any other that means the same.
 use Rattle.std.proofs.Common.{◌≡◌, List, [], ◌∷◌, ◌++◌, refl, ◌∙◌, ap}
+use Rattle.std.proofs.Math.Path.{ap₂}
 use Rattle.std.proofs.lemmas.List.{append_assoc, append-nil}
 use Rattle.hoa_lexer.specs.declared.token.Token.{Token}
 use Rattle.hoa_lexer.specs.declared.token.Token.TheVariants.{Bang, Amp, Bar, LeftParen, RightParen}
@@ -10,6 +11,7 @@ use Rattle.hoa_parser.specs.Grammar.Lnots.{no_lnot, and_lnot}
 use Rattle.hoa_parser.specs.Grammar.Lnot.{true_label, false_label, proposition, alias, negated, group}
 use Rattle.hoa_parser.specs.Raw as raw
 use Rattle.hoa_parser.specs.Raw.{RawTree, RawTrees, raw_trees}
+use Rattle.hoa_parser.proofs.grammar.JoinedParts.{ap₃}
 use Rattle.hoa_parser.specs.WrittenDown.{written_label, written_factors, written_products}
 use Rattle.hoa_parser.specs.WrittenDown.Cursor.{Alone, InOr, InAnd}
 
@@ -83,19 +85,12 @@ mutual
   land_spells (raw.Prop i) = refl
   land_spells (raw.Alias name) = refl
   land_spells (raw.Not t) = append-nil (Bang ∷ lnot_tokens (plain_lnot t)) ∙ ap (λ w. Bang ∷ w) (lnot_spells t)
-  land_spells (raw.And t u ts) =
-      let first = lnot_spells t in
-      let second = lnot_spells u in
-      let others = lnots_spells ts in
-      cc
+  land_spells (raw.And t u ts) = ap₃ (λ x y z. x ++ Amp ∷ (y ++ z)) (lnot_spells t) (lnot_spells u) (lnots_spells ts)
   land_spells (raw.Or t u ts) = append-nil _ ∙ in_group _ _ (or_line _ _ _ _ _ _ _ _ (land_spells t) (land_spells u) (lands_spells ts))
 
   lnots_spells : (ts : RawTrees) → lnots_tokens (plain_lnots ts) ≡ written_factors ts
   lnots_spells raw.none = refl
-  lnots_spells (raw.more t ts) =
-      let first = lnot_spells t in
-      let others = lnots_spells ts in
-      cc
+  lnots_spells (raw.more t ts) = ap₂ (λ y z. Amp ∷ (y ++ z)) (lnot_spells t) (lnots_spells ts)
 
   lands_spells : (ts : RawTrees) → lands_tokens (plain_lands ts) ≡ written_products ts
   lands_spells raw.none = refl
@@ -119,16 +114,8 @@ mutual
   lnot_means (raw.Prop i) = refl
   lnot_means (raw.Alias name) = refl
   lnot_means (raw.Not t) = ap raw.Not (lnot_means t)
-  lnot_means (raw.And t u ts) =
-      let first = lnot_means t in
-      let second = lnot_means u in
-      let others = lnots_mean ts in
-      cc
-  lnot_means (raw.Or t u ts) =
-      let first = land_means t in
-      let second = land_means u in
-      let others = lands_mean ts in
-      cc
+  lnot_means (raw.And t u ts) = ap₃ raw.And (lnot_means t) (lnot_means u) (lnots_mean ts)
+  lnot_means (raw.Or t u ts) = ap₃ raw.Or (land_means t) (land_means u) (lands_mean ts)
 
   land_means : (t : RawTree) → conjunction (lnot_meaning (plain_first t)) (lnots_meaning (plain_others t)) ≡ t
   land_means raw.True = refl
@@ -136,30 +123,16 @@ mutual
   land_means (raw.Prop i) = refl
   land_means (raw.Alias name) = refl
   land_means (raw.Not t) = ap raw.Not (lnot_means t)
-  land_means (raw.And t u ts) =
-      let first = lnot_means t in
-      let second = lnot_means u in
-      let others = lnots_mean ts in
-      cc
-  land_means (raw.Or t u ts) =
-      let first = land_means t in
-      let second = land_means u in
-      let others = lands_mean ts in
-      cc
+  land_means (raw.And t u ts) = ap₃ raw.And (lnot_means t) (lnot_means u) (lnots_mean ts)
+  land_means (raw.Or t u ts) = ap₃ raw.Or (land_means t) (land_means u) (lands_mean ts)
 
   lnots_mean : (ts : RawTrees) → raw_trees (lnots_meaning (plain_lnots ts)) ≡ ts
   lnots_mean raw.none = refl
-  lnots_mean (raw.more t ts) =
-      let first = lnot_means t in
-      let others = lnots_mean ts in
-      cc
+  lnots_mean (raw.more t ts) = ap₂ raw.more (lnot_means t) (lnots_mean ts)
 
   lands_mean : (ts : RawTrees) → raw_trees (lands_meaning (plain_lands ts)) ≡ ts
   lands_mean raw.none = refl
-  lands_mean (raw.more t ts) =
-      let first = land_means t in
-      let others = lands_mean ts in
-      cc
+  lands_mean (raw.more t ts) = ap₂ raw.more (land_means t) (lands_mean ts)
 
 pub label_means : (t : RawTree) → label_meaning (plain_label t) ≡ t
 label_means raw.True = refl
@@ -167,13 +140,5 @@ label_means raw.False = refl
 label_means (raw.Prop i) = refl
 label_means (raw.Alias name) = refl
 label_means (raw.Not t) = ap raw.Not (lnot_means t)
-label_means (raw.And t u ts) =
-    let first = lnot_means t in
-    let second = lnot_means u in
-    let others = lnots_mean ts in
-    cc
-label_means (raw.Or t u ts) =
-    let first = land_means t in
-    let second = land_means u in
-    let others = lands_mean ts in
-    cc
+label_means (raw.And t u ts) = ap₃ raw.And (lnot_means t) (lnot_means u) (lnots_mean ts)
+label_means (raw.Or t u ts) = ap₃ raw.Or (land_means t) (land_means u) (lands_mean ts)

@@ -1,14 +1,17 @@
 -- The tokens of an acceptance condition have one meaning and one end.
 use Rattle.std.proofs.Common.{◌≡◌, ℕ, Bool, true, false, List, [], ◌∷◌, ◌++◌, refl, sym, ◌∙◌}
 use Rattle.std.specs.Prelude.{codes}
+use Rattle.std.proofs.Math.Path.{ap₂}
 use Rattle.std.proofs.lemmas.List.{append_assoc}
 use Rattle.hoa_lexer.specs.declared.token.Token.{Token}
 use Rattle.hoa_lexer.specs.declared.token.Token.TheVariants.{Amp, Bar, LeftParen, RightParen}
-use Rattle.hoa_parser.specs.Grammar.{Condition, Fands, Fatoms, Fatom, set_tokens, condition_tokens, fands_tokens, fatoms_tokens, fatom_tokens, condition_meaning, fands_meaning, fatoms_meaning, fatom_meaning}
+use Rattle.aut_base.specs.Formula as formula
+use Rattle.hoa_parser.specs.Grammar.{Condition, Fands, Fatoms, Fatom, all_of, one_of, set_tokens, condition_tokens, fands_tokens, fatoms_tokens, fatom_tokens, condition_meaning, fands_meaning, fatoms_meaning, fatom_meaning}
 use Rattle.hoa_parser.specs.Grammar.Condition.{condition}
 use Rattle.hoa_parser.specs.Grammar.Fands.{no_fand, or_fand}
 use Rattle.hoa_parser.specs.Grammar.Fatoms.{no_fatom, and_fatom}
 use Rattle.hoa_parser.specs.Grammar.Fatom.{true_condition, false_condition, infinitely, finitely, condition_group}
+use Rattle.hoa_parser.proofs.grammar.JoinedParts.{ap₃}
 use Rattle.hoa_parser.proofs.grammar.Stops.{Stops, IsSame, is_amp, is_join, join_no_amp, stops_not, append_two, later_tokens, words_apart}
 
 -- what follows the factors of a conjunction
@@ -35,10 +38,7 @@ mutual
       (sym (append_two (fatom_tokens f) (fatoms_tokens fs) (fands_tokens ls) c) ∙ e ∙ append_two (fatom_tokens g) (fatoms_tokens gs) (fands_tokens ms) d) in
       let b = same_fatoms fs gs (fands_tokens ls ++ c) (fands_tokens ms ++ d) a.rest (fands_stop ls c s) (fands_stop ms d t) in
       let k = same_fands ls ms c d b.rest s t in
-      let x = a.value in
-      let y = b.value in
-      let z = k.value in
-      record { value = cc; rest = k.rest }
+      record { value = ap₃ (λ x y z. one_of (all_of x y) z) a.value b.value k.value; rest = k.rest }
 
   pub same_fands : (ls ms : Fands) (c d : List Token) → fands_tokens ls ++ c ≡ fands_tokens ms ++ d → Stops is_join c → Stops is_join d → IsSame (fands_meaning ls) (fands_meaning ms) c d
   same_fands no_fand no_fand c d e s t = record { value = refl; rest = e }
@@ -49,10 +49,7 @@ mutual
       (sym (append_two (fatom_tokens f) (fatoms_tokens fs) (fands_tokens ls) c) ∙ later_tokens Bar Bar _ _ e ∙ append_two (fatom_tokens g) (fatoms_tokens gs) (fands_tokens ms) d) in
       let b = same_fatoms fs gs (fands_tokens ls ++ c) (fands_tokens ms ++ d) a.rest (fands_stop ls c s) (fands_stop ms d t) in
       let k = same_fands ls ms c d b.rest s t in
-      let x = a.value in
-      let y = b.value in
-      let z = k.value in
-      record { value = cc; rest = k.rest }
+      record { value = ap₃ (λ x y z. all_of x y ∷ z) a.value b.value k.value; rest = k.rest }
 
   pub same_fatoms : (fs gs : Fatoms) (c d : List Token) → fatoms_tokens fs ++ c ≡ fatoms_tokens gs ++ d → Stops is_amp c → Stops is_amp d → IsSame (fatoms_meaning fs) (fatoms_meaning gs) c d
   same_fatoms no_fatom no_fatom c d e s t = record { value = refl; rest = e }
@@ -62,23 +59,17 @@ mutual
       let a = same_fatom f g (fatoms_tokens fs ++ c) (fatoms_tokens gs ++ d)
       (sym (append_assoc (fatom_tokens f) (fatoms_tokens fs) c) ∙ later_tokens Amp Amp _ _ e ∙ append_assoc (fatom_tokens g) (fatoms_tokens gs) d) in
       let b = same_fatoms fs gs c d a.rest s t in
-      let x = a.value in
-      let y = b.value in
-      record { value = cc; rest = b.rest }
+      record { value = ap₂ (λ x y. x ∷ y) a.value b.value; rest = b.rest }
 
   pub same_fatom : (f g : Fatom) (c d : List Token) → fatom_tokens f ++ c ≡ fatom_tokens g ++ d → IsSame (fatom_meaning f) (fatom_meaning g) c d
   same_fatom true_condition true_condition c d e = record { value = refl; rest = later_tokens _ _ c d e }
   same_fatom false_condition false_condition c d e = record { value = refl; rest = later_tokens _ _ c d e }
   same_fatom (infinitely m p) (infinitely n q) c d e =
       let a = same_set m n p q c d (later_tokens _ _ _ _ e) in
-      let x = a.set in
-      let y = a.sign in
-      record { value = cc; rest = a.rest }
+      record { value = ap₂ formula.Inf a.set a.sign; rest = a.rest }
   same_fatom (finitely m p) (finitely n q) c d e =
       let a = same_set m n p q c d (later_tokens _ _ _ _ e) in
-      let x = a.set in
-      let y = a.sign in
-      record { value = cc; rest = a.rest }
+      record { value = ap₂ formula.Fin a.set a.sign; rest = a.rest }
   same_fatom (condition_group l) (condition_group m) c d e =
       let a = same_condition l m (RightParen ∷ c) (RightParen ∷ d)
       (sym (append_assoc (condition_tokens l) (RightParen ∷ []) c) ∙ later_tokens LeftParen LeftParen _ _ e ∙ append_assoc (condition_tokens m) (RightParen ∷ []) d) refl refl in

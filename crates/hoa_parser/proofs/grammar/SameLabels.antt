@@ -1,15 +1,17 @@
 -- The tokens of a label have one meaning and one end.
 use Rattle.std.proofs.Common.{◌≡◌, List, [], ◌∷◌, ◌++◌, refl, sym, ◌∙◌, ap}
 use Rattle.std.specs.Prelude.{codes}
+use Rattle.std.proofs.Math.Path.{ap₂}
 use Rattle.std.proofs.lemmas.List.{append_assoc}
 use Rattle.hoa_lexer.specs.declared.token.Token.{Token}
 use Rattle.hoa_lexer.specs.declared.token.Token.TheVariants.{Bang, Amp, Bar, LeftParen, RightParen}
 use Rattle.hoa_parser.specs.Raw as raw
-use Rattle.hoa_parser.specs.Grammar.{Label, Lands, Lnots, Lnot, label_tokens, lands_tokens, lnots_tokens, lnot_tokens, label_meaning, lands_meaning, lnots_meaning, lnot_meaning}
+use Rattle.hoa_parser.specs.Grammar.{Label, Lands, Lnots, Lnot, conjunction, disjunction, label_tokens, lands_tokens, lnots_tokens, lnot_tokens, label_meaning, lands_meaning, lnots_meaning, lnot_meaning}
 use Rattle.hoa_parser.specs.Grammar.Label.{label}
 use Rattle.hoa_parser.specs.Grammar.Lands.{no_land, or_land}
 use Rattle.hoa_parser.specs.Grammar.Lnots.{no_lnot, and_lnot}
 use Rattle.hoa_parser.specs.Grammar.Lnot.{true_label, false_label, proposition, alias, negated, group}
+use Rattle.hoa_parser.proofs.grammar.JoinedParts.{ap₃}
 use Rattle.hoa_parser.proofs.grammar.Stops.{Stops, IsSame, is_amp, is_join, join_no_amp, stops_not, append_two, later_tokens, words_apart}
 
 -- what follows the factors of a conjunction
@@ -24,10 +26,7 @@ mutual
       (sym (append_two (lnot_tokens f) (lnots_tokens fs) (lands_tokens ls) c) ∙ e ∙ append_two (lnot_tokens g) (lnots_tokens gs) (lands_tokens ms) d) in
       let b = same_lnots fs gs (lands_tokens ls ++ c) (lands_tokens ms ++ d) a.rest (lands_stop ls c s) (lands_stop ms d t) in
       let k = same_lands ls ms c d b.rest s t in
-      let x = a.value in
-      let y = b.value in
-      let z = k.value in
-      record { value = cc; rest = k.rest }
+      record { value = ap₃ (λ x y z. disjunction (conjunction x y) z) a.value b.value k.value; rest = k.rest }
 
   pub same_lands : (ls ms : Lands) (c d : List Token) → lands_tokens ls ++ c ≡ lands_tokens ms ++ d → Stops is_join c → Stops is_join d → IsSame (lands_meaning ls) (lands_meaning ms) c d
   same_lands no_land no_land c d e s t = record { value = refl; rest = e }
@@ -38,10 +37,7 @@ mutual
       (sym (append_two (lnot_tokens f) (lnots_tokens fs) (lands_tokens ls) c) ∙ later_tokens Bar Bar _ _ e ∙ append_two (lnot_tokens g) (lnots_tokens gs) (lands_tokens ms) d) in
       let b = same_lnots fs gs (lands_tokens ls ++ c) (lands_tokens ms ++ d) a.rest (lands_stop ls c s) (lands_stop ms d t) in
       let k = same_lands ls ms c d b.rest s t in
-      let x = a.value in
-      let y = b.value in
-      let z = k.value in
-      record { value = cc; rest = k.rest }
+      record { value = ap₃ (λ x y z. conjunction x y ∷ z) a.value b.value k.value; rest = k.rest }
 
   pub same_lnots : (fs gs : Lnots) (c d : List Token) → lnots_tokens fs ++ c ≡ lnots_tokens gs ++ d → Stops is_amp c → Stops is_amp d → IsSame (lnots_meaning fs) (lnots_meaning gs) c d
   same_lnots no_lnot no_lnot c d e s t = record { value = refl; rest = e }
@@ -51,9 +47,7 @@ mutual
       let a = same_lnot f g (lnots_tokens fs ++ c) (lnots_tokens gs ++ d)
       (sym (append_assoc (lnot_tokens f) (lnots_tokens fs) c) ∙ later_tokens Amp Amp _ _ e ∙ append_assoc (lnot_tokens g) (lnots_tokens gs) d) in
       let b = same_lnots fs gs c d a.rest s t in
-      let x = a.value in
-      let y = b.value in
-      record { value = cc; rest = b.rest }
+      record { value = ap₂ (λ x y. x ∷ y) a.value b.value; rest = b.rest }
 
   pub same_lnot : (f g : Lnot) (c d : List Token) → lnot_tokens f ++ c ≡ lnot_tokens g ++ d → IsSame (lnot_meaning f) (lnot_meaning g) c d
   same_lnot true_label true_label c d e = record { value = refl; rest = later_tokens _ _ c d e }

@@ -1,26 +1,44 @@
 -- What is a value in a list of values.
 use Rattle.std.proofs.Common.{◌≡◌, ◌∷◌, ◌++◌, [], ℕ, true, false, List, map, flat_map, Some, None, refl, sym, ap, subst, ◌∙◌}
+use Rattle.std.specs.Prelude.{nat_le}
 use Rattle.std.proofs.lemmas.Bool.{false≢true}
 use Rattle.std.proofs.lemmas.List.{append_assoc}
 use Rattle.std.proofs.lemmas.List.Concat.{flat_map-append}
 use Rattle.hoa_lexer.specs.declared.token.Token.{Token}
 use Rattle.hoa_lexer.specs.declared.token.Token.TheVariants as token
 use Rattle.hoa_parser.proofs.reading.FrontParts.{passed_then, spelled_more}
-use Rattle.hoa_parser.specs.inner.Expecting.{AccValues, Passes, Takes, Values, move}
-use Rattle.hoa_parser.specs.Grammar.{AccValue, Value, acc_number, acc_value_token, acc_word, and_number, number_value, text_value, value_token, word_value}
-use Rattle.hoa_parser.specs.inner.Parsing.{Passed, Cursor, is_end}
-use Rattle.hoa_parser.specs.inner.RuleReads.{AddsMarks, AddsNumbers, AreAccValues, AreMarks, AreValues, IsConj, IsNumber, is_acc_value, is_value}
+use Rattle.hoa_parser.specs.inner.Expecting.{AccValues, Part, Passes, Takes, Values, move, open_at}
+use Rattle.hoa_parser.specs.Grammar.{acc_number, acc_value_token, acc_word, and_number, number_value, text_value, value_token, word_value}
+use Rattle.hoa_parser.proofs.reading.Steps.{fails_after, reads_as, reads_then, takes, takes_last}
+use Rattle.hoa_parser.specs.inner.Parsing.{Advanced, Cursor, FailsAt, Passed, ReadsTo, State, Unadvanced, is_end}
+use Rattle.hoa_parser.specs.Standing.{most_depth}
+use Rattle.hoa_parser.specs.declared.fault.ReadFault.{ReadFault}
+use Rattle.hoa_parser.specs.inner.RuleReads.{AddsMarks, AddsNumbers, AreMarks, IsConj, IsNumber, is_acc_value, is_value}
 
--- a token that is one
-pub record IsAccValue (z : Token) : Type 0 where
-  pub value : AccValue
-  pub is : z ≡ acc_value_token value
-  pub taken : move AccValues z ≡ Takes (AccValues ∷ [])
+-- a list of what is spelled so
+abbrev pub AreSpelled : {V : Type 0} → (V → Token) → Cursor → Cursor → Type 0
+AreSpelled {V} spelled a b = (values : List V) × Passed a (map spelled values) b
+
+-- a token that is one of the list that the part stands for
+pub record IsOneOf {V : Type 0} (part : Part) (spelled : V → Token) (z : Token) : Type 0 where
+  pub value : V
+  pub is : z ≡ spelled value
+  pub taken : move part z ≡ Takes (part ∷ [])
   pub unended : is_end z ≡ false
+  pub room : nat_le (open_at (part ∷ [])) most_depth ≡ true
 
-pub acc_value_at : (z : Token) → is_acc_value z ≡ true → IsAccValue z
-acc_value_at (token.Int n) h = record { value = acc_number n; is = refl; taken = refl; unended = refl }
-acc_value_at (token.Identifier word) h = record { value = acc_word word; is = refl; taken = refl; unended = refl }
+-- it was taken, or it is what the reading ends at
+pub one_more : {V : Type 0} {part : Part} {spelled : V → Token} {s m s' : State} → IsOneOf part spelled m.ahead → ReadsTo (part ∷ []) (part ∷ []) (AreSpelled spelled) s m → Advanced m s' → ReadsTo (part ∷ []) (part ∷ []) (AreSpelled spelled) s s'
+one_more {part = part} {spelled = spelled} {m = m} one before next =
+    reads_as (λ a c h. (h.1.0 ++ one.value ∷ [], spelled_more spelled h.1.0 one.value (h.1.0 ++ one.value ∷ []) a h.0 c refl h.1.1 (subst (λ (t : Token). Passed h.0 (t ∷ []) c) one.is h.2)))
+    (reads_then before (takes part [] m.ahead refl one.taken one.room one.unended next))
+
+pub no_more : {V : Type 0} {part : Part} {spelled : V → Token} {f : ReadFault} {s m s' : State} → IsOneOf part spelled m.ahead → ReadsTo (part ∷ []) (part ∷ []) (AreSpelled spelled) s m → Unadvanced f m s' → FailsAt f (part ∷ []) s s'
+no_more {part = part} {m = m} one before last = fails_after before (takes_last part [] m.ahead refl one.taken one.room one.unended last)
+
+pub acc_value_at : (z : Token) → is_acc_value z ≡ true → IsOneOf AccValues acc_value_token z
+acc_value_at (token.Int n) h = record { value = acc_number n; is = refl; taken = refl; unended = refl; room = refl }
+acc_value_at (token.Identifier word) h = record { value = acc_word word; is = refl; taken = refl; unended = refl; room = refl }
 acc_value_at z h = absurd (false≢true h)
 
 pub no_acc_value : (z : Token) → is_acc_value z ≡ false → move AccValues z ≡ Passes
@@ -28,20 +46,10 @@ no_acc_value (token.Int n) h = absurd (false≢true (sym h))
 no_acc_value (token.Identifier word) h = absurd (false≢true (sym h))
 no_acc_value z h = refl
 
-pub acc_values_more : (z : Token) (done : Unit {0}) (a b c : Cursor) → IsAccValue z → AreAccValues done a b → Passed b (z ∷ []) c → AreAccValues done a c
-acc_values_more z done a b c one p q =
-    (p.0 ++ one.value ∷ [], spelled_more acc_value_token p.0 one.value (p.0 ++ one.value ∷ []) a b c refl p.1 (subst (λ (t : Token). Passed b (t ∷ []) c) one.is q))
-
-pub record IsValue (z : Token) : Type 0 where
-  pub value : Value
-  pub is : z ≡ value_token value
-  pub taken : move Values z ≡ Takes (Values ∷ [])
-  pub unended : is_end z ≡ false
-
-pub value_at : (z : Token) → is_value z ≡ true → IsValue z
-value_at (token.Int n) h = record { value = number_value n; is = refl; taken = refl; unended = refl }
-value_at (token.Str text) h = record { value = text_value text; is = refl; taken = refl; unended = refl }
-value_at (token.Identifier word) h = record { value = word_value word; is = refl; taken = refl; unended = refl }
+pub value_at : (z : Token) → is_value z ≡ true → IsOneOf Values value_token z
+value_at (token.Int n) h = record { value = number_value n; is = refl; taken = refl; unended = refl; room = refl }
+value_at (token.Str text) h = record { value = text_value text; is = refl; taken = refl; unended = refl; room = refl }
+value_at (token.Identifier word) h = record { value = word_value word; is = refl; taken = refl; unended = refl; room = refl }
 value_at z h = absurd (false≢true h)
 
 pub no_value : (z : Token) → is_value z ≡ false → move Values z ≡ Passes
@@ -49,10 +57,6 @@ no_value (token.Int n) h = absurd (false≢true (sym h))
 no_value (token.Str text) h = absurd (false≢true (sym h))
 no_value (token.Identifier word) h = absurd (false≢true (sym h))
 no_value z h = refl
-
-pub values_more : (z : Token) (done : Unit {0}) (a b c : Cursor) → IsValue z → AreValues done a b → Passed b (z ∷ []) c → AreValues done a c
-values_more z done a b c one p q =
-    (p.0 ++ one.value ∷ [], spelled_more value_token p.0 one.value (p.0 ++ one.value ∷ []) a b c refl p.1 (subst (λ (t : Token). Passed b (t ∷ []) c) one.is q))
 
 -- the numbers that follow these
 abbrev pub AddsInts : List ℕ → List ℕ → Cursor → Cursor → Type 0

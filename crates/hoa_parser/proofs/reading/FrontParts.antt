@@ -19,6 +19,9 @@ pub passed_then : (a m b : Cursor) (u v : List Token) → Passed a u m → Passe
 passed_then a m b [] v p q = subst (λ (x : Cursor). Passed x v b) (sym p) q
 passed_then a m b (t ∷ u) v p q = (p.0, p.1, p.2, passed_then p.0 m b u v p.3 q)
 
+pub subst_tokens : (a b : Cursor) {ts us : List Token} → ts ≡ us → Passed a ts b → Passed a us b
+subst_tokens a b same passed = subst (λ (vs : List Token). Passed a vs b) same passed
+
 pub unended_then : (u v : List Token) → Unended u → Unended v → Unended (u ++ v)
 unended_then [] v p q = q
 unended_then (t ∷ u) v p q = (p.0, unended_then u v p.1 q)

@@ -2,8 +2,7 @@
 use Rattle.std.proofs.Common.{◌≡◌, ◌≤◌, ℕ, suc, [], ◌∷◌, ◌++◌, Some, refl, sym, ap, ◌∙◌}
 use Rattle.hoa_lexer.specs.declared.token.Token.TheVariants as token
 use Rattle.hoa_parser.proofs.reading.Atoms.{IsAtom, atom_found}
-use Rattle.hoa_parser.proofs.reading.FrontParts.{passed_then}
-use Rattle.hoa_parser.proofs.reading.LabelChains.{subst_tokens}
+use Rattle.hoa_parser.proofs.reading.FrontParts.{passed_then, subst_tokens}
 use Rattle.hoa_parser.proofs.reading.Steps.{Read, reads_as, takes, takes_last}
 use Rattle.hoa_parser.specs.inner.Expecting.{Factor}
 use Rattle.hoa_parser.specs.Grammar.{group, label_tokens, lnot_tokens, negated}
@@ -19,7 +18,7 @@ use Rattle.hoa_parser.specs.declared.raw.RawLabel.{RawLabel}
 pub atom_taken : (depth : ℕ) (l : RawLabel) (s s' : State) → atom_of s.ahead ≡ Some (raw_tree l) → Advanced s s' → ReadsTo (Factor depth ∷ []) [] (IsLnot depth l) s s'
 atom_taken depth l s s' is one =
     let found : IsAtom depth s.ahead (raw_tree l) = atom_found depth s.ahead (raw_tree l) is in
-    reads_as (λ a b h. record { phrase = found.phrase; within = found.within; passed = subst_tokens a b (s.ahead ∷ []) (lnot_tokens found.phrase) (sym found.spelled) h; means = found.means })
+    reads_as (λ a b h. record { phrase = found.phrase; within = found.within; passed = subst_tokens a b (sym found.spelled) h; means = found.means })
     (takes (Factor depth) [] s.ahead refl found.taken refl found.goes_on one)
 
 pub atom_last : {f : ReadFault} (depth : ℕ) (t : RawTree) (s s' : State) → atom_of s.ahead ≡ Some t → Unadvanced f s s' → FailsAt f (Factor depth ∷ []) s s'

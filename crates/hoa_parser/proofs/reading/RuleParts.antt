@@ -1,14 +1,14 @@
 -- How the parts of a rule are read, one after the other.
-use Rattle.std.proofs.Common.{◌≡◌, false, List, [], ◌∷◌, ◌++◌, map, OnOk, Result, Ok, Err, refl, sym, ap, subst, ◌∙◌, arith}
+use Rattle.std.proofs.Common.{◌≡◌, false, List, [], ◌∷◌, ◌++◌, map, OnOk, Result, Ok, Err, refl, sym, ap, ◌∙◌, arith}
 use Rattle.std.proofs.lemmas.Grind.{flat_map-append}
-use Rattle.std.proofs.lemmas.List.{append-nil, map-append}
+use Rattle.std.proofs.lemmas.List.{append_assoc, append-nil, map-append}
 use Rattle.std.specs.List.{AllByRecursion}
 use Rattle.std.specs.Prelude.{flat_map}
 use Rattle.hoa_lexer.specs.declared.token.Token.{Token}
-use Rattle.hoa_parser.proofs.reading.FrontParts.{passed_then}
+use Rattle.hoa_parser.proofs.reading.FrontParts.{passed_then, subst_tokens}
 use Rattle.hoa_parser.proofs.reading.Steps.{Then, next_fails, next_reads, reads_as, reads_nothing, reads_then}
 use Rattle.hoa_parser.specs.inner.Expecting.{Part}
-use Rattle.hoa_parser.specs.inner.Parsing.{Advanced, Cursor, IsWritten, Passed, Reads, ReadsTo, Relation, State, Uses}
+use Rattle.hoa_parser.specs.inner.Parsing.{Advanced, Cursor, IsWritten, Reads, ReadsTo, Relation, State, Uses}
 use Rattle.hoa_parser.specs.declared.fault.ReadFault.{ReadFault}
 use Rattle.aut_base.proofs.AllByRecursion.{AllByRecursion-append}
 
@@ -23,15 +23,16 @@ pub uses_then : {T : Type 0} {s m : State} (p q : List Part) (Q : T → Relation
 uses_then p q Q (Ok w) s' one two = omega (arith, one.uses, two.moves.used)
 uses_then p q Q (Err f) s' one two = tt
 
--- phrases and one more
-list_more : {X Y Z : Type 0} (W : X → Type 0) (tokens : X → List Token) (meaning : X → Y) (value : Z → Y) (zs : List Z) (z : Z) (a b c : Cursor)
-    → IsWritten (AllByRecursion W) (flat_map tokens) (map meaning) (map value zs) a b → IsWritten W tokens meaning (value z) b c → IsWritten (AllByRecursion W) (flat_map tokens) (map meaning) (map value (zs ++ z ∷ [])) a c
-list_more W tokens meaning value zs z a b c h k = record {
+-- phrases and one more, behind what `before` says
+pub phrases_more : {X Y : Type 0} {W : X → Type 0} {tokens : X → List Token} {meaning : X → Y} (before ys zs : List Y) (y : Y) (a b c : Cursor) → zs ≡ ys ++ y ∷ []
+    → IsWritten (AllByRecursion W) (flat_map tokens) (λ xs. before ++ map meaning xs) ys a b → IsWritten W tokens meaning y b c → IsWritten (AllByRecursion W) (flat_map tokens) (λ xs. before ++ map meaning xs) zs a c
+phrases_more {W = W} {tokens = tokens} {meaning = meaning} before ys zs y a b c list h k = record {
   phrase = h.phrase ++ k.phrase ∷ [];
   within = AllByRecursion-append W h.phrase (k.phrase ∷ []) h.within (k.within, tt);
-  passed = subst (λ (ts : List Token). Passed a ts c) (sym (flat_map-append tokens h.phrase (k.phrase ∷ [])))
-      (passed_then a b c (flat_map tokens h.phrase) (tokens k.phrase ++ []) h.passed (subst (λ (ts : List Token). Passed b ts c) (sym (append-nil (tokens k.phrase))) k.passed));
-  means = map-append value zs (z ∷ []) ∙ ap (λ ys. ys ++ value z ∷ []) h.means ∙ ap (λ y. map meaning h.phrase ++ y ∷ []) k.means ∙ sym (map-append meaning h.phrase (k.phrase ∷ []));
+  passed = subst_tokens a c (sym (flat_map-append tokens h.phrase (k.phrase ∷ [])))
+      (passed_then a b c (flat_map tokens h.phrase) (tokens k.phrase ++ []) h.passed (subst_tokens b c (sym (append-nil (tokens k.phrase))) k.passed));
+  means = list ∙ ap (λ us. us ++ y ∷ []) h.means ∙ ap (λ u. (before ++ map meaning h.phrase) ++ u ∷ []) k.means
+      ∙ append_assoc before (map meaning h.phrase) (meaning k.phrase ∷ []) ∙ ap (λ us. before ++ us) (sym (map-append meaning h.phrase (k.phrase ∷ [])));
 }
 
 -- the list, so far
@@ -44,5 +45,5 @@ list_none p W tokens meaning value zs s none unspent = reads_nothing (p ∷ []) 
 
 pub list_next : {X Y Z : Type 0} (p : Part) (W : X → Type 0) (tokens : X → List Token) (meaning : X → Y) (value : Z → Y) (zs ws : List Z) (z : Z) {s m s' : State} → ws ≡ zs ++ z ∷ []
     → ReadsTo (p ∷ []) (p ∷ []) (ListSo W tokens meaning value zs) s m → ReadsTo (p ∷ []) (p ∷ []) (IsWritten W tokens meaning (value z)) m s' → ReadsTo (p ∷ []) (p ∷ []) (ListSo W tokens meaning value ws) s s'
-list_next {Z = Z} p W tokens meaning value zs ws z same one two =
-    reads_as (λ a c h. subst (λ (xs : List Z). ListSo W tokens meaning value xs a c) (sym same) (list_more W tokens meaning value zs z a h.0 c h.1 h.2)) (reads_then one two)
+list_next p W tokens meaning value zs ws z same one two =
+    reads_as (λ a c h. phrases_more {W = W} {tokens = tokens} {meaning = meaning} [] (map value zs) (map value ws) (value z) a h.0 c (ap (map value) same ∙ map-append value zs (z ∷ [])) h.1 h.2) (reads_then one two)

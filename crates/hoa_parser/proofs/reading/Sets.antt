@@ -5,8 +5,7 @@ use Rattle.aut_base.specs.Formula.{formula_tree}
 use Rattle.aut_base.specs.declared.formula.Formula.{Formula}
 use Rattle.hoa_lexer.specs.declared.token.Token.TheVariants as token
 use Rattle.hoa_parser.proofs.reading.Atoms.{sign_word}
-use Rattle.hoa_parser.proofs.reading.FrontParts.{passed_then}
-use Rattle.hoa_parser.proofs.reading.LabelChains.{subst_tokens}
+use Rattle.hoa_parser.proofs.reading.FrontParts.{passed_then, subst_tokens}
 use Rattle.hoa_parser.proofs.reading.Steps.{Read, takes}
 use Rattle.hoa_parser.specs.Grammar.{Fatom, FatomWithin, bang_tokens, fatom_meaning, fatom_tokens, set_tokens}
 use Rattle.hoa_parser.specs.inner.Expecting.{Atom, Part, Takes, move, open_at, set_parts}
@@ -44,7 +43,7 @@ sign_opens sign.Fin = refl
 -- a sign that is all of the atom
 pub sign_alone : (depth : ℕ) (g : Sign) (phrase : Fatom) (l : Formula) (a b : Cursor) → FatomWithin most_depth depth phrase → fatom_tokens phrase ≡ token.Identifier (sign_word g) ∷ [] → formula_tree l ≡ fatom_meaning phrase
     → Read (token.Identifier (sign_word g)) a b → IsFatom depth l a b
-sign_alone depth g phrase l a b within spelled means one = record { phrase = phrase; within = within; passed = subst_tokens a b (token.Identifier (sign_word g) ∷ []) (fatom_tokens phrase) (sym spelled) one; means = means }
+sign_alone depth g phrase l a b within spelled means one = record { phrase = phrase; within = within; passed = subst_tokens a b (sym spelled) one; means = means }
 
 -- a sign and its set
 pub sign_with_set : (depth : ℕ) (g : Sign) (set : SetAt) (phrase : Fatom) (l : Formula) (a b c : Cursor) → FatomWithin most_depth depth phrase → fatom_tokens phrase ≡ token.Identifier (sign_word g) ∷ set_tokens set.number set.neg → formula_tree l ≡ fatom_meaning phrase
@@ -52,8 +51,7 @@ pub sign_with_set : (depth : ℕ) (g : Sign) (set : SetAt) (phrase : Fatom) (l :
 sign_with_set depth g set phrase l a b c within spelled means one two = record {
   phrase = phrase;
   within = within;
-  passed = subst_tokens a c (token.Identifier (sign_word g) ∷ set_tokens set.number set.neg) (fatom_tokens phrase) (sym spelled)
-      (passed_then a b c (token.Identifier (sign_word g) ∷ []) (set_tokens set.number set.neg) one two);
+  passed = subst_tokens a c (sym spelled) (passed_then a b c (token.Identifier (sign_word g) ∷ []) (set_tokens set.number set.neg) one two);
   means = means;
 }
 

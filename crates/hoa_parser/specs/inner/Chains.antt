@@ -1,21 +1,29 @@
 -- What the loops over chains of `&` and `|` have read.
-use Rattle.std.specs.Prelude.{ℕ, ◌∷◌}
+use Rattle.std.specs.Prelude.{ℕ, List, ◌∷◌, map, flat_map}
+use Rattle.std.specs.List.{AllByRecursion}
 use Rattle.aut_base.specs.Formula.{FormulaTree, formula_list}
 use Rattle.aut_base.specs.declared.formula.Formulas.{Formulas}
-use Rattle.hoa_parser.specs.Grammar.{fands_meaning, fands_tokens, FandsWithin, fatoms_meaning, fatoms_tokens, FatomsWithin, lands_meaning, lands_tokens, LandsWithin, lnots_meaning, lnots_tokens, LnotsWithin}
+use Rattle.hoa_lexer.specs.declared.token.Token.{Token}
+use Rattle.hoa_lexer.specs.declared.token.Token.TheVariants as token
+use Rattle.hoa_parser.specs.Grammar.{FatomWithin, LnotWithin, fatom_meaning, fatom_tokens, lnot_meaning, lnot_tokens}
 use Rattle.hoa_parser.specs.inner.Parsing.{IsWritten, Cursor}
+use Rattle.hoa_parser.specs.inner.RuleReads.{FandWithin, LandWithin, fand_meaning, fand_tokens, land_meaning, land_tokens}
 use Rattle.hoa_parser.specs.Raw.{RawTree, raw_list}
 use Rattle.hoa_parser.specs.Standing.{most_depth}
 use Rattle.hoa_parser.specs.declared.raw.RawLabels.{RawLabels}
 
+-- parts behind a first one
+abbrev pub Adds : {P T : Type 0} → (P → Type 0) → (P → List Token) → (P → T) → T → List T → Cursor → Cursor → Type 0
+Adds Within tokens meaning first = IsWritten (AllByRecursion Within) (flat_map tokens) (λ ps. first ∷ map meaning ps)
+
 abbrev pub AddsLnots : ℕ → RawTree → RawLabels → Cursor → Cursor → Type 0
-AddsLnots depth first parts = IsWritten (LnotsWithin most_depth depth) lnots_tokens (λ fs. first ∷ lnots_meaning fs) (raw_list parts)
+AddsLnots depth first parts = Adds (LnotWithin most_depth depth) (λ f. token.Amp ∷ lnot_tokens f) lnot_meaning first (raw_list parts)
 
 abbrev pub AddsLands : ℕ → RawTree → RawLabels → Cursor → Cursor → Type 0
-AddsLands depth first parts = IsWritten (LandsWithin most_depth depth) lands_tokens (λ ls. first ∷ lands_meaning ls) (raw_list parts)
+AddsLands depth first parts = Adds (LandWithin depth) (λ p. token.Bar ∷ land_tokens p) land_meaning first (raw_list parts)
 
 abbrev pub AddsFatoms : ℕ → FormulaTree → Formulas → Cursor → Cursor → Type 0
-AddsFatoms depth first parts = IsWritten (FatomsWithin most_depth depth) fatoms_tokens (λ fs. first ∷ fatoms_meaning fs) (formula_list parts)
+AddsFatoms depth first parts = Adds (FatomWithin most_depth depth) (λ f. token.Amp ∷ fatom_tokens f) fatom_meaning first (formula_list parts)
 
 abbrev pub AddsFands : ℕ → FormulaTree → Formulas → Cursor → Cursor → Type 0
-AddsFands depth first parts = IsWritten (FandsWithin most_depth depth) fands_tokens (λ ls. first ∷ fands_meaning ls) (formula_list parts)
+AddsFands depth first parts = Adds (FandWithin depth) (λ p. token.Bar ∷ fand_tokens p) fand_meaning first (formula_list parts)

@@ -5,7 +5,8 @@ use Rattle.hoa_parser.proofs.reading.FrontParts.{passed_then}
 use Rattle.hoa_parser.proofs.reading.RuleParts.{next_answer}
 use Rattle.hoa_parser.proofs.reading.Steps.{fails_after, fails_before, handed_on, next_fails, next_reads, no_memory, reads_as, reads_before, reads_end, reads_then, takes, takes_last, token_passed, too_deep}
 use Rattle.aut_base.proofs.FormulaTrees.{formula_tree-And, formula_tree-Or}
-use Rattle.hoa_parser.proofs.reading.ConditionChains.{adds_first_fand, adds_first_fatom, adds_fand, adds_fatom, condition_of, fand_of, fands_whole, fatoms_whole}
+use Rattle.hoa_parser.proofs.reading.Chains.{chain_first, chain_next}
+use Rattle.hoa_parser.proofs.reading.ConditionChains.{condition_of, fand_of, fands_whole, fatoms_whole}
 use Rattle.hoa_parser.proofs.reading.ConditionReads.{group_of}
 use Rattle.hoa_parser.specs.Grammar.{no_fand, no_fatom}
 use Rattle.hoa_parser.specs.inner.RuleReads.{IsAndFatom, IsAndFatoms, IsCondition, IsFand, IsFatom, IsOrFand, IsOrFands}
@@ -61,7 +62,7 @@ and_fatoms-returns-in_err-parts g t c =
 
 pub and_fatoms-fatoms-init : goal.and_fatoms-fatoms-init
 and_fatoms-fatoms-init g t c =
-    reads_as (λ a e h. adds_first_fatom c.args.depth (formula_tree c.args.first) c.in_ok-second.second c.in_ok-parts.parts a e c.in_ok-parts.ensures h) c.in_ok-second.ensures.reads
+    chain_first (formula_tree c.args.first) _ _ c.in_ok-parts.ensures c.in_ok-second.ensures.reads
 
 pub and_fatoms-returns-in_default-ahead : goal.and_fatoms-returns-in_default-ahead
 and_fatoms-returns-in_default-ahead g t c =
@@ -85,7 +86,7 @@ and_fatoms-fatoms-smaller g t c =
 
 pub and_fatoms-fatoms-preserved : goal.and_fatoms-fatoms-preserved
 and_fatoms-fatoms-preserved g t c =
-    reads_as (λ a e h. adds_fatom c.args.depth (formula_tree c.args.first) c.fatoms.parts c.push.new.self c.in_ok-next.next a h.0 e c.in_ok-push.ensures.ok h.1 h.2) (reads_then c.fatoms.invariant c.in_ok-next.ensures.reads)
+    chain_next (formula_tree c.args.first) _ _ _ c.in_ok-push.ensures.ok c.fatoms.invariant c.in_ok-next.ensures.reads
 
 pub or_fands-returns-in_default : goal.or_fands-returns-in_default
 or_fands-returns-in_default g t c =
@@ -105,7 +106,7 @@ or_fands-returns-in_err-parts g t c =
 
 pub or_fands-fands-init : goal.or_fands-fands-init
 or_fands-fands-init g t c =
-    reads_as (λ a e h. adds_first_fand c.args.depth (formula_tree c.args.first) c.in_ok-second.second c.in_ok-parts.parts a e c.in_ok-parts.ensures h) c.in_ok-second.ensures.reads
+    chain_first (formula_tree c.args.first) _ _ c.in_ok-parts.ensures c.in_ok-second.ensures.reads
 
 pub or_fands-returns-in_default-ahead : goal.or_fands-returns-in_default-ahead
 or_fands-returns-in_default-ahead g t c =
@@ -129,7 +130,7 @@ or_fands-fands-smaller g t c =
 
 pub or_fands-fands-preserved : goal.or_fands-fands-preserved
 or_fands-fands-preserved g t c =
-    reads_as (λ a e h. adds_fand c.args.depth (formula_tree c.args.first) c.fands.parts c.push.new.self c.in_ok-next.next a h.0 e c.in_ok-push.ensures.ok h.1 h.2) (reads_then c.fands.invariant c.in_ok-next.ensures.reads)
+    chain_next (formula_tree c.args.first) _ _ _ c.in_ok-push.ensures.ok c.fands.invariant c.in_ok-next.ensures.reads
 
 pub condition-fand-requires : goal.condition-fand-requires
 condition-fand-requires g t c κs within =

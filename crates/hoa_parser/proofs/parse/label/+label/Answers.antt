@@ -5,7 +5,8 @@ use Rattle.hoa_parser.proofs.reading.FrontParts.{passed_then}
 use Rattle.hoa_parser.proofs.reading.RuleParts.{next_answer}
 use Rattle.hoa_parser.proofs.reading.Steps.{fails_after, fails_before, handed_on, next_fails, next_reads, no_memory, reads_as, reads_before, reads_end, reads_then, takes, takes_last, token_passed, too_deep}
 use Rattle.hoa_parser.proofs.grammar.RawTrees.{raw_tree-And, raw_tree-Not, raw_tree-Or}
-use Rattle.hoa_parser.proofs.reading.LabelChains.{adds_first_land, adds_first_lnot, adds_land, adds_lnot, label_of, land_of, lands_whole, lnots_whole}
+use Rattle.hoa_parser.proofs.reading.Chains.{chain_first, chain_next}
+use Rattle.hoa_parser.proofs.reading.LabelChains.{label_of, land_of, lands_whole, lnots_whole}
 use Rattle.hoa_parser.proofs.reading.LabelReads.{group_of, negated_of}
 use Rattle.hoa_parser.specs.Grammar.{no_land, no_lnot}
 use Rattle.hoa_parser.specs.inner.RuleReads.{IsAndLnot, IsAndLnots, IsLabel, IsLand, IsLnot, IsOrLand, IsOrLands}
@@ -62,7 +63,7 @@ and_lnots-returns-in_err-parts g t c =
 
 pub and_lnots-lnots-init : goal.and_lnots-lnots-init
 and_lnots-lnots-init g t c =
-    reads_as (λ a e h. adds_first_lnot c.args.depth (raw_tree c.args.first) c.in_ok-second.second c.in_ok-parts.parts a e c.in_ok-parts.ensures h) c.in_ok-second.ensures.reads
+    chain_first (raw_tree c.args.first) _ _ c.in_ok-parts.ensures c.in_ok-second.ensures.reads
 
 pub and_lnots-returns-in_default-ahead : goal.and_lnots-returns-in_default-ahead
 and_lnots-returns-in_default-ahead g t c =
@@ -86,7 +87,7 @@ and_lnots-lnots-smaller g t c =
 
 pub and_lnots-lnots-preserved : goal.and_lnots-lnots-preserved
 and_lnots-lnots-preserved g t c =
-    reads_as (λ a e h. adds_lnot c.args.depth (raw_tree c.args.first) c.lnots.parts c.push.new.self c.in_ok-next.next a h.0 e c.in_ok-push.ensures.ok h.1 h.2) (reads_then c.lnots.invariant c.in_ok-next.ensures.reads)
+    chain_next (raw_tree c.args.first) _ _ _ c.in_ok-push.ensures.ok c.lnots.invariant c.in_ok-next.ensures.reads
 
 pub or_lands-returns-in_default : goal.or_lands-returns-in_default
 or_lands-returns-in_default g t c =
@@ -106,7 +107,7 @@ or_lands-returns-in_err-parts g t c =
 
 pub or_lands-lands-init : goal.or_lands-lands-init
 or_lands-lands-init g t c =
-    reads_as (λ a e h. adds_first_land c.args.depth (raw_tree c.args.first) c.in_ok-second.second c.in_ok-parts.parts a e c.in_ok-parts.ensures h) c.in_ok-second.ensures.reads
+    chain_first (raw_tree c.args.first) _ _ c.in_ok-parts.ensures c.in_ok-second.ensures.reads
 
 pub or_lands-returns-in_default-ahead : goal.or_lands-returns-in_default-ahead
 or_lands-returns-in_default-ahead g t c =
@@ -130,7 +131,7 @@ or_lands-lands-smaller g t c =
 
 pub or_lands-lands-preserved : goal.or_lands-lands-preserved
 or_lands-lands-preserved g t c =
-    reads_as (λ a e h. adds_land c.args.depth (raw_tree c.args.first) c.lands.parts c.push.new.self c.in_ok-next.next a h.0 e c.in_ok-push.ensures.ok h.1 h.2) (reads_then c.lands.invariant c.in_ok-next.ensures.reads)
+    chain_next (raw_tree c.args.first) _ _ _ c.in_ok-push.ensures.ok c.lands.invariant c.in_ok-next.ensures.reads
 
 pub label-land-requires : goal.label-land-requires
 label-land-requires g t c κs within =
