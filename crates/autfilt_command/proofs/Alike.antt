@@ -6,7 +6,7 @@ use Rattle.aut_base.specs.Automaton.{Automaton}
 use Rattle.aut_base.specs.declared.limit.Limit.{Limit}
 use Rattle.aut_base.specs.declared.limit.Limit.TheVariants as limit
 use Rattle.aut_io.specs.Outside.{Texts, text_of}
-use Rattle.autfilt_command.specs.Laws.{IsByText, OneEnd, OneFront}
+use Rattle.autfilt_command.specs.Laws.{Completes, IsByText, IsEnded, IsReadable, OneEnd, OneFront}
 use Rattle.autfilt_command.specs.Run.{EndsAt, EndsByTally, end_of}
 use Rattle.autfilt_command.specs.declared.ended.End.{End}
 use Rattle.autfilt_command.specs.declared.ended.End.TheVariants as end
@@ -405,3 +405,25 @@ one_end one plan hoa texts left events others e d a b =
     let P : List Event → Type 0 = λ z. Ends plan b.runs.point z d in
     let Q : Point → Type 0 = λ z. Ends plan z events d in
     (same.0, alike one plan a.runs.point events e d a.by_text b.by_text x (subst Q (sym same.1) (subst P (sym same.0) y)))
+
+-- ---- texts that can be read
+
+readable_fits : OneStanding → (start : ℕ) (rest : List ℕ) (what : Standing) (f : RunFault) → Stands what start rest → Fits what f → IsReadable start rest → ⊥
+readable_fits one start rest what f stands fits (inl blank) = subst (λ (x : Standing). Fits x f) (one start rest what standing.Blank stands blank) fits
+readable_fits one start rest what f stands fits (inr (inl good)) =
+    unfit_whole good.0 good.1 f (subst (λ (x : Standing). Fits x f) (one start rest what (standing.Whole good.0 good.1) stands good.2.whole) fits) good.2.valid good.2.within
+readable_fits one start rest what f stands fits (inr (inr aborted)) = subst (λ (x : Standing). Fits x f) (one start rest what (standing.Aborted aborted.0) stands aborted.1) fits
+
+not_halted : OneStanding → (plan : Plan) (p : Point) (f : RunFault) → ((s : Stream) → p.stream ≡ Some s → IsReadable (place s.text s.rest) s.rest) → Halted plan p f → ⊥
+not_halted one plan p f readable h = readable_fits one (place h.stream.text h.stream.rest) h.stream.rest h.what f h.stands h.fits (readable h.stream h.is_open)
+
+read_all : OneStanding → (plan : Plan) (p : Point) (events : List Event) (e : End) → IsByText e → ((s : Stream) → p.stream ≡ Some s → IsReadable (place s.text s.rest) s.rest) → Ends plan p events e → e ≡ end_of (tally events)
+read_all one plan p events end.Output by readable h = h.1
+read_all one plan p events end.NoneOutput by readable h = h.1
+read_all one plan p events end.Aborts by readable h = h.1
+read_all one plan p events end.Usage by readable h = h.1
+read_all one plan p events (end.Fault f) by readable h = absurd (not_halted one plan p f readable h)
+
+pub completes : OneStanding → Completes
+completes one plan texts left events e readable a =
+    read_all one plan a.runs.point events e a.by_text (λ s is. readable events a.runs.point s a.runs.happen is) (ends_at plan e events a.name a.runs.point a.left_over a.by_text a.tallied a.runs.ends)

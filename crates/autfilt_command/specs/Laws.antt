@@ -1,14 +1,17 @@
 -- What the texts alone decide of a run.
-use Rattle.std.specs.Prelude.{◌≡◌, ℕ, ◌⊎◌, List, ◌++◌, Option}
+use Rattle.std.specs.Prelude.{◌≡◌, ℕ, ◌⊎◌, List, ◌++◌, Option, Some}
 use Rattle.aut_base.specs.declared.limit.Limit.TheVariants as limit
 use Rattle.aut_io.specs.Outside.{Texts}
-use Rattle.autfilt_command.specs.Run.{EndsByTally, RunsTo}
+use Rattle.autfilt_command.specs.Run.{EndsByTally, RunsTo, end_of}
 use Rattle.autfilt_command.specs.declared.ended.End.{End}
 use Rattle.autfilt_command.specs.declared.ended.End.TheVariants as end
-use Rattle.autfilt_run.specs.Events.{AreJudged, Event, Happen, Point}
+use Rattle.autfilt_run.specs.Events.{AreJudged, Event, Happen, IsGood, Point, Stream, place, start_of, tally}
 use Rattle.autfilt_run.specs.declared.fault.RunFault.TheVariants as fault
 use Rattle.filter_plan.specs.declared.plan.Output.TheVariants.{Hoa}
 use Rattle.filter_plan.specs.declared.plan.Plan.{Plan}
+use Rattle.hoa_lexer.specs.Blanks.{IsBlanks}
+use Rattle.hoa_parser.specs.Raw.{Written}
+use Rattle.hoa_parser.specs.Standing.{Aborted, Stands}
 
 -- The texts decided the end: no call failed, memory was not wanting, and not too many bytes were taken.
 abbrev pub IsByText : End → Type 0
@@ -45,3 +48,18 @@ OneFront =
     (plan : Plan) → plan.output ≡ Hoa → (texts : Texts) (events others : List Event) (p q r : Point) → AreJudged plan events → AreJudged plan others
     → Happen plan texts events p q → Happen plan texts others p r
     → ((more : List Event) × (others ≡ events ++ more)) ⊎ ((more : List Event) × (events ≡ others ++ more))
+
+-- blanks, an automaton that is valid and within the limits, or one that is abandoned
+abbrev pub IsReadable : ℕ → List ℕ → Type 0
+IsReadable start rest = IsBlanks rest ⊎ (((w : Written) × (next : List ℕ) × IsGood start rest w next) ⊎ ((next : List ℕ) × Stands (Aborted next) start rest))
+
+-- Such a thing stands at the rest of each stream wherever a run of the plan over these texts comes.
+abbrev pub AreReadable : Plan → Texts → Option (List ℕ) → Type 0
+AreReadable plan texts left =
+    (events : List Event) (p : Point) (s : Stream) → Happen plan texts events (start_of plan left) p → p.stream ≡ Some s → IsReadable (place s.text s.rest) s.rest
+
+-- A run over texts that can be read everywhere, which no fault of the outside, want of memory or limit of bytes ended, read all
+-- that was asked for.
+abbrev pub Completes : Type 0
+Completes =
+    (plan : Plan) (texts : Texts) (left : Option (List ℕ)) (events : List Event) (e : End) → AreReadable plan texts left → IsEnded plan texts left events e → e ≡ end_of (tally events)
