@@ -170,11 +170,16 @@ impl Session {
         }
     }
 
-    /// Whether the session is over: after a fault, and once it is finished.
+    /// Whether no step can be taken any more: once a step answered `Done`, and after a fault.
     pub fn is_over(&self) -> bool
-        ensures { IsTrue result ↔ (self.now.stage ≡ Stage.Over) }
+        ensures { IsTrue result ↔ (self.now.stage ≡ Stage.Done ⊎ self.now.stage ≡ Stage.Over) }
     {
-        matches!(self.stage, Stage::Over)
+        match self.stage {
+            Stage::New => false,
+            Stage::Prepared => false,
+            Stage::Done => true,
+            Stage::Over => true,
+        }
     }
 
     /// How many automata were kept.
