@@ -10,7 +10,7 @@ use Rattle.aut_io.specs.Seen.{Seen, SinkSeen}
 use Rattle.aut_base.specs.declared.fault.OpenFail.TheVariants as opening
 use Rattle.autfilt_command.proofs.Running.{asks_at, calm_then, gains_as, noted_push}
 use Rattle.autfilt_command.proofs.Stepped.{StepsAs}
-use Rattle.autfilt_command.proofs.Stepping.{happen_push, is_closed, is_open, read_to, stops_at, stream_counted, wants_stream}
+use Rattle.autfilt_command.proofs.Stepping.{name_as, happen_push, is_closed, is_open, read_to, stops_at, stops_named, stream_counted, wants_stream}
 use Rattle.autfilt_command.specs.Ends.{ended_of}
 use Rattle.autfilt_command.specs.Noted.{HasNoted, Notes}
 use Rattle.autfilt_command.specs.Notes.{line_of}
@@ -22,7 +22,7 @@ use Rattle.autfilt_run.proofs.Gains.{both}
 use Rattle.autfilt_run.specs.Events.{Event, IsGood, IsJudged, Kept, Point, ReadsOn, Stream, Tally, all_written, place, read_on, start_of, tally}
 use Rattle.autfilt_run.specs.Faults.{stop_of_fault}
 use Rattle.autfilt_run.specs.Plans.{asks_on, count_text, name_at, streams_of}
-use Rattle.autfilt_run.specs.Runs.{AtStream, IsCounted, IsDone, LacksMemory, Stops, StopsAt, WantsMemory, WantsStream, taken_in, taken_of}
+use Rattle.autfilt_run.specs.Runs.{AtNamed, AtStream, IsCounted, IsDone, LacksMemory, Stops, StopsAt, WantsMemory, WantsStream, taken_in, taken_of}
 use Rattle.autfilt_run.specs.Turns.{Fails, IsDoneWith, IsStill, KeepsInPart, OpensNext, Reads, Tries}
 use Rattle.autfilt_run.specs.declared.fault.RunFault.{RunFault}
 use Rattle.autfilt_run.specs.declared.fault.RunFault.TheVariants as fault
@@ -86,14 +86,23 @@ reading_halts f R name old new m t p q steady stops h at stands = (
   counted f old new m t at steady h.reading.is_open stands h.moves,
 )
 
+-- the same where the line about the fault has a name
+named_halts : (f : RunFault) (name : List ℕ) (old new : Session) (m t : Seen) (p q : SinkSeen) → StepsAs old new → name ≡ name_at (streams_of new.plan) new.tried
+    → ((at : Point) → AtNamed old.plan at name t.left (StopsAt f) → Stops old.plan f name at t.left) → Reads (stop_of_fault f) (StopsAt f old.lexer.since) old new m t p q
+    → (at : Point) → StandsAt old m.left at → Halts f old.plan name t.left at
+named_halts f name old new m t p q steady is stops h at stands = (
+  stops at (stops_named (StopsAt f) old.plan old m t at name (is ∙ name_as old new steady.plan h.in_hand) stands h.reading.is_open (asks_at old m.left at stands h.reading.asks) h.read),
+  counted f old new m t at steady h.reading.is_open stands h.moves,
+)
+
 -- one after which no count rose
-calm_halt : (f : RunFault) (name : List ℕ) (old new : Session) (m t : Seen) (p q : SinkSeen) → StepsAs old new → t.read_faults ≡ m.read_faults
-    → ((at : Point) → AtStream old.plan at t.left (StopsAt f) → Stops old.plan f name at t.left)
+calm_halt : (f : RunFault) (name : List ℕ) (old new : Session) (m t : Seen) (p q : SinkSeen) → StepsAs old new → name ≡ name_at (streams_of new.plan) new.tried → t.read_faults ≡ m.read_faults
+    → ((at : Point) → AtNamed old.plan at name t.left (StopsAt f) → Stops old.plan f name at t.left)
     → ((events : List Event) (a b : Option (List ℕ)) → Gains a b (all_written events) → Prints old.plan (end.Fault f) events a b)
     → ((s : Seen) (o : SinkSeen) → AreCalm s t o q → EndsBecause (ended_of (end.Fault f)) s t o q)
     → Reads (stop_of_fault f) (StopsAt f old.lexer.since) old new m t p q → HaltsAt f old name m t p q
-calm_halt f name old new m t p q steady calm stops prints causes h = record {
-  halts = λ texts told at stands. reading_halts f (StopsAt f) name old new m t p q steady stops h at stands;
+calm_halt f name old new m t p q steady is calm stops prints causes h = record {
+  halts = λ texts told at stands. named_halts f name old new m t p q steady is stops h at stands;
   output = h.output;
   prints = prints;
   causes = λ s o before. causes s o (calm_then s m t o p q before (record { opens = h.moves.opens; reads = calm; writes = faults_of p q h.output }));
@@ -177,16 +186,16 @@ halted fault.WriteFault name old new m t p q n steady h is = absurd (n refl)
 halted fault.CannotOpen name old new m t p q n steady h is = unopened name old new m t p q steady h (is ∙ h.in_hand)
 halted fault.Memory name old new m t p q n steady h is = lacking name old new m t p q steady h
 halted fault.ReadFault name old new m t p q n steady h is = record {
-  halts = λ texts told at stands. reading_halts fault.ReadFault (StopsAt fault.ReadFault) name old new m t p q steady (λ x s. s) h at stands;
+  halts = λ texts told at stands. named_halts fault.ReadFault name old new m t p q steady is (λ x s. s) h at stands;
   output = h.output;
   prints = λ events a b g. g;
   causes = λ s o before. (h.moves.opens ∙ before.opens, rose_from s.read_faults m.read_faults t.read_faults before.reads h.moves.reads, faults_of p q h.output ∙ before.writes);
 }
-halted (fault.SyntaxAt k) name old new m t p q n steady h is = calm_halt (fault.SyntaxAt k) name old new m t p q steady h.moves.reads (λ x s. s) (λ events a b g. g) (λ s o calm. calm) h
-halted fault.Truncated name old new m t p q n steady h is = calm_halt fault.Truncated name old new m t p q steady h.moves.reads (λ x s. s) (λ events a b g. g) (λ s o calm. calm) h
-halted (fault.Invalid rule) name old new m t p q n steady h is = calm_halt (fault.Invalid rule) name old new m t p q steady h.moves.reads (λ x s. s) (λ events a b g. g) (λ s o calm. calm) h
+halted (fault.SyntaxAt k) name old new m t p q n steady h is = calm_halt (fault.SyntaxAt k) name old new m t p q steady is h.moves.reads (λ x s. s) (λ events a b g. g) (λ s o calm. calm) h
+halted fault.Truncated name old new m t p q n steady h is = calm_halt fault.Truncated name old new m t p q steady is h.moves.reads (λ x s. s) (λ events a b g. g) (λ s o calm. calm) h
+halted (fault.Invalid rule) name old new m t p q n steady h is = calm_halt (fault.Invalid rule) name old new m t p q steady is h.moves.reads (λ x s. s) (λ events a b g. g) (λ s o calm. calm) h
 halted (fault.Limit which) name old new m t p q n steady h is =
-    calm_halt (fault.Limit which) name old new m t p q steady (calm_limit which _ _ h.moves.reads) (λ x s. s) (λ events a b g. g) (λ s o calm. calm) h
+    calm_halt (fault.Limit which) name old new m t p q steady is (calm_limit which _ _ h.moves.reads) (λ x s. s) (λ events a b g. g) (λ s o calm. calm) h
 
 -- ---- a write that failed
 

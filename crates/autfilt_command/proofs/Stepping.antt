@@ -7,7 +7,7 @@ use Rattle.aut_io.specs.Seen.{Opens, Seen}
 use Rattle.autfilt_command.specs.inner.Running.{IsIn, StandsAt}
 use Rattle.autfilt_run.specs.Events.{EndsStream, Event, Goes, Happen, OpensStream, Point, ReadsOn, Stream, ended_at, opened_at, place, read_on}
 use Rattle.autfilt_run.specs.Plans.{asks_on, name_at, streams_of}
-use Rattle.autfilt_run.specs.Runs.{AtStream, IsAllRead, WantsStream, taken_in, taken_of}
+use Rattle.autfilt_run.specs.Runs.{AtNamed, AtStream, IsAllRead, WantsStream, taken_in, taken_of}
 use Rattle.autfilt_run.specs.Turns.{Begins, IsOpening}
 use Rattle.autfilt_run.specs.declared.session.Session.{Session}
 use Rattle.filter_plan.specs.declared.plan.Plan.{Plan}
@@ -165,6 +165,17 @@ stops_at R plan old s t p stands opened_so asks read =
       told = x.told;
       stands = subst (λ (k : ℕ). R k at.stream.rest x.now) (place_is old.lexer.since at.stream.text at.stream.rest at.since) x.holds;
     }
+
+one_name : (o : Option Stream) (a b : Stream) → o ≡ Some a → o ≡ Some b → a.name ≡ b.name
+one_name o a b e f = let same : Some a ≡ Some b = sym e ∙ f in let one : a ≡ b = cc in ap (λ (x : Stream). x.name) one
+
+-- the same of the stream whose name is in hand
+pub stops_named : (R : ℕ → List ℕ → List ℕ → Type 0) (plan : Plan) (old : Session) (s t : Seen) (p : Point) (name : List ℕ) → name ≡ name_at (streams_of old.plan) old.tried → StandsAt old s.left p → old.is_open ≡ true → asks_on plan p.kept ≡ true
+    → Between s.left t.left (R old.lexer.since) → AtNamed plan p name t.left R
+stops_named R plan old s t p name is stands opened_so asks read =
+    let at = stops_at R plan old s t p stands opened_so asks read in
+    let there = is_open old s.left p stands opened_so in
+    record { at = at; named = one_name p.stream at.stream there.stream at.is_open there.is ∙ sym there.named ∙ sym is }
 
 -- ---- the end of the stream
 

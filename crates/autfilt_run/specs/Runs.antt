@@ -85,17 +85,22 @@ pub record AtStream (plan : Plan) (p : Point) (left : Option (List ℕ)) (stops 
   pub told : left ≡ Some now
   pub stands : stops (place stream.text stream.rest) stream.rest now
 
+-- the open stream is that of this name
+pub record AtNamed (plan : Plan) (p : Point) (name : List ℕ) (left : Option (List ℕ)) (stops : ℕ → List ℕ → List ℕ → Type 0) : Type 0 where
+  pub at : AtStream plan p left stops
+  pub named : at.stream.name ≡ name
+
 -- memory was wanting before anything was taken, at an opening, after which nothing is open, or in a stream
 abbrev pub LacksMemory : Plan → Point → Option (List ℕ) → Type 0
 LacksMemory plan p left = (left ≡ p.left) ⊎ (((name : List ℕ) × WantsStream plan p name × (left ≡ Some [])) ⊎ AtStream plan p left WantsMemory)
 
--- Where a run stands when this fault ends it, and what is left in the inputs then. `name` is the name in hand where a text
--- could not be opened. A write failed of what was read before.
+-- Where a run stands when this fault ends it, and what is left in the inputs then. `name` is the name in hand, where the line
+-- about the fault has one. A write failed of what was read before.
 abbrev pub Stops : Plan → RunFault → List ℕ → Point → Option (List ℕ) → Type 0
 Stops plan fault.CannotOpen name p left = WantsStream plan p name × (left ≡ Some [])
 Stops plan fault.WriteFault name p left = left ≡ p.left
 Stops plan fault.Memory name p left = LacksMemory plan p left
-Stops plan f name p left = AtStream plan p left (StopsAt f)
+Stops plan f name p left = AtNamed plan p name left (StopsAt f)
 
 -- how many bytes were taken of the streams, where the run stands here and so much is left
 abbrev pub taken_in : Option Stream → Option (List ℕ) → ℕ
