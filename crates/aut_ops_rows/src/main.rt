@@ -2,6 +2,7 @@
 #![tactic(auto)]
 
 mod by_hand;
+mod kept;
 mod shown;
 mod written;
 
@@ -40,5 +41,22 @@ fn main(rt: HostRuntime) -> Result<(), Stop> {
     }
     let rows = by_hand::ROWS.len();
     println!(rt; "rows={rows} different={different}")?;
+    kept_rows(rt)
+}
+
+/// The same of automata with some of their states alone.
+fn kept_rows(rt: HostRuntime) -> Result<(), Stop> {
+    let alloc = rt.alloc();
+    let mut different = 0u32;
+    for row in kept::ROWS.iter() {
+        let text = kept::made(alloc, row)?;
+        if text.as_bytes() != row.wanted {
+            different = different.saturating_add(1);
+            let shown = std::str::from_utf8(text.as_bytes()).unwrap_or("(no text)");
+            println!(rt; "{shown}")?;
+        }
+    }
+    let rows = kept::ROWS.len();
+    println!(rt; "kept={rows} different={different}")?;
     Ok(())
 }

@@ -7,7 +7,7 @@ use aut_core::Automaton;
 use std::alloc::Global;
 
 /// The names are of one byte each, and the starts of one digit. The condition is `t`, or `I` or `F` of set 0. An edge is its
-/// state, its label, its end and its marks; `a` stands for proposition 0, `n` for its negation.
+/// state, its label, its end and its marks; `a` stands for proposition 0, `n` for its negation, `t` and `f` for themselves.
 #[derive(Clone, Copy)]
 pub(crate) struct Written {
     pub(crate) names: &'static [u8],
@@ -36,6 +36,7 @@ fn names(alloc: Global, bytes: &[u8]) -> Result<Names, Memory> {
 fn label(alloc: Global, sign: u8) -> Result<Label, Memory> {
     match sign {
         b't' => Ok(Label::True),
+        b'f' => Ok(Label::False),
         b'n' => Ok(Label::Not(Box::new(alloc, Label::Prop(0))?)),
         _ => Ok(Label::Prop(0)),
     }
