@@ -1,0 +1,154 @@
+-- Changes make no more than one automaton, or else pass no more than one limit.
+use Rattle.std.proofs.Common.{◌≡◌, ◌∙◌, ◌⊎◌, List, [], ◌∷◌, arith, inl, inr, refl, subst, sym}
+use Rattle.acc_forms.specs.Joined.{conj, disj}
+use Rattle.aut_base.specs.Automaton.{Automaton}
+use Rattle.aut_base.specs.declared.limit.Limit.{Limit}
+use Rattle.aut_base.specs.declared.limit.Limit.TheVariants as limit
+use Rattle.aut_ops.proofs.FlagLaws.{trimmed_is_determined}
+use Rattle.aut_ops.proofs.Laws.{products_are_determined}
+use Rattle.aut_ops.specs.Completion.{completed}
+use Rattle.aut_ops.specs.Products.{over_both}
+use Rattle.degeneralise.specs.Buchi.{NeedsTooManyTerms}
+use Rattle.filter_plan.specs.declared.plan.Form.{Form}
+use Rattle.filter_plan.specs.declared.plan.Form.TheVariants as form
+use Rattle.plan_meaning.specs.Changes.{Bring, Change, Complete, IsInForm, Makes, MakesAll, MakesWithin, PassesForm, PassesIn, Product, ProductOr, StopsIn, Sum, Trim}
+use Rattle.plan_meaning.specs.Laws.{ChangesAreDetermined}
+use Rattle.plan_meaning.specs.Limits.{HaveFewNames, HaveManyNames, PassesOfBoth, PassesOfEither, PassesOfSum}
+
+-- ---- one change
+
+one_form : (f : Form) (a made other : Automaton) → IsInForm f a made → IsInForm f a other → made ≡ other
+one_form form.AsIs a made other h k = absurd h
+one_form form.Deterministic a made other h k = absurd h
+one_form form.Parity a made other h k = absurd h
+one_form form.Buchi a made other h k = h ∙ sym k
+one_form form.RemoveFin a made other h k = h ∙ sym k
+one_form form.Dnf a made other h k = h ∙ sym k
+one_form form.Monitor a made other h k = absurd h
+
+one_made : (c : Change) (a made other : Automaton) → Makes c a made → Makes c a other → made ≡ other
+one_made (Product b) a made other h k = products_are_determined conj (over_both a b a) (over_both a b b) made other h k
+one_made (ProductOr b) a made other h k = products_are_determined disj (over_both a b (completed a)) (over_both a b (completed b)) made other h k
+one_made (Sum b) a made other h k = h ∙ sym k
+one_made Trim a made other h k = trimmed_is_determined a made other h k
+one_made (Bring f) a made other h k = one_form f a made other h k
+one_made Complete a made other h k = h ∙ sym k
+
+-- ---- one limit of a change
+
+-- either too many names, or few enough and too many pairs
+abbrev NamesOrPairs : Limit → Automaton → Automaton → Type 0
+NamesOrPairs which a b = ((which ≡ limit.Names) × HaveManyNames a b) ⊎ ((which ≡ limit.Pairs) × HaveFewNames a b)
+
+of_both : (which : Limit) (a b : Automaton) → PassesOfBoth which a b → NamesOrPairs which a b
+of_both limit.Names a b h = inl (refl, h)
+of_both limit.Pairs a b h = inr (refl, h.0)
+of_both _ a b h = absurd h
+
+of_either : (which : Limit) (a b : Automaton) → PassesOfEither which a b → NamesOrPairs which a b
+of_either limit.Names a b h = inl (refl, h)
+of_either limit.Pairs a b h = inr (refl, h.0)
+of_either _ a b h = absurd h
+
+of_sum : (which : Limit) (a b : Automaton) → PassesOfSum which a b → NamesOrPairs which a b
+of_sum limit.Names a b h = inl (refl, h)
+of_sum _ a b h = absurd h
+
+many_or_few : {A : Type 0} (a b : Automaton) → HaveManyNames a b → HaveFewNames a b → A
+many_or_few a b many few = absurd (omega (arith, many, few))
+
+one_of_two : (which other : Limit) (a b : Automaton) → NamesOrPairs which a b → NamesOrPairs other a b → which ≡ other
+one_of_two which other a b (inl h) (inl k) = h.0 ∙ sym k.0
+one_of_two which other a b (inl h) (inr k) = many_or_few a b h.1 k.1
+one_of_two which other a b (inr h) (inl k) = many_or_few a b k.1 h.1
+one_of_two which other a b (inr h) (inr k) = h.0 ∙ sym k.0
+
+-- either terms that are needed and too many, or else too many states
+abbrev TermsOrStates : Limit → Automaton → Type 0
+TermsOrStates which a = ((which ≡ limit.Terms) × NeedsTooManyTerms a.formula) ⊎ ((which ≡ limit.BuchiStates) × (NeedsTooManyTerms a.formula → ⊥))
+
+of_buchi : (which : Limit) (a : Automaton) → PassesForm which form.Buchi a → TermsOrStates which a
+of_buchi limit.Terms a h = inl (refl, h)
+of_buchi limit.BuchiStates a h = inr (refl, h.0)
+of_buchi _ a h = absurd h
+
+one_of_buchi : (which other : Limit) (a : Automaton) → TermsOrStates which a → TermsOrStates other a → which ≡ other
+one_of_buchi which other a (inl h) (inl k) = h.0 ∙ sym k.0
+one_of_buchi which other a (inl h) (inr k) = absurd (k.1 h.1)
+one_of_buchi which other a (inr h) (inl k) = absurd (h.1 k.1)
+one_of_buchi which other a (inr h) (inr k) = h.0 ∙ sym k.0
+
+of_fin : (which : Limit) (a : Automaton) → PassesForm which form.RemoveFin a → which ≡ limit.Terms
+of_fin limit.Terms a h = refl
+of_fin _ a h = absurd h
+
+of_dnf : (which : Limit) (a : Automaton) → PassesForm which form.Dnf a → which ≡ limit.Terms
+of_dnf limit.Terms a h = refl
+of_dnf _ a h = absurd h
+
+-- the other forms have no limit
+of_as_is : (which : Limit) (a : Automaton) → PassesForm which form.AsIs a → ⊥
+of_as_is limit.Terms a h = h
+of_as_is limit.BuchiStates a h = h
+of_as_is _ a h = h
+
+of_deterministic : (which : Limit) (a : Automaton) → PassesForm which form.Deterministic a → ⊥
+of_deterministic limit.Terms a h = h
+of_deterministic limit.BuchiStates a h = h
+of_deterministic _ a h = h
+
+of_parity : (which : Limit) (a : Automaton) → PassesForm which form.Parity a → ⊥
+of_parity limit.Terms a h = h
+of_parity limit.BuchiStates a h = h
+of_parity _ a h = h
+
+of_monitor : (which : Limit) (a : Automaton) → PassesForm which form.Monitor a → ⊥
+of_monitor limit.Terms a h = h
+of_monitor limit.BuchiStates a h = h
+of_monitor _ a h = h
+
+one_of_form : (f : Form) (which other : Limit) (a : Automaton) → PassesForm which f a → PassesForm other f a → which ≡ other
+one_of_form form.AsIs which other a h k = absurd (of_as_is which a h)
+one_of_form form.Deterministic which other a h k = absurd (of_deterministic which a h)
+one_of_form form.Parity which other a h k = absurd (of_parity which a h)
+one_of_form form.Buchi which other a h k = one_of_buchi which other a (of_buchi which a h) (of_buchi other a k)
+one_of_form form.RemoveFin which other a h k = of_fin which a h ∙ sym (of_fin other a k)
+one_of_form form.Dnf which other a h k = of_dnf which a h ∙ sym (of_dnf other a k)
+one_of_form form.Monitor which other a h k = absurd (of_monitor which a h)
+
+one_limit : (c : Change) (which other : Limit) (a : Automaton) → PassesIn which c a → PassesIn other c a → which ≡ other
+one_limit (Product b) which other a h k = one_of_two which other a b (of_both which a b h) (of_both other a b k)
+one_limit (ProductOr b) which other a h k = one_of_two which other a b (of_either which a b h) (of_either other a b k)
+one_limit (Sum b) which other a h k = one_of_two which other a b (of_sum which a b h) (of_sum other a b k)
+one_limit Trim which other a h k = absurd h
+one_limit (Bring f) which other a h k = one_of_form f which other a h k
+one_limit Complete which other a h k = absurd h
+
+-- ---- all changes
+
+-- what holds behind a change holds of what it makes
+behind : (c : Change) (a next other : Automaton) (P : Automaton → Type 0) → MakesWithin c a next → MakesWithin c a other → P other → P next
+behind c a next other P h k p = subst P (one_made c a other next k.makes h.makes) p
+
+one_made_by_all : (cs : List Change) (a m n : Automaton) → MakesAll cs a m → MakesAll cs a n → m ≡ n
+one_made_by_all [] a m n h k = h ∙ sym k
+one_made_by_all (c ∷ cs) a m n h k = one_made_by_all cs h.0 m n h.2 (behind c a h.0 k.0 (λ x. MakesAll cs x n) h.1 k.1 k.2)
+
+made_or_stopped : (cs : List Change) (a m : Automaton) (which : Limit) → MakesAll cs a m → StopsIn which cs a → ⊥
+made_or_stopped [] a m which h k = k
+made_or_stopped (c ∷ cs) a m which h (inl passes) = h.1.within which passes
+made_or_stopped (c ∷ cs) a m which h (inr k) = made_or_stopped cs h.0 m which h.2 (behind c a h.0 k.0 (λ x. StopsIn which cs x) h.1 k.1 k.2)
+
+one_limit_of_all : (cs : List Change) (a : Automaton) (which other : Limit) → StopsIn which cs a → StopsIn other cs a → which ≡ other
+one_limit_of_all [] a which other h k = absurd h
+one_limit_of_all (c ∷ cs) a which other (inl h) (inl k) = one_limit c which other a h k
+one_limit_of_all (c ∷ cs) a which other (inl h) (inr k) = absurd (k.1.within which h)
+one_limit_of_all (c ∷ cs) a which other (inr h) (inl k) = absurd (h.1.within other k)
+one_limit_of_all (c ∷ cs) a which other (inr h) (inr k) = one_limit_of_all cs h.0 which other h.2 (behind c a h.0 k.0 (λ x. StopsIn other cs x) h.1 k.1 k.2)
+
+pub changes_are_determined : ChangesAreDetermined
+changes_are_determined cs a = record {
+  made = one_made_by_all cs a;
+  either = made_or_stopped cs a;
+  limit = one_limit_of_all cs a;
+}

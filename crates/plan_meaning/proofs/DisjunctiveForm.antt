@@ -1,0 +1,121 @@
+-- An automaton under its condition in disjunctive form.
+use Rattle.std.proofs.Common.{◌≡◌, ◌∙◌, ℕ, true, List, [], ◌∷◌, ◌++◌, flat_map, map, subst, sym}
+use Rattle.std.specs.List.{AllByRecursion}
+use Rattle.std.proofs.lemmas.List.Elements.{All-weaker}
+use Rattle.acc_forms.proofs.TermLaws.{met-of_terms, met-terms}
+use Rattle.acc_forms.specs.Terms.{choices, each_terms, literal_tree, of_terms, pairs, terms}
+use Rattle.acc_forms.specs.declared.literal.Literal.{Literal}
+use Rattle.aut_base.proofs.AllByRecursion.{AllByRecursion-append, AllByRecursion-flat_map, AllByRecursion-map, AllByRecursion-weaker}
+use Rattle.aut_base.specs.Acceptance.{Accepts, IsPath}
+use Rattle.aut_base.specs.Automaton.{Automaton, TreeEdge}
+use Rattle.aut_base.specs.Formula.{And, EachSetsBelow, False, Fin, FormulaTree, FormulaTrees, Inf, Or, SetsBelow, True, met, more, none}
+use Rattle.aut_base.specs.Word.{NameSet}
+use Rattle.aut_core.specs.Core.{AreParts, Core, IsCore, IsLinkOf, automaton_of}
+use Rattle.aut_core.specs.OtherNames.{AcceptTheSame}
+use Rattle.fin_removal.proofs.Conditions.{below_parts, of_terms_holds}
+use Rattle.plan_meaning.specs.Changes.{in_disjunctive_form}
+
+-- ---- its terms speak of the same sets
+
+module _ (n : ℕ) where
+  abbrev TermBelow : List Literal → Type 0
+  TermBelow term = AllByRecursion (λ l. SetsBelow n (literal_tree l)) term
+
+  abbrev TermsBelow : List (List Literal) → Type 0
+  TermsBelow ts = AllByRecursion TermBelow ts
+
+  pairs_below : (ts us : List (List Literal)) → TermsBelow ts → TermsBelow us → TermsBelow (pairs ts us)
+  pairs_below ts us firsts seconds =
+      AllByRecursion-flat_map TermBelow (λ first. map (λ second. first ++ second) us) ts
+      (AllByRecursion-weaker TermBelow (λ first. TermsBelow (map (λ second. first ++ second) us)) ts (λ first h.
+      AllByRecursion-map TermBelow (λ second. first ++ second) us
+      (AllByRecursion-weaker TermBelow (λ second. TermBelow (first ++ second)) us (λ second k. AllByRecursion-append (λ l. SetsBelow n (literal_tree l)) first second h k) seconds)) firsts)
+
+  mutual
+    pub terms_below : (f : FormulaTree) → SetsBelow n f → TermsBelow (terms f)
+    terms_below True h = (tt, tt)
+    terms_below False h = tt
+    terms_below (Inf set neg) h = ((h, tt), tt)
+    terms_below (Fin set neg) h = ((h, tt), tt)
+    terms_below (And a b cs) h = pairs_below (terms a) (choices (terms b ∷ each_terms cs)) (terms_below a h.0) (pairs_below (terms b) (choices (each_terms cs)) (terms_below b h.1) (choices_below cs h.2))
+    terms_below (Or a b cs) h = AllByRecursion-append TermBelow (terms a) (terms b ++ flat_map (λ those. those) (each_terms cs)) (terms_below a h.0) (AllByRecursion-append TermBelow (terms b) (flat_map (λ those. those) (each_terms cs)) (terms_below b h.1) (each_below cs h.2))
+
+    choices_below : (fs : FormulaTrees) → EachSetsBelow n fs → TermsBelow (choices (each_terms fs))
+    choices_below none h = (tt, tt)
+    choices_below (more f fs) h = pairs_below (terms f) (choices (each_terms fs)) (terms_below f h.0) (choices_below fs h.1)
+
+    each_below : (fs : FormulaTrees) → EachSetsBelow n fs → TermsBelow (flat_map (λ those. those) (each_terms fs))
+    each_below none h = tt
+    each_below (more f fs) h = AllByRecursion-append TermBelow (terms f) (flat_map (λ those. those) (each_terms fs)) (terms_below f h.0) (each_below fs h.1)
+
+-- ---- it accepts the same words
+
+path_under : (f : FormulaTree) (a : Automaton) (p : ℕ) (xs : List NameSet) (es : List TreeEdge) (q : ℕ) → IsPath a p xs es q → IsPath (record a { formula = f }) p xs es q
+path_under f a p [] [] q h = h
+path_under f a p [] (e ∷ es) q h = h
+path_under f a p (x ∷ xs) [] q h = h
+path_under f a p (x ∷ xs) (e ∷ es) q h = (h.0, h.1, h.2, path_under f a e.to xs es q h.3)
+
+-- under a condition that holds wherever its own does
+accepts_under : (f : FormulaTree) (a : Automaton) → ((cycle : List (List ℕ)) → met cycle a.formula ≡ true → met cycle f ≡ true) → (u v : List NameSet) → Accepts a u v → Accepts (record a { formula = f }) u v
+accepts_under f a holds u v r = record {
+  endless = r.endless;
+  start = r.start;
+  state = r.state;
+  turns = r.turns;
+  rounds = r.rounds;
+  way = r.way;
+  cycle = r.cycle;
+  is_start = r.is_start;
+  leads = path_under f a r.start _ r.way r.state r.leads;
+  positive = r.positive;
+  returns = path_under f a r.state _ r.cycle r.state r.returns;
+  meets = holds (map (λ e. e.marks) r.cycle) r.meets;
+}
+
+met_alike : (f : FormulaTree) (cycle : List (List ℕ)) → met cycle (of_terms (terms f)) ≡ met cycle f
+met_alike f cycle = met-of_terms cycle (terms f) ∙ sym (met-terms cycle f)
+
+pub disjunctive_accepts : (a : Automaton) → AcceptTheSame (in_disjunctive_form a) a
+disjunctive_accepts a u v = (
+  accepts_under a.formula (in_disjunctive_form a) (λ cycle h. sym (met_alike a.formula cycle) ∙ h) u v,
+  accepts_under (of_terms (terms a.formula)) a (λ cycle h. met_alike a.formula cycle ∙ h) u v,
+)
+
+-- ---- its parts
+
+abbrev under_terms : Core → Core
+under_terms c = record c { formula = of_terms (terms c.formula) }
+
+-- what each part is
+pub record AreOfTerms (old new : Core) (ts : List (List Literal)) : Type 0 where
+  pub listed : ts ≡ terms old.formula
+  pub names : new.names ≡ old.names
+  pub starts : new.starts ≡ old.starts
+  pub states : new.states ≡ old.states
+  pub links : new.links ≡ old.links
+  pub sets : new.sets ≡ old.sets
+  pub formula : new.formula ≡ of_terms ts
+  pub store : new.store ≡ old.store
+
+same_core : (old new : Core) (ts : List (List Literal)) → AreOfTerms old new ts → new ≡ under_terms old
+same_core old new ts are =
+    let formula : new.formula ≡ of_terms (terms old.formula) = are.formula ∙ (λ i. of_terms (are.listed i)) in
+    λ i. record { names = are.names i; starts = are.starts i; states = are.states i; links = are.links i; sets = are.sets i; formula = formula i; store = are.store i }
+
+pub are_disjunctive : (old new : Core) (ts : List (List Literal)) → AreOfTerms old new ts → automaton_of new ≡ in_disjunctive_form (automaton_of old)
+are_disjunctive old new ts are = λ i. automaton_of (same_core old new ts are i)
+
+parts_under_terms : (c : Core) → IsCore c → AreParts (under_terms c)
+parts_under_terms c core = record {
+  few = core.parts.few;
+  store_names = core.parts.store_names;
+  starts_differ = core.parts.starts_differ;
+  starts = core.parts.starts;
+  in_order = core.parts.in_order;
+  links = All-weaker (IsLinkOf c) (IsLinkOf (under_terms c)) (λ l h. record { from = h.from; guard = h.guard; to = h.to; marks = h.marks }) c.links core.parts.links;
+  formula = of_terms_holds (SetsBelow c.sets) (below_parts c.sets) (terms c.formula) (terms_below c.sets c.formula core.parts.formula);
+}
+
+pub disjunctive_parts : (old new : Core) (ts : List (List Literal)) → IsCore old → AreOfTerms old new ts → AreParts new
+disjunctive_parts old new ts core are = subst AreParts (sym (same_core old new ts are)) (parts_under_terms old core)

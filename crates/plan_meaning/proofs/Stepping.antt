@@ -1,0 +1,96 @@
+-- Steps one after the other make their changes one after the other.
+use Rattle.std.proofs.Common.{◌≡◌, ◌↔◌, ◌⊎◌, List, [], ◌∷◌, ◌++◌, Result, Ok, Err, inl, inr, refl, subst, sym}
+use Rattle.std.specs.Result.{IsErrAnd}
+use Rattle.aut_base.specs.Acceptance.{Accepts}
+use Rattle.aut_base.specs.Automaton.{Automaton}
+use Rattle.aut_base.specs.Word.{NameSet}
+use Rattle.aut_base.specs.declared.limit.Limit.{Limit}
+use Rattle.aut_core.specs.Core.{Core, automaton_of}
+use Rattle.plan_meaning.specs.Changes.{Bring, Change, ChangedTo, Complete, Language, Makes, MakesAll, PassesIn, Product, ProductOr, StopsIn, Sum, Trim, said_by, said_by_all}
+use Rattle.plan_meaning.specs.declared.fault.PlanFault.{PlanFault}
+use Rattle.plan_meaning.specs.declared.fault.PlanFault.TheVariants as fault
+use Rattle.plan_meaning.specs.inner.Stepping.{IsMade, Steps}
+
+-- ---- one change, and none
+
+pub not_changed : (a : Automaton) → IsMade [] a a
+not_changed a = record { all = refl; says = λ u v. ((λ x. x), (λ x. x)) }
+
+pub changed_once : (c : Change) (a made : Automaton) → ((which : Limit) → PassesIn which c a → ⊥) → Makes c a made → ((u v : List NameSet) → Accepts made u v ↔ said_by c (λ x y. Accepts a x y) u v) → IsMade (c ∷ []) a made
+changed_once c a made within makes says = record { all = (made, record { within = within; makes = makes }, refl); says = says }
+
+pub stopped_at_once : (which : Limit) (c : Change) (a : Automaton) → PassesIn which c a → StopsIn which (c ∷ []) a
+stopped_at_once which c a passes = inl passes
+
+-- ---- what is accepted
+
+either_alike : {P Q : Type 0} (R : Type 0) → P ↔ Q → (P ⊎ R) ↔ (Q ⊎ R)
+either_alike {P = P} {Q = Q} R h = (
+  (λ x. elim x as (λ _. Q ⊎ R) [ inl p ↦ inl (h.0 p) | inr r ↦ inr r ]),
+  (λ x. elim x as (λ _. P ⊎ R) [ inl q ↦ inl (h.1 q) | inr r ↦ inr r ]),
+)
+
+one_alike : (c : Change) (L M : Language) → ((u v : List NameSet) → L u v ↔ M u v) → (u v : List NameSet) → said_by c L u v ↔ said_by c M u v
+one_alike (Product b) L M h u v = ((λ x. ((h u v).0 x.0, x.1)), (λ x. ((h u v).1 x.0, x.1)))
+one_alike (ProductOr b) L M h u v = either_alike (Accepts b u v) (h u v)
+one_alike (Sum b) L M h u v = either_alike (Accepts b u v) (h u v)
+one_alike Trim L M h u v = h u v
+one_alike (Bring f) L M h u v = h u v
+one_alike Complete L M h u v = h u v
+
+all_alike : (cs : List Change) (L M : Language) → ((u v : List NameSet) → L u v ↔ M u v) → (u v : List NameSet) → said_by_all cs L u v ↔ said_by_all cs M u v
+all_alike [] L M h u v = h u v
+all_alike (c ∷ cs) L M h u v = all_alike cs (said_by c L) (said_by c M) (one_alike c L M h) u v
+
+said_then : (cs ds : List Change) (L : Language) (u v : List NameSet) → said_by_all ds (said_by_all cs L) u v ↔ said_by_all (cs ++ ds) L u v
+said_then [] ds L u v = ((λ x. x), (λ x. x))
+said_then (c ∷ cs) ds L u v = said_then cs ds (said_by c L) u v
+
+-- ---- one after the other
+
+all_then : (cs ds : List Change) (a b made : Automaton) → MakesAll cs a b → MakesAll ds b made → MakesAll (cs ++ ds) a made
+all_then [] ds a b made first second = subst (λ (x : Automaton). MakesAll ds x made) first second
+all_then (c ∷ cs) ds a b made first second = (first.0, first.1, all_then cs ds first.0 b made first.2 second)
+
+pub made_then : (cs ds : List Change) (a b made : Automaton) → IsMade cs a b → IsMade ds b made → IsMade (cs ++ ds) a made
+made_then cs ds a b made first second = record {
+  all = all_then cs ds a b made first.all second.all;
+  says = λ u v.
+      let next = all_alike ds (λ x y. Accepts b x y) (said_by_all cs (λ x y. Accepts a x y)) first.says u v in
+      let whole = said_then cs ds (λ x y. Accepts a x y) u v in
+      ((λ x. whole.0 (next.0 ((second.says u v).0 x))), (λ x. (second.says u v).1 (next.1 (whole.1 x))));
+}
+
+stops_before : (which : Limit) (cs ds : List Change) (a : Automaton) → StopsIn which cs a → StopsIn which (cs ++ ds) a
+stops_before which [] ds a stops = absurd stops
+stops_before which (c ∷ cs) ds a (inl passes) = inl passes
+stops_before which (c ∷ cs) ds a (inr later) = inr (later.0, later.1, stops_before which cs ds later.0 later.2)
+
+stops_behind : (which : Limit) (cs ds : List Change) (a b : Automaton) → MakesAll cs a b → StopsIn which ds b → StopsIn which (cs ++ ds) a
+stops_behind which [] ds a b made stops = subst (λ (x : Automaton). StopsIn which ds x) made stops
+stops_behind which (c ∷ cs) ds a b made stops = inr (made.0, made.1, stops_behind which cs ds made.0 b made.2 stops)
+
+-- a step behind what was made
+pub steps_then : (cs ds : List Change) (a b : Automaton) (r : Result Core PlanFault) → IsMade cs a b → Steps ds b r → Steps (cs ++ ds) a r
+steps_then cs ds a b (Ok made) first second = made_then cs ds a b (automaton_of made) first second
+steps_then cs ds a b (Err (fault.Limit which)) first second = stops_behind which cs ds a b first.all second
+steps_then cs ds a b (Err fault.Memory) first second = tt
+
+-- a fault that a step passes on
+pub steps_told : (cs : List Change) (a : Automaton) (came : PlanFault) (r : Result Core PlanFault) → IsErrAnd r (λ y. y ≡ came) → Steps cs a (Err came) → Steps cs a r
+steps_told cs a came (Ok made) passed steps = absurd passed
+steps_told cs a came (Err y) passed steps = subst (λ (f : PlanFault). Steps cs a (Err f)) (sym passed) steps
+
+-- and no step behind it is made
+pub steps_end : (cs ds : List Change) (a : Automaton) (came : PlanFault) (r : Result Core PlanFault) → IsErrAnd r (λ y. y ≡ came) → Steps cs a (Err came) → Steps (cs ++ ds) a r
+steps_end cs ds a came r passed steps = steps_told (cs ++ ds) a came r passed (ended came steps)
+  where
+    ended : (f : PlanFault) → Steps cs a (Err f) → Steps (cs ++ ds) a (Err f)
+    ended (fault.Limit which) stops = stops_before which cs ds a stops
+    ended fault.Memory stops = tt
+
+-- what the last step answers is what the changes make
+pub changed_to : (cs : List Change) (a : Automaton) (r : Result Core PlanFault) → Steps cs a r → ChangedTo r cs a
+changed_to cs a (Ok made) steps = steps.all
+changed_to cs a (Err (fault.Limit which)) steps = steps
+changed_to cs a (Err fault.Memory) steps = tt

@@ -1,0 +1,5 @@
+use Rattle.plan_meaning.proofs.Verdicts as verdicts
+use Rattle.plan_meaning.proofs.laws.one_verdict.Goals as goal
+
+pub returns : goal.returns
+returns c = verdicts.one_verdict

@@ -1,0 +1,35 @@
+-- What the definitions amount to: a plan says one thing of each automaton.
+use Rattle.std.specs.Prelude.{◌≡◌, List}
+use Rattle.aut_base.specs.Automaton.{Automaton}
+use Rattle.aut_base.specs.declared.limit.Limit.{Limit}
+use Rattle.filter_plan.specs.declared.plan.Plan.{Plan}
+use Rattle.plan_meaning.specs.Changes.{Change, MakesAll, StopsIn}
+use Rattle.plan_meaning.specs.Filters.{IsDropped, IsKept, IsOverFilters}
+
+-- the verdict on an automaton
+pub data Verdict : Type 0 where
+  Kept : Verdict
+  Dropped : Verdict
+  Over : Limit → Verdict
+
+abbrev pub IsVerdict : Verdict → Plan → List Automaton → Automaton → Type 0
+IsVerdict Kept p ops a = IsKept p ops a
+IsVerdict Dropped p ops a = IsDropped p ops a
+IsVerdict (Over which) p ops a = IsOverFilters which p ops a
+
+-- There is no more than one verdict,
+abbrev pub OneVerdict : Type 0
+OneVerdict = (p : Plan) (ops : List Automaton) (a : Automaton) (v w : Verdict) → IsVerdict v p ops a → IsVerdict w p ops a → v ≡ w
+
+-- and no automaton on which there is none.
+abbrev pub SomeVerdict : Type 0
+SomeVerdict = (p : Plan) (ops : List Automaton) (a : Automaton) → ((v : Verdict) → IsVerdict v p ops a → ⊥) → ⊥
+
+-- Changes make no more than one automaton, or else pass no more than one limit.
+pub record AreDetermined (cs : List Change) (a : Automaton) : Type 0 where
+  pub made : (m n : Automaton) → MakesAll cs a m → MakesAll cs a n → m ≡ n
+  pub either : (m : Automaton) (which : Limit) → MakesAll cs a m → StopsIn which cs a → ⊥
+  pub limit : (which other : Limit) → StopsIn which cs a → StopsIn other cs a → which ≡ other
+
+abbrev pub ChangesAreDetermined : Type 0
+ChangesAreDetermined = (cs : List Change) (a : Automaton) → AreDetermined cs a

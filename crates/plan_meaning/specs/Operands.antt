@@ -1,0 +1,35 @@
+-- The automata that a plan compares or combines others with. They are listed as their names are: in the order in which they
+-- are read.
+use Rattle.std.specs.Prelude.{◌≡◌, ℕ, ◌+◌, ◌≤◌, List, ◌++◌, length, slice_get, All, Option, Some, None}
+use Rattle.aut_base.specs.Automaton.{Automaton}
+use Rattle.aut_base.specs.declared.limit.TheConstants.{MOST_SETS, MOST_STATES}
+use Rattle.filter_plan.specs.Words.{listed, operands}
+use Rattle.filter_plan.specs.declared.plan.Plan.{Plan}
+
+-- the places of operands in the list: behind those of the options before
+abbrev pub place_of_intersect : Plan → ℕ
+place_of_intersect p = length (listed p.included_in ++ listed p.equivalent_to)
+
+abbrev pub place_of_product : Plan → ℕ
+place_of_product p = place_of_intersect p + length (listed p.intersect)
+
+abbrev pub place_of_product_or : Plan → ℕ
+place_of_product_or p = place_of_product p + length (listed p.product)
+
+abbrev pub place_of_sum : Plan → ℕ
+place_of_sum p = place_of_product_or p + length (listed p.product_or)
+
+-- the operand at a place, where its option stands
+abbrev pub operand_at : Option (List ℕ) → ℕ → List Automaton → Option Automaton
+operand_at None place ops = None
+operand_at (Some name) place ops = slice_get ops place
+
+-- An automaton has no more states and sets than one may have that is read.
+pub record IsOfReadSize (a : Automaton) : Type 0 where
+  pub states : a.states ≤ MOST_STATES
+  pub sets : a.sets ≤ MOST_SETS
+
+-- there is an operand for each name
+pub record AreOperands (p : Plan) (ops : List Automaton) : Type 0 where
+  pub number : length ops ≡ length (operands p)
+  pub sized : All IsOfReadSize ops

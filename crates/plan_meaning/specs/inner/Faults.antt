@@ -1,0 +1,30 @@
+-- Faults of calls, as those of a plan.
+use Rattle.acc_forms.specs.declared.fault.FormFault.{FormFault}
+use Rattle.acc_forms.specs.declared.fault.FormFault.TheVariants as form
+use Rattle.aut_base.specs.declared.limit.Limit.TheVariants as limit
+use Rattle.aut_core.specs.declared.join.NameFault.{NameFault}
+use Rattle.aut_core.specs.declared.join.NameFault.TheVariants as name
+use Rattle.aut_ops.specs.declared.fault.PairFault.{PairFault}
+use Rattle.aut_ops.specs.declared.fault.PairFault.TheVariants as pair
+use Rattle.degeneralise.specs.declared.fault.BuchiFault.{BuchiFault}
+use Rattle.degeneralise.specs.declared.fault.BuchiFault.TheVariants as buchi
+use Rattle.plan_meaning.specs.declared.fault.PlanFault.{PlanFault}
+use Rattle.plan_meaning.specs.declared.fault.PlanFault.TheVariants as fault
+
+abbrev pub fault_of_names : NameFault → PlanFault
+fault_of_names name.Names = fault.Limit limit.Names
+fault_of_names name.Memory = fault.Memory
+
+abbrev pub fault_of_pairs : PairFault → PlanFault
+fault_of_pairs pair.Names = fault.Limit limit.Names
+fault_of_pairs pair.Pairs = fault.Limit limit.Pairs
+fault_of_pairs pair.Memory = fault.Memory
+
+abbrev pub fault_of_form : FormFault → PlanFault
+fault_of_form form.Terms = fault.Limit limit.Terms
+fault_of_form form.Memory = fault.Memory
+
+abbrev pub fault_of_buchi : BuchiFault → PlanFault
+fault_of_buchi buchi.Terms = fault.Limit limit.Terms
+fault_of_buchi buchi.BuchiStates = fault.Limit limit.BuchiStates
+fault_of_buchi buchi.Memory = fault.Memory

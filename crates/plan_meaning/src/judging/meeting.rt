@@ -1,0 +1,74 @@
+//! Whether an automaton accepts some word, or one of a pattern or of another automaton.
+
+ghost use Rattle.std.specs.Prelude.{◌+◌, ◌<◌, ◌^◌};
+ghost use Rattle.aut_core.specs.Core.{automaton_of};
+ghost use Rattle.plan_meaning.specs.Filters as asked;
+ghost use Rattle.plan_meaning.specs.Operands.{IsOfReadSize};
+ghost use Rattle.plan_meaning.specs.inner.Judging.{Examines};
+ghost use Rattle.word_syntax.specs.Writing.{word_pattern};
+
+use crate::fault::PlanFault;
+use aut_core::Automaton;
+use aut_ops::{few_pairs_exclude_more, product};
+use lasso_emptiness::accepted_word;
+use std::alloc::Global;
+use word_syntax::{Pattern, pattern_automaton};
+
+/// Whether it accepts no word that matches the pattern.
+pub(crate) fn rejects_word(
+    alloc: Global,
+    pattern: &Pattern,
+    a: &Automaton,
+) -> Result<bool, PlanFault>
+    requires size { IsOfReadSize (automaton_of a.now) }
+    ensures { Examines result (asked.RejectsWord (word_pattern pattern.now)) (automaton_of a.now) }
+{
+    let accepts = accepts_word(alloc, pattern, a)?;
+    Ok(!accepts)
+}
+
+/// Whether it accepts a word that matches the pattern.
+pub(crate) fn accepts_word(
+    alloc: Global,
+    pattern: &Pattern,
+    a: &Automaton,
+) -> Result<bool, PlanFault>
+    requires size { IsOfReadSize (automaton_of a.now) }
+    ensures { Examines result (asked.AcceptsWord (word_pattern pattern.now)) (automaton_of a.now) }
+{
+    let word = pattern_automaton(alloc, pattern)?;
+    meets(alloc, a, &word)
+}
+
+/// Whether both accept some word, where the other is of the size of one that is read.
+pub(crate) fn intersects(alloc: Global, a: &Automaton, other: &Automaton) -> Result<bool, PlanFault>
+    requires size { IsOfReadSize (automaton_of a.now) }
+    requires other_size { IsOfReadSize (automaton_of other.now) }
+    ensures { Examines result (asked.Intersects (automaton_of other.now)) (automaton_of a.now) }
+{
+    meets(alloc, a, other)
+}
+
+/// Whether both accept some word: whether their product accepts one.
+fn meets(alloc: Global, a: &Automaton, other: &Automaton) -> Result<bool, PlanFault>
+    requires { a.now.sets + other.now.sets < 2 ^ 32 }
+    ensures { Examines result (asked.Intersects (automaton_of other.now)) (automaton_of a.now) }
+{
+    a.whole();
+    few_pairs_exclude_more();
+    let both = product(alloc, a, other)?;
+    match accepted_word(alloc, &both)? {
+        Some(_) => return Ok(true),
+        None => return Ok(false),
+    }
+}
+
+/// Whether it accepts no word.
+pub(crate) fn accepts_nothing(alloc: Global, a: &Automaton) -> Result<bool, PlanFault>
+    ensures { Examines result asked.IsEmpty (automaton_of a.now) }
+{
+    match accepted_word(alloc, a)? {
+        Some(_) => return Ok(false),
+        None => return Ok(true),
+    }
+}

@@ -1,0 +1,20 @@
+//! What a plan asks of one automaton: the verdict of its filters, and what its operations, its form and completion make of it.
+//!
+//! A caller sees `judge` and `change`, the operands that both take, and why they may refuse. `specs/Operands` says which
+//! operand belongs to which option, `specs/Filters` what the verdict is, `specs/Changes` what is made and which words it
+//! accepts, `specs/Promises` what a form promises, and `specs/Limits` which limits two automata put together may pass.
+#![tactic(auto)]
+
+mod change_laws;
+mod changing;
+mod fault;
+mod judging;
+mod laws;
+mod operands;
+
+pub use change_laws::changes_are_determined;
+pub use changing::change;
+pub use fault::PlanFault;
+pub use judging::judge;
+pub use laws::{one_verdict, some_verdict};
+pub use operands::Automata;

@@ -1,0 +1,107 @@
+//! The automata that a plan compares or combines others with.
+
+ghost use Rattle.std.specs.Prelude.{◌≡◌, ◌<◌, ◌≤◌, All, IfSome, is_some, length, map, true};
+ghost use Rattle.std.specs.Option.{option_map};
+ghost use Rattle.aut_core.specs.Core.{automaton_of};
+ghost use Rattle.filter_plan.specs.Words.{listed};
+ghost use Rattle.plan_meaning.specs.Operands.{AreOperands, IsOfReadSize, operand_at, place_of_intersect, place_of_product, place_of_product_or, place_of_sum};
+
+use aut_base::{Seq, Text};
+use aut_core::Automaton;
+use filter_plan::Plan;
+
+/// Automata, in order.
+pub type Automata = Seq<Automaton>;
+
+/// The operand of `--intersect`, where it stands.
+pub(crate) fn intersect_operand<'a>(plan: &Plan, operands: &'a Automata) -> Option<&'a Automaton>
+    requires { AreOperands plan.now (map automaton_of operands.now) }
+    ensures is { option_map (λ a. automaton_of a.now) result ≡ operand_at plan.now.intersect (place_of_intersect plan.now) (map automaton_of operands.now) }
+    ensures sized { IfSome result (λ a. IsOfReadSize (automaton_of a.now)) }
+{
+    operand_at(&plan.intersect, place_of_intersect(plan), operands)
+}
+
+/// The operand of `--product`, where it stands.
+pub(crate) fn product_operand<'a>(plan: &Plan, operands: &'a Automata) -> Option<&'a Automaton>
+    requires { AreOperands plan.now (map automaton_of operands.now) }
+    ensures is { option_map (λ a. automaton_of a.now) result ≡ operand_at plan.now.product (place_of_product plan.now) (map automaton_of operands.now) }
+    ensures sized { IfSome result (λ a. IsOfReadSize (automaton_of a.now)) }
+{
+    operand_at(&plan.product, place_of_product(plan), operands)
+}
+
+/// The operand of `--product-or`, where it stands.
+pub(crate) fn product_or_operand<'a>(plan: &Plan, operands: &'a Automata) -> Option<&'a Automaton>
+    requires { AreOperands plan.now (map automaton_of operands.now) }
+    ensures is { option_map (λ a. automaton_of a.now) result ≡ operand_at plan.now.product_or (place_of_product_or plan.now) (map automaton_of operands.now) }
+    ensures sized { IfSome result (λ a. IsOfReadSize (automaton_of a.now)) }
+{
+    operand_at(&plan.product_or, place_of_product_or(plan), operands)
+}
+
+/// The operand of `--sum`, where it stands.
+pub(crate) fn sum_operand<'a>(plan: &Plan, operands: &'a Automata) -> Option<&'a Automaton>
+    requires { AreOperands plan.now (map automaton_of operands.now) }
+    ensures is { option_map (λ a. automaton_of a.now) result ≡ operand_at plan.now.sum (place_of_sum plan.now) (map automaton_of operands.now) }
+    ensures sized { IfSome result (λ a. IsOfReadSize (automaton_of a.now)) }
+{
+    operand_at(&plan.sum, place_of_sum(plan), operands)
+}
+
+/// The operand at this place, where the option stands.
+fn operand_at<'a>(
+    name: &Option<Text>,
+    place: usize,
+    operands: &'a Automata,
+) -> Option<&'a Automaton>
+    requires within { is_some name.now ≡ true → place < length operands.now }
+    requires sized { All IsOfReadSize (map automaton_of operands.now) }
+    ensures is { option_map (λ a. automaton_of a.now) result ≡ operand_at name.now place (map automaton_of operands.now) }
+    ensures sized { IfSome result (λ a. IsOfReadSize (automaton_of a.now)) }
+{
+    match name {
+        Some(_) => Some(operands.at(place)),
+        None => None,
+    }
+}
+
+/// Behind the operands of the options that are read before.
+fn place_of_intersect(plan: &Plan) -> usize
+    ensures is { result ≡ place_of_intersect plan.now }
+    ensures few { result ≤ 2 }
+{
+    count(&plan.included_in) + count(&plan.equivalent_to)
+}
+
+fn place_of_product(plan: &Plan) -> usize
+    ensures is { result ≡ place_of_product plan.now }
+    ensures few { result ≤ 3 }
+{
+    place_of_intersect(plan) + count(&plan.intersect)
+}
+
+fn place_of_product_or(plan: &Plan) -> usize
+    ensures is { result ≡ place_of_product_or plan.now }
+    ensures few { result ≤ 4 }
+{
+    place_of_product(plan) + count(&plan.product)
+}
+
+fn place_of_sum(plan: &Plan) -> usize
+    ensures is { result ≡ place_of_sum plan.now }
+    ensures few { result ≤ 5 }
+{
+    place_of_product_or(plan) + count(&plan.product_or)
+}
+
+/// How many operands an option has.
+fn count(name: &Option<Text>) -> usize
+    ensures is { result ≡ length (listed name.now) }
+    ensures few { result ≤ 1 }
+{
+    match name {
+        Some(_) => 1,
+        None => 0,
+    }
+}
