@@ -1,80 +1,127 @@
 -- What becomes of an automaton that was read.
-use Rattle.std.proofs.Common.{◌≡◌, ℕ, Bool, true, false, List, [], Option, Result, Ok, Err, refl, sym, ap, ◌∙◌, subst}
+use Rattle.std.proofs.Common.{◌≡◌, ℕ, Bool, true, false, if◌then◌else◌, List, [], Option, None, Result, Ok, Err, refl, sym, ap, ◌∙◌, subst, inl, inr}
+use Rattle.std.specs.Prelude.{◌↔◌}
 use Rattle.std.specs.Result.{IsErrAnd}
-use Rattle.aut_base.specs.Automaton.{Automaton, IsWellFormed}
-use Rattle.aut_base.specs.CanonicalLabel.{canonical}
-use Rattle.autfilt_run.proofs.Canonical.{verdict_read}
-use Rattle.autfilt_run.proofs.ReadsAs.{is_canonical}
-use Rattle.autfilt_run.specs.Due.{IsDue, IsDueWhere, IsPrinted}
-use Rattle.autfilt_run.specs.Figures.{IsLine}
-use Rattle.autfilt_run.specs.Filters.{IsDropped, IsKept}
+use Rattle.aut_base.specs.Acceptance.{Accepts}
+use Rattle.aut_base.specs.Automaton.{Automaton}
+use Rattle.aut_base.specs.Word.{NameSet}
+use Rattle.aut_io.specs.Seen.{SinkSeen}
+use Rattle.autfilt_run.proofs.ReadsAs.{reads_as}
+use Rattle.autfilt_run.proofs.Said.{said_as}
+use Rattle.autfilt_run.proofs.Taking.{accepts_read, core_is}
+use Rattle.autfilt_run.specs.Due.{IsDue, IsDueWhere, IsMade, IsPrinted, name_due}
+use Rattle.autfilt_run.specs.Faults.{fault_of_plan}
 use Rattle.autfilt_run.specs.Plans.{prints_each}
-use Rattle.autfilt_run.specs.inner.Handling.{IsUnwanted, IsWanted, Prints}
-use Rattle.autfilt_run.specs.inner.Judging.{KeepsOrDrops}
 use Rattle.autfilt_run.specs.declared.fault.RunFault.{RunFault}
+use Rattle.autfilt_run.specs.declared.fault.RunFault.TheVariants as fault
+use Rattle.autfilt_run.specs.inner.Handling.{Handles, IsUnwanted, IsWanted, Prints, PrintsMade, PrintsOrStops}
+use Rattle.autfilt_run.specs.inner.Taking.{IsReadAs, TakesAutomaton}
+use Rattle.filter_plan.specs.Words.{changes}
 use Rattle.filter_plan.specs.declared.plan.Output.{Output}
 use Rattle.filter_plan.specs.declared.plan.Output.TheVariants.{Hoa, Stats, Refute}
 use Rattle.filter_plan.specs.declared.plan.Plan.{Plan}
 use Rattle.hoa_parser.specs.Naming.{name_of}
 use Rattle.hoa_parser.specs.Raw.{Written}
-use Rattle.hoa_reader.specs.Counts.{PassesNone}
 use Rattle.hoa_reader.specs.Described as reader
-use Rattle.hoa_reader.specs.Validity.{IsValid}
-use Rattle.hoa_writer.proofs.text.Settled.{canonical_form_has_the_same_text}
 use Rattle.hoa_writer.specs.CanonicalText.{canonical_text}
+use Rattle.hoa_writer.specs.CanonicalWritten.{ReadsBack}
+use Rattle.plan_meaning.proofs.Canonical.{verdict_read}
+use Rattle.plan_meaning.specs.Changes.{MakesAll, changes_of, set_operation}
+use Rattle.plan_meaning.specs.Filters.{IsKept, Judged}
+use Rattle.plan_meaning.specs.declared.fault.PlanFault.{PlanFault}
+use Rattle.plan_meaning.specs.declared.fault.PlanFault.TheVariants as asked
 
--- what is known of an automaton of a store that was read
-pub record IsReadAs (w : Written) (core : Automaton) : Type 0 where
-  pub valid : IsValid w
-  pub within : PassesNone w
-  pub described : Automaton
-  pub is : core ≡ canonical described
-  pub same : described ≡ reader.described w
-  pub formed : IsWellFormed described
+judged : (r : Result Bool PlanFault) (p : Plan) (ops : List Automaton) (w : Written) (core : Automaton) → IsReadAs w core → Judged r p ops core → Judged r p ops (reader.described w)
+judged r p ops w core x h = verdict_read r p ops core x.described (reader.described w) x.is x.same x.formed h
 
-dropped : (b : Bool) (p : Plan) (a : Automaton) → b ≡ false → KeepsOrDrops b p a → IsDropped p a
-dropped true p a is h = cc
-dropped false p a is h = h
+kept : (b : Bool) (p : Plan) (ops : List Automaton) (w : Written) (core : Automaton) → IsReadAs w core → b ≡ true → Judged (Ok b) p ops core → IsKept p ops (reader.described w)
+kept b p ops w core r is h = judged (Ok true) p ops w core r (subst (λ (x : Bool). Judged (Ok x) p ops core) is h)
 
-kept : (b : Bool) (p : Plan) (a : Automaton) → b ≡ true → KeepsOrDrops b p a → IsKept p a
-kept true p a is h = h
-kept false p a is h = cc
+pub is_unwanted : (b : Bool) (p : Plan) (ops : List Automaton) (w : Written) (core : Automaton) → IsReadAs w core → b ≡ false → Judged (Ok b) p ops core → IsUnwanted p ops w
+is_unwanted b p ops w core r is h =
+    record { valid = r.valid; within = r.within; dropped = judged (Ok false) p ops w core r (subst (λ (x : Bool). Judged (Ok x) p ops core) is h) }
 
-pub is_unwanted : (b : Bool) (p : Plan) (w : Written) (core : Automaton) → IsReadAs w core → b ≡ false → KeepsOrDrops b p core → IsUnwanted p w
-is_unwanted b p w core r is h = record { valid = r.valid; within = r.within; dropped = dropped b p (reader.described w) is (verdict_read b p core r.described (reader.described w) r.is r.same r.formed h) }
+-- ---- what is due of it
 
-silent : (p : Plan) (w : Written) (b : Bool) → b ≡ prints_each p → b ≡ false → IsDue p w []
-silent p w true e is = cc
-silent p w false e is = subst (λ (x : Bool). IsDueWhere x p.output w []) e refl
+silent : (p : Plan) (ops : List Automaton) (w : Written) (b : Bool) → b ≡ prints_each p → b ≡ false → IsDue p ops w []
+silent p ops w true e is = cc
+silent p ops w false e is = subst (λ (x : Bool). IsDueWhere x p ops w []) e refl
 
--- nothing is due of it
-pub is_wanted_silent : (b c : Bool) (p : Plan) (w : Written) (core : Automaton) → IsReadAs w core → b ≡ true → KeepsOrDrops b p core → c ≡ prints_each p → c ≡ false → IsWanted p w []
-is_wanted_silent b c p w core r is h e off =
-    record { valid = r.valid; within = r.within; kept = kept b p (reader.described w) is (verdict_read b p core r.described (reader.described w) r.is r.same r.formed h); due = silent p w c e off }
+pub is_wanted_silent : (b c : Bool) (p : Plan) (ops : List Automaton) (w : Written) (core : Automaton) → IsReadAs w core → b ≡ true → Judged (Ok b) p ops core → c ≡ prints_each p → c ≡ false → IsWanted p ops w []
+is_wanted_silent b c p ops w core r is h e off =
+    record { valid = r.valid; within = r.within; kept = kept b p ops w core r is h; due = silent p ops w c e off }
 
--- what is printed of it is due
-due_as : (o : Output) (w : Written) (core : Automaton) (name : Option (List ℕ)) (text : List ℕ) → IsReadAs w core → name ≡ name_of w → Prints o core name text → IsPrinted o w text
-due_as Hoa w core name text r named h =
-    is_canonical w text
-    (h ∙ ap (λ a. canonical_text a name) r.is ∙ canonical_form_has_the_same_text r.described name ∙ ap (λ a. canonical_text a name) r.same ∙ ap (canonical_text (reader.described w)) named)
-    r.valid r.within
-due_as (Stats pieces) w core name text r named h = subst (λ (a : Automaton). IsLine pieces a text) (r.is ∙ ap canonical r.same) h
-due_as (Refute operand) w core name text r named h = absurd h
+made_of : (p : Plan) (ops : List Automaton) (w : Written) (core : Automaton) (name : Option (List ℕ)) (text : List ℕ) → IsReadAs w core → (h : PrintsMade p ops core name text) → IsMade p ops w h.made
+made_of p ops w core name text r h =
+    record { makes = subst (λ (x : Automaton). MakesAll (changes_of p ops) x h.made) (core_is w core r) h.makes; promises = h.promises }
 
-due_text : (p : Plan) (w : Written) (b : Bool) (text : List ℕ) → b ≡ prints_each p → b ≡ true → IsPrinted p.output w text → IsDue p w text
-due_text p w true text e is h = subst (λ (x : Bool). IsDueWhere x p.output w text) e h
-due_text p w false text e is h = cc
+name_as : (p : Plan) (w : Written) (name : Option (List ℕ)) → name ≡ name_of w → (if changes p then None else name) ≡ name_due p w
+name_as p w name e = ap (λ (x : Option (List ℕ)). if changes p then None else x) e
 
-pub is_wanted : (b c : Bool) (p : Plan) (w : Written) (core : Automaton) (name : Option (List ℕ)) (text bytes : List ℕ) → IsReadAs w core → b ≡ true → KeepsOrDrops b p core → c ≡ prints_each p → c ≡ true
-    → bytes ≡ text → Prints p.output core name text → name ≡ name_of w → IsWanted p w bytes
-is_wanted b c p w core name text bytes r is h e on shown printed named = record {
+printed_as : (o : Output) (p : Plan) (ops : List Automaton) (w : Written) (core : Automaton) (name : Option (List ℕ)) (text : List ℕ) → IsReadAs w core → name ≡ name_of w
+    → (h : PrintsMade p ops core name text) → Prints o h.made (if changes p then None else name) text → IsPrinted o p ops w text
+printed_as Hoa p ops w core name text r named h prints =
+    let due = name_as p w name named in
+    let same : text ≡ canonical_text h.made (name_due p w) = prints.0 ∙ ap (canonical_text h.made) due in
+    let back : ReadsBack (canonical_text h.made (name_due p w)) h.made (name_due p w) = subst (λ (x : Option (List ℕ)). ReadsBack (canonical_text h.made x) h.made x) due prints.1 in
+    let says : (u v : List NameSet) → Accepts h.made u v ↔ set_operation p ops (reader.described w) u v =
+    λ u v. let on = said_as p ops core (reader.described w) (accepts_read w core r) u v in (λ x. on.0 ((h.says u v).0 x), λ x. (h.says u v).1 (on.1 x)) in
+    record {
+      made = h.made;
+      is_made = made_of p ops w core name text r h;
+      same = same;
+      reads_as = reads_as text h.made (name_due p w) (set_operation p ops (reader.described w)) (subst (λ (x : List ℕ). ReadsBack x h.made (name_due p w)) (sym same) back) says;
+    }
+printed_as (Stats pieces) p ops w core name text r named h prints = record { made = h.made; is_made = made_of p ops w core name text r h; line = prints }
+printed_as (Refute operand) p ops w core name text r named h prints = absurd prints
+
+due_text : (p : Plan) (ops : List Automaton) (w : Written) (b : Bool) (text : List ℕ) → b ≡ prints_each p → b ≡ true → IsPrinted p.output p ops w text → IsDue p ops w text
+due_text p ops w true text e is h = subst (λ (x : Bool). IsDueWhere x p ops w text) e h
+due_text p ops w false text e is h = cc
+
+pub is_wanted : (b c : Bool) (p : Plan) (ops : List Automaton) (w : Written) (core : Automaton) (name : Option (List ℕ)) (text bytes : List ℕ) → IsReadAs w core → b ≡ true → Judged (Ok b) p ops core → c ≡ prints_each p → c ≡ true
+    → bytes ≡ text → PrintsMade p ops core name text → name ≡ name_of w → IsWanted p ops w bytes
+is_wanted b c p ops w core name text bytes r is h e on shown printed named = record {
   valid = r.valid;
   within = r.within;
-  kept = kept b p (reader.described w) is (verdict_read b p core r.described (reader.described w) r.is r.same r.formed h);
-  due = due_text p w c bytes e on (due_as p.output w core name bytes r named (subst (λ (x : List ℕ). Prints p.output core name x) (sym shown) printed));
+  kept = kept b p ops w core r is h;
+  due = subst (λ (x : List ℕ). IsDue p ops w x) (sym shown) (due_text p ops w c text e on (printed_as p.output p ops w core name text r named printed printed.prints));
 }
+
+-- ---- refusals
+
+pub not_taken : (f : RunFault) (p : Plan) (ops : List Automaton) (w : Written) (o : SinkSeen) → TakesAutomaton (Err f) w → Handles (Err f) p ops w o o
+not_taken (fault.Invalid rule) p ops w o h = (h, refl)
+not_taken (fault.Limit which) p ops w o h = (inl h, refl)
+not_taken fault.Memory p ops w o h = refl
+not_taken _ p ops w o h = absurd h
+
+pub not_judged : (f : PlanFault) (p : Plan) (ops : List Automaton) (w : Written) (core : Automaton) (o : SinkSeen) → IsReadAs w core → Judged (Err f) p ops core → Handles (Err (fault_of_plan f)) p ops w o o
+not_judged (asked.Limit which) p ops w core o r h = (inr (record { valid = r.valid; within = r.within; over = inl (judged (Err (asked.Limit which)) p ops w core r h) }), refl)
+not_judged asked.Memory p ops w core o r h = refl
+
+pub not_printed : (f : PlanFault) (b c : Bool) (p : Plan) (ops : List Automaton) (w : Written) (core : Automaton) (name : Option (List ℕ)) (o : SinkSeen) → IsReadAs w core → b ≡ true → Judged (Ok b) p ops core → c ≡ prints_each p → c ≡ true
+    → PrintsOrStops (Err f) p ops core name → Handles (Err (fault_of_plan f)) p ops w o o
+not_printed (asked.Limit which) b c p ops w core name o r is h e on stops = (
+  inr (record {
+    valid = r.valid;
+    within = r.within;
+    over = inr (record {
+      kept = kept b p ops w core r is h;
+      prints = sym e ∙ on;
+      stops = subst (λ (x : Automaton). PrintsOrStops (Err (asked.Limit which)) p ops x name) (core_is w core r) stops;
+    });
+  }),
+  refl,
+)
+not_printed asked.Memory b c p ops w core name o r is h e on stops = refl
 
 -- an error that `?` hands on
 pub hands_on : {A : Type 0} (r : Result A RunFault) (f : RunFault) (P : Result A RunFault → Type 0) → IsErrAnd r (λ y. y ≡ f) → P (Err f) → P r
 hands_on (Ok a) f P h p = absurd h
 hands_on (Err g) f P h p = subst (λ (x : RunFault). P (Err x)) (sym h) p
+
+-- memory was wanting for what is printed
+pub wants_memory : (r : Result (List ℕ) PlanFault) (p : Plan) (ops : List Automaton) (a : Automaton) (name : Option (List ℕ)) → IsErrAnd r (λ y. y ≡ asked.Memory) → PrintsOrStops r p ops a name
+wants_memory (Ok text) p ops a name h = absurd h
+wants_memory (Err f) p ops a name h = subst (λ (x : PlanFault). PrintsOrStops (Err x) p ops a name) (sym h) tt

@@ -1,13 +1,19 @@
+mod Alike
 mod Bytes
-mod Canonical
 mod DecimalDigits
 mod FigureLines
+mod Files
 pub mod Gains
 mod Handling
-mod Judging
 mod MadeTexts
+mod OperandTurning
+mod PassedLimits
+pub mod Preparing
 mod ReadsAs
 mod Reading
 mod Rings
+mod Said
+pub mod Stepping
+mod Taking
 mod Turning
 pub mod Writing

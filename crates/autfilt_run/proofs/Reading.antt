@@ -1,6 +1,8 @@
 -- What the reader answers, in the words of a session.
-use Rattle.std.proofs.Common.{◌≡◌, ℕ, ◌-◌, List, Option, None, Result, Ok, Err, sym, subst, inl, inr, arith}
+use Rattle.std.proofs.Common.{◌≡◌, ◌⊎◌, ℕ, ◌-◌, List, Option, None, Result, Ok, Err, sym, subst, inl, inr, arith}
 use Rattle.aut_base.specs.declared.limit.Limit.{Limit}
+use Rattle.aut_base.specs.declared.limit.Limit.TheVariants as limit
+use Rattle.autfilt_run.proofs.PassedLimits.{IsOfReader}
 use Rattle.autfilt_run.specs.Events.{IsGood}
 use Rattle.autfilt_run.specs.Faults.{fault_of_reading}
 use Rattle.autfilt_run.specs.Runs.{IsAllRead, StandsWith, StopsAt, WantsMemory}
@@ -15,11 +17,10 @@ use Rattle.hoa_parser.specs.declared.fault.ReadFault.TheVariants as fault
 use Rattle.hoa_parser.specs.declared.raw.Raw.{Raw}
 use Rattle.hoa_parser.specs.declared.read.Front.{Front}
 use Rattle.hoa_parser.specs.declared.read.Front.TheVariants as front
-use Rattle.hoa_reader.specs.Counts.{Count, Names, Sets, States, Edges, Aliases, PassesNone}
+use Rattle.hoa_reader.specs.Counts.{PassesNone}
 use Rattle.hoa_reader.specs.Elaborating.{PassesLimit}
 use Rattle.hoa_reader.specs.Validity.{IsFirstBroken, IsValid}
 use Rattle.hoa_reader.specs.declared.elaborate.Rule.{Rule}
-use Rattle.hoa_reader.specs.inner.Gathered.{limit_of}
 
 -- the lexer holds nothing, so the bytes that are not read are those that are left
 nothing_less : (n : ℕ) → n - 0 ≡ n
@@ -48,16 +49,16 @@ pub read_at : (r : Result Front ReadFault) (start : ℕ) (held held' : Option �
 read_at r start held held' left left' e a b = between_both left left' _ _ _ (λ old new p q. unheld_before r start held held' old new e (p, q)) a b
 
 -- an error ends the run
-stops_reading : (f : ReadFault) (start : ℕ) (held' : Option ℕ) (old new : List ℕ) → Holds (Err f) held' → AnswersAt (Err f) start held' old new → StopsAt (fault_of_reading f) start old new
-stops_reading (fault.Syntax k) start held' old new n h = record { bad = h.0; shown = h.1.0; last = h.1.1 }
-stops_reading fault.Truncated start held' old new n h = record { cut = h.0; nothing = h.1.0; asks = h.1.1 }
-stops_reading fault.Depth start held' old new n h = record { deep = h.0; last = h.1 }
-stops_reading fault.Bytes start held' old new n h = subst (λ (x : Option ℕ). StopsAt (fault_of_reading fault.Bytes) start old (unread x new)) n h.0
-stops_reading fault.Read start held' old new n h = subst (λ (x : Option ℕ). StopsAt run.ReadFault start old (unread x new)) n h.0
-stops_reading fault.Memory start held' old new n h = inl (held', h.0)
+stops_reading : (over : Limit → Written → Type 0) (f : ReadFault) (start : ℕ) (held' : Option ℕ) (old new : List ℕ) → Holds (Err f) held' → AnswersAt (Err f) start held' old new → StopsAt over (fault_of_reading f) start old new
+stops_reading over (fault.Syntax k) start held' old new n h = record { bad = h.0; shown = h.1.0; last = h.1.1 }
+stops_reading over fault.Truncated start held' old new n h = record { cut = h.0; nothing = h.1.0; asks = h.1.1 }
+stops_reading over fault.Depth start held' old new n h = record { deep = h.0; last = h.1 }
+stops_reading over fault.Bytes start held' old new n h = subst (λ (x : Option ℕ). StopsAt over (fault_of_reading fault.Bytes) start old (unread x new)) n h.0
+stops_reading over fault.Read start held' old new n h = subst (λ (x : Option ℕ). StopsAt over run.ReadFault start old (unread x new)) n h.0
+stops_reading over fault.Memory start held' old new n h = inl (held', h.0)
 
-pub stops : (f : ReadFault) (start : ℕ) (held' : Option ℕ) (left left' : Option (List ℕ)) → Holds (Err f) held' → Between left left' (AnswersAt (Err f) start held') → Between left left' (StopsAt (fault_of_reading f) start)
-stops f start held' left left' n h = between_as left left' (AnswersAt (Err f) start held') (StopsAt (fault_of_reading f) start) (λ old new k. stops_reading f start held' old new n k) h
+pub stops : (over : Limit → Written → Type 0) (f : ReadFault) (start : ℕ) (held' : Option ℕ) (left left' : Option (List ℕ)) → Holds (Err f) held' → Between left left' (AnswersAt (Err f) start held') → Between left left' (StopsAt over (fault_of_reading f) start)
+stops over f start held' left left' n h = between_as left left' (AnswersAt (Err f) start held') (StopsAt over (fault_of_reading f) start) (λ old new k. stops_reading over f start held' old new n k) h
 
 -- an automaton was read whole
 pub is_whole : (field : Front) (raw : Raw) (start : ℕ) (held' : Option ℕ) (left left' : Option (List ℕ))
@@ -94,27 +95,30 @@ is_good w start left left' valid within h =
     between_as left left' (λ old new. Stands (Whole w new) start old) (λ old new. IsGood start old w new)
     (λ old new whole. record { whole = whole; valid = valid; within = within }) h
 
--- the limits on counts are not the others
-past : (count : Count) (start : ℕ) (old new : List ℕ) → StandsWith (PassesLimit (limit_of count)) start old new → StopsAt (run.Limit (limit_of count)) start old new
-past Names start old new h = h
-past Sets start old new h = h
-past States start old new h = h
-past Edges start old new h = h
-past Aliases start old new h = h
-
-past_as : (which : Limit) (count : Count) (start : ℕ) (old new : List ℕ) → which ≡ limit_of count → StandsWith (PassesLimit which) start old new → StopsAt (run.Limit which) start old new
-past_as which count start old new e h =
-    let P : Limit → Type 0 = λ x. StandsWith (PassesLimit x) start old new → StopsAt (run.Limit x) start old new in
-    subst P (sym e) (past count start old new) h
+-- a limit that the reader doesn't tell
+past : (over : Limit → Written → Type 0) (which : Limit) (start : ℕ) (old new : List ℕ) → (IsOfReader which → ⊥) → StandsWith (λ w. PassesLimit which w ⊎ over which w) start old new → StopsAt over (run.Limit which) start old new
+past over limit.Names start old new n h = h
+past over limit.Sets start old new n h = h
+past over limit.States start old new n h = h
+past over limit.Edges start old new n h = h
+past over limit.Aliases start old new n h = h
+past over limit.Depth start old new n h = absurd (n tt)
+past over limit.Bytes start old new n h = absurd (n tt)
+past over limit.Terms start old new n h = h
+past over limit.BuchiStates start old new n h = h
+past over limit.Trees start old new n h = h
+past over limit.Nodes start old new n h = h
+past over limit.Classes start old new n h = h
+past over limit.Pairs start old new n h = h
 
 -- it was read whole, and is not valid, passes a limit, or memory was wanting for it
-pub is_broken : (rule : Rule) (w : Written) (start : ℕ) (left left' : Option (List ℕ)) → IsFirstBroken rule w
-    → Between left left' (λ old new. Stands (Whole w new) start old) → Between left left' (StopsAt (run.Invalid rule) start)
-is_broken rule w start left left' broken h = between_as left left' _ (StopsAt (run.Invalid rule) start) (λ old new s. record { automaton = w; whole = s; holds = broken }) h
+pub is_broken : (over : Limit → Written → Type 0) (rule : Rule) (w : Written) (start : ℕ) (left left' : Option (List ℕ)) → IsFirstBroken rule w
+    → Between left left' (λ old new. Stands (Whole w new) start old) → Between left left' (StopsAt over (run.Invalid rule) start)
+is_broken over rule w start left left' broken h = between_as left left' _ (StopsAt over (run.Invalid rule) start) (λ old new s. record { automaton = w; whole = s; holds = broken }) h
 
-pub is_past : (which : Limit) (w : Written) (start : ℕ) (left left' : Option (List ℕ)) → PassesLimit which w
-    → Between left left' (λ old new. Stands (Whole w new) start old) → Between left left' (StopsAt (run.Limit which) start)
-is_past which w start left left' p h = between_as left left' _ (StopsAt (run.Limit which) start) (λ old new s. past_as which p.count start old new p.shown (record { automaton = w; whole = s; holds = p })) h
+pub is_past : (over : Limit → Written → Type 0) (which : Limit) (w : Written) (start : ℕ) (left left' : Option (List ℕ)) → (IsOfReader which → ⊥) → PassesLimit which w ⊎ over which w
+    → Between left left' (λ old new. Stands (Whole w new) start old) → Between left left' (StopsAt over (run.Limit which) start)
+is_past over which w start left left' n p h = between_as left left' _ (StopsAt over (run.Limit which) start) (λ old new s. past over which start old new n (record { automaton = w; whole = s; holds = p })) h
 
 pub is_wanting : (w : Written) (start : ℕ) (left left' : Option (List ℕ))
     → Between left left' (λ old new. Stands (Whole w new) start old) → Between left left' (WantsMemory start)

@@ -3,8 +3,11 @@ use Rattle.std.proofs.Common.{◌≡◌, ℕ, Option, Result, Ok, Err, refl, sym
 use Rattle.std.specs.Result.{IsErrAnd}
 use Rattle.aut_base.specs.declared.limit.Limit.{Limit}
 use Rattle.aut_io.specs.Seen.{Seen, SinkSeen}
+use Rattle.autfilt_run.proofs.PassedLimits.{both_ways, elsewhere}
 use Rattle.autfilt_run.proofs.Reading.{AnswersAt, is_broken, is_good, is_past, is_wanting, stops}
-use Rattle.autfilt_run.specs.Faults.{fault_of_reading, stop_of_fault}
+use Rattle.autfilt_run.specs.Faults.{fault_of_reading}
+use Rattle.autfilt_run.specs.Over.{IsOver}
+use Rattle.autfilt_run.specs.Points.{operands_in}
 use Rattle.autfilt_run.specs.Turns.{Fails, IsReading, Steps}
 use Rattle.autfilt_run.specs.inner.Handling.{Handles}
 use Rattle.autfilt_run.specs.declared.fault.RunFault.{RunFault}
@@ -19,34 +22,24 @@ use Rattle.hoa_parser.specs.Reads.{Holds}
 use Rattle.hoa_parser.specs.Standing.{Stands, Whole}
 use Rattle.hoa_parser.specs.declared.fault.ReadFault.{ReadFault}
 use Rattle.hoa_parser.specs.declared.fault.ReadFault.TheVariants as reading
-use Rattle.hoa_reader.specs.Counts.{Count, Names, Sets, States, Edges, Aliases}
-use Rattle.hoa_reader.specs.Elaborating.{PassesLimit}
-use Rattle.hoa_reader.specs.inner.Gathered.{limit_of}
+
+-- the limits that are passed behind the reader
+abbrev pub over_in : Session → Limit → Written → Type 0
+over_in s which w = IsOver which s.plan (operands_in s) w
 
 -- a fault of the reader
 pub not_read : (f : ReadFault) (old new : Session) (s t : Seen) (o : SinkSeen) (held' : Option ℕ) → IsReading old → new.tried ≡ old.tried → Holds (Err f) held' → Between s.left t.left (AnswersAt (Err f) old.lexer.since held')
     → Moves (reads.stop_of_fault f) old.lexer new.lexer s t → Fails (fault_of_reading f) old new s t o o
-not_read (reading.Syntax k) old new s t o held' r hand n at moves = record { reading = r; in_hand = hand; read = stops (reading.Syntax k) old.lexer.since held' s.left t.left n at; moves = moves; output = refl }
-not_read reading.Truncated old new s t o held' r hand n at moves = record { reading = r; in_hand = hand; read = stops reading.Truncated old.lexer.since held' s.left t.left n at; moves = moves; output = refl }
-not_read reading.Depth old new s t o held' r hand n at moves = record { reading = r; in_hand = hand; read = stops reading.Depth old.lexer.since held' s.left t.left n at; moves = moves; output = refl }
-not_read reading.Bytes old new s t o held' r hand n at moves = record { reading = r; in_hand = hand; read = stops reading.Bytes old.lexer.since held' s.left t.left n at; moves = moves; output = refl }
-not_read reading.Read old new s t o held' r hand n at moves = record { reading = r; in_hand = hand; read = stops reading.Read old.lexer.since held' s.left t.left n at; moves = moves; output = refl }
-not_read reading.Memory old new s t o held' r hand n at moves = inr (record { reading = r; in_hand = hand; read = stops reading.Memory old.lexer.since held' s.left t.left n at; moves = moves; output = refl })
-
--- the limits on counts stop nowhere in particular
-elsewhere : (count : Count) → stop_of_fault (fault.Limit (limit_of count)) ≡ Elsewhere
-elsewhere Names = refl
-elsewhere Sets = refl
-elsewhere States = refl
-elsewhere Edges = refl
-elsewhere Aliases = refl
-
-stop_is : (which : Limit) (w : Written) → PassesLimit which w → stop_of_fault (fault.Limit which) ≡ Elsewhere
-stop_is which w p = subst (λ (x : Limit). stop_of_fault (fault.Limit x) ≡ Elsewhere) (sym p.shown) (elsewhere p.count)
+not_read (reading.Syntax k) old new s t o held' r hand n at moves = record { reading = r; in_hand = hand; read = stops (over_in old) (reading.Syntax k) old.lexer.since held' s.left t.left n at; moves = moves; output = refl }
+not_read reading.Truncated old new s t o held' r hand n at moves = record { reading = r; in_hand = hand; read = stops (over_in old) reading.Truncated old.lexer.since held' s.left t.left n at; moves = moves; output = refl }
+not_read reading.Depth old new s t o held' r hand n at moves = record { reading = r; in_hand = hand; read = stops (over_in old) reading.Depth old.lexer.since held' s.left t.left n at; moves = moves; output = refl }
+not_read reading.Bytes old new s t o held' r hand n at moves = record { reading = r; in_hand = hand; read = stops (over_in old) reading.Bytes old.lexer.since held' s.left t.left n at; moves = moves; output = refl }
+not_read reading.Read old new s t o held' r hand n at moves = record { reading = r; in_hand = hand; read = stops (over_in old) reading.Read old.lexer.since held' s.left t.left n at; moves = moves; output = refl }
+not_read reading.Memory old new s t o held' r hand n at moves = inr (record { reading = r; in_hand = hand; read = stops (over_in old) reading.Memory old.lexer.since held' s.left t.left n at; moves = moves; output = refl })
 
 -- it was read whole, and is not kept or dropped
 pub not_handled : (f : RunFault) (w : Written) (old new : Session) (s t : Seen) (o o' : SinkSeen) → IsReading old → new.tried ≡ old.tried → Between s.left t.left (λ rest next. Stands (Whole w next) old.lexer.since rest)
-    → Moves Elsewhere old.lexer new.lexer s t → Handles (Err f) old.plan w o o' → Fails f old new s t o o'
+    → Moves Elsewhere old.lexer new.lexer s t → Handles (Err f) old.plan (operands_in old) w o o' → Fails f old new s t o o'
 not_handled fault.WriteFault w old new s t o o' r hand whole moves h = record {
   reading = r;
   in_hand = hand;
@@ -59,12 +52,12 @@ not_handled fault.WriteFault w old new s t o o' r hand whole moves h = record {
   gains = h.2;
   writes = h.3;
 }
-not_handled (fault.Invalid rule) w old new s t o o' r hand whole moves h = record { reading = r; in_hand = hand; read = is_broken rule w old.lexer.since s.left t.left h.0 whole; moves = moves; output = h.1 }
+not_handled (fault.Invalid rule) w old new s t o o' r hand whole moves h = record { reading = r; in_hand = hand; read = is_broken (over_in old) rule w old.lexer.since s.left t.left h.0 whole; moves = moves; output = h.1 }
 not_handled (fault.Limit which) w old new s t o o' r hand whole moves h = record {
   reading = r;
   in_hand = hand;
-  read = is_past which w old.lexer.since s.left t.left h.0 whole;
-  moves = subst (λ (x : Stop). Moves x old.lexer new.lexer s t) (sym (stop_is which w h.0)) moves;
+  read = is_past (over_in old) which w old.lexer.since s.left t.left (both_ways which old.plan (operands_in old) w h.0) h.0 whole;
+  moves = subst (λ (x : Stop). Moves x old.lexer new.lexer s t) (sym (elsewhere which (both_ways which old.plan (operands_in old) w h.0))) moves;
   output = h.1;
 }
 not_handled fault.Memory w old new s t o o' r hand whole moves h = inr (record { reading = r; in_hand = hand; read = is_wanting w old.lexer.since s.left t.left whole; moves = moves; output = h })

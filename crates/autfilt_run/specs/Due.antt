@@ -1,10 +1,13 @@
 -- The text that is due of an automaton that is kept.
-use Rattle.std.specs.Prelude.{◌≡◌, ◌↔◌, ℕ, Bool, true, false, List, []}
+use Rattle.std.specs.Prelude.{◌≡◌, ◌↔◌, ℕ, Bool, true, false, if◌then◌else◌, List, [], Option, None}
 use Rattle.aut_base.specs.Acceptance.{Accepts}
+use Rattle.aut_base.specs.Automaton.{Automaton}
 use Rattle.aut_base.specs.CanonicalLabel.{canonical}
 use Rattle.aut_base.specs.Word.{NameSet}
 use Rattle.autfilt_run.specs.Figures.{IsLine}
 use Rattle.autfilt_run.specs.Plans.{prints_each}
+use Rattle.filter_plan.specs.Words.{changes}
+use Rattle.filter_plan.specs.declared.format.Piece.{Piece}
 use Rattle.filter_plan.specs.declared.plan.Output.{Output}
 use Rattle.filter_plan.specs.declared.plan.Output.TheVariants.{Hoa, Stats, Refute}
 use Rattle.filter_plan.specs.declared.plan.Plan.{Plan}
@@ -16,10 +19,11 @@ use Rattle.hoa_parser.specs.Raw.{Written}
 use Rattle.hoa_reader.specs.Described.{described}
 use Rattle.hoa_reader.specs.Validity.{IsValid}
 use Rattle.hoa_writer.specs.CanonicalText.{canonical_text}
+use Rattle.plan_meaning.specs.Changes.{MakesAll, changes_of, set_operation}
+use Rattle.plan_meaning.specs.Promises.{KeepsPromises}
 
--- The text's tokens spell one automaton and no other. It is valid, and accepts exactly the lasso words that the automaton
--- that was read accepts.
-pub record ReadsAs (text : List ℕ) (w : Written) : Type 0 where
+-- The text's tokens spell one automaton and no other. It is valid, and accepts exactly the lasso words of which this is said.
+pub record ReadsAs (text : List ℕ) (says : List NameSet → List NameSet → Type 0) : Type 0 where
   pub tokens : List Token
   pub lexes : HasTokens text 0 tokens
   pub spelled : Written
@@ -27,26 +31,41 @@ pub record ReadsAs (text : List ℕ) (w : Written) : Type 0 where
   pub spells : Spells most tokens spelled
   pub alone : (n : ℕ) (v : Written) → Spells n tokens v → v ≡ spelled
   pub valid : IsValid spelled
-  pub accepts : (u v : List NameSet) → Accepts (described spelled) u v ↔ Accepts (described w) u v
+  pub accepts : (u v : List NameSet) → Accepts (described spelled) u v ↔ says u v
 
--- the canonical text of the automaton that is written, with its name
-abbrev pub text_printed : Written → List ℕ
-text_printed w = canonical_text (described w) (name_of w)
+-- What the changes of the plan make of the automaton that was read. It keeps what its form promises.
+pub record IsMade (p : Plan) (ops : List Automaton) (w : Written) (made : Automaton) : Type 0 where
+  pub makes : MakesAll (changes_of p ops) (canonical (described w)) made
+  pub promises : KeepsPromises p made
 
-pub record IsCanonical (w : Written) (text : List ℕ) : Type 0 where
-  pub same : text ≡ text_printed w
-  pub reads_as : ReadsAs text w
+-- the name that is printed: that of the automaton that was read, where the plan changes nothing
+abbrev pub name_due : Plan → Written → Option (List ℕ)
+name_due p w = if changes p then None else name_of w
 
--- What is printed of an automaton that was read: its canonical text, or a line of figures.
-abbrev pub IsPrinted : Output → Written → List ℕ → Type 0
-IsPrinted Hoa w text = IsCanonical w text
-IsPrinted (Stats pieces) w text = IsLine pieces (canonical (described w)) text
-IsPrinted (Refute operand) w text = ⊥
+-- The canonical text of what is made. It reads as an automaton that accepts what the plan's set operation says, of the
+-- automaton as it was read.
+pub record IsCanonical (p : Plan) (ops : List Automaton) (w : Written) (text : List ℕ) : Type 0 where
+  pub made : Automaton
+  pub is_made : IsMade p ops w made
+  pub same : text ≡ canonical_text made (name_due p w)
+  pub reads_as : ReadsAs text (set_operation p ops (described w))
+
+-- the line of figures of what is made
+pub record IsFigures (p : Plan) (ops : List Automaton) (w : Written) (pieces : List Piece) (text : List ℕ) : Type 0 where
+  pub made : Automaton
+  pub is_made : IsMade p ops w made
+  pub line : IsLine pieces made text
+
+-- What is printed of an automaton that was read.
+abbrev pub IsPrinted : Output → Plan → List Automaton → Written → List ℕ → Type 0
+IsPrinted Hoa p ops w text = IsCanonical p ops w text
+IsPrinted (Stats pieces) p ops w text = IsFigures p ops w pieces text
+IsPrinted (Refute operand) p ops w text = ⊥
 
 -- Nothing is due where only the number of automata is printed, or nothing at all.
-abbrev pub IsDueWhere : Bool → Output → Written → List ℕ → Type 0
-IsDueWhere true output w text = IsPrinted output w text
-IsDueWhere false output w text = text ≡ []
+abbrev pub IsDueWhere : Bool → Plan → List Automaton → Written → List ℕ → Type 0
+IsDueWhere true p ops w text = IsPrinted p.output p ops w text
+IsDueWhere false p ops w text = text ≡ []
 
-abbrev pub IsDue : Plan → Written → List ℕ → Type 0
-IsDue p w text = IsDueWhere (prints_each p) p.output w text
+abbrev pub IsDue : Plan → List Automaton → Written → List ℕ → Type 0
+IsDue p ops w text = IsDueWhere (prints_each p) p ops w text

@@ -1,11 +1,11 @@
 -- What happens in a run over streams, one after the other, and where the run stands then.
 use Rattle.std.specs.Prelude.{◌≡◌, ℕ, ◌+◌, ◌-◌, ◌<◌, ◌≤◌, true, List, [], ◌∷◌, length, flat_map, Option, Some, None}
 use Rattle.std.specs.List.{AllByRecursion}
+use Rattle.aut_base.specs.Automaton.{Automaton}
 use Rattle.aut_base.specs.declared.limit.TheConstants.{MOST_BYTES}
 use Rattle.aut_io.specs.Outside.{Texts, text_of}
 use Rattle.autfilt_run.specs.Due.{IsDue}
-use Rattle.autfilt_run.specs.Filters.{IsDropped, IsKept}
-use Rattle.autfilt_run.specs.Plans.{asks_on, streams_of}
+use Rattle.autfilt_run.specs.Plans.{asks_on}
 use Rattle.filter_plan.specs.declared.plan.Plan.{Plan}
 use Rattle.hoa_lexer.specs.Blanks.{IsBlanks}
 use Rattle.hoa_parser.specs.Raw.{Written}
@@ -13,6 +13,7 @@ use Rattle.hoa_parser.specs.Standing.{Stands, Whole, Aborted}
 use Rattle.hoa_reader.specs.Counts.{PassesNone}
 use Rattle.hoa_reader.specs.Described.{described}
 use Rattle.hoa_reader.specs.Validity.{IsValid}
+use Rattle.plan_meaning.specs.Filters.{IsDropped, IsKept}
 
 -- how many bytes of the text stand before its rest
 abbrev pub place : List ℕ → List ℕ → ℕ
@@ -56,9 +57,9 @@ pub record Point : Type 0 where
   -- how many automata were kept
   pub kept : ℕ
 
--- the start of a run over inputs of which this is left
-abbrev pub start_of : Plan → Option (List ℕ) → Point
-start_of p left = record { coming = streams_of p; stream = None; left = left; before = 0; kept = 0 }
+-- the point before files of these names are read, where this is left in the inputs and so many bytes were taken
+abbrev pub start_of : List (List ℕ) → Option (List ℕ) → ℕ → Point
+start_of names left before = record { coming = names; stream = None; left = left; before = before; kept = 0 }
 
 -- the point where more was read of the open stream
 abbrev pub read_on : Point → Stream → List ℕ → ℕ → Point
@@ -129,13 +130,13 @@ Happen plan texts (event ∷ events) p q = (asks_on plan p.kept ≡ true) × (m 
 -- ---- what the events are, whatever the texts
 
 -- the verdict on the automaton that was read is this one, and the text that is written of it is the one that is due
-abbrev pub IsJudged : Plan → Event → Type 0
-IsJudged plan (Kept w text) = IsKept plan (described w) × IsDue plan w text
-IsJudged plan (Dropped w) = IsDropped plan (described w)
-IsJudged plan _ = Unit {0}
+abbrev pub IsJudged : Plan → List Automaton → Event → Type 0
+IsJudged plan ops (Kept w text) = IsKept plan ops (described w) × IsDue plan ops w text
+IsJudged plan ops (Dropped w) = IsDropped plan ops (described w)
+IsJudged plan ops _ = Unit {0}
 
-abbrev pub AreJudged : Plan → List Event → Type 0
-AreJudged plan = AllByRecursion (IsJudged plan)
+abbrev pub AreJudged : Plan → List Automaton → List Event → Type 0
+AreJudged plan ops = AllByRecursion (IsJudged plan ops)
 
 -- what is written of an event
 abbrev pub written_of : Event → List ℕ

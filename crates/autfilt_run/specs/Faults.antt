@@ -7,6 +7,8 @@ use Rattle.autfilt_run.specs.declared.fault.RunFault.TheVariants as fault
 use Rattle.hoa_lexer.specs.Moves.{Stop, AtEnd, AtFault, AtMost, Elsewhere}
 use Rattle.hoa_parser.specs.declared.fault.ReadFault as reading
 use Rattle.hoa_reader.specs.declared.elaborate.ElabFault as describing
+use Rattle.plan_meaning.specs.declared.fault.PlanFault.{PlanFault}
+use Rattle.plan_meaning.specs.declared.fault.PlanFault.TheVariants as asked
 
 -- the fault where a text could not be opened
 abbrev pub fault_of_opening : OpenFail → RunFault
@@ -27,6 +29,11 @@ abbrev pub fault_of_describing : describing.ElabFault → RunFault
 fault_of_describing (describing.ElabFault.Invalid rule) = fault.Invalid rule
 fault_of_describing (describing.ElabFault.Limit which) = fault.Limit which
 fault_of_describing describing.ElabFault.Memory = fault.Memory
+
+-- the fault where there is no verdict on an automaton, or nothing is made of it
+abbrev pub fault_of_plan : PlanFault → RunFault
+fault_of_plan (asked.Limit which) = fault.Limit which
+fault_of_plan asked.Memory = fault.Memory
 
 -- Where a fault comes, as to the limit of bytes: it is told exactly where one byte more is asked for when that many were
 -- taken, and the end of a text is met by asking, too.

@@ -3,10 +3,13 @@ pub mod Due
 pub mod Events
 pub mod Faults
 pub mod Figures
-pub mod Filters
 pub mod Made
 pub mod MadeExamples
+pub mod Operands
+pub mod Over
 pub mod Plans
+pub mod Points
+pub mod Preparing
 pub mod Runs
 pub mod Turns
 pub mod inner

@@ -3,6 +3,7 @@ use Rattle.std.specs.Prelude.{ℕ, ◌==◌, Bool, true, not, ◌&&◌, ◌||◌
 use Rattle.std.specs.Fmt.{decimal}
 use Rattle.std.specs.List.{slice_index_or}
 use Rattle.autfilt_run.specs.Made.{made_name}
+use Rattle.filter_plan.specs.Words.{operands}
 use Rattle.filter_plan.specs.declared.plan.Plan.{Plan}
 
 -- the names of the streams, in the order in which they are read
@@ -12,6 +13,10 @@ streams_or streams (Some n) = made_name ∷ []
 
 abbrev pub streams_of : Plan → List (List ℕ)
 streams_of p = streams_or p.streams p.made
+
+-- all files, in the order in which they are read: those of operands, and then the streams
+abbrev pub files_of : Plan → List (List ℕ)
+files_of p = operands p ++ streams_of p
 
 -- whether more automata are asked for, once so many were kept
 abbrev pub is_below : Option ℕ → ℕ → Bool
@@ -25,9 +30,9 @@ asks_on p kept = is_below p.most kept
 abbrev pub prints_each : Plan → Bool
 prints_each p = not (p.quiet || p.count)
 
--- the name of the stream that was tried last, once so many were tried
+-- the name of the file that was tried last, once so many were tried
 abbrev pub name_at : List (List ℕ) → ℕ → List ℕ
-name_at streams tried = slice_index_or ([] ∷ streams) tried []
+name_at files tried = slice_index_or ([] ∷ files) tried []
 
 -- what is written at the end: the number of automata that were kept and a line feed, where only that is asked for
 abbrev pub count_text : Plan → ℕ → List ℕ

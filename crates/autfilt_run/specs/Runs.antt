@@ -1,9 +1,12 @@
 -- Where a run ends, and at what.
 use Rattle.std.specs.Prelude.{◌≡◌, ℕ, ◌+◌, ◌≤◌, ◌⊎◌, true, false, List, [], ◌∷◌, Option, Some, None}
+use Rattle.aut_base.specs.Automaton.{Automaton}
+use Rattle.aut_base.specs.declared.limit.Limit.{Limit}
 use Rattle.aut_base.specs.declared.limit.Limit.TheVariants as limit
 use Rattle.aut_base.specs.declared.limit.TheConstants.{MOST_BYTES}
 use Rattle.autfilt_run.specs.Events.{Point, Stream, place}
 use Rattle.autfilt_run.specs.Faults.{stop_of_fault}
+use Rattle.autfilt_run.specs.Over.{IsOver}
 use Rattle.autfilt_run.specs.Plans.{asks_on}
 use Rattle.autfilt_run.specs.declared.fault.RunFault.{RunFault}
 use Rattle.autfilt_run.specs.declared.fault.RunFault.TheVariants as fault
@@ -51,17 +54,23 @@ WantsMemory start rest left = ((held : Option ℕ) × MayHaveBegun start rest (u
 abbrev pub IsAllRead : List ℕ → List ℕ → Type 0
 IsAllRead rest left = IsBlanks rest × (left ≡ [])
 
-abbrev pub StopsAt : RunFault → ℕ → List ℕ → List ℕ → Type 0
-StopsAt (fault.SyntaxAt k) start rest left = IsSyntaxFault k start rest left
-StopsAt fault.Truncated start rest left = IsTruncated start rest left
-StopsAt (fault.Invalid rule) start rest left = StandsWith (IsFirstBroken rule) start rest left
-StopsAt (fault.Limit limit.Depth) start rest left = IsTooDeep start rest left
-StopsAt (fault.Limit limit.Bytes) start rest left = AsksOn start rest left
-StopsAt (fault.Limit which) start rest left = StandsWith (PassesLimit which) start rest left
-StopsAt fault.ReadFault start rest left = AsksOn start rest left
-StopsAt fault.Memory start rest left = WantsMemory start rest left
-StopsAt fault.CannotOpen start rest left = ⊥
-StopsAt fault.WriteFault start rest left = ⊥
+-- `over` tells which limits are passed behind the reader.
+abbrev pub StopsAt : (Limit → Written → Type 0) → RunFault → ℕ → List ℕ → List ℕ → Type 0
+StopsAt over (fault.SyntaxAt k) start rest left = IsSyntaxFault k start rest left
+StopsAt over fault.Truncated start rest left = IsTruncated start rest left
+StopsAt over (fault.Invalid rule) start rest left = StandsWith (IsFirstBroken rule) start rest left
+StopsAt over (fault.Limit limit.Depth) start rest left = IsTooDeep start rest left
+StopsAt over (fault.Limit limit.Bytes) start rest left = AsksOn start rest left
+StopsAt over (fault.Limit which) start rest left = StandsWith (λ w. PassesLimit which w ⊎ over which w) start rest left
+StopsAt over fault.ReadFault start rest left = AsksOn start rest left
+StopsAt over fault.Memory start rest left = WantsMemory start rest left
+StopsAt over fault.CannotOpen start rest left = ⊥
+StopsAt over fault.WriteFault start rest left = ⊥
+
+-- The same where an operand is read. There has to be one: only blanks are too little, too.
+abbrev pub StopsAtOperand : RunFault → ℕ → List ℕ → List ℕ → Type 0
+StopsAtOperand fault.Truncated start rest left = IsTruncated start rest left ⊎ IsAllRead rest left
+StopsAtOperand f start rest left = StopsAt (λ which w. ⊥) f start rest left
 
 -- ---- the ends of a run
 
@@ -69,38 +78,48 @@ StopsAt fault.WriteFault start rest left = ⊥
 abbrev pub IsDone : Plan → Point → Type 0
 IsDone plan p = (asks_on plan p.kept ≡ false) ⊎ ((p.stream ≡ None) × (p.coming ≡ []))
 
--- more automata are asked for, and the next stream is that of this name
-pub record WantsStream (plan : Plan) (p : Point) (name : List ℕ) : Type 0 where
-  pub asks : asks_on plan p.kept ≡ true
+-- ---- `on` is the condition on which reading goes on
+
+-- reading goes on, and the next file is that of this name
+pub record WantsStream (on : Type 0) (p : Point) (name : List ℕ) : Type 0 where
+  pub asks : on
   pub closed : p.stream ≡ None
   pub others : List (List ℕ)
   pub next : p.coming ≡ name ∷ others
 
--- More automata are asked for, and something stands at the rest of the open stream.
-pub record AtStream (plan : Plan) (p : Point) (left : Option (List ℕ)) (stops : ℕ → List ℕ → List ℕ → Type 0) : Type 0 where
-  pub asks : asks_on plan p.kept ≡ true
+-- Reading goes on, and something stands at the rest of the open file.
+pub record AtStream (on : Type 0) (p : Point) (left : Option (List ℕ)) (stops : ℕ → List ℕ → List ℕ → Type 0) : Type 0 where
+  pub asks : on
   pub stream : Stream
   pub is_open : p.stream ≡ Some stream
   pub now : List ℕ
   pub told : left ≡ Some now
   pub stands : stops (place stream.text stream.rest) stream.rest now
 
--- the open stream is that of this name
-pub record AtNamed (plan : Plan) (p : Point) (name : List ℕ) (left : Option (List ℕ)) (stops : ℕ → List ℕ → List ℕ → Type 0) : Type 0 where
-  pub at : AtStream plan p left stops
+-- the open file is that of this name
+pub record AtNamed (on : Type 0) (p : Point) (name : List ℕ) (left : Option (List ℕ)) (stops : ℕ → List ℕ → List ℕ → Type 0) : Type 0 where
+  pub at : AtStream on p left stops
   pub named : at.stream.name ≡ name
 
--- memory was wanting before anything was taken, at an opening, after which nothing is open, or in a stream
-abbrev pub LacksMemory : Plan → Point → Option (List ℕ) → Type 0
-LacksMemory plan p left = (left ≡ p.left) ⊎ (((name : List ℕ) × WantsStream plan p name × (left ≡ Some [])) ⊎ AtStream plan p left WantsMemory)
+-- memory was wanting before anything was taken, at an opening, after which nothing is open, or in a file
+abbrev pub LacksMemory : Type 0 → Point → Option (List ℕ) → Type 0
+LacksMemory on p left = (left ≡ p.left) ⊎ (((name : List ℕ) × WantsStream on p name × (left ≡ Some [])) ⊎ AtStream on p left WantsMemory)
 
 -- Where a run stands when this fault ends it, and what is left in the inputs then. `name` is the name in hand, where the line
 -- about the fault has one. A write failed of what was read before.
-abbrev pub Stops : Plan → RunFault → List ℕ → Point → Option (List ℕ) → Type 0
-Stops plan fault.CannotOpen name p left = WantsStream plan p name × (left ≡ Some [])
-Stops plan fault.WriteFault name p left = left ≡ p.left
-Stops plan fault.Memory name p left = LacksMemory plan p left
-Stops plan f name p left = AtNamed plan p name left (StopsAt f)
+abbrev pub StopsWhere : Type 0 → (RunFault → ℕ → List ℕ → List ℕ → Type 0) → RunFault → List ℕ → Point → Option (List ℕ) → Type 0
+StopsWhere on stops fault.CannotOpen name p left = WantsStream on p name × (left ≡ Some [])
+StopsWhere on stops fault.WriteFault name p left = left ≡ p.left
+StopsWhere on stops fault.Memory name p left = LacksMemory on p left
+StopsWhere on stops f name p left = AtNamed on p name left (stops f)
+
+-- in the streams of a plan, whose operands these are: more automata are asked for
+abbrev pub Stops : Plan → List Automaton → RunFault → List ℕ → Point → Option (List ℕ) → Type 0
+Stops plan ops f name p left = StopsWhere (asks_on plan p.kept ≡ true) (StopsAt (λ which w. IsOver which plan ops w)) f name p left
+
+-- in the files of its operands
+abbrev pub StopsInOperands : RunFault → List ℕ → Point → Option (List ℕ) → Type 0
+StopsInOperands f name p left = StopsWhere (Unit {0}) StopsAtOperand f name p left
 
 -- how many bytes were taken of the streams, where the run stands here and so much is left
 abbrev pub taken_in : Option Stream → Option (List ℕ) → ℕ

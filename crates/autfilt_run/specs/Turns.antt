@@ -7,8 +7,9 @@ use Rattle.aut_io.specs.Seen.{Opens, Seen, SinkSeen}
 use Rattle.autfilt_run.specs.Due.{IsDue}
 use Rattle.autfilt_run.specs.Events.{IsGood}
 use Rattle.autfilt_run.specs.Faults.{stop_of_fault}
-use Rattle.autfilt_run.specs.Filters.{IsDropped, IsKept}
-use Rattle.autfilt_run.specs.Plans.{asks_on, name_at, streams_of}
+use Rattle.autfilt_run.specs.Over.{IsOver}
+use Rattle.autfilt_run.specs.Plans.{asks_on, streams_of}
+use Rattle.autfilt_run.specs.Points.{name_in, operands_in}
 use Rattle.autfilt_run.specs.Runs.{IsAllRead, StopsAt, WantsMemory}
 use Rattle.autfilt_run.specs.declared.fault.RunFault.{RunFault}
 use Rattle.autfilt_run.specs.declared.fault.RunFault.TheVariants as fault
@@ -20,6 +21,7 @@ use Rattle.hoa_lexer.specs.Reading.{Between}
 use Rattle.hoa_parser.specs.Raw.{Written}
 use Rattle.hoa_parser.specs.Standing.{Aborted, Stands}
 use Rattle.hoa_reader.specs.Described.{described}
+use Rattle.plan_meaning.specs.Filters.{IsDropped, IsKept}
 
 -- ---- what a session is seen as
 
@@ -79,8 +81,8 @@ pub record Keeps (old new : Session) (seen seen' : Seen) (out out' : SinkSeen) :
   pub automaton : Written
   pub text : List ℕ
   pub read : Between seen.left seen'.left (λ rest next. IsGood old.lexer.since rest automaton next)
-  pub kept : IsKept old.plan (described automaton)
-  pub due : IsDue old.plan automaton text
+  pub kept : IsKept old.plan (operands_in old) (described automaton)
+  pub due : IsDue old.plan (operands_in old) automaton text
   pub moves : Moves Elsewhere old.lexer new.lexer seen seen'
   pub gains : Gains out.written out'.written text
   pub writes : out'.faults ≡ out.faults
@@ -92,8 +94,8 @@ pub record KeepsInPart (old new : Session) (seen seen' : Seen) (out out' : SinkS
   pub automaton : Written
   pub text : List ℕ
   pub read : Between seen.left seen'.left (λ rest next. IsGood old.lexer.since rest automaton next)
-  pub kept : IsKept old.plan (described automaton)
-  pub due : IsDue old.plan automaton text
+  pub kept : IsKept old.plan (operands_in old) (described automaton)
+  pub due : IsDue old.plan (operands_in old) automaton text
   pub moves : Moves Elsewhere old.lexer new.lexer seen seen'
   pub gains : GainsPrefix out.written out'.written text
   pub writes : Rose out.faults out'.faults
@@ -101,7 +103,7 @@ pub record KeepsInPart (old new : Session) (seen seen' : Seen) (out out' : SinkS
 -- An automaton was read and dropped. Nothing is written.
 pub record Drops (old new : Session) (seen seen' : Seen) (out out' : SinkSeen) : Type 0 where
   pub automaton : Written
-  pub dropped : IsDropped old.plan (described automaton)
+  pub dropped : IsDropped old.plan (operands_in old) (described automaton)
   pub reads : Reads Elsewhere (λ rest next. IsGood old.lexer.since rest automaton next) old new seen seen' out out'
 
 -- A new text begins for the lexer.
@@ -114,7 +116,7 @@ pub record Begins (old new : Session) : Type 0 where
 pub record Tries (r : Result (Unit {0}) OpenFail) (old new : Session) (seen seen' : Seen) (out out' : SinkSeen) : Type 0 where
   pub name : List ℕ
   pub opening : IsOpening old name
-  pub in_hand : name_at (streams_of new.plan) new.tried ≡ name
+  pub in_hand : name_in new ≡ name
   pub opens : OpensNext seen name r seen'
   pub begins : Begins old new
   pub output : out' ≡ out
@@ -123,7 +125,7 @@ pub record Tries (r : Result (Unit {0}) OpenFail) (old new : Session) (seen seen
 
 -- what a turn says
 abbrev pub Turns : Turn → Session → Session → Seen → Seen → SinkSeen → SinkSeen → Type 0
-Turns turn.Done old new seen seen' out out' = IsDoneWith old × IsStill seen seen' out out'
+Turns turn.Done old new seen seen' out out' = IsDoneWith old × IsStill seen seen' out out' × (new.tried ≡ old.tried)
 Turns turn.Opened old new seen seen' out out' = Tries (Ok tt) old new seen seen' out out'
 Turns turn.StreamEnd old new seen seen' out out' = Reads AtEnd IsAllRead old new seen seen' out out'
 Turns turn.Kept old new seen seen' out out' = Keeps old new seen seen' out out'
@@ -136,7 +138,7 @@ Fails fault.CannotOpen old new seen seen' out out' = Tries (Err opening.Failed) 
 Fails fault.WriteFault old new seen seen' out out' = KeepsInPart old new seen seen' out out'
 Fails fault.Memory old new seen seen' out out' =
     Tries (Err opening.Memory) old new seen seen' out out' ⊎ Reads Elsewhere (WantsMemory old.lexer.since) old new seen seen' out out'
-Fails f old new seen seen' out out' = Reads (stop_of_fault f) (StopsAt f old.lexer.since) old new seen seen' out out'
+Fails f old new seen seen' out out' = Reads (stop_of_fault f) (StopsAt (λ which w. IsOver which old.plan (operands_in old) w) f old.lexer.since) old new seen seen' out out'
 
 abbrev pub Steps : Result Turn RunFault → Session → Session → Seen → Seen → SinkSeen → SinkSeen → Type 0
 Steps (Ok t) = Turns t

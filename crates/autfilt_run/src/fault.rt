@@ -5,6 +5,7 @@ ghost use Rattle.autfilt_run.specs.declared.fault.RunFault.{RunFault};
 
 use aut_base::{Limit, Memory, OpenFail};
 use hoa_reader::{ElabFault, ReadFault, Rule};
+use plan_meaning::PlanFault;
 
 /// Why a session is over.
 #[derive(Clone, Copy, Debug, PartialEq, Eq)]
@@ -78,6 +79,20 @@ impl From<ElabFault> for RunFault {
             ElabFault::Invalid(rule) => RunFault::Invalid(rule),
             ElabFault::Limit(which) => RunFault::Limit(which),
             ElabFault::Memory => RunFault::Memory,
+        }
+    }
+}
+
+impl From<PlanFault> for RunFault {
+    ghost use Rattle.std.specs.Prelude.{◌≡◌};
+    ghost use Rattle.autfilt_run.specs.Faults.{fault_of_plan};
+
+    ghost from_gives = { λ asked fault. fault ≡ fault_of_plan asked };
+
+    fn from(fault: PlanFault) -> RunFault {
+        match fault {
+            PlanFault::Limit(which) => RunFault::Limit(which),
+            PlanFault::Memory => RunFault::Memory,
         }
     }
 }

@@ -9,11 +9,12 @@
 mod fault;
 mod figures;
 mod handle;
-mod judge;
 mod made;
 mod number;
+mod operands;
 mod session;
 mod streams;
+mod taken;
 
 pub use fault::RunFault;
 pub use made::{MOST_MADE, Made, made_examples};

@@ -1,18 +1,25 @@
 //! The session.
 
-ghost use Rattle.std.specs.Prelude.{◌≡◌, ◌+◌, ◌≤◌, ◌⊎◌, None, false, length};
+ghost use Rattle.std.specs.Prelude.{◌≡◌, ◌+◌, ◌<◌, ◌≤◌, ◌⊎◌, All, None, false, length, map, true};
+ghost use Rattle.aut_base.specs.declared.limit.TheConstants.{MOST_BYTES};
+ghost use Rattle.aut_core.specs.Core.{automaton_of};
 ghost use Rattle.autfilt_run.specs.Built.{IsBuilt};
-ghost use Rattle.autfilt_run.specs.Plans.{streams_of};
+ghost use Rattle.autfilt_run.specs.Plans.{files_of, streams_of};
 ghost use Rattle.autfilt_run.specs.declared.session.Stage.{Stage};
+ghost use Rattle.filter_plan.specs.Words as words;
+ghost use Rattle.plan_meaning.specs.Operands.{IsOfReadSize};
 
+mod operands;
 mod reading;
 
 use crate::fault::RunFault;
 use crate::number::write_line;
+use crate::streams::file_name;
 use aut_base::{Failed, MOST_BYTES};
 use aut_io::{Inputs, Sink};
 use filter_plan::Plan;
 use hoa_lexer::Lexer;
+use plan_meaning::Automata;
 use std::alloc::Global;
 
 /// What a step did.
@@ -54,21 +61,29 @@ pub enum Stage {
     Over,
 }
 
-/// Automata of streams, one after the other, each read, judged and written as a plan asks.
+/// Automata of streams, one after the other, each read, judged, changed and written as a plan asks.
 #[derive(Drop)]
 pub struct Session {
     plan: Plan,
     lexer: Lexer,
-    /// How many streams were opened, and how many were tried.
+    /// The operands that were read, in the order of their names.
+    operands: Automata,
+    /// How many streams were opened.
     opened: usize,
-    tried: usize,
+    /// How many files were tried, those of operands included. (A sum of two lengths, which 64 bits may not hold.)
+    tried: u128,
     is_open: bool,
     kept: u64,
     skipped: u64,
     stage: Stage,
     ghost built: { IsBuilt plan },
     ghost opened_within: { opened ≤ length (streams_of plan) },
-    ghost tried_within: { tried ≤ length (streams_of plan) },
+    ghost tried_within: { tried ≤ length (files_of plan) },
+    ghost read_within: { length operands ≤ length (words.operands plan) },
+    ghost next_within: { stage ≡ Stage.New → is_open ≡ true → length operands < length (words.operands plan) },
+    ghost sized: { All IsOfReadSize (map automaton_of operands) },
+    ghost all_read: { stage ≡ Stage.Prepared → length operands ≡ length (words.operands plan) },
+    ghost most_is: { lexer.most ≡ MOST_BYTES },
     // Each automaton takes a byte or more.
     ghost counted: { kept + skipped ≤ lexer.taken },
     ghost spent: { stage ≡ Stage.New ⊎ stage ≡ Stage.Prepared → lexer.spent ≡ false },
@@ -76,16 +91,19 @@ pub struct Session {
 }
 
 impl Session {
-    ghost use Rattle.std.specs.Prelude.{◌≢◌, ◌↔◌, All, IfOk, IsTrue, Ok, OnErr};
-    ghost use Rattle.aut_base.specs.declared.limit.TheConstants.{MOST_BYTES};
-    ghost use Rattle.autfilt_run.specs.Plans.{count_text, name_at};
+    ghost use Rattle.std.specs.Prelude.{◌≢◌, ◌↔◌, [], IfOk, IsTrue, OnErr};
+    ghost use Rattle.autfilt_run.specs.Plans.{count_text};
+    ghost use Rattle.autfilt_run.specs.Points.{name_in};
+    ghost use Rattle.autfilt_run.specs.Preparing.{Prepares};
     ghost use Rattle.autfilt_run.specs.Turns.{Finishes, Rises, Steps, after, progress};
+    ghost use Rattle.autfilt_run.specs.declared.session.Prep.TheVariants as prep;
 
     /// A session for a plan, which may take 2^40 bytes.
-    pub fn new(plan: Plan) -> Session
+    pub fn new(alloc: Global, plan: Plan) -> Session
         requires { IsBuilt plan }
         ensures plan { result.plan ≡ plan }
         ensures begins { progress result ≡ record { opened = 0; is_open = false; kept = 0; skipped = 0 } }
+        ensures operands { result.operands ≡ [] }
         ensures most { result.lexer.most ≡ MOST_BYTES }
         ensures taken { result.lexer.taken ≡ 0 }
         ensures tried { result.tried ≡ 0 }
@@ -94,6 +112,7 @@ impl Session {
         Session {
             plan,
             lexer: Lexer::new(MOST_BYTES),
+            operands: Automata::new(alloc),
             opened: 0,
             tried: 0,
             is_open: false,
@@ -103,19 +122,36 @@ impl Session {
         }
     }
 
-    /// Reads the operands of the plan. So far no plan that is carried out has any, so nothing is opened or read.
-    pub fn prepare<I: Inputs>(&mut self, _alloc: Global, inputs: &mut I) -> Result<Prep, RunFault>
-        requires { self.old.stage ≡ Stage.New }
-        ensures ready { result ≡ Ok Prep.Ready }
-        ensures stage { self.new.stage ≡ Stage.Prepared }
+    /// Reads the operands of the plan, each from the file of its name, in order: of each file the first automaton that isn't
+    /// abandoned. Where one is abandoned it answers `Skipped`, and is called again.
+    pub fn prepare<I: Inputs>(&mut self, alloc: Global, inputs: &mut I) -> Result<Prep, RunFault>
+        requires stage { self.old.stage ≡ Stage.New }
+        requires names { All I.may_open (words.operands self.old.plan) }
+
+        // What happened, outside and to the session.
+        ensures prepares { Prepares result self.old self.new (I.seen inputs.old) (I.seen inputs.new) }
         ensures plan { self.new.plan ≡ self.old.plan }
-        ensures lexer { self.new.lexer ≡ self.old.lexer }
-        ensures progress { progress self.new ≡ progress self.old }
-        ensures tried { self.new.tried ≡ self.old.tried }
-        ensures inputs { I.seen inputs.new ≡ I.seen inputs.old }
+        ensures most { self.new.lexer.most ≡ self.old.lexer.most }
+        ensures opened { self.new.opened ≡ self.old.opened }
+        ensures kept { self.new.kept ≡ self.old.kept }
+
+        // What may be done with it next.
+        ensures ready { IfOk result (λ p. p ≡ prep.Ready → self.new.stage ≡ Stage.Prepared) }
+        ensures closed { IfOk result (λ p. p ≡ prep.Ready → self.new.is_open ≡ false) }
+        ensures skipped { IfOk result (λ p. p ≡ prep.Skipped → self.new.stage ≡ Stage.New) }
+        ensures over { OnErr result (self.new.stage ≡ Stage.Over) }
     {
-        self.stage = Stage::Prepared;
-        Ok(Prep::Ready)
+        self.stage = Stage::Over;
+        match self.read_operands(alloc, inputs)? {
+            Prep::Ready => {
+                self.stage = Stage::Prepared;
+                Ok(Prep::Ready)
+            }
+            Prep::Skipped => {
+                self.stage = Stage::New;
+                Ok(Prep::Skipped)
+            }
+        }
     }
 
     /// Opens the next stream, or reads the next automaton of the open one, judges it, and writes its text where one is due.
@@ -131,13 +167,15 @@ impl Session {
         // What happened, outside and to the lexer.
         ensures steps { Steps result self.old self.new (I.seen inputs.old) (I.seen inputs.new) (W.seen out.old) (W.seen out.new) }
         ensures plan { self.new.plan ≡ self.old.plan }
+        ensures operands { self.new.operands ≡ self.old.operands }
 
         // The lexer of the session may take as many bytes as before, and takes some for each automaton.
         ensures most { self.new.lexer.most ≡ self.old.lexer.most }
         ensures rises { IfOk result (λ turn. Rises turn self.old.lexer.taken self.new.lexer.taken) }
 
-        // How far the session has come, and what may be done with it next.
+        // How far the session has come, and what may be done with it next. A fault changes no count.
         ensures progress { IfOk result (λ turn. progress self.new ≡ after turn (progress self.old)) }
+        ensures failed { OnErr result (progress self.new ≡ progress self.old) }
         ensures prepared { IfOk result (λ turn. turn ≢ Turn.Done → self.new.stage ≡ Stage.Prepared) }
         ensures done { IfOk result (λ turn. turn ≡ Turn.Done → self.new.stage ≡ Stage.Done) }
         ensures over { OnErr result (self.new.stage ≡ Stage.Over) }
@@ -196,16 +234,13 @@ impl Session {
         self.skipped
     }
 
-    /// The name of the stream that was tried last, or nothing where none was.
+    /// The name of the file that was tried last, operand or stream, or nothing where none was.
     pub fn name_in_hand(&self) -> &[u8]
-        ensures { result.now ≡ name_at (streams_of self.now.plan) self.now.tried }
+        ensures { result.now ≡ name_in self.now }
     {
         if self.tried == 0 {
             return b"";
         }
-        match self.plan.made {
-            Some(_) => b"made",
-            None => self.plan.streams.at(self.tried - 1).as_bytes(),
-        }
+        file_name(&self.plan, self.tried - 1)
     }
 }

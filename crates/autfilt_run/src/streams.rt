@@ -1,10 +1,11 @@
-//! The streams of a plan.
+//! The streams of a plan, and all its files.
 
 ghost use Rattle.std.specs.Prelude.{◌≡◌, ◌<◌, [], All, length};
 ghost use Rattle.std.specs.List.{slice_index_or};
-ghost use Rattle.autfilt_run.specs.Plans.{streams_of};
+ghost use Rattle.autfilt_run.specs.Plans.{files_of, streams_of};
 ghost use Rattle.autfilt_run.specs.Turns.{OpensNext};
 
+use crate::operands::{operand_count, operand_file};
 use aut_base::{OpenFail, Text};
 use aut_io::Inputs;
 use filter_plan::Plan;
@@ -37,5 +38,22 @@ pub(crate) fn open_stream<I: Inputs>(
     match Text::from_bytes(alloc, b"made") {
         Ok(name) => inputs.open(&name),
         Err(_) => Err(OpenFail::Memory),
+    }
+}
+
+/// The name of the file at this place, those of operands first.
+pub(crate) fn file_name(plan: &Plan, place: u128) -> &[u8]
+    requires { place < length (files_of plan.now) }
+    ensures { result.now ≡ slice_index_or (files_of plan.now) place [] }
+{
+    let operands = operand_count(plan) as u128;
+    if place < operands {
+        return operand_file(plan, place as usize).as_bytes();
+    }
+    // There are no more streams than 64 bits count.
+    let _streams = stream_count(plan);
+    match plan.made {
+        Some(_) => b"made",
+        None => plan.streams.at((place - operands) as usize).as_bytes(),
     }
 }

@@ -1,11 +1,14 @@
 -- What becomes of an automaton that was read.
-use Rattle.std.specs.Prelude.{◌≡◌, ℕ, Bool, true, false, List, Option, Result, Ok, Err}
+use Rattle.std.specs.Prelude.{◌≡◌, ◌↔◌, ◌⊎◌, ℕ, Bool, true, false, if◌then◌else◌, List, Option, None, Result, Ok, Err}
+use Rattle.aut_base.specs.Acceptance.{Accepts}
 use Rattle.aut_base.specs.Automaton.{Automaton}
+use Rattle.aut_base.specs.Word.{NameSet}
 use Rattle.aut_io.specs.Outside.{Gains, GainsPrefix, Rose}
 use Rattle.aut_io.specs.Seen.{SinkSeen}
 use Rattle.autfilt_run.specs.Due.{IsDue}
 use Rattle.autfilt_run.specs.Figures.{IsLine}
-use Rattle.autfilt_run.specs.Filters.{IsDropped, IsKept}
+use Rattle.autfilt_run.specs.Over.{IsOver}
+use Rattle.filter_plan.specs.Words.{changes}
 use Rattle.filter_plan.specs.declared.plan.Output.{Output}
 use Rattle.filter_plan.specs.declared.plan.Output.TheVariants.{Hoa, Stats, Refute}
 use Rattle.hoa_writer.specs.CanonicalText.{canonical_text}
@@ -17,31 +20,50 @@ use Rattle.hoa_reader.specs.Counts.{PassesNone}
 use Rattle.hoa_reader.specs.Described.{described}
 use Rattle.hoa_reader.specs.Elaborating.{PassesLimit}
 use Rattle.hoa_reader.specs.Validity.{IsFirstBroken, IsValid}
+use Rattle.hoa_writer.specs.CanonicalWritten.{ReadsBack}
+use Rattle.plan_meaning.specs.Changes.{MakesAll, StopsIn, changes_of, set_operation}
+use Rattle.plan_meaning.specs.Filters.{IsDropped, IsKept}
+use Rattle.plan_meaning.specs.Promises.{KeepsPromises}
+use Rattle.plan_meaning.specs.declared.fault.PlanFault.{PlanFault}
+use Rattle.plan_meaning.specs.declared.fault.PlanFault.TheVariants as plan_fault
 
 -- It is valid and within the limits, kept, and its text is this one.
-pub record IsWanted (p : Plan) (w : Written) (text : List ℕ) : Type 0 where
+pub record IsWanted (p : Plan) (ops : List Automaton) (w : Written) (text : List ℕ) : Type 0 where
   pub valid : IsValid w
   pub within : PassesNone w
-  pub kept : IsKept p (described w)
-  pub due : IsDue p w text
+  pub kept : IsKept p ops (described w)
+  pub due : IsDue p ops w text
 
-pub record IsUnwanted (p : Plan) (w : Written) : Type 0 where
+pub record IsUnwanted (p : Plan) (ops : List Automaton) (w : Written) : Type 0 where
   pub valid : IsValid w
   pub within : PassesNone w
-  pub dropped : IsDropped p (described w)
+  pub dropped : IsDropped p ops (described w)
 
 -- Its text is written, as far as the sink takes it; or it is dropped, or refused, and nothing is written.
-abbrev pub Handles : Result Bool RunFault → Plan → Written → SinkSeen → SinkSeen → Type 0
-Handles (Ok true) p w out out' = (text : List ℕ) × IsWanted p w text × Gains out.written out'.written text × (out'.faults ≡ out.faults)
-Handles (Ok false) p w out out' = IsUnwanted p w × (out' ≡ out)
-Handles (Err fault.WriteFault) p w out out' = (text : List ℕ) × IsWanted p w text × GainsPrefix out.written out'.written text × Rose out.faults out'.faults
-Handles (Err (fault.Invalid rule)) p w out out' = IsFirstBroken rule w × (out' ≡ out)
-Handles (Err (fault.Limit which)) p w out out' = PassesLimit which w × (out' ≡ out)
-Handles (Err fault.Memory) p w out out' = out' ≡ out
-Handles _ p w out out' = ⊥
+abbrev pub Handles : Result Bool RunFault → Plan → List Automaton → Written → SinkSeen → SinkSeen → Type 0
+Handles (Ok true) p ops w out out' = (text : List ℕ) × IsWanted p ops w text × Gains out.written out'.written text × (out'.faults ≡ out.faults)
+Handles (Ok false) p ops w out out' = IsUnwanted p ops w × (out' ≡ out)
+Handles (Err fault.WriteFault) p ops w out out' = (text : List ℕ) × IsWanted p ops w text × GainsPrefix out.written out'.written text × Rose out.faults out'.faults
+Handles (Err (fault.Invalid rule)) p ops w out out' = IsFirstBroken rule w × (out' ≡ out)
+Handles (Err (fault.Limit which)) p ops w out out' = (PassesLimit which w ⊎ IsOver which p ops w) × (out' ≡ out)
+Handles (Err fault.Memory) p ops w out out' = out' ≡ out
+Handles _ p ops w out out' = ⊥
 
--- what is printed of an automaton that has this name
+-- what is printed of an automaton that has this name: of its canonical text it is known that it reads back
 abbrev pub Prints : Output → Automaton → Option (List ℕ) → List ℕ → Type 0
-Prints Hoa a name text = text ≡ canonical_text a name
+Prints Hoa a name text = (text ≡ canonical_text a name) × ReadsBack (canonical_text a name) a name
 Prints (Stats pieces) a name text = IsLine pieces a text
 Prints (Refute operand) a name text = ⊥
+
+-- What the plan makes of an automaton is printed.
+pub record PrintsMade (p : Plan) (ops : List Automaton) (a : Automaton) (name : Option (List ℕ)) (text : List ℕ) : Type 0 where
+  pub made : Automaton
+  pub makes : MakesAll (changes_of p ops) a made
+  pub promises : KeepsPromises p made
+  pub says : (u v : List NameSet) → Accepts made u v ↔ set_operation p ops a u v
+  pub prints : Prints p.output made (if changes p then None else name) text
+
+abbrev pub PrintsOrStops : Result (List ℕ) PlanFault → Plan → List Automaton → Automaton → Option (List ℕ) → Type 0
+PrintsOrStops (Ok text) p ops a name = PrintsMade p ops a name text
+PrintsOrStops (Err (plan_fault.Limit which)) p ops a name = StopsIn which (changes_of p ops) a
+PrintsOrStops (Err plan_fault.Memory) p ops a name = Unit {0}

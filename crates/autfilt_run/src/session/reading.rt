@@ -1,14 +1,16 @@
 //! One step: the next stream is opened, or what stands next in the open one is read.
 
-ghost use Rattle.std.specs.Prelude.{◌≡◌, All, IfOk, None, OnOk, false, true};
+ghost use Rattle.std.specs.Prelude.{◌≡◌, All, IfOk, None, OnErr, OnOk, false, length, true};
 ghost use Rattle.aut_io.specs.Seen.{SinkSeen};
 ghost use Rattle.autfilt_run.specs.Plans.{streams_of};
 ghost use Rattle.autfilt_run.specs.Turns.{Rises, Steps, after, asks, progress};
 ghost use Rattle.autfilt_run.specs.declared.session.Stage.{Stage};
+ghost use Rattle.filter_plan.specs.Words.{operands};
 
 use super::{Session, Stage, Turn};
 use crate::fault::RunFault;
 use crate::handle::handle;
+use crate::operands::operand_count;
 use crate::streams::{open_stream, stream_count};
 use aut_io::{Inputs, Sink};
 use hoa_reader::{Front, read_raw};
@@ -25,13 +27,16 @@ impl Session {
         requires spent { self.old.lexer.spent ≡ false }
         requires held { self.old.lexer.held ≡ None }
         requires stage { self.old.stage ≡ Stage.Over }
+        requires all_read { length self.old.operands ≡ length (operands self.old.plan) }
         requires names { All I.may_open (streams_of self.old.plan) }
         ensures steps { Steps result self.old self.new (I.seen inputs.old) (I.seen inputs.new) (W.seen out.old) (W.seen out.new) }
         ensures plan { self.new.plan ≡ self.old.plan }
+        ensures operands { self.new.operands ≡ self.old.operands }
         ensures most { self.new.lexer.most ≡ self.old.lexer.most }
         ensures rises { IfOk result (λ turn. Rises turn self.old.lexer.taken self.new.lexer.taken) }
         ensures stage { self.new.stage ≡ Stage.Over }
         ensures progress { IfOk result (λ turn. progress self.new ≡ after turn (progress self.old)) }
+        ensures failed { OnErr result (progress self.new ≡ progress self.old) }
         ensures spent { OnOk result (self.new.lexer.spent ≡ false) }
         ensures held { OnOk result (self.new.lexer.held ≡ None) }
     {
@@ -62,20 +67,23 @@ impl Session {
         requires spent { self.old.lexer.spent ≡ false }
         requires held { self.old.lexer.held ≡ None }
         requires stage { self.old.stage ≡ Stage.Over }
+        requires all_read { length self.old.operands ≡ length (operands self.old.plan) }
         requires names { All I.may_open (streams_of self.old.plan) }
         ensures steps { (out : SinkSeen) → Steps result self.old self.new (I.seen inputs.old) (I.seen inputs.new) out out }
         ensures plan { self.new.plan ≡ self.old.plan }
+        ensures operands { self.new.operands ≡ self.old.operands }
         ensures most { self.new.lexer.most ≡ self.old.lexer.most }
         ensures rises { IfOk result (λ turn. Rises turn self.old.lexer.taken self.new.lexer.taken) }
         ensures stage { self.new.stage ≡ Stage.Over }
         ensures progress { IfOk result (λ turn. progress self.new ≡ after turn (progress self.old)) }
+        ensures failed { OnErr result (progress self.new ≡ progress self.old) }
         ensures spent { OnOk result (self.new.lexer.spent ≡ false) }
         ensures held { OnOk result (self.new.lexer.held ≡ None) }
     {
         if self.opened == stream_count(&self.plan) {
             return Ok(Turn::Done);
         }
-        self.tried = self.opened + 1;
+        self.tried = operand_count(&self.plan) as u128 + self.opened as u128 + 1;
         self.lexer.begin();
         open_stream(alloc, &self.plan, self.opened, inputs)?;
         self.opened += 1;
@@ -95,12 +103,15 @@ impl Session {
         requires spent { self.old.lexer.spent ≡ false }
         requires held { self.old.lexer.held ≡ None }
         requires stage { self.old.stage ≡ Stage.Over }
+        requires all_read { length self.old.operands ≡ length (operands self.old.plan) }
         ensures steps { Steps result self.old self.new (I.seen inputs.old) (I.seen inputs.new) (W.seen out.old) (W.seen out.new) }
         ensures plan { self.new.plan ≡ self.old.plan }
+        ensures operands { self.new.operands ≡ self.old.operands }
         ensures most { self.new.lexer.most ≡ self.old.lexer.most }
         ensures rises { IfOk result (λ turn. Rises turn self.old.lexer.taken self.new.lexer.taken) }
         ensures stage { self.new.stage ≡ Stage.Over }
         ensures progress { IfOk result (λ turn. progress self.new ≡ after turn (progress self.old)) }
+        ensures failed { OnErr result (progress self.new ≡ progress self.old) }
         ensures spent { OnOk result (self.new.lexer.spent ≡ false) }
         ensures held { OnOk result (self.new.lexer.held ≡ None) }
     {
@@ -114,7 +125,7 @@ impl Session {
                 Ok(Turn::Skipped)
             }
             Front::Whole(raw) => {
-                if handle(alloc, &self.plan, &raw, out)? {
+                if handle(alloc, &self.plan, &self.operands, &raw, out)? {
                     self.kept += 1;
                     Ok(Turn::Kept)
                 } else {

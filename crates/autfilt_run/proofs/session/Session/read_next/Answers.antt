@@ -2,6 +2,7 @@ use Rattle.std.proofs.Common.{Bool, Ok, Err, refl, subst}
 use Rattle.autfilt_run.proofs.Reading.{is_good, is_skipped, is_whole, read_at}
 use Rattle.autfilt_run.proofs.Turning.{not_handled, not_read, steps_on}
 use Rattle.autfilt_run.specs.Faults.{fault_of_reading}
+use Rattle.autfilt_run.specs.Points.{operands_in}
 use Rattle.autfilt_run.specs.inner.Handling.{Handles}
 use Rattle.hoa_lexer.specs.Moves.{Moves}
 use Rattle.hoa_parser.specs.Raw.{written}
@@ -59,7 +60,7 @@ returns-clause-steps g c =
     let at = read_at (Ok c.in_ok-read_raw.field-0) c.args.self.now.lexer.since c.args.self.now.lexer.held c.read_raw.new.lexer.held s.left t.left c.requires.held said.answers said.shown in
     let moves = subst M c.in-Whole.is said.moves in
     let whole = is_whole c.in_ok-read_raw.field-0 c.in-Whole.raw c.args.self.now.lexer.since c.read_raw.new.lexer.held s.left t.left c.in-Whole.is said.held at in
-    let H : Bool → Type 0 = λ x. Handles (Ok x) c.args.self.now.plan (written c.in-Whole.raw) (g.W.Sink.seen c.args.out.now) (g.W.Sink.seen c.handle.new.out) in
+    let H : Bool → Type 0 = λ x. Handles (Ok x) c.args.self.now.plan (operands_in c.args.self.now) (written c.in-Whole.raw) (g.W.Sink.seen c.args.out.now) (g.W.Sink.seen c.handle.new.out) in
     let h = subst H c.if-branch.false c.in_ok-handle-in-Whole.ensures in
     record {
       automaton = written c.in-Whole.raw;

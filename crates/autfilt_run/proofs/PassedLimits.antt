@@ -1,0 +1,119 @@
+-- Which limits are passed behind the reader: neither that of depth nor that of bytes.
+use Rattle.std.proofs.Common.{◌≡◌, ◌⊎◌, List, [], ◌∷◌, inl, inr, refl, subst}
+use Rattle.aut_base.specs.Automaton.{Automaton}
+use Rattle.aut_base.specs.CanonicalLabel.{canonical}
+use Rattle.aut_base.specs.declared.limit.Limit.{Limit}
+use Rattle.aut_base.specs.declared.limit.Limit.TheVariants as limit
+use Rattle.autfilt_run.specs.Faults.{stop_of_fault}
+use Rattle.autfilt_run.specs.Over.{IsOver, IsOverChanges}
+use Rattle.autfilt_run.specs.declared.fault.RunFault.TheVariants as fault
+use Rattle.filter_plan.specs.declared.plan.Form.{Form}
+use Rattle.filter_plan.specs.declared.plan.Plan.{Plan}
+use Rattle.hoa_lexer.specs.Moves.{Elsewhere}
+use Rattle.hoa_parser.specs.Raw.{Written}
+use Rattle.hoa_reader.specs.Described.{described}
+use Rattle.hoa_reader.specs.Counts.{Count, Names, Sets, States, Edges, Aliases}
+use Rattle.hoa_reader.specs.Elaborating.{PassesLimit}
+use Rattle.hoa_reader.specs.inner.Gathered.{limit_of}
+use Rattle.plan_meaning.specs.Changes.{Change, PassesForm, PassesIn, StopsIn}
+use Rattle.plan_meaning.specs.Changes as change
+use Rattle.plan_meaning.specs.Filters.{Filter, IsOverFilters, Passes}
+use Rattle.plan_meaning.specs.Filters as filter
+use Rattle.plan_meaning.specs.Limits.{PassesOfBoth, PassesOfEither, PassesOfSum, PassesOfWord}
+use Rattle.word_syntax.specs.Grammar.{WordPattern}
+
+-- the reader tells it
+abbrev pub IsOfReader : Limit → Type 0
+IsOfReader limit.Depth = Unit {0}
+IsOfReader limit.Bytes = Unit {0}
+IsOfReader _ = ⊥
+
+of_count : (count : Count) → IsOfReader (limit_of count) → ⊥
+of_count Names r = r
+of_count Sets r = r
+of_count States r = r
+of_count Edges r = r
+of_count Aliases r = r
+
+pub counts_pass : (which : Limit) (w : Written) → PassesLimit which w → IsOfReader which → ⊥
+counts_pass which w h r = of_count h.count (subst IsOfReader h.shown r)
+
+-- ---- of two automata put together
+
+both_pass : (which : Limit) (a b : Automaton) → IsOfReader which → PassesOfBoth which a b → ⊥
+both_pass limit.Depth a b r h = h
+both_pass limit.Bytes a b r h = h
+both_pass _ a b r h = absurd r
+
+either_pass : (which : Limit) (a b : Automaton) → IsOfReader which → PassesOfEither which a b → ⊥
+either_pass limit.Depth a b r h = h
+either_pass limit.Bytes a b r h = h
+either_pass _ a b r h = absurd r
+
+sum_pass : (which : Limit) (a b : Automaton) → IsOfReader which → PassesOfSum which a b → ⊥
+sum_pass limit.Depth a b r h = h
+sum_pass limit.Bytes a b r h = h
+sum_pass _ a b r h = absurd r
+
+word_pass : (which : Limit) (a : Automaton) (p : WordPattern) → IsOfReader which → PassesOfWord which a p → ⊥
+word_pass which a p r (inl h) = subst IsOfReader h.0 r
+word_pass which a p r (inr h) = both_pass which a _ r h.1
+
+-- ---- of a filter, and of a change
+
+filter_pass : (which : Limit) (f : Filter) (a : Automaton) → IsOfReader which → Passes which f a → ⊥
+filter_pass which (filter.AcceptsWord p) a r h = word_pass which (canonical a) p r h
+filter_pass which (filter.RejectsWord p) a r h = word_pass which (canonical a) p r h
+filter_pass which filter.IsEmpty a r h = h
+filter_pass which (filter.Intersects b) a r h = both_pass which (canonical a) b r h
+filter_pass which filter.IsDeterministic a r h = h
+filter_pass which filter.IsComplete a r h = h
+filter_pass which (filter.States range) a r h = h
+filter_pass which (filter.Edges range) a r h = h
+filter_pass which (filter.Sets range) a r h = h
+filter_pass which (filter.Names range) a r h = h
+
+form_pass : (which : Limit) (f : Form) (a : Automaton) → IsOfReader which → PassesForm which f a → ⊥
+form_pass limit.Depth f a r h = h
+form_pass limit.Bytes f a r h = h
+form_pass _ f a r h = absurd r
+
+change_pass : (which : Limit) (c : Change) (a : Automaton) → IsOfReader which → PassesIn which c a → ⊥
+change_pass which (change.Product b) a r h = both_pass which a b r h
+change_pass which (change.ProductOr b) a r h = either_pass which a b r h
+change_pass which (change.Sum b) a r h = sum_pass which a b r h
+change_pass which change.Trim a r h = h
+change_pass which (change.Bring f) a r h = form_pass which f a r h
+change_pass which change.Complete a r h = h
+
+changes_pass : (which : Limit) (cs : List Change) (a : Automaton) → IsOfReader which → StopsIn which cs a → ⊥
+changes_pass which [] a r h = h
+changes_pass which (c ∷ cs) a r (inl h) = change_pass which c a r h
+changes_pass which (c ∷ cs) a r (inr h) = changes_pass which cs h.0 r h.2
+
+pub plan_passes : (which : Limit) (p : Plan) (ops : List Automaton) (w : Written) → IsOver which p ops w → IsOfReader which → ⊥
+plan_passes which p ops w h r = by h.over
+  where
+    by : IsOverFilters which p ops (described w) ⊎ IsOverChanges which p ops w → ⊥
+    by (inl f) = filter_pass which f.filter _ r f.passes
+    by (inr c) = changes_pass which _ _ r c.stops
+
+pub both_ways : (which : Limit) (p : Plan) (ops : List Automaton) (w : Written) → PassesLimit which w ⊎ IsOver which p ops w → IsOfReader which → ⊥
+both_ways which p ops w (inl h) r = counts_pass which w h r
+both_ways which p ops w (inr h) r = plan_passes which p ops w h r
+
+-- so they stop nowhere in particular
+pub elsewhere : (which : Limit) → (IsOfReader which → ⊥) → stop_of_fault (fault.Limit which) ≡ Elsewhere
+elsewhere limit.Names n = refl
+elsewhere limit.Sets n = refl
+elsewhere limit.States n = refl
+elsewhere limit.Edges n = refl
+elsewhere limit.Aliases n = refl
+elsewhere limit.Depth n = refl
+elsewhere limit.Bytes n = absurd (n tt)
+elsewhere limit.Terms n = refl
+elsewhere limit.BuchiStates n = refl
+elsewhere limit.Trees n = refl
+elsewhere limit.Nodes n = refl
+elsewhere limit.Classes n = refl
+elsewhere limit.Pairs n = refl

@@ -1,0 +1,393 @@
+-- Turns over the operands, as what happens in a run.
+use Rattle.std.proofs.Common.{◌≡◌, ◌≢◌, ℕ, suc, ◌+◌, ◌-◌, ◌<◌, ◌≤◌, Bool, true, false, List, [], ◌∷◌, ◌++◌, length, drop, Option, Some, None, Result, Ok, Err, refl, sym, ap, ◌∙◌, subst, inl, inr, append_assoc, append-nil, arith}
+use Rattle.std.specs.Prelude.{map, slice_get}
+use Rattle.std.specs.Result.{IsErrAnd}
+use Rattle.aut_base.specs.declared.fault.OpenFail.TheVariants as opening
+use Rattle.aut_base.specs.declared.limit.Limit.{Limit}
+use Rattle.aut_base.specs.declared.limit.Limit.TheVariants as limit
+use Rattle.aut_base.specs.declared.limit.TheConstants.{MOST_BYTES}
+use Rattle.aut_core.specs.Core.{automaton_of}
+use Rattle.aut_io.specs.Outside.{Closed, Rose, Texts}
+use Rattle.aut_io.specs.Seen.{Seen}
+use Rattle.autfilt_run.proofs.Stepping.{KeepsOn, closed_counted, is_closed, name_as, opens_stream, reads_on, rest_from, stops_at, stops_named, stream_counted, takes_operand}
+use Rattle.autfilt_run.specs.Events.{Point, ReadsOn, Stream}
+use Rattle.autfilt_run.specs.Faults.{stop_of_fault}
+use Rattle.autfilt_run.specs.Operands.{AreRead, FileOpened, OperandEvent, PassedOver, Proceeds, Taken, all_passed, operand_of, operands_of, passed_of}
+use Rattle.autfilt_run.specs.Points.{IsAt, StandsIn, name_in, open_count, operands_in}
+use Rattle.autfilt_run.specs.Preparing.{CountsAt, FailsToPrepare, HasRead, HasSkipped, IsReady, Prepares}
+use Rattle.autfilt_run.specs.Runs.{AtNamed, IsCounted, StopsAtOperand, StopsInOperands, WantsMemory, WantsStream, taken_of}
+use Rattle.autfilt_run.specs.declared.fault.RunFault.{RunFault}
+use Rattle.autfilt_run.specs.declared.fault.RunFault.TheVariants as fault
+use Rattle.autfilt_run.specs.declared.session.Prep.{Prep}
+use Rattle.autfilt_run.specs.declared.session.Session.{Session}
+use Rattle.autfilt_run.specs.inner.OperandTurns.{FailsOperand, FailsReading, IsAllTaken, KeepsAll, OpensFile, PassesOne, TakesNext, TriesFile}
+use Rattle.filter_plan.specs.Words.{operands}
+use Rattle.filter_plan.specs.declared.plan.Plan.{Plan}
+use Rattle.hoa_lexer.proofs.next_token.Between.{between_as}
+use Rattle.hoa_lexer.specs.Moves.{CountsReads, Elsewhere, IsWithin, Moves, Stop}
+use Rattle.hoa_parser.specs.Standing.{Aborted, Stands}
+
+-- ---- lists of events
+
+are_read_push : (texts : Texts) (events : List OperandEvent) (event : OperandEvent) (p m q : Point) → AreRead texts events p m → Proceeds texts event m q → AreRead texts (events ++ event ∷ []) p q
+are_read_push texts [] event p m q h goes =
+    let P : Point → Type 0 = λ x. AreRead texts (event ∷ []) x q in
+    subst P (sym h) (q, goes, refl)
+are_read_push texts (e ∷ es) event p m q h goes = (h.0, h.1, are_read_push texts es event h.0 m q h.2 goes)
+
+operands_push : (events : List OperandEvent) (event : OperandEvent) → operands_of (events ++ event ∷ []) ≡ operands_of events ++ operand_of event
+operands_push [] event = append-nil (operand_of event)
+operands_push (e ∷ es) event = ap (λ x. operand_of e ++ x) (operands_push es event) ∙ sym (append_assoc (operand_of e) (operands_of es) (operand_of event))
+
+pub passed_push : (events : List OperandEvent) (event : OperandEvent) → all_passed (events ++ event ∷ []) ≡ all_passed events ++ passed_of event
+passed_push [] event = append-nil (passed_of event)
+passed_push (e ∷ es) event = ap (λ x. passed_of e ++ x) (passed_push es event) ∙ sym (append_assoc (passed_of e) (all_passed es) (passed_of event))
+
+-- ---- one turn
+
+-- A turn was this event.
+pub record Turned (event : OperandEvent) (old new : Session) (s t : Seen) : Type 0 where
+  pub goes : (texts : Texts) → s.texts ≡ Some texts → (p : Point) → StandsIn old s.left p → (q : Point) × Proceeds texts event p q × StandsIn new t.left q
+  pub operands : operands_in new ≡ operands_in old ++ operand_of event
+  pub opens : t.open_faults ≡ s.open_faults
+  pub reads : t.read_faults ≡ s.read_faults
+  pub texts : t.texts ≡ s.texts
+
+-- the names to come, once the session has so many operands
+coming_at : (s : Session) (n : ℕ) → length s.operands + open_count s.is_open ≡ n → drop (length s.operands + open_count s.is_open) (operands s.plan) ≡ drop n (operands s.plan)
+coming_at s n is = ap (λ (k : ℕ). drop k (operands s.plan)) is
+
+coming_of : (old new : Session) → new.plan ≡ old.plan → (n : ℕ) → length new.operands + open_count new.is_open ≡ n → drop n (operands old.plan) ≡ drop (length new.operands + open_count new.is_open) (operands new.plan)
+coming_of old new plan n is = ap (λ (p : Plan). drop n (operands p)) (sym plan) ∙ sym (coming_at new n is)
+
+counted_open : (s : Session) (n : ℕ) → s.is_open ≡ true → length s.operands ≡ n → length s.operands + open_count s.is_open ≡ n + 1
+counted_open s n is len = ap (λ (b : Bool). length s.operands + open_count b) is ∙ ap (λ (k : ℕ). k + 1) len
+
+plus_none : (n : ℕ) → n + 0 ≡ n
+plus_none n = omega arith
+
+counted_closed : (s : Session) (n : ℕ) → s.is_open ≡ false → length s.operands ≡ n → length s.operands + open_count s.is_open ≡ n
+counted_closed s n is len = ap (λ (b : Bool). length s.operands + open_count b) is ∙ plus_none (length s.operands) ∙ len
+
+suc_is : (n : ℕ) → suc n ≡ n + 1
+suc_is n = omega arith
+
+same_operands : (old new : Session) → new.operands ≡ old.operands → operands_in new ≡ operands_in old ++ []
+same_operands old new same = ap (λ cores. map automaton_of cores) same ∙ sym (append-nil (operands_in old))
+
+next_is : (old : Session) (left : Option (List ℕ)) (p : Point) (name : List ℕ) → StandsIn old left p → old.is_open ≡ false → slice_get (operands old.plan) (length old.operands) ≡ Some name
+    → p.coming ≡ name ∷ drop (suc (length old.operands)) (operands old.plan)
+next_is old left p name stands closed next = stands.coming ∙ coming_at old (length old.operands) (counted_closed old (length old.operands) closed refl) ∙ rest_from (operands old.plan) (length old.operands) name next
+
+pub opened : (old new : Session) (s t : Seen) → KeepsAll old new → (h : OpensFile old new s t) → Turned (FileOpened h.tries.name) old new s t
+opened old new s t keeps h =
+    let k = length old.operands in
+    record {
+      goes = λ texts told p stands.
+          let go = opens_stream texts old new s t p h.tries.name (drop (suc k) (operands old.plan)) told stands.at h.tries.closed (next_is old s.left p h.tries.name stands h.tries.closed h.tries.next) h.tries.opens h.tries.begins h.tries.in_hand h.now_open keeps.kept in (
+            go.point,
+            go.goes,
+            record {
+              coming = go.comes ∙ ap (λ (n : ℕ). drop n (operands old.plan)) (suc_is k) ∙ coming_of old new keeps.plan (k + 1) (counted_open new k h.now_open (ap length h.tries.operands_same));
+              at = go.at;
+            },
+          );
+      operands = same_operands old new h.tries.operands_same;
+      opens = h.tries.opens.calm;
+      reads = h.tries.opens.reads;
+      texts = h.tries.opens.texts;
+    }
+
+keeps_on : (old new : Session) → KeepsAll old new → new.tried ≡ old.tried → new.lexer.taken ≤ MOST_BYTES → KeepsOn old new
+keeps_on old new keeps tried few = record { plan = keeps.plan; tried = tried; few = few }
+
+pub taken : (old new : Session) (s t : Seen) → KeepsAll old new → new.lexer.taken ≤ MOST_BYTES → (h : TakesNext old new s t) → Turned (Taken h.automaton) old new s t
+taken old new s t keeps few h =
+    let k = length old.operands in
+    record {
+      goes = λ texts told p stands.
+          let go = takes_operand h.automaton old new s t p Elsewhere stands.at h.reads.was_open h.closed keeps.kept h.reads.read h.reads.moves (keeps_on old new keeps h.reads.in_hand few) in (
+            go.point,
+            go.goes,
+            record {
+              coming = go.comes ∙ stands.coming ∙ coming_at old (k + 1) (counted_open old k h.reads.was_open refl) ∙ coming_of old new keeps.plan (k + 1) (counted_closed new (k + 1) h.closed h.one_more);
+              at = go.at;
+            },
+          );
+      operands = h.taken;
+      opens = h.reads.moves.opens;
+      reads = h.reads.moves.reads;
+      texts = h.reads.moves.texts;
+    }
+
+one_name : (o : Option Stream) (a b : Stream) → o ≡ Some a → o ≡ Some b → a.name ≡ b.name
+one_name o a b e f = let same : Some a ≡ Some b = sym e ∙ f in let one : a ≡ b = cc in ap (λ (x : Stream). x.name) one
+
+-- the one that was passed over is of the file whose name is in hand
+pub passed : (old new : Session) (s t : Seen) → KeepsAll old new → new.lexer.taken ≤ MOST_BYTES → PassesOne old new s t → Turned (PassedOver (name_in new)) old new s t
+passed old new s t keeps few h =
+    let k = length old.operands in
+    record {
+      goes = λ texts told p stands.
+          let go = reads_on (λ start rest next. Stands (Aborted next) start rest) old new s t p Elsewhere stands.at h.reads.was_open h.still_open h.reads.read h.reads.moves (keeps_on old new keeps h.reads.in_hand few) in
+          let reads = subst (λ (n : ℕ). ReadsOn p (λ start rest next. Stands (Aborted next) start rest) n go.point) (keeps.kept ∙ sym stands.at.kept) go.goes in
+          let named = stops_named (Unit {0}) (λ start rest next. Unit {0}) old s t p (name_in new) (name_as old new keeps.plan h.reads.in_hand) stands.at h.reads.was_open tt (between_as s.left t.left _ _ (λ a b x. tt) h.reads.read) in (
+            go.point,
+            record { reads = reads; named = one_name p.stream reads.stream named.at.stream reads.is_open named.at.is_open ∙ named.named },
+            record {
+              coming = go.comes ∙ stands.coming ∙ coming_at old (k + 1) (counted_open old k h.reads.was_open refl) ∙ coming_of old new keeps.plan (k + 1) (counted_open new k h.still_open (ap length h.operands_same));
+              at = go.at;
+            },
+          );
+      operands = same_operands old new h.operands_same;
+      opens = h.reads.moves.opens;
+      reads = h.reads.moves.reads;
+      texts = h.reads.moves.texts;
+    }
+
+-- ---- the turns so far
+
+-- nothing happened yet
+pub read_none : (old : Session) (s : Seen) → HasRead [] old old s s
+read_none old s = record { operands = sym (append-nil (operands_in old)); happened = λ texts told p stands. (p, refl, stands); opens = refl; reads = refl; texts = refl }
+
+-- one event more
+pub read_more : (events : List OperandEvent) (event : OperandEvent) (first old new : Session) (s m t : Seen) → HasRead events first old s m → Turned event old new m t → HasRead (events ++ event ∷ []) first new s t
+read_more events event first old new s m t h turned = record {
+  operands = turned.operands ∙ ap (λ x. x ++ operand_of event) h.operands ∙ append_assoc (operands_in first) (operands_of events) (operand_of event) ∙ ap (λ x. operands_in first ++ x) (sym (operands_push events event));
+  happened = λ texts told p stands.
+      let a = h.happened texts told p stands in
+      let b = turned.goes texts (h.texts ∙ told) a.0 a.2 in
+      (b.0, are_read_push texts events event p a.0 b.0 a.1 b.1, b.2);
+  opens = turned.opens ∙ h.opens;
+  reads = turned.reads ∙ h.reads;
+  texts = turned.texts ∙ h.texts;
+}
+
+-- What a loop over turns keeps.
+pub record IsPreparing (first now : Session) (s t : Seen) : Type 0 where
+  pub events : List OperandEvent
+  pub read : HasRead events first now s t
+  pub passed : all_passed events ≡ []
+  pub keeps : KeepsAll first now
+  pub skipped : now.skipped ≡ first.skipped
+  pub later : first.lexer.taken ≤ now.lexer.taken
+
+pub begins : (first : Session) (s : Seen) → IsPreparing first first s s
+begins first s = record {
+  events = [];
+  read = read_none first s;
+  passed = refl;
+  keeps = record { plan = refl; most = refl; opened = refl; kept = refl; stage = refl };
+  skipped = refl;
+  later = omega arith;
+}
+
+keeps_then : (first old new : Session) → KeepsAll first old → KeepsAll old new → KeepsAll first new
+keeps_then first old new a b = record { plan = b.plan ∙ a.plan; most = b.most ∙ a.most; opened = b.opened ∙ a.opened; kept = b.kept ∙ a.kept; stage = b.stage ∙ a.stage }
+
+-- an event that passes over none
+more : (event : OperandEvent) (first old new : Session) (s m t : Seen) → IsPreparing first old s m → Turned event old new m t → passed_of event ≡ [] → KeepsAll old new → new.skipped ≡ old.skipped → old.lexer.taken ≤ new.lexer.taken → IsPreparing first new s t
+more event first old new s m t h turned none keeps skipped later = record {
+  events = h.events ++ event ∷ [];
+  read = read_more h.events event first old new s m t h.read turned;
+  passed = passed_push h.events event ∙ ap (λ x. x ++ passed_of event) h.passed ∙ none;
+  keeps = keeps_then first old new h.keeps keeps;
+  skipped = skipped ∙ h.skipped;
+  later = omega (arith, h.later, later);
+}
+
+pub more_opened : (first old new : Session) (s m t : Seen) → IsPreparing first old s m → KeepsAll old new → OpensFile old new m t → IsPreparing first new s t
+more_opened first old new s m t h keeps turn = more (FileOpened turn.tries.name) first old new s m t h (opened old new m t keeps turn) refl keeps turn.tries.skipped (omega (arith, turn.tries.begins.taken))
+
+pub more_taken : (first old new : Session) (s m t : Seen) → IsPreparing first old s m → KeepsAll old new → new.lexer.taken ≤ MOST_BYTES → TakesNext old new m t → IsPreparing first new s t
+more_taken first old new s m t h keeps few turn = more (Taken turn.automaton) first old new s m t h (taken old new m t keeps few turn) refl keeps turn.skipped turn.reads.moves.later
+
+-- ---- the answers
+
+pub is_ready : (first old new : Session) (s m t : Seen) → IsPreparing first old s m → IsAllTaken old new m t → IsReady first new s t
+is_ready first old new s m t h done =
+    let ready : IsReady first old s m = record { events = h.events; read = h.read; passed = h.passed; all = done.all; skipped = h.skipped } in
+    subst (λ (x : Session). IsReady first x s t) (sym done.same) (subst (λ (x : Seen). IsReady first old s x) (sym done.inputs) ready)
+
+pub has_skipped : (first old new : Session) (s m t : Seen) → IsPreparing first old s m → KeepsAll old new → new.lexer.taken ≤ MOST_BYTES → PassesOne old new m t → HasSkipped first new s t
+has_skipped first old new s m t h keeps few turn = record {
+  events = h.events ++ PassedOver (name_in new) ∷ [];
+  read = read_more h.events (PassedOver (name_in new)) first old new s m t h.read (passed old new m t keeps few turn);
+  passed = passed_push h.events (PassedOver (name_in new)) ∙ ap (λ x. x ++ name_in new ∷ []) h.passed;
+  rises = omega (arith, h.later, turn.rises);
+  skipped = turn.skipped ∙ ap (λ (n : ℕ). n + 1) h.skipped;
+}
+
+-- ---- faults
+
+-- where the fault comes, and how many bytes were taken
+record HaltsAt (f : RunFault) (old new : Session) (m t : Seen) : Type 0 where
+  halts : (texts : Texts) → m.texts ≡ Some texts → (q : Point) → StandsIn old m.left q → StopsInOperands f (name_in new) q t.left × IsCounted f q t.left
+  skipped : new.skipped ≡ old.skipped
+  counts : CountsAt f m t
+
+untold_closed : (texts : Option Texts) (left : Option (List ℕ)) (t : Texts) → texts ≡ Some t → Closed texts left → left ≡ Some []
+untold_closed None left t e h = cc
+untold_closed (Some x) left t e h = h
+
+tries_counted : (f : RunFault) (old : Session) (left left' : Option (List ℕ)) (q : Point) → IsAt old left q → old.is_open ≡ false → old.lexer.taken ≤ MOST_BYTES → stop_of_fault f ≡ Elsewhere → IsCounted f q left'
+tries_counted f old left left' q stands closed few stop = record {
+  few = subst (λ (n : ℕ). n ≤ MOST_BYTES) (sym (closed_counted old left left' q stands closed)) few;
+  within = subst (λ (x : Stop). IsWithin x (taken_of q left') MOST_BYTES) (sym stop) tt;
+}
+
+wants : (old new : Session) (left : Option (List ℕ)) (q : Point) (name : List ℕ) → StandsIn old left q → old.is_open ≡ false → slice_get (operands old.plan) (length old.operands) ≡ Some name → WantsStream (Unit {0}) q name
+wants old new left q name stands closed next = record {
+  asks = tt;
+  closed = (is_closed old left q stands.at closed).is;
+  others = drop (suc (length old.operands)) (operands old.plan);
+  next = next_is old left q name stands closed next;
+}
+
+unopened : (old new : Session) (m t : Seen) → old.lexer.taken ≤ MOST_BYTES → TriesFile (Err opening.Failed) old new m t → HaltsAt fault.CannotOpen old new m t
+unopened old new m t few h = record {
+  halts = λ texts told q stands. (
+    (subst (WantsStream (Unit {0}) q) (sym h.in_hand) (wants old new m.left q h.name stands h.closed h.next), untold_closed m.texts t.left texts told h.opens.closed),
+    tries_counted fault.CannotOpen old m.left t.left q stands.at h.closed few refl,
+  );
+  skipped = h.skipped;
+  counts = (h.opens.failed refl, h.opens.reads);
+}
+
+unopened_for_memory : (old new : Session) (m t : Seen) → old.lexer.taken ≤ MOST_BYTES → TriesFile (Err opening.Memory) old new m t → HaltsAt fault.Memory old new m t
+unopened_for_memory old new m t few h = record {
+  halts = λ texts told q stands. (
+    inr (inl (h.name, wants old new m.left q h.name stands h.closed h.next, untold_closed m.texts t.left texts told h.opens.closed)),
+    tries_counted fault.Memory old m.left t.left q stands.at h.closed few refl,
+  );
+  skipped = h.skipped;
+  counts = (h.opens.memory refl, h.opens.reads);
+}
+
+file_counted : (f : RunFault) (old new : Session) (m t : Seen) (q : Point) → new.lexer.most ≡ MOST_BYTES → new.lexer.taken ≤ MOST_BYTES → old.is_open ≡ true → IsAt old m.left q → Moves (stop_of_fault f) old.lexer new.lexer m t → IsCounted f q t.left
+file_counted f old new m t q most few opened_so stands moves =
+    let same = stream_counted old new m t q (stop_of_fault f) stands opened_so moves in
+    record {
+      few = subst (λ (n : ℕ). n ≤ MOST_BYTES) (sym same) few;
+      within = subst (λ (n : ℕ). IsWithin (stop_of_fault f) n MOST_BYTES) (sym same) (subst (λ (n : ℕ). IsWithin (stop_of_fault f) new.lexer.taken n) most moves.within);
+    }
+
+-- what stands at the rest of the open file
+named : (f : RunFault) (old new : Session) (m t : Seen) → KeepsAll old new → new.lexer.most ≡ MOST_BYTES → new.lexer.taken ≤ MOST_BYTES
+    → ((q : Point) → AtNamed (Unit {0}) q (name_in new) t.left (StopsAtOperand f) → StopsInOperands f (name_in new) q t.left) → CountsAt f m t → FailsReading f old new m t → HaltsAt f old new m t
+named f old new m t keeps most few stops counts h = record {
+  halts = λ texts told q stands. (
+    stops q (stops_named (Unit {0}) (StopsAtOperand f) old m t q (name_in new) (name_as old new keeps.plan h.reads.in_hand) stands.at h.reads.was_open tt h.reads.read),
+    file_counted f old new m t q most few h.reads.was_open stands.at h.reads.moves,
+  );
+  skipped = h.skipped;
+  counts = counts;
+}
+
+calm_limit : (which : Limit) (a b : ℕ) → CountsReads (stop_of_fault (fault.Limit which)) a b → b ≡ a
+calm_limit limit.Names a b h = h
+calm_limit limit.Sets a b h = h
+calm_limit limit.States a b h = h
+calm_limit limit.Edges a b h = h
+calm_limit limit.Aliases a b h = h
+calm_limit limit.Depth a b h = h
+calm_limit limit.Bytes a b h = h
+calm_limit limit.Terms a b h = h
+calm_limit limit.BuchiStates a b h = h
+calm_limit limit.Trees a b h = h
+calm_limit limit.Nodes a b h = h
+calm_limit limit.Classes a b h = h
+calm_limit limit.Pairs a b h = h
+
+halted : (f : RunFault) (old new : Session) (m t : Seen) → KeepsAll old new → new.lexer.most ≡ MOST_BYTES → old.lexer.taken ≤ MOST_BYTES → new.lexer.taken ≤ MOST_BYTES → FailsOperand f old new m t → HaltsAt f old new m t
+halted fault.CannotOpen old new m t keeps most few few' h = unopened old new m t few h
+halted fault.WriteFault old new m t keeps most few few' h = absurd h
+halted fault.Memory old new m t keeps most few few' (inl h) = unopened_for_memory old new m t few h
+halted fault.Memory old new m t keeps most few few' (inr h) = record {
+  halts = λ texts told q stands. (
+    inr (inr (stops_at (Unit {0}) WantsMemory old m t q stands.at h.reads.was_open tt h.reads.read)),
+    file_counted fault.Memory old new m t q most few' h.reads.was_open stands.at h.reads.moves,
+  );
+  skipped = h.skipped;
+  counts = (h.reads.moves.opens, h.reads.moves.reads);
+}
+halted fault.ReadFault old new m t keeps most few few' h = named fault.ReadFault old new m t keeps most few' (λ q x. x) (h.reads.moves.opens, h.reads.moves.reads) h
+halted (fault.SyntaxAt k) old new m t keeps most few few' h = named (fault.SyntaxAt k) old new m t keeps most few' (λ q x. x) (h.reads.moves.opens, h.reads.moves.reads) h
+halted fault.Truncated old new m t keeps most few few' h = named fault.Truncated old new m t keeps most few' (λ q x. x) (h.reads.moves.opens, h.reads.moves.reads) h
+halted (fault.Invalid rule) old new m t keeps most few few' h = named (fault.Invalid rule) old new m t keeps most few' (λ q x. x) (h.reads.moves.opens, h.reads.moves.reads) h
+halted (fault.Limit which) old new m t keeps most few few' h = named (fault.Limit which) old new m t keeps most few' (λ q x. x) (h.reads.moves.opens, calm_limit which _ _ h.reads.moves.reads) h
+
+rose_from : (a b c : ℕ) → b ≡ a → Rose b c → Rose a c
+rose_from a b c e h = subst (λ (n : ℕ). Rose n c) e h
+
+counts_then : (f : RunFault) (s m t : Seen) → m.open_faults ≡ s.open_faults → m.read_faults ≡ s.read_faults → CountsAt f m t → CountsAt f s t
+counts_then fault.CannotOpen s m t a b h = (rose_from s.open_faults m.open_faults t.open_faults a h.0, h.1 ∙ b)
+counts_then fault.ReadFault s m t a b h = (h.0 ∙ a, rose_from s.read_faults m.read_faults t.read_faults b h.1)
+counts_then fault.WriteFault s m t a b h = (h.0 ∙ a, h.1 ∙ b)
+counts_then fault.Memory s m t a b h = (h.0 ∙ a, h.1 ∙ b)
+counts_then (fault.SyntaxAt k) s m t a b h = (h.0 ∙ a, h.1 ∙ b)
+counts_then fault.Truncated s m t a b h = (h.0 ∙ a, h.1 ∙ b)
+counts_then (fault.Invalid rule) s m t a b h = (h.0 ∙ a, h.1 ∙ b)
+counts_then (fault.Limit which) s m t a b h = (h.0 ∙ a, h.1 ∙ b)
+
+no_write : (f : RunFault) (old new : Session) (m t : Seen) → FailsOperand f old new m t → f ≢ fault.WriteFault
+no_write f old new m t h is = let x = subst (λ (g : RunFault). FailsOperand g old new m t) is h in absurd x
+
+pub fails : (f : RunFault) (first old new : Session) (s m t : Seen) → first.lexer.most ≡ MOST_BYTES → old.lexer.taken ≤ MOST_BYTES → new.lexer.taken ≤ MOST_BYTES → IsPreparing first old s m → KeepsAll old new → FailsOperand f old new m t
+    → FailsToPrepare f first new s t
+fails f first old new s m t most few few' h keeps failed =
+    let at = halted f old new m t keeps (keeps.most ∙ h.keeps.most ∙ most) few few' failed in
+    record {
+      events = h.events;
+      happened = λ texts told p stands.
+          let a = h.read.happened texts told p stands in
+          let stops = at.halts texts (h.read.texts ∙ told) a.0 a.2 in
+          (a.0, a.1, stops.0, stops.1);
+      passed = h.passed;
+      skipped = at.skipped ∙ h.skipped;
+      no_write = no_write f old new m t failed;
+      counts = counts_then f s m t h.read.opens h.read.reads at.counts;
+    }
+
+-- a fault that `?` hands on
+pub prepares_on : (r : Result Prep RunFault) (f : RunFault) (old new : Session) (s t : Seen) → IsErrAnd r (λ y. y ≡ f) → FailsToPrepare f old new s t → Prepares r old new s t
+prepares_on (Ok p) f old new s t h failed = absurd h
+prepares_on (Err g) f old new s t h failed = subst (λ (x : RunFault). FailsToPrepare x old new s t) (sym h) failed
+
+pub taken_few : (s : Session) → s.lexer.taken ≤ MOST_BYTES
+taken_few s = subst (λ (n : ℕ). s.lexer.taken ≤ n) s.most_is s.lexer.within
+
+-- ---- how far the operands have come
+
+-- twice the operands that are still to come, and one where no file is open
+abbrev ahead : ℕ → ℕ → ℕ → ℕ
+ahead all read opened = (all - read) + (all - read) + (1 - opened)
+
+opened_less : (all read : ℕ) → ahead all read 1 < ahead all read 0
+opened_less all read = omega arith
+
+taken_less : (all read : ℕ) → read < all → ahead all (read + 1) 0 < ahead all read 1
+taken_less all read h = omega (arith, h)
+
+abbrev ahead_of : Session → ℕ
+ahead_of s = ahead (length (operands s.plan)) (length s.operands) (open_count s.is_open)
+
+ahead_is : (s : Session) (p : Plan) (n : ℕ) (b : Bool) → s.plan ≡ p → length s.operands ≡ n → s.is_open ≡ b → ahead_of s ≡ ahead (length (operands p)) n (open_count b)
+ahead_is s p n b plan len is =
+    ap (λ (x : Plan). ahead (length (operands x)) (length s.operands) (open_count s.is_open)) plan
+    ∙ ap (λ (k : ℕ). ahead (length (operands p)) k (open_count s.is_open)) len
+    ∙ ap (λ (x : Bool). ahead (length (operands p)) n (open_count x)) is
+
+less_as : (a b c d : ℕ) → a ≡ c → b ≡ d → c < d → a < b
+less_as a b c d e f h = omega (arith, e, f, h)
+
+pub shorter_opened : (old new : Session) (s t : Seen) → KeepsAll old new → OpensFile old new s t → ahead_of new < ahead_of old
+shorter_opened old new s t keeps h =
+    let n = length old.operands in
+    less_as _ _ _ _ (ahead_is new old.plan n true keeps.plan (ap length h.tries.operands_same) h.now_open) (ahead_is old old.plan n false refl refl h.tries.closed) (opened_less (length (operands old.plan)) n)
+
+pub shorter_taken : (old new : Session) (s t : Seen) → KeepsAll old new → TakesNext old new s t → length old.operands < length (operands old.plan) → ahead_of new < ahead_of old
+shorter_taken old new s t keeps h room =
+    let n = length old.operands in
+    less_as _ _ _ _ (ahead_is new old.plan (n + 1) false keeps.plan h.one_more h.closed) (ahead_is old old.plan n true refl refl h.reads.was_open) (taken_less (length (operands old.plan)) n room)

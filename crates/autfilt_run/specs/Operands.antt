@@ -1,0 +1,58 @@
+-- How operands are read: each from the file of its name, the first automaton that isn't abandoned. The rest of the file is
+-- left.
+use Rattle.std.specs.Prelude.{◌≡◌, ℕ, ◌+◌, ◌≤◌, List, [], ◌∷◌, flat_map, Some, None}
+use Rattle.aut_base.specs.Automaton.{Automaton}
+use Rattle.aut_base.specs.CanonicalLabel.{canonical}
+use Rattle.aut_base.specs.declared.limit.TheConstants.{MOST_BYTES}
+use Rattle.aut_io.specs.Outside.{Texts}
+use Rattle.autfilt_run.specs.Events.{IsGood, OpensStream, PassesOver, Point, Stream, place}
+use Rattle.hoa_parser.specs.Raw.{Written}
+use Rattle.hoa_reader.specs.Described.{described}
+
+pub data OperandEvent : Type 0 where
+  -- the file of this name is opened
+  FileOpened : List ℕ → OperandEvent
+  -- this automaton is taken as the operand
+  Taken : Written → OperandEvent
+  -- an automaton of the file of this name is abandoned, and passed over
+  PassedOver : List ℕ → OperandEvent
+
+-- the point where the operand was taken of the open file
+abbrev pub taken_at : Point → Stream → List ℕ → Point
+taken_at p s next = record { coming = p.coming; stream = None; left = Some next; before = p.before + place s.text next; kept = p.kept }
+
+-- An automaton stands at the rest of the open file, and is taken. No more bytes are taken than may be.
+pub record TakesOperand (w : Written) (p q : Point) : Type 0 where
+  pub stream : Stream
+  pub is_open : p.stream ≡ Some stream
+  pub next : List ℕ
+  pub good : IsGood (place stream.text stream.rest) stream.rest w next
+  pub few : p.before + place stream.text next ≤ MOST_BYTES
+  pub to : q ≡ taken_at p stream next
+
+-- What an event asks of the point before it, and the point behind it.
+abbrev pub Proceeds : Texts → OperandEvent → Point → Point → Type 0
+Proceeds texts (FileOpened name) p q = OpensStream texts name p q
+Proceeds texts (Taken w) p q = TakesOperand w p q
+Proceeds texts (PassedOver name) p q = PassesOver name p q
+
+-- The events happen one after the other.
+abbrev pub AreRead : Texts → List OperandEvent → Point → Point → Type 0
+AreRead texts [] p q = p ≡ q
+AreRead texts (event ∷ events) p q = (m : Point) × Proceeds texts event p m × AreRead texts events m q
+
+-- the automata that were taken, with labels in canonical form
+abbrev pub operand_of : OperandEvent → List Automaton
+operand_of (Taken w) = canonical (described w) ∷ []
+operand_of _ = []
+
+abbrev pub operands_of : List OperandEvent → List Automaton
+operands_of = flat_map operand_of
+
+-- the names of the files whose abandoned automata were passed over
+abbrev pub passed_of : OperandEvent → List (List ℕ)
+passed_of (PassedOver name) = name ∷ []
+passed_of _ = []
+
+abbrev pub all_passed : List OperandEvent → List (List ℕ)
+all_passed = flat_map passed_of

@@ -1,0 +1,60 @@
+-- What preparing a session does: operands are read.
+use Rattle.std.specs.Prelude.{◌≡◌, ◌≢◌, ◌+◌, ◌<◌, List, [], ◌∷◌, ◌++◌, length, Some, Result, Ok, Err}
+use Rattle.aut_io.specs.Outside.{Rose, Texts}
+use Rattle.aut_io.specs.Seen.{Seen}
+use Rattle.autfilt_run.specs.Events.{Point}
+use Rattle.autfilt_run.specs.Operands.{AreRead, OperandEvent, all_passed, operands_of}
+use Rattle.autfilt_run.specs.Points.{StandsIn, name_in, operands_in}
+use Rattle.autfilt_run.specs.Runs.{IsCounted, StopsInOperands}
+use Rattle.autfilt_run.specs.declared.fault.RunFault.{RunFault}
+use Rattle.autfilt_run.specs.declared.fault.RunFault.TheVariants as fault
+use Rattle.autfilt_run.specs.declared.session.Prep.{Prep}
+use Rattle.autfilt_run.specs.declared.session.Prep.TheVariants.{Ready, Skipped}
+use Rattle.autfilt_run.specs.declared.session.Session.{Session}
+use Rattle.filter_plan.specs.Words.{operands}
+
+-- The events happened, and no count of faults rose.
+pub record HasRead (events : List OperandEvent) (old new : Session) (seen seen' : Seen) : Type 0 where
+  pub operands : operands_in new ≡ operands_in old ++ operands_of events
+  -- where the inputs tell their texts
+  pub happened : (texts : Texts) → seen.texts ≡ Some texts → (p : Point) → StandsIn old seen.left p → (q : Point) × AreRead texts events p q × StandsIn new seen'.left q
+  pub opens : seen'.open_faults ≡ seen.open_faults
+  pub reads : seen'.read_faults ≡ seen.read_faults
+  pub texts : seen'.texts ≡ seen.texts
+
+-- All operands were read, and none was passed over in this call.
+pub record IsReady (old new : Session) (seen seen' : Seen) : Type 0 where
+  pub events : List OperandEvent
+  pub read : HasRead events old new seen seen'
+  pub passed : all_passed events ≡ []
+  pub all : length new.operands ≡ length (operands new.plan)
+  pub skipped : new.skipped ≡ old.skipped
+
+-- One that is abandoned was passed over last, of the file whose name is in hand, and no other in this call.
+pub record HasSkipped (old new : Session) (seen seen' : Seen) : Type 0 where
+  pub events : List OperandEvent
+  pub read : HasRead events old new seen seen'
+  pub passed : all_passed events ≡ name_in new ∷ []
+  pub rises : old.lexer.taken < new.lexer.taken
+  pub skipped : new.skipped ≡ old.skipped + 1
+
+-- A fault of the outside comes only where its count rose, any other where none did.
+abbrev pub CountsAt : RunFault → Seen → Seen → Type 0
+CountsAt fault.CannotOpen seen seen' = Rose seen.open_faults seen'.open_faults × (seen'.read_faults ≡ seen.read_faults)
+CountsAt fault.ReadFault seen seen' = (seen'.open_faults ≡ seen.open_faults) × Rose seen.read_faults seen'.read_faults
+CountsAt _ seen seen' = (seen'.open_faults ≡ seen.open_faults) × (seen'.read_faults ≡ seen.read_faults)
+
+-- Events happened, and then the fault came.
+pub record FailsToPrepare (f : RunFault) (old new : Session) (seen seen' : Seen) : Type 0 where
+  pub events : List OperandEvent
+  pub happened : (texts : Texts) → seen.texts ≡ Some texts → (p : Point) → StandsIn old seen.left p
+      → (q : Point) × AreRead texts events p q × StopsInOperands f (name_in new) q seen'.left × IsCounted f q seen'.left
+  pub passed : all_passed events ≡ []
+  pub skipped : new.skipped ≡ old.skipped
+  pub no_write : f ≢ fault.WriteFault
+  pub counts : CountsAt f seen seen'
+
+abbrev pub Prepares : Result Prep RunFault → Session → Session → Seen → Seen → Type 0
+Prepares (Ok Ready) = IsReady
+Prepares (Ok Skipped) = HasSkipped
+Prepares (Err f) = FailsToPrepare f

@@ -1,0 +1,101 @@
+//! The files of the operands of a plan.
+
+ghost use Rattle.std.specs.Prelude.{◌≡◌, ◌<◌, ◌≤◌, ◌++◌, [], List, ℕ, length};
+ghost use Rattle.std.specs.List.{slice_index_or};
+ghost use Rattle.filter_plan.specs.Table.{refuted};
+ghost use Rattle.filter_plan.specs.Words.{listed, operands};
+
+use aut_base::Text;
+use filter_plan::{Output, Plan};
+
+/// How many operands the plan has.
+pub(crate) fn operand_count(plan: &Plan) -> usize
+    ensures number { result ≡ length (operands plan.now) }
+    ensures few { result ≤ 7 }
+{
+    let compared = count(&plan.included_in) + count(&plan.equivalent_to) + count(&plan.intersect);
+    let combined = count(&plan.product) + count(&plan.product_or) + count(&plan.sum);
+    compared + combined + refuted_count(&plan.output)
+}
+
+/// The file of the operand at this place.
+pub(crate) fn operand_file(plan: &Plan, place: usize) -> &Text
+    requires { place < length (operands plan.now) }
+    ensures { result.now ≡ slice_index_or (operands plan.now) place [] }
+{
+    if place < count(&plan.included_in) {
+        return file_of(&plan.included_in);
+    }
+    let place = place - count(&plan.included_in);
+    if place < count(&plan.equivalent_to) {
+        return file_of(&plan.equivalent_to);
+    }
+    let place = place - count(&plan.equivalent_to);
+    if place < count(&plan.intersect) {
+        return file_of(&plan.intersect);
+    }
+    combined_file(plan, place - count(&plan.intersect))
+}
+
+/// The same, from the operand of the first operation on.
+fn combined_file(plan: &Plan, place: usize) -> &Text
+    requires { place < length (listed plan.now.product ++ (listed plan.now.product_or ++ (listed plan.now.sum ++ listed (refuted plan.now.output)))) }
+    ensures { result.now ≡ slice_index_or (listed plan.now.product ++ (listed plan.now.product_or ++ (listed plan.now.sum ++ listed (refuted plan.now.output)))) place [] }
+{
+    if place < count(&plan.product) {
+        return file_of(&plan.product);
+    }
+    let place = place - count(&plan.product);
+    if place < count(&plan.product_or) {
+        return file_of(&plan.product_or);
+    }
+    let place = place - count(&plan.product_or);
+    if place < count(&plan.sum) {
+        return file_of(&plan.sum);
+    }
+    refuted_file(&plan.output)
+}
+
+/// 1 where there is a file.
+fn count(file: &Option<Text>) -> usize
+    ensures number { result ≡ length (listed file.now) }
+    ensures few { result ≤ 1 }
+{
+    match file {
+        Some(_) => 1,
+        None => 0,
+    }
+}
+
+/// The file that there is.
+fn file_of(file: &Option<Text>) -> &Text
+    requires { 0 < length (listed file.now) }
+    ensures { (rest : List (List ℕ)) → slice_index_or (listed file.now ++ rest) 0 [] ≡ result.now }
+{
+    match file {
+        Some(file) => file,
+        None => unreachable!(),
+    }
+}
+
+/// 1 where a refutation is printed.
+fn refuted_count(output: &Output) -> usize
+    ensures number { result ≡ length (listed (refuted output.now)) }
+    ensures few { result ≤ 1 }
+{
+    match output {
+        Output::Refute(_) => 1,
+        _ => 0,
+    }
+}
+
+/// The file of the refutation that is printed.
+fn refuted_file(output: &Output) -> &Text
+    requires { 0 < length (listed (refuted output.now)) }
+    ensures { result.now ≡ slice_index_or (listed (refuted output.now)) 0 [] }
+{
+    match output {
+        Output::Refute(file) => file,
+        _ => unreachable!(),
+    }
+}

@@ -1,0 +1,140 @@
+//! The operands are read, one after the other.
+
+ghost use Rattle.std.specs.Prelude.{◌≡◌, ◌<◌, All, IfOk, None, OnErr, OnOk, false, length, true};
+ghost use Rattle.autfilt_run.specs.Preparing.{Prepares};
+ghost use Rattle.autfilt_run.specs.declared.session.Prep.TheVariants as prep;
+ghost use Rattle.autfilt_run.specs.declared.session.Stage.{Stage};
+ghost use Rattle.autfilt_run.specs.declared.session.operands.OperandTurn.TheVariants as turn;
+ghost use Rattle.autfilt_run.specs.inner.OperandTurns.{TurnsOperands};
+ghost use Rattle.filter_plan.specs.Words.{operands};
+
+use super::{Prep, Session, Stage};
+use crate::fault::RunFault;
+use crate::operands::{operand_count, operand_file};
+use crate::taken::automaton_taken;
+use aut_io::Inputs;
+use hoa_reader::{Front, read_raw};
+use std::alloc::Global;
+
+/// What one turn over the operands did.
+#[derive(Clone, Copy, Debug, PartialEq, Eq)]
+pub(crate) enum OperandTurn {
+    /// The file of the next one was opened.
+    Opened,
+    /// An automaton was taken of the open file.
+    Taken,
+    /// One that is abandoned was passed over.
+    Skipped,
+    /// All were read.
+    Done,
+}
+
+impl Session {
+    /// Reads operands until all are read, or one that is abandoned was passed over.
+    pub(super) fn read_operands<I: Inputs>(
+        &mut self,
+        alloc: Global,
+        inputs: &mut I,
+    ) -> Result<Prep, RunFault>
+        requires spent { self.old.lexer.spent ≡ false }
+        requires held { self.old.lexer.held ≡ None }
+        requires stage { self.old.stage ≡ Stage.Over }
+        requires room { self.old.is_open ≡ true → length self.old.operands < length (operands self.old.plan) }
+        requires names { All I.may_open (operands self.old.plan) }
+        ensures prepares { Prepares result self.old self.new (I.seen inputs.old) (I.seen inputs.new) }
+        ensures plan { self.new.plan ≡ self.old.plan }
+        ensures most { self.new.lexer.most ≡ self.old.lexer.most }
+        ensures opened { self.new.opened ≡ self.old.opened }
+        ensures kept { self.new.kept ≡ self.old.kept }
+        ensures stage { self.new.stage ≡ Stage.Over }
+        ensures closed { IfOk result (λ p. p ≡ prep.Ready → self.new.is_open ≡ false) }
+        ensures spent { OnOk result (self.new.lexer.spent ≡ false) }
+        ensures held { OnOk result (self.new.lexer.held ≡ None) }
+        ensures room { OnOk result (self.new.is_open ≡ true → length self.new.operands < length (operands self.new.plan)) }
+    {
+        'operands: loop {
+            match self.operand_turn(alloc, inputs)? {
+                OperandTurn::Opened => {}
+                OperandTurn::Taken => {}
+                OperandTurn::Skipped => return Ok(Prep::Skipped),
+                OperandTurn::Done => return Ok(Prep::Ready),
+            }
+        }
+    }
+
+    /// One turn: the file of the next operand is opened, or what stands next in the open one is read.
+    fn operand_turn<I: Inputs>(
+        &mut self,
+        alloc: Global,
+        inputs: &mut I,
+    ) -> Result<OperandTurn, RunFault>
+        requires spent { self.old.lexer.spent ≡ false }
+        requires held { self.old.lexer.held ≡ None }
+        requires stage { self.old.stage ≡ Stage.Over }
+        requires room { self.old.is_open ≡ true → length self.old.operands < length (operands self.old.plan) }
+        requires names { All I.may_open (operands self.old.plan) }
+        ensures turns { TurnsOperands result self.old self.new (I.seen inputs.old) (I.seen inputs.new) }
+        ensures spent { OnOk result (self.new.lexer.spent ≡ false) }
+        ensures held { OnOk result (self.new.lexer.held ≡ None) }
+        ensures room { OnOk result (self.new.is_open ≡ true → length self.new.operands < length (operands self.new.plan)) }
+    {
+        if self.is_open {
+            self.take_operand(alloc, inputs)
+        } else {
+            self.open_operand(inputs)
+        }
+    }
+
+    /// Opens the file of the next operand, if there is one.
+    fn open_operand<I: Inputs>(&mut self, inputs: &mut I) -> Result<OperandTurn, RunFault>
+        requires closed { self.old.is_open ≡ false }
+        requires spent { self.old.lexer.spent ≡ false }
+        requires held { self.old.lexer.held ≡ None }
+        requires stage { self.old.stage ≡ Stage.Over }
+        requires names { All I.may_open (operands self.old.plan) }
+        ensures turns { TurnsOperands result self.old self.new (I.seen inputs.old) (I.seen inputs.new) }
+        ensures spent { OnOk result (self.new.lexer.spent ≡ false) }
+        ensures held { OnOk result (self.new.lexer.held ≡ None) }
+        ensures room { OnOk result (self.new.is_open ≡ true → length self.new.operands < length (operands self.new.plan)) }
+    {
+        if self.operands.len() == operand_count(&self.plan) {
+            return Ok(OperandTurn::Done);
+        }
+        self.tried = self.operands.len() as u128 + 1;
+        self.lexer.begin();
+        inputs.open(operand_file(&self.plan, self.operands.len()))?;
+        self.is_open = true;
+        Ok(OperandTurn::Opened)
+    }
+
+    /// Takes the automaton that stands next in the open file. The rest of the file is left.
+    fn take_operand<I: Inputs>(
+        &mut self,
+        alloc: Global,
+        inputs: &mut I,
+    ) -> Result<OperandTurn, RunFault>
+        requires is_open { self.old.is_open ≡ true }
+        requires spent { self.old.lexer.spent ≡ false }
+        requires held { self.old.lexer.held ≡ None }
+        requires stage { self.old.stage ≡ Stage.Over }
+        requires room { length self.old.operands < length (operands self.old.plan) }
+        ensures turns { TurnsOperands result self.old self.new (I.seen inputs.old) (I.seen inputs.new) }
+        ensures spent { OnOk result (self.new.lexer.spent ≡ false) }
+        ensures held { OnOk result (self.new.lexer.held ≡ None) }
+        ensures room { OnOk result (self.new.is_open ≡ true → length self.new.operands < length (operands self.new.plan)) }
+    {
+        match read_raw(alloc, &mut self.lexer, inputs)? {
+            Front::Blank => Err(RunFault::Truncated),
+            Front::Aborted => {
+                self.skipped += 1;
+                Ok(OperandTurn::Skipped)
+            }
+            Front::Whole(raw) => {
+                let automaton = automaton_taken(alloc, &raw)?;
+                self.operands.push(automaton)?;
+                self.is_open = false;
+                Ok(OperandTurn::Taken)
+            }
+        }
+    }
+}
