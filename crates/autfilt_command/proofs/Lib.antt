@@ -1,9 +1,10 @@
-mod Alike
 mod BuiltPlans
 mod Carried
 mod Ending
 mod MadePlans
 mod Noting
+mod OpenedNames
+mod Prepared
 mod Running
 mod Stepped
 mod Stepping

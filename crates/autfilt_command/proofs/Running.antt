@@ -1,18 +1,22 @@
 -- Runs: the events so far and one more, and the end.
-use Rattle.std.proofs.Common.{◌≡◌, ℕ, ◌≤◌, Bool, true, List, [], ◌∷◌, ◌++◌, drop, Option, Some, refl, sym, ap, ◌∙◌, subst, append_assoc, append-nil}
+use Rattle.std.proofs.Common.{◌≡◌, ℕ, Bool, true, List, [], ◌∷◌, ◌++◌, drop, Option, refl, sym, ap, ◌∙◌, subst, append_assoc, append-nil}
+use Rattle.std.specs.Prelude.{map}
 use Rattle.aut_base.proofs.AllByRecursion.{AllByRecursion-push}
-use Rattle.aut_io.specs.Outside.{Gains, Texts}
+use Rattle.aut_base.specs.Automaton.{Automaton}
+use Rattle.aut_core.specs.Core.{automaton_of}
+use Rattle.aut_io.specs.Outside.{Gains}
 use Rattle.aut_io.specs.Seen.{Seen, SinkSeen}
+use Rattle.autfilt_command.proofs.Noting.{notes_nothing}
 use Rattle.autfilt_command.proofs.Stepped.{Stepped}
 use Rattle.autfilt_command.proofs.Stepping.{happen_push}
 use Rattle.autfilt_command.specs.Noted.{HasNoted}
-use Rattle.aut_base.specs.declared.limit.TheConstants.{MOST_BYTES}
 use Rattle.autfilt_command.specs.Run.{AreCalm, all_noted, noted}
 use Rattle.autfilt_command.specs.declared.ended.End.{End}
-use Rattle.autfilt_command.specs.inner.Running.{Carries, Finishes, HasRun, IsFresh, Reached, StandsAt}
+use Rattle.autfilt_command.specs.inner.Running.{Carries, Finishes, HasRun, IsFresh}
 use Rattle.autfilt_run.proofs.Gains.{both, nothing}
-use Rattle.autfilt_run.specs.Events.{Event, Tally, IsJudged, AreJudged, Point, all_written, counted, start_of, tally_from, written_of}
+use Rattle.autfilt_run.specs.Events.{Event, Tally, IsJudged, Point, all_written, counted, start_of, tally_from, written_of}
 use Rattle.autfilt_run.specs.Plans.{asks_on, count_text, streams_of}
+use Rattle.autfilt_run.specs.Points.{StandsAt, operands_in}
 use Rattle.autfilt_run.specs.Turns.{Progress, progress}
 use Rattle.autfilt_run.specs.declared.session.Session.{Session}
 use Rattle.filter_plan.specs.declared.plan.Plan.{Plan}
@@ -32,72 +36,79 @@ tally_push t (e ∷ es) event = tally_push (counted t e) es event
 pub gains_as : (a b : Option (List ℕ)) (p q : List ℕ) → p ≡ q → Gains a b p → Gains a b q
 gains_as a b p q e g = subst (λ (x : List ℕ). Gains a b x) e g
 
-noted_as : (a b : SinkSeen) (p q : List ℕ) (noting : Bool) → p ≡ q → HasNoted p noting a b → HasNoted q noting a b
+pub noted_as : (a b : SinkSeen) (p q : List ℕ) (noting : Bool) → p ≡ q → HasNoted p noting a b → HasNoted q noting a b
 noted_as a b p q noting e h = subst (λ (x : List ℕ). HasNoted x noting a b) e h
 
 pub calm_then : (s m t : Seen) (o p q : SinkSeen) → AreCalm s m o p → AreCalm m t p q → AreCalm s t o q
 calm_then s m t o p q one two = record { opens = two.opens ∙ one.opens; reads = two.reads ∙ one.reads; writes = two.writes ∙ one.writes }
 
-judged_as : (p q : Plan) (event : Event) → p ≡ q → IsJudged p event → IsJudged q event
-judged_as p q event e h = subst (λ (x : Plan). IsJudged x event) e h
+-- what is said of the plan and the operands of a session, of those of another one that has the same
+pub of_fresh : (P : Plan → List Automaton → Type 0) (fresh s : Session) → s.plan ≡ fresh.plan → s.operands ≡ fresh.operands → P s.plan (operands_in s) → P fresh.plan (operands_in fresh)
+of_fresh P fresh s plan operands h = subst (λ (x : Plan). P x (operands_in fresh)) plan (subst (λ (x : List Automaton). P s.plan x) (ap (λ cores. map automaton_of cores) operands) h)
 
 pub asks_at : (s : Session) (left : Option (List ℕ)) (p : Point) → StandsAt s left p → asks_on s.plan s.kept ≡ true → asks_on s.plan p.kept ≡ true
-asks_at s left p stands asks = subst (λ (k : ℕ). asks_on s.plan k ≡ true) (sym stands.kept) asks
+asks_at s left p stands asks = subst (λ (k : ℕ). asks_on s.plan k ≡ true) (sym stands.at.kept) asks
 
-reached_more : (event : Event) (events : List Event) (texts : Texts) (old new : Session) (first : Option (List ℕ)) (m t : Seen) (p q : SinkSeen) → new.plan ≡ old.plan → asks_on old.plan old.kept ≡ true
-    → Stepped event old new m t p q → m.texts ≡ Some texts → Reached old.plan texts events first m.left old → Reached new.plan texts (events ++ event ∷ []) first t.left new
-reached_more event events texts old new first m t p q plan asks step told h =
-    let on = step.goes texts told h.point h.stands in
-    subst (λ (x : Plan). Reached x texts (events ++ event ∷ []) first t.left new) (sym plan)
-    (record {
-      point = on.point;
-      happen = happen_push old.plan texts events event (start_of old.plan first) h.point on.point h.happen (asks_at old m.left h.point h.stands asks) on.goes;
-      stands = on.stands;
-    })
+pub asks_of : (fresh s : Session) (left : Option (List ℕ)) (p : Point) → s.plan ≡ fresh.plan → StandsAt s left p → asks_on s.plan s.kept ≡ true → asks_on fresh.plan p.kept ≡ true
+asks_of fresh s left p plan stands asks = subst (λ (x : Plan). asks_on x p.kept ≡ true) plan (asks_at s left p stands asks)
+
+-- what was noted after a text that was noted before
+abbrev pub Adds : List ℕ → Bool → Bool → SinkSeen → SinkSeen → Type 0
+Adds added noting noting' k j = (sink : SinkSeen) (text : List ℕ) → HasNoted text noting sink k → HasNoted (text ++ added) noting' sink j
+
+pub adds_nothing : (noting : Bool) (k : SinkSeen) → Adds [] noting noting k k
+adds_nothing noting k sink text h = notes_nothing sink k text noting h
 
 -- one more event
-pub run_more : (event : Event) (old new : Session) (s m t : Seen) (o p q k l j : SinkSeen) (noting noting' : Bool) → new.plan ≡ old.plan → asks_on old.plan old.kept ≡ true → HasRun old s m o p k l noting
-    → Stepped event old new m t p q → ((text : List ℕ) → HasNoted text noting k l → HasNoted (text ++ noted event) noting' k j) → HasRun new s t o q k j noting'
-run_more event old new s m t o p q k l j noting noting' plan asks h step notes = record {
+pub run_more : (event : Event) (fresh old new : Session) (s m t : Seen) (o p q k l j : SinkSeen) (first noting noting' : Bool) → new.plan ≡ old.plan → new.operands ≡ old.operands → asks_on old.plan old.kept ≡ true
+    → HasRun fresh old s m o p k l first noting → Stepped event old new m t p q → Adds (noted event) noting noting' l j → HasRun fresh new s t o q k j first noting'
+run_more event fresh old new s m t o p q k l j first noting noting' plan operands asks h step notes = record {
   events = h.events ++ event ∷ [];
-  judged = subst (λ (x : Plan). AreJudged x (h.events ++ event ∷ [])) (sym plan) (AllByRecursion-push (IsJudged old.plan) h.events event h.judged step.judged);
-  happened = λ texts told. reached_more event h.events texts old new s.left m t p q plan asks step (h.texts ∙ told) (h.happened texts told);
+  same_plan = plan ∙ h.same_plan;
+  same_operands = operands ∙ h.same_operands;
+  judged = AllByRecursion-push (IsJudged fresh.plan (operands_in fresh)) h.events event h.judged (of_fresh (λ x ops. IsJudged x ops event) fresh old h.same_plan h.same_operands step.judged);
+  happened = λ texts told.
+      let r = h.happened texts told in
+      let on = step.goes texts (h.texts ∙ told) r.point r.stands in
+      record {
+        point = on.point;
+        happen = happen_push fresh.plan texts h.events event (start_of (streams_of fresh.plan) s.left fresh.lexer.taken) r.point on.point r.happen (asks_of fresh old m.left r.point h.same_plan r.stands asks) on.goes;
+        stands = on.stands;
+      };
   gains = gains_as o.written q.written _ _ (sym (written_push h.events event)) (both o.written p.written q.written (all_written h.events) (written_of event) h.gains step.gains);
-  noted = noted_as k j _ _ noting' (sym (noted_push h.events event)) (notes (all_noted h.events) h.noted);
+  noted = λ sink text before.
+      noted_as sink j _ _ noting' (append_assoc text (all_noted h.events) (noted event) ∙ ap (λ x. text ++ x) (sym (noted_push h.events event))) (notes sink (text ++ all_noted h.events) (h.noted sink text before));
   tallied = tally_push _ h.events event ∙ ap (λ (x : Tally). counted x event) h.tallied ∙ step.tallied;
   calm = calm_then s m t o p q h.calm step.calm;
   texts = step.texts ∙ h.texts;
 }
 
 -- nothing happened yet
-pub run_none : (session : Session) (s : Seen) (o k : SinkSeen) → IsFresh session → HasRun session s s o o k k true
-run_none session s o k fresh = record {
+pub run_none : (fresh : Session) (s : Seen) (o k : SinkSeen) (first : Bool) → IsFresh fresh → HasRun fresh fresh s s o o k k first first
+run_none fresh s o k first is = record {
   events = [];
+  same_plan = refl;
+  same_operands = refl;
   judged = tt;
   happened = λ texts told. record {
-    point = start_of session.plan s.left;
+    point = start_of (streams_of fresh.plan) s.left fresh.lexer.taken;
     happen = refl;
     stands = record {
-      coming = ap (λ (n : ℕ). drop n (streams_of session.plan)) (sym fresh.opened);
-      kept = sym fresh.kept;
-      left_is = refl;
-      stream = (fresh.is_closed, fresh.taken);
+      coming = ap (λ (n : ℕ). drop n (streams_of fresh.plan)) (sym is.opened);
+      at = record { kept = sym is.kept; left_is = refl; stream = (is.is_closed, refl) };
     };
   };
   gains = nothing o.written;
-  noted = (nothing k.written, refl);
-  tallied = ap (λ (n : ℕ). record { kept = n; skipped = 0 }) (sym fresh.kept) ∙ ap (λ (n : ℕ). record { kept = session.kept; skipped = n }) (sym fresh.skipped);
+  noted = adds_nothing first k;
+  tallied = ap (λ (n : ℕ). record { kept = n; skipped = fresh.skipped }) (sym is.kept);
   calm = record { opens = refl; reads = refl; writes = refl };
   texts = refl;
 }
 
--- ---- what a loop keeps
+-- ---- the end
 
-pub few_of : (s : Session) → s.lexer.most ≡ MOST_BYTES → s.lexer.taken ≤ s.lexer.most → s.lexer.taken ≤ MOST_BYTES
-few_of s most within = subst (λ (n : ℕ). s.lexer.taken ≤ n) most within
-
-pub carries_as : (plan : Plan) (e d : End) (own : Plan) → own ≡ plan → (s t : Seen) (o q k j : SinkSeen) → e ≡ d → Carries own d s t o q k j → Carries plan e s t o q k j
-carries_as plan e d own same s t o q k j is h = subst (λ (x : Plan). Carries x e s t o q k j) same (subst (λ (x : End). Carries own x s t o q k j) (sym is) h)
+pub carries_as : (fresh : Session) (first : Bool) (e d : End) (s t : Seen) (o q k j : SinkSeen) → e ≡ d → Carries fresh first d s t o q k j → Carries fresh first e s t o q k j
+carries_as fresh first e d s t o q k j is h = subst (λ (x : End). Carries fresh first x s t o q k j) (sym is) h
 
 -- what is written at the end is that of the session that was done
 pub finish_as : (e : End) (old new : Session) (r q : SinkSeen) → new.plan ≡ old.plan → progress new ≡ progress old → Finishes e (count_text new.plan new.kept) (record { kept = new.kept; skipped = new.skipped }) r q

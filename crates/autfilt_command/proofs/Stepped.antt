@@ -1,24 +1,26 @@
 -- What a turn of a session is as an event of the run.
-use Rattle.std.proofs.Common.{◌≡◌, ℕ, ◌+◌, ◌≤◌, List, [], Option, Some, sym, ap, ◌∙◌, subst}
+use Rattle.std.proofs.Common.{◌≡◌, ℕ, ◌+◌, ◌≤◌, true, List, [], Option, Some, sym, ap, ◌∙◌, subst}
 use Rattle.aut_base.specs.declared.limit.TheConstants.{MOST_BYTES}
 use Rattle.aut_io.specs.Outside.{Gains, Texts}
 use Rattle.aut_io.specs.Seen.{Seen, SinkSeen}
-use Rattle.autfilt_command.proofs.Stepping.{GoesOn, ReadsOnAs, ends_stream, is_open, name_as, opens_stream, reads_on}
+use Rattle.autfilt_command.proofs.Stepping.{GoesOn, goes_on, opens_next}
 use Rattle.autfilt_command.specs.Run.{AreCalm}
-use Rattle.autfilt_command.specs.inner.Running.{StandsAt}
 use Rattle.autfilt_run.proofs.Gains.{nothing}
-use Rattle.autfilt_run.specs.Events.{Dropped, Ended, Event, Goes, IsGood, IsJudged, Kept, Opened, Point, ReadsOn, Skipped, Stream, Tally, counted, written_of}
-use Rattle.autfilt_run.specs.Plans.{name_at, streams_of}
+use Rattle.autfilt_run.proofs.Preparing.{taken_few}
+use Rattle.autfilt_run.proofs.Stepping.{KeepsOn, ends_stream, is_open, name_as, reads_on}
+use Rattle.autfilt_run.specs.Events.{Dropped, EndsStream, Ended, Event, Goes, IsGood, IsJudged, Kept, Opened, Point, ReadsOn, Skipped, Stream, Tally, counted, written_of}
+use Rattle.autfilt_run.specs.Points.{StandsAt, name_in, operands_in}
 use Rattle.autfilt_run.specs.Turns as turns
 use Rattle.autfilt_run.specs.Turns.{Progress, after, progress}
 use Rattle.autfilt_run.specs.declared.session.Session.{Session}
 use Rattle.autfilt_run.specs.declared.session.Turn.TheVariants as turn
-use Rattle.hoa_lexer.specs.Moves.{Elsewhere}
+use Rattle.hoa_lexer.specs.Moves.{Elsewhere, Moves}
+use Rattle.hoa_lexer.specs.Reading.{Between}
 use Rattle.hoa_parser.specs.Standing.{Aborted, Stands}
 
 -- A step of a session was this event.
 pub record Stepped (event : Event) (old new : Session) (m t : Seen) (p q : SinkSeen) : Type 0 where
-  pub judged : IsJudged old.plan event
+  pub judged : IsJudged old.plan (operands_in old) event
   pub goes : (texts : Texts) → m.texts ≡ Some texts → (at : Point) → StandsAt old m.left at → GoesOn (λ x. Goes texts event at x) new t.left
   pub gains : Gains p.written q.written (written_of event)
   pub tallied : counted (record { kept = old.kept; skipped = old.skipped }) event ≡ record { kept = new.kept; skipped = new.skipped }
@@ -31,8 +33,8 @@ pub record StepsAs (old new : Session) : Type 0 where
   pub most : new.lexer.most ≡ MOST_BYTES
   pub few : new.lexer.taken ≤ MOST_BYTES
 
-pub steps_as : (old new : Session) → new.plan ≡ old.plan → new.lexer.most ≡ MOST_BYTES → new.lexer.taken ≤ new.lexer.most → StepsAs old new
-steps_as old new plan most within = record { plan = plan; most = most; few = subst (λ (n : ℕ). new.lexer.taken ≤ n) most within }
+pub steps_as : (old new : Session) → new.plan ≡ old.plan → StepsAs old new
+steps_as old new plan = record { plan = plan; most = new.most_is; few = taken_few new }
 
 still_gains : (p q : SinkSeen) → q ≡ p → Gains p.written q.written []
 still_gains p q same = subst (λ (x : SinkSeen). Gains p.written x.written []) (sym same) (nothing p.written)
@@ -41,13 +43,13 @@ still_writes : (p q : SinkSeen) → q ≡ p → q.faults ≡ p.faults
 still_writes p q same = ap (λ (x : SinkSeen). x.faults) same
 
 -- the parts of what a session has done
-record IsAfter (new : Session) (a : Progress) : Type 0 where
-  opened : new.opened ≡ a.opened
-  is_open : new.is_open ≡ a.is_open
-  kept : new.kept ≡ a.kept
-  skipped : new.skipped ≡ a.skipped
+pub record IsAfter (new : Session) (a : Progress) : Type 0 where
+  pub opened : new.opened ≡ a.opened
+  pub is_open : new.is_open ≡ a.is_open
+  pub kept : new.kept ≡ a.kept
+  pub skipped : new.skipped ≡ a.skipped
 
-parts_of : (new : Session) (a : Progress) → progress new ≡ a → IsAfter new a
+pub parts_of : (new : Session) (a : Progress) → progress new ≡ a → IsAfter new a
 parts_of new a e = record {
   opened = ap (λ (x : Progress). x.opened) e;
   is_open = ap (λ (x : Progress). x.is_open) e;
@@ -61,18 +63,24 @@ tally_of kept skipped = record { kept = kept; skipped = skipped }
 tally_as : (k s k' s' : ℕ) → k' ≡ k → s' ≡ s → tally_of k s ≡ tally_of k' s'
 tally_as k s k' s' a b = ap (λ (x : ℕ). tally_of x s) (sym a) ∙ ap (λ (x : ℕ). tally_of k' x) (sym b)
 
-keeps_on : (old new : Session) → StepsAs old new → new.opened ≡ old.opened → new.tried ≡ old.tried → ReadsOnAs old new
-keeps_on old new steady opened tried = record { plan = steady.plan; opened = opened; tried = tried; few = steady.few }
+pub keeps_on : (old new : Session) → StepsAs old new → new.tried ≡ old.tried → KeepsOn old new
+keeps_on old new steady tried = record { plan = steady.plan; tried = tried; few = steady.few }
+
+-- more of the open stream is read
+pub reads_more : (R : ℕ → List ℕ → List ℕ → Type 0) (old new : Session) (m t : Seen) (at : Point) → StepsAs old new → StandsAt old m.left at → old.is_open ≡ true → new.is_open ≡ old.is_open → new.opened ≡ old.opened → new.tried ≡ old.tried
+    → Between m.left t.left (R old.lexer.since) → Moves Elsewhere old.lexer new.lexer m t → GoesOn (λ x. ReadsOn at R new.kept x) new t.left
+reads_more R old new m t at steady stands opened_so open_still opened tried read moves =
+    goes_on (λ x. ReadsOn at R new.kept x) old new m.left t.left at steady.plan opened stands (reads_on R old new m t at Elsewhere stands.at opened_so (open_still ∙ opened_so) read moves (keeps_on old new steady tried))
 
 kept_at : (old new : Session) (left : Option (List ℕ)) (at : Point) (P : ℕ → Type 0) → StandsAt old left at → new.kept ≡ old.kept → P new.kept → P at.kept
-kept_at old new left at P stands same h = subst P (same ∙ sym stands.kept) h
+kept_at old new left at P stands same h = subst P (same ∙ sym stands.at.kept) h
 
 pub opened : (old new : Session) (m t : Seen) (p q : SinkSeen) → StepsAs old new → progress new ≡ after turn.Opened (progress old) → (h : turns.Turns turn.Opened old new m t p q) → Stepped (Opened h.name) old new m t p q
 opened old new m t p q steady done h =
     let x = parts_of new (after turn.Opened (progress old)) done in
     record {
       judged = tt;
-      goes = λ texts told at stands. opens_stream texts old new m t at h.name told stands h.opening h.opens h.begins h.in_hand steady.plan x.opened x.is_open x.kept;
+      goes = λ texts told at stands. opens_next texts old new m t at h.name told stands h.opening h.opens h.begins h.in_hand steady.plan x.opened x.is_open x.kept;
       gains = still_gains p q h.output;
       tallied = tally_as old.kept old.skipped new.kept new.skipped x.kept x.skipped;
       calm = record { opens = h.opens.calm; reads = h.opens.reads; writes = still_writes p q h.output };
@@ -84,7 +92,8 @@ ended old new m t p q steady done h =
     let x = parts_of new (after turn.StreamEnd (progress old)) done in
     record {
       judged = tt;
-      goes = λ texts told at stands. ends_stream old new m t at stands h.reading.is_open x.is_open x.kept h.read h.moves steady.most (keeps_on old new steady x.opened h.in_hand);
+      goes = λ texts told at stands.
+          goes_on (λ y. EndsStream at y) old new m.left t.left at steady.plan x.opened stands (ends_stream old new m t at stands.at h.reading.is_open x.is_open x.kept h.read h.moves steady.most (keeps_on old new steady h.in_hand));
       gains = still_gains p q h.output;
       tallied = tally_as old.kept old.skipped new.kept new.skipped x.kept x.skipped;
       calm = record { opens = h.moves.opens; reads = h.moves.reads; writes = still_writes p q h.output };
@@ -97,7 +106,7 @@ dropped old new m t p q steady done h =
     record {
       judged = h.dropped;
       goes = λ texts told at stands.
-          let on = reads_on (λ start rest next. IsGood start rest h.automaton next) old new m t at Elsewhere stands h.reads.reading.is_open (x.is_open ∙ h.reads.reading.is_open) h.reads.read h.reads.moves (keeps_on old new steady x.opened h.reads.in_hand) in
+          let on = reads_more (λ start rest next. IsGood start rest h.automaton next) old new m t at steady stands h.reads.reading.is_open x.is_open x.opened h.reads.in_hand h.reads.read h.reads.moves in
           record {
             point = on.point;
             goes = kept_at old new m.left at (λ (k : ℕ). ReadsOn at (λ start rest next. IsGood start rest h.automaton next) k on.point) stands x.kept on.goes;
@@ -115,10 +124,10 @@ kept old new m t p q steady done h =
     record {
       judged = (h.kept, h.due);
       goes = λ texts told at stands.
-          let on = reads_on (λ start rest next. IsGood start rest h.automaton next) old new m t at Elsewhere stands h.reading.is_open (x.is_open ∙ h.reading.is_open) h.read h.moves (keeps_on old new steady x.opened h.in_hand) in
+          let on = reads_more (λ start rest next. IsGood start rest h.automaton next) old new m t at steady stands h.reading.is_open x.is_open x.opened h.in_hand h.read h.moves in
           record {
             point = on.point;
-            goes = subst (λ (k : ℕ). ReadsOn at (λ start rest next. IsGood start rest h.automaton next) k on.point) (x.kept ∙ ap (λ (k : ℕ). k + 1) (sym stands.kept)) on.goes;
+            goes = subst (λ (k : ℕ). ReadsOn at (λ start rest next. IsGood start rest h.automaton next) k on.point) (x.kept ∙ ap (λ (k : ℕ). k + 1) (sym stands.at.kept)) on.goes;
             stands = on.stands;
           };
       gains = h.gains;
@@ -132,15 +141,15 @@ same_name o a b e f = let same : Some a ≡ Some b = sym e ∙ f in let one : a 
 
 -- the one that was skipped is of the stream whose name is in hand
 pub skipped : (old new : Session) (m t : Seen) (p q : SinkSeen) → StepsAs old new → progress new ≡ after turn.Skipped (progress old) → turns.Turns turn.Skipped old new m t p q
-    → Stepped (Skipped (name_at (streams_of new.plan) new.tried)) old new m t p q
+    → Stepped (Skipped (name_in new)) old new m t p q
 skipped old new m t p q steady done h =
     let x = parts_of new (after turn.Skipped (progress old)) done in
     record {
       judged = tt;
       goes = λ texts told at stands.
-          let on = reads_on (λ start rest next. Stands (Aborted next) start rest) old new m t at Elsewhere stands h.reading.is_open (x.is_open ∙ h.reading.is_open) h.read h.moves (keeps_on old new steady x.opened h.in_hand) in
+          let on = reads_more (λ start rest next. Stands (Aborted next) start rest) old new m t at steady stands h.reading.is_open x.is_open x.opened h.in_hand h.read h.moves in
           let reads = kept_at old new m.left at (λ (k : ℕ). ReadsOn at (λ start rest next. Stands (Aborted next) start rest) k on.point) stands x.kept on.goes in
-          let there = is_open old m.left at stands h.reading.is_open in
+          let there = is_open old m.left at stands.at h.reading.is_open in
           record {
             point = on.point;
             goes = record { reads = reads; named = same_name at.stream reads.stream there.stream reads.is_open there.is ∙ sym there.named ∙ sym (name_as old new steady.plan h.in_hand) };

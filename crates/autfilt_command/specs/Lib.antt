@@ -1,6 +1,5 @@
 pub mod Asked
 pub mod Ends
-pub mod Laws
 pub mod Noted
 pub mod Notes
 pub mod Run

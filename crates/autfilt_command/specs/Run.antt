@@ -1,5 +1,6 @@
 -- The run of autfilt: what was read of the streams and written, and what ended it.
-use Rattle.std.specs.Prelude.{◌≡◌, ℕ, ◌==◌, ◌⊎◌, if◌then◌else◌, List, [], ◌∷◌, ◌++◌, flat_map, take, Option, Some, None}
+use Rattle.std.specs.Prelude.{◌≡◌, ◌≢◌, ℕ, ◌==◌, ◌⊎◌, if◌then◌else◌, List, [], ◌∷◌, ◌++◌, length, flat_map, take, Option, Some, None}
+use Rattle.aut_base.specs.Automaton.{Automaton}
 use Rattle.aut_io.specs.Outside.{Gains, Rose, Texts}
 use Rattle.aut_io.specs.Seen.{Seen, SinkSeen}
 use Rattle.autfilt_command.specs.Asked.{AreRefused, AsksFor}
@@ -10,11 +11,14 @@ use Rattle.autfilt_command.specs.declared.ended.End.{End}
 use Rattle.autfilt_command.specs.declared.ended.End.TheVariants as end
 use Rattle.autfilt_command.specs.declared.ended.Ended.{Ended}
 use Rattle.autfilt_command.specs.declared.ended.Ended.TheVariants as ended
-use Rattle.autfilt_run.specs.Events.{AreJudged, Event, Happen, Kept, Point, Skipped, Tally, all_written, start_of, tally}
+use Rattle.autfilt_run.specs.Events.{AreJudged, Event, Happen, Kept, Point, Skipped, Tally, all_written, start_of, tally, tally_from}
 use Rattle.autfilt_run.specs.Made.{seen_of_made}
-use Rattle.autfilt_run.specs.Plans.{count_text}
-use Rattle.autfilt_run.specs.Runs.{IsCounted, IsDone, Stops}
-use Rattle.autfilt_run.specs.declared.fault.RunFault.TheVariants as fault
+use Rattle.autfilt_run.specs.Operands.{AreRead, OperandEvent, all_passed, operands_of}
+use Rattle.autfilt_run.specs.Plans.{count_text, streams_of}
+use Rattle.autfilt_run.specs.Runs.{IsCounted, IsDone, Stops, StopsInOperands}
+use Rattle.autfilt_run.specs.declared.fault.RunFault.{RunFault}
+use Rattle.autfilt_run.specs.declared.fault.RunFault.TheVariants as run
+use Rattle.filter_plan.specs.Words.{operands}
 use Rattle.filter_plan.specs.declared.plan.Plan.{Plan}
 use Rattle.hoa_parser.specs.Raw.{Written}
 
@@ -28,29 +32,52 @@ noted _ = []
 abbrev pub all_noted : List Event → List ℕ
 all_noted = flat_map noted
 
+-- of the operands: a line about each that is passed over
+abbrev pub passed_noted : List (List ℕ) → List ℕ
+passed_noted = flat_map aborted_line
+
 -- ---- how a run ends
 
 -- how a run ends that read all
 abbrev pub end_of : Tally → End
 end_of t = if t.skipped == 0 then (if t.kept == 0 then end.NoneOutput else end.Output) else end.Aborts
 
+-- the tally of a run before whose streams so many automata were passed over
+abbrev pub tally_after : ℕ → List Event → Tally
+tally_after passed events = tally_from (record { kept = 0; skipped = passed }) events
+
 -- Where all was read, how many automata were kept and skipped tell the end.
-abbrev pub EndsByTally : End → List Event → Type 0
-EndsByTally (end.Fault f) events = Unit {0}
-EndsByTally end.Usage events = ⊥
-EndsByTally e events = e ≡ end_of (tally events)
+abbrev pub EndsByTally : End → ℕ → List Event → Type 0
+EndsByTally (end.Fault f) passed events = Unit {0}
+EndsByTally end.Usage passed events = ⊥
+EndsByTally e passed events = e ≡ end_of (tally_after passed events)
 
 -- Where the run stands at its end, and what is left in the inputs. `name` is the name in hand.
-abbrev pub EndsAt : Plan → End → List ℕ → Point → Option (List ℕ) → Type 0
-EndsAt plan (end.Fault f) name p left = Stops plan f name p left × IsCounted f p left
-EndsAt plan end.Usage name p left = ⊥
-EndsAt plan e name p left = IsDone plan p × (left ≡ p.left)
+abbrev pub EndsAt : Plan → List Automaton → End → List ℕ → Point → Option (List ℕ) → Type 0
+EndsAt plan ops (end.Fault f) name p left = Stops plan ops f name p left × IsCounted f p left
+EndsAt plan ops end.Usage name p left = ⊥
+EndsAt plan ops e name p left = IsDone plan p × (left ≡ p.left)
 
--- The events happened over these texts, of inputs that had this much left, and the run ended so.
-pub record RunsTo (plan : Plan) (texts : Texts) (left left' : Option (List ℕ)) (events : List Event) (e : End) (name : List ℕ) : Type 0 where
+-- The events happened over these texts, from this point on, and the run ended so.
+pub record RunsTo (plan : Plan) (ops : List Automaton) (texts : Texts) (first : Point) (left' : Option (List ℕ)) (events : List Event) (e : End) (name : List ℕ) : Type 0 where
   pub point : Point
-  pub happen : Happen plan texts events (start_of plan left) point
-  pub ends : EndsAt plan e name point left'
+  pub happen : Happen plan texts events first point
+  pub ends : EndsAt plan ops e name point left'
+
+-- ---- the operands
+
+-- The operands of the plan were read over these texts, and the run stands here.
+pub record AreAllRead (plan : Plan) (texts : Texts) (left : Option (List ℕ)) (taken : List OperandEvent) (p : Point) : Type 0 where
+  pub read : AreRead texts taken (start_of (operands plan) left 0) p
+  pub none_coming : p.coming ≡ []
+  pub none_open : p.stream ≡ None
+
+-- A fault ended the run while operands were read.
+pub record EndsInOperands (plan : Plan) (texts : Texts) (left left' : Option (List ℕ)) (taken : List OperandEvent) (f : RunFault) (name : List ℕ) : Type 0 where
+  pub point : Point
+  pub read : AreRead texts taken (start_of (operands plan) left 0) point
+  pub stops : StopsInOperands f name point left'
+  pub counted : IsCounted f point left'
 
 -- ---- what is written
 
@@ -70,32 +97,53 @@ pub record BreaksOffCount (plan : Plan) (events : List Event) (written written' 
 
 -- what was written of the events that happened where the run ended so
 abbrev pub Prints : Plan → End → List Event → Option (List ℕ) → Option (List ℕ) → Type 0
-Prints plan (end.Fault fault.WriteFault) events written written' = BreaksOff events written written' ⊎ BreaksOffCount plan events written written'
+Prints plan (end.Fault run.WriteFault) events written written' = BreaksOff events written written' ⊎ BreaksOffCount plan events written written'
 Prints plan (end.Fault f) events written written' = Gains written written' (all_written events)
 Prints plan e events written written' = Gains written written' (all_written events ++ count_text plan (tally events).kept)
 
--- A run that ended so.
-pub record Runs (plan : Plan) (e : End) (events : List Event) (name : List ℕ) (seen seen' : Seen) (out out' : SinkSeen) : Type 0 where
+-- The streams of a plan were read, whose operands these are, and the run ended so. So many bytes were taken before.
+pub record Runs (plan : Plan) (ops : List Automaton) (passed before : ℕ) (e : End) (events : List Event) (name : List ℕ) (seen seen' : Seen) (out out' : SinkSeen) : Type 0 where
   -- each automaton was kept or dropped by its verdict, and the text that is written is the one that is due
-  pub judged : AreJudged plan events
+  pub judged : AreJudged plan ops events
   -- the events happened, and what stands behind them ended the run, where the inputs tell their texts
-  pub happened : (texts : Texts) → seen.texts ≡ Some texts → RunsTo plan texts seen.left seen'.left events e name
-  pub tallied : EndsByTally e events
+  pub happened : (texts : Texts) → seen.texts ≡ Some texts → RunsTo plan ops texts (start_of (streams_of plan) seen.left before) seen'.left events e name
+  pub tallied : EndsByTally e passed events
   pub prints : Prints plan e events out.written out'.written
 
 -- The run over the generated stream, which leaves the inputs as they were.
-pub record RunsOverMade (n : ℕ) (plan : Plan) (e : End) (events : List Event) (name : List ℕ) (seen seen' : Seen) (out out' : SinkSeen) : Type 0 where
+pub record RunsOverMade (n : ℕ) (plan : Plan) (ops : List Automaton) (passed before : ℕ) (e : End) (events : List Event) (name : List ℕ) (seen seen' : Seen) (out out' : SinkSeen) : Type 0 where
   pub untouched : seen' ≡ seen
   pub made : Seen
-  pub runs : Runs plan e events name (seen_of_made (record { count = n; left = [] })) made out out'
+  pub runs : Runs plan ops passed before e events name (seen_of_made (record { count = n; left = [] })) made out out'
 
 -- the run over the streams of the inputs, or over the generated one
-abbrev pub RunsOverAs : Option ℕ → Plan → End → List Event → List ℕ → Seen → Seen → SinkSeen → SinkSeen → Type 0
-RunsOverAs None plan e events name seen seen' out out' = Runs plan e events name seen seen' out out'
-RunsOverAs (Some n) plan e events name seen seen' out out' = RunsOverMade n plan e events name seen seen' out out'
+abbrev pub RunsOverAs : Option ℕ → Plan → List Automaton → ℕ → ℕ → End → List Event → List ℕ → Seen → Seen → SinkSeen → SinkSeen → Type 0
+RunsOverAs None plan ops passed before e events name seen seen' out out' = Runs plan ops passed before e events name seen seen' out out'
+RunsOverAs (Some n) plan ops passed before e events name seen seen' out out' = RunsOverMade n plan ops passed before e events name seen seen' out out'
 
-abbrev pub RunsOver : Plan → End → List Event → List ℕ → Seen → Seen → SinkSeen → SinkSeen → Type 0
-RunsOver plan = RunsOverAs plan.made plan
+-- All operands of the plan were read, of the inputs as they were before, and then its streams.
+pub record GoesOverAll (plan : Plan) (e : End) (taken : List OperandEvent) (events : List Event) (name : List ℕ) (seen seen' : Seen) (out out' : SinkSeen) : Type 0 where
+  -- the inputs between
+  pub mid : Seen
+  pub before : ℕ
+  pub number : length (operands_of taken) ≡ length (operands plan)
+  pub prepared : (texts : Texts) → seen.texts ≡ Some texts → (p : Point) × AreAllRead plan texts seen.left taken p × (p.left ≡ mid.left) × (p.before ≡ before)
+  pub texts : mid.texts ≡ seen.texts
+  pub runs : RunsOverAs plan.made plan (operands_of taken) (length (all_passed taken)) before e events name mid seen' out out'
+
+-- A fault ended the run while operands were read. Nothing was written.
+pub record FailsInOperands (plan : Plan) (e : End) (taken : List OperandEvent) (events : List Event) (name : List ℕ) (seen seen' : Seen) (out out' : SinkSeen) : Type 0 where
+  pub fault : RunFault
+  pub ends : e ≡ end.Fault fault
+  pub no_write : fault ≢ run.WriteFault
+  pub happened : (texts : Texts) → seen.texts ≡ Some texts → EndsInOperands plan texts seen.left seen'.left taken fault name
+  pub none : events ≡ []
+  pub output : out' ≡ out
+
+-- A run of a plan.
+abbrev pub RunsOver : Plan → End → List OperandEvent → List Event → List ℕ → Seen → Seen → SinkSeen → SinkSeen → Type 0
+RunsOver plan e taken events name seen seen' out out' =
+    FailsInOperands plan e taken events name seen seen' out out' ⊎ GoesOverAll plan e taken events name seen seen' out out'
 
 -- ---- the answer
 
@@ -103,11 +151,12 @@ RunsOver plan = RunsOverAs plan.made plan
 pub record EndsBy (words : List (List ℕ)) (result : Ended) (seen seen' : Seen) (out out' notes notes' : SinkSeen) : Type 0 where
   pub end : End
   pub shown : result ≡ ended_of end
+  pub taken : List OperandEvent
   pub events : List Event
   pub name : List ℕ
-  pub refused : AreRefused words → events ≡ []
-  pub runs : (plan : Plan) → AsksFor words plan → (p : Plan) × AsksFor words p × RunsOver p end events name seen seen' out out'
-  pub noted : Notes (all_noted events ++ line_of end name) notes notes'
+  pub refused : AreRefused words → (taken ≡ []) × (events ≡ [])
+  pub runs : (plan : Plan) → AsksFor words plan → (p : Plan) × AsksFor words p × RunsOver p end taken events name seen seen' out out'
+  pub noted : Notes (passed_noted (all_passed taken) ++ (all_noted events ++ line_of end name)) notes notes'
 
 -- the counts of the outside stand
 pub record AreCalm (seen seen' : Seen) (out out' : SinkSeen) : Type 0 where

@@ -2,9 +2,9 @@
 
 ghost use Rattle.std.specs.Prelude.{◌≡◌, ◌↔◌, IfOk, IsErrOf, IsTrue};
 ghost use Rattle.autfilt_command.specs.Asked.{AreRefused, AsksFor};
-ghost use Rattle.autfilt_run.specs.Built.{IsBuilt, compares, is_own};
-ghost use Rattle.filter_plan.specs.Words.{changes, has_form};
+ghost use Rattle.autfilt_run.specs.Built.{IsBuilt, asks_more, is_own};
 ghost use Rattle.filter_plan.specs.declared.fault.UsageFault.{UsageFault};
+ghost use Rattle.plan_meaning.specs.Changes.{is_built};
 
 use aut_base::Words;
 use filter_plan::{Form, Output, Plan, UsageFault, one_plan, read_plan};
@@ -28,40 +28,25 @@ pub(crate) fn read_words(alloc: Global, words: &Words) -> Result<Plan, UsageFaul
 fn is_built(plan: &Plan) -> bool
     ensures { IsTrue result ↔ IsBuilt plan.now }
 {
-    !compares(plan) && !changes_automata(plan) && is_own(&plan.output)
+    !asks_more(plan) && is_built_form(plan.form) && is_own(&plan.output)
 }
 
-/// Whether automata are compared with words or with others, or judged by their runs.
-fn compares(plan: &Plan) -> bool
-    ensures { result ≡ compares plan.now }
+/// Whether automata are compared with others, judged by their runs, complemented, or a proposition is hidden.
+fn asks_more(plan: &Plan) -> bool
+    ensures { result ≡ asks_more plan.now }
 {
-    plan.accept_word.is_some()
-        || plan.reject_word.is_some()
-        || plan.included_in.is_some()
+    plan.included_in.is_some()
         || plan.equivalent_to.is_some()
-        || plan.intersect.is_some()
         || plan.is_unambiguous
-}
-
-/// Whether automata are changed before they are printed.
-fn changes_automata(plan: &Plan) -> bool
-    ensures { result ≡ changes plan.now }
-{
-    plan.product.is_some()
-        || plan.product_or.is_some()
-        || plan.sum.is_some()
         || plan.remove_ap.is_some()
-        || plan.trim
         || plan.complement
-        || is_form(plan.form)
-        || plan.complete
 }
 
-/// Whether it is a form to bring an automaton into.
-fn is_form(form: Form) -> bool
-    ensures { result ≡ has_form form }
+/// Whether the form is one that is built.
+fn is_built_form(form: Form) -> bool
+    ensures { result ≡ is_built form }
 {
-    !matches!(form, Form::AsIs)
+    matches!(form, Form::AsIs | Form::Buchi | Form::RemoveFin | Form::Dnf)
 }
 
 /// Whether what is printed is about the automaton alone.

@@ -3,11 +3,12 @@
 ghost use Rattle.std.specs.Prelude.{◌≡◌, ◌⊎◌, All};
 ghost use Rattle.autfilt_command.specs.Asked.{AreRefused, AsksFor, names_opened};
 ghost use Rattle.autfilt_command.specs.Run.{EndsBecause, EndsBy, end_of};
-ghost use Rattle.autfilt_command.specs.inner.Running.{Carries, Finishes, IsFresh};
+ghost use Rattle.autfilt_command.specs.inner.Running.{Carries, Finishes, IsFresh, IsNew, Preparing};
 ghost use Rattle.autfilt_command.specs.declared.ended.Ended.{Ended};
-ghost use Rattle.autfilt_run.specs.Built.{IsBuilt};
-ghost use Rattle.autfilt_run.specs.Plans.{count_text, name_at, streams_of};
+ghost use Rattle.autfilt_run.specs.Plans.{count_text, streams_of};
+ghost use Rattle.autfilt_run.specs.Points.{name_in};
 ghost use Rattle.autfilt_run.specs.declared.session.Stage.{Stage};
+ghost use Rattle.filter_plan.specs.Words.{operands};
 ghost use Rattle.filter_plan.specs.declared.plan.Plan.{Plan};
 
 use crate::asked::read_words;
@@ -15,43 +16,50 @@ use crate::ended::{End, Ended};
 use crate::notes::{note_end, note_skipped};
 use aut_base::Words;
 use aut_io::{Inputs, Sink};
-use autfilt_run::{Made, RunFault, Session, Turn};
+use autfilt_run::{Made, Prep, RunFault, Session, Turn};
 use filter_plan::{Plan, UsageFault};
 use std::alloc::Global;
 
-/// Carries out a plan over inputs, and notes what is skipped, and the end.
-fn carry_out<I: Inputs, W: Sink, M: Sink>(
+/// Prepares a session, and notes the operands' automata that are passed over. Answers whether notes are taken still, or how
+/// the run ended.
+fn prepare<I: Inputs, M: Sink>(
     alloc: Global,
-    plan: Plan,
+    session: &mut Session,
     inputs: &mut I,
-    out: &mut W,
     notes: &mut M,
-) -> End
-    requires built { IsBuilt plan }
-    requires names { All I.may_open (streams_of plan) }
-    ensures { Carries plan result (I.seen inputs.old) (I.seen inputs.new) (W.seen out.old) (W.seen out.new) (M.seen notes.old) (M.seen notes.new) }
+) -> Result<bool, End>
+    requires new { IsNew session.old }
+    requires names { All I.may_open (operands session.old.plan) }
+    ensures { Preparing result session.old.plan session.new (I.seen inputs.old) (I.seen inputs.new) (M.seen notes.old) (M.seen notes.new) }
 {
-    let mut session = Session::new(plan);
-    match session.prepare(alloc, inputs) {
-        Ok(_) => take_steps(alloc, session, inputs, out, notes),
-        Err(fault) => note_end(notes, true, b"", End::Fault(fault)),
+    let mut noting = true;
+    'operands: loop {
+        match session.prepare(alloc, inputs) {
+            Ok(Prep::Ready) => return Ok(noting),
+            Ok(Prep::Skipped) => noting = note_skipped(notes, noting, session.name_in_hand()),
+            Err(fault) => {
+                let name = session.name_in_hand();
+                return Err(note_end(notes, noting, name, End::Fault(fault)));
+            }
+        }
     }
 }
 
-/// Takes the steps of a session until it is done.
+/// Takes the steps of a session until it is done. Notes are taken where they were before.
 fn take_steps<I: Inputs, W: Sink, M: Sink>(
     alloc: Global,
     session: Session,
+    noting: bool,
     inputs: &mut I,
     out: &mut W,
     notes: &mut M,
 ) -> End
     requires begun { IsFresh session }
     requires names { All I.may_open (streams_of session.plan) }
-    ensures { Carries session.plan result (I.seen inputs.old) (I.seen inputs.new) (W.seen out.old) (W.seen out.new) (M.seen notes.old) (M.seen notes.new) }
+    ensures { Carries session noting result (I.seen inputs.old) (I.seen inputs.new) (W.seen out.old) (W.seen out.new) (M.seen notes.old) (M.seen notes.new) }
 {
     let mut session = session;
-    let mut noting = true;
+    let mut noting = noting;
     'steps: loop {
         match session.step(alloc, inputs, out) {
             Ok(Turn::Done) => {
@@ -74,7 +82,7 @@ fn take_steps<I: Inputs, W: Sink, M: Sink>(
 fn finish<W: Sink>(session: &mut Session, out: &mut W) -> End
     requires { session.old.stage ≡ Stage.Done }
     ensures finishes { Finishes result (count_text session.old.plan session.old.kept) (record { kept = session.old.kept; skipped = session.old.skipped }) (W.seen out.old) (W.seen out.new) }
-    ensures same { name_at (streams_of session.new.plan) session.new.tried ≡ name_at (streams_of session.old.plan) session.old.tried }
+    ensures same { name_in session.new ≡ name_in session.old }
 {
     match session.finish(out) {
         Ok(()) => end_of(session),
@@ -95,9 +103,10 @@ fn end_of(session: &Session) -> End
     }
 }
 
-/// Reads the words of the command line after the program's name and does what they ask for: reads automata from the streams,
-/// judges each, and writes the canonical text of those that are kept, or how many they are. Automata that `--ABORT--`
-/// abandons are skipped, with a line in `notes` each. One line about a fault goes there, too.
+/// Reads the words of the command line after the program's name and does what they ask for: reads the operands, and then
+/// automata from the streams; judges each, and writes the canonical text of what is made of those that are kept, a line of
+/// figures of it, or how many they are. Automata that `--ABORT--` abandons are skipped, with a line in `notes` each. One line
+/// about a fault goes there, too.
 pub fn autfilt<I: Inputs, W: Sink, M: Sink>(
     alloc: Global,
     words: &Words,
@@ -105,7 +114,7 @@ pub fn autfilt<I: Inputs, W: Sink, M: Sink>(
     out: &mut W,
     notes: &mut M,
 ) -> Ended
-    // No other name is opened than those of the plan's streams.
+    // No other name is opened than those of the plan's operands and streams.
     requires { (plan : Plan) → AsksFor words.now plan → All I.may_open (names_opened plan) }
 
     // What was read, what was written and noted of it and what ended the run.
@@ -127,11 +136,17 @@ pub fn autfilt<I: Inputs, W: Sink, M: Sink>(
             return Ended::from(note_end(notes, true, b"", End::Fault(RunFault::Memory)));
         }
     };
-    match plan.made {
-        None => Ended::from(carry_out(alloc, plan, inputs, out, notes)),
+    let made = plan.made;
+    let mut session = Session::new(alloc, plan);
+    let noting = match prepare(alloc, &mut session, inputs, notes) {
+        Ok(noting) => noting,
+        Err(end) => return Ended::from(end),
+    };
+    match made {
+        None => Ended::from(take_steps(alloc, session, noting, inputs, out, notes)),
         Some(count) => {
             let mut made = Made::new(count);
-            Ended::from(carry_out(alloc, plan, &mut made, out, notes))
+            Ended::from(take_steps(alloc, session, noting, &mut made, out, notes))
         }
     }
 }

@@ -1,20 +1,83 @@
 -- How far a run has come.
-use Rattle.std.specs.Prelude.{◌≡◌, ◌≢◌, ◌⊎◌, ℕ, ◌+◌, ◌++◌, Bool, true, false, List, length, drop, Option, Some, None}
-use Rattle.aut_base.specs.declared.limit.TheConstants.{MOST_BYTES}
+use Rattle.std.specs.Prelude.{◌≡◌, ◌≢◌, ◌⊎◌, ℕ, ◌++◌, Bool, false, List, [], length, Option, Some, Result, Ok, Err}
 use Rattle.aut_io.specs.Outside.{Gains, GainsPrefix, Rose, Texts}
 use Rattle.aut_io.specs.Seen.{Seen, SinkSeen}
 use Rattle.autfilt_command.specs.Ends.{ended_of}
 use Rattle.autfilt_command.specs.Noted.{HasNoted, Notes}
 use Rattle.autfilt_command.specs.Notes.{line_of}
-use Rattle.autfilt_command.specs.Run.{AreCalm, EndsBecause, Runs, all_noted, end_of}
+use Rattle.autfilt_command.specs.Run.{AreCalm, EndsBecause, EndsInOperands, Runs, all_noted, end_of, passed_noted, tally_after}
 use Rattle.autfilt_command.specs.declared.ended.End.{End}
 use Rattle.autfilt_command.specs.declared.ended.End.TheVariants as end
-use Rattle.autfilt_run.specs.Events.{AreJudged, Event, Happen, Point, Stream, Tally, all_written, start_of, tally}
-use Rattle.autfilt_run.specs.Plans.{name_at, streams_of}
-use Rattle.autfilt_run.specs.declared.fault.RunFault.TheVariants as fault
+use Rattle.autfilt_run.specs.Events.{AreJudged, Event, Happen, Point, Tally, all_written, start_of}
+use Rattle.autfilt_run.specs.Operands.{AreRead, OperandEvent, all_passed, operands_of}
+use Rattle.autfilt_run.specs.Plans.{streams_of}
+use Rattle.autfilt_run.specs.Points.{StandsAt, StandsIn, operands_in}
+use Rattle.autfilt_run.specs.Preparing.{CountsAt}
+use Rattle.autfilt_run.specs.declared.fault.RunFault.{RunFault}
+use Rattle.autfilt_run.specs.declared.fault.RunFault.TheVariants as run
 use Rattle.autfilt_run.specs.declared.session.Session.{Session}
-use Rattle.autfilt_run.specs.declared.session.Stage.TheVariants.{Prepared}
+use Rattle.autfilt_run.specs.declared.session.Stage.TheVariants.{New, Prepared}
+use Rattle.filter_plan.specs.Words.{operands}
 use Rattle.filter_plan.specs.declared.plan.Plan.{Plan}
+
+-- the counts of the inputs stand
+pub record AreCalmInputs (seen seen' : Seen) : Type 0 where
+  pub opens : seen'.open_faults ≡ seen.open_faults
+  pub reads : seen'.read_faults ≡ seen.read_faults
+
+-- ---- before the streams
+
+-- a session that nothing was done with
+pub record IsNew (s : Session) : Type 0 where
+  pub stage : s.stage ≡ New
+  pub opened : s.opened ≡ 0
+  pub is_closed : s.is_open ≡ false
+  pub none : s.operands ≡ []
+  pub kept : s.kept ≡ 0
+  pub skipped : s.skipped ≡ 0
+  pub taken : s.lexer.taken ≡ 0
+
+-- Operands of the plan were read, and those that were passed over were noted.
+pub record HasPrepared (plan : Plan) (s : Session) (seen seen' : Seen) (notes notes' : SinkSeen) (noting : Bool) : Type 0 where
+  pub taken : List OperandEvent
+  pub same_plan : s.plan ≡ plan
+  pub operands_are : operands_in s ≡ operands_of taken
+  pub skipped : s.skipped ≡ length (all_passed taken)
+  pub happened : (texts : Texts) → seen.texts ≡ Some texts → (p : Point) × AreRead texts taken (start_of (operands plan) seen.left 0) p × StandsIn s seen'.left p
+  pub noted : HasNoted (passed_noted (all_passed taken)) noting notes notes'
+  pub calm : AreCalmInputs seen seen'
+  pub texts : seen'.texts ≡ seen.texts
+  pub opened : s.opened ≡ 0
+  pub kept : s.kept ≡ 0
+
+-- What a loop over the operands keeps.
+pub record IsPreparing (plan : Plan) (s : Session) (seen seen' : Seen) (notes notes' : SinkSeen) (noting : Bool) : Type 0 where
+  pub prepared : HasPrepared plan s seen seen' notes notes' noting
+  pub stage : s.stage ≡ New
+
+-- all of them were
+pub record IsPrepared (plan : Plan) (s : Session) (seen seen' : Seen) (notes notes' : SinkSeen) (noting : Bool) : Type 0 where
+  pub prepared : HasPrepared plan s seen seen' notes notes' noting
+  pub stage : s.stage ≡ Prepared
+  pub closed : s.is_open ≡ false
+
+-- A fault came while they were read, and was noted.
+pub record FailsPreparing (plan : Plan) (e : End) (seen seen' : Seen) (notes notes' : SinkSeen) : Type 0 where
+  pub taken : List OperandEvent
+  pub name : List ℕ
+  pub fault : RunFault
+  pub ends : e ≡ end.Fault fault
+  pub no_write : fault ≢ run.WriteFault
+  pub happened : (texts : Texts) → seen.texts ≡ Some texts → EndsInOperands plan texts seen.left seen'.left taken fault name
+  pub noted : Notes (passed_noted (all_passed taken) ++ line_of e name) notes notes'
+  pub counts : CountsAt fault seen seen'
+
+-- what preparing answers: whether notes are taken still, or how the run ended
+abbrev pub Preparing : Result Bool End → Plan → Session → Seen → Seen → SinkSeen → SinkSeen → Type 0
+Preparing (Ok noting) plan s seen seen' notes notes' = IsPrepared plan s seen seen' notes notes' noting
+Preparing (Err e) plan s seen seen' notes notes' = FailsPreparing plan e seen seen' notes notes'
+
+-- ---- in the streams
 
 -- a session that was prepared and took no step
 pub record IsFresh (s : Session) : Type 0 where
@@ -22,52 +85,30 @@ pub record IsFresh (s : Session) : Type 0 where
   pub opened : s.opened ≡ 0
   pub is_closed : s.is_open ≡ false
   pub kept : s.kept ≡ 0
-  pub skipped : s.skipped ≡ 0
-  pub taken : s.lexer.taken ≡ 0
-  pub most : s.lexer.most ≡ MOST_BYTES
-
--- A session stands at the stream: none is open, or this one is, and so many bytes of it were taken.
-abbrev pub IsIn : Option Stream → Session → Option (List ℕ) → ℕ → Type 0
-IsIn None s left before = (s.is_open ≡ false) × (s.lexer.taken ≡ before)
-IsIn (Some t) s left before =
-    (s.is_open ≡ true) × (left ≡ Some t.rest) × (name_at (streams_of s.plan) s.tried ≡ t.name)
-    × (s.lexer.since + length t.rest ≡ length t.text) × (s.lexer.taken ≡ before + s.lexer.since)
-
--- a session stands where a run stands, with this left in the inputs
-pub record StandsAt (s : Session) (left : Option (List ℕ)) (p : Point) : Type 0 where
-  pub coming : p.coming ≡ drop s.opened (streams_of s.plan)
-  pub kept : p.kept ≡ s.kept
-  pub left_is : p.left ≡ left
-  pub stream : IsIn p.stream s left p.before
 
 -- where a run stands, after the events
-pub record Reached (plan : Plan) (texts : Texts) (events : List Event) (first left : Option (List ℕ)) (s : Session) : Type 0 where
+pub record Reached (plan : Plan) (before : ℕ) (texts : Texts) (events : List Event) (first left : Option (List ℕ)) (s : Session) : Type 0 where
   pub point : Point
-  pub happen : Happen plan texts events (start_of plan first) point
+  pub happen : Happen plan texts events (start_of (streams_of plan) first before) point
   pub stands : StandsAt s left point
 
--- Events happened, what is due of them was written, and those that were skipped were noted.
-pub record HasRun (s : Session) (seen seen' : Seen) (out out' notes notes' : SinkSeen) (noting : Bool) : Type 0 where
+-- Events happened since the session was fresh, what is due of them was written, and those that were skipped were noted.
+pub record HasRun (fresh s : Session) (seen seen' : Seen) (out out' notes notes' : SinkSeen) (first noting : Bool) : Type 0 where
   pub events : List Event
-  pub judged : AreJudged s.plan events
-  pub happened : (texts : Texts) → seen.texts ≡ Some texts → Reached s.plan texts events seen.left seen'.left s
+  pub same_plan : s.plan ≡ fresh.plan
+  pub same_operands : s.operands ≡ fresh.operands
+  pub judged : AreJudged fresh.plan (operands_in fresh) events
+  pub happened : (texts : Texts) → seen.texts ≡ Some texts → Reached fresh.plan fresh.lexer.taken texts events seen.left seen'.left s
   pub gains : Gains out.written out'.written (all_written events)
-  pub noted : HasNoted (all_noted events) noting notes notes'
-  pub tallied : tally events ≡ record { kept = s.kept; skipped = s.skipped }
+  pub noted : (sink : SinkSeen) (text : List ℕ) → HasNoted text first sink notes → HasNoted (text ++ all_noted events) noting sink notes'
+  pub tallied : tally_after fresh.skipped events ≡ record { kept = s.kept; skipped = s.skipped }
   pub calm : AreCalm seen seen' out out'
   pub texts : seen'.texts ≡ seen.texts
 
--- how many streams are open
-abbrev pub open_count : Bool → ℕ
-open_count true = 1
-open_count false = 0
-
 -- What a loop over steps keeps.
-pub record IsRunning (plan : Plan) (s : Session) (seen seen' : Seen) (out out' notes notes' : SinkSeen) (noting : Bool) : Type 0 where
-  pub ran : HasRun s seen seen' out out' notes notes' noting
-  pub same_plan : s.plan ≡ plan
+pub record IsRunning (fresh s : Session) (seen seen' : Seen) (out out' notes notes' : SinkSeen) (first noting : Bool) : Type 0 where
+  pub ran : HasRun fresh s seen seen' out out' notes notes' first noting
   pub stage : s.stage ≡ Prepared
-  pub most : s.lexer.most ≡ MOST_BYTES
 
 -- All of the text that is due at the end was written, and the counts tell how the run ended; or a part of it was.
 pub record FinishesWell (e : End) (text : List ℕ) (t : Tally) (out out' : SinkSeen) : Type 0 where
@@ -76,18 +117,19 @@ pub record FinishesWell (e : End) (text : List ℕ) (t : Tally) (out out' : Sink
   pub writes : out'.faults ≡ out.faults
 
 pub record FinishesInPart (e : End) (text : List ℕ) (out out' : SinkSeen) : Type 0 where
-  pub end : e ≡ end.Fault fault.WriteFault
+  pub end : e ≡ end.Fault run.WriteFault
   pub gains : GainsPrefix out.written out'.written text
   pub writes : Rose out.faults out'.faults
 
 abbrev pub Finishes : End → List ℕ → Tally → SinkSeen → SinkSeen → Type 0
 Finishes e text t out out' = FinishesWell e text t out out' ⊎ FinishesInPart e text out out'
 
--- A plan was carried out, and what was noted of it.
-pub record Carries (plan : Plan) (e : End) (seen seen' : Seen) (out out' notes notes' : SinkSeen) : Type 0 where
+-- The streams of the session's plan were read, and what was noted of it. `noting` tells whether notes were taken before.
+pub record Carries (fresh : Session) (noting : Bool) (e : End) (seen seen' : Seen) (out out' notes notes' : SinkSeen) : Type 0 where
   pub events : List Event
   pub name : List ℕ
-  pub runs : Runs plan e events name seen seen' out out'
-  pub noted : Notes (all_noted events ++ line_of e name) notes notes'
+  pub runs : Runs fresh.plan (operands_in fresh) fresh.skipped fresh.lexer.taken e events name seen seen' out out'
+  pub noted : (sink : SinkSeen) (text : List ℕ) → HasNoted text noting sink notes → Notes (text ++ (all_noted events ++ line_of e name)) sink notes'
   pub causes : EndsBecause (ended_of e) seen seen' out out'
+  pub texts : seen'.texts ≡ seen.texts
   pub asked : e ≢ end.Usage

@@ -1,10 +1,7 @@
-use Rattle.std.proofs.Common.{◌≡◌, ◌∙◌, ℕ, List, ◌++◌, refl, sym, subst}
+use Rattle.std.proofs.Common.{◌≡◌, ◌∙◌, ℕ, List, sym, subst}
 use Rattle.autfilt_command.proofs.Ending.{run_failed, run_finished}
-use Rattle.autfilt_command.proofs.Noting.{notes_nothing}
-use Rattle.autfilt_command.proofs.Running.{carries_as, few_of, finish_as, run_more, run_none}
+use Rattle.autfilt_command.proofs.Running.{Adds, adds_nothing, carries_as, finish_as, run_more, run_none}
 use Rattle.autfilt_command.proofs.Stepped.{dropped, ended, kept, opened, skipped, steps_as}
-use Rattle.aut_io.specs.Seen.{SinkSeen}
-use Rattle.autfilt_command.specs.Noted.{HasNoted}
 use Rattle.autfilt_command.specs.Notes.{aborted_line}
 use Rattle.autfilt_command.specs.declared.ended.End.TheVariants as end
 use Rattle.autfilt_run.specs.Turns.{Turns, after, progress}
@@ -13,7 +10,7 @@ use Rattle.autfilt_run.specs.declared.session.Turn.TheVariants as turn
 use Rattle.autfilt_command.proofs.run.take_steps.Goals as goal
 
 pub steps-init : goal.steps-init
-steps-init g c = record { ran = run_none c.args.session (g.I.Inputs.seen c.args.inputs.now) (g.W.Sink.seen c.args.out.now) (g.M.Sink.seen c.args.notes.now) c.requires.begun; same_plan = refl; stage = c.requires.begun.stage; most = c.requires.begun.most }
+steps-init g c = record { ran = run_none c.args.session (g.I.Inputs.seen c.args.inputs.now) (g.W.Sink.seen c.args.out.now) (g.M.Sink.seen c.args.notes.now) c.args.noting c.requires.begun; stage = c.requires.begun.stage }
 
 pub steps-preserved-in-Ok-Opened : goal.steps-preserved-in-Ok-Opened
 steps-preserved-in-Ok-Opened g c =
@@ -26,15 +23,13 @@ steps-preserved-in-Ok-Opened g c =
     let said = c.in-Ok-Opened.ensures in
     let is = c.in-Ok-Opened.field-0-is in
     let inv = c.steps.invariant in
-    let steady = steps_as old new said.plan (said.most ∙ inv.most) new.lexer.within in
     let did = subst (λ (x : Turn). Turns x old new m t p q) is said.steps in
     let done = subst (λ (x : Turn). progress new ≡ after x (progress old)) is said.progress in
-    let step = opened old new m t p q steady done did in
+    let step = opened old new m t p q (steps_as old new said.plan) done did in
+    let added = adds_nothing c.steps.noting (g.M.Sink.seen c.steps.notes) in
     record {
-      ran = run_more _ old new (g.I.Inputs.seen c.args.inputs.now) m t (g.W.Sink.seen c.args.out.now) p q _ _ _ c.steps.noting c.steps.noting said.plan did.opening.asks inv.ran step (λ text h. notes_nothing _ _ text _ h);
-      same_plan = said.plan ∙ inv.same_plan;
+      ran = run_more _ c.args.session old new (g.I.Inputs.seen c.args.inputs.now) m t (g.W.Sink.seen c.args.out.now) p q _ _ _ c.args.noting c.steps.noting c.steps.noting said.plan said.operands did.opening.asks inv.ran step added;
       stage = said.prepared (λ e. let none : turn.Opened ≡ turn.Done = sym is ∙ e in cc);
-      most = said.most ∙ inv.most;
     }
 
 pub steps-preserved-in-Ok-Kept : goal.steps-preserved-in-Ok-Kept
@@ -48,15 +43,13 @@ steps-preserved-in-Ok-Kept g c =
     let said = c.in-Ok-Kept.ensures in
     let is = c.in-Ok-Kept.field-0-is in
     let inv = c.steps.invariant in
-    let steady = steps_as old new said.plan (said.most ∙ inv.most) new.lexer.within in
     let did = subst (λ (x : Turn). Turns x old new m t p q) is said.steps in
     let done = subst (λ (x : Turn). progress new ≡ after x (progress old)) is said.progress in
-    let step = kept old new m t p q steady done did in
+    let step = kept old new m t p q (steps_as old new said.plan) done did in
+    let added = adds_nothing c.steps.noting (g.M.Sink.seen c.steps.notes) in
     record {
-      ran = run_more _ old new (g.I.Inputs.seen c.args.inputs.now) m t (g.W.Sink.seen c.args.out.now) p q _ _ _ c.steps.noting c.steps.noting said.plan did.reading.asks inv.ran step (λ text h. notes_nothing _ _ text _ h);
-      same_plan = said.plan ∙ inv.same_plan;
+      ran = run_more _ c.args.session old new (g.I.Inputs.seen c.args.inputs.now) m t (g.W.Sink.seen c.args.out.now) p q _ _ _ c.args.noting c.steps.noting c.steps.noting said.plan said.operands did.reading.asks inv.ran step added;
       stage = said.prepared (λ e. let none : turn.Kept ≡ turn.Done = sym is ∙ e in cc);
-      most = said.most ∙ inv.most;
     }
 
 pub steps-preserved-in-Ok-Dropped : goal.steps-preserved-in-Ok-Dropped
@@ -70,15 +63,13 @@ steps-preserved-in-Ok-Dropped g c =
     let said = c.in-Ok-Dropped.ensures in
     let is = c.in-Ok-Dropped.field-0-is in
     let inv = c.steps.invariant in
-    let steady = steps_as old new said.plan (said.most ∙ inv.most) new.lexer.within in
     let did = subst (λ (x : Turn). Turns x old new m t p q) is said.steps in
     let done = subst (λ (x : Turn). progress new ≡ after x (progress old)) is said.progress in
-    let step = dropped old new m t p q steady done did in
+    let step = dropped old new m t p q (steps_as old new said.plan) done did in
+    let added = adds_nothing c.steps.noting (g.M.Sink.seen c.steps.notes) in
     record {
-      ran = run_more _ old new (g.I.Inputs.seen c.args.inputs.now) m t (g.W.Sink.seen c.args.out.now) p q _ _ _ c.steps.noting c.steps.noting said.plan did.reads.reading.asks inv.ran step (λ text h. notes_nothing _ _ text _ h);
-      same_plan = said.plan ∙ inv.same_plan;
+      ran = run_more _ c.args.session old new (g.I.Inputs.seen c.args.inputs.now) m t (g.W.Sink.seen c.args.out.now) p q _ _ _ c.args.noting c.steps.noting c.steps.noting said.plan said.operands did.reads.reading.asks inv.ran step added;
       stage = said.prepared (λ e. let none : turn.Dropped ≡ turn.Done = sym is ∙ e in cc);
-      most = said.most ∙ inv.most;
     }
 
 pub steps-preserved : goal.steps-preserved
@@ -92,15 +83,13 @@ steps-preserved g c =
     let said = c.in-Ok-StreamEnd.ensures in
     let is = c.in-Ok-StreamEnd.field-0-is in
     let inv = c.steps.invariant in
-    let steady = steps_as old new said.plan (said.most ∙ inv.most) new.lexer.within in
     let did = subst (λ (x : Turn). Turns x old new m t p q) is said.steps in
     let done = subst (λ (x : Turn). progress new ≡ after x (progress old)) is said.progress in
-    let step = ended old new m t p q steady done did in
+    let step = ended old new m t p q (steps_as old new said.plan) done did in
+    let added = adds_nothing c.steps.noting (g.M.Sink.seen c.steps.notes) in
     record {
-      ran = run_more _ old new (g.I.Inputs.seen c.args.inputs.now) m t (g.W.Sink.seen c.args.out.now) p q _ _ _ c.steps.noting c.steps.noting said.plan did.reading.asks inv.ran step (λ text h. notes_nothing _ _ text _ h);
-      same_plan = said.plan ∙ inv.same_plan;
+      ran = run_more _ c.args.session old new (g.I.Inputs.seen c.args.inputs.now) m t (g.W.Sink.seen c.args.out.now) p q _ _ _ c.args.noting c.steps.noting c.steps.noting said.plan said.operands did.reading.asks inv.ran step added;
       stage = said.prepared (λ e. let none : turn.StreamEnd ≡ turn.Done = sym is ∙ e in cc);
-      most = said.most ∙ inv.most;
     }
 
 pub steps-preserved-in-Ok-Skipped : goal.steps-preserved-in-Ok-Skipped
@@ -114,17 +103,13 @@ steps-preserved-in-Ok-Skipped g c =
     let said = c.in-Ok-Skipped.ensures in
     let is = c.in-Ok-Skipped.field-0-is in
     let inv = c.steps.invariant in
-    let steady = steps_as old new said.plan (said.most ∙ inv.most) new.lexer.within in
     let did = subst (λ (x : Turn). Turns x old new m t p q) is said.steps in
     let done = subst (λ (x : Turn). progress new ≡ after x (progress old)) is said.progress in
-    let step = skipped old new m t p q steady done did in
-    let noted = subst (λ (x : List ℕ). (first : SinkSeen) → (text : List ℕ) → HasNoted text c.steps.noting first (g.M.Sink.seen c.steps.notes) → HasNoted (text ++ aborted_line x) c.note_skipped-noting.result first (g.M.Sink.seen c.note_skipped-noting.new.notes))
-    c.name_in_hand-in-Ok-Skipped.ensures c.note_skipped-noting.ensures in
+    let step = skipped old new m t p q (steps_as old new said.plan) done did in
+    let added = subst (λ (x : List ℕ). Adds (aborted_line x) c.steps.noting c.note_skipped-noting.result (g.M.Sink.seen c.steps.notes) (g.M.Sink.seen c.note_skipped-noting.new.notes)) c.name_in_hand-in-Ok-Skipped.ensures c.note_skipped-noting.ensures in
     record {
-      ran = run_more _ old new (g.I.Inputs.seen c.args.inputs.now) m t (g.W.Sink.seen c.args.out.now) p q _ _ _ c.steps.noting c.note_skipped-noting.result said.plan did.reading.asks inv.ran step (λ text h. noted _ text h);
-      same_plan = said.plan ∙ inv.same_plan;
+      ran = run_more _ c.args.session old new (g.I.Inputs.seen c.args.inputs.now) m t (g.W.Sink.seen c.args.out.now) p q _ _ _ c.args.noting c.steps.noting c.note_skipped-noting.result said.plan said.operands did.reading.asks inv.ran step added;
       stage = said.prepared (λ e. let none : turn.Skipped ≡ turn.Done = sym is ∙ e in cc);
-      most = said.most ∙ inv.most;
     }
 
 pub returns-in-Ok-Done : goal.returns-in-Ok-Done
@@ -133,16 +118,16 @@ returns-in-Ok-Done g c =
     let t = g.I.Inputs.seen c.step.new.inputs in
     let p = g.W.Sink.seen c.steps.out in
     let r = g.W.Sink.seen c.step.new.out in
+    let q = g.W.Sink.seen c.finish-end.new.out in
     let old = c.steps.session in
     let new = c.step.new.self in
     let said = c.in-Ok-Done.ensures in
     let is = c.in-Ok-Done.field-0-is in
-    let inv = c.steps.invariant in
     let did = subst (λ (x : Turn). Turns x old new m t p r) is said.steps in
     let done = subst (λ (x : Turn). progress new ≡ after x (progress old)) is said.progress in
-    carries_as _ c.note_end.result c.finish-end.result old.plan inv.same_plan _ _ _ _ _ _ c.note_end.ensures.same
-    (run_finished c.finish-end.result c.name_in_hand.result.now old (g.I.Inputs.seen c.args.inputs.now) m t (g.W.Sink.seen c.args.out.now) p r (g.W.Sink.seen c.finish-end.new.out) _ _ _ c.steps.noting
-    (few_of old inv.most old.lexer.within) inv.ran did.0 did.1 (finish_as c.finish-end.result old new r (g.W.Sink.seen c.finish-end.new.out) said.plan done c.finish-end.ensures.finishes) (λ text h. c.note_end.ensures.noted _ text h))
+    carries_as c.args.session c.args.noting c.note_end.result c.finish-end.result _ _ _ _ _ _ c.note_end.ensures.same
+    (run_finished c.finish-end.result c.name_in_hand.result.now c.args.session old (g.I.Inputs.seen c.args.inputs.now) m t (g.W.Sink.seen c.args.out.now) p r q _ _ _ c.args.noting c.steps.noting
+    c.steps.invariant.ran did.0 did.1 (finish_as c.finish-end.result old new r q said.plan done c.finish-end.ensures.finishes) c.note_end.ensures.noted)
 
 pub returns-in-Err : goal.returns-in-Err
 returns-in-Err g c =
@@ -153,8 +138,6 @@ returns-in-Err g c =
     let old = c.steps.session in
     let new = c.step.new.self in
     let said = c.in-Err.ensures in
-    let inv = c.steps.invariant in
-    let steady = steps_as old new said.plan (said.most ∙ inv.most) new.lexer.within in
-    carries_as _ c.note_end-in-Err.result (end.Fault c.in-Err.fault) old.plan inv.same_plan _ _ _ _ _ _ c.note_end-in-Err.ensures.same
-    (run_failed c.in-Err.fault c.name_in_hand-in-Err.result.now old new (g.I.Inputs.seen c.args.inputs.now) m t (g.W.Sink.seen c.args.out.now) p q _ _ _ c.steps.noting steady inv.ran said.steps c.name_in_hand-in-Err.ensures
-    (λ text h. c.note_end-in-Err.ensures.noted _ text h))
+    carries_as c.args.session c.args.noting c.note_end-in-Err.result (end.Fault c.in-Err.fault) _ _ _ _ _ _ c.note_end-in-Err.ensures.same
+    (run_failed c.in-Err.fault c.name_in_hand-in-Err.result.now c.args.session old new (g.I.Inputs.seen c.args.inputs.now) m t (g.W.Sink.seen c.args.out.now) p q _ _ _ c.args.noting c.steps.noting
+    (steps_as old new said.plan) said.failed c.steps.invariant.ran said.steps c.name_in_hand-in-Err.ensures c.note_end-in-Err.ensures.noted)

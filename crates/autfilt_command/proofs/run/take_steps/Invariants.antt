@@ -1,11 +1,12 @@
 use Rattle.std.proofs.Common.{◌+◌, ◌-◌, length}
-use Rattle.autfilt_command.specs.inner.Running.{IsRunning, open_count}
+use Rattle.autfilt_command.specs.inner.Running.{IsRunning}
 use Rattle.autfilt_run.specs.Plans.{streams_of}
+use Rattle.autfilt_run.specs.Points.{open_count}
 use Rattle.autfilt_command.proofs.run.take_steps.Given as goal
 
 abbrev pub invariant-steps : goal.invariant-steps
 invariant-steps g l =
-    IsRunning l.fn.session.plan l.session (g.I.Inputs.seen l.fn.inputs) (g.I.Inputs.seen l.inputs) (g.W.Sink.seen l.fn.out) (g.W.Sink.seen l.out) (g.M.Sink.seen l.fn.notes) (g.M.Sink.seen l.notes) l.noting
+    IsRunning l.fn.session l.session (g.I.Inputs.seen l.fn.inputs) (g.I.Inputs.seen l.inputs) (g.W.Sink.seen l.fn.out) (g.W.Sink.seen l.out) (g.M.Sink.seen l.fn.notes) (g.M.Sink.seen l.notes) l.fn.noting l.noting
 
 -- A step opens a stream, closes one, or takes bytes of one.
 abbrev pub decreases-steps : goal.decreases-steps
