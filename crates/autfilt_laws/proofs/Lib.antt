@@ -1,0 +1,3 @@
+pub mod alike
+pub mod existence
+pub mod shown

@@ -1,0 +1,159 @@
+-- Which faults fit what stands at the rest of a file. `over` tells which limits are passed behind the reader, and `blank` which
+-- faults come where only blanks are left.
+use Rattle.std.proofs.Common.{◌≡◌, ◌⊎◌, ℕ, List, Option, Some, refl, sym, ap, ◌∙◌, subst, inl, inr}
+use Rattle.aut_base.specs.declared.limit.Limit.{Limit}
+use Rattle.aut_base.specs.declared.limit.Limit.TheVariants as limit
+use Rattle.autfilt_command.specs.declared.ended.End.TheVariants as end
+use Rattle.autfilt_laws.proofs.alike.Limits.{no_count, one_limit}
+use Rattle.autfilt_laws.proofs.alike.Looks.{Look, one_standing_in}
+use Rattle.autfilt_laws.specs.Runs.{IsByText}
+use Rattle.autfilt_run.specs.Events.{Point, Stream, place}
+use Rattle.autfilt_run.specs.Runs.{AtStream, StandsWith, StopsAt, StopsAtOperand}
+use Rattle.autfilt_run.specs.declared.fault.RunFault.{RunFault}
+use Rattle.autfilt_run.specs.declared.fault.RunFault.TheVariants as fault
+use Rattle.hoa_parser.specs.Raw.{Written}
+use Rattle.hoa_parser.specs.Standing as standing
+use Rattle.hoa_parser.specs.Standing.{OneStanding, Standing, Stands}
+use Rattle.hoa_reader.proofs.validity.ValidityLaws.{none_first, one_first}
+use Rattle.hoa_reader.specs.Counts.{PassesNone}
+use Rattle.hoa_reader.specs.Elaborating.{PassesLimit}
+use Rattle.hoa_reader.specs.Validity.{IsFirstBroken, IsValid}
+use Rattle.hoa_reader.specs.declared.elaborate.Rule.{Rule}
+
+-- what else a plan asks of an automaton
+pub record Asking : Type 1 where
+  pub over : Limit → Written → Type 0
+  pub blank : RunFault → Type 0
+
+abbrev pub Fits : Asking → Standing → RunFault → Type 0
+Fits a standing.Blank f = a.blank f
+Fits a (standing.Whole w next) f = ((rule : Rule) × (f ≡ fault.Invalid rule) × IsFirstBroken rule w) ⊎ ((which : Limit) × (f ≡ fault.Limit which) × (PassesLimit which w ⊎ a.over which w))
+Fits a standing.Deep f = f ≡ fault.Limit limit.Depth
+Fits a (standing.Bad k) f = f ≡ fault.SyntaxAt k
+Fits a (standing.Aborted next) f = ⊥
+Fits a standing.Cut f = f ≡ fault.Truncated
+
+-- it asks for one thing, of what is valid and within the limits of reading
+pub record IsOneAsking (a : Asking) : Type 0 where
+  pub limit : (which other : Limit) (w : Written) → a.over which w → a.over other w → which ≡ other
+  pub blank : (f g : RunFault) → a.blank f → a.blank g → f ≡ g
+  pub valid : (which : Limit) (w : Written) → a.over which w → IsValid w
+  pub within : (which : Limit) (w : Written) → a.over which w → PassesNone w
+
+-- nothing is wrong with what is good and over no limit
+pub unfit_whole : (a : Asking) (w : Written) (next : List ℕ) (f : RunFault) → Fits a (standing.Whole w next) f → IsValid w → PassesNone w → ((which : Limit) → a.over which w → ⊥) → ⊥
+unfit_whole a w next f (inl h) valid within none = none_first h.0 w h.2 valid
+unfit_whole a w next f (inr h) valid within none = go h.2
+  where
+    go : PassesLimit h.0 w ⊎ a.over h.0 w → ⊥
+    go (inl p) = no_count p.count w p.passes within
+    go (inr o) = none h.0 o
+
+-- one fault at most fits
+one_passed : (a : Asking) → IsOneAsking a → (which other : Limit) (w : Written) → PassesLimit which w ⊎ a.over which w → PassesLimit other w ⊎ a.over other w → which ≡ other
+one_passed a one which other w (inl x) (inl y) = one_limit which other w x y
+one_passed a one which other w (inl x) (inr y) = absurd (no_count x.count w x.passes (one.within other w y))
+one_passed a one which other w (inr x) (inl y) = absurd (no_count y.count w y.passes (one.within which w x))
+one_passed a one which other w (inr x) (inr y) = one.limit which other w x y
+
+is_valid : (a : Asking) → IsOneAsking a → (which : Limit) (w : Written) → PassesLimit which w ⊎ a.over which w → IsValid w
+is_valid a one which w (inl x) = x.valid
+is_valid a one which w (inr x) = one.valid which w x
+
+pub one_fit : (a : Asking) → IsOneAsking a → (s : Standing) (f g : RunFault) → Fits a s f → Fits a s g → f ≡ g
+one_fit a one standing.Blank f g x y = one.blank f g x y
+one_fit a one standing.Deep f g x y = x ∙ sym y
+one_fit a one (standing.Bad k) f g x y = x ∙ sym y
+one_fit a one (standing.Aborted next) f g x y = absurd x
+one_fit a one standing.Cut f g x y = x ∙ sym y
+one_fit a one (standing.Whole w next) f g (inl x) (inl y) = x.1 ∙ ap fault.Invalid (one_first x.0 y.0 w x.2 y.2) ∙ sym y.1
+one_fit a one (standing.Whole w next) f g (inl x) (inr y) = absurd (none_first x.0 w x.2 (is_valid a one y.0 w y.2))
+one_fit a one (standing.Whole w next) f g (inr x) (inl y) = absurd (none_first y.0 w y.2 (is_valid a one x.0 w x.2))
+one_fit a one (standing.Whole w next) f g (inr x) (inr y) = x.1 ∙ ap fault.Limit (one_passed a one x.0 y.0 w x.2 y.2) ∙ sym y.1
+
+-- ---- a run that what stands next ended
+
+pub record Halted (on : Type 0) (a : Asking) (p : Point) (f : RunFault) : Type 0 where
+  pub asks : on
+  pub stream : Stream
+  pub is_open : p.stream ≡ Some stream
+  pub what : Standing
+  pub stands : Stands what (place stream.text stream.rest) stream.rest
+  pub fits : Fits a what f
+
+pub both_halted : OneStanding → (on : Type 0) (a : Asking) → IsOneAsking a → (p : Point) (f g : RunFault) → Halted on a p f → Halted on a p g → f ≡ g
+both_halted one on a plain p f g x y =
+    let is = one_standing_in one p.stream x.stream y.stream x.what y.what x.is_open y.is_open x.stands y.stands in
+    one_fit a plain x.what f g x.fits (subst (λ (s : Standing). Fits a s g) (sym is) y.fits)
+
+-- what leads on from there has to fit, too
+pub halted_look : OneStanding → (on : Type 0) (a : Asking) (p q : Point) (f : RunFault) (W : List ℕ → Standing) (F : Stream → List ℕ → Point) → Halted on a p f → (b : Look p W F q) → Fits a (W b.next) f
+halted_look one on a p q f W F h b =
+    subst (λ (s : Standing). Fits a s f) (one_standing_in one p.stream h.stream b.stream h.what (W b.next) h.is_open b.is_open h.stands b.stands) h.fits
+
+-- ---- which of them it is, by what stands there
+
+record Shown (a : Asking) (start : ℕ) (rest : List ℕ) (f : RunFault) : Type 0 where
+  what : Standing
+  stands : Stands what start rest
+  fits : Fits a what f
+
+past : (a : Asking) (which : Limit) (start : ℕ) (rest left : List ℕ) → StandsWith (λ w. PassesLimit which w ⊎ a.over which w) start rest left → Shown a start rest (fault.Limit which)
+past a which start rest left h = record { what = standing.Whole h.automaton left; stands = h.whole; fits = inr (which, refl, h.holds) }
+
+shown : (a : Asking) (f : RunFault) (start : ℕ) (rest left : List ℕ) → IsByText (end.Fault f) → StopsAt (λ which w. a.over which w) f start rest left → Shown a start rest f
+shown a (fault.SyntaxAt k) start rest left by h = record { what = standing.Bad k; stands = h.bad; fits = refl }
+shown a fault.Truncated start rest left by h = record { what = standing.Cut; stands = h.cut; fits = refl }
+shown a (fault.Invalid rule) start rest left by h = record { what = standing.Whole h.automaton left; stands = h.whole; fits = inl (rule, refl, h.holds) }
+shown a (fault.Limit limit.Depth) start rest left by h = record { what = standing.Deep; stands = h.deep; fits = refl }
+shown a (fault.Limit limit.Bytes) start rest left by h = absurd by
+shown a (fault.Limit limit.Names) start rest left by h = past a limit.Names start rest left h
+shown a (fault.Limit limit.Sets) start rest left by h = past a limit.Sets start rest left h
+shown a (fault.Limit limit.States) start rest left by h = past a limit.States start rest left h
+shown a (fault.Limit limit.Edges) start rest left by h = past a limit.Edges start rest left h
+shown a (fault.Limit limit.Aliases) start rest left by h = past a limit.Aliases start rest left h
+shown a (fault.Limit limit.Terms) start rest left by h = past a limit.Terms start rest left h
+shown a (fault.Limit limit.BuchiStates) start rest left by h = past a limit.BuchiStates start rest left h
+shown a (fault.Limit limit.Trees) start rest left by h = past a limit.Trees start rest left h
+shown a (fault.Limit limit.Nodes) start rest left by h = past a limit.Nodes start rest left h
+shown a (fault.Limit limit.Classes) start rest left by h = past a limit.Classes start rest left h
+shown a (fault.Limit limit.Pairs) start rest left by h = past a limit.Pairs start rest left h
+shown a fault.CannotOpen start rest left by h = absurd by
+shown a fault.ReadFault start rest left by h = absurd by
+shown a fault.WriteFault start rest left by h = absurd by
+shown a fault.Memory start rest left by h = absurd by
+
+pub halted : (on : Type 0) (a : Asking) (f : RunFault) (p : Point) (left : Option (List ℕ)) → IsByText (end.Fault f) → AtStream on p left (StopsAt (λ which w. a.over which w) f) → Halted on a p f
+halted on a f p left by h =
+    let x = shown a f (place h.stream.text h.stream.rest) h.stream.rest h.now by h.stands in
+    record { asks = h.asks; stream = h.stream; is_open = h.is_open; what = x.what; stands = x.stands; fits = x.fits }
+
+-- ---- where an operand is read
+
+-- there has to be one
+abbrev pub in_operands : Asking
+in_operands = record { over = λ which w. ⊥; blank = λ f. f ≡ fault.Truncated }
+
+pub one_in_operands : IsOneAsking in_operands
+one_in_operands = record {
+  limit = λ which other w h k. absurd h;
+  blank = λ f g h k. h ∙ sym k;
+  valid = λ which w h. absurd h;
+  within = λ which w h. absurd h;
+}
+
+shown_in_operand : (f : RunFault) (start : ℕ) (rest left : List ℕ) → IsByText (end.Fault f) → StopsAtOperand f start rest left → Shown in_operands start rest f
+shown_in_operand fault.Truncated start rest left by (inl h) = record { what = standing.Cut; stands = h.cut; fits = refl }
+shown_in_operand fault.Truncated start rest left by (inr h) = record { what = standing.Blank; stands = h.0; fits = refl }
+shown_in_operand (fault.SyntaxAt k) start rest left by h = shown in_operands (fault.SyntaxAt k) start rest left by h
+shown_in_operand (fault.Invalid rule) start rest left by h = shown in_operands (fault.Invalid rule) start rest left by h
+shown_in_operand (fault.Limit which) start rest left by h = shown in_operands (fault.Limit which) start rest left by h
+shown_in_operand fault.CannotOpen start rest left by h = absurd by
+shown_in_operand fault.ReadFault start rest left by h = absurd by
+shown_in_operand fault.WriteFault start rest left by h = absurd by
+shown_in_operand fault.Memory start rest left by h = absurd by
+
+pub halted_in_operand : (f : RunFault) (p : Point) (left : Option (List ℕ)) → IsByText (end.Fault f) → AtStream (Unit {0}) p left (StopsAtOperand f) → Halted (Unit {0}) in_operands p f
+halted_in_operand f p left by h =
+    let x = shown_in_operand f (place h.stream.text h.stream.rest) h.stream.rest h.now by h.stands in
+    record { asks = h.asks; stream = h.stream; is_open = h.is_open; what = x.what; stands = x.stands; fits = x.fits }

@@ -1,0 +1,10 @@
+-- There is a run over all texts of few bytes.
+pub mod Shorter
+pub mod Examined
+pub mod Stopping
+pub mod PlanLimits
+pub mod Found
+pub mod InOperands
+pub mod InStreams
+pub mod Runs
+pub mod Unchanged

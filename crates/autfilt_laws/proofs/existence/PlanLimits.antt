@@ -1,0 +1,66 @@
+-- Filters and changes pass limits of what was read whole.
+use Rattle.std.proofs.Common.{◌≡◌, ◌⊎◌, List, [], ◌∷◌, sym, subst, inl, inr}
+use Rattle.aut_base.specs.Automaton.{Automaton}
+use Rattle.aut_base.specs.CanonicalLabel.{canonical}
+use Rattle.aut_base.specs.declared.limit.Limit.{Limit}
+use Rattle.aut_base.specs.declared.limit.Limit.TheVariants as limit
+use Rattle.autfilt_laws.proofs.existence.Stopping.{IsOfWhole}
+use Rattle.autfilt_run.specs.Over.{IsOver, IsOverChanges}
+use Rattle.filter_plan.specs.declared.plan.Form.{Form}
+use Rattle.filter_plan.specs.declared.plan.Plan.{Plan}
+use Rattle.hoa_parser.specs.Raw.{Written}
+use Rattle.hoa_reader.specs.Described.{described}
+use Rattle.plan_meaning.specs.Changes.{Change, PassesForm, PassesIn, StopsIn, Product, ProductOr, Sum, Trim, Bring, Complete}
+use Rattle.plan_meaning.specs.Filters as filter
+use Rattle.plan_meaning.specs.Filters.{Filter, IsOverFilters, Passes}
+use Rattle.plan_meaning.specs.Limits.{PassesOfBoth, PassesOfEither, PassesOfSum}
+
+of_both : (which : Limit) (a b : Automaton) → PassesOfBoth which a b → IsOfWhole which
+of_both limit.Names a b h = tt
+of_both limit.Pairs a b h = tt
+of_both _ a b h = absurd h
+
+of_either : (which : Limit) (a b : Automaton) → PassesOfEither which a b → IsOfWhole which
+of_either limit.Names a b h = tt
+of_either limit.Pairs a b h = tt
+of_either _ a b h = absurd h
+
+of_sum : (which : Limit) (a b : Automaton) → PassesOfSum which a b → IsOfWhole which
+of_sum limit.Names a b h = tt
+of_sum _ a b h = absurd h
+
+-- with the automaton of a pattern
+of_pattern : {Few Names : Type 0} (which : Limit) (a b : Automaton) → ((which ≡ limit.Names) × Names) ⊎ (Few × PassesOfBoth which a b) → IsOfWhole which
+of_pattern which a b (inl h) = subst IsOfWhole (sym h.0) tt
+of_pattern which a b (inr h) = of_both which a b h.1
+
+of_filter : (f : Filter) (which : Limit) (a : Automaton) → Passes which f a → IsOfWhole which
+of_filter (filter.AcceptsWord p) which a h = of_pattern which (canonical a) _ h
+of_filter (filter.RejectsWord p) which a h = of_pattern which (canonical a) _ h
+of_filter (filter.Intersects b) which a h = of_both which (canonical a) b h
+of_filter _ which a h = absurd h
+
+of_form : (which : Limit) (f : Form) (a : Automaton) → PassesForm which f a → IsOfWhole which
+of_form limit.Terms f a h = tt
+of_form limit.BuchiStates f a h = tt
+of_form _ f a h = absurd h
+
+of_change : (c : Change) (which : Limit) (a : Automaton) → PassesIn which c a → IsOfWhole which
+of_change (Product b) which a h = of_both which a b h
+of_change (ProductOr b) which a h = of_either which a b h
+of_change (Sum b) which a h = of_sum which a b h
+of_change Trim which a h = absurd h
+of_change (Bring f) which a h = of_form which f a h
+of_change Complete which a h = absurd h
+
+of_changes : (cs : List Change) (which : Limit) (a : Automaton) → StopsIn which cs a → IsOfWhole which
+of_changes [] which a h = absurd h
+of_changes (c ∷ cs) which a (inl h) = of_change c which a h
+of_changes (c ∷ cs) which a (inr h) = of_changes cs which h.0 h.2
+
+pub of_plan : (which : Limit) (plan : Plan) (ops : List Automaton) (w : Written) → IsOver which plan ops w → IsOfWhole which
+of_plan which plan ops w h = go h.over
+  where
+    go : IsOverFilters which plan ops (described w) ⊎ IsOverChanges which plan ops w → IsOfWhole which
+    go (inl f) = of_filter f.filter which (described w) f.passes
+    go (inr c) = of_changes _ which _ c.stops

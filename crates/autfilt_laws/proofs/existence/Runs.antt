@@ -1,0 +1,70 @@
+-- There is a run over all texts of few bytes.
+use Rattle.std.proofs.Common.{◌≡◌, ◌⊎◌, ℕ, ◌+◌, ◌<◌, ◌==◌, Bool, true, false, if◌then◌else◌, List, [], length, Option, refl, inl, inr, arith}
+use Rattle.aut_base.specs.declared.limit.TheConstants.{MOST_BYTES}
+use Rattle.aut_io.specs.Outside.{Texts}
+use Rattle.autfilt_command.specs.Run.{AreAllRead, end_of, tally_after}
+use Rattle.autfilt_command.specs.declared.ended.End.{End}
+use Rattle.autfilt_command.specs.declared.ended.End.TheVariants as end
+use Rattle.autfilt_laws.proofs.alike.OperandEnds.{IsThrough}
+use Rattle.autfilt_laws.proofs.existence.Found.{AreShown}
+use Rattle.autfilt_laws.proofs.existence.InOperands.{IsStoppedThere, ReadsThere, in_files}
+use Rattle.autfilt_laws.proofs.existence.InStreams.{IsStopped, Reads, in_streams}
+use Rattle.autfilt_laws.specs.Runs.{IsEnded, SomeEnd, size_of, streams_from, texts_or}
+use Rattle.autfilt_run.specs.Events.{Point, Tally, start_of}
+use Rattle.autfilt_run.specs.Operands.{AreRead, OperandEvent, all_passed, operands_of}
+use Rattle.autfilt_run.specs.Plans.{streams_of}
+use Rattle.autfilt_run.specs.Runs.{IsDone}
+use Rattle.filter_plan.specs.Words.{operands}
+use Rattle.filter_plan.specs.declared.plan.Plan.{Plan}
+use Rattle.hoa_parser.specs.Standing.{SomeStanding}
+use Rattle.plan_meaning.specs.Laws.{SomeVerdict}
+
+-- an end of a run that read all
+abbrev IsOfAll : End → Type 0
+IsOfAll end.Output = Unit {0}
+IsOfAll end.NoneOutput = Unit {0}
+IsOfAll end.Aborts = Unit {0}
+IsOfAll _ = ⊥
+
+one_of_three : (a b : Bool) → IsOfAll (if a then (if b then end.NoneOutput else end.Output) else end.Aborts)
+one_of_three true true = tt
+one_of_three true false = tt
+one_of_three false b = tt
+
+of_all : (t : Tally) → IsOfAll (end_of t)
+of_all t = one_of_three (t.skipped == 0) (t.kept == 0)
+
+module _ (plan : Plan) (texts : Texts) (left : Option (List ℕ)) (taken : List OperandEvent) (first : Point) (read : AreAllRead plan texts left taken first) where
+  ends_with : (r : Reads plan (operands_of taken) (texts_or plan.made texts) (streams_from plan first)) (e : End) → IsOfAll e → e ≡ end_of (tally_after (length (all_passed taken)) r.events) → IsDone plan r.point → IsEnded plan texts left taken r.events e
+  ends_with r end.Output all is h = record { by_text = tt; ran = inr (record { point = first; read = read; judged = r.judged; tallied = is; left_over = r.point.left; name = []; runs = record { point = r.point; happen = r.happen; ends = (h, refl) } }) }
+  ends_with r end.NoneOutput all is h = record { by_text = tt; ran = inr (record { point = first; read = read; judged = r.judged; tallied = is; left_over = r.point.left; name = []; runs = record { point = r.point; happen = r.happen; ends = (h, refl) } }) }
+  ends_with r end.Aborts all is h = record { by_text = tt; ran = inr (record { point = first; read = read; judged = r.judged; tallied = is; left_over = r.point.left; name = []; runs = record { point = r.point; happen = r.happen; ends = (h, refl) } }) }
+  ends_with r end.Usage all is h = absurd all
+  ends_with r (end.Fault f) all is h = absurd all
+
+  some_end_of : (r : Reads plan (operands_of taken) (texts_or plan.made texts) (streams_from plan first)) → IsDone plan r.point ⊎ IsStopped plan (operands_of taken) r.point → (e : End) × IsEnded plan texts left taken r.events e
+  some_end_of r (inl h) =
+      let e = end_of (tally_after (length (all_passed taken)) r.events) in
+      (e, ends_with r e (of_all (tally_after (length (all_passed taken)) r.events)) refl h)
+  some_end_of r (inr h) =
+      (end.Fault h.fault, record { by_text = h.by_text; ran = inr (record { point = first; read = read; judged = r.judged; tallied = tt; left_over = h.left; name = h.name; runs = record { point = r.point; happen = r.happen; ends = (h.stops, h.counted) } }) })
+
+-- a fault ended the run in the files of operands
+stopped_before : (plan : Plan) (texts : Texts) (left : Option (List ℕ)) (taken : List OperandEvent) (p : Point) → AreRead texts taken (start_of (operands plan) left 0) p → (h : IsStoppedThere p) → IsEnded plan texts left taken [] (end.Fault h.fault)
+stopped_before plan texts left taken p read h =
+    record { by_text = h.by_text; ran = inl (record { fault = h.fault; ends = refl; none = refl; left_over = h.left; name = h.name; stops = record { point = p; read = read; stops = h.stops; counted = h.counted } }) }
+
+-- how many bytes the streams may have
+abbrev spare : Plan → Texts → ℕ
+spare plan texts = size_of (texts_or plan.made texts) (streams_of plan)
+
+pub some_end : SomeStanding → AreShown → SomeVerdict → SomeEnd
+some_end some shown verdict plan due texts left few none =
+    in_files some shown texts (spare plan texts) (operands plan) (start_of (operands plan) left 0) refl refl (omega (arith, few)) (λ r. go r r.ends)
+  where
+    go : (r : ReadsThere texts (spare plan texts) (start_of (operands plan) left 0)) → (IsThrough r.point × (r.point.before + spare plan texts < MOST_BYTES)) ⊎ IsStoppedThere r.point → ⊥
+    go r (inl h) =
+        let read : AreAllRead plan texts left r.taken r.point = record { read = r.read; none_coming = h.0.none; none_open = h.0.closed } in
+        in_streams plan (record { some = some; shown = shown; verdict = verdict; due = due }) (operands_of r.taken) (texts_or plan.made texts) (streams_of plan) (streams_from plan r.point) refl refl h.1
+        (λ x. let found = some_end_of plan texts left r.taken r.point read x x.ends in none r.taken x.events found.0 found.1)
+    go r (inr h) = none r.taken [] (end.Fault h.fault) (stopped_before plan texts left r.taken r.point r.read h)

@@ -1,0 +1,156 @@
+-- What the texts alone decide of a run.
+use Rattle.std.specs.Prelude.{◌≡◌, ℕ, ◌+◌, ◌<◌, ◌⊎◌, false, List, [], ◌++◌, length, Option, Some, None}
+use Rattle.std.specs.List.{sum_by}
+use Rattle.aut_base.specs.Automaton.{Automaton}
+use Rattle.aut_base.specs.declared.limit.Limit.{Limit}
+use Rattle.aut_base.specs.declared.limit.Limit.TheVariants as limit
+use Rattle.aut_base.specs.declared.limit.TheConstants.{MOST_BYTES}
+use Rattle.aut_io.specs.Outside.{Texts, text_of}
+use Rattle.autfilt_command.specs.Run.{AreAllRead, EndsByTally, EndsInOperands, RunsTo, end_of, tally_after}
+use Rattle.autfilt_command.specs.declared.ended.End.{End}
+use Rattle.autfilt_command.specs.declared.ended.End.TheVariants as end
+use Rattle.autfilt_run.specs.Due.{IsDue}
+use Rattle.autfilt_run.specs.Events.{AreJudged, Event, Happen, IsGood, Point, Stream, place, start_of}
+use Rattle.autfilt_run.specs.Made.{made_texts}
+use Rattle.autfilt_run.specs.Operands.{AreRead, OperandEvent, all_passed, operands_of}
+use Rattle.autfilt_run.specs.Over.{IsOver}
+use Rattle.autfilt_run.specs.Plans.{prints_each, streams_of}
+use Rattle.autfilt_run.specs.declared.fault.RunFault.{RunFault}
+use Rattle.autfilt_run.specs.declared.fault.RunFault.TheVariants as fault
+use Rattle.filter_plan.specs.Words.{changes, operands}
+use Rattle.filter_plan.specs.declared.plan.Output.TheVariants.{Hoa}
+use Rattle.filter_plan.specs.declared.plan.Plan.{Plan}
+use Rattle.hoa_lexer.specs.Blanks.{IsBlanks}
+use Rattle.hoa_parser.specs.Raw.{Written}
+use Rattle.hoa_parser.specs.Standing.{Aborted, Stands}
+use Rattle.hoa_reader.specs.Counts.{PassesNone}
+use Rattle.hoa_reader.specs.Validity.{IsValid}
+
+-- The texts decided the end: no call failed, memory was not wanting, and not too many bytes were taken.
+abbrev pub IsByText : End → Type 0
+IsByText end.Output = Unit {0}
+IsByText end.NoneOutput = Unit {0}
+IsByText end.Aborts = Unit {0}
+IsByText (end.Fault (fault.SyntaxAt k)) = Unit {0}
+IsByText (end.Fault fault.Truncated) = Unit {0}
+IsByText (end.Fault (fault.Invalid rule)) = Unit {0}
+IsByText (end.Fault (fault.Limit limit.Bytes)) = ⊥
+IsByText (end.Fault (fault.Limit which)) = Unit {0}
+IsByText _ = ⊥
+
+-- ---- a run over texts
+
+-- the texts over which streams are read: those of the inputs, or the generated one, of which nothing is open at first
+abbrev pub texts_or : Option ℕ → Texts → Texts
+texts_or None texts = texts
+texts_or (Some n) texts = made_texts n
+
+abbrev pub left_or : Option ℕ → Option (List ℕ) → Option (List ℕ)
+left_or None left = left
+left_or (Some n) left = Some []
+
+-- where the streams of a plan begin, behind its operands
+abbrev pub streams_from : Plan → Point → Point
+streams_from plan p = start_of (streams_of plan) (left_or plan.made p.left) p.before
+
+-- All operands were read, and what stands in the streams ended the run.
+pub record EndsInStreams (plan : Plan) (texts : Texts) (left : Option (List ℕ)) (taken : List OperandEvent) (events : List Event) (e : End) : Type 0 where
+  pub point : Point
+  pub read : AreAllRead plan texts left taken point
+  pub judged : AreJudged plan (operands_of taken) events
+  pub tallied : EndsByTally e (length (all_passed taken)) events
+  pub left_over : Option (List ℕ)
+  pub name : List ℕ
+  pub runs : RunsTo plan (operands_of taken) (texts_or plan.made texts) (streams_from plan point) left_over events e name
+
+-- what stands in the file of an operand ended it
+pub record EndsBefore (plan : Plan) (texts : Texts) (left : Option (List ℕ)) (taken : List OperandEvent) (events : List Event) (e : End) : Type 0 where
+  pub fault : RunFault
+  pub ends : e ≡ end.Fault fault
+  pub none : events ≡ []
+  pub left_over : Option (List ℕ)
+  pub name : List ℕ
+  pub stops : EndsInOperands plan texts left left_over taken fault name
+
+-- what the texts and the plan say of a run that they ended
+pub record IsEnded (plan : Plan) (texts : Texts) (left : Option (List ℕ)) (taken : List OperandEvent) (events : List Event) (e : End) : Type 0 where
+  pub by_text : IsByText e
+  pub ran : EndsBefore plan texts left taken events e ⊎ EndsInStreams plan texts left taken events e
+
+-- ---- uniqueness
+
+pub record AreSame (taken others : List OperandEvent) (events more : List Event) (e d : End) : Type 0 where
+  pub operands : taken ≡ others
+  pub streams : events ≡ more
+  pub ends : e ≡ d
+
+-- Two runs over the same texts of one plan, which prints canonical texts, that the texts ended: the same happened, and they end
+-- alike. (Which word stands in a line of figures is left open.)
+abbrev pub OneEnd : Type 0
+OneEnd =
+    (plan : Plan) → plan.output ≡ Hoa → (texts : Texts) (left : Option (List ℕ)) (taken others : List OperandEvent) (events more : List Event) (e d : End)
+    → IsEnded plan texts left taken events e → IsEnded plan texts left others more d → AreSame taken others events more e d
+
+-- Of the events of two runs in the streams, those of one are the first ones of the other: a run that a fault
+-- ended has read and written the first of what any other run reads and writes.
+abbrev pub OneFront : Type 0
+OneFront =
+    (plan : Plan) → plan.output ≡ Hoa → (ops : List Automaton) (texts : Texts) (events others : List Event) (p q r : Point) → AreJudged plan ops events → AreJudged plan ops others
+    → Happen plan texts events p q → Happen plan texts others p r
+    → ((more : List Event) × (others ≡ events ++ more)) ⊎ ((more : List Event) × (events ≡ others ++ more))
+
+-- So it is with operands.
+abbrev pub OneOperandFront : Type 0
+OneOperandFront =
+    (texts : Texts) (taken others : List OperandEvent) (p q r : Point) → AreRead texts taken p q → AreRead texts others p r
+    → ((more : List OperandEvent) × (others ≡ taken ++ more)) ⊎ ((more : List OperandEvent) × (taken ≡ others ++ more))
+
+-- ---- completeness
+
+-- an automaton that is valid and within the limits of reading, and passes none behind the reader; or one that is abandoned
+abbrev pub IsReadable : (Limit → Written → Type 0) → ℕ → List ℕ → Type 0
+IsReadable over start rest =
+    ((w : Written) × (next : List ℕ) × IsGood start rest w next × ((which : Limit) → over which w → ⊥)) ⊎ ((next : List ℕ) × Stands (Aborted next) start rest)
+
+-- Such a thing stands at the rest of each file of an operand wherever a run of the plan over these texts comes, and in each
+-- stream that, or only blanks. In streams the limits are those of filters and changes, with the operands that were read.
+pub record AreReadable (plan : Plan) (texts : Texts) (left : Option (List ℕ)) : Type 0 where
+  pub operands : (taken : List OperandEvent) (p : Point) (s : Stream) → AreRead texts taken (start_of (operands plan) left 0) p → p.stream ≡ Some s
+      → IsReadable (λ which w. ⊥) (place s.text s.rest) s.rest
+  pub streams : (taken : List OperandEvent) (first : Point) → AreAllRead plan texts left taken first
+      → (events : List Event) (p : Point) (s : Stream) → Happen plan (texts_or plan.made texts) events (streams_from plan first) p → p.stream ≡ Some s
+      → IsBlanks s.rest ⊎ IsReadable (λ which w. IsOver which plan (operands_of taken) w) (place s.text s.rest) s.rest
+
+-- A run over texts that can be read everywhere, which no fault of the outside, want of memory or limit of bytes ended, read all
+-- that was asked for.
+abbrev pub Completes : Type 0
+Completes =
+    (plan : Plan) (texts : Texts) (left : Option (List ℕ)) (taken : List OperandEvent) (events : List Event) (e : End) → AreReadable plan texts left
+    → IsEnded plan texts left taken events e → e ≡ end_of (tally_after (length (all_passed taken)) events)
+
+-- ---- existence
+
+-- how many bytes the files of these names have together
+abbrev pub size_of : Texts → List (List ℕ) → ℕ
+size_of texts names = sum_by (λ name. length (text_of texts name)) names
+
+-- Of each automaton that may be read, either something is due under the plan or a limit is passed.
+abbrev pub IsAlwaysDue : Plan → Type 0
+IsAlwaysDue plan =
+    (ops : List Automaton) (w : Written) → IsValid w → PassesNone w
+    → (((text : List ℕ) × IsDue plan ops w text) ⊎ ((which : Limit) × IsOver which plan ops w) → ⊥) → ⊥
+
+-- Under such a plan there is a run over all texts that together have fewer bytes than may be taken.
+abbrev pub SomeEnd : Type 0
+SomeEnd =
+    (plan : Plan) → IsAlwaysDue plan → (texts : Texts) (left : Option (List ℕ))
+    → size_of texts (operands plan) + size_of (texts_or plan.made texts) (streams_of plan) < MOST_BYTES
+    → ((taken : List OperandEvent) (events : List Event) (e : End) → IsEnded plan texts left taken events e → ⊥) → ⊥
+
+-- A plan that changes nothing, and prints canonical texts, is one,
+abbrev pub UnchangedIsDue : Type 0
+UnchangedIsDue = (plan : Plan) → changes plan ≡ false → plan.output ≡ Hoa → IsAlwaysDue plan
+
+-- and so is each that prints nothing of an automaton.
+abbrev pub SilentIsDue : Type 0
+SilentIsDue = (plan : Plan) → prints_each plan ≡ false → IsAlwaysDue plan

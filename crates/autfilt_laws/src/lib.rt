@@ -1,0 +1,10 @@
+//! Laws over the definitions of several crates, which no code runs.
+//!
+//! Each is the contract of a public function that does nothing else, and stands in `specs`.
+#![tactic(auto)]
+
+mod places;
+mod runs;
+
+pub use places::refusals_are_shown;
+pub use runs::{good_texts_are_read, one_end, one_front, some_end};

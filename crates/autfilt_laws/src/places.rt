@@ -1,0 +1,10 @@
+//! Where a reader stops.
+
+ghost use Rattle.autfilt_laws.specs.Places.{BadIsShown, CutIsShown, DeepIsShown};
+
+/// Where something stands next in a text that a reader refuses, there is a place at which a reader stops.
+pub fn refusals_are_shown()
+    ensures bad { BadIsShown }
+    ensures deep { DeepIsShown }
+    ensures cut { CutIsShown }
+{}

@@ -1,0 +1,47 @@
+//! Laws of runs: there is one, and no other.
+
+ghost use Rattle.autfilt_laws.specs.Runs.{Completes, OneEnd, OneFront, OneOperandFront, SilentIsDue, SomeEnd, UnchangedIsDue};
+
+use crate::places::refusals_are_shown;
+use hoa_reader::{one_standing, some_standing};
+use hoa_writer::canonical_text_reads_back;
+use plan_meaning::{changes_are_determined, one_verdict, some_verdict};
+
+/// The texts decide the end of a run, and what is read and written before.
+pub fn one_end()
+    ensures { OneEnd }
+{
+    one_standing();
+    one_verdict();
+    changes_are_determined();
+}
+
+/// What a run reads and writes, as far as it comes, is the first of what any other run of the plan over the texts does.
+pub fn one_front()
+    ensures streams { OneFront }
+    ensures operands { OneOperandFront }
+{
+    one_standing();
+    one_verdict();
+    changes_are_determined();
+}
+
+/// A run over texts that hold nothing but automata that can be read, and on which no limit is passed, or that are abandoned,
+/// ends as one that read all, unless the outside, memory or the limit of bytes ended it.
+pub fn good_texts_are_read()
+    ensures { Completes }
+{
+    one_standing();
+}
+
+/// There is a run over all texts of few bytes, where what is due exists.
+pub fn some_end()
+    ensures end { SomeEnd }
+    ensures unchanged { UnchangedIsDue }
+    ensures silent { SilentIsDue }
+{
+    some_standing();
+    some_verdict();
+    refusals_are_shown();
+    canonical_text_reads_back();
+}
