@@ -10,7 +10,7 @@ use row::Row;
 use row_files::{Count, Fault, Rows, Stop, read_files};
 
 /// The files of rows, in the folder where the program runs.
-const FILES: [&str; 14] = [
+const FILES: [&str; 17] = [
     "examples.rows",
     "printed.rows",
     "ends.rows",
@@ -23,6 +23,9 @@ const FILES: [&str; 14] = [
     "counts.rows",
     "figures.rows",
     "emptiness.rows",
+    "operands.rows",
+    "products.rows",
+    "forms.rows",
     "made.rows",
     "large.rows",
 ];
