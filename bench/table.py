@@ -1,0 +1,129 @@
+#!/usr/bin/env python3
+"""Runs two programs on the workloads, compares what they print, and writes a table of what they took.
+
+Usage: table.py AUTFILT PLAIN FOLDER [--quick] [--only WORD]
+"""
+import argparse
+import os
+import re
+import shutil
+import subprocess
+import sys
+import tempfile
+
+# What it is, the words for the program, and the files that it reads.
+WORKLOADS = [
+    ('print 300 automata of ten states', [], ['canonical.hoa']),
+    ('print 3,000 one-state automata', [], ['small.hoa']),
+    ('print 100,000 edges of one state', [], ['loops.hoa']),
+    ('print 3,600 labels over 20 names', [], ['wide.hoa']),
+    ('count 300 automata of ten states', ['-c'], ['canonical.hoa']),
+    ('count 3,000 one-state automata', ['-c'], ['small.hoa']),
+    ('count 100,000 edges of one state', ['-c'], ['loops.hoa']),
+    ('emptiness of 20,000, two Fin and two Inf', ['-c', '--is-empty'], ['emerson-lei.hoa']),
+    ('emptiness of a line of 100,000 states', ['-c', '--is-empty'], ['line.hoa']),
+    ('reached states of that line', ['--stats=%s'], ['line.hoa']),
+    ('product of 1,000,000 pairs', ['--product=ring-64.hoa', '--stats=%s'], ['ring-15625.hoa', 'ring-64.hoa']),
+    ('Büchi form of 3,000, four sets', ['--buchi'], ['four-sets.hoa']),
+    ('Büchi form of a ring of 2,048 states', ['--buchi', '--stats=%s'], ['ring-2048.hoa']),
+]
+
+RUNS = 5
+# Seconds: a program is stopped after the first, and its instructions are counted only where a run took less than the second.
+LONGEST = 600
+LONGEST_COUNTED = 5
+
+
+def outcome(words, folder):
+    """What a run prints, and its status."""
+    run = subprocess.run(words, cwd=folder, stdin=subprocess.DEVNULL, stdout=subprocess.PIPE, stderr=subprocess.PIPE,
+                         timeout=LONGEST)
+    return run.stdout, run.returncode
+
+
+def processor_seconds(words, folder):
+    """Seconds of the processor, in the program and in the system for it."""
+    with subprocess.Popen(words, cwd=folder, stdin=subprocess.DEVNULL, stdout=subprocess.DEVNULL,
+                          stderr=subprocess.DEVNULL) as run:
+        _, status, usage = os.wait4(run.pid, 0)
+        run.returncode = os.waitstatus_to_exitcode(status)
+    return usage.ru_utime + usage.ru_stime
+
+
+def megabytes(words, folder):
+    """The most memory that was in use. A child of this process would count what this one holds, so `time` is its parent."""
+    if not os.access('/usr/bin/time', os.X_OK):
+        return None
+    with tempfile.NamedTemporaryFile('r') as told:
+        subprocess.run(['/usr/bin/time', '-q', '-o', told.name, '-f', '%M'] + words, cwd=folder, stdin=subprocess.DEVNULL,
+                       stdout=subprocess.DEVNULL, stderr=subprocess.DEVNULL)
+        return int(told.read().split()[-1]) / 1024
+
+
+def instructions(words, folder):
+    run = subprocess.run(['valgrind', '--tool=callgrind', '--callgrind-out-file=/dev/null'] + words, cwd=folder,
+                         stdin=subprocess.DEVNULL, stdout=subprocess.DEVNULL, stderr=subprocess.PIPE, text=True)
+    found = re.search(r'Collected : (\d+)', run.stderr)
+    return int(found.group(1)) if found else None
+
+
+def measure(words, folder, size, counts):
+    """Instructions a byte, seconds, megabytes; None for what isn't measured."""
+    seconds = min(processor_seconds(words, folder) for _ in range(RUNS))
+    counted = None
+    if counts and seconds < LONGEST_COUNTED:
+        counted = instructions(words, folder)
+    return counted and counted / size, seconds, megabytes(words, folder)
+
+
+def columns(value, other, form):
+    """Both values and how many times the second the first is."""
+    if value is None or other is None:
+        return ['-' if v is None else form % v for v in (value, other)] + ['-']
+    return [form % value, form % other, '%.1f' % (value / other) if other else '-']
+
+
+def row(workload, programs, folder, counts):
+    name, words, files = workload
+    size = sum(os.path.getsize(os.path.join(folder, file)) for file in files)
+    commands = [[program] + words + files[:1] for program in programs]
+    try:
+        first, second = (outcome(command, folder) for command in commands)
+    except subprocess.TimeoutExpired as late:
+        return [name, '%d' % size, 'more than %d seconds: %s' % (LONGEST, late.cmd[0])], False
+    if first != second:
+        return [name, '%d' % size, 'THE OUTPUTS DIFFER, or the statuses: %d and %d' % (first[1], second[1])], False
+    taken = [measure(command, folder, size, counts) for command in commands]
+    cells = [name, '%d' % size]
+    for place, form in enumerate(['%.0f', '%.3f', '%.1f']):
+        cells += columns(taken[0][place], taken[1][place], form)
+    return cells, True
+
+
+def main():
+    words = argparse.ArgumentParser()
+    words.add_argument('autfilt')
+    words.add_argument('plain')
+    words.add_argument('folder')
+    words.add_argument('--quick', action='store_true')
+    words.add_argument('--only', default='')
+    asked = words.parse_args()
+    counts = not asked.quick and shutil.which('valgrind') is not None
+
+    head = ['workload', 'bytes', 'instr/byte', 'plain', 'ratio', 'seconds', 'plain', 'ratio', 'MB', 'plain', 'ratio']
+    widths = [41, 9, 11, 7, 6, 9, 7, 6, 7, 7, 6]
+    def line(cells):
+        return ' '.join(cell.ljust(width) if place == 0 else cell.rjust(width)
+                        for place, (cell, width) in enumerate(zip(cells, widths)))
+    print(line(head))
+    all_equal = True
+    for workload in WORKLOADS:
+        if asked.only not in workload[0]:
+            continue
+        cells, equal = row(workload, [asked.autfilt, asked.plain], asked.folder, counts)
+        all_equal &= equal
+        print(line(cells), flush=True)
+    sys.exit(0 if all_equal else 1)
+
+
+main()

@@ -1,0 +1,129 @@
+#!/usr/bin/env python3
+"""Writes the automata of the workloads into a folder: the same bytes each time, on every machine.
+
+Usage: workloads.py FOLDER
+"""
+import os
+import random
+import sys
+
+# Only random() gives the same numbers in every version of Python.
+source = random.Random(20)
+
+
+def below(count):
+    return int(source.random() * count)
+
+
+def pick(items):
+    return items[below(len(items))]
+
+
+def automaton(states, names, acceptance, edges, name=None):
+    """The canonical text; edges is a list of (from, label, to, marks), sorted by from."""
+    lines = ['HOA: v1']
+    if name:
+        lines.append('name: "%s"' % name)
+    lines += ['States: %d' % states, 'Start: 0', ' '.join(['AP: %d' % len(names)] + ['"%s"' % n for n in names]),
+              'Acceptance: ' + acceptance, 'properties: trans-labels explicit-labels trans-acc', '--BODY--']
+    place = 0
+    for state in range(states):
+        lines.append('State: %d' % state)
+        while place < len(edges) and edges[place][0] == state:
+            _, label, to, marks = edges[place]
+            braces = ' {%s}' % ' '.join(map(str, marks)) if marks else ''
+            lines.append('[%s] %d%s' % (label, to, braces))
+            place += 1
+    lines.append('--END--')
+    return '\n'.join(lines) + '\n'
+
+
+def names(count):
+    return ['p%d' % k for k in range(count)]
+
+
+def marks(sets, odds):
+    return [s for s in range(sets) if source.random() < odds]
+
+
+def cube(count):
+    """A conjunction of some of so many literals, or t."""
+    parts = [pick(['', '!']) + str(k) for k in range(count) if below(2)]
+    return '&'.join(parts) or 't'
+
+
+def canonical(number):
+    """Ten states and three names, with an edge at every other state."""
+    edges = [(state, cube(3), below(10), marks(1, 0.3)) for state in range(0, 10, 2)]
+    return automaton(10, ['a', 'b', 'c'], '1 Inf(0)', edges)
+
+
+def small(number):
+    return automaton(1, ['a'], '1 Inf(0)', [(0, '0', 0, [0]), (0, '!0', 0, [])], 'n%d' % number)
+
+
+def loops(count):
+    return automaton(1, ['a'], '0 t', [(0, 't', 0, [])] * count)
+
+
+def literals(conditions, sets, odds):
+    """Ten states with two or three edges each, over three names."""
+    edges = []
+    for state in range(10):
+        for _ in range(2 + below(2)):
+            edges.append((state, cube(3), below(10), marks(sets, odds)))
+    return automaton(10, ['a', 'b', 'c'], '%d %s' % (sets, pick(conditions)), edges)
+
+
+EMERSON_LEI = [
+    'Fin(0) & Fin(1) & Inf(2) & Inf(3)',
+    '(Fin(0) & Inf(2)) | (Fin(1) & Inf(3))',
+    '(Fin(0) | Inf(2)) & (Fin(1) | Inf(3))',
+    'Fin(0) & (Inf(2) | (Fin(1) & Inf(3)))',
+]
+
+FOUR_SETS = EMERSON_LEI + ['Inf(0) & Inf(1) & Inf(2) & Inf(3)', '(Inf(0) & Inf(1)) | (Inf(2) & Fin(3))']
+
+
+def line(states):
+    return automaton(states, ['a'], '1 Inf(0)', [(q, '0', q + 1, []) for q in range(states - 1)])
+
+
+def ring(states, label, acceptance, marked):
+    return automaton(states, ['a'], acceptance, [(q, label, (q + 1) % states, marked(q)) for q in range(states)])
+
+
+def wide(number):
+    """One state with twelve labels over twenty names: conjunctions, disjunctions and disjunctions of conjunctions."""
+    edges = []
+    for _ in range(4):
+        part = sorted(sorted(range(20), key=lambda _: source.random())[:8])
+        literals = [pick(['', '!']) + str(k) for k in part]
+        edges.append((0, ' & '.join(literals), 0, [0]))
+        edges.append((0, ' | '.join(literals), 0, []))
+        pairs = ['%s & %s' % (literals[k], literals[k + 1]) for k in range(0, 6, 2)]
+        edges.append((0, ' | '.join('(%s)' % pair for pair in pairs), 0, [0]))
+    return automaton(1, names(20), '1 Inf(0)', edges)
+
+
+def write(folder, file, texts):
+    with open(os.path.join(folder, file), 'w', newline='\n') as out:
+        out.writelines(texts)
+
+
+def main():
+    folder = sys.argv[1]
+    os.makedirs(folder, exist_ok=True)
+    write(folder, 'canonical.hoa', map(canonical, range(300)))
+    write(folder, 'small.hoa', map(small, range(3000)))
+    write(folder, 'loops.hoa', [loops(100000)])
+    write(folder, 'emerson-lei.hoa', (literals(EMERSON_LEI, 4, 0.15) for _ in range(20000)))
+    write(folder, 'line.hoa', [line(100000)])
+    write(folder, 'ring-64.hoa', [ring(64, 't', '1 Inf(0)', lambda q: [0] if q == 0 else [])])
+    write(folder, 'ring-15625.hoa', [ring(15625, 't', '1 Inf(0)', lambda q: [0] if q == 0 else [])])
+    write(folder, 'four-sets.hoa', (literals(FOUR_SETS, 4, 0.3) for _ in range(3000)))
+    write(folder, 'ring-2048.hoa', [ring(2048, 't', '2 Inf(0) & Inf(1)', lambda q: [0, 1] if q == 0 else [])])
+    write(folder, 'wide.hoa', map(wide, range(300)))
+
+
+main()
