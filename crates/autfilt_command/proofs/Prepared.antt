@@ -15,9 +15,10 @@ use Rattle.autfilt_command.specs.declared.ended.End.{End}
 use Rattle.autfilt_command.specs.declared.ended.End.TheVariants as end
 use Rattle.autfilt_command.specs.inner.Running.{FailsPreparing, HasPrepared, IsNew, IsPrepared}
 use Rattle.autfilt_run.proofs.Gains.{nothing}
+use Rattle.autfilt_run.proofs.Preparing.{passed_push}
 use Rattle.autfilt_run.proofs.Writing.{rose_from}
 use Rattle.autfilt_run.specs.Events.{Point, start_of}
-use Rattle.autfilt_run.specs.Operands.{AreRead, OperandEvent, all_passed, operand_of, operands_of, passed_of}
+use Rattle.autfilt_run.specs.Operands.{AreRead, OperandEvent, PassedOver, all_passed, operand_of, operands_of, passed_of}
 use Rattle.autfilt_run.specs.Points.{StandsIn, name_in, open_count}
 use Rattle.autfilt_run.specs.Preparing.{CountsAt, FailsToPrepare, HasRead, HasSkipped, IsReady}
 use Rattle.autfilt_run.specs.declared.fault.RunFault.{RunFault}
@@ -110,9 +111,12 @@ more events plan old new s m t k l j noting noting' h keeps read skipped noted =
 pub prepared_skipped : (plan : Plan) (old new : Session) (s m t : Seen) (k l j : SinkSeen) (noting noting' : Bool) → HasPrepared plan old s m k l noting → KeepsPlan old new → HasSkipped old new m t → Adds (aborted_line (name_in new)) noting noting' l j
     → HasPrepared plan new s t k j noting'
 prepared_skipped plan old new s m t k l j noting noting' h keeps did notes =
-    more did.events plan old new s m t k l j noting noting' h keeps did.read
-    (did.skipped ∙ ap (λ (n : ℕ). n + 1) h.skipped ∙ sym (count_one h.taken did.events (name_in new) did.passed))
-    (subst (λ (x : List ℕ). HasNoted x noting' k j) (sym (noted_one h.taken did.events (name_in new) did.passed)) (notes k (passed_noted (all_passed h.taken)) h.noted))
+    let name = name_in new in
+    let events : List OperandEvent = did.before ++ PassedOver name ∷ [] in
+    let passed : all_passed events ≡ name ∷ [] = passed_push did.before (PassedOver name) ∙ ap (λ x. x ++ name ∷ []) did.passed in
+    more events plan old new s m t k l j noting noting' h keeps did.read
+    (did.skipped ∙ ap (λ (n : ℕ). n + 1) h.skipped ∙ sym (count_one h.taken events name passed))
+    (subst (λ (x : List ℕ). HasNoted x noting' k j) (sym (noted_one h.taken events name passed)) (notes k (passed_noted (all_passed h.taken)) h.noted))
 
 -- all are read
 pub prepared_all : (plan : Plan) (old new : Session) (s m t : Seen) (k l : SinkSeen) (noting : Bool) → HasPrepared plan old s m k l noting → KeepsPlan old new → IsReady old new m t → new.stage ≡ Prepared → new.is_open ≡ false

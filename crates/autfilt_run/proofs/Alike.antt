@@ -4,7 +4,7 @@ use Rattle.std.specs.Prelude.{map}
 use Rattle.aut_core.specs.Core.{Core, automaton_of}
 use Rattle.aut_io.specs.Seen.{Seen}
 use Rattle.autfilt_run.specs.Events.{Point, Stream}
-use Rattle.autfilt_run.specs.Operands.{OperandEvent, operands_of}
+use Rattle.autfilt_run.specs.Operands.{OperandEvent, PassedOver, operands_of}
 use Rattle.autfilt_run.specs.Plans.{files_of, name_at}
 use Rattle.autfilt_run.specs.Points.{IsIn, StandsIn, name_in, open_count}
 use Rattle.autfilt_run.specs.Preparing.{HasRead, HasSkipped, IsReady, Prepares}
@@ -67,9 +67,10 @@ is_ready_as old old' new new' s t a back b h = record {
 
 pub has_skipped_as : (old old' new new' : Session) (s t : Seen) → AreAlike old old' → AreAlike old' old → AreAlike new new' → HasSkipped old new s t → HasSkipped old' new' s t
 has_skipped_as old old' new new' s t a back b h = record {
-  events = h.events;
-  read = has_read_as h.events old old' new new' s t a back b h.read;
-  passed = h.passed ∙ ap (λ x. x ∷ []) (name_as new new' b);
+  before = h.before;
+  read = subst (λ (name : List ℕ). HasRead (h.before ++ PassedOver name ∷ []) old' new' s t) (name_as new new' b) (has_read_as (h.before ++ PassedOver (name_in new) ∷ []) old old' new new' s t a back b h.read);
+  passed = h.passed;
+  still_open = sym b.is_open ∙ h.still_open;
   rises = subst (λ (l : Lexer). l.taken < new'.lexer.taken) a.lexer (subst (λ (l : Lexer). old.lexer.taken < l.taken) b.lexer h.rises);
   skipped = sym b.skipped ∙ h.skipped ∙ ap (λ (n : ℕ). n + 1) a.skipped;
 }

@@ -212,9 +212,10 @@ is_ready first old new s m t h done =
 
 pub has_skipped : (first old new : Session) (s m t : Seen) → IsPreparing first old s m → KeepsAll old new → new.lexer.taken ≤ MOST_BYTES → PassesOne old new m t → HasSkipped first new s t
 has_skipped first old new s m t h keeps few turn = record {
-  events = h.events ++ PassedOver (name_in new) ∷ [];
+  before = h.events;
   read = read_more h.events (PassedOver (name_in new)) first old new s m t h.read (passed old new m t keeps few turn);
-  passed = passed_push h.events (PassedOver (name_in new)) ∙ ap (λ x. x ++ name_in new ∷ []) h.passed;
+  passed = h.passed;
+  still_open = turn.still_open;
   rises = omega (arith, h.later, turn.rises);
   skipped = turn.skipped ∙ ap (λ (n : ℕ). n + 1) h.skipped;
 }

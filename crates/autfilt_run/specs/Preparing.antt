@@ -1,9 +1,9 @@
 -- What preparing a session does: operands are read.
-use Rattle.std.specs.Prelude.{◌≡◌, ◌≢◌, ◌+◌, ◌<◌, List, [], ◌∷◌, ◌++◌, length, Some, Result, Ok, Err}
+use Rattle.std.specs.Prelude.{◌≡◌, ◌≢◌, ◌+◌, ◌<◌, true, List, [], ◌∷◌, ◌++◌, length, Some, Result, Ok, Err}
 use Rattle.aut_io.specs.Outside.{Rose, Texts}
 use Rattle.aut_io.specs.Seen.{Seen}
 use Rattle.autfilt_run.specs.Events.{Point}
-use Rattle.autfilt_run.specs.Operands.{AreRead, OperandEvent, all_passed, operands_of}
+use Rattle.autfilt_run.specs.Operands.{AreRead, OperandEvent, PassedOver, all_passed, operands_of}
 use Rattle.autfilt_run.specs.Points.{StandsIn, name_in, operands_in}
 use Rattle.autfilt_run.specs.Runs.{IsCounted, StopsInOperands}
 use Rattle.autfilt_run.specs.declared.fault.RunFault.{RunFault}
@@ -30,11 +30,13 @@ pub record IsReady (old new : Session) (seen seen' : Seen) : Type 0 where
   pub all : length new.operands ≡ length (operands new.plan)
   pub skipped : new.skipped ≡ old.skipped
 
--- One that is abandoned was passed over last, of the file whose name is in hand, and no other in this call.
+-- One that is abandoned was passed over, of the file whose name is in hand, and no other in this call. Nothing was read
+-- behind it: that is the last event, and the file is still open.
 pub record HasSkipped (old new : Session) (seen seen' : Seen) : Type 0 where
-  pub events : List OperandEvent
-  pub read : HasRead events old new seen seen'
-  pub passed : all_passed events ≡ name_in new ∷ []
+  pub before : List OperandEvent
+  pub read : HasRead (before ++ PassedOver (name_in new) ∷ []) old new seen seen'
+  pub passed : all_passed before ≡ []
+  pub still_open : new.is_open ≡ true
   pub rises : old.lexer.taken < new.lexer.taken
   pub skipped : new.skipped ≡ old.skipped + 1
 
