@@ -54,6 +54,7 @@ impl Block {
 
     /// The next byte, or `None` at the end of the reader: the first of those that the block still holds, followed by
     /// those that the reader has left.
+    #[inline(always)]
     pub(crate) fn next<R: Read>(&mut self, reader: &mut R) -> Result<Option<u8>, Failed>
         ensures gives { GivesFirst (prepend_known self.old (R.remaining reader.old)) (prepend_known self.new (R.remaining reader.new)) result }
         ensures end { IfOk result (λ byte. byte ≡ None → self.new ≡ []) }
@@ -69,6 +70,7 @@ impl Block {
     }
 
     /// The first byte that the block holds.
+    #[inline(always)]
     fn give(&mut self) -> u8
         requires { 0 < length self.old }
         ensures { self.old ≡ result ∷ self.new }
@@ -79,6 +81,8 @@ impl Block {
     }
 
     /// Reads the next block. It holds nothing only at the end of the reader.
+    #[cold]
+    #[inline(never)]
     fn fill<R: Read>(&mut self, reader: &mut R) -> Result<(), Failed>
         requires { self.old ≡ [] }
         ensures takes { OnOk result (Consumes (R.remaining reader.old) (R.remaining reader.new) self.new) }
@@ -94,6 +98,7 @@ impl Block {
 }
 
 /// Reads into the block, once more where a signal came between, and answers how many bytes were read.
+#[cold]
 fn read_block<R: Read>(reader: &mut R, block: &mut [u8]) -> Result<usize, Failed>
     requires { 0 < length block.old }
     ensures size { length block.new ≡ length block.old }

@@ -95,6 +95,7 @@ impl<R: Read + Drop, O: Opener + Drop> Inputs for RealInputs<R, O> {
         }
     }
 
+    #[inline]
     fn next(&mut self) -> Result<Option<u8>, Failed>
         ensures told { Nexts (seen_of self.old) result (seen_of self.new) }
 

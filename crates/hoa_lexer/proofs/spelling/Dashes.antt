@@ -261,22 +261,22 @@ expects_at word k l = record {
   split = sym (take-append-drop k word) ∙ ap (λ v. take k word ++ v) (drop-cons word k 0 l);
 }
 
-pub expect_bad : (word : List ℕ) (k byte place offset : ℕ) (h : Option ℕ) (x y z : List ℕ) → k < length word → h ≡ None → place ≡ offset → x ≡ take k word ++ y → unread h y ≡ byte ∷ z → (byte ≡ get_or word k 0 → ⊥) → ReadsWord (Err (BadToken place)) word offset x z
-expect_bad word k byte place offset h x y z l n o e r w =
-    (o, take k word, get_or word k 0, byte, expects_at word k l, e ∙ ap (λ v. take k word ++ v) (sym (unheld h y n) ∙ r), w)
+pub expect_bad : (word : List ℕ) (k byte place offset : ℕ) (x y z : List ℕ) → k < length word → place ≡ offset → x ≡ take k word ++ y → y ≡ byte ∷ z → (byte ≡ get_or word k 0 → ⊥) → ReadsWord (Err (BadToken place)) word offset x z
+expect_bad word k byte place offset x y z l o e r w =
+    (o, take k word, get_or word k 0, byte, expects_at word k l, e ∙ ap (λ v. take k word ++ v) r, w)
 
-pub expect_end : (word : List ℕ) (k offset : ℕ) (h : Option ℕ) (x y z : List ℕ) → k < length word → h ≡ None → x ≡ take k word ++ y → unread h y ≡ [] → z ≡ [] → ReadsWord (Err OpenToken) word offset x z
-expect_end word k offset h x y z l n e r w =
-    let whole : take k word ≡ x = sym (e ∙ ap (λ v. take k word ++ v) (sym (unheld h y n) ∙ r) ∙ append-nil (take k word)) in
+pub expect_end : (word : List ℕ) (k offset : ℕ) (x y z : List ℕ) → k < length word → x ≡ take k word ++ y → y ≡ [] → z ≡ [] → ReadsWord (Err OpenToken) word offset x z
+expect_end word k offset x y z l e r w =
+    let whole : take k word ≡ x = sym (e ∙ ap (λ v. take k word ++ v) r ∙ append-nil (take k word)) in
     (get_or word k 0, subst (λ (v : List ℕ). Expects word v (get_or word k 0)) whole (expects_at word k l), w)
 
-pub expect_err : (fault : LexFault) (word : List ℕ) (k offset : ℕ) (h : Option ℕ) (x y z : List ℕ) → IsReadFault fault → k < length word → h ≡ None → x ≡ take k word ++ y → unread h y ≡ z → ReadsWord (Err fault) word offset x z
-expect_err Read word k offset h x y z r l n e w =
-    (take k word, get_or word k 0, expects_at word k l, e ∙ ap (λ v. take k word ++ v) (sym (unheld h y n) ∙ w))
-expect_err Bytes word k offset h x y z r l n e w =
-    (take k word, get_or word k 0, expects_at word k l, e ∙ ap (λ v. take k word ++ v) (sym (unheld h y n) ∙ w))
-expect_err (BadToken m) word k offset h x y z r l n e w = absurd r
-expect_err OpenComment word k offset h x y z r l n e w = absurd r
-expect_err OpenString word k offset h x y z r l n e w = absurd r
-expect_err OpenToken word k offset h x y z r l n e w = absurd r
-expect_err Memory word k offset h x y z r l n e w = absurd r
+pub expect_err : (fault : LexFault) (word : List ℕ) (k offset : ℕ) (x y z : List ℕ) → IsReadFault fault → k < length word → x ≡ take k word ++ y → y ≡ z → ReadsWord (Err fault) word offset x z
+expect_err Read word k offset x y z r l e w =
+    (take k word, get_or word k 0, expects_at word k l, e ∙ ap (λ v. take k word ++ v) w)
+expect_err Bytes word k offset x y z r l e w =
+    (take k word, get_or word k 0, expects_at word k l, e ∙ ap (λ v. take k word ++ v) w)
+expect_err (BadToken m) word k offset x y z r l e w = absurd r
+expect_err OpenComment word k offset x y z r l e w = absurd r
+expect_err OpenString word k offset x y z r l e w = absurd r
+expect_err OpenToken word k offset x y z r l e w = absurd r
+expect_err Memory word k offset x y z r l e w = absurd r

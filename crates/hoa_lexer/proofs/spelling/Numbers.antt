@@ -1,5 +1,5 @@
 -- Integers.
-use Rattle.std.proofs.Common.{◌≡◌, ℕ, zero, suc, ◌+◌, ◌-◌, ◌*◌, ◌^◌, ◌<◌, ◌≤◌, true, false, not, is_some, lit<, List, [], ◌∷◌, ◌++◌, Option, Some, None, Err, inr, refl, sym, subst, ◌∙◌, ap, arith}
+use Rattle.std.proofs.Common.{◌≡◌, ℕ, zero, suc, ◌+◌, ◌-◌, ◌*◌, ◌^◌, ◌<◌, ◌≤◌, true, false, not, lit<, List, [], ◌∷◌, ◌++◌, Option, None, Err, inr, refl, sym, subst, ◌∙◌, ap, arith}
 use Rattle.std.specs.Prelude.{fold}
 use Rattle.std.specs.List.{list_all}
 use Rattle.std.proofs.lemmas.Bool.{false≢true, and_parts}
@@ -10,7 +10,7 @@ use Rattle.hoa_lexer.specs.Reading.{unread}
 use Rattle.hoa_lexer.specs.Spelling.{Spells, Ends, StopsAt, IsNumeral, value_of, closes_itself}
 use Rattle.hoa_lexer.specs.inner.Steps.{IsReadFault, Pauses, ReadsToken}
 use Rattle.hoa_lexer.specs.Text.{IsFront, HasFront, Begins, IsOpenToken, IsNoToken}
-use Rattle.hoa_lexer.proofs.spelling.Comments.{unheld, holding}
+use Rattle.hoa_lexer.proofs.spelling.Comments.{unheld}
 use Rattle.hoa_lexer.proofs.spelling.FirstBytes.{token_kind, kind_digit, digit_no_space, front_head, solid}
 use Rattle.hoa_lexer.proofs.spelling.Words.{stops_not}
 use Rattle.hoa_lexer.specs.declared.token.LexFault.{LexFault}
@@ -60,17 +60,17 @@ numeral first (b ∷ bs) h p d = (h, λ e. absurd (omega arith), d)
 pub number_zero : (first value : ℕ) (x : List ℕ) → is_digit first ≡ true → value ≡ first - 48 → value ≡ 0 → IsFront (first ∷ x) (Int 0) x
 number_zero first value x d e z = record { word = first ∷ []; split = refl; spells = (d, omega arith, lit< tt); ends = tt }
 
-pub number_token : (h : Option ℕ) (first value b : ℕ) (x y z : List ℕ) → is_digit first ≡ true → 0 < first - 48 → value < 2 ^ 32 → h ≡ Some b → IsDigits first value x y → y ≡ b ∷ z → is_digit b ≡ false → IsFront (first ∷ x) (Int value) (unread h z)
-number_token h first value b x y z d v l k w e n = record {
+pub number_token : (first value b : ℕ) (x y z : List ℕ) → is_digit first ≡ true → 0 < first - 48 → value < 2 ^ 32 → IsDigits first value x y → y ≡ b ∷ z → is_digit b ≡ false → IsFront (first ∷ x) (Int value) (b ∷ z)
+number_token first value b x y z d v l w e n = record {
   word = first ∷ w.seen;
-  split = ap (λ q. first ∷ q) (w.split ∙ ap (λ q. w.seen ++ q) (e ∙ sym (holding h b z k)));
+  split = ap (λ q. first ∷ q) (w.split ∙ ap (λ q. w.seen ++ q) e);
   spells = (numeral first w.seen d v w.digits, w.value_is, l);
-  ends = ends_int value (unread h z) (subst (λ (q : List ℕ). StopsAt is_digit q) (sym (holding h b z k)) n);
+  ends = ends_int value (b ∷ z) n;
 }
 
-pub holds_int : (h : Option ℕ) (b n : ℕ) → h ≡ Some b → 0 < n → is_some h ≡ not (closes_itself (Int n))
-holds_int h b zero e l = absurd (omega arith)
-holds_int h b (suc n) e l = ap is_some e
+pub holds_int : (n : ℕ) → 0 < n → true ≡ not (closes_itself (Int n))
+holds_int zero l = absurd (omega arith)
+holds_int (suc n) l = refl
 
 -- an integer whose digits may go on
 

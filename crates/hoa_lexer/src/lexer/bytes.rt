@@ -4,6 +4,7 @@ ghost use Rattle.std.specs.Prelude.{◌≡◌};
 ghost use Rattle.hoa_lexer.specs.Bytes as kinds;
 
 /// Space, tab, line feed or carriage return.
+#[inline(always)]
 pub(super) fn is_space(byte: u8) -> bool
     ensures { result ≡ kinds.is_space byte }
 {
@@ -11,6 +12,7 @@ pub(super) fn is_space(byte: u8) -> bool
 }
 
 /// What an identifier begins with.
+#[inline(always)]
 pub(super) fn is_letter(byte: u8) -> bool
     ensures { result ≡ kinds.is_letter byte }
 {
@@ -18,6 +20,7 @@ pub(super) fn is_letter(byte: u8) -> bool
 }
 
 /// `0` to `9`.
+#[inline(always)]
 pub(super) fn is_digit(byte: u8) -> bool
     ensures { result ≡ kinds.is_digit byte }
 {
@@ -25,6 +28,7 @@ pub(super) fn is_digit(byte: u8) -> bool
 }
 
 /// What an identifier or an alias goes on with.
+#[inline(always)]
 pub(super) fn is_word(byte: u8) -> bool
     ensures { result ≡ kinds.is_word byte }
 {

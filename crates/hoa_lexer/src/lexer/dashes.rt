@@ -21,7 +21,7 @@ impl Lexer {
         ensures advances { Advances (stop_of result) self.old self.new (I.seen inputs.old) (I.seen inputs.new) }
     {
         self.held = None;
-        match self.take(inputs)? {
+        match self.fetch(inputs)? {
             Some(b'-') => self.dashed(inputs),
             Some(_) => Err(LexFault::BadToken(self.offset)),
             None => Err(LexFault::OpenToken),
@@ -37,7 +37,7 @@ impl Lexer {
         ensures progress { OnOk result (self.old.taken + held_count self.new.held < self.new.taken + held_count self.old.held) }
         ensures advances { Advances (stop_of result) self.old self.new (I.seen inputs.old) (I.seen inputs.new) }
     {
-        match self.take(inputs)? {
+        match self.fetch(inputs)? {
             Some(b'B') => self.dashed_tail(inputs, Token::Body, b'B', b"ODY--"),
             Some(b'E') => self.dashed_tail(inputs, Token::End, b'E', b"ND--"),
             Some(b'A') => self.dashed_tail(inputs, Token::Abort, b'A', b"BORT--"),
@@ -74,7 +74,7 @@ impl Lexer {
         ensures advances { Advances (stop_of result) self.old self.new (I.seen inputs.old) (I.seen inputs.new) }
     {
         'word: for wanted in word {
-            match self.take(inputs)? {
+            match self.fetch(inputs)? {
                 Some(byte) => {
                     if byte != *wanted {
                         return Err(LexFault::BadToken(self.offset));

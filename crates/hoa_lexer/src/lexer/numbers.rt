@@ -29,12 +29,12 @@ impl Lexer {
             return Ok(Token::Int(0));
         }
         'digits: loop {
-            match self.peek(inputs)? {
+            match self.fetch(inputs)? {
                 Some(byte) => {
                     if !is_digit(byte) {
+                        self.held = Some(byte);
                         return Ok(Token::Int(value as u32));
                     }
-                    self.held = None;
                     value = 10 * value + u64::from(byte - b'0');
                     if value > u64::from(u32::MAX) {
                         return Err(LexFault::BadToken(self.offset));

@@ -12,6 +12,7 @@ impl Lexer {
     ghost use Rattle.hoa_lexer.specs.inner.Steps.{Advances, Peeks, HoldsRead, IsReadFault};
 
     /// The next byte, which is held from then on, or None at the end of the text.
+    #[inline(always)]
     pub(super) fn peek<I: Inputs>(&mut self, inputs: &mut I) -> Result<Option<u8>, LexFault>
         ensures answers { Tells (I.seen inputs.old) (I.seen inputs.new) (λ old new.
             Peeks result (unread self.old.held old) new) }
@@ -22,22 +23,12 @@ impl Lexer {
         if let Some(byte) = self.held {
             return Ok(Some(byte));
         }
-        if self.taken == self.most {
-            return Err(LexFault::Bytes);
-        }
-        match inputs.next() {
-            Ok(Some(byte)) => {
-                self.taken += 1;
-                self.since += 1;
-                self.held = Some(byte);
-                Ok(Some(byte))
-            }
-            Ok(None) => Ok(None),
-            Err(_) => Err(LexFault::Read),
-        }
+        self.held = self.fetch(inputs)?;
+        Ok(self.held)
     }
 
     /// The next byte, which is used, or None at the end of the text.
+    #[inline(always)]
     pub(super) fn take<I: Inputs>(&mut self, inputs: &mut I) -> Result<Option<u8>, LexFault>
         ensures answers { Tells (I.seen inputs.old) (I.seen inputs.new) (λ old new.
             Peeks result (unread self.old.held old) new) }
@@ -49,5 +40,30 @@ impl Lexer {
         let byte = self.peek(inputs);
         self.held = None;
         byte
+    }
+
+    /// The next byte of the inputs, which is used, or None at the end of the text. Loops over bytes ask here and hold only
+    /// the byte that ends them, so that none is stored, looked for and cleared.
+    #[inline(always)]
+    pub(super) fn fetch<I: Inputs>(&mut self, inputs: &mut I) -> Result<Option<u8>, LexFault>
+        requires { self.old.held ≡ None }
+        ensures answers { Tells (I.seen inputs.old) (I.seen inputs.new) (λ old new. Peeks result old new) }
+        ensures held { self.new.held ≡ None }
+        ensures kinds { IfErr result IsReadFault }
+        ensures advances { Advances (stop_of_next result) self.old self.new (I.seen inputs.old) (I.seen inputs.new) }
+        ensures progress { IfOk result (λ byte. IsSome byte → self.old.taken < self.new.taken) }
+    {
+        if self.taken == self.most {
+            return Err(LexFault::Bytes);
+        }
+        match inputs.next() {
+            Ok(Some(byte)) => {
+                self.taken += 1;
+                self.since += 1;
+                Ok(Some(byte))
+            }
+            Ok(None) => Ok(None),
+            Err(_) => Err(LexFault::Read),
+        }
     }
 }

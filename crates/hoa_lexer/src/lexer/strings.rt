@@ -45,9 +45,9 @@ impl Lexer {
         ensures progress { OnOk result (self.old.taken + held_count self.new.held < self.new.taken + held_count self.old.held) }
         ensures advances { Advances (stop_of result) self.old self.new (I.seen inputs.old) (I.seen inputs.new) }
     {
-        match self.take(inputs)? {
+        match self.fetch(inputs)? {
             Some(b'"') => Ok(None),
-            Some(b'\\') => match self.take(inputs)? {
+            Some(b'\\') => match self.fetch(inputs)? {
                 Some(byte) => Ok(Some(byte)),
                 None => Err(LexFault::OpenString),
             },

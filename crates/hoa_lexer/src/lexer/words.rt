@@ -77,19 +77,20 @@ impl Lexer {
         inputs: &mut I,
         name: &mut Text,
     ) -> Result<Option<u8>, LexFault>
+        requires { self.old.held ≡ None }
         ensures answers { Tells (I.seen inputs.old) (I.seen inputs.new) (λ old new.
-            AddsWords result name.old name.new (unread self.old.held old) new) }
+            AddsWords result name.old name.new old new) }
         ensures held { IfOk result (λ byte. self.new.held ≡ byte) }
         ensures none_held { IfErr result (λ fault. self.new.held ≡ None) }
         ensures advances { Advances (stop_of_next result) self.old self.new (I.seen inputs.old) (I.seen inputs.new) }
     {
         'bytes: loop {
-            match self.peek(inputs)? {
+            match self.fetch(inputs)? {
                 Some(byte) => {
                     if !is_word(byte) {
+                        self.held = Some(byte);
                         return Ok(Some(byte));
                     }
-                    self.held = None;
                     name.push(byte)?;
                 }
                 None => return Ok(None),

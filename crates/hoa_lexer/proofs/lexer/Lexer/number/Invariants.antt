@@ -1,5 +1,5 @@
-use Rattle.std.proofs.Common.{◌+◌, ◌-◌, ◌^◌, ◌<◌}
-use Rattle.hoa_lexer.specs.Reading.{held_count, unread, Between}
+use Rattle.std.proofs.Common.{◌≡◌, ◌+◌, ◌-◌, ◌^◌, ◌<◌, None}
+use Rattle.hoa_lexer.specs.Reading.{held_count, Between}
 use Rattle.hoa_lexer.specs.Moves.{Elsewhere}
 use Rattle.hoa_lexer.specs.inner.Steps.{Advances}
 use Rattle.hoa_lexer.proofs.spelling.Numbers.{IsDigits}
@@ -7,12 +7,13 @@ use Rattle.hoa_lexer.proofs.lexer.Lexer.number.Given as goal
 
 abbrev pub invariant-digits : goal.invariant-digits
 invariant-digits g l = record {
-  answers : Between (g.I.Inputs.seen l.fn.inputs).left (g.I.Inputs.seen l.inputs).left (λ old new. IsDigits l.fn.first l.value old (unread l.self.held new));
+  answers : Between (g.I.Inputs.seen l.fn.inputs).left (g.I.Inputs.seen l.inputs).left (λ old new. IsDigits l.fn.first l.value old new);
   advances : Advances Elsewhere l.fn.self l.self (g.I.Inputs.seen l.fn.inputs) (g.I.Inputs.seen l.inputs);
+  held : l.self.held ≡ None;
   some : 0 < l.value;
   fits : l.value < 2 ^ 32;
-  used : l.fn.self.taken + held_count l.self.held < l.self.taken + held_count l.fn.self.held;
+  used : l.fn.self.taken < l.self.taken + held_count l.fn.self.held;
 }
 
 abbrev pub decreases-digits : goal.decreases-digits
-decreases-digits g l = (l.self.most + held_count l.self.held) - l.self.taken
+decreases-digits g l = l.self.most - l.self.taken
