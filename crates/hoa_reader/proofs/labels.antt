@@ -1,5 +1,7 @@
 -- Labels, aliases, states and marks, one after the other.
 pub mod ExpandedLabels
+pub mod MarksBelow
 pub mod Meanings
+pub mod MergedMarks
 pub mod StartsAndMarks
 pub mod StatePlaces

@@ -3,4 +3,5 @@ pub mod AllDiffer
 pub mod DistinctTexts
 pub mod Leaves
 pub mod NamesDiffer
+pub mod RisingNumbers
 pub mod ValidityLaws

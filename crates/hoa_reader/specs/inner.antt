@@ -3,5 +3,6 @@ pub mod Gathered
 pub mod Growing
 pub mod Pieces
 pub mod Places
+pub mod Rising
 pub mod TreeEdges
 pub mod Weighing

@@ -85,7 +85,7 @@ pub fn describe(alloc: Global, raw: &Raw) -> Result<Description, ElabFault>
         return Err(ElabFault::Invalid(rule));
     }
     let known = known_aliases(alloc, &parts.defs)?;
-    if let Some(limit) = first_passed(alloc, raw, &parts, &known) {
+    if let Some(limit) = first_passed(raw, &parts, &known) {
         return Err(ElabFault::Limit(limit));
     }
     match description(alloc, raw, parts, known) {

@@ -1,11 +1,10 @@
 -- What the limits count, by what is known of each alias.
-use Rattle.std.specs.Prelude.{ℕ, Bool, if◌then◌else◌, nat_lt, List, flat_map, sum_by, None, ◌≡◌}
+use Rattle.std.specs.Prelude.{ℕ, Bool, if◌then◌else◌, nat_lt, List, flat_map, sum_by}
 use Rattle.std.specs.List.{list_any}
 use Rattle.std.specs.Option.{option_map_or}
 use Rattle.aut_base.specs.declared.limit.TheConstants.{MOST_ALIASES}
 use Rattle.hoa_reader.specs.Counts.{holds_alias}
 use Rattle.hoa_reader.specs.inner.Growing.{capped_height, capped_size, heights_in, sizes_in}
-use Rattle.hoa_reader.specs.inner.Places.{place_in}
 use Rattle.hoa_parser.specs.Raw.{RawTree, WrittenEdge, WrittenState}
 use Rattle.hoa_reader.specs.declared.elaborate.aliases.Known.{Known}
 use Rattle.hoa_reader.specs.declared.elaborate.places.Places.{Places}
@@ -28,7 +27,3 @@ state_counted known s = sum_by (edge_counted known s) s.edges
 
 abbrev pub counted : Places Known → List WrittenState → ℕ
 counted known states = sum_by (state_counted known) states
-
--- no text is there
-abbrev pub IsNone : Places (Unit {0}) → Type 0
-IsNone none = (q : List ℕ) → place_in none q ≡ None

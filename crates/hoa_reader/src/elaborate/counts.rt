@@ -2,14 +2,13 @@
 
 ghost use Rattle.std.specs.Prelude.{◌≡◌, ◌<◌, ◌+◌, nat_lt, length, map, MatchOption};
 ghost use Rattle.std.specs.Option.{option_map, option_map_or};
-ghost use Rattle.hoa_reader.specs.Counts.{holds_alias};
 ghost use Rattle.hoa_reader.specs.inner.Growing.{capped_size, sizes_in};
 ghost use Rattle.hoa_reader.specs.inner.Pieces.{label_refs};
-ghost use Rattle.hoa_parser.specs.Raw.{WrittenState, raw_tree, written_edge, written_state};
-ghost use Rattle.hoa_reader.specs.inner.Weighing.{IsNone, all_edges, are_tall, counted, edge_counted, own_counted, state_counted};
+ghost use Rattle.hoa_parser.specs.Raw.{WrittenState, written_edge, written_state};
+ghost use Rattle.hoa_reader.specs.inner.Weighing.{all_edges, are_tall, counted, edge_counted, own_counted, state_counted};
 
 use crate::elaborate::aliases::{Known, growth_of};
-use crate::elaborate::leaves::aliases_among;
+use crate::elaborate::leaves::has_no_alias;
 use crate::elaborate::places::Places;
 use aut_base::MOST_ALIASES;
 use hoa_parser::{RawEdge, RawLabel, RawState};
@@ -43,23 +42,14 @@ pub(crate) fn are_tall<'a>(labels: &[&'a RawLabel], known: &Places<'a, Known>) -
     false
 }
 
-/// Whether an alias stands in the label. `none` holds no name.
-fn holds_alias<'a>(label: &'a RawLabel, none: &Places<'a, ()>) -> bool
-    requires { IsNone none.now }
-    ensures { result ≡ holds_alias (raw_tree label.now) }
-{
-    !aliases_among(label, none)
-}
-
 /// What the label of an edge counts, where its state has none.
-fn own_count<'a>(edge: &'a RawEdge, known: &Places<'a, Known>, none: &Places<'a, ()>) -> u64
-    requires { IsNone none.now }
+fn own_count<'a>(edge: &'a RawEdge, known: &Places<'a, Known>) -> u64
     ensures { result ≡ option_map_or (own_counted known.now) (written_edge edge.now).label 0 }
 {
     let Some(label) = &edge.label else {
         return 0;
     };
-    if !holds_alias(label, none) {
+    if has_no_alias(label) {
         return 0;
     }
     growth_of(label, known).size
@@ -76,35 +66,23 @@ fn state_weight<'a>(state: &'a RawState, known: &Places<'a, Known>) -> Option<u6
 }
 
 /// What the edge counts, where its state counts this for each.
-fn edge_count<'a>(
-    own: Option<u64>,
-    edge: &'a RawEdge,
-    known: &Places<'a, Known>,
-    none: &Places<'a, ()>,
-) -> u64
-    requires { IsNone none.now }
+fn edge_count<'a>(own: Option<u64>, edge: &'a RawEdge, known: &Places<'a, Known>) -> u64
     ensures { (s : WrittenState) → own ≡ option_map (capped_size (sizes_in known.now)) s.label → result ≡ edge_counted known.now s (written_edge edge.now) }
 {
     match own {
         Some(count) => count,
-        None => own_count(edge, known, none),
+        None => own_count(edge, known),
     }
 }
 
 /// What is left once the edges of the state are counted, or `None` exactly where they count more than this.
-fn left_after<'a>(
-    state: &'a RawState,
-    known: &Places<'a, Known>,
-    none: &Places<'a, ()>,
-    most: u64,
-) -> Option<u64>
-    requires { IsNone none.now }
+fn left_after<'a>(state: &'a RawState, known: &Places<'a, Known>, most: u64) -> Option<u64>
     ensures { MatchOption result (most < state_counted known.now (written_state state.now)) (λ left. left + state_counted known.now (written_state state.now) ≡ most) }
 {
     let own = state_weight(state, known);
     let mut left = most;
     'edges: for edge in state.edges.as_slice() {
-        let count = edge_count(own, edge, known, none);
+        let count = edge_count(own, edge, known);
         if count > left {
             return None;
         }
@@ -114,18 +92,12 @@ fn left_after<'a>(
 }
 
 /// Whether the edges of these states count more than this.
-pub(crate) fn are_heavy<'a>(
-    states: &'a [RawState],
-    known: &Places<'a, Known>,
-    none: &Places<'a, ()>,
-    most: u64,
-) -> bool
-    requires { IsNone none.now }
+pub(crate) fn are_heavy<'a>(states: &'a [RawState], known: &Places<'a, Known>, most: u64) -> bool
     ensures { result ≡ nat_lt most (counted known.now (map written_state states.now)) }
 {
     let mut left = most;
     'states: for state in states {
-        match left_after(state, known, none, left) {
+        match left_after(state, known, left) {
             None => return true,
             Some(rest) => left = rest,
         }

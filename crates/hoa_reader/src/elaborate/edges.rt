@@ -1,17 +1,17 @@
 //! The edges of the described automaton.
 
-ghost use Rattle.std.specs.Prelude.{◌≡◌, ◌<◌, ◌==◌, ◌++◌, ◌^◌, ℕ, None, Some, true, false, get_or, length, map, slice_set, IfOk, OnOk};
+ghost use Rattle.std.specs.Prelude.{◌≡◌, ◌<◌, ◌==◌, ◌++◌, ℕ, None, Some, true, get_or, length, map, slice_set, IfOk, OnOk};
+ghost use Rattle.std.specs.List.{list_all};
 ghost use Rattle.aut_base.specs.Automaton.{tree_edge};
 ghost use Rattle.aut_base.specs.Label.{label_tree};
-ghost use Rattle.aut_base.specs.Marks.{is_in};
 ghost use Rattle.hoa_reader.specs.inner.TreeEdges.{HasKnown, IsPlace, tree_edge_for, tree_edges_for, edges_for, label_for};
 ghost use Rattle.hoa_reader.specs.inner.Pieces.{numbers};
 ghost use Rattle.hoa_parser.specs.Raw.{written_edge, written_state};
-ghost use Rattle.hoa_reader.specs.Validity.{all_differ};
+ghost use Rattle.hoa_reader.specs.Validity.{all_differ, marks_below, numbers_below};
 
 use crate::elaborate::aliases::Known;
 use crate::elaborate::labels::{expand, letter_label};
-use crate::elaborate::marks::{flags_of, joined};
+use crate::elaborate::marks::joined;
 use crate::elaborate::parts::AliasDef;
 use crate::elaborate::places::Places;
 use crate::elaborate::starts::only_state;
@@ -48,23 +48,22 @@ fn label_of<'a>(
     }
 }
 
-/// The edge that stands at this place in its state, by the flags of the state's sets.
+/// The edge that stands at this place in its state.
 fn edge_of<'a>(
     alloc: Global,
     shared: &Shared<'a>,
     state: &'a RawState,
-    own: &[bool],
     edge: &'a RawEdge,
     letter: u64,
 ) -> Result<Edge, Memory>
     requires known { HasKnown shared.now }
-    requires len { length own.now ≡ shared.now.sets }
-    requires few { length own.now < 2 ^ 32 }
-    requires set { (k : ℕ) → k < shared.now.sets → get_or own.now k false ≡ is_in k state.now.marks }
+    requires own { numbers_below shared.now.sets state.now.marks ≡ true }
+    requires marks { numbers_below shared.now.sets edge.now.marks ≡ true }
     ensures { IfOk result (λ new. tree_edge new ≡ tree_edge_for shared.now (written_state state.now) letter (written_edge edge.now)) }
 {
     let label = label_of(alloc, shared, state, edge, letter)?;
-    let marks = joined(alloc, own, edge.marks.as_slice())?;
+    let own = state.marks.as_slice();
+    let marks = joined(alloc, shared.sets, own, edge.marks.as_slice())?;
     Ok(Edge {
         from: state.number,
         label,
@@ -80,13 +79,13 @@ fn add_edges<'a>(
     shared: &Shared<'a>,
     state: &'a RawState,
 ) -> Result<(), Memory>
-    requires { HasKnown shared.now }
+    requires known { HasKnown shared.now }
+    requires marks { marks_below shared.now.sets (written_state state.now) ≡ true }
     ensures { OnOk result (map tree_edge edges.new ≡ map tree_edge edges.old ++ tree_edges_for shared.now (written_state state.now)) }
 {
-    let own = flags_of(alloc, shared.sets, state.marks.as_slice())?;
     let mut letter = 0;
     'written: for edge in state.edges.as_slice() {
-        let new = edge_of(alloc, shared, state, own.as_slice(), edge, letter)?;
+        let new = edge_of(alloc, shared, state, edge, letter)?;
         edges.push(new)?;
         letter += 1;
     }
@@ -126,6 +125,7 @@ pub(crate) fn edges_of<'a>(
 ) -> Result<Edges, Memory>
     requires known { HasKnown shared.now }
     requires differ { all_differ ◌==◌ (numbers (map written_state states.now)) ≡ true }
+    requires marks { list_all (marks_below shared.now.sets) (map written_state states.now) ≡ true }
     ensures { IfOk result (λ edges. map tree_edge edges ≡ edges_for shared.now (map written_state states.now) count) }
 {
     let places = places_of(alloc, states, count)?;

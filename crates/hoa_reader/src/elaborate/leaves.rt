@@ -1,12 +1,12 @@
 //! The rules that speak of what stands in labels and in the condition.
 
-ghost use Rattle.std.specs.Prelude.{◌≡◌, ◌&&◌, map, true, false, is_some, nat_lt, MatchOption, IfOk};
+ghost use Rattle.std.specs.Prelude.{◌≡◌, ◌&&◌, [], map, true, false, is_some, nat_lt, MatchOption, IfOk};
 ghost use Rattle.std.specs.List.{list_all};
 ghost use Rattle.aut_base.specs.Formula.{formula_list, formula_tree, trees};
 ghost use Rattle.hoa_reader.specs.inner.Pieces.{HasDefined, alias_def, are_defined, label_refs, line_names};
 ghost use Rattle.hoa_reader.specs.inner.Places.{place_in};
 ghost use Rattle.hoa_parser.specs.Raw.{raw_tree, raw_trees};
-ghost use Rattle.hoa_reader.specs.Validity.{aliases_among, all_leaves_pass, all_sets_below, leaves_pass, props_below, sets_below};
+ghost use Rattle.hoa_reader.specs.Validity.{aliases_among, all_leaves_pass, all_sets_below, is_listed, leaves_pass, props_below, sets_below};
 
 use crate::elaborate::parts::AliasDef;
 use crate::elaborate::places::Places;
@@ -101,6 +101,38 @@ fn all_among<'a>(parts: &'a [RawLabel], names: &Places<'a, ()>) -> bool
 {
     'parts: for part in parts {
         if !aliases_among(part, names) {
+            return false;
+        }
+    }
+    true
+}
+
+/// Whether no alias stands in the label.
+#[cycle(has_no_alias)]
+#[tactic(auto, using(hoa_parser::proofs::grammar::RawTrees::raw_tree_rules))]
+pub(crate) fn has_no_alias(label: &RawLabel) -> bool
+    ensures { result ≡ aliases_among [] (raw_tree label.now) }
+{
+    match label {
+        RawLabel::True => true,
+        RawLabel::False => true,
+        RawLabel::Prop(_) => true,
+        RawLabel::Alias(_) => false,
+        RawLabel::Not(inner) => has_no_alias(inner),
+        RawLabel::And(parts) => has_no_alias(&parts.first)
+            && (has_no_alias(&parts.second) && have_no_alias(&parts.others)),
+        RawLabel::Or(parts) => has_no_alias(&parts.first)
+            && (has_no_alias(&parts.second) && have_no_alias(&parts.others)),
+    }
+}
+
+// The same of each of these.
+#[cycle(has_no_alias)]
+fn have_no_alias(parts: &[RawLabel]) -> bool
+    ensures { result ≡ all_leaves_pass (λ i. true) (is_listed []) (raw_trees (map raw_tree parts.now)) }
+{
+    'parts: for part in parts {
+        if !has_no_alias(part) {
             return false;
         }
     }

@@ -15,31 +15,23 @@ use crate::elaborate::places::Places;
 use crate::elaborate::sizes::{set_count, state_count};
 use aut_base::{Limit, MOST_ALIASES, MOST_EDGES, MOST_NAMES, MOST_SETS, MOST_STATES};
 use hoa_parser::Raw;
-use std::alloc::Global;
 
 /// Whether labels grow further than they may.
-fn grow_too_far<'a>(
-    alloc: Global,
-    raw: &'a Raw,
-    parts: &Parts<'a>,
-    known: &Places<'a, Known>,
-) -> bool
+fn grow_too_far<'a>(raw: &'a Raw, parts: &Parts<'a>, known: &Places<'a, Known>) -> bool
     requires parts { ArePartsOf (written raw.now) parts.now }
     requires known { AreKnown (meanings_by parts.now.defs.items) parts.now.defs.items known.now }
     ensures { result ≡ nat_lt (most_of Aliases) (count_of Aliases (written raw.now)) }
 {
-    let none = Places::new(alloc);
     // Divided by 8,192, what the edges weigh is greater than the limit from this on.
     let most = (u64::from(MOST_ALIASES) + 1) * 8_192 - 1;
     if are_tall(&parts.labels, known) {
         return true;
     }
-    are_heavy(raw.states.as_slice(), known, &none, most)
+    are_heavy(raw.states.as_slice(), known, most)
 }
 
 /// The first limit that is passed.
 pub(crate) fn first_passed<'a>(
-    alloc: Global,
     raw: &'a Raw,
     parts: &Parts<'a>,
     known: &Places<'a, Known>,
@@ -61,7 +53,7 @@ pub(crate) fn first_passed<'a>(
     if has_more_edges(raw.states.as_slice(), MOST_EDGES as usize) {
         return Some(Limit::Edges);
     }
-    if grow_too_far(alloc, raw, parts, known) {
+    if grow_too_far(raw, parts, known) {
         return Some(Limit::Aliases);
     }
     None

@@ -2,7 +2,8 @@
 
 ghost use Rattle.std.specs.Prelude.{◌≡◌, ℕ, ◌==◌, ◌^◌, codes, count_by, filter_map, is_none, is_some, nat_le, not, map, IfOk};
 ghost use Rattle.std.specs.List.{list_all};
-ghost use Rattle.hoa_reader.specs.inner.Pieces.{is_line, lines_once};
+ghost use Rattle.hoa_reader.specs.inner.Pieces.{is_line, lines_once, numbers};
+ghost use Rattle.hoa_reader.specs.inner.Rising.{rises_from};
 ghost use Rattle.hoa_parser.specs.Raw.{written_edge, written_item, written_state};
 ghost use Rattle.aut_base.specs.Text.{same_text};
 ghost use Rattle.hoa_reader.specs.Validity.{all_differ, begins_with_capital, has_edge_per_letter, is_one_state, labels_one_way, marks_below, may_be_passed_over, names_agree, numbers_below, states_item};
@@ -128,9 +129,23 @@ pub(crate) fn texts_differ(alloc: Global, texts: &[Text]) -> Result<bool, Memory
     Ok(true)
 }
 
-/// Whether all of these differ.
-pub(crate) fn numbers_differ(alloc: Global, states: &[RawState]) -> Result<bool, Memory>
-    ensures { IfOk result (λ differ. differ ≡ all_differ ◌==◌ (map (λ s. s.number) (map written_state states.now))) }
+/// Whether the numbers of the states rise.
+fn numbers_rise(states: &[RawState]) -> bool
+    ensures { result ≡ rises_from 0 (numbers (map written_state states.now)) }
+{
+    let mut least = 0;
+    'states: for state in states {
+        if u64::from(state.number) < least {
+            return false;
+        }
+        least = u64::from(state.number) + 1;
+    }
+    true
+}
+
+/// Whether no number stands twice, whatever order they stand in.
+fn none_repeats(alloc: Global, states: &[RawState]) -> Result<bool, Memory>
+    ensures { IfOk result (λ differ. differ ≡ all_differ ◌==◌ (numbers (map written_state states.now))) }
 {
     let mut seen = BTreeSet::new(alloc);
     'states: for state in states {
@@ -139,6 +154,16 @@ pub(crate) fn numbers_differ(alloc: Global, states: &[RawState]) -> Result<bool,
         }
     }
     Ok(true)
+}
+
+/// Whether all of these differ. Numbers that rise do, which takes no set to see.
+pub(crate) fn numbers_differ(alloc: Global, states: &[RawState]) -> Result<bool, Memory>
+    ensures { IfOk result (λ differ. differ ≡ all_differ ◌==◌ (numbers (map written_state states.now))) }
+{
+    if numbers_rise(states) {
+        return Ok(true);
+    }
+    none_repeats(alloc, states)
 }
 
 /// Whether the names of an `AP:` line are as many as it says, and differ.

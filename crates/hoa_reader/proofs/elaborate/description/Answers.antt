@@ -1,7 +1,8 @@
-use Rattle.std.proofs.Common.{◌≡◌, ◌≢◌, ◌==◌, ◌++◌, ◌∙◌, ℕ, List, [], AllPairs, length, map, filter, sym, ap, subst}
+use Rattle.std.proofs.Common.{◌≡◌, ◌≢◌, ◌==◌, ◌++◌, ◌∙◌, ℕ, true, List, [], AllPairs, length, map, filter, sym, ap, subst}
+use Rattle.std.proofs.lemmas.Bool.{and_parts}
 use Rattle.std.specs.Prelude.{flat_map}
 use Rattle.std.specs.Borrow.{Bor}
-use Rattle.std.specs.List.{enumerate_from}
+use Rattle.std.specs.List.{enumerate_from, list_all}
 use Rattle.std.specs.Option.{option_map_or}
 use Rattle.aut_base.specs.Automaton.{TreeEdge, Automaton, tree_edge}
 use Rattle.aut_base.specs.Formula.{FormulaTree, formula_tree}
@@ -9,7 +10,7 @@ use Rattle.hoa_reader.proofs.validity.NamesDiffer.{names_differ, pairs_differ}
 use Rattle.hoa_reader.specs.Described.{Meaning, below, edges_of, expanded, letter_label, marks_in_order, meanings_after, meanings_of, only_state, starts_of, state_count, without_repeats}
 use Rattle.hoa_reader.specs.inner.Growing.{meanings_by}
 use Rattle.hoa_parser.specs.Raw.{WrittenEdge, WrittenState, written, written_state}
-use Rattle.hoa_reader.specs.Validity.{acceptance_of, names_of}
+use Rattle.hoa_reader.specs.Validity.{acceptance_of, marks_below, names_of}
 use Rattle.hoa_parser.specs.declared.raw.RawState.{RawState}
 use Rattle.hoa_reader.proofs.elaborate.description.Goals as goal
 
@@ -18,6 +19,14 @@ names_of-requires c =
     let w = written c.args.raw.now in
     let P : List (List ℕ) → Type 0 = λ names. AllPairs (λ a b. a ≢ b) names in
     subst P (sym c.requires.parts.names) (pairs_differ (names_of w) (names_differ w.items c.requires.valid.1.1.1.0))
+
+pub edges_of-requires-clause-marks : goal.edges_of-requires-clause-marks
+edges_of-requires-clause-marks c =
+    let w = written c.args.raw.now in
+    let sets = (acceptance_of w).sets in
+    let below : list_all (marks_below sets) w.states ≡ true = (and_parts _ _ c.requires.valid.1.1.1.1.1.1.1.1.0).1 in
+    ap (λ n. list_all (marks_below n) (map written_state c.as_slice.result.now)) c.set_count-sets.ensures
+    ∙ ap (λ (ss : List RawState). list_all (marks_below sets) (map written_state ss)) c.as_slice.ensures ∙ below
 
 -- the edges, by all that they depend on
 abbrev edges_by : List Meaning → ℕ → ℕ → List WrittenState → ℕ → List TreeEdge

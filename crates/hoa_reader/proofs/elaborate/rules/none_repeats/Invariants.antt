@@ -4,7 +4,7 @@ use Rattle.std.specs.List.{list_any}
 use Rattle.std.specs.Ordering.{nat_cmp}
 use Rattle.hoa_parser.specs.Raw.{written_state}
 use Rattle.hoa_reader.specs.Validity.{all_differ}
-use Rattle.hoa_reader.proofs.elaborate.rules.numbers_differ.Given as goal
+use Rattle.hoa_reader.proofs.elaborate.rules.none_repeats.Given as goal
 
 abbrev pub invariant-states : goal.invariant-states
 invariant-states l = record {
