@@ -1,9 +1,11 @@
 -- The items of a list in order that have one key: a part of it between two places.
-use Rattle.std.proofs.Common.{◌≡◌, ◌∙◌, ◌==◌, ◌-◌, ◌<◌, ◌≤◌, ℕ, zero, suc, true, false, cond, List, [], ◌∷◌, arith, ap, sym, drop, filter, get_or, length, leb, ltb, map, refl, take}
-use Rattle.std.proofs.lemmas.Bool.{eq-eqb, ltb-true, ltb-false, leb-true, leb-false, ne_eqb}
-use Rattle.std.proofs.lemmas.List.{get_or-map, length-map}
+use Rattle.std.proofs.Common.{◌≡◌, ◌≢◌, ◌∙◌, ◌++◌, ⊎_elim, ◌==◌, ◌+◌, ◌-◌, ◌<◌, ◌≤◌, ℕ, zero, suc, cond, List, [], ◌∷◌, arith, ap, sym, drop, filter, get_or, length, map, refl, subst, take}
+use Rattle.std.proofs.lemmas.Bool.{cases_lt, eq-eqb, ne_eqb}
+use Rattle.std.proofs.lemmas.List.{get_or_append_left, get_or-append_right, get_or_default, get_or-map, length-append, length-map}
 use Rattle.std.specs.List.{slice_range}
-use Rattle.std.specs.List.Sorted.{IsNonDecreasing, IsNonDecreasingBy, IsPartitionPoint}
+use Rattle.std.specs.List.Sorted.{IsNonDecreasing, IsNonDecreasingBy}
+use Rattle.aut_core.specs.Index.{Begins, IsIndex}
+use Rattle.aut_core.specs.declared.link.Link.{Link}
 
 pub by_key : {X : Type 0} (key : X → ℕ) (xs : List X) → IsNonDecreasing (map key xs) → IsNonDecreasingBy key xs
 by_key key xs rises i j d order within =
@@ -20,14 +22,6 @@ pub record Surrounds {X : Type 0} (key : X → ℕ) (q : ℕ) (xs : List X) (a b
   pub from : (k : ℕ) (d : X) → a ≤ k → k < length xs → q ≤ key (get_or xs k d)
   pub high : (k : ℕ) (d : X) → k < b → k < length xs → key (get_or xs k d) ≤ q
   pub later : (k : ℕ) (d : X) → b ≤ k → k < length xs → q < key (get_or xs k d)
-
-pub surrounds : {X : Type 0} (key : X → ℕ) (q : ℕ) (xs : List X) (a b : ℕ) → IsPartitionPoint (λ x. ltb (key x) q ≡ true) (λ x. ltb (key x) q ≡ false) xs a → IsPartitionPoint (λ x. leb (key x) q ≡ true) (λ x. leb (key x) q ≡ false) xs b → Surrounds key q xs a b
-surrounds key q xs a b first second = record {
-  low = λ k d l w. ltb-true (key (get_or xs k d)) q (first.0 k d (omega arith) l);
-  from = λ k d l w. ltb-false (key (get_or xs k d)) q (first.1 k d l w);
-  high = λ k d l w. leb-true (key (get_or xs k d)) q (second.0 k d (omega arith) l);
-  later = λ k d l w. leb-false (key (get_or xs k d)) q (second.1 k d l w);
-}
 
 rest : {X : Type 0} (key : X → ℕ) (q : ℕ) (x : X) (xs : List X) (a b c d : ℕ) → Surrounds key q (x ∷ xs) a b → c ≡ a - 1 → d ≡ b - 1 → Surrounds key q xs c d
 rest key q x xs a b c d s e f = record {
@@ -72,3 +66,84 @@ in_order key q (x ∷ xs) (suc a) zero most s =
 in_order key q (x ∷ xs) (suc a) (suc b) most s =
     let fewer = in_order key q xs a b (omega (arith, most)) (rest key q x xs (suc a) (suc b) a b s (omega arith) (omega arith)) in
     omega arith
+
+-- Rows of links.
+
+-- the links from the place where those of a state begin up to where the next begin
+pub surrounds : {links : List Link} {state a b : ℕ} → Begins links state a → Begins links (state + 1) b → Surrounds (λ (l : Link). l.from) state links a b
+surrounds {links} {state} {a} {b} first second = record {
+  low = λ k d l w. first.before k d l;
+  from = λ k d l w. first.behind k d l w;
+  high = λ k d l w. omega (arith, second.before k d l);
+  later = λ k d l w. omega (arith, second.behind k d l w);
+}
+
+pub row_between : {links : List Link} {state a b : ℕ} → Begins links state a → Begins links (state + 1) b → slice_range links a b ≡ filter (λ l. l.from == state) links
+row_between {links} {state} {a} {b} first second = between (λ (l : Link). l.from) state links a b (surrounds first second)
+
+pub row_in_order : {links : List Link} {state a b : ℕ} → Begins links state a → Begins links (state + 1) b → a ≤ b
+row_in_order {links} {state} {a} {b} first second = in_order (λ (l : Link). l.from) state links a b first.within (surrounds first second)
+
+-- no state is below the first
+pub begins_first : (links : List Link) → Begins links 0 0
+begins_first links = record {
+  within = omega arith;
+  before = λ k d l. absurd (omega (arith, l));
+  behind = λ k d l w. omega arith;
+}
+
+-- the links of a state as far as they were looked at
+pub record IsInRow (links : List Link) (state start end : ℕ) : Type 0 where
+  pub low : start ≤ end
+  pub within : end ≤ length links
+  pub before : (k : ℕ) (d : Link) → k < end → (get_or links k d).from ≤ state
+
+pub row_none : (links : List Link) (state start : ℕ) → Begins links state start → IsInRow links state start start
+row_none links state start b = record {
+  low = omega arith;
+  within = b.within;
+  before = λ k d l. omega (arith, b.before k d l);
+}
+
+pub row_ends : (links : List Link) (state start end : ℕ) (d : Link) → IsNonDecreasing (map (λ l. l.from) links) → Begins links state start → IsInRow links state start end → end < length links → (get_or links end d).from ≢ state → Begins links (state + 1) end
+row_ends links state start end d rises begins row more other =
+    let high : state ≤ (get_or links end d).from = begins.behind end d row.low more in
+    record {
+      within = row.within;
+      before = λ k e l. omega (arith, row.before k e l);
+      behind = λ k e l w.
+          let order = by_key (λ (x : Link). x.from) links rises end k d l w in
+          let same : (get_or links k d).from ≡ (get_or links k e).from = ap (λ (x : Link). x.from) (get_or_default links k d e w) in
+          omega (arith, order, same, other);
+    }
+
+-- an index of more and more states
+pub index_first : (links : List Link) → IsIndex links 0 (0 ∷ [])
+index_first links = record {
+  count = refl;
+  begins = λ state l. subst (λ s. Begins links s (get_or (0 ∷ []) s 0)) (omega (arith, l)) (begins_first links);
+}
+
+read_last : (rows : List ℕ) (end n : ℕ) → length rows ≡ n → get_or (rows ++ end ∷ []) n 0 ≡ end
+read_last rows end n is =
+    let zeroth : n - n ≡ 0 = omega arith in
+    get_or-append_right rows (end ∷ []) n n 0 is (omega arith) ∙ ap (λ k. get_or (end ∷ []) k 0) zeroth
+
+pub index_more : (links : List Link) (states end : ℕ) (rows more : List ℕ) → IsIndex links states rows → Begins links (states + 1) end → more ≡ rows ++ end ∷ [] → IsIndex links (states + 1) more
+index_more links states end rows more index last is = record {
+  count = ap length is ∙ (length-append rows (end ∷ []) ∙ omega (arith, index.count));
+  begins = λ state l. subst (λ (ps : List ℕ). Begins links state (get_or ps state 0)) (sym is)
+      (⊎_elim
+      (λ (old : state < states + 1). subst (λ place. Begins links state place) (sym (get_or_append_left rows (end ∷ []) 0 state (omega (arith, index.count, old)))) (index.begins state (omega (arith, old))))
+      (λ (new : states + 1 ≤ state).
+      let e : states + 1 ≡ state = omega (arith, new, l) in
+      subst (λ s. Begins links s (get_or (rows ++ end ∷ []) s 0)) e (subst (λ place. Begins links (states + 1) place) (sym (read_last rows end (states + 1) index.count)) last))
+      (cases_lt state (states + 1)));
+}
+
+-- the links of a state, by the index
+pub row_indexed : {links : List Link} {states : ℕ} {rows : List ℕ} (state a b : ℕ) → IsIndex links states rows → state < states → get_or rows state 0 ≡ a → get_or rows (state + 1) 0 ≡ b → (a ≤ b) × (slice_range links a b ≡ filter (λ l. l.from == state) links)
+row_indexed {links} {states} {rows} state a b index within start end =
+    let first = subst (λ place. Begins links state place) start (index.begins state (omega (arith, within))) in
+    let second = subst (λ place. Begins links (state + 1) place) end (index.begins (state + 1) (omega (arith, within))) in
+    (row_in_order first second, row_between first second)

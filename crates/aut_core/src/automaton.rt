@@ -5,10 +5,10 @@ ghost use Rattle.aut_base.specs.Formula.{formula_tree};
 ghost use Rattle.aut_core.specs.Core.{AreParts, IsCore, automaton_of};
 ghost use Rattle.aut_core.specs.Deterministic.{IsComplete, IsDeterministic};
 
-use crate::copies::{copy_links, copy_names, copy_numbers};
-use crate::link::{Link, Links, links_from, marks_rise};
+use crate::copies::{copy_links, copy_names, copy_numbers, copy_places};
+use crate::link::{Link, Links, marks_rise};
 use crate::survey::survey_states;
-use aut_base::{Formula, Memory, Names, Numbers};
+use aut_base::{Formula, Memory, Names, Numbers, Places};
 use label_guards::Guards;
 use std::alloc::Global;
 use std::marker::Model;
@@ -21,6 +21,8 @@ pub struct Automaton {
     states: u32,
     starts: Numbers,
     links: Links,
+    /// For each state the place where its links begin, and behind them the number of links.
+    rows: Places,
     sets: u32,
     formula: Formula,
     is_deterministic: bool,
@@ -40,7 +42,7 @@ impl Model for Automaton {
 
     ghost view = { λ s. record { names = s.names; starts = s.starts; states = s.states; links = s.links; sets = s.sets; formula = formula_tree s.formula; store = s.guards } };
 
-    ghost invariant = { λ s. IsKept (record { names = s.names; starts = s.starts; states = s.states; links = s.links; sets = s.sets; formula = formula_tree s.formula; store = s.guards }) s.is_deterministic s.is_complete };
+    ghost invariant = { λ s. IsKept (record { names = s.names; starts = s.starts; states = s.states; links = s.links; sets = s.sets; formula = formula_tree s.formula; store = s.guards }) s.rows s.is_deterministic s.is_complete };
 }
 
 impl Automaton {
@@ -59,17 +61,18 @@ impl Automaton {
         ensures { IfOk result (λ made. made ≡ record { names = names; starts = starts; states = states; links = links; sets = sets; formula = formula_tree formula; store = guards }) }
     {
         marks_rise(links.as_slice());
-        let found = survey_states(alloc, &guards, &names, links.as_slice(), states)?;
+        let all = survey_states(alloc, &guards, &names, links.as_slice(), states)?;
         let is_single = starts.len() <= 1;
-        let is_deterministic = is_single && found.apart;
+        let is_deterministic = is_single && all.found.apart;
         let has_start = !starts.is_empty();
-        let is_complete = has_start && found.filled;
+        let is_complete = has_start && all.found.filled;
         Ok(Automaton {
             names,
             guards,
             states,
             starts,
             links,
+            rows: all.rows,
             sets,
             formula,
             is_deterministic,
@@ -78,6 +81,7 @@ impl Automaton {
     }
 
     /// The names of the atomic propositions.
+    #[inline]
     pub fn names(&self) -> &Names
         ensures { result.now ≡ self.now.names }
     {
@@ -85,6 +89,7 @@ impl Automaton {
     }
 
     /// The states where runs may start.
+    #[inline]
     pub fn starts(&self) -> &Numbers
         ensures { result.now ≡ self.now.starts }
     {
@@ -92,6 +97,7 @@ impl Automaton {
     }
 
     /// The number of states, which are the numbers below it.
+    #[inline]
     pub fn states(&self) -> u32
         ensures { result ≡ self.now.states }
     {
@@ -99,6 +105,7 @@ impl Automaton {
     }
 
     /// The number of acceptance sets, which are the numbers below it.
+    #[inline]
     pub fn sets(&self) -> u32
         ensures { result ≡ self.now.sets }
     {
@@ -106,6 +113,7 @@ impl Automaton {
     }
 
     /// The acceptance condition.
+    #[inline]
     pub fn formula(&self) -> &Formula
         ensures { formula_tree result.now ≡ self.now.formula }
     {
@@ -113,6 +121,7 @@ impl Automaton {
     }
 
     /// The store of the labels.
+    #[inline]
     pub fn guards(&self) -> &Guards
         ensures { result.now ≡ self.now.store }
     {
@@ -120,21 +129,26 @@ impl Automaton {
     }
 
     /// The edges, in the order of the states that they leave.
+    #[inline]
     pub fn links(&self) -> &[Link]
         ensures { result.now ≡ self.now.links }
     {
         self.links.as_slice()
     }
 
-    /// The edges that leave this state, in order. Found by halving.
+    /// The edges that leave this state, in order. Takes no search.
+    #[inline]
     pub fn links_of(&self, state: u32) -> &[Link]
         requires { state < self.now.states }
         ensures { result.now ≡ filter (λ l. l.from == state) self.now.links }
     {
-        links_from(self.links.as_slice(), state)
+        let start = *self.rows.at(state as usize);
+        let end = *self.rows.at(state as usize + 1);
+        &self.links.as_slice()[start..end]
     }
 
     /// Whether there is at most one start and no letter meets two edges of one state. Takes no time.
+    #[inline]
     pub fn is_deterministic(&self) -> bool
         ensures { IsTrue result ↔ IsDeterministic (automaton_of self.now) }
     {
@@ -142,6 +156,7 @@ impl Automaton {
     }
 
     /// Whether there is a start and at every state each letter meets some edge. Takes no time.
+    #[inline]
     pub fn is_complete(&self) -> bool
         ensures { IsTrue result ↔ IsComplete (automaton_of self.now) }
     {
@@ -158,6 +173,7 @@ impl Automaton {
             states: self.states,
             starts: copy_numbers(&self.starts)?,
             links: copy_links(&self.links)?,
+            rows: copy_places(&self.rows)?,
             sets: self.sets,
             formula: self.formula.copy(alloc)?,
             is_deterministic: self.is_deterministic,

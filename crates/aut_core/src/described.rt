@@ -43,7 +43,7 @@ fn guarded(alloc: Global, guards: &mut Guards, edges: &[Edge]) -> Result<Links, 
     ensures has { IfOk result (All (λ l. Has guards.new l.guard)) }
     ensures edges { IfOk result (λ links. map (edge_of guards.new) links ≡ map (λ e. record (tree_edge e) { label = canonical_label guards.old.names (tree_edge e).label }) edges.now) }
 {
-    let mut links = Links::new(alloc);
+    let mut links = Links::from_vec(Vec::with_capacity(alloc, edges.len())?);
     'edges: for edge in edges {
         links.push(Link {
             from: edge.from,

@@ -1,7 +1,8 @@
 //! The edges of an automaton, under guards.
 
-ghost use Rattle.std.specs.Prelude.{◌≡◌, ◌==◌, ◌<◌, All, AllPairs, filter, map};
+ghost use Rattle.std.specs.Prelude.{◌+◌, ◌<◌, ◌≤◌, All, AllPairs, map};
 ghost use Rattle.std.specs.List.Sorted.{IsNonDecreasing};
+ghost use Rattle.aut_core.specs.Index.{Begins};
 
 use aut_base::{Marks, Seq};
 use label_guards::Guard;
@@ -18,14 +19,19 @@ pub struct Link {
     pub marks: Marks,
 }
 
-/// The links that leave this state, where they stand in the order of the states that they leave.
-pub(crate) fn links_from(links: &[Link], state: u32) -> &[Link]
-    requires { IsNonDecreasing (map (λ l. l.from) links.now) }
-    ensures { result.now ≡ filter (λ l. l.from == state) links.now }
+/// The end of the links that leave this state, which begin at this place.
+#[inline]
+pub(crate) fn row_end(links: &[Link], start: usize, state: u32) -> usize
+    requires in_order { IsNonDecreasing (map (λ l. l.from) links.now) }
+    requires begins { Begins links.now state start }
+    ensures later { start ≤ result }
+    ensures begins { Begins links.now (state + 1) result }
 {
-    let start = links.partition_point(|link| link.from < state);
-    let end = links.partition_point(|link| link.from <= state);
-    &links[start..end]
+    let mut end = start;
+    'links: while end < links.len() && links[end].from == state {
+        end += 1;
+    }
+    end
 }
 
 /// Tells a proof that the marks of each link rise.

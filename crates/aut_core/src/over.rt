@@ -60,7 +60,7 @@ impl Automaton {
         ensures edges { IfOk result (λ links. map (edge_of guards.new) links ≡ map (λ (e : TreeEdge). record e { label = label_over self.now.names names.now e.label }) (map (edge_of self.now.store) self.now.links)) }
     {
         self.whole();
-        let mut links = Links::new(alloc);
+        let mut links = Links::from_vec(Vec::with_capacity(alloc, self.links().len())?);
         'links: for link in self.links() {
             links.push(Link {
                 from: link.from,

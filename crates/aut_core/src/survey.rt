@@ -3,12 +3,13 @@
 ghost use Rattle.std.specs.Prelude.{◌≡◌, All, IfOk, map};
 ghost use Rattle.std.specs.List.Sorted.{IsNonDecreasing};
 ghost use Rattle.aut_core.specs.Core.{edge_of};
+ghost use Rattle.aut_core.specs.Index.{IsIndex};
 ghost use Rattle.aut_core.specs.Surveys.{AreSurveyed, IsSurvey};
 ghost use Rattle.label_guards.specs.Guards.{AreNames};
 ghost use Rattle.label_guards.specs.Store.{Has, Keeps};
 
-use crate::link::{Link, links_from};
-use aut_base::{Memory, Names};
+use crate::link::{Link, row_end};
+use aut_base::{Memory, Names, Places};
 use label_guards::Guards;
 use std::alloc::Global;
 
@@ -19,28 +20,45 @@ pub(crate) struct Survey {
     pub(crate) filled: bool,
 }
 
-/// What is true at every state. The disjunctions go into a store that is let go.
+/// What is true at every state, and where the links of each begin.
+#[derive(Drop)]
+pub(crate) struct Surveyed {
+    pub(crate) found: Survey,
+    pub(crate) rows: Places,
+}
+
+/// What is true at every state, with an index of the links, in one pass. The disjunctions go into a store that is let go.
 pub(crate) fn survey_states(
     alloc: Global,
     guards: &Guards,
     names: &Names,
     links: &[Link],
     states: u32,
-) -> Result<Survey, Memory>
+) -> Result<Surveyed, Memory>
     requires names { AreNames guards.now names.now }
     requires has { All (λ l. Has guards.now l.guard) links.now }
     requires in_order { IsNonDecreasing (map (λ l. l.from) links.now) }
-    ensures { IfOk result (AreSurveyed names.now (map (edge_of guards.now) links.now) states) }
+    ensures found { IfOk result (λ all. AreSurveyed names.now (map (edge_of guards.now) links.now) states all.found) }
+    ensures rows { IfOk result (λ all. IsIndex links.now states all.rows) }
 {
     let mut store = guards.copy(alloc)?;
+    let mut rows = Vec::with_capacity(alloc, states as usize + 1)?;
+    let mut start = 0usize;
     let mut apart = true;
     let mut filled = true;
+    rows.push(start)?;
     'states: for state in 0..states {
-        let found = survey_state(&mut store, names, links_from(links, state))?;
+        let end = row_end(links, start, state);
+        let found = survey_state(&mut store, names, &links[start..end])?;
         apart = apart && found.apart;
         filled = filled && found.filled;
+        rows.push(end)?;
+        start = end;
     }
-    Ok(Survey { apart, filled })
+    Ok(Surveyed {
+        found: Survey { apart, filled },
+        rows: Places::from_vec(rows),
+    })
 }
 
 /// What is true of the links of one state. Each is compared with the disjunction of those before it.
