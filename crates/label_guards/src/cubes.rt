@@ -13,9 +13,9 @@ use std::alloc::Global;
 
 /// A proposition, and whether it holds.
 #[derive(Clone, Copy)]
-struct Literal {
-    prop: u32,
-    holds: bool,
+pub(crate) struct Literal {
+    pub(crate) prop: u32,
+    pub(crate) holds: bool,
 }
 
 impl Guards {
