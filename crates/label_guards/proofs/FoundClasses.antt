@@ -16,11 +16,10 @@ use Rattle.label_guards.specs.Leasts.{IsLeastNumber, bits_of}
 use Rattle.label_guards.specs.Nodes.{Grows, IsReduced}
 use Rattle.label_guards.specs.Operations.{IsPlaceOf}
 use Rattle.label_guards.specs.Store.{Store, Has, Keeps, outcome}
-use Rattle.label_guards.proofs.ClassPlaces.{place_same}
 use Rattle.label_guards.proofs.Firsts.{AreFirsts, IsAlikeness, IsEarlier, IsFirst, Test, apart_push, firsts_push, is_apart}
 use Rattle.label_guards.proofs.Growth.{grows_none, grows_on, outcome_kept}
 use Rattle.label_guards.proofs.LabelTruth.{at, keeps, truth_is}
-use Rattle.label_guards.proofs.Parts.{place_kept, true_place}
+use Rattle.label_guards.proofs.Parts.{place_kept, place_same, true_place}
 use Rattle.label_guards.proofs.Valuations.{bits_of-number}
 
 true_false : false ≡ true → ⊥

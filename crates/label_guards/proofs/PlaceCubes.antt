@@ -1,6 +1,6 @@
 -- The cubes of a place are those of its label, and their text.
-use Rattle.std.proofs.Common.{◌≡◌, ℕ, zero, suc, ◌+◌, ◌-◌, ◌<◌, ◌≤◌, ◌∙◌, sym, ap, refl, subst, arith, Bool, true, false, cond, if◌then◌else◌, ◌⊎◌, inl, inr, List, [], ◌∷◌, ◌++◌, map, drop, length}
-use Rattle.std.proofs.lemmas.List.{get_or-drop, length-drop}
+use Rattle.std.proofs.Common.{◌≡◌, ℕ, zero, suc, ◌+◌, ◌-◌, ◌<◌, ◌≤◌, ◌∙◌, sym, ap, refl, arith, Bool, true, false, cond, if◌then◌else◌, ◌⊎◌, inl, inr, List, [], ◌∷◌, ◌++◌, map, drop, length}
+use Rattle.std.proofs.lemmas.List.{append-nil, get_or-drop, length-drop}
 use Rattle.std.specs.Prelude.{codes}
 use Rattle.aut_base.specs.CanonicalLabel.{Literal, is_independent, cubes}
 use Rattle.aut_base.specs.LabelText.{label_text, cube_text, cubes_text, joined}
@@ -157,23 +157,30 @@ no_cube : (cs : List (List Literal)) → false ≡ is_any cs → cs ≡ []
 no_cube [] h = refl
 no_cube (c ∷ cs) h = absurd cc
 
+-- the text of a label, by the cubes of its place
+pub label_of_cubes : (s : Store) (is : IsReduced s.names s.nodes) (g : Guard) → Has s g → (cs : List (List Literal)) → place_cubes s g.place ≡ cs → label_text s.names (label_in s g) ≡ cubes_text cs
+label_of_cubes s is g has cs e = ap cubes_text (cubes_of_guard s is g has ∙ e)
+
 -- what is written of a label that has a cube
-pub label_written : (s : Store) (is : IsReduced s.names s.nodes) (g : Guard) → Has s g → (now : Bool) (new : List ℕ) → WritesCubes [] (place_cubes s g.place) false now [] new → now ≡ true → new ≡ label_text s.names (label_in s g)
-label_written s is g has now new w h =
+pub label_written : (s : Store) (is : IsReduced s.names s.nodes) (g : Guard) → Has s g → (literals : List Literal) (now : Bool) (old new : List ℕ) → literals ≡ [] → WritesCubes literals (place_cubes s g.place) false now old new → now ≡ true → new ≡ old ++ label_text s.names (label_in s g)
+label_written s is g has literals now old new none w h =
     let all = cubes_of_guard s is g has in
     let cs = cubes 0 s.names (truth_on (label_in s g)) in
     let some : true ≡ is_any cs = sym h ∙ (w.some ∙ ap is_any (sym all)) in
-    w.text ∙ (ap (λ ds. pieces_after false (codes " | ") (map cube_piece ds)) (sym all) ∙ tidy_text cs (tidy_cubes 0 s.names (truth_on (label_in s g))) some)
+    w.text ∙ (λ j. old ++ pieces_after false (codes " | ") (map (λ cube. cube_piece (none j ++ cube)) (sym all j))) ∙ ap (λ t. old ++ t) (tidy_text cs (tidy_cubes 0 s.names (truth_on (label_in s g))) some)
 
 -- and of one that has none
-pub no_label_written : (s : Store) (is : IsReduced s.names s.nodes) (g : Guard) → Has s g → (now : Bool) (new last : List ℕ) → WritesCubes [] (place_cubes s g.place) false now [] new → now ≡ false → last ≡ new ++ codes "f" → last ≡ label_text s.names (label_in s g)
-no_label_written s is g has now new last w h f =
-    let all = cubes_of_guard s is g has in
-    let cs = cubes 0 s.names (truth_on (label_in s g)) in
-    let none : cs ≡ [] = no_cube cs (sym h ∙ (w.some ∙ ap is_any (sym all))) in
-    let empty : place_cubes s g.place ≡ [] = sym all ∙ none in
-    f ∙ (ap (λ t. t ++ codes "f") (w.text ∙ ap (λ ds. pieces_after false (codes " | ") (map cube_piece ds)) empty) ∙ sym (ap cubes_text none))
+pub no_label_written : (s : Store) (is : IsReduced s.names s.nodes) (g : Guard) → Has s g → (literals : List Literal) (now : Bool) (old new last : List ℕ) → WritesCubes literals (place_cubes s g.place) false now old new → now ≡ false → last ≡ new ++ codes "f" → last ≡ old ++ label_text s.names (label_in s g)
+no_label_written s is g has literals now old new last w h f =
+    let none : place_cubes s g.place ≡ [] = no_cube (place_cubes s g.place) (sym h ∙ w.some) in
+    let same : new ≡ old = w.text ∙ (ap (λ ds. old ++ pieces_after false (codes " | ") (map (λ cube. cube_piece (literals ++ cube)) ds)) none ∙ append-nil old) in
+    f ∙ (λ j. same j ++ sym (label_of_cubes s is g has [] none) j)
 
--- what is written begins with nothing
-pub fresh : (literals : List Literal) (cs : List (List Literal)) (before now : Bool) (old new : List ℕ) → literals ≡ [] → old ≡ [] → WritesCubes literals cs before now old new → WritesCubes [] cs before now [] new
-fresh literals cs before now old new e f w = subst (λ (t : List ℕ). WritesCubes [] cs before now t new) f (subst (λ (ls : List Literal). WritesCubes ls cs before now old new) e w)
+-- the cubes of a place that is one literal
+pub literal_holds : (s : Store) (is : IsReduced s.names s.nodes) (p : ℕ) (n : Node) → StandsAt s p n → HasPlace s p → n.low ≡ 0 → n.high ≡ 1 → place_cubes s p ≡ (record { prop = n.prop; holds = true } ∷ []) ∷ []
+literal_holds s is p n at has low high =
+    cubes_node s is p n at has ∙ (λ j. map (λ cube. record { prop = n.prop; holds = false } ∷ cube) ((ap (place_cubes s) low ∙ cubes_false s is) j) ++ map (λ cube. record { prop = n.prop; holds = true } ∷ cube) ((ap (place_cubes s) high ∙ cubes_true s is) j))
+
+pub literal_fails : (s : Store) (is : IsReduced s.names s.nodes) (p : ℕ) (n : Node) → StandsAt s p n → HasPlace s p → n.low ≡ 1 → n.high ≡ 0 → place_cubes s p ≡ (record { prop = n.prop; holds = false } ∷ []) ∷ []
+literal_fails s is p n at has low high =
+    cubes_node s is p n at has ∙ (λ j. map (λ cube. record { prop = n.prop; holds = false } ∷ cube) ((ap (place_cubes s) low ∙ cubes_true s is) j) ++ map (λ cube. record { prop = n.prop; holds = true } ∷ cube) ((ap (place_cubes s) high ∙ cubes_false s is) j))

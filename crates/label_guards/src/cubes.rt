@@ -1,6 +1,6 @@
 //! The text of a guard, cube by cube.
 
-ghost use Rattle.std.specs.Prelude.{◌≡◌, ◌++◌, [], ◌∷◌, ◌<◌, Bool, true, map, IfOk, OnOk};
+ghost use Rattle.std.specs.Prelude.{◌≡◌, ◌++◌, [], ◌∷◌, ◌<◌, Bool, true, map, IfOk, IfSome, OnOk};
 ghost use Rattle.std.specs.Fmt.{decimal};
 ghost use Rattle.aut_base.specs.LabelText.{label_text, literal_text};
 ghost use Rattle.label_guards.specs.Pieces.{WritesCubes, cube_piece, literal_of, place_cubes};
@@ -13,9 +13,9 @@ use std::alloc::Global;
 
 /// A proposition, and whether it holds.
 #[derive(Clone, Copy)]
-struct Literal {
-    prop: u32,
-    holds: bool,
+pub(crate) struct Literal {
+    pub(crate) prop: u32,
+    pub(crate) holds: bool,
 }
 
 impl Guards {
@@ -24,21 +24,56 @@ impl Guards {
         requires { Has self.now g }
         ensures { IfOk result (λ text. text ≡ label_text self.now.names (label_in self.now g)) }
     {
-        self.reduced();
         let mut text = Text::new(alloc);
-        let mut cube = Vec::new(alloc);
-        let is_written = self.push_cubes(&mut text, &mut cube, g.place, false)?;
-        if is_written {
-            return Ok(text);
-        }
-        text.push(b'f')?;
+        self.push_cubes(alloc, &mut text, g)?;
         Ok(text)
+    }
+
+    /// Adds the canonical text of the guard's label, as `cubes` gives it. The labels `t`, `f` and those of one literal
+    /// take no memory but that of the text.
+    pub fn push_cubes(&self, alloc: Global, out: &mut Text, g: Guard) -> Result<(), Memory>
+        requires { Has self.now g }
+        ensures { OnOk result (out.new ≡ out.old ++ label_text self.now.names (label_in self.now g)) }
+    {
+        self.reduced();
+        if let Some(literal) = self.literal_at(g.place) {
+            return push_literal(out, literal);
+        }
+        let mut cube = Vec::new(alloc);
+        let is_written = self.push_place(out, &mut cube, g.place, false)?;
+        if is_written {
+            return Ok(());
+        }
+        out.push(b'f')
+    }
+
+    /// The literal that this place is, if it is one.
+    fn literal_at(&self, place: usize) -> Option<Literal>
+        requires { HasPlace self.now place }
+        ensures { IfSome result (λ literal. place_cubes self.now place ≡ (literal_of literal ∷ []) ∷ []) }
+    {
+        self.reduced();
+        if place < 2 {
+            return None;
+        }
+        let node = self.node_at(place);
+        match (node.low, node.high) {
+            (0, 1) => Some(Literal {
+                prop: node.prop,
+                holds: true,
+            }),
+            (1, 0) => Some(Literal {
+                prop: node.prop,
+                holds: false,
+            }),
+            _ => None,
+        }
     }
 
     /// Adds each cube of a place, under the literals of this one. ` | ` stands before each cube, but for the first
     /// of the label. Answers whether a cube of the label is written now.
     #[cycle(cubes)]
-    fn push_cubes(
+    fn push_place(
         &self,
         out: &mut Text,
         cube: &mut Vec<Literal>,
@@ -85,13 +120,14 @@ impl Guards {
         ensures cubes { IfOk result (λ now. WritesCubes (map literal_of cube.old.items ++ literal_of literal ∷ []) (place_cubes self.now place) is_written now out.old out.new) }
     {
         cube.push(literal)?;
-        let is_written = self.push_cubes(out, cube, place, is_written)?;
+        let is_written = self.push_place(out, cube, place, is_written)?;
         let _ = cube.pop();
         Ok(is_written)
     }
 }
 
 /// Adds one cube more.
+#[inline]
 fn push_next(out: &mut Text, cube: &[Literal], is_written: bool) -> Result<(), Memory>
     ensures { OnOk result (WritesCubes (map literal_of cube.now) ([] ∷ []) is_written true out.old out.new) }
 {
@@ -119,6 +155,7 @@ fn push_cube(out: &mut Text, cube: &[Literal]) -> Result<(), Memory>
 }
 
 /// Adds a literal.
+#[inline]
 fn push_literal(out: &mut Text, literal: Literal) -> Result<(), Memory>
     ensures { OnOk result (out.new ≡ out.old ++ literal_text (literal_of literal)) }
 {

@@ -91,6 +91,7 @@ impl Guards {
     }
 
     /// The proposition that is asked for first at this place, or the number of propositions at `f` and `t`.
+    #[inline]
     pub(crate) fn level(&self, place: usize) -> u32
         requires { HasPlace self.now place }
         ensures level { result ≡ level self.now place }
@@ -101,6 +102,7 @@ impl Guards {
     }
 
     /// The node at this place.
+    #[inline]
     pub(crate) fn node_at(&self, place: usize) -> Node
         requires inner { 2 ≤ place }
         requires has { HasPlace self.now place }
@@ -110,6 +112,7 @@ impl Guards {
     }
 
     /// Where to go on if the proposition fails, and if it holds.
+    #[inline]
     pub(crate) fn sides(&self, place: usize, prop: u32) -> (usize, usize)
         requires has { HasPlace self.now place }
         requires later { prop ≤ level self.now place }
@@ -120,6 +123,7 @@ impl Guards {
     }
 
     /// The place where the proposition decides between these two.
+    #[inline]
     pub(crate) fn choice(&mut self, prop: u32, low: usize, high: usize) -> Result<usize, Memory>
         requires low { HasPlace self.old low }
         requires high { HasPlace self.old high }
@@ -133,6 +137,7 @@ impl Guards {
     }
 
     /// The result in the table, if it is there.
+    #[inline]
     fn known(&self, operation: Operation, g: usize, h: usize) -> Option<usize>
         ensures { IfSome result (λ place. IsJoin self.now operation g h place) }
     {
@@ -183,6 +188,7 @@ impl Guards {
 }
 
 /// The result, where it needs no look at the nodes.
+#[inline]
 fn shortcut(operation: Operation, g: usize, h: usize) -> Option<usize>
     ensures short { IfSome result (λ place. IsShort operation g h place) }
     ensures inner { IfNone result ((2 ≤ g) ⊎ (2 ≤ h)) }
@@ -194,10 +200,14 @@ fn shortcut(operation: Operation, g: usize, h: usize) -> Option<usize>
     }
 }
 
+#[inline]
 fn short_and(g: usize, h: usize) -> Option<usize>
     ensures short { IfSome result (λ place. IsShort Operation.And g h place) }
     ensures inner { IfNone result ((2 ≤ g) ⊎ (2 ≤ h)) }
 {
+    if g == h {
+        return Some(g);
+    }
     match (g, h) {
         (0, _) | (_, 0) => Some(0),
         (1, _) => Some(h),
@@ -206,10 +216,14 @@ fn short_and(g: usize, h: usize) -> Option<usize>
     }
 }
 
+#[inline]
 fn short_or(g: usize, h: usize) -> Option<usize>
     ensures short { IfSome result (λ place. IsShort Operation.Or g h place) }
     ensures inner { IfNone result ((2 ≤ g) ⊎ (2 ≤ h)) }
 {
+    if g == h {
+        return Some(g);
+    }
     match (g, h) {
         (1, _) | (_, 1) => Some(1),
         (0, _) => Some(h),
@@ -218,6 +232,7 @@ fn short_or(g: usize, h: usize) -> Option<usize>
     }
 }
 
+#[inline]
 fn short_xor(g: usize, h: usize) -> Option<usize>
     ensures short { IfSome result (λ place. IsShort Operation.Xor g h place) }
     ensures inner { IfNone result ((2 ≤ g) ⊎ (2 ≤ h)) }

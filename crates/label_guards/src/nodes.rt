@@ -81,6 +81,7 @@ impl Nodes {
     }
 
     /// The node at this place.
+    #[inline]
     pub(crate) fn node_at(&self, place: usize) -> Node
         requires inner { 2 ≤ place }
         requires has { HasPlace self.now place }
@@ -90,6 +91,7 @@ impl Nodes {
     }
 
     /// The proposition that is asked for first at this place, or the number of propositions at `f` and `t`.
+    #[inline]
     pub(crate) fn level(&self, place: usize) -> u32
         requires { HasPlace self.now place }
         ensures level { result ≡ level self.now place }
@@ -103,6 +105,7 @@ impl Nodes {
     }
 
     /// Where to go on if the proposition fails, and if it holds.
+    #[inline]
     pub(crate) fn sides(&self, place: usize, prop: u32) -> (usize, usize)
         requires has { HasPlace self.now place }
         requires later { prop ≤ level self.now place }

@@ -6,23 +6,23 @@ use Rattle.label_guards.proofs.Pieces.{both_sides, none_written}
 use Rattle.label_guards.proofs.PlaceCubes.{cubes_false, cubes_true, cubes_node}
 use Rattle.label_guards.proofs.guards.Guards.+cubes.Goals as goal
 
-pub push_cubes-returns-then-place-eq0-clause-cubes :
-    goal.push_cubes-returns-then-place-eq0-clause-cubes
-push_cubes-returns-then-place-eq0-clause-cubes t c =
+pub push_place-returns-then-place-eq0-clause-cubes :
+    goal.push_place-returns-then-place-eq0-clause-cubes
+push_place-returns-then-place-eq0-clause-cubes t c =
     let literals = map literal_of c.args.cube.now.items in
     let none : place_cubes c.args.self.now c.args.place ≡ [] = ap (place_cubes c.args.self.now) c.if-place-eq0.true ∙ cubes_false c.args.self.now c.reduced.ensures in
     subst (λ (cs : List (List Literal)). WritesCubes literals cs c.args.is_written c.args.is_written c.args.out.now c.args.out.now) (sym none) (none_written literals c.args.is_written c.args.out.now)
 
-pub push_cubes-returns-then-place-eq1-clause-cubes :
-    goal.push_cubes-returns-then-place-eq1-clause-cubes
-push_cubes-returns-then-place-eq1-clause-cubes t c =
+pub push_place-returns-then-place-eq1-clause-cubes :
+    goal.push_place-returns-then-place-eq1-clause-cubes
+push_place-returns-then-place-eq1-clause-cubes t c =
     let literals = map literal_of c.args.cube.now.items in
     let one : place_cubes c.args.self.now c.args.place ≡ [] ∷ [] = ap (place_cubes c.args.self.now) c.if-place-eq1.true ∙ cubes_true c.args.self.now c.reduced.ensures in
     subst (λ (cs : List (List Literal)). WritesCubes literals cs c.args.is_written true c.args.out.now c.push_next.new.out) (sym one)
     (subst (λ (ls : List Literal). WritesCubes ls ([] ∷ []) c.args.is_written true c.args.out.now c.push_next.new.out) (ap (map literal_of) c.deref.ensures.value) c.in_ok-push_next.ensures)
 
-pub push_cubes-returns-clause-cubes : goal.push_cubes-returns-clause-cubes
-push_cubes-returns-clause-cubes t c =
+pub push_place-returns-clause-cubes : goal.push_place-returns-clause-cubes
+push_place-returns-clause-cubes t c =
     IfOk-weaker c.push_side-2.result _ _
     (λ now v.
     let same = rw c.in_ok-is_written.ensures.kept at v in
