@@ -24,11 +24,13 @@ pub enum Header {
     Other,
 }
 
-/// The header of this name.
+/// The header of this name. `State` is asked first: a body has one for each of its states.
 pub(crate) fn header_named(name: &Text) -> Header
     ensures { result ≡ header_of name.now }
 {
-    if name.is(b"States") {
+    if name.is(b"State") {
+        Header::State
+    } else if name.is(b"States") {
         Header::States
     } else if name.is(b"Start") {
         Header::Start
@@ -48,8 +50,6 @@ pub(crate) fn header_named(name: &Text) -> Header
         Header::Properties
     } else if name.is(b"HOA") {
         Header::Opening
-    } else if name.is(b"State") {
-        Header::State
     } else {
         Header::Other
     }

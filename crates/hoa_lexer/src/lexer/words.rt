@@ -1,13 +1,13 @@
 //! Identifiers, names of headers and aliases.
 
-ghost use Rattle.std.specs.Prelude.{◌≡◌, ◌+◌, ◌<◌, ◌∷◌, None, true, OnOk, IfOk, IfErr};
+ghost use Rattle.std.specs.Prelude.{◌≡◌, ◌+◌, ◌<◌, ◌∷◌, [], None, true, OnOk, IfOk, IfErr};
 ghost use Rattle.hoa_lexer.specs.Reading.{held_count, unread, Tells};
 ghost use Rattle.hoa_lexer.specs.Bytes as kinds;
 
 use super::Lexer;
 use super::bytes::is_word;
 use crate::{LexFault, Token};
-use aut_base::Text;
+use aut_base::{Memory, Text};
 use aut_io::Inputs;
 use std::alloc::Global;
 
@@ -31,8 +31,7 @@ impl Lexer {
         ensures advances { Advances (stop_of result) self.old self.new (I.seen inputs.old) (I.seen inputs.new) }
     {
         self.held = None;
-        let mut name = Text::new(alloc);
-        name.push(first)?;
+        let mut name = begun(alloc, first)?;
         match self.word_bytes(inputs, &mut name)? {
             Some(b':') => {
                 self.held = None;
@@ -97,4 +96,13 @@ impl Lexer {
             }
         }
     }
+}
+
+/// A name that begins with this byte, and has room at once for as many as most names have.
+fn begun(alloc: Global, first: u8) -> Result<Text, Memory>
+    ensures { IfOk result (λ name. name ≡ first ∷ []) }
+{
+    let mut bytes = Vec::with_capacity(alloc, 8)?;
+    bytes.push(first)?;
+    Ok(Text::from_vec(bytes))
 }

@@ -76,6 +76,7 @@ fn state_at<I: Inputs>(
 }
 
 /// ("[" label "]")?
+#[inline]
 fn maybe_label<I: Inputs>(
     alloc: Global,
     lexer: &mut Lexer,

@@ -261,6 +261,7 @@ fn truth_value(word: &Text) -> Option<RawLabel>
 }
 
 /// "t" | "f" | INT | ANAME
+#[inline]
 fn atom<I: Inputs>(
     alloc: Global,
     lexer: &mut Lexer,

@@ -16,6 +16,7 @@ use hoa_lexer::{Lexer, Token};
 use std::alloc::Global;
 
 /// conj = INT ("&" INT)*
+#[inline]
 pub(super) fn conj<I: Inputs>(
     alloc: Global,
     lexer: &mut Lexer,
@@ -153,6 +154,7 @@ pub(super) fn values<I: Inputs>(
 }
 
 /// sig?, with sig = "{" INT* "}"
+#[inline]
 pub(super) fn maybe_marks<I: Inputs>(
     alloc: Global,
     lexer: &mut Lexer,

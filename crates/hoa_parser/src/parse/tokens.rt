@@ -15,6 +15,7 @@ use std::alloc::Global;
 use std::mem;
 
 /// Takes the token at hand, in whose place comes the one behind it.
+#[inline(always)]
 pub(super) fn take<I: Inputs>(
     alloc: Global,
     lexer: &mut Lexer,
@@ -48,6 +49,7 @@ pub(super) fn advance<I: Inputs>(
 }
 
 /// What is answered of a token that cannot stand where it does: the one at hand, which the lexer gave last.
+#[cold]
 pub(super) fn refused(lexer: &Lexer) -> ReadFault
     ensures { result ≡ ReadFault.Syntax lexer.now.offset }
 {
@@ -55,6 +57,7 @@ pub(super) fn refused(lexer: &Lexer) -> ReadFault
 }
 
 /// INT
+#[inline]
 pub(super) fn number<I: Inputs>(
     alloc: Global,
     lexer: &mut Lexer,

@@ -20,7 +20,7 @@ returns-in_err-word_bytes-clause-answers g c =
     (λ x z p. word_err c.in_err-word_bytes.field-0.0 _ _ c.args.first _ _ x z c.requires.letter c.in_err-word_bytes.ensures.none_held p)
     c.in_err-word_bytes.ensures.answers)
 
-pub returns-in_err-push-clause-answers : goal.returns-in_err-push-clause-answers
-returns-in_err-push-clause-answers g c =
+pub returns-in_err-name-clause-answers : goal.returns-in_err-name-clause-answers
+returns-in_err-name-clause-answers g c =
     handed_on (λ r x z. ReadsToken r c.args.self.now.offset (c.args.first ∷ x) z) (g.I.Inputs.seen c.args.inputs.now).left (g.I.Inputs.seen c.args.inputs.now).left _ _ c.from_residual.ensures.1
     (between_same (g.I.Inputs.seen c.args.inputs.now).left _ (λ x. word_stops c.args.first x c.requires.letter))
