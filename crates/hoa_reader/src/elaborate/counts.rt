@@ -43,6 +43,7 @@ pub(crate) fn are_tall<'a>(labels: &[&'a RawLabel], known: &Places<'a, Known>) -
 }
 
 /// What the label of an edge counts, where its state has none.
+#[inline]
 fn own_count<'a>(edge: &'a RawEdge, known: &Places<'a, Known>) -> u64
     ensures { result ≡ option_map_or (own_counted known.now) (written_edge edge.now).label 0 }
 {
@@ -66,6 +67,7 @@ fn state_weight<'a>(state: &'a RawState, known: &Places<'a, Known>) -> Option<u6
 }
 
 /// What the edge counts, where its state counts this for each.
+#[inline]
 fn edge_count<'a>(own: Option<u64>, edge: &'a RawEdge, known: &Places<'a, Known>) -> u64
     ensures { (s : WrittenState) → own ≡ option_map (capped_size (sizes_in known.now)) s.label → result ≡ edge_counted known.now s (written_edge edge.now) }
 {

@@ -14,6 +14,7 @@ use crate::elaborate::labels::{expand, letter_label};
 use crate::elaborate::marks::joined;
 use crate::elaborate::parts::AliasDef;
 use crate::elaborate::places::Places;
+use crate::elaborate::sizes::count_of_edges;
 use crate::elaborate::starts::only_state;
 use aut_base::{Edge, Edges, Label, Memory};
 use hoa_parser::{RawEdge, RawState};
@@ -29,6 +30,7 @@ pub(crate) struct Shared<'a> {
 }
 
 /// The label of the edge that stands at this place in its state.
+#[inline]
 fn label_of<'a>(
     alloc: Global,
     shared: &Shared<'a>,
@@ -129,7 +131,7 @@ pub(crate) fn edges_of<'a>(
     ensures { IfOk result (λ edges. map tree_edge edges ≡ edges_for shared.now (map written_state states.now) count) }
 {
     let places = places_of(alloc, states, count)?;
-    let mut edges = Edges::new(alloc);
+    let mut edges = Edges::from_vec(Vec::with_capacity(alloc, count_of_edges(states))?);
     'numbers: for number in 0..places.len() {
         let Some(place) = places[number] else {
             continue;

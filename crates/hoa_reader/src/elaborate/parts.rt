@@ -7,6 +7,7 @@ ghost use Rattle.hoa_parser.specs.Raw.{raw_tree, written, written_edge, written_
 ghost use Rattle.hoa_reader.specs.Validity.{acceptance_item, alias_item, names_item, no_acceptance, start_item, states_item, state_labels};
 ghost use Rattle.hoa_reader.specs.inner.Pieces.{alias_def, acceptance_def, label_refs, list_of};
 
+use crate::elaborate::sizes::count_of_edges;
 use crate::elaborate::used::after_used;
 use aut_base::{Formula, Memory, Numbers, Text};
 use hoa_parser::{Item, Raw, RawEdge, RawLabel, RawState};
@@ -97,7 +98,7 @@ pub(crate) fn starts_of(alloc: Global, items: &[Item]) -> Result<Vec<&Numbers>, 
 pub(crate) fn labels_of(alloc: Global, states: &[RawState]) -> Result<Vec<&RawLabel>, Memory>
     ensures { IfOk result (λ labels. map label_refs labels.items ≡ flat_map state_labels (map written_state states.now)) }
 {
-    let mut labels = Vec::new(alloc);
+    let mut labels = Vec::with_capacity(alloc, count_of_edges(states))?;
     'states: for state in states {
         add_label(&mut labels, &state.label)?;
         add_labels(&mut labels, state.edges.as_slice())?;
@@ -116,6 +117,7 @@ fn add_labels<'a>(labels: &mut Vec<&'a RawLabel>, edges: &'a [RawEdge]) -> Resul
 }
 
 /// Adds the label, if there is one.
+#[inline]
 fn add_label<'a>(labels: &mut Vec<&'a RawLabel>, label: &'a Option<RawLabel>) -> Result<(), Memory>
     ensures { OnOk result (map label_refs labels.new.items ≡ map label_refs labels.old.items ++ option_to_list (option_map raw_tree label.now)) }
 {

@@ -24,6 +24,7 @@ pub(crate) fn starts_of(alloc: Global, groups: &[&Numbers]) -> Result<Numbers, M
 }
 
 /// The state that a start or an edge names.
+#[inline]
 pub(crate) fn only_state(states: &Numbers) -> u32
     ensures { result ≡ only_state states.now }
 {
