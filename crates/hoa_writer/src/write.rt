@@ -150,8 +150,7 @@ fn push_link(alloc: Global, out: &mut Text, guards: &Guards, link: &Link) -> Res
     ensures { OnOk result (out.new ≡ out.old ++ link_line guards.now link.now) }
 {
     out.push(b'[')?;
-    let label = guards.cubes(alloc, link.guard)?;
-    out.extend(label.as_bytes())?;
+    guards.push_cubes(alloc, out, link.guard)?;
     out.extend(b"] ")?;
     push_number(out, link.to)?;
     push_marks(out, link.marks.as_slice())?;
