@@ -1,9 +1,11 @@
 pub mod AllByRecursion
+pub mod AllPairsOf
 pub mod CanonicalAutomata
 pub mod CanonicalBelow
 pub mod CanonicalLabels
 pub mod CanonicalTruth
 pub mod Capped
+pub mod Climbing
 pub mod Copies
 pub mod Examples
 pub mod FormulaSizes
@@ -14,11 +16,15 @@ pub mod LabelSizes
 pub mod LabelTrees
 pub mod LetterNames
 pub mod Lists
+pub mod Members
 pub mod Numbers
 pub mod OneState
 pub mod Ordered
 pub mod OtherEdges
+pub mod Outcomes
+pub mod Paths
 pub mod Places
+pub mod Rising
 pub mod SameEdges
 pub mod SameWord
 pub mod Spelled

@@ -14,5 +14,6 @@ mod over;
 mod survey;
 
 pub use automaton::Automaton;
+pub use copies::{copy_link, copy_marks, copy_names, copy_numbers};
 pub use join::{NameFault, join_names};
 pub use link::{Link, Links};

@@ -3,14 +3,14 @@ use Rattle.std.proofs.Common.{◌≡◌, ◌≢◌, ◌<◌, ◌&&◌, ℕ, Bool
 use Rattle.std.proofs.lemmas.Bool.{and_from}
 use Rattle.std.proofs.lemmas.List.Elements.{All-contains, All-filter, All-map, All-weaker}
 use Rattle.std.proofs.lemmas.List.Kept.{AllPairs-filter}
+use Rattle.aut_base.proofs.Climbing.{Climbs, climbs_in_order, climbs_lower, in_order_climbs}
+use Rattle.aut_base.proofs.Members.{from_filter, there_filter, there_map}
 use Rattle.aut_base.specs.Acceptance.{Accepts, IsPath}
 use Rattle.aut_base.specs.Automaton.{Automaton, IsEdgeOf, IsWellFormed, TreeEdge}
 use Rattle.aut_base.specs.Label.{holds_at, truth}
 use Rattle.aut_base.specs.Word.{NameSet, copies}
 use Rattle.aut_core.specs.OtherNames.{AcceptTheSame}
 use Rattle.aut_ops.proofs.Labels.{not_never}
-use Rattle.aut_ops.proofs.Members.{from_filter, there_filter, there_map}
-use Rattle.aut_ops.proofs.Rows.{Climbs, climbs_in_order, climbs_lower, in_order_climbs}
 use Rattle.aut_ops.proofs.SinkRuns.{path_wider}
 use Rattle.aut_ops.specs.Passable.{arc_of, between, is_flagged, is_passable, passable_arcs, passable_edges, stays}
 use Rattle.graph_walk.proofs.WalkLemmas.{reach_none, reach_then}

@@ -8,7 +8,7 @@ use Rattle.std.proofs.lemmas.List.Sums.{fold-append}
 use Rattle.std.proofs.lemmas.Grind.{flat_map-append}
 use Rattle.std.specs.List.{list_any}
 use Rattle.std.specs.Prelude.{flat_map}
-use Rattle.aut_ops.proofs.Members.{Tells, found_there, none_there, there_cases, there_flat_map, there_found}
+use Rattle.aut_base.proofs.Members.{found_there, none_there, Tells, there_cases, there_flat_map, there_found}
 use Rattle.aut_ops.specs.BreadthFirst.{IsBreadthFirst, IsReached, Leads, once, with_new}
 
 -- what is reached

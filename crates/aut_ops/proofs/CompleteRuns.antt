@@ -8,13 +8,13 @@ use Rattle.std.proofs.lemmas.List.Folds.{Any-from_list_any}
 use Rattle.std.proofs.lemmas.List.FromFn.{get_or-map-range_with_len, length-map-range_with_len}
 use Rattle.std.proofs.lemmas.Map.Steps.{length-le_from_distinct_below}
 use Rattle.std.specs.List.{AllByRecursion, IsDistinct, list_any, range_with_len}
+use Rattle.aut_base.proofs.Paths.{path_join}
 use Rattle.aut_base.proofs.Truth.{left_of_or, right_of_or}
 use Rattle.aut_base.specs.Acceptance.{IsPath}
 use Rattle.aut_base.specs.Automaton.{Automaton, IsEdgeOf, IsWellFormed, TreeEdge}
 use Rattle.aut_base.specs.Word.{NameSet, copies}
 use Rattle.aut_core.specs.Deterministic.{IsComplete}
 use Rattle.aut_ops.specs.inner.Runs.{HasRun, HasRuns}
-use Rattle.aut_ops.proofs.Paths.{path_join}
 
 -- a number that stands at two places
 record Twice (xs : List ℕ) : Type 0 where

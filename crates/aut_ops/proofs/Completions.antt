@@ -7,14 +7,15 @@ use Rattle.std.specs.List.{list_any, range_with_len}
 use Rattle.std.specs.Prelude.{flat_map}
 use Rattle.acc_forms.specs.Joined.{conj}
 use Rattle.aut_base.proofs.CanonicalBelow.{label_of_below}
+use Rattle.aut_base.proofs.Climbing.{AllFrom, climbs_in_order, climbs_rows}
+use Rattle.aut_base.proofs.Members.{each_there, first_there, from_filter, from_flat_map, from_range, none_there, there_cases, there_filter, there_flat_map, there_range_zero}
 use Rattle.aut_base.specs.Automaton.{Automaton, IsEdgeOf, IsWellFormed, TreeEdge}
 use Rattle.aut_base.specs.Formula.{Fin, FormulaTree, SetsBelow}
 use Rattle.aut_base.specs.Label.{True}
 use Rattle.aut_base.specs.Valuation.{truth_on}
 use Rattle.aut_core.specs.Surveys.{edges_from}
 use Rattle.aut_ops.proofs.FormulaSets.{sets_conj, sets_weaker}
-use Rattle.aut_ops.proofs.Members.{each_there, first_there, from_filter, from_flat_map, from_range, none_there, there_cases, there_filter, there_flat_map, there_range_zero}
-use Rattle.aut_ops.proofs.Rows.{AllFrom, climbs_in_order, climbs_rows, other_row, own_row, row_of, rows_before}
+use Rattle.aut_ops.proofs.Rows.{other_row, own_row, row_of, rows_before}
 use Rattle.aut_ops.specs.Completion.{filled_edges, gap_edges, is_met_unmarked, sink_marks, with_sink}
 use Rattle.aut_ops.specs.Labels.{is_never, no_label}
 

@@ -10,6 +10,7 @@ use Rattle.std.proofs.lemmas.Option.{get_or_from_slice_get, slice_get_within}
 use Rattle.std.specs.List.{AllZip}
 use Rattle.std.specs.Prelude.{flat_map}
 use Rattle.aut_base.proofs.Lists.{take-slice_get}
+use Rattle.aut_base.proofs.Members.{each_there, from_filter}
 use Rattle.aut_base.specs.Automaton.{Automaton}
 use Rattle.aut_core.proofs.Growth.{keeps_on}
 use Rattle.aut_core.specs.Core.{Core, IsCore, IsLinkOf, automaton_of, edge_of}
@@ -19,7 +20,6 @@ use Rattle.label_guards.specs.Store.{Has, Keeps, Store}
 use Rattle.aut_ops.proofs.BreadthFirst.{added, added_differ, added_each, once_differ, reached_next, reached_start}
 use Rattle.aut_ops.proofs.FilledStates.{row_edges, row_have}
 use Rattle.aut_ops.proofs.JointEdges.{reached_within}
-use Rattle.aut_ops.proofs.Members.{each_there, from_filter}
 use Rattle.aut_ops.proofs.Pairings.{ends}
 use Rattle.aut_ops.proofs.Places.{pair_tells}
 use Rattle.aut_ops.specs.BreadthFirst.{IsReached, once, with_new}

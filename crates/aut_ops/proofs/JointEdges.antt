@@ -3,10 +3,10 @@ use Rattle.std.proofs.Common.{◌≡◌, ◌≢◌, ◌∙◌, ◌==◌, ◌+◌
 use Rattle.std.proofs.lemmas.Bool.{eq-eqb, eqb-true}
 use Rattle.std.proofs.lemmas.List.Elements.{All-contains}
 use Rattle.std.specs.Prelude.{flat_map}
+use Rattle.aut_base.proofs.Members.{first_there, from_filter, from_flat_map, from_map, none_there, there_cases, there_filter, there_flat_map, there_map}
 use Rattle.aut_base.specs.Automaton.{Automaton, IsEdgeOf, IsWellFormed, TreeEdge}
 use Rattle.aut_core.specs.Surveys.{edges_from}
 use Rattle.aut_ops.proofs.BreadthFirst.{listed_differ, next_listed, reached_keeps, start_listed}
-use Rattle.aut_ops.proofs.Members.{first_there, from_filter, from_flat_map, from_map, none_there, there_cases, there_filter, there_flat_map, there_map}
 use Rattle.aut_ops.proofs.Places.{pair_tells, place_there}
 use Rattle.aut_ops.specs.BreadthFirst.{IsReached}
 use Rattle.aut_ops.specs.Labels.{both_labels, is_never}

@@ -3,6 +3,7 @@ use Rattle.std.proofs.Common.{◌≡◌, ◌≢◌, ◌∙◌, ◌↔◌, ◌⊎
 use Rattle.std.proofs.lemmas.Bool.{cases_Bool, false≢true}
 use Rattle.std.specs.List.{list_all, list_any, slice_index_or}
 use Rattle.aut_base.proofs.CanonicalTruth.{label_of-same, truth-label_of, truth_below}
+use Rattle.aut_base.proofs.Members.{first_there, from_flat_map, later_there, none_there, there_cases}
 use Rattle.aut_base.proofs.ValuationLetters.{letter_of_holds}
 use Rattle.aut_base.proofs.ValuationLists.{all_valuations, each_valuation, holds_in-valuation_of, length-valuation_of}
 use Rattle.aut_base.specs.Automaton.{TreeEdge}
@@ -13,7 +14,6 @@ use Rattle.aut_core.proofs.Made.{label_in_below, label_in_settled}
 use Rattle.label_guards.specs.Guards.{IsGuardOf, IsNeverMet, truth_in}
 use Rattle.label_guards.specs.Store.{Store, label_in}
 use Rattle.label_guards.specs.declared.guard.Guard.{Guard}
-use Rattle.aut_ops.proofs.Members.{first_there, from_flat_map, later_there, none_there, there_cases}
 use Rattle.aut_ops.specs.Labels.{both_labels, is_never, no_label}
 
 -- the truth of labels

@@ -4,6 +4,8 @@ use Rattle.std.proofs.Common.{◌≡◌, ◌∙◌, ℕ, zero, suc, ◌+◌, ◌
 use Rattle.std.proofs.lemmas.List.{map-append}
 use Rattle.std.proofs.lemmas.List.Folds.{list_all-append, list_any-append}
 use Rattle.std.specs.List.{list_all, list_any}
+use Rattle.aut_base.proofs.Copies.{copies-copies, copies-push}
+use Rattle.aut_base.proofs.Paths.{path_copies, path_join, path_split}
 use Rattle.aut_base.proofs.SameEdges.{Alike, gone_alike, met_alike}
 use Rattle.aut_base.proofs.Truth.{and_comm, or_comm}
 use Rattle.aut_base.specs.Acceptance.{Accepts, IsPath}
@@ -11,7 +13,6 @@ use Rattle.aut_base.specs.Automaton.{Automaton, TreeEdge}
 use Rattle.aut_base.specs.Formula.{FormulaTree, met}
 use Rattle.aut_base.specs.Word.{NameSet, copies}
 use Rattle.aut_ops.specs.inner.Runs.{LassoRun}
-use Rattle.aut_ops.proofs.Paths.{copies-copies, copies-push, path_copies, path_join, path_split}
 
 -- the cycle as conditions see it
 abbrev pub marks_of : List TreeEdge → List (List ℕ)

@@ -5,6 +5,8 @@ use Rattle.std.proofs.lemmas.List.Elements.{All-contains}
 use Rattle.std.proofs.lemmas.Map.Made.{IsDistinct-from_AllPairs, is_member-Decides, length-le_from_is_member}
 use Rattle.std.specs.Cmp.{IsEquivalence}
 use Rattle.aut_base.proofs.CanonicalBelow.{label_of_below}
+use Rattle.aut_base.proofs.Members.{from_map, there_map}
+use Rattle.aut_base.proofs.Paths.{path_join}
 use Rattle.aut_base.specs.Acceptance.{IsPath}
 use Rattle.aut_base.specs.Automaton.{Automaton, IsEdgeOf, IsWellFormed, TreeEdge}
 use Rattle.aut_base.specs.Label.{AllBelow, holds_at, truth}
@@ -13,8 +15,6 @@ use Rattle.aut_base.specs.Word.{NameSet}
 use Rattle.aut_ops.proofs.BreadthFirst.{listed_differ, listed_exactly, listed_once, reached_keeps, reached_next, reached_start}
 use Rattle.aut_ops.proofs.JointEdges.{from_start, joined, made_of, there_joint, there_start}
 use Rattle.aut_ops.proofs.Labels.{not_never, some_letter, truth_both}
-use Rattle.aut_ops.proofs.Members.{from_map, there_map}
-use Rattle.aut_ops.proofs.Paths.{path_join}
 use Rattle.aut_ops.proofs.Places.{pair_tells}
 use Rattle.aut_ops.specs.BreadthFirst.{IsReached}
 use Rattle.aut_ops.specs.Labels.{both_labels}

@@ -1,4 +1,3 @@
-pub mod AllPairsOf
 pub mod Alone
 pub mod Between
 pub mod BreadthFirst
@@ -21,9 +20,7 @@ pub mod Linked
 pub mod ListSteps
 pub mod Listings
 pub mod MadeProducts
-pub mod Members
 pub mod Pairings
-pub mod Paths
 pub mod Places
 pub mod ProductFormed
 pub mod ProductLanguages

@@ -8,6 +8,7 @@ use Rattle.std.specs.List.{AllZip}
 use Rattle.std.proofs.lemmas.Grind.{flat_map-append}
 use Rattle.std.specs.Prelude.{flat_map}
 use Rattle.aut_base.proofs.Lists.{slice_get-append_left, take-push}
+use Rattle.aut_base.proofs.Members.{each_there}
 use Rattle.aut_base.specs.Automaton.{TreeEdge}
 use Rattle.aut_core.proofs.Growth.{kept_edges, keeps_none, keeps_on}
 use Rattle.aut_core.specs.Core.{edge_of}
@@ -18,7 +19,6 @@ use Rattle.label_guards.specs.declared.guard.Guard.{Guard}
 use Rattle.aut_ops.proofs.BreadthFirst.{added, with_new_longer}
 use Rattle.aut_ops.proofs.JointEdges.{joined}
 use Rattle.aut_ops.proofs.Labels.{label_both, never_is}
-use Rattle.aut_ops.proofs.Members.{each_there}
 use Rattle.aut_ops.proofs.Places.{pair_tells}
 use Rattle.aut_ops.specs.BreadthFirst.{with_new}
 use Rattle.aut_ops.specs.Labels.{both_labels, is_never}

@@ -5,7 +5,7 @@ use Rattle.std.proofs.lemmas.List.Sums.{position_or_len_is}
 use Rattle.std.proofs.lemmas.Option.{get_or_from_slice_get, slice_get_within}
 use Rattle.std.specs.List.{position_or_len}
 use Rattle.aut_base.proofs.Lists.{slice_get-at}
-use Rattle.aut_ops.proofs.Members.{Tells}
+use Rattle.aut_base.proofs.Members.{Tells}
 use Rattle.aut_ops.specs.Products.{same_pair}
 
 pub pair_tells : Tells same_pair

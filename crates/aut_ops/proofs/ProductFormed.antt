@@ -6,17 +6,17 @@ use Rattle.std.proofs.lemmas.Option.{same_Some, slice_get_within}
 use Rattle.std.specs.List.{position_or_len}
 use Rattle.std.specs.Prelude.{flat_map}
 use Rattle.acc_forms.specs.Shift.{shift}
+use Rattle.aut_base.proofs.AllPairsOf.{pairs_append, pairs_first, pairs_map, pairs_rest}
 use Rattle.aut_base.proofs.CanonicalBelow.{label_of_below}
+use Rattle.aut_base.proofs.Climbing.{AllFrom, Climbs, climbs_in_order, climbs_lower, climbs_row}
+use Rattle.aut_base.proofs.Members.{each_there, from_flat_map, from_map}
 use Rattle.aut_base.specs.Automaton.{Automaton, IsEdgeOf, IsWellFormed, TreeEdge}
 use Rattle.aut_base.specs.Formula.{FormulaTree, SetsBelow}
 use Rattle.aut_base.specs.Label.{AllBelow}
 use Rattle.aut_base.specs.Valuation.{truth_on}
-use Rattle.aut_ops.proofs.AllPairsOf.{pairs_append, pairs_first, pairs_map, pairs_rest}
 use Rattle.aut_ops.proofs.FormulaSets.{sets_shift, sets_weaker}
 use Rattle.aut_ops.proofs.JointEdges.{edge_of, from_start, made_of, pairs_differ, start_there}
-use Rattle.aut_ops.proofs.Members.{each_there, from_flat_map, from_map}
 use Rattle.aut_ops.proofs.Places.{pair_tells, place_is, place_there}
-use Rattle.aut_ops.proofs.Rows.{AllFrom, Climbs, climbs_in_order, climbs_lower, climbs_row}
 use Rattle.aut_ops.specs.Products.{ArePairs, JointEdge, joint_edges, numbered, product_on, same_pair, start_pairs}
 
 -- all pairs of one state and these

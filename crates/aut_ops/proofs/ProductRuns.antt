@@ -7,6 +7,7 @@ use Rattle.std.proofs.lemmas.Option.{get_or_from_slice_get, same_Some, slice_get
 use Rattle.std.specs.List.{AllZip, position_or_len}
 use Rattle.acc_forms.specs.Shift.{shift}
 use Rattle.aut_base.proofs.CanonicalBelow.{label_of_below}
+use Rattle.aut_base.proofs.Members.{from_map, there_map}
 use Rattle.aut_base.specs.Acceptance.{IsPath}
 use Rattle.aut_base.specs.Automaton.{Automaton, IsEdgeOf, IsWellFormed, TreeEdge}
 use Rattle.aut_base.specs.Formula.{FormulaTree, SetsBelow, met}
@@ -18,7 +19,6 @@ use Rattle.aut_ops.proofs.JointEdges.{edge_of, edge_there, from_start, joined, n
 use Rattle.aut_ops.proofs.Labels.{not_never, truth_both}
 use Rattle.aut_ops.proofs.LassoRuns.{Likewise, later, marks_of}
 use Rattle.aut_ops.specs.inner.Runs.{LassoRun}
-use Rattle.aut_ops.proofs.Members.{from_map, there_map}
 use Rattle.aut_ops.proofs.Places.{one_place, pair_tells, place_there}
 use Rattle.aut_ops.proofs.Simulations.{Simulates, run_image}
 use Rattle.aut_ops.specs.Labels.{both_labels}

@@ -1,16 +1,16 @@
 -- What holds of an automaton whose flagged states are numbered anew: of each start and each end of an edge, which are flagged.
 use Rattle.std.proofs.Common.{◌≡◌, ◌≢◌, ◌∙◌, ◌<◌, ℕ, Bool, true, List, [], ◌∷◌, All, Contains, ap, arith, map, refl, sym}
 use Rattle.std.proofs.lemmas.List.Elements.{All-contains, All-map, same_from_all_zip}
+use Rattle.aut_base.proofs.AllPairsOf.{pairs_map}
+use Rattle.aut_base.proofs.Climbing.{Climbs, climbs_in_order, in_order_climbs}
+use Rattle.aut_base.proofs.Members.{each_there, from_map, there_map}
 use Rattle.aut_base.specs.Acceptance.{Accepts}
 use Rattle.aut_base.specs.Automaton.{Automaton, IsEdgeOf, IsWellFormed, TreeEdge}
 use Rattle.aut_base.specs.Formula.{met}
 use Rattle.aut_base.specs.Label.{holds_at, truth}
 use Rattle.aut_core.specs.OtherNames.{AcceptTheSame}
-use Rattle.aut_ops.proofs.AllPairsOf.{pairs_map}
 use Rattle.aut_ops.proofs.LassoRuns.{accepts_of, marks_of, run_of}
-use Rattle.aut_ops.proofs.Members.{each_there, from_map, there_map}
 use Rattle.aut_ops.proofs.Ranks.{rank_less, rank_one, rank_rises}
-use Rattle.aut_ops.proofs.Rows.{Climbs, climbs_in_order, in_order_climbs}
 use Rattle.aut_ops.proofs.Simulations.{Simulates, run_image}
 use Rattle.aut_ops.specs.Passable.{is_flagged}
 use Rattle.aut_ops.specs.Trimming.{rank, renumbered, renumbered_edge}

@@ -9,6 +9,7 @@ use Rattle.acc_forms.proofs.AtomLaws.{met-empty}
 use Rattle.acc_forms.proofs.JoinLaws.{met-conj}
 use Rattle.acc_forms.specs.Joined.{conj}
 use Rattle.aut_base.proofs.Copies.{length-copies}
+use Rattle.aut_base.proofs.Members.{none_there, there_cases}
 use Rattle.aut_base.proofs.Walks.{as_long}
 use Rattle.aut_base.specs.Acceptance.{Accepts, IsPath}
 use Rattle.aut_base.specs.Automaton.{Automaton, IsEdgeOf, IsWellFormed, TreeEdge}
@@ -21,7 +22,6 @@ use Rattle.aut_core.specs.OtherNames.{AcceptTheSame}
 use Rattle.aut_ops.proofs.Completions.{Kind, kind, loop, old_there}
 use Rattle.aut_ops.proofs.CycleMarks.{not_in_past}
 use Rattle.aut_ops.proofs.LassoRuns.{marks_of}
-use Rattle.aut_ops.proofs.Members.{none_there, there_cases}
 use Rattle.aut_ops.specs.Completion.{is_met_unmarked, sink_marks, with_sink}
 
 -- each edge of a path is one of the automaton's

@@ -9,6 +9,7 @@ use Rattle.std.proofs.lemmas.List.Quantifiers.{all_pairs_push}
 use Rattle.std.specs.List.{list_all, list_any, range_with_len}
 use Rattle.aut_base.proofs.CanonicalAutomata.{labels_below}
 use Rattle.aut_base.proofs.CanonicalBelow.{label_of_below}
+use Rattle.aut_base.proofs.Members.{from_filter, from_range, later_there, none_there, there_cases, there_filter, there_range_zero}
 use Rattle.aut_base.proofs.Truth.{true_from_not}
 use Rattle.aut_base.specs.Automaton.{Automaton, IsWellFormed, TreeEdge}
 use Rattle.aut_base.specs.Label.{AllBelow, holds_at}
@@ -20,7 +21,6 @@ use Rattle.aut_core.specs.OtherNames.{AcceptTheSame}
 use Rattle.aut_core.specs.Surveys.{AreAllApart, edges_from}
 use Rattle.aut_ops.proofs.Completions.{edges_own, gap, gap_there, loop, loop_there, old_there, sink_row, state_row, with_sink_formed}
 use Rattle.aut_ops.proofs.Labels.{at_letter, never_each, never_false, not_never, truth_none}
-use Rattle.aut_ops.proofs.Members.{from_filter, from_range, later_there, none_there, there_cases, there_filter, there_range_zero}
 use Rattle.aut_ops.proofs.SinkRuns.{sink_keeps_language}
 use Rattle.aut_ops.specs.Completion.{completed, lacks_nothing, with_sink}
 use Rattle.aut_ops.specs.Labels.{is_never, no_label}

@@ -8,6 +8,9 @@ use Rattle.std.specs.List.{AllZip, list_all, list_any}
 use Rattle.acc_forms.proofs.JoinLaws.{met-conj, met-disj}
 use Rattle.acc_forms.specs.Joined.{conj}
 use Rattle.acc_forms.specs.Shift.{shift}
+use Rattle.aut_base.proofs.AllPairsOf.{pairs_append, pairs_map}
+use Rattle.aut_base.proofs.Climbing.{Climbs, climbs_append, climbs_in_order, climbs_lower, in_order_climbs}
+use Rattle.aut_base.proofs.Members.{from_map, there_map}
 use Rattle.aut_base.proofs.Truth.{and-true, and_comm, or-false, or_comm}
 use Rattle.aut_base.specs.Acceptance.{Accepts, IsPath}
 use Rattle.aut_base.specs.Automaton.{Automaton, IsEdgeOf, IsWellFormed, TreeEdge}
@@ -15,12 +18,9 @@ use Rattle.aut_base.specs.Formula.{Fin, Inf, met}
 use Rattle.aut_base.specs.Label.{AllBelow, holds_at, truth}
 use Rattle.aut_base.specs.Marks.{is_in}
 use Rattle.aut_base.specs.Word.{NameSet, copies}
-use Rattle.aut_ops.proofs.AllPairsOf.{pairs_append, pairs_map}
 use Rattle.aut_ops.proofs.CycleMarks.{AgreeRaised, is_in_raise, met_raised, not_in_past, raise}
 use Rattle.aut_ops.proofs.FormulaSets.{sets_conj, sets_disj, sets_shift, sets_weaker}
 use Rattle.aut_ops.proofs.LassoRuns.{accepts_of, marks_of, run_of}
-use Rattle.aut_ops.proofs.Members.{from_map, there_map}
-use Rattle.aut_ops.proofs.Rows.{Climbs, climbs_append, climbs_in_order, climbs_lower, in_order_climbs}
 use Rattle.aut_ops.proofs.Simulations.{Answer, Simulates, run_image}
 use Rattle.aut_ops.proofs.SinkRuns.{cycle_long, path_marks}
 use Rattle.aut_ops.specs.Languages.{AcceptsEither}

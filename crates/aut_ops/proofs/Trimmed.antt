@@ -1,10 +1,10 @@
 -- What holds of a trimmed automaton.
 use Rattle.std.proofs.Common.{◌≡◌, ◌&&◌, ℕ, Bool, true, List, Contains, length}
 use Rattle.std.proofs.lemmas.Bool.{and_parts}
+use Rattle.aut_base.proofs.Members.{from_filter}
 use Rattle.aut_base.specs.Automaton.{Automaton, IsWellFormed, TreeEdge}
 use Rattle.aut_core.specs.OtherNames.{AcceptTheSame}
 use Rattle.aut_ops.proofs.Between.{between_accepts, between_formed}
-use Rattle.aut_ops.proofs.Members.{from_filter}
 use Rattle.aut_ops.proofs.Renumbered.{AreEnds, renumbered_accepts, renumbered_formed}
 use Rattle.aut_ops.specs.Passable.{between, is_flagged, is_passable, passable_arcs, stays}
 use Rattle.aut_ops.specs.Trimming.{renumbered}

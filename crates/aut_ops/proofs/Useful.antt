@@ -5,6 +5,7 @@ use Rattle.std.proofs.lemmas.List.{length-map}
 use Rattle.std.proofs.lemmas.List.Elements.{All-contains, All-map, All-weaker}
 use Rattle.std.proofs.lemmas.List.FromFn.{get_or-map-range_with_len, length-range_with_len}
 use Rattle.std.specs.List.{list_any, range_with_len}
+use Rattle.aut_base.proofs.Members.{from_filter, from_map, there_filter, there_map}
 use Rattle.aut_base.specs.Acceptance.{Accepts, IsPath}
 use Rattle.aut_base.specs.Automaton.{Automaton, IsWellFormed, TreeEdge}
 use Rattle.aut_base.specs.Formula.{Inf, met}
@@ -15,7 +16,6 @@ use Rattle.aut_core.specs.OtherNames.{AcceptTheSame}
 use Rattle.aut_core.specs.declared.link.Link.{Link}
 use Rattle.aut_ops.proofs.Between.{between_accepts, edge_reaches, passable_there, path_reaches}
 use Rattle.aut_ops.proofs.LassoRuns.{marks_of}
-use Rattle.aut_ops.proofs.Members.{from_filter, from_map, there_filter, there_map}
 use Rattle.aut_ops.specs.Passable.{arc_of, between, is_flagged, is_passable, passable_arcs, passable_edges}
 use Rattle.aut_ops.specs.Pruning.{AreUseful, IsMarkedOnCycle, IsUseful}
 use Rattle.aut_ops.specs.inner.Renumbering.{both_flagged, link_closes, link_passable, new_number, turned_arc}

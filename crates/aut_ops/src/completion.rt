@@ -11,10 +11,10 @@ ghost use Rattle.aut_ops.specs.Labels.{no_label};
 ghost use Rattle.aut_ops.specs.inner.Linked.{StandFor};
 ghost use Rattle.label_guards.specs.Store.{Has, Keeps, label_in};
 
-use crate::copies::{copy_names, copy_numbers, push_links};
+use crate::copies::push_links;
 use acc_forms::{conj, empty_meets};
 use aut_base::{Formula, Marks, Memory, Numbers};
-use aut_core::{Automaton, Link, Links};
+use aut_core::{Automaton, Link, Links, copy_names, copy_numbers};
 use label_guards::{Guard, Guards};
 use std::alloc::Global;
 

@@ -3,12 +3,7 @@
 ghost use Rattle.std.specs.Prelude.{◌≡◌, ◌+◌, ◌<◌, ◌^◌, ◌++◌, All, IfOk, map};
 
 use aut_base::{Marks, Memory};
-
-pub(crate) fn copy_marks(marks: &Marks) -> Result<Marks, Memory>
-    ensures { IfOk result (λ copy. copy ≡ marks.now) }
-{
-    Ok(marks.clone()?)
-}
+use aut_core::copy_marks;
 
 /// The marks, and behind them the others, raised by this number, which is above the first.
 pub(crate) fn joint_marks(marks: &Marks, others: &Marks, by: u32) -> Result<Marks, Memory>

@@ -6,9 +6,8 @@ ghost use Rattle.aut_ops.specs.Passable.{is_flagged, passable_arcs};
 ghost use Rattle.aut_ops.specs.inner.Renumbering.{link_passable, link_stays};
 ghost use Rattle.label_guards.specs.Store.{Has};
 
-use crate::copies::copy_link;
 use aut_base::{Arcs, Memory, Numbers};
-use aut_core::{Automaton, Link, Links};
+use aut_core::{Automaton, Link, Links, copy_link};
 use graph_walk::Graph;
 use std::alloc::Global;
 

@@ -13,13 +13,12 @@ ghost use Rattle.aut_ops.specs.inner.Joins.{JoinAccepts, join_of};
 ghost use Rattle.label_guards.specs.Store.{Keeps};
 
 use crate::completion::complete;
-use crate::copies::copy_names;
 use crate::exploration::{explore, list_starts};
 use crate::fault::PairFault;
 use crate::join::Join;
 use crate::pairing::Pairing;
 use crate::shared::share;
-use aut_core::{Automaton, join_names};
+use aut_core::{Automaton, copy_names, join_names};
 use std::alloc::Global;
 
 /// The product: an automaton that accepts what both accept. Its states are the pairs of states that some letters lead to in

@@ -10,10 +10,9 @@ ghost use Rattle.aut_ops.specs.Pruning.{AreUseful, IsPruned};
 ghost use Rattle.aut_ops.specs.inner.Renumbering.{both_flagged, link_closes, turned_arc};
 ghost use Rattle.label_guards.specs.Store.{Has};
 
-use crate::copies::copy_names;
 use crate::passable::{flagged_starts, is_passable, links_between, passable_graph};
 use aut_base::{Arcs, Flags, Memory, Numbers};
-use aut_core::{Automaton, Link};
+use aut_core::{Automaton, Link, copy_names};
 use graph_walk::{Graph, components, reach};
 use std::alloc::Global;
 

@@ -5,9 +5,8 @@ ghost use Rattle.std.specs.List.{range_with_len};
 ghost use Rattle.aut_ops.specs.Trimming.{rank};
 ghost use Rattle.aut_ops.specs.inner.Renumbering.{new_link, new_number};
 
-use crate::joint_marks::copy_marks;
 use aut_base::{Memory, Numbers};
-use aut_core::{Link, Links};
+use aut_core::{Link, Links, copy_marks};
 use std::alloc::Global;
 
 /// How the flagged states are numbered.

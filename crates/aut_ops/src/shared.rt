@@ -8,10 +8,8 @@ ghost use Rattle.aut_core.specs.OtherNames.{AcceptTheSame, HaveBoth, over_names}
 ghost use Rattle.aut_ops.specs.inner.Linked.{StandFor};
 ghost use Rattle.label_guards.specs.Store.{Keeps};
 
-use crate::copies::{copy_names, copy_numbers};
-use crate::joint_marks::copy_marks;
 use aut_base::{Memory, Names, Numbers};
-use aut_core::{Automaton, Link, Links};
+use aut_core::{Automaton, Link, Links, copy_marks, copy_names, copy_numbers};
 use label_guards::Guards;
 use std::alloc::Global;
 

@@ -13,12 +13,12 @@ ghost use Rattle.aut_ops.specs.Sums.{side_by_side, summed};
 ghost use Rattle.aut_ops.specs.inner.Linked.{moved_link};
 ghost use Rattle.label_guards.specs.Store.{Keeps};
 
-use crate::copies::{copy_names, copy_numbers, push_links};
+use crate::copies::push_links;
 use crate::joint_marks::joint_marks;
 use crate::shared::share;
 use acc_forms::{conj, disj, shift};
 use aut_base::{Formula, Marks, Memory, Names, Numbers};
-use aut_core::{Automaton, Link, Links, NameFault, join_names};
+use aut_core::{Automaton, Link, Links, NameFault, copy_names, copy_numbers, join_names};
 use std::alloc::Global;
 
 /// The sum: an automaton that accepts what one of the two accepts. The second's states follow the first's. Each edge of the

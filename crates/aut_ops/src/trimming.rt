@@ -6,11 +6,10 @@ ghost use Rattle.aut_core.specs.OtherNames.{AcceptTheSame};
 ghost use Rattle.aut_ops.specs.Passable.{between};
 ghost use Rattle.aut_ops.specs.Trimming.{IsTrimmed, renumbered};
 
-use crate::copies::copy_names;
 use crate::passable::{flagged_starts, links_between, passable_graph};
 use crate::renumbering::{number_flagged, renumbered, renumbered_links};
 use aut_base::Memory;
-use aut_core::Automaton;
+use aut_core::{Automaton, copy_names};
 use graph_walk::reach;
 use std::alloc::Global;
 

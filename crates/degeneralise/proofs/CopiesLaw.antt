@@ -3,6 +3,7 @@ use Rattle.std.proofs.Common.{◌≡◌, ◌∙◌, ◌↔◌, ◌≤◌, ◌<�
 use Rattle.std.specs.List.{list_any, range_with_len}
 use Rattle.std.proofs.lemmas.List.{length-map}
 use Rattle.std.proofs.lemmas.Option.{none-some, same_Some}
+use Rattle.aut_base.proofs.Members.{from_map, from_range, there_map, there_range}
 use Rattle.aut_base.specs.Acceptance.{IsPath}
 use Rattle.aut_base.specs.Automaton.{Automaton, IsWellFormed, TreeEdge}
 use Rattle.aut_base.specs.Formula.{met}
@@ -17,7 +18,6 @@ use Rattle.fin_removal.proofs.CopiedLaw.{copied_accepts_the_same, marks_of, not_
 use Rattle.fin_removal.proofs.CopiedPaths.{IsElsewhere, IsMain, copies_of, from_copy, from_main, not_main}
 use Rattle.fin_removal.proofs.CopiedWhole.{copied_well_formed}
 use Rattle.fin_removal.proofs.CopyNumbers.{Owns}
-use Rattle.fin_removal.proofs.Members.{from_map, from_range, in_map, in_range}
 use Rattle.fin_removal.proofs.TermMet.{each_passed, passes_each}
 use Rattle.fin_removal.specs.Copies.{CopyOfTerm as TermCopy, copied, owned, owned_sets, state_in}
 use Rattle.fin_removal.specs.Meeting.{meets, literal_places}
@@ -36,7 +36,7 @@ sets_passed copy es some carried level within =
 
 passed_sets : (copy : TermCopy) (es : List TreeEdge) → PassesAll (owned copy) es → (set : ℕ) → Owns copy set → list_any (is_in set) (marks_of es) ≡ true
 passed_sets copy es passes set own =
-    each_passed (owned copy) (marks_of es) passes (Inf set false) (in_map (λ s. Inf s false) (range_with_len copy.first (literal_places copy.infs)) set (in_range copy.first (literal_places copy.infs) set own.from own.to))
+    each_passed (owned copy) (marks_of es) passes (Inf set false) (there_map (λ s. Inf s false) (range_with_len copy.first (literal_places copy.infs)) set (there_range copy.first (literal_places copy.infs) set own.from own.to))
 
 -- a state of the main copy, or of the copy of a term
 record IsIn (a : Automaton) (state : ℕ) : Type 0 where

@@ -4,6 +4,7 @@ use Rattle.std.specs.List.{list_all, list_any}
 use Rattle.std.proofs.lemmas.Bool.{false≢true}
 use Rattle.std.proofs.lemmas.List.{length-map}
 use Rattle.std.proofs.lemmas.Option.{none-some, same_Some}
+use Rattle.aut_base.proofs.Members.{each_from, each_is, first_there, from_flat_map, there_flat_map}
 use Rattle.aut_base.proofs.Truth.{and-true}
 use Rattle.aut_base.specs.Acceptance.{IsPath}
 use Rattle.aut_base.specs.Automaton.{Automaton, IsWellFormed, TreeEdge}
@@ -16,7 +17,6 @@ use Rattle.acc_forms.specs.declared.literal.Literal.{Literal}
 use Rattle.acc_forms.specs.declared.literal.Literal.TheVariants.{Inf}
 use Rattle.fin_removal.proofs.CopiedEdges.{edge_bounds}
 use Rattle.fin_removal.proofs.CopiedLaw.{marks_of}
-use Rattle.fin_removal.proofs.Members.{each_from, each_is, first_member, from_flat_map, in_flat_map}
 use Rattle.fin_removal.proofs.TermMet.{each_passed, passes_each}
 use Rattle.fin_removal.specs.Meeting.{meets}
 use Rattle.degeneralise.specs.Buchi.{Watch, inf_literals, is_generalised_buchi, is_inf_atom, levelled, levels, watch_of}
@@ -50,7 +50,7 @@ met_literal cycle (Or a b cs) l there = absurd (omega (arith, there.1))
 literal_of : (f : FormulaTree) → is_inf_atom f ≡ true → (l : Literal) × Contains (inf_literals f) l
 literal_of True inf = absurd (false≢true inf)
 literal_of False inf = absurd (false≢true inf)
-literal_of (formula.Inf set neg) inf = (Inf set neg, first_member (Inf set neg) [])
+literal_of (formula.Inf set neg) inf = (Inf set neg, first_there (Inf set neg) [])
 literal_of (formula.Fin set neg) inf = absurd (false≢true inf)
 literal_of (And a b cs) inf = absurd (false≢true inf)
 literal_of (Or a b cs) inf = absurd (false≢true inf)
@@ -62,7 +62,7 @@ generalised_asks f es generalised some = (
       sym (met_literal (marks_of es) part.0 l part.2) ∙ each_is (met (marks_of es)) (conjuncts f) part.0 (all-conjuncts (marks_of es) f ∙ holds) part.1)) level,
   λ passes. sym (all-conjuncts (marks_of es) f) ∙ each_from (met (marks_of es)) (conjuncts f) (λ part there.
       (let l = literal_of part (each_is is_inf_atom (conjuncts f) part generalised there) in
-      met_literal (marks_of es) part l.0 l.1 ∙ each_passed (flat_map inf_literals (conjuncts f)) (marks_of es) passes l.0 (in_flat_map inf_literals (conjuncts f) part l.0 there l.1))),
+      met_literal (marks_of es) part l.0 l.1 ∙ each_passed (flat_map inf_literals (conjuncts f)) (marks_of es) passes l.0 (there_flat_map inf_literals (conjuncts f) part l.0 there l.1))),
 )
 
 -- a path that isn't empty begins with an edge

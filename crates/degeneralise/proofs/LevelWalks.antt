@@ -3,6 +3,7 @@ use Rattle.std.proofs.Common.{◌≡◌, ◌∙◌, ◌<◌, ◌≤◌, ◌||◌
 use Rattle.std.specs.List.{list_any}
 use Rattle.std.proofs.lemmas.Bool.{false≢true, or_cases}
 use Rattle.std.proofs.lemmas.Nat.{same_from_place}
+use Rattle.aut_base.proofs.Members.{first_there, later_there}
 use Rattle.aut_base.specs.Acceptance.{IsPath}
 use Rattle.aut_base.specs.Automaton.{Automaton, IsWellFormed, TreeEdge}
 use Rattle.aut_base.specs.Label.{holds_at, truth}
@@ -11,7 +12,6 @@ use Rattle.aut_base.specs.Word.{NameSet}
 use Rattle.acc_forms.specs.declared.literal.Literal.{Literal}
 use Rattle.fin_removal.proofs.CopiedEdges.{edge_bounds}
 use Rattle.fin_removal.proofs.CopiedLaw.{marks_of}
-use Rattle.fin_removal.proofs.Members.{first_member, later_member}
 use Rattle.degeneralise.specs.Buchi.{Watch, edge_at, level_after, levelled, levels, marks_at, state_at}
 use Rattle.degeneralise.proofs.LevelledEdges.{comes_from, has_level}
 use Rattle.degeneralise.proofs.Turns.{marked, turn, turn_below}
@@ -121,13 +121,13 @@ module _ (k : ℕ) (watch : ℕ → Watch) (a : Automaton) (has : HasRoom k watc
 pub end_is_turn : (watch : ℕ → Watch) (ls : List Literal) (level : ℕ) (es : List TreeEdge) → ((e : TreeEdge) → Contains es e → watch e.from ≡ Some ls) → end_level watch level es ≡ turn ls level es
 end_is_turn watch ls level [] waits = refl
 end_is_turn watch ls level (e ∷ es) waits =
-    ap (λ w. end_level watch (level_after w level e.marks) es) (waits e (first_member e es)) ∙ end_is_turn watch ls (level_after (Some ls) level e.marks) es (λ f there. waits f (later_member e es f there))
+    ap (λ w. end_level watch (level_after w level e.marks) es) (waits e (first_there e es)) ∙ end_is_turn watch ls (level_after (Some ls) level e.marks) es (λ f there. waits f (later_there e es f there))
 
 pub marks_are_marked : (k : ℕ) (watch : ℕ → Watch) (ls : List Literal) (level : ℕ) (es : List TreeEdge) → ((e : TreeEdge) → Contains es e → watch e.from ≡ Some ls) → list_any (is_in 0) (marks_of (walk k watch level es)) ≡ marked ls level es
 marks_are_marked k watch ls level [] waits = refl
 marks_are_marked k watch ls level (e ∷ es) waits =
-    ap (λ w. is_in 0 (marks_at w level e.marks) || list_any (is_in 0) (marks_of (walk k watch (level_after w level e.marks) es))) (waits e (first_member e es))
-    ∙ ap (λ b. is_in 0 (marks_at (Some ls) level e.marks) || b) (marks_are_marked k watch ls (level_after (Some ls) level e.marks) es (λ f there. waits f (later_member e es f there)))
+    ap (λ w. is_in 0 (marks_at w level e.marks) || list_any (is_in 0) (marks_of (walk k watch (level_after w level e.marks) es))) (waits e (first_there e es))
+    ∙ ap (λ b. is_in 0 (marks_at (Some ls) level e.marks) || b) (marks_are_marked k watch ls (level_after (Some ls) level e.marks) es (λ f there. waits f (later_there e es f there)))
 
 pub end_then : (watch : ℕ → Watch) (level : ℕ) (es fs : List TreeEdge) → end_level watch level (es ++ fs) ≡ end_level watch (end_level watch level es) fs
 end_then watch level [] fs = refl

@@ -2,9 +2,9 @@
 use Rattle.std.proofs.Common.{◌≡◌, ◌∙◌, ◌<◌, ◌==◌, ℕ, Contains, ap, arith, map, refl}
 use Rattle.std.specs.List.{range_with_len}
 use Rattle.std.proofs.lemmas.Bool.{eq-eqb, eqb-true}
+use Rattle.aut_base.proofs.Members.{from_filter, from_flat_map, from_map, from_range, there_filter, there_flat_map, there_map, there_range}
 use Rattle.aut_base.specs.Automaton.{Automaton, TreeEdge}
 use Rattle.aut_core.specs.Surveys.{edges_from}
-use Rattle.fin_removal.proofs.Members.{from_filter, from_flat_map, from_map, from_range, in_filter, in_flat_map, in_map, in_range}
 use Rattle.degeneralise.specs.Buchi.{Watch, edge_at, level_edges, levelled, levels}
 
 pub record AtLevel (k : ℕ) (watch : ℕ → Watch) (a : Automaton) (f : TreeEdge) : Type 0 where
@@ -26,6 +26,6 @@ comes_from k watch a f there =
 
 pub has_level : (k : ℕ) (watch : ℕ → Watch) (a : Automaton) (e : TreeEdge) (level : ℕ) → Contains a.edges e → e.from < a.states → level < levels (watch e.from) → Contains (levelled k watch a).edges (edge_at k (watch e.from) level e)
 has_level k watch a e level there within below =
-    in_flat_map (λ state. level_edges k (edges_from state a.edges) (watch state)) (range_with_len 0 a.states) e.from (edge_at k (watch e.from) level e) (in_range 0 a.states e.from (omega arith) (omega (arith, within)))
-    (in_flat_map (λ l. map (edge_at k (watch e.from) l) (edges_from e.from a.edges)) (range_with_len 0 (levels (watch e.from))) level (edge_at k (watch e.from) level e) (in_range 0 (levels (watch e.from)) level (omega arith) (omega (arith, below)))
-    (in_map (edge_at k (watch e.from) level) (edges_from e.from a.edges) e (in_filter (λ (d : TreeEdge). d.from == e.from) a.edges e there (eq-eqb e.from e.from refl))))
+    there_flat_map (λ state. level_edges k (edges_from state a.edges) (watch state)) (range_with_len 0 a.states) e.from (edge_at k (watch e.from) level e) (there_range 0 a.states e.from (omega arith) (omega (arith, within)))
+    (there_flat_map (λ l. map (edge_at k (watch e.from) l) (edges_from e.from a.edges)) (range_with_len 0 (levels (watch e.from))) level (edge_at k (watch e.from) level e) (there_range 0 (levels (watch e.from)) level (omega arith) (omega (arith, below)))
+    (there_map (edge_at k (watch e.from) level) (edges_from e.from a.edges) e (there_filter (λ (d : TreeEdge). d.from == e.from) a.edges e there (eq-eqb e.from e.from refl))))

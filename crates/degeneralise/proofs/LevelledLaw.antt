@@ -3,7 +3,9 @@ use Rattle.std.proofs.Common.{◌≡◌, ◌∙◌, ◌↔◌, ◌+◌, ◌-◌,
 use Rattle.std.specs.List.{list_any}
 use Rattle.std.proofs.lemmas.Bool.{cases_Bool, false≢true}
 use Rattle.std.proofs.lemmas.Nat.{mul-lt, same_from_place}
-use Rattle.aut_base.proofs.Copies.{any-copies}
+use Rattle.aut_base.proofs.Copies.{any-copies, copies-add, copies-copies}
+use Rattle.aut_base.proofs.Members.{any_found, any_from, from_map, there_map}
+use Rattle.aut_base.proofs.Paths.{goes_on, path_copies, path_join}
 use Rattle.aut_base.specs.Acceptance.{Accepts, IsPath}
 use Rattle.aut_base.specs.Automaton.{Automaton, TreeEdge}
 use Rattle.aut_base.specs.Formula.{met}
@@ -12,8 +14,6 @@ use Rattle.aut_base.specs.Word.{NameSet, copies}
 use Rattle.aut_core.specs.OtherNames.{AcceptTheSame}
 use Rattle.acc_forms.specs.declared.literal.Literal.{Literal}
 use Rattle.fin_removal.proofs.CopiedLaw.{gone_on, marks_of}
-use Rattle.fin_removal.proofs.Members.{from_map, in_map, some_from, some_is}
-use Rattle.fin_removal.proofs.Paths.{copies_add, copies_times, goes_on, path_again, path_then}
 use Rattle.fin_removal.proofs.TermMet.{Passes}
 use Rattle.fin_removal.specs.Meeting.{meets_at, literal_places}
 use Rattle.degeneralise.specs.Buchi.{Watch, level_after, levelled, levels, state_at}
@@ -34,12 +34,12 @@ pub record AsksFor (watch : ℕ → Watch) (a : Automaton) : Type 0 where
 passed_on : (ls : List Literal) (level : ℕ) (es : List TreeEdge) → Passes ls level (marks_of es) → met_on ls level es ≡ true
 passed_on ls level es passes =
     let edge = from_map (λ (e : TreeEdge). e.marks) es passes.marks passes.there in
-    some_from (λ (e : TreeEdge). meets_at ls level e.marks) es edge.0 edge.1 (ap (meets_at ls level) edge.2 ∙ passes.meets)
+    any_from (λ (e : TreeEdge). meets_at ls level e.marks) es edge.0 edge.1 (ap (meets_at ls level) edge.2 ∙ passes.meets)
 
 on_passed : (ls : List Literal) (level : ℕ) (es : List TreeEdge) → met_on ls level es ≡ true → Passes ls level (marks_of es)
 on_passed ls level es met =
-    let found = some_is (λ (e : TreeEdge). meets_at ls level e.marks) es met in
-    record { marks = found.0.marks; there = in_map (λ (e : TreeEdge). e.marks) es found.0 found.1; meets = found.2 }
+    let found = any_found (λ (e : TreeEdge). meets_at ls level e.marks) es met in
+    record { marks = found.0.marks; there = there_map (λ (e : TreeEdge). e.marks) es found.0 found.1; meets = found.2 }
 
 -- the levels at which rounds of a cycle begin
 rounds_at : List Literal → ℕ → List TreeEdge → ℕ → ℕ
@@ -66,7 +66,7 @@ closed_rounds ls level es below passes =
     let some : 0 < rounds = omega arith in
     let at : ℕ = turn ls level (copies found.first es) in
     let here : at < literal_places ls = round_below ls level (copies found.first es) below in
-    let back : turn ls at (copies rounds es) ≡ at = sym (turn_then ls level (copies found.first es) (copies rounds es)) ∙ (ap (turn ls level) (sym (copies_add found.first rounds es) ∙ ap (λ n. copies n es) all) ∙ sym found.same) in
+    let back : turn ls at (copies rounds es) ≡ at = sym (turn_then ls level (copies found.first es) (copies rounds es)) ∙ (ap (turn ls level) (sym (copies-add found.first rounds es) ∙ ap (λ n. copies n es) all) ∙ sym found.same) in
     let met : met_on ls at (copies rounds es) ≡ true = any-copies (λ (e : TreeEdge). meets_at ls at e.marks) rounds es some ∙ passed_on ls at es (passes at here) in
     record {
       before = found.first;
@@ -91,8 +91,8 @@ module _ (k : ℕ) (watch : ℕ → Watch) (a : Automaton) (has : HasRoom k watc
       let closed = closed_rounds ls level r.cycle below passes in
       let i = closed.before in
       let d = closed.rounds in
-      let round = path_again a r.state i (copies r.rounds v) r.cycle r.returns in
-      let again = path_again a r.state d (copies r.rounds v) r.cycle r.returns in
+      let round = path_copies a r.state i (copies r.rounds v) r.cycle r.returns in
+      let again = path_copies a r.state d (copies r.rounds v) r.cycle r.returns in
       let along = waits_along k watch a has r.state r.state (copies i (copies r.rounds v)) (copies i r.cycle) ls round waits in
       let along_again = waits_along k watch a has r.state r.state (copies d (copies r.rounds v)) (copies d r.cycle) ls again waits in
       let at : ℕ = turn ls level (copies i r.cycle) in
@@ -100,9 +100,9 @@ module _ (k : ℕ) (watch : ℕ → Watch) (a : Automaton) (has : HasRoom k watc
       let ends : end_level watch 0 way ≡ at = end_then watch 0 r.way (copies i r.cycle) ∙ end_is_turn watch ls level (copies i r.cycle) along in
       let ends_again : end_level watch at (copies d r.cycle) ≡ at = end_is_turn watch ls at (copies d r.cycle) along_again ∙ closed.back in
       let at_below : at < levels (watch r.state) = subst (λ (w : Watch). at < levels w) (sym waits) (round_below ls level (copies i r.cycle) below) in
-      let word : (u ++ copies r.turns v) ++ copies i (copies r.rounds v) ≡ u ++ copies (r.turns + i * r.rounds) v = ap (λ (w : List NameSet). (u ++ copies r.turns v) ++ w) (copies_times i r.rounds v) ∙ gone_on u v r.turns (i * r.rounds) in
-      let leads : IsPath a r.start (u ++ copies (r.turns + i * r.rounds) v) way r.state = subst (λ (w : List NameSet). IsPath a r.start w way r.state) word (path_then a r.start r.state r.state (u ++ copies r.turns v) (copies i (copies r.rounds v)) r.way (copies i r.cycle) r.leads round) in
-      let returns : IsPath a r.state (copies (d * r.rounds) v) (copies d r.cycle) r.state = subst (λ (w : List NameSet). IsPath a r.state w (copies d r.cycle) r.state) (copies_times d r.rounds v) again in
+      let word : (u ++ copies r.turns v) ++ copies i (copies r.rounds v) ≡ u ++ copies (r.turns + i * r.rounds) v = ap (λ (w : List NameSet). (u ++ copies r.turns v) ++ w) (copies-copies i r.rounds v) ∙ gone_on u v r.turns (i * r.rounds) in
+      let leads : IsPath a r.start (u ++ copies (r.turns + i * r.rounds) v) way r.state = subst (λ (w : List NameSet). IsPath a r.start w way r.state) word (path_join a r.start r.state r.state (u ++ copies r.turns v) (copies i (copies r.rounds v)) r.way (copies i r.cycle) r.leads round) in
+      let returns : IsPath a r.state (copies (d * r.rounds) v) (copies d r.cycle) r.state = subst (λ (w : List NameSet). IsPath a r.state w (copies d r.cycle) r.state) (copies-copies d r.rounds v) again in
       let walk_leads = walk_path k watch a has r.start r.state 0 (u ++ copies (r.turns + i * r.rounds) v) way start_below leads in
       let walk_returns = walk_path k watch a has r.state r.state at (copies (d * r.rounds) v) (copies d r.cycle) at_below returns in
       record {
@@ -113,7 +113,7 @@ module _ (k : ℕ) (watch : ℕ → Watch) (a : Automaton) (has : HasRoom k watc
         rounds = d * r.rounds;
         way = walk k watch 0 way;
         cycle = walk k watch at (copies d r.cycle);
-        is_start = in_map (λ start. state_at k start 0) a.starts r.start r.is_start;
+        is_start = there_map (λ start. state_at k start 0) a.starts r.start r.is_start;
         leads = subst (λ (l : ℕ). IsPath (levelled k watch a) (state_at k r.start 0) (u ++ copies (r.turns + i * r.rounds) v) (walk k watch 0 way) (state_at k r.state l)) ends walk_leads;
         positive = mul-lt 0 0 d r.rounds closed.positive r.positive;
         returns = subst (λ (l : ℕ). IsPath (levelled k watch a) (state_at k r.state at) (copies (d * r.rounds) v) (walk k watch at (copies d r.cycle)) (state_at k r.state l)) ends_again walk_returns;

@@ -4,11 +4,11 @@ use Rattle.std.proofs.lemmas.Bool.{cond_both, eqb-true}
 use Rattle.std.proofs.lemmas.List.{append-nil, get_or-map, length-map}
 use Rattle.std.proofs.lemmas.List.Elements.{All-cons, All-map, All-nil, All-weaker}
 use Rattle.std.proofs.lemmas.Nat.{mul-add-lt, same_from_place}
+use Rattle.aut_base.proofs.Members.{each_there, from_filter, from_map}
+use Rattle.aut_base.proofs.Rising.{Rises, rises_at, rises_pieces, rises_wider, rising}
 use Rattle.aut_base.specs.Automaton.{Automaton, IsEdgeOf, IsWellFormed, TreeEdge}
 use Rattle.aut_core.specs.Surveys.{edges_from}
 use Rattle.fin_removal.proofs.CopiedEdges.{edge_bounds}
-use Rattle.fin_removal.proofs.Members.{from_filter, from_map, member_elim}
-use Rattle.fin_removal.proofs.Rising.{Rises, rises_at, rises_pieces, rises_wider, rising}
 use Rattle.degeneralise.specs.Buchi.{Watch, edge_at, level_after, level_edges, levelled, levels, marks_at, meets_level, state_at}
 use Rattle.degeneralise.proofs.LevelWalks.{some_level}
 use Rattle.degeneralise.proofs.LevelledEdges.{comes_from}
@@ -82,6 +82,6 @@ module _ (k : ℕ) (watch : ℕ → Watch) (a : Automaton) (formed : IsWellForme
         starts_differ = starts_apart some;
         starts = All-map (λ p. p < a.states * k) (λ start. state_at k start 0) a.starts (All-weaker (λ p. p < a.states) (λ p. state_at k p 0 < a.states * k) (λ p h. state_below a.states k p 0 h some) a.starts formed.starts);
         in_order = rising 0 (a.states * k) (levelled k watch a).edges rise;
-        edges = member_elim (IsEdgeOf (levelled k watch a)) (levelled k watch a).edges edge_whole;
+        edges = each_there (IsEdgeOf (levelled k watch a)) (levelled k watch a).edges edge_whole;
         formula = omega arith;
       }

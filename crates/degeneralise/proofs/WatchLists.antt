@@ -5,7 +5,7 @@ use Rattle.std.specs.Option.{option_and_then, option_map}
 use Rattle.std.proofs.lemmas.Nat.{div-mul-add}
 use Rattle.std.proofs.lemmas.Option.{slice_get-map}
 use Rattle.acc_forms.specs.declared.literal.Literal.{Literal}
-use Rattle.fin_removal.proofs.Members.{member_elim}
+use Rattle.aut_base.proofs.Members.{each_there}
 use Rattle.fin_removal.specs.Copies.{CopyOfTerm as TermCopy, copies_from, owned, owned_sets, sets_of, state_in, term_copies}
 use Rattle.degeneralise.specs.Buchi.{Watch, levels, most_levels, watch_of}
 
@@ -20,7 +20,7 @@ most_of most (v ∷ ws) w (zero, within, is) = omega (arith, ap levels is, most_
 most_of most (v ∷ ws) w (suc k, within, is) = most_of (max most (levels v)) ws w (k, omega (arith, within), is)
 
 pub room_in : (ws : List Watch) → All (λ watch. levels watch ≤ most_levels ws) ws
-room_in ws = member_elim (λ watch. levels watch ≤ most_levels ws) ws (λ w there. most_of 1 ws w there)
+room_in ws = each_there (λ watch. levels watch ≤ most_levels ws) ws (λ w there. most_of 1 ws w there)
 
 pub some_room : (ws : List Watch) → 0 < most_levels ws
 some_room ws = omega (arith, most_from 1 ws)

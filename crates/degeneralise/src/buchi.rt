@@ -11,10 +11,9 @@ ghost use Rattle.degeneralise.specs.declared.fault.BuchiFault.{BuchiFault};
 use crate::fault::BuchiFault;
 use crate::generalised::is_generalised_buchi;
 use crate::links::{first_levels, levelled_links};
-use crate::parts::copy_names;
 use crate::watches::{Watches, most_levels, watches};
 use aut_base::{Formula, Memory};
-use aut_core::Automaton;
+use aut_core::{Automaton, copy_names};
 use fin_removal::copies;
 use std::alloc::Global;
 

@@ -8,7 +8,6 @@ mod fault;
 mod generalised;
 mod levels;
 mod links;
-mod parts;
 mod watches;
 
 pub use buchi::{MOST_BUCHI_STATES, to_buchi};

@@ -1,10 +1,10 @@
 -- The edges of an automaton with its copies, and where each comes from.
-use Rattle.std.proofs.Common.{◌≡◌, ◌⊎◌, zero, suc, true, List, ◌∷◌, ◌++◌, Contains, arith, filter, flat_map, map, inl, inr, ⊎_elim}
+use Rattle.std.proofs.Common.{◌≡◌, ◌⊎◌, true, List, ◌++◌, Contains, filter, flat_map, map, inl, inr, ⊎_elim}
 use Rattle.std.proofs.lemmas.List.Elements.{All-contains, Contains-append_cases, Contains-append_left, Contains-append_right}
+use Rattle.aut_base.proofs.Members.{first_there, from_filter, from_flat_map, from_map, later_there, there_cases, there_filter, there_flat_map, there_map}
 use Rattle.aut_base.specs.Automaton.{Automaton, IsEdgeOf, IsWellFormed, TreeEdge}
 use Rattle.fin_removal.specs.Copies.{allows, copy_edges, edge_in, enter, main_edges, stay}
 use Rattle.fin_removal.specs.declared.term_copy.TermCopy.{TermCopy}
-use Rattle.fin_removal.proofs.Members.{first_member, from_filter, from_flat_map, from_map, in_filter, in_flat_map, in_map, later_member}
 
 abbrev pub all_edges : Automaton → List TermCopy → List TreeEdge
 all_edges a copies = flat_map (main_edges a.states copies) a.edges ++ flat_map (copy_edges a.states a.edges) copies
@@ -31,10 +31,6 @@ pub record Within (a : Automaton) (copies : List TermCopy) (f : TreeEdge) : Type
   pub is : edge_in a.states copy edge ≡ f
 
 -- the first of a list, or one of the others
-pub member_cases : {X : Type 0} (y : X) (xs : List X) (x : X) → Contains (y ∷ xs) x → (y ≡ x) ⊎ Contains xs x
-member_cases y xs x (zero, within, is) = inl is
-member_cases y xs x (suc k, within, is) = inr (k, omega (arith, within), is)
-
 pub comes_from : (a : Automaton) (copies : List TermCopy) (f : TreeEdge) → Contains (all_edges a copies) f → Stays a f ⊎ (Enters a copies f ⊎ Within a copies f)
 comes_from a copies f there = ⊎_elim
     (λ (main : Contains (flat_map (main_edges a.states copies) a.edges) f).
@@ -44,7 +40,7 @@ comes_from a copies f there = ⊎_elim
     (λ (entering : Contains (map (enter a.states at.0) copies) f).
     let into = from_map (enter a.states at.0) copies f entering in
     inr (inl (record { edge = at.0; there = at.1; copy = into.0; listed = into.1; is = into.2 })))
-    (member_cases (stay at.0) (map (enter a.states at.0) copies) f at.2))
+    (there_cases (stay at.0) (map (enter a.states at.0) copies) f at.2))
     (λ (other : Contains (flat_map (copy_edges a.states a.edges) copies) f).
     let at = from_flat_map (copy_edges a.states a.edges) copies f other in
     let from = from_map (edge_in a.states at.0) (filter (λ (e : TreeEdge). allows at.0 e.marks) a.edges) f at.2 in
@@ -55,17 +51,17 @@ comes_from a copies f there = ⊎_elim
 pub has_stay : (a : Automaton) (copies : List TermCopy) (e : TreeEdge) → Contains a.edges e → Contains (all_edges a copies) (stay e)
 has_stay a copies e there =
     Contains-append_left (flat_map (main_edges a.states copies) a.edges) (flat_map (copy_edges a.states a.edges) copies) (stay e)
-    (in_flat_map (main_edges a.states copies) a.edges e (stay e) there (first_member (stay e) (map (enter a.states e) copies)))
+    (there_flat_map (main_edges a.states copies) a.edges e (stay e) there (first_there (stay e) (map (enter a.states e) copies)))
 
 pub has_enter : (a : Automaton) (copies : List TermCopy) (e : TreeEdge) (copy : TermCopy) → Contains a.edges e → Contains copies copy → Contains (all_edges a copies) (enter a.states e copy)
 has_enter a copies e copy there listed =
     Contains-append_left (flat_map (main_edges a.states copies) a.edges) (flat_map (copy_edges a.states a.edges) copies) (enter a.states e copy)
-    (in_flat_map (main_edges a.states copies) a.edges e (enter a.states e copy) there (later_member (stay e) (map (enter a.states e) copies) (enter a.states e copy) (in_map (enter a.states e) copies copy listed)))
+    (there_flat_map (main_edges a.states copies) a.edges e (enter a.states e copy) there (later_there (stay e) (map (enter a.states e) copies) (enter a.states e copy) (there_map (enter a.states e) copies copy listed)))
 
 pub has_within : (a : Automaton) (copies : List TermCopy) (e : TreeEdge) (copy : TermCopy) → Contains a.edges e → Contains copies copy → allows copy e.marks ≡ true → Contains (all_edges a copies) (edge_in a.states copy e)
 has_within a copies e copy there listed allowed =
     Contains-append_right (flat_map (main_edges a.states copies) a.edges) (flat_map (copy_edges a.states a.edges) copies) (edge_in a.states copy e)
-    (in_flat_map (copy_edges a.states a.edges) copies copy (edge_in a.states copy e) listed (in_map (edge_in a.states copy) (filter (λ (d : TreeEdge). allows copy d.marks) a.edges) e (in_filter (λ (d : TreeEdge). allows copy d.marks) a.edges e there allowed)))
+    (there_flat_map (copy_edges a.states a.edges) copies copy (edge_in a.states copy e) listed (there_map (edge_in a.states copy) (filter (λ (d : TreeEdge). allows copy d.marks) a.edges) e (there_filter (λ (d : TreeEdge). allows copy d.marks) a.edges e there allowed)))
 
 -- the ends of the automaton's own edges
 pub edge_bounds : (a : Automaton) → IsWellFormed a → (e : TreeEdge) → Contains a.edges e → IsEdgeOf a e

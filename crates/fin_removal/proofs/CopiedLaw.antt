@@ -7,6 +7,9 @@ use Rattle.std.proofs.lemmas.List.Elements.{All-contains}
 use Rattle.std.proofs.lemmas.Nat.{same_from_place}
 use Rattle.acc_forms.proofs.TermLaws.{met-of_terms, met-terms}
 use Rattle.acc_forms.specs.Terms.{literal_tree, terms}
+use Rattle.aut_base.proofs.Copies.{copies-add}
+use Rattle.aut_base.proofs.Members.{any_found, any_from, from_map, there_map}
+use Rattle.aut_base.proofs.Paths.{goes_on, path_join}
 use Rattle.aut_base.specs.Acceptance.{Accepts, IsPath}
 use Rattle.aut_base.specs.Automaton.{Automaton, IsWellFormed, TreeEdge}
 use Rattle.aut_base.specs.Formula.{met}
@@ -18,8 +21,6 @@ use Rattle.fin_removal.specs.Meeting.{meets_at}
 use Rattle.fin_removal.specs.declared.term_copy.TermCopy.{TermCopy}
 use Rattle.fin_removal.proofs.CopiedPaths.{IsElsewhere, IsMain, copies_of, copy_path, entered, entering_path, from_copy, from_main, main_path, not_main}
 use Rattle.fin_removal.proofs.CopyNumbers.{Owns, copy_for, same_set, term_for}
-use Rattle.fin_removal.proofs.Members.{from_map, in_map, some_from, some_is}
-use Rattle.fin_removal.proofs.Paths.{copies_add, goes_on, path_then}
 use Rattle.fin_removal.proofs.TermMet.{IsMetIn, in_marks, of_marks, owned_is_met, owned_met, term_is_met, term_met}
 
 abbrev pub marks_of : List TreeEdge → List (List ℕ)
@@ -33,14 +34,14 @@ record MetCopy (a : Automaton) (es : List TreeEdge) : Type 0 where
 
 met_copy : (a : Automaton) (es : List TreeEdge) → 0 < length es → met (marks_of es) a.formula ≡ true → MetCopy a es
 met_copy a es some holds =
-    let found = some_is (λ term. list_all (λ l. met (marks_of es) (literal_tree l)) term) (terms a.formula) (sym (met-terms (marks_of es) a.formula) ∙ holds) in
+    let found = any_found (λ term. list_all (λ l. met (marks_of es) (literal_tree l)) term) (terms a.formula) (sym (met-terms (marks_of es) a.formula) ∙ holds) in
     let its = copy_for 1 0 (terms a.formula) found.0 found.1 in
     record { copy = its.copy; listed = its.there; met = term_met (marks_of es) found.0 its.copy (omega (arith, some, length-map es (λ (e : TreeEdge). e.marks))) its.fins its.infs found.2 }
 
 copy_met : (a : Automaton) (es : List TreeEdge) (copy : TermCopy) → Contains (copies_of a) copy → IsMetIn copy (marks_of es) → met (marks_of es) a.formula ≡ true
 copy_met a es copy listed holds =
     let its = term_for 1 0 (terms a.formula) copy listed in
-    met-terms (marks_of es) a.formula ∙ some_from (λ term. list_all (λ l. met (marks_of es) (literal_tree l)) term) (terms a.formula) its.term its.there (term_is_met (marks_of es) its.term copy its.fins its.infs holds)
+    met-terms (marks_of es) a.formula ∙ any_from (λ term. list_all (λ l. met (marks_of es) (literal_tree l)) term) (terms a.formula) its.term its.there (term_is_met (marks_of es) its.term copy its.fins its.infs holds)
 
 -- where a cycle meets a term, its copy's cycle has all sets of the copy
 sets_met : (n : ℕ) (copy : TermCopy) (es : List TreeEdge) → IsMetIn copy (marks_of es) → (set : ℕ) → Owns copy set → list_any (is_in set) (marks_of (map (edge_in n copy) es)) ≡ true
@@ -50,7 +51,7 @@ sets_met n copy es holds set own =
     let at : copy.first + place ≡ set = omega arith in
     let passed = holds.passed place (omega (arith, own.to)) in
     let edge = from_map (λ (e : TreeEdge). e.marks) es passed.marks passed.there in
-    some_from (is_in set) (marks_of (map (edge_in n copy) es)) (edge_in n copy edge.0).marks (in_map (λ (e : TreeEdge). e.marks) (map (edge_in n copy) es) (edge_in n copy edge.0) (in_map (edge_in n copy) es edge.0 edge.1))
+    any_from (is_in set) (marks_of (map (edge_in n copy) es)) (edge_in n copy edge.0).marks (there_map (λ (e : TreeEdge). e.marks) (map (edge_in n copy) es) (edge_in n copy edge.0) (there_map (edge_in n copy) es edge.0 edge.1))
     (ap (λ s. is_in s (edge_in n copy edge.0).marks) (sym at) ∙ in_marks copy edge.0.marks place (omega (arith, own.to)) (ap (λ marks. meets_at copy.infs place marks) edge.2 ∙ passed.meets))
 
 -- some path into the copy
@@ -64,13 +65,13 @@ entering a copy listed p q xs (e ∷ es) some path = record { edges = entered a.
 
 -- once more round the cycle
 pub gone_on : (u v : List NameSet) (m n : ℕ) → (u ++ copies m v) ++ copies n v ≡ u ++ copies (m + n) v
-gone_on u v m n = append_assoc u (copies m v) (copies n v) ∙ ap (λ w. u ++ w) (sym (copies_add m n v))
+gone_on u v m n = append_assoc u (copies m v) (copies n v) ∙ ap (λ w. u ++ w) (sym (copies-add m n v))
 
 -- a cycle with all sets of a copy meets the condition
 pub own_sets_met : (a : Automaton) (copy : TermCopy) → Contains (copies_of a) copy → (cycle : List TreeEdge) → ((set : ℕ) → Owns copy set → list_any (is_in set) (marks_of cycle) ≡ true) → met (marks_of cycle) (copied a).formula ≡ true
 own_sets_met a copy listed cycle carried =
     met-of_terms (marks_of cycle) (owned_sets (terms a.formula))
-    ∙ some_from (λ term. list_all (λ l. met (marks_of cycle) (literal_tree l)) term) (owned_sets (terms a.formula)) (owned copy) (in_map owned (copies_of a) copy listed) (owned_met (marks_of cycle) copy carried)
+    ∙ any_from (λ term. list_all (λ l. met (marks_of cycle) (literal_tree l)) term) (owned_sets (terms a.formula)) (owned copy) (there_map owned (copies_of a) copy listed) (owned_met (marks_of cycle) copy carried)
 
 with_copies : (a : Automaton) (u v : List NameSet) → Accepts a u v → Accepts (copied a) u v
 with_copies a u v r =
@@ -90,9 +91,9 @@ with_copies a u v r =
       cycle = cycle;
       is_start = r.is_start;
       leads = subst (λ (w : List NameSet). IsPath (copied a) r.start w (map stay r.way ++ into.edges) state) (gone_on u v r.turns r.rounds)
-          (path_then (copied a) r.start r.state state (u ++ copies r.turns v) (copies r.rounds v) (map stay r.way) into.edges (main_path a r.start r.state (u ++ copies r.turns v) r.way r.leads) into.path);
+          (path_join (copied a) r.start r.state state (u ++ copies r.turns v) (copies r.rounds v) (map stay r.way) into.edges (main_path a r.start r.state (u ++ copies r.turns v) r.way r.leads) into.path);
       positive = r.positive;
-      returns = copy_path a copy found.listed r.state r.state (copies r.rounds v) r.cycle (λ e there. found.met.allowed e.marks (in_map (λ (d : TreeEdge). d.marks) r.cycle e there)) r.returns;
+      returns = copy_path a copy found.listed r.state r.state (copies r.rounds v) r.cycle (λ e there. found.met.allowed e.marks (there_map (λ (d : TreeEdge). d.marks) r.cycle e there)) r.returns;
       meets = own_sets_met a copy found.listed cycle (sets_met a.states copy r.cycle found.met);
     }
 
@@ -104,7 +105,7 @@ record Owner (a : Automaton) (cycle : List TreeEdge) : Type 0 where
 
 owner : (a : Automaton) (cycle : List TreeEdge) → met (marks_of cycle) (copied a).formula ≡ true → Owner a cycle
 owner a cycle holds =
-    let found = some_is (λ term. list_all (λ l. met (marks_of cycle) (literal_tree l)) term) (owned_sets (terms a.formula)) (sym (met-of_terms (marks_of cycle) (owned_sets (terms a.formula))) ∙ holds) in
+    let found = any_found (λ term. list_all (λ l. met (marks_of cycle) (literal_tree l)) term) (owned_sets (terms a.formula)) (sym (met-of_terms (marks_of cycle) (owned_sets (terms a.formula))) ∙ holds) in
     let its = from_map owned (copies_of a) found.0 found.1 in
     record { copy = its.0; listed = its.1; carried = owned_is_met (marks_of cycle) its.0 (ap (λ term. list_all (λ l. met (marks_of cycle) (literal_tree l)) term) its.2 ∙ found.2) }
 
@@ -129,7 +130,7 @@ record Carrier (n : ℕ) (copy : TermCopy) (es : List TreeEdge) (set : ℕ) : Ty
 
 carrier : (n : ℕ) (copy : TermCopy) (es : List TreeEdge) (set : ℕ) → list_any (is_in set) (marks_of (map (edge_in n copy) es)) ≡ true → Carrier n copy es set
 carrier n copy es set any =
-    let found = some_is (is_in set) (marks_of (map (edge_in n copy) es)) any in
+    let found = any_found (is_in set) (marks_of (map (edge_in n copy) es)) any in
     let edge = from_map (λ (e : TreeEdge). e.marks) (map (edge_in n copy) es) found.0 found.1 in
     let old = from_map (edge_in n copy) es edge.0 edge.1 in
     record { edge = old.0; there = old.1; carries = ap (λ (e : TreeEdge). is_in set e.marks) old.2 ∙ (ap (is_in set) edge.2 ∙ found.2) }
@@ -152,7 +153,7 @@ in_copy a copy listed es allowed holds = record {
       (let at = carrier a.states copy es (copy.first + place) (own_sets a copy listed es holds (copy.first + place) (record { from = omega arith; to = omega (arith, below) })) in
       let met_at = of_marks copy at.edge.marks (copy.first + place) at.carries in
       let place_is : met_at.place ≡ place = omega (arith, met_at.is) in
-      record { marks = at.edge.marks; there = in_map (λ (e : TreeEdge). e.marks) es at.edge at.there; meets = ap (λ s. meets_at copy.infs s at.edge.marks) (sym place_is) ∙ met_at.meets });
+      record { marks = at.edge.marks; there = there_map (λ (e : TreeEdge). e.marks) es at.edge at.there; meets = ap (λ s. meets_at copy.infs s at.edge.marks) (sym place_is) ∙ met_at.meets });
 }
 
 without_copies : (a : Automaton) → IsWellFormed a → (u v : List NameSet) → Accepts (copied a) u v → Accepts a u v

@@ -1,16 +1,16 @@
 -- Paths of an automaton, and those of it with its copies.
 use Rattle.std.proofs.Common.{◌≡◌, ◌∙◌, ◌+◌, ◌*◌, ◌<◌, ◌⊎◌, ℕ, true, List, [], ◌∷◌, Contains, ap, arith, map, refl, subst, sym, inl, inr, ⊎_elim}
 use Rattle.std.proofs.lemmas.Nat.{same_from_place}
+use Rattle.aut_base.proofs.Members.{first_there, later_there, there_cases}
 use Rattle.aut_base.specs.Acceptance.{IsPath}
 use Rattle.aut_base.specs.Automaton.{Automaton, IsWellFormed, TreeEdge}
 use Rattle.aut_base.specs.Label.{holds_at, truth}
 use Rattle.aut_base.specs.Word.{NameSet}
 use Rattle.acc_forms.specs.Terms.{terms}
+use Rattle.fin_removal.proofs.CopiedEdges.{Enters, Stays, Within, comes_from, edge_bounds, has_enter, has_stay, has_within}
 use Rattle.fin_removal.specs.Copies.{allows, copied, edge_in, enter, state_in, stay, term_copies}
 use Rattle.fin_removal.specs.declared.term_copy.TermCopy.{TermCopy}
-use Rattle.fin_removal.proofs.CopiedEdges.{Enters, Stays, Within, comes_from, edge_bounds, has_enter, has_stay, has_within, member_cases}
 use Rattle.fin_removal.proofs.CopyNumbers.{is_among, same_number}
-use Rattle.fin_removal.proofs.Members.{first_member, later_member}
 
 abbrev pub copies_of : Automaton → List TermCopy
 copies_of a = term_copies (terms a.formula)
@@ -40,7 +40,7 @@ copy_path a copy listed p q [] [] allowed path = ap (state_in a.states copy.numb
 copy_path a copy listed p q [] (e ∷ es) allowed path = absurd path
 copy_path a copy listed p q (x ∷ xs) [] allowed path = absurd path
 copy_path a copy listed p q (x ∷ xs) (e ∷ es) allowed path =
-    (ap (state_in a.states copy.number) path.0, has_within a (copies_of a) e copy path.1 listed (allowed e (first_member e es)), path.2, copy_path a copy listed e.to q xs es (λ f there. allowed f (later_member e es f there)) path.3)
+    (ap (state_in a.states copy.number) path.0, has_within a (copies_of a) e copy path.1 listed (allowed e (first_there e es)), path.2, copy_path a copy listed e.to q xs es (λ f there. allowed f (later_there e es f there)) path.3)
 
 -- what is left of a path in a copy
 pub record InCopy (a : Automaton) (copy : TermCopy) (p : ℕ) (xs : List NameSet) (fs : List TreeEdge) (state : ℕ) : Type 0 where
@@ -61,7 +61,7 @@ not_main a copy listed p e below bound same =
     omega (arith, among.number_from, numbers.0)
 
 allowed_more : (copy : TermCopy) (e : TreeEdge) (es : List TreeEdge) → allows copy e.marks ≡ true → ((f : TreeEdge) → Contains es f → allows copy f.marks ≡ true) → (f : TreeEdge) → Contains (e ∷ es) f → allows copy f.marks ≡ true
-allowed_more copy e es here rest f there = ⊎_elim (λ (same : e ≡ f). ap (λ (g : TreeEdge). allows copy g.marks) (sym same) ∙ here) (rest f) (member_cases e es f there)
+allowed_more copy e es here rest f there = ⊎_elim (λ (same : e ≡ f). ap (λ (g : TreeEdge). allows copy g.marks) (sym same) ∙ here) (rest f) (there_cases e es f there)
 
 module _ (a : Automaton) (formed : IsWellFormed a) where
   -- a path from a state of a copy stays in that copy

@@ -4,23 +4,23 @@ use Rattle.std.specs.List.{AllByRecursion, range_with_len, sum_by}
 use Rattle.std.proofs.lemmas.List.Elements.{All-nil, All-weaker}
 use Rattle.std.proofs.Math.Nat.{mul-le-mul_right}
 use Rattle.aut_base.proofs.AllByRecursion.{AllByRecursion-map, AllByRecursion-weaker}
+use Rattle.aut_base.proofs.Members.{each_there, from_map, there_cases}
 use Rattle.aut_base.proofs.Ordered.{range_within}
+use Rattle.aut_base.proofs.Rising.{increases_kept, increases_moved, increases_range, increasing, risen, Rises, rises_each, rises_kept, rises_moved, rises_then, rising}
 use Rattle.aut_base.specs.Automaton.{Automaton, IsEdgeOf, IsWellFormed, TreeEdge}
 use Rattle.aut_base.specs.Formula.{FormulaTree, SetsBelow}
 use Rattle.acc_forms.specs.Atoms.{has_fin}
 use Rattle.acc_forms.specs.Terms.{literal_tree, terms}
 use Rattle.acc_forms.specs.declared.literal.Literal.{Literal}
 use Rattle.acc_forms.specs.declared.literal.Literal.TheVariants.{Inf}
+use Rattle.fin_removal.proofs.CopiedEdges.{Enters, Stays, Within, comes_from, edge_bounds}
 use Rattle.fin_removal.specs.Copies.{allows, copied, copies_from, copy_edges, edge_in, enter, main_edges, marks_in, owned, owned_sets, sets_of, state_in, stay, term_copies}
 use Rattle.fin_removal.specs.Meeting.{meets_at, literal_places}
 use Rattle.fin_removal.specs.declared.term_copy.TermCopy.{TermCopy}
 use Rattle.fin_removal.proofs.Conditions.{HasNoFin, below_parts, no_fin_parts, of_terms_holds}
-use Rattle.fin_removal.proofs.CopiedEdges.{Enters, Stays, Within, comes_from, edge_bounds, member_cases}
 use Rattle.fin_removal.proofs.CopiedPaths.{copies_of}
 use Rattle.fin_removal.proofs.CopyMarks.{marks_below}
 use Rattle.fin_removal.proofs.CopyNumbers.{is_among}
-use Rattle.fin_removal.proofs.Members.{from_map, member_elim}
-use Rattle.fin_removal.proofs.Rising.{Rises, climbing, climbs_kept, climbs_moved, climbs_range, risen, rises_each, rises_kept, rises_moved, rises_then, rising}
 use Rattle.fin_removal.proofs.TermCopies.{copy_of}
 
 -- what is said of the sets of each copy holds of the literals of the condition
@@ -50,7 +50,7 @@ main_from : (n : ℕ) (copies : List TermCopy) (e d : TreeEdge) → Contains (ma
 main_from n copies e d there = ⊎_elim
     (λ (same : stay e ≡ d). ap (λ (f : TreeEdge). f.from) (sym same))
     (λ (other : Contains (map (enter n e) copies) d). let at = from_map (enter n e) copies d other in ap (λ (f : TreeEdge). f.from) (sym at.2))
-    (member_cases (stay e) (map (enter n e) copies) d there)
+    (there_cases (stay e) (map (enter n e) copies) d there)
 
 copies_rise : (n : ℕ) (edges : List TreeEdge) → Rises 0 n edges → (number first : ℕ) (ts : List (List Literal)) → Rises (number * n) ((number + length ts) * n) (flat_map (copy_edges n edges) (copies_from number first ts))
 copies_rise n edges r number first [] = tt
@@ -90,7 +90,7 @@ no_marks : (a : Automaton) (from to : ℕ) (e : TreeEdge) → IsEdgeOf a e → f
 no_marks a from to e bounds below_from below_to = record { from = below_from; to = below_to; label = bounds.label; marks = All-nil (λ mark. mark < (copied a).sets); marks_rise = λ i j d order within. absurd (omega (arith, within)) }
 
 marks_climb : (copy : TermCopy) (marks : List ℕ) → AllPairs (λ m n. m < n) (marks_in copy marks)
-marks_climb copy marks = climbing (copy.first + 0) (marks_in copy marks) (climbs_moved copy.first 0 _ (climbs_kept (λ s. meets_at copy.infs s marks) 0 (range_with_len 0 (literal_places copy.infs)) (climbs_range 0 (literal_places copy.infs))))
+marks_climb copy marks = increasing (copy.first + 0) (marks_in copy marks) (increases_moved copy.first 0 _ (increases_kept (λ s. meets_at copy.infs s marks) 0 (range_with_len 0 (literal_places copy.infs)) (increases_range 0 (literal_places copy.infs))))
 
 edge_whole : (a : Automaton) → IsWellFormed a → (f : TreeEdge) → Contains (copied a).edges f → IsEdgeOf (copied a) f
 edge_whole a formed f there = ⊎_elim
@@ -121,6 +121,6 @@ copied_well_formed a formed = record {
   starts_differ = formed.starts_differ;
   starts = All-weaker (λ p. p < a.states) (λ p. p < (copied a).states) (in_main a) a.starts formed.starts;
   in_order = rising 0 (copied a).states (copied a).edges (copied_rise a formed);
-  edges = member_elim (IsEdgeOf (copied a)) (copied a).edges (edge_whole a formed);
+  edges = each_there (IsEdgeOf (copied a)) (copied a).edges (edge_whole a formed);
   formula = copied_below a;
 }

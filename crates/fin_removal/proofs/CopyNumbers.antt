@@ -3,10 +3,10 @@ use Rattle.std.proofs.Common.{◌≡◌, ◌∙◌, ◌+◌, ◌<◌, ◌≤◌,
 use Rattle.std.specs.List.{sum_by}
 use Rattle.std.proofs.lemmas.List.Sums.{sum_by-cons}
 use Rattle.acc_forms.specs.declared.literal.Literal.{Literal}
+use Rattle.aut_base.proofs.Members.{later_there}
 use Rattle.fin_removal.specs.Copies.{copies_from, sets_of}
 use Rattle.fin_removal.specs.Meeting.{fins, infs, literal_places}
 use Rattle.fin_removal.specs.declared.term_copy.TermCopy.{TermCopy}
-use Rattle.fin_removal.proofs.Members.{later_member}
 use Rattle.fin_removal.proofs.TermCopies.{copy_of}
 
 pub record IsAmong (number first : ℕ) (ts : List (List Literal)) (copy : TermCopy) : Type 0 where
@@ -77,7 +77,7 @@ copy_for number first [] t there = absurd (omega (arith, there.1))
 copy_for number first (u ∷ us) t (zero, within, is) = record { copy = copy_of number first u; there = (zero, omega arith, refl); fins = ap fins is; infs = ap infs is }
 copy_for number first (u ∷ us) t (suc k, within, is) =
     let rest = copy_for (number + 1) (first + sets_of u) us t (k, omega (arith, within), is) in
-    record { copy = rest.copy; there = later_member (copy_of number first u) (copies_from (number + 1) (first + sets_of u) us) rest.copy rest.there; fins = rest.fins; infs = rest.infs }
+    record { copy = rest.copy; there = later_there (copy_of number first u) (copies_from (number + 1) (first + sets_of u) us) rest.copy rest.there; fins = rest.fins; infs = rest.infs }
 
 -- the term of a copy
 pub record TermOf (ts : List (List Literal)) (copy : TermCopy) : Type 0 where
@@ -91,4 +91,4 @@ term_for number first [] copy there = absurd (omega (arith, there.1))
 term_for number first (u ∷ us) copy (zero, within, is) = record { term = u; there = (zero, omega arith, refl); fins = sym (ap (λ (k : TermCopy). k.fins) is); infs = sym (ap (λ (k : TermCopy). k.infs) is) }
 term_for number first (u ∷ us) copy (suc k, within, is) =
     let rest = term_for (number + 1) (first + sets_of u) us copy (k, omega (arith, within), is) in
-    record { term = rest.term; there = later_member u us rest.term rest.there; fins = rest.fins; infs = rest.infs }
+    record { term = rest.term; there = later_there u us rest.term rest.there; fins = rest.fins; infs = rest.infs }

@@ -8,8 +8,5 @@ pub mod CopyMarks
 pub mod CopyNumbers
 pub mod Fits
 pub mod LinkSteps
-pub mod Members
-pub mod Paths
-pub mod Rising
 pub mod TermCopies
 pub mod TermMet

@@ -5,6 +5,7 @@ use Rattle.std.specs.Option.{option_map_or}
 use Rattle.std.proofs.lemmas.Bool.{cases_Bool, cases_lt, eq-eqb, eqb-true, not-true, not_from_false}
 use Rattle.std.proofs.lemmas.List.Elements.{Contains-get_or}
 use Rattle.std.proofs.lemmas.Option.{slice_get-get_or, slice_get_past}
+use Rattle.aut_base.proofs.Members.{any_found, any_from, each_from, each_is, from_filter, from_map, from_range, there_filter, there_map, there_range}
 use Rattle.aut_base.specs.Formula.{met}
 use Rattle.aut_base.specs.Marks.{is_in}
 use Rattle.acc_forms.specs.Terms.{literal_tree}
@@ -14,7 +15,6 @@ use Rattle.fin_removal.specs.Copies.{allows, marks_in, owned}
 use Rattle.fin_removal.specs.Meeting.{fins, infs, is_inf, meets, meets_at, literal_places}
 use Rattle.fin_removal.specs.declared.term_copy.TermCopy.{TermCopy}
 use Rattle.fin_removal.proofs.CopyNumbers.{Owns}
-use Rattle.fin_removal.proofs.Members.{each_from, each_is, from_filter, from_map, from_range, in_filter, in_map, in_range, some_from, some_is}
 
 pub met_inf : (cycle : List (List ℕ)) (l : Literal) → is_inf l ≡ true → met cycle (literal_tree l) ≡ list_any (λ marks. meets marks l) cycle
 met_inf cycle (Inf set false) e = refl
@@ -47,7 +47,7 @@ pub passes_each : (literals : List Literal) (cycle : List (List ℕ)) → 0 < le
 passes_each literals cycle some each place = elim (cases_lt place (length literals)) [
   | inl within ↦ (let l = get_or literals place (Inf 0 false) in
       let there = slice_get-get_or literals place (Inf 0 false) within in
-      let found = some_is (λ marks. meets marks l) cycle (each l (Contains-get_or literals place (Inf 0 false) within)) in
+      let found = any_found (λ marks. meets marks l) cycle (each l (Contains-get_or literals place (Inf 0 false) within)) in
       record { marks = found.0; there = found.1; meets = meets_there literals place l found.0 there ∙ found.2 })
   | inr past ↦ record { marks = get_or cycle 0 []; there = Contains-get_or cycle 0 [] some; meets = meets_past literals place (get_or cycle 0 []) past }
 ]
@@ -57,7 +57,7 @@ each_passed literals cycle passed l there =
     let place = there.0 in
     let found = passed place (omega (arith, there.1)) in
     let at : slice_get literals place ≡ Some l = slice_get-get_or literals place l there.1 ∙ ap Some there.2 in
-    some_from (λ marks. meets marks l) cycle found.marks found.there (sym (meets_there literals place l found.marks at) ∙ found.meets)
+    any_from (λ marks. meets marks l) cycle found.marks found.there (sym (meets_there literals place l found.marks at) ∙ found.meets)
 
 -- a term that is met, seen from its copy
 pub term_met : (cycle : List (List ℕ)) (term : List Literal) (copy : TermCopy) → 0 < length cycle → copy.fins ≡ fins term → copy.infs ≡ infs term → list_all (λ l. met cycle (literal_tree l)) term ≡ true → IsMetIn copy cycle
@@ -72,16 +72,16 @@ term_met cycle term copy some is_fins is_infs holds = record {
 
 pub term_is_met : (cycle : List (List ℕ)) (term : List Literal) (copy : TermCopy) → copy.fins ≡ fins term → copy.infs ≡ infs term → IsMetIn copy cycle → list_all (λ l. met cycle (literal_tree l)) term ≡ true
 term_is_met cycle term copy is_fins is_infs holds = each_from (λ l. met cycle (literal_tree l)) term (λ l there. elim (cases_Bool (is_inf l)) [
-  | inl inf ↦ met_inf cycle l inf ∙ each_passed copy.infs cycle holds.passed l (subst (λ (ls : List Literal). Contains ls l) (sym is_infs) (in_filter is_inf term l there inf))
+  | inl inf ↦ met_inf cycle l inf ∙ each_passed copy.infs cycle holds.passed l (subst (λ (ls : List Literal). Contains ls l) (sym is_infs) (there_filter is_inf term l there inf))
   | inr fin ↦ met_fin cycle l fin ∙ each_from (λ marks. meets marks l) cycle (λ marks listed.
-      each_is (meets marks) copy.fins l (holds.allowed marks listed) (subst (λ (ls : List Literal). Contains ls l) (sym is_fins) (in_filter (λ m. not (is_inf m)) term l there (not_from_false (is_inf l) fin))))
+      each_is (meets marks) copy.fins l (holds.allowed marks listed) (subst (λ (ls : List Literal). Contains ls l) (sym is_fins) (there_filter (λ m. not (is_inf m)) term l there (not_from_false (is_inf l) fin))))
 ])
 
 -- the sets of an edge in a copy
 pub in_marks : (copy : TermCopy) (marks : List ℕ) (place : ℕ) → place < literal_places copy.infs → meets_at copy.infs place marks ≡ true → is_in (copy.first + place) (marks_in copy marks) ≡ true
 in_marks copy marks place within passes =
-    some_from (λ mark. mark == copy.first + place) (marks_in copy marks) (copy.first + place)
-    (in_map (λ s. copy.first + s) _ place (in_filter (λ s. meets_at copy.infs s marks) (range_with_len 0 (literal_places copy.infs)) place (in_range 0 (literal_places copy.infs) place (omega arith) (omega (arith, within))) passes))
+    any_from (λ mark. mark == copy.first + place) (marks_in copy marks) (copy.first + place)
+    (there_map (λ s. copy.first + s) _ place (there_filter (λ s. meets_at copy.infs s marks) (range_with_len 0 (literal_places copy.infs)) place (there_range 0 (literal_places copy.infs) place (omega arith) (omega (arith, within))) passes))
     (eq-eqb (copy.first + place) (copy.first + place) refl)
 
 pub record IsCarried (copy : TermCopy) (marks : List ℕ) (set : ℕ) : Type 0 where
@@ -92,7 +92,7 @@ pub record IsCarried (copy : TermCopy) (marks : List ℕ) (set : ℕ) : Type 0 w
 
 pub of_marks : (copy : TermCopy) (marks : List ℕ) (set : ℕ) → is_in set (marks_in copy marks) ≡ true → IsCarried copy marks set
 of_marks copy marks set carried =
-    let found = some_is (λ mark. mark == set) (marks_in copy marks) carried in
+    let found = any_found (λ mark. mark == set) (marks_in copy marks) carried in
     let at = from_map (λ s. copy.first + s) _ found.0 found.1 in
     let kept = from_filter (λ s. meets_at copy.infs s marks) (range_with_len 0 (literal_places copy.infs)) at.0 at.1 in
     let within = from_range 0 (literal_places copy.infs) at.0 kept.0 in
@@ -107,4 +107,4 @@ owned_met cycle copy each = each_from (λ l. met cycle (literal_tree l)) (owned 
 
 pub owned_is_met : (cycle : List (List ℕ)) (copy : TermCopy) → list_all (λ l. met cycle (literal_tree l)) (owned copy) ≡ true → (set : ℕ) → Owns copy set → list_any (is_in set) cycle ≡ true
 owned_is_met cycle copy holds set own =
-    each_is (λ l. met cycle (literal_tree l)) (owned copy) (Inf set false) holds (in_map (λ s. Inf s false) (range_with_len copy.first (literal_places copy.infs)) set (in_range copy.first (literal_places copy.infs) set own.from own.to))
+    each_is (λ l. met cycle (literal_tree l)) (owned copy) (Inf set false) holds (there_map (λ s. Inf s false) (range_with_len copy.first (literal_places copy.infs)) set (there_range copy.first (literal_places copy.infs) set own.from own.to))

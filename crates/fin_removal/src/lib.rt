@@ -7,7 +7,6 @@
 
 mod links;
 mod meeting;
-mod parts;
 mod removal;
 mod term_copy;
 

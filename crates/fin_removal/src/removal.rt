@@ -10,11 +10,10 @@ ghost use Rattle.aut_core.specs.OtherNames.{AcceptTheSame};
 ghost use Rattle.fin_removal.specs.Copies.{CopiesFit, HasTooManyTerms, copied, without_fin};
 
 use crate::links::copied_links;
-use crate::parts::{copy_names, copy_numbers};
 use crate::term_copy::{all_sets, sets_owned, term_copies};
 use acc_forms::{FormFault, Terms, disjuncts, has_fin, of_terms};
 use aut_base::Memory;
-use aut_core::Automaton;
+use aut_core::{Automaton, copy_names, copy_numbers};
 use std::alloc::Global;
 
 /// The automaton without Fin: the main copy, which holds the starts, and a copy for each term of the condition, held to

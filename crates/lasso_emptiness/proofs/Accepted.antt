@@ -5,6 +5,7 @@ use Rattle.std.proofs.lemmas.List.{append-nil, length-append}
 use Rattle.std.proofs.lemmas.List.Elements.{All-append, All-contains, All-nil, Contains-append_cases, Contains-append_left, Contains-append_right}
 use Rattle.std.proofs.lemmas.Option.{get_or_from_slice_get, slice_get-get_or, slice_get_within}
 use Rattle.std.proofs.Math.Nat.{mul-le-mul_left}
+use Rattle.aut_base.proofs.Members.{each_there, none_there, there_map}
 use Rattle.aut_base.proofs.Spelled.{word_letter}
 use Rattle.aut_base.proofs.Walks.{as_long}
 use Rattle.aut_base.specs.Acceptance.{Accepts, IsPath}
@@ -23,7 +24,6 @@ use Rattle.lasso_emptiness.specs.inner.Live.{ArePassable, AreReachedEdges, IsPas
 use Rattle.lasso_emptiness.specs.inner.Tours.{IsStem, edge_at}
 use Rattle.lasso_emptiness.specs.inner.Trails.{Finds, IsAccepting, IsTrail, NoneAccepting}
 use Rattle.lasso_emptiness.proofs.Lettered.{letters_long, letters_own, reads_along, trail_of}
-use Rattle.lasso_emptiness.proofs.Members.{all_from, contains_map, contains_nil}
 use Rattle.lasso_emptiness.proofs.Trails.{trail_weaker}
 use Rattle.word_syntax.specs.Printing.{HoldsOnly}
 
@@ -42,7 +42,7 @@ own_word c passable stem cycle state w at leads accepting stem_letters cycle_let
     let long : length w.cycle ≡ length cycle = letters_long c cycle w.cycle cycle_letters in
     let some : 0 < length cycle = accepting.some in
     record {
-      own_names = all_from (HoldsOnly c.names) (w.stem ++ w.cycle) (λ x here. elim (Contains-append_cases w.stem w.cycle x here) [
+      own_names = each_there (HoldsOnly c.names) (w.stem ++ w.cycle) (λ x here. elim (Contains-append_cases w.stem w.cycle x here) [
         | inl left ↦ letters_own c stem w.stem stem_letters x left
         | inr right ↦ letters_own c cycle w.cycle cycle_letters x right
       ]);
@@ -70,7 +70,7 @@ reached_on starts edges reached are p q (e ∷ es) from trail =
     let next : ReachedFrom (map arc_of edges) starts e.to = record {
       start = here.start;
       listed = here.listed;
-      reached = reach_then (map arc_of edges) here.start e.from e.to here.reached (record { walk = arc_of e ∷ []; leads = (contains_map arc_of edges e trail.0, refl, refl) });
+      reached = reach_then (map arc_of edges) here.start e.from e.to here.reached (record { walk = arc_of e ∷ []; leads = (there_map arc_of edges e trail.0, refl, refl) });
     } in
     let rest = reached_on starts edges reached are e.to q es next trail.2 in
     ((are.added e trail.0 here, trail.1, rest.0), rest.1)
@@ -143,10 +143,10 @@ reduced_word c w new endless endless' own same reduced accepts = record {
 }
   where
     front : (xs ys : List NameSet) → All (HoldsOnly c.names) (xs ++ ys) → All (HoldsOnly c.names) xs
-    front xs ys all = all_from (HoldsOnly c.names) xs (λ x here. All-contains (HoldsOnly c.names) (xs ++ ys) x all (Contains-append_left xs ys x here))
+    front xs ys all = each_there (HoldsOnly c.names) xs (λ x here. All-contains (HoldsOnly c.names) (xs ++ ys) x all (Contains-append_left xs ys x here))
 
     back : (xs ys : List NameSet) → All (HoldsOnly c.names) (xs ++ ys) → All (HoldsOnly c.names) ys
-    back xs ys all = all_from (HoldsOnly c.names) ys (λ x here. All-contains (HoldsOnly c.names) (xs ++ ys) x all (Contains-append_right xs ys x here))
+    back xs ys all = each_there (HoldsOnly c.names) ys (λ x here. All-contains (HoldsOnly c.names) (xs ++ ys) x all (Contains-append_right xs ys x here))
 
 -- the answer of a search, said of the automaton's own parts
 pub finds_in : (links own : List Link) (slice edges : List LiveEdge) (f g : FormulaTree) (found : Option (List LiveEdge)) → links ≡ own → slice ≡ edges → f ≡ g → Finds links (Contains slice) f found → Finds own (Contains edges) g found
@@ -156,6 +156,6 @@ finds_in links own slice edges f g found links_are edges_are f_is finds =
 -- an edge that is reached is one of the edges, and leaves a reached state
 pub leaves_reached : (starts : List ℕ) (edges reached : List LiveEdge) → AreReachedEdges starts edges reached → (e : LiveEdge) → Contains reached e → Contains edges e × ReachedFrom (map arc_of edges) starts e.from
 leaves_reached starts edges reached picked e here = elim (picked.nothing_else e here) [
-  | inl old ↦ absurd (contains_nil e old)
+  | inl old ↦ absurd (none_there e old)
   | inr found ↦ found
 ]

@@ -4,6 +4,7 @@ use Rattle.std.specs.Prelude.{MatchOption}
 use Rattle.std.specs.List.{All, Contains}
 use Rattle.std.proofs.lemmas.Bool.{true≢false}
 use Rattle.std.proofs.lemmas.List.Elements.{All-contains, Contains-append_left, Contains-push, Contains-push_cases}
+use Rattle.aut_base.proofs.Members.{each_there, from_map, none_there, there_map}
 use Rattle.aut_base.specs.Formula.{FormulaTree}
 use Rattle.aut_core.specs.declared.link.Link.{Link}
 use Rattle.lasso_emptiness.specs.declared.live.LiveEdge.{LiveEdge}
@@ -12,7 +13,6 @@ use Rattle.lasso_emptiness.specs.inner.Edges.{marks_of, met_along, on_side}
 use Rattle.lasso_emptiness.specs.inner.Judged.{IsNever, has_side}
 use Rattle.lasso_emptiness.specs.inner.Splits.{AddsOff, AreLeft, IsMetGroup, IsSplit}
 use Rattle.lasso_emptiness.specs.inner.Trails.{InSome, IsTrail, NoneAccepting, NoneInAny}
-use Rattle.lasso_emptiness.proofs.Members.{all_from, contains_map, contains_nil, map_contains}
 use Rattle.lasso_emptiness.proofs.Trails.{trail_kind}
 
 -- what `pop` leaves
@@ -44,9 +44,9 @@ module _ (links : List Link) (set : ℕ) (neg : Bool) (all : List (List LiveEdge
   pub divided_none : DividedSoFar links set neg all all [] []
   divided_none = record {
     rest_inside = λ group here. here;
-    off_some = λ e here. absurd (contains_nil e here);
-    off_side = λ e here. absurd (contains_nil e here);
-    crossed_inside = λ group here. absurd (contains_nil group here);
+    off_some = λ e here. absurd (none_there e here);
+    off_side = λ e here. absurd (none_there e here);
+    crossed_inside = λ group here. absurd (none_there group here);
     done = λ group here. inl here;
   }
 
@@ -116,15 +116,15 @@ module _ (links : List Link) (f : FormulaTree) where
 
   pub none_in_never : (group : List LiveEdge) → IsNever (map (marks_of links) group) f → NoneAccepting links (Contains group) f
   none_in_never group never cycle accepting =
-      true≢false (sym accepting.meets ∙ never (map (marks_of links) cycle) (all_from (Contains (map (marks_of links) group)) (map (marks_of links) cycle) (λ marks here.
-      let edge = map_contains (marks_of links) cycle marks here in
-      subst (Contains (map (marks_of links) group)) edge.2 (contains_map (marks_of links) group edge.0 (trail_kind (Contains group) accepting.state accepting.state cycle edge.0 accepting.closed edge.1)))))
+      true≢false (sym accepting.meets ∙ never (map (marks_of links) cycle) (each_there (Contains (map (marks_of links) group)) (map (marks_of links) cycle) (λ marks here.
+      let edge = from_map (marks_of links) cycle marks here in
+      subst (Contains (map (marks_of links) group)) edge.2 (there_map (marks_of links) group edge.0 (trail_kind (Contains group) accepting.state accepting.state cycle edge.0 accepting.closed edge.1)))))
 
   module _ (all : List (List LiveEdge)) where
     pub judged_none : JudgedSoFar links f all all [] None
     judged_none = record {
       rest_inside = λ group here. here;
-      left_inside = λ group here. absurd (contains_nil group here);
+      left_inside = λ group here. absurd (none_there group here);
       done = λ group here. inl here;
       side = refl;
     }
@@ -174,7 +174,7 @@ module _ (links : List Link) (f : FormulaTree) where
     judged_all_never before left empty so_far group listed = elim (so_far.done group listed) [
       | inl still ↦ absurd (none_left before group empty still)
       | inr judged ↦ elim judged [
-        | inl here ↦ absurd (contains_nil group (subst (λ gs. Contains gs group) so_far.side here))
+        | inl here ↦ absurd (none_there group (subst (λ gs. Contains gs group) so_far.side here))
         | inr never ↦ never
       ]
     ]

@@ -5,6 +5,7 @@ use Rattle.std.proofs.lemmas.Bool.{and_from, and_parts, cases_lt, eq-eqb, eqb-tr
 use Rattle.std.proofs.lemmas.List.{append-nil, get_or_default, get_or_past}
 use Rattle.std.proofs.lemmas.List.Elements.{All-contains, filter-append}
 use Rattle.aut_base.proofs.Lists.{take-push}
+use Rattle.aut_base.proofs.Members.{from_filter, from_map, none_there, there_filter, there_map}
 use Rattle.graph_walk.specs.Components.{AreComponents}
 use Rattle.graph_walk.specs.Walk.{IsWalk, Reaches}
 use Rattle.graph_walk.proofs.WalkLemmas.{reach_then}
@@ -13,7 +14,6 @@ use Rattle.lasso_emptiness.specs.inner.Edges.{arc_of}
 use Rattle.lasso_emptiness.specs.inner.Groups.{AreGroups, IsGroup, IsJoined, is_inside}
 use Rattle.lasso_emptiness.specs.inner.Tours.{edge_at}
 use Rattle.lasso_emptiness.specs.inner.Trails.{IsTrail}
-use Rattle.lasso_emptiness.proofs.Members.{contains_filter, contains_map, contains_nil, filter_contains, map_contains}
 use Rattle.lasso_emptiness.proofs.Trails.{trail_reaches}
 
 inside_parts : (numbers : List ℕ) (k : ℕ) (e : LiveEdge) → is_inside numbers k e ≡ true → (get_or numbers e.from 0 ≡ k) × (get_or numbers e.to 0 ≡ k)
@@ -85,7 +85,7 @@ module _ (states : ℕ) (numbers : List ℕ) (edges : List LiveEdge) (groups : L
   stays : (k p q : ℕ) (walk : List (ℕ × ℕ)) → p < states → get_or numbers p 0 ≡ k → IsWalk arcs p walk q → Reaches arcs q p → IsWalk (map arc_of (filter (is_inside numbers k) edges)) p walk q
   stays k p q [] at number leads back = leads
   stays k p q (a ∷ walk) at number leads back =
-      let found = map_contains arc_of edges a leads.0 in
+      let found = from_map arc_of edges a leads.0 in
       let edge = found.0 in
       let both = ends_of edge found.1 in
       let tail : edge.from ≡ p = ap (λ (x : ℕ × ℕ). x.0) found.2 ∙ leads.1 in
@@ -97,15 +97,15 @@ module _ (states : ℕ) (numbers : List ℕ) (edges : List LiveEdge) (groups : L
       let same : get_or numbers p 0 ≡ get_or numbers a.1 0 = (are.same p a.1 at next).1 (out, home) in
       let there : get_or numbers a.1 0 ≡ k = sym same ∙ number in
       let inside : is_inside numbers k edge ≡ true = inside_from numbers k edge (ap (λ x. get_or numbers x 0) tail ∙ number) (ap (λ x. get_or numbers x 0) head ∙ there) in (
-        subst (Contains (map arc_of (filter (is_inside numbers k) edges))) found.2 (contains_map arc_of (filter (is_inside numbers k) edges) edge (contains_filter (is_inside numbers k) edges edge found.1 inside)),
+        subst (Contains (map arc_of (filter (is_inside numbers k) edges))) found.2 (there_map arc_of (filter (is_inside numbers k) edges) edge (there_filter (is_inside numbers k) edges edge found.1 inside)),
         leads.1,
         stays k a.1 q walk next there leads.2 (reach_then arcs q p a.1 back out),
       )
 
   joined_at : (k : ℕ) → IsJoined (filter (is_inside numbers k) edges)
   joined_at k d e here there =
-      let first = filter_contains (is_inside numbers k) edges d here in
-      let second = filter_contains (is_inside numbers k) edges e there in
+      let first = from_filter (is_inside numbers k) edges d here in
+      let second = from_filter (is_inside numbers k) edges e there in
       let from = inside_parts numbers k d first.1 in
       let to = inside_parts numbers k e second.1 in
       let ends_d = ends_of d first.0 in
@@ -118,13 +118,13 @@ module _ (states : ℕ) (numbers : List ℕ) (edges : List LiveEdge) (groups : L
   one_component k p q [] at number trail back = trail
   one_component k p q (e ∷ es) at number trail back =
       let both = ends_of e trail.0 in
-      let arc : Contains arcs (p, e.to) = subst (λ x. Contains arcs (x, e.to)) trail.1 (contains_map arc_of edges e trail.0) in
+      let arc : Contains arcs (p, e.to) = subst (λ x. Contains arcs (x, e.to)) trail.1 (there_map arc_of edges e trail.0) in
       let out : Reaches arcs p e.to = record { walk = (p, e.to) ∷ []; leads = (arc, refl, refl) } in
       let home : Reaches arcs e.to p = reach_then arcs e.to q p (trail_reaches edges e.to q es trail.2) back in
       let same : get_or numbers p 0 ≡ get_or numbers e.to 0 = (are.same p e.to at both.1).1 (out, home) in
       let there : get_or numbers e.to 0 ≡ k = sym same ∙ number in
       let inside : is_inside numbers k e ≡ true = inside_from numbers k e (ap (λ x. get_or numbers x 0) trail.1 ∙ number) there in
-      (contains_filter (is_inside numbers k) edges e trail.0 inside, trail.1, one_component k e.to q es both.1 there trail.2 (reach_then arcs q p e.to back out))
+      (there_filter (is_inside numbers k) edges e trail.0 inside, trail.1, one_component k e.to q es both.1 there trail.2 (reach_then arcs q p e.to back out))
 
   whole : (state : ℕ) (cycle : List LiveEdge) → 0 < length cycle → IsTrail (Contains edges) state cycle state → (group : List LiveEdge) × Contains groups group × IsTrail (Contains group) state cycle state
   whole state [] some closed = absurd (omega arith)
@@ -138,13 +138,13 @@ module _ (states : ℕ) (numbers : List ℕ) (edges : List LiveEdge) (groups : L
       listed : (k : ℕ) → Contains (get_or groups k []) e → k < length groups
       listed k here = elim (cases_lt k (length groups)) [
         | inl within ↦ within
-        | inr past ↦ absurd (contains_nil e (subst (λ es. Contains es e) (get_or_past groups k [] past) here))
+        | inr past ↦ absurd (none_there e (subst (λ es. Contains es e) (get_or_past groups k [] past) here))
       ]
 
   pub are_groups : AreGroups edges groups
   are_groups = record {
     each = λ group h. subst (IsGroup edges) (sym (group_at group h)) (record {
-      inside = λ e here. (filter_contains (is_inside numbers h.0) edges e here).0;
+      inside = λ e here. (from_filter (is_inside numbers h.0) edges e here).0;
       joined = joined_at h.0;
     });
     whole = whole;

@@ -3,13 +3,13 @@ use Rattle.std.proofs.Common.{◌≡◌, ℕ, ◌+◌, ◌≤◌, true, false, L
 use Rattle.std.specs.Prelude.{MatchOption}
 use Rattle.std.specs.List.{All, Contains, list_all, list_any}
 use Rattle.std.proofs.lemmas.List.Elements.{All-contains_itself}
+use Rattle.aut_base.proofs.Members.{all_fails_at, any_at}
 use Rattle.aut_base.specs.Formula.{FormulaTree, met}
 use Rattle.aut_base.proofs.Steps.{all_more, any_more, any_none}
 use Rattle.lasso_emptiness.specs.declared.side.Side.{Side}
 use Rattle.lasso_emptiness.specs.declared.verdict.Verdict.{Verdict}
 use Rattle.lasso_emptiness.specs.declared.verdict.Verdict.TheVariants.{Met, Never, Open}
 use Rattle.lasso_emptiness.specs.inner.Judged.{IsJudged, IsNever, has_side}
-use Rattle.lasso_emptiness.proofs.Members.{all_fails_at, any_at}
 
 -- all parts so far are met, or a `Fin` in some part is open
 abbrev pub AllSoFar : List (List ℕ) → List FormulaTree → ℕ → Option Side → Type 0

@@ -6,6 +6,7 @@ use Rattle.std.proofs.lemmas.List.{get_or-map, get_or_default, length-map}
 use Rattle.std.proofs.lemmas.Option.{get_or_from_slice_get, slice_get_within}
 use Rattle.aut_base.proofs.LetterNames.{contains_listed}
 use Rattle.aut_base.proofs.Lists.{slice_get-at}
+use Rattle.aut_base.proofs.Members.{first_there, from_map, later_there, none_there, placed_there, there_cases, there_map}
 use Rattle.aut_base.proofs.ValuationLetters.{letter_of_holds, valuation_at, valuation_at_holds}
 use Rattle.aut_base.specs.Acceptance.{IsPath}
 use Rattle.aut_base.specs.Automaton.{TreeEdge}
@@ -22,7 +23,6 @@ use Rattle.lasso_emptiness.specs.inner.Edges.{IsWithin, marks_of}
 use Rattle.lasso_emptiness.specs.inner.Letters.{AreLettersOf, IsLetterOf}
 use Rattle.lasso_emptiness.specs.inner.Live.{IsEdgeAt, IsPassable}
 use Rattle.lasso_emptiness.specs.inner.Trails.{IsTrail}
-use Rattle.lasso_emptiness.proofs.Members.{contains_cases, contains_head, contains_map, contains_nil, contains_placed, contains_tail, map_contains}
 use Rattle.word_syntax.specs.Printing.{HoldsOnly}
 
 -- the truth of a label under functions that agree
@@ -30,12 +30,12 @@ truth_agrees : (on other : ℕ → Bool) (t : LabelTree) → ((i : ℕ) → on i
 truth_agrees on other t same = λ i. truth (λ k. same k i) t
 
 own_names : (names : List (List ℕ)) (v : List Bool) (name : List ℕ) → Contains (names_on names v) name → Contains names name
-own_names [] v name here = absurd (contains_nil name here)
-own_names (n ∷ names) [] name here = absurd (contains_nil name here)
-own_names (n ∷ names) (false ∷ v) name here = contains_tail n names name (own_names names v name here)
-own_names (n ∷ names) (true ∷ v) name here = elim (contains_cases n (names_on names v) name here) [
-  | inl same ↦ subst (Contains (n ∷ names)) same (contains_head n names)
-  | inr rest ↦ contains_tail n names name (own_names names v name rest)
+own_names [] v name here = absurd (none_there name here)
+own_names (n ∷ names) [] name here = absurd (none_there name here)
+own_names (n ∷ names) (false ∷ v) name here = later_there n names name (own_names names v name here)
+own_names (n ∷ names) (true ∷ v) name here = elim (there_cases n (names_on names v) name here) [
+  | inl same ↦ subst (Contains (n ∷ names)) same (first_there n names)
+  | inr rest ↦ later_there n names name (own_names names v name rest)
 ]
 
 -- the least letter of a link's label is one for its edge
@@ -73,10 +73,10 @@ letters_push c (d ∷ ds) [] e x all one = absurd all
 letters_push c (d ∷ ds) (y ∷ ys) e x all one = (all.0, letters_push c ds ys e x all.1 one)
 
 pub letters_own : (c : Core) (es : List LiveEdge) (xs : List NameSet) → AreLettersOf c es xs → (x : NameSet) → Contains xs x → HoldsOnly c.names x
-letters_own c [] [] all x here = absurd (contains_nil x here)
+letters_own c [] [] all x here = absurd (none_there x here)
 letters_own c [] (y ∷ ys) all x here = absurd all
 letters_own c (e ∷ es) [] all x here = absurd all
-letters_own c (e ∷ es) (y ∷ ys) all x here = elim (contains_cases y ys x here) [
+letters_own c (e ∷ es) (y ∷ ys) all x here = elim (there_cases y ys x here) [
   | inl same ↦ subst (HoldsOnly c.names) same all.0.own_names
   | inr rest ↦ letters_own c es ys all.1 x rest
 ]
@@ -103,7 +103,7 @@ reads_along c Kind p q (e ∷ es) (x ∷ xs) trail letters =
     let at = letters.0.at in
     record {
       trees = edge_of c.store l ∷ rest.trees;
-      path = (sym trail.1 ∙ at.from, contains_map (edge_of c.store) c.links l (contains_placed c.links e.link l at.stands), letters.0.meets, subst (λ x. IsPath (automaton_of c) x xs rest.trees q) at.to rest.path);
+      path = (sym trail.1 ∙ at.from, there_map (edge_of c.store) c.links l (placed_there c.links e.link l at.stands), letters.0.meets, subst (λ x. IsPath (automaton_of c) x xs rest.trees q) at.to rest.path);
       marks = ap (λ (ms : List ℕ). ms ∷ map (λ (t : TreeEdge). t.marks) rest.trees) (marks_at c e l at) ∙ ap (λ mss. marks_of c.links e ∷ mss) rest.marks;
     }
 
@@ -120,7 +120,7 @@ trail_of c is p q [] (t ∷ ts) path = absurd path
 trail_of c is p q (x ∷ xs) [] path = absurd path
 trail_of c is p q (x ∷ xs) (t ∷ ts) path =
     let rest = trail_of c is t.to q xs ts path.3 in
-    let found = map_contains (edge_of c.store) c.links t path.1 in
+    let found = from_map (edge_of c.store) c.links t path.1 in
     let l = found.0 in
     let place = found.1.0 in
     let stands : slice_get c.links place ≡ Some l = slice_get-at c.links place l found.1.1 (sym found.1.2) in

@@ -6,8 +6,6 @@ pub mod Grouping
 pub mod Judgements
 pub mod Lettered
 pub mod Marked
-pub mod Members
-pub mod Outcomes
 pub mod Parts
 pub mod Passable
 pub mod Picking

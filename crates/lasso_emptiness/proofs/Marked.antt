@@ -3,20 +3,20 @@ use Rattle.std.proofs.Common.{◌≡◌, ◌∙◌, ℕ, Bool, true, false, List
 use Rattle.std.specs.List.{All, Contains, list_any}
 use Rattle.std.proofs.lemmas.List.Elements.{All-map}
 use Rattle.std.proofs.lemmas.List.Folds.{list_any_none}
+use Rattle.aut_base.proofs.Members.{any_from, none_at, there_map}
 use Rattle.aut_base.specs.Formula.{Fin, Inf}
 use Rattle.aut_core.specs.declared.link.Link.{Link}
 use Rattle.lasso_emptiness.specs.declared.live.LiveEdge.{LiveEdge}
 use Rattle.lasso_emptiness.specs.inner.Edges.{marks_of, met_along, on_side}
 use Rattle.lasso_emptiness.specs.inner.Judged.{IsNever}
 use Rattle.lasso_emptiness.proofs.Conditions.{met-Fin, met-Inf}
-use Rattle.lasso_emptiness.proofs.Members.{any_from, contains_map, none_at}
 
 module _ (links : List Link) (edges : List LiveEdge) (set : ℕ) (neg : Bool) where
   pub none_on : All (λ (e : LiveEdge). on_side set neg (marks_of links e) ≡ false) edges → list_any (on_side set neg) (map (marks_of links) edges) ≡ false
   none_on none = list_any_none (on_side set neg) (map (marks_of links) edges) (All-map (λ marks. on_side set neg marks ≡ false) (marks_of links) edges none)
 
   pub one_on : (e : LiveEdge) → Contains edges e → on_side set neg (marks_of links e) ≡ true → list_any (on_side set neg) (map (marks_of links) edges) ≡ true
-  one_on e here on = any_from (on_side set neg) (map (marks_of links) edges) (marks_of links e) (contains_map (marks_of links) edges e here) on
+  one_on e here on = any_from (on_side set neg) (map (marks_of links) edges) (marks_of links e) (there_map (marks_of links) edges e here) on
 
   pub inf_met : (e : LiveEdge) → Contains edges e → on_side set neg (marks_of links e) ≡ true → met_along links edges (Inf set neg) ≡ true
   inf_met e here on = met-Inf (map (marks_of links) edges) set neg ∙ one_on e here on

@@ -4,12 +4,12 @@ use Rattle.std.specs.List.{Contains}
 use Rattle.std.proofs.lemmas.Bool.{cases_lt}
 use Rattle.std.proofs.lemmas.List.Elements.{Contains-append_left, Contains-push, Contains-push_cases}
 use Rattle.std.proofs.lemmas.Option.{same_Some, slice_get_within}
+use Rattle.aut_base.proofs.Members.{none_there}
 use Rattle.aut_core.specs.Core.{Core}
 use Rattle.aut_core.specs.declared.link.Link.{Link}
 use Rattle.label_guards.specs.Guards.{IsNeverMet}
 use Rattle.lasso_emptiness.specs.declared.live.LiveEdge.{LiveEdge}
 use Rattle.lasso_emptiness.specs.inner.Live.{ArePassable, IsPassable}
-use Rattle.lasso_emptiness.proofs.Members.{contains_nil}
 
 -- these are the edges of the links before a place whose label is not false
 pub record PassableBelow (c : Core) (place : ℕ) (edges : List LiveEdge) : Type 0 where
@@ -18,7 +18,7 @@ pub record PassableBelow (c : Core) (place : ℕ) (edges : List LiveEdge) : Type
 
 pub passable_none : (c : Core) → PassableBelow c 0 []
 passable_none c = record {
-  each = λ e here. absurd (contains_nil e here);
+  each = λ e here. absurd (none_there e here);
   whole = λ e passable below. absurd (omega arith);
 }
 

@@ -4,18 +4,18 @@ use Rattle.std.specs.List.{All, Contains}
 use Rattle.std.proofs.lemmas.List.{get_or_default, take_all}
 use Rattle.std.proofs.lemmas.List.Elements.{All-contains, Contains-append_left, Contains-push, Contains-push_cases}
 use Rattle.aut_base.proofs.Lists.{take-push}
+use Rattle.aut_base.proofs.Members.{none_there}
 use Rattle.lasso_emptiness.specs.declared.live.LiveEdge.{LiveEdge}
 use Rattle.graph_walk.specs.Reach.{AreReached, ReachedFrom}
 use Rattle.lasso_emptiness.specs.inner.Edges.{arc_of}
 use Rattle.lasso_emptiness.specs.inner.Live.{AreReachedEdges}
 use Rattle.lasso_emptiness.specs.inner.Picked.{Picks}
 use Rattle.lasso_emptiness.specs.inner.Tours.{edge_at}
-use Rattle.lasso_emptiness.proofs.Members.{contains_nil}
 
 pub picks_none : (Kind : LiveEdge → Type 0) (old : List LiveEdge) → Picks Kind [] old old
 picks_none Kind old = record {
   kept = λ e here. here;
-  added = λ e here kind. absurd (contains_nil e here);
+  added = λ e here kind. absurd (none_there e here);
   nothing_else = λ e here. inl here;
 }
 

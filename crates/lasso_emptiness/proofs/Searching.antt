@@ -2,6 +2,7 @@
 use Rattle.std.proofs.Common.{◌≡◌, ◌∙◌, ℕ, Bool, true, false, List, map, Option, None, Some, inl, inr, ap, refl, sym}
 use Rattle.std.specs.List.{All, Contains, list_any}
 use Rattle.std.proofs.lemmas.List.Elements.{All-contains}
+use Rattle.aut_base.proofs.Members.{any_found, each_there, from_map, none_at, there_map}
 use Rattle.aut_base.specs.Formula.{FormulaTree}
 use Rattle.aut_core.specs.declared.link.Link.{Link}
 use Rattle.lasso_emptiness.specs.declared.live.LiveEdge.{LiveEdge}
@@ -14,7 +15,6 @@ use Rattle.lasso_emptiness.specs.inner.Tours.{IsTour}
 use Rattle.lasso_emptiness.specs.inner.Trails.{Finds, FindsInAny, InSome, IsAccepting, NoneAccepting, NoneInAny}
 use Rattle.lasso_emptiness.proofs.Conditions.{met-denied, met-taken}
 use Rattle.lasso_emptiness.proofs.Marked.{none_on}
-use Rattle.lasso_emptiness.proofs.Members.{all_from, any_found, map_contains, none_at, contains_map}
 use Rattle.lasso_emptiness.proofs.Trails.{trail_kind, trail_weaker, trail_with}
 
 -- the same closed path, along edges of another kind
@@ -40,7 +40,7 @@ accepting_tour links edges needed cycle f are tour = record {
   some = tour.some;
   state = tour.state;
   closed = tour.closed;
-  meets = are.enough cycle (all_from (Contains edges) cycle (λ e here. trail_kind (Contains edges) tour.state tour.state cycle e tour.closed here)) tour.passes;
+  meets = are.enough cycle (each_there (Contains edges) cycle (λ e here. trail_kind (Contains edges) tour.state tour.state cycle e tour.closed here)) tour.passes;
 }
 
 -- Groups are left after others have no such path, and are divided by the side of a `Fin`.
@@ -51,7 +51,7 @@ module _ (links : List Link) (set : ℕ) (neg : Bool) (f : FormulaTree) (groups 
     some = accepting.some;
     state = accepting.state;
     closed = trail_weaker (Contains off) (InSome groups) (λ e here. let some = split.off_some e here in record { group = some.group; listed = are.inside some.group some.listed; here = some.here }) accepting.state accepting.state cycle accepting.closed;
-    meets = sym (met-taken (map (marks_of links) cycle) set neg true f (none_on links cycle set neg (all_from (λ (e : LiveEdge). on_side set neg (marks_of links e) ≡ false) cycle (λ e here. split.off_side e (trail_kind (Contains off) accepting.state accepting.state cycle e accepting.closed here))))) ∙ accepting.meets;
+    meets = sym (met-taken (map (marks_of links) cycle) set neg true f (none_on links cycle set neg (each_there (λ (e : LiveEdge). on_side set neg (marks_of links e) ≡ false) cycle (λ e here. split.off_side e (trail_kind (Contains off) accepting.state accepting.state cycle e accepting.closed here))))) ∙ accepting.meets;
   }
 
   -- a path that meets the condition with the `Fin` taken as false meets it
@@ -75,12 +75,12 @@ module _ (links : List Link) (set : ℕ) (neg : Bool) (f : FormulaTree) (groups 
         some = accepting.some;
         state = accepting.state;
         closed = trail_with (Contains group) (Contains off) accepting.state accepting.state cycle accepting.closed (λ e here in_group.
-            split.all_off e (record { group = group; listed = there; here = in_group }) (none_at (on_side set neg) (map (marks_of links) cycle) (marks_of links e) is (contains_map (marks_of links) cycle e here)));
+            split.all_off e (record { group = group; listed = there; here = in_group }) (none_at (on_side set neg) (map (marks_of links) cycle) (marks_of links e) is (there_map (marks_of links) cycle e here)));
         meets = met-taken (map (marks_of links) cycle) set neg true f is ∙ accepting.meets;
       })
       go there true is =
           let found = any_found (on_side set neg) (map (marks_of links) cycle) is in
-          let edge = map_contains (marks_of links) cycle found.0 found.1 in
+          let edge = from_map (marks_of links) cycle found.0 found.1 in
           let here = trail_kind (Contains group) accepting.state accepting.state cycle edge.0 accepting.closed edge.1 in
           none_crossed group (split.all_crossed group edge.0 there here (ap (on_side set neg) edge.2 ∙ found.2)) cycle (record {
             some = accepting.some;

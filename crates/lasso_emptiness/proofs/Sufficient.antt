@@ -4,6 +4,7 @@ use Rattle.std.specs.List.{All, Contains, list_all, list_any}
 use Rattle.std.proofs.lemmas.Bool.{true≢false}
 use Rattle.std.proofs.lemmas.List.Elements.{All-contains, All-contains_itself, All-push, All-weaker, Contains-append_left, Contains-push}
 use Rattle.std.proofs.lemmas.List.{take_all}
+use Rattle.aut_base.proofs.Members.{all_take_more, any_at, any_found, from_map}
 use Rattle.aut_base.specs.Formula.{FormulaTree, Fin, Inf, formula_list, formula_tree, met}
 use Rattle.aut_base.specs.declared.formula.Formula.TheVariants.{And, Or}
 use Rattle.aut_base.specs.declared.formula.Formulas.{Formulas}
@@ -14,7 +15,6 @@ use Rattle.lasso_emptiness.specs.inner.Edges.{marks_of, met_along, on_side}
 use Rattle.lasso_emptiness.specs.inner.Needed.{Serves, ServesAll, ServesOne, Suits}
 use Rattle.lasso_emptiness.proofs.Conditions.{met-Fin}
 use Rattle.lasso_emptiness.proofs.Marked.{inf_met, one_on}
-use Rattle.lasso_emptiness.proofs.Members.{all_take_more, any_at, any_found, map_contains}
 
 module _ (links : List Link) (edges : List LiveEdge) where
   abbrev marked : List LiveEdge → List (List ℕ)
@@ -28,7 +28,7 @@ module _ (links : List Link) (edges : List LiveEdge) where
       none false is = is
       none true is =
           let found = any_found (on_side set neg) (marked cycle) is in
-          let edge = map_contains (marks_of links) cycle found.0 found.1 in
+          let edge = from_map (marks_of links) cycle found.0 found.1 in
           let on : on_side set neg (marks_of links edge.0) ≡ true = ap (on_side set neg) edge.2 ∙ found.2 in
           let some = one_on links edges set neg edge.0 (All-contains (Contains edges) cycle edge.0 within edge.1) on in
           absurd (true≢false (sym holds ∙ met-Fin (marked edges) set neg ∙ ap not some))

@@ -4,6 +4,7 @@ use Rattle.std.specs.List.{All, Contains}
 use Rattle.std.proofs.lemmas.List.{get_or-map, get_or_default, length-map, take_all}
 use Rattle.std.proofs.lemmas.List.Elements.{All-get_or, All-head, All-push, All-tail, All-weaker, Contains-append_left, Contains-get_or, Contains-push}
 use Rattle.aut_base.proofs.Lists.{take-push}
+use Rattle.aut_base.proofs.Members.{there_map}
 use Rattle.graph_walk.specs.Path.{IsShortest}
 use Rattle.graph_walk.specs.Walk.{IsWalk, Reaches, arc_at}
 use Rattle.lasso_emptiness.specs.declared.live.LiveEdge.{LiveEdge}
@@ -11,7 +12,6 @@ use Rattle.lasso_emptiness.specs.inner.Edges.{arc_of}
 use Rattle.lasso_emptiness.specs.inner.Groups.{IsJoined}
 use Rattle.lasso_emptiness.specs.inner.Tours.{GoesOn, IsTour, edge_at}
 use Rattle.lasso_emptiness.specs.inner.Trails.{IsTrail}
-use Rattle.lasso_emptiness.proofs.Members.{contains_map}
 use Rattle.lasso_emptiness.proofs.Trails.{trail_then}
 
 -- the arc at a place is that of the edge there
@@ -51,7 +51,7 @@ tours_none edges e joined here = record {
   passes = λ k d within. absurd (omega arith);
   goes_on = λ d there.
       let on = joined e d here there in
-      record { walk = arc_of e ∷ on.walk; leads = (contains_map arc_of edges e here, refl, on.leads) };
+      record { walk = arc_of e ∷ on.walk; leads = (there_map arc_of edges e here, refl, on.leads) };
 }
 
 module _ (edges needed : List LiveEdge) (joined : IsJoined edges) (inside : All (Contains edges) needed) (i : ℕ) (within : i < length needed) where

@@ -2,6 +2,8 @@ use Rattle.std.proofs.Common.{◌∙◌, List, ap, arith, map, subst, sym}
 use Rattle.std.specs.List.{All, Contains}
 use Rattle.std.specs.Prelude.{OnOk}
 use Rattle.std.proofs.lemmas.Option.{same_Some}
+use Rattle.aut_base.proofs.Members.{all_passes_at}
+use Rattle.aut_base.proofs.Outcomes.{ok_weaker}
 use Rattle.aut_base.specs.Formula.{formula_list, formula_size, formula_tree, met}
 use Rattle.aut_base.specs.declared.formula.Formula.{Formula}
 use Rattle.aut_base.proofs.FormulaSizes.{formula_size-And, formula_size-Or, formula_size-at}
@@ -12,8 +14,6 @@ use Rattle.lasso_emptiness.specs.declared.live.LiveEdge.{LiveEdge}
 use Rattle.lasso_emptiness.specs.inner.Edges.{marks_of, met_along}
 use Rattle.lasso_emptiness.specs.inner.Needed.{Serves, ServesAll, ServesOne}
 use Rattle.lasso_emptiness.proofs.Judgements.{not_met}
-use Rattle.lasso_emptiness.proofs.Members.{all_passes_at}
-use Rattle.lasso_emptiness.proofs.Outcomes.{ok_weaker}
 use Rattle.lasso_emptiness.proofs.Sufficient.{fin_fewer, serves-And, serves-Or, suits_all_more, suits_one, suits_same}
 use Rattle.lasso_emptiness.proofs.needed.+needed.Goals as goal
 

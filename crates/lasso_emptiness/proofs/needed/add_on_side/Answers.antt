@@ -2,12 +2,12 @@ use Rattle.std.proofs.Common.{◌≡◌, ◌∙◌, ◌++◌, ◌∷◌, ◌<◌
 use Rattle.std.specs.List.{All, Contains}
 use Rattle.std.proofs.lemmas.Bool.{true≢false}
 use Rattle.std.proofs.lemmas.List.Elements.{All-contains, All-weaker}
+use Rattle.aut_base.proofs.Outcomes.{found_from, ok_weaker}
 use Rattle.aut_base.specs.Formula.{Inf}
 use Rattle.lasso_emptiness.specs.declared.live.LiveEdge.{LiveEdge}
 use Rattle.lasso_emptiness.specs.inner.Edges.{marks_of, on_side}
 use Rattle.lasso_emptiness.specs.inner.Needed.{Serves}
 use Rattle.lasso_emptiness.proofs.Marked.{inf_not_met}
-use Rattle.lasso_emptiness.proofs.Outcomes.{found_from, ok_weaker}
 use Rattle.lasso_emptiness.proofs.Sufficient.{inf_added, inf_there}
 use Rattle.lasso_emptiness.proofs.needed.add_on_side.Goals as goal
 

@@ -2,6 +2,8 @@ use Rattle.std.proofs.Common.{◌<◌, List, ap, arith, false, length, subst, sy
 use Rattle.std.specs.List.{All, Contains}
 use Rattle.std.proofs.lemmas.List.Elements.{All-contains}
 use Rattle.std.proofs.lemmas.Result.{IfOk-weaker}
+use Rattle.aut_base.proofs.Members.{each_there}
+use Rattle.aut_base.proofs.Outcomes.{none_said, some_said}
 use Rattle.aut_base.specs.Formula.{FormulaTree, formula_tree}
 use Rattle.lasso_emptiness.specs.declared.live.LiveEdge.{LiveEdge}
 use Rattle.lasso_emptiness.specs.inner.Edges.{IsWithin}
@@ -10,8 +12,6 @@ use Rattle.lasso_emptiness.specs.inner.Judged.{fins}
 use Rattle.lasso_emptiness.specs.inner.Splits.{IsSurveyed}
 use Rattle.lasso_emptiness.specs.inner.Trails.{Finds, FindsInAny, InSome, IsAccepting, NoneAccepting}
 use Rattle.lasso_emptiness.proofs.Conditions.{fins-taken}
-use Rattle.lasso_emptiness.proofs.Members.{all_from}
-use Rattle.lasso_emptiness.proofs.Outcomes.{none_said, some_said}
 use Rattle.lasso_emptiness.proofs.Searching.{accepting_weaker, finds_of_groups, finds_of_split, found_off, within_all}
 use Rattle.lasso_emptiness.proofs.search.+search.Goals as goal
 
@@ -20,8 +20,8 @@ search-search_in-requires t c =
     let Within = IsWithin (length c.args.links.now) c.args.states in (
       omega arith,
       (
-        all_from (All Within) c.in_ok-groups.groups.items (λ group listed. all_from Within group (λ e here. All-contains Within c.args.edges.now e c.requires ((c.in_ok-groups.ensures.each group listed).inside e here))),
-        all_from IsJoined c.in_ok-groups.groups.items (λ group listed. (c.in_ok-groups.ensures.each group listed).joined),
+        each_there (All Within) c.in_ok-groups.groups.items (λ group listed. each_there Within group (λ e here. All-contains Within c.args.edges.now e c.requires ((c.in_ok-groups.ensures.each group listed).inside e here))),
+        each_there IsJoined c.in_ok-groups.groups.items (λ group listed. (c.in_ok-groups.ensures.each group listed).joined),
       ),
     )
 
@@ -36,7 +36,7 @@ pub search_in-divide-requires : goal.search_in-divide-requires
 search_in-divide-requires t c =
     let said = subst (IsSurveyed c.args.links.now c.args.groups.items (formula_tree c.args.condition.now)) c.in-Open.is c.in_ok-group.ensures in
     let Linked = λ (e : LiveEdge). e.link < length c.args.links.now in
-    all_from (All Linked) c.in-Open.left.items (λ group listed. all_from Linked group (λ e here. (within_all (IsWithin (length c.args.links.now) c.args.states) c.args.groups.items c.requires.within group (said.1.inside group listed) e here).link))
+    each_there (All Linked) c.in-Open.left.items (λ group listed. each_there Linked group (λ e here. (within_all (IsWithin (length c.args.links.now) c.args.states) c.args.groups.items c.requires.within group (said.1.inside group listed) e here).link))
 
 pub search_in-search-requires : goal.search_in-search-requires
 search_in-search-requires t c =
@@ -46,7 +46,7 @@ search_in-search-requires t c =
     let same = ap fins c.in_ok-holds-in-Open.ensures in
     let Within = IsWithin (length c.args.links.now) c.args.states in (
       omega arith,
-      subst (All Within) (sym c.as_slice-in-Open.ensures) (all_from Within c.in_ok-parts-in-Open.parts.off (λ e here.
+      subst (All Within) (sym c.as_slice-in-Open.ensures) (each_there Within c.in_ok-parts-in-Open.parts.off (λ e here.
           let some = c.in_ok-parts-in-Open.ensures.off_some e here in
           within_all Within c.args.groups.items c.requires.within some.group (said.1.inside some.group some.listed) e some.here)),
     )
@@ -72,8 +72,8 @@ search_in-search_in-requires t c =
     let crossed = c.in_ok-parts-in-Open.parts.crossed.items in (
       omega arith,
       (
-        all_from (All Within) crossed (λ group listed. All-contains (All Within) c.args.groups.items group c.requires.within (said.1.inside group (c.in_ok-parts-in-Open.ensures.inside group listed))),
-        all_from IsJoined crossed (λ group listed. All-contains IsJoined c.args.groups.items group c.requires.joined (said.1.inside group (c.in_ok-parts-in-Open.ensures.inside group listed))),
+        each_there (All Within) crossed (λ group listed. All-contains (All Within) c.args.groups.items group c.requires.within (said.1.inside group (c.in_ok-parts-in-Open.ensures.inside group listed))),
+        each_there IsJoined crossed (λ group listed. All-contains IsJoined c.args.groups.items group c.requires.joined (said.1.inside group (c.in_ok-parts-in-Open.ensures.inside group listed))),
       ),
     )
 

@@ -1,9 +1,9 @@
 use Rattle.std.proofs.Common.{◌≡◌, ◌++◌, map, refl}
 use Rattle.std.specs.List.{Contains}
+use Rattle.aut_base.proofs.Outcomes.{ok_weaker, some_said}
 use Rattle.graph_walk.specs.Path.{IsShortest}
 use Rattle.graph_walk.specs.Walk.{Reaches}
 use Rattle.lasso_emptiness.specs.inner.Tours.{GoesOn, edge_at}
-use Rattle.lasso_emptiness.proofs.Outcomes.{ok_weaker, some_said}
 use Rattle.lasso_emptiness.proofs.Touring.{way_added}
 use Rattle.lasso_emptiness.proofs.Trails.{has_nodes}
 use Rattle.lasso_emptiness.proofs.tour.add_way.Goals as goal

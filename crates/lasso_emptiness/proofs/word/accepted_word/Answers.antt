@@ -1,5 +1,7 @@
 use Rattle.std.proofs.Common.{◌<◌, List, map, length, subst, sym}
 use Rattle.std.specs.List.{All, Contains}
+use Rattle.aut_base.proofs.Members.{each_there}
+use Rattle.aut_base.proofs.Outcomes.{none_said, some_said}
 use Rattle.aut_base.specs.Formula.{formula_tree}
 use Rattle.aut_core.specs.declared.link.Link.{Link}
 use Rattle.graph_walk.specs.Reach.{ReachedFrom}
@@ -9,15 +11,13 @@ use Rattle.lasso_emptiness.specs.inner.Live.{AreReachedEdges, IsPassable}
 use Rattle.lasso_emptiness.specs.inner.Trails.{IsAccepting, NoneAccepting}
 use Rattle.lasso_emptiness.proofs.Accepted.{accepts_nothing, along_passable, finds_in, leaves_reached, reduced_word}
 use Rattle.lasso_emptiness.proofs.Lettered.{passable_within}
-use Rattle.lasso_emptiness.proofs.Members.{all_from}
-use Rattle.lasso_emptiness.proofs.Outcomes.{none_said, some_said}
 use Rattle.lasso_emptiness.proofs.Trails.{trail_kind}
 use Rattle.lasso_emptiness.proofs.word.accepted_word.Goals as goal
 
 pub reached_edges-requires : goal.reached_edges-requires
 reached_edges-requires c =
     subst (All (λ (e : LiveEdge). (e.from < c.args.a.now.states) × (e.to < c.args.a.now.states))) (sym c.as_slice.ensures)
-    (all_from (λ (e : LiveEdge). (e.from < c.args.a.now.states) × (e.to < c.args.a.now.states)) c.in_ok-passable.passable (λ e here. let within = passable_within c.args.a.now c.whole.ensures e (c.in_ok-passable.ensures.each e here) in (within.from, within.to)))
+    (each_there (λ (e : LiveEdge). (e.from < c.args.a.now.states) × (e.to < c.args.a.now.states)) c.in_ok-passable.passable (λ e here. let within = passable_within c.args.a.now c.whole.ensures e (c.in_ok-passable.ensures.each e here) in (within.from, within.to)))
 
 pub search-requires : goal.search-requires
 search-requires c =
@@ -25,7 +25,7 @@ search-requires c =
     subst (λ (es : List LiveEdge). All (IsWithin (length c.links.result.now) c.states.result) es) (sym c.as_slice-2.ensures)
     (subst (λ (ls : List Link). All (IsWithin (length ls) c.states.result) c.in_ok-reached.reached) (sym c.links.ensures)
     (subst (λ n. All (IsWithin (length c.args.a.now.links) n) c.in_ok-reached.reached) (sym c.states.ensures)
-    (all_from (IsWithin (length c.args.a.now.links) c.args.a.now.states) c.in_ok-reached.reached (λ e here. passable_within c.args.a.now c.whole.ensures e (c.in_ok-passable.ensures.each e (leaves_reached c.args.a.now.starts c.in_ok-passable.passable c.in_ok-reached.reached picked e here).0)))))
+    (each_there (IsWithin (length c.args.a.now.links) c.args.a.now.states) c.in_ok-reached.reached (λ e here. passable_within c.args.a.now c.whole.ensures e (c.in_ok-passable.ensures.each e (leaves_reached c.args.a.now.starts c.in_ok-passable.passable c.in_ok-reached.reached picked e here).0)))))
 
 pub word_around-requires-clause-reached : goal.word_around-requires-clause-reached
 word_around-requires-clause-reached c = λ e here.

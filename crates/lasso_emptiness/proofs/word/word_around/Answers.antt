@@ -1,19 +1,19 @@
 use Rattle.std.proofs.Common.{◌<◌, List, refl, subst, sym}
 use Rattle.std.specs.List.{All, Contains}
 use Rattle.std.proofs.lemmas.List.Elements.{Contains-get_or}
+use Rattle.aut_base.proofs.Members.{each_there}
 use Rattle.lasso_emptiness.specs.declared.live.LiveEdge.{LiveEdge}
 use Rattle.lasso_emptiness.specs.inner.Letters.{AreLettersOf}
 use Rattle.lasso_emptiness.specs.inner.Live.{IsPassable}
 use Rattle.lasso_emptiness.specs.inner.Tours.{edge_at}
 use Rattle.lasso_emptiness.proofs.Accepted.{own_word}
 use Rattle.lasso_emptiness.proofs.Lettered.{passable_within}
-use Rattle.lasso_emptiness.proofs.Members.{all_from}
 use Rattle.lasso_emptiness.proofs.Trails.{trail_kind}
 use Rattle.lasso_emptiness.proofs.word.word_around.Goals as goal
 
 pub stem_to-requires-clause-ends : goal.stem_to-requires-clause-ends
 stem_to-requires-clause-ends c =
-    all_from (λ (e : LiveEdge). (e.from < c.args.a.now.states) × (e.to < c.args.a.now.states)) c.args.passable.now (λ e here. let within = passable_within c.args.a.now c.whole.ensures e (c.requires.passable.each e here) in (within.from, within.to))
+    each_there (λ (e : LiveEdge). (e.from < c.args.a.now.states) × (e.to < c.args.a.now.states)) c.args.passable.now (λ e here. let within = passable_within c.args.a.now c.whole.ensures e (c.requires.passable.each e here) in (within.from, within.to))
 
 pub stem_to-requires-clause-state : goal.stem_to-requires-clause-state
 stem_to-requires-clause-state c =
@@ -27,11 +27,11 @@ stem_to-requires-clause-reached c = c.requires.reached (edge_at c.args.cycle.now
 pub letters_along-requires : goal.letters_along-requires
 letters_along-requires c =
     let stem = c.in_ok-stem.ensures in
-    subst (All (IsPassable c.args.a.now)) (sym c.as_slice.ensures) (all_from (IsPassable c.args.a.now) c.in_ok-stem.stem (λ e here. c.requires.passable.each e (trail_kind (Contains c.args.passable.now) stem.start _ c.in_ok-stem.stem e stem.leads here)))
+    subst (All (IsPassable c.args.a.now)) (sym c.as_slice.ensures) (each_there (IsPassable c.args.a.now) c.in_ok-stem.stem (λ e here. c.requires.passable.each e (trail_kind (Contains c.args.passable.now) stem.start _ c.in_ok-stem.stem e stem.leads here)))
 
 pub letters_along-requires-2 : goal.letters_along-requires-2
 letters_along-requires-2 c =
-    all_from (IsPassable c.args.a.now) c.args.cycle.now (λ e here. trail_kind (IsPassable c.args.a.now) c.requires.accepting.state c.requires.accepting.state c.args.cycle.now e c.requires.accepting.closed here)
+    each_there (IsPassable c.args.a.now) c.args.cycle.now (λ e here. trail_kind (IsPassable c.args.a.now) c.requires.accepting.state c.requires.accepting.state c.args.cycle.now e c.requires.accepting.closed here)
 
 pub returns : goal.returns
 returns c =

@@ -5,7 +5,7 @@ use Rattle.std.specs.List.Sorted.{IsNonDecreasing}
 use Rattle.std.proofs.lemmas.List.{length-map}
 use Rattle.std.proofs.lemmas.List.Elements.{All-head, All-tail}
 use Rattle.aut_base.specs.Automaton.{TreeEdge}
-use Rattle.fin_removal.proofs.Members.{first_member, later_member}
+use Rattle.aut_base.proofs.Members.{first_there, later_there}
 
 -- the edges stand in order, and leave states from `low` on and below `high`
 abbrev pub Rises : ℕ → ℕ → List TreeEdge → Type 0
@@ -24,8 +24,8 @@ rises_then low mid high (e ∷ es) fs l h first second = (first.0, omega (arith,
 pub rises_at : (low at high : ℕ) (es fs : List TreeEdge) → low ≤ at → at < high → ((e : TreeEdge) → Contains es e → e.from ≡ at) → Rises at high fs → Rises low high (es ++ fs)
 rises_at low at high [] fs l h same rest = rises_wider at low high high fs l (omega arith) rest
 rises_at low at high (e ∷ es) fs l h same rest =
-    let here : e.from ≡ at = same e (first_member e es) in
-    (omega arith, omega arith, rises_at e.from at high es fs (omega arith) h (λ f there. same f (later_member e es f there)) rest)
+    let here : e.from ≡ at = same e (first_there e es) in
+    (omega arith, omega arith, rises_at e.from at high es fs (omega arith) h (λ f there. same f (later_there e es f there)) rest)
 
 pub rises_each : (f : TreeEdge → List TreeEdge) → ((e d : TreeEdge) → Contains (f e) d → d.from ≡ e.from) → (low high : ℕ) (es : List TreeEdge) → Rises low high es → Rises low high (flat_map f es)
 rises_each f same low high [] r = tt
@@ -82,38 +82,38 @@ risen high (e ∷ es) order below low first = (
 )
 
 -- numbers that rise, from `low` on
-abbrev pub Climbs : ℕ → List ℕ → Type 0
-Climbs low [] = Unit {0}
-Climbs low (x ∷ xs) = (low ≤ x) × Climbs (x + 1) xs
+abbrev pub Increases : ℕ → List ℕ → Type 0
+Increases low [] = Unit {0}
+Increases low (x ∷ xs) = (low ≤ x) × Increases (x + 1) xs
 
-climbs_wider : (low low' : ℕ) (xs : List ℕ) → low' ≤ low → Climbs low xs → Climbs low' xs
-climbs_wider low low' [] l c = tt
-climbs_wider low low' (x ∷ xs) l c = (omega (arith, c.0), c.1)
+increases_wider : (low low' : ℕ) (xs : List ℕ) → low' ≤ low → Increases low xs → Increases low' xs
+increases_wider low low' [] l c = tt
+increases_wider low low' (x ∷ xs) l c = (omega (arith, c.0), c.1)
 
-pub climbs_range : (a n : ℕ) → Climbs a (range_with_len a n)
-climbs_range a zero = tt
-climbs_range a (suc n) = (omega arith, climbs_range (a + 1) n)
+pub increases_range : (a n : ℕ) → Increases a (range_with_len a n)
+increases_range a zero = tt
+increases_range a (suc n) = (omega arith, increases_range (a + 1) n)
 
-climbs_if : (p : ℕ → Bool) (x : ℕ) (xs : List ℕ) (low : ℕ) (b : Bool) → low ≤ x → Climbs (x + 1) (filter p xs) → Climbs low (cond b (x ∷ filter p xs) (filter p xs))
-climbs_if p x xs low true l c = (l, c)
-climbs_if p x xs low false l c = climbs_wider (x + 1) low (filter p xs) (omega arith) c
+increases_if : (p : ℕ → Bool) (x : ℕ) (xs : List ℕ) (low : ℕ) (b : Bool) → low ≤ x → Increases (x + 1) (filter p xs) → Increases low (cond b (x ∷ filter p xs) (filter p xs))
+increases_if p x xs low true l c = (l, c)
+increases_if p x xs low false l c = increases_wider (x + 1) low (filter p xs) (omega arith) c
 
-pub climbs_kept : (p : ℕ → Bool) (low : ℕ) (xs : List ℕ) → Climbs low xs → Climbs low (filter p xs)
-climbs_kept p low [] c = tt
-climbs_kept p low (x ∷ xs) c = climbs_if p x xs low (p x) c.0 (climbs_kept p (x + 1) xs c.1)
+pub increases_kept : (p : ℕ → Bool) (low : ℕ) (xs : List ℕ) → Increases low xs → Increases low (filter p xs)
+increases_kept p low [] c = tt
+increases_kept p low (x ∷ xs) c = increases_if p x xs low (p x) c.0 (increases_kept p (x + 1) xs c.1)
 
-pub climbs_moved : (by low : ℕ) (xs : List ℕ) → Climbs low xs → Climbs (by + low) (map (λ x. by + x) xs)
-climbs_moved by low [] c = tt
-climbs_moved by low (x ∷ xs) c = let z : by + (x + 1) ≡ by + x + 1 = omega arith in (omega (arith, c.0), subst (λ n. Climbs n (map (λ y. by + y) xs)) z (climbs_moved by (x + 1) xs c.1))
+pub increases_moved : (by low : ℕ) (xs : List ℕ) → Increases low xs → Increases (by + low) (map (λ x. by + x) xs)
+increases_moved by low [] c = tt
+increases_moved by low (x ∷ xs) c = let z : by + (x + 1) ≡ by + x + 1 = omega arith in (omega (arith, c.0), subst (λ n. Increases n (map (λ y. by + y) xs)) z (increases_moved by (x + 1) xs c.1))
 
-climbs_from : (low : ℕ) (xs : List ℕ) → Climbs low xs → (j d : ℕ) → j < length xs → low ≤ get_or xs j d
-climbs_from low [] c j d within = absurd (omega (arith, within))
-climbs_from low (x ∷ xs) c zero d within = c.0
-climbs_from low (x ∷ xs) c (suc j) d within = omega (arith, c.0, climbs_from (x + 1) xs c.1 j d (omega (arith, within)))
+increases_from : (low : ℕ) (xs : List ℕ) → Increases low xs → (j d : ℕ) → j < length xs → low ≤ get_or xs j d
+increases_from low [] c j d within = absurd (omega (arith, within))
+increases_from low (x ∷ xs) c zero d within = c.0
+increases_from low (x ∷ xs) c (suc j) d within = omega (arith, c.0, increases_from (x + 1) xs c.1 j d (omega (arith, within)))
 
-pub climbing : (low : ℕ) (xs : List ℕ) → Climbs low xs → AllPairs (λ m n. m < n) xs
-climbing low [] c i j d order within = absurd (omega (arith, within))
-climbing low (x ∷ xs) c zero zero d order within = absurd (omega (arith, order))
-climbing low (x ∷ xs) c zero (suc j) d order within = omega (arith, climbs_from (x + 1) xs c.1 j d (omega (arith, within)))
-climbing low (x ∷ xs) c (suc i) zero d order within = absurd (omega (arith, order))
-climbing low (x ∷ xs) c (suc i) (suc j) d order within = climbing (x + 1) xs c.1 i j d (omega (arith, order)) (omega (arith, within))
+pub increasing : (low : ℕ) (xs : List ℕ) → Increases low xs → AllPairs (λ m n. m < n) xs
+increasing low [] c i j d order within = absurd (omega (arith, within))
+increasing low (x ∷ xs) c zero zero d order within = absurd (omega (arith, order))
+increasing low (x ∷ xs) c zero (suc j) d order within = omega (arith, increases_from (x + 1) xs c.1 j d (omega (arith, within)))
+increasing low (x ∷ xs) c (suc i) zero d order within = absurd (omega (arith, order))
+increasing low (x ∷ xs) c (suc i) (suc j) d order within = increasing (x + 1) xs c.1 i j d (omega (arith, order)) (omega (arith, within))

@@ -1,25 +1,11 @@
--- Paths put together and taken apart, and lists many times over.
-use Rattle.std.proofs.Common.{◌≡◌, ◌∙◌, ℕ, zero, suc, ◌+◌, ◌*◌, List, [], ◌∷◌, ◌++◌, ap, append_assoc, arith, refl, subst, sym}
-use Rattle.std.proofs.lemmas.List.{append-nil}
+-- Paths put together and taken apart.
+use Rattle.std.proofs.Common.{◌≡◌, ℕ, zero, suc, ◌+◌, ◌<◌, List, [], ◌∷◌, ◌++◌, Contains, ap, arith, length, refl, subst, sym}
+use Rattle.std.proofs.lemmas.Nat.{mul-lt}
+use Rattle.aut_base.proofs.Copies.{length-copies}
+use Rattle.aut_base.proofs.Walks.{as_long}
 use Rattle.aut_base.specs.Acceptance.{IsPath}
 use Rattle.aut_base.specs.Automaton.{Automaton, TreeEdge}
 use Rattle.aut_base.specs.Word.{NameSet, copies}
-
-pub copies-push : {A : Type 0} (k : ℕ) (v : List A) → copies k v ++ v ≡ v ++ copies k v
-copies-push zero v = sym (append-nil v)
-copies-push (suc k) v = append_assoc v (copies k v) v ∙ ap (λ w. v ++ w) (copies-push k v)
-
-pub copies-add : {A : Type 0} (j k : ℕ) (v : List A) → copies (j + k) v ≡ copies j v ++ copies k v
-copies-add zero k v = let e : 0 + k ≡ k = omega arith in ap (λ n. copies n v) e
-copies-add (suc j) k v =
-    let e : suc j + k ≡ suc (j + k) = omega arith in
-    ap (λ n. copies n v) e ∙ (ap (λ w. v ++ w) (copies-add j k v) ∙ sym (append_assoc v (copies j v) (copies k v)))
-
-pub copies-copies : {A : Type 0} (m j : ℕ) (v : List A) → copies m (copies j v) ≡ copies (m * j) v
-copies-copies zero j v = let e : 0 ≡ 0 * j = omega arith in ap (λ n. copies n v) e
-copies-copies (suc m) j v =
-    let e : j + m * j ≡ suc m * j = omega arith in
-    ap (λ w. copies j v ++ w) (copies-copies m j v) ∙ (sym (copies-add j (m * j) v) ∙ ap (λ n. copies n v) e)
 
 pub path_join : (a : Automaton) (p r q : ℕ) (xs ys : List NameSet) (es fs : List TreeEdge) → IsPath a p xs es r → IsPath a r ys fs q → IsPath a p (xs ++ ys) (es ++ fs) q
 path_join a p r q [] ys [] fs first second = let P : ℕ → Type 0 = λ s. IsPath a s ys fs q in subst P (sym first) second
@@ -54,3 +40,15 @@ path_split a p q (x ∷ xs) ys (e ∷ es) path =
 pub path_copies : (a : Automaton) (q : ℕ) (k : ℕ) (xs : List NameSet) (es : List TreeEdge) → IsPath a q xs es q → IsPath a q (copies k xs) (copies k es) q
 path_copies a q zero xs es path = refl
 path_copies a q (suc k) xs es path = path_join a q q q xs (copies k xs) es (copies k es) path (path_copies a q k xs es path)
+
+-- the edges of a path are the automaton's
+pub on_path : (a : Automaton) (p q : ℕ) (xs : List NameSet) (es : List TreeEdge) → IsPath a p xs es q → (e : TreeEdge) → Contains es e → Contains a.edges e
+on_path a p q [] [] path e there = absurd (omega (arith, there.1))
+on_path a p q [] (f ∷ fs) path e there = absurd path
+on_path a p q (x ∷ xs) [] path e there = absurd path
+on_path a p q (x ∷ xs) (f ∷ fs) path e (zero, within, is) = subst (λ (g : TreeEdge). Contains a.edges g) is path.1
+on_path a p q (x ∷ xs) (f ∷ fs) path e (suc k, within, is) = on_path a f.to q xs fs path.3 e (k, omega (arith, within), is)
+
+-- a path that reads a cycle isn't empty
+pub goes_on : (a : Automaton) (p q k : ℕ) (v : List NameSet) (es : List TreeEdge) → 0 < length v → 0 < k → IsPath a p (copies k v) es q → 0 < length es
+goes_on a p q k v es some positive path = omega (arith, as_long a p (copies k v) es q path, length-copies k v, mul-lt 0 0 k (length v) positive some)
