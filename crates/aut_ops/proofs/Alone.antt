@@ -1,6 +1,6 @@
 -- The links of an automaton of flagged states, as the edges that they stand for.
 use Rattle.std.proofs.Common.{◌≡◌, ◌∙◌, ◌<◌, ◌≤◌, ℕ, Bool, true, false, cond, List, [], ◌∷◌, All, ap, arith, filter, get_or, length, map, refl, subst, sym, take}
-use Rattle.std.proofs.lemmas.List.{take_all}
+use Rattle.std.proofs.lemmas.List.{length-map, take_all}
 use Rattle.std.proofs.lemmas.List.Elements.{All-filter, All-head, All-map, All-tail, All-weaker}
 use Rattle.std.proofs.lemmas.List.FromFn.{get_or-map-range_with_len}
 use Rattle.std.proofs.lemmas.Simd.{map-map}
@@ -15,7 +15,9 @@ use Rattle.aut_ops.proofs.FilledStates.{links_have}
 use Rattle.aut_ops.proofs.Linked.{parts_for}
 use Rattle.aut_ops.proofs.Trimmed.{alone_formed}
 use Rattle.aut_ops.specs.Passable.{arc_of, between, is_flagged, is_passable, passable_arcs, stays}
-use Rattle.aut_ops.specs.Trimming.{rank, renumbered, renumbered_edge}
+use Rattle.aut_ops.specs.Trimming.{IsReachedSize, rank, renumbered, renumbered_edge}
+use Rattle.aut_ops.specs.declared.reached.ReachedSize.{ReachedSize}
+use Rattle.graph_walk.specs.Reach.{AreReached}
 use Rattle.aut_ops.specs.inner.Renumbering.{link_arc, link_passable, link_stays, new_link, new_number}
 
 pub map_filter : {X Y : Type 0} (f : X → Y) (p : Y → Bool) (xs : List X) → map f (filter (λ x. p (f x)) xs) ≡ filter p (map f xs)
@@ -105,3 +107,12 @@ numbered_alone c flags ranks names flagged starts states staying links sets form
     guards_there s ls s_is ls_are =
         subst (λ (t : Store). All (λ (l : Link). Has t l.guard) ls) (sym s_is) (subst (All (λ (l : Link). Has c.store l.guard)) (sym ls_are)
         (All-map (λ (l : Link). Has c.store l.guard) (new_link ranks) (filter (link_stays c flags) c.links) (All-filter (link_stays c flags) (λ (l : Link). Has c.store l.guard) c.links (links_have c core))))
+
+-- how many of the states and of the links stay
+pub reached_size : (c : Core) (flags : List Bool) (size : ReachedSize) → AreReached c.states (passable_arcs (automaton_of c)) c.starts flags → size.states ≡ rank flags (length flags) → size.edges ≡ length (filter (link_stays c flags) c.links) → IsReachedSize (automaton_of c) size
+reached_size c flags size reached states edges = record {
+  trimmed = renumbered flags (between flags (automaton_of c));
+  is_trimmed = record { flags = flags; reached = reached; is = refl };
+  states = states ∙ ap (rank flags) reached.size;
+  edges = edges ∙ (sym (length-map (filter (link_stays c flags) c.links) (edge_of c.store)) ∙ (ap (λ (es : List TreeEdge). length es) (edges_staying c flags) ∙ sym (length-map (between flags (automaton_of c)).edges (renumbered_edge flags))));
+}

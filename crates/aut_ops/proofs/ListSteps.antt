@@ -1,5 +1,5 @@
 -- A list that is added to another item by item, each turned into something else.
-use Rattle.std.proofs.Common.{◌≡◌, ◌∙◌, ◌+◌, ◌<◌, ◌≤◌, ℕ, List, [], ◌∷◌, ◌++◌, All, AllPairs, ap, append_assoc, arith, get_or, length, length-take, map, subst, sym, take}
+use Rattle.std.proofs.Common.{◌≡◌, ◌∙◌, ◌+◌, ◌<◌, ◌≤◌, ℕ, zero, suc, Bool, true, false, cond, filter, List, [], ◌∷◌, ◌++◌, All, AllPairs, ap, append_assoc, arith, get_or, length, length-take, map, subst, sym, take}
 use Rattle.std.proofs.lemmas.List.{get_or-take, get_or_default, map-append, take_all}
 use Rattle.std.proofs.lemmas.List.Elements.{All-append, All-map, All-weaker}
 use Rattle.aut_base.proofs.Lists.{take-push}
@@ -22,3 +22,13 @@ joint_below marks others all by i mark low rise within is so_far = subst (All (�
     let at = get_or-take i others k d early in
     let same = get_or_default others k d 0 (omega (arith, early, within)) in
     omega (arith, up, at, same, is))))
+
+-- of so many items no more are kept
+pub kept_within : {X : Type 0} (p : X → Bool) (xs : List X) (i : ℕ) → length (filter p (take i xs)) ≤ i
+kept_within p xs zero = omega arith
+kept_within p [] (suc i) = omega arith
+kept_within p (x ∷ xs) (suc i) = by (p x) (kept_within p xs i)
+  where
+    by : (b : Bool) → length (filter p (take i xs)) ≤ i → length (cond b (x ∷ filter p (take i xs)) (filter p (take i xs))) ≤ suc i
+    by true rest = omega (arith, rest)
+    by false rest = omega (arith, rest)

@@ -2,6 +2,7 @@
 use Rattle.std.specs.Prelude.{◌≡◌, ℕ, Bool, List, filter, length, map, take}
 use Rattle.aut_base.specs.Automaton.{Automaton, TreeEdge}
 use Rattle.aut_ops.specs.Passable.{between, passable_arcs}
+use Rattle.aut_ops.specs.declared.reached.ReachedSize.{ReachedSize}
 use Rattle.graph_walk.specs.Reach.{AreReached}
 
 -- how many states before this one are flagged
@@ -25,3 +26,10 @@ pub record IsTrimmed (a made : Automaton) : Type 0 where
   pub flags : List Bool
   pub reached : AreReached a.states (passable_arcs a) a.starts flags
   pub is : made ≡ renumbered flags (between flags a)
+
+-- the numbers of states and edges that a trimmed automaton has
+pub record IsReachedSize (a : Automaton) (size : ReachedSize) : Type 0 where
+  pub trimmed : Automaton
+  pub is_trimmed : IsTrimmed a trimmed
+  pub states : size.states ≡ trimmed.states
+  pub edges : size.edges ≡ length trimmed.edges

@@ -13,6 +13,7 @@ mod pairing;
 mod passable;
 mod products;
 mod pruning;
+mod reached;
 mod renumbering;
 mod shared;
 mod sums;
@@ -27,5 +28,6 @@ pub use law::{
 pub use limit::MOST_PAIRS;
 pub use products::{product, product_or};
 pub use pruning::prune;
+pub use reached::{ReachedSize, reached_size};
 pub use sums::sum;
 pub use trimming::trim;

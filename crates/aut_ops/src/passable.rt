@@ -13,6 +13,7 @@ use graph_walk::Graph;
 use std::alloc::Global;
 
 /// Whether the label of the link isn't false.
+#[inline]
 pub(crate) fn is_passable(a: &Automaton, link: &Link) -> bool
     requires { Has a.now.store link.now.guard }
     ensures { result ≡ link_passable a.now link.now }
@@ -27,7 +28,7 @@ pub(crate) fn passable_graph(alloc: Global, a: &Automaton) -> Result<Graph, Memo
     ensures arcs { IfOk result (λ graph. graph.arcs ≡ passable_arcs (automaton_of a.now)) }
 {
     a.whole();
-    let mut arcs = Arcs::new(alloc);
+    let mut arcs = Arcs::from_vec(Vec::with_capacity(alloc, a.links().len())?);
     'links: for link in a.links() {
         if !is_passable(a, link) {
             continue;
@@ -57,7 +58,8 @@ pub(crate) fn links_between(alloc: Global, a: &Automaton, flags: &[bool]) -> Res
 }
 
 /// Whether the label of the link isn't false and both of its ends are flagged.
-fn stays(a: &Automaton, link: &Link, flags: &[bool]) -> bool
+#[inline]
+pub(crate) fn stays(a: &Automaton, link: &Link, flags: &[bool]) -> bool
     requires guard { Has a.now.store link.now.guard }
     requires from { link.now.from < length flags.now }
     requires to { link.now.to < length flags.now }

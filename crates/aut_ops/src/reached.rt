@@ -1,0 +1,64 @@
+//! How much of an automaton is reached.
+
+ghost use Rattle.std.specs.Prelude.{◌≡◌, ◌<◌, ◌^◌, IfOk, filter, length};
+ghost use Rattle.aut_core.specs.Core.{automaton_of};
+ghost use Rattle.aut_ops.specs.Trimming.{IsReachedSize, rank};
+ghost use Rattle.aut_ops.specs.inner.Renumbering.{link_stays};
+
+use crate::passable::{passable_graph, stays};
+use aut_base::Memory;
+use aut_core::Automaton;
+use graph_walk::reach;
+use std::alloc::Global;
+
+/// How many states of an automaton are reached, and how many of its edges leave them, those with false labels not counted.
+#[derive(Clone, Copy, Debug)]
+pub struct ReachedSize {
+    pub states: u32,
+    pub edges: usize,
+}
+
+/// How many states and edges a trimmed automaton has. It isn't made.
+pub fn reached_size(alloc: Global, a: &Automaton) -> Result<ReachedSize, Memory>
+    ensures { IfOk result (IsReachedSize (automaton_of a.now)) }
+{
+    a.whole();
+    let graph = passable_graph(alloc, a)?;
+    let reached = reach(alloc, &graph, a.starts())?;
+    let flags = reached.as_slice();
+    Ok(ReachedSize {
+        states: flagged_count(flags),
+        edges: staying_count(a, flags),
+    })
+}
+
+/// How many of the flags are set.
+fn flagged_count(flags: &[bool]) -> u32
+    requires { length flags.now < 2 ^ 32 }
+    ensures { result ≡ rank flags.now (length flags.now) }
+{
+    let mut count = 0;
+    'flags: for flag in flags {
+        if !*flag {
+            continue;
+        }
+        count += 1;
+    }
+    count
+}
+
+/// How many links stay between flagged states, those with false labels not counted.
+fn staying_count(a: &Automaton, flags: &[bool]) -> usize
+    requires { length flags.now ≡ a.now.states }
+    ensures { result ≡ length (filter (link_stays a.now flags.now) a.now.links) }
+{
+    a.whole();
+    let mut count = 0;
+    'links: for link in a.links() {
+        if !stays(a, link, flags) {
+            continue;
+        }
+        count += 1;
+    }
+    count
+}
