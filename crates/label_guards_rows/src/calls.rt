@@ -117,3 +117,17 @@ pub(crate) fn cubes(alloc: Global, store: &Guards, g: Guard) -> Result<Option<Te
     }
     Ok(Some(store.cubes(alloc, g)?))
 }
+
+/// Adds the text of a guard, and answers whether the store has it.
+pub(crate) fn push_cubes(
+    alloc: Global,
+    store: &Guards,
+    out: &mut Text,
+    g: Guard,
+) -> Result<bool, Memory> {
+    if !store.has(g) {
+        return Ok(false);
+    }
+    store.push_cubes(alloc, out, g)?;
+    Ok(true)
+}
