@@ -4,18 +4,19 @@ ghost use Rattle.std.specs.Prelude.{◌≡◌, IsTrue, false};
 ghost use Rattle.aut_base.specs.Formula.{Inf, formula_tree};
 ghost use Rattle.aut_ops_rows.specs.Small.{HasOneSet};
 
-use crate::shown::shown;
+use crate::shown::{push_number, shown};
 use crate::written::{Written, automaton};
 use aut_base::{Formula, Memory, Text};
 use aut_core::Automaton;
-use aut_ops::{prune, trim};
+use aut_ops::{prune, reached_size, trim};
 use std::alloc::Global;
 
-/// Which states are kept.
+/// Which states are kept, or that those are counted that are reached.
 #[derive(Clone, Copy)]
 enum Keep {
     Reached,
     Useful,
+    Counted,
 }
 
 /// The automaton, what is kept of it, and what comes out.
@@ -86,7 +87,7 @@ const MARKED_ONCE: Written = Written {
     edges: b"0t10 1t1",
 };
 
-pub(crate) const ROWS: [KeptRow; 6] = [
+pub(crate) const ROWS: [KeptRow; 9] = [
     KeptRow {
         given: UNREACHED,
         keep: Keep::Reached,
@@ -116,6 +117,21 @@ pub(crate) const ROWS: [KeptRow; 6] = [
         given: MARKED_ONCE,
         keep: Keep::Useful,
         wanted: b"2///1/I0",
+    },
+    KeptRow {
+        given: UNREACHED,
+        keep: Keep::Counted,
+        wanted: b"2/2",
+    },
+    KeptRow {
+        given: BEHIND_FALSE,
+        keep: Keep::Counted,
+        wanted: b"1/1",
+    },
+    KeptRow {
+        given: FINALLY,
+        keep: Keep::Counted,
+        wanted: b"2/3",
     },
 ];
 
@@ -150,6 +166,16 @@ fn shown_useful(alloc: Global, a: &Automaton) -> Result<Text, Memory> {
     shown(alloc, &pruned(alloc, a)?)
 }
 
+/// How many states are reached, and how many edges leave them. Ten or more are not told apart.
+fn counted(alloc: Global, a: &Automaton) -> Result<Text, Memory> {
+    let size = reached_size(alloc, a)?;
+    let mut text = Text::new(alloc);
+    push_number(&mut text, size.states)?;
+    text.push(b'/')?;
+    push_number(&mut text, size.edges.min(10) as u32)?;
+    Ok(text)
+}
+
 /// What comes out of a row.
 pub(crate) fn made(alloc: Global, row: &KeptRow) -> Result<Text, Memory> {
     let Some(a) = automaton(alloc, &row.given)? else {
@@ -158,5 +184,6 @@ pub(crate) fn made(alloc: Global, row: &KeptRow) -> Result<Text, Memory> {
     match row.keep {
         Keep::Reached => shown(alloc, &trim(alloc, &a)?),
         Keep::Useful => shown_useful(alloc, &a),
+        Keep::Counted => counted(alloc, &a),
     }
 }

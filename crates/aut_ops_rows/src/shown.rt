@@ -4,7 +4,7 @@ use aut_base::{Formula, Formulas, Memory, Text};
 use aut_core::{Automaton, Link};
 use std::alloc::Global;
 
-fn push_number(text: &mut Text, number: u32) -> Result<(), Memory> {
+pub(crate) fn push_number(text: &mut Text, number: u32) -> Result<(), Memory> {
     if number < 10 {
         text.push(b'0' + number as u8)
     } else {

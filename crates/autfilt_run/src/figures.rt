@@ -8,7 +8,7 @@ ghost use Rattle.filter_plan.specs.declared.format.Piece.TheVariants as piece;
 
 use aut_base::{Memory, Text};
 use aut_core::Automaton;
-use aut_ops::trim;
+use aut_ops::reached_size;
 use filter_plan::{Piece, StatsText};
 use lasso_emptiness::accepted_word;
 use std::alloc::Global;
@@ -44,16 +44,16 @@ fn piece_text(alloc: Global, piece: Piece, a: &Automaton) -> Result<Text, Memory
 fn states_text(alloc: Global, a: &Automaton) -> Result<Text, Memory>
     ensures { IfOk result (ShowsReached (λ t. t.states) (automaton_of a.now)) }
 {
-    let trimmed = trim(alloc, a)?;
-    number_text(alloc, u64::from(trimmed.states()))
+    let size = reached_size(alloc, a)?;
+    number_text(alloc, u64::from(size.states))
 }
 
 /// The number of edges of the states that are reached, without those whose labels are false.
 fn edges_text(alloc: Global, a: &Automaton) -> Result<Text, Memory>
     ensures { IfOk result (ShowsReached (λ t. length t.edges) (automaton_of a.now)) }
 {
-    let trimmed = trim(alloc, a)?;
-    number_text(alloc, trimmed.links().len() as u64)
+    let size = reached_size(alloc, a)?;
+    number_text(alloc, size.edges as u64)
 }
 
 /// A word that is accepted, or nothing where none is.

@@ -5,7 +5,6 @@ use Rattle.autfilt_run.proofs.figures.states_text.Goals as goal
 
 pub returns : goal.returns
 returns c =
-    let a = automaton_of c.args.a.now in
-    let trimmed = automaton_of c.in_ok-trimmed.trimmed in
-    shows_reached (λ t. t.states) a trimmed c.from.result c.number_text.result c.in_ok-trimmed.ensures.shape
-    (c.from.ensures ∙ c.states.ensures) c.number_text.ensures
+    let size = c.in_ok-size.ensures in
+    shows_reached (λ t. t.states) (automaton_of c.args.a.now) size.trimmed c.from.result c.number_text.result
+    size.is_trimmed (c.from.ensures ∙ size.states) c.number_text.ensures
