@@ -7,10 +7,10 @@ use Rattle.aut_base.specs.declared.fault.OpenFail.TheVariants as opening
 use Rattle.aut_base.specs.declared.limit.Limit.{Limit}
 use Rattle.aut_base.specs.declared.limit.Limit.TheVariants as limit
 use Rattle.aut_base.specs.declared.limit.TheConstants.{MOST_BYTES}
-use Rattle.aut_io.specs.Outside.{Closed, Gains, GainsPrefix, Rose, Texts}
+use Rattle.aut_io.specs.Outside.{Gains, GainsPrefix, Rose, Texts}
 use Rattle.aut_io.specs.Seen.{Seen, SinkSeen}
 use Rattle.autfilt_command.proofs.Running.{asks_at, asks_of, calm_then, gains_as, noted_push, of_fresh}
-use Rattle.autfilt_command.proofs.Stepped.{StepsAs, keeps_on, parts_of}
+use Rattle.autfilt_command.proofs.Stepped.{StepsAs, keeps_on, parts_of, still_writes}
 use Rattle.autfilt_command.proofs.Stepping.{happen_push, wants_stream}
 use Rattle.autfilt_command.specs.Ends.{ended_of}
 use Rattle.autfilt_command.specs.Noted.{HasNoted, Notes}
@@ -20,7 +20,7 @@ use Rattle.autfilt_command.specs.declared.ended.End.{End}
 use Rattle.autfilt_command.specs.declared.ended.End.TheVariants as end
 use Rattle.autfilt_command.specs.inner.Running.{Carries, Finishes, FinishesWell, HasRun}
 use Rattle.autfilt_run.proofs.Gains.{both}
-use Rattle.autfilt_run.proofs.Preparing.{taken_few}
+use Rattle.autfilt_run.proofs.Preparing.{calm_limit, taken_few, untold_closed}
 use Rattle.autfilt_run.proofs.Stepping.{closed_counted, is_closed, name_as, reads_on, stops_at, stops_named, stream_counted}
 use Rattle.autfilt_run.proofs.Writing.{rose_from}
 use Rattle.autfilt_run.specs.Events.{Dropped, Ended, Event, IsGood, IsJudged, Kept, Opened, Point, ReadsOn, Skipped, Stream, Tally, all_written, counted, place, read_on, start_of, tally, tally_from}
@@ -34,7 +34,7 @@ use Rattle.autfilt_run.specs.declared.fault.RunFault.{RunFault}
 use Rattle.autfilt_run.specs.declared.fault.RunFault.TheVariants as fault
 use Rattle.autfilt_run.specs.declared.session.Session.{Session}
 use Rattle.filter_plan.specs.declared.plan.Plan.{Plan}
-use Rattle.hoa_lexer.specs.Moves.{CountsReads, Elsewhere, IsWithin, Moves, Stop}
+use Rattle.hoa_lexer.specs.Moves.{Elsewhere, IsWithin, Moves, Stop}
 use Rattle.hoa_parser.specs.Raw.{Written}
 
 -- ---- what is common to the ends
@@ -95,9 +95,6 @@ run_halted f name fresh old s m t o p q k l j first noting h at closes = record 
   asked = λ x. cc;
 }
 
-faults_of : (p q : SinkSeen) → q ≡ p → q.faults ≡ p.faults
-faults_of p q e = ap (λ (x : SinkSeen). x.faults) e
-
 -- ---- a fault of the stream that is open
 
 counted_at : (f : RunFault) (old new : Session) (m t : Seen) (at : Point) → StepsAs old new → old.is_open ≡ true → StandsAt old m.left at → Moves (stop_of_fault f) old.lexer new.lexer m t → IsCounted f at t.left
@@ -135,34 +132,15 @@ calm_halt f name old new m t p q steady is calm stops prints causes h = record {
   halts = λ texts told at stands. named_halts f name old new m t p q steady is stops h at stands;
   output = h.output;
   prints = prints;
-  causes = λ s o before. causes s o (calm_then s m t o p q before (record { opens = h.moves.opens; reads = calm; writes = faults_of p q h.output }));
+  causes = λ s o before. causes s o (calm_then s m t o p q before (record { opens = h.moves.opens; reads = calm; writes = still_writes p q h.output }));
   texts = h.moves.texts;
 }
-
-calm_limit : (which : Limit) (a b : ℕ) → CountsReads (stop_of_fault (fault.Limit which)) a b → b ≡ a
-calm_limit limit.Names a b h = h
-calm_limit limit.Sets a b h = h
-calm_limit limit.States a b h = h
-calm_limit limit.Edges a b h = h
-calm_limit limit.Aliases a b h = h
-calm_limit limit.Depth a b h = h
-calm_limit limit.Bytes a b h = h
-calm_limit limit.Terms a b h = h
-calm_limit limit.BuchiStates a b h = h
-calm_limit limit.Trees a b h = h
-calm_limit limit.Nodes a b h = h
-calm_limit limit.Classes a b h = h
-calm_limit limit.Pairs a b h = h
 
 -- where a limit is passed, the run stands in the file whose name is in hand
 limit_stops : (which : Limit) (name : List ℕ) (old : Session) (t : Seen) (at : Point) → AtNamed (Asks old at) at name t.left (StopsAt (over_of old) (fault.Limit which)) → Stops old.plan (operands_in old) (fault.Limit which) name at t.left
 limit_stops which name old t at h = h
 
 -- ---- a text that is not opened
-
-untold_closed : (texts : Option Texts) (left : Option (List ℕ)) (t : Texts) → texts ≡ Some t → Closed texts left → left ≡ Some []
-untold_closed None left t e h = cc
-untold_closed (Some x) left t e h = h
 
 unopened_counted : (f : RunFault) (old : Session) (left left' : Option (List ℕ)) (at : Point) → StandsAt old left at → old.is_open ≡ false → stop_of_fault f ≡ Elsewhere → IsCounted f at left'
 unopened_counted f old left left' at stands closed_so stop = record {
@@ -181,7 +159,7 @@ unopened name old new m t p q h same = record {
   causes = λ s o calm. (
     rose_from s.open_faults m.open_faults t.open_faults calm.opens (h.opens.failed refl),
     h.opens.reads ∙ calm.reads,
-    faults_of p q h.output ∙ calm.writes,
+    still_writes p q h.output ∙ calm.writes,
   );
   texts = h.opens.texts;
 }
@@ -213,14 +191,14 @@ lacking name old new m t p q steady (inl h) =
       );
       output = h.output;
       prints = λ plan events a b g. g;
-      causes = λ s o before. calm_then s m t o p q before (record { opens = calm.opens; reads = calm.reads; writes = faults_of p q h.output });
+      causes = λ s o before. calm_then s m t o p q before (record { opens = calm.opens; reads = calm.reads; writes = still_writes p q h.output });
       texts = calm.texts;
     }
 lacking name old new m t p q steady (inr h) = record {
   halts = λ texts told at stands. reading_halts fault.Memory WantsMemory name old new m t p q steady (λ x s. inr (inr s)) h at stands;
   output = h.output;
   prints = λ plan events a b g. g;
-  causes = λ s o before. calm_then s m t o p q before (record { opens = h.moves.opens; reads = h.moves.reads; writes = faults_of p q h.output });
+  causes = λ s o before. calm_then s m t o p q before (record { opens = h.moves.opens; reads = h.moves.reads; writes = still_writes p q h.output });
   texts = h.moves.texts;
 }
 
@@ -234,7 +212,7 @@ halted fault.ReadFault name old new m t p q n steady h is = record {
   halts = λ texts told at stands. named_halts fault.ReadFault name old new m t p q steady is (λ x s. s) h at stands;
   output = h.output;
   prints = λ plan events a b g. g;
-  causes = λ s o before. (h.moves.opens ∙ before.opens, rose_from s.read_faults m.read_faults t.read_faults before.reads h.moves.reads, faults_of p q h.output ∙ before.writes);
+  causes = λ s o before. (h.moves.opens ∙ before.opens, rose_from s.read_faults m.read_faults t.read_faults before.reads h.moves.reads, still_writes p q h.output ∙ before.writes);
   texts = h.moves.texts;
 }
 halted (fault.SyntaxAt k) name old new m t p q n steady h is = calm_halt (fault.SyntaxAt k) name old new m t p q steady is h.moves.reads (λ x s. s) (λ plan events a b g. g) (λ s o calm. calm) h

@@ -15,12 +15,11 @@ use Rattle.autfilt_command.specs.declared.ended.End.{End}
 use Rattle.autfilt_command.specs.declared.ended.End.TheVariants as end
 use Rattle.autfilt_command.specs.inner.Running.{FailsPreparing, HasPrepared, IsNew, IsPrepared}
 use Rattle.autfilt_run.proofs.Gains.{nothing}
-use Rattle.autfilt_run.proofs.Preparing.{passed_push}
-use Rattle.autfilt_run.proofs.Writing.{rose_from}
+use Rattle.autfilt_run.proofs.Preparing.{counts_then, passed_push}
 use Rattle.autfilt_run.specs.Events.{Point, start_of}
 use Rattle.autfilt_run.specs.Operands.{AreRead, OperandEvent, PassedOver, all_passed, operand_of, operands_of, passed_of}
 use Rattle.autfilt_run.specs.Points.{StandsIn, name_in, open_count}
-use Rattle.autfilt_run.specs.Preparing.{CountsAt, FailsToPrepare, HasRead, HasSkipped, IsReady}
+use Rattle.autfilt_run.specs.Preparing.{FailsToPrepare, HasRead, HasSkipped, IsReady}
 use Rattle.autfilt_run.specs.declared.fault.RunFault.{RunFault}
 use Rattle.autfilt_run.specs.declared.fault.RunFault.TheVariants as fault
 use Rattle.autfilt_run.specs.declared.session.Session.{Session}
@@ -130,16 +129,6 @@ prepared_all plan old new s m t k l noting h keeps did stage closed = record {
 }
 
 -- ---- faults
-
-counts_then : (f : RunFault) (s m t : Seen) → m.open_faults ≡ s.open_faults → m.read_faults ≡ s.read_faults → CountsAt f m t → CountsAt f s t
-counts_then fault.CannotOpen s m t a b h = (rose_from s.open_faults m.open_faults t.open_faults a h.0, h.1 ∙ b)
-counts_then fault.ReadFault s m t a b h = (h.0 ∙ a, rose_from s.read_faults m.read_faults t.read_faults b h.1)
-counts_then fault.WriteFault s m t a b h = (h.0 ∙ a, h.1 ∙ b)
-counts_then fault.Memory s m t a b h = (h.0 ∙ a, h.1 ∙ b)
-counts_then (fault.SyntaxAt k) s m t a b h = (h.0 ∙ a, h.1 ∙ b)
-counts_then fault.Truncated s m t a b h = (h.0 ∙ a, h.1 ∙ b)
-counts_then (fault.Invalid rule) s m t a b h = (h.0 ∙ a, h.1 ∙ b)
-counts_then (fault.Limit which) s m t a b h = (h.0 ∙ a, h.1 ∙ b)
 
 pub prepared_fails : (f : RunFault) (e : End) (plan : Plan) (old new : Session) (s m t : Seen) (k l j : SinkSeen) (noting : Bool) → e ≡ end.Fault f → HasPrepared plan old s m k l noting → FailsToPrepare f old new m t
     → Closes (line_of (end.Fault f) (name_in new)) noting l j → FailsPreparing plan e s t k j

@@ -7,8 +7,8 @@ use Rattle.autfilt_command.proofs.Stepping.{GoesOn, goes_on, opens_next}
 use Rattle.autfilt_command.specs.Run.{AreCalm}
 use Rattle.autfilt_run.proofs.Gains.{nothing}
 use Rattle.autfilt_run.proofs.Preparing.{taken_few}
-use Rattle.autfilt_run.proofs.Stepping.{KeepsOn, ends_stream, is_open, name_as, reads_on}
-use Rattle.autfilt_run.specs.Events.{Dropped, EndsStream, Ended, Event, Goes, IsGood, IsJudged, Kept, Opened, Point, ReadsOn, Skipped, Stream, Tally, counted, written_of}
+use Rattle.autfilt_run.proofs.Stepping.{KeepsOn, ends_stream, is_open, name_as, one_name, reads_on}
+use Rattle.autfilt_run.specs.Events.{Dropped, EndsStream, Ended, Event, Goes, IsGood, IsJudged, Kept, Opened, Point, ReadsOn, Skipped, Tally, counted, written_of}
 use Rattle.autfilt_run.specs.Points.{StandsAt, name_in, operands_in}
 use Rattle.autfilt_run.specs.Turns as turns
 use Rattle.autfilt_run.specs.Turns.{Progress, after, progress}
@@ -39,7 +39,7 @@ steps_as old new plan = record { plan = plan; most = new.most_is; few = taken_fe
 still_gains : (p q : SinkSeen) → q ≡ p → Gains p.written q.written []
 still_gains p q same = subst (λ (x : SinkSeen). Gains p.written x.written []) (sym same) (nothing p.written)
 
-still_writes : (p q : SinkSeen) → q ≡ p → q.faults ≡ p.faults
+pub still_writes : (p q : SinkSeen) → q ≡ p → q.faults ≡ p.faults
 still_writes p q same = ap (λ (x : SinkSeen). x.faults) same
 
 -- the parts of what a session has done
@@ -136,9 +136,6 @@ kept old new m t p q steady done h =
       texts = h.moves.texts;
     }
 
-same_name : (o : Option Stream) (a b : Stream) → o ≡ Some a → o ≡ Some b → a.name ≡ b.name
-same_name o a b e f = let same : Some a ≡ Some b = sym e ∙ f in let one : a ≡ b = cc in ap (λ (x : Stream). x.name) one
-
 -- the one that was skipped is of the stream whose name is in hand
 pub skipped : (old new : Session) (m t : Seen) (p q : SinkSeen) → StepsAs old new → progress new ≡ after turn.Skipped (progress old) → turns.Turns turn.Skipped old new m t p q
     → Stepped (Skipped (name_in new)) old new m t p q
@@ -152,7 +149,7 @@ skipped old new m t p q steady done h =
           let there = is_open old m.left at stands.at h.reading.is_open in
           record {
             point = on.point;
-            goes = record { reads = reads; named = same_name at.stream reads.stream there.stream reads.is_open there.is ∙ sym there.named ∙ sym (name_as old new steady.plan h.in_hand) };
+            goes = record { reads = reads; named = one_name at.stream reads.stream there.stream reads.is_open there.is ∙ sym there.named ∙ sym (name_as old new steady.plan h.in_hand) };
             stands = on.stands;
           };
       gains = still_gains p q h.output;

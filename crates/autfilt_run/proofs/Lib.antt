@@ -1,7 +1,7 @@
 mod Alike
 mod Bytes
 mod DecimalDigits
-mod FigureLines
+pub mod FigureLines
 mod Files
 pub mod Gains
 mod Handling

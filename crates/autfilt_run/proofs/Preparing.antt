@@ -7,10 +7,11 @@ use Rattle.aut_base.specs.declared.limit.Limit.{Limit}
 use Rattle.aut_base.specs.declared.limit.Limit.TheVariants as limit
 use Rattle.aut_base.specs.declared.limit.TheConstants.{MOST_BYTES}
 use Rattle.aut_core.specs.Core.{automaton_of}
-use Rattle.aut_io.specs.Outside.{Closed, Rose, Texts}
+use Rattle.aut_io.specs.Outside.{Closed, Texts}
 use Rattle.aut_io.specs.Seen.{Seen}
-use Rattle.autfilt_run.proofs.Stepping.{KeepsOn, closed_counted, is_closed, name_as, opens_stream, reads_on, rest_from, stops_at, stops_named, stream_counted, takes_operand}
-use Rattle.autfilt_run.specs.Events.{Point, ReadsOn, Stream}
+use Rattle.autfilt_run.proofs.Stepping.{KeepsOn, closed_counted, is_closed, name_as, one_name, opens_stream, reads_on, rest_from, stops_at, stops_named, stream_counted, takes_operand}
+use Rattle.autfilt_run.proofs.Writing.{rose_from}
+use Rattle.autfilt_run.specs.Events.{Point, ReadsOn}
 use Rattle.autfilt_run.specs.Faults.{stop_of_fault}
 use Rattle.autfilt_run.specs.Operands.{AreRead, FileOpened, OperandEvent, PassedOver, Proceeds, Taken, all_passed, operand_of, operands_of, passed_of}
 use Rattle.autfilt_run.specs.Points.{IsAt, StandsIn, name_in, open_count, operands_in}
@@ -120,9 +121,6 @@ taken old new s t keeps few h =
       texts = h.reads.moves.texts;
     }
 
-one_name : (o : Option Stream) (a b : Stream) → o ≡ Some a → o ≡ Some b → a.name ≡ b.name
-one_name o a b e f = let same : Some a ≡ Some b = sym e ∙ f in let one : a ≡ b = cc in ap (λ (x : Stream). x.name) one
-
 -- the one that was passed over is of the file whose name is in hand
 pub passed : (old new : Session) (s t : Seen) → KeepsAll old new → new.lexer.taken ≤ MOST_BYTES → PassesOne old new s t → Turned (PassedOver (name_in new)) old new s t
 passed old new s t keeps few h =
@@ -228,7 +226,7 @@ record HaltsAt (f : RunFault) (old new : Session) (m t : Seen) : Type 0 where
   skipped : new.skipped ≡ old.skipped
   counts : CountsAt f m t
 
-untold_closed : (texts : Option Texts) (left : Option (List ℕ)) (t : Texts) → texts ≡ Some t → Closed texts left → left ≡ Some []
+pub untold_closed : (texts : Option Texts) (left : Option (List ℕ)) (t : Texts) → texts ≡ Some t → Closed texts left → left ≡ Some []
 untold_closed None left t e h = cc
 untold_closed (Some x) left t e h = h
 
@@ -286,7 +284,7 @@ named f old new m t keeps most few stops counts h = record {
   counts = counts;
 }
 
-calm_limit : (which : Limit) (a b : ℕ) → CountsReads (stop_of_fault (fault.Limit which)) a b → b ≡ a
+pub calm_limit : (which : Limit) (a b : ℕ) → CountsReads (stop_of_fault (fault.Limit which)) a b → b ≡ a
 calm_limit limit.Names a b h = h
 calm_limit limit.Sets a b h = h
 calm_limit limit.States a b h = h
@@ -319,10 +317,7 @@ halted fault.Truncated old new m t keeps most few few' h = named fault.Truncated
 halted (fault.Invalid rule) old new m t keeps most few few' h = named (fault.Invalid rule) old new m t keeps most few' (λ q x. x) (h.reads.moves.opens, h.reads.moves.reads) h
 halted (fault.Limit which) old new m t keeps most few few' h = named (fault.Limit which) old new m t keeps most few' (λ q x. x) (h.reads.moves.opens, calm_limit which _ _ h.reads.moves.reads) h
 
-rose_from : (a b c : ℕ) → b ≡ a → Rose b c → Rose a c
-rose_from a b c e h = subst (λ (n : ℕ). Rose n c) e h
-
-counts_then : (f : RunFault) (s m t : Seen) → m.open_faults ≡ s.open_faults → m.read_faults ≡ s.read_faults → CountsAt f m t → CountsAt f s t
+pub counts_then : (f : RunFault) (s m t : Seen) → m.open_faults ≡ s.open_faults → m.read_faults ≡ s.read_faults → CountsAt f m t → CountsAt f s t
 counts_then fault.CannotOpen s m t a b h = (rose_from s.open_faults m.open_faults t.open_faults a h.0, h.1 ∙ b)
 counts_then fault.ReadFault s m t a b h = (h.0 ∙ a, rose_from s.read_faults m.read_faults t.read_faults b h.1)
 counts_then fault.WriteFault s m t a b h = (h.0 ∙ a, h.1 ∙ b)

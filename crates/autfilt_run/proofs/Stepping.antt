@@ -163,7 +163,7 @@ stops_at on R old s t p stands opened_so asks read =
       stands = subst (λ (k : ℕ). R k at.stream.rest x.now) (place_is old.lexer.since at.stream.text at.stream.rest at.since) x.holds;
     }
 
-one_name : (o : Option Stream) (a b : Stream) → o ≡ Some a → o ≡ Some b → a.name ≡ b.name
+pub one_name : (o : Option Stream) (a b : Stream) → o ≡ Some a → o ≡ Some b → a.name ≡ b.name
 one_name o a b e f = let same : Some a ≡ Some b = sym e ∙ f in let one : a ≡ b = cc in ap (λ (x : Stream). x.name) one
 
 -- the same of the file whose name is in hand

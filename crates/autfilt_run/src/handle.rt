@@ -6,7 +6,7 @@ ghost use Rattle.aut_core.specs.Core.{automaton_of};
 ghost use Rattle.autfilt_run.specs.Built.{is_own};
 ghost use Rattle.autfilt_run.specs.Plans.{prints_each};
 ghost use Rattle.autfilt_run.specs.inner.Handling.{Handles, PrintsOrStops};
-ghost use Rattle.filter_plan.specs.Words.{changes, has_form};
+ghost use Rattle.filter_plan.specs.Words.{changes};
 ghost use Rattle.hoa_parser.specs.Raw.{written};
 ghost use Rattle.plan_meaning.specs.Changes.{HasBuiltForm};
 ghost use Rattle.plan_meaning.specs.Operands.{AreOperands, IsOfReadSize};
@@ -17,7 +17,7 @@ use crate::taken::automaton_taken;
 use aut_base::{Failed, Text};
 use aut_core::Automaton;
 use aut_io::Sink;
-use filter_plan::{Form, Output, Plan};
+use filter_plan::{Output, Plan, changes_automata};
 use hoa_reader::Raw;
 use hoa_writer::write_text;
 use plan_meaning::{Automata, PlanFault, change, judge};
@@ -84,25 +84,4 @@ fn name_due<'a>(plan: &Plan, name: Option<&'a Text>) -> Option<&'a Text>
     ensures { option_copied result ≡ (if changes plan.now then None else option_copied name.entry) }
 {
     if changes_automata(plan) { None } else { name }
-}
-
-/// Whether automata are changed before they are printed.
-fn changes_automata(plan: &Plan) -> bool
-    ensures { result ≡ changes plan.now }
-{
-    plan.product.is_some()
-        || plan.product_or.is_some()
-        || plan.sum.is_some()
-        || plan.remove_ap.is_some()
-        || plan.trim
-        || plan.complement
-        || is_form(plan.form)
-        || plan.complete
-}
-
-/// Whether it is a form to bring an automaton into.
-fn is_form(form: Form) -> bool
-    ensures { result ≡ has_form form }
-{
-    !matches!(form, Form::AsIs)
 }

@@ -6,15 +6,17 @@ ghost use Rattle.filter_plan.specs.Table.{refuted};
 ghost use Rattle.filter_plan.specs.Words.{listed, operands};
 
 use aut_base::Text;
-use filter_plan::{Output, Plan};
+use filter_plan::{Output, Plan, file_count};
 
 /// How many operands the plan has.
 pub(crate) fn operand_count(plan: &Plan) -> usize
     ensures number { result ≡ length (operands plan.now) }
     ensures few { result ≤ 7 }
 {
-    let compared = count(&plan.included_in) + count(&plan.equivalent_to) + count(&plan.intersect);
-    let combined = count(&plan.product) + count(&plan.product_or) + count(&plan.sum);
+    let compared = file_count(&plan.included_in)
+        + file_count(&plan.equivalent_to)
+        + file_count(&plan.intersect);
+    let combined = file_count(&plan.product) + file_count(&plan.product_or) + file_count(&plan.sum);
     compared + combined + refuted_count(&plan.output)
 }
 
@@ -23,18 +25,18 @@ pub(crate) fn operand_file(plan: &Plan, place: usize) -> &Text
     requires { place < length (operands plan.now) }
     ensures { result.now ≡ slice_index_or (operands plan.now) place [] }
 {
-    if place < count(&plan.included_in) {
+    if place < file_count(&plan.included_in) {
         return file_of(&plan.included_in);
     }
-    let place = place - count(&plan.included_in);
-    if place < count(&plan.equivalent_to) {
+    let place = place - file_count(&plan.included_in);
+    if place < file_count(&plan.equivalent_to) {
         return file_of(&plan.equivalent_to);
     }
-    let place = place - count(&plan.equivalent_to);
-    if place < count(&plan.intersect) {
+    let place = place - file_count(&plan.equivalent_to);
+    if place < file_count(&plan.intersect) {
         return file_of(&plan.intersect);
     }
-    combined_file(plan, place - count(&plan.intersect))
+    combined_file(plan, place - file_count(&plan.intersect))
 }
 
 /// The same, from the operand of the first operation on.
@@ -42,29 +44,18 @@ fn combined_file(plan: &Plan, place: usize) -> &Text
     requires { place < length (listed plan.now.product ++ (listed plan.now.product_or ++ (listed plan.now.sum ++ listed (refuted plan.now.output)))) }
     ensures { result.now ≡ slice_index_or (listed plan.now.product ++ (listed plan.now.product_or ++ (listed plan.now.sum ++ listed (refuted plan.now.output)))) place [] }
 {
-    if place < count(&plan.product) {
+    if place < file_count(&plan.product) {
         return file_of(&plan.product);
     }
-    let place = place - count(&plan.product);
-    if place < count(&plan.product_or) {
+    let place = place - file_count(&plan.product);
+    if place < file_count(&plan.product_or) {
         return file_of(&plan.product_or);
     }
-    let place = place - count(&plan.product_or);
-    if place < count(&plan.sum) {
+    let place = place - file_count(&plan.product_or);
+    if place < file_count(&plan.sum) {
         return file_of(&plan.sum);
     }
     refuted_file(&plan.output)
-}
-
-/// 1 where there is a file.
-fn count(file: &Option<Text>) -> usize
-    ensures number { result ≡ length (listed file.now) }
-    ensures few { result ≤ 1 }
-{
-    match file {
-        Some(_) => 1,
-        None => 0,
-    }
 }
 
 /// The file that there is.

@@ -20,13 +20,13 @@ fn refutes_alone(plan: &Plan) -> bool
     ensures { IsTrue result ↔ (is_some (refuted plan.now.output) ≡ true → changes plan.now ≡ false) }
 {
     match plan.output {
-        Output::Refute(_) => !has_change(plan),
+        Output::Refute(_) => !changes_automata(plan),
         _ => true,
     }
 }
 
-/// Whether the plan has an operation, a form or completion.
-fn has_change(plan: &Plan) -> bool
+/// Whether the plan changes automata: whether it has an operation, a form or completion.
+pub fn changes_automata(plan: &Plan) -> bool
     ensures { result ≡ changes plan.now }
 {
     plan.product.is_some()

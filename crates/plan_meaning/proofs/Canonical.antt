@@ -1,9 +1,10 @@
 -- Filters don't see whether labels are canonical.
-use Rattle.std.proofs.Common.{◌≡◌, ℕ, ◌<◌, Bool, true, false, List, [], ◌∷◌, length, map, Contains, Result, Ok, Err, get_or, refl, sym, ap, ◌∙◌, subst, arith}
+use Rattle.std.proofs.Common.{◌≡◌, ℕ, ◌<◌, Bool, true, false, List, [], ◌∷◌, length, Contains, Result, Ok, Err, get_or, sym, ap, ◌∙◌, subst, arith}
 use Rattle.std.proofs.lemmas.List.{get_or-map, length-map}
-use Rattle.std.proofs.lemmas.List.Elements.{All-contains, All-map, Contains-get_or}
+use Rattle.std.proofs.lemmas.List.Elements.{All-contains, Contains-get_or}
 use Rattle.aut_base.proofs.CanonicalAutomata.{canonical-twice, canonical_accepts_the_same, labels_below, relabelled}
 use Rattle.aut_base.proofs.CanonicalTruth.{canonical_label_keeps_truth}
+use Rattle.aut_base.proofs.Members.{from_map, there_map}
 use Rattle.aut_base.specs.Automaton.{Automaton, IsWellFormed, TreeEdge}
 use Rattle.aut_base.specs.CanonicalLabel.{canonical}
 use Rattle.aut_base.specs.Label.{AllBelow, holds_at}
@@ -59,12 +60,6 @@ deterministic_other a below h = record {
       letter (sym met_i ∙ sym (ap (is_met a.names letter) at_i) ∙ p) (sym met_j ∙ sym (ap (is_met a.names letter) at_j) ∙ q);
 }
 
-in_map : {X Y : Type 0} (f : X → Y) (xs : List X) (x : X) → Contains xs x → Contains (map f xs) (f x)
-in_map f xs x there = (there.0, omega (arith, length-map xs f, there.1), get_or-map f xs there.0 x (f x) there.1 ∙ ap f there.2)
-
-from_map : {X Y : Type 0} (f : X → Y) (xs : List X) (y : Y) → Contains (map f xs) y → (x : X) × Contains xs x × (f x ≡ y)
-from_map {X} {Y} f xs y there = All-contains (λ (z : Y). (x : X) × Contains xs x × (f x ≡ z)) (map f xs) y (All-map (λ (z : Y). (x : X) × Contains xs x × (f x ≡ z)) f xs (λ k d within. (get_or xs k d, Contains-get_or xs k d within, refl))) there
-
 goes_one : (a : Automaton) (state : ℕ) (letter : NameSet) → LabelsBelow a → GoesOn (canonical a) state letter → GoesOn a state letter
 goes_one a state letter below h =
     let x = from_map (settled a) a.edges h.edge h.is_edge in
@@ -77,7 +72,7 @@ goes_one a state letter below h =
 
 goes_other : (a : Automaton) (state : ℕ) (letter : NameSet) → LabelsBelow a → GoesOn a state letter → GoesOn (canonical a) state letter
 goes_other a state letter below h =
-    record { edge = settled a h.edge; is_edge = in_map (settled a) a.edges h.edge h.is_edge; from = h.from; meets = same_met a h.edge letter below h.is_edge ∙ h.meets }
+    record { edge = settled a h.edge; is_edge = there_map (settled a) a.edges h.edge h.is_edge; from = h.from; meets = same_met a h.edge letter below h.is_edge ∙ h.meets }
 
 -- the number of edges is the same
 same_count : (a : Automaton) → length (canonical a).edges ≡ length a.edges

@@ -3,12 +3,11 @@
 ghost use Rattle.std.specs.Prelude.{◌≡◌, ◌<◌, ◌≤◌, All, IfSome, is_some, length, map, true};
 ghost use Rattle.std.specs.Option.{option_map};
 ghost use Rattle.aut_core.specs.Core.{automaton_of};
-ghost use Rattle.filter_plan.specs.Words.{listed};
 ghost use Rattle.plan_meaning.specs.Operands.{AreOperands, IsOfReadSize, operand_at, place_of_intersect, place_of_product, place_of_product_or, place_of_sum};
 
 use aut_base::{Seq, Text};
 use aut_core::Automaton;
-use filter_plan::Plan;
+use filter_plan::{Plan, file_count};
 
 /// Automata, in order.
 pub type Automata = Seq<Automaton>;
@@ -71,37 +70,26 @@ fn place_of_intersect(plan: &Plan) -> usize
     ensures is { result ≡ place_of_intersect plan.now }
     ensures few { result ≤ 2 }
 {
-    count(&plan.included_in) + count(&plan.equivalent_to)
+    file_count(&plan.included_in) + file_count(&plan.equivalent_to)
 }
 
 fn place_of_product(plan: &Plan) -> usize
     ensures is { result ≡ place_of_product plan.now }
     ensures few { result ≤ 3 }
 {
-    place_of_intersect(plan) + count(&plan.intersect)
+    place_of_intersect(plan) + file_count(&plan.intersect)
 }
 
 fn place_of_product_or(plan: &Plan) -> usize
     ensures is { result ≡ place_of_product_or plan.now }
     ensures few { result ≤ 4 }
 {
-    place_of_product(plan) + count(&plan.product)
+    place_of_product(plan) + file_count(&plan.product)
 }
 
 fn place_of_sum(plan: &Plan) -> usize
     ensures is { result ≡ place_of_sum plan.now }
     ensures few { result ≤ 5 }
 {
-    place_of_product_or(plan) + count(&plan.product_or)
-}
-
-/// How many operands an option has.
-fn count(name: &Option<Text>) -> usize
-    ensures is { result ≡ length (listed name.now) }
-    ensures few { result ≤ 1 }
-{
-    match name {
-        Some(_) => 1,
-        None => 0,
-    }
+    place_of_product_or(plan) + file_count(&plan.product_or)
 }

@@ -5,12 +5,13 @@ use Rattle.std.proofs.lemmas.Bool.{cases_lt}
 use Rattle.std.proofs.lemmas.List.{append_assoc, append-nil, length-take-le}
 use Rattle.std.proofs.lemmas.Nat.{div-add-mod'}
 use Rattle.std.proofs.lemmas.Option.{same_Some, slice_get_within}
-use Rattle.aut_base.proofs.Copies.{length-copies}
+use Rattle.aut_base.proofs.Copies.{copies-add, copies-copies, length-copies}
 use Rattle.aut_base.proofs.Lists.{slice_get-append_left, slice_get-append_right}
+use Rattle.aut_base.proofs.Paths.{path_copies, path_join}
 use Rattle.aut_base.proofs.SameWord as same_word
 use Rattle.aut_base.proofs.Spelled.{word_letter}
 use Rattle.aut_base.specs.Acceptance.{Accepts, IsPath}
-use Rattle.aut_base.specs.Automaton.{Automaton, TreeEdge}
+use Rattle.aut_base.specs.Automaton.{Automaton}
 use Rattle.aut_base.specs.Label.{LabelTree, holds_at, truth}
 use Rattle.aut_base.specs.Word.{NameSet, SpellsSame, copies, letter_at}
 use Rattle.word_syntax.proofs.Cyclic.{at_cycle, at_stem, copies_at, slice_get-drop, slice_get-take}
@@ -129,32 +130,13 @@ matching_accepted p some u v m =
       meets = refl;
     }
 
--- paths one after the other
-path_then : (a : Automaton) (p q r : ℕ) (xs ys : List NameSet) (es fs : List TreeEdge) → IsPath a p xs es q → IsPath a q ys fs r → IsPath a p (xs ++ ys) (es ++ fs) r
-path_then a p q r [] ys [] fs one two = let P : ℕ → Type 0 = λ n. IsPath a n ys fs r in subst P (sym one) two
-path_then a p q r [] ys (e ∷ es) fs one two = absurd one
-path_then a p q r (x ∷ xs) ys [] fs one two = absurd one
-path_then a p q r (x ∷ xs) ys (e ∷ es) fs one two = (one.0, one.1, one.2, path_then a e.to q r xs ys es fs one.3 two)
-
-path_times : (a : Automaton) (q : ℕ) (xs : List NameSet) (es : List TreeEdge) → IsPath a q xs es q → (n : ℕ) → IsPath a q (copies n xs) (copies n es) q
-path_times a q xs es path zero = refl
-path_times a q xs es path (suc n) = path_then a q q q xs (copies n xs) es (copies n es) path (path_times a q xs es path n)
-
-copies-add : (a b : ℕ) (v : List NameSet) → copies a v ++ copies b v ≡ copies (a + b) v
-copies-add zero b v = let z : b ≡ 0 + b = omega arith in ap (λ (n : ℕ). copies n v) z
-copies-add (suc a) b v = let z : suc (a + b) ≡ suc a + b = omega arith in append_assoc v (copies a v) (copies b v) ∙ (ap (λ (x : List NameSet). v ++ x) (copies-add a b v) ∙ ap (λ (n : ℕ). copies n v) z)
-
-copies-mul : (n r : ℕ) (v : List NameSet) → copies n (copies r v) ≡ copies (n * r) v
-copies-mul zero r v = let z : 0 ≡ 0 * r = omega arith in ap (λ (n : ℕ). copies n v) z
-copies-mul (suc n) r v = let z : r + n * r ≡ suc n * r = omega arith in ap (λ (x : List NameSet). copies r v ++ x) (copies-mul n r v) ∙ (copies-add r (n * r) v ∙ ap (λ (k : ℕ). copies k v) z)
-
 -- as many letters as one likes meet the formulas
 meets_far : (p : WordPattern) → 0 < length p.cycle → (u v : List NameSet) (a : Accepts (word_automaton p) u v) (n : ℕ) → MeetsFrom p 0 (u ++ copies (a.turns + n * a.rounds) v)
 meets_far p some u v a n =
     let A = word_automaton p in
     let start : a.start ≡ 0 = only_start a.start a.is_start in
-    let long = path_then (word_automaton p) a.start a.state a.state (u ++ copies a.turns v) (copies n (copies a.rounds v)) a.way (copies n a.cycle) a.leads (path_times (word_automaton p) a.state (copies a.rounds v) a.cycle a.returns n) in
-    let same : (u ++ copies a.turns v) ++ copies n (copies a.rounds v) ≡ u ++ copies (a.turns + n * a.rounds) v = append_assoc u (copies a.turns v) (copies n (copies a.rounds v)) ∙ ap (λ (x : List NameSet). u ++ x) (ap (λ (x : List NameSet). copies a.turns v ++ x) (copies-mul n a.rounds v) ∙ copies-add a.turns (n * a.rounds) v) in
+    let long = path_join (word_automaton p) a.start a.state a.state (u ++ copies a.turns v) (copies n (copies a.rounds v)) a.way (copies n a.cycle) a.leads (path_copies (word_automaton p) a.state n (copies a.rounds v) a.cycle a.returns) in
+    let same : (u ++ copies a.turns v) ++ copies n (copies a.rounds v) ≡ u ++ copies (a.turns + n * a.rounds) v = append_assoc u (copies a.turns v) (copies n (copies a.rounds v)) ∙ ap (λ (x : List NameSet). u ++ x) (ap (λ (x : List NameSet). copies a.turns v ++ x) (copies-copies n a.rounds v) ∙ sym (copies-add a.turns (n * a.rounds) v)) in
     let P : List NameSet → Type 0 = λ xs. IsPath (word_automaton p) a.start xs (a.way ++ copies n a.cycle) a.state in
     let Q : ℕ → Type 0 = λ s. IsPath (word_automaton p) s (u ++ copies (a.turns + n * a.rounds) v) (a.way ++ copies n a.cycle) a.state in
     (walked p some 0 a.state (u ++ copies (a.turns + n * a.rounds) v) (a.way ++ copies n a.cycle) (subst Q (start ∙ sym (first_state p some)) (subst P same long))).0

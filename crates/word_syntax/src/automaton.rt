@@ -10,10 +10,8 @@ ghost use Rattle.word_syntax.specs.Matching.{AcceptTogether, AcceptsPattern, edg
 ghost use Rattle.word_syntax.specs.Writing.{word_pattern};
 
 use crate::Pattern;
-use aut_base::{
-    Description, Edge, Edges, Formula, Label, MOST_NAMES, Marks, Memory, Names, Numbers,
-};
-use aut_core::{Automaton, NameFault};
+use aut_base::{Description, Edge, Edges, Formula, Label, MOST_NAMES, Marks, Memory, Numbers};
+use aut_core::{Automaton, NameFault, copy_names};
 use std::alloc::Global;
 
 /// An automaton that accepts some lasso word together with another one exactly where that other one accepts a word that
@@ -51,13 +49,6 @@ fn pattern_description(alloc: Global, pattern: &Pattern) -> Result<Description, 
         sets: 0,
         formula: Formula::True,
     })
-}
-
-// The names, held apart.
-fn copy_names(names: &Names) -> Result<Names, Memory>
-    ensures { IfOk result (λ copy. copy ≡ names.now) }
-{
-    Ok(names.clone()?)
 }
 
 // An edge for each label, from one state to the next. The last state leads back.

@@ -8,8 +8,8 @@ ghost use Rattle.fin_removal.specs.Copies.{HasTooManyTerms};
 ghost use Rattle.plan_meaning.specs.Changes.{in_disjunctive_form};
 
 use acc_forms::{FormFault, disjuncts, of_terms};
-use aut_base::{Memory, Names, Numbers};
-use aut_core::{Automaton, Link, Links};
+use aut_base::Memory;
+use aut_core::{Automaton, Link, Links, copy_link, copy_names, copy_numbers};
 use std::alloc::Global;
 
 /// The automaton under the disjunction of its condition's terms.
@@ -38,18 +38,7 @@ pub(crate) fn with_disjuncts(alloc: Global, a: &Automaton) -> Result<Automaton, 
     )?)
 }
 
-fn copy_names(names: &Names) -> Result<Names, Memory>
-    ensures { IfOk result (λ copy. copy ≡ names.now) }
-{
-    Ok(names.clone()?)
-}
-
-fn copy_numbers(numbers: &Numbers) -> Result<Numbers, Memory>
-    ensures { IfOk result (λ copy. copy ≡ numbers.now) }
-{
-    Ok(numbers.clone()?)
-}
-
+/// Copies of the links.
 fn copy_links(alloc: Global, links: &[Link]) -> Result<Links, Memory>
     ensures { IfOk result (λ copy. copy ≡ links.now) }
 {
@@ -58,10 +47,4 @@ fn copy_links(alloc: Global, links: &[Link]) -> Result<Links, Memory>
         copy.push(copy_link(link)?)?;
     }
     Ok(copy)
-}
-
-fn copy_link(link: &Link) -> Result<Link, Memory>
-    ensures { IfOk result (λ copy. copy ≡ link.now) }
-{
-    Ok(link.clone()?)
 }

@@ -1,0 +1,17 @@
+//! How many operands there are.
+
+ghost use Rattle.std.specs.Prelude.{◌≡◌, ◌≤◌, length};
+ghost use Rattle.filter_plan.specs.Words.{listed};
+
+use aut_base::Text;
+
+/// How many files an option names: 1 where it stands.
+pub fn file_count(file: &Option<Text>) -> usize
+    ensures is { result ≡ length (listed file.now) }
+    ensures few { result ≤ 1 }
+{
+    match file {
+        Some(_) => 1,
+        None => 0,
+    }
+}
