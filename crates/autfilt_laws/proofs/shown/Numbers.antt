@@ -1,5 +1,5 @@
 -- Digits are refused after the first that makes the integer too great.
-use Rattle.std.proofs.Common.{◌≡◌, ℕ, ◌+◌, ◌-◌, ◌*◌, ◌^◌, ◌<◌, ◌≤◌, true, List, [], ◌∷◌, Some, None, inl, inr, refl, arith}
+use Rattle.std.proofs.Common.{◌≡◌, ℕ, ◌+◌, ◌-◌, ◌*◌, ◌^◌, ◌<◌, ◌≤◌, true, List, [], ◌∷◌, None, inl, inr, refl, arith}
 use Rattle.std.proofs.lemmas.Bool.{cases_Bool, cases_lt}
 use Rattle.std.proofs.lemmas.Bool.Decides.{nat_tests}
 use Rattle.hoa_lexer.specs.Bytes.{is_digit}
@@ -20,7 +20,7 @@ digits_refused k first value x (b ∷ z) d v l w n = elim (cases_Bool (is_digit 
     | inl less ↦ digits_refused k first (more value b) x z d v less (digits_push first value (more value b) b x (b ∷ z) z w refl g refl) n
     | inr great ↦ refused_here k (first ∷ x) z (number_bad k k first value (more value b) b None x (b ∷ z) z refl refl d v l w refl g refl great)
   ]
-  | inr s ↦ absurd (not_token (first ∷ x) (Int value) (b ∷ z) n (number_token (Some b) first value b x (b ∷ z) z d v l refl w refl s))
+  | inr s ↦ absurd (not_token (first ∷ x) (Int value) (b ∷ z) n (number_token first value b x (b ∷ z) z d v l w refl s))
 ]
 
 -- a digit is no more than 9
