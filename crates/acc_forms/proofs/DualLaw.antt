@@ -1,32 +1,10 @@
 -- The dual holds exactly where the condition doesn't.
-use Rattle.std.proofs.Common.{◌≡◌, ◌∙◌, ℕ, Bool, true, false, not, ◌&&◌, ◌||◌, List, [], ◌∷◌, refl, sym, ap}
-use Rattle.std.specs.List.{list_any, list_all}
+use Rattle.std.proofs.Common.{◌≡◌, ◌∙◌, ℕ, true, false, not, ◌&&◌, ◌||◌, List, ◌∷◌, refl}
+use Rattle.aut_base.proofs.ListTests.{all-not, any-not}
+use Rattle.aut_base.proofs.Truth.{not-and, not-or, not_twice}
 use Rattle.aut_base.specs.Formula.{FormulaTree, FormulaTrees, True, False, Inf, Fin, And, Or, none, more, met, all_met, some_met}
 use Rattle.aut_base.specs.Marks.{is_in}
 use Rattle.acc_forms.specs.Dual.{dual, duals}
-
-not-and : (a b c d : Bool) → c ≡ not a → d ≡ not b → (c || d) ≡ not (a && b)
-not-and true b c d e f = ap (λ x. x || d) e ∙ f
-not-and false b c d e f = ap (λ x. x || d) e
-
-not-or : (a b c d : Bool) → c ≡ not a → d ≡ not b → (c && d) ≡ not (a || b)
-not-or true b c d e f = ap (λ x. x && d) e
-not-or false b c d e f = ap (λ x. x && d) e ∙ f
-
-not-not : (a : Bool) → a ≡ not (not a)
-not-not true = refl
-not-not false = refl
-
-any-not : {A : Type 0} (p : A → Bool) (xs : List A) → list_any (λ x. not (p x)) xs ≡ not (list_all p xs)
-any-not p [] = refl
-any-not p (x ∷ xs) = not-and (p x) (list_all p xs) (not (p x)) (list_any (λ y. not (p y)) xs) refl (any-not p xs)
-
-pub all-not : {A : Type 0} (p : A → Bool) (xs : List A) → list_all (λ x. not (p x)) xs ≡ not (list_any p xs)
-all-not p [] = refl
-all-not p (x ∷ xs) = not-or (p x) (list_any p xs) (not (p x)) (list_all (λ y. not (p y)) xs) refl (all-not p xs)
-
-not_twice : (a b : Bool) → a ≡ not b → b ≡ not a
-not_twice a b e = not-not b ∙ ap not (sym e)
 
 mutual
   pub met-dual : (cycle : List (List ℕ)) (f : FormulaTree) → met cycle (dual f) ≡ not (met cycle f)

@@ -1,5 +1,6 @@
 pub mod AtomLaws
 pub mod DualLaw
+pub mod FormulaSets
 pub mod JoinLaws
 pub mod Meanings
 pub mod ParityLaw

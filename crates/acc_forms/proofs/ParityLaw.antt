@@ -2,10 +2,10 @@
 use Rattle.std.proofs.Common.{◌≡◌, ◌∙◌, ℕ, zero, suc, ◌+◌, ◌-◌, ◌%◌, ◌<◌, ◌≤◌, Bool, true, false, cond, not, ◌&&◌, ◌||◌, List, inl, inr, refl, sym, ap, subst, arith, ⊎_elim}
 use Rattle.std.specs.List.{list_any}
 use Rattle.std.proofs.lemmas.Bool.{cases_Bool, cases_eq, cases_lt, eq-eqb, ne_eqb, both_ways}
+use Rattle.aut_base.proofs.ListTests.{all-not}
 use Rattle.aut_base.specs.Formula.{FormulaTree, Inf, Fin, And, Or, none, met}
 use Rattle.aut_base.specs.Marks.{is_in}
 use Rattle.acc_forms.specs.Parity.{is_odd, parity_from, parity_min_odd, IsCarried, MinIsOdd}
-use Rattle.acc_forms.proofs.DualLaw.{all-not}
 
 is_odd-next : (s : ℕ) → is_odd (s + 1) ≡ not (is_odd s)
 is_odd-next s =

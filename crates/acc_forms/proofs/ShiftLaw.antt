@@ -1,7 +1,8 @@
 -- A shifted condition holds exactly where the condition holds on the lowered cycle.
-use Rattle.std.proofs.Common.{◌≡◌, ◌∙◌, ℕ, ◌+◌, ◌-◌, ◌≤◌, Bool, true, false, cond, not, ◌&&◌, ◌||◌, List, [], ◌∷◌, map, nat_eq, nat_le, refl, sym, ap, arith, ⊎_elim}
+use Rattle.std.proofs.Common.{◌≡◌, ◌∙◌, ℕ, ◌+◌, ◌-◌, ◌≤◌, true, false, cond, not, ◌&&◌, ◌||◌, List, [], ◌∷◌, map, nat_eq, nat_le, refl, sym, ap, arith, ⊎_elim}
 use Rattle.std.proofs.lemmas.Bool.{cases_lt, cases_eq, eq-eqb, ne_eqb, le-leb, lt-leb}
-use Rattle.std.specs.List.{list_any, list_all, filter}
+use Rattle.std.specs.List.{list_any, filter}
+use Rattle.aut_base.proofs.ListTests.{all-map_alike, any-map_alike}
 use Rattle.aut_base.specs.Formula.{FormulaTree, FormulaTrees, True, False, Inf, Fin, And, Or, none, more, met, all_met, some_met}
 use Rattle.aut_base.specs.Marks.{is_in}
 use Rattle.acc_forms.specs.Shift.{shift, shifts, raised, lowered}
@@ -31,14 +32,6 @@ pub is_in-lowered : (n set : ℕ) (marks : List ℕ) → is_in (set + n) marks �
 is_in-lowered n set [] = refl
 is_in-lowered n set (mark ∷ marks) = ap (λ b. nat_eq mark (set + n) || b) (is_in-lowered n set marks) ∙ mark_in n set mark (filter (nat_le n) marks)
 
-any-lowered : {A B : Type 0} (p : A → Bool) (q : B → Bool) (h : A → B) → ((x : A) → p x ≡ q (h x)) → (xs : List A) → list_any p xs ≡ list_any q (map h xs)
-any-lowered p q h same [] = refl
-any-lowered p q h same (x ∷ xs) = ap (λ b. b || list_any p xs) (same x) ∙ ap (λ b. q (h x) || b) (any-lowered p q h same xs)
-
-all-lowered : {A B : Type 0} (p : A → Bool) (q : B → Bool) (h : A → B) → ((x : A) → p x ≡ q (h x)) → (xs : List A) → list_all p xs ≡ list_all q (map h xs)
-all-lowered p q h same [] = refl
-all-lowered p q h same (x ∷ xs) = ap (λ b. b && list_all p xs) (same x) ∙ ap (λ b. q (h x) && b) (all-lowered p q h same xs)
-
 abbrev lower : ℕ → List ℕ → List ℕ
 lower n marks = map (λ mark. mark - n) (filter (nat_le n) marks)
 
@@ -47,10 +40,10 @@ module _ (n : ℕ) (cycle : List (List ℕ)) where
     pub met-shift : (f : FormulaTree) → met cycle (shift n f) ≡ met (lowered n cycle) f
     met-shift True = refl
     met-shift False = refl
-    met-shift (Inf set false) = any-lowered (is_in (set + n)) (is_in set) (lower n) (is_in-lowered n set) cycle
-    met-shift (Inf set true) = any-lowered (λ marks. not (is_in (set + n) marks)) (λ marks. not (is_in set marks)) (lower n) (λ marks. ap not (is_in-lowered n set marks)) cycle
-    met-shift (Fin set false) = all-lowered (λ marks. not (is_in (set + n) marks)) (λ marks. not (is_in set marks)) (lower n) (λ marks. ap not (is_in-lowered n set marks)) cycle
-    met-shift (Fin set true) = all-lowered (is_in (set + n)) (is_in set) (lower n) (is_in-lowered n set) cycle
+    met-shift (Inf set false) = any-map_alike (is_in (set + n)) (is_in set) (lower n) (is_in-lowered n set) cycle
+    met-shift (Inf set true) = any-map_alike (λ marks. not (is_in (set + n) marks)) (λ marks. not (is_in set marks)) (lower n) (λ marks. ap not (is_in-lowered n set marks)) cycle
+    met-shift (Fin set false) = all-map_alike (λ marks. not (is_in (set + n) marks)) (λ marks. not (is_in set marks)) (lower n) (λ marks. ap not (is_in-lowered n set marks)) cycle
+    met-shift (Fin set true) = all-map_alike (is_in (set + n)) (is_in set) (lower n) (is_in-lowered n set) cycle
     met-shift (And a b cs) = ap (λ x. x && (met cycle (shift n b) && all_met cycle (shifts n cs))) (met-shift a) ∙ ap (λ x. met (lowered n cycle) a && x) (ap (λ x. x && all_met cycle (shifts n cs)) (met-shift b) ∙ ap (λ x. met (lowered n cycle) b && x) (all_met-shifts cs))
     met-shift (Or a b cs) = ap (λ x. x || (met cycle (shift n b) || some_met cycle (shifts n cs))) (met-shift a) ∙ ap (λ x. met (lowered n cycle) a || x) (ap (λ x. x || some_met cycle (shifts n cs)) (met-shift b) ∙ ap (λ x. met (lowered n cycle) b || x) (some_met-shifts cs))
 

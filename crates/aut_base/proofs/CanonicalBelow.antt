@@ -38,16 +38,16 @@ literals_below : (n : ℕ) (cube : List Literal) → CubeBelow n cube → AllByR
 literals_below n [] all = tt
 literals_below n (l ∷ ls) all = (literal_below n l all.0, literals_below n ls all.1)
 
-trees_below : (n : ℕ) (ts : List LabelTree) → AllByRecursion (AllBelow n) ts → EachBelow n (trees ts)
+pub trees_below : (n : ℕ) (ts : List LabelTree) → AllByRecursion (AllBelow n) ts → EachBelow n (trees ts)
 trees_below n [] all = tt
 trees_below n (t ∷ ts) all = (all.0, trees_below n ts all.1)
 
-all_of_below : (n : ℕ) (ts : List LabelTree) → AllByRecursion (AllBelow n) ts → AllBelow n (all_of ts)
+pub all_of_below : (n : ℕ) (ts : List LabelTree) → AllByRecursion (AllBelow n) ts → AllBelow n (all_of ts)
 all_of_below n [] all = tt
 all_of_below n (t ∷ []) all = all.0
 all_of_below n (t ∷ u ∷ us) all = (all.0, all.1.0, trees_below n us all.1.1)
 
-one_of_below : (n : ℕ) (ts : List LabelTree) → AllByRecursion (AllBelow n) ts → AllBelow n (one_of ts)
+pub one_of_below : (n : ℕ) (ts : List LabelTree) → AllByRecursion (AllBelow n) ts → AllBelow n (one_of ts)
 one_of_below n [] all = tt
 one_of_below n (t ∷ []) all = all.0
 one_of_below n (t ∷ u ∷ us) all = (all.0, all.1.0, trees_below n us all.1.1)

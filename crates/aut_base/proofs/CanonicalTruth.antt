@@ -13,7 +13,7 @@ use Rattle.aut_base.proofs.Truth.{and-true, and_or, or-false}
 abbrev pub all_hold : (ℕ → Bool) → List Literal → Bool
 all_hold holds = list_all (λ l. truth holds (literal_tree l))
 
-all_true-trees : (holds : ℕ → Bool) (ts : List LabelTree) → all_true holds (trees ts) ≡ list_all (truth holds) ts
+pub all_true-trees : (holds : ℕ → Bool) (ts : List LabelTree) → all_true holds (trees ts) ≡ list_all (truth holds) ts
 all_true-trees holds [] = refl
 all_true-trees holds (t ∷ ts) = ap (λ b. truth holds t && b) (all_true-trees holds ts)
 

@@ -1,6 +1,5 @@
 -- Sums and products that stop at a last number.
-use Rattle.std.proofs.Common.{◌≡◌, ◌∙◌, ℕ, zero, suc, ◌+◌, ◌*◌, ◌≤◌, ◌<◌, min, max, sym, ap, subst, arith, ⊎_elim}
-use Rattle.std.specs.Int.{div_ceil}
+use Rattle.std.proofs.Common.{◌≡◌, ◌∙◌, ℕ, zero, suc, ◌+◌, ◌*◌, ◌≤◌, ◌<◌, min, sym, ap, subst, arith, ⊎_elim}
 use Rattle.std.proofs.Math.Nat.{min-eq_left, min-eq_right, zero-min, suc-min-suc}
 use Rattle.std.proofs.lemmas.Bool.{cases_lt}
 
@@ -28,28 +27,3 @@ capped_mul s a b =
     (λ other. ap (λ n. min (n * min b s) s) (min-eq_left fits) ∙ ap (λ n. min (a * n) s) (min-eq_left other))
     (cases_lt s b))
     (cases_lt s a)
-
-ceil_capped : (s m n : ℕ) → 1024 * m ≤ s → min (div_ceil (min n s) 1024) m ≡ min (div_ceil n 1024) m
-ceil_capped s m n wide =
-    ⊎_elim
-    (λ past.
-    let full : min n s ≡ s = min-eq_right {n = s} {m = n} (omega arith) in
-    let one : m ≤ div_ceil s 1024 = omega arith in
-    let two : m ≤ div_ceil n 1024 = omega arith in
-    ap (λ k. min (div_ceil k 1024) m) full ∙ min-eq_right one ∙ sym (min-eq_right two))
-    (λ fits. ap (λ k. min (div_ceil k 1024) m) (min-eq_left fits))
-    (cases_lt s n)
-
-min_max : (a b m : ℕ) → min (max a b) m ≡ max (min a m) (min b m)
-min_max a b m = omega arith
-
-min_min : (a s m : ℕ) → m ≤ s → min (min a s) m ≡ min a m
-min_min a s m h = omega arith
-
--- a count of numbers that stopped at a last one far above
-pub count_capped : (s m terms literals : ℕ) → 1024 * m ≤ s → min (max (min terms s) (div_ceil (min literals s) 1024)) m ≡ min (max terms (div_ceil literals 1024)) m
-count_capped s m terms literals wide =
-    min_max (min terms s) (div_ceil (min literals s) 1024) m
-    ∙ ap (λ n. max n (min (div_ceil (min literals s) 1024) m)) (min_min terms s m (omega arith))
-    ∙ ap (λ n. max (min terms m) n) (ceil_capped s m literals wide)
-    ∙ sym (min_max terms (div_ceil literals 1024) m)

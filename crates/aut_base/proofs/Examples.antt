@@ -6,6 +6,7 @@ use Rattle.std.specs.Cmp.Lexicographic.{slice_cmp}
 use Rattle.std.specs.Ordering.{nat_cmp}
 use Rattle.std.proofs.lemmas.Bool.{false≢true, cases_eq, and_left, or_from}
 use Rattle.std.proofs.lemmas.Cmp.{nat_list_cmp_total}
+use Rattle.aut_base.proofs.Members.{one_of_two}
 use Rattle.aut_base.specs.Acceptance.{Accepts, IsPath}
 use Rattle.aut_base.specs.Automaton.{TreeEdge}
 use Rattle.aut_base.specs.Examples.{name_a, name_b, on, off, on_and_foreign, foreign, edge, a, again, one_state, either_way, ever_after, never, barred, WorkedExamples}
@@ -124,14 +125,6 @@ foreign_a = set.contains-insert nat_list_cmp_total set.empty name_b name_a ∙ o
 record IsLoop (x : NameSet) (e : TreeEdge) : Type 0 where
   stays : e.to ≡ e.from
   reads : e.from ≡ (if set.contains x name_a then 0 else 1)
-
-one_of_two : (P : TreeEdge → Type 0) (d e x : TreeEdge) → Contains (d ∷ e ∷ []) x → P d → P e → P x
-one_of_two P d e x there first second = go there.0 there.1 there.2
-  where
-    go : (k : ℕ) → k < 2 → get_or (d ∷ e ∷ []) k x ≡ x → P x
-    go zero within is = subst P is first
-    go (suc zero) within is = subst P is second
-    go (suc (suc k)) within is = absurd (omega arith)
 
 is_loop : (starts : List ℕ) (x : NameSet) (e : TreeEdge) → Contains (either_way starts).edges e → truth (holds_at (name_a ∷ []) x) e.label ≡ true → IsLoop x e
 is_loop starts x e there =

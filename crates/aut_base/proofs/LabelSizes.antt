@@ -3,22 +3,7 @@
 -- and 2 * labels_size (trees (label_list ls)) + 1 for the second.
 use Rattle.std.proofs.Common.{◌≡◌, ℕ, zero, suc, ◌+◌, ◌≤◌, List, [], ◌∷◌, Some, slice_get, ap, arith}
 use Rattle.std.proofs.lemmas.Option.{same_Some, none-some}
-use Rattle.std.specs.Global.{Global}
-use Rattle.std.specs.declared.boxed.Box.{Box}
-use Rattle.aut_base.specs.Label.{LabelTree, label_tree, label_list, label_size, labels_size, trees}
-use Rattle.aut_base.specs.declared.label.Label.{Label}
-use Rattle.aut_base.specs.declared.label.Label.TheVariants.{Not, And, Or}
-use Rattle.aut_base.specs.declared.label.Labels.{Labels}
-use Rattle.aut_base.proofs.LabelTrees.{label_tree-Not, label_tree-And, label_tree-Or}
-
-pub label_size-Not : (inner : Box Label Global) → label_size (label_tree (Not inner)) ≡ 1 + label_size (label_tree inner.value)
-label_size-Not inner = ap label_size (label_tree-Not inner)
-
-pub label_size-And : (p : Labels) → label_size (label_tree (And p)) ≡ 1 + labels_size (trees (label_list p))
-label_size-And p = ap label_size (label_tree-And p)
-
-pub label_size-Or : (p : Labels) → label_size (label_tree (Or p)) ≡ 1 + labels_size (trees (label_list p))
-label_size-Or p = ap label_size (label_tree-Or p)
+use Rattle.aut_base.specs.Label.{LabelTree, label_size, labels_size, trees}
 
 -- the part at a place
 pub label_size-at : (parts : List LabelTree) (place : ℕ) (part : LabelTree) → slice_get parts place ≡ Some part → label_size part ≤ labels_size (trees parts)

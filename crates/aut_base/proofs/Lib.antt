@@ -15,6 +15,7 @@ pub mod LabelLaws
 pub mod LabelSizes
 pub mod LabelTrees
 pub mod LetterNames
+pub mod ListTests
 pub mod Lists
 pub mod Members
 pub mod Numbers

@@ -1,12 +1,13 @@
 -- Lists, by their places and their pieces, beyond what the standard library says of them.
 use Rattle.aut_base.proofs.Truth.{and_comm, or_comm}
-use Rattle.std.proofs.Common.{◌≡◌, ◌∷◌, ◌++◌, ◌+◌, ◌-◌, ◌<◌, ◌≤◌, ◌∙◌, ◌⊎◌, ◌==◌, ◌&&◌, ◌||◌, Bool, List, None, Some, [], ap, arith, drop, get_or, inl, inr, length, map, refl, slice_get, suc, sym, take, true, zero, ℕ}
+use Rattle.std.proofs.Common.{Bool, List, None, Some, [], ap, arith, cond, drop, false, filter, get_or, inl, inr, length, map, refl, slice_get, suc, sym, take, true, zero, ℕ, ◌&&◌, ◌++◌, ◌+◌, ◌-◌, ◌<◌, ◌==◌, ◌||◌, ◌∙◌, ◌∷◌, ◌≡◌, ◌≤◌, ◌⊎◌}
 use Rattle.std.proofs.lemmas.Bool.{and_from}
 use Rattle.std.proofs.lemmas.Bool.Decides.{nat_tests}
-use Rattle.std.proofs.lemmas.List.{drop-drop, drop_more, take-append-drop, take_more}
+use Rattle.std.proofs.lemmas.List.Concat.{flat_map-append}
+use Rattle.std.proofs.lemmas.List.{append-nil, append_assoc, drop-drop, drop_more, map-append, take-append-drop, take_more}
 use Rattle.std.proofs.lemmas.List.Folds.{list_all-append, list_any-append}
 use Rattle.std.proofs.lemmas.Option.{none-some, same_Some}
-use Rattle.std.specs.List.{list_all, list_any}
+use Rattle.std.specs.List.{list_all, list_any, range_with_len}
 use Rattle.std.specs.Prelude.{flat_map}
 
 pub slice_get-append_left : {A : Type 0} (xs ys : List A) (n : ℕ) → n < length xs → slice_get (xs ++ ys) n ≡ slice_get xs n
@@ -111,10 +112,6 @@ pub empty_of_length : (name : List ℕ) → (length name == 0) ≡ true → name
 empty_of_length [] e = refl
 empty_of_length (b ∷ bs) e = grind (arith, nat_tests)
 
-pub empty_right : (before bytes : List ℕ) → [] ≡ before ++ bytes → bytes ≡ []
-empty_right [] bytes e = sym e
-empty_right (b ∷ bs) bytes e = cc
-
 pub right_empty : (xs ys : List ℕ) → xs ++ ys ≡ [] → ys ≡ []
 right_empty [] ys e = e
 right_empty (x ∷ xs) ys e = cc
@@ -138,3 +135,31 @@ map-map_same plain meaning one (p ∷ ps) =
     let first = one p in
     let others = map-map_same plain meaning one ps in
     cc
+
+pub range_more : (a n : ℕ) → range_with_len a (n + 1) ≡ range_with_len a n ++ (a + n) ∷ []
+range_more a zero = let z : a ≡ a + 0 = omega arith in ap (λ x. x ∷ []) z
+range_more a (suc n) =
+    let z : a + 1 + n ≡ a + suc n = omega arith in
+    let m : suc n + 1 ≡ suc (n + 1) = omega arith in
+    ap (range_with_len a) m ∙ ap (λ xs. a ∷ xs) (range_more (a + 1) n ∙ ap (λ x. range_with_len (a + 1) n ++ x ∷ []) z)
+
+pub append_three : {A : Type 0} (a b c d : List A) → (a ++ (b ++ c)) ++ d ≡ a ++ (b ++ (c ++ d))
+append_three a b c d = append_assoc a (b ++ c) d ∙ ap (λ w. a ++ w) (append_assoc b c d)
+
+-- what the numbers below one more give
+pub flat_map-range_more : {A : Type 0} (f : ℕ → List A) (n : ℕ) → flat_map f (range_with_len 0 (n + 1)) ≡ flat_map f (range_with_len 0 n) ++ f n
+flat_map-range_more f n =
+    let e : 0 + n ≡ n = omega arith in
+    ap (flat_map f) (range_more 0 n) ∙ (flat_map-append f (range_with_len 0 n) ((0 + n) ∷ []) ∙ (ap (λ m. flat_map f (range_with_len 0 n) ++ flat_map f (m ∷ [])) e ∙ ap (λ ys. flat_map f (range_with_len 0 n) ++ ys) (append-nil (f n))))
+
+pub map-filter : {X Y : Type 0} (f : X → Y) (p : Y → Bool) (xs : List X) → map f (filter (λ x. p (f x)) xs) ≡ filter p (map f xs)
+map-filter f p [] = refl
+map-filter f p (x ∷ xs) = by (p (f x)) (map-filter f p xs)
+  where
+    by : (b : Bool) → map f (filter (λ y. p (f y)) xs) ≡ filter p (map f xs) → map f (cond b (x ∷ filter (λ y. p (f y)) xs) (filter (λ y. p (f y)) xs)) ≡ cond b (f x ∷ filter p (map f xs)) (filter p (map f xs))
+    by true rest = ap (λ ys. f x ∷ ys) rest
+    by false rest = rest
+
+pub map-flat_map : {X Y Z : Type 0} (g : Y → Z) (f : X → List Y) (xs : List X) → map g (flat_map f xs) ≡ flat_map (λ x. map g (f x)) xs
+map-flat_map g f [] = refl
+map-flat_map g f (x ∷ xs) = map-append g (f x) (flat_map f xs) ∙ ap (λ ys. map g (f x) ++ ys) (map-flat_map g f xs)

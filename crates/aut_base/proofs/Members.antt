@@ -8,7 +8,7 @@ use Rattle.std.proofs.lemmas.List.FromFn.{get_or-range_with_len, length-range_wi
 use Rattle.std.proofs.lemmas.Option.{none-some, same_Some}
 use Rattle.std.specs.List.{list_all, list_any, range_with_len}
 use Rattle.std.specs.Prelude.{flat_map}
-use Rattle.aut_base.proofs.Lists.{take-slice_get}
+use Rattle.aut_base.proofs.Lists.{slice_get-at, take-slice_get}
 
 pub none_there : {X : Type 0} (x : X) → Contains [] x → ⊥
 none_there x there = absurd (omega (arith, there.1))
@@ -101,9 +101,6 @@ there_found same tells x xs there = list_any_at (same x) xs there.0 x there.1 ((
 pub read_has : {X : Type 0} (P : X → Type 0) (xs : List X) (i : ℕ) (x : X) → All P xs → i < length xs → x ≡ get_or xs i x → P x
 read_has P xs i x all within is = subst P (sym is) (all i x within)
 
-pub read_there : {A : Type 0} (xs : List A) (i : ℕ) (x : A) → i < length xs → x ≡ get_or xs i x → Contains xs x
-read_there xs i x within is = (i, within, sym is)
-
 pub placed_there : {A : Type 0} (xs : List A) (i : ℕ) (x : A) → slice_get xs i ≡ Some x → Contains xs x
 placed_there [] i x is = absurd (none-some x is)
 placed_there (y ∷ ys) zero x is = subst (Contains (y ∷ ys)) (same_Some y x is) (first_there y ys)
@@ -163,3 +160,19 @@ each_is p (z ∷ zs) x e (suc k, within, is) = each_is p zs x (and_parts (p z) (
 pub each_from : {X : Type 0} (p : X → Bool) (xs : List X) → ((x : X) → Contains xs x → p x ≡ true) → list_all p xs ≡ true
 each_from p [] each = refl
 each_from p (x ∷ xs) each = and_from (p x) (list_all p xs) (each x (first_there x xs)) (each_from p xs (λ y there. each y (later_there x xs y there)))
+
+pub one_of_two : {X : Type 0} (P : X → Type 0) (d e x : X) → Contains (d ∷ e ∷ []) x → P d → P e → P x
+one_of_two P d e x there first second = go there.0 there.1 there.2
+  where
+    go : (k : ℕ) → k < 2 → get_or (d ∷ e ∷ []) k x ≡ x → P x
+    go zero within is = subst P is first
+    go (suc zero) within is = subst P is second
+    go (suc (suc k)) within is = absurd (omega arith)
+
+pub item_at : {X : Type 0} (list : List X) (k : ℕ) → k < length list → (x : X) × (get_or list k x ≡ x)
+item_at [] k within = absurd (omega arith)
+item_at (x ∷ xs) zero within = (x, refl)
+item_at (x ∷ xs) (suc k) within = item_at xs k (omega (arith, within))
+
+pub there_at : {X : Type 0} (xs : List X) (x : X) → Contains xs x → (k : ℕ) × (slice_get xs k ≡ Some x)
+there_at xs x there = (there.0, slice_get-at xs there.0 x there.1 (sym there.2))

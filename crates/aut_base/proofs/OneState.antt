@@ -1,11 +1,12 @@
 -- An automaton with one state accepts a word exactly where the marks along the word's cycle meet its condition.
-use Rattle.std.proofs.Common.{◌≡◌, ◌∙◌, ◌↔◌, ℕ, zero, suc, ◌<◌, Bool, true, false, not, List, [], ◌∷◌, ◌++◌, map, length, Contains, get_or, lit<, refl, sym, ap, subst, arith}
+use Rattle.std.proofs.Common.{◌≡◌, ◌∙◌, ◌↔◌, ℕ, ◌<◌, Bool, true, false, not, List, [], ◌∷◌, ◌++◌, map, length, Contains, lit<, refl, sym, ap, subst}
 use Rattle.std.specs.FinSet.{contains}
+use Rattle.aut_base.proofs.Members.{one_of_two}
 use Rattle.aut_base.specs.Acceptance.{Accepts, IsPath}
 use Rattle.aut_base.specs.Automaton.{TreeEdge}
 use Rattle.aut_base.specs.Examples.{name_a, edge, a, one_state}
 use Rattle.aut_base.specs.Formula.{FormulaTree, met}
-use Rattle.aut_base.specs.Label.{LabelTree, truth, holds_at}
+use Rattle.aut_base.specs.Label.{truth, holds_at, LabelTree}
 use Rattle.aut_base.specs.Word.{NameSet, copies}
 use Rattle.aut_base.proofs.SameEdges.{met_alike, gone_alike}
 
@@ -41,14 +42,6 @@ goes at_on at_off sets f (x ∷ xs) =
     let step = is_step at_on at_off sets f x (contains x name_a) refl in
     let P : ℕ → Type 0 = λ p. IsPath (one_state at_on at_off sets f) p xs (map (loop_at at_on at_off) xs) 0 in
     (step.0, step.1, step.2, subst P step.3 (goes at_on at_off sets f xs))
-
-one_of_two : (P : TreeEdge → Type 0) (d e x : TreeEdge) → Contains (d ∷ e ∷ []) x → P d → P e → P x
-one_of_two P d e x there first second = go there.0 there.1 there.2
-  where
-    go : (k : ℕ) → k < 2 → get_or (d ∷ e ∷ []) k x ≡ x → P x
-    go zero within is = subst P is first
-    go (suc zero) within is = subst P is second
-    go (suc (suc k)) within is = absurd (omega arith)
 
 forced : (at_on at_off : List ℕ) (sets : ℕ) (f : FormulaTree) (x : NameSet) (e : TreeEdge) → Contains (one_state at_on at_off sets f).edges e → truth (holds_at (name_a ∷ []) x) e.label ≡ true → e.marks ≡ marks_at at_on at_off x
 forced at_on at_off sets f x e there =

@@ -1,9 +1,10 @@
 -- Lists that stand in order, and what is kept of a list.
 use Rattle.aut_base.proofs.AllByRecursion.{AllByRecursion-from_map, AllByRecursion-weaker}
-use Rattle.std.proofs.Common.{◌≡◌, ◌==◌, ◌<◌, ◌≤◌, ◌+◌, ℕ, zero, suc, Bool, true, false, cond, ◌&&◌, ◌||◌, List, [], ◌∷◌, ◌++◌, map, filter, nat_lt, refl, sym, ap, ◌∙◌, arith, AllPairs}
+use Rattle.aut_base.proofs.Truth.{or_comm}
+use Rattle.std.proofs.Common.{All, AllPairs, Bool, List, [], ap, arith, cond, false, filter, get_or, length, map, nat_lt, refl, suc, sym, true, zero, ℕ, ◌&&◌, ◌++◌, ◌+◌, ◌<◌, ◌==◌, ◌||◌, ◌∙◌, ◌∷◌, ◌≡◌, ◌≤◌}
 use Rattle.std.proofs.lemmas.Bool.{eqb-false, eqb-true, lt-ltb, le-ltb, ltb-true, ltb-false, ne_eqb}
 use Rattle.std.proofs.lemmas.List.{map-append}
-use Rattle.std.proofs.lemmas.List.Elements.{recursion_from_All}
+use Rattle.std.proofs.lemmas.List.Elements.{All-cons, All-tail, recursion_from_All}
 use Rattle.std.specs.List.{AllByRecursion, list_all, list_any, range_with_len}
 use Rattle.std.specs.Prelude.{flat_map}
 
@@ -124,3 +125,26 @@ kept_or_not f x xs false = refl
 pub filter_map_of : {X Y : Type 0} (p : Y → Bool) (f : X → Y) (xs : List X) → filter p (map f xs) ≡ map f (filter (λ x. p (f x)) xs)
 filter_map_of p f [] = refl
 filter_map_of p f (x ∷ xs) = ap (λ ys. cond (p (f x)) (f x ∷ ys) ys) (filter_map_of p f xs) ∙ kept_or_not f x (filter (λ x. p (f x)) xs) (p (f x))
+
+pub any_behind : {X : Type 0} (m : X → Bool) (x : X) (xs : List X) (b : Bool) → list_any m xs ≡ true → list_any m (cond b (x ∷ xs) xs) ≡ true
+any_behind m x xs true e = ap (λ b. m x || b) e ∙ or_comm (m x) true
+any_behind m x xs false e = e
+
+pub any_kept : {X : Type 0} (p m : X → Bool) (xs : List X) (k : ℕ) (x : X) → k < length xs → get_or xs k x ≡ x → p x ≡ true → m x ≡ true → list_any m (filter p xs) ≡ true
+any_kept p m [] k x w at e f = absurd (omega (arith, w))
+any_kept p m (y ∷ ys) zero x w at e f =
+    ap (λ b. list_any m (cond b (y ∷ filter p ys) (filter p ys))) (ap p at ∙ e) ∙ ap (λ b. b || list_any m (filter p ys)) (ap m at ∙ f)
+any_kept p m (y ∷ ys) (suc k) x w at e f = any_behind m y (filter p ys) (p y) (any_kept p m ys k x (omega (arith, w)) at e f)
+
+pub kept_here : {X : Type 0} (P : X → Type 0) (x : X) (xs : List X) (b : Bool) → All P (cond b (x ∷ xs) xs) → b ≡ true → P x
+kept_here P x xs true all e = all 0 x (omega arith)
+kept_here P x xs false all e = cc
+
+pub kept_rest : {X : Type 0} (P : X → Type 0) (x : X) (xs : List X) (b : Bool) → All P (cond b (x ∷ xs) xs) → All P xs
+kept_rest P x xs true all = All-tail P x xs all
+kept_rest P x xs false all = all
+
+-- what is true of all that is kept
+pub of_kept : {X : Type 0} (P : X → Type 0) (p : X → Bool) (xs : List X) → All P (filter p xs) → All (λ x. p x ≡ true → P x) xs
+of_kept P p [] all = λ k d w. absurd (omega (arith, w))
+of_kept P p (x ∷ xs) all = All-cons (λ y. p y ≡ true → P y) x xs (kept_here P x (filter p xs) (p x) all) (of_kept P p xs (kept_rest P x (filter p xs) (p x) all))

@@ -1,5 +1,5 @@
 -- Paths put together and taken apart.
-use Rattle.std.proofs.Common.{◌≡◌, ℕ, zero, suc, ◌+◌, ◌<◌, List, [], ◌∷◌, ◌++◌, Contains, ap, arith, length, refl, subst, sym}
+use Rattle.std.proofs.Common.{◌≡◌, ℕ, zero, suc, ◌+◌, ◌<◌, List, [], ◌∷◌, ◌++◌, ap, arith, length, refl, subst, sym}
 use Rattle.std.proofs.lemmas.Nat.{mul-lt}
 use Rattle.aut_base.proofs.Copies.{length-copies}
 use Rattle.aut_base.proofs.Walks.{as_long}
@@ -40,14 +40,6 @@ path_split a p q (x ∷ xs) ys (e ∷ es) path =
 pub path_copies : (a : Automaton) (q : ℕ) (k : ℕ) (xs : List NameSet) (es : List TreeEdge) → IsPath a q xs es q → IsPath a q (copies k xs) (copies k es) q
 path_copies a q zero xs es path = refl
 path_copies a q (suc k) xs es path = path_join a q q q xs (copies k xs) es (copies k es) path (path_copies a q k xs es path)
-
--- the edges of a path are the automaton's
-pub on_path : (a : Automaton) (p q : ℕ) (xs : List NameSet) (es : List TreeEdge) → IsPath a p xs es q → (e : TreeEdge) → Contains es e → Contains a.edges e
-on_path a p q [] [] path e there = absurd (omega (arith, there.1))
-on_path a p q [] (f ∷ fs) path e there = absurd path
-on_path a p q (x ∷ xs) [] path e there = absurd path
-on_path a p q (x ∷ xs) (f ∷ fs) path e (zero, within, is) = subst (λ (g : TreeEdge). Contains a.edges g) is path.1
-on_path a p q (x ∷ xs) (f ∷ fs) path e (suc k, within, is) = on_path a f.to q xs fs path.3 e (k, omega (arith, within), is)
 
 -- a path that reads a cycle isn't empty
 pub goes_on : (a : Automaton) (p q k : ℕ) (v : List NameSet) (es : List TreeEdge) → 0 < length v → 0 < k → IsPath a p (copies k v) es q → 0 < length es

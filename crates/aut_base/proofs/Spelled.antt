@@ -6,7 +6,7 @@ use Rattle.aut_base.specs.Word.{NameSet, copies, letter_at}
 use Rattle.aut_base.proofs.Copies.{get-copies}
 use Rattle.aut_base.proofs.Lists.{slice_get-append_left, slice_get-append_right}
 
-stem_letter : (u v : List NameSet) (n : ℕ) → n < length u → letter_at u v n ≡ slice_get u n
+pub stem_letter : (u v : List NameSet) (n : ℕ) → n < length u → letter_at u v n ≡ slice_get u n
 stem_letter u v n within = ap (λ b. if b then slice_get u n else slice_get v ((n - length u) % length v)) (lt-ltb n (length u) within)
 
 cycle_letter : (u v : List NameSet) (s m n : ℕ) → m < length v → n ≡ length u + (s * length v + m) → letter_at u v n ≡ slice_get v m

@@ -1,13 +1,13 @@
 -- Texts as keys: when a comparison says that two are the same, and the search for one in a list.
-use Rattle.std.proofs.Common.{◌≡◌, ◌≢◌, ◌∙◌, ℕ, ◌+◌, ◌<◌, ◌≤◌, true, false, List, length, get_or, sym, ap, refl, All, Contains, slice_get, Some, nat_eq, arith}
+use Rattle.std.proofs.Common.{◌≡◌, ◌≢◌, ◌∙◌, ℕ, ◌+◌, ◌<◌, ◌≤◌, true, false, List, length, get_or, sym, ap, refl, All, slice_get, Some, nat_eq, arith}
 use Rattle.std.specs.Cmp.Lexicographic.{pointwise, texts_ties}
-use Rattle.std.proofs.lemmas.Bool.{false≢true}
-use Rattle.std.proofs.lemmas.Cmp.{nat_list_eq_equiv}
+use Rattle.std.proofs.lemmas.Bool.{false_from_ne_true, false≢true}
 use Rattle.std.proofs.lemmas.List.{get_or_read}
-use Rattle.std.proofs.lemmas.Option.{slice_get_read, slice_get_within, get_or_from_slice_get}
+use Rattle.std.proofs.lemmas.Option.{slice_get_read}
 use Rattle.std.proofs.lemmas.Map.Lookups.{exact_bytes}
 use Rattle.std.proofs.lemmas.Map.Views.{tells_apart}
 use borrow.Author.Count.{below_more}
+use Rattle.std.proofs.lemmas.Cmp.{nat_list_eq_equiv}
 
 pub same_text : (x y : List ℕ) → pointwise nat_eq x y ≡ true → x ≡ y
 same_text x y h = tells_apart exact_bytes x y (sym (texts_ties x y) ∙ h)
@@ -29,5 +29,5 @@ none_is texts text n all before = λ k other within. before k other (omega arith
 pub is_there : (texts : List (List ℕ)) (text : List ℕ) (n : ℕ) (x : List ℕ) → n < length texts → x ≡ get_or texts n x → x ≡ text → slice_get texts n ≡ Some text
 is_there texts text n x within read e = slice_get_read texts (length texts) n x refl within read ∙ ap Some e
 
-pub contains_at : (texts : List (List ℕ)) (text : List ℕ) (n : ℕ) → slice_get texts n ≡ Some text → Contains texts text
-contains_at texts text n e = (n, slice_get_within texts n text e, get_or_from_slice_get texts n text text e)
+pub differ_texts : (x y : List ℕ) → x ≢ y → pointwise nat_eq x y ≡ false
+differ_texts x y h = false_from_ne_true (pointwise nat_eq x y) (λ e. h (same_text x y e))

@@ -61,9 +61,6 @@ pub independent_from : (n : ℕ) (g : List Bool → Bool) → ((v : List Bool) �
 independent_from n g same =
     all_valuations n (λ w. beq (g (false ∷ w)) (g (true ∷ w))) (λ v long. test_same _ _ (same v long))
 
-pub independent_exactly : (n : ℕ) (g : List Bool → Bool) → (is_independent n g ≡ true) ↔ ((v : List Bool) → length v ≡ n → g (false ∷ v) ≡ g (true ∷ v))
-independent_exactly n g = (independent_agrees n g, independent_from n g)
-
 -- a list of truths is the valuation in which the same propositions hold
 pub length-map_range : (holds : ℕ → Bool) (i n : ℕ) → length (map holds (range_with_len i n)) ≡ n
 length-map_range holds i zero = refl

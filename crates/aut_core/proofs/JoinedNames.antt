@@ -1,5 +1,6 @@
 -- Names that are put together, name by name.
 use Rattle.aut_base.proofs.Lists.{take-push}
+use Rattle.aut_base.proofs.Ordered.{of_kept}
 use Rattle.aut_base.proofs.Texts as texts
 use Rattle.std.proofs.Common.{◌≡◌, ◌≢◌, ◌∙◌, ◌<◌, ◌≤◌, ◌+◌, ℕ, zero, suc, Bool, true, false, cond, not, List, [], ◌∷◌, ◌++◌, All, AllPairs, Contains, ap, arith, filter, get_or, length, length-take, refl, subst, sym, take}
 use Rattle.std.proofs.lemmas.Bool.{false_from_ne_true}
@@ -10,7 +11,6 @@ use Rattle.std.proofs.lemmas.List.Folds.{list_any_none}
 use Rattle.std.proofs.lemmas.Map.Views.{Contains-from_any, list_any-from_Contains}
 use Rattle.aut_base.specs.Text.{same_text}
 use Rattle.aut_core.specs.OtherNames.{HaveBoth, is_among, joined_names}
-use Rattle.aut_core.proofs.Deterministic.{of_kept}
 
 pub among : (a : List (List ℕ)) (name : List ℕ) → Contains a name → is_among a name ≡ true
 among a name there = list_any-from_Contains nat_list_eq_equiv name a there

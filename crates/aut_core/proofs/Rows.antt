@@ -84,26 +84,11 @@ row_between {links} {state} {a} {b} first second = between (λ (l : Link). l.fro
 pub row_in_order : {links : List Link} {state a b : ℕ} → Begins links state a → Begins links (state + 1) b → a ≤ b
 row_in_order {links} {state} {a} {b} first second = in_order (λ (l : Link). l.from) state links a b first.within (surrounds first second)
 
--- no state is below the first
-pub begins_first : (links : List Link) → Begins links 0 0
-begins_first links = record {
-  within = omega arith;
-  before = λ k d l. absurd (omega (arith, l));
-  behind = λ k d l w. omega arith;
-}
-
 -- the links of a state as far as they were looked at
 pub record IsInRow (links : List Link) (state start end : ℕ) : Type 0 where
   pub low : start ≤ end
   pub within : end ≤ length links
   pub before : (k : ℕ) (d : Link) → k < end → (get_or links k d).from ≤ state
-
-pub row_none : (links : List Link) (state start : ℕ) → Begins links state start → IsInRow links state start start
-row_none links state start b = record {
-  low = omega arith;
-  within = b.within;
-  before = λ k d l. omega (arith, b.before k d l);
-}
 
 pub row_ends : (links : List Link) (state start end : ℕ) (d : Link) → IsNonDecreasing (map (λ l. l.from) links) → Begins links state start → IsInRow links state start end → end < length links → (get_or links end d).from ≢ state → Begins links (state + 1) end
 row_ends links state start end d rises begins row more other =
@@ -116,13 +101,6 @@ row_ends links state start end d rises begins row more other =
           let same : (get_or links k d).from ≡ (get_or links k e).from = ap (λ (x : Link). x.from) (get_or_default links k d e w) in
           omega (arith, order, same, other);
     }
-
--- an index of more and more states
-pub index_first : (links : List Link) → IsIndex links 0 (0 ∷ [])
-index_first links = record {
-  count = refl;
-  begins = λ state l. subst (λ s. Begins links s (get_or (0 ∷ []) s 0)) (omega (arith, l)) (begins_first links);
-}
 
 read_last : (rows : List ℕ) (end n : ℕ) → length rows ≡ n → get_or (rows ++ end ∷ []) n 0 ≡ end
 read_last rows end n is =

@@ -16,7 +16,7 @@ use Rattle.aut_core.specs.Core.{edge_of}
 use Rattle.aut_core.specs.Surveys.{AreAllApart, IsSurvey}
 use Rattle.aut_core.specs.Deterministic.{AreApart, is_met}
 use Rattle.aut_core.specs.declared.link.Link.{Link}
-use Rattle.aut_core.proofs.Growth.{keeps_on, keeps_none}
+use Rattle.aut_core.proofs.Growth.{keeps_on}
 
 -- what is known after these links: the guard that is true where one of theirs is, and whether they are apart
 pub record IsLooked (names : List (List ℕ)) (old now : Store) (links : List Link) (met : Guard) (are_apart : Bool) : Type 0 where
@@ -64,14 +64,6 @@ pub apart_more : (names : List (List ℕ)) (es : List TreeEdge) (e : TreeEdge) (
 apart_more names es e are none f g =
     let both = both_true are none (AreAllApart names es) (IsApartFrom names es e) f g in
     (λ h. let parts = both.0 h in apart_push names es e parts.0 parts.1, λ h. both.1 (apart_front names es e h, apart_last names es e h))
-
-pub looked_none : (names : List (List ℕ)) (s : Store) (never : Guard) → IsGuardOf s (λ on. false) never → IsLooked names s s [] never true
-looked_none names s never is = record {
-  keeps = keeps_none s;
-  has = is.has;
-  truth = is.truth;
-  apart = (λ _ i j d l m. absurd (omega (arith, m)), λ _. refl);
-}
 
 -- A link more. Its guard was compared with the disjunction, and then joined to it.
 pub looked_more : (names : List (List ℕ)) (old s t now : Store) (links : List Link) (x : Link) (met both next : Guard) (are none : Bool) → AreNames old names → Has old x.guard → IsLooked names old s links met are

@@ -1,10 +1,11 @@
 -- The links of an automaton of flagged states, as the edges that they stand for.
-use Rattle.std.proofs.Common.{◌≡◌, ◌∙◌, ◌<◌, ◌≤◌, ℕ, Bool, true, false, cond, List, [], ◌∷◌, All, ap, arith, filter, get_or, length, map, refl, subst, sym, take}
+use Rattle.std.proofs.Common.{◌≡◌, ◌∙◌, ◌<◌, ◌≤◌, ℕ, Bool, List, [], ◌∷◌, All, ap, arith, filter, get_or, length, map, refl, subst, sym, take}
 use Rattle.std.proofs.lemmas.List.{length-map, take_all}
 use Rattle.std.proofs.lemmas.List.Elements.{All-filter, All-head, All-map, All-tail, All-weaker}
 use Rattle.std.proofs.lemmas.List.FromFn.{get_or-map-range_with_len}
 use Rattle.std.proofs.lemmas.Simd.{map-map}
 use Rattle.std.specs.List.{range_with_len}
+use Rattle.aut_base.proofs.Lists.{map-filter}
 use Rattle.aut_base.specs.Automaton.{Automaton, TreeEdge}
 use Rattle.aut_base.specs.Formula.{FormulaTree}
 use Rattle.aut_core.specs.Core.{AreParts, Core, IsCore, IsLinkOf, automaton_of, edge_of}
@@ -20,17 +21,9 @@ use Rattle.aut_ops.specs.declared.reached.ReachedSize.{ReachedSize}
 use Rattle.graph_walk.specs.Reach.{AreReached}
 use Rattle.aut_ops.specs.inner.Renumbering.{link_arc, link_passable, link_stays, new_link, new_number}
 
-pub map_filter : {X Y : Type 0} (f : X → Y) (p : Y → Bool) (xs : List X) → map f (filter (λ x. p (f x)) xs) ≡ filter p (map f xs)
-map_filter f p [] = refl
-map_filter f p (x ∷ xs) = by (p (f x)) (map_filter f p xs)
-  where
-    by : (b : Bool) → map f (filter (λ y. p (f y)) xs) ≡ filter p (map f xs) → map f (cond b (x ∷ filter (λ y. p (f y)) xs) (filter (λ y. p (f y)) xs)) ≡ cond b (f x ∷ filter p (map f xs)) (filter p (map f xs))
-    by true rest = ap (λ ys. f x ∷ ys) rest
-    by false rest = rest
-
 -- the edges of the links that stay
 pub edges_staying : (c : Core) (flags : List Bool) → map (edge_of c.store) (filter (link_stays c flags) c.links) ≡ (between flags (automaton_of c)).edges
-edges_staying c flags = map_filter (edge_of c.store) (stays (length c.names) flags) c.links
+edges_staying c flags = map-filter (edge_of c.store) (stays (length c.names) flags) c.links
 
 module _ (flags : List Bool) (ranks : List ℕ) (is : ranks ≡ map (rank flags) (range_with_len 0 (length flags))) where
   pub number_is : (q : ℕ) → q < length flags → new_number ranks q ≡ rank flags q
@@ -63,7 +56,7 @@ starts_states c core n is p = All-filter p (λ q. q < n) c.starts (All-weaker (�
 -- the arcs of the links that are passable
 pub passable_links : (c : Core) (arcs : List (ℕ × ℕ)) (i : ℕ) → length c.links ≤ i → arcs ≡ map link_arc (filter (link_passable c) (take i c.links)) → arcs ≡ passable_arcs (automaton_of c)
 passable_links c arcs i end so_far =
-    so_far ∙ (ap (λ ls. map link_arc (filter (link_passable c) ls)) (take_all i c.links end) ∙ (sym (map-map arc_of (edge_of c.store) (filter (link_passable c) c.links)) ∙ ap (map arc_of) (map_filter (edge_of c.store) (is_passable (length c.names)) c.links)))
+    so_far ∙ (ap (λ ls. map link_arc (filter (link_passable c) ls)) (take_all i c.links end) ∙ (sym (map-map arc_of (edge_of c.store) (filter (link_passable c) c.links)) ∙ ap (map arc_of) (map-filter (edge_of c.store) (is_passable (length c.names)) c.links)))
 
 -- parts that make such an automaton
 pub record MakesOf (x : Automaton) (made : Core) : Type 0 where

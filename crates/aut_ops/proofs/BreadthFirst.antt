@@ -8,7 +8,7 @@ use Rattle.std.proofs.lemmas.List.Sums.{fold-append}
 use Rattle.std.proofs.lemmas.Grind.{flat_map-append}
 use Rattle.std.specs.List.{list_any}
 use Rattle.std.specs.Prelude.{flat_map}
-use Rattle.aut_base.proofs.Members.{found_there, none_there, Tells, there_cases, there_flat_map, there_found}
+use Rattle.aut_base.proofs.Members.{Tells, found_there, item_at, none_there, there_cases, there_flat_map, there_found}
 use Rattle.aut_ops.specs.BreadthFirst.{IsBreadthFirst, IsReached, Leads, once, with_new}
 
 -- what is reached
@@ -32,11 +32,6 @@ pub reached_keeps : {X : Type 0} (P : X → Type 0) (starts : List X) (next : X 
 reached_keeps P starts next first step y r = leads_keeps P next step r.start y r.way (first r.start r.is_start) r.leads
 
 -- lists with each item once
-
-item_at : {X : Type 0} (list : List X) (k : ℕ) → k < length list → (x : X) × (get_or list k x ≡ x)
-item_at [] k within = absurd (omega arith)
-item_at (x ∷ xs) zero within = (x, refl)
-item_at (x ∷ xs) (suc k) within = item_at xs k (omega (arith, within))
 
 module _ {X : Type 0} (same : X → X → Bool) (tells : Tells same) where
   -- an item that is there, and one that isn't

@@ -14,7 +14,7 @@ use Rattle.aut_base.specs.Formula.{Fin, FormulaTree, SetsBelow}
 use Rattle.aut_base.specs.Label.{True}
 use Rattle.aut_base.specs.Valuation.{truth_on}
 use Rattle.aut_core.specs.Surveys.{edges_from}
-use Rattle.aut_ops.proofs.FormulaSets.{sets_conj, sets_weaker}
+use Rattle.acc_forms.proofs.FormulaSets.{sets_conj, sets_weaker}
 use Rattle.aut_ops.proofs.Rows.{other_row, own_row, row_of, rows_before}
 use Rattle.aut_ops.specs.Completion.{filled_edges, gap_edges, is_met_unmarked, sink_marks, with_sink}
 use Rattle.aut_ops.specs.Labels.{is_never, no_label}

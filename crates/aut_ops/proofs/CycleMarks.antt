@@ -1,25 +1,14 @@
 -- What conditions see of the marks of a cycle.
-use Rattle.std.proofs.Common.{◌≡◌, ◌≢◌, ◌∙◌, ◌==◌, ℕ, ◌+◌, ◌<◌, ◌≤◌, ◌&&◌, ◌||◌, Bool, true, false, not, List, [], ◌∷◌, ◌++◌, All, ap, arith, get_or, inl, inr, map, refl, sym}
+use Rattle.std.proofs.Common.{◌≡◌, ◌≢◌, ◌∙◌, ◌==◌, ℕ, ◌+◌, ◌<◌, ◌≤◌, ◌&&◌, ◌||◌, true, false, not, List, [], ◌∷◌, ◌++◌, All, ap, arith, get_or, inl, inr, map, refl, sym}
 use Rattle.std.proofs.lemmas.Bool.{cases_eq, eq-eqb, ne_eqb}
 use Rattle.std.proofs.lemmas.List.Folds.{list_any-append, list_any_none}
-use Rattle.std.specs.List.{AllZip, list_all, list_any}
+use Rattle.std.specs.List.{AllZip}
 use Rattle.acc_forms.proofs.ShiftLaw.{is_in-lowered, met-shift}
 use Rattle.acc_forms.specs.Shift.{lowered, shift}
+use Rattle.aut_base.proofs.ListTests.{zip_all, zip_any}
 use Rattle.aut_base.proofs.Truth.{or-false}
 use Rattle.aut_base.specs.Formula.{EachSetsBelow, FormulaTree, FormulaTrees, SetsBelow, all_met, met, some_met}
 use Rattle.aut_base.specs.Marks.{is_in}
-
-zip_any : {X Y : Type 0} (R : X → Y → Type 0) (p : X → Bool) (q : Y → Bool) → ((x : X) (y : Y) → R x y → p x ≡ q y) → (xs : List X) (ys : List Y) → AllZip R xs ys → list_any p xs ≡ list_any q ys
-zip_any R p q same [] [] zip = refl
-zip_any R p q same [] (y ∷ ys) zip = absurd zip
-zip_any R p q same (x ∷ xs) [] zip = absurd zip
-zip_any R p q same (x ∷ xs) (y ∷ ys) zip = ap (λ b. b || list_any p xs) (same x y zip.0) ∙ ap (λ b. q y || b) (zip_any R p q same xs ys zip.1)
-
-zip_all : {X Y : Type 0} (R : X → Y → Type 0) (p : X → Bool) (q : Y → Bool) → ((x : X) (y : Y) → R x y → p x ≡ q y) → (xs : List X) (ys : List Y) → AllZip R xs ys → list_all p xs ≡ list_all q ys
-zip_all R p q same [] [] zip = refl
-zip_all R p q same [] (y ∷ ys) zip = absurd zip
-zip_all R p q same (x ∷ xs) [] zip = absurd zip
-zip_all R p q same (x ∷ xs) (y ∷ ys) zip = ap (λ b. b && list_all p xs) (same x y zip.0) ∙ ap (λ b. q y && b) (zip_all R p q same xs ys zip.1)
 
 -- the marks agree on the sets below n
 abbrev pub AgreeBelow : ℕ → List ℕ → List ℕ → Type 0

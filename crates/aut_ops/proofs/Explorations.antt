@@ -9,7 +9,7 @@ use Rattle.std.proofs.lemmas.Bool.{eqb-true}
 use Rattle.std.proofs.lemmas.Option.{get_or_from_slice_get, slice_get_within}
 use Rattle.std.specs.List.{AllZip}
 use Rattle.std.specs.Prelude.{flat_map}
-use Rattle.aut_base.proofs.Lists.{take-slice_get}
+use Rattle.aut_base.proofs.Lists.{map-flat_map, take-slice_get}
 use Rattle.aut_base.proofs.Members.{each_there, from_filter}
 use Rattle.aut_base.specs.Automaton.{Automaton}
 use Rattle.aut_core.proofs.Growth.{keeps_on}
@@ -36,10 +36,6 @@ pub record IsExplored (most : ℕ) (a b : Core) (old now : Stage) (done : ℕ) :
   pub within : done ≤ length now.pairs
   pub few : length now.pairs ≤ most
   pub longer : (rest : List (ℕ × ℕ)) × (now.pairs ≡ old.pairs ++ rest)
-
-map-flat_map : {X Y Z : Type 0} (g : Y → Z) (f : X → List Y) (xs : List X) → map g (flat_map f xs) ≡ flat_map (λ x. map g (f x)) xs
-map-flat_map g f [] = refl
-map-flat_map g f (x ∷ xs) = map-append g (f x) (flat_map f xs) ∙ ap (λ ys. map g (f x) ++ ys) (map-flat_map g f xs)
 
 module _ (most : ℕ) (a b : Core) (core_a : IsCore a) (core_b : IsCore b) (names : b.names ≡ a.names) (fits : a.sets + b.sets < 2 ^ 32) where
   abbrev first : Automaton

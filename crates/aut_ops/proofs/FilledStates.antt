@@ -1,12 +1,13 @@
 -- The links of a state, and its link to the sink behind them.
-use Rattle.std.proofs.Common.{◌≡◌, ◌∙◌, ◌↔◌, ◌==◌, ◌+◌, ℕ, zero, suc, Bool, true, false, cond, if◌then◌else◌, IsTrue, List, [], ◌∷◌, ◌++◌, All, ap, append-nil, append_assoc, arith, filter, length, map, subst, sym}
-use Rattle.std.proofs.lemmas.Grind.{flat_map-append}
+use Rattle.std.proofs.Common.{◌≡◌, ◌∙◌, ◌↔◌, ◌==◌, ◌+◌, ℕ, Bool, true, false, cond, if◌then◌else◌, IsTrue, List, [], ◌∷◌, ◌++◌, All, ap, append-nil, append_assoc, filter, length, map, subst, sym}
 use Rattle.std.proofs.lemmas.List.Elements.{All-filter, All-weaker}
 use Rattle.std.specs.List.{range_with_len}
 use Rattle.std.specs.Prelude.{flat_map}
+use Rattle.aut_base.proofs.Lists.{flat_map-range_more}
 use Rattle.aut_base.specs.Automaton.{TreeEdge}
 use Rattle.aut_base.specs.Formula.{FormulaTree}
 use Rattle.aut_ops.proofs.Completions.{loop}
+use Rattle.aut_core.proofs.Following.{StandFor, stand_append, stand_itself, stand_kept, stand_push}
 use Rattle.aut_core.proofs.Growth.{kept_edges}
 use Rattle.aut_core.specs.Core.{Core, IsCore, IsLinkOf, automaton_of, edge_of}
 use Rattle.aut_core.specs.Surveys.{edges_from}
@@ -15,10 +16,9 @@ use Rattle.label_guards.specs.Guards.{IsGuardOf, IsNeverMet}
 use Rattle.label_guards.specs.Store.{Has, Keeps, Store, label_in}
 use Rattle.label_guards.specs.declared.guard.Guard.{Guard}
 use Rattle.aut_ops.proofs.Labels.{label_always, never_is}
-use Rattle.aut_ops.proofs.Linked.{edges_filter, stand_append, stand_itself, stand_kept, stand_push}
+use Rattle.aut_ops.proofs.Linked.{edges_filter}
 use Rattle.aut_ops.specs.Completion.{filled_edges, gap_edges, sink_marks, with_sink}
 use Rattle.aut_ops.specs.Labels.{is_never, no_label}
-use Rattle.aut_ops.specs.inner.Linked.{StandFor}
 
 -- whether there are letters that meet no edge, as the guard of these letters tells
 pub gap_is : (t : Store) (gap : Guard) (n : ℕ) (es : List TreeEdge) (b : Bool) → (IsTrue b ↔ IsNeverMet t gap) → t.names ≡ n → label_in t gap ≡ no_label n es → is_never n (no_label n es) ≡ b
@@ -40,18 +40,6 @@ with_gap t links new gap n state sink marks before es some so_far has label unma
     let e : edge_of t (record { from = state; guard = gap; to = sink; marks = marks }) ≡ edge = λ i. record { from = state; label = label i; to = sink; marks = unmarked i } in
     subst (StandFor t new) (append_assoc before es (edge ∷ []) ∙ ap (λ fs. before ++ (es ++ fs)) (sym one)) (stand_push t links new (record { from = state; guard = gap; to = sink; marks = marks }) (before ++ es) edge so_far has e pushed)
 
-pub range_push : (i n : ℕ) → range_with_len i (n + 1) ≡ range_with_len i n ++ (i + n) ∷ []
-range_push i zero = let e : i ≡ i + 0 = omega arith in ap (λ m. m ∷ []) e
-range_push i (suc n) =
-    let e : suc n + 1 ≡ suc (n + 1) = omega arith in
-    let f : i + 1 + n ≡ i + suc n = omega arith in
-    ap (range_with_len i) e ∙ ap (λ ms. i ∷ ms) (range_push (i + 1) n ∙ ap (λ m. range_with_len (i + 1) n ++ m ∷ []) f)
-
-pub flat_map_push : {X : Type 0} (f : ℕ → List X) (q : ℕ) → flat_map f (range_with_len 0 (q + 1)) ≡ flat_map f (range_with_len 0 q) ++ f q
-flat_map_push f q =
-    let e : 0 + q ≡ q = omega arith in
-    ap (flat_map f) (range_push 0 q) ∙ (flat_map-append f (range_with_len 0 q) ((0 + q) ∷ []) ∙ (ap (λ m. flat_map f (range_with_len 0 q) ++ flat_map f (m ∷ [])) e ∙ ap (λ ys. flat_map f (range_with_len 0 q) ++ ys) (append-nil (f q))))
-
 pub links_have : (a : Core) → IsCore a → All (λ l. Has a.store l.guard) a.links
 links_have a core = All-weaker (IsLinkOf a) (λ (l : Link). Has a.store l.guard) (λ l h. h.guard) a.links core.parts.links
 
@@ -71,7 +59,7 @@ state_more a s t links new row q sink at core keeps is so_far filled =
     let names : s.names ≡ length a.names = keeps.names ∙ core.parts.store_names in
     let es : map (edge_of s) row ≡ edges_from q (automaton_of a).edges = row_edges a s q row core keeps is in
     let whole : map (edge_of s) row ++ gap_edges s.names q sink (map (edge_of s) row) ≡ filled_edges (automaton_of a) q = λ i. es i ++ gap_edges (names i) q (at i) (es i) in
-    subst (StandFor t new) (ap (λ fs. fs ++ (map (edge_of s) row ++ gap_edges s.names q sink (map (edge_of s) row))) so_far.edges ∙ (ap (λ fs. flat_map (filled_edges (automaton_of a)) (range_with_len 0 q) ++ fs) whole ∙ sym (flat_map_push (filled_edges (automaton_of a)) q))) filled
+    subst (StandFor t new) (ap (λ fs. fs ++ (map (edge_of s) row ++ gap_edges s.names q sink (map (edge_of s) row))) so_far.edges ∙ (ap (λ fs. flat_map (filled_edges (automaton_of a)) (range_with_len 0 q) ++ fs) whole ∙ sym (flat_map-range_more (filled_edges (automaton_of a)) q))) filled
 
 -- the parts of an automaton with a sink
 pub record IsSunk (a c : Core) : Type 0 where

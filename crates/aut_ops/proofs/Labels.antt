@@ -1,9 +1,10 @@
 -- What labels say that are put together.
 use Rattle.std.proofs.Common.{◌≡◌, ◌≢◌, ◌∙◌, ◌↔◌, ◌⊎◌, ◌+◌, ◌++◌, ◌<◌, ℕ, zero, suc, Bool, true, false, not, ◌&&◌, ◌||◌, IsTrue, if◌then◌else◌, List, [], ◌∷◌, All, AllPairs, Contains, ap, arith, inl, inr, length, map, refl, sym}
 use Rattle.std.proofs.lemmas.Bool.{cases_Bool, false≢true}
-use Rattle.std.specs.List.{list_all, list_any, slice_index_or}
+use Rattle.std.specs.List.{list_any, slice_index_or}
 use Rattle.aut_base.proofs.CanonicalTruth.{label_of-same, truth-label_of, truth_below}
-use Rattle.aut_base.proofs.Members.{first_there, from_flat_map, later_there, none_there, there_cases}
+use Rattle.aut_base.proofs.ListTests.{one_passes}
+use Rattle.aut_base.proofs.Members.{from_flat_map, none_there, there_cases}
 use Rattle.aut_base.proofs.ValuationLetters.{letter_of_holds}
 use Rattle.aut_base.proofs.ValuationLists.{all_valuations, each_valuation, holds_in-valuation_of, length-valuation_of}
 use Rattle.aut_base.specs.Automaton.{TreeEdge}
@@ -69,13 +70,6 @@ valuation_long (suc n) v there =
         | inr none ↦ absurd (none_there v none)
       ]
     ]
-
-one_passes : {X : Type 0} (p : X → Bool) (xs : List X) → list_all (λ x. not (p x)) xs ≡ false → (x : X) × Contains xs x × (p x ≡ true)
-one_passes p [] e = absurd (false≢true (sym e))
-one_passes p (x ∷ xs) e = elim (cases_Bool (p x)) [
-  | inl one ↦ (x, first_there x xs, one)
-  | inr none ↦ (let rest = one_passes p xs (sym (ap (λ b. not b && list_all (λ y. not (p y)) xs) none) ∙ e) in (rest.0, later_there x xs rest.0 rest.1, rest.2))
-]
 
 -- a label that isn't so is met by some letter
 pub some_letter : (names : List (List ℕ)) (t : LabelTree) → AllPairs (λ a b. a ≢ b) names → AllBelow (length names) t → is_never (length names) t ≡ false → (v : List Bool) × (truth (holds_at names (letter_of names v)) t ≡ true)

@@ -1,5 +1,5 @@
 -- The pairs of a product are determined, and are those to which letters lead.
-use Rattle.std.proofs.Common.{◌≡◌, ◌∙◌, ◌&&◌, ℕ, Bool, true, false, List, [], ◌∷◌, ◌++◌, Contains, ap, arith, length, refl, subst, sym}
+use Rattle.std.proofs.Common.{◌≡◌, ◌∙◌, ◌&&◌, ℕ, true, List, [], ◌∷◌, ◌++◌, Contains, ap, arith, length, refl, subst, sym}
 use Rattle.std.proofs.lemmas.Bool.{and_from, and_parts}
 use Rattle.std.proofs.lemmas.List.Elements.{All-contains}
 use Rattle.std.proofs.lemmas.Map.Made.{IsDistinct-from_AllPairs, is_member-Decides, length-le_from_is_member}
@@ -7,6 +7,7 @@ use Rattle.std.specs.Cmp.{IsEquivalence}
 use Rattle.aut_base.proofs.CanonicalBelow.{label_of_below}
 use Rattle.aut_base.proofs.Members.{from_map, there_map}
 use Rattle.aut_base.proofs.Paths.{path_join}
+use Rattle.aut_base.proofs.Truth.{same_truth}
 use Rattle.aut_base.specs.Acceptance.{IsPath}
 use Rattle.aut_base.specs.Automaton.{Automaton, IsEdgeOf, IsWellFormed, TreeEdge}
 use Rattle.aut_base.specs.Label.{AllBelow, holds_at, truth}
@@ -31,11 +32,6 @@ pairs_are_determined a b pairs listed = record {
 pub products_are_determined : ProductsAreDetermined
 products_are_determined join a b made other is also =
     is.is ∙ (ap (λ pairs. product_on join pairs a b) (listed_once same_pair pair_tells (start_pairs a b) (next_pairs a b) is.pairs also.pairs is.in_order also.in_order) ∙ sym also.is)
-
-same_truth : (p q : Bool) → (p ≡ true → q ≡ true) → (q ≡ true → p ≡ true) → p ≡ q
-same_truth true q f g = sym (f refl)
-same_truth false true f g = g refl
-same_truth false false f g = refl
 
 pair_laws : IsEquivalence same_pair
 pair_laws = record {

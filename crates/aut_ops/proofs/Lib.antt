@@ -10,7 +10,6 @@ pub mod Explorations
 pub mod Faults
 pub mod FilledStates
 pub mod FlagLaws
-pub mod FormulaSets
 pub mod JointEdges
 pub mod Labels
 pub mod Languages

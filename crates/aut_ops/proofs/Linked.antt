@@ -1,7 +1,6 @@
 -- Links that stand for edges, and the guards that are made of theirs.
-use Rattle.std.proofs.Common.{◌≡◌, ◌∙◌, ◌==◌, ◌<◌, ◌≤◌, ◌+◌, ◌||◌, ℕ, zero, suc, Bool, true, false, cond, not, List, [], ◌∷◌, ◌++◌, All, ap, arith, filter, get_or, length, map, refl, subst, sym, take}
+use Rattle.std.proofs.Common.{◌≡◌, ◌∙◌, ◌==◌, ◌<◌, ◌≤◌, ◌+◌, ◌||◌, ℕ, Bool, true, false, cond, not, List, [], ◌∷◌, ◌++◌, All, ap, arith, filter, get_or, length, map, refl, subst, sym, take}
 use Rattle.std.proofs.lemmas.List.{map-append, take_all}
-use Rattle.std.proofs.lemmas.List.Elements.{All-append, All-weaker}
 use Rattle.std.proofs.lemmas.List.Folds.{list_any-append}
 use Rattle.std.specs.List.{list_any}
 use Rattle.aut_base.proofs.Lists.{take-push}
@@ -10,7 +9,6 @@ use Rattle.aut_base.specs.Automaton.{Automaton, IsWellFormed, TreeEdge}
 use Rattle.aut_base.specs.declared.limit.TheConstants.{MOST_NAMES}
 use Rattle.aut_base.specs.Label.{truth}
 use Rattle.aut_base.specs.Valuation.{holds_in, truth_on}
-use Rattle.aut_core.proofs.Growth.{kept_edges}
 use Rattle.aut_core.proofs.Made.{parts_from}
 use Rattle.aut_core.specs.Core.{AreParts, Core, automaton_of, edge_of}
 use Rattle.aut_core.specs.Surveys.{edges_from}
@@ -20,35 +18,6 @@ use Rattle.label_guards.specs.Store.{Has, Keeps, Store, label_in}
 use Rattle.label_guards.specs.declared.guard.Guard.{Guard}
 use Rattle.aut_ops.proofs.Labels.{label_from}
 use Rattle.aut_ops.specs.Labels.{no_label}
-use Rattle.aut_ops.specs.inner.Linked.{StandFor}
-
-pub stand_itself : (s : Store) (links : List Link) → All (λ l. Has s l.guard) links → StandFor s links (map (edge_of s) links)
-stand_itself s links has = record { has = has; edges = refl }
-
-pub stand_none : (s : Store) → StandFor s [] []
-stand_none s = record { has = λ k d within. absurd (omega (arith, within)); edges = refl }
-
-pub stand_kept : (s t : Store) (links : List Link) (es : List TreeEdge) → Keeps s t → StandFor s links es → StandFor t links es
-stand_kept s t links es keeps so_far = record {
-  has = All-weaker (λ (l : Link). Has s l.guard) (λ (l : Link). Has t l.guard) (λ l h. keeps.has l.guard h) links so_far.has;
-  edges = kept_edges links keeps so_far.has ∙ so_far.edges;
-}
-
-pub stand_append : (s : Store) (links more new : List Link) (es fs : List TreeEdge) → StandFor s links es → StandFor s more fs → new ≡ links ++ more → StandFor s new (es ++ fs)
-stand_append s links more new es fs first second is = record {
-  has = subst (All (λ (l : Link). Has s l.guard)) (sym is) (All-append (λ (l : Link). Has s l.guard) links more first.has second.has);
-  edges = ap (map (edge_of s)) is ∙ (map-append (edge_of s) links more ∙ (ap (λ es. es ++ map (edge_of s) more) first.edges ∙ ap (λ fs. es ++ fs) second.edges));
-}
-
-pub stand_one : (s : Store) (l : Link) (e : TreeEdge) → Has s l.guard → edge_of s l ≡ e → StandFor s (l ∷ []) (e ∷ [])
-stand_one s l e has is = record { has = only; edges = ap (λ (d : TreeEdge). d ∷ []) is }
-  where
-    only : All (λ (m : Link). Has s m.guard) (l ∷ [])
-    only zero d within = has
-    only (suc k) d within = absurd (omega (arith, within))
-
-pub stand_push : (s : Store) (links new : List Link) (l : Link) (es : List TreeEdge) (e : TreeEdge) → StandFor s links es → Has s l.guard → edge_of s l ≡ e → new ≡ links ++ l ∷ [] → StandFor s new (es ++ e ∷ [])
-stand_push s links new l es e so_far has is pushed = stand_append s links (l ∷ []) new es (e ∷ []) so_far (stand_one s l e has is) pushed
 
 -- the links of a state are its edges
 pub edges_filter : (s : Store) (q : ℕ) (links : List Link) → edges_from q (map (edge_of s) links) ≡ map (edge_of s) (filter (λ l. l.from == q) links)
@@ -86,8 +55,3 @@ pub parts_for : (c : Core) (x : Automaton) → automaton_of c ≡ x → IsWellFo
 parts_for c x is formed few names has =
     let same : length c.names ≡ length x.names = ap (λ (y : Automaton). length y.names) is in
     parts_from c (subst IsWellFormed (sym is) formed) (omega (arith, few, same)) (names ∙ sym same) has
-
--- one link more, of a list whose links say which edges
-pub stand_more : {X : Type 0} (f : X → TreeEdge) (xs : List X) (k : ℕ) (x : X) (s t : Store) (old new : List Link) (l : Link) → k < length xs → x ≡ get_or xs k x → StandFor s old (map f (take k xs)) → Keeps s t → Has t l.guard → edge_of t l ≡ f x → new ≡ old ++ l ∷ [] → StandFor t new (map f (take (k + 1) xs))
-stand_more f xs k x s t old new l within is so_far keeps has e pushed =
-    subst (StandFor t new) (sym (map-append f (take k xs) (x ∷ [])) ∙ sym (ap (map f) (take-push xs k x within is))) (stand_push t old new l (map f (take k xs)) (f x) (stand_kept s t old (map f (take k xs)) keeps so_far) has e pushed)

@@ -5,9 +5,10 @@ use Rattle.std.proofs.lemmas.List.{map-append}
 use Rattle.std.proofs.lemmas.List.Elements.{Contains-append_left}
 use Rattle.std.proofs.lemmas.List.Sums.{fold-append}
 use Rattle.std.specs.Prelude.{flat_map}
+use Rattle.aut_base.proofs.ListTests.{zip_append}
 use Rattle.aut_base.proofs.Lists.{split-at, take-push}
 use Rattle.aut_ops.proofs.BreadthFirst.{with_new_longer}
-use Rattle.aut_ops.proofs.Pairings.{beyond_then, beyond_wider, longer_at, zip_append}
+use Rattle.aut_ops.proofs.Pairings.{beyond_then, beyond_wider, longer_at}
 use Rattle.aut_ops.proofs.Places.{pair_tells}
 use Rattle.aut_ops.specs.BreadthFirst.{with_new}
 use Rattle.aut_ops.specs.Products.{same_pair}

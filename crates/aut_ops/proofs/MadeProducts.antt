@@ -12,7 +12,7 @@ use Rattle.aut_core.specs.Core.{AreParts, Core, IsCore, automaton_of, edge_of}
 use Rattle.aut_core.specs.OtherNames.{AcceptTheSame, over_names}
 use Rattle.aut_core.specs.declared.link.Link.{Link}
 use Rattle.label_guards.specs.Store.{Keeps, Store}
-use Rattle.aut_ops.proofs.FormulaSets.{sets_conj, sets_disj}
+use Rattle.acc_forms.proofs.FormulaSets.{sets_conj, sets_disj}
 use Rattle.aut_ops.proofs.JointEdges.{pairs_differ}
 use Rattle.aut_ops.proofs.Languages.{both_like, either_like}
 use Rattle.aut_ops.proofs.LassoRuns.{accepts_of, run_of}

@@ -7,10 +7,11 @@ use Rattle.std.proofs.lemmas.Option.{slice_get_within}
 use Rattle.std.specs.List.{AllZip}
 use Rattle.std.proofs.lemmas.Grind.{flat_map-append}
 use Rattle.std.specs.Prelude.{flat_map}
+use Rattle.aut_base.proofs.ListTests.{zip_append}
 use Rattle.aut_base.proofs.Lists.{slice_get-append_left, take-push}
 use Rattle.aut_base.proofs.Members.{each_there}
 use Rattle.aut_base.specs.Automaton.{TreeEdge}
-use Rattle.aut_core.proofs.Growth.{kept_edges, keeps_none, keeps_on}
+use Rattle.aut_core.proofs.Growth.{kept_edges, keeps_on}
 use Rattle.aut_core.specs.Core.{edge_of}
 use Rattle.aut_core.specs.declared.link.Link.{Link}
 use Rattle.label_guards.specs.Guards.{IsGuardOf, IsNeverMet, truth_in}
@@ -41,12 +42,6 @@ numbered_longer old new rest (e ∷ es) (j ∷ js) is zip = (
   numbered_longer old new rest es js is zip.1,
 )
 
-pub zip_append : {X Y : Type 0} (R : X → Y → Type 0) (xs us : List X) (ys vs : List Y) → AllZip R xs ys → AllZip R us vs → AllZip R (xs ++ us) (ys ++ vs)
-zip_append R [] us [] vs first second = second
-zip_append R [] us (y ∷ ys) vs first second = absurd first
-zip_append R (x ∷ xs) us [] vs first second = absurd first
-zip_append R (x ∷ xs) us (y ∷ ys) vs first second = (first.0, zip_append R xs us ys vs first.1 second)
-
 -- nothing but the store grows
 pub adds_nothing : (s t : Store) (pairs : List (ℕ × ℕ)) (links : List Link) → Keeps s t → Adds (record { store = s; pairs = pairs; links = links }) (record { store = t; pairs = pairs; links = links }) []
 adds_nothing s t pairs links keeps = record {
@@ -57,9 +52,6 @@ adds_nothing s t pairs links keeps = record {
     edges = subst (AllZip (IsNumbered pairs) (map (edge_of t) links)) (sym (append-nil before)) (subst (λ es. AllZip (IsNumbered pairs) es before) (sym (kept_edges links keeps are.has)) are.edges);
   };
 }
-
-pub adds_itself : (s : Stage) → Adds s s []
-adds_itself s = adds_nothing s.store s.store s.pairs s.links (keeps_none s.store)
 
 -- one edge, whose end is listed now
 pub adds_one : (s t : Store) (pairs more : List (ℕ × ℕ)) (links new : List Link) (l : Link) (j : JointEdge) → Keeps s t → more ≡ with_new same_pair pairs j.to → new ≡ links ++ l ∷ [] → Has t l.guard → slice_get pairs l.from ≡ Some j.from → slice_get more l.to ≡ Some j.to → label_in t l.guard ≡ j.label → l.marks ≡ j.marks → Adds (record { store = s; pairs = pairs; links = links }) (record { store = t; pairs = more; links = new }) (j ∷ [])

@@ -4,8 +4,7 @@ use Rattle.std.proofs.lemmas.Bool.{and_from, and_parts, eq-eqb, eqb-true, false_
 use Rattle.std.proofs.lemmas.List.Sums.{position_or_len_is}
 use Rattle.std.proofs.lemmas.Option.{get_or_from_slice_get, slice_get_within}
 use Rattle.std.specs.List.{position_or_len}
-use Rattle.aut_base.proofs.Lists.{slice_get-at}
-use Rattle.aut_base.proofs.Members.{Tells}
+use Rattle.aut_base.proofs.Members.{Tells, there_at}
 use Rattle.aut_ops.specs.Products.{same_pair}
 
 pub pair_tells : Tells same_pair
@@ -13,9 +12,6 @@ pair_tells p q = (
   (λ e. let parts = and_parts (p.0 == q.0) (p.1 == q.1) e in let one = eqb-true p.0 q.0 parts.0 in let two = eqb-true p.1 q.1 parts.1 in λ i. (one i, two i)),
   (λ e. and_from (p.0 == q.0) (p.1 == q.1) (eq-eqb p.0 q.0 (ap (λ (r : ℕ × ℕ). r.0) e)) (eq-eqb p.1 q.1 (ap (λ (r : ℕ × ℕ). r.1) e))),
 )
-
-pub there_at : {X : Type 0} (xs : List X) (x : X) → Contains xs x → (k : ℕ) × (slice_get xs k ≡ Some x)
-there_at xs x there = (there.0, slice_get-at xs there.0 x there.1 (sym there.2))
 
 module _ {X : Type 0} (same : X → X → Bool) (tells : Tells same) (xs : List X) (differ : AllPairs (λ x y. x ≢ y) xs) where
   pub place_is : (k : ℕ) (x : X) → slice_get xs k ≡ Some x → position_or_len (same x) xs ≡ k

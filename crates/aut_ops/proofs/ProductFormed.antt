@@ -14,7 +14,7 @@ use Rattle.aut_base.specs.Automaton.{Automaton, IsEdgeOf, IsWellFormed, TreeEdge
 use Rattle.aut_base.specs.Formula.{FormulaTree, SetsBelow}
 use Rattle.aut_base.specs.Label.{AllBelow}
 use Rattle.aut_base.specs.Valuation.{truth_on}
-use Rattle.aut_ops.proofs.FormulaSets.{sets_shift, sets_weaker}
+use Rattle.acc_forms.proofs.FormulaSets.{sets_shift, sets_weaker}
 use Rattle.aut_ops.proofs.JointEdges.{edge_of, from_start, made_of, pairs_differ, start_there}
 use Rattle.aut_ops.proofs.Places.{pair_tells, place_is, place_there}
 use Rattle.aut_ops.specs.Products.{ArePairs, JointEdge, joint_edges, numbered, product_on, same_pair, start_pairs}

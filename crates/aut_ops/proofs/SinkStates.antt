@@ -1,5 +1,5 @@
 -- An automaton with a sink is complete, and deterministic where it was before.
-use Rattle.std.proofs.Common.{◌≡◌, ◌∙◌, ◌⊎◌, ◌==◌, ◌<◌, ◌≤◌, ℕ, zero, Bool, true, false, cond, not, List, [], ◌∷◌, ◌++◌, All, AllPairs, Contains, ap, arith, inl, inr, length, refl, subst, sym}
+use Rattle.std.proofs.Common.{◌≡◌, ◌∙◌, ◌⊎◌, ◌==◌, ◌<◌, ◌≤◌, ℕ, Bool, true, false, cond, not, List, [], ◌∷◌, ◌++◌, All, AllPairs, Contains, ap, arith, inl, inr, length, refl, subst, sym}
 use Rattle.std.proofs.lemmas.Bool.{and_from, and_parts, cases_Bool, cases_lt, eq-eqb, eqb-false, eqb-true, false≢true, ne_eqb}
 use Rattle.std.proofs.lemmas.List.{append-nil}
 use Rattle.std.proofs.lemmas.List.Elements.{All-filter}
@@ -9,7 +9,8 @@ use Rattle.std.proofs.lemmas.List.Quantifiers.{all_pairs_push}
 use Rattle.std.specs.List.{list_all, list_any, range_with_len}
 use Rattle.aut_base.proofs.CanonicalAutomata.{labels_below}
 use Rattle.aut_base.proofs.CanonicalBelow.{label_of_below}
-use Rattle.aut_base.proofs.Members.{from_filter, from_range, later_there, none_there, there_cases, there_filter, there_range_zero}
+use Rattle.aut_base.proofs.ListTests.{passes_each}
+use Rattle.aut_base.proofs.Members.{each_from, from_filter, from_range, there_filter, there_range_zero}
 use Rattle.aut_base.proofs.Truth.{true_from_not}
 use Rattle.aut_base.specs.Automaton.{Automaton, IsWellFormed, TreeEdge}
 use Rattle.aut_base.specs.Label.{AllBelow, holds_at}
@@ -24,20 +25,6 @@ use Rattle.aut_ops.proofs.Labels.{at_letter, never_each, never_false, not_never,
 use Rattle.aut_ops.proofs.SinkRuns.{sink_keeps_language}
 use Rattle.aut_ops.specs.Completion.{completed, lacks_nothing, with_sink}
 use Rattle.aut_ops.specs.Labels.{is_never, no_label}
-
--- whether every item passes, place by place
-pub each_passes : {X : Type 0} (p : X → Bool) (xs : List X) → ((x : X) → Contains xs x → p x ≡ true) → list_all p xs ≡ true
-each_passes p [] h = refl
-each_passes p (x ∷ xs) h = and_from (p x) (list_all p xs) (h x (zero, omega arith, refl)) (each_passes p xs (λ y there. h y (later_there x xs y there)))
-
-pub passes_each : {X : Type 0} (p : X → Bool) (xs : List X) → list_all p xs ≡ true → (x : X) → Contains xs x → p x ≡ true
-passes_each p [] all x there = absurd (none_there x there)
-passes_each p (y ∷ xs) all x there =
-    let parts = and_parts (p y) (list_all p xs) all in
-    elim (there_cases y xs x there) [
-      | inl here ↦ sym (ap p here) ∙ parts.0
-      | inr later ↦ passes_each p xs parts.1 x later
-    ]
 
 module _ (a : Automaton) (formed : IsWellFormed a) where
   abbrev n : ℕ
@@ -97,7 +84,7 @@ module _ (a : Automaton) (formed : IsWellFormed a) where
 
   complete_lacks_nothing : IsComplete a → lacks_nothing a ≡ true
   complete_lacks_nothing is = and_from (not (length a.starts == 0)) _ (ap not (ne_eqb (length a.starts) 0 (λ e. absurd (omega (arith, is.start, e)))))
-      (each_passes (λ q. is_never n (no_label n (row q))) (range_with_len 0 a.states) (λ q there.
+      (each_from (λ q. is_never n (no_label n (row q))) (range_with_len 0 a.states) (λ q there.
       never_each n (no_label n (row q)) (λ v long.
       sym (at_letter a.names (no_label n (row q)) v formed.names_differ (gap_below q) long)
       ∙ (gap_truth q (letter_of a.names v) ∙ ap not (row_met q (letter_of a.names v) (is.edges q (omega (arith, from_range 0 a.states q there)) (letter_of a.names v)))))))

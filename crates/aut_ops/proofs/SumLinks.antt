@@ -6,14 +6,15 @@ use Rattle.acc_forms.specs.Joined.{conj, disj}
 use Rattle.acc_forms.specs.Shift.{shift}
 use Rattle.aut_base.specs.Automaton.{TreeEdge}
 use Rattle.aut_base.specs.Formula.{Fin, FormulaTree, Inf}
+use Rattle.aut_core.proofs.Following.{StandFor, stand_append, stand_itself, stand_kept}
 use Rattle.aut_core.specs.Core.{AreParts, Core, IsCore, automaton_of, edge_of}
 use Rattle.aut_core.specs.declared.link.Link.{Link}
 use Rattle.label_guards.specs.Store.{Has, Keeps, Store}
 use Rattle.aut_ops.proofs.FilledStates.{links_have}
-use Rattle.aut_ops.proofs.Linked.{parts_for, stand_append, stand_itself, stand_kept}
+use Rattle.aut_ops.proofs.Linked.{parts_for}
 use Rattle.aut_ops.proofs.SumRuns.{sum_formed}
 use Rattle.aut_ops.specs.Sums.{moved_edge, side_by_side}
-use Rattle.aut_ops.specs.inner.Linked.{StandFor, moved_link}
+use Rattle.aut_ops.specs.inner.Linked.{moved_link}
 
 pub stand_moved : (s : Store) (states sets fresh : ℕ) (links : List Link) (es : List TreeEdge) → StandFor s links es → StandFor s (map (moved_link states sets fresh) links) (map (moved_edge states sets fresh) es)
 stand_moved s states sets fresh links es so_far = record {

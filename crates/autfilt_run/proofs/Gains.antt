@@ -1,5 +1,5 @@
 -- What a sink has gained, piece by piece.
-use Rattle.std.proofs.Common.{◌≡◌, ℕ, ◌+◌, List, [], ◌++◌, length, take, Option, Some, None, Result, Ok, Err, OnErr, refl, sym, ap, ◌∙◌, subst, inl, inr, append_assoc, append-nil, arith}
+use Rattle.std.proofs.Common.{◌≡◌, ℕ, ◌+◌, List, [], ◌++◌, length, take, Option, Some, None, refl, sym, ap, ◌∙◌, subst, inl, inr, append_assoc, append-nil, arith}
 use Rattle.std.proofs.lemmas.Bool.{cases_lt}
 use Rattle.std.proofs.lemmas.List.{take_all, take-append-le}
 use Rattle.std.proofs.Math.Seq.{take-append-add}
@@ -45,8 +45,3 @@ second (Some old) between after p q a b =
     let P : Option (List ℕ) → Type 0 = λ x. GainsPrefix x after q in
     let b' = subst P a b in
     (length p + b'.0, b'.1 ∙ ap Some (append_assoc old p (take b'.0 q)) ∙ ap (λ x. Some (old ++ x)) (sym (take-append-add p q b'.0)))
-
--- what holds at every answer
-pub at_err : {A E : Type 0} (result : Result A E) (P : Type 0) → P → OnErr result P
-at_err (Ok a) P p = tt
-at_err (Err e) P p = p

@@ -7,23 +7,14 @@ use Rattle.aut_base.specs.Acceptance.{Accepts}
 use Rattle.aut_base.specs.Automaton.{Automaton}
 use Rattle.aut_base.specs.CanonicalLabel.{canonical}
 use Rattle.aut_base.specs.Word.{NameSet}
-use Rattle.aut_base.specs.declared.limit.TheConstants.{MOST_SETS, MOST_STATES}
+use Rattle.aut_base.specs.declared.limit.TheConstants.{MOST_SETS}
 use Rattle.autfilt_run.specs.inner.Taking.{IsReadAs}
 use Rattle.hoa_parser.specs.Raw.{Written}
-use Rattle.hoa_reader.specs.Counts.{PassesNone, Sets, States, count_of}
+use Rattle.hoa_reader.specs.Counts.{PassesNone, Sets, count_of}
 use Rattle.hoa_reader.specs.Described as reader
-use Rattle.plan_meaning.specs.Operands.{IsOfReadSize}
-
-states_of : (w : Written) → PassesNone w → (reader.described w).states ≤ MOST_STATES
-states_of w within = ltb-false MOST_STATES (count_of States w) within.1.1.0
 
 sets_of : (w : Written) → PassesNone w → (reader.described w).sets ≤ MOST_SETS
 sets_of w within = ltb-false MOST_SETS (count_of Sets w) within.1.0
-
-pub is_of_read_size : (w : Written) (core described : Automaton) → core ≡ canonical described → described ≡ reader.described w → PassesNone w → IsOfReadSize core
-is_of_read_size w core described is same within =
-    let all : core ≡ canonical (reader.described w) = is ∙ ap canonical same in
-    subst IsOfReadSize (sym all) (record { states = states_of w within; sets = sets_of w within })
 
 -- it is the one in canonical form
 pub core_is : (w : Written) (core : Automaton) → IsReadAs w core → core ≡ canonical (reader.described w)

@@ -1,30 +1,19 @@
 -- Edges between levels that are added one by one, and the parts of the automaton that is made of them.
-use Rattle.std.proofs.Common.{◌≡◌, ◌∙◌, ◌+◌, ◌*◌, ◌<◌, ◌≤◌, ℕ, false, List, [], ◌∷◌, ◌++◌, All, ap, arith, flat_map, get_or, length, map, subst, sym, take, Some, slice_get}
+use Rattle.std.proofs.Common.{◌≡◌, ◌∙◌, ◌+◌, ◌*◌, ◌<◌, ◌≤◌, ℕ, false, List, ◌∷◌, ◌++◌, All, ap, arith, flat_map, length, map, subst, sym}
 use Rattle.std.specs.List.{range_with_len}
-use Rattle.std.proofs.lemmas.List.{append-nil, map-append}
-use Rattle.std.proofs.lemmas.List.Concat.{flat_map-append}
-use Rattle.aut_base.proofs.Lists.{take-slice_get}
+use Rattle.aut_base.proofs.Lists.{flat_map-range_more}
 use Rattle.aut_base.specs.Automaton.{IsWellFormed}
-use Rattle.aut_base.specs.Formula.{FormulaTree}
 use Rattle.aut_core.proofs.Made.{parts_from}
 use Rattle.aut_core.specs.Core.{AreParts, Core, IsCore, automaton_of, edge_of}
 use Rattle.aut_core.specs.Surveys.{edges_from}
 use Rattle.aut_core.specs.declared.link.Link.{Link}
 use Rattle.label_guards.specs.Store.{Has, Store}
-use Rattle.fin_removal.proofs.LinkSteps.{map_on, range_more}
 use Rattle.degeneralise.specs.Buchi.{Watch, level_edges, levelled, levels, state_at}
 use Rattle.degeneralise.proofs.LevelledWhole.{levelled_well_formed}
-
-pub map_map_on : {X Y Z : Type 0} (f : Y → Z) (g : X → Y) (xs : List X) (i : ℕ) (x : X) → i < length xs → x ≡ get_or xs i x → map f (map g (take i xs)) ++ f (g x) ∷ [] ≡ map f (map g (take (i + 1) xs))
-map_map_on f g xs i x within is = sym (map-append f (map g (take i xs)) (g x ∷ [])) ∙ ap (map f) (map_on g xs i x within is)
+use Rattle.aut_base.specs.Formula.{FormulaTree}
 
 pub flat_range_on : {Y : Type 0} (f : ℕ → List Y) (n : ℕ) → flat_map f (range_with_len 0 n) ++ f n ≡ flat_map f (range_with_len 0 (n + 1))
-flat_range_on f n =
-    let z : 0 + n ≡ n = omega arith in
-    sym (ap (flat_map f) (range_more 0 n) ∙ (flat_map-append f (range_with_len 0 n) ((0 + n) ∷ []) ∙ (ap (λ ys. flat_map f (range_with_len 0 n) ++ ys) (append-nil (f (0 + n))) ∙ ap (λ m. flat_map f (range_with_len 0 n) ++ f m) z)))
-
-pub flat_map_on : {X Y : Type 0} (f : X → List Y) (xs : List X) (i : ℕ) (x : X) → slice_get xs i ≡ Some x → flat_map f (take i xs) ++ f x ≡ flat_map f (take (i + 1) xs)
-flat_map_on f xs i x is = sym (ap (flat_map f) (take-slice_get xs i x is) ∙ (flat_map-append f (take i xs) (x ∷ []) ∙ ap (λ ys. flat_map f (take i xs) ++ ys) (append-nil (f x))))
+flat_range_on f n = sym (flat_map-range_more f n)
 
 pub record AreLevelledParts (k : ℕ) (watch : ℕ → Watch) (old new : Core) : Type 0 where
   pub names : new.names ≡ old.names

@@ -41,10 +41,6 @@ on_passed ls level es met =
     let found = any_found (λ (e : TreeEdge). meets_at ls level e.marks) es met in
     record { marks = found.0.marks; there = there_map (λ (e : TreeEdge). e.marks) es found.0 found.1; meets = found.2 }
 
--- the levels at which rounds of a cycle begin
-rounds_at : List Literal → ℕ → List TreeEdge → ℕ → ℕ
-rounds_at ls level es i = turn ls level (copies i es)
-
 round_below : (ls : List Literal) (level : ℕ) (es : List TreeEdge) → level < literal_places ls → turn ls level es < literal_places ls
 round_below ls level [] below = below
 round_below ls level (e ∷ es) below = round_below ls (level_after (Some ls) level e.marks) es (turn_below ls level e.marks below)

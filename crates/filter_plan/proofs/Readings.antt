@@ -1,5 +1,5 @@
 -- What a reading of an option's values leaves out.
-use Rattle.std.proofs.Common.{◌≡◌, ◌<◌, ℕ, List, [], ◌∷◌, Option, Some, None, arith, length, subst, ap}
+use Rattle.std.proofs.Common.{◌≡◌, ◌<◌, ℕ, List, [], ◌∷◌, Option, Some, None, subst, ap}
 use Rattle.std.specs.Prelude.{Result, Ok, Err, IsErrOf}
 use Rattle.std.specs.Result.{IsErrAnd}
 use Rattle.filter_plan.specs.Table.{Reads}
@@ -13,13 +13,6 @@ refused_one {X} IsRead values value is none found reads = go found (subst (λ vs
     go : (o : Option X) → Reads IsRead (value ∷ []) o → ⊥
     go None h = h
     go (Some x) h = none x h
-
--- there are several values
-pub refused_several : {X : Type 0} (IsRead : List ℕ → X → Type 0) (values : List (List ℕ)) → 1 < length values → (found : Option X) → Reads IsRead values found → ⊥
-refused_several IsRead [] several found reads = absurd (omega arith)
-refused_several IsRead (v ∷ []) several found reads = absurd (omega arith)
-refused_several IsRead (v ∷ w ∷ ws) several None reads = reads
-refused_several IsRead (v ∷ w ∷ ws) several (Some x) reads = reads
 
 -- the fault that a `?` passes on is the one that came
 pub passed_on : {T S : Type 0} (r : Result T UsageFault) (f : UsageFault) → IsErrAnd r (λ y. y ≡ f) → IsErrOf r Usage → IsErrOf {T = S} (Err f) Usage

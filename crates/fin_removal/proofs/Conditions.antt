@@ -3,7 +3,8 @@ use Rattle.std.proofs.Common.{◌≡◌, ℕ, false, ◌||◌, List, [], ◌∷�
 use Rattle.std.specs.List.{AllByRecursion, fold}
 use Rattle.std.proofs.lemmas.Bool.{cond_both, or_from, or_parts}
 use Rattle.aut_base.proofs.AllByRecursion.{AllByRecursion-append}
-use Rattle.aut_base.specs.Formula.{FormulaTree, FormulaTrees, True, False, Inf, Fin, And, Or, none, more, SetsBelow, EachSetsBelow, trees}
+use Rattle.aut_base.specs.Formula.{FormulaTree, FormulaTrees, True, False, Inf, Fin, And, Or, none, more, SetsBelow, trees}
+use Rattle.acc_forms.proofs.FormulaSets.{sets_all_of, sets_conjuncts, sets_disjuncts, sets_some_of}
 use Rattle.acc_forms.specs.Atoms.{has_fin, some_fin}
 use Rattle.acc_forms.specs.Joined.{all_of, conj, conjuncts, disj, disjuncts, is_false, is_true, listed, some_of}
 use Rattle.acc_forms.specs.Terms.{literal_tree, of_term, of_terms}
@@ -37,42 +38,8 @@ module _ (P : FormulaTree → Type 0) (parts : HoldsOfParts P) where
   of_terms_holds ts each = fold_disj False ts parts.never each
 
 -- all sets are below n
-listed_below : (n : ℕ) (fs : FormulaTrees) → EachSetsBelow n fs → AllByRecursion (SetsBelow n) (listed fs)
-listed_below n none h = tt
-listed_below n (more f fs) h = (h.0, listed_below n fs h.1)
-
-trees_below : (n : ℕ) (fs : List FormulaTree) → AllByRecursion (SetsBelow n) fs → EachSetsBelow n (trees fs)
-trees_below n [] h = tt
-trees_below n (f ∷ fs) h = (h.0, trees_below n fs h.1)
-
-below_conjuncts : (n : ℕ) (f : FormulaTree) → SetsBelow n f → AllByRecursion (SetsBelow n) (conjuncts f)
-below_conjuncts n True h = tt
-below_conjuncts n False h = (tt, tt)
-below_conjuncts n (Inf set neg) h = (h, tt)
-below_conjuncts n (Fin set neg) h = (h, tt)
-below_conjuncts n (And a b cs) h = (h.0, (h.1, listed_below n cs h.2))
-below_conjuncts n (Or a b cs) h = (h, tt)
-
-below_disjuncts : (n : ℕ) (f : FormulaTree) → SetsBelow n f → AllByRecursion (SetsBelow n) (disjuncts f)
-below_disjuncts n True h = (tt, tt)
-below_disjuncts n False h = tt
-below_disjuncts n (Inf set neg) h = (h, tt)
-below_disjuncts n (Fin set neg) h = (h, tt)
-below_disjuncts n (And a b cs) h = (h, tt)
-below_disjuncts n (Or a b cs) h = (h.0, (h.1, listed_below n cs h.2))
-
-below_all : (n : ℕ) (fs : List FormulaTree) → AllByRecursion (SetsBelow n) fs → SetsBelow n (all_of fs)
-below_all n [] h = tt
-below_all n (f ∷ []) h = h.0
-below_all n (a ∷ b ∷ cs) h = (h.0, h.1.0, trees_below n cs h.1.1)
-
-below_some : (n : ℕ) (fs : List FormulaTree) → AllByRecursion (SetsBelow n) fs → SetsBelow n (some_of fs)
-below_some n [] h = tt
-below_some n (f ∷ []) h = h.0
-below_some n (a ∷ b ∷ cs) h = (h.0, h.1.0, trees_below n cs h.1.1)
-
 pub below_parts : (n : ℕ) → HoldsOfParts (SetsBelow n)
-below_parts n = record { never = tt; always = tt; conjuncts = below_conjuncts n; all = below_all n; disjuncts = below_disjuncts n; some = below_some n }
+below_parts n = record { never = tt; always = tt; conjuncts = sets_conjuncts n; all = sets_all_of n; disjuncts = sets_disjuncts n; some = sets_some_of n }
 
 -- there is no Fin
 abbrev pub HasNoFin : FormulaTree → Type 0

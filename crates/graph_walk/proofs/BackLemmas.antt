@@ -3,7 +3,7 @@ use Rattle.std.proofs.Common.{◌≡◌, ◌∙◌, ◌≢◌, ℕ, ◌-◌, ◌
 use Rattle.std.specs.List.{Contains}
 use Rattle.std.proofs.lemmas.Bool.{false≢true}
 use Rattle.std.proofs.lemmas.List.{get_or_read, length_push, length-reverse, get_or-reverse, reverse-append}
-use Rattle.std.proofs.lemmas.List.Elements.{All-nil, All-push}
+use Rattle.std.proofs.lemmas.List.Elements.{All-push}
 use Rattle.graph_walk.specs.Path.{IsShortest}
 use Rattle.graph_walk.specs.Walk.{IsWalk, Reaches, arc_at}
 use Rattle.graph_walk.specs.declared.search.Search.{Search}
@@ -14,16 +14,6 @@ use Rattle.graph_walk.specs.inner.Search.{IsLedBy, IsSearched}
 use Rattle.graph_walk.proofs.Marked.{flag_within}
 use Rattle.graph_walk.proofs.SearchLemmas.{walk_near}
 use Rattle.graph_walk.proofs.WalkLemmas.{contains_place}
-
-pub back_begins : (nodes : ℕ) (arcs : List (ℕ × ℕ)) (p q : ℕ) (s : Search) → IsSearched nodes arcs (p ∷ []) s → flag s.seen.items q ≡ true → LeadsBack nodes arcs p q s [] q
-back_begins nodes arcs p q s searched marked = record {
-  searched = searched;
-  marked = marked;
-  deep = omega arith;
-  reached = marked;
-  walks = refl;
-  placed = All-nil (λ place. place < length arcs);
-}
 
 -- an arc led to each node but the start
 pub led_back : (nodes : ℕ) (arcs : List (ℕ × ℕ)) (p q at : ℕ) (s : Search) (places : List ℕ) (back : LeadsBack nodes arcs p q s places at) → at ≢ p → IsLedBy arcs back.searched.searching.depth s.seen.items at (get_or s.led.items at 0)
@@ -51,12 +41,6 @@ back_goes_on nodes arcs p q at place s places back other read =
         placed = All-push (λ k. k < length arcs) places place back.placed led.placed;
       },
     )
-
--- there are fewer places than nodes that were seen
-pub back_within : (nodes : ℕ) (arcs : List (ℕ × ℕ)) (p q at : ℕ) (s : Search) (places : List ℕ) → LeadsBack nodes arcs p q s places at → length places < length s.order.items
-back_within nodes arcs p q at s places back =
-    let found = back.searched.searching.lists.listed q back.reached in
-    omega (arith, back.deep, found.1.0, back.searched.searching.shallow found.0 q found.1)
 
 pub back_ends : (nodes : ℕ) (arcs : List (ℕ × ℕ)) (p q : ℕ) (s : Search) (places : List ℕ) → LeadsBack nodes arcs p q s places p → IsShortest arcs p q (reverse places)
 back_ends nodes arcs p q s places back = record {

@@ -1,10 +1,9 @@
 -- The steps of a pass in depth.
-use Rattle.std.proofs.Common.{◌≡◌, ◌∙◌, ◌≢◌, ℕ, ◌+◌, ◌-◌, ◌*◌, ◌^◌, ◌<◌, ◌≤◌, min, inl, inr, ⊎_elim, List, [], ◌∷◌, ◌++◌, length, get_or, set, take, reverse, replicate, refl, sym, ap, subst, arith, length-set, length-take, Option, Some, None, MatchOption, vec_len, option_to_list}
+use Rattle.std.proofs.Common.{◌≡◌, ◌∙◌, ◌≢◌, ℕ, ◌+◌, ◌-◌, ◌*◌, ◌^◌, ◌<◌, ◌≤◌, min, inl, inr, ⊎_elim, List, [], ◌∷◌, ◌++◌, length, get_or, set, take, reverse, refl, sym, ap, subst, arith, length-set, length-take, Option, Some, None, MatchOption, vec_len, option_to_list}
 use Rattle.std.specs.List.{All, sum_by}
 use Rattle.std.proofs.Math.Nat.{mul-le-mul_right}
 use Rattle.std.proofs.lemmas.Bool.{cases_lt, cases_eq}
-use Rattle.std.proofs.lemmas.List.{nil_from_length, get_or_default, get_or_past, get_or_read, get_or-replicate, length-replicate, length_push, reverse-append}
-use Rattle.std.proofs.lemmas.List.Folds.{sum_by-replicate}
+use Rattle.std.proofs.lemmas.List.{nil_from_length, get_or_default, get_or_read, length_push, reverse-append}
 use Rattle.std.proofs.lemmas.List.Sums.{sum_by_push}
 use Rattle.graph_walk.specs.declared.pass.Frame.{Frame}
 use Rattle.graph_walk.specs.declared.pass.Mark.{Mark}
@@ -12,7 +11,7 @@ use Rattle.graph_walk.specs.declared.pass.Mark.TheVariants.{Fresh, Open, Closed}
 use Rattle.graph_walk.specs.declared.pass.Pass.{Pass}
 use Rattle.graph_walk.specs.inner.Chains.{head, tail, IsLast, AreChained}
 use Rattle.graph_walk.specs.inner.Frames.{IsSettled, ReachesPlace, Holds, Hold}
-use Rattle.graph_walk.specs.inner.Marks.{mark_of, IsClosed, one_if_fresh, fresh_count, Keeps, ClosesFrom}
+use Rattle.graph_walk.specs.inner.Marks.{mark_of, IsClosed, fresh_count, Keeps, ClosesFrom}
 use Rattle.graph_walk.specs.inner.Pass.{IsMidway, IsIdle, NoneFreshened, left_of, Steps, Enters, Closes, Finishes}
 use Rattle.graph_walk.specs.inner.Places.{At}
 use Rattle.graph_walk.proofs.FrameLemmas.{hold_moves, holds_looks, reaches_lower, holds_enters, holds_merge}
@@ -214,15 +213,6 @@ module _ (nodes : ℕ) (arcs : List (ℕ × ℕ)) (p q : Pass) (top : Frame) (m 
         λ x was. closed_fresh x (ap (λ (ms : List Mark). mark_of ms x) (sym marks) ∙ was),
       )
 
--- none of the open nodes is closed yet
-pub closes_begin : (order : List ℕ) (from number : ℕ) (marks : List Mark) → ClosesFrom order from from number marks marks
-closes_begin order from number marks = record {
-  size = refl;
-  chosen = λ i x above below at. absurd (omega arith);
-  others = λ x none. refl;
-  fewer = omega arith;
-}
-
 -- one of them more
 pub closes_more : (order : List ℕ) (from to number node : ℕ) (old new : List Mark) → ClosesFrom order from to number old new → At order to node → node < length new → from ≤ to → ClosesFrom order from (to + 1) number old (set new node (Closed number))
 closes_more order from to number node old new c here within le = record {
@@ -247,32 +237,6 @@ open_within arcs marks order count i x keeps at = mark_within marks x (λ fresh.
 pub all_open_within : (arcs : List (ℕ × ℕ)) (marks : List Mark) (order : List ℕ) (count : ℕ) → Keeps arcs marks order count → All (λ x. x < length marks) order
 all_open_within arcs marks order count keeps k d within =
     open_within arcs marks order count k (get_or order k d) keeps (within, get_or_default order k 0 d within)
-
--- before any node was entered
-pub all_fresh : (nodes : ℕ) (arcs : List (ℕ × ℕ)) (p : Pass) → p.marks.items ≡ replicate nodes Fresh → p.order.items ≡ [] → p.below.items ≡ [] → p.count ≡ 0 → nodes < 2 ^ 32 → IsIdle nodes arcs p
-all_fresh nodes arcs p marks order below count few =
-    let fresh : (x : ℕ) (m : Mark) → mark_of p.marks.items x ≡ m → m ≡ Fresh = λ x m is.
-    ⊎_elim (λ (lt : x < nodes). sym is ∙ (ap (λ (ms : List Mark). mark_of ms x) marks ∙ get_or-replicate nodes x Fresh Fresh lt))
-    (λ (le : nodes ≤ x). sym is ∙ get_or_past p.marks.items x Fresh (omega (arith, ap length marks, length-replicate nodes Fresh)))
-    (cases_lt x nodes) in
-    let long : length p.marks.items ≡ nodes = ap length marks ∙ length-replicate nodes Fresh in
-    record {
-      size = long;
-      keeps = record {
-        stands = λ x i is. let e = fresh x (Open i) is in cc;
-        opened = λ x i at. absurd (omega (arith, ap length order, at.0));
-        closed = record {
-          below = λ x n is. let e = fresh x (Closed n) is in cc;
-          stays = λ x n place is within leaves. let e = fresh x (Closed n) is in cc;
-          same = λ x y k n is other. let e = fresh x (Closed k) is in cc;
-          all = λ n lt. absurd (omega (arith, count));
-        };
-        room = omega (arith, count, ap length order, long, ap fresh_count marks, sum_by-replicate one_if_fresh nodes Fresh);
-        few = omega (arith, long);
-      };
-      no_order = order;
-      no_below = below;
-    }
 
 -- the next arc of the same tail
 pub chain_read : (nodes : ℕ) (arcs : List (ℕ × ℕ)) (last before : List ℕ) (place next : ℕ) → AreChained nodes arcs (length arcs) last before → place < length arcs → next ≡ get_or before place next → IsLast arcs (tail arcs place) place next

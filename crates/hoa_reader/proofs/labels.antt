@@ -1,4 +1,5 @@
 -- Labels, aliases, states and marks, one after the other.
+pub mod AliasNames
 pub mod ExpandedLabels
 pub mod MarksBelow
 pub mod Meanings

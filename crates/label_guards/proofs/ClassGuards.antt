@@ -1,5 +1,6 @@
 -- What has been found is the classes, once no valuation is left.
 use Rattle.std.proofs.Common.{◌≡◌, ℕ, zero, suc, ◌≤◌, ◌∙◌, Bool, true, false, not, ◌&&◌, List, [], ◌∷◌, length, map, All, Some, slice_get, sym, refl, ap}
+use Rattle.std.proofs.lemmas.Bool.{false≢true}
 use Rattle.std.proofs.lemmas.List.Elements.{All-from_recursion}
 use Rattle.std.proofs.lemmas.Option.{none-some, same_Some}
 use Rattle.std.specs.List.{AllByRecursion, list_all}
@@ -17,9 +18,6 @@ use Rattle.label_guards.proofs.FoundClasses.{AreFound, IsUnderWay, agree_alike, 
 use Rattle.label_guards.proofs.LabelTruth.{keeps, truth_is}
 use Rattle.label_guards.proofs.Unique.{outcome_firsts}
 
-true_false : false ≡ true → ⊥
-true_false h = cc
-
 -- where a test holds of an item of a list
 pub met_at : {X : Type 0} (f : X → Bool) (xs : List X) (i : ℕ) → slice_get (map f xs) i ≡ Some true → (x : X) × (slice_get xs i ≡ Some x) × (f x ≡ true)
 met_at f [] i h = absurd (none-some true h)
@@ -27,7 +25,7 @@ met_at f (x ∷ xs) zero h = (x, refl, same_Some (f x) true h)
 met_at f (x ∷ xs) (suc i) h = met_at f xs i h
 
 some_met : {X : Type 0} (f : X → Bool) (xs : List X) → list_all (λ x. not (f x)) xs ≡ false → (i : ℕ) × (slice_get (map f xs) i ≡ Some true)
-some_met f [] h = absurd (true_false (sym h))
+some_met f [] h = absurd (false≢true (sym h))
 some_met f (x ∷ xs) h = this (f x) refl (some_met f xs)
   where
     this : (b : Bool) → f x ≡ b → (list_all (λ y. not (f y)) xs ≡ false → (i : ℕ) × (slice_get (map f xs) i ≡ Some true)) → (i : ℕ) × (slice_get (map f (x ∷ xs)) i ≡ Some true)
@@ -48,7 +46,7 @@ module _ (alike : Test) (is : IsAlikeness alike) where
 
   not_later : (v w : List Bool) (vs : List (List Bool)) (i : ℕ) → AllByRecursion (IsEarlier alike v) vs → slice_get vs i ≡ Some w → alike (holds_in v) (holds_in w) ≡ true → ⊥
   not_later v w [] i all h e = none-some w h
-  not_later v w (x ∷ vs) zero all h e = true_false (sym all.0.0 ∙ (ap (λ y. alike (holds_in v) (holds_in y)) (same_Some x w h) ∙ e))
+  not_later v w (x ∷ vs) zero all h e = false≢true (sym all.0.0 ∙ (ap (λ y. alike (holds_in v) (holds_in y)) (same_Some x w h) ∙ e))
   not_later v w (x ∷ vs) (suc i) all h e = not_later v w vs i all.1 h e
 
   -- one class, one place

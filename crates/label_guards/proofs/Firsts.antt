@@ -1,5 +1,6 @@
 -- The least valuations of classes, one after the other.
 use Rattle.std.proofs.Common.{◌≡◌, ℕ, ◌<◌, ◌≤◌, ◌∙◌, Bool, true, false, not, ◌&&◌, List, [], ◌∷◌, ◌++◌, length, refl, sym, ap, arith}
+use Rattle.std.proofs.lemmas.Bool.{false≢true}
 use Rattle.std.proofs.lemmas.List.Folds.{list_all-append}
 use Rattle.std.specs.List.{AllByRecursion, list_all}
 use Rattle.aut_base.proofs.AllByRecursion.{AllByRecursion-both, AllByRecursion-from_list_all, AllByRecursion-push, AllByRecursion-weaker}
@@ -41,11 +42,8 @@ Pairs-push : {X : Type 0} (R : X → X → Type 0) (xs : List X) (y : X) → Pai
 Pairs-push R [] y pairs all = (tt, tt)
 Pairs-push R (x ∷ xs) y pairs all = (AllByRecursion-push (R x) xs y pairs.0 all.0, Pairs-push R xs y pairs.1 all.1)
 
-true_false : false ≡ true → ⊥
-true_false h = cc
-
 not_true : (b : Bool) → not b ≡ true → b ≡ false
-not_true true h = absurd (true_false h)
+not_true true h = absurd (false≢true h)
 not_true false h = refl
 
 module _ (alike : Test) (is : IsAlikeness alike) where
@@ -62,10 +60,10 @@ module _ (alike : Test) (is : IsAlikeness alike) where
 
   both : (a b : Bool) → (a && b) ≡ true → (a ≡ true) × (b ≡ true)
   both true b h = (refl, h)
-  both false b h = absurd (true_false h)
+  both false b h = absurd (false≢true h)
 
   other_number : (v w : List Bool) → length v ≡ length w → alike (holds_in v) (holds_in w) ≡ false → number_of v ≡ number_of w → ⊥
-  other_number v w size h e = true_false (sym h ∙ (ap (λ x. alike (holds_in v) (holds_in x)) (sym (same_valuation v w size e)) ∙ is.self (holds_in v)))
+  other_number v w size h e = false≢true (sym h ∙ (ap (λ x. alike (holds_in v) (holds_in x)) (sym (same_valuation v w size e)) ∙ is.self (holds_in v)))
 
   -- the least of those that are apart is the first of the next class
   pub firsts_push : (n : ℕ) (vs : List (List Bool)) (v : List Bool) → AreFirsts n alike vs → length v ≡ n → is_apart alike vs (holds_in v) ≡ true

@@ -1,5 +1,6 @@
 -- The classes that a loop has found so far, and what they are in the end.
 use Rattle.std.proofs.Common.{◌≡◌, ℕ, suc, ◌+◌, ◌≤◌, ◌∙◌, Bool, true, false, not, ◌&&◌, List, [], ◌∷◌, ◌++◌, length, All, AllPairs, sym, refl, ap, subst, arith, length-append}
+use Rattle.std.proofs.lemmas.Bool.{and_parts, false≢true}
 use Rattle.std.proofs.lemmas.List.Elements.{All-from_recursion, recursion_from_All}
 use Rattle.std.proofs.lemmas.List.Kept.{AllPairs-cons}
 use Rattle.std.specs.Bool.{beq}
@@ -21,13 +22,6 @@ use Rattle.label_guards.proofs.Growth.{grows_none, grows_on, outcome_kept}
 use Rattle.label_guards.proofs.LabelTruth.{at, keeps, truth_is}
 use Rattle.label_guards.proofs.Parts.{place_kept, place_same, true_place}
 use Rattle.label_guards.proofs.Valuations.{bits_of-number}
-
-true_false : false ≡ true → ⊥
-true_false h = cc
-
-both : (a b : Bool) → (a && b) ≡ true → (a ≡ true) × (b ≡ true)
-both true b h = (refl, h)
-both false b h = absurd (true_false h)
 
 -- the classes are those of these valuations
 abbrev pub AreFound : Store → Test → List (List Bool) → List Guard → Type 0
@@ -73,7 +67,7 @@ agree-self s (g ∷ list) on = λ i. beq-self (outcome s.nodes on g.place) i && 
 agree-same : (s : Store) (list : List Guard) (on also : ℕ → Bool) → agree s list on also ≡ true → (other : ℕ → Bool) → agree s list other on ≡ agree s list other also
 agree-same s [] on also h other = refl
 agree-same s (g ∷ list) on also h other =
-    let e = both _ _ h in
+    let e = and_parts _ _ h in
     let here : outcome s.nodes on g.place ≡ outcome s.nodes also g.place = (booleans_Decides _ _).0 e.0 in
     λ i. beq (outcome s.nodes other g.place) (here i) && agree-same s list on also e.1 other i
 
@@ -137,7 +131,7 @@ module _ (old : Store) (reduced : IsReduced old.names old.nodes) (t : Store) (ke
   alike_each : (list : List Guard) → AllByRecursion (Has old) list → agree old list on also ≡ true → AllByRecursion (λ g. truth_in t g on ≡ truth_in t g also) list
   alike_each [] has h = tt
   alike_each (g ∷ list) has h =
-      let e = both _ _ h in
+      let e = and_parts _ _ h in
       (truth_was on g has.0 ∙ ((booleans_Decides _ _).0 e.0 ∙ sym (truth_was also g has.0)), alike_each list has.1 e.1)
 
   pub agree_alike : (list : List Guard) → All (Has old) list → AreAlike t list on also → agree old list on also ≡ true
@@ -160,5 +154,5 @@ more_classes old s reduced list classes rest number most has way least full =
       count = length-append way.valuations (least.valuation ∷ []) ∙ ap (λ n. n + 1) (same ∙ full);
       sizes = All-from_recursion (λ v. length v ≡ old.names) vs (AllByRecursion-weaker (IsFirst old.names (agree old list)) (λ v. length v ≡ old.names) vs (λ v is. is.size) are.first);
       differ = all_pairs _ vs (pairs_weaker (IsEarlier (agree old list)) (λ v w. AreAlike old list (holds_in v) (holds_in w) → ⊥) vs
-          (λ v w h alike. true_false (sym h.0 ∙ agree_alike old reduced old (keeps (grows_none old)) (holds_in v) (holds_in w) list has alike)) are.pairs);
+          (λ v w h alike. false≢true (sym h.0 ∙ agree_alike old reduced old (keeps (grows_none old)) (holds_in v) (holds_in w) list has alike)) are.pairs);
     }

@@ -1,6 +1,7 @@
 -- The results of operations, as the diagrams are gone through together, and the table that has them.
 use Rattle.std.proofs.Common.{◌≡◌, ◌⊎◌, ℕ, ◌<◌, ◌≤◌, min, ◌∙◌, Bool, true, false, cond, if◌then◌else◌, ◌&&◌, nat_eq, Some, List, sym, refl, ap, subst, inl, inr, zero, suc, rules, arith}
 use denote.Enum.Bare.{sameb, same_true}
+use Rattle.std.proofs.lemmas.Bool.{and_parts}
 use Rattle.std.specs.Map.{lookup}
 use Rattle.std.proofs.lemmas.Option.{same_Some}
 use Rattle.label_guards.specs.contracts.guards.Operation.{the_type}
@@ -32,10 +33,6 @@ joins_kept grows entries are = λ key place h. join_kept grows key.0 key.1 key.2
 operation_same : (a b : Operation) → sameb the_type a b ≡ true → a ≡ b
 operation_same a b h = same_true the_type (search rules) a b h
 
-both : (a b : Bool) → (a && b) ≡ true → (a ≡ true) × (b ≡ true)
-both true b h = (refl, h)
-both false b h = cc
-
 pub joins_insert : (s : Store) (entries now : List ((Operation × ℕ × ℕ) × ℕ)) (key : Operation × ℕ × ℕ) (place : ℕ)
     → ((q : Operation × ℕ × ℕ) → lookup (key_eq q) now ≡ cond (key_eq key q) (Some place) (lookup (key_eq q) entries))
     → AreJoins s entries → IsJoin s key.0 key.1 key.2 place → AreJoins s now
@@ -45,8 +42,8 @@ joins_insert s entries now key place updates are is = λ q p h. by q p (key_eq k
     by q p false e h = are q p (sym (ap (λ c. cond c (Some place) (lookup (key_eq q) entries)) e) ∙ h)
     by q p true e h =
         let same : place ≡ p = same_Some place p (sym (ap (λ c. cond c (Some place) (lookup (key_eq q) entries)) e) ∙ h) in
-        let two = both (sameb the_type key.0 q.0 && nat_eq key.1 q.1) (nat_eq key.2 q.2) e in
-        let one = both (sameb the_type key.0 q.0) (nat_eq key.1 q.1) two.0 in
+        let two = and_parts (sameb the_type key.0 q.0 && nat_eq key.1 q.1) (nat_eq key.2 q.2) e in
+        let one = and_parts (sameb the_type key.0 q.0) (nat_eq key.1 q.1) two.0 in
         let operations : key.0 ≡ q.0 = operation_same key.0 q.0 one.0 in
         let lefts : key.1 ≡ q.1 = nat_same key.1 q.1 one.1 in
         let rights : key.2 ≡ q.2 = nat_same key.2 q.2 two.1 in

@@ -16,11 +16,11 @@ joined_each separator piece [] = sym (append-nil piece)
 joined_each separator piece (next ∷ pieces) =
     ap (λ t. piece ++ (separator ++ t)) (joined_each separator next pieces) ∙ ap (λ t. piece ++ t) (sym (append_assoc separator next (each_after separator pieces)))
 
-each_after-map : {A : Type 0} (separator : List ℕ) (f : A → List ℕ) (xs : List A) → each_after separator (map f xs) ≡ flat_map (λ x. separator ++ f x) xs
+pub each_after-map : {A : Type 0} (separator : List ℕ) (f : A → List ℕ) (xs : List A) → each_after separator (map f xs) ≡ flat_map (λ x. separator ++ f x) xs
 each_after-map separator f [] = refl
 each_after-map separator f (x ∷ xs) = ap (λ t. (separator ++ f x) ++ t) (each_after-map separator f xs)
 
-joined_more : {A : Type 0} (separator : List ℕ) (f : A → List ℕ) (x : A) (xs : List A) → joined separator (map f (x ∷ xs)) ≡ f x ++ flat_map (λ y. separator ++ f y) xs
+pub joined_more : {A : Type 0} (separator : List ℕ) (f : A → List ℕ) (x : A) (xs : List A) → joined separator (map f (x ∷ xs)) ≡ f x ++ flat_map (λ y. separator ++ f y) xs
 joined_more separator f x xs = joined_each separator (f x) (map f xs) ∙ ap (λ t. f x ++ t) (each_after-map separator f xs)
 
 pub map-map : {A B C : Type 0} (f : B → C) (g : A → B) (xs : List A) → map f (map g xs) ≡ map (λ x. f (g x)) xs
@@ -104,16 +104,6 @@ pub both_sides : (literals : List canonical.Literal) (fails holds : canonical.Li
 both_sides literals fails holds low high all before mid now old between new e first second = record {
   text = both_texts literals fails holds low high all before mid old between new e first.text first.some second.text;
   some = both_some fails holds low high all before mid now e first.some second.some;
-}
-
--- one cube more
-pub next_first : (literals : List canonical.Literal) (old new : List ℕ) → new ≡ old ++ cube_piece literals → WritesCubes literals ([] ∷ []) false true old new
-next_first literals old new e = record { text = e ∙ ap (λ l. old ++ cube_piece l) (sym (append-nil literals)); some = refl }
-
-pub next_later : (literals : List canonical.Literal) (old between new : List ℕ) → between ≡ old ++ codes " | " → new ≡ between ++ cube_piece literals → WritesCubes literals ([] ∷ []) true true old new
-next_later literals old between new e f = record {
-  text = f ∙ (ap (λ t. t ++ cube_piece literals) e ∙ (append_assoc old (codes " | ") (cube_piece literals) ∙ ap (λ t. old ++ t) (ap (λ l. codes " | " ++ cube_piece l) (sym (append-nil literals)) ∙ sym (append-nil (codes " | " ++ cube_piece (literals ++ []))))));
-  some = refl;
 }
 
 -- no cube more

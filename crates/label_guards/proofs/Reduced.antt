@@ -1,12 +1,12 @@
 -- Nodes that are added one after the other keep the diagrams reduced.
 use Rattle.std.proofs.Common.{◌≡◌, ◌≢◌, ℕ, zero, suc, ◌+◌, ◌-◌, ◌<◌, ◌≤◌, ◌∙◌, List, [], ◌∷◌, ◌++◌, length, map, Some, get_or, slice_get, Contains, sym, refl, ap, subst, inl, inr, arith}
-use Rattle.std.proofs.lemmas.Option.{none-some, same_Some, slice_get_within, get_or_from_slice_get}
+use Rattle.std.proofs.lemmas.Option.{none-some, same_Some, slice_get_within}
 use Rattle.std.proofs.lemmas.List.{get_or_append_left, length-map, map-append}
-use Rattle.std.proofs.lemmas.List.Elements.{Contains-get_or}
 use Rattle.label_guards.specs.declared.nodes.Node.{Node}
 use Rattle.label_guards.specs.Nodes.{level_among, level, IsNode, IsReduced, Adds, StandsAt, IsChoice}
 use Rattle.label_guards.specs.Store.{Store, HasPlace}
 use Rattle.aut_base.proofs.Lists.{slice_get-push_cases}
+use Rattle.aut_base.proofs.Members.{placed_there}
 use Rattle.label_guards.proofs.Outcomes.{outcome_at}
 
 abbrev prop_of : Node → ℕ
@@ -38,9 +38,6 @@ node_kept names ns more i n h is = record {
   high_later = rw (level_grows names ns more n.high (let a = is.high in omega arith)) is.high_later;
 }
 
-contains_at : {A : Type 0} (xs : List A) (i : ℕ) (x : A) → slice_get xs i ≡ Some x → Contains xs x
-contains_at xs i x h = subst (Contains xs) (get_or_from_slice_get xs i x x h) (Contains-get_or xs i x (slice_get_within xs i x h))
-
 pub reduced_push : (names : ℕ) (ns : List Node) (m : Node) → IsReduced names ns → (Contains ns m → ⊥) → IsNode names ns (2 + length ns) m → IsReduced names (ns ++ m ∷ [])
 reduced_push names ns m is new node = record {
   few = is.few;
@@ -51,10 +48,10 @@ reduced_push names ns m is new node = record {
   once = λ i j n h k. elim (slice_get-push_cases ns m i n h) [
     | inl a ↦ elim (slice_get-push_cases ns m j n k) [
       | inl b ↦ is.once i j n a b
-      | inr b ↦ absurd (new (subst (Contains ns) (sym b.1) (contains_at ns i n a)))
+      | inr b ↦ absurd (new (subst (Contains ns) (sym b.1) (placed_there ns i n a)))
     ]
     | inr a ↦ elim (slice_get-push_cases ns m j n k) [
-      | inl b ↦ absurd (new (subst (Contains ns) (sym a.1) (contains_at ns j n b)))
+      | inl b ↦ absurd (new (subst (Contains ns) (sym a.1) (placed_there ns j n b)))
       | inr b ↦ a.0 ∙ sym b.0
     ]
   ];

@@ -1,6 +1,7 @@
 -- Valuations with one proposition set, and their numbers.
 use Rattle.std.proofs.Common.{◌≡◌, ℕ, zero, suc, ◌+◌, ◌*◌, ◌/◌, ◌%◌, ◌^◌, ◌<◌, ◌≤◌, ◌∙◌, Bool, true, false, if◌then◌else◌, nat_eq, List, [], ◌∷◌, length, refl, sym, ap, arith}
 use Rattle.std.proofs.Math.Nat.{div-div-eq-div-mul, pow-suc}
+use Rattle.std.proofs.lemmas.Bool.{false≢true}
 use Rattle.aut_base.specs.Valuation.{holds_in, number_of}
 use Rattle.label_guards.specs.Leasts.{bits_of}
 
@@ -29,16 +30,13 @@ put-other (x ∷ v) (suc k) b (suc i) h = put-other v k b i (λ e. h (ap suc e))
 abbrev bit : Bool → ℕ
 bit x = if x then 1 else 0
 
-true_false : false ≡ true → ⊥
-true_false h = cc
-
 pub number-put_true : (v : List Bool) (k : ℕ) → k < length v → holds_in v k ≡ false → number_of (put v k true) ≡ number_of v + 2 ^ k
 number-put_true [] k h e = absurd (omega arith)
 number-put_true (x ∷ v) zero h e = let a : bit x ≡ 0 = ap bit e in omega arith
 number-put_true (x ∷ v) (suc k) h e = let a = number-put_true v k (omega arith) e in let b : 2 ^ suc k ≡ 2 ^ k * 2 = pow-suc 2 k in omega arith
 
 pub number-put_false : (v : List Bool) (k : ℕ) → holds_in v k ≡ true → number_of (put v k false) + 2 ^ k ≡ number_of v
-number-put_false [] k e = absurd (true_false e)
+number-put_false [] k e = absurd (false≢true e)
 number-put_false (x ∷ v) zero e = let a : bit x ≡ 1 = ap bit e in omega arith
 number-put_false (x ∷ v) (suc k) e = let a = number-put_false v k e in let b : 2 ^ suc k ≡ 2 ^ k * 2 = pow-suc 2 k in omega arith
 

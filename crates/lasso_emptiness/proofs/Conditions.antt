@@ -2,6 +2,7 @@
 use Rattle.std.proofs.Common.{if◌then◌else◌, ◌≡◌, ◌∙◌, ℕ, ◌+◌, ◌<◌, ◌≤◌, Bool, true, false, not, ◌&&◌, ◌||◌, List, [], ◌∷◌, nat_eq, inl, inr, refl, sym, ap, arith, ⊎_elim}
 use Rattle.std.proofs.lemmas.Bool.{true≢false, and_from, and_parts, eq-eqb, eqb-true, or_cases, or_left, or_right}
 use Rattle.std.specs.List.{list_all, list_any}
+use Rattle.aut_base.proofs.Truth.{not_not}
 use Rattle.aut_base.specs.Formula.{FormulaTree, FormulaTrees, True, False, Inf, Fin, And, Or, none, more, met, all_met, some_met}
 use Rattle.aut_base.specs.Marks.{is_in}
 use Rattle.lasso_emptiness.specs.inner.Edges.{on_side}
@@ -12,10 +13,6 @@ use Rattle.lasso_emptiness.specs.inner.Taken.{all_taken, taken}
 pub met-Inf : (cycle : List (List ℕ)) (set : ℕ) (neg : Bool) → met cycle (Inf set neg) ≡ list_any (on_side set neg) cycle
 met-Inf cycle set true = refl
 met-Inf cycle set false = refl
-
-not_not : (b : Bool) → b ≡ not (not b)
-not_not true = refl
-not_not false = refl
 
 all_none : {A : Type 0} (p q : A → Bool) → ((x : A) → p x ≡ not (q x)) → (xs : List A) → list_all p xs ≡ not (list_any q xs)
 all_none p q opposite [] = refl

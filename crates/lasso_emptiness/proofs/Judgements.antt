@@ -1,11 +1,11 @@
 -- The parts of a conjunction or disjunction, judged one after the other.
-use Rattle.std.proofs.Common.{◌≡◌, ℕ, ◌+◌, ◌≤◌, true, false, List, length, drop, Some, None, Option, slice_get, refl, sym}
+use Rattle.std.proofs.Common.{◌≡◌, ℕ, ◌+◌, ◌≤◌, true, false, List, drop, Some, None, Option, slice_get, refl}
 use Rattle.std.specs.Prelude.{MatchOption}
 use Rattle.std.specs.List.{All, Contains, list_all, list_any}
 use Rattle.std.proofs.lemmas.List.Elements.{All-contains_itself}
 use Rattle.aut_base.proofs.Members.{all_fails_at, any_at}
 use Rattle.aut_base.specs.Formula.{FormulaTree, met}
-use Rattle.aut_base.proofs.Steps.{all_more, any_more, any_none}
+use Rattle.aut_base.proofs.Steps.{all_more, any_more}
 use Rattle.lasso_emptiness.specs.declared.side.Side.{Side}
 use Rattle.lasso_emptiness.specs.declared.verdict.Verdict.{Verdict}
 use Rattle.lasso_emptiness.specs.declared.verdict.Verdict.TheVariants.{Met, Never, Open}
@@ -47,12 +47,6 @@ one_so_far_open cycle fs place part undecided side is so_far has fails = record 
   none_met = any_more (met cycle) fs place part is so_far.none_met fails;
   by_open = any_at (has_side side.set side.neg) fs place part is has;
 }
-
-pub one_none : (cycle : List (List ℕ)) (fs : List FormulaTree) (place : ℕ) → length fs ≤ place → OneSoFar cycle fs place None → (some : List (List ℕ)) → All (Contains cycle) some → list_any (met some) fs ≡ false
-one_none cycle fs place all so_far some within = sym (any_none (met some) fs place all (so_far.by_open some within))
-
-pub one_open : (cycle : List (List ℕ)) (fs : List FormulaTree) (place : ℕ) (side : Side) → length fs ≤ place → OneSoFar cycle fs place (Some side) → (list_any (has_side side.set side.neg) fs ≡ true) × (list_any (met cycle) fs ≡ false)
-one_open cycle fs place side all so_far = (so_far.by_open, sym (any_none (met cycle) fs place all so_far.none_met))
 
 -- what is not judged as met is not met
 pub not_met : (cycle : List (List ℕ)) (f : FormulaTree) (v : Verdict) → IsJudged cycle f v → (v ≡ Met → ⊥) → met cycle f ≡ false

@@ -4,7 +4,6 @@ use Rattle.std.specs.List.{Contains}
 use Rattle.std.proofs.lemmas.Bool.{cases_lt}
 use Rattle.std.proofs.lemmas.List.Elements.{Contains-append_left, Contains-push, Contains-push_cases}
 use Rattle.std.proofs.lemmas.Option.{same_Some, slice_get_within}
-use Rattle.aut_base.proofs.Members.{none_there}
 use Rattle.aut_core.specs.Core.{Core}
 use Rattle.aut_core.specs.declared.link.Link.{Link}
 use Rattle.label_guards.specs.Guards.{IsNeverMet}
@@ -15,12 +14,6 @@ use Rattle.lasso_emptiness.specs.inner.Live.{ArePassable, IsPassable}
 pub record PassableBelow (c : Core) (place : ℕ) (edges : List LiveEdge) : Type 0 where
   pub each : (e : LiveEdge) → Contains edges e → IsPassable c e
   pub whole : (e : LiveEdge) → IsPassable c e → e.link < place → Contains edges e
-
-pub passable_none : (c : Core) → PassableBelow c 0 []
-passable_none c = record {
-  each = λ e here. absurd (none_there e here);
-  whole = λ e passable below. absurd (omega arith);
-}
 
 same_edge : (d e : LiveEdge) → d.from ≡ e.from → d.to ≡ e.to → d.link ≡ e.link → d ≡ e
 same_edge d e from to link =

@@ -1,23 +1,15 @@
 -- Edges picked one after the other.
 use Rattle.std.proofs.Common.{◌≡◌, ◌∙◌, ℕ, ◌+◌, ◌<◌, ◌≤◌, Bool, true, false, List, [], ◌∷◌, ◌++◌, length, get_or, map, take, inl, inr, ap, subst, sym}
 use Rattle.std.specs.List.{All, Contains}
-use Rattle.std.proofs.lemmas.List.{get_or_default, take_all}
+use Rattle.std.proofs.lemmas.List.{get_or_default}
 use Rattle.std.proofs.lemmas.List.Elements.{All-contains, Contains-append_left, Contains-push, Contains-push_cases}
 use Rattle.aut_base.proofs.Lists.{take-push}
-use Rattle.aut_base.proofs.Members.{none_there}
 use Rattle.lasso_emptiness.specs.declared.live.LiveEdge.{LiveEdge}
 use Rattle.graph_walk.specs.Reach.{AreReached, ReachedFrom}
 use Rattle.lasso_emptiness.specs.inner.Edges.{arc_of}
 use Rattle.lasso_emptiness.specs.inner.Live.{AreReachedEdges}
 use Rattle.lasso_emptiness.specs.inner.Picked.{Picks}
 use Rattle.lasso_emptiness.specs.inner.Tours.{edge_at}
-
-pub picks_none : (Kind : LiveEdge → Type 0) (old : List LiveEdge) → Picks Kind [] old old
-picks_none Kind old = record {
-  kept = λ e here. here;
-  added = λ e here kind. absurd (none_there e here);
-  nothing_else = λ e here. inl here;
-}
 
 module _ (Kind : LiveEdge → Type 0) (edges old : List LiveEdge) (i : ℕ) (within : i < length edges) where
   abbrev x : LiveEdge
@@ -56,9 +48,6 @@ module _ (Kind : LiveEdge → Type 0) (edges old : List LiveEdge) (i : ℕ) (wit
           | inr picked ↦ inr (Contains-append_left (take i edges) (x ∷ []) e picked.0, picked.1)
         ];
       })
-
-pub picks_all : (Kind : LiveEdge → Type 0) (edges old new : List LiveEdge) (i : ℕ) → length edges ≤ i → Picks Kind (take i edges) old new → Picks Kind edges old new
-picks_all Kind edges old new i all so_far = subst (λ done. Picks Kind done old new) (take_all i edges all) so_far
 
 -- the same edges, said to be of another kind
 pub picks_alike : (K L : LiveEdge → Type 0) (edges old new : List LiveEdge) → ((e : LiveEdge) → Contains edges e → K e → L e) → ((e : LiveEdge) → Contains edges e → L e → K e) → Picks K edges old new → Picks L edges old new

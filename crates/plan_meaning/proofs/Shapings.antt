@@ -11,7 +11,6 @@ use Rattle.aut_base.specs.declared.limit.Limit.{Limit}
 use Rattle.aut_base.specs.declared.limit.Limit.TheVariants as limit
 use Rattle.aut_core.specs.Core.{Core, automaton_of}
 use Rattle.aut_core.specs.Deterministic.{IsComplete}
-use Rattle.aut_core.specs.OtherNames.{AcceptTheSame}
 use Rattle.aut_ops.proofs.Ranks.{rank_within}
 use Rattle.aut_ops.proofs.SinkStates.{completed_same}
 use Rattle.aut_ops.specs.Completion.{completed, is_met_unmarked, lacks_nothing, with_sink}
@@ -22,15 +21,12 @@ use Rattle.filter_plan.specs.declared.plan.Form.{Form}
 use Rattle.filter_plan.specs.declared.plan.Form.TheVariants as form
 use Rattle.filter_plan.specs.declared.plan.Plan.{Plan}
 use Rattle.plan_meaning.proofs.Stepping.{changed_once}
-use Rattle.plan_meaning.specs.Changes.{Bring, Complete, MakesAll, PassesForm, Trim, flagged}
+use Rattle.plan_meaning.specs.Changes.{Bring, Complete, MakesAll, PassesForm, flagged}
 use Rattle.plan_meaning.specs.Promises.{IsBuchi, IsDisjunctive, KeepsForm, KeepsPromises}
 use Rattle.plan_meaning.specs.declared.fault.PlanFault.{PlanFault}
 use Rattle.plan_meaning.specs.inner.Stepping.{HasRoom, IsMade, IsOfSumSize, Steps}
 
 -- ---- trimming
-
-pub trim_made : (a made : Automaton) → IsTrimmed a made → AcceptTheSame made a → IsMade (Trim ∷ []) a made
-trim_made a made is accepts = changed_once Trim a made (λ which h. h) is accepts
 
 pub trim_within : (a made : Automaton) → IsTrimmed a made → IsOfSumSize a → IsOfSumSize made
 trim_within a made is within =

@@ -13,14 +13,8 @@ use Rattle.plan_meaning.specs.inner.Stepping.{IsMade, Steps}
 
 -- ---- one change, and none
 
-pub not_changed : (a : Automaton) → IsMade [] a a
-not_changed a = record { all = refl; says = λ u v. ((λ x. x), (λ x. x)) }
-
 pub changed_once : (c : Change) (a made : Automaton) → ((which : Limit) → PassesIn which c a → ⊥) → Makes c a made → ((u v : List NameSet) → Accepts made u v ↔ said_by c (λ x y. Accepts a x y) u v) → IsMade (c ∷ []) a made
 changed_once c a made within makes says = record { all = (made, record { within = within; makes = makes }, refl); says = says }
-
-pub stopped_at_once : (which : Limit) (c : Change) (a : Automaton) → PassesIn which c a → StopsIn which (c ∷ []) a
-stopped_at_once which c a passes = inl passes
 
 -- ---- what is accepted
 

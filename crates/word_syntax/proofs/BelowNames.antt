@@ -3,24 +3,11 @@ use Rattle.std.proofs.Common.{◌≡◌, ◌∷◌, ◌++◌, ◌<◌, List, [],
 use Rattle.std.proofs.lemmas.Option.{slice_get_within}
 use Rattle.std.specs.List.{AllByRecursion}
 use Rattle.aut_base.proofs.AllByRecursion.{AllByRecursion-push}
+use Rattle.aut_base.proofs.CanonicalBelow.{all_of_below, one_of_below}
 use Rattle.aut_base.specs.CanonicalLabel.{all_of, one_of}
-use Rattle.aut_base.specs.Label.{AllBelow, EachBelow, LabelTree, trees}
+use Rattle.aut_base.specs.Label.{AllBelow, LabelTree}
 use Rattle.word_syntax.specs.Grammar.{AreConjunctions, AreLetters, AreOperands, IsConjunction, IsLetter, IsOperand, IsWord, WordPattern, alternative, always, either, group, joined, letter, negated, never, no_conjunction, no_letter, no_operand, operand, proposition}
 use Rattle.word_syntax.specs.declared.token.Token.{Token}
-
-trees_below : (n : ℕ) (ts : List LabelTree) → AllByRecursion (AllBelow n) ts → EachBelow n (trees ts)
-trees_below n [] all = tt
-trees_below n (t ∷ ts) all = (all.0, trees_below n ts all.1)
-
-all_of_below : (n : ℕ) (ts : List LabelTree) → AllByRecursion (AllBelow n) ts → AllBelow n (all_of ts)
-all_of_below n [] all = tt
-all_of_below n (t ∷ []) all = all.0
-all_of_below n (t ∷ u ∷ us) all = (all.0, all.1.0, trees_below n us all.1.1)
-
-one_of_below : (n : ℕ) (ts : List LabelTree) → AllByRecursion (AllBelow n) ts → AllBelow n (one_of ts)
-one_of_below n [] all = tt
-one_of_below n (t ∷ []) all = all.0
-one_of_below n (t ∷ u ∷ us) all = (all.0, all.1.0, trees_below n us all.1.1)
 
 along : (n : ℕ) (t u : LabelTree) → t ≡ u → AllBelow n u → AllBelow n t
 along n t u e h = subst (λ (x : LabelTree). AllBelow n x) (sym e) h

@@ -1,7 +1,7 @@
 -- Places in a list that comes again and again.
 use Rattle.std.proofs.Common.{◌≡◌, ◌∙◌, ◌∷◌, ◌++◌, ◌+◌, ◌-◌, ◌*◌, ◌/◌, ◌%◌, ◌<◌, ◌≤◌, List, [], ap, arith, drop, inl, inr, length, length-append, length-drop, refl, slice_get, suc, sym, take, zero, if◌then◌else◌, ℕ}
 use Rattle.std.proofs.Math.Nat.{add-mod-mod, add-mod_right, add-mul-mod_self_left, mod-add-div, mod-eq_of_lt, mod-lt}
-use Rattle.std.proofs.lemmas.Bool.{cases_lt, le-ltb, lt-ltb}
+use Rattle.std.proofs.lemmas.Bool.{cases_lt, le-ltb}
 use Rattle.std.proofs.lemmas.List.{length-take-le}
 use Rattle.std.proofs.lemmas.Nat.{div-add-mod', div_below, mod_below}
 use Rattle.aut_base.proofs.Copies.{get-copies}
@@ -65,9 +65,8 @@ cyclic_again root x y turns e =
     let split : x ≡ y + length root * turns = omega arith in
     ap (slice_get root) (ap (λ (n : ℕ). n % length root) split ∙ add-mul-mod_self_left y (length root) turns)
 
--- a letter of a lasso word's infinite word, in its stem or behind it
-pub at_stem : (u v : List NameSet) (n : ℕ) → n < length u → letter_at u v n ≡ slice_get u n
-at_stem u v n within = ap (λ b. if b then slice_get u n else slice_get v ((n - length u) % length v)) (lt-ltb n (length u) within)
-
 pub at_cycle : (u v : List NameSet) (n : ℕ) → length u ≤ n → letter_at u v n ≡ cyclic v (n - length u)
 at_cycle u v n past = ap (λ b. if b then slice_get u n else slice_get v ((n - length u) % length v)) (le-ltb n (length u) past)
+
+pub at_same : (v : List NameSet) (i j : ℕ) → i ≡ j → slice_get v i ≡ slice_get v j
+at_same v i j e = ap (slice_get v) e

@@ -7,8 +7,8 @@ use Rattle.std.proofs.lemmas.Option.{none-some, some_pair_parts}
 use Rattle.std.specs.List.{prefix_len}
 use Rattle.std.specs.Option.{option_map}
 use Rattle.aut_base.proofs.Texts as texts
+use Rattle.aut_base.proofs.Texts.{differ_texts}
 use Rattle.aut_base.specs.Text.{same_text}
-use Rattle.word_syntax.proofs.NamePlaces.{differ_texts}
 use Rattle.word_syntax.proofs.Prefixes.{dropped, prefix_all, prefix_before, prefix_stops}
 use Rattle.word_syntax.specs.inner.Nexts.{StopsAt}
 use Rattle.word_syntax.proofs.Strings.{unquoted_close, unquoted_escaped, unquoted_plain}
@@ -238,9 +238,6 @@ bare_found (b ∷ bs) rest bare ends =
 
 finds_along : (bytes word rest : List ℕ) (t : Token) → bytes ≡ word ++ rest → Finds (word ++ rest) t rest → Finds bytes t rest
 finds_along bytes word rest t e f = subst (λ (x : List ℕ). Finds x t rest) (sym e) f
-
-finds_word : (bytes word rest w : List ℕ) (t : Token) → bytes ≡ word ++ rest → word ≡ w → Finds (w ++ rest) t rest → Finds bytes t rest
-finds_word bytes word rest w t e is f = finds_along bytes w rest t (e ∙ ap (λ (x : List ℕ). x ++ rest) is) f
 
 -- how a string is found
 quoted_found : (inner text rest : List ℕ) → Quotes inner text → unquoted (inner ++ (34 ∷ rest)) ≡ Some (text, 1 + length inner)

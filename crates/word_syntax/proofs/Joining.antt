@@ -1,18 +1,8 @@
 -- Texts that are put together piece by piece.
-use Rattle.std.proofs.Common.{◌≡◌, ◌==◌, true, false, slice_index, ◌∙◌, ◌∷◌, ◌++◌, ◌+◌, ◌<◌, List, [], ap, arith, get_or, length, map, refl, sym, take, ℕ}
-use Rattle.std.proofs.lemmas.List.{append_assoc, append-nil, length-map, length-take-le, map-append}
-use Rattle.std.proofs.lemmas.List.Concat.{flat_map-append}
-use Rattle.std.specs.Prelude.{flat_map}
-use Rattle.std.proofs.lemmas.Bool.Decides.{nat_tests}
+use Rattle.std.proofs.Common.{◌≡◌, ◌==◌, ◌∙◌, ◌∷◌, ◌++◌, ◌+◌, ◌<◌, List, [], ap, arith, get_or, length, map, refl, sym, take, ℕ}
+use Rattle.std.proofs.lemmas.List.{append_assoc, length-map, length-take-le, map-append}
 use Rattle.aut_base.proofs.Lists.{take-push}
-use Rattle.word_syntax.specs.Printing.{begins_small, is_small}
 use Rattle.aut_base.specs.LabelText.{joined}
-
--- one piece more, without separators
-pub flat_more : {A : Type 0} (f : A → List ℕ) (xs : List A) (i : ℕ) (x : A) (start before piece now : List ℕ) → i < length xs → x ≡ get_or xs i x → before ≡ start ++ flat_map f (take i xs) → piece ≡ f x → now ≡ before ++ piece → now ≡ start ++ flat_map f (take (i + 1) xs)
-flat_more f xs i x start before piece now within is so_far made added =
-    added ∙ (ap (λ (y : List ℕ). y ++ piece) so_far ∙ (append_assoc start (flat_map f (take i xs)) piece ∙ ap (λ (y : List ℕ). start ++ y) (ap (λ (y : List ℕ). flat_map f (take i xs) ++ y) (made ∙ sym (append-nil (f x)))
-    ∙ (sym (flat_map-append f (take i xs) (x ∷ [])) ∙ ap (flat_map f) (sym (take-push xs i x within is))))))
 
 -- one piece more behind a separator
 pub joined_push : (separator : List ℕ) (p : List ℕ) (ps : List (List ℕ)) (q : List ℕ) → joined separator ((p ∷ ps) ++ q ∷ []) ≡ joined separator (p ∷ ps) ++ (separator ++ q)
@@ -28,12 +18,3 @@ joined_more separator f xs i x start before now some within is so_far added =
     let long : length (map f (take i xs)) ≡ i = length-map (take i xs) f ∙ length-take-le i xs (omega arith) in
     added ∙ (ap (λ (y : List ℕ). (y ++ separator) ++ f x) so_far ∙ (append_assoc (start ++ joined separator (map f (take i xs))) separator (f x) ∙ (append_assoc start (joined separator (map f (take i xs))) (separator ++ f x) ∙ ap (λ (y : List ℕ). start ++ y)
     (sym (joined_last separator (map f (take i xs)) (f x) (omega arith)) ∙ ap (joined separator) (sym (map-append f (take i xs) (x ∷ [])) ∙ ap (map f) (sym (take-push xs i x within is)))))))
-
--- the first byte of a name
-pub begins_none : (bytes : List ℕ) → (length bytes == 0) ≡ true → false ≡ begins_small bytes
-begins_none [] e = refl
-begins_none (b ∷ bs) e = absurd (grind (arith, nat_tests))
-
-pub begins_some : (bytes : List ℕ) → (length bytes == 0) ≡ false → is_small (slice_index bytes 0) ≡ begins_small bytes
-begins_some [] e = cc
-begins_some (b ∷ bs) e = refl

@@ -1,15 +1,11 @@
 -- Least periods of the fronts of a list, each from those before it (Knuth, Morris and Pratt 1977).
-use Rattle.std.proofs.Common.{[], ◌∷◌, ◌++◌, ◌≡◌, ◌≢◌, ◌∙◌, ◌+◌, ◌-◌, ◌*◌, ◌/◌, ◌%◌, ◌<◌, ◌≤◌, List, ap, arith, inl, inr, length, slice_get, slice_index, subst, suc, sym, zero, ℕ}
+use Rattle.std.proofs.Common.{◌∷◌, ◌++◌, ◌≡◌, ◌≢◌, ◌∙◌, ◌+◌, ◌-◌, ◌*◌, ◌/◌, ◌%◌, ◌<◌, ◌≤◌, List, ap, arith, inl, inr, length, slice_get, suc, sym, zero, ℕ}
 use Rattle.std.proofs.Math.Nat.{add-mod_right, mod-eq_of_lt, mod_self, mul-le-mul_right, mul-mod_right}
-use Rattle.std.proofs.Math.Seq.{get_or-append_seam}
 use Rattle.std.proofs.lemmas.Bool.{cases_lt, cases_eq}
-use Rattle.std.proofs.lemmas.List.{get_or_append_left}
 use Rattle.std.proofs.lemmas.Nat.{div-add-mod', mul-mod}
 use Rattle.aut_base.specs.Word.{NameSet}
-use Rattle.word_syntax.specs.inner.Periods.{AreLeastPeriods, IsCandidate, IsLeastPeriod, IsPeriod, IsRoot}
-
-at_same : (v : List NameSet) (i j : ℕ) → i ≡ j → slice_get v i ≡ slice_get v j
-at_same v i j e = ap (slice_get v) e
+use Rattle.word_syntax.proofs.Cyclic.{at_same}
+use Rattle.word_syntax.specs.inner.Periods.{IsCandidate, IsLeastPeriod, IsPeriod, IsRoot}
 
 -- a least period is no longer than its front, if that isn't empty
 pub least_within : (v : List NameSet) (front p : ℕ) → 0 < front → IsLeastPeriod v front p → p ≤ front
@@ -54,20 +50,6 @@ candidate_agrees v front p within c same = record {
   ];
   least = c.least;
 }
-
--- no candidate is left
-pub candidate_last : (v : List NameSet) (front p : ℕ) → front < p → IsCandidate v front p → IsLeastPeriod v (front + 1) p
-candidate_last v front p past c = record { some = c.some; is = λ k h. absurd (omega arith); least = c.least }
-
--- one front more
-pub fronts_more : (v : List NameSet) (count p : ℕ) (periods new : List ℕ) → length periods ≡ count → new ≡ periods ++ p ∷ [] → AreLeastPeriods v count periods → IsLeastPeriod v count p → AreLeastPeriods v (count + 1) new
-fronts_more v count p periods new size is all one front h = elim (cases_lt front count) [
-  | inl inside ↦ (let e : slice_index new front ≡ slice_index periods front = ap (λ (x : List ℕ). slice_index x front) is ∙ get_or_append_left periods (p ∷ []) 0 front (omega arith) in
-      subst (λ (x : ℕ). IsLeastPeriod v front x) (sym e) (all front inside))
-  | inr last ↦ (let at : front ≡ count = omega arith in
-      let e : slice_index new front ≡ p = ap (λ (x : List ℕ). slice_index x front) is ∙ (ap (λ (n : ℕ). slice_index (periods ++ p ∷ []) n) (at ∙ sym size) ∙ get_or-append_seam periods p [] 0) in
-      subst (λ (x : ℕ). IsLeastPeriod v front x) (sym e) (subst (λ (n : ℕ). IsLeastPeriod v n p) (sym at) one))
-]
 
 -- by a period, each element is one of the first
 first_ones : (v : List NameSet) (n p : ℕ) → IsPeriod v n p → (t r : ℕ) → t * p + r < n → slice_get v (t * p + r) ≡ slice_get v r

@@ -3,6 +3,7 @@ use Rattle.std.proofs.Common.{◌≡◌, ◌∙◌, ◌∷◌, ◌++◌, ◌+◌
 use Rattle.std.proofs.lemmas.Bool.{ltb-true}
 use Rattle.std.proofs.lemmas.List.{append_assoc, append-nil}
 use Rattle.std.proofs.lemmas.Option.{cond_some, none-some, same_Some}
+use Rattle.aut_base.proofs.Lists.{append_three}
 use Rattle.aut_base.specs.CanonicalLabel.{all_of}
 use Rattle.aut_base.specs.Label as label
 use Rattle.aut_base.specs.Label.{LabelTree}
@@ -12,9 +13,6 @@ use Rattle.word_syntax.specs.inner.Machine as machine
 use Rattle.word_syntax.specs.inner.Machine.{LetterState, LevelTree, complete_level, fresh_level, has_room, letter_step, level_label, nots_on}
 use Rattle.word_syntax.specs.declared.token.Token.{Token}
 use Rattle.word_syntax.specs.declared.token.Token.TheVariants as token
-
-behind_three : (a b c d : List Token) → (a ++ (b ++ c)) ++ d ≡ a ++ (b ++ (c ++ d))
-behind_three a b c d = simp append_assoc
 
 in_ands : (a b c d : List Token) → a ++ (b ++ (c ++ d)) ≡ a ++ ((b ++ (c ++ d)) ++ [])
 in_ands a b c d = ap (λ (x : List Token). a ++ x) (sym (append-nil (b ++ (c ++ d))))
@@ -106,7 +104,7 @@ level_complete names l u w t begun one = record {
   ands = begun.ands;
   operand = nots_wrap names l.nots (begun.room - l.nots) begun.room w t (omega (arith, begun.fits)) (one (begun.room - l.nots) (omega (arith, begun.fits, begun.room_is)));
   all = refl;
-  spelled = ap (λ (x : List Token). x ++ w) begun.spelled ∙ behind_three begun.ors_tokens begun.ands_tokens (nots l.nots) w;
+  spelled = ap (λ (x : List Token). x ++ w) begun.spelled ∙ append_three begun.ors_tokens begun.ands_tokens (nots l.nots) w;
 }
 
 -- `!`
@@ -122,7 +120,7 @@ level_negated names l u may begun =
       fits = omega (arith, begun.room_is);
       ors = begun.ors;
       ands = begun.ands;
-      spelled = ap (λ (x : List Token). x ++ token.Not ∷ []) begun.spelled ∙ (behind_three begun.ors_tokens begun.ands_tokens (nots l.nots) (token.Not ∷ []) ∙ ap (λ (x : List Token). begun.ors_tokens ++ (begun.ands_tokens ++ x)) (nots_last l.nots [] ∙ (ap (λ (x : List Token). token.Not ∷ x) (append-nil (nots l.nots)) ∙ ap nots (sym one))));
+      spelled = ap (λ (x : List Token). x ++ token.Not ∷ []) begun.spelled ∙ (append_three begun.ors_tokens begun.ands_tokens (nots l.nots) (token.Not ∷ []) ∙ ap (λ (x : List Token). begun.ors_tokens ++ (begun.ands_tokens ++ x)) (nots_last l.nots [] ∙ (ap (λ (x : List Token). token.Not ∷ x) (append-nil (nots l.nots)) ∙ ap nots (sym one))));
     }
 
 -- a whole conjunction
@@ -139,7 +137,7 @@ level_anded names l u e = record {
   fits = omega (arith, e.no_nots);
   ors = e.ors;
   ands = operand e.ands e.operand refl e.all;
-  spelled = ap (λ (x : List Token). x ++ token.And ∷ []) e.spelled ∙ (behind_three e.ors_tokens e.ands_tokens e.last_tokens (token.And ∷ []) ∙ (in_ands e.ors_tokens e.ands_tokens e.last_tokens (token.And ∷ []) ∙ ap (λ (n : ℕ). e.ors_tokens ++ ((e.ands_tokens ++ (e.last_tokens ++ token.And ∷ [])) ++ nots n)) (sym e.no_nots)));
+  spelled = ap (λ (x : List Token). x ++ token.And ∷ []) e.spelled ∙ (append_three e.ors_tokens e.ands_tokens e.last_tokens (token.And ∷ []) ∙ (in_ands e.ors_tokens e.ands_tokens e.last_tokens (token.And ∷ []) ∙ ap (λ (n : ℕ). e.ors_tokens ++ ((e.ands_tokens ++ (e.last_tokens ++ token.And ∷ [])) ++ nots n)) (sym e.no_nots)));
 }
 
 -- `|`
@@ -152,7 +150,7 @@ level_ored names l u e = record {
   fits = omega (arith, e.no_nots);
   ors = alternative e.ors (level_conjunction names l u e) refl refl;
   ands = no_operand;
-  spelled = ap (λ (x : List Token). x ++ token.Or ∷ []) e.spelled ∙ (behind_three e.ors_tokens e.ands_tokens e.last_tokens (token.Or ∷ []) ∙ (in_ors e.ors_tokens e.ands_tokens e.last_tokens (token.Or ∷ []) ∙ ap (λ (n : ℕ). (e.ors_tokens ++ ((e.ands_tokens ++ e.last_tokens) ++ token.Or ∷ [])) ++ ([] ++ nots n)) (sym e.no_nots)));
+  spelled = ap (λ (x : List Token). x ++ token.Or ∷ []) e.spelled ∙ (append_three e.ors_tokens e.ands_tokens e.last_tokens (token.Or ∷ []) ∙ (in_ors e.ors_tokens e.ands_tokens e.last_tokens (token.Or ∷ []) ∙ ap (λ (n : ℕ). (e.ors_tokens ++ ((e.ands_tokens ++ e.last_tokens) ++ token.Or ∷ [])) ++ ([] ++ nots n)) (sym e.no_nots)));
 }
 
 -- a whole level

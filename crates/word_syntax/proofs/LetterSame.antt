@@ -1,5 +1,5 @@
 -- When two letters are the same, and copies of letters.
-use Rattle.std.proofs.Common.{◌≡◌, ◌≢◌, ◌∙◌, ◌+◌, ◌<◌, ◌↔◌, Bool, IsTrue, List, ap, get_or, length, refl, slice_get, Some, sym, take, true, false, ℕ}
+use Rattle.std.proofs.Common.{◌≡◌, ◌≢◌, ◌∙◌, ◌+◌, ◌<◌, ◌↔◌, Bool, IsTrue, List, ap, get_or, length, slice_get, Some, sym, take, true, false, ℕ}
 use Rattle.std.specs.FinSet as set
 use Rattle.std.specs.FinMap.{nat_cmp-IsAntisymmetric, slice_cmp-IsAntisymmetric}
 use Rattle.std.proofs.lemmas.Cmp.{nat_list_cmp_total}
@@ -7,17 +7,12 @@ use Rattle.std.proofs.lemmas.Bool.{false≢true}
 use Rattle.std.proofs.lemmas.Option.{same_Some}
 use Rattle.aut_base.proofs.LetterNames.{insert_pushed}
 use Rattle.aut_base.proofs.Lists.{slice_get-at, take-push}
+use Rattle.aut_base.proofs.Truth.{same_truth}
 use Rattle.aut_base.specs.Word.{NameSet}
 use Rattle.word_syntax.specs.inner.Periods.{IsWithin}
 
-both_same : (b c : Bool) → (b ≡ true → c ≡ true) → (c ≡ true → b ≡ true) → b ≡ c
-both_same true true f g = refl
-both_same false false f g = refl
-both_same true false f g = sym (f refl)
-both_same false true f g = g refl
-
 pub letters_same : (a b : NameSet) → IsWithin a b → IsWithin b a → a ≡ b
-letters_same a b f g = set.same_set nat_list_cmp_total (slice_cmp-IsAntisymmetric nat_cmp-IsAntisymmetric) a b (λ q. both_same (set.contains a q) (set.contains b q) (f q) (g q))
+letters_same a b f g = set.same_set nat_list_cmp_total (slice_cmp-IsAntisymmetric nat_cmp-IsAntisymmetric) a b (λ q. same_truth (set.contains a q) (set.contains b q) (f q) (g q))
 
 pub letters_within : (a b : NameSet) → a ≡ b → IsWithin a b
 letters_within a b e name h = ap (λ (x : NameSet). set.contains x name) (sym e) ∙ h

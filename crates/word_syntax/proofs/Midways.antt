@@ -105,22 +105,6 @@ one_letter place s next token.Or e = inner_letters (machine.has_letters s.stage)
 one_letter place s next token.LeftParen e = inner_letters (machine.has_letters s.stage) s next (letter_step place s.letter token.LeftParen) e
 one_letter place s next token.RightParen e = inner_letters (machine.has_letters s.stage) s next (letter_step place s.letter token.RightParen) e
 
--- nothing is read yet
-pub midway_start : (text : List ℕ) (r : WordReader) → word_state r ≡ word_start → r.names ≡ [] → IsMidway text 0 r
-midway_start text r state names =
-    let none : length r.names ≡ 0 = ap (λ (x : List (List ℕ)). length x) names in
-    let stem : length (map label_tree r.stem) ≡ 0 = ap (λ (x : WordState). length x.stem) state in
-    let cycle : length (map label_tree r.cycle) ≡ 0 = ap (λ (x : WordState). length x.cycle) state in
-    record {
-      tokens = [];
-      lexes = refl;
-      within = omega arith;
-      names = names;
-      read = λ place agrees. sym state;
-      few_names = omega arith;
-      few_letters = omega (arith, length-map r.stem label_tree, length-map r.cycle label_tree);
-    }
-
 -- one token more
 pub midway_more : (text : List ℕ) (at start end : ℕ) (before after : WordReader) (t : Token) → IsMidway text at before → IsNext text at t start end → HasTaken before t after → IsMidway text end after
 midway_more text at start end before after t m n taken =

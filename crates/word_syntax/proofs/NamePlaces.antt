@@ -1,10 +1,10 @@
 -- Names, each where it first stands, and the places that they have there.
 use Rattle.aut_base.proofs.Lists.{slice_get-append_left}
 use Rattle.aut_base.proofs.Texts as texts
+use Rattle.aut_base.proofs.Texts.{differ_texts}
 use Rattle.aut_base.specs.Text.{same_text}
-use Rattle.std.proofs.Common.{◌≡◌, ◌≢◌, ◌∙◌, ◌∷◌, ◌++◌, ◌<◌, ◌⊎◌, Contains, List, Some, [], ap, arith, cond, false, filter, get_or, inl, inr, length, not, refl, slice_get, subst, suc, sym, true, zero, ℕ}
-use Rattle.std.proofs.lemmas.Bool.{cases_Bool, cond-false, cond-true, false_from_ne_true, not_from_false, not_from_true}
-use Rattle.std.proofs.lemmas.Cmp.{nat_list_eq_equiv}
+use Rattle.std.proofs.Common.{◌≡◌, ◌≢◌, ◌∙◌, ◌∷◌, ◌++◌, ◌<◌, ◌⊎◌, Contains, List, Some, [], ap, arith, cond, filter, get_or, inl, inr, length, not, refl, slice_get, subst, suc, sym, true, zero, ℕ}
+use Rattle.std.proofs.lemmas.Bool.{cases_Bool, cond-false, cond-true, not_from_false, not_from_true}
 use Rattle.std.proofs.lemmas.List.{append_assoc, append-nil}
 use Rattle.std.proofs.lemmas.List.Elements.{All-contains, filter-append}
 use Rattle.std.proofs.lemmas.Option.{none-some, same_Some, slice_get_within}
@@ -13,12 +13,10 @@ use Rattle.word_syntax.specs.inner.Chains.{Agrees, GrowsBy, NamesGo}
 use Rattle.word_syntax.proofs.LetterParts.{Knows}
 use Rattle.word_syntax.specs.declared.token.Token.{Token}
 use Rattle.word_syntax.specs.declared.token.Token.TheVariants as token
+use Rattle.std.proofs.lemmas.Cmp.{nat_list_eq_equiv}
 
 same_itself : (n : List ℕ) → same_text n n ≡ true
 same_itself n = nat_list_eq_equiv.refl n
-
-pub differ_texts : (m n : List ℕ) → m ≢ n → same_text m n ≡ false
-differ_texts m n h = false_from_ne_true (same_text m n) (λ e. h (texts.same_text m n e))
 
 cases_same : (m n : List ℕ) → (m ≡ n) ⊎ (m ≢ n)
 cases_same m n = elim (cases_Bool (same_text m n)) [ inl e ↦ inl (texts.same_text m n e) | inr e ↦ inr (texts.other_text m n e) ]

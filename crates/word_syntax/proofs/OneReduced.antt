@@ -7,8 +7,9 @@ use Rattle.std.proofs.lemmas.Nat.{div-add-mod'}
 use Rattle.std.proofs.lemmas.Option.{same_Some}
 use Rattle.aut_base.proofs.Copies.{length-copies}
 use Rattle.aut_base.proofs.Lists.{slice_get-push_last}
+use Rattle.aut_base.proofs.Spelled.{stem_letter}
 use Rattle.aut_base.specs.Word.{IsReduced, NameSet, copies, letter_at}
-use Rattle.word_syntax.proofs.Cyclic.{at_cycle, at_stem, copies_at, cyclic_again, slice_get-take}
+use Rattle.word_syntax.proofs.Cyclic.{at_cycle, copies_at, cyclic_again, slice_get-take}
 use Rattle.word_syntax.specs.Words.{OneReducedLasso}
 use Rattle.word_syntax.specs.inner.Periods.{cyclic}
 
@@ -124,7 +125,7 @@ no_longer : (w : ℕ → Option NameSet) (u v x y : List NameSet) → ((n : ℕ)
 no_longer w u v x y one two some same reduced longer =
     let a = last_of u (omega arith) in
     let b = last_of v some in
-    let here : w (length u - 1) ≡ Some a.last = one (length u - 1) ∙ (at_stem u v (length u - 1) (omega arith) ∙ last_stands u a) in
+    let here : w (length u - 1) ≡ Some a.last = one (length u - 1) ∙ (stem_letter u v (length u - 1) (omega arith) ∙ last_stands u a) in
     let e : length u - 1 + length y ≡ length u + (0 * length v + (length v - 1)) = omega arith in
     let there : w (length u - 1 + length y) ≡ Some b.last = same_at w (length u - 1 + length y) (length u + (0 * length v + (length v - 1))) e ∙ (far_out w u v one (length v - 1) 0 ∙ (ap (slice_get v) (mod-eq_of_lt (omega arith)) ∙ last_stands v b)) in
     reduced.stem a.front b.front a.last b.last a.is b.is (same_Some a.last b.last (sym here ∙ (sym (cycle_repeats w x y two (length u - 1) (omega arith)) ∙ there)))
@@ -139,7 +140,7 @@ one_reduced_lasso u v x y some some' reduced reduced' same =
       | inr (inl less) ↦ absurd (no_longer (letter_at u v) x y u v same one some' (sym cycles) reduced' less)
       | inr (inr more) ↦ absurd (no_longer (letter_at u v) u v x y one same some cycles reduced more)
     ] in (
-      lists_same u x stems (λ i h. sym (at_stem u v i h) ∙ (same i ∙ at_stem x y i (omega arith))),
+      lists_same u x stems (λ i h. sym (stem_letter u v i h) ∙ (same i ∙ stem_letter x y i (omega arith))),
       lists_same v y cycles (λ i h. let inside : i < length y = omega arith in
           ap (slice_get v) (sym (mod-eq_of_lt h)) ∙ (sym (far_out (letter_at u v) u v one i 0) ∙ (same_at (letter_at u v) (length u + (0 * length v + i)) (length x + (0 * length y + i)) (omega arith) ∙ (far_out (letter_at u v) x y same i 0 ∙ ap (slice_get y) (mod-eq_of_lt inside))))),
     )

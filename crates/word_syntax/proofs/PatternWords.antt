@@ -9,12 +9,12 @@ use Rattle.aut_base.proofs.Copies.{copies-add, copies-copies, length-copies}
 use Rattle.aut_base.proofs.Lists.{slice_get-append_left, slice_get-append_right}
 use Rattle.aut_base.proofs.Paths.{path_copies, path_join}
 use Rattle.aut_base.proofs.SameWord as same_word
-use Rattle.aut_base.proofs.Spelled.{word_letter}
+use Rattle.aut_base.proofs.Spelled.{stem_letter, word_letter}
 use Rattle.aut_base.specs.Acceptance.{Accepts, IsPath}
 use Rattle.aut_base.specs.Automaton.{Automaton}
 use Rattle.aut_base.specs.Label.{LabelTree, holds_at, truth}
 use Rattle.aut_base.specs.Word.{NameSet, SpellsSame, copies, letter_at}
-use Rattle.word_syntax.proofs.Cyclic.{at_cycle, at_stem, copies_at, slice_get-drop, slice_get-take}
+use Rattle.word_syntax.proofs.Cyclic.{at_cycle, copies_at, slice_get-drop, slice_get-take}
 use Rattle.word_syntax.proofs.OneReduced.{Repeats, cycle_repeats, same_at}
 use Rattle.word_syntax.proofs.PatternWalks.{MeetsFrom, labels, state_at, state_in_cycle, state_in_stem, walk, walked}
 use Rattle.word_syntax.specs.Grammar.{WordPattern}
@@ -198,7 +198,7 @@ respelled p some u v turns endless room meets =
             meets_get p 0 (u ++ copies turns v) meets (length p.stem + length u * length p.cycle + i) x t (sym (in_cycle i within) ∙ h) (ap (λ (n : ℕ). slice_get (labels p) (state_at p n)) z ∙ (label_behind p (length u) (length v) i within ∙ s)));
       };
       same = λ n. elim (cases_lt n (length p.stem + length u * length p.cycle)) [
-        | inl inside ↦ word_letter u v turns n endless (omega arith) ∙ (sym (in_stem n inside) ∙ sym (at_stem stem cycle n (omega arith)))
+        | inl inside ↦ word_letter u v turns n endless (omega arith) ∙ (sym (in_stem n inside) ∙ sym (stem_letter stem cycle n (omega arith)))
         | inr past ↦ (let r : ℕ = (n - (length p.stem + length u * length p.cycle)) % (length v * length p.cycle) in
             let below : (n - (length p.stem + length u * length p.cycle)) % (length v * length p.cycle) < length v * length p.cycle = mod-lt (n - (length p.stem + length u * length p.cycle)) some_cycle in
             let times : ℕ = (n - (length p.stem + length u * length p.cycle)) / (length v * length p.cycle) in

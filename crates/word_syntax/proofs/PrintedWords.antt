@@ -7,18 +7,19 @@ use Rattle.std.specs.FinSet.{contains}
 use Rattle.std.specs.List.{AllByRecursion, list_all}
 use Rattle.std.specs.Option.{option_map_or}
 use Rattle.aut_base.proofs.AllByRecursion.{AllByRecursion-append}
+use Rattle.aut_base.proofs.CanonicalTruth.{truth-all_of}
 use Rattle.aut_base.proofs.Copies.{length-copies}
 use Rattle.aut_base.proofs.Lists.{slice_get-append_right}
 use Rattle.aut_base.proofs.Ordered.{Pairs, all_kept, pairs_from}
-use Rattle.aut_base.proofs.Spelled.{word_letter}
-use Rattle.aut_base.proofs.Truth.{and-true}
+use Rattle.aut_base.proofs.Spelled.{stem_letter, word_letter}
+use Rattle.aut_base.proofs.Texts.{differ_texts}
 use Rattle.aut_base.specs.CanonicalLabel.{all_of}
 use Rattle.aut_base.specs.Label as label
-use Rattle.aut_base.specs.Label.{LabelTree, all_true, holds_at, trees, truth}
+use Rattle.aut_base.specs.Label.{LabelTree, holds_at, trees, truth}
 use Rattle.aut_base.specs.Text.{same_text}
 use Rattle.aut_base.specs.Word.{NameSet, SpellsSame, copies}
-use Rattle.word_syntax.proofs.Cyclic.{at_cycle, at_stem, copies_at, mod_of_multiple}
-use Rattle.word_syntax.proofs.NamePlaces.{Differ, Has, contains_has, differ_texts, has_contains, mutual_push, names_of-append, others}
+use Rattle.word_syntax.proofs.Cyclic.{at_cycle, copies_at, mod_of_multiple}
+use Rattle.word_syntax.proofs.NamePlaces.{Differ, Has, contains_has, has_contains, mutual_push, names_of-append, others}
 use Rattle.word_syntax.proofs.PrintedTokens.{cycle_tokens, letter_tokens, literal_tokens, literals_tokens, printed_tokens, stem_tokens, word_tokens}
 use Rattle.word_syntax.specs.Grammar.{AreLetters, AreOperands, IsConjunction, IsLetter, IsOperand, IsWord, WordPattern, always, distinct, either, joined, letter, names_of, negated, no_conjunction, no_letter, no_operand, operand, proposition}
 use Rattle.word_syntax.specs.Matching.{AllMeet, Matches}
@@ -181,16 +182,6 @@ word_written names u x xs d =
       spelled = ap (λ (w : List Token). stem_tokens names u ++ (token.Cycle ∷ token.LeftBrace ∷ w)) (ap (λ (w : List Token). w ++ token.RightBrace ∷ []) cycle.spelled ∙ append_assoc cycle.front cycle.last_tokens (token.RightBrace ∷ []));
     }
 
--- what a letter's label says of another letter
-truth_trees : (h : ℕ → Bool) (ts : List LabelTree) → all_true h (trees ts) ≡ list_all (truth h) ts
-truth_trees h [] = refl
-truth_trees h (t ∷ ts) = ap (λ (b : Bool). truth h t && b) (truth_trees h ts)
-
-truth_all_of : (h : ℕ → Bool) (ts : List LabelTree) → truth h (all_of ts) ≡ list_all (truth h) ts
-truth_all_of h [] = refl
-truth_all_of h (t ∷ []) = sym (and-true (truth h t))
-truth_all_of h (t ∷ u ∷ us) = ap (λ (b : Bool). truth h t && (truth h u && b)) (truth_trees h us)
-
 literal_truth : (names : List (List ℕ)) (x y : NameSet) (i : ℕ) (n : List ℕ) → slice_get names i ≡ Some n → (truth (holds_at names x) (literal_tree y i n) ≡ true) ↔ (contains x n ≡ contains y n)
 literal_truth names x y i n stands =
     let holds : holds_at names x i ≡ contains x n = ap (λ (o : Option (List ℕ)). option_map_or (contains x) o false) stands in
@@ -221,7 +212,7 @@ trees_truth names x y pre i (m ∷ ms) is at =
 letter_truth : (names : List (List ℕ)) (x y : NameSet) → (truth (holds_at names x) (letter_tree names y) ≡ true) ↔ AgreesOn names x y
 letter_truth names x y =
     let all = trees_truth names x y [] 0 names refl refl in
-    let t = truth_all_of (holds_at names x) (literal_trees y 0 names) in
+    let t = truth-all_of (holds_at names x) (literal_trees y 0 names) in
     ((λ h n c. all.0 (sym t ∙ h) n (contains_has names n c.0 c.1 c.2)), λ h. t ∙ all.1 (λ n has. h n (has_contains names n has)))
 
 all_meet_agree : (names : List (List ℕ)) (xs ys : List NameSet) → AllMeet names xs (map (letter_tree names) ys) ↔ AllAgree names xs ys
@@ -243,7 +234,7 @@ unrolled_same u v turns rounds some more n =
     let long : length (u ++ copies turns v) ≡ length u + turns * length v = length-append u (copies turns v) ∙ ap (λ (k : ℕ). length u + k) (length-copies turns v) in
     let size : length (copies rounds v) ≡ rounds * length v = length-copies rounds v in
     elim (cases_lt n (length u + turns * length v)) [
-      | inl inside ↦ at_stem (u ++ copies turns v) (copies rounds v) n (omega arith) ∙ sym (word_letter u v turns n some inside)
+      | inl inside ↦ stem_letter (u ++ copies turns v) (copies rounds v) n (omega arith) ∙ sym (word_letter u v turns n some inside)
       | inr past ↦ (let positive : 0 < rounds * length v = times rounds (length v) more some in
           let below : (n - (length u + turns * length v)) % (rounds * length v) < rounds * length v = omega arith in
           let split : n - length u ≡ n - (length u + turns * length v) + length v * turns = omega arith in

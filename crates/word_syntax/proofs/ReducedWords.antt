@@ -6,24 +6,18 @@ use Rattle.std.proofs.lemmas.List.{length-take-le}
 use Rattle.aut_base.proofs.Copies.{length-copies}
 use Rattle.aut_base.proofs.Lists.{slice_get-push_last}
 use Rattle.aut_base.proofs.SameWord as same_word
+use Rattle.aut_base.proofs.Spelled.{stem_letter}
 use Rattle.aut_base.specs.Acceptance.{Accepts}
 use Rattle.aut_base.specs.Automaton.{Automaton}
 use Rattle.aut_base.specs.Word.{IsReduced, NameSet, SpellsSame, copies, letter_at}
-use Rattle.word_syntax.proofs.Cyclic.{at_cycle, at_stem, copies_at, cyclic_again, length-turned, mod_of_multiple, slice_get-take, turned_at}
+use Rattle.word_syntax.proofs.Cyclic.{at_cycle, at_same, copies_at, cyclic_again, length-turned, mod_of_multiple, slice_get-take, turned_at}
 use Rattle.word_syntax.specs.inner.Periods.{IsMidShared, IsRoot, IsShared, cyclic}
-
-at_same : (v : List NameSet) (i j : ℕ) → i ≡ j → slice_get v i ≡ slice_get v j
-at_same v i j e = ap (slice_get v) e
 
 cyclic_same : (v : List NameSet) (i j : ℕ) → i ≡ j → cyclic v i ≡ cyclic v j
 cyclic_same v i j e = ap (cyclic v) e
 
 cyclic_within : (v : List NameSet) (i : ℕ) → i < length v → cyclic v i ≡ slice_get v i
 cyclic_within v i h = ap (slice_get v) (mod-eq_of_lt h)
-
--- nothing is left out yet
-pub shared_start : (stem root : List NameSet) → 0 < length root → IsMidShared stem root (length stem) 0
-shared_start stem root some = record { within = omega arith; inside = some; same = λ n h k. absurd (omega arith); turns = 0; whole = omega arith }
 
 -- a letter of the stem more is left out, where the root begins inside
 pub shared_more : (stem root : List NameSet) (kept from : ℕ) → 0 < kept → 0 < from → IsMidShared stem root kept from → slice_get stem (kept - 1) ≡ slice_get root (from - 1) → IsMidShared stem root (kept - 1) (from - 1)
@@ -105,11 +99,11 @@ made_same stem cycle u v m n =
     let s = m.shared.shared in
     let kept : m.kept ≤ length stem = s.within in
     elim (cases_lt n m.kept) [
-      | inl inside ↦ at_stem u v n (omega arith) ∙ (ap (λ (w : List NameSet). slice_get w n) m.stem_is ∙ (slice_get-take m.kept stem n inside ∙ sym (at_stem stem cycle n (omega arith))))
+      | inl inside ↦ stem_letter u v n (omega arith) ∙ (ap (λ (w : List NameSet). slice_get w n) m.stem_is ∙ (slice_get-take m.kept stem n inside ∙ sym (stem_letter stem cycle n (omega arith))))
       | inr past ↦ (let here : letter_at u v n ≡ cyclic (take m.size cycle) (m.from + (n - m.kept)) =
           at_cycle u v n (omega arith) ∙ (cyclic_same v (n - length u) (n - m.kept) (ap (λ (k : ℕ). n - k) long) ∙ turned_cyclic stem cycle u v m (n - m.kept)) in
           elim (cases_lt n (length stem)) [
-            | inl shared ↦ here ∙ (sym (s.same n past shared) ∙ sym (at_stem stem cycle n shared))
+            | inl shared ↦ here ∙ (sym (s.same n past shared) ∙ sym (stem_letter stem cycle n shared))
             | inr behind ↦ (let e : m.from + (n - m.kept) ≡ s.turns * length (take m.size cycle) + (n - length stem) = omega (arith, s.whole) in
                 here ∙ (cyclic_again (take m.size cycle) (m.from + (n - m.kept)) (n - length stem) s.turns e
                 ∙ (front_cyclic cycle m.size (n - length stem) m.root ∙ (sym (root_cyclic cycle m.size (n - length stem) m.root) ∙ sym (at_cycle stem cycle n behind)))))

@@ -138,21 +138,3 @@ one_pattern tokens p q w x =
     let stem : p.stem ≡ q.stem = ap (λ (s : WordState). s.stem) same in
     let cycle : p.cycle ≡ q.cycle = ap (λ (s : WordState). s.cycle) same in
     ap (λ (ns : List (List ℕ)). record { names = ns; stem = p.stem; cycle = p.cycle }) names ∙ (ap (λ (us : List LabelTree). record { names = q.names; stem = us; cycle = p.cycle }) stem ∙ ap (λ (us : List LabelTree). record { names = q.names; stem = q.stem; cycle = us }) cycle)
-
--- a word is not a proper front of what a word begins with
-pub word_goes_no_further : (tokens : List Token) (t : Token) (p : WordPattern) → IsWord tokens p → Begins (tokens ++ t ∷ []) → ⊥
-word_goes_no_further tokens t p w b = begins_not tokens (word p.stem p.cycle End fresh) t (λ place agrees. word_runs place tokens p (let P : List (List ℕ) → Type 0 = λ x. Agrees place x in subst P (sym w.names) agrees) w) (λ place. stuck_at_end place t p.stem p.cycle) b
-  where
-    stuck_at_end : (place : List ℕ → ℕ) (t : Token) (stem cycle : List LabelTree) → word_step place (word stem cycle End fresh) t ≡ None
-    stuck_at_end place token.True stem cycle = refl
-    stuck_at_end place token.False stem cycle = refl
-    stuck_at_end place (token.Name name) stem cycle = refl
-    stuck_at_end place token.Not stem cycle = refl
-    stuck_at_end place token.And stem cycle = refl
-    stuck_at_end place token.Or stem cycle = refl
-    stuck_at_end place token.LeftParen stem cycle = refl
-    stuck_at_end place token.RightParen stem cycle = refl
-    stuck_at_end place token.Semicolon stem cycle = refl
-    stuck_at_end place token.Cycle stem cycle = refl
-    stuck_at_end place token.LeftBrace stem cycle = refl
-    stuck_at_end place token.RightBrace stem cycle = refl

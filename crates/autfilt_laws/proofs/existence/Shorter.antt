@@ -1,22 +1,13 @@
 -- Each automaton of a text, whole or abandoned, takes at least one byte.
 use Rattle.std.proofs.Common.{ℕ, ◌+◌, ◌-◌, ◌<◌, ◌≤◌, List, [], ◌∷◌, length, map, ap, arith}
-use Rattle.std.proofs.lemmas.List.{length-append}
-use Rattle.hoa_lexer.proofs.spelling.FirstBytes.{spelled_some}
 use Rattle.hoa_lexer.specs.Spelling as spelling
-use Rattle.hoa_lexer.specs.Text.{IsNext, Lexes}
+use Rattle.hoa_lexer.specs.Text.{Lexes}
 use Rattle.hoa_lexer.specs.declared.token.Token.{Token}
 use Rattle.hoa_parser.proofs.standing.DeadEnds.{nothing_unfinished}
+use Rattle.hoa_parser.proofs.standing.SomeStanding.{next_less}
 use Rattle.hoa_parser.specs.Grammar.{Spells}
 use Rattle.hoa_parser.specs.Raw.{Written}
 use Rattle.hoa_parser.specs.Standing.{IsAborted, IsWhole, most_depth}
-
-word_some : (t : Token) (word : List ℕ) → spelling.Spells t word → 1 ≤ length word
-word_some t [] h = absurd (spelled_some t h)
-word_some t (b ∷ bs) h = omega arith
-
-next_less : (input : List ℕ) (start : ℕ) (t : Token) (i : ℕ) (rest : List ℕ) → IsNext input start t i rest → length rest < length input
-next_less input start t i rest n =
-    omega (arith, word_some t n.front.word n.front.spells, simp length-append at (ap length n.split), simp length-append at (ap length n.front.split))
 
 lexes_less : (ts : List (Token × ℕ)) (input : List ℕ) (start : ℕ) (rest : List ℕ) → Lexes input start ts rest → length rest ≤ length input
 lexes_less [] input start rest l = omega (arith, ap length l)

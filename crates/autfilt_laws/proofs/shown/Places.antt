@@ -1,30 +1,21 @@
 -- Where something stands next in a text that a reader refuses, there is a place at which a reader stops.
-use Rattle.std.proofs.Common.{◌≡◌, ◌≢◌, ℕ, true, not, is_some, List, [], ◌∷◌, ◌++◌, ◌⊎◌, Option, Some, None, inl, inr, refl, sym, ap, subst, ◌∙◌}
+use Rattle.std.proofs.Common.{◌≡◌, ◌≢◌, ℕ, true, not, is_some, List, [], ◌∷◌, ◌++◌, ◌⊎◌, Option, Some, None, inl, inr, sym, ap, subst, ◌∙◌}
 use Rattle.std.proofs.lemmas.List.{append_assoc, append-nil}
-use Rattle.aut_base.proofs.Lists.{right_empty}
 use Rattle.aut_base.proofs.Truth.{true_from_not}
 use Rattle.hoa_lexer.specs.Blanks.{IsBlanks}
-use Rattle.hoa_lexer.specs.Reading.{unread}
 use Rattle.hoa_lexer.specs.Spelling.{closes_itself}
-use Rattle.hoa_lexer.specs.Text.{AskedForOne, HasFront, IsNext, IsShownBy}
+use Rattle.hoa_lexer.specs.Text.{IsNext}
 use Rattle.hoa_lexer.specs.declared.token.Token.{Token}
 use Rattle.hoa_lexer.proofs.next_token.Asked.{last_is_asked_for}
-use Rattle.hoa_lexer.proofs.spelling.FirstBytes.{no_front}
+use Rattle.hoa_parser.proofs.standing.Hopeless.{asked_last, hopeless_so, next_leaves, next_off, next_some, no_token_at, unread_is}
 use Rattle.hoa_parser.proofs.standing.OpenEnds.{open_end_asks}
-use Rattle.hoa_parser.proofs.standing.Settled.{bad_is_hopeless}
 use Rattle.hoa_parser.specs.Reads.{AskedForLast, IsHopeless}
-use Rattle.hoa_parser.specs.Standing.{EndsOpen, IsBad, IsBegun, IsMisplaced, IsNoTokenAt}
+use Rattle.hoa_parser.specs.Standing.{EndsOpen, IsBegun, IsMisplaced, IsNoTokenAt}
 use Rattle.autfilt_laws.specs.Places.{BadIsShown, CutIsShown, DeepIsShown}
-use Rattle.autfilt_laws.proofs.shown.Ends.{IsClosed, begun_off, closing, lexes_leaves, next_leaves, next_off}
+use Rattle.autfilt_laws.proofs.shown.Ends.{IsClosed, closing}
 use Rattle.autfilt_laws.proofs.shown.NoTokens.{refuses_at}
 
 -- the last byte was asked for
-
-asked_last : (start : ℕ) (text left : List ℕ) (tokens : List Token) (used : ℕ) (rest : List ℕ) → IsBegun start text tokens used rest → AskedForOne rest left → AskedForLast start text left
-asked_last start text left tokens used rest begun one = record {
-  byte = one.byte;
-  asked = record { tokens = tokens; used = used; rest = rest; begun = begun; asks = record { at_hand = one.at_hand; split = one.split; asks = one.asks } };
-}
 
 -- for a token that stands next
 asked_for_token : (start : ℕ) (text : List ℕ) (tokens : List Token) (used : ℕ) (rest : List ℕ) (t : Token) (k : ℕ) (after : List ℕ) → IsBegun start text tokens used rest → IsNext rest used t k after → (c : IsClosed t after) → AskedForLast start text c.left
@@ -34,20 +25,6 @@ asked_for_token start text tokens used rest t k after begun next c =
 
 -- what was taken shows that the text cannot go on
 
-hopeless_so : (k start : ℕ) (text left : List ℕ) (tokens : List Token) (used : ℕ) (rest : List ℕ) → IsBegun start text tokens used (rest ++ left) → rest ≢ [] → IsMisplaced k tokens used rest ⊎ IsNoTokenAt k used rest → IsHopeless k start text left
-hopeless_so k start text left tokens used rest begun some why =
-    let leaves = lexes_leaves begun.placed text start (rest ++ left) begun.lexes in
-    let taken = leaves.before ++ rest in
-    let split : text ≡ taken ++ left = leaves.split ∙ sym (append_assoc leaves.before rest left) in
-    let bad : IsBad start taken k = record {
-      tokens = tokens;
-      used = used;
-      rest = rest;
-      begun = begun_off start taken tokens used rest left some (subst (λ (w : List ℕ). IsBegun start w tokens used (rest ++ left)) split begun);
-      fault = why;
-    } in
-    record { used = taken; split = split; bad = bad; hopeless = λ more w behind whole. bad_is_hopeless start k taken more behind w bad whole }
-
 -- a token that cannot stand there
 
 -- the byte that is held, if any
@@ -55,19 +32,10 @@ abbrev held_bytes : Option ℕ → List ℕ
 held_bytes None = []
 held_bytes (Some b) = b ∷ []
 
-unread_is : (held : Option ℕ) (left : List ℕ) → unread held left ≡ held_bytes held ++ left
-unread_is None left = refl
-unread_is (Some b) left = refl
-
 -- where none is held, the token is closed by its own last byte
 closed_so : (held : Option ℕ) (t : Token) → is_some held ≡ not (closes_itself t) → held_bytes held ≡ [] → closes_itself t ≡ true
 closed_so None t e none = true_from_not (closes_itself t) e
 closed_so (Some b) t e none = cc
-
-next_some : (input : List ℕ) (start : ℕ) (t : Token) (i : ℕ) (rest : List ℕ) → IsNext input start t i rest → input ≢ []
-next_some input start t i rest n e =
-    let f : HasFront n.bytes = record { token = t; rest = rest; front = n.front } in
-    no_front (subst HasFront (right_empty n.before n.bytes (sym n.split ∙ e)) f)
 
 misplaced_shown : (k start : ℕ) (text : List ℕ) (tokens : List Token) (used : ℕ) (rest : List ℕ) → IsBegun start text tokens used rest → (m : IsMisplaced k tokens used rest) → (c : IsClosed m.next_token m.after) → IsHopeless k start text c.left
 misplaced_shown k start text tokens used rest begun m c =
@@ -84,13 +52,6 @@ misplaced_shown k start text tokens used rest begun m c =
 
 -- no token
 
-no_token_shown : (k start : ℕ) (text left : List ℕ) (tokens : List Token) (used : ℕ) (rest : List ℕ) → IsBegun start text tokens used rest → IsShownBy k used rest left → IsHopeless k start text left
-no_token_shown k start text left tokens used rest begun by =
-    let at : IsNoTokenAt k used by.used = by.shows in
-    hopeless_so k start text left tokens used by.used (subst (λ (w : List ℕ). IsBegun start text tokens used w) by.split begun)
-    (λ e. at.holds.1.some (right_empty at.before at.bytes (sym at.split ∙ e)))
-    (inr at)
-
 -- the places
 
 fault_is_shown : (start k : ℕ) (text : List ℕ) (tokens : List Token) (used : ℕ) (rest : List ℕ) → IsBegun start text tokens used rest → IsMisplaced k tokens used rest ⊎ IsNoTokenAt k used rest
@@ -100,7 +61,7 @@ fault_is_shown start k text tokens used rest begun (inl m) =
     (c.left, misplaced_shown k start text tokens used rest begun m c, asked_for_token start text tokens used rest m.next_token k m.after begun m.next c)
 fault_is_shown start k text tokens used rest begun (inr n) =
     let r = refuses_at k used rest n in
-    (r.left, no_token_shown k start text r.left tokens used rest begun r.answers.2, asked_last start text r.left tokens used rest begun r.answers.1)
+    (r.left, no_token_at k start text r.left tokens used rest begun r.answers.2, asked_last start text r.left tokens used rest begun r.answers.1)
 
 pub bad_is_shown : BadIsShown
 bad_is_shown start k text h = fault_is_shown start k text h.tokens h.used h.rest h.begun h.fault

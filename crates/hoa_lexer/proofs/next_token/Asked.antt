@@ -13,12 +13,12 @@ use Rattle.aut_base.proofs.Lists.{empty_of_length}
 use Rattle.hoa_lexer.proofs.next_token.Fronts.{front_of}
 use Rattle.hoa_lexer.proofs.next_token.Unique.{one_next_token}
 
-stops_on : (p : ℕ → Bool) (rest more : List ℕ) → StopsAt p rest → StopsAt p (rest ++ more)
+pub stops_on : (p : ℕ → Bool) (rest more : List ℕ) → StopsAt p rest → StopsAt p (rest ++ more)
 stops_on p [] more h = absurd h
 stops_on p (b ∷ rest) more h = h
 
 -- what follows a token may go on
-ends_on : (t : Token) (rest more : List ℕ) → Ends t rest → Ends t (rest ++ more)
+pub ends_on : (t : Token) (rest more : List ℕ) → Ends t rest → Ends t (rest ++ more)
 ends_on (Identifier name) rest more h = (stops_on _ rest more h.0, stops_on _ rest more h.1)
 ends_on (Int zero) rest more h = tt
 ends_on (Int (suc n)) rest more h = stops_on _ rest more h

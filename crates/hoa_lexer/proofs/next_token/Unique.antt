@@ -296,7 +296,7 @@ one_next_token input start t u i k rest rest' f g =
 no_next_of_blanks : (input : List ℕ) (start : ℕ) (t : Token) (i : ℕ) (rest : List ℕ) → IsBlanks input → IsNext input start t i rest → ⊥
 no_next_of_blanks input start t i rest h f = blanks_no_token input h (front_of input start t i rest f)
 
-same_pair : (p q : Token × ℕ) → p.0 ≡ q.0 → p.1 ≡ q.1 → p ≡ q
+pub same_pair : (p q : Token × ℕ) → p.0 ≡ q.0 → p.1 ≡ q.1 → p ≡ q
 same_pair (t, i) (u, k) e f = cc
 
 pub one_token_list : OneTokenList

@@ -5,6 +5,7 @@ use Rattle.std.proofs.Math.Path.{ap₂}
 use Rattle.std.proofs.lemmas.List.{append_assoc}
 use Rattle.hoa_lexer.specs.declared.token.Token.{Token}
 use Rattle.hoa_lexer.specs.declared.token.Token.TheVariants.{Amp, Bar, LeftParen, RightParen}
+use Rattle.aut_base.proofs.Lists.{append_three}
 use Rattle.aut_base.specs.Formula as formula
 use Rattle.hoa_parser.specs.Grammar.{Condition, Fands, Fatoms, Fatom, all_of, one_of, set_tokens, condition_tokens, fands_tokens, fatoms_tokens, fatom_tokens, condition_meaning, fands_meaning, fatoms_meaning, fatom_meaning}
 use Rattle.hoa_parser.specs.Grammar.Condition.{condition}
@@ -12,7 +13,7 @@ use Rattle.hoa_parser.specs.Grammar.Fands.{no_fand, or_fand}
 use Rattle.hoa_parser.specs.Grammar.Fatoms.{no_fatom, and_fatom}
 use Rattle.hoa_parser.specs.Grammar.Fatom.{true_condition, false_condition, infinitely, finitely, condition_group}
 use Rattle.hoa_parser.proofs.grammar.JoinedParts.{ap₃}
-use Rattle.hoa_parser.proofs.grammar.Stops.{Stops, IsSame, is_amp, is_join, join_no_amp, stops_not, append_two, later_tokens, words_apart}
+use Rattle.hoa_parser.proofs.grammar.Stops.{Stops, IsSame, is_amp, is_join, join_no_amp, stops_not, later_tokens, words_apart}
 
 -- what follows the factors of a conjunction
 fands_stop : (ls : Fands) (c : List Token) → Stops is_join c → Stops is_amp (fands_tokens ls ++ c)
@@ -35,7 +36,7 @@ mutual
   pub same_condition : (l m : Condition) (c d : List Token) → condition_tokens l ++ c ≡ condition_tokens m ++ d → Stops is_join c → Stops is_join d → IsSame (condition_meaning l) (condition_meaning m) c d
   same_condition (condition f fs ls) (condition g gs ms) c d e s t =
       let a = same_fatom f g (fatoms_tokens fs ++ (fands_tokens ls ++ c)) (fatoms_tokens gs ++ (fands_tokens ms ++ d))
-      (sym (append_two (fatom_tokens f) (fatoms_tokens fs) (fands_tokens ls) c) ∙ e ∙ append_two (fatom_tokens g) (fatoms_tokens gs) (fands_tokens ms) d) in
+      (sym (append_three (fatom_tokens f) (fatoms_tokens fs) (fands_tokens ls) c) ∙ e ∙ append_three (fatom_tokens g) (fatoms_tokens gs) (fands_tokens ms) d) in
       let b = same_fatoms fs gs (fands_tokens ls ++ c) (fands_tokens ms ++ d) a.rest (fands_stop ls c s) (fands_stop ms d t) in
       let k = same_fands ls ms c d b.rest s t in
       record { value = ap₃ (λ x y z. one_of (all_of x y) z) a.value b.value k.value; rest = k.rest }
@@ -46,7 +47,7 @@ mutual
   same_fands (or_fand f fs ls) no_fand c d e s t = absurd (stops_not is_join d Bar _ t refl (sym e))
   same_fands (or_fand f fs ls) (or_fand g gs ms) c d e s t =
       let a = same_fatom f g (fatoms_tokens fs ++ (fands_tokens ls ++ c)) (fatoms_tokens gs ++ (fands_tokens ms ++ d))
-      (sym (append_two (fatom_tokens f) (fatoms_tokens fs) (fands_tokens ls) c) ∙ later_tokens Bar Bar _ _ e ∙ append_two (fatom_tokens g) (fatoms_tokens gs) (fands_tokens ms) d) in
+      (sym (append_three (fatom_tokens f) (fatoms_tokens fs) (fands_tokens ls) c) ∙ later_tokens Bar Bar _ _ e ∙ append_three (fatom_tokens g) (fatoms_tokens gs) (fands_tokens ms) d) in
       let b = same_fatoms fs gs (fands_tokens ls ++ c) (fands_tokens ms ++ d) a.rest (fands_stop ls c s) (fands_stop ms d t) in
       let k = same_fands ls ms c d b.rest s t in
       record { value = ap₃ (λ x y z. all_of x y ∷ z) a.value b.value k.value; rest = k.rest }

@@ -12,7 +12,8 @@ use Rattle.hoa_parser.specs.Grammar.Lands.{no_land, or_land}
 use Rattle.hoa_parser.specs.Grammar.Lnots.{no_lnot, and_lnot}
 use Rattle.hoa_parser.specs.Grammar.Lnot.{true_label, false_label, proposition, alias, negated, group}
 use Rattle.hoa_parser.proofs.grammar.JoinedParts.{ap₃}
-use Rattle.hoa_parser.proofs.grammar.Stops.{Stops, IsSame, is_amp, is_join, join_no_amp, stops_not, append_two, later_tokens, words_apart}
+use Rattle.hoa_parser.proofs.grammar.Stops.{Stops, IsSame, is_amp, is_join, join_no_amp, stops_not, later_tokens, words_apart}
+use Rattle.aut_base.proofs.Lists.{append_three}
 
 -- what follows the factors of a conjunction
 lands_stop : (ls : Lands) (c : List Token) → Stops is_join c → Stops is_amp (lands_tokens ls ++ c)
@@ -23,7 +24,7 @@ mutual
   pub same_label : (l m : Label) (c d : List Token) → label_tokens l ++ c ≡ label_tokens m ++ d → Stops is_join c → Stops is_join d → IsSame (label_meaning l) (label_meaning m) c d
   same_label (label f fs ls) (label g gs ms) c d e s t =
       let a = same_lnot f g (lnots_tokens fs ++ (lands_tokens ls ++ c)) (lnots_tokens gs ++ (lands_tokens ms ++ d))
-      (sym (append_two (lnot_tokens f) (lnots_tokens fs) (lands_tokens ls) c) ∙ e ∙ append_two (lnot_tokens g) (lnots_tokens gs) (lands_tokens ms) d) in
+      (sym (append_three (lnot_tokens f) (lnots_tokens fs) (lands_tokens ls) c) ∙ e ∙ append_three (lnot_tokens g) (lnots_tokens gs) (lands_tokens ms) d) in
       let b = same_lnots fs gs (lands_tokens ls ++ c) (lands_tokens ms ++ d) a.rest (lands_stop ls c s) (lands_stop ms d t) in
       let k = same_lands ls ms c d b.rest s t in
       record { value = ap₃ (λ x y z. disjunction (conjunction x y) z) a.value b.value k.value; rest = k.rest }
@@ -34,7 +35,7 @@ mutual
   same_lands (or_land f fs ls) no_land c d e s t = absurd (stops_not is_join d Bar _ t refl (sym e))
   same_lands (or_land f fs ls) (or_land g gs ms) c d e s t =
       let a = same_lnot f g (lnots_tokens fs ++ (lands_tokens ls ++ c)) (lnots_tokens gs ++ (lands_tokens ms ++ d))
-      (sym (append_two (lnot_tokens f) (lnots_tokens fs) (lands_tokens ls) c) ∙ later_tokens Bar Bar _ _ e ∙ append_two (lnot_tokens g) (lnots_tokens gs) (lands_tokens ms) d) in
+      (sym (append_three (lnot_tokens f) (lnots_tokens fs) (lands_tokens ls) c) ∙ later_tokens Bar Bar _ _ e ∙ append_three (lnot_tokens g) (lnots_tokens gs) (lands_tokens ms) d) in
       let b = same_lnots fs gs (lands_tokens ls ++ c) (lands_tokens ms ++ d) a.rest (lands_stop ls c s) (lands_stop ms d t) in
       let k = same_lands ls ms c d b.rest s t in
       record { value = ap₃ (λ x y z. conjunction x y ∷ z) a.value b.value k.value; rest = k.rest }

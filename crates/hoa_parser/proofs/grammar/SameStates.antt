@@ -9,7 +9,8 @@ use Rattle.hoa_parser.specs.Grammar.{EdgePhrase, Label, StatePhrase, conj_tokens
 use Rattle.hoa_parser.proofs.grammar.ClearPhrases.{Begins, IsClear, either, flat_clear, flat_stops, map_clear, stops_less}
 use Rattle.hoa_parser.proofs.grammar.SameItems.{is_text, same_conj, same_text_end}
 use Rattle.hoa_parser.proofs.grammar.SameLabels.{same_label}
-use Rattle.hoa_parser.proofs.grammar.Stops.{Stops, IsSame, is_amp, stops_not, append_two, first_token, later_tokens}
+use Rattle.hoa_parser.proofs.grammar.Stops.{Stops, IsSame, is_amp, stops_not, first_token, later_tokens}
+use Rattle.aut_base.proofs.Lists.{append_three}
 
 abbrev is_bracket : Token → Bool
 is_bracket LeftBracket = true
@@ -107,7 +108,7 @@ marks_stop (Some ms) c s = refl
 same_edge : IsClear edge_tokens edge_meaning is_in_edge
 same_edge p q c d e s k =
     let l = same_optional_label p.label q.label (conj_tokens p.to ++ (optional_marks p.marks ++ c)) (conj_tokens q.to ++ (optional_marks q.marks ++ d))
-    (sym (append_two (optional_label p.label) (conj_tokens p.to) (optional_marks p.marks) c) ∙ e ∙ append_two (optional_label q.label) (conj_tokens q.to) (optional_marks q.marks) d) refl refl in
+    (sym (append_three (optional_label p.label) (conj_tokens p.to) (optional_marks p.marks) c) ∙ e ∙ append_three (optional_label q.label) (conj_tokens q.to) (optional_marks q.marks) d) refl refl in
     let t = same_conj p.to q.to (optional_marks p.marks ++ c) (optional_marks q.marks ++ d) l.rest
     (marks_stop p.marks c (stops_less is_in_edge is_amp c edge_amp s)) (marks_stop q.marks d (stops_less is_in_edge is_amp d edge_amp k)) in
     let m = same_marks p.marks q.marks c d t.rest (stops_less is_in_edge is_brace c edge_brace s) (stops_less is_in_edge is_brace d edge_brace k) in
@@ -138,7 +139,7 @@ state_regroup : (s : StatePhrase) (c : List Token) → state_tokens s ++ c
     ≡ HeaderName (codes "State") ∷ (optional_label s.label ++ (Int s.number ∷ (optional_text s.name ++ (optional_marks s.marks ++ (flat_map edge_tokens s.edges ++ c)))))
 state_regroup s c =
     ap (λ w. HeaderName (codes "State") ∷ w) (append_assoc (optional_label s.label) _ c)
-    ∙ ap (λ w. HeaderName (codes "State") ∷ (optional_label s.label ++ (Int s.number ∷ w))) (append_two (optional_text s.name) (optional_marks s.marks) (flat_map edge_tokens s.edges) c)
+    ∙ ap (λ w. HeaderName (codes "State") ∷ (optional_label s.label ++ (Int s.number ∷ w))) (append_three (optional_text s.name) (optional_marks s.marks) (flat_map edge_tokens s.edges) c)
 
 pub same_state : IsClear state_tokens state_meaning is_in_state
 same_state p q c d e s k =

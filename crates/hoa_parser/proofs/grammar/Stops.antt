@@ -1,6 +1,5 @@
 -- Where a phrase stops: what can't go on, and lists of tokens that have one front in common.
 use Rattle.std.proofs.Common.{◌≡◌, ℕ, Bool, true, false, List, [], ◌∷◌, ◌++◌, refl, sym, ◌∙◌, ap}
-use Rattle.std.proofs.lemmas.List.{append_assoc}
 use Rattle.hoa_lexer.specs.declared.token.Token.{Token}
 use Rattle.hoa_lexer.specs.declared.token.Token.TheVariants.{Identifier, Amp, Bar}
 use Rattle.aut_base.specs.Text.{same_text}
@@ -32,9 +31,6 @@ stops_not goes_on (u ∷ us) t ts s g e =
     let same : u ≡ t = first_token u t us ts e in
     let both : false ≡ true = sym s ∙ ap goes_on same ∙ g in
     cc
-
-pub append_two : (a b c d : List Token) → (a ++ (b ++ c)) ++ d ≡ a ++ (b ++ (c ++ d))
-append_two a b c d = append_assoc a (b ++ c) d ∙ ap (λ w. a ++ w) (append_assoc b c d)
 
 abbrev pub is_amp : Token → Bool
 is_amp Amp = true

@@ -3,17 +3,10 @@ use Rattle.std.proofs.Common.{◌≡◌, ℕ, Bool, true, false, if◌then◌els
 use Rattle.std.proofs.lemmas.List.{append_assoc, append-nil, map-append}
 use Rattle.std.specs.Prelude.{nat_le}
 use Rattle.hoa_lexer.specs.declared.token.Token.{Token}
+use Rattle.hoa_parser.proofs.grammar.AfterLabels.{after_append}
 use Rattle.hoa_parser.specs.inner.Expecting.{Part, Move, Takes, Passes, Refuses, after, after_some, behind, move, moved, open_at}
 use Rattle.hoa_parser.specs.inner.Parsing.{Follows, Goes, Leads, Passed, Cursor, Unended, is_end}
 use Rattle.hoa_parser.specs.Standing.{most_depth}
-
-pub after_append : (most : ℕ) (parts : Option (List Part)) (u v : List Token) → after_some most parts (u ++ v) ≡ after_some most (after_some most parts u) v
-after_append most None [] [] = refl
-after_append most None [] (z ∷ v) = refl
-after_append most None (t ∷ u) [] = refl
-after_append most None (t ∷ u) (z ∷ v) = refl
-after_append most (Some parts) [] v = refl
-after_append most (Some parts) (t ∷ u) v = after_append most (behind most parts t) u v
 
 pub passed_then : (a m b : Cursor) (u v : List Token) → Passed a u m → Passed m v b → Passed a (u ++ v) b
 passed_then a m b [] v p q = subst (λ (x : Cursor). Passed x v b) (sym p) q

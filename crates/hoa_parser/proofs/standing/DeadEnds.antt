@@ -3,7 +3,7 @@ use Rattle.std.proofs.Common.{◌≡◌, ℕ, ◌+◌, ◌≤◌, List, [], ◌�
 use Rattle.hoa_lexer.specs.declared.token.Token.{Token}
 use Rattle.hoa_lexer.specs.declared.token.Token.TheVariants as token
 use Rattle.hoa_parser.specs.inner.Expecting as part
-use Rattle.hoa_parser.specs.inner.Expecting.{Part, Move, Takes, Passes, Refuses, after, after_some, behind, move, moved, open_at}
+use Rattle.hoa_parser.specs.inner.Expecting.{Part, after, after_some, behind}
 use Rattle.hoa_parser.specs.Grammar.{IsViable, Spells}
 use Rattle.hoa_parser.specs.Standing.{IsDead, SpellsNothing, most_depth}
 use Rattle.hoa_parser.proofs.grammar.Depths.{after_more, viable_more, within_more}
@@ -38,10 +38,6 @@ dead ts left z e refuses most v =
     let l : most_depth ≤ most + most_depth = omega arith in
     let here = after_next n ts left z (after_more most_depth n ts (part.Whole ∷ []) left l e) in
     refused n (ts ++ z ∷ []) (here ∙ refuses n) (viable_more most n (ts ++ z ∷ []) (omega arith) v)
-
--- a first part that refuses the token
-pub behind_refuses : (most : ℕ) (p : Part) (left : List Part) (z : Token) → move p z ≡ Refuses → behind most (p ∷ left) z ≡ None
-behind_refuses most p left z e = ap (λ (m : Move). moved most m (behind most left z) left) e
 
 -- `--ABORT--` can stand nowhere.
 pub abort_is_dead : (ts : List Token) (left : List Part) → after most_depth (part.Whole ∷ []) ts ≡ Some left → IsDead (ts ++ token.Abort ∷ [])

@@ -5,6 +5,7 @@ use Rattle.std.proofs.lemmas.List.{append_assoc, append-nil, append_cancel_right
 use Rattle.std.specs.Prelude.{◌⊎◌}
 use Rattle.aut_io.specs.Seen.{Seen}
 use Rattle.hoa_lexer.proofs.next_token.Between.{between_as}
+use Rattle.hoa_lexer.proofs.spelling.Comments.{unheld}
 use Rattle.hoa_lexer.proofs.spelling.FirstBytes.{no_front}
 use Rattle.hoa_lexer.specs.Blanks.{IsBlanks}
 use Rattle.hoa_lexer.proofs.next_token.Asked.{last_is_asked_for}
@@ -17,7 +18,8 @@ use Rattle.hoa_lexer.specs.declared.token.LexFault.{LexFault}
 use Rattle.hoa_lexer.specs.declared.token.LexFault.TheVariants as lex
 use Rattle.hoa_lexer.specs.declared.token.Token.{Token}
 use Rattle.hoa_lexer.specs.declared.token.Token.TheVariants as token
-use Rattle.hoa_parser.proofs.standing.DeadEnds.{behind_refuses, dead}
+use Rattle.hoa_parser.proofs.reading.FrontParts.{refuses_behind}
+use Rattle.hoa_parser.proofs.standing.DeadEnds.{dead}
 use Rattle.hoa_parser.proofs.standing.OpenEnds.{open_end_asks}
 use Rattle.hoa_parser.proofs.standing.Settled.{bad_is_hopeless, place_on}
 use Rattle.hoa_parser.proofs.standing.StandingAnswers.{Opened, Starts, before, begun_with, nothing_begun, said_then}
@@ -39,7 +41,7 @@ abbrev held_bytes : Option ℕ → List ℕ
 held_bytes None = []
 held_bytes (Some b) = b ∷ []
 
-unread_is : (held : Option ℕ) (left : List ℕ) → unread held left ≡ held_bytes held ++ left
+pub unread_is : (held : Option ℕ) (left : List ℕ) → unread held left ≡ held_bytes held ++ left
 unread_is None left = refl
 unread_is (Some b) left = refl
 
@@ -54,7 +56,7 @@ closed_so (Some b) z c e = cc
 
 -- what a token and the byte that closes it show without the bytes behind them
 
-ends_off : (t : Token) (rest more : List ℕ) → (rest ≡ [] → closes_itself t ≡ true) → Ends t (rest ++ more) → Ends t rest
+pub ends_off : (t : Token) (rest more : List ℕ) → (rest ≡ [] → closes_itself t ≡ true) → Ends t (rest ++ more) → Ends t rest
 ends_off (token.Identifier name) [] more c e = absurd (false≢true (c refl))
 ends_off (token.Identifier name) (b ∷ rest) more c e = e
 ends_off (token.Alias name) [] more c e = absurd (false≢true (c refl))
@@ -63,7 +65,7 @@ ends_off (token.Int (suc n)) [] more c e = absurd (false≢true (c refl))
 ends_off (token.Int (suc n)) (b ∷ rest) more c e = e
 ends_off _ rest more c e = tt
 
-next_off : (input rest more : List ℕ) (start i : ℕ) (t : Token) → (rest ≡ [] → closes_itself t ≡ true) → IsNext (input ++ more) start t i (rest ++ more) → IsNext input start t i rest
+pub next_off : (input rest more : List ℕ) (start i : ℕ) (t : Token) → (rest ≡ [] → closes_itself t ≡ true) → IsNext (input ++ more) start t i (rest ++ more) → IsNext input start t i rest
 next_off input rest more start i t c n = record {
   before = n.before;
   bytes = n.front.word ++ rest;
@@ -75,24 +77,24 @@ next_off input rest more start i t c n = record {
 }
 
 -- the bytes at the front of these, up to those
-record Leaves (bytes rest : List ℕ) : Type 0 where
+pub record Leaves (bytes rest : List ℕ) : Type 0 where
   before : List ℕ
   split : bytes ≡ before ++ rest
 
-next_leaves : (input : List ℕ) (start : ℕ) (t : Token) (i : ℕ) (rest : List ℕ) → IsNext input start t i rest → Leaves input rest
+pub next_leaves : (input : List ℕ) (start : ℕ) (t : Token) (i : ℕ) (rest : List ℕ) → IsNext input start t i rest → Leaves input rest
 next_leaves input start t i rest n = record {
   before = n.before ++ n.front.word;
   split = n.split ∙ ap (λ w. n.before ++ w) n.front.split ∙ sym (append_assoc n.before n.front.word rest);
 }
 
-lexes_leaves : (ts : List (Token × ℕ)) (input : List ℕ) (start : ℕ) (rest : List ℕ) → Lexes input start ts rest → Leaves input rest
+pub lexes_leaves : (ts : List (Token × ℕ)) (input : List ℕ) (start : ℕ) (rest : List ℕ) → Lexes input start ts rest → Leaves input rest
 lexes_leaves [] input start rest l = record { before = []; split = l }
 lexes_leaves (t ∷ ts) input start rest l =
     let first = next_leaves input start t.0 t.1 l.0 l.1 in
     let others = lexes_leaves ts l.0 (start + (length input - length l.0)) rest l.2 in
     record { before = first.before ++ others.before; split = first.split ∙ ap (λ w. first.before ++ w) others.split ∙ sym (append_assoc first.before others.before rest) }
 
-lexes_off : (ts : List (Token × ℕ)) (input : List ℕ) (start : ℕ) (rest more : List ℕ) → rest ≢ [] → Lexes (input ++ more) start ts (rest ++ more) → Lexes input start ts rest
+pub lexes_off : (ts : List (Token × ℕ)) (input : List ℕ) (start : ℕ) (rest more : List ℕ) → rest ≢ [] → Lexes (input ++ more) start ts (rest ++ more) → Lexes input start ts rest
 lexes_off [] input start rest more some l = append_cancel_right input rest more l
 lexes_off (t ∷ ts) input start rest more some l =
     let leaves = lexes_leaves ts l.0 (start + (length (input ++ more) - length l.0)) (rest ++ more) l.2 in
@@ -105,7 +107,7 @@ lexes_off (t ∷ ts) input start rest more some l =
           (subst (λ (w : List ℕ). Lexes w (start + (length (input ++ more) - length w)) ts (rest ++ more)) same l.2)),
     )
 
-begun_off : (start : ℕ) (text : List ℕ) (tokens : List Token) (used : ℕ) (rest more : List ℕ) → rest ≢ [] → IsBegun start (text ++ more) tokens used (rest ++ more) → IsBegun start text tokens used rest
+pub begun_off : (start : ℕ) (text : List ℕ) (tokens : List Token) (used : ℕ) (rest more : List ℕ) → rest ≢ [] → IsBegun start (text ++ more) tokens used (rest ++ more) → IsBegun start text tokens used rest
 begun_off start text tokens used rest more some b = record {
   placed = b.placed;
   shown = b.shown;
@@ -115,7 +117,7 @@ begun_off start text tokens used rest more some b = record {
   unfinished = b.unfinished;
 }
 
-hopeless_so : (k start : ℕ) (text left : List ℕ) (tokens : List Token) (used : ℕ) (rest : List ℕ) → IsBegun start text tokens used (rest ++ left) → rest ≢ [] → IsMisplaced k tokens used rest ⊎ IsNoTokenAt k used rest → IsHopeless k start text left
+pub hopeless_so : (k start : ℕ) (text left : List ℕ) (tokens : List Token) (used : ℕ) (rest : List ℕ) → IsBegun start text tokens used (rest ++ left) → rest ≢ [] → IsMisplaced k tokens used rest ⊎ IsNoTokenAt k used rest → IsHopeless k start text left
 hopeless_so k start text left tokens used rest begun some why =
     let leaves = lexes_leaves begun.placed text start (rest ++ left) begun.lexes in
     let taken = leaves.before ++ rest in
@@ -131,7 +133,7 @@ hopeless_so k start text left tokens used rest begun some why =
 
 -- a token that cannot stand there
 
-next_some : (input : List ℕ) (start : ℕ) (t : Token) (i : ℕ) (rest : List ℕ) → IsNext input start t i rest → input ≢ []
+pub next_some : (input : List ℕ) (start : ℕ) (t : Token) (i : ℕ) (rest : List ℕ) → IsNext input start t i rest → input ≢ []
 next_some input start t i rest n e =
     let f : HasFront n.bytes = record { token = t; rest = rest; front = n.front } in
     no_front (subst HasFront (right_empty n.before n.bytes (sym n.split ∙ e)) f)
@@ -151,7 +153,7 @@ misplaced_at k start text left tokens used rest after z held begun next ends clo
 
 -- no token
 
-no_token_at : (k start : ℕ) (text left : List ℕ) (tokens : List Token) (used : ℕ) (rest : List ℕ) → IsBegun start text tokens used rest → IsShownBy k used rest left → IsHopeless k start text left
+pub no_token_at : (k start : ℕ) (text left : List ℕ) (tokens : List Token) (used : ℕ) (rest : List ℕ) → IsBegun start text tokens used rest → IsShownBy k used rest left → IsHopeless k start text left
 no_token_at k start text left tokens used rest begun by =
     let at : IsNoTokenAt k used by.used = by.shows in
     hopeless_so k start text left tokens used by.used (subst (λ (w : List ℕ). IsBegun start text tokens used w) by.split begun)
@@ -160,7 +162,7 @@ no_token_at k start text left tokens used rest begun by =
 
 -- the last byte was asked for
 
-asked_last : (start : ℕ) (text left : List ℕ) (tokens : List Token) (used : ℕ) (rest : List ℕ) → IsBegun start text tokens used rest → AskedForOne rest left → AskedForLast start text left
+pub asked_last : (start : ℕ) (text left : List ℕ) (tokens : List Token) (used : ℕ) (rest : List ℕ) → IsBegun start text tokens used rest → AskedForOne rest left → AskedForLast start text left
 asked_last start text left tokens used rest begun one = record {
   byte = one.byte;
   asked = record { tokens = tokens; used = used; rest = rest; begun = begun; asks = record { at_hand = one.at_hand; split = one.split; asks = one.asks } };
@@ -188,9 +190,6 @@ misplaced_shown k start text left a b starts r at other ends =
     (dead g.tokens (g.left ++ []) b.token (g.leads.runs []) (λ most. g.over most [] ∙ r.refused most []))
     (λ some. other)
 
-nothing_held : (held : Option ℕ) (left : List ℕ) → held ≡ None → unread held left ≡ left
-nothing_held held left none = ap (λ (h : Option ℕ). unread h left) none
-
 -- why the lexer gave no other token
 shows_unread : (f : ReadFault) (start : ℕ) (text left : List ℕ) (a last : Cursor) → Starts start text a → Unread f (part.Whole ∷ []) a last → last.rest ≡ left → Shows (Err f) start text left
 shows_unread (fault.Syntax k) start text left a last starts u ends =
@@ -216,7 +215,7 @@ shows_unread fault.Memory start text left a last starts u ends = tt
 
 -- why no automaton was read
 pub shows_fault : (f : ReadFault) (start : ℕ) (text left : List ℕ) (a last : Cursor) → (Abandons f last.token → ⊥) → Starts start text a → Fails f (part.Whole ∷ []) a last → last.rest ≡ unread last.held left → Shows (Err f) start text left
-shows_fault f start text left a last other starts (inr u) ends = shows_unread f start text left a last starts u (ends ∙ nothing_held last.held left u.held)
+shows_fault f start text left a last other starts (inr u) ends = shows_unread f start text left a last starts u (ends ∙ unheld last.held left u.held)
 shows_fault (fault.Syntax k) start text left a last other starts (inl h) ends = (misplaced_shown k start text left a last starts h.0 h.1 other ends, asked_for_token start text left a last h.0.target starts h.0.goes ends)
 shows_fault fault.Depth start text left a last other starts (inl h) ends = asked_for_token start text left a last h.target starts h.goes ends
 shows_fault fault.Truncated start text left a last other starts (inl h) ends = absurd h
@@ -253,7 +252,7 @@ shows_lexing lex.Memory start offset old left h = tt
 -- it was another than `HOA:`
 pub shows_other : (start k : ℕ) (text left : List ℕ) (z : Token) (held : Option ℕ) → IsNext text start z k (unread held left) → is_some held ≡ not (closes_itself z) → move part.Whole z ≡ part.Refuses → Shows (Err (fault.Syntax k)) start text left
 shows_other start k text left z held next holds other = (
-  misplaced_at k start text left [] start text (unread held left) z held (nothing_begun start text) next refl (holds_closed held z holds) (dead [] (part.Whole ∷ []) z refl (λ most. behind_refuses most part.Whole [] z other)) (λ some. absurd (some refl)),
+  misplaced_at k start text left [] start text (unread held left) z held (nothing_begun start text) next refl (holds_closed held z holds) (dead [] (part.Whole ∷ []) z refl (λ most. refuses_behind most part.Whole [] z other)) (λ some. absurd (some refl)),
   asked_last start text left [] start text (nothing_begun start text) (last_is_asked_for text start k z held left next holds),
 )
 
@@ -277,7 +276,7 @@ pub raw_unlexed_shows : (f : LexFault) (result : Result Front ReadFault) (lexer 
 raw_unlexed_shows f result lexer lexer' offset seen seen' same none said =
     between_as seen.left seen'.left _ _
     (λ x y h. subst (λ (r : Result Front ReadFault). Shows r (lexer.since - held_count lexer.held) (unread lexer.held x) y) (sym (same.1 ∙ ap Err same.2))
-    (shows_lexing f _ offset (unread lexer.held x) y (subst (λ (w : List ℕ). lexing.Answers (Err f) (lexer.since - held_count lexer.held) offset (unread lexer.held x) w) (nothing_held lexer'.held y none) h))) said
+    (shows_lexing f _ offset (unread lexer.held x) y (subst (λ (w : List ℕ). lexing.Answers (Err f) (lexer.since - held_count lexer.held) offset (unread lexer.held x) w) (unheld lexer'.held y none) h))) said
 
 -- it gave another token than `HOA:`
 pub raw_other_shows : (k : ℕ) (lexer : Lexer) (seen : Seen) (s : State) → Opened lexer seen s → k ≡ s.lexer.offset → move part.Whole s.ahead ≡ part.Refuses → Left lexer seen s.seen (Shows (Err (fault.Syntax k)))

@@ -3,7 +3,7 @@ use Rattle.std.proofs.Common.{◌≡◌, ℕ, ◌+◌, ◌-◌, ◌≤◌, ◌�
 use Rattle.std.proofs.lemmas.List.{length-append}
 use Rattle.hoa_lexer.specs.Text.{IsNext, Lexes}
 use Rattle.hoa_lexer.specs.declared.token.Token.{Token}
-use Rattle.hoa_lexer.proofs.next_token.Unique.{one_next_token}
+use Rattle.hoa_lexer.proofs.next_token.Unique.{one_next_token, same_pair}
 
 -- how far into its whole the text is read, where this rest follows
 abbrev pub place : ℕ → List ℕ → List ℕ → ℕ
@@ -17,7 +17,7 @@ pub record IsFurther (ps qs : List (Token × ℕ)) (used : ℕ) (rest : List ℕ
   pub goes_on : qs ≡ ps ++ token ∷ more
   pub next : IsNext rest used token.0 token.1 after
 
-next_shorter : (input : List ℕ) (start : ℕ) (t : Token) (i : ℕ) (rest : List ℕ) → IsNext input start t i rest → length rest ≤ length input
+pub next_shorter : (input : List ℕ) (start : ℕ) (t : Token) (i : ℕ) (rest : List ℕ) → IsNext input start t i rest → length rest ≤ length input
 next_shorter input start t i rest f =
     omega (arith, simp length-append at (ap length f.split), simp length-append at (ap length f.front.split))
 
@@ -25,9 +25,6 @@ pub lexes_shorter : (input : List ℕ) (start : ℕ) (ts : List (Token × ℕ)) 
 lexes_shorter input start [] rest f = omega (arith, ap length f)
 lexes_shorter input start (t ∷ ts) rest f =
     omega (arith, next_shorter input start t.0 t.1 f.0 f.1, lexes_shorter f.0 (start + (length input - length f.0)) ts rest f.2)
-
-same_pair : (p q : Token × ℕ) → p.0 ≡ q.0 → p.1 ≡ q.1 → p ≡ q
-same_pair (t, i) (u, k) e f = cc
 
 further_first : (t : Token × ℕ) (ps qs : List (Token × ℕ)) (used used' : ℕ) (rest : List ℕ) → used ≡ used' → IsFurther ps qs used rest → IsFurther (t ∷ ps) (t ∷ qs) used' rest
 further_first t ps qs used used' rest e f = record {

@@ -1,29 +1,15 @@
 -- What the bytes at hand settle stays so, however the text goes on.
-use Rattle.std.proofs.Common.{◌≡◌, ◌≢◌, ℕ, zero, suc, ◌+◌, ◌-◌, ◌==◌, Bool, true, List, [], ◌∷◌, ◌++◌, length, inl, inr, refl, subst, ◌∙◌, ap, arith}
+use Rattle.std.proofs.Common.{◌≡◌, ◌≢◌, ℕ, ◌+◌, ◌-◌, ◌==◌, true, List, [], ◌∷◌, ◌++◌, length, inl, inr, refl, subst, ◌∙◌, ap, arith}
 use Rattle.std.proofs.lemmas.List.{append_assoc, length-append}
-use Rattle.hoa_lexer.specs.Bytes.{is_digit, is_space, is_word}
-use Rattle.hoa_lexer.specs.Spelling.{Ends, StopsAt}
+use Rattle.hoa_lexer.proofs.next_token.Asked.{ends_on}
+use Rattle.hoa_lexer.specs.Bytes.{is_space}
 use Rattle.hoa_lexer.specs.Text.{Begins, HasFront, IsFront, IsNext, IsNoToken, Lexes}
 use Rattle.hoa_lexer.specs.declared.token.Token.{Token}
-use Rattle.hoa_lexer.specs.declared.token.Token.TheVariants.{HeaderName, Identifier, Str, Int, Alias}
 use Rattle.hoa_parser.specs.Raw.{Written}
 use Rattle.hoa_parser.specs.Standing.{IsAborted, IsBad, IsBegun, IsDeep, IsMisplaced, IsNoTokenAt, IsWhole}
 use Rattle.hoa_parser.specs.Standing.Standing.{Blank, Whole, Deep, Bad, Aborted, Cut}
 use Rattle.hoa_parser.specs.StandingLaws.{BadIsHopeless, SettledStays}
 use Rattle.hoa_parser.proofs.standing.OneStanding.{one_standing}
-
-stops_on : (p : ℕ → Bool) (rest more : List ℕ) → StopsAt p rest → StopsAt p (rest ++ more)
-stops_on p [] more s = absurd s
-stops_on p (b ∷ rest) more s = s
-
-ends_on : (t : Token) (rest more : List ℕ) → Ends t rest → Ends t (rest ++ more)
-ends_on (Identifier name) rest more e = (stops_on is_word rest more e.0, stops_on (λ b. b == 58) rest more e.1)
-ends_on (Int zero) rest more e = tt
-ends_on (Int (suc n)) rest more e = stops_on is_digit rest more e
-ends_on (Alias name) rest more e = stops_on is_word rest more e
-ends_on (HeaderName name) rest more e = tt
-ends_on (Str text) rest more e = tt
-ends_on _ rest more e = tt
 
 front_on : (bytes rest more : List ℕ) (t : Token) → IsFront bytes t rest → IsFront (bytes ++ more) t (rest ++ more)
 front_on bytes rest more t f = record {

@@ -12,8 +12,7 @@ use Rattle.hoa_lexer.specs.declared.token.Token.{Token}
 use Rattle.hoa_lexer.specs.declared.token.Token.TheVariants as token
 use Rattle.hoa_parser.proofs.grammar.Viability.{viable, whole_so}
 use Rattle.hoa_parser.proofs.standing.DeadEnds.{abort_is_dead, after_next, refused, unfinished}
-use Rattle.hoa_parser.proofs.standing.Readings.{lexes_shorter}
-use Rattle.hoa_parser.proofs.standing.StandingTokens.{next_shorter}
+use Rattle.hoa_parser.proofs.standing.Readings.{lexes_shorter, next_shorter}
 use Rattle.hoa_parser.specs.Grammar.{Spells}
 use Rattle.hoa_parser.specs.inner.Expecting as part
 use Rattle.hoa_parser.specs.inner.Expecting.{Part, after, behind}
@@ -53,11 +52,11 @@ lexes_more input start (u ∷ ts) rest used t next l s e n =
     let others = lexes_shorter l.0 (start + (length input - length l.0)) ts rest l.2 in
     (l.0, l.1, lexes_more l.0 (start + (length input - length l.0)) ts rest used t next l.2 others (omega (arith, first, others, e)) n)
 
-word_some : (t : Token) (word : List ℕ) → spelling.Spells t word → 1 ≤ length word
+pub word_some : (t : Token) (word : List ℕ) → spelling.Spells t word → 1 ≤ length word
 word_some t [] h = absurd (spelled_some t h)
 word_some t (b ∷ bs) h = omega arith
 
-next_less : (input : List ℕ) (start : ℕ) (t : Token) (i : ℕ) (rest : List ℕ) → IsNext input start t i rest → length rest < length input
+pub next_less : (input : List ℕ) (start : ℕ) (t : Token) (i : ℕ) (rest : List ℕ) → IsNext input start t i rest → length rest < length input
 next_less input start t i rest n =
     omega (arith, word_some t n.front.word n.front.spells, simp length-append at (ap length n.split), simp length-append at (ap length n.front.split))
 

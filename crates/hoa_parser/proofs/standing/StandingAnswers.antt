@@ -1,8 +1,9 @@
 -- What the reading of an automaton says of what stands next in the text.
-use Rattle.std.proofs.Common.{◌≡◌, ◌≢◌, ℕ, ◌+◌, ◌-◌, ◌≤◌, true, false, List, [], ◌∷◌, ◌++◌, length, Option, Some, None, is_some, not, Result, Ok, Err, refl, sym, ap, subst, ◌∙◌, inl, inr, arith}
+use Rattle.std.proofs.Common.{◌≡◌, ◌≢◌, ℕ, ◌+◌, ◌-◌, ◌≤◌, true, false, List, [], ◌∷◌, ◌++◌, length, Option, Some, is_some, not, Result, Ok, Err, refl, sym, ap, subst, ◌∙◌, inl, inr, arith}
 use Rattle.std.proofs.lemmas.List.{append_assoc}
 use Rattle.std.specs.Prelude.{◌⊎◌, flat_map}
 use Rattle.aut_io.specs.Seen.{Seen}
+use Rattle.hoa_lexer.proofs.next_token.Fronts.{length_unread}
 use Rattle.hoa_lexer.specs.Blanks.{IsBlanks}
 use Rattle.hoa_lexer.proofs.next_token.Between.{between_as, between_both, between_then}
 use Rattle.hoa_lexer.specs.Moves.{Elsewhere, Moves, stop_of_next}
@@ -16,9 +17,10 @@ use Rattle.hoa_lexer.specs.declared.token.LexFault.TheVariants as lex
 use Rattle.hoa_lexer.specs.declared.token.Token.{Token}
 use Rattle.hoa_lexer.specs.declared.token.Token.TheVariants as token
 use Rattle.hoa_parser.proofs.reading.Automata.{opening}
-use Rattle.hoa_parser.proofs.standing.DeadEnds.{after_next, behind_refuses, dead, deep, nothing_unfinished, nothing_viable}
-use Rattle.hoa_parser.proofs.reading.FrontParts.{unended_then}
-use Rattle.hoa_parser.proofs.standing.StandingTokens.{next_shorter, stand_before, stand_with}
+use Rattle.hoa_parser.proofs.standing.DeadEnds.{after_next, dead, deep, nothing_unfinished, nothing_viable}
+use Rattle.hoa_parser.proofs.reading.FrontParts.{refuses_behind, unended_then}
+use Rattle.hoa_parser.proofs.standing.Readings.{next_shorter}
+use Rattle.hoa_parser.proofs.standing.StandingTokens.{stand_before, stand_with}
 use Rattle.hoa_parser.proofs.grammar.Viability.{viable}
 use Rattle.hoa_parser.specs.inner.Expecting as part
 use Rattle.hoa_parser.specs.inner.Expecting.{Part, after, behind, move}
@@ -225,7 +227,7 @@ answers_other start text z k new next other = record {
     next_token = z;
     after = new;
     next = next;
-    dead = dead [] (part.Whole ∷ []) z refl (λ most. behind_refuses most part.Whole [] z other);
+    dead = dead [] (part.Whole ∷ []) z refl (λ most. refuses_behind most part.Whole [] z other);
     no_abort = λ some. absurd (some refl);
   });
 }
@@ -239,10 +241,6 @@ answers_lexing lex.OpenToken start offset old new h = record { tokens = []; used
 answers_lexing lex.Read start offset old new h = record { tokens = []; used = start; rest = old; begun = nothing_begun start old; asks = h }
 answers_lexing lex.Bytes start offset old new h = record { tokens = []; used = start; rest = old; begun = nothing_begun start old; asks = h }
 answers_lexing lex.Memory start offset old new h = record { tokens = []; used = start; rest = old; begun = nothing_begun start old; behind = inl h }
-
-length_unread : (held : Option ℕ) (left : List ℕ) → length (unread held left) ≡ held_count held + length left
-length_unread None left = omega arith
-length_unread (Some b) left = omega arith
 
 used_so : (since since' taken taken' hold hold' x y old new : ℕ) → hold ≤ since → since' + taken ≡ since + taken' → taken' + y ≡ taken + x → taken ≤ taken' → old ≡ hold + x → new ≡ hold' + y → new ≤ old → since' - hold' ≡ (since - hold) + (old - new)
 used_so since since' taken taken' hold hold' x y old new within same took later is is' shorter = omega (arith, within, same, took, later, is, is', shorter)

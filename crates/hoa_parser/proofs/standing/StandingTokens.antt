@@ -1,8 +1,8 @@
 -- The tokens that a reader passed, as the text has them.
 use Rattle.std.proofs.Common.{◌≡◌, ℕ, ◌+◌, ◌-◌, ◌≤◌, List, [], ◌∷◌, ◌++◌, length, map, refl, sym, ap, subst, ◌∙◌, arith}
-use Rattle.std.proofs.lemmas.List.{length-append}
 use Rattle.hoa_lexer.specs.Text.{IsNext, Lexes}
 use Rattle.hoa_lexer.specs.declared.token.Token.{Token}
+use Rattle.hoa_parser.proofs.standing.Readings.{next_shorter}
 use Rattle.hoa_parser.specs.inner.Parsing.{Passed, Cursor}
 
 -- The tokens stand at the front of the text, and that of `b` is next.
@@ -23,12 +23,6 @@ pub record StandWith (start : ℕ) (text : List ℕ) (tokens : List Token) (b : 
   pub lexes : Lexes text start placed b.rest
   pub used_is : b.used ≡ start + (length text - length b.rest)
   pub shorter : length b.rest ≤ length text
-
-pub next_shorter : (input : List ℕ) (start : ℕ) (z : Token) (offset : ℕ) (rest : List ℕ) → IsNext input start z offset rest → length rest ≤ length input
-next_shorter input start z offset rest next =
-    let outer : length input ≡ length next.before + length next.bytes = ap length next.split ∙ length-append next.before next.bytes in
-    let inner : length next.bytes ≡ length next.front.word + length rest = ap length next.front.split ∙ length-append next.front.word rest in
-    omega (arith, outer, inner)
 
 used_later : (start used later all rest last : ℕ) → used ≡ start + (all - rest) → later ≡ used + (rest - last) → rest ≤ all → last ≤ rest → later ≡ start + (all - last)
 used_later start used later all rest last first second outer inner = omega (arith, first, second, outer, inner)

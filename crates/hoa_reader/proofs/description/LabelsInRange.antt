@@ -3,10 +3,11 @@ use Rattle.std.proofs.Common.{◌≡◌, ◌/◌, ◌%◌, ◌^◌, ◌<◌, ◌
 use Rattle.std.proofs.lemmas.Bool.{ltb-true, and_parts}
 use Rattle.std.specs.List.{AllByRecursion, list_all}
 use Rattle.std.specs.Option.{option_map_or}
+use Rattle.aut_base.proofs.CanonicalBelow.{trees_below}
 use Rattle.aut_base.specs.Formula as formula
 use Rattle.aut_base.specs.Formula.{EachSetsBelow, FormulaTree, FormulaTrees, SetsBelow}
 use Rattle.aut_base.specs.Label as label
-use Rattle.aut_base.specs.Label.{AllBelow, EachBelow, LabelTree, trees}
+use Rattle.aut_base.specs.Label.{AllBelow, EachBelow, LabelTree}
 use Rattle.hoa_reader.specs.Described.{Meaning, below, conjunction, each_expanded, expanded, letter_label, literal, meaning_of, meanings_after}
 use Rattle.hoa_parser.specs.Raw as raw
 use Rattle.hoa_parser.specs.Raw.{RawTree, RawTrees}
@@ -76,14 +77,10 @@ meanings_below n ms (line ∷ lines) all e =
 literal_below : (n i k : ℕ) → k < n → AllBelow n (literal i k)
 literal_below n i k l = elim ((i / (2 ^ k)) % 2 == 1) as (λ b. AllBelow n (cond b (label.Prop k) (label.Not (label.Prop k)))) [ true ↦ l | false ↦ l ]
 
-each_below : (n : ℕ) (ts : List LabelTree) → AllByRecursion (AllBelow n) ts → EachBelow n (trees ts)
-each_below n [] all = tt
-each_below n (t ∷ ts) all = (all.0, each_below n ts all.1)
-
 conjunction_below : (n : ℕ) (ts : List LabelTree) → AllByRecursion (AllBelow n) ts → AllBelow n (conjunction ts)
 conjunction_below n [] all = tt
 conjunction_below n (t ∷ []) all = all.0
-conjunction_below n (t ∷ u ∷ ts) all = (all.0, all.1.0, each_below n ts all.1.1)
+conjunction_below n (t ∷ u ∷ ts) all = (all.0, all.1.0, trees_below n ts all.1.1)
 
 pub numbers_are_below : (n : ℕ) → AllByRecursion (λ k. k < n) (below n)
 numbers_are_below zero = tt

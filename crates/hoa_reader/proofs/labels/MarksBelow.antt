@@ -1,23 +1,17 @@
 -- The marks of one state and of one edge, where all are below a number.
-use Rattle.std.proofs.Common.{◌≡◌, ◌<◌, ◌∙◌, ℕ, zero, suc, Bool, true, List, [], ◌∷◌, length, get_or, slice_get, Some, sym, ap}
+use Rattle.std.proofs.Common.{◌≡◌, ◌<◌, ◌∙◌, ℕ, Bool, true, List, ◌∷◌, length, get_or, sym, ap}
 use Rattle.std.proofs.lemmas.Bool.{and_parts}
 use Rattle.std.proofs.lemmas.List.Folds.{list_all-map}
-use Rattle.std.proofs.lemmas.Option.{none-some, same_Some}
 use Rattle.std.specs.List.{list_all}
 use Rattle.aut_base.proofs.Lists.{slice_get-at}
+use Rattle.aut_base.proofs.Members.{all_passes_at}
 use Rattle.hoa_parser.specs.Raw.{WrittenEdge, written_edge, written_state}
 use Rattle.hoa_parser.specs.declared.raw.RawEdge.{RawEdge}
 use Rattle.hoa_parser.specs.declared.raw.RawState.{RawState}
 use Rattle.hoa_reader.specs.Validity.{marks_below, numbers_below}
 
--- what all pass, one passes
-pub one_passes : {X : Type 0} (p : X → Bool) (xs : List X) (i : ℕ) (x : X) → slice_get xs i ≡ Some x → list_all p xs ≡ true → p x ≡ true
-one_passes p [] i x is e = absurd (none-some x is)
-one_passes p (y ∷ ys) zero x is e = ap p (sym (same_Some y x is)) ∙ (and_parts _ _ e).0
-one_passes p (y ∷ ys) (suc i) x is e = one_passes p ys i x is (and_parts _ _ e).1
-
 pub edge_marks_below : (n : ℕ) (state : RawState) (edges : List RawEdge) (i : ℕ) (edge : RawEdge) → marks_below n (written_state state) ≡ true → edges ≡ state.edges → i < length edges → edge ≡ get_or edges i edge → numbers_below n edge.marks ≡ true
 edge_marks_below n state edges i edge below same l is =
     let Below : RawEdge → Bool = λ e. numbers_below n e.marks in
-    one_passes Below edges i edge (slice_get-at edges i edge l is)
+    all_passes_at Below edges i edge (slice_get-at edges i edge l is)
     (ap (list_all Below) same ∙ sym (list_all-map (λ (e : WrittenEdge). numbers_below n e.marks) written_edge state.edges) ∙ (and_parts _ _ below).1)

@@ -1,12 +1,12 @@
 -- What the canonical text of a well-formed automaton writes keeps all rules.
 use Rattle.std.proofs.Common.{◌≡◌, ◌≢◌, ◌==◌, ◌<◌, ◌^◌, ℕ, Bool, true, false, ◌&&◌, ◌||◌, List, [], ◌∷◌, ◌++◌, length, filter, map, nat_lt, refl, sym, ap, ◌∙◌, subst, arith, AllPairs, Option, Some, None}
-use Rattle.std.proofs.lemmas.Bool.{eq-eqb, false_from_ne_true, lt-ltb, ne_eqb}
+use Rattle.std.proofs.lemmas.Bool.{eq-eqb, lt-ltb, ne_eqb}
 use Rattle.std.proofs.lemmas.List.Elements.{recursion_from_All}
 use Rattle.std.specs.Prelude.{flat_map, is_some, nat_le, option_to_list}
 use Rattle.std.specs.List.{AllByRecursion, list_all, range_with_len}
+use Rattle.aut_base.proofs.Texts.{differ_texts}
 use Rattle.aut_base.specs.Automaton.{TreeEdge, Automaton, IsEdgeOf, IsWellFormed}
 use Rattle.aut_base.specs.Label.{LabelTree}
-use Rattle.hoa_reader.proofs.labels.Meanings.{same_texts}
 use Rattle.hoa_parser.specs.Raw.{RawTree, WrittenEdge, WrittenItem, WrittenState}
 use Rattle.aut_base.specs.Text.{same_text}
 use Rattle.hoa_reader.specs.Validity.{AcceptanceLine, AliasLine, IsKept, IsValid, acceptance_item, aliases_among, all_differ, all_edges_labelled, body_labels, edges_written, has_edge_per_letter, is_acc_name, is_name, is_one_state, is_tool, labels_one_way, marks_below, may_be_passed_over, names_agree, names_item, names_of, no_edge_labelled, numbers_below, props_below, sets_below, starts_written, state_labels, states_item, used_states, uses_earlier}
@@ -44,14 +44,10 @@ words_known : (a : Automaton) (name : Option (List ℕ)) → IsKept V3 (canonica
 words_known a None = all_starts may_be_passed_over a.starts (closing a) (λ s. refl) refl
 words_known a (Some text) = all_starts may_be_passed_over a.starts (closing a) (λ s. refl) refl
 
--- names that differ
-texts_differ : (x y : List ℕ) → x ≢ y → same_text x y ≡ false
-texts_differ x y ne = false_from_ne_true (same_text x y) (λ e. ne ((same_texts x y).0 e))
-
 names_differ : (names : List (List ℕ)) → AllPairs (λ x y. x ≢ y) names → ((length names == length names) && all_differ same_text names) ≡ true
 names_differ names h =
     two _ _ (eq-eqb (length names) (length names) refl)
-    (all_differ_from same_text names (pairs_weaker (λ x y. x ≢ y) (λ x y. same_text x y ≡ false) names texts_differ (pairs_from (λ x y. x ≢ y) names h)))
+    (all_differ_from same_text names (pairs_weaker (λ x y. x ≢ y) (λ x y. same_text x y ≡ false) names differ_texts (pairs_from (λ x y. x ≢ y) names h)))
 
 names_counted : (a : Automaton) (name : Option (List ℕ)) → AllPairs (λ x y. x ≢ y) a.names → IsKept V4 (canonical_written a name)
 names_counted a None h = all_starts names_agree a.starts (closing a) (λ s. refl) (two _ _ (names_differ a.names h) refl)

@@ -25,11 +25,6 @@ text-And p = ap formula_text (formula_tree-And p) ∙ two_parts (codes " & ") (f
 pub text-Or : (p : Formulas) → formula_text (formula_tree (formula.Or p)) ≡ list_text (codes " | ") (formula_list p)
 text-Or p = ap formula_text (formula_tree-Or p) ∙ two_parts (codes " | ") (formula_parts p).first (formula_parts p).second (formula_parts p).others
 
--- the first part
-pub list_first : (separator : List ℕ) (fs : List FormulaTree) (f : FormulaTree) → slice_get fs 0 ≡ Some f → list_text separator (take 1 fs) ≡ part_text f
-list_first separator [] f e = absurd cc
-list_first separator (g ∷ gs) f e = let same : g ≡ f = cc in append-nil (part_text g) ∙ ap part_text same
-
 each_more : (separator : List ℕ) (fs : List FormulaTree) (place : ℕ) (f : FormulaTree) → slice_get fs place ≡ Some f → flat_map (λ g. separator ++ part_text g) (take (suc place) fs) ≡ flat_map (λ g. separator ++ part_text g) (take place fs) ++ (separator ++ part_text f)
 each_more separator [] place f e = absurd cc
 each_more separator (g ∷ gs) zero f e = let same : g ≡ f = cc in append-nil (separator ++ part_text g) ∙ ap (λ h. separator ++ part_text h) same

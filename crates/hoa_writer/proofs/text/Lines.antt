@@ -1,11 +1,11 @@
 -- The lines of a state are those of the links that leave it.
-use Rattle.std.proofs.Common.{◌≡◌, ◌==◌, ◌+◌, ◌∙◌, ℕ, zero, suc, sym, ap, refl, arith, List, [], ◌∷◌, ◌++◌, map, filter, take, length, get_or, All, subst, ◌<◌, ◌≤◌}
-use Rattle.std.proofs.lemmas.List.{append-nil, append_assoc, take_all}
-use Rattle.std.proofs.lemmas.List.Concat.{flat_map-append}
+use Rattle.std.proofs.Common.{◌≡◌, ◌==◌, ◌+◌, ◌∙◌, ℕ, sym, ap, refl, List, [], ◌∷◌, ◌++◌, map, filter, take, length, get_or, All, subst, ◌<◌, ◌≤◌}
+use Rattle.std.proofs.lemmas.List.{append_assoc, take_all}
 use Rattle.std.proofs.lemmas.List.Elements.{All-filter}
 use Rattle.std.specs.Fmt.{decimal}
 use Rattle.std.specs.List.{flat_map, range_with_len}
 use Rattle.std.specs.Prelude.{codes}
+use Rattle.aut_base.proofs.Lists.{flat_map-range_more}
 use Rattle.aut_base.proofs.Ordered.{filter_map_of}
 use Rattle.aut_base.specs.Automaton.{Automaton, TreeEdge}
 use Rattle.aut_core.specs.Core.{Core, IsLinkOf, automaton_of, edge_of}
@@ -13,18 +13,6 @@ use Rattle.aut_core.specs.declared.link.Link.{Link}
 use Rattle.hoa_writer.specs.CanonicalText.{edge_line, line, state_lines}
 use Rattle.hoa_writer.specs.inner.Lines.{link_line}
 use Rattle.label_guards.specs.Store.{Has, Store}
-
-range_more : (a n : ℕ) → range_with_len a (suc n) ≡ range_with_len a n ++ (a + n) ∷ []
-range_more a zero = let same : a + zero ≡ a = omega arith in rw same refl
-range_more a (suc n) =
-    let same : a + 1 + n ≡ a + suc n = omega arith in
-    ap (λ ns. a ∷ ns) (range_more (a + 1) n) ∙ ap (λ k. a ∷ (range_with_len (a + 1) n ++ k ∷ [])) same
-
-lines_more : (f : ℕ → List ℕ) (n : ℕ) → flat_map f (range_with_len 0 (n + 1)) ≡ flat_map f (range_with_len 0 n) ++ f n
-lines_more f n =
-    let next : n + 1 ≡ suc n = omega arith in
-    let same : 0 + n ≡ n = omega arith in
-    ap (λ k. flat_map f (range_with_len 0 k)) next ∙ (ap (flat_map f) (range_more 0 n) ∙ (flat_map-append f (range_with_len 0 n) ((0 + n) ∷ []) ∙ (ap (λ k. flat_map f (range_with_len 0 n) ++ (f k ++ [])) same ∙ ap (λ t. flat_map f (range_with_len 0 n) ++ t) (append-nil (f n)))))
 
 links_written : (s : Store) (ls : List Link) → flat_map (edge_line s.names) (map (edge_of s) ls) ≡ flat_map (link_line s) ls
 links_written s [] = refl
@@ -50,4 +38,4 @@ state_written a q old now step new so head edges =
     let lines = flat_map (state_lines a) (range_with_len 0 q) in
     edges ∙ (ap (λ t. t ++ text) (head ∙ ap (λ t. t ++ line (codes "State: " ++ decimal q)) so)
     ∙ (append_assoc (old ++ lines) (line (codes "State: " ++ decimal q)) text
-    ∙ (append_assoc old lines (state_lines a q) ∙ ap (λ t. old ++ t) (sym (lines_more (state_lines a) q)))))
+    ∙ (append_assoc old lines (state_lines a q) ∙ ap (λ t. old ++ t) (sym (flat_map-range_more (state_lines a) q)))))

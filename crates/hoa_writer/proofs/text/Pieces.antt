@@ -1,38 +1,18 @@
 -- Texts that are made of pieces.
-use Rattle.std.proofs.Common.{◌≡◌, ℕ, eqb, ◌-◌, ◌<◌, ◌≤◌, ◌∙◌, sym, ap, refl, arith, Bool, false, List, [], ◌∷◌, ◌++◌, map, length, take, drop, get_or}
-use Rattle.std.proofs.lemmas.Bool.{eqb-false}
-use Rattle.std.proofs.lemmas.List.{append-nil, append_assoc, take_all, take_rest, length-drop}
+use Rattle.std.proofs.Common.{◌≡◌, ℕ, ◌-◌, ◌<◌, ◌≤◌, ◌∙◌, ap, arith, List, [], ◌∷◌, ◌++◌, length, take, drop, get_or}
+use Rattle.std.proofs.lemmas.List.{append_assoc, take_all}
 use Rattle.std.specs.Fmt.{decimal}
 use Rattle.std.specs.List.{flat_map}
 use Rattle.std.specs.Prelude.{codes}
-use Rattle.aut_base.specs.LabelText.{joined}
 use Rattle.hoa_writer.specs.CanonicalText.{marks_text, quoted}
 use Rattle.hoa_writer.specs.inner.Lines.{names_line}
-use Rattle.hoa_writer.specs.inner.Pieces.{each_after}
-
--- after the first piece, each stands after the separator
-pub joined_each : (separator piece : List ℕ) (pieces : List (List ℕ)) → joined separator (piece ∷ pieces) ≡ piece ++ each_after separator pieces
-joined_each separator piece [] = sym (append-nil piece)
-joined_each separator piece (next ∷ pieces) =
-    ap (λ t. piece ++ (separator ++ t)) (joined_each separator next pieces) ∙ ap (λ t. piece ++ t) (sym (append_assoc separator next (each_after separator pieces)))
-
-each_after-map : {A : Type 0} (separator : List ℕ) (f : A → List ℕ) (xs : List A) → each_after separator (map f xs) ≡ flat_map (λ x. separator ++ f x) xs
-each_after-map separator f [] = refl
-each_after-map separator f (x ∷ xs) = ap (λ t. (separator ++ f x) ++ t) (each_after-map separator f xs)
-
-joined_more : {A : Type 0} (separator : List ℕ) (f : A → List ℕ) (x : A) (xs : List A) → joined separator (map f (x ∷ xs)) ≡ f x ++ flat_map (λ y. separator ++ f y) xs
-joined_more separator f x xs = joined_each separator (f x) (map f xs) ∙ ap (λ t. f x ++ t) (each_after-map separator f xs)
+use Rattle.label_guards.proofs.Pieces.{all_others, joined_more}
 
 -- marks, as they are written
 pub marks_text_more : (marks : List ℕ) → 0 < length marks → marks_text marks ≡ codes " {" ++ (decimal (get_or marks 0 0) ++ (flat_map (λ m. codes " " ++ decimal m) (drop 1 marks) ++ codes "}"))
 marks_text_more [] h = absurd (omega arith)
 marks_text_more (m ∷ ms) h =
     ap (λ t. codes " {" ++ (t ++ codes "}")) (joined_more (codes " ") decimal m ms) ∙ ap (λ t. codes " {" ++ t) (append_assoc (decimal m) (flat_map (λ x. codes " " ++ decimal x) ms) (codes "}"))
-
--- all but the first, gone over to the end
-pub all_others : {A : Type 0} (xs : List A) (i : ℕ) → length xs - 1 ≤ i → take i (take (length xs - 1) (drop 1 xs)) ≡ drop 1 xs
-all_others xs i h =
-    ap (take i) (take_rest xs 1) ∙ take_all i (drop 1 xs) (let size = length-drop 1 xs in omega arith)
 
 -- marks after the first and the others
 pub marks_written : (marks : List ℕ) (i : ℕ) (out one two three last : List ℕ) → 0 < length marks → length marks - 1 ≤ i → one ≡ out ++ codes " {" → two ≡ one ++ decimal (get_or marks 0 0) → three ≡ two ++ flat_map (λ m. codes " " ++ decimal m) (take i (take (length marks - 1) (drop 1 marks))) → last ≡ three ++ codes "}" → last ≡ out ++ marks_text marks
@@ -41,12 +21,6 @@ marks_written marks i out one two three last some h open_ first rest close =
     let all : three ≡ two ++ others (drop 1 marks) = rest ∙ ap (λ ms. two ++ others ms) (all_others marks i h) in
     let text = marks_text_more marks some in
     rw (close, all, first, open_, text) (simp append_assoc)
-
--- what a test for an empty list says
-pub some_item : (n : ℕ) (is_empty : Bool) → is_empty ≡ false → is_empty ≡ eqb n 0 → 0 < n
-some_item n is_empty f e =
-    let some = eqb-false n 0 (sym e ∙ f) in
-    omega arith
 
 -- one text and then another
 pub two_written : (out one two a b whole : List ℕ) → one ≡ out ++ a → two ≡ one ++ b → a ++ b ≡ whole → two ≡ out ++ whole

@@ -3,10 +3,6 @@ use Rattle.std.specs.Prelude.{ℕ, List, [], ◌∷◌, ◌++◌, flat_map}
 use Rattle.aut_base.specs.Formula.{FormulaTree}
 use Rattle.hoa_writer.specs.CanonicalText.{formula_text, part}
 
--- the pieces, each after the separator
-abbrev pub each_after : List ℕ → List (List ℕ) → List ℕ
-each_after separator pieces = flat_map (λ piece. separator ++ piece) pieces
-
 -- a part of a condition, as it stands there
 abbrev pub part_text : FormulaTree → List ℕ
 part_text f = part f (formula_text f)

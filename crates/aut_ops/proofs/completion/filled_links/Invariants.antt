@@ -1,9 +1,9 @@
 use Rattle.std.specs.Prelude.{flat_map}
 use Rattle.std.specs.List.{range_with_len}
+use Rattle.aut_core.proofs.Following.{StandFor}
 use Rattle.aut_core.specs.Core.{automaton_of}
 use Rattle.label_guards.specs.Store.{Keeps}
 use Rattle.aut_ops.specs.Completion.{filled_edges}
-use Rattle.aut_ops.specs.inner.Linked.{StandFor}
 use Rattle.aut_ops.proofs.completion.filled_links.Given as goal
 
 abbrev pub invariant-states : goal.invariant-states

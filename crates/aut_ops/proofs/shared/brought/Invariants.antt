@@ -1,6 +1,6 @@
 use Rattle.std.proofs.Common.{map, take}
+use Rattle.aut_core.proofs.Following.{StandFor}
 use Rattle.aut_core.specs.Core.{edge_of}
-use Rattle.aut_ops.specs.inner.Linked.{StandFor}
 use Rattle.label_guards.specs.Store.{Keeps}
 use Rattle.aut_ops.proofs.shared.brought.Given as goal
 

@@ -3,7 +3,7 @@ use Rattle.std.proofs.lemmas.Result.{IfOk-weaker}
 use Rattle.aut_base.specs.Automaton.{Automaton}
 use Rattle.aut_base.specs.Formula.{SetsBelow, formula_tree}
 use Rattle.aut_core.specs.Core.{automaton_of}
-use Rattle.aut_ops.proofs.FormulaSets.{sets_weaker}
+use Rattle.acc_forms.proofs.FormulaSets.{sets_weaker}
 use Rattle.aut_ops.proofs.SumLinks.{side}
 use Rattle.aut_ops.proofs.SumRuns.{sum_accepts}
 use Rattle.aut_ops.specs.Languages.{AcceptsEither}

@@ -3,6 +3,7 @@ use Rattle.std.proofs.lemmas.List.{take_all}
 use Rattle.std.proofs.lemmas.List.Elements.{All-filter}
 use Rattle.std.proofs.lemmas.Nat.{row_fits}
 use Rattle.aut_base.proofs.Ordered.{filter_map_of}
+use Rattle.aut_base.proofs.Steps.{map_map_on}
 use Rattle.aut_base.specs.Automaton.{TreeEdge}
 use Rattle.aut_core.specs.Core.{Core, IsLinkOf, edge_of}
 use Rattle.aut_core.specs.declared.link.Link.{Link}
@@ -11,7 +12,6 @@ use Rattle.label_guards.specs.declared.guard.Guard.{Guard}
 use Rattle.fin_removal.proofs.LinkSteps.{adds_one, adds_then}
 use Rattle.fin_removal.specs.inner.Links.{Adds}
 use Rattle.degeneralise.specs.Buchi.{edge_at}
-use Rattle.degeneralise.proofs.LevelSteps.{map_map_on}
 use Rattle.degeneralise.proofs.links.push_level.Goals as goal
 
 -- a link of one state is the automaton's

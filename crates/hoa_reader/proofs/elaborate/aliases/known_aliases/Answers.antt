@@ -2,25 +2,20 @@ use Rattle.std.proofs.Common.{◌≡◌, ◌+◌, ◌++◌, ℕ, true, false, dr
 use Rattle.std.proofs.lemmas.Bool.{false≢true, false_from_ne_true, and_parts}
 use Rattle.std.proofs.lemmas.List.{map-append}
 use Rattle.hoa_reader.proofs.description.OneMore.{meanings_push}
+use Rattle.hoa_reader.proofs.labels.AliasNames.{named, named-append}
 use Rattle.hoa_reader.proofs.validity.AllDiffer.{repeats}
 use Rattle.hoa_reader.proofs.validity.Leaves.{leaves_agree}
 use Rattle.hoa_reader.proofs.labels.Meanings.{known_listed, known_push, names_by}
 use Rattle.hoa_reader.specs.Described.{Meaning, expanded, meanings_after}
 use Rattle.hoa_reader.specs.inner.Growing.{AreKnown, meanings_by}
-use Rattle.hoa_reader.specs.inner.Pieces.{alias_def, line_names}
+use Rattle.hoa_reader.specs.inner.Pieces.{alias_def}
 use Rattle.hoa_reader.specs.inner.Places.{place_in}
 use Rattle.hoa_parser.specs.Raw.{raw_tree}
 use Rattle.aut_base.specs.Text.{same_text}
-use Rattle.hoa_reader.specs.Validity.{AliasLine, aliases_among, all_differ, is_listed, uses_earlier}
+use Rattle.hoa_reader.specs.Validity.{aliases_among, all_differ, is_listed, uses_earlier}
 use Rattle.hoa_reader.specs.declared.elaborate.parts.AliasDef.{AliasDef}
 use Rattle.hoa_reader.proofs.elaborate.aliases.known_aliases.Goals as goal
 use Rattle.aut_base.proofs.Lists.{take-push, split-at, drop-at, slice_get-at}
-
-abbrev named : List AliasDef → List (List ℕ)
-named defs = line_names (map alias_def defs)
-
-named-append : (xs ys : List AliasDef) → named (xs ++ ys) ≡ named xs ++ named ys
-named-append xs ys = ap line_names (map-append alias_def xs ys) ∙ map-append (λ (l : AliasLine). l.name) (map alias_def xs) (map alias_def ys)
 
 -- what is left of the lines begins with an alias that uses those before it
 uses_here : (before : List (List ℕ)) (defs : List AliasDef) (i : ℕ) (def : AliasDef) → i < length defs → def ≡ get_or defs i def → uses_earlier before (map alias_def (drop i defs)) ≡ true → (aliases_among before (raw_tree def.label.now) ≡ true) × (uses_earlier (before ++ def.name.now ∷ []) (map alias_def (drop (i + 1) defs)) ≡ true)

@@ -1,8 +1,8 @@
 use Rattle.std.proofs.Common.{◌≡◌, ◌++◌, ◌+◌, ◌<◌, ◌∙◌, ℕ, List, Option, Some, None, get_or, length, map, sym, ap, subst, arith}
 use Rattle.std.proofs.lemmas.List.{append-nil, get_or_default}
 use Rattle.std.specs.Prelude.{flat_map}
+use Rattle.aut_base.proofs.Members.{all_passes_at}
 use Rattle.aut_base.specs.Automaton.{TreeEdge, tree_edge}
-use Rattle.hoa_reader.proofs.labels.MarksBelow.{one_passes}
 use Rattle.hoa_reader.proofs.labels.StatePlaces.{edges_more, got_map}
 use Rattle.hoa_reader.specs.inner.TreeEdges.{IsDefinedAt, IsPlace, tree_edges_for, edges_for}
 use Rattle.hoa_parser.specs.Raw.{WrittenState, written_state}
@@ -21,7 +21,7 @@ add_edges-requires-clause-marks c =
     let here : get_or items n None ≡ Some c.in-Some.place = get_or_default items n None c.index.result.now inside ∙ sym c.index.ensures ∙ c.in-Some.is in
     let one : IsDefinedAt ws n c.in-Some.place = subst P here (c.in_ok-places.ensures.place n within) in
     let state : written_state c.index-states-place.result ≡ one.state = ap written_state c.index-states-place.is ∙ got_map c.args.states.now c.in-Some.place one.state c.index-states-place.result one.there in
-    ap (marks_below sets) state ∙ one_passes (marks_below sets) ws c.in-Some.place one.state one.there c.requires.marks
+    ap (marks_below sets) state ∙ all_passes_at (marks_below sets) ws c.in-Some.place one.state one.there c.requires.marks
 
 pub numbers-preserved : goal.numbers-preserved
 numbers-preserved c =

@@ -1,23 +1,17 @@
-use Rattle.std.proofs.Common.{◌≡◌, ◌&&◌, ◌+◌, ◌++◌, ℕ, true, false, drop, take, map, List, [], ◌∷◌, arith, sym, ap, ◌∙◌, is_some}
-use Rattle.std.proofs.lemmas.List.{drop_more, map-append}
+use Rattle.std.proofs.Common.{◌≡◌, ◌&&◌, ◌+◌, ◌++◌, true, false, drop, take, map, [], ◌∷◌, arith, sym, ap, ◌∙◌, is_some}
+use Rattle.std.proofs.lemmas.List.{drop_more}
 use Rattle.std.proofs.lemmas.List.Folds.{list_any-append}
 use Rattle.std.specs.List.{list_any}
+use Rattle.hoa_reader.proofs.labels.AliasNames.{named, named-append}
 use Rattle.hoa_reader.proofs.validity.AllDiffer.{differ_more, found_or, repeats, some_not_none}
 use Rattle.hoa_reader.proofs.validity.Leaves.{leaves_agree}
-use Rattle.hoa_reader.specs.inner.Pieces.{alias_def, line_names}
+use Rattle.hoa_reader.specs.inner.Pieces.{alias_def}
 use Rattle.hoa_reader.specs.inner.Places.{place_in}
 use Rattle.hoa_parser.specs.Raw.{raw_tree}
 use Rattle.aut_base.specs.Text.{same_text}
-use Rattle.hoa_reader.specs.Validity.{AliasLine, aliases_among, all_differ, is_listed, uses_earlier}
-use Rattle.hoa_reader.specs.declared.elaborate.parts.AliasDef.{AliasDef}
+use Rattle.hoa_reader.specs.Validity.{aliases_among, all_differ, is_listed, uses_earlier}
 use Rattle.hoa_reader.proofs.elaborate.leaves.defined.Goals as goal
 use Rattle.aut_base.proofs.Lists.{take-push, split-at}
-
-abbrev named : List AliasDef → List (List ℕ)
-named defs = line_names (map alias_def defs)
-
-named-append : (xs ys : List AliasDef) → named (xs ++ ys) ≡ named xs ++ named ys
-named-append xs ys = ap line_names (map-append alias_def xs ys) ∙ map-append (λ (l : AliasLine). l.name) (map alias_def xs) (map alias_def ys)
 
 pub returns-then-not-branch : goal.returns-then-not-branch
 returns-then-not-branch c =

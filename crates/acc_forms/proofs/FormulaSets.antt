@@ -40,17 +40,17 @@ each_trees : (n : ℕ) (fs : List FormulaTree) → AllByRecursion (SetsBelow n) 
 each_trees n [] below = tt
 each_trees n (f ∷ fs) below = (below.0, each_trees n fs below.1)
 
-sets_all_of : (n : ℕ) (fs : List FormulaTree) → AllByRecursion (SetsBelow n) fs → SetsBelow n (all_of fs)
+pub sets_all_of : (n : ℕ) (fs : List FormulaTree) → AllByRecursion (SetsBelow n) fs → SetsBelow n (all_of fs)
 sets_all_of n [] below = tt
 sets_all_of n (f ∷ []) below = below.0
 sets_all_of n (f ∷ g ∷ fs) below = (below.0, below.1.0, each_trees n fs below.1.1)
 
-sets_some_of : (n : ℕ) (fs : List FormulaTree) → AllByRecursion (SetsBelow n) fs → SetsBelow n (some_of fs)
+pub sets_some_of : (n : ℕ) (fs : List FormulaTree) → AllByRecursion (SetsBelow n) fs → SetsBelow n (some_of fs)
 sets_some_of n [] below = tt
 sets_some_of n (f ∷ []) below = below.0
 sets_some_of n (f ∷ g ∷ fs) below = (below.0, below.1.0, each_trees n fs below.1.1)
 
-sets_conjuncts : (n : ℕ) (f : FormulaTree) → SetsBelow n f → AllByRecursion (SetsBelow n) (conjuncts f)
+pub sets_conjuncts : (n : ℕ) (f : FormulaTree) → SetsBelow n f → AllByRecursion (SetsBelow n) (conjuncts f)
 sets_conjuncts n True below = tt
 sets_conjuncts n False below = (tt, tt)
 sets_conjuncts n (Inf set neg) below = (below, tt)
@@ -58,7 +58,7 @@ sets_conjuncts n (Fin set neg) below = (below, tt)
 sets_conjuncts n (And f g fs) below = (below.0, (below.1, each_listed n fs below.2))
 sets_conjuncts n (Or f g fs) below = (below, tt)
 
-sets_disjuncts : (n : ℕ) (f : FormulaTree) → SetsBelow n f → AllByRecursion (SetsBelow n) (disjuncts f)
+pub sets_disjuncts : (n : ℕ) (f : FormulaTree) → SetsBelow n f → AllByRecursion (SetsBelow n) (disjuncts f)
 sets_disjuncts n True below = (tt, tt)
 sets_disjuncts n False below = tt
 sets_disjuncts n (Inf set neg) below = (below, tt)
