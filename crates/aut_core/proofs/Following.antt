@@ -6,13 +6,9 @@ use Rattle.aut_base.proofs.Lists.{take-push}
 use Rattle.aut_base.specs.Automaton.{TreeEdge}
 use Rattle.label_guards.specs.Store.{Has, Keeps, Store}
 use Rattle.aut_core.specs.Core.{edge_of}
+use Rattle.aut_core.specs.Links.{StandFor}
 use Rattle.aut_core.specs.declared.link.Link.{Link}
 use Rattle.aut_core.proofs.Growth.{kept_edges}
-
--- the links have guards of the store, and stand for these edges
-pub record StandFor (s : Store) (links : List Link) (es : List TreeEdge) : Type 0 where
-  pub has : All (λ l. Has s l.guard) links
-  pub edges : map (edge_of s) links ≡ es
 
 pub stand_itself : (s : Store) (links : List Link) → All (λ l. Has s l.guard) links → StandFor s links (map (edge_of s) links)
 stand_itself s links has = record { has = has; edges = refl }

@@ -7,7 +7,8 @@ use Rattle.aut_base.proofs.Lists.{flat_map-range_more}
 use Rattle.aut_base.specs.Automaton.{TreeEdge}
 use Rattle.aut_base.specs.Formula.{FormulaTree}
 use Rattle.aut_ops.proofs.Completions.{loop}
-use Rattle.aut_core.proofs.Following.{StandFor, stand_append, stand_itself, stand_kept, stand_push}
+use Rattle.aut_core.proofs.Following.{stand_append, stand_itself, stand_kept, stand_push}
+use Rattle.aut_core.specs.Links.{StandFor}
 use Rattle.aut_core.proofs.Growth.{kept_edges}
 use Rattle.aut_core.specs.Core.{Core, IsCore, IsLinkOf, automaton_of, edge_of}
 use Rattle.aut_core.specs.Surveys.{edges_from}

@@ -6,7 +6,8 @@ use Rattle.acc_forms.specs.Joined.{conj, disj}
 use Rattle.acc_forms.specs.Shift.{shift}
 use Rattle.aut_base.specs.Automaton.{TreeEdge}
 use Rattle.aut_base.specs.Formula.{Fin, FormulaTree, Inf}
-use Rattle.aut_core.proofs.Following.{StandFor, stand_append, stand_itself, stand_kept}
+use Rattle.aut_core.proofs.Following.{stand_append, stand_itself, stand_kept}
+use Rattle.aut_core.specs.Links.{StandFor}
 use Rattle.aut_core.specs.Core.{AreParts, Core, IsCore, automaton_of, edge_of}
 use Rattle.aut_core.specs.declared.link.Link.{Link}
 use Rattle.label_guards.specs.Store.{Has, Keeps, Store}

@@ -8,7 +8,7 @@ ghost use Rattle.aut_core.specs.Deterministic.{IsComplete, IsDeterministic};
 ghost use Rattle.aut_core.specs.OtherNames.{AcceptTheSame};
 ghost use Rattle.aut_ops.specs.Completion.{completed, filled_edges, gap_edges, sink_marks, with_sink};
 ghost use Rattle.aut_ops.specs.Labels.{no_label};
-ghost use Rattle.aut_ops.specs.inner.Linked.{StandFor};
+ghost use Rattle.aut_core.specs.Links.{StandFor};
 ghost use Rattle.label_guards.specs.Store.{Has, Keeps, label_in};
 
 use crate::copies::push_links;

@@ -5,7 +5,7 @@ ghost use Rattle.std.specs.List.{range_with_len};
 ghost use Rattle.aut_base.specs.declared.limit.TheConstants.{MOST_NAMES};
 ghost use Rattle.aut_core.specs.Core.{automaton_of, edge_of};
 ghost use Rattle.aut_core.specs.OtherNames.{AcceptTheSame, HaveBoth, over_names};
-ghost use Rattle.aut_ops.specs.inner.Linked.{StandFor};
+ghost use Rattle.aut_core.specs.Links.{StandFor};
 ghost use Rattle.label_guards.specs.Store.{Keeps};
 
 use aut_base::{Memory, Names, Numbers};

@@ -1,7 +1,7 @@
 use Rattle.std.proofs.Common.{◌≡◌, map, take}
 use Rattle.aut_base.specs.Automaton.{tree_edge}
 use Rattle.aut_base.specs.CanonicalLabel.{canonical_label}
-use Rattle.aut_core.proofs.Following.{StandFor}
+use Rattle.aut_core.specs.Links.{StandFor}
 use Rattle.aut_core.proofs.described.guarded.Given as goal
 
 abbrev pub invariant-edges : goal.invariant-edges

@@ -1,6 +1,6 @@
 use Rattle.std.specs.Prelude.{flat_map}
 use Rattle.std.specs.List.{range_with_len}
-use Rattle.aut_core.proofs.Following.{StandFor}
+use Rattle.aut_core.specs.Links.{StandFor}
 use Rattle.aut_core.specs.Core.{automaton_of}
 use Rattle.label_guards.specs.Store.{Keeps}
 use Rattle.aut_ops.specs.Completion.{filled_edges}

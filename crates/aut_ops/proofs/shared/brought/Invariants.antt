@@ -1,5 +1,5 @@
 use Rattle.std.proofs.Common.{map, take}
-use Rattle.aut_core.proofs.Following.{StandFor}
+use Rattle.aut_core.specs.Links.{StandFor}
 use Rattle.aut_core.specs.Core.{edge_of}
 use Rattle.label_guards.specs.Store.{Keeps}
 use Rattle.aut_ops.proofs.shared.brought.Given as goal

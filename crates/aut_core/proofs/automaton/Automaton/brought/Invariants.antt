@@ -1,7 +1,7 @@
 use Rattle.std.proofs.Common.{◌≡◌, map, take}
 use Rattle.aut_core.specs.Core.{edge_of}
 use Rattle.aut_core.specs.OtherNames.{label_over}
-use Rattle.aut_core.proofs.Following.{StandFor}
+use Rattle.aut_core.specs.Links.{StandFor}
 use Rattle.aut_core.proofs.automaton.Automaton.brought.Given as goal
 
 abbrev pub invariant-links : goal.invariant-links
