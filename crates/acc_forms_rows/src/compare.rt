@@ -1,42 +1,75 @@
 //! What the calls make of a condition, against the truth of that condition.
 
-ghost use Rattle.std.specs.Prelude.{◌-◌, ◌^◌};
-ghost use Rattle.aut_base.specs.Formula.{SetsBelow, formula_tree};
-
-use crate::holds::truths;
-use crate::shape::{ATOMS, Node, atom, pair};
-use acc_forms::{
-    FormFault, conj, disj, disjuncts, dual, empty_meets, of_terms, shift, terms_count,
+use crate::calls::{
+    RAISED, both, count, either, holds_without_marks, opposite, raised, spread, terms,
 };
+use crate::holds::truths;
+use crate::shape::{ATOMS, Node, SHAPES, atom, pair};
 use aut_base::{Formula, Memory};
 use std::alloc::Global;
 
+/// How many conditions were gone through, and of how many of them a call makes what it shouldn't.
+pub(crate) fn compared(alloc: Global) -> Result<(u32, u32), Memory> {
+    let mut formulas = 0u32;
+    let mut different = 0u32;
+    for shape in SHAPES {
+        for first in ATOMS {
+            for second in shape.seconds() {
+                for third in shape.thirds() {
+                    let formula = shape.formula(alloc, first, *second, *third)?;
+                    formulas = formulas.saturating_add(1);
+                    if !is_right(alloc, &formula)? {
+                        different = different.saturating_add(1);
+                    }
+                }
+            }
+        }
+    }
+    Ok((formulas, different))
+}
+
 /// Whether every call makes of the condition what its truth asks for.
-pub(crate) fn is_right(alloc: Global, formula: &Formula) -> Result<bool, FormFault>
-    requires { SetsBelow (2 ^ 32 - 2) (formula_tree formula.now) }
-{
+fn is_right(alloc: Global, formula: &Formula) -> Result<bool, Memory> {
     let own = truths(alloc, formula, 0)?;
-    let opposite = truths(alloc, &dual(alloc, formula)?, 0)?;
-    let found = disjuncts(alloc, formula)?;
-    let spread = truths(alloc, &of_terms(alloc, &found)?, 0)?;
-    let shifted = truths(alloc, &shift(alloc, formula, 2)?, 2)?;
-    let right = own.len() == opposite.len()
-        && own.iter().zip(opposite.iter()).all(|(a, b)| *a != *b)
-        && own.as_slice() == spread.as_slice()
-        && own.as_slice() == shifted.as_slice()
-        && own.first() == Some(&empty_meets(formula))
-        && found.len() as u64 == terms_count(formula);
-    Ok(right && joins_are_right(alloc, formula, own.as_slice())?)
+    if own.first() != Some(&holds_without_marks(formula)) {
+        return Ok(false);
+    }
+    Ok(
+        is_turned_rightly(alloc, formula, &own)?
+            && is_raised_rightly(alloc, formula, &own)?
+            && is_spread_rightly(alloc, formula, &own)?
+            && is_joined_rightly(alloc, formula, &own)?,
+    )
+}
+
+fn is_turned_rightly(alloc: Global, formula: &Formula, own: &[bool]) -> Result<bool, Memory> {
+    let opposites = truths(alloc, &opposite(alloc, formula)?, 0)?;
+    Ok(own.len() == opposites.len() && own.iter().zip(opposites.iter()).all(|(a, b)| *a != *b))
+}
+
+fn is_raised_rightly(alloc: Global, formula: &Formula, own: &[bool]) -> Result<bool, Memory> {
+    match raised(alloc, formula)? {
+        Some(higher) => Ok(truths(alloc, &higher, RAISED)?.as_slice() == own),
+        None => Ok(false),
+    }
+}
+
+fn is_spread_rightly(alloc: Global, formula: &Formula, own: &[bool]) -> Result<bool, Memory> {
+    let Some(found) = terms(alloc, formula)? else {
+        return Ok(false);
+    };
+    let truths = truths(alloc, &spread(alloc, &found)?, 0)?;
+    Ok(truths.as_slice() == own && found.len() as u64 == count(formula))
 }
 
 /// Whether the joins with some other conditions have the truths that they should.
-fn joins_are_right(alloc: Global, formula: &Formula, own: &[bool]) -> Result<bool, Memory> {
-    let both = pair(alloc, Node::And, atom(ATOMS[0]), atom(ATOMS[6]))?;
-    let either = pair(alloc, Node::Or, atom(ATOMS[1]), atom(ATOMS[4]))?;
-    for other in [&Formula::True, &Formula::False, &both, &either] {
+fn is_joined_rightly(alloc: Global, formula: &Formula, own: &[bool]) -> Result<bool, Memory> {
+    let and = pair(alloc, Node::And, atom(ATOMS[0]), atom(ATOMS[6]))?;
+    let or = pair(alloc, Node::Or, atom(ATOMS[1]), atom(ATOMS[4]))?;
+    for other in [&Formula::True, &Formula::False, &and, &or] {
         let others = truths(alloc, other, 0)?;
-        let all = truths(alloc, &conj(alloc, formula, other)?, 0)?;
-        let some = truths(alloc, &disj(alloc, other, formula)?, 0)?;
+        let all = truths(alloc, &both(alloc, formula, other)?, 0)?;
+        let some = truths(alloc, &either(alloc, other, formula)?, 0)?;
         if !are_joined(own, &others, &all, &some) {
             return Ok(false);
         }

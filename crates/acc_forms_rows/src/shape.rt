@@ -1,8 +1,5 @@
 //! The conditions that are gone through.
 
-ghost use Rattle.std.specs.Prelude.{◌-◌, ◌^◌, IfOk};
-ghost use Rattle.aut_base.specs.Formula.{SetsBelow, formula_tree};
-
 use acc_forms::Literal;
 use aut_base::{Formula, Formulas, Memory};
 use std::alloc::Global;
@@ -81,9 +78,7 @@ impl Shape {
         first: Literal,
         second: Literal,
         third: Literal,
-    ) -> Result<Formula, Memory>
-        ensures { IfOk result (λ new. SetsBelow (2 ^ 32 - 2) (formula_tree new)) }
-    {
+    ) -> Result<Formula, Memory> {
         let (first, second, third) = (atom(first), atom(second), atom(third));
         match self {
             Shape::One => Ok(first),
@@ -102,10 +97,7 @@ impl Shape {
 }
 
 /// The atom, of one of two sets.
-#[tactic(auto, using(aut_base::proofs::FormulaTrees::formula_trees))]
-pub(crate) fn atom(literal: Literal) -> Formula
-    ensures { SetsBelow (2 ^ 32 - 2) (formula_tree result) }
-{
+pub(crate) fn atom(literal: Literal) -> Formula {
     match literal {
         Literal::Inf { set, neg } => Formula::Inf { set: set % 2, neg },
         Literal::Fin { set, neg } => Formula::Fin { set: set % 2, neg },
@@ -118,11 +110,7 @@ pub(crate) fn pair(
     node: Node,
     first: Formula,
     second: Formula,
-) -> Result<Formula, Memory>
-    requires first { SetsBelow (2 ^ 32 - 2) (formula_tree first) }
-    requires second { SetsBelow (2 ^ 32 - 2) (formula_tree second) }
-    ensures { IfOk result (λ new. SetsBelow (2 ^ 32 - 2) (formula_tree new)) }
-{
+) -> Result<Formula, Memory> {
     let parts = Formulas::pair(alloc, first, second)?;
     match node {
         Node::And => Ok(Formula::And(parts)),
@@ -131,18 +119,13 @@ pub(crate) fn pair(
 }
 
 /// Three parts under a node.
-fn triple(
+pub(crate) fn triple(
     alloc: Global,
     node: Node,
     first: Formula,
     second: Formula,
     third: Formula,
-) -> Result<Formula, Memory>
-    requires first { SetsBelow (2 ^ 32 - 2) (formula_tree first) }
-    requires second { SetsBelow (2 ^ 32 - 2) (formula_tree second) }
-    requires third { SetsBelow (2 ^ 32 - 2) (formula_tree third) }
-    ensures { IfOk result (λ new. SetsBelow (2 ^ 32 - 2) (formula_tree new)) }
-{
+) -> Result<Formula, Memory> {
     let mut parts = Formulas::pair(alloc, first, second)?;
     parts.push(third)?;
     match node {

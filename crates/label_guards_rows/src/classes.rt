@@ -1,53 +1,53 @@
 //! The classes of some lists of guards, as one works them out by hand.
 
-use crate::Stop;
 use crate::calls::{classes, cubes, of_label};
 use aut_base::{Label, Memory, Text};
-use label_guards::{Guard, GuardList, Guards};
+use label_guards::{GuardList, Guards};
 use std::alloc::Global;
 
-/// Prints classes over two propositions, a line each.
-pub(crate) fn print(rt: &HostRuntime) -> Result<(), Stop> {
-    print_classes(rt, "0, 1", &[0, 1], 4)?;
-    print_classes(rt, "0, 1", &[0, 1], 3)?;
-    print_classes(rt, "1, 1, 1", &[1, 1, 1], 2)?;
-    print_classes(rt, "no guard", &[], 1)?;
-    print_classes(rt, "no guard", &[], 0)
-}
+/// What is said of them, propositions, and how many classes there may be at most.
+const LISTS: [(&[u8], &[u32], u32); 5] = [
+    (b"at most 4 classes of 0, 1:\n", &[0, 1], 4),
+    (b"at most 3 classes of 0, 1:\n", &[0, 1], 3),
+    (b"at most 2 classes of 1, 1, 1:\n", &[1, 1, 1], 2),
+    (b"at most 1 classes of no guard:\n", &[], 1),
+    (b"at most 0 classes of no guard:\n", &[], 0),
+];
 
-/// Prints the classes of the guards of these propositions.
-fn print_classes(rt: &HostRuntime, name: &str, props: &[u32], most: u32) -> Result<(), Stop> {
-    let alloc = rt.alloc();
-    let mut store = Guards::new(alloc, 2)?;
-    let list = list(alloc, &mut store, props)?;
-    println!(rt; "at most {most} classes of {name}:")?;
-    match classes(alloc, &mut store, &list, most)? {
-        Some(found) => print_each(rt, &store, &found),
-        None => {
-            println!(rt; "  there are more")?;
-            Ok(())
-        }
-    }
-}
-
-/// Prints the texts of guards.
-fn print_each(rt: &HostRuntime, store: &Guards, guards: &GuardList) -> Result<(), Stop> {
-    for guard in guards.as_slice() {
-        let text = text(rt.alloc(), store, *guard)?;
-        match std::str::from_utf8(text.as_bytes()) {
-            Ok(text) => println!(rt; "  {text}")?,
-            Err(_) => println!(rt; "  (no plain text)")?,
-        }
+/// Adds classes over two propositions, a line each.
+pub(crate) fn add(alloc: Global, out: &mut Text) -> Result<(), Memory> {
+    for (name, props, most) in LISTS {
+        out.extend(name)?;
+        add_classes(alloc, out, props, most)?;
     }
     Ok(())
 }
 
-/// The text of a guard, or none where the store doesn't have it.
-fn text(alloc: Global, store: &Guards, guard: Guard) -> Result<Text, Memory> {
-    match cubes(alloc, store, guard)? {
-        Some(text) => Ok(text),
-        None => Ok(Text::new(alloc)),
+/// Adds the classes of the guards of these propositions.
+fn add_classes(alloc: Global, out: &mut Text, props: &[u32], most: u32) -> Result<(), Memory> {
+    let mut store = Guards::new(alloc, 2)?;
+    let list = list(alloc, &mut store, props)?;
+    match classes(alloc, &mut store, &list, most)? {
+        Some(found) => add_each(alloc, out, &store, &found),
+        None => out.extend(b"  there are more\n"),
     }
+}
+
+/// Adds the texts of guards.
+fn add_each(
+    alloc: Global,
+    out: &mut Text,
+    store: &Guards,
+    guards: &GuardList,
+) -> Result<(), Memory> {
+    for guard in guards.as_slice() {
+        out.extend(b"  ")?;
+        if let Some(text) = cubes(alloc, store, *guard)? {
+            out.extend(text.as_bytes())?;
+        }
+        out.push(b'\n')?;
+    }
+    Ok(())
 }
 
 /// The guards of these propositions.

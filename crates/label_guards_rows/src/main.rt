@@ -8,8 +8,9 @@ mod functions;
 mod sample;
 mod tables;
 mod texts;
+mod written;
 
-use aut_base::Memory;
+use aut_base::{Memory, Text};
 use functions::Functions;
 use sample::{SAMPLE, different_functions, different_pairs, different_samples};
 use std::io;
@@ -42,6 +43,10 @@ fn main(rt: HostRuntime) -> Result<(), Stop> {
     println!(rt; "pairs=65536 different={different}")?;
     let different = different_samples(alloc)?;
     println!(rt; "samples={SAMPLE} different={different}")?;
-    classes::print(&rt)?;
-    texts::print(&rt)
+    let mut lines = Text::new(alloc);
+    classes::add(alloc, &mut lines)?;
+    texts::add(alloc, &mut lines)?;
+    let lines = std::str::from_utf8(lines.as_bytes()).unwrap_or("(no plain text)");
+    print!(rt; "{lines}")?;
+    Ok(())
 }
