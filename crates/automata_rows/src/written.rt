@@ -1,6 +1,8 @@
 //! Automata over the name `a`, written in a few bytes.
 
-use aut_base::{Description, Edge, Edges, Formula, Label, Marks, Memory, Names, Numbers, Text};
+use aut_base::{
+    Description, Edge, Edges, Formula, Label, MOST_NAMES, Marks, Memory, Names, Numbers, Text,
+};
 use aut_core::Automaton;
 use std::alloc::Global;
 
@@ -44,7 +46,7 @@ impl Written {
 
 /// The automaton of a description, or `None` where that isn't well formed.
 fn automaton(alloc: Global, d: &Description) -> Result<Option<Automaton>, Memory> {
-    if !d.is_well_formed() || d.names.len() > 32 {
+    if !d.is_well_formed() || d.names.len() > MOST_NAMES as usize {
         return Ok(None);
     }
     Ok(Some(Automaton::from_description(alloc, d)?))
