@@ -8,12 +8,12 @@ use Rattle.hoa_lexer.specs.Spelling.{closes_itself}
 use Rattle.hoa_lexer.specs.Text.{IsNext}
 use Rattle.hoa_lexer.specs.declared.token.Token.{Token}
 use Rattle.hoa_lexer.proofs.next_token.Asked.{last_is_asked_for}
-use Rattle.hoa_parser.proofs.standing.Hopeless.{asked_last, hopeless_so, next_leaves, next_off, next_some, no_token_at}
+use Rattle.hoa_parser.proofs.standing.Hopeless.{asked_last, hopeless_so, next_off, next_some, no_token_at}
 use Rattle.hoa_parser.proofs.standing.OpenEnds.{open_end_asks}
 use Rattle.hoa_parser.specs.Reads.{AskedForLast, IsHopeless}
 use Rattle.hoa_parser.specs.Standing.{EndsOpen, IsBegun, IsMisplaced, IsNoTokenAt}
 use Rattle.autfilt_laws.specs.Places.{BadIsShown, CutIsShown, DeepIsShown}
-use Rattle.autfilt_laws.proofs.shown.Ends.{IsClosed, closing}
+use Rattle.autfilt_laws.proofs.shown.Ends.{IsClosed, closing, next_leaves}
 use Rattle.autfilt_laws.proofs.shown.NoTokens.{refuses_at}
 
 -- the last byte was asked for, where a token stands next
