@@ -5,11 +5,11 @@ use crate::conditions::{Shape, condition};
 use crate::found::is_found_rightly;
 use crate::runs::View;
 use crate::shown::shown;
-use crate::written::{Written, arrows, first_states};
+use crate::written::{Written, arrows};
 use aut_base::{Formula, Memory, Text};
 use std::alloc::Global;
 
-/// States, starts, edges, and whether the automaton is deterministic and complete. The starts are the first states.
+/// States, a bit for each start, edges, and whether the automaton is deterministic and complete.
 const JUDGED: [(u32, u32, &[u8], bool, bool); 10] = [
     (1, 1, b"0a0 0n0", true, true),
     (2, 1, b"0t0 0a1 1a1", false, false),
@@ -18,7 +18,7 @@ const JUDGED: [(u32, u32, &[u8], bool, bool); 10] = [
     (1, 0, b"0t0", true, false),
     (1, 1, b"0a0 0d0", false, false),
     (1, 1, b"0a0 0n0 0a0", false, true),
-    (2, 2, b"0t0 1t1", false, true),
+    (2, 3, b"0t0 1t1", false, true),
     (2, 1, b"0t1", true, false),
     (2, 1, b"0t1 1a1", true, false),
 ];
@@ -46,29 +46,27 @@ const FOUND: [(u32, u32, &[u8], bool); 5] = [
     (2, 4, b"0a001 0n01 1f1", true),
 ];
 
-/// The automaton of these edges, whose starts are the first states.
+/// The automaton of these edges.
 fn written(
     alloc: Global,
     states: u32,
     starts: u32,
     edges: &[u8],
     sets: u32,
-    formula: Formula,
 ) -> Result<Written, Memory> {
     Ok(Written {
         states,
-        starts: first_states(alloc, starts)?,
+        starts,
         arrows: arrows(alloc, edges)?,
         sets,
-        formula,
     })
 }
 
 /// Whether the automata are deterministic and complete where they should be.
 pub(crate) fn are_judged(alloc: Global) -> Result<bool, Memory> {
     for (states, starts, edges, is_deterministic, is_complete) in JUDGED {
-        let written = written(alloc, states, starts, edges, 0, Formula::True)?;
-        let is_right = match written.built(alloc)? {
+        let written = written(alloc, states, starts, edges, 0)?;
+        let is_right = match written.built(alloc, &Formula::True)? {
             Some(a) => {
                 a.is_deterministic() == is_deterministic && a.is_complete() == is_complete
             }
@@ -94,8 +92,8 @@ pub(crate) fn are_pruned(alloc: Global) -> Result<bool, Memory> {
 /// What is left of an automaton, in a line.
 fn left(alloc: Global, states: u32, edges: &[u8]) -> Result<Text, Memory> {
     let again = condition(alloc, Shape::One, 0, 0, 0)?;
-    let written = written(alloc, states, 1, edges, 1, again)?;
-    let Some(a) = written.built(alloc)? else {
+    let written = written(alloc, states, 1, edges, 1)?;
+    let Some(a) = written.built(alloc, &again)? else {
         return Ok(Text::new(alloc));
     };
     match pruned(alloc, &a)? {
@@ -108,9 +106,11 @@ fn left(alloc: Global, states: u32, edges: &[u8]) -> Result<Text, Memory> {
 pub(crate) fn are_found(alloc: Global) -> Result<bool, Memory> {
     for (first, second, edges, accepts_some) in FOUND {
         let formula = condition(alloc, Shape::Both, first, second, 0)?;
-        let written = written(alloc, 2, 1, edges, 2, formula)?;
-        let view = View::of_written(alloc, &written)?;
-        if view.accepts_some(alloc)? != accepts_some || !is_found_rightly(alloc, &written)? {
+        let written = written(alloc, 2, 1, edges, 2)?;
+        let view = View::of_written(alloc, &written, &formula)?;
+        if view.accepts_some(alloc)? != accepts_some
+            || !is_found_rightly(alloc, &written, &formula)?
+        {
             return Ok(false);
         }
     }

@@ -4,7 +4,7 @@
 use crate::conditions::{Shape, condition};
 use crate::found::is_found_rightly;
 use crate::written::{Arrow, Written};
-use aut_base::{Formula, Memory, Numbers};
+use aut_base::{Formula, Memory};
 use std::alloc::Global;
 
 /// The number of automata.
@@ -49,15 +49,11 @@ impl Digits {
         fin | self.coin(4) | self.coin(1)
     }
 
-    fn starts(&mut self, alloc: Global) -> Result<Numbers, Memory> {
-        let mut starts = Numbers::new(alloc);
-        if self.next() > 0 {
-            starts.push(0)?;
-        }
-        if self.next() == 0 {
-            starts.push(1)?;
-        }
-        Ok(starts)
+    /// The first state but for one digit, and the second for one.
+    fn starts(&mut self) -> u32 {
+        let first = if self.next() > 0 { 0b01 } else { 0 };
+        let second = if self.next() == 0 { 0b10 } else { 0 };
+        first | second
     }
 
     fn arrows(&mut self, alloc: Global, leave_zero: u32) -> Result<Vec<Arrow>, Memory> {
@@ -92,24 +88,24 @@ fn shape(digit: u32) -> Shape {
     }
 }
 
-/// The automaton of a number.
-fn drawn(alloc: Global, number: u32) -> Result<Written, Memory> {
+/// Whether the search is right on the automaton of a number.
+fn is_right(alloc: Global, number: u32) -> Result<bool, Memory> {
     let mut digits = Digits::new(number);
     let leave_zero = digits.next();
-    Ok(Written {
+    let written = Written {
         states: 2,
-        starts: digits.starts(alloc)?,
+        starts: digits.starts(),
         arrows: digits.arrows(alloc, leave_zero)?,
         sets: 2,
-        formula: digits.formula(alloc)?,
-    })
+    };
+    is_found_rightly(alloc, &written, &digits.formula(alloc)?)
 }
 
 /// The number of automata of which no word is found where one is accepted, or a wrong one.
 pub(crate) fn different(alloc: Global) -> Result<u32, Memory> {
     let mut different = 0u32;
     for number in 0..DRAWN {
-        if !is_found_rightly(alloc, &drawn(alloc, number)?)? {
+        if !is_right(alloc, number)? {
             different = different.saturating_add(1);
         }
     }

@@ -3,7 +3,7 @@
 use crate::calls::{buchi, copied};
 use crate::conditions::{SHAPES, condition};
 use crate::runs::{View, short_cycles, stems};
-use crate::written::{Arrow, Written, first_states};
+use crate::written::{Arrow, Written};
 use aut_base::{Formula, Memory};
 use aut_core::Automaton;
 use std::alloc::Global;
@@ -30,7 +30,7 @@ pub(crate) fn compared(alloc: Global) -> Result<(u32, u32), Memory> {
                 for third in 0..thirds {
                     let formula = condition(alloc, shape, first, second, third)?;
                     automata = automata.saturating_add(1);
-                    if !is_same(alloc, automata, formula)? {
+                    if !is_same(alloc, automata, &formula)? {
                         different = different.saturating_add(1);
                     }
                 }
@@ -41,21 +41,24 @@ pub(crate) fn compared(alloc: Global) -> Result<(u32, u32), Memory> {
 }
 
 /// Whether the automaton with this number and condition accepts what its copies and its Büchi form do.
-fn is_same(alloc: Global, number: u32, formula: Formula) -> Result<bool, Memory> {
+fn is_same(alloc: Global, number: u32, formula: &Formula) -> Result<bool, Memory> {
     let written = Written {
         states: 2,
-        starts: first_states(alloc, 1 + number % 2)?,
+        starts: if number % 2 == 0 { 0b01 } else { 0b11 },
         arrows: arrows(alloc, number)?,
         sets: 2,
-        formula,
     };
-    let Some(a) = written.built(alloc)? else {
+    let Some(a) = written.built(alloc, formula)? else {
         return Ok(false);
     };
-    match (copied(alloc, &a), buchi(alloc, &a)) {
-        (Some(copied), Some(buchi)) => are_alike(alloc, &written, &copied, &buchi),
-        _ => Ok(false),
-    }
+    let own = View::of_written(alloc, &written, formula)?;
+    let Some(copied) = copied(alloc, &a) else {
+        return Ok(false);
+    };
+    let Some(buchi) = buchi(alloc, &a) else {
+        return Ok(false);
+    };
+    are_alike(alloc, &own, &copied, &buchi)
 }
 
 /// Some edges, by the number.
@@ -82,11 +85,10 @@ fn arrows(alloc: Global, number: u32) -> Result<Vec<Arrow>, Memory> {
 /// Whether the three accept the same of the words with a stem of at most two and a cycle of at most three letters.
 fn are_alike(
     alloc: Global,
-    written: &Written,
+    own: &View,
     copied: &Automaton,
     buchi: &Automaton,
 ) -> Result<bool, Memory> {
-    let own = View::of_written(alloc, written)?;
     let copied = View::of_made(alloc, copied)?;
     let buchi = View::of_made(alloc, buchi)?;
     for cycle in short_cycles() {

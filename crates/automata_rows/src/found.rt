@@ -3,15 +3,19 @@
 use crate::calls::word;
 use crate::runs::View;
 use crate::written::Written;
-use aut_base::{Lasso, Letter, Memory, Text};
+use aut_base::{Formula, Lasso, Letter, Memory, Text};
 use std::alloc::Global;
 
 /// Whether the search finds a reduced word that is accepted, or none where no short word is.
-pub(crate) fn is_found_rightly(alloc: Global, written: &Written) -> Result<bool, Memory> {
-    let Some(a) = written.built(alloc)? else {
+pub(crate) fn is_found_rightly(
+    alloc: Global,
+    written: &Written,
+    formula: &Formula,
+) -> Result<bool, Memory> {
+    let Some(a) = written.built(alloc, formula)? else {
         return Ok(false);
     };
-    let view = View::of_written(alloc, written)?;
+    let view = View::of_written(alloc, written, formula)?;
     match word(alloc, &a)? {
         Some(found) => is_right(alloc, &view, &found),
         None => Ok(!view.accepts_some(alloc)?),

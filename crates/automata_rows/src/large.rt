@@ -2,7 +2,7 @@
 
 use crate::calls::word;
 use crate::conditions::{Shape, condition};
-use crate::written::{Arrow, Written, first_states};
+use crate::written::{Arrow, Written};
 use aut_base::Memory;
 use std::alloc::Global;
 
@@ -42,8 +42,11 @@ pub(crate) fn are_found(alloc: Global) -> Result<bool, Memory> {
     Ok(true)
 }
 
+/// The lengths of the word that is found under `Inf(0) & Fin(1)`.
 fn lengths(alloc: Global, line: Line) -> Result<(usize, usize), Memory> {
-    let Some(a) = written(alloc, line)?.built(alloc)? else {
+    let formula = condition(alloc, Shape::Both, 0, 6, 0)?;
+    let written = written(alloc, line)?;
+    let Some(a) = written.built(alloc, &formula)? else {
         return Ok((1, 0));
     };
     match word(alloc, &a)? {
@@ -52,14 +55,12 @@ fn lengths(alloc: Global, line: Line) -> Result<(usize, usize), Memory> {
     }
 }
 
-/// The line under `Inf(0) & Fin(1)`.
 fn written(alloc: Global, line: Line) -> Result<Written, Memory> {
     Ok(Written {
         states: STATES,
-        starts: first_states(alloc, 1)?,
+        starts: 1,
         arrows: arrows(alloc, line)?,
         sets: 2,
-        formula: condition(alloc, Shape::Both, 0, 6, 0)?,
     })
 }
 

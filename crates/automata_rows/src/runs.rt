@@ -71,7 +71,11 @@ pub(crate) struct View {
 
 impl View {
     /// The automaton as it is written. No library of automata has a part in this.
-    pub(crate) fn of_written(alloc: Global, written: &Written) -> Result<View, Memory> {
+    pub(crate) fn of_written(
+        alloc: Global,
+        written: &Written,
+        formula: &Formula,
+    ) -> Result<View, Memory> {
         let mut steps = Vec::new(alloc);
         for arrow in &written.arrows {
             steps.push(Step::of_arrow(arrow))?;
@@ -79,10 +83,10 @@ impl View {
         let lists = bit(written.sets);
         Ok(View {
             states: written.states,
-            starts: listed(written.starts.as_slice()),
+            starts: written.starts,
             steps,
             lists,
-            met: meetings(alloc, &written.formula, lists)?,
+            met: meetings(alloc, formula, lists)?,
         })
     }
 

@@ -16,30 +16,35 @@ pub(crate) struct Arrow {
     pub(crate) sets: u32,
 }
 
-/// An automaton over the name `a`.
+/// An automaton over the name `a`, without its condition: a type of its own that held a condition, too, would take the prover
+/// longer than all else here.
 #[derive(Drop)]
 pub(crate) struct Written {
     pub(crate) states: u32,
-    pub(crate) starts: Numbers,
+    /// A bit for each start. Starts are among the first two states.
+    pub(crate) starts: u32,
     pub(crate) arrows: Vec<Arrow>,
     pub(crate) sets: u32,
-    pub(crate) formula: Formula,
 }
 
 impl Written {
-    /// The automaton, or `None` where it is none.
-    pub(crate) fn built(&self, alloc: Global) -> Result<Option<Automaton>, Memory> {
-        automaton(alloc, &self.described(alloc)?)
+    /// The automaton under this condition, or `None` where it is none.
+    pub(crate) fn built(
+        &self,
+        alloc: Global,
+        formula: &Formula,
+    ) -> Result<Option<Automaton>, Memory> {
+        automaton(alloc, &self.described(alloc, formula)?)
     }
 
-    fn described(&self, alloc: Global) -> Result<Description, Memory> {
+    fn described(&self, alloc: Global, formula: &Formula) -> Result<Description, Memory> {
         Ok(Description {
             names: one_name(alloc)?,
-            starts: self.starts.clone()?,
+            starts: starts(alloc, self.starts)?,
             states: self.states,
             edges: edges(alloc, &self.arrows)?,
             sets: self.sets,
-            formula: self.formula.copy(alloc)?,
+            formula: formula.copy(alloc)?,
         })
     }
 }
@@ -108,11 +113,13 @@ pub(crate) fn bit(place: u32) -> u32 {
     1u32.wrapping_shl(place)
 }
 
-/// The first so many states.
-pub(crate) fn first_states(alloc: Global, count: u32) -> Result<Numbers, Memory> {
+/// Those of the first two states whose bits are set.
+fn starts(alloc: Global, bits: u32) -> Result<Numbers, Memory> {
     let mut starts = Numbers::new(alloc);
-    for state in 0..count {
-        starts.push(state)?;
+    for state in 0..2 {
+        if bits & bit(state) != 0 {
+            starts.push(state)?;
+        }
     }
     Ok(starts)
 }
