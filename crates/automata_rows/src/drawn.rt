@@ -88,17 +88,23 @@ fn shape(digit: u32) -> Shape {
     }
 }
 
-/// Whether the search is right on the automaton of a number.
-fn is_right(alloc: Global, number: u32) -> Result<bool, Memory> {
-    let mut digits = Digits::new(number);
+/// The automaton that is drawn. Its condition comes from the digits behind.
+fn written(alloc: Global, digits: &mut Digits) -> Result<Written, Memory> {
     let leave_zero = digits.next();
-    let written = Written {
+    Ok(Written {
         states: 2,
         starts: digits.starts(),
         arrows: digits.arrows(alloc, leave_zero)?,
         sets: 2,
-    };
-    is_found_rightly(alloc, &written, &digits.formula(alloc)?)
+    })
+}
+
+/// Whether the search is right on the automaton of a number.
+fn is_right(alloc: Global, number: u32) -> Result<bool, Memory> {
+    let mut digits = Digits::new(number);
+    let written = written(alloc, &mut digits)?;
+    let formula = digits.formula(alloc)?;
+    is_found_rightly(alloc, &written, &formula)
 }
 
 /// The number of automata of which no word is found where one is accepted, or a wrong one.

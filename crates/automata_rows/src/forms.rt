@@ -42,23 +42,37 @@ pub(crate) fn compared(alloc: Global) -> Result<(u32, u32), Memory> {
 
 /// Whether the automaton with this number and condition accepts what its copies and its Büchi form do.
 fn is_same(alloc: Global, number: u32, formula: &Formula) -> Result<bool, Memory> {
-    let written = Written {
+    let written = written(alloc, number)?;
+    let own = View::of_written(alloc, &written, formula)?;
+    match written.built(alloc, formula)? {
+        Some(a) => is_kept(alloc, &own, &a),
+        None => Ok(false),
+    }
+}
+
+/// The automaton with this number.
+fn written(alloc: Global, number: u32) -> Result<Written, Memory> {
+    Ok(Written {
         states: 2,
         starts: if number % 2 == 0 { 0b01 } else { 0b11 },
         arrows: arrows(alloc, number)?,
         sets: 2,
-    };
-    let Some(a) = written.built(alloc, formula)? else {
-        return Ok(false);
-    };
-    let own = View::of_written(alloc, &written, formula)?;
-    let Some(copied) = copied(alloc, &a) else {
-        return Ok(false);
-    };
-    let Some(buchi) = buchi(alloc, &a) else {
-        return Ok(false);
-    };
-    are_alike(alloc, &own, &copied, &buchi)
+    })
+}
+
+/// Whether what the automaton accepts, as it was written, is kept by its copies and by its Büchi form.
+fn is_kept(alloc: Global, own: &View, a: &Automaton) -> Result<bool, Memory> {
+    match copied(alloc, a) {
+        Some(copied) => Ok(is_alike(alloc, own, &copied)? && is_kept_by_buchi(alloc, own, a)?),
+        None => Ok(false),
+    }
+}
+
+fn is_kept_by_buchi(alloc: Global, own: &View, a: &Automaton) -> Result<bool, Memory> {
+    match buchi(alloc, a) {
+        Some(buchi) => is_alike(alloc, own, &buchi),
+        None => Ok(false),
+    }
 }
 
 /// Some edges, by the number.
@@ -82,23 +96,15 @@ fn arrows(alloc: Global, number: u32) -> Result<Vec<Arrow>, Memory> {
     Ok(arrows)
 }
 
-/// Whether the three accept the same of the words with a stem of at most two and a cycle of at most three letters.
-fn are_alike(
-    alloc: Global,
-    own: &View,
-    copied: &Automaton,
-    buchi: &Automaton,
-) -> Result<bool, Memory> {
-    let copied = View::of_made(alloc, copied)?;
-    let buchi = View::of_made(alloc, buchi)?;
+/// Whether both accept the same of the words with a stem of at most two and a cycle of at most three letters.
+fn is_alike(alloc: Global, own: &View, made: &Automaton) -> Result<bool, Memory> {
+    let made = View::of_made(alloc, made)?;
     for cycle in short_cycles() {
         let own_closing = own.closing(alloc, cycle)?;
-        let copied_closing = copied.closing(alloc, cycle)?;
-        let buchi_closing = buchi.closing(alloc, cycle)?;
+        let made_closing = made.closing(alloc, cycle)?;
         for stem in stems() {
-            let wanted = own.reached(stem, cycle) & own_closing != 0;
-            if (copied.reached(stem, cycle) & copied_closing != 0) != wanted
-                || (buchi.reached(stem, cycle) & buchi_closing != 0) != wanted
+            if (own.reached(stem, cycle) & own_closing != 0)
+                != (made.reached(stem, cycle) & made_closing != 0)
             {
                 return Ok(false);
             }

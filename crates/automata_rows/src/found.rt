@@ -4,6 +4,7 @@ use crate::calls::word;
 use crate::runs::View;
 use crate::written::Written;
 use aut_base::{Formula, Lasso, Letter, Memory, Text};
+use aut_core::Automaton;
 use std::alloc::Global;
 
 /// Whether the search finds a reduced word that is accepted, or none where no short word is.
@@ -12,12 +13,16 @@ pub(crate) fn is_found_rightly(
     written: &Written,
     formula: &Formula,
 ) -> Result<bool, Memory> {
-    let Some(a) = written.built(alloc, formula)? else {
-        return Ok(false);
-    };
     let view = View::of_written(alloc, written, formula)?;
-    match word(alloc, &a)? {
-        Some(found) => is_right(alloc, &view, &found),
+    match written.built(alloc, formula)? {
+        Some(a) => is_found_as_seen(alloc, &view, &a),
+        None => Ok(false),
+    }
+}
+
+fn is_found_as_seen(alloc: Global, view: &View, a: &Automaton) -> Result<bool, Memory> {
+    match word(alloc, a)? {
+        Some(found) => is_right(alloc, view, &found),
         None => Ok(!view.accepts_some(alloc)?),
     }
 }
