@@ -170,13 +170,9 @@ impl Formulas {
         ensures { IfOk result (λ new. formula_parts new ≡ formula_parts self.now) }
     {
         let first = self.first.copy(alloc)?;
-        let second = self.second.copy(alloc)?;
-        let others = copy_all(alloc, &self.others)?;
-        Ok(Formulas {
-            first: Box::new(alloc, first)?,
-            second: Box::new(alloc, second)?,
-            others,
-        })
+        let mut copies = Formulas::pair(alloc, first, self.second.copy(alloc)?)?;
+        copies.others = copy_all(alloc, &self.others)?;
+        Ok(copies)
     }
 }
 

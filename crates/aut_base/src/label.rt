@@ -172,13 +172,9 @@ impl Labels {
         ensures { IfOk result (λ new. label_parts new ≡ label_parts self.now) }
     {
         let first = self.first.copy(alloc)?;
-        let second = self.second.copy(alloc)?;
-        let others = copy_all(alloc, &self.others)?;
-        Ok(Labels {
-            first: Box::new(alloc, first)?,
-            second: Box::new(alloc, second)?,
-            others,
-        })
+        let mut copies = Labels::pair(alloc, first, self.second.copy(alloc)?)?;
+        copies.others = copy_all(alloc, &self.others)?;
+        Ok(copies)
     }
 }
 
