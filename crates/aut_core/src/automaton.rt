@@ -16,6 +16,13 @@ use std::marker::Model;
 /// A transition-based omega-automaton with an Emerson-Lei condition, and its labels in a store of its own.
 #[derive(Drop)]
 pub struct Automaton {
+    /// In a box, so that an automaton is passed on as a pointer and let go by a call, wherever that may be.
+    fields: Box<Fields>,
+}
+
+/// What an automaton holds.
+#[derive(Drop)]
+struct Fields {
     names: Names,
     guards: Guards,
     states: u32,
@@ -40,9 +47,9 @@ impl Model for Automaton {
 
     ghost coded = { Prim.hlevel (codes, formula_code) };
 
-    ghost view = { λ s. record { names = s.names; starts = s.starts; states = s.states; links = s.links; sets = s.sets; formula = formula_tree s.formula; store = s.guards } };
+    ghost view = { λ s. record { names = s.fields.value.names; starts = s.fields.value.starts; states = s.fields.value.states; links = s.fields.value.links; sets = s.fields.value.sets; formula = formula_tree s.fields.value.formula; store = s.fields.value.guards } };
 
-    ghost invariant = { λ s. IsKept (record { names = s.names; starts = s.starts; states = s.states; links = s.links; sets = s.sets; formula = formula_tree s.formula; store = s.guards }) s.rows s.is_deterministic s.is_complete };
+    ghost invariant = { λ s. IsKept (record { names = s.fields.value.names; starts = s.fields.value.starts; states = s.fields.value.states; links = s.fields.value.links; sets = s.fields.value.sets; formula = formula_tree s.fields.value.formula; store = s.fields.value.guards }) s.fields.value.rows s.fields.value.is_deterministic s.fields.value.is_complete };
 }
 
 impl Automaton {
@@ -66,7 +73,7 @@ impl Automaton {
         let is_deterministic = is_single && all.found.apart;
         let has_start = !starts.is_empty();
         let is_complete = has_start && all.found.filled;
-        Ok(Automaton {
+        let fields = Fields {
             names,
             guards,
             states,
@@ -77,6 +84,9 @@ impl Automaton {
             formula,
             is_deterministic,
             is_complete,
+        };
+        Ok(Automaton {
+            fields: Box::new(alloc, fields)?,
         })
     }
 
@@ -85,7 +95,7 @@ impl Automaton {
     pub fn names(&self) -> &Names
         ensures { result.now ≡ self.now.names }
     {
-        &self.names
+        &self.fields.names
     }
 
     /// The states where runs may start.
@@ -93,7 +103,7 @@ impl Automaton {
     pub fn starts(&self) -> &Numbers
         ensures { result.now ≡ self.now.starts }
     {
-        &self.starts
+        &self.fields.starts
     }
 
     /// The number of states, which are the numbers below it.
@@ -101,7 +111,7 @@ impl Automaton {
     pub fn states(&self) -> u32
         ensures { result ≡ self.now.states }
     {
-        self.states
+        self.fields.states
     }
 
     /// The number of acceptance sets, which are the numbers below it.
@@ -109,7 +119,7 @@ impl Automaton {
     pub fn sets(&self) -> u32
         ensures { result ≡ self.now.sets }
     {
-        self.sets
+        self.fields.sets
     }
 
     /// The acceptance condition.
@@ -117,7 +127,7 @@ impl Automaton {
     pub fn formula(&self) -> &Formula
         ensures { formula_tree result.now ≡ self.now.formula }
     {
-        &self.formula
+        &self.fields.formula
     }
 
     /// The store of the labels.
@@ -125,7 +135,7 @@ impl Automaton {
     pub fn guards(&self) -> &Guards
         ensures { result.now ≡ self.now.store }
     {
-        &self.guards
+        &self.fields.guards
     }
 
     /// The edges, in the order of the states that they leave.
@@ -133,7 +143,7 @@ impl Automaton {
     pub fn links(&self) -> &[Link]
         ensures { result.now ≡ self.now.links }
     {
-        self.links.as_slice()
+        self.fields.links.as_slice()
     }
 
     /// The edges that leave this state, in order. Takes no search.
@@ -142,9 +152,10 @@ impl Automaton {
         requires { state < self.now.states }
         ensures { result.now ≡ filter (λ l. l.from == state) self.now.links }
     {
-        let start = *self.rows.at(state as usize);
-        let end = *self.rows.at(state as usize + 1);
-        &self.links.as_slice()[start..end]
+        let fields: &Fields = &self.fields;
+        let start = *fields.rows.at(state as usize);
+        let end = *fields.rows.at(state as usize + 1);
+        &fields.links.as_slice()[start..end]
     }
 
     /// Whether there is at most one start and no letter meets two edges of one state. Takes no time.
@@ -152,7 +163,7 @@ impl Automaton {
     pub fn is_deterministic(&self) -> bool
         ensures { IsTrue result ↔ IsDeterministic (automaton_of self.now) }
     {
-        self.is_deterministic
+        self.fields.is_deterministic
     }
 
     /// Whether there is a start and at every state each letter meets some edge. Takes no time.
@@ -160,24 +171,28 @@ impl Automaton {
     pub fn is_complete(&self) -> bool
         ensures { IsTrue result ↔ IsComplete (automaton_of self.now) }
     {
-        self.is_complete
+        self.fields.is_complete
     }
 
     /// The same automaton, held apart.
     pub fn copy(&self, alloc: Global) -> Result<Automaton, Memory>
         ensures { IfOk result (λ copy. copy ≡ self.now) }
     {
+        let fields = &self.fields;
+        let copied = Fields {
+            names: copy_names(&fields.names)?,
+            starts: copy_numbers(&fields.starts)?,
+            rows: copy_places(&fields.rows)?,
+            links: copy_links(&fields.links)?,
+            formula: fields.formula.copy(alloc)?,
+            guards: fields.guards.copy(alloc)?,
+            states: fields.states,
+            sets: fields.sets,
+            is_deterministic: fields.is_deterministic,
+            is_complete: fields.is_complete,
+        };
         Ok(Automaton {
-            names: copy_names(&self.names)?,
-            guards: self.guards.copy(alloc)?,
-            states: self.states,
-            starts: copy_numbers(&self.starts)?,
-            links: copy_links(&self.links)?,
-            rows: copy_places(&self.rows)?,
-            sets: self.sets,
-            formula: self.formula.copy(alloc)?,
-            is_deterministic: self.is_deterministic,
-            is_complete: self.is_complete,
+            fields: Box::new(alloc, copied)?,
         })
     }
 
@@ -185,6 +200,6 @@ impl Automaton {
     pub fn whole(&self)
         ensures { IsCore self.now }
     {
-        let _ = &self.names;
+        let _ = &self.fields.names;
     }
 }

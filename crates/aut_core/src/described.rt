@@ -25,11 +25,11 @@ impl Automaton {
         ensures canonical { IfOk result (λ made. automaton_of made ≡ canonical (automaton d.now)) }
         ensures accepts { IfOk result (λ made. AcceptTheSame (automaton_of made) (automaton d.now)) }
     {
-        let mut guards = Guards::new(alloc, d.names.len() as u32)?;
-        let links = guarded(alloc, &mut guards, d.edges.as_slice())?;
         let names = copy_names(&d.names)?;
         let starts = copy_numbers(&d.starts)?;
         let formula = d.formula.copy(alloc)?;
+        let mut guards = Guards::new(alloc, d.names.len() as u32)?;
+        let links = guarded(alloc, &mut guards, d.edges.as_slice())?;
         Automaton::from_parts(
             alloc, names, guards, d.states, starts, links, d.sets, formula,
         )

@@ -26,14 +26,15 @@ impl Automaton {
     {
         self.whole();
         let _distinct = names.as_slice();
+        let copied = copy_names(names)?;
+        let starts = copy_numbers(self.starts())?;
+        let formula = self.formula().copy(alloc)?;
         let to = places_in(alloc, self.names(), names)?;
         let mut guards = Guards::new(alloc, names.len() as u32)?;
         let links = self.brought(alloc, &mut guards, names, &to)?;
-        let starts = copy_numbers(self.starts())?;
-        let formula = self.formula().copy(alloc)?;
         Automaton::from_parts(
             alloc,
-            copy_names(names)?,
+            copied,
             guards,
             self.states(),
             starts,

@@ -42,6 +42,23 @@ pub(crate) fn survey_states(
     ensures rows { IfOk result (λ all. IsIndex links.now states all.rows) }
 {
     let mut store = guards.copy(alloc)?;
+    survey_rows(alloc, &mut store, names, links, states)
+}
+
+/// The same, with the disjunctions in this store.
+fn survey_rows(
+    alloc: Global,
+    store: &mut Guards,
+    names: &Names,
+    links: &[Link],
+    states: u32,
+) -> Result<Surveyed, Memory>
+    requires names { AreNames store.old names.now }
+    requires has { All (λ l. Has store.old l.guard) links.now }
+    requires in_order { IsNonDecreasing (map (λ l. l.from) links.now) }
+    ensures found { IfOk result (λ all. AreSurveyed names.now (map (edge_of store.old) links.now) states all.found) }
+    ensures rows { IfOk result (λ all. IsIndex links.now states all.rows) }
+{
     let mut rows = Vec::with_capacity(alloc, states as usize + 1)?;
     let mut start = 0usize;
     let mut apart = true;
@@ -49,7 +66,7 @@ pub(crate) fn survey_states(
     rows.push(start)?;
     'states: for state in 0..states {
         let end = row_end(links, start, state);
-        let found = survey_state(&mut store, names, &links[start..end])?;
+        let found = survey_state(store, names, &links[start..end])?;
         apart = apart && found.apart;
         filled = filled && found.filled;
         rows.push(end)?;

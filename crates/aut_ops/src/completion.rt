@@ -45,27 +45,22 @@ fn sunk(alloc: Global, a: &Automaton) -> Result<Automaton, Memory>
 {
     a.whole();
     let sink = a.states();
-    let trap = trap_of(alloc, a)?;
+    let names = copy_names(a.names())?;
+    let starts = starts_or(alloc, a.starts(), sink)?;
+    let Trap {
+        marks,
+        sets,
+        formula,
+    } = trap_of(alloc, a)?;
     let mut guards = a.guards().copy(alloc)?;
     let mut links = filled_links(alloc, &mut guards, a)?;
     links.push(Link {
         from: sink,
         guard: guards.always(),
         to: sink,
-        marks: trap.marks,
+        marks,
     })?;
-    let starts = starts_or(alloc, a.starts(), sink)?;
-    let names = copy_names(a.names())?;
-    Automaton::from_parts(
-        alloc,
-        names,
-        guards,
-        sink + 1,
-        starts,
-        links,
-        trap.sets,
-        trap.formula,
-    )
+    Automaton::from_parts(alloc, names, guards, sink + 1, starts, links, sets, formula)
 }
 
 /// What keeps runs in the sink from being accepting.

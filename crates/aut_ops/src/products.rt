@@ -102,14 +102,13 @@ fn product_over(
     a.whole();
     b.whole();
     let sets = a.sets();
-    let store = b.guards().copy(alloc)?;
-    let mut pairing = Pairing::new(alloc, store);
+    let names = copy_names(a.names())?;
+    let formula = join.condition(alloc, a.formula(), b.formula(), sets)?;
+    let mut pairing = Pairing::new(alloc, b.guards().copy(alloc)?);
     let starts = list_starts(alloc, &mut pairing, a.starts(), b.starts())?;
     explore(&mut pairing, a, b)?;
     let states = pairing.len() as u32;
     let (guards, links) = pairing.into_parts();
-    let formula = join.condition(alloc, a.formula(), b.formula(), sets)?;
-    let names = copy_names(a.names())?;
     Ok(Automaton::from_parts(
         alloc,
         names,

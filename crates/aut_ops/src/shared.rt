@@ -1,6 +1,6 @@
 //! Two automata over the same names, with their guards in one store.
 
-ghost use Rattle.std.specs.Prelude.{◌≡◌, ◌<◌, ◌≤◌, All, IfOk, length, map};
+ghost use Rattle.std.specs.Prelude.{◌≡◌, ◌<◌, ◌≤◌, All, Contains, IfOk, length, map};
 ghost use Rattle.std.specs.List.{range_with_len};
 ghost use Rattle.aut_base.specs.declared.limit.TheConstants.{MOST_NAMES};
 ghost use Rattle.aut_core.specs.Core.{automaton_of, edge_of};
@@ -36,9 +36,26 @@ pub(crate) fn share(
     ensures store { IfOk result (λ both. Keeps both.first.store both.second.store) }
 {
     let first = a.over(alloc, names)?;
-    let other = b.over(alloc, names)?;
-    let second = in_store_of(alloc, &other, &first)?;
+    let second = over_beside(alloc, b, names, &first)?;
     Ok(Shared { first, second })
+}
+
+/// The automaton over these names, with its guards in a copy of the store of one that is over them.
+fn over_beside(
+    alloc: Global,
+    a: &Automaton,
+    names: &Names,
+    other: &Automaton,
+) -> Result<Automaton, Memory>
+    requires has { All (Contains names.now) a.now.names }
+    requires few { length names.now ≤ MOST_NAMES }
+    requires other { other.now.names ≡ names.now }
+    ensures over { IfOk result (λ made. automaton_of made ≡ over_names names.now (automaton_of a.now)) }
+    ensures accepts { IfOk result (λ made. AcceptTheSame (automaton_of made) (automaton_of a.now)) }
+    ensures store { IfOk result (λ made. Keeps other.now.store made.store) }
+{
+    let over = a.over(alloc, names)?;
+    in_store_of(alloc, &over, other)
 }
 
 /// The automaton with its guards in a copy of the other's store.
@@ -49,12 +66,12 @@ fn in_store_of(alloc: Global, a: &Automaton, other: &Automaton) -> Result<Automa
 {
     a.whole();
     other.whole();
-    let mut guards = other.guards().copy(alloc)?;
-    let to = in_place(alloc, guards.names())?;
-    let links = brought(alloc, &mut guards, a, &to)?;
     let names = copy_names(a.names())?;
     let starts = copy_numbers(a.starts())?;
     let formula = a.formula().copy(alloc)?;
+    let to = in_place(alloc, a.guards().names())?;
+    let mut guards = other.guards().copy(alloc)?;
+    let links = brought(alloc, &mut guards, a, &to)?;
     Automaton::from_parts(
         alloc,
         names,

@@ -29,6 +29,13 @@ type Results = IndexMap<(Operation, usize, usize), usize>;
 /// A store of guards.
 #[derive(Drop)]
 pub struct Guards {
+    /// In a box, so that a store is passed on as a pointer and let go by a call, wherever that may be.
+    fields: Box<Fields>,
+}
+
+/// What a store holds.
+#[derive(Drop)]
+struct Fields {
     nodes: Nodes,
     results: Results,
 }
@@ -39,9 +46,9 @@ impl Model for Guards {
 
     ghost Value = { Store };
 
-    ghost view = { λ s. s.nodes };
+    ghost view = { λ s. s.fields.value.nodes };
 
-    ghost invariant = { λ s. AreJoins s.nodes s.results.entries };
+    ghost invariant = { λ s. AreJoins s.fields.value.nodes s.fields.value.results.entries };
 }
 
 impl Guards {
@@ -53,9 +60,12 @@ impl Guards {
     {
         let nodes = Nodes::new(alloc, names);
         nodes.reduced();
-        Ok(Guards {
+        let fields = Fields {
             nodes,
             results: IndexMap::new(alloc),
+        };
+        Ok(Guards {
+            fields: Box::new(alloc, fields)?,
         })
     }
 
@@ -63,9 +73,12 @@ impl Guards {
     pub fn copy(&self, alloc: Global) -> Result<Guards, Memory>
         ensures { IfOk result (λ copy. copy ≡ self.now) }
     {
-        Ok(Guards {
-            nodes: self.nodes.copy()?,
+        let fields = Fields {
+            nodes: self.fields.nodes.copy()?,
             results: IndexMap::new(alloc),
+        };
+        Ok(Guards {
+            fields: Box::new(alloc, fields)?,
         })
     }
 
@@ -73,21 +86,21 @@ impl Guards {
     pub fn names(&self) -> u32
         ensures { result ≡ self.now.names }
     {
-        self.nodes.names()
+        self.fields.nodes.names()
     }
 
     /// The number of places.
     pub(crate) fn places(&self) -> usize
         ensures { result ≡ places self.now }
     {
-        self.nodes.places()
+        self.fields.nodes.places()
     }
 
     /// Tells a proof that the diagrams are reduced.
     pub(crate) fn reduced(&self)
         ensures { IsReduced self.now.names self.now.nodes }
     {
-        self.nodes.reduced();
+        self.fields.nodes.reduced();
     }
 
     /// The proposition that is asked for first at this place, or the number of propositions at `f` and `t`.
@@ -98,7 +111,7 @@ impl Guards {
         ensures most { result ≤ self.now.names }
         ensures asks { 2 ≤ place → result < self.now.names }
     {
-        self.nodes.level(place)
+        self.fields.nodes.level(place)
     }
 
     /// The node at this place.
@@ -108,7 +121,7 @@ impl Guards {
         requires has { HasPlace self.now place }
         ensures { StandsAt self.now place result }
     {
-        self.nodes.node_at(place)
+        self.fields.nodes.node_at(place)
     }
 
     /// Where to go on if the proposition fails, and if it holds.
@@ -119,7 +132,7 @@ impl Guards {
         requires within { prop < self.now.names }
         ensures { AreSides self.now prop place result.0 result.1 }
     {
-        self.nodes.sides(place, prop)
+        self.fields.nodes.sides(place, prop)
     }
 
     /// The place where the proposition decides between these two.
@@ -133,7 +146,7 @@ impl Guards {
         ensures kept { places self.old ≤ places self.new }
         ensures made { IfOk result (λ place. IsChoice self.new prop low high place) }
     {
-        self.nodes.make(prop, low, high)
+        self.fields.nodes.make(prop, low, high)
     }
 
     /// The result in the table, if it is there.
@@ -141,7 +154,7 @@ impl Guards {
     fn known(&self, operation: Operation, g: usize, h: usize) -> Option<usize>
         ensures { IfSome result (λ place. IsJoin self.now operation g h place) }
     {
-        match self.results.get(&(operation, g, h)) {
+        match self.fields.results.get(&(operation, g, h)) {
             Some(place) => Some(*place),
             None => None,
         }
@@ -152,7 +165,7 @@ impl Guards {
         requires { IsJoin self.old operation g h place }
         ensures { self.new ≡ self.old }
     {
-        self.results.insert((operation, g, h), place)?;
+        self.fields.results.insert((operation, g, h), place)?;
         Ok(())
     }
 

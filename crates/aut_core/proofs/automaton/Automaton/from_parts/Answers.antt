@@ -5,7 +5,9 @@ use Rattle.aut_base.specs.Formula.{formula_tree}
 use Rattle.aut_core.specs.Core.{Core, automaton_of, edge_of}
 use Rattle.aut_core.specs.Deterministic.{IsComplete, IsDeterministic}
 use Rattle.aut_core.specs.Index.{IsIndex}
+use Rattle.aut_core.specs.Kept.{IsKept}
 use Rattle.aut_core.specs.Surveys.{AreSurveyed}
+use Rattle.aut_core.specs.declared.automaton.Fields.{Fields}
 use Rattle.aut_core.specs.declared.link.Link.{Link}
 use Rattle.aut_core.proofs.Deterministic.{complete_if, deterministic_if, not_complete, not_deterministic}
 use Rattle.aut_core.proofs.Made.{made}
@@ -19,7 +21,7 @@ invariant_of-result c =
     let found : AreSurveyed c.args.names (map (edge_of c.args.guards) c.args.links) c.args.states c.in_ok-all.all.found = subst (λ (ls : List Link). AreSurveyed c.args.names (map (edge_of c.args.guards) ls) c.args.states c.in_ok-all.all.found) c.as_slice-2.ensures c.in_ok-all.ensures.found in
     let differ : AllPairs (λ (a b : List ℕ). a ≢ b) c.args.names = subst (λ (ns : List (List ℕ)). AllPairs (λ a b. a ≢ b) ns) c.names.view_is c.names.invariant in
     let rise : All (λ (l : Link). AllPairs (λ m n. m < n) l.marks) c.args.links = subst (λ (ls : List Link). All (λ (l : Link). AllPairs (λ m n. m < n) l.marks) ls) c.as_slice.ensures c.marks_rise.ensures in
-    record {
+    let kept : IsKept core c.in_ok-all.all.rows c.if-is_single.is_deterministic c.if-has_start.is_complete = record {
       core = made core c.requires differ rise;
       index = subst (λ (ls : List Link). IsIndex ls c.args.states c.in_ok-all.all.rows) c.as_slice-2.ensures c.in_ok-all.ensures.rows;
       deterministic = elim c.if-is_single.branch [
@@ -30,4 +32,5 @@ invariant_of-result c =
         | then-has_start w ↦ subst (λ b. IsTrue b ↔ IsComplete (automaton_of core)) (sym w.is_complete-is) (complete_if (automaton_of core) c.in_ok-all.all.found.filled (sym c.is_empty-has_start.ensures ∙ w.if-has_start.true) found.filled)
         | else-has_start w ↦ not_complete (automaton_of core) c.if-has_start.is_complete (sym c.is_empty-has_start.ensures ∙ w.if-has_start.false) (w.is_complete-is ∙ ap not c.is_empty-has_start.ensures)
       ];
-    }
+    } in
+    subst (λ (f : Fields). IsKept (record { names = f.names; starts = f.starts; states = f.states; links = f.links; sets = f.sets; formula = formula_tree f.formula; store = f.guards }) f.rows f.is_deterministic f.is_complete) (sym c.in_ok-new.ensures.ok) kept

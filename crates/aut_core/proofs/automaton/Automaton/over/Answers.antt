@@ -14,9 +14,9 @@ brought-requires-clause-names c = (sym (c.in_ok-guards.ensures.names ∙ c.len.e
 
 pub from_parts-requires : goal.from_parts-requires
 from_parts-requires c =
-    let core : Core = record { names = c.in_ok-copy_names.field-0; starts = c.in_ok-starts.starts; states = c.states.result; links = c.in_ok-links.links; sets = c.sets.result; formula = formula_tree c.in_ok-formula.formula; store = c.brought.new.guards } in
+    let core : Core = record { names = c.in_ok-copied.copied; starts = c.in_ok-starts.starts; states = c.states.result; links = c.in_ok-links.links; sets = c.sets.result; formula = formula_tree c.in_ok-formula.formula; store = c.brought.new.guards } in
     let same : automaton_of core ≡ over_names c.args.names.now (automaton_of c.args.self.now) = λ i. record {
-      names = c.in_ok-copy_names.ensures i;
+      names = c.in_ok-copied.ensures i;
       starts = (c.in_ok-starts.ensures ∙ c.starts.ensures) i;
       states = c.states.ensures i;
       edges = c.in_ok-links.ensures.edges i;
@@ -27,9 +27,9 @@ from_parts-requires c =
 
 pub returns-clause-accepts : goal.returns-clause-accepts
 returns-clause-accepts c =
-    let core : Core = record { names = c.in_ok-copy_names.field-0; starts = c.in_ok-starts.starts; states = c.states.result; links = c.in_ok-links.links; sets = c.sets.result; formula = formula_tree c.in_ok-formula.formula; store = c.brought.new.guards } in
+    let core : Core = record { names = c.in_ok-copied.copied; starts = c.in_ok-starts.starts; states = c.states.result; links = c.in_ok-links.links; sets = c.sets.result; formula = formula_tree c.in_ok-formula.formula; store = c.brought.new.guards } in
     let same : automaton_of core ≡ over_names c.args.names.now (automaton_of c.args.self.now) = λ i. record {
-      names = c.in_ok-copy_names.ensures i;
+      names = c.in_ok-copied.ensures i;
       starts = (c.in_ok-starts.ensures ∙ c.starts.ensures) i;
       states = c.states.ensures i;
       edges = c.in_ok-links.ensures.edges i;

@@ -1,5 +1,10 @@
+use Rattle.std.proofs.Common.{◌⊎◌, false, subst, sym, true}
+use Rattle.label_guards.specs.Guards.{IsGuardOf}
+use Rattle.label_guards.specs.Store.{Has, Store}
+use Rattle.label_guards.specs.declared.guard.Guard.{Guard}
+use Rattle.label_guards.specs.declared.guards.Fields.{Fields}
 use Rattle.label_guards.proofs.LabelTruth.{only_constants}
 use Rattle.label_guards.proofs.guards.Guards.new.Goals as goal
 
 pub returns-clause-bare : goal.returns-clause-bare
-returns-clause-bare c = only_constants _ c.reduced.ensures c.new-nodes.ensures.nodes
+returns-clause-bare c = subst (λ (f : Fields). (g : Guard) → Has f.nodes g → IsGuardOf f.nodes (λ on. false) g ⊎ IsGuardOf f.nodes (λ on. true) g) (sym c.in_ok-new.ensures.ok) (only_constants _ c.reduced.ensures c.new-nodes.ensures.nodes)

@@ -1,10 +1,10 @@
 use Rattle.aut_core.specs.Index.{Begins, IsIndex}
 use Rattle.aut_core.proofs.SurveyedStates.{IsMidway}
-use Rattle.aut_core.proofs.survey.survey_states.Given as goal
+use Rattle.aut_core.proofs.survey.survey_rows.Given as goal
 
 abbrev pub invariant-states : goal.invariant-states
 invariant-states l = record {
-  midway : IsMidway l.names l.guards l.store l.links l.state l.apart l.filled;
+  midway : IsMidway l.names l.fn.store l.store l.links l.state l.apart l.filled;
   begins : Begins l.links l.state l.start;
   rows : IsIndex l.links l.state l.rows.items;
 }
