@@ -1,9 +1,7 @@
--- The byte that closes a token, what is left behind it, and what stands before.
-use Rattle.std.proofs.Common.{List, None, Option, Some, [], ap, is_some, not, refl, suc, sym, zero, ℕ, ◌∷◌, ◌≡◌, ◌++◌, ◌∙◌}
-use Rattle.std.proofs.lemmas.List.{append_assoc}
+-- The byte that closes a token, and what is left behind it.
+use Rattle.std.proofs.Common.{List, None, Option, Some, [], is_some, not, refl, suc, zero, ℕ, ◌∷◌, ◌≡◌}
 use Rattle.hoa_lexer.specs.Reading.{unread}
 use Rattle.hoa_lexer.specs.Spelling.{Ends, closes_itself}
-use Rattle.hoa_lexer.specs.Text.{IsNext}
 use Rattle.hoa_lexer.specs.declared.token.Token.{Token}
 use Rattle.hoa_lexer.specs.declared.token.Token.TheVariants.{Identifier, Int, Alias}
 
@@ -23,14 +21,3 @@ closing (Int (suc n)) (b ∷ rest) e = record { held = Some b; left = rest; foll
 closing (Alias name) [] e = absurd e
 closing (Alias name) (b ∷ rest) e = record { held = Some b; left = rest; follows = refl; needed = refl }
 closing _ after e = record { held = None; left = after; follows = refl; needed = refl }
-
--- the bytes at the front of these, up to those
-pub record Leaves (bytes rest : List ℕ) : Type 0 where
-  pub before : List ℕ
-  pub split : bytes ≡ before ++ rest
-
-pub next_leaves : (input : List ℕ) (start : ℕ) (t : Token) (i : ℕ) (rest : List ℕ) → IsNext input start t i rest → Leaves input rest
-next_leaves input start t i rest n = record {
-  before = n.before ++ n.front.word;
-  split = n.split ∙ ap (λ w. n.before ++ w) n.front.split ∙ sym (append_assoc n.before n.front.word rest);
-}

@@ -1,19 +1,18 @@
 -- Where something stands next in a text that a reader refuses, there is a place at which a reader stops.
-use Rattle.std.proofs.Common.{List, None, Option, Some, [], ap, inl, inr, is_some, not, refl, subst, sym, true, ℕ, ◌++◌, ◌∙◌, ◌∷◌, ◌≡◌, ◌≢◌, ◌⊎◌}
+use Rattle.std.proofs.Common.{List, None, Option, Some, [], ap, inl, inr, is_some, not, subst, sym, true, ℕ, ◌++◌, ◌∙◌, ◌≡◌, ◌≢◌, ◌⊎◌}
 use Rattle.std.proofs.lemmas.List.{append_assoc, append-nil}
 use Rattle.aut_base.proofs.Truth.{true_from_not}
 use Rattle.hoa_lexer.specs.Blanks.{IsBlanks}
-use Rattle.hoa_lexer.specs.Reading.{unread}
 use Rattle.hoa_lexer.specs.Spelling.{closes_itself}
 use Rattle.hoa_lexer.specs.Text.{IsNext}
 use Rattle.hoa_lexer.specs.declared.token.Token.{Token}
 use Rattle.hoa_lexer.proofs.next_token.Asked.{last_is_asked_for}
-use Rattle.hoa_parser.proofs.standing.Hopeless.{asked_last, hopeless_so, next_off, next_some, no_token_at}
+use Rattle.hoa_parser.proofs.standing.Hopeless.{asked_last, held_bytes, hopeless_so, next_leaves, next_off, next_some, no_token_at, unread_is}
 use Rattle.hoa_parser.proofs.standing.OpenEnds.{open_end_asks}
 use Rattle.hoa_parser.specs.Reads.{AskedForLast, IsHopeless}
 use Rattle.hoa_parser.specs.Standing.{EndsOpen, IsBegun, IsMisplaced, IsNoTokenAt}
 use Rattle.autfilt_laws.specs.Places.{BadIsShown, CutIsShown, DeepIsShown}
-use Rattle.autfilt_laws.proofs.shown.Ends.{IsClosed, closing, next_leaves}
+use Rattle.autfilt_laws.proofs.shown.Ends.{IsClosed, closing}
 use Rattle.autfilt_laws.proofs.shown.NoTokens.{refuses_at}
 
 -- the last byte was asked for, where a token stands next
@@ -23,15 +22,6 @@ asked_for_token start text tokens used rest t k after begun next c =
     (last_is_asked_for rest used k t c.held c.left (subst (λ (w : List ℕ). IsNext rest used t k w) c.follows next) c.needed)
 
 -- what was taken shows that the text cannot go on: a token that cannot stand there
-
--- the byte that is held, if any
-abbrev held_bytes : Option ℕ → List ℕ
-held_bytes None = []
-held_bytes (Some b) = b ∷ []
-
-unread_is : (held : Option ℕ) (left : List ℕ) → unread held left ≡ held_bytes held ++ left
-unread_is None left = refl
-unread_is (Some b) left = refl
 
 -- where none is held, the token is closed by its own last byte
 closed_so : (held : Option ℕ) (t : Token) → is_some held ≡ not (closes_itself t) → held_bytes held ≡ [] → closes_itself t ≡ true

@@ -37,7 +37,7 @@ use Rattle.aut_base.proofs.Truth.{true_from_not}
 use Rattle.aut_base.proofs.Lists.{right_empty}
 
 -- the byte that is held, if any
-abbrev held_bytes : Option ℕ → List ℕ
+abbrev pub held_bytes : Option ℕ → List ℕ
 held_bytes None = []
 held_bytes (Some b) = b ∷ []
 
@@ -78,8 +78,8 @@ next_off input rest more start i t c n = record {
 
 -- the bytes at the front of these, up to those
 pub record Leaves (bytes rest : List ℕ) : Type 0 where
-  before : List ℕ
-  split : bytes ≡ before ++ rest
+  pub before : List ℕ
+  pub split : bytes ≡ before ++ rest
 
 pub next_leaves : (input : List ℕ) (start : ℕ) (t : Token) (i : ℕ) (rest : List ℕ) → IsNext input start t i rest → Leaves input rest
 next_leaves input start t i rest n = record {
