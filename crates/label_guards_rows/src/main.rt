@@ -11,8 +11,8 @@ mod texts;
 mod written;
 
 use aut_base::{Memory, Text};
-use functions::Functions;
-use sample::{SAMPLE, different_functions, different_pairs, different_samples};
+use sample::{Different, SAMPLE, different_of_three, different_samples};
+use std::alloc::Global;
 use std::io;
 
 /// Why a run ended early.
@@ -36,17 +36,21 @@ impl From<Memory> for Stop {
 
 fn main(rt: HostRuntime) -> Result<(), Stop> {
     let alloc = rt.alloc();
-    let mut functions = Functions::new(alloc, 3, 256)?;
-    let different = different_functions(alloc, &mut functions)?;
-    println!(rt; "functions=256 different={different}")?;
-    let different = different_pairs(alloc, &mut functions)?;
-    println!(rt; "pairs=65536 different={different}")?;
+    let Different { functions, pairs } = different_of_three(alloc)?;
+    println!(rt; "functions=256 different={functions}")?;
+    println!(rt; "pairs=65536 different={pairs}")?;
     let different = different_samples(alloc)?;
     println!(rt; "samples={SAMPLE} different={different}")?;
-    let mut lines = Text::new(alloc);
-    classes::add(alloc, &mut lines)?;
-    texts::add(alloc, &mut lines)?;
+    let lines = worked_by_hand(alloc)?;
     let lines = std::str::from_utf8(lines.as_bytes()).unwrap_or("(no plain text)");
     print!(rt; "{lines}")?;
     Ok(())
+}
+
+/// The lines of classes and texts that are worked out by hand.
+fn worked_by_hand(alloc: Global) -> Result<Text, Memory> {
+    let mut lines = Text::new(alloc);
+    classes::add(alloc, &mut lines)?;
+    texts::add(alloc, &mut lines)?;
+    Ok(lines)
 }

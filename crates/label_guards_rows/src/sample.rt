@@ -8,8 +8,23 @@ use std::alloc::Global;
 /// How many pairs of functions of four propositions are tried.
 pub(crate) const SAMPLE: u32 = 200;
 
+/// How many functions of three propositions, and how many pairs of them, are not right.
+pub(crate) struct Different {
+    pub(crate) functions: u32,
+    pub(crate) pairs: u32,
+}
+
+/// What is not right of the functions of three propositions.
+pub(crate) fn different_of_three(alloc: Global) -> Result<Different, Memory> {
+    let mut functions = Functions::new(alloc, 3, 256)?;
+    Ok(Different {
+        functions: different_functions(alloc, &mut functions)?,
+        pairs: different_pairs(alloc, &mut functions)?,
+    })
+}
+
 /// How many of the functions of three propositions are not right.
-pub(crate) fn different_functions(alloc: Global, functions: &mut Functions) -> Result<u32, Memory> {
+fn different_functions(alloc: Global, functions: &mut Functions) -> Result<u32, Memory> {
     let mut different = 0u32;
     for table in 0..256u16 {
         if !functions.is_right(alloc, table)? || !functions.is_brought_rightly(alloc, table)? {
@@ -20,7 +35,7 @@ pub(crate) fn different_functions(alloc: Global, functions: &mut Functions) -> R
 }
 
 /// How many pairs of functions of three propositions are not right.
-pub(crate) fn different_pairs(alloc: Global, functions: &mut Functions) -> Result<u32, Memory> {
+fn different_pairs(alloc: Global, functions: &mut Functions) -> Result<u32, Memory> {
     let mut different = 0u32;
     for first in 0..256u16 {
         different = different.saturating_add(different_with(alloc, functions, first)?);

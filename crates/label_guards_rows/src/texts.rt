@@ -1,7 +1,7 @@
 //! The texts of some labels, as one works them out by hand.
 
 use crate::calls::{and, cubes, not, of_label, push_cubes};
-use crate::tables::label;
+use crate::tables::{Table, label};
 use crate::written::written;
 use aut_base::{Label, Memory, Text};
 use label_guards::{Guard, Guards};
@@ -33,8 +33,8 @@ const LABELS: [(&[u8], &[u8]); 14] = [
 pub(crate) fn add(alloc: Global, out: &mut Text) -> Result<(), Memory> {
     add_written(alloc, out, b"0&2 | 1&2: ", b"0 2 & 1 2 & |")?;
     add_written(alloc, out, b"2 & (1 | 0): ", b"2 1 0 | &")?;
-    add_label(alloc, out, b"no valuation: ", &label(alloc, 0, 3)?)?;
-    add_label(alloc, out, b"every valuation: ", &label(alloc, 255, 3)?)?;
+    add_table(alloc, out, b"no valuation: ", 0)?;
+    add_table(alloc, out, b"every valuation: ", 255)?;
     for (name, label) in LABELS {
         add_written(alloc, out, name, label)?;
     }
@@ -43,6 +43,10 @@ pub(crate) fn add(alloc: Global, out: &mut Text) -> Result<(), Memory> {
 
 fn add_written(alloc: Global, out: &mut Text, name: &[u8], text: &[u8]) -> Result<(), Memory> {
     add_label(alloc, out, name, &written(alloc, text)?)
+}
+
+fn add_table(alloc: Global, out: &mut Text, name: &[u8], table: Table) -> Result<(), Memory> {
+    add_label(alloc, out, name, &label(alloc, table, 3)?)
 }
 
 /// Adds the text of a label of three propositions.
