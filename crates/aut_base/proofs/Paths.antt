@@ -1,5 +1,5 @@
 -- Paths put together and taken apart.
-use Rattle.std.proofs.Common.{◌≡◌, ℕ, zero, suc, ◌+◌, ◌<◌, List, [], ◌∷◌, ◌++◌, ap, arith, length, refl, subst, sym}
+use Rattle.std.proofs.Common.{◌≡◌, ℕ, zero, suc, ◌<◌, List, [], ◌∷◌, ◌++◌, ap, arith, length, refl, subst, sym}
 use Rattle.std.proofs.lemmas.Nat.{mul-lt}
 use Rattle.aut_base.proofs.Copies.{length-copies}
 use Rattle.aut_base.proofs.Walks.{as_long}

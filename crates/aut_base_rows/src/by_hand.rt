@@ -3,7 +3,7 @@
 ghost use Rattle.std.specs.Prelude.{◌≡◌, ◌<◌, ◌≤◌, ℕ, [], ◌∷◌, length, IfOk};
 ghost use Rattle.aut_base.specs.Label.{AllBelow, label_tree};
 
-use aut_base::{Formula, Formulas, Label, Labels, Letter, Marks, Memory, Text};
+use aut_base::{Formula, Formulas, Label, Labels, Letter, Marks, Memory, Names, Text};
 use std::alloc::Global;
 
 fn letter(alloc: Global, names: &[u8]) -> Result<Letter, Memory> {
@@ -97,6 +97,14 @@ pub(crate) fn are_labels(alloc: Global) -> Result<bool, Memory> {
         return Ok(false);
     }
     let label = first_alone(alloc)?;
+    let holds = holds_at_letters(alloc, &label, names)?;
+    Ok(holds && label.truth(&[true, false]) && !label.truth(&[true, true]))
+}
+
+// whether the label holds at letters of the names a, b and c as the first proposition without the second does
+fn holds_at_letters(alloc: Global, label: &Label, names: &Names) -> Result<bool, Memory>
+    requires { AllBelow (length names.now) (label_tree label.now) }
+{
     'letters: for (held, want) in [
         (b"".as_slice(), false),
         (b"a".as_slice(), true),
@@ -109,22 +117,25 @@ pub(crate) fn are_labels(alloc: Global) -> Result<bool, Memory> {
             return Ok(false);
         }
     }
-    Ok(label.truth(&[true, false]) && !label.truth(&[true, true]))
+    Ok(true)
 }
 
 /// Whether the names of a letter are those that were added to it, once each and in their order.
 pub(crate) fn are_names(alloc: Global) -> Result<bool, Memory> {
     let letter = letter(alloc, b"bab")?;
     let names = letter.names();
-    let a = Text::from_bytes(alloc, b"a")?;
-    let b = Text::from_bytes(alloc, b"b")?;
-    let both = Text::from_bytes(alloc, b"ab")?;
-    Ok(
-        names.len() == 2
-            && names.position(&b) == Some(0)
-            && names.position(&a) == Some(1)
-            && names.position(&both).is_none()
-            && letter.has(&a)
-            && !letter.has(&both),
-    )
+    if names.len() != 2 {
+        return Ok(false);
+    }
+    'names: for (name, place) in [
+        (b"b".as_slice(), Some(0)),
+        (b"a".as_slice(), Some(1)),
+        (b"ab".as_slice(), None),
+    ] {
+        let name = Text::from_bytes(alloc, name)?;
+        if names.position(&name) != place || letter.has(&name) != place.is_some() {
+            return Ok(false);
+        }
+    }
+    Ok(true)
 }

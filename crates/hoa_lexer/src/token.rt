@@ -6,7 +6,7 @@ ghost use Rattle.hoa_lexer.specs.declared.token.LexFault.{LexFault};
 use aut_base::{Memory, Text};
 
 /// A token of HOA v1 (section "Grammar").
-#[derive(Clone, Debug, PartialEq, Eq, Drop)]
+#[derive(Debug, Drop)]
 pub enum Token {
     /// A header's name, without the colon.
     HeaderName(Text),

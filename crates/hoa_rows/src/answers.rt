@@ -61,6 +61,22 @@ pub(crate) fn carry_out(
     mut inputs: MemInputs,
 ) -> Result<Ran, Memory> {
     let mut answer = Text::new(alloc);
+    ask_all_times(alloc, &mut answer, script, &mut lexer, &mut inputs)?;
+    Ok(Ran {
+        answer,
+        taken: lexer.taken(),
+        left: bytes_left(&mut inputs),
+    })
+}
+
+/// Adds the answers of the calls of a script, and a line feed.
+fn ask_all_times(
+    alloc: Global,
+    answer: &mut Text,
+    script: Script,
+    lexer: &mut Lexer,
+    inputs: &mut MemInputs,
+) -> Result<(), Memory> {
     for time in 0..script.times {
         if lexer.is_spent() {
             break;
@@ -68,21 +84,17 @@ pub(crate) fn carry_out(
         if time > 0 {
             answer.push(b' ')?;
         }
-        if !ask(alloc, &mut answer, script.call, &mut lexer, &mut inputs)? {
+        if !ask(alloc, answer, script.call, lexer, inputs)? {
             break;
         }
         if script.begin == Some(time.saturating_add(1)) {
             lexer.begin();
             answer.extend(b" begin@")?;
-            show_number(alloc, &mut answer, lexer.offset())?;
+            show_number(alloc, answer, lexer.offset())?;
         }
     }
     answer.push(b'\n')?;
-    Ok(Ran {
-        answer,
-        taken: lexer.taken(),
-        left: bytes_left(&mut inputs),
-    })
+    Ok(())
 }
 
 /// How many bytes are left of the open text. They are taken, past reads that fail.

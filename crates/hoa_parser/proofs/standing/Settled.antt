@@ -1,5 +1,5 @@
 -- What the bytes at hand settle stays so, however the text goes on.
-use Rattle.std.proofs.Common.{◌≡◌, ◌≢◌, ℕ, ◌+◌, ◌-◌, ◌==◌, true, List, [], ◌∷◌, ◌++◌, length, inl, inr, refl, subst, ◌∙◌, ap, arith}
+use Rattle.std.proofs.Common.{◌≡◌, ◌≢◌, ℕ, ◌+◌, ◌-◌, true, List, [], ◌∷◌, ◌++◌, length, inl, inr, refl, subst, ◌∙◌, ap, arith}
 use Rattle.std.proofs.lemmas.List.{append_assoc, length-append}
 use Rattle.hoa_lexer.proofs.next_token.Asked.{ends_on}
 use Rattle.hoa_lexer.specs.Bytes.{is_space}

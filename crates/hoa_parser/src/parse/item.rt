@@ -86,6 +86,30 @@ fn item_of<I: Inputs>(
         (state lexer.old ahead.old (I.seen inputs.old)) (state lexer.new ahead.new (I.seen inputs.new)) }
 {
     match header {
+        Header::Other | Header::Opening | Header::State => {
+            values(alloc, lexer, inputs, ahead)?;
+            Ok(Item::Other(name))
+        }
+        _ => known_item(alloc, lexer, inputs, ahead, header),
+    }
+}
+
+/// The same behind a name that HOA v1 gives a meaning: the header says it all.
+fn known_item<I: Inputs>(
+    alloc: Global,
+    lexer: &mut Lexer,
+    inputs: &mut I,
+    ahead: &mut Token,
+    header: Header,
+) -> Result<Item, ReadFault>
+    requires unspent { lexer.old.spent ≡ false }
+    requires no_opening { header ≢ Header.Opening }
+    requires no_state { header ≢ Header.State }
+    requires no_other { header ≢ Header.Other }
+    ensures reads { Reads (header_parts header) [] (IsItemWritten header) result
+        (state lexer.old ahead.old (I.seen inputs.old)) (state lexer.new ahead.new (I.seen inputs.new)) }
+{
+    match header {
         Header::States => Ok(Item::States(number(alloc, lexer, inputs, ahead)?)),
         Header::Start => Ok(Item::Start(conj(alloc, lexer, inputs, ahead)?)),
         Header::Ap => names(alloc, lexer, inputs, ahead),
@@ -95,10 +119,7 @@ fn item_of<I: Inputs>(
         Header::Tool => tool(alloc, lexer, inputs, ahead),
         Header::Name => Ok(Item::Name(quoted(alloc, lexer, inputs, ahead)?)),
         Header::Properties => Ok(Item::Properties(words(alloc, lexer, inputs, ahead)?)),
-        Header::Other | Header::Opening | Header::State => {
-            values(alloc, lexer, inputs, ahead)?;
-            Ok(Item::Other(name))
-        }
+        Header::Other | Header::Opening | Header::State => unreachable!(),
     }
 }
 

@@ -1,4 +1,4 @@
-use Rattle.std.proofs.Common.{◌≡◌, ◌∙◌, ◌+◌, ◌==◌, ◌<◌, ◌≤◌, List, ap, filter, get_or, subst, sym}
+use Rattle.std.proofs.Common.{◌∙◌, ◌+◌, ◌==◌, ◌<◌, ◌≤◌, List, ap, filter, get_or, subst, sym}
 use Rattle.std.specs.List.{slice_range}
 use Rattle.aut_core.specs.Core.{Core}
 use Rattle.aut_core.specs.declared.automaton.Fields.{Fields}

@@ -1,4 +1,4 @@
-use Rattle.std.proofs.Common.{◌/◌, ◌++◌, Some, length, min, refl, ap, arith, rules}
+use Rattle.std.proofs.Common.{◌/◌, ◌++◌, Some, length, min, refl, ap, rules}
 use Rattle.aut_io.specs.InMemory.{room}
 use Rattle.aut_io.proofs.Prefixes.{take_half}
 use Rattle.aut_io.proofs.mem_sink.MemSinkSink.write.Goals as goal

@@ -1,4 +1,5 @@
 use Rattle.std.proofs.Common.{◌≡◌, ◌&&◌, ◌+◌, Bool, true, drop, map, List, ◌∷◌, arith, sym, ap, ◌∙◌, is_some}
+use Rattle.std.proofs.lemmas.Grind.{common_steps}
 use Rattle.std.proofs.lemmas.List.{drop_more}
 use Rattle.std.specs.List.{list_all}
 use Rattle.hoa_reader.proofs.validity.Leaves.{leaves_agree}
@@ -21,3 +22,9 @@ labels-preserved c =
     let split : drop i labels ≡ label ∷ drop (i + 1) labels = drop_more labels i label c.labels-test.true ∙ ap (λ y. y ∷ drop (i + 1) labels) (sym c.label-item.is) in
     let F : List RawTree → Bool = list_all (aliases_among names) in
     ap (λ b. b && F (map label_refs (drop (i + 1) labels))) (sym known) ∙ sym (ap (λ ls. F (map label_refs ls)) split) ∙ c.labels.invariant
+
+pub returns-then-not-aliases_among : goal.returns-then-not-aliases_among
+returns-then-not-aliases_among c = grind (arith, common_steps)
+
+pub returns : goal.returns
+returns c = grind (arith, common_steps)

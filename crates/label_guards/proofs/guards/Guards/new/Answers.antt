@@ -1,6 +1,6 @@
 use Rattle.std.proofs.Common.{◌⊎◌, false, subst, sym, true}
 use Rattle.label_guards.specs.Guards.{IsGuardOf}
-use Rattle.label_guards.specs.Store.{Has, Store}
+use Rattle.label_guards.specs.Store.{Has}
 use Rattle.label_guards.specs.declared.guard.Guard.{Guard}
 use Rattle.label_guards.specs.declared.guards.Fields.{Fields}
 use Rattle.label_guards.proofs.LabelTruth.{only_constants}
