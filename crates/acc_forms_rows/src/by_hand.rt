@@ -87,18 +87,24 @@ const JUDGED: [(&[u8], bool, bool); 3] = [
 
 /// Whether what is made of conditions is what it should be.
 pub(crate) fn are_made(alloc: Global) -> Result<bool, Memory> {
-    for (first, second, call, text) in MADE {
-        let made = made(
-            alloc,
-            &formula(alloc, first)?,
-            &formula(alloc, second)?,
-            call,
-        )?;
-        if !is_shown(alloc, &made, text)? {
+    for (first, second, call, text) in MADE.iter() {
+        if !is_made(alloc, first, second, *call, text)? {
             return Ok(false);
         }
     }
     Ok(true)
+}
+
+fn is_made(
+    alloc: Global,
+    first: &[u8],
+    second: &[u8],
+    call: Call,
+    text: &[u8],
+) -> Result<bool, Memory> {
+    let first = formula(alloc, first)?;
+    let second = formula(alloc, second)?;
+    is_shown(alloc, &made(alloc, &first, &second, call)?, text)
 }
 
 /// What is made of the conditions. It is `f` where there is nothing.
@@ -122,9 +128,9 @@ fn spread_out(alloc: Global, f: &Formula) -> Result<Formula, Memory> {
 
 /// Whether conditions are judged as they should be.
 pub(crate) fn are_judged(alloc: Global) -> Result<bool, Memory> {
-    for (text, has_fin, holds) in JUDGED {
+    for (text, has_fin, holds) in JUDGED.iter() {
         let formula = formula(alloc, text)?;
-        if speaks_of_fin(&formula) != has_fin || holds_without_marks(&formula) != holds {
+        if speaks_of_fin(&formula) != *has_fin || holds_without_marks(&formula) != *holds {
             return Ok(false);
         }
     }
@@ -142,16 +148,25 @@ pub(crate) fn are_parities(alloc: Global) -> Result<bool, Memory> {
 
 /// Whether terms are counted, and refused, as they should be.
 pub(crate) fn are_counted(alloc: Global) -> Result<bool, Memory> {
-    let many = choices(alloc, 40)?;
-    if count(&many) != 1 << 40 || count(&choices(alloc, 100)?) != u64::MAX {
-        return Ok(false);
-    }
-    let none = spread_out(alloc, &pair(alloc, Node::And, many, Formula::False)?)?;
     Ok(
-        terms_of_choices(alloc, 10)? == Some(1024)
+        count_of_choices(alloc, 40)? == 1 << 40
+            && count_of_choices(alloc, 100)? == u64::MAX
+            && terms_of_choices(alloc, 10)? == Some(1024)
             && terms_of_choices(alloc, 11)?.is_none()
-            && is_shown(alloc, &none, b"f")?,
+            && are_none_beside_false(alloc)?,
     )
+}
+
+/// How many terms there would be of so many choices.
+fn count_of_choices(alloc: Global, times: u32) -> Result<u64, Memory> {
+    Ok(count(&choices(alloc, times)?))
+}
+
+/// Whether choices that could have too many terms have none beside `f`.
+fn are_none_beside_false(alloc: Global) -> Result<bool, Memory> {
+    let many = choices(alloc, 40)?;
+    let none = pair(alloc, Node::And, many, Formula::False)?;
+    is_shown(alloc, &spread_out(alloc, &none)?, b"f")
 }
 
 /// How many terms there are of so many choices, or `None` where there are too many.

@@ -12,11 +12,11 @@ use std::alloc::Global;
 pub(crate) fn compared(alloc: Global) -> Result<(u32, u32), Memory> {
     let mut formulas = 0u32;
     let mut different = 0u32;
-    for shape in SHAPES {
-        for first in ATOMS {
+    for shape in SHAPES.iter() {
+        for first in ATOMS.iter() {
             for second in shape.seconds() {
                 for third in shape.thirds() {
-                    let formula = shape.formula(alloc, first, *second, *third)?;
+                    let formula = shape.formula(alloc, *first, *second, *third)?;
                     formulas = formulas.saturating_add(1);
                     if !is_right(alloc, &formula)? {
                         different = different.saturating_add(1);
@@ -66,15 +66,36 @@ fn is_spread_rightly(alloc: Global, formula: &Formula, own: &[bool]) -> Result<b
 fn is_joined_rightly(alloc: Global, formula: &Formula, own: &[bool]) -> Result<bool, Memory> {
     let and = pair(alloc, Node::And, atom(ATOMS[0]), atom(ATOMS[6]))?;
     let or = pair(alloc, Node::Or, atom(ATOMS[1]), atom(ATOMS[4]))?;
-    for other in [&Formula::True, &Formula::False, &and, &or] {
-        let others = truths(alloc, other, 0)?;
-        let all = truths(alloc, &both(alloc, formula, other)?, 0)?;
-        let some = truths(alloc, &either(alloc, other, formula)?, 0)?;
-        if !are_joined(own, &others, &all, &some) {
+    are_joined_with_each(
+        alloc,
+        formula,
+        own,
+        &[&Formula::True, &Formula::False, &and, &or],
+    )
+}
+
+fn are_joined_with_each(
+    alloc: Global,
+    formula: &Formula,
+    own: &[bool],
+    others: &[&Formula],
+) -> Result<bool, Memory> {
+    for other in others {
+        let all = truths_of_both(alloc, formula, other)?;
+        let some = truths_of_either(alloc, other, formula)?;
+        if !are_joined(own, &truths(alloc, other, 0)?, &all, &some) {
             return Ok(false);
         }
     }
     Ok(true)
+}
+
+fn truths_of_both(alloc: Global, f: &Formula, g: &Formula) -> Result<Vec<bool>, Memory> {
+    truths(alloc, &both(alloc, f, g)?, 0)
+}
+
+fn truths_of_either(alloc: Global, f: &Formula, g: &Formula) -> Result<Vec<bool>, Memory> {
+    truths(alloc, &either(alloc, f, g)?, 0)
 }
 
 fn are_joined(own: &[bool], others: &[bool], all: &[bool], some: &[bool]) -> bool {

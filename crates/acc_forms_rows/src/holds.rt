@@ -36,36 +36,48 @@ fn holds(alloc: Global, formula: &Formula, cycle: &[Marks], low: u32) -> Result<
         let Some(task) = tasks.pop() else {
             break;
         };
-        match task {
-            Task::All(parts) => {
-                let all = last(&values, parts).iter().all(|value| *value);
-                values.truncate(values.len().saturating_sub(parts));
-                values.push(all)?;
-            }
-            Task::Any(parts) => {
-                let any = last(&values, parts).iter().any(|value| *value);
-                values.truncate(values.len().saturating_sub(parts));
-                values.push(any)?;
-            }
-            Task::Visit(Formula::And(parts)) => {
-                tasks.push(Task::All(parts.len()))?;
-                for place in 0..parts.len() {
-                    tasks.push(Task::Visit(parts.at(place)))?;
-                }
-            }
-            Task::Visit(Formula::Or(parts)) => {
-                tasks.push(Task::Any(parts.len()))?;
-                for place in 0..parts.len() {
-                    tasks.push(Task::Visit(parts.at(place)))?;
-                }
-            }
-            Task::Visit(Formula::True) => values.push(true)?,
-            Task::Visit(Formula::False) => values.push(false)?,
-            Task::Visit(Formula::Inf { set, neg }) => values.push(is_met(*set, *neg, cycle, low))?,
-            Task::Visit(Formula::Fin { set, neg }) => values.push(!is_met(*set, *neg, cycle, low))?,
-        }
+        carry_out(task, &mut tasks, &mut values, cycle, low)?;
     }
     Ok(values.pop() == Some(true))
+}
+
+/// Does a task. What it leaves to do goes to the tasks, and what it finds to the values.
+fn carry_out<'a>(
+    task: Task<'a>,
+    tasks: &mut Vec<Task<'a>>,
+    values: &mut Vec<bool>,
+    cycle: &[Marks],
+    low: u32,
+) -> Result<(), Memory> {
+    match task {
+        Task::All(parts) => {
+            let all = last(values, parts).iter().all(|value| *value);
+            values.truncate(values.len().saturating_sub(parts));
+            values.push(all)?;
+        }
+        Task::Any(parts) => {
+            let any = last(values, parts).iter().any(|value| *value);
+            values.truncate(values.len().saturating_sub(parts));
+            values.push(any)?;
+        }
+        Task::Visit(Formula::And(parts)) => {
+            tasks.push(Task::All(parts.len()))?;
+            for place in 0..parts.len() {
+                tasks.push(Task::Visit(parts.at(place)))?;
+            }
+        }
+        Task::Visit(Formula::Or(parts)) => {
+            tasks.push(Task::Any(parts.len()))?;
+            for place in 0..parts.len() {
+                tasks.push(Task::Visit(parts.at(place)))?;
+            }
+        }
+        Task::Visit(Formula::True) => values.push(true)?,
+        Task::Visit(Formula::False) => values.push(false)?,
+        Task::Visit(Formula::Inf { set, neg }) => values.push(is_met(*set, *neg, cycle, low))?,
+        Task::Visit(Formula::Fin { set, neg }) => values.push(!is_met(*set, *neg, cycle, low))?,
+    }
+    Ok(())
 }
 
 /// The last values, this many of them.

@@ -10,13 +10,13 @@ pub(crate) fn formula(alloc: Global, text: &[u8]) -> Result<Formula, Memory> {
     let mut parts = Vec::new(alloc);
     for word in text.split(|byte| *byte == b' ') {
         let part = match word {
-            [b'&'] => last_two(alloc, Node::And, &mut parts)?,
-            [b'|'] => last_two(alloc, Node::Or, &mut parts)?,
-            [b'&', b'&'] => last_three(alloc, Node::And, &mut parts)?,
-            [b'|', b'|'] => last_three(alloc, Node::Or, &mut parts)?,
-            _ => leaf(word),
+            [b'&'] => last_two(alloc, Node::And, &mut parts),
+            [b'|'] => last_two(alloc, Node::Or, &mut parts),
+            [b'&', b'&'] => last_three(alloc, Node::And, &mut parts),
+            [b'|', b'|'] => last_three(alloc, Node::Or, &mut parts),
+            _ => Ok(leaf(word)),
         };
-        parts.push(part)?;
+        parts.push(part?)?;
     }
     Ok(last(&mut parts))
 }

@@ -42,11 +42,16 @@ fn main(rt: HostRuntime) -> Result<(), Stop> {
         row: Row::new(rt.alloc()),
         count: Count::new(),
     };
-    read_files(&rt, &FILES, &mut tally)?;
-    if !is_sure(&rt)? {
+    run_all(&rt, &mut tally)
+}
+
+/// Runs the rows of all files, and prints how many there were and how many came out otherwise.
+fn run_all(rt: &HostRuntime, tally: &mut Tally) -> Result<(), Stop> {
+    read_files(rt, &FILES, tally)?;
+    if !is_sure(rt)? {
         tally.count.add(true);
     }
-    tally.count.print(&rt)
+    tally.count.print(rt)
 }
 
 /// Whether runs over inputs and sinks that can't fail end as they should. Where not, they count as one row more.
@@ -91,16 +96,25 @@ fn is_different(rt: &HostRuntime, row: &Row) -> Result<bool, Fault> {
 /// Whether the run of this number comes out otherwise. It is made once more with a failing write of the note, which
 /// changes nothing else.
 fn differs(rt: &HostRuntime, row: &Row, run: u32) -> Result<bool, Fault> {
+    Ok(run_differs(rt, row, run)? || mute_run_differs(rt, row, run)?)
+}
+
+fn run_differs(rt: &HostRuntime, row: &Row, run: u32) -> Result<bool, Fault> {
     let name = row.name();
     let ran = row.run(rt.alloc(), run, false)?;
-    if !row.is_met_but_for_the_note(&ran)? || !row.is_noted(&ran) {
-        println!(rt; "= {name}\n# run {run}\n{ran}")?;
-        return Ok(true);
+    if row.is_met_but_for_the_note(&ran)? && row.is_noted(&ran) {
+        return Ok(false);
     }
-    let again = row.run(rt.alloc(), run, true)?;
-    if !row.is_met_but_for_the_note(&again)? {
-        println!(rt; "= {name}\n# run {run}, with a failing write of the note\n{again}")?;
-        return Ok(true);
+    println!(rt; "= {name}\n# run {run}\n{ran}")?;
+    Ok(true)
+}
+
+fn mute_run_differs(rt: &HostRuntime, row: &Row, run: u32) -> Result<bool, Fault> {
+    let name = row.name();
+    let ran = row.run(rt.alloc(), run, true)?;
+    if row.is_met_but_for_the_note(&ran)? {
+        return Ok(false);
     }
-    Ok(false)
+    println!(rt; "= {name}\n# run {run}, with a failing write of the note\n{ran}")?;
+    Ok(true)
 }

@@ -181,13 +181,9 @@ impl Row {
 
     /// What comes out of the run of this number. Where `is_mute`, the first write of the note fails.
     pub(crate) fn run(&self, alloc: Global, run: u32, is_mute: bool) -> Result<Ran, Memory> {
-        let mut inputs = self.inputs(alloc, run)?;
         let mut out = MemSink::new(alloc, self.capacity, copied(alloc, &self.failing_writes)?)?;
-        let mut failing_notes = copied(alloc, &self.failing_notes)?;
-        if is_mute {
-            failing_notes.push(0)?;
-        }
-        let mut notes = MemSink::new(alloc, CAPACITY, failing_notes)?;
+        let mut notes = self.notes(alloc, is_mute)?;
+        let mut inputs = self.inputs(alloc, run)?;
         let ended = autfilt(alloc, &self.words, &mut inputs, &mut out, &mut notes);
         Ok(Ran {
             status: ended.status(),
@@ -197,22 +193,43 @@ impl Row {
         })
     }
 
+    /// The sink of the note. Where `is_mute`, its first write fails.
+    fn notes(&self, alloc: Global, is_mute: bool) -> Result<MemSink, Memory> {
+        let mut failing = copied(alloc, &self.failing_notes)?;
+        if is_mute {
+            failing.push(0)?;
+        }
+        MemSink::new(alloc, CAPACITY, failing)
+    }
+
     /// The inputs of the run of this number.
     fn inputs(&self, alloc: Global, run: u32) -> Result<MemInputs, Memory> {
+        let failing = self.failing(alloc, run)?;
+        Ok(self.fronts(alloc, run)?.inputs(failing))
+    }
+
+    /// Which calls of the inputs fail in the run of this number.
+    fn failing(&self, alloc: Global, run: u32) -> Result<Numbers, Memory> {
         let mut failing = copied(alloc, &self.failing_calls)?;
-        let mut most = usize::MAX;
-        match self.each {
-            Each::Nothing => {}
-            Each::Call => failing.push(run)?,
-            Each::Front => most = run as usize,
+        if let Each::Call = self.each {
+            failing.push(run)?;
         }
+        Ok(failing)
+    }
+
+    /// The texts of the run of this number, as far as they are there.
+    fn fronts(&self, alloc: Global, run: u32) -> Result<Texts, Memory> {
+        let most = match self.each {
+            Each::Front => run as usize,
+            Each::Nothing | Each::Call => usize::MAX,
+        };
         let mut texts = Texts::new(alloc);
         for named in &self.texts {
             let bytes = named.text.as_bytes();
             let front = &bytes[..bytes.len().min(most)];
             texts = texts.with(named.name.copy(alloc)?, Text::from_bytes(alloc, front)?)?;
         }
-        Ok(texts.inputs(failing))
+        Ok(texts)
     }
 
     /// Whether a run ends, writes and leaves what is wanted, whatever it notes.
