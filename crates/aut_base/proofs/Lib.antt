@@ -14,6 +14,7 @@ pub mod LabelExamples
 pub mod LabelLaws
 pub mod LabelSizes
 pub mod LabelTrees
+pub mod LassoRuns
 pub mod LetterNames
 pub mod ListTests
 pub mod Lists
@@ -24,6 +25,7 @@ pub mod Ordered
 pub mod OtherEdges
 pub mod Outcomes
 pub mod Paths
+pub mod Pigeonhole
 pub mod Places
 pub mod Rising
 pub mod SameEdges

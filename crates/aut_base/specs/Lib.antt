@@ -9,6 +9,7 @@ pub mod LabelLaws
 pub mod LabelText
 pub mod Limits
 pub mod Marks
+pub mod Runs
 pub mod Text
 pub mod Valuation
 pub mod Word

@@ -28,8 +28,9 @@ pub use law::{
 };
 pub use letter::{Lasso, Letter, Letters};
 pub use limit::{
-    Limit, MOST_ALIASES, MOST_BYTES, MOST_DEPTH, MOST_EDGES, MOST_NAMES, MOST_SETS, MOST_STATES,
-    MOST_TERMS, limits_in_figures,
+    Limit, MOST_ALIASES, MOST_BUCHI_STATES, MOST_BYTES, MOST_CLASSES, MOST_DEPTH, MOST_EDGES,
+    MOST_NAMES, MOST_NODES, MOST_PAIRS, MOST_SETS, MOST_STATES, MOST_SUBSETS, MOST_TERMS,
+    MOST_TREES, limits_in_figures,
 };
 pub use marks::Marks;
 pub use names::Names;

@@ -17,6 +17,7 @@ pub enum Limit {
     Trees,
     Nodes,
     Classes,
+    Subsets,
     Pairs,
 }
 
@@ -43,6 +44,24 @@ pub const MOST_BYTES: u64 = 1 << 40;
 
 /// The most terms of an acceptance condition whose terms are listed, and the most literals in them by the 1,024.
 pub const MOST_TERMS: u64 = 1_024;
+
+/// The most states of a Büchi form.
+pub const MOST_BUCHI_STATES: u32 = 4_096;
+
+/// The most trees that determinisation may reach.
+pub const MOST_TREES: u32 = 32_768;
+
+/// The most nodes of such a tree.
+pub const MOST_NODES: u32 = 100;
+
+/// The most pairs of a tree, or of a set of states, that is reached and a class of letters.
+pub const MOST_CLASSES: u32 = 2_000_000;
+
+/// The most sets of states that the construction of a monitor may reach.
+pub const MOST_SUBSETS: u32 = 32_768;
+
+/// The most pairs of states that a product may reach.
+pub const MOST_PAIRS: u32 = 1_000_000;
 
 /// The limits in figures.
 pub fn limits_in_figures()

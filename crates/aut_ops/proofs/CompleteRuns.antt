@@ -14,7 +14,7 @@ use Rattle.aut_base.specs.Acceptance.{IsPath}
 use Rattle.aut_base.specs.Automaton.{Automaton, IsEdgeOf, IsWellFormed, TreeEdge}
 use Rattle.aut_base.specs.Word.{NameSet, copies}
 use Rattle.aut_core.specs.Deterministic.{IsComplete}
-use Rattle.aut_ops.specs.inner.Runs.{HasRun, HasRuns}
+use Rattle.aut_base.specs.Runs.{HasRun, HasRuns}
 
 -- a number that stands at two places
 record Twice (xs : List ℕ) : Type 0 where

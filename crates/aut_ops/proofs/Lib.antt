@@ -13,7 +13,6 @@ pub mod FlagLaws
 pub mod JointEdges
 pub mod Labels
 pub mod Languages
-pub mod LassoRuns
 pub mod Laws
 pub mod Linked
 pub mod ListSteps

@@ -15,7 +15,7 @@ use Rattle.label_guards.specs.Store.{Keeps, Store}
 use Rattle.acc_forms.proofs.FormulaSets.{sets_conj, sets_disj}
 use Rattle.aut_ops.proofs.JointEdges.{pairs_differ}
 use Rattle.aut_ops.proofs.Languages.{both_like, either_like}
-use Rattle.aut_ops.proofs.LassoRuns.{accepts_of, run_of}
+use Rattle.aut_base.proofs.LassoRuns.{accepts_of, run_of}
 use Rattle.aut_ops.proofs.Linked.{parts_for}
 use Rattle.aut_ops.proofs.Listings.{places_longer}
 use Rattle.aut_ops.proofs.Places.{pair_tells, place_is}
@@ -27,7 +27,7 @@ use Rattle.aut_ops.specs.declared.join.Join.{Join}
 use Rattle.aut_ops.specs.declared.join.Join.TheVariants as join
 use Rattle.aut_ops.specs.inner.Joins.{JoinAccepts, join_of}
 use Rattle.aut_ops.specs.inner.Pairings.{AreEdges, ArePlaces, IsNumbered, Stage}
-use Rattle.aut_ops.specs.inner.Runs.{HasRuns, LassoRun}
+use Rattle.aut_base.specs.Runs.{HasRuns, LassoRun}
 
 sets_join : (j : Join) (n : ℕ) (f g : FormulaTree) → SetsBelow n f → SetsBelow n g → SetsBelow n (join_of j f g)
 sets_join join.All n f g one two = sets_conj n f g one two

@@ -8,8 +8,8 @@ use Rattle.aut_base.specs.Acceptance.{Accepts}
 use Rattle.aut_base.specs.Automaton.{Automaton, IsWellFormed}
 use Rattle.aut_base.specs.Formula.{met}
 use Rattle.aut_base.specs.Word.{NameSet}
-use Rattle.aut_ops.proofs.LassoRuns.{accepts_of, marks_of, run_of}
-use Rattle.aut_ops.specs.inner.Runs.{HasRuns}
+use Rattle.aut_base.proofs.LassoRuns.{accepts_of, marks_of, run_of}
+use Rattle.aut_base.specs.Runs.{HasRuns}
 use Rattle.aut_ops.proofs.ProductRuns.{join_runs, part_runs}
 use Rattle.aut_ops.specs.Languages.{AcceptsBoth, AcceptsEither}
 use Rattle.aut_ops.specs.Products.{ArePairs, product_on}

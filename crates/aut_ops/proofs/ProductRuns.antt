@@ -17,8 +17,8 @@ use Rattle.aut_base.specs.Word.{NameSet, copies}
 use Rattle.aut_ops.proofs.CycleMarks.{AgreeBelow, AgreeRaised, joint_first, joint_second, met_below, met_raised}
 use Rattle.aut_ops.proofs.JointEdges.{edge_of, edge_there, from_start, joined, next_there, pairs_differ, start_there, there_start}
 use Rattle.aut_ops.proofs.Labels.{not_never, truth_both}
-use Rattle.aut_ops.proofs.LassoRuns.{Likewise, later, marks_of}
-use Rattle.aut_ops.specs.inner.Runs.{LassoRun}
+use Rattle.aut_base.proofs.LassoRuns.{Likewise, later, marks_of}
+use Rattle.aut_base.specs.Runs.{LassoRun}
 use Rattle.aut_ops.proofs.Places.{one_place, pair_tells, place_there}
 use Rattle.aut_ops.proofs.Simulations.{Simulates, run_image}
 use Rattle.aut_ops.specs.Labels.{both_labels}

@@ -9,7 +9,7 @@ use Rattle.aut_base.specs.Automaton.{Automaton, IsEdgeOf, IsWellFormed, TreeEdge
 use Rattle.aut_base.specs.Formula.{met}
 use Rattle.aut_base.specs.Label.{holds_at, truth}
 use Rattle.aut_core.specs.OtherNames.{AcceptTheSame}
-use Rattle.aut_ops.proofs.LassoRuns.{accepts_of, marks_of, run_of}
+use Rattle.aut_base.proofs.LassoRuns.{accepts_of, marks_of, run_of}
 use Rattle.aut_ops.proofs.Ranks.{rank_less, rank_one, rank_rises}
 use Rattle.aut_ops.proofs.Simulations.{Simulates, run_image}
 use Rattle.aut_ops.specs.Passable.{is_flagged}

@@ -5,8 +5,8 @@ use Rattle.aut_base.specs.Acceptance.{IsPath}
 use Rattle.aut_base.specs.Automaton.{Automaton, TreeEdge}
 use Rattle.aut_base.specs.Label.{holds_at, truth}
 use Rattle.aut_base.specs.Word.{NameSet, copies}
-use Rattle.aut_ops.proofs.LassoRuns.{marks_of}
-use Rattle.aut_ops.specs.inner.Runs.{LassoRun}
+use Rattle.aut_base.proofs.LassoRuns.{marks_of}
+use Rattle.aut_base.specs.Runs.{LassoRun}
 
 -- an edge of the automaton that answers this one: it leaves the state q, and can be gone at the letter
 pub record Answer (b : Automaton) (Stands : ℕ → ℕ → Type 0) (Marked : List ℕ → List ℕ → Type 0) (x : NameSet) (q : ℕ) (e : TreeEdge) : Type 0 where

@@ -21,7 +21,7 @@ use Rattle.aut_base.specs.Word.{NameSet, copies}
 use Rattle.aut_core.specs.OtherNames.{AcceptTheSame}
 use Rattle.aut_ops.proofs.Completions.{Kind, kind, loop, old_there}
 use Rattle.aut_ops.proofs.CycleMarks.{not_in_past}
-use Rattle.aut_ops.proofs.LassoRuns.{marks_of}
+use Rattle.aut_base.proofs.LassoRuns.{marks_of}
 use Rattle.aut_ops.specs.Completion.{is_met_unmarked, sink_marks, with_sink}
 
 -- each edge of a path is one of the automaton's

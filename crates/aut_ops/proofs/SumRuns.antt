@@ -20,7 +20,7 @@ use Rattle.aut_base.specs.Marks.{is_in}
 use Rattle.aut_base.specs.Word.{NameSet, copies}
 use Rattle.aut_ops.proofs.CycleMarks.{AgreeRaised, is_in_raise, met_raised, not_in_past, raise}
 use Rattle.acc_forms.proofs.FormulaSets.{sets_conj, sets_disj, sets_shift, sets_weaker}
-use Rattle.aut_ops.proofs.LassoRuns.{accepts_of, marks_of, run_of}
+use Rattle.aut_base.proofs.LassoRuns.{accepts_of, marks_of, run_of}
 use Rattle.aut_ops.proofs.Simulations.{Answer, Simulates, run_image}
 use Rattle.aut_ops.proofs.SinkRuns.{cycle_long, path_marks}
 use Rattle.aut_ops.specs.Languages.{AcceptsEither}

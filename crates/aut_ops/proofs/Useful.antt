@@ -15,7 +15,7 @@ use Rattle.aut_core.specs.Core.{Core, IsCore, IsLinkOf, automaton_of, edge_of}
 use Rattle.aut_core.specs.OtherNames.{AcceptTheSame}
 use Rattle.aut_core.specs.declared.link.Link.{Link}
 use Rattle.aut_ops.proofs.Between.{between_accepts, edge_reaches, passable_there, path_reaches}
-use Rattle.aut_ops.proofs.LassoRuns.{marks_of}
+use Rattle.aut_base.proofs.LassoRuns.{marks_of}
 use Rattle.aut_ops.specs.Passable.{arc_of, between, is_flagged, is_passable, passable_arcs, passable_edges}
 use Rattle.aut_ops.specs.Pruning.{AreUseful, IsMarkedOnCycle, IsUseful}
 use Rattle.aut_ops.specs.inner.Renumbering.{both_flagged, link_closes, link_passable, new_number, turned_arc}

@@ -4,4 +4,3 @@ pub mod Joins
 pub mod Linked
 pub mod Pairings
 pub mod Renumbering
-pub mod Runs

@@ -5,7 +5,7 @@ ghost use Rattle.aut_core.specs.Core.{automaton_of};
 ghost use Rattle.aut_ops.specs.BreadthFirst.{once};
 ghost use Rattle.aut_ops.specs.Products.{ArePairs, HasMorePairs, all_pairs, joint_edges, same_pair, start_pairs};
 ghost use Rattle.aut_ops.specs.declared.fault.PairFault.{PairFault};
-ghost use Rattle.aut_ops.specs.declared.limit.TheConstants.{MOST_PAIRS};
+ghost use Rattle.aut_base.specs.declared.limit.TheConstants.{MOST_PAIRS};
 ghost use Rattle.aut_ops.specs.inner.Pairings.{AreBeyond, AreEdges, AreListed, ArePlaces};
 ghost use Rattle.label_guards.specs.Store.{Keeps};
 

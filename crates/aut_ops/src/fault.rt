@@ -12,7 +12,7 @@ use aut_core::NameFault;
 pub enum PairFault {
     /// Together the automata have more names than an automaton may have.
     Names,
-    /// More pairs of states are reached than `MOST_PAIRS`.
+    /// More pairs of states are reached than `aut_base::MOST_PAIRS`.
     Pairs,
     /// Want of memory.
     Memory,

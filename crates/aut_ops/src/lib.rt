@@ -8,7 +8,6 @@ mod fault;
 mod join;
 mod joint_marks;
 mod law;
-mod limit;
 mod pairing;
 mod passable;
 mod products;
@@ -25,7 +24,6 @@ pub use law::{
     few_pairs_exclude_more, pairs_are_determined, products_are_determined, pruned_is_determined,
     reached_by_letters, trimmed_is_determined,
 };
-pub use limit::MOST_PAIRS;
 pub use products::{product, product_or};
 pub use pruning::prune;
 pub use reached::{ReachedSize, reached_size};

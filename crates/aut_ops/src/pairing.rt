@@ -4,13 +4,12 @@ ghost use Rattle.std.specs.Prelude.{◌≡◌, ◌<◌, ◌≤◌, [], All, IfOk
 ghost use Rattle.aut_ops.specs.BreadthFirst.{with_new};
 ghost use Rattle.aut_ops.specs.Products.{same_pair};
 ghost use Rattle.aut_ops.specs.declared.fault.PairFault.{PairFault};
-ghost use Rattle.aut_ops.specs.declared.limit.TheConstants.{MOST_PAIRS};
+ghost use Rattle.aut_base.specs.declared.limit.TheConstants.{MOST_PAIRS};
 ghost use Rattle.aut_ops.specs.inner.Pairings.{Adds, AreBeyond, CanMeet, followed, meeting};
 
 use crate::fault::PairFault;
 use crate::joint_marks::joint_marks;
-use crate::limit::MOST_PAIRS;
-use aut_base::Memory;
+use aut_base::{MOST_PAIRS, Memory};
 use aut_core::{Link, Links};
 use indexmap::IndexSet;
 use label_guards::Guards;

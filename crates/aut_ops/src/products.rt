@@ -8,7 +8,7 @@ ghost use Rattle.aut_ops.specs.Completion.{completed};
 ghost use Rattle.aut_ops.specs.Languages.{AcceptsBoth, AcceptsEither};
 ghost use Rattle.aut_ops.specs.Products.{HasMorePairs, IsEitherOf, IsProduct, IsProductOf, over_both};
 ghost use Rattle.aut_ops.specs.declared.fault.PairFault.{PairFault};
-ghost use Rattle.aut_ops.specs.declared.limit.TheConstants.{MOST_PAIRS};
+ghost use Rattle.aut_base.specs.declared.limit.TheConstants.{MOST_PAIRS};
 ghost use Rattle.aut_ops.specs.inner.Joins.{JoinAccepts, join_of};
 ghost use Rattle.label_guards.specs.Store.{Keeps};
 

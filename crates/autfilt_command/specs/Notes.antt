@@ -24,6 +24,7 @@ limit_word limit.BuchiStates = codes "buchi-states"
 limit_word limit.Trees = codes "trees"
 limit_word limit.Nodes = codes "nodes"
 limit_word limit.Classes = codes "classes"
+limit_word limit.Subsets = codes "subsets"
 limit_word limit.Pairs = codes "pairs"
 
 -- the name of a rule

@@ -135,6 +135,7 @@ fn limit_word(which: &Limit) -> &'static [u8]
         Limit::Trees => b"trees",
         Limit::Nodes => b"nodes",
         Limit::Classes => b"classes",
+        Limit::Subsets => b"subsets",
         Limit::Pairs => b"pairs",
     }
 }

@@ -116,4 +116,5 @@ elsewhere limit.BuchiStates n = refl
 elsewhere limit.Trees n = refl
 elsewhere limit.Nodes n = refl
 elsewhere limit.Classes n = refl
+elsewhere limit.Subsets n = refl
 elsewhere limit.Pairs n = refl

@@ -297,6 +297,7 @@ calm_limit limit.BuchiStates a b h = h
 calm_limit limit.Trees a b h = h
 calm_limit limit.Nodes a b h = h
 calm_limit limit.Classes a b h = h
+calm_limit limit.Subsets a b h = h
 calm_limit limit.Pairs a b h = h
 
 halted : (f : RunFault) (old new : Session) (m t : Seen) → KeepsAll old new → new.lexer.most ≡ MOST_BYTES → old.lexer.taken ≤ MOST_BYTES → new.lexer.taken ≤ MOST_BYTES → FailsOperand f old new m t → HaltsAt f old new m t

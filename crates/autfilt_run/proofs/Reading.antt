@@ -109,6 +109,7 @@ past over limit.BuchiStates start old new n h = h
 past over limit.Trees start old new n h = h
 past over limit.Nodes start old new n h = h
 past over limit.Classes start old new n h = h
+past over limit.Subsets start old new n h = h
 past over limit.Pairs start old new n h = h
 
 -- it was read whole, and is not valid, passes a limit, or memory was wanting for it

@@ -5,6 +5,7 @@ use Rattle.std.proofs.lemmas.Bool.{cases_Bool}
 use Rattle.std.proofs.lemmas.List.{length-map}
 use Rattle.aut_base.specs.Automaton.{Automaton, IsWellFormed}
 use Rattle.aut_base.specs.Formula.{FormulaTree}
+use Rattle.aut_base.specs.declared.limit.TheConstants.{MOST_BUCHI_STATES}
 use Rattle.aut_core.specs.OtherNames.{AcceptTheSame}
 use Rattle.acc_forms.specs.Joined.{conjuncts}
 use Rattle.acc_forms.specs.Terms.{terms}
@@ -63,8 +64,8 @@ states_are a = elim (cases_Bool (is_generalised_buchi a.formula)) [
 ]
 
 -- the copies are few where the levels are
-pub few_copies : (a : Automaton) (k : ℕ) → is_generalised_buchi a.formula ≡ false → 0 < k → a.states * length (watches a.formula) * k ≤ 4096 → (copied a).states ≤ 4096
+pub few_copies : (a : Automaton) (k : ℕ) → is_generalised_buchi a.formula ≡ false → 0 < k → a.states * length (watches a.formula) * k ≤ MOST_BUCHI_STATES → (copied a).states ≤ MOST_BUCHI_STATES
 few_copies a k e some few = omega (arith, copies_as_watches a e, few, le-mul_of_pos_right (a.states * length (watches a.formula)) some)
 
-pub few_levels : (a : Automaton) (k : ℕ) → is_generalised_buchi a.formula ≡ false → a.states * length (watches a.formula) * k ≤ 4096 → (copied a).states * k ≤ 4096
-few_levels a k e few = subst (λ n. n * k ≤ 4096) (sym (copies_as_watches a e)) few
+pub few_levels : (a : Automaton) (k : ℕ) → is_generalised_buchi a.formula ≡ false → a.states * length (watches a.formula) * k ≤ MOST_BUCHI_STATES → (copied a).states * k ≤ MOST_BUCHI_STATES
+few_levels a k e few = subst (λ n. n * k ≤ MOST_BUCHI_STATES) (sym (copies_as_watches a e)) few

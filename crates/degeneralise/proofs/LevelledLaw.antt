@@ -18,7 +18,7 @@ use Rattle.fin_removal.proofs.TermMet.{Passes}
 use Rattle.fin_removal.specs.Meeting.{meets_at, literal_places}
 use Rattle.degeneralise.specs.Buchi.{Watch, level_after, levelled, levels, state_at}
 use Rattle.degeneralise.proofs.LevelWalks.{HasRoom, end_below, end_is_turn, end_level, end_then, marked_waits, marks_are_marked, some_level, waits_along, walk, walk_path, walked}
-use Rattle.degeneralise.proofs.Pigeonhole.{pigeons}
+use Rattle.aut_base.proofs.Pigeonhole.{pigeons}
 use Rattle.degeneralise.proofs.Turns.{all_passed, marked, met_on, rises, turn, turn_below, turn_then}
 
 -- each literal of the list is met by some edge of the cycle

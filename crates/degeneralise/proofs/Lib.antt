@@ -6,6 +6,5 @@ pub mod LevelWalks
 pub mod LevelledEdges
 pub mod LevelledLaw
 pub mod LevelledWhole
-pub mod Pigeonhole
 pub mod Turns
 pub mod WatchLists

@@ -5,25 +5,23 @@ ghost use Rattle.aut_base.specs.Formula.{FormulaTree};
 ghost use Rattle.aut_core.specs.Core.{automaton_of};
 ghost use Rattle.aut_core.specs.OtherNames.{AcceptTheSame};
 ghost use Rattle.degeneralise.specs.Buchi.{NeedsTooManyTerms, buchi, buchi_states, levelled, levels, most_levels, watch_of, watches};
-ghost use Rattle.degeneralise.specs.declared.buchi.TheConstants.{MOST_BUCHI_STATES};
+ghost use Rattle.aut_base.specs.declared.limit.TheConstants.{MOST_BUCHI_STATES};
 ghost use Rattle.degeneralise.specs.declared.fault.BuchiFault.{BuchiFault};
 
 use crate::fault::BuchiFault;
 use crate::generalised::is_generalised_buchi;
 use crate::links::{first_levels, levelled_links};
 use crate::watches::{Watches, most_levels, watches};
-use aut_base::{Formula, Memory};
+use aut_base::{Formula, MOST_BUCHI_STATES, Memory};
 use aut_core::{Automaton, copy_names};
 use fin_removal::copies;
 use std::alloc::Global;
 
-/// The most states of a Büchi form.
-pub const MOST_BUCHI_STATES: u32 = 4_096;
-
 /// The Büchi form: one set, and the condition that a run is in it again and again. Under a generalised Büchi condition it
 /// is made of the automaton, else of the automaton with its copies (`fin_removal::copies`). A state has a level for each
 /// literal that it waits for. Refused as `Terms` where copies are needed and the terms count more than
-/// `aut_base::MOST_TERMS`, and then as `BuchiStates` where there would be more than `MOST_BUCHI_STATES` states.
+/// `aut_base::MOST_TERMS`, and then as `BuchiStates` where there would be more than
+/// `aut_base::MOST_BUCHI_STATES` states.
 pub fn to_buchi(alloc: Global, a: &Automaton) -> Result<Automaton, BuchiFault>
     ensures accepts { IfOk result (λ made. AcceptTheSame (automaton_of made) (automaton_of a.now)) }
     ensures shape { IfOk result (λ made. automaton_of made ≡ buchi (automaton_of a.now)) }

@@ -10,5 +10,5 @@ mod levels;
 mod links;
 mod watches;
 
-pub use buchi::{MOST_BUCHI_STATES, to_buchi};
+pub use buchi::to_buchi;
 pub use fault::BuchiFault;

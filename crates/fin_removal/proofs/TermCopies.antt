@@ -6,6 +6,7 @@ use Rattle.std.proofs.lemmas.Grind.{div_ceil_times}
 use Rattle.std.proofs.lemmas.List.Elements.{All-cons, All-nil}
 use Rattle.std.proofs.lemmas.List.Sums.{sum_by-cons}
 use Rattle.std.proofs.Math.Nat.{mul-le-mul_right}
+use Rattle.aut_base.specs.declared.limit.TheConstants.{MOST_TERMS}
 use Rattle.acc_forms.specs.Terms.{count, literals}
 use Rattle.acc_forms.specs.declared.literal.Literal.{Literal}
 use Rattle.fin_removal.specs.Copies.{copies_from, sets_of, term_copies}
@@ -52,17 +53,17 @@ few_sets : (ts : List (List Literal)) → sum_by sets_of ts ≤ length ts + lite
 few_sets [] = omega arith
 few_sets (t ∷ ts) = omega (arith, sum_by-cons sets_of t ts, sum_by-cons (λ (u : List Literal). length u) t ts, few_sets ts, length_kept is_inf t)
 
-pub few_literals : (ts : List (List Literal)) → count ts ≤ 1024 → literals ts ≤ 1048576
+pub few_literals : (ts : List (List Literal)) → count ts ≤ MOST_TERMS → literals ts ≤ 1048576
 few_literals ts few =
     let up = (div_ceil_times (literals ts) 1024 (lit< tt)).0 in
     let most : div_ceil (literals ts) 1024 ≤ 1024 = omega arith in
     omega (arith, mul-le-mul_right 1024 most)
 
 -- where they are few enough to be listed, there are few sets
-pub sets_within : (ts : List (List Literal)) → count ts ≤ 1024 → sum_by sets_of ts ≤ 1049600
+pub sets_within : (ts : List (List Literal)) → count ts ≤ MOST_TERMS → sum_by sets_of ts ≤ 1049600
 sets_within ts few = omega (arith, few_sets ts, few_literals ts few)
 
-pub terms_within : (ts : List (List Literal)) → count ts ≤ 1024 → length ts ≤ 1024
+pub terms_within : (ts : List (List Literal)) → count ts ≤ MOST_TERMS → length ts ≤ 1024
 terms_within ts few = omega arith
 
 -- the numbers of the copies can be told

@@ -1,5 +1,6 @@
 -- What stands next in a text: an automaton, only blanks, or what a reader has to refuse.
 use Rattle.std.specs.Prelude.{◌≡◌, ◌≢◌, ℕ, ◌+◌, ◌-◌, ◌⊎◌, List, [], ◌∷◌, ◌++◌, length, map}
+use Rattle.aut_base.specs.declared.limit.TheConstants.{MOST_DEPTH}
 use Rattle.hoa_lexer.specs.Blanks.{IsBlanks, IsOpenComment}
 use Rattle.hoa_lexer.specs.Text.{AfterBlanks, IsNext, IsNoToken, IsOpenString, IsOpenToken, Lexes}
 use Rattle.hoa_lexer.specs.declared.token.Token.{Token}
@@ -9,7 +10,7 @@ use Rattle.hoa_parser.specs.Raw.{Written}
 
 -- the most `(` and `!` that may be open at once
 abbrev pub most_depth : ℕ
-most_depth = 512
+most_depth = MOST_DEPTH
 
 -- the tokens spell no automaton, whatever is open in it
 abbrev pub SpellsNothing : List Token → Type 0

@@ -9,7 +9,7 @@ use Rattle.aut_ops.proofs.Laws.{few_pairs_exclude_more}
 use Rattle.aut_ops.specs.Completion.{completed}
 use Rattle.aut_ops.specs.Languages.{AcceptsBoth, AcceptsEither}
 use Rattle.aut_ops.specs.Products.{IsEitherOf, IsProductOf, over_both}
-use Rattle.aut_ops.specs.declared.limit.TheConstants.{MOST_PAIRS}
+use Rattle.aut_base.specs.declared.limit.TheConstants.{MOST_PAIRS}
 use Rattle.plan_meaning.proofs.Stepping.{changed_once}
 use Rattle.plan_meaning.specs.Changes.{Product, ProductOr}
 use Rattle.plan_meaning.specs.Limits.{HaveFewNames, PassesOfBoth, PassesOfEither}

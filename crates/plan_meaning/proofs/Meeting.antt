@@ -11,7 +11,7 @@ use Rattle.aut_base.specs.declared.limit.TheConstants.{MOST_NAMES}
 use Rattle.aut_ops.specs.Languages.{AcceptsBoth}
 use Rattle.aut_ops.specs.Laws.{FewPairsExcludeMore}
 use Rattle.aut_ops.specs.Products.{IsProductOf, over_both}
-use Rattle.aut_ops.specs.declared.limit.TheConstants.{MOST_PAIRS}
+use Rattle.aut_base.specs.declared.limit.TheConstants.{MOST_PAIRS}
 use Rattle.lasso_emptiness.specs.Emptiness.{AcceptsNothing, IsAcceptedWord}
 use Rattle.plan_meaning.specs.Filters.{AcceptsWord, Intersects, IsEmpty, LacksWithin}
 use Rattle.plan_meaning.specs.Limits.{HaveFewNames, PassesOfBoth, PassesOfWord}

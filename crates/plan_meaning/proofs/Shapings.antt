@@ -2,6 +2,7 @@
 use Rattle.std.proofs.Common.{◌≡◌, ◌∙◌, ◌+◌, ◌*◌, ◌<◌, ◌≤◌, ℕ, Bool, true, false, cond, [], ◌∷◌, Result, Ok, Err, IfOk, ap, arith, length, subst, sym}
 use Rattle.std.proofs.lemmas.Bool.{false≢true}
 use Rattle.std.proofs.lemmas.Nat.{mul-le}
+use Rattle.aut_base.specs.declared.limit.TheConstants.{MOST_TERMS}
 use Rattle.acc_forms.specs.Atoms.{has_fin}
 use Rattle.acc_forms.specs.Joined.{conj}
 use Rattle.acc_forms.specs.Terms.{count, terms}
@@ -49,14 +50,14 @@ fin_itself a none = changed_once (Bring form.RemoveFin) a a
 -- each copy has the states of the automaton, and there are few copies
 pub fin_room : (a made : Automaton) → (HasTooManyTerms a → ⊥) → made ≡ copied a → IsOfSumSize a → HasRoom made
 fin_room a made few is within =
-    let counted : count (terms a.formula) ≤ 1024 = not_many (count (terms a.formula)) few in
+    let counted : count (terms a.formula) ≤ MOST_TERMS = not_many (count (terms a.formula)) few in
     let copies : 1 + length (terms a.formula) ≤ 1025 = omega (arith, terms_within (terms a.formula) counted) in
     let states : made.states ≡ (1 + length (terms a.formula)) * a.states = ap (λ (x : Automaton). x.states) is in
     let most = mul-le (1 + length (terms a.formula)) a.states 1025 1100000 copies within.states in
     let sets = ap (λ (x : Automaton). x.sets) is in
     record { states = omega (arith, states, most); sets = omega (arith, sets, sets_within (terms a.formula) counted) }
   where
-    not_many : (n : ℕ) → (1024 < n → ⊥) → n ≤ 1024
+    not_many : (n : ℕ) → (MOST_TERMS < n → ⊥) → n ≤ MOST_TERMS
     not_many n few = omega (arith, few)
 
 -- ---- completion

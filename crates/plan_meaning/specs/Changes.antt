@@ -14,7 +14,7 @@ use Rattle.aut_ops.specs.Products.{IsEitherOf, IsProductOf}
 use Rattle.aut_ops.specs.Sums.{summed}
 use Rattle.aut_ops.specs.Trimming.{IsTrimmed}
 use Rattle.degeneralise.specs.Buchi.{NeedsTooManyTerms, buchi, buchi_states}
-use Rattle.degeneralise.specs.declared.buchi.TheConstants.{MOST_BUCHI_STATES}
+use Rattle.aut_base.specs.declared.limit.TheConstants.{MOST_BUCHI_STATES}
 use Rattle.filter_plan.specs.declared.plan.Form.{Form}
 use Rattle.filter_plan.specs.declared.plan.Form.TheVariants as form
 use Rattle.filter_plan.specs.declared.plan.Plan.{Plan}

@@ -8,7 +8,7 @@ use Rattle.aut_base.specs.declared.limit.TheConstants.{MOST_NAMES}
 use Rattle.aut_core.specs.OtherNames.{joined_names}
 use Rattle.aut_ops.specs.Completion.{completed}
 use Rattle.aut_ops.specs.Products.{HasMorePairs, over_both}
-use Rattle.aut_ops.specs.declared.limit.TheConstants.{MOST_PAIRS}
+use Rattle.aut_base.specs.declared.limit.TheConstants.{MOST_PAIRS}
 use Rattle.word_syntax.specs.Grammar.{WordPattern}
 use Rattle.word_syntax.specs.Matching.{word_automaton}
 

@@ -3,6 +3,7 @@ use Rattle.std.proofs.Common.{◌≡◌, ◌∙◌, ◌∷◌, ◌++◌, ◌+◌
 use Rattle.std.proofs.lemmas.Bool.{ltb-true}
 use Rattle.std.proofs.lemmas.List.{append_assoc, append-nil}
 use Rattle.std.proofs.lemmas.Option.{cond_some, none-some, same_Some}
+use Rattle.aut_base.specs.declared.limit.TheConstants.{MOST_DEPTH}
 use Rattle.aut_base.proofs.Lists.{append_three}
 use Rattle.aut_base.specs.CanonicalLabel.{all_of}
 use Rattle.aut_base.specs.Label as label
@@ -40,7 +41,7 @@ pub record IsBegun (names : List (List ℕ)) (l : LevelTree) (w : List Token) : 
   pub room : ℕ
   pub ors_tokens : List Token
   pub ands_tokens : List Token
-  pub room_is : l.around + room ≡ 512
+  pub room_is : l.around + room ≡ MOST_DEPTH
   pub fits : l.nots ≤ room
   pub ors : AreConjunctions names room ors_tokens l.ors
   pub ands : AreOperands names room ands_tokens l.ands
@@ -54,7 +55,7 @@ pub record IsEnded (names : List (List ℕ)) (l : LevelTree) (w : List Token) : 
   pub last_tokens : List Token
   pub parts : List LabelTree
   pub last : LabelTree
-  pub room_is : l.around + room ≡ 512
+  pub room_is : l.around + room ≡ MOST_DEPTH
   pub no_nots : l.nots ≡ 0
   pub ors : AreConjunctions names room ors_tokens l.ors
   pub ands : AreOperands names room ands_tokens parts
@@ -66,7 +67,7 @@ pub record IsEnded (names : List (List ℕ)) (l : LevelTree) (w : List Token) : 
 abbrev pub Surrounds : List (List ℕ) → List LevelTree → ℕ → List Token → Type 0
 Surrounds names [] around w = (w ≡ []) × (around ≡ 0)
 Surrounds names (l ∷ ls) around w =
-    (v : List Token) × (u : List Token) × (w ≡ v ++ (u ++ token.LeftParen ∷ [])) × Surrounds names ls l.around v × IsBegun names l u × (around ≡ l.around + l.nots + 1) × (around ≤ 512)
+    (v : List Token) × (u : List Token) × (w ≡ v ++ (u ++ token.LeftParen ∷ [])) × Surrounds names ls l.around v × IsBegun names l u × (around ≡ l.around + l.nots + 1) × (around ≤ MOST_DEPTH)
 
 -- the tokens of the innermost level
 abbrev pub IsLevel : List (List ℕ) → Bool → LevelTree → List Token → Type 0
@@ -86,11 +87,11 @@ abbrev pub Knows : (List ℕ → ℕ) → List (List ℕ) → Token → Type 0
 Knows place names (token.Name name) = slice_get names (place name) ≡ Some name
 Knows place names _ = Unit {0}
 
-pub fresh_begun : (names : List (List ℕ)) (around room : ℕ) → around + room ≡ 512 → IsBegun names (fresh_level around) []
+pub fresh_begun : (names : List (List ℕ)) (around room : ℕ) → around + room ≡ MOST_DEPTH → IsBegun names (fresh_level around) []
 fresh_begun names around room e = record { room = room; ors_tokens = []; ands_tokens = []; room_is = e; fits = omega arith; ors = no_conjunction; ands = no_operand; spelled = refl }
 
 -- an operand ends at a level
-level_complete : (names : List (List ℕ)) (l : LevelTree) (u w : List Token) (t : LabelTree) → IsBegun names l u → ((room : ℕ) → l.around + l.nots + room ≡ 512 → IsOperand names room w t) → IsEnded names (complete_level l t) (u ++ w)
+level_complete : (names : List (List ℕ)) (l : LevelTree) (u w : List Token) (t : LabelTree) → IsBegun names l u → ((room : ℕ) → l.around + l.nots + room ≡ MOST_DEPTH → IsOperand names room w t) → IsEnded names (complete_level l t) (u ++ w)
 level_complete names l u w t begun one = record {
   room = begun.room;
   ors_tokens = begun.ors_tokens;
@@ -111,7 +112,7 @@ level_complete names l u w t begun one = record {
 level_negated : (names : List (List ℕ)) (l : LevelTree) (u : List Token) → has_room l ≡ true → IsBegun names l u → IsBegun names (level l.around l.ors l.ands (l.nots + 1)) (u ++ token.Not ∷ [])
 level_negated names l u may begun =
     let one : l.nots + 1 ≡ suc l.nots = omega arith in
-    let below : l.around + l.nots < 512 = ltb-true _ _ may in
+    let below : l.around + l.nots < MOST_DEPTH = ltb-true _ _ may in
     record {
       room = begun.room;
       ors_tokens = begun.ors_tokens;
@@ -158,7 +159,7 @@ pub level_letter : (names : List (List ℕ)) (l : LevelTree) (u : List Token) (e
 level_letter names l u e = either e.ors (level_conjunction names l u e) e.spelled refl
 
 -- the letter's reader goes on
-part_operand : (names : List (List ℕ)) (o : List LevelTree) (l : LevelTree) (v w u : List Token) (t : LabelTree) → Surrounds names o l.around v → IsBegun names l u → ((room : ℕ) → l.around + l.nots + room ≡ 512 → IsOperand names room w t) → IsPart names (ended o (complete_level l t)) ((v ++ u) ++ w)
+part_operand : (names : List (List ℕ)) (o : List LevelTree) (l : LevelTree) (v w u : List Token) (t : LabelTree) → Surrounds names o l.around v → IsBegun names l u → ((room : ℕ) → l.around + l.nots + room ≡ MOST_DEPTH → IsOperand names room w t) → IsPart names (ended o (complete_level l t)) ((v ++ u) ++ w)
 part_operand names o l v w u t outer begun one = record { outer_tokens = v; level_tokens = u ++ w; outer = outer; inner = level_complete names l u w t begun one; spelled = append_assoc v u w }
 
 part_negated : (names : List (List ℕ)) (o : List LevelTree) (l : LevelTree) (s : LetterState) (v u : List Token) → Surrounds names o l.around v → IsBegun names l u → machine.maybe_negated (awaiting o l) ≡ Some s → IsPart names s ((v ++ u) ++ token.Not ∷ [])
@@ -169,12 +170,12 @@ part_negated names o l s v u outer begun step =
 part_opened : (names : List (List ℕ)) (o : List LevelTree) (l : LevelTree) (s : LetterState) (v u : List Token) → Surrounds names o l.around v → IsBegun names l u → machine.maybe_opened (awaiting o l) ≡ Some s → IsPart names s ((v ++ u) ++ token.LeftParen ∷ [])
 part_opened names o l s v u outer begun step =
     let may = cond_some (has_room l) (machine.opened (awaiting o l)) s step in
-    let below : l.around + l.nots < 512 = ltb-true _ _ may.0 in
+    let below : l.around + l.nots < MOST_DEPTH = ltb-true _ _ may.0 in
     subst (λ (x : LetterState). IsPart names x ((v ++ u) ++ token.LeftParen ∷ [])) may.1 (record {
       outer_tokens = (v ++ u) ++ token.LeftParen ∷ [];
       level_tokens = [];
       outer = (v, u, append_assoc v u (token.LeftParen ∷ []), outer, begun, refl, omega arith);
-      inner = fresh_begun names (l.around + l.nots + 1) (512 - (l.around + l.nots + 1)) (omega arith);
+      inner = fresh_begun names (l.around + l.nots + 1) (MOST_DEPTH - (l.around + l.nots + 1)) (omega arith);
       spelled = sym (append-nil ((v ++ u) ++ token.LeftParen ∷ []));
     })
 
@@ -229,4 +230,4 @@ part_step place names s next t w knows part step =
 
 -- nothing is read yet
 pub part_fresh : (names : List (List ℕ)) → IsPart names machine.fresh []
-part_fresh names = record { outer_tokens = []; level_tokens = []; outer = (refl, refl); inner = fresh_begun names 0 512 refl; spelled = refl }
+part_fresh names = record { outer_tokens = []; level_tokens = []; outer = (refl, refl); inner = fresh_begun names 0 MOST_DEPTH refl; spelled = refl }

@@ -6,6 +6,7 @@ use Rattle.std.proofs.lemmas.List.{append_assoc, append-nil, map-append}
 use Rattle.std.specs.FinSet.{contains}
 use Rattle.std.specs.List.{AllByRecursion, list_all}
 use Rattle.std.specs.Option.{option_map_or}
+use Rattle.aut_base.specs.declared.limit.TheConstants.{MOST_DEPTH}
 use Rattle.aut_base.proofs.AllByRecursion.{AllByRecursion-append}
 use Rattle.aut_base.proofs.CanonicalTruth.{truth-all_of}
 use Rattle.aut_base.proofs.Copies.{length-copies}
@@ -38,54 +39,54 @@ literal_trees x i (n ∷ ns) = literal_tree x i n ∷ literal_trees x (i + 1) ns
 abbrev letter_tree : List (List ℕ) → NameSet → LabelTree
 letter_tree names x = all_of (literal_trees x 0 names)
 
-literal_operand : (names : List (List ℕ)) (x : NameSet) (i : ℕ) (n : List ℕ) → slice_get names i ≡ Some n → IsOperand names 512 (literal_tokens x n) (literal_tree x i n)
+literal_operand : (names : List (List ℕ)) (x : NameSet) (i : ℕ) (n : List ℕ) → slice_get names i ≡ Some n → IsOperand names MOST_DEPTH (literal_tokens x n) (literal_tree x i n)
 literal_operand names x i n stands = elim (cases_Bool (contains x n)) [
-  | inl e ↦ subst (λ (w : List Token). IsOperand names 512 w (literal_tree x i n)) (sym (cond-true _ _ _ e)) (subst (λ (t : LabelTree). IsOperand names 512 (token.Name n ∷ []) t) (sym (cond-true _ _ _ e)) (proposition n i stands))
-  | inr e ↦ subst (λ (w : List Token). IsOperand names 512 w (literal_tree x i n)) (sym (cond-false _ _ _ e)) (subst (λ (t : LabelTree). IsOperand names 512 (token.Not ∷ token.Name n ∷ []) t) (sym (cond-false _ _ _ e)) (negated {room = 511} (proposition n i stands)))
+  | inl e ↦ subst (λ (w : List Token). IsOperand names MOST_DEPTH w (literal_tree x i n)) (sym (cond-true _ _ _ e)) (subst (λ (t : LabelTree). IsOperand names MOST_DEPTH (token.Name n ∷ []) t) (sym (cond-true _ _ _ e)) (proposition n i stands))
+  | inr e ↦ subst (λ (w : List Token). IsOperand names MOST_DEPTH w (literal_tree x i n)) (sym (cond-false _ _ _ e)) (subst (λ (t : LabelTree). IsOperand names MOST_DEPTH (token.Not ∷ token.Name n ∷ []) t) (sym (cond-false _ _ _ e)) (negated {room = 511} (proposition n i stands)))
 ]
 
-conjunction_from : (names : List (List ℕ)) (x : NameSet) (pre : List (List ℕ)) (i : ℕ) (n : List ℕ) (ns : List (List ℕ)) (v : List Token) (ts : List LabelTree) → names ≡ pre ++ (n ∷ ns) → i ≡ length pre → AreOperands names 512 v ts → IsConjunction names 512 (v ++ literals_tokens x (n ∷ ns)) (all_of (ts ++ literal_trees x i (n ∷ ns)))
+conjunction_from : (names : List (List ℕ)) (x : NameSet) (pre : List (List ℕ)) (i : ℕ) (n : List ℕ) (ns : List (List ℕ)) (v : List Token) (ts : List LabelTree) → names ≡ pre ++ (n ∷ ns) → i ≡ length pre → AreOperands names MOST_DEPTH v ts → IsConjunction names MOST_DEPTH (v ++ literals_tokens x (n ∷ ns)) (all_of (ts ++ literal_trees x i (n ∷ ns)))
 conjunction_from names x pre i n [] v ts is at before =
     let z : i ≡ length pre + 0 = omega arith in
     joined before (literal_operand names x i n (ap (λ (w : List (List ℕ)). slice_get w i) is ∙ slice_get-append_right pre (n ∷ []) 0 i z)) refl refl
 conjunction_from names x pre i n (m ∷ ms) v ts is at before =
     let z : i ≡ length pre + 0 = omega arith in
     let lit = literal_operand names x i n (ap (λ (w : List (List ℕ)). slice_get w i) is ∙ slice_get-append_right pre (n ∷ m ∷ ms) 0 i z) in
-    let more : AreOperands names 512 (v ++ (literal_tokens x n ++ token.And ∷ [])) (ts ++ literal_tree x i n ∷ []) = operand before lit refl refl in
+    let more : AreOperands names MOST_DEPTH (v ++ (literal_tokens x n ++ token.And ∷ [])) (ts ++ literal_tree x i n ∷ []) = operand before lit refl refl in
     let rest = conjunction_from names x (pre ++ n ∷ []) (i + 1) m ms (v ++ (literal_tokens x n ++ token.And ∷ [])) (ts ++ literal_tree x i n ∷ []) (is ∙ sym (append_assoc pre (n ∷ []) (m ∷ ms))) (omega (arith, length-append pre (n ∷ []))) more in
     let tokens : (v ++ (literal_tokens x n ++ token.And ∷ [])) ++ literals_tokens x (m ∷ ms) ≡ v ++ (literal_tokens x n ++ (token.And ∷ literals_tokens x (m ∷ ms))) = append_assoc v (literal_tokens x n ++ token.And ∷ []) (literals_tokens x (m ∷ ms)) ∙ ap (λ (w : List Token). v ++ w) (append_assoc (literal_tokens x n) (token.And ∷ []) (literals_tokens x (m ∷ ms))) in
     let parts : (ts ++ literal_tree x i n ∷ []) ++ literal_trees x (i + 1) (m ∷ ms) ≡ ts ++ literal_trees x i (n ∷ m ∷ ms) = append_assoc ts (literal_tree x i n ∷ []) (literal_trees x (i + 1) (m ∷ ms)) in
-    subst (λ (w : List Token). IsConjunction names 512 w (all_of (ts ++ literal_trees x i (n ∷ m ∷ ms)))) tokens (subst (λ (us : List LabelTree). IsConjunction names 512 ((v ++ (literal_tokens x n ++ token.And ∷ [])) ++ literals_tokens x (m ∷ ms)) (all_of us)) parts rest)
+    subst (λ (w : List Token). IsConjunction names MOST_DEPTH w (all_of (ts ++ literal_trees x i (n ∷ m ∷ ms)))) tokens (subst (λ (us : List LabelTree). IsConjunction names MOST_DEPTH ((v ++ (literal_tokens x n ++ token.And ∷ [])) ++ literals_tokens x (m ∷ ms)) (all_of us)) parts rest)
 
-letter_conjunction : (all names : List (List ℕ)) (x : NameSet) → all ≡ names → IsConjunction all 512 (letter_tokens names x) (letter_tree names x)
+letter_conjunction : (all names : List (List ℕ)) (x : NameSet) → all ≡ names → IsConjunction all MOST_DEPTH (letter_tokens names x) (letter_tree names x)
 letter_conjunction all [] x is = joined no_operand always refl refl
 letter_conjunction all (n ∷ ns) x is = conjunction_from all x [] 0 n ns [] [] is refl no_operand
 
-letter_written : (names : List (List ℕ)) (x : NameSet) → IsLetter names 512 (letter_tokens names x) (letter_tree names x)
+letter_written : (names : List (List ℕ)) (x : NameSet) → IsLetter names MOST_DEPTH (letter_tokens names x) (letter_tree names x)
 letter_written names x = either no_conjunction (letter_conjunction names names x refl) refl refl
 
-stem_written : (names : List (List ℕ)) (xs : List NameSet) (v : List Token) (ts : List LabelTree) → AreLetters names 512 v ts → AreLetters names 512 (v ++ stem_tokens names xs) (ts ++ map (letter_tree names) xs)
-stem_written names [] v ts before = subst (λ (w : List Token). AreLetters names 512 w (ts ++ [])) (sym (append-nil v)) (subst (λ (us : List LabelTree). AreLetters names 512 v us) (sym (append-nil ts)) before)
+stem_written : (names : List (List ℕ)) (xs : List NameSet) (v : List Token) (ts : List LabelTree) → AreLetters names MOST_DEPTH v ts → AreLetters names MOST_DEPTH (v ++ stem_tokens names xs) (ts ++ map (letter_tree names) xs)
+stem_written names [] v ts before = subst (λ (w : List Token). AreLetters names MOST_DEPTH w (ts ++ [])) (sym (append-nil v)) (subst (λ (us : List LabelTree). AreLetters names MOST_DEPTH v us) (sym (append-nil ts)) before)
 stem_written names (x ∷ xs) v ts before =
-    let more : AreLetters names 512 (v ++ (letter_tokens names x ++ token.Semicolon ∷ [])) (ts ++ letter_tree names x ∷ []) = letter before (letter_written names x) refl refl in
+    let more : AreLetters names MOST_DEPTH (v ++ (letter_tokens names x ++ token.Semicolon ∷ [])) (ts ++ letter_tree names x ∷ []) = letter before (letter_written names x) refl refl in
     let rest = stem_written names xs (v ++ (letter_tokens names x ++ token.Semicolon ∷ [])) (ts ++ letter_tree names x ∷ []) more in
     let tokens : (v ++ (letter_tokens names x ++ token.Semicolon ∷ [])) ++ stem_tokens names xs ≡ v ++ (letter_tokens names x ++ (token.Semicolon ∷ stem_tokens names xs)) = append_assoc v (letter_tokens names x ++ token.Semicolon ∷ []) (stem_tokens names xs) ∙ ap (λ (w : List Token). v ++ w) (append_assoc (letter_tokens names x) (token.Semicolon ∷ []) (stem_tokens names xs)) in
-    subst (λ (w : List Token). AreLetters names 512 w (ts ++ map (letter_tree names) (x ∷ xs))) tokens (subst (λ (us : List LabelTree). AreLetters names 512 ((v ++ (letter_tokens names x ++ token.Semicolon ∷ [])) ++ stem_tokens names xs) us) (append_assoc ts (letter_tree names x ∷ []) (map (letter_tree names) xs)) rest)
+    subst (λ (w : List Token). AreLetters names MOST_DEPTH w (ts ++ map (letter_tree names) (x ∷ xs))) tokens (subst (λ (us : List LabelTree). AreLetters names MOST_DEPTH ((v ++ (letter_tokens names x ++ token.Semicolon ∷ [])) ++ stem_tokens names xs) us) (append_assoc ts (letter_tree names x ∷ []) (map (letter_tree names) xs)) rest)
 
 record CycleWritten (names : List (List ℕ)) (tokens : List Token) (trees : List LabelTree) : Type 0 where
   front : List Token
   last_tokens : List Token
   first : List LabelTree
   last : LabelTree
-  letters : AreLetters names 512 front first
-  last_letter : IsLetter names 512 last_tokens last
+  letters : AreLetters names MOST_DEPTH front first
+  last_letter : IsLetter names MOST_DEPTH last_tokens last
   spelled : tokens ≡ front ++ last_tokens
   parts : trees ≡ first ++ last ∷ []
 
-cycle_written : (names : List (List ℕ)) (x : NameSet) (xs : List NameSet) (v : List Token) (ts : List LabelTree) → AreLetters names 512 v ts → CycleWritten names (v ++ cycle_tokens names (x ∷ xs)) (ts ++ map (letter_tree names) (x ∷ xs))
+cycle_written : (names : List (List ℕ)) (x : NameSet) (xs : List NameSet) (v : List Token) (ts : List LabelTree) → AreLetters names MOST_DEPTH v ts → CycleWritten names (v ++ cycle_tokens names (x ∷ xs)) (ts ++ map (letter_tree names) (x ∷ xs))
 cycle_written names x [] v ts before = record { front = v; last_tokens = letter_tokens names x; first = ts; last = letter_tree names x; letters = before; last_letter = letter_written names x; spelled = refl; parts = refl }
 cycle_written names x (y ∷ ys) v ts before =
-    let more : AreLetters names 512 (v ++ (letter_tokens names x ++ token.Semicolon ∷ [])) (ts ++ letter_tree names x ∷ []) = letter before (letter_written names x) refl refl in
+    let more : AreLetters names MOST_DEPTH (v ++ (letter_tokens names x ++ token.Semicolon ∷ [])) (ts ++ letter_tree names x ∷ []) = letter before (letter_written names x) refl refl in
     let rest = cycle_written names y ys (v ++ (letter_tokens names x ++ token.Semicolon ∷ [])) (ts ++ letter_tree names x ∷ []) more in
     let tokens : (v ++ (letter_tokens names x ++ token.Semicolon ∷ [])) ++ cycle_tokens names (y ∷ ys) ≡ v ++ (letter_tokens names x ++ (token.Semicolon ∷ cycle_tokens names (y ∷ ys))) = append_assoc v (letter_tokens names x ++ token.Semicolon ∷ []) (cycle_tokens names (y ∷ ys)) ∙ ap (λ (w : List Token). v ++ w) (append_assoc (letter_tokens names x) (token.Semicolon ∷ []) (cycle_tokens names (y ∷ ys))) in
     record { front = rest.front; last_tokens = rest.last_tokens; first = rest.first; last = rest.last; letters = rest.letters; last_letter = rest.last_letter; spelled = sym tokens ∙ rest.spelled; parts = sym (append_assoc ts (letter_tree names x ∷ []) (map (letter_tree names) (y ∷ ys))) ∙ rest.parts }

@@ -5,6 +5,7 @@ use Rattle.std.proofs.lemmas.Bool.Decides.{nat_tests}
 use Rattle.std.proofs.lemmas.List.{append_assoc, append-nil}
 use Rattle.std.proofs.lemmas.Option.{cond_some, none-some, option_and_then_some, same_Some}
 use Rattle.std.specs.Option.{option_map}
+use Rattle.aut_base.specs.declared.limit.TheConstants.{MOST_DEPTH}
 use Rattle.aut_base.specs.Label.{LabelTree}
 use Rattle.word_syntax.proofs.LetterParts.{IsLevel, IsPart, Knows, Surrounds, level_letter, nots, part_fresh, part_step}
 use Rattle.word_syntax.specs.Grammar.{AreConjunctions, AreLetters, AreOperands, IsLetter, alternative, letter, no_conjunction, no_letter, no_operand, operand}
@@ -31,20 +32,20 @@ no_operands : {names : List (List ℕ)} {room : ℕ} {w : List Token} {ts : List
 no_operands no_operand e = refl
 no_operands (operand {ts = ts} {us = us} {t = t} before one spelled parts) e = absurd (not_pushed ts us t e parts)
 
-whole_level : (names : List (List ℕ)) (o : List LevelTree) (l : LevelTree) (ready : Bool) (v u : List Token) → Surrounds names o l.around v → IsLevel names ready l u → (ready && is_none o) ≡ true → IsLetter names 512 (v ++ u) (level_label l)
+whole_level : (names : List (List ℕ)) (o : List LevelTree) (l : LevelTree) (ready : Bool) (v u : List Token) → Surrounds names o l.around v → IsLevel names ready l u → (ready && is_none o) ≡ true → IsLetter names MOST_DEPTH (v ++ u) (level_label l)
 whole_level names o l false v u outer inner e = cc
 whole_level names [] l true v u outer inner e =
-    let all : inner.room ≡ 512 = omega (arith, inner.room_is, outer.1) in
+    let all : inner.room ≡ MOST_DEPTH = omega (arith, inner.room_is, outer.1) in
     let P : ℕ → Type 0 = λ r. IsLetter names r u (level_label l) in
-    let Q : List Token → Type 0 = λ x. IsLetter names 512 (x ++ u) (level_label l) in
+    let Q : List Token → Type 0 = λ x. IsLetter names MOST_DEPTH (x ++ u) (level_label l) in
     subst Q (sym outer.0) (subst P all (level_letter names l u inner))
 whole_level names (k ∷ ks) l true v u outer inner e = absurd (grind (arith, nat_tests))
 
-whole_part : (names : List (List ℕ)) (s : LetterState) (w : List Token) (t : LabelTree) → IsPart names s w → whole_letter s ≡ Some t → IsLetter names 512 w t
+whole_part : (names : List (List ℕ)) (s : LetterState) (w : List Token) (t : LabelTree) → IsPart names s w → whole_letter s ≡ Some t → IsLetter names MOST_DEPTH w t
 whole_part names s w t part e =
     let found = cond_some (s.ready && is_none s.outer) (level_label s.level) t e in
-    let P : LabelTree → Type 0 = λ x. IsLetter names 512 w x in
-    let Q : List Token → Type 0 = λ x. IsLetter names 512 x (level_label s.level) in
+    let P : LabelTree → Type 0 = λ x. IsLetter names MOST_DEPTH w x in
+    let Q : List Token → Type 0 = λ x. IsLetter names MOST_DEPTH x (level_label s.level) in
     subst P found.1 (subst Q (sym part.spelled) (whole_level names s.outer s.level s.ready part.outer_tokens part.level_tokens part.outer part.inner found.0))
 
 fresh_level_empty : (names : List (List ℕ)) (o : List LevelTree) (l : LevelTree) (ready : Bool) (v u : List Token) → Surrounds names o l.around v → IsLevel names ready l u → not ready ≡ true → o ≡ [] → l.ors ≡ [] → l.ands ≡ [] → l.nots ≡ 0 → v ++ u ≡ []
@@ -69,7 +70,7 @@ fresh_part names s w part e =
 pub record StemPart (names : List (List ℕ)) (s : WordState) (tokens : List Token) : Type 0 where
   pub stem_tokens : List Token
   pub letter_tokens : List Token
-  pub stem : AreLetters names 512 stem_tokens s.stem
+  pub stem : AreLetters names MOST_DEPTH stem_tokens s.stem
   pub part : IsPart names s.letter letter_tokens
   pub cycle : s.cycle ≡ []
   pub spelled : tokens ≡ stem_tokens ++ letter_tokens
@@ -77,7 +78,7 @@ pub record StemPart (names : List (List ℕ)) (s : WordState) (tokens : List Tok
 -- behind `cycle`
 pub record BracePart (names : List (List ℕ)) (s : WordState) (tokens : List Token) : Type 0 where
   pub stem_tokens : List Token
-  pub stem : AreLetters names 512 stem_tokens s.stem
+  pub stem : AreLetters names MOST_DEPTH stem_tokens s.stem
   pub part : IsPart names s.letter []
   pub cycle : s.cycle ≡ []
   pub spelled : tokens ≡ stem_tokens ++ token.Cycle ∷ []
@@ -87,8 +88,8 @@ pub record CyclePart (names : List (List ℕ)) (s : WordState) (tokens : List To
   pub stem_tokens : List Token
   pub cycle_tokens : List Token
   pub letter_tokens : List Token
-  pub stem : AreLetters names 512 stem_tokens s.stem
-  pub cycle : AreLetters names 512 cycle_tokens s.cycle
+  pub stem : AreLetters names MOST_DEPTH stem_tokens s.stem
+  pub cycle : AreLetters names MOST_DEPTH cycle_tokens s.cycle
   pub part : IsPart names s.letter letter_tokens
   pub spelled : tokens ≡ stem_tokens ++ (token.Cycle ∷ token.LeftBrace ∷ (cycle_tokens ++ letter_tokens))
 
@@ -99,9 +100,9 @@ pub record EndPart (names : List (List ℕ)) (s : WordState) (tokens : List Toke
   pub last_tokens : List Token
   pub first : List LabelTree
   pub last : LabelTree
-  pub stem : AreLetters names 512 stem_tokens s.stem
-  pub letters : AreLetters names 512 cycle_tokens first
-  pub last_letter : IsLetter names 512 last_tokens last
+  pub stem : AreLetters names MOST_DEPTH stem_tokens s.stem
+  pub letters : AreLetters names MOST_DEPTH cycle_tokens first
+  pub last_letter : IsLetter names MOST_DEPTH last_tokens last
   pub cycle : s.cycle ≡ first ++ last ∷ []
   pub spelled : tokens ≡ stem_tokens ++ (token.Cycle ∷ token.LeftBrace ∷ (cycle_tokens ++ (last_tokens ++ token.RightBrace ∷ [])))
 
@@ -184,7 +185,7 @@ cycle_part names stem cycle End l next tokens p step = absurd (none-some next st
 
 opened_part : (names : List (List ℕ)) (stem cycle : List LabelTree) (stage : Stage) (l : LetterState) (next : WordState) (tokens : List Token) → IsWordPart names (word stem cycle stage l) tokens → machine.brace_at stage (word stem cycle stage l) ≡ Some next → IsWordPart names next (tokens ++ token.LeftBrace ∷ [])
 opened_part names stem cycle Brace l next tokens p step =
-    let P : List LabelTree → Type 0 = λ x. AreLetters names 512 [] x in
+    let P : List LabelTree → Type 0 = λ x. AreLetters names MOST_DEPTH [] x in
     part_at names _ next (tokens ++ token.LeftBrace ∷ []) step (record {
       stem_tokens = p.stem_tokens;
       cycle_tokens = [];

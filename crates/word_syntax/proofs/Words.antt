@@ -2,6 +2,7 @@
 use Rattle.std.proofs.Common.{◌≡◌, ◌≢◌, ◌∙◌, ◌∷◌, ◌++◌, List, None, Some, [], ap, arith, refl, subst, sym, ℕ}
 use Rattle.std.proofs.lemmas.List.{append_assoc, append-nil}
 use Rattle.std.specs.List.{AllByRecursion}
+use Rattle.aut_base.specs.declared.limit.TheConstants.{MOST_DEPTH}
 use Rattle.aut_base.specs.Label.{LabelTree}
 use Rattle.word_syntax.proofs.Completions.{lifted, word_end}
 use Rattle.word_syntax.proofs.LetterParts.{Knows}
@@ -20,7 +21,7 @@ use Rattle.word_syntax.specs.declared.token.Token.{Token}
 use Rattle.word_syntax.specs.declared.token.Token.TheVariants as token
 
 -- letters of the stem, and of the cycle
-stem_runs : (place : List ℕ → ℕ) {names : List (List ℕ)} {w : List Token} {ts : List LabelTree} → Agrees place names → AreLetters names 512 w ts → Runs (word_step place) word_start w (word ts [] Stem fresh)
+stem_runs : (place : List ℕ → ℕ) {names : List (List ℕ)} {w : List Token} {ts : List LabelTree} → Agrees place names → AreLetters names MOST_DEPTH w ts → Runs (word_step place) word_start w (word ts [] Stem fresh)
 stem_runs place agrees no_letter = refl
 stem_runs place agrees (letter {v = v} {w = w} {u = u} {ts = ts} {us = us} {t = t} before one spelled parts) =
     let first = stem_runs place agrees before in
@@ -30,7 +31,7 @@ stem_runs place agrees (letter {v = v} {w = w} {u = u} {ts = ts} {us = us} {t = 
     let third = runs_push (word_step place) here (with_letter here (ended [] read.inner)) (word (ts ++ t ∷ []) [] Stem fresh) w token.Semicolon second (ap (λ (x : LabelTree). Some (word (ts ++ x ∷ []) [] Stem fresh)) read.says) in
     runs_to (word_step place) _ _ _ u (runs_over (word_step place) _ _ _ _ (sym spelled) (runs_then (word_step place) word_start here (word (ts ++ t ∷ []) [] Stem fresh) v (w ++ token.Semicolon ∷ []) first third)) (ap (λ (x : List LabelTree). word x [] Stem fresh) (sym parts))
 
-cycle_runs : (place : List ℕ → ℕ) (stem : List LabelTree) {names : List (List ℕ)} {w : List Token} {ts : List LabelTree} → Agrees place names → AreLetters names 512 w ts → Runs (word_step place) (word stem [] Cycle fresh) w (word stem ts Cycle fresh)
+cycle_runs : (place : List ℕ → ℕ) (stem : List LabelTree) {names : List (List ℕ)} {w : List Token} {ts : List LabelTree} → Agrees place names → AreLetters names MOST_DEPTH w ts → Runs (word_step place) (word stem [] Cycle fresh) w (word stem ts Cycle fresh)
 cycle_runs place stem agrees no_letter = refl
 cycle_runs place stem agrees (letter {v = v} {w = w} {u = u} {ts = ts} {us = us} {t = t} before one spelled parts) =
     let first = cycle_runs place stem agrees before in

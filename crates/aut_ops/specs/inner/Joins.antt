@@ -5,7 +5,7 @@ use Rattle.aut_base.specs.Formula.{FormulaTree}
 use Rattle.aut_ops.specs.Languages.{AcceptsBoth, AcceptsEither}
 use Rattle.aut_ops.specs.declared.join.Join.{Join}
 use Rattle.aut_ops.specs.declared.join.Join.TheVariants.{All, Any}
-use Rattle.aut_ops.specs.inner.Runs.{HasRuns}
+use Rattle.aut_base.specs.Runs.{HasRuns}
 
 abbrev pub join_of : Join → FormulaTree → FormulaTree → FormulaTree
 join_of All = conj

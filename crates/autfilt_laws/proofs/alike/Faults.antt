@@ -117,6 +117,7 @@ shown a (fault.Limit limit.BuchiStates) start rest left by h = past a limit.Buch
 shown a (fault.Limit limit.Trees) start rest left by h = past a limit.Trees start rest left h
 shown a (fault.Limit limit.Nodes) start rest left by h = past a limit.Nodes start rest left h
 shown a (fault.Limit limit.Classes) start rest left by h = past a limit.Classes start rest left h
+shown a (fault.Limit limit.Classes) start rest left by h = past a limit.Subsets start rest left h
 shown a (fault.Limit limit.Pairs) start rest left by h = past a limit.Pairs start rest left h
 shown a fault.CannotOpen start rest left by h = absurd by
 shown a fault.ReadFault start rest left by h = absurd by

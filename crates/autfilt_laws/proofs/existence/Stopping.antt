@@ -42,6 +42,7 @@ passed_by_text limit.BuchiStates h = tt
 passed_by_text limit.Trees h = tt
 passed_by_text limit.Nodes h = tt
 passed_by_text limit.Classes h = tt
+passed_by_text limit.Subsets h = tt
 passed_by_text limit.Pairs h = tt
 
 pub passed_stops : (over : Limit → Written → Type 0) (which : Limit) (start : ℕ) (rest left : List ℕ) → IsOfWhole which → StandsWith (λ w. PassesLimit which w ⊎ over which w) start rest left → StopsAt over (fault.Limit which) start rest left
@@ -57,6 +58,7 @@ passed_stops over limit.BuchiStates start rest left of h = h
 passed_stops over limit.Trees start rest left of h = h
 passed_stops over limit.Nodes start rest left of h = h
 passed_stops over limit.Classes start rest left of h = h
+passed_stops over limit.Subsets start rest left of h = h
 passed_stops over limit.Pairs start rest left of h = h
 
 -- ---- where the run stands then
@@ -96,6 +98,7 @@ within_limit limit.BuchiStates taken by = tt
 within_limit limit.Trees taken by = tt
 within_limit limit.Nodes taken by = tt
 within_limit limit.Classes taken by = tt
+within_limit limit.Subsets taken by = tt
 within_limit limit.Pairs taken by = tt
 
 is_within : (f : RunFault) (taken : ℕ) → IsByText (end.Fault f) → taken < MOST_BYTES → IsWithin (stop_of_fault f) taken MOST_BYTES

@@ -5,6 +5,7 @@ use Rattle.std.proofs.lemmas.List.{length-append}
 use Rattle.std.proofs.lemmas.List.Sums.{sum_by-cons}
 use Rattle.std.specs.Prelude.{sum_by}
 use Rattle.std.specs.Option.{option_map_or}
+use Rattle.aut_base.specs.declared.limit.TheConstants.{MOST_ALIASES}
 use Rattle.aut_base.specs.Label.{label_size}
 use Rattle.hoa_reader.proofs.labels.Meanings.{known_heights, known_sizes}
 use Rattle.hoa_reader.specs.Counts.{greatest, height, holds_alias}
@@ -25,10 +26,10 @@ tall_cons : (n h c m : ℕ) (b : Bool) → c ≡ cap h → n < 2 ^ 64 - 1 → b 
 tall_cons n h c m b e l f = grind (arith, nat_tests)
 
 -- labels are taller than a number where the tallest is
-pub tall_law : (ms : List Meaning) (defs : List AliasDef) (known : Places Known) → AreKnown ms defs known → (ts : List RawTree) → are_tall known ts ≡ nat_lt 2048 (greatest (map (λ t. height (expanded ms t)) ts))
+pub tall_law : (ms : List Meaning) (defs : List AliasDef) (known : Places Known) → AreKnown ms defs known → (ts : List RawTree) → are_tall known ts ≡ nat_lt MOST_ALIASES (greatest (map (λ t. height (expanded ms t)) ts))
 tall_law ms defs known all [] = refl
 tall_law ms defs known all (t ∷ ts) =
-    tall_cons 2048 (height (expanded ms t)) (capped_height (heights_in known) t) (greatest (map (λ t. height (expanded ms t)) ts)) (are_tall known ts) (known_heights ms defs known all t) (omega arith) (tall_law ms defs known all ts)
+    tall_cons MOST_ALIASES (height (expanded ms t)) (capped_height (heights_in known) t) (greatest (map (λ t. height (expanded ms t)) ts)) (are_tall known ts) (known_heights ms defs known all t) (omega arith) (tall_law ms defs known all ts)
 
 -- the weights of edges, as they are counted
 abbrev pub own_weighed : List Meaning → RawTree → ℕ
@@ -56,5 +57,5 @@ weight_law ms defs known all states =
     (λ s. sum_law (edge_counted known s) (edge_weighed ms s) (λ e. let law = edge_law ms defs known all s.label e.label in omega (arith, law)) s.edges) states
 
 -- the limit of both
-pub either_passes : (tallest weight counts : ℕ) (tall heavy : Bool) → tall ≡ nat_lt 2048 tallest → heavy ≡ nat_lt 16785407 counts → cap counts ≡ cap weight → (tall || heavy) ≡ nat_lt 2048 (max tallest (weight / 8192))
+pub either_passes : (tallest weight counts : ℕ) (tall heavy : Bool) → tall ≡ nat_lt MOST_ALIASES tallest → heavy ≡ nat_lt 16785407 counts → cap counts ≡ cap weight → (tall || heavy) ≡ nat_lt MOST_ALIASES (max tallest (weight / 8192))
 either_passes tallest weight counts tall heavy t h same = grind (arith, nat_tests)

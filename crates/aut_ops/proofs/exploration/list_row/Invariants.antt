@@ -1,5 +1,5 @@
 use Rattle.std.proofs.Common.{◌≡◌, ◌≤◌, length, map, take}
-use Rattle.aut_ops.specs.declared.limit.TheConstants.{MOST_PAIRS}
+use Rattle.aut_base.specs.declared.limit.TheConstants.{MOST_PAIRS}
 use Rattle.aut_ops.specs.inner.Pairings.{AreListed}
 use Rattle.aut_ops.proofs.exploration.list_row.Given as goal
 

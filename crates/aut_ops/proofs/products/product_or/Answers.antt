@@ -10,7 +10,7 @@ use Rattle.aut_ops.proofs.Languages.{either_like}
 use Rattle.aut_ops.proofs.SinkStates.{completed_names}
 use Rattle.aut_ops.specs.Completion.{completed}
 use Rattle.aut_ops.specs.Products.{HasMorePairs, IsProduct, over_both}
-use Rattle.aut_ops.specs.declared.limit.TheConstants.{MOST_PAIRS}
+use Rattle.aut_base.specs.declared.limit.TheConstants.{MOST_PAIRS}
 use Rattle.aut_ops.proofs.products.product_or.Goals as goal
 
 pub returns-clause-shape : goal.returns-clause-shape

@@ -6,7 +6,7 @@ use Rattle.aut_ops.proofs.Faults.{passed_on}
 use Rattle.acc_forms.proofs.FormulaSets.{sets_weaker}
 use Rattle.aut_ops.proofs.MadeProducts.{made}
 use Rattle.aut_ops.specs.Products.{IsProduct, all_pairs}
-use Rattle.aut_ops.specs.declared.limit.TheConstants.{MOST_PAIRS}
+use Rattle.aut_base.specs.declared.limit.TheConstants.{MOST_PAIRS}
 use Rattle.aut_ops.specs.inner.Joins.{JoinAccepts, join_of}
 use Rattle.aut_ops.specs.inner.Pairings.{AreBeyond, ArePlaces}
 use Rattle.aut_ops.proofs.products.product_over.Goals as goal

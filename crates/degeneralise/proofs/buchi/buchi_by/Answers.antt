@@ -1,4 +1,5 @@
 use Rattle.std.proofs.Common.{◌≡◌, ◌∙◌, ◌*◌, ◌<◌, ◌≤◌, All, List, ap, arith, false, length, subst, sym, ℕ}
+use Rattle.aut_base.specs.declared.limit.TheConstants.{MOST_BUCHI_STATES}
 use Rattle.aut_core.specs.Core.{automaton_of}
 use Rattle.degeneralise.specs.Buchi.{Watch, is_generalised_buchi, levels}
 use Rattle.degeneralise.proofs.BuchiLaw.{copies_as_watches, few_copies, few_levels}
@@ -10,7 +11,7 @@ copies-requires c listed =
     let a = automaton_of c.args.a.now in
     let needed : is_generalised_buchi a.formula ≡ false = sym (c.if-is_generalised_buchi.ensures ∙ ap is_generalised_buchi c.formula.ensures) in
     let some : 0 < c.args.k = subst (λ (k : ℕ). 0 < k) (sym c.requires.levels) (some_room c.args.listed.now) in
-    let few = subst (λ (ws : List Watch). a.states * length ws * c.args.k ≤ 4096) c.requires.watches c.requires.few in
+    let few = subst (λ (ws : List Watch). a.states * length ws * c.args.k ≤ MOST_BUCHI_STATES) c.requires.watches c.requires.few in
     omega (arith, few_copies a c.args.k needed some few)
 
 pub levelled-requires-2-clause-copies : goal.levelled-requires-2-clause-copies
@@ -30,6 +31,6 @@ pub levelled-requires-2-clause-fit : goal.levelled-requires-2-clause-fit
 levelled-requires-2-clause-fit c =
     let a = automaton_of c.args.a.now in
     let needed : is_generalised_buchi a.formula ≡ false = sym (c.if-is_generalised_buchi.ensures ∙ ap is_generalised_buchi c.formula.ensures) in
-    let few = subst (λ (ws : List Watch). a.states * length ws * c.args.k ≤ 4096) c.requires.watches c.requires.few in
-    let same : c.in_ok-copied.copied.states * c.args.k ≤ 4096 = subst (λ n. n * c.args.k ≤ 4096) (sym c.in_ok-copied.ensures.states) (few_levels a c.args.k needed few) in
+    let few = subst (λ (ws : List Watch). a.states * length ws * c.args.k ≤ MOST_BUCHI_STATES) c.requires.watches c.requires.few in
+    let same : c.in_ok-copied.copied.states * c.args.k ≤ MOST_BUCHI_STATES = subst (λ n. n * c.args.k ≤ MOST_BUCHI_STATES) (sym c.in_ok-copied.ensures.states) (few_levels a c.args.k needed few) in
     omega (arith, same)

@@ -1,5 +1,5 @@
 use Rattle.std.proofs.Common.{◌≤◌, length, take}
-use Rattle.aut_ops.specs.declared.limit.TheConstants.{MOST_PAIRS}
+use Rattle.aut_base.specs.declared.limit.TheConstants.{MOST_PAIRS}
 use Rattle.aut_ops.specs.inner.Pairings.{Adds, followed}
 use Rattle.aut_ops.proofs.pairing.Pairing.follow.Given as goal
 

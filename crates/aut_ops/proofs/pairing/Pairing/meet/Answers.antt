@@ -6,7 +6,7 @@ use Rattle.aut_ops.proofs.JointEdges.{joined}
 use Rattle.aut_ops.proofs.Labels.{label_both}
 use Rattle.aut_ops.proofs.Pairings.{adds_nothing, adds_one, beyond_one, ends, met_none, met_one, never_met}
 use Rattle.aut_ops.specs.Products.{JointEdge}
-use Rattle.aut_ops.specs.declared.limit.TheConstants.{MOST_PAIRS}
+use Rattle.aut_base.specs.declared.limit.TheConstants.{MOST_PAIRS}
 use Rattle.aut_ops.specs.inner.Pairings.{Adds, AreBeyond, Stage, meeting}
 use Rattle.aut_ops.proofs.pairing.Pairing.meet.Goals as goal
 

@@ -1,5 +1,6 @@
 use Rattle.std.proofs.Common.{◌∷◌, [], suc, add-one, refl, arith}
 use Rattle.std.proofs.lemmas.Bool.{le-leb, lt-leb}
+use Rattle.aut_base.specs.declared.limit.TheConstants.{MOST_DEPTH}
 use Rattle.hoa_lexer.specs.declared.token.Token.TheVariants as token
 use Rattle.hoa_parser.proofs.reading.FrontParts.{passed_then}
 use Rattle.hoa_parser.proofs.reading.RuleParts.{next_answer}
@@ -22,13 +23,13 @@ and_fatom-fatom-requires g t c κs within =
 
 pub and_fatom-returns-in_err-advance-clause-reads : goal.and_fatom-returns-in_err-advance-clause-reads
 and_fatom-returns-in_err-advance-clause-reads g t c =
-    handed_on _ _ _ c.from_residual.ensures.1 (takes_last (Atoms c.args.depth) [] token.Amp c.requires.amp refl (le-leb c.args.depth 512 c.requires.depth) refl c.in_err-advance.ensures)
+    handed_on _ _ _ c.from_residual.ensures.1 (takes_last (Atoms c.args.depth) [] token.Amp c.requires.amp refl (le-leb c.args.depth MOST_DEPTH c.requires.depth) refl c.in_err-advance.ensures)
 
 pub and_fatom-returns-clause-reads : goal.and_fatom-returns-clause-reads
 and_fatom-returns-clause-reads g t c =
     next_answer (Atom c.args.depth ∷ []) (Atoms c.args.depth ∷ []) (IsFatom c.args.depth) (IsAndFatom c.args.depth) c.fatom.result _
     (λ w a e h. record { phrase = h.2.phrase; within = h.2.within; passed = passed_then a h.0 e (token.Amp ∷ []) _ h.1 h.2.passed; means = h.2.means })
-    (takes (Atoms c.args.depth) [] token.Amp c.requires.amp refl (le-leb c.args.depth 512 c.requires.depth) refl c.in_ok-advance.ensures) c.fatom.ensures.reads
+    (takes (Atoms c.args.depth) [] token.Amp c.requires.amp refl (le-leb c.args.depth MOST_DEPTH c.requires.depth) refl c.in_ok-advance.ensures) c.fatom.ensures.reads
 
 pub or_fand-fand-requires : goal.or_fand-fand-requires
 or_fand-fand-requires g t c κs within =
@@ -36,13 +37,13 @@ or_fand-fand-requires g t c κs within =
 
 pub or_fand-returns-in_err-advance-clause-reads : goal.or_fand-returns-in_err-advance-clause-reads
 or_fand-returns-in_err-advance-clause-reads g t c =
-    handed_on _ _ _ c.from_residual.ensures.1 (takes_last (Conjunctions c.args.depth) [] token.Bar c.requires.bar refl (le-leb c.args.depth 512 c.requires.depth) refl c.in_err-advance.ensures)
+    handed_on _ _ _ c.from_residual.ensures.1 (takes_last (Conjunctions c.args.depth) [] token.Bar c.requires.bar refl (le-leb c.args.depth MOST_DEPTH c.requires.depth) refl c.in_err-advance.ensures)
 
 pub or_fand-returns-clause-reads : goal.or_fand-returns-clause-reads
 or_fand-returns-clause-reads g t c =
     next_answer (Atom c.args.depth ∷ Atoms c.args.depth ∷ []) (Conjunctions c.args.depth ∷ []) (IsFand c.args.depth) (IsOrFand c.args.depth) c.fand.result _
     (λ w a e h. record { phrase = h.2.phrase; within = h.2.within; passed = passed_then a h.0 e (token.Bar ∷ []) _ h.1 h.2.passed; means = h.2.means })
-    (takes (Conjunctions c.args.depth) [] token.Bar c.requires.bar refl (le-leb c.args.depth 512 c.requires.depth) refl c.in_ok-advance.ensures) c.fand.ensures.reads
+    (takes (Conjunctions c.args.depth) [] token.Bar c.requires.bar refl (le-leb c.args.depth MOST_DEPTH c.requires.depth) refl c.in_ok-advance.ensures) c.fand.ensures.reads
 
 pub and_fatoms-returns-in_default : goal.and_fatoms-returns-in_default
 and_fatoms-returns-in_default g t c =
@@ -166,11 +167,11 @@ fand-returns g t c =
 
 pub group-returns-then-depth-ge-MOST_DEPTH : goal.group-returns-then-depth-ge-MOST_DEPTH
 group-returns-then-depth-ge-MOST_DEPTH g t c =
-    record { reads = too_deep (Atom c.args.depth) [] token.LeftParen _ c.requires.paren refl refl (lt-leb (suc c.args.depth) 512 (omega (arith, c.if-depth-ge-MOST_DEPTH.true))) (omega (arith, c.if-depth-ge-MOST_DEPTH.true)) (le-leb (suc c.args.depth) (suc c.args.depth) (omega arith)) }
+    record { reads = too_deep (Atom c.args.depth) [] token.LeftParen _ c.requires.paren refl refl (lt-leb (suc c.args.depth) MOST_DEPTH (omega (arith, c.if-depth-ge-MOST_DEPTH.true))) (omega (arith, c.if-depth-ge-MOST_DEPTH.true)) (le-leb (suc c.args.depth) (suc c.args.depth) (omega arith)) }
 
 pub group-returns-in_err-advance : goal.group-returns-in_err-advance
 group-returns-in_err-advance g t c =
-    record { reads = handed_on _ _ _ c.from_residual.ensures.1 (takes_last (Atom c.args.depth) [] token.LeftParen c.requires.paren refl (le-leb (suc c.args.depth) 512 (omega (arith, c.if-depth-ge-MOST_DEPTH.false))) refl c.in_err-advance.ensures) }
+    record { reads = handed_on _ _ _ c.from_residual.ensures.1 (takes_last (Atom c.args.depth) [] token.LeftParen c.requires.paren refl (le-leb (suc c.args.depth) MOST_DEPTH (omega (arith, c.if-depth-ge-MOST_DEPTH.false))) refl c.in_err-advance.ensures) }
 
 pub group-condition-requires : goal.group-condition-requires
 group-condition-requires g t c κs within =
@@ -178,15 +179,15 @@ group-condition-requires g t c κs within =
 
 pub group-returns-in_err-inner : goal.group-returns-in_err-inner
 group-returns-in_err-inner g t c =
-    record { reads = handed_on _ _ _ c.from_residual-in_err-inner.ensures.1 (next_fails _ (takes (Atom c.args.depth) [] token.LeftParen c.requires.paren refl (le-leb (suc c.args.depth) 512 (omega (arith, c.if-depth-ge-MOST_DEPTH.false))) refl c.in_ok-advance.ensures) (rw add-one at c.in_err-inner.ensures.reads)) }
+    record { reads = handed_on _ _ _ c.from_residual-in_err-inner.ensures.1 (next_fails _ (takes (Atom c.args.depth) [] token.LeftParen c.requires.paren refl (le-leb (suc c.args.depth) MOST_DEPTH (omega (arith, c.if-depth-ge-MOST_DEPTH.false))) refl c.in_ok-advance.ensures) (rw add-one at c.in_err-inner.ensures.reads)) }
 
 pub group-returns-in_err-closing_paren : goal.group-returns-in_err-closing_paren
 group-returns-in_err-closing_paren g t c =
-    record { reads = handed_on _ _ _ c.from_residual-in_err-closing_paren.ensures.1 (next_fails _ (next_reads (takes (Atom c.args.depth) [] token.LeftParen c.requires.paren refl (le-leb (suc c.args.depth) 512 (omega (arith, c.if-depth-ge-MOST_DEPTH.false))) refl c.in_ok-advance.ensures) (rw add-one at c.in_ok-inner.ensures.reads)) c.in_err-closing_paren.ensures.reads) }
+    record { reads = handed_on _ _ _ c.from_residual-in_err-closing_paren.ensures.1 (next_fails _ (next_reads (takes (Atom c.args.depth) [] token.LeftParen c.requires.paren refl (le-leb (suc c.args.depth) MOST_DEPTH (omega (arith, c.if-depth-ge-MOST_DEPTH.false))) refl c.in_ok-advance.ensures) (rw add-one at c.in_ok-inner.ensures.reads)) c.in_err-closing_paren.ensures.reads) }
 
 pub group-returns : goal.group-returns
 group-returns g t c =
-    record { reads = reads_as (λ a e h. group_of c.args.depth c.in_ok-inner.inner a h.1.0 h.0 e (omega (arith, c.if-depth-ge-MOST_DEPTH.false)) h.1.1 h.1.2 h.2) (next_reads (next_reads (takes (Atom c.args.depth) [] token.LeftParen c.requires.paren refl (le-leb (suc c.args.depth) 512 (omega (arith, c.if-depth-ge-MOST_DEPTH.false))) refl c.in_ok-advance.ensures) (rw add-one at c.in_ok-inner.ensures.reads)) c.in_ok-closing_paren.ensures.reads) }
+    record { reads = reads_as (λ a e h. group_of c.args.depth c.in_ok-inner.inner a h.1.0 h.0 e (omega (arith, c.if-depth-ge-MOST_DEPTH.false)) h.1.1 h.1.2 h.2) (next_reads (next_reads (takes (Atom c.args.depth) [] token.LeftParen c.requires.paren refl (le-leb (suc c.args.depth) MOST_DEPTH (omega (arith, c.if-depth-ge-MOST_DEPTH.false))) refl c.in_ok-advance.ensures) (rw add-one at c.in_ok-inner.ensures.reads)) c.in_ok-closing_paren.ensures.reads) }
 
 pub fatom-group-requires : goal.fatom-group-requires
 fatom-group-requires g t c κs within =

@@ -1,4 +1,5 @@
 use Rattle.std.proofs.Common.{◌+◌, ◌-◌, ◌*◌, ◌∷◌, []}
+use Rattle.aut_base.specs.declared.limit.TheConstants.{MOST_DEPTH}
 use Rattle.hoa_lexer.specs.Reading.{held_count}
 use Rattle.hoa_parser.specs.inner.Chains.{AddsFands, AddsFatoms}
 use Rattle.hoa_parser.specs.inner.Expecting.{Atoms, Conjunctions}
@@ -7,28 +8,28 @@ use Rattle.aut_base.specs.Formula.{formula_tree}
 use Rattle.hoa_parser.proofs.parse.condition.+condition.Given as goal
 
 abbrev pub decreases-and_fatom : goal.decreases-and_fatom
-decreases-and_fatom g l = 8 * (512 - l.depth) + 3
+decreases-and_fatom g l = 8 * (MOST_DEPTH - l.depth) + 3
 
 abbrev pub decreases-and_fatoms : goal.decreases-and_fatoms
-decreases-and_fatoms g l = 8 * (512 - l.depth) + 4
+decreases-and_fatoms g l = 8 * (MOST_DEPTH - l.depth) + 4
 
 abbrev pub decreases-group : goal.decreases-group
-decreases-group g l = 8 * (512 - l.depth) + 1
+decreases-group g l = 8 * (MOST_DEPTH - l.depth) + 1
 
 abbrev pub decreases-condition : goal.decreases-condition
-decreases-condition g l = 8 * (512 - l.depth) + 8
+decreases-condition g l = 8 * (MOST_DEPTH - l.depth) + 8
 
 abbrev pub decreases-fand : goal.decreases-fand
-decreases-fand g l = 8 * (512 - l.depth) + 5
+decreases-fand g l = 8 * (MOST_DEPTH - l.depth) + 5
 
 abbrev pub decreases-fatom : goal.decreases-fatom
-decreases-fatom g l = 8 * (512 - l.depth) + 2
+decreases-fatom g l = 8 * (MOST_DEPTH - l.depth) + 2
 
 abbrev pub decreases-or_fand : goal.decreases-or_fand
-decreases-or_fand g l = 8 * (512 - l.depth) + 6
+decreases-or_fand g l = 8 * (MOST_DEPTH - l.depth) + 6
 
 abbrev pub decreases-or_fands : goal.decreases-or_fands
-decreases-or_fands g l = 8 * (512 - l.depth) + 7
+decreases-or_fands g l = 8 * (MOST_DEPTH - l.depth) + 7
 
 abbrev pub invariant-and_fatoms-fatoms : goal.invariant-and_fatoms-fatoms
 invariant-and_fatoms-fatoms g l =

@@ -1,5 +1,6 @@
 use Rattle.std.proofs.Common.{◌∷◌, [], suc, add-one, refl, ap, ◌∙◌, arith}
 use Rattle.std.proofs.lemmas.Bool.{le-leb, lt-leb}
+use Rattle.aut_base.specs.declared.limit.TheConstants.{MOST_DEPTH}
 use Rattle.hoa_lexer.specs.declared.token.Token.TheVariants as token
 use Rattle.hoa_parser.proofs.reading.FrontParts.{passed_then}
 use Rattle.hoa_parser.proofs.reading.RuleParts.{next_answer}
@@ -23,13 +24,13 @@ and_lnot-lnot-requires g t c κs within =
 
 pub and_lnot-returns-in_err-advance-clause-reads : goal.and_lnot-returns-in_err-advance-clause-reads
 and_lnot-returns-in_err-advance-clause-reads g t c =
-    handed_on _ _ _ c.from_residual.ensures.1 (takes_last (Factors c.args.depth) [] token.Amp c.requires.amp refl (le-leb c.args.depth 512 c.requires.depth) refl c.in_err-advance.ensures)
+    handed_on _ _ _ c.from_residual.ensures.1 (takes_last (Factors c.args.depth) [] token.Amp c.requires.amp refl (le-leb c.args.depth MOST_DEPTH c.requires.depth) refl c.in_err-advance.ensures)
 
 pub and_lnot-returns-clause-reads : goal.and_lnot-returns-clause-reads
 and_lnot-returns-clause-reads g t c =
     next_answer (Factor c.args.depth ∷ []) (Factors c.args.depth ∷ []) (IsLnot c.args.depth) (IsAndLnot c.args.depth) c.lnot.result _
     (λ w a e h. record { phrase = h.2.phrase; within = h.2.within; passed = passed_then a h.0 e (token.Amp ∷ []) _ h.1 h.2.passed; means = h.2.means })
-    (takes (Factors c.args.depth) [] token.Amp c.requires.amp refl (le-leb c.args.depth 512 c.requires.depth) refl c.in_ok-advance.ensures) c.lnot.ensures.reads
+    (takes (Factors c.args.depth) [] token.Amp c.requires.amp refl (le-leb c.args.depth MOST_DEPTH c.requires.depth) refl c.in_ok-advance.ensures) c.lnot.ensures.reads
 
 pub or_land-land-requires : goal.or_land-land-requires
 or_land-land-requires g t c κs within =
@@ -37,13 +38,13 @@ or_land-land-requires g t c κs within =
 
 pub or_land-returns-in_err-advance-clause-reads : goal.or_land-returns-in_err-advance-clause-reads
 or_land-returns-in_err-advance-clause-reads g t c =
-    handed_on _ _ _ c.from_residual.ensures.1 (takes_last (Products c.args.depth) [] token.Bar c.requires.bar refl (le-leb c.args.depth 512 c.requires.depth) refl c.in_err-advance.ensures)
+    handed_on _ _ _ c.from_residual.ensures.1 (takes_last (Products c.args.depth) [] token.Bar c.requires.bar refl (le-leb c.args.depth MOST_DEPTH c.requires.depth) refl c.in_err-advance.ensures)
 
 pub or_land-returns-clause-reads : goal.or_land-returns-clause-reads
 or_land-returns-clause-reads g t c =
     next_answer (Factor c.args.depth ∷ Factors c.args.depth ∷ []) (Products c.args.depth ∷ []) (IsLand c.args.depth) (IsOrLand c.args.depth) c.land.result _
     (λ w a e h. record { phrase = h.2.phrase; within = h.2.within; passed = passed_then a h.0 e (token.Bar ∷ []) _ h.1 h.2.passed; means = h.2.means })
-    (takes (Products c.args.depth) [] token.Bar c.requires.bar refl (le-leb c.args.depth 512 c.requires.depth) refl c.in_ok-advance.ensures) c.land.ensures.reads
+    (takes (Products c.args.depth) [] token.Bar c.requires.bar refl (le-leb c.args.depth MOST_DEPTH c.requires.depth) refl c.in_ok-advance.ensures) c.land.ensures.reads
 
 pub and_lnots-returns-in_default : goal.and_lnots-returns-in_default
 and_lnots-returns-in_default g t c =
@@ -167,11 +168,11 @@ land-returns g t c =
 
 pub group-returns-then-depth-ge-MOST_DEPTH : goal.group-returns-then-depth-ge-MOST_DEPTH
 group-returns-then-depth-ge-MOST_DEPTH g t c =
-    record { reads = too_deep (Factor c.args.depth) [] token.LeftParen _ c.requires.paren refl refl (lt-leb (suc c.args.depth) 512 (omega (arith, c.if-depth-ge-MOST_DEPTH.true))) (omega (arith, c.if-depth-ge-MOST_DEPTH.true)) (le-leb (suc c.args.depth) (suc c.args.depth) (omega arith)) }
+    record { reads = too_deep (Factor c.args.depth) [] token.LeftParen _ c.requires.paren refl refl (lt-leb (suc c.args.depth) MOST_DEPTH (omega (arith, c.if-depth-ge-MOST_DEPTH.true))) (omega (arith, c.if-depth-ge-MOST_DEPTH.true)) (le-leb (suc c.args.depth) (suc c.args.depth) (omega arith)) }
 
 pub group-returns-in_err-advance : goal.group-returns-in_err-advance
 group-returns-in_err-advance g t c =
-    record { reads = handed_on _ _ _ c.from_residual.ensures.1 (takes_last (Factor c.args.depth) [] token.LeftParen c.requires.paren refl (le-leb (suc c.args.depth) 512 (omega (arith, c.if-depth-ge-MOST_DEPTH.false))) refl c.in_err-advance.ensures) }
+    record { reads = handed_on _ _ _ c.from_residual.ensures.1 (takes_last (Factor c.args.depth) [] token.LeftParen c.requires.paren refl (le-leb (suc c.args.depth) MOST_DEPTH (omega (arith, c.if-depth-ge-MOST_DEPTH.false))) refl c.in_err-advance.ensures) }
 
 pub group-label-requires : goal.group-label-requires
 group-label-requires g t c κs within =
@@ -179,23 +180,23 @@ group-label-requires g t c κs within =
 
 pub group-returns-in_err-inner : goal.group-returns-in_err-inner
 group-returns-in_err-inner g t c =
-    record { reads = handed_on _ _ _ c.from_residual-in_err-inner.ensures.1 (next_fails _ (takes (Factor c.args.depth) [] token.LeftParen c.requires.paren refl (le-leb (suc c.args.depth) 512 (omega (arith, c.if-depth-ge-MOST_DEPTH.false))) refl c.in_ok-advance.ensures) (rw add-one at c.in_err-inner.ensures.reads)) }
+    record { reads = handed_on _ _ _ c.from_residual-in_err-inner.ensures.1 (next_fails _ (takes (Factor c.args.depth) [] token.LeftParen c.requires.paren refl (le-leb (suc c.args.depth) MOST_DEPTH (omega (arith, c.if-depth-ge-MOST_DEPTH.false))) refl c.in_ok-advance.ensures) (rw add-one at c.in_err-inner.ensures.reads)) }
 
 pub group-returns-in_err-closing_paren : goal.group-returns-in_err-closing_paren
 group-returns-in_err-closing_paren g t c =
-    record { reads = handed_on _ _ _ c.from_residual-in_err-closing_paren.ensures.1 (next_fails _ (next_reads (takes (Factor c.args.depth) [] token.LeftParen c.requires.paren refl (le-leb (suc c.args.depth) 512 (omega (arith, c.if-depth-ge-MOST_DEPTH.false))) refl c.in_ok-advance.ensures) (rw add-one at c.in_ok-inner.ensures.reads)) c.in_err-closing_paren.ensures.reads) }
+    record { reads = handed_on _ _ _ c.from_residual-in_err-closing_paren.ensures.1 (next_fails _ (next_reads (takes (Factor c.args.depth) [] token.LeftParen c.requires.paren refl (le-leb (suc c.args.depth) MOST_DEPTH (omega (arith, c.if-depth-ge-MOST_DEPTH.false))) refl c.in_ok-advance.ensures) (rw add-one at c.in_ok-inner.ensures.reads)) c.in_err-closing_paren.ensures.reads) }
 
 pub group-returns : goal.group-returns
 group-returns g t c =
-    record { reads = reads_as (λ a e h. group_of c.args.depth c.in_ok-inner.inner a h.1.0 h.0 e (omega (arith, c.if-depth-ge-MOST_DEPTH.false)) h.1.1 h.1.2 h.2) (next_reads (next_reads (takes (Factor c.args.depth) [] token.LeftParen c.requires.paren refl (le-leb (suc c.args.depth) 512 (omega (arith, c.if-depth-ge-MOST_DEPTH.false))) refl c.in_ok-advance.ensures) (rw add-one at c.in_ok-inner.ensures.reads)) c.in_ok-closing_paren.ensures.reads) }
+    record { reads = reads_as (λ a e h. group_of c.args.depth c.in_ok-inner.inner a h.1.0 h.0 e (omega (arith, c.if-depth-ge-MOST_DEPTH.false)) h.1.1 h.1.2 h.2) (next_reads (next_reads (takes (Factor c.args.depth) [] token.LeftParen c.requires.paren refl (le-leb (suc c.args.depth) MOST_DEPTH (omega (arith, c.if-depth-ge-MOST_DEPTH.false))) refl c.in_ok-advance.ensures) (rw add-one at c.in_ok-inner.ensures.reads)) c.in_ok-closing_paren.ensures.reads) }
 
 pub negation-returns-then-depth-ge-MOST_DEPTH : goal.negation-returns-then-depth-ge-MOST_DEPTH
 negation-returns-then-depth-ge-MOST_DEPTH g t c =
-    record { reads = too_deep (Factor c.args.depth) [] token.Bang _ c.requires.bang refl refl (lt-leb (suc c.args.depth) 512 (omega (arith, c.if-depth-ge-MOST_DEPTH.true))) (omega (arith, c.if-depth-ge-MOST_DEPTH.true)) (le-leb (suc c.args.depth) (suc c.args.depth) (omega arith)) }
+    record { reads = too_deep (Factor c.args.depth) [] token.Bang _ c.requires.bang refl refl (lt-leb (suc c.args.depth) MOST_DEPTH (omega (arith, c.if-depth-ge-MOST_DEPTH.true))) (omega (arith, c.if-depth-ge-MOST_DEPTH.true)) (le-leb (suc c.args.depth) (suc c.args.depth) (omega arith)) }
 
 pub negation-returns-in_err-advance : goal.negation-returns-in_err-advance
 negation-returns-in_err-advance g t c =
-    record { reads = handed_on _ _ _ c.from_residual.ensures.1 (takes_last (Factor c.args.depth) [] token.Bang c.requires.bang refl (le-leb (suc c.args.depth) 512 (omega (arith, c.if-depth-ge-MOST_DEPTH.false))) refl c.in_err-advance.ensures) }
+    record { reads = handed_on _ _ _ c.from_residual.ensures.1 (takes_last (Factor c.args.depth) [] token.Bang c.requires.bang refl (le-leb (suc c.args.depth) MOST_DEPTH (omega (arith, c.if-depth-ge-MOST_DEPTH.false))) refl c.in_err-advance.ensures) }
 
 pub negation-lnot-requires : goal.negation-lnot-requires
 negation-lnot-requires g t c κs within =
@@ -203,15 +204,15 @@ negation-lnot-requires g t c κs within =
 
 pub negation-returns-in_err-inner : goal.negation-returns-in_err-inner
 negation-returns-in_err-inner g t c =
-    record { reads = handed_on _ _ _ c.from_residual-in_err-inner.ensures.1 (next_fails _ (takes (Factor c.args.depth) [] token.Bang c.requires.bang refl (le-leb (suc c.args.depth) 512 (omega (arith, c.if-depth-ge-MOST_DEPTH.false))) refl c.in_ok-advance.ensures) (rw add-one at c.in_err-inner.ensures.reads)) }
+    record { reads = handed_on _ _ _ c.from_residual-in_err-inner.ensures.1 (next_fails _ (takes (Factor c.args.depth) [] token.Bang c.requires.bang refl (le-leb (suc c.args.depth) MOST_DEPTH (omega (arith, c.if-depth-ge-MOST_DEPTH.false))) refl c.in_ok-advance.ensures) (rw add-one at c.in_err-inner.ensures.reads)) }
 
 pub negation-returns-in_err-new : goal.negation-returns-in_err-new
 negation-returns-in_err-new g t c =
-    record { reads = handed_on _ _ _ c.from_residual-in_err-new.ensures.1 (no_memory (next_reads (takes (Factor c.args.depth) [] token.Bang c.requires.bang refl (le-leb (suc c.args.depth) 512 (omega (arith, c.if-depth-ge-MOST_DEPTH.false))) refl c.in_ok-advance.ensures) (rw add-one at c.in_ok-inner.ensures.reads))) }
+    record { reads = handed_on _ _ _ c.from_residual-in_err-new.ensures.1 (no_memory (next_reads (takes (Factor c.args.depth) [] token.Bang c.requires.bang refl (le-leb (suc c.args.depth) MOST_DEPTH (omega (arith, c.if-depth-ge-MOST_DEPTH.false))) refl c.in_ok-advance.ensures) (rw add-one at c.in_ok-inner.ensures.reads))) }
 
 pub negation-returns : goal.negation-returns
 negation-returns g t c =
-    record { reads = reads_as (λ a e h. negated_of c.args.depth c.in_ok-inner.inner _ a h.0 e (omega (arith, c.if-depth-ge-MOST_DEPTH.false)) (raw_tree-Not c.in_ok-new.field-0 ∙ ap (λ (l : RawLabel). RawTree.Not (raw_tree l)) c.in_ok-new.ensures.ok) h.1 h.2) (next_reads (takes (Factor c.args.depth) [] token.Bang c.requires.bang refl (le-leb (suc c.args.depth) 512 (omega (arith, c.if-depth-ge-MOST_DEPTH.false))) refl c.in_ok-advance.ensures) (rw add-one at c.in_ok-inner.ensures.reads)) }
+    record { reads = reads_as (λ a e h. negated_of c.args.depth c.in_ok-inner.inner _ a h.0 e (omega (arith, c.if-depth-ge-MOST_DEPTH.false)) (raw_tree-Not c.in_ok-new.field-0 ∙ ap (λ (l : RawLabel). RawTree.Not (raw_tree l)) c.in_ok-new.ensures.ok) h.1 h.2) (next_reads (takes (Factor c.args.depth) [] token.Bang c.requires.bang refl (le-leb (suc c.args.depth) MOST_DEPTH (omega (arith, c.if-depth-ge-MOST_DEPTH.false))) refl c.in_ok-advance.ensures) (rw add-one at c.in_ok-inner.ensures.reads)) }
 
 pub lnot-negation-requires : goal.lnot-negation-requires
 lnot-negation-requires g t c κs within =

@@ -1,4 +1,5 @@
 use Rattle.std.proofs.Common.{◌+◌, ◌-◌, ◌*◌, ◌∷◌, []}
+use Rattle.aut_base.specs.declared.limit.TheConstants.{MOST_DEPTH}
 use Rattle.hoa_lexer.specs.Reading.{held_count}
 use Rattle.hoa_parser.specs.inner.Chains.{AddsLands, AddsLnots}
 use Rattle.hoa_parser.specs.inner.Expecting.{Factors, Products}
@@ -7,31 +8,31 @@ use Rattle.hoa_parser.specs.Raw.{raw_tree}
 use Rattle.hoa_parser.proofs.parse.label.+label.Given as goal
 
 abbrev pub decreases-and_lnot : goal.decreases-and_lnot
-decreases-and_lnot g l = 8 * (512 - l.depth) + 3
+decreases-and_lnot g l = 8 * (MOST_DEPTH - l.depth) + 3
 
 abbrev pub decreases-and_lnots : goal.decreases-and_lnots
-decreases-and_lnots g l = 8 * (512 - l.depth) + 4
+decreases-and_lnots g l = 8 * (MOST_DEPTH - l.depth) + 4
 
 abbrev pub decreases-group : goal.decreases-group
-decreases-group g l = 8 * (512 - l.depth) + 1
+decreases-group g l = 8 * (MOST_DEPTH - l.depth) + 1
 
 abbrev pub decreases-label : goal.decreases-label
-decreases-label g l = 8 * (512 - l.depth) + 8
+decreases-label g l = 8 * (MOST_DEPTH - l.depth) + 8
 
 abbrev pub decreases-land : goal.decreases-land
-decreases-land g l = 8 * (512 - l.depth) + 5
+decreases-land g l = 8 * (MOST_DEPTH - l.depth) + 5
 
 abbrev pub decreases-lnot : goal.decreases-lnot
-decreases-lnot g l = 8 * (512 - l.depth) + 2
+decreases-lnot g l = 8 * (MOST_DEPTH - l.depth) + 2
 
 abbrev pub decreases-negation : goal.decreases-negation
-decreases-negation g l = 8 * (512 - l.depth) + 1
+decreases-negation g l = 8 * (MOST_DEPTH - l.depth) + 1
 
 abbrev pub decreases-or_land : goal.decreases-or_land
-decreases-or_land g l = 8 * (512 - l.depth) + 6
+decreases-or_land g l = 8 * (MOST_DEPTH - l.depth) + 6
 
 abbrev pub decreases-or_lands : goal.decreases-or_lands
-decreases-or_lands g l = 8 * (512 - l.depth) + 7
+decreases-or_lands g l = 8 * (MOST_DEPTH - l.depth) + 7
 
 abbrev pub invariant-and_lnots-lnots : goal.invariant-and_lnots-lnots
 invariant-and_lnots-lnots g l =

@@ -1,6 +1,6 @@
 use Rattle.std.proofs.Common.{◌≡◌, ◌∙◌, ℕ, false, nat_lt, length, map, List, refl, sym, ap, arith}
 use Rattle.std.proofs.lemmas.Bool.Decides.{nat_tests}
-use Rattle.aut_base.specs.declared.limit.TheConstants.{MOST_NAMES}
+use Rattle.aut_base.specs.declared.limit.TheConstants.{MOST_NAMES, MOST_SETS, MOST_EDGES, MOST_STATES}
 use Rattle.hoa_reader.proofs.counting.EdgeCounts.{edge_count}
 use Rattle.hoa_reader.specs.Counts.{Edges, Aliases}
 use Rattle.hoa_parser.specs.Raw.{written, written_state}
@@ -14,28 +14,28 @@ pub returns-then-has_more_edges : goal.returns-then-has_more_edges
 returns-then-has_more_edges c =
     let w = written c.args.raw.now in
     let names : nat_lt MOST_NAMES (length (names_of w)) ≡ false = ap (λ (ns : List (List ℕ)). nat_lt MOST_NAMES (length ns)) (sym c.requires.parts.names) ∙ grind (arith, nat_tests) in
-    let sets : nat_lt 512 (acceptance_of w).sets ≡ false = ap (nat_lt 512) (sym c.set_count.ensures) ∙ grind (arith, nat_tests) in
-    let states : nat_lt 100000 (state_count w) ≡ false = ap (nat_lt 100000) (sym c.state_count.ensures) ∙ grind (arith, nat_tests) in
-    let edges : c.has_more_edges.result ≡ nat_lt 1000000 (length (edges_of w)) =
-    c.has_more_edges.ensures ∙ ap (λ (ss : List RawState). nat_lt 1000000 (length (all_edges (map written_state ss)))) c.as_slice.ensures ∙ ap (nat_lt 1000000) (sym (edge_count w c.requires.below)) in
+    let sets : nat_lt MOST_SETS (acceptance_of w).sets ≡ false = ap (nat_lt MOST_SETS) (sym c.set_count.ensures) ∙ grind (arith, nat_tests) in
+    let states : nat_lt MOST_STATES (state_count w) ≡ false = ap (nat_lt MOST_STATES) (sym c.state_count.ensures) ∙ grind (arith, nat_tests) in
+    let edges : c.has_more_edges.result ≡ nat_lt MOST_EDGES (length (edges_of w)) =
+    c.has_more_edges.ensures ∙ ap (λ (ss : List RawState). nat_lt MOST_EDGES (length (all_edges (map written_state ss)))) c.as_slice.ensures ∙ ap (nat_lt MOST_EDGES) (sym (edge_count w c.requires.below)) in
     record { count = Edges; shown = refl; passes = record { passes = sym edges ∙ c.if-has_more_edges.true; earlier = (names, (sets, (states, tt))) } }
 
 pub returns-then-grow_too_far : goal.returns-then-grow_too_far
 returns-then-grow_too_far c =
     let w = written c.args.raw.now in
     let names : nat_lt MOST_NAMES (length (names_of w)) ≡ false = ap (λ (ns : List (List ℕ)). nat_lt MOST_NAMES (length ns)) (sym c.requires.parts.names) ∙ grind (arith, nat_tests) in
-    let sets : nat_lt 512 (acceptance_of w).sets ≡ false = ap (nat_lt 512) (sym c.set_count.ensures) ∙ grind (arith, nat_tests) in
-    let states : nat_lt 100000 (state_count w) ≡ false = ap (nat_lt 100000) (sym c.state_count.ensures) ∙ grind (arith, nat_tests) in
-    let edges : c.has_more_edges.result ≡ nat_lt 1000000 (length (edges_of w)) =
-    c.has_more_edges.ensures ∙ ap (λ (ss : List RawState). nat_lt 1000000 (length (all_edges (map written_state ss)))) c.as_slice.ensures ∙ ap (nat_lt 1000000) (sym (edge_count w c.requires.below)) in
+    let sets : nat_lt MOST_SETS (acceptance_of w).sets ≡ false = ap (nat_lt MOST_SETS) (sym c.set_count.ensures) ∙ grind (arith, nat_tests) in
+    let states : nat_lt MOST_STATES (state_count w) ≡ false = ap (nat_lt MOST_STATES) (sym c.state_count.ensures) ∙ grind (arith, nat_tests) in
+    let edges : c.has_more_edges.result ≡ nat_lt MOST_EDGES (length (edges_of w)) =
+    c.has_more_edges.ensures ∙ ap (λ (ss : List RawState). nat_lt MOST_EDGES (length (all_edges (map written_state ss)))) c.as_slice.ensures ∙ ap (nat_lt MOST_EDGES) (sym (edge_count w c.requires.below)) in
     record { count = Aliases; shown = refl; passes = record { passes = sym c.grow_too_far.ensures ∙ c.if-grow_too_far.true; earlier = (names, (sets, (states, (sym edges ∙ c.if-has_more_edges.false, tt)))) } }
 
 pub returns : goal.returns
 returns c =
     let w = written c.args.raw.now in
     let names : nat_lt MOST_NAMES (length (names_of w)) ≡ false = ap (λ (ns : List (List ℕ)). nat_lt MOST_NAMES (length ns)) (sym c.requires.parts.names) ∙ grind (arith, nat_tests) in
-    let sets : nat_lt 512 (acceptance_of w).sets ≡ false = ap (nat_lt 512) (sym c.set_count.ensures) ∙ grind (arith, nat_tests) in
-    let states : nat_lt 100000 (state_count w) ≡ false = ap (nat_lt 100000) (sym c.state_count.ensures) ∙ grind (arith, nat_tests) in
-    let edges : c.has_more_edges.result ≡ nat_lt 1000000 (length (edges_of w)) =
-    c.has_more_edges.ensures ∙ ap (λ (ss : List RawState). nat_lt 1000000 (length (all_edges (map written_state ss)))) c.as_slice.ensures ∙ ap (nat_lt 1000000) (sym (edge_count w c.requires.below)) in
+    let sets : nat_lt MOST_SETS (acceptance_of w).sets ≡ false = ap (nat_lt MOST_SETS) (sym c.set_count.ensures) ∙ grind (arith, nat_tests) in
+    let states : nat_lt MOST_STATES (state_count w) ≡ false = ap (nat_lt MOST_STATES) (sym c.state_count.ensures) ∙ grind (arith, nat_tests) in
+    let edges : c.has_more_edges.result ≡ nat_lt MOST_EDGES (length (edges_of w)) =
+    c.has_more_edges.ensures ∙ ap (λ (ss : List RawState). nat_lt MOST_EDGES (length (all_edges (map written_state ss)))) c.as_slice.ensures ∙ ap (nat_lt MOST_EDGES) (sym (edge_count w c.requires.below)) in
     (names, (sets, (states, (sym edges ∙ c.if-has_more_edges.false, (sym c.grow_too_far.ensures ∙ c.if-grow_too_far.false, tt)))))

@@ -1,5 +1,6 @@
 use Rattle.std.proofs.Common.{◌≡◌, ◌+◌, ◌-◌, ◌*◌, ◌||◌, ◌∙◌, ℕ, Bool, true, false, nat_lt, map, List, [], refl, sym, ap, arith}
 use Rattle.std.specs.Prelude.{sum_by}
+use Rattle.aut_base.specs.declared.limit.TheConstants.{MOST_ALIASES}
 use Rattle.hoa_reader.proofs.counting.Weights.{edge_weighed, either_passes, tall_law, weight_law}
 use Rattle.hoa_reader.specs.Counts.{Aliases, count_of, greatest, height, weight}
 use Rattle.hoa_reader.specs.Described.{Meaning, expanded, meanings_after, meanings_of}
@@ -15,14 +16,14 @@ use Rattle.hoa_reader.specs.declared.elaborate.places.Places.{Places}
 use Rattle.hoa_parser.specs.declared.raw.RawState.{RawState}
 use Rattle.hoa_reader.proofs.elaborate.limits.grow_too_far.Goals as goal
 
-grows : (w : Written) (p : Parts) (known : Places Known) (tall heavy : Bool) → ArePartsOf w p → AreKnown (meanings_by p.defs.items) p.defs.items known → tall ≡ are_tall known (body_labels w) → heavy ≡ nat_lt 16785407 (counted known w.states) → (tall || heavy) ≡ nat_lt 2048 (count_of Aliases w)
+grows : (w : Written) (p : Parts) (known : Places Known) (tall heavy : Bool) → ArePartsOf w p → AreKnown (meanings_by p.defs.items) p.defs.items known → tall ≡ are_tall known (body_labels w) → heavy ≡ nat_lt 16785407 (counted known w.states) → (tall || heavy) ≡ nat_lt MOST_ALIASES (count_of Aliases w)
 grows w p known tall heavy parts all t h =
     let ms = meanings_by p.defs.items in
     let same : ms ≡ meanings_of w = ap (meanings_after []) parts.defs in
     let W : List Meaning → ℕ = λ ms. sum_by (λ (s : WrittenState). sum_by (edge_weighed ms s) s.edges) w.states in
     let law : cap (counted known w.states) ≡ cap (weight w) = weight_law ms p.defs.items known all w.states ∙ ap (λ ms. cap (W ms)) same in
     either_passes (greatest (map (λ (t : RawTree). height (expanded (meanings_of w) t)) (body_labels w))) (weight w) (counted known w.states) tall heavy
-    (t ∙ tall_law ms p.defs.items known all (body_labels w) ∙ ap (λ ms. nat_lt 2048 (greatest (map (λ (t : RawTree). height (expanded ms t)) (body_labels w)))) same) h law
+    (t ∙ tall_law ms p.defs.items known all (body_labels w) ∙ ap (λ ms. nat_lt MOST_ALIASES (greatest (map (λ (t : RawTree). height (expanded ms t)) (body_labels w)))) same) h law
 
 pub returns-then-are_tall : goal.returns-then-are_tall
 returns-then-are_tall c =

@@ -12,7 +12,7 @@ use Rattle.aut_base.specs.Acceptance.{Accepts, IsPath}
 use Rattle.aut_base.specs.Automaton.{Automaton, TreeEdge}
 use Rattle.aut_base.specs.Formula.{FormulaTree, met}
 use Rattle.aut_base.specs.Word.{NameSet, copies}
-use Rattle.aut_ops.specs.inner.Runs.{LassoRun}
+use Rattle.aut_base.specs.Runs.{LassoRun}
 
 -- the cycle as conditions see it
 abbrev pub marks_of : List TreeEdge → List (List ℕ)
