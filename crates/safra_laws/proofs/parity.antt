@@ -1,0 +1,5 @@
+-- Green names as odd priorities.
+pub mod Both
+pub mod GreenIsOdd
+pub mod Least
+pub mod OddIsGreen
