@@ -1,0 +1,2 @@
+-- The dual condition.
+pub mod Dual

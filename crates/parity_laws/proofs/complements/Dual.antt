@@ -1,0 +1,134 @@
+-- A deterministic automaton whose states go on, with the dual condition: of each word exactly one of the two accepts it.
+use Rattle.std.proofs.Common.{◌≡◌, ◌∙◌, ◌+◌, ◌*◌, ◌<◌, ◌⊎◌, ℕ, true, not, List, [], ◌∷◌, ◌++◌, Contains, ap, arith, inl, inr, length, map, slice_index_or, subst, sym}
+use Rattle.std.proofs.lemmas.Bool.{cases_Bool, not-true, true≢false}
+use Rattle.std.proofs.lemmas.List.Elements.{Contains-get_or}
+use Rattle.std.proofs.Math.Nat.{mul_comm}
+use Rattle.aut_base.proofs.LassoRuns.{later, marks_of, run_of}
+use Rattle.aut_base.proofs.Paths.{path_join}
+use Rattle.aut_base.specs.Acceptance.{Accepts, IsPath}
+use Rattle.aut_base.specs.Automaton.{Automaton, IsEdgeOf, TreeEdge}
+use Rattle.aut_base.specs.Formula.{FormulaTree, met}
+use Rattle.aut_base.specs.Runs.{LassoRun}
+use Rattle.aut_base.specs.Word.{NameSet, copies}
+use Rattle.acc_forms.proofs.DualLaw.{met-dual}
+use Rattle.acc_forms.specs.Dual.{dual}
+use Rattle.aut_core.specs.Deterministic.{IsDeterministic}
+use Rattle.parity_laws.proofs.letters.Moves.{all_at}
+use Rattle.parity_laws.proofs.runs.OnePath.{one_start, same_path}
+use Rattle.parity_laws.proofs.runs.Runs.{IsClosed, closes, run}
+use Rattle.parity_laws.specs.Complement.{AreComplements, DualIsComplement, dualised}
+
+-- the same paths, whatever the condition is
+to_dual : (d : Automaton) (p q : ℕ) (xs : List NameSet) (es : List TreeEdge) → IsPath d p xs es q → IsPath (dualised d) p xs es q
+to_dual d p q [] [] path = path
+to_dual d p q [] (e ∷ es) path = absurd path
+to_dual d p q (x ∷ xs) [] path = absurd path
+to_dual d p q (x ∷ xs) (e ∷ es) path = (path.0, path.1, path.2, to_dual d e.to q xs es path.3)
+
+from_dual : (d : Automaton) (p q : ℕ) (xs : List NameSet) (es : List TreeEdge) → IsPath (dualised d) p xs es q → IsPath d p xs es q
+from_dual d p q [] [] path = path
+from_dual d p q [] (e ∷ es) path = absurd path
+from_dual d p q (x ∷ xs) [] path = absurd path
+from_dual d p q (x ∷ xs) (e ∷ es) path = (path.0, path.1, path.2, from_dual d e.to q xs es path.3)
+
+opposite : (cycle : List (List ℕ)) (f : FormulaTree) → met cycle f ≡ true → met cycle (dual f) ≡ true → ⊥
+opposite cycle f one two = true≢false (sym one ∙ not-true (met cycle f) (sym (met-dual cycle f) ∙ two))
+
+-- two runs over one lasso word, to the same turns and rounds, go round the same cycle
+one_cycle : (d : Automaton) → IsDeterministic d → (u v : List NameSet) (turns rounds : ℕ) (first second : LassoRun d u v turns rounds) → first.cycle ≡ second.cycle
+one_cycle d det u v turns rounds first second =
+    let w = u ++ copies turns v in
+    let c = copies rounds v in
+    let start : second.start ≡ first.start = one_start d det second.start first.start second.is_start first.is_start in
+    let leads : IsPath d first.start w second.way second.state = subst (λ s. IsPath d s w second.way second.state) start second.leads in
+    let ends = (same_path d det first.start first.state second.state w first.way second.way first.leads leads).ends in
+    let returns : IsPath d first.state c second.cycle second.state = subst (λ s. IsPath d s c second.cycle second.state) (sym ends) second.returns in
+    (same_path d det first.state first.state second.state c first.cycle second.cycle first.returns returns).edges
+
+-- a run of the automaton with the dual condition is one of the automaton
+abbrev own_run : (d : Automaton) (u v : List NameSet) (a : Accepts (dualised d) u v) → LassoRun d u v a.turns a.rounds
+own_run d u v a = record {
+  start = a.start;
+  state = a.state;
+  way = a.way;
+  cycle = a.cycle;
+  is_start = a.is_start;
+  leads = from_dual d a.start a.state (u ++ copies a.turns v) a.way a.leads;
+  returns = from_dual d a.state a.state (copies a.rounds v) a.cycle a.returns;
+}
+
+pub never_both : (d : Automaton) → IsDeterministic d → (u v : List NameSet) → Accepts d u v → Accepts (dualised d) u v → ⊥
+never_both d det u v one two =
+    let mine = later d u v one.turns one.rounds two.turns two.rounds (run_of d u v one) one.positive two.positive in
+    let other = later d u v two.turns two.rounds one.turns one.rounds (own_run d u v two) two.positive one.positive in
+    let turns : two.turns + one.turns ≡ one.turns + two.turns = omega arith in
+    let rounds : one.rounds * two.rounds ≡ two.rounds * one.rounds = mul_comm one.rounds two.rounds in
+    let k = one.turns + two.turns in
+    let m = two.rounds * one.rounds in
+    let second : LassoRun d u v k m = record {
+      start = other.run.start;
+      state = other.run.state;
+      way = other.run.way;
+      cycle = other.run.cycle;
+      is_start = other.run.is_start;
+      leads = subst (λ i. IsPath d other.run.start (u ++ copies i v) other.run.way other.run.state) turns other.run.leads;
+      returns = subst (λ i. IsPath d other.run.state (copies i v) other.run.cycle other.run.state) rounds other.run.returns;
+    } in
+    let cycles : mine.run.cycle ≡ other.run.cycle = one_cycle d det u v k m mine.run second in
+    let meets : met (marks_of mine.run.cycle) d.formula ≡ true = mine.alike d.formula ∙ one.meets in
+    opposite (marks_of mine.run.cycle) d.formula meets (ap (λ es. met (marks_of es) (dual d.formula)) cycles ∙ (other.alike (dual d.formula) ∙ two.meets))
+
+pub one_of_the_two : (d : Automaton) (size start : ℕ) → IsClosed d size → Contains d.starts start → start < size → (u v : List NameSet) → 0 < length v → Accepts d u v ⊎ Accepts (dualised d) u v
+one_of_the_two d size start closed is_start below u v endless =
+    let begun = run d size closed start below u in
+    let c = closes d size closed begun.stop begun.below v in
+    let way = begun.way ++ c.way in
+    let leads : IsPath d start (u ++ copies c.before v) way c.state = path_join d start begun.stop c.state u (copies c.before v) begun.way c.way begun.leads c.leads in
+    elim (cases_Bool (met (map (λ (e : TreeEdge). e.marks) c.cycle) d.formula)) [
+      | inl meets ↦ inl (record {
+        endless = endless;
+        start = start;
+        state = c.state;
+        turns = c.before;
+        rounds = c.more;
+        way = way;
+        cycle = c.cycle;
+        is_start = is_start;
+        leads = leads;
+        positive = c.positive;
+        returns = c.returns;
+        meets = meets;
+      })
+      | inr fails ↦ inr (record {
+        endless = endless;
+        start = start;
+        state = c.state;
+        turns = c.before;
+        rounds = c.more;
+        way = way;
+        cycle = c.cycle;
+        is_start = is_start;
+        leads = to_dual d start c.state (u ++ copies c.before v) way leads;
+        positive = c.positive;
+        returns = to_dual d c.state c.state (copies c.more v) c.cycle c.returns;
+        meets = met-dual (map (λ (e : TreeEdge). e.marks) c.cycle) d.formula ∙ ap not fails;
+      })
+    ]
+
+pub complements : (a made : Automaton) → ((u v : List NameSet) → 0 < length v → Accepts a u v ⊎ Accepts made u v)
+    → ((u v : List NameSet) → Accepts a u v → Accepts made u v → ⊥) → AreComplements a made
+complements a made one never = record {
+  one = one;
+  never_both = never;
+  exactly = λ u v endless. ((λ other own. never u v own other), (λ none. elim (one u v endless) [ inl own ↦ absurd (none own) | inr other ↦ other ]));
+}
+
+pub dual_is_complement : DualIsComplement
+dual_is_complement a formed det complete =
+    let start : Contains a.starts (slice_index_or a.starts 0 0) = Contains-get_or a.starts 0 0 complete.start in
+    let closed : IsClosed a a.states = record {
+      total = λ i x less. complete.edges i less x;
+      within = λ e x there meets. (all_at (IsEdgeOf a) a.edges e formed.edges there).to;
+    } in
+    let below = all_at (λ q. q < a.states) a.starts (slice_index_or a.starts 0 0) formed.starts start in
+    complements a (dualised a) (one_of_the_two a a.states (slice_index_or a.starts 0 0) closed start below) (never_both a det)

@@ -1,0 +1,80 @@
+-- What the Büchi automaton accepts, the determinised one does. Its run over the stem and copies of the cycle comes to a closed
+-- path, whose round the Büchi automaton's cycle goes round as often; so its least priority is odd.
+use Rattle.std.proofs.Common.{◌≡◌, ◌∙◌, ◌+◌, ◌*◌, ◌<◌, ℕ, true, false, List, [], ◌++◌, Contains, ap, length, map, subst, sym}
+use Rattle.std.specs.List.{list_any}
+use Rattle.aut_base.proofs.Copies.{copies-copies}
+use Rattle.aut_base.proofs.Members.{first_there}
+use Rattle.aut_base.proofs.Paths.{path_copies, path_join}
+use Rattle.aut_base.proofs.SameEdges.{gone_alike, met_alike}
+use Rattle.aut_base.specs.Acceptance.{Accepts, IsPath}
+use Rattle.aut_base.specs.Automaton.{Automaton, TreeEdge}
+use Rattle.aut_base.specs.Formula.{Inf, met}
+use Rattle.aut_base.specs.Word.{NameSet, copies}
+use Rattle.acc_forms.specs.Parity.{parity_min_odd}
+use Rattle.safra_trees.specs.Step.{IsTree}
+use Rattle.safra_trees.specs.Trees.{Node, first_tree, holds}
+use Rattle.safra_trees.specs.declared.moves.Move.{Move}
+use Rattle.safra_laws.proofs.TreesAfter.{after_is_tree}
+use Rattle.safra_laws.proofs.invariant.FirstTree.{first_is_tree}
+use Rattle.safra_laws.proofs.invariant.Root.{root_is_reached}
+use Rattle.safra_laws.proofs.parity.Both.{accepted_is_odd}
+use Rattle.safra_laws.specs.Priorities.{priorities}
+use Rattle.safra_laws.specs.Rounds.{IsReached, tree_after}
+use Rattle.parity_laws.proofs.directions.Trees.{closed, follow, more_turns, product_positive}
+use Rattle.parity_laws.proofs.letters.Moves.{goals_below, met_buchi, moves_of_path}
+use Rattle.parity_laws.proofs.letters.Priorities.{odd_met}
+use Rattle.parity_laws.proofs.runs.Runs.{closes, run}
+use Rattle.parity_laws.specs.Buchi.{IsBuchi, move_of, moves_at}
+use Rattle.parity_laws.specs.Determinised.{IsDeterminised, tree_at}
+
+-- a cycle that meets the condition, gone more often, has an accepting move
+accepting_copies : (b : Automaton) → IsBuchi b → (k : ℕ) (cycle : List TreeEdge) → 0 < k → met (map (λ e. e.marks) cycle) b.formula ≡ true
+    → list_any (λ (m : Move). m.accepting) (map move_of (copies k cycle)) ≡ true
+accepting_copies b buchi k cycle positive meets =
+    let marks = λ (es : List TreeEdge). map (λ (e : TreeEdge). e.marks) es in
+    sym (met_buchi (copies k cycle))
+    ∙ (met_alike (marks (copies k cycle)) (marks cycle) (gone_alike (λ (e : TreeEdge). e.marks) k cycle positive) (Inf 0 false)
+    ∙ (ap (met (marks cycle)) (sym buchi.formula) ∙ meets))
+
+pub to_trees : (b d : Automaton) (trees : List (List Node)) (most : ℕ) → IsBuchi b → IsDeterminised b d trees most → (u v : List NameSet) → Accepts b u v → Accepts d u v
+to_trees b d trees most buchi det u v a =
+    let n = b.states in
+    let is_closed = closed b d trees most det in
+    let stem = u ++ copies a.turns v in
+    let w = copies a.rounds v in
+    let root = first_tree n b.starts in
+    let begun = run d (length trees) is_closed 0 det.some stem in
+    let c = closes d (length trees) is_closed begun.stop begun.below w in
+    let prefix = stem ++ copies c.before w in
+    let letters = map (moves_at b) prefix in
+    let way = a.way ++ copies c.before a.cycle in
+    let whole : IsPath d 0 prefix (begun.way ++ c.way) c.state = path_join d 0 begun.stop c.state stem (copies c.before w) begun.way c.way begun.leads c.leads in
+    let ran : IsPath b a.start prefix way a.state =
+    path_join b a.start a.state a.state stem (copies c.before w) a.way (copies c.before a.cycle) a.leads (path_copies b a.state c.before w a.cycle a.returns) in
+    let lead = follow b d trees most det 0 c.state prefix (begun.way ++ c.way) det.some whole in
+    let t = tree_at trees c.state in
+    let reached : tree_after n root letters ≡ t = ap (λ s. tree_after n s letters) (sym det.first) ∙ lead.tree in
+    let tree : IsTree t = subst IsTree reached (after_is_tree n root letters (first_is_tree n b.starts)) in
+    let found : IsReached b.starts letters a.state = record { start = a.start; path = map move_of way; is_start = a.is_start; leads = moves_of_path b a.start a.state prefix way ran } in
+    let rooted : holds t 0 a.state ≡ true = subst (λ s. holds s 0 a.state ≡ true) reached ((root_is_reached n b.starts letters a.state buchi.starts (goals_below b buchi prefix)).1 found) in
+    let round = copies c.more w in
+    let edges = copies c.more a.cycle in
+    let home = follow b d trees most det c.state c.state round c.cycle c.below c.returns in
+    let path = moves_of_path b a.state a.state round edges (path_copies b a.state c.more w a.cycle a.returns) in
+    let some = accepting_copies b buchi c.more a.cycle c.positive a.meets in
+    let odd = accepted_is_odd n most a.state t (map (moves_at b) round) (map move_of edges) tree rooted (goals_below b buchi round) path home.tree home.few some in
+    record {
+      endless = a.endless;
+      start = 0;
+      state = c.state;
+      turns = a.turns + c.before * a.rounds;
+      rounds = c.more * a.rounds;
+      way = begun.way ++ c.way;
+      cycle = c.cycle;
+      is_start = subst (λ xs. Contains xs 0) (sym det.starts) (first_there 0 []);
+      leads = subst (λ z. IsPath d 0 z (begun.way ++ c.way) c.state) (more_turns a.turns c.before a.rounds u v) whole;
+      positive = product_positive c.more a.rounds c.positive a.positive;
+      returns = subst (λ z. IsPath d c.state z c.cycle c.state) (copies-copies c.more a.rounds v) c.returns;
+      meets = ap (met (map (λ (e : TreeEdge). e.marks) c.cycle)) det.formula
+          ∙ (ap (λ ms. met ms (parity_min_odd (most + most + 1))) home.marks ∙ odd_met most (priorities n most t (map (moves_at b) round)) odd);
+    }

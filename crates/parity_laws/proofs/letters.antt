@@ -1,0 +1,3 @@
+-- Edges and moves, marks and priorities.
+pub mod Moves
+pub mod Priorities

@@ -1,0 +1,2 @@
+-- The worked example.
+pub mod Example

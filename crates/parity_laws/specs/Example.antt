@@ -1,0 +1,57 @@
+-- A worked example: the automaton of the words in which `a` fails only finitely often, its determinised one, and that with
+-- the dual condition.
+use Rattle.std.specs.Prelude.{ℕ, false, List, [], ◌∷◌}
+use Rattle.aut_base.specs.Automaton.{Automaton, TreeEdge}
+use Rattle.aut_base.specs.Formula.{FormulaTree}
+use Rattle.aut_base.specs.Label.{LabelTree}
+use Rattle.acc_forms.specs.Parity.{parity_min_odd}
+use Rattle.safra_trees.specs.Trees.{Node}
+use Rattle.safra_laws.specs.Example.{tree_of_both, tree_of_start, tree_with_child}
+use Rattle.parity_laws.specs.Buchi.{IsBuchi}
+use Rattle.parity_laws.specs.Complement.{AreComplements, dualised}
+use Rattle.parity_laws.specs.Determinised.{IsDeterminised}
+use Rattle.parity_laws.specs.Explored.{IsExplored}
+
+abbrev pub just_a : List (List ℕ)
+just_a = (97 ∷ []) ∷ []
+
+abbrev pub edge : ℕ → LabelTree → ℕ → List ℕ → TreeEdge
+edge from label to marks = record { from = from; label = label; to = to; marks = marks }
+
+abbrev pub when_a : LabelTree
+when_a = LabelTree.Prop 0
+
+abbrev pub when_not_a : LabelTree
+when_not_a = LabelTree.Not (LabelTree.Prop 0)
+
+-- state 0 waits; state 1 is entered under `a`, and goes on under `a` alone
+abbrev pub finitely_often : Automaton
+finitely_often = record {
+  names = just_a;
+  starts = 0 ∷ [];
+  states = 2;
+  edges = edge 0 LabelTree.True 0 [] ∷ edge 0 when_a 1 [] ∷ edge 1 when_a 1 (0 ∷ []) ∷ [];
+  sets = 1;
+  formula = FormulaTree.Inf 0 false;
+}
+
+abbrev pub its_trees : List (List Node)
+its_trees = tree_of_start ∷ tree_of_both ∷ tree_with_child ∷ []
+
+-- The states are its trees. In the last one node 1 is green under `a`, and red without.
+abbrev pub determinised : Automaton
+determinised = record {
+  names = just_a;
+  starts = 0 ∷ [];
+  states = 3;
+  edges = edge 0 when_not_a 0 (4 ∷ []) ∷ edge 0 when_a 1 (4 ∷ []) ∷ edge 1 when_not_a 0 (4 ∷ []) ∷ edge 1 when_a 2 (4 ∷ []) ∷ edge 2 when_not_a 0 (2 ∷ []) ∷ edge 2 when_a 2 (3 ∷ []) ∷ [];
+  sets = 5;
+  formula = parity_min_odd 5;
+}
+
+-- All that the laws ask is so of the example, and so what they say.
+pub record WorkedDeterminisation : Type 0 where
+  pub buchi : IsBuchi finitely_often
+  pub explored : IsExplored finitely_often determinised its_trees 2
+  pub is_determinised : IsDeterminised finitely_often determinised its_trees 2
+  pub dual : AreComplements finitely_often (dualised determinised)

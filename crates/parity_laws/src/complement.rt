@@ -1,0 +1,13 @@
+//! Complements by the dual condition.
+
+ghost use Rattle.parity_laws.specs.Complement.{DeterminisedDualIsComplement, DualIsComplement};
+
+/// Of a deterministic and complete automaton and the one with the dual condition exactly one accepts each lasso word.
+pub fn dual_is_complement()
+    ensures { DualIsComplement }
+{}
+
+/// A determinised automaton with the dual condition accepts just the lasso words that the Büchi automaton doesn't.
+pub fn determinised_dual_is_complement()
+    ensures { DeterminisedDualIsComplement }
+{}

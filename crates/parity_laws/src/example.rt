@@ -1,0 +1,8 @@
+//! A worked example, which meets what the laws ask.
+
+ghost use Rattle.parity_laws.specs.Example.{WorkedDeterminisation};
+
+/// An automaton of two states, its determinised one, and its complement.
+pub fn worked_determinisation()
+    ensures { WorkedDeterminisation }
+{}
