@@ -23,6 +23,10 @@ pub record AreComplements (a made : Automaton) : Type 0 where
 abbrev pub DualIsComplement : Type 0
 DualIsComplement = (a : Automaton) → IsWellFormed a → IsDeterministic a → IsComplete a → AreComplements a (dualised a)
 
+-- What accepts the same as an automaton has its complements.
+abbrev pub ComplementsOfTheSame : Type 0
+ComplementsOfTheSame = (a b made : Automaton) → ((u v : List NameSet) → Accepts b u v ↔ Accepts a u v) → AreComplements b made → AreComplements a made
+
 -- So the dual condition on a determinised automaton gives the complement of what it was made of.
 abbrev pub DeterminisedDualIsComplement : Type 0
 DeterminisedDualIsComplement = (b d : Automaton) (trees : List (List Node)) (most : ℕ) → IsBuchi b → IsDeterminised b d trees most → AreComplements b (dualised d)

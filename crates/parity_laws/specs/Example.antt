@@ -1,7 +1,9 @@
 -- A worked example: the automaton of the words in which `a` fails only finitely often, its determinised one, and that with
 -- the dual condition.
-use Rattle.std.specs.Prelude.{ℕ, false, List, [], ◌∷◌}
-use Rattle.aut_base.specs.Automaton.{Automaton, TreeEdge}
+use Rattle.std.specs.Prelude.{false, List, [], ◌∷◌}
+use Rattle.aut_base.specs.Acceptance.{Accepts}
+use Rattle.aut_base.specs.Automaton.{Automaton}
+use Rattle.aut_base.specs.Examples.{edge, name_a, off, on}
 use Rattle.aut_base.specs.Formula.{FormulaTree}
 use Rattle.aut_base.specs.Label.{LabelTree}
 use Rattle.acc_forms.specs.Parity.{parity_min_odd}
@@ -12,12 +14,6 @@ use Rattle.parity_laws.specs.Complement.{AreComplements, dualised}
 use Rattle.parity_laws.specs.Determinised.{IsDeterminised}
 use Rattle.parity_laws.specs.Explored.{IsExplored}
 
-abbrev pub just_a : List (List ℕ)
-just_a = (97 ∷ []) ∷ []
-
-abbrev pub edge : ℕ → LabelTree → ℕ → List ℕ → TreeEdge
-edge from label to marks = record { from = from; label = label; to = to; marks = marks }
-
 abbrev pub when_a : LabelTree
 when_a = LabelTree.Prop 0
 
@@ -27,7 +23,7 @@ when_not_a = LabelTree.Not (LabelTree.Prop 0)
 -- state 0 waits; state 1 is entered under `a`, and goes on under `a` alone
 abbrev pub finitely_often : Automaton
 finitely_often = record {
-  names = just_a;
+  names = name_a ∷ [];
   starts = 0 ∷ [];
   states = 2;
   edges = edge 0 LabelTree.True 0 [] ∷ edge 0 when_a 1 [] ∷ edge 1 when_a 1 (0 ∷ []) ∷ [];
@@ -41,7 +37,7 @@ its_trees = tree_of_start ∷ tree_of_both ∷ tree_with_child ∷ []
 -- The states are its trees. In the last one node 1 is green under `a`, and red without.
 abbrev pub determinised : Automaton
 determinised = record {
-  names = just_a;
+  names = name_a ∷ [];
   starts = 0 ∷ [];
   states = 3;
   edges = edge 0 when_not_a 0 (4 ∷ []) ∷ edge 0 when_a 1 (4 ∷ []) ∷ edge 1 when_not_a 0 (4 ∷ []) ∷ edge 1 when_a 2 (4 ∷ []) ∷ edge 2 when_not_a 0 (2 ∷ []) ∷ edge 2 when_a 2 (3 ∷ []) ∷ [];
@@ -55,3 +51,8 @@ pub record WorkedDeterminisation : Type 0 where
   pub explored : IsExplored finitely_often determinised its_trees 2
   pub is_determinised : IsDeterminised finitely_often determinised its_trees 2
   pub dual : AreComplements finitely_often (dualised determinised)
+  -- the word with `a` always is accepted by both; the one with `a` never by the dual alone
+  pub always : Accepts finitely_often [] (on ∷ [])
+  pub always_too : Accepts determinised [] (on ∷ [])
+  pub never : ¬ Accepts finitely_often [] (off ∷ [])
+  pub never_dual : Accepts (dualised determinised) [] (off ∷ [])

@@ -8,7 +8,9 @@ mod example;
 mod explored;
 mod language;
 
-pub use complement::{determinised_dual_is_complement, dual_is_complement};
+pub use complement::{
+    complements_of_the_same, determinised_dual_is_complement, dual_is_complement,
+};
 pub use example::worked_determinisation;
 pub use explored::{classes_of_guards, explored_is_determinised};
 pub use language::{determinised_accepts_the_same, well_formed_is_buchi};

@@ -16,7 +16,7 @@ use Rattle.aut_core.specs.Deterministic.{IsDeterministic}
 use Rattle.parity_laws.proofs.letters.Moves.{all_at}
 use Rattle.parity_laws.proofs.runs.OnePath.{one_start, same_path}
 use Rattle.parity_laws.proofs.runs.Runs.{IsClosed, closes, run}
-use Rattle.parity_laws.specs.Complement.{AreComplements, DualIsComplement, dualised}
+use Rattle.parity_laws.specs.Complement.{AreComplements, ComplementsOfTheSame, DualIsComplement, dualised}
 
 -- the same paths, whatever the condition is
 to_dual : (d : Automaton) (p q : ℕ) (xs : List NameSet) (es : List TreeEdge) → IsPath d p xs es q → IsPath (dualised d) p xs es q
@@ -122,6 +122,11 @@ complements a made one never = record {
   never_both = never;
   exactly = λ u v endless. ((λ other own. never u v own other), (λ none. elim (one u v endless) [ inl own ↦ absurd (none own) | inr other ↦ other ]));
 }
+
+pub complements_of_the_same : ComplementsOfTheSame
+complements_of_the_same a b made same of_b = complements a made
+    (λ u v endless. elim (of_b.one u v endless) [ inl own ↦ inl ((same u v).0 own) | inr other ↦ inr other ])
+    (λ u v own other. of_b.never_both u v ((same u v).1 own) other)
 
 pub dual_is_complement : DualIsComplement
 dual_is_complement a formed det complete =

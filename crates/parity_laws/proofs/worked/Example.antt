@@ -1,9 +1,16 @@
 -- The worked example is explored class by class.
+use Rattle.parity_laws.specs.Complement.{dualised}
+use Rattle.aut_base.specs.Examples.{edge, name_a, off, on}
+use Rattle.aut_base.specs.Acceptance.{Accepts}
 use Rattle.std.proofs.Common.{◌≡◌, ◌∙◌, ◌⊎◌, ◌<◌, ◌≤◌, ℕ, zero, suc, Bool, true, false, cond, not, List, []}
 use Rattle.std.proofs.Common.{◌∷◌, All, Contains, Some, ap, arith, inl, inr, length, map, nat_eq, refl, slice_index_or, subst, sym}
+use Rattle.std.specs.FinSet as set
+use Rattle.std.specs.Cmp.Lexicographic.{slice_cmp}
+use Rattle.std.specs.Ordering.{nat_cmp}
+use Rattle.std.proofs.lemmas.Cmp.{nat_list_cmp_total}
 use Rattle.std.proofs.lemmas.Bool.{cases_Bool, true≢false}
 use Rattle.std.proofs.lemmas.Option.{none-some, same_Some}
-use Rattle.aut_base.proofs.Members.{each_there, first_there, later_there, none_there, there_cases}
+use Rattle.aut_base.proofs.Members.{each_there, first_there, later_there, none_there, placed_there, there_cases}
 use Rattle.aut_base.specs.Automaton.{TreeEdge}
 use Rattle.aut_base.specs.Label.{LabelTree, truth}
 use Rattle.safra_trees.specs.Step.{IsTree}
@@ -14,7 +21,7 @@ use Rattle.safra_laws.proofs.TreesAfter.{after_is_tree}
 use Rattle.safra_laws.proofs.invariant.FirstTree.{first_is_tree}
 use Rattle.safra_laws.specs.Example.{letter_a, tree_of_start}
 use Rattle.parity_laws.proofs.classes.Explored.{explored_is_determinised}
-use Rattle.parity_laws.proofs.directions.Both.{determinised_dual}
+use Rattle.parity_laws.proofs.directions.Both.{accepts_the_same, determinised_dual}
 use Rattle.parity_laws.proofs.letters.Moves.{all_at}
 use Rattle.parity_laws.specs.Buchi.{IsBuchi}
 use Rattle.parity_laws.specs.Classes.{AreClassesOf, MeetsClass}
@@ -149,7 +156,56 @@ buchi = record {
   ends = each_of (λ (e : TreeEdge). e.to < 2) finitely_often.edges (omega arith, (omega arith, (omega arith, tt)));
 }
 
+on_a : set.contains on name_a ≡ true
+on_a = set.contains-insert nat_list_cmp_total set.empty name_a name_a
+
+off_a : set.contains off name_a ≡ false
+off_a = set.contains-empty (slice_cmp nat_cmp) name_a
+
+-- by way of the second state to the third, and there round
+always_accepted : Accepts determinised [] (on ∷ [])
+always_accepted = record {
+  endless = omega arith;
+  start = 0;
+  state = 2;
+  turns = 2;
+  rounds = 1;
+  way = edge 0 when_a 1 (4 ∷ []) ∷ edge 1 when_a 2 (4 ∷ []) ∷ [];
+  cycle = edge 2 when_a 2 (3 ∷ []) ∷ [];
+  is_start = first_there 0 [];
+  leads = (refl, placed_there determinised.edges 1 (edge 0 when_a 1 (4 ∷ [])) refl, on_a, (refl, placed_there determinised.edges 3 (edge 1 when_a 2 (4 ∷ [])) refl, on_a, refl));
+  positive = omega arith;
+  returns = (refl, placed_there determinised.edges 5 (edge 2 when_a 2 (3 ∷ [])) refl, on_a, refl);
+  meets = refl;
+}
+
+never_accepted : Accepts (dualised determinised) [] (off ∷ [])
+never_accepted = record {
+  endless = omega arith;
+  start = 0;
+  state = 0;
+  turns = 0;
+  rounds = 1;
+  way = [];
+  cycle = edge 0 when_not_a 0 (4 ∷ []) ∷ [];
+  is_start = first_there 0 [];
+  leads = refl;
+  positive = omega arith;
+  returns = (refl, placed_there determinised.edges 0 (edge 0 when_not_a 0 (4 ∷ [])) refl, ap not off_a, refl);
+  meets = refl;
+}
+
 pub worked_determinisation : WorkedDeterminisation
 worked_determinisation =
     let made = explored_is_determinised finitely_often determinised its_trees 2 explored in
-    record { buchi = buchi; explored = explored; is_determinised = made; dual = determinised_dual finitely_often determinised its_trees 2 buchi made }
+    let complement = determinised_dual finitely_often determinised its_trees 2 buchi made in
+    record {
+      buchi = buchi;
+      explored = explored;
+      is_determinised = made;
+      dual = complement;
+      always = (accepts_the_same finitely_often determinised its_trees 2 buchi made [] (on ∷ [])).0 always_accepted;
+      always_too = always_accepted;
+      never = (complement.exactly [] (off ∷ []) (omega arith)).0 never_accepted;
+      never_dual = never_accepted;
+    }
