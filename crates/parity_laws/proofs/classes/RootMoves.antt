@@ -1,5 +1,6 @@
 -- Where the labels of the edges that leave the root's states have the same truths, the moves from those states are the same.
 use Rattle.std.proofs.Common.{◌≡◌, ◌∙◌, ◌&&◌, ℕ, Bool, true, List, All, Contains, ap, filter, subst, sym}
+use Rattle.std.proofs.lemmas.List.Elements.{All-contains}
 use Rattle.std.proofs.lemmas.Bool.{and_from, and_parts}
 use Rattle.aut_base.proofs.Members.{from_filter, from_map, there_filter, there_map}
 use Rattle.aut_base.specs.Automaton.{Automaton, TreeEdge}
@@ -8,7 +9,7 @@ use Rattle.aut_base.specs.Word.{NameSet}
 use Rattle.safra_trees.specs.Trees.{Node, holds}
 use Rattle.safra_trees.specs.declared.moves.Move.{Move}
 use Rattle.safra_laws.specs.Trees.{SameRootMoves}
-use Rattle.parity_laws.proofs.letters.Moves.{all_at, edge_of, move_there}
+use Rattle.parity_laws.proofs.letters.Moves.{edge_of, move_there}
 use Rattle.parity_laws.specs.Buchi.{move_of, moves_at}
 use Rattle.parity_laws.specs.Explored.{root_labels, root_moves}
 
@@ -20,7 +21,7 @@ same_root_moves b t on x same m h =
     let label_there : (e : TreeEdge) → Contains b.edges e → holds t 0 e.from ≡ true → Contains (root_labels b t) e.label = λ e there from.
     there_map (λ (g : TreeEdge). g.label) (filter at_root b.edges) e (there_filter at_root b.edges e there from) in
     let each : (e : TreeEdge) → Contains b.edges e → holds t 0 e.from ≡ true → truth (holds_at b.names x) e.label ≡ truth on e.label = λ e there from.
-    all_at (λ (l : LabelTree). truth (holds_at b.names x) l ≡ truth on l) (root_labels b t) e.label same (label_there e there from) in (
+    All-contains (λ (l : LabelTree). truth (holds_at b.names x) l ≡ truth on l) (root_labels b t) e.label same (label_there e there from) in (
       (λ there. (
           let e = edge_of b x m there in
           let from : holds t 0 e.edge.from ≡ true = ap (λ (w : Move). holds t 0 w.from) e.is ∙ h in

@@ -1,7 +1,7 @@
 -- A deterministic automaton whose states go on, with the dual condition: of each word exactly one of the two accepts it.
 use Rattle.std.proofs.Common.{◌≡◌, ◌∙◌, ◌+◌, ◌*◌, ◌<◌, ◌⊎◌, ℕ, true, not, List, [], ◌∷◌, ◌++◌, Contains, ap, arith, inl, inr, length, map, slice_index_or, subst, sym}
 use Rattle.std.proofs.lemmas.Bool.{cases_Bool, not-true, true≢false}
-use Rattle.std.proofs.lemmas.List.Elements.{Contains-get_or}
+use Rattle.std.proofs.lemmas.List.Elements.{All-contains, Contains-get_or}
 use Rattle.std.proofs.Math.Nat.{mul_comm}
 use Rattle.aut_base.proofs.LassoRuns.{later, marks_of, run_of}
 use Rattle.aut_base.proofs.Paths.{path_join}
@@ -13,7 +13,6 @@ use Rattle.aut_base.specs.Word.{NameSet, copies}
 use Rattle.acc_forms.proofs.DualLaw.{met-dual}
 use Rattle.acc_forms.specs.Dual.{dual}
 use Rattle.aut_core.specs.Deterministic.{IsDeterministic}
-use Rattle.parity_laws.proofs.letters.Moves.{all_at}
 use Rattle.parity_laws.proofs.runs.OnePath.{one_start, same_path}
 use Rattle.parity_laws.proofs.runs.Runs.{IsClosed, closes, run}
 use Rattle.parity_laws.specs.Complement.{AreComplements, ComplementsOfTheSame, DualIsComplement, dualised}
@@ -133,7 +132,7 @@ dual_is_complement a formed det complete =
     let start : Contains a.starts (slice_index_or a.starts 0 0) = Contains-get_or a.starts 0 0 complete.start in
     let closed : IsClosed a a.states = record {
       total = λ i x less. complete.edges i less x;
-      within = λ e x there meets. (all_at (IsEdgeOf a) a.edges e formed.edges there).to;
+      within = λ e x there meets. (All-contains (IsEdgeOf a) a.edges e formed.edges there).to;
     } in
-    let below = all_at (λ q. q < a.states) a.starts (slice_index_or a.starts 0 0) formed.starts start in
+    let below = All-contains (λ q. q < a.states) a.starts (slice_index_or a.starts 0 0) formed.starts start in
     complements a (dualised a) (one_of_the_two a a.states (slice_index_or a.starts 0 0) closed start below) (never_both a det)

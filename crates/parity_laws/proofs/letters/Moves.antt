@@ -1,5 +1,6 @@
 -- Edges that letters meet, the moves that they are, and paths of both.
-use Rattle.std.proofs.Common.{◌≡◌, ◌∙◌, ◌<◌, ℕ, true, false, List, [], ◌∷◌, All, Contains, ap, filter, map, refl, subst, sym}
+use Rattle.std.proofs.Common.{◌≡◌, ◌∙◌, ◌<◌, ℕ, true, false, List, [], ◌∷◌, Contains, ap, filter, map, refl, subst, sym}
+use Rattle.std.proofs.lemmas.List.Elements.{All-contains}
 use Rattle.std.specs.List.{list_any}
 use Rattle.aut_base.proofs.Lists.{list_any-map}
 use Rattle.aut_base.proofs.Members.{from_filter, from_map, there_filter, there_map}
@@ -13,14 +14,11 @@ use Rattle.safra_trees.specs.declared.moves.Move.{Move}
 use Rattle.safra_laws.specs.Rounds.{GoalsBelow, IsMovePath}
 use Rattle.parity_laws.specs.Buchi.{IsBuchi, WellFormedIsBuchi, move_of, moves_at}
 
-pub all_at : {X : Type 0} (P : X → Type 0) (xs : List X) (x : X) → All P xs → Contains xs x → P x
-all_at P xs x all there = subst P there.2 (all there.0 x there.1)
-
 pub well_formed_is_buchi : WellFormedIsBuchi
 well_formed_is_buchi b formed formula = record {
   formula = formula;
-  starts = λ s there. all_at (λ q. q < b.states) b.starts s formed.starts there;
-  ends = λ e there. (all_at (IsEdgeOf b) b.edges e formed.edges there).to;
+  starts = λ s there. All-contains (λ q. q < b.states) b.starts s formed.starts there;
+  ends = λ e there. (All-contains (IsEdgeOf b) b.edges e formed.edges there).to;
 }
 
 pub move_there : (b : Automaton) (x : NameSet) (e : TreeEdge) → Contains b.edges e → is_met b.names x e ≡ true → Contains (moves_at b x) (move_of e)

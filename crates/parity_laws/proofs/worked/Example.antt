@@ -1,5 +1,6 @@
 -- The worked example is explored class by class.
 use Rattle.parity_laws.specs.Complement.{dualised}
+use Rattle.std.proofs.lemmas.List.Elements.{All-contains}
 use Rattle.aut_base.specs.Examples.{edge, name_a, off, on}
 use Rattle.aut_base.specs.Acceptance.{Accepts}
 use Rattle.std.proofs.Common.{◌≡◌, ◌∙◌, ◌⊎◌, ◌<◌, ◌≤◌, ℕ, zero, suc, Bool, true, false, cond, not, List, []}
@@ -22,7 +23,6 @@ use Rattle.safra_laws.proofs.invariant.FirstTree.{first_is_tree}
 use Rattle.safra_laws.specs.Example.{letter_a, tree_of_start}
 use Rattle.parity_laws.proofs.classes.Explored.{explored_is_determinised}
 use Rattle.parity_laws.proofs.directions.Both.{accepts_the_same, determinised_dual}
-use Rattle.parity_laws.proofs.letters.Moves.{all_at}
 use Rattle.parity_laws.specs.Buchi.{IsBuchi}
 use Rattle.parity_laws.specs.Classes.{AreClassesOf, MeetsClass}
 use Rattle.parity_laws.specs.Determinised.{tree_at}
@@ -60,9 +60,9 @@ record TellsA (list : List LabelTree) : Type 0 where
 two_classes : (list : List LabelTree) → TellsA list → AreClassesOf list two
 two_classes list tells =
     let differ : (on also : ℕ → Bool) → on 0 ≡ true → also 0 ≡ false → All (λ l. truth on l ≡ truth also l) list → ⊥ = λ on also yes no all.
-    true≢false (sym yes ∙ (all_at (λ l. truth on l ≡ truth also l) list when_a all tells.there ∙ no)) in
+    true≢false (sym yes ∙ (All-contains (λ l. truth on l ≡ truth also l) list when_a all tells.there ∙ no)) in
     let other : (on also : ℕ → Bool) → on 0 ≡ false → also 0 ≡ true → All (λ l. truth on l ≡ truth also l) list → ⊥ = λ on also no yes all.
-    true≢false (sym yes ∙ (sym (all_at (λ l. truth on l ≡ truth also l) list when_a all tells.there) ∙ no)) in
+    true≢false (sym yes ∙ (sym (All-contains (λ l. truth on l ≡ truth also l) list when_a all tells.there) ∙ no)) in
     record {
       every = λ on. elim (cases_Bool (on 0)) [ inl h ↦ (1, ap Some h) | inr h ↦ (0, ap (λ (c : Bool). Some (not c)) h) ];
       alike = λ on also i j one two. elim (which on i one) [
