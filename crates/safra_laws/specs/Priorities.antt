@@ -1,6 +1,6 @@
 -- The priorities of the steps of trees, as parity min odd takes them.
-use Rattle.std.specs.Prelude.{◌≡◌, ℕ, ◌+◌, ◌<◌, min, List, [], ◌∷◌, ◌++◌, length, map}
-use Rattle.safra_trees.specs.Step.{grown, greens, reds}
+use Rattle.std.specs.Prelude.{◌≡◌, ℕ, ◌+◌, ◌<◌, ◌≤◌, min, Option, None, Some, List, [], ◌∷◌, ◌++◌, length, map, slice_get}
+use Rattle.safra_trees.specs.Step.{IsTree, grown, greens, reds}
 use Rattle.safra_trees.specs.Trees.{Node}
 use Rattle.safra_trees.specs.declared.moves.Move.{Move}
 use Rattle.safra_laws.specs.Rounds.{next_tree}
@@ -18,6 +18,18 @@ priority n most ms t = lowest (most + most) (map (λ f. f + f) (reds (grown n ms
 -- A priority is one of 2 * most + 1 sets.
 abbrev pub PrioritiesAreBelow : Type 0
 PrioritiesAreBelow = (n most : ℕ) (ms : List Move) (t : List Node) → priority n most ms t < most + most + 1
+
+-- the priority by the least red and the least green name, where there are such
+abbrev pub priority_by : ℕ → Option ℕ → Option ℕ → ℕ
+priority_by most None None = most + most
+priority_by most (Some f) None = f + f
+priority_by most None (Some g) = g + g + 1
+priority_by most (Some f) (Some g) = min (f + f) (g + g + 1)
+
+-- A step of a tree with at most so many names has the priority by the first of its red and the first of its green names.
+abbrev pub PriorityByFirst : Type 0
+PriorityByFirst = (n most : ℕ) (ms : List Move) (t : List Node) → IsTree t → length t ≤ most
+    → priority n most ms t ≡ priority_by most (slice_get (reds (grown n ms t) (length t)) 0) (slice_get (greens (grown n ms t)) 0)
 
 -- those of the steps along some letters
 abbrev pub priorities : ℕ → ℕ → List Node → List (List Move) → List ℕ

@@ -1,7 +1,7 @@
 //! The language of trees: what green names and priorities say of the automaton, and what its runs say of them.
 
 ghost use Rattle.safra_laws.specs.Language.{AcceptedIsGreen, AcceptedIsOdd, GreenHasCycle, GreenIsAccepted, GreenIsOdd, OddIsAccepted, OddIsGreen};
-ghost use Rattle.safra_laws.specs.Priorities.{PrioritiesAreBelow};
+ghost use Rattle.safra_laws.specs.Priorities.{PrioritiesAreBelow, PriorityByFirst};
 
 /// Where a run and the trees come back together, and the run has an accepting move, some name is green while neither it nor
 /// a lower one is ever red.
@@ -22,6 +22,11 @@ pub fn green_is_accepted()
 /// A priority is one of 2 * most + 1 sets.
 pub fn priorities_are_below()
     ensures { PrioritiesAreBelow }
+{}
+
+/// A step has the priority by the first of its red and the first of its green names.
+pub fn priority_by_first()
+    ensures { PriorityByFirst }
 {}
 
 /// Such a name makes the least priority odd.

@@ -10,7 +10,7 @@ mod trees;
 pub use example::{worked_priorities, worked_round, worked_trees};
 pub use language::{
     accepted_is_green, accepted_is_odd, green_has_cycle, green_is_accepted, green_is_odd,
-    odd_is_accepted, odd_is_green, priorities_are_below,
+    odd_is_accepted, odd_is_green, priorities_are_below, priority_by_first,
 };
 pub use trees::{
     first_is_canonical, first_is_tree, root_is_reached, root_moves_are_enough,
