@@ -1,6 +1,6 @@
 -- What is accepted where a name is hidden that may be present or absent in each letter.
-use Rattle.std.proofs.Common.{◌≡◌, ◌∙◌, ◌*◌, ◌<◌, ◌≤◌, ℕ, true, List, [], ◌∷◌, ◌++◌, Contains, Some, ap, arith, inl, inr, length, map, refl, subst, sym}
-use Rattle.std.proofs.lemmas.Bool.{cases_Bool}
+use Rattle.std.proofs.Common.{◌≡◌, ◌∙◌, ◌*◌, ◌<◌, ◌≤◌, ℕ, true, List, [], ◌∷◌, ◌++◌, ◌||◌, Bool, Contains, Some, ap, arith, inl, inr, length, map, refl, subst, sym}
+use Rattle.std.proofs.lemmas.Bool.{cases_Bool, or_cases, or_left, or_right}
 use Rattle.std.proofs.lemmas.List.{append-nil, length-map}
 use Rattle.std.specs.FinSet as set
 use Rattle.aut_base.proofs.Copies.{length-copies}
@@ -13,21 +13,27 @@ use Rattle.aut_base.specs.Label.{LabelTree, holds_at, truth}
 use Rattle.aut_base.specs.Word.{NameSet, SpellsSame, copies}
 use Rattle.ap_project.proofs.Letters.{absent_itself, but_including, but_without, including_again, present_itself, without_same, without_twice}
 use Rattle.ap_project.proofs.Related.{Related, accepts_carried, as_many, map_related, related_letters, related_map, some_letter, unrolled}
-use Rattle.ap_project.specs.Hiding.{Any, Forth, HiddenAny, IsHidden, Meets, SameBut, SomeAccepted, SpellsSameBut, including, without}
+use Rattle.ap_project.specs.Hiding.{AgreeOff, SameBut, SomeSays, hidden_truth, including, without}
+use Rattle.ap_project.specs.Laws.{Forth, HiddenAny, IsHidden}
+use Rattle.ap_project.specs.declared.hide.Hide.TheVariants.{Any}
 
 -- a letter that the name was taken from says all of the label that is left
-meets_without : (name : List ℕ) (names : List (List ℕ)) (l : LabelTree) (x : NameSet) → truth (holds_at names x) l ≡ true → Meets Any name names l (without name x)
-meets_without name names l x holds = elim (cases_Bool (set.contains x name)) [
-  | inl present ↦ inr (subst (λ z. truth (holds_at names z) l ≡ true) (sym (including_again name x ∙ present_itself name x present)) holds)
-  | inr absent ↦ inl (subst (λ z. truth (holds_at names z) l ≡ true) (sym (without_twice name x ∙ absent_itself name x absent)) holds)
-]
+holds_without : (name : List ℕ) (names : List (List ℕ)) (l : LabelTree) (x : NameSet) → truth (holds_at names x) l ≡ true → hidden_truth Any name names l (without name x) ≡ true
+holds_without name names l x holds =
+    let at : NameSet → Bool = λ z. truth (holds_at names z) l in
+    elim (cases_Bool (set.contains x name)) [
+      | inl present ↦ or_right _ _ (ap at (including_again name x ∙ present_itself name x present) ∙ holds)
+      | inr absent ↦ or_left _ _ (ap at (without_twice name x ∙ absent_itself name x absent) ∙ holds)
+    ]
 
-meets_itself : (name : List ℕ) (names : List (List ℕ)) (l : LabelTree) (x : NameSet) → Meets Any name names l (without name x) → Meets Any name names l x
-meets_itself name names l x (inl holds) = inl (subst (λ z. truth (holds_at names z) l ≡ true) (without_twice name x) holds)
-meets_itself name names l x (inr holds) = inr (subst (λ z. truth (holds_at names z) l ≡ true) (including_again name x) holds)
+-- and says the same of it
+holds_itself : (name : List ℕ) (names : List (List ℕ)) (l : LabelTree) (x : NameSet) → hidden_truth Any name names l (without name x) ≡ hidden_truth Any name names l x
+holds_itself name names l x =
+    let at : NameSet → Bool = λ z. truth (holds_at names z) l in
+    (λ i. at (without_twice name x i) || at (including_again name x i))
 
 -- words that are the same but for the name, with the name taken away
-spells_without : (name : List ℕ) (u v x y : List NameSet) → 0 < length v → 0 < length y → SpellsSameBut name u v x y → SpellsSame (map (without name) x) (map (without name) y) (map (without name) u) (map (without name) v)
+spells_without : (name : List ℕ) (u v x y : List NameSet) → 0 < length v → 0 < length y → AgreeOff name u v x y → SpellsSame (map (without name) x) (map (without name) y) (map (without name) u) (map (without name) v)
 spells_without name u v x y some_v some_y same n =
     let f = without name in
     let old = some_letter u v n some_v in
@@ -44,7 +50,7 @@ module _ (name : List ℕ) (a h : Automaton) (is : IsHidden Any name a h) where
   forget : (x y : List NameSet) → Accepts a x y → Accepts h (map (without name) x) (map (without name) y)
   forget x y r =
       let R : NameSet → NameSet → Type 0 = λ s t. without name s ≡ t in
-      accepts_carried R a h (λ e s t same there holds. is.forth e t there (subst (Meets Any name a.names e.label) same (meets_without name a.names e.label s holds))) (λ s. subst (λ ss. Contains ss s) (sym is.starts)) (sym is.formula) x y _ _ (related_map R (without name) (λ s. refl) x) (related_map R (without name) (λ s. refl) y) r
+      accepts_carried R a h (λ e s t same there holds. is.forth e t there (subst (λ z. hidden_truth Any name a.names e.label z ≡ true) same (holds_without name a.names e.label s holds))) (λ s. subst (λ ss. Contains ss s) (sym is.starts)) (sym is.formula) x y _ _ (related_map R (without name) (λ s. refl) x) (related_map R (without name) (λ s. refl) y) r
 
   recall : (u v : List NameSet) → Accepts h (map (without name) u) (map (without name) v) → Accepts h u v
   recall u v r =
@@ -54,7 +60,7 @@ module _ (name : List ℕ) (a h : Automaton) (is : IsHidden Any name a h) where
       step : (f : TreeEdge) (s t : NameSet) → s ≡ without name t → Contains h.edges f → truth (holds_at h.names s) f.label ≡ true → Forth h f t
       step f s t same there holds =
           let old = is.back f s there holds in
-          let new = is.forth old.edge t old.there (meets_itself name a.names old.edge.label t (subst (Meets Any name a.names old.edge.label) same old.meets)) in
+          let new = is.forth old.edge t old.there (sym (holds_itself name a.names old.edge.label t) ∙ subst (λ z. hidden_truth Any name a.names old.edge.label z ≡ true) same old.holds) in
           record { edge = new.edge; there = new.there; twin = record { from = new.twin.from ∙ old.twin.from; to = new.twin.to ∙ old.twin.to; marks = new.twin.marks ∙ old.twin.marks }; holds = new.holds }
 
   -- a path of a over letters that are the same but for the name
@@ -70,9 +76,11 @@ module _ (name : List ℕ) (a h : Automaton) (is : IsHidden Any name a h) where
     same : SameBut name x letter
     holds : truth (holds_at a.names letter) l ≡ true
 
-  letter_of : (x : NameSet) (l : LabelTree) → Meets Any name a.names l x → Letter x l
-  letter_of x l (inl holds) = record { letter = without name x; same = but_without name x; holds = holds }
-  letter_of x l (inr holds) = record { letter = including name x; same = but_including name x; holds = holds }
+  letter_of : (x : NameSet) (l : LabelTree) → hidden_truth Any name a.names l x ≡ true → Letter x l
+  letter_of x l holds = elim (or_cases (truth (holds_at a.names (without name x)) l) (truth (holds_at a.names (including name x)) l) holds) [
+    | inl absent ↦ record { letter = without name x; same = but_without name x; holds = absent }
+    | inr present ↦ record { letter = including name x; same = but_including name x; holds = present }
+  ]
 
   chosen : (p q : ℕ) (xs : List NameSet) (es : List TreeEdge) → IsPath h p xs es q → Chosen p xs es q
   chosen p q [] [] path = record { letters = []; way = []; same = tt; leads = path; marks = refl }
@@ -80,7 +88,7 @@ module _ (name : List ℕ) (a h : Automaton) (is : IsHidden Any name a h) where
   chosen p q (x ∷ xs) [] path = absurd path
   chosen p q (x ∷ xs) (e ∷ es) path =
       let old = is.back e x path.1 path.2 in
-      let one = letter_of x old.edge.label old.meets in
+      let one = letter_of x old.edge.label old.holds in
       let rest = chosen e.to q xs es path.3 in
       record {
         letters = one.letter ∷ rest.letters;
@@ -90,7 +98,7 @@ module _ (name : List ℕ) (a h : Automaton) (is : IsHidden Any name a h) where
         marks = cc (old.twin.marks, rest.marks);
       }
 
-  choose : (u v : List NameSet) → Accepts h u v → SomeAccepted name a u v
+  choose : (u v : List NameSet) → Accepts h u v → SomeSays name (λ x y. Accepts a x y) u v
   choose u v r =
       let stem = u ++ copies r.turns v in
       let round = copies r.rounds v in
@@ -100,9 +108,10 @@ module _ (name : List ℕ) (a h : Automaton) (is : IsHidden Any name a h) where
       let some : 0 < length round = omega (arith, r.positive, wide, length-copies r.rounds v) in
       record {
         stem = way.letters;
-        round = cycle.letters;
+        cycle = cycle.letters;
+        some = omega (arith, some, as_many (SameBut name) round cycle.letters cycle.same);
         same = λ n s t first second. related_letters (SameBut name) stem round way.letters cycle.letters way.same cycle.same some n s t (sym (unrolled r.turns r.rounds u v r.endless some n) ∙ first) second;
-        accepted = record {
+        said = record {
           endless = omega (arith, some, as_many (SameBut name) round cycle.letters cycle.same);
           start = r.start;
           state = r.state;
@@ -118,12 +127,12 @@ module _ (name : List ℕ) (a h : Automaton) (is : IsHidden Any name a h) where
         };
       }
 
-  back_to : (u v : List NameSet) → 0 < length v → SomeAccepted name a u v → Accepts h u v
+  back_to : (u v : List NameSet) → 0 < length v → SomeSays name (λ x y. Accepts a x y) u v → Accepts h u v
   back_to u v some s =
       let f = without name in
       let some_f : 0 < length (map f v) = omega (arith, some, length-map v f) in
-      let other_f : 0 < length (map f s.round) = omega (arith, s.accepted.endless, length-map s.round f) in
-      recall u v ((same_word_same_verdict h (map f s.stem) (map f s.round) (map f u) (map f v) other_f some_f (spells_without name u v s.stem s.round some s.accepted.endless s.same)).0 (forget s.stem s.round s.accepted))
+      let other_f : 0 < length (map f s.cycle) = omega (arith, s.some, length-map s.cycle f) in
+      recall u v ((same_word_same_verdict h (map f s.stem) (map f s.cycle) (map f u) (map f v) other_f some_f (spells_without name u v s.stem s.cycle some s.some s.same)).0 (forget s.stem s.cycle s.said))
 
 pub hidden_any : HiddenAny
 hidden_any name a h is u v some = (choose name a h is u v, back_to name a h is u v some)

@@ -1,5 +1,5 @@
--- Letters that are the same but for one name.
-use Rattle.std.proofs.Common.{◌≡◌, ◌≢◌, ◌∙◌, ◌&&◌, ◌||◌, ℕ, Bool, true, false, List, ap, not, refl, sym}
+-- Letters with a name taken out or put in, and letters that are the same but for one name.
+use Rattle.std.proofs.Common.{◌≡◌, ◌≢◌, ◌∙◌, ◌&&◌, ◌||◌, Bool, true, false, List, ap, not, refl, sym, ℕ}
 use Rattle.std.proofs.lemmas.Bool.{false_from_ne_true, true≢false}
 use Rattle.std.proofs.lemmas.Cmp.{eq_by_cmp_equiv, nat_list_cmp_total}
 use Rattle.std.proofs.lemmas.Map.Lookups.{exact_bytes}
@@ -38,22 +38,26 @@ but_without name x q apart = sym (has_without name x q ∙ ap (λ b. not b && se
 pub but_including : (name : List ℕ) (x : NameSet) → SameBut name x (including name x)
 but_including name x q apart = sym (has_including name x q ∙ ap (λ b. b || set.contains x q) (is_other q name apart))
 
-pub without_same : (name : List ℕ) (x y : NameSet) → SameBut name x y → without name x ≡ without name y
-without_same name x y but = same_from (without name x) (without name y) (λ q. has_without name x q ∙ (by (same q name) (set.contains x q) (set.contains y q) (λ differ. but q (apart_from q name differ)) ∙ sym (has_without name y q)))
+-- what a letter says of one name, with another or that one taken out of it or put into it
+pub without_alike : (name : List ℕ) (x y : NameSet) (q : List ℕ) → (q ≢ name → set.contains x q ≡ set.contains y q) → set.contains (without name x) q ≡ set.contains (without name y) q
+without_alike name x y q but = has_without name x q ∙ (by (same q name) (set.contains x q) (set.contains y q) (λ differ. but (apart_from q name differ)) ∙ sym (has_without name y q))
   where
     by : (b c d : Bool) → (b ≡ false → c ≡ d) → (not b && c) ≡ (not b && d)
     by true c d e = refl
     by false c d e = e refl
 
-pub including_same : (name : List ℕ) (x y : NameSet) → SameBut name x y → including name x ≡ including name y
-including_same name x y but = same_from (including name x) (including name y) (λ q. has_including name x q ∙ (by (same q name) (set.contains x q) (set.contains y q) (λ differ. but q (apart_from q name differ)) ∙ sym (has_including name y q)))
+pub including_alike : (name : List ℕ) (x y : NameSet) (q : List ℕ) → (q ≢ name → set.contains x q ≡ set.contains y q) → set.contains (including name x) q ≡ set.contains (including name y) q
+including_alike name x y q but = has_including name x q ∙ (by (same q name) (set.contains x q) (set.contains y q) (λ differ. but (apart_from q name differ)) ∙ sym (has_including name y q))
   where
     by : (b c d : Bool) → (b ≡ false → c ≡ d) → (b || c) ≡ (b || d)
     by true c d e = refl
     by false c d e = e refl
 
-but_turned : (name : List ℕ) (x y : NameSet) → SameBut name x y → SameBut name y x
-but_turned name x y but q apart = sym (but q apart)
+pub without_same : (name : List ℕ) (x y : NameSet) → SameBut name x y → without name x ≡ without name y
+without_same name x y but = same_from (without name x) (without name y) (λ q. without_alike name x y q (but q))
+
+pub including_same : (name : List ℕ) (x y : NameSet) → SameBut name x y → including name x ≡ including name y
+including_same name x y but = same_from (including name x) (including name y) (λ q. including_alike name x y q (but q))
 
 pub without_twice : (name : List ℕ) (x : NameSet) → without name (without name x) ≡ without name x
 without_twice name x = sym (without_same name x (without name x) (but_without name x))

@@ -55,7 +55,7 @@ pub(crate) fn hidden_guard(
 fn hide(alloc: Global, store: &mut Guards, g: Guard, prop: u32, how: Hide) -> Result<Guard, Memory>
     requires has { Has store.old g }
     requires within { prop < store.old.names }
-    ensures keeps { OnOk result (Keeps store.old store.new) }
+    ensures keeps { Keeps store.old store.new }
     ensures hidden { IfOk result (IsGuardOf store.new (hidden_in store.old how prop g)) }
 {
     match how {
@@ -69,7 +69,7 @@ fn hide(alloc: Global, store: &mut Guards, g: Guard, prop: u32, how: Hide) -> Re
 fn either(alloc: Global, store: &mut Guards, g: Guard, prop: u32) -> Result<Guard, Memory>
     requires has { Has store.old g }
     requires within { prop < store.old.names }
-    ensures keeps { OnOk result (Keeps store.old store.new) }
+    ensures keeps { Keeps store.old store.new }
     ensures either { IfOk result (IsGuardOf store.new (hidden_in store.old Hide.Any prop g)) }
 {
     let absent = store.fix(alloc, g, prop, false)?;
@@ -90,7 +90,7 @@ fn moved(
     requires count { length to.now ≡ old.now.names }
     requires within { AreWithin new.old.names to.now }
     requires constant { new.old.names ≡ 0 → IsConstant old.now g }
-    ensures keeps { OnOk result (Keeps new.old new.new) }
+    ensures keeps { Keeps new.old new.new }
     ensures moved { IfOk result (IsGuardOf new.new (λ on. truth_in old.now g (λ k. on (slice_index_or to.now k 0)))) }
 {
     if new.names() == 0 {

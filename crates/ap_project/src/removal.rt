@@ -25,6 +25,7 @@ pub fn remove_ap(alloc: Global, a: &Automaton, name: &Text, how: Hide) -> Result
     ensures states { IfOk result (λ made. made.states ≡ a.now.states) }
     ensures sets { IfOk result (λ made. made.sets ≡ a.now.sets) }
 {
+    a.whole();
     without_name(alloc, a, name, how)
 }
 
@@ -76,7 +77,7 @@ fn other_names(alloc: Global, names: &Names, name: &Text) -> Result<Names, Memor
 {
     let mut others = Names::new(alloc);
     'names: for other in names.as_slice() {
-        if other == name {
+        if name == other {
             continue;
         }
         others.push(other.copy(alloc)?)?;
