@@ -21,32 +21,32 @@ pub(crate) struct Hiding {
     pub(crate) to: Numbers,
 }
 
-/// The guard of the new store that is this one of the old store's copy with the proposition hidden. Each guard is worked out
+/// The guard of the store over the other propositions that is this one with the proposition hidden. Each guard is worked out
 /// once.
 pub(crate) fn hidden_guard(
     alloc: Global,
     hiding: &Hiding,
-    old: &mut Guards,
-    new: &mut Guards,
+    given: &mut Guards,
+    made: &mut Guards,
     done: &mut Done,
     g: Guard,
 ) -> Result<Guard, Memory>
-    requires has { Has old.old g }
-    requires prop { hiding.now.prop < old.old.names }
-    requires count { length hiding.now.to ≡ old.old.names }
-    requires within { AreWithin new.old.names hiding.now.to }
-    requires alone { new.old.names ≡ 0 → old.old.names ≡ 1 }
-    requires done { AreHidden old.old new.old hiding.now.how hiding.now.prop hiding.now.to done.old.entries }
-    ensures old { OnOk result (Keeps old.old old.new) }
-    ensures new { OnOk result (Keeps new.old new.new) }
-    ensures done { OnOk result (AreHidden old.new new.new hiding.now.how hiding.now.prop hiding.now.to done.new.entries) }
-    ensures hidden { IfOk result (λ h. IsHiddenGuard old.old new.new hiding.now.how hiding.now.prop hiding.now.to g h) }
+    requires has { Has given.old g }
+    requires prop { hiding.now.prop < given.old.names }
+    requires count { length hiding.now.to ≡ given.old.names }
+    requires within { AreWithin made.old.names hiding.now.to }
+    requires alone { made.old.names ≡ 0 → given.old.names ≡ 1 }
+    requires done { AreHidden given.old made.old hiding.now.how hiding.now.prop hiding.now.to done.old.entries }
+    ensures given { OnOk result (Keeps given.old given.new) }
+    ensures made { OnOk result (Keeps made.old made.new) }
+    ensures done { OnOk result (AreHidden given.new made.new hiding.now.how hiding.now.prop hiding.now.to done.new.entries) }
+    ensures hidden { IfOk result (λ h. IsHiddenGuard given.old made.new hiding.now.how hiding.now.prop hiding.now.to g h) }
 {
     if let Some(found) = done_at(done, g) {
         return Ok(found);
     }
-    let hidden = hide(alloc, old, g, hiding.prop, hiding.how)?;
-    let found = moved(alloc, new, old, hidden, &hiding.to)?;
+    let hidden = hide(alloc, given, g, hiding.prop, hiding.how)?;
+    let found = moved(alloc, made, given, hidden, &hiding.to)?;
     put_done(done, g, found)?;
     Ok(found)
 }
@@ -77,36 +77,36 @@ fn either(alloc: Global, store: &mut Guards, g: Guard, prop: u32) -> Result<Guar
     store.or(absent, present)
 }
 
-/// The guard of the new store that is this one, where the propositions have other places. Where no proposition is left, the
-/// guard has to be the same everywhere.
+/// The same guard in the store over the other propositions, each of which has its place there. Where none is left, the guard
+/// has to be the same everywhere.
 fn moved(
     alloc: Global,
-    new: &mut Guards,
-    old: &Guards,
+    made: &mut Guards,
+    given: &Guards,
     g: Guard,
     to: &Numbers,
 ) -> Result<Guard, Memory>
-    requires has { Has old.now g }
-    requires count { length to.now ≡ old.now.names }
-    requires within { AreWithin new.old.names to.now }
-    requires constant { new.old.names ≡ 0 → IsConstant old.now g }
-    ensures keeps { Keeps new.old new.new }
-    ensures moved { IfOk result (IsGuardOf new.new (λ on. truth_in old.now g (λ k. on (slice_index_or to.now k 0)))) }
+    requires has { Has given.now g }
+    requires count { length to.now ≡ given.now.names }
+    requires within { AreWithin made.old.names to.now }
+    requires constant { made.old.names ≡ 0 → IsConstant given.now g }
+    ensures keeps { Keeps made.old made.new }
+    ensures moved { IfOk result (IsGuardOf made.new (λ on. truth_in given.now g (λ k. on (slice_index_or to.now k 0)))) }
 {
-    if new.names() == 0 {
-        return Ok(constant(new, old, g));
+    if made.names() == 0 {
+        return Ok(constant(made, given, g));
     }
-    new.bring(alloc, old, g, to)
+    made.bring(alloc, given, g, to)
 }
 
-/// The guard of the new store that is true everywhere if this one is, and nowhere if this one is true nowhere.
-fn constant(new: &Guards, old: &Guards, g: Guard) -> Guard
-    requires has { Has old.now g }
-    requires constant { IsConstant old.now g }
-    ensures { IsGuardOf new.now (truth_in old.now g) result }
+/// The guard that is true everywhere if this one is, and else nowhere.
+fn constant(made: &Guards, given: &Guards, g: Guard) -> Guard
+    requires has { Has given.now g }
+    requires constant { IsConstant given.now g }
+    ensures { IsGuardOf made.now (truth_in given.now g) result }
 {
-    if old.is_false(g) {
-        return new.never();
+    if given.is_false(g) {
+        return made.never();
     }
-    new.always()
+    made.always()
 }

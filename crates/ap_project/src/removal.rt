@@ -121,13 +121,14 @@ fn hidden_links(
     ensures edges { IfOk result (λ links. map (edge_of guards.new) links ≡ map (hidden_link hiding.now.how hiding.now.prop a.now) a.now.links) }
 {
     a.whole();
-    let mut old = a.guards().copy(alloc)?;
+    let mut given = a.guards().copy(alloc)?;
     let mut done = Done::new(alloc);
     let mut links = Links::from_vec(Vec::with_capacity(alloc, a.links().len())?);
     'links: for link in a.links() {
+        let guard = hidden_guard(alloc, hiding, &mut given, guards, &mut done, link.guard)?;
         links.push(Link {
             from: link.from,
-            guard: hidden_guard(alloc, hiding, &mut old, guards, &mut done, link.guard)?,
+            guard,
             to: link.to,
             marks: copy_marks(&link.marks)?,
         })?;

@@ -13,7 +13,7 @@ pub hidden_guard-requires-clause-alone : goal.hidden_guard-requires-clause-alone
 hidden_guard-requires-clause-alone c none =
     let a = c.args.a.now in
     let one = only_name a.names c.whole.ensures.well_formed.names_differ c.args.hiding.now.prop c.requires.prop (sym (c.links.invariant.names ∙ c.requires.names) ∙ none) in
-    c.links.invariant.old.names ∙ (c.whole.ensures.parts.store_names ∙ one)
+    c.links.invariant.given.names ∙ (c.whole.ensures.parts.store_names ∙ one)
 
 pub links-preserved : goal.links-preserved
 links-preserved c =
@@ -23,17 +23,17 @@ links-preserved c =
     let items = c.links-link-items.ensures in
     let within : c.links.link-index < length a.links = omega (arith, ap length items, c.links-test.true) in
     let at = c.link-item.is ∙ ap (λ ls. get_or ls c.links.link-index link) items in
-    let old = c.in_ok-hidden_guard.ensures.old in
-    let new = c.in_ok-hidden_guard.ensures.new in
-    let found = c.in_ok-hidden_guard.field-0 in
-    let names = new.names ∙ c.links.invariant.names in
+    let given = c.in_ok-guard.ensures.given in
+    let made = c.in_ok-guard.ensures.made in
+    let found = c.in_ok-guard.guard in
+    let names = made.names ∙ c.links.invariant.names in
     let has : Has a.store link.guard = read_has (λ l. Has a.store l.guard) a.links c.links.link-index link (λ k d less. (c.whole.ensures.parts.links k d less).guard) within at in
-    let is = hidden_before c.hidden_guard.new.new c.links.invariant.old hiding.how hiding.prop hiding.to link.guard found has c.in_ok-hidden_guard.ensures.hidden in
-    let label = hidden_label_in a.store c.hidden_guard.new.new a.names hiding.how hiding.prop hiding.to link.guard found c.requires.prop c.whole.ensures.well_formed.names_differ c.whole.ensures.parts.store_names (names ∙ c.requires.names) c.requires.places is in
+    let is = hidden_before c.hidden_guard.new.made c.links.invariant.given hiding.how hiding.prop hiding.to link.guard found has c.in_ok-guard.ensures.hidden in
+    let label = hidden_label_in a.store c.hidden_guard.new.made a.names hiding.how hiding.prop hiding.to link.guard found c.requires.prop c.whole.ensures.well_formed.names_differ c.whole.ensures.parts.store_names (names ∙ c.requires.names) c.requires.places is in
     let marks = c.in_ok-copy_marks.ensures in
     record {
-      old = keeps_on c.links.invariant.old old;
+      given = keeps_on c.links.invariant.given given;
       names = names;
-      done = c.in_ok-hidden_guard.ensures.done;
-      links = stand_more (hidden_link hiding.how hiding.prop a) a.links c.links.link-index link c.links.guards c.hidden_guard.new.new c.links.links c.push.new.self (record { from = link.from; guard = found; to = link.to; marks = c.in_ok-copy_marks.field-0 }) within at c.links.invariant.links new is.has (λ i. record { from = link.from; label = label i; to = link.to; marks = marks i }) c.in_ok-push.ensures.ok;
+      done = c.in_ok-guard.ensures.done;
+      links = stand_more (hidden_link hiding.how hiding.prop a) a.links c.links.link-index link c.links.guards c.hidden_guard.new.made c.links.links c.push.new.self (record { from = link.from; guard = found; to = link.to; marks = c.in_ok-copy_marks.field-0 }) within at c.links.invariant.links made is.has (λ i. record { from = link.from; label = label i; to = link.to; marks = marks i }) c.in_ok-push.ensures.ok;
     }

@@ -6,8 +6,8 @@ use Rattle.ap_project.proofs.removal.hidden_links.Given as goal
 
 abbrev pub invariant-links : goal.invariant-links
 invariant-links l = record {
-  old : Keeps l.a.store l.old;
+  given : Keeps l.a.store l.given;
   names : l.guards.names ≡ l.fn.guards.names;
-  done : AreHidden l.old l.guards l.hiding.how l.hiding.prop l.hiding.to l.done.entries;
+  done : AreHidden l.given l.guards l.hiding.how l.hiding.prop l.hiding.to l.done.entries;
   links : StandFor l.guards l.links (map (hidden_link l.hiding.how l.hiding.prop l.a) (take l.link-index l.a.links));
 }
