@@ -1,0 +1,12 @@
+pub mod AnyHidden
+pub mod ConstantGuards
+pub mod FixedName
+pub mod GuardLabels
+pub mod HiddenAutomata
+pub mod HiddenLabels
+pub mod Languages
+pub mod Letters
+pub mod OtherNames
+pub mod PlacedNames
+pub mod Related
+pub mod Relabelled

@@ -1,0 +1,112 @@
+//! Guards with a proposition hidden, over the other propositions.
+
+ghost use Rattle.std.specs.Prelude.{◌≡◌, ◌<◌, ℕ, IfOk, OnOk, length};
+ghost use Rattle.std.specs.List.{slice_index_or};
+ghost use Rattle.ap_project.specs.inner.HiddenGuards.{AreHidden, AreWithin, IsConstant, IsHiddenGuard, hidden_in};
+ghost use Rattle.label_guards.specs.Guards.{IsGuardOf, truth_in};
+ghost use Rattle.label_guards.specs.Store.{Has, Keeps};
+
+use crate::hide::Hide;
+use crate::table::{Done, done_at, put_done};
+use aut_base::{Memory, Numbers};
+use label_guards::{Guard, Guards};
+use std::alloc::Global;
+
+/// A proposition to hide.
+#[derive(Drop)]
+pub(crate) struct Hiding {
+    pub(crate) prop: u32,
+    pub(crate) how: Hide,
+    /// The place of each proposition among those that are left, and any place for the hidden one.
+    pub(crate) to: Numbers,
+}
+
+/// The guard of the store over the other propositions that is this one with the proposition hidden. Each guard is worked out
+/// once.
+pub(crate) fn hidden_guard(
+    alloc: Global,
+    hiding: &Hiding,
+    given: &mut Guards,
+    made: &mut Guards,
+    done: &mut Done,
+    g: Guard,
+) -> Result<Guard, Memory>
+    requires has { Has given.old g }
+    requires prop { hiding.now.prop < given.old.names }
+    requires count { length hiding.now.to ≡ given.old.names }
+    requires within { AreWithin made.old.names hiding.now.to }
+    requires alone { made.old.names ≡ 0 → given.old.names ≡ 1 }
+    requires done { AreHidden given.old made.old hiding.now.how hiding.now.prop hiding.now.to done.old.entries }
+    ensures given { OnOk result (Keeps given.old given.new) }
+    ensures made { OnOk result (Keeps made.old made.new) }
+    ensures done { OnOk result (AreHidden given.new made.new hiding.now.how hiding.now.prop hiding.now.to done.new.entries) }
+    ensures hidden { IfOk result (λ h. IsHiddenGuard given.old made.new hiding.now.how hiding.now.prop hiding.now.to g h) }
+{
+    if let Some(found) = done_at(done, g) {
+        return Ok(found);
+    }
+    let hidden = hide(alloc, given, g, hiding.prop, hiding.how)?;
+    let found = moved(alloc, made, given, hidden, &hiding.to)?;
+    put_done(done, g, found)?;
+    Ok(found)
+}
+
+/// The guard of the same store with the proposition hidden.
+fn hide(alloc: Global, store: &mut Guards, g: Guard, prop: u32, how: Hide) -> Result<Guard, Memory>
+    requires has { Has store.old g }
+    requires within { prop < store.old.names }
+    ensures keeps { Keeps store.old store.new }
+    ensures hidden { IfOk result (IsGuardOf store.new (hidden_in store.old how prop g)) }
+{
+    match how {
+        Hide::Any => either(alloc, store, g, prop),
+        Hide::Absent => store.fix(alloc, g, prop, false),
+        Hide::Present => store.fix(alloc, g, prop, true),
+    }
+}
+
+/// The guard of the same store that is true where this one is with the proposition set either way.
+fn either(alloc: Global, store: &mut Guards, g: Guard, prop: u32) -> Result<Guard, Memory>
+    requires has { Has store.old g }
+    requires within { prop < store.old.names }
+    ensures keeps { Keeps store.old store.new }
+    ensures either { IfOk result (IsGuardOf store.new (hidden_in store.old Hide.Any prop g)) }
+{
+    let absent = store.fix(alloc, g, prop, false)?;
+    let present = store.fix(alloc, g, prop, true)?;
+    store.or(absent, present)
+}
+
+/// The same guard in the store over the other propositions, each of which has its place there. Where none is left, the guard
+/// has to be the same everywhere.
+fn moved(
+    alloc: Global,
+    made: &mut Guards,
+    given: &Guards,
+    g: Guard,
+    to: &Numbers,
+) -> Result<Guard, Memory>
+    requires has { Has given.now g }
+    requires count { length to.now ≡ given.now.names }
+    requires within { AreWithin made.old.names to.now }
+    requires constant { made.old.names ≡ 0 → IsConstant given.now g }
+    ensures keeps { Keeps made.old made.new }
+    ensures moved { IfOk result (IsGuardOf made.new (λ on. truth_in given.now g (λ k. on (slice_index_or to.now k 0)))) }
+{
+    if made.names() == 0 {
+        return Ok(constant(made, given, g));
+    }
+    made.bring(alloc, given, g, to)
+}
+
+/// The guard that is true everywhere if this one is, and else nowhere.
+fn constant(made: &Guards, given: &Guards, g: Guard) -> Guard
+    requires has { Has given.now g }
+    requires constant { IsConstant given.now g }
+    ensures { IsGuardOf made.now (truth_in given.now g) result }
+{
+    if given.is_false(g) {
+        return made.never();
+    }
+    made.always()
+}

@@ -1,0 +1,137 @@
+//! An automaton with a name hidden.
+
+ghost use Rattle.std.specs.Prelude.{◌≡◌, ◌<◌, ◌≤◌, All, Contains, IfOk, OnOk, length, map, slice_get, Some};
+ghost use Rattle.ap_project.specs.Hiding.{AcceptsHidden, hidden, names_without};
+ghost use Rattle.ap_project.specs.inner.HiddenGuards.{ArePlaces, hidden_link, name_at};
+ghost use Rattle.aut_base.specs.declared.limit.TheConstants.{MOST_NAMES};
+ghost use Rattle.aut_core.specs.Core.{automaton_of, edge_of};
+ghost use Rattle.label_guards.specs.Store.{Has};
+
+use crate::guards::{Hiding, hidden_guard};
+use crate::hide::Hide;
+use crate::table::Done;
+use aut_base::{Memory, Names, Numbers, Text};
+use aut_core::{Automaton, Link, Links, copy_marks, copy_numbers};
+use label_guards::Guards;
+use std::alloc::Global;
+
+/// The automaton with a name hidden: `Any` for a name that may be absent or present at each letter, and else as it is taken to
+/// be at all of them. It is over the other names, and has the same states, starts, sets, condition and edges in order, with the
+/// labels that are left of theirs; an edge whose label becomes `f` stays. A copy, if the automaton doesn't have the name.
+pub fn remove_ap(alloc: Global, a: &Automaton, name: &Text, how: Hide) -> Result<Automaton, Memory>
+    ensures shape { IfOk result (λ made. automaton_of made ≡ hidden how name.now (automaton_of a.now)) }
+    ensures accepts { IfOk result (λ made. AcceptsHidden how name.now (automaton_of a.now) (automaton_of made)) }
+    ensures names { IfOk result (λ made. made.names ≡ names_without name.now a.now.names) }
+    ensures states { IfOk result (λ made. made.states ≡ a.now.states) }
+    ensures sets { IfOk result (λ made. made.sets ≡ a.now.sets) }
+{
+    a.whole();
+    without_name(alloc, a, name, how)
+}
+
+/// The same, of its shape alone.
+fn without_name(alloc: Global, a: &Automaton, name: &Text, how: Hide) -> Result<Automaton, Memory>
+    ensures { IfOk result (λ made. automaton_of made ≡ hidden how name.now (automaton_of a.now)) }
+{
+    a.whole();
+    match a.names().position(name) {
+        Some(prop) => without_prop(alloc, a, name, prop, how),
+        None => a.copy(alloc),
+    }
+}
+
+/// The automaton with a name hidden that it has at this place.
+fn without_prop(
+    alloc: Global,
+    a: &Automaton,
+    name: &Text,
+    prop: u32,
+    how: Hide,
+) -> Result<Automaton, Memory>
+    requires { slice_get a.now.names prop ≡ Some name.now }
+    ensures { IfOk result (λ made. automaton_of made ≡ hidden how name.now (automaton_of a.now)) }
+{
+    a.whole();
+    let names = other_names(alloc, a.names(), name)?;
+    let to = places_among(alloc, a.names(), &names)?;
+    let hiding = Hiding { prop, how, to };
+    let mut guards = Guards::new(alloc, names.len() as u32)?;
+    let links = hidden_links(alloc, a, &hiding, &mut guards)?;
+    let starts = copy_numbers(a.starts())?;
+    let formula = a.formula().copy(alloc)?;
+    Automaton::from_parts(
+        alloc,
+        names,
+        guards,
+        a.states(),
+        starts,
+        links,
+        a.sets(),
+        formula,
+    )
+}
+
+/// The names but for this one, in order.
+fn other_names(alloc: Global, names: &Names, name: &Text) -> Result<Names, Memory>
+    ensures { IfOk result (λ others. others ≡ names_without name.now names.now) }
+{
+    let mut others = Names::new(alloc);
+    'names: for other in names.as_slice() {
+        if name == other {
+            continue;
+        }
+        others.push(other.copy(alloc)?)?;
+    }
+    Ok(others)
+}
+
+/// The place of each name among the others, and 0 for one that isn't there.
+fn places_among(alloc: Global, names: &Names, others: &Names) -> Result<Numbers, Memory>
+    requires { length others.now ≤ MOST_NAMES }
+    ensures { IfOk result (ArePlaces names.now others.now) }
+{
+    let mut to = Numbers::new(alloc);
+    'names: for name in names.as_slice() {
+        to.push(place_among(others, name))?;
+    }
+    Ok(to)
+}
+
+/// The place of a name, or 0 if it isn't there.
+fn place_among(others: &Names, name: &Text) -> u32
+    requires { length others.now ≤ MOST_NAMES }
+    ensures within { 0 < length others.now → result < length others.now }
+    ensures place { Contains others.now name.now → slice_get others.now result ≡ Some name.now }
+{
+    others.position(name).unwrap_or(0)
+}
+
+/// The links with guards of another store, over the names without the hidden one.
+fn hidden_links(
+    alloc: Global,
+    a: &Automaton,
+    hiding: &Hiding,
+    guards: &mut Guards,
+) -> Result<Links, Memory>
+    requires prop { hiding.now.prop < length a.now.names }
+    requires names { guards.old.names ≡ length (names_without (name_at a.now.names hiding.now.prop) a.now.names) }
+    requires places { ArePlaces a.now.names (names_without (name_at a.now.names hiding.now.prop) a.now.names) hiding.now.to }
+    ensures names { OnOk result (guards.new.names ≡ guards.old.names) }
+    ensures has { IfOk result (All (λ l. Has guards.new l.guard)) }
+    ensures edges { IfOk result (λ links. map (edge_of guards.new) links ≡ map (hidden_link hiding.now.how hiding.now.prop a.now) a.now.links) }
+{
+    a.whole();
+    let mut given = a.guards().copy(alloc)?;
+    let mut done = Done::new(alloc);
+    let mut links = Links::from_vec(Vec::with_capacity(alloc, a.links().len())?);
+    'links: for link in a.links() {
+        let guard = hidden_guard(alloc, hiding, &mut given, guards, &mut done, link.guard)?;
+        links.push(Link {
+            from: link.from,
+            guard,
+            to: link.to,
+            marks: copy_marks(&link.marks)?,
+        })?;
+    }
+    Ok(links)
+}

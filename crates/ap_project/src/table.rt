@@ -1,0 +1,32 @@
+//! A table of the guards that were found, by the guards that they are made of.
+
+ghost use Rattle.std.specs.Prelude.{◌≡◌, IfSome, OnErr, OnOk, Some};
+ghost use Rattle.std.specs.Map.{lookup};
+ghost use Rattle.ap_project.specs.inner.HiddenGuards.{IsPut, same_guard};
+
+use aut_base::Memory;
+use indexmap::IndexMap;
+use label_guards::Guard;
+
+/// A guard with the proposition hidden, by the guard of the automaton's store.
+pub(crate) type Done = IndexMap<Guard, Guard>;
+
+/// What was found for this guard, if it is there.
+pub(crate) fn done_at(done: &Done, g: Guard) -> Option<Guard>
+    ensures { IfSome result (λ found. lookup (same_guard g) done.now.entries ≡ Some found) }
+{
+    match done.get(&g) {
+        Some(found) => Some(*found),
+        None => None,
+    }
+}
+
+/// Puts what was found into the table.
+pub(crate) fn put_done(done: &mut Done, g: Guard, found: Guard) -> Result<(), Memory>
+    ensures { OnOk result (IsPut done.old.entries done.new.entries g found) }
+{
+    match done.insert(g, found) {
+        Ok(_) => Ok(()),
+        Err(_) => Err(Memory),
+    }
+}
