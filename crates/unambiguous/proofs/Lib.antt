@@ -1,0 +1,10 @@
+mod Accepted
+mod Decided
+mod Deterministic
+mod Explored
+mod Flags
+mod Nth
+mod Ranks
+mod Stages
+mod Starts
+mod Tracks
