@@ -26,12 +26,13 @@ use Rattle.aut_ops.specs.BreadthFirst.{IsReached, with_new}
 use Rattle.aut_ops.specs.Labels.{both_labels}
 use Rattle.aut_ops.specs.Products.{HasMorePairs, JointEdge, joint_edges, next_pairs, same_pair, start_pairs}
 use Rattle.label_guards.specs.Store.{Has, Keeps, Store}
-use Rattle.unambiguous.proofs.Stages.{Flagged, IsNumbered, kept_on, longer_at, met_on, new_each, new_kept, no_more, numbered_kept, numbered_sound, spread_edge, state_tells}
+use Rattle.unambiguous.proofs.RowPlaces.{spread_edge}
+use Rattle.unambiguous.proofs.Stages.{Flagged, IsNumbered, kept_on, longer_at, met_on, new_each, new_kept, no_more, numbered_kept, numbered_sound, state_tells}
 use Rattle.unambiguous.specs.Square.{GoesBoth, IsFlaggedSquare, IsSquare, MadeOf, flag_after, flagged_marks}
 use Rattle.unambiguous.specs.inner.Stages.{AreKept, AreOfStarts, AreOver, Grows, HasFlagged, IsExplored, IsMet, IsSound, IsSpread, Stage, differs, pair_of, row_of, same_state}
 
-kept_there : {old new : List Flagged} (s : Flagged) → AreKept old new → Contains old s → Contains new s
-kept_there {old = old} {new = new} s kept there = subst (λ (ss : List Flagged). Contains ss s) (sym kept.1) (Contains-append_left old kept.0 s there)
+pub kept_there : (old new : List Flagged) (s : Flagged) → AreKept old new → Contains old s → Contains new s
+kept_there old new s kept there = subst (λ (ss : List Flagged). Contains ss s) (sym kept.1) (Contains-append_left old kept.0 s there)
 
 there_item : (ss : List Flagged) (k : ℕ) → k < length ss → (s : Flagged) × (slice_get ss k ≡ Some s)
 there_item ss k within = let item = item_at ss k within in (item.0, slice_get-at ss k item.0 within (sym item.1))
@@ -45,26 +46,6 @@ module _ (a : Core) (core : IsCore a) where
 
   -- starts
 
-  pub no_starts : (s : Stage) → a.store ≡ s.store → s.pairs ≡ [] → s.states ≡ [] → s.links ≡ [] → IsSound a s 0
-  no_starts s store pairs states links =
-      let none : Stage = record { store = a.store; pairs = []; states = []; links = [] } in
-      let same : none ≡ s = λ i. record { store = store i; pairs = sym pairs i; states = sym states i; links = sym links i } in
-      subst (λ (r : Stage). IsSound a r 0) same (record {
-        keeps = keeps_none a.store;
-        over = record {
-          states_differ = λ i j d l m. absurd (omega (arith, m));
-          pairs_differ = λ i j d l m. absurd (omega (arith, m));
-          covered = λ k d within. absurd (omega (arith, within));
-          few = omega arith;
-        };
-        flagged = λ k d within. absurd (omega (arith, within));
-        reached = λ k d within. absurd (omega (arith, within));
-        has = λ k d within. absurd (omega (arith, within));
-        made = λ k d within. absurd (omega (arith, within));
-        in_order = λ i j d le within. absurd (omega (arith, within));
-        until = λ k d within. absurd (omega (arith, within));
-      })
-
   pub start_reached : (p q : ℕ) → Contains a.starts p → Contains a.starts q → Reached (p, q)
   start_reached p q one two = reached_start (start_pairs x x) (next_pairs x x) (p, q) (there_start x x p q one two)
 
@@ -76,10 +57,10 @@ module _ (a : Core) (core : IsCore a) where
 
   pub start_more : (s t : Stage) (p q place : ℕ) → IsSound a s 0 → AreOfStarts a s.states → Contains a.starts p → Contains a.starts q → IsNumbered a core s t (p, q, false) place → OneMore s t p q
   start_more s t p q place sound from one two is = record {
-    sound = numbered_sound a core s s t 0 (p, q, false) place sound (keeps_none s.store) refl refl refl (start_reached p q one two) is;
+    sound = numbered_sound a core s t 0 (p, q, false) place sound (start_reached p q one two) is;
     from = subst (AreOfStarts a) (sym is.states) (new_each same_state state_tells (λ (r : Flagged). Contains a.starts r.0 × Contains a.starts r.1 × (r.2 ≡ false)) s.states (p, q, false) from (one, two, refl));
     kept = numbered_kept a core s t (p, q, false) place is;
-    there = placed_there t.states place (p, q, false) is.place;
+    there = placed_there t.states place (p, q, false) is.stands;
   }
 
   -- one flagged pair more
@@ -123,7 +104,7 @@ module _ (a : Core) (core : IsCore a) where
     edge_for : (k m n : ℕ) (f g : TreeEdge) (b : Bool) (w : NameSet) → slice_get s.states k ≡ Some (f.from, g.from, b) → slice_get x.edges m ≡ Some f → slice_get x.edges n ≡ Some g → truth (holds_at a.names w) f.label ≡ true → truth (holds_at a.names w) g.label ≡ true
         → (e : TreeEdge) × Contains (map (edge_of s.store) s.links) e × GoesBoth x (slice_get s.states) m n f g b e
     edge_for k m n f g b w stands at other_at first second =
-        spread_edge a core s k m n f g b w (done.spread k (f.from, g.from, b) (slice_get_within s.states k (f.from, g.from, b) stands) stands) stands at other_at first second
+        spread_edge a s k m n f g b w (done.spread k (f.from, g.from, b) (slice_get_within s.states k (f.from, g.from, b) stands) stands) stands at other_at first second
 
     pair_there : (state : Flagged) → Contains s.states state → Contains s.pairs (pair_of state)
     pair_there state there = All-contains (λ (t : Flagged). Contains s.pairs (pair_of t)) s.states state done.sound.over.covered there
@@ -149,14 +130,14 @@ module _ (a : Core) (core : IsCore a) where
         let stands : slice_get s.states k.0 ≡ Some (f.from, g.from, flag.0) = k.1 ∙ (λ i. Some (sym of.first_from i, sym of.second_from i, flag.0)) in
         let found = edge_for k.0 at.0 other_at.0 f g flag.0 w stands at.1 other_at.1 met_both.0 met_both.1 in
         let e = found.0 in
-        let to = (f.to, g.to, flag_after flag.0 at.0 other_at.0) in
+        let to : Flagged = (f.to, g.to, flag_after flag.0 at.0 other_at.0) in
         subst (λ p. Contains s.pairs p) (ap (λ (j : JointEdge). j.to) of.is ∙ j.2) (pair_there to (placed_there s.states e.to to found.2.to))
 
     module _ (begun : List Flagged) (from : AreOfStarts a begun) (there : (p q : ℕ) → Contains a.starts p → Contains a.starts q → Contains begun (p, q, false)) (kept : AreKept begun s.states) where
       first_there : (pair : ℕ × ℕ) → Contains (start_pairs x x) pair → Contains s.pairs pair
       first_there pair is =
           let starts = from_start x x pair is in
-          pair_there (pair.0, pair.1, false) (kept_there (pair.0, pair.1, false) kept (there pair.0 pair.1 starts.0 starts.1))
+          pair_there (pair.0, pair.1, false) (kept_there begun s.states (pair.0, pair.1, false) kept (there pair.0 pair.1 starts.0 starts.1))
 
       -- no more pairs are reached
       pub few_pairs : HasMorePairs MOST_PAIRS x x → ⊥
@@ -260,3 +241,25 @@ module _ (a : Core) (core : IsCore a) where
           links = each_there (IsLinkOf made) s.links link_of;
           formula = below;
         }
+
+  -- the parts of the square, as the code puts them together
+  pub record IsMade (c : Core) : Type 0 where
+    pub parts : AreParts c
+    pub square : IsFlaggedSquare x (automaton_of c)
+
+  pub all_made : (s : Stage) (begun : List Flagged) (names : List (List ℕ)) (starts : List ℕ) (states sets : ℕ) (formula f : FormulaTree) (store : Store) (links : List Link) → IsExplored a s (length s.states) → AreOfStarts a begun
+      → ((p q : ℕ) → Contains a.starts p → Contains a.starts q → Contains begun (p, q, false)) → AreKept begun s.states
+      → names ≡ a.names → starts ≡ range_with_len 0 (length begun) → states ≡ length s.states → sets ≡ a.sets → f ≡ a.formula
+      → ((cycle : List (List ℕ)) → met cycle formula ≡ (met cycle f && (met cycle (shift sets f) && met cycle (Inf (sets + sets) false)))) → SetsBelow (sets + sets + 1) formula
+      → store ≡ s.store → links ≡ s.links → IsMade (record { names = names; starts = starts; states = states; links = links; sets = sets + sets + 1; formula = formula; store = store })
+  all_made s begun names starts states sets formula f store links done from there kept names_are starts_are count sets_are f_is meaning below store_is links_are =
+      let says : (cycle : List (List ℕ)) → met cycle formula ≡ (met cycle a.formula && (met cycle (shift a.sets a.formula) && met cycle (Inf (a.sets + a.sets) false))) =
+      λ cycle. meaning cycle ∙ (λ i. met cycle (f_is i) && (met cycle (shift (sets_are i) (f_is i)) && met cycle (Inf (sets_are i + sets_are i) false))) in
+      let low : SetsBelow (a.sets + a.sets + 1) formula = subst (λ n. SetsBelow (n + n + 1) formula) sets_are below in
+      let core : Core = record { names = names; starts = starts; states = length s.states; links = s.links; sets = a.sets + a.sets + 1; formula = formula; store = s.store } in
+      let last : Core = record { names = names; starts = starts; states = states; links = links; sets = sets + sets + 1; formula = formula; store = store } in
+      let whole : core ≡ last = λ i. record { names = names; starts = starts; states = sym count i; links = sym links_are i; sets = sym sets_are i + sym sets_are i + 1; formula = formula; store = sym store_is i } in
+      subst IsMade whole (record {
+        parts = are_parts s done begun from there kept names starts formula names_are starts_are says low;
+        square = is_flagged_square s done begun from there kept names starts formula names_are starts_are says;
+      })

@@ -5,6 +5,10 @@ mod Explored
 mod Flags
 mod Nth
 mod Ranks
+mod Rounds
+mod RowPlaces
 mod Stages
 mod Starts
+mod Sums
 mod Tracks
+mod Verdicts

@@ -2,7 +2,7 @@
 use Rattle.std.proofs.Common.{◌≡◌, ◌≢◌, ◌∙◌, ◌↔◌, ◌⊎◌, ◌==◌, ◌+◌, ◌-◌, ◌*◌, ◌<◌, ◌≤◌, ◌^◌, ◌&&◌, ◌||◌, ℕ, zero, suc, Bool, true, false, not, cond, filter, IsTrue, List, [], ◌∷◌, ◌++◌, All, AllPairs, Contains, Some, ap, append-nil, append_assoc, arith, get_or, inl, inr, length, length-append, map, refl, slice_get, subst, sym}
 use Rattle.std.proofs.lemmas.Bool.{and_from, and_parts, cases_eq, eq-eqb, eqb-true, false_from_ne_true, false≢true}
 use Rattle.std.proofs.lemmas.List.{map-append}
-use Rattle.std.proofs.lemmas.List.Elements.{All-contains, All-map, All-push, All-weaker, Contains-append_left, Contains-get_or}
+use Rattle.std.proofs.lemmas.List.Elements.{All-contains, All-map, All-push, All-weaker, Contains-append_left, Contains-get_or, Contains-push}
 use Rattle.std.proofs.lemmas.List.Sorted.{IsNonDecreasingBy-push}
 use Rattle.std.proofs.lemmas.Map.Made.{IsDistinct-from_AllPairs, is_member-Decides, length-le_from_is_member}
 use Rattle.std.proofs.lemmas.Option.{get_or_from_slice_get, same_Some, slice_get_within}
@@ -75,7 +75,7 @@ flags_long (p ∷ ps) = let rest = flags_long ps in omega (arith, rest)
 
 has_flag : (p q : ℕ) (b : Bool) → Contains (with_flags (p, q)) (p, q, b)
 has_flag p q false = first_there (p, q, false) ((p, q, true) ∷ [])
-has_flag p q true = later_there (p, q, false) (p, q, true) ((p, q, true) ∷ []) (first_there (p, q, true) [])
+has_flag p q true = later_there (p, q, false) ((p, q, true) ∷ []) (p, q, true) (first_there (p, q, true) [])
 
 -- there are at most twice as many flagged pairs as pairs
 pub states_few : (pairs : List (ℕ × ℕ)) (states : List Flagged) → AreOver pairs states → length states ≤ 2 * MOST_PAIRS
@@ -104,6 +104,14 @@ over_more pairs states s over few = record {
       (with_new_there same_pair pair_tells pairs (pair_of s));
   few = few;
 }
+
+-- so its place fits
+pub place_fits : (pairs after : List (ℕ × ℕ)) (states later : List Flagged) (s : Flagged) (place : ℕ) → AreOver pairs states → after ≡ with_new same_pair pairs (pair_of s) → length after ≤ MOST_PAIRS → later ≡ with_new same_state states s → slice_get later place ≡ Some s → place < 2 ^ 32
+place_fits pairs after states later s place over is few is_later at =
+    let all : AreOver (with_new same_pair pairs (pair_of s)) (with_new same_state states s) = over_more pairs states s over (subst (λ (ps : List (ℕ × ℕ)). length ps ≤ MOST_PAIRS) is few) in
+    let within = slice_get_within later place s at in
+    let count = states_few (with_new same_pair pairs (pair_of s)) (with_new same_state states s) all in
+    omega (arith, within, count, ap (λ (ss : List Flagged). length ss) is_later)
 
 pub flagged_more : (pairs : List (ℕ × ℕ)) (states : List Flagged) (s : Flagged) → All (HasFlagged states) pairs → All (HasFlagged (with_new same_state states s)) (with_new same_pair pairs (pair_of s))
 flagged_more pairs states s all = new_each same_pair pair_tells (HasFlagged (with_new same_state states s)) pairs (pair_of s)
@@ -162,6 +170,10 @@ met_on a s t at link other differ grows has met x first second =
       },
     )
 
+made_all : (x : Automaton) (s t : Stage) → Keeps s.store t.store → AreKept s.states t.states → All (λ l. Has s.store l.guard) s.links → All (λ l. MadeOf x (slice_get s.states) (edge_of s.store l)) s.links → All (λ l. MadeOf x (slice_get t.states) (edge_of t.store l)) s.links
+made_all x s t keeps kept has made = each_there (λ (l : Link). MadeOf x (slice_get t.states) (edge_of t.store l)) s.links (λ l there.
+    made_on x s t l keeps kept (All-contains (λ (k : Link). Has s.store k.guard) s.links l has there) (All-contains (λ (k : Link). MadeOf x (slice_get s.states) (edge_of s.store k)) s.links l made there))
+
 module _ (a : Core) (core : IsCore a) where
   abbrev x : Automaton
   x = automaton_of a
@@ -169,14 +181,14 @@ module _ (a : Core) (core : IsCore a) where
   abbrev Reached : ℕ × ℕ → Type 0
   Reached = IsReached (start_pairs x x) (next_pairs x x)
 
+  state_reached : (s : Stage) (at k : ℕ) (state : Flagged) → IsSound a s at → slice_get s.states k ≡ Some state → Reached (pair_of state)
+  state_reached s at k state sound there =
+      All-contains Reached s.pairs (pair_of state) sound.reached (All-contains (λ (t : Flagged). Contains s.pairs (pair_of t)) s.states state sound.over.covered (placed_there s.states k state there))
+
   -- both states of a flagged pair are states
   pub state_within : (s : Stage) (at k : ℕ) (state : Flagged) → IsSound a s at → slice_get s.states k ≡ Some state → (state.0 < a.states) × (state.1 < a.states)
   state_within s at k state sound there =
       reached_within x x core.well_formed core.well_formed (pair_of state) (state_reached s at k state sound there)
-
-  state_reached : (s : Stage) (at k : ℕ) (state : Flagged) → IsSound a s at → slice_get s.states k ≡ Some state → Reached (pair_of state)
-  state_reached s at k state sound there =
-      All-contains Reached s.pairs (pair_of state) sound.reached (All-contains (λ (t : Flagged). Contains s.pairs (pair_of t)) s.states state sound.over.covered (placed_there s.states k state there))
 
   -- too many pairs
   pub beyond : (s : Stage) (at : ℕ) (p : ℕ × ℕ) → IsSound a s at → Reached p → MOST_PAIRS < length (with_new same_pair s.pairs p) → HasMorePairs MOST_PAIRS x x
@@ -193,7 +205,7 @@ module _ (a : Core) (core : IsCore a) where
     pub links : t.links ≡ s.links
     pub pairs : t.pairs ≡ with_new same_pair s.pairs (pair_of state)
     pub states : t.states ≡ with_new same_state s.states state
-    pub place : slice_get t.states place ≡ Some state
+    pub stands : slice_get t.states place ≡ Some state
     pub few : length t.pairs ≤ MOST_PAIRS
 
   pub numbered_kept : (s t : Stage) (state : Flagged) (place : ℕ) → IsNumbered s t state place → AreKept s.states t.states
@@ -204,30 +216,35 @@ module _ (a : Core) (core : IsCore a) where
       let few : length (with_new same_pair s.pairs (pair_of state)) ≤ MOST_PAIRS = subst (λ (ps : List (ℕ × ℕ)). length ps ≤ MOST_PAIRS) is.pairs is.few in
       subst (λ (ps : List (ℕ × ℕ)). AreOver ps t.states) (sym is.pairs) (subst (AreOver (with_new same_pair s.pairs (pair_of state))) (sym is.states) (over_more s.pairs s.states state over few))
 
-  -- the store grows, and a flagged pair is numbered
-  pub numbered_sound : (s r t : Stage) (at : ℕ) (state : Flagged) (place : ℕ) → IsSound a s at → Keeps s.store r.store → r.pairs ≡ s.pairs → r.states ≡ s.states → r.links ≡ s.links → Reached (pair_of state) → IsNumbered r t state place → IsSound a t at
-  numbered_sound s r t at state place sound keeps pairs states links reached is =
-      let mid : Stage = record { store = r.store; pairs = s.pairs; states = s.states; links = s.links } in
-      let now : IsNumbered mid t state place = record {
-        store = is.store;
-        links = is.links ∙ links;
-        pairs = is.pairs ∙ ap (λ (ps : List (ℕ × ℕ)). with_new same_pair ps (pair_of state)) pairs;
-        states = is.states ∙ ap (λ (ss : List Flagged). with_new same_state ss state) states;
-        place = is.place;
-        few = is.few;
-      } in
-      let keeps_all : Keeps s.store t.store = subst (Keeps s.store) (sym is.store) keeps in
+  pub numbered_sound : (s t : Stage) (at : ℕ) (state : Flagged) (place : ℕ) → IsSound a s at → Reached (pair_of state) → IsNumbered s t state place → IsSound a t at
+  numbered_sound s t at state place sound reached is =
+      let keeps : Keeps s.store t.store = subst (Keeps s.store) (sym is.store) (keeps_none s.store) in
       record {
-        keeps = keeps_on sound.keeps keeps_all;
-        over = over_of mid t state place now sound.over;
-        flagged = subst (λ (ps : List (ℕ × ℕ)). All (HasFlagged t.states) ps) (sym now.pairs) (subst (λ (ss : List Flagged). All (HasFlagged ss) (with_new same_pair s.pairs (pair_of state))) (sym now.states) (flagged_more s.pairs s.states state sound.flagged));
-        reached = subst (All Reached) (sym now.pairs) (new_each same_pair pair_tells Reached s.pairs (pair_of state) sound.reached reached);
-        has = subst (All (λ (l : Link). Has t.store l.guard)) (sym now.links) (All-weaker (λ (l : Link). Has s.store l.guard) (λ (l : Link). Has t.store l.guard) (λ l h. keeps_all.has l.guard h) s.links sound.has);
-        made = subst (All (λ (l : Link). MadeOf x (slice_get t.states) (edge_of t.store l))) (sym now.links) (each_there (λ (l : Link). MadeOf x (slice_get t.states) (edge_of t.store l)) s.links (λ l there.
-            made_on x s t l keeps_all (numbered_kept mid t state place now) (All-contains (λ (k : Link). Has s.store k.guard) s.links l sound.has there) (All-contains (λ (k : Link). MadeOf x (slice_get s.states) (edge_of s.store k)) s.links l sound.made there)));
-        in_order = subst (λ (ls : List Link). IsNonDecreasing (map (λ (l : Link). l.from) ls)) (sym now.links) sound.in_order;
-        until = subst (All (λ (l : Link). l.from ≤ at)) (sym now.links) sound.until;
+        keeps = keeps_on sound.keeps keeps;
+        over = over_of s t state place is sound.over;
+        flagged = subst (λ (ps : List (ℕ × ℕ)). All (HasFlagged t.states) ps) (sym is.pairs) (subst (λ (ss : List Flagged). All (HasFlagged ss) (with_new same_pair s.pairs (pair_of state))) (sym is.states) (flagged_more s.pairs s.states state sound.flagged));
+        reached = subst (All Reached) (sym is.pairs) (new_each same_pair pair_tells Reached s.pairs (pair_of state) sound.reached reached);
+        has = subst (All (λ (l : Link). Has t.store l.guard)) (sym is.links) (All-weaker (λ (l : Link). Has s.store l.guard) (λ (l : Link). Has t.store l.guard) (λ l h. keeps.has l.guard h) s.links sound.has);
+        made = subst (All (λ (l : Link). MadeOf x (slice_get t.states) (edge_of t.store l))) (sym is.links) (made_all x s t keeps (numbered_kept s t state place is) sound.has sound.made);
+        in_order = subst (λ (ls : List Link). IsNonDecreasing (map (λ (l : Link). l.from) ls)) (sym is.links) sound.in_order;
+        until = subst (All (λ (l : Link). l.from ≤ at)) (sym is.links) sound.until;
       }
+
+  -- the store grows
+  abbrev with_store : Stage → Store → Stage
+  with_store s store = record { store = store; pairs = s.pairs; states = s.states; links = s.links }
+
+  store_sound : (s : Stage) (store : Store) (at : ℕ) → IsSound a s at → Keeps s.store store → IsSound a (with_store s store) at
+  store_sound s store at sound keeps = record {
+    keeps = keeps_on sound.keeps keeps;
+    over = sound.over;
+    flagged = sound.flagged;
+    reached = sound.reached;
+    has = All-weaker (λ (l : Link). Has s.store l.guard) (λ (l : Link). Has store l.guard) (λ l h. keeps.has l.guard h) s.links sound.has;
+    made = made_all x s (with_store s store) keeps ([], sym (append-nil s.states)) sound.has sound.made;
+    in_order = sound.in_order;
+    until = sound.until;
+  }
 
   -- one link more
   pub pushed_sound : (s t : Stage) (at : ℕ) (l : Link) → IsSound a s at → t.store ≡ s.store → t.pairs ≡ s.pairs → t.states ≡ s.states → t.links ≡ s.links ++ l ∷ [] → Has s.store l.guard → MadeOf x (slice_get s.states) (edge_of s.store l) → l.from ≡ at → IsSound a t at
@@ -273,14 +290,16 @@ module _ (a : Core) (core : IsCore a) where
       let fails = never_false (length a.names) holds (joint_label link other) (label_of_below (length a.names) _) never in
       absurd (false≢true (sym fails ∙ (truth_both (length a.names) holds (label_in a.store link.guard) (label_in a.store other.guard) (below m link is_at) (below n other other_at) ∙ and_from (truth holds (label_in a.store link.guard)) (truth holds (label_in a.store other.guard)) first second)))
 
+  edge_there : (m : ℕ) (l : Link) → slice_get a.links m ≡ Some l → Contains x.edges (edge_of a.store l)
+  edge_there m l at = there_map (edge_of a.store) a.links l (placed_there a.links m l at)
+
   -- the pair behind both is reached
   pub met_reached : (s : Stage) (at : ℕ) (link other : Link) (differ : Bool) → IsSound a s at → CanMeet a s at link other differ → is_never (length a.names) (joint_label link other) ≡ false → Reached (link.to, other.to)
   met_reached s at link other differ sound can some =
       let from = state_reached s at at (link.from, other.from, can.flag) sound can.stands in
-      let edges : {m : ℕ} {l : Link} → slice_get a.links m ≡ Some l → Contains x.edges (edge_of a.store l) = λ is_at. there_map (edge_of a.store) a.links _ (placed_there a.links _ _ is_at) in
       reached_next (start_pairs x x) (next_pairs x x) (link.from, other.from) (link.to, other.to) from
           (there_map (λ (j : JointEdge). j.to) (joint_edges x x (link.from, other.from)) (joined (length a.names) a.sets (edge_of a.store link) (edge_of a.store other))
-          (there_joint x x (link.from, other.from) (edge_of a.store link) (edge_of a.store other) (edges can.is_at) (edges can.other_at) refl refl some))
+          (there_joint x x (link.from, other.from) (edge_of a.store link) (edge_of a.store other) (edge_there can.place link can.is_at) (edge_there can.other_place other can.other_at) refl refl some))
 
   -- the link that was made goes both
   pub made_joint : (s t : Stage) (at : ℕ) (link other : Link) (differ : Bool) (l : Link) → IsSound a s at → CanMeet a s at link other differ → AreKept s.states t.states → IsGuardOf t.store (λ on. truth_in s.store link.guard on && truth_in s.store other.guard on) l.guard → l.from ≡ at → slice_get t.states l.to ≡ Some (link.to, other.to, differ) → l.marks ≡ flagged_marks a.sets link.marks other.marks differ → IsJoint a t at link other differ l
@@ -309,68 +328,56 @@ module _ (a : Core) (core : IsCore a) where
     };
   }
 
-  -- places in rows
+  marks_of : (m : ℕ) (l : Link) (sets : ℕ) → sets ≡ a.sets → slice_get a.links m ≡ Some l → All (λ mark. mark < sets) l.marks
+  marks_of m l sets is at = subst (λ n. All (λ mark. mark < n) l.marks) (sym is) (All-contains (IsLinkOf a) a.links l core.parts.links (placed_there a.links m l at)).marks
 
-  differs_is : (p q m n i j : ℕ) (b : Bool) (link other : Link) → slice_get a.links m ≡ Some link → slice_get a.links n ≡ Some other → link.from ≡ p → other.from ≡ q → i ≡ rank (λ (l : Link). l.from == p) a.links m → j ≡ rank (λ (l : Link). l.from == q) a.links n → differs (p, q, b) i j ≡ flag_after b m n
-  differs_is p q m n i j b link other is_at other_at from other_from first second = ap (λ c. b || c) (by (cases_eq m n))
-    where
-      by : (m ≡ n) ⊎ (m ≡ n → ⊥) → (not (p == q) || not (i == j)) ≡ not (m == n)
-      by (inl same) =
-          let link_same : link ≡ other = same_Some link other (sym is_at ∙ (ap (slice_get a.links) same ∙ other_at)) in
-          let ends : p ≡ q = sym from ∙ (ap (λ (l : Link). l.from) link_same ∙ other_from) in
-          let places : i ≡ j = first ∙ ((λ k. rank (λ (l : Link). l.from == ends k) a.links (same k)) ∙ sym second) in
-          ap (λ c. not c || not (i == j)) (eq-eqb p q ends) ∙ (ap not (eq-eqb i j places) ∙ sym (ap not (eq-eqb m n same)))
-      by (inr other_place) = by_ends (cases_eq p q) ∙ sym (ap not (false_from_ne_true (m == n) (λ e. other_place (eqb-true m n e))))
-        where
-          by_ends : (p ≡ q) ⊎ (p ≡ q → ⊥) → (not (p == q) || not (i == j)) ≡ true
-          by_ends (inr apart) = ap (λ c. not c || not (i == j)) (false_from_ne_true (p == q) (λ e. apart (eqb-true p q e)))
-          by_ends (inl ends) =
-              let unlike : (i == j) ≡ true → ⊥ = λ e. other_place (rank_one (λ (l : Link). l.from == p) a.links m n link other is_at other_at (eq-eqb link.from p from) (eq-eqb other.from p (other_from ∙ sym ends))
-                  (sym first ∙ (eqb-true i j e ∙ (second ∙ (λ k. rank (λ (l : Link). l.from == sym ends k) a.links n))))) in
-              ap (λ c. not c || not (i == j)) (eq-eqb p q ends) ∙ ap not (false_from_ne_true (i == j) unlike)
+  -- the marks of both are marks of the automaton
+  pub meet_marks : (s : Stage) (at : ℕ) (link other : Link) (differ : Bool) (sets : ℕ) → CanMeet a s at link other differ → sets ≡ a.sets → All (λ mark. mark < sets) link.marks × All (λ mark. mark < sets) other.marks
+  meet_marks s at link other differ sets can is = (marks_of can.place link sets is can.is_at, marks_of can.other_place other sets is can.other_at)
 
-  -- the links of both rows can meet
-  pub can_meet : (s : Stage) (at i j : ℕ) (state : Flagged) (link other : Link) → slice_get s.states at ≡ Some state → slice_get (row_of a state.0) i ≡ Some link → slice_get (row_of a state.1) j ≡ Some other → CanMeet a s at link other (differs state i j)
-  can_meet s at i j state link other stands first second =
-      let one = from_kept (λ (l : Link). l.from == state.0) a.links i link first in
-      let two = from_kept (λ (l : Link). l.from == state.1) a.links j other second in
-      let from : link.from ≡ state.0 = eqb-true link.from state.0 one.passes in
-      let other_from : other.from ≡ state.1 = eqb-true other.from state.1 two.passes in
-      record {
-        place = one.place;
-        other_place = two.place;
-        flag = state.2;
-        is_at = one.at;
-        other_at = two.at;
-        stands = stands ∙ (λ k. Some (sym from k, sym other_from k, state.2));
-        is_flag = differs_is state.0 state.1 one.place two.place i j state.2 link other one.at two.at from other_from one.is_rank two.is_rank;
-      }
+  -- what becomes of a stage where two links meet
+  pub record IsMeeting (s u : Stage) (at : ℕ) (link other : Link) (differ : Bool) : Type 0 where
+    pub sound : IsSound a u at
+    pub grows : Grows s u
+    pub met : IsMet a u at link other differ
 
-  -- what was gone on from has an edge for each two that meet
-  pub spread_edge : (s : Stage) (k m n : ℕ) (f g : TreeEdge) (b : Bool) (w : NameSet) → IsSpread a s k (f.from, g.from, b) → slice_get s.states k ≡ Some (f.from, g.from, b) → slice_get x.edges m ≡ Some f → slice_get x.edges n ≡ Some g → truth (holds_at a.names w) f.label ≡ true → truth (holds_at a.names w) g.label ≡ true
-      → (e : TreeEdge) × Contains (map (edge_of s.store) s.links) e × GoesBoth x (slice_get s.states) m n f g b e
-  spread_edge s k m n f g b w spread stands at other_at first second =
-      let one = mapped_from (edge_of a.store) a.links m f at in
-      let two = mapped_from (edge_of a.store) a.links n g other_at in
-      let link = one.item in
-      let other = two.item in
-      let from : link.from ≡ f.from = ap (λ (e : TreeEdge). e.from) one.is in
-      let other_from : other.from ≡ g.from = ap (λ (e : TreeEdge). e.from) two.is in
-      let i = rank (λ (l : Link). l.from == f.from) a.links m in
-      let j = rank (λ (l : Link). l.from == g.from) a.links n in
-      let in_row = kept_at (λ (l : Link). l.from == f.from) a.links m link one.at (eq-eqb link.from f.from from) in
-      let in_other = kept_at (λ (l : Link). l.from == g.from) a.links n other two.at (eq-eqb other.from g.from other_from) in
-      let found = spread i link in_row j other in_other w (ap (λ (e : TreeEdge). truth (holds_at a.names w) e.label) one.is ∙ first) (ap (λ (e : TreeEdge). truth (holds_at a.names w) e.label) two.is ∙ second) in
-      let l = found.0 in
-      let joint = found.2 in
-      let flag = differs_is f.from g.from m n i j b link other one.at two.at from other_from refl refl in
-      (
-        edge_of s.store l,
-        there_map (edge_of s.store) s.links l found.1,
-        record {
-          from = ap (slice_get s.states) joint.from ∙ stands;
-          to = joint.to ∙ (λ h. Some ((one.is h).to, (two.is h).to, flag h));
-          label = λ v. joint.label v ∙ (λ h. truth (holds_at a.names v) (one.is h).label && truth (holds_at a.names v) (two.is h).label);
-          marks = joint.marks ∙ (λ h. flagged_marks a.sets (one.is h).marks (two.is h).marks (flag h));
-        },
-      )
+  -- the guard of both links in a store that has grown, and whether it is never met
+  pub record IsBoth (s : Stage) (store : Store) (link other : Link) (guard : Guard) (b : Bool) : Type 0 where
+    pub keeps : Keeps s.store store
+    pub guard_is : IsGuardOf store (λ on. truth_in s.store link.guard on && truth_in s.store other.guard on) guard
+    pub never : IsTrue b ↔ IsNeverMet store guard
+
+  never_is : (s : Stage) (store : Store) (at : ℕ) (link other : Link) (differ : Bool) (guard : Guard) (b : Bool) → IsSound a s at → CanMeet a s at link other differ → IsBoth s store link other guard b → is_never (length a.names) (joint_label link other) ≡ b
+  never_is s store at link other differ guard b sound can both = never_both s.store store can.place can.other_place link other guard b sound.keeps both.keeps can.is_at can.other_at both.guard_is both.never
+
+  pub none_met : (s : Stage) (store : Store) (at : ℕ) (link other : Link) (differ : Bool) (guard : Guard) (b : Bool) → IsSound a s at → CanMeet a s at link other differ → IsBoth s store link other guard b → b ≡ true → IsMeeting s (with_store s store) at link other differ
+  none_met s store at link other differ guard b sound can both is = record {
+    sound = store_sound s store at sound both.keeps;
+    grows = record { keeps = both.keeps; states = ([], sym (append-nil s.states)); links = ([], sym (append-nil s.links)) };
+    met = never_joint (with_store s store) at can.place can.other_place link other differ can.is_at can.other_at (never_is s store at link other differ guard b sound can both ∙ is);
+  }
+
+  pub some_reached : (s : Stage) (store : Store) (at : ℕ) (link other : Link) (differ : Bool) (guard : Guard) (b : Bool) → IsSound a s at → CanMeet a s at link other differ → IsBoth s store link other guard b → b ≡ false → Reached (link.to, other.to)
+  some_reached s store at link other differ guard b sound can both is = met_reached s at link other differ sound can (never_is s store at link other differ guard b sound can both ∙ is)
+
+  pub one_met : (s : Stage) (store : Store) (t u : Stage) (at : ℕ) (link other : Link) (differ : Bool) (l : Link) (b : Bool) → IsSound a s at → CanMeet a s at link other differ → IsBoth s store link other l.guard b → b ≡ false → IsNumbered (with_store s store) t (link.to, other.to, differ) l.to
+      → u.store ≡ t.store → u.pairs ≡ t.pairs → u.states ≡ t.states → u.links ≡ t.links ++ l ∷ [] → l.from ≡ at → l.marks ≡ flagged_marks a.sets link.marks other.marks differ → IsMeeting s u at link other differ
+  one_met s store t u at link other differ l b sound can both is numbered u_store u_pairs u_states u_links from marks =
+      let state : Flagged = (link.to, other.to, differ) in
+      let reached = some_reached s store at link other differ l.guard b sound can both is in
+      let now = numbered_sound (with_store s store) t at state l.to (store_sound s store at sound both.keeps) reached numbered in
+      let kept = numbered_kept (with_store s store) t state l.to numbered in
+      let G : Store → Type 0 = λ r. IsGuardOf r (λ on. truth_in s.store link.guard on && truth_in s.store other.guard on) l.guard in
+      let guard : G t.store = subst G (sym numbered.store) both.guard_is in
+      let joint = made_joint s t at link other differ l sound can kept guard from numbered.stands marks in
+      let after : Stage = record { store = t.store; pairs = t.pairs; states = t.states; links = t.links ++ l ∷ [] } in
+      let same : after ≡ u = λ i. record { store = sym u_store i; pairs = sym u_pairs i; states = sym u_states i; links = sym u_links i } in
+      subst (λ (r : Stage). IsMeeting s r at link other differ) same (record {
+        sound = pushed_sound t after at l now refl refl refl refl guard.has (made_of_joint s t at link other differ l can kept joint) from;
+        grows = record {
+          keeps = keeps_on both.keeps (subst (Keeps store) (sym numbered.store) (keeps_none store));
+          states = kept;
+          links = (l ∷ [], ap (λ (ls : List Link). ls ++ l ∷ []) numbered.links);
+        };
+        met = λ w first second. (l, Contains-push t.links l, record { from = joint.from; to = joint.to; label = joint.label; marks = joint.marks });
+      })

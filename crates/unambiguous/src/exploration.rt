@@ -77,6 +77,7 @@ fn list_row(square: &mut Square, a: &Automaton, first: u32) -> Result<(), Square
     ensures there { OnOk result ((q : ℕ) → Contains a.now.starts q → Contains square.new.states (first, q, false)) }
     ensures many { IsErrOf result SquareFault.Pairs → HasMorePairs MOST_PAIRS (automaton_of a.now) (automaton_of a.now) }
 {
+    a.whole();
     let starts = a.starts();
     'starts: for second in starts.as_slice() {
         let _ = square.number((first, *second, false))?;
