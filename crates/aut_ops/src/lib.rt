@@ -3,10 +3,10 @@
 
 mod completion;
 mod copies;
+mod edge_marks;
 mod exploration;
 mod fault;
 mod join;
-mod joint_marks;
 mod law;
 mod pairing;
 mod passable;
@@ -19,6 +19,7 @@ mod sums;
 mod trimming;
 
 pub use completion::complete;
+pub use edge_marks::joint_marks;
 pub use fault::PairFault;
 pub use law::{
     few_pairs_exclude_more, pairs_are_determined, products_are_determined, pruned_is_determined,

@@ -8,7 +8,7 @@ ghost use Rattle.aut_base.specs.declared.limit.TheConstants.{MOST_PAIRS};
 ghost use Rattle.aut_ops.specs.inner.Pairings.{Adds, AreBeyond, CanMeet, followed, meeting};
 
 use crate::fault::PairFault;
-use crate::joint_marks::joint_marks;
+use crate::edge_marks::joint_marks;
 use aut_base::{MOST_PAIRS, Memory};
 use aut_core::{Link, Links};
 use indexmap::IndexSet;

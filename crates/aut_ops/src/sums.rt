@@ -14,7 +14,7 @@ ghost use Rattle.aut_ops.specs.inner.Linked.{moved_link};
 ghost use Rattle.label_guards.specs.Store.{Keeps};
 
 use crate::copies::push_links;
-use crate::joint_marks::joint_marks;
+use crate::edge_marks::joint_marks;
 use crate::shared::share;
 use acc_forms::{conj, disj, shift};
 use aut_base::{Formula, Marks, Memory, Names, Numbers};

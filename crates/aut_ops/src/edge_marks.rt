@@ -6,7 +6,7 @@ use aut_base::{Marks, Memory};
 use aut_core::copy_marks;
 
 /// The marks, and behind them the others, raised by this number, which is above the first.
-pub(crate) fn joint_marks(marks: &Marks, others: &Marks, by: u32) -> Result<Marks, Memory>
+pub fn joint_marks(marks: &Marks, others: &Marks, by: u32) -> Result<Marks, Memory>
     requires marks { All (λ mark. mark < by) marks.now }
     requires others { All (λ mark. mark + by < 2 ^ 32) others.now }
     ensures { IfOk result (λ all. all ≡ marks.now ++ map (λ mark. mark + by) others.now) }

@@ -1,0 +1,14 @@
+mod Accepted
+mod Decided
+mod Deterministic
+mod Explored
+mod Flags
+mod Nth
+mod Ranks
+mod Rounds
+mod RowPlaces
+mod Stages
+mod Starts
+mod Sums
+mod Tracks
+mod Verdicts

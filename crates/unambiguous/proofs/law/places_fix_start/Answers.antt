@@ -1,0 +1,5 @@
+use Rattle.unambiguous.proofs.Starts as law
+use Rattle.unambiguous.proofs.law.places_fix_start.Goals as goal
+
+pub returns : goal.returns
+returns c = law.places_fix_start

@@ -1,0 +1,5 @@
+use Rattle.unambiguous.proofs.Decided.{square_accepts}
+use Rattle.unambiguous.proofs.law.square_accepts.Goals as goal
+
+pub returns : goal.returns
+returns c = square_accepts

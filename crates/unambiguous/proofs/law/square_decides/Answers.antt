@@ -1,0 +1,5 @@
+use Rattle.unambiguous.proofs.Decided.{square_decides}
+use Rattle.unambiguous.proofs.law.square_decides.Goals as goal
+
+pub returns : goal.returns
+returns c = square_decides

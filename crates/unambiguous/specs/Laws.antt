@@ -1,0 +1,42 @@
+-- What holds of unambiguous automata.
+use Rattle.std.specs.Prelude.{◌≡◌, ◌↔◌, ℕ, ◌<◌, List, [], ◌∷◌, length}
+use Rattle.aut_base.specs.Acceptance.{Accepts}
+use Rattle.aut_base.specs.Automaton.{Automaton, IsWellFormed, TreeEdge}
+use Rattle.aut_base.specs.Formula.{FormulaTree}
+use Rattle.aut_base.specs.Label.{LabelTree}
+use Rattle.aut_base.specs.Word.{NameSet}
+use Rattle.aut_core.specs.Deterministic.{IsDeterministic}
+use Rattle.lasso_emptiness.specs.Emptiness.{AcceptsNothing}
+use Rattle.unambiguous.specs.Runs.{AcceptingRun, IsUnambiguous, nth}
+use Rattle.unambiguous.specs.Square.{IsFlaggedSquare, TwoRuns}
+
+-- The flagged square accepts no lasso word exactly where the automaton is unambiguous.
+abbrev pub SquareDecides : Type 0
+SquareDecides = (a s : Automaton) → IsWellFormed a → IsFlaggedSquare a s → AcceptsNothing s ↔ IsUnambiguous a
+
+-- Word by word: the square accepts a lasso word exactly where two accepting runs over it differ.
+abbrev pub SquareAccepts : Type 0
+SquareAccepts = (a s : Automaton) → IsWellFormed a → IsFlaggedSquare a s → (u v : List NameSet) → Accepts s u v ↔ ((0 < length v) × TwoRuns a u v)
+
+-- Deterministic automata are unambiguous.
+abbrev pub DeterministicIsUnambiguous : Type 0
+DeterministicIsUnambiguous = (a : Automaton) → IsDeterministic a → IsUnambiguous a
+
+-- one state, and one edge back to it, twice
+abbrev pub turn : TreeEdge
+turn = record { from = 0; label = LabelTree.True; to = 0; marks = [] }
+
+abbrev pub twice : Automaton
+twice = record { names = []; starts = 0 ∷ []; states = 1; edges = turn ∷ turn ∷ []; sets = 0; formula = FormulaTree.True }
+
+-- It isn't unambiguous.
+abbrev pub TwiceIsAmbiguous : Type 0
+TwiceIsAmbiguous = IsUnambiguous twice → ⊥
+
+-- An automaton accepts the words that have an accepting run.
+abbrev pub RunsAreAcceptance : Type 0
+RunsAreAcceptance = (a : Automaton) (u v : List NameSet) → 0 < length v → Accepts a u v ↔ AcceptingRun a u v
+
+-- The places of the edges fix the start, and so all states: runs that differ differ in the places of their edges.
+abbrev pub PlacesFixStart : Type 0
+PlacesFixStart = (a : Automaton) (u v : List NameSet) → 0 < length v → (r t : AcceptingRun a u v) → ((n : ℕ) → nth r.way r.cycle n ≡ nth t.way t.cycle n) → r.start ≡ t.start

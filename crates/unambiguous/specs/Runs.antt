@@ -1,0 +1,43 @@
+-- Accepting runs over lasso words, as places in the list of edges, and unambiguous automata.
+use Rattle.std.specs.Prelude.{◌≡◌, ℕ, ◌-◌, ◌%◌, ◌<◌, true, List, [], ◌∷◌, ◌++◌, map, Contains, length, Option, Some, nat_lt, if◌then◌else◌, slice_get}
+use Rattle.std.specs.Option.{option_map_or}
+use Rattle.aut_base.specs.Automaton.{TreeEdge, Automaton}
+use Rattle.aut_base.specs.Formula.{met}
+use Rattle.aut_base.specs.Label.{truth, holds_at}
+use Rattle.aut_base.specs.Word.{NameSet, copies}
+
+-- the n-th of the list that is `stem` and then `cycle` again and again, from n = 0
+abbrev pub nth : {A : Type 0} → List A → List A → ℕ → Option A
+nth stem cycle n = if nat_lt n (length stem) then slice_get stem n else slice_get cycle ((n - length stem) % length cycle)
+
+-- the marks of the edge at this place
+abbrev pub marks_at : Automaton → ℕ → List ℕ
+marks_at a m = option_map_or (λ (e : TreeEdge). e.marks) (slice_get a.edges m) []
+
+-- a path from `p` to `q` along the edges at these places, which reads these letters
+abbrev pub IsTrack : Automaton → ℕ → List NameSet → List ℕ → ℕ → Type 0
+IsTrack a p [] [] q = p ≡ q
+IsTrack a p [] (m ∷ ms) q = ⊥
+IsTrack a p (x ∷ xs) [] q = ⊥
+IsTrack a p (x ∷ xs) (m ∷ ms) q =
+    (e : TreeEdge) × (slice_get a.edges m ≡ Some e) × (p ≡ e.from) × (truth (holds_at a.names x) e.label ≡ true) × IsTrack a e.to xs ms q
+
+-- a path from a start that reads the stem and then the cycle `turns` times, and one from its end back to that end that reads
+-- the cycle `rounds` times and meets the acceptance condition
+pub record AcceptingRun (a : Automaton) (u v : List NameSet) : Type 0 where
+  pub start : ℕ
+  pub state : ℕ
+  pub turns : ℕ
+  pub rounds : ℕ
+  pub way : List ℕ
+  pub cycle : List ℕ
+  pub is_start : Contains a.starts start
+  pub leads : IsTrack a start (u ++ copies turns v) way state
+  pub positive : 0 < rounds
+  pub returns : IsTrack a state (copies rounds v) cycle state
+  pub meets : met (map (marks_at a) cycle) a.formula ≡ true
+
+-- Two accepting runs over one lasso word go along the edges at the same places. Edges are told apart by their places: two equal
+-- edges at two places are two.
+abbrev pub IsUnambiguous : Automaton → Type 0
+IsUnambiguous a = (u v : List NameSet) → 0 < length v → (r t : AcceptingRun a u v) (n : ℕ) → nth r.way r.cycle n ≡ nth t.way t.cycle n

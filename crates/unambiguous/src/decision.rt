@@ -1,0 +1,29 @@
+//! Whether an automaton is unambiguous.
+
+ghost use Rattle.std.specs.Prelude.{◌≡◌, ◌↔◌, ◌+◌, ◌<◌, ◌^◌, IfOk, IsErrOf, IsTrue, OnOk};
+ghost use Rattle.aut_base.specs.declared.limit.TheConstants.{MOST_PAIRS};
+ghost use Rattle.aut_core.specs.Core.{automaton_of};
+ghost use Rattle.aut_ops.specs.Products.{HasMorePairs};
+ghost use Rattle.unambiguous.specs.Runs.{IsUnambiguous};
+ghost use Rattle.unambiguous.specs.declared.fault.SquareFault.{SquareFault};
+
+use crate::exploration::flagged_square;
+use crate::fault::SquareFault;
+use aut_core::Automaton;
+use lasso_emptiness::accepted_word;
+use std::alloc::Global;
+
+/// Whether on no lasso word two accepting runs of the automaton differ in an edge. Edges are compared by their places, so two
+/// equal edges at two places are two. Takes time and space linear in the edges of the product of the automaton with itself,
+/// and then what emptiness takes.
+pub fn is_unambiguous(alloc: Global, a: &Automaton) -> Result<bool, SquareFault>
+    requires sets { a.now.sets + a.now.sets + 1 < 2 ^ 32 }
+    ensures answer { IfOk result (λ found. IsTrue found ↔ IsUnambiguous (automaton_of a.now)) }
+    ensures few { OnOk result (HasMorePairs MOST_PAIRS (automaton_of a.now) (automaton_of a.now) → ⊥) }
+    ensures many { IsErrOf result SquareFault.Pairs → HasMorePairs MOST_PAIRS (automaton_of a.now) (automaton_of a.now) }
+{
+    a.whole();
+    let square = flagged_square(alloc, a)?;
+    let word = accepted_word(alloc, &square)?;
+    Ok(word.is_none())
+}
