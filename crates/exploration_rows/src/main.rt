@@ -4,6 +4,8 @@
 mod doubling;
 mod rising;
 
+ghost use Rattle.std.specs.Prelude.{◌<◌};
+
 use aut_base::{Memory, Numbers};
 use doubling::{Doubling, Number};
 use exploration::{Explored, Fault, Limits, explore};
