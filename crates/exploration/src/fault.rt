@@ -30,6 +30,14 @@ pub enum Fault {
     Memory,
 }
 
+impl From<Memory> for StepFault {
+    ghost from_gives = { λ _ fault. fault ≡ StepFault.Memory };
+
+    fn from(_want: Memory) -> StepFault {
+        StepFault::Memory
+    }
+}
+
 impl From<Memory> for Fault {
     ghost from_gives = { λ _ fault. fault ≡ Fault.Memory };
 
