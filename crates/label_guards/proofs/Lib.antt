@@ -2,6 +2,7 @@ pub mod Agreement
 pub mod Brought
 pub mod ClassGuards
 pub mod ClassLaws
+pub mod ClassLeastLaws
 pub mod ClassPlaces
 pub mod Firsts
 pub mod FoundClasses

@@ -1,3 +1,4 @@
+pub mod ClassLeasts
 pub mod Classes
 pub mod Guards
 pub mod Leasts

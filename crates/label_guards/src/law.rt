@@ -1,5 +1,6 @@
 //! What holds of the classes of letters that a list of guards tells apart.
 
+ghost use Rattle.label_guards.specs.ClassLeasts.{ClassesByLeasts, MoreClassesByLeasts};
 ghost use Rattle.label_guards.specs.Classes.{ClassesAreDetermined, ClassesExcludeMore, OneClassUnderNone};
 
 /// There are at most `most` classes, or there are more, and never both.
@@ -15,4 +16,14 @@ pub fn classes_are_determined()
 /// Under an empty list all is alike: the one class is true everywhere.
 pub fn one_class_under_none()
     ensures { OneClassUnderNone }
+{}
+
+/// The classes are those of the least valuations of what is alike, each in its place.
+pub fn classes_by_leasts()
+    ensures { ClassesByLeasts }
+{}
+
+/// Where there are more classes than `most`, there are more such valuations.
+pub fn more_classes_by_leasts()
+    ensures { MoreClassesByLeasts }
 {}

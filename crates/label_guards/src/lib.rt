@@ -17,4 +17,7 @@ mod table;
 
 pub use guard::{Guard, GuardList};
 pub use guards::Guards;
-pub use law::{classes_are_determined, classes_exclude_more, one_class_under_none};
+pub use law::{
+    classes_are_determined, classes_by_leasts, classes_exclude_more, more_classes_by_leasts,
+    one_class_under_none,
+};

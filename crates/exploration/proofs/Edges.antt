@@ -1,0 +1,180 @@
+-- The edges of what is explored, one by one.
+use Rattle.std.proofs.Common.{◌≡◌, ◌∙◌, ◌⊎◌, ◌<◌, ℕ, zero, suc, All, AllPairs, Bool, Contains, List, [], ◌∷◌, ◌++◌, None, Option, Some, ap, arith, get_or, inl, inr, length, refl, slice_get, subst, sym}
+use Rattle.std.proofs.lemmas.Bool.{cases_lt}
+use Rattle.std.proofs.lemmas.Option.{get_or_from_slice_get, none-some, same_Some, slice_get-get_or, slice_get_within}
+use Rattle.std.specs.List.{AllZip}
+use Rattle.aut_base.proofs.AllPairsOf.{pairs_append}
+use Rattle.aut_base.proofs.Lists.{slice_get-append_left}
+use Rattle.aut_base.proofs.Members.{each_there, there_at}
+use Rattle.exploration.specs.Moves.{Fails, Gives, Lacks, Move, Moves}
+use Rattle.exploration.specs.Reached.{IsArrow, IsExplored, Step, step_to, steps_before, steps_below, steps_of}
+use Rattle.exploration.specs.Turns.{Arrow}
+
+abbrev pub Has : {X : Type 0} → List X → X → Type 0
+Has xs x = (n : ℕ) × (slice_get xs n ≡ Some x)
+
+has_left : {X : Type 0} (xs ys : List X) (x : X) → Has xs x → Has (xs ++ ys) x
+has_left xs ys x h = (h.0, slice_get-append_left xs ys h.0 (slice_get_within xs h.0 x h.1) ∙ h.1)
+
+has_right : {X : Type 0} (xs ys : List X) (x : X) → Has ys x → Has (xs ++ ys) x
+has_right [] ys x h = h
+has_right (z ∷ xs) ys x h = let later = has_right xs ys x h in (suc later.0, later.1)
+
+has_cases : {X : Type 0} (xs ys : List X) (x : X) → Has (xs ++ ys) x → Has xs x ⊎ Has ys x
+has_cases [] ys x h = inr h
+has_cases (z ∷ xs) ys x (zero, at) = inl (zero, at)
+has_cases (z ∷ xs) ys x (suc n, at) = elim (has_cases xs ys x (n, at)) [
+  | inl h ↦ inl (suc h.0, h.1)
+  | inr h ↦ inr h
+]
+
+zip_right : {A B : Type 0} (R : A → B → Type 0) (xs : List A) (ys : List B) (n : ℕ) (y : B) → AllZip R xs ys → slice_get ys n ≡ Some y → (x : A) × (slice_get xs n ≡ Some x) × R x y
+zip_right R [] [] n y all at = absurd (none-some y at)
+zip_right R [] (b ∷ ys) n y all at = absurd all
+zip_right R (a ∷ xs) [] n y all at = absurd all
+zip_right R (a ∷ xs) (b ∷ ys) zero y all at = (a, refl, subst (R a) (same_Some b y at) all.0)
+zip_right R (a ∷ xs) (b ∷ ys) (suc n) y all at = zip_right R xs ys n y all.1 at
+
+zip_left : {A B : Type 0} (R : A → B → Type 0) (xs : List A) (ys : List B) (n : ℕ) (x : A) → AllZip R xs ys → slice_get xs n ≡ Some x → (y : B) × (slice_get ys n ≡ Some y) × R x y
+zip_left R [] [] n x all at = absurd (none-some x at)
+zip_left R [] (b ∷ ys) n x all at = absurd all
+zip_left R (a ∷ xs) [] n x all at = absurd all
+zip_left R (a ∷ xs) (b ∷ ys) zero x all at = (b, refl, subst (λ z. R z b) (same_Some a x at) all.0)
+zip_left R (a ∷ xs) (b ∷ ys) (suc n) x all at = zip_left R xs ys n x all.1 at
+
+has_from : {X : Type 0} (xs : List X) (x : X) → Contains xs x → Has xs x
+has_from xs x there = there_at xs x there
+
+-- an earlier place, or the same place and an earlier class
+abbrev pub Earlier : (place class other more : ℕ) → Type 0
+Earlier place class other more = (place < other) ⊎ ((place ≡ other) × (class < more))
+
+abbrev StepBefore : {X : Type 0} → Step X → Step X → Type 0
+StepBefore s t = Earlier s.from s.class t.from t.class
+
+abbrev pub ArrowBefore : Arrow → Arrow → Type 0
+ArrowBefore a b = Earlier a.from a.class b.from b.class
+
+module _ {X : Type 0} (m : Moves X) where
+  -- a step that gives something is among the steps
+  below_has : (p : ℕ) (x : X) (k j : ℕ) (y : X) → j < k → m.step x j ≡ Gives y → Has (steps_below m p x k) (record { from = p; class = j; to = y })
+  below_has p x zero j y less e = absurd (omega (arith, less))
+  below_has p x (suc k) j y less e = elim (cases_lt j k) [
+    | inl l ↦ has_left (steps_below m p x k) (step_to p k (m.step x k)) _ (below_has p x k j y l e)
+    | inr g ↦ (
+        let n : j ≡ k = omega (arith, less, g) in
+        has_right (steps_below m p x k) (step_to p k (m.step x k)) _ (subst (λ (i : ℕ). Has (step_to p i (m.step x i)) (record { from = p; class = j; to = y })) n
+        (subst (λ (v : Move X). Has (step_to p j v) (record { from = p; class = j; to = y })) (sym e) (zero, refl)))
+        )
+  ]
+
+  before_has : (things : List X) (n i : ℕ) (x : X) (k : ℕ) (y : X) → i < n → slice_get things i ≡ Some x → k < m.count x → m.step x k ≡ Gives y → Has (steps_before m things n) (record { from = i; class = k; to = y })
+  before_has things zero i x k y small at less e = absurd (omega (arith, small))
+  before_has things (suc n) i x k y small at less e = elim (cases_lt i n) [
+    | inl l ↦ has_left (steps_before m things n) (steps_of m n (slice_get things n)) _ (before_has things n i x k y l at less e)
+    | inr g ↦ (
+        let same : i ≡ n = omega (arith, small, g) in
+        has_right (steps_before m things n) (steps_of m n (slice_get things n)) _ (subst (λ (j : ℕ). Has (steps_of m j (slice_get things j)) (record { from = i; class = k; to = y })) same
+        (subst (λ (o : Option X). Has (steps_of m i o) (record { from = i; class = k; to = y })) (sym at) (below_has i x (m.count x) k y less e)))
+        )
+  ]
+
+  -- each of the steps is one that gives something
+  to_from : (p k : ℕ) (v : Move X) (t : Step X) → Has (step_to p k v) t → (t.from ≡ p) × (t.class ≡ k) × (v ≡ Gives t.to)
+  to_from p k (Gives y) t (zero, at) = let e = same_Some (record { from = p; class = k; to = y }) t at in (ap (λ (s : Step X). s.from) (sym e), ap (λ (s : Step X). s.class) (sym e), ap (λ (s : Step X). Gives s.to) e)
+  to_from p k (Gives y) t (suc n, at) = absurd (none-some t at)
+  to_from p k Lacks t h = absurd (none-some t h.1)
+  to_from p k Fails t h = absurd (none-some t h.1)
+
+  below_from : (p : ℕ) (x : X) (k : ℕ) (t : Step X) → Has (steps_below m p x k) t → (t.from ≡ p) × (t.class < k) × (m.step x t.class ≡ Gives t.to)
+  below_from p x zero t h = absurd (none-some t h.1)
+  below_from p x (suc k) t h = elim (has_cases (steps_below m p x k) (step_to p k (m.step x k)) t h) [
+    | inl old ↦ (let b = below_from p x k t old in (b.0, omega (arith, b.1), b.2))
+    | inr new ↦ (let b = to_from p k (m.step x k) t new in (b.0, omega (arith, b.1), ap (m.step x) b.1 ∙ b.2))
+  ]
+
+  abbrev IsStepOf : List X → Step X → Type 0
+  IsStepOf things t = (x : X) × (slice_get things t.from ≡ Some x) × (t.class < m.count x) × (m.step x t.class ≡ Gives t.to)
+
+  of_from : (things : List X) (p : ℕ) (o : Option X) (t : Step X) → slice_get things p ≡ o → Has (steps_of m p o) t → IsStepOf things t
+  of_from things p None t at h = absurd (none-some t h.1)
+  of_from things p (Some x) t at h = let b = below_from p x (m.count x) t h in (x, ap (slice_get things) b.0 ∙ at, b.1, b.2)
+
+  before_from : (things : List X) (n : ℕ) (t : Step X) → Has (steps_before m things n) t → IsStepOf things t
+  before_from things zero t h = absurd (none-some t h.1)
+  before_from things (suc n) t h = elim (has_cases (steps_before m things n) (steps_of m n (slice_get things n)) t h) [
+    | inl old ↦ before_from things n t old
+    | inr new ↦ of_from things n (slice_get things n) t refl new
+  ]
+
+  -- steps stand in the order of their places and classes
+  one_rises : (p k : ℕ) (v : Move X) → AllPairs StepBefore (step_to p k v)
+  one_rises p k (Gives y) i j d less within = absurd (omega (arith, less, within))
+  one_rises p k Lacks i j d less within = absurd (omega (arith, within))
+  one_rises p k Fails i j d less within = absurd (omega (arith, within))
+
+  below_rises : (p : ℕ) (x : X) (k : ℕ) → AllPairs StepBefore (steps_below m p x k)
+  below_rises p x zero = λ i j d less within. absurd (omega (arith, within))
+  below_rises p x (suc k) = pairs_append StepBefore (steps_below m p x k) (step_to p k (m.step x k)) (below_rises p x k) (one_rises p k (m.step x k))
+      (each_there (λ (s : Step X). All (StepBefore s) (step_to p k (m.step x k))) (steps_below m p x k) (λ s there.
+      each_there (StepBefore s) (step_to p k (m.step x k)) (λ t behind. (
+          let a = below_from p x k s (has_from (steps_below m p x k) s there) in
+          let b = to_from p k (m.step x k) t (has_from (step_to p k (m.step x k)) t behind) in
+          inr (a.0 ∙ sym b.0, omega (arith, a.1, b.1))
+          ))))
+
+  of_place : (p : ℕ) (o : Option X) (t : Step X) → Has (steps_of m p o) t → t.from ≡ p
+  of_place p None t h = absurd (none-some t h.1)
+  of_place p (Some x) t h = (below_from p x (m.count x) t h).0
+
+  before_within : (things : List X) (n : ℕ) (t : Step X) → Has (steps_before m things n) t → t.from < n
+  before_within things zero t h = absurd (none-some t h.1)
+  before_within things (suc n) t h = elim (has_cases (steps_before m things n) (steps_of m n (slice_get things n)) t h) [
+    | inl old ↦ (let less = before_within things n t old in omega (arith, less))
+    | inr new ↦ (let e = of_place n (slice_get things n) t new in omega (arith, e))
+  ]
+
+  of_rises : (p : ℕ) (o : Option X) → AllPairs StepBefore (steps_of m p o)
+  of_rises p None = λ i j d less within. absurd (omega (arith, within))
+  of_rises p (Some x) = below_rises p x (m.count x)
+
+  before_rises : (things : List X) (n : ℕ) → AllPairs StepBefore (steps_before m things n)
+  before_rises things zero = λ i j d less within. absurd (omega (arith, within))
+  before_rises things (suc n) = pairs_append StepBefore (steps_before m things n) (steps_of m n (slice_get things n)) (before_rises things n) (of_rises n (slice_get things n))
+      (each_there (λ (s : Step X). All (StepBefore s) (steps_of m n (slice_get things n))) (steps_before m things n) (λ s there.
+      each_there (StepBefore s) (steps_of m n (slice_get things n)) (λ t behind. (
+          let a = before_within things n s (has_from (steps_before m things n) s there) in
+          let b = of_place n (slice_get things n) t (has_from (steps_of m n (slice_get things n)) t behind) in
+          inl (omega (arith, a, b))
+          ))))
+
+  module _ (same : X → X → Bool) (start : X) (things : List X) (arrows : List Arrow) (is : IsExplored same m start things arrows) where
+    -- each class of a listed thing whose step gives something has an edge, which leads to the place of that
+    pub edge_for : (i k : ℕ) (x y : X) → slice_get things i ≡ Some x → k < m.count x → m.step x k ≡ Gives y → (a : Arrow) × Has arrows a × (a.from ≡ i) × (a.class ≡ k) × (slice_get things a.to ≡ Some y)
+    edge_for i k x y at less e =
+        let there = before_has things (length things) i x k y (slice_get_within things i x at) at less e in
+        let z = zip_right (IsArrow things) arrows (steps_before m things (length things)) there.0 _ is.edges there.1 in
+        (z.0, (there.0, z.1), z.2.from, z.2.class, z.2.to)
+
+    -- each edge is that of a step, between listed things
+    pub edge_from : (a : Arrow) → Has arrows a → (x y : X) × (slice_get things a.from ≡ Some x) × (a.class < m.count x) × (m.step x a.class ≡ Gives y) × (slice_get things a.to ≡ Some y)
+    edge_from a h =
+        let z = zip_left (IsArrow things) arrows (steps_before m things (length things)) h.0 a is.edges h.1 in
+        let t = z.0 in
+        let b = before_from things (length things) t (h.0, z.1) in
+        (b.0, t.to, ap (slice_get things) z.2.from ∙ b.1, subst (λ (n : ℕ). n < m.count b.0) (sym z.2.class) b.2, ap (m.step b.0) z.2.class ∙ b.3, z.2.to)
+
+    -- edges stand in the order of their places and classes
+    pub arrows_rise : AllPairs ArrowBefore arrows
+    arrows_rise i j d less within =
+        let steps = steps_before m things (length things) in
+        let a = zip_left (IsArrow things) arrows steps i (get_or arrows i d) is.edges (slice_get-get_or arrows i d (omega (arith, less, within))) in
+        let b = zip_left (IsArrow things) arrows steps j (get_or arrows j d) is.edges (slice_get-get_or arrows j d within) in
+        let first : get_or steps i a.0 ≡ a.0 = get_or_from_slice_get steps i a.0 a.0 a.1 in
+        let second : get_or steps j a.0 ≡ b.0 = get_or_from_slice_get steps j b.0 a.0 b.1 in
+        let before : StepBefore a.0 b.0 = subst (λ (s : Step X). StepBefore s b.0) first (subst (StepBefore (get_or steps i a.0)) second (before_rises things (length things) i j a.0 less (slice_get_within steps j b.0 b.1))) in
+        arrow_before (get_or arrows i d) (get_or arrows j d) a.0 b.0 a.2 b.2 before
+      where
+        arrow_before : (a b : Arrow) (s t : Step X) → IsArrow things a s → IsArrow things b t → StepBefore s t → ArrowBefore a b
+        arrow_before a b s t p q (inl less) = let e = p.from in let f = q.from in inl (omega (arith, less, e, f))
+        arrow_before a b s t p q (inr same) = let e = p.class in let f = q.class in let less = same.1 in inr (p.from ∙ (same.0 ∙ sym q.from), omega (arith, less, e, f))

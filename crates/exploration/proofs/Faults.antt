@@ -1,0 +1,27 @@
+-- Faults that are passed on.
+use Rattle.std.proofs.Common.{◌≡◌, ◌⊎◌, IfErr, Result, Ok, Err, inl, inr, subst, sym}
+use Rattle.std.specs.Result.{IsErrAnd}
+use Rattle.exploration.specs.Faults.{step_fault}
+use Rattle.exploration.specs.Moves.{Fails, IsStep, Move}
+use Rattle.exploration.specs.declared.fault.Fault.{Fault}
+use Rattle.exploration.specs.declared.fault.Fault.TheVariants as fault
+use Rattle.exploration.specs.declared.fault.StepFault.{StepFault}
+use Rattle.exploration.specs.declared.fault.StepFault.TheVariants as step
+
+pub err_is : {T : Type 0} (P : Fault → Type 0) (r : Result T Fault) (came : Fault) → IsErrAnd r (λ y. y ≡ came) → P came → IfErr r P
+err_is P (Ok x) came e p = tt
+err_is P (Err y) came e p = subst P (sym e) p
+
+pub step_met : {X : Type 0} (P : Fault → Type 0) (move : Move X) (came : StepFault) → IsStep move (Err came) → (move ≡ Fails → P fault.Nodes) → P fault.Memory → P (step_fault came)
+step_met P move step.Nodes is fails memory = fails is
+step_met P move step.Memory is fails memory = memory
+
+pub list_met : (P : Fault → Type 0) (Q : Type 0) (came : Fault) → (came ≡ fault.Memory) ⊎ ((came ≡ fault.Things) × Q) → (Q → P fault.Things) → P fault.Memory → P came
+list_met P Q came is full memory = elim is [
+  | inl e ↦ subst P (sym e) memory
+  | inr e ↦ subst P (sym e.0) (full e.1)
+]
+
+pub if_err_map : {T : Type 0} (P Q : Fault → Type 0) (r : Result T Fault) → ((f : Fault) → P f → Q f) → IfErr r P → IfErr r Q
+if_err_map P Q (Ok x) h p = tt
+if_err_map P Q (Err y) h p = h y p

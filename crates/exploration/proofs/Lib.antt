@@ -1,0 +1,10 @@
+pub mod Causes
+pub mod Edges
+pub mod Ends
+pub mod Exploring
+pub mod Faults
+pub mod Lists
+pub mod Midways
+pub mod Places
+pub mod Spreading
+pub mod Turning

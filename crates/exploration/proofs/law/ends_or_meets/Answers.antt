@@ -1,0 +1,5 @@
+use Rattle.exploration.proofs.Ends as ends
+use Rattle.exploration.proofs.law.ends_or_meets.Goals as goal
+
+pub returns : goal.returns
+returns g c = ends.ends_or_meets _

@@ -1,0 +1,66 @@
+//! Why an exploration ended early.
+
+ghost use Rattle.std.specs.Prelude.{◌≡◌};
+ghost use Rattle.exploration.specs.declared.fault.Fault.{Fault};
+ghost use Rattle.exploration.specs.declared.fault.StepFault.{StepFault};
+ghost use Rattle.exploration.specs.Faults.{step_fault};
+
+use aut_base::Memory;
+use std::alloc::AllocFailed;
+
+/// Why a step could not be taken.
+#[derive(Clone, Copy, Debug, PartialEq, Eq)]
+pub enum StepFault {
+    /// The step needs more nodes than there may be.
+    Nodes,
+    /// Want of memory.
+    Memory,
+}
+
+/// Why an exploration ended early.
+#[derive(Clone, Copy, Debug, PartialEq, Eq)]
+pub enum Fault {
+    /// The things that were taken in hand have more classes together than there may be.
+    Classes,
+    /// A step of a thing that is reached fails.
+    Nodes,
+    /// More things are reached than there may be.
+    Things,
+    /// Want of memory.
+    Memory,
+}
+
+impl From<Memory> for StepFault {
+    ghost from_gives = { λ _ fault. fault ≡ StepFault.Memory };
+
+    fn from(_want: Memory) -> StepFault {
+        StepFault::Memory
+    }
+}
+
+impl From<Memory> for Fault {
+    ghost from_gives = { λ _ fault. fault ≡ Fault.Memory };
+
+    fn from(_want: Memory) -> Fault {
+        Fault::Memory
+    }
+}
+
+impl<T: Drop> From<AllocFailed<T>> for Fault {
+    ghost from_gives = { λ _ fault. fault ≡ Fault.Memory };
+
+    fn from(_want: AllocFailed<T>) -> Fault {
+        Fault::Memory
+    }
+}
+
+impl From<StepFault> for Fault {
+    ghost from_gives = { λ came fault. fault ≡ step_fault came };
+
+    fn from(came: StepFault) -> Fault {
+        match came {
+            StepFault::Nodes => Fault::Nodes,
+            StepFault::Memory => Fault::Memory,
+        }
+    }
+}

@@ -1,0 +1,20 @@
+//! Laws of explorations.
+
+ghost use Rattle.exploration.specs.Turns.{EndsOrMeets, HasOneEnding, HasOneOutcome};
+
+use crate::system::System;
+
+/// An exploration has one outcome: it ends or meets a limit, and which is determined.
+pub fn outcome_is_one<S: System>()
+    ensures { HasOneOutcome S.Thing }
+{}
+
+/// An exploration that ends does so with one list of things and one of edges.
+pub fn ending_is_one<S: System>()
+    ensures { HasOneEnding S.Thing }
+{}
+
+/// An exploration that ends meets no limit.
+pub fn ends_or_meets<S: System>()
+    ensures { EndsOrMeets S.Thing }
+{}

@@ -1,0 +1,17 @@
+//! What a deterministic transition system reaches, in breadth-first order, within limits.
+//!
+//! A caller writes a `System` and calls `explore`. What a system does is defined in `specs/Moves`, the exploration turn by
+//! turn, and so which limit it meets first, in `specs/Turns`, and what it finds in `specs/Reached`.
+#![tactic(auto)]
+
+mod exploration;
+mod fault;
+mod law;
+mod limits;
+mod system;
+
+pub use exploration::{Edge, Explored, explore};
+pub use fault::{Fault, StepFault};
+pub use law::{ending_is_one, ends_or_meets, outcome_is_one};
+pub use limits::Limits;
+pub use system::System;

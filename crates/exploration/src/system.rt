@@ -1,0 +1,59 @@
+//! What is explored.
+
+ghost use Rattle.std.specs.Prelude.{◌≡◌, ◌<◌, ◌≤◌, ℕ, true, IfOk, MatchOption};
+ghost use Rattle.exploration.specs.Moves.{AreClasses, IsStep, Keeps, Moves};
+
+use crate::fault::StepFault;
+use aut_base::Memory;
+use std::alloc::Global;
+use std::hash::Hash;
+
+/// A deterministic transition system. Each thing has classes, which go by number, and for each class there is at most one
+/// thing to which a step leads. What the system does (`moves`) stays the same while it works, though it may grow, as a
+/// store of labels does.
+pub trait System {
+    /// What steps lead from and to.
+    type Thing: Eq + Hash + Drop;
+
+    /// The handle of a class, as a guard of a store.
+    type Class: Copy;
+
+    // how many classes a thing has, and to what the step for each of them leads
+    ghost moves: { Self → Moves Self.Thing };
+
+    // what may be asked of this system
+    ghost fits: { Self → Self.Thing → Type 0 };
+
+    // the handle is that of the class of this number
+    ghost is_class: { Self → Self.Thing → ℕ → Self.Class → Type 0 };
+
+    /// The classes of a thing in order, or None exactly where there are more than `most`.
+    fn classes(
+        &mut self,
+        alloc: Global,
+        thing: &Self::Thing,
+        most: u32,
+    ) -> Result<Option<Vec<Self::Class>>, Memory>
+        requires { fits self.old thing.now }
+        ensures keeps { Keeps (moves self.old) (moves self.new) (fits self.old) (fits self.new) (is_class self.old) (is_class self.new) }
+        ensures classes { IfOk result (λ found. MatchOption found (most < (moves self.old).count thing.now) (λ cs. AreClasses (is_class self.new thing.now) ((moves self.old).count thing.now) cs.items)) }
+        ensures few { IfOk result (λ found. MatchOption found (Unit {0}) (λ cs. (moves self.old).count thing.now ≤ most)) };
+
+    /// The thing to which the step for this class leads, or None where there is none.
+    fn step(
+        &mut self,
+        alloc: Global,
+        thing: &Self::Thing,
+        number: u32,
+        class: Self::Class,
+    ) -> Result<Option<Self::Thing>, StepFault>
+        requires fits { fits self.old thing.now }
+        requires number { number < (moves self.old).count thing.now }
+        requires class { is_class self.old thing.now number class }
+        ensures keeps { Keeps (moves self.old) (moves self.new) (fits self.old) (fits self.new) (is_class self.old) (is_class self.new) }
+        ensures step { IsStep ((moves self.old).step thing.now number) result }
+        ensures gives { IfOk result (λ found. MatchOption found (Unit {0}) (fits self.new)) };
+
+    // things that compare as equal are the same
+    ghost tells: { (a b : Self.Thing) → Self.Thing.eq a b ≡ true → a ≡ b };
+}

@@ -1,0 +1,4 @@
+pub mod LivePaths
+pub mod LongPaths
+pub mod Prefixed
+pub mod Stops

@@ -1,0 +1,84 @@
+-- A path over copies of a list, by the states that it is in after each.
+use Rattle.std.proofs.Common.{◌≡◌, ◌∙◌, ◌+◌, ◌-◌, ◌<◌, ◌≤◌, ℕ, zero, suc, List, [], ◌++◌, ap, arith, refl, subst, sym}
+use Rattle.aut_base.proofs.Paths.{path_join, path_split}
+use Rattle.aut_base.specs.Acceptance.{IsPath}
+use Rattle.aut_base.specs.Automaton.{Automaton, TreeEdge}
+use Rattle.aut_base.specs.Word.{NameSet, copies}
+use Rattle.aut_base.proofs.Pigeonhole.{pigeons}
+
+abbrev pub first_then : {A : Type 0} → A → (ℕ → A) → ℕ → A
+first_then x f zero = x
+first_then x f (suc i) = f i
+
+pub record Stops (a : Automaton) (v : List NameSet) (k p : ℕ) : Type 0 where
+  pub at : ℕ → ℕ
+  pub way : ℕ → List TreeEdge
+  pub first : at 0 ≡ p
+  pub leg : (i : ℕ) → i < k → IsPath a (at i) v (way i) (at (suc i))
+
+pub stops : (a : Automaton) (v : List NameSet) (k p q : ℕ) (es : List TreeEdge) → IsPath a p (copies k v) es q → Stops a v k p
+stops a v zero p q es path = record { at = λ i. p; way = λ i. []; first = refl; leg = λ i less. absurd (omega (arith, less)) }
+stops a v (suc k) p q es path =
+    let parts = path_split a p q v (copies k v) es path in
+    let rest = stops a v k parts.middle q parts.back parts.second in
+    record {
+      at = first_then p rest.at;
+      way = first_then parts.front rest.way;
+      first = refl;
+      leg = legs a v k p parts.front parts.middle parts.first rest;
+    }
+  where
+    legs : (a : Automaton) (v : List NameSet) (k p : ℕ) (front : List TreeEdge) (middle : ℕ) → IsPath a p v front middle → (rest : Stops a v k middle) → (i : ℕ) → i < suc k → IsPath a (first_then p rest.at i) v (first_then front rest.way i) (first_then p rest.at (suc i))
+    legs a v k p front middle path rest zero less = subst (λ r. IsPath a p v front r) (sym rest.first) path
+    legs a v k p front middle path rest (suc i) less = rest.leg i (omega (arith, less))
+
+pub record Way (a : Automaton) (p : ℕ) (xs : List NameSet) (q : ℕ) : Type 0 where
+  pub way : List TreeEdge
+  pub leads : IsPath a p xs way q
+
+-- from one of these states to a later one
+pub between : (a : Automaton) (v : List NameSet) (k p : ℕ) (s : Stops a v k p) (i d : ℕ) → i + d ≤ k → Way a (s.at i) (copies d v) (s.at (i + d))
+between a v k p s i zero within = let e : i ≡ i + 0 = omega arith in record { way = []; leads = ap s.at e }
+between a v k p s i (suc d) within =
+    let e : suc i + d ≡ i + suc d = omega arith in
+    let rest = between a v k p s (suc i) d (omega (arith, within)) in
+    let whole = path_join a (s.at i) (s.at (suc i)) (s.at (suc i + d)) v (copies d v) (s.way i) rest.way (s.leg i (omega (arith, within))) rest.leads in
+    record { way = s.way i ++ rest.way; leads = subst (λ n. IsPath a (s.at i) (v ++ copies d v) (s.way i ++ rest.way) (s.at n)) e whole }
+
+-- a path over copies of the list that leads to a closed path over copies of it
+pub record Loop (a : Automaton) (v : List NameSet) (p : ℕ) : Type 0 where
+  pub before : ℕ
+  pub more : ℕ
+  pub positive : 0 < more
+  pub state : ℕ
+  pub way : List TreeEdge
+  pub cycle : List TreeEdge
+  pub leads : IsPath a p (copies before v) way state
+  pub returns : IsPath a state (copies more v) cycle state
+
+loop_between : (a : Automaton) (v : List NameSet) (k p : ℕ) (s : Stops a v k p) (i d : ℕ) → 0 < d → i + d ≤ k → s.at i ≡ s.at (i + d) → Loop a v p
+loop_between a v k p s i d some within same =
+    let lead = between a v k p s 0 i (omega (arith, within)) in
+    let round = between a v k p s i d within in
+    let e : 0 + i ≡ i = omega arith in
+    record {
+      before = i;
+      more = d;
+      positive = some;
+      state = s.at i;
+      way = lead.way;
+      cycle = round.way;
+      leads = subst (λ q. IsPath a q (copies i v) lead.way (s.at i)) s.first (subst (λ j. IsPath a (s.at 0) (copies i v) lead.way (s.at j)) e lead.leads);
+      returns = subst (λ q. IsPath a (s.at i) (copies d v) round.way q) (sym same) round.leads;
+    }
+
+-- more copies than there are states
+pub loop_of : (a : Automaton) (v : List NameSet) (n p : ℕ) (s : Stops a v n p) → ((i : ℕ) → i ≤ n → s.at i < n) → Loop a v p
+loop_of a v n p s below =
+    let again = pigeons n s.at (suc n) (omega arith) (λ i within. below i (omega (arith, within))) in
+    by again.first again.second again.later again.within again.same
+  where
+    by : (i j : ℕ) → i < j → j < suc n → s.at i ≡ s.at j → Loop a v p
+    by i j later within same =
+        let e : j ≡ i + (j - i) = omega (arith, later) in
+        loop_between a v n p s i (j - i) (omega (arith, later)) (omega (arith, later, within)) (same ∙ ap s.at e)

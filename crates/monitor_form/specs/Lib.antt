@@ -1,0 +1,6 @@
+pub mod Faults
+pub mod Monitors
+pub mod Prefixes
+pub mod Sets
+pub mod Subsets
+pub mod Systems

@@ -1,0 +1,75 @@
+-- Automata over sets of states, which go on as long as some accepted word is left.
+use Rattle.std.specs.Prelude.{◌≡◌, ◌↔◌, ℕ, ◌<◌, false, true, List, [], ◌∷◌, Contains, length, map}
+use Rattle.std.specs.List.{slice_index_or}
+use Rattle.aut_base.specs.Acceptance.{IsPath}
+use Rattle.aut_base.specs.Automaton.{Automaton, IsWellFormed, TreeEdge}
+use Rattle.aut_base.specs.Formula.{FormulaTree, Inf, met}
+use Rattle.aut_base.specs.Label.{holds_at, truth}
+use Rattle.aut_base.specs.Word.{NameSet}
+use Rattle.aut_ops.specs.Pruning.{IsPruned}
+use Rattle.monitor_form.specs.Prefixes.{AcceptsPrefixes}
+
+-- some accepted lasso word can be read from the state on
+pub record IsLive (b : Automaton) (q : ℕ) : Type 0 where
+  pub stem : List NameSet
+  pub round : List NameSet
+  pub some : 0 < length round
+  pub state : ℕ
+  pub way : List TreeEdge
+  pub cycle : List TreeEdge
+  pub leads : IsPath b q stem way state
+  pub returns : IsPath b state round cycle state
+  pub meets : met (map (λ e. e.marks) cycle) b.formula ≡ true
+
+-- this is so of each start, and of each state that an edge leads to
+pub record AreLive (b : Automaton) : Type 0 where
+  pub starts : (s : ℕ) → Contains b.starts s → IsLive b s
+  pub ends : (e : TreeEdge) → Contains b.edges e → IsLive b e.to
+
+-- an edge leads from a state of the set to this one, and allows the letter
+pub record IsGoal (b : Automaton) (set : List ℕ) (x : NameSet) (q : ℕ) : Type 0 where
+  pub edge : TreeEdge
+  pub there : Contains b.edges edge
+  pub from : Contains set edge.from
+  pub allowed : truth (holds_at b.names x) edge.label ≡ true
+  pub to : edge.to ≡ q
+
+-- the set at a place of a list of sets
+abbrev pub set_at : List (List ℕ) → ℕ → List ℕ
+set_at sets i = slice_index_or sets i []
+
+-- the set at place j is that of the goals from the set at place i, and isn't empty
+pub record IsMove (b : Automaton) (sets : List (List ℕ)) (x : NameSet) (i j : ℕ) : Type 0 where
+  pub below : j < length sets
+  pub goals : (q : ℕ) → Contains (set_at sets j) q ↔ IsGoal b (set_at sets i) x q
+  pub some : ℕ
+  pub there : Contains (set_at sets j) some
+
+-- an edge from this place allows the letter
+pub record HasEdge (m : Automaton) (i : ℕ) (x : NameSet) : Type 0 where
+  pub edge : TreeEdge
+  pub there : Contains m.edges edge
+  pub from : edge.from ≡ i
+  pub allowed : truth (holds_at m.names x) edge.label ≡ true
+
+-- place 0, if there is a state to start in
+abbrev pub first_places : List ℕ → List ℕ
+first_places [] = []
+first_places (s ∷ ss) = 0 ∷ []
+
+-- The states of m are the places of the list of sets, and its run is in the set of all states that b can be in. It is stuck
+-- where that set is empty.
+pub record IsMonitorOf (b m : Automaton) (sets : List (List ℕ)) : Type 0 where
+  pub starts : m.starts ≡ first_places b.starts
+  pub first : (q : ℕ) → Contains (set_at sets 0) q ↔ Contains b.starts q
+  pub steps : (e : TreeEdge) (x : NameSet) → Contains m.edges e → truth (holds_at m.names x) e.label ≡ true → IsMove b sets x e.from e.to
+  pub total : (i : ℕ) (x : NameSet) (q : ℕ) → i < length sets → IsGoal b (set_at sets i) x q → HasEdge m i x
+  pub formula : m.formula ≡ FormulaTree.True
+
+-- Over an automaton whose states are live, such an automaton accepts the words of which no finite part is ruled out.
+abbrev pub MonitorAccepts : Type 0
+MonitorAccepts = (b m : Automaton) (sets : List (List ℕ)) → AreLive b → IsMonitorOf b m sets → AcceptsPrefixes m b
+
+-- Pruning leaves states that are live.
+abbrev pub PrunedAreLive : Type 0
+PrunedAreLive = (a made : Automaton) → IsWellFormed a → a.formula ≡ Inf 0 false → IsPruned a made → AreLive made

@@ -1,0 +1,59 @@
+//! Why there is no monitor.
+
+ghost use Rattle.std.specs.Prelude.{◌≡◌, ◌≢◌};
+ghost use Rattle.degeneralise.specs.declared.fault.BuchiFault.{BuchiFault};
+ghost use Rattle.exploration.specs.declared.fault.Fault.{Fault};
+ghost use Rattle.monitor_form.specs.Faults.{buchi_fault, exploration_fault};
+ghost use Rattle.monitor_form.specs.declared.fault.MonFault.{MonFault};
+
+use aut_base::Memory;
+use degeneralise::BuchiFault;
+use exploration::Fault;
+
+/// Why a monitor was not made.
+#[derive(Clone, Copy, Debug, PartialEq, Eq)]
+pub enum MonFault {
+    /// The condition's terms are needed, and too many to be listed.
+    Terms,
+    /// The Büchi form would have too many states.
+    BuchiStates,
+    /// The sets that were taken in hand have more classes of letters together than `aut_base::MOST_CLASSES`.
+    Classes,
+    /// More sets of states are reached than `aut_base::MOST_SUBSETS`.
+    Subsets,
+    /// Want of memory.
+    Memory,
+}
+
+impl From<Memory> for MonFault {
+    ghost from_gives = { λ _ fault. fault ≡ MonFault.Memory };
+
+    fn from(_want: Memory) -> MonFault {
+        MonFault::Memory
+    }
+}
+
+impl From<BuchiFault> for MonFault {
+    ghost from_gives = { λ came fault. fault ≡ buchi_fault came };
+
+    fn from(came: BuchiFault) -> MonFault {
+        match came {
+            BuchiFault::Terms => MonFault::Terms,
+            BuchiFault::BuchiStates => MonFault::BuchiStates,
+            BuchiFault::Memory => MonFault::Memory,
+        }
+    }
+}
+
+/// The limit that an exploration met in which no step fails.
+pub(crate) fn limit_met(fault: Fault) -> MonFault
+    requires { fault ≢ Fault.Nodes }
+    ensures { result ≡ exploration_fault fault }
+{
+    match fault {
+        Fault::Classes => MonFault::Classes,
+        Fault::Things => MonFault::Subsets,
+        Fault::Memory => MonFault::Memory,
+        Fault::Nodes => unreachable!(),
+    }
+}

@@ -1,0 +1,14 @@
+//! Monitors: the deterministic automata of the words of which no finite part is ruled out.
+//!
+//! A caller sees `monitor`. Its language is defined in `specs/Prefixes`, its shape and its limits in `specs/Subsets`.
+#![tactic(auto)]
+
+mod fault;
+mod form;
+mod goals;
+mod law;
+mod subsets;
+
+pub use fault::MonFault;
+pub use form::monitor;
+pub use law::{monitor_accepts, monitor_excludes_limits, monitor_is_determined, pruned_are_live};

@@ -1,0 +1,68 @@
+//! The sets of states of an automaton, as a system that is explored.
+
+ghost use Rattle.std.specs.Prelude.{◌≡◌};
+
+use crate::goals::{goals, set_guards};
+use aut_base::{Memory, Numbers};
+use aut_core::Automaton;
+use exploration::{StepFault, System};
+use label_guards::{Guard, Guards};
+use std::alloc::Global;
+
+/// The sets of states of an automaton, as lists of numbers in rising order, and a store that has its guards and those of the
+/// classes that were asked for.
+#[derive(Drop)]
+pub(crate) struct Subsets<'a> {
+    pub(crate) automaton: &'a Automaton,
+    pub(crate) guards: Guards,
+}
+
+impl<'a> System for Subsets<'a> {
+    ghost use Rattle.aut_core.specs.Core.{automaton_of};
+    ghost use Rattle.monitor_form.specs.Sets.{same_set};
+    ghost use Rattle.monitor_form.specs.Subsets.{subset_moves};
+    ghost use Rattle.monitor_form.specs.Systems.{FitsStore, IsClassGuard};
+
+    type Thing = Numbers;
+
+    type Class = Guard;
+
+    ghost moves = { λ s. subset_moves (automaton_of s.automaton.now) };
+
+    ghost fits = { λ s set. FitsStore s.automaton.now s.guards set };
+
+    ghost is_class = { λ s set k g. IsClassGuard s.automaton.now s.guards set k g };
+
+    ghost tells = { same_set };
+
+    fn classes(
+        &mut self,
+        alloc: Global,
+        thing: &Numbers,
+        most: u32,
+    ) -> Result<Option<Vec<Guard>>, Memory> {
+        let list = set_guards(alloc, self.automaton, thing.as_slice())?;
+        match self.guards.classes(alloc, &list, most)? {
+            Some(classes) => Ok(Some(classes.into_vec())),
+            None => Ok(None),
+        }
+    }
+
+    fn step(
+        &mut self,
+        alloc: Global,
+        thing: &Numbers,
+        _number: u32,
+        class: Guard,
+    ) -> Result<Option<Numbers>, StepFault> {
+        self.automaton.whole();
+        let Some(letter) = self.guards.pick(alloc, self.automaton.names(), class)? else {
+            unreachable!()
+        };
+        let goals = goals(alloc, self.automaton, thing.as_slice(), &letter)?;
+        if goals.is_empty() {
+            return Ok(None);
+        }
+        Ok(Some(goals))
+    }
+}
