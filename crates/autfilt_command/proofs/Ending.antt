@@ -1,5 +1,6 @@
 -- Runs that a fault ends, and runs that read all.
-use Rattle.std.proofs.Common.{◌≡◌, ◌≢◌, ℕ, ◌+◌, ◌≤◌, ◌==◌, Bool, true, false, if◌then◌else◌, List, [], ◌∷◌, ◌++◌, length, take, drop, Option, Some, None, Err, refl, sym, ap, ◌∙◌, subst, inl, inr, append_assoc, append-nil, arith}
+use Rattle.std.proofs.Common.{◌≡◌, ◌≢◌, ℕ, ◌+◌, ◌≤◌, ◌==◌, Bool, true, false, not, ◌&&◌, ◌||◌, if◌then◌else◌, List, [], ◌∷◌, ◌++◌, length, take, drop, Option, Some, None, Err, refl, sym, ap, ◌∙◌, subst, inl, inr, append_assoc, append-nil, arith}
+use Rattle.std.proofs.lemmas.Bool.{false≢true}
 use Rattle.std.proofs.lemmas.List.{drop_all}
 use Rattle.aut_base.proofs.AllByRecursion.{AllByRecursion-push}
 use Rattle.aut_base.specs.Automaton.{Automaton}
@@ -26,7 +27,7 @@ use Rattle.autfilt_run.proofs.Writing.{rose_from}
 use Rattle.autfilt_run.specs.Events.{Dropped, Ended, Event, IsGood, IsJudged, Kept, Opened, Point, ReadsOn, Skipped, Stream, Tally, all_written, counted, place, read_on, start_of, tally, tally_from}
 use Rattle.autfilt_run.specs.Faults.{stop_of_fault}
 use Rattle.autfilt_run.specs.Over.{IsOver}
-use Rattle.autfilt_run.specs.Plans.{asks_on, count_text, streams_of}
+use Rattle.autfilt_run.specs.Plans.{asks_on, count_text, prints_count, prints_each, streams_of}
 use Rattle.autfilt_run.specs.Points.{IsIn, StandsAt, name_in, operands_in}
 use Rattle.autfilt_run.specs.Runs.{AtNamed, AtStream, IsCounted, IsDone, LacksMemory, Stops, StopsAt, WantsMemory, WantsStream, taken_in, taken_of}
 use Rattle.autfilt_run.specs.Turns.{Fails, IsDoneWith, IsStill, KeepsInPart, OpensNext, Reads, Tries, progress}
@@ -72,9 +73,16 @@ record HaltsAt (f : RunFault) (old : Session) (name : List ℕ) (m t : Seen) (p 
   causes : (s : Seen) (o : SinkSeen) → AreCalm s m o p → EndsBecause (ended_of (end.Fault f)) s t o q
   texts : t.texts ≡ m.texts
 
-run_halted : (f : RunFault) (name : List ℕ) (fresh old : Session) (s m t : Seen) (o p q k l j : SinkSeen) (first noting : Bool) → HasRun fresh old s m o p k l first noting → HaltsAt f old name m t p q
+fault_in : {f g : RunFault} → end.Fault f ≡ end.Fault g → f ≡ g
+fault_in e = ap fault_or_memory e
+  where
+    fault_or_memory : End → RunFault
+    fault_or_memory (end.Fault f) = f
+    fault_or_memory _ = fault.Memory
+
+run_halted : (f : RunFault) → f ≢ fault.WriteFault → (name : List ℕ) (fresh old : Session) (s m t : Seen) (o p q k l j : SinkSeen) (first noting : Bool) → HasRun fresh old s m o p k l first noting → HaltsAt f old name m t p q
     → Closes (line_of (end.Fault f) name) noting l j → Carries fresh first (end.Fault f) s t o q k j
-run_halted f name fresh old s m t o p q k l j first noting h at closes = record {
+run_halted f other name fresh old s m t o p q k l j first noting h at closes = record {
   events = h.events;
   name = name;
   runs = record {
@@ -85,6 +93,7 @@ run_halted f name fresh old s m t o p q k l j first noting h at closes = record 
           point = r.point;
           happen = r.happen;
           ends = of_fresh (λ x ops. Halts f x ops name t.left r.point) fresh old h.same_plan h.same_operands (at.halts texts (h.texts ∙ told) r.point r.stands);
+          numbered = λ is. absurd (other (fault_in is));
         };
     tallied = tt;
     prints = at.prints fresh.plan h.events o.written q.written (subst (λ (x : SinkSeen). Gains o.written x.written (all_written h.events)) (sym at.output) h.gains);
@@ -223,13 +232,23 @@ halted (fault.Limit which) name old new m t p q n steady h is =
 
 -- ---- a write that failed
 
-broken_off : (events : List Event) (w : Written) (text : List ℕ) (a b c : Option (List ℕ)) → Gains a b (all_written events) → GainsPrefix b c text → BreaksOff (events ++ Kept w text ∷ []) a c
-broken_off events w text None b c h p =
+-- the number is printed, or each automaton
+never_both : (p : Plan) → prints_count p ≡ true → prints_each p ≡ true → ⊥
+never_both p counts each = by p.count p.quiet counts each
+  where
+    by : (c q : Bool) → (c && not q) ≡ true → not (q || c) ≡ true → ⊥
+    by true true h k = false≢true h
+    by true false h k = false≢true k
+    by false true h k = false≢true h
+    by false false h k = false≢true h
+
+broken_off : (plan : Plan) → prints_each plan ≡ true → (events : List Event) (w : Written) (text : List ℕ) (a b c : Option (List ℕ)) → Gains a b (all_written events) → GainsPrefix b c text → BreaksOff plan (events ++ Kept w text ∷ []) a c
+broken_off plan on events w text None b c h p =
     let q : c ≡ None = subst (λ (x : Option (List ℕ)). GainsPrefix x c text) h p in
-    record { earlier = events; automaton = w; text = text; all = refl; part = 0; gains = q }
-broken_off events w text (Some old) b c h p =
+    record { prints = on; earlier = events; automaton = w; text = text; all = refl; part = 0; gains = q }
+broken_off plan on events w text (Some old) b c h p =
     let q = subst (λ (x : Option (List ℕ)). GainsPrefix x c text) h p in
-    record { earlier = events; automaton = w; text = text; all = refl; part = q.0; gains = q.1 ∙ ap Some (append_assoc old (all_written events) (take q.0 text)) }
+    record { prints = on; earlier = events; automaton = w; text = text; all = refl; part = q.0; gains = q.1 ∙ ap Some (append_assoc old (all_written events) (take q.0 text)) }
 
 -- The automaton whose text could not be written whole was read, and is to be kept.
 record IsLast (w : Written) (t : Seen) (at : Point) : Type 0 where
@@ -257,6 +276,7 @@ write_failed : (fresh old new : Session) (s m t : Seen) (o p q k l j : SinkSeen)
 write_failed fresh old new s m t o p q k l j first noting name steady same h part closes =
     let line = line_of (end.Fault fault.WriteFault) name in
     let event = Kept part.automaton part.text in
+    let on = subst (λ (x : Plan). prints_each x ≡ true) h.same_plan part.prints in
     record {
       events = h.events ++ event ∷ [];
       name = name;
@@ -269,9 +289,10 @@ write_failed fresh old new s m t o p q k l j first noting name steady same h par
               point = x.point;
               happen = happen_push fresh.plan texts h.events event (start_of (streams_of fresh.plan) s.left fresh.lexer.taken) r.point x.point r.happen (asks_of fresh old m.left r.point h.same_plan r.stands part.reading.asks) x.goes;
               ends = (x.left, x.counted);
+              numbered = λ is counts. absurd (never_both fresh.plan counts on);
             };
         tallied = tt;
-        prints = inl (broken_off h.events part.automaton part.text o.written p.written q.written h.gains part.gains);
+        prints = inl (broken_off fresh.plan on h.events part.automaton part.text o.written p.written q.written h.gains part.gains);
       };
       noted = λ sink text before.
           notes_as sink j _ _ (ap (λ x. text ++ (x ++ line)) (sym (noted_push h.events event ∙ append-nil (all_noted h.events)))) (closed fresh old s m o p k l j first noting line h closes sink text before);
@@ -285,19 +306,19 @@ pub run_failed : (f : RunFault) (name : List ℕ) (fresh old new : Session) (s m
 run_failed fault.WriteFault name fresh old new s m t o p q k l j first noting steady same h fails is closes =
     write_failed fresh old new s m t o p q k l j first noting name steady (parts_of new (progress old) same).is_open h fails closes
 run_failed fault.CannotOpen name fresh old new s m t o p q k l j first noting steady same h fails is closes =
-    run_halted fault.CannotOpen name fresh old s m t o p q k l j first noting h (halted fault.CannotOpen name old new m t p q (λ x. cc) steady fails is) closes
+    run_halted fault.CannotOpen (λ x. cc) name fresh old s m t o p q k l j first noting h (halted fault.CannotOpen name old new m t p q (λ x. cc) steady fails is) closes
 run_failed fault.Memory name fresh old new s m t o p q k l j first noting steady same h fails is closes =
-    run_halted fault.Memory name fresh old s m t o p q k l j first noting h (halted fault.Memory name old new m t p q (λ x. cc) steady fails is) closes
+    run_halted fault.Memory (λ x. cc) name fresh old s m t o p q k l j first noting h (halted fault.Memory name old new m t p q (λ x. cc) steady fails is) closes
 run_failed fault.ReadFault name fresh old new s m t o p q k l j first noting steady same h fails is closes =
-    run_halted fault.ReadFault name fresh old s m t o p q k l j first noting h (halted fault.ReadFault name old new m t p q (λ x. cc) steady fails is) closes
+    run_halted fault.ReadFault (λ x. cc) name fresh old s m t o p q k l j first noting h (halted fault.ReadFault name old new m t p q (λ x. cc) steady fails is) closes
 run_failed (fault.SyntaxAt n) name fresh old new s m t o p q k l j first noting steady same h fails is closes =
-    run_halted (fault.SyntaxAt n) name fresh old s m t o p q k l j first noting h (halted (fault.SyntaxAt n) name old new m t p q (λ x. cc) steady fails is) closes
+    run_halted (fault.SyntaxAt n) (λ x. cc) name fresh old s m t o p q k l j first noting h (halted (fault.SyntaxAt n) name old new m t p q (λ x. cc) steady fails is) closes
 run_failed fault.Truncated name fresh old new s m t o p q k l j first noting steady same h fails is closes =
-    run_halted fault.Truncated name fresh old s m t o p q k l j first noting h (halted fault.Truncated name old new m t p q (λ x. cc) steady fails is) closes
+    run_halted fault.Truncated (λ x. cc) name fresh old s m t o p q k l j first noting h (halted fault.Truncated name old new m t p q (λ x. cc) steady fails is) closes
 run_failed (fault.Invalid rule) name fresh old new s m t o p q k l j first noting steady same h fails is closes =
-    run_halted (fault.Invalid rule) name fresh old s m t o p q k l j first noting h (halted (fault.Invalid rule) name old new m t p q (λ x. cc) steady fails is) closes
+    run_halted (fault.Invalid rule) (λ x. cc) name fresh old s m t o p q k l j first noting h (halted (fault.Invalid rule) name old new m t p q (λ x. cc) steady fails is) closes
 run_failed (fault.Limit which) name fresh old new s m t o p q k l j first noting steady same h fails is closes =
-    run_halted (fault.Limit which) name fresh old s m t o p q k l j first noting h (halted (fault.Limit which) name old new m t p q (λ x. cc) steady fails is) closes
+    run_halted (fault.Limit which) (λ x. cc) name fresh old s m t o p q k l j first noting h (halted (fault.Limit which) name old new m t p q (λ x. cc) steady fails is) closes
 
 -- ---- the end of a run that read all
 
@@ -353,7 +374,7 @@ all_read e name fresh old s m o p q k l j first noting h done tallied ends print
     judged = h.judged;
     happened = λ texts told.
         let r = h.happened texts told in
-        record { point = r.point; happen = r.happen; ends = ends r.point (subst (λ (x : Plan). IsDone x r.point) h.same_plan (done_at old m r.point r.stands done)) (sym r.stands.at.left_is) };
+        record { point = r.point; happen = r.happen; ends = ends r.point (subst (λ (x : Plan). IsDone x r.point) h.same_plan (done_at old m r.point r.stands done)) (sym r.stands.at.left_is); numbered = λ is counts. subst (λ (x : Plan). IsDone x r.point) h.same_plan (done_at old m r.point r.stands done) };
     tallied = tallied h.events (f.end ∙ ap end_of (sym h.tallied));
     prints = prints h.events o.written q.written
         (both o.written p.written q.written (all_written h.events) (count_text fresh.plan (tally h.events).kept) h.gains (gains_as p.written q.written _ _ (count_of fresh old h.events h.same_plan h.tallied) f.gains));
@@ -371,9 +392,9 @@ end_is P x y z true false = x
 end_is P x y z false b = z
 
 count_failed : (name : List ℕ) (fresh old : Session) (s m : Seen) (o p q k l j : SinkSeen) (first noting : Bool) → HasRun fresh old s m o p k l first noting
-    → GainsPrefix p.written q.written (count_text old.plan old.kept) → Rose p.faults q.faults
+    → IsDoneWith old → prints_count old.plan ≡ true → GainsPrefix p.written q.written (count_text old.plan old.kept) → Rose p.faults q.faults
     → Closes (line_of (end.Fault fault.WriteFault) name) noting l j → Carries fresh first (end.Fault fault.WriteFault) s m o q k j
-count_failed name fresh old s m o p q k l j first noting h gains rose closes =
+count_failed name fresh old s m o p q k l j first noting h done counts gains rose closes =
     let text = count_text fresh.plan (tally h.events).kept in
     let part = part_after h.events text o.written p.written q.written h.gains (subst (λ (x : List ℕ). GainsPrefix p.written q.written x) (count_of fresh old h.events h.same_plan h.tallied) gains) in
     record {
@@ -383,9 +404,9 @@ count_failed name fresh old s m o p q k l j first noting h gains rose closes =
         judged = h.judged;
         happened = λ texts told.
             let r = h.happened texts told in
-            record { point = r.point; happen = r.happen; ends = (sym r.stands.at.left_is, record { few = within_at r.point.stream old m.left r.point refl r.stands.at.stream (taken_few old); within = tt }) };
+            record { point = r.point; happen = r.happen; ends = (sym r.stands.at.left_is, record { few = within_at r.point.stream old m.left r.point refl r.stands.at.stream (taken_few old); within = tt }); numbered = λ is on. subst (λ (x : Plan). IsDone x r.point) h.same_plan (done_at old m r.point r.stands done) };
         tallied = tt;
-        prints = inr (record { part = part.0; gains = part.1 });
+        prints = inr (record { prints = subst (λ (x : Plan). prints_count x ≡ true) h.same_plan counts; part = part.0; gains = part.1 });
       };
       noted = closed fresh old s m o p k l j first noting (line_of (end.Fault fault.WriteFault) name) h closes;
       causes = (h.calm.opens, h.calm.reads, rose_from o.faults p.faults q.faults h.calm.writes rose);
@@ -394,8 +415,8 @@ count_failed name fresh old s m o p q k l j first noting h gains rose closes =
     }
 
 finished : (e : End) (name : List ℕ) (fresh old : Session) (s m : Seen) (o p q k l j : SinkSeen) (first noting : Bool) → HasRun fresh old s m o p k l first noting → IsDoneWith old
-    → Finishes e (count_text old.plan old.kept) (record { kept = old.kept; skipped = old.skipped }) p q → Closes (line_of e name) noting l j → Carries fresh first e s m o q k j
-finished e name fresh old s m o p q k l j first noting h done (inl f) closes =
+    → (e ≡ end.Fault fault.WriteFault → prints_count old.plan ≡ true) → Finishes e (count_text old.plan old.kept) (record { kept = old.kept; skipped = old.skipped }) p q → Closes (line_of e name) noting l j → Carries fresh first e s m o q k j
+finished e name fresh old s m o p q k l j first noting h done due (inl f) closes =
     let C : End → Type 0 = λ x. FinishesWell x (count_text old.plan old.kept) (record { kept = old.kept; skipped = old.skipped }) p q → Closes (line_of x name) noting l j → Carries fresh first x s m o q k j in
     subst C (sym f.end)
     (end_is C
@@ -403,12 +424,12 @@ finished e name fresh old s m o p q k l j first noting h done (inl f) closes =
     (λ g n. all_read end.NoneOutput name fresh old s m o p q k l j first noting h done (λ events x. x) (λ at d x. (d, x)) (λ events a b x. x) (λ x. x) (λ x. cc) g n)
     (λ g n. all_read end.Aborts name fresh old s m o p q k l j first noting h done (λ events x. x) (λ at d x. (d, x)) (λ events a b x. x) (λ x. x) (λ x. cc) g n)
     (old.skipped == 0) (old.kept == 0)) f closes
-finished e name fresh old s m o p q k l j first noting h done (inr f) closes =
+finished e name fresh old s m o p q k l j first noting h done due (inr f) closes =
     let C : End → Type 0 = λ x. Closes (line_of x name) noting l j → Carries fresh first x s m o q k j in
-    subst C (sym f.end) (count_failed name fresh old s m o p q k l j first noting h f.gains f.writes) closes
+    subst C (sym f.end) (count_failed name fresh old s m o p q k l j first noting h done (due f.end) f.gains f.writes) closes
 
 pub run_finished : (e : End) (name : List ℕ) (fresh old : Session) (s m t : Seen) (o p r q k l j : SinkSeen) (first noting : Bool) → HasRun fresh old s m o p k l first noting → IsDoneWith old → IsStill m t p r
-    → Finishes e (count_text old.plan old.kept) (record { kept = old.kept; skipped = old.skipped }) r q → Closes (line_of e name) noting l j → Carries fresh first e s t o q k j
-run_finished e name fresh old s m t o p r q k l j first noting h done still fin closes =
+    → (e ≡ end.Fault fault.WriteFault → prints_count old.plan ≡ true) → Finishes e (count_text old.plan old.kept) (record { kept = old.kept; skipped = old.skipped }) r q → Closes (line_of e name) noting l j → Carries fresh first e s t o q k j
+run_finished e name fresh old s m t o p r q k l j first noting h done still due fin closes =
     let S : SinkSeen → Type 0 = λ x. Finishes e (count_text old.plan old.kept) (record { kept = old.kept; skipped = old.skipped }) x q in
-    subst (λ (x : Seen). Carries fresh first e s x o q k j) (sym still.inputs) (finished e name fresh old s m o p q k l j first noting h done (subst S still.output fin) closes)
+    subst (λ (x : Seen). Carries fresh first e s x o q k j) (sym still.inputs) (finished e name fresh old s m o p q k l j first noting h done due (subst S still.output fin) closes)

@@ -1,5 +1,5 @@
 -- The run of autfilt: what was read of the streams and written, and what ended it.
-use Rattle.std.specs.Prelude.{◌≡◌, ◌≢◌, ℕ, ◌==◌, ◌⊎◌, if◌then◌else◌, List, [], ◌∷◌, ◌++◌, length, flat_map, take, Option, Some, None}
+use Rattle.std.specs.Prelude.{◌≡◌, ◌≢◌, ℕ, ◌==◌, ◌⊎◌, if◌then◌else◌, List, [], ◌∷◌, ◌++◌, length, flat_map, take, true, Option, Some, None}
 use Rattle.aut_base.specs.Automaton.{Automaton}
 use Rattle.aut_io.specs.Outside.{Gains, Rose, Texts}
 use Rattle.aut_io.specs.Seen.{Seen, SinkSeen}
@@ -14,7 +14,7 @@ use Rattle.autfilt_command.specs.declared.ended.Ended.TheVariants as ended
 use Rattle.autfilt_run.specs.Events.{AreJudged, Event, Happen, Kept, Point, Skipped, Tally, all_written, start_of, tally, tally_from}
 use Rattle.autfilt_run.specs.Made.{seen_of_made}
 use Rattle.autfilt_run.specs.Operands.{AreRead, OperandEvent, all_passed, operands_of}
-use Rattle.autfilt_run.specs.Plans.{count_text, streams_of}
+use Rattle.autfilt_run.specs.Plans.{count_text, prints_count, prints_each, streams_of}
 use Rattle.autfilt_run.specs.Runs.{IsCounted, IsDone, Stops, StopsInOperands}
 use Rattle.autfilt_run.specs.declared.fault.RunFault.{RunFault}
 use Rattle.autfilt_run.specs.declared.fault.RunFault.TheVariants as run
@@ -63,6 +63,8 @@ pub record RunsTo (plan : Plan) (ops : List Automaton) (texts : Texts) (first : 
   pub point : Point
   pub happen : Happen plan texts events first point
   pub ends : EndsAt plan ops e name point left'
+  -- where the number could not be written, all was read
+  pub numbered : e ≡ end.Fault run.WriteFault → prints_count plan ≡ true → IsDone plan point
 
 -- ---- the operands
 
@@ -81,8 +83,9 @@ pub record EndsInOperands (plan : Plan) (texts : Texts) (left left' : Option (Li
 
 -- ---- what is written
 
--- A part of the text of the last automaton was written after those of the others, or a part of the count.
-pub record BreaksOff (events : List Event) (written written' : Option (List ℕ)) : Type 0 where
+-- Of each automaton a text is printed, and a part of that of the last one was written after those of the others.
+pub record BreaksOff (plan : Plan) (events : List Event) (written written' : Option (List ℕ)) : Type 0 where
+  pub prints : prints_each plan ≡ true
   pub earlier : List Event
   pub automaton : Written
   pub text : List ℕ
@@ -90,14 +93,15 @@ pub record BreaksOff (events : List Event) (written written' : Option (List ℕ)
   pub part : ℕ
   pub gains : Gains written written' (all_written earlier ++ take part text)
 
--- a part of the count was written, after what was written before it
+-- The number is printed, and a part of it was written.
 pub record BreaksOffCount (plan : Plan) (events : List Event) (written written' : Option (List ℕ)) : Type 0 where
+  pub prints : prints_count plan ≡ true
   pub part : ℕ
   pub gains : Gains written written' (all_written events ++ take part (count_text plan (tally events).kept))
 
 -- what was written of the events that happened where the run ended so
 abbrev pub Prints : Plan → End → List Event → Option (List ℕ) → Option (List ℕ) → Type 0
-Prints plan (end.Fault run.WriteFault) events written written' = BreaksOff events written written' ⊎ BreaksOffCount plan events written written'
+Prints plan (end.Fault run.WriteFault) events written written' = BreaksOff plan events written written' ⊎ BreaksOffCount plan events written written'
 Prints plan (end.Fault f) events written written' = Gains written written' (all_written events)
 Prints plan e events written written' = Gains written written' (all_written events ++ count_text plan (tally events).kept)
 

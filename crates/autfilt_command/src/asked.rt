@@ -31,22 +31,21 @@ fn is_built(plan: &Plan) -> bool
     !asks_more(plan) && is_built_form(plan.form) && is_own(&plan.output)
 }
 
-/// Whether automata are compared with others, judged by their runs, complemented, or a proposition is hidden.
+/// Whether automata are compared with others or complemented.
 fn asks_more(plan: &Plan) -> bool
     ensures { result ≡ asks_more plan.now }
 {
-    plan.included_in.is_some()
-        || plan.equivalent_to.is_some()
-        || plan.is_unambiguous
-        || plan.remove_ap.is_some()
-        || plan.complement
+    plan.included_in.is_some() || plan.equivalent_to.is_some() || plan.complement
 }
 
 /// Whether the form is one that is built.
 fn is_built_form(form: Form) -> bool
     ensures { result ≡ is_built form }
 {
-    matches!(form, Form::AsIs | Form::Buchi | Form::RemoveFin | Form::Dnf)
+    matches!(
+        form,
+        Form::AsIs | Form::Buchi | Form::RemoveFin | Form::Dnf | Form::Monitor
+    )
 }
 
 /// Whether what is printed is about the automaton alone.

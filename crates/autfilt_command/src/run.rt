@@ -1,12 +1,14 @@
 //! The top call.
 
-ghost use Rattle.std.specs.Prelude.{◌≡◌, ◌⊎◌, All};
+ghost use Rattle.std.specs.Prelude.{◌≡◌, ◌⊎◌, All, true};
 ghost use Rattle.autfilt_command.specs.Asked.{AreRefused, AsksFor, names_opened};
 ghost use Rattle.autfilt_command.specs.Run.{EndsBecause, EndsBy, end_of};
 ghost use Rattle.autfilt_command.specs.inner.Running.{Carries, Finishes, IsFresh, IsNew, Preparing};
+ghost use Rattle.autfilt_command.specs.declared.ended.End.{End};
 ghost use Rattle.autfilt_command.specs.declared.ended.Ended.{Ended};
-ghost use Rattle.autfilt_run.specs.Plans.{count_text, streams_of};
+ghost use Rattle.autfilt_run.specs.Plans.{count_text, prints_count, streams_of};
 ghost use Rattle.autfilt_run.specs.Points.{name_in};
+ghost use Rattle.autfilt_run.specs.declared.fault.RunFault.{RunFault};
 ghost use Rattle.autfilt_run.specs.declared.session.Stage.{Stage};
 ghost use Rattle.filter_plan.specs.Words.{operands};
 ghost use Rattle.filter_plan.specs.declared.plan.Plan.{Plan};
@@ -82,6 +84,7 @@ fn take_steps<I: Inputs, W: Sink, M: Sink>(
 fn finish<W: Sink>(session: &mut Session, out: &mut W) -> End
     requires { session.old.stage ≡ Stage.Done }
     ensures finishes { Finishes result (count_text session.old.plan session.old.kept) (record { kept = session.old.kept; skipped = session.old.skipped }) (W.seen out.old) (W.seen out.new) }
+    ensures due { result ≡ End.Fault RunFault.WriteFault → prints_count session.old.plan ≡ true }
     ensures same { name_in session.new ≡ name_in session.old }
 {
     match session.finish(out) {

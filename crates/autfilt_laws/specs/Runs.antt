@@ -1,5 +1,5 @@
 -- What the texts alone decide of a run.
-use Rattle.std.specs.Prelude.{◌≡◌, ℕ, ◌+◌, ◌<◌, ◌⊎◌, false, List, [], ◌++◌, length, Option, Some, None}
+use Rattle.std.specs.Prelude.{◌≡◌, ℕ, ◌+◌, ◌<◌, ◌⊎◌, true, false, List, [], ◌++◌, length, Option, Some, None}
 use Rattle.std.specs.List.{sum_by}
 use Rattle.aut_base.specs.Automaton.{Automaton}
 use Rattle.aut_base.specs.declared.limit.Limit.{Limit}
@@ -14,7 +14,7 @@ use Rattle.autfilt_run.specs.Events.{AreJudged, Event, Happen, IsGood, Point, St
 use Rattle.autfilt_run.specs.Made.{made_texts}
 use Rattle.autfilt_run.specs.Operands.{AreRead, OperandEvent, all_passed, operands_of}
 use Rattle.autfilt_run.specs.Over.{IsOver}
-use Rattle.autfilt_run.specs.Plans.{prints_each, streams_of}
+use Rattle.autfilt_run.specs.Plans.{asks_on, prints_each, streams_of}
 use Rattle.autfilt_run.specs.declared.fault.RunFault.{RunFault}
 use Rattle.autfilt_run.specs.declared.fault.RunFault.TheVariants as fault
 use Rattle.filter_plan.specs.Words.{changes, operands}
@@ -112,13 +112,15 @@ abbrev pub IsReadable : (Limit → Written → Type 0) → ℕ → List ℕ → 
 IsReadable over start rest =
     ((w : Written) × (next : List ℕ) × IsGood start rest w next × ((which : Limit) → over which w → ⊥)) ⊎ ((next : List ℕ) × Stands (Aborted next) start rest)
 
--- Such a thing stands at the rest of each file of an operand wherever a run of the plan over these texts comes, and in each
--- stream that, or only blanks. In streams the limits are those of filters and changes, with the operands that were read.
+-- Such a thing stands at the rest of each file of an operand wherever a run of the plan over these texts comes. In each stream
+-- it stands, or only blanks do, wherever the run comes by its verdicts and more automata are asked for; there the limits are
+-- those of filters and changes, with the operands that were read.
 pub record AreReadable (plan : Plan) (texts : Texts) (left : Option (List ℕ)) : Type 0 where
   pub operands : (taken : List OperandEvent) (p : Point) (s : Stream) → AreRead texts taken (start_of (operands plan) left 0) p → p.stream ≡ Some s
       → IsReadable (λ which w. ⊥) (place s.text s.rest) s.rest
   pub streams : (taken : List OperandEvent) (first : Point) → AreAllRead plan texts left taken first
-      → (events : List Event) (p : Point) (s : Stream) → Happen plan (texts_or plan.made texts) events (streams_from plan first) p → p.stream ≡ Some s
+      → (events : List Event) (p : Point) (s : Stream) → AreJudged plan (operands_of taken) events → Happen plan (texts_or plan.made texts) events (streams_from plan first) p
+      → asks_on plan p.kept ≡ true → p.stream ≡ Some s
       → IsBlanks s.rest ⊎ IsReadable (λ which w. IsOver which plan (operands_of taken) w) (place s.text s.rest) s.rest
 
 -- A run over texts that can be read everywhere, which no fault of the outside, want of memory or limit of bytes ended, read all

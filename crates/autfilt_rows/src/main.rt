@@ -10,7 +10,7 @@ use row::Row;
 use row_files::{Count, Fault, Rows, Stop, read_files};
 
 /// The files of rows, in the folder where the program runs.
-const FILES: [&str; 17] = [
+const FILES: [&str; 20] = [
     "examples.rows",
     "printed.rows",
     "ends.rows",
@@ -26,6 +26,9 @@ const FILES: [&str; 17] = [
     "operands.rows",
     "products.rows",
     "forms.rows",
+    "hiding.rows",
+    "monitors.rows",
+    "unambiguity.rows",
     "made.rows",
     "large.rows",
 ];

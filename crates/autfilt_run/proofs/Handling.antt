@@ -1,13 +1,10 @@
 -- What becomes of an automaton that was read.
 use Rattle.std.proofs.Common.{◌≡◌, ℕ, Bool, true, false, if◌then◌else◌, List, [], Option, None, Result, Ok, Err, refl, sym, ap, ◌∙◌, subst, inl, inr}
-use Rattle.std.specs.Prelude.{◌↔◌}
 use Rattle.std.specs.Result.{IsErrAnd}
-use Rattle.aut_base.specs.Acceptance.{Accepts}
 use Rattle.aut_base.specs.Automaton.{Automaton}
-use Rattle.aut_base.specs.Word.{NameSet}
 use Rattle.aut_io.specs.Seen.{SinkSeen}
 use Rattle.autfilt_run.proofs.ReadsAs.{reads_as}
-use Rattle.autfilt_run.proofs.Said.{said_as}
+use Rattle.autfilt_run.proofs.Said.{made_as}
 use Rattle.autfilt_run.proofs.Taking.{accepts_read, core_is}
 use Rattle.autfilt_run.specs.Due.{IsDue, IsDueWhere, IsMade, IsPrinted, name_due}
 use Rattle.autfilt_run.specs.Faults.{fault_of_plan}
@@ -53,7 +50,7 @@ is_wanted_silent b c p ops w core r is h e off =
 
 made_of : (p : Plan) (ops : List Automaton) (w : Written) (core : Automaton) (name : Option (List ℕ)) (text : List ℕ) → IsReadAs w core → (h : PrintsMade p ops core name text) → IsMade p ops w h.made
 made_of p ops w core name text r h =
-    record { makes = subst (λ (x : Automaton). MakesAll (changes_of p ops) x h.made) (core_is w core r) h.makes; promises = h.promises }
+    record { makes = subst (λ (x : Automaton). MakesAll (changes_of p ops) x h.made) (core_is w core r) h.makes; promises = h.promises; accepts = made_as p ops core (reader.described w) h.made (accepts_read w core r) h.says }
 
 name_as : (p : Plan) (w : Written) (name : Option (List ℕ)) → name ≡ name_of w → (if changes p then None else name) ≡ name_due p w
 name_as p w name e = ap (λ (x : Option (List ℕ)). if changes p then None else x) e
@@ -64,13 +61,12 @@ printed_as Hoa p ops w core name text r named h prints =
     let due = name_as p w name named in
     let same : text ≡ canonical_text h.made (name_due p w) = prints.0 ∙ ap (canonical_text h.made) due in
     let back : ReadsBack (canonical_text h.made (name_due p w)) h.made (name_due p w) = subst (λ (x : Option (List ℕ)). ReadsBack (canonical_text h.made x) h.made x) due prints.1 in
-    let says : (u v : List NameSet) → Accepts h.made u v ↔ set_operation p ops (reader.described w) u v =
-    λ u v. let on = said_as p ops core (reader.described w) (accepts_read w core r) u v in (λ x. on.0 ((h.says u v).0 x), λ x. (h.says u v).1 (on.1 x)) in
+    let is_made = made_of p ops w core name text r h in
     record {
       made = h.made;
-      is_made = made_of p ops w core name text r h;
+      is_made = is_made;
       same = same;
-      reads_as = reads_as text h.made (name_due p w) (set_operation p ops (reader.described w)) (subst (λ (x : List ℕ). ReadsBack x h.made (name_due p w)) (sym same) back) says;
+      reads_as = reads_as text h.made (name_due p w) (set_operation p ops (reader.described w)) (subst (λ (x : List ℕ). ReadsBack x h.made (name_due p w)) (sym same) back) is_made.accepts;
     }
 printed_as (Stats pieces) p ops w core name text r named h prints = record { made = h.made; is_made = made_of p ops w core name text r h; line = prints }
 printed_as (Refute operand) p ops w core name text r named h prints = absurd prints

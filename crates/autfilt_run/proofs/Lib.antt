@@ -9,7 +9,7 @@ mod MadeTexts
 mod OperandTurning
 mod PassedLimits
 pub mod Preparing
-mod ReadsAs
+pub mod ReadsAs
 mod Reading
 mod Rings
 mod Said

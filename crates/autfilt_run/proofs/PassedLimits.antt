@@ -8,6 +8,7 @@ use Rattle.autfilt_run.specs.Faults.{stop_of_fault}
 use Rattle.autfilt_run.specs.Over.{IsOver, IsOverChanges}
 use Rattle.autfilt_run.specs.declared.fault.RunFault.TheVariants as fault
 use Rattle.filter_plan.specs.declared.plan.Form.{Form}
+use Rattle.filter_plan.specs.declared.plan.Form.TheVariants as form
 use Rattle.filter_plan.specs.declared.plan.Plan.{Plan}
 use Rattle.hoa_lexer.specs.Moves.{Elsewhere}
 use Rattle.hoa_parser.specs.Raw.{Written}
@@ -15,11 +16,11 @@ use Rattle.hoa_reader.specs.Described.{described}
 use Rattle.hoa_reader.specs.Counts.{Count, Names, Sets, States, Edges, Aliases}
 use Rattle.hoa_reader.specs.Elaborating.{PassesLimit}
 use Rattle.hoa_reader.specs.inner.Gathered.{limit_of}
-use Rattle.plan_meaning.specs.Changes.{Change, PassesForm, PassesIn, StopsIn}
+use Rattle.plan_meaning.specs.Changes.{Change, PassesBuchi, PassesDnf, PassesForm, PassesIn, PassesMonitor, PassesWithoutFin, StopsIn}
 use Rattle.plan_meaning.specs.Changes as change
 use Rattle.plan_meaning.specs.Filters.{Filter, IsOverFilters, Passes}
 use Rattle.plan_meaning.specs.Filters as filter
-use Rattle.plan_meaning.specs.Limits.{PassesOfBoth, PassesOfEither, PassesOfSum, PassesOfWord}
+use Rattle.plan_meaning.specs.Limits.{PassesOfBoth, PassesOfEither, PassesOfSquare, PassesOfSum, PassesOfWord}
 use Rattle.word_syntax.specs.Grammar.{WordPattern}
 
 -- the reader tells it
@@ -59,6 +60,11 @@ word_pass : (which : Limit) (a : Automaton) (p : WordPattern) → IsOfReader whi
 word_pass which a p r (inl h) = subst IsOfReader h.0 r
 word_pass which a p r (inr h) = both_pass which a _ r h.1
 
+square_pass : (which : Limit) (a : Automaton) → IsOfReader which → PassesOfSquare which a → ⊥
+square_pass limit.Depth a r h = h
+square_pass limit.Bytes a r h = h
+square_pass _ a r h = absurd r
+
 -- ---- of a filter, and of a change
 
 filter_pass : (which : Limit) (f : Filter) (a : Automaton) → IsOfReader which → Passes which f a → ⊥
@@ -68,20 +74,46 @@ filter_pass which filter.IsEmpty a r h = h
 filter_pass which (filter.Intersects b) a r h = both_pass which (canonical a) b r h
 filter_pass which filter.IsDeterministic a r h = h
 filter_pass which filter.IsComplete a r h = h
+filter_pass which filter.IsUnambiguous a r h = square_pass which (canonical a) r h
 filter_pass which (filter.States range) a r h = h
 filter_pass which (filter.Edges range) a r h = h
 filter_pass which (filter.Sets range) a r h = h
 filter_pass which (filter.Names range) a r h = h
 
+buchi_pass : (which : Limit) (a : Automaton) → IsOfReader which → PassesBuchi which a → ⊥
+buchi_pass limit.Depth a r h = h
+buchi_pass limit.Bytes a r h = h
+buchi_pass _ a r h = absurd r
+
+fin_pass : (which : Limit) (a : Automaton) → IsOfReader which → PassesWithoutFin which a → ⊥
+fin_pass limit.Depth a r h = h
+fin_pass limit.Bytes a r h = h
+fin_pass _ a r h = absurd r
+
+dnf_pass : (which : Limit) (a : Automaton) → IsOfReader which → PassesDnf which a → ⊥
+dnf_pass limit.Depth a r h = h
+dnf_pass limit.Bytes a r h = h
+dnf_pass _ a r h = absurd r
+
+monitor_pass : (which : Limit) (a : Automaton) → IsOfReader which → PassesMonitor which a → ⊥
+monitor_pass limit.Depth a r h = h
+monitor_pass limit.Bytes a r h = h
+monitor_pass _ a r h = absurd r
+
 form_pass : (which : Limit) (f : Form) (a : Automaton) → IsOfReader which → PassesForm which f a → ⊥
-form_pass limit.Depth f a r h = h
-form_pass limit.Bytes f a r h = h
-form_pass _ f a r h = absurd r
+form_pass which form.AsIs a r h = h
+form_pass which form.Deterministic a r h = h
+form_pass which form.Parity a r h = h
+form_pass which form.Buchi a r h = buchi_pass which a r h
+form_pass which form.RemoveFin a r h = fin_pass which a r h
+form_pass which form.Dnf a r h = dnf_pass which a r h
+form_pass which form.Monitor a r h = monitor_pass which a r h
 
 change_pass : (which : Limit) (c : Change) (a : Automaton) → IsOfReader which → PassesIn which c a → ⊥
 change_pass which (change.Product b) a r h = both_pass which a b r h
 change_pass which (change.ProductOr b) a r h = either_pass which a b r h
 change_pass which (change.Sum b) a r h = sum_pass which a b r h
+change_pass which (change.RemoveAp x) a r h = h
 change_pass which change.Trim a r h = h
 change_pass which (change.Bring f) a r h = form_pass which f a r h
 change_pass which change.Complete a r h = h

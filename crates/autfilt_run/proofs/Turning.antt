@@ -41,16 +41,17 @@ not_read reading.Memory old new s t o held' r hand n at moves = inr (record { re
 pub not_handled : (f : RunFault) (w : Written) (old new : Session) (s t : Seen) (o o' : SinkSeen) → IsReading old → new.tried ≡ old.tried → Between s.left t.left (λ rest next. Stands (Whole w next) old.lexer.since rest)
     → Moves Elsewhere old.lexer new.lexer s t → Handles (Err f) old.plan (operands_in old) w o o' → Fails f old new s t o o'
 not_handled fault.WriteFault w old new s t o o' r hand whole moves h = record {
+  prints = h.1;
   reading = r;
   in_hand = hand;
   automaton = w;
   text = h.0;
-  read = is_good w old.lexer.since s.left t.left h.1.valid h.1.within whole;
-  kept = h.1.kept;
-  due = h.1.due;
+  read = is_good w old.lexer.since s.left t.left h.2.valid h.2.within whole;
+  kept = h.2.kept;
+  due = h.2.due;
   moves = moves;
-  gains = h.2;
-  writes = h.3;
+  gains = h.3;
+  writes = h.4;
 }
 not_handled (fault.Invalid rule) w old new s t o o' r hand whole moves h = record { reading = r; in_hand = hand; read = is_broken (over_in old) rule w old.lexer.since s.left t.left h.0 whole; moves = moves; output = h.1 }
 not_handled (fault.Limit which) w old new s t o o' r hand whole moves h = record {

@@ -5,9 +5,9 @@ use Rattle.filter_plan.specs.declared.plan.Output.TheVariants.{Hoa, Stats}
 use Rattle.filter_plan.specs.declared.plan.Plan.{Plan}
 use Rattle.plan_meaning.specs.Changes.{HasBuiltForm}
 
--- automata are compared with others, judged by their runs, complemented, or a proposition is hidden
+-- automata are compared with others or complemented
 abbrev pub asks_more : Plan → Bool
-asks_more p = is_some p.included_in || (is_some p.equivalent_to || (p.is_unambiguous || (is_some p.remove_ap || p.complement)))
+asks_more p = is_some p.included_in || (is_some p.equivalent_to || p.complement)
 
 -- it is about the automaton alone
 abbrev pub is_own : Output → Bool

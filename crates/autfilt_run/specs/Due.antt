@@ -1,9 +1,9 @@
 -- The text that is due of an automaton that is kept.
-use Rattle.std.specs.Prelude.{◌≡◌, ◌↔◌, ℕ, Bool, true, false, if◌then◌else◌, List, [], Option, None}
+use Rattle.std.specs.Prelude.{◌≡◌, ℕ, Bool, true, false, if◌then◌else◌, List, [], Option, None}
+use Rattle.ap_project.specs.Laws.{SayTheSame}
 use Rattle.aut_base.specs.Acceptance.{Accepts}
 use Rattle.aut_base.specs.Automaton.{Automaton}
 use Rattle.aut_base.specs.CanonicalLabel.{canonical}
-use Rattle.aut_base.specs.Word.{NameSet}
 use Rattle.autfilt_run.specs.Figures.{IsLine}
 use Rattle.autfilt_run.specs.Plans.{prints_each}
 use Rattle.filter_plan.specs.Words.{changes}
@@ -19,11 +19,11 @@ use Rattle.hoa_parser.specs.Raw.{Written}
 use Rattle.hoa_reader.specs.Described.{described}
 use Rattle.hoa_reader.specs.Validity.{IsValid}
 use Rattle.hoa_writer.specs.CanonicalText.{canonical_text}
-use Rattle.plan_meaning.specs.Changes.{MakesAll, changes_of, set_operation}
+use Rattle.plan_meaning.specs.Changes.{Language, MakesAll, changes_of, set_operation}
 use Rattle.plan_meaning.specs.Promises.{KeepsPromises}
 
 -- The text's tokens spell one automaton and no other. It is valid, and accepts exactly the lasso words of which this is said.
-pub record ReadsAs (text : List ℕ) (says : List NameSet → List NameSet → Type 0) : Type 0 where
+pub record ReadsAs (text : List ℕ) (says : Language) : Type 0 where
   pub tokens : List Token
   pub lexes : HasTokens text 0 tokens
   pub spelled : Written
@@ -31,12 +31,14 @@ pub record ReadsAs (text : List ℕ) (says : List NameSet → List NameSet → T
   pub spells : Spells most tokens spelled
   pub alone : (n : ℕ) (v : Written) → Spells n tokens v → v ≡ spelled
   pub valid : IsValid spelled
-  pub accepts : (u v : List NameSet) → Accepts (described spelled) u v ↔ says u v
+  pub accepts : SayTheSame (λ u v. Accepts (described spelled) u v) says
 
--- What the changes of the plan make of the automaton that was read. It keeps what its form promises.
+-- What the changes of the plan make of the automaton that was read. It keeps what its form promises, and accepts exactly
+-- the lasso words of which the plan's set operation says so.
 pub record IsMade (p : Plan) (ops : List Automaton) (w : Written) (made : Automaton) : Type 0 where
   pub makes : MakesAll (changes_of p ops) (canonical (described w)) made
   pub promises : KeepsPromises p made
+  pub accepts : SayTheSame (λ u v. Accepts made u v) (set_operation p ops (described w))
 
 -- the name that is printed: that of the automaton that was read, where the plan changes nothing
 abbrev pub name_due : Plan → Written → Option (List ℕ)

@@ -30,10 +30,14 @@ asks_on p kept = is_below p.most kept
 abbrev pub prints_each : Plan → Bool
 prints_each p = not (p.quiet || p.count)
 
+-- whether the number of automata that were kept is printed at the end
+abbrev pub prints_count : Plan → Bool
+prints_count p = p.count && not p.quiet
+
 -- the name of the file that was tried last, once so many were tried
 abbrev pub name_at : List (List ℕ) → ℕ → List ℕ
 name_at files tried = slice_index_or ([] ∷ files) tried []
 
--- what is written at the end: the number of automata that were kept and a line feed, where only that is asked for
+-- what is written at the end: this number and a line feed, where it is printed
 abbrev pub count_text : Plan → ℕ → List ℕ
-count_text p kept = if p.count && not p.quiet then decimal kept ++ codes "\n" else []
+count_text p kept = if prints_count p then decimal kept ++ codes "\n" else []

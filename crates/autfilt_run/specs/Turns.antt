@@ -8,7 +8,7 @@ use Rattle.autfilt_run.specs.Due.{IsDue}
 use Rattle.autfilt_run.specs.Events.{IsGood}
 use Rattle.autfilt_run.specs.Faults.{stop_of_fault}
 use Rattle.autfilt_run.specs.Over.{IsOver}
-use Rattle.autfilt_run.specs.Plans.{asks_on, streams_of}
+use Rattle.autfilt_run.specs.Plans.{asks_on, prints_each, streams_of}
 use Rattle.autfilt_run.specs.Points.{name_in, operands_in}
 use Rattle.autfilt_run.specs.Runs.{IsAllRead, StopsAt, WantsMemory}
 use Rattle.autfilt_run.specs.declared.fault.RunFault.{RunFault}
@@ -87,8 +87,9 @@ pub record Keeps (old new : Session) (seen seen' : Seen) (out out' : SinkSeen) :
   pub gains : Gains out.written out'.written text
   pub writes : out'.faults ≡ out.faults
 
--- An automaton was read and is to be kept, but its text could not be written whole.
+-- An automaton was read and is to be kept, but its text, which is printed, could not be written whole.
 pub record KeepsInPart (old new : Session) (seen seen' : Seen) (out out' : SinkSeen) : Type 0 where
+  pub prints : prints_each old.plan ≡ true
   pub reading : IsReading old
   pub in_hand : new.tried ≡ old.tried
   pub automaton : Written

@@ -91,11 +91,12 @@ pub struct Session {
 }
 
 impl Session {
-    ghost use Rattle.std.specs.Prelude.{◌≢◌, ◌↔◌, [], IfOk, IsTrue, OnErr};
-    ghost use Rattle.autfilt_run.specs.Plans.{count_text};
+    ghost use Rattle.std.specs.Prelude.{◌≢◌, ◌↔◌, [], IfOk, IsErrOf, IsTrue, OnErr};
+    ghost use Rattle.autfilt_run.specs.Plans.{count_text, prints_count};
     ghost use Rattle.autfilt_run.specs.Points.{name_in};
     ghost use Rattle.autfilt_run.specs.Preparing.{Prepares};
     ghost use Rattle.autfilt_run.specs.Turns.{Finishes, Rises, Steps, after, progress};
+    ghost use Rattle.autfilt_run.specs.declared.fault.RunFault.TheVariants as run_fault;
     ghost use Rattle.autfilt_run.specs.declared.session.Prep.TheVariants as prep;
 
     /// A session for a plan, which may take 2^40 bytes.
@@ -193,6 +194,7 @@ impl Session {
     pub fn finish<W: Sink>(&mut self, out: &mut W) -> Result<(), RunFault>
         requires { self.old.stage ≡ Stage.Done }
         ensures finishes { Finishes result (count_text self.old.plan self.old.kept) (W.seen out.old) (W.seen out.new) }
+        ensures due { IsErrOf result run_fault.WriteFault → prints_count self.old.plan ≡ true }
         ensures stage { self.new.stage ≡ Stage.Over }
         ensures plan { self.new.plan ≡ self.old.plan }
         ensures progress { progress self.new ≡ progress self.old }

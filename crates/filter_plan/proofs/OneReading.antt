@@ -14,8 +14,8 @@ use Rattle.filter_plan.specs.Spans.{IsRange, one, between, from, up_to, range}
 use Rattle.filter_plan.specs.Table.{IsPattern, Reads, figures, refuted}
 use Rattle.filter_plan.specs.declared.format.Piece.{Piece}
 use Rattle.filter_plan.specs.declared.plan.Hidden.{Hidden}
-use Rattle.filter_plan.specs.declared.plan.Hide.{Hide}
-use Rattle.filter_plan.specs.declared.plan.Hide.TheVariants.{Any, Absent, Present}
+use Rattle.ap_project.specs.declared.hide.Hide.{Hide}
+use Rattle.ap_project.specs.declared.hide.Hide.TheVariants.{Any, Absent, Present}
 use Rattle.filter_plan.specs.declared.plan.Output.{Output}
 use Rattle.filter_plan.specs.declared.plan.Output.TheVariants.{Hoa, Stats, Refute}
 use Rattle.filter_plan.specs.declared.range.Range.{Range}

@@ -3,8 +3,8 @@ use Rattle.std.specs.Prelude.{List, ℕ, [], codes}
 use Rattle.word_syntax.specs.Tokens.{IsFront}
 use Rattle.word_syntax.specs.declared.token.Token.TheVariants.{Name}
 use Rattle.filter_plan.specs.declared.plan.Hidden.{Hidden}
-use Rattle.filter_plan.specs.declared.plan.Hide.{Hide}
-use Rattle.filter_plan.specs.declared.plan.Hide.TheVariants.{Any, Absent, Present}
+use Rattle.ap_project.specs.declared.hide.Hide.{Hide}
+use Rattle.ap_project.specs.declared.hide.Hide.TheVariants.{Any, Absent, Present}
 
 -- what stands behind the name
 abbrev pub suffix : Hide → List ℕ

@@ -5,10 +5,11 @@ ghost use Rattle.clap.specs.Words.{found_of, rows_of};
 ghost use Rattle.filter_plan.specs.Hiding.{IsHidden, suffix};
 ghost use Rattle.filter_plan.specs.Table.{Reads, values_of};
 ghost use Rattle.filter_plan.specs.declared.plan.Hidden.{Hidden};
-ghost use Rattle.filter_plan.specs.declared.plan.Hide.{Hide};
+ghost use Rattle.ap_project.specs.declared.hide.Hide.{Hide};
 
 use crate::values::value;
-use crate::{Hidden, Hide, UsageFault};
+use crate::{Hidden, UsageFault};
+use ap_project::Hide;
 use aut_base::Text;
 use clap::ArgMatches;
 use std::alloc::Global;

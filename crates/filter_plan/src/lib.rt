@@ -32,7 +32,7 @@ pub use fault::UsageFault;
 pub use format::{Piece, StatsText};
 pub use laws::{one_plan, word_examples};
 pub use operands::file_count;
-pub use plan::{Form, Hidden, Hide, Output, Plan};
+pub use plan::{Form, Hidden, Output, Plan};
 pub use range::Range;
 pub use read::read_plan;
 pub use rules::changes_automata;

@@ -1,6 +1,7 @@
 //! What the words ask for.
 
 use crate::{Range, StatsText};
+use ap_project::Hide;
 use aut_base::{Text, Words};
 use word_syntax::Pattern;
 
@@ -32,17 +33,6 @@ pub enum Output {
     Stats(StatsText),
     /// A word that it accepts and the automaton of this file doesn't.
     Refute(Text),
-}
-
-/// How a proposition is hidden.
-#[derive(Clone, Copy, Debug, PartialEq, Eq)]
-pub enum Hide {
-    /// It may be anything at each letter.
-    Any,
-    /// It doesn't hold at any letter.
-    Absent,
-    /// It holds at each letter.
-    Present,
 }
 
 /// A proposition to hide.

@@ -2,7 +2,8 @@
 
 use crate::shown::show_line;
 use aut_base::{Memory, Text};
-use filter_plan::{Hidden, Hide, Output, Piece, Range};
+use ap_project::Hide;
+use filter_plan::{Hidden, Output, Piece, Range};
 use std::alloc::Global;
 use word_syntax::Pattern;
 

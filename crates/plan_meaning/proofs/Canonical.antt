@@ -14,19 +14,14 @@ use Rattle.aut_core.specs.Deterministic as core
 use Rattle.aut_core.specs.Deterministic.{GoesOn, is_met}
 use Rattle.aut_base.specs.declared.limit.Limit.{Limit}
 use Rattle.filter_plan.specs.declared.plan.Plan.{Plan}
-use Rattle.plan_meaning.specs.Filters.{AcceptsWord, AllHold, Edges, FailsAt, Filter, Holds, HoldsWithin, Intersects, IsComplete, IsDeterministic, IsDroppedBy, IsEmpty, IsKeptBy, Judged, LacksWithin, Names, Passes, PassesAt, RejectsWord, Sets, States, filters}
-use Rattle.plan_meaning.specs.Limits.{PassesOfBoth, PassesOfWord}
+use Rattle.plan_meaning.proofs.CanonicalEdges.{same_met, settled}
+use Rattle.plan_meaning.proofs.CanonicalRuns.{unambiguous_one, unambiguous_other}
+use Rattle.plan_meaning.specs.Filters.{AcceptsWord, AllHold, Edges, FailsAt, Filter, Holds, HoldsWithin, Intersects, IsComplete, IsDeterministic, IsDroppedBy, IsEmpty, IsKeptBy, IsUnambiguous, Judged, LacksWithin, Names, Passes, PassesAt, RejectsWord, Sets, States, filters}
+use Rattle.plan_meaning.specs.Limits.{PassesOfBoth, PassesOfSquare, PassesOfWord}
 use Rattle.plan_meaning.specs.declared.fault.PlanFault.{PlanFault}
 use Rattle.plan_meaning.specs.declared.fault.PlanFault.TheVariants as fault
 use Rattle.word_syntax.specs.Grammar.{WordPattern}
 use Rattle.word_syntax.specs.Matching.{AcceptTogether, AcceptsPattern}
-
-abbrev settled : Automaton → TreeEdge → TreeEdge
-settled a = relabelled (length a.names)
-
--- a letter meets an edge under both labels
-same_met : (a : Automaton) (e : TreeEdge) (letter : NameSet) → LabelsBelow a → Contains a.edges e → is_met a.names letter (settled a e) ≡ is_met a.names letter e
-same_met a e letter below there = canonical_label_keeps_truth (length a.names) e.label (holds_at a.names letter) (All-contains (λ d. AllBelow (length a.names) d.label) a.edges e below there)
 
 -- the edge at a place
 same_place : (a : Automaton) (k : ℕ) (d : TreeEdge) → k < length a.edges → get_or (canonical a).edges k d ≡ settled a (get_or a.edges k d)
@@ -102,6 +97,7 @@ holds_one IsEmpty a below h = λ u v accepts. h u v ((canonical_accepts_the_same
 holds_one (Intersects b) a below h = together_one a below b h
 holds_one IsDeterministic a below h = deterministic_one a below h
 holds_one IsComplete a below h = record { start = h.start; edges = λ state less letter. goes_one a state letter below (h.edges state less letter) }
+holds_one IsUnambiguous a below h = unambiguous_one a below h
 holds_one (States r) a below h = h
 holds_one (Edges r) a below h = subst (λ (n : ℕ). Holds (States r) (record a { states = n })) (same_count a) h
 holds_one (Sets r) a below h = h
@@ -114,6 +110,7 @@ holds_other IsEmpty a below h = λ u v accepts. h u v ((canonical_accepts_the_sa
 holds_other (Intersects b) a below h = together_other a below b h
 holds_other IsDeterministic a below h = deterministic_other a below h
 holds_other IsComplete a below h = record { start = h.start; edges = λ state less letter. goes_other a state letter below (h.edges state less letter) }
+holds_other IsUnambiguous a below h = unambiguous_other a below h
 holds_other (States r) a below h = h
 holds_other (Edges r) a below h = subst (λ (n : ℕ). Holds (States r) (record a { states = n })) (sym (same_count a)) h
 holds_other (Sets r) a below h = h
@@ -124,12 +121,14 @@ passes_one : (which : Limit) (f : Filter) (a : Automaton) → Passes which f (ca
 passes_one which (AcceptsWord p) a h = subst (λ (x : Automaton). PassesOfWord which x p) (canonical-twice a) h
 passes_one which (RejectsWord p) a h = subst (λ (x : Automaton). PassesOfWord which x p) (canonical-twice a) h
 passes_one which (Intersects b) a h = subst (λ (x : Automaton). PassesOfBoth which x b) (canonical-twice a) h
+passes_one which IsUnambiguous a h = subst (PassesOfSquare which) (canonical-twice a) h
 passes_one which _ a h = absurd h
 
 passes_other : (which : Limit) (f : Filter) (a : Automaton) → Passes which f a → Passes which f (canonical a)
 passes_other which (AcceptsWord p) a h = subst (λ (x : Automaton). PassesOfWord which x p) (sym (canonical-twice a)) h
 passes_other which (RejectsWord p) a h = subst (λ (x : Automaton). PassesOfWord which x p) (sym (canonical-twice a)) h
 passes_other which (Intersects b) a h = subst (λ (x : Automaton). PassesOfBoth which x b) (sym (canonical-twice a)) h
+passes_other which IsUnambiguous a h = subst (PassesOfSquare which) (sym (canonical-twice a)) h
 passes_other which _ a h = absurd h
 
 holds_within : (f : Filter) (a : Automaton) → LabelsBelow a → HoldsWithin f (canonical a) → HoldsWithin f a

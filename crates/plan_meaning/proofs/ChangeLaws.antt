@@ -1,5 +1,5 @@
 -- Changes make no more than one automaton, or else pass no more than one limit.
-use Rattle.std.proofs.Common.{◌≡◌, ◌∙◌, ◌⊎◌, List, [], ◌∷◌, arith, inl, inr, refl, subst, sym}
+use Rattle.std.proofs.Common.{◌≡◌, ◌∙◌, ◌<◌, ◌⊎◌, List, [], ◌∷◌, ap, arith, inl, inr, refl, subst, sym}
 use Rattle.acc_forms.specs.Joined.{conj, disj}
 use Rattle.aut_base.specs.Automaton.{Automaton}
 use Rattle.aut_base.specs.declared.limit.Limit.{Limit}
@@ -8,10 +8,15 @@ use Rattle.aut_ops.proofs.FlagLaws.{trimmed_is_determined}
 use Rattle.aut_ops.proofs.Laws.{products_are_determined}
 use Rattle.aut_ops.specs.Completion.{completed}
 use Rattle.aut_ops.specs.Products.{over_both}
-use Rattle.degeneralise.specs.Buchi.{NeedsTooManyTerms}
+use Rattle.aut_base.specs.declared.limit.TheConstants.{MOST_BUCHI_STATES}
+use Rattle.degeneralise.specs.Buchi.{NeedsTooManyTerms, buchi_states}
+use Rattle.exploration.specs.declared.fault.Fault.{Fault}
+use Rattle.exploration.specs.declared.fault.Fault.TheVariants as explored
 use Rattle.filter_plan.specs.declared.plan.Form.{Form}
 use Rattle.filter_plan.specs.declared.plan.Form.TheVariants as form
-use Rattle.plan_meaning.specs.Changes.{Bring, Change, Complete, IsInForm, Makes, MakesAll, MakesWithin, PassesForm, PassesIn, Product, ProductOr, StopsIn, Sum, Trim}
+use Rattle.monitor_form.proofs.Determined.{monitor_excludes_limits, monitor_is_determined}
+use Rattle.monitor_form.specs.Subsets.{MeetsLimit}
+use Rattle.plan_meaning.specs.Changes.{Bring, Change, Complete, IsInForm, Makes, MakesAll, MakesWithin, PassesBuchi, PassesDnf, PassesForm, PassesIn, PassesMonitor, PassesWithoutFin, Product, ProductOr, RemoveAp, StopsIn, Sum, Trim}
 use Rattle.plan_meaning.specs.Laws.{ChangesAreDetermined}
 use Rattle.plan_meaning.specs.Limits.{HaveFewNames, HaveManyNames, PassesOfBoth, PassesOfEither, PassesOfSum}
 
@@ -24,12 +29,13 @@ one_form form.Parity a made other h k = absurd h
 one_form form.Buchi a made other h k = h ∙ sym k
 one_form form.RemoveFin a made other h k = h ∙ sym k
 one_form form.Dnf a made other h k = h ∙ sym k
-one_form form.Monitor a made other h k = absurd h
+one_form form.Monitor a made other h k = monitor_is_determined a made other h k
 
 one_made : (c : Change) (a made other : Automaton) → Makes c a made → Makes c a other → made ≡ other
 one_made (Product b) a made other h k = products_are_determined conj (over_both a b a) (over_both a b b) made other h k
 one_made (ProductOr b) a made other h k = products_are_determined disj (over_both a b (completed a)) (over_both a b (completed b)) made other h k
 one_made (Sum b) a made other h k = h ∙ sym k
+one_made (RemoveAp x) a made other h k = h ∙ sym k
 one_made Trim a made other h k = trimmed_is_determined a made other h k
 one_made (Bring f) a made other h k = one_form f a made other h k
 one_made Complete a made other h k = h ∙ sym k
@@ -63,11 +69,18 @@ one_of_two which other a b (inl h) (inr k) = many_or_few a b h.1 k.1
 one_of_two which other a b (inr h) (inl k) = many_or_few a b k.1 h.1
 one_of_two which other a b (inr h) (inr k) = h.0 ∙ sym k.0
 
+-- the limit that an exploration of sets meets
+limit_of : Fault → Limit
+limit_of explored.Classes = limit.Classes
+limit_of explored.Things = limit.Subsets
+limit_of explored.Nodes = limit.Nodes
+limit_of explored.Memory = limit.Bytes
+
 -- either terms that are needed and too many, or else too many states
 abbrev TermsOrStates : Limit → Automaton → Type 0
 TermsOrStates which a = ((which ≡ limit.Terms) × NeedsTooManyTerms a.formula) ⊎ ((which ≡ limit.BuchiStates) × (NeedsTooManyTerms a.formula → ⊥))
 
-of_buchi : (which : Limit) (a : Automaton) → PassesForm which form.Buchi a → TermsOrStates which a
+of_buchi : (which : Limit) (a : Automaton) → PassesBuchi which a → TermsOrStates which a
 of_buchi limit.Terms a h = inl (refl, h)
 of_buchi limit.BuchiStates a h = inr (refl, h.0)
 of_buchi _ a h = absurd h
@@ -78,48 +91,57 @@ one_of_buchi which other a (inl h) (inr k) = absurd (k.1 h.1)
 one_of_buchi which other a (inr h) (inl k) = absurd (h.1 k.1)
 one_of_buchi which other a (inr h) (inr k) = h.0 ∙ sym k.0
 
-of_fin : (which : Limit) (a : Automaton) → PassesForm which form.RemoveFin a → which ≡ limit.Terms
+of_fin : (which : Limit) (a : Automaton) → PassesWithoutFin which a → which ≡ limit.Terms
 of_fin limit.Terms a h = refl
 of_fin _ a h = absurd h
 
-of_dnf : (which : Limit) (a : Automaton) → PassesForm which form.Dnf a → which ≡ limit.Terms
+of_dnf : (which : Limit) (a : Automaton) → PassesDnf which a → which ≡ limit.Terms
 of_dnf limit.Terms a h = refl
 of_dnf _ a h = absurd h
 
--- the other forms have no limit
-of_as_is : (which : Limit) (a : Automaton) → PassesForm which form.AsIs a → ⊥
-of_as_is limit.Terms a h = h
-of_as_is limit.BuchiStates a h = h
-of_as_is _ a h = h
+-- a limit of the subset construction is met, of a Büchi form within its limits
+record IsOfSubsets (which : Limit) (a : Automaton) : Type 0 where
+  few : NeedsTooManyTerms a.formula → ⊥
+  fault : Fault
+  meets : MeetsLimit a fault
+  shown : which ≡ limit_of fault
 
-of_deterministic : (which : Limit) (a : Automaton) → PassesForm which form.Deterministic a → ⊥
-of_deterministic limit.Terms a h = h
-of_deterministic limit.BuchiStates a h = h
-of_deterministic _ a h = h
+one_of_monitor : (which other : Limit) (a : Automaton) → PassesMonitor which a → PassesMonitor other a → which ≡ other
+one_of_monitor which other a h k = joined (of_monitor which a h) (of_monitor other a k)
+  where
+    of_monitor : (l : Limit) (x : Automaton) → PassesMonitor l x → ((l ≡ limit.Terms) × NeedsTooManyTerms x.formula) ⊎ (((l ≡ limit.BuchiStates) × (NeedsTooManyTerms x.formula → ⊥) × (MOST_BUCHI_STATES < buchi_states x)) ⊎ IsOfSubsets l x)
+    of_monitor limit.Terms x p = inl (refl, p)
+    of_monitor limit.BuchiStates x p = inr (inl (refl, p.0, p.1))
+    of_monitor limit.Classes x p = inr (inr (record { few = p.0; fault = explored.Classes; meets = p.1; shown = refl }))
+    of_monitor limit.Subsets x p = inr (inr (record { few = p.0; fault = explored.Things; meets = p.1; shown = refl }))
+    of_monitor _ x p = absurd p
 
-of_parity : (which : Limit) (a : Automaton) → PassesForm which form.Parity a → ⊥
-of_parity limit.Terms a h = h
-of_parity limit.BuchiStates a h = h
-of_parity _ a h = h
-
-of_monitor : (which : Limit) (a : Automaton) → PassesForm which form.Monitor a → ⊥
-of_monitor limit.Terms a h = h
-of_monitor limit.BuchiStates a h = h
-of_monitor _ a h = h
+    joined : ((which ≡ limit.Terms) × NeedsTooManyTerms a.formula) ⊎ (((which ≡ limit.BuchiStates) × (NeedsTooManyTerms a.formula → ⊥) × (MOST_BUCHI_STATES < buchi_states a)) ⊎ IsOfSubsets which a)
+        → ((other ≡ limit.Terms) × NeedsTooManyTerms a.formula) ⊎ (((other ≡ limit.BuchiStates) × (NeedsTooManyTerms a.formula → ⊥) × (MOST_BUCHI_STATES < buchi_states a)) ⊎ IsOfSubsets other a) → which ≡ other
+    joined (inl x) (inl y) = x.0 ∙ sym y.0
+    joined (inl x) (inr (inl y)) = absurd (y.1 x.1)
+    joined (inl x) (inr (inr y)) = absurd (y.few x.1)
+    joined (inr (inl x)) (inl y) = absurd (x.1 y.1)
+    joined (inr (inl x)) (inr (inl y)) = x.0 ∙ sym y.0
+    joined (inr (inl x)) (inr (inr y)) = absurd (omega (arith, x.2, y.meets.few))
+    joined (inr (inr x)) (inl y) = absurd (x.few y.1)
+    joined (inr (inr x)) (inr (inl y)) = absurd (omega (arith, y.2, x.meets.few))
+    joined (inr (inr x)) (inr (inr y)) = x.shown ∙ ap limit_of ((monitor_excludes_limits a).others x.fault y.fault x.meets y.meets) ∙ sym y.shown
 
 one_of_form : (f : Form) (which other : Limit) (a : Automaton) → PassesForm which f a → PassesForm other f a → which ≡ other
-one_of_form form.AsIs which other a h k = absurd (of_as_is which a h)
-one_of_form form.Deterministic which other a h k = absurd (of_deterministic which a h)
-one_of_form form.Parity which other a h k = absurd (of_parity which a h)
+one_of_form form.AsIs which other a h k = absurd h
+one_of_form form.Deterministic which other a h k = absurd h
+one_of_form form.Parity which other a h k = absurd h
 one_of_form form.Buchi which other a h k = one_of_buchi which other a (of_buchi which a h) (of_buchi other a k)
 one_of_form form.RemoveFin which other a h k = of_fin which a h ∙ sym (of_fin other a k)
 one_of_form form.Dnf which other a h k = of_dnf which a h ∙ sym (of_dnf other a k)
-one_of_form form.Monitor which other a h k = absurd (of_monitor which a h)
+one_of_form form.Monitor which other a h k = one_of_monitor which other a h k
 
 one_limit : (c : Change) (which other : Limit) (a : Automaton) → PassesIn which c a → PassesIn other c a → which ≡ other
 one_limit (Product b) which other a h k = one_of_two which other a b (of_both which a b h) (of_both other a b k)
 one_limit (ProductOr b) which other a h k = one_of_two which other a b (of_either which a b h) (of_either other a b k)
 one_limit (Sum b) which other a h k = one_of_two which other a b (of_sum which a b h) (of_sum other a b k)
+one_limit (RemoveAp x) which other a h k = absurd h
 one_limit Trim which other a h k = absurd h
 one_limit (Bring f) which other a h k = one_of_form f which other a h k
 one_limit Complete which other a h k = absurd h

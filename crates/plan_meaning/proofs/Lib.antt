@@ -1,9 +1,16 @@
 pub mod Canonical
+mod CanonicalEdges
+mod CanonicalRuns
 mod ChangeLaws
+mod ChangeLists
 mod Combinations
 mod DisjunctiveForm
 mod FilterLists
 mod Meeting
+mod Monitored
+mod Promised
 mod Shapings
-mod Stepping
+mod Squares
+mod StandingLists
+pub mod Stepping
 mod Verdicts

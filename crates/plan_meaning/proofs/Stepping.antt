@@ -1,20 +1,30 @@
 -- Steps one after the other make their changes one after the other.
-use Rattle.std.proofs.Common.{◌≡◌, ◌↔◌, ◌⊎◌, List, [], ◌∷◌, ◌++◌, Result, Ok, Err, inl, inr, refl, subst, sym}
+use Rattle.std.proofs.Common.{◌≡◌, ◌↔◌, ◌⊎◌, ℕ, List, [], ◌∷◌, ◌++◌, Result, Ok, Err, inl, inr, refl, subst, sym}
 use Rattle.std.specs.Result.{IsErrAnd}
+use Rattle.ap_project.proofs.Languages.{same_hidden}
+use Rattle.ap_project.specs.Hiding.{AcceptsHidden, hidden}
+use Rattle.ap_project.specs.Laws.{SayTheSame}
 use Rattle.aut_base.specs.Acceptance.{Accepts}
 use Rattle.aut_base.specs.Automaton.{Automaton}
 use Rattle.aut_base.specs.Word.{NameSet}
 use Rattle.aut_base.specs.declared.limit.Limit.{Limit}
 use Rattle.aut_core.specs.Core.{Core, automaton_of}
-use Rattle.plan_meaning.specs.Changes.{Bring, Change, ChangedTo, Complete, Language, Makes, MakesAll, PassesIn, Product, ProductOr, StopsIn, Sum, Trim, said_by, said_by_all}
+use Rattle.filter_plan.specs.declared.plan.Form.{Form}
+use Rattle.filter_plan.specs.declared.plan.Form.TheVariants as form
+use Rattle.filter_plan.specs.declared.plan.Hidden.{Hidden}
+use Rattle.plan_meaning.specs.Changes.{Bring, Change, ChangedTo, Complete, Language, Makes, MakesAll, PassesIn, Product, ProductOr, RemoveAp, StopsIn, Sum, Trim, SomePrefix, said_by, said_by_all, said_in_form}
 use Rattle.plan_meaning.specs.declared.fault.PlanFault.{PlanFault}
 use Rattle.plan_meaning.specs.declared.fault.PlanFault.TheVariants as fault
-use Rattle.plan_meaning.specs.inner.Stepping.{IsMade, Steps}
+use Rattle.plan_meaning.specs.inner.Stepping.{IsMade, MakesAsPromised, Promises, Steps}
 
 -- ---- one change, and none
 
-pub changed_once : (c : Change) (a made : Automaton) → ((which : Limit) → PassesIn which c a → ⊥) → Makes c a made → ((u v : List NameSet) → Accepts made u v ↔ said_by c (λ x y. Accepts a x y) u v) → IsMade (c ∷ []) a made
-changed_once c a made within makes says = record { all = (made, record { within = within; makes = makes }, refl); says = says }
+pub changed_once : (c : Change) (a made : Automaton) → ((which : Limit) → PassesIn which c a → ⊥) → Makes c a made → Promises c a made → ((u v : List NameSet) → Accepts made u v ↔ said_by c (λ x y. Accepts a x y) u v) → IsMade (c ∷ []) a made
+changed_once c a made within makes promised says = record { all = (made, record { within = within; makes = makes }, promised, refl); says = λ u v some. says u v }
+
+-- one proposition hidden
+pub hidden_made : (h : Hidden) (a made : Automaton) → made ≡ hidden h.how h.name a → AcceptsHidden h.how h.name a made → IsMade (RemoveAp h ∷ []) a made
+hidden_made h a made is accepts = record { all = (made, record { within = λ which x. x; makes = is }, tt, refl); says = accepts }
 
 -- ---- what is accepted
 
@@ -24,17 +34,34 @@ either_alike {P = P} {Q = Q} R h = (
   (λ x. elim x as (λ _. P ⊎ R) [ inl q ↦ inl (h.1 q) | inr r ↦ inr r ]),
 )
 
-one_alike : (c : Change) (L M : Language) → ((u v : List NameSet) → L u v ↔ M u v) → (u v : List NameSet) → said_by c L u v ↔ said_by c M u v
-one_alike (Product b) L M h u v = ((λ x. ((h u v).0 x.0, x.1)), (λ x. ((h u v).1 x.0, x.1)))
-one_alike (ProductOr b) L M h u v = either_alike (Accepts b u v) (h u v)
-one_alike (Sum b) L M h u v = either_alike (Accepts b u v) (h u v)
-one_alike Trim L M h u v = h u v
-one_alike (Bring f) L M h u v = h u v
-one_alike Complete L M h u v = h u v
+prefix_alike : (L M : Language) → SayTheSame L M → (u v : List NameSet) (n : ℕ) → SomePrefix L u v n → SomePrefix M u v n
+prefix_alike L M h u v n p = record { stem = p.stem; cycle = p.cycle; some = p.some; said = (h p.stem p.cycle p.some).0 p.said; same = p.same }
 
-all_alike : (cs : List Change) (L M : Language) → ((u v : List NameSet) → L u v ↔ M u v) → (u v : List NameSet) → said_by_all cs L u v ↔ said_by_all cs M u v
-all_alike [] L M h u v = h u v
-all_alike (c ∷ cs) L M h u v = all_alike cs (said_by c L) (said_by c M) (one_alike c L M h) u v
+form_alike : (f : Form) (L M : Language) → SayTheSame L M → SayTheSame (said_in_form f L) (said_in_form f M)
+form_alike form.AsIs L M h u v some = h u v some
+form_alike form.Deterministic L M h u v some = h u v some
+form_alike form.Parity L M h u v some = h u v some
+form_alike form.Buchi L M h u v some = h u v some
+form_alike form.RemoveFin L M h u v some = h u v some
+form_alike form.Dnf L M h u v some = h u v some
+form_alike form.Monitor L M h u v some = (
+  (λ x n. prefix_alike L M h u v n (x n)),
+  (λ x n. prefix_alike M L (λ y z more. ((h y z more).1, (h y z more).0)) u v n (x n)),
+)
+
+one_alike : (c : Change) (L M : Language) → SayTheSame L M → SayTheSame (said_by c L) (said_by c M)
+one_alike (Product b) L M h u v some = ((λ x. ((h u v some).0 x.0, x.1)), (λ x. ((h u v some).1 x.0, x.1)))
+one_alike (ProductOr b) L M h u v some = either_alike (Accepts b u v) (h u v some)
+one_alike (Sum b) L M h u v some = either_alike (Accepts b u v) (h u v some)
+one_alike (RemoveAp x) L M h u v some = same_hidden x.how x.name L M h u v some
+one_alike Trim L M h u v some = h u v some
+one_alike (Bring f) L M h u v some = form_alike f L M h u v some
+one_alike Complete L M h u v some = h u v some
+
+-- what changes make of two languages that say the same
+pub all_alike : (cs : List Change) (L M : Language) → SayTheSame L M → SayTheSame (said_by_all cs L) (said_by_all cs M)
+all_alike [] L M h u v some = h u v some
+all_alike (c ∷ cs) L M h u v some = all_alike cs (said_by c L) (said_by c M) (one_alike c L M h) u v some
 
 said_then : (cs ds : List Change) (L : Language) (u v : List NameSet) → said_by_all ds (said_by_all cs L) u v ↔ said_by_all (cs ++ ds) L u v
 said_then [] ds L u v = ((λ x. x), (λ x. x))
@@ -42,17 +69,22 @@ said_then (c ∷ cs) ds L u v = said_then cs ds (said_by c L) u v
 
 -- ---- one after the other
 
-all_then : (cs ds : List Change) (a b made : Automaton) → MakesAll cs a b → MakesAll ds b made → MakesAll (cs ++ ds) a made
-all_then [] ds a b made first second = subst (λ (x : Automaton). MakesAll ds x made) first second
-all_then (c ∷ cs) ds a b made first second = (first.0, first.1, all_then cs ds first.0 b made first.2 second)
+all_then : (cs ds : List Change) (a b made : Automaton) → MakesAsPromised cs a b → MakesAsPromised ds b made → MakesAsPromised (cs ++ ds) a made
+all_then [] ds a b made first second = subst (λ (x : Automaton). MakesAsPromised ds x made) first second
+all_then (c ∷ cs) ds a b made first second = (first.0, first.1, first.2, all_then cs ds first.0 b made first.3 second)
+
+-- without the promises
+pub makes_all : (cs : List Change) (a made : Automaton) → MakesAsPromised cs a made → MakesAll cs a made
+makes_all [] a made h = h
+makes_all (c ∷ cs) a made h = (h.0, h.1, makes_all cs h.0 made h.3)
 
 pub made_then : (cs ds : List Change) (a b made : Automaton) → IsMade cs a b → IsMade ds b made → IsMade (cs ++ ds) a made
 made_then cs ds a b made first second = record {
   all = all_then cs ds a b made first.all second.all;
-  says = λ u v.
-      let next = all_alike ds (λ x y. Accepts b x y) (said_by_all cs (λ x y. Accepts a x y)) first.says u v in
+  says = λ u v some.
+      let next = all_alike ds (λ x y. Accepts b x y) (said_by_all cs (λ x y. Accepts a x y)) first.says u v some in
       let whole = said_then cs ds (λ x y. Accepts a x y) u v in
-      ((λ x. whole.0 (next.0 ((second.says u v).0 x))), (λ x. (second.says u v).1 (next.1 (whole.1 x))));
+      ((λ x. whole.0 (next.0 ((second.says u v some).0 x))), (λ x. (second.says u v some).1 (next.1 (whole.1 x))));
 }
 
 stops_before : (which : Limit) (cs ds : List Change) (a : Automaton) → StopsIn which cs a → StopsIn which (cs ++ ds) a
@@ -67,7 +99,7 @@ stops_behind which (c ∷ cs) ds a b made stops = inr (made.0, made.1, stops_beh
 -- a step behind what was made
 pub steps_then : (cs ds : List Change) (a b : Automaton) (r : Result Core PlanFault) → IsMade cs a b → Steps ds b r → Steps (cs ++ ds) a r
 steps_then cs ds a b (Ok made) first second = made_then cs ds a b (automaton_of made) first second
-steps_then cs ds a b (Err (fault.Limit which)) first second = stops_behind which cs ds a b first.all second
+steps_then cs ds a b (Err (fault.Limit which)) first second = stops_behind which cs ds a b (makes_all cs a b first.all) second
 steps_then cs ds a b (Err fault.Memory) first second = tt
 
 -- a fault that a step passes on
@@ -85,6 +117,6 @@ steps_end cs ds a came r passed steps = steps_told (cs ++ ds) a came r passed (e
 
 -- what the last step answers is what the changes make
 pub changed_to : (cs : List Change) (a : Automaton) (r : Result Core PlanFault) → Steps cs a r → ChangedTo r cs a
-changed_to cs a (Ok made) steps = steps.all
+changed_to cs a (Ok made) steps = makes_all cs a (automaton_of made) steps.all
 changed_to cs a (Err (fault.Limit which)) steps = steps
 changed_to cs a (Err fault.Memory) steps = tt

@@ -4,9 +4,9 @@ use Rattle.aut_base.specs.Automaton.{Automaton}
 use Rattle.aut_base.specs.CanonicalLabel.{canonical}
 use Rattle.aut_base.specs.declared.limit.Limit.{Limit}
 use Rattle.aut_base.specs.declared.limit.Limit.TheVariants as limit
-use Rattle.plan_meaning.specs.Filters.{AcceptsWord, AllHold, FailsAt, Filter, HoldsWithin, Intersects, IsDroppedBy, IsKeptBy, LacksWithin, Passes, PassesAt, RejectsWord, filters}
+use Rattle.plan_meaning.specs.Filters.{AcceptsWord, AllHold, FailsAt, Filter, HoldsWithin, Intersects, IsDroppedBy, IsKeptBy, IsUnambiguous, LacksWithin, Passes, PassesAt, RejectsWord, filters}
 use Rattle.plan_meaning.specs.Laws.{Dropped, Kept, OneVerdict, Over, SomeVerdict}
-use Rattle.plan_meaning.specs.Limits.{HaveFewNames, HaveManyNames, PassesOfBoth, PassesOfWord}
+use Rattle.plan_meaning.specs.Limits.{HaveFewNames, HaveManyNames, PassesOfBoth, PassesOfSquare, PassesOfWord}
 use Rattle.word_syntax.specs.Grammar.{WordPattern}
 use Rattle.word_syntax.specs.Matching.{word_automaton}
 
@@ -36,10 +36,15 @@ one_of_word which other a p (inl x) (inr y) = absurd (omega (arith, x.1, y.0))
 one_of_word which other a p (inr x) (inl y) = absurd (omega (arith, x.0, y.1))
 one_of_word which other a p (inr x) (inr y) = one_of_both which other a (canonical (word_automaton p)) x.1 y.1
 
+of_square : (which : Limit) (a : Automaton) → PassesOfSquare which a → which ≡ limit.Pairs
+of_square limit.Pairs a h = refl
+of_square _ a h = absurd h
+
 one_limit : (f : Filter) (which other : Limit) (a : Automaton) → Passes which f a → Passes other f a → which ≡ other
 one_limit (AcceptsWord p) which other a h k = one_of_word which other (canonical a) p h k
 one_limit (RejectsWord p) which other a h k = one_of_word which other (canonical a) p h k
 one_limit (Intersects b) which other a h k = one_of_both which other (canonical a) b h k
+one_limit IsUnambiguous which other a h k = of_square which (canonical a) h ∙ sym (of_square other (canonical a) k)
 one_limit _ which other a h k = absurd h
 
 -- ---- where filters end

@@ -1,11 +1,14 @@
 -- What a plan makes of an automaton: operations, at most one form, and completion, one after the other.
-use Rattle.std.specs.Prelude.{◌≡◌, ◌⊎◌, ◌<◌, Bool, true, false, List, [], ◌∷◌, ◌++◌, Option, Some, None, Result, Ok, Err}
+use Rattle.std.specs.Prelude.{◌≡◌, ◌⊎◌, ◌<◌, ℕ, Bool, true, false, List, [], ◌∷◌, length, Option, Some, None, Result, Ok, Err}
+use Rattle.std.specs.Bool.{then_some}
+use Rattle.std.specs.Option.{option_map}
 use Rattle.std.specs.Result.{result_map_both}
 use Rattle.acc_forms.specs.Atoms.{has_fin}
 use Rattle.acc_forms.specs.Terms.{of_terms, terms}
+use Rattle.ap_project.specs.Hiding.{HiddenSays, hidden}
 use Rattle.aut_base.specs.Acceptance.{Accepts}
 use Rattle.aut_base.specs.Automaton.{Automaton}
-use Rattle.aut_base.specs.Word.{NameSet}
+use Rattle.aut_base.specs.Word.{NameSet, letter_at}
 use Rattle.aut_base.specs.declared.limit.Limit.{Limit}
 use Rattle.aut_base.specs.declared.limit.Limit.TheVariants as limit
 use Rattle.aut_core.specs.Core.{Core, automaton_of}
@@ -15,12 +18,16 @@ use Rattle.aut_ops.specs.Sums.{summed}
 use Rattle.aut_ops.specs.Trimming.{IsTrimmed}
 use Rattle.degeneralise.specs.Buchi.{NeedsTooManyTerms, buchi, buchi_states}
 use Rattle.aut_base.specs.declared.limit.TheConstants.{MOST_BUCHI_STATES}
+use Rattle.exploration.specs.declared.fault.Fault.TheVariants as explored
 use Rattle.filter_plan.specs.declared.plan.Form.{Form}
 use Rattle.filter_plan.specs.declared.plan.Form.TheVariants as form
+use Rattle.filter_plan.specs.declared.plan.Hidden.{Hidden}
 use Rattle.filter_plan.specs.declared.plan.Plan.{Plan}
 use Rattle.fin_removal.specs.Copies.{HasTooManyTerms, without_fin}
+use Rattle.monitor_form.specs.Subsets.{IsMonitor, MeetsLimit}
 use Rattle.plan_meaning.specs.Limits.{PassesOfBoth, PassesOfEither, PassesOfSum}
 use Rattle.plan_meaning.specs.Operands.{operand_at, place_of_product, place_of_product_or, place_of_sum}
+use Rattle.plan_meaning.specs.Standing.{those_standing}
 use Rattle.plan_meaning.specs.declared.fault.PlanFault.{PlanFault}
 use Rattle.plan_meaning.specs.declared.fault.PlanFault.TheVariants as fault
 
@@ -29,6 +36,7 @@ pub data Change : Type 0 where
   Product : Automaton → Change
   ProductOr : Automaton → Change
   Sum : Automaton → Change
+  RemoveAp : Hidden → Change
   Trim : Change
   Bring : Form → Change
   Complete : Change
@@ -40,18 +48,23 @@ abbrev pub in_disjunctive_form : Automaton → Automaton
 in_disjunctive_form a = record a { formula = of_terms (terms a.formula) }
 
 abbrev pub IsInForm : Form → Automaton → Automaton → Type 0
+IsInForm form.AsIs a made = ⊥
+IsInForm form.Deterministic a made = ⊥
+IsInForm form.Parity a made = ⊥
 IsInForm form.Buchi a made = made ≡ buchi a
 IsInForm form.RemoveFin a made = made ≡ without_fin a
 IsInForm form.Dnf a made = made ≡ in_disjunctive_form a
-IsInForm _ a made = ⊥
+IsInForm form.Monitor a made = IsMonitor a made
 
 -- forms that code makes
 abbrev pub is_built : Form → Bool
 is_built form.AsIs = true
+is_built form.Deterministic = false
+is_built form.Parity = false
 is_built form.Buchi = true
 is_built form.RemoveFin = true
 is_built form.Dnf = true
-is_built _ = false
+is_built form.Monitor = true
 
 abbrev pub HasBuiltForm : Form → Type 0
 HasBuiltForm f = is_built f ≡ true
@@ -61,54 +74,71 @@ abbrev pub Makes : Change → Automaton → Automaton → Type 0
 Makes (Product b) a made = IsProductOf a b made
 Makes (ProductOr b) a made = IsEitherOf a b made
 Makes (Sum b) a made = made ≡ summed a b
+Makes (RemoveAp h) a made = made ≡ hidden h.how h.name a
 Makes Trim a made = IsTrimmed a made
 Makes (Bring f) a made = IsInForm f a made
 Makes Complete a made = made ≡ completed a
 
 -- a count of the change is the first that passes its limit
+abbrev pub PassesBuchi : Limit → Automaton → Type 0
+PassesBuchi limit.Terms a = NeedsTooManyTerms a.formula
+PassesBuchi limit.BuchiStates a = (NeedsTooManyTerms a.formula → ⊥) × (MOST_BUCHI_STATES < buchi_states a)
+PassesBuchi _ a = ⊥
+
+abbrev pub PassesWithoutFin : Limit → Automaton → Type 0
+PassesWithoutFin limit.Terms a = (has_fin a.formula ≡ true) × HasTooManyTerms a
+PassesWithoutFin _ a = ⊥
+
+abbrev pub PassesDnf : Limit → Automaton → Type 0
+PassesDnf limit.Terms a = HasTooManyTerms a
+PassesDnf _ a = ⊥
+
+-- those of the Büchi form, and then the first that its subset construction meets
+abbrev pub PassesMonitor : Limit → Automaton → Type 0
+PassesMonitor limit.Terms a = PassesBuchi limit.Terms a
+PassesMonitor limit.BuchiStates a = PassesBuchi limit.BuchiStates a
+PassesMonitor limit.Classes a = (NeedsTooManyTerms a.formula → ⊥) × MeetsLimit a explored.Classes
+PassesMonitor limit.Subsets a = (NeedsTooManyTerms a.formula → ⊥) × MeetsLimit a explored.Things
+PassesMonitor _ a = ⊥
+
 abbrev pub PassesForm : Limit → Form → Automaton → Type 0
-PassesForm limit.Terms form.Buchi a = NeedsTooManyTerms a.formula
-PassesForm limit.BuchiStates form.Buchi a = (NeedsTooManyTerms a.formula → ⊥) × (MOST_BUCHI_STATES < buchi_states a)
-PassesForm limit.Terms form.RemoveFin a = (has_fin a.formula ≡ true) × HasTooManyTerms a
-PassesForm limit.Terms form.Dnf a = HasTooManyTerms a
-PassesForm _ _ a = ⊥
+PassesForm which form.AsIs a = ⊥
+PassesForm which form.Deterministic a = ⊥
+PassesForm which form.Parity a = ⊥
+PassesForm which form.Buchi a = PassesBuchi which a
+PassesForm which form.RemoveFin a = PassesWithoutFin which a
+PassesForm which form.Dnf a = PassesDnf which a
+PassesForm which form.Monitor a = PassesMonitor which a
 
 abbrev pub PassesIn : Limit → Change → Automaton → Type 0
 PassesIn which (Product b) a = PassesOfBoth which a b
 PassesIn which (ProductOr b) a = PassesOfEither which a b
 PassesIn which (Sum b) a = PassesOfSum which a b
+PassesIn which (RemoveAp h) a = ⊥
 PassesIn which Trim a = ⊥
 PassesIn which (Bring f) a = PassesForm which f a
 PassesIn which Complete a = ⊥
 
 -- ---- the changes of a plan
 
--- a change where its option stands
-abbrev pub flagged : Change → Bool → List Change
-flagged change true = change ∷ []
-flagged change false = []
+-- the change into a form, where one is asked for
+abbrev pub form_change : Form → Option Change
+form_change form.AsIs = None
+form_change f = Some (Bring f)
 
-abbrev pub combined : (Automaton → Change) → Option Automaton → List Change
-combined change None = []
-combined change (Some b) = change b ∷ []
+-- the changes in the order in which they are made, each where its option stands
+abbrev pub change_options : Plan → List Automaton → List (Option Change)
+change_options p ops = option_map Product (operand_at p.product (place_of_product p) ops)
+    ∷ option_map ProductOr (operand_at p.product_or (place_of_product_or p) ops)
+    ∷ option_map Sum (operand_at p.sum (place_of_sum p) ops)
+    ∷ option_map RemoveAp p.remove_ap
+    ∷ then_some p.trim Trim
+    ∷ form_change p.form
+    ∷ then_some p.complete Complete
+    ∷ []
 
-abbrev pub brought : Form → List Change
-brought form.AsIs = []
-brought f = Bring f ∷ []
-
--- the operations that combine it with others
-abbrev pub combinations : Plan → List Automaton → List Change
-combinations p ops = combined Product (operand_at p.product (place_of_product p) ops)
-    ++ (combined ProductOr (operand_at p.product_or (place_of_product_or p) ops)
-    ++ combined Sum (operand_at p.sum (place_of_sum p) ops))
-
--- what is made of one alone
-abbrev pub shapings : Plan → List Change
-shapings p = flagged Trim p.trim ++ (brought p.form ++ flagged Complete p.complete)
-
--- the changes, in the order in which they are made
 abbrev pub changes_of : Plan → List Automaton → List Change
-changes_of p ops = combinations p ops ++ shapings p
+changes_of p ops = those_standing (change_options p ops)
 
 -- ---- all of them
 
@@ -142,17 +172,39 @@ ChangedTo result cs a = Changed (result_map_both automaton_of (λ fault. fault) 
 abbrev pub Language : Type 1
 Language = List NameSet → List NameSet → Type 0
 
--- one change of a language: to what both accept, or to what one of the two accepts
+-- some lasso word of the language has the same first n letters
+pub record SomePrefix (says : List NameSet → List NameSet → Type 0) (u v : List NameSet) (n : ℕ) : Type 0 where
+  pub stem : List NameSet
+  pub cycle : List NameSet
+  pub some : 0 < length cycle
+  pub said : says stem cycle
+  pub same : (k : ℕ) → k < n → letter_at stem cycle k ≡ letter_at u v k
+
+-- what a form makes of a language: a monitor has each word of which no finite part is ruled out
+abbrev pub said_in_form : Form → Language → Language
+said_in_form form.AsIs says u v = says u v
+said_in_form form.Deterministic says u v = says u v
+said_in_form form.Parity says u v = says u v
+said_in_form form.Buchi says u v = says u v
+said_in_form form.RemoveFin says u v = says u v
+said_in_form form.Dnf says u v = says u v
+said_in_form form.Monitor says u v = (n : ℕ) → SomePrefix says u v n
+
+-- one change of a language: to what both accept, or to what one of the two accepts, or to that with a name hidden
 abbrev pub said_by : Change → Language → Language
 said_by (Product b) says u v = says u v × Accepts b u v
 said_by (ProductOr b) says u v = says u v ⊎ Accepts b u v
 said_by (Sum b) says u v = says u v ⊎ Accepts b u v
-said_by _ says u v = says u v
+said_by (RemoveAp h) says u v = HiddenSays h.how h.name says u v
+said_by Trim says u v = says u v
+said_by (Bring f) says u v = said_in_form f says u v
+said_by Complete says u v = says u v
 
 abbrev pub said_by_all : List Change → Language → Language
 said_by_all [] says = says
 said_by_all (c ∷ cs) says = said_by_all cs (said_by c says)
 
--- what the set operation of a plan says of a word: first whether the automaton accepts it, then product, product-or and sum
+-- what the set operation of a plan says of a word: first whether the automaton accepts it, and then product, product-or, sum,
+-- the hiding of a proposition and the form
 abbrev pub set_operation : Plan → List Automaton → Automaton → Language
 set_operation p ops a = said_by_all (changes_of p ops) (λ u v. Accepts a u v)

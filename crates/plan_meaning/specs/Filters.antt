@@ -1,6 +1,8 @@
 -- What the filters of a plan ask of an automaton, and the verdict on it.
 use Rattle.std.specs.Prelude.{◌≡◌, Bool, true, false, List, [], ◌∷◌, ◌++◌, length, Option, Some, None, Result, Ok, Err}
+use Rattle.std.specs.Bool.{then_some}
 use Rattle.std.specs.List.{AllByRecursion}
+use Rattle.std.specs.Option.{option_map}
 use Rattle.aut_base.specs.Automaton.{Automaton}
 use Rattle.aut_base.specs.CanonicalLabel.{canonical}
 use Rattle.aut_base.specs.declared.limit.Limit.{Limit}
@@ -9,14 +11,15 @@ use Rattle.filter_plan.specs.Spans.{IsIn}
 use Rattle.filter_plan.specs.declared.plan.Plan.{Plan}
 use Rattle.filter_plan.specs.declared.range.Range.{Range}
 use Rattle.lasso_emptiness.specs.Emptiness.{AcceptsNothing}
-use Rattle.plan_meaning.specs.Limits.{PassesOfBoth, PassesOfWord}
+use Rattle.plan_meaning.specs.Limits.{PassesOfBoth, PassesOfSquare, PassesOfWord}
 use Rattle.plan_meaning.specs.Operands.{operand_at, place_of_intersect}
+use Rattle.plan_meaning.specs.Standing.{those_standing}
 use Rattle.plan_meaning.specs.declared.fault.PlanFault.{PlanFault}
 use Rattle.plan_meaning.specs.declared.fault.PlanFault.TheVariants as fault
+use Rattle.unambiguous.specs.Runs as runs
 use Rattle.word_syntax.specs.Grammar.{WordPattern}
 use Rattle.word_syntax.specs.Matching.{AcceptTogether, AcceptsPattern}
 use Rattle.word_syntax.specs.Writing.{word_pattern}
-use Rattle.word_syntax.specs.declared.pattern.Pattern.{Pattern}
 
 -- a filter, with what it compares automata with
 pub data Filter : Type 0 where
@@ -26,6 +29,7 @@ pub data Filter : Type 0 where
   Intersects : Automaton → Filter
   IsDeterministic : Filter
   IsComplete : Filter
+  IsUnambiguous : Filter
   States : Range → Filter
   Edges : Range → Filter
   Sets : Range → Filter
@@ -39,6 +43,7 @@ Holds IsEmpty a = AcceptsNothing a
 Holds (Intersects b) a = AcceptTogether a b
 Holds IsDeterministic a = core.IsDeterministic a
 Holds IsComplete a = core.IsComplete a
+Holds IsUnambiguous a = runs.IsUnambiguous a
 Holds (States r) a = IsIn r a.states
 Holds (Edges r) a = IsIn r (length a.edges)
 Holds (Sets r) a = IsIn r a.sets
@@ -49,7 +54,14 @@ abbrev pub Passes : Limit → Filter → Automaton → Type 0
 Passes which (AcceptsWord p) a = PassesOfWord which (canonical a) p
 Passes which (RejectsWord p) a = PassesOfWord which (canonical a) p
 Passes which (Intersects b) a = PassesOfBoth which (canonical a) b
-Passes which _ a = ⊥
+Passes which IsEmpty a = ⊥
+Passes which IsDeterministic a = ⊥
+Passes which IsComplete a = ⊥
+Passes which IsUnambiguous a = PassesOfSquare which (canonical a)
+Passes which (States r) a = ⊥
+Passes which (Edges r) a = ⊥
+Passes which (Sets r) a = ⊥
+Passes which (Names r) a = ⊥
 
 -- The filter is examined within all limits, and it holds, or doesn't.
 pub record HoldsWithin (f : Filter) (a : Automaton) : Type 0 where
@@ -62,36 +74,23 @@ pub record LacksWithin (f : Filter) (a : Automaton) : Type 0 where
 
 -- ---- the filters of a plan
 
--- a filter where its option stands
-abbrev pub flagged : Filter → Bool → List Filter
-flagged filter true = filter ∷ []
-flagged filter false = []
+-- the filters in the order in which they are examined, each where its option stands
+abbrev pub filter_options : Plan → List Automaton → List (Option Filter)
+filter_options p ops = option_map (λ pattern. AcceptsWord (word_pattern pattern)) p.accept_word
+    ∷ option_map (λ pattern. RejectsWord (word_pattern pattern)) p.reject_word
+    ∷ then_some p.is_empty IsEmpty
+    ∷ option_map Intersects (operand_at p.intersect (place_of_intersect p) ops)
+    ∷ then_some p.is_deterministic IsDeterministic
+    ∷ then_some p.is_complete IsComplete
+    ∷ then_some p.is_unambiguous IsUnambiguous
+    ∷ option_map States p.states
+    ∷ option_map Edges p.edges
+    ∷ option_map Sets p.acc_sets
+    ∷ option_map Names p.ap
+    ∷ []
 
-abbrev pub ranged : (Range → Filter) → Option Range → List Filter
-ranged filter None = []
-ranged filter (Some r) = filter r ∷ []
-
-abbrev pub by_word : (WordPattern → Filter) → Option Pattern → List Filter
-by_word filter None = []
-by_word filter (Some p) = filter (word_pattern p) ∷ []
-
-abbrev pub compared : (Automaton → Filter) → Option Automaton → List Filter
-compared filter None = []
-compared filter (Some b) = filter b ∷ []
-
--- those that ask for the shape of an automaton
-abbrev pub shape_filters : Plan → List Filter
-shape_filters p = flagged IsDeterministic p.is_deterministic ++ (flagged IsComplete p.is_complete ++ (ranged States p.states
-    ++ (ranged Edges p.edges ++ (ranged Sets p.acc_sets ++ ranged Names p.ap))))
-
--- those that ask for what it accepts
-abbrev pub language_filters : Plan → List Automaton → List Filter
-language_filters p ops = by_word AcceptsWord p.accept_word ++ (by_word RejectsWord p.reject_word ++ (flagged IsEmpty p.is_empty
-    ++ compared Intersects (operand_at p.intersect (place_of_intersect p) ops)))
-
--- the filters of a plan, in the order in which they are examined
 abbrev pub filters : Plan → List Automaton → List Filter
-filters p ops = language_filters p ops ++ shape_filters p
+filters p ops = those_standing (filter_options p ops)
 
 -- ---- the verdict
 

@@ -4,4 +4,5 @@ pub mod Laws
 pub mod Limits
 pub mod Operands
 pub mod Promises
+pub mod Standing
 pub mod inner

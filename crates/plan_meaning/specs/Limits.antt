@@ -4,11 +4,10 @@ use Rattle.aut_base.specs.Automaton.{Automaton}
 use Rattle.aut_base.specs.CanonicalLabel.{canonical}
 use Rattle.aut_base.specs.declared.limit.Limit.{Limit}
 use Rattle.aut_base.specs.declared.limit.Limit.TheVariants as limit
-use Rattle.aut_base.specs.declared.limit.TheConstants.{MOST_NAMES}
+use Rattle.aut_base.specs.declared.limit.TheConstants.{MOST_NAMES, MOST_PAIRS}
 use Rattle.aut_core.specs.OtherNames.{joined_names}
 use Rattle.aut_ops.specs.Completion.{completed}
 use Rattle.aut_ops.specs.Products.{HasMorePairs, over_both}
-use Rattle.aut_base.specs.declared.limit.TheConstants.{MOST_PAIRS}
 use Rattle.word_syntax.specs.Grammar.{WordPattern}
 use Rattle.word_syntax.specs.Matching.{word_automaton}
 
@@ -35,6 +34,11 @@ PassesOfEither _ a b = ⊥
 abbrev pub PassesOfSum : Limit → Automaton → Automaton → Type 0
 PassesOfSum limit.Names a b = HaveManyNames a b
 PassesOfSum _ a b = ⊥
+
+-- the square of an automaton: the pairs of it with itself that are reached
+abbrev pub PassesOfSquare : Limit → Automaton → Type 0
+PassesOfSquare limit.Pairs a = HasMorePairs MOST_PAIRS a a
+PassesOfSquare _ a = ⊥
 
 -- a product with the automaton of a pattern: the names of the pattern come first
 abbrev pub PassesOfWord : Limit → Automaton → WordPattern → Type 0

@@ -1,11 +1,13 @@
 -- What the form of a plan promises of the automaton that is made.
-use Rattle.std.specs.Prelude.{◌≡◌, Bool, true, false, List}
+use Rattle.std.specs.Prelude.{◌≡◌, ◌⊎◌, ℕ, ◌+◌, Bool, true, false, List, All, length}
 use Rattle.acc_forms.specs.Atoms.{has_fin}
+use Rattle.acc_forms.specs.Joined.{conj}
+use Rattle.acc_forms.specs.Parity.{parity_min_odd}
 use Rattle.acc_forms.specs.Terms.{of_terms}
 use Rattle.acc_forms.specs.declared.literal.Literal.{Literal}
 use Rattle.aut_base.specs.Automaton.{Automaton}
 use Rattle.aut_base.specs.Formula.{FormulaTree}
-use Rattle.aut_core.specs.Deterministic.{IsComplete}
+use Rattle.aut_core.specs.Deterministic.{IsComplete, IsDeterministic}
 use Rattle.filter_plan.specs.declared.plan.Form.{Form}
 use Rattle.filter_plan.specs.declared.plan.Form.TheVariants as form
 use Rattle.filter_plan.specs.declared.plan.Plan.{Plan}
@@ -20,12 +22,52 @@ pub record IsDisjunctive (f : FormulaTree) : Type 0 where
   pub terms : List (List Literal)
   pub is : f ≡ of_terms terms
 
--- Completion keeps a Büchi condition. It may add a set, with Fin, under any other.
+-- deterministic and complete, with one mark on each edge, and the least number that is met again and again has to be odd
+pub record IsParity (a : Automaton) : Type 0 where
+  pub deterministic : IsDeterministic a
+  pub complete : IsComplete a
+  pub half : ℕ
+  pub sets : a.sets ≡ half + half + 1
+  pub formula : a.formula ≡ parity_min_odd a.sets
+  pub marked : All (λ edge. length edge.marks ≡ 1) a.edges
+
+-- deterministic, and every run is accepting
+pub record IsDeterministicSafety (a : Automaton) : Type 0 where
+  pub deterministic : IsDeterministic a
+  pub sets : a.sets ≡ 0
+  pub formula : a.formula ≡ FormulaTree.True
+
+-- The automaton is of this form.
+abbrev pub IsOfForm : Form → Automaton → Type 0
+IsOfForm form.AsIs a = Unit {0}
+IsOfForm form.Deterministic a = IsDeterministic a
+IsOfForm form.Parity a = IsParity a
+IsOfForm form.Buchi a = IsBuchi a
+IsOfForm form.RemoveFin a = has_fin a.formula ≡ false
+IsOfForm form.Dnf a = IsDisjunctive a.formula
+IsOfForm form.Monitor a = IsDeterministicSafety a
+
+-- One of this form was completed, and has a set more, that may be met finitely often alone.
+pub record HasSinkSet (f : Form) (made : Automaton) : Type 0 where
+  pub before : Automaton
+  pub formed : IsOfForm f before
+  pub sets : made.sets ≡ before.sets + 1
+  pub formula : made.formula ≡ conj before.formula (FormulaTree.Fin before.sets false)
+
+-- it is of this form, unless completion added its set
+abbrev pub OrHasSinkSet : Form → Bool → Automaton → Type 0
+OrHasSinkSet f false made = IsOfForm f made
+OrHasSinkSet f true made = IsOfForm f made ⊎ HasSinkSet f made
+
+-- Completion adds no set under a Büchi condition, nor where the form is complete. It keeps an automaton deterministic.
 abbrev pub KeepsForm : Form → Bool → Automaton → Type 0
+KeepsForm form.AsIs complete made = Unit {0}
+KeepsForm form.Deterministic complete made = IsDeterministic made
+KeepsForm form.Parity complete made = IsParity made
 KeepsForm form.Buchi complete made = IsBuchi made
-KeepsForm form.RemoveFin false made = has_fin made.formula ≡ false
-KeepsForm form.Dnf false made = IsDisjunctive made.formula
-KeepsForm _ _ made = Unit {0}
+KeepsForm form.RemoveFin complete made = OrHasSinkSet form.RemoveFin complete made
+KeepsForm form.Dnf complete made = OrHasSinkSet form.Dnf complete made
+KeepsForm form.Monitor complete made = IsDeterministic made × OrHasSinkSet form.Monitor complete made
 
 abbrev pub KeepsPromises : Plan → Automaton → Type 0
 KeepsPromises p made = KeepsForm p.form p.complete made × (p.complete ≡ true → IsComplete made)

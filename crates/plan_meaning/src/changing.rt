@@ -1,28 +1,31 @@
 //! What a plan makes of an automaton.
 
-ghost use Rattle.std.specs.Prelude.{◌↔◌, ◌<◌, ◌≤◌, ◌^◌, IfOk, List, length, map};
+ghost use Rattle.std.specs.Prelude.{◌<◌, ◌≤◌, ◌^◌, [], ◌∷◌, IfOk, length, map, suc};
+ghost use Rattle.ap_project.specs.Laws.{SayTheSame};
 ghost use Rattle.aut_base.specs.Acceptance.{Accepts};
-ghost use Rattle.aut_base.specs.Word.{NameSet};
 ghost use Rattle.aut_base.specs.declared.limit.TheConstants.{MOST_NAMES};
 ghost use Rattle.aut_core.specs.Core.{automaton_of};
 ghost use Rattle.plan_meaning.specs.Changes.{ChangedTo, HasBuiltForm, changes_of, set_operation};
 ghost use Rattle.plan_meaning.specs.Operands.{AreOperands, IsOfReadSize};
 ghost use Rattle.plan_meaning.specs.Promises.{KeepsPromises};
+ghost use Rattle.plan_meaning.specs.inner.Stepping.{AreInOrder, IsOfSizeAt, IsPossible, Steps, change_of, changes_asked, place_of};
 
 mod combining;
 mod disjunctive;
+mod list;
 mod shaping;
 
 use crate::fault::PlanFault;
 use crate::operands::Automata;
 use aut_core::Automaton;
-use combining::combine;
+use combining::{product_or_with, product_with, sum_with};
 use filter_plan::Plan;
-use shaping::shape;
+use list::{Change, changes};
+use shaping::{bring, complete, hide, trimmed};
 use std::alloc::Global;
 
-/// What a plan makes of an automaton: its product, product-or and sum with the operands of the plan, its reached states
-/// alone, its form, and the automaton made complete, in this order. Each is made only where its option stands, and an
+/// What a plan makes of an automaton: its product, product-or and sum with the operands of the plan, a proposition
+/// hidden, its reached states alone, its form, and the automaton made complete, in this order. Each is made only where its option stands, and an
 /// automaton that isn't changed isn't copied. Refused where a count of a change passes its limit, before anything behind
 /// that change is looked at.
 pub fn change(
@@ -35,12 +38,45 @@ pub fn change(
     requires size { IsOfReadSize (automaton_of a) }
     requires form { HasBuiltForm plan.now.form }
     ensures changed { ChangedTo result (changes_of plan.now (map automaton_of operands.now)) (automaton_of a) }
-    ensures says { IfOk result (λ made. (u v : List NameSet) → Accepts (automaton_of made) u v ↔ set_operation plan.now (map automaton_of operands.now) (automaton_of a) u v) }
+    ensures says { IfOk result (λ made. SayTheSame (λ u v. Accepts (automaton_of made) u v) (set_operation plan.now (map automaton_of operands.now) (automaton_of a))) }
     ensures promises { IfOk result (λ made. KeepsPromises plan.now (automaton_of made)) }
     ensures sized { IfOk result (λ made. (made.states < 2 ^ 32) × (made.sets < 2 ^ 32) × (length made.names ≤ MOST_NAMES)) }
 {
-    let combined = combine(alloc, plan, operands, a)?;
-    let made = shape(alloc, plan, combined)?;
+    let made = make_all(alloc, &changes(plan, operands), a)?;
     made.whole();
     Ok(made)
+}
+
+/// Makes the changes that are asked for, one after the other.
+fn make_all(alloc: Global, changes: &[Option<Change>], a: Automaton) -> Result<Automaton, PlanFault>
+    requires size { IsOfReadSize (automaton_of a) }
+    requires order { AreInOrder 0 changes.now }
+    ensures steps { Steps (changes_asked changes.now) (automaton_of a) result }
+    ensures size { IfOk result (λ made. IsOfSizeAt (length changes.now) (automaton_of made)) }
+{
+    let mut made = a;
+    'changes: for change in changes {
+        if let Some(change) = change {
+            made = make(alloc, change, made)?;
+        }
+    }
+    Ok(made)
+}
+
+/// Makes one change.
+fn make(alloc: Global, change: &Change, a: Automaton) -> Result<Automaton, PlanFault>
+    requires size { IsOfSizeAt (place_of change.now) (automaton_of a) }
+    requires possible { IsPossible change.now }
+    ensures steps { Steps (change_of change.now ∷ []) (automaton_of a) result }
+    ensures size { IfOk result (λ made. IsOfSizeAt (suc (place_of change.now)) (automaton_of made)) }
+{
+    match change {
+        Change::Product(b) => product_with(alloc, &a, b),
+        Change::ProductOr(b) => product_or_with(alloc, &a, b),
+        Change::Sum(b) => sum_with(alloc, &a, b),
+        Change::RemoveAp(hidden) => hide(alloc, &a, hidden),
+        Change::Trim => trimmed(alloc, &a),
+        Change::Bring(form) => bring(alloc, *form, a),
+        Change::Complete => complete(alloc, a),
+    }
 }

@@ -8,6 +8,8 @@ use aut_base::{Limit, Memory};
 use aut_core::NameFault;
 use aut_ops::PairFault;
 use degeneralise::BuchiFault;
+use monitor_form::MonFault;
+use unambiguous::SquareFault;
 
 /// Why there is no verdict on an automaton, or nothing is made of it.
 #[derive(Clone, Copy, Debug, PartialEq, Eq)]
@@ -55,6 +57,20 @@ impl From<PairFault> for PlanFault {
     }
 }
 
+impl From<SquareFault> for PlanFault {
+    ghost use Rattle.std.specs.Prelude.{◌≡◌};
+    ghost use Rattle.plan_meaning.specs.inner.Faults.{fault_of_square};
+
+    ghost from_gives = { λ came fault. fault ≡ fault_of_square came };
+
+    fn from(came: SquareFault) -> PlanFault {
+        match came {
+            SquareFault::Pairs => PlanFault::Limit(Limit::Pairs),
+            SquareFault::Memory => PlanFault::Memory,
+        }
+    }
+}
+
 impl From<FormFault> for PlanFault {
     ghost use Rattle.std.specs.Prelude.{◌≡◌};
     ghost use Rattle.plan_meaning.specs.inner.Faults.{fault_of_form};
@@ -65,6 +81,23 @@ impl From<FormFault> for PlanFault {
         match came {
             FormFault::Terms => PlanFault::Limit(Limit::Terms),
             FormFault::Memory => PlanFault::Memory,
+        }
+    }
+}
+
+impl From<MonFault> for PlanFault {
+    ghost use Rattle.std.specs.Prelude.{◌≡◌};
+    ghost use Rattle.plan_meaning.specs.inner.Faults.{fault_of_monitor};
+
+    ghost from_gives = { λ came fault. fault ≡ fault_of_monitor came };
+
+    fn from(came: MonFault) -> PlanFault {
+        match came {
+            MonFault::Terms => PlanFault::Limit(Limit::Terms),
+            MonFault::BuchiStates => PlanFault::Limit(Limit::BuchiStates),
+            MonFault::Classes => PlanFault::Limit(Limit::Classes),
+            MonFault::Subsets => PlanFault::Limit(Limit::Subsets),
+            MonFault::Memory => PlanFault::Memory,
         }
     }
 }

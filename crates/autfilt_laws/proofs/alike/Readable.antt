@@ -1,5 +1,5 @@
 -- Texts that can be read everywhere: the run reads all.
-use Rattle.std.proofs.Common.{◌≡◌, ◌⊎◌, ℕ, List, Option, Some, length, subst, inl, inr}
+use Rattle.std.proofs.Common.{◌≡◌, ◌⊎◌, ℕ, List, Option, Some, true, length, subst, inl, inr}
 use Rattle.aut_base.specs.Automaton.{Automaton}
 use Rattle.aut_io.specs.Outside.{Texts}
 use Rattle.autfilt_command.specs.Run.{end_of, tally_after}
@@ -12,6 +12,7 @@ use Rattle.autfilt_laws.specs.Runs.{AreReadable, Completes, EndsBefore, EndsInSt
 use Rattle.autfilt_run.specs.Events.{Event, Point, Stream, place}
 use Rattle.autfilt_run.specs.Operands.{OperandEvent, all_passed, operands_of}
 use Rattle.autfilt_run.specs.Over.{IsOver}
+use Rattle.autfilt_run.specs.Plans.{asks_on}
 use Rattle.autfilt_run.specs.declared.fault.RunFault.{RunFault}
 use Rattle.filter_plan.specs.declared.plan.Plan.{Plan}
 use Rattle.hoa_lexer.specs.Blanks.{IsBlanks}
@@ -31,15 +32,15 @@ not_halted one on a p f h readable = readable_fits one a (place h.stream.text h.
 abbrev IsFair : Plan → List Automaton → Stream → Type 0
 IsFair plan ops s = IsBlanks s.rest ⊎ IsReadable (λ which w. IsOver which plan ops w) (place s.text s.rest) s.rest
 
-not_halted_here : OneStanding → (plan : Plan) (ops : List Automaton) (p : Point) (f : RunFault) → ((s : Stream) → p.stream ≡ Some s → IsFair plan ops s) → IsHalted plan ops p f → ⊥
-not_halted_here one plan ops p f readable h = go (readable h.stream h.is_open)
+not_halted_here : OneStanding → (plan : Plan) (ops : List Automaton) (p : Point) (f : RunFault) → (asks_on plan p.kept ≡ true → (s : Stream) → p.stream ≡ Some s → IsFair plan ops s) → IsHalted plan ops p f → ⊥
+not_halted_here one plan ops p f readable h = go (readable h.asks h.stream h.is_open)
   where
     go : IsFair plan ops h.stream → ⊥
     go (inl blank) = subst (λ (x : Standing). Fits (in_streams plan ops) x f) (one (place h.stream.text h.stream.rest) h.stream.rest h.what standing.Blank h.stands blank) h.fits
     go (inr good) = not_halted one _ (in_streams plan ops) p f h good
 
 read_all : OneStanding → (plan : Plan) (ops : List Automaton) (passed : ℕ) (p : Point) (events : List Event) (e : End) → IsByText e
-    → ((s : Stream) → p.stream ≡ Some s → IsFair plan ops s) → Ends plan ops passed p events e → e ≡ end_of (tally_after passed events)
+    → (asks_on plan p.kept ≡ true → (s : Stream) → p.stream ≡ Some s → IsFair plan ops s) → Ends plan ops passed p events e → e ≡ end_of (tally_after passed events)
 read_all one plan ops passed p events end.Output by readable h = h.1
 read_all one plan ops passed p events end.NoneOutput by readable h = h.1
 read_all one plan ops passed p events end.Aborts by readable h = h.1
@@ -57,7 +58,7 @@ behind : OneStanding → (plan : Plan) (texts : Texts) (left : Option (List ℕ)
 behind one plan texts left taken events e readable by h =
     let ops = operands_of taken in
     let passed = length (all_passed taken) in
-    read_all one plan ops passed h.runs.point events e by (λ s is. readable.streams taken h.point h.read events h.runs.point s h.runs.happen is)
+    read_all one plan ops passed h.runs.point events e by (λ asks s is. readable.streams taken h.point h.read events h.runs.point s h.judged h.runs.happen asks is)
     (ends_at plan ops passed e events h.name h.runs.point h.left_over by h.tallied h.runs.ends)
 
 pub completes : OneStanding → Completes

@@ -7,13 +7,14 @@ use Rattle.aut_base.specs.declared.limit.Limit.TheVariants as limit
 use Rattle.autfilt_laws.proofs.existence.Stopping.{IsOfWhole}
 use Rattle.autfilt_run.specs.Over.{IsOver, IsOverChanges}
 use Rattle.filter_plan.specs.declared.plan.Form.{Form}
+use Rattle.filter_plan.specs.declared.plan.Form.TheVariants as form
 use Rattle.filter_plan.specs.declared.plan.Plan.{Plan}
 use Rattle.hoa_parser.specs.Raw.{Written}
 use Rattle.hoa_reader.specs.Described.{described}
-use Rattle.plan_meaning.specs.Changes.{Change, PassesForm, PassesIn, StopsIn, Product, ProductOr, Sum, Trim, Bring, Complete}
+use Rattle.plan_meaning.specs.Changes.{Change, PassesBuchi, PassesDnf, PassesForm, PassesIn, PassesMonitor, PassesWithoutFin, StopsIn, Product, ProductOr, Sum, RemoveAp, Trim, Bring, Complete}
 use Rattle.plan_meaning.specs.Filters as filter
 use Rattle.plan_meaning.specs.Filters.{Filter, IsOverFilters, Passes}
-use Rattle.plan_meaning.specs.Limits.{PassesOfBoth, PassesOfEither, PassesOfSum}
+use Rattle.plan_meaning.specs.Limits.{PassesOfBoth, PassesOfEither, PassesOfSquare, PassesOfSum}
 
 of_both : (which : Limit) (a b : Automaton) → PassesOfBoth which a b → IsOfWhole which
 of_both limit.Names a b h = tt
@@ -34,21 +35,51 @@ of_pattern : {Few Names : Type 0} (which : Limit) (a b : Automaton) → ((which 
 of_pattern which a b (inl h) = subst IsOfWhole (sym h.0) tt
 of_pattern which a b (inr h) = of_both which a b h.1
 
+of_square : (which : Limit) (a : Automaton) → PassesOfSquare which a → IsOfWhole which
+of_square limit.Pairs a h = tt
+of_square _ a h = absurd h
+
 of_filter : (f : Filter) (which : Limit) (a : Automaton) → Passes which f a → IsOfWhole which
 of_filter (filter.AcceptsWord p) which a h = of_pattern which (canonical a) _ h
 of_filter (filter.RejectsWord p) which a h = of_pattern which (canonical a) _ h
 of_filter (filter.Intersects b) which a h = of_both which (canonical a) b h
+of_filter filter.IsUnambiguous which a h = of_square which (canonical a) h
 of_filter _ which a h = absurd h
 
+of_buchi : (which : Limit) (a : Automaton) → PassesBuchi which a → IsOfWhole which
+of_buchi limit.Terms a h = tt
+of_buchi limit.BuchiStates a h = tt
+of_buchi _ a h = absurd h
+
+of_fin : (which : Limit) (a : Automaton) → PassesWithoutFin which a → IsOfWhole which
+of_fin limit.Terms a h = tt
+of_fin _ a h = absurd h
+
+of_dnf : (which : Limit) (a : Automaton) → PassesDnf which a → IsOfWhole which
+of_dnf limit.Terms a h = tt
+of_dnf _ a h = absurd h
+
+of_monitor : (which : Limit) (a : Automaton) → PassesMonitor which a → IsOfWhole which
+of_monitor limit.Terms a h = tt
+of_monitor limit.BuchiStates a h = tt
+of_monitor limit.Classes a h = tt
+of_monitor limit.Subsets a h = tt
+of_monitor _ a h = absurd h
+
 of_form : (which : Limit) (f : Form) (a : Automaton) → PassesForm which f a → IsOfWhole which
-of_form limit.Terms f a h = tt
-of_form limit.BuchiStates f a h = tt
-of_form _ f a h = absurd h
+of_form which form.AsIs a h = absurd h
+of_form which form.Deterministic a h = absurd h
+of_form which form.Parity a h = absurd h
+of_form which form.Buchi a h = of_buchi which a h
+of_form which form.RemoveFin a h = of_fin which a h
+of_form which form.Dnf a h = of_dnf which a h
+of_form which form.Monitor a h = of_monitor which a h
 
 of_change : (c : Change) (which : Limit) (a : Automaton) → PassesIn which c a → IsOfWhole which
 of_change (Product b) which a h = of_both which a b h
 of_change (ProductOr b) which a h = of_either which a b h
 of_change (Sum b) which a h = of_sum which a b h
+of_change (RemoveAp x) which a h = absurd h
 of_change Trim which a h = absurd h
 of_change (Bring f) which a h = of_form which f a h
 of_change Complete which a h = absurd h

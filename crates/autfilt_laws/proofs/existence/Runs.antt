@@ -1,5 +1,5 @@
 -- There is a run over all texts of few bytes.
-use Rattle.std.proofs.Common.{◌≡◌, ◌⊎◌, ℕ, ◌+◌, ◌<◌, ◌==◌, Bool, true, false, if◌then◌else◌, List, [], length, Option, refl, inl, inr, arith}
+use Rattle.std.proofs.Common.{◌≡◌, ◌⊎◌, ℕ, ◌+◌, ◌<◌, ◌==◌, Bool, true, false, if◌then◌else◌, List, [], length, Option, refl, inl, inr, arith, subst}
 use Rattle.aut_base.specs.declared.limit.TheConstants.{MOST_BYTES}
 use Rattle.aut_io.specs.Outside.{Texts}
 use Rattle.autfilt_command.specs.Run.{AreAllRead, end_of, tally_after}
@@ -9,7 +9,7 @@ use Rattle.autfilt_laws.proofs.alike.OperandEnds.{IsThrough}
 use Rattle.autfilt_laws.proofs.existence.Found.{AreShown}
 use Rattle.autfilt_laws.proofs.existence.InOperands.{IsStoppedThere, ReadsThere, in_files}
 use Rattle.autfilt_laws.proofs.existence.InStreams.{IsStopped, Reads, in_streams}
-use Rattle.autfilt_laws.specs.Runs.{IsEnded, SomeEnd, size_of, streams_from, texts_or}
+use Rattle.autfilt_laws.specs.Runs.{IsByText, IsEnded, SomeEnd, size_of, streams_from, texts_or}
 use Rattle.autfilt_run.specs.Events.{Point, Tally, start_of}
 use Rattle.autfilt_run.specs.Operands.{AreRead, OperandEvent, all_passed, operands_of}
 use Rattle.autfilt_run.specs.Plans.{streams_of}
@@ -36,9 +36,9 @@ of_all t = one_of_three (t.skipped == 0) (t.kept == 0)
 
 module _ (plan : Plan) (texts : Texts) (left : Option (List ℕ)) (taken : List OperandEvent) (first : Point) (read : AreAllRead plan texts left taken first) where
   ends_with : (r : Reads plan (operands_of taken) (texts_or plan.made texts) (streams_from plan first)) (e : End) → IsOfAll e → e ≡ end_of (tally_after (length (all_passed taken)) r.events) → IsDone plan r.point → IsEnded plan texts left taken r.events e
-  ends_with r end.Output all is h = record { by_text = tt; ran = inr (record { point = first; read = read; judged = r.judged; tallied = is; left_over = r.point.left; name = []; runs = record { point = r.point; happen = r.happen; ends = (h, refl) } }) }
-  ends_with r end.NoneOutput all is h = record { by_text = tt; ran = inr (record { point = first; read = read; judged = r.judged; tallied = is; left_over = r.point.left; name = []; runs = record { point = r.point; happen = r.happen; ends = (h, refl) } }) }
-  ends_with r end.Aborts all is h = record { by_text = tt; ran = inr (record { point = first; read = read; judged = r.judged; tallied = is; left_over = r.point.left; name = []; runs = record { point = r.point; happen = r.happen; ends = (h, refl) } }) }
+  ends_with r end.Output all is h = record { by_text = tt; ran = inr (record { point = first; read = read; judged = r.judged; tallied = is; left_over = r.point.left; name = []; runs = record { point = r.point; happen = r.happen; ends = (h, refl); numbered = λ is counts. h } }) }
+  ends_with r end.NoneOutput all is h = record { by_text = tt; ran = inr (record { point = first; read = read; judged = r.judged; tallied = is; left_over = r.point.left; name = []; runs = record { point = r.point; happen = r.happen; ends = (h, refl); numbered = λ is counts. h } }) }
+  ends_with r end.Aborts all is h = record { by_text = tt; ran = inr (record { point = first; read = read; judged = r.judged; tallied = is; left_over = r.point.left; name = []; runs = record { point = r.point; happen = r.happen; ends = (h, refl); numbered = λ is counts. h } }) }
   ends_with r end.Usage all is h = absurd all
   ends_with r (end.Fault f) all is h = absurd all
 
@@ -47,7 +47,7 @@ module _ (plan : Plan) (texts : Texts) (left : Option (List ℕ)) (taken : List 
       let e = end_of (tally_after (length (all_passed taken)) r.events) in
       (e, ends_with r e (of_all (tally_after (length (all_passed taken)) r.events)) refl h)
   some_end_of r (inr h) =
-      (end.Fault h.fault, record { by_text = h.by_text; ran = inr (record { point = first; read = read; judged = r.judged; tallied = tt; left_over = h.left; name = h.name; runs = record { point = r.point; happen = r.happen; ends = (h.stops, h.counted) } }) })
+      (end.Fault h.fault, record { by_text = h.by_text; ran = inr (record { point = first; read = read; judged = r.judged; tallied = tt; left_over = h.left; name = h.name; runs = record { point = r.point; happen = r.happen; ends = (h.stops, h.counted); numbered = λ is counts. absurd (subst IsByText is h.by_text) } }) })
 
 -- a fault ended the run in the files of operands
 stopped_before : (plan : Plan) (texts : Texts) (left : Option (List ℕ)) (taken : List OperandEvent) (p : Point) → AreRead texts taken (start_of (operands plan) left 0) p → (h : IsStoppedThere p) → IsEnded plan texts left taken [] (end.Fault h.fault)

@@ -1,13 +1,14 @@
 -- What becomes of an automaton that was read.
-use Rattle.std.specs.Prelude.{◌≡◌, ◌↔◌, ◌⊎◌, ℕ, Bool, true, false, if◌then◌else◌, List, Option, None, Result, Ok, Err}
+use Rattle.std.specs.Prelude.{◌≡◌, ◌⊎◌, ℕ, Bool, true, false, if◌then◌else◌, List, Option, None, Result, Ok, Err}
+use Rattle.ap_project.specs.Laws.{SayTheSame}
 use Rattle.aut_base.specs.Acceptance.{Accepts}
 use Rattle.aut_base.specs.Automaton.{Automaton}
-use Rattle.aut_base.specs.Word.{NameSet}
 use Rattle.aut_io.specs.Outside.{Gains, GainsPrefix, Rose}
 use Rattle.aut_io.specs.Seen.{SinkSeen}
 use Rattle.autfilt_run.specs.Due.{IsDue}
 use Rattle.autfilt_run.specs.Figures.{IsLine}
 use Rattle.autfilt_run.specs.Over.{IsOver}
+use Rattle.autfilt_run.specs.Plans.{prints_each}
 use Rattle.filter_plan.specs.Words.{changes}
 use Rattle.filter_plan.specs.declared.plan.Output.{Output}
 use Rattle.filter_plan.specs.declared.plan.Output.TheVariants.{Hoa, Stats, Refute}
@@ -43,7 +44,7 @@ pub record IsUnwanted (p : Plan) (ops : List Automaton) (w : Written) : Type 0 w
 abbrev pub Handles : Result Bool RunFault → Plan → List Automaton → Written → SinkSeen → SinkSeen → Type 0
 Handles (Ok true) p ops w out out' = (text : List ℕ) × IsWanted p ops w text × Gains out.written out'.written text × (out'.faults ≡ out.faults)
 Handles (Ok false) p ops w out out' = IsUnwanted p ops w × (out' ≡ out)
-Handles (Err fault.WriteFault) p ops w out out' = (text : List ℕ) × IsWanted p ops w text × GainsPrefix out.written out'.written text × Rose out.faults out'.faults
+Handles (Err fault.WriteFault) p ops w out out' = (text : List ℕ) × (prints_each p ≡ true) × IsWanted p ops w text × GainsPrefix out.written out'.written text × Rose out.faults out'.faults
 Handles (Err (fault.Invalid rule)) p ops w out out' = IsFirstBroken rule w × (out' ≡ out)
 Handles (Err (fault.Limit which)) p ops w out out' = (PassesLimit which w ⊎ IsOver which p ops w) × (out' ≡ out)
 Handles (Err fault.Memory) p ops w out out' = out' ≡ out
@@ -60,7 +61,7 @@ pub record PrintsMade (p : Plan) (ops : List Automaton) (a : Automaton) (name : 
   pub made : Automaton
   pub makes : MakesAll (changes_of p ops) a made
   pub promises : KeepsPromises p made
-  pub says : (u v : List NameSet) → Accepts made u v ↔ set_operation p ops a u v
+  pub says : SayTheSame (λ u v. Accepts made u v) (set_operation p ops a)
   pub prints : Prints p.output made (if changes p then None else name) text
 
 abbrev pub PrintsOrStops : Result (List ℕ) PlanFault → Plan → List Automaton → Automaton → Option (List ℕ) → Type 0

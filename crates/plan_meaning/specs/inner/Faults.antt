@@ -8,8 +8,12 @@ use Rattle.aut_ops.specs.declared.fault.PairFault.{PairFault}
 use Rattle.aut_ops.specs.declared.fault.PairFault.TheVariants as pair
 use Rattle.degeneralise.specs.declared.fault.BuchiFault.{BuchiFault}
 use Rattle.degeneralise.specs.declared.fault.BuchiFault.TheVariants as buchi
+use Rattle.monitor_form.specs.declared.fault.MonFault.{MonFault}
+use Rattle.monitor_form.specs.declared.fault.MonFault.TheVariants as monitor
 use Rattle.plan_meaning.specs.declared.fault.PlanFault.{PlanFault}
 use Rattle.plan_meaning.specs.declared.fault.PlanFault.TheVariants as fault
+use Rattle.unambiguous.specs.declared.fault.SquareFault.{SquareFault}
+use Rattle.unambiguous.specs.declared.fault.SquareFault.TheVariants as square
 
 abbrev pub fault_of_names : NameFault → PlanFault
 fault_of_names name.Names = fault.Limit limit.Names
@@ -20,6 +24,10 @@ fault_of_pairs pair.Names = fault.Limit limit.Names
 fault_of_pairs pair.Pairs = fault.Limit limit.Pairs
 fault_of_pairs pair.Memory = fault.Memory
 
+abbrev pub fault_of_square : SquareFault → PlanFault
+fault_of_square square.Pairs = fault.Limit limit.Pairs
+fault_of_square square.Memory = fault.Memory
+
 abbrev pub fault_of_form : FormFault → PlanFault
 fault_of_form form.Terms = fault.Limit limit.Terms
 fault_of_form form.Memory = fault.Memory
@@ -28,3 +36,10 @@ abbrev pub fault_of_buchi : BuchiFault → PlanFault
 fault_of_buchi buchi.Terms = fault.Limit limit.Terms
 fault_of_buchi buchi.BuchiStates = fault.Limit limit.BuchiStates
 fault_of_buchi buchi.Memory = fault.Memory
+
+abbrev pub fault_of_monitor : MonFault → PlanFault
+fault_of_monitor monitor.Terms = fault.Limit limit.Terms
+fault_of_monitor monitor.BuchiStates = fault.Limit limit.BuchiStates
+fault_of_monitor monitor.Classes = fault.Limit limit.Classes
+fault_of_monitor monitor.Subsets = fault.Limit limit.Subsets
+fault_of_monitor monitor.Memory = fault.Memory

@@ -1,11 +1,15 @@
 -- The verdict on an automaton, as a truth value.
-use Rattle.std.specs.Prelude.{ℕ, Bool, true, false, List, Option, Some, None, Result, Ok, Err}
+use Rattle.std.specs.Prelude.{Bool, true, false, List, All, filter_map, Option, IfSome, Result, Ok, Err}
+use Rattle.std.specs.Option.{option_map}
 use Rattle.aut_base.specs.Automaton.{Automaton}
-use Rattle.filter_plan.specs.Spans.{IsIn}
-use Rattle.filter_plan.specs.declared.range.Range.{Range}
-use Rattle.plan_meaning.specs.Filters.{AllHold, FailsAt, Filter, HoldsWithin, LacksWithin, Passes, PassesAt}
+use Rattle.aut_core.specs.Core.{automaton_of}
+use Rattle.plan_meaning.specs.Filters.{AcceptsWord, AllHold, Edges, FailsAt, Filter, HoldsWithin, Intersects, IsComplete, IsDeterministic, IsEmpty, IsUnambiguous, LacksWithin, Names, Passes, PassesAt, RejectsWord, Sets, States}
+use Rattle.plan_meaning.specs.Operands.{IsOfReadSize}
 use Rattle.plan_meaning.specs.declared.fault.PlanFault.{PlanFault}
 use Rattle.plan_meaning.specs.declared.fault.PlanFault.TheVariants as fault
+use Rattle.plan_meaning.specs.declared.judging.filter.Filter as coded
+use Rattle.plan_meaning.specs.declared.judging.filter.Filter.TheVariants as code
+use Rattle.word_syntax.specs.Writing.{word_pattern}
 
 -- all of these filters hold, or one doesn't
 abbrev pub Judges : Bool → List Filter → Automaton → Type 0
@@ -25,7 +29,29 @@ Examines (Ok false) f a = LacksWithin f a
 Examines (Err (fault.Limit which)) f a = Passes which f a
 Examines (Err fault.Memory) f a = Unit {0}
 
--- the number is in the range, where there is one
-abbrev pub IsInAny : Option Range → ℕ → Type 0
-IsInAny None n = Unit {0}
-IsInAny (Some r) n = IsIn r n
+-- ---- the filters of code
+
+abbrev pub filter_of : coded.Filter → Filter
+filter_of (code.AcceptsWord pattern) = AcceptsWord (word_pattern pattern.now)
+filter_of (code.RejectsWord pattern) = RejectsWord (word_pattern pattern.now)
+filter_of code.IsEmpty = IsEmpty
+filter_of (code.Intersects other) = Intersects (automaton_of other.now)
+filter_of code.IsDeterministic = IsDeterministic
+filter_of code.IsComplete = IsComplete
+filter_of code.IsUnambiguous = IsUnambiguous
+filter_of (code.States range) = States range.now
+filter_of (code.Edges range) = Edges range.now
+filter_of (code.Sets range) = Sets range.now
+filter_of (code.Names range) = Names range.now
+
+-- those that are asked for
+abbrev pub asked_for : List (Option coded.Filter) → List Filter
+asked_for = filter_map (option_map filter_of)
+
+-- what it compares automata with is of the size of one that is read
+abbrev pub IsComparable : coded.Filter → Type 0
+IsComparable (code.Intersects other) = IsOfReadSize (automaton_of other.now)
+IsComparable _ = Unit {0}
+
+abbrev pub AreComparable : List (Option coded.Filter) → Type 0
+AreComparable filters = All (λ filter. IfSome filter IsComparable) filters

@@ -1,19 +1,49 @@
 -- What single steps answer, of which each is to make some changes.
-use Rattle.std.specs.Prelude.{◌↔◌, ℕ, ◌+◌, ◌-◌, ◌^◌, ◌≤◌, List, Result, Ok, Err}
+use Rattle.std.specs.Prelude.{◌≡◌, ◌≢◌, ℕ, zero, suc, ◌+◌, ◌-◌, ◌^◌, ◌≤◌, List, [], ◌∷◌, filter_map, Option, IfSome, Result, Ok, Err}
+use Rattle.std.specs.Option.{option_map}
+use Rattle.ap_project.specs.Laws.{SayTheSame}
 use Rattle.aut_base.specs.Acceptance.{Accepts}
 use Rattle.aut_base.specs.Automaton.{Automaton}
-use Rattle.aut_base.specs.Word.{NameSet}
-use Rattle.aut_base.specs.declared.limit.TheConstants.{MOST_SETS, MOST_STATES}
+use Rattle.aut_base.specs.declared.limit.TheConstants.{MOST_PAIRS, MOST_SETS, MOST_STATES}
 use Rattle.aut_core.specs.Core.{Core, automaton_of}
-use Rattle.aut_base.specs.declared.limit.TheConstants.{MOST_PAIRS}
-use Rattle.plan_meaning.specs.Changes.{Change, MakesAll, StopsIn, said_by_all}
+use Rattle.aut_core.specs.Deterministic.{IsComplete, IsDeterministic}
+use Rattle.filter_plan.specs.declared.plan.Form.{Form}
+use Rattle.filter_plan.specs.declared.plan.Form.TheVariants as form
+use Rattle.plan_meaning.specs.Changes.{Bring, Change, Complete, HasBuiltForm, MakesWithin, Product, ProductOr, RemoveAp, StopsIn, Sum, Trim, said_by_all}
+use Rattle.plan_meaning.specs.Operands.{IsOfReadSize}
+use Rattle.plan_meaning.specs.declared.changing.list.Change as coded
+use Rattle.plan_meaning.specs.declared.changing.list.Change.TheVariants as code
 use Rattle.plan_meaning.specs.declared.fault.PlanFault.{PlanFault}
 use Rattle.plan_meaning.specs.declared.fault.PlanFault.TheVariants as fault
 
+-- what a change promises beside what it makes
+abbrev pub PromisesForm : Form → Automaton → Type 0
+PromisesForm form.AsIs made = Unit {0}
+PromisesForm form.Deterministic made = Unit {0}
+PromisesForm form.Parity made = Unit {0}
+PromisesForm form.Buchi made = Unit {0}
+PromisesForm form.RemoveFin made = Unit {0}
+PromisesForm form.Dnf made = Unit {0}
+PromisesForm form.Monitor made = IsDeterministic made
+
+abbrev pub Promises : Change → Automaton → Automaton → Type 0
+Promises (Product b) a made = Unit {0}
+Promises (ProductOr b) a made = Unit {0}
+Promises (Sum b) a made = Unit {0}
+Promises (RemoveAp h) a made = Unit {0}
+Promises Trim a made = Unit {0}
+Promises (Bring f) a made = PromisesForm f made
+Promises Complete a made = IsComplete made × (IsDeterministic a → IsDeterministic made)
+
+-- the changes make this of the automaton, one after the other, and each keeps its promise
+abbrev pub MakesAsPromised : List Change → Automaton → Automaton → Type 0
+MakesAsPromised [] a made = made ≡ a
+MakesAsPromised (c ∷ cs) a made = (next : Automaton) × MakesWithin c a next × Promises c a next × MakesAsPromised cs next made
+
 -- the changes make this of the automaton, and of what it accepts what is accepted then
 pub record IsMade (cs : List Change) (a made : Automaton) : Type 0 where
-  pub all : MakesAll cs a made
-  pub says : (u v : List NameSet) → Accepts made u v ↔ said_by_all cs (λ x y. Accepts a x y) u v
+  pub all : MakesAsPromised cs a made
+  pub says : SayTheSame (λ u v. Accepts made u v) (said_by_all cs (λ u v. Accepts a u v))
 
 -- what a step answers that is to make these changes
 abbrev pub Steps : List Change → Automaton → Result Core PlanFault → Type 0
@@ -41,3 +71,54 @@ IsOfSumSize = IsWithin (MOST_PAIRS + MOST_STATES) (MOST_SETS + MOST_SETS + 1 + (
 
 abbrev pub HasRoom : Automaton → Type 0
 HasRoom = IsWithin (2 ^ 32 - 2) (2 ^ 32 - 2)
+
+-- ---- the changes of code
+
+abbrev pub change_of : coded.Change → Change
+change_of (code.Product b) = Product (automaton_of b.now)
+change_of (code.ProductOr b) = ProductOr (automaton_of b.now)
+change_of (code.Sum b) = Sum (automaton_of b.now)
+change_of (code.RemoveAp h) = RemoveAp h.now
+change_of code.Trim = Trim
+change_of (code.Bring f) = Bring f
+change_of code.Complete = Complete
+
+-- those that are asked for
+abbrev pub changes_asked : List (Option coded.Change) → List Change
+changes_asked = filter_map (option_map change_of)
+
+-- the place of a change in the order in which they are made
+abbrev pub place_of : coded.Change → ℕ
+place_of (code.Product b) = 0
+place_of (code.ProductOr b) = 1
+place_of (code.Sum b) = 2
+place_of (code.RemoveAp h) = 3
+place_of code.Trim = 4
+place_of (code.Bring f) = 5
+place_of code.Complete = 6
+
+-- what a change takes from a plan can be made
+abbrev pub IsPossible : coded.Change → Type 0
+IsPossible (code.Product b) = IsOfReadSize (automaton_of b.now)
+IsPossible (code.ProductOr b) = IsOfReadSize (automaton_of b.now)
+IsPossible (code.Sum b) = IsOfReadSize (automaton_of b.now)
+IsPossible (code.RemoveAp h) = Unit {0}
+IsPossible code.Trim = Unit {0}
+IsPossible (code.Bring f) = HasBuiltForm f × (f ≢ form.AsIs)
+IsPossible code.Complete = Unit {0}
+
+-- each change stands at its place, from this one on
+abbrev pub AreInOrder : ℕ → List (Option coded.Change) → Type 0
+AreInOrder n [] = Unit {0}
+AreInOrder n (o ∷ os) = IfSome o (λ c. (place_of c ≡ n) × IsPossible c) × AreInOrder (suc n) os
+
+-- the size that an automaton may have before the change at this place
+abbrev pub IsOfSizeAt : ℕ → Automaton → Type 0
+IsOfSizeAt zero a = IsOfReadSize a
+IsOfSizeAt (suc zero) a = IsOfProductSize a
+IsOfSizeAt (suc (suc zero)) a = IsOfProductOrSize a
+IsOfSizeAt (suc (suc (suc zero))) a = IsOfSumSize a
+IsOfSizeAt (suc (suc (suc (suc zero)))) a = IsOfSumSize a
+IsOfSizeAt (suc (suc (suc (suc (suc zero))))) a = IsOfSumSize a
+IsOfSizeAt (suc (suc (suc (suc (suc (suc zero)))))) a = HasRoom a
+IsOfSizeAt (suc (suc (suc (suc (suc (suc (suc n))))))) a = IsWithin (2 ^ 32 - 1) (2 ^ 32 - 1) a

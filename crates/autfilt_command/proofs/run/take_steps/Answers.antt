@@ -1,12 +1,14 @@
-use Rattle.std.proofs.Common.{◌≡◌, ◌∙◌, ℕ, List, sym, subst}
+use Rattle.std.proofs.Common.{◌≡◌, ◌∙◌, ℕ, List, sym, subst, true}
 use Rattle.autfilt_command.proofs.Ending.{run_failed, run_finished}
 use Rattle.autfilt_command.proofs.Running.{Adds, adds_nothing, carries_as, finish_as, run_more, run_none}
 use Rattle.autfilt_command.proofs.Stepped.{dropped, ended, kept, opened, skipped, steps_as}
 use Rattle.autfilt_command.specs.Notes.{aborted_line}
 use Rattle.autfilt_command.specs.declared.ended.End.TheVariants as end
+use Rattle.autfilt_run.specs.Plans.{prints_count}
 use Rattle.autfilt_run.specs.Turns.{Turns, after, progress}
 use Rattle.autfilt_run.specs.declared.session.Turn.{Turn}
 use Rattle.autfilt_run.specs.declared.session.Turn.TheVariants as turn
+use Rattle.filter_plan.specs.declared.plan.Plan.{Plan}
 use Rattle.autfilt_command.proofs.run.take_steps.Goals as goal
 
 pub steps-init : goal.steps-init
@@ -127,7 +129,7 @@ returns-in-Ok-Done g c =
     let done = subst (λ (x : Turn). progress new ≡ after x (progress old)) is said.progress in
     carries_as c.args.session c.args.noting c.note_end.result c.finish-end.result _ _ _ _ _ _ c.note_end.ensures.same
     (run_finished c.finish-end.result c.name_in_hand.result.now c.args.session old (g.I.Inputs.seen c.args.inputs.now) m t (g.W.Sink.seen c.args.out.now) p r q _ _ _ c.args.noting c.steps.noting
-    c.steps.invariant.ran did.0 did.1 (finish_as c.finish-end.result old new r q said.plan done c.finish-end.ensures.finishes) c.note_end.ensures.noted)
+    c.steps.invariant.ran did.0 did.1 (λ is. subst (λ (x : Plan). prints_count x ≡ true) said.plan (c.finish-end.ensures.due is)) (finish_as c.finish-end.result old new r q said.plan done c.finish-end.ensures.finishes) c.note_end.ensures.noted)
 
 pub returns-in-Err : goal.returns-in-Err
 returns-in-Err g c =

@@ -1,6 +1,6 @@
 use Rattle.std.specs.Option.{option_copied}
 use Rattle.std.specs.Prelude.{map}
-use Rattle.std.proofs.Common.{[], refl}
+use Rattle.std.proofs.Common.{◌∙◌, [], refl, sym}
 use Rattle.aut_core.specs.Core.{automaton_of}
 use Rattle.autfilt_run.proofs.Gains.{nothing}
 use Rattle.autfilt_run.proofs.Handling.{hands_on, is_unwanted, is_wanted, is_wanted_silent, not_judged, not_printed}
@@ -55,6 +55,7 @@ returns-in-Ok g c = (
 pub returns : goal.returns
 returns g c = (
   c.as_bytes.result.now,
+  sym c.prints_each.ensures ∙ c.if-not-prints_each.false,
   is_wanted c.in_ok-judge.field-0 c.prints_each.result c.args.plan.now (map automaton_of c.args.operands.now) (written c.args.raw.now) (automaton_of c.in_ok-automaton.automaton) (option_copied c.name.result) c.in_ok-text.text c.as_bytes.result.now
       c.in_ok-automaton.ensures c.if-not-branch.false c.in_ok-judge.ensures c.prints_each.ensures c.if-not-prints_each.false c.as_bytes.ensures c.in_ok-text.ensures c.name.ensures,
   c.in-Err.ensures.err,

@@ -3,7 +3,7 @@ use Rattle.std.proofs.lemmas.List.{take_all}
 use Rattle.word_syntax.proofs.FrontTokens.{one_front}
 use Rattle.filter_plan.specs.Hiding.{IsHidden, suffix}
 use Rattle.filter_plan.specs.declared.plan.Hidden.{Hidden}
-use Rattle.filter_plan.specs.declared.plan.Hide.{Hide}
+use Rattle.ap_project.specs.declared.hide.Hide.{Hide}
 use Rattle.word_syntax.specs.Writing.{IsNameAtFront, NoNameAtFront}
 use Rattle.word_syntax.specs.declared.token.Token.TheVariants.{Name}
 use Rattle.filter_plan.proofs.hidden.read_hidden.Goals as goal

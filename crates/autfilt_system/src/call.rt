@@ -1,0 +1,81 @@
+//! What a run is called with.
+
+ghost use Rattle.std.specs.Prelude.{◌≡◌, ◌⊎◌, drop, map, IfErr, IfOk, OnErr, OnOk};
+ghost use Rattle.std.specs.Vec.Iter.{into_iter_items};
+ghost use Rattle.autfilt_command.specs.declared.ended.End.{End};
+ghost use Rattle.autfilt_run.specs.declared.fault.RunFault.{RunFault};
+ghost use Rattle.autfilt_system.specs.Words.{words_in};
+
+use aut_base::{Memory, Text, Words};
+use autfilt_command::End;
+use real_io::{Opener, RealInputs};
+use std::alloc::Global;
+use std::env::Args;
+use std::io;
+use std::rt::Stdin;
+
+/// The words behind the program's name, and the inputs. Arguments of which one is no text make no plan.
+pub(crate) fn called<O: Opener + Drop>(
+    alloc: Global,
+    args: io::Result<Args<Global>>,
+    stdin: Stdin,
+    files: O,
+) -> Result<(Words, RealInputs<Stdin, O>), End>
+    ensures words { IfOk args (λ list. IfOk result (λ called. called.0 ≡ words_in (into_iter_items list))) }
+    ensures refused { IfErr args (λ error. IfErr result (λ end. (end ≡ End.Usage) ⊎ (end ≡ End.Fault RunFault.Memory))) }
+    ensures none { OnErr args (OnOk result ⊥) }
+{
+    let words = words_of(alloc, args)?;
+    Ok((words, RealInputs::new(alloc, stdin, files)?))
+}
+
+/// The words behind the program's name, byte for byte.
+fn words_of(alloc: Global, args: io::Result<Args<Global>>) -> Result<Words, End>
+    ensures words { IfOk args (λ list. IfOk result (λ words. words ≡ words_in (into_iter_items list))) }
+    ensures refused { IfErr args (λ error. IfErr result (λ end. (end ≡ End.Usage) ⊎ (end ≡ End.Fault RunFault.Memory))) }
+    ensures none { OnErr args (OnOk result ⊥) }
+{
+    match args {
+        Ok(args) => Ok(words_from(alloc, args)?),
+        Err(error) => Err(end_of(&error)),
+    }
+}
+
+/// How a run ends whose arguments can't be had.
+fn end_of(error: &io::Error) -> End
+    ensures { (result ≡ End.Usage) ⊎ (result ≡ End.Fault RunFault.Memory) }
+{
+    match error.kind() {
+        io::ErrorKind::OutOfMemory => End::from(Memory),
+        _ => End::Usage,
+    }
+}
+
+/// The words behind the first of these arguments.
+fn words_from(alloc: Global, args: Args<Global>) -> Result<Words, Memory>
+    ensures { IfOk result (λ words. words ≡ words_in (into_iter_items args)) }
+{
+    let args: Vec<String> = args.collect(alloc)?;
+    words_behind(alloc, &args)
+}
+
+/// The words after the program's name, which is the first argument.
+fn words_behind(alloc: Global, args: &[String]) -> Result<Words, Memory>
+    ensures { IfOk result (λ words. words ≡ words_in args.now) }
+{
+    match args.split_first() {
+        Some((_, words)) => texts_of(alloc, words),
+        None => Ok(Words::new(alloc)),
+    }
+}
+
+/// The words, as texts of our own.
+fn texts_of(alloc: Global, words: &[String]) -> Result<Words, Memory>
+    ensures { IfOk result (λ texts. texts ≡ map (λ s. s.bytes.items) words.now) }
+{
+    let mut texts = Words::new(alloc);
+    'words: for word in words {
+        texts.push(Text::from_bytes(alloc, word.as_bytes())?)?;
+    }
+    Ok(texts)
+}

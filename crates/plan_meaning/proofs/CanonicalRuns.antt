@@ -1,0 +1,100 @@
+-- Runs by places don't see whether labels are canonical.
+use Rattle.std.proofs.Common.{◌≡◌, ◌∙◌, ℕ, true, List, [], ◌∷◌, Option, Some, None, ap, map, refl, subst, sym}
+use Rattle.std.specs.Option.{option_map, option_map_or}
+use Rattle.std.specs.Prelude.{slice_get}
+use Rattle.std.proofs.lemmas.Option.{slice_get-map}
+use Rattle.aut_base.proofs.Members.{placed_there}
+use Rattle.aut_base.specs.Automaton.{Automaton, TreeEdge}
+use Rattle.aut_base.specs.CanonicalLabel.{canonical}
+use Rattle.aut_base.specs.Formula.{met}
+use Rattle.aut_base.specs.LabelLaws.{LabelsBelow}
+use Rattle.aut_base.specs.Word.{NameSet}
+use Rattle.aut_core.specs.Deterministic.{is_met}
+use Rattle.plan_meaning.proofs.CanonicalEdges.{same_met, settled}
+use Rattle.unambiguous.specs.Runs.{AcceptingRun, IsTrack, IsUnambiguous, marks_at}
+
+-- the edge at a place, in both
+place_to : (a : Automaton) (m : ℕ) (e : TreeEdge) → slice_get a.edges m ≡ Some e → slice_get (canonical a).edges m ≡ Some (settled a e)
+place_to a m e there = slice_get-map (settled a) a.edges m ∙ ap (option_map (settled a)) there
+
+place_from : (a : Automaton) (m : ℕ) (f : TreeEdge) → slice_get (canonical a).edges m ≡ Some f → (e : TreeEdge) × (slice_get a.edges m ≡ Some e) × (settled a e ≡ f)
+place_from a m f there = by (slice_get a.edges m) refl
+  where
+    by : (o : Option TreeEdge) → slice_get a.edges m ≡ o → (e : TreeEdge) × (slice_get a.edges m ≡ Some e) × (settled a e ≡ f)
+    by None is = let none : None ≡ Some f = sym (slice_get-map (settled a) a.edges m ∙ ap (option_map (settled a)) is) ∙ there in cc
+    by (Some e) is = let same : Some (settled a e) ≡ Some f = sym (place_to a m e is) ∙ there in (e, is, cc)
+
+same_marks : (a : Automaton) (m : ℕ) → marks_at (canonical a) m ≡ marks_at a m
+same_marks a m = ap (λ (o : Option TreeEdge). option_map_or (λ (e : TreeEdge). e.marks) o []) (slice_get-map (settled a) a.edges m) ∙ by (slice_get a.edges m)
+  where
+    by : (o : Option TreeEdge) → option_map_or (λ (e : TreeEdge). e.marks) (option_map (settled a) o) [] ≡ option_map_or (λ (e : TreeEdge). e.marks) o []
+    by None = refl
+    by (Some e) = refl
+
+all_marks : (a : Automaton) (ms : List ℕ) → map (marks_at (canonical a)) ms ≡ map (marks_at a) ms
+all_marks a [] = refl
+all_marks a (m ∷ ms) = λ i. same_marks a m i ∷ all_marks a ms i
+
+module _ (a : Automaton) (below : LabelsBelow a) where
+  track_to : (p q : ℕ) (xs : List NameSet) (ms : List ℕ) → IsTrack a p xs ms q → IsTrack (canonical a) p xs ms q
+  track_to p q [] [] h = h
+  track_to p q [] (m ∷ ms) h = h
+  track_to p q (x ∷ xs) [] h = h
+  track_to p q (x ∷ xs) (m ∷ ms) h = (
+    settled a h.0,
+    place_to a m h.0 h.1,
+    h.2,
+    same_met a h.0 x below (placed_there a.edges m h.0 h.1) ∙ h.3,
+    track_to h.0.to q xs ms h.4,
+  )
+
+  track_from : (p q : ℕ) (xs : List NameSet) (ms : List ℕ) → IsTrack (canonical a) p xs ms q → IsTrack a p xs ms q
+  track_from p q [] [] h = h
+  track_from p q [] (m ∷ ms) h = h
+  track_from p q (x ∷ xs) [] h = h
+  track_from p q (x ∷ xs) (m ∷ ms) h =
+      let was = place_from a m h.0 h.1 in
+      (
+        was.0,
+        was.1,
+        h.2 ∙ sym (ap (λ (e : TreeEdge). e.from) was.2),
+        sym (same_met a was.0 x below (placed_there a.edges m was.0 was.1)) ∙ (ap (is_met a.names x) was.2 ∙ h.3),
+        subst (λ (r : ℕ). IsTrack a r xs ms q) (sym (ap (λ (e : TreeEdge). e.to) was.2)) (track_from h.0.to q xs ms h.4),
+      )
+
+  -- the same places make a run of both
+  abbrev run_to : (u v : List NameSet) → AcceptingRun a u v → AcceptingRun (canonical a) u v
+  run_to u v r = record {
+    start = r.start;
+    state = r.state;
+    turns = r.turns;
+    rounds = r.rounds;
+    way = r.way;
+    cycle = r.cycle;
+    is_start = r.is_start;
+    leads = track_to r.start r.state _ r.way r.leads;
+    positive = r.positive;
+    returns = track_to r.state r.state _ r.cycle r.returns;
+    meets = ap (λ (ms : List (List ℕ)). met ms a.formula) (all_marks a r.cycle) ∙ r.meets;
+  }
+
+  abbrev run_from : (u v : List NameSet) → AcceptingRun (canonical a) u v → AcceptingRun a u v
+  run_from u v r = record {
+    start = r.start;
+    state = r.state;
+    turns = r.turns;
+    rounds = r.rounds;
+    way = r.way;
+    cycle = r.cycle;
+    is_start = r.is_start;
+    leads = track_from r.start r.state _ r.way r.leads;
+    positive = r.positive;
+    returns = track_from r.state r.state _ r.cycle r.returns;
+    meets = sym (ap (λ (ms : List (List ℕ)). met ms a.formula) (all_marks a r.cycle)) ∙ r.meets;
+  }
+
+  pub unambiguous_one : IsUnambiguous (canonical a) → IsUnambiguous a
+  unambiguous_one h = λ u v some r t n. h u v some (run_to u v r) (run_to u v t) n
+
+  pub unambiguous_other : IsUnambiguous a → IsUnambiguous (canonical a)
+  unambiguous_other h = λ u v some r t n. h u v some (run_from u v r) (run_from u v t) n

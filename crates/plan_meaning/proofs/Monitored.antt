@@ -1,0 +1,52 @@
+-- What is made of an automaton in the form of a monitor.
+use Rattle.std.proofs.Common.{◌≡◌, ◌<◌, ◌≤◌, ℕ, List, [], ◌∷◌, Err, arith, inl, refl}
+use Rattle.aut_base.specs.Acceptance.{Accepts}
+use Rattle.aut_base.specs.Automaton.{Automaton}
+use Rattle.aut_base.specs.Word.{NameSet}
+use Rattle.aut_base.specs.declared.limit.Limit.{Limit}
+use Rattle.aut_base.specs.declared.limit.Limit.TheVariants as limit
+use Rattle.aut_base.specs.declared.limit.TheConstants.{MOST_BUCHI_STATES}
+use Rattle.aut_core.specs.Deterministic.{IsDeterministic}
+use Rattle.degeneralise.specs.Buchi.{NeedsTooManyTerms, buchi_states}
+use Rattle.exploration.specs.declared.fault.Fault.{Fault}
+use Rattle.exploration.specs.declared.fault.Fault.TheVariants as explored
+use Rattle.filter_plan.specs.declared.plan.Form.TheVariants as form
+use Rattle.monitor_form.specs.Prefixes.{AcceptsPrefixes, HasPrefix}
+use Rattle.monitor_form.specs.Subsets.{IsMonitor, MeetsLimit}
+use Rattle.monitor_form.specs.declared.fault.MonFault.{MonFault}
+use Rattle.monitor_form.specs.declared.fault.MonFault.TheVariants as monitor
+use Rattle.plan_meaning.specs.Changes.{Bring, PassesMonitor, SomePrefix}
+use Rattle.plan_meaning.specs.inner.Faults.{fault_of_monitor}
+use Rattle.plan_meaning.specs.inner.Stepping.{IsMade, Steps}
+
+module _ (a : Automaton) where
+  within : (NeedsTooManyTerms a.formula → ⊥) → buchi_states a ≤ MOST_BUCHI_STATES → ((f : Fault) → MeetsLimit a f → ⊥) → (which : Limit) → PassesMonitor which a → ⊥
+  within terms few none limit.Terms h = terms h
+  within terms few none limit.BuchiStates h = omega (arith, h.1, few)
+  within terms few none limit.Classes h = none explored.Classes h.1
+  within terms few none limit.Subsets h = none explored.Things h.1
+  within terms few none _ h = h
+
+  some_prefix : (u v : List NameSet) (n : ℕ) → HasPrefix a u v n → SomePrefix (λ x y. Accepts a x y) u v n
+  some_prefix u v n p = record { stem = p.stem; cycle = p.cycle; some = p.accepted.endless; said = p.accepted; same = p.same }
+
+  has_prefix : (u v : List NameSet) (n : ℕ) → SomePrefix (λ x y. Accepts a x y) u v n → HasPrefix a u v n
+  has_prefix u v n p = record { stem = p.stem; cycle = p.cycle; accepted = p.said; same = p.same }
+
+  pub monitor_made : (made : Automaton) → (NeedsTooManyTerms a.formula → ⊥) → buchi_states a ≤ MOST_BUCHI_STATES → ((f : Fault) → MeetsLimit a f → ⊥) → IsMonitor a made → IsDeterministic made → AcceptsPrefixes made a → IsMade (Bring form.Monitor ∷ []) a made
+  monitor_made made terms few none is deterministic accepts = record {
+    all = (made, record { within = within terms few none; makes = is }, deterministic, refl);
+    says = λ u v some. (
+      (λ x n. some_prefix u v n ((accepts u v some).0 x n)),
+      (λ x. (accepts u v some).1 (λ n. has_prefix u v n (x n))),
+    );
+  }
+
+  -- what a refusal says, which is that of terms where they are needed and too many
+  pub monitor_refused : (f : MonFault) → (NeedsTooManyTerms a.formula → f ≡ monitor.Terms) → (f ≡ monitor.Terms → NeedsTooManyTerms a.formula) → (f ≡ monitor.BuchiStates → MOST_BUCHI_STATES < buchi_states a)
+      → (f ≡ monitor.Classes → MeetsLimit a explored.Classes) → (f ≡ monitor.Subsets → MeetsLimit a explored.Things) → Steps (Bring form.Monitor ∷ []) a (Err (fault_of_monitor f))
+  monitor_refused monitor.Terms passed terms states classes subsets = inl (terms refl)
+  monitor_refused monitor.BuchiStates passed terms states classes subsets = inl ((λ many. let told = passed many in cc), states refl)
+  monitor_refused monitor.Classes passed terms states classes subsets = inl ((λ many. let told = passed many in cc), classes refl)
+  monitor_refused monitor.Subsets passed terms states classes subsets = inl ((λ many. let told = passed many in cc), subsets refl)
+  monitor_refused monitor.Memory passed terms states classes subsets = tt

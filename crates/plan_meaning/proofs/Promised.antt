@@ -1,0 +1,161 @@
+-- What is promised of what the changes of a plan make.
+use Rattle.std.proofs.Common.{◌≡◌, ◌∙◌, ◌+◌, Bool, true, false, cond, List, [], ◌∷◌, ◌++◌, Option, Some, None, refl, ap, drop, subst, sym, take, inl, inr}
+use Rattle.std.specs.Bool.{then_some}
+use Rattle.std.proofs.lemmas.Bool.{false≢true}
+use Rattle.std.proofs.lemmas.List.{take-append-drop}
+use Rattle.acc_forms.specs.Atoms.{has_fin}
+use Rattle.acc_forms.specs.Joined.{conj}
+use Rattle.acc_forms.specs.Terms.{terms}
+use Rattle.aut_base.specs.Automaton.{Automaton}
+use Rattle.aut_base.specs.Formula.{Fin, FormulaTree}
+use Rattle.aut_core.specs.Deterministic.{IsComplete, IsDeterministic}
+use Rattle.aut_ops.specs.Completion.{completed, is_met_unmarked, lacks_nothing, with_sink}
+use Rattle.fin_removal.proofs.CopiedWhole.{copied_no_fin}
+use Rattle.fin_removal.specs.Copies.{copied, without_fin}
+use Rattle.filter_plan.specs.declared.plan.Form.{Form}
+use Rattle.filter_plan.specs.declared.plan.Form.TheVariants as form
+use Rattle.filter_plan.specs.declared.plan.Plan.{Plan}
+use Rattle.monitor_form.specs.Subsets.{IsMonitor}
+use Rattle.plan_meaning.specs.Changes.{Change, Complete, HasBuiltForm, IsInForm, change_options, changes_of, form_change}
+use Rattle.plan_meaning.specs.Promises.{IsBuchi, IsDeterministicSafety, IsDisjunctive, IsOfForm, KeepsForm, KeepsPromises, OrHasSinkSet}
+use Rattle.plan_meaning.specs.Standing.{those_standing}
+use Rattle.plan_meaning.specs.inner.Stepping.{MakesAsPromised, PromisesForm}
+
+-- ---- forms under completion
+
+-- the sink adds no set under a Büchi condition
+completed_buchi : (a : Automaton) → IsBuchi a → IsBuchi (completed a)
+completed_buchi a is = by (lacks_nothing a)
+  where
+    unmet : is_met_unmarked a.formula ≡ false
+    unmet = ap is_met_unmarked is.formula
+
+    by : (b : Bool) → IsBuchi (cond b a (with_sink a))
+    by true = is
+    by false = record {
+      sets = ap (λ (b : Bool). cond b (a.sets + 1) a.sets) unmet ∙ is.sets;
+      formula = ap (λ (b : Bool). cond b (conj a.formula (Fin a.sets false)) a.formula) unmet ∙ is.formula;
+    }
+
+-- a form that speaks of the condition alone
+completed_condition : (f : Form) (P : FormulaTree → Type 0) → ((x : Automaton) → P x.formula → IsOfForm f x) → (a : Automaton) → IsOfForm f a → P a.formula → OrHasSinkSet f true (completed a)
+completed_condition f P of a formed holds = by (lacks_nothing a)
+  where
+    sink : (u : Bool) → is_met_unmarked a.formula ≡ u → OrHasSinkSet f true (with_sink a)
+    sink true e = inr (record {
+      before = a;
+      formed = formed;
+      sets = ap (λ (b : Bool). cond b (a.sets + 1) a.sets) e;
+      formula = ap (λ (b : Bool). cond b (conj a.formula (Fin a.sets false)) a.formula) e;
+    })
+    sink false e = inl (of (with_sink a) (subst P (sym (ap (λ (b : Bool). cond b (conj a.formula (Fin a.sets false)) a.formula) e)) holds))
+
+    by : (b : Bool) → OrHasSinkSet f true (cond b a (with_sink a))
+    by true = inl formed
+    by false = sink (is_met_unmarked a.formula) refl
+
+completed_no_fin : (a : Automaton) → has_fin a.formula ≡ false → OrHasSinkSet form.RemoveFin true (completed a)
+completed_no_fin a is = completed_condition form.RemoveFin (λ (f : FormulaTree). has_fin f ≡ false) (λ x h. h) a is is
+
+completed_disjunctive : (a : Automaton) → IsDisjunctive a.formula → OrHasSinkSet form.Dnf true (completed a)
+completed_disjunctive a is = completed_condition form.Dnf IsDisjunctive (λ x h. h) a is is
+
+-- a sink is added to a monitor wherever a letter is missing, with its set
+completed_safety : (a : Automaton) → IsDeterministicSafety a → OrHasSinkSet form.Monitor true (completed a)
+completed_safety a is = by (lacks_nothing a)
+  where
+    met_so : is_met_unmarked a.formula ≡ true
+    met_so = ap is_met_unmarked is.formula
+
+    by : (b : Bool) → OrHasSinkSet form.Monitor true (cond b a (with_sink a))
+    by true = inl is
+    by false = inr (record {
+      before = a;
+      formed = is;
+      sets = ap (λ (b : Bool). cond b (a.sets + 1) a.sets) met_so;
+      formula = ap (λ (b : Bool). cond b (conj a.formula (Fin a.sets false)) a.formula) met_so;
+    })
+
+-- ---- forms
+
+no_fin : (a : Automaton) → has_fin (without_fin a).formula ≡ false
+no_fin a = by (has_fin a.formula) refl
+  where
+    by : (b : Bool) → has_fin a.formula ≡ b → has_fin (cond b (copied a) a).formula ≡ false
+    by true is = copied_no_fin a
+    by false is = is
+
+of_monitor : (a made : Automaton) → IsMonitor a made → IsDeterministic made → IsDeterministicSafety made
+of_monitor a made is deterministic = record {
+  deterministic = deterministic;
+  sets = ap (λ (x : Automaton). x.sets) is.is.is;
+  formula = ap (λ (x : Automaton). x.formula) is.is.is;
+}
+
+-- what a change into a form makes is of that form
+of_form : (f : Form) (a made : Automaton) → HasBuiltForm f → IsInForm f a made → PromisesForm f made → IsOfForm f made
+of_form form.AsIs a made built h promised = tt
+of_form form.Buchi a made built h promised = subst IsBuchi (sym h) (record { sets = refl; formula = refl })
+of_form form.RemoveFin a made built h promised = subst (λ (x : Automaton). has_fin x.formula ≡ false) (sym h) (no_fin a)
+of_form form.Dnf a made built h promised = subst (λ (x : Automaton). IsDisjunctive x.formula) (sym h) (record { terms = terms a.formula; is = refl })
+of_form form.Monitor a made built h promised = of_monitor a made h promised
+of_form form.Deterministic a made built h promised = absurd (false≢true built)
+of_form form.Parity a made built h promised = absurd (false≢true built)
+
+-- as it is, or completed
+pub data MayBeCompleted (a made : Automaton) : Bool → Type 0 where
+  Left : made ≡ a → MayBeCompleted a made false
+  Completed : made ≡ completed a → (IsDeterministic a → IsDeterministic made) → MayBeCompleted a made true
+
+-- and it keeps that under completion
+keeps : (f : Form) (complete : Bool) (a made : Automaton) → HasBuiltForm f → IsOfForm f a → MayBeCompleted a made complete → KeepsForm f complete made
+keeps form.AsIs complete a made built is h = tt
+keeps form.Deterministic complete a made built is h = absurd (false≢true built)
+keeps form.Parity complete a made built is h = absurd (false≢true built)
+keeps form.Buchi false a made built is (Left same) = subst IsBuchi (sym same) is
+keeps form.Buchi true a made built is (Completed same deterministic) = subst IsBuchi (sym same) (completed_buchi a is)
+keeps form.RemoveFin false a made built is (Left same) = subst (OrHasSinkSet form.RemoveFin false) (sym same) is
+keeps form.RemoveFin true a made built is (Completed same deterministic) = subst (OrHasSinkSet form.RemoveFin true) (sym same) (completed_no_fin a is)
+keeps form.Dnf false a made built is (Left same) = subst (OrHasSinkSet form.Dnf false) (sym same) is
+keeps form.Dnf true a made built is (Completed same deterministic) = subst (OrHasSinkSet form.Dnf true) (sym same) (completed_disjunctive a is)
+keeps form.Monitor false a made built is (Left same) = subst (λ (x : Automaton). IsDeterministic x × IsDeterministicSafety x) (sym same) (is.deterministic, is)
+keeps form.Monitor true a made built is (Completed same deterministic) = (deterministic is.deterministic, subst (OrHasSinkSet form.Monitor true) (sym same) (completed_safety a is))
+
+-- ---- the changes of a plan
+
+-- what the last of the changes make
+behind : (os rest : List (Option Change)) (a made : Automaton) → MakesAsPromised (those_standing (os ++ rest)) a made → (b : Automaton) × MakesAsPromised (those_standing rest) b made
+behind [] rest a made h = (a, h)
+behind (None ∷ os) rest a made h = behind os rest a made h
+behind (Some c ∷ os) rest a made h = behind os rest h.0 made h.3
+
+-- what completion makes, where it is asked for
+last_made : (complete : Bool) (a made : Automaton) → MakesAsPromised (those_standing (then_some complete Complete ∷ [])) a made → MayBeCompleted a made complete × (complete ≡ true → IsComplete made)
+last_made false a made h = (Left h, λ on. absurd (false≢true on))
+last_made true a made h =
+    let same : made ≡ h.0 = h.3 in
+    (
+      Completed (same ∙ h.1.makes) (λ is. subst IsDeterministic (sym same) (h.2.1 is)),
+      λ on. subst IsComplete (sym same) h.2.0,
+    )
+
+formed : (p : Plan) (a made : Automaton) → HasBuiltForm p.form → MakesAsPromised (those_standing (form_change p.form ∷ then_some p.complete Complete ∷ [])) a made → KeepsPromises p made
+formed p a made built h = by p.form built h
+  where
+    end : (f : Form) (b : Automaton) → HasBuiltForm f → IsOfForm f b → MakesAsPromised (those_standing (then_some p.complete Complete ∷ [])) b made → KeepsForm f p.complete made × (p.complete ≡ true → IsComplete made)
+    end f b built is k = let last = last_made p.complete b made k in (keeps f p.complete b made built is last.0, last.1)
+
+    by : (f : Form) → HasBuiltForm f → MakesAsPromised (those_standing (form_change f ∷ then_some p.complete Complete ∷ [])) a made → KeepsForm f p.complete made × (p.complete ≡ true → IsComplete made)
+    by form.AsIs built k = end form.AsIs a built tt k
+    by form.Deterministic built k = absurd (false≢true built)
+    by form.Parity built k = absurd (false≢true built)
+    by form.Buchi built k = end form.Buchi k.0 built (of_form form.Buchi a k.0 built k.1.makes k.2) k.3
+    by form.RemoveFin built k = end form.RemoveFin k.0 built (of_form form.RemoveFin a k.0 built k.1.makes k.2) k.3
+    by form.Dnf built k = end form.Dnf k.0 built (of_form form.Dnf a k.0 built k.1.makes k.2) k.3
+    by form.Monitor built k = end form.Monitor k.0 built (of_form form.Monitor a k.0 built k.1.makes k.2) k.3
+
+pub promises_kept : (p : Plan) (ops : List Automaton) (a made : Automaton) → HasBuiltForm p.form → MakesAsPromised (changes_of p ops) a made → KeepsPromises p made
+promises_kept p ops a made built h =
+    let os = change_options p ops in
+    let shaped = behind (take 5 os) (drop 5 os) a made (subst (λ (xs : List (Option Change)). MakesAsPromised (those_standing xs) a made) (sym (take-append-drop 5 os)) h) in
+    formed p shaped.0 made built shaped.1

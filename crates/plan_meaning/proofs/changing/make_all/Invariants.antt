@@ -1,0 +1,8 @@
+use Rattle.std.proofs.Common.{take}
+use Rattle.aut_core.specs.Core.{automaton_of}
+use Rattle.plan_meaning.specs.inner.Stepping.{IsMade, IsOfSizeAt, changes_asked}
+use Rattle.plan_meaning.proofs.changing.make_all.Given as goal
+
+-- what was asked for so far is made, and there is room for what may come
+abbrev pub invariant-changes : goal.invariant-changes
+invariant-changes l = IsMade (changes_asked (take l.change-index l.changes)) (automaton_of l.initial.made) (automaton_of l.made) × IsOfSizeAt l.change-index (automaton_of l.made)

@@ -1,0 +1,8 @@
+use Rattle.aut_core.specs.Core.{automaton_of}
+use Rattle.plan_meaning.proofs.Shapings.{complete_made}
+use Rattle.plan_meaning.proofs.changing.shaping.completed.Goals as goal
+
+pub returns-clause-steps : goal.returns-clause-steps
+returns-clause-steps c =
+    let r = c.in_ok-complete in
+    complete_made (automaton_of c.args.a.now) (automaton_of r.field-0) r.ensures.shape r.ensures.complete r.ensures.deterministic r.ensures.accepts
