@@ -38,6 +38,13 @@ pairs_kept {X = X} R p (x ∷ xs) h = by (p x) (pairs_kept R p xs h.1)
 each_passed : {X : Type 0} (P : X → Type 0) (xs : List X) (x : X) → AllByRecursion P xs → Contains xs x → P x
 each_passed P xs x all there = read_has P xs there.0 x (All-from_recursion P xs all) there.1 (sym there.2)
 
+pairs_at : {X : Type 0} (R : X → X → Type 0) (xs : List X) (i j : ℕ) (x y : X) → Pairs R xs → slice_get xs i ≡ Some x → slice_get xs j ≡ Some y → i < j → R x y
+pairs_at R [] i j x y h at there less = absurd (none-some x at)
+pairs_at R (z ∷ xs) zero zero x y h at there less = absurd (omega (arith, less))
+pairs_at R (z ∷ xs) zero (suc j) x y h at there less = subst (λ w. R w y) (same_Some z x at) (each_passed (R z) xs y h.0 (placed_there xs j y there))
+pairs_at R (z ∷ xs) (suc i) zero x y h at there less = absurd (omega (arith, less))
+pairs_at R (z ∷ xs) (suc i) (suc j) x y h at there less = pairs_at R xs i j x y h.1 at there (omega (arith, less))
+
 valuations_rise : (n : ℕ) → Pairs Less (valuations n)
 valuations_rise n = pairs_unmap (λ a b. a < b) number_of (valuations n) (subst (Pairs (λ a b. a < b)) (sym (in_order n)) (range_rises 0 (2 ^ n)))
 
@@ -135,7 +142,7 @@ test_same false false e = refl
 test_same true false e = sym e
 test_same false true e = e
 
-alike_each : (labels : List LabelTree) (on also : ℕ → Bool) → are_alike labels on also ≡ true → (t : LabelTree) → Contains labels t → truth on t ≡ truth also t
+pub alike_each : (labels : List LabelTree) (on also : ℕ → Bool) → are_alike labels on also ≡ true → (t : LabelTree) → Contains labels t → truth on t ≡ truth also t
 alike_each labels on also h t there = same_test (truth on t) (truth also t) (each_is (λ u. beq (truth on u) (truth also u)) labels t h there)
 
 alike_from : (labels : List LabelTree) (on also : ℕ → Bool) → ((t : LabelTree) → Contains labels t → truth on t ≡ truth also t) → are_alike labels on also ≡ true
@@ -195,6 +202,14 @@ module _ (n : ℕ) (labels : List LabelTree) where
       let w = found.0 in
       let is = found.1 in
       (w, leasts_to w (record { size = is.size; is_true = alike_itself labels (holds_in w); least = λ u long h. is.least u long (alike_on labels (holds_in u) (holds_in w) (holds_in v) h is.is_true) }), is.is_true)
+
+  -- those at two places are not alike
+  pub leasts_apart : (k j : ℕ) (v w : List Bool) → slice_get (class_leasts n labels) k ≡ Some v → slice_get (class_leasts n labels) j ≡ Some w → k < j → are_alike labels (holds_in v) (holds_in w) ≡ true → ⊥
+  leasts_apart k j v w at there before h =
+      let less = pairs_at Less (class_leasts n labels) k j v w leasts_rise at there before in
+      let size = (leasts_from v (placed_there (class_leasts n labels) k v at)).size in
+      let more = (leasts_from w (placed_there (class_leasts n labels) j w there)).least v size h in
+      omega (arith, less, more)
 
 -- lists side by side
 

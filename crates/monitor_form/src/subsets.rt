@@ -41,6 +41,7 @@ impl<'a> System for Subsets<'a> {
         thing: &Numbers,
         most: u32,
     ) -> Result<Option<Vec<Guard>>, Memory> {
+        self.automaton.whole();
         let list = set_guards(alloc, self.automaton, thing.as_slice())?;
         match self.guards.classes(alloc, &list, most)? {
             Some(classes) => Ok(Some(classes.into_vec())),

@@ -1,0 +1,237 @@
+-- The automaton that is made of the sets and edges that were found.
+use Rattle.std.proofs.Common.{◌≡◌, ◌≢◌, ◌∙◌, ◌⊎◌, ◌<◌, ◌≤◌, ℕ, zero, suc, All, AllPairs, Contains, List, [], ◌∷◌, None, Option, Some, ap, arith, get_or, inl, inr, length, map, refl, slice_get, subst, sym}
+use Rattle.std.proofs.lemmas.Bool.{cases_lt}
+use Rattle.std.proofs.lemmas.List.{get_or-map, length-map}
+use Rattle.std.proofs.lemmas.List.Elements.{All-contains, All-map}
+use Rattle.std.proofs.lemmas.Option.{get_or_from_slice_get, slice_get-get_or, slice_get_within}
+use Rattle.std.proofs.lemmas.Simd.{map-map}
+use Rattle.std.specs.Cmp.Lexicographic.{pointwise}
+use Rattle.std.specs.List.{list_any, range_with_len}
+use Rattle.std.specs.List.Sorted.{IsNonDecreasing}
+use Rattle.std.specs.Prelude.{nat_eq}
+use Rattle.aut_base.proofs.Members.{each_there, from_filter, from_range, there_at, there_map}
+use Rattle.aut_base.specs.Automaton.{Automaton, TreeEdge}
+use Rattle.aut_base.specs.Formula.{FormulaTree}
+use Rattle.aut_base.specs.declared.limit.TheConstants.{MOST_SUBSETS}
+use Rattle.aut_core.proofs.Growth.{keeps_none}
+use Rattle.aut_core.specs.Core.{AreParts, Core, IsCore, IsLinkOf, automaton_of, edge_of}
+use Rattle.aut_core.specs.declared.link.Link.{Link}
+use Rattle.exploration.proofs.Edges.{ArrowBefore, arrows_rise, edge_from}
+use Rattle.exploration.specs.Explorations.{IsClassed, IsMet, IsSound, arrow_of, rules_of}
+use Rattle.exploration.specs.Moves.{Fails, Gives, Lacks, Move}
+use Rattle.exploration.specs.Reached.{Excess, IsCaused, IsExplored}
+use Rattle.exploration.specs.Turns.{Arrow, Comes, EndsWith, Meets, begin}
+use Rattle.exploration.specs.declared.exploration.Edge.{Edge}
+use Rattle.exploration.specs.declared.fault.Fault.{Fault}
+use Rattle.exploration.specs.declared.fault.Fault.TheVariants as limit
+use Rattle.label_guards.specs.Store.{Has, Keeps, Store, label_in}
+use Rattle.label_guards.specs.declared.guard.Guard.{Guard}
+use Rattle.monitor_form.specs.Faults.{exploration_fault}
+use Rattle.monitor_form.specs.Monitors.{first_places, set_at}
+use Rattle.monitor_form.specs.Subsets.{IsExploredFrom, IsSubsetForm, MeetsSubsetLimit, class_label, monitor_edge, monitor_on, set_classes, set_labels, start_set, step_at, subset_moves, subset_rules, unless_empty}
+use Rattle.monitor_form.specs.Systems.{FitsStore, IsClassGuard, link_of}
+use Rattle.monitor_form.specs.declared.fault.MonFault.{MonFault}
+use Rattle.monitor_form.specs.declared.fault.MonFault.TheVariants as fault
+
+map_alike : {X Y : Type 0} (f g : X → Y) (xs : List X) → ((x : X) → Contains xs x → f x ≡ g x) → map f xs ≡ map g xs
+map_alike f g [] same = refl
+map_alike f g (x ∷ xs) same = λ i. same x (zero, omega arith, refl) i ∷ map_alike f g xs (λ y there. same y (suc there.0, omega (arith, there.1), there.2)) i
+
+-- edges in the order of their places leave states that do not fall
+from_at : (as : List Arrow) (i : ℕ) (e : Arrow) (d : ℕ) → i < length as → get_or (map (λ (a : Arrow). a.from) as) i d ≡ (get_or as i e).from
+from_at as i e d within = get_or-map (λ (a : Arrow). a.from) as i e d within
+
+none : Arrow
+none = record { from = 0; class = 0; to = 0 }
+
+before_le : (a b : Arrow) → ArrowBefore a b → a.from ≤ b.from
+before_le a b (inl less) = omega (arith, less)
+before_le a b (inr same) = let e = same.0 in omega (arith, e)
+
+froms_rise : (as : List Arrow) → AllPairs ArrowBefore as → IsNonDecreasing (map (λ (a : Arrow). a.from) as)
+froms_rise as rise i j d order within =
+    let size = length-map as (λ (a : Arrow). a.from) in
+    let inside : j < length as = omega (arith, within, size) in
+    let first = from_at as i none d (omega (arith, order, inside)) in
+    let second = from_at as j none d inside in
+    elim (cases_lt i j) [
+      | inl less ↦ (let le = before_le (get_or as i none) (get_or as j none) (rise i j none less inside) in omega (arith, le, first, second))
+      | inr more ↦ (
+          let same : i ≡ j = omega (arith, order, more) in
+          let e : get_or (map (λ (a : Arrow). a.from) as) i d ≡ get_or (map (λ (a : Arrow). a.from) as) j d = ap (λ k. get_or (map (λ (a : Arrow). a.from) as) k d) same in
+          omega (arith, e)
+          )
+    ]
+
+first_place : (ss : List ℕ) → 0 < length ss → 0 ∷ [] ≡ first_places ss
+first_place [] some = absurd (omega (arith, some))
+first_place (s ∷ ss) some = refl
+
+-- an automaton of parts that are those of the construction
+pub record IsBuilt (b : Core) (sets : List (List ℕ)) (arrows : List Arrow) (c : Core) : Type 0 where
+  pub parts : AreParts c
+  pub is : automaton_of c ≡ monitor_on sets arrows (automaton_of b)
+
+module _ (b : Core) (core : IsCore b) (s : Store) (keeps : Keeps b.store s) where
+  abbrev made : ℕ → List Link → List ℕ → Core
+  made states links starts = record { names = b.names; starts = starts; states = states; links = links; sets = 0; formula = FormulaTree.True; store = s }
+
+  store_names : s.names ≡ length b.names
+  store_names = keeps.names ∙ core.parts.store_names
+
+  pub built_none : length b.starts ≡ 0 → IsBuilt b [] [] (made 0 [] [])
+  built_none empty = record {
+    parts = record {
+      few = core.parts.few;
+      store_names = store_names;
+      starts_differ = λ i j d less within. absurd (omega (arith, within));
+      starts = λ k d within. absurd (omega (arith, within));
+      in_order = λ i j d order within. absurd (omega (arith, within));
+      links = λ k d within. absurd (omega (arith, within));
+      formula = tt;
+    };
+    is = ap (λ (ss : List ℕ). record { names = b.names; starts = ss; states = 0; edges = []; sets = 0; formula = FormulaTree.True }) (no_place b.starts empty);
+  }
+    where
+      no_place : (ss : List ℕ) → length ss ≡ 0 → [] ≡ first_places ss
+      no_place [] e = refl
+      no_place (q ∷ ss) e = absurd (omega (arith, e))
+
+  module _ (sets : List (List ℕ)) (edges : List (Edge Guard)) (is : IsExplored (pointwise nat_eq) (subset_moves (automaton_of b)) (start_set (automaton_of b)) sets (map arrow_of edges))
+      (sound : IsSound (FitsStore b s) (IsClassGuard b s) MOST_SUBSETS sets edges) where
+    classed : (e : Edge Guard) → Contains edges e → IsClassed (IsClassGuard b s) sets e
+    classed e there = All-contains (IsClassed (IsClassGuard b s) sets) edges e sound.classed there
+
+    edge_is : (e : Edge Guard) → Contains edges e → edge_of s (link_of e) ≡ monitor_edge (automaton_of b) sets (arrow_of e)
+    edge_is e there =
+        let c = classed e there in
+        let g = c.class in
+        let here : set_at sets e.from ≡ c.thing = get_or_from_slice_get sets e.from c.thing [] c.at in
+        let label : class_label (length b.names) (set_labels (automaton_of b) (set_at sets e.from)) (get_or (set_classes (automaton_of b) (set_at sets e.from)) e.number []) ≡ class_label (length b.names) (set_labels (automaton_of b) c.thing) g.valuation =
+        (λ j. class_label (length b.names) (set_labels (automaton_of b) (here j)) (get_or (set_classes (automaton_of b) (here j)) e.number []))
+        ∙ ap (class_label (length b.names) (set_labels (automaton_of b) c.thing)) (get_or_from_slice_get (set_classes (automaton_of b) c.thing) e.number g.valuation [] g.at) in
+        let whole : label_in s e.class ≡ class_label (length b.names) (set_labels (automaton_of b) (set_at sets e.from)) (get_or (set_classes (automaton_of b) (set_at sets e.from)) e.number []) = g.label ∙ sym label in
+        λ j. record { from = e.from; label = whole j; to = e.to; marks = [] }
+
+    edges_are : map (edge_of s) (map link_of edges) ≡ map (monitor_edge (automaton_of b) sets) (map arrow_of edges)
+    edges_are = map-map (edge_of s) link_of edges ∙ (map_alike (λ e. edge_of s (link_of e)) (λ e. monitor_edge (automaton_of b) sets (arrow_of e)) edges edge_is ∙ sym (map-map (monitor_edge (automaton_of b) sets) arrow_of edges))
+
+    some_set : 0 < length sets
+    some_set = slice_get_within sets 0 (start_set (automaton_of b)) is.first
+
+    link_is : (e : Edge Guard) → Contains edges e → IsLinkOf (made (length sets) (map link_of edges) (0 ∷ [])) (link_of e)
+    link_is e there =
+        let c = classed e there in
+        let g = c.class in
+        let to = ends e there in
+        record { from = slice_get_within sets e.from c.thing c.at; guard = g.has; to = to; marks = λ k d within. absurd (omega (arith, within)) }
+      where
+        ends : (e : Edge Guard) → Contains edges e → e.to < length sets
+        ends e there = arrow_ends (arrow_of e) (there_map arrow_of edges e there)
+          where
+            arrow_ends : (a : Arrow) → Contains (map arrow_of edges) a → a.to < length sets
+            arrow_ends a among =
+                let f = edge_from (subset_moves (automaton_of b)) (pointwise nat_eq) (start_set (automaton_of b)) sets (map arrow_of edges) is a (there_at (map arrow_of edges) a among) in
+                slice_get_within sets a.to f.1 f.5
+
+    pub built_some : 0 < length b.starts → IsBuilt b sets (map arrow_of edges) (made (length sets) (map link_of edges) (0 ∷ []))
+    built_some some = record {
+      parts = record {
+        few = core.parts.few;
+        store_names = store_names;
+        starts_differ = λ i j d less within. absurd (omega (arith, less, within));
+        starts = λ k d within. first_only k d within;
+        in_order = subst IsNonDecreasing (map-map (λ (a : Arrow). a.from) arrow_of edges ∙ sym (map-map (λ (l : Link). l.from) link_of edges)) (froms_rise (map arrow_of edges) (arrows_rise (subset_moves (automaton_of b)) (pointwise nat_eq) (start_set (automaton_of b)) sets (map arrow_of edges) is));
+        links = All-map (IsLinkOf (made (length sets) (map link_of edges) (0 ∷ []))) link_of edges (each_there (λ e. IsLinkOf (made (length sets) (map link_of edges) (0 ∷ [])) (link_of e)) edges link_is);
+        formula = tt;
+      };
+      is = λ j. record { names = b.names; starts = first_place b.starts some j; states = length sets; edges = edges_are j; sets = 0; formula = FormulaTree.True };
+    }
+      where
+        first_only : (k d : ℕ) → k < length (0 ∷ []) → get_or (0 ∷ []) k d < length sets
+        first_only zero d within = some_set
+        first_only (suc k) d within = absurd (omega (arith, within))
+
+  -- the same of parts that are equal to these
+  pub built_same : (sets : List (List ℕ)) (arrows : List Arrow) (names : List (List ℕ)) (starts : List ℕ) (states n : ℕ) (links ls : List Link) (ss : List ℕ) → IsBuilt b sets arrows (made n ls ss) → names ≡ b.names → starts ≡ ss → states ≡ n → links ≡ ls
+      → IsBuilt b sets arrows (record { names = names; starts = starts; states = states; links = links; sets = 0; formula = FormulaTree.True; store = s })
+  built_same sets arrows names starts states n links ls ss built en es et el = subst (IsBuilt b sets arrows) (λ j. record { names = sym en j; starts = sym es j; states = sym et j; links = sym el j; sets = 0; formula = FormulaTree.True; store = s }) built
+
+-- the start fits
+pub start_fits : (b : Core) (s : Store) (set : List ℕ) → s ≡ b.store → set ≡ start_set (automaton_of b) → FitsStore b s set
+start_fits b s set e f = record {
+  states = subst (All (λ q. q < b.states)) (sym f) (each_there (λ q. q < b.states) (start_set (automaton_of b)) (λ q there.
+      let kept = from_filter (λ p. list_any (λ t. nat_eq t p) b.starts) (range_with_len 0 b.states) q there in
+      let bounds = from_range 0 b.states q kept.0 in omega (arith, bounds.1)));
+  keeps = subst (Keeps b.store) (sym e) (keeps_none b.store);
+}
+
+-- no step fails
+abbrev fate : Move (List ℕ) → ℕ
+fate (Gives qs) = 0
+fate Lacks = 0
+fate Fails = 1
+
+unless_fails : (qs : List ℕ) → fate (unless_empty qs) ≡ 0
+unless_fails [] = refl
+unless_fails (q ∷ qs) = refl
+
+step_fate : (b : Automaton) (set : List ℕ) (o : Option (List _)) → fate (step_at b set o) ≡ 0
+step_fate b set None = refl
+step_fate b set (Some v) = unless_fails _
+
+pub no_failure : (b : Automaton) (start : List ℕ) (f : Fault) → IsCaused (subset_rules b) start f → f ≢ limit.Nodes
+no_failure b start f cause e = elim (subst (IsCaused (subset_rules b) start) e cause) [
+  | inl m ↦ nodes_memory m
+  | inr x ↦ (
+      let zeroth = step_fate b x.thing (slice_get (set_classes b x.thing) x.class) in
+      let one : fate (step_at b x.thing (slice_get (set_classes b x.thing) x.class)) ≡ 1 = ap fate x.fails in
+      absurd (omega (arith, zeroth, one))
+      )
+]
+  where
+    nodes_memory : limit.Nodes ≡ limit.Memory → ⊥
+    nodes_memory m = cc
+
+-- a limit that is met, by the fault that tells it
+pub met_limit : (b : Automaton) (start : List ℕ) (f : Fault) (wanted : Fault) → start ≡ start_set b → 0 < length b.starts → IsMet (subset_rules b) (begin start) f → f ≡ wanted → wanted ≢ limit.Memory → MeetsSubsetLimit b wanted
+met_limit b start f wanted same some met e other = record {
+  some = some;
+  meets = subst (λ (s : List ℕ). Comes (subset_rules b) (begin s) (Meets wanted)) same (elim (subst (IsMet (subset_rules b) (begin start)) e met) [
+    | inl memory ↦ absurd (other memory)
+    | inr comes ↦ comes
+  ]);
+}
+
+pub classes_fault : (f : Fault) → exploration_fault f ≡ fault.Classes → f ≡ limit.Classes
+classes_fault limit.Classes e = refl
+classes_fault limit.Things e = absurd cc
+classes_fault limit.Nodes e = absurd cc
+classes_fault limit.Memory e = absurd cc
+
+pub subsets_fault : (f : Fault) → exploration_fault f ≡ fault.Subsets → f ≡ limit.Things
+subsets_fault limit.Classes e = absurd cc
+subsets_fault limit.Things e = refl
+subsets_fault limit.Nodes e = absurd cc
+subsets_fault limit.Memory e = absurd cc
+
+pub no_terms : (f : Fault) → exploration_fault f ≡ fault.Terms → ⊥
+no_terms limit.Classes e = cc
+no_terms limit.Things e = cc
+no_terms limit.Nodes e = cc
+no_terms limit.Memory e = cc
+
+pub no_states : (f : Fault) → exploration_fault f ≡ fault.BuchiStates → ⊥
+no_states limit.Classes e = cc
+no_states limit.Things e = cc
+no_states limit.Nodes e = cc
+no_states limit.Memory e = cc
+
+-- where there are starts
+pub explored_from : (b : Automaton) (ss : List ℕ) (sets : List (List ℕ)) (arrows : List Arrow) → 0 < length ss → EndsWith (subset_rules b) (start_set b) sets arrows → IsExploredFrom b ss sets arrows
+explored_from b [] sets arrows some ends = absurd (omega (arith, some))
+explored_from b (s ∷ ss) sets arrows some ends = ends
+
+pub explored_none : (b : Automaton) (ss : List ℕ) → length ss ≡ 0 → IsExploredFrom b ss [] []
+explored_none b [] e = (refl, refl)
+explored_none b (s ∷ ss) e = absurd (omega (arith, e))

@@ -1,0 +1,257 @@
+-- The subset construction makes a monitor, and a deterministic automaton.
+use Rattle.std.proofs.Common.{◌≡◌, ◌≢◌, ◌∙◌, ◌⊎◌, ◌<◌, ◌≤◌, ◌==◌, ◌&&◌, ℕ, zero, suc, All, AllPairs, Bool, true, false, Contains, List, [], ◌∷◌, None, Option, Some, ap, arith, eq-eqb, filter, get_or, inl, inr, length, map, refl, slice_get, subst, sym}
+use Rattle.std.proofs.lemmas.Bool.{and_from, and_parts, eqb-true, true≢false}
+use Rattle.std.proofs.lemmas.List.{get_or-map, length-map}
+use Rattle.std.proofs.lemmas.List.Elements.{All-contains, Contains-get_or}
+use Rattle.std.proofs.lemmas.Option.{get_or_from_slice_get, none-some, same_Some, slice_get-get_or, slice_get_within}
+use Rattle.std.specs.List.{list_any, range_with_len}
+use Rattle.aut_base.proofs.CanonicalTruth.{truth_on-label_of}
+use Rattle.aut_base.proofs.Members.{any_found, any_from, first_there, from_filter, from_flat_map, from_map, from_range, none_there, placed_there, there_at, there_filter, there_flat_map, there_map, there_range_zero}
+use Rattle.std.specs.FinSet as set
+use Rattle.aut_base.proofs.ValuationLetters.{valuation_at, valuation_at_holds}
+use Rattle.aut_base.specs.Automaton.{Automaton, IsEdgeOf, IsWellFormed, TreeEdge}
+use Rattle.aut_base.specs.CanonicalLabel.{label_of}
+use Rattle.aut_base.specs.Label.{LabelTree, holds_at, truth}
+use Rattle.aut_base.specs.Valuation.{IsLeast, holds_in, number_of, truth_on}
+use Rattle.aut_base.specs.Word.{NameSet}
+use Rattle.aut_core.specs.Deterministic.{AreApart, IsDeterministic, is_met}
+use Rattle.aut_core.specs.Surveys.{edges_from}
+use Rattle.exploration.proofs.Edges.{ArrowBefore, Has, arrows_rise, edge_for, edge_from}
+use Rattle.exploration.specs.Moves.{Fails, Gives, Lacks, Move}
+use Rattle.exploration.specs.Reached.{IsExplored}
+use Rattle.exploration.specs.Turns.{Arrow, EndsWith}
+use Rattle.label_guards.proofs.ClassLeastLaws.{alike_each, alike_on, alike_turned, least_alike, leasts_apart}
+use Rattle.label_guards.specs.ClassLeasts.{are_alike, class_leasts}
+use Rattle.monitor_form.specs.Monitors.{HasEdge, IsGoal, IsMonitorOf, IsMove, first_places, set_at}
+use Rattle.monitor_form.specs.Subsets.{class_label, goals, is_goal, monitor_edge, monitor_on, set_classes, set_edges, set_labels, start_set, step_at, subset_moves, subset_rules, unless_empty}
+use Rattle.exploration.proofs.Ends.{explored}
+use Rattle.std.specs.Cmp.Lexicographic.{pointwise}
+use Rattle.std.specs.Prelude.{nat_eq}
+use Rattle.aut_base.proofs.AllPairsOf.{pairs_map}
+use Rattle.monitor_form.specs.Sets.{same_set}
+use Rattle.monitor_form.specs.Subsets.{IsExploredFrom, IsSubsetForm}
+
+-- steps that give a set
+
+abbrev given : List ℕ → Move (List ℕ) → List ℕ
+given d (Gives qs) = qs
+given d Lacks = d
+given d Fails = d
+
+abbrev is_gift : Move (List ℕ) → Bool
+is_gift (Gives qs) = true
+is_gift Lacks = false
+is_gift Fails = false
+
+given_goals : (qs y : List ℕ) → unless_empty qs ≡ Gives y → (qs ≡ y) × ((q : ℕ) × Contains y q)
+given_goals [] y e = absurd (true≢false (sym (ap is_gift e)))
+given_goals (q ∷ qs) y e =
+    let same : q ∷ qs ≡ y = ap (given []) e in
+    (same, (q, subst (λ (zs : List ℕ). Contains zs q) same (first_there q qs)))
+
+some_given : (qs : List ℕ) (q : ℕ) → Contains qs q → unless_empty qs ≡ Gives qs
+some_given [] q there = absurd (none_there q there)
+some_given (p ∷ qs) q there = refl
+
+module _ (b : Automaton) (formed : IsWellFormed b) where
+  abbrev n : ℕ
+  n = length b.names
+
+  -- the propositions that hold at a letter, as a valuation
+  at_letter : (x : NameSet) → holds_at b.names x ≡ holds_in (valuation_at b.names x)
+  at_letter x = λ j. λ i. valuation_at_holds b.names x i j
+
+  valuation_long : (x : NameSet) → length (valuation_at b.names x) ≡ n
+  valuation_long x = length-map b.names (set.contains x)
+
+  class_truth : (labels : List LabelTree) (v : List Bool) (x : NameSet) → truth (holds_at b.names x) (class_label n labels v) ≡ are_alike labels (holds_in v) (holds_at b.names x)
+  class_truth labels v x =
+      ap (λ (f : ℕ → Bool). truth f (class_label n labels v)) (at_letter x)
+      ∙ (truth_on-label_of n (λ w. are_alike labels (holds_in v) (holds_in w)) (valuation_at b.names x) (valuation_long x) ∙ ap (are_alike labels (holds_in v)) (sym (at_letter x)))
+
+  -- the goals of a class are those of each letter in it
+  module _ (states : List ℕ) (v : List Bool) (x : NameSet) (alike : are_alike (set_labels b states) (holds_in v) (holds_at b.names x) ≡ true) where
+    same_label : (e : TreeEdge) → Contains (set_edges b states) e → truth (holds_in v) e.label ≡ truth (holds_at b.names x) e.label
+    same_label e there = alike_each (set_labels b states) (holds_in v) (holds_at b.names x) alike e.label (there_map (λ (d : TreeEdge). d.label) (set_edges b states) e there)
+
+    to_goal : (q : ℕ) → Contains (goals b states v) q → IsGoal b states x q
+    to_goal q there =
+        let reads : TreeEdge → Bool = λ e. truth_on e.label v in
+        let kept = from_filter (is_goal reads (set_edges b states)) (range_with_len 0 b.states) q there in
+        let found = any_found (λ e. (e.to == q) && reads e) (set_edges b states) kept.1 in
+        let parts = and_parts (found.0.to == q) (reads found.0) found.2 in
+        let from = from_flat_map (λ p. edges_from p b.edges) states found.0 found.1 in
+        let edge = from_filter (λ (e : TreeEdge). e.from == from.0) b.edges found.0 from.2 in
+        record {
+          edge = found.0;
+          there = edge.0;
+          from = subst (Contains states) (sym (eqb-true found.0.from from.0 edge.1)) from.1;
+          allowed = sym (same_label found.0 found.1) ∙ parts.1;
+          to = eqb-true found.0.to q parts.0;
+        }
+
+    from_goal : (q : ℕ) → IsGoal b states x q → Contains (goals b states v) q
+    from_goal q goal =
+        let e = goal.edge in
+        let reads : TreeEdge → Bool = λ d. truth_on d.label v in
+        let bounds = All-contains (IsEdgeOf b) b.edges e formed.edges goal.there in
+        let leaves = there_filter (λ (d : TreeEdge). d.from == e.from) b.edges e goal.there (eq-eqb e.from e.from refl) in
+        let among = there_flat_map (λ p. edges_from p b.edges) states e.from e goal.from leaves in
+        let passes = any_from (λ d. (d.to == q) && reads d) (set_edges b states) e among (and_from (e.to == q) (reads e) (eq-eqb e.to q goal.to) (same_label e among ∙ goal.allowed)) in
+        let less : q < b.states = omega (arith, bounds.to, goal.to) in
+        there_filter (is_goal reads (set_edges b states)) (range_with_len 0 b.states) q (there_range_zero b.states q less) passes
+
+  -- the set of the starts
+  to_start : (q : ℕ) → Contains (start_set b) q → Contains b.starts q
+  to_start q there =
+      let kept = from_filter (λ p. list_any (λ s. s == p) b.starts) (range_with_len 0 b.states) q there in
+      let found = any_found (λ s. s == q) b.starts kept.1 in
+      subst (Contains b.starts) (eqb-true found.0 q found.2) found.1
+
+  from_start : (q : ℕ) → Contains b.starts q → Contains (start_set b) q
+  from_start q there =
+      there_filter (λ p. list_any (λ s. s == p) b.starts) (range_with_len 0 b.states) q (there_range_zero b.states q (All-contains (λ p. p < b.states) b.starts q formed.starts there)) (any_from (λ s. s == q) b.starts q there (eq-eqb q q refl))
+
+  module _ (sets : List (List ℕ)) (arrows : List Arrow) (is : IsExplored (pointwise nat_eq) (subset_moves b) (start_set b) sets arrows) where
+    abbrev classes_at : ℕ → List (List Bool)
+    classes_at p = set_classes b (set_at sets p)
+
+    -- the step of an edge that was found
+    record StepOf (a : Arrow) : Type 0 where
+      inside : a.from < length sets
+      below : a.to < length sets
+      at : slice_get (classes_at a.from) a.class ≡ Some (get_or (classes_at a.from) a.class [])
+      leads : goals b (set_at sets a.from) (get_or (classes_at a.from) a.class []) ≡ set_at sets a.to
+      some : ℕ
+      there : Contains (set_at sets a.to) some
+
+    step_of : (a : Arrow) → Contains arrows a → StepOf a
+    step_of a there =
+        let e = edge_from (subset_moves b) (pointwise nat_eq) (start_set b) sets arrows is a (there_at arrows a there) in
+        let here : get_or sets a.from [] ≡ e.0 = get_or_from_slice_get sets a.from e.0 [] e.2 in
+        let goes : get_or sets a.to [] ≡ e.1 = get_or_from_slice_get sets a.to e.1 [] e.5 in
+        let less : a.class < length (classes_at a.from) = subst (λ (s : List ℕ). a.class < length (set_classes b s)) (sym here) e.3 in
+        let at = slice_get-get_or (classes_at a.from) a.class [] less in
+        let gives : step_at b (set_at sets a.from) (slice_get (classes_at a.from) a.class) ≡ Gives e.1 = subst (λ (s : List ℕ). step_at b s (slice_get (set_classes b s) a.class) ≡ Gives e.1) (sym here) e.4 in
+        let found = given_goals (goals b (set_at sets a.from) (get_or (classes_at a.from) a.class [])) e.1 (sym (ap (step_at b (set_at sets a.from)) at) ∙ gives) in
+        record {
+          inside = slice_get_within sets a.from e.0 e.2;
+          below = slice_get_within sets a.to e.1 e.5;
+          at = at;
+          leads = found.0 ∙ sym goes;
+          some = found.1.0;
+          there = subst (λ (s : List ℕ). Contains s found.1.0) (sym goes) found.1.1;
+        }
+
+    arrow_alike : (a : Arrow) (x : NameSet) → truth (holds_at b.names x) (monitor_edge b sets a).label ≡ true → are_alike (set_labels b (set_at sets a.from)) (holds_in (get_or (classes_at a.from) a.class [])) (holds_at b.names x) ≡ true
+    arrow_alike a x e = sym (class_truth (set_labels b (set_at sets a.from)) (get_or (classes_at a.from) a.class []) x) ∙ e
+
+    arrow_moves : (a : Arrow) (x : NameSet) → Contains arrows a → truth (holds_at b.names x) (monitor_edge b sets a).label ≡ true → IsMove b sets x a.from a.to
+    arrow_moves a x there e =
+        let step = step_of a there in
+        let v = get_or (classes_at a.from) a.class [] in
+        let alike = arrow_alike a x e in
+        record {
+          below = step.below;
+          goals = λ q. (
+            λ inside. to_goal (set_at sets a.from) v x alike q (subst (λ (s : List ℕ). Contains s q) (sym step.leads) inside),
+            λ goal. subst (λ (s : List ℕ). Contains s q) step.leads (from_goal (set_at sets a.from) v x alike q goal)
+          );
+          some = step.some;
+          there = step.there;
+        }
+
+    goes_on : (i : ℕ) (x : NameSet) (q : ℕ) → i < length sets → IsGoal b (set_at sets i) x q → HasEdge (monitor_on sets arrows b) i x
+    goes_on i x q inside goal =
+        let labels = set_labels b (set_at sets i) in
+        let least = least_alike n labels (valuation_at b.names x) (valuation_long x) in
+        let w = least.0 in
+        let alike : are_alike labels (holds_in w) (holds_at b.names x) ≡ true = ap (are_alike labels (holds_in w)) (at_letter x) ∙ least.2 in
+        let at = there_at (classes_at i) w least.1 in
+        let among = from_goal (set_at sets i) w x alike q goal in
+        let gives : step_at b (set_at sets i) (slice_get (classes_at i) at.0) ≡ Gives (goals b (set_at sets i) w) = ap (step_at b (set_at sets i)) at.1 ∙ some_given (goals b (set_at sets i) w) q among in
+        let edge = edge_for (subset_moves b) (pointwise nat_eq) (start_set b) sets arrows is i at.0 (set_at sets i) (goals b (set_at sets i) w) (slice_get-get_or sets i [] inside) (slice_get_within (classes_at i) at.0 w at.1) gives in
+        let a = edge.0 in
+        let same : (monitor_edge b sets a).label ≡ class_label n labels w = (λ j. class_label n (set_labels b (set_at sets (edge.2 j))) (get_or (classes_at (edge.2 j)) (edge.3 j) [])) ∙ ap (class_label n labels) (get_or_from_slice_get (classes_at i) at.0 w [] at.1) in
+        record {
+          edge = monitor_edge b sets a;
+          there = there_map (monitor_edge b sets) arrows a (placed_there arrows edge.1.0 a edge.1.1);
+          from = edge.2;
+          allowed = ap (truth (holds_at b.names x)) same ∙ (class_truth labels w x ∙ alike);
+        }
+
+    pub is_monitor : IsMonitorOf b (monitor_on sets arrows b) sets
+    is_monitor = record {
+      starts = refl;
+      first = λ q. (
+        λ there. to_start q (subst (λ (s : List ℕ). Contains s q) start_at there),
+        λ there. subst (λ (s : List ℕ). Contains s q) (sym start_at) (from_start q there)
+      );
+      steps = λ e x there holds. (
+        let from = from_map (monitor_edge b sets) arrows e there in
+        subst (λ (d : TreeEdge). IsMove b sets x d.from d.to) from.2 (arrow_moves from.0 x from.1 (ap (λ (d : TreeEdge). truth (holds_at b.names x) d.label) from.2 ∙ holds))
+        );
+      total = goes_on;
+      formula = refl;
+    }
+      where
+        start_at : set_at sets 0 ≡ start_set b
+        start_at = get_or_from_slice_get sets 0 (start_set b) [] is.first
+
+    -- no letter meets two edges that leave one set
+    arrows_apart : (a d : Arrow) → Contains arrows a → Contains arrows d → ArrowBefore a d → a.from ≡ d.from → AreApart b.names (monitor_edge b sets a) (monitor_edge b sets d)
+    arrows_apart a d there also (inl less) same x h k = absurd (omega (arith, less, same))
+    arrows_apart a d there also (inr later) same x h k =
+        let labels = set_labels b (set_at sets a.from) in
+        let first = step_of a there in
+        let second : slice_get (classes_at a.from) d.class ≡ Some (get_or (classes_at a.from) d.class []) = subst (λ p. slice_get (classes_at p) d.class ≡ Some (get_or (classes_at p) d.class [])) (sym same) (step_of d also).at in
+        let one = arrow_alike a x h in
+        let other : are_alike labels (holds_in (get_or (classes_at a.from) d.class [])) (holds_at b.names x) ≡ true = subst (λ p. are_alike (set_labels b (set_at sets p)) (holds_in (get_or (classes_at p) d.class [])) (holds_at b.names x) ≡ true) (sym same) (arrow_alike d x k) in
+        leasts_apart n labels a.class d.class _ _ first.at second later.1 (alike_on labels _ (holds_at b.names x) _ one (alike_turned labels _ (holds_at b.names x) other))
+
+    few_places : (ss : List ℕ) → length (first_places ss) ≤ 1
+    few_places [] = omega arith
+    few_places (s ∷ ss) = omega arith
+
+    pub is_deterministic : IsDeterministic (monitor_on sets arrows b)
+    is_deterministic = record {
+      start = few_places b.starts;
+      edges = pairs_map (λ (d e : TreeEdge). d.from ≡ e.from → AreApart b.names d e) (monitor_edge b sets) arrows (λ i j d less within.
+          arrows_apart (get_or arrows i d) (get_or arrows j d) (Contains-get_or arrows i d (omega (arith, less, within))) (Contains-get_or arrows j d within)
+          (arrows_rise (subset_moves b) (pointwise nat_eq) (start_set b) sets arrows is i j d less within));
+    }
+
+itself : (a : List ℕ) → pointwise nat_eq a a ≡ true
+itself [] = refl
+itself (x ∷ xs) = and_from (nat_eq x x) (pointwise nat_eq xs xs) (eq-eqb x x refl) (itself xs)
+
+pub explored_sets : (b : Automaton) (sets : List (List ℕ)) (arrows : List Arrow) → EndsWith (subset_rules b) (start_set b) sets arrows → IsExplored (pointwise nat_eq) (subset_moves b) (start_set b) sets arrows
+explored_sets b sets arrows e = explored (subset_rules b) same_set itself (start_set b) (record { things = sets; sum = e.sum; next = e.next; hand = e.hand; arrows = arrows }) e.ends
+
+no_states : (b : Automaton) → b.starts ≡ [] → IsMonitorOf b (monitor_on [] [] b) []
+no_states b none = record {
+  starts = refl;
+  first = λ q. (λ there. absurd (none_there q there), λ there. subst (λ (s : List ℕ). Contains s q) none there);
+  steps = λ e x there holds. absurd (none_there e there);
+  total = λ i x q inside goal. absurd (omega (arith, inside));
+  formula = refl;
+}
+
+-- what the construction makes
+pub record Formed (b made : Automaton) : Type 0 where
+  pub sets : List (List ℕ)
+  pub monitor : IsMonitorOf b made sets
+  pub deterministic : IsDeterministic made
+
+pub formed_of : (b made : Automaton) → IsWellFormed b → IsSubsetForm b made → Formed b made
+formed_of b made formed form = by b.starts refl form.explored
+  where
+    by : (ss : List ℕ) → b.starts ≡ ss → IsExploredFrom b ss form.sets form.arrows → Formed b made
+    by [] none are = subst (Formed b) (sym form.is) (subst (λ (xs : List (List ℕ)). Formed b (monitor_on xs form.arrows b)) (sym are.0) (subst (λ (es : List Arrow). Formed b (monitor_on [] es b)) (sym are.1) (record {
+      sets = [];
+      monitor = no_states b none;
+      deterministic = record { start = subst (λ (ss : List ℕ). length (first_places ss) ≤ 1) (sym none) (omega arith); edges = λ i j d less within. absurd (omega (arith, within)) };
+    })))
+    by (s ∷ ss) some ends =
+        let is = explored_sets b form.sets form.arrows ends in
+        subst (Formed b) (sym form.is) (record { sets = form.sets; monitor = is_monitor b formed form.sets form.arrows is; deterministic = is_deterministic b formed form.sets form.arrows is })
