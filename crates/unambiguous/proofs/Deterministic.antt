@@ -37,7 +37,7 @@ module _ (a : Automaton) (det : IsDeterministic a) where
           let is_first : get_or a.edges m f ≡ f = get_or_from_slice_get a.edges m f f at in
           let is_second : get_or a.edges n f ≡ g = get_or_from_slice_get a.edges n g f there in
           det.edges m n f before (slice_get_within a.edges n g there) (ap (λ (e : TreeEdge). e.from) is_first ∙ (from ∙ sym (ap (λ (e : TreeEdge). e.from) is_second))) x
-              (ap (λ (e : TreeEdge). truth (holds_at a.names x) e.label) is_first ∙ first) (ap (λ (e : TreeEdge). truth (holds_at a.names x) e.label) is_second ∙ second)
+          (ap (λ (e : TreeEdge). truth (holds_at a.names x) e.label) is_first ∙ first) (ap (λ (e : TreeEdge). truth (holds_at a.names x) e.label) is_second ∙ second)
 
   record Same (ms ns : List ℕ) (q r : ℕ) : Type 0 where
     places : ms ≡ ns

@@ -3,7 +3,7 @@ use Rattle.std.proofs.Common.{◌≡◌, ◌≢◌, ◌∙◌, ◌+◌, ◌<◌,
 use Rattle.std.proofs.lemmas.Bool.{and_parts, cases_lt}
 use Rattle.std.proofs.lemmas.List.Elements.{All-append, All-contains, All-map, All-weaker, Contains-append_left, Contains-get_or}
 use Rattle.std.proofs.lemmas.List.FromFn.{get_or-range_with_len, length-range_with_len}
-use Rattle.std.proofs.lemmas.Option.{get_or_from_slice_get, same_Some, slice_get_within}
+use Rattle.std.proofs.lemmas.Option.{same_Some, slice_get_within}
 use Rattle.std.specs.List.{range_with_len}
 use Rattle.acc_forms.specs.Shift.{shift}
 use Rattle.aut_base.proofs.CanonicalBelow.{label_of_below}
@@ -12,24 +12,23 @@ use Rattle.aut_base.proofs.Members.{each_there, from_map, from_range, item_at, n
 use Rattle.aut_base.specs.Automaton.{Automaton, IsEdgeOf, TreeEdge}
 use Rattle.aut_base.specs.Formula.{FormulaTree, Inf, SetsBelow, met}
 use Rattle.aut_base.specs.Label.{AllBelow, holds_at, truth}
-use Rattle.aut_base.specs.Valuation.{letter_of, truth_on}
+use Rattle.aut_base.specs.Valuation.{letter_of}
 use Rattle.aut_base.specs.Word.{NameSet}
 use Rattle.aut_base.specs.declared.limit.TheConstants.{MOST_NAMES, MOST_PAIRS}
-use Rattle.aut_core.proofs.Growth.{keeps_none}
 use Rattle.aut_core.specs.Core.{AreParts, Core, IsCore, IsLinkOf, automaton_of, edge_of}
 use Rattle.aut_core.specs.declared.link.Link.{Link}
-use Rattle.aut_ops.proofs.BreadthFirst.{reached_keeps, reached_start, with_new_longer, with_new_there}
+use Rattle.aut_ops.proofs.BreadthFirst.{reached_keeps, reached_start}
 use Rattle.aut_ops.proofs.JointEdges.{from_start, made_of, there_start}
 use Rattle.aut_ops.proofs.Labels.{some_letter, truth_both}
 use Rattle.aut_ops.proofs.Places.{one_place, pair_tells}
-use Rattle.aut_ops.specs.BreadthFirst.{IsReached, with_new}
+use Rattle.aut_ops.specs.BreadthFirst.{IsReached}
 use Rattle.aut_ops.specs.Labels.{both_labels}
 use Rattle.aut_ops.specs.Products.{HasMorePairs, JointEdge, joint_edges, next_pairs, same_pair, start_pairs}
-use Rattle.label_guards.specs.Store.{Has, Keeps, Store}
+use Rattle.label_guards.specs.Store.{Has, Store}
 use Rattle.unambiguous.proofs.RowPlaces.{spread_edge}
-use Rattle.unambiguous.proofs.Stages.{Flagged, IsNumbered, kept_on, longer_at, met_on, new_each, new_kept, no_more, numbered_kept, numbered_sound, state_tells}
-use Rattle.unambiguous.specs.Square.{GoesBoth, IsFlaggedSquare, IsSquare, MadeOf, flag_after, flagged_marks}
-use Rattle.unambiguous.specs.inner.Stages.{AreKept, AreOfStarts, AreOver, Grows, HasFlagged, IsExplored, IsMet, IsSound, IsSpread, Stage, differs, pair_of, row_of, same_state}
+use Rattle.unambiguous.proofs.Stages.{Flagged, IsNumbered, longer_at, met_on, new_each, no_more, numbered_kept, numbered_sound, state_tells}
+use Rattle.unambiguous.specs.Square.{GoesBoth, IsFlaggedSquare, MadeOf, flag_after, flagged_marks}
+use Rattle.unambiguous.specs.inner.Stages.{AreKept, AreOfStarts, Grows, HasFlagged, IsExplored, IsSound, IsSpread, Stage, differs, pair_of, same_state}
 
 pub kept_there : (old new : List Flagged) (s : Flagged) → AreKept old new → Contains old s → Contains new s
 kept_there old new s kept there = subst (λ (ss : List Flagged). Contains ss s) (sym kept.1) (Contains-append_left old kept.0 s there)
@@ -150,7 +149,7 @@ module _ (a : Core) (core : IsCore a) where
       square_core names starts states sets formula store links = record { names = names; starts = starts; states = states; links = links; sets = sets; formula = formula; store = store }
 
       module _ (names : List (List ℕ)) (starts : List ℕ) (formula : FormulaTree) (names_are : names ≡ a.names) (starts_are : starts ≡ range_with_len 0 (length begun))
-        (meaning : (cycle : List (List ℕ)) → met cycle formula ≡ (met cycle a.formula && (met cycle (shift a.sets a.formula) && met cycle (Inf (a.sets + a.sets) false)))) where
+          (meaning : (cycle : List (List ℕ)) → met cycle formula ≡ (met cycle a.formula && (met cycle (shift a.sets a.formula) && met cycle (Inf (a.sets + a.sets) false)))) where
         abbrev made : Core
         made = square_core names starts (length s.states) (a.sets + a.sets + 1) formula s.store s.links
 
@@ -205,9 +204,9 @@ module _ (a : Core) (core : IsCore a) where
         both_below firsts seconds b one two =
             let P : ℕ → Type 0 = λ mark. mark < a.sets + a.sets + 1 in
             All-append P (firsts ++ map (λ mark. mark + a.sets) seconds) (cond b ((a.sets + a.sets) ∷ []) [])
-                (All-append P firsts (map (λ mark. mark + a.sets) seconds) (All-weaker (λ mark. mark < a.sets) P (λ mark low. omega (arith, low)) firsts one)
-                (All-map P (λ mark. mark + a.sets) seconds (All-weaker (λ mark. mark < a.sets) (λ mark. mark + a.sets < a.sets + a.sets + 1) (λ mark low. omega (arith, low)) seconds two)))
-                (fresh_below b)
+            (All-append P firsts (map (λ mark. mark + a.sets) seconds) (All-weaker (λ mark. mark < a.sets) P (λ mark low. omega (arith, low)) firsts one)
+            (All-map P (λ mark. mark + a.sets) seconds (All-weaker (λ mark. mark < a.sets) (λ mark. mark + a.sets < a.sets + a.sets + 1) (λ mark low. omega (arith, low)) seconds two)))
+            (fresh_below b)
 
         link_of : (l : Link) → Contains s.links l → IsLinkOf made l
         link_of l there_l =

@@ -1,5 +1,5 @@
 -- The items of a list that pass a test, and their places in it.
-use Rattle.std.proofs.Common.{◌≡◌, ◌∙◌, ◌<◌, ◌≤◌, ℕ, zero, suc, Bool, true, false, cond, filter, List, [], ◌∷◌, Some, ap, arith, inl, inr, length, map, refl, slice_get, subst, sym, take}
+use Rattle.std.proofs.Common.{◌≡◌, ◌∙◌, ◌<◌, ℕ, zero, suc, Bool, true, false, cond, filter, List, [], ◌∷◌, Some, ap, arith, inl, inr, length, map, refl, slice_get, subst, sym, take}
 use Rattle.std.proofs.lemmas.Bool.{cases_lt}
 use Rattle.std.proofs.lemmas.Option.{same_Some}
 use Rattle.aut_base.proofs.Lists.{none_some}

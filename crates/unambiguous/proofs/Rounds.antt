@@ -1,12 +1,11 @@
 -- One link more of a row, and one row more.
-use Rattle.std.proofs.Common.{◌≡◌, ◌∙◌, ◌+◌, ◌<◌, ◌≤◌, ℕ, List, All, Some, ap, arith, inl, inr, length, slice_get, subst, sym}
+use Rattle.std.proofs.Common.{◌≡◌, ◌∙◌, ◌+◌, ◌<◌, ℕ, Some, ap, arith, inl, inr, slice_get, subst, sym}
 use Rattle.std.proofs.lemmas.Bool.{cases_lt}
-use Rattle.std.proofs.lemmas.Option.{same_Some, slice_get_within}
+use Rattle.std.proofs.lemmas.Option.{same_Some}
 use Rattle.aut_core.specs.Core.{Core}
 use Rattle.aut_core.specs.declared.link.Link.{Link}
-use Rattle.label_guards.specs.Store.{Has}
 use Rattle.unambiguous.proofs.Stages.{Flagged, met_on}
-use Rattle.unambiguous.specs.inner.Stages.{Grows, IsFollowed, IsMet, IsSound, IsSpread, Stage, differs, row_of}
+use Rattle.unambiguous.specs.inner.Stages.{Grows, IsFollowed, IsMet, IsSound, Stage, differs, row_of}
 
 module _ (a : Core) (s t : Stage) (at : ℕ) (state : Flagged) (sound : IsSound a s at) (grows : Grows s t) where
   followed_on : (place : ℕ) (link : Link) → IsFollowed a s at state place link → IsFollowed a t at state place link

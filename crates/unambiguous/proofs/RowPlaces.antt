@@ -1,5 +1,5 @@
 -- The places of links in rows, and those among all links.
-use Rattle.std.proofs.Common.{◌≡◌, ◌∙◌, ◌⊎◌, ◌==◌, ◌&&◌, ◌||◌, ℕ, Bool, true, false, not, List, Contains, Some, ap, inl, inr, map, refl, slice_get, sym}
+use Rattle.std.proofs.Common.{◌≡◌, ◌∙◌, ◌⊎◌, ◌==◌, ◌&&◌, ◌||◌, ℕ, Bool, true, not, Contains, Some, ap, inl, inr, map, refl, slice_get, sym}
 use Rattle.std.proofs.lemmas.Bool.{cases_eq, eq-eqb, eqb-true, false_from_ne_true}
 use Rattle.std.proofs.lemmas.Option.{same_Some}
 use Rattle.aut_base.proofs.Members.{there_map}
@@ -32,7 +32,7 @@ module _ (a : Core) where
           by_ends (inr apart) = ap (λ c. not c || not (i == j)) (false_from_ne_true (p == q) (λ e. apart (eqb-true p q e)))
           by_ends (inl ends) =
               let unlike : (i == j) ≡ true → ⊥ = λ e. other_place (rank_one (λ (l : Link). l.from == p) a.links m n link other is_at other_at (eq-eqb link.from p from) (eq-eqb other.from p (other_from ∙ sym ends))
-                  (sym first ∙ (eqb-true i j e ∙ (second ∙ (λ k. rank (λ (l : Link). l.from == sym ends k) a.links n))))) in
+              (sym first ∙ (eqb-true i j e ∙ (second ∙ (λ k. rank (λ (l : Link). l.from == sym ends k) a.links n))))) in
               ap (λ c. not c || not (i == j)) (eq-eqb p q ends) ∙ ap not (false_from_ne_true (i == j) unlike)
 
   -- the links of both rows can meet
@@ -69,8 +69,7 @@ module _ (a : Core) where
       let found = spread i link in_row j other in_other w (ap (λ (e : TreeEdge). truth (holds_at a.names w) e.label) one.is ∙ first) (ap (λ (e : TreeEdge). truth (holds_at a.names w) e.label) two.is ∙ second) in
       let l = found.0 in
       let joint = found.2 in
-      let flag = differs_is f.from g.from m n i j b link other one.at two.at from other_from refl refl in
-      (
+      let flag = differs_is f.from g.from m n i j b link other one.at two.at from other_from refl refl in (
         edge_of s.store l,
         there_map (edge_of s.store) s.links l found.1,
         record {

@@ -1,22 +1,21 @@
 -- A flagged square that grows link by link.
-use Rattle.std.proofs.Common.{◌≡◌, ◌≢◌, ◌∙◌, ◌↔◌, ◌⊎◌, ◌==◌, ◌+◌, ◌-◌, ◌*◌, ◌<◌, ◌≤◌, ◌^◌, ◌&&◌, ◌||◌, ℕ, zero, suc, Bool, true, false, not, cond, filter, IsTrue, List, [], ◌∷◌, ◌++◌, All, AllPairs, Contains, Some, ap, append-nil, append_assoc, arith, get_or, inl, inr, length, length-append, map, refl, slice_get, subst, sym}
-use Rattle.std.proofs.lemmas.Bool.{and_from, and_parts, cases_eq, eq-eqb, eqb-true, false_from_ne_true, false≢true}
+use Rattle.std.proofs.Common.{◌≡◌, ◌≢◌, ◌∙◌, ◌↔◌, ◌==◌, ◌-◌, ◌*◌, ◌<◌, ◌≤◌, ◌^◌, ◌&&◌, ℕ, Bool, true, false, IsTrue, List, [], ◌∷◌, ◌++◌, All, AllPairs, Contains, Some, ap, append-nil, append_assoc, arith, get_or, inl, inr, length, map, refl, slice_get, subst, sym}
+use Rattle.std.proofs.lemmas.Bool.{and_from, and_parts, eq-eqb, eqb-true, false≢true}
 use Rattle.std.proofs.lemmas.List.{map-append}
 use Rattle.std.proofs.lemmas.List.Elements.{All-contains, All-map, All-push, All-weaker, Contains-append_left, Contains-get_or, Contains-push}
 use Rattle.std.proofs.lemmas.List.Sorted.{IsNonDecreasingBy-push}
 use Rattle.std.proofs.lemmas.Map.Made.{IsDistinct-from_AllPairs, is_member-Decides, length-le_from_is_member}
-use Rattle.std.proofs.lemmas.Option.{get_or_from_slice_get, same_Some, slice_get_within}
+use Rattle.std.proofs.lemmas.Option.{slice_get_within}
 use Rattle.std.specs.List.Sorted.{IsNonDecreasing}
 use Rattle.std.specs.Cmp.{IsEquivalence, booleans_Decides}
 use Rattle.std.specs.Prelude.{flat_map}
 use Rattle.std.proofs.Math.Bool.{beq}
 use Rattle.aut_base.proofs.CanonicalBelow.{label_of_below}
 use Rattle.aut_base.proofs.Lists.{slice_get-append_left}
-use Rattle.aut_base.proofs.Members.{Tells, each_there, first_there, later_there, none_there, placed_there, there_at, there_cases, there_flat_map, there_map}
+use Rattle.aut_base.proofs.Members.{Tells, each_there, first_there, later_there, none_there, placed_there, there_cases, there_flat_map, there_map}
 use Rattle.aut_base.proofs.Truth.{same_truth}
-use Rattle.aut_base.specs.Automaton.{Automaton, IsEdgeOf, TreeEdge}
+use Rattle.aut_base.specs.Automaton.{Automaton}
 use Rattle.aut_base.specs.Label.{AllBelow, LabelTree, holds_at, truth}
-use Rattle.aut_base.specs.Word.{NameSet}
 use Rattle.aut_base.specs.declared.limit.TheConstants.{MOST_PAIRS}
 use Rattle.aut_core.proofs.Growth.{keeps_none, keeps_on}
 use Rattle.aut_core.proofs.Made.{label_in_below}
@@ -33,9 +32,9 @@ use Rattle.aut_ops.specs.Products.{HasMorePairs, JointEdge, joint_edges, next_pa
 use Rattle.label_guards.specs.Guards.{IsGuardOf, IsNeverMet, truth_in}
 use Rattle.label_guards.specs.Store.{Has, Keeps, Store, label_in}
 use Rattle.label_guards.specs.declared.guard.Guard.{Guard}
-use Rattle.unambiguous.proofs.Ranks.{Kept, from_kept, kept_at, mapped_at, mapped_from, rank, rank_one}
-use Rattle.unambiguous.specs.Square.{GoesBoth, MadeOf, flag_after, flagged_marks}
-use Rattle.unambiguous.specs.inner.Stages.{AreKept, AreOver, CanMeet, Grows, HasFlagged, IsExplored, IsFollowed, IsJoint, IsMet, IsSound, IsSpread, Stage, differs, pair_of, row_of, same_state}
+use Rattle.unambiguous.proofs.Ranks.{mapped_at}
+use Rattle.unambiguous.specs.Square.{MadeOf, flag_after, flagged_marks}
+use Rattle.unambiguous.specs.inner.Stages.{AreKept, AreOver, CanMeet, Grows, HasFlagged, IsJoint, IsMet, IsSound, Stage, pair_of, same_state}
 
 abbrev pub Flagged : Type 0
 Flagged = ℕ × ℕ × Bool
@@ -158,8 +157,7 @@ pub met_on : (a : Core) (s t : Stage) (at : ℕ) (link other : Link) (differ : B
 met_on a s t at link other differ grows has met x first second =
     let found = met x first second in
     let l = found.0 in
-    let joint = found.2 in
-    (
+    let joint = found.2 in (
       l,
       subst (λ (ls : List Link). Contains ls l) (sym grows.links.1) (Contains-append_left s.links grows.links.0 l found.1),
       record {
@@ -298,8 +296,8 @@ module _ (a : Core) (core : IsCore a) where
   met_reached s at link other differ sound can some =
       let from = state_reached s at at (link.from, other.from, can.flag) sound can.stands in
       reached_next (start_pairs x x) (next_pairs x x) (link.from, other.from) (link.to, other.to) from
-          (there_map (λ (j : JointEdge). j.to) (joint_edges x x (link.from, other.from)) (joined (length a.names) a.sets (edge_of a.store link) (edge_of a.store other))
-          (there_joint x x (link.from, other.from) (edge_of a.store link) (edge_of a.store other) (edge_there can.place link can.is_at) (edge_there can.other_place other can.other_at) refl refl some))
+      (there_map (λ (j : JointEdge). j.to) (joint_edges x x (link.from, other.from)) (joined (length a.names) a.sets (edge_of a.store link) (edge_of a.store other))
+      (there_joint x x (link.from, other.from) (edge_of a.store link) (edge_of a.store other) (edge_there can.place link can.is_at) (edge_there can.other_place other can.other_at) refl refl some))
 
   -- the link that was made goes both
   pub made_joint : (s t : Stage) (at : ℕ) (link other : Link) (differ : Bool) (l : Link) → IsSound a s at → CanMeet a s at link other differ → AreKept s.states t.states → IsGuardOf t.store (λ on. truth_in s.store link.guard on && truth_in s.store other.guard on) l.guard → l.from ≡ at → slice_get t.states l.to ≡ Some (link.to, other.to, differ) → l.marks ≡ flagged_marks a.sets link.marks other.marks differ → IsJoint a t at link other differ l

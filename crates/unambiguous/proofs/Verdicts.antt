@@ -1,5 +1,5 @@
 -- What the search in the square tells of the automaton.
-use Rattle.std.proofs.Common.{◌≡◌, ◌∙◌, ◌↔◌, Bool, true, not, Option, None, Some, IsTrue, ap, sym}
+use Rattle.std.proofs.Common.{◌≡◌, ◌∙◌, ◌↔◌, Bool, not, Option, None, Some, IsTrue, ap, sym}
 use Rattle.std.proofs.lemmas.Bool.{not-false, true≢false}
 use Rattle.std.specs.Option.{MatchOption, is_some}
 use Rattle.aut_base.specs.Automaton.{Automaton, IsWellFormed}

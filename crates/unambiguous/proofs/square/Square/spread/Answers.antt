@@ -1,4 +1,4 @@
-use Rattle.std.proofs.Common.{◌≡◌, ◌∙◌, List, Some, ap, arith, length, slice_get, sym}
+use Rattle.std.proofs.Common.{◌∙◌, List, ap, arith, length, slice_get, sym}
 use Rattle.std.proofs.lemmas.Option.{slice_get_within}
 use Rattle.aut_base.proofs.Lists.{slice_get-at}
 use Rattle.aut_core.specs.declared.link.Link.{Link}
