@@ -1,5 +1,6 @@
 -- What an explored square is: the flagged square of the automaton, over all pairs that are reached.
-use Rattle.std.proofs.Common.{◌≡◌, ◌≢◌, ◌∙◌, ◌+◌, ◌<◌, ◌≤◌, ◌&&◌, ℕ, Bool, true, false, cond, List, [], ◌∷◌, ◌++◌, All, AllPairs, Contains, Some, ap, arith, get_or, inl, inr, length, map, length-append, refl, slice_get, subst, sym}
+use Rattle.std.proofs.Common.{◌≡◌, ◌≢◌, ◌∙◌, ◌+◌, ◌<◌, ◌≤◌, ◌&&◌, ℕ, Bool, true, false, cond, List, [], ◌∷◌, ◌++◌}
+use Rattle.std.proofs.Common.{All, AllPairs, Contains, Some, ap, arith, get_or, inl, inr, length, map, length-append, refl, slice_get, subst, sym}
 use Rattle.std.proofs.lemmas.Bool.{and_parts, cases_lt}
 use Rattle.std.proofs.lemmas.List.Elements.{All-append, All-contains, All-map, All-weaker, Contains-append_left, Contains-get_or}
 use Rattle.std.proofs.lemmas.List.FromFn.{get_or-range_with_len, length-range_with_len}
@@ -57,7 +58,8 @@ module _ (a : Core) (core : IsCore a) where
   pub start_more : (s t : Stage) (p q place : ℕ) → IsSound a s 0 → AreOfStarts a s.states → Contains a.starts p → Contains a.starts q → IsNumbered a core s t (p, q, false) place → OneMore s t p q
   start_more s t p q place sound from one two is = record {
     sound = numbered_sound a core s t 0 (p, q, false) place sound (start_reached p q one two) is;
-    from = subst (AreOfStarts a) (sym is.states) (new_each same_state state_tells (λ (r : Flagged). Contains a.starts r.0 × Contains a.starts r.1 × (r.2 ≡ false)) s.states (p, q, false) from (one, two, refl));
+    from = subst (AreOfStarts a) (sym is.states) (new_each same_state state_tells (λ (r : Flagged). Contains a.starts r.0 × Contains a.starts r.1 × (r.2 ≡ false)) s.states (p, q, false) from
+        (one, two, refl));
     kept = numbered_kept a core s t (p, q, false) place is;
     there = placed_there t.states place (p, q, false) is.stands;
   }
@@ -82,7 +84,8 @@ module _ (a : Core) (core : IsCore a) where
   pub explored_none : (s : Stage) → IsSound a s 0 → IsExplored a s 0
   explored_none s sound = record { sound = sound; spread = λ k state less at. absurd (omega (arith, less)) }
 
-  pub explored_more : (s t : Stage) (done : ℕ) (state : Flagged) → IsExplored a s done → slice_get s.states done ≡ Some state → IsSound a t done → Grows s t → IsSpread a t done state → IsExplored a t (done + 1)
+  pub explored_more : (s t : Stage) (done : ℕ) (state : Flagged) → IsExplored a s done → slice_get s.states done ≡ Some state → IsSound a t done → Grows s t → IsSpread a t done state
+      → IsExplored a t (done + 1)
   explored_more s t done state so_far here sound grows spread = record {
     sound = later_sound t done sound;
     spread = λ k other less at. elim (cases_lt k done) [
@@ -100,7 +103,8 @@ module _ (a : Core) (core : IsCore a) where
   -- it was gone on from all
 
   module _ (s : Stage) (done : IsExplored a s (length s.states)) where
-    edge_for : (k m n : ℕ) (f g : TreeEdge) (b : Bool) (w : NameSet) → slice_get s.states k ≡ Some (f.from, g.from, b) → slice_get x.edges m ≡ Some f → slice_get x.edges n ≡ Some g → truth (holds_at a.names w) f.label ≡ true → truth (holds_at a.names w) g.label ≡ true
+    edge_for : (k m n : ℕ) (f g : TreeEdge) (b : Bool) (w : NameSet) → slice_get s.states k ≡ Some (f.from, g.from, b) → slice_get x.edges m ≡ Some f → slice_get x.edges n ≡ Some g
+        → truth (holds_at a.names w) f.label ≡ true → truth (holds_at a.names w) g.label ≡ true
         → (e : TreeEdge) × Contains (map (edge_of s.store) s.links) e × GoesBoth x (slice_get s.states) m n f g b e
     edge_for k m n f g b w stands at other_at first second =
         spread_edge a s k m n f g b w (done.spread k (f.from, g.from, b) (slice_get_within s.states k (f.from, g.from, b) stands) stands) stands at other_at first second
@@ -123,7 +127,8 @@ module _ (a : Core) (core : IsCore a) where
         let some = some_letter a.names label core.well_formed.names_differ (label_of_below (length a.names) _) of.some in
         let w = letter_of a.names some.0 in
         let holds = holds_at a.names w in
-        let met_both = and_parts (truth holds f.label) (truth holds g.label) (sym (truth_both (length a.names) holds f.label g.label (label_below f of.in_first) (label_below g of.in_second)) ∙ some.1) in
+        let met_both = and_parts (truth holds f.label) (truth holds g.label)
+        (sym (truth_both (length a.names) holds f.label g.label (label_below f of.in_first) (label_below g of.in_second)) ∙ some.1) in
         let flag = All-contains (HasFlagged s.states) s.pairs pair done.sound.flagged here in
         let k = there_at s.states (pair.0, pair.1, flag.0) flag.1 in
         let stands : slice_get s.states k.0 ≡ Some (f.from, g.from, flag.0) = k.1 ∙ (λ i. Some (sym of.first_from i, sym of.second_from i, flag.0)) in
@@ -200,7 +205,8 @@ module _ (a : Core) (core : IsCore a) where
         ]
         fresh_below false = λ k d within. absurd (omega (arith, within))
 
-        both_below : (firsts seconds : List ℕ) (b : Bool) → All (λ mark. mark < a.sets) firsts → All (λ mark. mark < a.sets) seconds → All (λ mark. mark < a.sets + a.sets + 1) (flagged_marks a.sets firsts seconds b)
+        both_below : (firsts seconds : List ℕ) (b : Bool) → All (λ mark. mark < a.sets) firsts → All (λ mark. mark < a.sets) seconds
+            → All (λ mark. mark < a.sets + a.sets + 1) (flagged_marks a.sets firsts seconds b)
         both_below firsts seconds b one two =
             let P : ℕ → Type 0 = λ mark. mark < a.sets + a.sets + 1 in
             All-append P (firsts ++ map (λ mark. mark + a.sets) seconds) (cond b ((a.sets + a.sets) ∷ []) [])
@@ -215,7 +221,8 @@ module _ (a : Core) (core : IsCore a) where
               from = slice_get_within s.states l.from (of.first.from, of.second.from, of.flag) of.both.from;
               guard = All-contains (λ (k : Link). Has s.store k.guard) s.links l done.sound.has there_l;
               to = slice_get_within s.states l.to (of.first.to, of.second.to, flag_after of.flag of.place of.other_place) of.both.to;
-              marks = subst (All (λ mark. mark < a.sets + a.sets + 1)) (sym of.both.marks) (both_below of.first.marks of.second.marks (flag_after of.flag of.place of.other_place) (marks_below of.place of.first of.at) (marks_below of.other_place of.second of.other_at));
+              marks = subst (All (λ mark. mark < a.sets + a.sets + 1)) (sym of.both.marks)
+                  (both_below of.first.marks of.second.marks (flag_after of.flag of.place of.other_place) (marks_below of.place of.first of.at) (marks_below of.other_place of.second of.other_at));
             }
 
         range_differ : AllPairs (λ p q. p ≢ q) (range_with_len 0 (length begun))
@@ -246,7 +253,8 @@ module _ (a : Core) (core : IsCore a) where
     pub parts : AreParts c
     pub square : IsFlaggedSquare x (automaton_of c)
 
-  pub all_made : (s : Stage) (begun : List Flagged) (names : List (List ℕ)) (starts : List ℕ) (states sets : ℕ) (formula f : FormulaTree) (store : Store) (links : List Link) → IsExplored a s (length s.states) → AreOfStarts a begun
+  pub all_made : (s : Stage) (begun : List Flagged) (names : List (List ℕ)) (starts : List ℕ) (states sets : ℕ) (formula f : FormulaTree) (store : Store) (links : List Link)
+      → IsExplored a s (length s.states) → AreOfStarts a begun
       → ((p q : ℕ) → Contains a.starts p → Contains a.starts q → Contains begun (p, q, false)) → AreKept begun s.states
       → names ≡ a.names → starts ≡ range_with_len 0 (length begun) → states ≡ length s.states → sets ≡ a.sets → f ≡ a.formula
       → ((cycle : List (List ℕ)) → met cycle formula ≡ (met cycle f && (met cycle (shift sets f) && met cycle (Inf (sets + sets) false)))) → SetsBelow (sets + sets + 1) formula
@@ -257,7 +265,15 @@ module _ (a : Core) (core : IsCore a) where
       let low : SetsBelow (a.sets + a.sets + 1) formula = subst (λ n. SetsBelow (n + n + 1) formula) sets_are below in
       let core : Core = record { names = names; starts = starts; states = length s.states; links = s.links; sets = a.sets + a.sets + 1; formula = formula; store = s.store } in
       let last : Core = record { names = names; starts = starts; states = states; links = links; sets = sets + sets + 1; formula = formula; store = store } in
-      let whole : core ≡ last = λ i. record { names = names; starts = starts; states = sym count i; links = sym links_are i; sets = sym sets_are i + sym sets_are i + 1; formula = formula; store = sym store_is i } in
+      let whole : core ≡ last = λ i. record {
+        names = names;
+        starts = starts;
+        states = sym count i;
+        links = sym links_are i;
+        sets = sym sets_are i + sym sets_are i + 1;
+        formula = formula;
+        store = sym store_is i;
+      } in
       subst IsMade whole (record {
         parts = are_parts s done begun from there kept names starts formula names_are starts_are says low;
         square = is_flagged_square s done begun from there kept names starts formula names_are starts_are says;

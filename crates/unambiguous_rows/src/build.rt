@@ -1,7 +1,8 @@
 //! Automata as they are written, and what is said of them.
 
 use aut_base::{
-    Description, Edge, Edges, Formula, Formulas, Label, MOST_NAMES, Marks, Memory, Names, Numbers, Text,
+    Description, Edge, Edges, Formula, Formulas, Label, MOST_NAMES, Marks, Memory, Names, Numbers,
+    Text,
 };
 use aut_core::Automaton;
 use std::alloc::Global;

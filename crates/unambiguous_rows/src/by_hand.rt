@@ -1,6 +1,6 @@
 //! Automata of which it was worked out by hand whether they are unambiguous.
 
-use crate::build::{Verdict, Ask, Condition, SmallEdge, verdict_on};
+use crate::build::{Ask, Condition, SmallEdge, Verdict, verdict_on};
 use aut_base::Memory;
 use std::alloc::Global;
 

@@ -40,6 +40,9 @@ fn main(rt: HostRuntime) -> Result<(), Stop> {
         println!(rt; "ring={states} {verdict:?}")?;
     }
     let found = small::compared(alloc)?;
-    println!(rt; "automata={} ambiguous={} different={}", found.automata, found.ambiguous, found.different)?;
+    println!(rt;
+        "automata={} ambiguous={} different={}",
+        found.automata, found.ambiguous, found.different
+    )?;
     Ok(())
 }

@@ -1,6 +1,6 @@
 //! Rings, in which each state is a start.
 
-use crate::build::{self, Verdict, Ask, Condition, SmallEdge};
+use crate::build::{self, Ask, Condition, SmallEdge, Verdict};
 use aut_base::Memory;
 use std::alloc::Global;
 

@@ -1,6 +1,6 @@
 //! Small automata, and what is said of them held against the search through pairs of runs.
 
-use crate::build::{Verdict, Ask, Condition, SmallEdge, verdict_on};
+use crate::build::{Ask, Condition, SmallEdge, Verdict, verdict_on};
 use crate::runs::Small;
 use aut_base::Memory;
 use std::alloc::Global;
