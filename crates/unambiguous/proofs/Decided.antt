@@ -1,5 +1,6 @@
 -- The flagged square accepts no lasso word exactly where the automaton is unambiguous.
-use Rattle.std.proofs.Common.{◌≡◌, ◌≢◌, ◌∙◌, ◌⊎◌, suc, ◌==◌, ℕ, ◌+◌, ◌*◌, ◌<◌, ◌&&◌, ◌||◌, Bool, true, false, not, List, [], ◌∷◌, ◌++◌, All, Option, Some, ap, append_assoc, arith, inl, inr, length, map, refl, slice_get, subst, sym}
+use Rattle.std.proofs.Common.{◌≡◌, ◌≢◌, ◌∙◌, ◌⊎◌, suc, ◌==◌, ℕ, ◌+◌, ◌*◌, ◌<◌, ◌&&◌, ◌||◌, Bool, true, false, not, List}
+use Rattle.std.proofs.Common.{[], ◌∷◌, ◌++◌, All, Option, Some, ap, append_assoc, arith, inl, inr, length, map, refl, slice_get, subst, sym}
 use Rattle.std.proofs.Math.Nat.{mul_comm}
 use Rattle.std.proofs.lemmas.Bool.{and_from, and_parts, cases_Bool, eq-eqb, eqb-true, false≢true, not-false, or_cases, or_left, or_parts, true≢false}
 use Rattle.std.proofs.lemmas.List.Elements.{All-contains}
@@ -55,8 +56,11 @@ nth_apart xs ys us vs long size apart = elim (or_cases (differ xs ys) (differ us
       (at.0, λ same. at.2 (sym (stem_item xs us at.0 within) ∙ (same ∙ stem_item ys vs at.0 (omega (arith, within, long))))))
   | inr second ↦
       (let at = apart_at us vs size second in
-      let within : at.0 < length us = at.1 in
-      (length xs + at.0, λ same. at.2 (sym (cycle_item xs us 0 at.0 (length xs + at.0) within (omega arith)) ∙ (same ∙ cycle_item ys vs 0 at.0 (length xs + at.0) (omega (arith, within, size)) (omega (arith, long))))))
+      let within : at.0 < length us = at.1 in (
+        length xs + at.0,
+        λ same. at.2 (sym (cycle_item xs us 0 at.0 (length xs + at.0) within (omega arith)) ∙
+            (same ∙ cycle_item ys vs 0 at.0 (length xs + at.0) (omega (arith, within, size)) (omega (arith, long)))),
+      ))
 ]
 
 same_places : (ms ns : List ℕ) → differ ms ns ≡ false → ms ≡ ns
@@ -124,7 +128,8 @@ module _ (a s : Automaton) (triple : ℕ → Option (ℕ × ℕ × Bool)) (forme
       let n = of.other_place in
       let flag : Bool = flag_after of.flag m n in
       let same : (p, q, b) ≡ (of.first.from, of.second.from, of.flag) = same_Some (p, q, b) (of.first.from, of.second.from, of.flag) (sym at ∙ (ap triple path.0 ∙ of.both.from)) in
-      let both = and_parts (truth (holds_at a.names x) of.first.label) (truth (holds_at a.names x) of.second.label) (sym (of.both.label x) ∙ (ap (λ ns. truth (holds_at ns x) e.label) (sym square.names) ∙ path.2)) in
+      let both = and_parts (truth (holds_at a.names x) of.first.label) (truth (holds_at a.names x) of.second.label)
+      (sym (of.both.label x) ∙ (ap (λ ns. truth (holds_at ns x) e.label) (sym square.names) ∙ path.2)) in
       let rest = parts e.to of.first.to of.second.to flag xs es k' of.both.to path.3 in
       let here = marks_below m of.first of.at in
       let there = marks_below n of.second of.other_at in
@@ -138,8 +143,13 @@ module _ (a s : Automaton) (triple : ℕ → Option (ℕ × ℕ × Bool)) (forme
         two = (of.second, of.other_at, ap (λ (t : ℕ × ℕ × Bool). t.1) same, both.1, rest.two);
         to = rest.to;
         marks_one = ((λ set low. ap (is_in set) of.both.marks ∙ (flagged_first a.sets of.first.marks of.second.marks flag set low ∙ ap (is_in set) (marks_here a m of.first of.at))), rest.marks_one);
-        marks_two = ((λ set low. ap (is_in (set + a.sets)) of.both.marks ∙ (flagged_second a.sets of.first.marks of.second.marks flag here set low ∙ ap (is_in set) (marks_here a n of.second of.other_at))), rest.marks_two);
-        is_flag = rest.is_flag ∙ (or_assoc of.flag (not (m == n)) (differ rest.firsts rest.seconds) ∙ ap (λ c. c || (not (m == n) || differ rest.firsts rest.seconds)) (sym (ap (λ (t : ℕ × ℕ × Bool). t.2) same)));
+        marks_two = (
+          (λ set low. ap (is_in (set + a.sets)) of.both.marks ∙
+              (flagged_second a.sets of.first.marks of.second.marks flag here set low ∙ ap (is_in set) (marks_here a n of.second of.other_at))),
+          rest.marks_two,
+        );
+        is_flag = rest.is_flag ∙ (or_assoc of.flag (not (m == n)) (differ rest.firsts rest.seconds) ∙ ap (λ c. c || (not (m == n) || differ rest.firsts rest.seconds))
+            (sym (ap (λ (t : ℕ × ℕ × Bool). t.2) same)));
         seen = λ some. elim (or_cases (is_in top e.marks) (list_any (is_in top) (marks_of es)) some) [
           | inl now ↦ rest.is_flag ∙ or_left flag (differ rest.firsts rest.seconds) (sym (ap (is_in top) of.both.marks ∙ flagged_top a.sets of.first.marks of.second.marks flag here there) ∙ now)
           | inr later ↦ rest.seen later
@@ -194,7 +204,8 @@ module _ (a s : Automaton) (triple : ℕ → Option (ℕ × ℕ × Bool)) (forme
         to = rest.to ∙ ap (λ (c : Bool). Some (p', q', c)) (or_assoc b (not (m == n)) (differ ms ns));
         marks_one = ((λ set low. ap (is_in set) both.marks ∙ (flagged_first a.sets f.marks g.marks flag set low ∙ ap (is_in set) (marks_here a m f one.1))), rest.marks_one);
         marks_two = ((λ set low. ap (is_in (set + a.sets)) both.marks ∙ (flagged_second a.sets f.marks g.marks flag mine set low ∙ ap (is_in set) (marks_here a n g two.1))), rest.marks_two);
-        seen = λ set some. or_left (is_in top e.marks) (list_any (is_in top) (marks_of rest.edges)) (ap (is_in top) both.marks ∙ (flagged_top a.sets f.marks g.marks flag mine his ∙ or_left b (not (m == n)) set));
+        seen = λ set some. or_left (is_in top e.marks) (list_any (is_in top) (marks_of rest.edges))
+            (ap (is_in top) both.marks ∙ (flagged_top a.sets f.marks g.marks flag mine his ∙ or_left b (not (m == n)) set));
       }
 
   -- a word that is accepted has two runs that differ
@@ -204,7 +215,8 @@ module _ (a s : Automaton) (triple : ℕ → Option (ℕ × ℕ × Bool)) (forme
       let start = square.from_start r.start r.is_start in
       let way = parts r.start start.0 start.1 false (u ++ copies r.turns v) r.way r.state start.4 r.leads in
       let round = parts r.state way.first way.second way.flag (copies r.rounds v) r.cycle r.state way.to r.returns in
-      let same : (round.first, round.second, round.flag) ≡ (way.first, way.second, way.flag) = same_Some (round.first, round.second, round.flag) (way.first, way.second, way.flag) (sym round.to ∙ way.to) in
+      let same : (round.first, round.second, round.flag) ≡ (way.first, way.second, way.flag) = same_Some (round.first, round.second, round.flag) (way.first, way.second, way.flag)
+      (sym round.to ∙ way.to) in
       let cycle = marks_of r.cycle in
       let all = and_parts (met cycle a.formula) (met cycle (shift a.sets a.formula) && met cycle (Inf top false)) (sym (square.formula cycle) ∙ r.meets) in
       let others = and_parts (met cycle (shift a.sets a.formula)) (met cycle (Inf top false)) all.1 in
@@ -236,7 +248,8 @@ module _ (a s : Automaton) (triple : ℕ → Option (ℕ × ℕ × Bool)) (forme
       } in
       let long = as_long a start.0 (u ++ copies r.turns v) way.firsts way.first way.one ∙ sym (as_long a start.1 (u ++ copies r.turns v) way.seconds way.second way.two) in
       let size = as_long a way.first (copies r.rounds v) round.firsts round.first round.one ∙ sym (as_long a way.second (copies r.rounds v) round.seconds round.second round.two) in
-      let flags : (differ way.firsts way.seconds || differ round.firsts round.seconds) ≡ true = ap (λ b. b || differ round.firsts round.seconds) (sym way.is_flag) ∙ (sym round.is_flag ∙ round.seen others.1) in
+      let flags : (differ way.firsts way.seconds || differ round.firsts round.seconds) ≡ true = ap (λ b. b || differ round.firsts round.seconds) (sym way.is_flag) ∙
+      (sym round.is_flag ∙ round.seen others.1) in
       let apart = nth_apart way.firsts way.seconds round.firsts round.seconds long size flags in
       record { one = one; two = two; place = apart.0; differ = apart.1 }
 
@@ -245,7 +258,8 @@ module _ (a s : Automaton) (triple : ℕ → Option (ℕ × ℕ × Bool)) (forme
 
   -- two runs that differ somewhere are an accepting run of the square, which goes round once more before it closes
 
-  accepted : (u v : List NameSet) → 0 < length v → (turns rounds : ℕ) → 0 < rounds → (r t : Run a u v turns rounds) → met (map (marks_at a) r.cycle) a.formula ≡ true → met (map (marks_at a) t.cycle) a.formula ≡ true → (differ r.way t.way || differ r.cycle t.cycle) ≡ true → Accepts s u v
+  accepted : (u v : List NameSet) → 0 < length v → (turns rounds : ℕ) → 0 < rounds → (r t : Run a u v turns rounds) → met (map (marks_at a) r.cycle) a.formula ≡ true
+      → met (map (marks_at a) t.cycle) a.formula ≡ true → (differ r.way t.way || differ r.cycle t.cycle) ≡ true → Accepts s u v
   accepted u v endless turns rounds positive r t mine his other =
       let start = square.there_start r.start t.start r.is_start t.is_start in
       let way = zip start.0 r.start t.start r.state t.state false (u ++ copies turns v) r.way t.way start.2 r.leads t.leads in
@@ -296,7 +310,8 @@ module _ (a s : Automaton) (triple : ℕ → Option (ℕ × ℕ × Bool)) (forme
         | inl differs ↦ inl (accepted u v endless (r.turns + t.turns) (t.rounds * r.rounds) positive mine.run other (mine.alike a.formula ∙ r.meets) (his.alike a.formula ∙ t.meets) differs)
         | inr same ↦
             (let both = or_parts (differ mine.run.way his.run.way) (differ mine.run.cycle his.run.cycle) same in
-            inr (λ n. sym (mine.same n) ∙ (ap (λ ws. nth ws mine.run.cycle n) (same_places mine.run.way his.run.way both.0) ∙ (ap (λ cs. nth his.run.way cs n) (same_places mine.run.cycle his.run.cycle both.1) ∙ his.same n))))
+            inr (λ n. sym (mine.same n) ∙ (ap (λ ws. nth ws mine.run.cycle n) (same_places mine.run.way his.run.way both.0) ∙
+            (ap (λ cs. nth his.run.way cs n) (same_places mine.run.cycle his.run.cycle both.1) ∙ his.same n))))
       ]
 
   unambiguous : AcceptsNothing s → IsUnambiguous a

@@ -23,7 +23,8 @@ module _ (a : Automaton) (det : IsDeterministic a) where
       same_Some p q (sym here.1 ∙ (ap (slice_get a.starts) place ∙ there.1))
 
   -- and one place that can be gone from a state at a letter
-  one_place : (m n : ℕ) (f g : TreeEdge) (x : NameSet) → slice_get a.edges m ≡ Some f → slice_get a.edges n ≡ Some g → f.from ≡ g.from → truth (holds_at a.names x) f.label ≡ true → truth (holds_at a.names x) g.label ≡ true → m ≡ n
+  one_place : (m n : ℕ) (f g : TreeEdge) (x : NameSet) → slice_get a.edges m ≡ Some f → slice_get a.edges n ≡ Some g → f.from ≡ g.from → truth (holds_at a.names x) f.label ≡ true
+      → truth (holds_at a.names x) g.label ≡ true → m ≡ n
   one_place m n f g x at there from first second = elim (cases_lt m n) [
     | inl before ↦ absurd (clash m n f g at there before from first second)
     | inr later ↦ elim (cases_lt n m) [
@@ -32,12 +33,13 @@ module _ (a : Automaton) (det : IsDeterministic a) where
     ]
   ]
     where
-      clash : (m n : ℕ) (f g : TreeEdge) → slice_get a.edges m ≡ Some f → slice_get a.edges n ≡ Some g → m < n → f.from ≡ g.from → truth (holds_at a.names x) f.label ≡ true → truth (holds_at a.names x) g.label ≡ true → ⊥
+      clash : (m n : ℕ) (f g : TreeEdge) → slice_get a.edges m ≡ Some f → slice_get a.edges n ≡ Some g → m < n → f.from ≡ g.from → truth (holds_at a.names x) f.label ≡ true
+          → truth (holds_at a.names x) g.label ≡ true → ⊥
       clash m n f g at there before from first second =
           let is_first : get_or a.edges m f ≡ f = get_or_from_slice_get a.edges m f f at in
           let is_second : get_or a.edges n f ≡ g = get_or_from_slice_get a.edges n g f there in
           det.edges m n f before (slice_get_within a.edges n g there) (ap (λ (e : TreeEdge). e.from) is_first ∙ (from ∙ sym (ap (λ (e : TreeEdge). e.from) is_second))) x
-              (ap (λ (e : TreeEdge). truth (holds_at a.names x) e.label) is_first ∙ first) (ap (λ (e : TreeEdge). truth (holds_at a.names x) e.label) is_second ∙ second)
+          (ap (λ (e : TreeEdge). truth (holds_at a.names x) e.label) is_first ∙ first) (ap (λ (e : TreeEdge). truth (holds_at a.names x) e.label) is_second ∙ second)
 
   record Same (ms ns : List ℕ) (q r : ℕ) : Type 0 where
     places : ms ≡ ns
@@ -62,9 +64,11 @@ module _ (a : Automaton) (det : IsDeterministic a) where
       let turns : t.turns + r.turns ≡ r.turns + t.turns = omega arith in
       let rounds : r.rounds * t.rounds ≡ t.rounds * r.rounds = mul_comm r.rounds t.rounds in
       let start : his.run.start ≡ mine.run.start = one_start his.run.start mine.run.start his.run.is_start mine.run.is_start in
-      let leads : IsTrack a mine.run.start (u ++ copies (r.turns + t.turns) v) his.run.way his.run.state = subst (λ p. IsTrack a p (u ++ copies (r.turns + t.turns) v) his.run.way his.run.state) start (subst (λ k. IsTrack a his.run.start (u ++ copies k v) his.run.way his.run.state) turns his.run.leads) in
+      let leads : IsTrack a mine.run.start (u ++ copies (r.turns + t.turns) v) his.run.way his.run.state = subst (λ p. IsTrack a p (u ++ copies (r.turns + t.turns) v) his.run.way his.run.state)
+      start (subst (λ k. IsTrack a his.run.start (u ++ copies k v) his.run.way his.run.state) turns his.run.leads) in
       let ways = same mine.run.start mine.run.state his.run.state (u ++ copies (r.turns + t.turns) v) mine.run.way his.run.way mine.run.leads leads in
-      let returns : IsTrack a mine.run.state (copies (t.rounds * r.rounds) v) his.run.cycle his.run.state = subst (λ p. IsTrack a p (copies (t.rounds * r.rounds) v) his.run.cycle his.run.state) (sym ways.ends) (subst (λ k. IsTrack a his.run.state (copies k v) his.run.cycle his.run.state) rounds his.run.returns) in
+      let returns : IsTrack a mine.run.state (copies (t.rounds * r.rounds) v) his.run.cycle his.run.state = subst (λ p. IsTrack a p (copies (t.rounds * r.rounds) v) his.run.cycle his.run.state)
+      (sym ways.ends) (subst (λ k. IsTrack a his.run.state (copies k v) his.run.cycle his.run.state) rounds his.run.returns) in
       let cycles = same mine.run.state mine.run.state his.run.state (copies (t.rounds * r.rounds) v) mine.run.cycle his.run.cycle mine.run.returns returns in
       sym (mine.same n) ∙ (ap (λ ws. nth ws mine.run.cycle n) ways.places ∙ (ap (λ cs. nth his.run.way cs n) cycles.places ∙ his.same n))
 

@@ -1,9 +1,10 @@
 -- What an explored square is: the flagged square of the automaton, over all pairs that are reached.
-use Rattle.std.proofs.Common.{◌≡◌, ◌≢◌, ◌∙◌, ◌+◌, ◌<◌, ◌≤◌, ◌&&◌, ℕ, Bool, true, false, cond, List, [], ◌∷◌, ◌++◌, All, AllPairs, Contains, Some, ap, arith, get_or, inl, inr, length, map, length-append, refl, slice_get, subst, sym}
+use Rattle.std.proofs.Common.{◌≡◌, ◌≢◌, ◌∙◌, ◌+◌, ◌<◌, ◌≤◌, ◌&&◌, ℕ, Bool, true, false, cond, List, [], ◌∷◌, ◌++◌}
+use Rattle.std.proofs.Common.{All, AllPairs, Contains, Some, ap, arith, get_or, inl, inr, length, map, length-append, refl, slice_get, subst, sym}
 use Rattle.std.proofs.lemmas.Bool.{and_parts, cases_lt}
 use Rattle.std.proofs.lemmas.List.Elements.{All-append, All-contains, All-map, All-weaker, Contains-append_left, Contains-get_or}
 use Rattle.std.proofs.lemmas.List.FromFn.{get_or-range_with_len, length-range_with_len}
-use Rattle.std.proofs.lemmas.Option.{get_or_from_slice_get, same_Some, slice_get_within}
+use Rattle.std.proofs.lemmas.Option.{same_Some, slice_get_within}
 use Rattle.std.specs.List.{range_with_len}
 use Rattle.acc_forms.specs.Shift.{shift}
 use Rattle.aut_base.proofs.CanonicalBelow.{label_of_below}
@@ -12,24 +13,23 @@ use Rattle.aut_base.proofs.Members.{each_there, from_map, from_range, item_at, n
 use Rattle.aut_base.specs.Automaton.{Automaton, IsEdgeOf, TreeEdge}
 use Rattle.aut_base.specs.Formula.{FormulaTree, Inf, SetsBelow, met}
 use Rattle.aut_base.specs.Label.{AllBelow, holds_at, truth}
-use Rattle.aut_base.specs.Valuation.{letter_of, truth_on}
+use Rattle.aut_base.specs.Valuation.{letter_of}
 use Rattle.aut_base.specs.Word.{NameSet}
 use Rattle.aut_base.specs.declared.limit.TheConstants.{MOST_NAMES, MOST_PAIRS}
-use Rattle.aut_core.proofs.Growth.{keeps_none}
 use Rattle.aut_core.specs.Core.{AreParts, Core, IsCore, IsLinkOf, automaton_of, edge_of}
 use Rattle.aut_core.specs.declared.link.Link.{Link}
-use Rattle.aut_ops.proofs.BreadthFirst.{reached_keeps, reached_start, with_new_longer, with_new_there}
+use Rattle.aut_ops.proofs.BreadthFirst.{reached_keeps, reached_start}
 use Rattle.aut_ops.proofs.JointEdges.{from_start, made_of, there_start}
 use Rattle.aut_ops.proofs.Labels.{some_letter, truth_both}
 use Rattle.aut_ops.proofs.Places.{one_place, pair_tells}
-use Rattle.aut_ops.specs.BreadthFirst.{IsReached, with_new}
+use Rattle.aut_ops.specs.BreadthFirst.{IsReached}
 use Rattle.aut_ops.specs.Labels.{both_labels}
 use Rattle.aut_ops.specs.Products.{HasMorePairs, JointEdge, joint_edges, next_pairs, same_pair, start_pairs}
-use Rattle.label_guards.specs.Store.{Has, Keeps, Store}
+use Rattle.label_guards.specs.Store.{Has, Store}
 use Rattle.unambiguous.proofs.RowPlaces.{spread_edge}
-use Rattle.unambiguous.proofs.Stages.{Flagged, IsNumbered, kept_on, longer_at, met_on, new_each, new_kept, no_more, numbered_kept, numbered_sound, state_tells}
-use Rattle.unambiguous.specs.Square.{GoesBoth, IsFlaggedSquare, IsSquare, MadeOf, flag_after, flagged_marks}
-use Rattle.unambiguous.specs.inner.Stages.{AreKept, AreOfStarts, AreOver, Grows, HasFlagged, IsExplored, IsMet, IsSound, IsSpread, Stage, differs, pair_of, row_of, same_state}
+use Rattle.unambiguous.proofs.Stages.{Flagged, IsNumbered, longer_at, met_on, new_each, no_more, numbered_kept, numbered_sound, state_tells}
+use Rattle.unambiguous.specs.Square.{GoesBoth, IsFlaggedSquare, MadeOf, flag_after, flagged_marks}
+use Rattle.unambiguous.specs.inner.Stages.{AreKept, AreOfStarts, Grows, HasFlagged, IsExplored, IsSound, IsSpread, Stage, differs, pair_of, same_state}
 
 pub kept_there : (old new : List Flagged) (s : Flagged) → AreKept old new → Contains old s → Contains new s
 kept_there old new s kept there = subst (λ (ss : List Flagged). Contains ss s) (sym kept.1) (Contains-append_left old kept.0 s there)
@@ -58,7 +58,8 @@ module _ (a : Core) (core : IsCore a) where
   pub start_more : (s t : Stage) (p q place : ℕ) → IsSound a s 0 → AreOfStarts a s.states → Contains a.starts p → Contains a.starts q → IsNumbered a core s t (p, q, false) place → OneMore s t p q
   start_more s t p q place sound from one two is = record {
     sound = numbered_sound a core s t 0 (p, q, false) place sound (start_reached p q one two) is;
-    from = subst (AreOfStarts a) (sym is.states) (new_each same_state state_tells (λ (r : Flagged). Contains a.starts r.0 × Contains a.starts r.1 × (r.2 ≡ false)) s.states (p, q, false) from (one, two, refl));
+    from = subst (AreOfStarts a) (sym is.states) (new_each same_state state_tells (λ (r : Flagged). Contains a.starts r.0 × Contains a.starts r.1 × (r.2 ≡ false)) s.states (p, q, false) from
+        (one, two, refl));
     kept = numbered_kept a core s t (p, q, false) place is;
     there = placed_there t.states place (p, q, false) is.stands;
   }
@@ -83,7 +84,8 @@ module _ (a : Core) (core : IsCore a) where
   pub explored_none : (s : Stage) → IsSound a s 0 → IsExplored a s 0
   explored_none s sound = record { sound = sound; spread = λ k state less at. absurd (omega (arith, less)) }
 
-  pub explored_more : (s t : Stage) (done : ℕ) (state : Flagged) → IsExplored a s done → slice_get s.states done ≡ Some state → IsSound a t done → Grows s t → IsSpread a t done state → IsExplored a t (done + 1)
+  pub explored_more : (s t : Stage) (done : ℕ) (state : Flagged) → IsExplored a s done → slice_get s.states done ≡ Some state → IsSound a t done → Grows s t → IsSpread a t done state
+      → IsExplored a t (done + 1)
   explored_more s t done state so_far here sound grows spread = record {
     sound = later_sound t done sound;
     spread = λ k other less at. elim (cases_lt k done) [
@@ -101,7 +103,8 @@ module _ (a : Core) (core : IsCore a) where
   -- it was gone on from all
 
   module _ (s : Stage) (done : IsExplored a s (length s.states)) where
-    edge_for : (k m n : ℕ) (f g : TreeEdge) (b : Bool) (w : NameSet) → slice_get s.states k ≡ Some (f.from, g.from, b) → slice_get x.edges m ≡ Some f → slice_get x.edges n ≡ Some g → truth (holds_at a.names w) f.label ≡ true → truth (holds_at a.names w) g.label ≡ true
+    edge_for : (k m n : ℕ) (f g : TreeEdge) (b : Bool) (w : NameSet) → slice_get s.states k ≡ Some (f.from, g.from, b) → slice_get x.edges m ≡ Some f → slice_get x.edges n ≡ Some g
+        → truth (holds_at a.names w) f.label ≡ true → truth (holds_at a.names w) g.label ≡ true
         → (e : TreeEdge) × Contains (map (edge_of s.store) s.links) e × GoesBoth x (slice_get s.states) m n f g b e
     edge_for k m n f g b w stands at other_at first second =
         spread_edge a s k m n f g b w (done.spread k (f.from, g.from, b) (slice_get_within s.states k (f.from, g.from, b) stands) stands) stands at other_at first second
@@ -124,7 +127,8 @@ module _ (a : Core) (core : IsCore a) where
         let some = some_letter a.names label core.well_formed.names_differ (label_of_below (length a.names) _) of.some in
         let w = letter_of a.names some.0 in
         let holds = holds_at a.names w in
-        let met_both = and_parts (truth holds f.label) (truth holds g.label) (sym (truth_both (length a.names) holds f.label g.label (label_below f of.in_first) (label_below g of.in_second)) ∙ some.1) in
+        let met_both = and_parts (truth holds f.label) (truth holds g.label)
+        (sym (truth_both (length a.names) holds f.label g.label (label_below f of.in_first) (label_below g of.in_second)) ∙ some.1) in
         let flag = All-contains (HasFlagged s.states) s.pairs pair done.sound.flagged here in
         let k = there_at s.states (pair.0, pair.1, flag.0) flag.1 in
         let stands : slice_get s.states k.0 ≡ Some (f.from, g.from, flag.0) = k.1 ∙ (λ i. Some (sym of.first_from i, sym of.second_from i, flag.0)) in
@@ -150,7 +154,7 @@ module _ (a : Core) (core : IsCore a) where
       square_core names starts states sets formula store links = record { names = names; starts = starts; states = states; links = links; sets = sets; formula = formula; store = store }
 
       module _ (names : List (List ℕ)) (starts : List ℕ) (formula : FormulaTree) (names_are : names ≡ a.names) (starts_are : starts ≡ range_with_len 0 (length begun))
-        (meaning : (cycle : List (List ℕ)) → met cycle formula ≡ (met cycle a.formula && (met cycle (shift a.sets a.formula) && met cycle (Inf (a.sets + a.sets) false)))) where
+          (meaning : (cycle : List (List ℕ)) → met cycle formula ≡ (met cycle a.formula && (met cycle (shift a.sets a.formula) && met cycle (Inf (a.sets + a.sets) false)))) where
         abbrev made : Core
         made = square_core names starts (length s.states) (a.sets + a.sets + 1) formula s.store s.links
 
@@ -201,13 +205,14 @@ module _ (a : Core) (core : IsCore a) where
         ]
         fresh_below false = λ k d within. absurd (omega (arith, within))
 
-        both_below : (firsts seconds : List ℕ) (b : Bool) → All (λ mark. mark < a.sets) firsts → All (λ mark. mark < a.sets) seconds → All (λ mark. mark < a.sets + a.sets + 1) (flagged_marks a.sets firsts seconds b)
+        both_below : (firsts seconds : List ℕ) (b : Bool) → All (λ mark. mark < a.sets) firsts → All (λ mark. mark < a.sets) seconds
+            → All (λ mark. mark < a.sets + a.sets + 1) (flagged_marks a.sets firsts seconds b)
         both_below firsts seconds b one two =
             let P : ℕ → Type 0 = λ mark. mark < a.sets + a.sets + 1 in
             All-append P (firsts ++ map (λ mark. mark + a.sets) seconds) (cond b ((a.sets + a.sets) ∷ []) [])
-                (All-append P firsts (map (λ mark. mark + a.sets) seconds) (All-weaker (λ mark. mark < a.sets) P (λ mark low. omega (arith, low)) firsts one)
-                (All-map P (λ mark. mark + a.sets) seconds (All-weaker (λ mark. mark < a.sets) (λ mark. mark + a.sets < a.sets + a.sets + 1) (λ mark low. omega (arith, low)) seconds two)))
-                (fresh_below b)
+            (All-append P firsts (map (λ mark. mark + a.sets) seconds) (All-weaker (λ mark. mark < a.sets) P (λ mark low. omega (arith, low)) firsts one)
+            (All-map P (λ mark. mark + a.sets) seconds (All-weaker (λ mark. mark < a.sets) (λ mark. mark + a.sets < a.sets + a.sets + 1) (λ mark low. omega (arith, low)) seconds two)))
+            (fresh_below b)
 
         link_of : (l : Link) → Contains s.links l → IsLinkOf made l
         link_of l there_l =
@@ -216,7 +221,8 @@ module _ (a : Core) (core : IsCore a) where
               from = slice_get_within s.states l.from (of.first.from, of.second.from, of.flag) of.both.from;
               guard = All-contains (λ (k : Link). Has s.store k.guard) s.links l done.sound.has there_l;
               to = slice_get_within s.states l.to (of.first.to, of.second.to, flag_after of.flag of.place of.other_place) of.both.to;
-              marks = subst (All (λ mark. mark < a.sets + a.sets + 1)) (sym of.both.marks) (both_below of.first.marks of.second.marks (flag_after of.flag of.place of.other_place) (marks_below of.place of.first of.at) (marks_below of.other_place of.second of.other_at));
+              marks = subst (All (λ mark. mark < a.sets + a.sets + 1)) (sym of.both.marks)
+                  (both_below of.first.marks of.second.marks (flag_after of.flag of.place of.other_place) (marks_below of.place of.first of.at) (marks_below of.other_place of.second of.other_at));
             }
 
         range_differ : AllPairs (λ p q. p ≢ q) (range_with_len 0 (length begun))
@@ -247,7 +253,8 @@ module _ (a : Core) (core : IsCore a) where
     pub parts : AreParts c
     pub square : IsFlaggedSquare x (automaton_of c)
 
-  pub all_made : (s : Stage) (begun : List Flagged) (names : List (List ℕ)) (starts : List ℕ) (states sets : ℕ) (formula f : FormulaTree) (store : Store) (links : List Link) → IsExplored a s (length s.states) → AreOfStarts a begun
+  pub all_made : (s : Stage) (begun : List Flagged) (names : List (List ℕ)) (starts : List ℕ) (states sets : ℕ) (formula f : FormulaTree) (store : Store) (links : List Link)
+      → IsExplored a s (length s.states) → AreOfStarts a begun
       → ((p q : ℕ) → Contains a.starts p → Contains a.starts q → Contains begun (p, q, false)) → AreKept begun s.states
       → names ≡ a.names → starts ≡ range_with_len 0 (length begun) → states ≡ length s.states → sets ≡ a.sets → f ≡ a.formula
       → ((cycle : List (List ℕ)) → met cycle formula ≡ (met cycle f && (met cycle (shift sets f) && met cycle (Inf (sets + sets) false)))) → SetsBelow (sets + sets + 1) formula
@@ -258,7 +265,15 @@ module _ (a : Core) (core : IsCore a) where
       let low : SetsBelow (a.sets + a.sets + 1) formula = subst (λ n. SetsBelow (n + n + 1) formula) sets_are below in
       let core : Core = record { names = names; starts = starts; states = length s.states; links = s.links; sets = a.sets + a.sets + 1; formula = formula; store = s.store } in
       let last : Core = record { names = names; starts = starts; states = states; links = links; sets = sets + sets + 1; formula = formula; store = store } in
-      let whole : core ≡ last = λ i. record { names = names; starts = starts; states = sym count i; links = sym links_are i; sets = sym sets_are i + sym sets_are i + 1; formula = formula; store = sym store_is i } in
+      let whole : core ≡ last = λ i. record {
+        names = names;
+        starts = starts;
+        states = sym count i;
+        links = sym links_are i;
+        sets = sym sets_are i + sym sets_are i + 1;
+        formula = formula;
+        store = sym store_is i;
+      } in
       subst IsMade whole (record {
         parts = are_parts s done begun from there kept names starts formula names_are starts_are says low;
         square = is_flagged_square s done begun from there kept names starts formula names_are starts_are says;

@@ -23,16 +23,19 @@ joint set k firsts seconds flag = list_any-append (λ m. m == set) (firsts ++ ra
 
 pub flagged_first : (k : ℕ) (firsts seconds : List ℕ) (flag : Bool) → AgreeBelow k (flagged_marks k firsts seconds flag) firsts
 flagged_first k firsts seconds flag set low =
-    joint set k firsts seconds flag ∙ (ap (λ b. is_in set (firsts ++ raise k seconds) || b) (no_flag k set flag (λ e. absurd (omega (arith, e, low)))) ∙ (or-false (is_in set (firsts ++ raise k seconds)) ∙ joint_first k firsts seconds set low))
+    joint set k firsts seconds flag ∙ (ap (λ b. is_in set (firsts ++ raise k seconds) || b) (no_flag k set flag (λ e. absurd (omega (arith, e, low)))) ∙
+    (or-false (is_in set (firsts ++ raise k seconds)) ∙ joint_first k firsts seconds set low))
 
 pub flagged_second : (k : ℕ) (firsts seconds : List ℕ) (flag : Bool) → All (λ m. m < k) firsts → AgreeRaised k k (flagged_marks k firsts seconds flag) seconds
 flagged_second k firsts seconds flag below set low =
-    joint (set + k) k firsts seconds flag ∙ (ap (λ b. is_in (set + k) (firsts ++ raise k seconds) || b) (no_flag k (set + k) flag (λ e. absurd (omega (arith, e, low)))) ∙ (or-false (is_in (set + k) (firsts ++ raise k seconds)) ∙ joint_second k k firsts seconds below set low))
+    joint (set + k) k firsts seconds flag ∙ (ap (λ b. is_in (set + k) (firsts ++ raise k seconds) || b) (no_flag k (set + k) flag (λ e. absurd (omega (arith, e, low)))) ∙
+    (or-false (is_in (set + k) (firsts ++ raise k seconds)) ∙ joint_second k k firsts seconds below set low))
 
 pub flagged_top : (k : ℕ) (firsts seconds : List ℕ) (flag : Bool) → All (λ m. m < k) firsts → All (λ m. m < k) seconds → is_in (k + k) (flagged_marks k firsts seconds flag) ≡ flag
 flagged_top k firsts seconds flag below too =
     let past : k ≤ k + k = omega arith in
     let same : k ≤ k = omega arith in
     let none : is_in (k + k) (firsts ++ raise k seconds) ≡ false =
-    list_any-append (λ m. m == k + k) firsts (raise k seconds) ∙ (ap (λ b. b || is_in (k + k) (raise k seconds)) (not_in_past (k + k) k firsts past below) ∙ (is_in_raise k k seconds ∙ not_in_past k k seconds same too)) in
+    list_any-append (λ m. m == k + k) firsts (raise k seconds) ∙
+    (ap (λ b. b || is_in (k + k) (raise k seconds)) (not_in_past (k + k) k firsts past below) ∙ (is_in_raise k k seconds ∙ not_in_past k k seconds same too)) in
     joint (k + k) k firsts seconds flag ∙ (ap (λ b. b || is_in (k + k) (tail k flag)) none ∙ is_flag k flag)

@@ -1,5 +1,5 @@
 -- The items of a list that pass a test, and their places in it.
-use Rattle.std.proofs.Common.{◌≡◌, ◌∙◌, ◌<◌, ◌≤◌, ℕ, zero, suc, Bool, true, false, cond, filter, List, [], ◌∷◌, Some, ap, arith, inl, inr, length, map, refl, slice_get, subst, sym, take}
+use Rattle.std.proofs.Common.{◌≡◌, ◌∙◌, ◌<◌, ℕ, zero, suc, Bool, true, false, cond, filter, List, [], ◌∷◌, Some, ap, arith, inl, inr, length, map, refl, slice_get, subst, sym, take}
 use Rattle.std.proofs.lemmas.Bool.{cases_lt}
 use Rattle.std.proofs.lemmas.Option.{same_Some}
 use Rattle.aut_base.proofs.Lists.{none_some}
@@ -41,10 +41,22 @@ module _ {X : Type 0} (p : X → Bool) where
           record { place = 0; at = ap Some same; passes = subst (λ z. p z ≡ true) same e; is_rank = refl }
       by true e (suc j) here rest =
           let later = rest j here in
-          record { place = suc later.place; at = later.at; passes = later.passes; is_rank = ap suc later.is_rank ∙ sym (ap (λ (c : Bool). length (cond c (y ∷ filter p (take later.place ys)) (filter p (take later.place ys)))) e) }
+          record {
+            place = suc later.place;
+            at = later.at;
+            passes = later.passes;
+            is_rank = ap suc later.is_rank ∙ sym
+                (ap (λ (c : Bool). length (cond c (y ∷ filter p (take later.place ys)) (filter p (take later.place ys)))) e);
+          }
       by false e j here rest =
           let later = rest j here in
-          record { place = suc later.place; at = later.at; passes = later.passes; is_rank = later.is_rank ∙ sym (ap (λ (c : Bool). length (cond c (y ∷ filter p (take later.place ys)) (filter p (take later.place ys)))) e) }
+          record {
+            place = suc later.place;
+            at = later.at;
+            passes = later.passes;
+            is_rank = later.is_rank ∙ sym
+                (ap (λ (c : Bool). length (cond c (y ∷ filter p (take later.place ys)) (filter p (take later.place ys)))) e);
+          }
 
   pub kept_at : (xs : List X) (m : ℕ) (x : X) → slice_get xs m ≡ Some x → p x ≡ true → slice_get (filter p xs) (rank xs m) ≡ Some x
   kept_at [] m x at passes = absurd (none_some x at)

@@ -1,5 +1,5 @@
 -- The places of links in rows, and those among all links.
-use Rattle.std.proofs.Common.{◌≡◌, ◌∙◌, ◌⊎◌, ◌==◌, ◌&&◌, ◌||◌, ℕ, Bool, true, false, not, List, Contains, Some, ap, inl, inr, map, refl, slice_get, sym}
+use Rattle.std.proofs.Common.{◌≡◌, ◌∙◌, ◌⊎◌, ◌==◌, ◌&&◌, ◌||◌, ℕ, Bool, true, not, Contains, Some, ap, inl, inr, map, refl, slice_get, sym}
 use Rattle.std.proofs.lemmas.Bool.{cases_eq, eq-eqb, eqb-true, false_from_ne_true}
 use Rattle.std.proofs.lemmas.Option.{same_Some}
 use Rattle.aut_base.proofs.Members.{there_map}
@@ -17,7 +17,8 @@ module _ (a : Core) where
   abbrev x : Automaton
   x = automaton_of a
 
-  differs_is : (p q m n i j : ℕ) (b : Bool) (link other : Link) → slice_get a.links m ≡ Some link → slice_get a.links n ≡ Some other → link.from ≡ p → other.from ≡ q → i ≡ rank (λ (l : Link). l.from == p) a.links m → j ≡ rank (λ (l : Link). l.from == q) a.links n → differs (p, q, b) i j ≡ flag_after b m n
+  differs_is : (p q m n i j : ℕ) (b : Bool) (link other : Link) → slice_get a.links m ≡ Some link → slice_get a.links n ≡ Some other → link.from ≡ p → other.from ≡ q
+      → i ≡ rank (λ (l : Link). l.from == p) a.links m → j ≡ rank (λ (l : Link). l.from == q) a.links n → differs (p, q, b) i j ≡ flag_after b m n
   differs_is p q m n i j b link other is_at other_at from other_from first second = ap (λ c. b || c) (by (cases_eq m n))
     where
       by : (m ≡ n) ⊎ (m ≡ n → ⊥) → (not (p == q) || not (i == j)) ≡ not (m == n)
@@ -31,12 +32,14 @@ module _ (a : Core) where
           by_ends : (p ≡ q) ⊎ (p ≡ q → ⊥) → (not (p == q) || not (i == j)) ≡ true
           by_ends (inr apart) = ap (λ c. not c || not (i == j)) (false_from_ne_true (p == q) (λ e. apart (eqb-true p q e)))
           by_ends (inl ends) =
-              let unlike : (i == j) ≡ true → ⊥ = λ e. other_place (rank_one (λ (l : Link). l.from == p) a.links m n link other is_at other_at (eq-eqb link.from p from) (eq-eqb other.from p (other_from ∙ sym ends))
-                  (sym first ∙ (eqb-true i j e ∙ (second ∙ (λ k. rank (λ (l : Link). l.from == sym ends k) a.links n))))) in
+              let unlike : (i == j) ≡ true → ⊥ = λ e. other_place (rank_one (λ (l : Link). l.from == p) a.links m n link other is_at other_at (eq-eqb link.from p from)
+              (eq-eqb other.from p (other_from ∙ sym ends))
+              (sym first ∙ (eqb-true i j e ∙ (second ∙ (λ k. rank (λ (l : Link). l.from == sym ends k) a.links n))))) in
               ap (λ c. not c || not (i == j)) (eq-eqb p q ends) ∙ ap not (false_from_ne_true (i == j) unlike)
 
   -- the links of both rows can meet
-  pub can_meet : (s : Stage) (at i j : ℕ) (state : Flagged) (link other : Link) → slice_get s.states at ≡ Some state → slice_get (row_of a state.0) i ≡ Some link → slice_get (row_of a state.1) j ≡ Some other → CanMeet a s at link other (differs state i j)
+  pub can_meet : (s : Stage) (at i j : ℕ) (state : Flagged) (link other : Link) → slice_get s.states at ≡ Some state → slice_get (row_of a state.0) i ≡ Some link
+      → slice_get (row_of a state.1) j ≡ Some other → CanMeet a s at link other (differs state i j)
   can_meet s at i j state link other stands first second =
       let one = from_kept (λ (l : Link). l.from == state.0) a.links i link first in
       let two = from_kept (λ (l : Link). l.from == state.1) a.links j other second in
@@ -53,7 +56,8 @@ module _ (a : Core) where
       }
 
   -- what was gone on from has an edge for each two that meet
-  pub spread_edge : (s : Stage) (k m n : ℕ) (f g : TreeEdge) (b : Bool) (w : NameSet) → IsSpread a s k (f.from, g.from, b) → slice_get s.states k ≡ Some (f.from, g.from, b) → slice_get x.edges m ≡ Some f → slice_get x.edges n ≡ Some g → truth (holds_at a.names w) f.label ≡ true → truth (holds_at a.names w) g.label ≡ true
+  pub spread_edge : (s : Stage) (k m n : ℕ) (f g : TreeEdge) (b : Bool) (w : NameSet) → IsSpread a s k (f.from, g.from, b) → slice_get s.states k ≡ Some (f.from, g.from, b)
+      → slice_get x.edges m ≡ Some f → slice_get x.edges n ≡ Some g → truth (holds_at a.names w) f.label ≡ true → truth (holds_at a.names w) g.label ≡ true
       → (e : TreeEdge) × Contains (map (edge_of s.store) s.links) e × GoesBoth x (slice_get s.states) m n f g b e
   spread_edge s k m n f g b w spread stands at other_at first second =
       let one = mapped_from (edge_of a.store) a.links m f at in
@@ -66,11 +70,11 @@ module _ (a : Core) where
       let j = rank (λ (l : Link). l.from == g.from) a.links n in
       let in_row = kept_at (λ (l : Link). l.from == f.from) a.links m link one.at (eq-eqb link.from f.from from) in
       let in_other = kept_at (λ (l : Link). l.from == g.from) a.links n other two.at (eq-eqb other.from g.from other_from) in
-      let found = spread i link in_row j other in_other w (ap (λ (e : TreeEdge). truth (holds_at a.names w) e.label) one.is ∙ first) (ap (λ (e : TreeEdge). truth (holds_at a.names w) e.label) two.is ∙ second) in
+      let found = spread i link in_row j other in_other w (ap (λ (e : TreeEdge). truth (holds_at a.names w) e.label) one.is ∙ first)
+      (ap (λ (e : TreeEdge). truth (holds_at a.names w) e.label) two.is ∙ second) in
       let l = found.0 in
       let joint = found.2 in
-      let flag = differs_is f.from g.from m n i j b link other one.at two.at from other_from refl refl in
-      (
+      let flag = differs_is f.from g.from m n i j b link other one.at two.at from other_from refl refl in (
         edge_of s.store l,
         there_map (edge_of s.store) s.links l found.1,
         record {

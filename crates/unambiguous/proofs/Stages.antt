@@ -1,22 +1,22 @@
 -- A flagged square that grows link by link.
-use Rattle.std.proofs.Common.{◌≡◌, ◌≢◌, ◌∙◌, ◌↔◌, ◌⊎◌, ◌==◌, ◌+◌, ◌-◌, ◌*◌, ◌<◌, ◌≤◌, ◌^◌, ◌&&◌, ◌||◌, ℕ, zero, suc, Bool, true, false, not, cond, filter, IsTrue, List, [], ◌∷◌, ◌++◌, All, AllPairs, Contains, Some, ap, append-nil, append_assoc, arith, get_or, inl, inr, length, length-append, map, refl, slice_get, subst, sym}
-use Rattle.std.proofs.lemmas.Bool.{and_from, and_parts, cases_eq, eq-eqb, eqb-true, false_from_ne_true, false≢true}
+use Rattle.std.proofs.Common.{◌≡◌, ◌≢◌, ◌∙◌, ◌↔◌, ◌==◌, ◌-◌, ◌*◌, ◌<◌, ◌≤◌, ◌^◌, ◌&&◌, ℕ, Bool, true, false, IsTrue, List, []}
+use Rattle.std.proofs.Common.{◌∷◌, ◌++◌, All, AllPairs, Contains, Some, ap, append-nil, append_assoc, arith, get_or, inl, inr, length, map, refl, slice_get, subst, sym}
+use Rattle.std.proofs.lemmas.Bool.{and_from, and_parts, eq-eqb, eqb-true, false≢true}
 use Rattle.std.proofs.lemmas.List.{map-append}
 use Rattle.std.proofs.lemmas.List.Elements.{All-contains, All-map, All-push, All-weaker, Contains-append_left, Contains-get_or, Contains-push}
 use Rattle.std.proofs.lemmas.List.Sorted.{IsNonDecreasingBy-push}
 use Rattle.std.proofs.lemmas.Map.Made.{IsDistinct-from_AllPairs, is_member-Decides, length-le_from_is_member}
-use Rattle.std.proofs.lemmas.Option.{get_or_from_slice_get, same_Some, slice_get_within}
+use Rattle.std.proofs.lemmas.Option.{slice_get_within}
 use Rattle.std.specs.List.Sorted.{IsNonDecreasing}
 use Rattle.std.specs.Cmp.{IsEquivalence, booleans_Decides}
 use Rattle.std.specs.Prelude.{flat_map}
 use Rattle.std.proofs.Math.Bool.{beq}
 use Rattle.aut_base.proofs.CanonicalBelow.{label_of_below}
 use Rattle.aut_base.proofs.Lists.{slice_get-append_left}
-use Rattle.aut_base.proofs.Members.{Tells, each_there, first_there, later_there, none_there, placed_there, there_at, there_cases, there_flat_map, there_map}
+use Rattle.aut_base.proofs.Members.{Tells, each_there, first_there, later_there, none_there, placed_there, there_cases, there_flat_map, there_map}
 use Rattle.aut_base.proofs.Truth.{same_truth}
-use Rattle.aut_base.specs.Automaton.{Automaton, IsEdgeOf, TreeEdge}
+use Rattle.aut_base.specs.Automaton.{Automaton}
 use Rattle.aut_base.specs.Label.{AllBelow, LabelTree, holds_at, truth}
-use Rattle.aut_base.specs.Word.{NameSet}
 use Rattle.aut_base.specs.declared.limit.TheConstants.{MOST_PAIRS}
 use Rattle.aut_core.proofs.Growth.{keeps_none, keeps_on}
 use Rattle.aut_core.proofs.Made.{label_in_below}
@@ -33,9 +33,9 @@ use Rattle.aut_ops.specs.Products.{HasMorePairs, JointEdge, joint_edges, next_pa
 use Rattle.label_guards.specs.Guards.{IsGuardOf, IsNeverMet, truth_in}
 use Rattle.label_guards.specs.Store.{Has, Keeps, Store, label_in}
 use Rattle.label_guards.specs.declared.guard.Guard.{Guard}
-use Rattle.unambiguous.proofs.Ranks.{Kept, from_kept, kept_at, mapped_at, mapped_from, rank, rank_one}
-use Rattle.unambiguous.specs.Square.{GoesBoth, MadeOf, flag_after, flagged_marks}
-use Rattle.unambiguous.specs.inner.Stages.{AreKept, AreOver, CanMeet, Grows, HasFlagged, IsExplored, IsFollowed, IsJoint, IsMet, IsSound, IsSpread, Stage, differs, pair_of, row_of, same_state}
+use Rattle.unambiguous.proofs.Ranks.{mapped_at}
+use Rattle.unambiguous.specs.Square.{MadeOf, flag_after, flagged_marks}
+use Rattle.unambiguous.specs.inner.Stages.{AreKept, AreOver, CanMeet, Grows, HasFlagged, IsJoint, IsMet, IsSound, Stage, pair_of, same_state}
 
 abbrev pub Flagged : Type 0
 Flagged = ℕ × ℕ × Bool
@@ -63,7 +63,8 @@ laws_of same tells = record {
 
 -- items that differ are no more than a list that has them all
 pub no_more : {X : Type 0} (same : X → X → Bool) → Tells same → (xs ys : List X) → AllPairs (λ x y. x ≢ y) xs → ((x : X) → Contains xs x → Contains ys x) → length xs ≤ length ys
-no_more same tells xs ys differ among = length-le_from_is_member (laws_of same tells) xs ys (IsDistinct-from_AllPairs tells xs differ) (λ q there. (is_member-Decides tells ys q).1 (among q ((is_member-Decides tells xs q).0 there)))
+no_more same tells xs ys differ among = length-le_from_is_member (laws_of same tells) xs ys (IsDistinct-from_AllPairs tells xs differ)
+    (λ q there. (is_member-Decides tells ys q).1 (among q ((is_member-Decides tells xs q).0 there)))
 
 -- the pair with each flag
 abbrev with_flags : ℕ × ℕ → List Flagged
@@ -89,24 +90,28 @@ new_differ : {X : Type 0} (same : X → X → Bool) (tells : Tells same) (xs : L
 new_differ {X = X} same tells xs x differ = added_differ same tells xs (x ∷ []) differ
 
 pub new_each : {X : Type 0} (same : X → X → Bool) (tells : Tells same) (P : X → Type 0) (xs : List X) (x : X) → All P xs → P x → All P (with_new same xs x)
-new_each same tells P xs x all one = added_each same tells P xs (x ∷ []) all (λ k d within. elim (there_cases x [] (get_or (x ∷ []) k d) (Contains-get_or (x ∷ []) k d within)) [ inl is ↦ subst P is one | inr none ↦ absurd (none_there (get_or (x ∷ []) k d) none) ])
+new_each same tells P xs x all one = added_each same tells P xs (x ∷ []) all
+    (λ k d within. elim (there_cases x [] (get_or (x ∷ []) k d) (Contains-get_or (x ∷ []) k d within)) [ inl is ↦ subst P is one | inr none ↦ absurd (none_there (get_or (x ∷ []) k d) none) ])
 
 pub new_kept : {X : Type 0} (same : X → X → Bool) (tells : Tells same) (xs : List X) (x y : X) → Contains xs y → Contains (with_new same xs x) y
 new_kept same tells xs x y there = added_kept same tells xs (x ∷ []) y there
 
 -- one flagged pair more
-pub over_more : (pairs : List (ℕ × ℕ)) (states : List Flagged) (s : Flagged) → AreOver pairs states → length (with_new same_pair pairs (pair_of s)) ≤ MOST_PAIRS → AreOver (with_new same_pair pairs (pair_of s)) (with_new same_state states s)
+pub over_more : (pairs : List (ℕ × ℕ)) (states : List Flagged) (s : Flagged) → AreOver pairs states → length (with_new same_pair pairs (pair_of s)) ≤ MOST_PAIRS
+    → AreOver (with_new same_pair pairs (pair_of s)) (with_new same_state states s)
 over_more pairs states s over few = record {
   states_differ = new_differ same_state state_tells states s over.states_differ;
   pairs_differ = new_differ same_pair pair_tells pairs (pair_of s) over.pairs_differ;
   covered = new_each same_state state_tells (λ (t : Flagged). Contains (with_new same_pair pairs (pair_of s)) (pair_of t)) states s
-      (All-weaker (λ (t : Flagged). Contains pairs (pair_of t)) (λ (t : Flagged). Contains (with_new same_pair pairs (pair_of s)) (pair_of t)) (λ t there. new_kept same_pair pair_tells pairs (pair_of s) (pair_of t) there) states over.covered)
+      (All-weaker (λ (t : Flagged). Contains pairs (pair_of t)) (λ (t : Flagged). Contains (with_new same_pair pairs (pair_of s)) (pair_of t))
+      (λ t there. new_kept same_pair pair_tells pairs (pair_of s) (pair_of t) there) states over.covered)
       (with_new_there same_pair pair_tells pairs (pair_of s));
   few = few;
 }
 
 -- so its place fits
-pub place_fits : (pairs after : List (ℕ × ℕ)) (states later : List Flagged) (s : Flagged) (place : ℕ) → AreOver pairs states → after ≡ with_new same_pair pairs (pair_of s) → length after ≤ MOST_PAIRS → later ≡ with_new same_state states s → slice_get later place ≡ Some s → place < 2 ^ 32
+pub place_fits : (pairs after : List (ℕ × ℕ)) (states later : List Flagged) (s : Flagged) (place : ℕ) → AreOver pairs states → after ≡ with_new same_pair pairs (pair_of s)
+    → length after ≤ MOST_PAIRS → later ≡ with_new same_state states s → slice_get later place ≡ Some s → place < 2 ^ 32
 place_fits pairs after states later s place over is few is_later at =
     let all : AreOver (with_new same_pair pairs (pair_of s)) (with_new same_state states s) = over_more pairs states s over (subst (λ (ps : List (ℕ × ℕ)). length ps ≤ MOST_PAIRS) is few) in
     let within = slice_get_within later place s at in
@@ -137,7 +142,8 @@ grows_on r s t one two = record {
 }
 
 -- a link means what it meant
-made_on : (x : Automaton) (s t : Stage) (l : Link) → Keeps s.store t.store → AreKept s.states t.states → Has s.store l.guard → MadeOf x (slice_get s.states) (edge_of s.store l) → MadeOf x (slice_get t.states) (edge_of t.store l)
+made_on : (x : Automaton) (s t : Stage) (l : Link) → Keeps s.store t.store → AreKept s.states t.states → Has s.store l.guard → MadeOf x (slice_get s.states) (edge_of s.store l)
+    → MadeOf x (slice_get t.states) (edge_of t.store l)
 made_on x s t l keeps states has made = record {
   place = made.place;
   other_place = made.other_place;
@@ -154,12 +160,12 @@ made_on x s t l keeps states has made = record {
   };
 }
 
-pub met_on : (a : Core) (s t : Stage) (at : ℕ) (link other : Link) (differ : Bool) → Grows s t → All (λ l. Has s.store l.guard) s.links → IsMet a s at link other differ → IsMet a t at link other differ
+pub met_on : (a : Core) (s t : Stage) (at : ℕ) (link other : Link) (differ : Bool) → Grows s t → All (λ l. Has s.store l.guard) s.links → IsMet a s at link other differ
+    → IsMet a t at link other differ
 met_on a s t at link other differ grows has met x first second =
     let found = met x first second in
     let l = found.0 in
-    let joint = found.2 in
-    (
+    let joint = found.2 in (
       l,
       subst (λ (ls : List Link). Contains ls l) (sym grows.links.1) (Contains-append_left s.links grows.links.0 l found.1),
       record {
@@ -170,9 +176,11 @@ met_on a s t at link other differ grows has met x first second =
       },
     )
 
-made_all : (x : Automaton) (s t : Stage) → Keeps s.store t.store → AreKept s.states t.states → All (λ l. Has s.store l.guard) s.links → All (λ l. MadeOf x (slice_get s.states) (edge_of s.store l)) s.links → All (λ l. MadeOf x (slice_get t.states) (edge_of t.store l)) s.links
+made_all : (x : Automaton) (s t : Stage) → Keeps s.store t.store → AreKept s.states t.states → All (λ l. Has s.store l.guard) s.links
+    → All (λ l. MadeOf x (slice_get s.states) (edge_of s.store l)) s.links → All (λ l. MadeOf x (slice_get t.states) (edge_of t.store l)) s.links
 made_all x s t keeps kept has made = each_there (λ (l : Link). MadeOf x (slice_get t.states) (edge_of t.store l)) s.links (λ l there.
-    made_on x s t l keeps kept (All-contains (λ (k : Link). Has s.store k.guard) s.links l has there) (All-contains (λ (k : Link). MadeOf x (slice_get s.states) (edge_of s.store k)) s.links l made there))
+    made_on x s t l keeps kept (All-contains (λ (k : Link). Has s.store k.guard) s.links l has there)
+    (All-contains (λ (k : Link). MadeOf x (slice_get s.states) (edge_of s.store k)) s.links l made there))
 
 module _ (a : Core) (core : IsCore a) where
   abbrev x : Automaton
@@ -222,9 +230,11 @@ module _ (a : Core) (core : IsCore a) where
       record {
         keeps = keeps_on sound.keeps keeps;
         over = over_of s t state place is sound.over;
-        flagged = subst (λ (ps : List (ℕ × ℕ)). All (HasFlagged t.states) ps) (sym is.pairs) (subst (λ (ss : List Flagged). All (HasFlagged ss) (with_new same_pair s.pairs (pair_of state))) (sym is.states) (flagged_more s.pairs s.states state sound.flagged));
+        flagged = subst (λ (ps : List (ℕ × ℕ)). All (HasFlagged t.states) ps) (sym is.pairs)
+            (subst (λ (ss : List Flagged). All (HasFlagged ss) (with_new same_pair s.pairs (pair_of state))) (sym is.states) (flagged_more s.pairs s.states state sound.flagged));
         reached = subst (All Reached) (sym is.pairs) (new_each same_pair pair_tells Reached s.pairs (pair_of state) sound.reached reached);
-        has = subst (All (λ (l : Link). Has t.store l.guard)) (sym is.links) (All-weaker (λ (l : Link). Has s.store l.guard) (λ (l : Link). Has t.store l.guard) (λ l h. keeps.has l.guard h) s.links sound.has);
+        has = subst (All (λ (l : Link). Has t.store l.guard)) (sym is.links)
+            (All-weaker (λ (l : Link). Has s.store l.guard) (λ (l : Link). Has t.store l.guard) (λ l h. keeps.has l.guard h) s.links sound.has);
         made = subst (All (λ (l : Link). MadeOf x (slice_get t.states) (edge_of t.store l))) (sym is.links) (made_all x s t keeps (numbered_kept s t state place is) sound.has sound.made);
         in_order = subst (λ (ls : List Link). IsNonDecreasing (map (λ (l : Link). l.from) ls)) (sym is.links) sound.in_order;
         until = subst (All (λ (l : Link). l.from ≤ at)) (sym is.links) sound.until;
@@ -247,12 +257,14 @@ module _ (a : Core) (core : IsCore a) where
   }
 
   -- one link more
-  pub pushed_sound : (s t : Stage) (at : ℕ) (l : Link) → IsSound a s at → t.store ≡ s.store → t.pairs ≡ s.pairs → t.states ≡ s.states → t.links ≡ s.links ++ l ∷ [] → Has s.store l.guard → MadeOf x (slice_get s.states) (edge_of s.store l) → l.from ≡ at → IsSound a t at
+  pub pushed_sound : (s t : Stage) (at : ℕ) (l : Link) → IsSound a s at → t.store ≡ s.store → t.pairs ≡ s.pairs → t.states ≡ s.states → t.links ≡ s.links ++ l ∷ [] → Has s.store l.guard
+      → MadeOf x (slice_get s.states) (edge_of s.store l) → l.from ≡ at → IsSound a t at
   pushed_sound s t at l sound store pairs states links has made from =
       let now : Stage = record { store = s.store; pairs = s.pairs; states = s.states; links = s.links ++ l ∷ [] } in
       let same : now ≡ t = λ i. record { store = sym store i; pairs = sym pairs i; states = sym states i; links = sym links i } in
       let froms : map (λ (k : Link). k.from) (s.links ++ l ∷ []) ≡ map (λ (k : Link). k.from) s.links ++ l.from ∷ [] = map-append (λ (k : Link). k.from) s.links (l ∷ []) in
-      let low : All (λ n. n ≤ l.from) (map (λ (k : Link). k.from) s.links) = All-map (λ n. n ≤ l.from) (λ (k : Link). k.from) s.links (All-weaker (λ (k : Link). k.from ≤ at) (λ (k : Link). k.from ≤ l.from) (λ k h. omega (arith, h, from)) s.links sound.until) in
+      let low : All (λ n. n ≤ l.from) (map (λ (k : Link). k.from) s.links) = All-map (λ n. n ≤ l.from) (λ (k : Link). k.from) s.links
+      (All-weaker (λ (k : Link). k.from ≤ at) (λ (k : Link). k.from ≤ l.from) (λ k h. omega (arith, h, from)) s.links sound.until) in
       subst (λ (r : Stage). IsSound a r at) same (record {
         keeps = sound.keeps;
         over = sound.over;
@@ -260,7 +272,8 @@ module _ (a : Core) (core : IsCore a) where
         reached = sound.reached;
         has = All-push (λ (k : Link). Has s.store k.guard) s.links l sound.has has;
         made = All-push (λ (k : Link). MadeOf x (slice_get s.states) (edge_of s.store k)) s.links l sound.made made;
-        in_order = subst IsNonDecreasing (sym froms) (IsNonDecreasingBy-push (λ n. n) (map (λ (k : Link). k.from) s.links) l.from sound.in_order (λ d some. low (length (map (λ (k : Link). k.from) s.links) - 1) d (omega (arith, some))));
+        in_order = subst IsNonDecreasing (sym froms) (IsNonDecreasingBy-push (λ n. n) (map (λ (k : Link). k.from) s.links) l.from sound.in_order
+            (λ d some. low (length (map (λ (k : Link). k.from) s.links) - 1) d (omega (arith, some))));
         until = All-push (λ (k : Link). k.from ≤ at) s.links l sound.until (omega (arith, from));
       })
 
@@ -276,7 +289,8 @@ module _ (a : Core) (core : IsCore a) where
   below m l at = subst (λ n. AllBelow n (label_in a.store l.guard)) core.parts.store_names (label_in_below a.store l.guard)
 
   -- whether no letter meets both, as the guard of both in a larger store says
-  pub never_both : (s t : Store) (m n : ℕ) (link other : Link) (guard : Guard) (b : Bool) → Keeps a.store s → Keeps s t → slice_get a.links m ≡ Some link → slice_get a.links n ≡ Some other → IsGuardOf t (λ on. truth_in s link.guard on && truth_in s other.guard on) guard → (IsTrue b ↔ IsNeverMet t guard) → is_never (length a.names) (joint_label link other) ≡ b
+  pub never_both : (s t : Store) (m n : ℕ) (link other : Link) (guard : Guard) (b : Bool) → Keeps a.store s → Keeps s t → slice_get a.links m ≡ Some link → slice_get a.links n ≡ Some other
+      → IsGuardOf t (λ on. truth_in s link.guard on && truth_in s other.guard on) guard → (IsTrue b ↔ IsNeverMet t guard) → is_never (length a.names) (joint_label link other) ≡ b
   never_both s t m n link other guard b first keeps at other_at is says =
       let count : s.names ≡ length a.names = first.names ∙ core.parts.store_names in
       let one : label_in s link.guard ≡ label_in a.store link.guard = first.labels link.guard (has_of m link at) in
@@ -284,34 +298,41 @@ module _ (a : Core) (core : IsCore a) where
       (λ i. is_never (sym count i) (both_labels (sym count i) (sym one i) (sym two i))) ∙ never_met s t link.guard other.guard guard b keeps is says
 
   -- no letter meets both
-  pub never_joint : (s : Stage) (at m n : ℕ) (link other : Link) (differ : Bool) → slice_get a.links m ≡ Some link → slice_get a.links n ≡ Some other → is_never (length a.names) (joint_label link other) ≡ true → IsMet a s at link other differ
+  pub never_joint : (s : Stage) (at m n : ℕ) (link other : Link) (differ : Bool) → slice_get a.links m ≡ Some link → slice_get a.links n ≡ Some other
+      → is_never (length a.names) (joint_label link other) ≡ true → IsMet a s at link other differ
   never_joint s at m n link other differ is_at other_at never w first second =
       let holds = holds_at a.names w in
       let fails = never_false (length a.names) holds (joint_label link other) (label_of_below (length a.names) _) never in
-      absurd (false≢true (sym fails ∙ (truth_both (length a.names) holds (label_in a.store link.guard) (label_in a.store other.guard) (below m link is_at) (below n other other_at) ∙ and_from (truth holds (label_in a.store link.guard)) (truth holds (label_in a.store other.guard)) first second)))
+      absurd (false≢true (sym fails ∙ (truth_both (length a.names) holds (label_in a.store link.guard) (label_in a.store other.guard) (below m link is_at) (below n other other_at) ∙ and_from
+      (truth holds (label_in a.store link.guard)) (truth holds (label_in a.store other.guard)) first second)))
 
   edge_there : (m : ℕ) (l : Link) → slice_get a.links m ≡ Some l → Contains x.edges (edge_of a.store l)
   edge_there m l at = there_map (edge_of a.store) a.links l (placed_there a.links m l at)
 
   -- the pair behind both is reached
-  pub met_reached : (s : Stage) (at : ℕ) (link other : Link) (differ : Bool) → IsSound a s at → CanMeet a s at link other differ → is_never (length a.names) (joint_label link other) ≡ false → Reached (link.to, other.to)
+  pub met_reached : (s : Stage) (at : ℕ) (link other : Link) (differ : Bool) → IsSound a s at → CanMeet a s at link other differ → is_never (length a.names) (joint_label link other) ≡ false
+      → Reached (link.to, other.to)
   met_reached s at link other differ sound can some =
       let from = state_reached s at at (link.from, other.from, can.flag) sound can.stands in
       reached_next (start_pairs x x) (next_pairs x x) (link.from, other.from) (link.to, other.to) from
-          (there_map (λ (j : JointEdge). j.to) (joint_edges x x (link.from, other.from)) (joined (length a.names) a.sets (edge_of a.store link) (edge_of a.store other))
-          (there_joint x x (link.from, other.from) (edge_of a.store link) (edge_of a.store other) (edge_there can.place link can.is_at) (edge_there can.other_place other can.other_at) refl refl some))
+      (there_map (λ (j : JointEdge). j.to) (joint_edges x x (link.from, other.from)) (joined (length a.names) a.sets (edge_of a.store link) (edge_of a.store other))
+      (there_joint x x (link.from, other.from) (edge_of a.store link) (edge_of a.store other) (edge_there can.place link can.is_at) (edge_there can.other_place other can.other_at) refl refl some))
 
   -- the link that was made goes both
-  pub made_joint : (s t : Stage) (at : ℕ) (link other : Link) (differ : Bool) (l : Link) → IsSound a s at → CanMeet a s at link other differ → AreKept s.states t.states → IsGuardOf t.store (λ on. truth_in s.store link.guard on && truth_in s.store other.guard on) l.guard → l.from ≡ at → slice_get t.states l.to ≡ Some (link.to, other.to, differ) → l.marks ≡ flagged_marks a.sets link.marks other.marks differ → IsJoint a t at link other differ l
+  pub made_joint : (s t : Stage) (at : ℕ) (link other : Link) (differ : Bool) (l : Link) → IsSound a s at → CanMeet a s at link other differ → AreKept s.states t.states
+      → IsGuardOf t.store (λ on. truth_in s.store link.guard on && truth_in s.store other.guard on) l.guard → l.from ≡ at → slice_get t.states l.to ≡ Some (link.to, other.to, differ) → l.marks ≡
+      flagged_marks a.sets link.marks other.marks differ → IsJoint a t at link other differ l
   made_joint s t at link other differ l sound can kept is from to marks = record {
     from = from;
     to = to;
     label = λ w. is.truth (holds_at a.names w)
-        ∙ (λ i. truth (holds_at a.names w) (sound.keeps.labels link.guard (has_of can.place link can.is_at) i) && truth (holds_at a.names w) (sound.keeps.labels other.guard (has_of can.other_place other can.other_at) i));
+        ∙ (λ i. truth (holds_at a.names w) (sound.keeps.labels link.guard (has_of can.place link can.is_at) i) && truth (holds_at a.names w)
+        (sound.keeps.labels other.guard (has_of can.other_place other can.other_at) i));
     marks = marks;
   }
 
-  pub made_of_joint : (s t : Stage) (at : ℕ) (link other : Link) (differ : Bool) (l : Link) → CanMeet a s at link other differ → AreKept s.states t.states → IsJoint a t at link other differ l → MadeOf x (slice_get t.states) (edge_of t.store l)
+  pub made_of_joint : (s t : Stage) (at : ℕ) (link other : Link) (differ : Bool) (l : Link) → CanMeet a s at link other differ → AreKept s.states t.states → IsJoint a t at link other differ l
+      → MadeOf x (slice_get t.states) (edge_of t.store l)
   made_of_joint s t at link other differ l can kept joint = record {
     place = can.place;
     other_place = can.other_place;
@@ -332,7 +353,8 @@ module _ (a : Core) (core : IsCore a) where
   marks_of m l sets is at = subst (λ n. All (λ mark. mark < n) l.marks) (sym is) (All-contains (IsLinkOf a) a.links l core.parts.links (placed_there a.links m l at)).marks
 
   -- the marks of both are marks of the automaton
-  pub meet_marks : (s : Stage) (at : ℕ) (link other : Link) (differ : Bool) (sets : ℕ) → CanMeet a s at link other differ → sets ≡ a.sets → All (λ mark. mark < sets) link.marks × All (λ mark. mark < sets) other.marks
+  pub meet_marks : (s : Stage) (at : ℕ) (link other : Link) (differ : Bool) (sets : ℕ) → CanMeet a s at link other differ → sets ≡ a.sets
+      → All (λ mark. mark < sets) link.marks × All (λ mark. mark < sets) other.marks
   meet_marks s at link other differ sets can is = (marks_of can.place link sets is can.is_at, marks_of can.other_place other sets is can.other_at)
 
   -- what becomes of a stage where two links meet
@@ -347,21 +369,27 @@ module _ (a : Core) (core : IsCore a) where
     pub guard_is : IsGuardOf store (λ on. truth_in s.store link.guard on && truth_in s.store other.guard on) guard
     pub never : IsTrue b ↔ IsNeverMet store guard
 
-  never_is : (s : Stage) (store : Store) (at : ℕ) (link other : Link) (differ : Bool) (guard : Guard) (b : Bool) → IsSound a s at → CanMeet a s at link other differ → IsBoth s store link other guard b → is_never (length a.names) (joint_label link other) ≡ b
-  never_is s store at link other differ guard b sound can both = never_both s.store store can.place can.other_place link other guard b sound.keeps both.keeps can.is_at can.other_at both.guard_is both.never
+  never_is : (s : Stage) (store : Store) (at : ℕ) (link other : Link) (differ : Bool) (guard : Guard) (b : Bool) → IsSound a s at → CanMeet a s at link other differ
+      → IsBoth s store link other guard b → is_never (length a.names) (joint_label link other) ≡ b
+  never_is s store at link other differ guard b sound can both = never_both s.store store can.place can.other_place link other guard b sound.keeps both.keeps can.is_at can.other_at both.guard_is
+      both.never
 
-  pub none_met : (s : Stage) (store : Store) (at : ℕ) (link other : Link) (differ : Bool) (guard : Guard) (b : Bool) → IsSound a s at → CanMeet a s at link other differ → IsBoth s store link other guard b → b ≡ true → IsMeeting s (with_store s store) at link other differ
+  pub none_met : (s : Stage) (store : Store) (at : ℕ) (link other : Link) (differ : Bool) (guard : Guard) (b : Bool) → IsSound a s at → CanMeet a s at link other differ
+      → IsBoth s store link other guard b → b ≡ true → IsMeeting s (with_store s store) at link other differ
   none_met s store at link other differ guard b sound can both is = record {
     sound = store_sound s store at sound both.keeps;
     grows = record { keeps = both.keeps; states = ([], sym (append-nil s.states)); links = ([], sym (append-nil s.links)) };
     met = never_joint (with_store s store) at can.place can.other_place link other differ can.is_at can.other_at (never_is s store at link other differ guard b sound can both ∙ is);
   }
 
-  pub some_reached : (s : Stage) (store : Store) (at : ℕ) (link other : Link) (differ : Bool) (guard : Guard) (b : Bool) → IsSound a s at → CanMeet a s at link other differ → IsBoth s store link other guard b → b ≡ false → Reached (link.to, other.to)
+  pub some_reached : (s : Stage) (store : Store) (at : ℕ) (link other : Link) (differ : Bool) (guard : Guard) (b : Bool) → IsSound a s at → CanMeet a s at link other differ
+      → IsBoth s store link other guard b → b ≡ false → Reached (link.to, other.to)
   some_reached s store at link other differ guard b sound can both is = met_reached s at link other differ sound can (never_is s store at link other differ guard b sound can both ∙ is)
 
-  pub one_met : (s : Stage) (store : Store) (t u : Stage) (at : ℕ) (link other : Link) (differ : Bool) (l : Link) (b : Bool) → IsSound a s at → CanMeet a s at link other differ → IsBoth s store link other l.guard b → b ≡ false → IsNumbered (with_store s store) t (link.to, other.to, differ) l.to
-      → u.store ≡ t.store → u.pairs ≡ t.pairs → u.states ≡ t.states → u.links ≡ t.links ++ l ∷ [] → l.from ≡ at → l.marks ≡ flagged_marks a.sets link.marks other.marks differ → IsMeeting s u at link other differ
+  pub one_met : (s : Stage) (store : Store) (t u : Stage) (at : ℕ) (link other : Link) (differ : Bool) (l : Link) (b : Bool) → IsSound a s at → CanMeet a s at link other differ
+      → IsBoth s store link other l.guard b → b ≡ false → IsNumbered (with_store s store) t (link.to, other.to, differ) l.to
+      → u.store ≡ t.store → u.pairs ≡ t.pairs → u.states ≡ t.states → u.links ≡ t.links ++ l ∷ [] → l.from ≡ at → l.marks ≡ flagged_marks a.sets link.marks other.marks differ → IsMeeting s u at
+      link other differ
   one_met s store t u at link other differ l b sound can both is numbered u_store u_pairs u_states u_links from marks =
       let state : Flagged = (link.to, other.to, differ) in
       let reached = some_reached s store at link other differ l.guard b sound can both is in

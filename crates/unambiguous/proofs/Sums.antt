@@ -7,7 +7,8 @@ use Rattle.acc_forms.specs.Shift.{shift}
 use Rattle.aut_base.specs.Formula.{FormulaTree, Inf, SetsBelow}
 
 -- the marks of both are below the fresh set
-pub joint_below : (sets : ℕ) (firsts seconds all : List ℕ) → All (λ mark. mark < sets) firsts → All (λ mark. mark < sets) seconds → all ≡ firsts ++ map (λ mark. mark + sets) seconds → All (λ mark. mark < sets + sets) all
+pub joint_below : (sets : ℕ) (firsts seconds all : List ℕ) → All (λ mark. mark < sets) firsts → All (λ mark. mark < sets) seconds → all ≡ firsts ++ map (λ mark. mark + sets) seconds
+    → All (λ mark. mark < sets + sets) all
 joint_below sets firsts seconds all one two is =
     let P : ℕ → Type 0 = λ mark. mark < sets + sets in
     subst (All P) (sym is) (All-append P firsts (map (λ mark. mark + sets) seconds) (All-weaker (λ mark. mark < sets) P (λ mark low. omega (arith, low)) firsts one)

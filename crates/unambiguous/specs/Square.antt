@@ -1,5 +1,5 @@
 -- The square of an automaton with a flag, which is set once the places of the two edges differ.
-use Rattle.std.specs.Prelude.{◌≡◌, ◌≢◌, ℕ, ◌+◌, ◌==◌, Bool, true, false, not, ◌&&◌, ◌||◌, List, [], ◌∷◌, ◌++◌, map, length, Contains, Option, Some, if◌then◌else◌, slice_get}
+use Rattle.std.specs.Prelude.{◌≡◌, ◌≢◌, ℕ, ◌+◌, ◌==◌, Bool, true, false, not, ◌&&◌, ◌||◌, List, [], ◌∷◌, ◌++◌, map, Contains, Option, Some, if◌then◌else◌, slice_get}
 use Rattle.aut_base.specs.Automaton.{TreeEdge, Automaton}
 use Rattle.aut_base.specs.Formula.{Inf, met}
 use Rattle.aut_base.specs.Label.{truth, holds_at}
@@ -41,7 +41,8 @@ pub record IsSquare (a s : Automaton) (triple : ℕ → Option (ℕ × ℕ × Bo
   pub from_start : (k : ℕ) → Contains s.starts k → (p : ℕ) × (q : ℕ) × Contains a.starts p × Contains a.starts q × (triple k ≡ Some (p, q, false))
   pub there_start : (p q : ℕ) → Contains a.starts p → Contains a.starts q → (k : ℕ) × Contains s.starts k × (triple k ≡ Some (p, q, false))
   pub from_edge : (e : TreeEdge) → Contains s.edges e → MadeOf a triple e
-  pub there_edge : (k m n : ℕ) (f g : TreeEdge) (b : Bool) (x : NameSet) → triple k ≡ Some (f.from, g.from, b) → slice_get a.edges m ≡ Some f → slice_get a.edges n ≡ Some g → truth (holds_at a.names x) f.label ≡ true → truth (holds_at a.names x) g.label ≡ true → (e : TreeEdge) × Contains s.edges e × GoesBoth a triple m n f g b e
+  pub there_edge : (k m n : ℕ) (f g : TreeEdge) (b : Bool) (x : NameSet) → triple k ≡ Some (f.from, g.from, b) → slice_get a.edges m ≡ Some f → slice_get a.edges n ≡ Some g
+      → truth (holds_at a.names x) f.label ≡ true → truth (holds_at a.names x) g.label ≡ true → (e : TreeEdge) × Contains s.edges e × GoesBoth a triple m n f g b e
   pub formula : (cycle : List (List ℕ)) → met cycle s.formula ≡ (met cycle a.formula && (met cycle (shift a.sets a.formula) && met cycle (Inf (a.sets + a.sets) false)))
 
 -- `s` is a flagged square of `a`, for some reading of its states.

@@ -1,7 +1,8 @@
 //! Automata as they are written, and what is said of them.
 
 use aut_base::{
-    Description, Edge, Edges, Formula, Formulas, Label, MOST_NAMES, Marks, Memory, Names, Numbers, Text,
+    Description, Edge, Edges, Formula, Formulas, Label, MOST_NAMES, Marks, Memory, Names, Numbers,
+    Text,
 };
 use aut_core::Automaton;
 use std::alloc::Global;
@@ -55,7 +56,7 @@ impl Condition {
 
 /// What was said of an automaton.
 #[derive(Clone, Copy, Debug, PartialEq, Eq)]
-pub(crate) enum Answer {
+pub(crate) enum Verdict {
     Unambiguous,
     Ambiguous,
     Pairs,
@@ -64,13 +65,13 @@ pub(crate) enum Answer {
 }
 
 /// What is said of the automaton of these edges, whose first states are starts.
-pub(crate) fn answer(
+pub(crate) fn verdict_on(
     alloc: Global,
     states: u32,
     starts: u32,
     edges: &[SmallEdge],
     condition: Condition,
-) -> Result<Answer, Memory> {
+) -> Result<Verdict, Memory> {
     let mut described = Edges::new(alloc);
     for edge in edges {
         described.push(described_edge(alloc, edge)?)?;
@@ -95,18 +96,18 @@ pub(crate) fn answer(
 }
 
 /// What is said of the automaton of the description.
-fn said_of(alloc: Global, d: &Description) -> Result<Answer, Memory> {
+fn said_of(alloc: Global, d: &Description) -> Result<Verdict, Memory> {
     if !d.is_well_formed() || d.names.len() > MOST_NAMES as usize {
-        return Ok(Answer::Nothing);
+        return Ok(Verdict::Nothing);
     }
     let automaton = Automaton::from_description(alloc, d)?;
     if automaton.sets() > 2 {
-        return Ok(Answer::Nothing);
+        return Ok(Verdict::Nothing);
     }
     match is_unambiguous(alloc, &automaton) {
-        Ok(true) => Ok(Answer::Unambiguous),
-        Ok(false) => Ok(Answer::Ambiguous),
-        Err(SquareFault::Pairs) => Ok(Answer::Pairs),
+        Ok(true) => Ok(Verdict::Unambiguous),
+        Ok(false) => Ok(Verdict::Ambiguous),
+        Err(SquareFault::Pairs) => Ok(Verdict::Pairs),
         Err(SquareFault::Memory) => Err(Memory),
     }
 }

@@ -1,6 +1,6 @@
 //! Automata of which it was worked out by hand whether they are unambiguous.
 
-use crate::build::{Answer, Ask, Condition, SmallEdge, answer};
+use crate::build::{Ask, Condition, SmallEdge, Verdict, verdict_on};
 use aut_base::Memory;
 use std::alloc::Global;
 
@@ -14,7 +14,7 @@ pub(crate) struct Row {
     starts: u32,
     edges: &'static [Written],
     condition: Condition,
-    wanted: Answer,
+    wanted: Verdict,
 }
 
 pub(crate) const ROWS: [Row; 11] = [
@@ -24,7 +24,7 @@ pub(crate) const ROWS: [Row; 11] = [
         starts: 1,
         edges: &[(0, Ask::Holds, 0, 1), (0, Ask::Fails, 0, 0)],
         condition: Condition::First,
-        wanted: Answer::Unambiguous,
+        wanted: Verdict::Unambiguous,
     },
     // From some letter on always `a`: the run may go over at any of these.
     Row {
@@ -36,7 +36,7 @@ pub(crate) const ROWS: [Row; 11] = [
             (1, Ask::Holds, 1, 1),
         ],
         condition: Condition::First,
-        wanted: Answer::Ambiguous,
+        wanted: Verdict::Ambiguous,
     },
     // Always `a`.
     Row {
@@ -44,7 +44,7 @@ pub(crate) const ROWS: [Row; 11] = [
         starts: 1,
         edges: &[(0, Ask::Holds, 0, 0)],
         condition: Condition::Always,
-        wanted: Answer::Unambiguous,
+        wanted: Verdict::Unambiguous,
     },
     // The same with its edge twice, which states alone don't tell.
     Row {
@@ -52,7 +52,7 @@ pub(crate) const ROWS: [Row; 11] = [
         starts: 1,
         edges: &[(0, Ask::Holds, 0, 0), (0, Ask::Holds, 0, 0)],
         condition: Condition::Always,
-        wanted: Answer::Ambiguous,
+        wanted: Verdict::Ambiguous,
     },
     // No state.
     Row {
@@ -60,7 +60,7 @@ pub(crate) const ROWS: [Row; 11] = [
         starts: 0,
         edges: &[],
         condition: Condition::Always,
-        wanted: Answer::Unambiguous,
+        wanted: Verdict::Unambiguous,
     },
     // Not deterministic, but the second edge leads where no run goes on.
     Row {
@@ -68,7 +68,7 @@ pub(crate) const ROWS: [Row; 11] = [
         starts: 1,
         edges: &[(0, Ask::Holds, 0, 1), (0, Ask::Holds, 1, 0)],
         condition: Condition::First,
-        wanted: Answer::Unambiguous,
+        wanted: Verdict::Unambiguous,
     },
     // Two starts that accept one word.
     Row {
@@ -76,7 +76,7 @@ pub(crate) const ROWS: [Row; 11] = [
         starts: 2,
         edges: &[(0, Ask::Any, 0, 0), (1, Ask::Any, 1, 0)],
         condition: Condition::Always,
-        wanted: Answer::Ambiguous,
+        wanted: Verdict::Ambiguous,
     },
     // Two starts that accept no word in common.
     Row {
@@ -84,7 +84,7 @@ pub(crate) const ROWS: [Row; 11] = [
         starts: 2,
         edges: &[(0, Ask::Holds, 0, 0), (1, Ask::Fails, 1, 0)],
         condition: Condition::Always,
-        wanted: Answer::Unambiguous,
+        wanted: Verdict::Unambiguous,
     },
     // Two ways for each word, one of which never meets the condition.
     Row {
@@ -97,7 +97,7 @@ pub(crate) const ROWS: [Row; 11] = [
             (2, Ask::Any, 2, 2),
         ],
         condition: Condition::First,
-        wanted: Answer::Unambiguous,
+        wanted: Verdict::Unambiguous,
     },
     // Two edges back, in one set each: a run may go along the second some times.
     Row {
@@ -105,7 +105,7 @@ pub(crate) const ROWS: [Row; 11] = [
         starts: 1,
         edges: &[(0, Ask::Any, 0, 1), (0, Ask::Any, 0, 2)],
         condition: Condition::FirstAlone,
-        wanted: Answer::Ambiguous,
+        wanted: Verdict::Ambiguous,
     },
     // The runs differ once, at the first letter, and then go along the same edge.
     Row {
@@ -117,7 +117,7 @@ pub(crate) const ROWS: [Row; 11] = [
             (1, Ask::Holds, 1, 1),
         ],
         condition: Condition::First,
-        wanted: Answer::Ambiguous,
+        wanted: Verdict::Ambiguous,
     },
 ];
 
@@ -126,7 +126,7 @@ pub(crate) fn different(alloc: Global) -> Result<u32, Memory> {
     let mut different = 0u32;
     for row in ROWS.iter() {
         let edges = read(alloc, row.edges)?;
-        let said = answer(alloc, row.states, row.starts, &edges, row.condition)?;
+        let said = verdict_on(alloc, row.states, row.starts, &edges, row.condition)?;
         if said != row.wanted {
             different = different.saturating_add(1);
         }

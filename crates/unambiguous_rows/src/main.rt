@@ -36,10 +36,13 @@ fn main(rt: HostRuntime) -> Result<(), Stop> {
     let different = by_hand::different(alloc)?;
     println!(rt; "rows={rows} different={different}")?;
     for states in ring::SIZES.iter() {
-        let answer = ring::answer(alloc, *states)?;
-        println!(rt; "ring={states} {answer:?}")?;
+        let verdict = ring::verdict_on(alloc, *states)?;
+        println!(rt; "ring={states} {verdict:?}")?;
     }
     let found = small::compared(alloc)?;
-    println!(rt; "automata={} ambiguous={} different={}", found.automata, found.ambiguous, found.different)?;
+    println!(rt;
+        "automata={} ambiguous={} different={}",
+        found.automata, found.ambiguous, found.different
+    )?;
     Ok(())
 }

@@ -1,6 +1,6 @@
 //! Rings, in which each state is a start.
 
-use crate::build::{self, Answer, Ask, Condition, SmallEdge};
+use crate::build::{self, Ask, Condition, SmallEdge, Verdict};
 use aut_base::Memory;
 use std::alloc::Global;
 
@@ -9,7 +9,7 @@ pub(crate) const SIZES: [u32; 2] = [1000, 1001];
 
 /// What is said of the ring of so many states. An edge leads from each to the next where the name holds, and that of the last
 /// in a ring of odd length is in the first set, which has to be met again and again.
-pub(crate) fn answer(alloc: Global, states: u32) -> Result<Answer, Memory> {
+pub(crate) fn verdict_on(alloc: Global, states: u32) -> Result<Verdict, Memory> {
     let mut edges = Vec::new(alloc);
     for state in 0..states {
         let is_last = state + 1 == states;
@@ -21,5 +21,5 @@ pub(crate) fn answer(alloc: Global, states: u32) -> Result<Answer, Memory> {
             in_second: false,
         })?;
     }
-    build::answer(alloc, states, states, &edges, Condition::First)
+    build::verdict_on(alloc, states, states, &edges, Condition::First)
 }

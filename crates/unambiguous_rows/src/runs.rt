@@ -101,11 +101,9 @@ impl Small {
 
 /// Whether the paths have one length and at each place some letter meets both edges.
 fn read_alike(path: &Path, other: &Path) -> bool {
-    path.iter()
-        .zip(other.iter())
-        .all(|(first, second)| match (first, second) {
-            (None, None) => true,
-            (Some(first), Some(second)) => first.ask.meets(second.ask),
-            _ => false,
-        })
+    path.iter().zip(other.iter()).all(|(first, second)| match (first, second) {
+        (None, None) => true,
+        (Some(first), Some(second)) => first.ask.meets(second.ask),
+        _ => false,
+    })
 }

@@ -1,6 +1,6 @@
 //! Small automata, and what is said of them held against the search through pairs of runs.
 
-use crate::build::{Answer, Ask, Condition, SmallEdge, answer};
+use crate::build::{Ask, Condition, SmallEdge, Verdict, verdict_on};
 use crate::runs::Small;
 use aut_base::Memory;
 use std::alloc::Global;
@@ -24,13 +24,13 @@ pub(crate) fn compared(alloc: Global) -> Result<Found, Memory> {
     };
     for number in 0..AUTOMATA {
         let row = numbered(number);
-        let said = answer(alloc, 2, row.starts, &row.edges, row.condition)?;
+        let said = verdict_on(alloc, 2, row.starts, &row.edges, row.condition)?;
         let is_ambiguous = row.has_two_runs();
         if is_ambiguous {
             found.ambiguous = found.ambiguous.saturating_add(1);
         }
-        if said != Answer::Ambiguous && said != Answer::Unambiguous
-            || (said == Answer::Ambiguous) != is_ambiguous
+        if said != Verdict::Ambiguous && said != Verdict::Unambiguous
+            || (said == Verdict::Ambiguous) != is_ambiguous
         {
             found.different = found.different.saturating_add(1);
         }

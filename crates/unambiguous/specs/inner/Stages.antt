@@ -82,12 +82,14 @@ pub record CanMeet (a : Core) (s : Stage) (at : ℕ) (link other : Link) (differ
 pub record IsJoint (a : Core) (s : Stage) (at : ℕ) (link other : Link) (differ : Bool) (l : Link) : Type 0 where
   pub from : l.from ≡ at
   pub to : slice_get s.states l.to ≡ Some (link.to, other.to, differ)
-  pub label : (x : NameSet) → truth (holds_at a.names x) (label_in s.store l.guard) ≡ (truth (holds_at a.names x) (label_in a.store link.guard) && truth (holds_at a.names x) (label_in a.store other.guard))
+  pub label : (x : NameSet) → truth (holds_at a.names x) (label_in s.store l.guard)
+      ≡ (truth (holds_at a.names x) (label_in a.store link.guard) && truth (holds_at a.names x) (label_in a.store other.guard))
   pub marks : l.marks ≡ flagged_marks a.sets link.marks other.marks differ
 
 -- there is such a link, if some letter meets both
 abbrev pub IsMet : Core → Stage → ℕ → Link → Link → Bool → Type 0
-IsMet a s at link other differ = (x : NameSet) → truth (holds_at a.names x) (label_in a.store link.guard) ≡ true → truth (holds_at a.names x) (label_in a.store other.guard) ≡ true → (l : Link) × Contains s.links l × IsJoint a s at link other differ l
+IsMet a s at link other differ = (x : NameSet) → truth (holds_at a.names x) (label_in a.store link.guard) ≡ true → truth (holds_at a.names x) (label_in a.store other.guard) ≡ true
+    → (l : Link) × Contains s.links l × IsJoint a s at link other differ l
 
 -- it was gone on by the link at place i of the first state's row with each of the second's
 abbrev pub IsFollowed : Core → Stage → ℕ → ℕ × ℕ × Bool → ℕ → Link → Type 0

@@ -1,4 +1,4 @@
-use Rattle.std.proofs.Common.{◌∙◌, ap, arith, length, subst, sym}
+use Rattle.std.proofs.Common.{◌∙◌, ap, arith, subst, sym}
 use Rattle.std.specs.List.{range_with_len}
 use Rattle.aut_base.specs.Formula.{formula_tree}
 use Rattle.aut_core.specs.Core.{Core, automaton_of}
@@ -15,16 +15,21 @@ overflow_cast-states c = omega (arith, c.len-states.ensures, states_few c.explor
 
 pub from_parts-requires : goal.from_parts-requires
 from_parts-requires c =
-    (all_made c.args.a.now c.whole.ensures c.explore.new.square c.list_starts.new.square.states c.in_ok-names.names c.in_ok-starts.starts c.len-states.result c.sets-sets.result (formula_tree c.in_ok-formula.formula) (formula_tree c.formula.result.now) c.into_parts-guards.result.0 c.into_parts-guards.result.1
-    c.in_ok-explore.ensures.explored c.in_ok-list_starts.ensures.from c.in_ok-list_starts.ensures.there c.in_ok-explore.ensures.kept (c.in_ok-names.ensures ∙ c.names.ensures) (c.in_ok-starts.ensures ∙ ap (range_with_len 0) c.len.ensures) c.len-states.ensures c.sets-sets.ensures c.formula.ensures
+    (all_made c.args.a.now c.whole.ensures c.explore.new.square c.list_starts.new.square.states c.in_ok-names.names c.in_ok-starts.starts c.len-states.result c.sets-sets.result
+    (formula_tree c.in_ok-formula.formula) (formula_tree c.formula.result.now) c.into_parts-guards.result.0 c.into_parts-guards.result.1
+    c.in_ok-explore.ensures.explored c.in_ok-list_starts.ensures.from c.in_ok-list_starts.ensures.there c.in_ok-explore.ensures.kept (c.in_ok-names.ensures ∙ c.names.ensures)
+    (c.in_ok-starts.ensures ∙ ap (range_with_len 0) c.len.ensures) c.len-states.ensures c.sets-sets.ensures c.formula.ensures
     c.in_ok-formula.ensures.meaning c.in_ok-formula.ensures.below c.into_parts-guards.ensures.store c.into_parts-guards.ensures.links).parts
 
 pub returns-clause-square : goal.returns-clause-square
 returns-clause-square c =
     subst (λ (core : Core). IsFlaggedSquare (automaton_of c.args.a.now) (automaton_of core)) (sym c.in_ok-from_parts.ensures)
-    (all_made c.args.a.now c.whole.ensures c.explore.new.square c.list_starts.new.square.states c.in_ok-names.names c.in_ok-starts.starts c.len-states.result c.sets-sets.result (formula_tree c.in_ok-formula.formula) (formula_tree c.formula.result.now) c.into_parts-guards.result.0 c.into_parts-guards.result.1
-    c.in_ok-explore.ensures.explored c.in_ok-list_starts.ensures.from c.in_ok-list_starts.ensures.there c.in_ok-explore.ensures.kept (c.in_ok-names.ensures ∙ c.names.ensures) (c.in_ok-starts.ensures ∙ ap (range_with_len 0) c.len.ensures) c.len-states.ensures c.sets-sets.ensures c.formula.ensures
+    (all_made c.args.a.now c.whole.ensures c.explore.new.square c.list_starts.new.square.states c.in_ok-names.names c.in_ok-starts.starts c.len-states.result c.sets-sets.result
+    (formula_tree c.in_ok-formula.formula) (formula_tree c.formula.result.now) c.into_parts-guards.result.0 c.into_parts-guards.result.1
+    c.in_ok-explore.ensures.explored c.in_ok-list_starts.ensures.from c.in_ok-list_starts.ensures.there c.in_ok-explore.ensures.kept (c.in_ok-names.ensures ∙ c.names.ensures)
+    (c.in_ok-starts.ensures ∙ ap (range_with_len 0) c.len.ensures) c.len-states.ensures c.sets-sets.ensures c.formula.ensures
     c.in_ok-formula.ensures.meaning c.in_ok-formula.ensures.below c.into_parts-guards.ensures.store c.into_parts-guards.ensures.links).square
 
 pub returns-clause-few : goal.returns-clause-few
-returns-clause-few c = few_pairs c.args.a.now c.whole.ensures c.explore.new.square c.in_ok-explore.ensures.explored c.list_starts.new.square.states c.in_ok-list_starts.ensures.from c.in_ok-list_starts.ensures.there c.in_ok-explore.ensures.kept
+returns-clause-few c = few_pairs c.args.a.now c.whole.ensures c.explore.new.square c.in_ok-explore.ensures.explored c.list_starts.new.square.states c.in_ok-list_starts.ensures.from
+    c.in_ok-list_starts.ensures.there c.in_ok-explore.ensures.kept

@@ -1,4 +1,4 @@
-use Rattle.std.proofs.Common.{◌≡◌, ◌∙◌, ◌+◌, ◌<◌, ◌++◌, ℕ, false, List, Contains, Some, ap, arith, get_or, inl, inr, length, slice_get, subst, sym}
+use Rattle.std.proofs.Common.{◌≡◌, ◌∙◌, ◌++◌, ℕ, false, List, Contains, Some, ap, arith, get_or, inl, inr, length, slice_get, subst, sym}
 use Rattle.std.proofs.lemmas.Bool.{cases_lt}
 use Rattle.std.proofs.lemmas.List.{get_or_default}
 use Rattle.std.proofs.lemmas.Option.{same_Some, slice_get_within}
@@ -14,8 +14,10 @@ returns-in_err-number-clause-many c is =
     let items = c.as_slice-second-items.result.now in
     let i = c.starts.second-index in
     let q : ℕ = get_or items i 0 in
-    let here : slice_get c.args.a.now.starts i ≡ Some q = ap (λ (ls : List ℕ). slice_get ls i) (sym (c.as_slice-second-items.ensures ∙ c.starts-starts.ensures)) ∙ slice_get-at items i q c.starts-test.true (get_or_default items i 0 q c.starts-test.true) in
-    beyond c.args.a.now c.whole.ensures c.starts.square 0 (c.args.first, q) c.starts.invariant.sound (start_reached c.args.a.now c.whole.ensures c.args.first q c.requires.start (placed_there c.args.a.now.starts i q here))
+    let here : slice_get c.args.a.now.starts i ≡ Some q = ap (λ (ls : List ℕ). slice_get ls i) (sym (c.as_slice-second-items.ensures ∙ c.starts-starts.ensures)) ∙ slice_get-at items i q
+    c.starts-test.true (get_or_default items i 0 q c.starts-test.true) in
+    beyond c.args.a.now c.whole.ensures c.starts.square 0 (c.args.first, q) c.starts.invariant.sound
+    (start_reached c.args.a.now c.whole.ensures c.args.first q c.requires.start (placed_there c.args.a.now.starts i q here))
     (c.in_err-number.ensures.many (passed_on c.from_residual.result _ _ c.from_residual.ensures.1 is))
 
 pub starts-preserved : goal.starts-preserved
@@ -23,7 +25,8 @@ starts-preserved c =
     let items = c.as_slice-second-items.result.now in
     let i = c.starts.second-index in
     let q : ℕ = get_or items i 0 in
-    let here : slice_get c.args.a.now.starts i ≡ Some q = ap (λ (ls : List ℕ). slice_get ls i) (sym (c.as_slice-second-items.ensures ∙ c.starts-starts.ensures)) ∙ slice_get-at items i q c.starts-test.true (get_or_default items i 0 q c.starts-test.true) in
+    let here : slice_get c.args.a.now.starts i ≡ Some q = ap (λ (ls : List ℕ). slice_get ls i) (sym (c.as_slice-second-items.ensures ∙ c.starts-starts.ensures)) ∙ slice_get-at items i q
+    c.starts-test.true (get_or_default items i 0 q c.starts-test.true) in
     let old = c.starts.invariant in
     let ok = c.in_ok-number.ensures in
     let s = c.starts.square in
@@ -47,4 +50,10 @@ starts-preserved c =
 pub returns-clause-there : goal.returns-clause-there
 returns-clause-there c = λ q is.
     let at = there_at c.args.a.now.starts q is in
-    c.starts.invariant.there at.0 q (omega (arith, c.starts-test.false, slice_get_within c.args.a.now.starts at.0 q at.1, ap (λ (ls : List ℕ). length ls) (c.as_slice-second-items.ensures ∙ c.starts-starts.ensures))) at.1
+    c.starts.invariant.there at.0 q (omega (
+      arith,
+      c.starts-test.false,
+      slice_get_within c.args.a.now.starts at.0 q at.1,
+      ap (λ (ls : List ℕ). length ls)
+          (c.as_slice-second-items.ensures ∙ c.starts-starts.ensures),
+    )) at.1

@@ -10,7 +10,8 @@ use Rattle.unambiguous.proofs.square.Square.follow.Goals as goal
 
 -- the link of the second state's row
 here : (c : goal.After-meet-arg-1) → slice_get (row_of c.args.a.now c.args.state.1) c.others.i ≡ Some c.index-others-i.result
-here c = ap (λ (ls : List Link). slice_get ls c.others.i) (sym c.links_of-others.ensures) ∙ slice_get-at c.links_of-others.result.now c.others.i c.index-others-i.result c.others-test.true c.index-others-i.is
+here c = ap (λ (ls : List Link). slice_get ls c.others.i) (sym c.links_of-others.ensures) ∙ slice_get-at c.links_of-others.result.now c.others.i c.index-others-i.result c.others-test.true
+    c.index-others-i.is
 
 pub meet-requires-clause-meet : goal.meet-requires-clause-meet
 meet-requires-clause-meet c =
@@ -20,13 +21,16 @@ meet-requires-clause-meet c =
 
 pub others-preserved : goal.others-preserved
 others-preserved c =
-    let row = ap (λ (ls : List Link). slice_get ls c.others.i) (sym c.links_of-others.ensures) ∙ slice_get-at c.links_of-others.result.now c.others.i c.index-others-i.result c.others-test.true c.index-others-i.is in
+    let row = ap (λ (ls : List Link). slice_get ls c.others.i) (sym c.links_of-others.ensures) ∙ slice_get-at c.links_of-others.result.now c.others.i c.index-others-i.result c.others-test.true
+    c.index-others-i.is in
     record {
       sound = c.in_ok-meet.ensures.sound;
       grows = grows_on c.args.self.now c.others.self c.meet.new.self c.others.invariant.grows c.in_ok-meet.ensures.grows;
-      followed = followed_more c.args.a.now c.others.self c.meet.new.self c.args.at c.args.state c.others.invariant.sound c.in_ok-meet.ensures.grows c.args.place c.others.i c.args.link.now c.index-others-i.result c.others.invariant.followed row
+      followed = followed_more c.args.a.now c.others.self c.meet.new.self c.args.at c.args.state c.others.invariant.sound c.in_ok-meet.ensures.grows c.args.place c.others.i c.args.link.now
+          c.index-others-i.result c.others.invariant.followed row
           (subst (IsMet c.args.a.now c.meet.new.self c.args.at c.args.link.now c.index-others-i.result) c.has_differed-differ.ensures c.in_ok-meet.ensures.met);
     }
 
 pub returns-clause-followed : goal.returns-clause-followed
-returns-clause-followed c = λ j other there. c.others.invariant.followed j other (omega (arith, c.others-test.false, slice_get_within (row_of c.args.a.now c.args.state.1) j other there, ap (λ (ls : List Link). length ls) c.links_of-others.ensures)) there
+returns-clause-followed c = λ j other there. c.others.invariant.followed j other
+    (omega (arith, c.others-test.false, slice_get_within (row_of c.args.a.now c.args.state.1) j other there, ap (λ (ls : List Link). length ls) c.links_of-others.ensures)) there

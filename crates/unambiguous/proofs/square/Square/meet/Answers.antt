@@ -1,7 +1,4 @@
-use Rattle.std.proofs.Common.{◌≡◌, ◌∙◌, ◌++◌, ◌∷◌, [], All, List, ap, arith, refl, sym, subst}
-use Rattle.std.proofs.lemmas.List.Elements.{All-weaker}
-use Rattle.aut_base.specs.declared.limit.TheConstants.{MOST_PAIRS}
-use Rattle.aut_core.specs.Core.{IsCore}
+use Rattle.std.proofs.Common.{◌∙◌, ◌++◌, ◌∷◌, [], List, ap, refl, sym, subst}
 use Rattle.aut_core.specs.declared.link.Link.{Link}
 use Rattle.aut_ops.proofs.Faults.{passed_on}
 use Rattle.unambiguous.proofs.Stages.{IsMeeting, beyond, meet_marks, none_met, one_met, some_reached}
@@ -13,7 +10,8 @@ use Rattle.unambiguous.proofs.square.Square.meet.Goals as goal
 abbrev before : goal.Then-is_false → Stage
 before c = record { store = c.self.inside.guards; pairs = c.self.inside.pairs.keys; states = c.self.inside.states.keys; links = c.self.inside.links }
 
-never : (c : goal.Then-is_false) → IsMeeting c.args.a.now c.whole.ensures (before c) (record { store = c.and.new.self; pairs = c.self.inside.pairs.keys; states = c.self.inside.states.keys; links = c.self.inside.links }) c.args.at c.args.link.now c.args.other.now c.args.differ
+never : (c : goal.Then-is_false) → IsMeeting c.args.a.now c.whole.ensures (before c) (record
+    { store = c.and.new.self; pairs = c.self.inside.pairs.keys; states = c.self.inside.states.keys; links = c.self.inside.links }) c.args.at c.args.link.now c.args.other.now c.args.differ
 never c = none_met c.args.a.now c.whole.ensures (before c) c.and.new.self c.args.at c.args.link.now c.args.other.now c.args.differ c.in_ok-guard.guard c.is_false.result
     (subst (λ (s : Stage). IsSound c.args.a.now s c.args.at) (sym c.self.view_is) c.requires.sound)
     (subst (λ (s : Stage). CanMeet c.args.a.now s c.args.at c.args.link.now c.args.other.now c.args.differ) (sym c.self.view_is) c.requires.meet)
@@ -34,16 +32,25 @@ returns-in_err-to-clause-many c is =
     (subst (λ (s : Stage). CanMeet c.args.a.now s c.args.at c.args.link.now c.args.other.now c.args.differ) (sym c.self.view_is) c.requires.meet)
     (record { keeps = c.and.ensures.keeps; guard_is = c.in_ok-guard.ensures.and; never = c.is_false.ensures.valuations })
     c.if-is_false.false in
-    beyond c.args.a.now c.whole.ensures s c.args.at (c.args.link.now.to, c.args.other.now.to) sound reached (c.in_err-to.ensures.many (passed_on c.from_residual-in_err-to.result _ _ c.from_residual-in_err-to.ensures.1 is))
+    beyond c.args.a.now c.whole.ensures s c.args.at (c.args.link.now.to, c.args.other.now.to) sound reached
+    (c.in_err-to.ensures.many (passed_on c.from_residual-in_err-to.result _ _ c.from_residual-in_err-to.ensures.1 is))
 
 pub flagged_marks-requires-clause-first : goal.flagged_marks-requires-clause-first
-flagged_marks-requires-clause-first c = (meet_marks c.args.a.now c.whole.ensures c.args.self.now c.args.at c.args.link.now c.args.other.now c.args.differ c.sets.result c.requires.meet c.sets.ensures).0
+flagged_marks-requires-clause-first c = (meet_marks c.args.a.now c.whole.ensures c.args.self.now c.args.at c.args.link.now c.args.other.now c.args.differ c.sets.result c.requires.meet
+    c.sets.ensures).0
 
 pub flagged_marks-requires-clause-second : goal.flagged_marks-requires-clause-second
-flagged_marks-requires-clause-second c = (meet_marks c.args.a.now c.whole.ensures c.args.self.now c.args.at c.args.link.now c.args.other.now c.args.differ c.sets.result c.requires.meet c.sets.ensures).1
+flagged_marks-requires-clause-second c = (meet_marks c.args.a.now c.whole.ensures c.args.self.now c.args.at c.args.link.now c.args.other.now c.args.differ c.sets.result c.requires.meet
+    c.sets.ensures).1
 
-one : (c : goal.In_ok-push) → IsMeeting c.args.a.now c.whole.ensures (record { store = c.self.inside.guards; pairs = c.self.inside.pairs.keys; states = c.self.inside.states.keys; links = c.self.inside.links })
-    (record { store = c.self-2.inside.guards; pairs = c.self-2.inside.pairs.keys; states = c.self-2.inside.states.keys; links = c.push.new.self }) c.args.at c.args.link.now c.args.other.now c.args.differ
+one : (c : goal.In_ok-push) → IsMeeting c.args.a.now c.whole.ensures (record {
+  store = c.self.inside.guards;
+  pairs = c.self.inside.pairs.keys;
+  states = c.self.inside.states.keys;
+  links = c.self.inside.links;
+})
+    (record { store = c.self-2.inside.guards; pairs = c.self-2.inside.pairs.keys; states = c.self-2.inside.states.keys; links = c.push.new.self }) c.args.at c.args.link.now c.args.other.now
+    c.args.differ
 one c =
     let s : Stage = record { store = c.self.inside.guards; pairs = c.self.inside.pairs.keys; states = c.self.inside.states.keys; links = c.self.inside.links } in
     let u : Stage = record { store = c.self-2.inside.guards; pairs = c.self-2.inside.pairs.keys; states = c.self-2.inside.states.keys; links = c.push.new.self } in
@@ -54,7 +61,14 @@ one c =
     (subst (λ (s : Stage). CanMeet c.args.a.now s c.args.at c.args.link.now c.args.other.now c.args.differ) (sym c.self.view_is) c.requires.meet)
     (record { keeps = c.and.ensures.keeps; guard_is = c.in_ok-guard.ensures.and; never = c.is_false.ensures.valuations })
     c.if-is_false.false
-    (record { store = c.number.ensures.store; links = c.number.ensures.links; pairs = c.in_ok-to.ensures.pairs; states = c.in_ok-to.ensures.states; stands = c.in_ok-to.ensures.place; few = c.in_ok-to.ensures.few })
+    (record {
+      store = c.number.ensures.store;
+      links = c.number.ensures.links;
+      pairs = c.in_ok-to.ensures.pairs;
+      states = c.in_ok-to.ensures.states;
+      stands = c.in_ok-to.ensures.place;
+      few = c.in_ok-to.ensures.few;
+    })
     (ap (λ (r : Stage). r.store) c.self-2.view_is) (ap (λ (r : Stage). r.pairs) c.self-2.view_is) (ap (λ (r : Stage). r.states) c.self-2.view_is)
     (c.in_ok-push.ensures.ok ∙ ap (λ (ls : List Link). ls ++ l ∷ []) (ap (λ (r : Stage). r.links) c.self-2.view_is)) refl
     (c.in_ok-marks.ensures ∙ ap (λ n. flagged_marks n c.args.link.now.marks c.args.other.now.marks c.args.differ) c.sets.ensures)
