@@ -27,6 +27,9 @@ fewer name names =
     let both = length-filter_both (λ q. not (text.same_text name q)) (λ q. not (not (text.same_text name q))) (λ q. refl) names in
     omega (arith, both)
 
+pub fewer_so_far : (name : List ℕ) (names others : List (List ℕ)) (k : ℕ) → others ≡ names_without name (take k names) → length others ≤ length names
+fewer_so_far name names others k so_far = omega (arith, ap length so_far, fewer name (take k names), length-take k names)
+
 -- with no other name there is the one
 pub only_name : (names : List (List ℕ)) → AllPairs (λ p q. p ≢ q) names → (prop : ℕ) → prop < length names → length (names_without (name_at names prop) names) ≡ 0 → length names ≡ 1
 only_name names differ zero within none = ⊎_elim (λ (same : length names ≡ 1). same) (⊎_elim (λ (less : length names < 1). absurd (omega (arith, less, within))) (λ (more : 1 < length names). absurd (left 1 more (λ e. absurd (omega (arith, e))) within none))) (cases_order (length names) 1)

@@ -73,7 +73,8 @@ fn without_prop(
 
 /// The names but for this one, in order.
 fn other_names(alloc: Global, names: &Names, name: &Text) -> Result<Names, Memory>
-    ensures { IfOk result (λ others. others ≡ names_without name.now names.now) }
+    ensures others { IfOk result (λ others. others ≡ names_without name.now names.now) }
+    ensures fewer { IfOk result (λ others. length others ≤ length names.now) }
 {
     let mut others = Names::new(alloc);
     'names: for other in names.as_slice() {

@@ -11,35 +11,20 @@ use Rattle.ap_project.specs.Hiding.{names_without}
 use Rattle.ap_project.specs.inner.HiddenGuards.{ArePlaces}
 use Rattle.ap_project.proofs.removal.without_prop.Goals as goal
 
-pub places_among-requires : goal.places_among-requires
-places_among-requires c =
-    let others_are = c.in_ok-names.ensures ∙ ap (names_without c.args.name.now) c.names.ensures in
-    omega (arith, ap length others_are, fewer c.args.name.now c.args.a.now.names, c.whole.ensures.parts.few)
-
-pub overflow_cast-len : goal.overflow_cast-len
-overflow_cast-len c =
-    let others_are = c.in_ok-names.ensures ∙ ap (names_without c.args.name.now) c.names.ensures in
-    omega (arith, c.len.ensures, ap length others_are, fewer c.args.name.now c.args.a.now.names, c.whole.ensures.parts.few)
-
-pub new-requires : goal.new-requires
-new-requires c =
-    let others_are = c.in_ok-names.ensures ∙ ap (names_without c.args.name.now) c.names.ensures in
-    omega (arith, c.len.ensures, ap length others_are, fewer c.args.name.now c.args.a.now.names, c.whole.ensures.parts.few)
-
 pub hidden_links-requires-clause-prop : goal.hidden_links-requires-clause-prop
 hidden_links-requires-clause-prop c = slice_get_within c.args.a.now.names c.args.prop c.args.name.now c.requires
 
 pub hidden_links-requires-clause-names : goal.hidden_links-requires-clause-names
 hidden_links-requires-clause-names c =
     let a = c.args.a.now in
-    let others_are = c.in_ok-names.ensures ∙ ap (names_without c.args.name.now) c.names.ensures in
+    let others_are = c.in_ok-names.ensures.others ∙ ap (names_without c.args.name.now) c.names.ensures in
     let name_is = get_or_from_slice_get a.names c.args.prop c.args.name.now [] c.requires in
     c.in_ok-guards.ensures.names ∙ (c.len.ensures ∙ (ap length others_are ∙ ap (λ n. length (names_without n a.names)) (sym name_is)))
 
 pub hidden_links-requires-clause-places : goal.hidden_links-requires-clause-places
 hidden_links-requires-clause-places c =
     let a = c.args.a.now in
-    let others_are = c.in_ok-names.ensures ∙ ap (names_without c.args.name.now) c.names.ensures in
+    let others_are = c.in_ok-names.ensures.others ∙ ap (names_without c.args.name.now) c.names.ensures in
     let name_is = get_or_from_slice_get a.names c.args.prop c.args.name.now [] c.requires in
     subst (λ (ns : List (List ℕ)). ArePlaces a.names ns c.in_ok-to.to) (others_are ∙ ap (λ n. names_without n a.names) (sym name_is)) (subst (λ (ns : List (List ℕ)). ArePlaces ns c.in_ok-names.names c.in_ok-to.to) c.names-2.ensures c.in_ok-to.ensures)
 
@@ -47,7 +32,7 @@ pub from_parts-requires : goal.from_parts-requires
 from_parts-requires c =
     let a = c.args.a.now in
     let name = c.args.name.now in
-    let others_are = c.in_ok-names.ensures ∙ ap (names_without name) c.names.ensures in
+    let others_are = c.in_ok-names.ensures.others ∙ ap (names_without name) c.names.ensures in
     let core : Core = record { names = c.in_ok-names.names; starts = c.in_ok-starts.starts; states = c.states.result; links = c.in_ok-links.links; sets = c.sets.result; formula = formula_tree c.in_ok-formula.formula; store = c.hidden_links.new.guards } in
     let same : automaton_of core ≡ over_others c.args.how name (automaton_of a) = λ i. record {
       names = others_are i;
@@ -63,7 +48,7 @@ pub returns : goal.returns
 returns c =
     let a = c.args.a.now in
     let name = c.args.name.now in
-    let others_are = c.in_ok-names.ensures ∙ ap (names_without name) c.names.ensures in
+    let others_are = c.in_ok-names.ensures.others ∙ ap (names_without name) c.names.ensures in
     let core : Core = record { names = c.in_ok-names.names; starts = c.in_ok-starts.starts; states = c.states.result; links = c.in_ok-links.links; sets = c.sets.result; formula = formula_tree c.in_ok-formula.formula; store = c.hidden_links.new.guards } in
     let same : automaton_of core ≡ over_others c.args.how name (automaton_of a) = λ i. record {
       names = others_are i;
