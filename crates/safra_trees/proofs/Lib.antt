@@ -1,1 +1,2 @@
+pub mod flat_step
 pub mod list_step

@@ -4,6 +4,19 @@
 //! known here by the moves that it allows. What a tree and a step are is defined in `specs/Trees` and `specs/Step`.
 #![tactic(auto)]
 
+mod claims;
+mod event;
+mod fault;
 mod moves;
+mod order;
+mod passes;
+mod starting;
+mod stepping;
+mod tree;
 
+pub use event::Event;
+pub use fault::TreeFault;
 pub use moves::{Move, Moves};
+pub use starting::start;
+pub use stepping::step;
+pub use tree::SafraTree;

@@ -9,7 +9,7 @@ pub record IsForest (f : Forest) : Type 0 where
   pub lower : (y : ℕ) → 0 < y → y < f.size → f.parent y < y
   pub inside : (y s : ℕ) → 0 < y → y < f.size → f.holds y s ≡ true → f.holds (f.parent y) s ≡ true
 
-above_same : (parent : ℕ → ℕ) (size : ℕ) → ((y : ℕ) → 0 < y → y < size → parent y < y) → (j k y : ℕ) → y ≤ j → y ≤ k → y < size → above parent j y ≡ above parent k y
+pub above_same : (parent : ℕ → ℕ) (size : ℕ) → ((y : ℕ) → 0 < y → y < size → parent y < y) → (j k y : ℕ) → y ≤ j → y ≤ k → y < size → above parent j y ≡ above parent k y
 above_same parent size lower zero zero y lj lk less = refl
 above_same parent size lower zero (suc k) zero lj lk less = refl
 above_same parent size lower zero (suc k) (suc y) lj lk less = absurd (omega (arith, lj))

@@ -136,7 +136,7 @@ pub pruned_tree : (f : Forest) → IsForest f → IsTree (pruned f)
 pruned_tree f is = record { lower = lower f is; inside = inside f is; apart = apart f is; own = own f is }
 
 -- moves from more states lead to more
-goes_more : (ms : List Move) (t : List Node) (x y s : ℕ) → ((r : ℕ) → holds t x r ≡ true → holds t y r ≡ true) → goes ms t x s ≡ true → goes ms t y s ≡ true
+pub goes_more : (ms : List Move) (t : List Node) (x y s : ℕ) → ((r : ℕ) → holds t x r ≡ true → holds t y r ≡ true) → goes ms t x s ≡ true → goes ms t y s ≡ true
 goes_more ms t x y s more h =
     let found = any_found (λ (m : Move). holds t x m.from && (m.to == s)) ms h in
     let parts = and_parts (holds t x found.0.from) (found.0.to == s) found.2 in

@@ -1,0 +1,66 @@
+use Rattle.std.proofs.Common.{◌≡◌, ◌∙◌, ◌+◌, ◌<◌, All, Bool, List, ap, arith, length, subst, sym, ℕ}
+use Rattle.std.specs.List.{list_any}
+use Rattle.safra_trees.proofs.flat_step.Placed.{stored_root}
+use Rattle.safra_trees.proofs.flat_step.Survey.{IsSurvey, all_below, surveyed}
+use Rattle.safra_trees.specs.Flat.{at}
+use Rattle.safra_trees.specs.Trees.{has, root_states}
+use Rattle.safra_trees.specs.View.{tree_of}
+use Rattle.safra_trees.specs.inner.Claims.{claim, grown_parent}
+use Rattle.safra_trees.specs.inner.Passes.{AreHomes, ends_at}
+use Rattle.safra_trees.proofs.stepping.passes.Goals as goal
+
+pub places_by_state-requires-clause-states : goal.places_by_state-requires-clause-states
+places_by_state-requires-clause-states c =
+    let tree = c.args.tree.now in
+    let e : root_states (tree_of tree) ≡ c.as_slice.result.now = stored_root tree.parents tree.states tree.places tree.stored ∙ sym c.as_slice.ensures in
+    subst (λ xs. All (λ s. s < c.args.states) xs) e c.requires.states
+
+pub claims-requires-clause-order : goal.claims-requires-clause-order
+claims-requires-clause-order c =
+    let tree = c.args.tree.now in
+    let order = c.in_ok-order.order.items in
+    subst (λ xs. All (λ x. x < 100) xs) (sym c.deref.ensures.value)
+    (all_below order 100 (λ k less. omega (arith, c.in_ok-order.ensures.order.below k (omega (arith, less, c.in_ok-order.ensures.size)), ap length c.as_slice-parents.ensures, tree.stored.few)))
+
+pub staying-requires-clause-low : goal.staying-requires-clause-low
+staying-requires-clause-low c =
+    let homes = c.in_ok-homes.homes.items in
+    subst (λ xs. All (λ x. x < length xs) xs) (sym c.deref-5.ensures.value)
+    (all_below homes (length homes) (λ k less. omega (arith, less, c.in_ok-homes.ensures.low k (omega (arith, less, c.in_ok-homes.ensures.size)))))
+
+pub returns : goal.returns
+returns c =
+    let tree = c.args.tree.now in
+    let n = c.args.states in
+    let ms = c.args.moves.now in
+    let p = c.as_slice-parents.result.now in
+    let s = c.as_slice.result.now in
+    let o = c.as_slice-2.result.now in
+    let order = c.in_ok-order.order.items in
+    let found = c.in_ok-places.places.items in
+    let claims = c.in_ok-claims.claims.items in
+    let own = c.in_ok-own.own.items in
+    let homes = c.in_ok-homes.homes.items in
+    let stay = c.in_ok-stay.stay.items in
+    let survey : IsSurvey n ms p s o order found claims own homes stay = record {
+      order_size = c.in_ok-order.ensures.size;
+      ordered = c.in_ok-order.ensures.order;
+      found_size = c.in_ok-places.ensures.size;
+      found_places = c.in_ok-places.ensures.places;
+      claims_size = c.in_ok-claims.ensures.size ∙ ap length c.deref-2.ensures.value;
+      claimed = λ t less. c.in_ok-claims.ensures.claims t (omega (arith, less, ap length c.deref-2.ensures.value))
+          ∙ (ap (λ xs. claim xs (at c.deref-2.result.now) t ms (length xs + length xs)) c.deref.ensures.value ∙ ap
+          (λ (ys : List ℕ). claim order (at ys) t ms (length order + length order)) c.deref-2.ensures.value);
+      own_size = c.in_ok-own.ensures.size;
+      own_claims = λ y less. c.in_ok-own.ensures.own y less ∙ ap (λ xs. has xs y) c.deref-3.ensures.value;
+      homes_size = c.in_ok-homes.ensures.size ∙ ap length c.deref-4.ensures.value;
+      low = λ x less. c.in_ok-homes.ensures.low x (omega (arith, less, ap length c.deref-4.ensures.value));
+      are_homes = subst (λ (b : List Bool). AreHomes b (grown_parent p) (length b) homes) c.deref-4.ensures.value c.in_ok-homes.ensures.homes;
+      stay_size = c.in_ok-stay.ensures.size ∙ ap length c.deref-5.ensures.value;
+      stays = λ y less. c.in_ok-stay.ensures.stay y (omega (arith, less, ap length c.deref-5.ensures.value))
+          ∙ (ap (λ xs. list_any (ends_at xs y) c.deref-6.result.now) c.deref-5.ensures.value ∙ ap (λ (ys : List ℕ). list_any (ends_at homes y) ys) c.deref-6.ensures.value);
+    } in
+    let one = subst (λ xs. IsSurvey n ms xs s o order found claims own homes stay) c.as_slice-parents.ensures survey in
+    let two = subst (λ xs. IsSurvey n ms tree.parents xs o order found claims own homes stay) c.as_slice.ensures one in
+    let three = subst (λ xs. IsSurvey n ms tree.parents tree.states xs order found claims own homes stay) c.as_slice-2.ensures two in
+    surveyed n ms tree.parents tree.states tree.places order found claims own homes stay tree.stored c.requires.moves three

@@ -1,0 +1,19 @@
+-- What a step tells besides the tree: the least name that went, and the least that gave its children up.
+use Rattle.std.specs.Prelude.{◌<◌, ℕ, List, Option, length, slice_get}
+use Rattle.safra_trees.specs.Step.{greens, grown, reds}
+use Rattle.safra_trees.specs.Trees.{Node}
+use Rattle.safra_trees.specs.declared.event.Event.{Event}
+use Rattle.safra_trees.specs.declared.moves.Move.{Move}
+
+-- both ends of the move are among the n states
+pub record IsWithin (n : ℕ) (move : Move) : Type 0 where
+  pub from : move.from < n
+  pub to : move.to < n
+
+-- the first of rising numbers
+abbrev pub least : List ℕ → Option ℕ
+least names = slice_get names 0
+
+-- red are the names of the tree that went, and green the names that stay and were covered
+abbrev pub event_of : ℕ → List Move → List Node → Event
+event_of n moves tree = record { red = least (reds (grown n moves tree) (length tree)); green = least (greens (grown n moves tree)) }

@@ -1,0 +1,98 @@
+//! Which nodes claim which states.
+
+ghost use Rattle.std.specs.Prelude.{◌≡◌, ◌+◌, ◌<◌, ◌≤◌, ℕ, All, IfOk, length};
+ghost use Rattle.safra_trees.specs.Events.{IsWithin};
+ghost use Rattle.safra_trees.specs.Flat.{at};
+ghost use Rattle.safra_trees.specs.inner.Claims.{claim, claimant, first_of, key, place_of};
+
+use crate::Move;
+use std::alloc::{AllocError, Global};
+
+/// For each of so many states its place, `none` where it has none.
+pub(crate) fn places_by_state(
+    alloc: Global,
+    count: u32,
+    none: u32,
+    states: &[u32],
+    places: &[u32],
+) -> Result<Vec<u32>, AllocError>
+    requires each { length places.now ≡ length states.now }
+    requires states { All (λ s. s < count) states.now }
+    requires places { All (λ x. x < none) places.now }
+    ensures size { IfOk result (λ found. length found.items ≡ count) }
+    ensures below { IfOk result (λ found. All (λ x. x ≤ none) found.items) }
+    ensures places { IfOk result (λ found. (s : ℕ) → s < count → at found.items s ≡ place_of none states.now places.now s) }
+{
+    let mut found = vec![in alloc; none; count as usize]?;
+    'states: for place in 0..states.len() {
+        found[states[place] as usize] = places[place];
+    }
+    Ok(found)
+}
+
+/// For each state the first name in the order that a move lets claim it, or twice the number of nodes where none does.
+/// A move from a place lets that place claim its goal, and its fresh child where it is accepting.
+pub(crate) fn claims(
+    alloc: Global,
+    order: &[u32],
+    places: &[u32],
+    moves: &[Move],
+) -> Result<Vec<u32>, AllocError>
+    requires few { length order.now ≤ 100 }
+    requires order { All (λ x. x < 100) order.now }
+    requires places { All (λ x. x ≤ length order.now) places.now }
+    requires moves { All (IsWithin (length places.now)) moves.now }
+    ensures size { IfOk result (λ claims. length claims.items ≡ length places.now) }
+    ensures below { IfOk result (λ claims. All (λ c. c ≤ length order.now + length order.now) claims.items) }
+    ensures claims { IfOk result (λ claims. (s : ℕ) → s < length places.now → at claims.items s ≡ claim order.now (at places.now) s moves.now (length order.now + length order.now)) }
+{
+    let nodes = order.len() as u32;
+    let mut claims = vec![in alloc; nodes + nodes; places.len()]?;
+    'moves: for one in moves {
+        let place = places[one.from as usize];
+        if place >= nodes {
+            continue;
+        }
+        let goal = one.to as usize;
+        claims[goal] = first_of(order, claims[goal], claimant(nodes, place, one));
+    }
+    Ok(claims)
+}
+
+/// The name that a move from a place lets claim its goal: the place, or its fresh child.
+fn claimant(nodes: u32, place: u32, one: &Move) -> u32
+    requires few { nodes ≤ 100 }
+    requires place { place < nodes }
+    ensures { result ≡ claimant nodes place one.now }
+{
+    if one.accepting { nodes + place } else { place }
+}
+
+/// Which of two claims comes first.
+fn first_of(order: &[u32], one: u32, other: u32) -> u32
+    requires few { length order.now ≤ 100 }
+    requires order { All (λ x. x < 100) order.now }
+    ensures { result ≡ first_of order.now one other }
+{
+    if key(order, other) < key(order, one) {
+        other
+    } else {
+        one
+    }
+}
+
+/// The number of an old or a fresh name in the order of both.
+fn key(order: &[u32], name: u32) -> u32
+    requires few { length order.now ≤ 100 }
+    requires order { All (λ x. x < 100) order.now }
+    ensures { result ≡ key order.now name }
+{
+    let nodes = order.len() as u32;
+    if name < nodes {
+        return 2 * order[name as usize] + 1;
+    }
+    if name < nodes + nodes {
+        return 2 * order[(name - nodes) as usize];
+    }
+    nodes + nodes
+}

@@ -1,0 +1,221 @@
+//! Passes over the old and the fresh names: which stay, and where the states of the others end up.
+
+ghost use Rattle.std.specs.Prelude.{◌≡◌, ◌+◌, ◌^◌, ◌<◌, ◌≤◌, ◌&&◌, ℕ, All, IfOk, cond, length, map, nat_lt, not};
+ghost use Rattle.std.specs.List.{list_any, range_with_len};
+ghost use Rattle.safra_trees.specs.Flat.{at};
+ghost use Rattle.safra_trees.specs.Step.{names, rank};
+ghost use Rattle.safra_trees.specs.Trees.{has};
+ghost use Rattle.safra_trees.specs.inner.Claims.{grown_parent};
+ghost use Rattle.safra_trees.specs.inner.Passes.{AreHomes, ends_at, flag, is_home};
+ghost use Rattle.safra_trees.specs.Events.{least};
+
+use std::alloc::{AllocError, Global};
+
+/// The parent of an old name, or of a fresh one.
+pub(crate) fn grown_parent(parents: &[u32], name: u32) -> u32
+    requires few { length parents.now ≤ 100 }
+    requires name { name < length parents.now + length parents.now }
+    ensures { result ≡ grown_parent parents.now name }
+{
+    let nodes = parents.len() as u32;
+    if name < nodes {
+        parents[name as usize]
+    } else {
+        name - nodes
+    }
+}
+
+/// For each of so many names whether it claims a state.
+pub(crate) fn claiming(alloc: Global, size: u32, claims: &[u32]) -> Result<Vec<bool>, AllocError>
+    ensures size { IfOk result (λ own. length own.items ≡ size) }
+    ensures own { IfOk result (λ own. (y : ℕ) → y < size → flag own.items y ≡ has claims.now y) }
+{
+    let mut own = vec![in alloc; false; size as usize]?;
+    'claims: for claim in claims {
+        if *claim >= size {
+            continue;
+        }
+        own[*claim as usize] = true;
+    }
+    Ok(own)
+}
+
+/// For each name the node at which its states end up: an ancestor where that gives its children up, else the name itself.
+pub(crate) fn homes(alloc: Global, parents: &[u32], own: &[bool]) -> Result<Vec<u32>, AllocError>
+    requires few { length parents.now ≤ 100 }
+    requires lower { (x : ℕ) → 0 < x → x < length parents.now → at parents.now x < x }
+    requires size { length own.now ≡ length parents.now + length parents.now }
+    ensures size { IfOk result (λ homes. length homes.items ≡ length own.now) }
+    ensures low { IfOk result (λ homes. (x : ℕ) → x < length own.now → at homes.items x ≤ x) }
+    ensures homes { IfOk result (λ homes. AreHomes own.now (grown_parent parents.now) (length own.now) homes.items) }
+{
+    let mut homes = Vec::new(alloc);
+    'names: for name in 0..own.len() as u32 {
+        let home = home_of(parents, own, &homes, name);
+        homes.push(home)?;
+    }
+    Ok(homes)
+}
+
+/// The home of a name by those of lower names.
+fn home_of(parents: &[u32], own: &[bool], homes: &[u32], name: u32) -> u32
+    requires few { length parents.now ≤ 100 }
+    requires lower { (x : ℕ) → 0 < x → x < length parents.now → at parents.now x < x }
+    requires size { length own.now ≡ length parents.now + length parents.now }
+    requires name { name < length own.now }
+    requires homes { length homes.now ≡ name }
+    requires low { (x : ℕ) → x < name → at homes.now x ≤ x }
+    ensures home { result ≡ cond (is_home own.now (grown_parent parents.now) homes.now name) name (at homes.now (grown_parent parents.now name)) }
+    ensures low { result ≤ name }
+{
+    if name == 0 {
+        return name;
+    }
+    let parent = grown_parent(parents, name);
+    let home = homes[parent as usize];
+    if home == parent && own[parent as usize] {
+        return name;
+    }
+    home
+}
+
+/// For each of so many names whether the states of a claim end up at it.
+pub(crate) fn staying(alloc: Global, homes: &[u32], claims: &[u32]) -> Result<Vec<bool>, AllocError>
+    requires few { length homes.now < 2 ^ 32 }
+    requires low { All (λ x. x < length homes.now) homes.now }
+    ensures size { IfOk result (λ stay. length stay.items ≡ length homes.now) }
+    ensures stay { IfOk result (λ stay. (y : ℕ) → y < length homes.now → flag stay.items y ≡ list_any (ends_at homes.now y) claims.now) }
+{
+    let size = homes.len() as u32;
+    let mut stay = vec![in alloc; false; homes.len()]?;
+    'claims: for claim in claims {
+        if *claim >= size {
+            continue;
+        }
+        stay[homes[*claim as usize] as usize] = true;
+    }
+    Ok(stay)
+}
+
+/// How the names that stay close up.
+#[derive(Drop)]
+pub(crate) struct NewNames {
+    /// For each name the number of those before it that stay.
+    pub(crate) ranks: Vec<u32>,
+    /// The number of all that stay.
+    pub(crate) count: u32,
+}
+
+/// The ranks of the names that stay.
+pub(crate) fn new_names(alloc: Global, stay: &[bool]) -> Result<NewNames, AllocError>
+    requires { length stay.now < 2 ^ 32 }
+    ensures ranks { IfOk result (λ made. made.ranks.items ≡ map (rank (flag stay.now)) (range_with_len 0 (length stay.now))) }
+    ensures count { IfOk result (λ made. made.count ≡ rank (flag stay.now) (length stay.now)) }
+{
+    let mut ranks = Vec::new(alloc);
+    let mut count = 0;
+    'names: for name in 0..stay.len() {
+        ranks.push(count)?;
+        if !stay[name] {
+            continue;
+        }
+        count += 1;
+    }
+    Ok(NewNames { ranks, count })
+}
+
+/// The parents of the names that stay, by their new names.
+pub(crate) fn new_parents(
+    alloc: Global,
+    parents: &[u32],
+    stay: &[bool],
+    ranks: &[u32],
+) -> Result<Vec<u32>, AllocError>
+    requires few { length parents.now ≤ 100 }
+    requires lower { (x : ℕ) → x < length parents.now → at parents.now x ≤ x }
+    requires size { length stay.now ≡ length parents.now + length parents.now }
+    requires ranks { length ranks.now ≡ length stay.now }
+    ensures { IfOk result (λ made. made.items ≡ map (λ y. at ranks.now (grown_parent parents.now y)) (names (flag stay.now) (length stay.now))) }
+{
+    let mut made = Vec::new(alloc);
+    'names: for name in 0..stay.len() {
+        if !stay[name] {
+            continue;
+        }
+        made.push(ranks[grown_parent(parents, name as u32) as usize])?;
+    }
+    Ok(made)
+}
+
+/// The first of the names below a number that doesn't stay.
+pub(crate) fn least_gone(stay: &[bool], nodes: u32) -> Option<u32>
+    requires { nodes ≤ length stay.now }
+    ensures { result ≡ least (names (λ y. not (flag stay.now y)) nodes) }
+{
+    'names: for name in 0..nodes {
+        if !stay[name as usize] {
+            return Some(name);
+        }
+    }
+    None
+}
+
+/// The first name that stays and claims nothing.
+pub(crate) fn least_covered(stay: &[bool], own: &[bool]) -> Option<u32>
+    requires size { length stay.now ≡ length own.now }
+    requires fit { length own.now < 2 ^ 32 }
+    ensures { result ≡ least (names (λ y. flag stay.now y && not (flag own.now y)) (length own.now)) }
+{
+    'names: for name in 0..own.len() as u32 {
+        if stay[name as usize] && !own[name as usize] {
+            return Some(name);
+        }
+    }
+    None
+}
+
+/// What the passes of a step find.
+#[derive(Drop)]
+pub(crate) struct Passes {
+    /// For each state the name that claims it, or the number of names where none does.
+    pub(crate) claims: Vec<u32>,
+    /// For each name whether it claims a state.
+    pub(crate) own: Vec<bool>,
+    /// For each name the node at which its states end up.
+    pub(crate) homes: Vec<u32>,
+    /// For each name whether it stays.
+    pub(crate) stay: Vec<bool>,
+}
+
+/// The states that have a place, and their places by new names.
+#[derive(Drop)]
+pub(crate) struct NewPlaces {
+    pub(crate) states: Vec<u32>,
+    pub(crate) places: Vec<u32>,
+}
+
+/// The states that some name claims, each with the new name of the node at which it ends up.
+pub(crate) fn new_places(
+    alloc: Global,
+    claims: &[u32],
+    homes: &[u32],
+    ranks: &[u32],
+) -> Result<NewPlaces, AllocError>
+    requires few { length claims.now < 2 ^ 32 }
+    requires size { length ranks.now ≡ length homes.now }
+    requires low { (x : ℕ) → x < length homes.now → at homes.now x ≤ x }
+    ensures states { IfOk result (λ made. made.states.items ≡ names (λ s. nat_lt (at claims.now s) (length homes.now)) (length claims.now)) }
+    ensures places { IfOk result (λ made. made.places.items ≡ map (λ s. at ranks.now (at homes.now (at claims.now s))) (names (λ s. nat_lt (at claims.now s) (length homes.now)) (length claims.now))) }
+{
+    let mut states = Vec::new(alloc);
+    let mut places = Vec::new(alloc);
+    'states: for state in 0..claims.len() {
+        let claim = claims[state] as usize;
+        if claim >= homes.len() {
+            continue;
+        }
+        states.push(state as u32)?;
+        places.push(ranks[homes[claim] as usize])?;
+    }
+    Ok(NewPlaces { states, places })
+}

@@ -1,0 +1,86 @@
+//! The step of a tree.
+
+ghost use Rattle.std.specs.Prelude.{◌≡◌, ◌<◌, ◌≤◌, All, IfOk, IsErrOf, length};
+ghost use Rattle.safra_trees.specs.Events.{IsWithin, event_of};
+ghost use Rattle.safra_trees.specs.Step.{grown, pruned};
+ghost use Rattle.safra_trees.specs.Trees.{root_states};
+ghost use Rattle.safra_trees.specs.View.{tree_of};
+ghost use Rattle.safra_trees.specs.inner.Passes.{ArePasses};
+
+use crate::claims::{claims, places_by_state};
+use crate::order::claiming_order;
+use crate::passes::{
+    Passes, claiming, homes, least_covered, least_gone, new_names, new_parents, new_places, staying,
+};
+use crate::{Event, Move, Moves, SafraTree, TreeFault};
+use aut_base::{MOST_NODES, Numbers};
+use std::alloc::{AllocError, Global};
+
+/// The step of a tree of an automaton with so many states, under the moves of a letter: the new tree, and the least names
+/// that were red and green. `Nodes` comes exactly where the new tree has more than `aut_base::MOST_NODES` nodes.
+///
+/// It takes time in the moves, the states, and the square of the nodes.
+pub fn step(
+    alloc: Global,
+    states: u32,
+    tree: &SafraTree,
+    moves: &Moves,
+) -> Result<(SafraTree, Event), TreeFault>
+    requires states { All (λ s. s < states) (root_states (tree_of tree.now)) }
+    requires moves { All (IsWithin states) moves.now }
+    ensures tree { IfOk result (λ made. tree_of made.0 ≡ pruned (grown states moves.now (tree_of tree.now))) }
+    ensures event { IfOk result (λ made. made.1 ≡ event_of states moves.now (tree_of tree.now)) }
+    ensures few { IfOk result (λ made. length (tree_of made.0) ≤ 100) }
+    ensures nodes { IsErrOf result TreeFault.Nodes → 100 < length (pruned (grown states moves.now (tree_of tree.now))) }
+{
+    let found = passes(alloc, states, tree, moves.as_slice())?;
+    let names = new_names(alloc, &found.stay)?;
+    if names.count > MOST_NODES {
+        return Err(TreeFault::Nodes);
+    }
+    let parents = new_parents(alloc, tree.parents.as_slice(), &found.stay, &names.ranks)?;
+    let made = new_places(alloc, &found.claims, &found.homes, &names.ranks)?;
+    let event = Event {
+        red: least_gone(&found.stay, tree.nodes()),
+        green: least_covered(&found.stay, &found.own),
+    };
+    let new = SafraTree {
+        parents: Numbers::from_vec(parents),
+        states: Numbers::from_vec(made.states),
+        places: Numbers::from_vec(made.places),
+    };
+    Ok((new, event))
+}
+
+/// Which names claim states, and which stay.
+fn passes(
+    alloc: Global,
+    states: u32,
+    tree: &SafraTree,
+    moves: &[Move],
+) -> Result<Passes, AllocError>
+    requires states { All (λ s. s < states) (root_states (tree_of tree.now)) }
+    requires moves { All (IsWithin states) moves.now }
+    ensures { IfOk result (λ found. ArePasses (grown states moves.now (tree_of tree.now)) found.claims.items found.own.items found.homes.items found.stay.items) }
+{
+    let parents = tree.parents.as_slice();
+    let nodes = parents.len() as u32;
+    let order = claiming_order(alloc, parents)?;
+    let places = places_by_state(
+        alloc,
+        states,
+        nodes,
+        tree.states.as_slice(),
+        tree.places.as_slice(),
+    )?;
+    let claims = claims(alloc, &order, &places, moves)?;
+    let own = claiming(alloc, nodes + nodes, &claims)?;
+    let homes = homes(alloc, parents, &own)?;
+    let stay = staying(alloc, &homes, &claims)?;
+    Ok(Passes {
+        claims,
+        own,
+        homes,
+        stay,
+    })
+}

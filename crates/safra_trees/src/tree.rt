@@ -1,0 +1,41 @@
+//! A stored tree.
+
+ghost use Rattle.std.proofs.Props.{props};
+ghost use Rattle.safra_trees.specs.Flat.{IsStored};
+
+use aut_base::Numbers;
+
+/// A compact Safra tree, or none. Contracts see it by `tree_of` of `specs/View` as the list of its nodes.
+///
+/// Each state stands in one list, with the deepest node that holds it. So two trees are equal exactly where they are the
+/// same list of nodes.
+#[derive(Debug, PartialEq, Eq, Hash, Drop)]
+pub struct SafraTree {
+    /// For each name that of the parent; the root, whose name is 0, is its own.
+    pub(crate) parents: Numbers,
+    /// The states of the root in their order.
+    pub(crate) states: Numbers,
+    /// For each of these states the deepest node that holds it.
+    pub(crate) places: Numbers,
+    ghost stored: { IsStored parents states places } by { Prim.hlevel props },
+}
+
+impl SafraTree {
+    ghost use Rattle.std.specs.Prelude.{◌≡◌, length};
+    ghost use Rattle.safra_trees.specs.Trees.{root_states};
+    ghost use Rattle.safra_trees.specs.View.{tree_of};
+
+    /// The number of nodes.
+    pub fn nodes(&self) -> u32
+        ensures { result ≡ length (tree_of self.now) }
+    {
+        self.parents.len() as u32
+    }
+
+    /// The states of the root in their order: all that stand in the tree.
+    pub fn root_states(&self) -> &[u32]
+        ensures { result.now ≡ root_states (tree_of self.now) }
+    {
+        self.states.as_slice()
+    }
+}
