@@ -14,7 +14,7 @@ use Rattle.exploration.specs.declared.fault.Fault.{Fault}
 use Rattle.exploration.specs.declared.fault.Fault.TheVariants as explored
 use Rattle.filter_plan.specs.declared.plan.Form.{Form}
 use Rattle.filter_plan.specs.declared.plan.Form.TheVariants as form
-use Rattle.monitor_form.proofs.Determined.{monitor_excludes_limits, monitor_is_determined}
+use Rattle.monitor_form.proofs.MonitorLaws.{monitor_excludes_limits, monitor_is_determined}
 use Rattle.monitor_form.specs.Subsets.{MeetsLimit}
 use Rattle.plan_meaning.specs.Changes.{Bring, Change, Complete, IsInForm, Makes, MakesAll, MakesWithin, PassesBuchi, PassesDnf, PassesForm, PassesIn, PassesMonitor, PassesWithoutFin, Product, ProductOr, RemoveAp, StopsIn, Sum, Trim}
 use Rattle.plan_meaning.specs.Laws.{ChangesAreDetermined}
