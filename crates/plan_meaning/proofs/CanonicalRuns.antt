@@ -53,8 +53,7 @@ module _ (a : Automaton) (below : LabelsBelow a) where
   track_from p q [] (m ∷ ms) h = h
   track_from p q (x ∷ xs) [] h = h
   track_from p q (x ∷ xs) (m ∷ ms) h =
-      let was = place_from a m h.0 h.1 in
-      (
+      let was = place_from a m h.0 h.1 in (
         was.0,
         was.1,
         h.2 ∙ sym (ap (λ (e : TreeEdge). e.from) was.2),

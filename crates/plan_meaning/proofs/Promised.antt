@@ -133,8 +133,7 @@ behind (Some c ∷ os) rest a made h = behind os rest h.0 made h.3
 last_made : (complete : Bool) (a made : Automaton) → MakesAsPromised (those_standing (then_some complete Complete ∷ [])) a made → MayBeCompleted a made complete × (complete ≡ true → IsComplete made)
 last_made false a made h = (Left h, λ on. absurd (false≢true on))
 last_made true a made h =
-    let same : made ≡ h.0 = h.3 in
-    (
+    let same : made ≡ h.0 = h.3 in (
       Completed (same ∙ h.1.makes) (λ is. subst IsDeterministic (sym same) (h.2.1 is)),
       λ on. subst IsComplete (sym same) h.2.0,
     )

@@ -1,5 +1,5 @@
 -- What the square of an automaton says of it.
-use Rattle.std.proofs.Common.{◌≡◌, ◌↔◌, Bool, true, false, Ok, refl, subst, sym}
+use Rattle.std.proofs.Common.{◌≡◌, ◌↔◌, Bool, true, false, Ok, Err, refl, subst, sym}
 use Rattle.std.specs.Prelude.{IsTrue}
 use Rattle.std.proofs.lemmas.Bool.{false≢true}
 use Rattle.aut_base.specs.Automaton.{Automaton}
@@ -10,8 +10,11 @@ use Rattle.aut_base.specs.declared.limit.TheConstants.{MOST_PAIRS}
 use Rattle.aut_ops.specs.Products.{HasMorePairs}
 use Rattle.plan_meaning.specs.Filters as filter
 use Rattle.plan_meaning.specs.Limits.{PassesOfSquare}
+use Rattle.plan_meaning.specs.inner.Faults.{fault_of_square}
 use Rattle.plan_meaning.specs.inner.Judging.{Examines}
 use Rattle.unambiguous.specs.Runs.{IsUnambiguous}
+use Rattle.unambiguous.specs.declared.fault.SquareFault.{SquareFault}
+use Rattle.unambiguous.specs.declared.fault.SquareFault.TheVariants as square
 
 few_within : (a : Automaton) → (HasMorePairs MOST_PAIRS a a → ⊥) → (which : Limit) → PassesOfSquare which a → ⊥
 few_within a few limit.Pairs h = few h
@@ -21,3 +24,8 @@ few_within a few _ h = h
 pub examined : (b : Bool) (a : Automaton) → canonical a ≡ a → (HasMorePairs MOST_PAIRS a a → ⊥) → (IsTrue b ↔ IsUnambiguous a) → Examines (Ok b) filter.IsUnambiguous a
 examined true a settled few is = record { within = λ which h. few_within a few which (subst (PassesOfSquare which) settled h); holds = is.0 refl }
 examined false a settled few is = record { within = λ which h. few_within a few which (subst (PassesOfSquare which) settled h); fails = λ h. false≢true (is.1 h) }
+
+-- a refusal of the search in it
+pub refused : (f : SquareFault) (a : Automaton) → canonical a ≡ a → (f ≡ square.Pairs → HasMorePairs MOST_PAIRS a a) → Examines (Err (fault_of_square f)) filter.IsUnambiguous a
+refused square.Pairs a settled many = subst (PassesOfSquare limit.Pairs) (sym settled) (many refl)
+refused square.Memory a settled many = tt
