@@ -38,8 +38,8 @@ map_alike f g [] same = refl
 map_alike f g (x ∷ xs) same = λ i. same x (zero, omega arith, refl) i ∷ map_alike f g xs (λ y there. same y (suc there.0, omega (arith, there.1), there.2)) i
 
 -- edges in the order of their places leave states that do not fall
-from_at : (as : List Arrow) (i : ℕ) (e : Arrow) (d : ℕ) → i < length as → get_or (map (λ (a : Arrow). a.from) as) i d ≡ (get_or as i e).from
-from_at as i e d within = get_or-map (λ (a : Arrow). a.from) as i e d within
+from_at : (rows : List Arrow) (i : ℕ) (e : Arrow) (d : ℕ) → i < length rows → get_or (map (λ (a : Arrow). a.from) rows) i d ≡ (get_or rows i e).from
+from_at rows i e d within = get_or-map (λ (a : Arrow). a.from) rows i e d within
 
 none : Arrow
 none = record { from = 0; class = 0; to = 0 }
@@ -48,17 +48,17 @@ before_le : (a b : Arrow) → ArrowBefore a b → a.from ≤ b.from
 before_le a b (inl less) = omega (arith, less)
 before_le a b (inr same) = let e = same.0 in omega (arith, e)
 
-froms_rise : (as : List Arrow) → AllPairs ArrowBefore as → IsNonDecreasing (map (λ (a : Arrow). a.from) as)
-froms_rise as rise i j d order within =
-    let size = length-map as (λ (a : Arrow). a.from) in
-    let inside : j < length as = omega (arith, within, size) in
-    let first = from_at as i none d (omega (arith, order, inside)) in
-    let second = from_at as j none d inside in
+froms_rise : (rows : List Arrow) → AllPairs ArrowBefore rows → IsNonDecreasing (map (λ (a : Arrow). a.from) rows)
+froms_rise rows rise i j d order within =
+    let size = length-map rows (λ (a : Arrow). a.from) in
+    let inside : j < length rows = omega (arith, within, size) in
+    let first = from_at rows i none d (omega (arith, order, inside)) in
+    let second = from_at rows j none d inside in
     elim (cases_lt i j) [
-      | inl less ↦ (let le = before_le (get_or as i none) (get_or as j none) (rise i j none less inside) in omega (arith, le, first, second))
+      | inl less ↦ (let le = before_le (get_or rows i none) (get_or rows j none) (rise i j none less inside) in omega (arith, le, first, second))
       | inr more ↦ (
           let same : i ≡ j = omega (arith, order, more) in
-          let e : get_or (map (λ (a : Arrow). a.from) as) i d ≡ get_or (map (λ (a : Arrow). a.from) as) j d = ap (λ k. get_or (map (λ (a : Arrow). a.from) as) k d) same in
+          let e : get_or (map (λ (a : Arrow). a.from) rows) i d ≡ get_or (map (λ (a : Arrow). a.from) rows) j d = ap (λ k. get_or (map (λ (a : Arrow). a.from) rows) k d) same in
           omega (arith, e)
           )
     ]
@@ -148,14 +148,14 @@ module _ (b : Core) (core : IsCore b) (s : Store) (keeps : Keeps b.store s) wher
       is = λ j. record { names = b.names; starts = first_place b.starts some j; states = length sets; edges = edges_are j; sets = 0; formula = FormulaTree.True };
     }
       where
-        first_only : (k d : ℕ) → k < length (0 ∷ []) → get_or (0 ∷ []) k d < length sets
+        first_only : (k d : ℕ) → k < length {A = ℕ} (0 ∷ []) → get_or {A = ℕ} (0 ∷ []) k d < length sets
         first_only zero d within = some_set
         first_only (suc k) d within = absurd (omega (arith, within))
 
   -- the same of parts that are equal to these
-  pub built_same : (sets : List (List ℕ)) (arrows : List Arrow) (names : List (List ℕ)) (starts : List ℕ) (states n : ℕ) (links ls : List Link) (ss : List ℕ) → IsBuilt b sets arrows (made n ls ss) → names ≡ b.names → starts ≡ ss → states ≡ n → links ≡ ls
-      → IsBuilt b sets arrows (record { names = names; starts = starts; states = states; links = links; sets = 0; formula = FormulaTree.True; store = s })
-  built_same sets arrows names starts states n links ls ss built en es et el = subst (IsBuilt b sets arrows) (λ j. record { names = sym en j; starts = sym es j; states = sym et j; links = sym el j; sets = 0; formula = FormulaTree.True; store = s }) built
+  pub built_same : (sets : List (List ℕ)) (arrows : List Arrow) (names : List (List ℕ)) (starts : List ℕ) (states n : ℕ) (links ls : List Link) (ss : List ℕ) (f : FormulaTree) → IsBuilt b sets arrows (made n ls ss) → names ≡ b.names → starts ≡ ss → states ≡ n → links ≡ ls → f ≡ FormulaTree.True
+      → IsBuilt b sets arrows (record { names = names; starts = starts; states = states; links = links; sets = 0; formula = f; store = s })
+  built_same sets arrows names starts states n links ls ss f built en es et el ef = subst (IsBuilt b sets arrows) (λ j. record { names = sym en j; starts = sym es j; states = sym et j; links = sym el j; sets = 0; formula = sym ef j; store = s }) built
 
 -- the start fits
 pub start_fits : (b : Core) (s : Store) (set : List ℕ) → s ≡ b.store → set ≡ start_set (automaton_of b) → FitsStore b s set

@@ -1,13 +1,15 @@
 -- What the monitor accepts, that it is determined, and that where there is one no limit is met.
-use Rattle.std.proofs.Common.{◌≡◌, ◌∙◌, ◌<◌, ℕ, List, [], ◌∷◌, ap, arith, false, length, subst, sym}
+use Rattle.std.proofs.Common.{◌≡◌, ◌∙◌, ◌<◌, ◌≤◌, ℕ, List, [], ◌∷◌, Result, Ok, Err, IfOk, OnOk, ap, arith, false, length, subst, sym}
 use Rattle.aut_base.specs.Acceptance.{Accepts}
 use Rattle.aut_base.specs.Automaton.{Automaton, IsWellFormed}
 use Rattle.aut_base.specs.Formula.{Inf}
+use Rattle.aut_base.specs.declared.limit.TheConstants.{MOST_BUCHI_STATES}
+use Rattle.aut_core.specs.Core.{Core, automaton_of}
 use Rattle.aut_core.specs.Deterministic.{IsDeterministic}
 use Rattle.aut_core.specs.OtherNames.{AcceptTheSame}
 use Rattle.aut_ops.proofs.FlagLaws.{pruned_is_determined}
 use Rattle.aut_ops.specs.Pruning.{IsPruned}
-use Rattle.degeneralise.specs.Buchi.{buchi}
+use Rattle.degeneralise.specs.Buchi.{buchi, buchi_states}
 use Rattle.exploration.proofs.Ends.{ends_or_meets, has_one_ending, has_one_outcome}
 use Rattle.exploration.specs.Turns.{Comes, Ends, Goes, Meets, Turn, begin}
 use Rattle.exploration.specs.declared.fault.Fault.{Fault}
@@ -76,3 +78,17 @@ accepts_prefixes a form pruned made first second formed condition is_pruned well
 
 pub form_deterministic : (b made : Automaton) → IsWellFormed b → IsSubsetForm b made → IsDeterministic made
 form_deterministic b made well is = (formed_of b made well is).deterministic
+
+-- the monitor, from what its steps say
+pub monitor_of : (a form pruned made : Automaton) → form ≡ buchi a → IsPruned form pruned → IsSubsetForm pruned made → IsMonitor a made
+monitor_of a form pruned made same is_pruned is = record { pruned = pruned; is_pruned = subst (λ (b : Automaton). IsPruned b pruned) same is_pruned; is = is }
+
+pub no_limits : (a form pruned made : Automaton) → form ≡ buchi a → IsPruned form pruned → IsSubsetForm pruned made → (f : Fault) → MeetsLimit a f → ⊥
+no_limits a form pruned made same is_pruned is f meets = (monitor_excludes_limits a).monitors made f (monitor_of a form pruned made same is_pruned is) meets
+
+pub no_limits_on : {E : Type 0} (a form pruned : Automaton) → form ≡ buchi a → IsPruned form pruned → (r : Result Core E) → IfOk r (λ made. IsSubsetForm pruned (automaton_of made)) → OnOk r ((f : Fault) → MeetsLimit a f → ⊥)
+no_limits_on a form pruned same is_pruned (Ok made) is = no_limits a form pruned (automaton_of made) same is_pruned is
+no_limits_on a form pruned same is_pruned (Err e) is = tt
+
+pub limit_of : (a form pruned : Automaton) (f : Fault) → buchi_states a ≤ MOST_BUCHI_STATES → form ≡ buchi a → IsPruned form pruned → MeetsSubsetLimit pruned f → MeetsLimit a f
+limit_of a form pruned f few same is_pruned meets = record { few = few; pruned = pruned; is_pruned = subst (λ (b : Automaton). IsPruned b pruned) same is_pruned; meets = meets }
