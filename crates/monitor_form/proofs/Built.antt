@@ -1,36 +1,35 @@
 -- The automaton that is made of the sets and edges that were found.
-use Rattle.std.proofs.Common.{◌≡◌, ◌≢◌, ◌∙◌, ◌⊎◌, ◌<◌, ◌≤◌, ℕ, zero, suc, All, AllPairs, Contains, List, [], ◌∷◌, None, Option, Some, ap, arith, get_or, inl, inr, length, map, refl, slice_get, subst, sym}
+use Rattle.std.proofs.Common.{◌≡◌, ◌≢◌, ◌∙◌, ◌<◌, ◌≤◌, ℕ, zero, suc, All, AllPairs, Contains, List, [], ◌∷◌, None, Option, Some, ap, arith, get_or, inl, inr, length, map, refl, slice_get, subst, sym}
 use Rattle.std.proofs.lemmas.Bool.{cases_lt}
 use Rattle.std.proofs.lemmas.List.{get_or-map, length-map}
 use Rattle.std.proofs.lemmas.List.Elements.{All-contains, All-map}
-use Rattle.std.proofs.lemmas.Option.{get_or_from_slice_get, slice_get-get_or, slice_get_within}
+use Rattle.std.proofs.lemmas.Option.{get_or_from_slice_get, slice_get_within}
 use Rattle.std.proofs.lemmas.Simd.{map-map}
 use Rattle.std.specs.Cmp.Lexicographic.{pointwise}
 use Rattle.std.specs.List.{list_any, range_with_len}
 use Rattle.std.specs.List.Sorted.{IsNonDecreasing}
 use Rattle.std.specs.Prelude.{nat_eq}
 use Rattle.aut_base.proofs.Members.{each_there, from_filter, from_range, there_at, there_map}
-use Rattle.aut_base.specs.Automaton.{Automaton, TreeEdge}
+use Rattle.aut_base.specs.Automaton.{Automaton}
 use Rattle.aut_base.specs.Formula.{FormulaTree}
 use Rattle.aut_base.specs.declared.limit.TheConstants.{MOST_SUBSETS}
 use Rattle.aut_core.proofs.Growth.{keeps_none}
 use Rattle.aut_core.specs.Core.{AreParts, Core, IsCore, IsLinkOf, automaton_of, edge_of}
 use Rattle.aut_core.specs.declared.link.Link.{Link}
 use Rattle.exploration.proofs.Edges.{ArrowBefore, arrows_rise, edge_from}
-use Rattle.exploration.specs.Explorations.{IsClassed, IsMet, IsSound, arrow_of, rules_of}
+use Rattle.exploration.specs.Explorations.{IsClassed, IsMet, IsSound, arrow_of}
 use Rattle.exploration.specs.Moves.{Fails, Gives, Lacks, Move}
-use Rattle.exploration.specs.Reached.{Excess, IsCaused, IsExplored}
+use Rattle.exploration.specs.Reached.{IsCaused, IsExplored}
 use Rattle.exploration.specs.Turns.{Arrow, Comes, EndsWith, Meets, begin}
 use Rattle.exploration.specs.declared.exploration.Edge.{Edge}
 use Rattle.exploration.specs.declared.fault.Fault.{Fault}
 use Rattle.exploration.specs.declared.fault.Fault.TheVariants as limit
-use Rattle.label_guards.specs.Store.{Has, Keeps, Store, label_in}
+use Rattle.label_guards.specs.Store.{Keeps, Store, label_in}
 use Rattle.label_guards.specs.declared.guard.Guard.{Guard}
 use Rattle.monitor_form.specs.Faults.{exploration_fault}
 use Rattle.monitor_form.specs.Monitors.{first_places, set_at}
-use Rattle.monitor_form.specs.Subsets.{IsExploredFrom, IsSubsetForm, MeetsSubsetLimit, class_label, monitor_edge, monitor_on, set_classes, set_labels, start_set, step_at, subset_moves, subset_rules, unless_empty}
+use Rattle.monitor_form.specs.Subsets.{IsExploredFrom, MeetsSubsetLimit, class_label, monitor_edge, monitor_on, set_classes, set_labels, start_set, step_at, subset_moves, subset_rules, unless_empty}
 use Rattle.monitor_form.specs.Systems.{FitsStore, IsClassGuard, link_of}
-use Rattle.monitor_form.specs.declared.fault.MonFault.{MonFault}
 use Rattle.monitor_form.specs.declared.fault.MonFault.TheVariants as fault
 
 map_alike : {X Y : Type 0} (f g : X → Y) (xs : List X) → ((x : X) → Contains xs x → f x ≡ g x) → map f xs ≡ map g xs

@@ -64,8 +64,11 @@ classes-preserved g c =
     let less = number_less _ _ _ _ _ _ _ _ _ _ _ c.classes.number _ _ c.args.classes.now x so c.requires.at c.requires.classes here small in
     let class = class_is _ _ _ _ _ _ _ _ _ _ _ c.classes.number _ _ c.args.classes.now x c.index-classes-number.result so c.requires.at c.requires.classes here (read_here c.args.classes.now c.args.classes.now c.classes.number c.index-classes-number.result refl small c.index-classes-number.is) in
     let fit = subst (λ (o : Option _). MatchOption o (Unit {0}) (g.S.System.fits c.step.new.self)) c.in-Some.is c.in_ok-to.ensures.gives in
-    record { frame = c.in_ok-to.ensures.frame ∙ c.classes.invariant.frame; spread = spread_gives _ _ _ _ _ _ _ _ _ _ _ _ _ _ c.classes.number _ _ x so here less c.in_ok-to.ensures.keeps c.in-Some.to _ _ _ (c.in_ok-to.ensures.step ∙ ap move_of c.in-Some.is) fit c.in_ok-place.ensures.room c.in_ok-place.ensures.things c.in_ok-place.ensures.few c.in_ok-push.ensures.items
-    (ap (arrow_to c.args.at c.classes.number) c.in_ok-place.ensures.place) class }
+    record {
+      frame = c.in_ok-to.ensures.frame ∙ c.classes.invariant.frame;
+      spread = spread_gives _ _ _ _ _ _ _ _ _ _ _ _ _ _ c.classes.number _ _ x so here less c.in_ok-to.ensures.keeps c.in-Some.to _ _ _ (c.in_ok-to.ensures.step ∙ ap move_of c.in-Some.is) fit c.in_ok-place.ensures.room c.in_ok-place.ensures.things c.in_ok-place.ensures.few c.in_ok-push.ensures.items
+          (ap (arrow_to c.args.at c.classes.number) c.in_ok-place.ensures.place) class;
+    }
 
 pub returns-clause-spreads : goal.returns-clause-spreads
 returns-clause-spreads g c =

@@ -1,4 +1,4 @@
-use Rattle.std.proofs.Common.{◌≡◌, ◌∙◌, ◌<◌, ℕ, [], arith, length, map, subst}
+use Rattle.std.proofs.Common.{◌∙◌, ◌<◌, length, map, subst}
 use Rattle.aut_base.proofs.Outcomes.{some_in}
 use Rattle.aut_base.specs.declared.limit.TheConstants.{MOST_SUBSETS}
 use Rattle.aut_core.specs.Core.{Core, automaton_of}
@@ -6,7 +6,7 @@ use Rattle.exploration.specs.Explorations.{IsSound, arrow_of}
 use Rattle.exploration.specs.Turns.{EndsWith}
 use Rattle.monitor_form.proofs.Built.{explored_from, start_fits}
 use Rattle.label_guards.specs.Store.{Keeps}
-use Rattle.monitor_form.specs.Subsets.{IsSubsetForm, subset_rules}
+use Rattle.monitor_form.specs.Subsets.{subset_rules}
 use Rattle.monitor_form.specs.Systems.{FitsStore, IsClassGuard}
 use Rattle.monitor_form.proofs.form.subset_form.Goals as goal
 
