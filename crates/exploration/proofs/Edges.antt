@@ -118,10 +118,10 @@ module _ {X : Type 0} (m : Moves X) where
   below_rises p x (suc k) = pairs_append StepBefore (steps_below m p x k) (step_to p k (m.step x k)) (below_rises p x k) (one_rises p k (m.step x k))
       (each_there (λ (s : Step X). All (StepBefore s) (step_to p k (m.step x k))) (steps_below m p x k) (λ s there.
       each_there (StepBefore s) (step_to p k (m.step x k)) (λ t behind. (
-          let a = below_from p x k s (has_from (steps_below m p x k) s there) in
-          let b = to_from p k (m.step x k) t (has_from (step_to p k (m.step x k)) t behind) in
-          inr (a.0 ∙ sym b.0, omega (arith, a.1, b.1))
-          ))))
+      let a = below_from p x k s (has_from (steps_below m p x k) s there) in
+      let b = to_from p k (m.step x k) t (has_from (step_to p k (m.step x k)) t behind) in
+      inr (a.0 ∙ sym b.0, omega (arith, a.1, b.1))
+      ))))
 
   of_place : (p : ℕ) (o : Option X) (t : Step X) → Has (steps_of m p o) t → t.from ≡ p
   of_place p None t h = absurd (none-some t h.1)
@@ -143,10 +143,10 @@ module _ {X : Type 0} (m : Moves X) where
   before_rises things (suc n) = pairs_append StepBefore (steps_before m things n) (steps_of m n (slice_get things n)) (before_rises things n) (of_rises n (slice_get things n))
       (each_there (λ (s : Step X). All (StepBefore s) (steps_of m n (slice_get things n))) (steps_before m things n) (λ s there.
       each_there (StepBefore s) (steps_of m n (slice_get things n)) (λ t behind. (
-          let a = before_within things n s (has_from (steps_before m things n) s there) in
-          let b = of_place n (slice_get things n) t (has_from (steps_of m n (slice_get things n)) t behind) in
-          inl (omega (arith, a, b))
-          ))))
+      let a = before_within things n s (has_from (steps_before m things n) s there) in
+      let b = of_place n (slice_get things n) t (has_from (steps_of m n (slice_get things n)) t behind) in
+      inl (omega (arith, a, b))
+      ))))
 
   module _ (same : X → X → Bool) (start : X) (things : List X) (arrows : List Arrow) (is : IsExplored same m start things arrows) where
     -- each class of a listed thing whose step gives something has an edge, which leads to the place of that

@@ -6,7 +6,7 @@ use Rattle.std.specs.List.{AllZip}
 use Rattle.exploration.proofs.Midways.{Held, IsHeld, all_midway, ends_goes, ends_same, made, meets_ends, sure_whole, turned_out, whole}
 use Rattle.exploration.specs.Moves.{Fails, Gives, Lacks, Move}
 use Rattle.exploration.specs.Reached.{IsArrow, IsExplored, Step, counts, steps_before}
-use Rattle.exploration.specs.Turns.{Arrow, Comes, Ends, EndsOrMeets, EndsWith, Goes, Meets, Rules, Stage, Turn, after, begin, go_on, has_room, stepped, taken, turned, HasOneEnding, HasOneOutcome, IsOver}
+use Rattle.exploration.specs.Turns.{Arrow, Comes, Ends, EndsOrMeets, Goes, Meets, Rules, Stage, Turn, after, begin, go_on, has_room, stepped, taken, turned, HasOneEnding, HasOneOutcome, IsOver}
 use Rattle.exploration.specs.declared.fault.Fault.TheVariants as fault
 
 module _ {X : Type 0} (r : Rules X) where

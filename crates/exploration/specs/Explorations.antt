@@ -36,4 +36,3 @@ Spreads {X} r at a b things edges things' edges' = (x : X) (sum : ℕ) → slice
 -- want of memory, or the limit that the turns meet
 abbrev pub IsMet : {X : Type 0} → Rules X → Stage X → Fault → Type 0
 IsMet r s f = (f ≡ fault.Memory) ⊎ Comes r s (Meets f)
-

@@ -43,6 +43,7 @@ pub fn explore<S: System>(
 ) -> Result<Explored<S::Thing, S::Class>, Fault>
     requires fits { S.fits system.old start }
     requires room { 0 < limits.things }
+    ensures frame { S.frame system.new ≡ S.frame system.old }
     ensures keeps { Keeps (S.moves system.old) (S.moves system.new) (S.fits system.old) (S.fits system.new) (S.is_class system.old) (S.is_class system.new) }
     ensures ends { IfOk result (λ found. EndsWith (rules_of S.Thing.eq (S.moves system.old) limits) start found.things.keys (map arrow_of found.edges.items)) }
     ensures explored { IfOk result (λ found. IsExplored S.Thing.eq (S.moves system.old) start found.things.keys (map arrow_of found.edges.items)) }
@@ -90,6 +91,7 @@ fn spread<S: System>(
     requires classes { (x : S.Thing) → slice_get found.old.things.keys at ≡ Some x → AreClasses (S.is_class system.old x) ((S.moves system.old).count x) classes.now }
     requires countable { length classes.now < 2 ^ 32 }
     requires sound { IsSound (S.fits system.old) (S.is_class system.old) limits.things found.old.things.keys found.old.edges.items }
+    ensures frame { S.frame system.new ≡ S.frame system.old }
     ensures keeps { Keeps (S.moves system.old) (S.moves system.new) (S.fits system.old) (S.fits system.new) (S.is_class system.old) (S.is_class system.new) }
     ensures sound { OnOk result (IsSound (S.fits system.new) (S.is_class system.new) limits.things found.new.things.keys found.new.edges.items) }
     ensures spreads { OnOk result (Spreads (rules_of S.Thing.eq (S.moves system.old) limits) at 0 (length classes.now) found.old.things.keys found.old.edges.items found.new.things.keys found.new.edges.items) }

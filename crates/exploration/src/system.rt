@@ -18,6 +18,11 @@ pub trait System {
     /// The handle of a class, as a guard of a store.
     type Class: Copy;
 
+    // what stays the same while the system works, as the automaton that it explores
+    ghost Frame: { Type 0 };
+
+    ghost frame: { Self → Frame };
+
     // how many classes a thing has, and to what the step for each of them leads
     ghost moves: { Self → Moves Self.Thing };
 
@@ -35,6 +40,7 @@ pub trait System {
         most: u32,
     ) -> Result<Option<Vec<Self::Class>>, Memory>
         requires { fits self.old thing.now }
+        ensures frame { frame self.new ≡ frame self.old }
         ensures keeps { Keeps (moves self.old) (moves self.new) (fits self.old) (fits self.new) (is_class self.old) (is_class self.new) }
         ensures classes { IfOk result (λ found. MatchOption found (most < (moves self.old).count thing.now) (λ cs. AreClasses (is_class self.new thing.now) ((moves self.old).count thing.now) cs.items)) }
         ensures few { IfOk result (λ found. MatchOption found (Unit {0}) (λ cs. (moves self.old).count thing.now ≤ most)) };
@@ -50,6 +56,7 @@ pub trait System {
         requires fits { fits self.old thing.now }
         requires number { number < (moves self.old).count thing.now }
         requires class { is_class self.old thing.now number class }
+        ensures frame { frame self.new ≡ frame self.old }
         ensures keeps { Keeps (moves self.old) (moves self.new) (fits self.old) (fits self.new) (is_class self.old) (is_class self.new) }
         ensures step { IsStep ((moves self.old).step thing.now number) result }
         ensures gives { IfOk result (λ found. MatchOption found (Unit {0}) (fits self.new)) };

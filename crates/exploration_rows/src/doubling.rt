@@ -19,12 +19,16 @@ pub(crate) struct Doubling {
 }
 
 impl System for Doubling {
-    ghost use Rattle.std.specs.Prelude.{◌≡◌, ◌<◌, Some, slice_get};
+    ghost use Rattle.std.specs.Prelude.{◌≡◌, ◌<◌, ℕ, Some, slice_get};
     ghost use Rattle.exploration_rows.specs.Systems.{doubling_moves, number_tells};
 
     type Thing = Number;
 
     type Class = usize;
+
+    ghost Frame = { ℕ };
+
+    ghost frame = { λ s. s.bound };
 
     ghost moves = { λ s. doubling_moves s.bound };
 

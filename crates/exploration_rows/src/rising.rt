@@ -20,6 +20,10 @@ impl System for Rising {
 
     type Class = u32;
 
+    ghost Frame = { ⊤ };
+
+    ghost frame = { λ _. tt };
+
     ghost moves = { λ _. rising_moves };
 
     ghost fits = { λ _ _. ⊤ };

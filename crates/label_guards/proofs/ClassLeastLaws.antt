@@ -1,15 +1,15 @@
 -- Least valuations of classes: there are such, they stand in order, and what are classes are theirs.
-use Rattle.std.proofs.Common.{◌≡◌, ◌∙◌, ◌⊎◌, ◌+◌, ◌^◌, ◌<◌, ◌≤◌, ◌&&◌, ℕ, zero, suc, Bool, true, false, cond, not, List, [], ◌∷◌, All, Contains, Some, ap, arith, eq-eqb, eqb, filter, get_or, inl, inr, length, map, nat_lt, refl, slice_get, subst, sym}
+use Rattle.std.proofs.Common.{◌≡◌, ◌∙◌, ◌⊎◌, ◌+◌, ◌^◌, ◌<◌, ◌≤◌, ◌&&◌, ℕ, zero, suc, Bool, true, false, cond, not, List, [], ◌∷◌, Contains, Some, ap, arith, eq-eqb, eqb, filter, get_or, inl, inr, length, map, nat_lt, refl, slice_get, subst, sym}
 use Rattle.std.proofs.Math.Decide.{dec_lt}
 use Rattle.std.proofs.lemmas.Bool.{and_parts, cases_lt, eqb-true, false≢true, lt-ltb, ltb-true, true≢false}
 use Rattle.std.proofs.lemmas.List.Elements.{All-from_recursion, recursion_from_All}
 use Rattle.std.proofs.lemmas.Option.{get_or_from_slice_get, none-some, same_Some, slice_get-get_or, slice_get_within}
 use Rattle.std.specs.Bool.{beq}
-use Rattle.std.specs.List.{AllByRecursion, AllZip, list_all, list_any}
+use Rattle.std.specs.List.{AllByRecursion, AllZip, list_any}
 use Rattle.indexmap.proofs.IndexTableLemmas.Probe.{pigeonhole}
 use Rattle.aut_base.proofs.AllByRecursion.{AllByRecursion-filter}
 use Rattle.aut_base.proofs.LabelExamples.{in_order}
-use Rattle.aut_base.proofs.Members.{any_found, any_from, each_from, each_is, first_there, from_filter, from_map, later_there, none_at, none_there, placed_there, read_has, there_at, there_cases, there_filter, there_map, there_range_zero}
+use Rattle.aut_base.proofs.Members.{any_found, any_from, each_from, each_is, first_there, from_filter, from_map, later_there, none_there, placed_there, read_has, there_at, there_cases, there_filter, there_map, there_range_zero}
 use Rattle.aut_base.proofs.Ordered.{Pairs, pairs_from, pairs_unmap, range_rises}
 use Rattle.aut_base.proofs.Truth.{same_truth}
 use Rattle.aut_base.proofs.ValuationLists.{all_valuations}
@@ -172,10 +172,14 @@ module _ (n : ℕ) (labels : List LabelTree) where
   leasts_from v there =
       let kept = from_filter (is_least_alike n labels) (valuations n) v there in
       let none : list_any (lesser_alike v) (valuations n) ≡ false = not_from _ kept.1 in
-      record { size = each_size n v kept.0; is_true = alike_itself labels (holds_in v); least = λ w size h. elim (cases_lt (number_of w) (number_of v)) [
-        | inl less ↦ absurd (true≢false (sym (any_from (lesser_alike v) (valuations n) w (valuation_there n w size) (both _ _ (lt-ltb (number_of w) (number_of v) less) h)) ∙ none))
-        | inr more ↦ more
-      ] }
+      record {
+        size = each_size n v kept.0;
+        is_true = alike_itself labels (holds_in v);
+        least = λ w size h. elim (cases_lt (number_of w) (number_of v)) [
+          | inl less ↦ absurd (true≢false (sym (any_from (lesser_alike v) (valuations n) w (valuation_there n w size) (both _ _ (lt-ltb (number_of w) (number_of v) less) h)) ∙ none))
+          | inr more ↦ more
+        ];
+      }
     where
       both : (a b : Bool) → a ≡ true → b ≡ true → (a && b) ≡ true
       both a b p q = ap (λ c. c && b) p ∙ q

@@ -1,36 +1,35 @@
 -- The automaton that is made of the sets and edges that were found.
-use Rattle.std.proofs.Common.{◌≡◌, ◌≢◌, ◌∙◌, ◌⊎◌, ◌<◌, ◌≤◌, ℕ, zero, suc, All, AllPairs, Contains, List, [], ◌∷◌, None, Option, Some, ap, arith, get_or, inl, inr, length, map, refl, slice_get, subst, sym}
+use Rattle.std.proofs.Common.{◌≡◌, ◌≢◌, ◌∙◌, ◌<◌, ◌≤◌, ℕ, zero, suc, All, AllPairs, Contains, List, [], ◌∷◌, None, Option, Some, ap, arith, get_or, inl, inr, length, map, refl, slice_get, subst, sym}
 use Rattle.std.proofs.lemmas.Bool.{cases_lt}
 use Rattle.std.proofs.lemmas.List.{get_or-map, length-map}
 use Rattle.std.proofs.lemmas.List.Elements.{All-contains, All-map}
-use Rattle.std.proofs.lemmas.Option.{get_or_from_slice_get, slice_get-get_or, slice_get_within}
+use Rattle.std.proofs.lemmas.Option.{get_or_from_slice_get, slice_get_within}
 use Rattle.std.proofs.lemmas.Simd.{map-map}
 use Rattle.std.specs.Cmp.Lexicographic.{pointwise}
 use Rattle.std.specs.List.{list_any, range_with_len}
 use Rattle.std.specs.List.Sorted.{IsNonDecreasing}
 use Rattle.std.specs.Prelude.{nat_eq}
 use Rattle.aut_base.proofs.Members.{each_there, from_filter, from_range, there_at, there_map}
-use Rattle.aut_base.specs.Automaton.{Automaton, TreeEdge}
+use Rattle.aut_base.specs.Automaton.{Automaton}
 use Rattle.aut_base.specs.Formula.{FormulaTree}
 use Rattle.aut_base.specs.declared.limit.TheConstants.{MOST_SUBSETS}
 use Rattle.aut_core.proofs.Growth.{keeps_none}
 use Rattle.aut_core.specs.Core.{AreParts, Core, IsCore, IsLinkOf, automaton_of, edge_of}
 use Rattle.aut_core.specs.declared.link.Link.{Link}
 use Rattle.exploration.proofs.Edges.{ArrowBefore, arrows_rise, edge_from}
-use Rattle.exploration.specs.Explorations.{IsClassed, IsMet, IsSound, arrow_of, rules_of}
+use Rattle.exploration.specs.Explorations.{IsClassed, IsMet, IsSound, arrow_of}
 use Rattle.exploration.specs.Moves.{Fails, Gives, Lacks, Move}
-use Rattle.exploration.specs.Reached.{Excess, IsCaused, IsExplored}
+use Rattle.exploration.specs.Reached.{IsCaused, IsExplored}
 use Rattle.exploration.specs.Turns.{Arrow, Comes, EndsWith, Meets, begin}
 use Rattle.exploration.specs.declared.exploration.Edge.{Edge}
 use Rattle.exploration.specs.declared.fault.Fault.{Fault}
 use Rattle.exploration.specs.declared.fault.Fault.TheVariants as limit
-use Rattle.label_guards.specs.Store.{Has, Keeps, Store, label_in}
+use Rattle.label_guards.specs.Store.{Keeps, Store, label_in}
 use Rattle.label_guards.specs.declared.guard.Guard.{Guard}
 use Rattle.monitor_form.specs.Faults.{exploration_fault}
 use Rattle.monitor_form.specs.Monitors.{first_places, set_at}
-use Rattle.monitor_form.specs.Subsets.{IsExploredFrom, IsSubsetForm, MeetsSubsetLimit, class_label, monitor_edge, monitor_on, set_classes, set_labels, start_set, step_at, subset_moves, subset_rules, unless_empty}
+use Rattle.monitor_form.specs.Subsets.{IsExploredFrom, MeetsSubsetLimit, class_label, monitor_edge, monitor_on, set_classes, set_labels, start_set, step_at, subset_moves, subset_rules, unless_empty}
 use Rattle.monitor_form.specs.Systems.{FitsStore, IsClassGuard, link_of}
-use Rattle.monitor_form.specs.declared.fault.MonFault.{MonFault}
 use Rattle.monitor_form.specs.declared.fault.MonFault.TheVariants as fault
 
 map_alike : {X Y : Type 0} (f g : X → Y) (xs : List X) → ((x : X) → Contains xs x → f x ≡ g x) → map f xs ≡ map g xs
@@ -38,8 +37,8 @@ map_alike f g [] same = refl
 map_alike f g (x ∷ xs) same = λ i. same x (zero, omega arith, refl) i ∷ map_alike f g xs (λ y there. same y (suc there.0, omega (arith, there.1), there.2)) i
 
 -- edges in the order of their places leave states that do not fall
-from_at : (as : List Arrow) (i : ℕ) (e : Arrow) (d : ℕ) → i < length as → get_or (map (λ (a : Arrow). a.from) as) i d ≡ (get_or as i e).from
-from_at as i e d within = get_or-map (λ (a : Arrow). a.from) as i e d within
+from_at : (rows : List Arrow) (i : ℕ) (e : Arrow) (d : ℕ) → i < length rows → get_or (map (λ (a : Arrow). a.from) rows) i d ≡ (get_or rows i e).from
+from_at rows i e d within = get_or-map (λ (a : Arrow). a.from) rows i e d within
 
 none : Arrow
 none = record { from = 0; class = 0; to = 0 }
@@ -48,17 +47,17 @@ before_le : (a b : Arrow) → ArrowBefore a b → a.from ≤ b.from
 before_le a b (inl less) = omega (arith, less)
 before_le a b (inr same) = let e = same.0 in omega (arith, e)
 
-froms_rise : (as : List Arrow) → AllPairs ArrowBefore as → IsNonDecreasing (map (λ (a : Arrow). a.from) as)
-froms_rise as rise i j d order within =
-    let size = length-map as (λ (a : Arrow). a.from) in
-    let inside : j < length as = omega (arith, within, size) in
-    let first = from_at as i none d (omega (arith, order, inside)) in
-    let second = from_at as j none d inside in
+froms_rise : (rows : List Arrow) → AllPairs ArrowBefore rows → IsNonDecreasing (map (λ (a : Arrow). a.from) rows)
+froms_rise rows rise i j d order within =
+    let size = length-map rows (λ (a : Arrow). a.from) in
+    let inside : j < length rows = omega (arith, within, size) in
+    let first = from_at rows i none d (omega (arith, order, inside)) in
+    let second = from_at rows j none d inside in
     elim (cases_lt i j) [
-      | inl less ↦ (let le = before_le (get_or as i none) (get_or as j none) (rise i j none less inside) in omega (arith, le, first, second))
+      | inl less ↦ (let le = before_le (get_or rows i none) (get_or rows j none) (rise i j none less inside) in omega (arith, le, first, second))
       | inr more ↦ (
           let same : i ≡ j = omega (arith, order, more) in
-          let e : get_or (map (λ (a : Arrow). a.from) as) i d ≡ get_or (map (λ (a : Arrow). a.from) as) j d = ap (λ k. get_or (map (λ (a : Arrow). a.from) as) k d) same in
+          let e : get_or (map (λ (a : Arrow). a.from) rows) i d ≡ get_or (map (λ (a : Arrow). a.from) rows) j d = ap (λ k. get_or (map (λ (a : Arrow). a.from) rows) k d) same in
           omega (arith, e)
           )
     ]
@@ -148,14 +147,14 @@ module _ (b : Core) (core : IsCore b) (s : Store) (keeps : Keeps b.store s) wher
       is = λ j. record { names = b.names; starts = first_place b.starts some j; states = length sets; edges = edges_are j; sets = 0; formula = FormulaTree.True };
     }
       where
-        first_only : (k d : ℕ) → k < length (0 ∷ []) → get_or (0 ∷ []) k d < length sets
+        first_only : (k d : ℕ) → k < length {A = ℕ} (0 ∷ []) → get_or {A = ℕ} (0 ∷ []) k d < length sets
         first_only zero d within = some_set
         first_only (suc k) d within = absurd (omega (arith, within))
 
   -- the same of parts that are equal to these
-  pub built_same : (sets : List (List ℕ)) (arrows : List Arrow) (names : List (List ℕ)) (starts : List ℕ) (states n : ℕ) (links ls : List Link) (ss : List ℕ) → IsBuilt b sets arrows (made n ls ss) → names ≡ b.names → starts ≡ ss → states ≡ n → links ≡ ls
-      → IsBuilt b sets arrows (record { names = names; starts = starts; states = states; links = links; sets = 0; formula = FormulaTree.True; store = s })
-  built_same sets arrows names starts states n links ls ss built en es et el = subst (IsBuilt b sets arrows) (λ j. record { names = sym en j; starts = sym es j; states = sym et j; links = sym el j; sets = 0; formula = FormulaTree.True; store = s }) built
+  pub built_same : (sets : List (List ℕ)) (arrows : List Arrow) (names : List (List ℕ)) (starts : List ℕ) (states n : ℕ) (links ls : List Link) (ss : List ℕ) (f : FormulaTree) → IsBuilt b sets arrows (made n ls ss) → names ≡ b.names → starts ≡ ss → states ≡ n → links ≡ ls → f ≡ FormulaTree.True
+      → IsBuilt b sets arrows (record { names = names; starts = starts; states = states; links = links; sets = 0; formula = f; store = s })
+  built_same sets arrows names starts states n links ls ss f built en es et el ef = subst (IsBuilt b sets arrows) (λ j. record { names = sym en j; starts = sym es j; states = sym et j; links = sym el j; sets = 0; formula = sym ef j; store = s }) built
 
 -- the start fits
 pub start_fits : (b : Core) (s : Store) (set : List ℕ) → s ≡ b.store → set ≡ start_set (automaton_of b) → FitsStore b s set

@@ -1,13 +1,13 @@
 -- The guards that the store gives for the classes of a set, and the step under one of them.
-use Rattle.std.proofs.Common.{◌≡◌, ◌≢◌, ◌∙◌, ◌<◌, ◌≤◌, ◌==◌, ℕ, zero, suc, All, AllPairs, Bool, true, false, Contains, List, [], ◌∷◌, None, Option, Some, ap, arith, cond, filter, get_or, length, map, refl, slice_get, subst, sym}
+use Rattle.std.proofs.Common.{◌≡◌, ◌≢◌, ◌∙◌, ◌<◌, ◌≤◌, ◌==◌, ℕ, zero, suc, All, AllPairs, Bool, true, false, Contains, List, [], ◌∷◌, Some, ap, arith, filter, get_or, length, map, refl, slice_get, subst, sym}
 use Rattle.std.proofs.lemmas.Bool.{eqb-true, true≢false}
 use Rattle.std.proofs.lemmas.List.Elements.{All-contains}
-use Rattle.std.proofs.lemmas.Option.{same_Some, slice_get-get_or, slice_get_within}
+use Rattle.std.proofs.lemmas.Option.{slice_get-get_or, slice_get_within}
 use Rattle.std.specs.List.{range_with_len}
 use Rattle.aut_base.proofs.CanonicalTruth.{label_of-same}
-use Rattle.aut_base.proofs.Members.{each_there, from_filter, from_range, placed_there, there_map}
+use Rattle.aut_base.proofs.Members.{each_there, from_filter, from_range, placed_there}
 use Rattle.aut_base.proofs.ValuationLetters.{letter_of_holds}
-use Rattle.aut_base.specs.Automaton.{Automaton, TreeEdge}
+use Rattle.aut_base.specs.Automaton.{Automaton}
 use Rattle.aut_base.specs.Label.{LabelTree, holds_at, truth}
 use Rattle.aut_base.specs.Valuation.{IsLeast, holds_in, letter_of, truth_on}
 use Rattle.aut_base.specs.Word.{NameSet}
@@ -41,9 +41,13 @@ handle_at s list classes most are k g at =
     let leasts = class_leasts s.names (labels_in s list) in
     let within : k < length leasts = omega (arith, slice_get_within classes k g at, of.count) in
     let v = get_or leasts k [] in
-    let there = slice_get-get_or leasts k [] within in
-    (v, there, All-contains (Has s) classes g are.has (placed_there classes k g at), of.least k g v at there,
-    sym (label_in_settled s g) ∙ label_of-same s.names (truth_on (label_in s g)) (λ w. are_alike (labels_in s list) (holds_in v) (holds_in w)) (λ w size. of.truth k g v at there (holds_in w)))
+    let there = slice_get-get_or leasts k [] within in (
+      v,
+      there,
+      All-contains (Has s) classes g are.has (placed_there classes k g at),
+      of.least k g v at there,
+      sym (label_in_settled s g) ∙ label_of-same s.names (truth_on (label_in s g)) (λ w. are_alike (labels_in s list) (holds_in v) (holds_in w)) (λ w size. of.truth k g v at there (holds_in w)),
+    )
 
 module _ (c : Core) (core : IsCore c) (set : List ℕ) (list : List Guard) (has : All (Has c.store) list) (labels : map (label_in c.store) list ≡ set_labels (automaton_of c) set) where
   -- in a later store the labels are the same

@@ -1,27 +1,26 @@
 -- The subset construction makes a monitor, and a deterministic automaton.
-use Rattle.std.proofs.Common.{◌≡◌, ◌≢◌, ◌∙◌, ◌⊎◌, ◌<◌, ◌≤◌, ◌==◌, ◌&&◌, ℕ, zero, suc, All, AllPairs, Bool, true, false, Contains, List, [], ◌∷◌, None, Option, Some, ap, arith, eq-eqb, filter, get_or, inl, inr, length, map, refl, slice_get, subst, sym}
+use Rattle.std.proofs.Common.{◌≡◌, ◌∙◌, ◌<◌, ◌≤◌, ◌==◌, ◌&&◌, ℕ, Bool, true, false, Contains, List, [], ◌∷◌, Some, ap, arith, eq-eqb, get_or, inl, inr, length, refl, slice_get, subst, sym}
 use Rattle.std.proofs.lemmas.Bool.{and_from, and_parts, eqb-true, true≢false}
-use Rattle.std.proofs.lemmas.List.{get_or-map, length-map}
+use Rattle.std.proofs.lemmas.List.{length-map}
 use Rattle.std.proofs.lemmas.List.Elements.{All-contains, Contains-get_or}
-use Rattle.std.proofs.lemmas.Option.{get_or_from_slice_get, none-some, same_Some, slice_get-get_or, slice_get_within}
+use Rattle.std.proofs.lemmas.Option.{get_or_from_slice_get, slice_get-get_or, slice_get_within}
 use Rattle.std.specs.List.{list_any, range_with_len}
 use Rattle.aut_base.proofs.CanonicalTruth.{truth_on-label_of}
-use Rattle.aut_base.proofs.Members.{any_found, any_from, first_there, from_filter, from_flat_map, from_map, from_range, none_there, placed_there, there_at, there_filter, there_flat_map, there_map, there_range_zero}
+use Rattle.aut_base.proofs.Members.{any_found, any_from, first_there, from_filter, from_flat_map, from_map, none_there, placed_there, there_at, there_filter, there_flat_map, there_map, there_range_zero}
 use Rattle.std.specs.FinSet as set
 use Rattle.aut_base.proofs.ValuationLetters.{valuation_at, valuation_at_holds}
 use Rattle.aut_base.specs.Automaton.{Automaton, IsEdgeOf, IsWellFormed, TreeEdge}
-use Rattle.aut_base.specs.CanonicalLabel.{label_of}
 use Rattle.aut_base.specs.Label.{LabelTree, holds_at, truth}
-use Rattle.aut_base.specs.Valuation.{IsLeast, holds_in, number_of, truth_on}
+use Rattle.aut_base.specs.Valuation.{holds_in, truth_on}
 use Rattle.aut_base.specs.Word.{NameSet}
-use Rattle.aut_core.specs.Deterministic.{AreApart, IsDeterministic, is_met}
+use Rattle.aut_core.specs.Deterministic.{AreApart, IsDeterministic}
 use Rattle.aut_core.specs.Surveys.{edges_from}
-use Rattle.exploration.proofs.Edges.{ArrowBefore, Has, arrows_rise, edge_for, edge_from}
+use Rattle.exploration.proofs.Edges.{ArrowBefore, arrows_rise, edge_for, edge_from}
 use Rattle.exploration.specs.Moves.{Fails, Gives, Lacks, Move}
 use Rattle.exploration.specs.Reached.{IsExplored}
 use Rattle.exploration.specs.Turns.{Arrow, EndsWith}
 use Rattle.label_guards.proofs.ClassLeastLaws.{alike_each, alike_on, alike_turned, least_alike, leasts_apart}
-use Rattle.label_guards.specs.ClassLeasts.{are_alike, class_leasts}
+use Rattle.label_guards.specs.ClassLeasts.{are_alike}
 use Rattle.monitor_form.specs.Monitors.{HasEdge, IsGoal, IsMonitorOf, IsMove, first_places, set_at}
 use Rattle.monitor_form.specs.Subsets.{class_label, goals, is_goal, monitor_edge, monitor_on, set_classes, set_edges, set_labels, start_set, step_at, subset_moves, subset_rules, unless_empty}
 use Rattle.exploration.proofs.Ends.{explored}
@@ -155,7 +154,7 @@ module _ (b : Automaton) (formed : IsWellFormed b) where
           below = step.below;
           goals = λ q. (
             λ inside. to_goal (set_at sets a.from) v x alike q (subst (λ (s : List ℕ). Contains s q) (sym step.leads) inside),
-            λ goal. subst (λ (s : List ℕ). Contains s q) step.leads (from_goal (set_at sets a.from) v x alike q goal)
+            λ goal. subst (λ (s : List ℕ). Contains s q) step.leads (from_goal (set_at sets a.from) v x alike q goal),
           );
           some = step.some;
           there = step.there;
@@ -185,12 +184,12 @@ module _ (b : Automaton) (formed : IsWellFormed b) where
       starts = refl;
       first = λ q. (
         λ there. to_start q (subst (λ (s : List ℕ). Contains s q) start_at there),
-        λ there. subst (λ (s : List ℕ). Contains s q) (sym start_at) (from_start q there)
+        λ there. subst (λ (s : List ℕ). Contains s q) (sym start_at) (from_start q there),
       );
       steps = λ e x there holds. (
-        let from = from_map (monitor_edge b sets) arrows e there in
-        subst (λ (d : TreeEdge). IsMove b sets x d.from d.to) from.2 (arrow_moves from.0 x from.1 (ap (λ (d : TreeEdge). truth (holds_at b.names x) d.label) from.2 ∙ holds))
-        );
+          let from = from_map (monitor_edge b sets) arrows e there in
+          subst (λ (d : TreeEdge). IsMove b sets x d.from d.to) from.2 (arrow_moves from.0 x from.1 (ap (λ (d : TreeEdge). truth (holds_at b.names x) d.label) from.2 ∙ holds))
+          );
       total = goes_on;
       formula = refl;
     }

@@ -1,21 +1,22 @@
 -- What the monitor accepts, that it is determined, and that where there is one no limit is met.
-use Rattle.std.proofs.Common.{◌≡◌, ◌∙◌, ◌<◌, ℕ, List, [], ◌∷◌, ap, arith, false, length, subst, sym}
-use Rattle.aut_base.specs.Acceptance.{Accepts}
+use Rattle.std.proofs.Common.{◌≡◌, ◌∙◌, ◌<◌, ◌≤◌, ℕ, List, [], ◌∷◌, Result, Ok, Err, IfOk, OnOk, ap, arith, false, length, subst, sym}
 use Rattle.aut_base.specs.Automaton.{Automaton, IsWellFormed}
 use Rattle.aut_base.specs.Formula.{Inf}
+use Rattle.aut_base.specs.declared.limit.TheConstants.{MOST_BUCHI_STATES}
+use Rattle.aut_core.specs.Core.{Core, automaton_of}
 use Rattle.aut_core.specs.Deterministic.{IsDeterministic}
 use Rattle.aut_core.specs.OtherNames.{AcceptTheSame}
 use Rattle.aut_ops.proofs.FlagLaws.{pruned_is_determined}
 use Rattle.aut_ops.specs.Pruning.{IsPruned}
-use Rattle.degeneralise.specs.Buchi.{buchi}
+use Rattle.degeneralise.specs.Buchi.{buchi, buchi_states}
 use Rattle.exploration.proofs.Ends.{ends_or_meets, has_one_ending, has_one_outcome}
-use Rattle.exploration.specs.Turns.{Comes, Ends, Goes, Meets, Turn, begin}
+use Rattle.exploration.specs.Turns.{Ends, Goes, Meets, Turn, begin}
 use Rattle.exploration.specs.declared.fault.Fault.{Fault}
 use Rattle.monitor_form.proofs.Formed.{formed_of}
 use Rattle.monitor_form.proofs.LivePaths.{pruned_are_live}
 use Rattle.monitor_form.proofs.Prefixed.{monitor_accepts}
 use Rattle.monitor_form.specs.Prefixes.{AcceptsPrefixes, HasPrefix}
-use Rattle.monitor_form.specs.Subsets.{IsExploredFrom, IsMonitor, IsSubsetForm, LimitsExclude, MeetsLimit, MeetsSubsetLimit, MonitorExcludesLimits, MonitorIsDetermined, monitor_on, start_set, subset_rules}
+use Rattle.monitor_form.specs.Subsets.{IsExploredFrom, IsMonitor, IsSubsetForm, MeetsLimit, MeetsSubsetLimit, MonitorExcludesLimits, MonitorIsDetermined, monitor_on, start_set, subset_rules}
 
 forms_same : (b made other : Automaton) → IsSubsetForm b made → IsSubsetForm b other → made ≡ other
 forms_same b made other f g = by b.starts f.explored g.explored
@@ -49,13 +50,13 @@ one_limit b f g x y = ap (fault_in f) (has_one_outcome (List ℕ) (subset_rules 
 pub monitor_excludes_limits : MonitorExcludesLimits
 monitor_excludes_limits a = record {
   monitors = λ made f m l. (
-    let same = pruned_is_determined (buchi a) m.pruned l.pruned m.is_pruned l.is_pruned in
-    form_excludes m.pruned made f m.is (subst (λ (b : Automaton). MeetsSubsetLimit b f) (sym same) l.meets)
-    );
+      let same = pruned_is_determined (buchi a) m.pruned l.pruned m.is_pruned l.is_pruned in
+      form_excludes m.pruned made f m.is (subst (λ (b : Automaton). MeetsSubsetLimit b f) (sym same) l.meets)
+      );
   others = λ f g l k. (
-    let same = pruned_is_determined (buchi a) l.pruned k.pruned l.is_pruned k.is_pruned in
-    one_limit l.pruned f g l.meets (subst (λ (b : Automaton). MeetsSubsetLimit b g) (sym same) k.meets)
-    );
+      let same = pruned_is_determined (buchi a) l.pruned k.pruned l.is_pruned k.is_pruned in
+      one_limit l.pruned f g l.meets (subst (λ (b : Automaton). MeetsSubsetLimit b g) (sym same) k.meets)
+      );
 }
 
 -- automata that accept the same words have the same prefixes
@@ -68,11 +69,24 @@ prefix_back a b same u v n p = record { stem = p.stem; cycle = p.cycle; accepted
 pub accepts_prefixes : (a form pruned made : Automaton) → AcceptTheSame form a → AcceptTheSame pruned form → IsWellFormed form → form.formula ≡ Inf 0 false → IsPruned form pruned → IsWellFormed pruned → IsSubsetForm pruned made → AcceptsPrefixes made a
 accepts_prefixes a form pruned made first second formed condition is_pruned well is u v some =
     let f = formed_of pruned made well is in
-    let m = monitor_accepts pruned made f.sets (pruned_are_live form pruned formed condition is_pruned) f.monitor u v some in
-    (
+    let m = monitor_accepts pruned made f.sets (pruned_are_live form pruned formed condition is_pruned) f.monitor u v some in (
       λ accepted n. prefix_same a form first u v n (prefix_same form pruned second u v n (m.0 accepted n)),
-      λ prefixes. m.1 (λ n. prefix_back form pruned second u v n (prefix_back a form first u v n (prefixes n)))
+      λ prefixes. m.1 (λ n. prefix_back form pruned second u v n (prefix_back a form first u v n (prefixes n))),
     )
 
 pub form_deterministic : (b made : Automaton) → IsWellFormed b → IsSubsetForm b made → IsDeterministic made
 form_deterministic b made well is = (formed_of b made well is).deterministic
+
+-- the monitor, from what its steps say
+pub monitor_of : (a form pruned made : Automaton) → form ≡ buchi a → IsPruned form pruned → IsSubsetForm pruned made → IsMonitor a made
+monitor_of a form pruned made same is_pruned is = record { pruned = pruned; is_pruned = subst (λ (b : Automaton). IsPruned b pruned) same is_pruned; is = is }
+
+pub no_limits : (a form pruned made : Automaton) → form ≡ buchi a → IsPruned form pruned → IsSubsetForm pruned made → (f : Fault) → MeetsLimit a f → ⊥
+no_limits a form pruned made same is_pruned is f meets = (monitor_excludes_limits a).monitors made f (monitor_of a form pruned made same is_pruned is) meets
+
+pub no_limits_on : {E : Type 0} (a form pruned : Automaton) → form ≡ buchi a → IsPruned form pruned → (r : Result Core E) → IfOk r (λ made. IsSubsetForm pruned (automaton_of made)) → OnOk r ((f : Fault) → MeetsLimit a f → ⊥)
+no_limits_on a form pruned same is_pruned (Ok made) is = no_limits a form pruned (automaton_of made) same is_pruned is
+no_limits_on a form pruned same is_pruned (Err e) is = tt
+
+pub limit_of : (a form pruned : Automaton) (f : Fault) → buchi_states a ≤ MOST_BUCHI_STATES → form ≡ buchi a → IsPruned form pruned → MeetsSubsetLimit pruned f → MeetsLimit a f
+limit_of a form pruned f few same is_pruned meets = record { few = few; pruned = pruned; is_pruned = subst (λ (b : Automaton). IsPruned b pruned) same is_pruned; meets = meets }

@@ -1,5 +1,5 @@
 -- Flags of the states to which edges lead.
-use Rattle.std.proofs.Common.{◌≡◌, ◌≢◌, ◌∙◌, ◌+◌, ◌<◌, ◌≤◌, Contains, ◌==◌, ◌&&◌, ◌||◌, ℕ, zero, suc, All, Bool, true, false, List, [], ◌∷◌, ◌++◌, Some, ap, arith, cond, filter, get_or, length, map, refl, set, slice_get, subst, sym, take}
+use Rattle.std.proofs.Common.{◌≡◌, ◌≢◌, ◌∙◌, ◌+◌, ◌<◌, ◌≤◌, ◌==◌, ◌&&◌, ◌||◌, ℕ, zero, suc, All, Bool, true, false, List, [], ◌∷◌, ◌++◌, Some, ap, arith, cond, filter, get_or, length, map, refl, set, slice_get, subst, sym, take}
 use Rattle.std.proofs.Math.Bool.{or_assoc}
 use Rattle.std.proofs.lemmas.Bool.{eqb-false, eqb-true}
 use Rattle.std.proofs.lemmas.List.{get_or-set_other, get_or-set_same, take_all}
@@ -8,7 +8,7 @@ use Rattle.std.proofs.lemmas.List.Elements.{All-contains, All-filter, filter-app
 use Rattle.std.proofs.lemmas.List.Folds.{list_any-append}
 use Rattle.std.specs.List.{list_any, range_with_len}
 use Rattle.std.specs.Prelude.{flat_map}
-use Rattle.aut_base.proofs.Lists.{flat_map-range_more, range_more}
+use Rattle.aut_base.proofs.Lists.{range_more}
 use Rattle.aut_base.proofs.Members.{each_there, from_filter, from_flat_map, from_map, read_has}
 use Rattle.aut_base.proofs.Steps.{flat_map_on, map_on}
 use Rattle.aut_base.proofs.Truth.{or-false}

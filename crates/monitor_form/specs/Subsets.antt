@@ -15,7 +15,6 @@ use Rattle.degeneralise.specs.Buchi.{buchi, buchi_states}
 use Rattle.exploration.specs.Moves.{Gives, Lacks, Move, Moves}
 use Rattle.exploration.specs.Turns.{Arrow, Comes, EndsWith, Meets, Rules, begin}
 use Rattle.exploration.specs.declared.fault.Fault.{Fault}
-use Rattle.exploration.specs.declared.fault.Fault.TheVariants as limit
 use Rattle.label_guards.specs.ClassLeasts.{are_alike, class_leasts}
 use Rattle.monitor_form.specs.Monitors.{first_places, set_at}
 

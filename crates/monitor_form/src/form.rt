@@ -54,6 +54,7 @@ pub fn monitor(alloc: Global, a: &Automaton) -> Result<Automaton, MonFault>
     let buchi = to_buchi(alloc, a)?;
     buchi.whole();
     let pruned = prune(alloc, &buchi)?;
+    pruned.whole();
     subset_form(alloc, &pruned)
 }
 

@@ -18,7 +18,7 @@ pub(crate) struct Subsets<'a> {
 }
 
 impl<'a> System for Subsets<'a> {
-    ghost use Rattle.aut_core.specs.Core.{automaton_of};
+    ghost use Rattle.aut_core.specs.Core.{Core, automaton_of};
     ghost use Rattle.monitor_form.specs.Sets.{same_set};
     ghost use Rattle.monitor_form.specs.Subsets.{subset_moves};
     ghost use Rattle.monitor_form.specs.Systems.{FitsStore, IsClassGuard};
@@ -26,6 +26,10 @@ impl<'a> System for Subsets<'a> {
     type Thing = Numbers;
 
     type Class = Guard;
+
+    ghost Frame = { Core };
+
+    ghost frame = { λ s. s.automaton.now };
 
     ghost moves = { λ s. subset_moves (automaton_of s.automaton.now) };
 

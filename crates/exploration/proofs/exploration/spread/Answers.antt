@@ -13,7 +13,7 @@ arrow_to from class to = record { from = from; class = class; to = to }
 
 pub step-requires-clause-class : goal.step-requires-clause-class
 step-requires-clause-class g c =
-    let so = c.classes.invariant in
+    let so = c.classes.invariant.spread in
     let far = longer_length c.args.found.now.things.keys c.classes.found.things.keys so.longer in
     let x = c.index-as_slice-at.result in
     let here = read_here c.as_slice.result.now c.classes.found.things.keys c.args.at x c.as_slice.ensures.keys (omega (arith, far, c.requires.at)) c.index-as_slice-at.is in
@@ -22,7 +22,7 @@ step-requires-clause-class g c =
 
 pub returns-in_err-to-clause-meets : goal.returns-in_err-to-clause-meets
 returns-in_err-to-clause-meets g c =
-    let so = c.classes.invariant in
+    let so = c.classes.invariant.spread in
     let far = longer_length c.args.found.now.things.keys c.classes.found.things.keys so.longer in
     let x = c.index-as_slice-at.result in
     let here = read_here c.as_slice.result.now c.classes.found.things.keys c.args.at x c.as_slice.ensures.keys (omega (arith, far, c.requires.at)) c.index-as_slice-at.is in
@@ -34,17 +34,17 @@ returns-in_err-to-clause-meets g c =
 
 pub classes-preserved-in_default : goal.classes-preserved-in_default
 classes-preserved-in_default g c =
-    let so = c.classes.invariant in
+    let so = c.classes.invariant.spread in
     let far = longer_length c.args.found.now.things.keys c.classes.found.things.keys so.longer in
     let x = c.index-as_slice-at.result in
     let here = read_here c.as_slice.result.now c.classes.found.things.keys c.args.at x c.as_slice.ensures.keys (omega (arith, far, c.requires.at)) c.index-as_slice-at.is in
     let small : c.classes.number < length c.args.classes.now = omega (arith, c.classes-test.true) in
     let less = number_less _ _ _ _ _ _ _ _ _ _ _ c.classes.number _ _ c.args.classes.now x so c.requires.at c.requires.classes here small in
-    spread_lacks _ _ _ _ _ _ _ _ _ _ _ _ _ _ c.classes.number _ _ x so here less c.in_ok-to.ensures.keeps (c.in_ok-to.ensures.step ∙ ap move_of c.in_default.is)
+    record { frame = c.in_ok-to.ensures.frame ∙ c.classes.invariant.frame; spread = spread_lacks _ _ _ _ _ _ _ _ _ _ _ _ _ _ c.classes.number _ _ x so here less c.in_ok-to.ensures.keeps (c.in_ok-to.ensures.step ∙ ap move_of c.in_default.is) }
 
 pub returns-in_err-place-clause-meets : goal.returns-in_err-place-clause-meets
 returns-in_err-place-clause-meets g c =
-    let so = c.classes.invariant in
+    let so = c.classes.invariant.spread in
     let far = longer_length c.args.found.now.things.keys c.classes.found.things.keys so.longer in
     let x = c.index-as_slice-at.result in
     let here = read_here c.as_slice.result.now c.classes.found.things.keys c.args.at x c.as_slice.ensures.keys (omega (arith, far, c.requires.at)) c.index-as_slice-at.is in
@@ -56,7 +56,7 @@ returns-in_err-place-clause-meets g c =
 
 pub classes-preserved : goal.classes-preserved
 classes-preserved g c =
-    let so = c.classes.invariant in
+    let so = c.classes.invariant.spread in
     let far = longer_length c.args.found.now.things.keys c.classes.found.things.keys so.longer in
     let x = c.index-as_slice-at.result in
     let here = read_here c.as_slice.result.now c.classes.found.things.keys c.args.at x c.as_slice.ensures.keys (omega (arith, far, c.requires.at)) c.index-as_slice-at.is in
@@ -64,10 +64,13 @@ classes-preserved g c =
     let less = number_less _ _ _ _ _ _ _ _ _ _ _ c.classes.number _ _ c.args.classes.now x so c.requires.at c.requires.classes here small in
     let class = class_is _ _ _ _ _ _ _ _ _ _ _ c.classes.number _ _ c.args.classes.now x c.index-classes-number.result so c.requires.at c.requires.classes here (read_here c.args.classes.now c.args.classes.now c.classes.number c.index-classes-number.result refl small c.index-classes-number.is) in
     let fit = subst (λ (o : Option _). MatchOption o (Unit {0}) (g.S.System.fits c.step.new.self)) c.in-Some.is c.in_ok-to.ensures.gives in
-    spread_gives _ _ _ _ _ _ _ _ _ _ _ _ _ _ c.classes.number _ _ x so here less c.in_ok-to.ensures.keeps c.in-Some.to _ _ _ (c.in_ok-to.ensures.step ∙ ap move_of c.in-Some.is) fit c.in_ok-place.ensures.room c.in_ok-place.ensures.things c.in_ok-place.ensures.few c.in_ok-push.ensures.items
-    (ap (arrow_to c.args.at c.classes.number) c.in_ok-place.ensures.place) class
+    record {
+      frame = c.in_ok-to.ensures.frame ∙ c.classes.invariant.frame;
+      spread = spread_gives _ _ _ _ _ _ _ _ _ _ _ _ _ _ c.classes.number _ _ x so here less c.in_ok-to.ensures.keeps c.in-Some.to _ _ _ (c.in_ok-to.ensures.step ∙ ap move_of c.in-Some.is) fit c.in_ok-place.ensures.room c.in_ok-place.ensures.things c.in_ok-place.ensures.few c.in_ok-push.ensures.items
+          (ap (arrow_to c.args.at c.classes.number) c.in_ok-place.ensures.place) class;
+    }
 
 pub returns-clause-spreads : goal.returns-clause-spreads
 returns-clause-spreads g c =
     let all : c.classes.number ≡ length c.args.classes.now = omega (arith, c.classes.auto.number-end, c.classes-test.false) in
-    subst (λ (n : ℕ). Spreads (rules_of g.S.Thing.PartialEq.eq (g.S.System.moves c.args.system.now) c.args.limits) c.args.at 0 n c.args.found.now.things.keys c.args.found.now.edges.items c.classes.found.things.keys c.classes.found.edges.items) all c.classes.invariant.spreads
+    subst (λ (n : ℕ). Spreads (rules_of g.S.Thing.PartialEq.eq (g.S.System.moves c.args.system.now) c.args.limits) c.args.at 0 n c.args.found.now.things.keys c.args.found.now.edges.items c.classes.found.things.keys c.classes.found.edges.items) all c.classes.invariant.spread.spreads

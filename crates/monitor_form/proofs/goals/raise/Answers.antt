@@ -1,5 +1,5 @@
 use Rattle.monitor_form.proofs.Raising.{raised_all, row_link}
-use Rattle.std.proofs.Common.{ap, arith, sym, subst, length, ◌<◌, ◌≡◌, ◌∙◌}
+use Rattle.std.proofs.Common.{arith, sym, subst}
 use Rattle.label_guards.specs.Store.{Store, HasPlace}
 use Rattle.monitor_form.proofs.goals.raise.Goals as goal
 

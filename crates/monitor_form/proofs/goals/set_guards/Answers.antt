@@ -1,7 +1,6 @@
-use Rattle.std.proofs.Common.{◌∙◌, ◌≡◌, All, List, ap, arith, map, subst, sym}
+use Rattle.std.proofs.Common.{◌∙◌, All, ap, arith, map, subst, sym}
 use Rattle.std.proofs.lemmas.List.{take_all}
 use Rattle.label_guards.specs.Store.{Has, label_in}
-use Rattle.label_guards.specs.declared.guard.Guard.{Guard}
 use Rattle.monitor_form.proofs.Raising.{guards_from, guards_has, guards_labels}
 use Rattle.monitor_form.proofs.goals.set_guards.Goals as goal
 
