@@ -1,7 +1,7 @@
 -- Guards with a proposition hidden: what they say, under larger stores and over the other names.
-use Rattle.std.proofs.Common.{◌≡◌, ◌≢◌, ◌∙◌, ◌<◌, ℕ, zero, suc, Bool, true, false, cond, if◌then◌else◌, List, [], ◌++◌, ◌∷◌, All, AllPairs, Contains, Some, ap, arith, get_or}
-use Rattle.std.proofs.Common.{length, length-append, nat_eq, refl, slice_get, subst, sym}
-use Rattle.std.proofs.lemmas.List.Elements.{All-push, Contains-get_or}
+use Rattle.std.proofs.Common.{◌≡◌, ◌≢◌, ◌∙◌, ◌<◌, ℕ, Bool, true, false, cond, if◌then◌else◌, List, [], AllPairs, Some, ap, arith}
+use Rattle.std.proofs.Common.{length, nat_eq, refl, slice_get, subst, sym}
+use Rattle.std.proofs.lemmas.List.Elements.{Contains-get_or}
 use Rattle.std.proofs.lemmas.Option.{same_Some, slice_get-get_or}
 use Rattle.std.specs.FinSet.{contains}
 use Rattle.std.specs.List.{slice_index_or}
@@ -11,7 +11,6 @@ use Rattle.aut_base.specs.CanonicalLabel.{label_of}
 use Rattle.aut_base.specs.Label.{holds_at, truth}
 use Rattle.aut_base.specs.Valuation.{holds_in, letter_of, truth_on}
 use Rattle.aut_base.specs.Word.{NameSet}
-use Rattle.aut_core.proofs.Growth.{keeps_on}
 use Rattle.aut_core.proofs.Made.{label_in_below, label_in_settled}
 use Rattle.label_guards.specs.Guards.{IsGuardOf, truth_in, with_prop}
 use Rattle.label_guards.specs.Store.{Has, Keeps, Store, label_in}

@@ -1,5 +1,5 @@
 -- What hiding a name makes of an automaton: its shape, that it is well formed, and what it accepts.
-use Rattle.std.proofs.Common.{◌≡◌, ◌≢◌, ◌∙◌, ◌≤◌, ◌||◌, ℕ, Bool, true, false, List, [], ◌∷◌, All, AllPairs, Contains, Some, ap, arith, cond, get_or}
+use Rattle.std.proofs.Common.{◌≡◌, ◌≢◌, ◌∙◌, ℕ, Bool, true, false, List, [], ◌∷◌, All, Contains, Some, ap, arith, get_or}
 use Rattle.std.proofs.Common.{if◌then◌else◌, length, map, refl, slice_get, subst, sym}
 use Rattle.std.proofs.lemmas.List.Elements.{All-contains, All-map, All-weaker, Contains-get_or}
 use Rattle.std.proofs.lemmas.Option.{get_or_from_slice_get, slice_get-get_or}
@@ -9,12 +9,9 @@ use Rattle.aut_base.proofs.CanonicalAutomata.{labels_below}
 use Rattle.aut_base.proofs.CanonicalBelow.{label_of_below}
 use Rattle.aut_base.proofs.CanonicalTruth.{truth_below}
 use Rattle.aut_base.proofs.Truth.{or_same}
-use Rattle.aut_base.proofs.Members.{there_found}
 use Rattle.aut_base.specs.Automaton.{Automaton, IsEdgeOf, IsWellFormed, TreeEdge}
 use Rattle.aut_base.specs.Label.{AllBelow, LabelTree, holds_at, truth}
-use Rattle.aut_base.specs.LabelLaws.{LabelsBelow}
 use Rattle.aut_base.specs.Word.{NameSet}
-use Rattle.aut_base.specs.declared.limit.TheConstants.{MOST_NAMES}
 use Rattle.aut_core.proofs.JoinedNames.{among}
 use Rattle.aut_core.proofs.Made.{parts_from}
 use Rattle.aut_core.specs.Core.{AreParts, Core, IsCore, automaton_of, edge_of}
@@ -26,7 +23,7 @@ use Rattle.ap_project.proofs.Letters.{but_including, but_without}
 use Rattle.ap_project.proofs.OtherNames.{all_left, fewer}
 use Rattle.ap_project.proofs.Relabelled.{relabelled_is_hidden}
 use Rattle.ap_project.specs.Hiding.{AcceptsHidden, SameBut, hidden, hidden_label, hidden_truth, hidden_value, including, names_without, without}
-use Rattle.ap_project.specs.Laws.{HiddenAccepts, IsHidden, IsRelabelled}
+use Rattle.ap_project.specs.Laws.{HiddenAccepts, IsHidden}
 use Rattle.ap_project.specs.inner.HiddenGuards.{hidden_link}
 use Rattle.ap_project.specs.declared.hide.Hide.{Hide}
 use Rattle.ap_project.specs.declared.hide.Hide.TheVariants.{Any, Absent, Present}

@@ -4,7 +4,6 @@ use Rattle.std.proofs.lemmas.Bool.{cases_lt}
 use Rattle.std.proofs.lemmas.List.{get_or-append-add, get_or_append_left, take_all}
 use Rattle.std.proofs.lemmas.List.Elements.{All-push}
 use Rattle.std.proofs.lemmas.Option.{same_Some, slice_get_within}
-use Rattle.std.specs.List.{slice_index_or}
 use Rattle.aut_base.proofs.Lists.{slice_get-append_left, slice_get-append_right, take-push}
 use Rattle.ap_project.specs.inner.HiddenGuards.{ArePlaces}
 

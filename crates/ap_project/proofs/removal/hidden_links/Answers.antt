@@ -1,12 +1,11 @@
 use Rattle.std.proofs.Common.{◌∙◌, ◌<◌, ap, arith, get_or, length, sym}
 use Rattle.aut_base.proofs.Members.{read_has}
 use Rattle.label_guards.specs.Store.{Has}
-use Rattle.aut_core.proofs.Following.{stand_all, stand_more}
+use Rattle.aut_core.proofs.Following.{stand_more}
 use Rattle.aut_core.proofs.Growth.{keeps_on}
 use Rattle.ap_project.proofs.GuardLabels.{hidden_before, hidden_label_in}
 use Rattle.ap_project.proofs.OtherNames.{only_name}
-use Rattle.ap_project.specs.Hiding.{names_without}
-use Rattle.ap_project.specs.inner.HiddenGuards.{hidden_link, name_at}
+use Rattle.ap_project.specs.inner.HiddenGuards.{hidden_link}
 use Rattle.ap_project.proofs.removal.hidden_links.Goals as goal
 
 pub hidden_guard-requires-clause-alone : goal.hidden_guard-requires-clause-alone

@@ -1,4 +1,4 @@
-use Rattle.std.proofs.Common.{◌≡◌, ◌∙◌, ◌<◌, ◌^◌, List, [], ap, arith, length, subst, sym, ℕ}
+use Rattle.std.proofs.Common.{◌≡◌, ◌∙◌, List, [], ap, length, subst, sym, ℕ}
 use Rattle.std.proofs.lemmas.Option.{get_or_from_slice_get, slice_get_within}
 use Rattle.std.proofs.lemmas.Result.{IfOk-weaker}
 use Rattle.aut_base.proofs.Members.{placed_there}
@@ -6,7 +6,6 @@ use Rattle.aut_base.specs.Formula.{formula_tree}
 use Rattle.aut_core.proofs.JoinedNames.{among}
 use Rattle.aut_core.specs.Core.{Core, automaton_of}
 use Rattle.ap_project.proofs.HiddenAutomata.{hidden_edges, hidden_there, others_parts, over_others}
-use Rattle.ap_project.proofs.OtherNames.{fewer}
 use Rattle.ap_project.specs.Hiding.{names_without}
 use Rattle.ap_project.specs.inner.HiddenGuards.{ArePlaces}
 use Rattle.ap_project.proofs.removal.without_prop.Goals as goal
