@@ -12,7 +12,7 @@ use Rattle.aut_base.specs.Formula.{met}
 use Rattle.aut_base.specs.Label.{LabelTree, holds_at, truth}
 use Rattle.aut_base.specs.Word.{NameSet, SpellsSame, copies}
 use Rattle.ap_project.proofs.Letters.{absent_itself, but_including, but_without, including_again, present_itself, without_same, without_twice}
-use Rattle.ap_project.proofs.Related.{Related, accepts_carried, as_many, map_related, related_letters, related_map, some_letter, unrolled}
+use Rattle.ap_project.proofs.Related.{Carries, Related, accepts_carried, as_many, map_related, related_letters, related_map, some_letter, unrolled}
 use Rattle.ap_project.specs.Hiding.{AgreeOff, SameBut, SomeSays, hidden_truth, including, without}
 use Rattle.ap_project.specs.Laws.{Forth, HiddenAny, IsHidden}
 use Rattle.ap_project.specs.declared.hide.Hide.TheVariants.{Any}
@@ -33,7 +33,8 @@ holds_itself name names l x =
     (λ i. at (without_twice name x i) || at (including_again name x i))
 
 -- words that are the same but for the name, with the name taken away
-spells_without : (name : List ℕ) (u v x y : List NameSet) → 0 < length v → 0 < length y → AgreeOff name u v x y → SpellsSame (map (without name) x) (map (without name) y) (map (without name) u) (map (without name) v)
+spells_without : (name : List ℕ) (u v x y : List NameSet) → 0 < length v → 0 < length y → AgreeOff name u v x y
+    → SpellsSame (map (without name) x) (map (without name) y) (map (without name) u) (map (without name) v)
 spells_without name u v x y some_v some_y same n =
     let f = without name in
     let old = some_letter u v n some_v in
@@ -47,10 +48,15 @@ spells_without name u v x y some_v some_y same n =
     new_f.1 ∙ (ap Some (sym two ∙ (sym but ∙ one)) ∙ sym old_f.1)
 
 module _ (name : List ℕ) (a h : Automaton) (is : IsHidden Any name a h) where
+  forgotten : Carries (λ s t. without name s ≡ t) a h
+  forgotten e s t same there holds =
+      is.forth e t there (subst (λ z. hidden_truth Any name a.names e.label z ≡ true) same (holds_without name a.names e.label s holds))
+
   forget : (x y : List NameSet) → Accepts a x y → Accepts h (map (without name) x) (map (without name) y)
   forget x y r =
       let R : NameSet → NameSet → Type 0 = λ s t. without name s ≡ t in
-      accepts_carried R a h (λ e s t same there holds. is.forth e t there (subst (λ z. hidden_truth Any name a.names e.label z ≡ true) same (holds_without name a.names e.label s holds))) (λ s. subst (λ ss. Contains ss s) (sym is.starts)) (sym is.formula) x y _ _ (related_map R (without name) (λ s. refl) x) (related_map R (without name) (λ s. refl) y) r
+      let mapped : (xs : List NameSet) → Related R xs (map (without name) xs) = related_map R (without name) (λ s. refl) in
+      accepts_carried R a h forgotten (λ s. subst (λ ss. Contains ss s) (sym is.starts)) (sym is.formula) x y _ _ (mapped x) (mapped y) r
 
   recall : (u v : List NameSet) → Accepts h (map (without name) u) (map (without name) v) → Accepts h u v
   recall u v r =
@@ -60,8 +66,12 @@ module _ (name : List ℕ) (a h : Automaton) (is : IsHidden Any name a h) where
       step : (f : TreeEdge) (s t : NameSet) → s ≡ without name t → Contains h.edges f → truth (holds_at h.names s) f.label ≡ true → Forth h f t
       step f s t same there holds =
           let old = is.back f s there holds in
-          let new = is.forth old.edge t old.there (sym (holds_itself name a.names old.edge.label t) ∙ subst (λ z. hidden_truth Any name a.names old.edge.label z ≡ true) same old.holds) in
-          record { edge = new.edge; there = new.there; twin = record { from = new.twin.from ∙ old.twin.from; to = new.twin.to ∙ old.twin.to; marks = new.twin.marks ∙ old.twin.marks }; holds = new.holds }
+          let at_without = subst (λ z. hidden_truth Any name a.names old.edge.label z ≡ true) same old.holds in
+          let new = is.forth old.edge t old.there (sym (holds_itself name a.names old.edge.label t) ∙ at_without) in
+          let same_from = new.twin.from ∙ old.twin.from in
+          let same_to = new.twin.to ∙ old.twin.to in
+          let same_marks = new.twin.marks ∙ old.twin.marks in
+          record { edge = new.edge; there = new.there; twin = record { from = same_from; to = same_to; marks = same_marks }; holds = new.holds }
 
   -- a path of a over letters that are the same but for the name
   record Chosen (p : ℕ) (xs : List NameSet) (es : List TreeEdge) (q : ℕ) : Type 0 where
@@ -110,7 +120,8 @@ module _ (name : List ℕ) (a h : Automaton) (is : IsHidden Any name a h) where
         stem = way.letters;
         cycle = cycle.letters;
         some = omega (arith, some, as_many (SameBut name) round cycle.letters cycle.same);
-        same = λ n s t first second. related_letters (SameBut name) stem round way.letters cycle.letters way.same cycle.same some n s t (sym (unrolled r.turns r.rounds u v r.endless some n) ∙ first) second;
+        same = λ n s t first second. related_letters (SameBut name) stem round way.letters cycle.letters way.same cycle.same some n s t
+            (sym (unrolled r.turns r.rounds u v r.endless some n) ∙ first) second;
         said = record {
           endless = omega (arith, some, as_many (SameBut name) round cycle.letters cycle.same);
           start = r.start;
@@ -132,7 +143,9 @@ module _ (name : List ℕ) (a h : Automaton) (is : IsHidden Any name a h) where
       let f = without name in
       let some_f : 0 < length (map f v) = omega (arith, some, length-map v f) in
       let other_f : 0 < length (map f s.cycle) = omega (arith, s.some, length-map s.cycle f) in
-      recall u v ((same_word_same_verdict h (map f s.stem) (map f s.cycle) (map f u) (map f v) other_f some_f (spells_without name u v s.stem s.cycle some s.some s.same)).0 (forget s.stem s.cycle s.said))
+      let spells = spells_without name u v s.stem s.cycle some s.some s.same in
+      let alike = same_word_same_verdict h (map f s.stem) (map f s.cycle) (map f u) (map f v) other_f some_f spells in
+      recall u v (alike.0 (forget s.stem s.cycle s.said))
 
 pub hidden_any : HiddenAny
 hidden_any name a h is u v some = (choose name a h is u v, back_to name a h is u v some)

@@ -1,6 +1,7 @@
 -- Guards with a proposition hidden: what they say, under larger stores and over the other names.
-use Rattle.std.proofs.Common.{◌≡◌, ◌≢◌, ◌∙◌, ◌<◌, ℕ, zero, suc, Bool, true, false, cond, if◌then◌else◌, List, [], ◌++◌, ◌∷◌, All, AllPairs, Contains, Some, ap, arith, get_or, length, length-append, nat_eq, refl, slice_get, subst, sym}
-use Rattle.std.proofs.lemmas.List.Elements.{All-push, Contains-get_or}
+use Rattle.std.proofs.Common.{◌≡◌, ◌≢◌, ◌∙◌, ◌<◌, ℕ, Bool, true, false, cond, if◌then◌else◌, List, [], AllPairs, Some, ap, arith}
+use Rattle.std.proofs.Common.{length, nat_eq, refl, slice_get, subst, sym}
+use Rattle.std.proofs.lemmas.List.Elements.{Contains-get_or}
 use Rattle.std.proofs.lemmas.Option.{same_Some, slice_get-get_or}
 use Rattle.std.specs.FinSet.{contains}
 use Rattle.std.specs.List.{slice_index_or}
@@ -10,7 +11,6 @@ use Rattle.aut_base.specs.CanonicalLabel.{label_of}
 use Rattle.aut_base.specs.Label.{holds_at, truth}
 use Rattle.aut_base.specs.Valuation.{holds_in, letter_of, truth_on}
 use Rattle.aut_base.specs.Word.{NameSet}
-use Rattle.aut_core.proofs.Growth.{keeps_on}
 use Rattle.aut_core.proofs.Made.{label_in_below, label_in_settled}
 use Rattle.label_guards.specs.Guards.{IsGuardOf, truth_in, with_prop}
 use Rattle.label_guards.specs.Store.{Has, Keeps, Store, label_in}
@@ -35,7 +35,8 @@ pub hidden_kept_in : {s t : Store} → Keeps s t → (how : Hide) (prop : ℕ) (
 hidden_kept_in keeps how prop g has on = λ i. hidden_value how (kept_truth keeps g has (with_prop on prop false) i) (kept_truth keeps g has (with_prop on prop true) i)
 
 -- under larger stores
-pub hidden_kept : {s t more_s more_t : Store} → Keeps s more_s → Keeps t more_t → (how : Hide) (prop : ℕ) (to : List ℕ) (g h : Guard) → IsHiddenGuard s t how prop to g h → IsHiddenGuard more_s more_t how prop to g h
+pub hidden_kept : {s t more_s more_t : Store} → Keeps s more_s → Keeps t more_t → (how : Hide) (prop : ℕ) (to : List ℕ) (g h : Guard) → IsHiddenGuard s t how prop to g h
+    → IsHiddenGuard more_s more_t how prop to g h
 hidden_kept {s} {t} first second how prop to g h is = record {
   from = first.has g is.from;
   has = second.has h is.has;
@@ -43,17 +44,20 @@ hidden_kept {s} {t} first second how prop to g h is = record {
 }
 
 -- in a store that had the guard before
-pub hidden_before : {s more_s : Store} (t : Store) → Keeps s more_s → (how : Hide) (prop : ℕ) (to : List ℕ) (g h : Guard) → Has s g → IsHiddenGuard more_s t how prop to g h → IsHiddenGuard s t how prop to g h
+pub hidden_before : {s more_s : Store} (t : Store) → Keeps s more_s → (how : Hide) (prop : ℕ) (to : List ℕ) (g h : Guard) → Has s g → IsHiddenGuard more_s t how prop to g h
+    → IsHiddenGuard s t how prop to g h
 hidden_before t keeps how prop to g h has is = record {
   from = has;
   has = is.has;
   truth = λ on. is.truth on ∙ hidden_kept_in keeps how prop g has (λ k. on (slice_index_or to k 0));
 }
 
-pub table_kept : {s t more_s more_t : Store} → Keeps s more_s → Keeps t more_t → (how : Hide) (prop : ℕ) (to : List ℕ) (entries : List (Guard × Guard)) → AreHidden s t how prop to entries → AreHidden more_s more_t how prop to entries
+pub table_kept : {s t more_s more_t : Store} → Keeps s more_s → Keeps t more_t → (how : Hide) (prop : ℕ) (to : List ℕ) (entries : List (Guard × Guard))
+    → AreHidden s t how prop to entries → AreHidden more_s more_t how prop to entries
 table_kept first second how prop to entries are = λ g h found. hidden_kept first second how prop to g h (are g h found)
 
-pub table_more : (s t : Store) (how : Hide) (prop : ℕ) (to : List ℕ) (old new : List (Guard × Guard)) (g found : Guard) → IsPut old new g found → AreHidden s t how prop to old → IsHiddenGuard s t how prop to g found → AreHidden s t how prop to new
+pub table_more : (s t : Store) (how : Hide) (prop : ℕ) (to : List ℕ) (old new : List (Guard × Guard)) (g found : Guard) → IsPut old new g found → AreHidden s t how prop to old
+    → IsHiddenGuard s t how prop to g found → AreHidden s t how prop to new
 table_more s t how prop to old new g found put are is = λ q h e. by q h (same_guard g q) refl (sym (put q) ∙ e)
   where
     by : (q h : Guard) (b : Bool) → same_guard g q ≡ b → cond (same_guard g q) (Some found) (lookup (same_guard q) old) ≡ Some h → IsHiddenGuard s t how prop to q h
@@ -65,7 +69,8 @@ table_more s t how prop to old new g found put are is = λ q h e. by q h (same_g
         subst (λ (x : Guard). IsHiddenGuard s t how prop to x h) key (subst (IsHiddenGuard s t how prop to g) value is)
 
 -- what was hidden in one store and then taken into the other
-pub hidden_moved : {s more t : Store} (how : Hide) (prop : ℕ) (to : List ℕ) (g hidden h : Guard) → Has s g → IsGuardOf more (hidden_in s how prop g) hidden → IsGuardOf t (λ on. truth_in more hidden (λ k. on (slice_index_or to k 0))) h → IsHiddenGuard s t how prop to g h
+pub hidden_moved : {s more t : Store} (how : Hide) (prop : ℕ) (to : List ℕ) (g hidden h : Guard) → Has s g → IsGuardOf more (hidden_in s how prop g) hidden
+    → IsGuardOf t (λ on. truth_in more hidden (λ k. on (slice_index_or to k 0))) h → IsHiddenGuard s t how prop to g h
 hidden_moved how prop to g hidden h has first second = record {
   from = has;
   has = second.has;
@@ -84,13 +89,17 @@ only_hidden s more how prop g hidden one within is on other =
         (λ i. if test i then b else on k) ∙ sym (λ i. if test i then b else other k))
 
 -- the label over the other names
-module _ (s t : Store) (names : List (List ℕ)) (how : Hide) (prop : ℕ) (to : List ℕ) (g h : Guard) (within : prop < length names) (differ : AllPairs (λ p q. p ≢ q) names) (old_names : s.names ≡ length names) (new_names : t.names ≡ length (names_without (name_at names prop) names)) (placed : ArePlaces names (names_without (name_at names prop) names) to) (is : IsHiddenGuard s t how prop to g h) where
+module _ (s t : Store) (names : List (List ℕ)) (how : Hide) (prop : ℕ) (to : List ℕ) (g h : Guard) (within : prop < length names) (differ : AllPairs (λ p q. p ≢ q) names)
+    (old_names : s.names ≡ length names) (new_names : t.names ≡ length (names_without (name_at names prop) names))
+    (placed : ArePlaces names (names_without (name_at names prop) names) to) (is : IsHiddenGuard s t how prop to g h) where
   abbrev others : List (List ℕ)
   others = names_without (name_at names prop) names
 
   -- with the proposition set, at a letter with the name taken out or put in
-  set_at : (v : List Bool) → length v ≡ length others → (b : Bool) (y : NameSet) → SameBut (name_at names prop) (letter_of others v) y → contains y (name_at names prop) ≡ b → truth_in s g (with_prop (λ k. holds_in v (slice_index_or to k 0)) prop b) ≡ truth (holds_at names y) (label_in s g)
-  set_at v long b y but here = truth_below s.names (with_prop (λ k. holds_in v (slice_index_or to k 0)) prop b) (holds_at names y) (label_in s g) (label_in_below s g) (λ k less. by k (omega (arith, less, old_names)) (nat_eq k prop) refl)
+  set_at : (v : List Bool) → length v ≡ length others → (b : Bool) (y : NameSet) → SameBut (name_at names prop) (letter_of others v) y → contains y (name_at names prop) ≡ b
+      → truth_in s g (with_prop (λ k. holds_in v (slice_index_or to k 0)) prop b) ≡ truth (holds_at names y) (label_in s g)
+  set_at v long b y but here = truth_below s.names (with_prop (λ k. holds_in v (slice_index_or to k 0)) prop b) (holds_at names y) (label_in s g) (label_in_below s g)
+      (λ k less. by k (omega (arith, less, old_names)) (nat_eq k prop) refl)
     where
       by : (k : ℕ) → k < length names → (e : Bool) → nat_eq k prop ≡ e → with_prop (λ k. holds_in v (slice_index_or to k 0)) prop b k ≡ holds_at names y k
       by k less true e =
@@ -110,5 +119,7 @@ module _ (s t : Store) (names : List (List ℕ)) (how : Hide) (prop : ℕ) (to :
       let n = name_at names prop in
       let at : (v : List Bool) → length v ≡ t.names → truth_on (label_in t h) v ≡ hidden_truth how n names (label_in s g) (letter_of others v) = λ v long.
       let x = letter_of others v in
-      is.truth (holds_in v) ∙ (λ i. hidden_value how (set_at v (long ∙ new_names) false (without n x) (but_without n x) (lacks_name n x) i) (set_at v (long ∙ new_names) true (including n x) (but_including n x) (has_name n x) i)) in
-      sym (label_in_settled t h) ∙ (label_of-same t.names (truth_on (label_in t h)) (λ v. hidden_truth how n names (label_in s g) (letter_of others v)) at ∙ ap (λ m. label_of m (λ v. hidden_truth how n names (label_in s g) (letter_of others v))) new_names)
+      is.truth (holds_in v) ∙ (λ i. hidden_value how (set_at v (long ∙ new_names) false (without n x) (but_without n x) (lacks_name n x) i)
+      (set_at v (long ∙ new_names) true (including n x) (but_including n x) (has_name n x) i)) in
+      sym (label_in_settled t h) ∙ (label_of-same t.names (truth_on (label_in t h)) (λ v. hidden_truth how n names (label_in s g) (letter_of others v)) at
+      ∙ ap (λ m. label_of m (λ v. hidden_truth how n names (label_in s g) (letter_of others v))) new_names)

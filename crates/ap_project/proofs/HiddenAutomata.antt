@@ -1,5 +1,6 @@
 -- What hiding a name makes of an automaton: its shape, that it is well formed, and what it accepts.
-use Rattle.std.proofs.Common.{◌≡◌, ◌≢◌, ◌∙◌, ◌≤◌, ◌||◌, ℕ, Bool, true, false, List, [], ◌∷◌, All, AllPairs, Contains, Some, ap, arith, cond, get_or, if◌then◌else◌, length, map, refl, slice_get, subst, sym}
+use Rattle.std.proofs.Common.{◌≡◌, ◌≢◌, ◌∙◌, ℕ, Bool, true, false, List, [], ◌∷◌, All, Contains, Some, ap, arith, get_or}
+use Rattle.std.proofs.Common.{if◌then◌else◌, length, map, refl, slice_get, subst, sym}
 use Rattle.std.proofs.lemmas.List.Elements.{All-contains, All-map, All-weaker, Contains-get_or}
 use Rattle.std.proofs.lemmas.Option.{get_or_from_slice_get, slice_get-get_or}
 use Rattle.std.proofs.lemmas.Simd.{map-map}
@@ -8,12 +9,9 @@ use Rattle.aut_base.proofs.CanonicalAutomata.{labels_below}
 use Rattle.aut_base.proofs.CanonicalBelow.{label_of_below}
 use Rattle.aut_base.proofs.CanonicalTruth.{truth_below}
 use Rattle.aut_base.proofs.Truth.{or_same}
-use Rattle.aut_base.proofs.Members.{there_found}
 use Rattle.aut_base.specs.Automaton.{Automaton, IsEdgeOf, IsWellFormed, TreeEdge}
 use Rattle.aut_base.specs.Label.{AllBelow, LabelTree, holds_at, truth}
-use Rattle.aut_base.specs.LabelLaws.{LabelsBelow}
 use Rattle.aut_base.specs.Word.{NameSet}
-use Rattle.aut_base.specs.declared.limit.TheConstants.{MOST_NAMES}
 use Rattle.aut_core.proofs.JoinedNames.{among}
 use Rattle.aut_core.proofs.Made.{parts_from}
 use Rattle.aut_core.specs.Core.{AreParts, Core, IsCore, automaton_of, edge_of}
@@ -25,7 +23,7 @@ use Rattle.ap_project.proofs.Letters.{but_including, but_without}
 use Rattle.ap_project.proofs.OtherNames.{all_left, fewer}
 use Rattle.ap_project.proofs.Relabelled.{relabelled_is_hidden}
 use Rattle.ap_project.specs.Hiding.{AcceptsHidden, SameBut, hidden, hidden_label, hidden_truth, hidden_value, including, names_without, without}
-use Rattle.ap_project.specs.Laws.{HiddenAccepts, IsHidden, IsRelabelled}
+use Rattle.ap_project.specs.Laws.{HiddenAccepts, IsHidden}
 use Rattle.ap_project.specs.inner.HiddenGuards.{hidden_link}
 use Rattle.ap_project.specs.declared.hide.Hide.{Hide}
 use Rattle.ap_project.specs.declared.hide.Hide.TheVariants.{Any, Absent, Present}
@@ -89,8 +87,10 @@ same_value Absent b = refl
 same_value Present b = refl
 
 -- A label without the name says the same whatever is said of the name.
-says_itself : (how : Hide) (name : List ℕ) (names : List (List ℕ)) → is_among names name ≡ false → (t : LabelTree) → AllBelow (length names) t → (x : NameSet) → truth (holds_at names x) t ≡ hidden_truth how name names t x
-says_itself how name names lacking t below x = sym ((λ i. hidden_value how (alike (without name x) (but_without name x) i) (alike (including name x) (but_including name x) i)) ∙ same_value how (truth (holds_at names x) t))
+says_itself : (how : Hide) (name : List ℕ) (names : List (List ℕ)) → is_among names name ≡ false → (t : LabelTree) → AllBelow (length names) t → (x : NameSet)
+    → truth (holds_at names x) t ≡ hidden_truth how name names t x
+says_itself how name names lacking t below x = sym ((λ i. hidden_value how (alike (without name x) (but_without name x) i) (alike (including name x) (but_including name x) i))
+    ∙ same_value how (truth (holds_at names x) t))
   where
     other : (q : List ℕ) → Contains names q → q ≢ name
     other q there e = cc (among names name (subst (Contains names) e there), lacking)
@@ -114,7 +114,8 @@ pub hidden_accepts : HiddenAccepts
 hidden_accepts how name a formed = by (is_among a.names name) refl
   where
     by : (b : Bool) → is_among a.names name ≡ b → AcceptsHidden how name a (hidden how name a)
-    by true there = subst (λ (h : Automaton). AcceptsHidden how name a h) (sym (hidden_there how name a there)) (accepts_hidden how name a (over_others how name a) (others_are_hidden how name a formed))
+    by true there = subst (λ (h : Automaton). AcceptsHidden how name a h) (sym (hidden_there how name a there))
+        (accepts_hidden how name a (over_others how name a) (others_are_hidden how name a formed))
     by false lacking = subst (λ (h : Automaton). AcceptsHidden how name a h) (sym (hidden_lacking how name a lacking)) (accepts_hidden how name a a (itself_is_hidden how name a lacking formed))
 
 others_well_formed : (how : Hide) (name : List ℕ) (a : Automaton) → IsWellFormed a → IsWellFormed (over_others how name a)
@@ -123,12 +124,16 @@ others_well_formed how name a formed = record {
   starts_differ = formed.starts_differ;
   starts = formed.starts;
   in_order = subst IsNonDecreasing (sym (map-map (λ (e : TreeEdge). e.from) (hidden_edge how name a.names) a.edges)) formed.in_order;
-  edges = All-map (IsEdgeOf (over_others how name a)) (hidden_edge how name a.names) a.edges (All-weaker (IsEdgeOf a) (λ e. IsEdgeOf (over_others how name a) (hidden_edge how name a.names e)) (λ e h. record { from = h.from; to = h.to; label = label_of_below (length (names_without name a.names)) _; marks = h.marks; marks_rise = h.marks_rise }) a.edges formed.edges);
+  edges = All-map (IsEdgeOf (over_others how name a)) (hidden_edge how name a.names) a.edges
+      (All-weaker (IsEdgeOf a) (λ e. IsEdgeOf (over_others how name a) (hidden_edge how name a.names e))
+      (λ e h. record { from = h.from; to = h.to; label = label_of_below (length (names_without name a.names)) _; marks = h.marks; marks_rise = h.marks_rise }) a.edges formed.edges);
   formula = formed.formula;
 }
 
 -- the parts of an automaton with a name hidden that it has
-pub others_parts : (how : Hide) (name : List ℕ) (old c : Core) → IsCore old → automaton_of c ≡ over_others how name (automaton_of old) → c.store.names ≡ length (names_without name old.names) → All (λ l. Has c.store l.guard) c.links → AreParts c
+pub others_parts : (how : Hide) (name : List ℕ) (old c : Core) → IsCore old → automaton_of c ≡ over_others how name (automaton_of old)
+    → c.store.names ≡ length (names_without name old.names) → All (λ l. Has c.store l.guard) c.links → AreParts c
 others_parts how name old c core same count has =
     let names_are : c.names ≡ names_without name old.names = λ i. (same i).names in
-    parts_from c (subst IsWellFormed (sym same) (others_well_formed how name (automaton_of old) core.well_formed)) (omega (arith, core.parts.few, fewer name old.names, ap length names_are)) (count ∙ sym (ap length names_are)) has
+    parts_from c (subst IsWellFormed (sym same) (others_well_formed how name (automaton_of old) core.well_formed))
+    (omega (arith, core.parts.few, fewer name old.names, ap length names_are)) (count ∙ sym (ap length names_are)) has

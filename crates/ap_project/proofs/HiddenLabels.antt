@@ -1,5 +1,5 @@
 -- What a label says at a letter with a name hidden, and the label over the other names that says so.
-use Rattle.std.proofs.Common.{◌≡◌, ◌≢◌, ◌∙◌, ◌<◌, ℕ, Bool, true, false, List, [], AllPairs, Contains, Some, ap, arith, filter, get_or, length, not, refl, slice_get, sym}
+use Rattle.std.proofs.Common.{◌≡◌, ◌≢◌, ◌∙◌, ◌<◌, ℕ, Bool, false, List, [], AllPairs, Contains, Some, ap, get_or, length, not, slice_get, sym}
 use Rattle.std.proofs.lemmas.List.Elements.{Contains-get_or}
 use Rattle.std.proofs.lemmas.List.Kept.{AllPairs-filter}
 use Rattle.std.proofs.lemmas.Option.{slice_get-get_or, slice_get_within}
@@ -25,11 +25,13 @@ others_differ name names differ = AllPairs-filter (λ p q. p ≢ q) (λ q. not (
 pub holds_there : (names : List (List ℕ)) (k : ℕ) (q : List ℕ) (x : NameSet) → slice_get names k ≡ Some q → holds_at names x k ≡ contains x q
 holds_there names k q x at = ap (λ o. option_map_or (contains x) o false) at
 
-pub letter_has : (names : List (List ℕ)) → AllPairs (λ p q. p ≢ q) names → (v : List Bool) → length v ≡ length names → (k : ℕ) (q : List ℕ) → slice_get names k ≡ Some q → contains (letter_of names v) q ≡ holds_in v k
+pub letter_has : (names : List (List ℕ)) → AllPairs (λ p q. p ≢ q) names → (v : List Bool) → length v ≡ length names → (k : ℕ) (q : List ℕ) → slice_get names k ≡ Some q
+    → contains (letter_of names v) q ≡ holds_in v k
 letter_has names differ v long k q at = sym (holds_there names k q (letter_of names v) at) ∙ letter_of_holds names v k differ long
 
 -- letters that have the same names of a label, but for the hidden one
-pub truth_off : (how : Hide) (name : List ℕ) (names : List (List ℕ)) (t : LabelTree) (x y : NameSet) → AllBelow (length names) t → ((q : List ℕ) → Contains names q → q ≢ name → contains x q ≡ contains y q) → hidden_truth how name names t x ≡ hidden_truth how name names t y
+pub truth_off : (how : Hide) (name : List ℕ) (names : List (List ℕ)) (t : LabelTree) (x y : NameSet) → AllBelow (length names) t
+    → ((q : List ℕ) → Contains names q → q ≢ name → contains x q ≡ contains y q) → hidden_truth how name names t x ≡ hidden_truth how name names t y
 truth_off how name names t x y below same = λ i. hidden_value how (fails i) (holds i)
   where
     at : (k : ℕ) → k < length names → slice_get names k ≡ Some (get_or names k [])
@@ -45,8 +47,10 @@ truth_off how name names t x y below same = λ i. hidden_value how (fails i) (ho
         let q = get_or names k [] in
         holds_there names k q (including name x) (at k less) ∙ (including_alike name x y q (same q (Contains-get_or names k [] less)) ∙ sym (holds_there names k q (including name y) (at k less))))
 
-pub label_says : (how : Hide) (name : List ℕ) (names : List (List ℕ)) (t : LabelTree) → AllPairs (λ p q. p ≢ q) names → AllBelow (length names) t → (x : NameSet) → truth (holds_at (names_without name names) x) (hidden_label how name names t) ≡ hidden_truth how name names t x
-label_says how name names t differ below x = truth-label_of (holds_at others x) (length others) (λ w. hidden_truth how name names t (letter_of others w)) ∙ truth_off how name names t (letter_of others v) x below same
+pub label_says : (how : Hide) (name : List ℕ) (names : List (List ℕ)) (t : LabelTree) → AllPairs (λ p q. p ≢ q) names → AllBelow (length names) t → (x : NameSet)
+    → truth (holds_at (names_without name names) x) (hidden_label how name names t) ≡ hidden_truth how name names t x
+label_says how name names t differ below x = truth-label_of (holds_at others x) (length others) (λ w. hidden_truth how name names t (letter_of others w))
+    ∙ truth_off how name names t (letter_of others v) x below same
   where
     others : List (List ℕ)
     others = names_without name names

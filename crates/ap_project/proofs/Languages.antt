@@ -1,5 +1,5 @@
 -- Languages with a name hidden: what automata accept, and languages that say the same.
-use Rattle.std.proofs.Common.{◌≡◌, ◌↔◌, ◌<◌, ℕ, List, arith, length, map}
+use Rattle.std.proofs.Common.{◌<◌, ℕ, List, arith, length, map}
 use Rattle.std.proofs.lemmas.List.{length-map}
 use Rattle.aut_base.specs.Automaton.{Automaton}
 use Rattle.aut_base.specs.Word.{NameSet}

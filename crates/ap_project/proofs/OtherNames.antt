@@ -1,13 +1,14 @@
 -- The names of a list but for one of them.
-use Rattle.std.proofs.Common.{◌≡◌, ◌≢◌, ◌∙◌, ◌+◌, ◌<◌, ◌≤◌, ⊎_elim, ℕ, zero, suc, Bool, true, false, cond, not, List, [], ◌∷◌, ◌++◌, All, AllPairs, Contains, Some, ap, arith, filter, get_or, length, length-take, refl, slice_get, subst, sym, take}
+use Rattle.std.proofs.Common.{◌≡◌, ◌≢◌, ◌∙◌, ◌+◌, ◌<◌, ◌≤◌, ⊎_elim, ℕ, zero, suc, Bool, true, false, cond, not, List, [], ◌∷◌, ◌++◌, All, AllPairs, Contains, Some, ap, arith, get_or}
+use Rattle.std.proofs.Common.{length, length-take, refl, slice_get, subst, sym, take}
 use Rattle.std.proofs.lemmas.Bool.{cases_order}
 use Rattle.std.proofs.lemmas.List.{append-nil, get_or-take}
 use Rattle.std.proofs.lemmas.List.Elements.{All-filter, Contains-get_or, filter-append}
 use Rattle.std.proofs.lemmas.List.Filters.{length-filter_both}
-use Rattle.std.proofs.lemmas.Option.{get_or_from_slice_get, slice_get-get_or, slice_get_within}
+use Rattle.std.proofs.lemmas.Option.{get_or_from_slice_get, slice_get-get_or}
 use Rattle.aut_base.proofs.Lists.{take-push}
 use Rattle.aut_base.proofs.Members.{there_filter}
-use Rattle.aut_base.proofs.Texts.{differ_texts, same_text}
+use Rattle.aut_base.proofs.Texts.{differ_texts}
 use Rattle.aut_base.proofs.Truth.{left_of_or, right_of_or}
 use Rattle.aut_base.specs.Text as text
 use Rattle.aut_core.specs.OtherNames.{is_among}
@@ -32,12 +33,18 @@ fewer_so_far name names others k so_far = omega (arith, ap length so_far, fewer 
 
 -- with no other name there is the one
 pub only_name : (names : List (List ℕ)) → AllPairs (λ p q. p ≢ q) names → (prop : ℕ) → prop < length names → length (names_without (name_at names prop) names) ≡ 0 → length names ≡ 1
-only_name names differ zero within none = ⊎_elim (λ (same : length names ≡ 1). same) (⊎_elim (λ (less : length names < 1). absurd (omega (arith, less, within))) (λ (more : 1 < length names). absurd (left 1 more (λ e. absurd (omega (arith, e))) within none))) (cases_order (length names) 1)
+only_name names differ zero within none = ⊎_elim at_one (⊎_elim below above) (cases_order (length names) 1)
   where
-    left : (k : ℕ) → k < length names → k ≢ 0 → 0 < length names → length (names_without (name_at names 0) names) ≡ 0 → ⊥
-    left k more away some none =
-        let there = is_left (name_at names 0) names (name_at names k) (Contains-get_or names k [] more) (apart names differ k 0 away more some) in
-        omega (arith, there.1, none)
+    at_one : length names ≡ 1 → length names ≡ 1
+    at_one same = same
+
+    below : length names < 1 → length names ≡ 1
+    below less = absurd (omega (arith, less, within))
+
+    above : 1 < length names → length names ≡ 1
+    above more =
+        let there = is_left (name_at names 0) names (name_at names 1) (Contains-get_or names 1 [] more) (apart names differ 1 0 (λ e. absurd (omega (arith, e))) more within) in
+        absurd (omega (arith, there.1, none))
 only_name names differ (suc p) within none =
     let some : 0 < length names = omega (arith, within) in
     let there = is_left (name_at names (suc p)) names (name_at names 0) (Contains-get_or names 0 [] some) (apart names differ 0 (suc p) (λ e. absurd (omega (arith, e))) some within) in
@@ -52,23 +59,28 @@ all_left name (q ∷ qs) e =
     ap (λ b. cond (not b) (q ∷ names_without name qs) (names_without name qs)) first ∙ ap (λ ns. q ∷ ns) rest
 
 -- the names so far
-one_more : (name : List ℕ) (names : List (List ℕ)) (k : ℕ) (x : List ℕ) (is : Bool) → k < length names → x ≡ get_or names k x → text.same_text name x ≡ is → names_without name (take (k + 1) names) ≡ names_without name (take k names) ++ cond (not is) (x ∷ []) []
+one_more : (name : List ℕ) (names : List (List ℕ)) (k : ℕ) (x : List ℕ) (is : Bool) → k < length names → x ≡ get_or names k x → text.same_text name x ≡ is
+    → names_without name (take (k + 1) names) ≡ names_without name (take k names) ++ cond (not is) (x ∷ []) []
 one_more name names k x is within at e =
     ap (names_without name) (take-push names k x within at)
     ∙ (filter-append (λ q. not (text.same_text name q)) (take k names) (x ∷ []) ∙ ap (λ b. names_without name (take k names) ++ cond (not b) (x ∷ []) []) e)
 
-pub left_out : (name : List ℕ) (names others : List (List ℕ)) (k : ℕ) (x : List ℕ) → k < length names → x ≡ get_or names k x → others ≡ names_without name (take k names) → text.same_text name x ≡ true → others ≡ names_without name (take (k + 1) names)
+pub left_out : (name : List ℕ) (names others : List (List ℕ)) (k : ℕ) (x : List ℕ) → k < length names → x ≡ get_or names k x → others ≡ names_without name (take k names)
+    → text.same_text name x ≡ true → others ≡ names_without name (take (k + 1) names)
 left_out name names others k x within at so_far is = so_far ∙ sym (one_more name names k x true within at is ∙ append-nil _)
 
-pub taken_on : (name : List ℕ) (names others new : List (List ℕ)) (k : ℕ) (x y : List ℕ) → k < length names → x ≡ get_or names k x → others ≡ names_without name (take k names) → text.same_text name x ≡ false → y ≡ x → new ≡ others ++ y ∷ [] → new ≡ names_without name (take (k + 1) names)
+pub taken_on : (name : List ℕ) (names others new : List (List ℕ)) (k : ℕ) (x y : List ℕ) → k < length names → x ≡ get_or names k x → others ≡ names_without name (take k names)
+    → text.same_text name x ≡ false → y ≡ x → new ≡ others ++ y ∷ [] → new ≡ names_without name (take (k + 1) names)
 taken_on name names others new k x y within at so_far differ same pushed =
     pushed ∙ (ap (λ ns. ns ++ y ∷ []) so_far ∙ (ap (λ z. names_without name (take k names) ++ z ∷ []) same ∙ sym (one_more name names k x false within at differ)))
 
-pub apart_so_far : (name : List ℕ) (names others : List (List ℕ)) (k : ℕ) (x y : List ℕ) → AllPairs (λ p q. p ≢ q) names → k < length names → x ≡ get_or names k x → others ≡ names_without name (take k names) → y ≡ x → All (λ q. q ≢ y) others
+pub apart_so_far : (name : List ℕ) (names others : List (List ℕ)) (k : ℕ) (x y : List ℕ) → AllPairs (λ p q. p ≢ q) names → k < length names → x ≡ get_or names k x
+    → others ≡ names_without name (take k names) → y ≡ x → All (λ q. q ≢ y) others
 apart_so_far name names others k x y differ within at so_far same =
     let here : slice_get names k ≡ Some (get_or names k x) = slice_get-get_or names k x within in
     let earlier : All (λ q. q ≢ x) (take k names) = λ i d l e.
     let less : i < k = omega (arith, l, length-take k names) in
     let read : get_or names k d ≡ x = get_or_from_slice_get names k (get_or names k x) d here ∙ sym at in
     differ i k d less within (sym (get_or-take k names i d less) ∙ (e ∙ sym read)) in
-    subst (λ ns. All (λ q. q ≢ y) ns) (sym so_far) (subst (λ z. All (λ q. q ≢ z) (names_without name (take k names))) (sym same) (All-filter (λ q. not (text.same_text name q)) (λ q. q ≢ x) (take k names) earlier))
+    subst (λ ns. All (λ q. q ≢ y) ns) (sym so_far) (subst (λ z. All (λ q. q ≢ z) (names_without name (take k names))) (sym same)
+    (All-filter (λ q. not (text.same_text name q)) (λ q. q ≢ x) (take k names) earlier))

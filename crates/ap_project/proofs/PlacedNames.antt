@@ -4,11 +4,11 @@ use Rattle.std.proofs.lemmas.Bool.{cases_lt}
 use Rattle.std.proofs.lemmas.List.{get_or-append-add, get_or_append_left, take_all}
 use Rattle.std.proofs.lemmas.List.Elements.{All-push}
 use Rattle.std.proofs.lemmas.Option.{same_Some, slice_get_within}
-use Rattle.std.specs.List.{slice_index_or}
 use Rattle.aut_base.proofs.Lists.{slice_get-append_left, slice_get-append_right, take-push}
 use Rattle.ap_project.specs.inner.HiddenGuards.{ArePlaces}
 
-push_place : (names others : List (List ℕ)) (to : List ℕ) (x : List ℕ) (place : ℕ) → ArePlaces names others to → (0 < length others → place < length others) → (Contains others x → slice_get others place ≡ Some x) → ArePlaces (names ++ x ∷ []) others (to ++ place ∷ [])
+push_place : (names others : List (List ℕ)) (to : List ℕ) (x : List ℕ) (place : ℕ) → ArePlaces names others to → (0 < length others → place < length others)
+    → (Contains others x → slice_get others place ≡ Some x) → ArePlaces (names ++ x ∷ []) others (to ++ place ∷ [])
 push_place names others to x place placed within here = record {
   count = length-append to (place ∷ []) ∙ (ap (λ n. n + 1) placed.count ∙ sym (length-append names (x ∷ [])));
   within = λ some. All-push (λ p. p < length others) to place (placed.within some) (within some);
@@ -20,13 +20,16 @@ push_place names others to x place placed within here = record {
       let last : length names ≡ k = omega (arith, late, long, length-append names (x ∷ [])) in
       let is : x ≡ name = same_Some x name (sym (slice_get-append_right names (x ∷ []) 0 k (omega (arith, last))) ∙ at) in
       let end : length to + 0 ≡ k = omega (arith, placed.count, last) in
-      ap (λ n. slice_get others (get_or (to ++ place ∷ []) n 0)) (sym end) ∙ (ap (slice_get others) (get_or-append-add to (place ∷ []) 0 0) ∙ (here (subst (Contains others) (sym is) there) ∙ ap Some is)))
+      ap (λ n. slice_get others (get_or (to ++ place ∷ []) n 0)) (sym end) ∙ (ap (slice_get others) (get_or-append-add to (place ∷ []) 0 0)
+      ∙ (here (subst (Contains others) (sym is) there) ∙ ap Some is)))
       (cases_lt k (length names));
 }
 
-pub placed_more : (names others : List (List ℕ)) (to more : List ℕ) (k place : ℕ) (x : List ℕ) → k < length names → x ≡ get_or names k x → ArePlaces (take k names) others to → (0 < length others → place < length others) → (Contains others x → slice_get others place ≡ Some x) → more ≡ to ++ place ∷ [] → ArePlaces (take (k + 1) names) others more
+pub placed_more : (names others : List (List ℕ)) (to more : List ℕ) (k place : ℕ) (x : List ℕ) → k < length names → x ≡ get_or names k x → ArePlaces (take k names) others to
+    → (0 < length others → place < length others) → (Contains others x → slice_get others place ≡ Some x) → more ≡ to ++ place ∷ [] → ArePlaces (take (k + 1) names) others more
 placed_more names others to more k place x within at placed below here pushed =
-    subst (ArePlaces (take (k + 1) names) others) (sym pushed) (subst (λ ns. ArePlaces ns others (to ++ place ∷ [])) (sym (take-push names k x within at)) (push_place (take k names) others to x place placed below here))
+    subst (ArePlaces (take (k + 1) names) others) (sym pushed) (subst (λ ns. ArePlaces ns others (to ++ place ∷ [])) (sym (take-push names k x within at))
+    (push_place (take k names) others to x place placed below here))
 
 pub placed_all : (names others : List (List ℕ)) (to : List ℕ) (k : ℕ) → length names ≤ k → ArePlaces (take k names) others to → ArePlaces names others to
 placed_all names others to k end placed = subst (λ ns. ArePlaces ns others to) (take_all k names end) placed

@@ -61,7 +61,8 @@ map_related R f is [] = tt
 map_related R f is (x ∷ xs) = (is x, map_related R f is xs)
 
 -- the letters of lasso words
-pub related_letters : (R : NameSet → NameSet → Type 0) (u v x y : List NameSet) → Related R u x → Related R v y → 0 < length v → (n : ℕ) (a b : NameSet) → letter_at u v n ≡ Some a → letter_at x y n ≡ Some b → R a b
+pub related_letters : (R : NameSet → NameSet → Type 0) (u v x y : List NameSet) → Related R u x → Related R v y → 0 < length v → (n : ℕ) (a b : NameSet) → letter_at u v n ≡ Some a
+    → letter_at x y n ≡ Some b → R a b
 related_letters R u v x y stems rounds some n a b first second =
     let long = as_many R v y rounds in
     let some_y : 0 < length y = omega (arith, long, some) in
@@ -110,9 +111,11 @@ carried R a b carries p q (x ∷ xs) (y ∷ ys) (e ∷ es) are path =
       marks = cc (step.twin.marks, rest.marks);
     }
 
-pub accepts_carried : (R : NameSet → NameSet → Type 0) (a b : Automaton) → Carries R a b → ((s : ℕ) → Contains a.starts s → Contains b.starts s) → a.formula ≡ b.formula → (u v x y : List NameSet) → Related R u x → Related R v y → Accepts a u v → Accepts b x y
+pub accepts_carried : (R : NameSet → NameSet → Type 0) (a b : Automaton) → Carries R a b → ((s : ℕ) → Contains a.starts s → Contains b.starts s) → a.formula ≡ b.formula
+    → (u v x y : List NameSet) → Related R u x → Related R v y → Accepts a u v → Accepts b x y
 accepts_carried R a b carries starts formula u v x y stems rounds r =
-    let way = carried R a b carries r.start r.state (u ++ copies r.turns v) (x ++ copies r.turns y) r.way (related_append R u x (copies r.turns v) (copies r.turns y) stems (related_copies R r.turns v y rounds)) r.leads in
+    let way = carried R a b carries r.start r.state (u ++ copies r.turns v) (x ++ copies r.turns y) r.way
+    (related_append R u x (copies r.turns v) (copies r.turns y) stems (related_copies R r.turns v y rounds)) r.leads in
     let cycle = carried R a b carries r.state r.state (copies r.rounds v) (copies r.rounds y) r.cycle (related_copies R r.rounds v y rounds) r.returns in
     record {
       endless = omega (arith, r.endless, as_many R v y rounds);

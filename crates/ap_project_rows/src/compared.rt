@@ -14,22 +14,48 @@ const WAYS: [Hide; 3] = [Hide::Any, Hide::Absent, Hide::Present];
 /// Lengths of stems and cycles, and how many words over four letters there are of them.
 const SHAPES: [(usize, usize, u32); 4] = [(0, 1, 4), (0, 2, 16), (1, 1, 16), (1, 2, 64)];
 
-/// How many words are accepted otherwise than they should be, by so many automata with each way of hiding.
-pub(crate) fn differing(alloc: Global, automata: u32) -> Result<u32, Memory> {
-    let mut different = 0u32;
+/// How many words were tried, how many of these were accepted, and how many otherwise than they should be.
+#[derive(Clone, Copy)]
+pub(crate) struct Tally {
+    pub(crate) words: u32,
+    pub(crate) accepted: u32,
+    pub(crate) different: u32,
+}
+
+impl Tally {
+    fn add(&mut self, is_accepted: bool, should_be: bool) {
+        self.words = self.words.saturating_add(1);
+        self.accepted = self.accepted.saturating_add(u32::from(is_accepted));
+        self.different = self
+            .different
+            .saturating_add(u32::from(is_accepted != should_be));
+    }
+}
+
+/// The tally of so many automata with each way of hiding.
+pub(crate) fn counted(alloc: Global, automata: u32) -> Result<Tally, Memory> {
+    let mut tally = Tally {
+        words: 0,
+        accepted: 0,
+        different: 0,
+    };
     for number in 0..automata {
         let edges = numbered(number);
         for how in WAYS {
-            different = different.saturating_add(differing_words(alloc, &edges, how)?);
+            add_words(alloc, &mut tally, &edges, how)?;
         }
     }
-    Ok(different)
+    Ok(tally)
 }
 
-/// The number of words that one automaton accepts otherwise than it should.
-fn differing_words(alloc: Global, edges: &[SmallEdge; 4], how: Hide) -> Result<u32, Memory> {
+/// Adds all words of one automaton.
+fn add_words(
+    alloc: Global,
+    tally: &mut Tally,
+    edges: &[SmallEdge; 4],
+    how: Hide,
+) -> Result<(), Memory> {
     let hidden = hidden(alloc, edges, how)?;
-    let mut different = 0u32;
     for (stem, cycle, words) in SHAPES {
         for number in 0..words {
             let letters = [
@@ -39,12 +65,13 @@ fn differing_words(alloc: Global, edges: &[SmallEdge; 4], how: Hide) -> Result<u
             ];
             let stem = &letters[..stem];
             let cycle = &letters[stem.len()..stem.len() + cycle];
-            if accepts(&hidden, stem, cycle) != says(alloc, edges, how, stem, cycle)? {
-                different = different.saturating_add(1);
-            }
+            tally.add(
+                accepts(&hidden, stem, cycle),
+                says(alloc, edges, how, stem, cycle)?,
+            );
         }
     }
-    Ok(different)
+    Ok(())
 }
 
 /// The edges of the automaton that comes out, or none where there is no automaton over `b` alone.

@@ -14,7 +14,7 @@ use aut_base::Memory;
 use std::io;
 
 /// The number of automata that are compared, each with every way of hiding.
-const AUTOMATA: u32 = 200;
+const AUTOMATA: u32 = 500;
 
 /// Why a run ended early.
 #[derive(Debug, Drop)]
@@ -50,7 +50,9 @@ fn main(rt: HostRuntime) -> Result<(), Stop> {
     println!(rt; "rows={rows} different={different}")?;
     let (names, others) = wide::labels(alloc)?;
     println!(rt; "wide: names={names} different={others}")?;
-    let differing = compared::differing(alloc, AUTOMATA)?;
-    println!(rt; "small: automata={AUTOMATA} different={differing}")?;
+    let tally = compared::counted(alloc, AUTOMATA)?;
+    let (words, accepted) = (tally.words, tally.accepted);
+    let differing = tally.different;
+    println!(rt; "small: words={words} accepted={accepted} different={differing}")?;
     Ok(())
 }

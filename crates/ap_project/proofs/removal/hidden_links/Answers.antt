@@ -1,12 +1,11 @@
 use Rattle.std.proofs.Common.{◌∙◌, ◌<◌, ap, arith, get_or, length, sym}
 use Rattle.aut_base.proofs.Members.{read_has}
 use Rattle.label_guards.specs.Store.{Has}
-use Rattle.aut_core.proofs.Following.{stand_all, stand_more}
+use Rattle.aut_core.proofs.Following.{stand_more}
 use Rattle.aut_core.proofs.Growth.{keeps_on}
 use Rattle.ap_project.proofs.GuardLabels.{hidden_before, hidden_label_in}
 use Rattle.ap_project.proofs.OtherNames.{only_name}
-use Rattle.ap_project.specs.Hiding.{names_without}
-use Rattle.ap_project.specs.inner.HiddenGuards.{hidden_link, name_at}
+use Rattle.ap_project.specs.inner.HiddenGuards.{hidden_link}
 use Rattle.ap_project.proofs.removal.hidden_links.Goals as goal
 
 pub hidden_guard-requires-clause-alone : goal.hidden_guard-requires-clause-alone
@@ -29,11 +28,16 @@ links-preserved c =
     let names = made.names ∙ c.links.invariant.names in
     let has : Has a.store link.guard = read_has (λ l. Has a.store l.guard) a.links c.links.link-index link (λ k d less. (c.whole.ensures.parts.links k d less).guard) within at in
     let is = hidden_before c.hidden_guard.new.made c.links.invariant.given hiding.how hiding.prop hiding.to link.guard found has c.in_ok-guard.ensures.hidden in
-    let label = hidden_label_in a.store c.hidden_guard.new.made a.names hiding.how hiding.prop hiding.to link.guard found c.requires.prop c.whole.ensures.well_formed.names_differ c.whole.ensures.parts.store_names (names ∙ c.requires.names) c.requires.places is in
+    let well_formed = c.whole.ensures.well_formed in
+    let parts = c.whole.ensures.parts in
+    let label = hidden_label_in a.store c.hidden_guard.new.made a.names hiding.how hiding.prop hiding.to link.guard found
+    c.requires.prop well_formed.names_differ parts.store_names (names ∙ c.requires.names) c.requires.places is in
     let marks = c.in_ok-copy_marks.ensures in
     record {
       given = keeps_on c.links.invariant.given given;
       names = names;
       done = c.in_ok-guard.ensures.done;
-      links = stand_more (hidden_link hiding.how hiding.prop a) a.links c.links.link-index link c.links.guards c.hidden_guard.new.made c.links.links c.push.new.self (record { from = link.from; guard = found; to = link.to; marks = c.in_ok-copy_marks.field-0 }) within at c.links.invariant.links made is.has (λ i. record { from = link.from; label = label i; to = link.to; marks = marks i }) c.in_ok-push.ensures.ok;
+      links = stand_more (hidden_link hiding.how hiding.prop a) a.links c.links.link-index link c.links.guards c.hidden_guard.new.made c.links.links c.push.new.self
+          (record { from = link.from; guard = found; to = link.to; marks = c.in_ok-copy_marks.field-0 }) within at c.links.invariant.links made is.has
+          (λ i. record { from = link.from; label = label i; to = link.to; marks = marks i }) c.in_ok-push.ensures.ok;
     }
