@@ -1,5 +1,6 @@
 pub mod Events
 pub mod Flat
+pub mod Laws
 pub mod Step
 pub mod Trees
 pub mod View

@@ -7,6 +7,7 @@
 mod claims;
 mod event;
 mod fault;
+mod law;
 mod moves;
 mod order;
 mod passes;
@@ -16,6 +17,7 @@ mod tree;
 
 pub use event::Event;
 pub use fault::TreeFault;
+pub use law::{same_list_same_tree, stored_trees_are_trees, worked_steps};
 pub use moves::{Move, Moves};
 pub use starting::start;
 pub use stepping::step;

@@ -2,7 +2,7 @@
 
 ghost use Rattle.std.specs.Prelude.{◌≡◌, ◌^◌, ◌<◌, ℕ, All, IfOk, length};
 ghost use Rattle.safra_trees.specs.Step.{names};
-ghost use Rattle.safra_trees.specs.Trees.{first_tree, has};
+ghost use Rattle.safra_trees.specs.Trees.{first_tree, has, root_states};
 ghost use Rattle.safra_trees.specs.View.{tree_of};
 ghost use Rattle.safra_trees.specs.inner.Passes.{flag};
 
@@ -13,7 +13,8 @@ use std::alloc::{AllocError, Global};
 /// The tree of an automaton with so many states before a word: one node with the starts, or none where there are none.
 pub fn start(alloc: Global, states: u32, starts: &Numbers) -> Result<SafraTree, Memory>
     requires { All (λ s. s < states) starts.now }
-    ensures { IfOk result (λ tree. tree_of tree ≡ first_tree states starts.now) }
+    ensures tree { IfOk result (λ tree. tree_of tree ≡ first_tree states starts.now) }
+    ensures states { IfOk result (λ tree. All (λ s. s < states) (root_states (tree_of tree))) }
 {
     let flags = flags(alloc, states, starts.as_slice())?;
     let found = flagged(alloc, &flags)?;

@@ -29,6 +29,7 @@ pub fn step(
     requires states { All (λ s. s < states) (root_states (tree_of tree.now)) }
     requires moves { All (IsWithin states) moves.now }
     ensures tree { IfOk result (λ made. tree_of made.0 ≡ pruned (grown states moves.now (tree_of tree.now))) }
+    ensures states { IfOk result (λ made. All (λ s. s < states) (root_states (tree_of made.0))) }
     ensures event { IfOk result (λ made. made.1 ≡ event_of states moves.now (tree_of tree.now)) }
     ensures few { IfOk result (λ made. length (tree_of made.0) ≤ 100) }
     ensures nodes { IsErrOf result TreeFault.Nodes → 100 < length (pruned (grown states moves.now (tree_of tree.now))) }

@@ -21,9 +21,16 @@ pub struct SafraTree {
 }
 
 impl SafraTree {
-    ghost use Rattle.std.specs.Prelude.{◌≡◌, length};
+    ghost use Rattle.std.specs.Prelude.{◌≡◌, ◌↔◌, IsTrue, length};
     ghost use Rattle.safra_trees.specs.Trees.{root_states};
     ghost use Rattle.safra_trees.specs.View.{tree_of};
+
+    /// Whether two trees are the same list of nodes, which `==` says too.
+    pub fn is(&self, other: &SafraTree) -> bool
+        ensures { IsTrue result ↔ (tree_of self.now ≡ tree_of other.now) }
+    {
+        self == other
+    }
 
     /// The number of nodes.
     pub fn nodes(&self) -> u32

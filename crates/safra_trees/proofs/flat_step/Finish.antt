@@ -1,14 +1,15 @@
 -- The lists that the step writes are those of the names that stay.
-use Rattle.std.proofs.Common.{◌≡◌, ◌∙◌, ◌+◌, ◌<◌, ◌≤◌, ◌&&◌, ◌-◌, ℕ, zero, suc, Bool, List, [], ◌∷◌, ◌++◌, Contains, Some, ap, arith, inl, inr, length, map, nat_lt, not, refl, subst, sym}
+use Rattle.safra_trees.specs.Trees.{root_states}
+use Rattle.std.proofs.Common.{◌≡◌, ◌∙◌, ◌+◌, ◌<◌, ◌≤◌, ◌&&◌, ◌-◌, ℕ, zero, suc, Bool, List, [], ◌∷◌, ◌++◌, Contains, Some, ap, arith, inl, inr, length, map, nat_lt, not, refl, subst, sym, All}
 use Rattle.std.proofs.lemmas.Bool.{cases_Bool, cases_eq, cases_lt, ltb-true}
 use Rattle.std.proofs.lemmas.List.{length-map}
 use Rattle.std.proofs.lemmas.List.FromFn.{length-range_with_len}
 use Rattle.std.specs.List.{range_with_len}
-use Rattle.aut_base.proofs.Members.{first_there, from_filter, from_range, later_there}
+use Rattle.aut_base.proofs.Members.{first_there, from_filter, from_range, later_there, each_there}
 use Rattle.safra_trees.proofs.flat_step.Gathered.{gathered, gathered_stored, new_parents, new_places, new_states}
 use Rattle.safra_trees.proofs.flat_step.Grown.{grown_by, grown_forest_of, grown_same}
 use Rattle.safra_trees.proofs.flat_step.Homes.{IsPassed, green_flag}
-use Rattle.safra_trees.proofs.flat_step.Placed.{nodes_length, range_at}
+use Rattle.safra_trees.proofs.flat_step.Placed.{nodes_length, range_at, stored_root}
 use Rattle.safra_trees.proofs.list_step.Pruned.{pruned_length}
 use Rattle.safra_trees.proofs.list_step.Ranks.{index_map, names_kept, names_left}
 use Rattle.safra_trees.specs.Events.{least}
@@ -224,3 +225,16 @@ finish_of n ms parents states places claims own homes stay count ranks new_p new
       ∙ (ap (λ xs. map (λ s. at ranks (at homes_1 (at xs s))) (names (λ s. nat_lt (at xs s) (length homes_1)) (length xs))) is.claims_one
       ∙ ap (λ xs. map (λ s. at ranks (at xs (at claims s))) (names (λ s. nat_lt (at claims s) (length xs)) (length claims))) is.homes_one));
 }
+
+pub names_below : (p : ℕ → Bool) (n : ℕ) → All (λ s. s < n) (names p n)
+names_below p n = each_there (λ s. s < n) (names p n) (λ s there. omega (arith, (from_range 0 n s (from_filter p (range_with_len 0 n) s there).0).1))
+
+-- the states of the new tree are states of the automaton
+pub finished_below : (n : ℕ) (ms : List Move) (parents states places claims : List ℕ) (own : List Bool) (homes : List ℕ) (stay : List Bool) (count : ℕ) (ranks new_p new_s new_o : List ℕ)
+    → IsStored parents states places → IsFinish n ms parents states places claims own homes stay count ranks new_p new_s new_o → count ≤ 100 → All (λ s. s < n)
+    (root_states (nodes_of new_p new_s new_o))
+finished_below n ms parents states places claims own homes stay count ranks new_p new_s new_o is finish few =
+    let f = grown n ms (nodes_of parents states places) in
+    let stored = finished_stored n ms parents states places claims own homes stay count ranks new_p new_s new_o is finish few in
+    let are : new_s ≡ new_states f = finished_states n ms parents states places claims own homes stay count ranks new_p new_s new_o finish in
+    subst (λ xs. All (λ s. s < n) xs) (sym (stored_root new_p new_s new_o stored ∙ are)) (names_below (λ s. nat_lt (place f f.size s) f.size) n)

@@ -1,16 +1,16 @@
 -- The tree before a word.
-use Rattle.std.proofs.Common.{◌≡◌, ◌∙◌, ◌<◌, ◌==◌, ℕ, suc, Bool, true, cond, List, [], ◌∷◌, AllPairs, Contains, ap, arith, filter, inl, inr, length, min, refl, replicate, subst, sym}
+use Rattle.std.proofs.Common.{◌≡◌, ◌∙◌, ◌<◌, ◌==◌, ℕ, suc, Bool, true, cond, List, [], ◌∷◌, AllPairs, Contains, ap, arith, filter, inl, inr, length, min, refl, replicate, subst, sym, All}
 use Rattle.std.proofs.lemmas.Bool.{cases_Bool, cond-false, cond-true, eq-eqb, eqb-true, or_left}
 use Rattle.std.specs.List.{list_any, range_with_len}
 use Rattle.aut_base.proofs.Members.{any_found, any_from, each_there, first_there, from_filter, none_there, there_cases, there_filter}
-use Rattle.safra_trees.proofs.flat_step.Finish.{names_alike}
+use Rattle.safra_trees.proofs.flat_step.Finish.{names_alike, names_below}
 use Rattle.safra_trees.proofs.flat_step.Gathered.{rising_names}
 use Rattle.safra_trees.specs.inner.Passes.{flag}
-use Rattle.safra_trees.proofs.flat_step.Placed.{placed_all}
+use Rattle.safra_trees.proofs.flat_step.Placed.{placed_all, stored_root}
 use Rattle.safra_trees.proofs.list_step.Over.{over_self}
 use Rattle.safra_trees.specs.Flat.{IsStored, at, is_over, nodes_of, placed}
 use Rattle.safra_trees.specs.Step.{names}
-use Rattle.safra_trees.specs.Trees.{Node, first_tree, has}
+use Rattle.safra_trees.specs.Trees.{Node, first_tree, has, root_states}
 
 abbrev first_parents : List ℕ → List ℕ
 first_parents [] = []
@@ -98,3 +98,8 @@ pub found_names : (n : ℕ) (starts slice found : List ℕ) (flags back : List B
 found_names n starts slice found flags back is same size each one =
     is ∙ (ap (λ xs. names (flag xs) (length xs)) same ∙ (ap (names (flag flags)) size
     ∙ names_alike (flag flags) (has starts) n (λ s less. each s less ∙ ap (λ xs. has xs s) one)))
+
+pub started_below : (n : ℕ) (starts found parents places : List ℕ) → found ≡ names (has starts) n → parents ≡ replicate (min (length found) 1) 0 → places ≡ replicate (length found) 0 → All
+    (λ s. s < n) (root_states (nodes_of parents found places))
+started_below n starts found parents places is one other =
+    subst (λ xs. All (λ s. s < n) xs) (sym (stored_root parents found places (started_stored n starts found parents places is one other) ∙ is)) (names_below (has starts) n)

@@ -15,13 +15,13 @@ use Rattle.safra_trees.specs.Trees.{Node, has, holds, node_at, root_states}
 use Rattle.safra_trees.specs.inner.Claims.{place_of}
 
 -- numbers after a smaller one
-absent : (p : ℕ) (states : List ℕ) → All (λ x. p < x) states → has states p ≡ false
+pub absent : (p : ℕ) (states : List ℕ) → All (λ x. p < x) states → has states p ≡ false
 absent p [] all = refl
 absent p (s ∷ states) all =
     let more : p < s = All-head (λ x. p < x) s states all in
     ap (λ b. b || has states p) (ne_eqb s p (λ e. omega (arith, e, more))) ∙ absent p states (All-tail (λ x. p < x) s states all)
 
-place_absent : (none : ℕ) (states places : List ℕ) (p : ℕ) → has states p ≡ false → place_of none states places p ≡ none
+pub place_absent : (none : ℕ) (states places : List ℕ) (p : ℕ) → has states p ≡ false → place_of none states places p ≡ none
 place_absent none [] places p not_there = refl
 place_absent none (s ∷ states) [] p not_there = refl
 place_absent none (s ∷ states) (x ∷ places) p not_there =

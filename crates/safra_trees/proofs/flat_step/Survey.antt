@@ -26,7 +26,7 @@ claim_same order one other n s same (e ∷ moves) within c =
     (cond (nat_lt (one e.from) (length order) && (e.to == s)) (first_of order c (claimant (length order) (one e.from) e)) c)
     ∙ ap (λ x. claim order other s moves (cond (nat_lt x (length order) && (e.to == s)) (first_of order c (claimant (length order) x e)) c)) here
 
-listed_by : (xs : List ℕ) (g : ℕ → ℕ) (a : ℕ) → ((i : ℕ) → i < length xs → at xs i ≡ g (a + i)) → xs ≡ map g (range_with_len a (length xs))
+pub listed_by : (xs : List ℕ) (g : ℕ → ℕ) (a : ℕ) → ((i : ℕ) → i < length xs → at xs i ≡ g (a + i)) → xs ≡ map g (range_with_len a (length xs))
 listed_by [] g a each = refl
 listed_by (x ∷ xs) g a each =
     let here : a + 0 ≡ a = omega arith in

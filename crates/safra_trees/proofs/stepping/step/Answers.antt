@@ -2,7 +2,8 @@ use Rattle.std.proofs.Common.{◌≡◌, ◌∙◌, ◌+◌, Bool, List, Option,
 use Rattle.std.proofs.lemmas.List.{length-map}
 use Rattle.std.proofs.lemmas.List.FromFn.{length-range_with_len}
 use Rattle.std.specs.List.{range_with_len}
-use Rattle.safra_trees.proofs.flat_step.Finish.{IsFinish, claims_length, finish_of, finished_count, finished_green, finished_red, finished_stored, finished_tree, homes_sized, own_sized, stay_sized}
+use Rattle.safra_trees.proofs.flat_step.Finish.{IsFinish, claims_length, finish_of, finished_below, finished_count, finished_green}
+use Rattle.safra_trees.proofs.flat_step.Finish.{finished_red, finished_stored, finished_tree, homes_sized, own_sized, stay_sized}
 use Rattle.safra_trees.specs.Events.{least}
 use Rattle.safra_trees.specs.Step.{greens, grown, rank, reds}
 use Rattle.safra_trees.specs.View.{tree_of}
@@ -130,7 +131,8 @@ invariant_of-new c =
     let stay = found.stay.items in
     let passes : ArePasses (grown n ms (tree_of tree)) claims own homes stay = subst (λ xs. ArePasses (grown n xs (tree_of tree)) claims own homes stay) c.as_slice.ensures c.in_ok-found.ensures in
     let names = c.in_ok-names.names in
-    let finish : IsFinish n ms tree.parents tree.states tree.places claims own homes stay names.count names.ranks.items c.from_vec.result c.from_vec-2.result c.from_vec-3.result =
+    let finish : IsFinish n ms tree.parents tree.states tree.places claims own homes stay names.count names.ranks.items
+    c.from_vec.result c.from_vec-2.result c.from_vec-3.result =
     finish_of n ms tree.parents tree.states tree.places claims own homes stay names.count names.ranks.items c.from_vec.result c.from_vec-2.result c.from_vec-3.result
     c.deref.result.now c.deref-2.result.now c.deref-3.result.now c.as_slice-2.result.now c.deref-4.result.now c.deref-5.result.now c.deref-6.result.now passes (record {
       stay_one = c.deref.ensures.value;
@@ -160,7 +162,8 @@ returns-clause-tree c =
     let stay = found.stay.items in
     let passes : ArePasses (grown n ms (tree_of tree)) claims own homes stay = subst (λ xs. ArePasses (grown n xs (tree_of tree)) claims own homes stay) c.as_slice.ensures c.in_ok-found.ensures in
     let names = c.in_ok-names.names in
-    let finish : IsFinish n ms tree.parents tree.states tree.places claims own homes stay names.count names.ranks.items c.from_vec.result c.from_vec-2.result c.from_vec-3.result =
+    let finish : IsFinish n ms tree.parents tree.states tree.places claims own homes stay names.count names.ranks.items
+    c.from_vec.result c.from_vec-2.result c.from_vec-3.result =
     finish_of n ms tree.parents tree.states tree.places claims own homes stay names.count names.ranks.items c.from_vec.result c.from_vec-2.result c.from_vec-3.result
     c.deref.result.now c.deref-2.result.now c.deref-3.result.now c.as_slice-2.result.now c.deref-4.result.now c.deref-5.result.now c.deref-6.result.now passes (record {
       stay_one = c.deref.ensures.value;
@@ -178,6 +181,37 @@ returns-clause-tree c =
     }) in
     finished_tree n ms tree.parents tree.states tree.places claims own homes stay names.count names.ranks.items c.from_vec.result c.from_vec-2.result c.from_vec-3.result tree.stored finish
 
+pub returns-clause-states : goal.returns-clause-states
+returns-clause-states c =
+    let tree = c.args.tree.now in
+    let n = c.args.states in
+    let ms = c.args.moves.now in
+    let found = c.in_ok-found.found in
+    let claims = found.claims.items in
+    let own = found.own.items in
+    let homes = found.homes.items in
+    let stay = found.stay.items in
+    let passes : ArePasses (grown n ms (tree_of tree)) claims own homes stay = subst (λ xs. ArePasses (grown n xs (tree_of tree)) claims own homes stay) c.as_slice.ensures c.in_ok-found.ensures in
+    let names = c.in_ok-names.names in
+    let finish : IsFinish n ms tree.parents tree.states tree.places claims own homes stay names.count names.ranks.items
+    c.from_vec.result c.from_vec-2.result c.from_vec-3.result =
+    finish_of n ms tree.parents tree.states tree.places claims own homes stay names.count names.ranks.items c.from_vec.result c.from_vec-2.result c.from_vec-3.result
+    c.deref.result.now c.deref-2.result.now c.deref-3.result.now c.as_slice-2.result.now c.deref-4.result.now c.deref-5.result.now c.deref-6.result.now passes (record {
+      stay_one = c.deref.ensures.value;
+      stay_two = c.deref-2.ensures.value;
+      ranks_one = c.deref-3.ensures.value;
+      ranks_two = c.deref-6.ensures.value;
+      parents_one = c.as_slice-2.ensures;
+      claims_one = c.deref-4.ensures.value;
+      homes_one = c.deref-5.ensures.value;
+      counts = c.in_ok-names.ensures.count;
+      ranked = c.in_ok-names.ensures.ranks;
+      parents_are = c.from_vec.ensures ∙ c.in_ok-parents.ensures;
+      states_are = c.from_vec-2.ensures ∙ c.in_ok-made.ensures.states;
+      places_are = c.from_vec-3.ensures ∙ c.in_ok-made.ensures.places;
+    }) in
+    finished_below n ms tree.parents tree.states tree.places claims own homes stay names.count names.ranks.items c.from_vec.result c.from_vec-2.result c.from_vec-3.result tree.stored finish c.if-names-gt-MOST_NODES.false
+
 pub returns-clause-few : goal.returns-clause-few
 returns-clause-few c =
     let tree = c.args.tree.now in
@@ -190,7 +224,8 @@ returns-clause-few c =
     let stay = found.stay.items in
     let passes : ArePasses (grown n ms (tree_of tree)) claims own homes stay = subst (λ xs. ArePasses (grown n xs (tree_of tree)) claims own homes stay) c.as_slice.ensures c.in_ok-found.ensures in
     let names = c.in_ok-names.names in
-    let finish : IsFinish n ms tree.parents tree.states tree.places claims own homes stay names.count names.ranks.items c.from_vec.result c.from_vec-2.result c.from_vec-3.result =
+    let finish : IsFinish n ms tree.parents tree.states tree.places claims own homes stay names.count names.ranks.items
+    c.from_vec.result c.from_vec-2.result c.from_vec-3.result =
     finish_of n ms tree.parents tree.states tree.places claims own homes stay names.count names.ranks.items c.from_vec.result c.from_vec-2.result c.from_vec-3.result
     c.deref.result.now c.deref-2.result.now c.deref-3.result.now c.as_slice-2.result.now c.deref-4.result.now c.deref-5.result.now c.deref-6.result.now passes (record {
       stay_one = c.deref.ensures.value;
@@ -224,8 +259,7 @@ returns-clause-event c =
     c.least_gone.ensures ∙ (ap (λ (xs : List Bool). least (filter (λ y. not (flag xs y)) (range_with_len 0 c.nodes.result))) c.deref-7.ensures.value
     ∙ finished_red n ms tree.parents tree.states tree.places claims own homes stay c.nodes.result passes c.nodes.ensures) in
     let green : c.least_covered.result ≡ least (greens (grown n ms (tree_of tree))) =
-    c.least_covered.ensures ∙ (ap (λ (xs : List Bool). least
-    (filter (λ y. flag xs y && not (flag c.deref-9.result.now y)) (range_with_len 0 (length c.deref-9.result.now)))) c.deref-8.ensures.value
+    c.least_covered.ensures ∙ (ap (λ (xs : List Bool). least (filter (λ y. flag xs y && not (flag c.deref-9.result.now y)) (range_with_len 0 (length c.deref-9.result.now)))) c.deref-8.ensures.value
     ∙ (ap (λ (xs : List Bool). least (filter (λ y. flag stay y && not (flag xs y)) (range_with_len 0 (length xs)))) c.deref-9.ensures.value
     ∙ finished_green n ms tree.parents tree.states tree.places claims own homes stay tree.stored passes)) in
     let with_red : Option ℕ → Event = λ r. record { red = r; green = c.least_covered.result } in

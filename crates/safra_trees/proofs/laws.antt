@@ -1,0 +1,3 @@
+-- Laws of stored trees.
+pub mod SameTrees
+pub mod StoredTrees

@@ -1,0 +1,18 @@
+//! Laws of trees and of their step.
+
+ghost use Rattle.safra_trees.specs.Laws.{SameListSameTree, StoredTreesAreTrees, WorkedSteps};
+
+/// Every tree has what the step relies on: no node is empty or covered, and siblings share no state.
+pub fn stored_trees_are_trees()
+    ensures { StoredTreesAreTrees }
+{}
+
+/// Trees that are the same list of nodes are equal.
+pub fn same_list_same_tree()
+    ensures { SameListSameTree }
+{}
+
+/// The step as it goes on a small automaton.
+pub fn worked_steps()
+    ensures { WorkedSteps }
+{}
