@@ -1,7 +1,7 @@
 -- The places of names among others, name by name.
 use Rattle.std.proofs.Common.{◌≡◌, ◌∙◌, ◌+◌, ◌<◌, ◌≤◌, ⊎_elim, ℕ, List, [], ◌∷◌, ◌++◌, Contains, Some, ap, arith, get_or, length, length-append, slice_get, subst, sym, take}
 use Rattle.std.proofs.lemmas.Bool.{cases_lt}
-use Rattle.std.proofs.lemmas.List.{get_or-append-add, get_or_append_left, take_all}
+use Rattle.std.proofs.lemmas.List.{get_or-append-add, get_or_append_left}
 use Rattle.std.proofs.lemmas.List.Elements.{All-push}
 use Rattle.std.proofs.lemmas.Option.{same_Some, slice_get_within}
 use Rattle.aut_base.proofs.Lists.{slice_get-append_left, slice_get-append_right, take-push}
@@ -30,6 +30,3 @@ pub placed_more : (names others : List (List ℕ)) (to more : List ℕ) (k place
 placed_more names others to more k place x within at placed below here pushed =
     subst (ArePlaces (take (k + 1) names) others) (sym pushed) (subst (λ ns. ArePlaces ns others (to ++ place ∷ [])) (sym (take-push names k x within at))
     (push_place (take k names) others to x place placed below here))
-
-pub placed_all : (names others : List (List ℕ)) (to : List ℕ) (k : ℕ) → length names ≤ k → ArePlaces (take k names) others to → ArePlaces names others to
-placed_all names others to k end placed = subst (λ ns. ArePlaces ns others to) (take_all k names end) placed

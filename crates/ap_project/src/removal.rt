@@ -15,9 +15,10 @@ use aut_core::{Automaton, Link, Links, copy_marks, copy_numbers};
 use label_guards::Guards;
 use std::alloc::Global;
 
-/// The automaton with a name hidden: `Any` for a name that may be absent or present at each letter, and else as it is taken to
-/// be at all of them. It is over the other names, and has the same states, starts, sets, condition and edges in order, with the
-/// labels that are left of theirs; an edge whose label becomes `f` stays. A copy, if the automaton doesn't have the name.
+/// The automaton with the proposition of one name hidden. It is over the other names, and has the same states, starts, sets,
+/// condition and edges, all in order. Each label becomes its truth with the name absent, with the name present, or, under
+/// `Any`, the disjunction of both (existential quantification); an edge whose label becomes `f` stays. Of an automaton that
+/// doesn't have the name it is a copy. The only refusal is want of memory.
 pub fn remove_ap(alloc: Global, a: &Automaton, name: &Text, how: Hide) -> Result<Automaton, Memory>
     ensures shape { IfOk result (λ made. automaton_of made ≡ hidden how name.now (automaton_of a.now)) }
     ensures accepts { IfOk result (λ made. AcceptsHidden how name.now (automaton_of a.now) (automaton_of made)) }
