@@ -1,7 +1,8 @@
 -- The items of a list that pass a test, and their places in it.
 use Rattle.std.proofs.Common.{◌≡◌, ◌∙◌, ◌<◌, ℕ, zero, suc, Bool, true, false, cond, filter, List, [], ◌∷◌, Some, ap, arith, inl, inr, length, map, refl, slice_get, subst, sym, take}
 use Rattle.std.proofs.lemmas.Bool.{cases_lt}
-use Rattle.std.proofs.lemmas.Option.{same_Some}
+use Rattle.std.proofs.lemmas.Option.{same_Some, slice_get-map}
+use Rattle.std.specs.Option.{option_map}
 use Rattle.aut_base.proofs.Lists.{none_some}
 
 -- the item that the mapped one is made of
@@ -16,9 +17,7 @@ mapped_from f (x ∷ xs) zero y at = record { item = x; at = refl; is = same_Som
 mapped_from f (x ∷ xs) (suc m) y at = let rest = mapped_from f xs m y at in record { item = rest.item; at = rest.at; is = rest.is }
 
 pub mapped_at : {X Y : Type 0} (f : X → Y) (xs : List X) (m : ℕ) (x : X) → slice_get xs m ≡ Some x → slice_get (map f xs) m ≡ Some (f x)
-mapped_at f [] m x at = absurd (none_some x at)
-mapped_at f (y ∷ xs) zero x at = ap (λ z. Some (f z)) (same_Some y x at)
-mapped_at f (y ∷ xs) (suc m) x at = mapped_at f xs m x at
+mapped_at f xs m x at = slice_get-map f xs m ∙ ap (option_map f) at
 
 module _ {X : Type 0} (p : X → Bool) where
   -- the number of items before this place that pass
