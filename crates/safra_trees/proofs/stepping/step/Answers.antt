@@ -148,7 +148,10 @@ invariant_of-new c =
       states_are = c.from_vec-2.ensures ∙ c.in_ok-made.ensures.states;
       places_are = c.from_vec-3.ensures ∙ c.in_ok-made.ensures.places;
     }) in
-    record { stored = finished_stored n ms tree.parents tree.states tree.places claims own homes stay names.count names.ranks.items c.from_vec.result c.from_vec-2.result c.from_vec-3.result tree.stored finish c.if-names-gt-MOST_NODES.false }
+    record {
+      stored = finished_stored n ms tree.parents tree.states tree.places claims own
+          homes stay names.count names.ranks.items c.from_vec.result c.from_vec-2.result c.from_vec-3.result tree.stored finish c.if-names-gt-MOST_NODES.false;
+    }
 
 pub returns-clause-tree : goal.returns-clause-tree
 returns-clause-tree c =
@@ -210,7 +213,8 @@ returns-clause-states c =
       states_are = c.from_vec-2.ensures ∙ c.in_ok-made.ensures.states;
       places_are = c.from_vec-3.ensures ∙ c.in_ok-made.ensures.places;
     }) in
-    finished_below n ms tree.parents tree.states tree.places claims own homes stay names.count names.ranks.items c.from_vec.result c.from_vec-2.result c.from_vec-3.result tree.stored finish c.if-names-gt-MOST_NODES.false
+    finished_below n ms tree.parents tree.states tree.places claims own
+    homes stay names.count names.ranks.items c.from_vec.result c.from_vec-2.result c.from_vec-3.result tree.stored finish c.if-names-gt-MOST_NODES.false
 
 pub returns-clause-few : goal.returns-clause-few
 returns-clause-few c =
@@ -241,7 +245,8 @@ returns-clause-few c =
       states_are = c.from_vec-2.ensures ∙ c.in_ok-made.ensures.states;
       places_are = c.from_vec-3.ensures ∙ c.in_ok-made.ensures.places;
     }) in
-    let is = finished_tree n ms tree.parents tree.states tree.places claims own homes stay names.count names.ranks.items c.from_vec.result c.from_vec-2.result c.from_vec-3.result tree.stored finish in
+    let is = finished_tree n ms tree.parents tree.states tree.places claims own
+    homes stay names.count names.ranks.items c.from_vec.result c.from_vec-2.result c.from_vec-3.result tree.stored finish in
     omega (arith, ap length is, c.if-names-gt-MOST_NODES.false, finished_count n ms tree.parents tree.states tree.places claims own homes stay names.count passes finish.counts)
 
 pub returns-clause-event : goal.returns-clause-event

@@ -1,0 +1,120 @@
+//! Automata as the moves of their letters.
+
+ghost use Rattle.std.specs.Prelude.{◌<◌};
+
+use aut_base::Memory;
+use safra_trees::{Move, Moves};
+use std::alloc::Global;
+
+/// How a state may lead to another: not, by a move, or by an accepting one. The next digit of a number to the base three
+/// says which.
+#[derive(Clone, Copy)]
+struct Digits {
+    rest: u32,
+}
+
+impl Digits {
+    fn next(&mut self) -> u32 {
+        let digit = self.rest % 3;
+        self.rest /= 3;
+        digit
+    }
+}
+
+/// The moves of a letter among so few states by the digits of a number.
+pub(crate) fn moves_by_digits(alloc: Global, states: u32, number: u32) -> Result<Moves, Memory> {
+    let mut digits = Digits { rest: number };
+    let mut moves = Moves::new(alloc);
+    for from in 0..states {
+        for to in 0..states {
+            let digit = digits.next();
+            if digit > 0 {
+                moves.push(Move {
+                    from,
+                    to,
+                    accepting: digit > 1,
+                })?;
+            }
+        }
+    }
+    Ok(moves)
+}
+
+/// Numbers that follow one another by a rule (a linear congruential generator).
+#[derive(Clone, Copy)]
+pub(crate) struct Sequence {
+    last: u32,
+}
+
+impl Sequence {
+    pub(crate) fn new(first: u32) -> Sequence {
+        Sequence { last: first }
+    }
+
+    /// The next number, below a bound that is not 0.
+    pub(crate) fn next(&mut self, bound: u32) -> u32
+        requires { 0 < bound }
+        ensures { result < bound }
+    {
+        self.last = self
+            .last
+            .wrapping_mul(1_664_525)
+            .wrapping_add(1_013_904_223);
+        (self.last >> 8) % bound
+    }
+}
+
+/// Moves that a sequence gives, each of the pairs with one chance in three.
+pub(crate) fn moves_by_chance(
+    alloc: Global,
+    states: u32,
+    sequence: &mut Sequence,
+) -> Result<Moves, Memory> {
+    let mut moves = Moves::new(alloc);
+    for from in 0..states {
+        for to in 0..states {
+            if sequence.next(3) == 0 {
+                let accepting = sequence.next(3) == 0;
+                moves.push(Move {
+                    from,
+                    to,
+                    accepting,
+                })?;
+            }
+        }
+    }
+    Ok(moves)
+}
+
+/// Each state stays, and moves on to the next by an accepting move.
+pub(crate) fn chain(alloc: Global, states: u32) -> Result<Moves, Memory> {
+    let mut moves = Moves::new(alloc);
+    for from in 0..states {
+        moves.push(Move {
+            from,
+            to: from,
+            accepting: false,
+        })?;
+        if from + 1 < states {
+            moves.push(Move {
+                from,
+                to: from + 1,
+                accepting: true,
+            })?;
+        }
+    }
+    Ok(moves)
+}
+
+/// The last state leads back to the first.
+pub(crate) fn back(alloc: Global, states: u32) -> Result<Moves, Memory>
+    requires { 0 < states }
+{
+    let mut moves = Moves::new(alloc);
+    moves.push(Move {
+        from: states - 1,
+        to: 0,
+        accepting: false,
+    })?;
+    Ok(moves)
+}

@@ -1,0 +1,242 @@
+//! Trees beside plain ones.
+
+ghost use Rattle.std.specs.Prelude.{◌<◌, All, IsTrue};
+ghost use Rattle.safra_trees.specs.Events.{IsWithin};
+
+use crate::Stop;
+use crate::automata::{Sequence, moves_by_chance, moves_by_digits};
+use crate::plain::{PlainNode, is_set, plain_start, plain_step};
+use aut_base::Numbers;
+use safra_trees::{Event, Move, Moves, SafraTree, TreeFault, start, step};
+use std::alloc::Global;
+
+/// How many steps were compared, and how many came out otherwise.
+#[derive(Clone, Copy)]
+pub(crate) struct Tally {
+    pub(crate) steps: u32,
+    pub(crate) different: u32,
+}
+
+/// A tree and the plain one that it should be.
+#[derive(Drop)]
+struct Pair {
+    tree: SafraTree,
+    plain: Vec<PlainNode>,
+}
+
+/// A step of each.
+#[derive(Drop)]
+struct Stepped {
+    pair: Pair,
+    agrees: bool,
+}
+
+/// All automata of two states and two letters, from the first state on, with all trees that they reach.
+pub(crate) fn small(alloc: Global) -> Result<Tally, Stop> {
+    let mut tally = Tally {
+        steps: 0,
+        different: 0,
+    };
+    for number in 0..6561 {
+        let letters = [
+            moves_by_digits(alloc, 2, number % 81)?,
+            moves_by_digits(alloc, 2, number / 81)?,
+        ];
+        explore(alloc, 2, &letters, &mut tally)?;
+    }
+    Ok(tally)
+}
+
+/// Automata of one to eight states by chance, and of each a walk.
+pub(crate) fn by_chance(alloc: Global) -> Result<Tally, Stop> {
+    let mut tally = Tally {
+        steps: 0,
+        different: 0,
+    };
+    let mut sequence = Sequence::new(1);
+    for _ in 0..400 {
+        let states = sequence.next(8) + 1;
+        let letters = [
+            moves_by_chance(alloc, states, &mut sequence)?,
+            moves_by_chance(alloc, states, &mut sequence)?,
+        ];
+        walk(alloc, states, &letters, &mut sequence, &mut tally)?;
+    }
+    Ok(tally)
+}
+
+/// The trees that are reached, each stepped under each letter.
+fn explore(alloc: Global, states: u32, letters: &[Moves], tally: &mut Tally) -> Result<(), Stop> {
+    let mut pairs = Vec::new(alloc);
+    pairs.push(first(alloc, states)?)?;
+    for place in 0..200 {
+        for moves in letters {
+            if !visit(alloc, states, &mut pairs, place, moves, tally)? {
+                return Ok(());
+            }
+        }
+    }
+    Ok(())
+}
+
+/// The tree at a place under a letter; whether there was one, and a next one.
+fn visit(
+    alloc: Global,
+    states: u32,
+    pairs: &mut Vec<Pair>,
+    place: usize,
+    moves: &Moves,
+    tally: &mut Tally,
+) -> Result<bool, Stop> {
+    let Some(pair) = pairs.get(place) else {
+        return Ok(false);
+    };
+    let Some(stepped) = both(alloc, states, pair, moves)? else {
+        return Ok(false);
+    };
+    let agrees = stepped.agrees && are_alike(pairs, &stepped.pair);
+    count(tally, agrees);
+    if is_new(pairs, &stepped.pair) {
+        pairs.push(stepped.pair)?;
+    }
+    Ok(true)
+}
+
+/// A walk of some steps under letters by chance.
+fn walk(
+    alloc: Global,
+    states: u32,
+    letters: &[Moves],
+    sequence: &mut Sequence,
+    tally: &mut Tally,
+) -> Result<(), Stop> {
+    let mut pairs = Vec::new(alloc);
+    let mut pair = first(alloc, states)?;
+    for _ in 0..50 {
+        let choice = sequence.next(2) as usize;
+        let Some(moves) = letters.get(choice) else {
+            return Ok(());
+        };
+        let Some(stepped) = both(alloc, states, &pair, moves)? else {
+            return Ok(());
+        };
+        let agrees = stepped.agrees && are_alike(&pairs, &stepped.pair);
+        count(tally, agrees);
+        pairs.push(pair)?;
+        pair = stepped.pair;
+    }
+    Ok(())
+}
+
+fn first(alloc: Global, states: u32) -> Result<Pair, Stop> {
+    let mut starts = Numbers::new(alloc);
+    if states > 0 {
+        starts.push(0)?;
+    }
+    Ok(Pair {
+        tree: started(alloc, states, &starts)?,
+        plain: plain_start(alloc, states, starts.as_slice())?,
+    })
+}
+
+/// The first tree, or `Stop::Row` where a start is no state.
+pub(crate) fn started(alloc: Global, states: u32, starts: &Numbers) -> Result<SafraTree, Stop> {
+    if !are_states(states, starts.as_slice()) {
+        return Err(Stop::Row);
+    }
+    Ok(start(alloc, states, starts)?)
+}
+
+/// The step, or `Stop::Row` where an end of a move is no state.
+pub(crate) fn next_tree(
+    alloc: Global,
+    states: u32,
+    tree: &SafraTree,
+    moves: &Moves,
+) -> Result<Result<(SafraTree, Event), TreeFault>, Stop> {
+    if !are_states(states, tree.root_states()) || !are_within(states, moves.as_slice()) {
+        return Err(Stop::Row);
+    }
+    Ok(step(alloc, states, tree, moves))
+}
+
+/// Whether all are states.
+fn are_states(states: u32, listed: &[u32]) -> bool
+    ensures { IsTrue result → All (λ s. s < states) listed.now }
+{
+    'states: for state in listed {
+        if *state >= states {
+            return false;
+        }
+    }
+    true
+}
+
+/// Whether both ends of all moves are states.
+fn are_within(states: u32, moves: &[Move]) -> bool
+    ensures { IsTrue result → All (IsWithin states) moves.now }
+{
+    'moves: for one in moves {
+        if one.from >= states || one.to >= states {
+            return false;
+        }
+    }
+    true
+}
+
+/// The step of a tree and of the plain one, and whether they agree; none where there are too many nodes.
+fn both(alloc: Global, states: u32, pair: &Pair, moves: &Moves) -> Result<Option<Stepped>, Stop> {
+    match next_tree(alloc, states, &pair.tree, moves)? {
+        Ok((tree, event)) => {
+            let told = plain_step(alloc, &pair.plain, moves.as_slice())?;
+            let same = event.red == told.red && event.green == told.green;
+            let agrees = same && is_same_size(&tree, &told.tree) && has_root(&tree, &told.tree);
+            let pair = Pair {
+                tree,
+                plain: told.tree,
+            };
+            Ok(Some(Stepped { pair, agrees }))
+        }
+        Err(TreeFault::Nodes) => Ok(None),
+        Err(TreeFault::Memory) => Err(Stop::Memory),
+    }
+}
+
+fn is_same_size(tree: &SafraTree, plain: &[PlainNode]) -> bool {
+    tree.nodes() as usize == plain.len()
+}
+
+/// Whether the states of the root are those of the plain root.
+fn has_root(tree: &SafraTree, plain: &[PlainNode]) -> bool {
+    let Some(root) = plain.first() else {
+        return tree.root_states().len() == 0;
+    };
+    let held = root.holds.iter().filter(|held| **held).count();
+    let all = tree
+        .root_states()
+        .iter()
+        .all(|state| is_set(&root.holds, *state as usize));
+    all && held == tree.root_states().len()
+}
+
+/// Whether the tree equals just those of earlier ones whose plain tree equals the plain one.
+fn are_alike(pairs: &[Pair], pair: &Pair) -> bool {
+    for earlier in pairs {
+        let same = earlier.plain == pair.plain;
+        if same != (earlier.tree == pair.tree) || same != earlier.tree.is(&pair.tree) {
+            return false;
+        }
+    }
+    true
+}
+
+fn is_new(pairs: &[Pair], pair: &Pair) -> bool {
+    pairs.iter().all(|earlier| earlier.tree != pair.tree)
+}
+
+fn count(tally: &mut Tally, agrees: bool) {
+    tally.steps = tally.steps.saturating_add(1);
+    if !agrees {
+        tally.different = tally.different.saturating_add(1);
+    }
+}

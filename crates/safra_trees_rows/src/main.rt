@@ -1,0 +1,65 @@
+//! Tells whether the trees of `safra_trees` and their steps are those of a plain program over lists of sets, and those
+//! that were worked out by hand.
+#![tactic(auto)]
+
+mod automata;
+mod compared;
+mod plain;
+mod worked;
+
+use aut_base::Memory;
+use std::alloc::{AllocError, AllocFailed};
+use std::io;
+
+/// Why a run ended early.
+#[derive(Debug, Drop)]
+pub(crate) enum Stop {
+    Io(io::Error),
+    Memory,
+    /// A row that makes no automaton.
+    Row,
+}
+
+impl From<io::Error> for Stop {
+    fn from(error: io::Error) -> Stop {
+        Stop::Io(error)
+    }
+}
+
+impl From<Memory> for Stop {
+    fn from(_want: Memory) -> Stop {
+        Stop::Memory
+    }
+}
+
+impl From<AllocError> for Stop {
+    fn from(_want: AllocError) -> Stop {
+        Stop::Memory
+    }
+}
+
+impl<T: Drop> From<AllocFailed<T>> for Stop {
+    fn from(_want: AllocFailed<T>) -> Stop {
+        Stop::Memory
+    }
+}
+
+fn main(rt: HostRuntime) -> Result<(), Stop> {
+    let alloc = rt.alloc();
+    let small = compared::small(alloc)?;
+    println!(rt; "small steps={} different={}", small.steps, small.different)?;
+    let chance = compared::by_chance(alloc)?;
+    println!(rt;
+        "chance steps={} different={}",
+        chance.steps, chance.different
+    )?;
+    let full = worked::chained(alloc, 100, 120)?;
+    let over = worked::chained(alloc, 101, 120)?;
+    let shrinks = worked::shrinks(alloc)?;
+    println!(rt; "chain={full:?} longer={over:?} shrinks={shrinks}")?;
+    let older = worked::older_keeps(alloc)?;
+    let covered = worked::covered_at_once(alloc)?;
+    let empty = worked::empty(alloc)?;
+    println!(rt; "older={older} covered={covered} empty={empty}")?;
+    Ok(())
+}
