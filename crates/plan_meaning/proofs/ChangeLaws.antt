@@ -70,7 +70,7 @@ one_of_two which other a b (inr h) (inl k) = many_or_few a b k.1 h.1
 one_of_two which other a b (inr h) (inr k) = h.0 ∙ sym k.0
 
 -- the limit that an exploration of sets meets
-limit_of : Fault → Limit
+abbrev limit_of : Fault → Limit
 limit_of explored.Classes = limit.Classes
 limit_of explored.Things = limit.Subsets
 limit_of explored.Nodes = limit.Nodes

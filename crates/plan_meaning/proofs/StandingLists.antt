@@ -1,6 +1,6 @@
 -- Lists of what options ask for, each where it stands: as code has them, and as definitions do.
-use Rattle.std.proofs.Common.{◌≡◌, ◌∙◌, ◌<◌, ◌+◌, ℕ, Bool, true, false, List, [], ◌∷◌, ◌++◌, Option, Some, None, ap, append_assoc, drop, get_or, length, map, refl, sym, take}
-use Rattle.std.specs.Prelude.{IsSomeAnd, MatchOption, filter_map}
+use Rattle.std.proofs.Common.{◌≡◌, ◌∙◌, ◌<◌, ◌+◌, ℕ, Bool, true, false, List, [], ◌∷◌, ◌++◌, Option, Some, None, ap, append_assoc, drop, get_or, length, map, refl, subst, sym, take}
+use Rattle.std.specs.Prelude.{IfSome, IsSomeAnd, MatchOption, filter_map}
 use Rattle.std.specs.Bool.{then_some}
 use Rattle.std.specs.List.{cons_option}
 use Rattle.std.specs.Option.{option_map}
@@ -44,3 +44,22 @@ by_option spec view wrap meaning says (Some x) p (Some y) is there = ap (λ z. S
 pub by_flag : {C S : Type 0} (spec : C → S) (asked : Bool) (f : C) (r : Option C) → r ≡ then_some asked f → option_map spec r ≡ then_some asked (spec f)
 by_flag spec true f r is = ap (option_map spec) is
 by_flag spec false f r is = ap (option_map spec) is
+
+-- ---- what holds of an item that stands
+
+-- by an option, where something is known of its value
+pub of_option : {B C : Type 0} (Q : B → Type 0) (P : C → Type 0) (wrap : B → C) → ((x : B) → Q x → P (wrap x)) → (o : Option B) (r : Option C) → MatchOption o (r ≡ None) (λ x. IsSomeAnd r (λ y. y ≡ wrap x)) → IfSome o Q → IfSome r P
+of_option {C = C} Q P wrap says None r is h = subst (λ (z : Option C). IfSome z P) (sym is) tt
+of_option Q P wrap says (Some x) None is h = tt
+of_option Q P wrap says (Some x) (Some y) is h = subst P (sym is) (says x h)
+
+-- by an option, whatever its value is
+pub of_any : {B C : Type 0} (P : C → Type 0) (wrap : B → C) → ((x : B) → P (wrap x)) → (o : Option B) (r : Option C) → MatchOption o (r ≡ None) (λ x. IsSomeAnd r (λ y. y ≡ wrap x)) → IfSome r P
+of_any {C = C} P wrap says None r is = subst (λ (z : Option C). IfSome z P) (sym is) tt
+of_any P wrap says (Some x) None is = tt
+of_any P wrap says (Some x) (Some y) is = subst P (sym is) (says x)
+
+-- by a flag
+pub of_flag : {C : Type 0} (P : C → Type 0) (asked : Bool) (f : C) (r : Option C) → r ≡ then_some asked f → P f → IfSome r P
+of_flag {C = C} P true f r is h = subst (λ (z : Option C). IfSome z P) (sym is) h
+of_flag {C = C} P false f r is h = subst (λ (z : Option C). IfSome z P) (sym is) tt

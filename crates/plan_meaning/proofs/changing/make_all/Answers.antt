@@ -1,4 +1,4 @@
-use Rattle.std.proofs.Common.{◌∙◌, ◌+◌, refl, subst, sym, take}
+use Rattle.std.proofs.Common.{◌∙◌, ◌+◌, subst, sym, take}
 use Rattle.aut_core.specs.Core.{Core, automaton_of}
 use Rattle.plan_meaning.proofs.ChangeLists.{at_place, grown, grows, made_on, none_made, sized_at, stops_here}
 use Rattle.plan_meaning.specs.inner.Stepping.{IsMade, IsOfSizeAt, changes_asked}

@@ -1,9 +1,10 @@
-use Rattle.std.proofs.Common.{[], ◌∷◌, map, refl}
+use Rattle.std.proofs.Common.{◌≡◌, [], ◌∷◌, map, refl}
 use Rattle.aut_core.specs.Core.{automaton_of}
-use Rattle.plan_meaning.proofs.StandingLists.{by_flag, by_option, same_standing}
+use Rattle.plan_meaning.proofs.StandingLists.{by_flag, by_option, of_any, of_flag, of_option, same_standing}
 use Rattle.plan_meaning.specs.Changes.{Product, ProductOr, RemoveAp, Sum, change_options}
+use Rattle.plan_meaning.specs.Operands.{IsOfReadSize}
 use Rattle.plan_meaning.specs.declared.changing.list.Change.TheVariants as code
-use Rattle.plan_meaning.specs.inner.Stepping.{change_of}
+use Rattle.plan_meaning.specs.inner.Stepping.{IsPossible, change_of, place_of}
 use Rattle.plan_meaning.proofs.changing.list.changes.Goals as goal
 
 pub returns-clause-list : goal.returns-clause-list
@@ -17,3 +18,14 @@ returns-clause-list c =
     let complete = by_flag change_of p.complete code.Complete c.then_some-2.result c.then_some-2.ensures in
     same_standing change_of (c.map.result ∷ c.map-2.result ∷ c.map-3.result ∷ c.map-4.result ∷ c.then_some.result ∷ c.form_change.result ∷ c.then_some-2.result ∷ []) (change_options p (map automaton_of c.args.operands.now))
     (λ i. product i ∷ product_or i ∷ sum i ∷ hidden i ∷ trim i ∷ c.form_change.ensures.is i ∷ complete i ∷ [])
+
+pub returns-clause-order : goal.returns-clause-order
+returns-clause-order c =
+    let p = c.args.plan.now in
+    let product = of_option (λ x. IsOfReadSize (automaton_of x.now)) (λ y. (place_of y ≡ 0) × IsPossible y) code.Product (λ x h. (refl, h)) c.product_operand.result c.map.result c.map.ensures.cases c.product_operand.ensures.sized in
+    let product_or = of_option (λ x. IsOfReadSize (automaton_of x.now)) (λ y. (place_of y ≡ 1) × IsPossible y) code.ProductOr (λ x h. (refl, h)) c.product_or_operand.result c.map-2.result c.map-2.ensures.cases c.product_or_operand.ensures.sized in
+    let sum = of_option (λ x. IsOfReadSize (automaton_of x.now)) (λ y. (place_of y ≡ 2) × IsPossible y) code.Sum (λ x h. (refl, h)) c.sum_operand.result c.map-3.result c.map-3.ensures.cases c.sum_operand.ensures.sized in
+    let hidden = of_any (λ y. (place_of y ≡ 3) × IsPossible y) code.RemoveAp (λ x. (refl, tt)) c.as_ref.result c.map-4.result c.map-4.ensures.cases in
+    let trim = of_flag (λ y. (place_of y ≡ 4) × IsPossible y) p.trim code.Trim c.then_some.result c.then_some.ensures (refl, tt) in
+    let complete = of_flag (λ y. (place_of y ≡ 6) × IsPossible y) p.complete code.Complete c.then_some-2.result c.then_some-2.ensures (refl, tt) in
+    (product, (product_or, (sum, (hidden, (trim, (c.form_change.ensures.possible, (complete, tt)))))))

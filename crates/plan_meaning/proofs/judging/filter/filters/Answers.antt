@@ -1,9 +1,11 @@
 use Rattle.std.proofs.Common.{[], ◌∷◌, map, refl}
 use Rattle.aut_core.specs.Core.{automaton_of}
-use Rattle.plan_meaning.proofs.StandingLists.{by_flag, by_option, same_standing}
+use Rattle.plan_meaning.proofs.FilterLists.{comparable}
+use Rattle.plan_meaning.proofs.StandingLists.{by_flag, by_option, of_any, of_flag, of_option, same_standing}
 use Rattle.plan_meaning.specs.Filters.{AcceptsWord, Edges, Intersects, Names, RejectsWord, Sets, States, filter_options}
+use Rattle.plan_meaning.specs.Operands.{IsOfReadSize}
 use Rattle.plan_meaning.specs.declared.judging.filter.Filter.TheVariants as code
-use Rattle.plan_meaning.specs.inner.Judging.{filter_of}
+use Rattle.plan_meaning.specs.inner.Judging.{IsComparable, filter_of}
 use Rattle.word_syntax.specs.Writing.{word_pattern}
 use Rattle.plan_meaning.proofs.judging.filter.filters.Goals as goal
 
@@ -23,3 +25,20 @@ returns-clause-list c =
     let names = by_option filter_of (λ x. x.now) code.Names Names (λ x. refl) c.as_ref-6.result p.ap c.map-7.result c.map-7.ensures.cases c.as_ref-6.ensures.value in
     same_standing filter_of (c.map.result ∷ c.map-2.result ∷ c.then_some.result ∷ c.map-3.result ∷ c.then_some-2.result ∷ c.then_some-3.result ∷ c.then_some-4.result ∷ c.map-4.result ∷ c.map-5.result ∷ c.map-6.result ∷ c.map-7.result ∷ []) (filter_options p (map automaton_of c.args.operands.now))
     (λ i. accepts i ∷ rejects i ∷ empty i ∷ intersects i ∷ deterministic i ∷ complete i ∷ unambiguous i ∷ states i ∷ edges i ∷ sets i ∷ names i ∷ [])
+
+pub returns-clause-sized : goal.returns-clause-sized
+returns-clause-sized c =
+    let p = c.args.plan.now in
+    let accepts = of_any IsComparable code.AcceptsWord (λ x. tt) c.as_ref.result c.map.result c.map.ensures.cases in
+    let rejects = of_any IsComparable code.RejectsWord (λ x. tt) c.as_ref-2.result c.map-2.result c.map-2.ensures.cases in
+    let empty = of_flag IsComparable p.is_empty code.IsEmpty c.then_some.result c.then_some.ensures tt in
+    let intersects = of_option (λ x. IsOfReadSize (automaton_of x.now)) IsComparable code.Intersects (λ x h. h) c.intersect_operand.result c.map-3.result c.map-3.ensures.cases c.intersect_operand.ensures.sized in
+    let deterministic = of_flag IsComparable p.is_deterministic code.IsDeterministic c.then_some-2.result c.then_some-2.ensures tt in
+    let complete = of_flag IsComparable p.is_complete code.IsComplete c.then_some-3.result c.then_some-3.ensures tt in
+    let unambiguous = of_flag IsComparable p.is_unambiguous code.IsUnambiguous c.then_some-4.result c.then_some-4.ensures tt in
+    let states = of_any IsComparable code.States (λ x. tt) c.as_ref-3.result c.map-4.result c.map-4.ensures.cases in
+    let edges = of_any IsComparable code.Edges (λ x. tt) c.as_ref-4.result c.map-5.result c.map-5.ensures.cases in
+    let sets = of_any IsComparable code.Sets (λ x. tt) c.as_ref-5.result c.map-6.result c.map-6.ensures.cases in
+    let names = of_any IsComparable code.Names (λ x. tt) c.as_ref-6.result c.map-7.result c.map-7.ensures.cases in
+    comparable (c.map.result ∷ c.map-2.result ∷ c.then_some.result ∷ c.map-3.result ∷ c.then_some-2.result ∷ c.then_some-3.result ∷ c.then_some-4.result ∷ c.map-4.result ∷ c.map-5.result ∷ c.map-6.result ∷ c.map-7.result ∷ [])
+    (accepts, (rejects, (empty, (intersects, (deterministic, (complete, (unambiguous, (states, (edges, (sets, (names, tt)))))))))))
