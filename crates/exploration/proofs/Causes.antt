@@ -33,7 +33,7 @@ module _ {X : Type 0} (r : Rules X) (tells : (a b : X) → r.same a b ≡ true �
       by g true is e = absurd (meets_goes f g (sym e))
       by g false is e =
           let more : counts r.moves s.things (suc s.next) ≡ s.sum + r.moves.count y = ap (λ (o : Option X). counts r.moves s.things s.next + count_of r.moves o) at ∙ ap
-              (λ (n : ℕ). n + r.moves.count y) (sym total) in
+          (λ (n : ℕ). n + r.moves.count y) (sym total) in
           let over : r.most_classes < s.sum + r.moves.count y = leb-false (s.sum + r.moves.count y) r.most_classes is in
           subst (Excess r start) (meets_same fault.Classes f e) (record { things = s.things; are = are; number = suc s.next; many = omega (arith, more, over) })
 

@@ -177,7 +177,7 @@ module _ {X : Type 0} (m : Moves X) where
         let first : get_or steps i a.0 ≡ a.0 = get_or_from_slice_get steps i a.0 a.0 a.1 in
         let second : get_or steps j a.0 ≡ b.0 = get_or_from_slice_get steps j b.0 a.0 b.1 in
         let before : StepBefore a.0 b.0 = subst (λ (s : Step X). StepBefore s b.0) first (subst (StepBefore (get_or steps i a.0)) second
-            (before_rises things (length things) i j a.0 less (slice_get_within steps j b.0 b.1))) in
+        (before_rises things (length things) i j a.0 less (slice_get_within steps j b.0 b.1))) in
         arrow_before (get_or arrows i d) (get_or arrows j d) a.0 b.0 a.2 b.2 before
       where
         arrow_before : (a b : Arrow) (s t : Step X) → IsArrow things a s → IsArrow things b t → StepBefore s t → ArrowBefore a b

@@ -165,12 +165,12 @@ module _ {X : Type 0} (r : Rules X) (tells : (a b : X) → r.same a b ≡ true �
       let grows : Longer s.things xs' = new_longer r.same s.things y in
       let step : Step X = record { from = h.place; class = k; to = y } in
       let kept : steps_before m xs' h.place ≡ steps_before m s.things h.place = ap (λ (l : List X). steps_before m l h.place) grows.1 ∙ before_kept m s.things grows.0 h.place
-          (omega (arith, within)) in
+      (omega (arith, within)) in
       let more : made xs' h.place x (k + 1) ≡ made s.things h.place x k ++ step ∷ [] = ap (λ (ts : List (Step X)). ts ++ steps_below m h.place x (k + 1)) kept ∙ one_more s.things h.place x k
-          (Gives y) e in
+      (Gives y) e in
       let out : turned_out (made s.things h.place x k ++ step ∷ []) ≡ with_new r.same (turned_out (made s.things h.place x k)) y =
       ap (fold (with_new r.same) (start ∷ [])) (map-append (λ (t : Step X). t.to) (made s.things h.place x k) (step ∷ [])) ∙ fold-append (with_new r.same) (start ∷ [])
-          (map (λ (t : Step X). t.to) (made s.things h.place x k)) (y ∷ []) in
+      (map (λ (t : Step X). t.to) (made s.things h.place x k)) (y ∷ []) in
       let back : s.next - 1 ≡ h.place = omega (arith, h.next) in
       record {
         place = h.place;
@@ -191,7 +191,7 @@ module _ {X : Type 0} (r : Rules X) (tells : (a b : X) → r.same a b ≡ true �
         edges = subst (λ (ts : List (Step X)). AllZip (IsArrow xs') (given s x k y).arrows ts) (sym more)
             (zip_append (IsArrow xs') s.arrows ((record { from = s.next - 1; class = k; to = position_or_len (r.same y) s.things }) ∷ []) (made s.things h.place x k) (step ∷ [])
             (all_zip_mono (IsArrow s.things) (IsArrow xs') (λ a t is. record { from = is.from; class = is.class; to = longer_at s.things xs' a.to t.to grows is.to }) s.arrows
-                (made s.things h.place x k) h.edges)
+            (made s.things h.place x k) h.edges)
             (record { from = back; class = refl; to = new_place r.same tells itself s.things y }, tt));
       }
 
@@ -281,7 +281,7 @@ module _ {X : Type 0} (r : Rules X) (tells : (a b : X) → r.same a b ≡ true �
   turned_midway s s' None held e =
       taken_midway (begin start) s' (Some start) refl
       (λ y is total sum few. subst (λ (z : X). IsHeld (record { things = start ∷ []; sum = total; next = 0 + 1; hand = Some (z, 0); arrows = [] }) z 0) (same_Some start y is)
-          (held_first total (sum ∙ ap (λ (z : X). 0 + m.count z) (sym (same_Some start y is))) few))
+      (held_first total (sum ∙ ap (λ (z : X). 0 + m.count z) (sym (same_Some start y is))) few))
       (subst (λ (w : Stage X). taken r w (slice_get w.things w.next) ≡ Goes s') held e)
   turned_midway s s' (Some h) held e = by (ltb h.1 (m.count h.0)) refl e
     where

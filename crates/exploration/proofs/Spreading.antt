@@ -110,7 +110,7 @@ module _ {X C : Type 0} where
 
       pub spread_gives : (y : X) (edge : Edge C) (xs'' : List X) (es'' : List (Edge C)) → m'.step x k ≡ Gives y → f'' y → has_room same l.things xs' y ≡ true
           → xs'' ≡ with_new same xs' y → length xs'' ≤ l.things → es'' ≡ es' ++ edge ∷ [] → arrow_of edge ≡ record { from = at; class = k; to = position_or_len (same y) xs' }
-              → is' x edge.number edge.class
+          → is' x edge.number edge.class
           → IsSpread same l m m'' f f'' is is'' at (k + 1) xs es xs'' es''
       spread_gives y edge xs'' es'' e fit room new few more arrow class = record {
         keeps = keeps_then m m' m'' f f' f'' is is' is'' so.keeps keeps;
@@ -137,6 +137,12 @@ module _ {X C : Type 0} where
               ap (λ (n : ℕ). map arrow_of es' ++ record { from = n; class = k; to = position_or_len (same y) xs' } ∷ []) back
               ∙ (ap (λ (a : Arrow). map arrow_of es' ++ a ∷ []) (sym arrow) ∙ (sym (map-append arrow_of es' (edge ∷ [])) ∙ ap (map arrow_of) (sym more)))
 
-          stage_is : (sum : ℕ) → Goes (record { things = with_new same xs' y; sum = sum; next = at + 1; hand = Some (x, k + 1); arrows = map arrow_of es' ++ record
-              { from = at + 1 - 1; class = k; to = position_or_len (same y) xs' } ∷ [] }) ≡ Goes (stage_of xs'' es'' sum (at + 1) (Some (x, k + 1)))
+          stage_is : (sum : ℕ) → Goes (record {
+            things = with_new same xs' y;
+            sum = sum;
+            next = at + 1;
+            hand = Some (x, k + 1);
+            arrows = map arrow_of es' ++ record
+                { from = at + 1 - 1; class = k; to = position_or_len (same y) xs' } ∷ [];
+          }) ≡ Goes (stage_of xs'' es'' sum (at + 1) (Some (x, k + 1)))
           stage_is sum = λ i. Goes (record { things = sym new i; sum = sum; next = at + 1; hand = Some (x, k + 1); arrows = arrows_are i })

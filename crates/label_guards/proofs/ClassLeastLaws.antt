@@ -206,9 +206,16 @@ module _ (n : ℕ) (labels : List LabelTree) where
   least_alike v size =
       let found = least_there n (λ w. are_alike labels (holds_in w) (holds_in v)) v size (alike_itself labels (holds_in v)) in
       let w = found.0 in
-      let is = found.1 in
-      (w, leasts_to w (record { size = is.size; is_true = alike_itself labels (holds_in w); least = λ u long h. is.least u long
-          (alike_on labels (holds_in u) (holds_in w) (holds_in v) h is.is_true) }), is.is_true)
+      let is = found.1 in (
+        w,
+        leasts_to w (record {
+          size = is.size;
+          is_true = alike_itself labels (holds_in w);
+          least = λ u long h. is.least u long
+              (alike_on labels (holds_in u) (holds_in w) (holds_in v) h is.is_true);
+        }),
+        is.is_true,
+      )
 
   -- those at two places are not alike
   pub leasts_apart : (k j : ℕ) (v w : List Bool) → slice_get (class_leasts n labels) k ≡ Some v → slice_get (class_leasts n labels) j ≡ Some w → k < j
@@ -312,8 +319,12 @@ module _ (s : Store) (list : List Guard) where
     is_class_least w there =
         let at = there_at found.0 w there in
         let g = zip_right IsLeastOf classes found.0 at.0 w found.1 at.1 in
-        leasts_to s.names labels w (record { size = g.2.size; is_true = alike_itself labels (holds_in w); least = λ u size h. g.2.least u size
-            (in_class (holds_in w) (holds_in u) at.0 g.0 g.1 g.2.is_true (alike_turned labels (holds_in u) (holds_in w) h)) })
+        leasts_to s.names labels w (record {
+          size = g.2.size;
+          is_true = alike_itself labels (holds_in w);
+          least = λ u size h. g.2.least u size
+              (in_class (holds_in w) (holds_in u) at.0 g.0 g.1 g.2.is_true (alike_turned labels (holds_in u) (holds_in w) h));
+        })
 
     is_guard_least : (v : List Bool) → Contains (class_leasts s.names labels) v → Contains found.0 v
     is_guard_least v there =

@@ -107,11 +107,11 @@ module _ (b : Core) (core : IsCore b) (s : Store) (keeps : Keeps b.store s) wher
         let g = c.class in
         let here : set_at sets e.from ≡ c.thing = get_or_from_slice_get sets e.from c.thing [] c.at in
         let label : class_label (length b.names) (set_labels (automaton_of b) (set_at sets e.from)) (get_or (set_classes (automaton_of b) (set_at sets e.from)) e.number []) ≡ class_label
-            (length b.names) (set_labels (automaton_of b) c.thing) g.valuation =
+        (length b.names) (set_labels (automaton_of b) c.thing) g.valuation =
         (λ j. class_label (length b.names) (set_labels (automaton_of b) (here j)) (get_or (set_classes (automaton_of b) (here j)) e.number []))
         ∙ ap (class_label (length b.names) (set_labels (automaton_of b) c.thing)) (get_or_from_slice_get (set_classes (automaton_of b) c.thing) e.number g.valuation [] g.at) in
         let whole : label_in s e.class ≡ class_label (length b.names) (set_labels (automaton_of b) (set_at sets e.from)) (get_or (set_classes (automaton_of b) (set_at sets e.from)) e.number []) =
-            g.label ∙ sym label in
+        g.label ∙ sym label in
         λ j. record { from = e.from; label = whole j; to = e.to; marks = [] }
 
     edges_are : map (edge_of s) (map link_of edges) ≡ map (monitor_edge (automaton_of b) sets) (map arrow_of edges)

@@ -67,7 +67,7 @@ module _ (c : Core) (core : IsCore c) (set : List ℕ) (list : List Guard) (has 
     all = (by_leasts s list most classes are).count ∙ ap length (leasts_kept s keeps);
     each = λ k g at. (
         let h = subst (λ (n : ℕ). IsHandle s n (set_labels (automaton_of c) set) k g) (names_kept s keeps)
-            (subst (λ (ls : List LabelTree). IsHandle s s.names ls k g) (labels_kept s keeps) (handle_at s list classes most are k g at)) in
+        (subst (λ (ls : List LabelTree). IsHandle s s.names ls k g) (labels_kept s keeps) (handle_at s list classes most are k g at)) in
         record { valuation = h.0; at = h.1; has = h.2; least = h.3; label = h.4 }
         );
   }
@@ -113,7 +113,7 @@ module _ (c : Core) (core : IsCore c) (s : Store) (set : List ℕ) (k : ℕ) (g 
   step_goals letter least =
       let one = least_is_one s.names (truth_on (label_in s g)) least.valuation is.valuation least.least is.least in
       ap (letter_goals (automaton_of c) set) (least.letter_of ∙ ap (letter_of c.names) one) ∙ letter_goals_at (automaton_of c) set is.valuation core.well_formed.names_differ
-          (is.least.size ∙ names_are)
+      (is.least.size ∙ names_are)
 
   step_is : step_at (automaton_of c) set (slice_get (set_classes (automaton_of c) set) k) ≡ unless_empty (goals (automaton_of c) set is.valuation)
   step_is = ap (step_at (automaton_of c) set) is.at

@@ -71,10 +71,10 @@ raised_more b x es e old new more so step q within =
 pub raised_on : (c : Core) (x : NameSet) (row : List Link) (i : ℕ) (l : Link) (old new more : List Bool) → i < length row → l ≡ get_or row i l
     → AreRaised (automaton_of c) x (map (edge_of c.store) (take i row)) old new
     → ((q : ℕ) → q < length old → get_or more q false ≡ (get_or new q false || ((l.to == q) && is_met c.names x (edge_of c.store l))))
-        → AreRaised (automaton_of c) x (map (edge_of c.store) (take (i + 1) row)) old more
+    → AreRaised (automaton_of c) x (map (edge_of c.store) (take (i + 1) row)) old more
 raised_on c x row i l old new more within at so step =
     subst (λ (es : List TreeEdge). AreRaised (automaton_of c) x es old more) (map_on (edge_of c.store) row i l within at)
-        (raised_more (automaton_of c) x (map (edge_of c.store) (take i row)) (edge_of c.store l) old new more so step)
+    (raised_more (automaton_of c) x (map (edge_of c.store) (take i row)) (edge_of c.store l) old new more so step)
 
 pub raised_all : (c : Core) (x : NameSet) (state i : ℕ) (row : List Link) (old new : List Bool) → row ≡ filter (λ l. l.from == state) c.links → length row ≤ i
     → AreRaised (automaton_of c) x (map (edge_of c.store) (take i row)) old new → AreRaised (automaton_of c) x (edges_from state (automaton_of c).edges) old new

@@ -6,13 +6,13 @@ use Rattle.monitor_form.proofs.goals.raise.Goals as goal
 pub holds-requires-clause-has : goal.holds-requires-clause-has
 holds-requires-clause-has c =
     let link = row_link c.args.a.now c.whole.ensures c.args.state c.links.link-index c.links_of-link-items.result.now c.link-item.result c.links_of-link-items.ensures c.links-test.true
-        c.link-item.is in
+    c.link-item.is in
     subst (λ (s : Store). HasPlace s c.link-item.result.guard.place) (sym c.guards.ensures) link.guard
 
 pub bounds-flags-link : goal.bounds-flags-link
 bounds-flags-link c =
     let link = row_link c.args.a.now c.whole.ensures c.args.state c.links.link-index c.links_of-link-items.result.now c.link-item.result c.links_of-link-items.ensures c.links-test.true
-        c.link-item.is in
+    c.link-item.is in
     omega (arith, link.to, c.requires.size, c.links.auto.flags)
 
 pub returns : goal.returns
