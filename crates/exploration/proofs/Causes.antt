@@ -1,5 +1,6 @@
 -- Why an exploration meets a limit, and that one that ends keeps within them.
-use Rattle.std.proofs.Common.{◌≡◌, ◌∙◌, ◌+◌, ◌<◌, ◌≤◌, ◌||◌, ℕ, zero, suc, Bool, true, false, cond, [], ◌∷◌, None, Option, Some, ap, arith, inl, inr, leb, length, length-append, ltb, refl, slice_get, subst, sym}
+use Rattle.std.proofs.Common.{◌≡◌, ◌∙◌, ◌+◌, ◌<◌, ◌≤◌, ◌||◌, ℕ, zero, suc, Bool, true, false, cond, [], ◌∷◌, None, Option, Some, ap, arith, inl, inr, leb, length, length-append, ltb, refl}
+use Rattle.std.proofs.Common.{slice_get, subst, sym}
 use Rattle.std.proofs.lemmas.Bool.{leb-false, ltb-false, ltb-true, true≢false}
 use Rattle.std.proofs.lemmas.Option.{none-some, same_Some}
 use Rattle.exploration.proofs.Lists.{new_cases}
@@ -23,14 +24,16 @@ module _ {X : Type 0} (r : Rules X) (tells : (a b : X) → r.same a b ≡ true �
   meets_same : (f g : Fault) → meets f ≡ meets g → f ≡ g
   meets_same f g e = ap (fault_in f) e
 
-  taken_met : (s : Stage X) (o : Option X) (f : Fault) → slice_get s.things s.next ≡ o → AreReached r.moves start s.things → s.sum ≡ counts r.moves s.things s.next → taken r s o ≡ Meets f → Excess r start f
+  taken_met : (s : Stage X) (o : Option X) (f : Fault) → slice_get s.things s.next ≡ o → AreReached r.moves start s.things → s.sum ≡ counts r.moves s.things s.next → taken r s o ≡ Meets f
+      → Excess r start f
   taken_met s None f at are total e = absurd (meets_ends f s (sym e))
   taken_met s (Some y) f at are total e = by _ (leb (s.sum + r.moves.count y) r.most_classes) refl e
     where
       by : (g : Stage X) (b : Bool) → leb (s.sum + r.moves.count y) r.most_classes ≡ b → cond b (Goes g) (Meets fault.Classes) ≡ Meets f → Excess r start f
       by g true is e = absurd (meets_goes f g (sym e))
       by g false is e =
-          let more : counts r.moves s.things (suc s.next) ≡ s.sum + r.moves.count y = ap (λ (o : Option X). counts r.moves s.things s.next + count_of r.moves o) at ∙ ap (λ (n : ℕ). n + r.moves.count y) (sym total) in
+          let more : counts r.moves s.things (suc s.next) ≡ s.sum + r.moves.count y = ap (λ (o : Option X). counts r.moves s.things s.next + count_of r.moves o) at ∙ ap
+          (λ (n : ℕ). n + r.moves.count y) (sym total) in
           let over : r.most_classes < s.sum + r.moves.count y = leb-false (s.sum + r.moves.count y) r.most_classes is in
           subst (Excess r start) (meets_same fault.Classes f e) (record { things = s.things; are = are; number = suc s.next; many = omega (arith, more, over) })
 
@@ -57,7 +60,8 @@ module _ {X : Type 0} (r : Rules X) (tells : (a b : X) → r.same a b ≡ true �
   stepped_met s x k Fails f is less h e = subst (Excess r start) (meets_same fault.Nodes f e) (record { thing = x; class = k; reached = h.reached h.place x h.at; less = less; fails = is })
 
   turned_met : (s : Stage X) (h : Option (X × ℕ)) (f : Fault) → Held r tells itself start s h → turned r s h ≡ Meets f → Excess r start f
-  turned_met s None f held e = subst FromStart (sym held) (λ e. taken_met (begin start) (Some start) f refl (record { reached = alone (IsReached r.moves start) (record { word = []; leads = refl }); once = λ i j y a b. alone_at i y a ∙ sym (alone_at j y b) }) refl e) e
+  turned_met s None f held e = subst FromStart (sym held) (λ e. taken_met (begin start) (Some start) f refl
+      (record { reached = alone (IsReached r.moves start) (record { word = []; leads = refl }); once = λ i j y a b. alone_at i y a ∙ sym (alone_at j y b) }) refl e) e
     where
       FromStart : Stage X → Type 0
       FromStart w = taken r w (slice_get w.things w.next) ≡ Meets f → Excess r start f
@@ -79,7 +83,8 @@ module _ {X : Type 0} (r : Rules X) (tells : (a b : X) → r.same a b ≡ true �
   meets_at zero f e = absurd (meets_goes f (begin start) (sym e))
   meets_at (suc n) f e = by (after r (begin start) n) refl (meets_at n f) e
     where
-      by : (t : Turn X) → after r (begin start) n ≡ t → (after r (begin start) n ≡ Meets f → (s : Stage X) × Midway r tells itself start s × (turn r s ≡ Meets f)) → go_on r t ≡ Meets f → (s : Stage X) × Midway r tells itself start s × (turn r s ≡ Meets f)
+      by : (t : Turn X) → after r (begin start) n ≡ t → (after r (begin start) n ≡ Meets f → (s : Stage X) × Midway r tells itself start s × (turn r s ≡ Meets f)) → go_on r t ≡ Meets f
+          → (s : Stage X) × Midway r tells itself start s × (turn r s ≡ Meets f)
       by (Goes s) is before e = (s, all_midway r tells itself start n s is, e)
       by (Ends s) is before e = absurd (meets_ends f s (sym e))
       by (Meets g) is before e = before (is ∙ e)

@@ -1,5 +1,6 @@
 -- The edges of what is explored, one by one.
-use Rattle.std.proofs.Common.{◌≡◌, ◌∙◌, ◌⊎◌, ◌<◌, ℕ, zero, suc, All, AllPairs, Bool, Contains, List, [], ◌∷◌, ◌++◌, None, Option, Some, ap, arith, get_or, inl, inr, length, refl, slice_get, subst, sym}
+use Rattle.std.proofs.Common.{◌≡◌, ◌∙◌, ◌⊎◌, ◌<◌, ℕ, zero, suc, All, AllPairs, Bool, Contains, List, [], ◌∷◌, ◌++◌, None, Option, Some, ap, arith, get_or, inl, inr, length, refl, slice_get, subst}
+use Rattle.std.proofs.Common.{sym}
 use Rattle.std.proofs.lemmas.Bool.{cases_lt}
 use Rattle.std.proofs.lemmas.Option.{get_or_from_slice_get, none-some, same_Some, slice_get-get_or, slice_get_within}
 use Rattle.std.specs.List.{AllZip}
@@ -68,7 +69,8 @@ module _ {X : Type 0} (m : Moves X) where
         )
   ]
 
-  before_has : (things : List X) (n i : ℕ) (x : X) (k : ℕ) (y : X) → i < n → slice_get things i ≡ Some x → k < m.count x → m.step x k ≡ Gives y → Has (steps_before m things n) (record { from = i; class = k; to = y })
+  before_has : (things : List X) (n i : ℕ) (x : X) (k : ℕ) (y : X) → i < n → slice_get things i ≡ Some x → k < m.count x → m.step x k ≡ Gives y
+      → Has (steps_before m things n) (record { from = i; class = k; to = y })
   before_has things zero i x k y small at less e = absurd (omega (arith, small))
   before_has things (suc n) i x k y small at less e = elim (cases_lt i n) [
     | inl l ↦ has_left (steps_before m things n) (steps_of m n (slice_get things n)) _ (before_has things n i x k y l at less e)
@@ -81,7 +83,8 @@ module _ {X : Type 0} (m : Moves X) where
 
   -- each of the steps is one that gives something
   to_from : (p k : ℕ) (v : Move X) (t : Step X) → Has (step_to p k v) t → (t.from ≡ p) × (t.class ≡ k) × (v ≡ Gives t.to)
-  to_from p k (Gives y) t (zero, at) = let e = same_Some (record { from = p; class = k; to = y }) t at in (ap (λ (s : Step X). s.from) (sym e), ap (λ (s : Step X). s.class) (sym e), ap (λ (s : Step X). Gives s.to) e)
+  to_from p k (Gives y) t (zero, at) = let e = same_Some (record { from = p; class = k; to = y }) t at in
+      (ap (λ (s : Step X). s.from) (sym e), ap (λ (s : Step X). s.class) (sym e), ap (λ (s : Step X). Gives s.to) e)
   to_from p k (Gives y) t (suc n, at) = absurd (none-some t at)
   to_from p k Lacks t h = absurd (none-some t h.1)
   to_from p k Fails t h = absurd (none-some t h.1)
@@ -150,7 +153,8 @@ module _ {X : Type 0} (m : Moves X) where
 
   module _ (same : X → X → Bool) (start : X) (things : List X) (arrows : List Arrow) (is : IsExplored same m start things arrows) where
     -- each class of a listed thing whose step gives something has an edge, which leads to the place of that
-    pub edge_for : (i k : ℕ) (x y : X) → slice_get things i ≡ Some x → k < m.count x → m.step x k ≡ Gives y → (a : Arrow) × Has arrows a × (a.from ≡ i) × (a.class ≡ k) × (slice_get things a.to ≡ Some y)
+    pub edge_for : (i k : ℕ) (x y : X) → slice_get things i ≡ Some x → k < m.count x → m.step x k ≡ Gives y
+        → (a : Arrow) × Has arrows a × (a.from ≡ i) × (a.class ≡ k) × (slice_get things a.to ≡ Some y)
     edge_for i k x y at less e =
         let there = before_has things (length things) i x k y (slice_get_within things i x at) at less e in
         let z = zip_right (IsArrow things) arrows (steps_before m things (length things)) there.0 _ is.edges there.1 in
@@ -172,7 +176,8 @@ module _ {X : Type 0} (m : Moves X) where
         let b = zip_left (IsArrow things) arrows steps j (get_or arrows j d) is.edges (slice_get-get_or arrows j d within) in
         let first : get_or steps i a.0 ≡ a.0 = get_or_from_slice_get steps i a.0 a.0 a.1 in
         let second : get_or steps j a.0 ≡ b.0 = get_or_from_slice_get steps j b.0 a.0 b.1 in
-        let before : StepBefore a.0 b.0 = subst (λ (s : Step X). StepBefore s b.0) first (subst (StepBefore (get_or steps i a.0)) second (before_rises things (length things) i j a.0 less (slice_get_within steps j b.0 b.1))) in
+        let before : StepBefore a.0 b.0 = subst (λ (s : Step X). StepBefore s b.0) first (subst (StepBefore (get_or steps i a.0)) second
+        (before_rises things (length things) i j a.0 less (slice_get_within steps j b.0 b.1))) in
         arrow_before (get_or arrows i d) (get_or arrows j d) a.0 b.0 a.2 b.2 before
       where
         arrow_before : (a b : Arrow) (s t : Step X) → IsArrow things a s → IsArrow things b t → StepBefore s t → ArrowBefore a b

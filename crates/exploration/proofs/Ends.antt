@@ -17,7 +17,8 @@ module _ {X : Type 0} (r : Rules X) where
   taken_ends s s' None e = (ends_same s s' e, refl)
   taken_ends s s' (Some y) e = by (leb (s.sum + r.moves.count y) r.most_classes) e
     where
-      by : (b : Bool) → cond b (Goes (record { things = s.things; sum = s.sum + r.moves.count y; next = s.next + 1; hand = Some (y, 0); arrows = s.arrows })) (Meets fault.Classes) ≡ Ends s' → (s ≡ s') × (Some y ≡ None)
+      by : (b : Bool) → cond b (Goes (record { things = s.things; sum = s.sum + r.moves.count y; next = s.next + 1; hand = Some (y, 0); arrows = s.arrows })) (Meets fault.Classes) ≡ Ends s'
+          → (s ≡ s') × (Some y ≡ None)
       by true e = absurd (ends_goes_not _ s' e)
       by false e = absurd (meets_ends fault.Classes s' e)
 
@@ -34,7 +35,8 @@ module _ {X : Type 0} (r : Rules X) where
   turned_ends s s' None e = let t = taken_ends s s' (slice_get s.things s.next) e in (t.0, t.1, λ g is. absurd (none-some g is))
   turned_ends s s' (Some h) e = by (ltb h.1 (r.moves.count h.0)) refl e
     where
-      by : (b : Bool) → ltb h.1 (r.moves.count h.0) ≡ b → cond b (stepped r s h.0 h.1 (r.moves.step h.0 h.1)) (taken r s (slice_get s.things s.next)) ≡ Ends s' → (s ≡ s') × (slice_get s.things s.next ≡ None) × ((g : X × ℕ) → Some h ≡ Some g → r.moves.count g.0 ≤ g.1)
+      by : (b : Bool) → ltb h.1 (r.moves.count h.0) ≡ b → cond b (stepped r s h.0 h.1 (r.moves.step h.0 h.1)) (taken r s (slice_get s.things s.next)) ≡ Ends s'
+          → (s ≡ s') × (slice_get s.things s.next ≡ None) × ((g : X × ℕ) → Some h ≡ Some g → r.moves.count g.0 ≤ g.1)
       by true is e = absurd (stepped_ends s s' h.0 h.1 (r.moves.step h.0 h.1) e)
       by false is e =
           let t = taken_ends s s' (slice_get s.things s.next) e in
@@ -111,7 +113,8 @@ module _ {X : Type 0} (r : Rules X) (tells : (a b : X) → r.same a b ≡ true �
         edges = subst (λ (ts : List (Step X)). AllZip (IsArrow s.things) s.arrows ts) done h.edges;
       }
 
-  explored_hand : (s : Stage X) (o : Option (X × ℕ)) → Held r tells itself start s o → slice_get s.things s.next ≡ None → ((h : X × ℕ) → o ≡ Some h → r.moves.count h.0 ≤ h.1) → IsExplored r.same r.moves start s.things s.arrows
+  explored_hand : (s : Stage X) (o : Option (X × ℕ)) → Held r tells itself start s o → slice_get s.things s.next ≡ None → ((h : X × ℕ) → o ≡ Some h → r.moves.count h.0 ≤ h.1)
+      → IsExplored r.same r.moves start s.things s.arrows
   explored_hand s None held none all =
       let no : slice_get (start ∷ []) 0 ≡ None = subst (λ (w : Stage X). slice_get w.things w.next ≡ None) held none in
       absurd (none-some start (sym no))

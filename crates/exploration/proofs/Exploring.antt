@@ -103,4 +103,5 @@ pub classes_there : {X C : Type 0} (m' m1 : Moves X) (is1 : X → ℕ → C → 
     → AreClasses (is1 x) (m'.count x) cs → (y : X) → slice_get xs done ≡ Some y → AreClasses (is1 y) (m1.count y) ds
 classes_there {X = X} {C = C} m' m1 is1 xs done x cs ds keeps here copy are y there =
     let y_is : y ≡ x = same_Some y x (sym there ∙ here) in
-    subst (λ (z : X). AreClasses (is1 z) (m1.count z) ds) (sym y_is) (subst (λ (w : Moves X). AreClasses (is1 x) (w.count x) ds) (sym keeps) (subst (λ (es : List C). AreClasses (is1 x) (m'.count x) es) (sym copy) are))
+    subst (λ (z : X). AreClasses (is1 z) (m1.count z) ds) (sym y_is) (subst (λ (w : Moves X). AreClasses (is1 x) (w.count x) ds) (sym keeps)
+    (subst (λ (es : List C). AreClasses (is1 x) (m'.count x) es) (sym copy) are))

@@ -1,5 +1,6 @@
 -- Lists by their places.
-use Rattle.std.proofs.Common.{◌≡◌, ◌∙◌, ◌⊎◌, ◌+◌, ◌<◌, ◌≤◌, ℕ, Bool, true, false, cond, List, [], ◌∷◌, ◌++◌, All, Some, ap, append_assoc, arith, get_or, inl, inr, length, length-append, refl, slice_get, subst, sym}
+use Rattle.std.proofs.Common.{◌≡◌, ◌∙◌, ◌⊎◌, ◌+◌, ◌<◌, ◌≤◌, ℕ, Bool, true, false, cond, List, [], ◌∷◌, ◌++◌, All, Some, ap, append_assoc, arith, get_or, inl, inr, length, length-append, refl}
+use Rattle.std.proofs.Common.{slice_get, subst, sym}
 use Rattle.std.proofs.lemmas.List.{append-nil}
 use Rattle.std.proofs.lemmas.List.Elements.{All-push}
 use Rattle.std.proofs.lemmas.Option.{slice_get-get_or, slice_get_within}
@@ -8,7 +9,8 @@ use Rattle.aut_base.proofs.Lists.{slice_get-append_left, slice_get-at}
 use Rattle.exploration.specs.Turns.{with_new}
 
 -- a thing that is listed adds nothing, and one that isn't itself
-pub new_cases : {X : Type 0} (same : X → X → Bool) (xs : List X) (y : X) → ((list_any (same y) xs ≡ true) × (with_new same xs y ≡ xs)) ⊎ ((list_any (same y) xs ≡ false) × (with_new same xs y ≡ xs ++ y ∷ []))
+pub new_cases : {X : Type 0} (same : X → X → Bool) (xs : List X) (y : X) → ((list_any (same y) xs ≡ true) × (with_new same xs y ≡ xs)) ⊎
+    ((list_any (same y) xs ≡ false) × (with_new same xs y ≡ xs ++ y ∷ []))
 new_cases same xs y = by (list_any (same y) xs) refl
   where
     by : (b : Bool) → list_any (same y) xs ≡ b → ((list_any (same y) xs ≡ true) × (with_new same xs y ≡ xs)) ⊎ ((list_any (same y) xs ≡ false) × (with_new same xs y ≡ xs ++ y ∷ []))

@@ -1,5 +1,6 @@
 -- What holds at each stage.
-use Rattle.std.proofs.Common.{◌≡◌, ◌≢◌, ◌∙◌, ◌+◌, ◌-◌, ◌<◌, ◌≤◌, ℕ, zero, suc, Bool, true, false, cond, List, [], ◌∷◌, ◌++◌, None, Option, Some, ap, append_assoc, arith, fold, inl, inr, leb, length, ltb, map, refl, slice_get, subst, sym}
+use Rattle.std.proofs.Common.{◌≡◌, ◌≢◌, ◌∙◌, ◌+◌, ◌-◌, ◌<◌, ◌≤◌, ℕ, zero, suc, Bool, true, false, cond, List, [], ◌∷◌, ◌++◌, None, Option, Some, ap, append_assoc, arith, fold, inl, inr, leb}
+use Rattle.std.proofs.Common.{length, ltb, map, refl, slice_get, subst, sym}
 use Rattle.std.proofs.lemmas.Bool.{cases_lt, leb-true, ltb-false, ltb-true}
 use Rattle.std.proofs.lemmas.List.{append-nil, map-append}
 use Rattle.std.proofs.lemmas.List.Sums.{fold-append}
@@ -128,7 +129,8 @@ module _ {X : Type 0} (r : Rules X) (tells : (a b : X) → r.same a b ≡ true �
   gives_fails : (y : X) → Gives y ≡ Fails → ⊥
   gives_fails y e = let n : 0 ≡ 2 = ap move_kind e in absurd (omega (arith, n))
 
-  pub held_lacks : (s : Stage X) (x : X) (k : ℕ) → IsHeld s x k → k < m.count x → m.step x k ≡ Lacks → IsHeld (record { things = s.things; sum = s.sum; next = s.next; hand = Some (x, k + 1); arrows = s.arrows }) x (k + 1)
+  pub held_lacks : (s : Stage X) (x : X) (k : ℕ) → IsHeld s x k → k < m.count x → m.step x k ≡ Lacks
+      → IsHeld (record { things = s.things; sum = s.sum; next = s.next; hand = Some (x, k + 1); arrows = s.arrows }) x (k + 1)
   held_lacks s x k h less e =
       let same_made : made s.things h.place x (k + 1) ≡ made s.things h.place x k = one_more s.things h.place x k Lacks e ∙ append-nil (made s.things h.place x k) in
       record {
@@ -162,10 +164,13 @@ module _ {X : Type 0} (r : Rules X) (tells : (a b : X) → r.same a b ≡ true �
       let xs' = with_new r.same s.things y in
       let grows : Longer s.things xs' = new_longer r.same s.things y in
       let step : Step X = record { from = h.place; class = k; to = y } in
-      let kept : steps_before m xs' h.place ≡ steps_before m s.things h.place = ap (λ (l : List X). steps_before m l h.place) grows.1 ∙ before_kept m s.things grows.0 h.place (omega (arith, within)) in
-      let more : made xs' h.place x (k + 1) ≡ made s.things h.place x k ++ step ∷ [] = ap (λ (ts : List (Step X)). ts ++ steps_below m h.place x (k + 1)) kept ∙ one_more s.things h.place x k (Gives y) e in
+      let kept : steps_before m xs' h.place ≡ steps_before m s.things h.place = ap (λ (l : List X). steps_before m l h.place) grows.1 ∙ before_kept m s.things grows.0 h.place
+      (omega (arith, within)) in
+      let more : made xs' h.place x (k + 1) ≡ made s.things h.place x k ++ step ∷ [] = ap (λ (ts : List (Step X)). ts ++ steps_below m h.place x (k + 1)) kept ∙ one_more s.things h.place x k
+      (Gives y) e in
       let out : turned_out (made s.things h.place x k ++ step ∷ []) ≡ with_new r.same (turned_out (made s.things h.place x k)) y =
-      ap (fold (with_new r.same) (start ∷ [])) (map-append (λ (t : Step X). t.to) (made s.things h.place x k) (step ∷ [])) ∙ fold-append (with_new r.same) (start ∷ []) (map (λ (t : Step X). t.to) (made s.things h.place x k)) (y ∷ []) in
+      ap (fold (with_new r.same) (start ∷ [])) (map-append (λ (t : Step X). t.to) (made s.things h.place x k) (step ∷ [])) ∙ fold-append (with_new r.same) (start ∷ [])
+      (map (λ (t : Step X). t.to) (made s.things h.place x k)) (y ∷ []) in
       let back : s.next - 1 ≡ h.place = omega (arith, h.next) in
       record {
         place = h.place;
@@ -185,7 +190,8 @@ module _ {X : Type 0} (r : Rules X) (tells : (a b : X) → r.same a b ≡ true �
         sure_hand = sure_more x k (Gives y) e (gives_fails y) h.sure_hand;
         edges = subst (λ (ts : List (Step X)). AllZip (IsArrow xs') (given s x k y).arrows ts) (sym more)
             (zip_append (IsArrow xs') s.arrows ((record { from = s.next - 1; class = k; to = position_or_len (r.same y) s.things }) ∷ []) (made s.things h.place x k) (step ∷ [])
-            (all_zip_mono (IsArrow s.things) (IsArrow xs') (λ a t is. record { from = is.from; class = is.class; to = longer_at s.things xs' a.to t.to grows is.to }) s.arrows (made s.things h.place x k) h.edges)
+            (all_zip_mono (IsArrow s.things) (IsArrow xs') (λ a t is. record { from = is.from; class = is.class; to = longer_at s.things xs' a.to t.to grows is.to }) s.arrows
+            (made s.things h.place x k) h.edges)
             (record { from = back; class = refl; to = new_place r.same tells itself s.things y }, tt));
       }
 
@@ -205,7 +211,8 @@ module _ {X : Type 0} (r : Rules X) (tells : (a b : X) → r.same a b ≡ true �
         )
   ]
 
-  pub held_taken : (s : Stage X) (x : X) (k : ℕ) (y : X) (total : ℕ) → (h : IsHeld s x k) → m.count x ≤ k → slice_get s.things s.next ≡ Some y → total ≡ s.sum + m.count y → total ≤ r.most_classes → IsHeld (record { things = s.things; sum = total; next = s.next + 1; hand = Some (y, 0); arrows = s.arrows }) y 0
+  pub held_taken : (s : Stage X) (x : X) (k : ℕ) (y : X) (total : ℕ) → (h : IsHeld s x k) → m.count x ≤ k → slice_get s.things s.next ≡ Some y → total ≡ s.sum + m.count y → total ≤ r.most_classes
+      → IsHeld (record { things = s.things; sum = total; next = s.next + 1; hand = Some (y, 0); arrows = s.arrows }) y 0
   held_taken s x k y total h all at sum few =
       let done : made s.things h.place x k ≡ made s.things (suc h.place) y 0 = whole s x k h all ∙ sym (append-nil (steps_before m s.things (suc h.place))) in
       record {
@@ -251,11 +258,13 @@ module _ {X : Type 0} (r : Rules X) (tells : (a b : X) → r.same a b ≡ true �
 
   -- from stage to stage
 
-  taken_midway : (s s' : Stage X) (o : Option X) → slice_get s.things s.next ≡ o → ((y : X) → o ≡ Some y → (total : ℕ) → total ≡ s.sum + m.count y → total ≤ r.most_classes → IsHeld (record { things = s.things; sum = total; next = s.next + 1; hand = Some (y, 0); arrows = s.arrows }) y 0) → taken r s o ≡ Goes s' → Midway s'
+  taken_midway : (s s' : Stage X) (o : Option X) → slice_get s.things s.next ≡ o → ((y : X) → o ≡ Some y → (total : ℕ) → total ≡ s.sum + m.count y → total ≤ r.most_classes
+      → IsHeld (record { things = s.things; sum = total; next = s.next + 1; hand = Some (y, 0); arrows = s.arrows }) y 0) → taken r s o ≡ Goes s' → Midway s'
   taken_midway s s' None at held e = absurd (ends_goes s s' e)
   taken_midway s s' (Some y) at held e = by (leb (s.sum + m.count y) r.most_classes) refl e
     where
-      by : (b : Bool) → leb (s.sum + m.count y) r.most_classes ≡ b → cond b (Goes (record { things = s.things; sum = s.sum + m.count y; next = s.next + 1; hand = Some (y, 0); arrows = s.arrows })) (Meets fault.Classes) ≡ Goes s' → Midway s'
+      by : (b : Bool) → leb (s.sum + m.count y) r.most_classes ≡ b → cond b (Goes (record
+          { things = s.things; sum = s.sum + m.count y; next = s.next + 1; hand = Some (y, 0); arrows = s.arrows })) (Meets fault.Classes) ≡ Goes s' → Midway s'
       by true is e = subst Midway (goes_same _ s' e) (held y refl (s.sum + m.count y) refl (leb-true (s.sum + m.count y) r.most_classes is))
       by false is e = absurd (meets_goes fault.Classes s' e)
 
@@ -271,7 +280,8 @@ module _ {X : Type 0} (r : Rules X) (tells : (a b : X) → r.same a b ≡ true �
   turned_midway : (s s' : Stage X) (h : Option (X × ℕ)) → Held s h → turned r s h ≡ Goes s' → Midway s'
   turned_midway s s' None held e =
       taken_midway (begin start) s' (Some start) refl
-      (λ y is total sum few. subst (λ (z : X). IsHeld (record { things = start ∷ []; sum = total; next = 0 + 1; hand = Some (z, 0); arrows = [] }) z 0) (same_Some start y is) (held_first total (sum ∙ ap (λ (z : X). 0 + m.count z) (sym (same_Some start y is))) few))
+      (λ y is total sum few. subst (λ (z : X). IsHeld (record { things = start ∷ []; sum = total; next = 0 + 1; hand = Some (z, 0); arrows = [] }) z 0) (same_Some start y is)
+      (held_first total (sum ∙ ap (λ (z : X). 0 + m.count z) (sym (same_Some start y is))) few))
       (subst (λ (w : Stage X). taken r w (slice_get w.things w.next) ≡ Goes s') held e)
   turned_midway s s' (Some h) held e = by (ltb h.1 (m.count h.0)) refl e
     where

@@ -57,7 +57,8 @@ module _ {X : Type 0} (same : X → X → Bool) (tells : (a b : X) → same a b 
     ]
   ]
 
-  pub new_once : (xs : List X) (y : X) → ((i j : ℕ) (x : X) → slice_get xs i ≡ Some x → slice_get xs j ≡ Some x → i ≡ j) → (i j : ℕ) (x : X) → slice_get (with_new same xs y) i ≡ Some x → slice_get (with_new same xs y) j ≡ Some x → i ≡ j
+  pub new_once : (xs : List X) (y : X) → ((i j : ℕ) (x : X) → slice_get xs i ≡ Some x → slice_get xs j ≡ Some x → i ≡ j) → (i j : ℕ) (x : X) → slice_get (with_new same xs y) i ≡ Some x
+      → slice_get (with_new same xs y) j ≡ Some x → i ≡ j
   new_once xs y once i j x a b = elim (new_at xs y i x a) [
     | inl e ↦ elim (new_at xs y j x b) [
       | inl f ↦ once i j x e f

@@ -26,12 +26,14 @@ module _ {X C : Type 0} where
   }
 
   -- what was sound stays so while the system goes on and the list grows
-  classed_kept : (m m' : Moves X) (f f' : X → Type 0) (is is' : X → ℕ → C → Type 0) → Keeps m m' f f' is is' → (things things' : List X) (edges : List (Edge C)) → Longer things things' → All (IsClassed is things) edges → All (IsClassed is' things') edges
+  classed_kept : (m m' : Moves X) (f f' : X → Type 0) (is is' : X → ℕ → C → Type 0) → Keeps m m' f f' is is' → (things things' : List X) (edges : List (Edge C)) → Longer things things'
+      → All (IsClassed is things) edges → All (IsClassed is' things') edges
   classed_kept m m' f f' is is' keeps things things' edges longer all k d within =
       let c = all k d within in
       record { thing = c.thing; at = longer_at things things' _ c.thing longer c.at; class = keeps.is_class c.thing _ _ c.class }
 
-  pub sound_kept : (m m' : Moves X) (f f' : X → Type 0) (is is' : X → ℕ → C → Type 0) → Keeps m m' f f' is is' → (most : ℕ) (things : List X) (edges : List (Edge C)) → IsSound f is most things edges → IsSound f' is' most things edges
+  pub sound_kept : (m m' : Moves X) (f f' : X → Type 0) (is is' : X → ℕ → C → Type 0) → Keeps m m' f f' is is' → (most : ℕ) (things : List X) (edges : List (Edge C))
+      → IsSound f is most things edges → IsSound f' is' most things edges
   sound_kept m m' f f' is is' keeps most things edges s = record {
     each = λ k d within. keeps.fits _ (s.each k d within);
     few = s.few;
@@ -39,7 +41,8 @@ module _ {X C : Type 0} where
   }
 
   -- the invariant of the loop over the classes
-  pub record IsSpread (same : X → X → Bool) (l : Limits) (m m' : Moves X) (f f' : X → Type 0) (is is' : X → ℕ → C → Type 0) (at k : ℕ) (xs : List X) (es : List (Edge C)) (xs' : List X) (es' : List (Edge C)) : Type 0 where
+  pub record IsSpread (same : X → X → Bool) (l : Limits) (m m' : Moves X) (f f' : X → Type 0) (is is' : X → ℕ → C → Type 0) (at k : ℕ) (xs : List X) (es : List (Edge C)) (xs' : List X)
+      (es' : List (Edge C)) : Type 0 where
     pub keeps : Keeps m m' f f' is is'
     pub sound : IsSound f' is' l.things xs' es'
     pub longer : Longer xs xs'
@@ -55,7 +58,8 @@ module _ {X C : Type 0} where
     }
 
     -- the number is that of a class of the thing that was read
-    pub number_less : (m' : Moves X) (f' : X → Type 0) (is' : X → ℕ → C → Type 0) (k : ℕ) (xs' : List X) (es' : List (Edge C)) (cs : List C) (x : X) → IsSpread same l m m' f f' is is' at k xs es xs' es' → at < length xs
+    pub number_less : (m' : Moves X) (f' : X → Type 0) (is' : X → ℕ → C → Type 0) (k : ℕ) (xs' : List X) (es' : List (Edge C)) (cs : List C) (x : X)
+        → IsSpread same l m m' f f' is is' at k xs es xs' es' → at < length xs
         → ((y : X) → slice_get xs at ≡ Some y → AreClasses (is y) (m.count y) cs) → slice_get xs' at ≡ Some x → k < length cs → k < m'.count x
     number_less m' f' is' k xs' es' cs x so within classes here less =
         let all : length cs ≡ m.count x = (classes x (longer_back xs xs' at x so.longer within here)).all in
@@ -63,7 +67,8 @@ module _ {X C : Type 0} where
         omega (arith, all, now, less)
 
     -- and the class is its class
-    pub class_is : (m' : Moves X) (f' : X → Type 0) (is' : X → ℕ → C → Type 0) (k : ℕ) (xs' : List X) (es' : List (Edge C)) (cs : List C) (x : X) (c : C) → IsSpread same l m m' f f' is is' at k xs es xs' es' → at < length xs
+    pub class_is : (m' : Moves X) (f' : X → Type 0) (is' : X → ℕ → C → Type 0) (k : ℕ) (xs' : List X) (es' : List (Edge C)) (cs : List C) (x : X) (c : C)
+        → IsSpread same l m m' f f' is is' at k xs es xs' es' → at < length xs
         → ((y : X) → slice_get xs at ≡ Some y → AreClasses (is y) (m.count y) cs) → slice_get xs' at ≡ Some x → slice_get cs k ≡ Some c → is' x k c
     class_is m' f' is' k xs' es' cs x c so within classes here e = so.keeps.is_class x k c ((classes x (longer_back xs xs' at x so.longer within here)).each k c e)
 
@@ -84,24 +89,28 @@ module _ {X C : Type 0} where
         keeps = keeps_then m m' m'' f f' f'' is is' is'' so.keeps keeps;
         sound = sound_kept m' m'' f' f'' is' is'' keeps l.things xs' es' so.sound;
         longer = so.longer;
-        spreads = λ y sum there. subst (λ (z : X). Comes (rules_of same m l) (stage_of xs es sum (at + 1) (Some (z, 0))) (Goes (stage_of xs' es' sum (at + 1) (Some (z, k + 1))))) (sym (hand_is y there))
+        spreads = λ y sum there. subst (λ (z : X). Comes (rules_of same m l) (stage_of xs es sum (at + 1) (Some (z, 0))) (Goes (stage_of xs' es' sum (at + 1) (Some (z, k + 1)))))
+            (sym (hand_is y there))
             (comes_turn (rules_of same m l) _ (stage_of xs' es' sum (at + 1) (Some (x, k))) _ (so.spreads x sum (there ∙ ap Some (hand_is y there)))
             (turn_lacks (rules_of same m l) (stage_of xs' es' sum (at + 1) (Some (x, k))) x k less_first refl (step_first Lacks e)));
       }
 
-      met : (g : Fault) → ((sum : ℕ) → slice_get xs at ≡ Some x → Comes (rules_of same m l) (stage_of xs es sum (at + 1) (Some (x, 0))) (Meets g)) → (y : X) (sum : ℕ) → slice_get xs at ≡ Some y → IsMet (rules_of same m l) (stage_of xs es sum (at + 1) (Some (y, 0))) g
+      met : (g : Fault) → ((sum : ℕ) → slice_get xs at ≡ Some x → Comes (rules_of same m l) (stage_of xs es sum (at + 1) (Some (x, 0))) (Meets g)) → (y : X) (sum : ℕ) → slice_get xs at ≡ Some y
+          → IsMet (rules_of same m l) (stage_of xs es sum (at + 1) (Some (y, 0))) g
       met g c y sum there = inr (subst (λ (z : X). Comes (rules_of same m l) (stage_of xs es sum (at + 1) (Some (z, 0))) (Meets g)) (sym (hand_is y there)) (c sum (there ∙ ap Some (hand_is y there))))
 
       pub spread_fails : m'.step x k ≡ Fails → (y : X) (sum : ℕ) → slice_get xs at ≡ Some y → IsMet (rules_of same m l) (stage_of xs es sum (at + 1) (Some (y, 0))) fault.Nodes
       spread_fails e = met fault.Nodes (λ sum there. comes_turn (rules_of same m l) _ (stage_of xs' es' sum (at + 1) (Some (x, k))) _ (so.spreads x sum there)
           (turn_fails (rules_of same m l) (stage_of xs' es' sum (at + 1) (Some (x, k))) x k less_first refl (step_first Fails e)))
 
-      pub spread_full : (y : X) → m'.step x k ≡ Gives y → has_room same l.things xs' y ≡ false → (z : X) (sum : ℕ) → slice_get xs at ≡ Some z → IsMet (rules_of same m l) (stage_of xs es sum (at + 1) (Some (z, 0))) fault.Things
+      pub spread_full : (y : X) → m'.step x k ≡ Gives y → has_room same l.things xs' y ≡ false → (z : X) (sum : ℕ) → slice_get xs at ≡ Some z
+          → IsMet (rules_of same m l) (stage_of xs es sum (at + 1) (Some (z, 0))) fault.Things
       spread_full y e room = met fault.Things (λ sum there. comes_turn (rules_of same m l) _ (stage_of xs' es' sum (at + 1) (Some (x, k))) _ (so.spreads x sum there)
           (turn_full (rules_of same m l) (stage_of xs' es' sum (at + 1) (Some (x, k))) x k less_first refl y (step_first (Gives y) e) room))
 
       pub spread_gives : (y : X) (edge : Edge C) (xs'' : List X) (es'' : List (Edge C)) → m'.step x k ≡ Gives y → f'' y → has_room same l.things xs' y ≡ true
-          → xs'' ≡ with_new same xs' y → length xs'' ≤ l.things → es'' ≡ es' ++ edge ∷ [] → arrow_of edge ≡ record { from = at; class = k; to = position_or_len (same y) xs' } → is' x edge.number edge.class
+          → xs'' ≡ with_new same xs' y → length xs'' ≤ l.things → es'' ≡ es' ++ edge ∷ [] → arrow_of edge ≡ record { from = at; class = k; to = position_or_len (same y) xs' }
+          → is' x edge.number edge.class
           → IsSpread same l m m'' f f'' is is'' at (k + 1) xs es xs'' es''
       spread_gives y edge xs'' es'' e fit room new few more arrow class = record {
         keeps = keeps_then m m' m'' f f' f'' is is' is'' so.keeps keeps;
@@ -113,7 +122,8 @@ module _ {X C : Type 0} where
               (record { thing = x; at = longer_at xs' xs'' edge.from x grows (ap (slice_get xs') (ap (λ (a : Arrow). a.from) arrow) ∙ here); class = keeps.is_class x _ _ class }));
         };
         longer = longer_then xs xs' xs'' so.longer grows;
-        spreads = λ z sum there. subst (λ (w : X). Comes (rules_of same m l) (stage_of xs es sum (at + 1) (Some (w, 0))) (Goes (stage_of xs'' es'' sum (at + 1) (Some (w, k + 1))))) (sym (hand_is z there))
+        spreads = λ z sum there. subst (λ (w : X). Comes (rules_of same m l) (stage_of xs es sum (at + 1) (Some (w, 0))) (Goes (stage_of xs'' es'' sum (at + 1) (Some (w, k + 1)))))
+            (sym (hand_is z there))
             (comes_turn (rules_of same m l) _ (stage_of xs' es' sum (at + 1) (Some (x, k))) _ (so.spreads x sum (there ∙ ap Some (hand_is z there)))
             (turn_gives (rules_of same m l) (stage_of xs' es' sum (at + 1) (Some (x, k))) x k less_first refl y (step_first (Gives y) e) room ∙ stage_is sum));
       }
@@ -127,5 +137,12 @@ module _ {X C : Type 0} where
               ap (λ (n : ℕ). map arrow_of es' ++ record { from = n; class = k; to = position_or_len (same y) xs' } ∷ []) back
               ∙ (ap (λ (a : Arrow). map arrow_of es' ++ a ∷ []) (sym arrow) ∙ (sym (map-append arrow_of es' (edge ∷ [])) ∙ ap (map arrow_of) (sym more)))
 
-          stage_is : (sum : ℕ) → Goes (record { things = with_new same xs' y; sum = sum; next = at + 1; hand = Some (x, k + 1); arrows = map arrow_of es' ++ record { from = at + 1 - 1; class = k; to = position_or_len (same y) xs' } ∷ [] }) ≡ Goes (stage_of xs'' es'' sum (at + 1) (Some (x, k + 1)))
+          stage_is : (sum : ℕ) → Goes (record {
+            things = with_new same xs' y;
+            sum = sum;
+            next = at + 1;
+            hand = Some (x, k + 1);
+            arrows = map arrow_of es' ++ record
+                { from = at + 1 - 1; class = k; to = position_or_len (same y) xs' } ∷ [];
+          }) ≡ Goes (stage_of xs'' es'' sum (at + 1) (Some (x, k + 1)))
           stage_is sum = λ i. Goes (record { things = sym new i; sum = sum; next = at + 1; hand = Some (x, k + 1); arrows = arrows_are i })

@@ -1,5 +1,6 @@
 -- Least valuations of classes: there are such, they stand in order, and what are classes are theirs.
-use Rattle.std.proofs.Common.{◌≡◌, ◌∙◌, ◌⊎◌, ◌+◌, ◌^◌, ◌<◌, ◌≤◌, ◌&&◌, ℕ, zero, suc, Bool, true, false, cond, not, List, [], ◌∷◌, Contains, Some, ap, arith, eq-eqb, eqb, filter, get_or, inl, inr, length, map, nat_lt, refl, slice_get, subst, sym}
+use Rattle.std.proofs.Common.{◌≡◌, ◌∙◌, ◌⊎◌, ◌+◌, ◌^◌, ◌<◌, ◌≤◌, ◌&&◌, ℕ, zero, suc, Bool, true, false, cond, not, List, [], ◌∷◌, Contains, Some, ap, arith, eq-eqb, eqb, filter, get_or, inl, inr}
+use Rattle.std.proofs.Common.{length, map, nat_lt, refl, slice_get, subst, sym}
 use Rattle.std.proofs.Math.Decide.{dec_lt}
 use Rattle.std.proofs.lemmas.Bool.{and_parts, cases_lt, eqb-true, false≢true, lt-ltb, ltb-true, true≢false}
 use Rattle.std.proofs.lemmas.List.Elements.{All-from_recursion, recursion_from_All}
@@ -9,7 +10,8 @@ use Rattle.std.specs.List.{AllByRecursion, AllZip, list_any}
 use Rattle.indexmap.proofs.IndexTableLemmas.Probe.{pigeonhole}
 use Rattle.aut_base.proofs.AllByRecursion.{AllByRecursion-filter}
 use Rattle.aut_base.proofs.LabelExamples.{in_order}
-use Rattle.aut_base.proofs.Members.{any_found, any_from, each_from, each_is, first_there, from_filter, from_map, later_there, none_there, placed_there, read_has, there_at, there_cases, there_filter, there_map, there_range_zero}
+use Rattle.aut_base.proofs.Members.{any_found, any_from, each_from, each_is, first_there, from_filter, from_map, later_there, none_there, placed_there, read_has, there_at, there_cases}
+use Rattle.aut_base.proofs.Members.{there_filter, there_map, there_range_zero}
 use Rattle.aut_base.proofs.Ordered.{Pairs, pairs_from, pairs_unmap, range_rises}
 use Rattle.aut_base.proofs.Truth.{same_truth}
 use Rattle.aut_base.proofs.ValuationLists.{all_valuations}
@@ -204,11 +206,20 @@ module _ (n : ℕ) (labels : List LabelTree) where
   least_alike v size =
       let found = least_there n (λ w. are_alike labels (holds_in w) (holds_in v)) v size (alike_itself labels (holds_in v)) in
       let w = found.0 in
-      let is = found.1 in
-      (w, leasts_to w (record { size = is.size; is_true = alike_itself labels (holds_in w); least = λ u long h. is.least u long (alike_on labels (holds_in u) (holds_in w) (holds_in v) h is.is_true) }), is.is_true)
+      let is = found.1 in (
+        w,
+        leasts_to w (record {
+          size = is.size;
+          is_true = alike_itself labels (holds_in w);
+          least = λ u long h. is.least u long
+              (alike_on labels (holds_in u) (holds_in w) (holds_in v) h is.is_true);
+        }),
+        is.is_true,
+      )
 
   -- those at two places are not alike
-  pub leasts_apart : (k j : ℕ) (v w : List Bool) → slice_get (class_leasts n labels) k ≡ Some v → slice_get (class_leasts n labels) j ≡ Some w → k < j → are_alike labels (holds_in v) (holds_in w) ≡ true → ⊥
+  pub leasts_apart : (k j : ℕ) (v w : List Bool) → slice_get (class_leasts n labels) k ≡ Some v → slice_get (class_leasts n labels) j ≡ Some w → k < j
+      → are_alike labels (holds_in v) (holds_in w) ≡ true → ⊥
   leasts_apart k j v w at there before h =
       let less = pairs_at Less (class_leasts n labels) k j v w leasts_rise at there before in
       let size = (leasts_from v (placed_there (class_leasts n labels) k v at)).size in
@@ -308,7 +319,12 @@ module _ (s : Store) (list : List Guard) where
     is_class_least w there =
         let at = there_at found.0 w there in
         let g = zip_right IsLeastOf classes found.0 at.0 w found.1 at.1 in
-        leasts_to s.names labels w (record { size = g.2.size; is_true = alike_itself labels (holds_in w); least = λ u size h. g.2.least u size (in_class (holds_in w) (holds_in u) at.0 g.0 g.1 g.2.is_true (alike_turned labels (holds_in u) (holds_in w) h)) })
+        leasts_to s.names labels w (record {
+          size = g.2.size;
+          is_true = alike_itself labels (holds_in w);
+          least = λ u size h. g.2.least u size
+              (in_class (holds_in w) (holds_in u) at.0 g.0 g.1 g.2.is_true (alike_turned labels (holds_in u) (holds_in w) h));
+        })
 
     is_guard_least : (v : List Bool) → Contains (class_leasts s.names labels) v → Contains found.0 v
     is_guard_least v there =
@@ -322,7 +338,8 @@ module _ (s : Store) (list : List Guard) where
         subst (Contains found.0) same (placed_there found.0 at.0 w.0 w.1)
 
     leasts_are : found.0 ≡ class_leasts s.names labels
-    leasts_are = rising_same found.0 (class_leasts s.names labels) (leasts_in_order classes found.0 found.1 (pairs_from (IsBefore s) classes are.ordered)) (leasts_rise s.names labels) is_class_least is_guard_least
+    leasts_are = rising_same found.0 (class_leasts s.names labels) (leasts_in_order classes found.0 found.1 (pairs_from (IsBefore s) classes are.ordered)) (leasts_rise s.names labels)
+        is_class_least is_guard_least
 
     least_at : (k : ℕ) (g : Guard) (v : List Bool) → slice_get classes k ≡ Some g → slice_get (class_leasts s.names labels) k ≡ Some v → IsLeastOf g v
     least_at k g v at there =

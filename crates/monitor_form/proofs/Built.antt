@@ -106,14 +106,17 @@ module _ (b : Core) (core : IsCore b) (s : Store) (keeps : Keeps b.store s) wher
         let c = classed e there in
         let g = c.class in
         let here : set_at sets e.from ≡ c.thing = get_or_from_slice_get sets e.from c.thing [] c.at in
-        let label : class_label (length b.names) (set_labels (automaton_of b) (set_at sets e.from)) (get_or (set_classes (automaton_of b) (set_at sets e.from)) e.number []) ≡ class_label (length b.names) (set_labels (automaton_of b) c.thing) g.valuation =
+        let label : class_label (length b.names) (set_labels (automaton_of b) (set_at sets e.from)) (get_or (set_classes (automaton_of b) (set_at sets e.from)) e.number []) ≡ class_label
+        (length b.names) (set_labels (automaton_of b) c.thing) g.valuation =
         (λ j. class_label (length b.names) (set_labels (automaton_of b) (here j)) (get_or (set_classes (automaton_of b) (here j)) e.number []))
         ∙ ap (class_label (length b.names) (set_labels (automaton_of b) c.thing)) (get_or_from_slice_get (set_classes (automaton_of b) c.thing) e.number g.valuation [] g.at) in
-        let whole : label_in s e.class ≡ class_label (length b.names) (set_labels (automaton_of b) (set_at sets e.from)) (get_or (set_classes (automaton_of b) (set_at sets e.from)) e.number []) = g.label ∙ sym label in
+        let whole : label_in s e.class ≡ class_label (length b.names) (set_labels (automaton_of b) (set_at sets e.from)) (get_or (set_classes (automaton_of b) (set_at sets e.from)) e.number []) =
+        g.label ∙ sym label in
         λ j. record { from = e.from; label = whole j; to = e.to; marks = [] }
 
     edges_are : map (edge_of s) (map link_of edges) ≡ map (monitor_edge (automaton_of b) sets) (map arrow_of edges)
-    edges_are = map-map (edge_of s) link_of edges ∙ (map_alike (λ e. edge_of s (link_of e)) (λ e. monitor_edge (automaton_of b) sets (arrow_of e)) edges edge_is ∙ sym (map-map (monitor_edge (automaton_of b) sets) arrow_of edges))
+    edges_are = map-map (edge_of s) link_of edges ∙ (map_alike (λ e. edge_of s (link_of e)) (λ e. monitor_edge (automaton_of b) sets (arrow_of e)) edges edge_is ∙ sym
+        (map-map (monitor_edge (automaton_of b) sets) arrow_of edges))
 
     some_set : 0 < length sets
     some_set = slice_get_within sets 0 (start_set (automaton_of b)) is.first
@@ -140,8 +143,10 @@ module _ (b : Core) (core : IsCore b) (s : Store) (keeps : Keeps b.store s) wher
         store_names = store_names;
         starts_differ = λ i j d less within. absurd (omega (arith, less, within));
         starts = λ k d within. first_only k d within;
-        in_order = subst IsNonDecreasing (map-map (λ (a : Arrow). a.from) arrow_of edges ∙ sym (map-map (λ (l : Link). l.from) link_of edges)) (froms_rise (map arrow_of edges) (arrows_rise (subset_moves (automaton_of b)) (pointwise nat_eq) (start_set (automaton_of b)) sets (map arrow_of edges) is));
-        links = All-map (IsLinkOf (made (length sets) (map link_of edges) (0 ∷ []))) link_of edges (each_there (λ e. IsLinkOf (made (length sets) (map link_of edges) (0 ∷ [])) (link_of e)) edges link_is);
+        in_order = subst IsNonDecreasing (map-map (λ (a : Arrow). a.from) arrow_of edges ∙ sym (map-map (λ (l : Link). l.from) link_of edges))
+            (froms_rise (map arrow_of edges) (arrows_rise (subset_moves (automaton_of b)) (pointwise nat_eq) (start_set (automaton_of b)) sets (map arrow_of edges) is));
+        links = All-map (IsLinkOf (made (length sets) (map link_of edges) (0 ∷ []))) link_of edges
+            (each_there (λ e. IsLinkOf (made (length sets) (map link_of edges) (0 ∷ [])) (link_of e)) edges link_is);
         formula = tt;
       };
       is = λ j. record { names = b.names; starts = first_place b.starts some j; states = length sets; edges = edges_are j; sets = 0; formula = FormulaTree.True };
@@ -152,9 +157,11 @@ module _ (b : Core) (core : IsCore b) (s : Store) (keeps : Keeps b.store s) wher
         first_only (suc k) d within = absurd (omega (arith, within))
 
   -- the same of parts that are equal to these
-  pub built_same : (sets : List (List ℕ)) (arrows : List Arrow) (names : List (List ℕ)) (starts : List ℕ) (states n : ℕ) (links ls : List Link) (ss : List ℕ) (f : FormulaTree) → IsBuilt b sets arrows (made n ls ss) → names ≡ b.names → starts ≡ ss → states ≡ n → links ≡ ls → f ≡ FormulaTree.True
+  pub built_same : (sets : List (List ℕ)) (arrows : List Arrow) (names : List (List ℕ)) (starts : List ℕ) (states n : ℕ) (links ls : List Link) (ss : List ℕ) (f : FormulaTree)
+      → IsBuilt b sets arrows (made n ls ss) → names ≡ b.names → starts ≡ ss → states ≡ n → links ≡ ls → f ≡ FormulaTree.True
       → IsBuilt b sets arrows (record { names = names; starts = starts; states = states; links = links; sets = 0; formula = f; store = s })
-  built_same sets arrows names starts states n links ls ss f built en es et el ef = subst (IsBuilt b sets arrows) (λ j. record { names = sym en j; starts = sym es j; states = sym et j; links = sym el j; sets = 0; formula = sym ef j; store = s }) built
+  built_same sets arrows names starts states n links ls ss f built en es et el ef = subst (IsBuilt b sets arrows)
+      (λ j. record { names = sym en j; starts = sym es j; states = sym et j; links = sym el j; sets = 0; formula = sym ef j; store = s }) built
 
 -- the start fits
 pub start_fits : (b : Core) (s : Store) (set : List ℕ) → s ≡ b.store → set ≡ start_set (automaton_of b) → FitsStore b s set
@@ -193,7 +200,8 @@ no_failure b start f cause e = elim (subst (IsCaused (subset_rules b) start) e c
     nodes_memory m = cc
 
 -- a limit that is met, by the fault that tells it
-pub met_limit : (b : Automaton) (start : List ℕ) (f : Fault) (wanted : Fault) → start ≡ start_set b → 0 < length b.starts → IsMet (subset_rules b) (begin start) f → f ≡ wanted → wanted ≢ limit.Memory → MeetsSubsetLimit b wanted
+pub met_limit : (b : Automaton) (start : List ℕ) (f : Fault) (wanted : Fault) → start ≡ start_set b → 0 < length b.starts → IsMet (subset_rules b) (begin start) f → f ≡ wanted
+    → wanted ≢ limit.Memory → MeetsSubsetLimit b wanted
 met_limit b start f wanted same some met e other = record {
   some = some;
   meets = subst (λ (s : List ℕ). Comes (subset_rules b) (begin s) (Meets wanted)) same (elim (subst (IsMet (subset_rules b) (begin start)) e met) [

@@ -1,5 +1,6 @@
 -- The guards that the store gives for the classes of a set, and the step under one of them.
-use Rattle.std.proofs.Common.{◌≡◌, ◌≢◌, ◌∙◌, ◌<◌, ◌≤◌, ◌==◌, ℕ, zero, suc, All, AllPairs, Bool, true, false, Contains, List, [], ◌∷◌, Some, ap, arith, filter, get_or, length, map, refl, slice_get, subst, sym}
+use Rattle.std.proofs.Common.{◌≡◌, ◌≢◌, ◌∙◌, ◌<◌, ◌≤◌, ◌==◌, ℕ, zero, suc, All, AllPairs, Bool, true, false, Contains, List, [], ◌∷◌, Some, ap, arith, filter, get_or, length, map, refl, slice_get}
+use Rattle.std.proofs.Common.{subst, sym}
 use Rattle.std.proofs.lemmas.Bool.{eqb-true, true≢false}
 use Rattle.std.proofs.lemmas.List.Elements.{All-contains}
 use Rattle.std.proofs.lemmas.Option.{slice_get-get_or, slice_get_within}
@@ -60,11 +61,13 @@ module _ (c : Core) (core : IsCore c) (set : List ℕ) (list : List Guard) (has 
   leasts_kept : (s : Store) → Keeps c.store s → class_leasts s.names (labels_in s list) ≡ set_classes (automaton_of c) set
   leasts_kept s keeps = λ i. class_leasts (names_kept s keeps i) (labels_kept s keeps i)
 
-  pub class_guards : (s : Store) → Keeps c.store s → (most : ℕ) (classes : List Guard) → AreClasses s list most classes → moves.AreClasses (IsClassGuard c s set) (length (set_classes (automaton_of c) set)) classes
+  pub class_guards : (s : Store) → Keeps c.store s → (most : ℕ) (classes : List Guard) → AreClasses s list most classes
+      → moves.AreClasses (IsClassGuard c s set) (length (set_classes (automaton_of c) set)) classes
   class_guards s keeps most classes are = record {
     all = (by_leasts s list most classes are).count ∙ ap length (leasts_kept s keeps);
     each = λ k g at. (
-        let h = subst (λ (n : ℕ). IsHandle s n (set_labels (automaton_of c) set) k g) (names_kept s keeps) (subst (λ (ls : List LabelTree). IsHandle s s.names ls k g) (labels_kept s keeps) (handle_at s list classes most are k g at)) in
+        let h = subst (λ (n : ℕ). IsHandle s n (set_labels (automaton_of c) set) k g) (names_kept s keeps)
+        (subst (λ (ls : List LabelTree). IsHandle s s.names ls k g) (labels_kept s keeps) (handle_at s list classes most are k g at)) in
         record { valuation = h.0; at = h.1; has = h.2; least = h.3; label = h.4 }
         );
   }
@@ -84,11 +87,13 @@ class_kept c s t keeps set k g is = record {
   valuation = is.valuation;
   at = is.at;
   has = keeps.has g is.has;
-  least = subst (λ (n : ℕ). IsLeast n (truth_on (label_in t g)) is.valuation) (sym keeps.names) (subst (λ (l : LabelTree). IsLeast s.names (truth_on l) is.valuation) (sym (keeps.labels g is.has)) is.least);
+  least = subst (λ (n : ℕ). IsLeast n (truth_on (label_in t g)) is.valuation) (sym keeps.names)
+      (subst (λ (l : LabelTree). IsLeast s.names (truth_on l) is.valuation) (sym (keeps.labels g is.has)) is.least);
   label = keeps.labels g is.has ∙ is.label;
 }
 
-pub system_keeps : (c : Core) (s t : Store) → Keeps s t → moves.Keeps (subset_moves (automaton_of c)) (subset_moves (automaton_of c)) (FitsStore c s) (FitsStore c t) (IsClassGuard c s) (IsClassGuard c t)
+pub system_keeps : (c : Core) (s t : Store) → Keeps s t → moves.Keeps (subset_moves (automaton_of c)) (subset_moves (automaton_of c)) (FitsStore c s) (FitsStore c t) (IsClassGuard c s)
+    (IsClassGuard c t)
 system_keeps c s t keeps = record { moves = refl; fits = fits_kept c s t keeps; is_class = class_kept c s t keeps }
 
 -- the goals at the letter of a valuation are those at the valuation
@@ -107,7 +112,8 @@ module _ (c : Core) (core : IsCore c) (s : Store) (set : List ℕ) (k : ℕ) (g 
   pub step_goals : (letter : NameSet) → IsLeastLetter s c.names g letter → letter_goals (automaton_of c) set letter ≡ goals (automaton_of c) set is.valuation
   step_goals letter least =
       let one = least_is_one s.names (truth_on (label_in s g)) least.valuation is.valuation least.least is.least in
-      ap (letter_goals (automaton_of c) set) (least.letter_of ∙ ap (letter_of c.names) one) ∙ letter_goals_at (automaton_of c) set is.valuation core.well_formed.names_differ (is.least.size ∙ names_are)
+      ap (letter_goals (automaton_of c) set) (least.letter_of ∙ ap (letter_of c.names) one) ∙ letter_goals_at (automaton_of c) set is.valuation core.well_formed.names_differ
+      (is.least.size ∙ names_are)
 
   step_is : step_at (automaton_of c) set (slice_get (set_classes (automaton_of c) set) k) ≡ unless_empty (goals (automaton_of c) set is.valuation)
   step_is = ap (step_at (automaton_of c) set) is.at
@@ -123,10 +129,12 @@ module _ (c : Core) (core : IsCore c) (s : Store) (set : List ℕ) (k : ℕ) (g 
   some_gives [] e = absurd (true≢false e)
   some_gives (q ∷ qs) e = refl
 
-  pub step_lacks : (letter : NameSet) → IsLeastLetter s c.names g letter → (found : List ℕ) → found ≡ letter_goals (automaton_of c) set letter → (length found == 0) ≡ true → step_at (automaton_of c) set (slice_get (set_classes (automaton_of c) set) k) ≡ lacks
+  pub step_lacks : (letter : NameSet) → IsLeastLetter s c.names g letter → (found : List ℕ) → found ≡ letter_goals (automaton_of c) set letter → (length found == 0) ≡ true
+      → step_at (automaton_of c) set (slice_get (set_classes (automaton_of c) set) k) ≡ lacks
   step_lacks letter least found e none = step_is ∙ (ap unless_empty (sym (e ∙ step_goals letter least)) ∙ empty_lacks found none)
 
-  pub step_gives : (letter : NameSet) → IsLeastLetter s c.names g letter → (found : List ℕ) → found ≡ letter_goals (automaton_of c) set letter → (length found == 0) ≡ false → step_at (automaton_of c) set (slice_get (set_classes (automaton_of c) set) k) ≡ Gives found
+  pub step_gives : (letter : NameSet) → IsLeastLetter s c.names g letter → (found : List ℕ) → found ≡ letter_goals (automaton_of c) set letter → (length found == 0) ≡ false
+      → step_at (automaton_of c) set (slice_get (set_classes (automaton_of c) set) k) ≡ Gives found
   step_gives letter least found e some = step_is ∙ (ap unless_empty (sym (e ∙ step_goals letter least)) ∙ some_gives found some)
 
   pub goals_fit : (letter : NameSet) (found : List ℕ) → found ≡ letter_goals (automaton_of c) set letter → FitsStore c s found

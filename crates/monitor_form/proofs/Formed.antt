@@ -6,7 +6,8 @@ use Rattle.std.proofs.lemmas.List.Elements.{All-contains, Contains-get_or}
 use Rattle.std.proofs.lemmas.Option.{get_or_from_slice_get, slice_get-get_or, slice_get_within}
 use Rattle.std.specs.List.{list_any, range_with_len}
 use Rattle.aut_base.proofs.CanonicalTruth.{truth_on-label_of}
-use Rattle.aut_base.proofs.Members.{any_found, any_from, first_there, from_filter, from_flat_map, from_map, none_there, placed_there, there_at, there_filter, there_flat_map, there_map, there_range_zero}
+use Rattle.aut_base.proofs.Members.{any_found, any_from, first_there, from_filter, from_flat_map, from_map, none_there, placed_there, there_at, there_filter, there_flat_map, there_map}
+use Rattle.aut_base.proofs.Members.{there_range_zero}
 use Rattle.std.specs.FinSet as set
 use Rattle.aut_base.proofs.ValuationLetters.{valuation_at, valuation_at_holds}
 use Rattle.aut_base.specs.Automaton.{Automaton, IsEdgeOf, IsWellFormed, TreeEdge}
@@ -109,7 +110,8 @@ module _ (b : Automaton) (formed : IsWellFormed b) where
 
   from_start : (q : ℕ) → Contains b.starts q → Contains (start_set b) q
   from_start q there =
-      there_filter (λ p. list_any (λ s. s == p) b.starts) (range_with_len 0 b.states) q (there_range_zero b.states q (All-contains (λ p. p < b.states) b.starts q formed.starts there)) (any_from (λ s. s == q) b.starts q there (eq-eqb q q refl))
+      there_filter (λ p. list_any (λ s. s == p) b.starts) (range_with_len 0 b.states) q (there_range_zero b.states q (All-contains (λ p. p < b.states) b.starts q formed.starts there))
+      (any_from (λ s. s == q) b.starts q there (eq-eqb q q refl))
 
   module _ (sets : List (List ℕ)) (arrows : List Arrow) (is : IsExplored (pointwise nat_eq) (subset_moves b) (start_set b) sets arrows) where
     abbrev classes_at : ℕ → List (List Bool)
@@ -131,7 +133,8 @@ module _ (b : Automaton) (formed : IsWellFormed b) where
         let goes : get_or sets a.to [] ≡ e.1 = get_or_from_slice_get sets a.to e.1 [] e.5 in
         let less : a.class < length (classes_at a.from) = subst (λ (s : List ℕ). a.class < length (set_classes b s)) (sym here) e.3 in
         let at = slice_get-get_or (classes_at a.from) a.class [] less in
-        let gives : step_at b (set_at sets a.from) (slice_get (classes_at a.from) a.class) ≡ Gives e.1 = subst (λ (s : List ℕ). step_at b s (slice_get (set_classes b s) a.class) ≡ Gives e.1) (sym here) e.4 in
+        let gives : step_at b (set_at sets a.from) (slice_get (classes_at a.from) a.class) ≡ Gives e.1 = subst (λ (s : List ℕ). step_at b s (slice_get (set_classes b s) a.class) ≡ Gives e.1)
+        (sym here) e.4 in
         let found = given_goals (goals b (set_at sets a.from) (get_or (classes_at a.from) a.class [])) e.1 (sym (ap (step_at b (set_at sets a.from)) at) ∙ gives) in
         record {
           inside = slice_get_within sets a.from e.0 e.2;
@@ -142,7 +145,8 @@ module _ (b : Automaton) (formed : IsWellFormed b) where
           there = subst (λ (s : List ℕ). Contains s found.1.0) (sym goes) found.1.1;
         }
 
-    arrow_alike : (a : Arrow) (x : NameSet) → truth (holds_at b.names x) (monitor_edge b sets a).label ≡ true → are_alike (set_labels b (set_at sets a.from)) (holds_in (get_or (classes_at a.from) a.class [])) (holds_at b.names x) ≡ true
+    arrow_alike : (a : Arrow) (x : NameSet) → truth (holds_at b.names x) (monitor_edge b sets a).label ≡ true
+        → are_alike (set_labels b (set_at sets a.from)) (holds_in (get_or (classes_at a.from) a.class [])) (holds_at b.names x) ≡ true
     arrow_alike a x e = sym (class_truth (set_labels b (set_at sets a.from)) (get_or (classes_at a.from) a.class []) x) ∙ e
 
     arrow_moves : (a : Arrow) (x : NameSet) → Contains arrows a → truth (holds_at b.names x) (monitor_edge b sets a).label ≡ true → IsMove b sets x a.from a.to
@@ -168,10 +172,13 @@ module _ (b : Automaton) (formed : IsWellFormed b) where
         let alike : are_alike labels (holds_in w) (holds_at b.names x) ≡ true = ap (are_alike labels (holds_in w)) (at_letter x) ∙ least.2 in
         let at = there_at (classes_at i) w least.1 in
         let among = from_goal (set_at sets i) w x alike q goal in
-        let gives : step_at b (set_at sets i) (slice_get (classes_at i) at.0) ≡ Gives (goals b (set_at sets i) w) = ap (step_at b (set_at sets i)) at.1 ∙ some_given (goals b (set_at sets i) w) q among in
-        let edge = edge_for (subset_moves b) (pointwise nat_eq) (start_set b) sets arrows is i at.0 (set_at sets i) (goals b (set_at sets i) w) (slice_get-get_or sets i [] inside) (slice_get_within (classes_at i) at.0 w at.1) gives in
+        let gives : step_at b (set_at sets i) (slice_get (classes_at i) at.0) ≡ Gives (goals b (set_at sets i) w) = ap (step_at b (set_at sets i)) at.1 ∙ some_given (goals b (set_at sets i) w) q
+        among in
+        let edge = edge_for (subset_moves b) (pointwise nat_eq) (start_set b) sets arrows is i at.0 (set_at sets i) (goals b (set_at sets i) w) (slice_get-get_or sets i [] inside)
+        (slice_get_within (classes_at i) at.0 w at.1) gives in
         let a = edge.0 in
-        let same : (monitor_edge b sets a).label ≡ class_label n labels w = (λ j. class_label n (set_labels b (set_at sets (edge.2 j))) (get_or (classes_at (edge.2 j)) (edge.3 j) [])) ∙ ap (class_label n labels) (get_or_from_slice_get (classes_at i) at.0 w [] at.1) in
+        let same : (monitor_edge b sets a).label ≡ class_label n labels w = (λ j. class_label n (set_labels b (set_at sets (edge.2 j))) (get_or (classes_at (edge.2 j)) (edge.3 j) [])) ∙ ap
+        (class_label n labels) (get_or_from_slice_get (classes_at i) at.0 w [] at.1) in
         record {
           edge = monitor_edge b sets a;
           there = there_map (monitor_edge b sets) arrows a (placed_there arrows edge.1.0 a edge.1.1);
@@ -203,9 +210,11 @@ module _ (b : Automaton) (formed : IsWellFormed b) where
     arrows_apart a d there also (inr later) same x h k =
         let labels = set_labels b (set_at sets a.from) in
         let first = step_of a there in
-        let second : slice_get (classes_at a.from) d.class ≡ Some (get_or (classes_at a.from) d.class []) = subst (λ p. slice_get (classes_at p) d.class ≡ Some (get_or (classes_at p) d.class [])) (sym same) (step_of d also).at in
+        let second : slice_get (classes_at a.from) d.class ≡ Some (get_or (classes_at a.from) d.class []) = subst (λ p. slice_get (classes_at p) d.class ≡ Some (get_or (classes_at p) d.class []))
+        (sym same) (step_of d also).at in
         let one = arrow_alike a x h in
-        let other : are_alike labels (holds_in (get_or (classes_at a.from) d.class [])) (holds_at b.names x) ≡ true = subst (λ p. are_alike (set_labels b (set_at sets p)) (holds_in (get_or (classes_at p) d.class [])) (holds_at b.names x) ≡ true) (sym same) (arrow_alike d x k) in
+        let other : are_alike labels (holds_in (get_or (classes_at a.from) d.class [])) (holds_at b.names x) ≡ true = subst
+        (λ p. are_alike (set_labels b (set_at sets p)) (holds_in (get_or (classes_at p) d.class [])) (holds_at b.names x) ≡ true) (sym same) (arrow_alike d x k) in
         leasts_apart n labels a.class d.class _ _ first.at second later.1 (alike_on labels _ (holds_at b.names x) _ one (alike_turned labels _ (holds_at b.names x) other))
 
     few_places : (ss : List ℕ) → length (first_places ss) ≤ 1
@@ -224,7 +233,8 @@ itself : (a : List ℕ) → pointwise nat_eq a a ≡ true
 itself [] = refl
 itself (x ∷ xs) = and_from (nat_eq x x) (pointwise nat_eq xs xs) (eq-eqb x x refl) (itself xs)
 
-pub explored_sets : (b : Automaton) (sets : List (List ℕ)) (arrows : List Arrow) → EndsWith (subset_rules b) (start_set b) sets arrows → IsExplored (pointwise nat_eq) (subset_moves b) (start_set b) sets arrows
+pub explored_sets : (b : Automaton) (sets : List (List ℕ)) (arrows : List Arrow) → EndsWith (subset_rules b) (start_set b) sets arrows
+    → IsExplored (pointwise nat_eq) (subset_moves b) (start_set b) sets arrows
 explored_sets b sets arrows e = explored (subset_rules b) same_set itself (start_set b) (record { things = sets; sum = e.sum; next = e.next; hand = e.hand; arrows = arrows }) e.ends
 
 no_states : (b : Automaton) → b.starts ≡ [] → IsMonitorOf b (monitor_on [] [] b) []
@@ -246,11 +256,12 @@ pub formed_of : (b made : Automaton) → IsWellFormed b → IsSubsetForm b made 
 formed_of b made formed form = by b.starts refl form.explored
   where
     by : (ss : List ℕ) → b.starts ≡ ss → IsExploredFrom b ss form.sets form.arrows → Formed b made
-    by [] none are = subst (Formed b) (sym form.is) (subst (λ (xs : List (List ℕ)). Formed b (monitor_on xs form.arrows b)) (sym are.0) (subst (λ (es : List Arrow). Formed b (monitor_on [] es b)) (sym are.1) (record {
-      sets = [];
-      monitor = no_states b none;
-      deterministic = record { start = subst (λ (ss : List ℕ). length (first_places ss) ≤ 1) (sym none) (omega arith); edges = λ i j d less within. absurd (omega (arith, within)) };
-    })))
+    by [] none are = subst (Formed b) (sym form.is) (subst (λ (xs : List (List ℕ)). Formed b (monitor_on xs form.arrows b)) (sym are.0)
+        (subst (λ (es : List Arrow). Formed b (monitor_on [] es b)) (sym are.1) (record {
+          sets = [];
+          monitor = no_states b none;
+          deterministic = record { start = subst (λ (ss : List ℕ). length (first_places ss) ≤ 1) (sym none) (omega arith); edges = λ i j d less within. absurd (omega (arith, within)) };
+        })))
     by (s ∷ ss) some ends =
         let is = explored_sets b form.sets form.arrows ends in
         subst (Formed b) (sym form.is) (record { sets = form.sets; monitor = is_monitor b formed form.sets form.arrows is; deterministic = is_deterministic b formed form.sets form.arrows is })

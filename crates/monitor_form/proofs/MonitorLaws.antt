@@ -66,7 +66,8 @@ prefix_same a b same u v n p = record { stem = p.stem; cycle = p.cycle; accepted
 prefix_back : (a b : Automaton) → AcceptTheSame b a → (u v : List _) (n : ℕ) → HasPrefix a u v n → HasPrefix b u v n
 prefix_back a b same u v n p = record { stem = p.stem; cycle = p.cycle; accepted = (same p.stem p.cycle).1 p.accepted; same = p.same }
 
-pub accepts_prefixes : (a form pruned made : Automaton) → AcceptTheSame form a → AcceptTheSame pruned form → IsWellFormed form → form.formula ≡ Inf 0 false → IsPruned form pruned → IsWellFormed pruned → IsSubsetForm pruned made → AcceptsPrefixes made a
+pub accepts_prefixes : (a form pruned made : Automaton) → AcceptTheSame form a → AcceptTheSame pruned form → IsWellFormed form → form.formula ≡ Inf 0 false → IsPruned form pruned
+    → IsWellFormed pruned → IsSubsetForm pruned made → AcceptsPrefixes made a
 accepts_prefixes a form pruned made first second formed condition is_pruned well is u v some =
     let f = formed_of pruned made well is in
     let m = monitor_accepts pruned made f.sets (pruned_are_live form pruned formed condition is_pruned) f.monitor u v some in (
@@ -84,7 +85,8 @@ monitor_of a form pruned made same is_pruned is = record { pruned = pruned; is_p
 pub no_limits : (a form pruned made : Automaton) → form ≡ buchi a → IsPruned form pruned → IsSubsetForm pruned made → (f : Fault) → MeetsLimit a f → ⊥
 no_limits a form pruned made same is_pruned is f meets = (monitor_excludes_limits a).monitors made f (monitor_of a form pruned made same is_pruned is) meets
 
-pub no_limits_on : {E : Type 0} (a form pruned : Automaton) → form ≡ buchi a → IsPruned form pruned → (r : Result Core E) → IfOk r (λ made. IsSubsetForm pruned (automaton_of made)) → OnOk r ((f : Fault) → MeetsLimit a f → ⊥)
+pub no_limits_on : {E : Type 0} (a form pruned : Automaton) → form ≡ buchi a → IsPruned form pruned → (r : Result Core E) → IfOk r (λ made. IsSubsetForm pruned (automaton_of made))
+    → OnOk r ((f : Fault) → MeetsLimit a f → ⊥)
 no_limits_on a form pruned same is_pruned (Ok made) is = no_limits a form pruned (automaton_of made) same is_pruned is
 no_limits_on a form pruned same is_pruned (Err e) is = tt
 

@@ -1,5 +1,6 @@
 -- Flags of the states to which edges lead.
-use Rattle.std.proofs.Common.{◌≡◌, ◌≢◌, ◌∙◌, ◌+◌, ◌<◌, ◌≤◌, ◌==◌, ◌&&◌, ◌||◌, ℕ, zero, suc, All, Bool, true, false, List, [], ◌∷◌, ◌++◌, Some, ap, arith, cond, filter, get_or, length, map, refl, set, slice_get, subst, sym, take}
+use Rattle.std.proofs.Common.{◌≡◌, ◌≢◌, ◌∙◌, ◌+◌, ◌<◌, ◌≤◌, ◌==◌, ◌&&◌, ◌||◌, ℕ, zero, suc, All, Bool, true, false, List, [], ◌∷◌, ◌++◌, Some, ap, arith, cond, filter, get_or, length, map, refl}
+use Rattle.std.proofs.Common.{set, slice_get, subst, sym, take}
 use Rattle.std.proofs.Math.Bool.{or_assoc}
 use Rattle.std.proofs.lemmas.Bool.{eqb-false, eqb-true}
 use Rattle.std.proofs.lemmas.List.{get_or-set_other, get_or-set_same, take_all}
@@ -67,10 +68,13 @@ raised_more b x es e old new more so step q within =
     ∙ (or_assoc (get_or old q false) (list_any reads es) (reads e) ∙ ap (λ c. get_or old q false || c) (sym (any-push reads es e))))
 
 -- one link more
-pub raised_on : (c : Core) (x : NameSet) (row : List Link) (i : ℕ) (l : Link) (old new more : List Bool) → i < length row → l ≡ get_or row i l → AreRaised (automaton_of c) x (map (edge_of c.store) (take i row)) old new
-    → ((q : ℕ) → q < length old → get_or more q false ≡ (get_or new q false || ((l.to == q) && is_met c.names x (edge_of c.store l)))) → AreRaised (automaton_of c) x (map (edge_of c.store) (take (i + 1) row)) old more
+pub raised_on : (c : Core) (x : NameSet) (row : List Link) (i : ℕ) (l : Link) (old new more : List Bool) → i < length row → l ≡ get_or row i l
+    → AreRaised (automaton_of c) x (map (edge_of c.store) (take i row)) old new
+    → ((q : ℕ) → q < length old → get_or more q false ≡ (get_or new q false || ((l.to == q) && is_met c.names x (edge_of c.store l))))
+    → AreRaised (automaton_of c) x (map (edge_of c.store) (take (i + 1) row)) old more
 raised_on c x row i l old new more within at so step =
-    subst (λ (es : List TreeEdge). AreRaised (automaton_of c) x es old more) (map_on (edge_of c.store) row i l within at) (raised_more (automaton_of c) x (map (edge_of c.store) (take i row)) (edge_of c.store l) old new more so step)
+    subst (λ (es : List TreeEdge). AreRaised (automaton_of c) x es old more) (map_on (edge_of c.store) row i l within at)
+    (raised_more (automaton_of c) x (map (edge_of c.store) (take i row)) (edge_of c.store l) old new more so step)
 
 pub raised_all : (c : Core) (x : NameSet) (state i : ℕ) (row : List Link) (old new : List Bool) → row ≡ filter (λ l. l.from == state) c.links → length row ≤ i
     → AreRaised (automaton_of c) x (map (edge_of c.store) (take i row)) old new → AreRaised (automaton_of c) x (edges_from state (automaton_of c).edges) old new
@@ -82,7 +86,8 @@ pub row_link : (c : Core) → IsCore c → (state i : ℕ) (row : List Link) (l 
 row_link c core state i row l e within at = read_has (IsLinkOf c) row i l (subst (All (IsLinkOf c)) (sym e) (All-filter (λ l. l.from == state) (IsLinkOf c) c.links core.parts.links)) within at
 
 -- the numbers of flags, one flag more
-pub flagged_more : (flags : List Bool) (n : ℕ) (b : Bool) → get_or flags n false ≡ b → filter (λ q. get_or flags q false) (range_with_len 0 (n + 1)) ≡ filter (λ q. get_or flags q false) (range_with_len 0 n) ++ cond b (n ∷ []) []
+pub flagged_more : (flags : List Bool) (n : ℕ) (b : Bool) → get_or flags n false ≡ b → filter (λ q. get_or flags q false) (range_with_len 0 (n + 1)) ≡ filter (λ q. get_or flags q false)
+    (range_with_len 0 n) ++ cond b (n ∷ []) []
 flagged_more flags n b e =
     let at : 0 + n ≡ n = omega arith in
     ap (filter (λ q. get_or flags q false)) (range_more 0 n ∙ ap (λ m. range_with_len 0 n ++ m ∷ []) at)
@@ -95,7 +100,8 @@ set_edges_on b set k state at = flat_map_on (λ q. edges_from q b.edges) set k s
 abbrev pub AreGoals : Automaton → NameSet → List TreeEdge → List Bool → Type 0
 AreGoals b x es flags = (q : ℕ) → q < b.states → get_or flags q false ≡ is_goal (is_met b.names x) es q
 
-pub goals_more : (b : Automaton) (x : NameSet) (es more : List TreeEdge) (flags new : List Bool) → length flags ≡ b.states → AreGoals b x es flags → AreRaised b x more flags new → AreGoals b x (es ++ more) new
+pub goals_more : (b : Automaton) (x : NameSet) (es more : List TreeEdge) (flags new : List Bool) → length flags ≡ b.states → AreGoals b x es flags → AreRaised b x more flags new
+    → AreGoals b x (es ++ more) new
 goals_more b x es more flags new size are raised q within =
     raised q (omega (arith, size, within)) ∙ (ap (λ c. c || is_goal (is_met b.names x) more q) (are q within) ∙ sym (list_any-append (λ d. (d.to == q) && is_met b.names x d) es more))
 
@@ -108,7 +114,8 @@ filter_range_same p r a (suc n) same =
 pub filter_below : (p r : ℕ → Bool) (n m : ℕ) → n ≡ m → ((q : ℕ) → q < m → p q ≡ r q) → filter p (range_with_len 0 n) ≡ filter r (range_with_len 0 m)
 filter_below p r n m e same = ap (λ k. filter p (range_with_len 0 k)) e ∙ filter_range_same p r 0 m (λ q low high. same q (omega (arith, high)))
 
-pub goals_are : (b : Automaton) (x : NameSet) (set : List ℕ) (k : ℕ) (flags items : List Bool) → items ≡ flags → length flags ≡ b.states → length set ≤ k → AreGoals b x (set_edges b (take k set)) flags
+pub goals_are : (b : Automaton) (x : NameSet) (set : List ℕ) (k : ℕ) (flags items : List Bool) → items ≡ flags → length flags ≡ b.states → length set ≤ k
+    → AreGoals b x (set_edges b (take k set)) flags
     → filter (λ q. get_or items q false) (range_with_len 0 (length items)) ≡ letter_goals b set x
 goals_are b x set k flags items e size all are = filter_below (λ q. get_or items q false) (is_goal (is_met b.names x) (set_edges b set)) (length items) b.states (ap length e ∙ size) (λ q within.
     ap (λ (fs : List Bool). get_or fs q false) e ∙ (are q within ∙ ap (λ (qs : List ℕ). is_goal (is_met b.names x) (set_edges b qs) q) (take_all k set all)))

@@ -28,7 +28,8 @@ stops a v (suc k) p q es path =
       leg = legs a v k p parts.front parts.middle parts.first rest;
     }
   where
-    legs : (a : Automaton) (v : List NameSet) (k p : ℕ) (front : List TreeEdge) (middle : ℕ) → IsPath a p v front middle → (rest : Stops a v k middle) → (i : ℕ) → i < suc k → IsPath a (first_then p rest.at i) v (first_then front rest.way i) (first_then p rest.at (suc i))
+    legs : (a : Automaton) (v : List NameSet) (k p : ℕ) (front : List TreeEdge) (middle : ℕ) → IsPath a p v front middle → (rest : Stops a v k middle) → (i : ℕ) → i < suc k
+        → IsPath a (first_then p rest.at i) v (first_then front rest.way i) (first_then p rest.at (suc i))
     legs a v k p front middle path rest zero less = subst (λ r. IsPath a p v front r) (sym rest.first) path
     legs a v k p front middle path rest (suc i) less = rest.leg i (omega (arith, less))
 

@@ -17,7 +17,8 @@ returns-in_default-clause-meets g c =
     let x = c.index-as_slice-done.result in
     let within : c.things.done < length c.things.found.things.keys = omega (arith, c.things-test.true, c.len.ensures.len) in
     let here = read_here c.as_slice.result.now c.things.found.things.keys c.things.done x c.as_slice.ensures.keys within c.index-as_slice-done.is in
-    let many = subst (λ (o : Option _). MatchOption o (c.args.limits.classes - c.things.sum < (g.S.System.moves c.things.system).count x) (λ cs. AreClasses (g.S.System.is_class c.classes.new.self x) ((g.S.System.moves c.things.system).count x) cs.items)) c.in_default.is c.in_ok-classes.ensures.classes in
+    let many = subst (λ (o : Option _). MatchOption o (c.args.limits.classes - c.things.sum < (g.S.System.moves c.things.system).count x)
+    (λ cs. AreClasses (g.S.System.is_class c.classes.new.self x) ((g.S.System.moves c.things.system).count x) cs.items)) c.in_default.is c.in_ok-classes.ensures.classes in
     exploring_beyond _ _ _ _ _ _ _ _ _ c.things.done c.things.sum _ _ c.things.invariant.exploring x here many
 
 pub spread-requires-clause-classes : goal.spread-requires-clause-classes
@@ -25,11 +26,14 @@ spread-requires-clause-classes g c =
     let x = c.index-as_slice-done.result in
     let within : c.things.done < length c.things.found.things.keys = omega (arith, c.things-test.true, c.len.ensures.len) in
     let here = read_here c.as_slice.result.now c.things.found.things.keys c.things.done x c.as_slice.ensures.keys within c.index-as_slice-done.is in
-    let are = subst (λ (o : Option _). MatchOption o (c.args.limits.classes - c.things.sum < (g.S.System.moves c.things.system).count x) (λ cs. AreClasses (g.S.System.is_class c.classes.new.self x) ((g.S.System.moves c.things.system).count x) cs.items)) c.in-Some.is c.in_ok-classes.ensures.classes in
-    classes_there (g.S.System.moves c.things.system) (g.S.System.moves c.classes.new.self) _ c.things.found.things.keys c.things.done x c.in-Some.classes.items c.as_slice-in-things.result.now c.in_ok-classes.ensures.keeps.moves here c.as_slice-in-things.ensures.value are
+    let are = subst (λ (o : Option _). MatchOption o (c.args.limits.classes - c.things.sum < (g.S.System.moves c.things.system).count x)
+    (λ cs. AreClasses (g.S.System.is_class c.classes.new.self x) ((g.S.System.moves c.things.system).count x) cs.items)) c.in-Some.is c.in_ok-classes.ensures.classes in
+    classes_there (g.S.System.moves c.things.system) (g.S.System.moves c.classes.new.self) _ c.things.found.things.keys c.things.done x c.in-Some.classes.items c.as_slice-in-things.result.now
+    c.in_ok-classes.ensures.keeps.moves here c.as_slice-in-things.ensures.value are
 
 pub spread-requires-clause-sound : goal.spread-requires-clause-sound
-spread-requires-clause-sound g c = sound_kept (g.S.System.moves c.things.system) (g.S.System.moves c.classes.new.self) _ _ _ _ c.in_ok-classes.ensures.keeps c.args.limits.things c.things.found.things.keys c.things.found.edges.items c.things.invariant.exploring.sound
+spread-requires-clause-sound g c = sound_kept (g.S.System.moves c.things.system) (g.S.System.moves c.classes.new.self) _ _ _ _ c.in_ok-classes.ensures.keeps c.args.limits.things
+    c.things.found.things.keys c.things.found.edges.items c.things.invariant.exploring.sound
 
 pub returns-in_err-spread-clause-meets : goal.returns-in_err-spread-clause-meets
 returns-in_err-spread-clause-meets g c =
@@ -37,8 +41,10 @@ returns-in_err-spread-clause-meets g c =
     let within : c.things.done < length c.things.found.things.keys = omega (arith, c.things-test.true, c.len.ensures.len) in
     let here = read_here c.as_slice.result.now c.things.found.things.keys c.things.done x c.as_slice.ensures.keys within c.index-as_slice-done.is in
     let few = subst (λ (o : Option _). MatchOption o (Unit {0}) (λ cs. (g.S.System.moves c.things.system).count x ≤ c.args.limits.classes - c.things.sum)) c.in-Some.is c.in_ok-classes.ensures.few in
-    err_is (IsMet (rules_of g.S.Thing.PartialEq.eq (g.S.System.moves c.args.system.now) c.args.limits) (begin c.args.start)) c.from_residual-in_err-spread.result _ c.from_residual-in_err-spread.ensures.1
-    (exploring_met _ _ _ _ _ _ _ _ _ c.things.done c.things.sum _ _ c.things.invariant.exploring x here (g.S.System.moves c.classes.new.self) _ _ c.in_ok-classes.ensures.keeps few _ c.in_err-spread.ensures.meets)
+    err_is (IsMet (rules_of g.S.Thing.PartialEq.eq (g.S.System.moves c.args.system.now) c.args.limits) (begin c.args.start)) c.from_residual-in_err-spread.result _
+    c.from_residual-in_err-spread.ensures.1
+    (exploring_met _ _ _ _ _ _ _ _ _ c.things.done c.things.sum _ _ c.things.invariant.exploring x here (g.S.System.moves c.classes.new.self) _ _ c.in_ok-classes.ensures.keeps few _
+    c.in_err-spread.ensures.meets)
 
 pub things-preserved : goal.things-preserved
 things-preserved g c =
@@ -46,11 +52,18 @@ things-preserved g c =
     let within : c.things.done < length c.things.found.things.keys = omega (arith, c.things-test.true, c.len.ensures.len) in
     let here = read_here c.as_slice.result.now c.things.found.things.keys c.things.done x c.as_slice.ensures.keys within c.index-as_slice-done.is in
     let few = subst (λ (o : Option _). MatchOption o (Unit {0}) (λ cs. (g.S.System.moves c.things.system).count x ≤ c.args.limits.classes - c.things.sum)) c.in-Some.is c.in_ok-classes.ensures.few in
-    let are = subst (λ (o : Option _). MatchOption o (c.args.limits.classes - c.things.sum < (g.S.System.moves c.things.system).count x) (λ cs. AreClasses (g.S.System.is_class c.classes.new.self x) ((g.S.System.moves c.things.system).count x) cs.items)) c.in-Some.is c.in_ok-classes.ensures.classes in
+    let are = subst (λ (o : Option _). MatchOption o (c.args.limits.classes - c.things.sum < (g.S.System.moves c.things.system).count x)
+    (λ cs. AreClasses (g.S.System.is_class c.classes.new.self x) ((g.S.System.moves c.things.system).count x) cs.items)) c.in-Some.is c.in_ok-classes.ensures.classes in
     let size : c.len-in-things.result ≡ length c.in-Some.classes.items = c.len-in-things.ensures ∙ (sym c.as_slice-in-things.ensures.len ∙ ap length c.as_slice-in-things.ensures.value) in
     let copy : length c.as_slice-in-things.result.now ≡ c.len-in-things.result = ap length c.as_slice-in-things.ensures.value ∙ sym size in
-    let spreads = subst (λ (n : ℕ). Spreads (rules_of g.S.Thing.PartialEq.eq (g.S.System.moves c.classes.new.self) c.args.limits) c.things.done 0 n c.things.found.things.keys c.things.found.edges.items c.spread.new.found.things.keys c.spread.new.found.edges.items) copy c.in_ok-spread.ensures.spreads in
-    record { frame = c.in_ok-spread.ensures.frame ∙ (c.in_ok-classes.ensures.frame ∙ c.things.invariant.frame); exploring = exploring_more _ _ _ _ _ _ _ _ _ c.things.done c.things.sum _ _ c.things.invariant.exploring x here (g.S.System.moves c.classes.new.self) _ _ c.in_ok-classes.ensures.keeps few _ _ _ c.len-in-things.result c.spread.new.found.things.keys c.spread.new.found.edges.items c.in_ok-spread.ensures.keeps (size ∙ are.all) spreads c.in_ok-spread.ensures.sound within c.in_ok-spread.ensures.longer }
+    let spreads = subst (λ (n : ℕ). Spreads (rules_of g.S.Thing.PartialEq.eq (g.S.System.moves c.classes.new.self) c.args.limits) c.things.done 0 n c.things.found.things.keys
+    c.things.found.edges.items c.spread.new.found.things.keys c.spread.new.found.edges.items) copy c.in_ok-spread.ensures.spreads in
+    record {
+      frame = c.in_ok-spread.ensures.frame ∙ (c.in_ok-classes.ensures.frame ∙ c.things.invariant.frame);
+      exploring = exploring_more _ _ _ _ _ _ _ _ _ c.things.done c.things.sum _ _
+          c.things.invariant.exploring x here (g.S.System.moves c.classes.new.self) _ _ c.in_ok-classes.ensures.keeps few _ _ _ c.len-in-things.result c.spread.new.found.things.keys
+          c.spread.new.found.edges.items c.in_ok-spread.ensures.keeps (size ∙ are.all) spreads c.in_ok-spread.ensures.sound within c.in_ok-spread.ensures.longer;
+    }
 
 pub returns-clause-ends : goal.returns-clause-ends
 returns-clause-ends g c = exploring_all _ _ _ _ _ _ _ _ _ c.things.done c.things.sum _ _ c.things.invariant.exploring (omega (arith, c.things-test.false, c.len.ensures.len))
@@ -61,7 +74,8 @@ returns-clause-explored g c =
     explored (rules_of g.S.Thing.PartialEq.eq (g.S.System.moves c.args.system.now) c.args.limits) g.met.S.System.tells g.met.S.Thing.Eq.laws.refl c.args.start _ ended.ends
 
 pub returns-in_default-clause-caused : goal.returns-in_default-clause-caused
-returns-in_default-clause-caused g c = caused (rules_of g.S.Thing.PartialEq.eq (g.S.System.moves c.args.system.now) c.args.limits) g.met.S.System.tells g.met.S.Thing.Eq.laws.refl c.args.start fault.Classes (returns-in_default-clause-meets g c)
+returns-in_default-clause-caused g c = caused (rules_of g.S.Thing.PartialEq.eq (g.S.System.moves c.args.system.now) c.args.limits) g.met.S.System.tells g.met.S.Thing.Eq.laws.refl c.args.start
+    fault.Classes (returns-in_default-clause-meets g c)
 
 pub returns-in_err-spread-clause-caused : goal.returns-in_err-spread-clause-caused
 returns-in_err-spread-clause-caused g c =

@@ -16,7 +16,9 @@ from_parts-requires c =
     let edges = c.args.found.now.edges.items in
     let base = built_some b c.whole.ensures c.args.guards c.requires.keeps sets edges c.requires.explored c.requires.sound c.requires.some in
     let starts : c.push.new.self ≡ 0 ∷ [] = c.in_ok-push.ensures.ok ∙ ap (λ (xs : List ℕ). xs ++ 0 ∷ []) c.new-starts.ensures in
-    (built_same b c.whole.ensures c.args.guards c.requires.keeps sets (map arrow_of edges) c.in_ok-names.names c.push.new.self c.len.result (length sets) c.in_ok-links.links (map link_of edges) (0 ∷ []) (formula_tree True) base (c.in_ok-names.ensures ∙ c.names.ensures) starts c.len.ensures.len (c.in_ok-links.ensures ∙ ap (map link_of) c.as_slice.ensures.value) formula_tree-True).parts
+    (built_same b c.whole.ensures c.args.guards c.requires.keeps sets (map arrow_of edges) c.in_ok-names.names c.push.new.self c.len.result (length sets) c.in_ok-links.links (map link_of edges)
+    (0 ∷ []) (formula_tree True) base (c.in_ok-names.ensures ∙ c.names.ensures) starts c.len.ensures.len (c.in_ok-links.ensures ∙ ap (map link_of) c.as_slice.ensures.value)
+    formula_tree-True).parts
 
 pub returns : goal.returns
 returns c =
@@ -25,5 +27,7 @@ returns c =
     let edges = c.args.found.now.edges.items in
     let base = built_some b c.whole.ensures c.args.guards c.requires.keeps sets edges c.requires.explored c.requires.sound c.requires.some in
     let starts : c.push.new.self ≡ 0 ∷ [] = c.in_ok-push.ensures.ok ∙ ap (λ (xs : List ℕ). xs ++ 0 ∷ []) c.new-starts.ensures in
-    let all = built_same b c.whole.ensures c.args.guards c.requires.keeps sets (map arrow_of edges) c.in_ok-names.names c.push.new.self c.len.result (length sets) c.in_ok-links.links (map link_of edges) (0 ∷ []) (formula_tree True) base (c.in_ok-names.ensures ∙ c.names.ensures) starts c.len.ensures.len (c.in_ok-links.ensures ∙ ap (map link_of) c.as_slice.ensures.value) formula_tree-True in
+    let all = built_same b c.whole.ensures c.args.guards c.requires.keeps sets (map arrow_of edges) c.in_ok-names.names c.push.new.self c.len.result (length sets) c.in_ok-links.links
+    (map link_of edges) (0 ∷ []) (formula_tree True) base (c.in_ok-names.ensures ∙ c.names.ensures) starts c.len.ensures.len
+    (c.in_ok-links.ensures ∙ ap (map link_of) c.as_slice.ensures.value) formula_tree-True in
     IfOk-weaker c.from_parts.result _ _ (λ core e. ap automaton_of e ∙ all.is) c.from_parts.ensures

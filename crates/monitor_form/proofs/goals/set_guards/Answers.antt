@@ -5,7 +5,9 @@ use Rattle.monitor_form.proofs.Raising.{guards_from, guards_has, guards_labels}
 use Rattle.monitor_form.proofs.goals.set_guards.Goals as goal
 
 pub returns-clause-has : goal.returns-clause-has
-returns-clause-has c = subst (All (Has c.args.a.now.store)) (sym (c.set.invariant ∙ ap (guards_from c.args.a.now) (take_all c.set.state-index c.args.set.now (omega (arith, c.set-test.false))))) (guards_has c.args.a.now c.whole.ensures c.args.set.now)
+returns-clause-has c = subst (All (Has c.args.a.now.store)) (sym (c.set.invariant ∙ ap (guards_from c.args.a.now) (take_all c.set.state-index c.args.set.now (omega (arith, c.set-test.false)))))
+    (guards_has c.args.a.now c.whole.ensures c.args.set.now)
 
 pub returns-clause-labels : goal.returns-clause-labels
-returns-clause-labels c = ap (map (label_in c.args.a.now.store)) (c.set.invariant ∙ ap (guards_from c.args.a.now) (take_all c.set.state-index c.args.set.now (omega (arith, c.set-test.false)))) ∙ guards_labels c.args.a.now c.args.set.now
+returns-clause-labels c = ap (map (label_in c.args.a.now.store)) (c.set.invariant ∙ ap (guards_from c.args.a.now) (take_all c.set.state-index c.args.set.now (omega (arith, c.set-test.false)))) ∙
+    guards_labels c.args.a.now c.args.set.now

@@ -10,7 +10,8 @@ pub returns-then-is_empty-clause-step : goal.returns-then-is_empty-clause-step
 returns-then-is_empty-clause-step c =
     let a = c.args.self.now.automaton.now in
     let s = c.args.self.now.guards in
-    let least = subst (λ ns. IsLeastLetter s ns c.args.class c.in-Some.letter) c.names.ensures (some_said _ (IsLeastLetter s c.names.result.now c.args.class) _ c.in-Some.letter c.in-Some.is c.in_ok-letter.ensures) in
+    let least = subst (λ ns. IsLeastLetter s ns c.args.class c.in-Some.letter) c.names.ensures
+    (some_said _ (IsLeastLetter s c.names.result.now c.args.class) _ c.in-Some.letter c.in-Some.is c.in_ok-letter.ensures) in
     step_lacks a c.whole.ensures s c.args.thing.now c.args._number c.args.class c.requires.fits c.requires.class c.in-Some.letter least c.in_ok-goals.goals
     (c.in_ok-goals.ensures ∙ ap (λ (qs : List _). letter_goals (automaton_of a) qs c.in-Some.letter) c.as_slice.ensures) (sym c.if-is_empty.ensures)
 
@@ -18,7 +19,8 @@ pub returns-clause-step : goal.returns-clause-step
 returns-clause-step c =
     let a = c.args.self.now.automaton.now in
     let s = c.args.self.now.guards in
-    let least = subst (λ ns. IsLeastLetter s ns c.args.class c.in-Some.letter) c.names.ensures (some_said _ (IsLeastLetter s c.names.result.now c.args.class) _ c.in-Some.letter c.in-Some.is c.in_ok-letter.ensures) in
+    let least = subst (λ ns. IsLeastLetter s ns c.args.class c.in-Some.letter) c.names.ensures
+    (some_said _ (IsLeastLetter s c.names.result.now c.args.class) _ c.in-Some.letter c.in-Some.is c.in_ok-letter.ensures) in
     step_gives a c.whole.ensures s c.args.thing.now c.args._number c.args.class c.requires.fits c.requires.class c.in-Some.letter least c.in_ok-goals.goals
     (c.in_ok-goals.ensures ∙ ap (λ (qs : List _). letter_goals (automaton_of a) qs c.in-Some.letter) c.as_slice.ensures) (sym c.if-is_empty.ensures)
 
