@@ -7,8 +7,8 @@ ghost use Rattle.aut_ops.specs.declared.fault.PairFault.{PairFault};
 ghost use Rattle.aut_base.specs.declared.limit.TheConstants.{MOST_PAIRS};
 ghost use Rattle.aut_ops.specs.inner.Pairings.{Adds, AreBeyond, CanMeet, followed, meeting};
 
-use crate::fault::PairFault;
 use crate::edge_marks::joint_marks;
+use crate::fault::PairFault;
 use aut_base::{MOST_PAIRS, Memory};
 use aut_core::{Link, Links};
 use indexmap::IndexSet;

@@ -1,8 +1,8 @@
 //! The values of options, as lines.
 
 use crate::shown::show_line;
-use aut_base::{Memory, Text};
 use ap_project::Hide;
+use aut_base::{Memory, Text};
 use filter_plan::{Hidden, Output, Piece, Range};
 use std::alloc::Global;
 use word_syntax::Pattern;
