@@ -1,7 +1,7 @@
 //! What a run is called with.
 
-ghost use Rattle.std.specs.Prelude.{◌≡◌, ◌⊎◌, drop, map, IfErr, IfOk, OnErr, OnOk};
-ghost use Rattle.std.specs.Vec.Iter.{into_iter_items};
+ghost use Rattle.std.specs.Prelude.{◌≡◌, ◌⊎◌, length, map, IfErr, IfOk, OnErr, OnOk};
+ghost use Rattle.std.specs.Vec.Iter.{into_iter_items, into_iter_len};
 ghost use Rattle.autfilt_command.specs.declared.ended.End.{End};
 ghost use Rattle.autfilt_run.specs.declared.fault.RunFault.{RunFault};
 ghost use Rattle.autfilt_system.specs.Words.{words_in};
@@ -21,7 +21,7 @@ pub(crate) fn called<O: Opener + Drop>(
     stdin: Stdin,
     files: O,
 ) -> Result<(Words, RealInputs<Stdin, O>), End>
-    ensures words { IfOk args (λ list. IfOk result (λ called. called.0 ≡ words_in (into_iter_items list))) }
+    ensures words { IfOk args (λ list. into_iter_len list ≡ length (into_iter_items list) → IfOk result (λ called. called.0 ≡ words_in (into_iter_items list))) }
     ensures refused { IfErr args (λ error. IfErr result (λ end. (end ≡ End.Usage) ⊎ (end ≡ End.Fault RunFault.Memory))) }
     ensures none { OnErr args (OnOk result ⊥) }
 {
@@ -31,7 +31,7 @@ pub(crate) fn called<O: Opener + Drop>(
 
 /// The words behind the program's name, byte for byte.
 fn words_of(alloc: Global, args: io::Result<Args<Global>>) -> Result<Words, End>
-    ensures words { IfOk args (λ list. IfOk result (λ words. words ≡ words_in (into_iter_items list))) }
+    ensures words { IfOk args (λ list. into_iter_len list ≡ length (into_iter_items list) → IfOk result (λ words. words ≡ words_in (into_iter_items list))) }
     ensures refused { IfErr args (λ error. IfErr result (λ end. (end ≡ End.Usage) ⊎ (end ≡ End.Fault RunFault.Memory))) }
     ensures none { OnErr args (OnOk result ⊥) }
 {
@@ -51,9 +51,10 @@ fn end_of(error: &io::Error) -> End
     }
 }
 
-/// The words behind the first of these arguments.
+/// The words behind the first of these arguments. Of a list that is handed in std doesn't say that its length is the number
+/// of its items, so the clause asks for it.
 fn words_from(alloc: Global, args: Args<Global>) -> Result<Words, Memory>
-    ensures { IfOk result (λ words. words ≡ words_in (into_iter_items args)) }
+    ensures { into_iter_len args ≡ length (into_iter_items args) → IfOk result (λ words. words ≡ words_in (into_iter_items args)) }
 {
     let args: Vec<String> = args.collect(alloc)?;
     words_behind(alloc, &args)
