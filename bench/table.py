@@ -26,6 +26,15 @@ WORKLOADS = [
     ('product of 1,000,000 pairs', ['--product=ring-64.hoa', '--stats=%s'], ['ring-15625.hoa', 'ring-64.hoa']),
     ('Büchi form of 3,000, four sets', ['--buchi'], ['four-sets.hoa']),
     ('Büchi form of a ring of 2,048 states', ['--buchi', '--stats=%s'], ['ring-2048.hoa']),
+    ('hide one of 20 names, 100,000 edges', ['--remove-ap=p7'], ['few-labels.hoa']),
+    ('monitors of 20, ten names', ['-M', '--stats=%s'], ['classes.hoa']),
+    ('print these monitors', ['-M'], ['classes.hoa']),
+    ('print a monitor of 2,048 sets', ['-M'], ['shift-10.hoa']),
+    ('monitor of 16,384 sets', ['-M', '--stats=%s'], ['shift-13.hoa']),
+    ('monitor that passes the limit of sets', ['-M', '--stats=%s'], ['shift-16.hoa']),
+    ('monitor of a chain of 4,000 states', ['-M', '--stats=%s'], ['chain.hoa']),
+    ('unambiguity, 1,000,000 pairs in cycles', ['-c', '--is-unambiguous'], ['idle-ring.hoa']),
+    ('unambiguity, 1,000,000 pairs in paths', ['-c', '--is-unambiguous'], ['phases.hoa']),
 ]
 
 RUNS = 5

@@ -19,12 +19,14 @@ def pick(items):
     return items[below(len(items))]
 
 
-def automaton(states, names, acceptance, edges, name=None):
+def automaton(states, names, acceptance, edges, name=None, starts=(0,)):
     """The canonical text; edges is a list of (from, label, to, marks), sorted by from."""
     lines = ['HOA: v1']
     if name:
         lines.append('name: "%s"' % name)
-    lines += ['States: %d' % states, 'Start: 0', ' '.join(['AP: %d' % len(names)] + ['"%s"' % n for n in names]),
+    lines.append('States: %d' % states)
+    lines += ['Start: %d' % start for start in starts]
+    lines += [' '.join(['AP: %d' % len(names)] + ['"%s"' % n for n in names]),
               'Acceptance: ' + acceptance, 'properties: trans-labels explicit-labels trans-acc', '--BODY--']
     place = 0
     for state in range(states):
@@ -89,21 +91,57 @@ def line(states):
     return automaton(states, ['a'], '1 Inf(0)', [(q, '0', q + 1, []) for q in range(states - 1)])
 
 
-def ring(states, label, acceptance, marked):
-    return automaton(states, ['a'], acceptance, [(q, label, (q + 1) % states, marked(q)) for q in range(states)])
+def ring(states, label, acceptance, marked, starts=(0,)):
+    edges = [(q, label, (q + 1) % states, marked(q)) for q in range(states)]
+    return automaton(states, ['a'], acceptance, edges, starts=starts)
+
+
+def wide_labels():
+    """A conjunction, a disjunction and a disjunction of conjunctions, of the same eight of twenty names."""
+    part = sorted(sorted(range(20), key=lambda _: source.random())[:8])
+    literals = [pick(['', '!']) + str(k) for k in part]
+    pairs = ['%s & %s' % (literals[k], literals[k + 1]) for k in range(0, 6, 2)]
+    return [' & '.join(literals), ' | '.join(literals), ' | '.join('(%s)' % pair for pair in pairs)]
 
 
 def wide(number):
-    """One state with twelve labels over twenty names: conjunctions, disjunctions and disjunctions of conjunctions."""
+    """One state with twelve labels over twenty names."""
     edges = []
     for _ in range(4):
-        part = sorted(sorted(range(20), key=lambda _: source.random())[:8])
-        literals = [pick(['', '!']) + str(k) for k in part]
-        edges.append((0, ' & '.join(literals), 0, [0]))
-        edges.append((0, ' | '.join(literals), 0, []))
-        pairs = ['%s & %s' % (literals[k], literals[k + 1]) for k in range(0, 6, 2)]
-        edges.append((0, ' | '.join('(%s)' % pair for pair in pairs), 0, [0]))
+        edges += [(0, label, 0, marks) for label, marks in zip(wide_labels(), [[0], [], [0]])]
     return automaton(1, names(20), '1 Inf(0)', edges)
+
+
+def few_labels(states, leaving):
+    """So many edges from each state, under 201 labels over twenty names."""
+    labels = [label for _ in range(67) for label in wide_labels()]
+    edges = [(q, pick(labels), below(states), marks(1, 0.3)) for q in range(states) for _ in range(leaving)]
+    return automaton(states, names(20), '1 Inf(0)', edges)
+
+
+def classes(number):
+    """Three states, each left by thirty edges under conjunctions of some of ten names."""
+    edges = [(q, cube(10), below(3), marks(1, 0.3)) for q in range(3) for _ in range(30)]
+    return automaton(3, names(10), '1 Inf(0)', edges)
+
+
+def shift(bits):
+    """A letter with `a`, one with `a` so many steps later, and `b` from then on: a set of states tells where `a` was."""
+    edges = [(0, 't', 0, []), (0, '0', 1, [])] + [(q, 't', q + 1, []) for q in range(1, bits)]
+    edges += [(bits, '0', bits + 1, []), (bits + 1, '1', bits + 1, [0])]
+    return automaton(bits + 2, ['a', 'b'], '1 Inf(0)', edges)
+
+
+def chain(states):
+    """A line with a loop at its end, where alone words are accepted."""
+    edges = [(q, '0', q + 1, []) for q in range(states - 1)] + [(states - 1, 't', states - 1, [0])]
+    return automaton(states, ['a'], '1 Inf(0)', edges)
+
+
+def phases(states):
+    """A ring with each state a start, under `a` once a round: a word tells where a run began."""
+    edges = [(q, '!0' if q else '0', (q + 1) % states, []) for q in range(states)]
+    return automaton(states, ['a'], '0 t', edges, starts=range(states))
 
 
 def write(folder, file, texts):
@@ -124,6 +162,13 @@ def main():
     write(folder, 'four-sets.hoa', (literals(FOUR_SETS, 4, 0.3) for _ in range(3000)))
     write(folder, 'ring-2048.hoa', [ring(2048, 't', '2 Inf(0) & Inf(1)', lambda q: [0, 1] if q == 0 else [])])
     write(folder, 'wide.hoa', map(wide, range(300)))
+    write(folder, 'few-labels.hoa', [few_labels(100, 1000)])
+    write(folder, 'classes.hoa', map(classes, range(20)))
+    for bits in [10, 13, 16]:
+        write(folder, 'shift-%d.hoa' % bits, [shift(bits)])
+    write(folder, 'chain.hoa', [chain(4000)])
+    write(folder, 'idle-ring.hoa', [ring(1000, 't', '1 Inf(0)', lambda q: [], starts=range(1000))])
+    write(folder, 'phases.hoa', [phases(1000)])
 
 
 main()

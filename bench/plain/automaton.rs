@@ -84,6 +84,13 @@ impl Automaton {
         self.firsts = firsts(self.states as usize, self.edges.iter().map(|edge| edge.from));
     }
 
+    /// Gives each edge another label.
+    pub fn relabel(&mut self, mut other: impl FnMut(Label) -> Label) {
+        for edge in &mut self.edges {
+            edge.label = other(edge.label);
+        }
+    }
+
     pub fn edges(&self) -> &[Edge] {
         &self.edges
     }

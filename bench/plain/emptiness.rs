@@ -22,6 +22,30 @@ enum Verdict {
 }
 
 pub fn is_empty(a: &Automaton) -> bool {
+    let arcs = reached_arcs(a);
+    let number = vec![0; a.states as usize];
+    let mut search = Search { a, given_up: Vec::new(), number, counts: vec![0; a.sets as usize] };
+    !search.finds(a.states as usize, arcs)
+}
+
+/// Of each state of a Büchi automaton whether it is reached and some word is accepted from it.
+pub fn live_states(a: &Automaton) -> Vec<bool> {
+    let mut arcs = reached_arcs(a);
+    let component = components(a.states as usize, &arcs);
+    // A component has a greater number than those behind it, so what is said of these is known first.
+    arcs.sort_by_key(|arc| component[arc.from as usize]);
+    let mut accepts = vec![false; a.states as usize];
+    for arc in arcs {
+        let (from, to) = (component[arc.from as usize] as usize, component[arc.to as usize] as usize);
+        let is_marked = !a.marks_of(&a.edges()[arc.edge as usize]).is_empty();
+        accepts[from] |= accepts[to] || from == to && is_marked;
+    }
+    // A state without such edges may have no component.
+    component.iter().map(|own| accepts.get(*own as usize) == Some(&true)).collect()
+}
+
+/// The edges from reached states that some letter meets.
+fn reached_arcs(a: &Automaton) -> Vec<Arc> {
     let reached = a.reached();
     let mut arcs = Vec::new();
     for (place, edge) in a.edges().iter().enumerate() {
@@ -29,9 +53,7 @@ pub fn is_empty(a: &Automaton) -> bool {
             arcs.push(Arc { from: edge.from, to: edge.to, edge: place as u32 });
         }
     }
-    let number = vec![0; a.states as usize];
-    let mut search = Search { a, given_up: Vec::new(), number, counts: vec![0; a.sets as usize] };
-    !search.finds(a.states as usize, arcs)
+    arcs
 }
 
 struct Search<'a> {

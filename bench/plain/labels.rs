@@ -24,7 +24,11 @@ pub struct Mix(u64);
 
 impl Hasher for Mix {
     fn write(&mut self, bytes: &[u8]) {
-        bytes.iter().for_each(|byte| self.write_u32(u32::from(*byte)));
+        for part in bytes.chunks(4) {
+            let mut number = [0; 4];
+            number[..part.len()].copy_from_slice(part);
+            self.write_u32(u32::from_ne_bytes(number));
+        }
     }
 
     fn write_u32(&mut self, number: u32) {
@@ -55,7 +59,8 @@ impl Default for Labels {
 }
 
 impl Labels {
-    fn node(&mut self, var: u32, lo: Label, hi: Label) -> Label {
+    /// `lo` where proposition `var` doesn't hold, and `hi` where it does. Both ask for later propositions alone.
+    pub fn node(&mut self, var: u32, lo: Label, hi: Label) -> Label {
         if lo == hi {
             return lo;
         }
@@ -106,6 +111,26 @@ impl Labels {
         let made = self.node(top, without, with);
         self.chosen.insert((test, yes, no), made);
         made
+    }
+
+    /// What a label asks for first, and what is left of it where that doesn't hold and where it does.
+    pub fn parts(&self, label: Label) -> (u32, Label, Label) {
+        let node = self.nodes[label as usize];
+        (node.var, node.lo, node.hi)
+    }
+
+    /// How many labels there are: each is below this number.
+    pub fn len(&self) -> usize {
+        self.nodes.len()
+    }
+
+    /// Whether a letter meets the label. Bit k of it tells of proposition k.
+    pub fn is_met(&self, mut label: Label, letter: u32) -> bool {
+        while label > TRUE {
+            let node = self.nodes[label as usize];
+            label = if letter >> node.var & 1 == 0 { node.lo } else { node.hi };
+        }
+        label == TRUE
     }
 
     /// Brings all labels of another store into this one, its proposition k as `vars[k]`, and answers where each came to.

@@ -5,13 +5,17 @@ mod automaton;
 mod buchi;
 mod bytes;
 mod emptiness;
+mod hiding;
 mod labels;
+mod monitor;
 mod product;
 mod reader;
+mod square;
 mod writer;
 
 use automaton::Automaton;
 use bytes::Fault;
+use hiding::Hiding;
 use reader::Reader;
 use std::fs::File;
 use std::io::{self, Read, Write};
@@ -21,8 +25,11 @@ use std::process::ExitCode;
 #[derive(Default)]
 struct Plan {
     is_empty: bool,
+    is_unambiguous: bool,
     product: Option<String>,
+    hiding: Option<Hiding>,
     buchi: bool,
+    monitor: bool,
     count: bool,
     /// Whether the number of reached states is printed, and not the automaton.
     states: bool,
@@ -43,12 +50,15 @@ fn main() -> ExitCode {
 fn read_plan() -> Result<Plan, Fault> {
     let mut plan = Plan::default();
     for word in std::env::args().skip(1) {
-        match (word.as_str(), word.strip_prefix("--product=")) {
-            (_, Some(file)) => plan.product = Some(file.to_string()),
-            ("-c", _) => plan.count = true,
-            ("--is-empty", _) => plan.is_empty = true,
-            ("--buchi", _) => plan.buchi = true,
-            ("--stats=%s", _) => plan.states = true,
+        match word.split_once('=').unwrap_or((&word, "")) {
+            ("--product", file) => plan.product = Some(file.to_string()),
+            ("--remove-ap", name) => plan.hiding = Some(Hiding::of(name)),
+            ("--stats", "%s") => plan.states = true,
+            ("-c", "") => plan.count = true,
+            ("--is-empty", "") => plan.is_empty = true,
+            ("--is-unambiguous", "") => plan.is_unambiguous = true,
+            ("--buchi", "") => plan.buchi = true,
+            ("-M", "") => plan.monitor = true,
             (option, _) if option.starts_with('-') && option != "-" => return Err("bad arguments".into()),
             _ => plan.streams.push(word),
         }
@@ -66,8 +76,8 @@ fn run(plan: &Plan) -> Result<u64, Fault> {
     for name in &plan.streams {
         let note = |fault: Fault| format!("{name}: {fault}");
         let mut reader = open(name)?;
-        while let Some(a) = reader.next().map_err(note)? {
-            if plan.is_empty && !emptiness::is_empty(&a) {
+        while let Some(mut a) = reader.next().map_err(note)? {
+            if !keeps(plan, &mut a).map_err(note)? {
                 continue;
             }
             kept += 1;
@@ -90,14 +100,28 @@ fn open(name: &str) -> Result<Reader, Fault> {
     Ok(Reader::new(input))
 }
 
+/// Whether all filters hold. Labels may be added to the store of the automaton.
+fn keeps(plan: &Plan, a: &mut Automaton) -> Result<bool, Fault> {
+    if plan.is_empty && !emptiness::is_empty(a) {
+        return Ok(false);
+    }
+    Ok(!plan.is_unambiguous || square::is_unambiguous(a)?)
+}
+
 /// What is printed of an automaton. Its name stays only where nothing is made of it.
 fn printed(plan: &Plan, operand: Option<&Automaton>, a: Automaton) -> Result<Vec<u8>, Fault> {
     let mut made = a;
     if let Some(operand) = operand {
         made = product::product(made, operand)?;
     }
+    if let Some(hiding) = &plan.hiding {
+        made = hiding::hide(made, hiding);
+    }
     if plan.buchi {
         made = buchi::to_buchi(made)?;
+    }
+    if plan.monitor {
+        made = monitor::to_monitor(made)?;
     }
     if plan.states {
         let count = made.reached().iter().filter(|reached| **reached).count();

@@ -5,7 +5,7 @@ use crate::bytes::Fault;
 use crate::labels::{QuickMap, FALSE};
 
 const MOST_NAMES: usize = 32;
-const MOST_PAIRS: usize = 1_000_000;
+pub const MOST_PAIRS: usize = 1_000_000;
 
 /// The pairs that were met, in order, and the number of each.
 #[derive(Default)]
@@ -71,7 +71,7 @@ pub fn product(mut a: Automaton, b: &Automaton) -> Result<Automaton, Fault> {
 }
 
 /// A condition with the number of each set raised.
-fn raised(condition: &Condition, by: u32) -> Condition {
+pub fn raised(condition: &Condition, by: u32) -> Condition {
     match condition {
         Condition::Atom(atom) => Condition::Atom(Atom { set: atom.set + by, ..*atom }),
         Condition::Joined(join, parts) => Condition::Joined(*join, parts.iter().map(|part| raised(part, by)).collect()),
@@ -80,7 +80,7 @@ fn raised(condition: &Condition, by: u32) -> Condition {
 }
 
 /// Both conditions. `t` and `f` are taken away where they say nothing, and an And gives its parts.
-fn both(f: Condition, g: Condition) -> Condition {
+pub fn both(f: Condition, g: Condition) -> Condition {
     let conjuncts = |condition| match condition {
         Condition::Joined(Join::And, parts) => parts,
         part => vec![part],
