@@ -1,17 +1,18 @@
 //! What a run is called with.
 
-ghost use Rattle.std.specs.Prelude.{◌≡◌, ◌⊎◌, length, map, IfErr, IfOk, OnErr, OnOk};
+ghost use Rattle.std.specs.Prelude.{◌≡◌, length, map, Err, IfErr, IfOk};
+ghost use Rattle.std.specs.IoError.{error_kind};
 ghost use Rattle.std.specs.Vec.Iter.{into_iter_items, into_iter_len};
 ghost use Rattle.autfilt_command.specs.declared.ended.End.{End};
 ghost use Rattle.autfilt_run.specs.declared.fault.RunFault.{RunFault};
-ghost use Rattle.autfilt_system.specs.Words.{words_in};
+ghost use Rattle.autfilt_system.specs.Words.{end_without, words_in};
 
 use aut_base::{Memory, Text, Words};
 use autfilt_command::End;
 use real_io::{Opener, RealInputs};
 use std::alloc::Global;
 use std::env::Args;
-use std::io;
+use std::io::{self, ErrorKind};
 use std::rt::Stdin;
 
 /// The words behind the program's name, and the inputs. Arguments of which one is no text make no plan.
@@ -22,8 +23,8 @@ pub(crate) fn called<O: Opener + Drop>(
     files: O,
 ) -> Result<(Words, RealInputs<Stdin, O>), End>
     ensures words { IfOk args (λ list. into_iter_len list ≡ length (into_iter_items list) → IfOk result (λ called. called.0 ≡ words_in (into_iter_items list))) }
-    ensures refused { IfErr args (λ error. IfErr result (λ end. (end ≡ End.Usage) ⊎ (end ≡ End.Fault RunFault.Memory))) }
-    ensures none { OnErr args (OnOk result ⊥) }
+    ensures only { IfOk args (λ list. IfErr result (λ end. end ≡ End.Fault RunFault.Memory)) }
+    ensures none { IfErr args (λ error. result ≡ Err (end_without (error_kind error))) }
 {
     let words = words_of(alloc, args)?;
     Ok((words, RealInputs::new(alloc, stdin, files)?))
@@ -32,21 +33,21 @@ pub(crate) fn called<O: Opener + Drop>(
 /// The words behind the program's name, byte for byte.
 fn words_of(alloc: Global, args: io::Result<Args<Global>>) -> Result<Words, End>
     ensures words { IfOk args (λ list. into_iter_len list ≡ length (into_iter_items list) → IfOk result (λ words. words ≡ words_in (into_iter_items list))) }
-    ensures refused { IfErr args (λ error. IfErr result (λ end. (end ≡ End.Usage) ⊎ (end ≡ End.Fault RunFault.Memory))) }
-    ensures none { OnErr args (OnOk result ⊥) }
+    ensures only { IfOk args (λ list. IfErr result (λ end. end ≡ End.Fault RunFault.Memory)) }
+    ensures none { IfErr args (λ error. result ≡ Err (end_without (error_kind error))) }
 {
     match args {
         Ok(args) => Ok(words_from(alloc, args)?),
-        Err(error) => Err(end_of(&error)),
+        Err(error) => Err(end_without(error.kind())),
     }
 }
 
 /// How a run ends whose arguments can't be had.
-fn end_of(error: &io::Error) -> End
-    ensures { (result ≡ End.Usage) ⊎ (result ≡ End.Fault RunFault.Memory) }
+fn end_without(kind: ErrorKind) -> End
+    ensures { result ≡ end_without kind }
 {
-    match error.kind() {
-        io::ErrorKind::OutOfMemory => End::from(Memory),
+    match kind {
+        ErrorKind::OutOfMemory => End::from(Memory),
         _ => End::Usage,
     }
 }

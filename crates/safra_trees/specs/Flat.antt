@@ -2,6 +2,7 @@
 -- the deepest node that holds it.
 use Rattle.std.specs.Prelude.{◌≡◌, ◌<◌, ◌≤◌, ℕ, Bool, true, List, [], ◌∷◌, All, AllPairs, cond, length, map, slice_index_or}
 use Rattle.std.specs.List.{range_with_len}
+use Rattle.aut_base.specs.declared.limit.TheConstants.{MOST_NODES}
 use Rattle.safra_trees.specs.Step.{above}
 use Rattle.safra_trees.specs.Trees.{Node, has}
 
@@ -29,7 +30,7 @@ nodes_of parents states places = map (node_of parents states places) (range_with
 -- what holds of each tree that is stored: there are few nodes, a parent has a lower name, the states rise, and each node
 -- is the place of some state
 pub record IsStored (parents states places : List ℕ) : Type 0 where
-  pub few : length parents ≤ 100
+  pub few : length parents ≤ MOST_NODES
   pub root : at parents 0 ≡ 0
   pub lower : (x : ℕ) → 0 < x → x < length parents → at parents x < x
   pub rising : AllPairs (λ a b. a < b) states

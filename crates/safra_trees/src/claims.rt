@@ -1,6 +1,7 @@
 //! Which nodes claim which states.
 
 ghost use Rattle.std.specs.Prelude.{◌≡◌, ◌+◌, ◌<◌, ◌≤◌, ℕ, All, IfOk, length};
+ghost use Rattle.aut_base.specs.declared.limit.TheConstants.{MOST_NODES};
 ghost use Rattle.safra_trees.specs.Events.{IsWithin};
 ghost use Rattle.safra_trees.specs.Flat.{at};
 ghost use Rattle.safra_trees.specs.inner.Claims.{claim, claimant, first_of, key, place_of};
@@ -38,8 +39,8 @@ pub(crate) fn claims(
     places: &[u32],
     moves: &[Move],
 ) -> Result<Vec<u32>, AllocError>
-    requires few { length order.now ≤ 100 }
-    requires order { All (λ x. x < 100) order.now }
+    requires few { length order.now ≤ MOST_NODES }
+    requires order { All (λ x. x < MOST_NODES) order.now }
     requires places { All (λ x. x ≤ length order.now) places.now }
     requires moves { All (IsWithin (length places.now)) moves.now }
     ensures size { IfOk result (λ claims. length claims.items ≡ length places.now) }
@@ -61,7 +62,7 @@ pub(crate) fn claims(
 
 /// The name that a move from a place lets claim its goal: the place, or its fresh child.
 fn claimant(nodes: u32, place: u32, one: &Move) -> u32
-    requires few { nodes ≤ 100 }
+    requires few { nodes ≤ MOST_NODES }
     requires place { place < nodes }
     ensures { result ≡ claimant nodes place one.now }
 {
@@ -70,8 +71,8 @@ fn claimant(nodes: u32, place: u32, one: &Move) -> u32
 
 /// Which of two claims comes first.
 fn first_of(order: &[u32], one: u32, other: u32) -> u32
-    requires few { length order.now ≤ 100 }
-    requires order { All (λ x. x < 100) order.now }
+    requires few { length order.now ≤ MOST_NODES }
+    requires order { All (λ x. x < MOST_NODES) order.now }
     ensures { result ≡ first_of order.now one other }
 {
     if key(order, other) < key(order, one) {
@@ -83,8 +84,8 @@ fn first_of(order: &[u32], one: u32, other: u32) -> u32
 
 /// The number of an old or a fresh name in the order of both.
 fn key(order: &[u32], name: u32) -> u32
-    requires few { length order.now ≤ 100 }
-    requires order { All (λ x. x < 100) order.now }
+    requires few { length order.now ≤ MOST_NODES }
+    requires order { All (λ x. x < MOST_NODES) order.now }
     ensures { result ≡ key order.now name }
 {
     let nodes = order.len() as u32;

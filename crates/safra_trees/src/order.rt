@@ -1,6 +1,7 @@
 //! The order in which nodes may claim a state.
 
 ghost use Rattle.std.specs.Prelude.{◌≡◌, ◌<◌, ◌≤◌, ℕ, All, IfOk, length};
+ghost use Rattle.aut_base.specs.declared.limit.TheConstants.{MOST_NODES};
 ghost use Rattle.safra_trees.specs.Flat.{at};
 ghost use Rattle.safra_trees.specs.inner.Order.{IsOrder, IsShifted};
 
@@ -8,7 +9,7 @@ use std::alloc::{AllocError, Global};
 
 /// For each name its number in the order: children before their parents, older ones with all below them first.
 pub(crate) fn claiming_order(alloc: Global, parents: &[u32]) -> Result<Vec<u32>, AllocError>
-    requires few { length parents.now ≤ 100 }
+    requires few { length parents.now ≤ MOST_NODES }
     requires lower { (x : ℕ) → 0 < x → x < length parents.now → at parents.now x < x }
     ensures size { IfOk result (λ order. length order.items ≡ length parents.now) }
     ensures order { IfOk result (λ order. IsOrder (length parents.now) (at parents.now) (at order.items)) }
@@ -28,7 +29,7 @@ pub(crate) fn claiming_order(alloc: Global, parents: &[u32]) -> Result<Vec<u32>,
 
 /// Numbers from this one on go up by one.
 fn make_room(order: &mut [u32], number: u32)
-    requires { All (λ x. x < 100) order.old }
+    requires { All (λ x. x < MOST_NODES) order.old }
     ensures { (z : ℕ) → z < length order.old → IsShifted number (at order.old) (at order.new) z }
 {
     'names: for one in order.iter_mut() {

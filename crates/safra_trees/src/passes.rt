@@ -2,6 +2,7 @@
 
 ghost use Rattle.std.specs.Prelude.{◌≡◌, ◌+◌, ◌^◌, ◌<◌, ◌≤◌, ◌&&◌, ℕ, All, IfOk, cond, length, map, nat_lt, not};
 ghost use Rattle.std.specs.List.{list_any, range_with_len};
+ghost use Rattle.aut_base.specs.declared.limit.TheConstants.{MOST_NODES};
 ghost use Rattle.safra_trees.specs.Flat.{at};
 ghost use Rattle.safra_trees.specs.Step.{names, rank};
 ghost use Rattle.safra_trees.specs.Trees.{has};
@@ -13,7 +14,7 @@ use std::alloc::{AllocError, Global};
 
 /// The parent of an old name, or of a fresh one.
 pub(crate) fn grown_parent(parents: &[u32], name: u32) -> u32
-    requires few { length parents.now ≤ 100 }
+    requires few { length parents.now ≤ MOST_NODES }
     requires name { name < length parents.now + length parents.now }
     ensures { result ≡ grown_parent parents.now name }
 {
@@ -42,7 +43,7 @@ pub(crate) fn claiming(alloc: Global, size: u32, claims: &[u32]) -> Result<Vec<b
 
 /// For each name the node at which its states end up: an ancestor where that gives its children up, else the name itself.
 pub(crate) fn homes(alloc: Global, parents: &[u32], own: &[bool]) -> Result<Vec<u32>, AllocError>
-    requires few { length parents.now ≤ 100 }
+    requires few { length parents.now ≤ MOST_NODES }
     requires lower { (x : ℕ) → 0 < x → x < length parents.now → at parents.now x < x }
     requires size { length own.now ≡ length parents.now + length parents.now }
     ensures size { IfOk result (λ homes. length homes.items ≡ length own.now) }
@@ -59,7 +60,7 @@ pub(crate) fn homes(alloc: Global, parents: &[u32], own: &[bool]) -> Result<Vec<
 
 /// The home of a name by those of lower names.
 fn home_of(parents: &[u32], own: &[bool], homes: &[u32], name: u32) -> u32
-    requires few { length parents.now ≤ 100 }
+    requires few { length parents.now ≤ MOST_NODES }
     requires lower { (x : ℕ) → 0 < x → x < length parents.now → at parents.now x < x }
     requires size { length own.now ≡ length parents.now + length parents.now }
     requires name { name < length own.now }
@@ -131,7 +132,7 @@ pub(crate) fn new_parents(
     stay: &[bool],
     ranks: &[u32],
 ) -> Result<Vec<u32>, AllocError>
-    requires few { length parents.now ≤ 100 }
+    requires few { length parents.now ≤ MOST_NODES }
     requires lower { (x : ℕ) → x < length parents.now → at parents.now x ≤ x }
     requires size { length stay.now ≡ length parents.now + length parents.now }
     requires ranks { length ranks.now ≡ length stay.now }

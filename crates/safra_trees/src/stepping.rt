@@ -1,6 +1,7 @@
 //! The step of a tree.
 
 ghost use Rattle.std.specs.Prelude.{◌≡◌, ◌<◌, ◌≤◌, All, IfOk, IsErrOf, length};
+ghost use Rattle.aut_base.specs.declared.limit.TheConstants.{MOST_NODES};
 ghost use Rattle.safra_trees.specs.Events.{IsWithin, event_of};
 ghost use Rattle.safra_trees.specs.Step.{grown, pruned};
 ghost use Rattle.safra_trees.specs.Trees.{root_states};
@@ -31,8 +32,8 @@ pub fn step(
     ensures tree { IfOk result (λ made. tree_of made.0 ≡ pruned (grown states moves.now (tree_of tree.now))) }
     ensures states { IfOk result (λ made. All (λ s. s < states) (root_states (tree_of made.0))) }
     ensures event { IfOk result (λ made. made.1 ≡ event_of states moves.now (tree_of tree.now)) }
-    ensures few { IfOk result (λ made. length (tree_of made.0) ≤ 100) }
-    ensures nodes { IsErrOf result TreeFault.Nodes → 100 < length (pruned (grown states moves.now (tree_of tree.now))) }
+    ensures few { IfOk result (λ made. length (tree_of made.0) ≤ MOST_NODES) }
+    ensures nodes { IsErrOf result TreeFault.Nodes → MOST_NODES < length (pruned (grown states moves.now (tree_of tree.now))) }
 {
     let found = passes(alloc, states, tree, moves.as_slice())?;
     let names = new_names(alloc, &found.stay)?;

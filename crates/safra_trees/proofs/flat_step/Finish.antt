@@ -1,4 +1,5 @@
 -- The lists that the step writes are those of the names that stay.
+use Rattle.aut_base.specs.declared.limit.TheConstants.{MOST_NODES}
 use Rattle.safra_trees.specs.Trees.{root_states}
 use Rattle.std.proofs.Common.{◌≡◌, ◌∙◌, ◌+◌, ◌<◌, ◌≤◌, ◌&&◌, ◌-◌, ℕ, zero, suc, Bool, List, [], ◌∷◌, ◌++◌, Contains, Some, ap, arith, inl, inr, length, map, nat_lt, not, refl, subst, sym, All}
 use Rattle.std.proofs.lemmas.Bool.{cases_Bool, cases_eq, cases_lt, ltb-true}
@@ -147,7 +148,7 @@ finished_tree n ms parents states places claims own homes stay count ranks new_p
 
 pub finished_stored : (n : ℕ) (ms : List Move) (parents states places claims : List ℕ) (own : List Bool) (homes : List ℕ) (stay : List Bool) (count : ℕ) (ranks new_p new_s new_o : List ℕ)
     → IsStored parents states places
-    → IsFinish n ms parents states places claims own homes stay count ranks new_p new_s new_o → count ≤ 100 → IsStored new_p new_s new_o
+    → IsFinish n ms parents states places claims own homes stay count ranks new_p new_s new_o → count ≤ MOST_NODES → IsStored new_p new_s new_o
 finished_stored n ms parents states places claims own homes stay count ranks new_p new_s new_o is finish few =
     let f = grown n ms (nodes_of parents states places) in
     let e = finished_count n ms parents states places claims own homes stay count finish.passes finish.counts in
@@ -231,7 +232,7 @@ names_below p n = each_there (λ s. s < n) (names p n) (λ s there. omega (arith
 
 -- the states of the new tree are states of the automaton
 pub finished_below : (n : ℕ) (ms : List Move) (parents states places claims : List ℕ) (own : List Bool) (homes : List ℕ) (stay : List Bool) (count : ℕ) (ranks new_p new_s new_o : List ℕ)
-    → IsStored parents states places → IsFinish n ms parents states places claims own homes stay count ranks new_p new_s new_o → count ≤ 100 → All (λ s. s < n)
+    → IsStored parents states places → IsFinish n ms parents states places claims own homes stay count ranks new_p new_s new_o → count ≤ MOST_NODES → All (λ s. s < n)
     (root_states (nodes_of new_p new_s new_o))
 finished_below n ms parents states places claims own homes stay count ranks new_p new_s new_o is finish few =
     let f = grown n ms (nodes_of parents states places) in

@@ -8,6 +8,7 @@ use Rattle.std.proofs.lemmas.Option.{same_Some}
 use Rattle.std.specs.List.{range_with_len}
 use Rattle.aut_base.proofs.Members.{any_from, each_there, first_there, from_filter, from_map, from_range, later_there, placed_there, there_filter, there_map, there_range_zero}
 use Rattle.aut_base.proofs.Truth.{same_truth}
+use Rattle.aut_base.specs.declared.limit.TheConstants.{MOST_NODES}
 use Rattle.safra_trees.proofs.flat_step.Homes.{IsPassed, home_of, home_stays, inhabited, stays_open}
 use Rattle.safra_trees.proofs.list_step.Forests.{IsForest, stays_up}
 use Rattle.safra_trees.specs.inner.Free.{place}
@@ -172,7 +173,7 @@ nothing : (xs : List ℕ) → length xs ≡ 0 → at xs 0 ≡ 0
 nothing [] e = refl
 nothing (x ∷ xs) e = absurd (omega (arith, e))
 
-pub gathered_stored : (f : Forest) (claims : List ℕ) (own : List Bool) (homes : List ℕ) → IsPassed f claims own homes → f.parent 0 ≡ 0 → rank (stays f) f.size ≤ 100 → IsStored
+pub gathered_stored : (f : Forest) (claims : List ℕ) (own : List Bool) (homes : List ℕ) → IsPassed f claims own homes → f.parent 0 ≡ 0 → rank (stays f) f.size ≤ MOST_NODES → IsStored
     (new_parents f) (new_states f) (new_places f homes)
 gathered_stored f claims own homes is root few = record {
   few = omega (arith, few, parents_length f);

@@ -1,5 +1,6 @@
 use Rattle.std.proofs.Common.{◌≡◌, ◌∙◌, ◌+◌, ◌<◌, All, Bool, List, ap, arith, length, subst, sym, ℕ}
 use Rattle.std.specs.List.{list_any}
+use Rattle.aut_base.specs.declared.limit.TheConstants.{MOST_NODES}
 use Rattle.safra_trees.proofs.flat_step.Placed.{stored_root}
 use Rattle.safra_trees.proofs.flat_step.Survey.{IsSurvey, all_below, surveyed}
 use Rattle.safra_trees.specs.Flat.{at}
@@ -19,8 +20,8 @@ pub claims-requires-clause-order : goal.claims-requires-clause-order
 claims-requires-clause-order c =
     let tree = c.args.tree.now in
     let order = c.in_ok-order.order.items in
-    subst (λ xs. All (λ x. x < 100) xs) (sym c.deref.ensures.value)
-    (all_below order 100 (λ k less. omega (arith, c.in_ok-order.ensures.order.below k (omega (arith, less, c.in_ok-order.ensures.size)), ap length c.as_slice-parents.ensures, tree.stored.few)))
+    subst (λ xs. All (λ x. x < MOST_NODES) xs) (sym c.deref.ensures.value)
+    (all_below order MOST_NODES (λ k less. omega (arith, c.in_ok-order.ensures.order.below k (omega (arith, less, c.in_ok-order.ensures.size)), ap length c.as_slice-parents.ensures, tree.stored.few)))
 
 pub staying-requires-clause-low : goal.staying-requires-clause-low
 staying-requires-clause-low c =
