@@ -4,6 +4,7 @@ pub mod Growth
 pub mod JoinedNames
 pub mod Made
 pub mod OfDescription
+pub mod OtherFormula
 pub mod OtherNames
 pub mod Rows
 pub mod SurveyedStates

@@ -1,7 +1,7 @@
 //! Automata whose labels are guards.
 
 ghost use Rattle.std.specs.Prelude.{◌≡◌, ◌==◌, ◌<◌, ◌↔◌, ℕ, filter, IfOk, IsTrue};
-ghost use Rattle.aut_base.specs.Formula.{formula_tree};
+ghost use Rattle.aut_base.specs.Formula.{SetsBelow, formula_tree};
 ghost use Rattle.aut_core.specs.Core.{AreParts, IsCore, automaton_of};
 ghost use Rattle.aut_core.specs.Deterministic.{IsComplete, IsDeterministic};
 
@@ -194,6 +194,16 @@ impl Automaton {
         Ok(Automaton {
             fields: Box::new(alloc, copied)?,
         })
+    }
+
+    /// The same automaton under another condition over its sets. Takes no memory.
+    pub fn with_formula(self, formula: Formula) -> Automaton
+        requires { SetsBelow self.sets (formula_tree formula) }
+        ensures { result ≡ record self { formula = formula_tree formula } }
+    {
+        let mut fields = self.fields;
+        fields.formula = formula;
+        Automaton { fields }
     }
 
     /// Tells a proof what holds of each automaton.
