@@ -12,22 +12,22 @@ use Rattle.exploration.specs.declared.fault.Fault.{Fault}
 use Rattle.exploration.specs.declared.fault.Fault.TheVariants as fault
 use Rattle.exploration.specs.declared.limits.Limits.{Limits}
 
-module _ {X C : Type 0} (same : X → X → Bool) (l : Limits) (m : Moves X) (f : X → Type 0) (is : X → ℕ → C → Type 0) (start : X) where
+module _ {X C N : Type 0} (told : X → ℕ → N → Type 0) (same : X → X → Bool) (l : Limits) (m : Moves X) (f : X → Type 0) (is : X → ℕ → C → Type 0) (start : X) where
   abbrev r : Rules X
   r = rules_of same m l
 
   -- the invariant of the loop over the things
-  pub record IsExploring (m' : Moves X) (f' : X → Type 0) (is' : X → ℕ → C → Type 0) (done total : ℕ) (xs : List X) (es : List (Edge C)) : Type 0 where
+  pub record IsExploring (m' : Moves X) (f' : X → Type 0) (is' : X → ℕ → C → Type 0) (done total : ℕ) (xs : List X) (es : List (Edge C N)) : Type 0 where
     pub keeps : Keeps m m' f f' is is'
-    pub sound : IsSound f' is' l.things xs es
+    pub sound : IsSound f' is' told l.things xs es
     pub within : done ≤ length xs
     pub few : total ≤ l.classes
     pub hand : Option (X × ℕ)
     pub idle : turn r (stage_of xs es total done hand) ≡ taken r (stage_of xs es total done hand) (slice_get xs done)
     pub comes : Comes r (begin start) (Goes (stage_of xs es total done hand))
 
-  pub exploring_none : (xs : List X) (es : List (Edge C)) → f start → 0 < l.things → xs ≡ start ∷ [] → es ≡ [] → IsExploring m f is 0 0 xs es
-  exploring_none xs es fit room one none = subst (λ (ys : List X). IsExploring m f is 0 0 ys es) (sym one) (subst (λ (ds : List (Edge C)). IsExploring m f is 0 0 (start ∷ []) ds) (sym none) (record {
+  pub exploring_none : (xs : List X) (es : List (Edge C N)) → f start → 0 < l.things → xs ≡ start ∷ [] → es ≡ [] → IsExploring m f is 0 0 xs es
+  exploring_none xs es fit room one none = subst (λ (ys : List X). IsExploring m f is 0 0 ys es) (sym one) (subst (λ (ds : List (Edge C N)). IsExploring m f is 0 0 (start ∷ []) ds) (sym none) (record {
     keeps = keeps_none m f is;
     sound = record {
       each = λ k d less. subst f (only k d less) fit;
@@ -45,7 +45,7 @@ module _ {X C : Type 0} (same : X → X → Bool) (l : Limits) (m : Moves X) (f 
       only zero d less = refl
       only (suc k) d less = absurd (omega (arith, less))
 
-  module _ (m' : Moves X) (f' : X → Type 0) (is' : X → ℕ → C → Type 0) (done total : ℕ) (xs : List X) (es : List (Edge C)) (so : IsExploring m' f' is' done total xs es) where
+  module _ (m' : Moves X) (f' : X → Type 0) (is' : X → ℕ → C → Type 0) (done total : ℕ) (xs : List X) (es : List (Edge C N)) (so : IsExploring m' f' is' done total xs es) where
     pub exploring_all : length xs ≤ done → EndsWith r start xs (map arrow_of es)
     exploring_all all = record {
       sum = total;
@@ -81,8 +81,8 @@ module _ {X C : Type 0} (same : X → X → Bool) (l : Limits) (m : Moves X) (f 
           | inr c ↦ inr (comes_then r (begin start) next (Meets g) (taken_is few) c)
         ]
 
-        pub exploring_more : (m2 : Moves X) (f2 : X → Type 0) (is2 : X → ℕ → C → Type 0) (n : ℕ) (xs' : List X) (es' : List (Edge C)) → Keeps m1 m2 f1 f2 is1 is2 → n ≡ m'.count x
-            → Spreads (rules_of same m1 l) done 0 n xs es xs' es' → IsSound f2 is2 l.things xs' es' → done < length xs → length xs ≤ length xs' → IsExploring m2 f2 is2 (done + 1) (total + n) xs' es'
+        pub exploring_more : (m2 : Moves X) (f2 : X → Type 0) (is2 : X → ℕ → C → Type 0) (n : ℕ) (xs' : List X) (es' : List (Edge C N)) → Keeps m1 m2 f1 f2 is1 is2 → n ≡ m'.count x
+            → Spreads (rules_of same m1 l) done 0 n xs es xs' es' → IsSound f2 is2 told l.things xs' es' → done < length xs → length xs ≤ length xs' → IsExploring m2 f2 is2 (done + 1) (total + n) xs' es'
         exploring_more m2 f2 is2 n xs' es' keeps2 size spreads sound inside longer =
             let now : m'.count x ≡ m.count x = ap (λ (w : Moves X). w.count x) so.keeps.moves in
             let all : n ≡ m.count x = size ∙ now in

@@ -3,8 +3,10 @@ pub mod Edges
 pub mod Ends
 pub mod Exploring
 pub mod Faults
+pub mod InOrder
 pub mod Lists
 pub mod Midways
 pub mod Places
+pub mod Seeing
 pub mod Spreading
 pub mod Turning

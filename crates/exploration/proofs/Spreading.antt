@@ -25,15 +25,17 @@ module _ {X C : Type 0} where
     is_class = λ x k c h. b.is_class x k c (a.is_class x k c h);
   }
 
+-- what the steps tell never changes
+module _ {X C N : Type 0} (told : X → ℕ → N → Type 0) where
   -- what was sound stays so while the system goes on and the list grows
-  classed_kept : (m m' : Moves X) (f f' : X → Type 0) (is is' : X → ℕ → C → Type 0) → Keeps m m' f f' is is' → (things things' : List X) (edges : List (Edge C)) → Longer things things'
-      → All (IsClassed is things) edges → All (IsClassed is' things') edges
+  classed_kept : (m m' : Moves X) (f f' : X → Type 0) (is is' : X → ℕ → C → Type 0) → Keeps m m' f f' is is' → (things things' : List X) (edges : List (Edge C N)) → Longer things things'
+      → All (IsClassed is told things) edges → All (IsClassed is' told things') edges
   classed_kept m m' f f' is is' keeps things things' edges longer all k d within =
       let c = all k d within in
-      record { thing = c.thing; at = longer_at things things' _ c.thing longer c.at; class = keeps.is_class c.thing _ _ c.class }
+      record { thing = c.thing; at = longer_at things things' _ c.thing longer c.at; class = keeps.is_class c.thing _ _ c.class; note = c.note }
 
-  pub sound_kept : (m m' : Moves X) (f f' : X → Type 0) (is is' : X → ℕ → C → Type 0) → Keeps m m' f f' is is' → (most : ℕ) (things : List X) (edges : List (Edge C))
-      → IsSound f is most things edges → IsSound f' is' most things edges
+  pub sound_kept : (m m' : Moves X) (f f' : X → Type 0) (is is' : X → ℕ → C → Type 0) → Keeps m m' f f' is is' → (most : ℕ) (things : List X) (edges : List (Edge C N))
+      → IsSound f is told most things edges → IsSound f' is' told most things edges
   sound_kept m m' f f' is is' keeps most things edges s = record {
     each = λ k d within. keeps.fits _ (s.each k d within);
     few = s.few;
@@ -41,15 +43,15 @@ module _ {X C : Type 0} where
   }
 
   -- the invariant of the loop over the classes
-  pub record IsSpread (same : X → X → Bool) (l : Limits) (m m' : Moves X) (f f' : X → Type 0) (is is' : X → ℕ → C → Type 0) (at k : ℕ) (xs : List X) (es : List (Edge C)) (xs' : List X)
-      (es' : List (Edge C)) : Type 0 where
+  pub record IsSpread (same : X → X → Bool) (l : Limits) (m m' : Moves X) (f f' : X → Type 0) (is is' : X → ℕ → C → Type 0) (at k : ℕ) (xs : List X) (es : List (Edge C N)) (xs' : List X)
+      (es' : List (Edge C N)) : Type 0 where
     pub keeps : Keeps m m' f f' is is'
-    pub sound : IsSound f' is' l.things xs' es'
+    pub sound : IsSound f' is' told l.things xs' es'
     pub longer : Longer xs xs'
     pub spreads : Spreads (rules_of same m l) at 0 k xs es xs' es'
 
-  module _ (same : X → X → Bool) (l : Limits) (m : Moves X) (f : X → Type 0) (is : X → ℕ → C → Type 0) (at : ℕ) (xs : List X) (es : List (Edge C)) where
-    pub spread_none : IsSound f is l.things xs es → IsSpread same l m m f f is is at 0 xs es xs es
+  module _ (same : X → X → Bool) (l : Limits) (m : Moves X) (f : X → Type 0) (is : X → ℕ → C → Type 0) (at : ℕ) (xs : List X) (es : List (Edge C N)) where
+    pub spread_none : IsSound f is told l.things xs es → IsSpread same l m m f f is is at 0 xs es xs es
     spread_none sound = record {
       keeps = keeps_none m f is;
       sound = sound;
@@ -58,7 +60,7 @@ module _ {X C : Type 0} where
     }
 
     -- the number is that of a class of the thing that was read
-    pub number_less : (m' : Moves X) (f' : X → Type 0) (is' : X → ℕ → C → Type 0) (k : ℕ) (xs' : List X) (es' : List (Edge C)) (cs : List C) (x : X)
+    pub number_less : (m' : Moves X) (f' : X → Type 0) (is' : X → ℕ → C → Type 0) (k : ℕ) (xs' : List X) (es' : List (Edge C N)) (cs : List C) (x : X)
         → IsSpread same l m m' f f' is is' at k xs es xs' es' → at < length xs
         → ((y : X) → slice_get xs at ≡ Some y → AreClasses (is y) (m.count y) cs) → slice_get xs' at ≡ Some x → k < length cs → k < m'.count x
     number_less m' f' is' k xs' es' cs x so within classes here less =
@@ -67,12 +69,12 @@ module _ {X C : Type 0} where
         omega (arith, all, now, less)
 
     -- and the class is its class
-    pub class_is : (m' : Moves X) (f' : X → Type 0) (is' : X → ℕ → C → Type 0) (k : ℕ) (xs' : List X) (es' : List (Edge C)) (cs : List C) (x : X) (c : C)
+    pub class_is : (m' : Moves X) (f' : X → Type 0) (is' : X → ℕ → C → Type 0) (k : ℕ) (xs' : List X) (es' : List (Edge C N)) (cs : List C) (x : X) (c : C)
         → IsSpread same l m m' f f' is is' at k xs es xs' es' → at < length xs
         → ((y : X) → slice_get xs at ≡ Some y → AreClasses (is y) (m.count y) cs) → slice_get xs' at ≡ Some x → slice_get cs k ≡ Some c → is' x k c
     class_is m' f' is' k xs' es' cs x c so within classes here e = so.keeps.is_class x k c ((classes x (longer_back xs xs' at x so.longer within here)).each k c e)
 
-    module _ (m' m'' : Moves X) (f' f'' : X → Type 0) (is' is'' : X → ℕ → C → Type 0) (k : ℕ) (xs' : List X) (es' : List (Edge C)) (x : X)
+    module _ (m' m'' : Moves X) (f' f'' : X → Type 0) (is' is'' : X → ℕ → C → Type 0) (k : ℕ) (xs' : List X) (es' : List (Edge C N)) (x : X)
         (so : IsSpread same l m m' f f' is is' at k xs es xs' es') (here : slice_get xs' at ≡ Some x) (less : k < m'.count x) (keeps : Keeps m' m'' f' f'' is' is'') where
       less_first : k < m.count x
       less_first = subst (λ (w : Moves X). k < w.count x) so.keeps.moves less
@@ -108,18 +110,18 @@ module _ {X C : Type 0} where
       spread_full y e room = met fault.Things (λ sum there. comes_turn (rules_of same m l) _ (stage_of xs' es' sum (at + 1) (Some (x, k))) _ (so.spreads x sum there)
           (turn_full (rules_of same m l) (stage_of xs' es' sum (at + 1) (Some (x, k))) x k less_first refl y (step_first (Gives y) e) room))
 
-      pub spread_gives : (y : X) (edge : Edge C) (xs'' : List X) (es'' : List (Edge C)) → m'.step x k ≡ Gives y → f'' y → has_room same l.things xs' y ≡ true
+      pub spread_gives : (y : X) (edge : Edge C N) (xs'' : List X) (es'' : List (Edge C N)) → m'.step x k ≡ Gives y → f'' y → has_room same l.things xs' y ≡ true
           → xs'' ≡ with_new same xs' y → length xs'' ≤ l.things → es'' ≡ es' ++ edge ∷ [] → arrow_of edge ≡ record { from = at; class = k; to = position_or_len (same y) xs' }
-          → is' x edge.number edge.class
+          → is' x edge.number edge.class → told x edge.number edge.note
           → IsSpread same l m m'' f f'' is is'' at (k + 1) xs es xs'' es''
-      spread_gives y edge xs'' es'' e fit room new few more arrow class = record {
+      spread_gives y edge xs'' es'' e fit room new few more arrow class note = record {
         keeps = keeps_then m m' m'' f f' f'' is is' is'' so.keeps keeps;
         sound = record {
           each = subst (All f'') (sym new) (new_all f'' same xs' y (λ i d within. keeps.fits _ (so.sound.each i d within)) fit);
           few = few;
-          classed = subst (All (IsClassed is'' xs'')) (sym more) (All-push (IsClassed is'' xs'') es' edge
+          classed = subst (All (IsClassed is'' told xs'')) (sym more) (All-push (IsClassed is'' told xs'') es' edge
               (classed_kept m' m'' f' f'' is' is'' keeps xs' xs'' es' grows so.sound.classed)
-              (record { thing = x; at = longer_at xs' xs'' edge.from x grows (ap (slice_get xs') (ap (λ (a : Arrow). a.from) arrow) ∙ here); class = keeps.is_class x _ _ class }));
+              (record { thing = x; at = longer_at xs' xs'' edge.from x grows (ap (slice_get xs') (ap (λ (a : Arrow). a.from) arrow) ∙ here); class = keeps.is_class x _ _ class; note = note }));
         };
         longer = longer_then xs xs' xs'' so.longer grows;
         spreads = λ z sum there. subst (λ (w : X). Comes (rules_of same m l) (stage_of xs es sum (at + 1) (Some (w, 0))) (Goes (stage_of xs'' es'' sum (at + 1) (Some (w, k + 1)))))

@@ -14,15 +14,16 @@ pub record Moves (X : Type 0) : Type 0 where
   pub count : X → ℕ
   pub step : X → ℕ → Move X
 
-abbrev pub move_of : {X : Type 0} → Option X → Move X
-move_of (Some x) = Gives x
-move_of None = Lacks
+-- the thing of a gift, as it is seen; a note stands beside it
+abbrev pub move_of : {T N X : Type 0} → (T → X) → Option (T × N) → Move X
+move_of seen (Some gift) = Gives (seen gift.0)
+move_of seen None = Lacks
 
 -- the answer of a step, unless memory was wanting
-abbrev pub IsStep : {X : Type 0} → Move X → Result (Option X) StepFault → Type 0
-IsStep move (Ok found) = move ≡ move_of found
-IsStep move (Err step.Nodes) = move ≡ Fails
-IsStep move (Err step.Memory) = Unit {0}
+abbrev pub IsStep : {T N X : Type 0} → (T → X) → Move X → Result (Option (T × N)) StepFault → Type 0
+IsStep seen move (Ok found) = move ≡ move_of seen found
+IsStep seen move (Err step.Nodes) = move ≡ Fails
+IsStep seen move (Err step.Memory) = Unit {0}
 
 -- the list has the classes of a thing, in order
 pub record AreClasses {C : Type 0} (is : ℕ → C → Type 0) (count : ℕ) (classes : List C) : Type 0 where

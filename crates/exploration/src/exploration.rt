@@ -15,20 +15,21 @@ use indexmap::IndexSet;
 use std::alloc::Global;
 use std::hash::Hash;
 
-/// A step from the thing at a place to that at another, for the class of this number.
+/// A step from the thing at a place to that at another, for the class of this number, and what the step tells.
 #[derive(Clone, Copy, Debug)]
-pub struct Edge<C> {
+pub struct Edge<C, N> {
     pub from: u32,
     pub number: u32,
     pub class: C,
+    pub note: N,
     pub to: u32,
 }
 
 /// What is reached, in the order in which it was met, and the edges.
 #[derive(Drop)]
-pub struct Explored<T: Eq + Hash, C> {
+pub struct Explored<T: Eq + Hash, C, N> {
     pub things: IndexSet<T>,
-    pub edges: Vec<Edge<C>>,
+    pub edges: Vec<Edge<C, N>>,
 }
 
 /// Explores in breadth-first order what the system reaches from the start. Each thing is taken in hand in turn: its
@@ -40,17 +41,17 @@ pub fn explore<S: System>(
     system: &mut S,
     start: S::Thing,
     limits: Limits,
-) -> Result<Explored<S::Thing, S::Class>, Fault>
-    requires fits { S.fits system.old start }
+) -> Result<Explored<S::Thing, S::Class, S::Note>, Fault>
+    requires fits { S.fits system.old (S.seen start) }
     requires room { 0 < limits.things }
     ensures frame { S.frame system.new ≡ S.frame system.old }
     ensures keeps { Keeps (S.moves system.old) (S.moves system.new) (S.fits system.old) (S.fits system.new) (S.is_class system.old) (S.is_class system.new) }
-    ensures ends { IfOk result (λ found. EndsWith (rules_of S.Thing.eq (S.moves system.old) limits) start found.things.keys (map arrow_of found.edges.items)) }
-    ensures explored { IfOk result (λ found. IsExplored S.Thing.eq (S.moves system.old) start found.things.keys (map arrow_of found.edges.items)) }
-    ensures classes { IfOk result (λ found. counts (S.moves system.old) found.things.keys (length found.things.keys) ≤ limits.classes) }
-    ensures sound { IfOk result (λ found. IsSound (S.fits system.new) (S.is_class system.new) limits.things found.things.keys found.edges.items) }
-    ensures meets { IfErr result (IsMet (rules_of S.Thing.eq (S.moves system.old) limits) (begin start)) }
-    ensures caused { IfErr result (IsCaused (rules_of S.Thing.eq (S.moves system.old) limits) start) }
+    ensures ends { IfOk result (λ found. EndsWith (rules_of S.same (S.moves system.old) limits) (S.seen start) (map S.seen found.things.keys) (map arrow_of found.edges.items)) }
+    ensures explored { IfOk result (λ found. IsExplored S.same (S.moves system.old) (S.seen start) (map S.seen found.things.keys) (map arrow_of found.edges.items)) }
+    ensures classes { IfOk result (λ found. counts (S.moves system.old) (map S.seen found.things.keys) (length (map S.seen found.things.keys)) ≤ limits.classes) }
+    ensures sound { IfOk result (λ found. IsSound (S.fits system.new) (S.is_class system.new) (S.is_note (S.frame system.old)) limits.things (map S.seen found.things.keys) found.edges.items) }
+    ensures meets { IfErr result (IsMet (rules_of S.same (S.moves system.old) limits) (begin (S.seen start))) }
+    ensures caused { IfErr result (IsCaused (rules_of S.same (S.moves system.old) limits) (S.seen start)) }
 {
     let mut found = Explored {
         things: IndexSet::new(alloc),
@@ -82,26 +83,26 @@ pub fn explore<S: System>(
 fn spread<S: System>(
     alloc: Global,
     system: &mut S,
-    found: &mut Explored<S::Thing, S::Class>,
+    found: &mut Explored<S::Thing, S::Class, S::Note>,
     at: u32,
     classes: &[S::Class],
     limits: Limits,
 ) -> Result<(), Fault>
     requires at { at < length found.old.things.keys }
-    requires classes { (x : S.Thing) → slice_get found.old.things.keys at ≡ Some x → AreClasses (S.is_class system.old x) ((S.moves system.old).count x) classes.now }
+    requires classes { (x : S.Seen) → slice_get (map S.seen found.old.things.keys) at ≡ Some x → AreClasses (S.is_class system.old x) ((S.moves system.old).count x) classes.now }
     requires countable { length classes.now < 2 ^ 32 }
-    requires sound { IsSound (S.fits system.old) (S.is_class system.old) limits.things found.old.things.keys found.old.edges.items }
+    requires sound { IsSound (S.fits system.old) (S.is_class system.old) (S.is_note (S.frame system.old)) limits.things (map S.seen found.old.things.keys) found.old.edges.items }
     ensures frame { S.frame system.new ≡ S.frame system.old }
     ensures keeps { Keeps (S.moves system.old) (S.moves system.new) (S.fits system.old) (S.fits system.new) (S.is_class system.old) (S.is_class system.new) }
-    ensures sound { OnOk result (IsSound (S.fits system.new) (S.is_class system.new) limits.things found.new.things.keys found.new.edges.items) }
-    ensures spreads { OnOk result (Spreads (rules_of S.Thing.eq (S.moves system.old) limits) at 0 (length classes.now) found.old.things.keys found.old.edges.items found.new.things.keys found.new.edges.items) }
-    ensures meets { IfErr result (λ f. (x : S.Thing) (sum : ℕ) → slice_get found.old.things.keys at ≡ Some x → IsMet (rules_of S.Thing.eq (S.moves system.old) limits) (stage_of found.old.things.keys found.old.edges.items sum (at + 1) (Some (x, 0))) f) }
-    ensures longer { OnOk result (length found.old.things.keys ≤ length found.new.things.keys) }
+    ensures sound { OnOk result (IsSound (S.fits system.new) (S.is_class system.new) (S.is_note (S.frame system.old)) limits.things (map S.seen found.new.things.keys) found.new.edges.items) }
+    ensures spreads { OnOk result (Spreads (rules_of S.same (S.moves system.old) limits) at 0 (length classes.now) (map S.seen found.old.things.keys) found.old.edges.items (map S.seen found.new.things.keys) found.new.edges.items) }
+    ensures meets { IfErr result (λ f. (x : S.Seen) (sum : ℕ) → slice_get (map S.seen found.old.things.keys) at ≡ Some x → IsMet (rules_of S.same (S.moves system.old) limits) (stage_of (map S.seen found.old.things.keys) found.old.edges.items sum (at + 1) (Some (x, 0))) f) }
+    ensures longer { OnOk result (length (map S.seen found.old.things.keys) ≤ length (map S.seen found.new.things.keys)) }
 {
     'classes: for number in 0..classes.len() {
         let class = classes[number];
         let thing = &found.things.as_slice()[at as usize];
-        let Some(to) = system.step(alloc, thing, number as u32, class)? else {
+        let Some((to, note)) = system.step(alloc, thing, number as u32, class)? else {
             continue;
         };
         let place = list(&mut found.things, to, limits.things)?;
@@ -109,6 +110,7 @@ fn spread<S: System>(
             from: at,
             number: number as u32,
             class,
+            note,
             to: place,
         })?;
     }

@@ -6,15 +6,15 @@ use crate::system::System;
 
 /// An exploration has one outcome: it ends or meets a limit, and which is determined.
 pub fn outcome_is_one<S: System>()
-    ensures { HasOneOutcome S.Thing }
+    ensures { HasOneOutcome S.Seen }
 {}
 
 /// An exploration that ends does so with one list of things and one of edges.
 pub fn ending_is_one<S: System>()
-    ensures { HasOneEnding S.Thing }
+    ensures { HasOneEnding S.Seen }
 {}
 
 /// An exploration that ends meets no limit.
 pub fn ends_or_meets<S: System>()
-    ensures { EndsOrMeets S.Thing }
+    ensures { EndsOrMeets S.Seen }
 {}

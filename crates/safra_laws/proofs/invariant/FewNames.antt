@@ -37,7 +37,7 @@ child_up_to t tree (suc k) x y s room less within first second =
       ])
     ]
 
-own_apart : (t : List Node) → IsTree t → (x y : ℕ) → x < y → y < length t → (a : Own t x) (c : Own t y) → a.state ≡ c.state → ⊥
+pub own_apart : (t : List Node) → IsTree t → (x y : ℕ) → x < y → y < length t → (a : Own t x) (c : Own t y) → a.state ≡ c.state → ⊥
 own_apart t tree x y less within a c same =
     let found = child_up_to t tree y x y a.state (omega arith) less within a.here (subst (λ s. holds t y s ≡ true) (sym same) c.here) in
     both_ways (holds t found.name a.state) (a.nowhere found.name found.more (omega (arith, found.low, within)) found.parent) found.held

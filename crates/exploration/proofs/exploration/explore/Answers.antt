@@ -1,11 +1,11 @@
-use Rattle.std.proofs.Common.{◌≡◌, ◌∙◌, ◌-◌, ◌<◌, ◌≤◌, ℕ, MatchOption, Option, ap, arith, length, subst, sym}
+use Rattle.std.proofs.Common.{◌≡◌, ◌∙◌, ◌-◌, ◌<◌, ◌≤◌, ℕ, MatchOption, Option, ap, arith, length, map, refl, subst, sym}
 use Rattle.exploration.proofs.Exploring.{classes_there, exploring_all, exploring_beyond, exploring_met, exploring_more}
 use Rattle.exploration.proofs.Causes.{caused}
 use Rattle.exploration.proofs.Ends.{explored, explored_within}
 use Rattle.exploration.proofs.Faults.{err_is, if_err_map}
-use Rattle.exploration.proofs.Lists.{read_here}
+use Rattle.exploration.proofs.Seeing.{past_seen, read_seen, within_seen}
 use Rattle.exploration.proofs.Spreading.{sound_kept}
-use Rattle.exploration.specs.Explorations.{IsMet, Spreads, rules_of}
+use Rattle.exploration.specs.Explorations.{IsMet, IsSound, Spreads, rules_of}
 use Rattle.exploration.specs.Moves.{AreClasses}
 use Rattle.exploration.specs.Reached.{IsCaused}
 use Rattle.exploration.specs.Turns.{begin}
@@ -14,75 +14,89 @@ use Rattle.exploration.proofs.exploration.explore.Goals as goal
 
 pub returns-in_default-clause-meets : goal.returns-in_default-clause-meets
 returns-in_default-clause-meets g c =
+    let seen = g.S.System.seen in
     let x = c.index-as_slice-done.result in
     let within : c.things.done < length c.things.found.things.keys = omega (arith, c.things-test.true, c.len.ensures.len) in
-    let here = read_here c.as_slice.result.now c.things.found.things.keys c.things.done x c.as_slice.ensures.keys within c.index-as_slice-done.is in
-    let many = subst (λ (o : Option _). MatchOption o (c.args.limits.classes - c.things.sum < (g.S.System.moves c.things.system).count x)
-    (λ cs. AreClasses (g.S.System.is_class c.classes.new.self x) ((g.S.System.moves c.things.system).count x) cs.items)) c.in_default.is c.in_ok-classes.ensures.classes in
-    exploring_beyond _ _ _ _ _ _ _ _ _ c.things.done c.things.sum _ _ c.things.invariant.exploring x here many
+    let here = read_seen seen c.as_slice.result.now c.things.found.things.keys c.things.done x c.as_slice.ensures.keys within c.index-as_slice-done.is in
+    let many = subst (λ (o : Option _). MatchOption o (c.args.limits.classes - c.things.sum < (g.S.System.moves c.things.system).count (seen x))
+    (λ cs. AreClasses (g.S.System.is_class c.classes.new.self (seen x)) ((g.S.System.moves c.things.system).count (seen x)) cs.items)) c.in_default.is c.in_ok-classes.ensures.classes in
+    exploring_beyond _ _ _ _ _ _ _ _ _ _ c.things.done c.things.sum _ _ c.things.invariant.exploring (seen x) here many
 
 pub spread-requires-clause-classes : goal.spread-requires-clause-classes
 spread-requires-clause-classes g c =
+    let seen = g.S.System.seen in
     let x = c.index-as_slice-done.result in
     let within : c.things.done < length c.things.found.things.keys = omega (arith, c.things-test.true, c.len.ensures.len) in
-    let here = read_here c.as_slice.result.now c.things.found.things.keys c.things.done x c.as_slice.ensures.keys within c.index-as_slice-done.is in
-    let are = subst (λ (o : Option _). MatchOption o (c.args.limits.classes - c.things.sum < (g.S.System.moves c.things.system).count x)
-    (λ cs. AreClasses (g.S.System.is_class c.classes.new.self x) ((g.S.System.moves c.things.system).count x) cs.items)) c.in-Some.is c.in_ok-classes.ensures.classes in
-    classes_there (g.S.System.moves c.things.system) (g.S.System.moves c.classes.new.self) _ c.things.found.things.keys c.things.done x c.in-Some.classes.items c.as_slice-in-things.result.now
+    let here = read_seen seen c.as_slice.result.now c.things.found.things.keys c.things.done x c.as_slice.ensures.keys within c.index-as_slice-done.is in
+    let are = subst (λ (o : Option _). MatchOption o (c.args.limits.classes - c.things.sum < (g.S.System.moves c.things.system).count (seen x))
+    (λ cs. AreClasses (g.S.System.is_class c.classes.new.self (seen x)) ((g.S.System.moves c.things.system).count (seen x)) cs.items)) c.in-Some.is c.in_ok-classes.ensures.classes in
+    classes_there (g.S.System.moves c.things.system) (g.S.System.moves c.classes.new.self) _ (map seen c.things.found.things.keys) c.things.done (seen x) c.in-Some.classes.items c.as_slice-in-things.result.now
     c.in_ok-classes.ensures.keeps.moves here c.as_slice-in-things.ensures.value are
 
 pub spread-requires-clause-sound : goal.spread-requires-clause-sound
-spread-requires-clause-sound g c = sound_kept (g.S.System.moves c.things.system) (g.S.System.moves c.classes.new.self) _ _ _ _ c.in_ok-classes.ensures.keeps c.args.limits.things
-    c.things.found.things.keys c.things.found.edges.items c.things.invariant.exploring.sound
+spread-requires-clause-sound g c =
+    let things = map g.S.System.seen c.things.found.things.keys in
+    subst (λ (frame : g.S.System.Frame). IsSound (g.S.System.fits c.classes.new.self) (g.S.System.is_class c.classes.new.self) (g.S.System.is_note frame) c.args.limits.things things
+    c.things.found.edges.items) (sym (c.in_ok-classes.ensures.frame ∙ c.things.invariant.frame))
+    (sound_kept _ (g.S.System.moves c.things.system) (g.S.System.moves c.classes.new.self) _ _ _ _ c.in_ok-classes.ensures.keeps c.args.limits.things things c.things.found.edges.items
+    c.things.invariant.exploring.sound)
 
 pub returns-in_err-spread-clause-meets : goal.returns-in_err-spread-clause-meets
 returns-in_err-spread-clause-meets g c =
+    let seen = g.S.System.seen in
     let x = c.index-as_slice-done.result in
     let within : c.things.done < length c.things.found.things.keys = omega (arith, c.things-test.true, c.len.ensures.len) in
-    let here = read_here c.as_slice.result.now c.things.found.things.keys c.things.done x c.as_slice.ensures.keys within c.index-as_slice-done.is in
-    let few = subst (λ (o : Option _). MatchOption o (Unit {0}) (λ cs. (g.S.System.moves c.things.system).count x ≤ c.args.limits.classes - c.things.sum)) c.in-Some.is c.in_ok-classes.ensures.few in
-    err_is (IsMet (rules_of g.S.Thing.PartialEq.eq (g.S.System.moves c.args.system.now) c.args.limits) (begin c.args.start)) c.from_residual-in_err-spread.result _
+    let here = read_seen seen c.as_slice.result.now c.things.found.things.keys c.things.done x c.as_slice.ensures.keys within c.index-as_slice-done.is in
+    let few = subst (λ (o : Option _). MatchOption o (Unit {0}) (λ cs. (g.S.System.moves c.things.system).count (seen x) ≤ c.args.limits.classes - c.things.sum)) c.in-Some.is c.in_ok-classes.ensures.few in
+    err_is (IsMet (rules_of g.S.System.same (g.S.System.moves c.args.system.now) c.args.limits) (begin (g.S.System.seen c.args.start))) c.from_residual-in_err-spread.result _
     c.from_residual-in_err-spread.ensures.1
-    (exploring_met _ _ _ _ _ _ _ _ _ c.things.done c.things.sum _ _ c.things.invariant.exploring x here (g.S.System.moves c.classes.new.self) _ _ c.in_ok-classes.ensures.keeps few _
+    (exploring_met _ _ _ _ _ _ _ _ _ _ c.things.done c.things.sum _ _ c.things.invariant.exploring (seen x) here (g.S.System.moves c.classes.new.self) _ _ c.in_ok-classes.ensures.keeps few _
     c.in_err-spread.ensures.meets)
 
 pub things-preserved : goal.things-preserved
 things-preserved g c =
+    let seen = g.S.System.seen in
     let x = c.index-as_slice-done.result in
     let within : c.things.done < length c.things.found.things.keys = omega (arith, c.things-test.true, c.len.ensures.len) in
-    let here = read_here c.as_slice.result.now c.things.found.things.keys c.things.done x c.as_slice.ensures.keys within c.index-as_slice-done.is in
-    let few = subst (λ (o : Option _). MatchOption o (Unit {0}) (λ cs. (g.S.System.moves c.things.system).count x ≤ c.args.limits.classes - c.things.sum)) c.in-Some.is c.in_ok-classes.ensures.few in
-    let are = subst (λ (o : Option _). MatchOption o (c.args.limits.classes - c.things.sum < (g.S.System.moves c.things.system).count x)
-    (λ cs. AreClasses (g.S.System.is_class c.classes.new.self x) ((g.S.System.moves c.things.system).count x) cs.items)) c.in-Some.is c.in_ok-classes.ensures.classes in
+    let here = read_seen seen c.as_slice.result.now c.things.found.things.keys c.things.done x c.as_slice.ensures.keys within c.index-as_slice-done.is in
+    let few = subst (λ (o : Option _). MatchOption o (Unit {0}) (λ cs. (g.S.System.moves c.things.system).count (seen x) ≤ c.args.limits.classes - c.things.sum)) c.in-Some.is c.in_ok-classes.ensures.few in
+    let are = subst (λ (o : Option _). MatchOption o (c.args.limits.classes - c.things.sum < (g.S.System.moves c.things.system).count (seen x))
+    (λ cs. AreClasses (g.S.System.is_class c.classes.new.self (seen x)) ((g.S.System.moves c.things.system).count (seen x)) cs.items)) c.in-Some.is c.in_ok-classes.ensures.classes in
     let size : c.len-in-things.result ≡ length c.in-Some.classes.items = c.len-in-things.ensures ∙ (sym c.as_slice-in-things.ensures.len ∙ ap length c.as_slice-in-things.ensures.value) in
     let copy : length c.as_slice-in-things.result.now ≡ c.len-in-things.result = ap length c.as_slice-in-things.ensures.value ∙ sym size in
-    let spreads = subst (λ (n : ℕ). Spreads (rules_of g.S.Thing.PartialEq.eq (g.S.System.moves c.classes.new.self) c.args.limits) c.things.done 0 n c.things.found.things.keys
-    c.things.found.edges.items c.spread.new.found.things.keys c.spread.new.found.edges.items) copy c.in_ok-spread.ensures.spreads in
+    let spreads = subst (λ (n : ℕ). Spreads (rules_of g.S.System.same (g.S.System.moves c.classes.new.self) c.args.limits) c.things.done 0 n (map seen c.things.found.things.keys)
+    c.things.found.edges.items (map seen c.spread.new.found.things.keys) c.spread.new.found.edges.items) copy c.in_ok-spread.ensures.spreads in
+    let sound = subst (λ (frame : g.S.System.Frame). IsSound (g.S.System.fits c.spread.new.system) (g.S.System.is_class c.spread.new.system) (g.S.System.is_note frame) c.args.limits.things
+    (map seen c.spread.new.found.things.keys) c.spread.new.found.edges.items) (c.in_ok-classes.ensures.frame ∙ c.things.invariant.frame) c.in_ok-spread.ensures.sound in
     record {
       frame = c.in_ok-spread.ensures.frame ∙ (c.in_ok-classes.ensures.frame ∙ c.things.invariant.frame);
-      exploring = exploring_more _ _ _ _ _ _ _ _ _ c.things.done c.things.sum _ _
-          c.things.invariant.exploring x here (g.S.System.moves c.classes.new.self) _ _ c.in_ok-classes.ensures.keeps few _ _ _ c.len-in-things.result c.spread.new.found.things.keys
-          c.spread.new.found.edges.items c.in_ok-spread.ensures.keeps (size ∙ are.all) spreads c.in_ok-spread.ensures.sound within c.in_ok-spread.ensures.longer;
+      exploring = exploring_more _ _ _ _ _ _ _ _ _ _ c.things.done c.things.sum _ _
+          c.things.invariant.exploring (seen x) here (g.S.System.moves c.classes.new.self) _ _ c.in_ok-classes.ensures.keeps few _ _ _ c.len-in-things.result (map seen c.spread.new.found.things.keys)
+          c.spread.new.found.edges.items c.in_ok-spread.ensures.keeps (size ∙ are.all) spreads sound (within_seen seen c.things.found.things.keys c.things.done within) c.in_ok-spread.ensures.longer;
     }
 
 pub returns-clause-ends : goal.returns-clause-ends
-returns-clause-ends g c = exploring_all _ _ _ _ _ _ _ _ _ c.things.done c.things.sum _ _ c.things.invariant.exploring (omega (arith, c.things-test.false, c.len.ensures.len))
+returns-clause-ends g c = exploring_all _ _ _ _ _ _ _ _ _ _ c.things.done c.things.sum _ _ c.things.invariant.exploring (past_seen g.S.System.seen c.things.found.things.keys c.things.done (omega (arith, c.things-test.false, c.len.ensures.len)))
 
 pub returns-clause-explored : goal.returns-clause-explored
 returns-clause-explored g c =
-    let ended = exploring_all _ _ _ _ _ _ _ _ _ c.things.done c.things.sum _ _ c.things.invariant.exploring (omega (arith, c.things-test.false, c.len.ensures.len)) in
-    explored (rules_of g.S.Thing.PartialEq.eq (g.S.System.moves c.args.system.now) c.args.limits) g.met.S.System.tells g.met.S.Thing.Eq.laws.refl c.args.start _ ended.ends
+    let ended = exploring_all _ _ _ _ _ _ _ _ _ _ c.things.done c.things.sum _ _ c.things.invariant.exploring (past_seen g.S.System.seen c.things.found.things.keys c.things.done (omega (arith, c.things-test.false, c.len.ensures.len))) in
+    explored (rules_of g.S.System.same (g.S.System.moves c.args.system.now) c.args.limits)
+    (λ a b. (g.met.S.System.same_tells a b).0) (λ a. (g.met.S.System.same_tells a a).1 refl) (g.S.System.seen c.args.start) _ ended.ends
 
 pub returns-in_default-clause-caused : goal.returns-in_default-clause-caused
-returns-in_default-clause-caused g c = caused (rules_of g.S.Thing.PartialEq.eq (g.S.System.moves c.args.system.now) c.args.limits) g.met.S.System.tells g.met.S.Thing.Eq.laws.refl c.args.start
-    fault.Classes (returns-in_default-clause-meets g c)
+returns-in_default-clause-caused g c =
+    caused (rules_of g.S.System.same (g.S.System.moves c.args.system.now) c.args.limits)
+    (λ a b. (g.met.S.System.same_tells a b).0) (λ a. (g.met.S.System.same_tells a a).1 refl) (g.S.System.seen c.args.start) fault.Classes (returns-in_default-clause-meets g c)
 
 pub returns-in_err-spread-clause-caused : goal.returns-in_err-spread-clause-caused
 returns-in_err-spread-clause-caused g c =
-    let rules = rules_of g.S.Thing.PartialEq.eq (g.S.System.moves c.args.system.now) c.args.limits in
-    if_err_map (IsMet rules (begin c.args.start)) (IsCaused rules c.args.start) _ (caused rules g.met.S.System.tells g.met.S.Thing.Eq.laws.refl c.args.start) (returns-in_err-spread-clause-meets g c)
+    let rules = rules_of g.S.System.same (g.S.System.moves c.args.system.now) c.args.limits in
+    if_err_map (IsMet rules (begin (g.S.System.seen c.args.start))) (IsCaused rules (g.S.System.seen c.args.start)) _ (caused rules
+    (λ a b. (g.met.S.System.same_tells a b).0) (λ a. (g.met.S.System.same_tells a a).1 refl) (g.S.System.seen c.args.start)) (returns-in_err-spread-clause-meets g c)
 
 pub returns-clause-classes : goal.returns-clause-classes
 returns-clause-classes g c =
-    let ended = exploring_all _ _ _ _ _ _ _ _ _ c.things.done c.things.sum _ _ c.things.invariant.exploring (omega (arith, c.things-test.false, c.len.ensures.len)) in
-    explored_within (rules_of g.S.Thing.PartialEq.eq (g.S.System.moves c.args.system.now) c.args.limits) g.met.S.System.tells g.met.S.Thing.Eq.laws.refl c.args.start _ ended.ends
+    let ended = exploring_all _ _ _ _ _ _ _ _ _ _ c.things.done c.things.sum _ _ c.things.invariant.exploring (past_seen g.S.System.seen c.things.found.things.keys c.things.done (omega (arith, c.things-test.false, c.len.ensures.len))) in
+    explored_within (rules_of g.S.System.same (g.S.System.moves c.args.system.now) c.args.limits)
+    (λ a b. (g.met.S.System.same_tells a b).0) (λ a. (g.met.S.System.same_tells a a).1 refl) (g.S.System.seen c.args.start) _ ended.ends

@@ -1,7 +1,11 @@
-use Rattle.std.proofs.Common.{◌≡◌, ◌∙◌, ◌+◌, ◌<◌, ℕ, MatchOption, Option, Some, ap, arith, inl, length, refl, slice_get, subst}
+use Rattle.std.proofs.Common.{◌≡◌, ◌∙◌, ◌+◌, ◌<◌, ℕ, MatchOption, Option, Some, ap, arith, inl, length, map, refl, slice_get, subst, sym}
+use Rattle.std.proofs.lemmas.List.{length-map}
+use Rattle.std.proofs.lemmas.List.Elements.{All-contains}
+use Rattle.aut_base.proofs.Members.{placed_there}
 use Rattle.exploration.specs.Turns.{Arrow}
 use Rattle.exploration.proofs.Faults.{err_is, list_met, step_met}
-use Rattle.exploration.proofs.Lists.{longer_length, read_here}
+use Rattle.exploration.proofs.Lists.{read_here}
+use Rattle.exploration.proofs.Seeing.{new_seen, place_seen, read_longer, room_seen, within_seen}
 use Rattle.exploration.proofs.Spreading.{class_is, number_less, spread_fails, spread_full, spread_gives, spread_lacks}
 use Rattle.exploration.specs.Explorations.{IsMet, Spreads, rules_of, stage_of}
 use Rattle.exploration.specs.Moves.{move_of}
@@ -11,78 +15,114 @@ use Rattle.exploration.proofs.exploration.spread.Goals as goal
 abbrev arrow_to : ℕ → ℕ → ℕ → Arrow
 arrow_to from class to = record { from = from; class = class; to = to }
 
+pub step-requires-clause-fits : goal.step-requires-clause-fits
+step-requires-clause-fits g c =
+    let seen = g.S.System.seen in
+    let so = c.classes.invariant.spread in
+    let x = c.index-as_slice-at.result in
+    let here = read_longer seen c.as_slice.result.now c.args.found.now.things.keys c.classes.found.things.keys c.args.at x so.longer c.requires.at c.as_slice.ensures.keys c.index-as_slice-at.is in
+    All-contains (g.S.System.fits c.classes.system) (map seen c.classes.found.things.keys) (seen x) so.sound.each (placed_there (map seen c.classes.found.things.keys) c.args.at (seen x) here)
+
+pub step-requires-clause-number : goal.step-requires-clause-number
+step-requires-clause-number g c =
+    let seen = g.S.System.seen in
+    let so = c.classes.invariant.spread in
+    let inside = within_seen seen c.args.found.now.things.keys c.args.at c.requires.at in
+    let x = c.index-as_slice-at.result in
+    let here = read_longer seen c.as_slice.result.now c.args.found.now.things.keys c.classes.found.things.keys c.args.at x so.longer c.requires.at c.as_slice.ensures.keys c.index-as_slice-at.is in
+    let small : c.classes.number < length c.args.classes.now = omega (arith, c.classes-test.true) in
+    number_less _ _ _ _ _ _ _ _ _ _ _ _ c.classes.number _ _ c.args.classes.now (seen x) so inside c.requires.classes here small
+
 pub step-requires-clause-class : goal.step-requires-clause-class
 step-requires-clause-class g c =
+    let seen = g.S.System.seen in
     let so = c.classes.invariant.spread in
-    let far = longer_length c.args.found.now.things.keys c.classes.found.things.keys so.longer in
+    let inside = within_seen seen c.args.found.now.things.keys c.args.at c.requires.at in
     let x = c.index-as_slice-at.result in
-    let here = read_here c.as_slice.result.now c.classes.found.things.keys c.args.at x c.as_slice.ensures.keys (omega (arith, far, c.requires.at)) c.index-as_slice-at.is in
+    let here = read_longer seen c.as_slice.result.now c.args.found.now.things.keys c.classes.found.things.keys c.args.at x so.longer c.requires.at c.as_slice.ensures.keys c.index-as_slice-at.is in
     let small : c.classes.number < length c.args.classes.now = omega (arith, c.classes-test.true) in
-    class_is _ _ _ _ _ _ _ _ _ _ _ c.classes.number _ _ c.args.classes.now x c.index-classes-number.result so c.requires.at c.requires.classes here
+    class_is _ _ _ _ _ _ _ _ _ _ _ _ c.classes.number _ _ c.args.classes.now (seen x) c.index-classes-number.result so inside c.requires.classes here
     (read_here c.args.classes.now c.args.classes.now c.classes.number c.index-classes-number.result refl small c.index-classes-number.is)
 
 pub returns-in_err-to-clause-meets : goal.returns-in_err-to-clause-meets
 returns-in_err-to-clause-meets g c =
+    let seen = g.S.System.seen in
     let so = c.classes.invariant.spread in
-    let far = longer_length c.args.found.now.things.keys c.classes.found.things.keys so.longer in
+    let inside = within_seen seen c.args.found.now.things.keys c.args.at c.requires.at in
     let x = c.index-as_slice-at.result in
-    let here = read_here c.as_slice.result.now c.classes.found.things.keys c.args.at x c.as_slice.ensures.keys (omega (arith, far, c.requires.at)) c.index-as_slice-at.is in
+    let here = read_longer seen c.as_slice.result.now c.args.found.now.things.keys c.classes.found.things.keys c.args.at x so.longer c.requires.at c.as_slice.ensures.keys c.index-as_slice-at.is in
     let small : c.classes.number < length c.args.classes.now = omega (arith, c.classes-test.true) in
-    let less = number_less _ _ _ _ _ _ _ _ _ _ _ c.classes.number _ _ c.args.classes.now x so c.requires.at c.requires.classes here small in
-    err_is _ _ _ c.from_residual.ensures.1 (step_met (λ (f : Fault). (y : _) (sum : ℕ) → slice_get c.args.found.now.things.keys c.args.at ≡ Some y
-    → IsMet (rules_of g.S.Thing.PartialEq.eq (g.S.System.moves c.args.system.now) c.args.limits)
-    (stage_of c.args.found.now.things.keys c.args.found.now.edges.items sum (c.args.at + 1) (Some (y, 0))) f) _ _ c.in_err-to.ensures.step
-    (spread_fails _ _ _ _ _ _ _ _ _ _ _ _ _ _ c.classes.number _ _ x so here less c.in_err-to.ensures.keeps)
+    let less = number_less _ _ _ _ _ _ _ _ _ _ _ _ c.classes.number _ _ c.args.classes.now (seen x) so inside c.requires.classes here small in
+    err_is _ _ _ c.from_residual.ensures.1 (step_met g.row.S-Note.Denot seen (λ (f : Fault). (y : _) (sum : ℕ) → slice_get (map seen c.args.found.now.things.keys) c.args.at ≡ Some y
+    → IsMet (rules_of g.S.System.same (g.S.System.moves c.args.system.now) c.args.limits)
+    (stage_of (map seen c.args.found.now.things.keys) c.args.found.now.edges.items sum (c.args.at + 1) (Some (y, 0))) f) _ _ c.in_err-to.ensures.step
+    (spread_fails _ _ _ _ _ _ _ _ _ _ _ _ _ _ _ c.classes.number _ _ (seen x) so here less c.in_err-to.ensures.keeps)
     (λ y sum there. inl refl))
 
 pub classes-preserved-in_default : goal.classes-preserved-in_default
 classes-preserved-in_default g c =
+    let seen = g.S.System.seen in
     let so = c.classes.invariant.spread in
-    let far = longer_length c.args.found.now.things.keys c.classes.found.things.keys so.longer in
+    let inside = within_seen seen c.args.found.now.things.keys c.args.at c.requires.at in
     let x = c.index-as_slice-at.result in
-    let here = read_here c.as_slice.result.now c.classes.found.things.keys c.args.at x c.as_slice.ensures.keys (omega (arith, far, c.requires.at)) c.index-as_slice-at.is in
+    let here = read_longer seen c.as_slice.result.now c.args.found.now.things.keys c.classes.found.things.keys c.args.at x so.longer c.requires.at c.as_slice.ensures.keys c.index-as_slice-at.is in
     let small : c.classes.number < length c.args.classes.now = omega (arith, c.classes-test.true) in
-    let less = number_less _ _ _ _ _ _ _ _ _ _ _ c.classes.number _ _ c.args.classes.now x so c.requires.at c.requires.classes here small in
+    let less = number_less _ _ _ _ _ _ _ _ _ _ _ _ c.classes.number _ _ c.args.classes.now (seen x) so inside c.requires.classes here small in
     record {
       frame = c.in_ok-to.ensures.frame ∙ c.classes.invariant.frame;
-      spread = spread_lacks _ _ _ _ _ _ _ _ _ _ _ _ _ _ c.classes.number _ _ x so here less c.in_ok-to.ensures.keeps
-          (c.in_ok-to.ensures.step ∙ ap move_of c.in_default.is);
+      spread = spread_lacks _ _ _ _ _ _ _ _ _ _ _ _ _ _ _ c.classes.number _ _ (seen x) so here less c.in_ok-to.ensures.keeps
+          (c.in_ok-to.ensures.step ∙ ap (move_of seen) c.in_default.is);
     }
 
 pub returns-in_err-place-clause-meets : goal.returns-in_err-place-clause-meets
 returns-in_err-place-clause-meets g c =
+    let seen = g.S.System.seen in
     let so = c.classes.invariant.spread in
-    let far = longer_length c.args.found.now.things.keys c.classes.found.things.keys so.longer in
+    let inside = within_seen seen c.args.found.now.things.keys c.args.at c.requires.at in
     let x = c.index-as_slice-at.result in
-    let here = read_here c.as_slice.result.now c.classes.found.things.keys c.args.at x c.as_slice.ensures.keys (omega (arith, far, c.requires.at)) c.index-as_slice-at.is in
+    let here = read_longer seen c.as_slice.result.now c.args.found.now.things.keys c.classes.found.things.keys c.args.at x so.longer c.requires.at c.as_slice.ensures.keys c.index-as_slice-at.is in
     let small : c.classes.number < length c.args.classes.now = omega (arith, c.classes-test.true) in
-    let less = number_less _ _ _ _ _ _ _ _ _ _ _ c.classes.number _ _ c.args.classes.now x so c.requires.at c.requires.classes here small in
-    err_is _ _ _ c.from_residual-in_err-place.ensures.1 (list_met (λ (f : Fault). (y : _) (sum : ℕ) → slice_get c.args.found.now.things.keys c.args.at ≡ Some y
-    → IsMet (rules_of g.S.Thing.PartialEq.eq (g.S.System.moves c.args.system.now) c.args.limits)
-    (stage_of c.args.found.now.things.keys c.args.found.now.edges.items sum (c.args.at + 1) (Some (y, 0))) f) _ _ c.in_err-place.ensures.fault
-    (λ full. spread_full _ _ _ _ _ _ _ _ _ _ _ _ _ _ c.classes.number _ _ x so here less c.in_ok-to.ensures.keeps c.in-Some.to (c.in_ok-to.ensures.step ∙ ap move_of c.in-Some.is) full)
+    let less = number_less _ _ _ _ _ _ _ _ _ _ _ _ c.classes.number _ _ c.args.classes.now (seen x) so inside c.requires.classes here small in
+    err_is _ _ _ c.from_residual-in_err-place.ensures.1 (list_met (λ (f : Fault). (y : _) (sum : ℕ) → slice_get (map seen c.args.found.now.things.keys) c.args.at ≡ Some y
+    → IsMet (rules_of g.S.System.same (g.S.System.moves c.args.system.now) c.args.limits)
+    (stage_of (map seen c.args.found.now.things.keys) c.args.found.now.edges.items sum (c.args.at + 1) (Some (y, 0))) f) _ _ c.in_err-place.ensures.fault
+    (λ full. spread_full _ _ _ _ _ _ _ _ _ _ _ _ _ _ _ c.classes.number _ _ (seen x) so here less c.in_ok-to.ensures.keeps (seen c.in-Some.to) (c.in_ok-to.ensures.step ∙ ap (move_of seen) c.in-Some.is)
+    (sym (room_seen g.S.Thing.PartialEq.eq g.S.System.same seen g.met.S.System.tells g.met.S.System.same_tells c.args.limits.things c.in-Some.to c.classes.found.things.keys) ∙ full))
     (λ y sum there. inl refl))
 
 pub classes-preserved : goal.classes-preserved
 classes-preserved g c =
+    let seen = g.S.System.seen in
     let so = c.classes.invariant.spread in
-    let far = longer_length c.args.found.now.things.keys c.classes.found.things.keys so.longer in
+    let inside = within_seen seen c.args.found.now.things.keys c.args.at c.requires.at in
     let x = c.index-as_slice-at.result in
-    let here = read_here c.as_slice.result.now c.classes.found.things.keys c.args.at x c.as_slice.ensures.keys (omega (arith, far, c.requires.at)) c.index-as_slice-at.is in
+    let here = read_longer seen c.as_slice.result.now c.args.found.now.things.keys c.classes.found.things.keys c.args.at x so.longer c.requires.at c.as_slice.ensures.keys c.index-as_slice-at.is in
     let small : c.classes.number < length c.args.classes.now = omega (arith, c.classes-test.true) in
-    let less = number_less _ _ _ _ _ _ _ _ _ _ _ c.classes.number _ _ c.args.classes.now x so c.requires.at c.requires.classes here small in
-    let class = class_is _ _ _ _ _ _ _ _ _ _ _ c.classes.number _ _ c.args.classes.now x c.index-classes-number.result so c.requires.at c.requires.classes here
+    let less = number_less _ _ _ _ _ _ _ _ _ _ _ _ c.classes.number _ _ c.args.classes.now (seen x) so inside c.requires.classes here small in
+    let class = class_is _ _ _ _ _ _ _ _ _ _ _ _ c.classes.number _ _ c.args.classes.now (seen x) c.index-classes-number.result so inside c.requires.classes here
     (read_here c.args.classes.now c.args.classes.now c.classes.number c.index-classes-number.result refl small c.index-classes-number.is) in
-    let fit = subst (λ (o : Option _). MatchOption o (Unit {0}) (g.S.System.fits c.step.new.self)) c.in-Some.is c.in_ok-to.ensures.gives in
+    let eq = g.S.Thing.PartialEq.eq in
+    let same = g.S.System.same in
+    let tells = g.met.S.System.tells in
+    let same_tells = g.met.S.System.same_tells in
+    let to = c.in-Some.to in
+    let keys = c.classes.found.things.keys in
+    let fit = subst (λ (o : Option _). MatchOption o (Unit {0}) (λ gift. g.S.System.fits c.step.new.self (seen gift.0))) c.in-Some.is c.in_ok-to.ensures.gives in
+    let told = subst (λ (o : Option _). MatchOption o (Unit {0}) (λ gift. g.S.System.is_note (g.S.System.frame c.classes.system) (seen x) c.classes.number gift.1)) c.in-Some.is
+    c.in_ok-to.ensures.note in
     record {
       frame = c.in_ok-to.ensures.frame ∙ c.classes.invariant.frame;
-      spread = spread_gives _ _ _ _ _ _ _ _ _ _ _ _ _ _ c.classes.number _ _ x so here less c.in_ok-to.ensures.keeps c.in-Some.to _ _ _ (c.in_ok-to.ensures.step ∙ ap move_of c.in-Some.is) fit
-          c.in_ok-place.ensures.room c.in_ok-place.ensures.things c.in_ok-place.ensures.few c.in_ok-push.ensures.items
-          (ap (arrow_to c.args.at c.classes.number) c.in_ok-place.ensures.place) class;
+      spread = spread_gives _ _ _ _ _ _ _ _ _ _ _ _ _ _ _ c.classes.number _ _ (seen x) so here less c.in_ok-to.ensures.keeps (seen to) _ _ _
+          (c.in_ok-to.ensures.step ∙ ap (move_of seen) c.in-Some.is) fit
+          (sym (room_seen eq same seen tells same_tells c.args.limits.things to keys) ∙ c.in_ok-place.ensures.room)
+          (ap (map seen) c.in_ok-place.ensures.things ∙ new_seen eq same seen tells same_tells to keys)
+          (omega (arith, c.in_ok-place.ensures.few, length-map c.list.new.things.keys seen)) c.in_ok-push.ensures.items
+          (ap (arrow_to c.args.at c.classes.number) (c.in_ok-place.ensures.place ∙ place_seen eq same seen tells same_tells to keys)) class
+          (subst (λ (frame : g.S.System.Frame). g.S.System.is_note frame (seen x) c.classes.number c.in-Some.note) c.classes.invariant.frame told);
     }
 
 pub returns-clause-spreads : goal.returns-clause-spreads
 returns-clause-spreads g c =
     let all : c.classes.number ≡ length c.args.classes.now = omega (arith, c.classes.auto.number-end, c.classes-test.false) in
-    subst (λ (n : ℕ). Spreads (rules_of g.S.Thing.PartialEq.eq (g.S.System.moves c.args.system.now) c.args.limits) c.args.at 0 n c.args.found.now.things.keys c.args.found.now.edges.items
-    c.classes.found.things.keys c.classes.found.edges.items) all c.classes.invariant.spread.spreads
+    subst (λ (n : ℕ). Spreads (rules_of g.S.System.same (g.S.System.moves c.args.system.now) c.args.limits) c.args.at 0 n (map g.S.System.seen c.args.found.now.things.keys) c.args.found.now.edges.items
+    (map g.S.System.seen c.classes.found.things.keys) c.classes.found.edges.items) all c.classes.invariant.spread.spreads

@@ -1,0 +1,3 @@
+pub mod ClassGuards
+pub mod ClassTruths
+pub mod SetGuards

@@ -1,0 +1,39 @@
+-- The edges from a set of states, and the classes of letters that they tell apart.
+use Rattle.std.specs.Prelude.{◌≡◌, ◌<◌, ℕ, All, Bool, List, Some, flat_map, length, map, slice_get}
+use Rattle.aut_base.specs.Automaton.{Automaton, TreeEdge}
+use Rattle.aut_base.specs.CanonicalLabel.{label_of}
+use Rattle.aut_base.specs.Label.{LabelTree}
+use Rattle.aut_base.specs.Valuation.{IsLeast, holds_in, truth_on}
+use Rattle.aut_core.specs.Core.{Core, automaton_of}
+use Rattle.aut_core.specs.Surveys.{edges_from}
+use Rattle.label_guards.specs.ClassLeasts.{are_alike, class_leasts}
+use Rattle.label_guards.specs.Store.{Has, Keeps, Store, label_in}
+use Rattle.label_guards.specs.declared.guard.Guard.{Guard}
+
+-- the edges that leave states of the set, in the order of the set
+abbrev pub set_edges : Automaton → List ℕ → List TreeEdge
+set_edges b set = flat_map (λ q. edges_from q b.edges) set
+
+abbrev pub set_labels : Automaton → List ℕ → List LabelTree
+set_labels b set = map (λ e. e.label) (set_edges b set)
+
+-- the least valuations of the classes that the labels of these edges tell apart, in order
+abbrev pub set_classes : Automaton → List ℕ → List (List Bool)
+set_classes b set = class_leasts (length b.names) (set_labels b set)
+
+-- the label of the class of a valuation
+abbrev pub class_label : ℕ → List LabelTree → List Bool → LabelTree
+class_label n labels v = label_of n (λ w. are_alike labels (holds_in v) (holds_in w))
+
+-- the states of the set are those of the automaton, and the store has its guards
+pub record FitsStore (c : Core) (s : Store) (set : List ℕ) : Type 0 where
+  pub states : All (λ q. q < c.states) set
+  pub keeps : Keeps c.store s
+
+-- the guard is that of the class of this number
+pub record IsClassGuard (c : Core) (s : Store) (set : List ℕ) (k : ℕ) (g : Guard) : Type 0 where
+  pub valuation : List Bool
+  pub at : slice_get (set_classes (automaton_of c) set) k ≡ Some valuation
+  pub has : Has s g
+  pub least : IsLeast s.names (truth_on (label_in s g)) valuation
+  pub label : label_in s g ≡ class_label (length c.names) (set_labels (automaton_of c) set) valuation

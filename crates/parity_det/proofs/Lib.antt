@@ -1,0 +1,9 @@
+pub mod Built
+pub mod DualSets
+pub mod Explored
+pub mod FewNodes
+pub mod Formed
+pub mod LetterMoves
+pub mod ParityLaws
+pub mod TreeSteps
+pub mod Widths

@@ -1,0 +1,155 @@
+-- What deterministic parity automata and complements accept, that they are determined, and which limits they meet.
+use Rattle.std.proofs.Common.{◌≡◌, ◌↔◌, ◌∙◌, ◌⊎◌, ◌<◌, ◌≤◌, ℕ, List, [], Result, Ok, Err, IfErr, IfOk, OnOk, ap, arith, false, inl, inr, length, max, refl, subst, sym}
+use Rattle.aut_base.specs.Acceptance.{Accepts}
+use Rattle.aut_base.specs.Automaton.{Automaton, IsWellFormed}
+use Rattle.aut_base.specs.Formula.{FormulaTree, Inf}
+use Rattle.aut_base.specs.Word.{NameSet}
+use Rattle.aut_base.specs.declared.limit.TheConstants.{MOST_BUCHI_STATES}
+use Rattle.aut_core.specs.Core.{Core, automaton_of}
+use Rattle.aut_core.specs.Deterministic.{IsComplete, IsDeterministic}
+use Rattle.aut_core.specs.OtherNames.{AcceptTheSame}
+use Rattle.aut_ops.proofs.FlagLaws.{pruned_is_determined}
+use Rattle.aut_ops.specs.Pruning.{IsPruned}
+use Rattle.degeneralise.specs.Buchi.{NeedsTooManyTerms, buchi, buchi_states}
+use Rattle.exploration.proofs.Ends.{ends_or_meets, has_one_ending, has_one_outcome}
+use Rattle.exploration.specs.Turns.{Ends, Goes, Meets, Turn, begin}
+use Rattle.exploration.specs.declared.fault.Fault.{Fault}
+use Rattle.exploration.specs.declared.fault.Fault.TheVariants as limit
+use Rattle.parity_det.proofs.FewNodes.{pruned_widths}
+use Rattle.parity_det.proofs.Formed.{explored_trees, is_determinised, is_parity}
+use Rattle.parity_det.specs.Complements.{ComplementIsDetermined, IsComplementOf, IsDeterministicForm, IsWithinParity, LimitsExclude, ParityExcludesLimits, PassesParity, by_completion, by_determinisation}
+use Rattle.parity_det.specs.Determinisation.{IsDeterminisation, IsParityOf, IsTreeForm, MeetsParityLimit, MeetsTreeLimit, ParityIsDetermined, parity_on, start_tree, tree_rules, width}
+use Rattle.parity_det.specs.Shapes.{HasFewSets, IsParity}
+use Rattle.parity_det.specs.Systems.{MeetsFirst}
+use Rattle.parity_det.specs.declared.fault.CompFault.{CompFault}
+use Rattle.parity_det.specs.declared.fault.CompFault.TheVariants as fault
+use Rattle.parity_det.specs.declared.fault.DetFault.{DetFault}
+use Rattle.parity_laws.proofs.directions.Both.{accepts_the_same}
+use Rattle.parity_laws.proofs.letters.Moves.{well_formed_is_buchi}
+use Rattle.parity_laws.specs.Complement.{dualised}
+use Rattle.safra_trees.specs.Trees.{Node}
+
+-- ---- what is accepted, and the shape
+
+pub form_accepts : (b made : Automaton) → IsWellFormed b → b.formula ≡ Inf 0 false → IsTreeForm b made → AcceptTheSame made b
+form_accepts b made formed formula form = subst (λ d. AcceptTheSame d b) (sym form.is)
+    (accepts_the_same b (parity_on form.trees form.arrows b) form.trees (width form.trees) (well_formed_is_buchi b formed formula)
+    (is_determinised b form.trees form.arrows (explored_trees b form.trees form.arrows form.explored)))
+
+pub form_parity : (b made : Automaton) → IsTreeForm b made → IsParity made
+form_parity b made form = subst IsParity (sym form.is) (is_parity b form.trees form.arrows (explored_trees b form.trees form.arrows form.explored))
+
+pub same_through : (a b c : Automaton) → AcceptTheSame a b → AcceptTheSame b c → AcceptTheSame a c
+same_through a b c first second u v = (λ x. (second u v).0 ((first u v).0 x), λ x. (first u v).1 ((second u v).1 x))
+
+pub pruned_formula : (a b : Automaton) → IsPruned a b → a.formula ≡ Inf 0 false → b.formula ≡ Inf 0 false
+pruned_formula a b is formula = ap (λ (x : Automaton). x.formula) is.is ∙ formula
+
+pub form_few : (a b made : Automaton) → IsPruned a b → IsTreeForm b made → HasFewSets a made
+form_few a b made is form = record {
+  useful = is.flags;
+  are = is.useful;
+  half = width form.trees;
+  sets = ap (λ (x : Automaton). x.sets) form.is;
+  few = pruned_widths a b is form.trees form.arrows (explored_trees b form.trees form.arrows form.explored);
+}
+
+-- ---- there is one
+
+forms_same : (b made other : Automaton) → IsTreeForm b made → IsTreeForm b other → made ≡ other
+forms_same b made other f g =
+    let one = has_one_ending (List Node) (tree_rules b) (start_tree b) f.trees g.trees f.arrows g.arrows f.explored g.explored in
+    f.is ∙ ((λ i. parity_on (one.0 i) (one.1 i) b) ∙ sym g.is)
+
+determinisations_same : (a made other : Automaton) → IsDeterminisation a made → IsDeterminisation a other → made ≡ other
+determinisations_same a made other m o =
+    let same : m.pruned ≡ o.pruned = pruned_is_determined a m.pruned o.pruned m.is_pruned o.is_pruned in
+    forms_same m.pruned made other m.is (subst (λ b. IsTreeForm b other) (sym same) o.is)
+
+pub parity_is_determined : ParityIsDetermined
+parity_is_determined a made other m o = determinisations_same (buchi a) made other m o
+
+deterministic_forms_same : (a made other : Automaton) → IsDeterministicForm a made → IsDeterministicForm a other → made ≡ other
+deterministic_forms_same a made other (by_completion d e) (by_completion f g) = e ∙ sym g
+deterministic_forms_same a made other (by_completion d e) (by_determinisation f g) = absurd (f d)
+deterministic_forms_same a made other (by_determinisation d e) (by_completion f g) = absurd (d f)
+deterministic_forms_same a made other (by_determinisation d e) (by_determinisation f g) = parity_is_determined a made other e g
+
+pub complement_is_determined : ComplementIsDetermined
+complement_is_determined a made other m o = m.is ∙ (ap dualised (deterministic_forms_same a m.form o.form m.is_form o.is_form) ∙ sym o.is)
+
+-- ---- limits
+
+form_excludes : (b made : Automaton) (f : Fault) → IsTreeForm b made → MeetsFirst b f → ⊥
+form_excludes b made f form meets = ends_or_meets (List Node) (tree_rules b) (start_tree b) form.trees form.arrows f form.explored meets
+
+pub determinisation_excludes : (a made : Automaton) (f : Fault) → IsDeterminisation a made → MeetsTreeLimit a f → ⊥
+determinisation_excludes a made f m meets =
+    let same : meets.pruned ≡ m.pruned = pruned_is_determined a meets.pruned m.pruned meets.is_pruned m.is_pruned in
+    form_excludes m.pruned made f m.is (subst (λ b. MeetsFirst b f) same meets.meets)
+
+abbrev limit_of : Fault → Turn (List Node) → Fault
+limit_of d (Goes s) = d
+limit_of d (Ends s) = d
+limit_of d (Meets f) = f
+
+limits_same : (a : Automaton) (f g : Fault) → MeetsTreeLimit a f → MeetsTreeLimit a g → f ≡ g
+limits_same a f g x y =
+    let same : y.pruned ≡ x.pruned = pruned_is_determined a y.pruned x.pruned y.is_pruned x.is_pruned in
+    let e = has_one_outcome (List Node) (tree_rules x.pruned) (begin (start_tree x.pruned)) (Meets f) (Meets g) tt tt x.meets (subst (λ b. MeetsFirst b g) same y.meets) in
+    ap (limit_of f) e
+
+within_parity : (a : Automaton) → buchi_states a ≤ MOST_BUCHI_STATES → (NeedsTooManyTerms a.formula → ⊥) → ((f : Fault) → MeetsParityLimit a f → ⊥) → IsWithinParity a
+within_parity a few terms none fault.Terms p = terms p
+within_parity a few terms none fault.BuchiStates p = (let many = p.1 in omega (arith, few, many))
+within_parity a few terms none fault.Trees p = none limit.Things p.1
+within_parity a few terms none fault.Nodes p = none limit.Nodes p.1
+within_parity a few terms none fault.Classes p = none limit.Classes p.1
+within_parity a few terms none fault.Memory p = p
+
+pub made_within : (a made : Automaton) → IsParityOf a made → buchi_states a ≤ MOST_BUCHI_STATES → (NeedsTooManyTerms a.formula → ⊥) → IsWithinParity a
+made_within a made m few terms = within_parity a few terms (λ f meets. determinisation_excludes (buchi a) made f m meets.meets)
+
+one_meets : (a : Automaton) (f g : Fault) → MeetsParityLimit a f → MeetsParityLimit a g → f ≡ g
+one_meets a f g x y = limits_same (buchi a) f g x.meets y.meets
+
+few_many : (a : Automaton) (f : Fault) {P : Type 0} → MeetsParityLimit a f → MOST_BUCHI_STATES < buchi_states a → P
+few_many a f meets many = (let few = meets.few in absurd (omega (arith, few, many)))
+
+one_passes : (a : Automaton) (f g : CompFault) → PassesParity f a → PassesParity g a → f ≡ g
+one_passes a fault.Terms fault.Terms p q = refl
+one_passes a fault.Terms fault.BuchiStates p q = absurd (q.0 p)
+one_passes a fault.Terms fault.Trees p q = absurd (q.0 p)
+one_passes a fault.Terms fault.Nodes p q = absurd (q.0 p)
+one_passes a fault.Terms fault.Classes p q = absurd (q.0 p)
+one_passes a fault.BuchiStates fault.Terms p q = absurd (p.0 q)
+one_passes a fault.BuchiStates fault.BuchiStates p q = refl
+one_passes a fault.BuchiStates fault.Trees p q = few_many a limit.Things q.1 p.1
+one_passes a fault.BuchiStates fault.Nodes p q = few_many a limit.Nodes q.1 p.1
+one_passes a fault.BuchiStates fault.Classes p q = few_many a limit.Classes q.1 p.1
+one_passes a fault.Trees fault.Terms p q = absurd (p.0 q)
+one_passes a fault.Trees fault.BuchiStates p q = few_many a limit.Things p.1 q.1
+one_passes a fault.Trees fault.Trees p q = refl
+one_passes a fault.Trees fault.Nodes p q = (let e = one_meets a limit.Things limit.Nodes p.1 q.1 in absurd cc)
+one_passes a fault.Trees fault.Classes p q = (let e = one_meets a limit.Things limit.Classes p.1 q.1 in absurd cc)
+one_passes a fault.Nodes fault.Terms p q = absurd (p.0 q)
+one_passes a fault.Nodes fault.BuchiStates p q = few_many a limit.Nodes p.1 q.1
+one_passes a fault.Nodes fault.Trees p q = (let e = one_meets a limit.Nodes limit.Things p.1 q.1 in absurd cc)
+one_passes a fault.Nodes fault.Nodes p q = refl
+one_passes a fault.Nodes fault.Classes p q = (let e = one_meets a limit.Nodes limit.Classes p.1 q.1 in absurd cc)
+one_passes a fault.Classes fault.Terms p q = absurd (p.0 q)
+one_passes a fault.Classes fault.BuchiStates p q = few_many a limit.Classes p.1 q.1
+one_passes a fault.Classes fault.Trees p q = (let e = one_meets a limit.Classes limit.Things p.1 q.1 in absurd cc)
+one_passes a fault.Classes fault.Nodes p q = (let e = one_meets a limit.Classes limit.Nodes p.1 q.1 in absurd cc)
+one_passes a fault.Classes fault.Classes p q = refl
+one_passes a fault.Memory g p q = absurd p
+one_passes a f fault.Memory p q = absurd q
+
+pub parity_excludes_limits : ParityExcludesLimits
+parity_excludes_limits a = record { made = λ made m few terms. made_within a made m few terms; one = one_passes a }
+
+-- ---- answers
+
+pub on_ok_from : {T E : Type 0} (r : Result T E) (Q : T → Type 0) (P : Type 0) → ((made : T) → Q made → P) → IfOk r Q → OnOk r P
+on_ok_from (Ok made) Q P f q = f made q
+on_ok_from (Err e) Q P f q = tt

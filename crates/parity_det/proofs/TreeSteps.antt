@@ -1,0 +1,62 @@
+-- The step of a tree for a class, under the letter that the store picks for its guard.
+use Rattle.std.proofs.Common.{◌≡◌, ◌∙◌, ◌<◌, ◌≤◌, ℕ, All, Err, List, Some, ap, filter, length, map, refl, slice_get, subst, sym}
+use Rattle.std.proofs.lemmas.Option.{same_Some}
+use Rattle.aut_base.specs.Automaton.{Automaton}
+use Rattle.aut_base.specs.Label.{holds_at, truth}
+use Rattle.aut_base.specs.Valuation.{holds_in}
+use Rattle.aut_base.specs.Word.{NameSet}
+use Rattle.aut_base.specs.declared.limit.TheConstants.{MOST_NODES}
+use Rattle.aut_core.specs.Core.{Core, IsCore, automaton_of}
+use Rattle.exploration.specs.Moves.{Fails, Gives, IsStep, Move}
+use Rattle.exploration.specs.declared.fault.StepFault.{StepFault}
+use Rattle.label_guards.specs.Leasts.{IsLeastLetter}
+use Rattle.label_guards.specs.Store.{Store}
+use Rattle.label_guards.specs.declared.guard.Guard.{Guard}
+use Rattle.letter_classes.proofs.ClassGuards.{letter_holds}
+use Rattle.letter_classes.specs.SetClasses.{FitsStore, IsClassGuard, set_edges}
+use Rattle.parity_det.proofs.Explored.{large_fails, small_given}
+use Rattle.parity_det.specs.Determinisation.{class_moves, step_at, tree_classes, unless_large}
+use Rattle.parity_det.specs.Faults.{step_fault}
+use Rattle.parity_det.specs.Systems.{IsClassEvent, letter_moves}
+use Rattle.parity_laws.specs.Buchi.{move_of}
+use Rattle.safra_laws.specs.Rounds.{next_tree}
+use Rattle.safra_trees.specs.Events.{event_of}
+use Rattle.safra_trees.specs.Step.{grown, pruned}
+use Rattle.safra_trees.specs.Trees.{Node, root_states}
+use Rattle.safra_trees.specs.declared.event.Event.{Event}
+use Rattle.safra_trees.specs.declared.fault.TreeFault.{TreeFault}
+use Rattle.safra_trees.specs.declared.fault.TreeFault.TheVariants as tree
+use Rattle.safra_trees.specs.declared.moves.Move as moves
+
+module _ (c : Core) (core : IsCore c) (s : Store) (t : List Node) (k : ℕ) (g : Guard) (fits : FitsStore c s (root_states t)) (is : IsClassGuard c s (root_states t) k g)
+    (letter : NameSet) (least : IsLeastLetter s c.names g letter) (taken : List moves.Move) (e : taken ≡ letter_moves (automaton_of c) (root_states t) letter) where
+  abbrev a : Automaton
+  a = automaton_of c
+
+  moves_are : taken ≡ class_moves a t is.valuation
+  moves_are =
+      let same : holds_at c.names letter ≡ holds_in is.valuation = letter_holds c core s (root_states t) k g fits is letter least in
+      e ∙ (λ j. map move_of (filter (λ d. truth (same j) d.label) (set_edges a (root_states t))))
+
+  step_is : step_at a t (slice_get (tree_classes a t) k) ≡ unless_large (next_tree c.states taken t)
+  step_is = ap (step_at a t) is.at ∙ ap (λ ms. unless_large (next_tree c.states ms t)) (sym moves_are)
+
+  pub step_gives : (made : List Node) → made ≡ pruned (grown c.states taken t) → length made ≤ MOST_NODES → step_at a t (slice_get (tree_classes a t) k) ≡ Gives made
+  step_gives made is_made few = step_is ∙ (ap unless_large (sym is_made) ∙ small_given made few)
+
+  abbrev fails : Move (List Node)
+  fails = Fails
+
+  pub step_fails : MOST_NODES < length (pruned (grown c.states taken t)) → step_at a t (slice_get (tree_classes a t) k) ≡ fails
+  step_fails many = step_is ∙ large_fails (next_tree c.states taken t) many
+
+  pub step_told : (event : Event) → event ≡ event_of c.states taken t → IsClassEvent c t k event
+  step_told event told v at =
+      let same : is.valuation ≡ v = same_Some is.valuation v (sym is.at ∙ at) in
+      told ∙ (ap (λ ms. event_of c.states ms t) moves_are ∙ ap (λ w. event_of c.states (class_moves a t w) t) same)
+
+-- where the step is refused for its nodes, the move fails
+pub step_refused : {T X : Type 0} (N : Type 0) (seen : T → X) (m : Move X) (came : TreeFault) (told : StepFault) → told ≡ step_fault came → (came ≡ tree.Nodes → m ≡ Fails)
+    → IsStep {N = N} seen m (Err told)
+step_refused N seen m tree.Nodes told e nodes = subst (λ (f : StepFault). IsStep {N = N} seen m (Err f)) (sym e) (nodes refl)
+step_refused N seen m tree.Memory told e nodes = subst (λ (f : StepFault). IsStep {N = N} seen m (Err f)) (sym e) tt

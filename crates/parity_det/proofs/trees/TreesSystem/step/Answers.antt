@@ -1,0 +1,46 @@
+use Rattle.std.proofs.Common.{◌≡◌, ◌∙◌, ◌<◌, ◌≤◌, Err, ap, length, subst, sym}
+use Rattle.aut_base.proofs.Outcomes.{some_said}
+use Rattle.aut_base.specs.declared.limit.TheConstants.{MOST_NODES}
+use Rattle.aut_core.specs.Core.{automaton_of}
+use Rattle.label_guards.specs.Leasts.{IsLeastLetter}
+use Rattle.parity_det.proofs.TreeSteps.{step_fails, step_gives, step_refused, step_told}
+use Rattle.parity_det.specs.Systems.{letter_moves}
+use Rattle.safra_trees.specs.Events.{event_of}
+use Rattle.safra_trees.specs.Step.{grown, pruned}
+use Rattle.safra_trees.specs.View.{tree_of}
+use Rattle.safra_trees.specs.declared.event.Event.{Event}
+use Rattle.parity_det.proofs.trees.TreesSystem.step.Goals as goal
+
+pub returns-in-Ok-clause-step : goal.returns-in-Ok-clause-step
+returns-in-Ok-clause-step c =
+    let a = c.args.self.now.automaton.now in
+    let s = c.args.self.now.guards in
+    let t = tree_of c.args.thing.now in
+    let least = subst (λ ns. IsLeastLetter s ns c.args.class c.in-Some.letter) c.names.ensures
+    (some_said _ (IsLeastLetter s c.names.result.now c.args.class) _ c.in-Some.letter c.in-Some.is c.in_ok-letter.ensures) in
+    step_gives a c.whole.ensures s t c.args._number c.args.class c.requires.fits c.requires.class c.in-Some.letter least c.in_ok-moves.moves
+    (c.in_ok-moves.ensures.moves ∙ ap (λ qs. letter_moves (automaton_of a) qs c.in-Some.letter) c.root_states.ensures) (tree_of c.in-Ok.made.0)
+    (c.in-Ok.ensures.tree ∙ ap (λ n. pruned (grown n c.in_ok-moves.moves t)) c.states.ensures) c.in-Ok.ensures.few
+
+pub returns-in-Ok-clause-note : goal.returns-in-Ok-clause-note
+returns-in-Ok-clause-note c =
+    let a = c.args.self.now.automaton.now in
+    let s = c.args.self.now.guards in
+    let t = tree_of c.args.thing.now in
+    let least = subst (λ ns. IsLeastLetter s ns c.args.class c.in-Some.letter) c.names.ensures
+    (some_said _ (IsLeastLetter s c.names.result.now c.args.class) _ c.in-Some.letter c.in-Some.is c.in_ok-letter.ensures) in
+    step_told a c.whole.ensures s t c.args._number c.args.class c.requires.fits c.requires.class c.in-Some.letter least c.in_ok-moves.moves
+    (c.in_ok-moves.ensures.moves ∙ ap (λ qs. letter_moves (automaton_of a) qs c.in-Some.letter) c.root_states.ensures) c.in-Ok.made.1
+    (c.in-Ok.ensures.event ∙ ap (λ n. event_of n c.in_ok-moves.moves t) c.states.ensures)
+
+pub returns-clause-step : goal.returns-clause-step
+returns-clause-step c =
+    let a = c.args.self.now.automaton.now in
+    let s = c.args.self.now.guards in
+    let t = tree_of c.args.thing.now in
+    let least = subst (λ ns. IsLeastLetter s ns c.args.class c.in-Some.letter) c.names.ensures
+    (some_said _ (IsLeastLetter s c.names.result.now c.args.class) _ c.in-Some.letter c.in-Some.is c.in_ok-letter.ensures) in
+    step_refused Event tree_of _ c.in-Err.fault c.step_fault.result c.step_fault.ensures (λ nodes.
+    step_fails a c.whole.ensures s t c.args._number c.args.class c.requires.fits c.requires.class c.in-Some.letter least c.in_ok-moves.moves
+    (c.in_ok-moves.ensures.moves ∙ ap (λ qs. letter_moves (automaton_of a) qs c.in-Some.letter) c.root_states.ensures)
+    (subst (λ n. MOST_NODES < length (pruned (grown n c.in_ok-moves.moves t))) c.states.ensures (c.in-Err.ensures.nodes (ap Err nodes))))

@@ -1,0 +1,111 @@
+-- Determinisation, as a system that is explored (Safra 1988, Piterman 2007): things are trees, as lists of nodes, and classes
+-- are those of the letters that the edges from the root's states tell apart.
+use Rattle.std.specs.Prelude.{◌≡◌, ◌+◌, ◌<◌, ◌≤◌, ◌==◌, ◌&&◌, ℕ, Bool, if◌then◌else◌, List, [], ◌∷◌, Option, None, Some, filter, leb, length, map, max, nat_eq, slice_get}
+use Rattle.std.specs.Cmp.Lexicographic.{pointwise}
+use Rattle.std.specs.List.{slice_index_or}
+use Rattle.acc_forms.specs.Parity.{parity_min_odd}
+use Rattle.aut_base.specs.Automaton.{Automaton, TreeEdge}
+use Rattle.aut_base.specs.Valuation.{truth_on}
+use Rattle.aut_base.specs.declared.limit.TheConstants.{MOST_BUCHI_STATES, MOST_CLASSES, MOST_NODES, MOST_TREES}
+use Rattle.aut_ops.specs.Pruning.{AreUseful, IsPruned}
+use Rattle.degeneralise.specs.Buchi.{buchi, buchi_states}
+use Rattle.exploration.specs.Moves.{Fails, Gives, Lacks, Move, Moves}
+use Rattle.exploration.specs.Turns.{Arrow, Comes, EndsWith, Meets, Rules, begin}
+use Rattle.exploration.specs.declared.fault.Fault.{Fault}
+use Rattle.letter_classes.specs.SetClasses.{class_label, set_classes, set_edges, set_labels}
+use Rattle.parity_laws.specs.Buchi.{move_of}
+use Rattle.parity_laws.specs.Determinised.{tree_at}
+use Rattle.safra_laws.specs.Priorities.{priority}
+use Rattle.safra_laws.specs.Rounds.{next_tree}
+use Rattle.safra_trees.specs.Trees.{Node, first_tree, root_states}
+use Rattle.safra_trees.specs.declared.moves.Move as moves
+
+-- the least valuations of the classes of a tree, in order
+abbrev pub tree_classes : Automaton → List Node → List (List Bool)
+tree_classes b t = set_classes b (root_states t)
+
+-- the moves that the letters of a class allow from the root's states
+abbrev pub class_moves : Automaton → List Node → List Bool → List moves.Move
+class_moves b t v = map move_of (filter (λ e. truth_on e.label v) (set_edges b (root_states t)))
+
+-- the tree, unless it has too many nodes
+abbrev pub unless_large : List Node → Move (List Node)
+unless_large t = if leb (length t) MOST_NODES then Gives t else Fails
+
+abbrev pub step_at : Automaton → List Node → Option (List Bool) → Move (List Node)
+step_at b t None = Lacks
+step_at b t (Some v) = unless_large (next_tree b.states (class_moves b t v) t)
+
+abbrev pub tree_moves : Automaton → Moves (List Node)
+tree_moves b = record { count = λ t. length (tree_classes b t); step = λ t k. step_at b t (slice_get (tree_classes b t) k) }
+
+abbrev pub same_node : Node → Node → Bool
+same_node m n = (m.parent == n.parent) && pointwise nat_eq m.states n.states
+
+abbrev pub same_tree : List Node → List Node → Bool
+same_tree = pointwise same_node
+
+-- the tree of the starts
+abbrev pub start_tree : Automaton → List Node
+start_tree b = first_tree b.states b.starts
+
+-- the exploration of what that tree leads to
+abbrev pub tree_rules : Automaton → Rules (List Node)
+tree_rules b = record { same = same_tree; moves = tree_moves b; most_things = MOST_TREES; most_classes = MOST_CLASSES }
+
+-- the greatest number of nodes, and at least 1
+abbrev pub width : List (List Node) → ℕ
+width [] = 1
+width (t ∷ ts) = max (length t) (width ts)
+
+-- the edge between the places of two trees, under its class, with the priority of its step as its one mark
+abbrev pub parity_edge : Automaton → List (List Node) → ℕ → Arrow → TreeEdge
+parity_edge b trees most arrow = record {
+  from = arrow.from;
+  label = class_label (length b.names) (set_labels b (root_states (tree_at trees arrow.from))) (slice_index_or (tree_classes b (tree_at trees arrow.from)) arrow.class []);
+  to = arrow.to;
+  marks = priority b.states most (class_moves b (tree_at trees arrow.from) (slice_index_or (tree_classes b (tree_at trees arrow.from)) arrow.class [])) (tree_at trees arrow.from) ∷ [];
+}
+
+-- the automaton whose states are the places of these trees
+abbrev pub parity_on : List (List Node) → List Arrow → Automaton → Automaton
+parity_on trees arrows b = record {
+  names = b.names;
+  starts = 0 ∷ [];
+  states = length trees;
+  edges = map (parity_edge b trees (width trees)) arrows;
+  sets = width trees + width trees + 1;
+  formula = parity_min_odd (width trees + width trees + 1);
+}
+
+-- the automaton made is that of the trees that b leads to
+pub record IsTreeForm (b made : Automaton) : Type 0 where
+  pub trees : List (List Node)
+  pub arrows : List Arrow
+  pub explored : EndsWith (tree_rules b) (start_tree b) trees arrows
+  pub is : made ≡ parity_on trees arrows b
+
+-- The automaton made is b determinised: that of the trees of b, pruned.
+pub record IsDeterminisation (b made : Automaton) : Type 0 where
+  pub pruned : Automaton
+  pub is_pruned : IsPruned b pruned
+  pub is : IsTreeForm pruned made
+
+-- The automaton made is the parity automaton of a: its Büchi form determinised. Law: there is at most one.
+abbrev pub IsParityOf : Automaton → Automaton → Type 0
+IsParityOf a made = IsDeterminisation (buchi a) made
+
+-- determinisation of b meets this limit first
+pub record MeetsTreeLimit (b : Automaton) (f : Fault) : Type 0 where
+  pub pruned : Automaton
+  pub is_pruned : IsPruned b pruned
+  pub meets : Comes (tree_rules pruned) (begin (start_tree pruned)) (Meets f)
+
+-- the Büchi form has no more states than it may, and its determinisation meets this limit first
+pub record MeetsParityLimit (a : Automaton) (f : Fault) : Type 0 where
+  pub few : buchi_states a ≤ MOST_BUCHI_STATES
+  pub meets : MeetsTreeLimit (buchi a) f
+
+-- An automaton has one parity automaton.
+abbrev pub ParityIsDetermined : Type 0
+ParityIsDetermined = (a made other : Automaton) → IsParityOf a made → IsParityOf a other → made ≡ other

@@ -1,0 +1,6 @@
+pub mod Complements
+pub mod Determinisation
+pub mod Faults
+pub mod Shapes
+pub mod Systems
+pub mod TreeTells

@@ -1,0 +1,39 @@
+-- What the functions of the construction say to one another.
+use Rattle.std.specs.Prelude.{◌≡◌, ◌∷◌, [], ℕ, Bool, List, Some, filter, map, slice_get}
+use Rattle.aut_base.specs.Automaton.{Automaton}
+use Rattle.aut_base.specs.Word.{NameSet}
+use Rattle.aut_core.specs.Core.{Core, automaton_of}
+use Rattle.aut_core.specs.Deterministic.{is_met}
+use Rattle.aut_core.specs.declared.link.Link.{Link}
+use Rattle.exploration.specs.Turns.{Comes, Meets, begin}
+use Rattle.exploration.specs.declared.exploration.Edge.{Edge}
+use Rattle.exploration.specs.declared.fault.Fault.{Fault}
+use Rattle.label_guards.specs.declared.guard.Guard.{Guard}
+use Rattle.letter_classes.specs.SetClasses.{set_edges}
+use Rattle.parity_det.specs.Determinisation.{class_moves, start_tree, tree_classes, tree_rules}
+use Rattle.parity_laws.specs.Buchi.{move_of}
+use Rattle.safra_laws.specs.Priorities.{priority_by}
+use Rattle.safra_trees.specs.Events.{event_of}
+use Rattle.safra_trees.specs.Trees.{Node}
+use Rattle.safra_trees.specs.declared.event.Event.{Event}
+use Rattle.safra_trees.specs.declared.moves.Move.{Move}
+
+-- the moves that the letter allows from these states
+abbrev pub letter_moves : Automaton → List ℕ → NameSet → List Move
+letter_moves b set x = map move_of (filter (is_met b.names x) (set_edges b set))
+
+-- the event is that of the step for the class of this number
+abbrev pub IsClassEvent : Core → List Node → ℕ → Event → Type 0
+IsClassEvent c t k event = (v : List Bool) → slice_get (tree_classes (automaton_of c) t) k ≡ Some v → event ≡ event_of c.states (class_moves (automaton_of c) t v) t
+
+-- the mark of the step of an event, among those of trees with at most so many nodes
+abbrev pub mark_of : ℕ → Event → ℕ
+mark_of most event = priority_by most event.red event.green
+
+-- the link of an edge that was found
+abbrev pub link_of : ℕ → Edge Guard Event → Link
+link_of most e = record { from = e.from; guard = e.class; to = e.to; marks = mark_of most e.note ∷ [] }
+
+-- the exploration of the trees of b meets this limit first
+abbrev pub MeetsFirst : Automaton → Fault → Type 0
+MeetsFirst b f = Comes (tree_rules b) (begin (start_tree b)) (Meets f)

@@ -1,0 +1,139 @@
+//! The deterministic parity automaton of an automaton.
+
+ghost use Rattle.std.specs.Prelude.{◌≡◌, ◌+◌, ◌*◌, ◌≤◌, Err, IfErr, IfOk, OnOk, false, map};
+ghost use Rattle.aut_base.specs.Formula.{Inf};
+ghost use Rattle.aut_base.specs.declared.limit.TheConstants.{MOST_NODES, MOST_TREES};
+ghost use Rattle.aut_core.specs.Core.{automaton_of};
+ghost use Rattle.aut_core.specs.OtherNames.{AcceptTheSame};
+ghost use Rattle.degeneralise.specs.Buchi.{NeedsTooManyTerms, buchi};
+ghost use Rattle.exploration.specs.Explorations.{IsSound, arrow_of};
+ghost use Rattle.exploration.specs.Reached.{IsExplored};
+ghost use Rattle.exploration.specs.declared.fault.Fault.{Fault};
+ghost use Rattle.label_guards.specs.Store.{Keeps};
+ghost use Rattle.letter_classes.specs.SetClasses.{FitsStore, IsClassGuard};
+ghost use Rattle.parity_det.specs.Complements.{IsParityRefusal, IsWithinParity};
+ghost use Rattle.parity_det.specs.Determinisation.{IsDeterminisation, IsParityOf, IsTreeForm, MeetsTreeLimit, parity_on, same_tree, start_tree, tree_moves};
+ghost use Rattle.parity_det.specs.Shapes.{HasFewSets, IsParity};
+ghost use Rattle.parity_det.specs.Systems.{IsClassEvent, MeetsFirst};
+ghost use Rattle.parity_det.specs.declared.fault.CompFault.{CompFault};
+ghost use Rattle.parity_det.specs.declared.fault.DetFault.{DetFault};
+ghost use Rattle.safra_trees.specs.Trees.{root_states};
+ghost use Rattle.safra_trees.specs.View.{tree_of};
+
+use crate::fault::{CompFault, DetFault};
+use crate::marks::{marked_links, width};
+use crate::trees::Trees;
+use acc_forms::parity_min_odd;
+use aut_base::{MOST_CLASSES, MOST_TREES, Memory, Numbers};
+use aut_core::{Automaton, copy_names};
+use aut_ops::prune;
+use degeneralise::to_buchi;
+use exploration::{Explored, Limits, explore};
+use label_guards::{Guard, Guards};
+use safra_trees::{Event, SafraTree, start};
+use std::alloc::Global;
+
+/// The deterministic automaton of a Büchi automaton. Its states are the compact Safra trees that the automaton, pruned,
+/// leads to, in the order in which they are met. The letters that the edges from the root's states don't tell apart have
+/// one edge, whose one mark is the priority of the step: the least of 2f for the names f that went and 2g + 1 for the names
+/// g that gave up their children, or 2N. There are 2N + 1 sets, where N is the greatest number of nodes, or 1, and the
+/// least set that is met again and again has to be odd.
+///
+/// Refused as the first of these that is met: `Classes` where the trees taken in hand have more than
+/// `aut_base::MOST_CLASSES` classes of letters together, `Nodes` where a step's tree has more than `aut_base::MOST_NODES`
+/// nodes, `Trees` where a step's tree is new and `aut_base::MOST_TREES` are listed.
+pub fn determinise(alloc: Global, b: &Automaton) -> Result<Automaton, DetFault>
+    requires sets { b.now.sets ≡ 1 }
+    requires formula { b.now.formula ≡ Inf 0 false }
+    ensures accepts { IfOk result (λ made. AcceptTheSame (automaton_of made) (automaton_of b.now)) }
+    ensures shape { IfOk result (λ made. IsDeterminisation (automaton_of b.now) (automaton_of made)) }
+    ensures parity { IfOk result (λ made. IsParity (automaton_of made)) }
+    ensures few { IfOk result (λ made. HasFewSets (automaton_of b.now) (automaton_of made)) }
+    ensures names { IfOk result (λ made. made.names ≡ b.now.names) }
+    ensures states { IfOk result (λ made. made.states ≤ MOST_TREES) }
+    ensures sets { IfOk result (λ made. made.sets ≤ 2 * MOST_NODES + 1) }
+    ensures within { OnOk result ((f : Fault) → MeetsTreeLimit (automaton_of b.now) f → ⊥) }
+    ensures only_trees { result ≡ Err DetFault.Trees → MeetsTreeLimit (automaton_of b.now) Fault.Things }
+    ensures only_nodes { result ≡ Err DetFault.Nodes → MeetsTreeLimit (automaton_of b.now) Fault.Nodes }
+    ensures only_classes { result ≡ Err DetFault.Classes → MeetsTreeLimit (automaton_of b.now) Fault.Classes }
+{
+    let pruned = prune(alloc, b)?;
+    b.whole();
+    pruned.whole();
+    tree_form(alloc, &pruned)
+}
+
+/// The deterministic automaton of an automaton: that of its Büchi form. Refused as `Terms` or `BuchiStates` where
+/// `degeneralise::to_buchi` refuses, and then as `determinise`.
+pub fn parity(alloc: Global, a: &Automaton) -> Result<Automaton, CompFault>
+    ensures accepts { IfOk result (λ made. AcceptTheSame (automaton_of made) (automaton_of a.now)) }
+    ensures shape { IfOk result (λ made. IsParityOf (automaton_of a.now) (automaton_of made)) }
+    ensures parity { IfOk result (λ made. IsParity (automaton_of made)) }
+    ensures few { IfOk result (λ made. HasFewSets (buchi (automaton_of a.now)) (automaton_of made)) }
+    ensures names { IfOk result (λ made. made.names ≡ a.now.names) }
+    ensures states { IfOk result (λ made. made.states ≤ MOST_TREES) }
+    ensures sets { IfOk result (λ made. made.sets ≤ 2 * MOST_NODES + 1) }
+    ensures within { OnOk result (IsWithinParity (automaton_of a.now)) }
+    ensures refused { IfErr result (IsParityRefusal (automaton_of a.now)) }
+    ensures passed_terms { NeedsTooManyTerms a.now.formula → result ≡ Err CompFault.Terms }
+{
+    let buchi = to_buchi(alloc, a)?;
+    buchi.whole();
+    Ok(determinise(alloc, &buchi)?)
+}
+
+/// The automaton of the trees that this one leads to.
+fn tree_form(alloc: Global, b: &Automaton) -> Result<Automaton, DetFault>
+    ensures shape { IfOk result (λ made. IsTreeForm (automaton_of b.now) (automaton_of made)) }
+    ensures names { IfOk result (λ made. made.names ≡ b.now.names) }
+    ensures states { IfOk result (λ made. made.states ≤ MOST_TREES) }
+    ensures sets { IfOk result (λ made. made.sets ≤ 2 * MOST_NODES + 1) }
+    ensures trees { result ≡ Err DetFault.Trees → MeetsFirst (automaton_of b.now) Fault.Things }
+    ensures nodes { result ≡ Err DetFault.Nodes → MeetsFirst (automaton_of b.now) Fault.Nodes }
+    ensures classes { result ≡ Err DetFault.Classes → MeetsFirst (automaton_of b.now) Fault.Classes }
+{
+    b.whole();
+    let first = start(alloc, b.states(), b.starts())?;
+    let mut system = Trees {
+        automaton: b,
+        guards: b.guards().copy(alloc)?,
+    };
+    let limits = Limits {
+        things: MOST_TREES,
+        classes: MOST_CLASSES,
+    };
+    let found = explore(alloc, &mut system, first, limits)?;
+    Ok(built(alloc, b, system.guards, &found)?)
+}
+
+/// The automaton of the trees and edges that were found.
+fn built(
+    alloc: Global,
+    b: &Automaton,
+    guards: Guards,
+    found: &Explored<SafraTree, Guard, Event>,
+) -> Result<Automaton, Memory>
+    requires keeps { Keeps b.now.store guards }
+    requires explored { IsExplored same_tree (tree_moves (automaton_of b.now)) (start_tree (automaton_of b.now)) (map tree_of found.now.things.keys) (map arrow_of found.now.edges.items) }
+    requires sound { IsSound (λ t. FitsStore b.now guards (root_states t)) (λ t k g. IsClassGuard b.now guards (root_states t) k g) (λ t k event. IsClassEvent b.now t k event) MOST_TREES (map tree_of found.now.things.keys) found.now.edges.items }
+    ensures few { IfOk result (λ made. made.sets ≤ 2 * MOST_NODES + 1) }
+    ensures is { IfOk result (λ made. automaton_of made ≡ parity_on (map tree_of found.now.things.keys) (map arrow_of found.now.edges.items) (automaton_of b.now)) }
+{
+    b.whole();
+    let most = width(found.things.as_slice());
+    let links = marked_links(alloc, found.edges.as_slice(), most)?;
+    let sets = most + most + 1;
+    let formula = parity_min_odd(alloc, sets)?;
+    let mut starts = Numbers::new(alloc);
+    starts.push(0)?;
+    Automaton::from_parts(
+        alloc,
+        copy_names(b.names())?,
+        guards,
+        found.things.len() as u32,
+        starts,
+        links,
+        sets,
+        formula,
+    )
+}

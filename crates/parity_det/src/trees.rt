@@ -1,0 +1,88 @@
+//! The trees of an automaton, as a system that is explored.
+
+ghost use Rattle.std.specs.Prelude.{◌≡◌};
+
+use crate::fault::step_fault;
+use crate::moves::letter_moves;
+use aut_base::Memory;
+use aut_core::Automaton;
+use exploration::{StepFault, System};
+use label_guards::{Guard, Guards};
+use letter_classes::classes_of_set;
+use safra_trees::{Event, SafraTree};
+use std::alloc::Global;
+
+/// The trees of an automaton, and a store that has its guards and those of the classes that were asked for.
+#[derive(Drop)]
+pub(crate) struct Trees<'a> {
+    pub(crate) automaton: &'a Automaton,
+    pub(crate) guards: Guards,
+}
+
+impl<'a> System for Trees<'a> {
+    ghost use Rattle.aut_core.specs.Core.{Core, automaton_of};
+    ghost use Rattle.letter_classes.specs.SetClasses.{FitsStore, IsClassGuard};
+    ghost use Rattle.parity_det.specs.Determinisation.{same_tree, tree_moves};
+    ghost use Rattle.parity_det.specs.Systems.{IsClassEvent};
+    ghost use Rattle.parity_det.specs.TreeTells as tells;
+    ghost use Rattle.safra_trees.specs.Trees.{Node, root_states};
+    ghost use Rattle.safra_trees.specs.View.{tree_of};
+    ghost use Rattle.std.specs.Prelude.{List};
+
+    type Thing = SafraTree;
+
+    type Class = Guard;
+
+    /// The least names that were red and green.
+    type Note = Event;
+
+    ghost Seen = { List Node };
+
+    ghost seen = { tree_of };
+
+    ghost same = { same_tree };
+
+    ghost Frame = { Core };
+
+    ghost frame = { λ s. s.automaton.now };
+
+    ghost moves = { λ s. tree_moves (automaton_of s.automaton.now) };
+
+    ghost fits = { λ s t. FitsStore s.automaton.now s.guards (root_states t) };
+
+    ghost is_class = { λ s t k g. IsClassGuard s.automaton.now s.guards (root_states t) k g };
+
+    ghost is_note = { λ c t k event. IsClassEvent c t k event };
+
+    ghost tells = { tells.tree_tells };
+
+    ghost same_tells = { tells.same_tells };
+
+    fn classes(
+        &mut self,
+        alloc: Global,
+        thing: &SafraTree,
+        most: u32,
+    ) -> Result<Option<Vec<Guard>>, Memory> {
+        let set = thing.root_states();
+        classes_of_set(alloc, self.automaton, &mut self.guards, set, most)
+    }
+
+    fn step(
+        &mut self,
+        alloc: Global,
+        thing: &SafraTree,
+        _number: u32,
+        class: Guard,
+    ) -> Result<Option<(SafraTree, Event)>, StepFault> {
+        self.automaton.whole();
+        let Some(letter) = self.guards.pick(alloc, self.automaton.names(), class)? else {
+            unreachable!()
+        };
+        let moves = letter_moves(alloc, self.automaton, thing.root_states(), &letter)?;
+        match safra_trees::step(alloc, self.automaton.states(), thing, &moves) {
+            Ok(made) => Ok(Some(made)),
+            Err(fault) => Err(step_fault(fault)),
+        }
+    }
+}
