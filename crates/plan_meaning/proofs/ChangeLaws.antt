@@ -16,16 +16,26 @@ use Rattle.filter_plan.specs.declared.plan.Form.{Form}
 use Rattle.filter_plan.specs.declared.plan.Form.TheVariants as form
 use Rattle.monitor_form.proofs.MonitorLaws.{monitor_excludes_limits, monitor_is_determined}
 use Rattle.monitor_form.specs.Subsets.{MeetsLimit}
-use Rattle.plan_meaning.specs.Changes.{Bring, Change, Complete, IsInForm, Makes, MakesAll, MakesWithin, PassesBuchi, PassesDnf, PassesForm, PassesIn, PassesMonitor, PassesWithoutFin, Product, ProductOr, RemoveAp, StopsIn, Sum, Trim}
+use Rattle.parity_det.proofs.ParityLaws.{complement_is_determined, parity_excludes_limits, parity_is_determined}
+use Rattle.parity_det.specs.Complements as det
+use Rattle.parity_det.specs.declared.fault.CompFault.{CompFault}
+use Rattle.parity_det.specs.declared.fault.CompFault.TheVariants as comp
+use Rattle.plan_meaning.specs.Changes.{Bring, Change, Complement, Complete, IsInForm, Makes, MakesAll, MakesWithin, PassesBuchi, PassesDnf, PassesForm, PassesIn, PassesMonitor, PassesParity, PassesWithoutFin, Product, ProductOr, RemoveAp, StopsIn, Sum, Trim}
 use Rattle.plan_meaning.specs.Laws.{ChangesAreDetermined}
 use Rattle.plan_meaning.specs.Limits.{HaveFewNames, HaveManyNames, PassesOfBoth, PassesOfEither, PassesOfSum}
 
 -- ---- one change
 
+one_deterministic : (a made other : Automaton) → IsInForm form.Deterministic a made → IsInForm form.Deterministic a other → made ≡ other
+one_deterministic a made other (inl h) (inl k) = h.1 ∙ sym k.1
+one_deterministic a made other (inl h) (inr k) = absurd (k.0 h.0)
+one_deterministic a made other (inr h) (inl k) = absurd (h.0 k.0)
+one_deterministic a made other (inr h) (inr k) = parity_is_determined a made other h.1 k.1
+
 one_form : (f : Form) (a made other : Automaton) → IsInForm f a made → IsInForm f a other → made ≡ other
 one_form form.AsIs a made other h k = absurd h
-one_form form.Deterministic a made other h k = absurd h
-one_form form.Parity a made other h k = absurd h
+one_form form.Deterministic a made other h k = one_deterministic a made other h k
+one_form form.Parity a made other h k = parity_is_determined a made other h k
 one_form form.Buchi a made other h k = h ∙ sym k
 one_form form.RemoveFin a made other h k = h ∙ sym k
 one_form form.Dnf a made other h k = h ∙ sym k
@@ -37,6 +47,7 @@ one_made (ProductOr b) a made other h k = products_are_determined disj (over_bot
 one_made (Sum b) a made other h k = h ∙ sym k
 one_made (RemoveAp x) a made other h k = h ∙ sym k
 one_made Trim a made other h k = trimmed_is_determined a made other h k
+one_made Complement a made other h k = complement_is_determined a made other h k
 one_made (Bring f) a made other h k = one_form f a made other h k
 one_made Complete a made other h k = h ∙ sym k
 
@@ -128,10 +139,35 @@ one_of_monitor which other a h k = joined (of_monitor which a h) (of_monitor oth
     joined (inr (inr x)) (inr (inl y)) = absurd (omega (arith, y.2, x.meets.few))
     joined (inr (inr x)) (inr (inr y)) = x.shown ∙ ap limit_of ((monitor_excludes_limits a).others x.fault y.fault x.meets y.meets) ∙ sym y.shown
 
+-- the limit that a fault of determinisation tells
+abbrev limit_of_fault : CompFault → Limit
+limit_of_fault comp.Terms = limit.Terms
+limit_of_fault comp.BuchiStates = limit.BuchiStates
+limit_of_fault comp.Trees = limit.Trees
+limit_of_fault comp.Nodes = limit.Nodes
+limit_of_fault comp.Classes = limit.Classes
+limit_of_fault comp.Memory = limit.Bytes
+
+record IsOfParity (which : Limit) (a : Automaton) : Type 0 where
+  fault : CompFault
+  passes : det.PassesParity fault a
+  shown : which ≡ limit_of_fault fault
+
+of_parity : (which : Limit) (a : Automaton) → PassesParity which a → IsOfParity which a
+of_parity limit.Terms a h = record { fault = comp.Terms; passes = h; shown = refl }
+of_parity limit.BuchiStates a h = record { fault = comp.BuchiStates; passes = h; shown = refl }
+of_parity limit.Trees a h = record { fault = comp.Trees; passes = h; shown = refl }
+of_parity limit.Nodes a h = record { fault = comp.Nodes; passes = h; shown = refl }
+of_parity limit.Classes a h = record { fault = comp.Classes; passes = h; shown = refl }
+of_parity _ a h = absurd h
+
+one_of_parity : (which other : Limit) (a : Automaton) → IsOfParity which a → IsOfParity other a → which ≡ other
+one_of_parity which other a x y = x.shown ∙ ap limit_of_fault ((parity_excludes_limits a).one x.fault y.fault x.passes y.passes) ∙ sym y.shown
+
 one_of_form : (f : Form) (which other : Limit) (a : Automaton) → PassesForm which f a → PassesForm other f a → which ≡ other
 one_of_form form.AsIs which other a h k = absurd h
-one_of_form form.Deterministic which other a h k = absurd h
-one_of_form form.Parity which other a h k = absurd h
+one_of_form form.Deterministic which other a h k = one_of_parity which other a (of_parity which a h.1) (of_parity other a k.1)
+one_of_form form.Parity which other a h k = one_of_parity which other a (of_parity which a h) (of_parity other a k)
 one_of_form form.Buchi which other a h k = one_of_buchi which other a (of_buchi which a h) (of_buchi other a k)
 one_of_form form.RemoveFin which other a h k = of_fin which a h ∙ sym (of_fin other a k)
 one_of_form form.Dnf which other a h k = of_dnf which a h ∙ sym (of_dnf other a k)
@@ -143,6 +179,7 @@ one_limit (ProductOr b) which other a h k = one_of_two which other a b (of_eithe
 one_limit (Sum b) which other a h k = one_of_two which other a b (of_sum which a b h) (of_sum other a b k)
 one_limit (RemoveAp x) which other a h k = absurd h
 one_limit Trim which other a h k = absurd h
+one_limit Complement which other a h k = one_of_parity which other a (of_parity which a h.1) (of_parity other a k.1)
 one_limit (Bring f) which other a h k = one_of_form f which other a h k
 one_limit Complete which other a h k = absurd h
 

@@ -47,7 +47,8 @@ grows_by_one (suc (suc (suc zero))) a h = h
 grows_by_one (suc (suc (suc (suc zero)))) a h = h
 grows_by_one (suc (suc (suc (suc (suc zero))))) a h = record { states = omega (arith, h.states); sets = omega (arith, h.sets) }
 grows_by_one (suc (suc (suc (suc (suc (suc zero)))))) a h = record { states = omega (arith, h.states); sets = omega (arith, h.sets) }
-grows_by_one (suc (suc (suc (suc (suc (suc (suc n))))))) a h = h
+grows_by_one (suc (suc (suc (suc (suc (suc (suc zero))))))) a h = record { states = omega (arith, h.states); sets = omega (arith, h.sets) }
+grows_by_one (suc (suc (suc (suc (suc (suc (suc (suc n)))))))) a h = h
 
 next_place : (n : ℕ) → suc n ≡ n + 1
 next_place n = omega arith

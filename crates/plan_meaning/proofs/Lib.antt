@@ -4,6 +4,7 @@ mod CanonicalRuns
 mod ChangeLaws
 mod ChangeLists
 mod Combinations
+mod Determinised
 mod DisjunctiveForm
 mod FilterLists
 mod Meeting

@@ -16,7 +16,8 @@ use Rattle.filter_plan.specs.declared.plan.Form.{Form}
 use Rattle.filter_plan.specs.declared.plan.Form.TheVariants as form
 use Rattle.filter_plan.specs.declared.plan.Plan.{Plan}
 use Rattle.monitor_form.specs.Subsets.{IsMonitor}
-use Rattle.plan_meaning.specs.Changes.{Change, Complete, HasBuiltForm, IsInForm, change_options, changes_of, form_change}
+use Rattle.plan_meaning.specs.Changes.{Change, Complete, IsInForm, change_options, changes_of, form_change}
+use Rattle.parity_det.specs.Shapes.{IsParity}
 use Rattle.plan_meaning.specs.Promises.{IsBuchi, IsDeterministicSafety, IsDisjunctive, IsOfForm, KeepsForm, KeepsPromises, OrHasSinkSet}
 use Rattle.plan_meaning.specs.Standing.{those_standing}
 use Rattle.plan_meaning.specs.inner.Stepping.{MakesAsPromised, PromisesForm}
@@ -93,33 +94,35 @@ of_monitor a made is deterministic = record {
 }
 
 -- what a change into a form makes is of that form
-of_form : (f : Form) (a made : Automaton) → HasBuiltForm f → IsInForm f a made → PromisesForm f made → IsOfForm f made
-of_form form.AsIs a made built h promised = tt
-of_form form.Buchi a made built h promised = subst IsBuchi (sym h) (record { sets = refl; formula = refl })
-of_form form.RemoveFin a made built h promised = subst (λ (x : Automaton). has_fin x.formula ≡ false) (sym h) (no_fin a)
-of_form form.Dnf a made built h promised = subst (λ (x : Automaton). IsDisjunctive x.formula) (sym h) (record { terms = terms a.formula; is = refl })
-of_form form.Monitor a made built h promised = of_monitor a made h promised
-of_form form.Deterministic a made built h promised = absurd (false≢true built)
-of_form form.Parity a made built h promised = absurd (false≢true built)
+of_form : (f : Form) (a made : Automaton) → IsInForm f a made → PromisesForm f made → IsOfForm f made
+of_form form.AsIs a made h promised = tt
+of_form form.Deterministic a made h promised = promised
+of_form form.Parity a made h promised = promised
+of_form form.Buchi a made h promised = subst IsBuchi (sym h) (record { sets = refl; formula = refl })
+of_form form.RemoveFin a made h promised = subst (λ (x : Automaton). has_fin x.formula ≡ false) (sym h) (no_fin a)
+of_form form.Dnf a made h promised = subst (λ (x : Automaton). IsDisjunctive x.formula) (sym h) (record { terms = terms a.formula; is = refl })
+of_form form.Monitor a made h promised = of_monitor a made h promised
 
 -- as it is, or completed
 pub data MayBeCompleted (a made : Automaton) : Bool → Type 0 where
   Left : made ≡ a → MayBeCompleted a made false
-  Completed : made ≡ completed a → (IsDeterministic a → IsDeterministic made) → MayBeCompleted a made true
+  Completed : made ≡ completed a → (IsDeterministic a → IsDeterministic made) → (IsComplete a → made ≡ a) → MayBeCompleted a made true
 
 -- and it keeps that under completion
-keeps : (f : Form) (complete : Bool) (a made : Automaton) → HasBuiltForm f → IsOfForm f a → MayBeCompleted a made complete → KeepsForm f complete made
-keeps form.AsIs complete a made built is h = tt
-keeps form.Deterministic complete a made built is h = absurd (false≢true built)
-keeps form.Parity complete a made built is h = absurd (false≢true built)
-keeps form.Buchi false a made built is (Left same) = subst IsBuchi (sym same) is
-keeps form.Buchi true a made built is (Completed same deterministic) = subst IsBuchi (sym same) (completed_buchi a is)
-keeps form.RemoveFin false a made built is (Left same) = subst (OrHasSinkSet form.RemoveFin false) (sym same) is
-keeps form.RemoveFin true a made built is (Completed same deterministic) = subst (OrHasSinkSet form.RemoveFin true) (sym same) (completed_no_fin a is)
-keeps form.Dnf false a made built is (Left same) = subst (OrHasSinkSet form.Dnf false) (sym same) is
-keeps form.Dnf true a made built is (Completed same deterministic) = subst (OrHasSinkSet form.Dnf true) (sym same) (completed_disjunctive a is)
-keeps form.Monitor false a made built is (Left same) = subst (λ (x : Automaton). IsDeterministic x × IsDeterministicSafety x) (sym same) (is.deterministic, is)
-keeps form.Monitor true a made built is (Completed same deterministic) = (deterministic is.deterministic, subst (OrHasSinkSet form.Monitor true) (sym same) (completed_safety a is))
+keeps : (f : Form) (complete : Bool) (a made : Automaton) → IsOfForm f a → MayBeCompleted a made complete → KeepsForm f complete made
+keeps form.AsIs complete a made is h = tt
+keeps form.Deterministic false a made is (Left same) = subst IsDeterministic (sym same) is
+keeps form.Deterministic true a made is (Completed same deterministic stays) = deterministic is
+keeps form.Parity false a made is (Left same) = subst IsParity (sym same) is
+keeps form.Parity true a made is (Completed same deterministic stays) = subst IsParity (sym (stays is.complete)) is
+keeps form.Buchi false a made is (Left same) = subst IsBuchi (sym same) is
+keeps form.Buchi true a made is (Completed same deterministic stays) = subst IsBuchi (sym same) (completed_buchi a is)
+keeps form.RemoveFin false a made is (Left same) = subst (OrHasSinkSet form.RemoveFin false) (sym same) is
+keeps form.RemoveFin true a made is (Completed same deterministic stays) = subst (OrHasSinkSet form.RemoveFin true) (sym same) (completed_no_fin a is)
+keeps form.Dnf false a made is (Left same) = subst (OrHasSinkSet form.Dnf false) (sym same) is
+keeps form.Dnf true a made is (Completed same deterministic stays) = subst (OrHasSinkSet form.Dnf true) (sym same) (completed_disjunctive a is)
+keeps form.Monitor false a made is (Left same) = subst (λ (x : Automaton). IsDeterministic x × IsDeterministicSafety x) (sym same) (is.deterministic, is)
+keeps form.Monitor true a made is (Completed same deterministic stays) = (deterministic is.deterministic, subst (OrHasSinkSet form.Monitor true) (sym same) (completed_safety a is))
 
 -- ---- the changes of a plan
 
@@ -134,27 +137,27 @@ last_made : (complete : Bool) (a made : Automaton) → MakesAsPromised (those_st
 last_made false a made h = (Left h, λ on. absurd (false≢true on))
 last_made true a made h =
     let same : made ≡ h.0 = h.3 in (
-      Completed (same ∙ h.1.makes) (λ is. subst IsDeterministic (sym same) (h.2.1 is)),
+      Completed (same ∙ h.1.makes) (λ is. subst IsDeterministic (sym same) (h.2.1 is)) (λ is. same ∙ h.2.2 is),
       λ on. subst IsComplete (sym same) h.2.0,
     )
 
-formed : (p : Plan) (a made : Automaton) → HasBuiltForm p.form → MakesAsPromised (those_standing (form_change p.form ∷ then_some p.complete Complete ∷ [])) a made → KeepsPromises p made
-formed p a made built h = by p.form built h
+formed : (p : Plan) (a made : Automaton) → MakesAsPromised (those_standing (form_change p.form ∷ then_some p.complete Complete ∷ [])) a made → KeepsPromises p made
+formed p a made h = by p.form h
   where
-    end : (f : Form) (b : Automaton) → HasBuiltForm f → IsOfForm f b → MakesAsPromised (those_standing (then_some p.complete Complete ∷ [])) b made → KeepsForm f p.complete made × (p.complete ≡ true → IsComplete made)
-    end f b built is k = let last = last_made p.complete b made k in (keeps f p.complete b made built is last.0, last.1)
+    end : (f : Form) (b : Automaton) → IsOfForm f b → MakesAsPromised (those_standing (then_some p.complete Complete ∷ [])) b made → KeepsForm f p.complete made × (p.complete ≡ true → IsComplete made)
+    end f b is k = let last = last_made p.complete b made k in (keeps f p.complete b made is last.0, last.1)
 
-    by : (f : Form) → HasBuiltForm f → MakesAsPromised (those_standing (form_change f ∷ then_some p.complete Complete ∷ [])) a made → KeepsForm f p.complete made × (p.complete ≡ true → IsComplete made)
-    by form.AsIs built k = end form.AsIs a built tt k
-    by form.Deterministic built k = absurd (false≢true built)
-    by form.Parity built k = absurd (false≢true built)
-    by form.Buchi built k = end form.Buchi k.0 built (of_form form.Buchi a k.0 built k.1.makes k.2) k.3
-    by form.RemoveFin built k = end form.RemoveFin k.0 built (of_form form.RemoveFin a k.0 built k.1.makes k.2) k.3
-    by form.Dnf built k = end form.Dnf k.0 built (of_form form.Dnf a k.0 built k.1.makes k.2) k.3
-    by form.Monitor built k = end form.Monitor k.0 built (of_form form.Monitor a k.0 built k.1.makes k.2) k.3
+    by : (f : Form) → MakesAsPromised (those_standing (form_change f ∷ then_some p.complete Complete ∷ [])) a made → KeepsForm f p.complete made × (p.complete ≡ true → IsComplete made)
+    by form.AsIs k = end form.AsIs a tt k
+    by form.Deterministic k = end form.Deterministic k.0 (of_form form.Deterministic a k.0 k.1.makes k.2) k.3
+    by form.Parity k = end form.Parity k.0 (of_form form.Parity a k.0 k.1.makes k.2) k.3
+    by form.Buchi k = end form.Buchi k.0 (of_form form.Buchi a k.0 k.1.makes k.2) k.3
+    by form.RemoveFin k = end form.RemoveFin k.0 (of_form form.RemoveFin a k.0 k.1.makes k.2) k.3
+    by form.Dnf k = end form.Dnf k.0 (of_form form.Dnf a k.0 k.1.makes k.2) k.3
+    by form.Monitor k = end form.Monitor k.0 (of_form form.Monitor a k.0 k.1.makes k.2) k.3
 
-pub promises_kept : (p : Plan) (ops : List Automaton) (a made : Automaton) → HasBuiltForm p.form → MakesAsPromised (changes_of p ops) a made → KeepsPromises p made
-promises_kept p ops a made built h =
+pub promises_kept : (p : Plan) (ops : List Automaton) (a made : Automaton) → MakesAsPromised (changes_of p ops) a made → KeepsPromises p made
+promises_kept p ops a made h =
     let os = change_options p ops in
-    let shaped = behind (take 5 os) (drop 5 os) a made (subst (λ (xs : List (Option Change)). MakesAsPromised (those_standing xs) a made) (sym (take-append-drop 5 os)) h) in
-    formed p shaped.0 made built shaped.1
+    let shaped = behind (take 6 os) (drop 6 os) a made (subst (λ (xs : List (Option Change)). MakesAsPromised (those_standing xs) a made) (sym (take-append-drop 6 os)) h) in
+    formed p shaped.0 made shaped.1

@@ -1,5 +1,5 @@
 -- What is made of an automaton alone.
-use Rattle.std.proofs.Common.{◌≡◌, ◌∙◌, ◌+◌, ◌*◌, ◌<◌, ◌≤◌, ℕ, Bool, true, false, cond, [], ◌∷◌, ap, arith, length, subst, sym}
+use Rattle.std.proofs.Common.{◌≡◌, ◌∙◌, ◌+◌, ◌*◌, ◌<◌, ◌≤◌, ℕ, Bool, true, false, cond, [], ◌∷◌, ap, arith, length, refl, subst, sym}
 use Rattle.std.proofs.lemmas.Bool.{false≢true}
 use Rattle.std.proofs.lemmas.Nat.{mul-le}
 use Rattle.aut_base.specs.declared.limit.TheConstants.{MOST_BUCHI_STATES, MOST_TERMS}
@@ -20,7 +20,7 @@ use Rattle.fin_removal.specs.Copies.{HasTooManyTerms, copied}
 use Rattle.filter_plan.specs.declared.plan.Form.TheVariants as form
 use Rattle.plan_meaning.proofs.Stepping.{changed_once}
 use Rattle.plan_meaning.specs.Changes.{Bring, Complete, PassesForm, Trim, in_disjunctive_form}
-use Rattle.plan_meaning.specs.inner.Stepping.{HasRoom, IsMade, IsOfSumSize}
+use Rattle.plan_meaning.specs.inner.Stepping.{HasRoom, IsMade, IsOfComplementSize, IsOfSumSize}
 
 -- ---- trimming
 
@@ -47,12 +47,12 @@ fin_itself a none = changed_once (Bring form.RemoveFin) a a
     (λ u v. ((λ x. x), (λ x. x)))
 
 -- each copy has the states of the automaton, and there are few copies
-pub fin_room : (a made : Automaton) → (HasTooManyTerms a → ⊥) → made ≡ copied a → IsOfSumSize a → HasRoom made
+pub fin_room : (a made : Automaton) → (HasTooManyTerms a → ⊥) → made ≡ copied a → IsOfComplementSize a → HasRoom made
 fin_room a made few is within =
     let counted : count (terms a.formula) ≤ MOST_TERMS = not_many (count (terms a.formula)) few in
     let copies : 1 + length (terms a.formula) ≤ 1025 = omega (arith, terms_within (terms a.formula) counted) in
     let states : made.states ≡ (1 + length (terms a.formula)) * a.states = ap (λ (x : Automaton). x.states) is in
-    let most = mul-le (1 + length (terms a.formula)) a.states 1025 1100000 copies within.states in
+    let most = mul-le (1 + length (terms a.formula)) a.states 1025 1132768 copies within.states in
     let sets = ap (λ (x : Automaton). x.sets) is in
     record { states = omega (arith, states, most); sets = omega (arith, sets, sets_within (terms a.formula) counted) }
   where
@@ -83,8 +83,9 @@ dnf_made a made few is accepts = changed_once (Bring form.Dnf) a made (dnf_withi
 
 -- ---- completion
 
-pub complete_made : (a made : Automaton) → made ≡ completed a → IsComplete made → (IsDeterministic a → IsDeterministic made) → AcceptTheSame made a → IsMade (Complete ∷ []) a made
-complete_made a made is complete deterministic accepts = changed_once Complete a made (λ which h. h) is (complete, deterministic) accepts
+pub complete_made : (a made : Automaton) → IsWellFormed a → made ≡ completed a → IsComplete made → (IsDeterministic a → IsDeterministic made) → AcceptTheSame made a → IsMade (Complete ∷ []) a made
+complete_made a made formed is complete deterministic accepts =
+    changed_once Complete a made (λ which h. h) is (complete, deterministic, λ whole. is ∙ completed_same a formed whole) accepts
 
 pub complete_itself : (a : Automaton) → IsWellFormed a → IsComplete a → IsMade (Complete ∷ []) a a
-complete_itself a formed is = changed_once Complete a a (λ which h. h) (sym (completed_same a formed is)) (is, λ x. x) (λ u v. ((λ x. x), (λ x. x)))
+complete_itself a formed is = changed_once Complete a a (λ which h. h) (sym (completed_same a formed is)) (is, (λ x. x), λ x. refl) (λ u v. ((λ x. x), (λ x. x)))

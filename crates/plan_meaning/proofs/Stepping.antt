@@ -12,7 +12,7 @@ use Rattle.aut_core.specs.Core.{Core, automaton_of}
 use Rattle.filter_plan.specs.declared.plan.Form.{Form}
 use Rattle.filter_plan.specs.declared.plan.Form.TheVariants as form
 use Rattle.filter_plan.specs.declared.plan.Hidden.{Hidden}
-use Rattle.plan_meaning.specs.Changes.{Bring, Change, ChangedTo, Complete, Language, Makes, MakesAll, PassesIn, Product, ProductOr, RemoveAp, StopsIn, Sum, Trim, SomePrefix, said_by, said_by_all, said_in_form}
+use Rattle.plan_meaning.specs.Changes.{Bring, Change, ChangedTo, Complement, Complete, Language, Makes, MakesAll, PassesIn, Product, ProductOr, RemoveAp, StopsIn, Sum, Trim, SomePrefix, said_by, said_by_all, said_in_form}
 use Rattle.plan_meaning.specs.declared.fault.PlanFault.{PlanFault}
 use Rattle.plan_meaning.specs.declared.fault.PlanFault.TheVariants as fault
 use Rattle.plan_meaning.specs.inner.Stepping.{IsMade, MakesAsPromised, Promises, Steps}
@@ -55,6 +55,7 @@ one_alike (ProductOr b) L M h u v some = either_alike (Accepts b u v) (h u v som
 one_alike (Sum b) L M h u v some = either_alike (Accepts b u v) (h u v some)
 one_alike (RemoveAp x) L M h u v some = same_hidden x.how x.name L M h u v some
 one_alike Trim L M h u v some = h u v some
+one_alike Complement L M h u v some = ((λ x m. x ((h u v some).1 m)), (λ x l. x ((h u v some).0 l)))
 one_alike (Bring f) L M h u v some = form_alike f L M h u v some
 one_alike Complete L M h u v some = h u v some
 

@@ -1,5 +1,5 @@
 -- What a plan makes of an automaton: operations, at most one form, and completion, one after the other.
-use Rattle.std.specs.Prelude.{◌≡◌, ◌⊎◌, ◌<◌, ℕ, Bool, true, false, List, [], ◌∷◌, length, Option, Some, None, Result, Ok, Err}
+use Rattle.std.specs.Prelude.{◌≡◌, ◌⊎◌, ◌<◌, ℕ, Bool, true, List, [], ◌∷◌, length, Option, Some, None, Result, Ok, Err}
 use Rattle.std.specs.Bool.{then_some}
 use Rattle.std.specs.Option.{option_map}
 use Rattle.std.specs.Result.{result_map_both}
@@ -12,6 +12,7 @@ use Rattle.aut_base.specs.Word.{NameSet, letter_at}
 use Rattle.aut_base.specs.declared.limit.Limit.{Limit}
 use Rattle.aut_base.specs.declared.limit.Limit.TheVariants as limit
 use Rattle.aut_core.specs.Core.{Core, automaton_of}
+use Rattle.aut_core.specs.Deterministic as core
 use Rattle.aut_ops.specs.Completion.{completed}
 use Rattle.aut_ops.specs.Products.{IsEitherOf, IsProductOf}
 use Rattle.aut_ops.specs.Sums.{summed}
@@ -25,6 +26,10 @@ use Rattle.filter_plan.specs.declared.plan.Hidden.{Hidden}
 use Rattle.filter_plan.specs.declared.plan.Plan.{Plan}
 use Rattle.fin_removal.specs.Copies.{HasTooManyTerms, without_fin}
 use Rattle.monitor_form.specs.Subsets.{IsMonitor, MeetsLimit}
+use Rattle.parity_det.specs.Complements as det
+use Rattle.parity_det.specs.Complements.{IsComplementOf}
+use Rattle.parity_det.specs.Determinisation.{IsParityOf}
+use Rattle.parity_det.specs.declared.fault.CompFault.TheVariants as comp
 use Rattle.plan_meaning.specs.Limits.{PassesOfBoth, PassesOfEither, PassesOfSum}
 use Rattle.plan_meaning.specs.Operands.{operand_at, place_of_product, place_of_product_or, place_of_sum}
 use Rattle.plan_meaning.specs.Standing.{those_standing}
@@ -38,6 +43,7 @@ pub data Change : Type 0 where
   Sum : Automaton → Change
   RemoveAp : Hidden → Change
   Trim : Change
+  Complement : Change
   Bring : Form → Change
   Complete : Change
 
@@ -49,25 +55,12 @@ in_disjunctive_form a = record a { formula = of_terms (terms a.formula) }
 
 abbrev pub IsInForm : Form → Automaton → Automaton → Type 0
 IsInForm form.AsIs a made = ⊥
-IsInForm form.Deterministic a made = ⊥
-IsInForm form.Parity a made = ⊥
+IsInForm form.Deterministic a made = (core.IsDeterministic a × (made ≡ a)) ⊎ ((core.IsDeterministic a → ⊥) × IsParityOf a made)
+IsInForm form.Parity a made = IsParityOf a made
 IsInForm form.Buchi a made = made ≡ buchi a
 IsInForm form.RemoveFin a made = made ≡ without_fin a
 IsInForm form.Dnf a made = made ≡ in_disjunctive_form a
 IsInForm form.Monitor a made = IsMonitor a made
-
--- forms that code makes
-abbrev pub is_built : Form → Bool
-is_built form.AsIs = true
-is_built form.Deterministic = false
-is_built form.Parity = false
-is_built form.Buchi = true
-is_built form.RemoveFin = true
-is_built form.Dnf = true
-is_built form.Monitor = true
-
-abbrev pub HasBuiltForm : Form → Type 0
-HasBuiltForm f = is_built f ≡ true
 
 -- what the change makes of an automaton, exactly
 abbrev pub Makes : Change → Automaton → Automaton → Type 0
@@ -76,6 +69,7 @@ Makes (ProductOr b) a made = IsEitherOf a b made
 Makes (Sum b) a made = made ≡ summed a b
 Makes (RemoveAp h) a made = made ≡ hidden h.how h.name a
 Makes Trim a made = IsTrimmed a made
+Makes Complement a made = IsComplementOf a made
 Makes (Bring f) a made = IsInForm f a made
 Makes Complete a made = made ≡ completed a
 
@@ -101,10 +95,23 @@ PassesMonitor limit.Classes a = (NeedsTooManyTerms a.formula → ⊥) × MeetsLi
 PassesMonitor limit.Subsets a = (NeedsTooManyTerms a.formula → ⊥) × MeetsLimit a explored.Things
 PassesMonitor _ a = ⊥
 
+-- those of the Büchi form, and then the first that its determinisation meets
+abbrev pub PassesParity : Limit → Automaton → Type 0
+PassesParity limit.Terms a = det.PassesParity comp.Terms a
+PassesParity limit.BuchiStates a = det.PassesParity comp.BuchiStates a
+PassesParity limit.Trees a = det.PassesParity comp.Trees a
+PassesParity limit.Nodes a = det.PassesParity comp.Nodes a
+PassesParity limit.Classes a = det.PassesParity comp.Classes a
+PassesParity _ a = ⊥
+
+-- the same, where the automaton isn't deterministic; else none
+abbrev pub PassesUnlessDeterministic : Limit → Automaton → Type 0
+PassesUnlessDeterministic which a = (core.IsDeterministic a → ⊥) × PassesParity which a
+
 abbrev pub PassesForm : Limit → Form → Automaton → Type 0
 PassesForm which form.AsIs a = ⊥
-PassesForm which form.Deterministic a = ⊥
-PassesForm which form.Parity a = ⊥
+PassesForm which form.Deterministic a = PassesUnlessDeterministic which a
+PassesForm which form.Parity a = PassesParity which a
 PassesForm which form.Buchi a = PassesBuchi which a
 PassesForm which form.RemoveFin a = PassesWithoutFin which a
 PassesForm which form.Dnf a = PassesDnf which a
@@ -116,6 +123,7 @@ PassesIn which (ProductOr b) a = PassesOfEither which a b
 PassesIn which (Sum b) a = PassesOfSum which a b
 PassesIn which (RemoveAp h) a = ⊥
 PassesIn which Trim a = ⊥
+PassesIn which Complement a = PassesUnlessDeterministic which a
 PassesIn which (Bring f) a = PassesForm which f a
 PassesIn which Complete a = ⊥
 
@@ -133,6 +141,7 @@ change_options p ops = option_map Product (operand_at p.product (place_of_produc
     ∷ option_map Sum (operand_at p.sum (place_of_sum p) ops)
     ∷ option_map RemoveAp p.remove_ap
     ∷ then_some p.trim Trim
+    ∷ then_some p.complement Complement
     ∷ form_change p.form
     ∷ then_some p.complete Complete
     ∷ []
@@ -190,13 +199,15 @@ said_in_form form.RemoveFin says u v = says u v
 said_in_form form.Dnf says u v = says u v
 said_in_form form.Monitor says u v = (n : ℕ) → SomePrefix says u v n
 
--- one change of a language: to what both accept, or to what one of the two accepts, or to that with a name hidden
+-- one change of a language: to what both accept, or to what one of the two accepts, or to that with a name hidden, or to the
+-- words that it doesn't have
 abbrev pub said_by : Change → Language → Language
 said_by (Product b) says u v = says u v × Accepts b u v
 said_by (ProductOr b) says u v = says u v ⊎ Accepts b u v
 said_by (Sum b) says u v = says u v ⊎ Accepts b u v
 said_by (RemoveAp h) says u v = HiddenSays h.how h.name says u v
 said_by Trim says u v = says u v
+said_by Complement says u v = says u v → ⊥
 said_by (Bring f) says u v = said_in_form f says u v
 said_by Complete says u v = says u v
 
@@ -205,6 +216,6 @@ said_by_all [] says = says
 said_by_all (c ∷ cs) says = said_by_all cs (said_by c says)
 
 -- what the set operation of a plan says of a word: first whether the automaton accepts it, and then product, product-or, sum,
--- the hiding of a proposition and the form
+-- the hiding of a proposition, the complement and the form
 abbrev pub set_operation : Plan → List Automaton → Automaton → Language
 set_operation p ops a = said_by_all (changes_of p ops) (λ u v. Accepts a u v)

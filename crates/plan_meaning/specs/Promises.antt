@@ -2,12 +2,12 @@
 use Rattle.std.specs.Prelude.{◌≡◌, ◌⊎◌, ℕ, ◌+◌, Bool, true, false, List, All, length}
 use Rattle.acc_forms.specs.Atoms.{has_fin}
 use Rattle.acc_forms.specs.Joined.{conj}
-use Rattle.acc_forms.specs.Parity.{parity_min_odd}
 use Rattle.acc_forms.specs.Terms.{of_terms}
 use Rattle.acc_forms.specs.declared.literal.Literal.{Literal}
 use Rattle.aut_base.specs.Automaton.{Automaton}
 use Rattle.aut_base.specs.Formula.{FormulaTree}
 use Rattle.aut_core.specs.Deterministic.{IsComplete, IsDeterministic}
+use Rattle.parity_det.specs.Shapes.{IsParity}
 use Rattle.filter_plan.specs.declared.plan.Form.{Form}
 use Rattle.filter_plan.specs.declared.plan.Form.TheVariants as form
 use Rattle.filter_plan.specs.declared.plan.Plan.{Plan}
@@ -21,15 +21,6 @@ pub record IsBuchi (a : Automaton) : Type 0 where
 pub record IsDisjunctive (f : FormulaTree) : Type 0 where
   pub terms : List (List Literal)
   pub is : f ≡ of_terms terms
-
--- deterministic and complete, with one mark on each edge, and the least number that is met again and again has to be odd
-pub record IsParity (a : Automaton) : Type 0 where
-  pub deterministic : IsDeterministic a
-  pub complete : IsComplete a
-  pub half : ℕ
-  pub sets : a.sets ≡ half + half + 1
-  pub formula : a.formula ≡ parity_min_odd a.sets
-  pub marked : All (λ edge. length edge.marks ≡ 1) a.edges
 
 -- deterministic, and every run is accepting
 pub record IsDeterministicSafety (a : Automaton) : Type 0 where

@@ -5,12 +5,13 @@ ghost use Rattle.ap_project.specs.Laws.{SayTheSame};
 ghost use Rattle.aut_base.specs.Acceptance.{Accepts};
 ghost use Rattle.aut_base.specs.declared.limit.TheConstants.{MOST_NAMES};
 ghost use Rattle.aut_core.specs.Core.{automaton_of};
-ghost use Rattle.plan_meaning.specs.Changes.{ChangedTo, HasBuiltForm, changes_of, set_operation};
+ghost use Rattle.plan_meaning.specs.Changes.{ChangedTo, changes_of, set_operation};
 ghost use Rattle.plan_meaning.specs.Operands.{AreOperands, IsOfReadSize};
 ghost use Rattle.plan_meaning.specs.Promises.{KeepsPromises};
 ghost use Rattle.plan_meaning.specs.inner.Stepping.{AreInOrder, IsOfSizeAt, IsPossible, Steps, change_of, changes_asked, place_of};
 
 mod combining;
+mod determinising;
 mod disjunctive;
 mod list;
 mod shaping;
@@ -21,12 +22,13 @@ use aut_core::Automaton;
 use combining::{product_or_with, product_with, sum_with};
 use filter_plan::Plan;
 use list::{Change, changes};
+use determinising::complemented;
 use shaping::{bring, complete, hide, trimmed};
 use std::alloc::Global;
 
 /// What a plan makes of an automaton: its product, product-or and sum with the operands of the plan, a proposition
-/// hidden, its reached states alone, its form, and the automaton made complete, in this order. Each is made only where its option stands, and an
-/// automaton that isn't changed isn't copied. Refused where a count of a change passes its limit, before anything behind
+/// hidden, its reached states alone, its complement, its form, and the automaton made complete, in this order. Each is
+/// made only where its option stands, and an automaton that isn't changed isn't copied. Refused where a count of a change passes its limit, before anything behind
 /// that change is looked at.
 pub fn change(
     alloc: Global,
@@ -36,7 +38,6 @@ pub fn change(
 ) -> Result<Automaton, PlanFault>
     requires operands { AreOperands plan.now (map automaton_of operands.now) }
     requires size { IsOfReadSize (automaton_of a) }
-    requires form { HasBuiltForm plan.now.form }
     ensures changed { ChangedTo result (changes_of plan.now (map automaton_of operands.now)) (automaton_of a) }
     ensures says { IfOk result (λ made. SayTheSame (λ u v. Accepts (automaton_of made) u v) (set_operation plan.now (map automaton_of operands.now) (automaton_of a))) }
     ensures promises { IfOk result (λ made. KeepsPromises plan.now (automaton_of made)) }
@@ -76,6 +77,7 @@ fn make(alloc: Global, change: &Change, a: Automaton) -> Result<Automaton, PlanF
         Change::Sum(b) => sum_with(alloc, &a, b),
         Change::RemoveAp(hidden) => hide(alloc, &a, hidden),
         Change::Trim => trimmed(alloc, &a),
+        Change::Complement => complemented(alloc, &a),
         Change::Bring(form) => bring(alloc, *form, a),
         Change::Complete => complete(alloc, a),
     }

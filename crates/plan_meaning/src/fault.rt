@@ -9,6 +9,7 @@ use aut_core::NameFault;
 use aut_ops::PairFault;
 use degeneralise::BuchiFault;
 use monitor_form::MonFault;
+use parity_det::CompFault;
 use unambiguous::SquareFault;
 
 /// Why there is no verdict on an automaton, or nothing is made of it.
@@ -98,6 +99,24 @@ impl From<MonFault> for PlanFault {
             MonFault::Classes => PlanFault::Limit(Limit::Classes),
             MonFault::Subsets => PlanFault::Limit(Limit::Subsets),
             MonFault::Memory => PlanFault::Memory,
+        }
+    }
+}
+
+impl From<CompFault> for PlanFault {
+    ghost use Rattle.std.specs.Prelude.{◌≡◌};
+    ghost use Rattle.plan_meaning.specs.inner.Faults.{fault_of_parity};
+
+    ghost from_gives = { λ came fault. fault ≡ fault_of_parity came };
+
+    fn from(came: CompFault) -> PlanFault {
+        match came {
+            CompFault::Terms => PlanFault::Limit(Limit::Terms),
+            CompFault::BuchiStates => PlanFault::Limit(Limit::BuchiStates),
+            CompFault::Trees => PlanFault::Limit(Limit::Trees),
+            CompFault::Nodes => PlanFault::Limit(Limit::Nodes),
+            CompFault::Classes => PlanFault::Limit(Limit::Classes),
+            CompFault::Memory => PlanFault::Memory,
         }
     }
 }

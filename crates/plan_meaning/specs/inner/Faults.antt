@@ -10,6 +10,8 @@ use Rattle.degeneralise.specs.declared.fault.BuchiFault.{BuchiFault}
 use Rattle.degeneralise.specs.declared.fault.BuchiFault.TheVariants as buchi
 use Rattle.monitor_form.specs.declared.fault.MonFault.{MonFault}
 use Rattle.monitor_form.specs.declared.fault.MonFault.TheVariants as monitor
+use Rattle.parity_det.specs.declared.fault.CompFault.{CompFault}
+use Rattle.parity_det.specs.declared.fault.CompFault.TheVariants as comp
 use Rattle.plan_meaning.specs.declared.fault.PlanFault.{PlanFault}
 use Rattle.plan_meaning.specs.declared.fault.PlanFault.TheVariants as fault
 use Rattle.unambiguous.specs.declared.fault.SquareFault.{SquareFault}
@@ -36,6 +38,14 @@ abbrev pub fault_of_buchi : BuchiFault → PlanFault
 fault_of_buchi buchi.Terms = fault.Limit limit.Terms
 fault_of_buchi buchi.BuchiStates = fault.Limit limit.BuchiStates
 fault_of_buchi buchi.Memory = fault.Memory
+
+abbrev pub fault_of_parity : CompFault → PlanFault
+fault_of_parity comp.Terms = fault.Limit limit.Terms
+fault_of_parity comp.BuchiStates = fault.Limit limit.BuchiStates
+fault_of_parity comp.Trees = fault.Limit limit.Trees
+fault_of_parity comp.Nodes = fault.Limit limit.Nodes
+fault_of_parity comp.Classes = fault.Limit limit.Classes
+fault_of_parity comp.Memory = fault.Memory
 
 abbrev pub fault_of_monitor : MonFault → PlanFault
 fault_of_monitor monitor.Terms = fault.Limit limit.Terms

@@ -1,15 +1,16 @@
 -- What single steps answer, of which each is to make some changes.
-use Rattle.std.specs.Prelude.{◌≡◌, ◌≢◌, ℕ, zero, suc, ◌+◌, ◌-◌, ◌^◌, ◌≤◌, List, [], ◌∷◌, filter_map, Option, IfSome, Result, Ok, Err}
+use Rattle.std.specs.Prelude.{◌≡◌, ◌≢◌, ℕ, zero, suc, ◌+◌, ◌-◌, ◌*◌, ◌^◌, ◌≤◌, List, [], ◌∷◌, filter_map, Option, IfSome, Result, Ok, Err}
 use Rattle.std.specs.Option.{option_map}
 use Rattle.ap_project.specs.Laws.{SayTheSame}
 use Rattle.aut_base.specs.Acceptance.{Accepts}
 use Rattle.aut_base.specs.Automaton.{Automaton}
-use Rattle.aut_base.specs.declared.limit.TheConstants.{MOST_PAIRS, MOST_SETS, MOST_STATES}
+use Rattle.aut_base.specs.declared.limit.TheConstants.{MOST_NODES, MOST_PAIRS, MOST_SETS, MOST_STATES, MOST_TREES}
 use Rattle.aut_core.specs.Core.{Core, automaton_of}
 use Rattle.aut_core.specs.Deterministic.{IsComplete, IsDeterministic}
 use Rattle.filter_plan.specs.declared.plan.Form.{Form}
 use Rattle.filter_plan.specs.declared.plan.Form.TheVariants as form
-use Rattle.plan_meaning.specs.Changes.{Bring, Change, Complete, HasBuiltForm, MakesWithin, Product, ProductOr, RemoveAp, StopsIn, Sum, Trim, said_by_all}
+use Rattle.plan_meaning.specs.Changes.{Bring, Change, Complement, Complete, MakesWithin, Product, ProductOr, RemoveAp, StopsIn, Sum, Trim, said_by_all}
+use Rattle.parity_det.specs.Shapes.{IsParity}
 use Rattle.plan_meaning.specs.Operands.{IsOfReadSize}
 use Rattle.plan_meaning.specs.declared.changing.list.Change as coded
 use Rattle.plan_meaning.specs.declared.changing.list.Change.TheVariants as code
@@ -19,8 +20,8 @@ use Rattle.plan_meaning.specs.declared.fault.PlanFault.TheVariants as fault
 -- what a change promises beside what it makes
 abbrev pub PromisesForm : Form → Automaton → Type 0
 PromisesForm form.AsIs made = Unit {0}
-PromisesForm form.Deterministic made = Unit {0}
-PromisesForm form.Parity made = Unit {0}
+PromisesForm form.Deterministic made = IsDeterministic made
+PromisesForm form.Parity made = IsParity made
 PromisesForm form.Buchi made = Unit {0}
 PromisesForm form.RemoveFin made = Unit {0}
 PromisesForm form.Dnf made = Unit {0}
@@ -32,8 +33,9 @@ Promises (ProductOr b) a made = Unit {0}
 Promises (Sum b) a made = Unit {0}
 Promises (RemoveAp h) a made = Unit {0}
 Promises Trim a made = Unit {0}
+Promises Complement a made = Unit {0}
 Promises (Bring f) a made = PromisesForm f made
-Promises Complete a made = IsComplete made × (IsDeterministic a → IsDeterministic made)
+Promises Complete a made = IsComplete made × (IsDeterministic a → IsDeterministic made) × (IsComplete a → made ≡ a)
 
 -- the changes make this of the automaton, one after the other, and each keeps its promise
 abbrev pub MakesAsPromised : List Change → Automaton → Automaton → Type 0
@@ -59,7 +61,7 @@ pub record IsWithin (most_states most_sets : ℕ) (a : Automaton) : Type 0 where
   pub sets : a.sets ≤ most_sets
 
 -- of what is made by a product of automata that were read, by a product-or of that and one that was read, by a sum of that
--- and one that was read, and by a form of that, beside which there is room for one more of each
+-- and one that was read, by a complement of that, and by a form of that, beside which there is room for one more of each
 abbrev pub IsOfProductSize : Automaton → Type 0
 IsOfProductSize = IsWithin MOST_PAIRS (MOST_SETS + MOST_SETS)
 
@@ -68,6 +70,9 @@ IsOfProductOrSize = IsWithin MOST_PAIRS (MOST_SETS + MOST_SETS + 1 + (MOST_SETS 
 
 abbrev pub IsOfSumSize : Automaton → Type 0
 IsOfSumSize = IsWithin (MOST_PAIRS + MOST_STATES) (MOST_SETS + MOST_SETS + 1 + (MOST_SETS + 1) + MOST_SETS + 1)
+
+abbrev pub IsOfComplementSize : Automaton → Type 0
+IsOfComplementSize = IsWithin (MOST_PAIRS + MOST_STATES + MOST_TREES) (MOST_SETS + MOST_SETS + 1 + (MOST_SETS + 1) + MOST_SETS + 1 + (2 * MOST_NODES + 1))
 
 abbrev pub HasRoom : Automaton → Type 0
 HasRoom = IsWithin (2 ^ 32 - 2) (2 ^ 32 - 2)
@@ -80,6 +85,7 @@ change_of (code.ProductOr b) = ProductOr (automaton_of b.now)
 change_of (code.Sum b) = Sum (automaton_of b.now)
 change_of (code.RemoveAp h) = RemoveAp h.now
 change_of code.Trim = Trim
+change_of code.Complement = Complement
 change_of (code.Bring f) = Bring f
 change_of code.Complete = Complete
 
@@ -94,8 +100,9 @@ place_of (code.ProductOr b) = 1
 place_of (code.Sum b) = 2
 place_of (code.RemoveAp h) = 3
 place_of code.Trim = 4
-place_of (code.Bring f) = 5
-place_of code.Complete = 6
+place_of code.Complement = 5
+place_of (code.Bring f) = 6
+place_of code.Complete = 7
 
 -- what a change takes from a plan can be made
 abbrev pub IsPossible : coded.Change → Type 0
@@ -104,7 +111,8 @@ IsPossible (code.ProductOr b) = IsOfReadSize (automaton_of b.now)
 IsPossible (code.Sum b) = IsOfReadSize (automaton_of b.now)
 IsPossible (code.RemoveAp h) = Unit {0}
 IsPossible code.Trim = Unit {0}
-IsPossible (code.Bring f) = HasBuiltForm f × (f ≢ form.AsIs)
+IsPossible code.Complement = Unit {0}
+IsPossible (code.Bring f) = f ≢ form.AsIs
 IsPossible code.Complete = Unit {0}
 
 -- each change stands at its place, from this one on
@@ -120,5 +128,6 @@ IsOfSizeAt (suc (suc zero)) a = IsOfProductOrSize a
 IsOfSizeAt (suc (suc (suc zero))) a = IsOfSumSize a
 IsOfSizeAt (suc (suc (suc (suc zero)))) a = IsOfSumSize a
 IsOfSizeAt (suc (suc (suc (suc (suc zero))))) a = IsOfSumSize a
-IsOfSizeAt (suc (suc (suc (suc (suc (suc zero)))))) a = HasRoom a
-IsOfSizeAt (suc (suc (suc (suc (suc (suc (suc n))))))) a = IsWithin (2 ^ 32 - 1) (2 ^ 32 - 1) a
+IsOfSizeAt (suc (suc (suc (suc (suc (suc zero)))))) a = IsOfComplementSize a
+IsOfSizeAt (suc (suc (suc (suc (suc (suc (suc zero))))))) a = HasRoom a
+IsOfSizeAt (suc (suc (suc (suc (suc (suc (suc (suc n)))))))) a = IsWithin (2 ^ 32 - 1) (2 ^ 32 - 1) a

@@ -3,7 +3,7 @@
 ghost use Rattle.std.specs.Prelude.{◌≡◌, IfSome, map};
 ghost use Rattle.std.specs.Option.{option_map};
 ghost use Rattle.aut_core.specs.Core.{automaton_of};
-ghost use Rattle.plan_meaning.specs.Changes.{HasBuiltForm, changes_of, form_change};
+ghost use Rattle.plan_meaning.specs.Changes.{changes_of, form_change};
 ghost use Rattle.plan_meaning.specs.Operands.{AreOperands};
 ghost use Rattle.plan_meaning.specs.inner.Stepping.{AreInOrder, IsPossible, change_of, changes_asked, place_of};
 
@@ -19,14 +19,14 @@ pub(crate) enum Change<'a> {
     Sum(&'a Automaton),
     RemoveAp(&'a Hidden),
     Trim,
+    Complement,
     Bring(Form),
     Complete,
 }
 
 /// The changes of a plan, in the order in which they are made, each where its option stands.
-pub(crate) fn changes<'a>(plan: &'a Plan, operands: &'a Automata) -> [Option<Change<'a>>; 7]
+pub(crate) fn changes<'a>(plan: &'a Plan, operands: &'a Automata) -> [Option<Change<'a>>; 8]
     requires operands { AreOperands plan.now (map automaton_of operands.now) }
-    requires form { HasBuiltForm plan.now.form }
     ensures list { changes_asked result ≡ changes_of plan.now (map automaton_of operands.now) }
     ensures order { AreInOrder 0 result }
 {
@@ -36,6 +36,7 @@ pub(crate) fn changes<'a>(plan: &'a Plan, operands: &'a Automata) -> [Option<Cha
         sum_operand(plan, operands).map(Change::Sum),
         plan.remove_ap.as_ref().map(Change::RemoveAp),
         plan.trim.then_some(Change::Trim),
+        plan.complement.then_some(Change::Complement),
         form_change(plan.form),
         plan.complete.then_some(Change::Complete),
     ]
@@ -43,9 +44,8 @@ pub(crate) fn changes<'a>(plan: &'a Plan, operands: &'a Automata) -> [Option<Cha
 
 /// The change into a form, where one is asked for.
 fn form_change<'a>(form: Form) -> Option<Change<'a>>
-    requires { HasBuiltForm form }
     ensures is { option_map change_of result ≡ form_change form }
-    ensures possible { IfSome result (λ change. (place_of change ≡ 5) × IsPossible change) }
+    ensures possible { IfSome result (λ change. (place_of change ≡ 6) × IsPossible change) }
 {
     match form {
         Form::AsIs => None,

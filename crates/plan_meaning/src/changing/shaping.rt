@@ -6,10 +6,11 @@ ghost use Rattle.std.specs.Prelude.{◌-◌, ◌^◌, ◌≡◌, ◌≢◌, [], 
 ghost use Rattle.acc_forms.specs.Atoms.{has_fin};
 ghost use Rattle.aut_core.specs.Core.{automaton_of};
 ghost use Rattle.filter_plan.specs.declared.plan.Form.{Form};
-ghost use Rattle.plan_meaning.specs.Changes.{Bring, Complete, HasBuiltForm, RemoveAp, Trim};
+ghost use Rattle.plan_meaning.specs.Changes.{Bring, Complete, RemoveAp, Trim};
 ghost use Rattle.plan_meaning.specs.Promises.{KeepsForm, KeepsPromises};
-ghost use Rattle.plan_meaning.specs.inner.Stepping.{HasRoom, IsOfSumSize, IsWithin, Steps};
+ghost use Rattle.plan_meaning.specs.inner.Stepping.{HasRoom, IsOfComplementSize, IsOfSumSize, IsWithin, Steps};
 
+use super::determinising::{deterministic, parity_of};
 use super::disjunctive::with_disjuncts;
 use crate::fault::PlanFault;
 use acc_forms::has_fin;
@@ -41,8 +42,7 @@ pub(crate) fn trimmed(alloc: Global, a: &Automaton) -> Result<Automaton, PlanFau
 
 /// The automaton in this form.
 pub(crate) fn bring(alloc: Global, form: Form, a: Automaton) -> Result<Automaton, PlanFault>
-    requires size { IsOfSumSize (automaton_of a) }
-    requires form { HasBuiltForm form }
+    requires size { IsOfComplementSize (automaton_of a) }
     requires asked { form ≢ Form.AsIs }
     ensures steps { Steps (Bring form ∷ []) (automaton_of a) result }
     ensures size { IfOk result (λ made. HasRoom (automaton_of made)) }
@@ -52,8 +52,8 @@ pub(crate) fn bring(alloc: Global, form: Form, a: Automaton) -> Result<Automaton
         Form::Buchi => buchi(alloc, &a),
         Form::RemoveFin => without_fin(alloc, a),
         Form::Dnf => disjunctive(alloc, &a),
-        Form::Deterministic => unreachable!(),
-        Form::Parity => unreachable!(),
+        Form::Deterministic => deterministic(alloc, a),
+        Form::Parity => parity_of(alloc, &a),
         Form::Monitor => monitored(alloc, &a),
     }
 }
@@ -74,7 +74,7 @@ fn monitored(alloc: Global, a: &Automaton) -> Result<Automaton, PlanFault>
 
 /// One without Fin is handed on.
 fn without_fin(alloc: Global, a: Automaton) -> Result<Automaton, PlanFault>
-    requires size { IsOfSumSize (automaton_of a) }
+    requires size { IsOfComplementSize (automaton_of a) }
     ensures steps { Steps (Bring Form.RemoveFin ∷ []) (automaton_of a) result }
     ensures size { IfOk result (λ made. HasRoom (automaton_of made)) }
 {
@@ -85,7 +85,7 @@ fn without_fin(alloc: Global, a: Automaton) -> Result<Automaton, PlanFault>
 }
 
 fn with_copies(alloc: Global, a: &Automaton) -> Result<Automaton, PlanFault>
-    requires size { IsOfSumSize (automaton_of a.now) }
+    requires size { IsOfComplementSize (automaton_of a.now) }
     requires fin { has_fin a.now.formula ≡ true }
     ensures steps { Steps (Bring Form.RemoveFin ∷ []) (automaton_of a.now) result }
     ensures size { IfOk result (λ made. HasRoom (automaton_of made)) }
@@ -94,7 +94,7 @@ fn with_copies(alloc: Global, a: &Automaton) -> Result<Automaton, PlanFault>
 }
 
 fn disjunctive(alloc: Global, a: &Automaton) -> Result<Automaton, PlanFault>
-    requires size { IsOfSumSize (automaton_of a.now) }
+    requires size { IsOfComplementSize (automaton_of a.now) }
     ensures steps { Steps (Bring Form.Dnf ∷ []) (automaton_of a.now) result }
     ensures size { IfOk result (λ made. HasRoom (automaton_of made)) }
 {
@@ -119,5 +119,6 @@ fn completed(alloc: Global, a: &Automaton) -> Result<Automaton, PlanFault>
     ensures steps { Steps (Complete ∷ []) (automaton_of a.now) result }
     ensures size { IfOk result (λ made. IsWithin (2 ^ 32 - 1) (2 ^ 32 - 1) (automaton_of made)) }
 {
+    a.whole();
     Ok(aut_ops::complete(alloc, a)?)
 }

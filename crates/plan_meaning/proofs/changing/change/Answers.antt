@@ -10,7 +10,7 @@ pub returns-clause-promises : goal.returns-clause-promises
 returns-clause-promises c =
     let a = automaton_of c.args.a in
     let made = automaton_of c.in_ok-made.made in
-    promises_kept c.args.plan.now (map automaton_of c.args.operands.now) a made c.requires.form (subst (λ (cs : List Change). MakesAsPromised cs a made) c.changes.ensures.list c.in_ok-made.ensures.steps.all)
+    promises_kept c.args.plan.now (map automaton_of c.args.operands.now) a made (subst (λ (cs : List Change). MakesAsPromised cs a made) c.changes.ensures.list c.in_ok-made.ensures.steps.all)
 
 pub returns-clause-changed : goal.returns-clause-changed
 returns-clause-changed c =

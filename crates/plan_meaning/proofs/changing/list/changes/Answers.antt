@@ -15,9 +15,10 @@ returns-clause-list c =
     let sum = by_option change_of (λ x. automaton_of x.now) code.Sum Sum (λ x. refl) c.sum_operand.result _ c.map-3.result c.map-3.ensures.cases c.sum_operand.ensures.is in
     let trim = by_flag change_of p.trim code.Trim c.then_some.result c.then_some.ensures in
     let hidden = by_option change_of (λ x. x.now) code.RemoveAp RemoveAp (λ x. refl) c.as_ref.result p.remove_ap c.map-4.result c.map-4.ensures.cases c.as_ref.ensures.value in
-    let complete = by_flag change_of p.complete code.Complete c.then_some-2.result c.then_some-2.ensures in
-    same_standing change_of (c.map.result ∷ c.map-2.result ∷ c.map-3.result ∷ c.map-4.result ∷ c.then_some.result ∷ c.form_change.result ∷ c.then_some-2.result ∷ []) (change_options p (map automaton_of c.args.operands.now))
-    (λ i. product i ∷ product_or i ∷ sum i ∷ hidden i ∷ trim i ∷ c.form_change.ensures.is i ∷ complete i ∷ [])
+    let complement = by_flag change_of p.complement code.Complement c.then_some-2.result c.then_some-2.ensures in
+    let complete = by_flag change_of p.complete code.Complete c.then_some-3.result c.then_some-3.ensures in
+    same_standing change_of (c.map.result ∷ c.map-2.result ∷ c.map-3.result ∷ c.map-4.result ∷ c.then_some.result ∷ c.then_some-2.result ∷ c.form_change.result ∷ c.then_some-3.result ∷ []) (change_options p (map automaton_of c.args.operands.now))
+    (λ i. product i ∷ product_or i ∷ sum i ∷ hidden i ∷ trim i ∷ complement i ∷ c.form_change.ensures.is i ∷ complete i ∷ [])
 
 pub returns-clause-order : goal.returns-clause-order
 returns-clause-order c =
@@ -27,5 +28,6 @@ returns-clause-order c =
     let sum = of_option (λ x. IsOfReadSize (automaton_of x.now)) (λ y. (place_of y ≡ 2) × IsPossible y) code.Sum (λ x h. (refl, h)) c.sum_operand.result c.map-3.result c.map-3.ensures.cases c.sum_operand.ensures.sized in
     let hidden = of_any (λ y. (place_of y ≡ 3) × IsPossible y) code.RemoveAp (λ x. (refl, tt)) c.as_ref.result c.map-4.result c.map-4.ensures.cases in
     let trim = of_flag (λ y. (place_of y ≡ 4) × IsPossible y) p.trim code.Trim c.then_some.result c.then_some.ensures (refl, tt) in
-    let complete = of_flag (λ y. (place_of y ≡ 6) × IsPossible y) p.complete code.Complete c.then_some-2.result c.then_some-2.ensures (refl, tt) in
-    (product, (product_or, (sum, (hidden, (trim, (c.form_change.ensures.possible, (complete, tt)))))))
+    let complement = of_flag (λ y. (place_of y ≡ 5) × IsPossible y) p.complement code.Complement c.then_some-2.result c.then_some-2.ensures (refl, tt) in
+    let complete = of_flag (λ y. (place_of y ≡ 7) × IsPossible y) p.complete code.Complete c.then_some-3.result c.then_some-3.ensures (refl, tt) in
+    (product, (product_or, (sum, (hidden, (trim, (complement, (c.form_change.ensures.possible, (complete, tt))))))))

@@ -1,0 +1,70 @@
+-- What is made of an automaton by determinisation: parity automata, deterministic ones, and complements.
+use Rattle.std.proofs.Common.{◌≡◌, ◌+◌, ◌*◌, ◌<◌, ◌≤◌, List, [], ◌∷◌, Err, inl, inr, refl}
+use Rattle.aut_base.specs.Acceptance.{Accepts}
+use Rattle.aut_base.specs.Automaton.{Automaton}
+use Rattle.aut_base.specs.declared.limit.Limit.{Limit}
+use Rattle.aut_base.specs.declared.limit.Limit.TheVariants as limit
+use Rattle.aut_core.specs.Deterministic.{IsDeterministic}
+use Rattle.aut_core.specs.OtherNames.{AcceptTheSame}
+use Rattle.filter_plan.specs.declared.plan.Form.TheVariants as form
+use Rattle.parity_det.specs.Complements as det
+use Rattle.parity_det.specs.Complements.{IsComplementOf, IsParityRefusal, IsRefusal, IsWithinParity}
+use Rattle.parity_det.specs.Determinisation.{IsParityOf}
+use Rattle.parity_det.specs.Shapes.{IsParity}
+use Rattle.parity_det.specs.declared.fault.CompFault.{CompFault}
+use Rattle.parity_det.specs.declared.fault.CompFault.TheVariants as comp
+use Rattle.parity_laws.specs.Complement.{AreComplements}
+use Rattle.plan_meaning.proofs.Stepping.{changed_once}
+use Rattle.plan_meaning.specs.Changes.{Bring, Complement, PassesParity}
+use Rattle.plan_meaning.specs.inner.Faults.{fault_of_parity}
+use Rattle.plan_meaning.specs.inner.Stepping.{IsMade, Steps}
+
+module _ (a : Automaton) where
+  within : IsWithinParity a → (which : Limit) → PassesParity which a → ⊥
+  within none limit.Terms h = none comp.Terms h
+  within none limit.BuchiStates h = none comp.BuchiStates h
+  within none limit.Trees h = none comp.Trees h
+  within none limit.Nodes h = none comp.Nodes h
+  within none limit.Classes h = none comp.Classes h
+  within none _ h = h
+
+  pub parity_made : (made : Automaton) → IsWithinParity a → IsParityOf a made → IsParity made → AcceptTheSame made a → IsMade (Bring form.Parity ∷ []) a made
+  parity_made made none is parity accepts = changed_once (Bring form.Parity) a made (within none) is parity accepts
+
+  pub deterministic_made : (made : Automaton) → (IsDeterministic a → ⊥) → IsWithinParity a → IsParityOf a made → IsParity made → AcceptTheSame made a → IsMade (Bring form.Deterministic ∷ []) a made
+  deterministic_made made other none is parity accepts =
+      changed_once (Bring form.Deterministic) a made (λ which h. within none which h.1) (inr (other, is)) parity.deterministic accepts
+
+  pub deterministic_itself : IsDeterministic a → IsMade (Bring form.Deterministic ∷ []) a a
+  deterministic_itself is = changed_once (Bring form.Deterministic) a a (λ which h. h.0 is) (inl (is, refl)) is (λ u v. ((λ x. x), (λ x. x)))
+
+  pub complement_made : (made : Automaton) → ((IsDeterministic a → ⊥) → IsWithinParity a) → IsComplementOf a made → AreComplements a made → IsMade (Complement ∷ []) a made
+  complement_made made none is complements = record {
+    all = (made, record { within = λ which h. within (none h.0) which h.1; makes = is }, tt, refl);
+    says = λ u v some. complements.exactly u v some;
+  }
+
+  -- what a refusal says
+  pub parity_refused : (f : CompFault) → IsParityRefusal a f → Steps (Bring form.Parity ∷ []) a (Err (fault_of_parity f))
+  parity_refused comp.Terms h = inl h
+  parity_refused comp.BuchiStates h = inl h
+  parity_refused comp.Trees h = inl h
+  parity_refused comp.Nodes h = inl h
+  parity_refused comp.Classes h = inl h
+  parity_refused comp.Memory h = tt
+
+  pub deterministic_refused : (f : CompFault) → (IsDeterministic a → ⊥) → IsParityRefusal a f → Steps (Bring form.Deterministic ∷ []) a (Err (fault_of_parity f))
+  deterministic_refused comp.Terms other h = inl (other, h)
+  deterministic_refused comp.BuchiStates other h = inl (other, h)
+  deterministic_refused comp.Trees other h = inl (other, h)
+  deterministic_refused comp.Nodes other h = inl (other, h)
+  deterministic_refused comp.Classes other h = inl (other, h)
+  deterministic_refused comp.Memory other h = tt
+
+  pub complement_refused : (f : CompFault) → IsRefusal a f → Steps (Complement ∷ []) a (Err (fault_of_parity f))
+  complement_refused comp.Terms h = inl h
+  complement_refused comp.BuchiStates h = inl h
+  complement_refused comp.Trees h = inl h
+  complement_refused comp.Nodes h = inl h
+  complement_refused comp.Classes h = inl h
+  complement_refused comp.Memory h = tt

@@ -1,0 +1,8 @@
+use Rattle.aut_core.specs.Core.{automaton_of}
+use Rattle.plan_meaning.proofs.Determinised.{deterministic_made}
+use Rattle.plan_meaning.proofs.changing.determinising.determinised.Goals as goal
+
+pub returns-clause-steps : goal.returns-clause-steps
+returns-clause-steps c =
+    let r = c.in_ok-parity in
+    deterministic_made (automaton_of c.args.a.now) (automaton_of r.field-0) c.requires r.ensures.within r.ensures.shape r.ensures.parity r.ensures.accepts
