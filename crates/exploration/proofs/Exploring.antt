@@ -27,19 +27,20 @@ module _ {X C N : Type 0} (told : X → ℕ → N → Type 0) (same : X → X �
     pub comes : Comes r (begin start) (Goes (stage_of xs es total done hand))
 
   pub exploring_none : (xs : List X) (es : List (Edge C N)) → f start → 0 < l.things → xs ≡ start ∷ [] → es ≡ [] → IsExploring m f is 0 0 xs es
-  exploring_none xs es fit room one none = subst (λ (ys : List X). IsExploring m f is 0 0 ys es) (sym one) (subst (λ (ds : List (Edge C N)). IsExploring m f is 0 0 (start ∷ []) ds) (sym none) (record {
-    keeps = keeps_none m f is;
-    sound = record {
-      each = λ k d less. subst f (only k d less) fit;
-      few = omega (arith, room);
-      classed = λ k d less. absurd (omega (arith, less));
-    };
-    within = omega arith;
-    few = omega arith;
-    hand = None;
-    idle = refl;
-    comes = comes_none r (begin start);
-  }))
+  exploring_none xs es fit room one none = subst (λ (ys : List X). IsExploring m f is 0 0 ys es) (sym one)
+      (subst (λ (ds : List (Edge C N)). IsExploring m f is 0 0 (start ∷ []) ds) (sym none) (record {
+        keeps = keeps_none m f is;
+        sound = record {
+          each = λ k d less. subst f (only k d less) fit;
+          few = omega (arith, room);
+          classed = λ k d less. absurd (omega (arith, less));
+        };
+        within = omega arith;
+        few = omega arith;
+        hand = None;
+        idle = refl;
+        comes = comes_none r (begin start);
+      }))
     where
       only : (k : ℕ) (d : X) → k < length (start ∷ []) → start ≡ get_or (start ∷ []) k d
       only zero d less = refl
@@ -82,7 +83,8 @@ module _ {X C N : Type 0} (told : X → ℕ → N → Type 0) (same : X → X �
         ]
 
         pub exploring_more : (m2 : Moves X) (f2 : X → Type 0) (is2 : X → ℕ → C → Type 0) (n : ℕ) (xs' : List X) (es' : List (Edge C N)) → Keeps m1 m2 f1 f2 is1 is2 → n ≡ m'.count x
-            → Spreads (rules_of same m1 l) done 0 n xs es xs' es' → IsSound f2 is2 told l.things xs' es' → done < length xs → length xs ≤ length xs' → IsExploring m2 f2 is2 (done + 1) (total + n) xs' es'
+            → Spreads (rules_of same m1 l) done 0 n xs es xs' es' → IsSound f2 is2 told l.things xs' es' → done < length xs → length xs ≤ length xs'
+            → IsExploring m2 f2 is2 (done + 1) (total + n) xs' es'
         exploring_more m2 f2 is2 n xs' es' keeps2 size spreads sound inside longer =
             let now : m'.count x ≡ m.count x = ap (λ (w : Moves X). w.count x) so.keeps.moves in
             let all : n ≡ m.count x = size ∙ now in

@@ -12,7 +12,8 @@ pub err_is : {T : Type 0} (P : Fault → Type 0) (r : Result T Fault) (came : Fa
 err_is P (Ok x) came e p = tt
 err_is P (Err y) came e p = subst P (sym e) p
 
-pub step_met : {T X : Type 0} (N : Type 0) (seen : T → X) (P : Fault → Type 0) (move : Move X) (came : StepFault) → IsStep {N = N} seen move (Err came) → (move ≡ Fails → P fault.Nodes) → P fault.Memory → P (step_fault came)
+pub step_met : {T X : Type 0} (N : Type 0) (seen : T → X) (P : Fault → Type 0) (move : Move X) (came : StepFault) → IsStep {N = N} seen move (Err came)
+    → (move ≡ Fails → P fault.Nodes) → P fault.Memory → P (step_fault came)
 step_met N seen P move step.Nodes is fails memory = fails is
 step_met N seen P move step.Memory is fails memory = memory
 

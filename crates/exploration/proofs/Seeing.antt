@@ -26,7 +26,9 @@ past_seen seen xs n past = omega (arith, past, length-map xs seen)
 -- the same of a list that goes on another
 pub read_longer : {T X : Type 0} (seen : T → X) (copy xs ys : List T) (i : ℕ) (x : T) → Longer (map seen xs) (map seen ys) → i < length xs → copy ≡ ys → x ≡ get_or copy i x
     → slice_get (map seen ys) i ≡ Some (seen x)
-read_longer seen copy xs ys i x longer within same e = read_seen seen copy ys i x same (omega (arith, within, longer_length (map seen xs) (map seen ys) longer, length-map xs seen, length-map ys seen)) e
+read_longer seen copy xs ys i x longer within same e =
+    let far = longer_length (map seen xs) (map seen ys) longer in
+    read_seen seen copy ys i x same (omega (arith, within, far, length-map xs seen, length-map ys seen)) e
 
 module _ {T X : Type 0} (eq : T → T → Bool) (same : X → X → Bool) (seen : T → X) (tells : (a b : T) → (eq a b ≡ true) ↔ (seen a ≡ seen b)) (same_tells : (x y : X) → (same x y ≡ true) ↔ (x ≡ y)) where
   tests_alike : (y : T) → eq y ≡ λ z. same (seen y) (seen z)

@@ -10,8 +10,8 @@ pub(crate) struct Number {
     pub(crate) n: u32,
 }
 
-/// Numbers below 7, each of which leads to its double and one more modulo 7. A step fails above the bound. A class is a
-/// place in a list that grows, as a guard is in a store.
+/// Numbers below 7, each of which leads to its double and one more modulo 7, and notes whether 7 was taken off. A step fails
+/// above the bound. A class is a place in a list that grows, as a guard is in a store.
 #[derive(Drop)]
 pub(crate) struct Doubling {
     pub(crate) bound: u32,
@@ -19,12 +19,20 @@ pub(crate) struct Doubling {
 }
 
 impl System for Doubling {
-    ghost use Rattle.std.specs.Prelude.{◌≡◌, ◌<◌, ℕ, Some, slice_get};
-    ghost use Rattle.exploration_rows.specs.Systems.{doubling_moves, number_tells};
+    ghost use Rattle.std.specs.Prelude.{◌≡◌, ◌+◌, ◌*◌, ◌<◌, ℕ, Some, leb, nat_eq, slice_get};
+    ghost use Rattle.exploration_rows.specs.Systems.{doubling_moves, number_tells, same_numbers};
 
     type Thing = Number;
 
     type Class = usize;
+
+    type Note = bool;
+
+    ghost Seen = { ℕ };
+
+    ghost seen = { λ x. x.n };
+
+    ghost same = { nat_eq };
 
     ghost Frame = { ℕ };
 
@@ -32,11 +40,15 @@ impl System for Doubling {
 
     ghost moves = { λ s. doubling_moves s.bound };
 
-    ghost fits = { λ s x. x.n < 7 };
+    ghost fits = { λ s n. n < 7 };
 
-    ghost is_class = { λ s x k c. slice_get s.made c ≡ Some k };
+    ghost is_class = { λ s n k c. slice_get s.made c ≡ Some k };
+
+    ghost is_note = { λ _ n k taken. taken ≡ leb 7 (2 * n + k) };
 
     ghost tells = { number_tells };
+
+    ghost same_tells = { same_numbers };
 
     fn classes(
         &mut self,
@@ -61,11 +73,12 @@ impl System for Doubling {
         thing: &Number,
         _number: u32,
         class: usize,
-    ) -> Result<Option<Number>, StepFault> {
-        let n = (2 * thing.n + *self.made.at(class)) % 7;
+    ) -> Result<Option<(Number, bool)>, StepFault> {
+        let sum = 2 * thing.n + *self.made.at(class);
+        let n = sum % 7;
         if n > self.bound {
             return Err(StepFault::Nodes);
         }
-        Ok(Some(Number { n }))
+        Ok(Some((Number { n }, sum >= 7)))
     }
 }

@@ -87,7 +87,9 @@ fn rising_outcome(alloc: Global, limits: Limits) -> Result<Outcome, Memory>
     Ok(outcome_of(explore(alloc, &mut system, start, limits)))
 }
 
-fn outcome_of<T: Eq + Hash + Drop, C: Copy>(found: Result<Explored<T, C>, Fault>) -> Outcome {
+fn outcome_of<T: Eq + Hash + Drop, C: Copy, N: Copy>(
+    found: Result<Explored<T, C, N>, Fault>,
+) -> Outcome {
     match found {
         Ok(found) => Outcome::Found {
             things: found.things.len(),

@@ -13,12 +13,21 @@ pub(crate) struct Rising {
 }
 
 impl System for Rising {
-    ghost use Rattle.std.specs.Prelude.{◌≡◌, ⊤};
-    ghost use Rattle.exploration_rows.specs.Systems.{list_tells, rising_moves};
+    ghost use Rattle.std.specs.Prelude.{◌≡◌, ℕ, List, nat_eq, ⊤};
+    ghost use Rattle.std.specs.Cmp.Lexicographic.{bytes_decides, pointwise};
+    ghost use Rattle.exploration_rows.specs.Systems.{rising_moves};
 
     type Thing = Numbers;
 
     type Class = u32;
+
+    type Note = ();
+
+    ghost Seen = { List ℕ };
+
+    ghost seen = { λ xs. xs };
+
+    ghost same = { pointwise nat_eq };
 
     ghost Frame = { ⊤ };
 
@@ -30,7 +39,11 @@ impl System for Rising {
 
     ghost is_class = { λ _ _ k c. c ≡ k };
 
-    ghost tells = { list_tells };
+    ghost is_note = { λ _ _ _ _. ⊤ };
+
+    ghost tells = { bytes_decides };
+
+    ghost same_tells = { bytes_decides };
 
     fn classes(
         &mut self,
@@ -54,11 +67,11 @@ impl System for Rising {
         thing: &Numbers,
         _number: u32,
         class: u32,
-    ) -> Result<Option<Numbers>, StepFault> {
+    ) -> Result<Option<(Numbers, ())>, StepFault> {
         self.steps = self.steps.saturating_add(1);
         match above(alloc, thing.as_slice(), class) {
             Ok(left) if left.is_empty() => Ok(None),
-            Ok(left) => Ok(Some(left)),
+            Ok(left) => Ok(Some((left, ()))),
             Err(Memory) => Err(StepFault::Memory),
         }
     }

@@ -8,7 +8,7 @@ use Rattle.std.proofs.lemmas.Simd.{map-map}
 use Rattle.std.specs.Cmp.Lexicographic.{pointwise}
 use Rattle.std.specs.List.{list_any, range_with_len}
 use Rattle.std.specs.List.Sorted.{IsNonDecreasing}
-use Rattle.std.specs.Prelude.{nat_eq}
+use Rattle.std.specs.Prelude.{⊤, nat_eq}
 use Rattle.aut_base.proofs.Members.{each_there, from_filter, from_range, there_at, there_map}
 use Rattle.aut_base.specs.Automaton.{Automaton}
 use Rattle.aut_base.specs.Formula.{FormulaTree}
@@ -96,12 +96,12 @@ module _ (b : Core) (core : IsCore b) (s : Store) (keeps : Keeps b.store s) wher
       no_place [] e = refl
       no_place (q ∷ ss) e = absurd (omega (arith, e))
 
-  module _ (sets : List (List ℕ)) (edges : List (Edge Guard)) (is : IsExplored (pointwise nat_eq) (subset_moves (automaton_of b)) (start_set (automaton_of b)) sets (map arrow_of edges))
-      (sound : IsSound (FitsStore b s) (IsClassGuard b s) MOST_SUBSETS sets edges) where
-    classed : (e : Edge Guard) → Contains edges e → IsClassed (IsClassGuard b s) sets e
-    classed e there = All-contains (IsClassed (IsClassGuard b s) sets) edges e sound.classed there
+  module _ (sets : List (List ℕ)) (edges : List (Edge Guard ⊤)) (is : IsExplored (pointwise nat_eq) (subset_moves (automaton_of b)) (start_set (automaton_of b)) sets (map arrow_of edges))
+      (sound : IsSound (FitsStore b s) (IsClassGuard b s) (λ _ _ _. ⊤) MOST_SUBSETS sets edges) where
+    classed : (e : Edge Guard ⊤) → Contains edges e → IsClassed (IsClassGuard b s) (λ _ _ _. ⊤) sets e
+    classed e there = All-contains (IsClassed (IsClassGuard b s) (λ _ _ _. ⊤) sets) edges e sound.classed there
 
-    edge_is : (e : Edge Guard) → Contains edges e → edge_of s (link_of e) ≡ monitor_edge (automaton_of b) sets (arrow_of e)
+    edge_is : (e : Edge Guard ⊤) → Contains edges e → edge_of s (link_of e) ≡ monitor_edge (automaton_of b) sets (arrow_of e)
     edge_is e there =
         let c = classed e there in
         let g = c.class in
@@ -121,14 +121,14 @@ module _ (b : Core) (core : IsCore b) (s : Store) (keeps : Keeps b.store s) wher
     some_set : 0 < length sets
     some_set = slice_get_within sets 0 (start_set (automaton_of b)) is.first
 
-    link_is : (e : Edge Guard) → Contains edges e → IsLinkOf (made (length sets) (map link_of edges) (0 ∷ [])) (link_of e)
+    link_is : (e : Edge Guard ⊤) → Contains edges e → IsLinkOf (made (length sets) (map link_of edges) (0 ∷ [])) (link_of e)
     link_is e there =
         let c = classed e there in
         let g = c.class in
         let to = ends e there in
         record { from = slice_get_within sets e.from c.thing c.at; guard = g.has; to = to; marks = λ k d within. absurd (omega (arith, within)) }
       where
-        ends : (e : Edge Guard) → Contains edges e → e.to < length sets
+        ends : (e : Edge Guard ⊤) → Contains edges e → e.to < length sets
         ends e there = arrow_ends (arrow_of e) (there_map arrow_of edges e there)
           where
             arrow_ends : (a : Arrow) → Contains (map arrow_of edges) a → a.to < length sets

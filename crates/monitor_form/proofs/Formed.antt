@@ -25,10 +25,9 @@ use Rattle.label_guards.specs.ClassLeasts.{are_alike}
 use Rattle.monitor_form.specs.Monitors.{HasEdge, IsGoal, IsMonitorOf, IsMove, first_places, set_at}
 use Rattle.monitor_form.specs.Subsets.{class_label, goals, is_goal, monitor_edge, monitor_on, set_classes, set_edges, set_labels, start_set, step_at, subset_moves, subset_rules, unless_empty}
 use Rattle.exploration.proofs.Ends.{explored}
-use Rattle.std.specs.Cmp.Lexicographic.{pointwise}
+use Rattle.std.specs.Cmp.Lexicographic.{bytes_decides, pointwise}
 use Rattle.std.specs.Prelude.{nat_eq}
 use Rattle.aut_base.proofs.AllPairsOf.{pairs_map}
-use Rattle.monitor_form.specs.Sets.{same_set}
 use Rattle.monitor_form.specs.Subsets.{IsExploredFrom, IsSubsetForm}
 
 -- steps that give a set
@@ -229,13 +228,10 @@ module _ (b : Automaton) (formed : IsWellFormed b) where
           (arrows_rise (subset_moves b) (pointwise nat_eq) (start_set b) sets arrows is i j d less within));
     }
 
-itself : (a : List ℕ) → pointwise nat_eq a a ≡ true
-itself [] = refl
-itself (x ∷ xs) = and_from (nat_eq x x) (pointwise nat_eq xs xs) (eq-eqb x x refl) (itself xs)
-
 pub explored_sets : (b : Automaton) (sets : List (List ℕ)) (arrows : List Arrow) → EndsWith (subset_rules b) (start_set b) sets arrows
     → IsExplored (pointwise nat_eq) (subset_moves b) (start_set b) sets arrows
-explored_sets b sets arrows e = explored (subset_rules b) same_set itself (start_set b) (record { things = sets; sum = e.sum; next = e.next; hand = e.hand; arrows = arrows }) e.ends
+explored_sets b sets arrows e = explored (subset_rules b) (λ x y. (bytes_decides x y).0) (λ x. (bytes_decides x x).1 refl) (start_set b)
+    (record { things = sets; sum = e.sum; next = e.next; hand = e.hand; arrows = arrows }) e.ends
 
 no_states : (b : Automaton) → b.starts ≡ [] → IsMonitorOf b (monitor_on [] [] b) []
 no_states b none = record {

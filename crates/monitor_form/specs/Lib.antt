@@ -1,6 +1,5 @@
 pub mod Faults
 pub mod Monitors
 pub mod Prefixes
-pub mod Sets
 pub mod Subsets
 pub mod Systems

@@ -1,5 +1,5 @@
 -- What the functions of the construction say to one another.
-use Rattle.std.specs.Prelude.{◌≡◌, ◌<◌, ◌||◌, ℕ, Bool, false, List, [], Some, All, length, slice_get}
+use Rattle.std.specs.Prelude.{◌≡◌, ◌<◌, ◌||◌, ℕ, ⊤, Bool, false, List, [], Some, All, length, slice_get}
 use Rattle.std.specs.List.{range_with_len, slice_index_or}
 use Rattle.std.specs.Prelude.{filter}
 use Rattle.aut_base.specs.Automaton.{Automaton, TreeEdge}
@@ -34,6 +34,6 @@ letter_goals b set x = filter (is_goal (is_met b.names x) (set_edges b set)) (ra
 abbrev pub AreRaised : Automaton → NameSet → List TreeEdge → List Bool → List Bool → Type 0
 AreRaised b x es old new = (q : ℕ) → q < length old → slice_index_or new q false ≡ (slice_index_or old q false || is_goal (is_met b.names x) es q)
 
--- the link of an edge that was found
-abbrev pub link_of : Edge Guard → Link
+-- the link of an edge that was found, whose note tells nothing
+abbrev pub link_of : Edge Guard ⊤ → Link
 link_of e = record { from = e.from; guard = e.class; to = e.to; marks = [] }

@@ -1,6 +1,6 @@
 //! The monitor of an automaton.
 
-ghost use Rattle.std.specs.Prelude.{◌≡◌, ◌<◌, ◌≤◌, [], Err, IfOk, OnOk, length, map, nat_eq};
+ghost use Rattle.std.specs.Prelude.{◌≡◌, ◌<◌, ◌≤◌, ⊤, [], Err, IfOk, OnOk, length, map, nat_eq};
 ghost use Rattle.std.specs.Cmp.Lexicographic.{pointwise};
 ghost use Rattle.aut_base.specs.Formula.{FormulaTree};
 ghost use Rattle.aut_base.specs.declared.limit.TheConstants.{MOST_BUCHI_STATES, MOST_SUBSETS};
@@ -109,12 +109,12 @@ fn built(
     alloc: Global,
     b: &Automaton,
     guards: Guards,
-    found: &Explored<Numbers, Guard>,
+    found: &Explored<Numbers, Guard, ()>,
 ) -> Result<Automaton, Memory>
     requires some { 0 < length b.now.starts }
     requires keeps { Keeps b.now.store guards }
     requires explored { IsExplored (pointwise nat_eq) (subset_moves (automaton_of b.now)) (start_set (automaton_of b.now)) found.now.things.keys (map arrow_of found.now.edges.items) }
-    requires sound { IsSound (FitsStore b.now guards) (IsClassGuard b.now guards) MOST_SUBSETS found.now.things.keys found.now.edges.items }
+    requires sound { IsSound (FitsStore b.now guards) (IsClassGuard b.now guards) (λ _ _ _. ⊤) MOST_SUBSETS found.now.things.keys found.now.edges.items }
     ensures { IfOk result (λ made. automaton_of made ≡ monitor_on found.now.things.keys (map arrow_of found.now.edges.items) (automaton_of b.now)) }
 {
     b.whole();
@@ -135,7 +135,7 @@ fn built(
 }
 
 /// The links of the edges that were found.
-fn links_of(alloc: Global, edges: &[Edge<Guard>]) -> Result<Links, Memory>
+fn links_of(alloc: Global, edges: &[Edge<Guard, ()>]) -> Result<Links, Memory>
     ensures { IfOk result (λ links. links ≡ map link_of edges.now) }
 {
     let mut links = Links::new(alloc);

@@ -18,14 +18,23 @@ pub(crate) struct Subsets<'a> {
 }
 
 impl<'a> System for Subsets<'a> {
+    ghost use Rattle.std.specs.Prelude.{ℕ, List, nat_eq, ⊤};
+    ghost use Rattle.std.specs.Cmp.Lexicographic.{bytes_decides, pointwise};
     ghost use Rattle.aut_core.specs.Core.{Core, automaton_of};
-    ghost use Rattle.monitor_form.specs.Sets.{same_set};
     ghost use Rattle.monitor_form.specs.Subsets.{subset_moves};
     ghost use Rattle.monitor_form.specs.Systems.{FitsStore, IsClassGuard};
 
     type Thing = Numbers;
 
     type Class = Guard;
+
+    type Note = ();
+
+    ghost Seen = { List ℕ };
+
+    ghost seen = { λ set. set };
+
+    ghost same = { pointwise nat_eq };
 
     ghost Frame = { Core };
 
@@ -37,7 +46,11 @@ impl<'a> System for Subsets<'a> {
 
     ghost is_class = { λ s set k g. IsClassGuard s.automaton.now s.guards set k g };
 
-    ghost tells = { same_set };
+    ghost is_note = { λ _ _ _ _. ⊤ };
+
+    ghost tells = { bytes_decides };
+
+    ghost same_tells = { bytes_decides };
 
     fn classes(
         &mut self,
@@ -59,7 +72,7 @@ impl<'a> System for Subsets<'a> {
         thing: &Numbers,
         _number: u32,
         class: Guard,
-    ) -> Result<Option<Numbers>, StepFault> {
+    ) -> Result<Option<(Numbers, ())>, StepFault> {
         self.automaton.whole();
         let Some(letter) = self.guards.pick(alloc, self.automaton.names(), class)? else {
             unreachable!()
@@ -68,6 +81,6 @@ impl<'a> System for Subsets<'a> {
         if goals.is_empty() {
             return Ok(None);
         }
-        Ok(Some(goals))
+        Ok(Some((goals, ())))
     }
 }

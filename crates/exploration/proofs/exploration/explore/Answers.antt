@@ -30,8 +30,8 @@ spread-requires-clause-classes g c =
     let here = read_seen seen c.as_slice.result.now c.things.found.things.keys c.things.done x c.as_slice.ensures.keys within c.index-as_slice-done.is in
     let are = subst (λ (o : Option _). MatchOption o (c.args.limits.classes - c.things.sum < (g.S.System.moves c.things.system).count (seen x))
     (λ cs. AreClasses (g.S.System.is_class c.classes.new.self (seen x)) ((g.S.System.moves c.things.system).count (seen x)) cs.items)) c.in-Some.is c.in_ok-classes.ensures.classes in
-    classes_there (g.S.System.moves c.things.system) (g.S.System.moves c.classes.new.self) _ (map seen c.things.found.things.keys) c.things.done (seen x) c.in-Some.classes.items c.as_slice-in-things.result.now
-    c.in_ok-classes.ensures.keeps.moves here c.as_slice-in-things.ensures.value are
+    classes_there (g.S.System.moves c.things.system) (g.S.System.moves c.classes.new.self) _ (map seen c.things.found.things.keys) c.things.done (seen x) c.in-Some.classes.items
+    c.as_slice-in-things.result.now c.in_ok-classes.ensures.keeps.moves here c.as_slice-in-things.ensures.value are
 
 pub spread-requires-clause-sound : goal.spread-requires-clause-sound
 spread-requires-clause-sound g c =
@@ -47,7 +47,8 @@ returns-in_err-spread-clause-meets g c =
     let x = c.index-as_slice-done.result in
     let within : c.things.done < length c.things.found.things.keys = omega (arith, c.things-test.true, c.len.ensures.len) in
     let here = read_seen seen c.as_slice.result.now c.things.found.things.keys c.things.done x c.as_slice.ensures.keys within c.index-as_slice-done.is in
-    let few = subst (λ (o : Option _). MatchOption o (Unit {0}) (λ cs. (g.S.System.moves c.things.system).count (seen x) ≤ c.args.limits.classes - c.things.sum)) c.in-Some.is c.in_ok-classes.ensures.few in
+    let few = subst (λ (o : Option _). MatchOption o (Unit {0}) (λ cs. (g.S.System.moves c.things.system).count (seen x) ≤ c.args.limits.classes - c.things.sum)) c.in-Some.is
+    c.in_ok-classes.ensures.few in
     err_is (IsMet (rules_of g.S.System.same (g.S.System.moves c.args.system.now) c.args.limits) (begin (g.S.System.seen c.args.start))) c.from_residual-in_err-spread.result _
     c.from_residual-in_err-spread.ensures.1
     (exploring_met _ _ _ _ _ _ _ _ _ _ c.things.done c.things.sum _ _ c.things.invariant.exploring (seen x) here (g.S.System.moves c.classes.new.self) _ _ c.in_ok-classes.ensures.keeps few _
@@ -59,7 +60,8 @@ things-preserved g c =
     let x = c.index-as_slice-done.result in
     let within : c.things.done < length c.things.found.things.keys = omega (arith, c.things-test.true, c.len.ensures.len) in
     let here = read_seen seen c.as_slice.result.now c.things.found.things.keys c.things.done x c.as_slice.ensures.keys within c.index-as_slice-done.is in
-    let few = subst (λ (o : Option _). MatchOption o (Unit {0}) (λ cs. (g.S.System.moves c.things.system).count (seen x) ≤ c.args.limits.classes - c.things.sum)) c.in-Some.is c.in_ok-classes.ensures.few in
+    let few = subst (λ (o : Option _). MatchOption o (Unit {0}) (λ cs. (g.S.System.moves c.things.system).count (seen x) ≤ c.args.limits.classes - c.things.sum)) c.in-Some.is
+    c.in_ok-classes.ensures.few in
     let are = subst (λ (o : Option _). MatchOption o (c.args.limits.classes - c.things.sum < (g.S.System.moves c.things.system).count (seen x))
     (λ cs. AreClasses (g.S.System.is_class c.classes.new.self (seen x)) ((g.S.System.moves c.things.system).count (seen x)) cs.items)) c.in-Some.is c.in_ok-classes.ensures.classes in
     let size : c.len-in-things.result ≡ length c.in-Some.classes.items = c.len-in-things.ensures ∙ (sym c.as_slice-in-things.ensures.len ∙ ap length c.as_slice-in-things.ensures.value) in
@@ -76,11 +78,14 @@ things-preserved g c =
     }
 
 pub returns-clause-ends : goal.returns-clause-ends
-returns-clause-ends g c = exploring_all _ _ _ _ _ _ _ _ _ _ c.things.done c.things.sum _ _ c.things.invariant.exploring (past_seen g.S.System.seen c.things.found.things.keys c.things.done (omega (arith, c.things-test.false, c.len.ensures.len)))
+returns-clause-ends g c =
+    let all = past_seen g.S.System.seen c.things.found.things.keys c.things.done (omega (arith, c.things-test.false, c.len.ensures.len)) in
+    exploring_all _ _ _ _ _ _ _ _ _ _ c.things.done c.things.sum _ _ c.things.invariant.exploring all
 
 pub returns-clause-explored : goal.returns-clause-explored
 returns-clause-explored g c =
-    let ended = exploring_all _ _ _ _ _ _ _ _ _ _ c.things.done c.things.sum _ _ c.things.invariant.exploring (past_seen g.S.System.seen c.things.found.things.keys c.things.done (omega (arith, c.things-test.false, c.len.ensures.len))) in
+    let all = past_seen g.S.System.seen c.things.found.things.keys c.things.done (omega (arith, c.things-test.false, c.len.ensures.len)) in
+    let ended = exploring_all _ _ _ _ _ _ _ _ _ _ c.things.done c.things.sum _ _ c.things.invariant.exploring all in
     explored (rules_of g.S.System.same (g.S.System.moves c.args.system.now) c.args.limits)
     (λ a b. (g.met.S.System.same_tells a b).0) (λ a. (g.met.S.System.same_tells a a).1 refl) (g.S.System.seen c.args.start) _ ended.ends
 
@@ -97,6 +102,7 @@ returns-in_err-spread-clause-caused g c =
 
 pub returns-clause-classes : goal.returns-clause-classes
 returns-clause-classes g c =
-    let ended = exploring_all _ _ _ _ _ _ _ _ _ _ c.things.done c.things.sum _ _ c.things.invariant.exploring (past_seen g.S.System.seen c.things.found.things.keys c.things.done (omega (arith, c.things-test.false, c.len.ensures.len))) in
+    let all = past_seen g.S.System.seen c.things.found.things.keys c.things.done (omega (arith, c.things-test.false, c.len.ensures.len)) in
+    let ended = exploring_all _ _ _ _ _ _ _ _ _ _ c.things.done c.things.sum _ _ c.things.invariant.exploring all in
     explored_within (rules_of g.S.System.same (g.S.System.moves c.args.system.now) c.args.limits)
     (λ a b. (g.met.S.System.same_tells a b).0) (λ a. (g.met.S.System.same_tells a a).1 refl) (g.S.System.seen c.args.start) _ ended.ends

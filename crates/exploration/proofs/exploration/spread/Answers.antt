@@ -86,7 +86,8 @@ returns-in_err-place-clause-meets g c =
     err_is _ _ _ c.from_residual-in_err-place.ensures.1 (list_met (λ (f : Fault). (y : _) (sum : ℕ) → slice_get (map seen c.args.found.now.things.keys) c.args.at ≡ Some y
     → IsMet (rules_of g.S.System.same (g.S.System.moves c.args.system.now) c.args.limits)
     (stage_of (map seen c.args.found.now.things.keys) c.args.found.now.edges.items sum (c.args.at + 1) (Some (y, 0))) f) _ _ c.in_err-place.ensures.fault
-    (λ full. spread_full _ _ _ _ _ _ _ _ _ _ _ _ _ _ _ c.classes.number _ _ (seen x) so here less c.in_ok-to.ensures.keeps (seen c.in-Some.to) (c.in_ok-to.ensures.step ∙ ap (move_of seen) c.in-Some.is)
+    (λ full. spread_full _ _ _ _ _ _ _ _ _ _ _ _ _ _ _ c.classes.number _ _ (seen x) so here less c.in_ok-to.ensures.keeps (seen c.in-Some.to)
+    (c.in_ok-to.ensures.step ∙ ap (move_of seen) c.in-Some.is)
     (sym (room_seen g.S.Thing.PartialEq.eq g.S.System.same seen g.met.S.System.tells g.met.S.System.same_tells c.args.limits.things c.in-Some.to c.classes.found.things.keys) ∙ full))
     (λ y sum there. inl refl))
 
@@ -124,5 +125,5 @@ classes-preserved g c =
 pub returns-clause-spreads : goal.returns-clause-spreads
 returns-clause-spreads g c =
     let all : c.classes.number ≡ length c.args.classes.now = omega (arith, c.classes.auto.number-end, c.classes-test.false) in
-    subst (λ (n : ℕ). Spreads (rules_of g.S.System.same (g.S.System.moves c.args.system.now) c.args.limits) c.args.at 0 n (map g.S.System.seen c.args.found.now.things.keys) c.args.found.now.edges.items
-    (map g.S.System.seen c.classes.found.things.keys) c.classes.found.edges.items) all c.classes.invariant.spread.spreads
+    subst (λ (n : ℕ). Spreads (rules_of g.S.System.same (g.S.System.moves c.args.system.now) c.args.limits) c.args.at 0 n (map g.S.System.seen c.args.found.now.things.keys)
+    c.args.found.now.edges.items (map g.S.System.seen c.classes.found.things.keys) c.classes.found.edges.items) all c.classes.invariant.spread.spreads

@@ -1,12 +1,16 @@
-use Rattle.std.proofs.Common.{◌∙◌, ◌<◌, length, map, subst}
+use Rattle.std.proofs.Common.{◌∙◌, ◌<◌, ℕ, List, length, map, subst}
+use Rattle.std.proofs.lemmas.List.{map-id}
+use Rattle.std.specs.Cmp.Lexicographic.{pointwise}
+use Rattle.std.specs.Prelude.{⊤, nat_eq}
 use Rattle.aut_base.proofs.Outcomes.{some_in}
 use Rattle.aut_base.specs.declared.limit.TheConstants.{MOST_SUBSETS}
 use Rattle.aut_core.specs.Core.{Core, automaton_of}
 use Rattle.exploration.specs.Explorations.{IsSound, arrow_of}
+use Rattle.exploration.specs.Reached.{IsExplored}
 use Rattle.exploration.specs.Turns.{EndsWith}
 use Rattle.monitor_form.proofs.Built.{explored_from, start_fits}
 use Rattle.label_guards.specs.Store.{Keeps}
-use Rattle.monitor_form.specs.Subsets.{subset_rules}
+use Rattle.monitor_form.specs.Subsets.{subset_moves, subset_rules}
 use Rattle.monitor_form.specs.Systems.{FitsStore, IsClassGuard}
 use Rattle.monitor_form.proofs.form.subset_form.Goals as goal
 
@@ -19,10 +23,21 @@ built-requires-clause-keeps c =
     let kept : FitsStore c.explore.new.system.automaton.now c.explore.new.system.guards c.in_ok-start.start = c.in-Ok.ensures.keeps.fits c.in_ok-start.start fits in
     subst (λ (core : Core). Keeps core.store c.explore.new.system.guards) c.in-Ok.ensures.frame kept.keeps
 
+pub built-requires-clause-explored : goal.built-requires-clause-explored
+built-requires-clause-explored c =
+    let b = automaton_of c.args.b.now in
+    let sets = c.in-Ok.found.things.keys in
+    let arrows = map arrow_of c.in-Ok.found.edges.items in
+    subst (λ (start : List ℕ). IsExplored (pointwise nat_eq) (subset_moves b) start sets arrows) c.in_ok-start.ensures
+    (subst (λ (found : List (List ℕ)). IsExplored (pointwise nat_eq) (subset_moves b) c.in_ok-start.start found arrows) (map-id sets) c.in-Ok.ensures.explored)
+
 pub built-requires-clause-sound : goal.built-requires-clause-sound
 built-requires-clause-sound c =
     let guards = c.explore.new.system.guards in
-    subst (λ (core : Core). IsSound (FitsStore core guards) (IsClassGuard core guards) MOST_SUBSETS c.in-Ok.found.things.keys c.in-Ok.found.edges.items) c.in-Ok.ensures.frame c.in-Ok.ensures.sound
+    let edges = c.in-Ok.found.edges.items in
+    subst (λ (core : Core). IsSound (FitsStore core guards) (IsClassGuard core guards) (λ _ _ _. ⊤) MOST_SUBSETS c.in-Ok.found.things.keys edges) c.in-Ok.ensures.frame
+    (subst (λ (sets : List (List ℕ)). IsSound (FitsStore c.explore.new.system.automaton.now guards) (IsClassGuard c.explore.new.system.automaton.now guards) (λ _ _ _. ⊤) MOST_SUBSETS sets edges)
+    (map-id c.in-Ok.found.things.keys) c.in-Ok.ensures.sound)
 
 pub returns-in_ok-built-in-Ok-clause-shape : goal.returns-in_ok-built-in-Ok-clause-shape
 returns-in_ok-built-in-Ok-clause-shape c =
@@ -33,6 +48,7 @@ returns-in_ok-built-in-Ok-clause-shape c =
     record {
       sets = sets;
       arrows = arrows;
-      explored = explored_from b c.args.b.now.starts sets arrows some (subst (λ start. EndsWith (subset_rules b) start sets arrows) c.in_ok-start.ensures c.in-Ok.ensures.ends);
+      explored = explored_from b c.args.b.now.starts sets arrows some (subst (λ (start : List ℕ). EndsWith (subset_rules b) start sets arrows) c.in_ok-start.ensures
+          (subst (λ (found : List (List ℕ)). EndsWith (subset_rules b) c.in_ok-start.start found arrows) (map-id sets) c.in-Ok.ensures.ends));
       is = c.in_ok-built-in-Ok.ensures;
     }
