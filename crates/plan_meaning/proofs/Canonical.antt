@@ -14,8 +14,8 @@ use Rattle.aut_base.specs.declared.limit.Limit.{Limit}
 use Rattle.filter_plan.specs.declared.plan.Plan.{Plan}
 use Rattle.plan_meaning.proofs.CanonicalEdges.{same_met, settled}
 use Rattle.plan_meaning.proofs.CanonicalRuns.{unambiguous_one, unambiguous_other}
-use Rattle.plan_meaning.specs.Filters.{AcceptsWord, AllHold, Edges, FailsAt, Filter, Holds, HoldsWithin, Intersects, IsComplete, IsDeterministic, IsDroppedBy, IsEmpty, IsKeptBy, IsUnambiguous, Judged, LacksWithin, Names, Passes, PassesAt, RejectsWord, Sets, States, filters}
-use Rattle.plan_meaning.specs.Limits.{PassesOfBoth, PassesOfSquare, PassesOfWord}
+use Rattle.plan_meaning.specs.Filters.{AcceptsWord, AllHold, Edges, EquivalentTo, FailsAt, Filter, Holds, HoldsWithin, IncludedIn, Intersects, IsComplete, IsDeterministic, IsDroppedBy, IsEmpty, IsKeptBy, IsUnambiguous, Judged, LacksWithin, Names, Passes, PassesAt, RejectsWord, Sets, States, filters}
+use Rattle.plan_meaning.specs.Limits.{PassesOfBoth, PassesOfEquivalence, PassesOfInclusion, PassesOfSquare, PassesOfWord}
 use Rattle.plan_meaning.specs.declared.fault.PlanFault.{PlanFault}
 use Rattle.plan_meaning.specs.declared.fault.PlanFault.TheVariants as fault
 use Rattle.word_syntax.specs.Grammar.{WordPattern}
@@ -92,6 +92,8 @@ holds_one : (f : Filter) (a : Automaton) → LabelsBelow a → Holds f (canonica
 holds_one (AcceptsWord p) a below h = pattern_one a below p h
 holds_one (RejectsWord p) a below h = λ k. h (pattern_other a below p k)
 holds_one IsEmpty a below h = λ u v accepts. h u v ((canonical_accepts_the_same a below u v).1 accepts)
+holds_one (IncludedIn b) a below h = λ u v accepts. h u v ((canonical_accepts_the_same a below u v).1 accepts)
+holds_one (EquivalentTo b) a below h = λ u v. (let same = canonical_accepts_the_same a below u v in ((λ x. (h u v).0 (same.1 x)), (λ x. same.0 ((h u v).1 x))))
 holds_one (Intersects b) a below h = together_one a below b h
 holds_one IsDeterministic a below h = deterministic_one a below h
 holds_one IsComplete a below h = record { start = h.start; edges = λ state less letter. goes_one a state letter below (h.edges state less letter) }
@@ -105,6 +107,8 @@ holds_other : (f : Filter) (a : Automaton) → LabelsBelow a → Holds f a → H
 holds_other (AcceptsWord p) a below h = pattern_other a below p h
 holds_other (RejectsWord p) a below h = λ k. h (pattern_one a below p k)
 holds_other IsEmpty a below h = λ u v accepts. h u v ((canonical_accepts_the_same a below u v).0 accepts)
+holds_other (IncludedIn b) a below h = λ u v accepts. h u v ((canonical_accepts_the_same a below u v).0 accepts)
+holds_other (EquivalentTo b) a below h = λ u v. (let same = canonical_accepts_the_same a below u v in ((λ x. (h u v).0 (same.0 x)), (λ x. same.1 ((h u v).1 x))))
 holds_other (Intersects b) a below h = together_other a below b h
 holds_other IsDeterministic a below h = deterministic_other a below h
 holds_other IsComplete a below h = record { start = h.start; edges = λ state less letter. goes_other a state letter below (h.edges state less letter) }
@@ -118,6 +122,8 @@ holds_other (Names r) a below h = h
 passes_one : (which : Limit) (f : Filter) (a : Automaton) → Passes which f (canonical a) → Passes which f a
 passes_one which (AcceptsWord p) a h = subst (λ (x : Automaton). PassesOfWord which x p) (canonical-twice a) h
 passes_one which (RejectsWord p) a h = subst (λ (x : Automaton). PassesOfWord which x p) (canonical-twice a) h
+passes_one which (IncludedIn b) a h = subst (λ (x : Automaton). PassesOfInclusion which x b) (canonical-twice a) h
+passes_one which (EquivalentTo b) a h = subst (λ (x : Automaton). PassesOfEquivalence which x b) (canonical-twice a) h
 passes_one which (Intersects b) a h = subst (λ (x : Automaton). PassesOfBoth which x b) (canonical-twice a) h
 passes_one which IsUnambiguous a h = subst (PassesOfSquare which) (canonical-twice a) h
 passes_one which _ a h = absurd h
@@ -125,6 +131,8 @@ passes_one which _ a h = absurd h
 passes_other : (which : Limit) (f : Filter) (a : Automaton) → Passes which f a → Passes which f (canonical a)
 passes_other which (AcceptsWord p) a h = subst (λ (x : Automaton). PassesOfWord which x p) (sym (canonical-twice a)) h
 passes_other which (RejectsWord p) a h = subst (λ (x : Automaton). PassesOfWord which x p) (sym (canonical-twice a)) h
+passes_other which (IncludedIn b) a h = subst (λ (x : Automaton). PassesOfInclusion which x b) (sym (canonical-twice a)) h
+passes_other which (EquivalentTo b) a h = subst (λ (x : Automaton). PassesOfEquivalence which x b) (sym (canonical-twice a)) h
 passes_other which (Intersects b) a h = subst (λ (x : Automaton). PassesOfBoth which x b) (sym (canonical-twice a)) h
 passes_other which IsUnambiguous a h = subst (PassesOfSquare which) (sym (canonical-twice a)) h
 passes_other which _ a h = absurd h

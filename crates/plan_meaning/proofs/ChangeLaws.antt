@@ -20,9 +20,9 @@ use Rattle.parity_det.proofs.ParityLaws.{complement_is_determined, parity_exclud
 use Rattle.parity_det.specs.Complements as det
 use Rattle.parity_det.specs.declared.fault.CompFault.{CompFault}
 use Rattle.parity_det.specs.declared.fault.CompFault.TheVariants as comp
-use Rattle.plan_meaning.specs.Changes.{Bring, Change, Complement, Complete, IsInForm, Makes, MakesAll, MakesWithin, PassesBuchi, PassesDnf, PassesForm, PassesIn, PassesMonitor, PassesParity, PassesWithoutFin, Product, ProductOr, RemoveAp, StopsIn, Sum, Trim}
+use Rattle.plan_meaning.specs.Changes.{Bring, Change, Complement, Complete, IsInForm, Makes, MakesAll, MakesWithin, PassesBuchi, PassesDnf, PassesForm, PassesIn, PassesMonitor, PassesWithoutFin, Product, ProductOr, RemoveAp, StopsIn, Sum, Trim}
 use Rattle.plan_meaning.specs.Laws.{ChangesAreDetermined}
-use Rattle.plan_meaning.specs.Limits.{HaveFewNames, HaveManyNames, PassesOfBoth, PassesOfEither, PassesOfSum}
+use Rattle.plan_meaning.specs.Limits.{HaveFewNames, HaveManyNames, PassesOfBoth, PassesOfEither, PassesOfSum, PassesParity}
 
 -- ---- one change
 
@@ -140,7 +140,7 @@ one_of_monitor which other a h k = joined (of_monitor which a h) (of_monitor oth
     joined (inr (inr x)) (inr (inr y)) = x.shown ∙ ap limit_of ((monitor_excludes_limits a).others x.fault y.fault x.meets y.meets) ∙ sym y.shown
 
 -- the limit that a fault of determinisation tells
-abbrev limit_of_fault : CompFault → Limit
+abbrev pub limit_of_fault : CompFault → Limit
 limit_of_fault comp.Terms = limit.Terms
 limit_of_fault comp.BuchiStates = limit.BuchiStates
 limit_of_fault comp.Trees = limit.Trees
@@ -148,12 +148,12 @@ limit_of_fault comp.Nodes = limit.Nodes
 limit_of_fault comp.Classes = limit.Classes
 limit_of_fault comp.Memory = limit.Bytes
 
-record IsOfParity (which : Limit) (a : Automaton) : Type 0 where
-  fault : CompFault
-  passes : det.PassesParity fault a
-  shown : which ≡ limit_of_fault fault
+pub record IsOfParity (which : Limit) (a : Automaton) : Type 0 where
+  pub fault : CompFault
+  pub passes : det.PassesParity fault a
+  pub shown : which ≡ limit_of_fault fault
 
-of_parity : (which : Limit) (a : Automaton) → PassesParity which a → IsOfParity which a
+pub of_parity : (which : Limit) (a : Automaton) → PassesParity which a → IsOfParity which a
 of_parity limit.Terms a h = record { fault = comp.Terms; passes = h; shown = refl }
 of_parity limit.BuchiStates a h = record { fault = comp.BuchiStates; passes = h; shown = refl }
 of_parity limit.Trees a h = record { fault = comp.Trees; passes = h; shown = refl }
@@ -161,7 +161,7 @@ of_parity limit.Nodes a h = record { fault = comp.Nodes; passes = h; shown = ref
 of_parity limit.Classes a h = record { fault = comp.Classes; passes = h; shown = refl }
 of_parity _ a h = absurd h
 
-one_of_parity : (which other : Limit) (a : Automaton) → IsOfParity which a → IsOfParity other a → which ≡ other
+pub one_of_parity : (which other : Limit) (a : Automaton) → IsOfParity which a → IsOfParity other a → which ≡ other
 one_of_parity which other a x y = x.shown ∙ ap limit_of_fault ((parity_excludes_limits a).one x.fault y.fault x.passes y.passes) ∙ sym y.shown
 
 one_of_form : (f : Form) (which other : Limit) (a : Automaton) → PassesForm which f a → PassesForm other f a → which ≡ other

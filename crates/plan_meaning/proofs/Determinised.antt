@@ -15,12 +15,13 @@ use Rattle.parity_det.specs.declared.fault.CompFault.{CompFault}
 use Rattle.parity_det.specs.declared.fault.CompFault.TheVariants as comp
 use Rattle.parity_laws.specs.Complement.{AreComplements}
 use Rattle.plan_meaning.proofs.Stepping.{changed_once}
-use Rattle.plan_meaning.specs.Changes.{Bring, Complement, PassesParity}
+use Rattle.plan_meaning.specs.Changes.{Bring, Complement}
+use Rattle.plan_meaning.specs.Limits.{PassesParity}
 use Rattle.plan_meaning.specs.inner.Faults.{fault_of_parity}
 use Rattle.plan_meaning.specs.inner.Stepping.{IsMade, Steps}
 
 module _ (a : Automaton) where
-  within : IsWithinParity a → (which : Limit) → PassesParity which a → ⊥
+  pub within : IsWithinParity a → (which : Limit) → PassesParity which a → ⊥
   within none limit.Terms h = none comp.Terms h
   within none limit.BuchiStates h = none comp.BuchiStates h
   within none limit.Trees h = none comp.Trees h

@@ -4,6 +4,7 @@ mod CanonicalRuns
 mod ChangeLaws
 mod ChangeLists
 mod Combinations
+mod Comparing
 mod Determinised
 mod DisjunctiveForm
 mod FilterLists

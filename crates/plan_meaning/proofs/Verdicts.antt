@@ -4,9 +4,11 @@ use Rattle.aut_base.specs.Automaton.{Automaton}
 use Rattle.aut_base.specs.CanonicalLabel.{canonical}
 use Rattle.aut_base.specs.declared.limit.Limit.{Limit}
 use Rattle.aut_base.specs.declared.limit.Limit.TheVariants as limit
-use Rattle.plan_meaning.specs.Filters.{AcceptsWord, AllHold, FailsAt, Filter, HoldsWithin, Intersects, IsDroppedBy, IsKeptBy, IsUnambiguous, LacksWithin, Passes, PassesAt, RejectsWord, filters}
+use Rattle.parity_det.proofs.ParityLaws.{complement_is_determined}
+use Rattle.plan_meaning.proofs.ChangeLaws.{of_parity, one_of_parity}
+use Rattle.plan_meaning.specs.Filters.{AcceptsWord, AllHold, EquivalentTo, FailsAt, Filter, HoldsWithin, IncludedIn, Intersects, IsDroppedBy, IsKeptBy, IsUnambiguous, LacksWithin, Passes, PassesAt, RejectsWord, filters}
 use Rattle.plan_meaning.specs.Laws.{Dropped, Kept, OneVerdict, Over, SomeVerdict}
-use Rattle.plan_meaning.specs.Limits.{HaveFewNames, HaveManyNames, PassesOfBoth, PassesOfSquare, PassesOfWord}
+use Rattle.plan_meaning.specs.Limits.{HaveFewNames, HaveManyNames, PassesOfBoth, PassesOfEquivalence, PassesOfInclusion, PassesOfSquare, PassesOfWord}
 use Rattle.word_syntax.specs.Grammar.{WordPattern}
 use Rattle.word_syntax.specs.Matching.{word_automaton}
 
@@ -40,9 +42,25 @@ of_square : (which : Limit) (a : Automaton) → PassesOfSquare which a → which
 of_square limit.Pairs a h = refl
 of_square _ a h = absurd h
 
+one_of_inclusion : (which other : Limit) (a b : Automaton) → PassesOfInclusion which a b → PassesOfInclusion other a b → which ≡ other
+one_of_inclusion which other a b (inl x) (inl y) = one_of_parity which other b (of_parity which b x.1) (of_parity other b y.1)
+one_of_inclusion which other a b (inl x) (inr y) = absurd (y.0 which x)
+one_of_inclusion which other a b (inr x) (inl y) = absurd (x.0 other y)
+one_of_inclusion which other a b (inr x) (inr y) =
+    let same : y.1.co ≡ x.1.co = complement_is_determined b y.1.co x.1.co y.1.is x.1.is in
+    one_of_both which other a x.1.co x.1.passes (subst (PassesOfBoth other a) same y.1.passes)
+
+one_of_equivalence : (which other : Limit) (a b : Automaton) → PassesOfEquivalence which a b → PassesOfEquivalence other a b → which ≡ other
+one_of_equivalence which other a b (inl x) (inl y) = one_of_inclusion which other a b x y
+one_of_equivalence which other a b (inl x) (inr y) = absurd (y.0 which x)
+one_of_equivalence which other a b (inr x) (inl y) = absurd (x.0 other y)
+one_of_equivalence which other a b (inr x) (inr y) = one_of_inclusion which other b a x.2 y.2
+
 one_limit : (f : Filter) (which other : Limit) (a : Automaton) → Passes which f a → Passes other f a → which ≡ other
 one_limit (AcceptsWord p) which other a h k = one_of_word which other (canonical a) p h k
 one_limit (RejectsWord p) which other a h k = one_of_word which other (canonical a) p h k
+one_limit (IncludedIn b) which other a h k = one_of_inclusion which other (canonical a) b h k
+one_limit (EquivalentTo b) which other a h k = one_of_equivalence which other (canonical a) b h k
 one_limit (Intersects b) which other a h k = one_of_both which other (canonical a) b h k
 one_limit IsUnambiguous which other a h k = of_square which (canonical a) h ∙ sym (of_square other (canonical a) k)
 one_limit _ which other a h k = absurd h

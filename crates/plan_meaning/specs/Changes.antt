@@ -26,11 +26,9 @@ use Rattle.filter_plan.specs.declared.plan.Hidden.{Hidden}
 use Rattle.filter_plan.specs.declared.plan.Plan.{Plan}
 use Rattle.fin_removal.specs.Copies.{HasTooManyTerms, without_fin}
 use Rattle.monitor_form.specs.Subsets.{IsMonitor, MeetsLimit}
-use Rattle.parity_det.specs.Complements as det
 use Rattle.parity_det.specs.Complements.{IsComplementOf}
 use Rattle.parity_det.specs.Determinisation.{IsParityOf}
-use Rattle.parity_det.specs.declared.fault.CompFault.TheVariants as comp
-use Rattle.plan_meaning.specs.Limits.{PassesOfBoth, PassesOfEither, PassesOfSum}
+use Rattle.plan_meaning.specs.Limits.{PassesOfBoth, PassesOfEither, PassesOfSum, PassesParity, PassesUnlessDeterministic}
 use Rattle.plan_meaning.specs.Operands.{operand_at, place_of_product, place_of_product_or, place_of_sum}
 use Rattle.plan_meaning.specs.Standing.{those_standing}
 use Rattle.plan_meaning.specs.declared.fault.PlanFault.{PlanFault}
@@ -94,19 +92,6 @@ PassesMonitor limit.BuchiStates a = PassesBuchi limit.BuchiStates a
 PassesMonitor limit.Classes a = (NeedsTooManyTerms a.formula → ⊥) × MeetsLimit a explored.Classes
 PassesMonitor limit.Subsets a = (NeedsTooManyTerms a.formula → ⊥) × MeetsLimit a explored.Things
 PassesMonitor _ a = ⊥
-
--- those of the Büchi form, and then the first that its determinisation meets
-abbrev pub PassesParity : Limit → Automaton → Type 0
-PassesParity limit.Terms a = det.PassesParity comp.Terms a
-PassesParity limit.BuchiStates a = det.PassesParity comp.BuchiStates a
-PassesParity limit.Trees a = det.PassesParity comp.Trees a
-PassesParity limit.Nodes a = det.PassesParity comp.Nodes a
-PassesParity limit.Classes a = det.PassesParity comp.Classes a
-PassesParity _ a = ⊥
-
--- the same, where the automaton isn't deterministic; else none
-abbrev pub PassesUnlessDeterministic : Limit → Automaton → Type 0
-PassesUnlessDeterministic which a = (core.IsDeterministic a → ⊥) × PassesParity which a
 
 abbrev pub PassesForm : Limit → Form → Automaton → Type 0
 PassesForm which form.AsIs a = ⊥

@@ -7,12 +7,13 @@ use Rattle.aut_base.specs.Automaton.{Automaton}
 use Rattle.aut_base.specs.CanonicalLabel.{canonical}
 use Rattle.aut_base.specs.declared.limit.Limit.{Limit}
 use Rattle.aut_core.specs.Deterministic as core
+use Rattle.aut_core.specs.OtherNames.{AcceptTheSame}
 use Rattle.filter_plan.specs.Spans.{IsIn}
 use Rattle.filter_plan.specs.declared.plan.Plan.{Plan}
 use Rattle.filter_plan.specs.declared.range.Range.{Range}
 use Rattle.lasso_emptiness.specs.Emptiness.{AcceptsNothing}
-use Rattle.plan_meaning.specs.Limits.{PassesOfBoth, PassesOfSquare, PassesOfWord}
-use Rattle.plan_meaning.specs.Operands.{operand_at, place_of_intersect}
+use Rattle.plan_meaning.specs.Limits.{IsIncluded, PassesOfBoth, PassesOfEquivalence, PassesOfInclusion, PassesOfSquare, PassesOfWord}
+use Rattle.plan_meaning.specs.Operands.{operand_at, place_of_equivalent_to, place_of_included_in, place_of_intersect}
 use Rattle.plan_meaning.specs.Standing.{those_standing}
 use Rattle.plan_meaning.specs.declared.fault.PlanFault.{PlanFault}
 use Rattle.plan_meaning.specs.declared.fault.PlanFault.TheVariants as fault
@@ -26,6 +27,8 @@ pub data Filter : Type 0 where
   AcceptsWord : WordPattern → Filter
   RejectsWord : WordPattern → Filter
   IsEmpty : Filter
+  IncludedIn : Automaton → Filter
+  EquivalentTo : Automaton → Filter
   Intersects : Automaton → Filter
   IsDeterministic : Filter
   IsComplete : Filter
@@ -40,6 +43,8 @@ abbrev pub Holds : Filter → Automaton → Type 0
 Holds (AcceptsWord p) a = AcceptsPattern p a
 Holds (RejectsWord p) a = AcceptsPattern p a → ⊥
 Holds IsEmpty a = AcceptsNothing a
+Holds (IncludedIn b) a = IsIncluded a b
+Holds (EquivalentTo b) a = AcceptTheSame a b
 Holds (Intersects b) a = AcceptTogether a b
 Holds IsDeterministic a = core.IsDeterministic a
 Holds IsComplete a = core.IsComplete a
@@ -54,6 +59,8 @@ abbrev pub Passes : Limit → Filter → Automaton → Type 0
 Passes which (AcceptsWord p) a = PassesOfWord which (canonical a) p
 Passes which (RejectsWord p) a = PassesOfWord which (canonical a) p
 Passes which (Intersects b) a = PassesOfBoth which (canonical a) b
+Passes which (IncludedIn b) a = PassesOfInclusion which (canonical a) b
+Passes which (EquivalentTo b) a = PassesOfEquivalence which (canonical a) b
 Passes which IsEmpty a = ⊥
 Passes which IsDeterministic a = ⊥
 Passes which IsComplete a = ⊥
@@ -79,6 +86,8 @@ abbrev pub filter_options : Plan → List Automaton → List (Option Filter)
 filter_options p ops = option_map (λ pattern. AcceptsWord (word_pattern pattern)) p.accept_word
     ∷ option_map (λ pattern. RejectsWord (word_pattern pattern)) p.reject_word
     ∷ then_some p.is_empty IsEmpty
+    ∷ option_map IncludedIn (operand_at p.included_in place_of_included_in ops)
+    ∷ option_map EquivalentTo (operand_at p.equivalent_to (place_of_equivalent_to p) ops)
     ∷ option_map Intersects (operand_at p.intersect (place_of_intersect p) ops)
     ∷ then_some p.is_deterministic IsDeterministic
     ∷ then_some p.is_complete IsComplete

@@ -1,13 +1,20 @@
--- Which limit is passed where two automata are put together: the first of these whose count is more than its number.
-use Rattle.std.specs.Prelude.{◌≡◌, ◌⊎◌, ◌<◌, ◌≤◌, length}
+-- Which limit is passed where an automaton is determinised, and where two are put together or compared: the first of these
+-- whose count is more than its number.
+use Rattle.std.specs.Prelude.{◌≡◌, ◌⊎◌, ◌<◌, ◌≤◌, List, length}
+use Rattle.aut_base.specs.Acceptance.{Accepts}
 use Rattle.aut_base.specs.Automaton.{Automaton}
 use Rattle.aut_base.specs.CanonicalLabel.{canonical}
+use Rattle.aut_base.specs.Word.{NameSet}
 use Rattle.aut_base.specs.declared.limit.Limit.{Limit}
 use Rattle.aut_base.specs.declared.limit.Limit.TheVariants as limit
 use Rattle.aut_base.specs.declared.limit.TheConstants.{MOST_NAMES, MOST_PAIRS}
+use Rattle.aut_core.specs.Deterministic as core
 use Rattle.aut_core.specs.OtherNames.{joined_names}
 use Rattle.aut_ops.specs.Completion.{completed}
 use Rattle.aut_ops.specs.Products.{HasMorePairs, over_both}
+use Rattle.parity_det.specs.Complements as det
+use Rattle.parity_det.specs.Complements.{IsComplementOf}
+use Rattle.parity_det.specs.declared.fault.CompFault.TheVariants as comp
 use Rattle.word_syntax.specs.Grammar.{WordPattern}
 use Rattle.word_syntax.specs.Matching.{word_automaton}
 
@@ -45,3 +52,36 @@ abbrev pub PassesOfWord : Limit → Automaton → WordPattern → Type 0
 PassesOfWord which a p =
     ((which ≡ limit.Names) × (MOST_NAMES < length p.names))
     ⊎ ((length p.names ≤ MOST_NAMES) × PassesOfBoth which a (canonical (word_automaton p)))
+
+-- those of the Büchi form, and then the first that its determinisation meets
+abbrev pub PassesParity : Limit → Automaton → Type 0
+PassesParity limit.Terms a = det.PassesParity comp.Terms a
+PassesParity limit.BuchiStates a = det.PassesParity comp.BuchiStates a
+PassesParity limit.Trees a = det.PassesParity comp.Trees a
+PassesParity limit.Nodes a = det.PassesParity comp.Nodes a
+PassesParity limit.Classes a = det.PassesParity comp.Classes a
+PassesParity _ a = ⊥
+
+-- the same, where the automaton isn't deterministic; else none
+abbrev pub PassesUnlessDeterministic : Limit → Automaton → Type 0
+PassesUnlessDeterministic which a = (core.IsDeterministic a → ⊥) × PassesParity which a
+
+-- ---- two automata compared
+
+-- each lasso word that the one accepts is accepted by the other
+abbrev pub IsIncluded : Automaton → Automaton → Type 0
+IsIncluded a b = (u v : List NameSet) → Accepts a u v → Accepts b u v
+
+-- a product of the one with the complement of the other
+pub record PassesWithComplement (which : Limit) (a b : Automaton) : Type 0 where
+  pub co : Automaton
+  pub is : IsComplementOf b co
+  pub passes : PassesOfBoth which a co
+
+-- whether the one is included in the other: the complement of the other, then its product with the one
+abbrev pub PassesOfInclusion : Limit → Automaton → Automaton → Type 0
+PassesOfInclusion which a b = PassesUnlessDeterministic which b ⊎ (((other : Limit) → PassesUnlessDeterministic other b → ⊥) × PassesWithComplement which a b)
+
+-- whether both accept the same: whether the one is included, and where it is, whether the other is
+abbrev pub PassesOfEquivalence : Limit → Automaton → Automaton → Type 0
+PassesOfEquivalence which a b = PassesOfInclusion which a b ⊎ (((other : Limit) → PassesOfInclusion other a b → ⊥) × IsIncluded a b × PassesOfInclusion which b a)

@@ -7,8 +7,14 @@ use Rattle.filter_plan.specs.Words.{listed, operands}
 use Rattle.filter_plan.specs.declared.plan.Plan.{Plan}
 
 -- the places of operands in the list: behind those of the options before
+abbrev pub place_of_included_in : ℕ
+place_of_included_in = 0
+
+abbrev pub place_of_equivalent_to : Plan → ℕ
+place_of_equivalent_to p = length (listed p.included_in)
+
 abbrev pub place_of_intersect : Plan → ℕ
-place_of_intersect p = length (listed p.included_in ++ listed p.equivalent_to)
+place_of_intersect p = place_of_equivalent_to p + length (listed p.equivalent_to)
 
 abbrev pub place_of_product : Plan → ℕ
 place_of_product p = place_of_intersect p + length (listed p.intersect)

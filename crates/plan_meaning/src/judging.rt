@@ -1,5 +1,6 @@
 //! The verdict on an automaton.
 
+mod comparing;
 mod filter;
 mod meeting;
 mod square;
@@ -13,6 +14,7 @@ ghost use Rattle.plan_meaning.specs.inner.Judging.{AreComparable, Examines, IsCo
 use crate::fault::PlanFault;
 use crate::operands::Automata;
 use aut_core::Automaton;
+use comparing::{is_equivalent, is_included};
 use filter::{Filter, filters};
 use filter_plan::Plan;
 use meeting::{accepts_nothing, accepts_word, intersects, rejects_word};
@@ -61,6 +63,8 @@ fn holds(alloc: Global, filter: &Filter, a: &Automaton) -> Result<bool, PlanFaul
         Filter::AcceptsWord(pattern) => accepts_word(alloc, pattern, a),
         Filter::RejectsWord(pattern) => rejects_word(alloc, pattern, a),
         Filter::IsEmpty => accepts_nothing(alloc, a),
+        Filter::IncludedIn(other) => is_included(alloc, a, other),
+        Filter::EquivalentTo(other) => is_equivalent(alloc, a, other),
         Filter::Intersects(other) => intersects(alloc, a, other),
         Filter::IsDeterministic => Ok(a.is_deterministic()),
         Filter::IsComplete => Ok(a.is_complete()),

@@ -3,7 +3,7 @@
 ghost use Rattle.std.specs.Prelude.{◌≡◌, ◌<◌, ◌≤◌, All, IfSome, is_some, length, map, true};
 ghost use Rattle.std.specs.Option.{option_map};
 ghost use Rattle.aut_core.specs.Core.{automaton_of};
-ghost use Rattle.plan_meaning.specs.Operands.{AreOperands, IsOfReadSize, operand_at, place_of_intersect, place_of_product, place_of_product_or, place_of_sum};
+ghost use Rattle.plan_meaning.specs.Operands.{AreOperands, IsOfReadSize, operand_at, place_of_equivalent_to, place_of_included_in, place_of_intersect, place_of_product, place_of_product_or, place_of_sum};
 
 use aut_base::{Seq, Text};
 use aut_core::Automaton;
@@ -11,6 +11,30 @@ use filter_plan::{Plan, file_count};
 
 /// Automata, in order.
 pub type Automata = Seq<Automaton>;
+
+/// The operand of `--included-in`, where it stands.
+pub(crate) fn included_in_operand<'a>(
+    plan: &Plan,
+    operands: &'a Automata,
+) -> Option<&'a Automaton>
+    requires { AreOperands plan.now (map automaton_of operands.now) }
+    ensures is { option_map (λ a. automaton_of a.now) result ≡ operand_at plan.now.included_in place_of_included_in (map automaton_of operands.now) }
+    ensures sized { IfSome result (λ a. IsOfReadSize (automaton_of a.now)) }
+{
+    operand_at(&plan.included_in, 0, operands)
+}
+
+/// The operand of `--equivalent-to`, where it stands.
+pub(crate) fn equivalent_to_operand<'a>(
+    plan: &Plan,
+    operands: &'a Automata,
+) -> Option<&'a Automaton>
+    requires { AreOperands plan.now (map automaton_of operands.now) }
+    ensures is { option_map (λ a. automaton_of a.now) result ≡ operand_at plan.now.equivalent_to (place_of_equivalent_to plan.now) (map automaton_of operands.now) }
+    ensures sized { IfSome result (λ a. IsOfReadSize (automaton_of a.now)) }
+{
+    operand_at(&plan.equivalent_to, file_count(&plan.included_in), operands)
+}
 
 /// The operand of `--intersect`, where it stands.
 pub(crate) fn intersect_operand<'a>(plan: &Plan, operands: &'a Automata) -> Option<&'a Automaton>

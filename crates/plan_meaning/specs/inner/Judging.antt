@@ -2,8 +2,10 @@
 use Rattle.std.specs.Prelude.{Bool, true, false, List, All, filter_map, Option, IfSome, Result, Ok, Err}
 use Rattle.std.specs.Option.{option_map}
 use Rattle.aut_base.specs.Automaton.{Automaton}
+use Rattle.aut_base.specs.declared.limit.Limit.{Limit}
 use Rattle.aut_core.specs.Core.{automaton_of}
-use Rattle.plan_meaning.specs.Filters.{AcceptsWord, AllHold, Edges, FailsAt, Filter, HoldsWithin, Intersects, IsComplete, IsDeterministic, IsEmpty, IsUnambiguous, LacksWithin, Names, Passes, PassesAt, RejectsWord, Sets, States}
+use Rattle.plan_meaning.specs.Filters.{AcceptsWord, AllHold, Edges, EquivalentTo, FailsAt, Filter, HoldsWithin, IncludedIn, Intersects, IsComplete, IsDeterministic, IsEmpty, IsUnambiguous, LacksWithin, Names, Passes, PassesAt, RejectsWord, Sets, States}
+use Rattle.plan_meaning.specs.Limits.{IsIncluded, PassesOfInclusion}
 use Rattle.plan_meaning.specs.Operands.{IsOfReadSize}
 use Rattle.plan_meaning.specs.declared.fault.PlanFault.{PlanFault}
 use Rattle.plan_meaning.specs.declared.fault.PlanFault.TheVariants as fault
@@ -29,12 +31,21 @@ Examines (Ok false) f a = LacksWithin f a
 Examines (Err (fault.Limit which)) f a = Passes which f a
 Examines (Err fault.Memory) f a = Unit {0}
 
+-- the one is included in the other, or isn't, or a limit is passed
+abbrev pub ComparesInclusion : Result Bool PlanFault → Automaton → Automaton → Type 0
+ComparesInclusion (Ok true) a b = ((which : Limit) → PassesOfInclusion which a b → ⊥) × IsIncluded a b
+ComparesInclusion (Ok false) a b = ((which : Limit) → PassesOfInclusion which a b → ⊥) × (IsIncluded a b → ⊥)
+ComparesInclusion (Err (fault.Limit which)) a b = PassesOfInclusion which a b
+ComparesInclusion (Err fault.Memory) a b = Unit {0}
+
 -- ---- the filters of code
 
 abbrev pub filter_of : coded.Filter → Filter
 filter_of (code.AcceptsWord pattern) = AcceptsWord (word_pattern pattern.now)
 filter_of (code.RejectsWord pattern) = RejectsWord (word_pattern pattern.now)
 filter_of code.IsEmpty = IsEmpty
+filter_of (code.IncludedIn other) = IncludedIn (automaton_of other.now)
+filter_of (code.EquivalentTo other) = EquivalentTo (automaton_of other.now)
 filter_of (code.Intersects other) = Intersects (automaton_of other.now)
 filter_of code.IsDeterministic = IsDeterministic
 filter_of code.IsComplete = IsComplete
@@ -50,6 +61,8 @@ asked_for = filter_map (option_map filter_of)
 
 -- what it compares automata with is of the size of one that is read
 abbrev pub IsComparable : coded.Filter → Type 0
+IsComparable (code.IncludedIn other) = IsOfReadSize (automaton_of other.now)
+IsComparable (code.EquivalentTo other) = IsOfReadSize (automaton_of other.now)
 IsComparable (code.Intersects other) = IsOfReadSize (automaton_of other.now)
 IsComparable _ = Unit {0}
 

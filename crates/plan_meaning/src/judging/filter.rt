@@ -6,7 +6,9 @@ ghost use Rattle.plan_meaning.specs.Filters.{filters};
 ghost use Rattle.plan_meaning.specs.Operands.{AreOperands};
 ghost use Rattle.plan_meaning.specs.inner.Judging.{AreComparable, asked_for};
 
-use crate::operands::{Automata, intersect_operand};
+use crate::operands::{
+    Automata, equivalent_to_operand, included_in_operand, intersect_operand,
+};
 use aut_core::Automaton;
 use filter_plan::{Plan, Range};
 use word_syntax::Pattern;
@@ -17,6 +19,8 @@ pub(crate) enum Filter<'a> {
     AcceptsWord(&'a Pattern),
     RejectsWord(&'a Pattern),
     IsEmpty,
+    IncludedIn(&'a Automaton),
+    EquivalentTo(&'a Automaton),
     Intersects(&'a Automaton),
     IsDeterministic,
     IsComplete,
@@ -28,7 +32,7 @@ pub(crate) enum Filter<'a> {
 }
 
 /// The filters of a plan, in the order in which they are examined, each where its option stands.
-pub(crate) fn filters<'a>(plan: &'a Plan, operands: &'a Automata) -> [Option<Filter<'a>>; 11]
+pub(crate) fn filters<'a>(plan: &'a Plan, operands: &'a Automata) -> [Option<Filter<'a>>; 13]
     requires operands { AreOperands plan.now (map automaton_of operands.now) }
     ensures list { asked_for result ≡ filters plan.now (map automaton_of operands.now) }
     ensures sized { AreComparable result }
@@ -37,6 +41,8 @@ pub(crate) fn filters<'a>(plan: &'a Plan, operands: &'a Automata) -> [Option<Fil
         plan.accept_word.as_ref().map(Filter::AcceptsWord),
         plan.reject_word.as_ref().map(Filter::RejectsWord),
         plan.is_empty.then_some(Filter::IsEmpty),
+        included_in_operand(plan, operands).map(Filter::IncludedIn),
+        equivalent_to_operand(plan, operands).map(Filter::EquivalentTo),
         intersect_operand(plan, operands).map(Filter::Intersects),
         plan.is_deterministic.then_some(Filter::IsDeterministic),
         plan.is_complete.then_some(Filter::IsComplete),
