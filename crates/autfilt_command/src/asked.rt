@@ -2,12 +2,11 @@
 
 ghost use Rattle.std.specs.Prelude.{◌≡◌, ◌↔◌, IfOk, IsErrOf, IsTrue};
 ghost use Rattle.autfilt_command.specs.Asked.{AreRefused, AsksFor};
-ghost use Rattle.autfilt_run.specs.Built.{IsBuilt, asks_more, is_own};
+ghost use Rattle.autfilt_run.specs.Built.{IsBuilt, is_own};
 ghost use Rattle.filter_plan.specs.declared.fault.UsageFault.{UsageFault};
-ghost use Rattle.plan_meaning.specs.Changes.{is_built};
 
 use aut_base::Words;
-use filter_plan::{Form, Output, Plan, UsageFault, one_plan, read_plan};
+use filter_plan::{Output, Plan, UsageFault, one_plan, read_plan};
 use std::alloc::Global;
 
 /// Reads the words. `Usage` is answered where they are no plan, or one that the program can't carry out yet.
@@ -28,24 +27,7 @@ pub(crate) fn read_words(alloc: Global, words: &Words) -> Result<Plan, UsageFaul
 fn is_built(plan: &Plan) -> bool
     ensures { IsTrue result ↔ IsBuilt plan.now }
 {
-    !asks_more(plan) && is_built_form(plan.form) && is_own(&plan.output)
-}
-
-/// Whether automata are compared with others or complemented.
-fn asks_more(plan: &Plan) -> bool
-    ensures { result ≡ asks_more plan.now }
-{
-    plan.included_in.is_some() || plan.equivalent_to.is_some() || plan.complement
-}
-
-/// Whether the form is one that is built.
-fn is_built_form(form: Form) -> bool
-    ensures { result ≡ is_built form }
-{
-    matches!(
-        form,
-        Form::AsIs | Form::Buchi | Form::RemoveFin | Form::Dnf | Form::Monitor
-    )
+    is_own(&plan.output)
 }
 
 /// Whether what is printed is about the automaton alone.

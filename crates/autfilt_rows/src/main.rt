@@ -10,7 +10,7 @@ use row::Row;
 use row_files::{Count, Fault, Rows, Stop, read_files};
 
 /// The files of rows, in the folder where the program runs.
-const FILES: [&str; 20] = [
+const FILES: [&str; 22] = [
     "examples.rows",
     "printed.rows",
     "ends.rows",
@@ -28,6 +28,8 @@ const FILES: [&str; 20] = [
     "forms.rows",
     "hiding.rows",
     "monitors.rows",
+    "determinisation.rows",
+    "comparing.rows",
     "unambiguity.rows",
     "made.rows",
     "large.rows",

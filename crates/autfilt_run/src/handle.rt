@@ -8,7 +8,6 @@ ghost use Rattle.autfilt_run.specs.Plans.{prints_each};
 ghost use Rattle.autfilt_run.specs.inner.Handling.{Handles, PrintsOrStops};
 ghost use Rattle.filter_plan.specs.Words.{changes};
 ghost use Rattle.hoa_parser.specs.Raw.{written};
-ghost use Rattle.plan_meaning.specs.Changes.{HasBuiltForm};
 ghost use Rattle.plan_meaning.specs.Operands.{AreOperands, IsOfReadSize};
 
 use crate::fault::RunFault;
@@ -32,7 +31,6 @@ pub(crate) fn handle<W: Sink>(
     out: &mut W,
 ) -> Result<bool, RunFault>
     requires output { is_own plan.now.output ≡ true }
-    requires form { HasBuiltForm plan.now.form }
     requires operands { AreOperands plan.now (map automaton_of operands.now) }
     ensures { Handles result plan.now (map automaton_of operands.now) (written raw.now) (W.seen out.old) (W.seen out.new) }
 {
@@ -66,7 +64,6 @@ fn printed(
     name: Option<&Text>,
 ) -> Result<Text, PlanFault>
     requires output { is_own plan.now.output ≡ true }
-    requires form { HasBuiltForm plan.now.form }
     requires operands { AreOperands plan.now (map automaton_of operands.now) }
     requires size { IsOfReadSize (automaton_of a) }
     ensures { PrintsOrStops result plan.now (map automaton_of operands.now) (automaton_of a) (option_copied name.entry) }
