@@ -3,7 +3,6 @@ use Rattle.std.proofs.Common.{◌≡◌, ◌⊎◌, ◌∙◌, ◌+◌, ◌-◌,
 use Rattle.std.proofs.lemmas.Bool.{and_parts, cases_lt, eqb-true}
 use Rattle.std.specs.List.{list_any, range_with_len}
 use Rattle.aut_base.proofs.Members.{any_found, first_there, from_filter, from_flat_map, from_map, later_there, there_at}
-use Rattle.aut_base.proofs.Pigeonhole.{pigeons}
 use Rattle.aut_base.specs.Automaton.{Automaton, TreeEdge}
 use Rattle.aut_base.specs.Valuation.{truth_on}
 use Rattle.aut_core.specs.Surveys.{edges_from}
@@ -16,54 +15,15 @@ use Rattle.parity_det.proofs.Explored.{reached_tree, step_given}
 use Rattle.parity_det.specs.Determinisation.{class_moves, same_tree, start_tree, tree_classes, tree_moves, width}
 use Rattle.parity_laws.specs.Buchi.{move_of}
 use Rattle.safra_laws.proofs.TreesAfter.{held_below, holds_within}
-use Rattle.safra_laws.proofs.invariant.FewNames.{own_apart}
+use Rattle.safra_laws.proofs.invariant.FewNames.{HoldsOnly, few_passing}
 use Rattle.safra_laws.proofs.invariant.FirstTree.{tree_if}
 use Rattle.safra_laws.specs.Rounds.{next_tree}
 use Rattle.safra_trees.proofs.list_step.Pruned.{has_parts, new_holds, old_holds, pruned_length, pruned_parts}
-use Rattle.safra_trees.proofs.list_step.Ranks.{rank_back, rank_rises, rank_same}
+use Rattle.safra_trees.proofs.list_step.Ranks.{rank_back}
 use Rattle.safra_trees.specs.Step as step
-use Rattle.safra_trees.specs.Step.{IsTree, grown, keeps, pruned, rank}
+use Rattle.safra_trees.specs.Step.{grown, pruned, rank}
 use Rattle.safra_trees.specs.Trees.{Node, first_tree, has, holds, root_states}
 use Rattle.safra_trees.specs.declared.moves.Move as moves
-
--- all that the tree holds are states below n that pass a test
-abbrev HoldsOnly : (ℕ → Bool) → ℕ → List Node → Type 0
-HoldsOnly p n t = (x s : ℕ) → holds t x s ≡ true → (p s ≡ true) × (s < n)
-
-module _ (p : ℕ → Bool) (n : ℕ) (t : List Node) (tree : IsTree t) (only : HoldsOnly p n t) where
-  -- the place of a state of the name's own among those that pass, and past the end a number behind these
-  abbrev pick : (x : ℕ) → (x < length t) ⊎ (length t ≤ x) → ℕ
-  pick x (inl within) = rank p (tree.own x within).state
-  pick x (inr past) = rank p n + x + 1
-
-  own_below : (x : ℕ) (within : x < length t) → rank p (tree.own x within).state < rank p n
-  own_below x within =
-      let own = tree.own x within in
-      let passes = only x own.state own.here in
-      rank_rises p own.state n passes.1 passes.0
-
-  pick_below : (x : ℕ) (c : (x < length t) ⊎ (length t ≤ x)) → x < length t → pick x c < rank p n
-  pick_below x (inl within) less = own_below x within
-  pick_below x (inr past) less = absurd (omega (arith, past, less))
-
-  pick_apart : (x y : ℕ) (c : (x < length t) ⊎ (length t ≤ x)) (e : (y < length t) ⊎ (length t ≤ y)) → x < y → pick x c ≡ pick y e → ⊥
-  pick_apart x y (inl h) (inl k) less same =
-      let one = tree.own x h in
-      let other = tree.own y k in
-      own_apart t tree x y less k one other (rank_same p one.state other.state (only x one.state one.here).0 (only y other.state other.here).0 same)
-  pick_apart x y (inl h) (inr k) less same = (let low = own_below x h in omega (arith, low, same))
-  pick_apart x y (inr h) (inl k) less same = omega (arith, h, k, less)
-  pick_apart x y (inr h) (inr k) less same = omega (arith, less, same)
-
-  few_passing : length t ≤ rank p n
-  few_passing = elim (cases_lt (rank p n) (length t)) [
-    | inl many ↦ absurd (
-        let twice = pigeons (rank p n) (λ x. pick x (cases_lt x (length t))) (length t) many (λ x less. pick_below x (cases_lt x (length t)) less) in
-        pick_apart twice.first twice.second (cases_lt twice.first (length t)) (cases_lt twice.second (length t)) twice.later twice.same)
-    | inr most ↦ most
-  ]
-
--- ---- what the trees of a pruned automaton hold
 
 -- some move leads to what a tree holds after a step
 record Moved (ms : List moves.Move) (q : ℕ) : Type 0 where
@@ -142,8 +102,8 @@ pruned_widths a b is trees arrows found =
     subst (λ n. width trees ≤ max 1 (rank (is_flagged flags) n)) states (few_widths b (is_flagged flags)
     (λ s there. (from_filter (is_flagged flags) a.starts s (subst (λ (x : Automaton). Contains x.starts s) is.is there)).1)
     (λ e there. (
-        let kept = from_filter (stays (length a.names) flags) a.edges e (subst (λ (x : Automaton). Contains x.edges e) is.is there) in
-        let parts = and_parts _ (is_flagged flags e.from && is_flagged flags e.to) kept.1 in
-        (and_parts (is_flagged flags e.from) (is_flagged flags e.to) parts.1).1
-        ))
+    let kept = from_filter (stays (length a.names) flags) a.edges e (subst (λ (x : Automaton). Contains x.edges e) is.is there) in
+    let parts = and_parts _ (is_flagged flags e.from && is_flagged flags e.to) kept.1 in
+    (and_parts (is_flagged flags e.from) (is_flagged flags e.to) parts.1).1
+    ))
     trees arrows found)

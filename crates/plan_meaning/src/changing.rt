@@ -20,9 +20,9 @@ use crate::fault::PlanFault;
 use crate::operands::Automata;
 use aut_core::Automaton;
 use combining::{product_or_with, product_with, sum_with};
+use determinising::complemented;
 use filter_plan::Plan;
 use list::{Change, changes};
-use determinising::complemented;
 use shaping::{bring, complete, hide, trimmed};
 use std::alloc::Global;
 

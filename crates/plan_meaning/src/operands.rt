@@ -13,10 +13,7 @@ use filter_plan::{Plan, file_count};
 pub type Automata = Seq<Automaton>;
 
 /// The operand of `--included-in`, where it stands.
-pub(crate) fn included_in_operand<'a>(
-    plan: &Plan,
-    operands: &'a Automata,
-) -> Option<&'a Automaton>
+pub(crate) fn included_in_operand<'a>(plan: &Plan, operands: &'a Automata) -> Option<&'a Automaton>
     requires { AreOperands plan.now (map automaton_of operands.now) }
     ensures is { option_map (λ a. automaton_of a.now) result ≡ operand_at plan.now.included_in place_of_included_in (map automaton_of operands.now) }
     ensures sized { IfSome result (λ a. IsOfReadSize (automaton_of a.now)) }

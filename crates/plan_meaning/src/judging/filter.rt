@@ -6,9 +6,7 @@ ghost use Rattle.plan_meaning.specs.Filters.{filters};
 ghost use Rattle.plan_meaning.specs.Operands.{AreOperands};
 ghost use Rattle.plan_meaning.specs.inner.Judging.{AreComparable, asked_for};
 
-use crate::operands::{
-    Automata, equivalent_to_operand, included_in_operand, intersect_operand,
-};
+use crate::operands::{Automata, equivalent_to_operand, included_in_operand, intersect_operand};
 use aut_core::Automaton;
 use filter_plan::{Plan, Range};
 use word_syntax::Pattern;

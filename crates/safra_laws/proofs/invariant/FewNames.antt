@@ -1,10 +1,11 @@
 -- A tree has no more names than there are states: each has a state of its own.
-use Rattle.std.proofs.Common.{◌≡◌, ◌⊎◌, ◌+◌, ◌<◌, ◌≤◌, ℕ, zero, suc, Bool, true, false, List, [], ◌∷◌, arith, inl, inr, length, subst, sym}
+use Rattle.std.proofs.Common.{◌≡◌, ◌⊎◌, ◌+◌, ◌<◌, ◌≤◌, ℕ, zero, suc, Bool, true, false, List, [], ◌∷◌, arith, inl, inr, length, refl, subst, sym}
 use Rattle.std.proofs.lemmas.Bool.{both_ways, cases_eq, cases_lt}
 use Rattle.std.specs.List.{list_any, range_with_len}
 use Rattle.aut_base.proofs.Pigeonhole.{pigeons}
 use Rattle.safra_trees.proofs.list_step.Pruned.{has_parts}
-use Rattle.safra_trees.specs.Step.{IsTree, Own}
+use Rattle.safra_trees.proofs.list_step.Ranks.{rank_all, rank_rises, rank_same}
+use Rattle.safra_trees.specs.Step.{IsTree, Own, rank}
 use Rattle.safra_trees.specs.Trees.{Node, first_tree, has, holds, node_at}
 use Rattle.safra_trees.specs.declared.moves.Move.{Move}
 use Rattle.safra_laws.proofs.TreesAfter.{after_is_tree, held_below, holds_within}
@@ -37,37 +38,57 @@ child_up_to t tree (suc k) x y s room less within first second =
       ])
     ]
 
-pub own_apart : (t : List Node) → IsTree t → (x y : ℕ) → x < y → y < length t → (a : Own t x) (c : Own t y) → a.state ≡ c.state → ⊥
+own_apart : (t : List Node) → IsTree t → (x y : ℕ) → x < y → y < length t → (a : Own t x) (c : Own t y) → a.state ≡ c.state → ⊥
 own_apart t tree x y less within a c same =
     let found = child_up_to t tree y x y a.state (omega arith) less within a.here (subst (λ s. holds t y s ≡ true) (sym same) c.here) in
     both_ways (holds t found.name a.state) (a.nowhere found.name found.more (omega (arith, found.low, within)) found.parent) found.held
 
-abbrev StatesBelow : ℕ → List Node → Type 0
-StatesBelow n t = (x s : ℕ) → holds t x s ≡ true → s < n
+-- all that the tree holds are states below n that pass a test
+abbrev pub HoldsOnly : (ℕ → Bool) → ℕ → List Node → Type 0
+HoldsOnly p n t = (x s : ℕ) → holds t x s ≡ true → (p s ≡ true) × (s < n)
 
-module _ (n : ℕ) (t : List Node) (tree : IsTree t) (small : StatesBelow n t) where
-  -- a state of the name's own, and past the end a number from n on
+module _ (p : ℕ → Bool) (n : ℕ) (t : List Node) (tree : IsTree t) (only : HoldsOnly p n t) where
+  -- the place of a state of the name's own among those that pass, and past the end a number behind these
   abbrev pick : (x : ℕ) → (x < length t) ⊎ (length t ≤ x) → ℕ
-  pick x (inl within) = (tree.own x within).state
-  pick x (inr past) = n + x + 1
+  pick x (inl within) = rank p (tree.own x within).state
+  pick x (inr past) = rank p n + x + 1
 
-  pick_below : (x : ℕ) (c : (x < length t) ⊎ (length t ≤ x)) → x < length t → pick x c < n
-  pick_below x (inl within) less = small x (tree.own x within).state (tree.own x within).here
+  own_below : (x : ℕ) (within : x < length t) → rank p (tree.own x within).state < rank p n
+  own_below x within =
+      let own = tree.own x within in
+      let passes = only x own.state own.here in
+      rank_rises p own.state n passes.1 passes.0
+
+  pick_below : (x : ℕ) (c : (x < length t) ⊎ (length t ≤ x)) → x < length t → pick x c < rank p n
+  pick_below x (inl within) less = own_below x within
   pick_below x (inr past) less = absurd (omega (arith, past, less))
 
   pick_apart : (x y : ℕ) (c : (x < length t) ⊎ (length t ≤ x)) (e : (y < length t) ⊎ (length t ≤ y)) → x < y → pick x c ≡ pick y e → ⊥
-  pick_apart x y (inl h) (inl k) less same = own_apart t tree x y less k (tree.own x h) (tree.own y k) same
-  pick_apart x y (inl h) (inr k) less same = omega (arith, small x (tree.own x h).state (tree.own x h).here, same)
+  pick_apart x y (inl h) (inl k) less same =
+      let one = tree.own x h in
+      let other = tree.own y k in
+      own_apart t tree x y less k one other (rank_same p one.state other.state (only x one.state one.here).0 (only y other.state other.here).0 same)
+  pick_apart x y (inl h) (inr k) less same = (let low = own_below x h in omega (arith, low, same))
   pick_apart x y (inr h) (inl k) less same = omega (arith, h, k, less)
   pick_apart x y (inr h) (inr k) less same = omega (arith, less, same)
 
-  few_names : length t ≤ n
-  few_names = elim (cases_lt n (length t)) [
-    | inl more ↦ absurd (
-        let twice = pigeons n (λ x. pick x (cases_lt x (length t))) (length t) more (λ x less. pick_below x (cases_lt x (length t)) less) in
+  -- it has no more names than there are such states
+  pub few_passing : length t ≤ rank p n
+  few_passing = elim (cases_lt (rank p n) (length t)) [
+    | inl many ↦ absurd (
+        let twice = pigeons (rank p n) (λ x. pick x (cases_lt x (length t))) (length t) many (λ x less. pick_below x (cases_lt x (length t)) less) in
         pick_apart twice.first twice.second (cases_lt twice.first (length t)) (cases_lt twice.second (length t)) twice.later twice.same)
     | inr most ↦ most
   ]
+
+abbrev StatesBelow : ℕ → List Node → Type 0
+StatesBelow n t = (x s : ℕ) → holds t x s ≡ true → s < n
+
+few_names : (n : ℕ) (t : List Node) → IsTree t → StatesBelow n t → length t ≤ n
+few_names n t tree small =
+    let passing = few_passing (λ s. true) n t tree (λ x s h. (refl, small x s h)) in
+    let all = rank_all (λ s. true) n (λ f less. refl) in
+    omega (arith, passing, all)
 
 first_below : (n : ℕ) (starts : List ℕ) (b : Bool) → StatesBelow n (tree_if n starts b)
 first_below n starts false x s h = absurd (omega (arith, holds_within (tree_if n starts false) x s h))
