@@ -20,7 +20,7 @@ use Rattle.plan_meaning.specs.Changes.{Change, PassesBuchi, PassesDnf, PassesFor
 use Rattle.plan_meaning.specs.Changes as change
 use Rattle.plan_meaning.specs.Filters.{Filter, IsOverFilters, Passes}
 use Rattle.plan_meaning.specs.Filters as filter
-use Rattle.plan_meaning.specs.Limits.{PassesOfBoth, PassesOfEither, PassesOfSquare, PassesOfSum, PassesOfWord}
+use Rattle.plan_meaning.specs.Limits.{PassesOfBoth, PassesOfEither, PassesOfEquivalence, PassesOfInclusion, PassesOfSquare, PassesOfSum, PassesOfWord, PassesParity}
 use Rattle.word_syntax.specs.Grammar.{WordPattern}
 
 -- the reader tells it
@@ -65,12 +65,27 @@ square_pass limit.Depth a r h = h
 square_pass limit.Bytes a r h = h
 square_pass _ a r h = absurd r
 
+parity_pass : (which : Limit) (a : Automaton) → IsOfReader which → PassesParity which a → ⊥
+parity_pass limit.Depth a r h = h
+parity_pass limit.Bytes a r h = h
+parity_pass _ a r h = absurd r
+
+inclusion_pass : (which : Limit) (a b : Automaton) → IsOfReader which → PassesOfInclusion which a b → ⊥
+inclusion_pass which a b r (inl h) = parity_pass which b r h.1
+inclusion_pass which a b r (inr h) = both_pass which a h.1.co r h.1.passes
+
+equivalence_pass : (which : Limit) (a b : Automaton) → IsOfReader which → PassesOfEquivalence which a b → ⊥
+equivalence_pass which a b r (inl h) = inclusion_pass which a b r h
+equivalence_pass which a b r (inr h) = inclusion_pass which b a r h.2
+
 -- ---- of a filter, and of a change
 
 filter_pass : (which : Limit) (f : Filter) (a : Automaton) → IsOfReader which → Passes which f a → ⊥
 filter_pass which (filter.AcceptsWord p) a r h = word_pass which (canonical a) p r h
 filter_pass which (filter.RejectsWord p) a r h = word_pass which (canonical a) p r h
 filter_pass which filter.IsEmpty a r h = h
+filter_pass which (filter.IncludedIn b) a r h = inclusion_pass which (canonical a) b r h
+filter_pass which (filter.EquivalentTo b) a r h = equivalence_pass which (canonical a) b r h
 filter_pass which (filter.Intersects b) a r h = both_pass which (canonical a) b r h
 filter_pass which filter.IsDeterministic a r h = h
 filter_pass which filter.IsComplete a r h = h
@@ -102,8 +117,8 @@ monitor_pass _ a r h = absurd r
 
 form_pass : (which : Limit) (f : Form) (a : Automaton) → IsOfReader which → PassesForm which f a → ⊥
 form_pass which form.AsIs a r h = h
-form_pass which form.Deterministic a r h = h
-form_pass which form.Parity a r h = h
+form_pass which form.Deterministic a r h = parity_pass which a r h.1
+form_pass which form.Parity a r h = parity_pass which a r h
 form_pass which form.Buchi a r h = buchi_pass which a r h
 form_pass which form.RemoveFin a r h = fin_pass which a r h
 form_pass which form.Dnf a r h = dnf_pass which a r h
@@ -115,6 +130,7 @@ change_pass which (change.ProductOr b) a r h = either_pass which a b r h
 change_pass which (change.Sum b) a r h = sum_pass which a b r h
 change_pass which (change.RemoveAp x) a r h = h
 change_pass which change.Trim a r h = h
+change_pass which change.Complement a r h = parity_pass which a r h.1
 change_pass which (change.Bring f) a r h = form_pass which f a r h
 change_pass which change.Complete a r h = h
 

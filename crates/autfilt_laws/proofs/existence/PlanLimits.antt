@@ -11,10 +11,10 @@ use Rattle.filter_plan.specs.declared.plan.Form.TheVariants as form
 use Rattle.filter_plan.specs.declared.plan.Plan.{Plan}
 use Rattle.hoa_parser.specs.Raw.{Written}
 use Rattle.hoa_reader.specs.Described.{described}
-use Rattle.plan_meaning.specs.Changes.{Change, PassesBuchi, PassesDnf, PassesForm, PassesIn, PassesMonitor, PassesWithoutFin, StopsIn, Product, ProductOr, Sum, RemoveAp, Trim, Bring, Complete}
+use Rattle.plan_meaning.specs.Changes.{Change, PassesBuchi, PassesDnf, PassesForm, PassesIn, PassesMonitor, PassesWithoutFin, StopsIn, Product, ProductOr, Sum, RemoveAp, Trim, Complement, Bring, Complete}
 use Rattle.plan_meaning.specs.Filters as filter
 use Rattle.plan_meaning.specs.Filters.{Filter, IsOverFilters, Passes}
-use Rattle.plan_meaning.specs.Limits.{PassesOfBoth, PassesOfEither, PassesOfSquare, PassesOfSum}
+use Rattle.plan_meaning.specs.Limits.{PassesOfBoth, PassesOfEither, PassesOfEquivalence, PassesOfInclusion, PassesOfSquare, PassesOfSum, PassesParity}
 
 of_both : (which : Limit) (a b : Automaton) → PassesOfBoth which a b → IsOfWhole which
 of_both limit.Names a b h = tt
@@ -39,9 +39,27 @@ of_square : (which : Limit) (a : Automaton) → PassesOfSquare which a → IsOfW
 of_square limit.Pairs a h = tt
 of_square _ a h = absurd h
 
+of_parity : (which : Limit) (a : Automaton) → PassesParity which a → IsOfWhole which
+of_parity limit.Terms a h = tt
+of_parity limit.BuchiStates a h = tt
+of_parity limit.Trees a h = tt
+of_parity limit.Nodes a h = tt
+of_parity limit.Classes a h = tt
+of_parity _ a h = absurd h
+
+of_inclusion : (which : Limit) (a b : Automaton) → PassesOfInclusion which a b → IsOfWhole which
+of_inclusion which a b (inl h) = of_parity which b h.1
+of_inclusion which a b (inr h) = of_both which a h.1.co h.1.passes
+
+of_equivalence : (which : Limit) (a b : Automaton) → PassesOfEquivalence which a b → IsOfWhole which
+of_equivalence which a b (inl h) = of_inclusion which a b h
+of_equivalence which a b (inr h) = of_inclusion which b a h.2
+
 of_filter : (f : Filter) (which : Limit) (a : Automaton) → Passes which f a → IsOfWhole which
 of_filter (filter.AcceptsWord p) which a h = of_pattern which (canonical a) _ h
 of_filter (filter.RejectsWord p) which a h = of_pattern which (canonical a) _ h
+of_filter (filter.IncludedIn b) which a h = of_inclusion which (canonical a) b h
+of_filter (filter.EquivalentTo b) which a h = of_equivalence which (canonical a) b h
 of_filter (filter.Intersects b) which a h = of_both which (canonical a) b h
 of_filter filter.IsUnambiguous which a h = of_square which (canonical a) h
 of_filter _ which a h = absurd h
@@ -68,8 +86,8 @@ of_monitor _ a h = absurd h
 
 of_form : (which : Limit) (f : Form) (a : Automaton) → PassesForm which f a → IsOfWhole which
 of_form which form.AsIs a h = absurd h
-of_form which form.Deterministic a h = absurd h
-of_form which form.Parity a h = absurd h
+of_form which form.Deterministic a h = of_parity which a h.1
+of_form which form.Parity a h = of_parity which a h
 of_form which form.Buchi a h = of_buchi which a h
 of_form which form.RemoveFin a h = of_fin which a h
 of_form which form.Dnf a h = of_dnf which a h
@@ -81,6 +99,7 @@ of_change (ProductOr b) which a h = of_either which a b h
 of_change (Sum b) which a h = of_sum which a b h
 of_change (RemoveAp x) which a h = absurd h
 of_change Trim which a h = absurd h
+of_change Complement which a h = of_parity which a h.1
 of_change (Bring f) which a h = of_form which f a h
 of_change Complete which a h = absurd h
 

@@ -29,7 +29,7 @@ use Rattle.hoa_reader.specs.Described.{described}
 use Rattle.hoa_reader.specs.Validity.{IsValid}
 use Rattle.hoa_writer.specs.CanonicalText.{canonical_text}
 use Rattle.hoa_writer.specs.CanonicalWritten.{CanonicalTextReadsBack, ReadsBack}
-use Rattle.plan_meaning.specs.Changes.{Change, Complete, MakesAll, Product, ProductOr, RemoveAp, Sum, Trim, changes_of, form_change, said_by_all, set_operation}
+use Rattle.plan_meaning.specs.Changes.{Change, Complement, Complete, MakesAll, Product, ProductOr, RemoveAp, Sum, Trim, changes_of, form_change, said_by_all, set_operation}
 use Rattle.plan_meaning.specs.Operands.{operand_at, place_of_product, place_of_product_or, place_of_sum}
 use Rattle.plan_meaning.specs.Promises.{KeepsForm, KeepsPromises}
 use Rattle.plan_meaning.specs.Standing.{those_standing}
@@ -64,6 +64,7 @@ record ChangesNothing (p : Plan) : Type 0 where
   sum : p.sum ≡ None
   remove_ap : p.remove_ap ≡ None
   trim : p.trim ≡ false
+  complement : p.complement ≡ false
   form : p.form ≡ form.AsIs
   complete : p.complete ≡ false
 
@@ -82,6 +83,7 @@ changes_nothing p e =
       sum = absent p.sum c.0;
       remove_ap = not_hidden p.remove_ap d.0;
       trim = f.0;
+      complement = g.0;
       form = as_is p.form h.0;
       complete = h.1;
     }
@@ -96,9 +98,10 @@ no_changes p ops n =
     let sum = none_of Sum p.sum (place_of_sum p) ops n.sum in
     let hidden = ap (option_map RemoveAp) n.remove_ap in
     let trim = ap (λ on. then_some on Trim) n.trim in
+    let complement = ap (λ on. then_some on Complement) n.complement in
     let form = ap form_change n.form in
     let complete = ap (λ on. then_some on Complete) n.complete in
-    λ i. those_standing (product i ∷ product_or i ∷ sum i ∷ hidden i ∷ trim i ∷ form i ∷ complete i ∷ [])
+    λ i. those_standing (product i ∷ product_or i ∷ sum i ∷ hidden i ∷ trim i ∷ complement i ∷ form i ∷ complete i ∷ [])
 
 -- ---- so the automaton is printed as it is
 
