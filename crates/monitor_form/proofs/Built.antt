@@ -1,7 +1,5 @@
 -- The automaton that is made of the sets and edges that were found.
-use Rattle.std.proofs.Common.{◌≡◌, ◌≢◌, ◌∙◌, ◌<◌, ◌≤◌, ℕ, zero, suc, All, AllPairs, Contains, List, [], ◌∷◌, None, Option, Some, ap, arith, get_or, inl, inr, length, map, refl, slice_get, subst, sym}
-use Rattle.std.proofs.lemmas.Bool.{cases_lt}
-use Rattle.std.proofs.lemmas.List.{get_or-map, length-map}
+use Rattle.std.proofs.Common.{◌≡◌, ◌≢◌, ◌∙◌, ◌<◌, ℕ, zero, suc, All, Contains, List, [], ◌∷◌, None, Option, Some, ap, arith, get_or, inl, inr, length, map, refl, slice_get, subst, sym}
 use Rattle.std.proofs.lemmas.List.Elements.{All-contains, All-map}
 use Rattle.std.proofs.lemmas.Option.{get_or_from_slice_get, slice_get_within}
 use Rattle.std.proofs.lemmas.Simd.{map-map}
@@ -16,7 +14,8 @@ use Rattle.aut_base.specs.declared.limit.TheConstants.{MOST_SUBSETS}
 use Rattle.aut_core.proofs.Growth.{keeps_none}
 use Rattle.aut_core.specs.Core.{AreParts, Core, IsCore, IsLinkOf, automaton_of, edge_of}
 use Rattle.aut_core.specs.declared.link.Link.{Link}
-use Rattle.exploration.proofs.Edges.{ArrowBefore, arrows_rise, edge_from}
+use Rattle.exploration.proofs.Edges.{arrows_rise, edge_from}
+use Rattle.exploration.proofs.InOrder.{froms_rise}
 use Rattle.exploration.specs.Explorations.{IsClassed, IsMet, IsSound, arrow_of}
 use Rattle.exploration.specs.Moves.{Fails, Gives, Lacks, Move}
 use Rattle.exploration.specs.Reached.{IsCaused, IsExplored}
@@ -26,41 +25,16 @@ use Rattle.exploration.specs.declared.fault.Fault.{Fault}
 use Rattle.exploration.specs.declared.fault.Fault.TheVariants as limit
 use Rattle.label_guards.specs.Store.{Keeps, Store, label_in}
 use Rattle.label_guards.specs.declared.guard.Guard.{Guard}
+use Rattle.letter_classes.specs.SetClasses.{FitsStore, IsClassGuard, class_label, set_classes, set_labels}
 use Rattle.monitor_form.specs.Faults.{exploration_fault}
 use Rattle.monitor_form.specs.Monitors.{first_places, set_at}
-use Rattle.monitor_form.specs.Subsets.{IsExploredFrom, MeetsSubsetLimit, class_label, monitor_edge, monitor_on, set_classes, set_labels, start_set, step_at, subset_moves, subset_rules, unless_empty}
-use Rattle.monitor_form.specs.Systems.{FitsStore, IsClassGuard, link_of}
+use Rattle.monitor_form.specs.Subsets.{IsExploredFrom, MeetsSubsetLimit, monitor_edge, monitor_on, start_set, step_at, subset_moves, subset_rules, unless_empty}
+use Rattle.monitor_form.specs.Systems.{link_of}
 use Rattle.monitor_form.specs.declared.fault.MonFault.TheVariants as fault
 
 map_alike : {X Y : Type 0} (f g : X → Y) (xs : List X) → ((x : X) → Contains xs x → f x ≡ g x) → map f xs ≡ map g xs
 map_alike f g [] same = refl
 map_alike f g (x ∷ xs) same = λ i. same x (zero, omega arith, refl) i ∷ map_alike f g xs (λ y there. same y (suc there.0, omega (arith, there.1), there.2)) i
-
--- edges in the order of their places leave states that do not fall
-from_at : (rows : List Arrow) (i : ℕ) (e : Arrow) (d : ℕ) → i < length rows → get_or (map (λ (a : Arrow). a.from) rows) i d ≡ (get_or rows i e).from
-from_at rows i e d within = get_or-map (λ (a : Arrow). a.from) rows i e d within
-
-none : Arrow
-none = record { from = 0; class = 0; to = 0 }
-
-before_le : (a b : Arrow) → ArrowBefore a b → a.from ≤ b.from
-before_le a b (inl less) = omega (arith, less)
-before_le a b (inr same) = let e = same.0 in omega (arith, e)
-
-froms_rise : (rows : List Arrow) → AllPairs ArrowBefore rows → IsNonDecreasing (map (λ (a : Arrow). a.from) rows)
-froms_rise rows rise i j d order within =
-    let size = length-map rows (λ (a : Arrow). a.from) in
-    let inside : j < length rows = omega (arith, within, size) in
-    let first = from_at rows i none d (omega (arith, order, inside)) in
-    let second = from_at rows j none d inside in
-    elim (cases_lt i j) [
-      | inl less ↦ (let le = before_le (get_or rows i none) (get_or rows j none) (rise i j none less inside) in omega (arith, le, first, second))
-      | inr more ↦ (
-          let same : i ≡ j = omega (arith, order, more) in
-          let e : get_or (map (λ (a : Arrow). a.from) rows) i d ≡ get_or (map (λ (a : Arrow). a.from) rows) j d = ap (λ k. get_or (map (λ (a : Arrow). a.from) rows) k d) same in
-          omega (arith, e)
-          )
-    ]
 
 first_place : (ss : List ℕ) → 0 < length ss → 0 ∷ [] ≡ first_places ss
 first_place [] some = absurd (omega (arith, some))

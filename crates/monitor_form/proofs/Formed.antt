@@ -1,17 +1,14 @@
 -- The subset construction makes a monitor, and a deterministic automaton.
 use Rattle.std.proofs.Common.{◌≡◌, ◌∙◌, ◌<◌, ◌≤◌, ◌==◌, ◌&&◌, ℕ, Bool, true, false, Contains, List, [], ◌∷◌, Some, ap, arith, eq-eqb, get_or, inl, inr, length, refl, slice_get, subst, sym}
 use Rattle.std.proofs.lemmas.Bool.{and_from, and_parts, eqb-true, true≢false}
-use Rattle.std.proofs.lemmas.List.{length-map}
 use Rattle.std.proofs.lemmas.List.Elements.{All-contains, Contains-get_or}
 use Rattle.std.proofs.lemmas.Option.{get_or_from_slice_get, slice_get-get_or, slice_get_within}
 use Rattle.std.specs.List.{list_any, range_with_len}
-use Rattle.aut_base.proofs.CanonicalTruth.{truth_on-label_of}
 use Rattle.aut_base.proofs.Members.{any_found, any_from, first_there, from_filter, from_flat_map, from_map, none_there, placed_there, there_at, there_filter, there_flat_map, there_map}
 use Rattle.aut_base.proofs.Members.{there_range_zero}
-use Rattle.std.specs.FinSet as set
-use Rattle.aut_base.proofs.ValuationLetters.{valuation_at, valuation_at_holds}
+use Rattle.aut_base.proofs.ValuationLetters.{valuation_at}
 use Rattle.aut_base.specs.Automaton.{Automaton, IsEdgeOf, IsWellFormed, TreeEdge}
-use Rattle.aut_base.specs.Label.{LabelTree, holds_at, truth}
+use Rattle.aut_base.specs.Label.{holds_at, truth}
 use Rattle.aut_base.specs.Valuation.{holds_in, truth_on}
 use Rattle.aut_base.specs.Word.{NameSet}
 use Rattle.aut_core.specs.Deterministic.{AreApart, IsDeterministic}
@@ -22,8 +19,10 @@ use Rattle.exploration.specs.Reached.{IsExplored}
 use Rattle.exploration.specs.Turns.{Arrow, EndsWith}
 use Rattle.label_guards.proofs.ClassLeastLaws.{alike_each, alike_on, alike_turned, least_alike, leasts_apart}
 use Rattle.label_guards.specs.ClassLeasts.{are_alike}
+use Rattle.letter_classes.proofs.ClassTruths.{at_letter, class_truth, valuation_long}
+use Rattle.letter_classes.specs.SetClasses.{class_label, set_classes, set_edges, set_labels}
 use Rattle.monitor_form.specs.Monitors.{HasEdge, IsGoal, IsMonitorOf, IsMove, first_places, set_at}
-use Rattle.monitor_form.specs.Subsets.{class_label, goals, is_goal, monitor_edge, monitor_on, set_classes, set_edges, set_labels, start_set, step_at, subset_moves, subset_rules, unless_empty}
+use Rattle.monitor_form.specs.Subsets.{goals, is_goal, monitor_edge, monitor_on, start_set, step_at, subset_moves, subset_rules, unless_empty}
 use Rattle.exploration.proofs.Ends.{explored}
 use Rattle.std.specs.Cmp.Lexicographic.{bytes_decides, pointwise}
 use Rattle.std.specs.Prelude.{nat_eq}
@@ -55,18 +54,6 @@ some_given (p ∷ qs) q there = refl
 module _ (b : Automaton) (formed : IsWellFormed b) where
   abbrev n : ℕ
   n = length b.names
-
-  -- the propositions that hold at a letter, as a valuation
-  at_letter : (x : NameSet) → holds_at b.names x ≡ holds_in (valuation_at b.names x)
-  at_letter x = λ j. λ i. valuation_at_holds b.names x i j
-
-  valuation_long : (x : NameSet) → length (valuation_at b.names x) ≡ n
-  valuation_long x = length-map b.names (set.contains x)
-
-  class_truth : (labels : List LabelTree) (v : List Bool) (x : NameSet) → truth (holds_at b.names x) (class_label n labels v) ≡ are_alike labels (holds_in v) (holds_at b.names x)
-  class_truth labels v x =
-      ap (λ (f : ℕ → Bool). truth f (class_label n labels v)) (at_letter x)
-      ∙ (truth_on-label_of n (λ w. are_alike labels (holds_in v) (holds_in w)) (valuation_at b.names x) (valuation_long x) ∙ ap (are_alike labels (holds_in v)) (sym (at_letter x)))
 
   -- the goals of a class are those of each letter in it
   module _ (states : List ℕ) (v : List Bool) (x : NameSet) (alike : are_alike (set_labels b states) (holds_in v) (holds_at b.names x) ≡ true) where
@@ -146,7 +133,7 @@ module _ (b : Automaton) (formed : IsWellFormed b) where
 
     arrow_alike : (a : Arrow) (x : NameSet) → truth (holds_at b.names x) (monitor_edge b sets a).label ≡ true
         → are_alike (set_labels b (set_at sets a.from)) (holds_in (get_or (classes_at a.from) a.class [])) (holds_at b.names x) ≡ true
-    arrow_alike a x e = sym (class_truth (set_labels b (set_at sets a.from)) (get_or (classes_at a.from) a.class []) x) ∙ e
+    arrow_alike a x e = sym (class_truth b.names (set_labels b (set_at sets a.from)) (get_or (classes_at a.from) a.class []) x) ∙ e
 
     arrow_moves : (a : Arrow) (x : NameSet) → Contains arrows a → truth (holds_at b.names x) (monitor_edge b sets a).label ≡ true → IsMove b sets x a.from a.to
     arrow_moves a x there e =
@@ -166,9 +153,9 @@ module _ (b : Automaton) (formed : IsWellFormed b) where
     goes_on : (i : ℕ) (x : NameSet) (q : ℕ) → i < length sets → IsGoal b (set_at sets i) x q → HasEdge (monitor_on sets arrows b) i x
     goes_on i x q inside goal =
         let labels = set_labels b (set_at sets i) in
-        let least = least_alike n labels (valuation_at b.names x) (valuation_long x) in
+        let least = least_alike n labels (valuation_at b.names x) (valuation_long b.names x) in
         let w = least.0 in
-        let alike : are_alike labels (holds_in w) (holds_at b.names x) ≡ true = ap (are_alike labels (holds_in w)) (at_letter x) ∙ least.2 in
+        let alike : are_alike labels (holds_in w) (holds_at b.names x) ≡ true = ap (are_alike labels (holds_in w)) (at_letter b.names x) ∙ least.2 in
         let at = there_at (classes_at i) w least.1 in
         let among = from_goal (set_at sets i) w x alike q goal in
         let gives : step_at b (set_at sets i) (slice_get (classes_at i) at.0) ≡ Gives (goals b (set_at sets i) w) = ap (step_at b (set_at sets i)) at.1 ∙ some_given (goals b (set_at sets i) w) q
@@ -182,7 +169,7 @@ module _ (b : Automaton) (formed : IsWellFormed b) where
           edge = monitor_edge b sets a;
           there = there_map (monitor_edge b sets) arrows a (placed_there arrows edge.1.0 a edge.1.1);
           from = edge.2;
-          allowed = ap (truth (holds_at b.names x)) same ∙ (class_truth labels w x ∙ alike);
+          allowed = ap (truth (holds_at b.names x)) same ∙ (class_truth b.names labels w x ∙ alike);
         }
 
     pub is_monitor : IsMonitorOf b (monitor_on sets arrows b) sets

@@ -1,9 +1,9 @@
 pub mod Built
-pub mod ClassHandles
 pub mod Formed
 pub mod LivePaths
 pub mod LongPaths
 pub mod MonitorLaws
 pub mod Prefixed
 pub mod Raising
+pub mod SetSteps
 pub mod Stops

@@ -1,29 +1,25 @@
 -- Flags of the states to which edges lead.
-use Rattle.std.proofs.Common.{◌≡◌, ◌≢◌, ◌∙◌, ◌+◌, ◌<◌, ◌≤◌, ◌==◌, ◌&&◌, ◌||◌, ℕ, zero, suc, All, Bool, true, false, List, [], ◌∷◌, ◌++◌, Some, ap, arith, cond, filter, get_or, length, map, refl}
-use Rattle.std.proofs.Common.{set, slice_get, subst, sym, take}
+use Rattle.std.proofs.Common.{◌≡◌, ◌≢◌, ◌∙◌, ◌+◌, ◌<◌, ◌≤◌, ◌==◌, ◌&&◌, ◌||◌, ℕ, zero, suc, Bool, true, false, List, [], ◌∷◌, ◌++◌, ap, arith, cond, filter, get_or, length, map, refl}
+use Rattle.std.proofs.Common.{set, subst, sym, take}
 use Rattle.std.proofs.Math.Bool.{or_assoc}
 use Rattle.std.proofs.lemmas.Bool.{eqb-false, eqb-true}
 use Rattle.std.proofs.lemmas.List.{get_or-set_other, get_or-set_same, take_all}
-use Rattle.std.proofs.lemmas.List.{map-append}
-use Rattle.std.proofs.lemmas.List.Elements.{All-contains, All-filter, filter-append}
+use Rattle.std.proofs.lemmas.List.Elements.{filter-append}
 use Rattle.std.proofs.lemmas.List.Folds.{list_any-append}
 use Rattle.std.specs.List.{list_any, range_with_len}
-use Rattle.std.specs.Prelude.{flat_map}
 use Rattle.aut_base.proofs.Lists.{range_more}
-use Rattle.aut_base.proofs.Members.{each_there, from_filter, from_flat_map, from_map, read_has}
-use Rattle.aut_base.proofs.Steps.{flat_map_on, map_on}
+use Rattle.aut_base.proofs.Steps.{map_on}
 use Rattle.aut_base.proofs.Truth.{or-false}
 use Rattle.aut_base.specs.Automaton.{Automaton, TreeEdge}
 use Rattle.aut_base.specs.Word.{NameSet}
-use Rattle.aut_core.specs.Core.{Core, IsCore, IsLinkOf, automaton_of, edge_of}
+use Rattle.aut_core.specs.Core.{Core, automaton_of, edge_of}
 use Rattle.aut_core.specs.Deterministic.{is_met}
 use Rattle.aut_core.specs.Surveys.{edges_from}
 use Rattle.aut_core.specs.declared.link.Link.{Link}
 use Rattle.aut_ops.proofs.Linked.{edges_filter}
-use Rattle.monitor_form.specs.Subsets.{is_goal, set_edges, set_labels, start_set}
+use Rattle.letter_classes.specs.SetClasses.{set_edges}
+use Rattle.monitor_form.specs.Subsets.{is_goal, start_set}
 use Rattle.monitor_form.specs.Systems.{AreRaised, letter_goals}
-use Rattle.label_guards.specs.Store.{Has, label_in}
-use Rattle.label_guards.specs.declared.guard.Guard.{Guard}
 
 -- a test of one item more
 pub any-push : {X : Type 0} (p : X → Bool) (xs : List X) (x : X) → list_any p (xs ++ x ∷ []) ≡ (list_any p xs || p x)
@@ -81,10 +77,6 @@ pub raised_all : (c : Core) (x : NameSet) (state i : ℕ) (row : List Link) (old
 raised_all c x state i row old new e all so =
     subst (λ (es : List TreeEdge). AreRaised (automaton_of c) x es old new) (ap (map (edge_of c.store)) (take_all i row all ∙ e) ∙ sym (edges_filter c.store state c.links)) so
 
--- what holds of each link holds of the links of a state
-pub row_link : (c : Core) → IsCore c → (state i : ℕ) (row : List Link) (l : Link) → row ≡ filter (λ l. l.from == state) c.links → i < length row → l ≡ get_or row i l → IsLinkOf c l
-row_link c core state i row l e within at = read_has (IsLinkOf c) row i l (subst (All (IsLinkOf c)) (sym e) (All-filter (λ l. l.from == state) (IsLinkOf c) c.links core.parts.links)) within at
-
 -- the numbers of flags, one flag more
 pub flagged_more : (flags : List Bool) (n : ℕ) (b : Bool) → get_or flags n false ≡ b → filter (λ q. get_or flags q false) (range_with_len 0 (n + 1)) ≡ filter (λ q. get_or flags q false)
     (range_with_len 0 n) ++ cond b (n ∷ []) []
@@ -92,10 +84,6 @@ flagged_more flags n b e =
     let at : 0 + n ≡ n = omega arith in
     ap (filter (λ q. get_or flags q false)) (range_more 0 n ∙ ap (λ m. range_with_len 0 n ++ m ∷ []) at)
     ∙ (filter-append (λ q. get_or flags q false) (range_with_len 0 n) (n ∷ []) ∙ ap (λ c. filter (λ q. get_or flags q false) (range_with_len 0 n) ++ cond c (n ∷ []) []) e)
-
--- the edges of one state more
-pub set_edges_on : (b : Automaton) (set : List ℕ) (k state : ℕ) → slice_get set k ≡ Some state → set_edges b (take k set) ++ edges_from state b.edges ≡ set_edges b (take (k + 1) set)
-set_edges_on b set k state at = flat_map_on (λ q. edges_from q b.edges) set k state at
 
 abbrev pub AreGoals : Automaton → NameSet → List TreeEdge → List Bool → Type 0
 AreGoals b x es flags = (q : ℕ) → q < b.states → get_or flags q false ≡ is_goal (is_met b.names x) es q
@@ -124,28 +112,3 @@ pub starts_are : (b : Automaton) (k : ℕ) (starts : List ℕ) (flags items : Li
     → ((q : ℕ) → q < b.states → get_or flags q false ≡ list_any (λ s. s == q) (take k starts)) → filter (λ q. get_or items q false) (range_with_len 0 (length items)) ≡ start_set b
 starts_are b k starts flags items e size same all are = filter_below (λ q. get_or items q false) (λ q. list_any (λ s. s == q) b.starts) (length items) b.states (ap length e ∙ size) (λ q within.
     ap (λ (fs : List Bool). get_or fs q false) e ∙ (are q within ∙ ap (λ (qs : List ℕ). list_any (λ s. s == q) qs) (take_all k starts all ∙ same)))
-
--- guards of the links that leave the states of a set
-abbrev pub guards_from : Core → List ℕ → List Guard
-guards_from c qs = flat_map (λ q. map (λ (l : Link). l.guard) (filter (λ l. l.from == q) c.links)) qs
-
-row_labels : (c : Core) (row : List Link) → map (label_in c.store) (map (λ (l : Link). l.guard) row) ≡ map (λ (e : TreeEdge). e.label) (map (edge_of c.store) row)
-row_labels c [] = refl
-row_labels c (l ∷ row) = ap (λ ts. label_in c.store l.guard ∷ ts) (row_labels c row)
-
-pub guards_labels : (c : Core) (qs : List ℕ) → map (label_in c.store) (guards_from c qs) ≡ set_labels (automaton_of c) qs
-guards_labels c [] = refl
-guards_labels c (q ∷ qs) =
-    let row : List Link = filter (λ l. l.from == q) c.links in
-    let first : map (label_in c.store) (map (λ (l : Link). l.guard) row) ≡ map (λ (e : TreeEdge). e.label) (edges_from q (automaton_of c).edges) =
-    row_labels c row ∙ ap (map (λ (e : TreeEdge). e.label)) (sym (edges_filter c.store q c.links)) in
-    map-append (label_in c.store) (map (λ (l : Link). l.guard) row) (guards_from c qs)
-    ∙ (ap (λ ts. ts ++ map (label_in c.store) (guards_from c qs)) first ∙ (ap (λ ts. map (λ (e : TreeEdge). e.label) (edges_from q (automaton_of c).edges) ++ ts) (guards_labels c qs)
-    ∙ sym (map-append (λ (e : TreeEdge). e.label) (edges_from q (automaton_of c).edges) (set_edges (automaton_of c) qs))))
-
-pub guards_has : (c : Core) → IsCore c → (qs : List ℕ) → All (Has c.store) (guards_from c qs)
-guards_has c core qs = each_there (Has c.store) (guards_from c qs) (λ g there.
-    let from = from_flat_map (λ q. map (λ (l : Link). l.guard) (filter (λ l. l.from == q) c.links)) qs g there in
-    let link = from_map (λ (l : Link). l.guard) (filter (λ l. l.from == from.0) c.links) g from.2 in
-    let is = All-contains (IsLinkOf c) c.links link.0 core.parts.links (from_filter (λ l. l.from == from.0) c.links link.0 link.1).0 in
-    subst (Has c.store) link.2 is.guard)

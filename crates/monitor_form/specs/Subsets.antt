@@ -1,33 +1,19 @@
 -- The subset construction, as a system that is explored: things are sets of states, as lists of numbers in rising order,
 -- and classes are those of the letters that the edges from a set tell apart.
-use Rattle.std.specs.Prelude.{◌≡◌, ◌≤◌, ℕ, ◌<◌, ◌==◌, ◌&&◌, Bool, List, [], ◌∷◌, Option, None, Some, filter, flat_map, length, map, nat_eq, slice_get}
+use Rattle.std.specs.Prelude.{◌≡◌, ◌≤◌, ℕ, ◌<◌, ◌==◌, ◌&&◌, Bool, List, [], ◌∷◌, Option, None, Some, filter, length, map, nat_eq, slice_get}
 use Rattle.std.specs.Cmp.Lexicographic.{pointwise}
 use Rattle.std.specs.List.{list_any, range_with_len, slice_index_or}
 use Rattle.aut_base.specs.Automaton.{Automaton, TreeEdge}
-use Rattle.aut_base.specs.CanonicalLabel.{label_of}
 use Rattle.aut_base.specs.Formula.{FormulaTree}
-use Rattle.aut_base.specs.Label.{LabelTree}
-use Rattle.aut_base.specs.Valuation.{holds_in, truth_on}
+use Rattle.aut_base.specs.Valuation.{truth_on}
 use Rattle.aut_base.specs.declared.limit.TheConstants.{MOST_BUCHI_STATES, MOST_CLASSES, MOST_SUBSETS}
-use Rattle.aut_core.specs.Surveys.{edges_from}
 use Rattle.aut_ops.specs.Pruning.{IsPruned}
 use Rattle.degeneralise.specs.Buchi.{buchi, buchi_states}
 use Rattle.exploration.specs.Moves.{Gives, Lacks, Move, Moves}
 use Rattle.exploration.specs.Turns.{Arrow, Comes, EndsWith, Meets, Rules, begin}
 use Rattle.exploration.specs.declared.fault.Fault.{Fault}
-use Rattle.label_guards.specs.ClassLeasts.{are_alike, class_leasts}
+use Rattle.letter_classes.specs.SetClasses.{class_label, set_classes, set_edges, set_labels}
 use Rattle.monitor_form.specs.Monitors.{first_places, set_at}
-
--- the edges that leave states of the set, in the order of the set
-abbrev pub set_edges : Automaton → List ℕ → List TreeEdge
-set_edges b set = flat_map (λ q. edges_from q b.edges) set
-
-abbrev pub set_labels : Automaton → List ℕ → List LabelTree
-set_labels b set = map (λ e. e.label) (set_edges b set)
-
--- the least valuations of the classes that the labels of these edges tell apart, in order
-abbrev pub set_classes : Automaton → List ℕ → List (List Bool)
-set_classes b set = class_leasts (length b.names) (set_labels b set)
 
 -- an edge leads from the set to this state where `reads` says that it does
 abbrev pub is_goal : (TreeEdge → Bool) → List TreeEdge → ℕ → Bool
@@ -56,10 +42,6 @@ start_set b = filter (λ q. list_any (λ s. s == q) b.starts) (range_with_len 0 
 -- the exploration of what the set of the starts reaches
 abbrev pub subset_rules : Automaton → Rules (List ℕ)
 subset_rules b = record { same = pointwise nat_eq; moves = subset_moves b; most_things = MOST_SUBSETS; most_classes = MOST_CLASSES }
-
--- the label of the class of a valuation
-abbrev pub class_label : ℕ → List LabelTree → List Bool → LabelTree
-class_label n labels v = label_of n (λ w. are_alike labels (holds_in v) (holds_in w))
 
 -- the edge between the places of two sets, under its class
 abbrev pub monitor_edge : Automaton → List (List ℕ) → Arrow → TreeEdge

@@ -1,30 +1,14 @@
 -- What the functions of the construction say to one another.
-use Rattle.std.specs.Prelude.{◌≡◌, ◌<◌, ◌||◌, ℕ, ⊤, Bool, false, List, [], Some, All, length, slice_get}
+use Rattle.std.specs.Prelude.{◌≡◌, ◌<◌, ◌||◌, ℕ, ⊤, Bool, false, List, [], filter, length}
 use Rattle.std.specs.List.{range_with_len, slice_index_or}
-use Rattle.std.specs.Prelude.{filter}
 use Rattle.aut_base.specs.Automaton.{Automaton, TreeEdge}
-use Rattle.aut_base.specs.Valuation.{IsLeast, truth_on}
 use Rattle.aut_base.specs.Word.{NameSet}
-use Rattle.aut_core.specs.Core.{Core, automaton_of}
 use Rattle.aut_core.specs.Deterministic.{is_met}
 use Rattle.aut_core.specs.declared.link.Link.{Link}
 use Rattle.exploration.specs.declared.exploration.Edge.{Edge}
-use Rattle.label_guards.specs.Store.{Has, Keeps, Store, label_in}
 use Rattle.label_guards.specs.declared.guard.Guard.{Guard}
-use Rattle.monitor_form.specs.Subsets.{class_label, is_goal, set_classes, set_edges, set_labels}
-
--- the states of the set are those of the automaton, and the store has its guards
-pub record FitsStore (c : Core) (s : Store) (set : List ℕ) : Type 0 where
-  pub states : All (λ q. q < c.states) set
-  pub keeps : Keeps c.store s
-
--- the guard is that of the class of this number
-pub record IsClassGuard (c : Core) (s : Store) (set : List ℕ) (k : ℕ) (g : Guard) : Type 0 where
-  pub valuation : List Bool
-  pub at : slice_get (set_classes (automaton_of c) set) k ≡ Some valuation
-  pub has : Has s g
-  pub least : IsLeast s.names (truth_on (label_in s g)) valuation
-  pub label : label_in s g ≡ class_label (length c.names) (set_labels (automaton_of c) set) valuation
+use Rattle.letter_classes.specs.SetClasses.{set_edges}
+use Rattle.monitor_form.specs.Subsets.{is_goal}
 
 -- the states to which edges lead from the set at the letter, in rising order
 abbrev pub letter_goals : Automaton → List ℕ → NameSet → List ℕ

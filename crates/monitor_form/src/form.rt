@@ -11,9 +11,10 @@ ghost use Rattle.exploration.specs.Explorations.{IsSound, arrow_of};
 ghost use Rattle.exploration.specs.Reached.{IsExplored};
 ghost use Rattle.exploration.specs.declared.fault.Fault.{Fault};
 ghost use Rattle.label_guards.specs.Store.{Keeps};
+ghost use Rattle.letter_classes.specs.SetClasses.{FitsStore, IsClassGuard};
 ghost use Rattle.monitor_form.specs.Prefixes.{AcceptsPrefixes};
 ghost use Rattle.monitor_form.specs.Subsets.{IsMonitor, IsSubsetForm, MeetsLimit, MeetsSubsetLimit, monitor_on, start_set, subset_moves};
-ghost use Rattle.monitor_form.specs.Systems.{FitsStore, IsClassGuard, link_of};
+ghost use Rattle.monitor_form.specs.Systems.{link_of};
 ghost use Rattle.monitor_form.specs.declared.fault.MonFault.{MonFault};
 
 use crate::fault::{MonFault, limit_met};

@@ -2,11 +2,12 @@
 
 ghost use Rattle.std.specs.Prelude.{◌≡◌};
 
-use crate::goals::{goals, set_guards};
+use crate::goals::goals;
 use aut_base::{Memory, Numbers};
 use aut_core::Automaton;
 use exploration::{StepFault, System};
 use label_guards::{Guard, Guards};
+use letter_classes::classes_of_set;
 use std::alloc::Global;
 
 /// The sets of states of an automaton, as lists of numbers in rising order, and a store that has its guards and those of the
@@ -21,8 +22,8 @@ impl<'a> System for Subsets<'a> {
     ghost use Rattle.std.specs.Prelude.{ℕ, List, nat_eq, ⊤};
     ghost use Rattle.std.specs.Cmp.Lexicographic.{bytes_decides, pointwise};
     ghost use Rattle.aut_core.specs.Core.{Core, automaton_of};
+    ghost use Rattle.letter_classes.specs.SetClasses.{FitsStore, IsClassGuard};
     ghost use Rattle.monitor_form.specs.Subsets.{subset_moves};
-    ghost use Rattle.monitor_form.specs.Systems.{FitsStore, IsClassGuard};
 
     type Thing = Numbers;
 
@@ -58,12 +59,13 @@ impl<'a> System for Subsets<'a> {
         thing: &Numbers,
         most: u32,
     ) -> Result<Option<Vec<Guard>>, Memory> {
-        self.automaton.whole();
-        let list = set_guards(alloc, self.automaton, thing.as_slice())?;
-        match self.guards.classes(alloc, &list, most)? {
-            Some(classes) => Ok(Some(classes.into_vec())),
-            None => Ok(None),
-        }
+        classes_of_set(
+            alloc,
+            self.automaton,
+            &mut self.guards,
+            thing.as_slice(),
+            most,
+        )
     }
 
     fn step(

@@ -2,7 +2,8 @@
 //!
 //! A caller sees `judge` and `change`, the operands that both take, and why they may refuse. `specs/Operands` says which
 //! operand belongs to which option, `specs/Filters` what the verdict is, `specs/Changes` what is made and which words it
-//! accepts, `specs/Promises` what a form promises, and `specs/Limits` which limits two automata put together may pass.
+//! accepts, `specs/Promises` what a form promises, and `specs/Limits` which limits may be passed
+//! where an automaton is determinised, or two are put together or compared.
 #![tactic(auto)]
 
 mod change_laws;

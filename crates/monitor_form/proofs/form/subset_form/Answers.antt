@@ -11,7 +11,7 @@ use Rattle.exploration.specs.Turns.{EndsWith}
 use Rattle.monitor_form.proofs.Built.{explored_from, start_fits}
 use Rattle.label_guards.specs.Store.{Keeps}
 use Rattle.monitor_form.specs.Subsets.{subset_moves, subset_rules}
-use Rattle.monitor_form.specs.Systems.{FitsStore, IsClassGuard}
+use Rattle.letter_classes.specs.SetClasses.{FitsStore, IsClassGuard}
 use Rattle.monitor_form.proofs.form.subset_form.Goals as goal
 
 pub explore-requires-clause-fits : goal.explore-requires-clause-fits

@@ -1,7 +1,7 @@
 use Rattle.std.proofs.Common.{◌≡◌, length, take}
 use Rattle.aut_core.specs.Core.{automaton_of}
 use Rattle.monitor_form.proofs.Raising.{AreGoals}
-use Rattle.monitor_form.specs.Subsets.{set_edges}
+use Rattle.letter_classes.specs.SetClasses.{set_edges}
 use Rattle.monitor_form.proofs.goals.goals.Given as goal
 
 abbrev pub invariant-set : goal.invariant-set

@@ -1,4 +1,5 @@
-use Rattle.monitor_form.proofs.Raising.{raised_all, row_link}
+use Rattle.letter_classes.proofs.SetGuards.{row_link}
+use Rattle.monitor_form.proofs.Raising.{raised_all}
 use Rattle.std.proofs.Common.{arith, sym, subst}
 use Rattle.label_guards.specs.Store.{Store, HasPlace}
 use Rattle.monitor_form.proofs.goals.raise.Goals as goal

@@ -2,7 +2,7 @@ use Rattle.std.proofs.Common.{◌∙◌, List, ap, subst, sym}
 use Rattle.aut_base.proofs.Outcomes.{some_said}
 use Rattle.aut_core.specs.Core.{automaton_of}
 use Rattle.label_guards.specs.Leasts.{IsLeastLetter}
-use Rattle.monitor_form.proofs.ClassHandles.{goals_fit, step_gives, step_lacks}
+use Rattle.monitor_form.proofs.SetSteps.{goals_fit, step_gives, step_lacks}
 use Rattle.monitor_form.specs.Systems.{letter_goals}
 use Rattle.monitor_form.proofs.subsets.SubsetsSystem.step.Goals as goal
 
