@@ -5,4 +5,4 @@ use Rattle.plan_meaning.proofs.changing.determinising.determinised.Goals as goal
 pub returns-clause-steps : goal.returns-clause-steps
 returns-clause-steps c =
     let r = c.in_ok-parity in
-    deterministic_made (automaton_of c.args.a.now) (automaton_of r.field-0) c.requires r.ensures.within r.ensures.shape r.ensures.parity r.ensures.accepts
+    deterministic_made (automaton_of c.args.a.now) (automaton_of r.field-0) c.requires.other r.ensures.within r.ensures.shape r.ensures.parity r.ensures.accepts
