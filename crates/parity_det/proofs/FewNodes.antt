@@ -142,8 +142,8 @@ pruned_widths a b is trees arrows found =
     subst (λ n. width trees ≤ max 1 (rank (is_flagged flags) n)) states (few_widths b (is_flagged flags)
     (λ s there. (from_filter (is_flagged flags) a.starts s (subst (λ (x : Automaton). Contains x.starts s) is.is there)).1)
     (λ e there. (
-        let kept = from_filter (stays (length a.names) flags) a.edges e (subst (λ (x : Automaton). Contains x.edges e) is.is there) in
-        let parts = and_parts _ (is_flagged flags e.from && is_flagged flags e.to) kept.1 in
-        (and_parts (is_flagged flags e.from) (is_flagged flags e.to) parts.1).1
-        ))
+    let kept = from_filter (stays (length a.names) flags) a.edges e (subst (λ (x : Automaton). Contains x.edges e) is.is there) in
+    let parts = and_parts _ (is_flagged flags e.from && is_flagged flags e.to) kept.1 in
+    (and_parts (is_flagged flags e.from) (is_flagged flags e.to) parts.1).1
+    ))
     trees arrows found)

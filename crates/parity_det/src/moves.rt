@@ -33,12 +33,7 @@ pub(crate) fn letter_moves(
 }
 
 /// Adds the moves that the letter allows from this state.
-fn push_moves(
-    moves: &mut Moves,
-    a: &Automaton,
-    state: u32,
-    letter: &Letter,
-) -> Result<(), Memory>
+fn push_moves(moves: &mut Moves, a: &Automaton, state: u32, letter: &Letter) -> Result<(), Memory>
     requires { state < a.now.states }
     ensures { OnOk result (moves.new ≡ moves.old ++ map move_of (filter (is_met a.now.names letter.now) (edges_from state (automaton_of a.now).edges))) }
 {
