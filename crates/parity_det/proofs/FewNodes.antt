@@ -1,5 +1,5 @@
 -- A tree has no more nodes than there are useful states: each node has a useful state of its own.
-use Rattle.std.proofs.Common.{◌≡◌, ◌⊎◌, ◌∙◌, ◌+◌, ◌-◌, ◌<◌, ◌≤◌, ◌==◌, ◌&&◌, ℕ, zero, suc, Bool, true, false, Contains, List, [], ◌∷◌, ap, arith, inl, inr, length, max, refl, slice_get, subst, sym}
+use Rattle.std.proofs.Common.{◌≡◌, ◌⊎◌, ◌∙◌, ◌+◌, ◌-◌, ◌<◌, ◌≤◌, ◌==◌, ◌&&◌, ℕ, zero, suc, Bool, true, false, Contains, List, [], ◌∷◌, ap, arith, inl, inr, length, max, slice_get, subst, sym}
 use Rattle.std.proofs.lemmas.Bool.{and_parts, cases_lt, eqb-true}
 use Rattle.std.specs.List.{list_any, range_with_len}
 use Rattle.aut_base.proofs.Members.{any_found, first_there, from_filter, from_flat_map, from_map, later_there, there_at}
@@ -7,7 +7,7 @@ use Rattle.aut_base.proofs.Pigeonhole.{pigeons}
 use Rattle.aut_base.specs.Automaton.{Automaton, TreeEdge}
 use Rattle.aut_base.specs.Valuation.{truth_on}
 use Rattle.aut_core.specs.Surveys.{edges_from}
-use Rattle.aut_ops.specs.Passable.{between, is_flagged, stays}
+use Rattle.aut_ops.specs.Passable.{is_flagged, stays}
 use Rattle.aut_ops.specs.Pruning.{IsPruned}
 use Rattle.exploration.specs.Reached.{IsExplored, Leads}
 use Rattle.exploration.specs.Turns.{Arrow}
@@ -23,7 +23,7 @@ use Rattle.safra_trees.proofs.list_step.Pruned.{has_parts, new_holds, old_holds,
 use Rattle.safra_trees.proofs.list_step.Ranks.{rank_back, rank_rises, rank_same}
 use Rattle.safra_trees.specs.Step as step
 use Rattle.safra_trees.specs.Step.{IsTree, grown, keeps, pruned, rank}
-use Rattle.safra_trees.specs.Trees.{Node, first_tree, has, holds, root_states}
+use Rattle.safra_trees.specs.Trees.{Node, has, holds, root_states}
 use Rattle.safra_trees.specs.declared.moves.Move as moves
 
 -- all that the tree holds are states below n that pass a test
