@@ -1,5 +1,5 @@
 -- The guards that a store gives for the classes of a set, and what becomes of them in a store that has grown.
-use Rattle.std.proofs.Common.{◌≡◌, ◌≢◌, ◌∙◌, ◌<◌, ◌≤◌, ℕ, zero, suc, All, AllPairs, Bool, true, Contains, List, [], ◌∷◌, Some, ap, arith, get_or, length, map, refl, slice_get, subst, sym}
+use Rattle.std.proofs.Common.{◌≡◌, ◌∙◌, ◌<◌, ◌≤◌, ℕ, zero, suc, All, Bool, Contains, List, [], ◌∷◌, Some, ap, arith, get_or, length, map, refl, slice_get, subst, sym}
 use Rattle.std.proofs.lemmas.Bool.{true≢false}
 use Rattle.std.proofs.lemmas.List.Elements.{All-contains}
 use Rattle.std.proofs.lemmas.Option.{slice_get-get_or, slice_get_within}

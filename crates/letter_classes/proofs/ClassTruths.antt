@@ -1,5 +1,5 @@
 -- What the label of a class says: a letter meets it exactly where it is alike to the class's valuation.
-use Rattle.std.proofs.Common.{◌≡◌, ◌∙◌, ℕ, Bool, true, List, ap, length, sym}
+use Rattle.std.proofs.Common.{◌≡◌, ◌∙◌, ℕ, Bool, List, ap, length, sym}
 use Rattle.std.proofs.lemmas.List.{length-map}
 use Rattle.std.specs.FinSet as set
 use Rattle.aut_base.proofs.CanonicalTruth.{truth_on-label_of}

@@ -1,12 +1,11 @@
 -- The automaton that is made of the trees and edges that were found.
-use Rattle.std.proofs.Common.{◌≡◌, ◌∙◌, ◌+◌, ◌<◌, ◌≤◌, ℕ, zero, suc, All, Contains, List, [], ◌∷◌, Some, ap, arith, get_or, length, map, refl, slice_get, subst, sym}
+use Rattle.std.proofs.Common.{◌≡◌, ◌∙◌, ◌+◌, ◌<◌, ◌≤◌, ℕ, zero, suc, All, Contains, List, [], ◌∷◌, ap, arith, get_or, length, map, refl, subst, sym}
 use Rattle.std.proofs.lemmas.List.Elements.{All-contains, All-map}
 use Rattle.std.proofs.lemmas.Option.{get_or_from_slice_get, slice_get_within}
 use Rattle.std.proofs.lemmas.Simd.{map-map}
 use Rattle.std.specs.List.Sorted.{IsNonDecreasing}
 use Rattle.acc_forms.specs.Parity.{parity_min_odd}
 use Rattle.aut_base.proofs.Members.{each_there, there_at, there_map}
-use Rattle.aut_base.specs.Formula.{FormulaTree}
 use Rattle.aut_base.specs.declared.limit.TheConstants.{MOST_NODES, MOST_TREES}
 use Rattle.aut_core.specs.Core.{AreParts, Core, IsCore, IsLinkOf, automaton_of, edge_of}
 use Rattle.aut_core.specs.declared.link.Link.{Link}
@@ -27,7 +26,6 @@ use Rattle.parity_laws.specs.Determinised.{tree_at}
 use Rattle.safra_laws.proofs.parity.First.{priority_by_first}
 use Rattle.safra_laws.proofs.parity.Least.{priorities_are_below}
 use Rattle.safra_laws.specs.Priorities.{priority}
-use Rattle.safra_trees.specs.Events.{event_of}
 use Rattle.safra_trees.specs.Step.{IsTree}
 use Rattle.safra_trees.specs.Trees.{Node, root_states}
 use Rattle.safra_trees.specs.declared.event.Event.{Event}

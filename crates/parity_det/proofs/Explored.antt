@@ -1,8 +1,7 @@
 -- The trees that an exploration finds, and the steps between them.
-use Rattle.std.proofs.Common.{◌≡◌, ◌∙◌, ◌<◌, ◌≤◌, ◌==◌, ◌&&◌, ℕ, suc, zero, Bool, true, false, cond, Contains, List, [], ◌∷◌, None, Option, Some, ap, arith, eq-eqb, get_or, leb, length, map, max, refl, slice_get, subst, sym}
+use Rattle.std.proofs.Common.{◌≡◌, ◌∙◌, ◌<◌, ◌≤◌, ◌==◌, ℕ, suc, zero, Bool, true, false, cond, Contains, List, [], ◌∷◌, None, Option, Some, ap, arith, eq-eqb, get_or, leb, length, refl, slice_get, subst, sym}
 use Rattle.std.proofs.lemmas.Bool.{eqb-true, leb-false, leb-true, true≢false}
 use Rattle.std.proofs.lemmas.Option.{get_or_from_slice_get, slice_get-get_or, slice_get_within}
-use Rattle.std.specs.List.{list_any}
 use Rattle.aut_base.proofs.Members.{any_found, any_from, from_filter, from_flat_map, from_map, there_filter, there_flat_map, there_map, there_at}
 use Rattle.aut_base.specs.Automaton.{Automaton, TreeEdge}
 use Rattle.aut_base.specs.Label.{holds_at, truth}
@@ -26,7 +25,7 @@ use Rattle.safra_laws.proofs.invariant.FirstTree.{first_is_tree}
 use Rattle.safra_laws.specs.Rounds.{next_tree}
 use Rattle.safra_laws.specs.Trees.{SameRootMoves}
 use Rattle.safra_trees.specs.Step.{IsTree}
-use Rattle.safra_trees.specs.Trees.{Node, has, holds, root_states}
+use Rattle.safra_trees.specs.Trees.{Node, holds, root_states}
 use Rattle.safra_trees.specs.declared.moves.Move as moves
 
 -- ---- what a step gives

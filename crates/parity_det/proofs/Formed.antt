@@ -1,12 +1,12 @@
 -- What is explored is a determinised automaton.
-use Rattle.std.proofs.Common.{◌≡◌, ◌∙◌, ◌<◌, ◌≤◌, ℕ, suc, zero, All, Bool, true, Contains, List, [], ◌∷◌, Some, ap, arith, get_or, inl, inr, length, map, refl, slice_get, subst, sym}
+use Rattle.std.proofs.Common.{◌≡◌, ◌∙◌, ◌<◌, ℕ, Bool, true, Contains, List, [], ◌∷◌, Some, ap, arith, get_or, inl, inr, length, refl, slice_get, subst, sym}
 use Rattle.std.proofs.lemmas.Bool.{cases_lt}
 use Rattle.std.proofs.lemmas.List.Elements.{Contains-get_or}
 use Rattle.std.proofs.lemmas.Option.{get_or_from_slice_get, slice_get-get_or, slice_get_within}
 use Rattle.aut_base.proofs.AllPairsOf.{pairs_map}
 use Rattle.aut_base.proofs.Members.{each_there, from_map, placed_there, there_at, there_map}
 use Rattle.aut_base.proofs.ValuationLetters.{valuation_at}
-use Rattle.aut_base.specs.Automaton.{Automaton, IsWellFormed, TreeEdge}
+use Rattle.aut_base.specs.Automaton.{Automaton, TreeEdge}
 use Rattle.aut_base.specs.Label.{LabelTree, holds_at, truth}
 use Rattle.aut_base.specs.Valuation.{holds_in}
 use Rattle.aut_base.specs.Word.{NameSet}
@@ -23,7 +23,7 @@ use Rattle.letter_classes.proofs.ClassTruths.{at_letter, class_truth, valuation_
 use Rattle.letter_classes.specs.SetClasses.{class_label, set_labels}
 use Rattle.parity_det.proofs.Explored.{class_at, is_tree, large_fails, same_root_moves, small_given, step_of, within_width}
 use Rattle.parity_det.specs.TreeTells.{same_tells}
-use Rattle.parity_det.specs.Determinisation.{IsTreeForm, class_moves, parity_edge, parity_on, same_tree, start_tree, step_at, tree_classes, tree_moves, tree_rules, unless_large, width}
+use Rattle.parity_det.specs.Determinisation.{class_moves, parity_edge, parity_on, same_tree, start_tree, step_at, tree_classes, tree_moves, tree_rules, unless_large, width}
 use Rattle.parity_det.specs.Shapes.{IsParity}
 use Rattle.parity_laws.specs.Buchi.{moves_at}
 use Rattle.parity_laws.specs.Determinised.{IsDeterminised, IsStepEdge, tree_at}

@@ -2,7 +2,6 @@
 use Rattle.std.proofs.Common.{◌≡◌, ◌∙◌, ◌+◌, ◌<◌, ◌≤◌, ◌==◌, ℕ, All, Bool, true, false, cond, List, [], ◌∷◌, ◌++◌, Some, ap, filter, get_or, length, map, refl, slice_get, subst, sym, take}
 use Rattle.std.proofs.lemmas.List.{append-nil, append_assoc, map-append, take_all}
 use Rattle.std.proofs.lemmas.List.Elements.{All-contains, filter-append}
-use Rattle.std.specs.Prelude.{flat_map}
 use Rattle.aut_base.proofs.Members.{each_there, from_filter, from_flat_map, from_map}
 use Rattle.aut_base.proofs.Steps.{map_on}
 use Rattle.aut_base.specs.Automaton.{Automaton, IsEdgeOf, TreeEdge}

@@ -1,12 +1,8 @@
 -- What deterministic parity automata and complements accept, that they are determined, and which limits they meet.
-use Rattle.std.proofs.Common.{◌≡◌, ◌↔◌, ◌∙◌, ◌⊎◌, ◌<◌, ◌≤◌, ℕ, List, [], Result, Ok, Err, IfErr, IfOk, OnOk, ap, arith, false, inl, inr, length, max, refl, subst, sym}
-use Rattle.aut_base.specs.Acceptance.{Accepts}
+use Rattle.std.proofs.Common.{◌≡◌, ◌∙◌, ◌<◌, ◌≤◌, List, Result, Ok, Err, IfOk, OnOk, ap, arith, false, refl, subst, sym}
 use Rattle.aut_base.specs.Automaton.{Automaton, IsWellFormed}
-use Rattle.aut_base.specs.Formula.{FormulaTree, Inf}
-use Rattle.aut_base.specs.Word.{NameSet}
+use Rattle.aut_base.specs.Formula.{Inf}
 use Rattle.aut_base.specs.declared.limit.TheConstants.{MOST_BUCHI_STATES}
-use Rattle.aut_core.specs.Core.{Core, automaton_of}
-use Rattle.aut_core.specs.Deterministic.{IsComplete, IsDeterministic}
 use Rattle.aut_core.specs.OtherNames.{AcceptTheSame}
 use Rattle.aut_ops.proofs.FlagLaws.{pruned_is_determined}
 use Rattle.aut_ops.specs.Pruning.{IsPruned}
@@ -17,13 +13,12 @@ use Rattle.exploration.specs.declared.fault.Fault.{Fault}
 use Rattle.exploration.specs.declared.fault.Fault.TheVariants as limit
 use Rattle.parity_det.proofs.FewNodes.{pruned_widths}
 use Rattle.parity_det.proofs.Formed.{explored_trees, is_determinised, is_parity}
-use Rattle.parity_det.specs.Complements.{ComplementIsDetermined, IsComplementOf, IsDeterministicForm, IsWithinParity, LimitsExclude, ParityExcludesLimits, PassesParity, by_completion, by_determinisation}
+use Rattle.parity_det.specs.Complements.{ComplementIsDetermined, IsDeterministicForm, IsWithinParity, ParityExcludesLimits, PassesParity, by_completion, by_determinisation}
 use Rattle.parity_det.specs.Determinisation.{IsDeterminisation, IsParityOf, IsTreeForm, MeetsParityLimit, MeetsTreeLimit, ParityIsDetermined, parity_on, start_tree, tree_rules, width}
 use Rattle.parity_det.specs.Shapes.{HasFewSets, IsParity}
 use Rattle.parity_det.specs.Systems.{MeetsFirst}
 use Rattle.parity_det.specs.declared.fault.CompFault.{CompFault}
 use Rattle.parity_det.specs.declared.fault.CompFault.TheVariants as fault
-use Rattle.parity_det.specs.declared.fault.DetFault.{DetFault}
 use Rattle.parity_laws.proofs.directions.Both.{accepts_the_same}
 use Rattle.parity_laws.proofs.letters.Moves.{well_formed_is_buchi}
 use Rattle.parity_laws.specs.Complement.{dualised}

@@ -1,7 +1,5 @@
 -- No tree that is found has more nodes than it may, and the parity condition speaks of its own sets alone.
-use Rattle.std.proofs.Common.{◌≡◌, ◌+◌, ◌-◌, ◌<◌, ◌≤◌, ℕ, suc, zero, All, Bool, true, false, cond, Contains, List, [], ◌∷◌, arith, get_or, length, max, refl, slice_get, subst}
-use Rattle.std.proofs.lemmas.List.Elements.{All-contains}
-use Rattle.std.proofs.lemmas.Option.{slice_get-get_or}
+use Rattle.std.proofs.Common.{◌+◌, ◌-◌, ◌<◌, ◌≤◌, ℕ, suc, zero, All, Bool, true, false, cond, List, [], ◌∷◌, arith, length, slice_get, subst}
 use Rattle.std.specs.List.{list_any, range_with_len}
 use Rattle.acc_forms.specs.Parity.{is_odd, parity_atom, parity_from, parity_min_odd}
 use Rattle.aut_base.proofs.Members.{each_there, there_at}
@@ -12,9 +10,8 @@ use Rattle.exploration.specs.Reached.{IsExplored, Leads}
 use Rattle.exploration.specs.Turns.{Arrow}
 use Rattle.parity_det.proofs.Explored.{step_given}
 use Rattle.parity_det.specs.Determinisation.{same_tree, start_tree, tree_classes, tree_moves, width}
-use Rattle.parity_laws.specs.Determinised.{tree_at}
 use Rattle.safra_laws.proofs.invariant.FirstTree.{tree_if}
-use Rattle.safra_trees.specs.Trees.{Node, first_tree, has}
+use Rattle.safra_trees.specs.Trees.{Node, has}
 
 first_few : (n : ℕ) (starts : List ℕ) (b : Bool) → length (tree_if n starts b) ≤ MOST_NODES
 first_few n starts true = omega arith

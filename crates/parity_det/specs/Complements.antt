@@ -5,7 +5,6 @@ use Rattle.aut_base.specs.declared.limit.TheConstants.{MOST_BUCHI_STATES}
 use Rattle.aut_core.specs.Deterministic.{IsDeterministic}
 use Rattle.aut_ops.specs.Completion.{completed}
 use Rattle.degeneralise.specs.Buchi.{NeedsTooManyTerms, buchi_states}
-use Rattle.exploration.specs.declared.fault.Fault.{Fault}
 use Rattle.exploration.specs.declared.fault.Fault.TheVariants as limit
 use Rattle.parity_det.specs.Determinisation.{IsParityOf, MeetsParityLimit}
 use Rattle.parity_det.specs.declared.fault.CompFault.{CompFault}

@@ -1,13 +1,13 @@
 -- Determinisation, as a system that is explored (Safra 1988, Piterman 2007): things are trees, as lists of nodes, and classes
 -- are those of the letters that the edges from the root's states tell apart.
-use Rattle.std.specs.Prelude.{◌≡◌, ◌+◌, ◌<◌, ◌≤◌, ◌==◌, ◌&&◌, ℕ, Bool, if◌then◌else◌, List, [], ◌∷◌, Option, None, Some, filter, leb, length, map, max, nat_eq, slice_get}
+use Rattle.std.specs.Prelude.{◌≡◌, ◌+◌, ◌≤◌, ◌==◌, ◌&&◌, ℕ, Bool, if◌then◌else◌, List, [], ◌∷◌, Option, None, Some, filter, leb, length, map, max, nat_eq, slice_get}
 use Rattle.std.specs.Cmp.Lexicographic.{pointwise}
 use Rattle.std.specs.List.{slice_index_or}
 use Rattle.acc_forms.specs.Parity.{parity_min_odd}
 use Rattle.aut_base.specs.Automaton.{Automaton, TreeEdge}
 use Rattle.aut_base.specs.Valuation.{truth_on}
 use Rattle.aut_base.specs.declared.limit.TheConstants.{MOST_BUCHI_STATES, MOST_CLASSES, MOST_NODES, MOST_TREES}
-use Rattle.aut_ops.specs.Pruning.{AreUseful, IsPruned}
+use Rattle.aut_ops.specs.Pruning.{IsPruned}
 use Rattle.degeneralise.specs.Buchi.{buchi, buchi_states}
 use Rattle.exploration.specs.Moves.{Fails, Gives, Lacks, Move, Moves}
 use Rattle.exploration.specs.Turns.{Arrow, Comes, EndsWith, Meets, Rules, begin}

@@ -1,5 +1,5 @@
 -- Trees that compare as equal are the same list of nodes.
-use Rattle.std.proofs.Common.{◌≡◌, ◌↔◌, ◌∙◌, ◌&&◌, ◌==◌, ℕ, true, List, [], ◌∷◌, ap, inl, inr, nat_eq, refl, sym}
+use Rattle.std.proofs.Common.{◌≡◌, ◌↔◌, ◌∙◌, ◌==◌, ℕ, true, List, [], ◌∷◌, ap, inl, inr, nat_eq, refl, sym}
 use Rattle.std.proofs.lemmas.Bool.{and_from, and_parts, cases_Bool, eq-eqb, eqb-true, true≢false}
 use Rattle.std.specs.Cmp.Lexicographic.{pointwise}
 use Rattle.aut_base.proofs.Texts.{other_text, same_text}

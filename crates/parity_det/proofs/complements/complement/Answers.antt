@@ -1,6 +1,5 @@
 use Rattle.std.proofs.Common.{◌∙◌, ap, subst, sym}
 use Rattle.acc_forms.specs.Dual.{dual}
-use Rattle.aut_base.specs.Automaton.{Automaton}
 use Rattle.aut_base.specs.Formula.{FormulaTree, SetsBelow}
 use Rattle.aut_core.specs.Core.{Core, automaton_of}
 use Rattle.parity_det.proofs.DualSets.{dual_below}

@@ -2,12 +2,11 @@ use Rattle.std.proofs.Common.{◌≡◌, ◌∙◌, ◌+◌, ◌++◌, ◌<◌, 
 use Rattle.std.proofs.lemmas.List.{length-map}
 use Rattle.std.proofs.lemmas.Result.{IfOk-weaker}
 use Rattle.acc_forms.specs.Parity.{parity_min_odd}
-use Rattle.aut_base.specs.Formula.{formula_tree}
 use Rattle.aut_base.specs.declared.limit.TheConstants.{MOST_NODES}
 use Rattle.aut_core.specs.Core.{AreParts, Core, automaton_of}
 use Rattle.exploration.specs.declared.exploration.Edge.{Edge}
 use Rattle.label_guards.specs.declared.guard.Guard.{Guard}
-use Rattle.parity_det.proofs.Built.{are_parts, few_found, few_sets, is_made, made, marks_below}
+use Rattle.parity_det.proofs.Built.{are_parts, few_found, few_sets, is_made, marks_below}
 use Rattle.parity_det.specs.Determinisation.{width}
 use Rattle.parity_det.specs.Systems.{link_of, mark_of}
 use Rattle.safra_trees.specs.View.{tree_of}

@@ -1,14 +1,12 @@
-use Rattle.std.proofs.Common.{◌≡◌, ◌∙◌, List, All, ◌<◌, map, subst, sym}
+use Rattle.std.proofs.Common.{◌∙◌, All, ◌<◌, map, subst, sym}
 use Rattle.aut_base.specs.declared.limit.TheConstants.{MOST_TREES}
 use Rattle.aut_core.proofs.Growth.{keeps_none}
-use Rattle.aut_core.specs.Core.{Core, automaton_of}
-use Rattle.exploration.specs.Explorations.{IsSound, arrow_of}
-use Rattle.exploration.specs.Turns.{EndsWith}
+use Rattle.aut_core.specs.Core.{Core}
+use Rattle.exploration.specs.Explorations.{IsSound}
 use Rattle.label_guards.specs.Store.{Keeps}
 use Rattle.letter_classes.specs.SetClasses.{FitsStore, IsClassGuard}
-use Rattle.parity_det.specs.Determinisation.{tree_rules}
 use Rattle.parity_det.specs.Systems.{IsClassEvent}
-use Rattle.safra_trees.specs.Trees.{Node, root_states}
+use Rattle.safra_trees.specs.Trees.{root_states}
 use Rattle.safra_trees.specs.View.{tree_of}
 use Rattle.parity_det.proofs.form.tree_form.Goals as goal
 

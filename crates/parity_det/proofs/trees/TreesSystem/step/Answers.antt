@@ -1,4 +1,4 @@
-use Rattle.std.proofs.Common.{◌≡◌, ◌∙◌, ◌<◌, ◌≤◌, Err, ap, length, subst, sym}
+use Rattle.std.proofs.Common.{◌∙◌, ◌<◌, Err, ap, length, subst}
 use Rattle.aut_base.proofs.Outcomes.{some_said}
 use Rattle.aut_base.specs.declared.limit.TheConstants.{MOST_NODES}
 use Rattle.aut_core.specs.Core.{automaton_of}
