@@ -1,1 +1,1 @@
-mod Common
+pub mod Common

@@ -1,6 +1,7 @@
 -- Whether one automaton is included in another, by a product with the other's complement, and whether both accept the same.
 use Rattle.std.proofs.Common.{◌≡◌, ◌<◌, ◌≤◌, Bool, true, false, Option, None, Some, Result, Ok, Err, arith, inl, inr, length, refl, subst, sym}
 use Rattle.std.specs.Prelude.{MatchOption}
+use Rattle.std.specs.Result.{IsErrAnd}
 use Rattle.aut_base.specs.Automaton.{Automaton}
 use Rattle.aut_base.specs.CanonicalLabel.{canonical}
 use Rattle.aut_base.specs.declared.letter.Lasso.{Lasso}
@@ -109,3 +110,8 @@ module _ (a b : Automaton) (settled : canonical a ≡ a) where
       by which (inr p) = k.0 which p.2
   equivalent_if (Err (fault.Limit which)) h k = subst (λ (x : Automaton). PassesOfEquivalence which x b) (sym settled) (inr (h.0, h.1, k))
   equivalent_if (Err fault.Memory) h k = tt
+
+-- a fault that is passed on
+pub inclusion_told : (a b : Automaton) (r : Result Bool PlanFault) (came : PlanFault) → IsErrAnd r (λ y. y ≡ came) → ComparesInclusion (Err came) a b → ComparesInclusion r a b
+inclusion_told a b (Ok x) came passed h = absurd passed
+inclusion_told a b (Err y) came passed h = subst (λ (f : PlanFault). ComparesInclusion (Err f) a b) (sym passed) h
