@@ -1,9 +1,10 @@
 pub mod Built
 pub mod Formed
+pub mod LetterEnds
 pub mod LivePaths
 pub mod LongPaths
 pub mod MonitorLaws
 pub mod Prefixed
-pub mod Raising
+pub mod RisingLists
 pub mod SetSteps
 pub mod Stops

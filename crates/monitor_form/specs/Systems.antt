@@ -1,6 +1,6 @@
 -- What the functions of the construction say to one another.
-use Rattle.std.specs.Prelude.{◌≡◌, ◌<◌, ◌||◌, ℕ, ⊤, Bool, false, List, [], filter, length}
-use Rattle.std.specs.List.{range_with_len, slice_index_or}
+use Rattle.std.specs.Prelude.{ℕ, ⊤, List, [], filter, map}
+use Rattle.std.specs.List.{range_with_len}
 use Rattle.aut_base.specs.Automaton.{Automaton, TreeEdge}
 use Rattle.aut_base.specs.Word.{NameSet}
 use Rattle.aut_core.specs.Deterministic.{is_met}
@@ -14,9 +14,9 @@ use Rattle.monitor_form.specs.Subsets.{is_goal}
 abbrev pub letter_goals : Automaton → List ℕ → NameSet → List ℕ
 letter_goals b set x = filter (is_goal (is_met b.names x) (set_edges b set)) (range_with_len 0 b.states)
 
--- flags of the states: those that were set, and those to which one of the edges leads at the letter
-abbrev pub AreRaised : Automaton → NameSet → List TreeEdge → List Bool → List Bool → Type 0
-AreRaised b x es old new = (q : ℕ) → q < length old → slice_index_or new q false ≡ (slice_index_or old q false || is_goal (is_met b.names x) es q)
+-- the states to which those of the edges lead that the letter meets, edge by edge
+abbrev pub letter_ends : Automaton → NameSet → List TreeEdge → List ℕ
+letter_ends b x es = map (λ e. e.to) (filter (is_met b.names x) es)
 
 -- the link of an edge that was found, whose note tells nothing
 abbrev pub link_of : Edge Guard ⊤ → Link

@@ -72,7 +72,7 @@ fn subset_form(alloc: Global, b: &Automaton) -> Result<Automaton, MonFault>
     if b.starts().is_empty() {
         return Ok(without_states(alloc, b)?);
     }
-    let start = start_set(alloc, b)?;
+    let start = start_set(b)?;
     let mut system = Subsets {
         automaton: b,
         guards: b.guards().copy(alloc)?,
