@@ -14,5 +14,5 @@ pub returns : goal.returns
 returns c =
     let a = automaton_of c.args.a.now in
     let b = automaton_of c.args.other.now in
-    equivalent_if a b c.whole.ensures.settled c.has_no_word_beside.result (subst (λ (x : Bool). ComparesInclusion (Ok x) a b) c.if-not-is_included.false c.in_ok-is_included.ensures)
-    c.has_no_word_beside.ensures
+    equivalent_if a b c.whole.ensures.settled c.has_no_word_beside-2.result (subst (λ (x : Bool). ComparesInclusion (Ok x) a b) c.if-not-is_included.false c.in_ok-is_included.ensures)
+    c.has_no_word_beside-2.ensures
