@@ -1,7 +1,7 @@
 #!/usr/bin/env python3
 """Runs two programs on the workloads, compares what they print, and writes a table of what they took.
 
-Usage: table.py AUTFILT PLAIN FOLDER [--quick] [--only WORD]
+Usage: table.py AUTFILT PLAIN FOLDER [--quick] [--only WORD]..
 """
 import argparse
 import os
@@ -35,6 +35,15 @@ WORKLOADS = [
     ('monitor of a chain of 4,000 states', ['-M', '--stats=%s'], ['chain.hoa']),
     ('unambiguity, 1,000,000 pairs in cycles', ['-c', '--is-unambiguous'], ['idle-ring.hoa']),
     ('unambiguity, 1,000,000 pairs in paths', ['-c', '--is-unambiguous'], ['phases.hoa']),
+    ('parity automaton, trees of 100 nodes', ['--parity'], ['deep-chain.hoa']),
+    ('print a parity automaton of 2,560 trees', ['--parity'], ['shift-10.hoa']),
+    ('parity that passes the limit of trees', ['--parity', '--stats=%s'], ['shift-16.hoa']),
+    ('parity automata of 3,000, six states', ['--parity'], ['six-states.hoa']),
+    ('complements of 3,000, six states', ['--complement'], ['six-states.hoa']),
+    ('inclusion of 2,000 in one', ['-c', '--included-in=operand.hoa'], ['emerson-lei-2000.hoa', 'operand.hoa']),
+    ('inclusion of 2,000 in it as -D gives it', ['-c', '--included-in=operand-d.hoa'],
+     ['emerson-lei-2000.hoa', 'operand-d.hoa']),
+    ('inclusion of 20,000 in one', ['-c', '--included-in=operand.hoa'], ['emerson-lei.hoa', 'operand.hoa']),
 ]
 
 RUNS = 5
@@ -115,7 +124,7 @@ def main():
     words.add_argument('plain')
     words.add_argument('folder')
     words.add_argument('--quick', action='store_true')
-    words.add_argument('--only', default='')
+    words.add_argument('--only', action='append')
     asked = words.parse_args()
     counts = not asked.quick and shutil.which('valgrind') is not None
 
@@ -127,7 +136,7 @@ def main():
     print(line(head))
     all_equal = True
     for workload in WORKLOADS:
-        if asked.only not in workload[0]:
+        if asked.only and not any(word in workload[0] for word in asked.only):
             continue
         cells, equal = row(workload, [asked.autfilt, asked.plain], asked.folder, counts)
         all_equal &= equal

@@ -144,6 +144,32 @@ def phases(states):
     return automaton(states, ['a'], '0 t', edges, starts=range(states))
 
 
+def deep_chain(states):
+    """A line at each state of which a run may stay under `a`, and from its end back to its start: trees as deep as that."""
+    edges = []
+    for q in range(states - 1):
+        edges += [(q, '0', q, []), (q, '0', q + 1, [0])]
+    edges += [(states - 1, '0', states - 1, []), (states - 1, '!0', 0, [])]
+    return automaton(states, ['a'], '1 Inf(0)', edges)
+
+
+def six_states(number):
+    """Six states with two or three edges each, over two names."""
+    edges = [(q, cube(2), below(6), marks(1, 0.3)) for q in range(6) for _ in range(2 + below(2))]
+    return automaton(6, ['a', 'b'], '1 Inf(0)', edges)
+
+
+def operand():
+    """Ten states with two or three edges each, under `t` or one literal. With this seed its complement has 65 states."""
+    source.seed(335)
+    labels = ['t', '0', '!0', '1', '!1', '2', '!2'] + ['t'] * 5
+    edges = []
+    for state in range(10):
+        for _ in range(2 + below(2)):
+            edges.append((state, pick(labels), below(10), marks(1, 0.5)))
+    return automaton(10, ['a', 'b', 'c'], '1 Inf(0)', edges)
+
+
 def write(folder, file, texts):
     with open(os.path.join(folder, file), 'w', newline='\n') as out:
         out.writelines(texts)
@@ -155,7 +181,9 @@ def main():
     write(folder, 'canonical.hoa', map(canonical, range(300)))
     write(folder, 'small.hoa', map(small, range(3000)))
     write(folder, 'loops.hoa', [loops(100000)])
-    write(folder, 'emerson-lei.hoa', (literals(EMERSON_LEI, 4, 0.15) for _ in range(20000)))
+    emerson_lei = [literals(EMERSON_LEI, 4, 0.15) for _ in range(20000)]
+    write(folder, 'emerson-lei.hoa', emerson_lei)
+    write(folder, 'emerson-lei-2000.hoa', emerson_lei[:2000])
     write(folder, 'line.hoa', [line(100000)])
     write(folder, 'ring-64.hoa', [ring(64, 't', '1 Inf(0)', lambda q: [0] if q == 0 else [])])
     write(folder, 'ring-15625.hoa', [ring(15625, 't', '1 Inf(0)', lambda q: [0] if q == 0 else [])])
@@ -169,6 +197,9 @@ def main():
     write(folder, 'chain.hoa', [chain(4000)])
     write(folder, 'idle-ring.hoa', [ring(1000, 't', '1 Inf(0)', lambda q: [], starts=range(1000))])
     write(folder, 'phases.hoa', [phases(1000)])
+    write(folder, 'deep-chain.hoa', [deep_chain(100)])
+    write(folder, 'six-states.hoa', map(six_states, range(3000)))
+    write(folder, 'operand.hoa', [operand()])
 
 
 main()

@@ -44,6 +44,7 @@ impl Atom {
     }
 }
 
+#[derive(Clone)]
 pub struct Edge {
     pub from: u32,
     pub to: u32,
@@ -52,7 +53,7 @@ pub struct Edge {
     marks: (u32, u32),
 }
 
-#[derive(Default)]
+#[derive(Clone, Default)]
 pub struct Automaton {
     pub name: Option<Vec<u8>>,
     pub states: u32,

@@ -43,6 +43,7 @@ impl Hasher for Mix {
 pub type QuickMap<K, V> = HashMap<K, V, BuildHasherDefault<Mix>>;
 
 /// The store of an automaton's labels.
+#[derive(Clone)]
 pub struct Labels {
     nodes: Vec<Node>,
     places: QuickMap<Node, Label>,

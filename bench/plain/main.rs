@@ -4,17 +4,23 @@
 mod automaton;
 mod buchi;
 mod bytes;
+mod complement;
 mod emptiness;
 mod hiding;
 mod labels;
+mod letters;
 mod monitor;
+mod parity;
 mod product;
+mod pruned;
 mod reader;
 mod square;
+mod trees;
 mod writer;
 
 use automaton::Automaton;
 use bytes::Fault;
+use complement::Compared;
 use hiding::Hiding;
 use reader::Reader;
 use std::fs::File;
@@ -25,15 +31,27 @@ use std::process::ExitCode;
 #[derive(Default)]
 struct Plan {
     is_empty: bool,
+    included_in: Option<String>,
+    equivalent_to: Option<String>,
     is_unambiguous: bool,
     product: Option<String>,
     hiding: Option<Hiding>,
+    complement: bool,
+    deterministic: bool,
+    parity: bool,
     buchi: bool,
     monitor: bool,
     count: bool,
     /// Whether the number of reached states is printed, and not the automaton.
     states: bool,
     streams: Vec<String>,
+}
+
+/// The first automata of the files that stand with options.
+struct Operands {
+    included_in: Option<Compared>,
+    equivalent_to: Option<Compared>,
+    product: Option<Automaton>,
 }
 
 fn main() -> ExitCode {
@@ -51,12 +69,17 @@ fn read_plan() -> Result<Plan, Fault> {
     let mut plan = Plan::default();
     for word in std::env::args().skip(1) {
         match word.split_once('=').unwrap_or((&word, "")) {
+            ("--included-in", file) => plan.included_in = Some(file.to_string()),
+            ("--equivalent-to", file) => plan.equivalent_to = Some(file.to_string()),
             ("--product", file) => plan.product = Some(file.to_string()),
             ("--remove-ap", name) => plan.hiding = Some(Hiding::of(name)),
             ("--stats", "%s") => plan.states = true,
             ("-c", "") => plan.count = true,
             ("--is-empty", "") => plan.is_empty = true,
             ("--is-unambiguous", "") => plan.is_unambiguous = true,
+            ("--complement", "") => plan.complement = true,
+            ("-D", "") => plan.deterministic = true,
+            ("--parity", "") => plan.parity = true,
             ("--buchi", "") => plan.buchi = true,
             ("-M", "") => plan.monitor = true,
             (option, _) if option.starts_with('-') && option != "-" => return Err("bad arguments".into()),
@@ -68,21 +91,22 @@ fn read_plan() -> Result<Plan, Fault> {
 
 /// Reads all streams, and answers how many automata were kept.
 fn run(plan: &Plan) -> Result<u64, Fault> {
-    let operand = match &plan.product {
-        Some(name) => Some(open(name)?.next()?.ok_or("unexpected end of input")?),
-        None => None,
+    let mut operands = Operands {
+        included_in: operand(&plan.included_in)?.map(Compared::with),
+        equivalent_to: operand(&plan.equivalent_to)?.map(Compared::with),
+        product: operand(&plan.product)?,
     };
     let mut kept = 0;
     for name in &plan.streams {
         let note = |fault: Fault| format!("{name}: {fault}");
         let mut reader = open(name)?;
         while let Some(mut a) = reader.next().map_err(note)? {
-            if !keeps(plan, &mut a).map_err(note)? {
+            if !keeps(plan, &mut operands, &mut a).map_err(note)? {
                 continue;
             }
             kept += 1;
             if !plan.count {
-                write(&printed(plan, operand.as_ref(), a).map_err(note)?)?;
+                write(&printed(plan, &operands, a).map_err(note)?)?;
             }
         }
     }
@@ -90,6 +114,14 @@ fn run(plan: &Plan) -> Result<u64, Fault> {
         write(format!("{kept}\n").as_bytes())?;
     }
     Ok(kept)
+}
+
+/// The automaton of a file, if one is named.
+fn operand(name: &Option<String>) -> Result<Option<Automaton>, Fault> {
+    match name {
+        Some(name) => Ok(Some(open(name)?.next()?.ok_or("unexpected end of input")?)),
+        None => Ok(None),
+    }
 }
 
 fn open(name: &str) -> Result<Reader, Fault> {
@@ -101,21 +133,40 @@ fn open(name: &str) -> Result<Reader, Fault> {
 }
 
 /// Whether all filters hold. Labels may be added to the store of the automaton.
-fn keeps(plan: &Plan, a: &mut Automaton) -> Result<bool, Fault> {
+fn keeps(plan: &Plan, operands: &mut Operands, a: &mut Automaton) -> Result<bool, Fault> {
     if plan.is_empty && !emptiness::is_empty(a) {
         return Ok(false);
+    }
+    if let Some(other) = &mut operands.included_in {
+        if !other.includes(a)? {
+            return Ok(false);
+        }
+    }
+    if let Some(other) = &mut operands.equivalent_to {
+        if !other.equals(a)? {
+            return Ok(false);
+        }
     }
     Ok(!plan.is_unambiguous || square::is_unambiguous(a)?)
 }
 
 /// What is printed of an automaton. Its name stays only where nothing is made of it.
-fn printed(plan: &Plan, operand: Option<&Automaton>, a: Automaton) -> Result<Vec<u8>, Fault> {
+fn printed(plan: &Plan, operands: &Operands, a: Automaton) -> Result<Vec<u8>, Fault> {
     let mut made = a;
-    if let Some(operand) = operand {
-        made = product::product(made, operand)?;
+    if let Some(operand) = &operands.product {
+        made = product::product(&mut made, operand)?;
     }
     if let Some(hiding) = &plan.hiding {
         made = hiding::hide(made, hiding);
+    }
+    if plan.complement {
+        made = complement::complement(made)?;
+    }
+    if plan.deterministic {
+        made = complement::to_deterministic(made)?;
+    }
+    if plan.parity {
+        made = parity::to_parity(made)?;
     }
     if plan.buchi {
         made = buchi::to_buchi(made)?;

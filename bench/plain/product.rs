@@ -28,10 +28,11 @@ impl Pairs {
     }
 }
 
-pub fn product(mut a: Automaton, b: &Automaton) -> Result<Automaton, Fault> {
+/// Takes the labels of the first.
+pub fn product(a: &mut Automaton, b: &Automaton) -> Result<Automaton, Fault> {
     let mut made = Automaton::default();
     made.sets = a.sets + b.sets;
-    made.names = std::mem::take(&mut a.names);
+    made.names = a.names.clone();
     let mut vars = Vec::new();
     for name in &b.names {
         let place = made.names.iter().position(|known| known == name).unwrap_or(made.names.len());
@@ -43,7 +44,7 @@ pub fn product(mut a: Automaton, b: &Automaton) -> Result<Automaton, Fault> {
     if made.names.len() > MOST_NAMES {
         return Err("limit exceeded: names".into());
     }
-    made.condition = both(std::mem::take(&mut a.condition), raised(&b.condition, a.sets));
+    made.condition = both(a.condition.clone(), raised(&b.condition, a.sets));
     made.labels = std::mem::take(&mut a.labels);
     let brought = made.labels.bring(&b.labels, &vars);
 
