@@ -5,7 +5,7 @@ use Rattle.aut_base.specs.Automaton.{Automaton}
 use Rattle.aut_core.specs.Core.{automaton_of}
 use Rattle.aut_io.specs.Outside.{Texts}
 use Rattle.aut_io.specs.Seen.{Seen, SinkSeen}
-use Rattle.autfilt_command.specs.Asked.{AreRefused, AsksFor}
+use Rattle.autfilt_command.specs.Asked.{AreRefused}
 use Rattle.autfilt_command.specs.Ends.{ended_of}
 use Rattle.autfilt_command.specs.Noted.{HasNoted, Notes}
 use Rattle.autfilt_command.specs.Notes.{line_of}
@@ -22,7 +22,7 @@ use Rattle.autfilt_run.specs.Operands.{all_passed, operands_of}
 use Rattle.autfilt_run.specs.Points.{open_count, operands_in}
 use Rattle.autfilt_run.specs.declared.fault.RunFault.TheVariants as fault
 use Rattle.autfilt_run.specs.declared.session.Session.{Session}
-use Rattle.filter_plan.specs.Words.{operands}
+use Rattle.filter_plan.specs.Words.{IsPlan, operands}
 use Rattle.filter_plan.specs.declared.fault.UsageFault.{UsageFault}
 use Rattle.filter_plan.specs.declared.fault.UsageFault.TheVariants as usage
 use Rattle.filter_plan.specs.declared.plan.Plan.{Plan}
@@ -63,7 +63,7 @@ goes_over plan ready e events name s m t o q k l noting h runs = record {
 }
 
 -- a run over the inputs
-pub ends_by : (words : List (List ℕ)) (result : Ended) (plan : Plan) (ready : Session) (e : End) (s m t : Seen) (o q k l j : SinkSeen) (noting : Bool) → result ≡ ended_of e → AsksFor words plan → plan.made ≡ None → IsPrepared plan ready s m k l noting
+pub ends_by : (words : List (List ℕ)) (result : Ended) (plan : Plan) (ready : Session) (e : End) (s m t : Seen) (o q k l j : SinkSeen) (noting : Bool) → result ≡ ended_of e → IsPlan words plan → plan.made ≡ None → IsPrepared plan ready s m k l noting
     → Carries ready noting e m t o q l j → EndsBy words result s t o q k j
 ends_by words result plan ready e s m t o q k l j noting is asks made h c =
     let runs = of_prepared (λ x ops n. Runs x ops n ready.lexer.taken e c.events c.name m t o q) plan ready s m k l noting h.prepared c.runs in
@@ -80,7 +80,7 @@ ends_by words result plan ready e s m t o q k l j noting is asks made h c =
     }
 
 -- a run over the generated stream
-pub ends_made : (words : List (List ℕ)) (result : Ended) (plan : Plan) (ready : Session) (n : ℕ) (e : End) (s m a t : Seen) (o q k l j : SinkSeen) (noting : Bool) → result ≡ ended_of e → AsksFor words plan → plan.made ≡ Some n
+pub ends_made : (words : List (List ℕ)) (result : Ended) (plan : Plan) (ready : Session) (n : ℕ) (e : End) (s m a t : Seen) (o q k l j : SinkSeen) (noting : Bool) → result ≡ ended_of e → IsPlan words plan → plan.made ≡ Some n
     → a ≡ seen_of_made (record { count = n; left = [] }) → IsPrepared plan ready s m k l noting → Carries ready noting e a t o q l j → EndsBy words result s m o q k j
 ends_made words result plan ready n e s m a t o q k l j noting is asks made first h c =
     let runs = of_prepared (λ x ops n. Runs x ops n ready.lexer.taken e c.events c.name a t o q) plan ready s m k l noting h.prepared c.runs in
@@ -102,7 +102,7 @@ ends_made words result plan ready n e s m a t o q k l j noting is asks made firs
     }
 
 -- a fault while operands were read
-pub ends_failed : (words : List (List ℕ)) (result : Ended) (plan : Plan) (e : End) (s m : Seen) (o k j : SinkSeen) → result ≡ ended_of e → AsksFor words plan → FailsPreparing plan e s m k j → EndsBy words result s m o o k j
+pub ends_failed : (words : List (List ℕ)) (result : Ended) (plan : Plan) (e : End) (s m : Seen) (o k j : SinkSeen) → result ≡ ended_of e → IsPlan words plan → FailsPreparing plan e s m k j → EndsBy words result s m o o k j
 ends_failed words result plan e s m o k j is asks h = record {
   end = e;
   shown = is;

@@ -1,4 +1,3 @@
-mod BuiltPlans
 mod Carried
 mod Ending
 mod MadePlans

@@ -1,15 +1,11 @@
 -- The names that are opened: those of operands, and those of streams where none is generated.
 use Rattle.std.proofs.Common.{◌≡◌, ℕ, List, ◌++◌, Option, Some, None, sym, subst}
-use Rattle.std.proofs.lemmas.List.Elements.{All-contains, All-contains_itself, Contains-append_left}
 use Rattle.std.specs.List.{All}
 use Rattle.autfilt_command.specs.Asked.{names_opened, opened_or}
-use Rattle.autfilt_run.proofs.FigureLines.{all_of_second}
+use Rattle.autfilt_run.proofs.FigureLines.{all_of_first, all_of_second}
 use Rattle.autfilt_run.specs.Plans.{streams_of, streams_or}
 use Rattle.filter_plan.specs.Words.{operands}
 use Rattle.filter_plan.specs.declared.plan.Plan.{Plan}
-
-all_of_first : {A : Type 0} (P : A → Type 0) (xs ys : List A) → All P (xs ++ ys) → All P xs
-all_of_first P xs ys all k d within = All-contains P (xs ++ ys) _ all (Contains-append_left xs ys _ (All-contains_itself xs k d within))
 
 pub may_open_operands : (P : List ℕ → Type 0) (plan own : Plan) → own ≡ plan → All P (names_opened plan) → All P (operands own)
 may_open_operands P plan own same all = subst (λ (x : Plan). All P (operands x)) (sym same) (all_of_first P (operands plan) (opened_or plan.streams plan.made) all)

@@ -3,7 +3,7 @@ use Rattle.std.proofs.Common.{◌≡◌, ℕ, Bool, true, List, [], ◌∷◌, �
 use Rattle.std.specs.Prelude.{map}
 use Rattle.aut_base.proofs.AllByRecursion.{AllByRecursion-push}
 use Rattle.aut_base.specs.Automaton.{Automaton}
-use Rattle.aut_core.specs.Core.{automaton_of}
+use Rattle.aut_core.specs.Core.{Core, automaton_of}
 use Rattle.aut_io.specs.Outside.{Gains}
 use Rattle.aut_io.specs.Seen.{Seen, SinkSeen}
 use Rattle.autfilt_command.proofs.Noting.{notes_nothing}
@@ -20,6 +20,8 @@ use Rattle.autfilt_run.specs.Points.{StandsAt, operands_in}
 use Rattle.autfilt_run.specs.Turns.{Progress, progress}
 use Rattle.autfilt_run.specs.declared.session.Session.{Session}
 use Rattle.filter_plan.specs.declared.plan.Plan.{Plan}
+use Rattle.plan_meaning.specs.Complements.{AreKept}
+use Rattle.plan_meaning.specs.declared.complements.Complements.{Complements}
 
 written_push : (events : List Event) (event : Event) → all_written (events ++ event ∷ []) ≡ all_written events ++ written_of event
 written_push [] event = append-nil (written_of event)
@@ -120,3 +122,8 @@ finish_as e old new r q plan done h =
     let B : ℕ → Type 0 = λ n. Finishes e (count_text old.plan n) (record { kept = n; skipped = new.skipped }) r q in
     let C : ℕ → Type 0 = λ n. Finishes e (count_text old.plan old.kept) (record { kept = old.kept; skipped = n }) r q in
     subst C skipped (subst B kept (subst A plan h))
+
+-- what is kept of complements stays right while the plan and its operands do
+pub kept_as : (old new : Session) (cs : Complements) → new.plan ≡ old.plan → new.operands ≡ old.operands → AreKept old.plan (operands_in old) cs → AreKept new.plan (operands_in new) cs
+kept_as old new cs plan operands kept =
+    subst (λ (ops : List Core). AreKept new.plan (map automaton_of ops) cs) (sym operands) (subst (λ (p : Plan). AreKept p (operands_in old) cs) (sym plan) kept)

@@ -1,17 +1,11 @@
--- What the words ask for, as far as it is carried out.
+-- What the words of the command line ask for.
 use Rattle.std.specs.Prelude.{ℕ, List, [], ◌++◌, Option, Some, None}
-use Rattle.autfilt_run.specs.Built.{IsBuilt}
 use Rattle.filter_plan.specs.Words.{IsPlan, operands}
 use Rattle.filter_plan.specs.declared.plan.Plan.{Plan}
 
--- The words are this plan, and the program carries it out.
-pub record AsksFor (words : List (List ℕ)) (plan : Plan) : Type 0 where
-  pub is_plan : IsPlan words plan
-  pub built : IsBuilt plan
-
--- the words are no plan, or one that the program can't carry out yet
+-- the words are no plan
 abbrev pub AreRefused : List (List ℕ) → Type 0
-AreRefused words = (plan : Plan) → AsksFor words plan → ⊥
+AreRefused words = (plan : Plan) → IsPlan words plan → ⊥
 
 -- the streams that are opened in the inputs: none where the stream is generated
 abbrev pub opened_or : List (List ℕ) → Option ℕ → List (List ℕ)

@@ -3,7 +3,7 @@ use Rattle.std.specs.Prelude.{◌≡◌, ◌≢◌, ℕ, ◌==◌, ◌⊎◌, if
 use Rattle.aut_base.specs.Automaton.{Automaton}
 use Rattle.aut_io.specs.Outside.{Gains, Rose, Texts}
 use Rattle.aut_io.specs.Seen.{Seen, SinkSeen}
-use Rattle.autfilt_command.specs.Asked.{AreRefused, AsksFor}
+use Rattle.autfilt_command.specs.Asked.{AreRefused}
 use Rattle.autfilt_command.specs.Ends.{ended_of}
 use Rattle.autfilt_command.specs.Noted.{Notes}
 use Rattle.autfilt_command.specs.Notes.{aborted_line, line_of}
@@ -18,7 +18,7 @@ use Rattle.autfilt_run.specs.Plans.{count_text, prints_count, prints_each, strea
 use Rattle.autfilt_run.specs.Runs.{IsCounted, IsDone, Stops, StopsInOperands}
 use Rattle.autfilt_run.specs.declared.fault.RunFault.{RunFault}
 use Rattle.autfilt_run.specs.declared.fault.RunFault.TheVariants as run
-use Rattle.filter_plan.specs.Words.{operands}
+use Rattle.filter_plan.specs.Words.{IsPlan, operands}
 use Rattle.filter_plan.specs.declared.plan.Plan.{Plan}
 use Rattle.hoa_parser.specs.Raw.{Written}
 
@@ -159,7 +159,7 @@ pub record EndsBy (words : List (List ℕ)) (result : Ended) (seen seen' : Seen)
   pub events : List Event
   pub name : List ℕ
   pub refused : AreRefused words → (taken ≡ []) × (events ≡ [])
-  pub runs : (plan : Plan) → AsksFor words plan → (p : Plan) × AsksFor words p × RunsOver p end taken events name seen seen' out out'
+  pub runs : (plan : Plan) → IsPlan words plan → (p : Plan) × IsPlan words p × RunsOver p end taken events name seen seen' out out'
   pub noted : Notes (passed_noted (all_passed taken) ++ (all_noted events ++ line_of end name)) notes notes'
 
 -- the counts of the outside stand

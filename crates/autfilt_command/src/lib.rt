@@ -5,7 +5,6 @@
 //! say stands in `specs`: begin with `Run.antt`, and with `Events.antt` and `Operands.antt` of `autfilt_run`.
 #![tactic(auto)]
 
-mod asked;
 mod ended;
 mod notes;
 mod run;

@@ -1,7 +1,7 @@
 //! The top call.
 
 ghost use Rattle.std.specs.Prelude.{◌≡◌, ◌⊎◌, All, true};
-ghost use Rattle.autfilt_command.specs.Asked.{AreRefused, AsksFor, names_opened};
+ghost use Rattle.autfilt_command.specs.Asked.{AreRefused, names_opened};
 ghost use Rattle.autfilt_command.specs.Run.{EndsBecause, EndsBy, end_of};
 ghost use Rattle.autfilt_command.specs.inner.Running.{Carries, Finishes, IsFresh, IsNew, Preparing};
 ghost use Rattle.autfilt_command.specs.declared.ended.End.{End};
@@ -10,16 +10,16 @@ ghost use Rattle.autfilt_run.specs.Plans.{count_text, prints_count, streams_of};
 ghost use Rattle.autfilt_run.specs.Points.{name_in};
 ghost use Rattle.autfilt_run.specs.declared.fault.RunFault.{RunFault};
 ghost use Rattle.autfilt_run.specs.declared.session.Stage.{Stage};
-ghost use Rattle.filter_plan.specs.Words.{operands};
+ghost use Rattle.filter_plan.specs.Words.{IsPlan, operands};
 ghost use Rattle.filter_plan.specs.declared.plan.Plan.{Plan};
 
-use crate::asked::read_words;
 use crate::ended::{End, Ended};
 use crate::notes::{note_end, note_skipped};
 use aut_base::Words;
 use aut_io::{Inputs, Sink};
 use autfilt_run::{Made, Prep, RunFault, Session, Turn};
-use filter_plan::{Plan, UsageFault};
+use filter_plan::{Plan, UsageFault, read_plan};
+use plan_meaning::Complements;
 use std::alloc::Global;
 
 /// Prepares a session, and notes the operands' automata that are passed over. Answers whether notes are taken still, or how
@@ -47,7 +47,8 @@ fn prepare<I: Inputs, M: Sink>(
     }
 }
 
-/// Takes the steps of a session until it is done. Notes are taken where they were before.
+/// Takes the steps of a session until it is done, and keeps the complements of its operands meanwhile. Notes are taken where
+/// they were before.
 fn take_steps<I: Inputs, W: Sink, M: Sink>(
     alloc: Global,
     session: Session,
@@ -61,9 +62,10 @@ fn take_steps<I: Inputs, W: Sink, M: Sink>(
     ensures { Carries session noting result (I.seen inputs.old) (I.seen inputs.new) (W.seen out.old) (W.seen out.new) (M.seen notes.old) (M.seen notes.new) }
 {
     let mut session = session;
+    let mut complements = Complements::new();
     let mut noting = noting;
     'steps: loop {
-        match session.step(alloc, inputs, out) {
+        match session.step(alloc, &mut complements, inputs, out) {
             Ok(Turn::Done) => {
                 let end = finish(&mut session, out);
                 return note_end(notes, noting, session.name_in_hand(), end);
@@ -108,7 +110,7 @@ fn end_of(session: &Session) -> End
 
 /// Reads the words of the command line after the program's name and does what they ask for: reads the operands, and then
 /// automata from the streams; judges each, and writes the canonical text of what is made of those that are kept, a line of
-/// figures of it, or how many they are. Automata that `--ABORT--` abandons are skipped, with a line in `notes` each. One line
+/// figures of it, a refutation of each, or how many they are. Automata that `--ABORT--` abandons are skipped, with a line in `notes` each. One line
 /// about a fault goes there, too.
 pub fn autfilt<I: Inputs, W: Sink, M: Sink>(
     alloc: Global,
@@ -118,7 +120,7 @@ pub fn autfilt<I: Inputs, W: Sink, M: Sink>(
     notes: &mut M,
 ) -> Ended
     // No other name is opened than those of the plan's operands and streams.
-    requires { (plan : Plan) → AsksFor words.now plan → All I.may_open (names_opened plan) }
+    requires { (plan : Plan) → IsPlan words.now plan → All I.may_open (names_opened plan) }
 
     // What was read, what was written and noted of it and what ended the run.
     ensures run { EndsBy words.now result (I.seen inputs.old) (I.seen inputs.new) (W.seen out.old) (W.seen out.new) (M.seen notes.old) (M.seen notes.new) }
@@ -126,13 +128,12 @@ pub fn autfilt<I: Inputs, W: Sink, M: Sink>(
     // A fault of the outside is answered only where its count rose, and any other answer only where no call failed.
     ensures causes { EndsBecause result (I.seen inputs.old) (I.seen inputs.new) (W.seen out.old) (W.seen out.new) }
 
-    // Words that ask for nothing that the program can do are refused, and they alone; then nothing is opened, read or
-    // written.
+    // Words that are no plan are refused, and they alone; then nothing is opened, read or written.
     ensures usage { result ≡ Ended.Usage → AreRefused words.now }
     ensures refused { AreRefused words.now → (result ≡ Ended.Usage) ⊎ (result ≡ Ended.Memory) }
     ensures untouched { AreRefused words.now → (I.seen inputs.new ≡ I.seen inputs.old) × (W.seen out.new ≡ W.seen out.old) }
 {
-    let plan = match read_words(alloc, words) {
+    let plan = match read_plan(alloc, words) {
         Ok(plan) => plan,
         Err(UsageFault::Usage) => return Ended::from(note_end(notes, true, b"", End::Usage)),
         Err(UsageFault::Memory) => {

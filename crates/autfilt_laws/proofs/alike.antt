@@ -1,5 +1,6 @@
 -- What stands in the texts decides which events happen, and how the run ends.
-pub mod Limits
+pub mod Like
+mod Limits
 pub mod Looks
 pub mod Verdicts
 pub mod Steps

@@ -4,6 +4,7 @@ pub mod Examined
 pub mod Stopping
 pub mod PlanLimits
 pub mod Found
+mod GoodOperands
 pub mod InOperands
 pub mod InStreams
 pub mod Runs

@@ -1,6 +1,6 @@
 -- What the texts alone decide of a run.
-use Rattle.std.specs.Prelude.{◌≡◌, ℕ, ◌+◌, ◌<◌, ◌⊎◌, true, false, List, [], ◌++◌, length, Option, Some, None}
-use Rattle.std.specs.List.{sum_by}
+use Rattle.std.specs.Prelude.{◌≡◌, ℕ, ◌+◌, ◌<◌, ◌⊎◌, true, false, List, [], ◌∷◌, ◌++◌, length, Option, Some, None}
+use Rattle.std.specs.List.{AllByRecursion, sum_by}
 use Rattle.aut_base.specs.Automaton.{Automaton}
 use Rattle.aut_base.specs.declared.limit.Limit.{Limit}
 use Rattle.aut_base.specs.declared.limit.Limit.TheVariants as limit
@@ -10,9 +10,9 @@ use Rattle.autfilt_command.specs.Run.{AreAllRead, EndsByTally, EndsInOperands, R
 use Rattle.autfilt_command.specs.declared.ended.End.{End}
 use Rattle.autfilt_command.specs.declared.ended.End.TheVariants as end
 use Rattle.autfilt_run.specs.Due.{IsDue}
-use Rattle.autfilt_run.specs.Events.{AreJudged, Event, Happen, IsGood, Point, Stream, place, start_of}
+use Rattle.autfilt_run.specs.Events.{AreJudged, Dropped, Ended, Event, Happen, IsGood, Kept, Opened, Point, Skipped, Stream, place, start_of}
 use Rattle.autfilt_run.specs.Made.{made_texts}
-use Rattle.autfilt_run.specs.Operands.{AreRead, OperandEvent, all_passed, operands_of}
+use Rattle.autfilt_run.specs.Operands.{AreRead, FileOpened, OperandEvent, PassedOver, Taken, all_passed, operands_of}
 use Rattle.autfilt_run.specs.Over.{IsOver}
 use Rattle.autfilt_run.specs.Plans.{asks_on, prints_each, streams_of}
 use Rattle.autfilt_run.specs.declared.fault.RunFault.{RunFault}
@@ -79,25 +79,50 @@ pub record IsEnded (plan : Plan) (texts : Texts) (left : Option (List ℕ)) (tak
 
 -- ---- uniqueness
 
-pub record AreSame (taken others : List OperandEvent) (events more : List Event) (e d : End) : Type 0 where
+-- The plan decides what is written of an automaton: its canonical text, or nothing. (Which word stands in a line of figures, and
+-- which refutes, is left open.)
+abbrev pub DecidesTexts : Plan → Type 0
+DecidesTexts plan = (plan.output ≡ Hoa) ⊎ (prints_each plan ≡ false)
+
+-- the same event, with the same text where the plan decides it
+abbrev pub IsLike : Plan → Event → Event → Type 0
+IsLike plan (Opened name) f = f ≡ Opened name
+IsLike plan (Kept w text) f = (other : List ℕ) × (f ≡ Kept w other) × (DecidesTexts plan → other ≡ text)
+IsLike plan (Dropped w) f = f ≡ Dropped w
+IsLike plan (Skipped name) f = f ≡ Skipped name
+IsLike plan Ended f = f ≡ Ended
+
+abbrev pub AreLike : Plan → List Event → List Event → Type 0
+AreLike plan [] [] = Unit {0}
+AreLike plan [] (f ∷ fs) = ⊥
+AreLike plan (e ∷ es) [] = ⊥
+AreLike plan (e ∷ es) (f ∷ fs) = IsLike plan e f × AreLike plan es fs
+
+pub record AreSame (plan : Plan) (taken others : List OperandEvent) (events more : List Event) (e d : End) : Type 0 where
   pub operands : taken ≡ others
-  pub streams : events ≡ more
+  pub streams : AreLike plan events more
+  pub texts : DecidesTexts plan → more ≡ events
   pub ends : e ≡ d
 
--- Two runs over the same texts of one plan, which prints canonical texts, that the texts ended: the same happened, and they end
--- alike. (Which word stands in a line of figures is left open.)
+-- Two runs over the same texts of one plan that the texts ended: the same happened, and they end alike.
 abbrev pub OneEnd : Type 0
 OneEnd =
-    (plan : Plan) → plan.output ≡ Hoa → (texts : Texts) (left : Option (List ℕ)) (taken others : List OperandEvent) (events more : List Event) (e d : End)
-    → IsEnded plan texts left taken events e → IsEnded plan texts left others more d → AreSame taken others events more e d
+    (plan : Plan) (texts : Texts) (left : Option (List ℕ)) (taken others : List OperandEvent) (events more : List Event) (e d : End)
+    → IsEnded plan texts left taken events e → IsEnded plan texts left others more d → AreSame plan taken others events more e d
+
+-- the one are the first of the others
+pub record AreFirst (plan : Plan) (events others : List Event) : Type 0 where
+  pub front : List Event
+  pub more : List Event
+  pub parted : others ≡ front ++ more
+  pub like : AreLike plan events front
 
 -- Of the events of two runs in the streams, those of one are the first ones of the other: a run that a fault
 -- ended has read and written the first of what any other run reads and writes.
 abbrev pub OneFront : Type 0
 OneFront =
-    (plan : Plan) → plan.output ≡ Hoa → (ops : List Automaton) (texts : Texts) (events others : List Event) (p q r : Point) → AreJudged plan ops events → AreJudged plan ops others
-    → Happen plan texts events p q → Happen plan texts others p r
-    → ((more : List Event) × (others ≡ events ++ more)) ⊎ ((more : List Event) × (events ≡ others ++ more))
+    (plan : Plan) (ops : List Automaton) (texts : Texts) (events others : List Event) (p q r : Point) → AreJudged plan ops events → AreJudged plan ops others
+    → Happen plan texts events p q → Happen plan texts others p r → AreFirst plan events others ⊎ AreFirst plan others events
 
 -- So it is with operands.
 abbrev pub OneOperandFront : Type 0
@@ -136,11 +161,22 @@ Completes =
 abbrev pub size_of : Texts → List (List ℕ) → ℕ
 size_of texts names = sum_by (λ name. length (text_of texts name)) names
 
--- Of each automaton that may be read, either something is due under the plan or a limit is passed.
+-- an automaton that may be read
+abbrev pub IsGoodOperand : OperandEvent → Type 0
+IsGoodOperand (Taken w) = IsValid w × PassesNone w
+IsGoodOperand (FileOpened name) = Unit {0}
+IsGoodOperand (PassedOver name) = Unit {0}
+
+-- There is an operand for each name of the plan, and each may be read.
+pub record AreGoodOperands (plan : Plan) (taken : List OperandEvent) : Type 0 where
+  pub number : length (operands_of taken) ≡ length (operands plan)
+  pub good : AllByRecursion IsGoodOperand taken
+
+-- Of each automaton that may be read, with operands that were read, either something is due under the plan or a limit is passed.
 abbrev pub IsAlwaysDue : Plan → Type 0
 IsAlwaysDue plan =
-    (ops : List Automaton) (w : Written) → IsValid w → PassesNone w
-    → (((text : List ℕ) × IsDue plan ops w text) ⊎ ((which : Limit) × IsOver which plan ops w) → ⊥) → ⊥
+    (taken : List OperandEvent) → AreGoodOperands plan taken → (w : Written) → IsValid w → PassesNone w
+    → (((text : List ℕ) × IsDue plan (operands_of taken) w text) ⊎ ((which : Limit) × IsOver which plan (operands_of taken) w) → ⊥) → ⊥
 
 -- Under such a plan there is a run over all texts that together have fewer bytes than may be taken.
 abbrev pub SomeEnd : Type 0

@@ -10,7 +10,7 @@ use row::Row;
 use row_files::{Count, Fault, Rows, Stop, read_files};
 
 /// The files of rows, in the folder where the program runs.
-const FILES: [&str; 22] = [
+const FILES: [&str; 23] = [
     "examples.rows",
     "printed.rows",
     "ends.rows",
@@ -30,6 +30,7 @@ const FILES: [&str; 22] = [
     "monitors.rows",
     "determinisation.rows",
     "comparing.rows",
+    "refutation.rows",
     "unambiguity.rows",
     "made.rows",
     "large.rows",

@@ -11,6 +11,7 @@ mod PassedLimits
 pub mod Preparing
 pub mod ReadsAs
 mod Reading
+mod RefutationLines
 mod Rings
 mod Said
 pub mod Stepping

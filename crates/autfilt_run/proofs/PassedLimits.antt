@@ -1,14 +1,17 @@
 -- Which limits are passed behind the reader: neither that of depth nor that of bytes.
-use Rattle.std.proofs.Common.{◌≡◌, ◌⊎◌, List, [], ◌∷◌, inl, inr, refl, subst}
+use Rattle.std.proofs.Common.{◌≡◌, ◌⊎◌, List, [], ◌∷◌, Option, Some, None, inl, inr, refl, subst}
+use Rattle.std.specs.Prelude.{MatchOption}
 use Rattle.aut_base.specs.Automaton.{Automaton}
 use Rattle.aut_base.specs.CanonicalLabel.{canonical}
 use Rattle.aut_base.specs.declared.limit.Limit.{Limit}
 use Rattle.aut_base.specs.declared.limit.Limit.TheVariants as limit
 use Rattle.autfilt_run.specs.Faults.{stop_of_fault}
-use Rattle.autfilt_run.specs.Over.{IsOver, IsOverChanges}
+use Rattle.autfilt_run.specs.Over.{IsOver, IsOverPrinting, StopsPrinting}
 use Rattle.autfilt_run.specs.declared.fault.RunFault.TheVariants as fault
 use Rattle.filter_plan.specs.declared.plan.Form.{Form}
 use Rattle.filter_plan.specs.declared.plan.Form.TheVariants as form
+use Rattle.filter_plan.specs.declared.plan.Output.{Output}
+use Rattle.filter_plan.specs.declared.plan.Output.TheVariants.{Hoa, Stats, Refute}
 use Rattle.filter_plan.specs.declared.plan.Plan.{Plan}
 use Rattle.hoa_lexer.specs.Moves.{Elsewhere}
 use Rattle.hoa_parser.specs.Raw.{Written}
@@ -16,11 +19,12 @@ use Rattle.hoa_reader.specs.Described.{described}
 use Rattle.hoa_reader.specs.Counts.{Count, Names, Sets, States, Edges, Aliases}
 use Rattle.hoa_reader.specs.Elaborating.{PassesLimit}
 use Rattle.hoa_reader.specs.inner.Gathered.{limit_of}
-use Rattle.plan_meaning.specs.Changes.{Change, PassesBuchi, PassesDnf, PassesForm, PassesIn, PassesMonitor, PassesWithoutFin, StopsIn}
+use Rattle.plan_meaning.specs.Changes.{Change, PassesBuchi, PassesDnf, PassesForm, PassesIn, PassesMonitor, PassesWithoutFin, StopsIn, changes_of}
 use Rattle.plan_meaning.specs.Changes as change
 use Rattle.plan_meaning.specs.Filters.{Filter, IsOverFilters, Passes}
 use Rattle.plan_meaning.specs.Filters as filter
 use Rattle.plan_meaning.specs.Limits.{PassesOfBoth, PassesOfEither, PassesOfEquivalence, PassesOfInclusion, PassesOfSquare, PassesOfSum, PassesOfWord, PassesParity}
+use Rattle.plan_meaning.specs.Operands.{refuted_operand}
 use Rattle.word_syntax.specs.Grammar.{WordPattern}
 
 -- the reader tells it
@@ -139,12 +143,21 @@ changes_pass which [] a r h = h
 changes_pass which (c ∷ cs) a r (inl h) = change_pass which c a r h
 changes_pass which (c ∷ cs) a r (inr h) = changes_pass which cs h.0 r h.2
 
+refuted_pass : (which : Limit) (operand : Option Automaton) (a : Automaton) → IsOfReader which → MatchOption operand ⊥ (λ b. PassesOfInclusion which a b) → ⊥
+refuted_pass which None a r h = h
+refuted_pass which (Some b) a r h = inclusion_pass which a b r h
+
+printing_pass : (which : Limit) (o : Output) (p : Plan) (ops : List Automaton) (a : Automaton) → IsOfReader which → StopsPrinting o which p ops a → ⊥
+printing_pass which Hoa p ops a r h = changes_pass which (changes_of p ops) a r h
+printing_pass which (Stats pieces) p ops a r h = changes_pass which (changes_of p ops) a r h
+printing_pass which (Refute file) p ops a r h = refuted_pass which (refuted_operand p ops) a r h
+
 pub plan_passes : (which : Limit) (p : Plan) (ops : List Automaton) (w : Written) → IsOver which p ops w → IsOfReader which → ⊥
 plan_passes which p ops w h r = by h.over
   where
-    by : IsOverFilters which p ops (described w) ⊎ IsOverChanges which p ops w → ⊥
+    by : IsOverFilters which p ops (described w) ⊎ IsOverPrinting which p ops w → ⊥
     by (inl f) = filter_pass which f.filter _ r f.passes
-    by (inr c) = changes_pass which _ _ r c.stops
+    by (inr c) = printing_pass which p.output p ops _ r c.stops
 
 pub both_ways : (which : Limit) (p : Plan) (ops : List Automaton) (w : Written) → PassesLimit which w ⊎ IsOver which p ops w → IsOfReader which → ⊥
 both_ways which p ops w (inl h) r = counts_pass which w h r

@@ -1,11 +1,12 @@
 -- The text that is due of an automaton that is kept.
-use Rattle.std.specs.Prelude.{◌≡◌, ℕ, Bool, true, false, if◌then◌else◌, List, [], Option, None}
+use Rattle.std.specs.Prelude.{◌≡◌, ℕ, Bool, true, false, if◌then◌else◌, List, [], MatchOption, Option, None}
 use Rattle.ap_project.specs.Laws.{SayTheSame}
 use Rattle.aut_base.specs.Acceptance.{Accepts}
 use Rattle.aut_base.specs.Automaton.{Automaton}
 use Rattle.aut_base.specs.CanonicalLabel.{canonical}
 use Rattle.autfilt_run.specs.Figures.{IsLine}
 use Rattle.autfilt_run.specs.Plans.{prints_each}
+use Rattle.autfilt_run.specs.RefutationLine.{IsRefutationLine}
 use Rattle.filter_plan.specs.Words.{changes}
 use Rattle.filter_plan.specs.declared.format.Piece.{Piece}
 use Rattle.filter_plan.specs.declared.plan.Output.{Output}
@@ -20,6 +21,7 @@ use Rattle.hoa_reader.specs.Described.{described}
 use Rattle.hoa_reader.specs.Validity.{IsValid}
 use Rattle.hoa_writer.specs.CanonicalText.{canonical_text}
 use Rattle.plan_meaning.specs.Changes.{Language, MakesAll, changes_of, set_operation}
+use Rattle.plan_meaning.specs.Operands.{refuted_operand}
 use Rattle.plan_meaning.specs.Promises.{KeepsPromises}
 
 -- The text's tokens spell one automaton and no other. It is valid, and accepts exactly the lasso words of which this is said.
@@ -58,11 +60,11 @@ pub record IsFigures (p : Plan) (ops : List Automaton) (w : Written) (pieces : L
   pub is_made : IsMade p ops w made
   pub line : IsLine pieces made text
 
--- What is printed of an automaton that was read.
+-- What is printed of an automaton that was read. A refutation is that of the automaton as it was read.
 abbrev pub IsPrinted : Output → Plan → List Automaton → Written → List ℕ → Type 0
 IsPrinted Hoa p ops w text = IsCanonical p ops w text
 IsPrinted (Stats pieces) p ops w text = IsFigures p ops w pieces text
-IsPrinted (Refute operand) p ops w text = ⊥
+IsPrinted (Refute file) p ops w text = MatchOption (refuted_operand p ops) ⊥ (λ b. IsRefutationLine (described w) b text)
 
 -- Nothing is due where only the number of automata is printed, or nothing at all.
 abbrev pub IsDueWhere : Bool → Plan → List Automaton → Written → List ℕ → Type 0

@@ -1,4 +1,3 @@
-pub mod Built
 pub mod Due
 pub mod Events
 pub mod Faults
@@ -10,6 +9,7 @@ pub mod Over
 pub mod Plans
 pub mod Points
 pub mod Preparing
+pub mod RefutationLine
 pub mod Runs
 pub mod Turns
 pub mod inner

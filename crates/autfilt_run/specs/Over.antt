@@ -1,9 +1,11 @@
 -- The limits that a plan passes on an automaton that was read.
-use Rattle.std.specs.Prelude.{◌≡◌, ◌⊎◌, true, List}
+use Rattle.std.specs.Prelude.{◌≡◌, ◌⊎◌, true, List, MatchOption}
 use Rattle.aut_base.specs.Automaton.{Automaton}
 use Rattle.aut_base.specs.CanonicalLabel.{canonical}
 use Rattle.aut_base.specs.declared.limit.Limit.{Limit}
 use Rattle.autfilt_run.specs.Plans.{prints_each}
+use Rattle.filter_plan.specs.declared.plan.Output.{Output}
+use Rattle.filter_plan.specs.declared.plan.Output.TheVariants.{Hoa, Stats, Refute}
 use Rattle.filter_plan.specs.declared.plan.Plan.{Plan}
 use Rattle.hoa_parser.specs.Raw.{Written}
 use Rattle.hoa_reader.specs.Counts.{PassesNone}
@@ -11,15 +13,23 @@ use Rattle.hoa_reader.specs.Described.{described}
 use Rattle.hoa_reader.specs.Validity.{IsValid}
 use Rattle.plan_meaning.specs.Changes.{StopsIn, changes_of}
 use Rattle.plan_meaning.specs.Filters.{IsKept, IsOverFilters}
+use Rattle.plan_meaning.specs.Limits.{PassesOfInclusion}
+use Rattle.plan_meaning.specs.Operands.{refuted_operand}
 
--- A change passes a limit. Changes are made only of automata that are kept, and where something is printed of them.
-pub record IsOverChanges (which : Limit) (p : Plan) (ops : List Automaton) (w : Written) : Type 0 where
+-- What is printed of an automaton passes a limit: a change of it, or the search for a refutation.
+abbrev pub StopsPrinting : Output → Limit → Plan → List Automaton → Automaton → Type 0
+StopsPrinting Hoa which p ops a = StopsIn which (changes_of p ops) a
+StopsPrinting (Stats pieces) which p ops a = StopsIn which (changes_of p ops) a
+StopsPrinting (Refute file) which p ops a = MatchOption (refuted_operand p ops) ⊥ (λ b. PassesOfInclusion which a b)
+
+-- That is so only of automata that are kept, and where something is printed of them.
+pub record IsOverPrinting (which : Limit) (p : Plan) (ops : List Automaton) (w : Written) : Type 0 where
   pub kept : IsKept p ops (described w)
   pub prints : prints_each p ≡ true
-  pub stops : StopsIn which (changes_of p ops) (canonical (described w))
+  pub stops : StopsPrinting p.output which p ops (canonical (described w))
 
--- The automaton is valid and within the limits of reading, but a filter or a change passes a limit.
+-- The automaton is valid and within the limits of reading, but a filter or what is printed passes a limit.
 pub record IsOver (which : Limit) (p : Plan) (ops : List Automaton) (w : Written) : Type 0 where
   pub valid : IsValid w
   pub within : PassesNone w
-  pub over : IsOverFilters which p ops (described w) ⊎ IsOverChanges which p ops w
+  pub over : IsOverFilters which p ops (described w) ⊎ IsOverPrinting which p ops w

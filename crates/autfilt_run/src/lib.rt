@@ -2,8 +2,8 @@
 //!
 //! A caller makes a `Session` of a plan, prepares it, takes steps until `Turn::Done`, and finishes. It sees what each step
 //! did by its `Turn`, or by a `RunFault`, after which the session is over. `Made` are the inputs of the stream that is
-//! generated. What the contracts say stands in `specs`: `Turns` says what one step does, `Events` what a run is, `Filters`
-//! and `Due` the verdict on an automaton and the text that is due of it, and `Built` which plans are carried out so far.
+//! generated. What the contracts say stands in `specs`: `Turns` says what one step does, `Events` what a run is, `Due` which
+//! text is due of an automaton that is kept, and `Over` which limits a plan passes on it.
 #![tactic(auto)]
 
 mod fault;
@@ -12,6 +12,7 @@ mod handle;
 mod made;
 mod number;
 mod operands;
+mod refuted;
 mod session;
 mod streams;
 mod taken;

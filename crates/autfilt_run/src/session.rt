@@ -3,7 +3,6 @@
 ghost use Rattle.std.specs.Prelude.{◌≡◌, ◌+◌, ◌<◌, ◌≤◌, ◌⊎◌, All, None, false, length, map, true};
 ghost use Rattle.aut_base.specs.declared.limit.TheConstants.{MOST_BYTES};
 ghost use Rattle.aut_core.specs.Core.{automaton_of};
-ghost use Rattle.autfilt_run.specs.Built.{IsBuilt};
 ghost use Rattle.autfilt_run.specs.Plans.{files_of, streams_of};
 ghost use Rattle.autfilt_run.specs.declared.session.Stage.{Stage};
 ghost use Rattle.filter_plan.specs.Words as words;
@@ -19,7 +18,7 @@ use aut_base::{Failed, MOST_BYTES};
 use aut_io::{Inputs, Sink};
 use filter_plan::Plan;
 use hoa_lexer::Lexer;
-use plan_meaning::Automata;
+use plan_meaning::{Automata, Complements};
 use std::alloc::Global;
 
 /// What a step did.
@@ -76,7 +75,6 @@ pub struct Session {
     kept: u64,
     skipped: u64,
     stage: Stage,
-    ghost built: { IsBuilt plan },
     ghost opened_within: { opened ≤ length (streams_of plan) },
     ghost tried_within: { tried ≤ length (files_of plan) },
     ghost read_within: { length operands ≤ length (words.operands plan) },
@@ -93,15 +91,15 @@ pub struct Session {
 impl Session {
     ghost use Rattle.std.specs.Prelude.{◌≢◌, ◌↔◌, [], IfOk, IsErrOf, IsTrue, OnErr};
     ghost use Rattle.autfilt_run.specs.Plans.{count_text, prints_count};
-    ghost use Rattle.autfilt_run.specs.Points.{name_in};
+    ghost use Rattle.autfilt_run.specs.Points.{name_in, operands_in};
     ghost use Rattle.autfilt_run.specs.Preparing.{Prepares};
     ghost use Rattle.autfilt_run.specs.Turns.{Finishes, Rises, Steps, after, progress};
     ghost use Rattle.autfilt_run.specs.declared.fault.RunFault.TheVariants as run_fault;
+    ghost use Rattle.plan_meaning.specs.Complements.{AreKept};
     ghost use Rattle.autfilt_run.specs.declared.session.Prep.TheVariants as prep;
 
     /// A session for a plan, which may take 2^40 bytes.
     pub fn new(alloc: Global, plan: Plan) -> Session
-        requires { IsBuilt plan }
         ensures plan { result.plan ≡ plan }
         ensures begins { progress result ≡ record { opened = 0; is_open = false; kept = 0; skipped = 0 } }
         ensures operands { result.operands ≡ [] }
@@ -155,20 +153,24 @@ impl Session {
         }
     }
 
-    /// Opens the next stream, or reads the next automaton of the open one, judges it, and writes its text where one is due.
+    /// Opens the next stream, or reads the next automaton of the open one, judges it, and writes its text where one is due. What
+    /// is handed in of complements is that of the operands, and more may be kept behind.
     pub fn step<I: Inputs, W: Sink>(
         &mut self,
         alloc: Global,
+        complements: &mut Complements,
         inputs: &mut I,
         out: &mut W,
     ) -> Result<Turn, RunFault>
         requires stage { self.old.stage ≡ Stage.Prepared }
         requires names { All I.may_open (streams_of self.old.plan) }
+        requires kept { AreKept self.old.plan (operands_in self.old) complements.old }
 
         // What happened, outside and to the lexer.
         ensures steps { Steps result self.old self.new (I.seen inputs.old) (I.seen inputs.new) (W.seen out.old) (W.seen out.new) }
         ensures plan { self.new.plan ≡ self.old.plan }
         ensures operands { self.new.operands ≡ self.old.operands }
+        ensures kept { AreKept self.old.plan (operands_in self.old) complements.new }
 
         // The lexer of the session may take as many bytes as before, and takes some for each automaton.
         ensures most { self.new.lexer.most ≡ self.old.lexer.most }
@@ -182,7 +184,7 @@ impl Session {
         ensures over { OnErr result (self.new.stage ≡ Stage.Over) }
     {
         self.stage = Stage::Over;
-        let turn = self.turn(alloc, inputs, out)?;
+        let turn = self.turn(alloc, complements, inputs, out)?;
         self.stage = match turn {
             Turn::Done => Stage::Done,
             _ => Stage::Prepared,

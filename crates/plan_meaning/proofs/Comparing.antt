@@ -1,75 +1,31 @@
--- Whether one automaton is included in another, by a product with the other's complement, and whether both accept the same.
-use Rattle.std.proofs.Common.{◌≡◌, ◌<◌, ◌≤◌, Bool, true, false, Option, None, Some, Result, Ok, Err, arith, inl, inr, length, refl, subst, sym}
-use Rattle.std.specs.Prelude.{MatchOption}
+-- Whether one automaton is included in another, and whether both accept the same, by whether there is a word that the one accepts
+-- and the other doesn't.
+use Rattle.std.proofs.Common.{◌≡◌, Bool, true, false, Option, None, Some, Result, Ok, Err, inl, inr, subst, sym}
 use Rattle.std.specs.Result.{IsErrAnd}
 use Rattle.aut_base.specs.Automaton.{Automaton}
 use Rattle.aut_base.specs.CanonicalLabel.{canonical}
 use Rattle.aut_base.specs.declared.letter.Lasso.{Lasso}
 use Rattle.aut_base.specs.declared.limit.Limit.{Limit}
-use Rattle.aut_base.specs.declared.limit.Limit.TheVariants as limit
-use Rattle.aut_base.specs.declared.limit.TheConstants.{MOST_PAIRS}
-use Rattle.aut_core.specs.Deterministic.{IsDeterministic}
-use Rattle.aut_ops.specs.Products.{HasMorePairs, over_both}
-use Rattle.aut_ops.specs.declared.fault.PairFault.{PairFault}
-use Rattle.aut_ops.specs.declared.fault.PairFault.TheVariants as pair
-use Rattle.inclusion.proofs.Common.{included_where_none, not_included_where_word}
-use Rattle.inclusion.specs.Common.{AcceptNoneTogether, IsWordOfBoth}
-use Rattle.parity_det.proofs.ParityLaws.{complement_is_determined}
-use Rattle.parity_det.specs.Complements.{IsComplementOf, IsRefusal, IsWithinParity}
-use Rattle.parity_det.specs.declared.fault.CompFault.{CompFault}
-use Rattle.parity_det.specs.declared.fault.CompFault.TheVariants as comp
-use Rattle.parity_laws.specs.Complement.{AreComplements}
-use Rattle.plan_meaning.proofs.Determinised.{within}
 use Rattle.plan_meaning.specs.Filters.{EquivalentTo, IncludedIn}
-use Rattle.plan_meaning.specs.Limits.{HaveFewNames, HaveManyNames, IsIncluded, PassesOfBoth, PassesOfEquivalence, PassesOfInclusion, PassesUnlessDeterministic}
+use Rattle.plan_meaning.specs.Limits.{PassesOfEquivalence, PassesOfInclusion}
 use Rattle.plan_meaning.specs.declared.fault.PlanFault.{PlanFault}
 use Rattle.plan_meaning.specs.declared.fault.PlanFault.TheVariants as fault
-use Rattle.plan_meaning.specs.inner.Faults.{fault_of_pairs, fault_of_parity}
+use Rattle.plan_meaning.specs.inner.Beside.{FindsBeside, IsFoundBeside}
 use Rattle.plan_meaning.specs.inner.Judging.{ComparesInclusion, Examines}
 
-abbrev HavePairs : Automaton → Automaton → Type 0
-HavePairs a co = HasMorePairs MOST_PAIRS (over_both a co a) (over_both a co co)
+-- a word was found, or there is none
+pub by_none : (a b : Automaton) (found : Option Lasso) → found ≡ None → IsFoundBeside a b found → ComparesInclusion (Ok true) a b
+by_none a b None is h = (h.within, h.found)
+by_none a b (Some w) is h = absurd cc
 
-none_of_both : (which : Limit) (a co : Automaton) → HaveFewNames a co → (HavePairs a co → ⊥) → PassesOfBoth which a co → ⊥
-none_of_both limit.Names a co few pairs h = omega (arith, few, h)
-none_of_both limit.Pairs a co few pairs h = pairs h.1
-none_of_both _ a co few pairs h = h
+pub by_word : (a b : Automaton) (found : Option Lasso) (w : Lasso) → found ≡ Some w → IsFoundBeside a b found → ComparesInclusion (Ok false) a b
+by_word a b None w is h = absurd cc
+by_word a b (Some x) w is h = (h.within, λ included. h.found.rejected (included x.stem x.cycle h.found.accepted))
 
-module _ (a b co : Automaton) (is : IsComplementOf b co) (none : (IsDeterministic b → ⊥) → IsWithinParity b) where
-  complement_within : (which : Limit) → PassesUnlessDeterministic which b → ⊥
-  complement_within which h = within b (none h.0) which h.1
-
-  pub inclusion_within : HaveFewNames a co → (HavePairs a co → ⊥) → (which : Limit) → PassesOfInclusion which a b → ⊥
-  inclusion_within few pairs which (inl h) = complement_within which h
-  inclusion_within few pairs which (inr h) =
-      let same : h.1.co ≡ co = complement_is_determined b h.1.co co h.1.is is in
-      none_of_both which a co few pairs (subst (PassesOfBoth which a) same h.1.passes)
-
-  -- what a refusal of the product says
-  pub product_refused : (f : PairFault) → (f ≡ pair.Names → HaveManyNames a co) → (f ≡ pair.Pairs → HaveFewNames a co) → (f ≡ pair.Pairs → HavePairs a co)
-      → ComparesInclusion (Err (fault_of_pairs f)) a b
-  product_refused pair.Names names few pairs = inr (complement_within, record { co = co; is = is; passes = names refl })
-  product_refused pair.Pairs names few pairs = inr (complement_within, record { co = co; is = is; passes = (few refl, pairs refl) })
-  product_refused pair.Memory names few pairs = tt
-
--- what a refusal of the complement says
-pub complement_refused : (a b : Automaton) (f : CompFault) → IsRefusal b f → ComparesInclusion (Err (fault_of_parity f)) a b
-complement_refused a b comp.Terms h = inl h
-complement_refused a b comp.BuchiStates h = inl h
-complement_refused a b comp.Trees h = inl h
-complement_refused a b comp.Nodes h = inl h
-complement_refused a b comp.Classes h = inl h
-complement_refused a b comp.Memory h = tt
-
--- what was found, or that nothing was
-pub included_if : (a b co : Automaton) (found : Option Lasso) → AreComplements b co → found ≡ None → MatchOption found (AcceptNoneTogether a co) (IsWordOfBoth a co) → IsIncluded a b
-included_if a b co None are e h = (included_where_none a b co are).0 h
-included_if a b co (Some w) are e h = absurd cc
-
-pub not_included_if : (a b co : Automaton) (found : Option Lasso) (w : Lasso) → AreComplements b co → found ≡ Some w → MatchOption found (AcceptNoneTogether a co) (IsWordOfBoth a co)
-    → IsIncluded a b → ⊥
-not_included_if a b co None w are e h included = cc
-not_included_if a b co (Some x) w are e h included = let said = not_included_where_word a b co x are h in said.1 (included x.stem x.cycle said.0)
+-- a refusal says the same
+pub by_refusal : (a b : Automaton) (f : PlanFault) → FindsBeside (Err f) a b → ComparesInclusion (Err f) a b
+by_refusal a b (fault.Limit which) h = h
+by_refusal a b fault.Memory h = tt
 
 -- ---- the filters
 

@@ -1,13 +1,11 @@
 -- What is made of an automaton by determinisation: parity automata, deterministic ones, and complements.
-use Rattle.std.proofs.Common.{◌≡◌, ◌+◌, ◌*◌, ◌<◌, ◌≤◌, List, [], ◌∷◌, Err, inl, inr, refl}
-use Rattle.aut_base.specs.Acceptance.{Accepts}
+use Rattle.std.proofs.Common.{[], ◌∷◌, Err, inl, inr, refl}
 use Rattle.aut_base.specs.Automaton.{Automaton}
 use Rattle.aut_base.specs.declared.limit.Limit.{Limit}
 use Rattle.aut_base.specs.declared.limit.Limit.TheVariants as limit
 use Rattle.aut_core.specs.Deterministic.{IsDeterministic}
 use Rattle.aut_core.specs.OtherNames.{AcceptTheSame}
 use Rattle.filter_plan.specs.declared.plan.Form.TheVariants as form
-use Rattle.parity_det.specs.Complements as det
 use Rattle.parity_det.specs.Complements.{IsComplementOf, IsParityRefusal, IsRefusal, IsWithinParity}
 use Rattle.parity_det.specs.Determinisation.{IsParityOf}
 use Rattle.parity_det.specs.Shapes.{IsParity}

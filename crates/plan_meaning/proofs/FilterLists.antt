@@ -1,15 +1,13 @@
 -- Filters that are examined one after the other.
-use Rattle.std.proofs.Common.{◌≡◌, ◌<◌, ◌+◌, ℕ, Bool, true, false, List, [], ◌∷◌, ◌++◌, Option, Some, IfSome, Result, Ok, Err, refl, sym, subst, take, drop, get_or, length}
-use Rattle.std.specs.List.{AllByRecursion}
+use Rattle.std.proofs.Common.{◌≡◌, ◌<◌, ◌+◌, ℕ, Bool, true, false, List, [], ◌∷◌, ◌++◌, Option, Some, Result, Ok, Err, refl, sym, subst, take, drop, get_or, length}
 use Rattle.std.specs.Result.{IsErrAnd}
-use Rattle.std.proofs.lemmas.List.Elements.{All-cons, All-nil}
 use Rattle.aut_base.specs.Automaton.{Automaton}
 use Rattle.plan_meaning.proofs.StandingLists.{one_more, parted}
 use Rattle.plan_meaning.specs.Filters.{AllHold, Filter}
 use Rattle.plan_meaning.specs.declared.fault.PlanFault.{PlanFault}
 use Rattle.plan_meaning.specs.declared.fault.PlanFault.TheVariants as fault
 use Rattle.plan_meaning.specs.declared.judging.filter.Filter as coded
-use Rattle.plan_meaning.specs.inner.Judging.{AreComparable, Examines, IsComparable, JudgesWithin, asked_for, filter_of}
+use Rattle.plan_meaning.specs.inner.Judging.{Examines, JudgesWithin, asked_for, filter_of}
 
 hold_both : (fs gs : List Filter) (a : Automaton) → AllHold fs a → AllHold gs a → AllHold (fs ++ gs) a
 hold_both [] gs a h k = k
@@ -31,8 +29,3 @@ module _ (xs : List (Option coded.Filter)) (i : ℕ) (d o : Option coded.Filter)
 pub passed_on : (r : Result Bool PlanFault) (f : PlanFault) (fs : List Filter) (a : Automaton) → IsErrAnd r (λ y. y ≡ f) → JudgesWithin (Err f) fs a → JudgesWithin r fs a
 passed_on (Ok b) f fs a passed h = absurd passed
 passed_on (Err y) f fs a passed h = subst (λ (e : PlanFault). JudgesWithin (Err e) fs a) (sym passed) h
-
--- each is of the size of an automaton that is read, where it is one after the other
-pub comparable : (xs : List (Option coded.Filter)) → AllByRecursion (λ x. IfSome x IsComparable) xs → AreComparable xs
-comparable [] h = All-nil (λ x. IfSome x IsComparable)
-comparable (x ∷ xs) h = All-cons (λ y. IfSome y IsComparable) x xs h.0 (comparable xs h.1)

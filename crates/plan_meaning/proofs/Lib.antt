@@ -1,3 +1,4 @@
+mod Beside
 pub mod Canonical
 mod CanonicalEdges
 mod CanonicalRuns
@@ -8,8 +9,10 @@ mod Comparing
 mod Determinised
 mod DisjunctiveForm
 mod FilterLists
+mod Kept
 mod Meeting
 mod Monitored
+mod OperandsAt
 mod Promised
 mod Shapings
 mod Squares

@@ -7,8 +7,8 @@ use Rattle.aut_base.specs.declared.limit.Limit.TheVariants as limit
 use Rattle.parity_det.proofs.ParityLaws.{complement_is_determined}
 use Rattle.plan_meaning.proofs.ChangeLaws.{of_parity, one_of_parity}
 use Rattle.plan_meaning.specs.Filters.{AcceptsWord, AllHold, EquivalentTo, FailsAt, Filter, HoldsWithin, IncludedIn, Intersects, IsDroppedBy, IsKeptBy, IsUnambiguous, LacksWithin, Passes, PassesAt, RejectsWord, filters}
-use Rattle.plan_meaning.specs.Laws.{Dropped, Kept, OneVerdict, Over, SomeVerdict}
-use Rattle.plan_meaning.specs.Limits.{HaveFewNames, HaveManyNames, PassesOfBoth, PassesOfEquivalence, PassesOfInclusion, PassesOfSquare, PassesOfWord}
+use Rattle.plan_meaning.specs.Laws.{Dropped, Kept, OneLimitOfInclusion, OneVerdict, Over, SomeVerdict}
+use Rattle.plan_meaning.specs.Limits.{HaveFewNames, HaveManyNames, PassesOfBoth, PassesOfEquivalence, PassesOfSquare, PassesOfWord}
 use Rattle.word_syntax.specs.Grammar.{WordPattern}
 use Rattle.word_syntax.specs.Matching.{word_automaton}
 
@@ -42,7 +42,7 @@ of_square : (which : Limit) (a : Automaton) → PassesOfSquare which a → which
 of_square limit.Pairs a h = refl
 of_square _ a h = absurd h
 
-one_of_inclusion : (which other : Limit) (a b : Automaton) → PassesOfInclusion which a b → PassesOfInclusion other a b → which ≡ other
+pub one_of_inclusion : OneLimitOfInclusion
 one_of_inclusion which other a b (inl x) (inl y) = one_of_parity which other b (of_parity which b x.1) (of_parity other b y.1)
 one_of_inclusion which other a b (inl x) (inr y) = absurd (y.0 which x)
 one_of_inclusion which other a b (inr x) (inl y) = absurd (x.0 other y)

@@ -5,6 +5,7 @@ use Rattle.aut_base.specs.declared.limit.Limit.{Limit}
 use Rattle.filter_plan.specs.declared.plan.Plan.{Plan}
 use Rattle.plan_meaning.specs.Changes.{Change, MakesAll, StopsIn}
 use Rattle.plan_meaning.specs.Filters.{IsDropped, IsKept, IsOverFilters}
+use Rattle.plan_meaning.specs.Limits.{PassesOfInclusion}
 
 -- the verdict on an automaton
 pub data Verdict : Type 0 where
@@ -24,6 +25,10 @@ OneVerdict = (p : Plan) (ops : List Automaton) (a : Automaton) (v w : Verdict) �
 -- and no automaton on which there is none.
 abbrev pub SomeVerdict : Type 0
 SomeVerdict = (p : Plan) (ops : List Automaton) (a : Automaton) → ((v : Verdict) → IsVerdict v p ops a → ⊥) → ⊥
+
+-- Where two automata are compared, no more than one limit is passed.
+abbrev pub OneLimitOfInclusion : Type 0
+OneLimitOfInclusion = (which other : Limit) (a b : Automaton) → PassesOfInclusion which a b → PassesOfInclusion other a b → which ≡ other
 
 -- Changes make no more than one automaton, or else pass no more than one limit.
 pub record AreDetermined (cs : List Change) (a : Automaton) : Type 0 where

@@ -1,8 +1,10 @@
 pub mod Changes
+pub mod Complements
 pub mod Filters
 pub mod Laws
 pub mod Limits
 pub mod Operands
 pub mod Promises
+pub mod Refutations
 pub mod Standing
 pub mod inner

@@ -82,6 +82,10 @@ pub record PassesWithComplement (which : Limit) (a b : Automaton) : Type 0 where
 abbrev pub PassesOfInclusion : Limit → Automaton → Automaton → Type 0
 PassesOfInclusion which a b = PassesUnlessDeterministic which b ⊎ (((other : Limit) → PassesUnlessDeterministic other b → ⊥) × PassesWithComplement which a b)
 
+-- it passes none
+abbrev pub IsWithinInclusion : Automaton → Automaton → Type 0
+IsWithinInclusion a b = (which : Limit) → PassesOfInclusion which a b → ⊥
+
 -- whether both accept the same: whether the one is included, and where it is, whether the other is
 abbrev pub PassesOfEquivalence : Limit → Automaton → Automaton → Type 0
 PassesOfEquivalence which a b = PassesOfInclusion which a b ⊎ (((other : Limit) → PassesOfInclusion other a b → ⊥) × IsIncluded a b × PassesOfInclusion which b a)

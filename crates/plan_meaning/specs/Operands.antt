@@ -1,8 +1,9 @@
 -- The automata that a plan compares or combines others with. They are listed as their names are: in the order in which they
 -- are read.
-use Rattle.std.specs.Prelude.{◌≡◌, ℕ, ◌+◌, ◌≤◌, List, ◌++◌, length, slice_get, All, Option, Some, None}
+use Rattle.std.specs.Prelude.{◌≡◌, ℕ, ◌+◌, ◌≤◌, List, length, slice_get, All, Option, Some, None}
 use Rattle.aut_base.specs.Automaton.{Automaton}
 use Rattle.aut_base.specs.declared.limit.TheConstants.{MOST_SETS, MOST_STATES}
+use Rattle.filter_plan.specs.Table.{refuted}
 use Rattle.filter_plan.specs.Words.{listed, operands}
 use Rattle.filter_plan.specs.declared.plan.Plan.{Plan}
 
@@ -25,10 +26,17 @@ place_of_product_or p = place_of_product p + length (listed p.product)
 abbrev pub place_of_sum : Plan → ℕ
 place_of_sum p = place_of_product_or p + length (listed p.product_or)
 
+abbrev pub place_of_refuted : Plan → ℕ
+place_of_refuted p = place_of_sum p + length (listed p.sum)
+
 -- the operand at a place, where its option stands
 abbrev pub operand_at : Option (List ℕ) → ℕ → List Automaton → Option Automaton
 operand_at None place ops = None
 operand_at (Some name) place ops = slice_get ops place
+
+-- the operand that automata are refuted against
+abbrev pub refuted_operand : Plan → List Automaton → Option Automaton
+refuted_operand p ops = operand_at (refuted p.output) (place_of_refuted p) ops
 
 -- An automaton has no more states and sets than one may have that is read.
 pub record IsOfReadSize (a : Automaton) : Type 0 where

@@ -7,10 +7,12 @@ mod square;
 
 ghost use Rattle.std.specs.Prelude.{map};
 ghost use Rattle.aut_core.specs.Core.{automaton_of};
-ghost use Rattle.plan_meaning.specs.Filters.{Judged};
+ghost use Rattle.plan_meaning.specs.Complements.{AreKept};
+ghost use Rattle.plan_meaning.specs.Filters.{Judged, filters};
 ghost use Rattle.plan_meaning.specs.Operands.{AreOperands, IsOfReadSize};
-ghost use Rattle.plan_meaning.specs.inner.Judging.{AreComparable, Examines, IsComparable, JudgesWithin, asked_for, filter_of};
+ghost use Rattle.plan_meaning.specs.inner.Judging.{Examines, IsReady, JudgesWithin, LeavesOthers, filter_of};
 
+use crate::complements::Complements;
 use crate::fault::PlanFault;
 use crate::operands::Automata;
 use aut_core::Automaton;
@@ -22,30 +24,43 @@ use square::is_unambiguous;
 use std::alloc::Global;
 
 /// Whether an automaton is kept: whether all filters of the plan hold, or where it inverts, whether one doesn't. Refused as
-/// a limit where a filter passes one and all before it hold. Behind one that doesn't hold nothing is computed.
+/// a limit where a filter passes one and all before it hold. Behind one that doesn't hold nothing is computed. The complement
+/// of an operand is made where the automaton is first compared with it, and kept.
 pub fn judge(
     alloc: Global,
     plan: &Plan,
     operands: &Automata,
+    complements: &mut Complements,
     a: &Automaton,
 ) -> Result<bool, PlanFault>
     requires operands { AreOperands plan.now (map automaton_of operands.now) }
     requires size { IsOfReadSize (automaton_of a.now) }
-    ensures { Judged result plan.now (map automaton_of operands.now) (automaton_of a.now) }
+    requires kept { AreKept plan.now (map automaton_of operands.now) complements.old }
+    ensures judged { Judged result plan.now (map automaton_of operands.now) (automaton_of a.now) }
+    ensures kept { AreKept plan.now (map automaton_of operands.now) complements.new }
 {
-    let holds = hold_all(alloc, &filters(plan, operands), a)?;
+    let holds = hold_all(alloc, plan, operands, complements, a)?;
     if plan.invert { Ok(!holds) } else { Ok(holds) }
 }
 
 /// Whether all filters hold that are asked for.
-fn hold_all(alloc: Global, filters: &[Option<Filter>], a: &Automaton) -> Result<bool, PlanFault>
+fn hold_all(
+    alloc: Global,
+    plan: &Plan,
+    operands: &Automata,
+    complements: &mut Complements,
+    a: &Automaton,
+) -> Result<bool, PlanFault>
+    requires operands { AreOperands plan.now (map automaton_of operands.now) }
     requires size { IsOfReadSize (automaton_of a.now) }
-    requires comparable { AreComparable filters.now }
-    ensures { JudgesWithin result (asked_for filters.now) (automaton_of a.now) }
+    requires kept { AreKept plan.now (map automaton_of operands.now) complements.old }
+    ensures judges { JudgesWithin result (filters plan.now (map automaton_of operands.now)) (automaton_of a.now) }
+    ensures kept { AreKept plan.now (map automaton_of operands.now) complements.new }
 {
-    'filters: for filter in filters {
+    let asked = filters(plan, operands);
+    'filters: for filter in &asked {
         if let Some(filter) = filter {
-            if !holds(alloc, filter, a)? {
+            if !holds(alloc, filter, complements, a)? {
                 return Ok(false);
             }
         }
@@ -54,17 +69,26 @@ fn hold_all(alloc: Global, filters: &[Option<Filter>], a: &Automaton) -> Result<
 }
 
 /// Whether the automaton is as the filter asks.
-fn holds(alloc: Global, filter: &Filter, a: &Automaton) -> Result<bool, PlanFault>
+fn holds(
+    alloc: Global,
+    filter: &Filter,
+    complements: &mut Complements,
+    a: &Automaton,
+) -> Result<bool, PlanFault>
     requires size { IsOfReadSize (automaton_of a.now) }
-    requires comparable { IsComparable filter.now }
-    ensures { Examines result (filter_of filter.now) (automaton_of a.now) }
+    requires ready { IsReady filter.now complements.old }
+    ensures examines { Examines result (filter_of filter.now) (automaton_of a.now) }
+    ensures ready { IsReady filter.now complements.new }
+    ensures others { LeavesOthers filter.now complements.old complements.new }
 {
     match filter {
         Filter::AcceptsWord(pattern) => accepts_word(alloc, pattern, a),
         Filter::RejectsWord(pattern) => rejects_word(alloc, pattern, a),
         Filter::IsEmpty => accepts_nothing(alloc, a),
-        Filter::IncludedIn(other) => is_included(alloc, a, other),
-        Filter::EquivalentTo(other) => is_equivalent(alloc, a, other),
+        Filter::IncludedIn(other) => is_included(alloc, a, other, &mut complements.included_in),
+        Filter::EquivalentTo(other) => {
+            is_equivalent(alloc, a, other, &mut complements.equivalent_to)
+        }
         Filter::Intersects(other) => intersects(alloc, a, other),
         Filter::IsDeterministic => Ok(a.is_deterministic()),
         Filter::IsComplete => Ok(a.is_complete()),

@@ -1,10 +1,11 @@
 //! What holds of the verdict on an automaton.
 
-ghost use Rattle.plan_meaning.specs.Laws.{OneVerdict, SomeVerdict};
+ghost use Rattle.plan_meaning.specs.Laws.{OneLimitOfInclusion, OneVerdict, SomeVerdict};
 
-/// There is no more than one verdict on an automaton.
+/// There is no more than one verdict on an automaton, and where it is compared with another no more than one limit is passed.
 pub fn one_verdict()
-    ensures { OneVerdict }
+    ensures verdict { OneVerdict }
+    ensures inclusion { OneLimitOfInclusion }
 {}
 
 /// There is no automaton on which there is no verdict.

@@ -3,11 +3,12 @@
 ghost use Rattle.std.specs.Prelude.{◌≡◌, ◌<◌, ◌≤◌, All, IfSome, is_some, length, map, true};
 ghost use Rattle.std.specs.Option.{option_map};
 ghost use Rattle.aut_core.specs.Core.{automaton_of};
-ghost use Rattle.plan_meaning.specs.Operands.{AreOperands, IsOfReadSize, operand_at, place_of_equivalent_to, place_of_included_in, place_of_intersect, place_of_product, place_of_product_or, place_of_sum};
+ghost use Rattle.filter_plan.specs.Table.{refuted};
+ghost use Rattle.plan_meaning.specs.Operands.{AreOperands, IsOfReadSize, operand_at, place_of_equivalent_to, place_of_included_in, place_of_intersect, place_of_product, place_of_product_or, place_of_refuted, place_of_sum, refuted_operand};
 
 use aut_base::{Seq, Text};
 use aut_core::Automaton;
-use filter_plan::{Plan, file_count};
+use filter_plan::{Output, Plan, file_count};
 
 /// Automata, in order.
 pub type Automata = Seq<Automaton>;
@@ -69,6 +70,18 @@ pub(crate) fn sum_operand<'a>(plan: &Plan, operands: &'a Automata) -> Option<&'a
     operand_at(&plan.sum, place_of_sum(plan), operands)
 }
 
+/// The operand of `--refute`, where it stands.
+pub(crate) fn refuted_operand<'a>(plan: &Plan, operands: &'a Automata) -> Option<&'a Automaton>
+    requires { AreOperands plan.now (map automaton_of operands.now) }
+    ensures is { option_map (λ a. automaton_of a.now) result ≡ refuted_operand plan.now (map automaton_of operands.now) }
+    ensures sized { IfSome result (λ a. IsOfReadSize (automaton_of a.now)) }
+{
+    match &plan.output {
+        Output::Refute(_) => Some(operands.at(place_of_refuted(plan))),
+        Output::Hoa | Output::Stats(_) => None,
+    }
+}
+
 /// The operand at this place, where the option stands.
 fn operand_at<'a>(
     name: &Option<Text>,
@@ -113,4 +126,11 @@ fn place_of_sum(plan: &Plan) -> usize
     ensures few { result ≤ 5 }
 {
     place_of_product_or(plan) + file_count(&plan.product_or)
+}
+
+fn place_of_refuted(plan: &Plan) -> usize
+    ensures is { result ≡ place_of_refuted plan.now }
+    ensures few { result ≤ 6 }
+{
+    place_of_sum(plan) + file_count(&plan.sum)
 }

@@ -7,17 +7,17 @@ use Rattle.autfilt_command.specs.Run.{EndsAt, EndsByTally, end_of, tally_after}
 use Rattle.autfilt_command.specs.declared.ended.End.{End}
 use Rattle.autfilt_command.specs.declared.ended.End.TheVariants as end
 use Rattle.autfilt_laws.proofs.alike.Faults.{Asking, Halted, IsOneAsking, both_halted, halted, halted_look, unfit_whole}
+use Rattle.autfilt_laws.proofs.alike.Like.{tally_like}
 use Rattle.autfilt_laws.proofs.alike.Looks.{look_at, look_behind, look_over}
 use Rattle.autfilt_laws.proofs.alike.Steps.{one_next}
 use Rattle.autfilt_laws.proofs.alike.Verdicts.{AreOne, dropped_is_within, kept_is_within, one_over}
-use Rattle.autfilt_laws.specs.Runs.{IsByText}
+use Rattle.autfilt_laws.specs.Runs.{AreLike, IsByText}
 use Rattle.autfilt_run.specs.Events.{AreJudged, Dropped, Ended, Event, Goes, Happen, IsJudged, Kept, Opened, Point, Skipped}
 use Rattle.autfilt_run.specs.Over.{IsOver}
 use Rattle.autfilt_run.specs.Plans.{asks_on}
 use Rattle.autfilt_run.specs.Runs.{IsDone}
 use Rattle.autfilt_run.specs.declared.fault.RunFault.{RunFault}
 use Rattle.autfilt_run.specs.declared.fault.RunFault.TheVariants as fault
-use Rattle.filter_plan.specs.declared.plan.Output.TheVariants.{Hoa}
 use Rattle.filter_plan.specs.declared.plan.Plan.{Plan}
 use Rattle.hoa_parser.specs.Standing.{OneStanding}
 
@@ -87,20 +87,25 @@ nothing_more one plain plan ops passed texts events end.Aborts e p q h j asks g 
 nothing_more one plain plan ops passed texts events end.Usage e p q h j asks g = done_goes plan texts e p q h.0 asks g
 
 -- the events of two runs that ended
-pub same_events : OneStanding → AreOne → (plan : Plan) → plan.output ≡ Hoa → (ops : List Automaton) (passed : ℕ) (texts : Texts) (es fs all all' : List Event) (e d : End) (p q r : Point) → AreJudged plan ops es → AreJudged plan ops fs
-    → Happen plan texts es p q → Happen plan texts fs p r → Ends plan ops passed q all e → Ends plan ops passed r all' d → (es ≡ fs) × (q ≡ r)
-same_events one plain plan hoa ops passed texts [] [] all all' e d p q r j i a b x y = (refl, sym a ∙ b)
-same_events one plain plan hoa ops passed texts [] (f ∷ fs) all all' e d p q r j i a b x y =
+pub same_events : OneStanding → AreOne → (plan : Plan) (ops : List Automaton) (passed : ℕ) (texts : Texts) (es fs all all' : List Event) (e d : End) (p q r : Point) → AreJudged plan ops es → AreJudged plan ops fs
+    → Happen plan texts es p q → Happen plan texts fs p r → Ends plan ops passed q all e → Ends plan ops passed r all' d → AreLike plan es fs × (q ≡ r)
+same_events one plain plan ops passed texts [] [] all all' e d p q r j i a b x y = (tt, sym a ∙ b)
+same_events one plain plan ops passed texts [] (f ∷ fs) all all' e d p q r j i a b x y =
     absurd (nothing_more one plain plan ops passed texts all e f p b.1 (subst (λ (z : Point). Ends plan ops passed z all e) (sym a) x) i.0 b.0 b.2)
-same_events one plain plan hoa ops passed texts (e' ∷ es) [] all all' e d p q r j i a b x y =
+same_events one plain plan ops passed texts (e' ∷ es) [] all all' e d p q r j i a b x y =
     absurd (nothing_more one plain plan ops passed texts all' d e' p a.1 (subst (λ (z : Point). Ends plan ops passed z all' d) (sym b) y) j.0 a.0 a.2)
-same_events one plain plan hoa ops passed texts (e' ∷ es) (f ∷ fs) all all' e d p q r j i a b x y =
-    let same = one_next one plain plan hoa ops texts e' f p a.1 b.1 j.0 i.0 a.2 b.2 in
-    let rest = same_events one plain plan hoa ops passed texts es fs all all' e d a.1 q r j.1 i.1 a.3 (subst (λ (z : Point). Happen plan texts fs z r) (sym same.1) b.3) x y in
-    let first : e' ≡ f = same.0 in
-    let others : es ≡ fs = rest.0 in
-    let whole : (e' ∷ es) ≡ (f ∷ fs) = cc in
-    (whole, rest.1)
+same_events one plain plan ops passed texts (e' ∷ es) (f ∷ fs) all all' e d p q r j i a b x y =
+    let same = one_next one plain plan ops texts e' f p a.1 b.1 j.0 i.0 a.2 b.2 in
+    let rest = same_events one plain plan ops passed texts es fs all all' e d a.1 q r j.1 i.1 a.3 (subst (λ (z : Point). Happen plan texts fs z r) (sym same.1) b.3) x y in
+    ((same.0, rest.0), rest.1)
+
+-- an end of the one is one of the other
+pub ends_like : (plan : Plan) (ops : List Automaton) (passed : ℕ) (p : Point) (es fs : List Event) (d : End) → AreLike plan es fs → Ends plan ops passed p fs d → Ends plan ops passed p es d
+ends_like plan ops passed p es fs (end.Fault f) like h = h
+ends_like plan ops passed p es fs end.Output like h = (h.0, h.1 ∙ ap end_of (tally_like plan _ es fs like))
+ends_like plan ops passed p es fs end.NoneOutput like h = (h.0, h.1 ∙ ap end_of (tally_like plan _ es fs like))
+ends_like plan ops passed p es fs end.Aborts like h = (h.0, h.1 ∙ ap end_of (tally_like plan _ es fs like))
+ends_like plan ops passed p es fs end.Usage like h = (h.0, h.1 ∙ ap end_of (tally_like plan _ es fs like))
 
 -- ---- two ends at one point
 

@@ -1,26 +1,31 @@
 -- The plan says one thing of an automaton that was read, and the text that is due of it is one.
-use Rattle.std.proofs.Common.{◌≡◌, ◌⊎◌, ℕ, Bool, true, false, List, inl, inr, refl, ap, ◌∙◌, sym, subst}
-use Rattle.std.proofs.lemmas.Bool.{false≢true}
+use Rattle.std.proofs.Common.{◌≡◌, ◌⊎◌, ℕ, Bool, true, false, List, Option, Some, None, inl, inr, refl, true≢false, ap, ◌∙◌, sym, subst}
+use Rattle.std.specs.Prelude.{MatchOption}
 use Rattle.aut_base.specs.Automaton.{Automaton}
 use Rattle.aut_base.specs.CanonicalLabel.{canonical}
 use Rattle.aut_base.specs.declared.limit.Limit.{Limit}
+use Rattle.autfilt_laws.specs.Runs.{DecidesTexts}
 use Rattle.autfilt_run.specs.Due.{IsDue, IsDueWhere, IsPrinted, name_due}
-use Rattle.autfilt_run.specs.Over.{IsOver, IsOverChanges}
+use Rattle.autfilt_run.specs.Over.{IsOver, IsOverPrinting, StopsPrinting}
 use Rattle.autfilt_run.specs.Plans.{prints_each}
+use Rattle.autfilt_run.specs.RefutationLine.{IsRefutationLine}
 use Rattle.filter_plan.specs.declared.plan.Output.{Output}
 use Rattle.filter_plan.specs.declared.plan.Output.TheVariants.{Hoa, Stats, Refute}
 use Rattle.filter_plan.specs.declared.plan.Plan.{Plan}
 use Rattle.hoa_parser.specs.Raw.{Written}
 use Rattle.hoa_reader.specs.Described.{described}
 use Rattle.hoa_writer.specs.CanonicalText.{canonical_text}
-use Rattle.plan_meaning.specs.Changes.{MakesAll, changes_of}
+use Rattle.plan_meaning.specs.Changes.{changes_of}
 use Rattle.plan_meaning.specs.Filters.{IsDropped, IsKept, IsOverFilters}
-use Rattle.plan_meaning.specs.Laws.{ChangesAreDetermined, OneVerdict, Verdict}
+use Rattle.plan_meaning.specs.Laws.{ChangesAreDetermined, OneLimitOfInclusion, OneVerdict, Verdict}
 use Rattle.plan_meaning.specs.Laws as verdict
+use Rattle.plan_meaning.specs.Limits.{PassesOfInclusion}
+use Rattle.plan_meaning.specs.Operands.{refuted_operand}
 
 -- what each plan says is one
 pub record AreOne : Type 0 where
   pub verdict : OneVerdict
+  pub inclusion : OneLimitOfInclusion
   pub changes : ChangesAreDetermined
 
 kept_is_dropped : verdict.Kept ≡ verdict.Dropped → ⊥
@@ -43,59 +48,66 @@ dropped_or_over one which plan ops a k o = dropped_is_over which (one.verdict pl
 
 -- ---- the text
 
--- what the changes make is printed
-makes_printed : (o : Output) (p : Plan) (ops : List Automaton) (w : Written) (text : List ℕ) → IsPrinted o p ops w text → (made : Automaton) × MakesAll (changes_of p ops) (canonical (described w)) made
-makes_printed Hoa p ops w text h = (h.made, h.is_made.makes)
-makes_printed (Stats pieces) p ops w text h = (h.made, h.is_made.makes)
-makes_printed (Refute operand) p ops w text h = absurd h
-
-due_where : AreOne → (b : Bool) (p : Plan) (ops : List Automaton) (w : Written) (t u : List ℕ) → p.output ≡ Hoa → IsDueWhere b p ops w t → IsDueWhere b p ops w u → t ≡ u
-due_where one false p ops w t u hoa a b = a ∙ sym b
-due_where one true p ops w t u hoa a b =
+due_where : AreOne → (b : Bool) (p : Plan) (ops : List Automaton) (w : Written) (t u : List ℕ) → (p.output ≡ Hoa) ⊎ (b ≡ false) → IsDueWhere b p ops w t → IsDueWhere b p ops w u → t ≡ u
+due_where one false p ops w t u decides a b = a ∙ sym b
+due_where one true p ops w t u (inr off) a b = absurd (true≢false off)
+due_where one true p ops w t u (inl hoa) a b =
     let x = subst (λ (o : Output). IsPrinted o p ops w t) hoa a in
     let y = subst (λ (o : Output). IsPrinted o p ops w u) hoa b in
     let same = (one.changes (changes_of p ops) (canonical (described w))).made x.made y.made x.is_made.makes y.is_made.makes in
     x.same ∙ ap (λ m. canonical_text m (name_due p w)) same ∙ sym y.same
 
--- the canonical text of an automaton is one
-pub one_text : AreOne → (plan : Plan) (ops : List Automaton) (w v : Written) (t u : List ℕ) → plan.output ≡ Hoa → w ≡ v → IsDue plan ops w t → IsDue plan ops v u → t ≡ u
-one_text one plan ops w v t u hoa same a b = due_where one (prints_each plan) plan ops v t u hoa (subst (λ (x : Written). IsDue plan ops x t) same a) b
+-- the text of an automaton is one, where the plan decides it
+pub one_text : AreOne → (plan : Plan) (ops : List Automaton) (w v : Written) (t u : List ℕ) → DecidesTexts plan → w ≡ v → IsDue plan ops w t → IsDue plan ops v u → t ≡ u
+one_text one plan ops w v t u decides same a b = due_where one (prints_each plan) plan ops v t u decides (subst (λ (x : Written). IsDue plan ops x t) same a) b
 
 -- ---- the limits
 
-due_makes : (b : Bool) (p : Plan) (ops : List Automaton) (w : Written) (text : List ℕ) → b ≡ true → IsDueWhere b p ops w text → (made : Automaton) × MakesAll (changes_of p ops) (canonical (described w)) made
-due_makes false p ops w text on h = absurd (false≢true on)
-due_makes true p ops w text on h = makes_printed p.output p ops w text h
+refuted_or_over : (operand : Option Automaton) (which : Limit) (w : Written) (text : List ℕ) → MatchOption operand ⊥ (λ b. IsRefutationLine (described w) b text) → MatchOption operand ⊥ (λ b. PassesOfInclusion which (canonical (described w)) b) → ⊥
+refuted_or_over None which w text h k = h
+refuted_or_over (Some b) which w text h k = h.0 which k
 
-due_or_over : AreOne → (which : Limit) (p : Plan) (ops : List Automaton) (w : Written) (text : List ℕ) → IsDue p ops w text → IsOverChanges which p ops w → ⊥
-due_or_over one which p ops w text d o =
-    let m = due_makes (prints_each p) p ops w text o.prints d in
-    (one.changes (changes_of p ops) (canonical (described w))).either m.0 which m.1 o.stops
+printed_or_over : AreOne → (o : Output) (which : Limit) (p : Plan) (ops : List Automaton) (w : Written) (text : List ℕ) → IsPrinted o p ops w text → StopsPrinting o which p ops (canonical (described w)) → ⊥
+printed_or_over one Hoa which p ops w text h k = (one.changes (changes_of p ops) (canonical (described w))).either h.made which h.is_made.makes k
+printed_or_over one (Stats pieces) which p ops w text h k = (one.changes (changes_of p ops) (canonical (described w))).either h.made which h.is_made.makes k
+printed_or_over one (Refute file) which p ops w text h k = refuted_or_over (refuted_operand p ops) which w text h k
+
+due_or_over : AreOne → (which : Limit) (p : Plan) (ops : List Automaton) (w : Written) (text : List ℕ) → IsDue p ops w text → IsOverPrinting which p ops w → ⊥
+due_or_over one which p ops w text d o = printed_or_over one p.output which p ops w text (subst (λ (b : Bool). IsDueWhere b p ops w text) o.prints d) o.stops
 
 -- where something is due, no limit is passed
 pub kept_is_within : AreOne → (which : Limit) (p : Plan) (ops : List Automaton) (w : Written) (text : List ℕ) → IsKept p ops (described w) → IsDue p ops w text → IsOver which p ops w → ⊥
 kept_is_within one which p ops w text k d o = go o.over
   where
-    go : IsOverFilters which p ops (described w) ⊎ IsOverChanges which p ops w → ⊥
+    go : IsOverFilters which p ops (described w) ⊎ IsOverPrinting which p ops w → ⊥
     go (inl f) = kept_or_over one which p ops (described w) k f
     go (inr c) = due_or_over one which p ops w text d c
 
 pub dropped_is_within : AreOne → (which : Limit) (p : Plan) (ops : List Automaton) (w : Written) → IsDropped p ops (described w) → IsOver which p ops w → ⊥
 dropped_is_within one which p ops w d o = go o.over
   where
-    go : IsOverFilters which p ops (described w) ⊎ IsOverChanges which p ops w → ⊥
+    go : IsOverFilters which p ops (described w) ⊎ IsOverPrinting which p ops w → ⊥
     go (inl f) = dropped_or_over one which p ops (described w) d f
     go (inr c) = kept_or_dropped one p ops w w refl c.kept d
 
 -- no more than one limit is passed
+one_refuted : AreOne → (operand : Option Automaton) (which other : Limit) (a : Automaton) → MatchOption operand ⊥ (λ b. PassesOfInclusion which a b) → MatchOption operand ⊥ (λ b. PassesOfInclusion other a b) → which ≡ other
+one_refuted one None which other a h k = absurd h
+one_refuted one (Some b) which other a h k = one.inclusion which other a b h k
+
+one_printing : AreOne → (o : Output) (which other : Limit) (p : Plan) (ops : List Automaton) (w : Written) → StopsPrinting o which p ops (canonical (described w)) → StopsPrinting o other p ops (canonical (described w)) → which ≡ other
+one_printing one Hoa which other p ops w h k = (one.changes (changes_of p ops) (canonical (described w))).limit which other h k
+one_printing one (Stats pieces) which other p ops w h k = (one.changes (changes_of p ops) (canonical (described w))).limit which other h k
+one_printing one (Refute file) which other p ops w h k = one_refuted one (refuted_operand p ops) which other (canonical (described w)) h k
+
 pub one_over : AreOne → (p : Plan) (ops : List Automaton) (which other : Limit) (w : Written) → IsOver which p ops w → IsOver other p ops w → which ≡ other
 one_over one p ops which other w a b = go a.over b.over
   where
     over_is : verdict.Over which ≡ verdict.Over other → which ≡ other
     over_is e = cc
 
-    go : IsOverFilters which p ops (described w) ⊎ IsOverChanges which p ops w → IsOverFilters other p ops (described w) ⊎ IsOverChanges other p ops w → which ≡ other
+    go : IsOverFilters which p ops (described w) ⊎ IsOverPrinting which p ops w → IsOverFilters other p ops (described w) ⊎ IsOverPrinting other p ops w → which ≡ other
     go (inl x) (inl y) = over_is (one.verdict p ops (described w) (verdict.Over which) (verdict.Over other) x y)
     go (inl x) (inr y) = absurd (kept_or_over one which p ops (described w) y.kept x)
     go (inr x) (inl y) = absurd (kept_or_over one other p ops (described w) x.kept y)
-    go (inr x) (inr y) = (one.changes (changes_of p ops) (canonical (described w))).limit which other x.stops y.stops
+    go (inr x) (inr y) = one_printing one p.output which other p ops w x.stops y.stops

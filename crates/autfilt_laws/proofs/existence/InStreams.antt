@@ -11,7 +11,7 @@ use Rattle.autfilt_laws.proofs.existence.InOperands.{NotNone}
 use Rattle.autfilt_laws.proofs.existence.PlanLimits.{of_plan}
 use Rattle.autfilt_laws.proofs.existence.Shorter.{aborted_less, whole_less}
 use Rattle.autfilt_laws.proofs.existence.Stopping.{is_counted, passed_by_text, passed_stops, stops_where}
-use Rattle.autfilt_laws.specs.Runs.{IsAlwaysDue, IsByText, size_of}
+use Rattle.autfilt_laws.specs.Runs.{IsByText, size_of}
 use Rattle.autfilt_run.specs.Due.{IsDue}
 use Rattle.autfilt_run.specs.Events.{AreJudged, Dropped, Ended, Event, Goes, Happen, IsGood, IsJudged, Kept, Opened, Point, Skipped, Stream, ended_at, opened_at, place, read_on}
 use Rattle.autfilt_run.specs.Over.{IsOver}
@@ -22,7 +22,9 @@ use Rattle.autfilt_run.specs.declared.fault.RunFault.TheVariants as fault
 use Rattle.filter_plan.specs.declared.plan.Plan.{Plan}
 use Rattle.hoa_parser.specs.Raw.{Written}
 use Rattle.hoa_parser.specs.Standing.{SomeStanding}
+use Rattle.hoa_reader.specs.Counts.{PassesNone}
 use Rattle.hoa_reader.specs.Described.{described}
+use Rattle.hoa_reader.specs.Validity.{IsValid}
 use Rattle.plan_meaning.specs.Filters.{IsKept}
 use Rattle.plan_meaning.specs.Laws as verdict
 use Rattle.plan_meaning.specs.Laws.{IsVerdict, SomeVerdict, Verdict}
@@ -45,13 +47,13 @@ pub record Reads (plan : Plan) (ops : List Automaton) (texts : Texts) (p : Point
   pub ends : IsDone plan point ⊎ IsStopped plan ops point
 
 -- what a run over streams stands on
-pub record Existing (plan : Plan) : Type 0 where
+pub record Existing (plan : Plan) (ops : List Automaton) : Type 0 where
   pub some : SomeStanding
   pub shown : AreShown
   pub verdict : SomeVerdict
-  pub due : IsAlwaysDue plan
+  pub due : (w : Written) → IsValid w → PassesNone w → NotNone (((text : List ℕ) × IsDue plan ops w text) ⊎ ((which : Limit) × IsOver which plan ops w))
 
-module _ (plan : Plan) (on : Existing plan) (ops : List Automaton) (texts : Texts) where
+module _ (plan : Plan) (ops : List Automaton) (on : Existing plan ops) (texts : Texts) where
   done : (p : Point) → IsDone plan p → Reads plan ops texts p
   done p h = record { events = []; judged = tt; point = p; happen = refl; ends = inl h }
 
@@ -94,7 +96,7 @@ module _ (plan : Plan) (on : Existing plan) (ops : List Automaton) (texts : Text
       due_or_over k (inr o) = none (passed p s more asks is few o.0 w next good o.1)
 
       by_verdict : (v : Verdict) → IsVerdict v plan ops (described w) → ⊥
-      by_verdict verdict.Kept k = on.due ops w good.valid good.within (due_or_over k)
+      by_verdict verdict.Kept k = on.due w good.valid good.within (due_or_over k)
       by_verdict verdict.Dropped d =
           deeper p.kept
           (λ r. none (behind_one (Dropped w) p (read_on p s next p.kept) asks d (record { stream = s; is_open = is; next = next; stands = good; few = omega (arith, few); to = refl }) r))

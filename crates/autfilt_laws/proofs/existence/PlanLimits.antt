@@ -1,19 +1,23 @@
 -- Filters and changes pass limits of what was read whole.
-use Rattle.std.proofs.Common.{◌≡◌, ◌⊎◌, List, [], ◌∷◌, sym, subst, inl, inr}
+use Rattle.std.proofs.Common.{◌≡◌, ◌⊎◌, List, [], ◌∷◌, Option, Some, None, sym, subst, inl, inr}
+use Rattle.std.specs.Prelude.{MatchOption}
 use Rattle.aut_base.specs.Automaton.{Automaton}
 use Rattle.aut_base.specs.CanonicalLabel.{canonical}
 use Rattle.aut_base.specs.declared.limit.Limit.{Limit}
 use Rattle.aut_base.specs.declared.limit.Limit.TheVariants as limit
 use Rattle.autfilt_laws.proofs.existence.Stopping.{IsOfWhole}
-use Rattle.autfilt_run.specs.Over.{IsOver, IsOverChanges}
+use Rattle.autfilt_run.specs.Over.{IsOver, IsOverPrinting, StopsPrinting}
 use Rattle.filter_plan.specs.declared.plan.Form.{Form}
 use Rattle.filter_plan.specs.declared.plan.Form.TheVariants as form
+use Rattle.filter_plan.specs.declared.plan.Output.{Output}
+use Rattle.filter_plan.specs.declared.plan.Output.TheVariants.{Hoa, Stats, Refute}
 use Rattle.filter_plan.specs.declared.plan.Plan.{Plan}
 use Rattle.hoa_parser.specs.Raw.{Written}
 use Rattle.hoa_reader.specs.Described.{described}
-use Rattle.plan_meaning.specs.Changes.{Change, PassesBuchi, PassesDnf, PassesForm, PassesIn, PassesMonitor, PassesWithoutFin, StopsIn, Product, ProductOr, Sum, RemoveAp, Trim, Complement, Bring, Complete}
+use Rattle.plan_meaning.specs.Changes.{Change, PassesBuchi, PassesDnf, PassesForm, PassesIn, PassesMonitor, PassesWithoutFin, StopsIn, Product, ProductOr, Sum, RemoveAp, Trim, Complement, Bring, Complete, changes_of}
 use Rattle.plan_meaning.specs.Filters as filter
 use Rattle.plan_meaning.specs.Filters.{Filter, IsOverFilters, Passes}
+use Rattle.plan_meaning.specs.Operands.{refuted_operand}
 use Rattle.plan_meaning.specs.Limits.{PassesOfBoth, PassesOfEither, PassesOfEquivalence, PassesOfInclusion, PassesOfSquare, PassesOfSum, PassesParity}
 
 of_both : (which : Limit) (a b : Automaton) → PassesOfBoth which a b → IsOfWhole which
@@ -108,9 +112,18 @@ of_changes [] which a h = absurd h
 of_changes (c ∷ cs) which a (inl h) = of_change c which a h
 of_changes (c ∷ cs) which a (inr h) = of_changes cs which h.0 h.2
 
+of_refuted : (which : Limit) (operand : Option Automaton) (a : Automaton) → MatchOption operand ⊥ (λ b. PassesOfInclusion which a b) → IsOfWhole which
+of_refuted which None a h = absurd h
+of_refuted which (Some b) a h = of_inclusion which a b h
+
+of_printing : (o : Output) (which : Limit) (p : Plan) (ops : List Automaton) (a : Automaton) → StopsPrinting o which p ops a → IsOfWhole which
+of_printing Hoa which p ops a h = of_changes (changes_of p ops) which a h
+of_printing (Stats pieces) which p ops a h = of_changes (changes_of p ops) which a h
+of_printing (Refute file) which p ops a h = of_refuted which (refuted_operand p ops) a h
+
 pub of_plan : (which : Limit) (plan : Plan) (ops : List Automaton) (w : Written) → IsOver which plan ops w → IsOfWhole which
 of_plan which plan ops w h = go h.over
   where
-    go : IsOverFilters which plan ops (described w) ⊎ IsOverChanges which plan ops w → IsOfWhole which
+    go : IsOverFilters which plan ops (described w) ⊎ IsOverPrinting which plan ops w → IsOfWhole which
     go (inl f) = of_filter f.filter which (described w) f.passes
-    go (inr c) = of_changes _ which _ c.stops
+    go (inr c) = of_printing plan.output which plan ops _ c.stops

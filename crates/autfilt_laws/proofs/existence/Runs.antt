@@ -7,6 +7,7 @@ use Rattle.autfilt_command.specs.declared.ended.End.{End}
 use Rattle.autfilt_command.specs.declared.ended.End.TheVariants as end
 use Rattle.autfilt_laws.proofs.alike.OperandEnds.{IsThrough}
 use Rattle.autfilt_laws.proofs.existence.Found.{AreShown}
+use Rattle.autfilt_laws.proofs.existence.GoodOperands.{good_operands}
 use Rattle.autfilt_laws.proofs.existence.InOperands.{IsStoppedThere, ReadsThere, in_files}
 use Rattle.autfilt_laws.proofs.existence.InStreams.{IsStopped, Reads, in_streams}
 use Rattle.autfilt_laws.specs.Runs.{IsByText, IsEnded, SomeEnd, size_of, streams_from, texts_or}
@@ -65,6 +66,6 @@ some_end some shown verdict plan due texts left few none =
     go : (r : ReadsThere texts (spare plan texts) (start_of (operands plan) left 0)) → (IsThrough r.point × (r.point.before + spare plan texts < MOST_BYTES)) ⊎ IsStoppedThere r.point → ⊥
     go r (inl h) =
         let read : AreAllRead plan texts left r.taken r.point = record { read = r.read; none_coming = h.0.none; none_open = h.0.closed } in
-        in_streams plan (record { some = some; shown = shown; verdict = verdict; due = due }) (operands_of r.taken) (texts_or plan.made texts) (streams_of plan) (streams_from plan r.point) refl refl h.1
+        in_streams plan (operands_of r.taken) (record { some = some; shown = shown; verdict = verdict; due = due r.taken (good_operands plan texts left r.taken r.point read) }) (texts_or plan.made texts) (streams_of plan) (streams_from plan r.point) refl refl h.1
         (λ x. let found = some_end_of plan texts left r.taken r.point read x x.ends in none r.taken x.events found.0 found.1)
     go r (inr h) = none r.taken [] (end.Fault h.fault) (stopped_before plan texts left r.taken r.point r.read h)

@@ -14,6 +14,7 @@ use Rattle.aut_base.specs.declared.limit.TheConstants.{MOST_NAMES, MOST_SETS, MO
 use Rattle.autfilt_laws.specs.Runs.{SilentIsDue, UnchangedIsDue}
 use Rattle.autfilt_run.proofs.ReadsAs.{reads_as}
 use Rattle.autfilt_run.specs.Due.{IsCanonical, IsDueWhere, IsMade, IsPrinted, name_due}
+use Rattle.autfilt_run.specs.Operands.{operands_of}
 use Rattle.autfilt_run.specs.Plans.{prints_each}
 use Rattle.filter_plan.specs.Words.{changes, has_form}
 use Rattle.filter_plan.specs.declared.plan.Form.{Form}
@@ -139,7 +140,7 @@ module _ (p : Plan) (ops : List Automaton) (w : Written) (n : ChangesNothing p) 
   due_where reads hoa true = (canonical_text made (name_due p w), subst (λ (o : Output). IsPrinted o p ops w (canonical_text made (name_due p w))) (sym hoa) (is_canonical reads))
 
 pub unchanged : CanonicalTextReadsBack → UnchangedIsDue
-unchanged reads p same hoa ops w valid within none = none (inl (due_where p ops w (changes_nothing p same) valid within reads hoa (prints_each p)))
+unchanged reads p same hoa taken good w valid within none = none (inl (due_where p (operands_of taken) w (changes_nothing p same) valid within reads hoa (prints_each p)))
 
 pub silent : SilentIsDue
-silent p off ops w valid within none = none (inl ([], subst (λ (b : Bool). IsDueWhere b p ops w []) (sym off) refl))
+silent p off taken good w valid within none = none (inl ([], subst (λ (b : Bool). IsDueWhere b p (operands_of taken) w []) (sym off) refl))

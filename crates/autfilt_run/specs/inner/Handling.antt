@@ -1,5 +1,5 @@
 -- What becomes of an automaton that was read.
-use Rattle.std.specs.Prelude.{◌≡◌, ◌⊎◌, ℕ, Bool, true, false, if◌then◌else◌, List, Option, None, Result, Ok, Err}
+use Rattle.std.specs.Prelude.{◌≡◌, ◌⊎◌, ℕ, Bool, true, false, if◌then◌else◌, List, MatchOption, Option, None, Result, Ok, Err}
 use Rattle.ap_project.specs.Laws.{SayTheSame}
 use Rattle.aut_base.specs.Acceptance.{Accepts}
 use Rattle.aut_base.specs.Automaton.{Automaton}
@@ -7,8 +7,9 @@ use Rattle.aut_io.specs.Outside.{Gains, GainsPrefix, Rose}
 use Rattle.aut_io.specs.Seen.{SinkSeen}
 use Rattle.autfilt_run.specs.Due.{IsDue}
 use Rattle.autfilt_run.specs.Figures.{IsLine}
-use Rattle.autfilt_run.specs.Over.{IsOver}
+use Rattle.autfilt_run.specs.Over.{IsOver, StopsPrinting}
 use Rattle.autfilt_run.specs.Plans.{prints_each}
+use Rattle.autfilt_run.specs.RefutationLine.{SaysOfInclusion}
 use Rattle.filter_plan.specs.Words.{changes}
 use Rattle.filter_plan.specs.declared.plan.Output.{Output}
 use Rattle.filter_plan.specs.declared.plan.Output.TheVariants.{Hoa, Stats, Refute}
@@ -22,8 +23,10 @@ use Rattle.hoa_reader.specs.Described.{described}
 use Rattle.hoa_reader.specs.Elaborating.{PassesLimit}
 use Rattle.hoa_reader.specs.Validity.{IsFirstBroken, IsValid}
 use Rattle.hoa_writer.specs.CanonicalWritten.{ReadsBack}
-use Rattle.plan_meaning.specs.Changes.{MakesAll, StopsIn, changes_of, set_operation}
+use Rattle.plan_meaning.specs.Changes.{MakesAll, changes_of, set_operation}
 use Rattle.plan_meaning.specs.Filters.{IsDropped, IsKept}
+use Rattle.plan_meaning.specs.Limits.{IsWithinInclusion, PassesOfInclusion}
+use Rattle.plan_meaning.specs.Operands.{refuted_operand}
 use Rattle.plan_meaning.specs.Promises.{KeepsPromises}
 use Rattle.plan_meaning.specs.declared.fault.PlanFault.{PlanFault}
 use Rattle.plan_meaning.specs.declared.fault.PlanFault.TheVariants as plan_fault
@@ -50,21 +53,35 @@ Handles (Err (fault.Limit which)) p ops w out out' = (PassesLimit which w ⊎ Is
 Handles (Err fault.Memory) p ops w out out' = out' ≡ out
 Handles _ p ops w out out' = ⊥
 
--- what is printed of an automaton that has this name: of its canonical text it is known that it reads back
-abbrev pub Prints : Output → Automaton → Option (List ℕ) → List ℕ → Type 0
-Prints Hoa a name text = (text ≡ canonical_text a name) × ReadsBack (canonical_text a name) a name
-Prints (Stats pieces) a name text = IsLine pieces a text
-Prints (Refute operand) a name text = ⊥
-
--- What the plan makes of an automaton is printed.
-pub record PrintsMade (p : Plan) (ops : List Automaton) (a : Automaton) (name : Option (List ℕ)) (text : List ℕ) : Type 0 where
+-- what the changes of a plan make of an automaton is shown
+pub record ShowsMade (p : Plan) (ops : List Automaton) (a : Automaton) (Shown : Automaton → Type 0) : Type 0 where
   pub made : Automaton
   pub makes : MakesAll (changes_of p ops) a made
   pub promises : KeepsPromises p made
   pub says : SayTheSame (λ u v. Accepts made u v) (set_operation p ops a)
-  pub prints : Prints p.output made (if changes p then None else name) text
+  pub shown : Shown made
 
-abbrev pub PrintsOrStops : Result (List ℕ) PlanFault → Plan → List Automaton → Automaton → Option (List ℕ) → Type 0
-PrintsOrStops (Ok text) p ops a name = PrintsMade p ops a name text
-PrintsOrStops (Err (plan_fault.Limit which)) p ops a name = StopsIn which (changes_of p ops) a
-PrintsOrStops (Err plan_fault.Memory) p ops a name = Unit {0}
+-- of a canonical text it is known that it reads back
+abbrev pub ShowsCanonical : Option (List ℕ) → List ℕ → Automaton → Type 0
+ShowsCanonical name text made = (text ≡ canonical_text made name) × ReadsBack (canonical_text made name) made name
+
+-- of the line of a refutation that no limit is passed
+abbrev pub ShowsInclusion : Automaton → List ℕ → Automaton → Type 0
+ShowsInclusion a text b = IsWithinInclusion a b × SaysOfInclusion a b text
+
+-- what is printed of an automaton that has this name
+abbrev pub Prints : Output → Plan → List Automaton → Automaton → Option (List ℕ) → List ℕ → Type 0
+Prints Hoa p ops a name text = ShowsMade p ops a (ShowsCanonical (if changes p then None else name) text)
+Prints (Stats pieces) p ops a name text = ShowsMade p ops a (λ made. IsLine pieces made text)
+Prints (Refute file) p ops a name text = MatchOption (refuted_operand p ops) ⊥ (ShowsInclusion a text)
+
+abbrev pub PrintsOrStops : Result (List ℕ) PlanFault → Output → Plan → List Automaton → Automaton → Option (List ℕ) → Type 0
+PrintsOrStops (Ok text) o p ops a name = Prints o p ops a name text
+PrintsOrStops (Err (plan_fault.Limit which)) o p ops a name = StopsPrinting o which p ops a
+PrintsOrStops (Err plan_fault.Memory) o p ops a name = Unit {0}
+
+-- the same of a refutation alone
+abbrev pub TellsRefutation : Result (List ℕ) PlanFault → Plan → List Automaton → Automaton → Type 0
+TellsRefutation (Ok text) p ops a = MatchOption (refuted_operand p ops) ⊥ (ShowsInclusion a text)
+TellsRefutation (Err (plan_fault.Limit which)) p ops a = MatchOption (refuted_operand p ops) ⊥ (λ b. PassesOfInclusion which a b)
+TellsRefutation (Err plan_fault.Memory) p ops a = Unit {0}

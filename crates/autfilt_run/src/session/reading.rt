@@ -5,7 +5,9 @@ ghost use Rattle.aut_io.specs.Seen.{SinkSeen};
 ghost use Rattle.autfilt_run.specs.Plans.{streams_of};
 ghost use Rattle.autfilt_run.specs.Turns.{Rises, Steps, after, asks, progress};
 ghost use Rattle.autfilt_run.specs.declared.session.Stage.{Stage};
+ghost use Rattle.autfilt_run.specs.Points.{operands_in};
 ghost use Rattle.filter_plan.specs.Words.{operands};
+ghost use Rattle.plan_meaning.specs.Complements.{AreKept};
 
 use super::{Session, Stage, Turn};
 use crate::fault::RunFault;
@@ -14,6 +16,7 @@ use crate::operands::operand_count;
 use crate::streams::{open_stream, stream_count};
 use aut_io::{Inputs, Sink};
 use hoa_reader::{Front, read_raw};
+use plan_meaning::Complements;
 use std::alloc::Global;
 
 impl Session {
@@ -21,9 +24,11 @@ impl Session {
     pub(super) fn turn<I: Inputs, W: Sink>(
         &mut self,
         alloc: Global,
+        complements: &mut Complements,
         inputs: &mut I,
         out: &mut W,
     ) -> Result<Turn, RunFault>
+        requires kept { AreKept self.old.plan (operands_in self.old) complements.old }
         requires spent { self.old.lexer.spent ≡ false }
         requires held { self.old.lexer.held ≡ None }
         requires stage { self.old.stage ≡ Stage.Over }
@@ -39,12 +44,13 @@ impl Session {
         ensures failed { OnErr result (progress self.new ≡ progress self.old) }
         ensures spent { OnOk result (self.new.lexer.spent ≡ false) }
         ensures held { OnOk result (self.new.lexer.held ≡ None) }
+        ensures kept { AreKept self.old.plan (operands_in self.old) complements.new }
     {
         if !self.asks_on() {
             return Ok(Turn::Done);
         }
         if self.is_open {
-            self.read_next(alloc, inputs, out)
+            self.read_next(alloc, complements, inputs, out)
         } else {
             self.open_next(alloc, inputs)
         }
@@ -95,9 +101,11 @@ impl Session {
     fn read_next<I: Inputs, W: Sink>(
         &mut self,
         alloc: Global,
+        complements: &mut Complements,
         inputs: &mut I,
         out: &mut W,
     ) -> Result<Turn, RunFault>
+        requires kept { AreKept self.old.plan (operands_in self.old) complements.old }
         requires asks { asks self.old ≡ true }
         requires is_open { self.old.is_open ≡ true }
         requires spent { self.old.lexer.spent ≡ false }
@@ -114,6 +122,7 @@ impl Session {
         ensures failed { OnErr result (progress self.new ≡ progress self.old) }
         ensures spent { OnOk result (self.new.lexer.spent ≡ false) }
         ensures held { OnOk result (self.new.lexer.held ≡ None) }
+        ensures kept { AreKept self.old.plan (operands_in self.old) complements.new }
     {
         match read_raw(alloc, &mut self.lexer, inputs)? {
             Front::Blank => {
@@ -125,7 +134,7 @@ impl Session {
                 Ok(Turn::Skipped)
             }
             Front::Whole(raw) => {
-                if handle(alloc, &self.plan, &self.operands, &raw, out)? {
+                if handle(alloc, &self.plan, &self.operands, complements, &raw, out)? {
                     self.kept += 1;
                     Ok(Turn::Kept)
                 } else {

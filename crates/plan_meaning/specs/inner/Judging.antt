@@ -1,12 +1,15 @@
 -- The verdict on an automaton, as a truth value.
-use Rattle.std.specs.Prelude.{Bool, true, false, List, All, filter_map, Option, IfSome, Result, Ok, Err}
+use Rattle.std.specs.Prelude.{◌≡◌, Bool, true, false, List, All, filter_map, Option, Some, IfSome, Result, Ok, Err}
 use Rattle.std.specs.Option.{option_map}
 use Rattle.aut_base.specs.Automaton.{Automaton}
 use Rattle.aut_base.specs.declared.limit.Limit.{Limit}
 use Rattle.aut_core.specs.Core.{automaton_of}
+use Rattle.filter_plan.specs.declared.plan.Plan.{Plan}
+use Rattle.plan_meaning.specs.Complements.{KeepsOf}
 use Rattle.plan_meaning.specs.Filters.{AcceptsWord, AllHold, Edges, EquivalentTo, FailsAt, Filter, HoldsWithin, IncludedIn, Intersects, IsComplete, IsDeterministic, IsEmpty, IsUnambiguous, LacksWithin, Names, Passes, PassesAt, RejectsWord, Sets, States}
 use Rattle.plan_meaning.specs.Limits.{IsIncluded, PassesOfInclusion}
-use Rattle.plan_meaning.specs.Operands.{IsOfReadSize}
+use Rattle.plan_meaning.specs.Operands.{IsOfReadSize, operand_at, place_of_equivalent_to, place_of_included_in}
+use Rattle.plan_meaning.specs.declared.complements.Complements.{Complements}
 use Rattle.plan_meaning.specs.declared.fault.PlanFault.{PlanFault}
 use Rattle.plan_meaning.specs.declared.fault.PlanFault.TheVariants as fault
 use Rattle.plan_meaning.specs.declared.judging.filter.Filter as coded
@@ -59,12 +62,43 @@ filter_of (code.Names range) = Names range.now
 abbrev pub asked_for : List (Option coded.Filter) → List Filter
 asked_for = filter_map (option_map filter_of)
 
--- what it compares automata with is of the size of one that is read
-abbrev pub IsComparable : coded.Filter → Type 0
-IsComparable (code.IncludedIn other) = IsOfReadSize (automaton_of other.now)
-IsComparable (code.EquivalentTo other) = IsOfReadSize (automaton_of other.now)
-IsComparable (code.Intersects other) = IsOfReadSize (automaton_of other.now)
-IsComparable _ = Unit {0}
+-- it compares automata with the operand of its option, which is of the size of one that is read
+abbrev pub IsFrom : Plan → List Automaton → coded.Filter → Type 0
+IsFrom p ops (code.AcceptsWord pattern) = Unit {0}
+IsFrom p ops (code.RejectsWord pattern) = Unit {0}
+IsFrom p ops code.IsEmpty = Unit {0}
+IsFrom p ops (code.IncludedIn other) = IsOfReadSize (automaton_of other.now) × (operand_at p.included_in place_of_included_in ops ≡ Some (automaton_of other.now))
+IsFrom p ops (code.EquivalentTo other) = IsOfReadSize (automaton_of other.now) × (operand_at p.equivalent_to (place_of_equivalent_to p) ops ≡ Some (automaton_of other.now))
+IsFrom p ops (code.Intersects other) = IsOfReadSize (automaton_of other.now)
+IsFrom p ops code.IsDeterministic = Unit {0}
+IsFrom p ops code.IsComplete = Unit {0}
+IsFrom p ops code.IsUnambiguous = Unit {0}
+IsFrom p ops (code.States range) = Unit {0}
+IsFrom p ops (code.Edges range) = Unit {0}
+IsFrom p ops (code.Sets range) = Unit {0}
+IsFrom p ops (code.Names range) = Unit {0}
 
-abbrev pub AreComparable : List (Option coded.Filter) → Type 0
-AreComparable filters = All (λ filter. IfSome filter IsComparable) filters
+abbrev pub AreFrom : Plan → List Automaton → List (Option coded.Filter) → Type 0
+AreFrom p ops filters = All (λ filter. IfSome filter (IsFrom p ops)) filters
+
+-- what it compares automata with is of the size of one that is read, and what is kept for it is the complement of that
+abbrev pub IsReady : coded.Filter → Complements → Type 0
+IsReady (code.AcceptsWord pattern) cs = Unit {0}
+IsReady (code.RejectsWord pattern) cs = Unit {0}
+IsReady code.IsEmpty cs = Unit {0}
+IsReady (code.IncludedIn other) cs = IsOfReadSize (automaton_of other.now) × KeepsOf (automaton_of other.now) cs.included_in
+IsReady (code.EquivalentTo other) cs = IsOfReadSize (automaton_of other.now) × KeepsOf (automaton_of other.now) cs.equivalent_to
+IsReady (code.Intersects other) cs = IsOfReadSize (automaton_of other.now)
+IsReady code.IsDeterministic cs = Unit {0}
+IsReady code.IsComplete cs = Unit {0}
+IsReady code.IsUnambiguous cs = Unit {0}
+IsReady (code.States range) cs = Unit {0}
+IsReady (code.Edges range) cs = Unit {0}
+IsReady (code.Sets range) cs = Unit {0}
+IsReady (code.Names range) cs = Unit {0}
+
+-- nothing changes of what is kept but for this filter
+abbrev pub LeavesOthers : coded.Filter → Complements → Complements → Type 0
+LeavesOthers (code.IncludedIn other) old new = (new.equivalent_to ≡ old.equivalent_to) × (new.refuted ≡ old.refuted)
+LeavesOthers (code.EquivalentTo other) old new = (new.included_in ≡ old.included_in) × (new.refuted ≡ old.refuted)
+LeavesOthers _ old new = new ≡ old

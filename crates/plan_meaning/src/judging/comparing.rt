@@ -1,58 +1,71 @@
 //! Whether an automaton is included in another, or accepts the same.
 
 ghost use Rattle.aut_core.specs.Core.{automaton_of};
+ghost use Rattle.plan_meaning.specs.Complements.{KeepsOf};
 ghost use Rattle.plan_meaning.specs.Filters as asked;
 ghost use Rattle.plan_meaning.specs.Operands.{IsOfReadSize};
 ghost use Rattle.plan_meaning.specs.inner.Judging.{ComparesInclusion, Examines};
 
+use crate::complements::word_beside;
 use crate::fault::PlanFault;
 use aut_core::Automaton;
-use inclusion::counterexample;
-use parity_det::complement;
 use std::alloc::Global;
 
-/// Whether each word that it accepts is accepted by the other.
+/// Whether each word that it accepts is accepted by the other, whose complement is kept.
 pub(crate) fn is_included(
     alloc: Global,
     a: &Automaton,
     other: &Automaton,
+    kept: &mut Option<Automaton>,
 ) -> Result<bool, PlanFault>
     requires size { IsOfReadSize (automaton_of a.now) }
     requires other_size { IsOfReadSize (automaton_of other.now) }
-    ensures { Examines result (asked.IncludedIn (automaton_of other.now)) (automaton_of a.now) }
+    requires kept { KeepsOf (automaton_of other.now) kept.old }
+    ensures examines { Examines result (asked.IncludedIn (automaton_of other.now)) (automaton_of a.now) }
+    ensures kept { KeepsOf (automaton_of other.now) kept.new }
 {
     a.whole();
-    has_no_word_beside(alloc, a, other)
+    has_no_word_beside(alloc, a, other, kept)
 }
 
-/// Whether both accept the same words: whether each is included in the other.
+/// Whether both accept the same words: whether each is included in the other. The complement of the other is kept, that of
+/// the automaton is made anew.
 pub(crate) fn is_equivalent(
     alloc: Global,
     a: &Automaton,
     other: &Automaton,
+    kept: &mut Option<Automaton>,
 ) -> Result<bool, PlanFault>
     requires size { IsOfReadSize (automaton_of a.now) }
     requires other_size { IsOfReadSize (automaton_of other.now) }
-    ensures { Examines result (asked.EquivalentTo (automaton_of other.now)) (automaton_of a.now) }
+    requires kept { KeepsOf (automaton_of other.now) kept.old }
+    ensures examines { Examines result (asked.EquivalentTo (automaton_of other.now)) (automaton_of a.now) }
+    ensures kept { KeepsOf (automaton_of other.now) kept.new }
 {
     a.whole();
-    let is_included = has_no_word_beside(alloc, a, other)?;
+    let is_included = has_no_word_beside(alloc, a, other, kept)?;
     if !is_included {
         return Ok(false);
     }
-    has_no_word_beside(alloc, other, a)
+    let mut own = None;
+    has_no_word_beside(alloc, other, a, &mut own)
 }
 
-/// Whether the first accepts no word that the second doesn't: whether it accepts none together with the complement of the
-/// second.
-fn has_no_word_beside(alloc: Global, a: &Automaton, b: &Automaton) -> Result<bool, PlanFault>
+/// Whether the first accepts no word that the second doesn't.
+fn has_no_word_beside(
+    alloc: Global,
+    a: &Automaton,
+    b: &Automaton,
+    kept: &mut Option<Automaton>,
+) -> Result<bool, PlanFault>
     requires size { IsOfReadSize (automaton_of a.now) }
     requires other_size { IsOfReadSize (automaton_of b.now) }
-    ensures { ComparesInclusion result (automaton_of a.now) (automaton_of b.now) }
+    requires kept { KeepsOf (automaton_of b.now) kept.old }
+    ensures compares { ComparesInclusion result (automaton_of a.now) (automaton_of b.now) }
+    ensures kept { KeepsOf (automaton_of b.now) kept.new }
 {
-    let co_b = complement(alloc, b)?;
-    match counterexample(alloc, a, &co_b)? {
-        Some(_) => return Ok(false),
-        None => return Ok(true),
+    match word_beside(alloc, a, b, kept)? {
+        Some(_) => Ok(false),
+        None => Ok(true),
     }
 }

@@ -4,7 +4,7 @@ ghost use Rattle.std.specs.Prelude.{◌≡◌, map};
 ghost use Rattle.aut_core.specs.Core.{automaton_of};
 ghost use Rattle.plan_meaning.specs.Filters.{filters};
 ghost use Rattle.plan_meaning.specs.Operands.{AreOperands};
-ghost use Rattle.plan_meaning.specs.inner.Judging.{AreComparable, asked_for};
+ghost use Rattle.plan_meaning.specs.inner.Judging.{AreFrom, asked_for};
 
 use crate::operands::{Automata, equivalent_to_operand, included_in_operand, intersect_operand};
 use aut_core::Automaton;
@@ -33,7 +33,7 @@ pub(crate) enum Filter<'a> {
 pub(crate) fn filters<'a>(plan: &'a Plan, operands: &'a Automata) -> [Option<Filter<'a>>; 13]
     requires operands { AreOperands plan.now (map automaton_of operands.now) }
     ensures list { asked_for result ≡ filters plan.now (map automaton_of operands.now) }
-    ensures sized { AreComparable result }
+    ensures from { AreFrom plan.now (map automaton_of operands.now) result }
 {
     [
         plan.accept_word.as_ref().map(Filter::AcceptsWord),

@@ -1,12 +1,15 @@
 use Rattle.std.proofs.Common.{◌+◌, ◌-◌, length}
 use Rattle.autfilt_command.specs.inner.Running.{IsRunning}
 use Rattle.autfilt_run.specs.Plans.{streams_of}
-use Rattle.autfilt_run.specs.Points.{open_count}
+use Rattle.autfilt_run.specs.Points.{open_count, operands_in}
+use Rattle.plan_meaning.specs.Complements.{AreKept}
 use Rattle.autfilt_command.proofs.run.take_steps.Given as goal
 
+-- The events happened so far, and what is kept of complements is that of the operands.
 abbrev pub invariant-steps : goal.invariant-steps
 invariant-steps g l =
     IsRunning l.fn.session l.session (g.I.Inputs.seen l.fn.inputs) (g.I.Inputs.seen l.inputs) (g.W.Sink.seen l.fn.out) (g.W.Sink.seen l.out) (g.M.Sink.seen l.fn.notes) (g.M.Sink.seen l.notes) l.fn.noting l.noting
+    × AreKept l.session.plan (operands_in l.session) l.complements
 
 -- A step opens a stream, closes one, or takes bytes of one.
 abbrev pub decreases-steps : goal.decreases-steps

@@ -9,55 +9,55 @@ use Rattle.autfilt_run.specs.inner.Handling.{Handles}
 use Rattle.hoa_parser.specs.Raw.{written}
 use Rattle.autfilt_run.proofs.handle.handle.Goals as goal
 
-pub returns-in_err-judge : goal.returns-in_err-judge
-returns-in_err-judge g c =
+pub returns-in_err-judge-clause-handles : goal.returns-in_err-judge-clause-handles
+returns-in_err-judge-clause-handles g c =
     let o = g.W.Sink.seen c.args.out.now in
     let ops = map automaton_of c.args.operands.now in
     let w = written c.args.raw.now in
     let f = c.in_err-judge.field-0.0 in
     hands_on c.from_residual-in_err-judge.result (fault_of_plan f) (λ r. Handles r c.args.plan.now ops w o o) c.from_residual-in_err-judge.ensures.1
-    (not_judged f c.args.plan.now ops w (automaton_of c.in_ok-automaton.automaton) o c.in_ok-automaton.ensures c.in_err-judge.ensures)
+    (not_judged f c.args.plan.now ops w (automaton_of c.in_ok-automaton.automaton) o c.in_ok-automaton.ensures c.in_err-judge.ensures.judged)
 
-pub returns-then-not-branch : goal.returns-then-not-branch
-returns-then-not-branch g c = (
-  is_unwanted c.in_ok-judge.field-0 c.args.plan.now (map automaton_of c.args.operands.now) (written c.args.raw.now) (automaton_of c.in_ok-automaton.automaton) c.in_ok-automaton.ensures c.if-not-branch.true c.in_ok-judge.ensures,
+pub returns-then-not-branch-clause-handles : goal.returns-then-not-branch-clause-handles
+returns-then-not-branch-clause-handles g c = (
+  is_unwanted c.in_ok-judge.field-0 c.args.plan.now (map automaton_of c.args.operands.now) (written c.args.raw.now) (automaton_of c.in_ok-automaton.automaton) c.in_ok-automaton.ensures c.if-not-branch.true c.in_ok-judge.ensures.judged,
   refl,
 )
 
-pub returns-then-not-prints_each : goal.returns-then-not-prints_each
-returns-then-not-prints_each g c = (
+pub returns-then-not-prints_each-clause-handles : goal.returns-then-not-prints_each-clause-handles
+returns-then-not-prints_each-clause-handles g c = (
   [],
   is_wanted_silent c.in_ok-judge.field-0 c.prints_each.result c.args.plan.now (map automaton_of c.args.operands.now) (written c.args.raw.now) (automaton_of c.in_ok-automaton.automaton) c.in_ok-automaton.ensures
-      c.if-not-branch.false c.in_ok-judge.ensures c.prints_each.ensures c.if-not-prints_each.true,
+      c.if-not-branch.false c.in_ok-judge.ensures.judged c.prints_each.ensures c.if-not-prints_each.true,
   nothing _,
   refl,
 )
 
-pub returns-in_err-text : goal.returns-in_err-text
-returns-in_err-text g c =
+pub returns-in_err-text-clause-handles : goal.returns-in_err-text-clause-handles
+returns-in_err-text-clause-handles g c =
     let o = g.W.Sink.seen c.args.out.now in
     let ops = map automaton_of c.args.operands.now in
     let w = written c.args.raw.now in
     let f = c.in_err-text.field-0.0 in
     hands_on c.from_residual-in_err-text.result (fault_of_plan f) (λ r. Handles r c.args.plan.now ops w o o) c.from_residual-in_err-text.ensures.1
     (not_printed f c.in_ok-judge.field-0 c.prints_each.result c.args.plan.now ops w (automaton_of c.in_ok-automaton.automaton) (option_copied c.name.result) o c.in_ok-automaton.ensures
-    c.if-not-branch.false c.in_ok-judge.ensures c.prints_each.ensures c.if-not-prints_each.false c.in_err-text.ensures)
+    c.if-not-branch.false c.in_ok-judge.ensures.judged c.prints_each.ensures c.if-not-prints_each.false c.in_err-text.ensures.prints)
 
-pub returns-in-Ok : goal.returns-in-Ok
-returns-in-Ok g c = (
+pub returns-in-Ok-clause-handles : goal.returns-in-Ok-clause-handles
+returns-in-Ok-clause-handles g c = (
   c.as_bytes.result.now,
   is_wanted c.in_ok-judge.field-0 c.prints_each.result c.args.plan.now (map automaton_of c.args.operands.now) (written c.args.raw.now) (automaton_of c.in_ok-automaton.automaton) (option_copied c.name.result) c.in_ok-text.text c.as_bytes.result.now
-      c.in_ok-automaton.ensures c.if-not-branch.false c.in_ok-judge.ensures c.prints_each.ensures c.if-not-prints_each.false c.as_bytes.ensures c.in_ok-text.ensures c.name.ensures,
+      c.in_ok-automaton.ensures c.if-not-branch.false c.in_ok-judge.ensures.judged c.prints_each.ensures c.if-not-prints_each.false c.as_bytes.ensures c.in_ok-text.ensures.prints c.name.ensures,
   c.in-Ok.ensures.ok,
   c.in-Ok.ensures.calm,
 )
 
-pub returns : goal.returns
-returns g c = (
+pub returns-clause-handles : goal.returns-clause-handles
+returns-clause-handles g c = (
   c.as_bytes.result.now,
   sym c.prints_each.ensures ∙ c.if-not-prints_each.false,
   is_wanted c.in_ok-judge.field-0 c.prints_each.result c.args.plan.now (map automaton_of c.args.operands.now) (written c.args.raw.now) (automaton_of c.in_ok-automaton.automaton) (option_copied c.name.result) c.in_ok-text.text c.as_bytes.result.now
-      c.in_ok-automaton.ensures c.if-not-branch.false c.in_ok-judge.ensures c.prints_each.ensures c.if-not-prints_each.false c.as_bytes.ensures c.in_ok-text.ensures c.name.ensures,
+      c.in_ok-automaton.ensures c.if-not-branch.false c.in_ok-judge.ensures.judged c.prints_each.ensures c.if-not-prints_each.false c.as_bytes.ensures c.in_ok-text.ensures.prints c.name.ensures,
   c.in-Err.ensures.err,
   c.in-Err.ensures.failed,
 )

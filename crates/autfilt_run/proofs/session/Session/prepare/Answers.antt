@@ -28,7 +28,6 @@ invariant_of-self-in-Ready g c =
     let said = c.in_ok-read_operands.ensures in
     let ready = ready_of c.in_ok-read_operands.field-0 _ x s t c.in-Ready.is said.prepares in
     record {
-      built = x.built;
       opened_within = x.opened_within;
       tried_within = x.tried_within;
       read_within = x.read_within;

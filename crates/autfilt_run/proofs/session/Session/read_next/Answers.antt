@@ -49,7 +49,7 @@ returns-in_err-handle-in-Whole-clause-steps g c =
     let o' = g.W.Sink.seen c.handle.new.out in
     let f = c.in_err-handle-in-Whole.field-0.0 in
     steps_on c.from_residual-in_err-handle-in-Whole.result f c.args.self.now _ s t o o' c.from_residual-in_err-handle-in-Whole.ensures.1
-    (not_handled f (written c.in-Whole.raw) c.args.self.now _ s t o o' (record { asks = c.requires.asks; is_open = c.requires.is_open }) refl whole moves c.in_err-handle-in-Whole.ensures)
+    (not_handled f (written c.in-Whole.raw) c.args.self.now _ s t o o' (record { asks = c.requires.asks; is_open = c.requires.is_open }) refl whole moves c.in_err-handle-in-Whole.ensures.handles)
 
 pub returns-clause-steps : goal.returns-clause-steps
 returns-clause-steps g c =
@@ -61,7 +61,7 @@ returns-clause-steps g c =
     let moves = subst M c.in-Whole.is said.moves in
     let whole = is_whole c.in_ok-read_raw.field-0 c.in-Whole.raw c.args.self.now.lexer.since c.read_raw.new.lexer.held s.left t.left c.in-Whole.is said.held at in
     let H : Bool → Type 0 = λ x. Handles (Ok x) c.args.self.now.plan (operands_in c.args.self.now) (written c.in-Whole.raw) (g.W.Sink.seen c.args.out.now) (g.W.Sink.seen c.handle.new.out) in
-    let h = subst H c.if-branch.false c.in_ok-handle-in-Whole.ensures in
+    let h = subst H c.if-branch.false c.in_ok-handle-in-Whole.ensures.handles in
     record {
       automaton = written c.in-Whole.raw;
       dropped = h.0.dropped;

@@ -77,7 +77,6 @@ invariant_of-self-in-Whole g c =
     let longer : length c.push.new.self ≡ length old.operands + 1 = ap length pushed ∙ length_push old.operands core in
     let all = one_more old.operands c.push.new.self core (automaton_of core) pushed refl in
     record {
-      built = old.built;
       opened_within = old.opened_within;
       tried_within = old.tried_within;
       read_within = omega (arith, longer, c.requires.room);

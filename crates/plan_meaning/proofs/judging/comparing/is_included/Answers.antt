@@ -2,5 +2,5 @@ use Rattle.aut_core.specs.Core.{automaton_of}
 use Rattle.plan_meaning.proofs.Comparing.{examines_inclusion}
 use Rattle.plan_meaning.proofs.judging.comparing.is_included.Goals as goal
 
-pub returns : goal.returns
-returns c = examines_inclusion (automaton_of c.args.a.now) (automaton_of c.args.other.now) c.has_no_word_beside.result c.whole.ensures.settled c.has_no_word_beside.ensures
+pub returns-clause-examines : goal.returns-clause-examines
+returns-clause-examines c = examines_inclusion (automaton_of c.args.a.now) (automaton_of c.args.other.now) c.has_no_word_beside.result c.whole.ensures.settled c.has_no_word_beside.ensures.compares

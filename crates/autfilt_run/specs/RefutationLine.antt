@@ -1,0 +1,23 @@
+-- The line of a refutation.
+use Rattle.std.specs.Prelude.{◌≡◌, ◌⊎◌, ℕ, List, ◌++◌, codes}
+use Rattle.aut_base.specs.Automaton.{Automaton}
+use Rattle.aut_base.specs.CanonicalLabel.{canonical}
+use Rattle.aut_base.specs.declared.letter.Lasso.{Lasso}
+use Rattle.aut_core.specs.OtherNames.{joined_names}
+use Rattle.plan_meaning.specs.Limits.{IsIncluded, IsWithinInclusion}
+use Rattle.plan_meaning.specs.Refutations.{Refutes}
+use Rattle.word_syntax.specs.Printing.{word_text}
+
+-- a reduced word over the names of both that the first accepts and the second doesn't, and a line feed
+pub record ShowsRefutation (a b : Automaton) (text : List ℕ) : Type 0 where
+  pub word : Lasso
+  pub refutes : Refutes a b word
+  pub shown : text ≡ word_text (joined_names a.names b.names) word.stem word.cycle ++ codes "\n"
+
+-- such a word is shown, or that the second accepts all that the first accepts
+abbrev pub SaysOfInclusion : Automaton → Automaton → List ℕ → Type 0
+SaysOfInclusion a b text = ShowsRefutation a b text ⊎ (IsIncluded a b × (text ≡ codes "included\n"))
+
+-- The line is told within all limits; labels are in canonical form.
+abbrev pub IsRefutationLine : Automaton → Automaton → List ℕ → Type 0
+IsRefutationLine a b text = IsWithinInclusion (canonical a) b × SaysOfInclusion a b text

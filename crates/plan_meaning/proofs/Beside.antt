@@ -1,0 +1,88 @@
+-- A word that one automaton accepts and another doesn't, by a product with the complement of the other.
+use Rattle.std.proofs.Common.{ℕ, ◌≡◌, ◌≤◌, Option, None, Some, List, Result, Ok, Err, arith, inl, inr, length, refl, subst, sym}
+use Rattle.std.specs.Prelude.{◌++◌, All, MatchOption}
+use Rattle.std.specs.Result.{IsErrAnd}
+use Rattle.aut_base.specs.Automaton.{Automaton}
+use Rattle.aut_base.specs.declared.letter.Lasso.{Lasso}
+use Rattle.aut_base.specs.declared.limit.Limit.{Limit}
+use Rattle.aut_base.specs.declared.limit.Limit.TheVariants as limit
+use Rattle.aut_base.specs.declared.limit.TheConstants.{MOST_NAMES, MOST_PAIRS}
+use Rattle.aut_core.specs.Deterministic.{IsDeterministic}
+use Rattle.aut_core.specs.OtherNames.{joined_names}
+use Rattle.aut_ops.specs.Products.{HasMorePairs, over_both}
+use Rattle.aut_ops.specs.declared.fault.PairFault.{PairFault}
+use Rattle.aut_ops.specs.declared.fault.PairFault.TheVariants as pair
+use Rattle.inclusion.proofs.Common.{included_where_none, not_included_where_word}
+use Rattle.inclusion.specs.Common.{AcceptNoneTogether, IsWordOfBoth}
+use Rattle.parity_det.proofs.ParityLaws.{complement_is_determined}
+use Rattle.parity_det.specs.Complements.{IsRefusal, IsWithinParity}
+use Rattle.parity_det.specs.declared.fault.CompFault.{CompFault}
+use Rattle.parity_det.specs.declared.fault.CompFault.TheVariants as comp
+use Rattle.plan_meaning.proofs.Determinised.{within}
+use Rattle.plan_meaning.specs.Complements.{IsKeptOf}
+use Rattle.plan_meaning.specs.Limits.{HaveFewNames, HaveManyNames, IsIncluded, PassesOfBoth, PassesOfInclusion, PassesUnlessDeterministic}
+use Rattle.plan_meaning.specs.Refutations.{Refutes}
+use Rattle.plan_meaning.specs.declared.fault.PlanFault.{PlanFault}
+use Rattle.plan_meaning.specs.inner.Beside.{FindsBeside, IsFoundBeside}
+use Rattle.plan_meaning.specs.inner.Faults.{fault_of_pairs, fault_of_parity}
+use Rattle.word_syntax.specs.Printing.{HoldsOnly}
+
+abbrev HavePairs : Automaton → Automaton → Type 0
+HavePairs a co = HasMorePairs MOST_PAIRS (over_both a co a) (over_both a co co)
+
+none_of_both : (which : Limit) (a co : Automaton) → HaveFewNames a co → (HavePairs a co → ⊥) → PassesOfBoth which a co → ⊥
+none_of_both limit.Names a co few pairs h = omega (arith, few, h)
+none_of_both limit.Pairs a co few pairs h = pairs h.1
+none_of_both _ a co few pairs h = h
+
+pub complement_within : (b : Automaton) → ((IsDeterministic b → ⊥) → IsWithinParity b) → (which : Limit) → PassesUnlessDeterministic which b → ⊥
+complement_within b none which h = within b (none h.0) which h.1
+
+module _ (a b co : Automaton) (kept : IsKeptOf b co) where
+  inclusion_within : HaveFewNames a co → (HavePairs a co → ⊥) → (which : Limit) → PassesOfInclusion which a b → ⊥
+  inclusion_within few pairs which (inl h) = kept.within which h
+  inclusion_within few pairs which (inr h) =
+      let same : h.1.co ≡ co = complement_is_determined b h.1.co co h.1.is kept.shape in
+      none_of_both which a co few pairs (subst (PassesOfBoth which a) same h.1.passes)
+
+  refutes : (w : Lasso) → IsWordOfBoth a co w → Refutes a b w
+  refutes w word =
+      let said = not_included_where_word a b co w kept.complements word in
+      record {
+        reduced = word.reduced;
+        own_names = subst (λ (names : List (List ℕ)). All (HoldsOnly (joined_names a.names names)) (w.stem ++ w.cycle)) kept.names word.own_names;
+        accepted = said.0;
+        rejected = said.1;
+      }
+
+  of_found : (found : Option Lasso) → MatchOption found (AcceptNoneTogether a co) (IsWordOfBoth a co) → MatchOption found (IsIncluded a b) (Refutes a b)
+  of_found None none = (included_where_none a b co kept.complements).0 none
+  of_found (Some w) word = refutes w word
+
+  -- what the search found, or that there is nothing
+  pub is_found : (found : Option Lasso) → HaveFewNames a co → (HavePairs a co → ⊥) → MatchOption found (AcceptNoneTogether a co) (IsWordOfBoth a co) → IsFoundBeside a b found
+  is_found found few pairs said = record {
+    within = inclusion_within few pairs;
+    few = subst (λ (names : List (List ℕ)). length (joined_names a.names names) ≤ MOST_NAMES) kept.names few;
+    found = of_found found said;
+  }
+
+  -- what a refusal of the product says
+  pub product_refused : (f : PairFault) → (f ≡ pair.Names → HaveManyNames a co) → (f ≡ pair.Pairs → HaveFewNames a co) → (f ≡ pair.Pairs → HavePairs a co) → FindsBeside (Err (fault_of_pairs f)) a b
+  product_refused pair.Names names few pairs = inr (kept.within, record { co = co; is = kept.shape; passes = names refl })
+  product_refused pair.Pairs names few pairs = inr (kept.within, record { co = co; is = kept.shape; passes = (few refl, pairs refl) })
+  product_refused pair.Memory names few pairs = tt
+
+-- what a refusal of the complement says
+pub complement_refused : (a b : Automaton) (f : CompFault) → IsRefusal b f → FindsBeside (Err (fault_of_parity f)) a b
+complement_refused a b comp.Terms h = inl h
+complement_refused a b comp.BuchiStates h = inl h
+complement_refused a b comp.Trees h = inl h
+complement_refused a b comp.Nodes h = inl h
+complement_refused a b comp.Classes h = inl h
+complement_refused a b comp.Memory h = tt
+
+-- a fault that is passed on
+pub told : (a b : Automaton) (r : Result (Option Lasso) PlanFault) (came : PlanFault) → IsErrAnd r (λ y. y ≡ came) → FindsBeside (Err came) a b → FindsBeside r a b
+told a b (Ok x) came passed h = absurd passed
+told a b (Err y) came passed h = subst (λ (f : PlanFault). FindsBeside (Err f) a b) (sym passed) h

@@ -1,0 +1,66 @@
+-- What is kept of complements, while filters are examined one after the other.
+use Rattle.std.proofs.Common.{◌≡◌, ◌<◌, ℕ, get_or, length, List, [], ◌∷◌, Option, Some, IfSome, None, subst, sym}
+use Rattle.std.specs.Option.{option_map}
+use Rattle.std.specs.List.{AllByRecursion}
+use Rattle.std.proofs.lemmas.List.Elements.{All-cons, All-nil}
+use Rattle.aut_base.specs.Automaton.{Automaton}
+use Rattle.aut_core.specs.Core.{Core}
+use Rattle.filter_plan.specs.declared.plan.Plan.{Plan}
+use Rattle.plan_meaning.specs.Complements.{AreKept, KeepsOf}
+use Rattle.plan_meaning.specs.declared.complements.Complements.{Complements}
+use Rattle.plan_meaning.specs.declared.judging.filter.Filter as coded
+use Rattle.plan_meaning.specs.declared.judging.filter.Filter.TheVariants as code
+use Rattle.plan_meaning.specs.inner.Judging.{AreFrom, IsFrom, IsReady, LeavesOthers}
+
+-- of the operand at a place, and back
+kept_of : (o : Option Automaton) (b : Automaton) (slot : Option Core) → o ≡ Some b → IfSome o (λ x. KeepsOf x slot) → KeepsOf b slot
+kept_of o b slot is h = subst (λ (x : Option Automaton). IfSome x (λ y. KeepsOf y slot)) is h
+
+keeps_on : (o : Option Automaton) (b : Automaton) (slot : Option Core) → o ≡ Some b → KeepsOf b slot → IfSome o (λ x. KeepsOf x slot)
+keeps_on o b slot is h = subst (λ (x : Option Automaton). IfSome x (λ y. KeepsOf y slot)) (sym is) h
+
+stays : (o : Option Automaton) (old new : Option Core) → new ≡ old → IfSome o (λ x. KeepsOf x old) → IfSome o (λ x. KeepsOf x new)
+stays o old new same h = subst (λ (slot : Option Core). IfSome o (λ x. KeepsOf x slot)) (sym same) h
+
+module _ (p : Plan) (ops : List Automaton) where
+  pub ready : (f : coded.Filter) (cs : Complements) → IsFrom p ops f → AreKept p ops cs → IsReady f cs
+  ready (code.IncludedIn other) cs from kept = (from.0, kept_of _ _ cs.included_in from.1 kept.included_in)
+  ready (code.EquivalentTo other) cs from kept = (from.0, kept_of _ _ cs.equivalent_to from.1 kept.equivalent_to)
+  ready (code.Intersects other) cs from kept = from
+  ready (code.AcceptsWord pattern) cs from kept = tt
+  ready (code.RejectsWord pattern) cs from kept = tt
+  ready code.IsEmpty cs from kept = tt
+  ready code.IsDeterministic cs from kept = tt
+  ready code.IsComplete cs from kept = tt
+  ready code.IsUnambiguous cs from kept = tt
+  ready (code.States range) cs from kept = tt
+  ready (code.Edges range) cs from kept = tt
+  ready (code.Sets range) cs from kept = tt
+  ready (code.Names range) cs from kept = tt
+
+  pub kept_on : (f : coded.Filter) (old new : Complements) → IsFrom p ops f → AreKept p ops old → IsReady f new → LeavesOthers f old new → AreKept p ops new
+  kept_on (code.IncludedIn other) old new from kept now others = record {
+    included_in = keeps_on _ _ new.included_in from.1 now.1;
+    equivalent_to = stays _ old.equivalent_to new.equivalent_to others.0 kept.equivalent_to;
+    refuted = stays _ old.refuted new.refuted others.1 kept.refuted;
+  }
+  kept_on (code.EquivalentTo other) old new from kept now others = record {
+    included_in = stays _ old.included_in new.included_in others.0 kept.included_in;
+    equivalent_to = keeps_on _ _ new.equivalent_to from.1 now.1;
+    refuted = stays _ old.refuted new.refuted others.1 kept.refuted;
+  }
+  kept_on _ old new from kept now others = subst (AreKept p ops) (sym others) kept
+
+  -- a filter of a list
+  pub from_at : (xs : List (Option coded.Filter)) (i : ℕ) (d : Option coded.Filter) (f : coded.Filter) → AreFrom p ops xs → i < length xs → get_or xs i d ≡ Some f → IsFrom p ops f
+  from_at xs i d f all within is = subst (λ (o : Option coded.Filter). IfSome o (IsFrom p ops)) is (all i d within)
+
+  -- each filter of a list, where it is one after the other
+  pub are_from : (xs : List (Option coded.Filter)) → AllByRecursion (λ x. IfSome x (IsFrom p ops)) xs → AreFrom p ops xs
+  are_from [] h = All-nil (λ x. IfSome x (IsFrom p ops))
+  are_from (x ∷ xs) h = All-cons (λ y. IfSome y (IsFrom p ops)) x xs h.0 (are_from xs h.1)
+
+-- an operand that stands is what the definition says
+pub operand_is : {B : Type 0} (P : B → Type 0) (view : B → Automaton) (found : Option B) (there : Option Automaton) → option_map view found ≡ there → IfSome found P → IfSome found (λ x. P x × (there ≡ Some (view x)))
+operand_is P view None there is h = tt
+operand_is P view (Some x) there is h = (h, sym is)

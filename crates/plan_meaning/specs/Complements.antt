@@ -1,0 +1,34 @@
+-- What is kept of complements, each of the operand of its option.
+use Rattle.std.specs.Prelude.{◌≡◌, ◌+◌, ◌*◌, ◌≤◌, List, Option, IfSome}
+use Rattle.aut_base.specs.Automaton.{Automaton}
+use Rattle.aut_base.specs.declared.limit.Limit.{Limit}
+use Rattle.aut_base.specs.declared.limit.TheConstants.{MOST_NODES}
+use Rattle.aut_core.specs.Core.{Core, automaton_of}
+use Rattle.filter_plan.specs.declared.plan.Plan.{Plan}
+use Rattle.parity_det.specs.Complements.{IsComplementOf}
+use Rattle.parity_laws.specs.Complement.{AreComplements}
+use Rattle.plan_meaning.specs.Limits.{PassesUnlessDeterministic}
+use Rattle.plan_meaning.specs.Operands.{operand_at, place_of_equivalent_to, place_of_included_in, refuted_operand}
+use Rattle.plan_meaning.specs.declared.complements.Complements.{Complements}
+
+-- It is the complement of the automaton, which passes no limit on the way.
+pub record IsKeptOf (b co : Automaton) : Type 0 where
+  pub complements : AreComplements b co
+  pub shape : IsComplementOf b co
+  pub names : co.names ≡ b.names
+  pub sets : co.sets ≤ b.sets + (2 * MOST_NODES + 1)
+  pub within : (which : Limit) → PassesUnlessDeterministic which b → ⊥
+
+-- where something is kept it is the complement of this automaton
+abbrev pub KeepsOf : Automaton → Option Core → Type 0
+KeepsOf b kept = IfSome kept (λ co. IsKeptOf b (automaton_of co))
+
+-- What is kept for an option is the complement of its operand.
+pub record AreKept (p : Plan) (ops : List Automaton) (cs : Complements) : Type 0 where
+  pub included_in : IfSome (operand_at p.included_in place_of_included_in ops) (λ b. KeepsOf b cs.included_in)
+  pub equivalent_to : IfSome (operand_at p.equivalent_to (place_of_equivalent_to p) ops) (λ b. KeepsOf b cs.equivalent_to)
+  pub refuted : IfSome (refuted_operand p ops) (λ b. KeepsOf b cs.refuted)
+
+-- nothing is kept yet, so that it is true of any operands
+abbrev pub AreFresh : Complements → Type 0
+AreFresh cs = (p : Plan) (ops : List Automaton) → AreKept p ops cs
