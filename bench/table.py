@@ -1,7 +1,8 @@
 #!/usr/bin/env python3
 """Runs two programs on the workloads, compares what they print, and writes a table of what they took.
 
-Usage: table.py AUTFILT PLAIN FOLDER [--quick] [--only WORD]..
+Usage: table.py AUTFILT PLAIN FOLDER [--quick] [--only WORD].. [--steps STEPS PLAIN]
+--steps gives the two programs that step trees.
 """
 import argparse
 import os
@@ -45,6 +46,9 @@ WORKLOADS = [
      ['emerson-lei-2000.hoa', 'operand-d.hoa']),
     ('inclusion of 20,000 in one', ['-c', '--included-in=operand.hoa'], ['emerson-lei.hoa', 'operand.hoa']),
 ]
+
+# What it is, and the words for the two programs that step trees, the last of them how many steps.
+STEPS = ('100,000 steps of trees of 10 to 40 nodes', ['1', '100000'])
 
 RUNS = 5
 # Seconds: a program is stopped after the first, and its instructions are counted only where a run took less than the second.
@@ -101,10 +105,8 @@ def columns(value, other, form):
     return [form % value, form % other, '%.1f' % (value / other) if other else '-']
 
 
-def row(workload, programs, folder, counts):
-    name, words, files = workload
-    size = sum(os.path.getsize(os.path.join(folder, file)) for file in files)
-    commands = [[program] + words + files[:1] for program in programs]
+def row(name, commands, size, folder, counts):
+    """What the two commands took, by this size; and whether they did the same."""
     try:
         first, second = (outcome(command, folder) for command in commands)
     except subprocess.TimeoutExpired as late:
@@ -118,6 +120,21 @@ def row(workload, programs, folder, counts):
     return cells, True
 
 
+def rows(asked, counts):
+    """Each workload that is asked for."""
+    def is_asked(name):
+        return not asked.only or any(word in name for word in asked.only)
+    for name, words, files in WORKLOADS:
+        if is_asked(name):
+            size = sum(os.path.getsize(os.path.join(asked.folder, file)) for file in files)
+            commands = [[program] + words + files[:1] for program in (asked.autfilt, asked.plain)]
+            yield row(name, commands, size, asked.folder, counts)
+    name, words = STEPS
+    if asked.steps and is_asked(name):
+        commands = [[program] + words for program in asked.steps]
+        yield row(name, commands, int(words[-1]), asked.folder, counts)
+
+
 def main():
     words = argparse.ArgumentParser()
     words.add_argument('autfilt')
@@ -125,6 +142,7 @@ def main():
     words.add_argument('folder')
     words.add_argument('--quick', action='store_true')
     words.add_argument('--only', action='append')
+    words.add_argument('--steps', nargs=2, metavar=('STEPS', 'PLAIN'))
     asked = words.parse_args()
     counts = not asked.quick and shutil.which('valgrind') is not None
 
@@ -135,10 +153,7 @@ def main():
                         for place, (cell, width) in enumerate(zip(cells, widths)))
     print(line(head))
     all_equal = True
-    for workload in WORKLOADS:
-        if asked.only and not any(word in workload[0] for word in asked.only):
-            continue
-        cells, equal = row(workload, [asked.autfilt, asked.plain], asked.folder, counts)
+    for cells, equal in rows(asked, counts):
         all_equal &= equal
         print(line(cells), flush=True)
     sys.exit(0 if all_equal else 1)

@@ -40,6 +40,19 @@ pub(crate) fn moves_by_digits(alloc: Global, states: u32, number: u32) -> Result
     Ok(moves)
 }
 
+/// The moves of every letter there can be among so few states.
+pub(crate) fn every_letter(alloc: Global, states: u32) -> Result<Vec<Moves>, Memory> {
+    let mut count: u32 = 1;
+    for _ in 0..states.saturating_mul(states) {
+        count = count.saturating_mul(3);
+    }
+    let mut letters = Vec::new(alloc);
+    for number in 0..count {
+        letters.push(moves_by_digits(alloc, states, number)?)?;
+    }
+    Ok(letters)
+}
+
 /// Numbers that follow one another by a rule (a linear congruential generator).
 #[derive(Clone, Copy)]
 pub(crate) struct Sequence {

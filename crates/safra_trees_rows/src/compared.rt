@@ -4,17 +4,38 @@ ghost use Rattle.std.specs.Prelude.{◌<◌, All, IsTrue};
 ghost use Rattle.safra_trees.specs.Events.{IsWithin};
 
 use crate::Stop;
-use crate::automata::{Sequence, moves_by_chance, moves_by_digits};
+use crate::automata::{Sequence, every_letter, moves_by_chance};
 use crate::plain::{PlainNode, is_set, plain_start, plain_step};
+use crate::stored::is_stored;
 use aut_base::Numbers;
 use safra_trees::{Event, Move, Moves, SafraTree, TreeFault, start, step};
 use std::alloc::Global;
+
+/// More trees than three states can have.
+const MOST_TREES: usize = 100;
 
 /// How many steps were compared, and how many came out otherwise.
 #[derive(Clone, Copy)]
 pub(crate) struct Tally {
     pub(crate) steps: u32,
     pub(crate) different: u32,
+}
+
+impl Tally {
+    pub(crate) fn new() -> Tally {
+        Tally {
+            steps: 0,
+            different: 0,
+        }
+    }
+
+    /// One step more.
+    fn add(&mut self, agrees: bool) {
+        self.steps = self.steps.saturating_add(1);
+        if !agrees {
+            self.different = self.different.saturating_add(1);
+        }
+    }
 }
 
 /// A tree and the plain one that it should be.
@@ -31,28 +52,26 @@ struct Stepped {
     agrees: bool,
 }
 
-/// All automata of two states and two letters, from the first state on, with all trees that they reach.
-pub(crate) fn small(alloc: Global) -> Result<Tally, Stop> {
-    let mut tally = Tally {
-        steps: 0,
-        different: 0,
-    };
-    for number in 0..6561 {
-        let letters = [
-            moves_by_digits(alloc, 2, number % 81)?,
-            moves_by_digits(alloc, 2, number / 81)?,
-        ];
-        explore(alloc, 2, &letters, &mut tally)?;
+/// Every tree that so few states can have, stepped under every letter there can be among them. So every step is here that
+/// an automaton of so many states takes, however many letters it has. Answers how many trees there are, too.
+pub(crate) fn all_of(alloc: Global, states: u32, tally: &mut Tally) -> Result<usize, Stop> {
+    let letters = every_letter(alloc, states)?;
+    let mut pairs = Vec::new(alloc);
+    pairs.push(first(alloc, states)?)?;
+    for place in 0..MOST_TREES {
+        if place >= pairs.len() {
+            break;
+        }
+        for moves in &letters {
+            visit(alloc, states, &mut pairs, place, moves, tally)?;
+        }
     }
-    Ok(tally)
+    Ok(pairs.len())
 }
 
 /// Automata of one to eight states by chance, and of each a walk.
 pub(crate) fn by_chance(alloc: Global) -> Result<Tally, Stop> {
-    let mut tally = Tally {
-        steps: 0,
-        different: 0,
-    };
+    let mut tally = Tally::new();
     let mut sequence = Sequence::new(1);
     for _ in 0..400 {
         let states = sequence.next(8) + 1;
@@ -65,21 +84,7 @@ pub(crate) fn by_chance(alloc: Global) -> Result<Tally, Stop> {
     Ok(tally)
 }
 
-/// The trees that are reached, each stepped under each letter.
-fn explore(alloc: Global, states: u32, letters: &[Moves], tally: &mut Tally) -> Result<(), Stop> {
-    let mut pairs = Vec::new(alloc);
-    pairs.push(first(alloc, states)?)?;
-    for place in 0..200 {
-        for moves in letters {
-            if !visit(alloc, states, &mut pairs, place, moves, tally)? {
-                return Ok(());
-            }
-        }
-    }
-    Ok(())
-}
-
-/// The tree at a place under a letter; whether there was one, and a next one.
+/// The tree at a place under a letter. Where the next tree is new, it goes behind the others.
 fn visit(
     alloc: Global,
     states: u32,
@@ -87,19 +92,18 @@ fn visit(
     place: usize,
     moves: &Moves,
     tally: &mut Tally,
-) -> Result<bool, Stop> {
+) -> Result<(), Stop> {
     let Some(pair) = pairs.get(place) else {
-        return Ok(false);
+        return Err(Stop::Row);
     };
     let Some(stepped) = both(alloc, states, pair, moves)? else {
-        return Ok(false);
+        return Err(Stop::Row);
     };
-    let agrees = stepped.agrees && are_alike(pairs, &stepped.pair);
-    count(tally, agrees);
+    tally.add(stepped.agrees && are_alike(pairs, &stepped.pair));
     if is_new(pairs, &stepped.pair) {
         pairs.push(stepped.pair)?;
     }
-    Ok(true)
+    Ok(())
 }
 
 /// A walk of some steps under letters by chance.
@@ -120,8 +124,7 @@ fn walk(
         let Some(stepped) = both(alloc, states, &pair, moves)? else {
             return Ok(());
         };
-        let agrees = stepped.agrees && are_alike(&pairs, &stepped.pair);
-        count(tally, agrees);
+        tally.add(stepped.agrees && are_alike(&pairs, &stepped.pair));
         pairs.push(pair)?;
         pair = stepped.pair;
     }
@@ -190,7 +193,10 @@ fn both(alloc: Global, states: u32, pair: &Pair, moves: &Moves) -> Result<Option
         Ok((tree, event)) => {
             let told = plain_step(alloc, &pair.plain, moves.as_slice())?;
             let same = event.red == told.red && event.green == told.green;
-            let agrees = same && is_same_size(&tree, &told.tree) && has_root(&tree, &told.tree);
+            let agrees = same
+                && is_same_size(&tree, &told.tree)
+                && has_root(&tree, &told.tree)
+                && is_stored(alloc, &tree, &told.tree)?;
             let pair = Pair {
                 tree,
                 plain: told.tree,
@@ -232,11 +238,4 @@ fn are_alike(pairs: &[Pair], pair: &Pair) -> bool {
 
 fn is_new(pairs: &[Pair], pair: &Pair) -> bool {
     pairs.iter().all(|earlier| earlier.tree != pair.tree)
-}
-
-fn count(tally: &mut Tally, agrees: bool) {
-    tally.steps = tally.steps.saturating_add(1);
-    if !agrees {
-        tally.different = tally.different.saturating_add(1);
-    }
 }

@@ -5,8 +5,10 @@
 mod automata;
 mod compared;
 mod plain;
+mod stored;
 mod worked;
 
+use crate::compared::Tally;
 use aut_base::Memory;
 use std::alloc::{AllocError, AllocFailed};
 use std::io;
@@ -46,8 +48,14 @@ impl<T: Drop> From<AllocFailed<T>> for Stop {
 
 fn main(rt: HostRuntime) -> Result<(), Stop> {
     let alloc = rt.alloc();
-    let small = compared::small(alloc)?;
-    println!(rt; "small steps={} different={}", small.steps, small.different)?;
+    let mut small = Tally::new();
+    let one = compared::all_of(alloc, 1, &mut small)?;
+    let two = compared::all_of(alloc, 2, &mut small)?;
+    let three = compared::all_of(alloc, 3, &mut small)?;
+    println!(rt;
+        "trees={one}+{two}+{three} steps={} different={}",
+        small.steps, small.different
+    )?;
     let chance = compared::by_chance(alloc)?;
     println!(rt;
         "chance steps={} different={}",

@@ -1,0 +1,27 @@
+//! Numbers by chance, the same ones each time.
+
+ghost use Rattle.std.specs.Prelude.{◌<◌};
+
+/// Numbers that follow one another by a rule (a linear congruential generator).
+#[derive(Clone, Copy)]
+pub(crate) struct Sequence {
+    last: u32,
+}
+
+impl Sequence {
+    pub(crate) fn new(first: u32) -> Sequence {
+        Sequence { last: first }
+    }
+
+    /// The next number, below a bound that is not 0.
+    pub(crate) fn next(&mut self, bound: u32) -> u32
+        requires { 0 < bound }
+        ensures { result < bound }
+    {
+        self.last = self
+            .last
+            .wrapping_mul(1_664_525)
+            .wrapping_add(1_013_904_223);
+        (self.last >> 8) % bound
+    }
+}
