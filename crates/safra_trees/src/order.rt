@@ -14,7 +14,7 @@ pub(crate) fn claiming_order(alloc: Global, parents: &[u32]) -> Result<Vec<u32>,
     ensures size { IfOk result (λ order. length order.items ≡ length parents.now) }
     ensures order { IfOk result (λ order. IsOrder (length parents.now) (at parents.now) (at order.items)) }
 {
-    let mut order = Vec::new(alloc);
+    let mut order = Vec::with_capacity(alloc, parents.len())?;
     'names: for parent in parents {
         let number = if order.len() == 0 {
             0

@@ -50,7 +50,7 @@ pub(crate) fn homes(alloc: Global, parents: &[u32], own: &[bool]) -> Result<Vec<
     ensures low { IfOk result (λ homes. (x : ℕ) → x < length own.now → at homes.items x ≤ x) }
     ensures homes { IfOk result (λ homes. AreHomes own.now (grown_parent parents.now) (length own.now) homes.items) }
 {
-    let mut homes = Vec::new(alloc);
+    let mut homes = Vec::with_capacity(alloc, own.len())?;
     'names: for name in 0..own.len() as u32 {
         let home = home_of(parents, own, &homes, name);
         homes.push(home)?;
@@ -113,7 +113,7 @@ pub(crate) fn new_names(alloc: Global, stay: &[bool]) -> Result<NewNames, AllocE
     ensures ranks { IfOk result (λ made. made.ranks.items ≡ map (rank (flag stay.now)) (range_with_len 0 (length stay.now))) }
     ensures count { IfOk result (λ made. made.count ≡ rank (flag stay.now) (length stay.now)) }
 {
-    let mut ranks = Vec::new(alloc);
+    let mut ranks = Vec::with_capacity(alloc, stay.len())?;
     let mut count = 0;
     'names: for name in 0..stay.len() {
         ranks.push(count)?;
@@ -125,12 +125,13 @@ pub(crate) fn new_names(alloc: Global, stay: &[bool]) -> Result<NewNames, AllocE
     Ok(NewNames { ranks, count })
 }
 
-/// The parents of the names that stay, by their new names.
+/// The parents of the names that stay, by their new names. There is room for so many at once.
 pub(crate) fn new_parents(
     alloc: Global,
     parents: &[u32],
     stay: &[bool],
     ranks: &[u32],
+    count: u32,
 ) -> Result<Vec<u32>, AllocError>
     requires few { length parents.now ≤ MOST_NODES }
     requires lower { (x : ℕ) → x < length parents.now → at parents.now x ≤ x }
@@ -138,7 +139,7 @@ pub(crate) fn new_parents(
     requires ranks { length ranks.now ≡ length stay.now }
     ensures { IfOk result (λ made. made.items ≡ map (λ y. at ranks.now (grown_parent parents.now y)) (names (flag stay.now) (length stay.now))) }
 {
-    let mut made = Vec::new(alloc);
+    let mut made = Vec::with_capacity(alloc, count as usize)?;
     'names: for name in 0..stay.len() {
         if !stay[name] {
             continue;
@@ -208,8 +209,9 @@ pub(crate) fn new_places(
     ensures states { IfOk result (λ made. made.states.items ≡ names (λ s. nat_lt (at claims.now s) (length homes.now)) (length claims.now)) }
     ensures places { IfOk result (λ made. made.places.items ≡ map (λ s. at ranks.now (at homes.now (at claims.now s))) (names (λ s. nat_lt (at claims.now s) (length homes.now)) (length claims.now))) }
 {
-    let mut states = Vec::new(alloc);
-    let mut places = Vec::new(alloc);
+    let room = claimed(claims, homes.len());
+    let mut states = Vec::with_capacity(alloc, room)?;
+    let mut places = Vec::with_capacity(alloc, room)?;
     'states: for state in 0..claims.len() {
         let claim = claims[state] as usize;
         if claim >= homes.len() {
@@ -219,4 +221,13 @@ pub(crate) fn new_places(
         places.push(ranks[homes[claim] as usize])?;
     }
     Ok(NewPlaces { states, places })
+}
+
+/// How many states some name claims, so that their lists take no more room than that.
+fn claimed(claims: &[u32], names: usize) -> usize {
+    let mut count = 0usize;
+    'states: for claim in claims {
+        count = count.saturating_add(usize::from((*claim as usize) < names));
+    }
+    count
 }
