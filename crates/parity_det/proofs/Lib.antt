@@ -3,6 +3,7 @@ pub mod DualSets
 pub mod Explored
 pub mod FewNodes
 pub mod Formed
+pub mod MetGuards
 pub mod MetMoves
 pub mod ParityLaws
 pub mod TreeSteps
