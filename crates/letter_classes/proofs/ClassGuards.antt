@@ -1,5 +1,5 @@
 -- The guards that a store gives for the classes of a set, and what becomes of them in a store that has grown.
-use Rattle.std.proofs.Common.{◌≡◌, ◌∙◌, ◌&&◌, ◌<◌, ◌≤◌, ℕ, zero, suc, All, Bool, Contains, List, [], ◌∷◌, Some, ap, arith, filter, get_or, length, map, nat_lt, not, refl, slice_get, subst, sym}
+use Rattle.std.proofs.Common.{◌≡◌, ◌∙◌, ◌&&◌, ◌<◌, ◌≤◌, ℕ, zero, suc, Bool, Contains, List, [], ◌∷◌, Some, ap, arith, filter, get_or, length, map, nat_lt, not, refl, slice_get, subst, sym}
 use Rattle.std.proofs.lemmas.Bool.{true≢false}
 use Rattle.std.proofs.lemmas.List.Elements.{All-contains}
 use Rattle.std.proofs.lemmas.List.Folds.{list_all-map}
@@ -41,9 +41,11 @@ leasts_of n alike = filter (λ v. not (list_any (λ w. nat_lt (number_of w) (num
 
 -- the guard, in words of the number of propositions and of what is alike
 abbrev IsHandle : Store → ℕ → Alike → ℕ → Guard → Type 0
-IsHandle s n alike k g = (v : List Bool) × (slice_get (leasts_of n alike) k ≡ Some v) × Has s g × IsLeast s.names (truth_on (label_in s g)) v × (label_in s g ≡ label_of n (λ w. alike (holds_in v) (holds_in w)))
+IsHandle s n alike k g = (v : List Bool) × (slice_get (leasts_of n alike) k ≡ Some v) × Has s g × IsLeast s.names (truth_on (label_in s g)) v ×
+    (label_in s g ≡ label_of n (λ w. alike (holds_in v) (holds_in w)))
 
-handle_at : (s : Store) (list classes : List Guard) (most : ℕ) → AreClasses s list most classes → (k : ℕ) (g : Guard) → slice_get classes k ≡ Some g → IsHandle s s.names (are_alike (labels_in s list)) k g
+handle_at : (s : Store) (list classes : List Guard) (most : ℕ) → AreClasses s list most classes → (k : ℕ) (g : Guard) → slice_get classes k ≡ Some g → IsHandle s s.names
+    (are_alike (labels_in s list)) k g
 handle_at s list classes most are k g at =
     let of = by_leasts s list most classes are in
     let leasts = class_leasts s.names (labels_in s list) in

@@ -3,7 +3,6 @@ use Rattle.std.proofs.Common.{◌≡◌, ◌∙◌, ◌+◌, ◌<◌, ◌==◌, 
 use Rattle.std.proofs.Common.{slice_get, subst, sym, take}
 use Rattle.std.proofs.lemmas.List.{map-append}
 use Rattle.std.proofs.lemmas.List.Elements.{All-contains, All-filter}
-use Rattle.std.specs.Prelude.{flat_map}
 use Rattle.aut_base.proofs.Members.{each_there, from_filter, from_flat_map, from_map, read_has}
 use Rattle.aut_base.proofs.Steps.{flat_map_on}
 use Rattle.aut_base.specs.Automaton.{Automaton, TreeEdge}
@@ -12,7 +11,6 @@ use Rattle.aut_core.specs.Surveys.{edges_from}
 use Rattle.aut_core.specs.declared.link.Link.{Link}
 use Rattle.aut_ops.proofs.Linked.{edges_filter}
 use Rattle.label_guards.specs.Store.{Has, label_in}
-use Rattle.label_guards.specs.declared.guard.Guard.{Guard}
 use Rattle.letter_classes.specs.SetClasses.{guards_from, set_edges, set_labels}
 
 -- what holds of each link holds of the links of a state

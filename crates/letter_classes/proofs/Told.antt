@@ -3,7 +3,7 @@ use Rattle.std.proofs.Common.{◌≡◌, ◌∙◌, ◌+◌, ◌<◌, ◌&&◌, 
 use Rattle.std.proofs.lemmas.Bool.{eq-eqb, eqb-true, lt-ltb, ltb-true, true≢false}
 use Rattle.std.proofs.lemmas.List.{append_assoc}
 use Rattle.std.proofs.lemmas.List.Elements.{All-contains}
-use Rattle.std.proofs.lemmas.List.Folds.{list_all-append, list_all-map}
+use Rattle.std.proofs.lemmas.List.Folds.{list_all-append}
 use Rattle.std.proofs.Math.Dec.{eqb, ltb}
 use Rattle.std.specs.List.{list_all, list_any}
 use Rattle.std.specs.Prelude.{flat_map, get_or}
@@ -31,7 +31,8 @@ there_again list g there p =
     by false all h at is = all ∙ sym (ap (λ b. b && p g) all)
 
 -- one link more
-module _ (links : List Link) (i : ℕ) (l : Link) (within : i < length links) (at : l ≡ get_or links i l) (old now : List Guard) (so : TellTheSame now (old ++ map (λ (x : Link). x.guard) (take i links))) where
+module _ (links : List Link) (i : ℕ) (l : Link) (within : i < length links) (at : l ≡ get_or links i l) (old now : List Guard)
+    (so : TellTheSame now (old ++ map (λ (x : Link). x.guard) (take i links))) where
   next : old ++ map (λ (x : Link). x.guard) (take (i + 1) links) ≡ (old ++ map (λ (x : Link). x.guard) (take i links)) ++ l.guard ∷ []
   next = ap (λ gs. old ++ gs) (sym (map_on (λ (x : Link). x.guard) links i l within at)) ∙ sym (append_assoc old (map (λ (x : Link). x.guard) (take i links)) (l.guard ∷ []))
 
@@ -63,6 +64,7 @@ told_there list all told g there = by (list_any same list) refl
   where
     same : Guard → Bool
     same h = eqb h.place g.place
+
     by : (b : Bool) → list_any same list ≡ b → Contains list g
     by true is =
         let found = any_found same list is in

@@ -1,12 +1,12 @@
 -- The guards that a class meets are those that are true at its valuation.
-use Rattle.std.proofs.Common.{◌≡◌, ◌∙◌, ◌&&◌, ◌+◌, ◌<◌, ◌==◌, ℕ, zero, All, Bool, true, false, Contains, List, [], ◌∷◌, ◌++◌, ap, arith, filter, get_or, inl, inr, length, map, nat_eq, refl, subst, sym, take}
+use Rattle.std.proofs.Common.{◌≡◌, ◌∙◌, ◌&&◌, ◌+◌, ◌<◌, ◌==◌, ℕ, zero, All, Bool, true, false, Contains, List, [], ◌∷◌, ◌++◌, ap, filter, get_or, inl, inr, length, map, nat_eq, refl, subst, sym, take}
 use Rattle.std.proofs.lemmas.Bool.{eq-eqb, true≢false}
 use Rattle.std.proofs.lemmas.List.Elements.{All-contains, Contains-append_cases, Contains-append_left, Contains-append_right}
 use Rattle.std.specs.Bool.{beq}
 use Rattle.std.specs.List.{list_any}
 use Rattle.aut_base.proofs.CanonicalTruth.{truth_on-label_of}
 use Rattle.aut_base.proofs.Lists.{take-push}
-use Rattle.aut_base.proofs.Members.{any_found, any_from, each_is, each_there, first_there, none_there, there_cases, there_filter, there_flat_map, there_map}
+use Rattle.aut_base.proofs.Members.{any_found, any_from, each_is, each_there, none_there, there_cases, there_filter, there_flat_map, there_map}
 use Rattle.aut_base.specs.Label.{LabelTree, truth}
 use Rattle.aut_base.specs.Valuation.{holds_in, truth_on}
 use Rattle.aut_core.specs.Core.{Core, IsCore, automaton_of}
@@ -98,7 +98,8 @@ module _ (c : Core) (core : IsCore c) (s : Store) (set : List ℕ) (k : ℕ) (cl
         by true e =
             let alike = sym (class_alike w size) ∙ e in
             let here = each_is (λ (t : LabelTree). beq (truth (holds_in v) t) (truth (holds_in w) t)) (set_labels (automaton_of c) set) (label_in c.store g) alike label_there in
-            let no : truth_on (label_in s g) w ≡ false = ap (λ (t : LabelTree). truth_on t w) (fits.keeps.labels g has) ∙ (sym (beq_same (truth (holds_in v) (label_in c.store g)) (truth (holds_in w) (label_in c.store g)) here) ∙ isnt) in
+            let no : truth_on (label_in s g) w ≡ false = ap (λ (t : LabelTree). truth_on t w) (fits.keeps.labels g has) ∙
+            (sym (beq_same (truth (holds_in v) (label_in c.store g)) (truth (holds_in w) (label_in c.store g)) here) ∙ isnt) in
             ap (λ b. b && truth_on (label_in s g) w) e ∙ no
 
     true_meets : truth_on (label_in c.store g) v ≡ true → AreApart s class g → ⊥

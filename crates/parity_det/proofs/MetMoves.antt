@@ -1,5 +1,6 @@
 -- The moves of a class, link by link.
-use Rattle.std.proofs.Common.{◌≡◌, ◌∙◌, ◌+◌, ◌<◌, ◌≤◌, ◌==◌, ℕ, All, Bool, true, false, cond, Contains, List, [], ◌∷◌, ◌++◌, Some, ap, filter, get_or, length, map, nat_eq, refl, slice_get, subst, sym, take}
+use Rattle.std.proofs.Common.{◌≡◌, ◌∙◌, ◌+◌, ◌<◌, ◌≤◌, ◌==◌, ℕ, All, Bool, true, false, cond, Contains, List, [], ◌∷◌, ◌++◌, Some, ap, filter}
+use Rattle.std.proofs.Common.{get_or, length, map, nat_eq, refl, slice_get, subst, sym, take}
 use Rattle.std.proofs.lemmas.Bool.{eqb-true}
 use Rattle.std.proofs.lemmas.List.{append-nil, append_assoc, map-append, take_all}
 use Rattle.std.proofs.lemmas.List.Elements.{All-contains, filter-append}
@@ -9,7 +10,7 @@ use Rattle.aut_base.proofs.Members.{each_there, from_filter, from_flat_map, from
 use Rattle.aut_base.proofs.Steps.{map_on}
 use Rattle.aut_base.specs.Automaton.{Automaton, IsEdgeOf, TreeEdge}
 use Rattle.aut_base.specs.Label.{truth}
-use Rattle.aut_base.specs.Valuation.{holds_in, truth_on}
+use Rattle.aut_base.specs.Valuation.{truth_on}
 use Rattle.aut_core.specs.Core.{Core, IsCore, automaton_of, edge_of}
 use Rattle.aut_core.specs.Surveys.{edges_from}
 use Rattle.aut_core.specs.declared.link.Link.{Link}

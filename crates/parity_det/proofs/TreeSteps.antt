@@ -37,7 +37,8 @@ module _ (c : Core) (core : IsCore c) (s : Store) (t : List Node) (k : ℕ) (g :
   met_class taken e = e ∙ ap (λ qs. map move_of (filter (λ e. truth_on e.label is.valuation) (set_edges (automaton_of c) qs))) root
 
 -- a system whose store has grown
-pub system_keeps : (c : Core) (s t : Store) → Keeps s t → same.Keeps (tree_moves (automaton_of c)) (tree_moves (automaton_of c)) (λ x. FitsStore c s (root_states x)) (λ x. FitsStore c t (root_states x))
+pub system_keeps : (c : Core) (s t : Store) → Keeps s t → same.Keeps (tree_moves (automaton_of c)) (tree_moves (automaton_of c)) (λ x. FitsStore c s (root_states x))
+    (λ x. FitsStore c t (root_states x))
     (λ x k g. IsClassGuard c s (root_states x) k g) (λ x k g. IsClassGuard c t (root_states x) k g)
 system_keeps c s t keeps = record { moves = refl; fits = λ x. fits_kept c s t keeps (root_states x); is_class = λ x. class_kept c s t keeps (root_states x) }
 

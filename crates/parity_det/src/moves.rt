@@ -47,12 +47,7 @@ fn count_links(a: &Automaton, set: &[u32]) -> usize
 }
 
 /// Adds the moves from this state.
-fn push_moves(
-    moves: &mut Moves,
-    a: &Automaton,
-    state: u32,
-    met: &GuardList,
-) -> Result<(), Memory>
+fn push_moves(moves: &mut Moves, a: &Automaton, state: u32, met: &GuardList) -> Result<(), Memory>
     requires { state < a.now.states }
     ensures { (v : List Bool) → AreMetAt a.now met.now v state → OnOk result (moves.new ≡ moves.old ++ map move_of (filter (λ e. truth_on e.label v) (edges_from state (automaton_of a.now).edges))) }
 {

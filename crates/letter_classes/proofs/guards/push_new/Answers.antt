@@ -1,4 +1,4 @@
-use Rattle.std.proofs.Common.{◌≡◌, ◌∙◌, Bool, true, List, nat_eq, subst, sym}
+use Rattle.std.proofs.Common.{◌≡◌, ◌∙◌, true, List, nat_eq, subst, sym}
 use Rattle.std.specs.List.{list_any}
 use Rattle.label_guards.specs.declared.guard.Guard.{Guard}
 use Rattle.letter_classes.proofs.Told.{listed}

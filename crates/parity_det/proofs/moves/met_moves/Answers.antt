@@ -1,4 +1,4 @@
-use Rattle.std.proofs.Common.{◌≡◌, All, arith, get_or, subst, sym}
+use Rattle.std.proofs.Common.{All, arith, get_or, subst, sym}
 use Rattle.std.proofs.lemmas.Option.{slice_get-get_or}
 use Rattle.aut_base.specs.Valuation.{holds_in}
 use Rattle.aut_core.specs.Core.{automaton_of}

@@ -10,7 +10,8 @@ links-preserved-then-not-contains c v are =
     let a = c.args.a.now in
     let g = c.link-item.result.guard in
     let isnt = subst (λ (list : List Guard). list_any (λ (y : Guard). nat_eq y.place g.place) list ≡ false) c.as_slice.ensures (sym c.contains.ensures.value ∙ c.if-not-contains.true) in
-    let told = link_told a c.args.met.now v c.args.state c.links.link-index c.links_of-link-items.result.now c.link-item.result are c.links_of-link-items.ensures c.links-test.true c.link-item.is false isnt in
+    let told = link_told a c.args.met.now v c.args.state c.links.link-index c.links_of-link-items.result.now c.link-item.result are c.links_of-link-items.ensures
+    c.links-test.true c.link-item.is false isnt in
     missed_link a (holds_in v) c.links_of-link-items.result.now c.links.link-index c.link-item.result c.links-test.true c.link-item.is c.args.moves.now c.links.moves (c.links.invariant v are) told
 
 pub links-preserved : goal.links-preserved
@@ -18,8 +19,10 @@ links-preserved c v are =
     let a = c.args.a.now in
     let g = c.link-item.result.guard in
     let is = subst (λ (list : List Guard). list_any (λ (y : Guard). nat_eq y.place g.place) list ≡ true) c.as_slice.ensures (sym c.contains.ensures.value ∙ c.if-not-contains.false) in
-    let told = link_told a c.args.met.now v c.args.state c.links.link-index c.links_of-link-items.result.now c.link-item.result are c.links_of-link-items.ensures c.links-test.true c.link-item.is true is in
-    met_link a (holds_in v) c.links_of-link-items.result.now c.links.link-index c.link-item.result c.links-test.true c.link-item.is c.args.moves.now c.links.moves c.push.new.self (c.links.invariant v are) told
+    let told = link_told a c.args.met.now v c.args.state c.links.link-index c.links_of-link-items.result.now c.link-item.result are c.links_of-link-items.ensures
+    c.links-test.true c.link-item.is true is in
+    met_link a (holds_in v) c.links_of-link-items.result.now c.links.link-index c.link-item.result c.links-test.true c.link-item.is c.args.moves.now c.links.moves
+    c.push.new.self (c.links.invariant v are) told
     (c.in_ok-push.ensures.ok ∙ ap (λ (b : Bool). c.links.moves ++ record { from = c.link-item.result.from; to = c.link-item.result.to; accepting = b } ∷ []) c.has.ensures)
 
 pub returns : goal.returns
