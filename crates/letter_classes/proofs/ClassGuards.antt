@@ -1,13 +1,17 @@
 -- The guards that a store gives for the classes of a set, and what becomes of them in a store that has grown.
-use Rattle.std.proofs.Common.{◌≡◌, ◌∙◌, ◌<◌, ◌≤◌, ℕ, zero, suc, All, Bool, Contains, List, [], ◌∷◌, Some, ap, arith, get_or, length, map, refl, slice_get, subst, sym}
+use Rattle.std.proofs.Common.{◌≡◌, ◌∙◌, ◌&&◌, ◌<◌, ◌≤◌, ℕ, zero, suc, Bool, Contains, List, [], ◌∷◌, Some, ap, arith, filter, get_or, length, map, nat_lt, not, refl, slice_get, subst, sym}
 use Rattle.std.proofs.lemmas.Bool.{true≢false}
 use Rattle.std.proofs.lemmas.List.Elements.{All-contains}
+use Rattle.std.proofs.lemmas.List.Folds.{list_all-map}
 use Rattle.std.proofs.lemmas.Option.{slice_get-get_or, slice_get_within}
+use Rattle.std.specs.Bool.{beq}
+use Rattle.std.specs.List.{list_all, list_any}
 use Rattle.aut_base.proofs.CanonicalTruth.{label_of-same}
 use Rattle.aut_base.proofs.Members.{placed_there}
 use Rattle.aut_base.proofs.ValuationLetters.{letter_of_holds}
-use Rattle.aut_base.specs.Label.{LabelTree, holds_at}
-use Rattle.aut_base.specs.Valuation.{IsLeast, holds_in, letter_of, truth_on}
+use Rattle.aut_base.specs.CanonicalLabel.{label_of}
+use Rattle.aut_base.specs.Label.{LabelTree, holds_at, truth}
+use Rattle.aut_base.specs.Valuation.{IsLeast, holds_in, letter_of, number_of, truth_on, valuations}
 use Rattle.aut_base.specs.Word.{NameSet}
 use Rattle.aut_core.proofs.Growth.{keeps_on}
 use Rattle.aut_core.proofs.Made.{label_in_settled}
@@ -20,17 +24,28 @@ use Rattle.label_guards.specs.Guards.{IsNeverMet}
 use Rattle.label_guards.specs.Leasts.{IsLeastLetter}
 use Rattle.label_guards.specs.Store.{Has, Keeps, Store, label_in}
 use Rattle.label_guards.specs.declared.guard.Guard.{Guard}
-use Rattle.letter_classes.specs.SetClasses.{FitsStore, IsClassGuard, class_label, set_classes, set_labels}
+use Rattle.letter_classes.proofs.SetGuards.{guards_has, guards_labels}
+use Rattle.letter_classes.specs.SetClasses.{FitsStore, IsClassGuard, TellTheSame, guards_from, set_classes, set_labels}
 
 map_same : {X Y : Type 0} (f g : X → Y) (xs : List X) → ((x : X) → Contains xs x → f x ≡ g x) → map f xs ≡ map g xs
 map_same f g [] same = refl
 map_same f g (x ∷ xs) same = λ i. same x (zero, omega arith, refl) i ∷ map_same f g xs (λ y there. same y (suc there.0, omega (arith, there.1), there.2)) i
 
--- the guard, in words of the number of propositions and the labels of the list
-abbrev IsHandle : Store → ℕ → List LabelTree → ℕ → Guard → Type 0
-IsHandle s n labels k g = (v : List Bool) × (slice_get (class_leasts n labels) k ≡ Some v) × Has s g × IsLeast s.names (truth_on (label_in s g)) v × (label_in s g ≡ class_label n labels v)
+-- what is alike, by what says which propositions hold
+abbrev Alike : Type 0
+Alike = (ℕ → Bool) → (ℕ → Bool) → Bool
 
-handle_at : (s : Store) (list classes : List Guard) (most : ℕ) → AreClasses s list most classes → (k : ℕ) (g : Guard) → slice_get classes k ≡ Some g → IsHandle s s.names (labels_in s list) k g
+-- the least valuations of what is alike
+abbrev leasts_of : ℕ → Alike → List (List Bool)
+leasts_of n alike = filter (λ v. not (list_any (λ w. nat_lt (number_of w) (number_of v) && alike (holds_in w) (holds_in v)) (valuations n))) (valuations n)
+
+-- the guard, in words of the number of propositions and of what is alike
+abbrev IsHandle : Store → ℕ → Alike → ℕ → Guard → Type 0
+IsHandle s n alike k g = (v : List Bool) × (slice_get (leasts_of n alike) k ≡ Some v) × Has s g × IsLeast s.names (truth_on (label_in s g)) v ×
+    (label_in s g ≡ label_of n (λ w. alike (holds_in v) (holds_in w)))
+
+handle_at : (s : Store) (list classes : List Guard) (most : ℕ) → AreClasses s list most classes → (k : ℕ) (g : Guard) → slice_get classes k ≡ Some g → IsHandle s s.names
+    (are_alike (labels_in s list)) k g
 handle_at s list classes most are k g at =
     let of = by_leasts s list most classes are in
     let leasts = class_leasts s.names (labels_in s list) in
@@ -44,24 +59,37 @@ handle_at s list classes most are k g at =
       sym (label_in_settled s g) ∙ label_of-same s.names (truth_on (label_in s g)) (λ w. are_alike (labels_in s list) (holds_in v) (holds_in w)) (λ w size. of.truth k g v at there (holds_in w)),
     )
 
-module _ (c : Core) (core : IsCore c) (set : List ℕ) (list : List Guard) (has : All (Has c.store) list) (labels : map (label_in c.store) list ≡ set_labels (automaton_of c) set) where
+module _ (c : Core) (core : IsCore c) (set : List ℕ) (list : List Guard) (told : TellTheSame list (guards_from c set)) where
   -- in a later store the labels are the same
-  labels_kept : (s : Store) → Keeps c.store s → labels_in s list ≡ set_labels (automaton_of c) set
-  labels_kept s keeps = map_same (label_in s) (label_in c.store) list (λ g there. keeps.labels g (All-contains (Has c.store) list g has there)) ∙ labels
+  labels_kept : (s : Store) → Keeps c.store s → labels_in s (guards_from c set) ≡ set_labels (automaton_of c) set
+  labels_kept s keeps =
+      map_same (label_in s) (label_in c.store) (guards_from c set) (λ g there. keeps.labels g (All-contains (Has c.store) (guards_from c set) g (guards_has c core set) there))
+      ∙ guards_labels c set
+
+  -- and so is what is alike
+  alike_on : (s : Store) → Keeps c.store s → (on also : ℕ → Bool) → are_alike (labels_in s list) on also ≡ are_alike (set_labels (automaton_of c) set) on also
+  alike_on s keeps on also =
+      let same : LabelTree → Bool = λ (t : LabelTree). beq (truth on t) (truth also t) in
+      list_all-map same (label_in s) list
+      ∙ (told (λ g. same (label_in s g))
+      ∙ (sym (list_all-map same (label_in s) (guards_from c set)) ∙ ap (list_all same) (labels_kept s keeps)))
+
+  alike_kept : (s : Store) → Keeps c.store s → are_alike (labels_in s list) ≡ are_alike (set_labels (automaton_of c) set)
+  alike_kept s keeps = λ i. λ on also. alike_on s keeps on also i
 
   names_kept : (s : Store) → Keeps c.store s → s.names ≡ length c.names
   names_kept s keeps = keeps.names ∙ core.parts.store_names
 
   leasts_kept : (s : Store) → Keeps c.store s → class_leasts s.names (labels_in s list) ≡ set_classes (automaton_of c) set
-  leasts_kept s keeps = λ i. class_leasts (names_kept s keeps i) (labels_kept s keeps i)
+  leasts_kept s keeps = λ i. leasts_of (names_kept s keeps i) (alike_kept s keeps i)
 
   pub class_guards : (s : Store) → Keeps c.store s → (most : ℕ) (classes : List Guard) → AreClasses s list most classes
       → moves.AreClasses (IsClassGuard c s set) (length (set_classes (automaton_of c) set)) classes
   class_guards s keeps most classes are = record {
     all = (by_leasts s list most classes are).count ∙ ap length (leasts_kept s keeps);
     each = λ k g at. (
-        let h = subst (λ (n : ℕ). IsHandle s n (set_labels (automaton_of c) set) k g) (names_kept s keeps)
-        (subst (λ (ls : List LabelTree). IsHandle s s.names ls k g) (labels_kept s keeps) (handle_at s list classes most are k g at)) in
+        let h = subst (λ (n : ℕ). IsHandle s n (are_alike (set_labels (automaton_of c) set)) k g) (names_kept s keeps)
+        (subst (λ (alike : Alike). IsHandle s s.names alike k g) (alike_kept s keeps) (handle_at s list classes most are k g at)) in
         record { valuation = h.0; at = h.1; has = h.2; least = h.3; label = h.4 }
         );
   }

@@ -1,3 +1,4 @@
 pub mod ClassGuards
 pub mod ClassTruths
 pub mod SetGuards
+pub mod Told

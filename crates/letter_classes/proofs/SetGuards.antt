@@ -3,7 +3,6 @@ use Rattle.std.proofs.Common.{◌≡◌, ◌∙◌, ◌+◌, ◌<◌, ◌==◌, 
 use Rattle.std.proofs.Common.{slice_get, subst, sym, take}
 use Rattle.std.proofs.lemmas.List.{map-append}
 use Rattle.std.proofs.lemmas.List.Elements.{All-contains, All-filter}
-use Rattle.std.specs.Prelude.{flat_map}
 use Rattle.aut_base.proofs.Members.{each_there, from_filter, from_flat_map, from_map, read_has}
 use Rattle.aut_base.proofs.Steps.{flat_map_on}
 use Rattle.aut_base.specs.Automaton.{Automaton, TreeEdge}
@@ -12,8 +11,7 @@ use Rattle.aut_core.specs.Surveys.{edges_from}
 use Rattle.aut_core.specs.declared.link.Link.{Link}
 use Rattle.aut_ops.proofs.Linked.{edges_filter}
 use Rattle.label_guards.specs.Store.{Has, label_in}
-use Rattle.label_guards.specs.declared.guard.Guard.{Guard}
-use Rattle.letter_classes.specs.SetClasses.{set_edges, set_labels}
+use Rattle.letter_classes.specs.SetClasses.{guards_from, set_edges, set_labels}
 
 -- what holds of each link holds of the links of a state
 pub row_link : (c : Core) → IsCore c → (state i : ℕ) (row : List Link) (l : Link) → row ≡ filter (λ l. l.from == state) c.links → i < length row → l ≡ get_or row i l → IsLinkOf c l
@@ -22,10 +20,6 @@ row_link c core state i row l e within at = read_has (IsLinkOf c) row i l (subst
 -- the edges of one state more
 pub set_edges_on : (b : Automaton) (set : List ℕ) (k state : ℕ) → slice_get set k ≡ Some state → set_edges b (take k set) ++ edges_from state b.edges ≡ set_edges b (take (k + 1) set)
 set_edges_on b set k state at = flat_map_on (λ q. edges_from q b.edges) set k state at
-
--- guards of the links that leave the states of a set
-abbrev pub guards_from : Core → List ℕ → List Guard
-guards_from c qs = flat_map (λ q. map (λ (l : Link). l.guard) (filter (λ l. l.from == q) c.links)) qs
 
 row_labels : (c : Core) (row : List Link) → map (label_in c.store) (map (λ (l : Link). l.guard) row) ≡ map (λ (e : TreeEdge). e.label) (map (edge_of c.store) row)
 row_labels c [] = refl

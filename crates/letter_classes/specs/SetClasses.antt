@@ -1,11 +1,13 @@
 -- The edges from a set of states, and the classes of letters that they tell apart.
-use Rattle.std.specs.Prelude.{◌≡◌, ◌<◌, ℕ, All, Bool, List, Some, flat_map, length, map, slice_get}
+use Rattle.std.specs.Prelude.{◌≡◌, ◌<◌, ◌==◌, ℕ, All, Bool, List, Some, filter, flat_map, length, map, slice_get}
+use Rattle.std.specs.List.{list_all}
 use Rattle.aut_base.specs.Automaton.{Automaton, TreeEdge}
 use Rattle.aut_base.specs.CanonicalLabel.{label_of}
 use Rattle.aut_base.specs.Label.{LabelTree}
 use Rattle.aut_base.specs.Valuation.{IsLeast, holds_in, truth_on}
 use Rattle.aut_core.specs.Core.{Core, automaton_of}
 use Rattle.aut_core.specs.Surveys.{edges_from}
+use Rattle.aut_core.specs.declared.link.Link.{Link}
 use Rattle.label_guards.specs.ClassLeasts.{are_alike, class_leasts}
 use Rattle.label_guards.specs.Store.{Has, Keeps, Store, label_in}
 use Rattle.label_guards.specs.declared.guard.Guard.{Guard}
@@ -16,6 +18,15 @@ set_edges b set = flat_map (λ q. edges_from q b.edges) set
 
 abbrev pub set_labels : Automaton → List ℕ → List LabelTree
 set_labels b set = map (λ e. e.label) (set_edges b set)
+
+-- the guards of the links that leave states of the set, in the order of the set
+abbrev pub guards_from : Core → List ℕ → List Guard
+guards_from c set = flat_map (λ q. map (λ (l : Link). l.guard) (filter (λ l. l.from == q) c.links)) set
+
+-- Whatever is asked of each guard, all of the one list pass exactly where all of the other do: they are the same guards, in some
+-- order and each as often as may be.
+abbrev pub TellTheSame : List Guard → List Guard → Type 0
+TellTheSame one other = (p : Guard → Bool) → list_all p one ≡ list_all p other
 
 -- the least valuations of the classes that the labels of these edges tell apart, in order
 abbrev pub set_classes : Automaton → List ℕ → List (List Bool)

@@ -3,7 +3,8 @@ pub mod DualSets
 pub mod Explored
 pub mod FewNodes
 pub mod Formed
-pub mod LetterMoves
+pub mod MetGuards
+pub mod MetMoves
 pub mod ParityLaws
 pub mod TreeSteps
 pub mod Widths

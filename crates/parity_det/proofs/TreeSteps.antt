@@ -1,23 +1,22 @@
--- The step of a tree for a class, under the letter that the store picks for its guard.
-use Rattle.std.proofs.Common.{◌≡◌, ◌∙◌, ◌<◌, ◌≤◌, ℕ, Err, List, ap, filter, length, map, refl, slice_get, subst, sym}
+-- The step of a tree for a class, under the moves that its valuation allows.
+use Rattle.std.proofs.Common.{◌≡◌, ◌∙◌, ◌<◌, ◌≤◌, ℕ, All, Err, List, ap, filter, length, map, refl, slice_get, subst, sym}
 use Rattle.std.proofs.lemmas.Option.{same_Some}
 use Rattle.aut_base.specs.Automaton.{Automaton}
-use Rattle.aut_base.specs.Label.{holds_at, truth}
-use Rattle.aut_base.specs.Valuation.{holds_in}
-use Rattle.aut_base.specs.Word.{NameSet}
+use Rattle.aut_base.specs.Valuation.{truth_on}
 use Rattle.aut_base.specs.declared.limit.TheConstants.{MOST_NODES}
 use Rattle.aut_core.specs.Core.{Core, IsCore, automaton_of}
+use Rattle.exploration.specs.Moves as same
 use Rattle.exploration.specs.Moves.{Fails, Gives, IsStep, Move}
 use Rattle.exploration.specs.declared.fault.StepFault.{StepFault}
-use Rattle.label_guards.specs.Leasts.{IsLeastLetter}
-use Rattle.label_guards.specs.Store.{Store}
+use Rattle.label_guards.specs.Store.{Keeps, Store}
 use Rattle.label_guards.specs.declared.guard.Guard.{Guard}
-use Rattle.letter_classes.proofs.ClassGuards.{letter_holds}
-use Rattle.letter_classes.specs.SetClasses.{FitsStore, IsClassGuard, set_edges}
+use Rattle.letter_classes.proofs.ClassGuards.{class_kept, fits_kept}
+use Rattle.letter_classes.specs.SetClasses.{FitsStore, IsClassGuard, TellTheSame, guards_from, set_edges}
 use Rattle.parity_det.proofs.Explored.{large_fails, small_given}
-use Rattle.parity_det.specs.Determinisation.{class_moves, step_at, tree_classes, unless_large}
+use Rattle.parity_det.proofs.MetGuards.{met_at}
+use Rattle.parity_det.specs.Determinisation.{class_moves, step_at, tree_classes, tree_moves, unless_large}
 use Rattle.parity_det.specs.Faults.{step_fault}
-use Rattle.parity_det.specs.Systems.{IsClassEvent, letter_moves}
+use Rattle.parity_det.specs.Systems.{AreMet, AreMetAt, IsClassEvent}
 use Rattle.parity_laws.specs.Buchi.{move_of}
 use Rattle.safra_laws.specs.Rounds.{next_tree}
 use Rattle.safra_trees.specs.Events.{event_of}
@@ -28,15 +27,25 @@ use Rattle.safra_trees.specs.declared.fault.TreeFault.{TreeFault}
 use Rattle.safra_trees.specs.declared.fault.TreeFault.TheVariants as tree
 use Rattle.safra_trees.specs.declared.moves.Move as moves
 
+-- The moves under the guards that the class meets, of a set that is the root's states.
 module _ (c : Core) (core : IsCore c) (s : Store) (t : List Node) (k : ℕ) (g : Guard) (fits : FitsStore c s (root_states t)) (is : IsClassGuard c s (root_states t) k g)
-    (letter : NameSet) (least : IsLeastLetter s c.names g letter) (taken : List moves.Move) (e : taken ≡ letter_moves (automaton_of c) (root_states t) letter) where
+    (set : List ℕ) (root : set ≡ root_states t) (list met : List Guard) (told : TellTheSame list (guards_from c set)) (are : AreMet s g list met) where
+  pub met_root : All (AreMetAt c met is.valuation) set
+  met_root = subst (All (AreMetAt c met is.valuation)) (sym root) (met_at c core s (root_states t) k g fits is list met (subst (λ (qs : List ℕ). TellTheSame list (guards_from c qs)) root told) are)
+
+  pub met_class : (taken : List moves.Move) → taken ≡ map move_of (filter (λ e. truth_on e.label is.valuation) (set_edges (automaton_of c) set)) → taken ≡ class_moves (automaton_of c) t is.valuation
+  met_class taken e = e ∙ ap (λ qs. map move_of (filter (λ e. truth_on e.label is.valuation) (set_edges (automaton_of c) qs))) root
+
+-- a system whose store has grown
+pub system_keeps : (c : Core) (s t : Store) → Keeps s t → same.Keeps (tree_moves (automaton_of c)) (tree_moves (automaton_of c)) (λ x. FitsStore c s (root_states x))
+    (λ x. FitsStore c t (root_states x))
+    (λ x k g. IsClassGuard c s (root_states x) k g) (λ x k g. IsClassGuard c t (root_states x) k g)
+system_keeps c s t keeps = record { moves = refl; fits = λ x. fits_kept c s t keeps (root_states x); is_class = λ x. class_kept c s t keeps (root_states x) }
+
+module _ (c : Core) (core : IsCore c) (s : Store) (t : List Node) (k : ℕ) (g : Guard) (fits : FitsStore c s (root_states t)) (is : IsClassGuard c s (root_states t) k g)
+    (taken : List moves.Move) (moves_are : taken ≡ class_moves (automaton_of c) t is.valuation) where
   abbrev a : Automaton
   a = automaton_of c
-
-  moves_are : taken ≡ class_moves a t is.valuation
-  moves_are =
-      let same : holds_at c.names letter ≡ holds_in is.valuation = letter_holds c core s (root_states t) k g fits is letter least in
-      e ∙ (λ j. map move_of (filter (λ d. truth (same j) d.label) (set_edges a (root_states t))))
 
   step_is : step_at a t (slice_get (tree_classes a t) k) ≡ unless_large (next_tree c.states taken t)
   step_is = ap (step_at a t) is.at ∙ ap (λ ms. unless_large (next_tree c.states ms t)) (sym moves_are)

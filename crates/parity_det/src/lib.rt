@@ -10,6 +10,7 @@ mod fault;
 mod form;
 mod law;
 mod marks;
+mod met;
 mod moves;
 mod trees;
 

@@ -34,7 +34,7 @@ pub(crate) fn marked_links(
     requires few { most ≤ MOST_NODES }
     ensures { IfOk result (λ links. links ≡ map (link_of most) edges.now) }
 {
-    let mut links = Links::new(alloc);
+    let mut links = Links::from_vec(Vec::with_capacity(alloc, edges.len())?);
     'edges: for edge in edges {
         let mut marks = Marks::new(alloc);
         marks.push(mark(edge.note, most) as u32)?;

@@ -3,12 +3,13 @@
 ghost use Rattle.std.specs.Prelude.{◌≡◌};
 
 use crate::fault::step_fault;
-use crate::moves::letter_moves;
+use crate::met::met_guards;
+use crate::moves::met_moves;
 use aut_base::Memory;
 use aut_core::Automaton;
 use exploration::{StepFault, System};
 use label_guards::{Guard, Guards};
-use letter_classes::classes_of_set;
+use letter_classes::{classes_of_set, set_guards};
 use safra_trees::{Event, SafraTree};
 use std::alloc::Global;
 
@@ -76,10 +77,10 @@ impl<'a> System for Trees<'a> {
         class: Guard,
     ) -> Result<Option<(SafraTree, Event)>, StepFault> {
         self.automaton.whole();
-        let Some(letter) = self.guards.pick(alloc, self.automaton.names(), class)? else {
-            unreachable!()
-        };
-        let moves = letter_moves(alloc, self.automaton, thing.root_states(), &letter)?;
+        let set = thing.root_states();
+        let list = set_guards(alloc, self.automaton, set)?;
+        let met = met_guards(alloc, &mut self.guards, &list, class)?;
+        let moves = met_moves(alloc, self.automaton, set, &met)?;
         match safra_trees::step(alloc, self.automaton.states(), thing, &moves) {
             Ok(made) => Ok(Some(made)),
             Err(fault) => Err(step_fault(fault)),

@@ -125,12 +125,13 @@ pub(crate) fn new_names(alloc: Global, stay: &[bool]) -> Result<NewNames, AllocE
     Ok(NewNames { ranks, count })
 }
 
-/// The parents of the names that stay, by their new names.
+/// The parents of the names that stay, by their new names. There is room for so many at once.
 pub(crate) fn new_parents(
     alloc: Global,
     parents: &[u32],
     stay: &[bool],
     ranks: &[u32],
+    count: u32,
 ) -> Result<Vec<u32>, AllocError>
     requires few { length parents.now ≤ MOST_NODES }
     requires lower { (x : ℕ) → x < length parents.now → at parents.now x ≤ x }
@@ -138,8 +139,7 @@ pub(crate) fn new_parents(
     requires ranks { length ranks.now ≡ length stay.now }
     ensures { IfOk result (λ made. made.items ≡ map (λ y. at ranks.now (grown_parent parents.now y)) (names (flag stay.now) (length stay.now))) }
 {
-    let count = stay.iter().filter(|stays| **stays).count();
-    let mut made = Vec::with_capacity(alloc, count)?;
+    let mut made = Vec::with_capacity(alloc, count as usize)?;
     'names: for name in 0..stay.len() {
         if !stay[name] {
             continue;
@@ -209,12 +209,9 @@ pub(crate) fn new_places(
     ensures states { IfOk result (λ made. made.states.items ≡ names (λ s. nat_lt (at claims.now s) (length homes.now)) (length claims.now)) }
     ensures places { IfOk result (λ made. made.places.items ≡ map (λ s. at ranks.now (at homes.now (at claims.now s))) (names (λ s. nat_lt (at claims.now s) (length homes.now)) (length claims.now))) }
 {
-    let count = claims
-        .iter()
-        .filter(|claim| (**claim as usize) < homes.len())
-        .count();
-    let mut states = Vec::with_capacity(alloc, count)?;
-    let mut places = Vec::with_capacity(alloc, count)?;
+    let room = claimed(claims, homes.len());
+    let mut states = Vec::with_capacity(alloc, room)?;
+    let mut places = Vec::with_capacity(alloc, room)?;
     'states: for state in 0..claims.len() {
         let claim = claims[state] as usize;
         if claim >= homes.len() {
@@ -224,4 +221,13 @@ pub(crate) fn new_places(
         places.push(ranks[homes[claim] as usize])?;
     }
     Ok(NewPlaces { states, places })
+}
+
+/// How many states some name claims, so that their lists take no more room than that.
+fn claimed(claims: &[u32], names: usize) -> usize {
+    let mut count = 0usize;
+    'states: for claim in claims {
+        count = count.saturating_add(usize::from((*claim as usize) < names));
+    }
+    count
 }

@@ -40,7 +40,13 @@ pub fn step(
     if names.count > MOST_NODES {
         return Err(TreeFault::Nodes);
     }
-    let parents = new_parents(alloc, tree.parents.as_slice(), &found.stay, &names.ranks)?;
+    let parents = new_parents(
+        alloc,
+        tree.parents.as_slice(),
+        &found.stay,
+        &names.ranks,
+        names.count,
+    )?;
     let made = new_places(alloc, &found.claims, &found.homes, &names.ranks)?;
     let event = Event {
         red: least_gone(&found.stay, tree.nodes()),

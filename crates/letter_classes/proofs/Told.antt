@@ -1,0 +1,75 @@
+-- Lists that tell the same of each guard, though the one has each guard once.
+use Rattle.std.proofs.Common.{◌≡◌, ◌∙◌, ◌+◌, ◌<◌, ◌&&◌, ℕ, All, Bool, true, false, Contains, List, [], ◌∷◌, ◌++◌, Some, ap, length, map, not, refl, slice_get, subst, sym, take}
+use Rattle.std.proofs.lemmas.Bool.{eq-eqb, eqb-true, lt-ltb, ltb-true, true≢false}
+use Rattle.std.proofs.lemmas.List.{append_assoc}
+use Rattle.std.proofs.lemmas.List.Elements.{All-contains}
+use Rattle.std.proofs.lemmas.List.Folds.{list_all-append}
+use Rattle.std.proofs.Math.Dec.{eqb, ltb}
+use Rattle.std.specs.List.{list_all, list_any}
+use Rattle.std.specs.Prelude.{flat_map, get_or}
+use Rattle.aut_base.proofs.Members.{any_found, each_from, each_is, each_there, none_at}
+use Rattle.aut_base.proofs.Steps.{flat_map_on, map_on}
+use Rattle.aut_base.proofs.Truth.{and-true}
+use Rattle.aut_core.specs.declared.link.Link.{Link}
+use Rattle.label_guards.specs.Store.{Has, Store, places}
+use Rattle.label_guards.specs.declared.guard.Guard.{Guard}
+use Rattle.letter_classes.specs.SetClasses.{TellTheSame}
+
+-- guards of one place are the same
+pub same_place : (g h : Guard) → eqb g.place h.place ≡ true → g ≡ h
+same_place g h e = λ i. record { place = eqb-true g.place h.place e i }
+
+-- a guard that is there needn't be added
+there_again : (list : List Guard) (g : Guard) → list_any (λ (y : Guard). eqb y.place g.place) list ≡ true → TellTheSame list (list ++ g ∷ [])
+there_again list g there p =
+    let found = any_found (λ (y : Guard). eqb y.place g.place) list there in
+    let is : found.0 ≡ g = same_place found.0 g found.2 in
+    by (list_all p list) refl found.0 found.1 is ∙ sym (list_all-append p list (g ∷ []) ∙ ap (λ b. list_all p list && b) (and-true (p g)))
+  where
+    by : (b : Bool) → list_all p list ≡ b → (h : Guard) → Contains list h → h ≡ g → list_all p list ≡ (list_all p list && p g)
+    by true all h at is = all ∙ sym (ap (λ b. b && p g) all ∙ (ap p (sym is) ∙ each_is p list h all at))
+    by false all h at is = all ∙ sym (ap (λ b. b && p g) all)
+
+-- one link more
+module _ (links : List Link) (i : ℕ) (l : Link) (within : i < length links) (at : l ≡ get_or links i l) (old now : List Guard)
+    (so : TellTheSame now (old ++ map (λ (x : Link). x.guard) (take i links))) where
+  next : old ++ map (λ (x : Link). x.guard) (take (i + 1) links) ≡ (old ++ map (λ (x : Link). x.guard) (take i links)) ++ l.guard ∷ []
+  next = ap (λ gs. old ++ gs) (sym (map_on (λ (x : Link). x.guard) links i l within at)) ∙ sym (append_assoc old (map (λ (x : Link). x.guard) (take i links)) (l.guard ∷ []))
+
+  pub pushed : (new : List Guard) → new ≡ now ++ l.guard ∷ [] → TellTheSame new (old ++ map (λ (x : Link). x.guard) (take (i + 1) links))
+  pushed new e p =
+      ap (list_all p) e ∙ (list_all-append p now (l.guard ∷ []) ∙ (ap (λ b. b && list_all p (l.guard ∷ [])) (so p)
+      ∙ (sym (list_all-append p (old ++ map (λ (x : Link). x.guard) (take i links)) (l.guard ∷ [])) ∙ ap (list_all p) (sym next))))
+
+  pub listed : list_any (λ (y : Guard). eqb y.place l.guard.place) now ≡ true → TellTheSame now (old ++ map (λ (x : Link). x.guard) (take (i + 1) links))
+  listed there p = there_again now l.guard there p ∙ pushed (now ++ l.guard ∷ []) refl p
+
+-- what stands in a store, by places
+pub told_has : (s : Store) (list all : List Guard) → TellTheSame list all → All (Has s) all → All (Has s) list
+told_has s list all told has =
+    let p : Guard → Bool = λ (g : Guard). ltb g.place (places s) in
+    let passes : list_all p list ≡ true = told p ∙ each_from p all (λ g at. lt-ltb g.place (places s) (All-contains (Has s) all g has at)) in
+    each_there (Has s) list (λ g at. ltb-true g.place (places s) (each_is p list g passes at))
+
+-- one state more
+pub state_told : (f : ℕ → List Guard) (set : List ℕ) (k state : ℕ) (now new row : List Guard) → slice_get set k ≡ Some state → row ≡ f state
+    → TellTheSame now (flat_map f (take k set)) → TellTheSame new (now ++ row) → TellTheSame new (flat_map f (take (k + 1) set))
+state_told f set k state now new row at is so e p =
+    e p ∙ (list_all-append p now row ∙ (ap (λ b. b && list_all p row) (so p)
+    ∙ (sym (list_all-append p (flat_map f (take k set)) row) ∙ ap (list_all p) (ap (λ r. flat_map f (take k set) ++ r) is ∙ flat_map_on f set k state at))))
+
+-- a guard of the one list is in the other
+pub told_there : (list all : List Guard) → TellTheSame list all → (g : Guard) → Contains all g → Contains list g
+told_there list all told g there = by (list_any same list) refl
+  where
+    same : Guard → Bool
+    same h = eqb h.place g.place
+
+    by : (b : Bool) → list_any same list ≡ b → Contains list g
+    by true is =
+        let found = any_found same list is in
+        subst (λ (h : Guard). Contains list h) (same_place found.0 g found.2) found.1
+    by false isnt =
+        let none : list_all (λ h. not (same h)) list ≡ true = each_from (λ h. not (same h)) list (λ h at. ap not (none_at same list h isnt at)) in
+        let no : not (same g) ≡ true = each_is (λ h. not (same h)) all g (sym (told (λ h. not (same h))) ∙ none) there in
+        absurd (true≢false (sym no ∙ ap not (eq-eqb g.place g.place refl)))

@@ -1,5 +1,0 @@
-use Rattle.std.proofs.Common.{◌≡◌, ◌++◌, map, take}
-use Rattle.letter_classes.proofs.guards.push_guards.Given as goal
-
-abbrev pub invariant-links : goal.invariant-links
-invariant-links l = l.list ≡ l.fn.list ++ map (λ x. x.guard) (take l.link-index l.links)
