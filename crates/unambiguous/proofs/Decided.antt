@@ -1,8 +1,9 @@
 -- The flagged square accepts no lasso word exactly where the automaton is unambiguous.
 use Rattle.std.proofs.Common.{◌≡◌, ◌≢◌, ◌∙◌, ◌⊎◌, suc, ◌==◌, ℕ, ◌+◌, ◌*◌, ◌<◌, ◌&&◌, ◌||◌, Bool, true, false, not, List}
 use Rattle.std.proofs.Common.{[], ◌∷◌, ◌++◌, All, Option, Some, ap, append_assoc, arith, inl, inr, length, map, refl, slice_get, subst, sym}
+use Rattle.std.proofs.Math.Bool.{or_assoc}
 use Rattle.std.proofs.Math.Nat.{mul_comm}
-use Rattle.std.proofs.lemmas.Bool.{and_from, and_parts, cases_Bool, eq-eqb, eqb-true, false≢true, not-false, or_cases, or_left, or_parts, true≢false}
+use Rattle.std.proofs.lemmas.Bool.{and_from, and_parts, cases_Bool, eq-eqb, eqb-true, false≢true, not-false, or_cases, or_left, or_parts, or_right, true≢false}
 use Rattle.std.proofs.lemmas.List.Elements.{All-contains}
 use Rattle.std.proofs.lemmas.Nat.{mul-lt}
 use Rattle.std.proofs.lemmas.Option.{same_Some}
@@ -22,6 +23,7 @@ use Rattle.aut_base.specs.Word.{NameSet, copies}
 use Rattle.aut_ops.proofs.CycleMarks.{AgreeBelow, AgreeRaised, met_below, met_raised}
 use Rattle.unambiguous.proofs.Flags.{flagged_first, flagged_second, flagged_top}
 use Rattle.unambiguous.proofs.Nth.{cycle_item, stem_item}
+use Rattle.unambiguous.proofs.Starts.{places_fix_start}
 use Rattle.unambiguous.proofs.Tracks.{Run, as_long, later, run_of, some_edges}
 use Rattle.lasso_emptiness.specs.Emptiness.{AcceptsNothing}
 use Rattle.unambiguous.specs.Laws.{SquareAccepts, SquareDecides}
@@ -72,9 +74,10 @@ same_places (m ∷ ms) (n ∷ ns) same =
     let head : m ≡ n = eqb-true m n (not-false (m == n) both.0) in
     ap (λ k. k ∷ ms) head ∙ ap (λ ks. n ∷ ks) (same_places ms ns both.1)
 
-or_assoc : (b c d : Bool) → ((b || c) || d) ≡ (b || (c || d))
-or_assoc true c d = refl
-or_assoc false c d = refl
+nth_same : (xs ys us vs : List ℕ) → (differ xs ys || differ us vs) ≡ false → (n : ℕ) → nth xs us n ≡ nth ys vs n
+nth_same xs ys us vs same n =
+    let both = or_parts (differ xs ys) (differ us vs) same in
+    ap (λ ws. nth ws us n) (same_places xs ys both.0) ∙ ap (λ cs. nth ys cs n) (same_places us vs both.1)
 
 pub marks_here : (a : Automaton) (m : ℕ) (e : TreeEdge) → slice_get a.edges m ≡ Some e → e.marks ≡ marks_at a m
 marks_here a m e at = ap (λ (o : Option TreeEdge). option_map_or (λ (e : TreeEdge). e.marks) o []) (sym at)
@@ -213,7 +216,7 @@ module _ (a s : Automaton) (triple : ℕ → Option (ℕ × ℕ × Bool)) (forme
   two_runs : (u v : List NameSet) → Accepts s u v → TwoRuns a u v
   two_runs u v r =
       let start = square.from_start r.start r.is_start in
-      let way = parts r.start start.0 start.1 false (u ++ copies r.turns v) r.way r.state start.4 r.leads in
+      let way = parts r.start start.0 start.1 start.2 (u ++ copies r.turns v) r.way r.state start.6 r.leads in
       let round = parts r.state way.first way.second way.flag (copies r.rounds v) r.cycle r.state way.to r.returns in
       let same : (round.first, round.second, round.flag) ≡ (way.first, way.second, way.flag) = same_Some (round.first, round.second, round.flag) (way.first, way.second, way.flag)
       (sym round.to ∙ way.to) in
@@ -227,7 +230,7 @@ module _ (a s : Automaton) (triple : ℕ → Option (ℕ × ℕ × Bool)) (forme
         rounds = r.rounds;
         way = way.firsts;
         cycle = round.firsts;
-        is_start = start.2;
+        is_start = start.3;
         leads = way.one;
         positive = r.positive;
         returns = subst (λ t. IsTrack a way.first (copies r.rounds v) round.firsts t) (ap (λ (t : ℕ × ℕ × Bool). t.0) same) round.one;
@@ -240,7 +243,7 @@ module _ (a s : Automaton) (triple : ℕ → Option (ℕ × ℕ × Bool)) (forme
         rounds = r.rounds;
         way = way.seconds;
         cycle = round.seconds;
-        is_start = start.3;
+        is_start = start.4;
         leads = way.two;
         positive = r.positive;
         returns = subst (λ t. IsTrack a way.second (copies r.rounds v) round.seconds t) (ap (λ (t : ℕ × ℕ × Bool). t.1) same) round.two;
@@ -248,9 +251,17 @@ module _ (a s : Automaton) (triple : ℕ → Option (ℕ × ℕ × Bool)) (forme
       } in
       let long = as_long a start.0 (u ++ copies r.turns v) way.firsts way.first way.one ∙ sym (as_long a start.1 (u ++ copies r.turns v) way.seconds way.second way.two) in
       let size = as_long a way.first (copies r.rounds v) round.firsts round.first round.one ∙ sym (as_long a way.second (copies r.rounds v) round.seconds round.second round.two) in
-      let flags : (differ way.firsts way.seconds || differ round.firsts round.seconds) ≡ true = ap (λ b. b || differ round.firsts round.seconds) (sym way.is_flag) ∙
-      (sym round.is_flag ∙ round.seen others.1) in
-      let apart = nth_apart way.firsts way.seconds round.firsts round.seconds long size flags in
+      let apart_way : Bool = differ way.firsts way.seconds in
+      let apart_round : Bool = differ round.firsts round.seconds in
+      let flags : (start.2 || (apart_way || apart_round)) ≡ true = sym (or_assoc start.2 apart_way apart_round) ∙
+      (ap (λ b. b || apart_round) (sym way.is_flag) ∙ (sym round.is_flag ∙ round.seen others.1)) in
+      -- if no edges differ, then the starts do, but the first edges fix these
+      let apart : (n : ℕ) × (nth one.way one.cycle n ≢ nth two.way two.cycle n) = elim (cases_Bool (apart_way || apart_round)) [
+        | inl some ↦ nth_apart way.firsts way.seconds round.firsts round.seconds long size some
+        | inr none ↦
+            (let set : start.2 ≡ true = sym (or-false start.2) ∙ (ap (λ b. start.2 || b) (sym none) ∙ flags) in
+            absurd (start.5 set (places_fix_start a u v r.endless one two (nth_same way.firsts way.seconds round.firsts round.seconds none))))
+      ] in
       record { one = one; two = two; place = apart.0; differ = apart.1 }
 
   accepts_none : IsUnambiguous a → AcceptsNothing s
@@ -262,9 +273,11 @@ module _ (a s : Automaton) (triple : ℕ → Option (ℕ × ℕ × Bool)) (forme
       → met (map (marks_at a) t.cycle) a.formula ≡ true → (differ r.way t.way || differ r.cycle t.cycle) ≡ true → Accepts s u v
   accepted u v endless turns rounds positive r t mine his other =
       let start = square.there_start r.start t.start r.is_start t.is_start in
-      let way = zip start.0 r.start t.start r.state t.state false (u ++ copies turns v) r.way t.way start.2 r.leads t.leads in
-      let once = zip way.state r.state t.state r.state t.state (differ r.way t.way) (copies rounds v) r.cycle t.cycle way.to r.returns t.returns in
-      let up : triple once.state ≡ Some (r.state, t.state, true) = once.to ∙ ap (λ (c : Bool). Some (r.state, t.state, c)) other in
+      let way = zip start.0 r.start t.start r.state t.state start.1 (u ++ copies turns v) r.way t.way start.3 r.leads t.leads in
+      let once = zip way.state r.state t.state r.state t.state (start.1 || differ r.way t.way) (copies rounds v) r.cycle t.cycle way.to r.returns t.returns in
+      let set : ((start.1 || differ r.way t.way) || differ r.cycle t.cycle) ≡ true = or_assoc start.1 (differ r.way t.way) (differ r.cycle t.cycle) ∙
+      or_right start.1 (differ r.way t.way || differ r.cycle t.cycle) other in
+      let up : triple once.state ≡ Some (r.state, t.state, true) = once.to ∙ ap (λ (c : Bool). Some (r.state, t.state, c)) set in
       let again = zip once.state r.state t.state r.state t.state true (copies rounds v) r.cycle t.cycle up r.returns t.returns in
       let back : again.state ≡ once.state = square.alone again.state once.state r.state t.state true again.to up in
       let word : (u ++ copies turns v) ++ copies rounds v ≡ u ++ copies (turns + rounds) v = append_assoc u (copies turns v) (copies rounds v) ∙ ap (λ w. u ++ w) (sym (copies-add turns rounds v)) in
@@ -279,7 +292,7 @@ module _ (a s : Automaton) (triple : ℕ → Option (ℕ × ℕ × Bool)) (forme
         rounds = rounds;
         way = way.edges ++ once.edges;
         cycle = again.edges;
-        is_start = start.1;
+        is_start = start.2;
         leads = subst P word (path_join s start.0 way.state once.state (u ++ copies turns v) (copies rounds v) way.edges once.edges way.goes once.goes);
         positive = positive;
         returns = subst Q back again.goes;
@@ -309,9 +322,7 @@ module _ (a s : Automaton) (triple : ℕ → Option (ℕ × ℕ × Bool)) (forme
       elim (cases_Bool (differ mine.run.way his.run.way || differ mine.run.cycle his.run.cycle)) [
         | inl differs ↦ inl (accepted u v endless (r.turns + t.turns) (t.rounds * r.rounds) positive mine.run other (mine.alike a.formula ∙ r.meets) (his.alike a.formula ∙ t.meets) differs)
         | inr same ↦
-            (let both = or_parts (differ mine.run.way his.run.way) (differ mine.run.cycle his.run.cycle) same in
-            inr (λ n. sym (mine.same n) ∙ (ap (λ ws. nth ws mine.run.cycle n) (same_places mine.run.way his.run.way both.0) ∙
-            (ap (λ cs. nth his.run.way cs n) (same_places mine.run.cycle his.run.cycle both.1) ∙ his.same n))))
+            inr (λ n. sym (mine.same n) ∙ (nth_same mine.run.way his.run.way mine.run.cycle his.run.cycle same n ∙ his.same n))
       ]
 
   unambiguous : AcceptsNothing s → IsUnambiguous a

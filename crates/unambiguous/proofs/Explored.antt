@@ -1,7 +1,7 @@
 -- What an explored square is: the flagged square of the automaton, over all pairs that are reached.
-use Rattle.std.proofs.Common.{◌≡◌, ◌≢◌, ◌∙◌, ◌+◌, ◌<◌, ◌≤◌, ◌&&◌, ℕ, Bool, true, false, cond, List, [], ◌∷◌, ◌++◌}
+use Rattle.std.proofs.Common.{◌≡◌, ◌≢◌, ◌∙◌, ◌==◌, ◌+◌, ◌<◌, ◌≤◌, ◌&&◌, ℕ, Bool, true, false, not, cond, List, [], ◌∷◌, ◌++◌}
 use Rattle.std.proofs.Common.{All, AllPairs, Contains, Some, ap, arith, get_or, inl, inr, length, map, length-append, refl, slice_get, subst, sym}
-use Rattle.std.proofs.lemmas.Bool.{and_parts, cases_lt}
+use Rattle.std.proofs.lemmas.Bool.{and_parts, cases_lt, eq-eqb, true≢false}
 use Rattle.std.proofs.lemmas.List.Elements.{All-append, All-contains, All-map, All-weaker, Contains-append_left, Contains-get_or}
 use Rattle.std.proofs.lemmas.List.FromFn.{get_or-range_with_len, length-range_with_len}
 use Rattle.std.proofs.lemmas.Option.{same_Some, slice_get_within}
@@ -53,15 +53,16 @@ module _ (a : Core) (core : IsCore a) where
     pub sound : IsSound a t 0
     pub from : AreOfStarts a t.states
     pub kept : AreKept s.states t.states
-    pub there : Contains t.states (p, q, false)
+    pub there : Contains t.states (p, q, not (p == q))
 
-  pub start_more : (s t : Stage) (p q place : ℕ) → IsSound a s 0 → AreOfStarts a s.states → Contains a.starts p → Contains a.starts q → IsNumbered a core s t (p, q, false) place → OneMore s t p q
+  pub start_more : (s t : Stage) (p q place : ℕ) → IsSound a s 0 → AreOfStarts a s.states → Contains a.starts p → Contains a.starts q
+      → IsNumbered a core s t (p, q, not (p == q)) place → OneMore s t p q
   start_more s t p q place sound from one two is = record {
-    sound = numbered_sound a core s t 0 (p, q, false) place sound (start_reached p q one two) is;
-    from = subst (AreOfStarts a) (sym is.states) (new_each same_state state_tells (λ (r : Flagged). Contains a.starts r.0 × Contains a.starts r.1 × (r.2 ≡ false)) s.states (p, q, false) from
-        (one, two, refl));
-    kept = numbered_kept a core s t (p, q, false) place is;
-    there = placed_there t.states place (p, q, false) is.stands;
+    sound = numbered_sound a core s t 0 (p, q, not (p == q)) place sound (start_reached p q one two) is;
+    from = subst (AreOfStarts a) (sym is.states) (new_each same_state state_tells (λ (r : Flagged). Contains a.starts r.0 × Contains a.starts r.1 × (r.2 ≡ not (r.0 == r.1)))
+        s.states (p, q, not (p == q)) from (one, two, refl));
+    kept = numbered_kept a core s t (p, q, not (p == q)) place is;
+    there = placed_there t.states place (p, q, not (p == q)) is.stands;
   }
 
   -- one flagged pair more
@@ -137,11 +138,13 @@ module _ (a : Core) (core : IsCore a) where
         let to : Flagged = (f.to, g.to, flag_after flag.0 at.0 other_at.0) in
         subst (λ p. Contains s.pairs p) (ap (λ (j : JointEdge). j.to) of.is ∙ j.2) (pair_there to (placed_there s.states e.to to found.2.to))
 
-    module _ (begun : List Flagged) (from : AreOfStarts a begun) (there : (p q : ℕ) → Contains a.starts p → Contains a.starts q → Contains begun (p, q, false)) (kept : AreKept begun s.states) where
+    module _ (begun : List Flagged) (from : AreOfStarts a begun) (there : (p q : ℕ) → Contains a.starts p → Contains a.starts q → Contains begun (p, q, not (p == q)))
+        (kept : AreKept begun s.states) where
       first_there : (pair : ℕ × ℕ) → Contains (start_pairs x x) pair → Contains s.pairs pair
       first_there pair is =
           let starts = from_start x x pair is in
-          pair_there (pair.0, pair.1, false) (kept_there begun s.states (pair.0, pair.1, false) kept (there pair.0 pair.1 starts.0 starts.1))
+          let state : Flagged = (pair.0, pair.1, not (pair.0 == pair.1)) in
+          pair_there state (kept_there begun s.states state kept (there pair.0 pair.1 starts.0 starts.1))
 
       -- no more pairs are reached
       pub few_pairs : HasMorePairs MOST_PAIRS x x → ⊥
@@ -163,18 +166,22 @@ module _ (a : Core) (core : IsCore a) where
             let within : (0 ≤ k) × (k < 0 + length begun) = from_range 0 (length begun) k (subst (λ (ns : List ℕ). Contains ns k) starts_are there_k) in
             omega (arith, within.1)
 
-        from_starts : (k : ℕ) → Contains starts k → (p : ℕ) × (q : ℕ) × Contains a.starts p × Contains a.starts q × (slice_get s.states k ≡ Some (p, q, false))
+        from_starts : (k : ℕ) → Contains starts k
+            → (p : ℕ) × (q : ℕ) × (b : Bool) × Contains a.starts p × Contains a.starts q × (b ≡ true → p ≢ q) × (slice_get s.states k ≡ Some (p, q, b))
         from_starts k there_k =
             let item = there_item begun k (is_start k there_k) in
             let state = item.0 in
-            let of = All-contains (λ (r : Flagged). Contains a.starts r.0 × Contains a.starts r.1 × (r.2 ≡ false)) begun state from (placed_there begun k state item.1) in
-            (state.0, state.1, of.0, of.1, longer_at begun s.states kept.0 k state kept.1 item.1 ∙ (λ i. Some (state.0, state.1, of.2 i)))
+            let of = All-contains (λ (r : Flagged). Contains a.starts r.0 × Contains a.starts r.1 × (r.2 ≡ not (r.0 == r.1))) begun state from (placed_there begun k state item.1) in
+            let apart : state.2 ≡ true → state.0 ≢ state.1 = λ set same. true≢false (sym set ∙ (of.2 ∙ ap not (eq-eqb state.0 state.1 same))) in
+            (state.0, state.1, state.2, of.0, of.1, apart, longer_at begun s.states kept.0 k state kept.1 item.1)
 
-        there_starts : (p q : ℕ) → Contains a.starts p → Contains a.starts q → (k : ℕ) × Contains starts k × (slice_get s.states k ≡ Some (p, q, false))
+        there_starts : (p q : ℕ) → Contains a.starts p → Contains a.starts q → (k : ℕ) × (b : Bool) × Contains starts k × (slice_get s.states k ≡ Some (p, q, b))
         there_starts p q one two =
-            let at = there_at begun (p, q, false) (there p q one two) in
-            let within = slice_get_within begun at.0 (p, q, false) at.1 in
-            (at.0, subst (λ (ns : List ℕ). Contains ns at.0) (sym starts_are) (there_range_zero (length begun) at.0 within), longer_at begun s.states kept.0 at.0 (p, q, false) kept.1 at.1)
+            let state : Flagged = (p, q, not (p == q)) in
+            let at = there_at begun state (there p q one two) in
+            let within = slice_get_within begun at.0 state at.1 in
+            let is_start = subst (λ (ns : List ℕ). Contains ns at.0) (sym starts_are) (there_range_zero (length begun) at.0 within) in
+            (at.0, state.2, is_start, longer_at begun s.states kept.0 at.0 state kept.1 at.1)
 
         from_edges : (e : TreeEdge) → Contains (map (edge_of s.store) s.links) e → MadeOf x (slice_get s.states) e
         from_edges e there_e =
@@ -255,7 +262,7 @@ module _ (a : Core) (core : IsCore a) where
 
   pub all_made : (s : Stage) (begun : List Flagged) (names : List (List ℕ)) (starts : List ℕ) (states sets : ℕ) (formula f : FormulaTree) (store : Store) (links : List Link)
       → IsExplored a s (length s.states) → AreOfStarts a begun
-      → ((p q : ℕ) → Contains a.starts p → Contains a.starts q → Contains begun (p, q, false)) → AreKept begun s.states
+      → ((p q : ℕ) → Contains a.starts p → Contains a.starts q → Contains begun (p, q, not (p == q))) → AreKept begun s.states
       → names ≡ a.names → starts ≡ range_with_len 0 (length begun) → states ≡ length s.states → sets ≡ a.sets → f ≡ a.formula
       → ((cycle : List (List ℕ)) → met cycle formula ≡ (met cycle f && (met cycle (shift sets f) && met cycle (Inf (sets + sets) false)))) → SetsBelow (sets + sets + 1) formula
       → store ≡ s.store → links ≡ s.links → IsMade (record { names = names; starts = starts; states = states; links = links; sets = sets + sets + 1; formula = formula; store = store })

@@ -1,4 +1,5 @@
 mod Accepted
+mod Counted
 mod Decided
 mod Deterministic
 mod Explored

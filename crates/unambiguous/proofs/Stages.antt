@@ -1,12 +1,12 @@
 -- A flagged square that grows link by link.
-use Rattle.std.proofs.Common.{◌≡◌, ◌≢◌, ◌∙◌, ◌↔◌, ◌==◌, ◌-◌, ◌*◌, ◌<◌, ◌≤◌, ◌^◌, ◌&&◌, ℕ, Bool, true, false, IsTrue, List, []}
+use Rattle.std.proofs.Common.{◌≡◌, ◌≢◌, ◌∙◌, ◌↔◌, ◌==◌, ◌-◌, ◌*◌, ◌<◌, ◌≤◌, ◌^◌, ◌&&◌, ℕ, Bool, true, false, not, IsTrue, List, []}
 use Rattle.std.proofs.Common.{◌∷◌, ◌++◌, All, AllPairs, Contains, Some, ap, append-nil, append_assoc, arith, get_or, inl, inr, length, map, refl, slice_get, subst, sym}
-use Rattle.std.proofs.lemmas.Bool.{and_from, and_parts, eq-eqb, eqb-true, false≢true}
+use Rattle.std.proofs.lemmas.Bool.{and_from, and_parts, cases_eq, eq-eqb, eqb-true, false_from_ne_true, false≢true, or_right}
 use Rattle.std.proofs.lemmas.List.{map-append}
 use Rattle.std.proofs.lemmas.List.Elements.{All-contains, All-map, All-push, All-weaker, Contains-append_left, Contains-get_or, Contains-push}
 use Rattle.std.proofs.lemmas.List.Sorted.{IsNonDecreasingBy-push}
 use Rattle.std.proofs.lemmas.Map.Made.{IsDistinct-from_AllPairs, is_member-Decides, length-le_from_is_member}
-use Rattle.std.proofs.lemmas.Option.{slice_get_within}
+use Rattle.std.proofs.lemmas.Option.{same_Some, slice_get_within}
 use Rattle.std.specs.List.Sorted.{IsNonDecreasing}
 use Rattle.std.specs.Cmp.{IsEquivalence, booleans_Decides}
 use Rattle.std.specs.Prelude.{flat_map}
@@ -35,7 +35,7 @@ use Rattle.label_guards.specs.Store.{Has, Keeps, Store, label_in}
 use Rattle.label_guards.specs.declared.guard.Guard.{Guard}
 use Rattle.unambiguous.proofs.Ranks.{mapped_at}
 use Rattle.unambiguous.specs.Square.{MadeOf, flag_after, flagged_marks}
-use Rattle.unambiguous.specs.inner.Stages.{AreKept, AreOver, CanMeet, Grows, HasFlagged, IsJoint, IsMet, IsSound, Stage, pair_of, same_state}
+use Rattle.unambiguous.specs.inner.Stages.{AreKept, AreOver, CanMeet, Grows, HasFlagged, IsJoint, IsMet, IsSound, Stage, is_apart, pair_of, same_state}
 
 abbrev pub Flagged : Type 0
 Flagged = ℕ × ℕ × Bool
@@ -98,8 +98,8 @@ new_kept same tells xs x y there = added_kept same tells xs (x ∷ []) y there
 
 -- one flagged pair more
 pub over_more : (pairs : List (ℕ × ℕ)) (states : List Flagged) (s : Flagged) → AreOver pairs states → length (with_new same_pair pairs (pair_of s)) ≤ MOST_PAIRS
-    → AreOver (with_new same_pair pairs (pair_of s)) (with_new same_state states s)
-over_more pairs states s over few = record {
+    → (is_apart s ≡ true → s.2 ≡ true) → AreOver (with_new same_pair pairs (pair_of s)) (with_new same_state states s)
+over_more pairs states s over few apart = record {
   states_differ = new_differ same_state state_tells states s over.states_differ;
   pairs_differ = new_differ same_pair pair_tells pairs (pair_of s) over.pairs_differ;
   covered = new_each same_state state_tells (λ (t : Flagged). Contains (with_new same_pair pairs (pair_of s)) (pair_of t)) states s
@@ -107,13 +107,14 @@ over_more pairs states s over few = record {
       (λ t there. new_kept same_pair pair_tells pairs (pair_of s) (pair_of t) there) states over.covered)
       (with_new_there same_pair pair_tells pairs (pair_of s));
   few = few;
+  apart = new_each same_state state_tells (λ (t : Flagged). is_apart t ≡ true → t.2 ≡ true) states s over.apart apart;
 }
 
 -- so its place fits
 pub place_fits : (pairs after : List (ℕ × ℕ)) (states later : List Flagged) (s : Flagged) (place : ℕ) → AreOver pairs states → after ≡ with_new same_pair pairs (pair_of s)
-    → length after ≤ MOST_PAIRS → later ≡ with_new same_state states s → slice_get later place ≡ Some s → place < 2 ^ 32
-place_fits pairs after states later s place over is few is_later at =
-    let all : AreOver (with_new same_pair pairs (pair_of s)) (with_new same_state states s) = over_more pairs states s over (subst (λ (ps : List (ℕ × ℕ)). length ps ≤ MOST_PAIRS) is few) in
+    → length after ≤ MOST_PAIRS → (is_apart s ≡ true → s.2 ≡ true) → later ≡ with_new same_state states s → slice_get later place ≡ Some s → place < 2 ^ 32
+place_fits pairs after states later s place over is few apart is_later at =
+    let all : AreOver (with_new same_pair pairs (pair_of s)) (with_new same_state states s) = over_more pairs states s over (subst (λ (ps : List (ℕ × ℕ)). length ps ≤ MOST_PAIRS) is few) apart in
     let within = slice_get_within later place s at in
     let count = states_few (with_new same_pair pairs (pair_of s)) (with_new same_state states s) all in
     omega (arith, within, count, ap (λ (ss : List Flagged). length ss) is_later)
@@ -215,6 +216,7 @@ module _ (a : Core) (core : IsCore a) where
     pub states : t.states ≡ with_new same_state s.states state
     pub stands : slice_get t.states place ≡ Some state
     pub few : length t.pairs ≤ MOST_PAIRS
+    pub apart : is_apart state ≡ true → state.2 ≡ true
 
   pub numbered_kept : (s t : Stage) (state : Flagged) (place : ℕ) → IsNumbered s t state place → AreKept s.states t.states
   numbered_kept s t state place is = let more = with_new_longer same_state state_tells s.states state in (more.0, is.states ∙ more.1)
@@ -222,7 +224,8 @@ module _ (a : Core) (core : IsCore a) where
   over_of : (s t : Stage) (state : Flagged) (place : ℕ) → IsNumbered s t state place → AreOver s.pairs s.states → AreOver t.pairs t.states
   over_of s t state place is over =
       let few : length (with_new same_pair s.pairs (pair_of state)) ≤ MOST_PAIRS = subst (λ (ps : List (ℕ × ℕ)). length ps ≤ MOST_PAIRS) is.pairs is.few in
-      subst (λ (ps : List (ℕ × ℕ)). AreOver ps t.states) (sym is.pairs) (subst (AreOver (with_new same_pair s.pairs (pair_of state))) (sym is.states) (over_more s.pairs s.states state over few))
+      let more = over_more s.pairs s.states state over few is.apart in
+      subst (λ (ps : List (ℕ × ℕ)). AreOver ps t.states) (sym is.pairs) (subst (AreOver (with_new same_pair s.pairs (pair_of state))) (sym is.states) more)
 
   pub numbered_sound : (s t : Stage) (at : ℕ) (state : Flagged) (place : ℕ) → IsSound a s at → Reached (pair_of state) → IsNumbered s t state place → IsSound a t at
   numbered_sound s t at state place sound reached is =
@@ -356,6 +359,16 @@ module _ (a : Core) (core : IsCore a) where
   pub meet_marks : (s : Stage) (at : ℕ) (link other : Link) (differ : Bool) (sets : ℕ) → CanMeet a s at link other differ → sets ≡ a.sets
       → All (λ mark. mark < sets) link.marks × All (λ mark. mark < sets) other.marks
   meet_marks s at link other differ sets can is = (marks_of can.place link sets is can.is_at, marks_of can.other_place other sets is can.other_at)
+
+  -- links that lead to different states differ
+  pub met_apart : (s : Stage) (at : ℕ) (link other : Link) (differ : Bool) → CanMeet a s at link other differ → is_apart (link.to, other.to, differ) ≡ true → differ ≡ true
+  met_apart s at link other differ can apart = elim (cases_eq can.place can.other_place) [
+    | inl same ↦
+        (let is : link ≡ other = same_Some link other (sym can.is_at ∙ (ap (slice_get a.links) same ∙ can.other_at)) in
+        absurd (false≢true (sym (ap not (eq-eqb link.to other.to (ap (λ (l : Link). l.to) is))) ∙ apart)))
+    | inr unlike ↦
+        can.is_flag ∙ or_right can.flag (not (can.place == can.other_place)) (ap not (false_from_ne_true (can.place == can.other_place) (λ e. unlike (eqb-true can.place can.other_place e))))
+  ]
 
   -- what becomes of a stage where two links meet
   pub record IsMeeting (s u : Stage) (at : ℕ) (link other : Link) (differ : Bool) : Type 0 where

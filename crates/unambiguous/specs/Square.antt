@@ -1,4 +1,4 @@
--- The square of an automaton with a flag, which is set once the places of the two edges differ.
+-- The square of an automaton with a flag, which is set once the places of the two edges differ, or has to.
 use Rattle.std.specs.Prelude.{◌≡◌, ◌≢◌, ℕ, ◌+◌, ◌==◌, Bool, true, false, not, ◌&&◌, ◌||◌, List, [], ◌∷◌, ◌++◌, map, Contains, Option, Some, if◌then◌else◌, slice_get}
 use Rattle.aut_base.specs.Automaton.{TreeEdge, Automaton}
 use Rattle.aut_base.specs.Formula.{Inf, met}
@@ -34,12 +34,13 @@ pub record MadeOf (a : Automaton) (triple : ℕ → Option (ℕ × ℕ × Bool))
   pub both : GoesBoth a triple place other_place first second flag e
 
 -- `s` is the flagged square of `a`, where the state k of `s` stands for the two states and the flag that `triple k` says. States
--- that aren't reached, and edges whose label holds of no letter, may be there or not.
+-- that aren't reached, and edges whose label holds of no letter, may be there or not. At a pair of different starts the flag
+-- may be set at once: the edges that leave them stand at different places.
 pub record IsSquare (a s : Automaton) (triple : ℕ → Option (ℕ × ℕ × Bool)) : Type 0 where
   pub alone : (k l p q : ℕ) (b : Bool) → triple k ≡ Some (p, q, b) → triple l ≡ Some (p, q, b) → k ≡ l
   pub names : s.names ≡ a.names
-  pub from_start : (k : ℕ) → Contains s.starts k → (p : ℕ) × (q : ℕ) × Contains a.starts p × Contains a.starts q × (triple k ≡ Some (p, q, false))
-  pub there_start : (p q : ℕ) → Contains a.starts p → Contains a.starts q → (k : ℕ) × Contains s.starts k × (triple k ≡ Some (p, q, false))
+  pub from_start : (k : ℕ) → Contains s.starts k → (p : ℕ) × (q : ℕ) × (b : Bool) × Contains a.starts p × Contains a.starts q × (b ≡ true → p ≢ q) × (triple k ≡ Some (p, q, b))
+  pub there_start : (p q : ℕ) → Contains a.starts p → Contains a.starts q → (k : ℕ) × (b : Bool) × Contains s.starts k × (triple k ≡ Some (p, q, b))
   pub from_edge : (e : TreeEdge) → Contains s.edges e → MadeOf a triple e
   pub there_edge : (k m n : ℕ) (f g : TreeEdge) (b : Bool) (x : NameSet) → triple k ≡ Some (f.from, g.from, b) → slice_get a.edges m ≡ Some f → slice_get a.edges n ≡ Some g
       → truth (holds_at a.names x) f.label ≡ true → truth (holds_at a.names x) g.label ≡ true → (e : TreeEdge) × Contains s.edges e × GoesBoth a triple m n f g b e

@@ -1,6 +1,6 @@
 //! All flagged pairs that an automaton reaches together with itself.
 
-ghost use Rattle.std.specs.Prelude.{◌≡◌, ◌+◌, ◌<◌, ◌^◌, ℕ, false, [], Contains, IfOk, IsErrOf, OnOk, length};
+ghost use Rattle.std.specs.Prelude.{◌≡◌, ◌==◌, ◌+◌, ◌<◌, ◌^◌, ℕ, not, [], Contains, IfOk, IsErrOf, OnOk, length};
 ghost use Rattle.std.specs.List.{range_with_len};
 ghost use Rattle.aut_base.specs.declared.limit.TheConstants.{MOST_PAIRS};
 ghost use Rattle.aut_core.specs.Core.{automaton_of};
@@ -46,7 +46,8 @@ pub(crate) fn flagged_square(alloc: Global, a: &Automaton) -> Result<Automaton, 
     )?)
 }
 
-/// Lists the pairs of starts, with no difference so far.
+/// Lists the pairs of starts. Edges that leave different states differ, so behind these the flag would be set in any case: it is
+/// set at once, and the pair is met with one flag alone.
 fn list_starts(square: &mut Square, a: &Automaton) -> Result<(), SquareFault>
     requires store { square.old.store ≡ a.now.store }
     requires pairs { square.old.pairs ≡ [] }
@@ -55,7 +56,7 @@ fn list_starts(square: &mut Square, a: &Automaton) -> Result<(), SquareFault>
     ensures sound { OnOk result (IsSound a.now square.new 0) }
     ensures links { OnOk result (square.new.links ≡ []) }
     ensures from { OnOk result (AreOfStarts a.now square.new.states) }
-    ensures there { OnOk result ((p q : ℕ) → Contains a.now.starts p → Contains a.now.starts q → Contains square.new.states (p, q, false)) }
+    ensures there { OnOk result ((p q : ℕ) → Contains a.now.starts p → Contains a.now.starts q → Contains square.new.states (p, q, not (p == q))) }
     ensures many { IsErrOf result SquareFault.Pairs → HasMorePairs MOST_PAIRS (automaton_of a.now) (automaton_of a.now) }
 {
     let starts = a.starts();
@@ -65,7 +66,7 @@ fn list_starts(square: &mut Square, a: &Automaton) -> Result<(), SquareFault>
     Ok(())
 }
 
-/// Lists the pairs of this start with each.
+/// Lists the pairs of this start with each, the flag set where they differ.
 fn list_row(square: &mut Square, a: &Automaton, first: u32) -> Result<(), SquareFault>
     requires sound { IsSound a.now square.old 0 }
     requires from { AreOfStarts a.now square.old.states }
@@ -74,13 +75,14 @@ fn list_row(square: &mut Square, a: &Automaton, first: u32) -> Result<(), Square
     ensures links { OnOk result (square.new.links ≡ square.old.links) }
     ensures from { OnOk result (AreOfStarts a.now square.new.states) }
     ensures kept { OnOk result (AreKept square.old.states square.new.states) }
-    ensures there { OnOk result ((q : ℕ) → Contains a.now.starts q → Contains square.new.states (first, q, false)) }
+    ensures there { OnOk result ((q : ℕ) → Contains a.now.starts q → Contains square.new.states (first, q, not (first == q))) }
     ensures many { IsErrOf result SquareFault.Pairs → HasMorePairs MOST_PAIRS (automaton_of a.now) (automaton_of a.now) }
 {
     a.whole();
     let starts = a.starts();
     'starts: for second in starts.as_slice() {
-        let _ = square.number((first, *second, false))?;
+        let differ = first != *second;
+        let _ = square.number((first, *second, differ))?;
     }
     Ok(())
 }

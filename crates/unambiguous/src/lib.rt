@@ -10,6 +10,7 @@ mod exploration;
 mod fault;
 mod flagged_marks;
 mod law;
+mod pairs;
 mod square;
 
 pub use decision::is_unambiguous;

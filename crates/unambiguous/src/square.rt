@@ -1,42 +1,37 @@
 //! The square of an automaton with a flag, as far as it is made: the pairs of states that it reaches together with itself, each
 //! without and with a difference between the edges that led there, and the links between these flagged pairs.
 
-ghost use Rattle.std.specs.Prelude.{◌≡◌, ◌+◌, ◌<◌, ◌≤◌, ◌^◌, [], IfOk, IsErrOf, OnOk, Some, length, slice_get};
+ghost use Rattle.std.specs.Prelude.{◌≡◌, ◌+◌, ◌<◌, ◌≤◌, ◌^◌, [], true, IfOk, IsErrOf, OnOk, Some, length, slice_get};
 ghost use Rattle.aut_base.specs.declared.limit.TheConstants.{MOST_PAIRS};
 ghost use Rattle.aut_core.specs.Core.{automaton_of};
 ghost use Rattle.aut_ops.specs.BreadthFirst.{with_new};
 ghost use Rattle.aut_ops.specs.Products.{HasMorePairs, same_pair};
 ghost use Rattle.unambiguous.specs.Square.{flagged_marks};
 ghost use Rattle.unambiguous.specs.declared.fault.SquareFault.{SquareFault};
-ghost use Rattle.unambiguous.specs.inner.Stages.{AreOver, CanMeet, Grows, IsFollowed, IsMet, IsSound, IsSpread, differs, pair_of, row_of, same_state};
+ghost use Rattle.unambiguous.specs.inner.Stages.{AreOver, CanMeet, Grows, IsFollowed, IsMet, IsSound, IsSpread, differs, is_apart, pair_of, row_of, same_state};
 
 use crate::fault::SquareFault;
 use crate::flagged_marks::flagged_marks;
-use aut_base::{MOST_PAIRS, Memory};
+use crate::pairs::{FlaggedPair, Pairs};
 use aut_core::{Automaton, Link, Links};
-use indexmap::IndexSet;
 use label_guards::Guards;
 use std::alloc::Global;
 use std::marker::Model;
-
-/// Two states, and whether the edges that led there have differed.
-pub(crate) type FlaggedPair = (u32, u32, bool);
 
 /// The square as far as it is made.
 #[derive(Drop)]
 pub(crate) struct Square {
     guards: Guards,
-    pairs: IndexSet<(u32, u32)>,
-    states: IndexSet<FlaggedPair>,
+    states: Pairs,
     links: Links,
 }
 
 impl Model for Square {
-    ghost use Rattle.unambiguous.specs.inner.Stages.{Stage};
+    ghost use Rattle.unambiguous.specs.inner.Stages.{Stage, pairs_of};
 
     ghost Value = { Stage };
 
-    ghost view = { λ s. record { store = s.guards; pairs = s.pairs.keys; states = s.states.keys; links = s.links } };
+    ghost view = { λ s. record { store = s.guards; pairs = pairs_of s.states; states = s.states; links = s.links } };
 }
 
 impl Square {
@@ -49,8 +44,7 @@ impl Square {
     {
         Square {
             guards,
-            pairs: IndexSet::new(alloc),
-            states: IndexSet::new(alloc),
+            states: Pairs::new(alloc),
             links: Links::new(alloc),
         }
     }
@@ -67,7 +61,7 @@ impl Square {
         requires { place < length self.now.states }
         ensures { slice_get self.now.states place ≡ Some result }
     {
-        self.states.as_slice()[place]
+        self.states.at(place)
     }
 
     /// The store and the links.
@@ -80,7 +74,8 @@ impl Square {
 
     /// The number of the flagged pair, which is its place. It is added unless it is there.
     pub(crate) fn number(&mut self, state: FlaggedPair) -> Result<u32, SquareFault>
-        requires { AreOver self.old.pairs self.old.states }
+        requires over { AreOver self.old.pairs self.old.states }
+        requires apart { is_apart state ≡ true → state.2 ≡ true }
         ensures store { self.new.store ≡ self.old.store }
         ensures links { self.new.links ≡ self.old.links }
         ensures pairs { OnOk result (self.new.pairs ≡ with_new same_pair self.old.pairs (pair_of state)) }
@@ -89,12 +84,7 @@ impl Square {
         ensures few { OnOk result (length self.new.pairs ≤ MOST_PAIRS) }
         ensures many { IsErrOf result SquareFault.Pairs → MOST_PAIRS < length (with_new same_pair self.old.pairs (pair_of state)) }
     {
-        put_pair(&mut self.pairs, (state.0, state.1))?;
-        if self.pairs.len() > MOST_PAIRS as usize {
-            return Err(SquareFault::Pairs);
-        }
-        let place = put_state(&mut self.states, state)?;
-        Ok(place as u32)
+        self.states.number(state)
     }
 
     /// Adds the link that goes both of these at once, from the flagged pair at this place, unless no letter meets both. Behind
@@ -190,21 +180,4 @@ fn has_differed(state: FlaggedPair, place: usize, other: usize) -> bool
 {
     let (first, second, differ) = state;
     differ || first != second || place != other
-}
-
-/// Adds the pair unless it is there.
-fn put_pair(pairs: &mut IndexSet<(u32, u32)>, pair: (u32, u32)) -> Result<(), Memory>
-    ensures { OnOk result (pairs.new.keys ≡ with_new same_pair pairs.old.keys pair) }
-{
-    let _ = pairs.insert_full(pair)?;
-    Ok(())
-}
-
-/// The place of the flagged pair, which is added unless it is there.
-fn put_state(states: &mut IndexSet<FlaggedPair>, state: FlaggedPair) -> Result<usize, Memory>
-    ensures states { OnOk result (states.new.keys ≡ with_new same_state states.old.keys state) }
-    ensures place { IfOk result (λ place. slice_get states.new.keys place ≡ Some state) }
-{
-    let (place, _) = states.insert_full(state)?;
-    Ok(place)
 }

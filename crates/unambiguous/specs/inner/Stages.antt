@@ -1,5 +1,5 @@
 -- A flagged square as far as it is made.
-use Rattle.std.specs.Prelude.{◌≡◌, ◌≢◌, ◌==◌, ℕ, ◌<◌, ◌≤◌, Bool, true, false, not, ◌&&◌, ◌||◌, List, ◌++◌, All, AllPairs, Contains, Some, filter, length, map, slice_get}
+use Rattle.std.specs.Prelude.{◌≡◌, ◌≢◌, ◌==◌, ℕ, ◌<◌, ◌≤◌, Bool, true, not, ◌&&◌, ◌||◌, List, ◌++◌, All, AllPairs, Contains, Some, filter, length, map, slice_get}
 use Rattle.std.proofs.Math.Bool.{beq}
 use Rattle.std.specs.List.Sorted.{IsNonDecreasing}
 use Rattle.aut_base.specs.Label.{holds_at, truth}
@@ -7,8 +7,8 @@ use Rattle.aut_base.specs.Word.{NameSet}
 use Rattle.aut_base.specs.declared.limit.TheConstants.{MOST_PAIRS}
 use Rattle.aut_core.specs.Core.{Core, automaton_of, edge_of}
 use Rattle.aut_core.specs.declared.link.Link.{Link}
-use Rattle.aut_ops.specs.BreadthFirst.{IsReached}
-use Rattle.aut_ops.specs.Products.{next_pairs, start_pairs}
+use Rattle.aut_ops.specs.BreadthFirst.{IsReached, once}
+use Rattle.aut_ops.specs.Products.{next_pairs, same_pair, start_pairs}
 use Rattle.label_guards.specs.Store.{Has, Keeps, Store, label_in}
 use Rattle.unambiguous.specs.Square.{MadeOf, flag_after, flagged_marks}
 
@@ -28,12 +28,21 @@ same_state s t = (s.0 == t.0) && ((s.1 == t.1) && beq s.2 t.2)
 abbrev pub pair_of : ℕ × ℕ × Bool → ℕ × ℕ
 pair_of s = (s.0, s.1)
 
--- flagged pairs that differ, over pairs that differ and are few
+-- the pairs, each where it first stands
+abbrev pub pairs_of : List (ℕ × ℕ × Bool) → List (ℕ × ℕ)
+pairs_of states = once same_pair (map pair_of states)
+
+-- whether the states differ
+abbrev pub is_apart : ℕ × ℕ × Bool → Bool
+is_apart s = not (s.0 == s.1)
+
+-- flagged pairs that differ, over pairs that differ and are few; the flag is set where the states differ
 pub record AreOver (pairs : List (ℕ × ℕ)) (states : List (ℕ × ℕ × Bool)) : Type 0 where
   pub states_differ : AllPairs (λ s t. s ≢ t) states
   pub pairs_differ : AllPairs (λ p q. p ≢ q) pairs
   pub covered : All (λ s. Contains pairs (pair_of s)) states
   pub few : length pairs ≤ MOST_PAIRS
+  pub apart : All (λ s. is_apart s ≡ true → s.2 ≡ true) states
 
 -- the pair is met with some flag
 abbrev pub HasFlagged : List (ℕ × ℕ × Bool) → ℕ × ℕ → Type 0
@@ -104,6 +113,6 @@ pub record IsExplored (a : Core) (s : Stage) (done : ℕ) : Type 0 where
   pub sound : IsSound a s done
   pub spread : (k : ℕ) (state : ℕ × ℕ × Bool) → k < done → slice_get s.states k ≡ Some state → IsSpread a s k state
 
--- the flagged pairs are of starts, with the flag unset
+-- the flagged pairs are of starts, with the flag set where these differ
 abbrev pub AreOfStarts : Core → List (ℕ × ℕ × Bool) → Type 0
-AreOfStarts a states = All (λ s. Contains a.starts s.0 × Contains a.starts s.1 × (s.2 ≡ false)) states
+AreOfStarts a states = All (λ s. Contains a.starts s.0 × Contains a.starts s.1 × (s.2 ≡ not (s.0 == s.1))) states

@@ -1,4 +1,4 @@
-use Rattle.std.proofs.Common.{◌≡◌, ◌∙◌, ◌++◌, ℕ, false, List, Contains, Some, ap, arith, get_or, inl, inr, length, slice_get, subst, sym}
+use Rattle.std.proofs.Common.{◌≡◌, ◌∙◌, ◌++◌, ◌==◌, ℕ, not, List, Contains, Some, ap, arith, get_or, inl, inr, length, slice_get, subst, sym}
 use Rattle.std.proofs.lemmas.Bool.{cases_lt}
 use Rattle.std.proofs.lemmas.List.{get_or_default}
 use Rattle.std.proofs.lemmas.Option.{same_Some, slice_get_within}
@@ -32,18 +32,18 @@ starts-preserved c =
     let s = c.starts.square in
     let t = c.number.new.self in
     let more = start_more c.args.a.now c.whole.ensures s t c.args.first q _ old.sound old.from c.requires.start (placed_there c.args.a.now.starts i q here)
-    (record { store = c.number.ensures.store; links = c.number.ensures.links; pairs = ok.pairs; states = ok.states; stands = ok.place; few = ok.few }) in
+    (record { store = c.number.ensures.store; links = c.number.ensures.links; pairs = ok.pairs; states = ok.states; stands = ok.place; few = ok.few; apart = λ differ. differ }) in
     record {
       sound = more.sound;
       links = c.number.ensures.links ∙ old.links;
       from = more.from;
       kept = (old.kept.0 ++ more.kept.0, kept_on c.args.square.now.states s.states t.states old.kept.0 more.kept.0 old.kept.1 more.kept.1);
       there = λ k r less at. elim (cases_lt k i) [
-        | inl early ↦ kept_there s.states t.states (c.args.first, r, false) more.kept (old.there k r early at)
+        | inl early ↦ kept_there s.states t.states (c.args.first, r, not (c.args.first == r)) more.kept (old.there k r early at)
         | inr late ↦
             (let is : i ≡ k = omega (arith, less, late) in
             let same : q ≡ r = same_Some q r (sym here ∙ (ap (slice_get c.args.a.now.starts) is ∙ at)) in
-            subst (λ n. Contains t.states (c.args.first, n, false)) same more.there)
+            subst (λ n. Contains t.states (c.args.first, n, not (c.args.first == n))) same more.there)
       ];
     }
 

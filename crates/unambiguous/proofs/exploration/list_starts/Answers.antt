@@ -1,4 +1,4 @@
-use Rattle.std.proofs.Common.{◌≡◌, ◌∙◌, ℕ, false, List, Contains, Some, ap, arith, get_or, inl, inr, length, slice_get, subst, sym}
+use Rattle.std.proofs.Common.{◌≡◌, ◌∙◌, ◌==◌, ℕ, not, List, Contains, Some, ap, arith, get_or, inl, inr, length, slice_get, subst, sym}
 use Rattle.std.proofs.lemmas.Bool.{cases_lt}
 use Rattle.std.proofs.lemmas.List.{get_or_default}
 use Rattle.std.proofs.lemmas.Option.{same_Some, slice_get_within}
@@ -23,11 +23,11 @@ starts-preserved c =
       links = ok.links ∙ old.links;
       from = ok.from;
       there = λ k r q less at is_start. elim (cases_lt k i) [
-        | inl early ↦ kept_there s.states t.states (r, q, false) ok.kept (old.there k r q early at is_start)
+        | inl early ↦ kept_there s.states t.states (r, q, not (r == q)) ok.kept (old.there k r q early at is_start)
         | inr late ↦
             (let is : i ≡ k = omega (arith, less, late) in
             let same : p ≡ r = same_Some p r (sym here ∙ (ap (slice_get c.args.a.now.starts) is ∙ at)) in
-            subst (λ n. Contains t.states (n, q, false)) same (ok.there q is_start))
+            subst (λ n. Contains t.states (n, q, not (n == q))) same (ok.there q is_start))
       ];
     }
 

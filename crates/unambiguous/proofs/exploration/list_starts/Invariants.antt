@@ -1,4 +1,4 @@
-use Rattle.std.proofs.Common.{◌≡◌, ◌<◌, ℕ, false, [], Contains, Some, slice_get}
+use Rattle.std.proofs.Common.{◌≡◌, ◌==◌, ◌<◌, ℕ, not, [], Contains, Some, slice_get}
 use Rattle.unambiguous.specs.inner.Stages.{AreOfStarts, IsSound}
 use Rattle.unambiguous.proofs.exploration.list_starts.Given as goal
 
@@ -7,5 +7,5 @@ invariant-starts l = record {
   sound : IsSound l.a l.square 0;
   links : l.square.links ≡ [];
   from : AreOfStarts l.a l.square.states;
-  there : (k p q : ℕ) → k < l.start-index → slice_get l.a.starts k ≡ Some p → Contains l.a.starts q → Contains l.square.states (p, q, false);
+  there : (k p q : ℕ) → k < l.start-index → slice_get l.a.starts k ≡ Some p → Contains l.a.starts q → Contains l.square.states (p, q, not (p == q));
 }
