@@ -1,5 +1,5 @@
 -- The names that are opened: those of operands, and those of streams where none is generated.
-use Rattle.std.proofs.Common.{◌≡◌, ℕ, List, ◌++◌, Option, Some, None, sym, subst}
+use Rattle.std.proofs.Common.{◌≡◌, ℕ, List, Option, Some, None, sym, subst}
 use Rattle.std.specs.List.{All}
 use Rattle.autfilt_command.specs.Asked.{names_opened, opened_or}
 use Rattle.autfilt_run.proofs.FigureLines.{all_of_first, all_of_second}

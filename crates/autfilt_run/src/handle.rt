@@ -1,6 +1,6 @@
 //! What becomes of an automaton that was read.
 
-ghost use Rattle.std.specs.Prelude.{◌≡◌, IfOk, if◌then◌else◌, map, true, None};
+ghost use Rattle.std.specs.Prelude.{◌≡◌, if◌then◌else◌, map, true, None};
 ghost use Rattle.std.specs.Option.{option_copied};
 ghost use Rattle.aut_core.specs.Core.{automaton_of};
 ghost use Rattle.autfilt_run.specs.Plans.{prints_each};

@@ -1,5 +1,5 @@
 -- Events that are alike up to texts that a plan doesn't decide.
-use Rattle.std.proofs.Common.{◌≡◌, ◌⊎◌, ◌∙◌, ℕ, List, [], ◌∷◌, ◌++◌, ap, inl, inr, refl, subst, sym}
+use Rattle.std.proofs.Common.{◌≡◌, ◌⊎◌, ◌∙◌, List, [], ◌∷◌, ap, inl, inr, refl, subst, sym}
 use Rattle.autfilt_laws.specs.Runs.{AreFirst, AreLike, DecidesTexts, IsLike}
 use Rattle.autfilt_run.specs.Events.{Dropped, Ended, Event, Kept, Opened, Skipped, Tally, counted, tally_from}
 use Rattle.filter_plan.specs.declared.plan.Plan.{Plan}

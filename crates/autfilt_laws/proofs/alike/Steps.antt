@@ -1,5 +1,5 @@
 -- What stands in the texts decides which event happens next in the streams.
-use Rattle.std.proofs.Common.{◌≡◌, ◌⊎◌, ℕ, ◌+◌, List, [], ◌∷◌, ◌++◌, refl, sym, ap, ◌∙◌, subst, inl, inr}
+use Rattle.std.proofs.Common.{◌≡◌, ℕ, ◌+◌, List, [], ◌∷◌, refl, sym, ap, ◌∙◌, subst, inl, inr}
 use Rattle.aut_base.specs.Automaton.{Automaton}
 use Rattle.aut_io.specs.Outside.{Texts, text_of}
 use Rattle.autfilt_laws.proofs.alike.Like.{longer, none_first}

@@ -1,5 +1,5 @@
 -- The operands that a run reads are one for each name, and each may be read.
-use Rattle.std.proofs.Common.{◌≡◌, ◌∙◌, ℕ, ◌+◌, List, [], ◌∷◌, length, Option, Some, None, ap, arith, subst, sym}
+use Rattle.std.proofs.Common.{◌≡◌, ◌∙◌, ℕ, ◌+◌, List, [], ◌∷◌, length, Option, Some, None, ap, arith, sym}
 use Rattle.std.specs.List.{AllByRecursion}
 use Rattle.aut_io.specs.Outside.{Texts}
 use Rattle.autfilt_command.specs.Run.{AreAllRead}
