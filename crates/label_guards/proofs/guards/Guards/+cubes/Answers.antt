@@ -19,7 +19,7 @@ push_place-returns-then-place-eq1-clause-cubes t c =
     let literals = map literal_of c.args.cube.now.items in
     let one : place_cubes c.args.self.now c.args.place ≡ [] ∷ [] = ap (place_cubes c.args.self.now) c.if-place-eq1.true ∙ cubes_true c.args.self.now c.reduced.ensures in
     subst (λ (cs : List (List Literal)). WritesCubes literals cs c.args.is_written true c.args.out.now c.push_next.new.out) (sym one)
-    (subst (λ (ls : List Literal). WritesCubes ls ([] ∷ []) c.args.is_written true c.args.out.now c.push_next.new.out) (ap (map literal_of) c.deref.ensures.value) c.in_ok-push_next.ensures)
+    (subst (λ (ls : List Literal). WritesCubes ls ([] ∷ []) c.args.is_written true c.args.out.now c.push_next.new.out) (ap (map literal_of) c.deref.ensures.value) c.in_ok-push_next.ensures.cubes)
 
 pub push_place-returns-clause-cubes : goal.push_place-returns-clause-cubes
 push_place-returns-clause-cubes t c =
