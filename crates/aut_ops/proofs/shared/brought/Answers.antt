@@ -3,6 +3,7 @@ use Rattle.std.specs.List.{range_with_len, slice_index_or}
 use Rattle.aut_core.proofs.Following.{stand_more}
 use Rattle.aut_core.proofs.Growth.{keeps_on}
 use Rattle.aut_core.specs.Core.{edge_of}
+use Rattle.label_guards.proofs.Dependence.{all_go_below}
 use Rattle.label_guards.specs.Guards.{IsGuardOf, truth_in}
 use Rattle.label_guards.specs.Store.{Store}
 use Rattle.aut_ops.proofs.BroughtLinks.{brought_edge, places_count, places_within}
@@ -14,7 +15,8 @@ bring-requires-clause-count c = places_count c.args.to.now c.args.a.now.store.na
 pub bring-requires-clause-within : goal.bring-requires-clause-within
 bring-requires-clause-within c =
     let names = c.links.invariant.keeps.names ∙ c.requires.names in
-    places_within c.args.to.now c.links.guards.names (c.requires.to ∙ ap (range_with_len 0) (sym names))
+    let within = places_within c.args.to.now c.links.guards.names (c.requires.to ∙ ap (range_with_len 0) (sym names)) in
+    all_go_below c.links.guards.names c.args.to.now _ c.link-item.result.guard (bring-requires-clause-count c) within
 
 pub returns-in_err-bring-clause-keeps : goal.returns-in_err-bring-clause-keeps
 returns-in_err-bring-clause-keeps c = keeps_on c.links.invariant.keeps c.bring.ensures.keeps
