@@ -64,7 +64,8 @@ low_goes_below count to s p n is has at below k within =
       | inr free ↦ inr (side_free s is p n false n.low (omega arith) at.node.low_later (at_low s p n at) k free)
     ]
 
-pub high_goes_below : (count : ℕ) (to : ℕ → ℕ) (s : Store) (p : ℕ) (n : Node) → IsReduced s.names s.nodes → HasPlace s p → StandsAt s p n → PlaceGoesBelow count to s p → PlaceGoesBelow count to s n.high
+pub high_goes_below : (count : ℕ) (to : ℕ → ℕ) (s : Store) (p : ℕ) (n : Node) → IsReduced s.names s.nodes → HasPlace s p → StandsAt s p n → PlaceGoesBelow count to s p
+    → PlaceGoesBelow count to s n.high
 high_goes_below count to s p n is has at below k within =
     let high = at.node.high in
     elim (below k within) [

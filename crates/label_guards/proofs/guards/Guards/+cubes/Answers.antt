@@ -26,5 +26,6 @@ push_place-returns-clause-cubes t c =
     IfOk-weaker c.push_side-2.result _ _
     (λ now v.
     let same = rw c.in_ok-is_written.ensures.kept at v in
-    both_sides (map literal_of c.args.cube.now.items) _ _ _ _ _ c.args.is_written c.in_ok-is_written.is_written now c.args.out.now c.push_side.new.out c.push_side-2.new.out (cubes_node c.args.self.now c.reduced.ensures c.args.place c.node_at-node.result c.node_at-node.ensures c.requires) c.in_ok-is_written.ensures.cubes same)
+    both_sides (map literal_of c.args.cube.now.items) _ _ _ _ _ c.args.is_written c.in_ok-is_written.is_written now c.args.out.now c.push_side.new.out c.push_side-2.new.out
+    (cubes_node c.args.self.now c.reduced.ensures c.args.place c.node_at-node.result c.node_at-node.ensures c.requires) c.in_ok-is_written.ensures.cubes same)
     c.push_side-2.ensures.cubes

@@ -13,4 +13,5 @@ pub returns-then-is_written-clause-ok : goal.returns-then-is_written-clause-ok
 returns-then-is_written-clause-ok c = label_written _ c.reduced.ensures c.args.g c.requires _ _ _ _ (ap (map literal_of) c.new-cube.ensures.items) c.in_ok-is_written.ensures.cubes c.if-is_written.true
 
 pub returns-clause-ok : goal.returns-clause-ok
-returns-clause-ok c = on_ok_weaker c.push.result (λ e. no_label_written c.args.self.now c.reduced.ensures c.args.g c.requires _ _ _ _ _ c.in_ok-is_written.ensures.cubes c.if-is_written.false e) c.push.ensures.ok
+returns-clause-ok c = on_ok_weaker c.push.result
+    (λ e. no_label_written c.args.self.now c.reduced.ensures c.args.g c.requires _ _ _ _ _ c.in_ok-is_written.ensures.cubes c.if-is_written.false e) c.push.ensures.ok
