@@ -1,12 +1,12 @@
 //! Automata of which it was worked out by hand what is made of them.
 
-use crate::build::{Written, built, shown};
 use crate::condition::{atom, choices};
 use acc_forms::FormFault;
 use aut_base::{Formula, Formulas, Memory, Text};
 use aut_core::Automaton;
 use degeneralise::{BuchiFault, to_buchi};
 use fin_removal::{copies, remove_fin};
+use row_automata::{Written, built, shown};
 use std::alloc::Global;
 
 /// Copies of any automaton with so many states can be numbered.

@@ -2,10 +2,8 @@
 //! what they make of small automata accepts the same words.
 #![tactic(auto)]
 
-mod build;
 mod by_hand;
 mod condition;
-mod runs;
 mod small;
 
 use aut_base::Memory;

@@ -1,11 +1,10 @@
 //! Automata of two states over one name, each under another condition, against what is made of them.
 
-use crate::build::{Written, built};
 use crate::by_hand::{buchi_of, copies_of};
 use crate::condition::{SHAPES, condition};
-use crate::runs::View;
 use aut_base::{Formula, Memory};
 use aut_core::Automaton;
+use row_automata::{View, Written, built};
 use std::alloc::Global;
 
 /// The stems of at most two letters.

@@ -1,8 +1,8 @@
 //! Automata of which it was worked out by hand what their monitors are.
 
-use crate::build::{Written, built, shown};
 use aut_base::{Formula, Memory};
 use monitor_form::monitor;
+use row_automata::{Written, built, shown};
 use std::alloc::Global;
 
 /// The conditions of the worked automata.

@@ -1,8 +1,8 @@
 //! Which finite words begin a lasso word that an automaton accepts, by the definition: some stem that begins so, and some
 //! cycle, are accepted.
 
-use crate::runs::View;
 use aut_base::{Formula, Memory};
+use row_automata::View;
 use std::alloc::Global;
 
 /// What follows the finite word, before the cycle.

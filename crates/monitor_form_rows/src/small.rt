@@ -1,11 +1,10 @@
 //! Automata of two states over one name, against their monitors.
 
-use crate::build::{Written, built};
 use crate::prefixes::{Beginnings, letters};
-use crate::runs::View;
 use aut_base::{Formula, Formulas, Memory};
 use aut_core::Automaton;
 use monitor_form::monitor;
+use row_automata::{View, Written, built};
 use std::alloc::Global;
 
 /// How many letters of a word are looked at: more than a monitor of these automata goes on before it is stuck.

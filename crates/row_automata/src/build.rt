@@ -8,10 +8,10 @@ use aut_core::{Automaton, Link};
 use std::alloc::Global;
 
 /// An edge: its state, a sign for its label, its end, and a bit for each of its sets.
-pub(crate) type Written = (u32, u8, u32, u32);
+pub type Written = (u32, u8, u32, u32);
 
 /// The automaton over so many names of these edges, or `None` where they don't make one.
-pub(crate) fn built(
+pub fn built(
     alloc: Global,
     names: &[u8],
     states: u32,
@@ -90,7 +90,7 @@ fn literal(alloc: Global, prop: u32, holds: bool) -> Result<Label, Memory> {
 }
 
 /// The sets below 8 whose bits are set.
-pub(crate) fn marks(alloc: Global, bits: u32) -> Result<Marks, Memory> {
+pub fn marks(alloc: Global, bits: u32) -> Result<Marks, Memory> {
     let mut marks = Marks::new(alloc);
     let mut rest = bits;
     'sets: for set in 0..8 {
@@ -106,7 +106,7 @@ pub(crate) fn marks(alloc: Global, bits: u32) -> Result<Marks, Memory> {
 
 /// The states, the starts after a `:`, and each edge as its ends round its label, with the marks that it has. Numbers
 /// show their last digit.
-pub(crate) fn shown(alloc: Global, a: &Automaton) -> Result<Text, Memory> {
+pub fn shown(alloc: Global, a: &Automaton) -> Result<Text, Memory> {
     let mut text = Text::new(alloc);
     text.push(digit(a.states()))?;
     text.push(b':')?;

@@ -22,7 +22,7 @@ impl Step {
 
 /// An automaton, ready to be searched.
 #[derive(Drop)]
-pub(crate) struct View {
+pub struct View {
     states: u32,
     starts: Vec<u32>,
     /// The edges of each state.
@@ -32,7 +32,8 @@ pub(crate) struct View {
 }
 
 impl View {
-    pub(crate) fn new(alloc: Global, a: &Automaton) -> Result<View, Memory> {
+    /// The automaton, with the edges of each state by letters. It has at most eight sets.
+    pub fn new(alloc: Global, a: &Automaton) -> Result<View, Memory> {
         let mut starts = Vec::new(alloc);
         for start in a.starts().as_slice() {
             starts.push(*start)?;
@@ -47,7 +48,7 @@ impl View {
 
     /// Whether the automaton accepts the stem followed by the cycle again and again: whether from a state that is reached
     /// at a beginning of the cycle a path leads back to it which reads the cycle some times and meets the condition.
-    pub(crate) fn accepts(
+    pub fn accepts(
         &self,
         alloc: Global,
         formula: &Formula,
