@@ -17,7 +17,7 @@ use Rattle.autfilt_command.specs.inner.Running.{Carries, FailsPreparing, HasPrep
 use Rattle.autfilt_run.proofs.Gains.{nothing}
 use Rattle.autfilt_run.proofs.Stepping.{is_closed}
 use Rattle.autfilt_run.specs.Events.{Event, Point, start_of}
-use Rattle.autfilt_run.specs.Made.{seen_of_made}
+use Rattle.made_stream.specs.Made.{seen_of_made}
 use Rattle.autfilt_run.specs.Operands.{all_passed, operands_of}
 use Rattle.autfilt_run.specs.Points.{open_count, operands_in}
 use Rattle.autfilt_run.specs.declared.fault.RunFault.TheVariants as fault

@@ -12,7 +12,7 @@ use Rattle.autfilt_command.specs.declared.ended.End.TheVariants as end
 use Rattle.autfilt_command.specs.declared.ended.Ended.{Ended}
 use Rattle.autfilt_command.specs.declared.ended.Ended.TheVariants as ended
 use Rattle.autfilt_run.specs.Events.{AreJudged, Event, Happen, Kept, Point, Skipped, Tally, all_written, start_of, tally, tally_from}
-use Rattle.autfilt_run.specs.Made.{seen_of_made}
+use Rattle.made_stream.specs.Made.{seen_of_made}
 use Rattle.autfilt_run.specs.Operands.{AreRead, OperandEvent, all_passed, operands_of}
 use Rattle.autfilt_run.specs.Plans.{count_text, prints_count, prints_each, streams_of}
 use Rattle.autfilt_run.specs.Runs.{IsCounted, IsDone, Stops, StopsInOperands}

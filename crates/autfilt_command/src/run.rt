@@ -17,8 +17,9 @@ use crate::ended::{End, Ended};
 use crate::notes::{note_end, note_skipped};
 use aut_base::Words;
 use aut_io::{Inputs, Sink};
-use autfilt_run::{Made, Prep, RunFault, Session, Turn};
+use autfilt_run::{Prep, RunFault, Session, Turn};
 use filter_plan::{Plan, UsageFault, read_plan};
+use made_stream::Made;
 use plan_meaning::Complements;
 use std::alloc::Global;
 

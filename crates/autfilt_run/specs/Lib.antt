@@ -2,8 +2,6 @@ pub mod Due
 pub mod Events
 pub mod Faults
 pub mod Figures
-pub mod Made
-pub mod MadeExamples
 pub mod Operands
 pub mod Over
 pub mod Plans

@@ -2,7 +2,7 @@
 use Rattle.std.specs.Prelude.{ℕ, ◌==◌, Bool, true, not, ◌&&◌, ◌||◌, if◌then◌else◌, List, [], ◌∷◌, ◌++◌, Option, Some, None, codes}
 use Rattle.std.specs.Fmt.{decimal}
 use Rattle.std.specs.List.{slice_index_or}
-use Rattle.autfilt_run.specs.Made.{made_name}
+use Rattle.made_stream.specs.Made.{made_name}
 use Rattle.filter_plan.specs.Words.{operands}
 use Rattle.filter_plan.specs.declared.plan.Plan.{Plan}
 

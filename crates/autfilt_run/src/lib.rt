@@ -1,15 +1,14 @@
 //! A session: automata of streams, one after the other, each read, judged and written as a plan asks.
 //!
 //! A caller makes a `Session` of a plan, prepares it, takes steps until `Turn::Done`, and finishes. It sees what each step
-//! did by its `Turn`, or by a `RunFault`, after which the session is over. `Made` are the inputs of the stream that is
-//! generated. What the contracts say stands in `specs`: `Turns` says what one step does, `Events` what a run is, `Due` which
-//! text is due of an automaton that is kept, and `Over` which limits a plan passes on it.
+//! did by its `Turn`, or by a `RunFault`, after which the session is over. What the contracts say stands in `specs`: `Turns`
+//! says what one step does, `Events` what a run is, `Due` which text is due of an automaton that is kept, and `Over` which
+//! limits a plan passes on it.
 #![tactic(auto)]
 
 mod fault;
 mod figures;
 mod handle;
-mod made;
 mod number;
 mod operands;
 mod refuted;
@@ -18,6 +17,5 @@ mod streams;
 mod taken;
 
 pub use fault::RunFault;
-pub use made::{MOST_MADE, Made, made_examples};
 pub use number::write_number;
 pub use session::{Prep, Session, Stage, Turn};

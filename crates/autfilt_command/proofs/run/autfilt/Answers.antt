@@ -3,7 +3,7 @@ use Rattle.autfilt_command.proofs.Carried.{ends_by, ends_failed, ends_made, ends
 use Rattle.autfilt_command.proofs.MadePlans.{made_within}
 use Rattle.autfilt_command.proofs.OpenedNames.{may_open_operands, may_open_streams}
 use Rattle.autfilt_command.specs.inner.Running.{FailsPreparing, IsPrepared}
-use Rattle.autfilt_run.specs.Made.{seen_of_made}
+use Rattle.made_stream.specs.Made.{seen_of_made}
 use Rattle.filter_plan.specs.declared.plan.Plan.{Plan}
 use Rattle.autfilt_command.proofs.run.autfilt.Goals as goal
 

@@ -1,5 +1,0 @@
--- Each call has a digit less behind it.
-use Rattle.autfilt_run.proofs.made.digits.+digit_before.Given as goal
-
-abbrev pub decreases-digit_before : goal.decreases-digit_before
-decreases-digit_before l = l.others

@@ -1,0 +1,4 @@
+mod Bytes
+mod DecimalDigits
+mod MadeTexts
+mod Rings

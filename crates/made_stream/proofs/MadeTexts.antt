@@ -1,0 +1,19 @@
+-- The text under a name, where only the generated text is there.
+use Rattle.std.proofs.Common.{◌≡◌, ℕ, true, false, List, [], ◌∷◌, refl}
+use Rattle.std.specs.Cmp.Lexicographic.{nat_list_cmp_total, texts_ties}
+use Rattle.std.specs.FinMap.{get-from_entries}
+use Rattle.aut_base.specs.Text.{same_text}
+use Rattle.aut_io.specs.Outside.{text_of}
+use Rattle.made_stream.specs.Made.{made_name, made_text, made_texts}
+
+pub text_of_made :
+    (count : ℕ) (name : List ℕ) → same_text name made_name ≡ true → text_of (made_texts count) name ≡ made_text count
+text_of_made count name same =
+    let found = get-from_entries nat_list_cmp_total ((made_name, made_text count) ∷ []) name in
+    rw (found, ← texts_ties name made_name, same) refl
+
+pub text_of_other :
+    (count : ℕ) (name : List ℕ) → same_text name made_name ≡ false → text_of (made_texts count) name ≡ []
+text_of_other count name other =
+    let found = get-from_entries nat_list_cmp_total ((made_name, made_text count) ∷ []) name in
+    rw (found, ← texts_ties name made_name, other) refl

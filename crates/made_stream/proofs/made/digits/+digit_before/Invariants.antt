@@ -1,0 +1,5 @@
+-- Each call has a digit less behind it.
+use Rattle.made_stream.proofs.made.digits.+digit_before.Given as goal
+
+abbrev pub decreases-digit_before : goal.decreases-digit_before
+decreases-digit_before l = l.others

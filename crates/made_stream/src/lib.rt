@@ -1,0 +1,9 @@
+//! The stream that is generated: inputs whose one text is made up as it is read.
+//!
+//! A caller makes `Made` of a number of automata and reads it as any other inputs. What stands in the text is defined in
+//! `specs/Made`, and written out for the first automata in `specs/MadeExamples`.
+#![tactic(auto)]
+
+mod made;
+
+pub use made::{MOST_MADE, Made, made_examples};
