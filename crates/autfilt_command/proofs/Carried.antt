@@ -14,8 +14,8 @@ use Rattle.autfilt_command.specs.declared.ended.End.{End}
 use Rattle.autfilt_command.specs.declared.ended.End.TheVariants as end
 use Rattle.autfilt_command.specs.declared.ended.Ended.{Ended}
 use Rattle.autfilt_command.specs.inner.Running.{Carries, FailsPreparing, HasPrepared, IsPrepared}
-use Rattle.autfilt_run.proofs.Gains.{nothing}
-use Rattle.autfilt_run.proofs.Stepping.{is_closed}
+use Rattle.autfilt_run.proofs.printing.Gains.{nothing}
+use Rattle.autfilt_run.proofs.turns.Stepping.{is_closed}
 use Rattle.autfilt_run.specs.Events.{Event, Point, start_of}
 use Rattle.made_stream.specs.Made.{seen_of_made}
 use Rattle.autfilt_run.specs.Operands.{all_passed, operands_of}

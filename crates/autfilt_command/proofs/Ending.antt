@@ -21,10 +21,10 @@ use Rattle.autfilt_command.specs.Run.{AreCalm, BreaksOff, EndsAt, EndsBecause, E
 use Rattle.autfilt_command.specs.declared.ended.End.{End}
 use Rattle.autfilt_command.specs.declared.ended.End.TheVariants as end
 use Rattle.autfilt_command.specs.inner.Running.{Carries, Finishes, FinishesWell, HasRun}
-use Rattle.autfilt_run.proofs.Gains.{both}
-use Rattle.autfilt_run.proofs.Preparing.{calm_limit, taken_few, untold_closed}
-use Rattle.autfilt_run.proofs.Stepping.{closed_counted, is_closed, name_as, reads_on, stops_at, stops_named, stream_counted}
-use Rattle.autfilt_run.proofs.Writing.{rose_from}
+use Rattle.autfilt_run.proofs.printing.Gains.{both}
+use Rattle.autfilt_run.proofs.turns.Preparing.{calm_limit, taken_few, untold_closed}
+use Rattle.autfilt_run.proofs.turns.Stepping.{closed_counted, is_closed, name_as, reads_on, stops_at, stops_named, stream_counted}
+use Rattle.autfilt_run.proofs.printing.Writing.{rose_from}
 use Rattle.autfilt_run.specs.Events.{Dropped, Ended, Event, IsGood, IsJudged, Kept, Opened, Point, ReadsOn, Skipped, Stream, Tally, all_written, counted, place, read_on, start_of, tally, tally_from}
 use Rattle.autfilt_run.specs.Faults.{stop_of_fault}
 use Rattle.autfilt_run.specs.Over.{IsOver}

@@ -2,8 +2,8 @@
 use Rattle.std.proofs.Common.{◌≡◌, ℕ, Bool, true, false, List, [], ◌++◌, ap, sym, ◌∙◌, subst, append-nil, append_assoc}
 use Rattle.std.specs.Prelude.{codes}
 use Rattle.aut_io.specs.Seen.{SinkSeen}
-use Rattle.autfilt_run.proofs.Gains.{both, first, second}
-use Rattle.autfilt_run.proofs.Writing.{rose_from}
+use Rattle.autfilt_run.proofs.printing.Gains.{both, first, second}
+use Rattle.autfilt_run.proofs.printing.Writing.{rose_from}
 use Rattle.autfilt_command.specs.Noted.{HasNoted}
 use Rattle.autfilt_command.specs.Notes.{line_about}
 

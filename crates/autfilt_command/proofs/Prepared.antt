@@ -14,8 +14,8 @@ use Rattle.autfilt_command.specs.Run.{passed_noted}
 use Rattle.autfilt_command.specs.declared.ended.End.{End}
 use Rattle.autfilt_command.specs.declared.ended.End.TheVariants as end
 use Rattle.autfilt_command.specs.inner.Running.{FailsPreparing, HasPrepared, IsNew, IsPrepared}
-use Rattle.autfilt_run.proofs.Gains.{nothing}
-use Rattle.autfilt_run.proofs.Preparing.{counts_then, passed_push}
+use Rattle.autfilt_run.proofs.printing.Gains.{nothing}
+use Rattle.autfilt_run.proofs.turns.Preparing.{counts_then, passed_push}
 use Rattle.autfilt_run.specs.Events.{Point, start_of}
 use Rattle.autfilt_run.specs.Operands.{AreRead, OperandEvent, PassedOver, all_passed, operand_of, operands_of, passed_of}
 use Rattle.autfilt_run.specs.Points.{StandsIn, name_in, open_count}

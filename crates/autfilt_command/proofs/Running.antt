@@ -13,7 +13,7 @@ use Rattle.autfilt_command.specs.Noted.{HasNoted}
 use Rattle.autfilt_command.specs.Run.{AreCalm, all_noted, noted}
 use Rattle.autfilt_command.specs.declared.ended.End.{End}
 use Rattle.autfilt_command.specs.inner.Running.{Carries, Finishes, HasRun, IsFresh}
-use Rattle.autfilt_run.proofs.Gains.{both, nothing}
+use Rattle.autfilt_run.proofs.printing.Gains.{both, nothing}
 use Rattle.autfilt_run.specs.Events.{Event, Tally, IsJudged, Point, all_written, counted, start_of, tally_from, written_of}
 use Rattle.autfilt_run.specs.Plans.{asks_on, count_text, streams_of}
 use Rattle.autfilt_run.specs.Points.{StandsAt, operands_in}

@@ -5,9 +5,9 @@ use Rattle.aut_io.specs.Outside.{Gains, Texts}
 use Rattle.aut_io.specs.Seen.{Seen, SinkSeen}
 use Rattle.autfilt_command.proofs.Stepping.{GoesOn, goes_on, opens_next}
 use Rattle.autfilt_command.specs.Run.{AreCalm}
-use Rattle.autfilt_run.proofs.Gains.{nothing}
-use Rattle.autfilt_run.proofs.Preparing.{taken_few}
-use Rattle.autfilt_run.proofs.Stepping.{KeepsOn, ends_stream, is_open, name_as, one_name, reads_on}
+use Rattle.autfilt_run.proofs.printing.Gains.{nothing}
+use Rattle.autfilt_run.proofs.turns.Preparing.{taken_few}
+use Rattle.autfilt_run.proofs.turns.Stepping.{KeepsOn, ends_stream, is_open, name_as, one_name, reads_on}
 use Rattle.autfilt_run.specs.Events.{Dropped, EndsStream, Ended, Event, Goes, IsGood, IsJudged, Kept, Opened, Point, ReadsOn, Skipped, Tally, counted, written_of}
 use Rattle.autfilt_run.specs.Points.{StandsAt, name_in, operands_in}
 use Rattle.autfilt_run.specs.Turns as turns

@@ -2,7 +2,7 @@
 use Rattle.std.proofs.Common.{◌≡◌, ℕ, suc, ◌+◌, true, List, [], ◌∷◌, ◌++◌, drop, Option, Some, Ok, refl, sym, ap, ◌∙◌, subst, arith}
 use Rattle.aut_io.specs.Outside.{Texts}
 use Rattle.aut_io.specs.Seen.{Opens, Seen}
-use Rattle.autfilt_run.proofs.Stepping.{GoesTo, is_closed, opens_stream, rest_from}
+use Rattle.autfilt_run.proofs.turns.Stepping.{GoesTo, is_closed, opens_stream, rest_from}
 use Rattle.autfilt_run.specs.Events.{Event, Goes, Happen, OpensStream, Point}
 use Rattle.autfilt_run.specs.Plans.{asks_on, streams_of}
 use Rattle.autfilt_run.specs.Points.{StandsAt, name_in}

@@ -12,7 +12,7 @@ use Rattle.aut_base.specs.CanonicalLabel.{canonical}
 use Rattle.aut_base.specs.Word.{NameSet}
 use Rattle.aut_base.specs.declared.limit.TheConstants.{MOST_NAMES, MOST_SETS, MOST_STATES}
 use Rattle.autfilt_laws.specs.Runs.{SilentIsDue, UnchangedIsDue}
-use Rattle.autfilt_run.proofs.ReadsAs.{reads_as}
+use Rattle.autfilt_run.proofs.printing.ReadsAs.{reads_as}
 use Rattle.autfilt_run.specs.Due.{IsCanonical, IsDueWhere, IsMade, IsPrinted, name_due}
 use Rattle.autfilt_run.specs.Operands.{operands_of}
 use Rattle.autfilt_run.specs.Plans.{prints_each}

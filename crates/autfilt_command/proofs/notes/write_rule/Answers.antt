@@ -1,7 +1,7 @@
 use Rattle.std.specs.Prelude.{codes}
 use Rattle.autfilt_command.proofs.Noting.{closed_line_is}
 use Rattle.autfilt_command.specs.Notes.{rule_word}
-use Rattle.autfilt_run.proofs.Writing.{writes_as, writes_first, writes_then}
+use Rattle.autfilt_run.proofs.printing.Writing.{writes_as, writes_first, writes_then}
 use Rattle.autfilt_command.proofs.notes.write_rule.Goals as goal
 
 pub returns-in_err-write_pieces : goal.returns-in_err-write_pieces

@@ -4,7 +4,7 @@ use Rattle.std.specs.List.{All}
 use Rattle.aut_core.specs.Core.{automaton_of}
 use Rattle.lasso_emptiness.specs.Emptiness.{IsAcceptedWord}
 use Rattle.word_syntax.specs.Printing.{HoldsOnly}
-use Rattle.autfilt_run.proofs.FigureLines.{all_of_second, shows_word}
+use Rattle.autfilt_run.proofs.printing.FigureLines.{all_of_second, shows_word}
 use Rattle.autfilt_run.proofs.figures.accepted_text.Goals as goal
 
 pub print_word-requires-clause-cycle : goal.print_word-requires-clause-cycle

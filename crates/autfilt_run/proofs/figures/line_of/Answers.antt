@@ -2,7 +2,7 @@ use Rattle.std.proofs.Common.{List, ℕ, ◌++◌, ◌∙◌, ap, arith, get_or,
 use Rattle.aut_core.specs.Core.{automaton_of}
 use Rattle.filter_plan.specs.declared.format.Piece.{Piece}
 use Rattle.filter_plan.specs.declared.format.Piece.TheVariants.{Byte}
-use Rattle.autfilt_run.proofs.FigureLines.{piece_more}
+use Rattle.autfilt_run.proofs.printing.FigureLines.{piece_more}
 use Rattle.autfilt_run.proofs.figures.line_of.Goals as goal
 
 pub pieces-preserved : goal.pieces-preserved

@@ -1,7 +1,7 @@
 -- What is written so far begins the line.
 use Rattle.std.proofs.Common.{drop}
 use Rattle.aut_core.specs.Core.{automaton_of}
-use Rattle.autfilt_run.proofs.FigureLines.{IsBegun}
+use Rattle.autfilt_run.proofs.printing.FigureLines.{IsBegun}
 use Rattle.autfilt_run.proofs.figures.line_of.Given as goal
 
 abbrev pub invariant-pieces : goal.invariant-pieces

@@ -1,4 +1,4 @@
-use Rattle.autfilt_run.proofs.Handling.{wants_memory}
+use Rattle.autfilt_run.proofs.handling.Handling.{wants_memory}
 use Rattle.autfilt_run.proofs.handle.printed.Goals as goal
 
 pub returns-in_err-write_text-in-Hoa-clause-prints : goal.returns-in_err-write_text-in-Hoa-clause-prints

@@ -1,6 +1,6 @@
 use Rattle.std.proofs.Common.{sym, arith}
 use Rattle.std.proofs.lemmas.Fmt.{decimal_digit, decimal_step}
-use Rattle.autfilt_run.proofs.Writing.{writes_as, writes_first, writes_then}
+use Rattle.autfilt_run.proofs.printing.Writing.{writes_as, writes_first, writes_then}
 use Rattle.autfilt_run.proofs.number.+write_number.Goals as goal
 
 pub returns-then-number-lt10 : goal.returns-then-number-lt10

@@ -1,4 +1,4 @@
-use Rattle.autfilt_run.proofs.Writing.{writes_first, writes_then}
+use Rattle.autfilt_run.proofs.printing.Writing.{writes_first, writes_then}
 use Rattle.autfilt_run.proofs.number.write_line.Goals as goal
 
 pub returns-in_err-write_number : goal.returns-in_err-write_number

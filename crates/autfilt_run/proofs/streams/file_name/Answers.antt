@@ -1,6 +1,6 @@
 use Rattle.std.proofs.Common.{◌-◌, ◌∙◌, [], get_or, sym, ap, arith}
 use Rattle.std.proofs.lemmas.List.{length-append}
-use Rattle.autfilt_run.proofs.Files.{stream_behind, streams_are}
+use Rattle.autfilt_run.proofs.turns.Files.{stream_behind, streams_are}
 use Rattle.autfilt_run.specs.Plans.{streams_of}
 use Rattle.filter_plan.specs.Words.{operands}
 use Rattle.autfilt_run.proofs.streams.file_name.Goals as goal

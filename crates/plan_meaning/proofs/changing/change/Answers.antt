@@ -1,7 +1,7 @@
 use Rattle.std.proofs.Common.{List, map, subst}
 use Rattle.aut_core.specs.Core.{automaton_of}
-use Rattle.plan_meaning.proofs.Promised.{promises_kept}
-use Rattle.plan_meaning.proofs.Stepping.{makes_all}
+use Rattle.plan_meaning.proofs.changes.Promised.{promises_kept}
+use Rattle.plan_meaning.proofs.changes.Stepping.{makes_all}
 use Rattle.plan_meaning.specs.Changes.{Change, MakesAll}
 use Rattle.plan_meaning.specs.inner.Stepping.{MakesAsPromised, changes_asked}
 use Rattle.plan_meaning.proofs.changing.change.Goals as goal

@@ -1,6 +1,6 @@
 use Rattle.std.proofs.Common.{◌∙◌, ◌+◌, subst, sym, take}
 use Rattle.aut_core.specs.Core.{Core, automaton_of}
-use Rattle.plan_meaning.proofs.ChangeLists.{at_place, grown, grows, made_on, none_made, sized_at, stops_here}
+use Rattle.plan_meaning.proofs.changes.ChangeLists.{at_place, grown, grows, made_on, none_made, sized_at, stops_here}
 use Rattle.plan_meaning.specs.inner.Stepping.{IsMade, IsOfSizeAt, changes_asked}
 use Rattle.plan_meaning.proofs.changing.make_all.Goals.{in-Some+in_ok-made, in_default}
 use Rattle.plan_meaning.proofs.changing.make_all.Goals as goal

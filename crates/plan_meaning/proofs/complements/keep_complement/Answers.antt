@@ -1,5 +1,5 @@
 use Rattle.aut_core.specs.Core.{automaton_of}
-use Rattle.plan_meaning.proofs.Beside.{complement_within}
+use Rattle.plan_meaning.proofs.filters.Beside.{complement_within}
 use Rattle.plan_meaning.proofs.complements.keep_complement.Goals as goal
 
 pub returns-in_ok-complement-clause-kept : goal.returns-in_ok-complement-clause-kept

@@ -1,6 +1,6 @@
 use Rattle.std.proofs.Common.{Option, subst}
 use Rattle.aut_core.specs.Core.{Core, automaton_of}
-use Rattle.plan_meaning.proofs.Beside.{is_found}
+use Rattle.plan_meaning.proofs.filters.Beside.{is_found}
 use Rattle.plan_meaning.specs.Complements.{KeepsOf}
 use Rattle.plan_meaning.proofs.complements.word_beside.Goals as goal
 

@@ -1,7 +1,7 @@
 use Rattle.std.proofs.Common.{◌≡◌, ◌<◌, Bool, true, false, List, Ok, Err, Result, map, refl, subst, sym}
 use Rattle.aut_core.specs.Core.{automaton_of}
-use Rattle.plan_meaning.proofs.FilterLists.{ends, goes_on, passed_on}
-use Rattle.plan_meaning.proofs.Kept.{from_at, kept_on}
+use Rattle.plan_meaning.proofs.filters.FilterLists.{ends, goes_on, passed_on}
+use Rattle.plan_meaning.proofs.filters.Kept.{from_at, kept_on}
 use Rattle.plan_meaning.specs.Complements.{AreKept}
 use Rattle.plan_meaning.specs.Filters.{Filter}
 use Rattle.plan_meaning.specs.declared.fault.PlanFault.{PlanFault}

@@ -1,4 +1,4 @@
-use Rattle.plan_meaning.proofs.Verdicts as verdicts
+use Rattle.plan_meaning.proofs.filters.Verdicts as verdicts
 use Rattle.plan_meaning.proofs.laws.one_verdict.Goals as goal
 
 pub returns : goal.returns

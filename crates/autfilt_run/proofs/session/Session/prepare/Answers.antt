@@ -1,6 +1,6 @@
 use Rattle.std.proofs.Common.{◌≡◌, refl}
-use Rattle.autfilt_run.proofs.Alike.{has_skipped_as, is_ready_as, ready_of, skipped_of, stands_in_as}
-use Rattle.autfilt_run.proofs.Preparing.{prepares_on}
+use Rattle.autfilt_run.proofs.turns.Alike.{has_skipped_as, is_ready_as, ready_of, skipped_of, stands_in_as}
+use Rattle.autfilt_run.proofs.turns.Preparing.{prepares_on}
 use Rattle.autfilt_run.specs.declared.session.Stage.TheVariants as stages
 use Rattle.autfilt_run.proofs.session.Session.prepare.Goals as goal
 

@@ -1,6 +1,6 @@
 use Rattle.std.proofs.Common.{Bool, Ok, Err, refl, subst}
-use Rattle.autfilt_run.proofs.Reading.{is_good, is_skipped, is_whole, read_at}
-use Rattle.autfilt_run.proofs.Turning.{not_handled, not_read, steps_on}
+use Rattle.autfilt_run.proofs.turns.Reading.{is_good, is_skipped, is_whole, read_at}
+use Rattle.autfilt_run.proofs.turns.Turning.{not_handled, not_read, steps_on}
 use Rattle.autfilt_run.specs.Faults.{fault_of_reading}
 use Rattle.autfilt_run.specs.Points.{operands_in}
 use Rattle.autfilt_run.specs.inner.Handling.{Handles}

@@ -1,5 +1,5 @@
 use Rattle.std.proofs.Common.{◌≡◌, ◌+◌, ◌-◌, ◌<◌, false, true, None, length}
-use Rattle.autfilt_run.proofs.Preparing.{IsPreparing}
+use Rattle.autfilt_run.proofs.turns.Preparing.{IsPreparing}
 use Rattle.autfilt_run.specs.Points.{open_count}
 use Rattle.filter_plan.specs.Words.{operands}
 use Rattle.autfilt_run.proofs.session.Session.read_operands.Given as goal

@@ -4,9 +4,9 @@ use Rattle.std.proofs.lemmas.Bool.{false≢true}
 use Rattle.std.proofs.lemmas.List.{length_push}
 use Rattle.std.proofs.lemmas.List.Elements.{All-push}
 use Rattle.aut_core.specs.Core.{automaton_of}
-use Rattle.autfilt_run.proofs.OperandTurning.{not_over, not_read, not_taken, one_more, rises, turns_on}
-use Rattle.autfilt_run.proofs.Reading.{is_good, is_skipped, is_whole, read_at}
-use Rattle.autfilt_run.proofs.Taking.{core_is}
+use Rattle.autfilt_run.proofs.turns.OperandTurning.{not_over, not_read, not_taken, one_more, rises, turns_on}
+use Rattle.autfilt_run.proofs.turns.Reading.{is_good, is_skipped, is_whole, read_at}
+use Rattle.autfilt_run.proofs.handling.Taking.{core_is}
 use Rattle.autfilt_run.specs.Faults.{fault_of_reading}
 use Rattle.autfilt_run.specs.declared.fault.RunFault.TheVariants as fault
 use Rattle.autfilt_run.specs.declared.session.Stage.TheVariants as stages

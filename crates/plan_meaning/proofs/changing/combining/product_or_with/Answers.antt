@@ -1,5 +1,5 @@
 use Rattle.aut_core.specs.Core.{automaton_of}
-use Rattle.plan_meaning.proofs.Combinations.{product_or_made, product_or_sets, product_or_size}
+use Rattle.plan_meaning.proofs.changes.Combinations.{product_or_made, product_or_sets, product_or_size}
 use Rattle.plan_meaning.proofs.changing.combining.product_or_with.Goals as goal
 
 pub product_or-requires-clause-sets : goal.product_or-requires-clause-sets

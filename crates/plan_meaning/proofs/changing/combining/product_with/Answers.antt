@@ -1,5 +1,5 @@
 use Rattle.aut_core.specs.Core.{automaton_of}
-use Rattle.plan_meaning.proofs.Combinations.{product_made}
+use Rattle.plan_meaning.proofs.changes.Combinations.{product_made}
 use Rattle.plan_meaning.proofs.changing.combining.product_with.Goals as goal
 
 pub returns-clause-steps : goal.returns-clause-steps

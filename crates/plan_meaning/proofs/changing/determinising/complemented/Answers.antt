@@ -1,5 +1,5 @@
 use Rattle.aut_core.specs.Core.{automaton_of}
-use Rattle.plan_meaning.proofs.Determinised.{complement_made}
+use Rattle.plan_meaning.proofs.changes.Determinised.{complement_made}
 use Rattle.plan_meaning.proofs.changing.determinising.complemented.Goals as goal
 
 pub returns-clause-steps : goal.returns-clause-steps

@@ -1,5 +1,5 @@
 use Rattle.aut_core.specs.Core.{automaton_of}
-use Rattle.plan_meaning.proofs.Determinised.{deterministic_itself}
+use Rattle.plan_meaning.proofs.changes.Determinised.{deterministic_itself}
 use Rattle.plan_meaning.proofs.changing.determinising.deterministic.Goals as goal
 
 pub returns-then-is_deterministic-clause-steps : goal.returns-then-is_deterministic-clause-steps

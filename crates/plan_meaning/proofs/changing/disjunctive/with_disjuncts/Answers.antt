@@ -4,7 +4,7 @@ use Rattle.aut_base.specs.Automaton.{Automaton}
 use Rattle.aut_base.specs.Formula.{formula_tree}
 use Rattle.aut_core.specs.Core.{Core, automaton_of}
 use Rattle.aut_core.specs.OtherNames.{AcceptTheSame}
-use Rattle.plan_meaning.proofs.DisjunctiveForm.{AreOfTerms, are_disjunctive, disjunctive_accepts, disjunctive_parts}
+use Rattle.plan_meaning.proofs.changes.DisjunctiveForm.{AreOfTerms, are_disjunctive, disjunctive_accepts, disjunctive_parts}
 use Rattle.plan_meaning.proofs.changing.disjunctive.with_disjuncts.Goals as goal
 
 pub from_parts-requires : goal.from_parts-requires

@@ -1,5 +1,5 @@
 use Rattle.aut_core.specs.Core.{automaton_of}
-use Rattle.plan_meaning.proofs.Shapings.{buchi_made}
+use Rattle.plan_meaning.proofs.changes.Shapings.{buchi_made}
 use Rattle.plan_meaning.proofs.changing.shaping.buchi.Goals as goal
 
 pub returns-clause-steps : goal.returns-clause-steps

@@ -1,5 +1,5 @@
 use Rattle.aut_core.specs.Core.{automaton_of}
-use Rattle.plan_meaning.proofs.Shapings.{complete_itself}
+use Rattle.plan_meaning.proofs.changes.Shapings.{complete_itself}
 use Rattle.plan_meaning.proofs.changing.shaping.complete.Goals as goal
 
 pub returns-then-is_complete-clause-steps : goal.returns-then-is_complete-clause-steps

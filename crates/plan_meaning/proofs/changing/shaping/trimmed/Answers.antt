@@ -1,5 +1,5 @@
 use Rattle.aut_core.specs.Core.{automaton_of}
-use Rattle.plan_meaning.proofs.Shapings.{trim_made, trim_within}
+use Rattle.plan_meaning.proofs.changes.Shapings.{trim_made, trim_within}
 use Rattle.plan_meaning.proofs.changing.shaping.trimmed.Goals as goal
 
 pub returns-clause-steps : goal.returns-clause-steps

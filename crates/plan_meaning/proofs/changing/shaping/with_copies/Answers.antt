@@ -1,5 +1,5 @@
 use Rattle.aut_core.specs.Core.{automaton_of}
-use Rattle.plan_meaning.proofs.Shapings.{copies_made, fin_room}
+use Rattle.plan_meaning.proofs.changes.Shapings.{copies_made, fin_room}
 use Rattle.plan_meaning.proofs.changing.shaping.with_copies.Goals as goal
 
 pub returns-clause-steps : goal.returns-clause-steps

@@ -1,6 +1,6 @@
 use Rattle.std.proofs.Common.{Bool, Ok, subst}
 use Rattle.aut_core.specs.Core.{automaton_of}
-use Rattle.plan_meaning.proofs.Comparing.{equivalent_if, not_equivalent}
+use Rattle.plan_meaning.proofs.filters.Comparing.{equivalent_if, not_equivalent}
 use Rattle.plan_meaning.specs.inner.Judging.{ComparesInclusion}
 use Rattle.plan_meaning.proofs.judging.comparing.is_equivalent.Goals as goal
 

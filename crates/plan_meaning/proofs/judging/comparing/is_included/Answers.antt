@@ -1,5 +1,5 @@
 use Rattle.aut_core.specs.Core.{automaton_of}
-use Rattle.plan_meaning.proofs.Comparing.{examines_inclusion}
+use Rattle.plan_meaning.proofs.filters.Comparing.{examines_inclusion}
 use Rattle.plan_meaning.proofs.judging.comparing.is_included.Goals as goal
 
 pub returns-clause-examines : goal.returns-clause-examines

@@ -1,5 +1,5 @@
 use Rattle.aut_core.specs.Core.{automaton_of}
-use Rattle.plan_meaning.proofs.Meeting.{not_empty}
+use Rattle.plan_meaning.proofs.filters.Meeting.{not_empty}
 use Rattle.plan_meaning.proofs.judging.meeting.accepts_nothing.Goals as goal
 
 pub returns-in-Some : goal.returns-in-Some

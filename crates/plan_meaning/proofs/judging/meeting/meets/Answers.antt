@@ -1,5 +1,5 @@
 use Rattle.aut_core.specs.Core.{automaton_of}
-use Rattle.plan_meaning.proofs.Meeting.{meet_by, miss_by, within_product}
+use Rattle.plan_meaning.proofs.filters.Meeting.{meet_by, miss_by, within_product}
 use Rattle.plan_meaning.proofs.judging.meeting.meets.Goals as goal
 
 pub returns-in-Some : goal.returns-in-Some

@@ -1,5 +1,5 @@
 use Rattle.aut_core.specs.Core.{automaton_of}
-use Rattle.plan_meaning.proofs.Squares.{examined}
+use Rattle.plan_meaning.proofs.filters.Squares.{examined}
 use Rattle.plan_meaning.proofs.judging.square.is_unambiguous.Goals as goal
 
 pub returns : goal.returns

@@ -5,7 +5,7 @@ use Rattle.aut_base.specs.CanonicalLabel.{canonical}
 use Rattle.aut_base.specs.declared.limit.Limit.{Limit}
 use Rattle.aut_base.specs.declared.limit.Limit.TheVariants as limit
 use Rattle.parity_det.proofs.ParityLaws.{complement_is_determined}
-use Rattle.plan_meaning.proofs.ChangeLaws.{of_parity, one_of_parity}
+use Rattle.plan_meaning.proofs.changes.ChangeLaws.{of_parity, one_of_parity}
 use Rattle.plan_meaning.specs.Filters.{AcceptsWord, AllHold, EquivalentTo, FailsAt, Filter, HoldsWithin, IncludedIn, Intersects, IsDroppedBy}
 use Rattle.plan_meaning.specs.Filters.{IsKeptBy, IsUnambiguous, LacksWithin, Passes, PassesAt, RejectsWord, filters}
 use Rattle.plan_meaning.specs.Laws.{Dropped, Kept, OneLimitOfInclusion, OneVerdict, Over, SomeVerdict}

@@ -6,9 +6,9 @@ use Rattle.aut_base.specs.Automaton.{Automaton}
 use Rattle.aut_base.specs.declared.letter.Lasso.{Lasso}
 use Rattle.aut_core.specs.OtherNames.{joined_names}
 use Rattle.aut_io.specs.Seen.{SinkSeen}
-use Rattle.autfilt_run.proofs.ReadsAs.{reads_as}
-use Rattle.autfilt_run.proofs.Said.{made_as}
-use Rattle.autfilt_run.proofs.Taking.{accepts_read, core_is}
+use Rattle.autfilt_run.proofs.printing.ReadsAs.{reads_as}
+use Rattle.autfilt_run.proofs.printing.Said.{made_as}
+use Rattle.autfilt_run.proofs.handling.Taking.{accepts_read, core_is}
 use Rattle.autfilt_run.specs.Due.{IsDue, IsDueWhere, IsMade, IsPrinted, name_due}
 use Rattle.autfilt_run.specs.Faults.{fault_of_plan}
 use Rattle.autfilt_run.specs.Plans.{prints_each}
@@ -26,7 +26,7 @@ use Rattle.hoa_parser.specs.Raw.{Written}
 use Rattle.hoa_reader.specs.Described as reader
 use Rattle.hoa_writer.specs.CanonicalText.{canonical_text}
 use Rattle.hoa_writer.specs.CanonicalWritten.{ReadsBack}
-use Rattle.plan_meaning.proofs.Canonical.{verdict_read}
+use Rattle.plan_meaning.proofs.filters.Canonical.{verdict_read}
 use Rattle.plan_meaning.specs.Changes.{MakesAll, changes_of, set_operation}
 use Rattle.plan_meaning.specs.Filters.{IsKept, Judged}
 use Rattle.plan_meaning.specs.Limits.{IsWithinInclusion}

@@ -10,7 +10,7 @@ use Rattle.aut_base.specs.Formula.{met}
 use Rattle.aut_base.specs.LabelLaws.{LabelsBelow}
 use Rattle.aut_base.specs.Word.{NameSet}
 use Rattle.aut_core.specs.Deterministic.{is_met}
-use Rattle.plan_meaning.proofs.CanonicalEdges.{same_met, settled}
+use Rattle.plan_meaning.proofs.filters.CanonicalEdges.{same_met, settled}
 use Rattle.unambiguous.specs.Runs.{AcceptingRun, IsTrack, IsUnambiguous, marks_at}
 
 -- the edge at a place, in both

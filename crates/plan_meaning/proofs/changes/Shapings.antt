@@ -18,7 +18,7 @@ use Rattle.degeneralise.specs.Buchi.{NeedsTooManyTerms, buchi, buchi_states}
 use Rattle.fin_removal.proofs.TermCopies.{sets_within, terms_within}
 use Rattle.fin_removal.specs.Copies.{HasTooManyTerms, copied}
 use Rattle.filter_plan.specs.declared.plan.Form.TheVariants as form
-use Rattle.plan_meaning.proofs.Stepping.{changed_once}
+use Rattle.plan_meaning.proofs.changes.Stepping.{changed_once}
 use Rattle.plan_meaning.specs.Changes.{Bring, Complete, PassesForm, Trim, in_disjunctive_form}
 use Rattle.plan_meaning.specs.inner.Stepping.{HasRoom, IsMade, IsOfComplementSize, IsOfSumSize}
 

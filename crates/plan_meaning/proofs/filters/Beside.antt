@@ -18,7 +18,7 @@ use Rattle.parity_det.proofs.ParityLaws.{complement_is_determined}
 use Rattle.parity_det.specs.Complements.{IsRefusal, IsWithinParity}
 use Rattle.parity_det.specs.declared.fault.CompFault.{CompFault}
 use Rattle.parity_det.specs.declared.fault.CompFault.TheVariants as comp
-use Rattle.plan_meaning.proofs.Determinised.{within}
+use Rattle.plan_meaning.proofs.changes.Determinised.{within}
 use Rattle.plan_meaning.specs.Complements.{IsKeptOf}
 use Rattle.plan_meaning.specs.Limits.{HaveFewNames, HaveManyNames, IsIncluded, PassesOfBoth, PassesOfInclusion, PassesUnlessDeterministic}
 use Rattle.plan_meaning.specs.Refutations.{Refutes}

@@ -2,7 +2,7 @@
 use Rattle.std.proofs.Common.{◌≡◌, ◌⊎◌, ℕ, ◌-◌, List, Option, None, Result, Ok, Err, sym, subst, inl, inr, arith}
 use Rattle.aut_base.specs.declared.limit.Limit.{Limit}
 use Rattle.aut_base.specs.declared.limit.Limit.TheVariants as limit
-use Rattle.autfilt_run.proofs.PassedLimits.{IsOfReader}
+use Rattle.autfilt_run.proofs.handling.PassedLimits.{IsOfReader}
 use Rattle.autfilt_run.specs.Events.{IsGood}
 use Rattle.autfilt_run.specs.Faults.{fault_of_reading}
 use Rattle.autfilt_run.specs.Runs.{IsAllRead, StandsWith, StopsAt, WantsMemory}

@@ -4,7 +4,7 @@ use Rattle.std.specs.Result.{IsErrAnd}
 use Rattle.aut_base.specs.declared.fault.Failed.{Failed}
 use Rattle.aut_io.specs.Outside.{Rose}
 use Rattle.aut_io.specs.Seen.{SinkSeen, Writes}
-use Rattle.autfilt_run.proofs.Gains.{both, first, second}
+use Rattle.autfilt_run.proofs.printing.Gains.{both, first, second}
 
 pub rose_from : (a b c : ℕ) → b ≡ a → Rose b c → Rose a c
 rose_from a b c e r = subst (λ (n : ℕ). Rose n c) e r

@@ -11,7 +11,7 @@ use Rattle.aut_ops.specs.Languages.{AcceptsBoth, AcceptsEither}
 use Rattle.aut_ops.specs.Sums.{summed}
 use Rattle.aut_ops.specs.Products.{IsEitherOf, IsProductOf, over_both}
 use Rattle.aut_base.specs.declared.limit.TheConstants.{MOST_PAIRS}
-use Rattle.plan_meaning.proofs.Stepping.{changed_once}
+use Rattle.plan_meaning.proofs.changes.Stepping.{changed_once}
 use Rattle.plan_meaning.specs.Changes.{Product, ProductOr, Sum}
 use Rattle.plan_meaning.specs.Limits.{HaveFewNames, PassesOfBoth, PassesOfEither, PassesOfSum}
 use Rattle.plan_meaning.specs.Operands.{IsOfReadSize}

@@ -3,8 +3,8 @@ use Rattle.std.proofs.Common.{◌≡◌, ℕ, Option, Result, Ok, Err, refl, sym
 use Rattle.std.specs.Result.{IsErrAnd}
 use Rattle.aut_base.specs.declared.limit.Limit.{Limit}
 use Rattle.aut_io.specs.Seen.{Seen, SinkSeen}
-use Rattle.autfilt_run.proofs.PassedLimits.{both_ways, elsewhere}
-use Rattle.autfilt_run.proofs.Reading.{AnswersAt, is_broken, is_good, is_past, is_wanting, stops}
+use Rattle.autfilt_run.proofs.handling.PassedLimits.{both_ways, elsewhere}
+use Rattle.autfilt_run.proofs.turns.Reading.{AnswersAt, is_broken, is_good, is_past, is_wanting, stops}
 use Rattle.autfilt_run.specs.Faults.{fault_of_reading}
 use Rattle.autfilt_run.specs.Over.{IsOver}
 use Rattle.autfilt_run.specs.Points.{operands_in}

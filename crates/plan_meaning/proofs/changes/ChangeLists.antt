@@ -7,7 +7,7 @@ use Rattle.std.proofs.lemmas.List.Elements.{filter_map-append}
 use Rattle.aut_base.specs.Automaton.{Automaton}
 use Rattle.aut_core.specs.Core.{Core}
 use Rattle.plan_meaning.proofs.StandingLists.{one_more}
-use Rattle.plan_meaning.proofs.Stepping.{made_then, steps_end, steps_then}
+use Rattle.plan_meaning.proofs.changes.Stepping.{made_then, steps_end, steps_then}
 use Rattle.plan_meaning.specs.Changes.{Change}
 use Rattle.plan_meaning.specs.declared.changing.list.Change as coded
 use Rattle.plan_meaning.specs.declared.fault.PlanFault.{PlanFault}

@@ -12,8 +12,8 @@ use Rattle.aut_core.specs.Deterministic as core
 use Rattle.aut_core.specs.Deterministic.{GoesOn, is_met}
 use Rattle.aut_base.specs.declared.limit.Limit.{Limit}
 use Rattle.filter_plan.specs.declared.plan.Plan.{Plan}
-use Rattle.plan_meaning.proofs.CanonicalEdges.{same_met, settled}
-use Rattle.plan_meaning.proofs.CanonicalRuns.{unambiguous_one, unambiguous_other}
+use Rattle.plan_meaning.proofs.filters.CanonicalEdges.{same_met, settled}
+use Rattle.plan_meaning.proofs.filters.CanonicalRuns.{unambiguous_one, unambiguous_other}
 use Rattle.plan_meaning.specs.Filters.{AcceptsWord, AllHold, Edges, EquivalentTo, FailsAt, Filter, Holds, HoldsWithin, IncludedIn, Intersects}
 use Rattle.plan_meaning.specs.Filters.{IsComplete, IsDeterministic, IsDroppedBy, IsEmpty, IsKeptBy, IsUnambiguous, Judged, LacksWithin, Names, Passes}
 use Rattle.plan_meaning.specs.Filters.{PassesAt, RejectsWord, Sets, States, filters}

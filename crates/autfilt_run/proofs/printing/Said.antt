@@ -6,7 +6,7 @@ use Rattle.aut_base.specs.Acceptance.{Accepts}
 use Rattle.aut_base.specs.Automaton.{Automaton}
 use Rattle.aut_base.specs.Word.{NameSet}
 use Rattle.filter_plan.specs.declared.plan.Plan.{Plan}
-use Rattle.plan_meaning.proofs.Stepping.{all_alike}
+use Rattle.plan_meaning.proofs.changes.Stepping.{all_alike}
 use Rattle.plan_meaning.specs.Changes.{changes_of, set_operation}
 
 pub said_as : (p : Plan) (ops : List Automaton) (a b : Automaton) → ((u v : List NameSet) → Accepts a u v ↔ Accepts b u v) → SayTheSame (set_operation p ops a) (set_operation p ops b)

@@ -10,8 +10,8 @@ use Rattle.aut_base.specs.declared.limit.TheConstants.{MOST_BYTES}
 use Rattle.aut_core.specs.Core.{automaton_of}
 use Rattle.aut_io.specs.Outside.{Closed, Texts}
 use Rattle.aut_io.specs.Seen.{Seen}
-use Rattle.autfilt_run.proofs.Stepping.{KeepsOn, closed_counted, is_closed, name_as, one_name, opens_stream, reads_on, rest_from, stops_at, stops_named, stream_counted, takes_operand}
-use Rattle.autfilt_run.proofs.Writing.{rose_from}
+use Rattle.autfilt_run.proofs.turns.Stepping.{KeepsOn, closed_counted, is_closed, name_as, one_name, opens_stream, reads_on, rest_from, stops_at, stops_named, stream_counted, takes_operand}
+use Rattle.autfilt_run.proofs.printing.Writing.{rose_from}
 use Rattle.autfilt_run.specs.Events.{Point, ReadsOn}
 use Rattle.autfilt_run.specs.Faults.{stop_of_fault}
 use Rattle.autfilt_run.specs.Operands.{AreRead, FileOpened, OperandEvent, PassedOver, Proceeds, Taken, all_passed, operand_of, operands_of, passed_of}

@@ -12,7 +12,7 @@ use Rattle.parity_det.specs.Shapes.{IsParity}
 use Rattle.parity_det.specs.declared.fault.CompFault.{CompFault}
 use Rattle.parity_det.specs.declared.fault.CompFault.TheVariants as comp
 use Rattle.parity_laws.specs.Complement.{AreComplements}
-use Rattle.plan_meaning.proofs.Stepping.{changed_once}
+use Rattle.plan_meaning.proofs.changes.Stepping.{changed_once}
 use Rattle.plan_meaning.specs.Changes.{Bring, Complement}
 use Rattle.plan_meaning.specs.Limits.{PassesParity}
 use Rattle.plan_meaning.specs.inner.Faults.{fault_of_parity}

@@ -7,8 +7,8 @@ use Rattle.aut_base.specs.Automaton.{Automaton}
 use Rattle.aut_base.specs.declared.limit.Limit.{Limit}
 use Rattle.aut_core.specs.Core.{Core, automaton_of}
 use Rattle.aut_io.specs.Seen.{Seen}
-use Rattle.autfilt_run.proofs.PassedLimits.{counts_pass, elsewhere}
-use Rattle.autfilt_run.proofs.Reading.{AnswersAt, is_broken, is_past, is_wanting, stops}
+use Rattle.autfilt_run.proofs.handling.PassedLimits.{counts_pass, elsewhere}
+use Rattle.autfilt_run.proofs.turns.Reading.{AnswersAt, is_broken, is_past, is_wanting, stops}
 use Rattle.autfilt_run.specs.Faults.{fault_of_reading}
 use Rattle.autfilt_run.specs.declared.fault.RunFault.{RunFault}
 use Rattle.autfilt_run.specs.declared.fault.RunFault.TheVariants as fault

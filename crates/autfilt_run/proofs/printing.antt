@@ -1,0 +1,7 @@
+-- What is printed of an automaton, and what a sink has gained.
+pub mod FigureLines
+pub mod Gains
+pub mod ReadsAs
+mod RefutationLines
+mod Said
+pub mod Writing
