@@ -10,29 +10,9 @@ mod shape;
 mod shown;
 mod written;
 
-use aut_base::Memory;
-use std::io;
+use row_files::Fault;
 
-/// Why not all conditions were gone through.
-#[derive(Debug, Drop)]
-enum Stop {
-    Io(io::Error),
-    Memory,
-}
-
-impl From<io::Error> for Stop {
-    fn from(error: io::Error) -> Stop {
-        Stop::Io(error)
-    }
-}
-
-impl From<Memory> for Stop {
-    fn from(_want: Memory) -> Stop {
-        Stop::Memory
-    }
-}
-
-fn main(rt: HostRuntime) -> Result<(), Stop> {
+fn main(rt: HostRuntime) -> Result<(), Fault> {
     let alloc = rt.alloc();
     let (formulas, different) = compare::compared(alloc)?;
     println!(rt; "formulas={formulas} different={different}")?;

@@ -10,32 +10,12 @@ mod small;
 mod wide;
 mod written;
 
-use aut_base::Memory;
-use std::io;
+use row_files::Fault;
 
 /// The number of automata that are compared, each with every way of hiding.
 const AUTOMATA: u32 = 500;
 
-/// Why a run ended early.
-#[derive(Debug, Drop)]
-enum Stop {
-    Io(io::Error),
-    Memory,
-}
-
-impl From<io::Error> for Stop {
-    fn from(error: io::Error) -> Stop {
-        Stop::Io(error)
-    }
-}
-
-impl From<Memory> for Stop {
-    fn from(_want: Memory) -> Stop {
-        Stop::Memory
-    }
-}
-
-fn main(rt: HostRuntime) -> Result<(), Stop> {
+fn main(rt: HostRuntime) -> Result<(), Fault> {
     let alloc = rt.alloc();
     let mut different = 0u32;
     for row in by_hand::ROWS.iter() {

@@ -2,10 +2,10 @@
 
 ghost use Rattle.std.specs.Prelude.{◌≡◌, IfOk, length};
 
-use crate::Stop;
 use crate::script::{play, write_all};
 use aut_base::{Memory, Names, Numbers, Text, Words};
 use aut_io::{MemInputs, MemSink, SureInputs, SureSink};
+use row_files::Fault;
 use std::alloc::Global;
 
 /// Which calls fail, the script, and its answers. The text of `a` is "xy", that of `b` is "z", and `m` isn't there.
@@ -28,7 +28,7 @@ const SOURCES: [(&[u32], &[u8], &[u8]); 15] = [
 ];
 
 /// How many of the scripts answer otherwise.
-pub(crate) fn wrong_sources(alloc: Global) -> Result<u32, Stop> {
+pub(crate) fn wrong_sources(alloc: Global) -> Result<u32, Fault> {
     let mut wrong = 0u32;
     for (failing, script, answers) in SOURCES.iter() {
         if played(alloc, failing, script)?.as_slice() != *answers {
@@ -39,7 +39,7 @@ pub(crate) fn wrong_sources(alloc: Global) -> Result<u32, Stop> {
 }
 
 /// What a script answers over a source at which these calls fail.
-fn played(alloc: Global, failing: &[u32], script: &[u8]) -> Result<Vec<u8>, Stop> {
+fn played(alloc: Global, failing: &[u32], script: &[u8]) -> Result<Vec<u8>, Fault> {
     let failing = numbers(alloc, failing)?;
     let (names, texts) = two_texts(alloc)?;
     let mut inputs = MemInputs::new(names, texts, failing);
@@ -70,7 +70,7 @@ const SINKS: [(u32, &[u32], &[u8], &[u8]); 19] = [
 ];
 
 /// How many of the sinks keep or answer otherwise.
-pub(crate) fn wrong_sinks(alloc: Global) -> Result<u32, Stop> {
+pub(crate) fn wrong_sinks(alloc: Global) -> Result<u32, Fault> {
     let mut wrong = 0u32;
     for (capacity, failing, kept, answers) in SINKS.iter() {
         let mut sink = MemSink::new(alloc, *capacity, numbers(alloc, failing)?)?;
@@ -83,31 +83,31 @@ pub(crate) fn wrong_sinks(alloc: Global) -> Result<u32, Stop> {
 }
 
 /// Whether the source and the sink that never fail answer every call, and an empty piece fits a full sink.
-pub(crate) fn are_sure(alloc: Global) -> Result<bool, Stop> {
+pub(crate) fn are_sure(alloc: Global) -> Result<bool, Fault> {
     Ok(is_sure_source(alloc)? && is_sure_sink(alloc)? && is_room_for_nothing(alloc)?)
 }
 
-fn is_sure_source(alloc: Global) -> Result<bool, Stop> {
+fn is_sure_source(alloc: Global) -> Result<bool, Fault> {
     let (names, texts) = two_texts(alloc)?;
     let mut inputs = SureInputs::new(names, texts);
     let answers = play(alloc, &mut inputs, b"nannnbnanmnbnn")?;
     Ok(answers.as_slice() == b".+xy.+z+x+.+z.".as_slice())
 }
 
-fn is_sure_sink(alloc: Global) -> Result<bool, Stop> {
+fn is_sure_sink(alloc: Global) -> Result<bool, Fault> {
     let mut sink = SureSink::new();
     let answers = write_all(alloc, &mut sink, &[b"abc", b"", b"de"])?;
     Ok(answers.as_slice() == b"+++".as_slice())
 }
 
-fn is_room_for_nothing(alloc: Global) -> Result<bool, Stop> {
+fn is_room_for_nothing(alloc: Global) -> Result<bool, Fault> {
     let mut full = MemSink::new(alloc, 0, Numbers::new(alloc))?;
     let answers = write_all(alloc, &mut full, &[b""])?;
     Ok(answers.as_slice() == b"+".as_slice())
 }
 
 /// These numbers as a list.
-fn numbers(alloc: Global, items: &[u32]) -> Result<Numbers, Stop> {
+fn numbers(alloc: Global, items: &[u32]) -> Result<Numbers, Fault> {
     Ok(Numbers::from_vec(Vec::from_slice(alloc, items)?))
 }
 

@@ -4,42 +4,9 @@
 mod by_hand;
 mod script;
 
-use aut_base::Memory;
-use std::alloc::{AllocError, AllocFailed};
-use std::io;
+use row_files::Fault;
 
-/// Why a run ended early.
-#[derive(Debug, Drop)]
-enum Stop {
-    Io(io::Error),
-    Memory,
-}
-
-impl From<io::Error> for Stop {
-    fn from(error: io::Error) -> Stop {
-        Stop::Io(error)
-    }
-}
-
-impl From<Memory> for Stop {
-    fn from(_want: Memory) -> Stop {
-        Stop::Memory
-    }
-}
-
-impl<T: Drop> From<AllocFailed<T>> for Stop {
-    fn from(_want: AllocFailed<T>) -> Stop {
-        Stop::Memory
-    }
-}
-
-impl From<AllocError> for Stop {
-    fn from(_want: AllocError) -> Stop {
-        Stop::Memory
-    }
-}
-
-fn main(rt: HostRuntime) -> Result<(), Stop> {
+fn main(rt: HostRuntime) -> Result<(), Fault> {
     let alloc = rt.alloc();
     let sources = by_hand::wrong_sources(alloc)?;
     let sinks = by_hand::wrong_sinks(alloc)?;

@@ -2,14 +2,18 @@
 
 ghost use Rattle.std.specs.Prelude.{ℕ, List};
 
-use crate::Stop;
 use aut_base::{Memory, OpenFail, Text};
 use aut_io::{Inputs, Sink};
+use row_files::Fault;
 use std::alloc::Global;
 
 /// Makes the calls of a script and gives their answers: `n` reads, and any other letter opens the text of that
 /// name. `-` stands for a failed call, `+` for an open that succeeded, `.` for the end of the text.
-pub(crate) fn play<I: Inputs>(alloc: Global, inputs: &mut I, script: &[u8]) -> Result<Vec<u8>, Stop>
+pub(crate) fn play<I: Inputs>(
+    alloc: Global,
+    inputs: &mut I,
+    script: &[u8],
+) -> Result<Vec<u8>, Fault>
     requires { (name : List ℕ) → I.may_open name }
 {
     let mut answers = Vec::new(alloc);
@@ -48,7 +52,7 @@ pub(crate) fn write_all<S: Sink>(
     alloc: Global,
     sink: &mut S,
     pieces: &[&[u8]],
-) -> Result<Vec<u8>, Stop> {
+) -> Result<Vec<u8>, Fault> {
     let mut answers = Vec::new(alloc);
     for piece in pieces {
         let answer = match sink.write(piece) {

@@ -6,29 +6,9 @@ mod kept;
 mod shown;
 mod written;
 
-use aut_base::Memory;
-use std::io;
+use row_files::Fault;
 
-/// Why a run ended early.
-#[derive(Debug, Drop)]
-enum Stop {
-    Io(io::Error),
-    Memory,
-}
-
-impl From<io::Error> for Stop {
-    fn from(error: io::Error) -> Stop {
-        Stop::Io(error)
-    }
-}
-
-impl From<Memory> for Stop {
-    fn from(_want: Memory) -> Stop {
-        Stop::Memory
-    }
-}
-
-fn main(rt: HostRuntime) -> Result<(), Stop> {
+fn main(rt: HostRuntime) -> Result<(), Fault> {
     let alloc = rt.alloc();
     let mut different = 0u32;
     for row in by_hand::ROWS.iter() {
@@ -45,7 +25,7 @@ fn main(rt: HostRuntime) -> Result<(), Stop> {
 }
 
 /// The same of automata with some of their states alone.
-fn kept_rows(rt: HostRuntime) -> Result<(), Stop> {
+fn kept_rows(rt: HostRuntime) -> Result<(), Fault> {
     let alloc = rt.alloc();
     let mut different = 0u32;
     for row in kept::ROWS.iter() {

@@ -10,28 +10,9 @@ use aut_base::{Memory, Numbers};
 use doubling::{Doubling, Number};
 use exploration::{Explored, Fault, Limits, explore};
 use rising::Rising;
+use row_files::Fault;
 use std::alloc::Global;
 use std::hash::Hash;
-use std::io;
-
-/// Why a run ended early.
-#[derive(Debug, Drop)]
-enum Stop {
-    Io(io::Error),
-    Memory,
-}
-
-impl From<io::Error> for Stop {
-    fn from(error: io::Error) -> Stop {
-        Stop::Io(error)
-    }
-}
-
-impl From<Memory> for Stop {
-    fn from(_want: Memory) -> Stop {
-        Stop::Memory
-    }
-}
 
 /// How an exploration ended: with so many things and edges, or at a limit.
 #[derive(Clone, Copy, Debug)]
@@ -53,7 +34,7 @@ const DOUBLING: [(u32, u32, u32); 6] = [
 /// The limits of things and of classes.
 const RISING: [(u32, u32); 4] = [(2, 6), (1, 6), (2, 5), (9, 99)];
 
-fn main(rt: HostRuntime) -> Result<(), Stop> {
+fn main(rt: HostRuntime) -> Result<(), Fault> {
     let alloc = rt.alloc();
     for (bound, things, classes) in DOUBLING {
         let mut system = Doubling {

@@ -8,29 +8,10 @@ mod small;
 
 use aut_base::Memory;
 use large::{LARGE, Shape};
+use row_files::Fault;
 use std::alloc::Global;
-use std::io;
 
-/// Why a run ended early.
-#[derive(Debug, Drop)]
-enum Stop {
-    Io(io::Error),
-    Memory,
-}
-
-impl From<io::Error> for Stop {
-    fn from(error: io::Error) -> Stop {
-        Stop::Io(error)
-    }
-}
-
-impl From<Memory> for Stop {
-    fn from(_want: Memory) -> Stop {
-        Stop::Memory
-    }
-}
-
-fn main(rt: HostRuntime) -> Result<(), Stop> {
+fn main(rt: HostRuntime) -> Result<(), Fault> {
     let alloc = rt.alloc();
     let different = different(alloc)?;
     println!(rt; "graphs=512 different={different}")?;

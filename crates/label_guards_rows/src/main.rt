@@ -11,30 +11,11 @@ mod texts;
 mod written;
 
 use aut_base::{Memory, Text};
+use row_files::Fault;
 use sample::{Different, SAMPLE, different_of_three, different_samples};
 use std::alloc::Global;
-use std::io;
 
-/// Why a run ended early.
-#[derive(Debug, Drop)]
-enum Stop {
-    Io(io::Error),
-    Memory,
-}
-
-impl From<io::Error> for Stop {
-    fn from(error: io::Error) -> Stop {
-        Stop::Io(error)
-    }
-}
-
-impl From<Memory> for Stop {
-    fn from(_want: Memory) -> Stop {
-        Stop::Memory
-    }
-}
-
-fn main(rt: HostRuntime) -> Result<(), Stop> {
+fn main(rt: HostRuntime) -> Result<(), Fault> {
     let alloc = rt.alloc();
     let Different { functions, pairs } = different_of_three(alloc)?;
     println!(rt; "functions=256 different={functions}")?;

@@ -9,32 +9,13 @@ mod slow;
 mod small;
 
 use aut_base::Memory;
+use row_files::Fault;
 use std::alloc::Global;
-use std::io;
 
 /// The number of automata that are compared.
 const ROWS: u32 = 6000;
 
-/// Why a run ended early.
-#[derive(Debug, Drop)]
-enum Stop {
-    Io(io::Error),
-    Memory,
-}
-
-impl From<io::Error> for Stop {
-    fn from(error: io::Error) -> Stop {
-        Stop::Io(error)
-    }
-}
-
-impl From<Memory> for Stop {
-    fn from(_want: Memory) -> Stop {
-        Stop::Memory
-    }
-}
-
-fn main(rt: HostRuntime) -> Result<(), Stop> {
+fn main(rt: HostRuntime) -> Result<(), Fault> {
     let alloc = rt.alloc();
     let found = by_hand::are_found(alloc)?;
     println!(rt; "by hand: found={found}")?;
