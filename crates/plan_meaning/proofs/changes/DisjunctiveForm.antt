@@ -1,7 +1,6 @@
 -- An automaton under its condition in disjunctive form.
 use Rattle.std.proofs.Common.{◌≡◌, ◌∙◌, ℕ, true, List, [], ◌∷◌, ◌++◌, flat_map, map, subst, sym}
 use Rattle.std.specs.List.{AllByRecursion}
-use Rattle.std.proofs.lemmas.List.Elements.{All-weaker}
 use Rattle.acc_forms.proofs.TermLaws.{met-of_terms, met-terms}
 use Rattle.acc_forms.specs.Terms.{choices, each_terms, literal_tree, of_terms, pairs, terms}
 use Rattle.acc_forms.specs.declared.literal.Literal.{Literal}
@@ -10,7 +9,7 @@ use Rattle.aut_base.specs.Acceptance.{Accepts, IsPath}
 use Rattle.aut_base.specs.Automaton.{Automaton, TreeEdge}
 use Rattle.aut_base.specs.Formula.{And, EachSetsBelow, False, Fin, FormulaTree, FormulaTrees, Inf, Or, SetsBelow, True, met, more, none}
 use Rattle.aut_base.specs.Word.{NameSet}
-use Rattle.aut_core.specs.Core.{AreParts, Core, IsCore, IsLinkOf, automaton_of}
+use Rattle.aut_core.specs.Core.{Core, IsCore, automaton_of}
 use Rattle.aut_core.specs.OtherNames.{AcceptTheSame}
 use Rattle.fin_removal.proofs.Conditions.{below_parts, of_terms_holds}
 use Rattle.plan_meaning.specs.Changes.{in_disjunctive_form}
@@ -85,40 +84,15 @@ disjunctive_accepts a u v = (
   accepts_under (of_terms (terms a.formula)) a (λ cycle h. met_alike a.formula cycle ∙ h) u v,
 )
 
--- ---- its parts
+-- ---- its condition
 
-abbrev under_terms : Core → Core
-under_terms c = record c { formula = of_terms (terms c.formula) }
+of_own : (c : Core) (f : FormulaTree) (ts : List (List Literal)) → ts ≡ terms c.formula → f ≡ of_terms ts → f ≡ of_terms (terms c.formula)
+of_own c f ts listed joined = joined ∙ (λ i. of_terms (listed i))
 
--- what each part is
-pub record AreOfTerms (old new : Core) (ts : List (List Literal)) : Type 0 where
-  pub listed : ts ≡ terms old.formula
-  pub names : new.names ≡ old.names
-  pub starts : new.starts ≡ old.starts
-  pub states : new.states ≡ old.states
-  pub links : new.links ≡ old.links
-  pub sets : new.sets ≡ old.sets
-  pub formula : new.formula ≡ of_terms ts
-  pub store : new.store ≡ old.store
+pub disjuncts_below : (c : Core) → IsCore c → (f : FormulaTree) (ts : List (List Literal)) → ts ≡ terms c.formula → f ≡ of_terms ts → SetsBelow c.sets f
+disjuncts_below c core f ts listed joined =
+    subst (SetsBelow c.sets) (sym (of_own c f ts listed joined)) (of_terms_holds (SetsBelow c.sets) (below_parts c.sets) (terms c.formula) (terms_below c.sets c.formula core.parts.formula))
 
-same_core : (old new : Core) (ts : List (List Literal)) → AreOfTerms old new ts → new ≡ under_terms old
-same_core old new ts are =
-    let formula : new.formula ≡ of_terms (terms old.formula) = are.formula ∙ (λ i. of_terms (are.listed i)) in
-    λ i. record { names = are.names i; starts = are.starts i; states = are.states i; links = are.links i; sets = are.sets i; formula = formula i; store = are.store i }
-
-pub are_disjunctive : (old new : Core) (ts : List (List Literal)) → AreOfTerms old new ts → automaton_of new ≡ in_disjunctive_form (automaton_of old)
-are_disjunctive old new ts are = λ i. automaton_of (same_core old new ts are i)
-
-parts_under_terms : (c : Core) → IsCore c → AreParts (under_terms c)
-parts_under_terms c core = record {
-  few = core.parts.few;
-  store_names = core.parts.store_names;
-  starts_differ = core.parts.starts_differ;
-  starts = core.parts.starts;
-  in_order = core.parts.in_order;
-  links = All-weaker (IsLinkOf c) (IsLinkOf (under_terms c)) (λ l h. record { from = h.from; guard = h.guard; to = h.to; marks = h.marks }) c.links core.parts.links;
-  formula = of_terms_holds (SetsBelow c.sets) (below_parts c.sets) (terms c.formula) (terms_below c.sets c.formula core.parts.formula);
-}
-
-pub disjunctive_parts : (old new : Core) (ts : List (List Literal)) → IsCore old → AreOfTerms old new ts → AreParts new
-disjunctive_parts old new ts core are = subst AreParts (sym (same_core old new ts are)) (parts_under_terms old core)
+pub same_disjuncts : (c made : Core) (f : FormulaTree) (ts : List (List Literal)) → ts ≡ terms c.formula → f ≡ of_terms ts → made ≡ record c { formula = f }
+    → automaton_of made ≡ in_disjunctive_form (automaton_of c)
+same_disjuncts c made f ts listed joined same = (λ i. automaton_of (same i)) ∙ (λ i. record (automaton_of c) { formula = of_own c f ts listed joined i })

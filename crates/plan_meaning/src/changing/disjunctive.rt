@@ -8,43 +8,18 @@ ghost use Rattle.fin_removal.specs.Copies.{HasTooManyTerms};
 ghost use Rattle.plan_meaning.specs.Changes.{in_disjunctive_form};
 
 use acc_forms::{FormFault, disjuncts, of_terms};
-use aut_base::Memory;
-use aut_core::{Automaton, Link, Links, copy_link, copy_names, copy_numbers};
+use aut_core::Automaton;
 use std::alloc::Global;
 
 /// The automaton under the disjunction of its condition's terms.
-pub(crate) fn with_disjuncts(alloc: Global, a: &Automaton) -> Result<Automaton, FormFault>
-    ensures accepts { IfOk result (λ made. AcceptTheSame (automaton_of made) (automaton_of a.now)) }
-    ensures shape { IfOk result (λ made. automaton_of made ≡ in_disjunctive_form (automaton_of a.now)) }
-    ensures passed { HasTooManyTerms (automaton_of a.now) → result ≡ Err FormFault.Terms }
-    ensures only_passed { result ≡ Err FormFault.Terms → HasTooManyTerms (automaton_of a.now) }
+pub(crate) fn with_disjuncts(alloc: Global, a: Automaton) -> Result<Automaton, FormFault>
+    ensures accepts { IfOk result (λ made. AcceptTheSame (automaton_of made) (automaton_of a)) }
+    ensures shape { IfOk result (λ made. automaton_of made ≡ in_disjunctive_form (automaton_of a)) }
+    ensures passed { HasTooManyTerms (automaton_of a) → result ≡ Err FormFault.Terms }
+    ensures only_passed { result ≡ Err FormFault.Terms → HasTooManyTerms (automaton_of a) }
 {
     a.whole();
     let terms = disjuncts(alloc, a.formula())?;
     let formula = of_terms(alloc, &terms)?;
-    let names = copy_names(a.names())?;
-    let guards = a.guards().copy(alloc)?;
-    let starts = copy_numbers(a.starts())?;
-    let links = copy_links(alloc, a.links())?;
-    Ok(Automaton::from_parts(
-        alloc,
-        names,
-        guards,
-        a.states(),
-        starts,
-        links,
-        a.sets(),
-        formula,
-    )?)
-}
-
-/// Copies of the links.
-fn copy_links(alloc: Global, links: &[Link]) -> Result<Links, Memory>
-    ensures { IfOk result (λ copy. copy ≡ links.now) }
-{
-    let mut copy = Links::new(alloc);
-    'links: for link in links {
-        copy.push(copy_link(link)?)?;
-    }
-    Ok(copy)
+    Ok(a.with_formula(formula))
 }

@@ -51,7 +51,7 @@ pub(crate) fn bring(alloc: Global, form: Form, a: Automaton) -> Result<Automaton
         Form::AsIs => unreachable!(),
         Form::Buchi => buchi(alloc, &a),
         Form::RemoveFin => without_fin(alloc, a),
-        Form::Dnf => disjunctive(alloc, &a),
+        Form::Dnf => disjunctive(alloc, a),
         Form::Deterministic => deterministic(alloc, a),
         Form::Parity => parity_of(alloc, &a),
         Form::Monitor => monitored(alloc, &a),
@@ -93,9 +93,9 @@ fn with_copies(alloc: Global, a: &Automaton) -> Result<Automaton, PlanFault>
     Ok(copies(alloc, a)?)
 }
 
-fn disjunctive(alloc: Global, a: &Automaton) -> Result<Automaton, PlanFault>
-    requires size { IsOfComplementSize (automaton_of a.now) }
-    ensures steps { Steps (Bring Form.Dnf ∷ []) (automaton_of a.now) result }
+fn disjunctive(alloc: Global, a: Automaton) -> Result<Automaton, PlanFault>
+    requires size { IsOfComplementSize (automaton_of a) }
+    ensures steps { Steps (Bring Form.Dnf ∷ []) (automaton_of a) result }
     ensures size { IfOk result (λ made. HasRoom (automaton_of made)) }
 {
     Ok(with_disjuncts(alloc, a)?)
