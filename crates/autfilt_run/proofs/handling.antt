@@ -1,4 +1,4 @@
 -- What becomes of an automaton that was read.
-mod Handling
-mod PassedLimits
-mod Taking
+pub mod Handling
+pub mod PassedLimits
+pub mod Taking

@@ -2,6 +2,6 @@
 pub mod FigureLines
 pub mod Gains
 pub mod ReadsAs
-mod RefutationLines
-mod Said
+pub mod RefutationLines
+pub mod Said
 pub mod Writing

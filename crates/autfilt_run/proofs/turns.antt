@@ -1,8 +1,8 @@
 -- Calls of a session, as what happens in a run.
-mod Alike
-mod Files
-mod OperandTurning
+pub mod Alike
+pub mod Files
+pub mod OperandTurning
 pub mod Preparing
-mod Reading
+pub mod Reading
 pub mod Stepping
-mod Turning
+pub mod Turning

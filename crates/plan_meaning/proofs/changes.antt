@@ -1,10 +1,10 @@
 -- What the changes of a plan make of an automaton, and what is promised of it.
-mod ChangeLaws
-mod ChangeLists
-mod Combinations
-mod Determinised
-mod DisjunctiveForm
-mod Monitored
-mod Promised
-mod Shapings
+pub mod ChangeLaws
+pub mod ChangeLists
+pub mod Combinations
+pub mod Determinised
+pub mod DisjunctiveForm
+pub mod Monitored
+pub mod Promised
+pub mod Shapings
 pub mod Stepping

@@ -1,11 +1,11 @@
 -- Whether filters hold of an automaton, and what the verdict is.
-mod Beside
+pub mod Beside
 pub mod Canonical
-mod CanonicalEdges
-mod CanonicalRuns
-mod Comparing
-mod FilterLists
-mod Kept
-mod Meeting
-mod Squares
-mod Verdicts
+pub mod CanonicalEdges
+pub mod CanonicalRuns
+pub mod Comparing
+pub mod FilterLists
+pub mod Kept
+pub mod Meeting
+pub mod Squares
+pub mod Verdicts
