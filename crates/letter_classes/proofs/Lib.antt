@@ -1,4 +1,5 @@
 pub mod ClassGuards
 pub mod ClassTruths
+pub mod KnownLists
 pub mod SetGuards
 pub mod Told

@@ -7,9 +7,10 @@ ghost use Rattle.label_guards.specs.Store.{Keeps};
 ghost use Rattle.letter_classes.specs.SetClasses.{IsClassGuard, set_classes};
 
 use crate::guards::set_guards;
+use crate::store::ClassStore;
 use aut_base::Memory;
 use aut_core::Automaton;
-use label_guards::{Guard, Guards};
+use label_guards::Guard;
 use std::alloc::Global;
 
 /// One guard for each class of letters that the edges from the states of the set don't tell apart, in the order of their
@@ -18,7 +19,7 @@ use std::alloc::Global;
 pub fn classes_of_set(
     alloc: Global,
     a: &Automaton,
-    guards: &mut Guards,
+    guards: &mut ClassStore,
     set: &[u32],
     most: u32,
 ) -> Result<Option<Vec<Guard>>, Memory>
@@ -30,8 +31,5 @@ pub fn classes_of_set(
 {
     a.whole();
     let list = set_guards(alloc, a, set)?;
-    match guards.classes(alloc, &list, most)? {
-        Some(classes) => Ok(Some(classes.into_vec())),
-        None => Ok(None),
-    }
+    guards.classes(alloc, list, most)
 }

@@ -26,6 +26,7 @@ use aut_ops::prune;
 use degeneralise::to_buchi;
 use exploration::{Edge, Explored, Limits, explore};
 use label_guards::{Guard, Guards};
+use letter_classes::ClassStore;
 use std::alloc::Global;
 
 /// The monitor: a deterministic automaton without acceptance sets, which accepts just the words whose first n letters, for
@@ -73,16 +74,17 @@ fn subset_form(alloc: Global, b: &Automaton) -> Result<Automaton, MonFault>
         return Ok(without_states(alloc, b)?);
     }
     let start = start_set(b)?;
+    let store = ClassStore::new(alloc, b.guards().copy(alloc)?);
     let mut system = Subsets {
         automaton: b,
-        guards: b.guards().copy(alloc)?,
+        guards: store,
     };
     let limits = Limits {
         things: MOST_SUBSETS,
         classes: MOST_CLASSES,
     };
     match explore(alloc, &mut system, start, limits) {
-        Ok(found) => Ok(built(alloc, b, system.guards, &found)?),
+        Ok(found) => Ok(built(alloc, b, system.guards.into_guards(), &found)?),
         Err(fault) => Err(limit_met(fault)),
     }
 }

@@ -6,8 +6,8 @@ use crate::goals::goals;
 use aut_base::{Memory, Numbers};
 use aut_core::Automaton;
 use exploration::{StepFault, System};
-use label_guards::{Guard, Guards};
-use letter_classes::classes_of_set;
+use label_guards::Guard;
+use letter_classes::{ClassStore, classes_of_set};
 use std::alloc::Global;
 
 /// The sets of states of an automaton, as lists of numbers in rising order, and a store that has its guards and those of the
@@ -15,7 +15,7 @@ use std::alloc::Global;
 #[derive(Drop)]
 pub(crate) struct Subsets<'a> {
     pub(crate) automaton: &'a Automaton,
-    pub(crate) guards: Guards,
+    pub(crate) guards: ClassStore,
 }
 
 impl<'a> System for Subsets<'a> {

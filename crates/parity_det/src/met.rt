@@ -5,14 +5,15 @@ ghost use Rattle.label_guards.specs.Store.{Has, Keeps};
 ghost use Rattle.parity_det.specs.Systems.{AreMet};
 
 use aut_base::Memory;
-use label_guards::{Guard, GuardList, Guards};
+use label_guards::{Guard, GuardList};
+use letter_classes::ClassStore;
 use std::alloc::Global;
 
 /// The guards of the list that some letter of the class meets. Where the list tells apart the class from others, all of its
 /// letters then do.
 pub(crate) fn met_guards(
     alloc: Global,
-    guards: &mut Guards,
+    guards: &mut ClassStore,
     list: &GuardList,
     class: Guard,
 ) -> Result<GuardList, Memory>

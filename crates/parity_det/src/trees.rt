@@ -8,8 +8,8 @@ use crate::moves::met_moves;
 use aut_base::Memory;
 use aut_core::Automaton;
 use exploration::{StepFault, System};
-use label_guards::{Guard, Guards};
-use letter_classes::{classes_of_set, set_guards};
+use label_guards::Guard;
+use letter_classes::{ClassStore, classes_of_set, set_guards};
 use safra_trees::{Event, SafraTree};
 use std::alloc::Global;
 
@@ -17,7 +17,7 @@ use std::alloc::Global;
 #[derive(Drop)]
 pub(crate) struct Trees<'a> {
     pub(crate) automaton: &'a Automaton,
-    pub(crate) guards: Guards,
+    pub(crate) guards: ClassStore,
 }
 
 impl<'a> System for Trees<'a> {

@@ -1,4 +1,4 @@
-use Rattle.std.proofs.Common.{◌∙◌, ◌<◌, ℕ, List, length, map, subst}
+use Rattle.std.proofs.Common.{◌∙◌, ◌<◌, ℕ, List, length, map, subst, sym}
 use Rattle.std.proofs.lemmas.List.{map-id}
 use Rattle.std.specs.Cmp.Lexicographic.{pointwise}
 use Rattle.std.specs.Prelude.{⊤, nat_eq}
@@ -9,19 +9,20 @@ use Rattle.exploration.specs.Explorations.{IsSound, arrow_of}
 use Rattle.exploration.specs.Reached.{IsExplored}
 use Rattle.exploration.specs.Turns.{EndsWith}
 use Rattle.monitor_form.proofs.Built.{explored_from, start_fits}
-use Rattle.label_guards.specs.Store.{Keeps}
+use Rattle.label_guards.specs.Store.{Keeps, Store}
 use Rattle.monitor_form.specs.Subsets.{subset_moves, subset_rules}
 use Rattle.letter_classes.specs.SetClasses.{FitsStore, IsClassGuard}
 use Rattle.monitor_form.proofs.form.subset_form.Goals as goal
 
 pub explore-requires-clause-fits : goal.explore-requires-clause-fits
-explore-requires-clause-fits c = start_fits c.args.b.now c.in_ok-copy.field-0 c.in_ok-start.start (c.in_ok-copy.ensures ∙ c.guards.ensures) c.in_ok-start.ensures
+explore-requires-clause-fits c =
+    start_fits c.args.b.now c.new-store.result c.in_ok-start.start (c.new-store.ensures ∙ (c.in_ok-copy.ensures ∙ c.guards.ensures)) c.in_ok-start.ensures
 
 pub built-requires-clause-keeps : goal.built-requires-clause-keeps
 built-requires-clause-keeps c =
-    let fits = start_fits c.args.b.now c.in_ok-copy.field-0 c.in_ok-start.start (c.in_ok-copy.ensures ∙ c.guards.ensures) c.in_ok-start.ensures in
+    let fits = start_fits c.args.b.now c.new-store.result c.in_ok-start.start (c.new-store.ensures ∙ (c.in_ok-copy.ensures ∙ c.guards.ensures)) c.in_ok-start.ensures in
     let kept : FitsStore c.explore.new.system.automaton.now c.explore.new.system.guards c.in_ok-start.start = c.in-Ok.ensures.keeps.fits c.in_ok-start.start fits in
-    subst (λ (core : Core). Keeps core.store c.explore.new.system.guards) c.in-Ok.ensures.frame kept.keeps
+    subst (Keeps c.args.b.now.store) (sym c.into_guards.ensures) (subst (λ (core : Core). Keeps core.store c.explore.new.system.guards) c.in-Ok.ensures.frame kept.keeps)
 
 pub built-requires-clause-explored : goal.built-requires-clause-explored
 built-requires-clause-explored c =
@@ -35,9 +36,11 @@ pub built-requires-clause-sound : goal.built-requires-clause-sound
 built-requires-clause-sound c =
     let guards = c.explore.new.system.guards in
     let edges = c.in-Ok.found.edges.items in
-    subst (λ (core : Core). IsSound (FitsStore core guards) (IsClassGuard core guards) (λ _ _ _. ⊤) MOST_SUBSETS c.in-Ok.found.things.keys edges) c.in-Ok.ensures.frame
-    (subst (λ (sets : List (List ℕ)). IsSound (FitsStore c.explore.new.system.automaton.now guards) (IsClassGuard c.explore.new.system.automaton.now guards) (λ _ _ _. ⊤) MOST_SUBSETS sets edges)
-    (map-id c.in-Ok.found.things.keys) c.in-Ok.ensures.sound)
+    let sets = c.in-Ok.found.things.keys in
+    subst (λ (s : Store). IsSound (FitsStore c.args.b.now s) (IsClassGuard c.args.b.now s) (λ _ _ _. ⊤) MOST_SUBSETS sets edges) (sym c.into_guards.ensures)
+    (subst (λ (core : Core). IsSound (FitsStore core guards) (IsClassGuard core guards) (λ _ _ _. ⊤) MOST_SUBSETS sets edges) c.in-Ok.ensures.frame
+    (subst (λ (found : List (List ℕ)). IsSound (FitsStore c.explore.new.system.automaton.now guards) (IsClassGuard c.explore.new.system.automaton.now guards) (λ _ _ _. ⊤) MOST_SUBSETS found edges)
+    (map-id sets) c.in-Ok.ensures.sound))
 
 pub returns-in_ok-built-in-Ok-clause-shape : goal.returns-in_ok-built-in-Ok-clause-shape
 returns-in_ok-built-in-Ok-clause-shape c =

@@ -1,0 +1,96 @@
+//! A store of guards that keeps the classes of the lists of guards that were met.
+
+ghost use Rattle.std.specs.Prelude.{◌≡◌, ◌↔◌, ◌<◌, ◌≤◌, ◌&&◌, ℕ, All, IfOk, IsTrue, List, MatchOption, length};
+ghost use Rattle.label_guards.specs.ClassLeasts.{class_leasts, labels_in};
+ghost use Rattle.label_guards.specs.Guards.{AreNames, IsGuardOf, IsMetByNone, IsNeverMet, truth_in};
+ghost use Rattle.label_guards.specs.Leasts.{IsLeastLetter};
+ghost use Rattle.label_guards.specs.Store.{Has, Keeps};
+ghost use Rattle.letter_classes.specs.Known.{IsKnown};
+
+use crate::known::{Known, known_classes};
+use aut_base::{Letter, Memory, Names};
+use label_guards::{Guard, GuardList, Guards};
+use std::alloc::Global;
+use std::marker::Model;
+
+/// A store of guards, and the classes of the lists of its guards that were met. Many sets of states have edges under the same
+/// guards, and so the same classes. Contracts see the store.
+#[derive(Drop)]
+pub struct ClassStore {
+    guards: Guards,
+    known: Known,
+}
+
+impl Model for ClassStore {
+    ghost use Rattle.label_guards.specs.Store.{Store};
+    ghost use Rattle.letter_classes.specs.Known.{AreKnown};
+
+    ghost Value = { Store };
+
+    ghost view = { λ s. s.guards };
+
+    ghost invariant = { λ s. AreKnown s.guards s.known.entries };
+}
+
+impl ClassStore {
+    /// This store, before any list was met.
+    pub fn new(alloc: Global, guards: Guards) -> ClassStore
+        ensures { result ≡ guards }
+    {
+        ClassStore {
+            guards,
+            known: Known::new(alloc),
+        }
+    }
+
+    /// The store alone.
+    pub fn into_guards(self) -> Guards
+        ensures { result ≡ self }
+    {
+        self.guards
+    }
+
+    /// One guard for each class of letters that meet the same guards of the list, in the order of their least valuations, or
+    /// None exactly where there are more than `most`.
+    pub(crate) fn classes(
+        &mut self,
+        alloc: Global,
+        list: GuardList,
+        most: u32,
+    ) -> Result<Option<Vec<Guard>>, Memory>
+        requires { All (Has self.old) list }
+        ensures keeps { Keeps self.old self.new }
+        ensures classes { IfOk result (λ found. MatchOption found (most < length (class_leasts self.old.names (labels_in self.old list))) (λ cs. IsKnown self.new list cs.items)) }
+        ensures few { IfOk result (λ found. MatchOption found (Unit {0}) (λ cs. length cs.items ≤ most)) }
+    {
+        known_classes(alloc, &mut self.guards, &mut self.known, list, most)
+    }
+
+    /// The guard that is true where both are.
+    pub fn and(&mut self, g: Guard, h: Guard) -> Result<Guard, Memory>
+        requires left { Has self.old g }
+        requires right { Has self.old h }
+        ensures keeps { Keeps self.old self.new }
+        ensures and { IfOk result (IsGuardOf self.new (λ on. truth_in self.old g on && truth_in self.old h on)) }
+    {
+        self.guards.and(g, h)
+    }
+
+    /// Whether the guard is never true, in constant time.
+    pub fn is_false(&self, g: Guard) -> bool
+        requires { Has self.now g }
+        ensures valuations { IsTrue result ↔ IsNeverMet self.now g }
+        ensures letters { (names : List (List ℕ)) → AreNames self.now names → (IsTrue result ↔ IsMetByNone self.now names g) }
+    {
+        self.guards.is_false(g)
+    }
+
+    /// The letter of the least valuation that meets the guard, or `None` where none meets it.
+    pub fn pick(&self, alloc: Global, names: &Names, g: Guard) -> Result<Option<Letter>, Memory>
+        requires has { Has self.now g }
+        requires names { length names.now ≡ self.now.names }
+        ensures { IfOk result (λ found. MatchOption found (IsNeverMet self.now g) (IsLeastLetter self.now names.now g)) }
+    {
+        self.guards.pick(alloc, names, g)
+    }
+}
