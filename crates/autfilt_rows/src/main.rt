@@ -99,10 +99,10 @@ fn is_different(rt: &HostRuntime, row: &Row) -> Result<bool, Fault> {
     Ok(is_different)
 }
 
-/// Whether the run of this number comes out otherwise. It is made once more with a failing write of the note, which
-/// changes nothing else.
+/// Whether the run of this number comes out otherwise. Where something must be noted and the row doesn't say which writes of
+/// that fail, it is made once more with a failing first write of it, which changes nothing else.
 fn differs(rt: &HostRuntime, row: &Row, run: u32) -> Result<bool, Fault> {
-    Ok(run_differs(rt, row, run)? || mute_run_differs(rt, row, run)?)
+    Ok(run_differs(rt, row, run)? || (row.notes_freely() && mute_run_differs(rt, row, run)?))
 }
 
 fn run_differs(rt: &HostRuntime, row: &Row, run: u32) -> Result<bool, Fault> {

@@ -82,6 +82,11 @@ impl Row {
         (self.first, self.last)
     }
 
+    /// Whether something must be noted, and no write of it is said to fail.
+    pub(crate) fn notes_freely(&self) -> bool {
+        !self.note.as_bytes().is_empty() && self.failing_notes.is_empty()
+    }
+
     /// Takes what a line says. The first line of a row is its name.
     pub(crate) fn add(&mut self, rt: &HostRuntime, line: &str) -> Result<(), Fault> {
         let (kind, rest) = kind_and_rest(line);
