@@ -1,5 +1,5 @@
 -- What the texts alone decide of a run.
-use Rattle.std.specs.Prelude.{◌≡◌, ℕ, ◌+◌, ◌<◌, ◌⊎◌, true, false, List, [], ◌∷◌, ◌++◌, length, Option, Some, None}
+use Rattle.std.specs.Prelude.{◌≡◌, ◌≢◌, ℕ, ◌+◌, ◌<◌, ◌⊎◌, true, false, List, [], ◌∷◌, ◌++◌, length, Option, Some, None}
 use Rattle.std.specs.List.{AllByRecursion, sum_by}
 use Rattle.aut_base.specs.Automaton.{Automaton}
 use Rattle.aut_base.specs.declared.limit.Limit.{Limit}
@@ -18,7 +18,10 @@ use Rattle.autfilt_run.specs.Plans.{asks_on, prints_each, streams_of}
 use Rattle.autfilt_run.specs.declared.fault.RunFault.{RunFault}
 use Rattle.autfilt_run.specs.declared.fault.RunFault.TheVariants as fault
 use Rattle.filter_plan.specs.Words.{changes, operands}
-use Rattle.filter_plan.specs.declared.plan.Output.TheVariants.{Hoa}
+use Rattle.filter_plan.specs.declared.format.Piece.{Piece}
+use Rattle.filter_plan.specs.declared.format.Piece.TheVariants.{Word}
+use Rattle.filter_plan.specs.declared.plan.Output.{Output}
+use Rattle.filter_plan.specs.declared.plan.Output.TheVariants.{Hoa, Refute, Stats}
 use Rattle.filter_plan.specs.declared.plan.Plan.{Plan}
 use Rattle.hoa_lexer.specs.Blanks.{IsBlanks}
 use Rattle.hoa_parser.specs.Raw.{Written}
@@ -79,10 +82,16 @@ pub record IsEnded (plan : Plan) (texts : Texts) (left : Option (List ℕ)) (tak
 
 -- ---- uniqueness
 
--- The plan decides what is written of an automaton: its canonical text, or nothing. (Which word stands in a line of figures, and
--- which refutes, is left open.)
+-- What is printed of an automaton is decided: its canonical text is one, and so is a line of figures in which no word stands.
+-- (Which word stands in such a line, and which refutes, is left open.)
+abbrev pub DecidesPrinted : Output → Type 0
+DecidesPrinted Hoa = Unit {0}
+DecidesPrinted (Stats pieces) = AllByRecursion (λ (piece : Piece). piece ≢ Word) pieces
+DecidesPrinted (Refute file) = ⊥
+
+-- The plan decides what is written of an automaton, or nothing is.
 abbrev pub DecidesTexts : Plan → Type 0
-DecidesTexts plan = (plan.output ≡ Hoa) ⊎ (prints_each plan ≡ false)
+DecidesTexts plan = DecidesPrinted plan.output ⊎ (prints_each plan ≡ false)
 
 -- the same event, with the same text where the plan decides it
 abbrev pub IsLike : Plan → Event → Event → Type 0
