@@ -2,6 +2,8 @@
 pub mod Like
 mod Limits
 pub mod Looks
+mod BadPlaces
+pub mod EndPlaces
 pub mod Verdicts
 pub mod Steps
 pub mod Operands

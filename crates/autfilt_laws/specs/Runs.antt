@@ -1,11 +1,12 @@
 -- What the texts alone decide of a run.
-use Rattle.std.specs.Prelude.{◌≡◌, ℕ, ◌+◌, ◌<◌, ◌⊎◌, true, false, List, [], ◌∷◌, ◌++◌, length, Option, Some, None}
+use Rattle.std.specs.Prelude.{◌≡◌, ◌≢◌, ℕ, ◌+◌, ◌<◌, ◌⊎◌, true, false, List, [], ◌∷◌, ◌++◌, length, Option, Some, None}
 use Rattle.std.specs.List.{AllByRecursion, sum_by}
 use Rattle.aut_base.specs.Automaton.{Automaton}
 use Rattle.aut_base.specs.declared.limit.Limit.{Limit}
 use Rattle.aut_base.specs.declared.limit.Limit.TheVariants as limit
 use Rattle.aut_base.specs.declared.limit.TheConstants.{MOST_BYTES}
 use Rattle.aut_io.specs.Outside.{Texts, text_of}
+use Rattle.autfilt_command.specs.Notes.{line_of}
 use Rattle.autfilt_command.specs.Run.{AreAllRead, EndsByTally, EndsInOperands, RunsTo, end_of, tally_after}
 use Rattle.autfilt_command.specs.declared.ended.End.{End}
 use Rattle.autfilt_command.specs.declared.ended.End.TheVariants as end
@@ -18,7 +19,10 @@ use Rattle.autfilt_run.specs.Plans.{asks_on, prints_each, streams_of}
 use Rattle.autfilt_run.specs.declared.fault.RunFault.{RunFault}
 use Rattle.autfilt_run.specs.declared.fault.RunFault.TheVariants as fault
 use Rattle.filter_plan.specs.Words.{changes, operands}
-use Rattle.filter_plan.specs.declared.plan.Output.TheVariants.{Hoa}
+use Rattle.filter_plan.specs.declared.format.Piece.{Piece}
+use Rattle.filter_plan.specs.declared.format.Piece.TheVariants.{Word}
+use Rattle.filter_plan.specs.declared.plan.Output.{Output}
+use Rattle.filter_plan.specs.declared.plan.Output.TheVariants.{Hoa, Refute, Stats}
 use Rattle.filter_plan.specs.declared.plan.Plan.{Plan}
 use Rattle.hoa_lexer.specs.Blanks.{IsBlanks}
 use Rattle.hoa_parser.specs.Raw.{Written}
@@ -53,36 +57,47 @@ left_or (Some n) left = Some []
 abbrev pub streams_from : Plan → Point → Point
 streams_from plan p = start_of (streams_of plan) (left_or plan.made p.left) p.before
 
--- All operands were read, and what stands in the streams ended the run.
-pub record EndsInStreams (plan : Plan) (texts : Texts) (left : Option (List ℕ)) (taken : List OperandEvent) (events : List Event) (e : End) : Type 0 where
-  pub point : Point
-  pub read : AreAllRead plan texts left taken point
-  pub judged : AreJudged plan (operands_of taken) events
-  pub tallied : EndsByTally e (length (all_passed taken)) events
-  pub left_over : Option (List ℕ)
+-- What there is to tell of a run: the operands that it took, what happened in its streams, how it ended, the name in hand then,
+-- and what is left in the inputs, or in the generated text.
+pub record Outcome : Type 0 where
+  pub taken : List OperandEvent
+  pub events : List Event
+  pub end : End
   pub name : List ℕ
-  pub runs : RunsTo plan (operands_of taken) (texts_or plan.made texts) (streams_from plan point) left_over events e name
+  pub left : Option (List ℕ)
+
+-- All operands were read, and what stands in the streams ended the run.
+pub record EndsInStreams (plan : Plan) (texts : Texts) (left : Option (List ℕ)) (o : Outcome) : Type 0 where
+  pub point : Point
+  pub read : AreAllRead plan texts left o.taken point
+  pub judged : AreJudged plan (operands_of o.taken) o.events
+  pub tallied : EndsByTally o.end (length (all_passed o.taken)) o.events
+  pub runs : RunsTo plan (operands_of o.taken) (texts_or plan.made texts) (streams_from plan point) o.left o.events o.end o.name
 
 -- what stands in the file of an operand ended it
-pub record EndsBefore (plan : Plan) (texts : Texts) (left : Option (List ℕ)) (taken : List OperandEvent) (events : List Event) (e : End) : Type 0 where
+pub record EndsBefore (plan : Plan) (texts : Texts) (left : Option (List ℕ)) (o : Outcome) : Type 0 where
   pub fault : RunFault
-  pub ends : e ≡ end.Fault fault
-  pub none : events ≡ []
-  pub left_over : Option (List ℕ)
-  pub name : List ℕ
-  pub stops : EndsInOperands plan texts left left_over taken fault name
+  pub ends : o.end ≡ end.Fault fault
+  pub none : o.events ≡ []
+  pub stops : EndsInOperands plan texts left o.left o.taken fault o.name
 
 -- what the texts and the plan say of a run that they ended
-pub record IsEnded (plan : Plan) (texts : Texts) (left : Option (List ℕ)) (taken : List OperandEvent) (events : List Event) (e : End) : Type 0 where
-  pub by_text : IsByText e
-  pub ran : EndsBefore plan texts left taken events e ⊎ EndsInStreams plan texts left taken events e
+pub record IsEnded (plan : Plan) (texts : Texts) (left : Option (List ℕ)) (o : Outcome) : Type 0 where
+  pub by_text : IsByText o.end
+  pub ran : EndsBefore plan texts left o ⊎ EndsInStreams plan texts left o
 
 -- ---- uniqueness
 
--- The plan decides what is written of an automaton: its canonical text, or nothing. (Which word stands in a line of figures, and
--- which refutes, is left open.)
+-- What is printed of an automaton is decided: its canonical text is one, and so is a line of figures in which no word stands.
+-- (Which word stands in such a line, and which refutes, is left open.)
+abbrev pub DecidesPrinted : Output → Type 0
+DecidesPrinted Hoa = Unit {0}
+DecidesPrinted (Stats pieces) = AllByRecursion (λ (piece : Piece). piece ≢ Word) pieces
+DecidesPrinted (Refute file) = ⊥
+
+-- The plan decides what is written of an automaton, or nothing is.
 abbrev pub DecidesTexts : Plan → Type 0
-DecidesTexts plan = (plan.output ≡ Hoa) ⊎ (prints_each plan ≡ false)
+DecidesTexts plan = DecidesPrinted plan.output ⊎ (prints_each plan ≡ false)
 
 -- the same event, with the same text where the plan decides it
 abbrev pub IsLike : Plan → Event → Event → Type 0
@@ -98,17 +113,32 @@ AreLike plan [] (f ∷ fs) = ⊥
 AreLike plan (e ∷ es) [] = ⊥
 AreLike plan (e ∷ es) (f ∷ fs) = IsLike plan e f × AreLike plan es fs
 
-pub record AreSame (plan : Plan) (taken others : List OperandEvent) (events more : List Event) (e d : End) : Type 0 where
-  pub operands : taken ≡ others
-  pub streams : AreLike plan events more
-  pub texts : DecidesTexts plan → more ≡ events
-  pub ends : e ≡ d
+-- The name in hand is told where a fault ended the run. (No line is written about another end.)
+abbrev pub TellsName : End → Type 0
+TellsName (end.Fault f) = Unit {0}
+TellsName _ = ⊥
+
+-- What is left is told at each end but one. (Where a token opens one more than may be open, no more is said of the place at which
+-- a reader stops than that the last byte that it took was asked for, and that is so of earlier bytes, too.)
+abbrev pub TellsLeft : End → Type 0
+TellsLeft (end.Fault (fault.Limit limit.Depth)) = ⊥
+TellsLeft _ = Unit {0}
+
+pub record AreSame (plan : Plan) (a b : Outcome) : Type 0 where
+  pub operands : a.taken ≡ b.taken
+  pub streams : AreLike plan a.events b.events
+  pub texts : DecidesTexts plan → b.events ≡ a.events
+  pub ends : a.end ≡ b.end
+  pub name : TellsName a.end → a.name ≡ b.name
+  -- the line that is noted about the end
+  pub line : line_of a.end a.name ≡ line_of b.end b.name
+  pub left : TellsLeft a.end → a.left ≡ b.left
 
 -- Two runs over the same texts of one plan that the texts ended: the same happened, and they end alike.
 abbrev pub OneEnd : Type 0
 OneEnd =
-    (plan : Plan) (texts : Texts) (left : Option (List ℕ)) (taken others : List OperandEvent) (events more : List Event) (e d : End)
-    → IsEnded plan texts left taken events e → IsEnded plan texts left others more d → AreSame plan taken others events more e d
+    (plan : Plan) (texts : Texts) (left : Option (List ℕ)) (a b : Outcome)
+    → IsEnded plan texts left a → IsEnded plan texts left b → AreSame plan a b
 
 -- the one are the first of the others
 pub record AreFirst (plan : Plan) (events others : List Event) : Type 0 where
@@ -152,8 +182,8 @@ pub record AreReadable (plan : Plan) (texts : Texts) (left : Option (List ℕ)) 
 -- that was asked for.
 abbrev pub Completes : Type 0
 Completes =
-    (plan : Plan) (texts : Texts) (left : Option (List ℕ)) (taken : List OperandEvent) (events : List Event) (e : End) → AreReadable plan texts left
-    → IsEnded plan texts left taken events e → e ≡ end_of (tally_after (length (all_passed taken)) events)
+    (plan : Plan) (texts : Texts) (left : Option (List ℕ)) (o : Outcome) → AreReadable plan texts left
+    → IsEnded plan texts left o → o.end ≡ end_of (tally_after (length (all_passed o.taken)) o.events)
 
 -- ---- existence
 
@@ -183,7 +213,7 @@ abbrev pub SomeEnd : Type 0
 SomeEnd =
     (plan : Plan) → IsAlwaysDue plan → (texts : Texts) (left : Option (List ℕ))
     → size_of texts (operands plan) + size_of (texts_or plan.made texts) (streams_of plan) < MOST_BYTES
-    → ((taken : List OperandEvent) (events : List Event) (e : End) → IsEnded plan texts left taken events e → ⊥) → ⊥
+    → ((o : Outcome) → IsEnded plan texts left o → ⊥) → ⊥
 
 -- A plan that changes nothing, and prints canonical texts, is one,
 abbrev pub UnchangedIsDue : Type 0

@@ -3,6 +3,7 @@
 ghost use Rattle.autfilt_laws.specs.Runs.{Completes, OneEnd, OneFront, OneOperandFront, SilentIsDue, SomeEnd, UnchangedIsDue};
 
 use crate::places::refusals_are_shown;
+use aut_ops::trimmed_is_determined;
 use hoa_reader::{one_standing, some_standing};
 use hoa_writer::canonical_text_reads_back;
 use plan_meaning::{changes_are_determined, one_verdict, some_verdict};
@@ -14,6 +15,7 @@ pub fn one_end()
     one_standing();
     one_verdict();
     changes_are_determined();
+    trimmed_is_determined();
 }
 
 /// What a run reads and writes, as far as it comes, is the first of what any other run of the plan over the texts does.
@@ -24,6 +26,7 @@ pub fn one_front()
     one_standing();
     one_verdict();
     changes_are_determined();
+    trimmed_is_determined();
 }
 
 /// A run over texts that hold nothing but automata that can be read, and on which no limit is passed, or that are abandoned,

@@ -6,6 +6,7 @@ use Rattle.aut_io.specs.Outside.{Texts}
 use Rattle.autfilt_command.specs.Run.{EndsAt, EndsByTally, end_of, tally_after}
 use Rattle.autfilt_command.specs.declared.ended.End.{End}
 use Rattle.autfilt_command.specs.declared.ended.End.TheVariants as end
+use Rattle.autfilt_laws.proofs.alike.EndPlaces.{at_named}
 use Rattle.autfilt_laws.proofs.alike.Faults.{Asking, Halted, IsOneAsking, both_halted, halted, halted_look, unfit_whole}
 use Rattle.autfilt_laws.proofs.alike.Like.{tally_like}
 use Rattle.autfilt_laws.proofs.alike.Looks.{look_at, look_behind, look_over}
@@ -15,9 +16,8 @@ use Rattle.autfilt_laws.specs.Runs.{AreLike, IsByText}
 use Rattle.autfilt_run.specs.Events.{AreJudged, Dropped, Ended, Event, Goes, Happen, IsJudged, Kept, Opened, Point, Skipped}
 use Rattle.autfilt_run.specs.Over.{IsOver}
 use Rattle.autfilt_run.specs.Plans.{asks_on}
-use Rattle.autfilt_run.specs.Runs.{IsDone}
+use Rattle.autfilt_run.specs.Runs.{IsDone, StopsAt}
 use Rattle.autfilt_run.specs.declared.fault.RunFault.{RunFault}
-use Rattle.autfilt_run.specs.declared.fault.RunFault.TheVariants as fault
 use Rattle.filter_plan.specs.declared.plan.Plan.{Plan}
 use Rattle.hoa_parser.specs.Standing.{OneStanding}
 
@@ -41,19 +41,15 @@ abbrev pub Ends : Plan → List Automaton → ℕ → Point → List Event → E
 Ends plan ops passed p events (end.Fault f) = IsHalted plan ops p f
 Ends plan ops passed p events e = IsDone plan p × (e ≡ end_of (tally_after passed events))
 
-pub ends_at : (plan : Plan) (ops : List Automaton) (passed : ℕ) (e : End) (events : List Event) (name : List ℕ) (p : Point) (left : Option (List ℕ)) → IsByText e → EndsByTally e passed events → EndsAt plan ops e name p left → Ends plan ops passed p events e
+pub ends_at : (plan : Plan) (ops : List Automaton) (passed : ℕ) (e : End) (events : List Event) (name : List ℕ) (p : Point) (left : Option (List ℕ))
+    → IsByText e → EndsByTally e passed events → EndsAt plan ops e name p left → Ends plan ops passed p events e
 ends_at plan ops passed end.Output events name p left by t h = (h.0, t)
 ends_at plan ops passed end.NoneOutput events name p left by t h = (h.0, t)
 ends_at plan ops passed end.Aborts events name p left by t h = (h.0, t)
 ends_at plan ops passed end.Usage events name p left by t h = absurd by
-ends_at plan ops passed (end.Fault (fault.SyntaxAt k)) events name p left by t h = halted (asks_on plan p.kept ≡ true) (in_streams plan ops) (fault.SyntaxAt k) p left by h.0.at
-ends_at plan ops passed (end.Fault fault.Truncated) events name p left by t h = halted (asks_on plan p.kept ≡ true) (in_streams plan ops) fault.Truncated p left by h.0.at
-ends_at plan ops passed (end.Fault (fault.Invalid rule)) events name p left by t h = halted (asks_on plan p.kept ≡ true) (in_streams plan ops) (fault.Invalid rule) p left by h.0.at
-ends_at plan ops passed (end.Fault (fault.Limit which)) events name p left by t h = halted (asks_on plan p.kept ≡ true) (in_streams plan ops) (fault.Limit which) p left by h.0.at
-ends_at plan ops passed (end.Fault fault.CannotOpen) events name p left by t h = absurd by
-ends_at plan ops passed (end.Fault fault.ReadFault) events name p left by t h = absurd by
-ends_at plan ops passed (end.Fault fault.WriteFault) events name p left by t h = absurd by
-ends_at plan ops passed (end.Fault fault.Memory) events name p left by t h = absurd by
+ends_at plan ops passed (end.Fault f) events name p left by t h =
+    let named = at_named (asks_on plan p.kept ≡ true) (StopsAt (λ which w. IsOver which plan ops w)) f name p left by h.0 in
+    halted (asks_on plan p.kept ≡ true) (in_streams plan ops) f p left by named.at
 
 -- ---- nothing happens where the run has ended
 
@@ -79,7 +75,8 @@ done_goes : (plan : Plan) (texts : Texts) (e : Event) (p q : Point) → IsDone p
 done_goes plan texts e p q (inl reached) asks g = false≢true (sym reached ∙ asks)
 done_goes plan texts e p q (inr h) asks g = closed_goes texts e p q h.0 h.1 g
 
-nothing_more : OneStanding → AreOne → (plan : Plan) (ops : List Automaton) (passed : ℕ) (texts : Texts) (events : List Event) (d : End) (e : Event) (p q : Point) → Ends plan ops passed p events d → IsJudged plan ops e → asks_on plan p.kept ≡ true → Goes texts e p q → ⊥
+nothing_more : OneStanding → AreOne → (plan : Plan) (ops : List Automaton) (passed : ℕ) (texts : Texts) (events : List Event) (d : End) (e : Event) (p q : Point)
+    → Ends plan ops passed p events d → IsJudged plan ops e → asks_on plan p.kept ≡ true → Goes texts e p q → ⊥
 nothing_more one plain plan ops passed texts events (end.Fault f) e p q h j asks g = no_more one plain plan ops texts f e p q h j g
 nothing_more one plain plan ops passed texts events end.Output e p q h j asks g = done_goes plan texts e p q h.0 asks g
 nothing_more one plain plan ops passed texts events end.NoneOutput e p q h j asks g = done_goes plan texts e p q h.0 asks g
@@ -87,7 +84,8 @@ nothing_more one plain plan ops passed texts events end.Aborts e p q h j asks g 
 nothing_more one plain plan ops passed texts events end.Usage e p q h j asks g = done_goes plan texts e p q h.0 asks g
 
 -- the events of two runs that ended
-pub same_events : OneStanding → AreOne → (plan : Plan) (ops : List Automaton) (passed : ℕ) (texts : Texts) (es fs all all' : List Event) (e d : End) (p q r : Point) → AreJudged plan ops es → AreJudged plan ops fs
+pub same_events : OneStanding → AreOne → (plan : Plan) (ops : List Automaton) (passed : ℕ) (texts : Texts) (es fs all all' : List Event) (e d : End) (p q r : Point)
+    → AreJudged plan ops es → AreJudged plan ops fs
     → Happen plan texts es p q → Happen plan texts fs p r → Ends plan ops passed q all e → Ends plan ops passed r all' d → AreLike plan es fs × (q ≡ r)
 same_events one plain plan ops passed texts [] [] all all' e d p q r j i a b x y = (tt, sym a ∙ b)
 same_events one plain plan ops passed texts [] (f ∷ fs) all all' e d p q r j i a b x y =
@@ -113,8 +111,10 @@ not_done : (plan : Plan) (ops : List Automaton) (p : Point) (f : RunFault) → I
 not_done plan ops p f h (inl reached) = false≢true (sym reached ∙ h.asks)
 not_done plan ops p f h (inr done) = let some : None ≡ Some h.stream = sym done.0 ∙ h.is_open in cc
 
-pub alike : OneStanding → AreOne → (plan : Plan) (ops : List Automaton) (passed : ℕ) (p : Point) (events : List Event) (e d : End) → IsByText e → IsByText d → Ends plan ops passed p events e → Ends plan ops passed p events d → e ≡ d
-alike one plain plan ops passed p events (end.Fault f) (end.Fault g) x y a b = ap end.Fault (both_halted one (asks_on plan p.kept ≡ true) (in_streams plan ops) (one_in_streams plain plan ops) p f g a b)
+pub alike : OneStanding → AreOne → (plan : Plan) (ops : List Automaton) (passed : ℕ) (p : Point) (events : List Event) (e d : End) → IsByText e → IsByText d
+    → Ends plan ops passed p events e → Ends plan ops passed p events d → e ≡ d
+alike one plain plan ops passed p events (end.Fault f) (end.Fault g) x y a b =
+    ap end.Fault (both_halted one (asks_on plan p.kept ≡ true) (in_streams plan ops) (one_in_streams plain plan ops) p f g a b)
 alike one plain plan ops passed p events (end.Fault f) end.Output x y a b = absurd (not_done plan ops p f a b.0)
 alike one plain plan ops passed p events (end.Fault f) end.NoneOutput x y a b = absurd (not_done plan ops p f a b.0)
 alike one plain plan ops passed p events (end.Fault f) end.Aborts x y a b = absurd (not_done plan ops p f a b.0)

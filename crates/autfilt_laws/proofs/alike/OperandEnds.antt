@@ -2,29 +2,22 @@
 use Rattle.std.proofs.Common.{◌≡◌, ◌⊎◌, ℕ, List, [], ◌∷◌, Option, Some, None, refl, sym, ◌∙◌, subst, inl, inr}
 use Rattle.aut_io.specs.Outside.{Texts}
 use Rattle.autfilt_command.specs.declared.ended.End.TheVariants as end
+use Rattle.autfilt_laws.proofs.alike.EndPlaces.{at_named}
 use Rattle.autfilt_laws.proofs.alike.Faults.{Halted, both_halted, halted_in_operand, halted_look, in_operands, one_in_operands, unfit_whole}
 use Rattle.autfilt_laws.proofs.alike.Looks.{look_over, look_taken}
 use Rattle.autfilt_laws.proofs.alike.Operands.{one_proceeds}
 use Rattle.autfilt_laws.specs.Runs.{IsByText}
 use Rattle.autfilt_run.specs.Events.{Point}
 use Rattle.autfilt_run.specs.Operands.{AreRead, FileOpened, OperandEvent, PassedOver, Proceeds, Taken}
-use Rattle.autfilt_run.specs.Runs.{StopsInOperands}
+use Rattle.autfilt_run.specs.Runs.{StopsAtOperand, StopsInOperands}
 use Rattle.autfilt_run.specs.declared.fault.RunFault.{RunFault}
-use Rattle.autfilt_run.specs.declared.fault.RunFault.TheVariants as fault
 use Rattle.hoa_parser.specs.Standing.{OneStanding}
 
 abbrev pub IsHaltedIn : Point → RunFault → Type 0
 IsHaltedIn p f = Halted (Unit {0}) in_operands p f
 
 pub halted_there : (f : RunFault) (name : List ℕ) (p : Point) (left : Option (List ℕ)) → IsByText (end.Fault f) → StopsInOperands f name p left → IsHaltedIn p f
-halted_there (fault.SyntaxAt k) name p left by h = halted_in_operand (fault.SyntaxAt k) p left by h.at
-halted_there fault.Truncated name p left by h = halted_in_operand fault.Truncated p left by h.at
-halted_there (fault.Invalid rule) name p left by h = halted_in_operand (fault.Invalid rule) p left by h.at
-halted_there (fault.Limit which) name p left by h = halted_in_operand (fault.Limit which) p left by h.at
-halted_there fault.CannotOpen name p left by h = absurd by
-halted_there fault.ReadFault name p left by h = absurd by
-halted_there fault.WriteFault name p left by h = absurd by
-halted_there fault.Memory name p left by h = absurd by
+halted_there f name p left by h = halted_in_operand f p left by (at_named (Unit {0}) StopsAtOperand f name p left by h).at
 
 -- no file is open, and none is to come
 pub record IsThrough (p : Point) : Type 0 where

@@ -8,9 +8,9 @@ use Rattle.autfilt_command.specs.declared.ended.End.TheVariants as end
 use Rattle.autfilt_laws.proofs.alike.Ends.{Ends, IsHalted, ends_at, in_streams}
 use Rattle.autfilt_laws.proofs.alike.Faults.{Asking, Fits, Halted, in_operands, unfit_whole}
 use Rattle.autfilt_laws.proofs.alike.OperandEnds.{halted_there}
-use Rattle.autfilt_laws.specs.Runs.{AreReadable, Completes, EndsBefore, EndsInStreams, IsByText, IsReadable}
+use Rattle.autfilt_laws.specs.Runs.{AreReadable, Completes, EndsBefore, EndsInStreams, IsByText, IsReadable, Outcome}
 use Rattle.autfilt_run.specs.Events.{Event, Point, Stream, place}
-use Rattle.autfilt_run.specs.Operands.{OperandEvent, all_passed, operands_of}
+use Rattle.autfilt_run.specs.Operands.{all_passed, operands_of}
 use Rattle.autfilt_run.specs.Over.{IsOver}
 use Rattle.autfilt_run.specs.Plans.{asks_on}
 use Rattle.autfilt_run.specs.declared.fault.RunFault.{RunFault}
@@ -32,7 +32,8 @@ not_halted one on a p f h readable = readable_fits one a (place h.stream.text h.
 abbrev IsFair : Plan → List Automaton → Stream → Type 0
 IsFair plan ops s = IsBlanks s.rest ⊎ IsReadable (λ which w. IsOver which plan ops w) (place s.text s.rest) s.rest
 
-not_halted_here : OneStanding → (plan : Plan) (ops : List Automaton) (p : Point) (f : RunFault) → (asks_on plan p.kept ≡ true → (s : Stream) → p.stream ≡ Some s → IsFair plan ops s) → IsHalted plan ops p f → ⊥
+not_halted_here : OneStanding → (plan : Plan) (ops : List Automaton) (p : Point) (f : RunFault)
+    → (asks_on plan p.kept ≡ true → (s : Stream) → p.stream ≡ Some s → IsFair plan ops s) → IsHalted plan ops p f → ⊥
 not_halted_here one plan ops p f readable h = go (readable h.asks h.stream h.is_open)
   where
     go : IsFair plan ops h.stream → ⊥
@@ -47,23 +48,25 @@ read_all one plan ops passed p events end.Aborts by readable h = h.1
 read_all one plan ops passed p events end.Usage by readable h = h.1
 read_all one plan ops passed p events (end.Fault f) by readable h = absurd (not_halted_here one plan ops p f readable h)
 
-not_before : OneStanding → (plan : Plan) (texts : Texts) (left : Option (List ℕ)) (taken : List OperandEvent) (events : List Event) (e : End) → AreReadable plan texts left → IsByText e → EndsBefore plan texts left taken events e → ⊥
-not_before one plan texts left taken events e readable by h =
+not_before : OneStanding → (plan : Plan) (texts : Texts) (left : Option (List ℕ)) (o : Outcome) → AreReadable plan texts left → IsByText o.end
+    → EndsBefore plan texts left o → ⊥
+not_before one plan texts left o readable by h =
     let p = h.stops.point in
-    let k = halted_there h.fault h.name p h.left_over (subst IsByText h.ends by) h.stops.stops in
-    not_halted one (Unit {0}) in_operands p h.fault k (readable.operands taken p k.stream h.stops.read k.is_open)
+    let k = halted_there h.fault o.name p o.left (subst IsByText h.ends by) h.stops.stops in
+    not_halted one (Unit {0}) in_operands p h.fault k (readable.operands o.taken p k.stream h.stops.read k.is_open)
 
-behind : OneStanding → (plan : Plan) (texts : Texts) (left : Option (List ℕ)) (taken : List OperandEvent) (events : List Event) (e : End) → AreReadable plan texts left → IsByText e
-    → EndsInStreams plan texts left taken events e → e ≡ end_of (tally_after (length (all_passed taken)) events)
-behind one plan texts left taken events e readable by h =
-    let ops = operands_of taken in
-    let passed = length (all_passed taken) in
-    read_all one plan ops passed h.runs.point events e by (λ asks s is. readable.streams taken h.point h.read events h.runs.point s h.judged h.runs.happen asks is)
-    (ends_at plan ops passed e events h.name h.runs.point h.left_over by h.tallied h.runs.ends)
+behind : OneStanding → (plan : Plan) (texts : Texts) (left : Option (List ℕ)) (o : Outcome) → AreReadable plan texts left → IsByText o.end
+    → EndsInStreams plan texts left o → o.end ≡ end_of (tally_after (length (all_passed o.taken)) o.events)
+behind one plan texts left o readable by h =
+    let ops = operands_of o.taken in
+    let passed = length (all_passed o.taken) in
+    read_all one plan ops passed h.runs.point o.events o.end by
+    (λ asks s is. readable.streams o.taken h.point h.read o.events h.runs.point s h.judged h.runs.happen asks is)
+    (ends_at plan ops passed o.end o.events o.name h.runs.point o.left by h.tallied h.runs.ends)
 
 pub completes : OneStanding → Completes
-completes one plan texts left taken events e readable a = go a.ran
+completes one plan texts left o readable a = go a.ran
   where
-    go : EndsBefore plan texts left taken events e ⊎ EndsInStreams plan texts left taken events e → e ≡ end_of (tally_after (length (all_passed taken)) events)
-    go (inl h) = absurd (not_before one plan texts left taken events e readable a.by_text h)
-    go (inr h) = behind one plan texts left taken events e readable a.by_text h
+    go : EndsBefore plan texts left o ⊎ EndsInStreams plan texts left o → o.end ≡ end_of (tally_after (length (all_passed o.taken)) o.events)
+    go (inl h) = absurd (not_before one plan texts left o readable a.by_text h)
+    go (inr h) = behind one plan texts left o readable a.by_text h

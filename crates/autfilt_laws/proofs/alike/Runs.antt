@@ -1,92 +1,132 @@
 -- What stands in the texts decides all of a run.
 use Rattle.std.proofs.Common.{◌≡◌, ◌⊎◌, ℕ, List, Option, sym, ap, ◌∙◌, subst, inl, inr, length}
 use Rattle.aut_io.specs.Outside.{Texts}
-use Rattle.autfilt_command.specs.Run.{AreAllRead}
+use Rattle.autfilt_command.specs.Notes.{line_of}
+use Rattle.autfilt_command.specs.Run.{AreAllRead, EndsAt, EndsByTally}
 use Rattle.autfilt_command.specs.declared.ended.End.{End}
 use Rattle.autfilt_command.specs.declared.ended.End.TheVariants as end
+use Rattle.autfilt_laws.proofs.alike.EndPlaces.{IsOnePlace, one_line_about, one_place_before, one_place_in_streams}
 use Rattle.autfilt_laws.proofs.alike.Ends.{Ends, alike, ends_at, ends_like, same_events}
 use Rattle.autfilt_laws.proofs.alike.Like.{are_same, none_like}
 use Rattle.autfilt_laws.proofs.alike.OperandEnds.{IsHaltedIn, IsThrough, halted_there, not_through, one_fault, same_operands}
 use Rattle.autfilt_laws.proofs.alike.Verdicts.{AreOne}
-use Rattle.autfilt_laws.specs.Runs.{AreLike, AreSame, EndsBefore, EndsInStreams, IsByText, OneEnd, streams_from, texts_or}
-use Rattle.autfilt_run.specs.Events.{AreJudged, Event, Happen, Point, start_of}
+use Rattle.autfilt_laws.specs.Runs.{AreLike, AreSame, EndsBefore, EndsInStreams, IsByText, OneEnd, Outcome, streams_from, texts_or}
+use Rattle.autfilt_run.specs.Events.{AreJudged, Happen, Point, start_of}
 use Rattle.autfilt_run.specs.Operands.{OperandEvent, all_passed, operands_of}
+use Rattle.autfilt_run.specs.Runs.{StopsInOperands}
+use Rattle.autfilt_run.specs.declared.fault.RunFault.{RunFault}
 use Rattle.filter_plan.specs.Words.{operands}
 use Rattle.filter_plan.specs.declared.plan.Plan.{Plan}
 use Rattle.hoa_parser.specs.Standing.{OneStanding}
 
-is_halted : (plan : Plan) (texts : Texts) (left : Option (List ℕ)) (taken : List OperandEvent) (events : List Event) (e : End) → IsByText e → (h : EndsBefore plan texts left taken events e) → IsHaltedIn h.stops.point h.fault
-is_halted plan texts left taken events e by h = halted_there h.fault h.name h.stops.point h.left_over (subst IsByText h.ends by) h.stops.stops
+is_halted : (plan : Plan) (texts : Texts) (left : Option (List ℕ)) (o : Outcome) → IsByText o.end → (h : EndsBefore plan texts left o)
+    → IsHaltedIn h.stops.point h.fault
+is_halted plan texts left o by h = halted_there h.fault o.name h.stops.point o.left (subst IsByText h.ends by) h.stops.stops
 
 through : (plan : Plan) (texts : Texts) (left : Option (List ℕ)) (taken : List OperandEvent) (p : Point) → AreAllRead plan texts left taken p → IsThrough p
 through plan texts left taken p h = record { closed = h.none_open; none = h.none_coming }
 
+-- all that two runs have alike
+all_same : (plan : Plan) (a b : Outcome) → a.taken ≡ b.taken → AreLike plan a.events b.events → a.end ≡ b.end
+    → IsOnePlace a.end a.name b.name a.left b.left → AreSame plan a b
+all_same plan a b taken like ends place = record {
+  operands = taken;
+  streams = like;
+  texts = λ decides. are_same plan a.events b.events decides like;
+  ends = ends;
+  name = place.name;
+  line = one_line_about a.end a.name b.name place.name ∙ ap (λ (e : End). line_of e b.name) ends;
+  left = place.left;
+}
+
 -- ---- both in the files of operands
 
-both_before : OneStanding → (plan : Plan) (texts : Texts) (left : Option (List ℕ)) (taken others : List OperandEvent) (events more : List Event) (e d : End) → IsByText e → IsByText d
-    → EndsBefore plan texts left taken events e → EndsBefore plan texts left others more d → AreSame plan taken others events more e d
-both_before one plan texts left taken others events more e d x y a b =
-    let p = a.stops.point in
-    let q = b.stops.point in
-    let h = is_halted plan texts left taken events e x a in
-    let k = is_halted plan texts left others more d y b in
-    let same = same_operands one texts taken others (start_of (operands plan) left 0) p q a.stops.read b.stops.read (inl (a.fault, h)) (inl (b.fault, k)) in
-    let fault = one_fault one p a.fault b.fault h (subst (λ (z : Point). IsHaltedIn z b.fault) (sym same.1) k) in
-    record { operands = same.0; streams = none_like plan events more a.none b.none; texts = λ decides. b.none ∙ sym a.none; ends = a.ends ∙ ap end.Fault fault ∙ sym b.ends }
+both_before : OneStanding → (plan : Plan) (texts : Texts) (left : Option (List ℕ)) (a b : Outcome) → IsByText a.end → IsByText b.end
+    → EndsBefore plan texts left a → EndsBefore plan texts left b → AreSame plan a b
+both_before one plan texts left a b x y s t =
+    let p = s.stops.point in
+    let q = t.stops.point in
+    let h = is_halted plan texts left a x s in
+    let k = is_halted plan texts left b y t in
+    let start = start_of (operands plan) left 0 in
+    let same = same_operands one texts a.taken b.taken start p q s.stops.read t.stops.read (inl (s.fault, h)) (inl (t.fault, k)) in
+    let fault = one_fault one p s.fault t.fault h (subst (λ (z : Point). IsHaltedIn z t.fault) (sym same.1) k) in
+    let here = subst (λ (z : Point). StopsInOperands t.fault b.name z b.left) (sym same.1) t.stops.stops in
+    let stops = subst (λ (f : RunFault). StopsInOperands f b.name p b.left) (sym fault) here in
+    let place = one_place_before one s.fault p a.name b.name a.left b.left (subst IsByText s.ends x) s.stops.stops stops in
+    all_same plan a b same.0 (none_like plan a.events b.events s.none t.none) (s.ends ∙ ap end.Fault fault ∙ sym t.ends)
+    (subst (λ (e : End). IsOnePlace e a.name b.name a.left b.left) (sym s.ends) place)
 
 -- one there, and one in the streams
 
-not_mixed : OneStanding → (plan : Plan) (texts : Texts) (left : Option (List ℕ)) (taken others : List OperandEvent) (events more : List Event) (e d : End) → IsByText e
-    → EndsBefore plan texts left taken events e → EndsInStreams plan texts left others more d → ⊥
-not_mixed one plan texts left taken others events more e d x a b =
-    let p = a.stops.point in
-    let h = is_halted plan texts left taken events e x a in
-    let t = through plan texts left others b.point b.read in
-    let same = same_operands one texts taken others (start_of (operands plan) left 0) p b.point a.stops.read b.read.read (inl (a.fault, h)) (inr t) in
-    not_through p a.fault h (subst IsThrough (sym same.1) t)
+not_mixed : OneStanding → (plan : Plan) (texts : Texts) (left : Option (List ℕ)) (a b : Outcome) → IsByText a.end
+    → EndsBefore plan texts left a → EndsInStreams plan texts left b → ⊥
+not_mixed one plan texts left a b x s t =
+    let p = s.stops.point in
+    let h = is_halted plan texts left a x s in
+    let k = through plan texts left b.taken t.point t.read in
+    let start = start_of (operands plan) left 0 in
+    let same = same_operands one texts a.taken b.taken start p t.point s.stops.read t.read.read (inl (s.fault, h)) (inr k) in
+    not_through p s.fault h (subst IsThrough (sym same.1) k)
 
 -- ---- both in the streams
 
 -- the same of a run that ended in the streams, where these operands were taken before
-record StreamsEnd (plan : Plan) (texts : Texts) (taken : List OperandEvent) (first : Point) (events : List Event) (e : End) : Type 0 where
+record StreamsEnd (plan : Plan) (texts : Texts) (taken : List OperandEvent) (first : Point) (o : Outcome) : Type 0 where
   point : Point
-  judged : AreJudged plan (operands_of taken) events
-  happen : Happen plan (texts_or plan.made texts) events (streams_from plan first) point
-  ends : Ends plan (operands_of taken) (length (all_passed taken)) point events e
+  judged : AreJudged plan (operands_of taken) o.events
+  happen : Happen plan (texts_or plan.made texts) o.events (streams_from plan first) point
+  tallied : EndsByTally o.end (length (all_passed taken)) o.events
+  ends : EndsAt plan (operands_of taken) o.end o.name point o.left
 
-streams_end : (plan : Plan) (texts : Texts) (left : Option (List ℕ)) (taken : List OperandEvent) (events : List Event) (e : End) → IsByText e → (h : EndsInStreams plan texts left taken events e) → StreamsEnd plan texts taken h.point events e
-streams_end plan texts left taken events e by h = record {
-  point = h.runs.point;
-  judged = h.judged;
-  happen = h.runs.happen;
-  ends = ends_at plan (operands_of taken) (length (all_passed taken)) e events h.name h.runs.point h.left_over by h.tallied h.runs.ends;
-}
+streams_end : (plan : Plan) (texts : Texts) (left : Option (List ℕ)) (o : Outcome) → (h : EndsInStreams plan texts left o) → StreamsEnd plan texts o.taken h.point o
+streams_end plan texts left o h = record { point = h.runs.point; judged = h.judged; happen = h.runs.happen; tallied = h.tallied; ends = h.runs.ends }
 
-one_streams_end : OneStanding → AreOne → (plan : Plan) (texts : Texts) (taken : List OperandEvent) (first : Point) (events more : List Event) (e d : End) → IsByText e → IsByText d
-    → StreamsEnd plan texts taken first events e → StreamsEnd plan texts taken first more d → AreLike plan events more × (e ≡ d)
-one_streams_end one plain plan texts taken first events more e d x y a b =
+-- what ended it
+ends_so : (plan : Plan) (texts : Texts) (taken : List OperandEvent) (first : Point) (o : Outcome) → IsByText o.end → (s : StreamsEnd plan texts taken first o)
+    → Ends plan (operands_of taken) (length (all_passed taken)) s.point o.events o.end
+ends_so plan texts taken first o by s = ends_at plan (operands_of taken) (length (all_passed taken)) o.end o.events o.name s.point o.left by s.tallied s.ends
+
+-- what two such runs have alike
+record EndsAlike (plan : Plan) (a b : Outcome) : Type 0 where
+  like : AreLike plan a.events b.events
+  ends : a.end ≡ b.end
+  place : IsOnePlace a.end a.name b.name a.left b.left
+
+one_streams_end : OneStanding → AreOne → (plan : Plan) (texts : Texts) (taken : List OperandEvent) (first : Point) (a b : Outcome) → IsByText a.end → IsByText b.end
+    → StreamsEnd plan texts taken first a → StreamsEnd plan texts taken first b → EndsAlike plan a b
+one_streams_end one plain plan texts taken first a b x y s t =
     let ops = operands_of taken in
     let passed = length (all_passed taken) in
-    let same = same_events one plain plan ops passed (texts_or plan.made texts) events more events more e d (streams_from plan first) a.point b.point a.judged b.judged a.happen b.happen a.ends b.ends in
-    let there = subst (λ (z : Point). Ends plan ops passed z more d) (sym same.1) b.ends in
-    (same.0, alike one plain plan ops passed a.point events e d x y a.ends (ends_like plan ops passed a.point events more d same.0 there))
+    let over = texts_or plan.made texts in
+    let start = streams_from plan first in
+    let e = ends_so plan texts taken first a x s in
+    let d = ends_so plan texts taken first b y t in
+    let same =
+        same_events one plain plan ops passed over a.events b.events a.events b.events a.end b.end start s.point t.point s.judged t.judged s.happen t.happen e d in
+    let there = subst (λ (z : Point). Ends plan ops passed z b.events b.end) (sym same.1) d in
+    let ends = alike one plain plan ops passed s.point a.events a.end b.end x y e (ends_like plan ops passed s.point a.events b.events b.end same.0 there) in
+    let here = subst (λ (z : Point). EndsAt plan ops b.end b.name z b.left) (sym same.1) t.ends in
+    let other = subst (λ (f : End). EndsAt plan ops f b.name s.point b.left) (sym ends) here in
+    record { like = same.0; ends = ends; place = one_place_in_streams one plan ops a.end s.point a.name b.name a.left b.left x s.ends other }
 
-both_behind : OneStanding → AreOne → (plan : Plan) (texts : Texts) (left : Option (List ℕ)) (taken others : List OperandEvent) (events more : List Event) (e d : End) → IsByText e → IsByText d
-    → EndsInStreams plan texts left taken events e → EndsInStreams plan texts left others more d → AreSame plan taken others events more e d
-both_behind one plain plan texts left taken others events more e d x y a b =
-    let s = through plan texts left taken a.point a.read in
-    let t = through plan texts left others b.point b.read in
-    let same = same_operands one texts taken others (start_of (operands plan) left 0) a.point b.point a.read.read b.read.read (inr s) (inr t) in
-    let there = subst (λ (z : Point). StreamsEnd plan texts others z more d) (sym same.1) (streams_end plan texts left others more d y b) in
-    let alike = one_streams_end one plain plan texts taken a.point events more e d x y (streams_end plan texts left taken events e x a)
-    (subst (λ (z : List OperandEvent). StreamsEnd plan texts z a.point more d) (sym same.0) there) in
-    record { operands = same.0; streams = alike.0; texts = λ decides. are_same plan events more decides alike.0; ends = alike.1 }
+both_behind : OneStanding → AreOne → (plan : Plan) (texts : Texts) (left : Option (List ℕ)) (a b : Outcome) → IsByText a.end → IsByText b.end
+    → EndsInStreams plan texts left a → EndsInStreams plan texts left b → AreSame plan a b
+both_behind one plain plan texts left a b x y s t =
+    let h = through plan texts left a.taken s.point s.read in
+    let k = through plan texts left b.taken t.point t.read in
+    let start = start_of (operands plan) left 0 in
+    let same = same_operands one texts a.taken b.taken start s.point t.point s.read.read t.read.read (inr h) (inr k) in
+    let there = subst (λ (z : Point). StreamsEnd plan texts b.taken z b) (sym same.1) (streams_end plan texts left b t) in
+    let here = subst (λ (z : List OperandEvent). StreamsEnd plan texts z s.point b) (sym same.0) there in
+    let alike = one_streams_end one plain plan texts a.taken s.point a b x y (streams_end plan texts left a s) here in
+    all_same plan a b same.0 alike.like alike.ends alike.place
 
 pub one_end : OneStanding → AreOne → OneEnd
-one_end one plain plan texts left taken others events more e d a b = go a.ran b.ran
+one_end one plain plan texts left a b x y = go x.ran y.ran
   where
-    go : EndsBefore plan texts left taken events e ⊎ EndsInStreams plan texts left taken events e → EndsBefore plan texts left others more d ⊎ EndsInStreams plan texts left others more d → AreSame plan taken others events more e d
-    go (inl x) (inl y) = both_before one plan texts left taken others events more e d a.by_text b.by_text x y
-    go (inl x) (inr y) = absurd (not_mixed one plan texts left taken others events more e d a.by_text x y)
-    go (inr x) (inl y) = absurd (not_mixed one plan texts left others taken more events d e b.by_text y x)
-    go (inr x) (inr y) = both_behind one plain plan texts left taken others events more e d a.by_text b.by_text x y
+    go : EndsBefore plan texts left a ⊎ EndsInStreams plan texts left a → EndsBefore plan texts left b ⊎ EndsInStreams plan texts left b → AreSame plan a b
+    go (inl s) (inl t) = both_before one plan texts left a b x.by_text y.by_text s t
+    go (inl s) (inr t) = absurd (not_mixed one plan texts left a b x.by_text s t)
+    go (inr s) (inl t) = absurd (not_mixed one plan texts left b a y.by_text t s)
+    go (inr s) (inr t) = both_behind one plain plan texts left a b x.by_text y.by_text s t

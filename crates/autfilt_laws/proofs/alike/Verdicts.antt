@@ -1,14 +1,20 @@
 -- The plan says one thing of an automaton that was read, and the text that is due of it is one.
-use Rattle.std.proofs.Common.{◌≡◌, ◌⊎◌, ℕ, Bool, true, false, List, Option, Some, None, inl, inr, refl, true≢false, ap, ◌∙◌, sym, subst}
+use Rattle.std.proofs.Common.{◌≡◌, ◌≢◌, ◌⊎◌, ℕ, Bool, true, false, List, [], ◌∷◌, ◌++◌, length, Option, Some, None, inl, inr, refl, true≢false, ap, ◌∙◌, sym, subst}
+use Rattle.std.specs.Fmt.{decimal}
+use Rattle.std.specs.List.{AllByRecursion}
 use Rattle.std.specs.Prelude.{MatchOption}
 use Rattle.aut_base.specs.Automaton.{Automaton}
 use Rattle.aut_base.specs.CanonicalLabel.{canonical}
 use Rattle.aut_base.specs.declared.limit.Limit.{Limit}
-use Rattle.autfilt_laws.specs.Runs.{DecidesTexts}
-use Rattle.autfilt_run.specs.Due.{IsDue, IsDueWhere, IsPrinted, name_due}
+use Rattle.aut_ops.specs.Laws.{TrimmedIsDetermined}
+use Rattle.autfilt_laws.specs.Runs.{DecidesPrinted, DecidesTexts}
+use Rattle.autfilt_run.specs.Due.{IsDue, IsDueWhere, IsMade, IsPrinted, name_due}
+use Rattle.autfilt_run.specs.Figures.{IsLine, IsShownAs, ShowsReached}
 use Rattle.autfilt_run.specs.Over.{IsOver, IsOverPrinting, StopsPrinting}
 use Rattle.autfilt_run.specs.Plans.{prints_each}
 use Rattle.autfilt_run.specs.RefutationLine.{IsRefutationLine}
+use Rattle.filter_plan.specs.declared.format.Piece.{Piece}
+use Rattle.filter_plan.specs.declared.format.Piece.TheVariants.{Byte, States, Edges, Sets, Word}
 use Rattle.filter_plan.specs.declared.plan.Output.{Output}
 use Rattle.filter_plan.specs.declared.plan.Output.TheVariants.{Hoa, Stats, Refute}
 use Rattle.filter_plan.specs.declared.plan.Plan.{Plan}
@@ -27,6 +33,7 @@ pub record AreOne : Type 0 where
   pub verdict : OneVerdict
   pub inclusion : OneLimitOfInclusion
   pub changes : ChangesAreDetermined
+  pub trimmed : TrimmedIsDetermined
 
 kept_is_dropped : verdict.Kept ≡ verdict.Dropped → ⊥
 kept_is_dropped e = cc
@@ -38,7 +45,9 @@ dropped_is_over : (which : Limit) → verdict.Dropped ≡ verdict.Over which →
 dropped_is_over which e = cc
 
 pub kept_or_dropped : AreOne → (plan : Plan) (ops : List Automaton) (w v : Written) → w ≡ v → IsKept plan ops (described w) → IsDropped plan ops (described v) → ⊥
-kept_or_dropped one plan ops w v same k d = kept_is_dropped (one.verdict plan ops (described v) verdict.Kept verdict.Dropped (subst (λ (x : Written). IsKept plan ops (described x)) same k) d)
+kept_or_dropped one plan ops w v same k d =
+    let kept = subst (λ (x : Written). IsKept plan ops (described x)) same k in
+    kept_is_dropped (one.verdict plan ops (described v) verdict.Kept verdict.Dropped kept d)
 
 kept_or_over : AreOne → (which : Limit) (plan : Plan) (ops : List Automaton) (a : Automaton) → IsKept plan ops a → IsOverFilters which plan ops a → ⊥
 kept_or_over one which plan ops a k o = kept_is_over which (one.verdict plan ops a verdict.Kept (verdict.Over which) k o)
@@ -48,26 +57,62 @@ dropped_or_over one which plan ops a k o = dropped_is_over which (one.verdict pl
 
 -- ---- the text
 
-due_where : AreOne → (b : Bool) (p : Plan) (ops : List Automaton) (w : Written) (t u : List ℕ) → (p.output ≡ Hoa) ⊎ (b ≡ false) → IsDueWhere b p ops w t → IsDueWhere b p ops w u → t ≡ u
+-- what is made of an automaton
+one_made : AreOne → (p : Plan) (ops : List Automaton) (w : Written) (m n : Automaton) → IsMade p ops w m → IsMade p ops w n → m ≡ n
+one_made one p ops w m n x y = (one.changes (changes_of p ops) (canonical (described w))).made m n x.makes y.makes
+
+one_reached : AreOne → (figure : Automaton → ℕ) (a : Automaton) (t u : List ℕ) → ShowsReached figure a t → ShowsReached figure a u → t ≡ u
+one_reached one figure a t u x y =
+    let same = one.trimmed a x.trimmed y.trimmed x.is_trimmed y.is_trimmed in
+    x.shown ∙ ap (λ (m : Automaton). decimal (figure m)) same ∙ sym y.shown
+
+-- what stands for a piece, but for a word
+one_shown : AreOne → (piece : Piece) (a : Automaton) (t u : List ℕ) → piece ≢ Word → IsShownAs piece a t → IsShownAs piece a u → t ≡ u
+one_shown one (Byte b) a t u other x y = x ∙ sym y
+one_shown one States a t u other x y = one_reached one (λ (m : Automaton). m.states) a t u x y
+one_shown one Edges a t u other x y = one_reached one (λ (m : Automaton). length m.edges) a t u x y
+one_shown one Sets a t u other x y = x ∙ sym y
+one_shown one Word a t u other x y = absurd (other refl)
+
+one_line : AreOne → (pieces : List Piece) (a : Automaton) (t u : List ℕ) → AllByRecursion (λ (piece : Piece). piece ≢ Word) pieces
+    → IsLine pieces a t → IsLine pieces a u → t ≡ u
+one_line one [] a t u others x y = x ∙ sym y
+one_line one (piece ∷ pieces) a t u others x y =
+    let first = one_shown one piece a x.front y.front others.0 x.first y.first in
+    let behind = one_line one pieces a x.rest y.rest others.1 x.behind y.behind in
+    x.all ∙ ap (λ (v : List ℕ). v ++ x.rest) first ∙ ap (λ (v : List ℕ). y.front ++ v) behind ∙ sym y.all
+
+one_printed : AreOne → (o : Output) (p : Plan) (ops : List Automaton) (w : Written) (t u : List ℕ) → DecidesPrinted o
+    → IsPrinted o p ops w t → IsPrinted o p ops w u → t ≡ u
+one_printed one Hoa p ops w t u decides x y =
+    let same = one_made one p ops w x.made y.made x.is_made y.is_made in
+    x.same ∙ ap (λ (m : Automaton). canonical_text m (name_due p w)) same ∙ sym y.same
+one_printed one (Stats pieces) p ops w t u decides x y =
+    let same = one_made one p ops w x.made y.made x.is_made y.is_made in
+    one_line one pieces y.made t u decides (subst (λ (m : Automaton). IsLine pieces m t) same x.line) y.line
+one_printed one (Refute file) p ops w t u decides x y = absurd decides
+
+due_where : AreOne → (b : Bool) (p : Plan) (ops : List Automaton) (w : Written) (t u : List ℕ) → DecidesPrinted p.output ⊎ (b ≡ false)
+    → IsDueWhere b p ops w t → IsDueWhere b p ops w u → t ≡ u
 due_where one false p ops w t u decides a b = a ∙ sym b
 due_where one true p ops w t u (inr off) a b = absurd (true≢false off)
-due_where one true p ops w t u (inl hoa) a b =
-    let x = subst (λ (o : Output). IsPrinted o p ops w t) hoa a in
-    let y = subst (λ (o : Output). IsPrinted o p ops w u) hoa b in
-    let same = (one.changes (changes_of p ops) (canonical (described w))).made x.made y.made x.is_made.makes y.is_made.makes in
-    x.same ∙ ap (λ m. canonical_text m (name_due p w)) same ∙ sym y.same
+due_where one true p ops w t u (inl decides) a b = one_printed one p.output p ops w t u decides a b
 
 -- the text of an automaton is one, where the plan decides it
-pub one_text : AreOne → (plan : Plan) (ops : List Automaton) (w v : Written) (t u : List ℕ) → DecidesTexts plan → w ≡ v → IsDue plan ops w t → IsDue plan ops v u → t ≡ u
-one_text one plan ops w v t u decides same a b = due_where one (prints_each plan) plan ops v t u decides (subst (λ (x : Written). IsDue plan ops x t) same a) b
+pub one_text : AreOne → (plan : Plan) (ops : List Automaton) (w v : Written) (t u : List ℕ) → DecidesTexts plan → w ≡ v
+    → IsDue plan ops w t → IsDue plan ops v u → t ≡ u
+one_text one plan ops w v t u decides same a b =
+    due_where one (prints_each plan) plan ops v t u decides (subst (λ (x : Written). IsDue plan ops x t) same a) b
 
 -- ---- the limits
 
-refuted_or_over : (operand : Option Automaton) (which : Limit) (w : Written) (text : List ℕ) → MatchOption operand ⊥ (λ b. IsRefutationLine (described w) b text) → MatchOption operand ⊥ (λ b. PassesOfInclusion which (canonical (described w)) b) → ⊥
+refuted_or_over : (operand : Option Automaton) (which : Limit) (w : Written) (text : List ℕ) → MatchOption operand ⊥ (λ b. IsRefutationLine (described w) b text)
+    → MatchOption operand ⊥ (λ b. PassesOfInclusion which (canonical (described w)) b) → ⊥
 refuted_or_over None which w text h k = h
 refuted_or_over (Some b) which w text h k = h.0 which k
 
-printed_or_over : AreOne → (o : Output) (which : Limit) (p : Plan) (ops : List Automaton) (w : Written) (text : List ℕ) → IsPrinted o p ops w text → StopsPrinting o which p ops (canonical (described w)) → ⊥
+printed_or_over : AreOne → (o : Output) (which : Limit) (p : Plan) (ops : List Automaton) (w : Written) (text : List ℕ) → IsPrinted o p ops w text
+    → StopsPrinting o which p ops (canonical (described w)) → ⊥
 printed_or_over one Hoa which p ops w text h k = (one.changes (changes_of p ops) (canonical (described w))).either h.made which h.is_made.makes k
 printed_or_over one (Stats pieces) which p ops w text h k = (one.changes (changes_of p ops) (canonical (described w))).either h.made which h.is_made.makes k
 printed_or_over one (Refute file) which p ops w text h k = refuted_or_over (refuted_operand p ops) which w text h k
@@ -91,11 +136,13 @@ dropped_is_within one which p ops w d o = go o.over
     go (inr c) = kept_or_dropped one p ops w w refl c.kept d
 
 -- no more than one limit is passed
-one_refuted : AreOne → (operand : Option Automaton) (which other : Limit) (a : Automaton) → MatchOption operand ⊥ (λ b. PassesOfInclusion which a b) → MatchOption operand ⊥ (λ b. PassesOfInclusion other a b) → which ≡ other
+one_refuted : AreOne → (operand : Option Automaton) (which other : Limit) (a : Automaton) → MatchOption operand ⊥ (λ b. PassesOfInclusion which a b)
+    → MatchOption operand ⊥ (λ b. PassesOfInclusion other a b) → which ≡ other
 one_refuted one None which other a h k = absurd h
 one_refuted one (Some b) which other a h k = one.inclusion which other a b h k
 
-one_printing : AreOne → (o : Output) (which other : Limit) (p : Plan) (ops : List Automaton) (w : Written) → StopsPrinting o which p ops (canonical (described w)) → StopsPrinting o other p ops (canonical (described w)) → which ≡ other
+one_printing : AreOne → (o : Output) (which other : Limit) (p : Plan) (ops : List Automaton) (w : Written) → StopsPrinting o which p ops (canonical (described w))
+    → StopsPrinting o other p ops (canonical (described w)) → which ≡ other
 one_printing one Hoa which other p ops w h k = (one.changes (changes_of p ops) (canonical (described w))).limit which other h k
 one_printing one (Stats pieces) which other p ops w h k = (one.changes (changes_of p ops) (canonical (described w))).limit which other h k
 one_printing one (Refute file) which other p ops w h k = one_refuted one (refuted_operand p ops) which other (canonical (described w)) h k
@@ -106,7 +153,8 @@ one_over one p ops which other w a b = go a.over b.over
     over_is : verdict.Over which ≡ verdict.Over other → which ≡ other
     over_is e = cc
 
-    go : IsOverFilters which p ops (described w) ⊎ IsOverPrinting which p ops w → IsOverFilters other p ops (described w) ⊎ IsOverPrinting other p ops w → which ≡ other
+    go : IsOverFilters which p ops (described w) ⊎ IsOverPrinting which p ops w → IsOverFilters other p ops (described w) ⊎ IsOverPrinting other p ops w
+        → which ≡ other
     go (inl x) (inl y) = over_is (one.verdict p ops (described w) (verdict.Over which) (verdict.Over other) x y)
     go (inl x) (inr y) = absurd (kept_or_over one which p ops (described w) y.kept x)
     go (inr x) (inl y) = absurd (kept_or_over one other p ops (described w) x.kept y)

@@ -2,15 +2,15 @@
 use Rattle.std.proofs.Common.{◌≡◌, ◌⊎◌, ℕ, ◌+◌, ◌<◌, ◌==◌, Bool, true, false, if◌then◌else◌, List, [], length, Option, refl, inl, inr, arith, subst}
 use Rattle.aut_base.specs.declared.limit.TheConstants.{MOST_BYTES}
 use Rattle.aut_io.specs.Outside.{Texts}
-use Rattle.autfilt_command.specs.Run.{AreAllRead, end_of, tally_after}
+use Rattle.autfilt_command.specs.Run.{AreAllRead, EndsAt, EndsByTally, end_of, tally_after}
 use Rattle.autfilt_command.specs.declared.ended.End.{End}
 use Rattle.autfilt_command.specs.declared.ended.End.TheVariants as end
 use Rattle.autfilt_laws.proofs.alike.OperandEnds.{IsThrough}
 use Rattle.autfilt_laws.proofs.existence.Found.{AreShown}
 use Rattle.autfilt_laws.proofs.existence.GoodOperands.{good_operands}
 use Rattle.autfilt_laws.proofs.existence.InOperands.{IsStoppedThere, ReadsThere, in_files}
-use Rattle.autfilt_laws.proofs.existence.InStreams.{IsStopped, Reads, in_streams}
-use Rattle.autfilt_laws.specs.Runs.{IsByText, IsEnded, SomeEnd, size_of, streams_from, texts_or}
+use Rattle.autfilt_laws.proofs.existence.InStreams.{Existing, IsStopped, Reads, in_streams}
+use Rattle.autfilt_laws.specs.Runs.{IsByText, IsEnded, Outcome, SomeEnd, size_of, streams_from, texts_or}
 use Rattle.autfilt_run.specs.Events.{Point, Tally, start_of}
 use Rattle.autfilt_run.specs.Operands.{AreRead, OperandEvent, all_passed, operands_of}
 use Rattle.autfilt_run.specs.Plans.{streams_of}
@@ -36,24 +36,47 @@ of_all : (t : Tally) → IsOfAll (end_of t)
 of_all t = one_of_three (t.skipped == 0) (t.kept == 0)
 
 module _ (plan : Plan) (texts : Texts) (left : Option (List ℕ)) (taken : List OperandEvent) (first : Point) (read : AreAllRead plan texts left taken first) where
-  ends_with : (r : Reads plan (operands_of taken) (texts_or plan.made texts) (streams_from plan first)) (e : End) → IsOfAll e → e ≡ end_of (tally_after (length (all_passed taken)) r.events) → IsDone plan r.point → IsEnded plan texts left taken r.events e
-  ends_with r end.Output all is h = record { by_text = tt; ran = inr (record { point = first; read = read; judged = r.judged; tallied = is; left_over = r.point.left; name = []; runs = record { point = r.point; happen = r.happen; ends = (h, refl); numbered = λ is counts. h } }) }
-  ends_with r end.NoneOutput all is h = record { by_text = tt; ran = inr (record { point = first; read = read; judged = r.judged; tallied = is; left_over = r.point.left; name = []; runs = record { point = r.point; happen = r.happen; ends = (h, refl); numbered = λ is counts. h } }) }
-  ends_with r end.Aborts all is h = record { by_text = tt; ran = inr (record { point = first; read = read; judged = r.judged; tallied = is; left_over = r.point.left; name = []; runs = record { point = r.point; happen = r.happen; ends = (h, refl); numbered = λ is counts. h } }) }
-  ends_with r end.Usage all is h = absurd all
-  ends_with r (end.Fault f) all is h = absurd all
+  abbrev ReadsBehind : Type 0
+  ReadsBehind = Reads plan (operands_of taken) (texts_or plan.made texts) (streams_from plan first)
 
-  some_end_of : (r : Reads plan (operands_of taken) (texts_or plan.made texts) (streams_from plan first)) → IsDone plan r.point ⊎ IsStopped plan (operands_of taken) r.point → (e : End) × IsEnded plan texts left taken r.events e
+  abbrev outcome : ReadsBehind → End → List ℕ → Option (List ℕ) → Outcome
+  outcome r e name now = record { taken = taken; events = r.events; end = e; name = name; left = now }
+
+  ended : (r : ReadsBehind) (e : End) (name : List ℕ) (now : Option (List ℕ)) → IsByText e → EndsByTally e (length (all_passed taken)) r.events
+      → EndsAt plan (operands_of taken) e name r.point now → IsEnded plan texts left (outcome r e name now)
+  ended r e name now by tallied ends = record {
+    by_text = by;
+    ran = inr (record {
+      point = first;
+      read = read;
+      judged = r.judged;
+      tallied = tallied;
+      runs = record { point = r.point; happen = r.happen; ends = ends; numbered = λ is counts. absurd (subst IsByText is by) };
+    });
+  }
+
+  -- all was read
+  ended_of_all : (r : ReadsBehind) (e : End) → IsOfAll e → e ≡ end_of (tally_after (length (all_passed taken)) r.events) → IsDone plan r.point
+      → IsEnded plan texts left (outcome r e [] r.point.left)
+  ended_of_all r end.Output all is h = ended r end.Output [] r.point.left tt is (h, refl)
+  ended_of_all r end.NoneOutput all is h = ended r end.NoneOutput [] r.point.left tt is (h, refl)
+  ended_of_all r end.Aborts all is h = ended r end.Aborts [] r.point.left tt is (h, refl)
+  ended_of_all r end.Usage all is h = absurd all
+  ended_of_all r (end.Fault f) all is h = absurd all
+
+  some_end_of : (r : ReadsBehind) → IsDone plan r.point ⊎ IsStopped plan (operands_of taken) r.point → (o : Outcome) × IsEnded plan texts left o
   some_end_of r (inl h) =
-      let e = end_of (tally_after (length (all_passed taken)) r.events) in
-      (e, ends_with r e (of_all (tally_after (length (all_passed taken)) r.events)) refl h)
-  some_end_of r (inr h) =
-      (end.Fault h.fault, record { by_text = h.by_text; ran = inr (record { point = first; read = read; judged = r.judged; tallied = tt; left_over = h.left; name = h.name; runs = record { point = r.point; happen = r.happen; ends = (h.stops, h.counted); numbered = λ is counts. absurd (subst IsByText is h.by_text) } }) })
+      let t = tally_after (length (all_passed taken)) r.events in
+      (outcome r (end_of t) [] r.point.left, ended_of_all r (end_of t) (of_all t) refl h)
+  some_end_of r (inr h) = (outcome r (end.Fault h.fault) h.name h.left, ended r (end.Fault h.fault) h.name h.left h.by_text tt (h.stops, h.counted))
 
 -- a fault ended the run in the files of operands
-stopped_before : (plan : Plan) (texts : Texts) (left : Option (List ℕ)) (taken : List OperandEvent) (p : Point) → AreRead texts taken (start_of (operands plan) left 0) p → (h : IsStoppedThere p) → IsEnded plan texts left taken [] (end.Fault h.fault)
-stopped_before plan texts left taken p read h =
-    record { by_text = h.by_text; ran = inl (record { fault = h.fault; ends = refl; none = refl; left_over = h.left; name = h.name; stops = record { point = p; read = read; stops = h.stops; counted = h.counted } }) }
+stopped_before : (plan : Plan) (texts : Texts) (left : Option (List ℕ)) (taken : List OperandEvent) (p : Point) → AreRead texts taken (start_of (operands plan) left 0) p
+    → (h : IsStoppedThere p) → IsEnded plan texts left (record { taken = taken; events = []; end = end.Fault h.fault; name = h.name; left = h.left })
+stopped_before plan texts left taken p read h = record {
+  by_text = h.by_text;
+  ran = inl (record { fault = h.fault; ends = refl; none = refl; stops = record { point = p; read = read; stops = h.stops; counted = h.counted } });
+}
 
 -- how many bytes the streams may have
 abbrev spare : Plan → Texts → ℕ
@@ -63,9 +86,11 @@ pub some_end : SomeStanding → AreShown → SomeVerdict → SomeEnd
 some_end some shown verdict plan due texts left few none =
     in_files some shown texts (spare plan texts) (operands plan) (start_of (operands plan) left 0) refl refl (omega (arith, few)) (λ r. go r r.ends)
   where
-    go : (r : ReadsThere texts (spare plan texts) (start_of (operands plan) left 0)) → (IsThrough r.point × (r.point.before + spare plan texts < MOST_BYTES)) ⊎ IsStoppedThere r.point → ⊥
+    go : (r : ReadsThere texts (spare plan texts) (start_of (operands plan) left 0))
+        → (IsThrough r.point × (r.point.before + spare plan texts < MOST_BYTES)) ⊎ IsStoppedThere r.point → ⊥
     go r (inl h) =
         let read : AreAllRead plan texts left r.taken r.point = record { read = r.read; none_coming = h.0.none; none_open = h.0.closed } in
-        in_streams plan (operands_of r.taken) (record { some = some; shown = shown; verdict = verdict; due = due r.taken (good_operands plan texts left r.taken r.point read) }) (texts_or plan.made texts) (streams_of plan) (streams_from plan r.point) refl refl h.1
-        (λ x. let found = some_end_of plan texts left r.taken r.point read x x.ends in none r.taken x.events found.0 found.1)
-    go r (inr h) = none r.taken [] (end.Fault h.fault) (stopped_before plan texts left r.taken r.point r.read h)
+        let exists : Existing plan (operands_of r.taken) = record { some = some; shown = shown; verdict = verdict; due = due r.taken (good_operands plan texts left r.taken r.point read) } in
+        in_streams plan (operands_of r.taken) exists (texts_or plan.made texts) (streams_of plan) (streams_from plan r.point) refl refl h.1
+        (λ x. let found = some_end_of plan texts left r.taken r.point read x x.ends in none found.0 found.1)
+    go r (inr h) = none _ (stopped_before plan texts left r.taken r.point r.read h)
