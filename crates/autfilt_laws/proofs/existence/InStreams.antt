@@ -51,7 +51,7 @@ pub record Existing (plan : Plan) (ops : List Automaton) : Type 0 where
   pub some : SomeStanding
   pub shown : AreShown
   pub verdict : SomeVerdict
-  pub due : (w : Written) → IsValid w → PassesNone w → NotNone (((text : List ℕ) × IsDue plan ops w text) ⊎ ((which : Limit) × IsOver which plan ops w))
+  pub due : (w : Written) → IsValid w → PassesNone w → IsKept plan ops (described w) → NotNone (((text : List ℕ) × IsDue plan ops w text) ⊎ ((which : Limit) × IsOver which plan ops w))
 
 module _ (plan : Plan) (ops : List Automaton) (on : Existing plan ops) (texts : Texts) where
   done : (p : Point) → IsDone plan p → Reads plan ops texts p
@@ -96,7 +96,7 @@ module _ (plan : Plan) (ops : List Automaton) (on : Existing plan ops) (texts : 
       due_or_over k (inr o) = none (passed p s more asks is few o.0 w next good o.1)
 
       by_verdict : (v : Verdict) → IsVerdict v plan ops (described w) → ⊥
-      by_verdict verdict.Kept k = on.due w good.valid good.within (due_or_over k)
+      by_verdict verdict.Kept k = on.due w good.valid good.within k (due_or_over k)
       by_verdict verdict.Dropped d =
           deeper p.kept
           (λ r. none (behind_one (Dropped w) p (read_on p s next p.kept) asks d (record { stream = s; is_open = is; next = next; stands = good; few = omega (arith, few); to = refl }) r))
