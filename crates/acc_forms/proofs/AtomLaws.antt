@@ -75,8 +75,10 @@ module _ (cycle : List (List ℕ)) (some : 0 < length cycle) (empty : All (λ ma
     met-empty (Inf set true) = sym (any-empty (λ marks. not (is_in set marks)) cycle some empty)
     met-empty (Fin set false) = sym (all-empty (λ marks. not (is_in set marks)) cycle some empty)
     met-empty (Fin set true) = sym (all-empty (is_in set) cycle some empty)
-    met-empty (And a b cs) = ap (λ x. x && (met ([] ∷ []) b && all_met ([] ∷ []) cs)) (met-empty a) ∙ ap (λ x. met cycle a && x) (ap (λ x. x && all_met ([] ∷ []) cs) (met-empty b) ∙ ap (λ x. met cycle b && x) (all_met-empty cs))
-    met-empty (Or a b cs) = ap (λ x. x || (met ([] ∷ []) b || some_met ([] ∷ []) cs)) (met-empty a) ∙ ap (λ x. met cycle a || x) (ap (λ x. x || some_met ([] ∷ []) cs) (met-empty b) ∙ ap (λ x. met cycle b || x) (some_met-empty cs))
+    met-empty (And a b cs) = ap (λ x. x && (met ([] ∷ []) b && all_met ([] ∷ []) cs)) (met-empty a)
+        ∙ ap (λ x. met cycle a && x) (ap (λ x. x && all_met ([] ∷ []) cs) (met-empty b) ∙ ap (λ x. met cycle b && x) (all_met-empty cs))
+    met-empty (Or a b cs) = ap (λ x. x || (met ([] ∷ []) b || some_met ([] ∷ []) cs)) (met-empty a)
+        ∙ ap (λ x. met cycle a || x) (ap (λ x. x || some_met ([] ∷ []) cs) (met-empty b) ∙ ap (λ x. met cycle b || x) (some_met-empty cs))
 
     all_met-empty : (fs : FormulaTrees) → all_met ([] ∷ []) fs ≡ all_met cycle fs
     all_met-empty none = refl

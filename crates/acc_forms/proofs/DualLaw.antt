@@ -14,7 +14,8 @@ mutual
   met-dual cycle (Inf set true) = not_twice _ _ (any-not (is_in set) cycle)
   met-dual cycle (Fin set false) = not_twice _ _ (all-not (is_in set) cycle)
   met-dual cycle (Fin set true) = any-not (is_in set) cycle
-  met-dual cycle (And a b cs) = not-and (met cycle a) (met cycle b && all_met cycle cs) _ _ (met-dual cycle a) (not-and (met cycle b) (all_met cycle cs) _ _ (met-dual cycle b) (some_met-duals cycle cs))
+  met-dual cycle (And a b cs) = not-and (met cycle a) (met cycle b && all_met cycle cs) _ _ (met-dual cycle a)
+      (not-and (met cycle b) (all_met cycle cs) _ _ (met-dual cycle b) (some_met-duals cycle cs))
   met-dual cycle (Or a b cs) = not-or (met cycle a) (met cycle b || some_met cycle cs) _ _ (met-dual cycle a) (not-or (met cycle b) (some_met cycle cs) _ _ (met-dual cycle b) (all_met-duals cycle cs))
 
   some_met-duals : (cycle : List (List ℕ)) (fs : FormulaTrees) → some_met cycle (duals fs) ≡ not (all_met cycle fs)

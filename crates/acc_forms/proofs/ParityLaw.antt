@@ -40,7 +40,8 @@ module _ (cycle : List (List ℕ)) where
   met-atom true set = alone (carried set)
   met-atom false set = all-not (is_in set) cycle ∙ alone_not (carried set)
 
-  met-first : (b : Bool) (set : ℕ) (rest : FormulaTree) → met cycle (cond b (Or (cond b (Inf set false) (Fin set false)) rest none) (And (cond b (Inf set false) (Fin set false)) rest none)) ≡ cond (carried set) b (met cycle rest)
+  met-first : (b : Bool) (set : ℕ) (rest : FormulaTree)
+      → met cycle (cond b (Or (cond b (Inf set false) (Fin set false)) rest none) (And (cond b (Inf set false) (Fin set false)) rest none)) ≡ cond (carried set) b (met cycle rest)
   met-first true set rest = either_way (carried set) (met cycle rest)
   met-first false set rest = ap (λ x. x && (met cycle rest && true)) (all-not (is_in set) cycle) ∙ both_needed (carried set) (met cycle rest)
 

@@ -15,7 +15,8 @@ same_test n set mark least =
     (cases_eq mark (set + n))
 
 -- one mark
-mark_in : (n set mark : ℕ) (rest : List ℕ) → (nat_eq mark (set + n) || list_any (λ m. nat_eq m set) (map (λ m. m - n) rest)) ≡ list_any (λ m. nat_eq m set) (map (λ m. m - n) (cond (nat_le n mark) (mark ∷ rest) rest))
+mark_in : (n set mark : ℕ) (rest : List ℕ)
+    → (nat_eq mark (set + n) || list_any (λ m. nat_eq m set) (map (λ m. m - n) rest)) ≡ list_any (λ m. nat_eq m set) (map (λ m. m - n) (cond (nat_le n mark) (mark ∷ rest) rest))
 mark_in n set mark rest =
     ⊎_elim
     (λ less.
@@ -44,8 +45,10 @@ module _ (n : ℕ) (cycle : List (List ℕ)) where
     met-shift (Inf set true) = any-map_alike (λ marks. not (is_in (set + n) marks)) (λ marks. not (is_in set marks)) (lower n) (λ marks. ap not (is_in-lowered n set marks)) cycle
     met-shift (Fin set false) = all-map_alike (λ marks. not (is_in (set + n) marks)) (λ marks. not (is_in set marks)) (lower n) (λ marks. ap not (is_in-lowered n set marks)) cycle
     met-shift (Fin set true) = all-map_alike (is_in (set + n)) (is_in set) (lower n) (is_in-lowered n set) cycle
-    met-shift (And a b cs) = ap (λ x. x && (met cycle (shift n b) && all_met cycle (shifts n cs))) (met-shift a) ∙ ap (λ x. met (lowered n cycle) a && x) (ap (λ x. x && all_met cycle (shifts n cs)) (met-shift b) ∙ ap (λ x. met (lowered n cycle) b && x) (all_met-shifts cs))
-    met-shift (Or a b cs) = ap (λ x. x || (met cycle (shift n b) || some_met cycle (shifts n cs))) (met-shift a) ∙ ap (λ x. met (lowered n cycle) a || x) (ap (λ x. x || some_met cycle (shifts n cs)) (met-shift b) ∙ ap (λ x. met (lowered n cycle) b || x) (some_met-shifts cs))
+    met-shift (And a b cs) = ap (λ x. x && (met cycle (shift n b) && all_met cycle (shifts n cs))) (met-shift a)
+        ∙ ap (λ x. met (lowered n cycle) a && x) (ap (λ x. x && all_met cycle (shifts n cs)) (met-shift b) ∙ ap (λ x. met (lowered n cycle) b && x) (all_met-shifts cs))
+    met-shift (Or a b cs) = ap (λ x. x || (met cycle (shift n b) || some_met cycle (shifts n cs))) (met-shift a)
+        ∙ ap (λ x. met (lowered n cycle) a || x) (ap (λ x. x || some_met cycle (shifts n cs)) (met-shift b) ∙ ap (λ x. met (lowered n cycle) b || x) (some_met-shifts cs))
 
     all_met-shifts : (fs : FormulaTrees) → all_met cycle (shifts n fs) ≡ all_met (lowered n cycle) fs
     all_met-shifts none = refl

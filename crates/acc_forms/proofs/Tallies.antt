@@ -39,7 +39,8 @@ times_tally a b xs ys number first second all is_a is_b is_number is_first is_se
     ap (λ n. make n all) product ∙ ap (λ n. make (min (length (pairs xs ys)) s) n) sum
 
 -- the choices, and the terms, of one more part
-pub choices_more : (fs : List FormulaTree) (place : ℕ) (f : FormulaTree) → slice_get fs place ≡ Some f → choices (map terms (take (place + 1) fs)) ≡ pairs (choices (map terms (take place fs))) (terms f)
+pub choices_more : (fs : List FormulaTree) (place : ℕ) (f : FormulaTree) → slice_get fs place ≡ Some f
+    → choices (map terms (take (place + 1) fs)) ≡ pairs (choices (map terms (take place fs))) (terms f)
 choices_more fs place f is =
     ap (λ gs. choices (map terms gs)) (take-slice_get fs place f is)
     ∙ ap choices (map-append terms (take place fs) (f ∷ []))

@@ -26,11 +26,13 @@ module _ (cycle : List (List ℕ)) where
     met-terms (Fin set neg) = sym (or-false (met cycle (Fin set neg) && true) ∙ and-true (met cycle (Fin set neg)))
     met-terms (And a b cs) =
         ap (λ x. x && (met cycle b && all_met cycle cs)) (met-terms a)
-        ∙ ap (λ x. some_term_met cycle (terms a) && x) (ap (λ x. x && all_met cycle cs) (met-terms b) ∙ ap (λ x. some_term_met cycle (terms b) && x) (all_met-choices cs) ∙ sym (any-pairs (holds cycle) (terms b) (choices (each_terms cs))))
+        ∙ ap (λ x. some_term_met cycle (terms a) && x) (ap (λ x. x && all_met cycle cs) (met-terms b) ∙ ap (λ x. some_term_met cycle (terms b) && x) (all_met-choices cs)
+        ∙ sym (any-pairs (holds cycle) (terms b) (choices (each_terms cs))))
         ∙ sym (any-pairs (holds cycle) (terms a) (choices (terms b ∷ each_terms cs)))
     met-terms (Or a b cs) =
         ap (λ x. x || (met cycle b || some_met cycle cs)) (met-terms a)
-        ∙ ap (λ x. some_term_met cycle (terms a) || x) (ap (λ x. x || some_met cycle cs) (met-terms b) ∙ ap (λ x. some_term_met cycle (terms b) || x) (some_met-each cs) ∙ sym (list_any-append (list_all (holds cycle)) (terms b) (flat_map (λ those. those) (each_terms cs))))
+        ∙ ap (λ x. some_term_met cycle (terms a) || x) (ap (λ x. x || some_met cycle cs) (met-terms b) ∙ ap (λ x. some_term_met cycle (terms b) || x) (some_met-each cs)
+        ∙ sym (list_any-append (list_all (holds cycle)) (terms b) (flat_map (λ those. those) (each_terms cs))))
         ∙ sym (list_any-append (list_all (holds cycle)) (terms a) (flat_map (λ those. those) (terms b ∷ each_terms cs)))
 
     all_met-choices : (fs : FormulaTrees) → all_met cycle fs ≡ some_term_met cycle (choices (each_terms fs))
@@ -46,7 +48,8 @@ module _ (cycle : List (List ℕ)) where
         ∙ sym (list_any-append (list_all (holds cycle)) (terms f) (flat_map (λ those. those) (each_terms fs)))
 
 -- a term's literals joined to what there is
-met-fold_conj : (cycle : List (List ℕ)) (f : FormulaTree) (literals : List Literal) → met cycle (fold (λ g literal. conj g (literal_tree literal)) f literals) ≡ (met cycle f && list_all (holds cycle) literals)
+met-fold_conj : (cycle : List (List ℕ)) (f : FormulaTree) (literals : List Literal)
+    → met cycle (fold (λ g literal. conj g (literal_tree literal)) f literals) ≡ (met cycle f && list_all (holds cycle) literals)
 met-fold_conj cycle f [] = sym (and-true (met cycle f))
 met-fold_conj cycle f (l ∷ ls) =
     met-fold_conj cycle (conj f (literal_tree l)) ls

@@ -86,7 +86,8 @@ any-pairs p (x ∷ xs) ys =
     ∙ or_and (list_all p x) (list_any (list_all p) xs) _ (list_any (list_all p) ys) (any-joined p x ys)
 
 -- the pairs with one more first term
-pub pairs_more : (xs ys : List (List Literal)) (i : ℕ) (x : List Literal) (old new : List (List Literal)) → i < length xs → x ≡ get_or xs i x → old ≡ pairs (take i xs) ys → new ≡ old ++ map (λ y. x ++ y) ys → new ≡ pairs (take (i + 1) xs) ys
+pub pairs_more : (xs ys : List (List Literal)) (i : ℕ) (x : List Literal) (old new : List (List Literal)) → i < length xs → x ≡ get_or xs i x → old ≡ pairs (take i xs) ys
+    → new ≡ old ++ map (λ y. x ++ y) ys → new ≡ pairs (take (i + 1) xs) ys
 pairs_more xs ys i x old new within is so_far made =
     made
     ∙ ap (λ ws. ws ++ map (λ y. x ++ y) ys) so_far

@@ -7,6 +7,7 @@ ghost use Rattle.acc_forms.specs.Atoms.{has_fin};
 
 use aut_base::{Formula, Formulas};
 
+// Why so: 'What `has_fin` means is said of longer cycles' in docs/DECISIONS.md.
 /// Whether some `Fin` stands in the condition.
 pub fn has_fin(formula: &Formula) -> bool
     ensures tree { result ≡ has_fin (formula_tree formula.now) }

@@ -12,6 +12,7 @@ use aut_base::{Formula, Formulas};
 /// As many literals count as much as a term.
 const LITERALS_OF_ONE: u128 = 1_024;
 
+// Why so: 'Both numbers of `terms_count` end at the same last value' in docs/DECISIONS.md.
 /// What the terms of a condition count: their number, or the number of their literals divided by 1,024 and rounded up,
 /// whichever is more. An answer of `u64::MAX` stands for all numbers from there on. No term is made.
 pub fn terms_count(formula: &Formula) -> u64

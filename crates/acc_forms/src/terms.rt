@@ -12,6 +12,7 @@ use crate::tally::{tally_of_all, terms_count};
 use aut_base::{Formula, Formulas, MOST_TERMS, Memory};
 use std::alloc::Global;
 
+// Why so: '`disjuncts` looks for a part without terms first' in docs/DECISIONS.md.
 /// The terms of a condition, none merged or dropped. Refused where they count more than `MOST_TERMS`, as `terms_count`
 /// has it.
 pub fn disjuncts(alloc: Global, formula: &Formula) -> Result<Terms, FormFault>

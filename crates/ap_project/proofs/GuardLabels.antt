@@ -1,5 +1,6 @@
 -- Guards with a proposition hidden: what they say, under larger stores and over the other names.
 use Rattle.std.proofs.Common.{◌≡◌, ◌≢◌, ◌∙◌, ◌<◌, ℕ, Bool, true, false, cond, if◌then◌else◌, List, [], AllPairs, Some, ap, arith}
+use Rattle.std.proofs.Common.{inr, suc, zero}
 use Rattle.std.proofs.Common.{length, nat_eq, refl, slice_get, subst, sym}
 use Rattle.std.proofs.lemmas.List.Elements.{Contains-get_or}
 use Rattle.std.proofs.lemmas.Option.{same_Some, slice_get-get_or}
@@ -12,7 +13,8 @@ use Rattle.aut_base.specs.Label.{holds_at, truth}
 use Rattle.aut_base.specs.Valuation.{holds_in, letter_of, truth_on}
 use Rattle.aut_base.specs.Word.{NameSet}
 use Rattle.aut_core.proofs.Made.{label_in_below, label_in_settled}
-use Rattle.label_guards.specs.Guards.{IsGuardOf, truth_in, with_prop}
+use Rattle.label_guards.proofs.Dependence.{all_go_below}
+use Rattle.label_guards.specs.Guards.{GoesBelow, IsFreeOf, IsGuardOf, truth_in, with_prop}
 use Rattle.label_guards.specs.Store.{Has, Keeps, Store, label_in}
 use Rattle.label_guards.specs.declared.guard.Guard.{Guard}
 use Rattle.ap_project.proofs.HiddenLabels.{holds_there, letter_has, others_differ}
@@ -20,7 +22,7 @@ use Rattle.ap_project.proofs.Letters.{but_including, but_without, has_name, lack
 use Rattle.ap_project.proofs.OtherNames.{apart, is_left}
 use Rattle.ap_project.specs.Hiding.{SameBut, hidden_label, hidden_truth, hidden_value, including, names_without, without}
 use Rattle.ap_project.specs.declared.hide.Hide.{Hide}
-use Rattle.ap_project.specs.inner.HiddenGuards.{AreHidden, ArePlaces, IsConstant, IsHiddenGuard, IsPut, hidden_in, name_at, same_guard}
+use Rattle.ap_project.specs.inner.HiddenGuards.{AreHidden, ArePlaces, AreWithin, IsHiddenGuard, IsPut, hidden_in, name_at, same_guard}
 
 same_number : (a b : ℕ) → nat_eq a b ≡ true → a ≡ b
 same_number a b e = grind arith
@@ -77,16 +79,27 @@ hidden_moved how prop to g hidden h has first second = record {
   truth = λ on. second.truth on ∙ first.truth (λ k. on (slice_index_or to k 0));
 }
 
--- with its only proposition hidden a guard is the same everywhere
-pub only_hidden : (s more : Store) (how : Hide) (prop : ℕ) (g hidden : Guard) → s.names ≡ 1 → prop < s.names → IsGuardOf more (hidden_in s how prop g) hidden → IsConstant more hidden
-only_hidden s more how prop g hidden one within is on other =
-    is.truth on ∙ ((λ i. hidden_value how (alike false i) (alike true i)) ∙ sym (is.truth other))
+-- with its only proposition hidden a guard depends on none
+only_hidden : (s more : Store) (how : Hide) (prop : ℕ) (g hidden : Guard) → s.names ≡ 1 → prop < s.names → IsGuardOf more (hidden_in s how prop g) hidden → (k : ℕ) → IsFreeOf more hidden k
+only_hidden s more how prop g hidden one within is k on = is.truth set ∙ ((λ i. hidden_value how (alike false i) (alike true i)) ∙ sym (is.truth unset))
   where
-    alike : (b : Bool) → truth_in s g (with_prop on prop b) ≡ truth_in s g (with_prop other prop b)
-    alike b = truth_below s.names (with_prop on prop b) (with_prop other prop b) (label_in s g) (label_in_below s g) (λ k less.
-        let same : k ≡ prop = omega (arith, one, within, less) in
-        let test : nat_eq k prop ≡ true = grind (arith, same) in
-        (λ i. if test i then b else on k) ∙ sym (λ i. if test i then b else other k))
+    set : ℕ → Bool
+    set = with_prop on k true
+
+    unset : ℕ → Bool
+    unset = with_prop on k false
+
+    alike : (b : Bool) → truth_in s g (with_prop set prop b) ≡ truth_in s g (with_prop unset prop b)
+    alike b = truth_below s.names (with_prop set prop b) (with_prop unset prop b) (label_in s g) (label_in_below s g) (λ j less.
+        let same : j ≡ prop = omega (arith, one, within, less) in
+        let test : nat_eq j prop ≡ true = grind (arith, same) in
+        (λ i. if test i then b else set j) ∙ sym (λ i. if test i then b else unset j))
+
+-- Each proposition on which it depends has its place among the others, if there are others.
+pub hidden_goes_below : (s more : Store) (how : Hide) (prop : ℕ) (to : List ℕ) (g hidden : Guard) (count : ℕ) → prop < s.names → (count ≡ 0 → s.names ≡ 1) → length to ≡ more.names → AreWithin count to
+    → IsGuardOf more (hidden_in s how prop g) hidden → GoesBelow count (λ k. slice_index_or to k 0) more hidden
+hidden_goes_below s more how prop to g hidden zero within alone long places is k less = inr (only_hidden s more how prop g hidden (alone (λ i. 0)) within is k)
+hidden_goes_below s more how prop to g hidden (suc count) within alone long places is k less = all_go_below (suc count) to more hidden long (places (omega arith)) k less
 
 -- the label over the other names
 module _ (s t : Store) (names : List (List ℕ)) (how : Hide) (prop : ℕ) (to : List ℕ) (g h : Guard) (within : prop < length names) (differ : AllPairs (λ p q. p ≢ q) names)

@@ -1,5 +1,4 @@
 pub mod AnyHidden
-pub mod ConstantGuards
 pub mod FixedName
 pub mod GuardLabels
 pub mod HiddenAutomata

@@ -1,9 +1,8 @@
 //! Guards with a proposition hidden, over the other propositions.
 
 ghost use Rattle.std.specs.Prelude.{◌≡◌, ◌<◌, ℕ, IfOk, OnOk, length};
-ghost use Rattle.std.specs.List.{slice_index_or};
-ghost use Rattle.ap_project.specs.inner.HiddenGuards.{AreHidden, AreWithin, IsConstant, IsHiddenGuard, hidden_in};
-ghost use Rattle.label_guards.specs.Guards.{IsGuardOf, truth_in};
+ghost use Rattle.ap_project.specs.inner.HiddenGuards.{AreHidden, AreWithin, IsHiddenGuard, hidden_in};
+ghost use Rattle.label_guards.specs.Guards.{IsGuardOf};
 ghost use Rattle.label_guards.specs.Store.{Has, Keeps};
 
 use crate::hide::Hide;
@@ -46,7 +45,7 @@ pub(crate) fn hidden_guard(
         return Ok(found);
     }
     let hidden = hide(alloc, given, g, hiding.prop, hiding.how)?;
-    let found = moved(alloc, made, given, hidden, &hiding.to)?;
+    let found = made.bring(alloc, given, hidden, &hiding.to)?;
     put_done(done, g, found)?;
     Ok(found)
 }
@@ -75,38 +74,4 @@ fn either(alloc: Global, store: &mut Guards, g: Guard, prop: u32) -> Result<Guar
     let absent = store.fix(alloc, g, prop, false)?;
     let present = store.fix(alloc, g, prop, true)?;
     store.or(absent, present)
-}
-
-/// The same guard in the store over the other propositions, each of which has its place there. Where none is left, the guard
-/// has to be the same everywhere.
-fn moved(
-    alloc: Global,
-    made: &mut Guards,
-    given: &Guards,
-    g: Guard,
-    to: &Numbers,
-) -> Result<Guard, Memory>
-    requires has { Has given.now g }
-    requires count { length to.now ≡ given.now.names }
-    requires within { AreWithin made.old.names to.now }
-    requires constant { made.old.names ≡ 0 → IsConstant given.now g }
-    ensures keeps { Keeps made.old made.new }
-    ensures moved { IfOk result (IsGuardOf made.new (λ on. truth_in given.now g (λ k. on (slice_index_or to.now k 0)))) }
-{
-    if made.names() == 0 {
-        return Ok(constant(made, given, g));
-    }
-    made.bring(alloc, given, g, to)
-}
-
-/// The guard that is true everywhere if this one is, and else nowhere.
-fn constant(made: &Guards, given: &Guards, g: Guard) -> Guard
-    requires has { Has given.now g }
-    requires constant { IsConstant given.now g }
-    ensures { IsGuardOf made.now (truth_in given.now g) result }
-{
-    if given.is_false(g) {
-        return made.never();
-    }
-    made.always()
 }

@@ -32,6 +32,7 @@ pub fn hidden_accepts()
     ensures { HiddenAccepts }
 {}
 
+// Why so: 'What is hidden is a language, not an automaton' in docs/DECISIONS.md.
 /// A language says of each lasso word, by its stem and cycle, whether it has it.
 pub trait Language {
     ghost says: { List NameSet → List NameSet → Type 0 };

@@ -15,6 +15,7 @@ use aut_core::{Automaton, Link, Links, copy_marks, copy_numbers};
 use label_guards::Guards;
 use std::alloc::Global;
 
+// Why so: 'An automaton without the name stays as it is' in docs/DECISIONS.md.
 /// The automaton with the proposition of one name hidden. It is over the other names, and has the same states, starts, sets,
 /// condition and edges, all in order. Each label becomes its truth with the name absent, with the name present, or, under
 /// `Any`, the disjunction of both (existential quantification); an edge whose label becomes `f` stays. Of an automaton that

@@ -12,7 +12,8 @@ pairs_rest R x xs h i j d less within = h (suc i) (suc j) d (omega (arith, less)
 pub pairs_append : {X : Type 0} (R : X → X → Type 0) (xs ys : List X) → AllPairs R xs → AllPairs R ys → All (λ x. All (R x) ys) xs → AllPairs R (xs ++ ys)
 pairs_append R [] ys first second across = second
 pairs_append R (x ∷ xs) ys first second across =
-    AllPairs-cons R x (xs ++ ys) (All-append (R x) xs ys (pairs_first R x xs first) (across 0 x (omega arith))) (pairs_append R xs ys (pairs_rest R x xs first) second (All-tail (λ y. All (R y) ys) x xs across))
+    AllPairs-cons R x (xs ++ ys) (All-append (R x) xs ys (pairs_first R x xs first) (across 0 x (omega arith)))
+    (pairs_append R xs ys (pairs_rest R x xs first) second (All-tail (λ y. All (R y) ys) x xs across))
 
 pub pairs_map : {X Y : Type 0} (R : Y → Y → Type 0) (f : X → Y) (xs : List X) → AllPairs (λ x y. R (f x) (f y)) xs → AllPairs R (map f xs)
 pairs_map R f [] h = λ i j d less within. absurd (omega (arith, within))

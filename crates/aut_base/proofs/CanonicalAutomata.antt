@@ -55,7 +55,9 @@ canonical_is_well_formed a formed = record {
   starts_differ = formed.starts_differ;
   starts = formed.starts;
   in_order = subst IsNonDecreasing (froms (length a.names) a.edges) formed.in_order;
-  edges = All-map (IsEdgeOf (canonical a)) (relabelled (length a.names)) a.edges (All-weaker (IsEdgeOf a) (λ e. IsEdgeOf (canonical a) (relabelled (length a.names) e)) (λ e h. record { from = h.from; to = h.to; label = canonical_label_below (length a.names) e.label; marks = h.marks; marks_rise = h.marks_rise }) a.edges formed.edges);
+  edges = All-map (IsEdgeOf (canonical a)) (relabelled (length a.names)) a.edges
+      (All-weaker (IsEdgeOf a) (λ e. IsEdgeOf (canonical a) (relabelled (length a.names) e))
+      (λ e h. record { from = h.from; to = h.to; label = canonical_label_below (length a.names) e.label; marks = h.marks; marks_rise = h.marks_rise }) a.edges formed.edges);
   formula = formed.formula;
 }
   where

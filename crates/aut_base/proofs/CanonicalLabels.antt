@@ -8,13 +8,15 @@ use Rattle.aut_base.proofs.CanonicalTruth.{canonical_label_keeps_truth, label_of
 use Rattle.aut_base.proofs.ValuationLetters.{letter_of_holds}
 
 -- labels that are true at the same letters are true under the same valuations
-pub same_on : (names : List (List ℕ)) (t u : LabelTree) → AllPairs (λ p q. p ≢ q) names → AllBelow (length names) t → AllBelow (length names) u → ((letter : NameSet) → truth (holds_at names letter) t ≡ truth (holds_at names letter) u) → (v : List Bool) → length v ≡ length names → truth_on t v ≡ truth_on u v
+pub same_on : (names : List (List ℕ)) (t u : LabelTree) → AllPairs (λ p q. p ≢ q) names → AllBelow (length names) t → AllBelow (length names) u
+    → ((letter : NameSet) → truth (holds_at names letter) t ≡ truth (holds_at names letter) u) → (v : List Bool) → length v ≡ length names → truth_on t v ≡ truth_on u v
 same_on names t u differ t_below u_below same v long =
     let at : (i : ℕ) → i < length names → holds_at names (letter_of names v) i ≡ holds_in v i = λ i less. letter_of_holds names v i differ long in
     sym (truth_below (length names) (holds_at names (letter_of names v)) (holds_in v) t t_below at)
     ∙ (same (letter_of names v) ∙ truth_below (length names) (holds_at names (letter_of names v)) (holds_in v) u u_below at)
 
-pub same_truth_same_label : (names : List (List ℕ)) (t u : LabelTree) → AllPairs (λ p q. p ≢ q) names → AllBelow (length names) t → AllBelow (length names) u → (canonical_label (length names) t ≡ canonical_label (length names) u) ↔ ((letter : NameSet) → truth (holds_at names letter) t ≡ truth (holds_at names letter) u)
+pub same_truth_same_label : (names : List (List ℕ)) (t u : LabelTree) → AllPairs (λ p q. p ≢ q) names → AllBelow (length names) t → AllBelow (length names) u
+    → (canonical_label (length names) t ≡ canonical_label (length names) u) ↔ ((letter : NameSet) → truth (holds_at names letter) t ≡ truth (holds_at names letter) u)
 same_truth_same_label names t u differ t_below u_below = (to, from)
   where
     to : canonical_label (length names) t ≡ canonical_label (length names) u → (letter : NameSet) → truth (holds_at names letter) t ≡ truth (holds_at names letter) u

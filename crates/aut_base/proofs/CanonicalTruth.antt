@@ -82,7 +82,8 @@ cubes_hold holds i (suc n) g =
     let at_low : list_any (all_hold holds) low ≡ g (false ∷ rest) = cubes_hold holds (i + 1) n (λ v. g (false ∷ v)) in
     let at_high : list_any (all_hold holds) high ≡ g (true ∷ rest) = cubes_hold holds (i + 1) n (λ v. g (true ∷ v)) in
     let go : (b : Bool) → is_independent n g ≡ b → list_any (all_hold holds) (cond b low (map (λ cube. literal i false ∷ cube) low ++ map (λ cube. literal i true ∷ cube) high)) ≡ g (holds i ∷ rest) =
-    λ b is. elim b as (λ c. is_independent n g ≡ c → list_any (all_hold holds) (cond c low (map (λ cube. literal i false ∷ cube) low ++ map (λ cube. literal i true ∷ cube) high)) ≡ g (holds i ∷ rest)) [
+    λ b is. elim b as (λ c. is_independent n g ≡ c
+    → list_any (all_hold holds) (cond c low (map (λ cube. literal i false ∷ cube) low ++ map (λ cube. literal i true ∷ cube) high)) ≡ g (holds i ∷ rest)) [
       | true ↦ λ alone. at_low ∙ either (holds i) (λ c. g (c ∷ rest)) (independent_agrees n g alone rest (length-map_range holds (i + 1) n))
       | false ↦ λ matters. list_any-append (all_hold holds) (map (λ cube. literal i false ∷ cube) low) (map (λ cube. literal i true ∷ cube) high)
           ∙ (ap (λ c. c || list_any (all_hold holds) (map (λ cube. literal i true ∷ cube) high)) (any-under holds (literal i false) low ∙ ap (λ c. not (holds i) && c) at_low)
@@ -100,7 +101,9 @@ pub truth_on-label_of : (n : ℕ) (g : List Bool → Bool) (v : List Bool) → l
 truth_on-label_of n g v long =
     truth-label_of (holds_in v) n g ∙ ap g (valuation_of-same n (holds_in v) v long (λ k less. refl))
 
-same_branch : (i : ℕ) (a b : Bool) (low low' high high' : List (List Literal)) → a ≡ b → low ≡ low' → high ≡ high' → cond a low (map (λ cube. literal i false ∷ cube) low ++ map (λ cube. literal i true ∷ cube) high) ≡ cond b low' (map (λ cube. literal i false ∷ cube) low' ++ map (λ cube. literal i true ∷ cube) high')
+same_branch : (i : ℕ) (a b : Bool) (low low' high high' : List (List Literal)) → a ≡ b → low ≡ low' → high ≡ high'
+    → cond a low (map (λ cube. literal i false ∷ cube) low ++ map (λ cube. literal i true ∷ cube) high) ≡ cond b low'
+    (map (λ cube. literal i false ∷ cube) low' ++ map (λ cube. literal i true ∷ cube) high')
 same_branch i a b low low' high high' e f g = cc
 
 -- truth functions that agree on the valuations have the same cubes
@@ -109,7 +112,8 @@ cubes_same i zero g h same = ap (λ b. cond b ([] ∷ []) []) (same [] refl)
 cubes_same i (suc n) g h same =
     let low : cubes (i + 1) n (λ v. g (false ∷ v)) ≡ cubes (i + 1) n (λ v. h (false ∷ v)) = cubes_same (i + 1) n (λ v. g (false ∷ v)) (λ v. h (false ∷ v)) (λ v long. same (false ∷ v) (ap suc long)) in
     let high : cubes (i + 1) n (λ v. g (true ∷ v)) ≡ cubes (i + 1) n (λ v. h (true ∷ v)) = cubes_same (i + 1) n (λ v. g (true ∷ v)) (λ v. h (true ∷ v)) (λ v long. same (true ∷ v) (ap suc long)) in
-    let alone : is_independent n g ≡ is_independent n h = all_same n (λ v. beq (g (false ∷ v)) (g (true ∷ v))) (λ v. beq (h (false ∷ v)) (h (true ∷ v))) (λ v long. let f = same (false ∷ v) (ap suc long) in let t = same (true ∷ v) (ap suc long) in cc) in
+    let alone : is_independent n g ≡ is_independent n h = all_same n (λ v. beq (g (false ∷ v)) (g (true ∷ v))) (λ v. beq (h (false ∷ v)) (h (true ∷ v)))
+    (λ v long. let f = same (false ∷ v) (ap suc long) in let t = same (true ∷ v) (ap suc long) in cc) in
     same_branch i (is_independent n g) (is_independent n h) _ _ _ _ alone low high
 
 pub label_of-same : (n : ℕ) (g h : List Bool → Bool) → ((v : List Bool) → length v ≡ n → g v ≡ h v) → label_of n g ≡ label_of n h

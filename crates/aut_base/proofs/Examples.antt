@@ -35,11 +35,13 @@ marks_of_word : (at_on at_off : List ℕ) (bs : List Bool) → map (marks_at at_
 marks_of_word at_on at_off [] = refl
 marks_of_word at_on at_off (b ∷ bs) = cc (marks_of at_on at_off b, marks_of_word at_on at_off bs)
 
-yes_at : (at_on at_off : List ℕ) (sets : ℕ) (f : FormulaTree) (u : List NameSet) (bs : List Bool) → 0 < length (map letter bs) → met (map (marks_if at_on at_off) bs) f ≡ true → Accepts (one_state at_on at_off sets f) u (map letter bs)
+yes_at : (at_on at_off : List ℕ) (sets : ℕ) (f : FormulaTree) (u : List NameSet) (bs : List Bool) → 0 < length (map letter bs) → met (map (marks_if at_on at_off) bs) f ≡ true
+    → Accepts (one_state at_on at_off sets f) u (map letter bs)
 yes_at at_on at_off sets f u bs endless h =
     (one_state_accepts at_on at_off sets f u (map letter bs) endless).1 (ap (λ marks. met marks f) (marks_of_word at_on at_off bs) ∙ h)
 
-no_at : (at_on at_off : List ℕ) (sets : ℕ) (f : FormulaTree) (u : List NameSet) (bs : List Bool) → met (map (marks_if at_on at_off) bs) f ≡ false → ¬ Accepts (one_state at_on at_off sets f) u (map letter bs)
+no_at : (at_on at_off : List ℕ) (sets : ℕ) (f : FormulaTree) (u : List NameSet) (bs : List Bool) → met (map (marks_if at_on at_off) bs) f ≡ false
+    → ¬ Accepts (one_state at_on at_off sets f) u (map letter bs)
 no_at at_on at_off sets f u bs h r =
     false≢true (sym h ∙ (ap (λ marks. met marks f) (sym (marks_of_word at_on at_off bs)) ∙ (one_state_accepts at_on at_off sets f u (map letter bs) r.endless).0 r))
 
@@ -147,7 +149,8 @@ stands : (starts : List ℕ) (p : ℕ) (x : NameSet) (xs : List NameSet) (es : L
 stands starts p x xs [] q path = absurd path
 stands starts p x xs (e ∷ es) q path = path.0 ∙ (is_loop starts x e path.1 path.2).reads
 
-stands_second : (starts : List ℕ) (p : ℕ) (x y : NameSet) (xs : List NameSet) (es : List TreeEdge) (q : ℕ) → IsPath (either_way starts) p (x ∷ y ∷ xs) es q → p ≡ (if set.contains y name_a then 0 else 1)
+stands_second : (starts : List ℕ) (p : ℕ) (x y : NameSet) (xs : List NameSet) (es : List TreeEdge) (q : ℕ) → IsPath (either_way starts) p (x ∷ y ∷ xs) es q
+    → p ≡ (if set.contains y name_a then 0 else 1)
 stands_second starts p x y xs [] q path = absurd path
 stands_second starts p x y xs (e ∷ es) q path =
     path.0 ∙ (sym (is_loop starts x e path.1 path.2).stays ∙ stands starts e.to y xs es q path.3)
@@ -251,7 +254,8 @@ worked_examples = record {
     turns = 0;
     rounds = 2;
     way = [];
-    cycle = edge 0 LabelTree.True 1 [] ∷ edge 1 LabelTree.True 0 (0 ∷ []) ∷ edge 0 LabelTree.True 1 [] ∷ edge 1 LabelTree.True 0 (0 ∷ []) ∷ edge 0 LabelTree.True 1 [] ∷ edge 1 LabelTree.True 0 (0 ∷ []) ∷ [];
+    cycle = edge 0 LabelTree.True 1 [] ∷ edge 1 LabelTree.True 0 (0 ∷ []) ∷ edge 0 LabelTree.True 1 [] ∷ edge 1 LabelTree.True 0 (0 ∷ []) ∷ edge 0 LabelTree.True 1 [] ∷ edge 1 LabelTree.True
+        0 (0 ∷ []) ∷ [];
     is_start = (0, lit< tt, refl);
     leads = refl;
     positive = lit< tt;

@@ -1,6 +1,7 @@
 -- Lists, by their places and their pieces, beyond what the standard library says of them.
 use Rattle.aut_base.proofs.Truth.{and_comm, or_comm}
-use Rattle.std.proofs.Common.{Bool, List, None, Some, [], ap, arith, cond, drop, false, filter, get_or, inl, inr, length, map, refl, slice_get, suc, sym, take, true, zero, ℕ, ◌&&◌, ◌++◌, ◌+◌, ◌-◌, ◌<◌, ◌==◌, ◌||◌, ◌∙◌, ◌∷◌, ◌≡◌, ◌≤◌, ◌⊎◌}
+use Rattle.std.proofs.Common.{Bool, List, None, Some, [], ap, arith, cond, drop, false, filter, get_or, inl, inr, length, map, refl, slice_get, suc}
+use Rattle.std.proofs.Common.{sym, take, true, zero, ℕ, ◌&&◌, ◌++◌, ◌+◌, ◌-◌, ◌<◌, ◌==◌, ◌||◌, ◌∙◌, ◌∷◌, ◌≡◌, ◌≤◌, ◌⊎◌}
 use Rattle.std.proofs.lemmas.Bool.{and_from}
 use Rattle.std.proofs.lemmas.Bool.Decides.{nat_tests}
 use Rattle.std.proofs.lemmas.List.Concat.{flat_map-append}
@@ -87,11 +88,13 @@ list_any-map p f (x ∷ xs) = ap (λ b. p (f x) || b) (list_any-map p f xs)
 
 pub list_any-turned : {A : Type 0} (p : A → Bool) (n : ℕ) (xs : List A) → list_any p (drop n xs ++ take n xs) ≡ list_any p xs
 list_any-turned p n xs =
-    list_any-append p (drop n xs) (take n xs) ∙ (or_comm (list_any p (drop n xs)) (list_any p (take n xs)) ∙ (sym (list_any-append p (take n xs) (drop n xs)) ∙ ap (list_any p) (take-append-drop n xs)))
+    list_any-append p (drop n xs) (take n xs)
+    ∙ (or_comm (list_any p (drop n xs)) (list_any p (take n xs)) ∙ (sym (list_any-append p (take n xs) (drop n xs)) ∙ ap (list_any p) (take-append-drop n xs)))
 
 pub list_all-turned : {A : Type 0} (p : A → Bool) (n : ℕ) (xs : List A) → list_all p (drop n xs ++ take n xs) ≡ list_all p xs
 list_all-turned p n xs =
-    list_all-append p (drop n xs) (take n xs) ∙ (and_comm (list_all p (drop n xs)) (list_all p (take n xs)) ∙ (sym (list_all-append p (take n xs) (drop n xs)) ∙ ap (list_all p) (take-append-drop n xs)))
+    list_all-append p (drop n xs) (take n xs)
+    ∙ (and_comm (list_all p (drop n xs)) (list_all p (take n xs)) ∙ (sym (list_all-append p (take n xs) (drop n xs)) ∙ ap (list_all p) (take-append-drop n xs)))
 
 pub list_all-same : {X : Type 0} (p q : X → Bool) → ((x : X) → p x ≡ q x) → (xs : List X) → list_all p xs ≡ list_all q xs
 list_all-same p q h [] = refl
@@ -150,13 +153,15 @@ append_three a b c d = append_assoc a (b ++ c) d ∙ ap (λ w. a ++ w) (append_a
 pub flat_map-range_more : {A : Type 0} (f : ℕ → List A) (n : ℕ) → flat_map f (range_with_len 0 (n + 1)) ≡ flat_map f (range_with_len 0 n) ++ f n
 flat_map-range_more f n =
     let e : 0 + n ≡ n = omega arith in
-    ap (flat_map f) (range_more 0 n) ∙ (flat_map-append f (range_with_len 0 n) ((0 + n) ∷ []) ∙ (ap (λ m. flat_map f (range_with_len 0 n) ++ flat_map f (m ∷ [])) e ∙ ap (λ ys. flat_map f (range_with_len 0 n) ++ ys) (append-nil (f n))))
+    ap (flat_map f) (range_more 0 n) ∙ (flat_map-append f (range_with_len 0 n) ((0 + n) ∷ [])
+    ∙ (ap (λ m. flat_map f (range_with_len 0 n) ++ flat_map f (m ∷ [])) e ∙ ap (λ ys. flat_map f (range_with_len 0 n) ++ ys) (append-nil (f n))))
 
 pub map-filter : {X Y : Type 0} (f : X → Y) (p : Y → Bool) (xs : List X) → map f (filter (λ x. p (f x)) xs) ≡ filter p (map f xs)
 map-filter f p [] = refl
 map-filter f p (x ∷ xs) = by (p (f x)) (map-filter f p xs)
   where
-    by : (b : Bool) → map f (filter (λ y. p (f y)) xs) ≡ filter p (map f xs) → map f (cond b (x ∷ filter (λ y. p (f y)) xs) (filter (λ y. p (f y)) xs)) ≡ cond b (f x ∷ filter p (map f xs)) (filter p (map f xs))
+    by : (b : Bool) → map f (filter (λ y. p (f y)) xs) ≡ filter p (map f xs)
+        → map f (cond b (x ∷ filter (λ y. p (f y)) xs) (filter (λ y. p (f y)) xs)) ≡ cond b (f x ∷ filter p (map f xs)) (filter p (map f xs))
     by true rest = ap (λ ys. f x ∷ ys) rest
     by false rest = rest
 

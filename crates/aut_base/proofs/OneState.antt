@@ -43,7 +43,8 @@ goes at_on at_off sets f (x ∷ xs) =
     let P : ℕ → Type 0 = λ p. IsPath (one_state at_on at_off sets f) p xs (map (loop_at at_on at_off) xs) 0 in
     (step.0, step.1, step.2, subst P step.3 (goes at_on at_off sets f xs))
 
-forced : (at_on at_off : List ℕ) (sets : ℕ) (f : FormulaTree) (x : NameSet) (e : TreeEdge) → Contains (one_state at_on at_off sets f).edges e → truth (holds_at (name_a ∷ []) x) e.label ≡ true → e.marks ≡ marks_at at_on at_off x
+forced : (at_on at_off : List ℕ) (sets : ℕ) (f : FormulaTree) (x : NameSet) (e : TreeEdge) → Contains (one_state at_on at_off sets f).edges e
+    → truth (holds_at (name_a ∷ []) x) e.label ≡ true → e.marks ≡ marks_at at_on at_off x
 forced at_on at_off sets f x e there =
     one_of_two (λ d. truth (holds_at (name_a ∷ []) x) d.label ≡ true → d.marks ≡ marks_at at_on at_off x) (edge 0 a 0 at_on) (edge 0 (LabelTree.Not a) 0 at_off) e there
     (λ h. ap (marks_if at_on at_off) (sym h)) (λ h. ap (marks_if at_on at_off) (sym (is_off (contains x name_a) h)))
@@ -52,14 +53,16 @@ forced at_on at_off sets f x e there =
     is_off false h = refl
     is_off true h = sym h
 
-marks_along : (at_on at_off : List ℕ) (sets : ℕ) (f : FormulaTree) (p : ℕ) (xs : List NameSet) (es : List TreeEdge) (q : ℕ) → IsPath (one_state at_on at_off sets f) p xs es q → map (λ e. e.marks) es ≡ map (marks_at at_on at_off) xs
+marks_along : (at_on at_off : List ℕ) (sets : ℕ) (f : FormulaTree) (p : ℕ) (xs : List NameSet) (es : List TreeEdge) (q : ℕ) → IsPath (one_state at_on at_off sets f) p xs es q
+    → map (λ e. e.marks) es ≡ map (marks_at at_on at_off) xs
 marks_along at_on at_off sets f p [] [] q path = refl
 marks_along at_on at_off sets f p [] (e ∷ es) q path = absurd path
 marks_along at_on at_off sets f p (x ∷ xs) [] q path = absurd path
 marks_along at_on at_off sets f p (x ∷ xs) (e ∷ es) q path =
     cc (forced at_on at_off sets f x e path.1 path.2, marks_along at_on at_off sets f e.to xs es q path.3)
 
-pub one_state_accepts : (at_on at_off : List ℕ) (sets : ℕ) (f : FormulaTree) (u v : List NameSet) → 0 < length v → Accepts (one_state at_on at_off sets f) u v ↔ (met (map (marks_at at_on at_off) v) f ≡ true)
+pub one_state_accepts : (at_on at_off : List ℕ) (sets : ℕ) (f : FormulaTree) (u v : List NameSet) → 0 < length v
+    → Accepts (one_state at_on at_off sets f) u v ↔ (met (map (marks_at at_on at_off) v) f ≡ true)
 one_state_accepts at_on at_off sets f u v endless = (from, to)
   where
     -- however often the cycle is gone, the marks are the same

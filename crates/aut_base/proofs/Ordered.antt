@@ -1,7 +1,8 @@
 -- Lists that stand in order, and what is kept of a list.
 use Rattle.aut_base.proofs.AllByRecursion.{AllByRecursion-from_map, AllByRecursion-weaker}
 use Rattle.aut_base.proofs.Truth.{or_comm}
-use Rattle.std.proofs.Common.{All, AllPairs, Bool, List, [], ap, arith, cond, false, filter, get_or, length, map, nat_lt, refl, suc, sym, true, zero, ℕ, ◌&&◌, ◌++◌, ◌+◌, ◌<◌, ◌==◌, ◌||◌, ◌∙◌, ◌∷◌, ◌≡◌, ◌≤◌}
+use Rattle.std.proofs.Common.{All, AllPairs, Bool, List, [], ap, arith, cond, false, filter, get_or, length, map, nat_lt, refl, suc, sym, true, zero}
+use Rattle.std.proofs.Common.{ℕ, ◌&&◌, ◌++◌, ◌+◌, ◌<◌, ◌==◌, ◌||◌, ◌∙◌, ◌∷◌, ◌≡◌, ◌≤◌}
 use Rattle.std.proofs.lemmas.Bool.{eqb-false, eqb-true, lt-ltb, le-ltb, ltb-true, ltb-false, ne_eqb}
 use Rattle.std.proofs.lemmas.List.{map-append}
 use Rattle.std.proofs.lemmas.List.Elements.{All-cons, All-tail, recursion_from_All}
@@ -60,7 +61,8 @@ At key n = filter (λ x. key x == n)
 none_under : {X : Type 0} (key : X → ℕ) (n : ℕ) (x : X) (xs : List X) → n ≤ key x → AllByRecursion (λ y. key x ≤ key y) xs → Under key n xs ≡ []
 none_under key n x xs l h = none_kept (λ y. nat_lt (key y) n) xs (AllByRecursion-weaker (λ y. key x ≤ key y) (λ y. nat_lt (key y) n ≡ false) xs (λ y k. le-ltb (key y) n (omega (arith, k))) h)
 
-one_more : {X : Type 0} (key : X → ℕ) (n : ℕ) (x : X) (xs : List X) (b c : Bool) → nat_lt (key x) n ≡ b → (key x == n) ≡ c → AllByRecursion (λ y. key x ≤ key y) xs → Under key n xs ++ At key n xs ≡ Under key (suc n) xs
+one_more : {X : Type 0} (key : X → ℕ) (n : ℕ) (x : X) (xs : List X) (b c : Bool) → nat_lt (key x) n ≡ b → (key x == n) ≡ c → AllByRecursion (λ y. key x ≤ key y) xs
+    → Under key n xs ++ At key n xs ≡ Under key (suc n) xs
     → cond b (x ∷ Under key n xs) (Under key n xs) ++ cond c (x ∷ At key n xs) (At key n xs) ≡ cond (b || c) (x ∷ Under key (suc n) xs) (Under key (suc n) xs)
 one_more key n x xs true true p q h ih = absurd (omega (arith, ltb-true (key x) n p, eqb-true (key x) n q))
 one_more key n x xs true false p q h ih = ap (λ ys. x ∷ ys) ih
@@ -99,18 +101,23 @@ filter_by_one p (x ∷ xs) = one_kept x (p x) (filter p xs) ∙ ap (λ ys. cond 
 -- numbers that follow one another
 pub range_within : (i n : ℕ) → AllByRecursion (λ x. (i ≤ x) × (x < i + n)) (range_with_len i n)
 range_within i zero = tt
-range_within i (suc n) =
-    ((omega arith, omega arith), AllByRecursion-weaker (λ x. (i + 1 ≤ x) × (x < i + 1 + n)) (λ x. (i ≤ x) × (x < i + suc n)) (range_with_len (i + 1) n) (λ x h. (omega (arith, h), omega (arith, h))) (range_within (i + 1) n))
+range_within i (suc n) = (
+  (omega arith, omega arith),
+  AllByRecursion-weaker (λ x. (i + 1 ≤ x) × (x < i + 1 + n)) (λ x. (i ≤ x) × (x < i + suc n)) (range_with_len (i + 1) n)
+      (λ x h. (omega (arith, h), omega (arith, h))) (range_within (i + 1) n),
+)
 
 pub range_rises : (i n : ℕ) → Pairs (λ x y. x < y) (range_with_len i n)
 range_rises i zero = tt
 range_rises i (suc n) =
     (AllByRecursion-weaker (λ x. (i + 1 ≤ x) × (x < i + 1 + n)) (λ x. i < x) (range_with_len (i + 1) n) (λ x h. omega (arith, h)) (range_within (i + 1) n), range_rises (i + 1) n)
 
-found_at : (i n q : ℕ) (b : Bool) → (i == q) ≡ b → i ≤ q → ((i + 1 ≤ q) → filter (λ x. x == q) (range_with_len (i + 1) n) ≡ q ∷ []) → cond b (i ∷ filter (λ x. x == q) (range_with_len (i + 1) n)) (filter (λ x. x == q) (range_with_len (i + 1) n)) ≡ q ∷ []
+found_at : (i n q : ℕ) (b : Bool) → (i == q) ≡ b → i ≤ q → ((i + 1 ≤ q) → filter (λ x. x == q) (range_with_len (i + 1) n) ≡ q ∷ [])
+    → cond b (i ∷ filter (λ x. x == q) (range_with_len (i + 1) n)) (filter (λ x. x == q) (range_with_len (i + 1) n)) ≡ q ∷ []
 found_at i n q true e l ih =
     let same : i ≡ q = eqb-true i q e in
-    ap (λ ys. i ∷ ys) (none_kept (λ x. x == q) (range_with_len (i + 1) n) (AllByRecursion-weaker (λ x. (i + 1 ≤ x) × (x < i + 1 + n)) (λ x. (x == q) ≡ false) (range_with_len (i + 1) n) (λ x h. ne_eqb x q (λ f. omega (arith, h, same, f))) (range_within (i + 1) n)))
+    ap (λ ys. i ∷ ys) (none_kept (λ x. x == q) (range_with_len (i + 1) n)
+    (AllByRecursion-weaker (λ x. (i + 1 ≤ x) × (x < i + 1 + n)) (λ x. (x == q) ≡ false) (range_with_len (i + 1) n) (λ x h. ne_eqb x q (λ f. omega (arith, h, same, f))) (range_within (i + 1) n)))
     ∙ ap (λ x. x ∷ []) same
 found_at i n q false e l ih = ih (omega (arith, l, eqb-false i q e))
 

@@ -6,8 +6,10 @@ use Rattle.std.specs.Option.{option_map}
 use Rattle.aut_base.proofs.Lists.{slice_get-behind_two}
 
 -- the tree of the item at a place behind two others
-pub tree_behind_two : {A B : Type 0} (tree : A → B) (a b : B) (xs : List A) (list : List B) (place : ℕ) (x : A) → list ≡ a ∷ b ∷ map tree xs → 2 ≤ place → place < length list → x ≡ get_or xs (place - 2) x → slice_get list place ≡ Some (tree x)
+pub tree_behind_two : {A B : Type 0} (tree : A → B) (a b : B) (xs : List A) (list : List B) (place : ℕ) (x : A) → list ≡ a ∷ b ∷ map tree xs → 2 ≤ place → place < length list
+    → x ≡ get_or xs (place - 2) x → slice_get list place ≡ Some (tree x)
 tree_behind_two tree a b xs list place x e h within read =
     let same : length list ≡ length (a ∷ b ∷ map tree xs) = ap length e in
     let all : length (map tree xs) ≡ length xs = length-map xs tree in
-    ap (λ l. slice_get l place) e ∙ (slice_get-behind_two a b (map tree xs) place h ∙ (slice_get-map tree xs (place - 2) ∙ ap (option_map tree) (slice_get_read xs (length xs) (place - 2) x refl (omega arith) read)))
+    ap (λ l. slice_get l place) e ∙ (slice_get-behind_two a b (map tree xs) place h
+    ∙ (slice_get-map tree xs (place - 2) ∙ ap (option_map tree) (slice_get_read xs (length xs) (place - 2) x refl (omega arith) read)))

@@ -31,7 +31,8 @@ pub rises_each : (f : TreeEdge → List TreeEdge) → ((e d : TreeEdge) → Cont
 rises_each f same low high [] r = tt
 rises_each f same low high (e ∷ es) r = rises_at low e.from high (f e) (flat_map f es) r.0 r.1 (same e) (rises_each f same e.from high es r.2)
 
-rises_if : (p : TreeEdge → Bool) (e : TreeEdge) (es : List TreeEdge) (low high : ℕ) (b : Bool) → low ≤ e.from → e.from < high → Rises e.from high (filter p es) → Rises low high (cond b (e ∷ filter p es) (filter p es))
+rises_if : (p : TreeEdge → Bool) (e : TreeEdge) (es : List TreeEdge) (low high : ℕ) (b : Bool) → low ≤ e.from → e.from < high → Rises e.from high (filter p es)
+    → Rises low high (cond b (e ∷ filter p es) (filter p es))
 rises_if p e es low high true l h r = (l, h, r)
 rises_if p e es low high false l h r = rises_wider e.from low high high (filter p es) l (omega arith) r
 
@@ -45,11 +46,13 @@ rises_moved f by is low high (e ∷ es) r =
     (omega (arith, is e, r.0), omega (arith, is e, r.1), subst (λ (n : ℕ). Rises n (by + high) (map f es)) (sym (is e)) (rises_moved f by is e.from high es r.2))
 
 -- pieces for numbers that follow one another
-pub rises_pieces : (f : ℕ → List TreeEdge) (place : ℕ → ℕ) → ((x : ℕ) → place x ≤ place (x + 1)) → (a n : ℕ) → ((x : ℕ) → a ≤ x → x < a + n → Rises (place x) (place (x + 1)) (f x)) → Rises (place a) (place (a + n)) (flat_map f (range_with_len a n))
+pub rises_pieces : (f : ℕ → List TreeEdge) (place : ℕ → ℕ) → ((x : ℕ) → place x ≤ place (x + 1)) → (a n : ℕ) → ((x : ℕ) → a ≤ x → x < a + n → Rises (place x) (place (x + 1)) (f x))
+    → Rises (place a) (place (a + n)) (flat_map f (range_with_len a n))
 rises_pieces f place grows a zero each = tt
 rises_pieces f place grows a (suc n) each =
     let far : a + 1 + n ≡ a + suc n = omega arith in
-    rises_then (place a) (place (a + 1)) (place (a + suc n)) (f a) (flat_map f (range_with_len (a + 1) n)) (grows a) (subst (λ m. place (a + 1) ≤ place m) far (place_up place grows (a + 1) n)) (each a (omega arith) (omega arith))
+    rises_then (place a) (place (a + 1)) (place (a + suc n)) (f a) (flat_map f (range_with_len (a + 1) n)) (grows a)
+    (subst (λ m. place (a + 1) ≤ place m) far (place_up place grows (a + 1) n)) (each a (omega arith) (omega arith))
     (subst (λ m. Rises (place (a + 1)) (place m) (flat_map f (range_with_len (a + 1) n))) far (rises_pieces f place grows (a + 1) n (λ x l h. each x (omega arith) (omega arith))))
   where
     place_up : (place : ℕ → ℕ) → ((x : ℕ) → place x ≤ place (x + 1)) → (a n : ℕ) → place a ≤ place (a + n)
@@ -72,7 +75,8 @@ rising low high (e ∷ es) r zero (suc j) d order within = rises_from e.from hig
 rising low high (e ∷ es) r (suc i) zero d order within = absurd (omega (arith, order))
 rising low high (e ∷ es) r (suc i) (suc j) d order within = rising e.from high es r.2 i j d (omega (arith, order)) (omega (arith, within))
 
-pub risen : (high : ℕ) (es : List TreeEdge) → IsNonDecreasing (map (λ (e : TreeEdge). e.from) es) → All (λ (e : TreeEdge). e.from < high) es → (low : ℕ) → ((d : ℕ) → 0 < length es → low ≤ get_or (map (λ (e : TreeEdge). e.from) es) 0 d) → Rises low high es
+pub risen : (high : ℕ) (es : List TreeEdge) → IsNonDecreasing (map (λ (e : TreeEdge). e.from) es) → All (λ (e : TreeEdge). e.from < high) es → (low : ℕ)
+    → ((d : ℕ) → 0 < length es → low ≤ get_or (map (λ (e : TreeEdge). e.from) es) 0 d) → Rises low high es
 risen high [] order below low first = tt
 risen high (e ∷ es) order below low first = (
   first 0 (omega arith),

@@ -76,7 +76,8 @@ turn a w n m q wait all enough at first again =
     record {
       here = ends q front;
       on = split_first a w n q q front back first';
-      round = join a w (n + wait) m (ends q front) q (ends q front) back front (omega arith) (split_second a w n (n + wait) q q front back (omega arith) first') (split_first a w m q q front back again');
+      round = join a w (n + wait) m (ends q front) q (ends q front) back front (omega arith) (split_second a w n (n + wait) q q front back (omega arith) first')
+          (split_first a w m q q front back again');
     }
 
 -- What acceptance says of the infinite word `w`, whose letters come again after every l from moment o on: a path
@@ -128,7 +129,8 @@ turned a w o l wait times g enough =
     let many = repeated a w o l g.rounds g.state g.cycle g.long_cycle g.round times in
     turn a w (o + g.turns * l) (o + (g.turns + times * g.rounds) * l) g.state wait all (omega arith) (omega arith) (many g.turns) (many (g.turns + times * g.rounds))
 
-taken_up : (a : Automaton) (w : ℕ → Option NameSet) (o l : ℕ) (x y : List NameSet) (g : Looped a w o l) → 0 < length y → ((n : ℕ) → w n ≡ letter_at x y n) → Moment (o + g.turns * l) (length g.cycle) (length x) (length y) → Accepts a x y
+taken_up : (a : Automaton) (w : ℕ → Option NameSet) (o l : ℕ) (x y : List NameSet) (g : Looped a w o l) → 0 < length y → ((n : ℕ) → w n ≡ letter_at x y n)
+    → Moment (o + g.turns * l) (length g.cycle) (length x) (length y) → Accepts a x y
 taken_up a w o l x y g some spells m =
     let all = copies m.times g.cycle in
     let front = take m.wait all in
@@ -149,9 +151,11 @@ taken_up a w o l x y g some spells m =
       way = g.way ++ front;
       cycle = back ++ front;
       is_start = g.is_start;
-      leads = reads_path a w 0 g.start (x ++ copies m.turns y) (g.way ++ front) t.here (word_agrees w x y m.turns spells some) (omega (arith, length-append g.way front)) (join a w 0 (o + g.turns * l) g.start g.state t.here g.way front (omega arith) g.leads t.on);
+      leads = reads_path a w 0 g.start (x ++ copies m.turns y) (g.way ++ front) t.here (word_agrees w x y m.turns spells some) (omega (arith, length-append g.way front))
+          (join a w 0 (o + g.turns * l) g.start g.state t.here g.way front (omega arith) g.leads t.on);
       positive = m.some_rounds;
-      returns = reads_path a w (length x + m.turns * length y) t.here (copies m.rounds y) (back ++ front) t.here (round_agrees w x y m.turns m.rounds spells some) (omega (arith, length-append back front)) (subst P m.at t.round);
+      returns = reads_path a w (length x + m.turns * length y) t.here (copies m.rounds y) (back ++ front) t.here (round_agrees w x y m.turns m.rounds spells some)
+          (omega (arith, length-append back front)) (subst P m.at t.round);
       meets = met_alike (map (λ e. e.marks) (back ++ front)) (map (λ e. e.marks) g.cycle) (turned_alike (λ e. e.marks) m.times m.wait g.cycle m.some_times) a.formula ∙ g.meets;
     }
 

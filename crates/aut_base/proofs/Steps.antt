@@ -25,7 +25,8 @@ all_not_here p xs k x is so_far fails = sym (ap (λ b. b && list_all p (drop (k 
 pub all_done : {A : Type 0} (p : A → Bool) (xs : List A) (k : ℕ) → length xs ≤ k → list_all p (drop k xs) ≡ list_all p xs → true ≡ list_all p xs
 all_done p xs k all so_far = sym (ap (list_all p) (drop_all k xs all)) ∙ so_far
 
-pub map_more : {A B : Type 0} (f : A → B) (xs : List A) (k : ℕ) (x : A) (old new : List B) (y : B) (all : List B) → slice_get xs k ≡ Some x → old ++ map f (drop k xs) ≡ all → y ≡ f x → new ≡ old ++ y ∷ [] → new ++ map f (drop (k + 1) xs) ≡ all
+pub map_more : {A B : Type 0} (f : A → B) (xs : List A) (k : ℕ) (x : A) (old new : List B) (y : B) (all : List B) → slice_get xs k ≡ Some x → old ++ map f (drop k xs) ≡ all → y ≡ f x
+    → new ≡ old ++ y ∷ [] → new ++ map f (drop (k + 1) xs) ≡ all
 map_more f xs k x old new y all is so_far e made =
     ap (λ zs. zs ++ map f (drop (k + 1) xs)) made
     ∙ append_assoc old (y ∷ []) (map f (drop (k + 1) xs))
@@ -34,7 +35,8 @@ map_more f xs k x old new y all is so_far e made =
     ∙ so_far
 
 -- A list to which the rest of another is added element by element.
-pub rest_more : {A : Type 0} (xs : List A) (k : ℕ) (x : A) (old new all : List A) (y : A) → slice_get xs k ≡ Some x → old ++ drop k xs ≡ all → y ≡ x → new ≡ old ++ y ∷ [] → new ++ drop (k + 1) xs ≡ all
+pub rest_more : {A : Type 0} (xs : List A) (k : ℕ) (x : A) (old new all : List A) (y : A) → slice_get xs k ≡ Some x → old ++ drop k xs ≡ all → y ≡ x → new ≡ old ++ y ∷ []
+    → new ++ drop (k + 1) xs ≡ all
 rest_more xs k x old new all y is so_far e made =
     ap (λ zs. zs ++ drop (k + 1) xs) made
     ∙ append_assoc old (y ∷ []) (drop (k + 1) xs)
@@ -46,7 +48,8 @@ rest_more xs k x old new all y is so_far e made =
 pub map_on : {X Y : Type 0} (f : X → Y) (xs : List X) (i : ℕ) (x : X) → i < length xs → x ≡ get_or xs i x → map f (take i xs) ++ f x ∷ [] ≡ map f (take (i + 1) xs)
 map_on f xs i x within is = sym (ap (map f) (take-push xs i x within is) ∙ map-append f (take i xs) (x ∷ []))
 
-pub map_map_on : {X Y Z : Type 0} (f : Y → Z) (g : X → Y) (xs : List X) (i : ℕ) (x : X) → i < length xs → x ≡ get_or xs i x → map f (map g (take i xs)) ++ f (g x) ∷ [] ≡ map f (map g (take (i + 1) xs))
+pub map_map_on : {X Y Z : Type 0} (f : Y → Z) (g : X → Y) (xs : List X) (i : ℕ) (x : X) → i < length xs → x ≡ get_or xs i x
+    → map f (map g (take i xs)) ++ f (g x) ∷ [] ≡ map f (map g (take (i + 1) xs))
 map_map_on f g xs i x within is = sym (map-append f (map g (take i xs)) (g x ∷ [])) ∙ ap (map f) (map_on g xs i x within is)
 
 pub flat_map_on : {X Y : Type 0} (f : X → List Y) (xs : List X) (i : ℕ) (x : X) → slice_get xs i ≡ Some x → flat_map f (take i xs) ++ f x ≡ flat_map f (take (i + 1) xs)

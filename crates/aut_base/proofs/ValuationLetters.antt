@@ -27,7 +27,8 @@ none_on p (x ∷ xs) (true ∷ v) fails =
     let first : p x ≡ false = fails 0 x refl in let rest = none_on p xs v (λ k. fails (suc k)) in rw first rest
 
 -- only the name at place i passes it
-one_on : (p : List ℕ → Bool) (names : List (List ℕ)) (v : List Bool) (i : ℕ) (name : List ℕ) → slice_get names i ≡ Some name → p name ≡ true → ((k : ℕ) (other : List ℕ) → k ≢ i → slice_get names k ≡ Some other → p other ≡ false) → list_any p (names_on names v) ≡ holds_in v i
+one_on : (p : List ℕ → Bool) (names : List (List ℕ)) (v : List Bool) (i : ℕ) (name : List ℕ) → slice_get names i ≡ Some name → p name ≡ true
+    → ((k : ℕ) (other : List ℕ) → k ≢ i → slice_get names k ≡ Some other → p other ≡ false) → list_any p (names_on names v) ≡ holds_in v i
 one_on p [] v i name is passes fails = absurd (none-some name is)
 one_on p (x ∷ xs) [] zero name is passes fails = refl
 one_on p (x ∷ xs) [] (suc i) name is passes fails = refl
@@ -42,7 +43,8 @@ apart_at : (names : List (List ℕ)) → AllPairs (λ p q. p ≢ q) names → (i
 apart_at names differ i k name other away at there e =
     let here : get_or names i name ≡ name = get_or_from_slice_get names i name name at in
     let over : get_or names k name ≡ other = get_or_from_slice_get names k other name there in
-    ⊎_elim (λ (same : i ≡ k). away (sym same)) (⊎_elim (λ (less : i < k). differ i k name less (slice_get_within names k other there) cc) (λ (less : k < i). differ k i name less (slice_get_within names i name at) cc)) (cases_order i k)
+    ⊎_elim (λ (same : i ≡ k). away (sym same))
+    (⊎_elim (λ (less : i < k). differ i k name less (slice_get_within names k other there) cc) (λ (less : k < i). differ k i name less (slice_get_within names i name at) cc)) (cases_order i k)
 
 -- the propositions that hold at the letter of a valuation are those of the valuation
 pub letter_of_holds : (names : List (List ℕ)) (v : List Bool) (i : ℕ) → AllPairs (λ p q. p ≢ q) names → length v ≡ length names → holds_at names (letter_of names v) i ≡ holds_in v i

@@ -76,7 +76,8 @@ map_range holds i (suc n) [] long same = absurd (omega arith)
 map_range holds i (suc n) (b ∷ v) long same =
     let here : i ≡ i + 0 = omega arith in
     let first : holds i ≡ b = ap holds here ∙ same 0 (omega arith) in
-    let rest : map holds (range_with_len (i + 1) n) ≡ v = map_range holds (i + 1) n v (omega arith) (λ k less. let at : i + 1 + k ≡ i + suc k = omega arith in ap holds at ∙ same (suc k) (omega arith)) in
+    let rest : map holds (range_with_len (i + 1) n) ≡ v =
+    map_range holds (i + 1) n v (omega arith) (λ k less. let at : i + 1 + k ≡ i + suc k = omega arith in ap holds at ∙ same (suc k) (omega arith)) in
     cc
 
 pub valuation_of-same : (n : ℕ) (holds : ℕ → Bool) (v : List Bool) → length v ≡ n → ((k : ℕ) → k < n → holds k ≡ holds_in v k) → valuation_of n holds ≡ v

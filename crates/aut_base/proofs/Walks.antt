@@ -32,8 +32,12 @@ pub reads_word : (a : Automaton) (w : ℕ → Option NameSet) (n p : ℕ) (xs : 
 reads_word a w n p [] [] q agrees path = path
 reads_word a w n p [] (e ∷ es) q agrees path = absurd path
 reads_word a w n p (x ∷ xs) [] q agrees path = absurd path
-reads_word a w n p (x ∷ xs) (e ∷ es) q agrees path =
-    (path.0, path.1, λ y is. subst (λ s. truth (holds_at a.names s) e.label ≡ true) (same_Some x y (sym (agrees_first w n x xs agrees) ∙ is)) path.2, reads_word a w (n + 1) e.to xs es q (agrees_rest w n x xs agrees) path.3)
+reads_word a w n p (x ∷ xs) (e ∷ es) q agrees path = (
+  path.0,
+  path.1,
+  λ y is. subst (λ s. truth (holds_at a.names s) e.label ≡ true) (same_Some x y (sym (agrees_first w n x xs agrees) ∙ is)) path.2,
+  reads_word a w (n + 1) e.to xs es q (agrees_rest w n x xs agrees) path.3,
+)
 
 pub reads_path : (a : Automaton) (w : ℕ → Option NameSet) (n p : ℕ) (xs : List NameSet) (es : List TreeEdge) (q : ℕ) → Agrees w n xs → length es ≡ length xs → Reads a w n p es q → IsPath a p xs es q
 reads_path a w n p [] [] q agrees long reads = reads
@@ -68,7 +72,8 @@ split_second a w n m p q [] fs at reads =
 split_second a w n m p q (e ∷ es) fs at reads = split_second a w (n + 1) m e.to q es fs (omega arith) reads.3
 
 -- A closed path of j times l edges, which can be gone at each moment o + s * l, can be gone again and again.
-pub repeated : (a : Automaton) (w : ℕ → Option NameSet) (o l j q : ℕ) (cycle : List TreeEdge) → length cycle ≡ j * l → ((s : ℕ) → Reads a w (o + s * l) q cycle q) → (k s : ℕ) → Reads a w (o + s * l) q (copies k cycle) q
+pub repeated : (a : Automaton) (w : ℕ → Option NameSet) (o l j q : ℕ) (cycle : List TreeEdge) → length cycle ≡ j * l → ((s : ℕ) → Reads a w (o + s * l) q cycle q) → (k s : ℕ)
+    → Reads a w (o + s * l) q (copies k cycle) q
 repeated a w o l j q cycle long round zero s = refl
 repeated a w o l j q cycle long round (suc k) s =
     join a w (o + s * l) (o + (s + j) * l) q q q cycle (copies k cycle) (omega arith) (round s) (repeated a w o l j q cycle long round k (s + j))

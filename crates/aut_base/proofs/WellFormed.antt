@@ -9,7 +9,8 @@ use Rattle.aut_base.specs.Formula.{SetsBelow}
 use Rattle.aut_base.specs.declared.description.Description.{Description}
 use Rattle.aut_base.specs.declared.description.Edge.{Edge}
 
-pub well_formed : (d : Description) → AllPairs (λ name other. name ≢ other) (automaton d).names → All (λ p. p < d.states) (automaton d).starts → AllPairs (λ p q. p ≢ q) (automaton d).starts → IsNonDecreasing (map (λ e. e.from) (automaton d).edges) → All (IsEdgeOf (automaton d)) (automaton d).edges → SetsBelow (automaton d).sets (automaton d).formula → IsWellFormed (automaton d)
+pub well_formed : (d : Description) → AllPairs (λ name other. name ≢ other) (automaton d).names → All (λ p. p < d.states) (automaton d).starts → AllPairs (λ p q. p ≢ q) (automaton d).starts
+    → IsNonDecreasing (map (λ e. e.from) (automaton d).edges) → All (IsEdgeOf (automaton d)) (automaton d).edges → SetsBelow (automaton d).sets (automaton d).formula → IsWellFormed (automaton d)
 well_formed d names states starts order edges formula = record {
   names_differ = names;
   starts_differ = starts;
@@ -44,7 +45,8 @@ in_order (e ∷ es) n all h i j d order near =
     let from_second = get_or-map (λ (a : TreeEdge). a.from) (map tree_edge edges) j (tree_edge e) d (omega arith) in
     omega arith
 
-pub out_of_order : (edges : List Edge) (i : ℕ) (x y : Edge) → 0 < i → i < length edges → x ≡ get_or edges i x → y ≡ get_or edges (i - 1) y → (get_or edges i x).from < (get_or edges (i - 1) y).from → IsNonDecreasing (map (λ a. a.from) (map tree_edge edges)) → ⊥
+pub out_of_order : (edges : List Edge) (i : ℕ) (x y : Edge) → 0 < i → i < length edges → x ≡ get_or edges i x → y ≡ get_or edges (i - 1) y
+    → (get_or edges i x).from < (get_or edges (i - 1) y).from → IsNonDecreasing (map (λ a. a.from) (map tree_edge edges)) → ⊥
 out_of_order edges i x y some within at_x at_y less order =
     let size = length-map edges tree_edge in
     let froms = length-map (map tree_edge edges) (λ (a : TreeEdge). a.from) in

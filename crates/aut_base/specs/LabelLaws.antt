@@ -11,12 +11,14 @@ use Rattle.aut_base.specs.Word.{NameSet}
 -- function, a letter, or a valuation.
 pub record CanonicalLabelKeepsTruth : Type 0 where
   pub anywhere : (n : ℕ) (t : LabelTree) (holds : ℕ → Bool) → AllBelow n t → truth holds (canonical_label n t) ≡ truth holds t
-  pub at_letters : (names : List (List ℕ)) (t : LabelTree) (letter : NameSet) → AllBelow (length names) t → truth (holds_at names letter) (canonical_label (length names) t) ≡ truth (holds_at names letter) t
+  pub at_letters : (names : List (List ℕ)) (t : LabelTree) (letter : NameSet) → AllBelow (length names) t
+      → truth (holds_at names letter) (canonical_label (length names) t) ≡ truth (holds_at names letter) t
   pub on_valuations : (n : ℕ) (t : LabelTree) (v : List Bool) → length v ≡ n → truth_on (canonical_label n t) v ≡ truth_on t v
 
 -- Labels have one canonical form exactly where they are true at the same letters.
 abbrev pub SameTruthSameLabel : Type 0
-SameTruthSameLabel = (names : List (List ℕ)) (t u : LabelTree) → AllPairs (λ p q. p ≢ q) names → AllBelow (length names) t → AllBelow (length names) u → (canonical_label (length names) t ≡ canonical_label (length names) u) ↔ ((letter : NameSet) → truth (holds_at names letter) t ≡ truth (holds_at names letter) u)
+SameTruthSameLabel = (names : List (List ℕ)) (t u : LabelTree) → AllPairs (λ p q. p ≢ q) names → AllBelow (length names) t → AllBelow (length names) u
+    → (canonical_label (length names) t ≡ canonical_label (length names) u) ↔ ((letter : NameSet) → truth (holds_at names letter) t ≡ truth (holds_at names letter) u)
 
 -- each proposition of the automaton's labels has a name
 abbrev pub LabelsBelow : Automaton → Type 0

@@ -1,6 +1,7 @@
 -- The limits of a run, in figures.
 use Rattle.std.specs.Prelude.{◌≡◌, ◌^◌}
-use Rattle.aut_base.specs.declared.limit.TheConstants.{MOST_NAMES, MOST_SETS, MOST_STATES, MOST_EDGES, MOST_ALIASES, MOST_DEPTH, MOST_BYTES, MOST_TERMS, MOST_BUCHI_STATES, MOST_TREES, MOST_NODES, MOST_CLASSES, MOST_SUBSETS, MOST_PAIRS}
+use Rattle.aut_base.specs.declared.limit.TheConstants.{MOST_NAMES, MOST_SETS, MOST_STATES, MOST_EDGES, MOST_ALIASES, MOST_DEPTH, MOST_BYTES}
+use Rattle.aut_base.specs.declared.limit.TheConstants.{MOST_TERMS, MOST_BUCHI_STATES, MOST_TREES, MOST_NODES, MOST_CLASSES, MOST_SUBSETS, MOST_PAIRS}
 
 pub record LimitsInFigures : Type 0 where
   pub names : MOST_NAMES ≡ 32

@@ -20,6 +20,7 @@ pub enum Label {
     Or(Labels),
 }
 
+// Why so: 'Two parts by structure' in docs/DECISIONS.md.
 /// The parts of a conjunction or disjunction: at least two.
 #[cycle(label)]
 #[derive(Debug, Drop)]
@@ -48,6 +49,7 @@ impl Label {
         }
     }
 
+    // Why so: '`Label::truth` is public beside `Label::holds`' in docs/DECISIONS.md.
     /// Whether the label is true where `on` says of each proposition whether it holds.
     #[cycle(label_truth)]
     #[tactic(auto, using(crate::proofs::LabelTrees::label_trees))]

@@ -10,6 +10,7 @@ use std::marker::Model;
 /// Letters, in order.
 pub type Letters = Seq<Letter>;
 
+// Why so: 'A letter is seen as a set of names' in docs/DECISIONS.md.
 /// The propositions that hold at one moment. Contracts see the finite set of their names.
 #[derive(Debug, Drop)]
 pub struct Letter {

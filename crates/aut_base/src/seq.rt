@@ -9,6 +9,7 @@ use std::alloc::Global;
 use std::hash::{Hash, Hasher};
 use std::marker::Model;
 
+// Why so: 'One list type, `Seq<T>`' in docs/DECISIONS.md.
 /// A list that grows at its end. Contracts see the list of its items.
 #[derive(Clone, Debug, Drop)]
 pub struct Seq<T> {

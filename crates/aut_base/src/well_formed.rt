@@ -8,6 +8,7 @@ ghost use Rattle.aut_base.specs.inner.Distinct.{DiffersFromEarlier};
 use crate::{Description, Edge};
 
 impl Description {
+    // Why so: 'Well-formed is decided and not a rule of the type' in docs/DECISIONS.md.
     /// Whether starts are distinct, edges stand in the order of the states that they leave, and every number is in
     /// range. Names differ and marks rise by their types. Takes time in proportion to the size of the description, and to
     /// the square of the number of starts.

@@ -20,11 +20,14 @@ rest_of : (names : List (List ℕ)) (q : ℕ) (e : TreeEdge) (es : List TreeEdge
 rest_of names q e es true h = pairs_rest (AreApart names) e (edges_from q es) h
 rest_of names q e es false h = h
 
-apart_by_state : (names : List (List ℕ)) (states : ℕ) (es : List TreeEdge) → All (λ e. e.from < states) es → ((q : ℕ) → q < states → AreAllApart names (edges_from q es)) → AllPairs (λ d e. d.from ≡ e.from → AreApart names d e) es
+apart_by_state : (names : List (List ℕ)) (states : ℕ) (es : List TreeEdge) → All (λ e. e.from < states) es → ((q : ℕ) → q < states → AreAllApart names (edges_from q es))
+    → AllPairs (λ d e. d.from ≡ e.from → AreApart names d e) es
 apart_by_state names states [] within h = λ i j d l w. absurd (omega (arith, w))
 apart_by_state names states (e ∷ es) within h =
-    let here : AllPairs (AreApart names) (e ∷ edges_from e.from es) = subst (λ b. AllPairs (AreApart names) (from_or e.from e es b)) (eq-eqb e.from e.from refl) (h e.from (within 0 e (omega arith))) in
-    let first : All (λ (d : TreeEdge). (d.from == e.from) ≡ true → AreApart names e d) es = of_kept (AreApart names e) (λ (d : TreeEdge). d.from == e.from) es (pairs_first (AreApart names) e (edges_from e.from es) here) in
+    let here : AllPairs (AreApart names) (e ∷ edges_from e.from es) = subst (λ b. AllPairs (AreApart names) (from_or e.from e es b)) (eq-eqb e.from e.from refl)
+    (h e.from (within 0 e (omega arith))) in
+    let first : All (λ (d : TreeEdge). (d.from == e.from) ≡ true → AreApart names e d) es =
+    of_kept (AreApart names e) (λ (d : TreeEdge). d.from == e.from) es (pairs_first (AreApart names) e (edges_from e.from es) here) in
     AllPairs-cons (λ d x. d.from ≡ x.from → AreApart names d x) e es
     (λ k o w same. first k o w (eq-eqb _ _ (sym same)))
     (apart_by_state names states es (All-tail (λ (d : TreeEdge). d.from < states) e es within) (λ q l. rest_of names q e es (e.from == q) (h q l)))
@@ -36,7 +39,8 @@ state_by_apart names es h q i j d l w =
     let second = eqb-true (get_or (edges_from q es) j d).from q (same j d w) in
     AllPairs-filter (λ d e. d.from ≡ e.from → AreApart names d e) (λ (e : TreeEdge). e.from == q) es h i j d l w (first ∙ sym second)
 
-pub deterministic_if : (a : Automaton) (b : Bool) → All (λ e. e.from < a.states) a.edges → length a.starts ≤ 1 → (IsTrue b ↔ ((q : ℕ) → q < a.states → AreAllApart a.names (edges_from q a.edges))) → IsTrue b ↔ IsDeterministic a
+pub deterministic_if : (a : Automaton) (b : Bool) → All (λ e. e.from < a.states) a.edges → length a.starts ≤ 1
+    → (IsTrue b ↔ ((q : ℕ) → q < a.states → AreAllApart a.names (edges_from q a.edges))) → IsTrue b ↔ IsDeterministic a
 deterministic_if a b within few is = (
   λ e. record { start = few; edges = apart_by_state a.names a.states a.edges within (is.0 e) },
   λ d. is.1 (λ q l. state_by_apart a.names a.edges d.edges q),

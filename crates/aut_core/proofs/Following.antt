@@ -32,13 +32,16 @@ stand_one s l e has is = record { has = only; edges = ap (λ (d : TreeEdge). d �
     only zero d within = has
     only (suc k) d within = absurd (omega (arith, within))
 
-pub stand_push : (s : Store) (links new : List Link) (l : Link) (es : List TreeEdge) (e : TreeEdge) → StandFor s links es → Has s l.guard → edge_of s l ≡ e → new ≡ links ++ l ∷ [] → StandFor s new (es ++ e ∷ [])
+pub stand_push : (s : Store) (links new : List Link) (l : Link) (es : List TreeEdge) (e : TreeEdge) → StandFor s links es → Has s l.guard → edge_of s l ≡ e → new ≡ links ++ l ∷ []
+    → StandFor s new (es ++ e ∷ [])
 stand_push s links new l es e so_far has is pushed = stand_append s links (l ∷ []) new es (e ∷ []) so_far (stand_one s l e has is) pushed
 
 -- a link more, for the next item of a list whose items say which edges
-pub stand_more : {X : Type 0} (f : X → TreeEdge) (xs : List X) (k : ℕ) (x : X) (s t : Store) (old new : List Link) (l : Link) → k < length xs → x ≡ get_or xs k x → StandFor s old (map f (take k xs)) → Keeps s t → Has t l.guard → edge_of t l ≡ f x → new ≡ old ++ l ∷ [] → StandFor t new (map f (take (k + 1) xs))
+pub stand_more : {X : Type 0} (f : X → TreeEdge) (xs : List X) (k : ℕ) (x : X) (s t : Store) (old new : List Link) (l : Link) → k < length xs → x ≡ get_or xs k x
+    → StandFor s old (map f (take k xs)) → Keeps s t → Has t l.guard → edge_of t l ≡ f x → new ≡ old ++ l ∷ [] → StandFor t new (map f (take (k + 1) xs))
 stand_more f xs k x s t old new l within is so_far keeps has e pushed =
-    subst (StandFor t new) (sym (map-append f (take k xs) (x ∷ [])) ∙ sym (ap (map f) (take-push xs k x within is))) (stand_push t old new l (map f (take k xs)) (f x) (stand_kept s t old (map f (take k xs)) keeps so_far) has e pushed)
+    subst (StandFor t new) (sym (map-append f (take k xs) (x ∷ [])) ∙ sym (ap (map f) (take-push xs k x within is)))
+    (stand_push t old new l (map f (take k xs)) (f x) (stand_kept s t old (map f (take k xs)) keeps so_far) has e pushed)
 
 pub stand_all : {X : Type 0} (f : X → TreeEdge) (xs : List X) (k : ℕ) (s : Store) (links : List Link) → length xs ≤ k → StandFor s links (map f (take k xs)) → map (edge_of s) links ≡ map f xs
 stand_all f xs k s links end so_far = so_far.edges ∙ ap (map f) (take_all k xs end)

@@ -28,7 +28,8 @@ label_in_settled s g = label_of-same s.names _ _ (truth_on-label_of s.names (λ 
 settled_edges : (s : Store) (links : List Link) → map (λ (e : TreeEdge). record e { label = canonical_label s.names e.label }) (map (edge_of s) links) ≡ map (edge_of s) links
 settled_edges s [] = refl
 settled_edges s (l ∷ ls) =
-    ap (λ (t : LabelTree). record { from = l.from; label = t; to = l.to; marks = l.marks } ∷ map (λ (e : TreeEdge). record e { label = canonical_label s.names e.label }) (map (edge_of s) ls)) (label_in_settled s l.guard)
+    ap (λ (t : LabelTree). record { from = l.from; label = t; to = l.to; marks = l.marks } ∷ map (λ (e : TreeEdge). record e { label = canonical_label s.names e.label })
+    (map (edge_of s) ls)) (label_in_settled s l.guard)
     ∙ ap (λ (es : List TreeEdge). edge_of s l ∷ es) (settled_edges s ls)
 
 pub made : (c : Core) → AreParts c → AllPairs (λ a b. a ≢ b) c.names → All (λ (l : Link). AllPairs (λ m n. m < n) l.marks) c.links → IsCore c
@@ -50,7 +51,9 @@ made c parts differ rise = record {
         });
     formula = parts.formula;
   };
-  settled = ap (λ (es : List TreeEdge). record (automaton_of c) { edges = es }) (subst (λ n. map (λ (e : TreeEdge). record e { label = canonical_label n e.label }) (map (edge_of c.store) c.links) ≡ map (edge_of c.store) c.links) parts.store_names (settled_edges c.store c.links));
+  settled = ap (λ (es : List TreeEdge). record (automaton_of c) { edges = es })
+      (subst (λ n. map (λ (e : TreeEdge). record e { label = canonical_label n e.label }) (map (edge_of c.store) c.links) ≡ map (edge_of c.store) c.links) parts.store_names
+      (settled_edges c.store c.links));
 }
 
 -- The parts of a well-formed automaton whose guards are in its store.
@@ -62,7 +65,8 @@ parts_from c formed few store_names has = record {
   starts = formed.starts;
   in_order = subst IsNonDecreasing (map-map (λ (e : TreeEdge). e.from) (edge_of c.store) c.links) formed.in_order;
   links = λ k d within.
-      let edge : IsEdgeOf (automaton_of c) (edge_of c.store (get_or c.links k d)) = subst (IsEdgeOf (automaton_of c)) (get_or-map (edge_of c.store) c.links k d (edge_of c.store d) within) (formed.edges k (edge_of c.store d) (omega (arith, within, length-map c.links (edge_of c.store)))) in
+      let edge : IsEdgeOf (automaton_of c) (edge_of c.store (get_or c.links k d)) = subst (IsEdgeOf (automaton_of c)) (get_or-map (edge_of c.store) c.links k d (edge_of c.store d) within)
+      (formed.edges k (edge_of c.store d) (omega (arith, within, length-map c.links (edge_of c.store)))) in
       record { from = edge.from; guard = has k d within; to = edge.to; marks = edge.marks };
   formula = formed.formula;
 }

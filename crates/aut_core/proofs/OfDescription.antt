@@ -21,7 +21,8 @@ use Rattle.aut_core.proofs.Made.{parts_from}
 -- the labels speak of the store's propositions
 pub labels_below : (d : Description) (n : ℕ) (es : List Edge) → IsWellFormed (automaton d) → n ≡ length d.names → es ≡ d.edges → All (λ e. AllBelow n (tree_edge e).label) es
 labels_below d n es formed count same = subst (λ xs. All (λ e. AllBelow n (tree_edge e).label) xs) (sym same) (λ k e within.
-    let edge = subst (λ (t : TreeEdge). AllBelow (length d.names) t.label) (get_or-map tree_edge d.edges k e (tree_edge e) within) (formed.edges k (tree_edge e) (omega (arith, within, length-map d.edges tree_edge))).label in
+    let edge = subst (λ (t : TreeEdge). AllBelow (length d.names) t.label) (get_or-map tree_edge d.edges k e (tree_edge e) within)
+    (formed.edges k (tree_edge e) (omega (arith, within, length-map d.edges tree_edge))).label in
     subst (λ m. AllBelow m (tree_edge (get_or d.edges k e)).label) (sym count) edge)
 
 -- the parts that were made for a description
@@ -35,7 +36,8 @@ pub record AreOf (d : Description) (c : Core) : Type 0 where
   pub store : c.store.names ≡ length d.names
   pub has : All (λ l. Has c.store l.guard) c.links
 
-pub are_of : (d : Description) (names : List (List ℕ)) (starts : List ℕ) (links : List Link) (formula : FormulaTree) (es : List Edge) (s t : Store) → names ≡ d.names → starts ≡ d.starts → formula ≡ formula_tree d.formula → s.names ≡ length d.names → es ≡ d.edges → t.names ≡ s.names → All (λ l. Has t l.guard) links
+pub are_of : (d : Description) (names : List (List ℕ)) (starts : List ℕ) (links : List Link) (formula : FormulaTree) (es : List Edge) (s t : Store) → names ≡ d.names → starts ≡ d.starts
+    → formula ≡ formula_tree d.formula → s.names ≡ length d.names → es ≡ d.edges → t.names ≡ s.names → All (λ l. Has t l.guard) links
     → map (edge_of t) links ≡ map (λ e. record (tree_edge e) { label = canonical_label s.names (tree_edge e).label }) es
     → AreOf d (record { names = names; starts = starts; states = d.states; links = links; sets = d.sets; formula = formula; store = t })
 are_of d names starts links formula es s t same_names same_starts same_formula count same kept has edges = record {
@@ -52,12 +54,15 @@ are_of d names starts links formula es s t same_names same_starts same_formula c
 pub described : (d : Description) (c : Core) → AreOf d c → automaton_of c ≡ canonical (automaton d)
 described d c of =
     let edges : map (edge_of c.store) c.links ≡ map (λ (e : TreeEdge). record e { label = canonical_label (length d.names) e.label }) (map tree_edge d.edges) =
-    of.edges ∙ (ap (λ n. map (λ (e : Edge). record (tree_edge e) { label = canonical_label n (tree_edge e).label }) d.edges) of.store ∙ sym (map-map (λ (e : TreeEdge). record e { label = canonical_label (length d.names) e.label }) tree_edge d.edges)) in
+    of.edges ∙ (ap (λ n. map (λ (e : Edge). record (tree_edge e) { label = canonical_label n (tree_edge e).label }) d.edges) of.store
+    ∙ sym (map-map (λ (e : TreeEdge). record e { label = canonical_label (length d.names) e.label }) tree_edge d.edges)) in
     λ i. record { names = of.names i; starts = of.starts i; states = of.states i; edges = edges i; sets = of.sets i; formula = of.formula i }
 
 pub described_parts : (d : Description) (c : Core) → length d.names ≤ MOST_NAMES → IsWellFormed (automaton d) → AreOf d c → AreParts c
 described_parts d c few formed of =
-    parts_from c (subst IsWellFormed (sym (described d c of)) ((canonical_accepts_the_same (automaton d)).well_formed formed)) (omega (arith, few, ap length of.names)) (of.store ∙ sym (ap length of.names)) of.has
+    parts_from c (subst IsWellFormed (sym (described d c of)) ((canonical_accepts_the_same (automaton d)).well_formed formed)) (omega (arith, few, ap length of.names))
+    (of.store ∙ sym (ap length of.names)) of.has
 
 pub described_accepts : (d : Description) (c : Core) → IsWellFormed (automaton d) → AreOf d c → AcceptTheSame (automaton_of c) (automaton d)
-described_accepts d c formed of u v = subst (λ (a : Automaton). Accepts a u v ↔ Accepts (automaton d) u v) (sym (described d c of)) ((canonical_accepts_the_same (automaton d)).accepts (automata.labels_below (automaton d) formed) u v)
+described_accepts d c formed of u v = subst (λ (a : Automaton). Accepts a u v ↔ Accepts (automaton d) u v) (sym (described d c of))
+    ((canonical_accepts_the_same (automaton d)).accepts (automata.labels_below (automaton d) formed) u v)

@@ -1,5 +1,6 @@
 -- A label over other names.
-use Rattle.std.proofs.Common.{◌≡◌, ◌≢◌, ◌∙◌, ◌<◌, ◌≤◌, ◌+◌, ⊎_elim, ℕ, Bool, false, List, [], ◌∷◌, ◌++◌, All, AllPairs, Contains, Some, ap, arith, get_or, length, length-append, refl, slice_get, subst, sym}
+use Rattle.std.proofs.Common.{◌≡◌, ◌≢◌, ◌∙◌, ◌<◌, ◌≤◌, ◌+◌, ⊎_elim, ℕ, Bool, false, List, [], ◌∷◌, ◌++◌, All, AllPairs, Contains, Some, ap, arith}
+use Rattle.std.proofs.Common.{get_or, length, length-append, refl, slice_get, subst, sym}
 use Rattle.std.proofs.lemmas.Bool.{cases_lt}
 use Rattle.std.proofs.lemmas.List.{get_or_append_left, get_or-append-add}
 use Rattle.std.proofs.lemmas.List.Elements.{All-contains, All-map, All-push, All-weaker}
@@ -35,12 +36,14 @@ abbrev pub ArePlaces : List (List ℕ) → List (List ℕ) → List ℕ → Type
 ArePlaces old new to = (k : ℕ) → k < length old → slice_get new (slice_index_or to k 0) ≡ slice_get old k
 
 -- the label of a guard that was brought
-pub brought_label : (s t : Store) (old new : List (List ℕ)) (to : List ℕ) (g h : Guard) → s.names ≡ length old → AreNames t new → ArePlaces old new to → IsGuardOf t (λ on. truth_in s g (λ k. on (slice_index_or to k 0))) h → label_in t h ≡ label_over old new (label_in s g)
+pub brought_label : (s t : Store) (old new : List (List ℕ)) (to : List ℕ) (g h : Guard) → s.names ≡ length old → AreNames t new → ArePlaces old new to
+    → IsGuardOf t (λ on. truth_in s g (λ k. on (slice_index_or to k 0))) h → label_in t h ≡ label_over old new (label_in s g)
 brought_label s t old new to g h count names places is =
     let at : (v : List Bool) → length v ≡ t.names → truth_on (label_in t h) v ≡ truth (holds_at old (letter_of new v)) (label_in s g) = λ v long.
     is.truth (holds_in v) ∙ truth_below s.names (λ k. holds_in v (slice_index_or to k 0)) (holds_at old (letter_of new v)) (label_in s g) (label_in_below s g) (λ i less.
     sym (letter_of_holds new v (slice_index_or to i 0) names.1 (long ∙ sym names.0)) ∙ ap (λ o. option_map_or (contains (letter_of new v)) o false) (places i (omega (arith, less, count)))) in
-    sym (label_in_settled t h) ∙ (label_of-same t.names (truth_on (label_in t h)) (λ v. truth (holds_at old (letter_of new v)) (label_in s g)) at ∙ ap (λ n. label_of n (λ v. truth (holds_at old (letter_of new v)) (label_in s g))) (sym names.0))
+    sym (label_in_settled t h) ∙ (label_of-same t.names (truth_on (label_in t h)) (λ v. truth (holds_at old (letter_of new v)) (label_in s g)) at
+    ∙ ap (λ n. label_of n (λ v. truth (holds_at old (letter_of new v)) (label_in s g))) (sym names.0))
 
 -- the places of the first k names
 pub record IsPlaced (old new : List (List ℕ)) (to : List ℕ) (k : ℕ) : Type 0 where
@@ -48,7 +51,8 @@ pub record IsPlaced (old new : List (List ℕ)) (to : List ℕ) (k : ℕ) : Type
   pub within : All (λ place. place < length new) to
   pub places : (i : ℕ) → i < k → slice_get new (slice_index_or to i 0) ≡ slice_get old i
 
-pub placed_more : (old new : List (List ℕ)) (to more : List ℕ) (k place : ℕ) (x : List ℕ) → k < length old → x ≡ get_or old k x → IsPlaced old new to k → slice_get new place ≡ Some x → more ≡ to ++ place ∷ [] → IsPlaced old new more (k + 1)
+pub placed_more : (old new : List (List ℕ)) (to more : List ℕ) (k place : ℕ) (x : List ℕ) → k < length old → x ≡ get_or old k x → IsPlaced old new to k → slice_get new place ≡ Some x
+    → more ≡ to ++ place ∷ [] → IsPlaced old new more (k + 1)
 placed_more old new to more k place x within at placed found pushed = subst (λ ps. IsPlaced old new ps (k + 1)) (sym pushed) (record {
   count = length-append to (place ∷ []) ∙ ap (λ n. n + 1) placed.count;
   within = All-push (λ p. p < length new) to place placed.within (slice_get_within new place x found);
@@ -57,7 +61,8 @@ placed_more old new to more k place x within at placed found pushed = subst (λ 
       (λ (late : k ≤ i).
       let here : length to + 0 ≡ i = omega (arith, placed.count, less, late) in
       let same : k ≡ i = omega (arith, less, late) in
-      ap (λ n. slice_get new (get_or (to ++ place ∷ []) n 0)) (sym here) ∙ (ap (slice_get new) (get_or-append-add to (place ∷ []) 0 0) ∙ (found ∙ (sym (slice_get-at old k x within at) ∙ ap (slice_get old) same))))
+      ap (λ n. slice_get new (get_or (to ++ place ∷ []) n 0)) (sym here)
+      ∙ (ap (slice_get new) (get_or-append-add to (place ∷ []) 0 0) ∙ (found ∙ (sym (slice_get-at old k x within at) ∙ ap (slice_get old) same))))
       (cases_lt i k);
 })
 
@@ -107,15 +112,20 @@ over_well_formed a names among formed = record {
   starts_differ = formed.starts_differ;
   starts = formed.starts;
   in_order = subst IsNonDecreasing (sym (map-map (λ (e : TreeEdge). e.from) (over_edge a.names names) a.edges)) formed.in_order;
-  edges = All-map (IsEdgeOf (over_names names a)) (over_edge a.names names) a.edges (All-weaker (IsEdgeOf a) (λ e. IsEdgeOf (over_names names a) (over_edge a.names names e)) (λ e h. record { from = h.from; to = h.to; label = label_of_below (length names) _; marks = h.marks; marks_rise = h.marks_rise }) a.edges formed.edges);
+  edges = All-map (IsEdgeOf (over_names names a)) (over_edge a.names names) a.edges
+      (All-weaker (IsEdgeOf a) (λ e. IsEdgeOf (over_names names a) (over_edge a.names names e))
+      (λ e h. record { from = h.from; to = h.to; label = label_of_below (length names) _; marks = h.marks; marks_rise = h.marks_rise }) a.edges formed.edges);
   formula = formed.formula;
 }
 
 -- the parts of an automaton over other names
-pub over_parts : (old c : Core) (names : List (List ℕ)) → IsCore old → AreAmong old.names names → length names ≤ MOST_NAMES → automaton_of c ≡ over_names names (automaton_of old) → c.store.names ≡ length names → All (λ l. Has c.store l.guard) c.links → AreParts c
+pub over_parts : (old c : Core) (names : List (List ℕ)) → IsCore old → AreAmong old.names names → length names ≤ MOST_NAMES → automaton_of c ≡ over_names names (automaton_of old)
+    → c.store.names ≡ length names → All (λ l. Has c.store l.guard) c.links → AreParts c
 over_parts old c names core among few same count has =
     let names_are : c.names ≡ names = λ i. (same i).names in
     parts_from c (subst IsWellFormed (sym same) (over_well_formed (automaton_of old) names among core.well_formed)) (omega (arith, few, ap length names_are)) (count ∙ sym (ap length names_are)) has
 
-pub over_accepts_the_same : (old c : Core) (names : List (List ℕ)) → IsCore old → AreAmong old.names names → automaton_of c ≡ over_names names (automaton_of old) → AcceptTheSame (automaton_of c) (automaton_of old)
-over_accepts_the_same old c names core among same = subst (λ (a : Automaton). AcceptTheSame a (automaton_of old)) (sym same) (over_accepts (automaton_of old) names among (labels_below (automaton_of old) core.well_formed))
+pub over_accepts_the_same : (old c : Core) (names : List (List ℕ)) → IsCore old → AreAmong old.names names → automaton_of c ≡ over_names names (automaton_of old)
+    → AcceptTheSame (automaton_of c) (automaton_of old)
+over_accepts_the_same old c names core among same =
+    subst (λ (a : Automaton). AcceptTheSame a (automaton_of old)) (sym same) (over_accepts (automaton_of old) names among (labels_below (automaton_of old) core.well_formed))

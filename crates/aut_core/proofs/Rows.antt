@@ -46,7 +46,8 @@ between key q (x ∷ xs) zero (suc b) s =
     let low = s.from 0 x (omega arith) (omega arith) in
     let high = s.high 0 x (omega arith) (omega arith) in
     let e : suc b - 0 ≡ suc (b - 0) = omega arith in
-    ap (λ n. take n (x ∷ xs)) e ∙ ap (λ ys. x ∷ ys) (between key q xs zero b (rest key q x xs 0 (suc b) 0 b s refl (omega arith))) ∙ sym (ap (λ t. cond t (x ∷ filter (λ y. key y == q) xs) (filter (λ y. key y == q) xs)) (eq-eqb (key x) q (omega arith)))
+    ap (λ n. take n (x ∷ xs)) e ∙ ap (λ ys. x ∷ ys) (between key q xs zero b (rest key q x xs 0 (suc b) 0 b s refl (omega arith)))
+    ∙ sym (ap (λ t. cond t (x ∷ filter (λ y. key y == q) xs) (filter (λ y. key y == q) xs)) (eq-eqb (key x) q (omega arith)))
 between key q (x ∷ xs) (suc a) zero s =
     let low = s.low 0 x (omega arith) (omega arith) in
     let high = s.later 0 x (omega arith) (omega arith) in
@@ -54,7 +55,8 @@ between key q (x ∷ xs) (suc a) zero s =
 between key q (x ∷ xs) (suc a) (suc b) s =
     let here = s.low 0 x (omega arith) (omega arith) in
     let e : suc b - suc a ≡ b - a = omega arith in
-    ap (λ n. take n (drop a xs)) e ∙ (between key q xs a b (rest key q x xs (suc a) (suc b) a b s (omega arith) (omega arith)) ∙ sym (ap (λ t. cond t (x ∷ filter (λ y. key y == q) xs) (filter (λ y. key y == q) xs)) (ne_eqb (key x) q (λ e. omega arith))))
+    ap (λ n. take n (drop a xs)) e ∙ (between key q xs a b (rest key q x xs (suc a) (suc b) a b s (omega arith) (omega arith))
+    ∙ sym (ap (λ t. cond t (x ∷ filter (λ y. key y == q) xs) (filter (λ y. key y == q) xs)) (ne_eqb (key x) q (λ e. omega arith))))
 
 pub in_order : {X : Type 0} (key : X → ℕ) (q : ℕ) (xs : List X) (a b : ℕ) → a ≤ length xs → Surrounds key q xs a b → a ≤ b
 in_order key q [] a b most s = omega arith
@@ -90,7 +92,8 @@ pub record IsInRow (links : List Link) (state start end : ℕ) : Type 0 where
   pub within : end ≤ length links
   pub before : (k : ℕ) (d : Link) → k < end → (get_or links k d).from ≤ state
 
-pub row_ends : (links : List Link) (state start end : ℕ) (d : Link) → IsNonDecreasing (map (λ l. l.from) links) → Begins links state start → IsInRow links state start end → end < length links → (get_or links end d).from ≢ state → Begins links (state + 1) end
+pub row_ends : (links : List Link) (state start end : ℕ) (d : Link) → IsNonDecreasing (map (λ l. l.from) links) → Begins links state start → IsInRow links state start end
+    → end < length links → (get_or links end d).from ≢ state → Begins links (state + 1) end
 row_ends links state start end d rises begins row more other =
     let high : state ≤ (get_or links end d).from = begins.behind end d row.low more in
     record {
@@ -112,7 +115,8 @@ index_more links states end rows more index last is = record {
   count = ap length is ∙ (length-append rows (end ∷ []) ∙ omega (arith, index.count));
   begins = λ state l. subst (λ (ps : List ℕ). Begins links state (get_or ps state 0)) (sym is)
       (⊎_elim
-      (λ (old : state < states + 1). subst (λ place. Begins links state place) (sym (get_or_append_left rows (end ∷ []) 0 state (omega (arith, index.count, old)))) (index.begins state (omega (arith, old))))
+      (λ (old : state < states + 1). subst (λ place. Begins links state place) (sym (get_or_append_left rows (end ∷ []) 0 state (omega (arith, index.count, old))))
+      (index.begins state (omega (arith, old))))
       (λ (new : states + 1 ≤ state).
       let e : states + 1 ≡ state = omega (arith, new, l) in
       subst (λ s. Begins links s (get_or (rows ++ end ∷ []) s 0)) e (subst (λ place. Begins links (states + 1) place) (sym (read_last rows end (states + 1) index.count)) last))
@@ -120,7 +124,8 @@ index_more links states end rows more index last is = record {
 }
 
 -- the links of a state, by the index
-pub row_indexed : {links : List Link} {states : ℕ} {rows : List ℕ} (state a b : ℕ) → IsIndex links states rows → state < states → get_or rows state 0 ≡ a → get_or rows (state + 1) 0 ≡ b → (a ≤ b) × (slice_range links a b ≡ filter (λ l. l.from == state) links)
+pub row_indexed : {links : List Link} {states : ℕ} {rows : List ℕ} (state a b : ℕ) → IsIndex links states rows → state < states → get_or rows state 0 ≡ a → get_or rows (state + 1) 0 ≡ b
+    → (a ≤ b) × (slice_range links a b ≡ filter (λ l. l.from == state) links)
 row_indexed {links} {states} {rows} state a b index within start end =
     let first = subst (λ place. Begins links state place) start (index.begins state (omega (arith, within))) in
     let second = subst (λ place. Begins links (state + 1) place) end (index.begins (state + 1) (omega (arith, within))) in

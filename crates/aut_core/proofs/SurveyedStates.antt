@@ -26,13 +26,16 @@ below_more P n b c f g = (
 )
 
 -- the edges of one state's links
-row : (old now : Store) (links : List Link) (state : ℕ) → Keeps old now → All (λ l. Has old l.guard) links → map (edge_of now) (filter (λ (l : Link). l.from == state) links) ≡ edges_from state (map (edge_of old) links)
+row : (old now : Store) (links : List Link) (state : ℕ) → Keeps old now → All (λ l. Has old l.guard) links
+    → map (edge_of now) (filter (λ (l : Link). l.from == state) links) ≡ edges_from state (map (edge_of old) links)
 row old now links state keeps has =
     kept_edges (filter (λ (l : Link). l.from == state) links) keeps (All-filter (λ (l : Link). l.from == state) (λ (l : Link). Has old l.guard) links has)
     ∙ sym (filter_map_of (λ (e : TreeEdge). e.from == state) (edge_of old) links)
 
 -- A state more. The names `are` and `here` say what was known and what its links tell.
-pub midway_more : (names : List (List ℕ)) (old s now : Store) (links : List Link) (state : ℕ) (found here : Survey) → All (λ l. Has old l.guard) links → IsMidway names old s links state found.apart found.filled → Keeps s now → IsSurvey names (map (edge_of s) (filter (λ (l : Link). l.from == state) links)) here → IsMidway names old now links (state + 1) (found.apart && here.apart) (found.filled && here.filled)
+pub midway_more : (names : List (List ℕ)) (old s now : Store) (links : List Link) (state : ℕ) (found here : Survey) → All (λ l. Has old l.guard) links
+    → IsMidway names old s links state found.apart found.filled → Keeps s now → IsSurvey names (map (edge_of s) (filter (λ (l : Link). l.from == state) links)) here
+    → IsMidway names old now links (state + 1) (found.apart && here.apart) (found.filled && here.filled)
 midway_more names old s now links state found here has midway keeps survey =
     let one : IsSurvey names (edges_from state (map (edge_of old) links)) here = subst (λ (es : List TreeEdge). IsSurvey names es here) (row old s links state midway.keeps has) survey in
     record {

@@ -56,7 +56,8 @@ abbrev pub condition_of : List (ℕ × ℕ) → FormulaTree
 condition_of ws = last_condition (read_words ws (record { conditions = []; parts = [] })).conditions
 
 mutual
-  pub read_words-words : (f : FormulaTree) (ws : List (ℕ × ℕ)) (fs : List FormulaTree) (ps : List FormulaTrees) → read_words (words f ws) (record { conditions = fs; parts = ps }) ≡ read_words ws (record { conditions = f ∷ fs; parts = ps })
+  pub read_words-words : (f : FormulaTree) (ws : List (ℕ × ℕ)) (fs : List FormulaTree) (ps : List FormulaTrees)
+      → read_words (words f ws) (record { conditions = fs; parts = ps }) ≡ read_words ws (record { conditions = f ∷ fs; parts = ps })
   read_words-words True ws fs ps = refl
   read_words-words False ws fs ps = refl
   read_words-words (Inf set false) ws fs ps = refl
@@ -66,7 +67,8 @@ mutual
   read_words-words (And a b cs) ws fs ps = read_words-words a _ fs ps ∙ (read_words-words b _ (a ∷ fs) ps ∙ read_words-part_words cs ((6, 0) ∷ ws) (b ∷ a ∷ fs) ps)
   read_words-words (Or a b cs) ws fs ps = read_words-words a _ fs ps ∙ (read_words-words b _ (a ∷ fs) ps ∙ read_words-part_words cs ((7, 0) ∷ ws) (b ∷ a ∷ fs) ps)
 
-  pub read_words-part_words : (cs : FormulaTrees) (ws : List (ℕ × ℕ)) (fs : List FormulaTree) (ps : List FormulaTrees) → read_words (part_words cs ws) (record { conditions = fs; parts = ps }) ≡ read_words ws (record { conditions = fs; parts = cs ∷ ps })
+  pub read_words-part_words : (cs : FormulaTrees) (ws : List (ℕ × ℕ)) (fs : List FormulaTree) (ps : List FormulaTrees)
+      → read_words (part_words cs ws) (record { conditions = fs; parts = ps }) ≡ read_words ws (record { conditions = fs; parts = cs ∷ ps })
   read_words-part_words none ws fs ps = refl
   read_words-part_words (more f cs) ws fs ps = read_words-words f _ fs ps ∙ read_words-part_words cs ((9, 0) ∷ ws) (f ∷ fs) ps
 

@@ -13,6 +13,7 @@ use label_guards::Guards;
 use std::alloc::Global;
 use std::marker::Model;
 
+// Why so: 'An automaton keeps its labels in a store of its own' in docs/DECISIONS.md.
 /// A transition-based omega-automaton with an Emerson-Lei condition, and its labels in a store of its own.
 #[derive(Drop)]
 pub struct Automaton {
@@ -196,6 +197,7 @@ impl Automaton {
         })
     }
 
+    // Why so: 'The same automaton under another condition takes no memory' in docs/DECISIONS.md.
     /// The same automaton under another condition over its sets. Takes no memory.
     pub fn with_formula(self, formula: Formula) -> Automaton
         requires { SetsBelow self.sets (formula_tree formula) }

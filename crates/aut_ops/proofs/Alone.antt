@@ -32,16 +32,19 @@ module _ (flags : List Bool) (ranks : List ℕ) (is : ranks ≡ map (rank flags)
   pub numbers_are : (ps : List ℕ) → All (λ p. p < length flags) ps → map (new_number ranks) ps ≡ map (rank flags) ps
   numbers_are [] within = refl
   numbers_are (p ∷ ps) within =
-      ap (λ n. n ∷ map (new_number ranks) ps) (number_is p (All-head (λ q. q < length flags) p ps within)) ∙ ap (λ ns. rank flags p ∷ ns) (numbers_are ps (All-tail (λ q. q < length flags) p ps within))
+      ap (λ n. n ∷ map (new_number ranks) ps) (number_is p (All-head (λ q. q < length flags) p ps within))
+      ∙ ap (λ ns. rank flags p ∷ ns) (numbers_are ps (All-tail (λ q. q < length flags) p ps within))
 
-  pub edges_are : (s : Store) (links : List Link) → All (λ (l : Link). l.from < length flags) links → All (λ (l : Link). l.to < length flags) links → map (edge_of s) (map (new_link ranks) links) ≡ map (renumbered_edge flags) (map (edge_of s) links)
+  pub edges_are : (s : Store) (links : List Link) → All (λ (l : Link). l.from < length flags) links → All (λ (l : Link). l.to < length flags) links
+      → map (edge_of s) (map (new_link ranks) links) ≡ map (renumbered_edge flags) (map (edge_of s) links)
   edges_are s [] from to = refl
   edges_are s (l ∷ ls) from to =
       let begins = number_is l.from (All-head (λ (m : Link). m.from < length flags) l ls from) in
       let ends = number_is l.to (All-head (λ (m : Link). m.to < length flags) l ls to) in
       let e : TreeEdge = edge_of s l in
       let same : edge_of s (new_link ranks l) ≡ renumbered_edge flags e = λ i. record { from = begins i; label = e.label; to = ends i; marks = l.marks } in
-      ap (λ (d : TreeEdge). d ∷ map (edge_of s) (map (new_link ranks) ls)) same ∙ ap (λ ds. renumbered_edge flags e ∷ ds) (edges_are s ls (All-tail (λ (m : Link). m.from < length flags) l ls from) (All-tail (λ (m : Link). m.to < length flags) l ls to))
+      ap (λ (d : TreeEdge). d ∷ map (edge_of s) (map (new_link ranks) ls)) same
+      ∙ ap (λ ds. renumbered_edge flags e ∷ ds) (edges_are s ls (All-tail (λ (m : Link). m.from < length flags) l ls from) (All-tail (λ (m : Link). m.to < length flags) l ls to))
 
 -- the ends of links are states
 pub links_from_states : (c : Core) → IsCore c → (n : ℕ) → n ≡ c.states → (p : Link → Bool) → All (λ l. l.from < n) (filter p c.links)
@@ -56,7 +59,8 @@ starts_states c core n is p = All-filter p (λ q. q < n) c.starts (All-weaker (�
 -- the arcs of the links that are passable
 pub passable_links : (c : Core) (arcs : List (ℕ × ℕ)) (i : ℕ) → length c.links ≤ i → arcs ≡ map link_arc (filter (link_passable c) (take i c.links)) → arcs ≡ passable_arcs (automaton_of c)
 passable_links c arcs i end so_far =
-    so_far ∙ (ap (λ ls. map link_arc (filter (link_passable c) ls)) (take_all i c.links end) ∙ (sym (map-map arc_of (edge_of c.store) (filter (link_passable c) c.links)) ∙ ap (map arc_of) (map-filter (edge_of c.store) (is_passable (length c.names)) c.links)))
+    so_far ∙ (ap (λ ls. map link_arc (filter (link_passable c) ls)) (take_all i c.links end)
+    ∙ (sym (map-map arc_of (edge_of c.store) (filter (link_passable c) c.links)) ∙ ap (map arc_of) (map-filter (edge_of c.store) (is_passable (length c.names)) c.links)))
 
 -- parts that make such an automaton
 pub record MakesOf (x : Automaton) (made : Core) : Type 0 where
@@ -64,48 +68,62 @@ pub record MakesOf (x : Automaton) (made : Core) : Type 0 where
   pub parts : AreParts made
 
 -- the edges between flagged states, under the numbers that they have
-pub kept_alone : (c : Core) (flags : List Bool) (names : List (List ℕ)) (starts : List ℕ) (states : ℕ) (links : List Link) (sets : ℕ) (formula : FormulaTree) (store : Store) → IsCore c → names ≡ c.names → starts ≡ filter (is_flagged flags) c.starts → states ≡ c.states → links ≡ filter (link_stays c flags) c.links → sets ≡ c.sets → formula ≡ c.formula → store ≡ c.store
+pub kept_alone : (c : Core) (flags : List Bool) (names : List (List ℕ)) (starts : List ℕ) (states : ℕ) (links : List Link) (sets : ℕ) (formula : FormulaTree) (store : Store) → IsCore c
+    → names ≡ c.names → starts ≡ filter (is_flagged flags) c.starts → states ≡ c.states → links ≡ filter (link_stays c flags) c.links → sets ≡ c.sets → formula ≡ c.formula → store ≡ c.store
     → MakesOf (between flags (automaton_of c)) (record { names = names; starts = starts; states = states; links = links; sets = sets; formula = formula; store = store })
 kept_alone c flags names starts states links sets formula store core names_are starts_are states_are links_are sets_are formula_is store_is =
     let made : Core = record { names = names; starts = starts; states = states; links = links; sets = sets; formula = formula; store = store } in
     let edges : map (edge_of store) links ≡ (between flags (automaton_of c)).edges = (λ i. map (edge_of (store_is i)) (links_are i)) ∙ edges_staying c flags in
-    let is : automaton_of made ≡ between flags (automaton_of c) = λ i. record { names = names_are i; starts = starts_are i; states = states_are i; edges = edges i; sets = sets_are i; formula = formula_is i } in
+    let is : automaton_of made ≡ between flags (automaton_of c) =
+    λ i. record { names = names_are i; starts = starts_are i; states = states_are i; edges = edges i; sets = sets_are i; formula = formula_is i } in
     record {
       is = is;
-      parts = parts_for made (between flags (automaton_of c)) is (between_formed (automaton_of c) core.well_formed flags) core.parts.few (ap (λ (s : Store). s.names) store_is ∙ core.parts.store_names) (guards_there store links store_is links_are);
+      parts = parts_for made (between flags (automaton_of c)) is (between_formed (automaton_of c) core.well_formed flags) core.parts.few
+          (ap (λ (s : Store). s.names) store_is ∙ core.parts.store_names) (guards_there store links store_is links_are);
     }
   where
     guards_there : (s : Store) (ls : List Link) → s ≡ c.store → ls ≡ filter (link_stays c flags) c.links → All (λ (l : Link). Has s l.guard) ls
-    guards_there s ls s_is ls_are = subst (λ (t : Store). All (λ (l : Link). Has t l.guard) ls) (sym s_is) (subst (All (λ (l : Link). Has c.store l.guard)) (sym ls_are) (All-filter (link_stays c flags) (λ (l : Link). Has c.store l.guard) c.links (links_have c core)))
+    guards_there s ls s_is ls_are = subst (λ (t : Store). All (λ (l : Link). Has t l.guard) ls) (sym s_is)
+        (subst (All (λ (l : Link). Has c.store l.guard)) (sym ls_are) (All-filter (link_stays c flags) (λ (l : Link). Has c.store l.guard) c.links (links_have c core)))
 
 -- the same with the states numbered anew
-pub numbered_alone : (c : Core) (flags : List Bool) (ranks : List ℕ) (names : List (List ℕ)) (flagged starts : List ℕ) (states : ℕ) (staying links : List Link) (sets : ℕ) (formula : FormulaTree) (store : Store) → IsCore c → length flags ≡ c.states → ranks ≡ map (rank flags) (range_with_len 0 (length flags)) → names ≡ c.names
-    → flagged ≡ filter (is_flagged flags) c.starts → starts ≡ map (new_number ranks) flagged → states ≡ rank flags (length flags) → staying ≡ filter (link_stays c flags) c.links → links ≡ map (new_link ranks) staying → sets ≡ c.sets → formula ≡ c.formula → store ≡ c.store
+pub numbered_alone : (c : Core) (flags : List Bool) (ranks : List ℕ) (names : List (List ℕ)) (flagged starts : List ℕ) (states : ℕ) (staying links : List Link) (sets : ℕ)
+    (formula : FormulaTree) (store : Store) → IsCore c → length flags ≡ c.states → ranks ≡ map (rank flags) (range_with_len 0 (length flags)) → names ≡ c.names
+    → flagged ≡ filter (is_flagged flags) c.starts → starts ≡ map (new_number ranks) flagged → states ≡ rank flags (length flags) → staying ≡ filter (link_stays c flags) c.links
+    → links ≡ map (new_link ranks) staying → sets ≡ c.sets → formula ≡ c.formula → store ≡ c.store
     → MakesOf (renumbered flags (between flags (automaton_of c))) (record { names = names; starts = starts; states = states; links = links; sets = sets; formula = formula; store = store })
-numbered_alone c flags ranks names flagged starts states staying links sets formula store core size ranks_are names_are flagged_are starts_are states_are staying_are links_are sets_are formula_is store_is =
+numbered_alone c flags ranks names flagged starts states staying links sets formula store core size ranks_are names_are flagged_are starts_are states_are staying_are links_are sets_are
+    formula_is store_is =
     let made : Core = record { names = names; starts = starts; states = states; links = links; sets = sets; formula = formula; store = store } in
     let kept = filter (link_stays c flags) c.links in
     let edges : map (edge_of store) links ≡ (renumbered flags (between flags (automaton_of c))).edges =
-    (λ i. map (edge_of (store_is i)) ((links_are ∙ ap (map (new_link ranks)) staying_are) i)) ∙ (edges_are flags ranks ranks_are c.store kept (links_from_states c core (length flags) size (link_stays c flags)) (links_to_states c core (length flags) size (link_stays c flags)) ∙ ap (map (renumbered_edge flags)) (edges_staying c flags)) in
+    (λ i. map (edge_of (store_is i)) ((links_are ∙ ap (map (new_link ranks)) staying_are) i))
+    ∙ (edges_are flags ranks ranks_are c.store kept (links_from_states c core (length flags) size (link_stays c flags)) (links_to_states c core (length flags) size (link_stays c flags))
+    ∙ ap (map (renumbered_edge flags)) (edges_staying c flags)) in
     let within = starts_states c core (length flags) size (is_flagged flags) in
     let begins = starts_are ∙ (ap (map (new_number ranks)) flagged_are ∙ numbers_are flags ranks ranks_are (filter (is_flagged flags) c.starts) within) in
-    let is : automaton_of made ≡ renumbered flags (between flags (automaton_of c)) = λ i. record { names = names_are i; starts = begins i; states = (states_are ∙ ap (rank flags) size) i; edges = edges i; sets = sets_are i; formula = formula_is i } in
+    let is : automaton_of made ≡ renumbered flags (between flags (automaton_of c)) =
+    λ i. record { names = names_are i; starts = begins i; states = (states_are ∙ ap (rank flags) size) i; edges = edges i; sets = sets_are i; formula = formula_is i } in
     record {
       is = is;
-      parts = parts_for made (renumbered flags (between flags (automaton_of c))) is (alone_formed (automaton_of c) core.well_formed flags) core.parts.few (ap (λ (s : Store). s.names) store_is ∙ core.parts.store_names)
+      parts = parts_for made (renumbered flags (between flags (automaton_of c))) is (alone_formed (automaton_of c) core.well_formed flags) core.parts.few
+          (ap (λ (s : Store). s.names) store_is ∙ core.parts.store_names)
           (guards_there store links store_is (links_are ∙ ap (map (new_link ranks)) staying_are));
     }
   where
     guards_there : (s : Store) (ls : List Link) → s ≡ c.store → ls ≡ map (new_link ranks) (filter (link_stays c flags) c.links) → All (λ (l : Link). Has s l.guard) ls
     guards_there s ls s_is ls_are =
         subst (λ (t : Store). All (λ (l : Link). Has t l.guard) ls) (sym s_is) (subst (All (λ (l : Link). Has c.store l.guard)) (sym ls_are)
-        (All-map (λ (l : Link). Has c.store l.guard) (new_link ranks) (filter (link_stays c flags) c.links) (All-filter (link_stays c flags) (λ (l : Link). Has c.store l.guard) c.links (links_have c core))))
+        (All-map (λ (l : Link). Has c.store l.guard) (new_link ranks) (filter (link_stays c flags) c.links)
+        (All-filter (link_stays c flags) (λ (l : Link). Has c.store l.guard) c.links (links_have c core))))
 
 -- how many of the states and of the links stay
-pub reached_size : (c : Core) (flags : List Bool) (size : ReachedSize) → AreReached c.states (passable_arcs (automaton_of c)) c.starts flags → size.states ≡ rank flags (length flags) → size.edges ≡ length (filter (link_stays c flags) c.links) → IsReachedSize (automaton_of c) size
+pub reached_size : (c : Core) (flags : List Bool) (size : ReachedSize) → AreReached c.states (passable_arcs (automaton_of c)) c.starts flags → size.states ≡ rank flags (length flags)
+    → size.edges ≡ length (filter (link_stays c flags) c.links) → IsReachedSize (automaton_of c) size
 reached_size c flags size reached states edges = record {
   trimmed = renumbered flags (between flags (automaton_of c));
   is_trimmed = record { flags = flags; reached = reached; is = refl };
   states = states ∙ ap (rank flags) reached.size;
-  edges = edges ∙ (sym (length-map (filter (link_stays c flags) c.links) (edge_of c.store)) ∙ (ap (λ (es : List TreeEdge). length es) (edges_staying c flags) ∙ sym (length-map (between flags (automaton_of c)).edges (renumbered_edge flags))));
+  edges = edges ∙ (sym (length-map (filter (link_stays c flags) c.links) (edge_of c.store))
+      ∙ (ap (λ (es : List TreeEdge). length es) (edges_staying c flags) ∙ sym (length-map (between flags (automaton_of c)).edges (renumbered_edge flags))));
 }

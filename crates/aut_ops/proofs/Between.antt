@@ -42,13 +42,15 @@ module _ (a : Automaton) (formed : IsWellFormed a) where
   passable_nodes : HasNodes a.states (passable_arcs a)
   passable_nodes =
       All-map (λ (arc : ℕ × ℕ). (arc.0 < a.states) × (arc.1 < a.states)) arc_of (passable_edges a)
-      (All-filter (is_passable (length a.names)) (λ (e : TreeEdge). (e.from < a.states) × (e.to < a.states)) a.edges (All-weaker (IsEdgeOf a) (λ (e : TreeEdge). (e.from < a.states) × (e.to < a.states)) (λ e edge. (edge.from, edge.to)) a.edges formed.edges))
+      (All-filter (is_passable (length a.names)) (λ (e : TreeEdge). (e.from < a.states) × (e.to < a.states)) a.edges
+      (All-weaker (IsEdgeOf a) (λ (e : TreeEdge). (e.from < a.states) × (e.to < a.states)) (λ e edge. (edge.from, edge.to)) a.edges formed.edges))
 
   -- a graph that was made of these edges
   pub graph_nodes : (nodes : ℕ) (arcs : List (ℕ × ℕ)) → nodes ≡ a.states → arcs ≡ passable_arcs a → HasNodes nodes arcs
   graph_nodes nodes arcs nodes_are arcs_are = subst (HasNodes nodes) (sym arcs_are) (subst (λ n. HasNodes n (passable_arcs a)) (sym nodes_are) passable_nodes)
 
-  pub graph_reached : (nodes : ℕ) (arcs : List (ℕ × ℕ)) (starts : List ℕ) (flags : List Bool) → nodes ≡ a.states → arcs ≡ passable_arcs a → starts ≡ a.starts → AreReached nodes arcs starts flags → AreReached a.states (passable_arcs a) a.starts flags
+  pub graph_reached : (nodes : ℕ) (arcs : List (ℕ × ℕ)) (starts : List ℕ) (flags : List Bool) → nodes ≡ a.states → arcs ≡ passable_arcs a → starts ≡ a.starts
+      → AreReached nodes arcs starts flags → AreReached a.states (passable_arcs a) a.starts flags
   graph_reached nodes arcs starts flags nodes_are arcs_are starts_are reached =
       subst (λ s. AreReached a.states (passable_arcs a) s flags) starts_are (subst (λ ls. AreReached a.states ls starts flags) arcs_are (subst (λ n. AreReached n arcs starts flags) nodes_are reached))
 
@@ -69,7 +71,8 @@ module _ (a : Automaton) (formed : IsWellFormed a) where
     abbrev pub AreFlagged : ℕ → ℕ → Type 0
     AreFlagged s t = (r : ℕ) → r < a.states → Reaches (passable_arcs a) s r → Reaches (passable_arcs a) r t → is_flagged flags r ≡ true
 
-    pub path_between : (s t : ℕ) → AreFlagged s t → (p q : ℕ) (xs : List NameSet) (es : List TreeEdge) → Reaches (passable_arcs a) s p → Reaches (passable_arcs a) q t → IsPath a p xs es q → IsPath (between flags a) p xs es q
+    pub path_between : (s t : ℕ) → AreFlagged s t → (p q : ℕ) (xs : List NameSet) (es : List TreeEdge) → Reaches (passable_arcs a) s p → Reaches (passable_arcs a) q t → IsPath a p xs es q
+        → IsPath (between flags a) p xs es q
     path_between s t on p q [] [] before after path = path
     path_between s t on p q [] (e ∷ es) before after path = absurd path
     path_between s t on p q (x ∷ xs) [] before after path = absurd path
@@ -118,7 +121,8 @@ module _ (a : Automaton) (formed : IsWellFormed a) where
               rounds = r.rounds;
               way = r.way;
               cycle = r.cycle;
-              is_start = there_filter (is_flagged flags) a.starts r.start r.is_start (on u v r r.start (All-contains (λ p. p < a.states) a.starts r.start formed.starts r.is_start) (none r.start) leads);
+              is_start = there_filter (is_flagged flags) a.starts r.start r.is_start
+                  (on u v r r.start (All-contains (λ p. p < a.states) a.starts r.start formed.starts r.is_start) (none r.start) leads);
               leads = path_between r.start r.state (on u v r) r.start r.state (u ++ copies r.turns v) r.way (none r.start) (none r.state) r.leads;
               positive = r.positive;
               returns = path_between r.start r.state (on u v r) r.state r.state (copies r.rounds v) r.cycle leads (none r.state) r.returns;
@@ -131,6 +135,8 @@ module _ (a : Automaton) (formed : IsWellFormed a) where
       starts_differ = AllPairs-filter (λ p q. p ≢ q) (is_flagged flags) a.starts formed.starts_differ;
       starts = All-filter (is_flagged flags) (λ p. p < a.states) a.starts formed.starts;
       in_order = climbs_in_order 0 (between flags a).edges (climbs_filter (stays (length a.names) flags) 0 a.edges (in_order_climbs 0 a.edges (λ k d within. omega arith) formed.in_order));
-      edges = All-filter (stays (length a.names) flags) (IsEdgeOf (between flags a)) a.edges (All-weaker (IsEdgeOf a) (IsEdgeOf (between flags a)) (λ e edge. record { from = edge.from; to = edge.to; label = edge.label; marks = edge.marks; marks_rise = edge.marks_rise }) a.edges formed.edges);
+      edges = All-filter (stays (length a.names) flags) (IsEdgeOf (between flags a)) a.edges
+          (All-weaker (IsEdgeOf a) (IsEdgeOf (between flags a)) (λ e edge. record { from = edge.from; to = edge.to; label = edge.label; marks = edge.marks; marks_rise = edge.marks_rise })
+          a.edges formed.edges);
       formula = formed.formula;
     }

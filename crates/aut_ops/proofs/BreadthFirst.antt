@@ -1,5 +1,6 @@
 -- What holds of lists in breadth-first order.
-use Rattle.std.proofs.Common.{◌≡◌, ◌≢◌, ◌∙◌, ◌↔◌, ◌⊎◌, ◌<◌, ◌≤◌, ℕ, zero, suc, Bool, true, false, cond, List, [], ◌∷◌, ◌++◌, All, AllPairs, Contains, ap, append_assoc, arith, drop, fold, get_or, inl, inr, length, length-append, refl, subst, sym, take}
+use Rattle.std.proofs.Common.{◌≡◌, ◌≢◌, ◌∙◌, ◌↔◌, ◌⊎◌, ◌<◌, ◌≤◌, ℕ, zero, suc, Bool, true, false, cond, List, [], ◌∷◌, ◌++◌, All, AllPairs, Contains}
+use Rattle.std.proofs.Common.{ap, append_assoc, arith, drop, fold, get_or, inl, inr, length, length-append, refl, subst, sym, take}
 use Rattle.std.proofs.lemmas.Bool.{cases_lt}
 use Rattle.std.proofs.lemmas.List.{append-nil, get_or-take, length-take-le, take-append-drop, take-append-le, take_all}
 use Rattle.std.proofs.lemmas.List.Elements.{All-contains, All-push, Contains-append_left, Contains-append_right, Contains-get_or, Contains-push}
@@ -28,7 +29,8 @@ leads_keeps : {X : Type 0} (P : X → Type 0) (next : X → List X) → ((x y : 
 leads_keeps P next step x y [] here leads = subst P leads here
 leads_keeps P next step x y (z ∷ way) here leads = leads_keeps P next step z y way (step x z here leads.0) leads.1
 
-pub reached_keeps : {X : Type 0} (P : X → Type 0) (starts : List X) (next : X → List X) → ((x : X) → Contains starts x → P x) → ((x y : X) → P x → Contains (next x) y → P y) → (y : X) → IsReached starts next y → P y
+pub reached_keeps : {X : Type 0} (P : X → Type 0) (starts : List X) (next : X → List X) → ((x : X) → Contains starts x → P x) → ((x y : X) → P x → Contains (next x) y → P y) → (y : X)
+    → IsReached starts next y → P y
 reached_keeps P starts next first step y r = leads_keeps P next step r.start y r.way (first r.start r.is_start) r.leads
 
 -- lists with each item once
@@ -107,7 +109,8 @@ module _ {X : Type 0} (same : X → X → Bool) (tells : Tells same) where
     start_listed list is x there = subst (λ ys. Contains ys x) (sym is.in_turn) (added_there [] (starts ++ flat_map next list) x (Contains-append_left starts (flat_map next list) x there))
 
     pub next_listed : (list : List X) → Listed list → (x y : X) → Contains list x → Contains (next x) y → Contains list y
-    next_listed list is x y outer inner = subst (λ ys. Contains ys y) (sym is.in_turn) (added_there [] (starts ++ flat_map next list) y (Contains-append_right starts (flat_map next list) y (there_flat_map next list x y outer inner)))
+    next_listed list is x y outer inner = subst (λ ys. Contains ys y) (sym is.in_turn)
+        (added_there [] (starts ++ flat_map next list) y (Contains-append_right starts (flat_map next list) y (there_flat_map next list x y outer inner)))
 
     -- the list has just what is reached
     pub listed_exactly : (list : List X) → Listed list → (y : X) → Contains list y ↔ IsReached starts next y
@@ -123,7 +126,8 @@ module _ {X : Type 0} (same : X → X → Bool) (tells : Tells same) where
     front_begins : (list : List X) → Listed list → (k : ℕ) → (rest : List X) × (list ≡ front k list ++ rest)
     front_begins list is k =
         let whole : starts ++ flat_map next list ≡ (starts ++ flat_map next (take k list)) ++ flat_map next (drop k list) =
-        ap (λ ys. starts ++ flat_map next ys) (sym (take-append-drop k list)) ∙ (ap (λ ys. starts ++ ys) (flat_map-append next (take k list) (drop k list)) ∙ sym (append_assoc starts (flat_map next (take k list)) (flat_map next (drop k list)))) in
+        ap (λ ys. starts ++ flat_map next ys) (sym (take-append-drop k list))
+        ∙ (ap (λ ys. starts ++ ys) (flat_map-append next (take k list) (drop k list)) ∙ sym (append_assoc starts (flat_map next (take k list)) (flat_map next (drop k list)))) in
         let more = once_append (starts ++ flat_map next (take k list)) (flat_map next (drop k list)) in
         (more.0, is.in_turn ∙ (ap (once same) whole ∙ more.1))
 
@@ -137,14 +141,17 @@ module _ {X : Type 0} (same : X → X → Bool) (tells : Tells same) where
         inside : (short : length (front k list) ≤ k) (x : X) → Contains (front k list) x → Contains (take k list) x
         inside short x there =
             let begins = front_begins list is k in
-            let same_front : take (length (front k list)) list ≡ front k list = ap (take (length (front k list))) begins.1 ∙ (take-append-le (length (front k list)) (front k list) begins.0 (omega arith) ∙ take_all (length (front k list)) (front k list) (omega arith)) in
-            let at : get_or (take k list) there.0 x ≡ x = get_or-take k list there.0 x (omega (arith, there.1, short)) ∙ (sym (get_or-take (length (front k list)) list there.0 x there.1) ∙ (ap (λ ys. get_or ys there.0 x) same_front ∙ there.2)) in
+            let same_front : take (length (front k list)) list ≡ front k list = ap (take (length (front k list))) begins.1
+            ∙ (take-append-le (length (front k list)) (front k list) begins.0 (omega arith) ∙ take_all (length (front k list)) (front k list) (omega arith)) in
+            let at : get_or (take k list) there.0 x ≡ x = get_or-take k list there.0 x (omega (arith, there.1, short))
+            ∙ (sym (get_or-take (length (front k list)) list there.0 x there.1) ∙ (ap (λ ys. get_or ys there.0 x) same_front ∙ there.2)) in
             (there.0, omega (arith, there.1, short, more, length-take-le k list (omega arith)), at)
 
         closed : (short : length (front k list) ≤ k) (y : X) → IsReached starts next y → Contains (take k list) y
         closed short = reached_keeps (λ x. Contains (take k list) x) starts next
             (λ x there. inside short x (added_there [] (starts ++ flat_map next (take k list)) x (Contains-append_left starts (flat_map next (take k list)) x there)))
-            (λ x y outer inner. inside short y (added_there [] (starts ++ flat_map next (take k list)) y (Contains-append_right starts (flat_map next (take k list)) y (there_flat_map next (take k list) x y outer inner))))
+            (λ x y outer inner. inside short y (added_there [] (starts ++ flat_map next (take k list)) y
+            (Contains-append_right starts (flat_map next (take k list)) y (there_flat_map next (take k list) x y outer inner))))
 
         stuck : length (front k list) ≤ k → ⊥
         stuck short =
@@ -163,7 +170,8 @@ module _ {X : Type 0} (same : X → X → Bool) (tells : Tells same) where
         let one = front_begins list is k in
         let two = front_begins other also k in (
           omega (arith, long_too, ap length two.1, length-append (front k other) two.0),
-          ap (take (suc k)) one.1 ∙ (take-append-le (suc k) (front k list) one.0 long ∙ (ap (take (suc k)) same_front ∙ (sym (take-append-le (suc k) (front k other) two.0 long_too) ∙ sym (ap (take (suc k)) two.1)))),
+          ap (take (suc k)) one.1 ∙ (take-append-le (suc k) (front k list) one.0 long
+              ∙ (ap (take (suc k)) same_front ∙ (sym (take-append-le (suc k) (front k other) two.0 long_too) ∙ sym (ap (take (suc k)) two.1)))),
         )
 
     -- there is one list

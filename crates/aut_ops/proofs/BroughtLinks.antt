@@ -23,7 +23,8 @@ places_within to n is k d within =
     let at = get_or_default to k d 0 within in
     omega (arith, same, at, within, size)
 
-pub brought_edge : (s t : Store) (to : List ℕ) (l : Link) (h : Guard) (marks : List ℕ) → t.names ≡ s.names → to ≡ range_with_len 0 s.names → IsGuardOf t (λ on. truth_in s l.guard (λ k. on (slice_index_or to k 0))) h → marks ≡ l.marks → edge_of t (record { from = l.from; guard = h; to = l.to; marks = marks }) ≡ edge_of s l
+pub brought_edge : (s t : Store) (to : List ℕ) (l : Link) (h : Guard) (marks : List ℕ) → t.names ≡ s.names → to ≡ range_with_len 0 s.names
+    → IsGuardOf t (λ on. truth_in s l.guard (λ k. on (slice_index_or to k 0))) h → marks ≡ l.marks → edge_of t (record { from = l.from; guard = h; to = l.to; marks = marks }) ≡ edge_of s l
 brought_edge s t to l h marks names is brought same =
     let label = label_brought s t to l.guard h names (λ k less. place_same to s.names k is less) brought in
     λ i. record { from = l.from; label = label i; to = l.to; marks = same i }

@@ -47,7 +47,8 @@ two_same n xs below long = by (distinct_or_twice xs)
   where
     by : IsDistinct eqb xs ⊎ Twice xs → Twice xs
     by (inl distinct) =
-        let few = length-le_from_distinct_below xs n distinct (λ q some. let found = Any-from_list_any (eqb q) xs some in let low = below found.0 found.1 found.2 in omega (arith, eqb-true q found.1 found.4, found.3, low)) in
+        let few = length-le_from_distinct_below xs n distinct
+        (λ q some. let found = Any-from_list_any (eqb q) xs some in let low = below found.0 found.1 found.2 in omega (arith, eqb-true q found.1 found.4, found.3, low)) in
         absurd (omega (arith, few, long))
     by (inr twice) = twice
 
@@ -127,7 +128,8 @@ module _ (a : Automaton) (formed : IsWellFormed a) (complete : IsComplete a) whe
         let two = all_turns more (turns twice.early stem.state) one.within in
         let whole : twice.early + more ≡ twice.late = omega (arith, twice.order) in
         let back : turns more (turns twice.early stem.state) ≡ turns twice.early stem.state =
-        sym (turns_add twice.early more stem.state) ∙ (ap (λ n. turns n stem.state) whole ∙ (sym (at twice.late (omega (arith, twice.within, long))) ∙ (sym twice.same ∙ at twice.early (omega (arith, twice.within, twice.order, long))))) in
+        sym (turns_add twice.early more stem.state)
+        ∙ (ap (λ n. turns n stem.state) whole ∙ (sym (at twice.late (omega (arith, twice.within, long))) ∙ (sym twice.same ∙ at twice.early (omega (arith, twice.within, twice.order, long))))) in
         record {
           turns = twice.early;
           rounds = more;

@@ -36,7 +36,8 @@ gaps_own n q sink es true = λ k d within. absurd (omega (arith, within))
 gaps_own n q sink es false = All-from_recursion (λ (e : TreeEdge). e.from ≡ q) (record { from = q; label = no_label n es; to = sink; marks = [] } ∷ []) (refl, tt)
 
 pub filled_own : (a : Automaton) (q : ℕ) → AllFrom q (filled_edges a q)
-filled_own a q = All-append (λ (e : TreeEdge). e.from ≡ q) (edges_from q a.edges) (gap_edges (length a.names) q a.states (edges_from q a.edges)) (edges_own q a.edges) (gaps_own (length a.names) q a.states (edges_from q a.edges) (is_never (length a.names) (no_label (length a.names) (edges_from q a.edges))))
+filled_own a q = All-append (λ (e : TreeEdge). e.from ≡ q) (edges_from q a.edges) (gap_edges (length a.names) q a.states (edges_from q a.edges)) (edges_own q a.edges)
+    (gaps_own (length a.names) q a.states (edges_from q a.edges) (is_never (length a.names) (no_label (length a.names) (edges_from q a.edges))))
 
 loop_own : (a : Automaton) → AllFrom a.states (loop a ∷ [])
 loop_own a = All-from_recursion (λ (e : TreeEdge). e.from ≡ a.states) (loop a ∷ []) (refl, tt)
@@ -59,7 +60,8 @@ old_there a formed e there =
     let edge = All-contains (IsEdgeOf a) a.edges e formed.edges there in
     Contains-append_left (flat_map (filled_edges a) (range_with_len 0 a.states)) (loop a ∷ []) e
     (there_flat_map (filled_edges a) (range_with_len 0 a.states) e.from e (there_range_zero a.states e.from edge.from)
-    (Contains-append_left (edges_from e.from a.edges) (gap_edges (length a.names) e.from a.states (edges_from e.from a.edges)) e (there_filter (λ (d : TreeEdge). d.from == e.from) a.edges e there (eq-eqb e.from e.from refl))))
+    (Contains-append_left (edges_from e.from a.edges) (gap_edges (length a.names) e.from a.states (edges_from e.from a.edges)) e
+    (there_filter (λ (d : TreeEdge). d.from == e.from) a.edges e there (eq-eqb e.from e.from refl))))
 
 pub loop_there : (a : Automaton) → Contains (with_sink a).edges (loop a)
 loop_there a = Contains-append_right (flat_map (filled_edges a) (range_with_len 0 a.states)) (loop a ∷ []) (loop a) (first_there (loop a) [])

@@ -77,4 +77,5 @@ pub joint_first : (k : ℕ) (marks others : List ℕ) → AgreeBelow k (marks ++
 joint_first k marks others set low = list_any-append (λ m. m == set) marks (raise k others) ∙ (ap (λ b. is_in set marks || b) (not_in_raise k set others low) ∙ or-false (is_in set marks))
 
 pub joint_second : (k n : ℕ) (marks others : List ℕ) → All (λ m. m < k) marks → AgreeRaised k n (marks ++ raise k others) others
-joint_second k n marks others below set low = list_any-append (λ m. m == set + k) marks (raise k others) ∙ (ap (λ b. b || is_in (set + k) (raise k others)) (not_in_past (set + k) k marks (omega arith) below) ∙ is_in_raise k set others)
+joint_second k n marks others below set low = list_any-append (λ m. m == set + k) marks (raise k others)
+    ∙ (ap (λ b. b || is_in (set + k) (raise k others)) (not_in_past (set + k) k marks (omega arith) below) ∙ is_in_raise k set others)

@@ -1,5 +1,6 @@
 -- The pairs that are listed when it was gone on from some of them.
-use Rattle.std.proofs.Common.{◌≡◌, ◌≢◌, ◌∙◌, ◌==◌, ◌+◌, ◌<◌, ◌≤◌, ◌^◌, ℕ, List, [], ◌∷◌, ◌++◌, All, AllPairs, Contains, Some, ap, append-nil, append_assoc, arith, filter, length, length-append, map, refl, slice_get, subst, sym, take}
+use Rattle.std.proofs.Common.{◌≡◌, ◌≢◌, ◌∙◌, ◌==◌, ◌+◌, ◌<◌, ◌≤◌, ◌^◌, ℕ, List, [], ◌∷◌, ◌++◌, All, AllPairs, Contains, Some, ap, append-nil}
+use Rattle.std.proofs.Common.{append_assoc, arith, filter, length, length-append, map, refl, slice_get, subst, sym, take}
 use Rattle.std.proofs.lemmas.Grind.{flat_map-append}
 use Rattle.std.proofs.lemmas.List.{map-append, take_all, take-append-le}
 use Rattle.std.proofs.lemmas.List.Elements.{All-contains, All-weaker}
@@ -50,7 +51,8 @@ module _ (most : ℕ) (a b : Core) (core_a : IsCore a) (core_b : IsCore b) (name
   abbrev Reached : ℕ × ℕ → Type 0
   Reached = IsReached (start_pairs first second) (next_pairs first second)
 
-  pub explored_none : (old : Stage) → Keeps a.store old.store → Keeps b.store old.store → old.pairs ≡ once same_pair (start_pairs first second) → old.links ≡ [] → length old.pairs ≤ most → IsExplored most a b old old 0
+  pub explored_none : (old : Stage) → Keeps a.store old.store → Keeps b.store old.store → old.pairs ≡ once same_pair (start_pairs first second) → old.links ≡ [] → length old.pairs ≤ most
+      → IsExplored most a b old old 0
   explored_none old one two starts none few = record {
     first = one;
     second = two;
@@ -59,27 +61,34 @@ module _ (most : ℕ) (a b : Core) (core_a : IsCore a) (core_b : IsCore b) (name
       has = subst (All (λ (l : Link). Has old.store l.guard)) (sym none) (λ k d within. absurd (omega (arith, within)));
       edges = subst (λ (ls : List Link). AllZip (IsNumbered old.pairs) (map (edge_of old.store) ls) []) (sym none) tt;
     };
-    reached = subst (All Reached) (sym starts) (added_each same_pair pair_tells Reached [] (start_pairs first second) (λ k d within. absurd (omega (arith, within))) (each_there Reached (start_pairs first second) (reached_start (start_pairs first second) (next_pairs first second))));
+    reached = subst (All Reached) (sym starts)
+        (added_each same_pair pair_tells Reached [] (start_pairs first second) (λ k d within. absurd (omega (arith, within)))
+        (each_there Reached (start_pairs first second) (reached_start (start_pairs first second) (next_pairs first second))));
     within = omega arith;
     few = few;
     longer = ([], sym (append-nil old.pairs));
   }
 
   -- the edges of a pair, as the rows of links say them
-  pub row_steps : (s : Store) (p q sets : ℕ) (firsts seconds : List Link) → Keeps a.store s → Keeps b.store s → sets ≡ a.sets → firsts ≡ filter (λ l. l.from == p) a.links → seconds ≡ filter (λ l. l.from == q) b.links → flat_map (followed s sets seconds) firsts ≡ steps (p, q)
+  pub row_steps : (s : Store) (p q sets : ℕ) (firsts seconds : List Link) → Keeps a.store s → Keeps b.store s → sets ≡ a.sets → firsts ≡ filter (λ l. l.from == p) a.links
+      → seconds ≡ filter (λ l. l.from == q) b.links → flat_map (followed s sets seconds) firsts ≡ steps (p, q)
   row_steps s p q sets firsts seconds one two at first_is second_is =
       let es : map (edge_of s) firsts ≡ edges_from p first.edges = row_edges a s p firsts core_a one first_is in
       let fs : map (edge_of s) seconds ≡ edges_from q second.edges = row_edges b s q seconds core_b two second_is in
       let count : s.names ≡ length a.names = one.names ∙ core_a.parts.store_names in
-      let inner : (l : Link) → followed s sets seconds l ≡ flat_map (joint_edge s.names sets (edge_of s l)) (map (edge_of s) seconds) = λ l. sym (flat_map-map (joint_edge s.names sets (edge_of s l)) (edge_of s) seconds) in
-      by firsts inner ∙ (sym (flat_map-map (λ d. flat_map (joint_edge s.names sets d) (map (edge_of s) seconds)) (edge_of s) firsts) ∙ (λ i. flat_map (λ d. flat_map (joint_edge (count i) (at i) d) (fs i)) (es i)))
+      let inner : (l : Link) → followed s sets seconds l ≡ flat_map (joint_edge s.names sets (edge_of s l)) (map (edge_of s) seconds) =
+      λ l. sym (flat_map-map (joint_edge s.names sets (edge_of s l)) (edge_of s) seconds) in
+      by firsts inner ∙ (sym (flat_map-map (λ d. flat_map (joint_edge s.names sets d) (map (edge_of s) seconds)) (edge_of s) firsts)
+      ∙ (λ i. flat_map (λ d. flat_map (joint_edge (count i) (at i) d) (fs i)) (es i)))
     where
-      by : (ls : List Link) → ((l : Link) → followed s sets seconds l ≡ flat_map (joint_edge s.names sets (edge_of s l)) (map (edge_of s) seconds)) → flat_map (followed s sets seconds) ls ≡ flat_map (λ (l : Link). flat_map (joint_edge s.names sets (edge_of s l)) (map (edge_of s) seconds)) ls
+      by : (ls : List Link) → ((l : Link) → followed s sets seconds l ≡ flat_map (joint_edge s.names sets (edge_of s l)) (map (edge_of s) seconds))
+          → flat_map (followed s sets seconds) ls ≡ flat_map (λ (l : Link). flat_map (joint_edge s.names sets (edge_of s l)) (map (edge_of s) seconds)) ls
       by [] same = refl
       by (l ∷ ls) same = ap (λ js. js ++ flat_map (followed s sets seconds) ls) (same l) ∙ ap (λ js. flat_map (joint_edge s.names sets (edge_of s l)) (map (edge_of s) seconds) ++ js) (by ls same)
 
   -- the links of both states of a pair can meet
-  pub rows_can : (s : Stage) (at p q sets : ℕ) (firsts seconds : List Link) → Keeps a.store s.store → Keeps b.store s.store → sets ≡ a.sets → slice_get s.pairs at ≡ Some (p, q) → firsts ≡ filter (λ l. l.from == p) a.links → seconds ≡ filter (λ l. l.from == q) b.links → All (λ l. All (CanMeet s at sets l) seconds) firsts
+  pub rows_can : (s : Stage) (at p q sets : ℕ) (firsts seconds : List Link) → Keeps a.store s.store → Keeps b.store s.store → sets ≡ a.sets → slice_get s.pairs at ≡ Some (p, q)
+      → firsts ≡ filter (λ l. l.from == p) a.links → seconds ≡ filter (λ l. l.from == q) b.links → All (λ l. All (CanMeet s at sets l) seconds) firsts
   rows_can s at p q sets firsts seconds one two same place first_is second_is =
       let has_first = row_have a s.store p firsts core_a one first_is in
       let has_second = row_have b s.store q seconds core_b two second_is in
@@ -100,7 +109,8 @@ module _ (most : ℕ) (a b : Core) (core_a : IsCore a) (core_b : IsCore b) (name
       }))
 
   -- one pair more
-  pub explored_more : (old s t : Stage) (done p q : ℕ) (js : List JointEdge) → IsExplored most a b old s done → slice_get s.pairs done ≡ Some (p, q) → Adds s t js → js ≡ steps (p, q) → length t.pairs ≤ most → IsExplored most a b old t (done + 1)
+  pub explored_more : (old s t : Stage) (done p q : ℕ) (js : List JointEdge) → IsExplored most a b old s done → slice_get s.pairs done ≡ Some (p, q) → Adds s t js → js ≡ steps (p, q)
+      → length t.pairs ≤ most → IsExplored most a b old t (done + 1)
   explored_more old s t done p q js so_far at adds same few =
       let long = added same_pair pair_tells s.pairs (ends js) in
       let grown : t.pairs ≡ s.pairs ++ long.0 = adds.pairs ∙ long.1 in
@@ -118,21 +128,27 @@ module _ (most : ℕ) (a b : Core) (core_a : IsCore a) (core_b : IsCore b) (name
             ∙ ap (once same_pair) (append_assoc (start_pairs first second) (ends (flat_map steps (take done s.pairs))) (ends js)
             ∙ ap (λ ys. start_pairs first second ++ ys) (sym (map-append (λ (j : JointEdge). j.to) (flat_map steps (take done s.pairs)) js) ∙ ap ends (sym whole)))));
         edges = subst (AreEdges t) (sym whole) (adds.links (flat_map steps (take done s.pairs)) so_far.edges);
-        reached = subst (All Reached) (sym adds.pairs) (added_each same_pair pair_tells Reached s.pairs (ends js) so_far.reached (each_there Reached (ends js) (λ x there. reached_next (start_pairs first second) (next_pairs first second) (p, q) x pair (subst (λ ks. Contains (ends ks) x) same there))));
+        reached = subst (All Reached) (sym adds.pairs)
+            (added_each same_pair pair_tells Reached s.pairs (ends js) so_far.reached
+            (each_there Reached (ends js) (λ x there. reached_next (start_pairs first second) (next_pairs first second) (p, q) x pair (subst (λ ks. Contains (ends ks) x) same there))));
         within = omega (arith, step, ap (λ (xs : List (ℕ × ℕ)). length xs) grown, length-append s.pairs long.0);
         few = few;
         longer = (so_far.longer.0 ++ long.0, grown ∙ (ap (λ (xs : List (ℕ × ℕ)). xs ++ long.0) so_far.longer.1 ∙ append_assoc old.pairs so_far.longer.0 long.0));
       }
 
   -- too many, found from one pair
-  pub explored_beyond : (old s : Stage) (done p q : ℕ) (js : List JointEdge) → IsExplored most a b old s done → slice_get s.pairs done ≡ Some (p, q) → js ≡ steps (p, q) → AreBeyond most s.pairs (ends js) → HasMorePairs most first second
+  pub explored_beyond : (old s : Stage) (done p q : ℕ) (js : List JointEdge) → IsExplored most a b old s done → slice_get s.pairs done ≡ Some (p, q) → js ≡ steps (p, q)
+      → AreBeyond most s.pairs (ends js) → HasMorePairs most first second
   explored_beyond old s done p q js so_far at same beyond =
       let in_old : done < length s.pairs = slice_get_within s.pairs done (p, q) at in
       let pair : Reached (p, q) = subst Reached (get_or_from_slice_get s.pairs done (p, q) (p, q) at) (so_far.reached done (p, q) in_old) in
       record {
         pairs = with_pairs s.pairs beyond.some;
-        differ = added_differ same_pair pair_tells s.pairs beyond.some (subst (AllPairs (λ x y. x ≢ y)) (sym so_far.in_turn) (once_differ same_pair pair_tells (start_pairs first second ++ ends (flat_map steps (take done s.pairs)))));
-        reached = added_each same_pair pair_tells Reached s.pairs beyond.some so_far.reached (All-weaker (Contains (ends js)) Reached (λ x there. reached_next (start_pairs first second) (next_pairs first second) (p, q) x pair (subst (λ ks. Contains (ends ks) x) same there)) beyond.some beyond.among);
+        differ = added_differ same_pair pair_tells s.pairs beyond.some
+            (subst (AllPairs (λ x y. x ≢ y)) (sym so_far.in_turn) (once_differ same_pair pair_tells (start_pairs first second ++ ends (flat_map steps (take done s.pairs)))));
+        reached = added_each same_pair pair_tells Reached s.pairs beyond.some so_far.reached
+            (All-weaker (Contains (ends js)) Reached (λ x there. reached_next (start_pairs first second) (next_pairs first second) (p, q) x pair
+            (subst (λ ks. Contains (ends ks) x) same there)) beyond.some beyond.among);
         more = beyond.many;
       }
 
@@ -141,7 +157,8 @@ module _ (most : ℕ) (a b : Core) (core_a : IsCore a) (core_b : IsCore b) (name
   starts_beyond beyond = record {
     pairs = with_pairs [] beyond.some;
     differ = once_differ same_pair pair_tells beyond.some;
-    reached = added_each same_pair pair_tells Reached [] beyond.some (λ k d within. absurd (omega (arith, within))) (All-weaker (Contains (start_pairs first second)) Reached (λ x there. reached_start (start_pairs first second) (next_pairs first second) x there) beyond.some beyond.among);
+    reached = added_each same_pair pair_tells Reached [] beyond.some (λ k d within. absurd (omega (arith, within)))
+        (All-weaker (Contains (start_pairs first second)) Reached (λ x there. reached_start (start_pairs first second) (next_pairs first second) x there) beyond.some beyond.among);
     more = beyond.many;
   }
 

@@ -19,9 +19,11 @@ same_flags (suc n) (f ∷ first) (g ∷ second) long too same =
     ap (λ b. b ∷ first) (same 0 (omega arith)) ∙ ap (λ fs. g ∷ fs) (same_flags n first second (omega (arith, long)) (omega (arith, too)) (λ q less. same (suc q) (omega (arith, less))))
 
 -- lists that are exact of the same property
-pub exact_flags : (n : ℕ) (Is : ℕ → Type 0) (first second : List Bool) → length first ≡ n → length second ≡ n → ((q : ℕ) → q < n → IsTrue (is_flagged first q) ↔ Is q) → ((q : ℕ) → q < n → IsTrue (is_flagged second q) ↔ Is q) → first ≡ second
+pub exact_flags : (n : ℕ) (Is : ℕ → Type 0) (first second : List Bool) → length first ≡ n → length second ≡ n → ((q : ℕ) → q < n → IsTrue (is_flagged first q) ↔ Is q)
+    → ((q : ℕ) → q < n → IsTrue (is_flagged second q) ↔ Is q) → first ≡ second
 exact_flags n Is first second long too one other =
-    same_flags n first second long too (λ q less. same_flag (is_flagged first q) (is_flagged second q) (λ flag. (other q less).1 ((one q less).0 flag)) (λ flag. (one q less).1 ((other q less).0 flag)))
+    same_flags n first second long too (λ q less. same_flag (is_flagged first q) (is_flagged second q) (λ flag. (other q less).1 ((one q less).0 flag))
+    (λ flag. (one q less).1 ((other q less).0 flag)))
 
 pub trimmed_is_determined : TrimmedIsDetermined
 trimmed_is_determined a made other is also =

@@ -53,10 +53,13 @@ module _ (a b : Automaton) where
         is = alone outer.0 inner.0 j (is_never (length a.names) (both_labels (length a.names) outer.0.label inner.0.label)) inner.2;
       }
 
-  pub there_joint : (pair : ℕ × ℕ) (d e : TreeEdge) → Contains a.edges d → Contains b.edges e → d.from ≡ pair.0 → e.from ≡ pair.1 → is_never (length a.names) (both_labels (length a.names) d.label e.label) ≡ false → Contains (joint_edges a b pair) (joined (length a.names) a.sets d e)
+  pub there_joint : (pair : ℕ × ℕ) (d e : TreeEdge) → Contains a.edges d → Contains b.edges e → d.from ≡ pair.0 → e.from ≡ pair.1
+      → is_never (length a.names) (both_labels (length a.names) d.label e.label) ≡ false → Contains (joint_edges a b pair) (joined (length a.names) a.sets d e)
   there_joint pair d e one two from_one from_two some =
-      there_flat_map (λ c. flat_map (joint_edge (length a.names) a.sets c) (edges_from pair.1 b.edges)) (edges_from pair.0 a.edges) d (joined (length a.names) a.sets d e) (there_filter (λ (c : TreeEdge). c.from == pair.0) a.edges d one (eq-eqb d.from pair.0 from_one))
-      (there_flat_map (joint_edge (length a.names) a.sets d) (edges_from pair.1 b.edges) e (joined (length a.names) a.sets d e) (there_filter (λ (c : TreeEdge). c.from == pair.1) b.edges e two (eq-eqb e.from pair.1 from_two))
+      there_flat_map (λ c. flat_map (joint_edge (length a.names) a.sets c) (edges_from pair.1 b.edges)) (edges_from pair.0 a.edges) d (joined (length a.names) a.sets d e)
+      (there_filter (λ (c : TreeEdge). c.from == pair.0) a.edges d one (eq-eqb d.from pair.0 from_one))
+      (there_flat_map (joint_edge (length a.names) a.sets d) (edges_from pair.1 b.edges) e (joined (length a.names) a.sets d e)
+      (there_filter (λ (c : TreeEdge). c.from == pair.1) b.edges e two (eq-eqb e.from pair.1 from_two))
       (subst (λ (t : Bool). Contains (cond t [] (joined (length a.names) a.sets d e ∷ [])) (joined (length a.names) a.sets d e)) (sym some) (first_there (joined (length a.names) a.sets d e) [])))
 
   pub there_start : (p q : ℕ) → Contains a.starts p → Contains b.starts q → Contains (start_pairs a b) (p, q)
@@ -74,7 +77,8 @@ module _ (a b : Automaton) where
     -- both states of a pair that is reached are states
     pub reached_within : (pair : ℕ × ℕ) → IsReached (start_pairs a b) (next_pairs a b) pair → (pair.0 < a.states) × (pair.1 < b.states)
     reached_within = reached_keeps (λ pair. (pair.0 < a.states) × (pair.1 < b.states)) (start_pairs a b) (next_pairs a b)
-        (λ pair there. let starts = from_start pair there in (All-contains (λ p. p < a.states) a.starts pair.0 first.starts starts.0, All-contains (λ p. p < b.states) b.starts pair.1 second.starts starts.1))
+        (λ pair there. let starts = from_start pair there in
+        (All-contains (λ p. p < a.states) a.starts pair.0 first.starts starts.0, All-contains (λ p. p < b.states) b.starts pair.1 second.starts starts.1))
         (λ pair next here there.
         let j = from_map (λ (j : JointEdge). j.to) (joint_edges a b pair) next there in
         let of = made_of pair j.0 j.1 in
@@ -109,7 +113,8 @@ module _ (a b : Automaton) where
         let here : Contains pairs (of.first.from, of.second.from) = subst (λ p. Contains pairs p) (sym from) pair.1 in
         let next : Contains (next_pairs a b pair.0) j.0.to = there_map (λ (j : JointEdge). j.to) (joint_edges a b pair.0) j.0 pair.2 in
         let goes : j.0.to ≡ (of.first.to, of.second.to) = sym (ap (λ (j : JointEdge). j.to) of.is) in
-        let there_too : Contains pairs (of.first.to, of.second.to) = subst (λ p. Contains pairs p) goes (next_listed same_pair pair_tells (start_pairs a b) (next_pairs a b) pairs listed pair.0 j.0.to pair.1 next) in
+        let there_too : Contains pairs (of.first.to, of.second.to) =
+        subst (λ p. Contains pairs p) goes (next_listed same_pair pair_tells (start_pairs a b) (next_pairs a b) pairs listed pair.0 j.0.to pair.1 next) in
         let whole : numbered pairs (joined (length a.names) a.sets of.first of.second) ≡ e = ap (numbered pairs) of.is ∙ j.2 in
         record {
           first = of.first;
@@ -123,13 +128,18 @@ module _ (a b : Automaton) where
         }
 
     -- and an edge for each two that meet
-    pub edge_there : (pair : ℕ × ℕ) (d e : TreeEdge) → Contains pairs pair → Contains a.edges d → Contains b.edges e → d.from ≡ pair.0 → e.from ≡ pair.1 → is_never (length a.names) (both_labels (length a.names) d.label e.label) ≡ false → Contains (map (numbered pairs) (flat_map (joint_edges a b) pairs)) (numbered pairs (joined (length a.names) a.sets d e))
+    pub edge_there : (pair : ℕ × ℕ) (d e : TreeEdge) → Contains pairs pair → Contains a.edges d → Contains b.edges e → d.from ≡ pair.0 → e.from ≡ pair.1
+        → is_never (length a.names) (both_labels (length a.names) d.label e.label) ≡ false
+        → Contains (map (numbered pairs) (flat_map (joint_edges a b) pairs)) (numbered pairs (joined (length a.names) a.sets d e))
     edge_there pair d e there one two from_one from_two some =
-        there_map (numbered pairs) (flat_map (joint_edges a b) pairs) (joined (length a.names) a.sets d e) (there_flat_map (joint_edges a b) pairs pair (joined (length a.names) a.sets d e) there (there_joint pair d e one two from_one from_two some))
+        there_map (numbered pairs) (flat_map (joint_edges a b) pairs) (joined (length a.names) a.sets d e)
+        (there_flat_map (joint_edges a b) pairs pair (joined (length a.names) a.sets d e) there (there_joint pair d e one two from_one from_two some))
 
-    pub next_there : (pair : ℕ × ℕ) (d e : TreeEdge) → Contains pairs pair → Contains a.edges d → Contains b.edges e → d.from ≡ pair.0 → e.from ≡ pair.1 → is_never (length a.names) (both_labels (length a.names) d.label e.label) ≡ false → Contains pairs (d.to, e.to)
+    pub next_there : (pair : ℕ × ℕ) (d e : TreeEdge) → Contains pairs pair → Contains a.edges d → Contains b.edges e → d.from ≡ pair.0 → e.from ≡ pair.1
+        → is_never (length a.names) (both_labels (length a.names) d.label e.label) ≡ false → Contains pairs (d.to, e.to)
     next_there pair d e there one two from_one from_two some =
-        next_listed same_pair pair_tells (start_pairs a b) (next_pairs a b) pairs listed pair (d.to, e.to) there (there_map (λ (j : JointEdge). j.to) (joint_edges a b pair) (joined (length a.names) a.sets d e) (there_joint pair d e one two from_one from_two some))
+        next_listed same_pair pair_tells (start_pairs a b) (next_pairs a b) pairs listed pair (d.to, e.to) there
+        (there_map (λ (j : JointEdge). j.to) (joint_edges a b pair) (joined (length a.names) a.sets d e) (there_joint pair d e one two from_one from_two some))
 
     pub start_there : (p q : ℕ) → Contains a.starts p → Contains b.starts q → Contains pairs (p, q)
     start_there p q one two = start_listed same_pair pair_tells (start_pairs a b) (next_pairs a b) pairs listed (p, q) (there_start p q one two)

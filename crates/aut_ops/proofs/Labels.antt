@@ -1,5 +1,6 @@
 -- What labels say that are put together.
-use Rattle.std.proofs.Common.{◌≡◌, ◌≢◌, ◌∙◌, ◌↔◌, ◌⊎◌, ◌+◌, ◌++◌, ◌<◌, ℕ, zero, suc, Bool, true, false, not, ◌&&◌, ◌||◌, IsTrue, if◌then◌else◌, List, [], ◌∷◌, All, AllPairs, Contains, ap, arith, inl, inr, length, map, refl, sym}
+use Rattle.std.proofs.Common.{◌≡◌, ◌≢◌, ◌∙◌, ◌↔◌, ◌⊎◌, ◌+◌, ◌++◌, ◌<◌, ℕ, zero, suc, Bool, true, false, not, ◌&&◌, ◌||◌, IsTrue, if◌then◌else◌, List}
+use Rattle.std.proofs.Common.{[], ◌∷◌, All, AllPairs, Contains, ap, arith, inl, inr, length, map, refl, sym}
 use Rattle.std.proofs.lemmas.Bool.{cases_Bool, false≢true}
 use Rattle.std.specs.List.{list_any, slice_index_or}
 use Rattle.aut_base.proofs.CanonicalTruth.{label_of-same, truth-label_of, truth_below}
@@ -27,7 +28,8 @@ truth_both n holds t u first second =
     truth-label_of holds n (λ v. truth_on t v && truth_on u v)
     ∙ (ap (λ b. b && truth_on u (valuation_of n holds)) (on_valuation n holds t first) ∙ ap (λ b. truth holds t && b) (on_valuation n holds u second))
 
-any_on : (n : ℕ) (holds : ℕ → Bool) (es : List TreeEdge) → All (λ e. AllBelow n e.label) es → list_any (λ (e : TreeEdge). truth_on e.label (valuation_of n holds)) es ≡ list_any (λ (e : TreeEdge). truth holds e.label) es
+any_on : (n : ℕ) (holds : ℕ → Bool) (es : List TreeEdge) → All (λ e. AllBelow n e.label) es
+    → list_any (λ (e : TreeEdge). truth_on e.label (valuation_of n holds)) es ≡ list_any (λ (e : TreeEdge). truth holds e.label) es
 any_on n holds [] below = refl
 any_on n holds (e ∷ es) below =
     ap (λ b. b || list_any (λ (d : TreeEdge). truth_on d.label (valuation_of n holds)) es) (on_valuation n holds e.label (below 0 e (omega arith)))
@@ -72,18 +74,21 @@ valuation_long (suc n) v there =
     ]
 
 -- a label that isn't so is met by some letter
-pub some_letter : (names : List (List ℕ)) (t : LabelTree) → AllPairs (λ a b. a ≢ b) names → AllBelow (length names) t → is_never (length names) t ≡ false → (v : List Bool) × (truth (holds_at names (letter_of names v)) t ≡ true)
+pub some_letter : (names : List (List ℕ)) (t : LabelTree) → AllPairs (λ a b. a ≢ b) names → AllBelow (length names) t → is_never (length names) t ≡ false
+    → (v : List Bool) × (truth (holds_at names (letter_of names v)) t ≡ true)
 some_letter names t differ below some =
     let found = one_passes (truth_on t) (valuations (length names)) some in
     let long = valuation_long (length names) found.0 found.1 in
     (found.0, truth_below (length names) (holds_at names (letter_of names found.0)) (holds_in found.0) t below (λ i less. letter_of_holds names found.0 i differ long) ∙ found.2)
 
-pub at_letter : (names : List (List ℕ)) (t : LabelTree) (v : List Bool) → AllPairs (λ a b. a ≢ b) names → AllBelow (length names) t → length v ≡ length names → truth (holds_at names (letter_of names v)) t ≡ truth_on t v
+pub at_letter : (names : List (List ℕ)) (t : LabelTree) (v : List Bool) → AllPairs (λ a b. a ≢ b) names → AllBelow (length names) t → length v ≡ length names
+    → truth (holds_at names (letter_of names v)) t ≡ truth_on t v
 at_letter names t v differ below long = truth_below (length names) (holds_at names (letter_of names v)) (holds_in v) t below (λ i less. letter_of_holds names v i differ long)
 
 -- the labels of guards
 
-pub label_from : (s : Store) (g : Guard) (says : (ℕ → Bool) → Bool) (h : List Bool → Bool) → IsGuardOf s says g → ((v : List Bool) → length v ≡ s.names → says (holds_in v) ≡ h v) → label_in s g ≡ label_of s.names h
+pub label_from : (s : Store) (g : Guard) (says : (ℕ → Bool) → Bool) (h : List Bool → Bool) → IsGuardOf s says g → ((v : List Bool) → length v ≡ s.names → says (holds_in v) ≡ h v)
+    → label_in s g ≡ label_of s.names h
 label_from s g says h is same = sym (label_in_settled s g) ∙ label_of-same s.names (truth_on (label_in s g)) h (λ v long. is.truth (holds_in v) ∙ same v long)
 
 pub label_both : (s t : Store) (g h k : Guard) → t.names ≡ s.names → IsGuardOf t (λ on. truth_in s g on && truth_in s h on) k → label_in t k ≡ both_labels s.names (label_in s g) (label_in s h)
@@ -95,16 +100,20 @@ all_cubes : (i n : ℕ) → cubes i n (λ v. true) ≡ [] ∷ []
 all_cubes i zero = refl
 all_cubes i (suc n) =
     let alone : is_independent n (λ v. true) ≡ true = all_valuations n (λ v. true) (λ v long. refl) in
-    ap (λ b. if b then cubes (i + 1) n (λ v. true) else (map (λ cube. record { prop = i; holds = false } ∷ cube) (cubes (i + 1) n (λ v. true)) ++ map (λ cube. record { prop = i; holds = true } ∷ cube) (cubes (i + 1) n (λ v. true)))) alone ∙ all_cubes (i + 1) n
+    ap (λ b. if b then cubes (i + 1) n (λ v. true) else
+    (map (λ cube. record { prop = i; holds = false } ∷ cube) (cubes (i + 1) n (λ v. true)) ++ map (λ cube. record { prop = i; holds = true } ∷ cube) (cubes (i + 1) n (λ v. true)))) alone
+    ∙ all_cubes (i + 1) n
 
 -- the label that is always true
 pub label_always : (s : Store) (g : Guard) → IsGuardOf s (λ on. true) g → label_in s g ≡ True
 label_always s g is = label_from s g (λ on. true) (λ v. true) is (λ v long. refl) ∙ ap cubes_tree (all_cubes 0 s.names)
 
 -- a guard of another store, where each proposition is the same here
-pub label_brought : (s t : Store) (to : List ℕ) (g h : Guard) → t.names ≡ s.names → ((k : ℕ) → k < s.names → slice_index_or to k 0 ≡ k) → IsGuardOf t (λ on. truth_in s g (λ k. on (slice_index_or to k 0))) h → label_in t h ≡ label_in s g
+pub label_brought : (s t : Store) (to : List ℕ) (g h : Guard) → t.names ≡ s.names → ((k : ℕ) → k < s.names → slice_index_or to k 0 ≡ k)
+    → IsGuardOf t (λ on. truth_in s g (λ k. on (slice_index_or to k 0))) h → label_in t h ≡ label_in s g
 label_brought s t to g h names same is =
-    label_from t h (λ on. truth_in s g (λ k. on (slice_index_or to k 0))) (truth_on (label_in s g)) is (λ v long. truth_below s.names (λ k. holds_in v (slice_index_or to k 0)) (holds_in v) (label_in s g) (label_in_below s g) (λ i less. ap (holds_in v) (same i less)))
+    label_from t h (λ on. truth_in s g (λ k. on (slice_index_or to k 0))) (truth_on (label_in s g)) is
+    (λ v long. truth_below s.names (λ k. holds_in v (slice_index_or to k 0)) (holds_in v) (label_in s g) (label_in_below s g) (λ i less. ap (holds_in v) (same i less)))
     ∙ (ap (λ n. label_of n (truth_on (label_in s g))) names ∙ label_in_settled s g)
 
 -- whether a guard is never met, as its label tells

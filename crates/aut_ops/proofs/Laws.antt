@@ -45,7 +45,8 @@ few_pairs_exclude_more join a b made most is few more =
     let size : made.states ≡ length is.pairs = ap (λ (m : Automaton). m.states) is.is in
     let exactly = listed_exactly same_pair pair_tells (start_pairs a b) (next_pairs a b) is.pairs is.in_order in
     let within = length-le_from_is_member pair_laws more.pairs is.pairs (IsDistinct-from_AllPairs pair_tells more.pairs more.differ) (λ q there.
-    (is_member-Decides pair_tells is.pairs q).1 ((exactly q).1 (All-contains (IsReached (start_pairs a b) (next_pairs a b)) more.pairs q more.reached ((is_member-Decides pair_tells more.pairs q).0 there)))) in
+    (is_member-Decides pair_tells is.pairs q).1
+    ((exactly q).1 (All-contains (IsReached (start_pairs a b) (next_pairs a b)) more.pairs q more.reached ((is_member-Decides pair_tells more.pairs q).0 there)))) in
     absurd (omega (arith, size, few, within, more.more))
 
 module _ (a b : Automaton) (names : b.names ≡ a.names) (formed : IsWellFormed a) (also : IsWellFormed b) where
@@ -68,7 +69,8 @@ module _ (a b : Automaton) (names : b.names ≡ a.names) (formed : IsWellFormed 
       let label = both_labels (length a.names) of.first.label of.second.label in
       let found = some_letter a.names label formed.names_differ (label_of_below (length a.names) (λ v. truth_on of.first.label v && truth_on of.second.label v)) of.some in
       let letter : NameSet = letter_of a.names found.0 in
-      let both = and_parts (truth (holds_at a.names letter) of.first.label) (truth (holds_at a.names letter) of.second.label) (sym (truth_both (length a.names) (holds_at a.names letter) of.first.label of.second.label (first_below of.first of.in_first) (second_below of.second of.in_second)) ∙ found.1) in
+      let both = and_parts (truth (holds_at a.names letter) of.first.label) (truth (holds_at a.names letter) of.second.label)
+      (sym (truth_both (length a.names) (holds_at a.names letter) of.first.label of.second.label (first_below of.first of.in_first) (second_below of.second of.in_second)) ∙ found.1) in
       record {
         letters = led.letters ++ letter ∷ [];
         first = led.first;
@@ -78,10 +80,12 @@ module _ (a b : Automaton) (names : b.names ≡ a.names) (formed : IsWellFormed 
         way = led.way ++ of.first ∷ [];
         other = led.other ++ of.second ∷ [];
         leads = path_join a led.first pair.0 next.0 led.letters (letter ∷ []) led.way (of.first ∷ []) led.leads (sym of.first_from, of.in_first, both.0, ap (λ (x : ℕ × ℕ). x.0) to);
-        leads_too = path_join b led.second pair.1 next.1 led.letters (letter ∷ []) led.other (of.second ∷ []) led.leads_too (sym of.second_from, of.in_second, subst (λ ns. truth (holds_at ns letter) of.second.label ≡ true) (sym names) both.1, ap (λ (x : ℕ × ℕ). x.1) to);
+        leads_too = path_join b led.second pair.1 next.1 led.letters (letter ∷ []) led.other (of.second ∷ []) led.leads_too
+            (sym of.second_from, of.in_second, subst (λ ns. truth (holds_at ns letter) of.second.label ≡ true) (sym names) both.1, ap (λ (x : ℕ × ℕ). x.1) to);
       }
 
-  reached_path : (p q p' q' : ℕ) (xs : List NameSet) (es fs : List TreeEdge) → IsReached (start_pairs a b) (next_pairs a b) (p, q) → IsPath a p xs es p' → IsPath b q xs fs q' → IsReached (start_pairs a b) (next_pairs a b) (p', q')
+  reached_path : (p q p' q' : ℕ) (xs : List NameSet) (es fs : List TreeEdge) → IsReached (start_pairs a b) (next_pairs a b) (p, q) → IsPath a p xs es p' → IsPath b q xs fs q'
+      → IsReached (start_pairs a b) (next_pairs a b) (p', q')
   reached_path p q p' q' [] [] [] here one two = subst (IsReached (start_pairs a b) (next_pairs a b)) (λ i. (one i, two i)) here
   reached_path p q p' q' [] (e ∷ es) fs here one two = absurd one
   reached_path p q p' q' [] [] (f ∷ fs) here one two = absurd two
@@ -89,7 +93,8 @@ module _ (a b : Automaton) (names : b.names ≡ a.names) (formed : IsWellFormed 
   reached_path p q p' q' (x ∷ xs) (e ∷ es) [] here one two = absurd two
   reached_path p q p' q' (x ∷ xs) (e ∷ es) (f ∷ fs) here one two =
       let label = both_labels (length a.names) e.label f.label in
-      let holds = truth_both (length a.names) (holds_at a.names x) e.label f.label (first_below e one.1) (second_below f two.1) ∙ and_from (truth (holds_at a.names x) e.label) (truth (holds_at a.names x) f.label) one.2 (subst (λ ns. truth (holds_at ns x) f.label ≡ true) names two.2) in
+      let holds = truth_both (length a.names) (holds_at a.names x) e.label f.label (first_below e one.1) (second_below f two.1)
+      ∙ and_from (truth (holds_at a.names x) e.label) (truth (holds_at a.names x) f.label) one.2 (subst (λ ns. truth (holds_at ns x) f.label ≡ true) names two.2) in
       let some = not_never (length a.names) (holds_at a.names x) label (label_of_below (length a.names) (λ v. truth_on e.label v && truth_on f.label v)) holds in
       let step = there_map (λ (j : JointEdge). j.to) (joint_edges a b (p, q)) (joined (length a.names) a.sets e f) (there_joint a b (p, q) e f one.1 two.1 (sym one.0) (sym two.0) some) in
       reached_path e.to f.to p' q' xs es fs (reached_next (start_pairs a b) (next_pairs a b) (p, q) (e.to, f.to) here step) one.3 two.3
@@ -97,5 +102,6 @@ module _ (a b : Automaton) (names : b.names ≡ a.names) (formed : IsWellFormed 
 pub reached_by_letters : ReachedByLetters
 reached_by_letters a b names formed also pair = (
   reached_keeps (AreLedTo a b) (start_pairs a b) (next_pairs a b) (led_start a b names formed also) (led_next a b names formed also) pair,
-  λ led. reached_path a b names formed also led.first led.second pair.0 pair.1 led.letters led.way led.other (reached_start (start_pairs a b) (next_pairs a b) (led.first, led.second) (there_start a b led.first led.second led.is_first led.is_second)) led.leads led.leads_too,
+  λ led. reached_path a b names formed also led.first led.second pair.0 pair.1 led.letters led.way led.other
+      (reached_start (start_pairs a b) (next_pairs a b) (led.first, led.second) (there_start a b led.first led.second led.is_first led.is_second)) led.leads led.leads_too,
 )

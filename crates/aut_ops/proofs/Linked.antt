@@ -24,7 +24,9 @@ pub edges_filter : (s : Store) (q : ℕ) (links : List Link) → edges_from q (m
 edges_filter s q [] = refl
 edges_filter s q (l ∷ ls) = by (edges_filter s q ls) (l.from == q)
   where
-    by : edges_from q (map (edge_of s) ls) ≡ map (edge_of s) (filter (λ (m : Link). m.from == q) ls) → (b : Bool) → cond b (edge_of s l ∷ edges_from q (map (edge_of s) ls)) (edges_from q (map (edge_of s) ls)) ≡ map (edge_of s) (cond b (l ∷ filter (λ (m : Link). m.from == q) ls) (filter (λ (m : Link). m.from == q) ls))
+    by : edges_from q (map (edge_of s) ls) ≡ map (edge_of s) (filter (λ (m : Link). m.from == q) ls) → (b : Bool)
+        → cond b (edge_of s l ∷ edges_from q (map (edge_of s) ls)) (edges_from q (map (edge_of s) ls)) ≡ map (edge_of s)
+        (cond b (l ∷ filter (λ (m : Link). m.from == q) ls) (filter (λ (m : Link). m.from == q) ls))
     by rest true = ap (λ es. edge_of s l ∷ es) rest
     by rest false = rest
 
@@ -33,9 +35,12 @@ abbrev pub some_met : List TreeEdge → (ℕ → Bool) → Bool
 some_met es on = list_any (λ e. truth on e.label) es
 
 -- one link more
-pub met_more : (old s t : Store) (row : List Link) (i : ℕ) (x : Link) (met next : Guard) → i < length row → x ≡ get_or row i x → Has old x.guard → Keeps old s → IsGuardOf s (some_met (map (edge_of old) (take i row))) met → IsGuardOf t (λ on. truth_in s met on || truth_in s x.guard on) next → IsGuardOf t (some_met (map (edge_of old) (take (i + 1) row))) next
+pub met_more : (old s t : Store) (row : List Link) (i : ℕ) (x : Link) (met next : Guard) → i < length row → x ≡ get_or row i x → Has old x.guard → Keeps old s
+    → IsGuardOf s (some_met (map (edge_of old) (take i row))) met → IsGuardOf t (λ on. truth_in s met on || truth_in s x.guard on) next
+    → IsGuardOf t (some_met (map (edge_of old) (take (i + 1) row))) next
 met_more old s t row i x met next within at has keeps so_far is =
-    let whole : map (edge_of old) (take (i + 1) row) ≡ map (edge_of old) (take i row) ++ edge_of old x ∷ [] = ap (map (edge_of old)) (take-push row i x within at) ∙ map-append (edge_of old) (take i row) (x ∷ []) in
+    let whole : map (edge_of old) (take (i + 1) row) ≡ map (edge_of old) (take i row) ++ edge_of old x ∷ [] = ap (map (edge_of old)) (take-push row i x within at)
+    ∙ map-append (edge_of old) (take i row) (x ∷ []) in
     record {
       has = is.has;
       truth = λ on. is.truth on
@@ -45,9 +50,11 @@ met_more old s t row i x met next within at has keeps so_far is =
     }
 
 -- the guard that is true where none is
-pub none_met : (old s t : Store) (row : List Link) (i : ℕ) (met none : Guard) → length row ≤ i → s.names ≡ old.names → t.names ≡ s.names → IsGuardOf s (some_met (map (edge_of old) (take i row))) met → IsGuardOf t (λ on. not (truth_in s met on)) none → label_in t none ≡ no_label old.names (map (edge_of old) row)
+pub none_met : (old s t : Store) (row : List Link) (i : ℕ) (met none : Guard) → length row ≤ i → s.names ≡ old.names → t.names ≡ s.names
+    → IsGuardOf s (some_met (map (edge_of old) (take i row))) met → IsGuardOf t (λ on. not (truth_in s met on)) none → label_in t none ≡ no_label old.names (map (edge_of old) row)
 none_met old s t row i met none end names more so_far is =
-    label_from t none (λ on. not (truth_in s met on)) (λ v. not (list_any (λ (e : TreeEdge). truth_on e.label v) (map (edge_of old) row))) is (λ v long. ap not (so_far.truth (holds_in v) ∙ ap (λ ls. some_met (map (edge_of old) ls) (holds_in v)) (take_all i row end)))
+    label_from t none (λ on. not (truth_in s met on)) (λ v. not (list_any (λ (e : TreeEdge). truth_on e.label v) (map (edge_of old) row))) is
+    (λ v long. ap not (so_far.truth (holds_in v) ∙ ap (λ ls. some_met (map (edge_of old) ls) (holds_in v)) (take_all i row end)))
     ∙ ap (λ n. no_label n (map (edge_of old) row)) (more ∙ names)
 
 -- parts that are those of a well-formed automaton

@@ -23,7 +23,8 @@ places_longer old new rest (k ∷ ks) (x ∷ xs) is zip = (longer_at old new res
 pub listed_none : (pairs : List (ℕ × ℕ)) (starts : List ℕ) → AreListed pairs pairs starts starts []
 listed_none pairs starts = record { pairs = refl; places = λ before are. subst (ArePlaces pairs starts) (sym (append-nil before)) are }
 
-pub listed_one : (old new : List (ℕ × ℕ)) (starts more : List ℕ) (place : ℕ) (x : ℕ × ℕ) → new ≡ with_new same_pair old x → slice_get new place ≡ Some x → more ≡ starts ++ place ∷ [] → AreListed old new starts more (x ∷ [])
+pub listed_one : (old new : List (ℕ × ℕ)) (starts more : List ℕ) (place : ℕ) (x : ℕ × ℕ) → new ≡ with_new same_pair old x → slice_get new place ≡ Some x → more ≡ starts ++ place ∷ []
+    → AreListed old new starts more (x ∷ [])
 listed_one old new starts more place x is at pushed =
     let long = with_new_longer same_pair pair_tells old x in
     record {

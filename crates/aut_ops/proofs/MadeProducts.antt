@@ -60,12 +60,15 @@ pub record IsMade (j : Join) (a b c : Core) : Type 0 where
   pub accepts : JoinAccepts j (automaton_of c) (automaton_of a) (automaton_of b)
   pub parts : AreParts c
 
-accepts_by : (j : Join) (a b : Automaton) (names : b.names ≡ a.names) (formed : IsWellFormed a) (also : IsWellFormed b) (pairs : List (ℕ × ℕ)) → ArePairs a b pairs → JoinAccepts j (product_on (join_of j) pairs a b) a b
+accepts_by : (j : Join) (a b : Automaton) (names : b.names ≡ a.names) (formed : IsWellFormed a) (also : IsWellFormed b) (pairs : List (ℕ × ℕ)) → ArePairs a b pairs
+    → JoinAccepts j (product_on (join_of j) pairs a b) a b
 accepts_by join.All a b names formed also pairs listed = product_accepts a b names formed also pairs listed
 accepts_by join.Any a b names formed also pairs listed = λ runs others. product_or_accepts a b names formed also pairs listed runs others
 
-pub made : (j : Join) (a b : Core) (stage : Stage) (begun : List (ℕ × ℕ)) (names : List (List ℕ)) (starts : List ℕ) (states sets seconds : ℕ) (formula f g : FormulaTree) (store : Store) (links : List Link) → IsCore a → IsCore b → b.names ≡ a.names → Keeps b.store stage.store
-    → ArePairs (automaton_of a) (automaton_of b) stage.pairs → AreEdges stage (flat_map (joint_edges (automaton_of a) (automaton_of b)) stage.pairs) → (rest : List (ℕ × ℕ)) × (stage.pairs ≡ begun ++ rest) → ArePlaces begun starts (start_pairs (automaton_of a) (automaton_of b))
+pub made : (j : Join) (a b : Core) (stage : Stage) (begun : List (ℕ × ℕ)) (names : List (List ℕ)) (starts : List ℕ) (states sets seconds : ℕ) (formula f g : FormulaTree) (store : Store)
+    (links : List Link) → IsCore a → IsCore b → b.names ≡ a.names → Keeps b.store stage.store
+    → ArePairs (automaton_of a) (automaton_of b) stage.pairs → AreEdges stage (flat_map (joint_edges (automaton_of a) (automaton_of b)) stage.pairs)
+    → (rest : List (ℕ × ℕ)) × (stage.pairs ≡ begun ++ rest) → ArePlaces begun starts (start_pairs (automaton_of a) (automaton_of b))
     → names ≡ a.names → states ≡ length stage.pairs → sets ≡ a.sets → seconds ≡ b.sets → f ≡ a.formula → g ≡ b.formula → formula ≡ join_of j f (shift sets g)
     → store ≡ stage.store → links ≡ stage.links
     → IsMade j a b (record { names = names; starts = starts; states = states; links = links; sets = sets + seconds; formula = formula; store = store })
@@ -93,7 +96,8 @@ made j a b stage begun names starts states sets seconds formula f g store links 
 
 -- runs over other names
 
-run_wider : (a b : Automaton) (u v : List NameSet) → a.names ≡ b.names → ((s : ℕ) → Contains a.starts s → Contains b.starts s) → ((e : TreeEdge) → Contains a.edges e → Contains b.edges e) → (turns rounds : ℕ) → LassoRun a u v turns rounds → LassoRun b u v turns rounds
+run_wider : (a b : Automaton) (u v : List NameSet) → a.names ≡ b.names → ((s : ℕ) → Contains a.starts s → Contains b.starts s) → ((e : TreeEdge) → Contains a.edges e → Contains b.edges e)
+    → (turns rounds : ℕ) → LassoRun a u v turns rounds → LassoRun b u v turns rounds
 run_wider a b u v names starts edges turns rounds r = record {
   start = r.start;
   state = r.state;
@@ -118,6 +122,8 @@ over_runs a names among formed runs u v endless =
     }
 
 -- and what the product of the automata over their names accepts
-pub accepts_over : (j : Join) (m a b c d : Automaton) (names : List (List ℕ)) → AreAmong a.names names → AreAmong b.names names → IsWellFormed a → IsWellFormed b → c ≡ over_names names a → d ≡ over_names names b → AcceptTheSame c a → AcceptTheSame d b → JoinAccepts j m c d → JoinAccepts j m a b
+pub accepts_over : (j : Join) (m a b c d : Automaton) (names : List (List ℕ)) → AreAmong a.names names → AreAmong b.names names → IsWellFormed a → IsWellFormed b → c ≡ over_names names a
+    → d ≡ over_names names b → AcceptTheSame c a → AcceptTheSame d b → JoinAccepts j m c d → JoinAccepts j m a b
 accepts_over join.All m a b c d names among others formed also is is_too first second accepts = both_like m c d a b first second accepts
-accepts_over join.Any m a b c d names among others formed also is is_too first second accepts = λ runs runs_too. either_like m c d a b first second (accepts (subst HasRuns (sym is) (over_runs a names among formed runs)) (subst HasRuns (sym is_too) (over_runs b names others also runs_too)))
+accepts_over join.Any m a b c d names among others formed also is is_too first second accepts = λ runs runs_too.
+    either_like m c d a b first second (accepts (subst HasRuns (sym is) (over_runs a names among formed runs)) (subst HasRuns (sym is_too) (over_runs b names others also runs_too)))

@@ -1,5 +1,6 @@
 -- A product that grows edge by edge.
-use Rattle.std.proofs.Common.{◌≡◌, ◌∙◌, ◌↔◌, ◌&&◌, ◌+◌, ◌<◌, ℕ, Bool, true, false, cond, IsTrue, List, [], ◌∷◌, ◌++◌, All, Contains, Some, ap, append-nil, append_assoc, arith, get_or, drop, length, map, refl, slice_get, subst, sym, take}
+use Rattle.std.proofs.Common.{◌≡◌, ◌∙◌, ◌↔◌, ◌&&◌, ◌+◌, ◌<◌, ℕ, Bool, true, false, cond, IsTrue, List, [], ◌∷◌, ◌++◌, All, Contains, Some, ap}
+use Rattle.std.proofs.Common.{append-nil, append_assoc, arith, get_or, drop, length, map, refl, slice_get, subst, sym, take}
 use Rattle.std.proofs.lemmas.List.{map-append, take-append-drop}
 use Rattle.std.proofs.lemmas.List.Elements.{All-append, All-push, All-tail, All-weaker, Contains-append_left, Contains-append_right}
 use Rattle.std.proofs.lemmas.List.Sums.{fold-append}
@@ -43,7 +44,8 @@ numbered_longer old new rest (e ∷ es) (j ∷ js) is zip = (
 )
 
 -- nothing but the store grows
-pub adds_nothing : (s t : Store) (pairs : List (ℕ × ℕ)) (links : List Link) → Keeps s t → Adds (record { store = s; pairs = pairs; links = links }) (record { store = t; pairs = pairs; links = links }) []
+pub adds_nothing : (s t : Store) (pairs : List (ℕ × ℕ)) (links : List Link) → Keeps s t
+    → Adds (record { store = s; pairs = pairs; links = links }) (record { store = t; pairs = pairs; links = links }) []
 adds_nothing s t pairs links keeps = record {
   keeps = keeps;
   pairs = refl;
@@ -54,7 +56,9 @@ adds_nothing s t pairs links keeps = record {
 }
 
 -- one edge, whose end is listed now
-pub adds_one : (s t : Store) (pairs more : List (ℕ × ℕ)) (links new : List Link) (l : Link) (j : JointEdge) → Keeps s t → more ≡ with_new same_pair pairs j.to → new ≡ links ++ l ∷ [] → Has t l.guard → slice_get pairs l.from ≡ Some j.from → slice_get more l.to ≡ Some j.to → label_in t l.guard ≡ j.label → l.marks ≡ j.marks → Adds (record { store = s; pairs = pairs; links = links }) (record { store = t; pairs = more; links = new }) (j ∷ [])
+pub adds_one : (s t : Store) (pairs more : List (ℕ × ℕ)) (links new : List Link) (l : Link) (j : JointEdge) → Keeps s t → more ≡ with_new same_pair pairs j.to → new ≡ links ++ l ∷ []
+    → Has t l.guard → slice_get pairs l.from ≡ Some j.from → slice_get more l.to ≡ Some j.to → label_in t l.guard ≡ j.label → l.marks ≡ j.marks
+    → Adds (record { store = s; pairs = pairs; links = links }) (record { store = t; pairs = more; links = new }) (j ∷ [])
 adds_one s t pairs more links new l j keeps listed pushed has from to label marks =
     let long = with_new_longer same_pair pair_tells pairs j.to in
     let is : more ≡ pairs ++ long.0 = listed ∙ long.1 in
@@ -62,7 +66,8 @@ adds_one s t pairs more links new l j keeps listed pushed has from to label mark
       keeps = keeps;
       pairs = listed;
       links = λ before are. record {
-        has = subst (All (λ (m : Link). Has t m.guard)) (sym pushed) (All-push (λ (m : Link). Has t m.guard) links l (All-weaker (λ (m : Link). Has s m.guard) (λ (m : Link). Has t m.guard) (λ m h. keeps.has m.guard h) links are.has) has);
+        has = subst (All (λ (m : Link). Has t m.guard)) (sym pushed)
+            (All-push (λ (m : Link). Has t m.guard) links l (All-weaker (λ (m : Link). Has s m.guard) (λ (m : Link). Has t m.guard) (λ m h. keeps.has m.guard h) links are.has) has);
         edges = subst (λ es. AllZip (IsNumbered more) es (before ++ j ∷ [])) (sym (ap (map (edge_of t)) pushed ∙ map-append (edge_of t) links (l ∷ [])))
             (zip_append (IsNumbered more) (map (edge_of t) links) (edge_of t l ∷ []) before (j ∷ [])
             (subst (λ es. AllZip (IsNumbered more) es before) (sym (kept_edges links keeps are.has)) (numbered_longer pairs more long.0 (map (edge_of s) links) before is are.edges))
@@ -74,7 +79,8 @@ adds_one s t pairs more links new l j keeps listed pushed has from to label mark
 pub adds_then : (r s t : Stage) (js ks : List JointEdge) → Adds r s js → Adds s t ks → Adds r t (js ++ ks)
 adds_then r s t js ks first second = record {
   keeps = keeps_on first.keeps second.keeps;
-  pairs = second.pairs ∙ (ap (λ (xs : List (ℕ × ℕ)). with_pairs xs (ends ks)) first.pairs ∙ (sym (fold-append (with_new same_pair) r.pairs (ends js) (ends ks)) ∙ ap (with_pairs r.pairs) (sym (map-append (λ (j : JointEdge). j.to) js ks))));
+  pairs = second.pairs ∙ (ap (λ (xs : List (ℕ × ℕ)). with_pairs xs (ends ks)) first.pairs
+      ∙ (sym (fold-append (with_new same_pair) r.pairs (ends js) (ends ks)) ∙ ap (with_pairs r.pairs) (sym (map-append (λ (j : JointEdge). j.to) js ks))));
   links = λ before are. subst (AreEdges t) (append_assoc before js ks) (second.links (before ++ js) (first.links before are));
 }
 
@@ -95,13 +101,15 @@ beyond_one most pairs x many = record { some = x ∷ []; among = each_there (Con
 pub beyond_then : (most : ℕ) (pairs xs ys : List (ℕ × ℕ)) → AreBeyond most (with_pairs pairs xs) ys → AreBeyond most pairs (xs ++ ys)
 beyond_then most pairs xs ys beyond = record {
   some = xs ++ beyond.some;
-  among = All-append (Contains (xs ++ ys)) xs beyond.some (each_there (Contains (xs ++ ys)) xs (λ x there. Contains-append_left xs ys x there)) (All-weaker (Contains ys) (Contains (xs ++ ys)) (λ x there. Contains-append_right xs ys x there) beyond.some beyond.among);
+  among = All-append (Contains (xs ++ ys)) xs beyond.some (each_there (Contains (xs ++ ys)) xs (λ x there. Contains-append_left xs ys x there))
+      (All-weaker (Contains ys) (Contains (xs ++ ys)) (λ x there. Contains-append_right xs ys x there) beyond.some beyond.among);
   many = subst (λ (zs : List (ℕ × ℕ)). most < length zs) (sym (fold-append (with_new same_pair) pairs xs beyond.some)) beyond.many;
 }
 
 -- the two edges met
 
-pub never_met : (s t : Store) (g h k : Guard) (b : Bool) → Keeps s t → IsGuardOf t (λ on. truth_in s g on && truth_in s h on) k → (IsTrue b ↔ IsNeverMet t k) → is_never s.names (both_labels s.names (label_in s g) (label_in s h)) ≡ b
+pub never_met : (s t : Store) (g h k : Guard) (b : Bool) → Keeps s t → IsGuardOf t (λ on. truth_in s g on && truth_in s h on) k → (IsTrue b ↔ IsNeverMet t k)
+    → is_never s.names (both_labels s.names (label_in s g) (label_in s h)) ≡ b
 never_met s t g h k b keeps is says =
     let label = label_both s t g h k keeps.names is in
     sym (never_is t k b says ∙ (ap (λ n. is_never n (label_in t k)) keeps.names ∙ ap (is_never s.names) label))
@@ -109,7 +117,8 @@ never_met s t g h k b keeps is says =
 pub met_none : (s : Store) (sets : ℕ) (link other : Link) → is_never s.names (both_labels s.names (label_in s link.guard) (label_in s other.guard)) ≡ true → meeting s sets link other ≡ []
 met_none s sets link other never = ap (λ (b : Bool). cond b [] (joined s.names sets (edge_of s link) (edge_of s other) ∷ [])) never
 
-pub met_one : (s : Store) (sets : ℕ) (link other : Link) → is_never s.names (both_labels s.names (label_in s link.guard) (label_in s other.guard)) ≡ false → meeting s sets link other ≡ joined s.names sets (edge_of s link) (edge_of s other) ∷ []
+pub met_one : (s : Store) (sets : ℕ) (link other : Link) → is_never s.names (both_labels s.names (label_in s link.guard) (label_in s other.guard)) ≡ false
+    → meeting s sets link other ≡ joined s.names sets (edge_of s link) (edge_of s other) ∷ []
 met_one s sets link other some = ap (λ (b : Bool). cond b [] (joined s.names sets (edge_of s link) (edge_of s other) ∷ [])) some
 
 -- as the store grows, links mean what they meant
@@ -120,7 +129,8 @@ meeting_kept s t sets link other keeps first second =
     let two : edge_of t other ≡ edge_of s other = λ i. record { from = other.from; label = keeps.labels other.guard second i; to = other.to; marks = other.marks } in
     λ i. joint_edge (keeps.names i) sets (one i) (two i)
 
-pub spread_kept : (s t : Stage) (js : List JointEdge) (at sets : ℕ) (others : List Link) (link : Link) → Adds s t js → All (CanMeet s at sets link) others → followed t.store sets others link ≡ followed s.store sets others link
+pub spread_kept : (s t : Stage) (js : List JointEdge) (at sets : ℕ) (others : List Link) (link : Link) → Adds s t js → All (CanMeet s at sets link) others
+    → followed t.store sets others link ≡ followed s.store sets others link
 spread_kept s t js at sets [] link adds can = refl
 spread_kept s t js at sets (o ∷ os) link adds can =
     let first = can 0 o (omega arith) in
@@ -152,6 +162,8 @@ module _ {X : Type 0} (f : X → List JointEdge) (xs : List X) (i : ℕ) (x : X)
       ap (λ ys. ends (flat_map f ys)) (sym (take-append-drop (i + 1) xs))
       ∙ (ap ends (flat_map-append f (take (i + 1) xs) (drop (i + 1) xs))
       ∙ (map-append (λ (j : JointEdge). j.to) (flat_map f (take (i + 1) xs)) (flat_map f (drop (i + 1) xs))
-      ∙ ap (λ ys. ys ++ ends (flat_map f (drop (i + 1) xs))) (ap ends (next_of ∙ ap (λ ks. flat_map f (take i xs) ++ ks) (sym same)) ∙ map-append (λ (j : JointEdge). j.to) (flat_map f (take i xs)) js))) in
+      ∙ ap (λ ys. ys ++ ends (flat_map f (drop (i + 1) xs))) (ap ends (next_of ∙ ap (λ ks. flat_map f (take i xs) ++ ks) (sym same))
+      ∙ map-append (λ (j : JointEdge). j.to) (flat_map f (take i xs)) js))) in
       let here = beyond_then most r.pairs (ends (flat_map f (take i xs))) (ends js) (subst (λ ps. AreBeyond most ps (ends js)) so_far.pairs beyond) in
-      beyond_wider most r.pairs (ends (flat_map f (take i xs)) ++ ends js) (ends (flat_map f xs)) (λ y there. subst (λ ys. Contains ys y) (sym whole) (Contains-append_left (ends (flat_map f (take i xs)) ++ ends js) (ends (flat_map f (drop (i + 1) xs))) y there)) here
+      beyond_wider most r.pairs (ends (flat_map f (take i xs)) ++ ends js) (ends (flat_map f xs))
+      (λ y there. subst (λ ys. Contains ys y) (sym whole) (Contains-append_left (ends (flat_map f (take i xs)) ++ ends js) (ends (flat_map f (drop (i + 1) xs))) y there)) here

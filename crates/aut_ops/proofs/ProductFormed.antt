@@ -41,7 +41,8 @@ rows_differ (p ∷ ps) qs first second =
     let same : p ≡ outer.0 = ap (λ (z : ℕ × ℕ). z.0) (one.2 ∙ (e ∙ sym two.2)) in
     (All-contains (λ q. p ≢ q) ps outer.0 (pairs_first (λ q r. q ≢ r) p ps first) outer.1) same)))
 
-module _ (join : FormulaTree → FormulaTree → FormulaTree) (a b : Automaton) (names : b.names ≡ a.names) (formed : IsWellFormed a) (also : IsWellFormed b) (pairs : List (ℕ × ℕ)) (listed : ArePairs a b pairs) where
+module _ (join : FormulaTree → FormulaTree → FormulaTree) (a b : Automaton) (names : b.names ≡ a.names) (formed : IsWellFormed a) (also : IsWellFormed b) (pairs : List (ℕ × ℕ))
+    (listed : ArePairs a b pairs) where
   abbrev p : Automaton
   p = product_on join pairs a b
 
@@ -71,10 +72,12 @@ module _ (join : FormulaTree → FormulaTree → FormulaTree) (a b : Automaton) 
         label = subst (AllBelow (length a.names)) of.label (label_of_below (length a.names) (λ v. truth_on of.first.label v && truth_on of.second.label v));
         marks = subst (All (λ m. m < a.sets + b.sets)) of.marks (All-append (λ m. m < a.sets + b.sets) of.first.marks (map (λ m. m + a.sets) of.second.marks)
             (All-weaker (λ m. m < a.sets) (λ m. m < a.sets + b.sets) (λ m low. omega (arith, low)) of.first.marks first.marks)
-            (All-map (λ m. m < a.sets + b.sets) (λ m. m + a.sets) of.second.marks (All-weaker (λ m. m < b.sets) (λ m. m + a.sets < a.sets + b.sets) (λ m low. omega (arith, low)) of.second.marks second.marks)));
+            (All-map (λ m. m < a.sets + b.sets) (λ m. m + a.sets) of.second.marks
+            (All-weaker (λ m. m < b.sets) (λ m. m + a.sets < a.sets + b.sets) (λ m low. omega (arith, low)) of.second.marks second.marks)));
         marks_rise = subst (AllPairs (λ m n. m < n)) of.marks (pairs_append (λ m n. m < n) of.first.marks (map (λ m. m + a.sets) of.second.marks) first.marks_rise
             (pairs_map (λ m n. m < n) (λ m. m + a.sets) of.second.marks (λ i j d less within. let up = second.marks_rise i j d less within in omega (arith, up)))
-            (All-weaker (λ m. m < a.sets) (λ m. All (λ n. m < n) (map (λ n. n + a.sets) of.second.marks)) (λ m low. All-map (λ n. m < n) (λ n. n + a.sets) of.second.marks (λ k d within. omega (arith, low))) of.first.marks first.marks));
+            (All-weaker (λ m. m < a.sets) (λ m. All (λ n. m < n) (map (λ n. n + a.sets) of.second.marks))
+            (λ m low. All-map (λ n. m < n) (λ n. n + a.sets) of.second.marks (λ k d within. omega (arith, low))) of.first.marks first.marks));
       }
 
   -- the edges of a pair leave its place
@@ -92,14 +95,17 @@ module _ (join : FormulaTree → FormulaTree → FormulaTree) (a b : Automaton) 
       let here : place x ≡ k = at 0 x refl ∙ e in
       let rest = climbs_pairs (k + 1) xs (λ i y is. let f : k + suc i ≡ k + 1 + i = omega arith in at (suc i) y is ∙ f) in
       subst (Climbs k) (sym (map-append (numbered pairs) (joint_edges a b x) (flat_map (joint_edges a b) xs)))
-      (climbs_row k k (map (numbered pairs) (joint_edges a b x)) (map (numbered pairs) (flat_map (joint_edges a b) xs)) (omega arith) (subst (λ q. AllFrom q (map (numbered pairs) (joint_edges a b x))) here (row_from x)) (climbs_lower k (k + 1) (map (numbered pairs) (flat_map (joint_edges a b) xs)) (omega arith) rest))
+      (climbs_row k k (map (numbered pairs) (joint_edges a b x)) (map (numbered pairs) (flat_map (joint_edges a b) xs)) (omega arith)
+      (subst (λ q. AllFrom q (map (numbered pairs) (joint_edges a b x))) here (row_from x)) (climbs_lower k (k + 1) (map (numbered pairs) (flat_map (joint_edges a b) xs)) (omega arith) rest))
 
   pub product_formed : ((n : ℕ) (f g : FormulaTree) → SetsBelow n f → SetsBelow n g → SetsBelow n (join f g)) → IsWellFormed p
   product_formed sets = record {
     names_differ = formed.names_differ;
     starts_differ = pairs_map (λ x y. x ≢ y) place (start_pairs a b) (places_differ (start_pairs a b) (rows_differ a.starts b.starts formed.starts_differ also.starts_differ) starts_listed);
-    starts = All-map (λ k. k < length pairs) place (start_pairs a b) (All-weaker (Contains pairs) (λ x. place x < length pairs) (λ x there. slice_get_within pairs (place x) x (place_of x there)) (start_pairs a b) starts_listed);
+    starts = All-map (λ k. k < length pairs) place (start_pairs a b)
+        (All-weaker (Contains pairs) (λ x. place x < length pairs) (λ x there. slice_get_within pairs (place x) x (place_of x there)) (start_pairs a b) starts_listed);
     in_order = climbs_in_order 0 p.edges (climbs_pairs 0 pairs (λ i x is. let e : i ≡ 0 + i = omega arith in place_is same_pair pair_tells pairs (pairs_differ a b pairs listed) i x is ∙ e));
     edges = each_there (IsEdgeOf p) p.edges edge_formed;
-    formula = sets (a.sets + b.sets) a.formula (shift a.sets b.formula) (sets_weaker a.sets (a.sets + b.sets) (omega arith) a.formula formed.formula) (sets_shift a.sets b.sets (a.sets + b.sets) (omega arith) b.formula also.formula);
+    formula = sets (a.sets + b.sets) a.formula (shift a.sets b.formula) (sets_weaker a.sets (a.sets + b.sets) (omega arith) a.formula formed.formula)
+        (sets_shift a.sets b.sets (a.sets + b.sets) (omega arith) b.formula also.formula);
   }

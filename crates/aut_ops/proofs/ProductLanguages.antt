@@ -31,7 +31,8 @@ module _ (a b : Automaton) (names : b.names ≡ a.names) (formed : IsWellFormed 
       let at = join_runs conj a b names formed also pairs listed u v r.turns r.rounds s.turns s.rounds (run_of a u v r) (run_of b u v s) r.positive s.positive in
       let cycle = marks_of at.joint.run.cycle in
       accepts_of all u v at.turns at.rounds at.joint.run r.endless at.positive
-      (met-conj cycle a.formula (shift a.sets b.formula) ∙ and_from (met cycle a.formula) (met cycle (shift a.sets b.formula)) (at.joint.first a.formula formed.formula ∙ r.meets) (at.joint.second b.formula also.formula ∙ s.meets))
+      (met-conj cycle a.formula (shift a.sets b.formula)
+      ∙ and_from (met cycle a.formula) (met cycle (shift a.sets b.formula)) (at.joint.first a.formula formed.formula ∙ r.meets) (at.joint.second b.formula also.formula ∙ s.meets))
 
   pub product_accepts : AcceptsBoth all a b
   product_accepts u v = (from_all u v, λ both. to_all u v both.0 both.1)

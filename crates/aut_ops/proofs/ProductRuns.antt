@@ -30,7 +30,8 @@ pub record JointRun (a b p : Automaton) (u v : List NameSet) (turns rounds : ℕ
   pub first : (f : FormulaTree) → SetsBelow a.sets f → met (marks_of run.cycle) f ≡ met (marks_of firsts) f
   pub second : (f : FormulaTree) → SetsBelow b.sets f → met (marks_of run.cycle) (shift a.sets f) ≡ met (marks_of seconds) f
 
-module _ (join : FormulaTree → FormulaTree → FormulaTree) (a b : Automaton) (names : b.names ≡ a.names) (formed : IsWellFormed a) (also : IsWellFormed b) (pairs : List (ℕ × ℕ)) (listed : ArePairs a b pairs) where
+module _ (join : FormulaTree → FormulaTree → FormulaTree) (a b : Automaton) (names : b.names ≡ a.names) (formed : IsWellFormed a) (also : IsWellFormed b) (pairs : List (ℕ × ℕ))
+    (listed : ArePairs a b pairs) where
   abbrev p : Automaton
   p = product_on join pairs a b
 
@@ -44,9 +45,11 @@ module _ (join : FormulaTree → FormulaTree → FormulaTree) (a b : Automaton) 
   second_below e there = subst (λ (ns : List (List ℕ)). AllBelow (length ns) e.label) names (edge_of_second e there).label
 
   -- both labels hold
-  both_hold : (x : NameSet) (d e : TreeEdge) → Contains a.edges d → Contains b.edges e → truth (holds_at a.names x) (both_labels (length a.names) d.label e.label) ≡ (truth (holds_at a.names x) d.label && truth (holds_at b.names x) e.label)
+  both_hold : (x : NameSet) (d e : TreeEdge) → Contains a.edges d → Contains b.edges e
+      → truth (holds_at a.names x) (both_labels (length a.names) d.label e.label) ≡ (truth (holds_at a.names x) d.label && truth (holds_at b.names x) e.label)
   both_hold x d e one two =
-      truth_both (length a.names) (holds_at a.names x) d.label e.label (edge_of_first d one).label (second_below e two) ∙ ap (λ ns. truth (holds_at a.names x) d.label && truth (holds_at ns x) e.label) (sym names)
+      truth_both (length a.names) (holds_at a.names x) d.label e.label (edge_of_first d one).label (second_below e two)
+      ∙ ap (λ ns. truth (holds_at a.names x) d.label && truth (holds_at ns x) e.label) (sym names)
 
   -- the product follows each of the two
 
@@ -62,7 +65,8 @@ module _ (join : FormulaTree → FormulaTree → FormulaTree) (a b : Automaton) 
     step = λ k q e x stands at there holds.
         let of = edge_of a b pairs listed e there in
         let same : (q, stands.0) ≡ (of.first.from, of.second.from) = same_Some (q, stands.0) (of.first.from, of.second.from) (sym stands.1 ∙ (ap (slice_get pairs) at ∙ of.from)) in
-        let both = and_parts (truth (holds_at a.names x) of.first.label) (truth (holds_at b.names x) of.second.label) (sym (both_hold x of.first of.second of.in_first of.in_second) ∙ (ap (λ (t : LabelTree). truth (holds_at a.names x) t) of.label ∙ holds)) in
+        let both = and_parts (truth (holds_at a.names x) of.first.label) (truth (holds_at b.names x) of.second.label) (sym (both_hold x of.first of.second of.in_first of.in_second)
+        ∙ (ap (λ (t : LabelTree). truth (holds_at a.names x) t) of.label ∙ holds)) in
         record {
           edge = of.first;
           from = ap (λ (y : ℕ × ℕ). y.0) same;
@@ -79,7 +83,8 @@ module _ (join : FormulaTree → FormulaTree → FormulaTree) (a b : Automaton) 
     step = λ k q e x stands at there holds.
         let of = edge_of a b pairs listed e there in
         let same : (stands.0, q) ≡ (of.first.from, of.second.from) = same_Some (stands.0, q) (of.first.from, of.second.from) (sym stands.1 ∙ (ap (slice_get pairs) at ∙ of.from)) in
-        let both = and_parts (truth (holds_at a.names x) of.first.label) (truth (holds_at b.names x) of.second.label) (sym (both_hold x of.first of.second of.in_first of.in_second) ∙ (ap (λ (t : LabelTree). truth (holds_at a.names x) t) of.label ∙ holds)) in
+        let both = and_parts (truth (holds_at a.names x) of.first.label) (truth (holds_at b.names x) of.second.label) (sym (both_hold x of.first of.second of.in_first of.in_second)
+        ∙ (ap (λ (t : LabelTree). truth (holds_at a.names x) t) of.label ∙ holds)) in
         record {
           edge = of.second;
           from = ap (λ (y : ℕ × ℕ). y.1) same;
@@ -112,15 +117,23 @@ module _ (join : FormulaTree → FormulaTree → FormulaTree) (a b : Automaton) 
   pair_path k s t s' t' (x ∷ xs) (e ∷ es) (f ∷ fs) at one two =
       let here = there_at k (s, t) at in
       let holds = both_hold x e f one.1 two.1 ∙ and_from (truth (holds_at a.names x) e.label) (truth (holds_at b.names x) f.label) one.2 two.2 in
-      let some = not_never (length a.names) (holds_at a.names x) (both_labels (length a.names) e.label f.label) (label_of_below (length a.names) (λ v. truth_on e.label v && truth_on f.label v)) holds in
+      let some = not_never (length a.names) (holds_at a.names x) (both_labels (length a.names) e.label f.label)
+      (label_of_below (length a.names) (λ v. truth_on e.label v && truth_on f.label v)) holds in
       let next = next_there a b pairs listed (s, t) e f here one.1 two.1 (sym one.0) (sym two.0) some in
       let edge : TreeEdge = numbered pairs (joined (length a.names) a.sets e f) in
       let rest = pair_path edge.to e.to f.to s' t' xs es fs (place_there same_pair pair_tells pairs (pairs_differ a b pairs listed) (e.to, f.to) next) one.3 two.3 in
-      let from : slice_get pairs edge.from ≡ Some (s, t) = place_there same_pair pair_tells pairs (pairs_differ a b pairs listed) (e.from, f.from) (subst (λ y. Contains pairs y) (λ i. (one.0 i, two.0 i)) here) ∙ (λ i. Some (sym one.0 i, sym two.0 i)) in
+      let from : slice_get pairs edge.from ≡ Some (s, t) = place_there same_pair pair_tells pairs (pairs_differ a b pairs listed) (e.from, f.from)
+      (subst (λ y. Contains pairs y) (λ i. (one.0 i, two.0 i)) here) ∙ (λ i. Some (sym one.0 i, sym two.0 i)) in
       record {
         state = rest.state;
         edges = edge ∷ rest.edges;
-        goes = (one_place same_pair pair_tells pairs (pairs_differ a b pairs listed) k edge.from (s, t) at from, edge_there a b pairs listed (s, t) e f here one.1 two.1 (sym one.0) (sym two.0) some, holds, rest.goes);
+        goes = (
+          one_place same_pair pair_tells pairs (pairs_differ a b pairs listed) k edge.from (s, t) at from,
+          edge_there a b pairs listed (s, t) e f here one.1 two.1 (sym one.0)
+              (sym two.0) some,
+          holds,
+          rest.goes,
+        );
         to = rest.to;
         firsts = (joint_first a.sets e.marks f.marks, rest.firsts);
         seconds = (joint_second a.sets b.sets e.marks f.marks (edge_of_first e one.1).marks, rest.seconds);

@@ -73,17 +73,21 @@ module _ (a : Automaton) (flags : List Bool) (begun : (p : ℕ) → Contains a.s
 
       made : Accepts a u v → Accepts new u v
       made r =
-          let to = run_image a new (λ p q. q ≡ rank flags p) (λ c d. d ≡ c) onwards u v r.turns r.rounds (run_of a u v r) (rank flags r.start) (there_map (rank flags) a.starts r.start r.is_start) refl in
+          let to = run_image a new (λ p q. q ≡ rank flags p) (λ c d. d ≡ c) onwards u v r.turns r.rounds (run_of a u v r) (rank flags r.start)
+          (there_map (rank flags) a.starts r.start r.is_start) refl in
           let same : marks_of to.run.cycle ≡ marks_of r.cycle = same_from_all_zip (λ c d. d ≡ c) (marks_of r.cycle) (marks_of to.run.cycle) to.marks (λ c d e. e) in
           accepts_of new u v r.turns r.rounds to.run r.endless r.positive (ap (λ cs. met cs a.formula) same ∙ r.meets)
 
   pub renumbered_formed : IsWellFormed a → IsWellFormed new
   renumbered_formed formed = record {
     names_differ = formed.names_differ;
-    starts_differ = pairs_map (λ p q. p ≢ q) (rank flags) a.starts (λ i j d less within same. formed.starts_differ i j d less within (rank_one flags _ _ (flagged i d (omega (arith, less, within))) (flagged j d within) same));
-    starts = All-map (λ p. p < rank flags a.states) (rank flags) a.starts (each_there (λ p. rank flags p < rank flags a.states) a.starts (λ p there. rank_less flags p a.states (begun p there) (All-contains (λ q. q < a.states) a.starts p formed.starts there)));
+    starts_differ = pairs_map (λ p q. p ≢ q) (rank flags) a.starts
+        (λ i j d less within same. formed.starts_differ i j d less within (rank_one flags _ _ (flagged i d (omega (arith, less, within))) (flagged j d within) same));
+    starts = All-map (λ p. p < rank flags a.states) (rank flags) a.starts
+        (each_there (λ p. rank flags p < rank flags a.states) a.starts (λ p there. rank_less flags p a.states (begun p there) (All-contains (λ q. q < a.states) a.starts p formed.starts there)));
     in_order = climbs_in_order (rank flags 0) new.edges (climbs_renumbered flags 0 a.edges (in_order_climbs 0 a.edges (λ k d within. omega arith) formed.in_order));
-    edges = All-map (IsEdgeOf new) (renumbered_edge flags) a.edges (each_there (λ e. IsEdgeOf new (renumbered_edge flags e)) a.edges (λ e there. edge_formed e there (All-contains (IsEdgeOf a) a.edges e formed.edges there)));
+    edges = All-map (IsEdgeOf new) (renumbered_edge flags) a.edges
+        (each_there (λ e. IsEdgeOf new (renumbered_edge flags e)) a.edges (λ e there. edge_formed e there (All-contains (IsEdgeOf a) a.edges e formed.edges there)));
     formula = formed.formula;
   }
     where

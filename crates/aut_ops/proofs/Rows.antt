@@ -11,10 +11,13 @@ use Rattle.aut_base.specs.Automaton.{TreeEdge}
 use Rattle.aut_core.specs.Surveys.{edges_from}
 
 pub own_row : (q : ℕ) (es : List TreeEdge) → AllFrom q es → edges_from q es ≡ es
-own_row q es own = all_kept (λ (e : TreeEdge). e.from == q) es (AllByRecursion-weaker (λ (e : TreeEdge). e.from ≡ q) (λ e. (e.from == q) ≡ true) es (λ e is. eq-eqb e.from q is) (recursion_from_All (λ (e : TreeEdge). e.from ≡ q) es own))
+own_row q es own = all_kept (λ (e : TreeEdge). e.from == q) es
+    (AllByRecursion-weaker (λ (e : TreeEdge). e.from ≡ q) (λ e. (e.from == q) ≡ true) es (λ e is. eq-eqb e.from q is) (recursion_from_All (λ (e : TreeEdge). e.from ≡ q) es own))
 
 pub other_row : (p q : ℕ) (es : List TreeEdge) → p ≢ q → AllFrom p es → edges_from q es ≡ []
-other_row p q es other own = none_kept (λ (e : TreeEdge). e.from == q) es (AllByRecursion-weaker (λ (e : TreeEdge). e.from ≡ p) (λ e. (e.from == q) ≡ false) es (λ e is. ne_eqb e.from q (λ same. other (sym is ∙ same))) (recursion_from_All (λ (e : TreeEdge). e.from ≡ p) es own))
+other_row p q es other own = none_kept (λ (e : TreeEdge). e.from == q) es
+    (AllByRecursion-weaker (λ (e : TreeEdge). e.from ≡ p) (λ e. (e.from == q) ≡ false) es (λ e is. ne_eqb e.from q (λ same. other (sym is ∙ same)))
+    (recursion_from_All (λ (e : TreeEdge). e.from ≡ p) es own))
 
 module _ (row : ℕ → List TreeEdge) (own : (q : ℕ) → AllFrom q (row q)) where
   pub rows_past : (i n q : ℕ) → q < i → edges_from q (flat_map row (range_with_len i n)) ≡ []

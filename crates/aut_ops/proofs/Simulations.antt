@@ -31,7 +31,8 @@ pub record Image (b : Automaton) (Stands : ℕ → ℕ → Type 0) (Marked : Lis
   pub to : Stands p' state
   pub marks : AllZip Marked (marks_of es) (marks_of edges)
 
-pub image : (a b : Automaton) (Stands : ℕ → ℕ → Type 0) (Marked : List ℕ → List ℕ → Type 0) → Simulates a b Stands Marked → (p q p' : ℕ) (xs : List NameSet) (es : List TreeEdge) → Stands p q → IsPath a p xs es p' → Image b Stands Marked q xs es p'
+pub image : (a b : Automaton) (Stands : ℕ → ℕ → Type 0) (Marked : List ℕ → List ℕ → Type 0) → Simulates a b Stands Marked → (p q p' : ℕ) (xs : List NameSet) (es : List TreeEdge) → Stands p q
+    → IsPath a p xs es p' → Image b Stands Marked q xs es p'
 image a b Stands Marked sim p q p' [] [] stands path = record { state = q; edges = []; goes = refl; to = subst (λ s. Stands s q) path stands; marks = tt }
 image a b Stands Marked sim p q p' [] (e ∷ es) stands path = absurd path
 image a b Stands Marked sim p q p' (x ∷ xs) [] stands path = absurd path
@@ -51,7 +52,8 @@ pub record RunImage (b : Automaton) (Marked : List ℕ → List ℕ → Type 0) 
   pub run : LassoRun b u v turns rounds
   pub marks : AllZip Marked (marks_of cycle) (marks_of run.cycle)
 
-pub run_image : (a b : Automaton) (Stands : ℕ → ℕ → Type 0) (Marked : List ℕ → List ℕ → Type 0) → Simulates a b Stands Marked → (u v : List NameSet) (turns rounds : ℕ) (r : LassoRun a u v turns rounds) (start : ℕ) → Contains b.starts start → Stands r.start start → RunImage b Marked u v turns rounds r.cycle
+pub run_image : (a b : Automaton) (Stands : ℕ → ℕ → Type 0) (Marked : List ℕ → List ℕ → Type 0) → Simulates a b Stands Marked
+    → (u v : List NameSet) (turns rounds : ℕ) (r : LassoRun a u v turns rounds) (start : ℕ) → Contains b.starts start → Stands r.start start → RunImage b Marked u v turns rounds r.cycle
 run_image a b Stands Marked sim u v turns rounds r start is_start stands =
     let way = image a b Stands Marked sim r.start start r.state (u ++ copies turns v) r.way stands r.leads in
     let cycle = image a b Stands Marked sim r.state way.state r.state (copies rounds v) r.cycle way.to r.returns in

@@ -25,14 +25,16 @@ use Rattle.aut_base.proofs.LassoRuns.{marks_of}
 use Rattle.aut_ops.specs.Completion.{is_met_unmarked, sink_marks, with_sink}
 
 -- each edge of a path is one of the automaton's
-pub path_marks : (a : Automaton) (P : List ℕ → Type 0) → ((e : TreeEdge) → Contains a.edges e → P e.marks) → (p q : ℕ) (xs : List NameSet) (es : List TreeEdge) → IsPath a p xs es q → All P (marks_of es)
+pub path_marks : (a : Automaton) (P : List ℕ → Type 0) → ((e : TreeEdge) → Contains a.edges e → P e.marks) → (p q : ℕ) (xs : List NameSet) (es : List TreeEdge) → IsPath a p xs es q
+    → All P (marks_of es)
 path_marks a P each p q [] [] path = λ k d within. absurd (omega (arith, within))
 path_marks a P each p q [] (e ∷ es) path = absurd path
 path_marks a P each p q (x ∷ xs) [] path = absurd path
 path_marks a P each p q (x ∷ xs) (e ∷ es) path = All-cons P e.marks (marks_of es) (each e path.1) (path_marks a P each e.to q xs es path.3)
 
 -- a path of an automaton is one of another over the same names that has its edges
-pub path_wider : (a b : Automaton) → a.names ≡ b.names → ((e : TreeEdge) → Contains a.edges e → Contains b.edges e) → (p q : ℕ) (xs : List NameSet) (es : List TreeEdge) → IsPath a p xs es q → IsPath b p xs es q
+pub path_wider : (a b : Automaton) → a.names ≡ b.names → ((e : TreeEdge) → Contains a.edges e → Contains b.edges e) → (p q : ℕ) (xs : List NameSet) (es : List TreeEdge) → IsPath a p xs es q
+    → IsPath b p xs es q
 path_wider a b names has p q [] [] path = path
 path_wider a b names has p q [] (e ∷ es) path = absurd path
 path_wider a b names has p q (x ∷ xs) [] path = absurd path
@@ -110,7 +112,8 @@ module _ (a : Automaton) (formed : IsWellFormed a) where
   unmarked : (cycle : List (List ℕ)) → All (λ marks. All (λ m. m < a.sets) marks) cycle → list_all (λ marks. not (is_in a.sets marks)) cycle ≡ true
   unmarked [] within = refl
   unmarked (marks ∷ cycle) within =
-      and_from (not (is_in a.sets marks)) (list_all (λ ms. not (is_in a.sets ms)) cycle) (ap not (not_in_past a.sets a.sets marks (omega arith) (All-head (λ ms. All (λ m. m < a.sets) ms) marks cycle within)))
+      and_from (not (is_in a.sets marks)) (list_all (λ ms. not (is_in a.sets ms)) cycle)
+      (ap not (not_in_past a.sets a.sets marks (omega arith) (All-head (λ ms. All (λ m. m < a.sets) ms) marks cycle within)))
       (unmarked cycle (All-tail (λ ms. All (λ m. m < a.sets) ms) marks cycle within))
 
   met_new : (b : Bool) (cycle : List (List ℕ)) → All (λ marks. All (λ m. m < a.sets) marks) cycle → met cycle a.formula ≡ true → met cycle (condition b) ≡ true
@@ -179,7 +182,8 @@ module _ (a : Automaton) (formed : IsWellFormed a) where
     leads = path_wider a c refl (old_there a formed) r.start r.state (u ++ copies r.turns v) r.way r.leads;
     positive = r.positive;
     returns = path_wider a c refl (old_there a formed) r.state r.state (copies r.rounds v) r.cycle r.returns;
-    meets = met_new (is_met_unmarked a.formula) (marks_of r.cycle) (path_marks a (All (λ m. m < a.sets)) (λ e there. (All-contains (IsEdgeOf a) a.edges e formed.edges there).marks) r.state r.state (copies r.rounds v) r.cycle r.returns) r.meets;
+    meets = met_new (is_met_unmarked a.formula) (marks_of r.cycle)
+        (path_marks a (All (λ m. m < a.sets)) (λ e there. (All-contains (IsEdgeOf a) a.edges e formed.edges there).marks) r.state r.state (copies r.rounds v) r.cycle r.returns) r.meets;
   }
 
   pub sink_keeps_language : AcceptTheSame c a

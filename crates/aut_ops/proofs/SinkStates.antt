@@ -123,7 +123,8 @@ module _ (a : Automaton) (formed : IsWellFormed a) where
       row_apart : IsDeterministic a → (q : ℕ) → AllPairs (AreApart a.names) (row q)
       row_apart is q i j d less within =
           let own = edges_own q a.edges in
-          AllPairs-filter (λ d e. d.from ≡ e.from → AreApart a.names d e) (λ (e : TreeEdge). e.from == q) a.edges is.edges i j d less within (own i d (omega (arith, less, within)) ∙ sym (own j d within))
+          AllPairs-filter (λ d e. d.from ≡ e.from → AreApart a.names d e) (λ (e : TreeEdge). e.from == q) a.edges is.edges i j d less within
+          (own i d (omega (arith, less, within)) ∙ sym (own j d within))
 
   few_starts : (b : Bool) → length a.starts ≤ 1 → length (cond b (a.states ∷ []) a.starts) ≤ 1
   few_starts true few = omega arith

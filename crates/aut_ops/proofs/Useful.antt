@@ -42,7 +42,8 @@ turned_back arcs p q reaches = subst (λ ls. Reaches ls p q) (turned_twice arcs)
 
 -- both ends of the arcs stay nodes
 pub turned_nodes : (nodes : ℕ) (arcs : List (ℕ × ℕ)) → All (λ a. (a.0 < nodes) × (a.1 < nodes)) arcs → All (λ a. (a.0 < nodes) × (a.1 < nodes)) (map turned_arc arcs)
-turned_nodes nodes arcs within = All-map (λ (a : ℕ × ℕ). (a.0 < nodes) × (a.1 < nodes)) turned_arc arcs (All-weaker (λ (a : ℕ × ℕ). (a.0 < nodes) × (a.1 < nodes)) (λ (a : ℕ × ℕ). (a.1 < nodes) × (a.0 < nodes)) (λ a both. (both.1, both.0)) arcs within)
+turned_nodes nodes arcs within = All-map (λ (a : ℕ × ℕ). (a.0 < nodes) × (a.1 < nodes)) turned_arc arcs
+    (All-weaker (λ (a : ℕ × ℕ). (a.0 < nodes) × (a.1 < nodes)) (λ (a : ℕ × ℕ). (a.1 < nodes) × (a.0 < nodes)) (λ a both. (both.1, both.0)) arcs within)
 
 -- an edge in set 0 that a path goes
 pub record GoesMarked (a : Automaton) (p q : ℕ) : Type 0 where
@@ -115,18 +116,23 @@ module _ (c : Core) (core : IsCore c) (numbers : List ℕ) (are : AreComponents 
       let same = eq-eqb (new_number numbers l.from) (new_number numbers l.to) ((are.same l.from l.to link.from link.to).1 (forth, back)) in
       let marked : is_in 0 l.marks ≡ true = ap (λ (d : TreeEdge). is_in 0 d.marks) found.2 ∙ on.marked in
       let passable : link_passable c l ≡ true = ap (is_passable (length c.names)) found.2 ∙ passes.1 in
-      let closes = and_from (link_passable c l) (is_in 0 l.marks && nat_eq (new_number numbers l.from) (new_number numbers l.to)) passable (and_from (is_in 0 l.marks) (nat_eq (new_number numbers l.from) (new_number numbers l.to)) marked same) in
-      subst (Contains (map (λ (m : Link). m.from) (filter (link_closes c numbers) c.links))) from (there_map (λ (m : Link). m.from) (filter (link_closes c numbers) c.links) l (there_filter (link_closes c numbers) c.links l found.1 closes))
+      let closes = and_from (link_passable c l) (is_in 0 l.marks && nat_eq (new_number numbers l.from) (new_number numbers l.to)) passable
+      (and_from (is_in 0 l.marks) (nat_eq (new_number numbers l.from) (new_number numbers l.to)) marked same) in
+      subst (Contains (map (λ (m : Link). m.from) (filter (link_closes c numbers) c.links))) from
+      (there_map (λ (m : Link). m.from) (filter (link_closes c numbers) c.links) l (there_filter (link_closes c numbers) c.links l found.1 closes))
 
   -- the states found by both searches are the useful ones
-  pub found_useful : (sources : List ℕ) (reached leading flags : List Bool) → sources ≡ map (λ (l : Link). l.from) (filter (link_closes c numbers) c.links) → AreReached c.states (passable_arcs a) c.starts reached → AreReached c.states (map turned_arc (passable_arcs a)) sources leading → flags ≡ both_flagged reached leading → AreUseful a flags
+  pub found_useful : (sources : List ℕ) (reached leading flags : List Bool) → sources ≡ map (λ (l : Link). l.from) (filter (link_closes c numbers) c.links)
+      → AreReached c.states (passable_arcs a) c.starts reached → AreReached c.states (map turned_arc (passable_arcs a)) sources leading → flags ≡ both_flagged reached leading → AreUseful a flags
   found_useful sources reached leading flags sources_are first second is = record {
-    size = ap (λ (fs : List Bool). length fs) is ∙ (length-map (range_with_len 0 (length reached)) (λ k. is_flagged reached k && is_flagged leading k) ∙ (length-range_with_len 0 (length reached) ∙ first.size));
+    size = ap (λ (fs : List Bool). length fs) is
+        ∙ (length-map (range_with_len 0 (length reached)) (λ k. is_flagged reached k && is_flagged leading k) ∙ (length-range_with_len 0 (length reached) ∙ first.size));
     exact = λ q within. (there q within, back q within);
   }
     where
       flag_is : (q : ℕ) → q < c.states → is_flagged flags q ≡ (is_flagged reached q && is_flagged leading q)
-      flag_is q within = ap (λ fs. is_flagged fs q) is ∙ get_or-map-range_with_len (λ k. is_flagged reached k && is_flagged leading k) 0 (length reached) q q false (omega (arith, within, first.size)) (omega arith)
+      flag_is q within = ap (λ fs. is_flagged fs q) is
+          ∙ get_or-map-range_with_len (λ k. is_flagged reached k && is_flagged leading k) 0 (length reached) q q false (omega (arith, within, first.size)) (omega arith)
 
       there : (q : ℕ) → q < c.states → IsTrue (is_flagged flags q) → IsUseful a q
       there q within flag =

@@ -18,6 +18,7 @@ pub struct ReachedSize {
     pub edges: usize,
 }
 
+// Why so: 'Figures are counted and not made' in docs/DECISIONS.md.
 /// How many states and edges a trimmed automaton has. It isn't made.
 pub fn reached_size(alloc: Global, a: &Automaton) -> Result<ReachedSize, Memory>
     ensures { IfOk result (IsReachedSize (automaton_of a.now)) }

@@ -34,7 +34,8 @@ nothing_noted a = (nothing a.written, refl)
 -- ---- the operands before the streams
 
 -- what is said of a session that was prepared, of what was read
-of_prepared : (R : Plan → List Automaton → ℕ → Type 0) (plan : Plan) (ready : Session) (s m : Seen) (k l : SinkSeen) (noting : Bool) → (h : HasPrepared plan ready s m k l noting) → R ready.plan (operands_in ready) ready.skipped
+of_prepared : (R : Plan → List Automaton → ℕ → Type 0) (plan : Plan) (ready : Session) (s m : Seen) (k l : SinkSeen) (noting : Bool) → (h : HasPrepared plan ready s m k l noting)
+    → R ready.plan (operands_in ready) ready.skipped
     → R plan (operands_of h.taken) (length (all_passed h.taken))
 of_prepared R plan ready s m k l noting h r =
     subst (λ (n : ℕ). R plan (operands_of h.taken) n) h.skipped
@@ -63,7 +64,8 @@ goes_over plan ready e events name s m t o q k l noting h runs = record {
 }
 
 -- a run over the inputs
-pub ends_by : (words : List (List ℕ)) (result : Ended) (plan : Plan) (ready : Session) (e : End) (s m t : Seen) (o q k l j : SinkSeen) (noting : Bool) → result ≡ ended_of e → IsPlan words plan → plan.made ≡ None → IsPrepared plan ready s m k l noting
+pub ends_by : (words : List (List ℕ)) (result : Ended) (plan : Plan) (ready : Session) (e : End) (s m t : Seen) (o q k l j : SinkSeen) (noting : Bool) → result ≡ ended_of e
+    → IsPlan words plan → plan.made ≡ None → IsPrepared plan ready s m k l noting
     → Carries ready noting e m t o q l j → EndsBy words result s t o q k j
 ends_by words result plan ready e s m t o q k l j noting is asks made h c =
     let runs = of_prepared (λ x ops n. Runs x ops n ready.lexer.taken e c.events c.name m t o q) plan ready s m k l noting h.prepared c.runs in
@@ -80,7 +82,8 @@ ends_by words result plan ready e s m t o q k l j noting is asks made h c =
     }
 
 -- a run over the generated stream
-pub ends_made : (words : List (List ℕ)) (result : Ended) (plan : Plan) (ready : Session) (n : ℕ) (e : End) (s m a t : Seen) (o q k l j : SinkSeen) (noting : Bool) → result ≡ ended_of e → IsPlan words plan → plan.made ≡ Some n
+pub ends_made : (words : List (List ℕ)) (result : Ended) (plan : Plan) (ready : Session) (n : ℕ) (e : End) (s m a t : Seen) (o q k l j : SinkSeen) (noting : Bool) → result ≡ ended_of e
+    → IsPlan words plan → plan.made ≡ Some n
     → a ≡ seen_of_made (record { count = n; left = [] }) → IsPrepared plan ready s m k l noting → Carries ready noting e a t o q l j → EndsBy words result s m o q k j
 ends_made words result plan ready n e s m a t o q k l j noting is asks made first h c =
     let runs = of_prepared (λ x ops n. Runs x ops n ready.lexer.taken e c.events c.name a t o q) plan ready s m k l noting h.prepared c.runs in
@@ -102,7 +105,8 @@ ends_made words result plan ready n e s m a t o q k l j noting is asks made firs
     }
 
 -- a fault while operands were read
-pub ends_failed : (words : List (List ℕ)) (result : Ended) (plan : Plan) (e : End) (s m : Seen) (o k j : SinkSeen) → result ≡ ended_of e → IsPlan words plan → FailsPreparing plan e s m k j → EndsBy words result s m o o k j
+pub ends_failed : (words : List (List ℕ)) (result : Ended) (plan : Plan) (e : End) (s m : Seen) (o k j : SinkSeen) → result ≡ ended_of e → IsPlan words plan → FailsPreparing plan e s m k j
+    → EndsBy words result s m o o k j
 ends_failed words result plan e s m o k j is asks h = record {
   end = e;
   shown = is;
@@ -116,7 +120,8 @@ ends_failed words result plan e s m o k j is asks h = record {
 
 -- ---- before a plan is known
 
-pub ends_refused : (words : List (List ℕ)) (result : Ended) (e : End) (s t : Seen) (o q k j : SinkSeen) → result ≡ ended_of e → e ≡ end.Usage → AreRefused words → Notes (line_of end.Usage []) k j → EndsBy words result s t o q k j
+pub ends_refused : (words : List (List ℕ)) (result : Ended) (e : End) (s t : Seen) (o q k j : SinkSeen) → result ≡ ended_of e → e ≡ end.Usage → AreRefused words
+    → Notes (line_of end.Usage []) k j → EndsBy words result s t o q k j
 ends_refused words result e s t o q k j is usage refused n = record {
   end = e;
   shown = is;
@@ -139,7 +144,8 @@ wanting plan s o = record {
   output = refl;
 }
 
-pub ends_wanting : (words : List (List ℕ)) (result : Ended) (e : End) (s : Seen) (o k j : SinkSeen) → result ≡ ended_of e → e ≡ end.Fault fault.Memory → Notes (line_of (end.Fault fault.Memory) []) k j → EndsBy words result s s o o k j
+pub ends_wanting : (words : List (List ℕ)) (result : Ended) (e : End) (s : Seen) (o k j : SinkSeen) → result ≡ ended_of e → e ≡ end.Fault fault.Memory
+    → Notes (line_of (end.Fault fault.Memory) []) k j → EndsBy words result s s o o k j
 ends_wanting words result e s o k j is memory n = record {
   end = e;
   shown = is;

@@ -1,5 +1,6 @@
 -- Runs that a fault ends, and runs that read all.
-use Rattle.std.proofs.Common.{◌≡◌, ◌≢◌, ℕ, ◌+◌, ◌≤◌, ◌==◌, Bool, true, false, not, ◌&&◌, ◌||◌, if◌then◌else◌, List, [], ◌∷◌, ◌++◌, length, take, drop, Option, Some, None, Err, refl, sym, ap, ◌∙◌, subst, inl, inr, append_assoc, append-nil, arith}
+use Rattle.std.proofs.Common.{◌≡◌, ◌≢◌, ℕ, ◌+◌, ◌≤◌, ◌==◌, Bool, true, false, not, ◌&&◌, ◌||◌, if◌then◌else◌, List, [], ◌∷◌, ◌++◌, length, take, drop}
+use Rattle.std.proofs.Common.{Option, Some, None, Err, refl, sym, ap, ◌∙◌, subst, inl, inr, append_assoc, append-nil, arith}
 use Rattle.std.proofs.lemmas.Bool.{false≢true}
 use Rattle.std.proofs.lemmas.List.{drop_all}
 use Rattle.aut_base.proofs.AllByRecursion.{AllByRecursion-push}
@@ -80,7 +81,8 @@ fault_in e = ap fault_or_memory e
     fault_or_memory (end.Fault f) = f
     fault_or_memory _ = fault.Memory
 
-run_halted : (f : RunFault) → f ≢ fault.WriteFault → (name : List ℕ) (fresh old : Session) (s m t : Seen) (o p q k l j : SinkSeen) (first noting : Bool) → HasRun fresh old s m o p k l first noting → HaltsAt f old name m t p q
+run_halted : (f : RunFault) → f ≢ fault.WriteFault → (name : List ℕ) (fresh old : Session) (s m t : Seen) (o p q k l j : SinkSeen) (first noting : Bool)
+    → HasRun fresh old s m o p k l first noting → HaltsAt f old name m t p q
     → Closes (line_of (end.Fault f) name) noting l j → Carries fresh first (end.Fault f) s t o q k j
 run_halted f other name fresh old s m t o p q k l j first noting h at closes = record {
   events = h.events;
@@ -106,7 +108,8 @@ run_halted f other name fresh old s m t o p q k l j first noting h at closes = r
 
 -- ---- a fault of the stream that is open
 
-counted_at : (f : RunFault) (old new : Session) (m t : Seen) (at : Point) → StepsAs old new → old.is_open ≡ true → StandsAt old m.left at → Moves (stop_of_fault f) old.lexer new.lexer m t → IsCounted f at t.left
+counted_at : (f : RunFault) (old new : Session) (m t : Seen) (at : Point) → StepsAs old new → old.is_open ≡ true → StandsAt old m.left at → Moves (stop_of_fault f) old.lexer new.lexer m t
+    → IsCounted f at t.left
 counted_at f old new m t at steady opened_so stands moves =
     let same = stream_counted old new m t at (stop_of_fault f) stands.at opened_so moves in
     record {
@@ -124,10 +127,12 @@ reading_halts f R name old new m t p q steady stops h at stands = (
 
 -- the same where the line about the fault has a name
 named_halts : (f : RunFault) (name : List ℕ) (old new : Session) (m t : Seen) (p q : SinkSeen) → StepsAs old new → name ≡ name_in new
-    → ((at : Point) → AtNamed (Asks old at) at name t.left (StopsAt (over_of old) f) → Stops old.plan (operands_in old) f name at t.left) → Reads (stop_of_fault f) (StopsAt (over_of old) f old.lexer.since) old new m t p q
+    → ((at : Point) → AtNamed (Asks old at) at name t.left (StopsAt (over_of old) f) → Stops old.plan (operands_in old) f name at t.left)
+    → Reads (stop_of_fault f) (StopsAt (over_of old) f old.lexer.since) old new m t p q
     → (at : Point) → StandsAt old m.left at → Halts f old.plan (operands_in old) name t.left at
 named_halts f name old new m t p q steady is stops h at stands = (
-  stops at (stops_named (Asks old at) (StopsAt (over_of old) f) old m t at name (is ∙ name_as old new steady.plan h.in_hand) stands.at h.reading.is_open (asks_at old m.left at stands h.reading.asks) h.read),
+  stops at (stops_named (Asks old at) (StopsAt (over_of old) f) old m t at name (is ∙ name_as old new steady.plan h.in_hand) stands.at h.reading.is_open
+      (asks_at old m.left at stands h.reading.asks) h.read),
   counted_at f old new m t at steady h.reading.is_open stands h.moves,
 )
 
@@ -146,7 +151,8 @@ calm_halt f name old new m t p q steady is calm stops prints causes h = record {
 }
 
 -- where a limit is passed, the run stands in the file whose name is in hand
-limit_stops : (which : Limit) (name : List ℕ) (old : Session) (t : Seen) (at : Point) → AtNamed (Asks old at) at name t.left (StopsAt (over_of old) (fault.Limit which)) → Stops old.plan (operands_in old) (fault.Limit which) name at t.left
+limit_stops : (which : Limit) (name : List ℕ) (old : Session) (t : Seen) (at : Point) → AtNamed (Asks old at) at name t.left (StopsAt (over_of old) (fault.Limit which))
+    → Stops old.plan (operands_in old) (fault.Limit which) name at t.left
 limit_stops which name old t at h = h
 
 -- ---- a text that is not opened
@@ -160,7 +166,10 @@ unopened_counted f old left left' at stands closed_so stop = record {
 unopened : (name : List ℕ) (old new : Session) (m t : Seen) (p q : SinkSeen) → (h : Tries (Err opening.Failed) old new m t p q) → name ≡ h.name → HaltsAt fault.CannotOpen old name m t p q
 unopened name old new m t p q h same = record {
   halts = λ texts told at stands. (
-    (subst (WantsStream (Asks old at) at) (sym same) (wants_stream (Asks old at) old m.left at h.name stands h.opening (asks_at old m.left at stands h.opening.asks)), untold_closed m.texts t.left texts told h.opens.closed),
+    (
+      subst (WantsStream (Asks old at) at) (sym same) (wants_stream (Asks old at) old m.left at h.name stands h.opening (asks_at old m.left at stands h.opening.asks)),
+      untold_closed m.texts t.left texts told h.opens.closed,
+    ),
     unopened_counted fault.CannotOpen old m.left t.left at stands h.opening.is_closed refl,
   );
   output = h.output;
@@ -175,7 +184,8 @@ unopened name old new m t p q h same = record {
 
 -- ---- want of memory
 
-opening_lacks : (old : Session) (m t : Seen) (name : List ℕ) (texts : Texts) (at : Point) → m.texts ≡ Some texts → StandsAt old m.left at → WantsStream (Asks old at) at name → OpensNext m name (Err opening.Memory) t
+opening_lacks : (old : Session) (m t : Seen) (name : List ℕ) (texts : Texts) (at : Point) → m.texts ≡ Some texts → StandsAt old m.left at → WantsStream (Asks old at) at name
+    → OpensNext m name (Err opening.Memory) t
     → LacksMemory (Asks old at) at t.left
 opening_lacks old m t name texts at told stands wants (inl same) = inl (ap (λ (x : Seen). x.left) same ∙ sym stands.at.left_is)
 opening_lacks old m t name texts at told stands wants (inr h) = inr (inl (name, wants, untold_closed m.texts t.left texts told h.closed))
@@ -213,7 +223,8 @@ lacking name old new m t p q steady (inr h) = record {
 
 -- ---- every fault but that of a write
 
-halted : (f : RunFault) (name : List ℕ) (old new : Session) (m t : Seen) (p q : SinkSeen) → f ≢ fault.WriteFault → StepsAs old new → Fails f old new m t p q → name ≡ name_in new → HaltsAt f old name m t p q
+halted : (f : RunFault) (name : List ℕ) (old new : Session) (m t : Seen) (p q : SinkSeen) → f ≢ fault.WriteFault → StepsAs old new → Fails f old new m t p q → name ≡ name_in new
+    → HaltsAt f old name m t p q
 halted fault.WriteFault name old new m t p q n steady h is = absurd (n refl)
 halted fault.CannotOpen name old new m t p q n steady h is = unopened name old new m t p q h (is ∙ h.in_hand)
 halted fault.Memory name old new m t p q n steady h is = lacking name old new m t p q steady h
@@ -242,7 +253,8 @@ never_both p counts each = by p.count p.quiet counts each
     by false true h k = false≢true h
     by false false h k = false≢true h
 
-broken_off : (plan : Plan) → prints_each plan ≡ true → (events : List Event) (w : Written) (text : List ℕ) (a b c : Option (List ℕ)) → Gains a b (all_written events) → GainsPrefix b c text → BreaksOff plan (events ++ Kept w text ∷ []) a c
+broken_off : (plan : Plan) → prints_each plan ≡ true → (events : List Event) (w : Written) (text : List ℕ) (a b c : Option (List ℕ)) → Gains a b (all_written events) → GainsPrefix b c text
+    → BreaksOff plan (events ++ Kept w text ∷ []) a c
 broken_off plan on events w text None b c h p =
     let q : c ≡ None = subst (λ (x : Option (List ℕ)). GainsPrefix x c text) h p in
     record { prints = on; earlier = events; automaton = w; text = text; all = refl; part = 0; gains = q }
@@ -257,9 +269,11 @@ record IsLast (w : Written) (t : Seen) (at : Point) : Type 0 where
   left : t.left ≡ point.left
   counted : IsCounted fault.WriteFault point t.left
 
-last_of : (old new : Session) (m t : Seen) (p q : SinkSeen) → StepsAs old new → new.is_open ≡ old.is_open → (h : KeepsInPart old new m t p q) → (at : Point) → StandsAt old m.left at → IsLast h.automaton t at
+last_of : (old new : Session) (m t : Seen) (p q : SinkSeen) → StepsAs old new → new.is_open ≡ old.is_open → (h : KeepsInPart old new m t p q) → (at : Point) → StandsAt old m.left at
+    → IsLast h.automaton t at
 last_of old new m t p q steady same h at stands =
-    let on = reads_on (λ start rest next. IsGood start rest h.automaton next) old new m t at Elsewhere stands.at h.reading.is_open (same ∙ h.reading.is_open) h.read h.moves (keeps_on old new steady h.in_hand) in
+    let on = reads_on (λ start rest next. IsGood start rest h.automaton next) old new m t at Elsewhere stands.at h.reading.is_open (same ∙ h.reading.is_open) h.read h.moves
+    (keeps_on old new steady h.in_hand) in
     let r = on.goes in
     let point = read_on at r.stream r.next (at.kept + 1) in
     let left : t.left ≡ Some r.next = sym on.at.left_is ∙ ap (λ (x : Point). x.left) r.to in
@@ -271,7 +285,8 @@ last_of old new m t p q steady same h at stands =
       counted = record { few = subst (λ (n : ℕ). n ≤ MOST_BYTES) (sym here) r.few; within = tt };
     }
 
-write_failed : (fresh old new : Session) (s m t : Seen) (o p q k l j : SinkSeen) (first noting : Bool) (name : List ℕ) → StepsAs old new → new.is_open ≡ old.is_open → HasRun fresh old s m o p k l first noting → KeepsInPart old new m t p q
+write_failed : (fresh old new : Session) (s m t : Seen) (o p q k l j : SinkSeen) (first noting : Bool) (name : List ℕ) → StepsAs old new → new.is_open ≡ old.is_open
+    → HasRun fresh old s m o p k l first noting → KeepsInPart old new m t p q
     → Closes (line_of (end.Fault fault.WriteFault) name) noting l j → Carries fresh first (end.Fault fault.WriteFault) s t o q k j
 write_failed fresh old new s m t o p q k l j first noting name steady same h part closes =
     let line = line_of (end.Fault fault.WriteFault) name in
@@ -281,13 +296,15 @@ write_failed fresh old new s m t o p q k l j first noting name steady same h par
       events = h.events ++ event ∷ [];
       name = name;
       runs = record {
-        judged = AllByRecursion-push (IsJudged fresh.plan (operands_in fresh)) h.events event h.judged (of_fresh (λ x ops. IsJudged x ops (Kept part.automaton part.text)) fresh old h.same_plan h.same_operands (part.kept, part.due));
+        judged = AllByRecursion-push (IsJudged fresh.plan (operands_in fresh)) h.events event h.judged
+            (of_fresh (λ x ops. IsJudged x ops (Kept part.automaton part.text)) fresh old h.same_plan h.same_operands (part.kept, part.due));
         happened = λ texts told.
             let r = h.happened texts told in
             let x = last_of old new m t p q steady same part r.point r.stands in
             record {
               point = x.point;
-              happen = happen_push fresh.plan texts h.events event (start_of (streams_of fresh.plan) s.left fresh.lexer.taken) r.point x.point r.happen (asks_of fresh old m.left r.point h.same_plan r.stands part.reading.asks) x.goes;
+              happen = happen_push fresh.plan texts h.events event (start_of (streams_of fresh.plan) s.left fresh.lexer.taken) r.point x.point r.happen
+                  (asks_of fresh old m.left r.point h.same_plan r.stands part.reading.asks) x.goes;
               ends = (x.left, x.counted);
               numbered = λ is counts. absurd (never_both fresh.plan counts on);
             };
@@ -295,13 +312,15 @@ write_failed fresh old new s m t o p q k l j first noting name steady same h par
         prints = inl (broken_off fresh.plan on h.events part.automaton part.text o.written p.written q.written h.gains part.gains);
       };
       noted = λ sink text before.
-          notes_as sink j _ _ (ap (λ x. text ++ (x ++ line)) (sym (noted_push h.events event ∙ append-nil (all_noted h.events)))) (closed fresh old s m o p k l j first noting line h closes sink text before);
+          notes_as sink j _ _ (ap (λ x. text ++ (x ++ line)) (sym (noted_push h.events event ∙ append-nil (all_noted h.events))))
+          (closed fresh old s m o p k l j first noting line h closes sink text before);
       causes = (part.moves.opens ∙ h.calm.opens, part.moves.reads ∙ h.calm.reads, rose_from o.faults p.faults q.faults h.calm.writes part.writes);
       texts = part.moves.texts ∙ h.texts;
       asked = λ x. cc;
     }
 
-pub run_failed : (f : RunFault) (name : List ℕ) (fresh old new : Session) (s m t : Seen) (o p q k l j : SinkSeen) (first noting : Bool) → StepsAs old new → progress new ≡ progress old → HasRun fresh old s m o p k l first noting
+pub run_failed : (f : RunFault) (name : List ℕ) (fresh old new : Session) (s m t : Seen) (o p q k l j : SinkSeen) (first noting : Bool) → StepsAs old new → progress new ≡ progress old
+    → HasRun fresh old s m o p k l first noting
     → Fails f old new m t p q → name ≡ name_in new → Closes (line_of (end.Fault f) name) noting l j → Carries fresh first (end.Fault f) s t o q k j
 run_failed fault.WriteFault name fresh old new s m t o p q k l j first noting steady same h fails is closes =
     write_failed fresh old new s m t o p q k l j first noting name steady (parts_of new (progress old) same).is_open h fails closes
@@ -339,7 +358,8 @@ kept_alike a b (Skipped name ∷ es) e = kept_alike (counted a (Skipped name)) (
 kept_alike a b (Ended ∷ es) e = kept_alike a b es e
 
 -- what is written at the end
-count_of : (fresh old : Session) (events : List Event) → old.plan ≡ fresh.plan → tally_after fresh.skipped events ≡ record { kept = old.kept; skipped = old.skipped } → count_text old.plan old.kept ≡ count_text fresh.plan (tally events).kept
+count_of : (fresh old : Session) (events : List Event) → old.plan ≡ fresh.plan → tally_after fresh.skipped events ≡ record { kept = old.kept; skipped = old.skipped }
+    → count_text old.plan old.kept ≡ count_text fresh.plan (tally events).kept
 count_of fresh old events plan e =
     ap (λ (x : Plan). count_text x old.kept) plan ∙ ap (λ (x : Tally). count_text fresh.plan x.kept) (sym e)
     ∙ ap (count_text fresh.plan) (kept_alike (record { kept = 0; skipped = fresh.skipped }) (record { kept = 0; skipped = 0 }) events refl)
@@ -363,7 +383,8 @@ within_at (Some t) old left at is h few =
 
 -- a run that read all, whichever of its ends it has
 all_read : (e : End) (name : List ℕ) (fresh old : Session) (s m : Seen) (o p q k l j : SinkSeen) (first noting : Bool) → HasRun fresh old s m o p k l first noting → IsDoneWith old
-    → ((events : List Event) → e ≡ end_of (tally_after fresh.skipped events) → EndsByTally e fresh.skipped events) → ((at : Point) → IsDone fresh.plan at → m.left ≡ at.left → EndsAt fresh.plan (operands_in fresh) e name at m.left)
+    → ((events : List Event) → e ≡ end_of (tally_after fresh.skipped events) → EndsByTally e fresh.skipped events)
+    → ((at : Point) → IsDone fresh.plan at → m.left ≡ at.left → EndsAt fresh.plan (operands_in fresh) e name at m.left)
     → ((events : List Event) (a b : Option (List ℕ)) → Gains a b (all_written events ++ count_text fresh.plan (tally events).kept) → Prints fresh.plan e events a b)
     → (AreCalm s m o q → EndsBecause (ended_of e) s m o q) → (e ≢ end.Usage) → FinishesWell e (count_text old.plan old.kept) (record { kept = old.kept; skipped = old.skipped }) p q
     → Closes (line_of e name) noting l j → Carries fresh first e s m o q k j
@@ -374,10 +395,16 @@ all_read e name fresh old s m o p q k l j first noting h done tallied ends print
     judged = h.judged;
     happened = λ texts told.
         let r = h.happened texts told in
-        record { point = r.point; happen = r.happen; ends = ends r.point (subst (λ (x : Plan). IsDone x r.point) h.same_plan (done_at old m r.point r.stands done)) (sym r.stands.at.left_is); numbered = λ is counts. subst (λ (x : Plan). IsDone x r.point) h.same_plan (done_at old m r.point r.stands done) };
+        record {
+          point = r.point;
+          happen = r.happen;
+          ends = ends r.point (subst (λ (x : Plan). IsDone x r.point) h.same_plan (done_at old m r.point r.stands done)) (sym r.stands.at.left_is);
+          numbered = λ is counts. subst (λ (x : Plan). IsDone x r.point) h.same_plan (done_at old m r.point r.stands done);
+        };
     tallied = tallied h.events (f.end ∙ ap end_of (sym h.tallied));
     prints = prints h.events o.written q.written
-        (both o.written p.written q.written (all_written h.events) (count_text fresh.plan (tally h.events).kept) h.gains (gains_as p.written q.written _ _ (count_of fresh old h.events h.same_plan h.tallied) f.gains));
+        (both o.written p.written q.written (all_written h.events) (count_text fresh.plan (tally h.events).kept) h.gains
+        (gains_as p.written q.written _ _ (count_of fresh old h.events h.same_plan h.tallied) f.gains));
   };
   noted = closed fresh old s m o p k l j first noting (line_of e name) h closes;
   causes = because (record { opens = h.calm.opens; reads = h.calm.reads; writes = f.writes ∙ h.calm.writes });
@@ -404,7 +431,14 @@ count_failed name fresh old s m o p q k l j first noting h done counts gains ros
         judged = h.judged;
         happened = λ texts told.
             let r = h.happened texts told in
-            record { point = r.point; happen = r.happen; ends = (sym r.stands.at.left_is, record { few = within_at r.point.stream old m.left r.point refl r.stands.at.stream (taken_few old); within = tt }); numbered = λ is on. subst (λ (x : Plan). IsDone x r.point) h.same_plan (done_at old m r.point r.stands done) };
+            record {
+              point = r.point;
+              happen = r.happen;
+              ends =
+                  (sym r.stands.at.left_is, record { few = within_at r.point.stream old m.left r.point refl r.stands.at.stream (taken_few old); within = tt });
+              numbered =
+                  λ is on. subst (λ (x : Plan). IsDone x r.point) h.same_plan (done_at old m r.point r.stands done);
+            };
         tallied = tt;
         prints = inr (record { prints = subst (λ (x : Plan). prints_count x ≡ true) h.same_plan counts; part = part.0; gains = part.1 });
       };
@@ -415,9 +449,11 @@ count_failed name fresh old s m o p q k l j first noting h done counts gains ros
     }
 
 finished : (e : End) (name : List ℕ) (fresh old : Session) (s m : Seen) (o p q k l j : SinkSeen) (first noting : Bool) → HasRun fresh old s m o p k l first noting → IsDoneWith old
-    → (e ≡ end.Fault fault.WriteFault → prints_count old.plan ≡ true) → Finishes e (count_text old.plan old.kept) (record { kept = old.kept; skipped = old.skipped }) p q → Closes (line_of e name) noting l j → Carries fresh first e s m o q k j
+    → (e ≡ end.Fault fault.WriteFault → prints_count old.plan ≡ true) → Finishes e (count_text old.plan old.kept) (record { kept = old.kept; skipped = old.skipped }) p q
+    → Closes (line_of e name) noting l j → Carries fresh first e s m o q k j
 finished e name fresh old s m o p q k l j first noting h done due (inl f) closes =
-    let C : End → Type 0 = λ x. FinishesWell x (count_text old.plan old.kept) (record { kept = old.kept; skipped = old.skipped }) p q → Closes (line_of x name) noting l j → Carries fresh first x s m o q k j in
+    let C : End → Type 0 = λ x. FinishesWell x (count_text old.plan old.kept) (record { kept = old.kept; skipped = old.skipped }) p q → Closes (line_of x name) noting l j
+    → Carries fresh first x s m o q k j in
     subst C (sym f.end)
     (end_is C
     (λ g n. all_read end.Output name fresh old s m o p q k l j first noting h done (λ events x. x) (λ at d x. (d, x)) (λ events a b x. x) (λ x. x) (λ x. cc) g n)
@@ -428,8 +464,10 @@ finished e name fresh old s m o p q k l j first noting h done due (inr f) closes
     let C : End → Type 0 = λ x. Closes (line_of x name) noting l j → Carries fresh first x s m o q k j in
     subst C (sym f.end) (count_failed name fresh old s m o p q k l j first noting h done (due f.end) f.gains f.writes) closes
 
-pub run_finished : (e : End) (name : List ℕ) (fresh old : Session) (s m t : Seen) (o p r q k l j : SinkSeen) (first noting : Bool) → HasRun fresh old s m o p k l first noting → IsDoneWith old → IsStill m t p r
-    → (e ≡ end.Fault fault.WriteFault → prints_count old.plan ≡ true) → Finishes e (count_text old.plan old.kept) (record { kept = old.kept; skipped = old.skipped }) r q → Closes (line_of e name) noting l j → Carries fresh first e s t o q k j
+pub run_finished : (e : End) (name : List ℕ) (fresh old : Session) (s m t : Seen) (o p r q k l j : SinkSeen) (first noting : Bool) → HasRun fresh old s m o p k l first noting
+    → IsDoneWith old → IsStill m t p r
+    → (e ≡ end.Fault fault.WriteFault → prints_count old.plan ≡ true) → Finishes e (count_text old.plan old.kept) (record { kept = old.kept; skipped = old.skipped }) r q
+    → Closes (line_of e name) noting l j → Carries fresh first e s t o q k j
 run_finished e name fresh old s m t o p r q k l j first noting h done still due fin closes =
     let S : SinkSeen → Type 0 = λ x. Finishes e (count_text old.plan old.kept) (record { kept = old.kept; skipped = old.skipped }) x q in
     subst (λ (x : Seen). Carries fresh first e s x o q k j) (sym still.inputs) (finished e name fresh old s m o p q k l j first noting h done due (subst S still.output fin) closes)

@@ -28,7 +28,8 @@ line_is name about value =
     let back = codes "\n" in
     let sep = codes ": " in
     append_assoc (codes "autfilt: ") (name ++ (sep ++ about)) (value ++ back)
-    ∙ ap (λ x. codes "autfilt: " ++ x) (append_assoc name (sep ++ about) (value ++ back) ∙ ap (λ x. name ++ x) (append_assoc sep about (value ++ back) ∙ ap (λ x. sep ++ x) (sym (append_assoc about value back))))
+    ∙ ap (λ x. codes "autfilt: " ++ x) (append_assoc name (sep ++ about) (value ++ back)
+    ∙ ap (λ x. name ++ x) (append_assoc sep about (value ++ back) ∙ ap (λ x. sep ++ x) (sym (append_assoc about value back))))
 
 -- the same where a sign is written behind the word
 pub closed_line_is : (name about word : List ℕ) → (codes "autfilt: " ++ (name ++ (codes ": " ++ about))) ++ (word ++ codes ")\n") ≡ line_about name (about ++ (word ++ codes ")"))

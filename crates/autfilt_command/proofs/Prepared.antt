@@ -88,7 +88,8 @@ prepared_none s seen k is = record {
 }
 
 -- more was read, and noted
-more : (events : List OperandEvent) (plan : Plan) (old new : Session) (s m t : Seen) (k l j : SinkSeen) (noting noting' : Bool) → (h : HasPrepared plan old s m k l noting) → KeepsPlan old new → HasRead events old new m t
+more : (events : List OperandEvent) (plan : Plan) (old new : Session) (s m t : Seen) (k l j : SinkSeen) (noting noting' : Bool) → (h : HasPrepared plan old s m k l noting)
+    → KeepsPlan old new → HasRead events old new m t
     → new.skipped ≡ length (all_passed (h.taken ++ events)) → HasNoted (passed_noted (all_passed (h.taken ++ events))) noting' k j → HasPrepared plan new s t k j noting'
 more events plan old new s m t k l j noting noting' h keeps read skipped noted = record {
   taken = h.taken ++ events;
@@ -107,7 +108,8 @@ more events plan old new s m t k l j noting noting' h keeps read skipped noted =
 }
 
 -- one was passed over, and is noted
-pub prepared_skipped : (plan : Plan) (old new : Session) (s m t : Seen) (k l j : SinkSeen) (noting noting' : Bool) → HasPrepared plan old s m k l noting → KeepsPlan old new → HasSkipped old new m t → Adds (aborted_line (name_in new)) noting noting' l j
+pub prepared_skipped : (plan : Plan) (old new : Session) (s m t : Seen) (k l j : SinkSeen) (noting noting' : Bool) → HasPrepared plan old s m k l noting → KeepsPlan old new
+    → HasSkipped old new m t → Adds (aborted_line (name_in new)) noting noting' l j
     → HasPrepared plan new s t k j noting'
 prepared_skipped plan old new s m t k l j noting noting' h keeps did notes =
     let name = name_in new in
@@ -118,7 +120,8 @@ prepared_skipped plan old new s m t k l j noting noting' h keeps did notes =
     (subst (λ (x : List ℕ). HasNoted x noting' k j) (sym (noted_one h.taken events name passed)) (notes k (passed_noted (all_passed h.taken)) h.noted))
 
 -- all are read
-pub prepared_all : (plan : Plan) (old new : Session) (s m t : Seen) (k l : SinkSeen) (noting : Bool) → HasPrepared plan old s m k l noting → KeepsPlan old new → IsReady old new m t → new.stage ≡ Prepared → new.is_open ≡ false
+pub prepared_all : (plan : Plan) (old new : Session) (s m t : Seen) (k l : SinkSeen) (noting : Bool) → HasPrepared plan old s m k l noting → KeepsPlan old new → IsReady old new m t
+    → new.stage ≡ Prepared → new.is_open ≡ false
     → IsPrepared plan new s t k l noting
 prepared_all plan old new s m t k l noting h keeps did stage closed = record {
   prepared = more did.events plan old new s m t k l l noting noting h keeps did.read
@@ -130,7 +133,8 @@ prepared_all plan old new s m t k l noting h keeps did stage closed = record {
 
 -- ---- faults
 
-pub prepared_fails : (f : RunFault) (e : End) (plan : Plan) (old new : Session) (s m t : Seen) (k l j : SinkSeen) (noting : Bool) → e ≡ end.Fault f → HasPrepared plan old s m k l noting → FailsToPrepare f old new m t
+pub prepared_fails : (f : RunFault) (e : End) (plan : Plan) (old new : Session) (s m t : Seen) (k l j : SinkSeen) (noting : Bool) → e ≡ end.Fault f → HasPrepared plan old s m k l noting
+    → FailsToPrepare f old new m t
     → Closes (line_of (end.Fault f) (name_in new)) noting l j → FailsPreparing plan e s t k j
 prepared_fails f e plan old new s m t k l j noting is h failed closes = record {
   taken = h.taken ++ failed.events;

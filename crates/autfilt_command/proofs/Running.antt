@@ -62,7 +62,8 @@ pub adds_nothing : (noting : Bool) (k : SinkSeen) → Adds [] noting noting k k
 adds_nothing noting k sink text h = notes_nothing sink k text noting h
 
 -- one more event
-pub run_more : (event : Event) (fresh old new : Session) (s m t : Seen) (o p q k l j : SinkSeen) (first noting noting' : Bool) → new.plan ≡ old.plan → new.operands ≡ old.operands → asks_on old.plan old.kept ≡ true
+pub run_more : (event : Event) (fresh old new : Session) (s m t : Seen) (o p q k l j : SinkSeen) (first noting noting' : Bool) → new.plan ≡ old.plan → new.operands ≡ old.operands
+    → asks_on old.plan old.kept ≡ true
     → HasRun fresh old s m o p k l first noting → Stepped event old new m t p q → Adds (noted event) noting noting' l j → HasRun fresh new s t o q k j first noting'
 run_more event fresh old new s m t o p q k l j first noting noting' plan operands asks h step notes = record {
   events = h.events ++ event ∷ [];
@@ -74,12 +75,14 @@ run_more event fresh old new s m t o p q k l j first noting noting' plan operand
       let on = step.goes texts (h.texts ∙ told) r.point r.stands in
       record {
         point = on.point;
-        happen = happen_push fresh.plan texts h.events event (start_of (streams_of fresh.plan) s.left fresh.lexer.taken) r.point on.point r.happen (asks_of fresh old m.left r.point h.same_plan r.stands asks) on.goes;
+        happen = happen_push fresh.plan texts h.events event (start_of (streams_of fresh.plan) s.left fresh.lexer.taken) r.point on.point r.happen
+            (asks_of fresh old m.left r.point h.same_plan r.stands asks) on.goes;
         stands = on.stands;
       };
   gains = gains_as o.written q.written _ _ (sym (written_push h.events event)) (both o.written p.written q.written (all_written h.events) (written_of event) h.gains step.gains);
   noted = λ sink text before.
-      noted_as sink j _ _ noting' (append_assoc text (all_noted h.events) (noted event) ∙ ap (λ x. text ++ x) (sym (noted_push h.events event))) (notes sink (text ++ all_noted h.events) (h.noted sink text before));
+      noted_as sink j _ _ noting' (append_assoc text (all_noted h.events) (noted event) ∙ ap (λ x. text ++ x) (sym (noted_push h.events event)))
+      (notes sink (text ++ all_noted h.events) (h.noted sink text before));
   tallied = tally_push _ h.events event ∙ ap (λ (x : Tally). counted x event) h.tallied ∙ step.tallied;
   calm = calm_then s m t o p q h.calm step.calm;
   texts = step.texts ∙ h.texts;
@@ -113,7 +116,8 @@ pub carries_as : (fresh : Session) (first : Bool) (e d : End) (s t : Seen) (o q 
 carries_as fresh first e d s t o q k j is h = subst (λ (x : End). Carries fresh first x s t o q k j) (sym is) h
 
 -- what is written at the end is that of the session that was done
-pub finish_as : (e : End) (old new : Session) (r q : SinkSeen) → new.plan ≡ old.plan → progress new ≡ progress old → Finishes e (count_text new.plan new.kept) (record { kept = new.kept; skipped = new.skipped }) r q
+pub finish_as : (e : End) (old new : Session) (r q : SinkSeen) → new.plan ≡ old.plan → progress new ≡ progress old
+    → Finishes e (count_text new.plan new.kept) (record { kept = new.kept; skipped = new.skipped }) r q
     → Finishes e (count_text old.plan old.kept) (record { kept = old.kept; skipped = old.skipped }) r q
 finish_as e old new r q plan done h =
     let kept : new.kept ≡ old.kept = ap (λ (x : Progress). x.kept) done in

@@ -67,15 +67,18 @@ pub keeps_on : (old new : Session) → StepsAs old new → new.tried ≡ old.tri
 keeps_on old new steady tried = record { plan = steady.plan; tried = tried; few = steady.few }
 
 -- more of the open stream is read
-pub reads_more : (R : ℕ → List ℕ → List ℕ → Type 0) (old new : Session) (m t : Seen) (at : Point) → StepsAs old new → StandsAt old m.left at → old.is_open ≡ true → new.is_open ≡ old.is_open → new.opened ≡ old.opened → new.tried ≡ old.tried
+pub reads_more : (R : ℕ → List ℕ → List ℕ → Type 0) (old new : Session) (m t : Seen) (at : Point) → StepsAs old new → StandsAt old m.left at → old.is_open ≡ true → new.is_open ≡ old.is_open
+    → new.opened ≡ old.opened → new.tried ≡ old.tried
     → Between m.left t.left (R old.lexer.since) → Moves Elsewhere old.lexer new.lexer m t → GoesOn (λ x. ReadsOn at R new.kept x) new t.left
 reads_more R old new m t at steady stands opened_so open_still opened tried read moves =
-    goes_on (λ x. ReadsOn at R new.kept x) old new m.left t.left at steady.plan opened stands (reads_on R old new m t at Elsewhere stands.at opened_so (open_still ∙ opened_so) read moves (keeps_on old new steady tried))
+    goes_on (λ x. ReadsOn at R new.kept x) old new m.left t.left at steady.plan opened stands
+    (reads_on R old new m t at Elsewhere stands.at opened_so (open_still ∙ opened_so) read moves (keeps_on old new steady tried))
 
 kept_at : (old new : Session) (left : Option (List ℕ)) (at : Point) (P : ℕ → Type 0) → StandsAt old left at → new.kept ≡ old.kept → P new.kept → P at.kept
 kept_at old new left at P stands same h = subst P (same ∙ sym stands.at.kept) h
 
-pub opened : (old new : Session) (m t : Seen) (p q : SinkSeen) → StepsAs old new → progress new ≡ after turn.Opened (progress old) → (h : turns.Turns turn.Opened old new m t p q) → Stepped (Opened h.name) old new m t p q
+pub opened : (old new : Session) (m t : Seen) (p q : SinkSeen) → StepsAs old new → progress new ≡ after turn.Opened (progress old) → (h : turns.Turns turn.Opened old new m t p q)
+    → Stepped (Opened h.name) old new m t p q
 opened old new m t p q steady done h =
     let x = parts_of new (after turn.Opened (progress old)) done in
     record {
@@ -87,26 +90,30 @@ opened old new m t p q steady done h =
       texts = h.opens.texts;
     }
 
-pub ended : (old new : Session) (m t : Seen) (p q : SinkSeen) → StepsAs old new → progress new ≡ after turn.StreamEnd (progress old) → turns.Turns turn.StreamEnd old new m t p q → Stepped Ended old new m t p q
+pub ended : (old new : Session) (m t : Seen) (p q : SinkSeen) → StepsAs old new → progress new ≡ after turn.StreamEnd (progress old) → turns.Turns turn.StreamEnd old new m t p q
+    → Stepped Ended old new m t p q
 ended old new m t p q steady done h =
     let x = parts_of new (after turn.StreamEnd (progress old)) done in
     record {
       judged = tt;
       goes = λ texts told at stands.
-          goes_on (λ y. EndsStream at y) old new m.left t.left at steady.plan x.opened stands (ends_stream old new m t at stands.at h.reading.is_open x.is_open x.kept h.read h.moves steady.most (keeps_on old new steady h.in_hand));
+          goes_on (λ y. EndsStream at y) old new m.left t.left at steady.plan x.opened stands
+          (ends_stream old new m t at stands.at h.reading.is_open x.is_open x.kept h.read h.moves steady.most (keeps_on old new steady h.in_hand));
       gains = still_gains p q h.output;
       tallied = tally_as old.kept old.skipped new.kept new.skipped x.kept x.skipped;
       calm = record { opens = h.moves.opens; reads = h.moves.reads; writes = still_writes p q h.output };
       texts = h.moves.texts;
     }
 
-pub dropped : (old new : Session) (m t : Seen) (p q : SinkSeen) → StepsAs old new → progress new ≡ after turn.Dropped (progress old) → (h : turns.Turns turn.Dropped old new m t p q) → Stepped (Dropped h.automaton) old new m t p q
+pub dropped : (old new : Session) (m t : Seen) (p q : SinkSeen) → StepsAs old new → progress new ≡ after turn.Dropped (progress old) → (h : turns.Turns turn.Dropped old new m t p q)
+    → Stepped (Dropped h.automaton) old new m t p q
 dropped old new m t p q steady done h =
     let x = parts_of new (after turn.Dropped (progress old)) done in
     record {
       judged = h.dropped;
       goes = λ texts told at stands.
-          let on = reads_more (λ start rest next. IsGood start rest h.automaton next) old new m t at steady stands h.reads.reading.is_open x.is_open x.opened h.reads.in_hand h.reads.read h.reads.moves in
+          let on = reads_more (λ start rest next. IsGood start rest h.automaton next) old new m t at steady stands h.reads.reading.is_open x.is_open x.opened h.reads.in_hand h.reads.read
+          h.reads.moves in
           record {
             point = on.point;
             goes = kept_at old new m.left at (λ (k : ℕ). ReadsOn at (λ start rest next. IsGood start rest h.automaton next) k on.point) stands x.kept on.goes;
@@ -118,7 +125,8 @@ dropped old new m t p q steady done h =
       texts = h.reads.moves.texts;
     }
 
-pub kept : (old new : Session) (m t : Seen) (p q : SinkSeen) → StepsAs old new → progress new ≡ after turn.Kept (progress old) → (h : turns.Turns turn.Kept old new m t p q) → Stepped (Kept h.automaton h.text) old new m t p q
+pub kept : (old new : Session) (m t : Seen) (p q : SinkSeen) → StepsAs old new → progress new ≡ after turn.Kept (progress old) → (h : turns.Turns turn.Kept old new m t p q)
+    → Stepped (Kept h.automaton h.text) old new m t p q
 kept old new m t p q steady done h =
     let x = parts_of new (after turn.Kept (progress old)) done in
     record {

@@ -12,7 +12,8 @@ use Rattle.autfilt_run.specs.declared.session.Session.{Session}
 use Rattle.filter_plan.specs.declared.plan.Plan.{Plan}
 
 -- the events so far, and one more
-pub happen_push : (plan : Plan) (texts : Texts) (events : List Event) (event : Event) (p m q : Point) → Happen plan texts events p m → asks_on plan m.kept ≡ true → Goes texts event m q → Happen plan texts (events ++ event ∷ []) p q
+pub happen_push : (plan : Plan) (texts : Texts) (events : List Event) (event : Event) (p m q : Point) → Happen plan texts events p m → asks_on plan m.kept ≡ true → Goes texts event m q
+    → Happen plan texts (events ++ event ∷ []) p q
 happen_push plan texts [] event p m q h asks goes =
     let P : Point → Type 0 = λ x. Happen plan texts (event ∷ []) x q in
     subst P (sym h) (asks, q, goes, refl)
@@ -29,7 +30,8 @@ coming_as : (old new : Session) (n : ℕ) → new.plan ≡ old.plan → new.open
 coming_as old new n plan opened = ap (λ (k : ℕ). drop k (streams_of old.plan)) (sym opened) ∙ ap (λ (p : Plan). drop new.opened (streams_of p)) (sym plan)
 
 -- where no stream is opened
-pub goes_on : (P : Point → Type 0) (old new : Session) (left left' : Option (List ℕ)) (p : Point) → new.plan ≡ old.plan → new.opened ≡ old.opened → StandsAt old left p → GoesTo P p.coming new left' → GoesOn P new left'
+pub goes_on : (P : Point → Type 0) (old new : Session) (left left' : Option (List ℕ)) (p : Point) → new.plan ≡ old.plan → new.opened ≡ old.opened → StandsAt old left p
+    → GoesTo P p.coming new left' → GoesOn P new left'
 goes_on P old new left left' p plan opened stands go = record {
   point = go.point;
   goes = go.goes;
@@ -51,8 +53,10 @@ wants_stream on old left p name stands opening asks = record {
 next_place : (k n : ℕ) → n ≡ k + 1 → n ≡ suc k
 next_place k n h = omega (arith, h)
 
-pub opens_next : (texts : Texts) (old new : Session) (s t : Seen) (p : Point) (name : List ℕ) → s.texts ≡ Some texts → StandsAt old s.left p → IsOpening old name → Opens s name (Ok tt) t → Begins old new → name_in new ≡ name
+pub opens_next : (texts : Texts) (old new : Session) (s t : Seen) (p : Point) (name : List ℕ) → s.texts ≡ Some texts → StandsAt old s.left p → IsOpening old name → Opens s name (Ok tt) t
+    → Begins old new → name_in new ≡ name
     → new.plan ≡ old.plan → new.opened ≡ old.opened + 1 → new.is_open ≡ true → new.kept ≡ old.kept → GoesOn (λ q. OpensStream texts name p q) new t.left
 opens_next texts old new s t p name told stands opening opens begins named plan opened opened_so kept =
-    let go = opens_stream texts old new s t p name (drop (suc old.opened) (streams_of old.plan)) told stands.at opening.is_closed (next_is old s.left p name stands opening) opens begins named opened_so kept in
+    let go = opens_stream texts old new s t p name (drop (suc old.opened) (streams_of old.plan)) told stands.at opening.is_closed (next_is old s.left p name stands opening) opens begins
+    named opened_so kept in
     record { point = go.point; goes = go.goes; stands = record { coming = go.comes ∙ coming_as old new (suc old.opened) plan (next_place old.opened new.opened opened); at = go.at } }

@@ -45,7 +45,8 @@ stands_in_as a b left p h x = record {
   at = record { kept = x.at.kept ∙ h.kept; left_is = x.at.left_is; stream = is_in_as p.stream a b left p.before h x.at.stream };
 }
 
-has_read_as : (events : List OperandEvent) (old old' new new' : Session) (s t : Seen) → AreAlike old old' → AreAlike old' old → AreAlike new new' → HasRead events old new s t → HasRead events old' new' s t
+has_read_as : (events : List OperandEvent) (old old' new new' : Session) (s t : Seen) → AreAlike old old' → AreAlike old' old → AreAlike new new' → HasRead events old new s t
+    → HasRead events old' new' s t
 has_read_as events old old' new new' s t a back b h = record {
   operands = ap (map automaton_of) (sym b.operands_same) ∙ h.operands ∙ ap (λ (cores : List Core). map automaton_of cores ++ operands_of events) a.operands_same;
   happened = λ texts told p stands.
@@ -68,7 +69,8 @@ is_ready_as old old' new new' s t a back b h = record {
 pub has_skipped_as : (old old' new new' : Session) (s t : Seen) → AreAlike old old' → AreAlike old' old → AreAlike new new' → HasSkipped old new s t → HasSkipped old' new' s t
 has_skipped_as old old' new new' s t a back b h = record {
   before = h.before;
-  read = subst (λ (name : List ℕ). HasRead (h.before ++ PassedOver name ∷ []) old' new' s t) (name_as new new' b) (has_read_as (h.before ++ PassedOver (name_in new) ∷ []) old old' new new' s t a back b h.read);
+  read = subst (λ (name : List ℕ). HasRead (h.before ++ PassedOver name ∷ []) old' new' s t) (name_as new new' b)
+      (has_read_as (h.before ++ PassedOver (name_in new) ∷ []) old old' new new' s t a back b h.read);
   passed = h.passed;
   still_open = sym b.is_open ∙ h.still_open;
   rises = subst (λ (l : Lexer). l.taken < new'.lexer.taken) a.lexer (subst (λ (l : Lexer). old.lexer.taken < l.taken) b.lexer h.rises);

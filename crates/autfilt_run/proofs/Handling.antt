@@ -52,13 +52,19 @@ silent : (p : Plan) (ops : List Automaton) (w : Written) (b : Bool) → b ≡ pr
 silent p ops w true e is = cc
 silent p ops w false e is = subst (λ (x : Bool). IsDueWhere x p ops w []) e refl
 
-pub is_wanted_silent : (b c : Bool) (p : Plan) (ops : List Automaton) (w : Written) (core : Automaton) → IsReadAs w core → b ≡ true → Judged (Ok b) p ops core → c ≡ prints_each p → c ≡ false → IsWanted p ops w []
+pub is_wanted_silent : (b c : Bool) (p : Plan) (ops : List Automaton) (w : Written) (core : Automaton) → IsReadAs w core → b ≡ true → Judged (Ok b) p ops core → c ≡ prints_each p → c ≡ false
+    → IsWanted p ops w []
 is_wanted_silent b c p ops w core r is h e off =
     record { valid = r.valid; within = r.within; kept = kept b p ops w core r is h; due = silent p ops w c e off }
 
 made_of : {S : Automaton → Type 0} (p : Plan) (ops : List Automaton) (w : Written) (core : Automaton) → IsReadAs w core → (h : ShowsMade p ops core S) → IsMade p ops w h.made
 made_of p ops w core r h =
-    record { makes = subst (λ (x : Automaton). MakesAll (changes_of p ops) x h.made) (core_is w core r) h.makes; promises = h.promises; accepts = made_as p ops core (reader.described w) h.made (accepts_read w core r) h.says }
+    record {
+      makes = subst (λ (x : Automaton). MakesAll (changes_of p ops) x h.made) (core_is w core r) h.makes;
+      promises = h.promises;
+      accepts =
+          made_as p ops core (reader.described w) h.made (accepts_read w core r) h.says;
+    }
 
 name_as : (p : Plan) (w : Written) (name : Option (List ℕ)) → name ≡ name_of w → (if changes p then None else name) ≡ name_due p w
 name_as p w name e = ap (λ (x : Option (List ℕ)). if changes p then None else x) e
@@ -108,7 +114,8 @@ due_text : (p : Plan) (ops : List Automaton) (w : Written) (b : Bool) (text : Li
 due_text p ops w true text e is h = subst (λ (x : Bool). IsDueWhere x p ops w text) e h
 due_text p ops w false text e is h = cc
 
-pub is_wanted : (b c : Bool) (p : Plan) (ops : List Automaton) (w : Written) (core : Automaton) (name : Option (List ℕ)) (text bytes : List ℕ) → IsReadAs w core → b ≡ true → Judged (Ok b) p ops core → c ≡ prints_each p → c ≡ true
+pub is_wanted : (b c : Bool) (p : Plan) (ops : List Automaton) (w : Written) (core : Automaton) (name : Option (List ℕ)) (text bytes : List ℕ) → IsReadAs w core → b ≡ true
+    → Judged (Ok b) p ops core → c ≡ prints_each p → c ≡ true
     → bytes ≡ text → Prints p.output p ops core name text → name ≡ name_of w → IsWanted p ops w bytes
 is_wanted b c p ops w core name text bytes r is h e on shown printed named = record {
   valid = r.valid;
@@ -125,11 +132,13 @@ not_taken (fault.Limit which) p ops w o h = (inl h, refl)
 not_taken fault.Memory p ops w o h = refl
 not_taken _ p ops w o h = absurd h
 
-pub not_judged : (f : PlanFault) (p : Plan) (ops : List Automaton) (w : Written) (core : Automaton) (o : SinkSeen) → IsReadAs w core → Judged (Err f) p ops core → Handles (Err (fault_of_plan f)) p ops w o o
+pub not_judged : (f : PlanFault) (p : Plan) (ops : List Automaton) (w : Written) (core : Automaton) (o : SinkSeen) → IsReadAs w core → Judged (Err f) p ops core
+    → Handles (Err (fault_of_plan f)) p ops w o o
 not_judged (asked.Limit which) p ops w core o r h = (inr (record { valid = r.valid; within = r.within; over = inl (judged (Err (asked.Limit which)) p ops w core r h) }), refl)
 not_judged asked.Memory p ops w core o r h = refl
 
-pub not_printed : (f : PlanFault) (b c : Bool) (p : Plan) (ops : List Automaton) (w : Written) (core : Automaton) (name : Option (List ℕ)) (o : SinkSeen) → IsReadAs w core → b ≡ true → Judged (Ok b) p ops core → c ≡ prints_each p → c ≡ true
+pub not_printed : (f : PlanFault) (b c : Bool) (p : Plan) (ops : List Automaton) (w : Written) (core : Automaton) (name : Option (List ℕ)) (o : SinkSeen) → IsReadAs w core → b ≡ true
+    → Judged (Ok b) p ops core → c ≡ prints_each p → c ≡ true
     → PrintsOrStops (Err f) p.output p ops core name → Handles (Err (fault_of_plan f)) p ops w o o
 not_printed (asked.Limit which) b c p ops w core name o r is h e on stops = (
   inr (record {
@@ -151,6 +160,7 @@ hands_on (Ok a) f P h p = absurd h
 hands_on (Err g) f P h p = subst (λ (x : RunFault). P (Err x)) (sym h) p
 
 -- memory was wanting for what is printed
-pub wants_memory : (r : Result (List ℕ) PlanFault) (o : Output) (p : Plan) (ops : List Automaton) (a : Automaton) (name : Option (List ℕ)) → IsErrAnd r (λ y. y ≡ asked.Memory) → PrintsOrStops r o p ops a name
+pub wants_memory : (r : Result (List ℕ) PlanFault) (o : Output) (p : Plan) (ops : List Automaton) (a : Automaton) (name : Option (List ℕ)) → IsErrAnd r (λ y. y ≡ asked.Memory)
+    → PrintsOrStops r o p ops a name
 wants_memory (Ok text) o p ops a name h = absurd h
 wants_memory (Err f) o p ops a name h = subst (λ (x : PlanFault). PrintsOrStops (Err x) o p ops a name) (sym h) tt

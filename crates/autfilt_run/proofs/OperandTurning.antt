@@ -38,20 +38,27 @@ none_over which w = ⊥
 -- a fault of the reader
 pub not_read : (f : ReadFault) (old new : Session) (s t : Seen) (held' : Option ℕ) → old.is_open ≡ true → new.tried ≡ old.tried → new.skipped ≡ old.skipped → Holds (Err f) held'
     → Between s.left t.left (AnswersAt (Err f) old.lexer.since held') → Moves (reads.stop_of_fault f) old.lexer new.lexer s t → FailsOperand (fault_of_reading f) old new s t
-not_read (reading.Syntax k) old new s t held' r hand same n at moves = record { reads = record { was_open = r; in_hand = hand; read = stops none_over (reading.Syntax k) old.lexer.since held' s.left t.left n at; moves = moves }; skipped = same }
+not_read (reading.Syntax k) old new s t held' r hand same n at moves =
+    record { reads = record { was_open = r; in_hand = hand; read = stops none_over (reading.Syntax k) old.lexer.since held' s.left t.left n at; moves = moves }; skipped = same }
 not_read reading.Truncated old new s t held' r hand same n at moves = record {
   reads = record { was_open = r; in_hand = hand; read = between_as s.left t.left _ _ (λ x y h. inl h) (stops none_over reading.Truncated old.lexer.since held' s.left t.left n at); moves = moves };
   skipped = same;
 }
-not_read reading.Depth old new s t held' r hand same n at moves = record { reads = record { was_open = r; in_hand = hand; read = stops none_over reading.Depth old.lexer.since held' s.left t.left n at; moves = moves }; skipped = same }
-not_read reading.Bytes old new s t held' r hand same n at moves = record { reads = record { was_open = r; in_hand = hand; read = stops none_over reading.Bytes old.lexer.since held' s.left t.left n at; moves = moves }; skipped = same }
-not_read reading.Read old new s t held' r hand same n at moves = record { reads = record { was_open = r; in_hand = hand; read = stops none_over reading.Read old.lexer.since held' s.left t.left n at; moves = moves }; skipped = same }
-not_read reading.Memory old new s t held' r hand same n at moves = inr (record { reads = record { was_open = r; in_hand = hand; read = stops none_over reading.Memory old.lexer.since held' s.left t.left n at; moves = moves }; skipped = same })
+not_read reading.Depth old new s t held' r hand same n at moves =
+    record { reads = record { was_open = r; in_hand = hand; read = stops none_over reading.Depth old.lexer.since held' s.left t.left n at; moves = moves }; skipped = same }
+not_read reading.Bytes old new s t held' r hand same n at moves =
+    record { reads = record { was_open = r; in_hand = hand; read = stops none_over reading.Bytes old.lexer.since held' s.left t.left n at; moves = moves }; skipped = same }
+not_read reading.Read old new s t held' r hand same n at moves =
+    record { reads = record { was_open = r; in_hand = hand; read = stops none_over reading.Read old.lexer.since held' s.left t.left n at; moves = moves }; skipped = same }
+not_read reading.Memory old new s t held' r hand same n at moves =
+    inr (record { reads = record { was_open = r; in_hand = hand; read = stops none_over reading.Memory old.lexer.since held' s.left t.left n at; moves = moves }; skipped = same })
 
 -- it was read whole, and is not taken
-pub not_taken : (f : RunFault) (w : Written) (old new : Session) (s t : Seen) → old.is_open ≡ true → new.tried ≡ old.tried → new.skipped ≡ old.skipped → Between s.left t.left (λ rest next. Stands (Whole w next) old.lexer.since rest)
+pub not_taken : (f : RunFault) (w : Written) (old new : Session) (s t : Seen) → old.is_open ≡ true → new.tried ≡ old.tried → new.skipped ≡ old.skipped
+    → Between s.left t.left (λ rest next. Stands (Whole w next) old.lexer.since rest)
     → Moves Elsewhere old.lexer new.lexer s t → TakesAutomaton (Err f) w → FailsOperand f old new s t
-not_taken (fault.Invalid rule) w old new s t r hand same whole moves h = record { reads = record { was_open = r; in_hand = hand; read = is_broken none_over rule w old.lexer.since s.left t.left h whole; moves = moves }; skipped = same }
+not_taken (fault.Invalid rule) w old new s t r hand same whole moves h =
+    record { reads = record { was_open = r; in_hand = hand; read = is_broken none_over rule w old.lexer.since s.left t.left h whole; moves = moves }; skipped = same }
 not_taken (fault.Limit which) w old new s t r hand same whole moves h = record {
   reads = record {
     was_open = r;
@@ -61,7 +68,8 @@ not_taken (fault.Limit which) w old new s t r hand same whole moves h = record {
   };
   skipped = same;
 }
-not_taken fault.Memory w old new s t r hand same whole moves h = inr (record { reads = record { was_open = r; in_hand = hand; read = is_wanting w old.lexer.since s.left t.left whole; moves = moves }; skipped = same })
+not_taken fault.Memory w old new s t r hand same whole moves h =
+    inr (record { reads = record { was_open = r; in_hand = hand; read = is_wanting w old.lexer.since s.left t.left whole; moves = moves }; skipped = same })
 not_taken _ w old new s t r hand same whole moves h = absurd h
 
 -- a fault that `?` hands on
@@ -70,7 +78,8 @@ turns_on (Ok turn) f old new s t h fails keeps = absurd h
 turns_on (Err g) f old new s t h fails keeps = record { turns = subst (λ (x : RunFault). FailsOperand x old new s t) (sym h) fails; keeps = keeps }
 
 -- an abandoned automaton uses a byte
-pub rises : (field : Front) (old new : Lexer) → field ≡ front.Aborted → old.held ≡ None → Holds (Ok field) new.held → (field ≢ front.Blank → old.taken + held_count new.held < new.taken + held_count old.held) → old.taken < new.taken
+pub rises : (field : Front) (old new : Lexer) → field ≡ front.Aborted → old.held ≡ None → Holds (Ok field) new.held
+    → (field ≢ front.Blank → old.taken + held_count new.held < new.taken + held_count old.held) → old.taken < new.taken
 rises field old new is none holds used =
     let after : new.held ≡ None = subst (λ (x : Front). Holds (Ok x) new.held) is holds in
     let more = used (λ e. let same : front.Aborted ≡ front.Blank = sym is ∙ e in cc) in

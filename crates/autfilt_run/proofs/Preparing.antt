@@ -1,5 +1,6 @@
 -- Turns over the operands, as what happens in a run.
-use Rattle.std.proofs.Common.{◌≡◌, ◌≢◌, ℕ, suc, ◌+◌, ◌-◌, ◌<◌, ◌≤◌, Bool, true, false, List, [], ◌∷◌, ◌++◌, length, drop, Option, Some, None, Result, Ok, Err, refl, sym, ap, ◌∙◌, subst, inl, inr, append_assoc, append-nil, arith}
+use Rattle.std.proofs.Common.{◌≡◌, ◌≢◌, ℕ, suc, ◌+◌, ◌-◌, ◌<◌, ◌≤◌, Bool, true, false, List, [], ◌∷◌, ◌++◌, length, drop, Option, Some, None, Result}
+use Rattle.std.proofs.Common.{Ok, Err, refl, sym, ap, ◌∙◌, subst, inl, inr, append_assoc, append-nil, arith}
 use Rattle.std.specs.Prelude.{map, slice_get}
 use Rattle.std.specs.Result.{IsErrAnd}
 use Rattle.aut_base.specs.declared.fault.OpenFail.TheVariants as opening
@@ -58,7 +59,8 @@ pub record Turned (event : OperandEvent) (old new : Session) (s t : Seen) : Type
 coming_at : (s : Session) (n : ℕ) → length s.operands + open_count s.is_open ≡ n → drop (length s.operands + open_count s.is_open) (operands s.plan) ≡ drop n (operands s.plan)
 coming_at s n is = ap (λ (k : ℕ). drop k (operands s.plan)) is
 
-coming_of : (old new : Session) → new.plan ≡ old.plan → (n : ℕ) → length new.operands + open_count new.is_open ≡ n → drop n (operands old.plan) ≡ drop (length new.operands + open_count new.is_open) (operands new.plan)
+coming_of : (old new : Session) → new.plan ≡ old.plan → (n : ℕ) → length new.operands + open_count new.is_open ≡ n
+    → drop n (operands old.plan) ≡ drop (length new.operands + open_count new.is_open) (operands new.plan)
 coming_of old new plan n is = ap (λ (p : Plan). drop n (operands p)) (sym plan) ∙ sym (coming_at new n is)
 
 counted_open : (s : Session) (n : ℕ) → s.is_open ≡ true → length s.operands ≡ n → length s.operands + open_count s.is_open ≡ n + 1
@@ -78,14 +80,16 @@ same_operands old new same = ap (λ cores. map automaton_of cores) same ∙ sym 
 
 next_is : (old : Session) (left : Option (List ℕ)) (p : Point) (name : List ℕ) → StandsIn old left p → old.is_open ≡ false → slice_get (operands old.plan) (length old.operands) ≡ Some name
     → p.coming ≡ name ∷ drop (suc (length old.operands)) (operands old.plan)
-next_is old left p name stands closed next = stands.coming ∙ coming_at old (length old.operands) (counted_closed old (length old.operands) closed refl) ∙ rest_from (operands old.plan) (length old.operands) name next
+next_is old left p name stands closed next = stands.coming ∙ coming_at old (length old.operands) (counted_closed old (length old.operands) closed refl)
+    ∙ rest_from (operands old.plan) (length old.operands) name next
 
 pub opened : (old new : Session) (s t : Seen) → KeepsAll old new → (h : OpensFile old new s t) → Turned (FileOpened h.tries.name) old new s t
 opened old new s t keeps h =
     let k = length old.operands in
     record {
       goes = λ texts told p stands.
-          let go = opens_stream texts old new s t p h.tries.name (drop (suc k) (operands old.plan)) told stands.at h.tries.closed (next_is old s.left p h.tries.name stands h.tries.closed h.tries.next) h.tries.opens h.tries.begins h.tries.in_hand h.now_open keeps.kept in (
+          let go = opens_stream texts old new s t p h.tries.name (drop (suc k) (operands old.plan)) told stands.at h.tries.closed
+          (next_is old s.left p h.tries.name stands h.tries.closed h.tries.next) h.tries.opens h.tries.begins h.tries.in_hand h.now_open keeps.kept in (
             go.point,
             go.goes,
             record {
@@ -111,7 +115,8 @@ taken old new s t keeps few h =
             go.point,
             go.goes,
             record {
-              coming = go.comes ∙ stands.coming ∙ coming_at old (k + 1) (counted_open old k h.reads.was_open refl) ∙ coming_of old new keeps.plan (k + 1) (counted_closed new (k + 1) h.closed h.one_more);
+              coming = go.comes ∙ stands.coming ∙ coming_at old (k + 1) (counted_open old k h.reads.was_open refl)
+                  ∙ coming_of old new keeps.plan (k + 1) (counted_closed new (k + 1) h.closed h.one_more);
               at = go.at;
             },
           );
@@ -127,13 +132,16 @@ passed old new s t keeps few h =
     let k = length old.operands in
     record {
       goes = λ texts told p stands.
-          let go = reads_on (λ start rest next. Stands (Aborted next) start rest) old new s t p Elsewhere stands.at h.reads.was_open h.still_open h.reads.read h.reads.moves (keeps_on old new keeps h.reads.in_hand few) in
+          let go = reads_on (λ start rest next. Stands (Aborted next) start rest) old new s t p Elsewhere stands.at h.reads.was_open h.still_open h.reads.read h.reads.moves
+          (keeps_on old new keeps h.reads.in_hand few) in
           let reads = subst (λ (n : ℕ). ReadsOn p (λ start rest next. Stands (Aborted next) start rest) n go.point) (keeps.kept ∙ sym stands.at.kept) go.goes in
-          let named = stops_named (Unit {0}) (λ start rest next. Unit {0}) old s t p (name_in new) (name_as old new keeps.plan h.reads.in_hand) stands.at h.reads.was_open tt (between_as s.left t.left _ _ (λ a b x. tt) h.reads.read) in (
+          let named = stops_named (Unit {0}) (λ start rest next. Unit {0}) old s t p (name_in new) (name_as old new keeps.plan h.reads.in_hand) stands.at h.reads.was_open tt
+          (between_as s.left t.left _ _ (λ a b x. tt) h.reads.read) in (
             go.point,
             record { reads = reads; named = one_name p.stream reads.stream named.at.stream reads.is_open named.at.is_open ∙ named.named },
             record {
-              coming = go.comes ∙ stands.coming ∙ coming_at old (k + 1) (counted_open old k h.reads.was_open refl) ∙ coming_of old new keeps.plan (k + 1) (counted_open new k h.still_open (ap length h.operands_same));
+              coming = go.comes ∙ stands.coming ∙ coming_at old (k + 1) (counted_open old k h.reads.was_open refl)
+                  ∙ coming_of old new keeps.plan (k + 1) (counted_open new k h.still_open (ap length h.operands_same));
               at = go.at;
             },
           );
@@ -150,9 +158,11 @@ pub read_none : (old : Session) (s : Seen) → HasRead [] old old s s
 read_none old s = record { operands = sym (append-nil (operands_in old)); happened = λ texts told p stands. (p, refl, stands); opens = refl; reads = refl; texts = refl }
 
 -- one event more
-pub read_more : (events : List OperandEvent) (event : OperandEvent) (first old new : Session) (s m t : Seen) → HasRead events first old s m → Turned event old new m t → HasRead (events ++ event ∷ []) first new s t
+pub read_more : (events : List OperandEvent) (event : OperandEvent) (first old new : Session) (s m t : Seen) → HasRead events first old s m → Turned event old new m t
+    → HasRead (events ++ event ∷ []) first new s t
 read_more events event first old new s m t h turned = record {
-  operands = turned.operands ∙ ap (λ x. x ++ operand_of event) h.operands ∙ append_assoc (operands_in first) (operands_of events) (operand_of event) ∙ ap (λ x. operands_in first ++ x) (sym (operands_push events event));
+  operands = turned.operands ∙ ap (λ x. x ++ operand_of event) h.operands ∙ append_assoc (operands_in first) (operands_of events) (operand_of event)
+      ∙ ap (λ x. operands_in first ++ x) (sym (operands_push events event));
   happened = λ texts told p stands.
       let a = h.happened texts told p stands in
       let b = turned.goes texts (h.texts ∙ told) a.0 a.2 in
@@ -185,7 +195,8 @@ keeps_then : (first old new : Session) → KeepsAll first old → KeepsAll old n
 keeps_then first old new a b = record { plan = b.plan ∙ a.plan; most = b.most ∙ a.most; opened = b.opened ∙ a.opened; kept = b.kept ∙ a.kept; stage = b.stage ∙ a.stage }
 
 -- an event that passes over none
-more : (event : OperandEvent) (first old new : Session) (s m t : Seen) → IsPreparing first old s m → Turned event old new m t → passed_of event ≡ [] → KeepsAll old new → new.skipped ≡ old.skipped → old.lexer.taken ≤ new.lexer.taken → IsPreparing first new s t
+more : (event : OperandEvent) (first old new : Session) (s m t : Seen) → IsPreparing first old s m → Turned event old new m t → passed_of event ≡ [] → KeepsAll old new
+    → new.skipped ≡ old.skipped → old.lexer.taken ≤ new.lexer.taken → IsPreparing first new s t
 more event first old new s m t h turned none keeps skipped later = record {
   events = h.events ++ event ∷ [];
   read = read_more h.events event first old new s m t h.read turned;
@@ -196,7 +207,8 @@ more event first old new s m t h turned none keeps skipped later = record {
 }
 
 pub more_opened : (first old new : Session) (s m t : Seen) → IsPreparing first old s m → KeepsAll old new → OpensFile old new m t → IsPreparing first new s t
-more_opened first old new s m t h keeps turn = more (FileOpened turn.tries.name) first old new s m t h (opened old new m t keeps turn) refl keeps turn.tries.skipped (omega (arith, turn.tries.begins.taken))
+more_opened first old new s m t h keeps turn = more (FileOpened turn.tries.name) first old new s m t h (opened old new m t keeps turn) refl keeps turn.tries.skipped
+    (omega (arith, turn.tries.begins.taken))
 
 pub more_taken : (first old new : Session) (s m t : Seen) → IsPreparing first old s m → KeepsAll old new → new.lexer.taken ≤ MOST_BYTES → TakesNext old new m t → IsPreparing first new s t
 more_taken first old new s m t h keeps few turn = more (Taken turn.automaton) first old new s m t h (taken old new m t keeps few turn) refl keeps turn.skipped turn.reads.moves.later
@@ -230,13 +242,15 @@ pub untold_closed : (texts : Option Texts) (left : Option (List ℕ)) (t : Texts
 untold_closed None left t e h = cc
 untold_closed (Some x) left t e h = h
 
-tries_counted : (f : RunFault) (old : Session) (left left' : Option (List ℕ)) (q : Point) → IsAt old left q → old.is_open ≡ false → old.lexer.taken ≤ MOST_BYTES → stop_of_fault f ≡ Elsewhere → IsCounted f q left'
+tries_counted : (f : RunFault) (old : Session) (left left' : Option (List ℕ)) (q : Point) → IsAt old left q → old.is_open ≡ false → old.lexer.taken ≤ MOST_BYTES → stop_of_fault f ≡ Elsewhere
+    → IsCounted f q left'
 tries_counted f old left left' q stands closed few stop = record {
   few = subst (λ (n : ℕ). n ≤ MOST_BYTES) (sym (closed_counted old left left' q stands closed)) few;
   within = subst (λ (x : Stop). IsWithin x (taken_of q left') MOST_BYTES) (sym stop) tt;
 }
 
-wants : (old new : Session) (left : Option (List ℕ)) (q : Point) (name : List ℕ) → StandsIn old left q → old.is_open ≡ false → slice_get (operands old.plan) (length old.operands) ≡ Some name → WantsStream (Unit {0}) q name
+wants : (old new : Session) (left : Option (List ℕ)) (q : Point) (name : List ℕ) → StandsIn old left q → old.is_open ≡ false → slice_get (operands old.plan) (length old.operands) ≡ Some name
+    → WantsStream (Unit {0}) q name
 wants old new left q name stands closed next = record {
   asks = tt;
   closed = (is_closed old left q stands.at closed).is;
@@ -264,7 +278,8 @@ unopened_for_memory old new m t few h = record {
   counts = (h.opens.memory refl, h.opens.reads);
 }
 
-file_counted : (f : RunFault) (old new : Session) (m t : Seen) (q : Point) → new.lexer.most ≡ MOST_BYTES → new.lexer.taken ≤ MOST_BYTES → old.is_open ≡ true → IsAt old m.left q → Moves (stop_of_fault f) old.lexer new.lexer m t → IsCounted f q t.left
+file_counted : (f : RunFault) (old new : Session) (m t : Seen) (q : Point) → new.lexer.most ≡ MOST_BYTES → new.lexer.taken ≤ MOST_BYTES → old.is_open ≡ true → IsAt old m.left q
+    → Moves (stop_of_fault f) old.lexer new.lexer m t → IsCounted f q t.left
 file_counted f old new m t q most few opened_so stands moves =
     let same = stream_counted old new m t q (stop_of_fault f) stands opened_so moves in
     record {
@@ -300,7 +315,8 @@ calm_limit limit.Classes a b h = h
 calm_limit limit.Subsets a b h = h
 calm_limit limit.Pairs a b h = h
 
-halted : (f : RunFault) (old new : Session) (m t : Seen) → KeepsAll old new → new.lexer.most ≡ MOST_BYTES → old.lexer.taken ≤ MOST_BYTES → new.lexer.taken ≤ MOST_BYTES → FailsOperand f old new m t → HaltsAt f old new m t
+halted : (f : RunFault) (old new : Session) (m t : Seen) → KeepsAll old new → new.lexer.most ≡ MOST_BYTES → old.lexer.taken ≤ MOST_BYTES → new.lexer.taken ≤ MOST_BYTES
+    → FailsOperand f old new m t → HaltsAt f old new m t
 halted fault.CannotOpen old new m t keeps most few few' h = unopened old new m t few h
 halted fault.WriteFault old new m t keeps most few few' h = absurd h
 halted fault.Memory old new m t keeps most few few' (inl h) = unopened_for_memory old new m t few h
@@ -331,7 +347,8 @@ counts_then (fault.Limit which) s m t a b h = (h.0 ∙ a, h.1 ∙ b)
 no_write : (f : RunFault) (old new : Session) (m t : Seen) → FailsOperand f old new m t → f ≢ fault.WriteFault
 no_write f old new m t h is = let x = subst (λ (g : RunFault). FailsOperand g old new m t) is h in absurd x
 
-pub fails : (f : RunFault) (first old new : Session) (s m t : Seen) → first.lexer.most ≡ MOST_BYTES → old.lexer.taken ≤ MOST_BYTES → new.lexer.taken ≤ MOST_BYTES → IsPreparing first old s m → KeepsAll old new → FailsOperand f old new m t
+pub fails : (f : RunFault) (first old new : Session) (s m t : Seen) → first.lexer.most ≡ MOST_BYTES → old.lexer.taken ≤ MOST_BYTES → new.lexer.taken ≤ MOST_BYTES → IsPreparing first old s m
+    → KeepsAll old new → FailsOperand f old new m t
     → FailsToPrepare f first new s t
 fails f first old new s m t most few few' h keeps failed =
     let at = halted f old new m t keeps (keeps.most ∙ h.keeps.most ∙ most) few few' failed in
@@ -382,7 +399,8 @@ less_as a b c d e f h = omega (arith, e, f, h)
 pub shorter_opened : (old new : Session) (s t : Seen) → KeepsAll old new → OpensFile old new s t → ahead_of new < ahead_of old
 shorter_opened old new s t keeps h =
     let n = length old.operands in
-    less_as _ _ _ _ (ahead_is new old.plan n true keeps.plan (ap length h.tries.operands_same) h.now_open) (ahead_is old old.plan n false refl refl h.tries.closed) (opened_less (length (operands old.plan)) n)
+    less_as _ _ _ _ (ahead_is new old.plan n true keeps.plan (ap length h.tries.operands_same) h.now_open) (ahead_is old old.plan n false refl refl h.tries.closed)
+    (opened_less (length (operands old.plan)) n)
 
 pub shorter_taken : (old new : Session) (s t : Seen) → KeepsAll old new → TakesNext old new s t → length old.operands < length (operands old.plan) → ahead_of new < ahead_of old
 shorter_taken old new s t keeps h room =

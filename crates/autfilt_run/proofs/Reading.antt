@@ -49,7 +49,8 @@ pub read_at : (r : Result Front ReadFault) (start : ℕ) (held held' : Option �
 read_at r start held held' left left' e a b = between_both left left' _ _ _ (λ old new p q. unheld_before r start held held' old new e (p, q)) a b
 
 -- an error ends the run
-stops_reading : (over : Limit → Written → Type 0) (f : ReadFault) (start : ℕ) (held' : Option ℕ) (old new : List ℕ) → Holds (Err f) held' → AnswersAt (Err f) start held' old new → StopsAt over (fault_of_reading f) start old new
+stops_reading : (over : Limit → Written → Type 0) (f : ReadFault) (start : ℕ) (held' : Option ℕ) (old new : List ℕ) → Holds (Err f) held' → AnswersAt (Err f) start held' old new
+    → StopsAt over (fault_of_reading f) start old new
 stops_reading over (fault.Syntax k) start held' old new n h = record { bad = h.0; shown = h.1.0; last = h.1.1 }
 stops_reading over fault.Truncated start held' old new n h = record { cut = h.0; nothing = h.1.0; asks = h.1.1 }
 stops_reading over fault.Depth start held' old new n h = record { deep = h.0; last = h.1 }
@@ -57,7 +58,8 @@ stops_reading over fault.Bytes start held' old new n h = subst (λ (x : Option �
 stops_reading over fault.Read start held' old new n h = subst (λ (x : Option ℕ). StopsAt over run.ReadFault start old (unread x new)) n h.0
 stops_reading over fault.Memory start held' old new n h = inl (held', h.0)
 
-pub stops : (over : Limit → Written → Type 0) (f : ReadFault) (start : ℕ) (held' : Option ℕ) (left left' : Option (List ℕ)) → Holds (Err f) held' → Between left left' (AnswersAt (Err f) start held') → Between left left' (StopsAt over (fault_of_reading f) start)
+pub stops : (over : Limit → Written → Type 0) (f : ReadFault) (start : ℕ) (held' : Option ℕ) (left left' : Option (List ℕ)) → Holds (Err f) held'
+    → Between left left' (AnswersAt (Err f) start held') → Between left left' (StopsAt over (fault_of_reading f) start)
 stops over f start held' left left' n h = between_as left left' (AnswersAt (Err f) start held') (StopsAt over (fault_of_reading f) start) (λ old new k. stops_reading over f start held' old new n k) h
 
 -- an automaton was read whole
@@ -96,7 +98,8 @@ is_good w start left left' valid within h =
     (λ old new whole. record { whole = whole; valid = valid; within = within }) h
 
 -- a limit that the reader doesn't tell
-past : (over : Limit → Written → Type 0) (which : Limit) (start : ℕ) (old new : List ℕ) → (IsOfReader which → ⊥) → StandsWith (λ w. PassesLimit which w ⊎ over which w) start old new → StopsAt over (run.Limit which) start old new
+past : (over : Limit → Written → Type 0) (which : Limit) (start : ℕ) (old new : List ℕ) → (IsOfReader which → ⊥) → StandsWith (λ w. PassesLimit which w ⊎ over which w) start old new
+    → StopsAt over (run.Limit which) start old new
 past over limit.Names start old new n h = h
 past over limit.Sets start old new n h = h
 past over limit.States start old new n h = h
@@ -119,7 +122,8 @@ is_broken over rule w start left left' broken h = between_as left left' _ (Stops
 
 pub is_past : (over : Limit → Written → Type 0) (which : Limit) (w : Written) (start : ℕ) (left left' : Option (List ℕ)) → (IsOfReader which → ⊥) → PassesLimit which w ⊎ over which w
     → Between left left' (λ old new. Stands (Whole w new) start old) → Between left left' (StopsAt over (run.Limit which) start)
-is_past over which w start left left' n p h = between_as left left' _ (StopsAt over (run.Limit which) start) (λ old new s. past over which start old new n (record { automaton = w; whole = s; holds = p })) h
+is_past over which w start left left' n p h =
+    between_as left left' _ (StopsAt over (run.Limit which) start) (λ old new s. past over which start old new n (record { automaton = w; whole = s; holds = p })) h
 
 pub is_wanting : (w : Written) (start : ℕ) (left left' : Option (List ℕ))
     → Between left left' (λ old new. Stands (Whole w new) start old) → Between left left' (WantsMemory start)

@@ -1,5 +1,6 @@
 -- The text of the rings, part by part.
-use Rattle.std.proofs.Common.{◌≡◌, ℕ, zero, suc, ◌+◌, ◌-◌, ◌%◌, ◌<◌, ◌≤◌, ◌==◌, Bool, true, false, cond, List, [], ◌++◌, Some, length, drop, slice_get, arith, refl, ap, sym, ◌∙◌, lit<, append_assoc, add-one, append-nil, codes, ◌⊎◌, inl, inr}
+use Rattle.std.proofs.Common.{◌≡◌, ℕ, zero, suc, ◌+◌, ◌-◌, ◌%◌, ◌<◌, ◌≤◌, ◌==◌, Bool, true, false, cond, List, [], ◌++◌, Some, length, drop}
+use Rattle.std.proofs.Common.{slice_get, arith, refl, ap, sym, ◌∙◌, lit<, append_assoc, add-one, append-nil, codes, ◌⊎◌, inl, inr}
 use Rattle.std.specs.Fmt.{decimal}
 use Rattle.std.specs.List.{flat_map, range_with_len}
 use Rattle.std.proofs.lemmas.Fmt.{decimal_digit}

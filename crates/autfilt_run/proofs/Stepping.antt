@@ -92,7 +92,8 @@ record ReadTo (R : ℕ → List ℕ → List ℕ → Type 0) (new : Session) (le
   since : new.lexer.since + length next ≡ length stream.text
   taken : new.lexer.taken ≡ p.before + new.lexer.since
 
-read_to : (R : ℕ → List ℕ → List ℕ → Type 0) (old new : Session) (s t : Seen) (p : Point) (stop : Stop) → (at : IsOpen old s.left p) → Between s.left t.left (R old.lexer.since) → Moves stop old.lexer new.lexer s t
+read_to : (R : ℕ → List ℕ → List ℕ → Type 0) (old new : Session) (s t : Seen) (p : Point) (stop : Stop) → (at : IsOpen old s.left p) → Between s.left t.left (R old.lexer.since)
+    → Moves stop old.lexer new.lexer s t
     → new.lexer.taken ≤ MOST_BYTES → ReadTo R new t.left p at.stream
 read_to R old new s t p stop at read moves few =
     let stream = at.stream in
@@ -203,7 +204,8 @@ rest_from [] k name h = let none : None ≡ Some name = h in cc
 rest_from (x ∷ xs) zero name h = let same : Some x ≡ Some name = h in let first : x ≡ name = cc in ap (λ y. y ∷ xs) first
 rest_from (x ∷ xs) (suc k) name h = rest_from xs k name h
 
-pub opens_stream : (texts : Texts) (old new : Session) (s t : Seen) (p : Point) (name : List ℕ) (others : List (List ℕ)) → s.texts ≡ Some texts → IsAt old s.left p → old.is_open ≡ false → p.coming ≡ name ∷ others
+pub opens_stream : (texts : Texts) (old new : Session) (s t : Seen) (p : Point) (name : List ℕ) (others : List (List ℕ)) → s.texts ≡ Some texts → IsAt old s.left p → old.is_open ≡ false
+    → p.coming ≡ name ∷ others
     → Opens s name (Ok tt) t → Begins old new → name_in new ≡ name → new.is_open ≡ true → new.kept ≡ old.kept → GoesTo (λ q. OpensStream texts name p q) others new t.left
 opens_stream texts old new s t p name others told_texts stands closed next opens begins named opened_so kept =
     let at = is_closed old s.left p stands closed in

@@ -28,17 +28,25 @@ abbrev pub over_in : Session → Limit → Written → Type 0
 over_in s which w = IsOver which s.plan (operands_in s) w
 
 -- a fault of the reader
-pub not_read : (f : ReadFault) (old new : Session) (s t : Seen) (o : SinkSeen) (held' : Option ℕ) → IsReading old → new.tried ≡ old.tried → Holds (Err f) held' → Between s.left t.left (AnswersAt (Err f) old.lexer.since held')
+pub not_read : (f : ReadFault) (old new : Session) (s t : Seen) (o : SinkSeen) (held' : Option ℕ) → IsReading old → new.tried ≡ old.tried → Holds (Err f) held'
+    → Between s.left t.left (AnswersAt (Err f) old.lexer.since held')
     → Moves (reads.stop_of_fault f) old.lexer new.lexer s t → Fails (fault_of_reading f) old new s t o o
-not_read (reading.Syntax k) old new s t o held' r hand n at moves = record { reading = r; in_hand = hand; read = stops (over_in old) (reading.Syntax k) old.lexer.since held' s.left t.left n at; moves = moves; output = refl }
-not_read reading.Truncated old new s t o held' r hand n at moves = record { reading = r; in_hand = hand; read = stops (over_in old) reading.Truncated old.lexer.since held' s.left t.left n at; moves = moves; output = refl }
-not_read reading.Depth old new s t o held' r hand n at moves = record { reading = r; in_hand = hand; read = stops (over_in old) reading.Depth old.lexer.since held' s.left t.left n at; moves = moves; output = refl }
-not_read reading.Bytes old new s t o held' r hand n at moves = record { reading = r; in_hand = hand; read = stops (over_in old) reading.Bytes old.lexer.since held' s.left t.left n at; moves = moves; output = refl }
-not_read reading.Read old new s t o held' r hand n at moves = record { reading = r; in_hand = hand; read = stops (over_in old) reading.Read old.lexer.since held' s.left t.left n at; moves = moves; output = refl }
-not_read reading.Memory old new s t o held' r hand n at moves = inr (record { reading = r; in_hand = hand; read = stops (over_in old) reading.Memory old.lexer.since held' s.left t.left n at; moves = moves; output = refl })
+not_read (reading.Syntax k) old new s t o held' r hand n at moves =
+    record { reading = r; in_hand = hand; read = stops (over_in old) (reading.Syntax k) old.lexer.since held' s.left t.left n at; moves = moves; output = refl }
+not_read reading.Truncated old new s t o held' r hand n at moves =
+    record { reading = r; in_hand = hand; read = stops (over_in old) reading.Truncated old.lexer.since held' s.left t.left n at; moves = moves; output = refl }
+not_read reading.Depth old new s t o held' r hand n at moves =
+    record { reading = r; in_hand = hand; read = stops (over_in old) reading.Depth old.lexer.since held' s.left t.left n at; moves = moves; output = refl }
+not_read reading.Bytes old new s t o held' r hand n at moves =
+    record { reading = r; in_hand = hand; read = stops (over_in old) reading.Bytes old.lexer.since held' s.left t.left n at; moves = moves; output = refl }
+not_read reading.Read old new s t o held' r hand n at moves =
+    record { reading = r; in_hand = hand; read = stops (over_in old) reading.Read old.lexer.since held' s.left t.left n at; moves = moves; output = refl }
+not_read reading.Memory old new s t o held' r hand n at moves =
+    inr (record { reading = r; in_hand = hand; read = stops (over_in old) reading.Memory old.lexer.since held' s.left t.left n at; moves = moves; output = refl })
 
 -- it was read whole, and is not kept or dropped
-pub not_handled : (f : RunFault) (w : Written) (old new : Session) (s t : Seen) (o o' : SinkSeen) → IsReading old → new.tried ≡ old.tried → Between s.left t.left (λ rest next. Stands (Whole w next) old.lexer.since rest)
+pub not_handled : (f : RunFault) (w : Written) (old new : Session) (s t : Seen) (o o' : SinkSeen) → IsReading old → new.tried ≡ old.tried
+    → Between s.left t.left (λ rest next. Stands (Whole w next) old.lexer.since rest)
     → Moves Elsewhere old.lexer new.lexer s t → Handles (Err f) old.plan (operands_in old) w o o' → Fails f old new s t o o'
 not_handled fault.WriteFault w old new s t o o' r hand whole moves h = record {
   prints = h.1;
@@ -53,7 +61,8 @@ not_handled fault.WriteFault w old new s t o o' r hand whole moves h = record {
   gains = h.3;
   writes = h.4;
 }
-not_handled (fault.Invalid rule) w old new s t o o' r hand whole moves h = record { reading = r; in_hand = hand; read = is_broken (over_in old) rule w old.lexer.since s.left t.left h.0 whole; moves = moves; output = h.1 }
+not_handled (fault.Invalid rule) w old new s t o o' r hand whole moves h =
+    record { reading = r; in_hand = hand; read = is_broken (over_in old) rule w old.lexer.since s.left t.left h.0 whole; moves = moves; output = h.1 }
 not_handled (fault.Limit which) w old new s t o o' r hand whole moves h = record {
   reading = r;
   in_hand = hand;

@@ -14,6 +14,7 @@ use std::marker::Model;
 /// The most automata that a generated text may have.
 pub const MOST_MADE: u32 = 10_000;
 
+// Why so: 'The generated stream is inputs of its own' in docs/DECISIONS.md.
 /// One text under the name `made`: rings of one to `count` states, one automaton after the other. It is generated as it
 /// is read, and no call fails. Any other name stands for the empty text.
 #[derive(Debug, Drop)]

@@ -7,6 +7,7 @@ ghost use Rattle.aut_io.specs.Seen.{Writes};
 use aut_base::Failed;
 use aut_io::Sink;
 
+// Why so: 'The number under `-c` is written digit by digit' in docs/DECISIONS.md.
 /// Writes a number in decimal digits, one after the other.
 pub fn write_number<M: Sink>(sink: &mut M, number: u64) -> Result<(), Failed>
     ensures { Writes (M.seen sink.old) (decimal number) result (M.seen sink.new) }

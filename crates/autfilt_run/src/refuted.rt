@@ -15,6 +15,7 @@ use plan_meaning::{Automata, Complements, PlanFault, Refutation, refute};
 use std::alloc::Global;
 use word_syntax::print_word;
 
+// Why so: 'A line that refutes is said within limits' in docs/DECISIONS.md.
 /// A word that the automaton accepts and the operand of `--refute` doesn't, or `included` where there is none.
 pub(crate) fn refutation_line(
     alloc: Global,

@@ -38,6 +38,7 @@ pub enum Turn {
     Done,
 }
 
+// Why so: '`prepare` answers once for each automaton that is passed over' in docs/DECISIONS.md.
 /// How the operands were read.
 #[derive(Clone, Copy, Debug, PartialEq, Eq)]
 pub enum Prep {
@@ -60,6 +61,7 @@ pub enum Stage {
     Over,
 }
 
+// Why so: 'A session is seen by its fields, as a lexer is' in docs/DECISIONS.md.
 /// Automata of streams, one after the other, each read, judged, changed and written as a plan asks.
 #[derive(Drop)]
 pub struct Session {
@@ -238,6 +240,7 @@ impl Session {
         self.skipped
     }
 
+    // Why so: 'The name in hand is that of the file that was tried last' in docs/DECISIONS.md.
     /// The name of the file that was tried last, operand or stream, or nothing where none was.
     pub fn name_in_hand(&self) -> &[u8]
         ensures { result.now ≡ name_in self.now }

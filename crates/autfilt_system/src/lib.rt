@@ -15,6 +15,7 @@ use real_io::{RealSink, SystemFiles};
 use std::env;
 use std::process::ExitCode;
 
+// Why so: '`main` is one call' in docs/DECISIONS.md.
 /// Does what the arguments of the process ask for, and answers the status to end with.
 pub fn run(rt: HostRuntime) -> ExitCode {
     exit_code(&ended(rt))

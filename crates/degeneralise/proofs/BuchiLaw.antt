@@ -50,7 +50,9 @@ buchi_accepts_the_same a formed = elim (cases_Bool (is_generalised_buchi a.formu
 pub copies_as_watches : (a : Automaton) → is_generalised_buchi a.formula ≡ false → (copied a).states ≡ a.states * length (watches a.formula)
 copies_as_watches a e =
     let ts = terms a.formula in
-    let size : length (watches a.formula) ≡ 1 + length ts = ap length (watches_copies a.formula e) ∙ (let n : length (map (λ (sets : List Literal). Some sets) (owned_sets ts)) ≡ length ts = length-map (owned_sets ts) (λ (sets : List Literal). Some sets) ∙ (length-map (term_copies ts) owned ∙ copies_count 1 0 ts) in omega (arith, n)) in
+    let size : length (watches a.formula) ≡ 1 + length ts = ap length (watches_copies a.formula e)
+    ∙ (let n : length (map (λ (sets : List Literal). Some sets) (owned_sets ts)) ≡ length ts = length-map (owned_sets ts) (λ (sets : List Literal). Some sets)
+    ∙ (length-map (term_copies ts) owned ∙ copies_count 1 0 ts) in omega (arith, n)) in
     let turned : (1 + length ts) * a.states ≡ a.states * (1 + length ts) = omega arith in
     turned ∙ ap (λ n. a.states * n) (sym size)
 

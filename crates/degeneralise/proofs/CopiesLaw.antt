@@ -36,7 +36,8 @@ sets_passed copy es some carried level within =
 
 passed_sets : (copy : TermCopy) (es : List TreeEdge) → PassesAll (owned copy) es → (set : ℕ) → Owns copy set → list_any (is_in set) (marks_of es) ≡ true
 passed_sets copy es passes set own =
-    each_passed (owned copy) (marks_of es) passes (Inf set false) (there_map (λ s. Inf s false) (range_with_len copy.first (literal_places copy.infs)) set (there_range copy.first (literal_places copy.infs) set own.from own.to))
+    each_passed (owned copy) (marks_of es) passes (Inf set false)
+    (there_map (λ s. Inf s false) (range_with_len copy.first (literal_places copy.infs)) set (there_range copy.first (literal_places copy.infs) set own.from own.to))
 
 -- a state of the main copy, or of the copy of a term
 record IsIn (a : Automaton) (state : ℕ) : Type 0 where
@@ -51,7 +52,8 @@ where_from a formed f there = ⊎_elim
     (λ (s : Stays a f). (let bounds = edge_bounds a formed s.edge s.there in inl (subst (λ (g : TreeEdge). g.from < a.states) s.is bounds.from)))
     (⊎_elim
     (λ (s : Enters a (copies_of a) f). (let bounds = edge_bounds a formed s.edge s.there in inl (subst (λ (g : TreeEdge). g.from < a.states) s.is bounds.from)))
-    (λ (s : Within a (copies_of a) f). inr (record { copy = s.copy; listed = s.listed; own = s.edge.from; below = (edge_bounds a formed s.edge s.there).from; at = ap (λ (g : TreeEdge). g.from) (sym s.is) })))
+    (λ (s : Within a (copies_of a) f). inr (record
+    { copy = s.copy; listed = s.listed; own = s.edge.from; below = (edge_bounds a formed s.edge s.there).from; at = ap (λ (g : TreeEdge). g.from) (sym s.is) })))
     (comes_from a (copies_of a) f there)
 
 module _ (a : Automaton) (formed : IsWellFormed a) where
@@ -78,7 +80,8 @@ module _ (a : Automaton) (formed : IsWellFormed a) where
       to ∙ (sym from ∙ waits)))
       (comes_from a (copies_of a) f there)
 
-  copy_asks : (q : ℕ) (i : IsIn a q) (xs : List NameSet) (es : List TreeEdge) → 0 < length es → IsPath (copied a) q xs es q → (met (marks_of es) (copied a).formula ≡ true) ↔ PassesAll (owned i.copy) es
+  copy_asks : (q : ℕ) (i : IsIn a q) (xs : List NameSet) (es : List TreeEdge) → 0 < length es → IsPath (copied a) q xs es q
+      → (met (marks_of es) (copied a).formula ≡ true) ↔ PassesAll (owned i.copy) es
   copy_asks q i xs es some path =
       let inside = from_copy a formed i.copy i.listed i.own i.below xs es q (subst (λ (s : ℕ). IsPath (copied a) s xs es q) i.at path) in (
         λ holds. sets_passed i.copy es some (subst (λ (fs : List TreeEdge). (set : ℕ) → Owns i.copy set → list_any (is_in set) (marks_of fs) ≡ true) (sym inside.is)
@@ -86,14 +89,16 @@ module _ (a : Automaton) (formed : IsWellFormed a) where
         λ passes. own_sets_met a i.copy i.listed es (passed_sets i.copy es passes),
       )
 
-  waits_asks : (q : ℕ) (ls : List Literal) (xs : List NameSet) (es : List TreeEdge) → 0 < length es → IsPath (copied a) q xs es q → watch q ≡ Some ls → (met (marks_of es) (copied a).formula ≡ true) ↔ PassesAll ls es
+  waits_asks : (q : ℕ) (ls : List Literal) (xs : List NameSet) (es : List TreeEdge) → 0 < length es → IsPath (copied a) q xs es q → watch q ≡ Some ls
+      → (met (marks_of es) (copied a).formula ≡ true) ↔ PassesAll ls es
   waits_asks q ls xs es some path waits =
       let first = begins (copied a) q q xs es some path in
       ⊎_elim
       (λ (main : first.edge.from < a.states). absurd (none-some ls (sym (in_main q (omega (arith, main, first.from))) ∙ waits)))
       (λ (i : IsIn a first.edge.from).
       let here : IsIn a q = subst (IsIn a) (sym first.from) i in
-      subst (λ (those : List Literal). (met (marks_of es) (copied a).formula ≡ true) ↔ PassesAll those es) (same_Some (owned here.copy) ls (sym (in_copy q here) ∙ waits)) (copy_asks q here xs es some path))
+      subst (λ (those : List Literal). (met (marks_of es) (copied a).formula ≡ true) ↔ PassesAll those es) (same_Some (owned here.copy) ls (sym (in_copy q here) ∙ waits))
+      (copy_asks q here xs es some path))
       (where_from a formed first.edge first.there)
 
   never_met : (q : ℕ) (xs : List NameSet) (es : List TreeEdge) → 0 < length es → IsPath (copied a) q xs es q → watch q ≡ None → met (marks_of es) (copied a).formula ≡ true → ⊥
@@ -110,9 +115,11 @@ module _ (a : Automaton) (formed : IsWellFormed a) where
       (λ (i : IsIn a first.edge.from). none-some (owned i.copy) (sym waits ∙ (ap watch first.from ∙ in_copy first.edge.from i)))
       (where_from a formed first.edge first.there)
 
-  pub copies_accept_the_same : (k : ℕ) → ((state : ℕ) → levels (watch_of a.states (None ∷ map (λ sets. Some sets) (owned_sets (terms a.formula))) state) ≤ k) → AcceptTheSame (levelled k (watch_of a.states (None ∷ map (λ sets. Some sets) (owned_sets (terms a.formula)))) (copied a)) a
+  pub copies_accept_the_same : (k : ℕ) → ((state : ℕ) → levels (watch_of a.states (None ∷ map (λ sets. Some sets) (owned_sets (terms a.formula))) state) ≤ k)
+      → AcceptTheSame (levelled k (watch_of a.states (None ∷ map (λ sets. Some sets) (owned_sets (terms a.formula)))) (copied a)) a
   unfolding watch
   copies_accept_the_same k room u v =
-      let by_levels = levelled_accepts_the_same k watch (copied a) (record { formed = copied_well_formed a formed; room = room; settled = settled }) (record { waits = waits_asks; never = never_met }) u v in
+      let by_levels = levelled_accepts_the_same k watch (copied a) (record { formed = copied_well_formed a formed; room = room; settled = settled })
+      (record { waits = waits_asks; never = never_met }) u v in
       let by_copies = copied_accepts_the_same a formed u v in
       (λ r. by_copies.0 (by_levels.0 r), λ r. by_levels.1 (by_copies.1 r))

@@ -76,7 +76,9 @@ begins a p q xs [] some path = absurd (omega (arith, some))
 begins a p q [] (e ∷ es) some path = absurd path
 begins a p q (x ∷ xs) (e ∷ es) some path = record { edge = e; there = path.1; from = path.0 }
 
-pub generalised_accepts_the_same : (k : ℕ) (a : Automaton) → IsWellFormed a → is_generalised_buchi a.formula ≡ true → ((state : ℕ) → levels (watch_of a.states (Some (flat_map inf_literals (conjuncts a.formula)) ∷ []) state) ≤ k) → AcceptTheSame (levelled k (watch_of a.states (Some (flat_map inf_literals (conjuncts a.formula)) ∷ [])) a) a
+pub generalised_accepts_the_same : (k : ℕ) (a : Automaton) → IsWellFormed a → is_generalised_buchi a.formula ≡ true
+    → ((state : ℕ) → levels (watch_of a.states (Some (flat_map inf_literals (conjuncts a.formula)) ∷ []) state) ≤ k)
+    → AcceptTheSame (levelled k (watch_of a.states (Some (flat_map inf_literals (conjuncts a.formula)) ∷ [])) a) a
 generalised_accepts_the_same k a formed generalised room =
     let ls : List Literal = flat_map inf_literals (conjuncts a.formula) in
     let watch : ℕ → Watch = watch_of a.states (Some ls ∷ []) in

@@ -27,10 +27,12 @@ pub record AreLevelledParts (k : ℕ) (watch : ℕ → Watch) (old new : Core) :
 
 pub are_levelled : (k : ℕ) (watch : ℕ → Watch) (old new : Core) → AreLevelledParts k watch old new → automaton_of new ≡ levelled k watch (automaton_of old)
 are_levelled k watch old new are =
-    let edges : map (edge_of new.store) new.links ≡ flat_map (λ state. level_edges k (edges_from state (map (edge_of old.store) old.links)) (watch state)) (range_with_len 0 old.states) = ap (λ (s : Store). map (edge_of s) new.links) are.store ∙ are.edges in
+    let edges : map (edge_of new.store) new.links ≡ flat_map (λ state. level_edges k (edges_from state (map (edge_of old.store) old.links)) (watch state)) (range_with_len 0 old.states) =
+    ap (λ (s : Store). map (edge_of s) new.links) are.store ∙ are.edges in
     λ i. record { names = are.names i; starts = are.starts i; states = are.states i; edges = edges i; sets = are.sets i; formula = are.formula i }
 
 pub levelled_parts : (k : ℕ) (watch : ℕ → Watch) (old new : Core) → IsCore old → ((state : ℕ) → levels (watch state) ≤ k) → AreLevelledParts k watch old new → AreParts new
 levelled_parts k watch old new core room are =
-    parts_from new (subst IsWellFormed (sym (are_levelled k watch old new are)) (levelled_well_formed k watch (automaton_of old) core.well_formed room)) (omega (arith, core.parts.few, ap length are.names))
+    parts_from new (subst IsWellFormed (sym (are_levelled k watch old new are)) (levelled_well_formed k watch (automaton_of old) core.well_formed room))
+    (omega (arith, core.parts.few, ap length are.names))
     (ap (λ (s : Store). s.names) are.store ∙ (core.parts.store_names ∙ sym (ap length are.names))) (subst (λ (s : Store). All (λ l. Has s l.guard) new.links) (sym are.store) are.has)

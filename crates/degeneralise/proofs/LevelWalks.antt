@@ -44,19 +44,25 @@ module _ (k : ℕ) (watch : ℕ → Watch) (a : Automaton) (has : HasRoom k watc
   pub step_below : (e : TreeEdge) (level : ℕ) → Contains a.edges e → level < levels (watch e.from) → level_after (watch e.from) level e.marks < levels (watch e.to)
   step_below e level there below = next_below (watch e.from) (watch e.to) level e.marks (has.settled e there) below
 
-  pub walk_path : (p q level : ℕ) (xs : List NameSet) (es : List TreeEdge) → level < levels (watch p) → IsPath a p xs es q → IsPath (levelled k watch a) (state_at k p level) xs (walk k watch level es) (state_at k q (end_level watch level es))
+  pub walk_path : (p q level : ℕ) (xs : List NameSet) (es : List TreeEdge) → level < levels (watch p) → IsPath a p xs es q
+      → IsPath (levelled k watch a) (state_at k p level) xs (walk k watch level es) (state_at k q (end_level watch level es))
   walk_path p q level [] [] below path = ap (λ s. state_at k s level) path
   walk_path p q level [] (e ∷ es) below path = absurd path
   walk_path p q level (x ∷ xs) [] below path = absurd path
   walk_path p q level (x ∷ xs) (e ∷ es) below path =
-      let here : level < levels (watch e.from) = subst (λ s. level < levels (watch s)) path.0 below in
-      (ap (λ s. state_at k s level) path.0, has_level k watch a e level path.1 (edge_bounds a has.formed e path.1).from here, path.2, walk_path e.to q (level_after (watch e.from) level e.marks) xs es (step_below e level path.1 here) path.3)
+      let here : level < levels (watch e.from) = subst (λ s. level < levels (watch s)) path.0 below in (
+        ap (λ s. state_at k s level) path.0,
+        has_level k watch a e level path.1 (edge_bounds a has.formed e path.1).from here,
+        path.2,
+        walk_path e.to q (level_after (watch e.from) level e.marks) xs es (step_below e level path.1 here) path.3,
+      )
 
   pub end_below : (p q level : ℕ) (xs : List NameSet) (es : List TreeEdge) → level < levels (watch p) → IsPath a p xs es q → end_level watch level es < levels (watch q)
   end_below p q level [] [] below path = subst (λ s. level < levels (watch s)) path below
   end_below p q level [] (e ∷ es) below path = absurd path
   end_below p q level (x ∷ xs) [] below path = absurd path
-  end_below p q level (x ∷ xs) (e ∷ es) below path = end_below e.to q (level_after (watch e.from) level e.marks) xs es (step_below e level path.1 (subst (λ s. level < levels (watch s)) path.0 below)) path.3
+  end_below p q level (x ∷ xs) (e ∷ es) below path =
+      end_below e.to q (level_after (watch e.from) level e.marks) xs es (step_below e level path.1 (subst (λ s. level < levels (watch s)) path.0 below)) path.3
 
   -- a path through levels is that of a path
   pub record Walked (p level : ℕ) (xs : List NameSet) (fs : List TreeEdge) (state : ℕ) : Type 0 where
@@ -73,10 +79,12 @@ module _ (k : ℕ) (watch : ℕ → Watch) (a : Automaton) (has : HasRoom k watc
   walked p level (x ∷ xs) (f ∷ fs) state below path =
       let found = comes_from k watch a f path.1 in
       let e = found.edge in
-      let places = same_from_place p level e.from found.level k (omega (arith, below, has.room p)) (omega (arith, found.below, has.room e.from)) (path.0 ∙ ap (λ (g : TreeEdge). g.from) (sym found.is)) in
+      let places = same_from_place p level e.from found.level k (omega (arith, below, has.room p)) (omega (arith, found.below, has.room e.from))
+      (path.0 ∙ ap (λ (g : TreeEdge). g.from) (sym found.is)) in
       let here : level < levels (watch e.from) = omega (arith, found.below, places.1) in
       let is : f ≡ edge_at k (watch e.from) level e = sym found.is ∙ ap (λ l. edge_at k (watch e.from) l e) (sym places.1) in
-      let rest = walked e.to (level_after (watch e.from) level e.marks) xs fs state (step_below e level found.there here) (subst (λ (s : ℕ). IsPath (levelled k watch a) s xs fs state) (ap (λ (g : TreeEdge). g.to) is) path.3) in
+      let rest = walked e.to (level_after (watch e.from) level e.marks) xs fs state (step_below e level found.there here)
+      (subst (λ (s : ℕ). IsPath (levelled k watch a) s xs fs state) (ap (λ (g : TreeEdge). g.to) is) path.3) in
       record {
         edges = e ∷ rest.edges;
         end = rest.end;
@@ -121,9 +129,11 @@ module _ (k : ℕ) (watch : ℕ → Watch) (a : Automaton) (has : HasRoom k watc
 pub end_is_turn : (watch : ℕ → Watch) (ls : List Literal) (level : ℕ) (es : List TreeEdge) → ((e : TreeEdge) → Contains es e → watch e.from ≡ Some ls) → end_level watch level es ≡ turn ls level es
 end_is_turn watch ls level [] waits = refl
 end_is_turn watch ls level (e ∷ es) waits =
-    ap (λ w. end_level watch (level_after w level e.marks) es) (waits e (first_there e es)) ∙ end_is_turn watch ls (level_after (Some ls) level e.marks) es (λ f there. waits f (later_there e es f there))
+    ap (λ w. end_level watch (level_after w level e.marks) es) (waits e (first_there e es))
+    ∙ end_is_turn watch ls (level_after (Some ls) level e.marks) es (λ f there. waits f (later_there e es f there))
 
-pub marks_are_marked : (k : ℕ) (watch : ℕ → Watch) (ls : List Literal) (level : ℕ) (es : List TreeEdge) → ((e : TreeEdge) → Contains es e → watch e.from ≡ Some ls) → list_any (is_in 0) (marks_of (walk k watch level es)) ≡ marked ls level es
+pub marks_are_marked : (k : ℕ) (watch : ℕ → Watch) (ls : List Literal) (level : ℕ) (es : List TreeEdge) → ((e : TreeEdge) → Contains es e → watch e.from ≡ Some ls)
+    → list_any (is_in 0) (marks_of (walk k watch level es)) ≡ marked ls level es
 marks_are_marked k watch ls level [] waits = refl
 marks_are_marked k watch ls level (e ∷ es) waits =
     ap (λ w. is_in 0 (marks_at w level e.marks) || list_any (is_in 0) (marks_of (walk k watch (level_after w level e.marks) es))) (waits e (first_there e es))

@@ -24,8 +24,11 @@ comes_from k watch a f there =
     let within = from_range 0 (levels (watch at.0)) level.0 level.1 in
     record { edge = edge.0; there = kept.0; level = level.0; below = omega (arith, within.1, ap (λ s. levels (watch s)) same); is = ap (λ s. edge_at k (watch s) level.0 edge.0) same ∙ edge.2 }
 
-pub has_level : (k : ℕ) (watch : ℕ → Watch) (a : Automaton) (e : TreeEdge) (level : ℕ) → Contains a.edges e → e.from < a.states → level < levels (watch e.from) → Contains (levelled k watch a).edges (edge_at k (watch e.from) level e)
+pub has_level : (k : ℕ) (watch : ℕ → Watch) (a : Automaton) (e : TreeEdge) (level : ℕ) → Contains a.edges e → e.from < a.states → level < levels (watch e.from)
+    → Contains (levelled k watch a).edges (edge_at k (watch e.from) level e)
 has_level k watch a e level there within below =
-    there_flat_map (λ state. level_edges k (edges_from state a.edges) (watch state)) (range_with_len 0 a.states) e.from (edge_at k (watch e.from) level e) (there_range 0 a.states e.from (omega arith) (omega (arith, within)))
-    (there_flat_map (λ l. map (edge_at k (watch e.from) l) (edges_from e.from a.edges)) (range_with_len 0 (levels (watch e.from))) level (edge_at k (watch e.from) level e) (there_range 0 (levels (watch e.from)) level (omega arith) (omega (arith, below)))
+    there_flat_map (λ state. level_edges k (edges_from state a.edges) (watch state)) (range_with_len 0 a.states) e.from (edge_at k (watch e.from) level e)
+    (there_range 0 a.states e.from (omega arith) (omega (arith, within)))
+    (there_flat_map (λ l. map (edge_at k (watch e.from) l) (edges_from e.from a.edges)) (range_with_len 0 (levels (watch e.from))) level (edge_at k (watch e.from) level e)
+    (there_range 0 (levels (watch e.from)) level (omega arith) (omega (arith, below)))
     (there_map (edge_at k (watch e.from) level) (edges_from e.from a.edges) e (there_filter (λ (d : TreeEdge). d.from == e.from) a.edges e there (eq-eqb e.from e.from refl))))

@@ -62,7 +62,8 @@ closed_rounds ls level es below passes =
     let some : 0 < rounds = omega arith in
     let at : ℕ = turn ls level (copies found.first es) in
     let here : at < literal_places ls = round_below ls level (copies found.first es) below in
-    let back : turn ls at (copies rounds es) ≡ at = sym (turn_then ls level (copies found.first es) (copies rounds es)) ∙ (ap (turn ls level) (sym (copies-add found.first rounds es) ∙ ap (λ n. copies n es) all) ∙ sym found.same) in
+    let back : turn ls at (copies rounds es) ≡ at = sym (turn_then ls level (copies found.first es) (copies rounds es))
+    ∙ (ap (turn ls level) (sym (copies-add found.first rounds es) ∙ ap (λ n. copies n es) all) ∙ sym found.same) in
     let met : met_on ls at (copies rounds es) ≡ true = any-copies (λ (e : TreeEdge). meets_at ls at e.marks) rounds es some ∙ passed_on ls at es (passes at here) in
     record {
       before = found.first;
@@ -96,9 +97,13 @@ module _ (k : ℕ) (watch : ℕ → Watch) (a : Automaton) (has : HasRoom k watc
       let ends : end_level watch 0 way ≡ at = end_then watch 0 r.way (copies i r.cycle) ∙ end_is_turn watch ls level (copies i r.cycle) along in
       let ends_again : end_level watch at (copies d r.cycle) ≡ at = end_is_turn watch ls at (copies d r.cycle) along_again ∙ closed.back in
       let at_below : at < levels (watch r.state) = subst (λ (w : Watch). at < levels w) (sym waits) (round_below ls level (copies i r.cycle) below) in
-      let word : (u ++ copies r.turns v) ++ copies i (copies r.rounds v) ≡ u ++ copies (r.turns + i * r.rounds) v = ap (λ (w : List NameSet). (u ++ copies r.turns v) ++ w) (copies-copies i r.rounds v) ∙ gone_on u v r.turns (i * r.rounds) in
-      let leads : IsPath a r.start (u ++ copies (r.turns + i * r.rounds) v) way r.state = subst (λ (w : List NameSet). IsPath a r.start w way r.state) word (path_join a r.start r.state r.state (u ++ copies r.turns v) (copies i (copies r.rounds v)) r.way (copies i r.cycle) r.leads round) in
-      let returns : IsPath a r.state (copies (d * r.rounds) v) (copies d r.cycle) r.state = subst (λ (w : List NameSet). IsPath a r.state w (copies d r.cycle) r.state) (copies-copies d r.rounds v) again in
+      let word : (u ++ copies r.turns v) ++ copies i (copies r.rounds v) ≡ u ++ copies (r.turns + i * r.rounds) v =
+      ap (λ (w : List NameSet). (u ++ copies r.turns v) ++ w) (copies-copies i r.rounds v) ∙ gone_on u v r.turns (i * r.rounds) in
+      let leads : IsPath a r.start (u ++ copies (r.turns + i * r.rounds) v) way r.state =
+      subst (λ (w : List NameSet). IsPath a r.start w way r.state) word
+      (path_join a r.start r.state r.state (u ++ copies r.turns v) (copies i (copies r.rounds v)) r.way (copies i r.cycle) r.leads round) in
+      let returns : IsPath a r.state (copies (d * r.rounds) v) (copies d r.cycle) r.state =
+      subst (λ (w : List NameSet). IsPath a r.state w (copies d r.cycle) r.state) (copies-copies d r.rounds v) again in
       let walk_leads = walk_path k watch a has r.start r.state 0 (u ++ copies (r.turns + i * r.rounds) v) way start_below leads in
       let walk_returns = walk_path k watch a has r.state r.state at (copies (d * r.rounds) v) (copies d r.cycle) at_below returns in
       record {
@@ -126,12 +131,15 @@ module _ (k : ℕ) (watch : ℕ → Watch) (a : Automaton) (has : HasRoom k watc
   from_levels : (u v : List NameSet) → Accepts (levelled k watch a) u v → Accepts a u v
   from_levels u v r =
       let start = from_map (λ start. state_at k start 0) a.starts r.start r.is_start in
-      let way = walked k watch a has start.0 0 (u ++ copies r.turns v) r.way r.state (some_level (watch start.0)) (subst (λ (s : ℕ). IsPath (levelled k watch a) s (u ++ copies r.turns v) r.way r.state) (sym start.2) r.leads) in
+      let way = walked k watch a has start.0 0 (u ++ copies r.turns v) r.way r.state (some_level (watch start.0))
+      (subst (λ (s : ℕ). IsPath (levelled k watch a) s (u ++ copies r.turns v) r.way r.state) (sym start.2) r.leads) in
       let level : ℕ = end_level watch 0 way.edges in
       let below : level < levels (watch way.end) = end_below k watch a has start.0 way.end 0 (u ++ copies r.turns v) way.edges (some_level (watch start.0)) way.path in
-      let cycle = walked k watch a has way.end level (copies r.rounds v) r.cycle r.state below (subst (λ (s : ℕ). IsPath (levelled k watch a) s (copies r.rounds v) r.cycle r.state) way.at r.returns) in
+      let cycle = walked k watch a has way.end level (copies r.rounds v) r.cycle r.state below
+      (subst (λ (s : ℕ). IsPath (levelled k watch a) s (copies r.rounds v) r.cycle r.state) way.at r.returns) in
       let after = end_below k watch a has way.end cycle.end level (copies r.rounds v) cycle.edges below cycle.path in
-      let places = same_from_place cycle.end (end_level watch level cycle.edges) way.end level k (omega (arith, after, has.room cycle.end)) (omega (arith, below, has.room way.end)) (sym cycle.at ∙ way.at) in
+      let places = same_from_place cycle.end (end_level watch level cycle.edges) way.end level k (omega (arith, after, has.room cycle.end)) (omega (arith, below, has.room way.end))
+      (sym cycle.at ∙ way.at) in
       let returns : IsPath a way.end (copies r.rounds v) cycle.edges way.end = subst (λ (q : ℕ). IsPath a way.end (copies r.rounds v) cycle.edges q) places.0 cycle.path in
       let marks : list_any (is_in 0) (marks_of (walk k watch level cycle.edges)) ≡ true = ap (λ (es : List TreeEdge). list_any (is_in 0) (marks_of es)) (sym cycle.is) ∙ r.meets in
       let waits = marked_waits k watch a has way.end way.end level (copies r.rounds v) cycle.edges returns marks in

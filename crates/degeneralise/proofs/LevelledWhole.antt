@@ -80,7 +80,8 @@ module _ (k : ℕ) (watch : ℕ → Watch) (a : Automaton) (formed : IsWellForme
       record {
         names_differ = formed.names_differ;
         starts_differ = starts_apart some;
-        starts = All-map (λ p. p < a.states * k) (λ start. state_at k start 0) a.starts (All-weaker (λ p. p < a.states) (λ p. state_at k p 0 < a.states * k) (λ p h. state_below a.states k p 0 h some) a.starts formed.starts);
+        starts = All-map (λ p. p < a.states * k) (λ start. state_at k start 0) a.starts
+            (All-weaker (λ p. p < a.states) (λ p. state_at k p 0 < a.states * k) (λ p h. state_below a.states k p 0 h some) a.starts formed.starts);
         in_order = rising 0 (a.states * k) (levelled k watch a).edges rise;
         edges = each_there (IsEdgeOf (levelled k watch a)) (levelled k watch a).edges edge_whole;
         formula = omega arith;

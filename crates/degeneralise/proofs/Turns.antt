@@ -57,7 +57,8 @@ turn_then ls level (e ∷ es) fs = turn_then ls (level_after (Some ls) level e.m
 rest_of : (ls : List Literal) (level next : ℕ) (e : TreeEdge) (es : List TreeEdge) → level_after (Some ls) level e.marks ≡ next → turn ls level (e ∷ es) ≡ turn ls next es
 rest_of ls level next e es is = ap (λ l. turn ls l es) is
 
-marked_rest : (ls : List Literal) (level next : ℕ) (e : TreeEdge) (es : List TreeEdge) → level_after (Some ls) level e.marks ≡ next → marks_at (Some ls) level e.marks ≡ [] → marked ls level (e ∷ es) ≡ marked ls next es
+marked_rest : (ls : List Literal) (level next : ℕ) (e : TreeEdge) (es : List TreeEdge) → level_after (Some ls) level e.marks ≡ next → marks_at (Some ls) level e.marks ≡ []
+    → marked ls level (e ∷ es) ≡ marked ls next es
 marked_rest ls level next e es is none = ap (λ marks. is_in 0 marks || marked ls (level_after (Some ls) level e.marks) es) none ∙ ap (λ l. marked ls l es) is
 
 marked_here : (ls : List Literal) (level : ℕ) (e : TreeEdge) (es : List TreeEdge) → marks_at (Some ls) level e.marks ≡ 0 ∷ [] → marked ls level (e ∷ es) ≡ true
@@ -102,7 +103,11 @@ stuck ls level j (e ∷ es) within low none =
           let other : (level + 1 == literal_places ls) ≡ false = ne_eqb (level + 1) (literal_places ls) (λ f. omega (arith, f, lower, within)) in
           let after = goes_after ls level e.marks meets other in
           let rest = stuck ls (level + 1) j es within (omega (arith, lower)) parts.1 in
-          record { below = omega (arith, rest_of ls level (level + 1) e es after, rest.below); unmarked = marked_rest ls level (level + 1) e es after (goes_mark ls level e.marks meets other) ∙ rest.unmarked })
+          record {
+            below = omega (arith, rest_of ls level (level + 1) e es after, rest.below);
+            unmarked = marked_rest ls level (level + 1) e es after (goes_mark ls level e.marks meets other)
+                ∙ rest.unmarked;
+          })
     ]
   where
     not_here : (level j : ℕ) → level ≤ j → (level ≡ j → ⊥) → level < j
@@ -120,13 +125,15 @@ falls ls level j (e ∷ es) within high none some =
       | inl meets ↦ (elim (cases_Bool (level + 1 == literal_places ls)) [
         | inl last ↦ (let rest = stuck ls 0 j es (omega (arith, high, within)) (omega arith) parts.1 in omega (arith, rest_of ls level 0 e es (wraps_after ls level e.marks meets last), rest.below))
         | inr other ↦ (let after = goes_after ls level e.marks meets other in
-            let rest = falls ls (level + 1) j es (omega (arith, eqb-false (level + 1) (literal_places ls) other, within)) (omega (arith, high)) parts.1 (sym (marked_rest ls level (level + 1) e es after (goes_mark ls level e.marks meets other)) ∙ some) in
+            let rest = falls ls (level + 1) j es (omega (arith, eqb-false (level + 1) (literal_places ls) other, within)) (omega (arith, high)) parts.1
+            (sym (marked_rest ls level (level + 1) e es after (goes_mark ls level e.marks meets other)) ∙ some) in
             omega (arith, rest_of ls level (level + 1) e es after, rest))
       ])
     ]
 
 -- Where edges with a mark lead back to the level from which they came, the literal of each level is met.
-pub all_passed : (ls : List Literal) (level : ℕ) (es : List TreeEdge) → level < literal_places ls → turn ls level es ≡ level → marked ls level es ≡ true → (j : ℕ) → j < literal_places ls → met_on ls j es ≡ true
+pub all_passed : (ls : List Literal) (level : ℕ) (es : List TreeEdge) → level < literal_places ls → turn ls level es ≡ level → marked ls level es ≡ true → (j : ℕ) → j < literal_places ls
+    → met_on ls j es ≡ true
 all_passed ls level es below closed some j within = elim (cases_Bool (met_on ls j es)) [
   | inl met ↦ met
   | inr none ↦ (elim (cases_lt j level) [

@@ -55,7 +55,8 @@ placed number first (t ∷ ts) copy (suc k, within, is) =
     record { place = suc rest.place; is_number = omega (arith, rest.is_number); at = rest.at }
 
 -- the states of the copy of a term
-pub watch_copy : (n q : ℕ) (ts : List (List Literal)) (copy : TermCopy) → Contains (term_copies ts) copy → q < n → watch_of n (None ∷ map (λ sets. Some sets) (owned_sets ts)) (state_in n copy.number q) ≡ Some (owned copy)
+pub watch_copy : (n q : ℕ) (ts : List (List Literal)) (copy : TermCopy) → Contains (term_copies ts) copy → q < n
+    → watch_of n (None ∷ map (λ sets. Some sets) (owned_sets ts)) (state_in n copy.number q) ≡ Some (owned copy)
 watch_copy n q ts copy listed below =
     let its = placed 1 0 ts copy listed in
     let ws : List Watch = None ∷ map (λ sets. Some sets) (owned_sets ts) in

@@ -12,12 +12,14 @@ use std::hash::Hash;
 /// thing to which a step leads; the step tells a note beside it. Contracts speak of things as they are `seen`. What the
 /// system does (`moves`) stays the same while it works, though it may grow, as a store of labels does.
 pub trait System {
+    // Why so: 'Things are seen as values' in docs/DECISIONS.md.
     /// What steps lead from and to.
     type Thing: Eq + Hash + Drop;
 
     /// The handle of a class, as a guard of a store.
     type Class: Copy;
 
+    // Why so: 'The mark of an edge is told by the step' in docs/DECISIONS.md.
     /// What a step tells besides the thing to which it leads.
     type Note: Copy;
 

@@ -21,7 +21,8 @@ first_of_text Sets rest = refl
 first_of_text Word rest = refl
 
 -- One piece more was taken: a text that pieces write goes on with others.
-pub step_of_format : (bytes rest : List ℕ) (p : Piece) → Some (p, rest) ≡ first_piece bytes → (pieces : List Piece) → bytes ≡ flat_map piece_text pieces → (more : List Piece) × (rest ≡ flat_map piece_text more)
+pub step_of_format : (bytes rest : List ℕ) (p : Piece) → Some (p, rest) ≡ first_piece bytes → (pieces : List Piece) → bytes ≡ flat_map piece_text pieces
+    → (more : List Piece) × (rest ≡ flat_map piece_text more)
 step_of_format bytes rest p first [] is = absurd (no_piece (first ∙ ap first_piece is))
   where
     no_piece : Some (p, rest) ≡ first_piece [] → ⊥
@@ -36,7 +37,8 @@ no_format bytes none some [] is = some (ap length is)
 no_format bytes none some (q ∷ qs) is = none-some (q, flat_map piece_text qs) (none ∙ (ap first_piece is ∙ first_of_text q (flat_map piece_text qs)))
 
 -- what was read, with one piece more
-pub format_more : (text bytes rest : List ℕ) (old new : List Piece) (p : Piece) → flat_map piece_text old ++ bytes ≡ text → bytes ≡ piece_text p ++ rest → new ≡ old ++ p ∷ [] → flat_map piece_text new ++ rest ≡ text
+pub format_more : (text bytes rest : List ℕ) (old new : List Piece) (p : Piece) → flat_map piece_text old ++ bytes ≡ text → bytes ≡ piece_text p ++ rest → new ≡ old ++ p ∷ []
+    → flat_map piece_text new ++ rest ≡ text
 format_more text bytes rest old new p so_far is made =
     ap (λ ps. flat_map piece_text ps ++ rest) made
     ∙ ap (λ t. t ++ rest) (flat_map-append piece_text old (p ∷ []))

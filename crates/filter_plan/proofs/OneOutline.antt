@@ -14,7 +14,8 @@ use Rattle.filter_plan.specs.inner.Forms.{IsForm}
 use Rattle.filter_plan.specs.inner.Given.{IsGiven}
 
 -- what can be read in one way is
-pub same_value : {X : Type 0} (IsRead : List ℕ → X → Type 0) → ((t : List ℕ) (x y : X) → IsRead t x → IsRead t y → x ≡ y) → (values : List (List ℕ)) (x y : Option X) → Reads IsRead values x → Reads IsRead values y → x ≡ y
+pub same_value : {X : Type 0} (IsRead : List ℕ → X → Type 0) → ((t : List ℕ) (x y : X) → IsRead t x → IsRead t y → x ≡ y) → (values : List (List ℕ)) (x y : Option X) → Reads IsRead values x
+    → Reads IsRead values y → x ≡ y
 same_value IsRead one [] None None h k = refl
 same_value IsRead one [] None (Some y) h k = absurd k
 same_value IsRead one [] (Some x) y h k = absurd h

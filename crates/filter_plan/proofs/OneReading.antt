@@ -131,7 +131,8 @@ same_output (Refute a) (Refute b) f r = ap Refute (same_Some a b r)
 
 -- ---- patterns
 
-pub same_pattern : ((text : List ℕ) → OneReading text) → (values : List (List ℕ)) (x y : Option Pattern) → Reads IsPattern values x → Reads IsPattern values y → option_map word_pattern x ≡ option_map word_pattern y
+pub same_pattern : ((text : List ℕ) → OneReading text) → (values : List (List ℕ)) (x y : Option Pattern) → Reads IsPattern values x → Reads IsPattern values y
+    → option_map word_pattern x ≡ option_map word_pattern y
 same_pattern law [] None None h k = refl
 same_pattern law [] None (Some y) h k = absurd k
 same_pattern law [] (Some x) y h k = absurd h

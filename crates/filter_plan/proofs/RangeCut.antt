@@ -12,6 +12,7 @@ cuts text r is a b digits split = split_after 46 text a (46 ∷ b) r is (lit< tt
 pub cut_none : (text : List ℕ) (r : Option (Bor (List ℕ) × Bor (List ℕ))) → IsSplitOnceResult 46 text r → r ≡ None → (a b : List ℕ) → AllDigits 10 a → text ≡ a ++ (codes ".." ++ b) → ⊥
 cut_none text r is none a b digits split = subst (λ o. MatchOption o ⊥ (λ x. (x.0.now ≡ a) × (x.1.now ≡ 46 ∷ b))) none (cuts text r is a b digits split)
 
-pub cut_found : (text : List ℕ) (r : Option (Bor (List ℕ) × Bor (List ℕ))) (before rest : Bor (List ℕ)) → IsSplitOnceResult 46 text r → r ≡ Some (before, rest) → (a b : List ℕ) → AllDigits 10 a → text ≡ a ++ (codes ".." ++ b)
+pub cut_found : (text : List ℕ) (r : Option (Bor (List ℕ) × Bor (List ℕ))) (before rest : Bor (List ℕ)) → IsSplitOnceResult 46 text r → r ≡ Some (before, rest) → (a b : List ℕ)
+    → AllDigits 10 a → text ≡ a ++ (codes ".." ++ b)
     → (before.now ≡ a) × (rest.now ≡ 46 ∷ b)
 cut_found text r before rest is found a b digits split = subst (λ o. MatchOption o ⊥ (λ x. (x.0.now ≡ a) × (x.1.now ≡ 46 ∷ b))) found (cuts text r is a b digits split)

@@ -7,7 +7,8 @@ use Rattle.filter_plan.specs.declared.fault.UsageFault.{UsageFault}
 use Rattle.filter_plan.specs.declared.fault.UsageFault.TheVariants.{Usage}
 
 -- the one value is read as nothing
-pub refused_one : {X : Type 0} (IsRead : List ℕ → X → Type 0) (values : List (List ℕ)) (value : List ℕ) → values ≡ value ∷ [] → ((x : X) → IsRead value x → ⊥) → (found : Option X) → Reads IsRead values found → ⊥
+pub refused_one : {X : Type 0} (IsRead : List ℕ → X → Type 0) (values : List (List ℕ)) (value : List ℕ) → values ≡ value ∷ [] → ((x : X) → IsRead value x → ⊥) → (found : Option X)
+    → Reads IsRead values found → ⊥
 refused_one {X} IsRead values value is none found reads = go found (subst (λ vs. Reads IsRead vs found) is reads)
   where
     go : (o : Option X) → Reads IsRead (value ∷ []) o → ⊥

@@ -28,18 +28,123 @@ pub parts_of_table : (rows : List Row) (p : Plan) → EachGives table rows p →
 unfolding table
 parts_of_table rows p h = record {
   patterns = record { accept_word = h.0; reject_word = h.1.0 };
-  operands = record { included_in = h.1.1.1.0; equivalent_to = h.1.1.1.1.0; intersect = h.1.1.1.1.1.0; product = h.1.1.1.1.1.1.1.1.1.1.1.1.1.0; product_or = h.1.1.1.1.1.1.1.1.1.1.1.1.1.1.0; sum = h.1.1.1.1.1.1.1.1.1.1.1.1.1.1.1.0 };
+  operands = record {
+    included_in = h.1.1.1.0;
+    equivalent_to = h.1.1.1.1.0;
+    intersect = h.1.1.1.1.1.0;
+    product = h.1.1.1.1.1.1.1.1.1.1.1.1.1.0;
+    product_or = h.1.1.1.1.1.1.1.1.1.1.1.1.1.1.0;
+    sum = h.1.1.1.1.1.1.1.1.1.1.1.1.1.1.1.0;
+  };
   ranges = record { states = h.1.1.1.1.1.1.1.1.1.0; edges = h.1.1.1.1.1.1.1.1.1.1.0; acc_sets = h.1.1.1.1.1.1.1.1.1.1.1.0; ap = h.1.1.1.1.1.1.1.1.1.1.1.1.0 };
   remove_ap = h.1.1.1.1.1.1.1.1.1.1.1.1.1.1.1.1.0;
-  form = record { deterministic = h.1.1.1.1.1.1.1.1.1.1.1.1.1.1.1.1.1.1.1.0; parity = h.1.1.1.1.1.1.1.1.1.1.1.1.1.1.1.1.1.1.1.1.0; buchi = h.1.1.1.1.1.1.1.1.1.1.1.1.1.1.1.1.1.1.1.1.1.0; remove_fin = h.1.1.1.1.1.1.1.1.1.1.1.1.1.1.1.1.1.1.1.1.1.1.0; dnf = h.1.1.1.1.1.1.1.1.1.1.1.1.1.1.1.1.1.1.1.1.1.1.1.0; monitor = h.1.1.1.1.1.1.1.1.1.1.1.1.1.1.1.1.1.1.1.1.1.1.1.1.0 };
+  form = record {
+    deterministic = h.1.1.1.1.1.1.1.1.1.1.1.1.1.1.1.1.1.1.1.0;
+    parity = h.1.1.1.1.1.1.1.1.1.1.1.1.1.1.1.1.1.1.1.1.0;
+    buchi = h.1.1.1.1.1.1.1.1.1.1.1.1.1.1.1.1.1.1.1.1.1.0;
+    remove_fin = h.1.1.1.1.1.1.1.1.1.1.1.1.1.1.1.1.1.1.1.1.1.1.0;
+    dnf = h.1.1.1.1.1.1.1.1.1.1.1.1.1.1.1.1.1.1.1.1.1.1.1.0;
+    monitor = h.1.1.1.1.1.1.1.1.1.1.1.1.1.1.1.1.1.1.1.1.1.1.1.1.0;
+  };
   output = record { stats = h.1.1.1.1.1.1.1.1.1.1.1.1.1.1.1.1.1.1.1.1.1.1.1.1.1.1.0; refute = h.1.1.1.1.1.1.1.1.1.1.1.1.1.1.1.1.1.1.1.1.1.1.1.1.1.1.1.0 };
   most = h.1.1.1.1.1.1.1.1.1.1.1.1.1.1.1.1.1.1.1.1.1.1.1.1.1.1.1.1.1.1.1.0;
   made = h.1.1.1.1.1.1.1.1.1.1.1.1.1.1.1.1.1.1.1.1.1.1.1.1.1.1.1.1.1.1.1.1.1.0;
   first = h.1.1.1.1.1.1.1.1.1.1.1.1.1.1.1.1.1.1.1.1.1.1.1.1.1.1.1.1.1.1.1.1.0;
-  switches = record { is_empty = h.1.1.0; is_deterministic = h.1.1.1.1.1.1.0; is_complete = h.1.1.1.1.1.1.1.0; is_unambiguous = h.1.1.1.1.1.1.1.1.0; trim = h.1.1.1.1.1.1.1.1.1.1.1.1.1.1.1.1.1.0; complement = h.1.1.1.1.1.1.1.1.1.1.1.1.1.1.1.1.1.1.0; complete = h.1.1.1.1.1.1.1.1.1.1.1.1.1.1.1.1.1.1.1.1.1.1.1.1.1.0; invert = h.1.1.1.1.1.1.1.1.1.1.1.1.1.1.1.1.1.1.1.1.1.1.1.1.1.1.1.1.0; count = h.1.1.1.1.1.1.1.1.1.1.1.1.1.1.1.1.1.1.1.1.1.1.1.1.1.1.1.1.1.0; quiet = h.1.1.1.1.1.1.1.1.1.1.1.1.1.1.1.1.1.1.1.1.1.1.1.1.1.1.1.1.1.1.0 };
+  switches = record {
+    is_empty = h.1.1.0;
+    is_deterministic = h.1.1.1.1.1.1.0;
+    is_complete = h.1.1.1.1.1.1.1.0;
+    is_unambiguous = h.1.1.1.1.1.1.1.1.0;
+    trim =
+        h.1.1.1.1.1.1.1.1.1.1.1.1.1.1.1.1.1.0;
+    complement = h.1.1.1.1.1.1.1.1.1.1.1.1.1.1.1.1.1.1.0;
+    complete = h.1.1.1.1.1.1.1.1.1.1.1.1.1.1.1.1.1.1.1.1.1.1.1.1.1.0;
+    invert =
+        h.1.1.1.1.1.1.1.1.1.1.1.1.1.1.1.1.1.1.1.1.1.1.1.1.1.1.1.1.0;
+    count = h.1.1.1.1.1.1.1.1.1.1.1.1.1.1.1.1.1.1.1.1.1.1.1.1.1.1.1.1.1.0;
+    quiet =
+        h.1.1.1.1.1.1.1.1.1.1.1.1.1.1.1.1.1.1.1.1.1.1.1.1.1.1.1.1.1.1.0;
+  };
 }
 
 pub table_of_parts : (rows : List Row) (p : Plan) → AreParts rows p → EachGives table rows p
 unfolding table
-table_of_parts rows p h =
-    (h.patterns.accept_word, (h.patterns.reject_word, (h.switches.is_empty, (h.operands.included_in, (h.operands.equivalent_to, (h.operands.intersect, (h.switches.is_deterministic, (h.switches.is_complete, (h.switches.is_unambiguous, (h.ranges.states, (h.ranges.edges, (h.ranges.acc_sets, (h.ranges.ap, (h.operands.product, (h.operands.product_or, (h.operands.sum, (h.remove_ap, (h.switches.trim, (h.switches.complement, (h.form.deterministic, (h.form.parity, (h.form.buchi, (h.form.remove_fin, (h.form.dnf, (h.form.monitor, (h.switches.complete, (h.output.stats, (h.output.refute, (h.switches.invert, (h.switches.count, (h.switches.quiet, (h.most, (h.first, (h.made, tt))))))))))))))))))))))))))))))))))
+table_of_parts rows p h = (
+  h.patterns.accept_word,
+  (
+    h.patterns.reject_word,
+    (
+      h.switches.is_empty,
+      (
+        h.operands.included_in,
+        (
+          h.operands.equivalent_to,
+          (
+            h.operands.intersect,
+            (
+              h.switches.is_deterministic,
+              (
+                h.switches.is_complete,
+                (
+                  h.switches.is_unambiguous,
+                  (
+                    h.ranges.states,
+                    (
+                      h.ranges.edges,
+                      (
+                        h.ranges.acc_sets,
+                        (
+                          h.ranges.ap,
+                          (
+                            h.operands.product,
+                            (
+                              h.operands.product_or,
+                              (
+                                h.operands.sum,
+                                (
+                                  h.remove_ap,
+                                  (
+                                    h.switches.trim,
+                                    (
+                                      h.switches.complement,
+                                      (
+                                        h.form.deterministic,
+                                        (
+                                          h.form.parity,
+                                          (
+                                            h.form.buchi,
+                                            (
+                                              h.form.remove_fin,
+                                              (
+                                                h.form.dnf,
+                                                (
+                                                  h.form.monitor,
+                                                  (
+                                                    h.switches.complete,
+                                                    (h.output.stats, (h.output.refute, (h.switches.invert, (h.switches.count, (h.switches.quiet, (h.most, (h.first, (h.made, tt)))))))),
+                                                  ),
+                                                ),
+                                              ),
+                                            ),
+                                          ),
+                                        ),
+                                      ),
+                                    ),
+                                  ),
+                                ),
+                              ),
+                            ),
+                          ),
+                        ),
+                      ),
+                    ),
+                  ),
+                ),
+              ),
+            ),
+          ),
+        ),
+      ),
+    ),
+  ),
+)

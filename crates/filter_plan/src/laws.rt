@@ -5,6 +5,7 @@ ghost use Rattle.filter_plan.specs.Laws.{OnePlan};
 
 use word_syntax::one_reading;
 
+// Why so: 'The words determine the plan' in docs/DECISIONS.md.
 /// The words have one plan at most.
 pub fn one_plan()
     ensures { OnePlan }

@@ -53,7 +53,8 @@ pub(crate) fn parsed<'a>(alloc: Global, words: &'a [&'a str]) -> Result<ArgMatch
 
 /// Memory is wanting where `clap` says so. Its other errors are refusals.
 fn cause(error: Error) -> UsageFault
-    ensures { result ≡ UsageFault.Usage → kind_of error ≡ ErrorKind.OutOfMemory → ⊥ }
+    ensures usage { result ≡ UsageFault.Usage → kind_of error ≡ ErrorKind.OutOfMemory → ⊥ }
+    ensures memory { result ≡ UsageFault.Memory → kind_of error ≡ ErrorKind.OutOfMemory }
 {
     match error.kind() {
         ErrorKind::OutOfMemory => UsageFault::Memory,

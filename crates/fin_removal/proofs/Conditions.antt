@@ -21,10 +21,12 @@ pub record HoldsOfParts (P : FormulaTree → Type 0) : Type 0 where
 
 module _ (P : FormulaTree → Type 0) (parts : HoldsOfParts P) where
   conj_holds : (f g : FormulaTree) → P f → P g → P (conj f g)
-  conj_holds f g p q = cond_both (is_false f || is_false g) False (all_of (conjuncts f ++ conjuncts g)) P (λ e. parts.never) (λ e. parts.all (conjuncts f ++ conjuncts g) (AllByRecursion-append P (conjuncts f) (conjuncts g) (parts.conjuncts f p) (parts.conjuncts g q)))
+  conj_holds f g p q = cond_both (is_false f || is_false g) False (all_of (conjuncts f ++ conjuncts g)) P (λ e. parts.never)
+      (λ e. parts.all (conjuncts f ++ conjuncts g) (AllByRecursion-append P (conjuncts f) (conjuncts g) (parts.conjuncts f p) (parts.conjuncts g q)))
 
   disj_holds : (f g : FormulaTree) → P f → P g → P (disj f g)
-  disj_holds f g p q = cond_both (is_true f || is_true g) True (some_of (disjuncts f ++ disjuncts g)) P (λ e. parts.always) (λ e. parts.some (disjuncts f ++ disjuncts g) (AllByRecursion-append P (disjuncts f) (disjuncts g) (parts.disjuncts f p) (parts.disjuncts g q)))
+  disj_holds f g p q = cond_both (is_true f || is_true g) True (some_of (disjuncts f ++ disjuncts g)) P (λ e. parts.always)
+      (λ e. parts.some (disjuncts f ++ disjuncts g) (AllByRecursion-append P (disjuncts f) (disjuncts g) (parts.disjuncts f p) (parts.disjuncts g q)))
 
   fold_conj : (f : FormulaTree) (ls : List Literal) → P f → AllByRecursion (λ l. P (literal_tree l)) ls → P (fold (λ g literal. conj g (literal_tree literal)) f ls)
   fold_conj f [] p each = p

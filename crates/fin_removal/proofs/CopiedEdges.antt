@@ -56,12 +56,15 @@ has_stay a copies e there =
 pub has_enter : (a : Automaton) (copies : List TermCopy) (e : TreeEdge) (copy : TermCopy) → Contains a.edges e → Contains copies copy → Contains (all_edges a copies) (enter a.states e copy)
 has_enter a copies e copy there listed =
     Contains-append_left (flat_map (main_edges a.states copies) a.edges) (flat_map (copy_edges a.states a.edges) copies) (enter a.states e copy)
-    (there_flat_map (main_edges a.states copies) a.edges e (enter a.states e copy) there (later_there (stay e) (map (enter a.states e) copies) (enter a.states e copy) (there_map (enter a.states e) copies copy listed)))
+    (there_flat_map (main_edges a.states copies) a.edges e (enter a.states e copy) there
+    (later_there (stay e) (map (enter a.states e) copies) (enter a.states e copy) (there_map (enter a.states e) copies copy listed)))
 
-pub has_within : (a : Automaton) (copies : List TermCopy) (e : TreeEdge) (copy : TermCopy) → Contains a.edges e → Contains copies copy → allows copy e.marks ≡ true → Contains (all_edges a copies) (edge_in a.states copy e)
+pub has_within : (a : Automaton) (copies : List TermCopy) (e : TreeEdge) (copy : TermCopy) → Contains a.edges e → Contains copies copy → allows copy e.marks ≡ true
+    → Contains (all_edges a copies) (edge_in a.states copy e)
 has_within a copies e copy there listed allowed =
     Contains-append_right (flat_map (main_edges a.states copies) a.edges) (flat_map (copy_edges a.states a.edges) copies) (edge_in a.states copy e)
-    (there_flat_map (copy_edges a.states a.edges) copies copy (edge_in a.states copy e) listed (there_map (edge_in a.states copy) (filter (λ (d : TreeEdge). allows copy d.marks) a.edges) e (there_filter (λ (d : TreeEdge). allows copy d.marks) a.edges e there allowed)))
+    (there_flat_map (copy_edges a.states a.edges) copies copy (edge_in a.states copy e) listed
+    (there_map (edge_in a.states copy) (filter (λ (d : TreeEdge). allows copy d.marks) a.edges) e (there_filter (λ (d : TreeEdge). allows copy d.marks) a.edges e there allowed)))
 
 -- the ends of the automaton's own edges
 pub edge_bounds : (a : Automaton) → IsWellFormed a → (e : TreeEdge) → Contains a.edges e → IsEdgeOf a e

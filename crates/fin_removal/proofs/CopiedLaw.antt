@@ -41,7 +41,8 @@ met_copy a es some holds =
 copy_met : (a : Automaton) (es : List TreeEdge) (copy : TermCopy) → Contains (copies_of a) copy → IsMetIn copy (marks_of es) → met (marks_of es) a.formula ≡ true
 copy_met a es copy listed holds =
     let its = term_for 1 0 (terms a.formula) copy listed in
-    met-terms (marks_of es) a.formula ∙ any_from (λ term. list_all (λ l. met (marks_of es) (literal_tree l)) term) (terms a.formula) its.term its.there (term_is_met (marks_of es) its.term copy its.fins its.infs holds)
+    met-terms (marks_of es) a.formula ∙ any_from (λ term. list_all (λ l. met (marks_of es) (literal_tree l)) term) (terms a.formula) its.term its.there
+    (term_is_met (marks_of es) its.term copy its.fins its.infs holds)
 
 -- where a cycle meets a term, its copy's cycle has all sets of the copy
 sets_met : (n : ℕ) (copy : TermCopy) (es : List TreeEdge) → IsMetIn copy (marks_of es) → (set : ℕ) → Owns copy set → list_any (is_in set) (marks_of (map (edge_in n copy) es)) ≡ true
@@ -51,7 +52,8 @@ sets_met n copy es holds set own =
     let at : copy.first + place ≡ set = omega arith in
     let passed = holds.passed place (omega (arith, own.to)) in
     let edge = from_map (λ (e : TreeEdge). e.marks) es passed.marks passed.there in
-    any_from (is_in set) (marks_of (map (edge_in n copy) es)) (edge_in n copy edge.0).marks (there_map (λ (e : TreeEdge). e.marks) (map (edge_in n copy) es) (edge_in n copy edge.0) (there_map (edge_in n copy) es edge.0 edge.1))
+    any_from (is_in set) (marks_of (map (edge_in n copy) es)) (edge_in n copy edge.0).marks
+    (there_map (λ (e : TreeEdge). e.marks) (map (edge_in n copy) es) (edge_in n copy edge.0) (there_map (edge_in n copy) es edge.0 edge.1))
     (ap (λ s. is_in s (edge_in n copy edge.0).marks) (sym at) ∙ in_marks copy edge.0.marks place (omega (arith, own.to)) (ap (λ marks. meets_at copy.infs place marks) edge.2 ∙ passed.meets))
 
 -- some path into the copy
@@ -68,10 +70,12 @@ pub gone_on : (u v : List NameSet) (m n : ℕ) → (u ++ copies m v) ++ copies n
 gone_on u v m n = append_assoc u (copies m v) (copies n v) ∙ ap (λ w. u ++ w) (sym (copies-add m n v))
 
 -- a cycle with all sets of a copy meets the condition
-pub own_sets_met : (a : Automaton) (copy : TermCopy) → Contains (copies_of a) copy → (cycle : List TreeEdge) → ((set : ℕ) → Owns copy set → list_any (is_in set) (marks_of cycle) ≡ true) → met (marks_of cycle) (copied a).formula ≡ true
+pub own_sets_met : (a : Automaton) (copy : TermCopy) → Contains (copies_of a) copy → (cycle : List TreeEdge) → ((set : ℕ) → Owns copy set → list_any (is_in set) (marks_of cycle) ≡ true)
+    → met (marks_of cycle) (copied a).formula ≡ true
 own_sets_met a copy listed cycle carried =
     met-of_terms (marks_of cycle) (owned_sets (terms a.formula))
-    ∙ any_from (λ term. list_all (λ l. met (marks_of cycle) (literal_tree l)) term) (owned_sets (terms a.formula)) (owned copy) (there_map owned (copies_of a) copy listed) (owned_met (marks_of cycle) copy carried)
+    ∙ any_from (λ term. list_all (λ l. met (marks_of cycle) (literal_tree l)) term) (owned_sets (terms a.formula)) (owned copy) (there_map owned (copies_of a) copy listed)
+    (owned_met (marks_of cycle) copy carried)
 
 with_copies : (a : Automaton) (u v : List NameSet) → Accepts a u v → Accepts (copied a) u v
 with_copies a u v r =
@@ -91,7 +95,8 @@ with_copies a u v r =
       cycle = cycle;
       is_start = r.is_start;
       leads = subst (λ (w : List NameSet). IsPath (copied a) r.start w (map stay r.way ++ into.edges) state) (gone_on u v r.turns r.rounds)
-          (path_join (copied a) r.start r.state state (u ++ copies r.turns v) (copies r.rounds v) (map stay r.way) into.edges (main_path a r.start r.state (u ++ copies r.turns v) r.way r.leads) into.path);
+          (path_join (copied a) r.start r.state state (u ++ copies r.turns v) (copies r.rounds v) (map stay r.way) into.edges
+          (main_path a r.start r.state (u ++ copies r.turns v) r.way r.leads) into.path);
       positive = r.positive;
       returns = copy_path a copy found.listed r.state r.state (copies r.rounds v) r.cycle (λ e there. found.met.allowed e.marks (there_map (λ (d : TreeEdge). d.marks) r.cycle e there)) r.returns;
       meets = own_sets_met a copy found.listed cycle (sets_met a.states copy r.cycle found.met);
@@ -105,7 +110,8 @@ record Owner (a : Automaton) (cycle : List TreeEdge) : Type 0 where
 
 owner : (a : Automaton) (cycle : List TreeEdge) → met (marks_of cycle) (copied a).formula ≡ true → Owner a cycle
 owner a cycle holds =
-    let found = any_found (λ term. list_all (λ l. met (marks_of cycle) (literal_tree l)) term) (owned_sets (terms a.formula)) (sym (met-of_terms (marks_of cycle) (owned_sets (terms a.formula))) ∙ holds) in
+    let found = any_found (λ term. list_all (λ l. met (marks_of cycle) (literal_tree l)) term) (owned_sets (terms a.formula))
+    (sym (met-of_terms (marks_of cycle) (owned_sets (terms a.formula))) ∙ holds) in
     let its = from_map owned (copies_of a) found.0 found.1 in
     record { copy = its.0; listed = its.1; carried = owned_is_met (marks_of cycle) its.0 (ap (λ term. list_all (λ l. met (marks_of cycle) (literal_tree l)) term) its.2 ∙ found.2) }
 
@@ -136,17 +142,20 @@ carrier n copy es set any =
     record { edge = old.0; there = old.1; carries = ap (λ (e : TreeEdge). is_in set e.marks) old.2 ∙ (ap (is_in set) edge.2 ∙ found.2) }
 
 -- a cycle of a copy that meets the condition has all sets of the copy
-pub own_sets : (a : Automaton) (copy : TermCopy) → Contains (copies_of a) copy → (es : List TreeEdge) → met (marks_of (map (edge_in a.states copy) es)) (copied a).formula ≡ true → (set : ℕ) → Owns copy set → list_any (is_in set) (marks_of (map (edge_in a.states copy) es)) ≡ true
+pub own_sets : (a : Automaton) (copy : TermCopy) → Contains (copies_of a) copy → (es : List TreeEdge) → met (marks_of (map (edge_in a.states copy) es)) (copied a).formula ≡ true → (set : ℕ)
+    → Owns copy set → list_any (is_in set) (marks_of (map (edge_in a.states copy) es)) ≡ true
 own_sets a copy listed es holds =
     let its = owner a (map (edge_in a.states copy) es) holds in
     let any = carrier a.states copy es its.copy.first (its.carried its.copy.first (first_set its.copy)) in
     let here = of_marks copy any.edge.marks its.copy.first any.carries in
     let within = here.within in
-    let same : its.copy ≡ copy = same_set 1 0 (terms a.formula) its.copy.first its.copy copy its.listed listed (first_set its.copy) (record { from = omega (arith, here.is); to = omega (arith, here.is) }) in
+    let same : its.copy ≡ copy = same_set 1 0 (terms a.formula) its.copy.first its.copy copy its.listed listed (first_set its.copy)
+    (record { from = omega (arith, here.is); to = omega (arith, here.is) }) in
     λ set own. its.carried set (subst (λ (k : TermCopy). Owns k set) (sym same) own)
 
 -- and meets the copy's term
-in_copy : (a : Automaton) (copy : TermCopy) → Contains (copies_of a) copy → (es : List TreeEdge) → ((e : TreeEdge) → Contains es e → allows copy e.marks ≡ true) → met (marks_of (map (edge_in a.states copy) es)) (copied a).formula ≡ true → IsMetIn copy (marks_of es)
+in_copy : (a : Automaton) (copy : TermCopy) → Contains (copies_of a) copy → (es : List TreeEdge) → ((e : TreeEdge) → Contains es e → allows copy e.marks ≡ true)
+    → met (marks_of (map (edge_in a.states copy) es)) (copied a).formula ≡ true → IsMetIn copy (marks_of es)
 in_copy a copy listed es allowed holds = record {
   allowed = λ marks there. (let edge = from_map (λ (e : TreeEdge). e.marks) es marks there in ap (allows copy) (sym edge.2) ∙ allowed edge.0 edge.1);
   passed = λ place below.
@@ -181,7 +190,8 @@ without_copies a formed u v r =
       leads = way.path;
       positive = r.positive;
       returns = subst (λ (q : ℕ). IsPath a way.end (copies r.rounds v) cycle.edges q) closed.1 cycle.path;
-      meets = copy_met a cycle.edges m.copy m.listed (in_copy a m.copy m.listed cycle.edges cycle.allowed (subst (λ (es : List TreeEdge). met (marks_of es) (copied a).formula ≡ true) cycle.is r.meets));
+      meets = copy_met a cycle.edges m.copy m.listed
+          (in_copy a m.copy m.listed cycle.edges cycle.allowed (subst (λ (es : List TreeEdge). met (marks_of es) (copied a).formula ≡ true) cycle.is r.meets));
     })
     way.place
 

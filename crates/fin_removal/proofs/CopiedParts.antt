@@ -25,12 +25,14 @@ pub record AreCopiedParts (old new : Core) (ts : List (List Literal)) (copies : 
   pub states : new.states ≡ (1 + length ts) * old.states
   pub store : new.store ≡ old.store
   pub has : All (λ (l : Link). Has old.store l.guard) new.links
-  pub edges : map (edge_of old.store) new.links ≡ flat_map (main_edges old.states copies) (map (edge_of old.store) old.links) ++ flat_map (copy_edges old.states (map (edge_of old.store) old.links)) copies
+  pub edges : map (edge_of old.store) new.links ≡ flat_map (main_edges old.states copies) (map (edge_of old.store) old.links) ++ flat_map
+      (copy_edges old.states (map (edge_of old.store) old.links)) copies
   pub count : new.sets ≡ sum_by (λ copy. literal_places copy.infs) copies
   pub owned : sets ≡ map owned copies
   pub formula : new.formula ≡ of_terms sets
 
-pub are_copied : (old new : Core) (ts : List (List Literal)) (copies : List TermCopy) (sets : List (List Literal)) → AreCopiedParts old new ts copies sets → automaton_of new ≡ copied (automaton_of old)
+pub are_copied : (old new : Core) (ts : List (List Literal)) (copies : List TermCopy) (sets : List (List Literal)) → AreCopiedParts old new ts copies sets
+    → automaton_of new ≡ copied (automaton_of old)
 are_copied old new ts copies sets are =
     let its = are.made ∙ ap term_copies are.listed in
     let es : List TreeEdge = map (edge_of old.store) old.links in

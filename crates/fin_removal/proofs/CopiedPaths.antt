@@ -28,19 +28,26 @@ entered n copy e [] = enter n e copy ∷ []
 entered n copy e (f ∷ fs) = stay e ∷ entered n copy f fs
 
 -- a path into a copy
-pub entering_path : (a : Automaton) (copy : TermCopy) → Contains (copies_of a) copy → (p q : ℕ) (xs : List NameSet) (e : TreeEdge) (es : List TreeEdge) → IsPath a p xs (e ∷ es) q → IsPath (copied a) p xs (entered a.states copy e es) (state_in a.states copy.number q)
+pub entering_path : (a : Automaton) (copy : TermCopy) → Contains (copies_of a) copy → (p q : ℕ) (xs : List NameSet) (e : TreeEdge) (es : List TreeEdge) → IsPath a p xs (e ∷ es) q
+    → IsPath (copied a) p xs (entered a.states copy e es) (state_in a.states copy.number q)
 entering_path a copy listed p q [] e es path = absurd path
 entering_path a copy listed p q (x ∷ []) e [] path = (path.0, has_enter a (copies_of a) e copy path.1 listed, path.2, ap (state_in a.states copy.number) path.3)
 entering_path a copy listed p q (x ∷ y ∷ ys) e [] path = absurd path.3
 entering_path a copy listed p q (x ∷ xs) e (f ∷ fs) path = (path.0, has_stay a (copies_of a) e path.1, path.2, entering_path a copy listed e.to q xs f fs path.3)
 
 -- a path in a copy, along edges that it allows
-pub copy_path : (a : Automaton) (copy : TermCopy) → Contains (copies_of a) copy → (p q : ℕ) (xs : List NameSet) (es : List TreeEdge) → ((e : TreeEdge) → Contains es e → allows copy e.marks ≡ true) → IsPath a p xs es q → IsPath (copied a) (state_in a.states copy.number p) xs (map (edge_in a.states copy) es) (state_in a.states copy.number q)
+pub copy_path : (a : Automaton) (copy : TermCopy) → Contains (copies_of a) copy → (p q : ℕ) (xs : List NameSet) (es : List TreeEdge)
+    → ((e : TreeEdge) → Contains es e → allows copy e.marks ≡ true) → IsPath a p xs es q
+    → IsPath (copied a) (state_in a.states copy.number p) xs (map (edge_in a.states copy) es) (state_in a.states copy.number q)
 copy_path a copy listed p q [] [] allowed path = ap (state_in a.states copy.number) path
 copy_path a copy listed p q [] (e ∷ es) allowed path = absurd path
 copy_path a copy listed p q (x ∷ xs) [] allowed path = absurd path
-copy_path a copy listed p q (x ∷ xs) (e ∷ es) allowed path =
-    (ap (state_in a.states copy.number) path.0, has_within a (copies_of a) e copy path.1 listed (allowed e (first_there e es)), path.2, copy_path a copy listed e.to q xs es (λ f there. allowed f (later_there e es f there)) path.3)
+copy_path a copy listed p q (x ∷ xs) (e ∷ es) allowed path = (
+  ap (state_in a.states copy.number) path.0,
+  has_within a (copies_of a) e copy path.1 listed (allowed e (first_there e es)),
+  path.2,
+  copy_path a copy listed e.to q xs es (λ f there. allowed f (later_there e es f there)) path.3,
+)
 
 -- what is left of a path in a copy
 pub record InCopy (a : Automaton) (copy : TermCopy) (p : ℕ) (xs : List NameSet) (fs : List TreeEdge) (state : ℕ) : Type 0 where
@@ -60,12 +67,14 @@ not_main a copy listed p e below bound same =
     let numbers = same_from_place copy.number p 0 e a.states below bound z in
     omega (arith, among.number_from, numbers.0)
 
-allowed_more : (copy : TermCopy) (e : TreeEdge) (es : List TreeEdge) → allows copy e.marks ≡ true → ((f : TreeEdge) → Contains es f → allows copy f.marks ≡ true) → (f : TreeEdge) → Contains (e ∷ es) f → allows copy f.marks ≡ true
+allowed_more : (copy : TermCopy) (e : TreeEdge) (es : List TreeEdge) → allows copy e.marks ≡ true → ((f : TreeEdge) → Contains es f → allows copy f.marks ≡ true) → (f : TreeEdge)
+    → Contains (e ∷ es) f → allows copy f.marks ≡ true
 allowed_more copy e es here rest f there = ⊎_elim (λ (same : e ≡ f). ap (λ (g : TreeEdge). allows copy g.marks) (sym same) ∙ here) (rest f) (there_cases e es f there)
 
 module _ (a : Automaton) (formed : IsWellFormed a) where
   -- a path from a state of a copy stays in that copy
-  pub from_copy : (copy : TermCopy) → Contains (copies_of a) copy → (p : ℕ) → p < a.states → (xs : List NameSet) (fs : List TreeEdge) (state : ℕ) → IsPath (copied a) (state_in a.states copy.number p) xs fs state → InCopy a copy p xs fs state
+  pub from_copy : (copy : TermCopy) → Contains (copies_of a) copy → (p : ℕ) → p < a.states → (xs : List NameSet) (fs : List TreeEdge) (state : ℕ)
+      → IsPath (copied a) (state_in a.states copy.number p) xs fs state → InCopy a copy p xs fs state
   from_copy copy listed p below [] [] state path = record { edges = []; end = p; path = refl; at = sym path; below = below; allowed = λ e there. absurd (omega (arith, there.1)); is = refl }
   from_copy copy listed p below [] (f ∷ fs) state path = absurd path
   from_copy copy listed p below (x ∷ xs) [] state path = absurd path

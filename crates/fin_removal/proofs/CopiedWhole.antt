@@ -24,14 +24,18 @@ use Rattle.fin_removal.proofs.CopyNumbers.{is_among}
 use Rattle.fin_removal.proofs.TermCopies.{copy_of}
 
 -- what is said of the sets of each copy holds of the literals of the condition
-owned_each : (P : FormulaTree → Type 0) (ts : List (List Literal)) → ((copy : TermCopy) → Contains (term_copies ts) copy → (set : ℕ) → set < copy.first + literal_places copy.infs → P (FormulaTree.Inf set false)) → AllByRecursion (λ term. AllByRecursion (λ l. P (literal_tree l)) term) (owned_sets ts)
+owned_each : (P : FormulaTree → Type 0) (ts : List (List Literal))
+    → ((copy : TermCopy) → Contains (term_copies ts) copy → (set : ℕ) → set < copy.first + literal_places copy.infs → P (FormulaTree.Inf set false))
+    → AllByRecursion (λ term. AllByRecursion (λ l. P (literal_tree l)) term) (owned_sets ts)
 owned_each P ts each = AllByRecursion-map (λ term. AllByRecursion (λ l. P (literal_tree l)) term) owned (term_copies ts) (each_copy (term_copies ts) each)
   where
-    each_copy : (cs : List TermCopy) → ((copy : TermCopy) → Contains cs copy → (set : ℕ) → set < copy.first + literal_places copy.infs → P (FormulaTree.Inf set false)) → AllByRecursion (λ copy. AllByRecursion (λ l. P (literal_tree l)) (owned copy)) cs
+    each_copy : (cs : List TermCopy) → ((copy : TermCopy) → Contains cs copy → (set : ℕ) → set < copy.first + literal_places copy.infs → P (FormulaTree.Inf set false))
+        → AllByRecursion (λ copy. AllByRecursion (λ l. P (literal_tree l)) (owned copy)) cs
     each_copy [] each = tt
     each_copy (k ∷ ks) each = (
       AllByRecursion-map (λ l. P (literal_tree l)) (λ set. Inf set false) (range_with_len k.first (literal_places k.infs))
-          (AllByRecursion-weaker (λ x. (k.first ≤ x) × (x < k.first + literal_places k.infs)) (λ x. P (FormulaTree.Inf x false)) (range_with_len k.first (literal_places k.infs)) (λ x h. each k (0, omega arith, refl) x h.1) (range_within k.first (literal_places k.infs))),
+          (AllByRecursion-weaker (λ x. (k.first ≤ x) × (x < k.first + literal_places k.infs)) (λ x. P (FormulaTree.Inf x false)) (range_with_len k.first (literal_places k.infs))
+          (λ x h. each k (0, omega arith, refl) x h.1) (range_within k.first (literal_places k.infs))),
       each_copy ks (λ copy there. each copy (suc there.0, omega (arith, there.1), there.2)),
     )
 
@@ -52,7 +56,8 @@ main_from n copies e d there = ⊎_elim
     (λ (other : Contains (map (enter n e) copies) d). let at = from_map (enter n e) copies d other in ap (λ (f : TreeEdge). f.from) (sym at.2))
     (there_cases (stay e) (map (enter n e) copies) d there)
 
-copies_rise : (n : ℕ) (edges : List TreeEdge) → Rises 0 n edges → (number first : ℕ) (ts : List (List Literal)) → Rises (number * n) ((number + length ts) * n) (flat_map (copy_edges n edges) (copies_from number first ts))
+copies_rise : (n : ℕ) (edges : List TreeEdge) → Rises 0 n edges → (number first : ℕ) (ts : List (List Literal))
+    → Rises (number * n) ((number + length ts) * n) (flat_map (copy_edges n edges) (copies_from number first ts))
 copies_rise n edges r number first [] = tt
 copies_rise n edges r number first (t ∷ ts) =
     let k : TermCopy = copy_of number first t in
@@ -60,10 +65,13 @@ copies_rise n edges r number first (t ∷ ts) =
     let low : number * n + 0 ≡ number * n = omega arith in
     let high : number * n + n ≡ (number + 1) * n = omega arith in
     let kept = rises_kept (λ (e : TreeEdge). allows k e.marks) 0 n edges r in
-    let here : Rises (number * n) ((number + 1) * n) (copy_edges n edges k) = subst (λ h. Rises (number * n) h (copy_edges n edges k)) high (subst (λ l. Rises l (number * n + n) (copy_edges n edges k)) low (rises_moved (edge_in n k) (number * n) (λ e. refl) 0 n (filter (λ (e : TreeEdge). allows k e.marks) edges) kept)) in
+    let here : Rises (number * n) ((number + 1) * n) (copy_edges n edges k) =
+    subst (λ h. Rises (number * n) h (copy_edges n edges k)) high
+    (subst (λ l. Rises l (number * n + n) (copy_edges n edges k)) low (rises_moved (edge_in n k) (number * n) (λ e. refl) 0 n (filter (λ (e : TreeEdge). allows k e.marks) edges) kept)) in
     let up : (number + 1) * n ≤ (number + 1 + length ts) * n = mul-le-mul_right n (let e : number + 1 ≤ number + 1 + length ts = omega arith in e) in
     subst (λ m. Rises (number * n) (m * n) (flat_map (copy_edges n edges) (copies_from number first (t ∷ ts)))) far
-    (rises_then (number * n) ((number + 1) * n) ((number + 1 + length ts) * n) (copy_edges n edges k) (flat_map (copy_edges n edges) (copies_from (number + 1) (first + sets_of t) ts)) (omega (arith, high)) up here (copies_rise n edges r (number + 1) (first + sets_of t) ts))
+    (rises_then (number * n) ((number + 1) * n) ((number + 1 + length ts) * n) (copy_edges n edges k) (flat_map (copy_edges n edges) (copies_from (number + 1) (first + sets_of t) ts))
+    (omega (arith, high)) up here (copies_rise n edges r (number + 1) (first + sets_of t) ts))
 
 edges_rise : (a : Automaton) → IsWellFormed a → Rises 0 a.states a.edges
 edges_rise a formed = risen a.states a.edges formed.in_order (All-weaker (IsEdgeOf a) (λ e. e.from < a.states) (λ e h. h.from) a.edges formed.edges) 0 (λ d some. omega arith)
@@ -86,11 +94,14 @@ in_copies a number q below within =
 in_main : (a : Automaton) (q : ℕ) → q < a.states → q < (copied a).states
 in_main a q within = omega (arith, in_copies a 0 q (omega arith) within)
 
-no_marks : (a : Automaton) (from to : ℕ) (e : TreeEdge) → IsEdgeOf a e → from < (copied a).states → to < (copied a).states → IsEdgeOf (copied a) (record { from = from; label = e.label; to = to; marks = [] })
-no_marks a from to e bounds below_from below_to = record { from = below_from; to = below_to; label = bounds.label; marks = All-nil (λ mark. mark < (copied a).sets); marks_rise = λ i j d order within. absurd (omega (arith, within)) }
+no_marks : (a : Automaton) (from to : ℕ) (e : TreeEdge) → IsEdgeOf a e → from < (copied a).states → to < (copied a).states
+    → IsEdgeOf (copied a) (record { from = from; label = e.label; to = to; marks = [] })
+no_marks a from to e bounds below_from below_to =
+    record { from = below_from; to = below_to; label = bounds.label; marks = All-nil (λ mark. mark < (copied a).sets); marks_rise = λ i j d order within. absurd (omega (arith, within)) }
 
 marks_climb : (copy : TermCopy) (marks : List ℕ) → AllPairs (λ m n. m < n) (marks_in copy marks)
-marks_climb copy marks = increasing (copy.first + 0) (marks_in copy marks) (increases_moved copy.first 0 _ (increases_kept (λ s. meets_at copy.infs s marks) 0 (range_with_len 0 (literal_places copy.infs)) (increases_range 0 (literal_places copy.infs))))
+marks_climb copy marks = increasing (copy.first + 0) (marks_in copy marks)
+    (increases_moved copy.first 0 _ (increases_kept (λ s. meets_at copy.infs s marks) 0 (range_with_len 0 (literal_places copy.infs)) (increases_range 0 (literal_places copy.infs))))
 
 edge_whole : (a : Automaton) → IsWellFormed a → (f : TreeEdge) → Contains (copied a).edges f → IsEdgeOf (copied a) f
 edge_whole a formed f there = ⊎_elim
@@ -101,7 +112,8 @@ edge_whole a formed f there = ⊎_elim
     (λ (s : Enters a (copies_of a) f).
     let bounds = edge_bounds a formed s.edge s.there in
     let among = is_among 1 0 (terms a.formula) s.copy s.listed in
-    subst (IsEdgeOf (copied a)) s.is (no_marks a s.edge.from (state_in a.states s.copy.number s.edge.to) s.edge bounds (in_main a s.edge.from bounds.from) (in_copies a s.copy.number s.edge.to among.number_to bounds.to)))
+    subst (IsEdgeOf (copied a)) s.is (no_marks a s.edge.from (state_in a.states s.copy.number s.edge.to) s.edge bounds (in_main a s.edge.from bounds.from)
+    (in_copies a s.copy.number s.edge.to among.number_to bounds.to)))
     (λ (s : Within a (copies_of a) f).
     let bounds = edge_bounds a formed s.edge s.there in
     let among = is_among 1 0 (terms a.formula) s.copy s.listed in
@@ -110,7 +122,8 @@ edge_whole a formed f there = ⊎_elim
       from = in_copies a s.copy.number s.edge.from among.number_to bounds.from;
       to = in_copies a s.copy.number s.edge.to among.number_to bounds.to;
       label = bounds.label;
-      marks = All-weaker (λ x. x < s.copy.first + literal_places s.copy.infs) (λ x. x < (copied a).sets) (λ x h. omega (arith, h, sets)) (marks_in s.copy s.edge.marks) (marks_below s.copy s.edge.marks (literal_places s.copy.infs));
+      marks = All-weaker (λ x. x < s.copy.first + literal_places s.copy.infs) (λ x. x < (copied a).sets) (λ x h. omega (arith, h, sets)) (marks_in s.copy s.edge.marks)
+          (marks_below s.copy s.edge.marks (literal_places s.copy.infs));
       marks_rise = marks_climb s.copy s.edge.marks;
     })))
     (comes_from a (copies_of a) f there)

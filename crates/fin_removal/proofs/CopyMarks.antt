@@ -36,8 +36,10 @@ pub marks_below : (copy : TermCopy) (marks : List ℕ) (n : ℕ) → All (λ x. 
 marks_below copy marks zero = All-nil (λ x. x < copy.first + zero)
 marks_below copy marks (suc n) =
     let m : n + 1 ≡ suc n = omega arith in
-    let before : All (λ x. x < copy.first + suc n) (marks_to copy marks n) = All-weaker (λ x. x < copy.first + n) (λ x. x < copy.first + suc n) (λ x h. omega (arith, h)) (marks_to copy marks n) (marks_below copy marks n) in
-    let one : All (λ x. x < copy.first + suc n) (cond (meets_at copy.infs n marks) ((copy.first + n) ∷ []) []) = one_below (copy.first + n) (copy.first + suc n) (meets_at copy.infs n marks) (omega arith) in
+    let before : All (λ x. x < copy.first + suc n) (marks_to copy marks n) = All-weaker (λ x. x < copy.first + n) (λ x. x < copy.first + suc n) (λ x h. omega (arith, h))
+    (marks_to copy marks n) (marks_below copy marks n) in
+    let one : All (λ x. x < copy.first + suc n) (cond (meets_at copy.infs n marks) ((copy.first + n) ∷ []) []) =
+    one_below (copy.first + n) (copy.first + suc n) (meets_at copy.infs n marks) (omega arith) in
     subst (λ k. All (λ x. x < copy.first + suc n) (marks_to copy marks k)) m
     (subst (λ (xs : List ℕ). All (λ x. x < copy.first + suc n) xs) (sym (marks_more copy marks n)) (All-append (λ x. x < copy.first + suc n) _ _ before one))
 
@@ -45,7 +47,8 @@ pub marks_skip : (copy : TermCopy) (marks found : List ℕ) (n : ℕ) → found 
 marks_skip copy marks found n so_far fails =
     so_far ∙ sym (marks_more copy marks n ∙ (ap (λ b. marks_to copy marks n ++ cond b ((copy.first + n) ∷ []) []) fails ∙ append-nil (marks_to copy marks n)))
 
-pub marks_push : (copy : TermCopy) (marks found new : List ℕ) (n : ℕ) → found ≡ marks_to copy marks n → meets_at copy.infs n marks ≡ true → new ≡ found ++ (copy.first + n) ∷ [] → new ≡ marks_to copy marks (n + 1)
+pub marks_push : (copy : TermCopy) (marks found new : List ℕ) (n : ℕ) → found ≡ marks_to copy marks n → meets_at copy.infs n marks ≡ true → new ≡ found ++ (copy.first + n) ∷ []
+    → new ≡ marks_to copy marks (n + 1)
 marks_push copy marks found new n so_far passes pushed =
     pushed ∙ (ap (λ xs. xs ++ (copy.first + n) ∷ []) so_far ∙ sym (marks_more copy marks n ∙ ap (λ b. marks_to copy marks n ++ cond b ((copy.first + n) ∷ []) []) passes))
 
@@ -54,7 +57,8 @@ one_edge : (n : ℕ) (copy : TermCopy) (e : TreeEdge) (b : Bool) → map (edge_i
 one_edge n copy e true = refl
 one_edge n copy e false = refl
 
-pub copy_edges_more : {X : Type 0} (f : X → TreeEdge) (n : ℕ) (copy : TermCopy) (xs : List X) (i : ℕ) (x : X) → i < length xs → x ≡ get_or xs i x → copy_edges n (map f (take (i + 1) xs)) copy ≡ copy_edges n (map f (take i xs)) copy ++ cond (allows copy (f x).marks) (edge_in n copy (f x) ∷ []) []
+pub copy_edges_more : {X : Type 0} (f : X → TreeEdge) (n : ℕ) (copy : TermCopy) (xs : List X) (i : ℕ) (x : X) → i < length xs → x ≡ get_or xs i x
+    → copy_edges n (map f (take (i + 1) xs)) copy ≡ copy_edges n (map f (take i xs)) copy ++ cond (allows copy (f x).marks) (edge_in n copy (f x) ∷ []) []
 copy_edges_more f n copy xs i x within is =
     let p : TreeEdge → Bool = λ e. allows copy e.marks in
     ap (λ es. map (edge_in n copy) (filter p es)) (ap (map f) (take-push xs i x within is) ∙ map-append f (take i xs) (x ∷ []))

@@ -54,7 +54,8 @@ pub record Owns (copy : TermCopy) (set : ℕ) : Type 0 where
   pub to : set < copy.first + literal_places copy.infs
 
 -- one set, one copy
-pub same_set : (number first : ℕ) (ts : List (List Literal)) (set : ℕ) (j k : TermCopy) → Contains (copies_from number first ts) j → Contains (copies_from number first ts) k → Owns j set → Owns k set → j ≡ k
+pub same_set : (number first : ℕ) (ts : List (List Literal)) (set : ℕ) (j k : TermCopy) → Contains (copies_from number first ts) j → Contains (copies_from number first ts) k → Owns j set
+    → Owns k set → j ≡ k
 same_set number first [] set j k in_j in_k own_j own_k = absurd (omega (arith, in_j.1))
 same_set number first (t ∷ ts) set j k (zero, wj, is_j) (zero, wk, is_k) own_j own_k = sym is_j ∙ is_k
 same_set number first (t ∷ ts) set j k (zero, wj, is_j) (suc p, wk, is_k) own_j own_k =
@@ -63,7 +64,8 @@ same_set number first (t ∷ ts) set j k (zero, wj, is_j) (suc p, wk, is_k) own_
 same_set number first (t ∷ ts) set j k (suc p, wj, is_j) (zero, wk, is_k) own_j own_k =
     let rest = is_among (number + 1) (first + sets_of t) ts j (p, omega (arith, wj), is_j) in
     absurd (omega (arith, ap (λ (c : TermCopy). c.first + literal_places c.infs) is_k, rest.sets_from, own_k.to, own_j.from))
-same_set number first (t ∷ ts) set j k (suc p, wj, is_j) (suc q, wk, is_k) own_j own_k = same_set (number + 1) (first + sets_of t) ts set j k (p, omega (arith, wj), is_j) (q, omega (arith, wk), is_k) own_j own_k
+same_set number first (t ∷ ts) set j k (suc p, wj, is_j) (suc q, wk, is_k) own_j own_k =
+    same_set (number + 1) (first + sets_of t) ts set j k (p, omega (arith, wj), is_j) (q, omega (arith, wk), is_k) own_j own_k
 
 -- the copy of a term
 pub record CopyOf (number first : ℕ) (ts : List (List Literal)) (t : List Literal) : Type 0 where
@@ -88,7 +90,8 @@ pub record TermOf (ts : List (List Literal)) (copy : TermCopy) : Type 0 where
 
 pub term_for : (number first : ℕ) (ts : List (List Literal)) (copy : TermCopy) → Contains (copies_from number first ts) copy → TermOf ts copy
 term_for number first [] copy there = absurd (omega (arith, there.1))
-term_for number first (u ∷ us) copy (zero, within, is) = record { term = u; there = (zero, omega arith, refl); fins = sym (ap (λ (k : TermCopy). k.fins) is); infs = sym (ap (λ (k : TermCopy). k.infs) is) }
+term_for number first (u ∷ us) copy (zero, within, is) =
+    record { term = u; there = (zero, omega arith, refl); fins = sym (ap (λ (k : TermCopy). k.fins) is); infs = sym (ap (λ (k : TermCopy). k.infs) is) }
 term_for number first (u ∷ us) copy (suc k, within, is) =
     let rest = term_for (number + 1) (first + sets_of u) us copy (k, omega (arith, within), is) in
     record { term = rest.term; there = later_there u us rest.term rest.there; fins = rest.fins; infs = rest.infs }

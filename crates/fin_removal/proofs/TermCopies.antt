@@ -18,7 +18,8 @@ use Rattle.fin_removal.specs.declared.term_copy.TermCopy.{TermCopy}
 abbrev pub copy_of : ℕ → ℕ → List Literal → TermCopy
 copy_of number first term = record { number = number; first = first; fins = fins term; infs = infs term }
 
-pub copies_push : (number first : ℕ) (ts : List (List Literal)) (t : List Literal) → copies_from number first (ts ++ t ∷ []) ≡ copies_from number first ts ++ copy_of (number + length ts) (first + sum_by sets_of ts) t ∷ []
+pub copies_push : (number first : ℕ) (ts : List (List Literal)) (t : List Literal)
+    → copies_from number first (ts ++ t ∷ []) ≡ copies_from number first ts ++ copy_of (number + length ts) (first + sum_by sets_of ts) t ∷ []
 copies_push number first [] t =
     let a : number ≡ number + 0 = omega arith in
     let b : first ≡ first + 0 = omega arith in

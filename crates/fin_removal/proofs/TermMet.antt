@@ -43,7 +43,8 @@ meets_past : (literals : List Literal) (place : ℕ) (marks : List ℕ) → leng
 meets_past literals place marks past = ap (λ o. option_map_or (meets marks) o true) (slice_get_past literals place past)
 
 -- where each literal of the list is met by some edge, each place is
-pub passes_each : (literals : List Literal) (cycle : List (List ℕ)) → 0 < length cycle → ((l : Literal) → Contains literals l → list_any (λ marks. meets marks l) cycle ≡ true) → (place : ℕ) → Passes literals place cycle
+pub passes_each : (literals : List Literal) (cycle : List (List ℕ)) → 0 < length cycle → ((l : Literal) → Contains literals l → list_any (λ marks. meets marks l) cycle ≡ true) → (place : ℕ)
+    → Passes literals place cycle
 passes_each literals cycle some each place = elim (cases_lt place (length literals)) [
   | inl within ↦ (let l = get_or literals place (Inf 0 false) in
       let there = slice_get-get_or literals place (Inf 0 false) within in
@@ -52,7 +53,8 @@ passes_each literals cycle some each place = elim (cases_lt place (length litera
   | inr past ↦ record { marks = get_or cycle 0 []; there = Contains-get_or cycle 0 [] some; meets = meets_past literals place (get_or cycle 0 []) past }
 ]
 
-pub each_passed : (literals : List Literal) (cycle : List (List ℕ)) → ((place : ℕ) → place < literal_places literals → Passes literals place cycle) → (l : Literal) → Contains literals l → list_any (λ marks. meets marks l) cycle ≡ true
+pub each_passed : (literals : List Literal) (cycle : List (List ℕ)) → ((place : ℕ) → place < literal_places literals → Passes literals place cycle) → (l : Literal) → Contains literals l
+    → list_any (λ marks. meets marks l) cycle ≡ true
 each_passed literals cycle passed l there =
     let place = there.0 in
     let found = passed place (omega (arith, there.1)) in
@@ -60,7 +62,8 @@ each_passed literals cycle passed l there =
     any_from (λ marks. meets marks l) cycle found.marks found.there (sym (meets_there literals place l found.marks at) ∙ found.meets)
 
 -- a term that is met, seen from its copy
-pub term_met : (cycle : List (List ℕ)) (term : List Literal) (copy : TermCopy) → 0 < length cycle → copy.fins ≡ fins term → copy.infs ≡ infs term → list_all (λ l. met cycle (literal_tree l)) term ≡ true → IsMetIn copy cycle
+pub term_met : (cycle : List (List ℕ)) (term : List Literal) (copy : TermCopy) → 0 < length cycle → copy.fins ≡ fins term → copy.infs ≡ infs term
+    → list_all (λ l. met cycle (literal_tree l)) term ≡ true → IsMetIn copy cycle
 term_met cycle term copy some is_fins is_infs holds = record {
   allowed = λ marks there. each_from (meets marks) copy.fins (λ l listed.
       let kept = from_filter (λ m. not (is_inf m)) term l (subst (λ (ls : List Literal). Contains ls l) is_fins listed) in
@@ -70,18 +73,21 @@ term_met cycle term copy some is_fins is_infs holds = record {
       sym (met_inf cycle l kept.1) ∙ each_is (λ m. met cycle (literal_tree m)) term l holds kept.0) place;
 }
 
-pub term_is_met : (cycle : List (List ℕ)) (term : List Literal) (copy : TermCopy) → copy.fins ≡ fins term → copy.infs ≡ infs term → IsMetIn copy cycle → list_all (λ l. met cycle (literal_tree l)) term ≡ true
+pub term_is_met : (cycle : List (List ℕ)) (term : List Literal) (copy : TermCopy) → copy.fins ≡ fins term → copy.infs ≡ infs term → IsMetIn copy cycle
+    → list_all (λ l. met cycle (literal_tree l)) term ≡ true
 term_is_met cycle term copy is_fins is_infs holds = each_from (λ l. met cycle (literal_tree l)) term (λ l there. elim (cases_Bool (is_inf l)) [
   | inl inf ↦ met_inf cycle l inf ∙ each_passed copy.infs cycle holds.passed l (subst (λ (ls : List Literal). Contains ls l) (sym is_infs) (there_filter is_inf term l there inf))
   | inr fin ↦ met_fin cycle l fin ∙ each_from (λ marks. meets marks l) cycle (λ marks listed.
-      each_is (meets marks) copy.fins l (holds.allowed marks listed) (subst (λ (ls : List Literal). Contains ls l) (sym is_fins) (there_filter (λ m. not (is_inf m)) term l there (not_from_false (is_inf l) fin))))
+      each_is (meets marks) copy.fins l (holds.allowed marks listed)
+      (subst (λ (ls : List Literal). Contains ls l) (sym is_fins) (there_filter (λ m. not (is_inf m)) term l there (not_from_false (is_inf l) fin))))
 ])
 
 -- the sets of an edge in a copy
 pub in_marks : (copy : TermCopy) (marks : List ℕ) (place : ℕ) → place < literal_places copy.infs → meets_at copy.infs place marks ≡ true → is_in (copy.first + place) (marks_in copy marks) ≡ true
 in_marks copy marks place within passes =
     any_from (λ mark. mark == copy.first + place) (marks_in copy marks) (copy.first + place)
-    (there_map (λ s. copy.first + s) _ place (there_filter (λ s. meets_at copy.infs s marks) (range_with_len 0 (literal_places copy.infs)) place (there_range 0 (literal_places copy.infs) place (omega arith) (omega (arith, within))) passes))
+    (there_map (λ s. copy.first + s) _ place (there_filter (λ s. meets_at copy.infs s marks) (range_with_len 0 (literal_places copy.infs)) place
+    (there_range 0 (literal_places copy.infs) place (omega arith) (omega (arith, within))) passes))
     (eq-eqb (copy.first + place) (copy.first + place) refl)
 
 pub record IsCarried (copy : TermCopy) (marks : List ℕ) (set : ℕ) : Type 0 where
@@ -107,4 +113,5 @@ owned_met cycle copy each = each_from (λ l. met cycle (literal_tree l)) (owned 
 
 pub owned_is_met : (cycle : List (List ℕ)) (copy : TermCopy) → list_all (λ l. met cycle (literal_tree l)) (owned copy) ≡ true → (set : ℕ) → Owns copy set → list_any (is_in set) cycle ≡ true
 owned_is_met cycle copy holds set own =
-    each_is (λ l. met cycle (literal_tree l)) (owned copy) (Inf set false) holds (there_map (λ s. Inf s false) (range_with_len copy.first (literal_places copy.infs)) set (there_range copy.first (literal_places copy.infs) set own.from own.to))
+    each_is (λ l. met cycle (literal_tree l)) (owned copy) (Inf set false) holds
+    (there_map (λ s. Inf s false) (range_with_len copy.first (literal_places copy.infs)) set (there_range copy.first (literal_places copy.infs) set own.from own.to))

@@ -33,6 +33,7 @@ pub fn copies(alloc: Global, a: &Automaton) -> Result<Automaton, FormFault>
     Ok(copied(alloc, a, &terms)?)
 }
 
+// Why so: 'A copy without `Fin` is one copy for each term' in docs/DECISIONS.md.
 /// The automaton itself where its condition has no Fin, else with its copies. Refused as `Terms` where it needs copies and
 /// the terms count more than `MOST_TERMS`.
 pub fn remove_fin(alloc: Global, a: &Automaton) -> Result<Automaton, FormFault>

@@ -16,7 +16,8 @@ use Rattle.graph_walk.proofs.SearchLemmas.{walk_near}
 use Rattle.graph_walk.proofs.WalkLemmas.{contains_place}
 
 -- an arc led to each node but the start
-pub led_back : (nodes : ℕ) (arcs : List (ℕ × ℕ)) (p q at : ℕ) (s : Search) (places : List ℕ) (back : LeadsBack nodes arcs p q s places at) → at ≢ p → IsLedBy arcs back.searched.searching.depth s.seen.items at (get_or s.led.items at 0)
+pub led_back : (nodes : ℕ) (arcs : List (ℕ × ℕ)) (p q at : ℕ) (s : Search) (places : List ℕ) (back : LeadsBack nodes arcs p q s places at) → at ≢ p
+    → IsLedBy arcs back.searched.searching.depth s.seen.items at (get_or s.led.items at 0)
 led_back nodes arcs p q at s places back other =
     ⊎_elim (λ (h : (back.searched.searching.depth at ≡ 0) × Contains (p ∷ []) at).
     let first : h.1.0 ≡ 0 = omega (arith, h.1.1) in
@@ -25,7 +26,8 @@ led_back nodes arcs p q at s places back other =
     (back.searched.searching.is_led at back.marked)
 
 -- one arc back, from a node that is not the start
-pub back_goes_on : (nodes : ℕ) (arcs : List (ℕ × ℕ)) (p q at place : ℕ) (s : Search) (places : List ℕ) → LeadsBack nodes arcs p q s places at → at ≢ p → place ≡ get_or s.led.items at place → (place < length arcs) × LeadsBack nodes arcs p q s (places ++ place ∷ []) (tail arcs place)
+pub back_goes_on : (nodes : ℕ) (arcs : List (ℕ × ℕ)) (p q at place : ℕ) (s : Search) (places : List ℕ) → LeadsBack nodes arcs p q s places at → at ≢ p → place ≡ get_or s.led.items at place
+    → (place < length arcs) × LeadsBack nodes arcs p q s (places ++ place ∷ []) (tail arcs place)
 back_goes_on nodes arcs p q at place s places back other read =
     let seen = flag_within s.seen.items at back.marked in
     let fits : at < length s.led.items = omega (arith, back.searched.sized.led_size) in

@@ -1,5 +1,6 @@
 -- The marks of a pass in depth: a node is entered, or a component is closed.
-use Rattle.std.proofs.Common.{◌≡◌, ◌∙◌, ◌≢◌, ℕ, ◌+◌, ◌<◌, ◌≤◌, ◌⊎◌, inl, inr, ⊎_elim, List, [], ◌∷◌, ◌++◌, length, set, take, refl, sym, ap, subst, arith, get_or-set_same, get_or-set_other, length-set, get_or-take, length-take}
+use Rattle.std.proofs.Common.{◌≡◌, ◌∙◌, ◌≢◌, ℕ, ◌+◌, ◌<◌, ◌≤◌, ◌⊎◌, inl, inr, ⊎_elim, List, [], ◌∷◌, ◌++◌, length, set, take, refl, sym, ap, subst}
+use Rattle.std.proofs.Common.{arith, get_or-set_same, get_or-set_other, length-set, get_or-take, length-take}
 use Rattle.std.proofs.lemmas.Bool.{cases_lt, cases_eq}
 use Rattle.std.proofs.lemmas.List.{get_or_past, length_push}
 use Rattle.std.proofs.lemmas.List.Sums.{sum_by-set}
@@ -42,7 +43,8 @@ pub fresh_no_more : (marks : List Mark) (w : ℕ) (m : Mark) → w < length mark
 fresh_no_more marks w m within none = omega (arith, sum_by-set one_if_fresh marks w m Fresh within, none)
 
 -- the numbered nodes stay components, as long as the same ones have the same numbers
-numbered_same : (arcs : List (ℕ × ℕ)) (old new : ℕ → ℕ → Type 0) (count : ℕ) → ((x n : ℕ) → old x n → new x n) → ((x n : ℕ) → new x n → old x n) → AreNumbered arcs old count → AreNumbered arcs new count
+numbered_same : (arcs : List (ℕ × ℕ)) (old new : ℕ → ℕ → Type 0) (count : ℕ) → ((x n : ℕ) → old x n → new x n) → ((x n : ℕ) → new x n → old x n) → AreNumbered arcs old count
+    → AreNumbered arcs new count
 numbered_same arcs old new count there back h = record {
   below = λ x n is. h.below x n (back x n is);
   stays = λ x n place is within leaves. let next = h.stays x n place (back x n is) within leaves in (next.0, there (head arcs place) next.0 next.1);
@@ -86,7 +88,8 @@ module _ (arcs : List (ℕ × ℕ)) (marks : List Mark) (order : List ℕ) (coun
   }
 
 -- what closed nodes reach is closed
-closed_reach : (arcs : List (ℕ × ℕ)) (numbered : ℕ → ℕ → Type 0) (count : ℕ) → AreNumbered arcs numbered count → (p q n : ℕ) (walk : List (ℕ × ℕ)) → numbered p n → IsWalk arcs p walk q → (m : ℕ) × numbered q m
+closed_reach : (arcs : List (ℕ × ℕ)) (numbered : ℕ → ℕ → Type 0) (count : ℕ) → AreNumbered arcs numbered count → (p q n : ℕ) (walk : List (ℕ × ℕ)) → numbered p n → IsWalk arcs p walk q
+    → (m : ℕ) × numbered q m
 closed_reach arcs numbered count are p q n [] is leads = (n, subst (λ (x : ℕ). numbered x n) leads is)
 closed_reach arcs numbered count are p q n (a ∷ walk) is leads =
     let arc = placed arcs a leads.0 in
@@ -95,7 +98,8 @@ closed_reach arcs numbered count are p q n (a ∷ walk) is leads =
     closed_reach arcs numbered count are a.1 q next.0 walk (subst (λ (x : ℕ). numbered x next.0) same next.1) leads.2
 
 -- the open nodes from the place of f on become a component
-module _ (arcs : List (ℕ × ℕ)) (marks marks' : List Mark) (order : List ℕ) (count : ℕ) (f : Frame) (keeps : Keeps arcs marks order count) (h : Holds arcs order (IsClosed marks) (length order) f) (ended : f.next ≡ 0) (own : f.low ≡ f.place) (closes : ClosesFrom order f.place (length order) count marks marks') where
+module _ (arcs : List (ℕ × ℕ)) (marks marks' : List Mark) (order : List ℕ) (count : ℕ) (f : Frame) (keeps : Keeps arcs marks order count)
+    (h : Holds arcs order (IsClosed marks) (length order) f) (ended : f.next ≡ 0) (own : f.low ≡ f.place) (closes : ClosesFrom order f.place (length order) count marks marks') where
   abbrev IsChosen : ℕ → Type 0
   IsChosen x = (i : ℕ) × (f.place ≤ i) × At order i x
 

@@ -10,7 +10,8 @@ use Rattle.graph_walk.specs.inner.Marks.{mark_of, number_of, IsNumbered, IsClose
 use Rattle.graph_walk.specs.inner.Pass.{IsIdle}
 use Rattle.graph_walk.proofs.MarkLemmas.{mark_within}
 
-module _ (nodes : ℕ) (arcs : List (ℕ × ℕ)) (p : Pass) (numbers : List ℕ) (idle : IsIdle nodes arcs p) (entered : (x : ℕ) → x < nodes → mark_of p.marks.items x ≡ Fresh → ⊥) (are : numbers ≡ map number_of p.marks.items) where
+module _ (nodes : ℕ) (arcs : List (ℕ × ℕ)) (p : Pass) (numbers : List ℕ) (idle : IsIdle nodes arcs p) (entered : (x : ℕ) → x < nodes → mark_of p.marks.items x ≡ Fresh → ⊥)
+    (are : numbers ≡ map number_of p.marks.items) where
   by_mark : (x : ℕ) (m : Mark) → x < nodes → mark_of p.marks.items x ≡ m → IsClosed p.marks.items x
   by_mark x Fresh within is = absurd (entered x within is)
   by_mark x (Open i) within is = let at = idle.keeps.stands x i is in absurd (omega (arith, at.0, ap length idle.no_order))

@@ -1,5 +1,6 @@
 -- The steps of a pass in depth.
-use Rattle.std.proofs.Common.{◌≡◌, ◌∙◌, ◌≢◌, ℕ, ◌+◌, ◌-◌, ◌*◌, ◌^◌, ◌<◌, ◌≤◌, min, inl, inr, ⊎_elim, List, [], ◌∷◌, ◌++◌, length, get_or, set, take, reverse, refl, sym, ap, subst, arith, length-set, length-take, Option, Some, None, MatchOption, vec_len, option_to_list}
+use Rattle.std.proofs.Common.{◌≡◌, ◌∙◌, ◌≢◌, ℕ, ◌+◌, ◌-◌, ◌*◌, ◌^◌, ◌<◌, ◌≤◌, min, inl, inr, ⊎_elim, List, [], ◌∷◌, ◌++◌, length, get_or, set, take}
+use Rattle.std.proofs.Common.{reverse, refl, sym, ap, subst, arith, length-set, length-take, Option, Some, None, MatchOption, vec_len, option_to_list}
 use Rattle.std.specs.List.{All, sum_by}
 use Rattle.std.proofs.Math.Nat.{mul-le-mul_right}
 use Rattle.std.proofs.lemmas.Bool.{cases_lt, cases_eq}
@@ -32,7 +33,8 @@ same_frame f n place low =
     ap (λ (k : ℕ). let g : Frame = record { place = k; low = n; next = f.next } in g) (sym place) ∙ ap (λ (k : ℕ). let g : Frame = record { place = f.place; low = k; next = f.next } in g) (sym low)
 
 -- the same, said of lists that are equal
-hold_same : (arcs : List (ℕ × ℕ)) (marks marks' : List Mark) (order order' : List ℕ) (n n' : ℕ) (f : Frame) (fs fs' : List Frame) → marks' ≡ marks → order' ≡ order → n' ≡ n → fs' ≡ fs → Hold arcs order (IsClosed marks) n (f ∷ fs) → Hold arcs order' (IsClosed marks') n' (f ∷ fs')
+hold_same : (arcs : List (ℕ × ℕ)) (marks marks' : List Mark) (order order' : List ℕ) (n n' : ℕ) (f : Frame) (fs fs' : List Frame) → marks' ≡ marks → order' ≡ order → n' ≡ n → fs' ≡ fs
+    → Hold arcs order (IsClosed marks) n (f ∷ fs) → Hold arcs order' (IsClosed marks') n' (f ∷ fs')
 hold_same arcs marks marks' order order' n n' f fs fs' em eo en ef h =
     let a = subst (λ (ms : List Mark). Hold arcs order (IsClosed ms) n (f ∷ fs)) (sym em) h in
     let b = subst (λ (xs : List ℕ). Hold arcs xs (IsClosed marks') n (f ∷ fs)) (sym eo) a in
@@ -52,7 +54,8 @@ module _ (nodes : ℕ) (arcs : List (ℕ × ℕ)) (p : Pass) (top : Frame) (plac
   low_within : top.low ≤ length p.order.items
   low_within = omega (arith, m.hold.0.under, m.hold.0.within)
 
-  looks : (low next : ℕ) → low ≤ top.low → IsSettled p.order.items (IsClosed p.marks.items) low (head arcs place) → ReachesPlace arcs p.order.items m.hold.0.node low → IsLast arcs (tail arcs place) place next → Steps nodes arcs p top p (record { place = top.place; low = low; next = next })
+  looks : (low next : ℕ) → low ≤ top.low → IsSettled p.order.items (IsClosed p.marks.items) low (head arcs place) → ReachesPlace arcs p.order.items m.hold.0.node low
+      → IsLast arcs (tail arcs place) place next → Steps nodes arcs p top p (record { place = top.place; low = low; next = next })
   looks low next lower settled back last = record {
     midway = record {
       size = m.size;
@@ -64,7 +67,8 @@ module _ (nodes : ℕ) (arcs : List (ℕ × ℕ)) (p : Pass) (top : Frame) (plac
   }
 
   -- to an open node
-  pub sees_open : (at low next : ℕ) → mark_of p.marks.items (head arcs place) ≡ Open at → low ≡ min top.low at → IsLast arcs (tail arcs place) place next → Steps nodes arcs p top p (record { place = top.place; low = low; next = next })
+  pub sees_open : (at low next : ℕ) → mark_of p.marks.items (head arcs place) ≡ Open at → low ≡ min top.low at → IsLast arcs (tail arcs place) place next
+      → Steps nodes arcs p top p (record { place = top.place; low = low; next = next })
   sees_open at low next opened low_is last =
       let stands = m.keeps.stands (head arcs place) at opened in
       let lower : low ≤ at = omega (arith, low_is) in
@@ -72,11 +76,14 @@ module _ (nodes : ℕ) (arcs : List (ℕ × ℕ)) (p : Pass) (top : Frame) (plac
       looks low next (omega (arith, low_is)) (inr (at, lower, stands)) (rw low_is (reaches_lower arcs p.order.items m.hold.0.node top.low at m.hold.0.back there)) last
 
   -- to a closed node
-  pub sees_closed : (number next : ℕ) → mark_of p.marks.items (head arcs place) ≡ Closed number → IsLast arcs (tail arcs place) place next → Steps nodes arcs p top p (record { place = top.place; low = top.low; next = next })
+  pub sees_closed : (number next : ℕ) → mark_of p.marks.items (head arcs place) ≡ Closed number → IsLast arcs (tail arcs place) place next
+      → Steps nodes arcs p top p (record { place = top.place; low = top.low; next = next })
   sees_closed number next closed last = looks top.low next (omega arith) (inl (number, closed)) m.hold.0.back last
 
   -- to a fresh node, which is entered
-  pub sees_fresh : (last before : List ℕ) (w next : ℕ) (q p' : Pass) (f : Frame) → AreChained nodes arcs (length arcs) last before → head arcs place ≡ w → w < nodes → mark_of p.marks.items w ≡ Fresh → IsLast arcs (tail arcs place) place next → q.marks.items ≡ p.marks.items → q.order.items ≡ p.order.items → q.count ≡ p.count → q.below.items ≡ p.below.items ++ (record { place = top.place; low = top.low; next = next }) ∷ [] → Enters last w q p' f → Steps nodes arcs p top p' f
+  pub sees_fresh : (last before : List ℕ) (w next : ℕ) (q p' : Pass) (f : Frame) → AreChained nodes arcs (length arcs) last before → head arcs place ≡ w → w < nodes
+      → mark_of p.marks.items w ≡ Fresh → IsLast arcs (tail arcs place) place next → q.marks.items ≡ p.marks.items → q.order.items ≡ p.order.items → q.count ≡ p.count
+      → q.below.items ≡ p.below.items ++ (record { place = top.place; low = top.low; next = next }) ∷ [] → Enters last w q p' f → Steps nodes arcs p top p' f
   sees_fresh last before w next q p' f chains enters within fresh chain marks order count below e =
       let fits : w < length p.marks.items = omega (arith, m.size) in
       let top' : Frame = record { place = top.place; low = top.low; next = next } in
@@ -102,7 +109,8 @@ module _ (nodes : ℕ) (arcs : List (ℕ × ℕ)) (p : Pass) (top : Frame) (plac
       ⊎_elim (λ (is' : IsClosed p.marks.items v). inl (is'.0, kept v is'.0 is'.1))
       (λ (s : (k : ℕ) × (low ≤ k) × At p.order.items k v). inr (s.0, s.1, at_kept p.order.items w s.0 v s.2))
       settled in
-      let moved = hold_moves arcs p.order.items order' (IsClosed p.marks.items) (IsClosed new) settles n (top ∷ reverse p.below.items) (λ i x lt at. at_kept p.order.items w i x at) (λ i x lt at. at_before p.order.items w i x lt at) m.hold in
+      let moved = hold_moves arcs p.order.items order' (IsClosed p.marks.items) (IsClosed new) settles n (top ∷ reverse p.below.items) (λ i x lt at. at_kept p.order.items w i x at)
+      (λ i x lt at. at_before p.order.items w i x lt at) m.hold in
       let looked = holds_looks arcs order' (IsClosed new) n top place top.low next moved.0 is (omega arith) (inr (n, low_within, rw enters (at_end p.order.items w))) moved.0.back chain in
       let less = fresh_less p.marks.items w (Open n) fits fresh refl in
       let product : (fresh_count new + 1) * (length arcs + 2) ≡ fresh_count p.marks.items * (length arcs + 2) = ap (λ k. k * (length arcs + 2)) less in
@@ -110,10 +118,21 @@ module _ (nodes : ℕ) (arcs : List (ℕ × ℕ)) (p : Pass) (top : Frame) (plac
         midway = record {
           size = ap length marks_is ∙ (length-set p.marks.items w (Open n) ∙ m.size);
           keeps = rw (marks_is, order_is, count_is) keeps;
-          hold = hold_same arcs new p'.marks.items order' p'.order.items (n + 1) (length p'.order.items) f (top' ∷ reverse p.below.items) (reverse p'.below.items) marks_is order_is (ap length order_is ∙ length_push p.order.items w) (ap (λ (fs : List Frame). reverse fs) below_is ∙ reverse_push p.below.items top')
+          hold = hold_same arcs new p'.marks.items order' p'.order.items (n + 1) (length p'.order.items) f (top' ∷ reverse p.below.items) (reverse p'.below.items) marks_is order_is
+              (ap length order_is ∙ length_push p.order.items w) (ap (λ (fs : List Frame). reverse fs) below_is ∙ reverse_push p.below.items top')
               (subst (λ (g : Frame). Hold arcs order' (IsClosed new) (n + 1) (g ∷ top' ∷ reverse p.below.items)) (same_frame f n place_is low_is) (entered, (looked, moved.1)));
         };
-        falls = omega (arith, product, ap fresh_count marks_is, ap (λ (ms : List Mark). fresh_count ms * (length arcs + 2)) marks_is, ap (sum_by left_of) below_is, sum_by_push left_of p.below.items top', is, chain.within, chain_w.within);
+        falls = omega (
+          arith,
+          product,
+          ap fresh_count marks_is,
+          ap (λ (ms : List Mark). fresh_count ms * (length arcs + 2)) marks_is,
+          ap (sum_by left_of) below_is,
+          sum_by_push left_of p.below.items top',
+          is,
+          chain.within,
+          chain_w.within,
+        );
         freshened = λ x was.
             ⊎_elim (λ (same : x ≡ w). rw same fresh)
             (λ (other : x ≢ w). sym (mark_elsewhere p.marks.items w x (Open n) other) ∙ (ap (λ (ms : List Mark). mark_of ms x) (sym marks_is) ∙ was))
@@ -121,7 +140,8 @@ module _ (nodes : ℕ) (arcs : List (ℕ × ℕ)) (p : Pass) (top : Frame) (plac
       }
 
 -- the pass begins at a fresh node
-pub enters_first : (nodes : ℕ) (arcs : List (ℕ × ℕ)) (last before : List ℕ) (w : ℕ) (p p' : Pass) (f : Frame) → AreChained nodes arcs (length arcs) last before → IsIdle nodes arcs p → w < nodes → mark_of p.marks.items w ≡ Fresh → Enters last w p p' f → IsMidway nodes arcs p' f
+pub enters_first : (nodes : ℕ) (arcs : List (ℕ × ℕ)) (last before : List ℕ) (w : ℕ) (p p' : Pass) (f : Frame) → AreChained nodes arcs (length arcs) last before → IsIdle nodes arcs p
+    → w < nodes → mark_of p.marks.items w ≡ Fresh → Enters last w p p' f → IsMidway nodes arcs p' f
 enters_first nodes arcs last before w p p' f chains idle within fresh e =
     let fits : w < length p.marks.items = omega (arith, idle.size) in
     let n : ℕ = length p.order.items in
@@ -135,7 +155,8 @@ enters_first nodes arcs last before w p p' f chains idle within fresh e =
     record {
       size = ap length e.marks ∙ (length-set p.marks.items w (Open n) ∙ idle.size);
       keeps = rw (e.marks, e.order, e.count) keeps;
-      hold = hold_same arcs new p'.marks.items order' p'.order.items (n + 1) (length p'.order.items) f [] (reverse p'.below.items) e.marks e.order (ap length e.order ∙ length_push p.order.items w) (ap (λ (fs : List Frame). reverse fs) (e.below ∙ idle.no_below))
+      hold = hold_same arcs new p'.marks.items order' p'.order.items (n + 1) (length p'.order.items) f [] (reverse p'.below.items) e.marks e.order
+          (ap length e.order ∙ length_push p.order.items w) (ap (λ (fs : List Frame). reverse fs) (e.below ∙ idle.no_below))
           (subst (λ (g : Frame). Hold arcs order' (IsClosed new) (n + 1) (g ∷ [])) (same_frame f n e.place e.low) (entered, none));
     }
 
@@ -143,7 +164,9 @@ below_other : (a b : ℕ) → a ≤ b → (a ≡ b → ⊥) → a < b
 below_other a b le other = ⊎_elim (λ (lt : a < b). lt) (λ (ge : b ≤ a). absurd (other (omega arith))) (cases_lt a b)
 
 -- a node whose arcs are done is left for the one below it
-pub merges : (nodes : ℕ) (arcs : List (ℕ × ℕ)) (p p' : Pass) (top g : Frame) (low : ℕ) → IsMidway nodes arcs p top → top.next ≡ 0 → (top.low ≡ top.place → ⊥) → p'.marks.items ≡ p.marks.items → p'.order.items ≡ p.order.items → p'.count ≡ p.count → p.below.items ≡ p'.below.items ++ g ∷ [] → low ≡ min g.low top.low → Steps nodes arcs p top p' (record { place = g.place; low = low; next = g.next })
+pub merges : (nodes : ℕ) (arcs : List (ℕ × ℕ)) (p p' : Pass) (top g : Frame) (low : ℕ) → IsMidway nodes arcs p top → top.next ≡ 0 → (top.low ≡ top.place → ⊥) → p'.marks.items ≡ p.marks.items
+    → p'.order.items ≡ p.order.items → p'.count ≡ p.count → p.below.items ≡ p'.below.items ++ g ∷ [] → low ≡ min g.low top.low
+    → Steps nodes arcs p top p' (record { place = g.place; low = low; next = g.next })
 merges nodes arcs p p' top g low m ended other marks order count below low_is =
     let frames : reverse p.below.items ≡ g ∷ reverse p'.below.items = ap (λ (fs : List Frame). reverse fs) below ∙ reverse_push p'.below.items g in
     let n : ℕ = length p.order.items in
@@ -154,7 +177,8 @@ merges nodes arcs p p' top g low m ended other marks order count below low_is =
       midway = record {
         size = ap length marks ∙ m.size;
         keeps = rw (marks, order, count) m.keeps;
-        hold = hold_same arcs p.marks.items p'.marks.items p.order.items p'.order.items n (length p'.order.items) (record { place = g.place; low = low; next = g.next }) (reverse p'.below.items) (reverse p'.below.items) marks order (ap length order) refl
+        hold = hold_same arcs p.marks.items p'.marks.items p.order.items p'.order.items n (length p'.order.items) (record { place = g.place; low = low; next = g.next })
+            (reverse p'.below.items) (reverse p'.below.items) marks order (ap length order) refl
             (subst (λ (k : ℕ). Holds arcs p.order.items (IsClosed p.marks.items) n (record { place = g.place; low = k; next = g.next })) (sym low_is) merged, hold.1);
       };
       falls = omega (arith, ended, ap (λ (ms : List Mark). fresh_count ms * (length arcs + 2)) marks, ap (sum_by left_of) below, sum_by_push left_of p'.below.items g);
@@ -178,7 +202,8 @@ module _ (nodes : ℕ) (arcs : List (ℕ × ℕ)) (p q : Pass) (top : Frame) (m 
   closed_fresh x was = sym (c.marks.others x (λ i above below at. let e = c.marks.chosen i x above below at in cc)) ∙ was
 
   -- the one from which it was entered goes on
-  pub closes_some : (p' : Pass) (g : Frame) → p'.marks.items ≡ q.marks.items → p'.order.items ≡ q.order.items → p'.count ≡ q.count → q.below.items ≡ p'.below.items ++ g ∷ [] → Steps nodes arcs p top p' g
+  pub closes_some : (p' : Pass) (g : Frame) → p'.marks.items ≡ q.marks.items → p'.order.items ≡ q.order.items → p'.count ≡ q.count → q.below.items ≡ p'.below.items ++ g ∷ []
+      → Steps nodes arcs p top p' g
   closes_some p' g marks order count below =
       let below' : p.below.items ≡ p'.below.items ++ g ∷ [] = sym c.below ∙ below in
       let frames : reverse p.below.items ≡ g ∷ reverse p'.below.items = ap (λ (fs : List Frame). reverse fs) below' ∙ reverse_push p'.below.items g in
@@ -194,14 +219,23 @@ module _ (nodes : ℕ) (arcs : List (ℕ × ℕ)) (p q : Pass) (top : Frame) (m 
         midway = record {
           size = ap length marks ∙ closed_size;
           keeps = rw (marks, order, count) closed_keeps;
-          hold = hold_same arcs q.marks.items p'.marks.items (take top.place p.order.items) p'.order.items top.place (length p'.order.items) g (reverse p'.below.items) (reverse p'.below.items) marks (order ∙ c.order) (ap length (order ∙ c.order) ∙ sym cut) refl moved;
+          hold = hold_same arcs q.marks.items p'.marks.items (take top.place p.order.items) p'.order.items top.place (length p'.order.items) g (reverse p'.below.items)
+              (reverse p'.below.items) marks (order ∙ c.order) (ap length (order ∙ c.order) ∙ sym cut) refl moved;
         };
-        falls = omega (arith, ended, ap (λ (ms : List Mark). fresh_count ms * (length arcs + 2)) marks, mul-le-mul_right (length arcs + 2) c.marks.fewer, ap (sum_by left_of) below', sum_by_push left_of p'.below.items g);
+        falls = omega (
+          arith,
+          ended,
+          ap (λ (ms : List Mark). fresh_count ms * (length arcs + 2)) marks,
+          mul-le-mul_right (length arcs + 2) c.marks.fewer,
+          ap (sum_by left_of) below',
+          sum_by_push left_of p'.below.items g,
+        );
         freshened = λ x was. closed_fresh x (ap (λ (ms : List Mark). mark_of ms x) (sym marks) ∙ was);
       }
 
   -- there is none
-  pub closes_none : (p' : Pass) → p'.marks.items ≡ q.marks.items → p'.order.items ≡ q.order.items → p'.count ≡ q.count → q.below.items ≡ [] → p'.below.items ≡ [] → IsIdle nodes arcs p' × NoneFreshened p p'
+  pub closes_none : (p' : Pass) → p'.marks.items ≡ q.marks.items → p'.order.items ≡ q.order.items → p'.count ≡ q.count → q.below.items ≡ [] → p'.below.items ≡ []
+      → IsIdle nodes arcs p' × NoneFreshened p p'
   closes_none p' marks order count none none' =
       let first : top.place ≡ 0 = none_below nodes arcs p top m (sym c.below ∙ none) in (
         record {
@@ -214,7 +248,8 @@ module _ (nodes : ℕ) (arcs : List (ℕ × ℕ)) (p q : Pass) (top : Frame) (m 
       )
 
 -- one of them more
-pub closes_more : (order : List ℕ) (from to number node : ℕ) (old new : List Mark) → ClosesFrom order from to number old new → At order to node → node < length new → from ≤ to → ClosesFrom order from (to + 1) number old (set new node (Closed number))
+pub closes_more : (order : List ℕ) (from to number node : ℕ) (old new : List Mark) → ClosesFrom order from to number old new → At order to node → node < length new → from ≤ to
+    → ClosesFrom order from (to + 1) number old (set new node (Closed number))
 closes_more order from to number node old new c here within le = record {
   size = length-set new node (Closed number) ∙ c.size;
   chosen = λ i x above below at.
@@ -239,28 +274,34 @@ all_open_within arcs marks order count keeps k d within =
     open_within arcs marks order count k (get_or order k d) keeps (within, get_or_default order k 0 d within)
 
 -- the next arc of the same tail
-pub chain_read : (nodes : ℕ) (arcs : List (ℕ × ℕ)) (last before : List ℕ) (place next : ℕ) → AreChained nodes arcs (length arcs) last before → place < length arcs → next ≡ get_or before place next → IsLast arcs (tail arcs place) place next
+pub chain_read : (nodes : ℕ) (arcs : List (ℕ × ℕ)) (last before : List ℕ) (place next : ℕ) → AreChained nodes arcs (length arcs) last before → place < length arcs
+    → next ≡ get_or before place next → IsLast arcs (tail arcs place) place next
 chain_read nodes arcs last before place next chains within read =
     let inside : place < length before = omega (arith, chains.arcs_size) in
     let at : get_or before place 0 ≡ next = sym (get_or_read before place next inside read 0) in
     subst (λ k. IsLast arcs (tail arcs place) place k) at (chains.befores place within)
 
 -- an open node that is read is closed
-pub closes_step : (order now : List ℕ) (from to number node : ℕ) (old new : List Mark) → All (λ x. x < length old) order → now ≡ order → to < length order → node ≡ get_or now to node → from ≤ to → ClosesFrom order from to number old new → (node < length new) × ClosesFrom order from (to + 1) number old (set new node (Closed number))
+pub closes_step : (order now : List ℕ) (from to number node : ℕ) (old new : List Mark) → All (λ x. x < length old) order → now ≡ order → to < length order → node ≡ get_or now to node
+    → from ≤ to → ClosesFrom order from to number old new → (node < length new) × ClosesFrom order from (to + 1) number old (set new node (Closed number))
 closes_step order now from to number node old new marked same within read le closes =
     let here = at_read order to node within (subst (λ (xs : List ℕ). node ≡ get_or xs to node) same read) in
     let fits' : node < length new = omega (arith, marked to 0 within, here.1, closes.size) in
     (fits', closes_more order from to number node old new closes here fits' le)
 
 -- a component was closed, and the frame below was taken
-pub finishes_closed : (nodes : ℕ) (arcs : List (ℕ × ℕ)) (p q p' : Pass) (top : Frame) (r : Option Frame) → IsMidway nodes arcs p top → top.next ≡ 0 → top.low ≡ top.place → Closes top.place p q → p'.marks.items ≡ q.marks.items → p'.order.items ≡ q.order.items → p'.count ≡ q.count → q.below.items ≡ p'.below.items ++ option_to_list r → MatchOption r ((vec_len q.below ≡ 0) × (vec_len p'.below ≡ 0)) (λ _. vec_len p'.below + 1 ≡ vec_len q.below) → Finishes nodes arcs p top p' r
+pub finishes_closed : (nodes : ℕ) (arcs : List (ℕ × ℕ)) (p q p' : Pass) (top : Frame) (r : Option Frame) → IsMidway nodes arcs p top → top.next ≡ 0 → top.low ≡ top.place
+    → Closes top.place p q → p'.marks.items ≡ q.marks.items → p'.order.items ≡ q.order.items → p'.count ≡ q.count → q.below.items ≡ p'.below.items ++ option_to_list r
+    → MatchOption r ((vec_len q.below ≡ 0) × (vec_len p'.below ≡ 0)) (λ _. vec_len p'.below + 1 ≡ vec_len q.below) → Finishes nodes arcs p top p' r
 finishes_closed nodes arcs p q p' top (Some g) m ended own closes marks order count below cases =
     closes_some nodes arcs p q top m ended own closes p' g marks order count below
 finishes_closed nodes arcs p q p' top None m ended own closes marks order count below cases =
-    closes_none nodes arcs p q top m ended own closes p' marks order count (nil_from_length q.below.items (omega (arith, cases.0, q.below.ok.0))) (nil_from_length p'.below.items (omega (arith, cases.1, p'.below.ok.0)))
+    closes_none nodes arcs p q top m ended own closes p' marks order count (nil_from_length q.below.items (omega (arith, cases.0, q.below.ok.0)))
+    (nil_from_length p'.below.items (omega (arith, cases.1, p'.below.ok.0)))
 
 -- a fresh node was entered, and no other
-pub enters_one : (last : List ℕ) (w : ℕ) (p p' : Pass) (f : Frame) → w < length p.marks.items → mark_of p.marks.items w ≡ Fresh → Enters last w p p' f → NoneFreshened p p' × (mark_of p'.marks.items w ≡ Fresh → ⊥)
+pub enters_one : (last : List ℕ) (w : ℕ) (p p' : Pass) (f : Frame) → w < length p.marks.items → mark_of p.marks.items w ≡ Fresh → Enters last w p p' f
+    → NoneFreshened p p' × (mark_of p'.marks.items w ≡ Fresh → ⊥)
 enters_one last w p p' f within fresh e =
     let at : Mark = Open (length p.order.items) in (
       λ x was.

@@ -1,5 +1,6 @@
 -- The steps of a search in breadth.
-use Rattle.std.proofs.Common.{◌≡◌, ◌∙◌, ◌≢◌, ℕ, zero, suc, ◌+◌, ◌-◌, ◌<◌, ◌≤◌, inl, inr, ⊎_elim, Bool, true, false, List, [], ◌∷◌, ◌++◌, length, get_or, set, refl, sym, ap, subst, arith, get_or-set_same, get_or-set_other, length-set}
+use Rattle.std.proofs.Common.{◌≡◌, ◌∙◌, ◌≢◌, ℕ, zero, suc, ◌+◌, ◌-◌, ◌<◌, ◌≤◌, inl, inr, ⊎_elim, Bool, true, false, List, [], ◌∷◌, ◌++◌, length}
+use Rattle.std.proofs.Common.{get_or, set, refl, sym, ap, subst, arith, get_or-set_same, get_or-set_other, length-set}
 use Rattle.std.proofs.lemmas.List.{get_or_default, get_or_read, length_push}
 use Rattle.std.proofs.lemmas.List.Sums.{sum_by-set}
 use Rattle.std.specs.List.{Contains, sum_by}
@@ -29,7 +30,8 @@ search_begins arcs starts s has = record {
 }
 
 -- one arc more of the node at `done` was looked at
-closed_more : (arcs : List (ℕ × ℕ)) (depth : ℕ → ℕ) (seen : List Bool) (order : List ℕ) (done place : ℕ) → IsClosed arcs depth seen order done (place + 1) → ((x : ℕ) → At order done x → tail arcs place ≡ x → IsNear depth seen (head arcs place) (suc (depth x))) → IsClosed arcs depth seen order done place
+closed_more : (arcs : List (ℕ × ℕ)) (depth : ℕ → ℕ) (seen : List Bool) (order : List ℕ) (done place : ℕ) → IsClosed arcs depth seen order done (place + 1)
+    → ((x : ℕ) → At order done x → tail arcs place ≡ x → IsNear depth seen (head arcs place) (suc (depth x))) → IsClosed arcs depth seen order done place
 closed_more arcs depth seen order done place closed now i x k past here within leaves =
     ⊎_elim (λ (lt : i < done). closed i x k (inl lt) here within leaves)
     (λ (h : (i ≡ done) × (place ≤ k)).
@@ -40,7 +42,8 @@ closed_more arcs depth seen order done place closed now i x k past here within l
     (cases_eq k place))
     past
 
-add_same : (arcs : List (ℕ × ℕ)) (starts : List ℕ) (done place : ℕ) (s : Search) → Searching arcs starts done (place + 1) s → flag s.seen.items (head arcs place) ≡ true → Searching arcs starts done place s
+add_same : (arcs : List (ℕ × ℕ)) (starts : List ℕ) (done place : ℕ) (s : Search) → Searching arcs starts done (place + 1) s → flag s.seen.items (head arcs place) ≡ true
+    → Searching arcs starts done place s
 add_same arcs starts done place s old marked = record {
   depth = old.depth;
   lists = old.lists;
@@ -56,7 +59,9 @@ add_same arcs starts done place s old marked = record {
 }
 
 -- the search in which a node was added, over the parts of the one before
-module _ (arcs : List (ℕ × ℕ)) (starts : List ℕ) (done place w x : ℕ) (s : Search) (old : Searching arcs starts done (place + 1) s) (here : At s.order.items done x) (leaves : tail arcs place ≡ x) (enters : head arcs place ≡ w) (within : place < length arcs) (fits : w < length s.seen.items) (led_fits : w < length s.led.items) (fresh : flag s.seen.items w ≡ false) where
+module _ (arcs : List (ℕ × ℕ)) (starts : List ℕ) (done place w x : ℕ) (s : Search) (old : Searching arcs starts done (place + 1) s) (here : At s.order.items done x)
+    (leaves : tail arcs place ≡ x) (enters : head arcs place ≡ w) (within : place < length arcs) (fits : w < length s.seen.items) (led_fits : w < length s.led.items)
+    (fresh : flag s.seen.items w ≡ false) where
   depth' : ℕ → ℕ
   depth' = with_depth old.depth w (suc (old.depth x))
 
@@ -100,7 +105,13 @@ module _ (arcs : List (ℕ × ℕ)) (starts : List ℕ) (done place w x : ℕ) (
       let at : get_or (set s.led.items w place) y 0 ≡ get_or s.led.items y 0 = get_or-set_other s.led.items w y place 0 other in
       ⊎_elim (λ (h : (old.depth y ≡ 0) × Contains starts y). inl (kept y before ∙ h.0, h.1))
       (λ (h : IsLedBy arcs old.depth s.seen.items y (get_or s.led.items y 0)).
-      inr (rw at (record { placed = h.placed; enters = h.enters; marked = still (tail arcs (get_or s.led.items y 0)) h.marked; deeper = kept y before ∙ (h.deeper ∙ ap suc (sym (kept (tail arcs (get_or s.led.items y 0)) h.marked))) })))
+      inr (rw at (record {
+        placed = h.placed;
+        enters = h.enters;
+        marked = still (tail arcs (get_or s.led.items y 0)) h.marked;
+        deeper = kept y before
+            ∙ (h.deeper ∙ ap suc (sym (kept (tail arcs (get_or s.led.items y 0)) h.marked)));
+      })))
       (old.is_led y before))
       (cases_eq y w)
 
@@ -137,7 +148,11 @@ module _ (arcs : List (ℕ × ℕ)) (starts : List ℕ) (done place w x : ℕ) (
       let now = near_kept (head arcs k) (suc (old.depth y)) (old.closed i y k past before inside from) in
       subst (λ n. IsNear depth' (set s.seen.items w true) (head arcs k) (suc n)) (sym (kept_at i y before)) now)
       (λ y at from.
-      record { marked = rw enters (flag_set s.seen.items w fits); close = omega (arith, there (head arcs place) enters, kept_at done y (at_before s.order.items w done y here.0 at), ap old.depth (sym leaves ∙ from)) })
+      record {
+        marked = rw enters (flag_set s.seen.items w fits);
+        close =
+            omega (arith, there (head arcs place) enters, kept_at done y (at_before s.order.items w done y here.0 at), ap old.depth (sym leaves ∙ from));
+      })
 
   add_fresh : (s' : Search) → s'.seen.items ≡ set s.seen.items w true → s'.order.items ≡ s.order.items ++ w ∷ [] → s'.led.items ≡ set s.led.items w place → Searching arcs starts done place s'
   add_fresh s' seen order led = record {
@@ -152,7 +167,8 @@ module _ (arcs : List (ℕ × ℕ)) (starts : List ℕ) (done place w x : ℕ) (
   }
 
 -- the head of an arc of the node at `done` is added, unless it was seen before
-pub search_adds : (arcs : List (ℕ × ℕ)) (starts : List ℕ) (done end place w x : ℕ) (s s' : Search) → IsSized s → w < length s.seen.items → Searching arcs starts done end s → end ≡ place + 1 → At s.order.items done x → tail arcs place ≡ x → head arcs place ≡ w → place < length arcs → Adds s w place s' → Searching arcs starts done place s'
+pub search_adds : (arcs : List (ℕ × ℕ)) (starts : List ℕ) (done end place w x : ℕ) (s s' : Search) → IsSized s → w < length s.seen.items → Searching arcs starts done end s → end ≡ place + 1
+    → At s.order.items done x → tail arcs place ≡ x → head arcs place ≡ w → place < length arcs → Adds s w place s' → Searching arcs starts done place s'
 search_adds arcs starts done end place w x s s' sized fits old same here leaves enters within adds =
     let old' : Searching arcs starts done (place + 1) s = subst (λ n. Searching arcs starts done n s) same old in
     ⊎_elim (λ (h : (flag s.seen.items w ≡ true) × (s' ≡ s)). subst (λ (t : Search). Searching arcs starts done place t) (sym h.1) (add_same arcs starts done place s old' (rw enters h.0)))
@@ -161,7 +177,8 @@ search_adds arcs starts done end place w x s s' sized fits old same here leaves 
     adds
 
 -- no arc from c to before `end` leaves the node at `done`
-pub search_passes : (arcs : List (ℕ × ℕ)) (starts : List ℕ) (done end c x : ℕ) (s : Search) → Searching arcs starts done end s → At s.order.items done x → IsLast arcs x end c → Searching arcs starts done c s
+pub search_passes : (arcs : List (ℕ × ℕ)) (starts : List ℕ) (done end c x : ℕ) (s : Search) → Searching arcs starts done end s → At s.order.items done x → IsLast arcs x end c
+    → Searching arcs starts done c s
 search_passes arcs starts done end c x s old here last = record {
   depth = old.depth;
   lists = old.lists;
@@ -202,7 +219,8 @@ search_goes_on arcs starts done s old within = record {
 }
 
 -- what a node that was seen reaches was seen too, and is no deeper than the walk is long
-pub walk_near : (arcs : List (ℕ × ℕ)) (starts : List ℕ) (done end : ℕ) (s : Search) (old : Searching arcs starts done end s) → length s.order.items ≤ done → (p q : ℕ) (walk : List (ℕ × ℕ)) → flag s.seen.items p ≡ true → IsWalk arcs p walk q → (flag s.seen.items q ≡ true) × (old.depth q ≤ old.depth p + length walk)
+pub walk_near : (arcs : List (ℕ × ℕ)) (starts : List ℕ) (done end : ℕ) (s : Search) (old : Searching arcs starts done end s) → length s.order.items ≤ done → (p q : ℕ) (walk : List (ℕ × ℕ))
+    → flag s.seen.items p ≡ true → IsWalk arcs p walk q → (flag s.seen.items q ≡ true) × (old.depth q ≤ old.depth p + length walk)
 walk_near arcs starts done end s old all p q [] marked leads = (rw (sym leads) marked, omega (arith, ap old.depth leads))
 walk_near arcs starts done end s old all p q (a ∷ walk) marked leads =
     let found = old.lists.listed p marked in
@@ -213,7 +231,8 @@ walk_near arcs starts done end s old all p q (a ∷ walk) marked leads =
     let rest = walk_near arcs starts done end s old all a.1 q walk (rw same at near.marked) leads.2 in
     (rest.0, omega (arith, near.close, ap old.depth same, rest.1))
 
-pub reached_at : (arcs : List (ℕ × ℕ)) (starts : List ℕ) (done end : ℕ) (s : Search) (old : Searching arcs starts done end s) (n x : ℕ) → old.depth x ≡ n → flag s.seen.items x ≡ true → ReachedFrom arcs starts x
+pub reached_at : (arcs : List (ℕ × ℕ)) (starts : List ℕ) (done end : ℕ) (s : Search) (old : Searching arcs starts done end s) (n x : ℕ) → old.depth x ≡ n → flag s.seen.items x ≡ true
+    → ReachedFrom arcs starts x
 reached_at arcs starts done end s old zero x deep marked =
     ⊎_elim (λ (h : (old.depth x ≡ 0) × Contains starts x). record { start = x; listed = h.1; reached = reach_none arcs x })
     (λ (h : IsLedBy arcs old.depth s.seen.items x (get_or s.led.items x 0)). absurd (omega (arith, h.deeper)))
@@ -274,7 +293,9 @@ start_added k w starts s s' fits inside is has adds =
     })
     adds
 
-pub spread_begins : (nodes : ℕ) (arcs : List (ℕ × ℕ)) (starts last before : List ℕ) (done end node : ℕ) (s : Search) → AreChained nodes arcs (length arcs) last before → length s.seen.items ≡ nodes → IsSized s → Searching arcs starts done (length arcs) s → done < length s.order.items → node ≡ get_or s.order.items done node → end ≡ get_or last node end → Spreading nodes arcs starts done end node s
+pub spread_begins : (nodes : ℕ) (arcs : List (ℕ × ℕ)) (starts last before : List ℕ) (done end node : ℕ) (s : Search) → AreChained nodes arcs (length arcs) last before
+    → length s.seen.items ≡ nodes → IsSized s → Searching arcs starts done (length arcs) s → done < length s.order.items → node ≡ get_or s.order.items done node → end ≡ get_or last node end
+    → Spreading nodes arcs starts done end node s
 spread_begins nodes arcs starts last before done end node s chains size sized searching within node_is end_is =
     let here = at_read s.order.items done node within node_is in
     let below : node < nodes = omega (arith, sized.order_within done node here) in
@@ -296,7 +317,9 @@ at_added s s' w place done x here adds =
     (λ (h : IsAdded s w place s'). rw h.listed (at_kept s.order.items w done x here))
     adds
 
-pub spread_goes_on : (nodes : ℕ) (arcs : List (ℕ × ℕ)) (starts last before : List ℕ) (done end next node place w : ℕ) (s s' : Search) → AreChained nodes arcs (length arcs) last before → Spreading nodes arcs starts done end node s → end ≡ place + 1 → head arcs place ≡ w → w < nodes → Adds s w place s' → length s'.seen.items ≡ length s.seen.items → IsSized s' → next ≡ get_or before place next → Spreading nodes arcs starts done next node s'
+pub spread_goes_on : (nodes : ℕ) (arcs : List (ℕ × ℕ)) (starts last before : List ℕ) (done end next node place w : ℕ) (s s' : Search) → AreChained nodes arcs (length arcs) last before
+    → Spreading nodes arcs starts done end node s → end ≡ place + 1 → head arcs place ≡ w → w < nodes → Adds s w place s' → length s'.seen.items ≡ length s.seen.items → IsSized s'
+    → next ≡ get_or before place next → Spreading nodes arcs starts done next node s'
 spread_goes_on nodes arcs starts last before done end next node place w s s' chains old end_is enters fits adds size sized next_is =
     let within : place < length arcs = omega (arith, old.within) in
     let minus : end - 1 ≡ place = omega arith in

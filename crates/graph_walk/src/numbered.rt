@@ -9,6 +9,7 @@ use crate::pass::Pass;
 use aut_base::{Memory, Numbers};
 use std::alloc::Global;
 
+// Why so: 'Walks leave open what nobody asks' in docs/DECISIONS.md.
 /// For each node the number of its strongly connected component.
 pub fn components(alloc: Global, graph: &Graph) -> Result<Numbers, Memory>
     requires { HasNodes graph.now.nodes graph.now.arcs }

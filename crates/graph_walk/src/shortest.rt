@@ -9,6 +9,7 @@ use crate::search::Search;
 use aut_base::{Memory, Places};
 use std::alloc::Global;
 
+// Why so: 'Walks leave open what nobody asks' in docs/DECISIONS.md.
 /// The places of the arcs of a shortest walk between two nodes, in its order, or None where there is no walk.
 pub fn path(alloc: Global, graph: &Graph, from: u32, to: u32) -> Result<Option<Places>, Memory>
     requires nodes { HasNodes graph.now.nodes graph.now.arcs }

@@ -19,6 +19,7 @@ use crate::{LexFault, Token};
 use aut_io::Inputs;
 use std::alloc::Global;
 
+// Why so: 'A lexer is seen by its fields' in docs/DECISIONS.md.
 /// Reads tokens from inputs, up to a number of bytes.
 #[derive(Debug, Drop)]
 pub struct Lexer {

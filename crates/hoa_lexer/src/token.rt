@@ -5,6 +5,7 @@ ghost use Rattle.hoa_lexer.specs.declared.token.LexFault.{LexFault};
 
 use aut_base::{Memory, Text};
 
+// Why so: 'An alias token holds its name without the `@`' in docs/DECISIONS.md.
 /// A token of HOA v1 (section "Grammar").
 #[derive(Debug, Drop)]
 pub enum Token {
@@ -36,6 +37,7 @@ pub enum Token {
 /// Why the lexer gives no token. It is spent after each of these.
 #[derive(Clone, Copy, Debug, PartialEq, Eq)]
 pub enum LexFault {
+    // Why so: '`BadToken` is about every continuation' in docs/DECISIONS.md.
     /// The bytes from this offset on are no token, however they go on.
     BadToken(u64),
     /// The text ended inside a comment.

@@ -20,6 +20,7 @@ pub fn one_standing()
     ensures { OneStanding }
 {}
 
+// Why so: 'That something always stands next in a text is a law by contradiction' in docs/DECISIONS.md.
 /// In every text something stands next.
 pub fn some_standing()
     ensures { SomeStanding }

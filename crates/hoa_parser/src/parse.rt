@@ -48,6 +48,7 @@ pub(crate) fn abandons(fault: ReadFault, ahead: &Token) -> bool
     matches!((fault, ahead), (ReadFault::Syntax(_), Token::Abort))
 }
 
+// Why so: 'Below that, reading is described by what is still expected' in docs/DECISIONS.md.
 /// automaton = "HOA:" IDENTIFIER item* "--BODY--" state* "--END--", up to the token `--END--`, which stays at hand:
 /// behind it nothing is read.
 pub(crate) fn automaton<I: Inputs>(

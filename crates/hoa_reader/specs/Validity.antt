@@ -1,6 +1,7 @@
 -- The rules that an automaton has to keep once it is written down, in the order in which they are examined. A text that
 -- breaks several of them is answered by the earliest.
-use Rattle.std.specs.Prelude.{◌≡◌, ◌^◌, ℕ, Bool, true, false, not, ◌&&◌, ◌||◌, ◌==◌, nat_lt, nat_le, List, [], ◌∷◌, ◌++◌, length, take, map, flat_map, filter_map, count_by, codes, get_or, Option, Some, None, is_some, is_none, option_to_list}
+use Rattle.std.specs.Prelude.{◌≡◌, ◌^◌, ℕ, Bool, true, false, not, ◌&&◌, ◌||◌, ◌==◌, nat_lt, nat_le, List, [], ◌∷◌, ◌++◌, length, take, map, flat_map}
+use Rattle.std.specs.Prelude.{filter_map, count_by, codes, get_or, Option, Some, None, is_some, is_none, option_to_list}
 use Rattle.std.specs.List.{list_any, list_all}
 use Rattle.aut_base.specs.Formula as formula
 use Rattle.aut_base.specs.Formula.{FormulaTree, FormulaTrees}

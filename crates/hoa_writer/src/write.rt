@@ -20,6 +20,7 @@ use aut_core::{Automaton, Link};
 use label_guards::Guards;
 use std::alloc::Global;
 
+// Why so: 'The name of an automaton is printed, as the second line' in docs/DECISIONS.md.
 /// The canonical text of an automaton, and of its name if it has one.
 pub fn write_text(alloc: Global, a: &Automaton, name: Option<&Text>) -> Result<Text, Memory>
     ensures text { IfOk result (λ text. text ≡ canonical_text (automaton_of a.now) (option_copied name.entry)) }

@@ -48,5 +48,6 @@ fixed-here on prop value = ap (λ b. if b then value else on prop) (eq_self prop
 pub fixed-later : (on : ℕ → Bool) (prop : ℕ) (value : Bool) (i : ℕ) → prop < i → fixed on prop value i ≡ on i
 fixed-later on prop value i h = ap (λ b. if b then value else on i) (eq_other i prop h)
 
-pub outcome_fixed : (s : Store) → IsReduced s.names s.nodes → (p : ℕ) → HasPlace s p → (on : ℕ → Bool) (prop : ℕ) (value : Bool) → prop < level s p → outcome s.nodes (fixed on prop value) p ≡ outcome s.nodes on p
+pub outcome_fixed : (s : Store) → IsReduced s.names s.nodes → (p : ℕ) → HasPlace s p → (on : ℕ → Bool) (prop : ℕ) (value : Bool) → prop < level s p
+    → outcome s.nodes (fixed on prop value) p ≡ outcome s.nodes on p
 outcome_fixed s is p has on prop value h = outcome_agrees s is p has (fixed on prop value) on (λ i x y. fixed-later on prop value i (omega arith))

@@ -89,7 +89,8 @@ module _ (alike : Test) (is : IsAlikeness alike) where
         let least = least_found v c first.0 (found.0, tt) in
         (record { valuation = v; size = least.size; truth = least.is_true }, found_met vs cs first.1 found.1)
 
-    before_all : (v : List Bool) (c : Guard) (vs : List (List Bool)) (cs : List Guard) → IsFirst n alike v → AreFound s alike (v ∷ []) (c ∷ []) → AllByRecursion (IsEarlier alike v) vs → AllByRecursion (IsFirst n alike) vs → AreFound s alike vs cs → AllByRecursion (IsBefore s c) cs
+    before_all : (v : List Bool) (c : Guard) (vs : List (List Bool)) (cs : List Guard) → IsFirst n alike v → AreFound s alike (v ∷ []) (c ∷ []) → AllByRecursion (IsEarlier alike v) vs
+        → AllByRecursion (IsFirst n alike) vs → AreFound s alike vs cs → AllByRecursion (IsBefore s c) cs
     before_all v c [] [] first is_c earlier firsts found = tt
     before_all v c [] (d ∷ cs) first is_c earlier firsts found = absurd found
     before_all v c (w ∷ vs) [] first is_c earlier firsts found = absurd found
@@ -110,7 +111,8 @@ module _ (alike : Test) (is : IsAlikeness alike) where
     found_ordered (v ∷ vs) [] pairs firsts found = absurd found
     found_ordered (v ∷ vs) (c ∷ cs) pairs firsts found = (before_all v c vs cs firsts.0 (found.0, tt) pairs.0 firsts.1 found.1, found_ordered vs cs pairs.1 firsts.1 found.1)
 
-pub are_classes : (old s : Store) → IsReduced old.names old.nodes → IsReduced s.names s.nodes → (list classes : List Guard) (rest most : ℕ) → All (Has old) list → IsUnderWay old s list classes rest → length classes ≤ most → IsNeverMetAt s rest → AreClasses s list most classes
+pub are_classes : (old s : Store) → IsReduced old.names old.nodes → IsReduced s.names s.nodes → (list classes : List Guard) (rest most : ℕ) → All (Has old) list
+    → IsUnderWay old s list classes rest → length classes ≤ most → IsNeverMetAt s rest → AreClasses s list most classes
 are_classes old s was reduced list classes rest most has way few none =
     let alike : Test = agree old list in
     let is : IsAlikeness alike = agree_is old list in
@@ -128,7 +130,8 @@ are_classes old s was reduced list classes rest most has way few none =
           let w = met_at (λ v. alike (holds_in v) also) vs j (ap (λ bs. slice_get bs j) (sym (said also)) ∙ meets_j) in (
             (λ e. let same : v.0 ≡ w.0 = same_Some v.0 w.0 (sym v.1 ∙ (ap (slice_get vs) e ∙ w.1)) in
                 alike_agree old was s (keeps way.grows) on also list has (joined alike is (holds_in v.0) on also v.2 (ap (λ x. alike (holds_in x) also) same ∙ w.2))),
-            (λ h. one_place alike is vs way.firsts.pairs i j v.0 w.0 v.1 w.1 (across alike is (holds_in v.0) (holds_in w.0) on also v.2 w.2 (agree_alike old was s (keeps way.grows) on also list has h))),
+            (λ h. one_place alike is vs way.firsts.pairs i j v.0 w.0 v.1 w.1
+                (across alike is (holds_in v.0) (holds_in w.0) on also v.2 w.2 (agree_alike old was s (keeps way.grows) on also list has h))),
           );
       ordered = all_pairs (IsBefore s) classes (found_ordered alike is old.names s reduced way.grows.names vs classes way.firsts.pairs way.firsts.first way.found);
     }

@@ -1,5 +1,6 @@
 -- What holds of the classes under a list of guards.
-use Rattle.std.proofs.Common.{◌≡◌, ◌⊎◌, ℕ, zero, suc, ◌+◌, ◌<◌, ◌≤◌, ◌∙◌, Bool, true, false, List, [], ◌∷◌, length, map, All, Some, slice_get, get_or, option_map, inl, inr, refl, sym, ap, subst, arith}
+use Rattle.std.proofs.Common.{◌≡◌, ◌⊎◌, ℕ, zero, suc, ◌+◌, ◌<◌, ◌≤◌, ◌∙◌, Bool, true, false, List, [], ◌∷◌, length, map, All, Some, slice_get, get_or}
+use Rattle.std.proofs.Common.{option_map, inl, inr, refl, sym, ap, subst, arith}
 use Rattle.std.proofs.Math.Decide.{dec_lt}
 use Rattle.std.proofs.lemmas.List.{length-map}
 use Rattle.std.proofs.lemmas.List.Elements.{All-from_recursion}
@@ -57,7 +58,8 @@ one_under_none s most (c ∷ []) are = (refl, All-from_recursion (λ g. (on : �
     first on (suc i) h = absurd (none-some true h)
 one_under_none s most (c ∷ d ∷ classes) are =
     let before : IsBefore s c d = are.ordered zero (suc zero) c (omega arith) (omega arith) in
-    absurd (apart 0 1 (omega arith) ((are.alike (holds_in before.first) (holds_in before.second) 0 1 (ap Some before.is_first.is_true) (ap Some before.is_second.is_true)).1 (λ k g within. absurd (omega (arith, within)))))
+    absurd (apart 0 1 (omega arith) ((are.alike (holds_in before.first) (holds_in before.second) 0 1 (ap Some before.is_first.is_true) (ap Some before.is_second.is_true)).1
+    (λ k g within. absurd (omega (arith, within)))))
   where
     apart : (i j : ℕ) → i < j → i ≡ j → ⊥
     apart i j less e = omega arith
@@ -124,7 +126,8 @@ met_from f xs i x at e = slice_get-map f xs i ∙ (ap (option_map f) at ∙ ap S
 
 -- what meets a class of the one list meets the class of the other that it has a valuation in common with
 module _ (s : Store) (list : List Guard) where
-  passes : (most more : ℕ) (classes others : List Guard) → AreClasses s list most classes → AreClasses s list more others → (i j : ℕ) (c d : Guard) → slice_get classes i ≡ Some c → slice_get others j ≡ Some d
+  passes : (most more : ℕ) (classes others : List Guard) → AreClasses s list most classes → AreClasses s list more others → (i j : ℕ) (c d : Guard) → slice_get classes i ≡ Some c
+      → slice_get others j ≡ Some d
       → (v : ℕ → Bool) → truth_in s c v ≡ true → truth_in s d v ≡ true → (on : ℕ → Bool) → truth_in s c on ≡ true → truth_in s d on ≡ true
   passes most more classes others are also i j c d at_i at_j v in_c in_d on h =
       let alike : AreAlike s list v on = (are.alike v on i i (met_from (λ g. truth_in s g v) classes i c at_i in_c) (met_from (λ g. truth_in s g on) classes i c at_i h)).0 refl in
@@ -153,8 +156,10 @@ module _ (s : Store) (list : List Guard) where
   each_at P (g ∷ gs) h = (h zero g refl, each_at P gs (λ i x at. h (suc i) x at))
 
   -- each class of the one list is one of the other
-  labels_in : (most more : ℕ) (classes others : List Guard) → AreClasses s list most classes → AreClasses s list more others → AllByRecursion (λ t. IsIn t (map (label_in s) others)) (map (label_in s) classes)
-  labels_in most more classes others are also = AllByRecursion-map (λ t. IsIn t (map (label_in s) others)) (label_in s) classes (each_at (λ c. IsIn (label_in s c) (map (label_in s) others)) classes (λ i c at.
+  labels_in : (most more : ℕ) (classes others : List Guard) → AreClasses s list most classes → AreClasses s list more others
+      → AllByRecursion (λ t. IsIn t (map (label_in s) others)) (map (label_in s) classes)
+  labels_in most more classes others are also =
+      AllByRecursion-map (λ t. IsIn t (map (label_in s) others)) (label_in s) classes (each_at (λ c. IsIn (label_in s c) (map (label_in s) others)) classes (λ i c at.
       let met : IsMet s c = subst (IsMet s) (get_or_from_slice_get classes i c c at) (are.met i c (slice_get_within classes i c at)) in
       let v : ℕ → Bool = holds_in met.valuation in
       let there = also.every v in
@@ -173,4 +178,5 @@ module _ (s : Store) (list : List Guard) where
 
 pub classes_are_determined : ClassesAreDetermined
 classes_are_determined s list most more classes others are also =
-    one_order s.names _ _ (in_order s list most classes are) (in_order s list more others also) (labels_in s list most more classes others are also) (labels_in s list more most others classes also are)
+    one_order s.names _ _ (in_order s list most classes are) (in_order s list more others also) (labels_in s list most more classes others are also)
+    (labels_in s list more most others classes also are)

@@ -49,7 +49,8 @@ not_true false h = refl
 module _ (alike : Test) (is : IsAlikeness alike) where
   -- apart from all is apart from each
   pub apart_each : (vs : List (List Bool)) (on : ℕ → Bool) → is_apart alike vs on ≡ true → AllByRecursion (λ v. alike (holds_in v) on ≡ false) vs
-  apart_each vs on h = AllByRecursion-weaker (λ v. not (alike (holds_in v) on) ≡ true) (λ v. alike (holds_in v) on ≡ false) vs (λ v. not_true (alike (holds_in v) on)) (AllByRecursion-from_list_all (λ v. not (alike (holds_in v) on)) vs h)
+  apart_each vs on h = AllByRecursion-weaker (λ v. not (alike (holds_in v) on) ≡ true) (λ v. alike (holds_in v) on ≡ false) vs (λ v. not_true (alike (holds_in v) on))
+      (AllByRecursion-from_list_all (λ v. not (alike (holds_in v) on)) vs h)
 
   -- so is all that is in the same class
   apart_same : (vs : List (List Bool)) (on also : ℕ → Bool) → alike on also ≡ true → is_apart alike vs on ≡ is_apart alike vs also
@@ -73,7 +74,8 @@ module _ (alike : Test) (is : IsAlikeness alike) where
       size = size;
       least = λ w size_w h. least w size_w (sym (apart_same vs (holds_in v) (holds_in w) h) ∙ apart);
     });
-    pairs = Pairs-push (IsEarlier alike) vs v are.pairs (AllByRecursion-both (λ x. alike (holds_in x) (holds_in v) ≡ false) (λ x. number_of x < number_of v) vs (apart_each vs (holds_in v) apart) (are.later v size apart));
+    pairs = Pairs-push (IsEarlier alike) vs v are.pairs
+        (AllByRecursion-both (λ x. alike (holds_in x) (holds_in v) ≡ false) (λ x. number_of x < number_of v) vs (apart_each vs (holds_in v) apart) (are.later v size apart));
     later = λ w size_w h.
         let e = both _ _ (sym (apart_push vs v (holds_in w)) ∙ h) in
         let a : number_of v ≤ number_of w = least w size_w e.0 in

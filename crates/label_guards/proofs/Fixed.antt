@@ -74,7 +74,8 @@ fixed_later {s} {t} {u} first second prop l side found value has later is =
 
 -- a node that asks for one before it
 pub fixed_step : {s t u v : Store} → Grows s t → Grows t u → Grows u v → (prop p l low high low_found high_found found : ℕ) (value : Bool)
-    → HasPlace s p → l ≡ level s p → l ≤ prop → (l ≡ prop → ⊥) → AreSides s l p low high → IsFixedAt t prop value low low_found → IsFixedAt u prop value high high_found → IsChoice v l low_found high_found found → IsFixedAt v prop value p found
+    → HasPlace s p → l ≡ level s p → l ≤ prop → (l ≡ prop → ⊥) → AreSides s l p low high → IsFixedAt t prop value low low_found → IsFixedAt u prop value high high_found
+    → IsChoice v l low_found high_found found → IsFixedAt v prop value p found
 fixed_step {s} {t} {u} {v} first second third prop p l low high low_found high_found found value has e before differ sides low_is high_is choice =
     let a = level_kept all p has in
     let c = choice.later in
@@ -110,7 +111,8 @@ fixed_step {s} {t} {u} {v} first second third prop p l low high low_found high_f
         ∙ (outcome_kept (grows_on second third) on low_found low_is.has ∙ (low_is.truth on ∙ (outcome_kept first set low (omega arith)
         ∙ sym (outcome_kept all set p has ∙ (sides.truth set ∙ ap (λ c. if c then outcome s.nodes set high else outcome s.nodes set low) here)))))
 
-pub fixed_guard : {old new : Store} → IsReduced old.names old.nodes → IsReduced new.names new.nodes → Grows old new → (prop : ℕ) (value : Bool) (g : Guard) (found : ℕ) → Has old g → IsFixedAt new prop value g.place found → IsGuardOf new (λ on. truth_in old g (with_prop on prop value)) (at found)
+pub fixed_guard : {old new : Store} → IsReduced old.names old.nodes → IsReduced new.names new.nodes → Grows old new → (prop : ℕ) (value : Bool) (g : Guard) (found : ℕ) → Has old g
+    → IsFixedAt new prop value g.place found → IsGuardOf new (λ on. truth_in old g (with_prop on prop value)) (at found)
 fixed_guard {old} {new} was is grows prop value g found has fixed = guard_of new is _ (at found) fixed.has (λ on.
     let set = with_prop on prop value in
     fixed.truth on ∙ (outcome_kept grows set g.place has ∙ sym (truth_is old was g has set)))

@@ -44,7 +44,8 @@ found_kept grows alike [] (c ∷ cs) found = absurd found
 found_kept grows alike (v ∷ vs) [] found = absurd found
 found_kept grows alike (v ∷ vs) (c ∷ cs) found = (place_kept grows (alike (holds_in v)) c.place found.0, found_kept grows alike vs cs found.1)
 
-found_push : (s : Store) (alike : Test) (vs : List (List Bool)) (cs : List Guard) (v : List Bool) (c : Guard) → AreFound s alike vs cs → IsPlaceOf s (alike (holds_in v)) c.place → AreFound s alike (vs ++ v ∷ []) (cs ++ c ∷ [])
+found_push : (s : Store) (alike : Test) (vs : List (List Bool)) (cs : List Guard) (v : List Bool) (c : Guard) → AreFound s alike vs cs → IsPlaceOf s (alike (holds_in v)) c.place
+    → AreFound s alike (vs ++ v ∷ []) (cs ++ c ∷ [])
 found_push s alike [] [] v c found is = (is, tt)
 found_push s alike [] (d ∷ cs) v c found is = absurd found
 found_push s alike (w ∷ vs) [] v c found is = absurd found
@@ -126,7 +127,8 @@ module _ (old : Store) (reduced : IsReduced old.names old.nodes) (t : Store) (ke
 
   agree_each : (list : List Guard) → AllByRecursion (Has old) list → AllByRecursion (λ g. truth_in t g on ≡ truth_in t g also) list → agree old list on also ≡ true
   agree_each [] has all = refl
-  agree_each (g ∷ list) has all = λ i. (ap (λ b. beq (outcome old.nodes on g.place) b) (sym (truth_was also g has.0) ∙ (sym all.0 ∙ truth_was on g has.0)) ∙ beq-self (outcome old.nodes on g.place)) i && agree_each list has.1 all.1 i
+  agree_each (g ∷ list) has all = λ i. (ap (λ b. beq (outcome old.nodes on g.place) b) (sym (truth_was also g has.0) ∙ (sym all.0 ∙ truth_was on g has.0))
+      ∙ beq-self (outcome old.nodes on g.place)) i && agree_each list has.1 all.1 i
 
   alike_each : (list : List Guard) → AllByRecursion (Has old) list → agree old list on also ≡ true → AllByRecursion (λ g. truth_in t g on ≡ truth_in t g also) list
   alike_each [] has h = tt
@@ -144,7 +146,8 @@ pub all_pairs : {X : Type 0} (R : X → X → Type 0) (xs : List X) → Pairs R 
 all_pairs R [] pairs = λ i j d less within. absurd (omega (arith, within))
 all_pairs R (x ∷ xs) pairs = AllPairs-cons R x xs (All-from_recursion (R x) xs pairs.0) (all_pairs R xs pairs.1)
 
-pub more_classes : (old s : Store) → IsReduced old.names old.nodes → (list classes : List Guard) (rest number most : ℕ) → All (Has old) list → IsUnderWay old s list classes rest → IsLeastNumber s rest number → length classes ≡ most → HasMoreClasses old list most
+pub more_classes : (old s : Store) → IsReduced old.names old.nodes → (list classes : List Guard) (rest number most : ℕ) → All (Has old) list → IsUnderWay old s list classes rest
+    → IsLeastNumber s rest number → length classes ≡ most → HasMoreClasses old list most
 more_classes old s reduced list classes rest number most has way least full =
     let vs : List (List Bool) = way.valuations ++ least.valuation ∷ [] in
     let are : AreFirsts old.names (agree old list) vs = firsts list classes rest number way least in

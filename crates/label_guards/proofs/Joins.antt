@@ -47,7 +47,8 @@ joins_insert s entries now key place updates are is = λ q p h. by q p (key_eq k
         let operations : key.0 ≡ q.0 = operation_same key.0 q.0 one.0 in
         let lefts : key.1 ≡ q.1 = nat_same key.1 q.1 one.1 in
         let rights : key.2 ≡ q.2 = nat_same key.2 q.2 two.1 in
-        subst (λ (x : ℕ). IsJoin s q.0 q.1 q.2 x) same (subst (λ (x : ℕ). IsJoin s q.0 q.1 x place) rights (subst (λ (x : ℕ). IsJoin s q.0 x key.2 place) lefts (subst (λ (x : Operation). IsJoin s x key.1 key.2 place) operations is)))
+        subst (λ (x : ℕ). IsJoin s q.0 q.1 q.2 x) same
+        (subst (λ (x : ℕ). IsJoin s q.0 q.1 x place) rights (subst (λ (x : ℕ). IsJoin s q.0 x key.2 place) lefts (subst (λ (x : Operation). IsJoin s x key.1 key.2 place) operations is)))
       where
         nat_same : (a b : ℕ) → nat_eq a b ≡ true → a ≡ b
         nat_same a b h = grind arith
@@ -81,7 +82,8 @@ join_short s is operation g h place left right short = record {
     later (inr e) = let f = terminal place e in let m = level_most s is g left in omega arith
 
 -- what is at the sides, joined, lies behind the proposition
-pub side_later : {s t u : Store} → Grows s t → Grows t u → (operation : Operation) (prop a b place : ℕ) → HasPlace s a → HasPlace s b → prop < level s a → prop < level s b → IsJoin t operation a b place → prop < level u place
+pub side_later : {s t u : Store} → Grows s t → Grows t u → (operation : Operation) (prop a b place : ℕ) → HasPlace s a → HasPlace s b → prop < level s a → prop < level s b
+    → IsJoin t operation a b place → prop < level u place
 side_later {s} {t} {u} first second operation prop a b place has_a has_b later_a later_b is =
     let x = level_kept first a has_a in
     let y = level_kept first b has_b in
@@ -115,13 +117,17 @@ join_step {s} {t} {u} {v} first second third operation g h prop g_low g_high h_l
     by on true e =
         let a = g_sides.high_bound in
         let b = h_sides.high_bound in
-        let g_is : outcome u.nodes on g_high ≡ outcome v.nodes on g = outcome_kept one on g_high (omega arith) ∙ sym (outcome_kept all on g left ∙ (g_sides.truth on ∙ ap (λ c. if c then outcome s.nodes on g_high else outcome s.nodes on g_low) e)) in
-        let h_is : outcome u.nodes on h_high ≡ outcome v.nodes on h = outcome_kept one on h_high (omega arith) ∙ sym (outcome_kept all on h right ∙ (h_sides.truth on ∙ ap (λ c. if c then outcome s.nodes on h_high else outcome s.nodes on h_low) e)) in
+        let g_is : outcome u.nodes on g_high ≡ outcome v.nodes on g = outcome_kept one on g_high (omega arith)
+        ∙ sym (outcome_kept all on g left ∙ (g_sides.truth on ∙ ap (λ c. if c then outcome s.nodes on g_high else outcome s.nodes on g_low) e)) in
+        let h_is : outcome u.nodes on h_high ≡ outcome v.nodes on h = outcome_kept one on h_high (omega arith)
+        ∙ sym (outcome_kept all on h right ∙ (h_sides.truth on ∙ ap (λ c. if c then outcome s.nodes on h_high else outcome s.nodes on h_low) e)) in
         ap (λ c. if c then outcome v.nodes on high else outcome v.nodes on low) e ∙ (outcome_kept third on high high_is.has ∙ (high_is.truth on ∙ (λ i. joins operation (g_is i) (h_is i))))
     by on false e =
         let a = g_sides.low_bound in
         let b = h_sides.low_bound in
         let later = grows_on second third in
-        let g_is : outcome t.nodes on g_low ≡ outcome v.nodes on g = outcome_kept first on g_low (omega arith) ∙ sym (outcome_kept all on g left ∙ (g_sides.truth on ∙ ap (λ c. if c then outcome s.nodes on g_high else outcome s.nodes on g_low) e)) in
-        let h_is : outcome t.nodes on h_low ≡ outcome v.nodes on h = outcome_kept first on h_low (omega arith) ∙ sym (outcome_kept all on h right ∙ (h_sides.truth on ∙ ap (λ c. if c then outcome s.nodes on h_high else outcome s.nodes on h_low) e)) in
+        let g_is : outcome t.nodes on g_low ≡ outcome v.nodes on g = outcome_kept first on g_low (omega arith)
+        ∙ sym (outcome_kept all on g left ∙ (g_sides.truth on ∙ ap (λ c. if c then outcome s.nodes on g_high else outcome s.nodes on g_low) e)) in
+        let h_is : outcome t.nodes on h_low ≡ outcome v.nodes on h = outcome_kept first on h_low (omega arith)
+        ∙ sym (outcome_kept all on h right ∙ (h_sides.truth on ∙ ap (λ c. if c then outcome s.nodes on h_high else outcome s.nodes on h_low) e)) in
         ap (λ c. if c then outcome v.nodes on high else outcome v.nodes on low) e ∙ (outcome_kept later on low low_is.has ∙ (low_is.truth on ∙ (λ i. joins operation (g_is i) (h_is i))))

@@ -52,7 +52,8 @@ only_constants s is none g has = let size : length s.nodes ≡ 0 = ap length non
     this (suc zero) within = inr (always_is s is)
     this (suc (suc place)) within = absurd (omega arith)
 
-pub joined_guard : {old new : Store} → IsReduced old.names old.nodes → IsReduced new.names new.nodes → Grows old new → (operation : Operation) (g h : Guard) (place : ℕ) → Has old g → Has old h → IsJoin new operation g.place h.place place → IsGuardOf new (λ on. joins operation (truth_in old g on) (truth_in old h on)) (at place)
+pub joined_guard : {old new : Store} → IsReduced old.names old.nodes → IsReduced new.names new.nodes → Grows old new → (operation : Operation) (g h : Guard) (place : ℕ) → Has old g
+    → Has old h → IsJoin new operation g.place h.place place → IsGuardOf new (λ on. joins operation (truth_in old g on) (truth_in old h on)) (at place)
 joined_guard {old} {new} was is grows operation g h place left right joined = guard_of new is _ (at place) joined.has (λ on.
     joined.truth on ∙ (λ i. joins operation ((outcome_kept grows on g.place left ∙ sym (truth_is old was g left on)) i) ((outcome_kept grows on h.place right ∙ sym (truth_is old was h right on)) i)))
 
@@ -60,7 +61,8 @@ differs-true : (b : Bool) → differs b true ≡ not b
 differs-true true = refl
 differs-true false = refl
 
-pub negated_guard : {old new : Store} → IsReduced old.names old.nodes → IsReduced new.names new.nodes → Grows old new → (g : Guard) (place : ℕ) → Has old g → IsJoin new Xor g.place 1 place → IsGuardOf new (λ on. not (truth_in old g on)) (at place)
+pub negated_guard : {old new : Store} → IsReduced old.names old.nodes → IsReduced new.names new.nodes → Grows old new → (g : Guard) (place : ℕ) → Has old g → IsJoin new Xor g.place 1 place
+    → IsGuardOf new (λ on. not (truth_in old g on)) (at place)
 negated_guard {old} {new} was is grows g place has joined = guard_of new is _ (at place) joined.has (λ on.
     joined.truth on ∙ ((λ i. differs ((outcome_kept grows on g.place has ∙ sym (truth_is old was g has on)) i) (outcome-true new.nodes on i)) ∙ differs-true (truth_in old g on)))
 
@@ -75,7 +77,8 @@ by_number p q P to from = ((λ e. to (same_number e)), (λ p. number_same (from 
     number_same e = grind arith
 
 -- a letter for each valuation
-at_letter : (s : Store) → IsReduced s.names s.nodes → (names : List (List ℕ)) → AreNames s names → (p : ℕ) → HasPlace s p → (v : List Bool) → length v ≡ s.names → outcome s.nodes (holds_at names (letter_of names v)) p ≡ outcome s.nodes (holds_in v) p
+at_letter : (s : Store) → IsReduced s.names s.nodes → (names : List (List ℕ)) → AreNames s names → (p : ℕ) → HasPlace s p → (v : List Bool) → length v ≡ s.names
+    → outcome s.nodes (holds_at names (letter_of names v)) p ≡ outcome s.nodes (holds_in v) p
 at_letter s is names are p has v size =
     let count = are.0 in
     outcome_agrees s is p has (holds_at names (letter_of names v)) (holds_in v) (λ i x y. letter_of_holds names v i are.1 (size ∙ sym count))
@@ -88,17 +91,22 @@ pub same_valuations : (s : Store) → IsReduced s.names s.nodes → (g h : Guard
 same_valuations s is g h left right = by_number g.place h.place _ (λ e v size. ap (λ (p : ℕ). truth_on (label_at s p) v) e) (λ same. unique_on s is g.place h.place left right (λ v size.
     sym (truth_is s is g left (holds_in v)) ∙ (same v size ∙ truth_is s is h right (holds_in v))))
 
-pub same_letters : (s : Store) → IsReduced s.names s.nodes → (g h : Guard) → Has s g → Has s h → (names : List (List ℕ)) → AreNames s names → IsTrue (nat_eq g.place h.place) ↔ IsMetByTheSame s names g h
-same_letters s is g h left right names are = by_number g.place h.place _ (λ e letter. ap (λ (p : ℕ). truth_in s (at p) (holds_at names letter)) e) (λ same. unique_on s is g.place h.place left right (λ v size.
+pub same_letters : (s : Store) → IsReduced s.names s.nodes → (g h : Guard) → Has s g → Has s h → (names : List (List ℕ)) → AreNames s names
+    → IsTrue (nat_eq g.place h.place) ↔ IsMetByTheSame s names g h
+same_letters s is g h left right names are = by_number g.place h.place _ (λ e letter. ap (λ (p : ℕ). truth_in s (at p) (holds_at names letter)) e)
+    (λ same. unique_on s is g.place h.place left right (λ v size.
     let letter : NameSet = letter_of names v in
-    sym (at_letter s is names are g.place left v size) ∙ (sym (truth_is s is g left (holds_at names letter)) ∙ (same letter ∙ (truth_is s is h right (holds_at names letter) ∙ at_letter s is names are h.place right v size)))))
+    sym (at_letter s is names are g.place left v size)
+    ∙ (sym (truth_is s is g left (holds_at names letter)) ∙ (same letter ∙ (truth_is s is h right (holds_at names letter) ∙ at_letter s is names are h.place right v size)))))
 
 pub false_valuations : (s : Store) → IsReduced s.names s.nodes → (g : Guard) → Has s g → IsTrue (nat_eq g.place 0) ↔ IsNeverMet s g
-false_valuations s is g has = by_number g.place 0 _ (λ e v size. ap (λ (p : ℕ). truth_on (label_at s p) v) e ∙ (never_is s is).truth (holds_in v)) (λ none. unique_on s is g.place 0 has (omega arith) (λ v size.
+false_valuations s is g has = by_number g.place 0 _ (λ e v size. ap (λ (p : ℕ). truth_on (label_at s p) v) e ∙ (never_is s is).truth (holds_in v))
+    (λ none. unique_on s is g.place 0 has (omega arith) (λ v size.
     sym (truth_is s is g has (holds_in v)) ∙ (none v size ∙ sym (outcome-false s.nodes (holds_in v)))))
 
 pub false_letters : (s : Store) → IsReduced s.names s.nodes → (g : Guard) → Has s g → (names : List (List ℕ)) → AreNames s names → IsTrue (nat_eq g.place 0) ↔ IsMetByNone s names g
-false_letters s is g has names are = by_number g.place 0 _ (λ e letter. ap (λ (p : ℕ). truth_in s (at p) (holds_at names letter)) e ∙ (never_is s is).truth (holds_at names letter)) (λ none. unique_on s is g.place 0 has (omega arith) (λ v size.
+false_letters s is g has names are = by_number g.place 0 _ (λ e letter. ap (λ (p : ℕ). truth_in s (at p) (holds_at names letter)) e ∙ (never_is s is).truth (holds_at names letter))
+    (λ none. unique_on s is g.place 0 has (omega arith) (λ v size.
     let letter : NameSet = letter_of names v in
     sym (at_letter s is names are g.place has v size) ∙ (sym (truth_is s is g has (holds_at names letter)) ∙ (none letter ∙ sym (outcome-false s.nodes (holds_in v))))))
 
@@ -108,7 +116,8 @@ unfolding label_at
 canonical_at grows t place is = λ i. label_of (grows.names i) (λ v. is.truth (holds_in v) i)
 
 -- where the walk down a diagram ends
-pub walked : (s : Store) → IsReduced s.names s.nodes → (g : Guard) → Has s g → (on : ℕ → Bool) (place : ℕ) → place < 2 → outcome s.nodes on place ≡ outcome s.nodes on g.place → nat_eq place 1 ≡ truth_in s g on
+pub walked : (s : Store) → IsReduced s.names s.nodes → (g : Guard) → Has s g → (on : ℕ → Bool) (place : ℕ) → place < 2 → outcome s.nodes on place ≡ outcome s.nodes on g.place
+    → nat_eq place 1 ≡ truth_in s g on
 walked s is g has on zero end same = sym (truth_is s is g has on ∙ (sym same ∙ outcome-false s.nodes on))
 walked s is g has on (suc zero) end same = sym (truth_is s is g has on ∙ (sym same ∙ outcome-true s.nodes on))
 walked s is g has on (suc (suc place)) end same = absurd (omega arith)

@@ -1,5 +1,6 @@
 -- The least valuation of a node is that of one of its sides.
-use Rattle.std.proofs.Common.{◌≡◌, ◌⊎◌, ℕ, zero, suc, ◌+◌, ◌^◌, ◌<◌, ◌≤◌, min, ◌∙◌, Bool, true, false, if◌then◌else◌, List, [], ◌∷◌, length, Option, Some, None, IfSome, sym, refl, ap, subst, inl, inr, arith}
+use Rattle.std.proofs.Common.{◌≡◌, ◌⊎◌, ℕ, zero, suc, ◌+◌, ◌^◌, ◌<◌, ◌≤◌, min, ◌∙◌, Bool, true, false, if◌then◌else◌, List, [], ◌∷◌, length, Option}
+use Rattle.std.proofs.Common.{Some, None, IfSome, sym, refl, ap, subst, inl, inr, arith}
 use Rattle.std.proofs.Math.Nat.{pow-le-pow_right}
 use Rattle.aut_base.specs.declared.limit.TheConstants.{MOST_NAMES}
 use Rattle.aut_base.specs.Valuation.{holds_in, letter_of, number_of}
@@ -57,7 +58,8 @@ module _ (s : Store) (is : IsReduced s.names s.nodes) (p : ℕ) (n : Node) (at :
   has_high = let a = at.node.high in omega arith
 
   high_put : (v : List Bool) (b : Bool) → outcome s.nodes (holds_in (put v n.prop b)) n.high ≡ outcome s.nodes (holds_in v) n.high
-  high_put v b = let a = at.node.high_later in outcome_agrees s is n.high has_high (holds_in (put v n.prop b)) (holds_in v) (λ i x y. put-other v n.prop b i (λ e. let f : i ≡ n.prop = e in absurd (omega arith)))
+  high_put v b = let a = at.node.high_later in outcome_agrees s is n.high has_high (holds_in (put v n.prop b)) (holds_in v)
+      (λ i x y. put-other v n.prop b i (λ e. let f : i ≡ n.prop = e in absurd (omega arith)))
 
   within : (v : List Bool) → length v ≡ s.names → n.prop < length v
   within v size = let a = at.node.within in omega arith
@@ -161,7 +163,8 @@ least_small s is p (Some m) least =
 pub never_met : (s : Store) → IsReduced s.names s.nodes → (g : Guard) → Has s g → IsNeverMetAt s g.place → IsNeverMet s g
 never_met s is g has none v size = truth_is s is g has (holds_in v) ∙ none v size
 
-pub least_letter : (s : Store) → IsReduced s.names s.nodes → (g : Guard) → Has s g → (names : List (List ℕ)) → length names ≡ s.names → (number : ℕ) (letter : NameSet) → IsLeastNumber s g.place number → letter ≡ letter_of names (bits_of (length names) number) → IsLeastLetter s names g letter
+pub least_letter : (s : Store) → IsReduced s.names s.nodes → (g : Guard) → Has s g → (names : List (List ℕ)) → length names ≡ s.names → (number : ℕ) (letter : NameSet)
+    → IsLeastNumber s g.place number → letter ≡ letter_of names (bits_of (length names) number) → IsLeastLetter s names g letter
 least_letter s is g has names count number letter least e = record {
   valuation = least.valuation;
   least = record {

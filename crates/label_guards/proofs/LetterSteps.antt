@@ -14,11 +14,13 @@ dropped (x ∷ names) (suc i) name h e = let f : suc i + 1 ≡ suc (i + 1) = ome
 abbrev names_after : List (List ℕ) → ℕ → ℕ → List (List ℕ)
 names_after names i rest = names_on (drop (i + 1) names) (bits_of (length (drop (i + 1) names)) (rest / 2))
 
-pub midway_step : (names : List (List ℕ)) (number i rest : ℕ) (letter new : NameSet) (name : List ℕ) → IsMidway names number i rest letter → i < length names → name ≡ get_or names i name → new ≡ (if nat_eq (rest % 2) 1 then set.insert letter name else letter) → IsMidway names number (i + 1) (rest / 2) new
+pub midway_step : (names : List (List ℕ)) (number i rest : ℕ) (letter new : NameSet) (name : List ℕ) → IsMidway names number i rest letter → i < length names → name ≡ get_or names i name
+    → new ≡ (if nat_eq (rest % 2) 1 then set.insert letter name else letter) → IsMidway names number (i + 1) (rest / 2) new
 midway_step names number i rest letter new name mid within is e = by (nat_eq (rest % 2) 1) refl
   where
     split : (b : Bool) → nat_eq (rest % 2) 1 ≡ b → names_on names (bits_of (length names) number) ≡ mid.done ++ ((if b then name ∷ [] else []) ++ names_after names i rest)
-    split b f = mid.left ∙ (ap (λ l. mid.done ++ names_on l (bits_of (length l) rest)) (dropped names i name within is) ∙ ap (λ c. mid.done ++ ((if c then name ∷ [] else []) ++ names_after names i rest)) f)
+    split b f = mid.left ∙ (ap (λ l. mid.done ++ names_on l (bits_of (length l) rest)) (dropped names i name within is)
+        ∙ ap (λ c. mid.done ++ ((if c then name ∷ [] else []) ++ names_after names i rest)) f)
 
     by : (b : Bool) → nat_eq (rest % 2) 1 ≡ b → IsMidway names number (i + 1) (rest / 2) new
     by true f = record {

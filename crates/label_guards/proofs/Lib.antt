@@ -4,6 +4,7 @@ pub mod ClassGuards
 pub mod ClassLaws
 pub mod ClassLeastLaws
 pub mod ClassPlaces
+pub mod Dependence
 pub mod Firsts
 pub mod FoundClasses
 pub mod Fixed

@@ -28,13 +28,15 @@ outcome_grows ns more on p h =
     let size = length-outcomes on (false ∷ true ∷ []) ns in
     ap (λ l. get_or l p false) (outcomes-append on (false ∷ true ∷ []) ns more) ∙ outcomes-start on (outcomes on (false ∷ true ∷ []) ns) more p (omega arith)
 
-at_node : (on : ℕ → Bool) (before : List Bool) (ns : List Node) (i : ℕ) (n : Node) → slice_get ns i ≡ Some n → n.low < length before + i → n.high < length before + i → get_or (outcomes on before ns) (length before + i) false ≡ (if on n.prop then get_or (outcomes on before ns) n.high false else get_or (outcomes on before ns) n.low false)
+at_node : (on : ℕ → Bool) (before : List Bool) (ns : List Node) (i : ℕ) (n : Node) → slice_get ns i ≡ Some n → n.low < length before + i → n.high < length before + i
+    → get_or (outcomes on before ns) (length before + i) false ≡ (if on n.prop then get_or (outcomes on before ns) n.high false else get_or (outcomes on before ns) n.low false)
 at_node on before [] i n is low high = absurd (none-some n is)
 at_node on before (m ∷ ns) zero n is low high =
     let same : m ≡ n = same_Some m n is in
     let longer : length (before ++ branch on before m ∷ []) ≡ length before + 1 = length-append before (branch on before m ∷ []) in
     let e : length before + 0 ≡ length before = omega arith in
-    let here : get_or (outcomes on before (m ∷ ns)) (length before) false ≡ branch on before m = outcomes-start on (before ++ branch on before m ∷ []) ns (length before) (omega arith) ∙ get_or-append_seam before (branch on before m) [] false in
+    let here : get_or (outcomes on before (m ∷ ns)) (length before) false ≡ branch on before m = outcomes-start on (before ++ branch on before m ∷ []) ns (length before) (omega arith)
+    ∙ get_or-append_seam before (branch on before m) [] false in
     let side : (k : ℕ) → k < length before → get_or before k false ≡ get_or (outcomes on before (m ∷ ns)) k false = λ k h. sym (outcomes-start on before (m ∷ ns) k h) in
     ap (λ k. get_or (outcomes on before (m ∷ ns)) k false) e ∙ (here ∙ (ap (branch on before) same ∙ (λ j. if on n.prop then side n.high (omega arith) j else side n.low (omega arith) j)))
 at_node on before (m ∷ ns) (suc i) n is low high =
@@ -42,7 +44,8 @@ at_node on before (m ∷ ns) (suc i) n is low high =
     let e : length before + suc i ≡ length (before ++ branch on before m ∷ []) + i = omega arith in
     ap (λ k. get_or (outcomes on before (m ∷ ns)) k false) e ∙ at_node on (before ++ branch on before m ∷ []) ns i n is (omega arith) (omega arith)
 
-pub outcome_at : (ns : List Node) (on : ℕ → Bool) (i : ℕ) (n : Node) → slice_get ns i ≡ Some n → n.low < 2 + i → n.high < 2 + i → outcome ns on (2 + i) ≡ (if on n.prop then outcome ns on n.high else outcome ns on n.low)
+pub outcome_at : (ns : List Node) (on : ℕ → Bool) (i : ℕ) (n : Node) → slice_get ns i ≡ Some n → n.low < 2 + i → n.high < 2 + i
+    → outcome ns on (2 + i) ≡ (if on n.prop then outcome ns on n.high else outcome ns on n.low)
 outcome_at ns on i n is low high = at_node on (false ∷ true ∷ []) ns i n is low high
 
 pub outcome-false : (ns : List Node) (on : ℕ → Bool) → outcome ns on 0 ≡ false

@@ -71,21 +71,24 @@ pub some_none : (s : Store) (parts : List LabelTree) (n : ℕ) → n ≡ length 
 some_none s parts n e = record { has = omega arith; truth = λ on. outcome-false s.nodes on ∙ ap (λ ts. some_true on (trees ts)) (sym (drop_all n parts (omega arith))) }
 
 pub all_step : {s t : Store} (parts : List LabelTree) (i left : ℕ) (part : LabelTree) (place result : ℕ) → left ≡ i + 1 → slice_get parts i ≡ Some part
-    → IsPlaceOf s (λ on. all_true on (trees (drop left parts))) place → IsPlaceOf t (λ on. truth on part && outcome s.nodes on place) result → IsPlaceOf t (λ on. all_true on (trees (drop i parts))) result
+    → IsPlaceOf s (λ on. all_true on (trees (drop left parts))) place → IsPlaceOf t (λ on. truth on part && outcome s.nodes on place) result
+    → IsPlaceOf t (λ on. all_true on (trees (drop i parts))) result
 all_step parts i left part place result e at so_far is = record {
   has = is.has;
   truth = λ on. is.truth on ∙ (ap (λ b. truth on part && b) (so_far.truth on) ∙ sym (ap (λ ts. all_true on (trees ts)) (next_left parts i left part e at)));
 }
 
 pub some_step : {s t : Store} (parts : List LabelTree) (i left : ℕ) (part : LabelTree) (place result : ℕ) → left ≡ i + 1 → slice_get parts i ≡ Some part
-    → IsPlaceOf s (λ on. some_true on (trees (drop left parts))) place → IsPlaceOf t (λ on. truth on part || outcome s.nodes on place) result → IsPlaceOf t (λ on. some_true on (trees (drop i parts))) result
+    → IsPlaceOf s (λ on. some_true on (trees (drop left parts))) place → IsPlaceOf t (λ on. truth on part || outcome s.nodes on place) result
+    → IsPlaceOf t (λ on. some_true on (trees (drop i parts))) result
 some_step parts i left part place result e at so_far is = record {
   has = is.has;
   truth = λ on. is.truth on ∙ (ap (λ b. truth on part || b) (so_far.truth on) ∙ sym (ap (λ ts. some_true on (trees ts)) (next_left parts i left part e at)));
 }
 
 -- the place of a part and what is left, by the table's operations
-pub joined_place : {s t u : Store} → Grows s t → Grows t u → (operation : Operation) (says : (ℕ → Bool) → Bool) (other place result : ℕ) → HasPlace s place → IsPlaceOf t says other → IsJoin u operation other place result → IsPlaceOf u (λ on. joins operation (says on) (outcome s.nodes on place)) result
+pub joined_place : {s t u : Store} → Grows s t → Grows t u → (operation : Operation) (says : (ℕ → Bool) → Bool) (other place result : ℕ) → HasPlace s place → IsPlaceOf t says other
+    → IsJoin u operation other place result → IsPlaceOf u (λ on. joins operation (says on) (outcome s.nodes on place)) result
 joined_place first second operation says other place result has is joined = record {
   has = joined.has;
   truth = λ on. joined.truth on ∙ (λ j. joins operation ((outcome_kept second on other is.has ∙ is.truth on) j) (outcome_kept (grows_on first second) on place has j));
@@ -95,16 +98,19 @@ joined_place first second operation says other place result has is joined = reco
 abbrev pub IsBranch : Store → Store → LabelTree → ℕ → ℕ → ℕ → Type 0
 IsBranch s t tree fails holds place = IsPlaceOf t (λ on. if truth on tree then outcome s.nodes on holds else outcome s.nodes on fails) place
 
-pub branch_true : {s t : Store} → Grows s t → (l : Literal) (fails holds place : ℕ) → HasPlace s fails → HasPlace s holds → l.holds ≡ true → IsChoice t l.prop fails holds place → IsBranch s t (literal_tree (literal_of l)) fails holds place
+pub branch_true : {s t : Store} → Grows s t → (l : Literal) (fails holds place : ℕ) → HasPlace s fails → HasPlace s holds → l.holds ≡ true → IsChoice t l.prop fails holds place
+    → IsBranch s t (literal_tree (literal_of l)) fails holds place
 branch_true {s} grows l fails holds place has_fails has_holds e choice = record {
   has = choice.has;
   truth = λ on. choice.truth on ∙ (λ j. if truth on (if sym e j then Prop l.prop else Not (Prop l.prop)) then outcome_kept grows on holds has_holds j else outcome_kept grows on fails has_fails j);
 }
 
-pub branch_false : {s t : Store} → Grows s t → (l : Literal) (fails holds place : ℕ) → HasPlace s fails → HasPlace s holds → l.holds ≡ false → IsChoice t l.prop holds fails place → IsBranch s t (literal_tree (literal_of l)) fails holds place
+pub branch_false : {s t : Store} → Grows s t → (l : Literal) (fails holds place : ℕ) → HasPlace s fails → HasPlace s holds → l.holds ≡ false → IsChoice t l.prop holds fails place
+    → IsBranch s t (literal_tree (literal_of l)) fails holds place
 branch_false {s} grows l fails holds place has_fails has_holds e choice = record {
   has = choice.has;
-  truth = λ on. choice.truth on ∙ (turned (on l.prop) _ _ ∙ (λ j. if truth on (if sym e j then Prop l.prop else Not (Prop l.prop)) then outcome_kept grows on holds has_holds j else outcome_kept grows on fails has_fails j));
+  truth = λ on. choice.truth on ∙ (turned (on l.prop) _ _
+      ∙ (λ j. if truth on (if sym e j then Prop l.prop else Not (Prop l.prop)) then outcome_kept grows on holds has_holds j else outcome_kept grows on fails has_fails j));
 }
   where
     turned : (b x y : Bool) → (if b then y else x) ≡ (if not b then x else y)
@@ -112,7 +118,8 @@ branch_false {s} grows l fails holds place has_fails has_holds e choice = record
     turned false x y = refl
 
 -- a literal, and a place
-pub met_branch : (s t : Store) (label literal : LabelTree) (place result : ℕ) → label ≡ literal → IsBranch s t literal 0 place result → IsPlaceOf t (λ on. truth on label && outcome s.nodes on place) result
+pub met_branch : (s t : Store) (label literal : LabelTree) (place result : ℕ) → label ≡ literal → IsBranch s t literal 0 place result
+    → IsPlaceOf t (λ on. truth on label && outcome s.nodes on place) result
 met_branch s t label literal place result e is = record {
   has = is.has;
   truth = λ on. is.truth on ∙ (both (truth on literal) _ _ (outcome-false s.nodes on) ∙ ap (λ u. truth on u && outcome s.nodes on place) (sym e));
@@ -123,7 +130,8 @@ met_branch s t label literal place result e is = record {
     both false x y h = h
 
 -- a literal, or a place
-pub joined_branch : (s t : Store) (label literal : LabelTree) (place result : ℕ) → label ≡ literal → IsBranch s t literal place 1 result → IsPlaceOf t (λ on. truth on label || outcome s.nodes on place) result
+pub joined_branch : (s t : Store) (label literal : LabelTree) (place result : ℕ) → label ≡ literal → IsBranch s t literal place 1 result
+    → IsPlaceOf t (λ on. truth on label || outcome s.nodes on place) result
 joined_branch s t label literal place result e is = record {
   has = is.has;
   truth = λ on. is.truth on ∙ (some (truth on literal) _ _ (outcome-true s.nodes on) ∙ ap (λ u. truth on u || outcome s.nodes on place) (sym e));

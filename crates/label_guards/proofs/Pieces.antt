@@ -7,8 +7,14 @@ use Rattle.std.specs.List.{flat_map}
 use Rattle.std.specs.Prelude.{codes}
 use Rattle.aut_base.specs.CanonicalLabel as canonical
 use Rattle.aut_base.specs.LabelText.{joined, literal_text}
-use Rattle.label_guards.specs.Pieces.{each_after, pieces_after, cube_piece, literal_of, is_any, WritesCubes}
+use Rattle.label_guards.specs.Pieces.{Gains, each_after, pieces_after, cube_piece, literal_of, is_any, WritesCubes}
 use Rattle.label_guards.specs.declared.cubes.Literal.{Literal}
+
+pub gains_none : (text : List ℕ) → Gains text text
+gains_none text = ([], sym (append-nil text))
+
+pub gains_on : (one : List ℕ) {two three : List ℕ} → Gains one two → Gains two three → Gains one three
+gains_on one first second = (first.0 ++ second.0, second.1 ∙ (ap (λ t. t ++ second.0) first.1 ∙ append_assoc one first.0 second.0))
 
 -- after the first piece, each stands after the separator
 pub joined_each : (separator piece : List ℕ) (pieces : List (List ℕ)) → joined separator (piece ∷ pieces) ≡ piece ++ each_after separator pieces
@@ -28,12 +34,14 @@ map-map f g [] = refl
 map-map f g (x ∷ xs) = ap (λ ys. f (g x) ∷ ys) (map-map f g xs)
 
 -- a cube with a literal, as it is written
-pub cube_piece_more : (cube : List Literal) (d : Literal) → 0 < length cube → cube_piece (map literal_of cube) ≡ literal_text (literal_of (get_or cube 0 d)) ++ flat_map (λ l. codes "&" ++ literal_text (literal_of l)) (drop 1 cube)
+pub cube_piece_more : (cube : List Literal) (d : Literal) → 0 < length cube
+    → cube_piece (map literal_of cube) ≡ literal_text (literal_of (get_or cube 0 d)) ++ flat_map (λ l. codes "&" ++ literal_text (literal_of l)) (drop 1 cube)
 cube_piece_more [] d h = absurd (omega arith)
 cube_piece_more (l ∷ ls) d h = ap (joined (codes "&")) (map-map literal_text literal_of (l ∷ ls)) ∙ joined_more (codes "&") (λ x. literal_text (literal_of x)) l ls
 
 -- pieces, and then others
-pub pieces_split : (before : Bool) (separator : List ℕ) (xs ys : List (List ℕ)) → pieces_after before separator (xs ++ ys) ≡ pieces_after before separator xs ++ pieces_after (before || is_any xs) separator ys
+pub pieces_split : (before : Bool) (separator : List ℕ) (xs ys : List (List ℕ))
+    → pieces_after before separator (xs ++ ys) ≡ pieces_after before separator xs ++ pieces_after (before || is_any xs) separator ys
 pieces_split true separator xs ys = flat_map-append (λ piece. separator ++ piece) xs ys
 pieces_split false separator [] ys = refl
 pieces_split false separator (x ∷ xs) ys =
@@ -54,7 +62,8 @@ all_others xs i h =
     ap (take i) (take_rest xs 1) ∙ take_all i (drop 1 xs) (let size = length-drop 1 xs in omega arith)
 
 -- a cube after its first literal and the others
-pub cube_written : (cube : List Literal) (d : Literal) (i : ℕ) (out one two : List ℕ) → 0 < length cube → length cube - 1 ≤ i → one ≡ out ++ literal_text (literal_of (get_or cube 0 d)) → two ≡ one ++ flat_map (λ l. codes "&" ++ literal_text (literal_of l)) (take i (take (length cube - 1) (drop 1 cube))) → two ≡ out ++ cube_piece (map literal_of cube)
+pub cube_written : (cube : List Literal) (d : Literal) (i : ℕ) (out one two : List ℕ) → 0 < length cube → length cube - 1 ≤ i → one ≡ out ++ literal_text (literal_of (get_or cube 0 d))
+    → two ≡ one ++ flat_map (λ l. codes "&" ++ literal_text (literal_of l)) (take i (take (length cube - 1) (drop 1 cube))) → two ≡ out ++ cube_piece (map literal_of cube)
 cube_written cube d i out one two some h first rest =
     let others = flat_map (λ (l : Literal). codes "&" ++ literal_text (literal_of l)) in
     rest ∙ (ap (λ ls. one ++ others ls) (all_others cube i h) ∙ (ap (λ t. t ++ others (drop 1 cube)) first
@@ -71,7 +80,8 @@ map_same f g same [] = refl
 map_same f g same (x ∷ xs) = (ap (λ y. y ∷ map f xs) (same x)) ∙ ap (λ ys. g x ∷ ys) (map_same f g same xs)
 
 -- an item in front of each list is an item behind what stands in front
-map-front : {A B : Type 0} (f : List A → B) (front : List A) (a : A) (lists : List (List A)) → map (λ rest. f (front ++ rest)) (map (λ v. a ∷ v) lists) ≡ map (λ rest. f ((front ++ a ∷ []) ++ rest)) lists
+map-front : {A B : Type 0} (f : List A → B) (front : List A) (a : A) (lists : List (List A))
+    → map (λ rest. f (front ++ rest)) (map (λ v. a ∷ v) lists) ≡ map (λ rest. f ((front ++ a ∷ []) ++ rest)) lists
 map-front f front a lists =
     map-map (λ rest. f (front ++ rest)) (λ v. a ∷ v) lists
     ∙ map_same (λ v. f (front ++ a ∷ v)) (λ v. f ((front ++ a ∷ []) ++ v)) (λ v. ap f (sym (append_assoc front (a ∷ []) v))) lists
@@ -83,24 +93,31 @@ or_assoc false b c = refl
 abbrev under : List canonical.Literal → List (List canonical.Literal) → List (List ℕ)
 under literals cs = map (λ cube. cube_piece (literals ++ cube)) cs
 
-both_texts : (literals : List canonical.Literal) (fails holds : canonical.Literal) (low high all : List (List canonical.Literal)) (before mid : Bool) (old between new : List ℕ) → all ≡ map (λ cube. fails ∷ cube) low ++ map (λ cube. holds ∷ cube) high → between ≡ old ++ pieces_after before (codes " | ") (under (literals ++ fails ∷ []) low) → mid ≡ (before || is_any low) → new ≡ between ++ pieces_after mid (codes " | ") (under (literals ++ holds ∷ []) high) → new ≡ old ++ pieces_after before (codes " | ") (under literals all)
+both_texts : (literals : List canonical.Literal) (fails holds : canonical.Literal) (low high all : List (List canonical.Literal)) (before mid : Bool) (old between new : List ℕ)
+    → all ≡ map (λ cube. fails ∷ cube) low ++ map (λ cube. holds ∷ cube) high → between ≡ old ++ pieces_after before (codes " | ") (under (literals ++ fails ∷ []) low)
+    → mid ≡ (before || is_any low) → new ≡ between ++ pieces_after mid (codes " | ") (under (literals ++ holds ∷ []) high) → new ≡ old ++ pieces_after before (codes " | ") (under literals all)
 both_texts literals fails holds low high all before mid old between new e first m second =
     let lows = under (literals ++ fails ∷ []) low in
     let highs = under (literals ++ holds ∷ []) high in
     let apart : under literals all ≡ lows ++ highs = ap (under literals) e ∙ (map-append (λ cube. cube_piece (literals ++ cube)) (map (λ cube. fails ∷ cube) low) (map (λ cube. holds ∷ cube) high)
     ∙ (ap (λ xs. xs ++ under literals (map (λ cube. holds ∷ cube) high)) (map-front cube_piece literals fails low) ∙ ap (λ xs. lows ++ xs) (map-front cube_piece literals holds high))) in
     let any : (before || is_any lows) ≡ mid = ap (λ b. before || b) (is_any-map (λ cube. cube_piece ((literals ++ fails ∷ []) ++ cube)) low) ∙ sym m in
-    let pieces : pieces_after before (codes " | ") (under literals all) ≡ pieces_after before (codes " | ") lows ++ pieces_after mid (codes " | ") highs = ap (pieces_after before (codes " | ")) apart ∙ (pieces_split before (codes " | ") lows highs ∙ ap (λ b. pieces_after before (codes " | ") lows ++ pieces_after b (codes " | ") highs) any) in
-    second ∙ (ap (λ t. t ++ pieces_after mid (codes " | ") highs) first ∙ (append_assoc old (pieces_after before (codes " | ") lows) (pieces_after mid (codes " | ") highs) ∙ ap (λ t. old ++ t) (sym pieces)))
+    let pieces : pieces_after before (codes " | ") (under literals all) ≡ pieces_after before (codes " | ") lows ++ pieces_after mid (codes " | ") highs =
+    ap (pieces_after before (codes " | ")) apart ∙ (pieces_split before (codes " | ") lows highs ∙ ap (λ b. pieces_after before (codes " | ") lows ++ pieces_after b (codes " | ") highs) any) in
+    second ∙ (ap (λ t. t ++ pieces_after mid (codes " | ") highs) first
+    ∙ (append_assoc old (pieces_after before (codes " | ") lows) (pieces_after mid (codes " | ") highs) ∙ ap (λ t. old ++ t) (sym pieces)))
 
-both_some : (fails holds : canonical.Literal) (low high all : List (List canonical.Literal)) (before mid now : Bool) → all ≡ map (λ cube. fails ∷ cube) low ++ map (λ cube. holds ∷ cube) high → mid ≡ (before || is_any low) → now ≡ (mid || is_any high) → now ≡ (before || is_any all)
+both_some : (fails holds : canonical.Literal) (low high all : List (List canonical.Literal)) (before mid now : Bool) → all ≡ map (λ cube. fails ∷ cube) low ++ map (λ cube. holds ∷ cube) high
+    → mid ≡ (before || is_any low) → now ≡ (mid || is_any high) → now ≡ (before || is_any all)
 both_some fails holds low high all before mid now e m n =
     let any : is_any all ≡ (is_any low || is_any high) = ap is_any e ∙ (is_any-append (map (λ cube. fails ∷ cube) low) (map (λ cube. holds ∷ cube) high)
     ∙ (ap (λ b. b || is_any (map (λ cube. holds ∷ cube) high)) (is_any-map (λ cube. fails ∷ cube) low) ∙ ap (λ b. is_any low || b) (is_any-map (λ cube. holds ∷ cube) high))) in
     n ∙ (ap (λ b. b || is_any high) m ∙ (or_assoc before (is_any low) (is_any high) ∙ ap (λ b. before || b) (sym any)))
 
 -- the cubes where a proposition fails come before those where it holds
-pub both_sides : (literals : List canonical.Literal) (fails holds : canonical.Literal) (low high all : List (List canonical.Literal)) (before mid now : Bool) (old between new : List ℕ) → all ≡ map (λ cube. fails ∷ cube) low ++ map (λ cube. holds ∷ cube) high → WritesCubes (literals ++ fails ∷ []) low before mid old between → WritesCubes (literals ++ holds ∷ []) high mid now between new → WritesCubes literals all before now old new
+pub both_sides : (literals : List canonical.Literal) (fails holds : canonical.Literal) (low high all : List (List canonical.Literal)) (before mid now : Bool) (old between new : List ℕ)
+    → all ≡ map (λ cube. fails ∷ cube) low ++ map (λ cube. holds ∷ cube) high → WritesCubes (literals ++ fails ∷ []) low before mid old between
+    → WritesCubes (literals ++ holds ∷ []) high mid now between new → WritesCubes literals all before now old new
 both_sides literals fails holds low high all before mid now old between new e first second = record {
   text = both_texts literals fails holds low high all before mid old between new e first.text first.some second.text;
   some = both_some fails holds low high all before mid now e first.some second.some;

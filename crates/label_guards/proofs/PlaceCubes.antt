@@ -65,9 +65,14 @@ module _ (s : Store) (is : IsReduced s.names s.nodes) where
       ap (λ k. cubes s.names k (λ v. outcome s.nodes (shifted s.names v) 1)) none ∙ ap (λ b. cond b ([] ∷ []) []) (outcome-true s.nodes (shifted s.names []))
 
   -- a side of a node, under the value that leads to it
-  side : (p : ℕ) (n : Node) → StandsAt s p n → HasPlace s p → (b : Bool) (v : List Bool) → outcome s.nodes (shifted n.prop (b ∷ v)) p ≡ outcome s.nodes (shifted (n.prop + 1) v) (if b then n.high else n.low)
-  side p n at has true v = let a = at.node.high in at.truth (shifted n.prop (true ∷ v)) ∙ (ap (λ c. if c then outcome s.nodes (shifted n.prop (true ∷ v)) n.high else outcome s.nodes (shifted n.prop (true ∷ v)) n.low) (shifted-here n.prop true v) ∙ behind n.prop n.high (omega arith) at.node.high_later true v)
-  side p n at has false v = let a = at.node.low in at.truth (shifted n.prop (false ∷ v)) ∙ (ap (λ c. if c then outcome s.nodes (shifted n.prop (false ∷ v)) n.high else outcome s.nodes (shifted n.prop (false ∷ v)) n.low) (shifted-here n.prop false v) ∙ behind n.prop n.low (omega arith) at.node.low_later false v)
+  side : (p : ℕ) (n : Node) → StandsAt s p n → HasPlace s p → (b : Bool) (v : List Bool)
+      → outcome s.nodes (shifted n.prop (b ∷ v)) p ≡ outcome s.nodes (shifted (n.prop + 1) v) (if b then n.high else n.low)
+  side p n at has true v = let a = at.node.high in at.truth (shifted n.prop (true ∷ v))
+      ∙ (ap (λ c. if c then outcome s.nodes (shifted n.prop (true ∷ v)) n.high else outcome s.nodes (shifted n.prop (true ∷ v)) n.low) (shifted-here n.prop true v)
+      ∙ behind n.prop n.high (omega arith) at.node.high_later true v)
+  side p n at has false v = let a = at.node.low in at.truth (shifted n.prop (false ∷ v))
+      ∙ (ap (λ c. if c then outcome s.nodes (shifted n.prop (false ∷ v)) n.high else outcome s.nodes (shifted n.prop (false ∷ v)) n.low) (shifted-here n.prop false v)
+      ∙ behind n.prop n.low (omega arith) at.node.low_later false v)
 
   -- what is left of a valuation
   rest : (k p : ℕ) → HasPlace s p → k < level s p → (w : List Bool) → outcome s.nodes (holds_in w) p ≡ outcome s.nodes (shifted (k + 1) (drop (k + 1) w)) p
@@ -87,7 +92,8 @@ module _ (s : Store) (is : IsReduced s.names s.nodes) where
       rest n.prop n.low (omega arith) at.node.low_later w ∙ (sym (side p n at has false v) ∙ (independent_agrees m (λ v. outcome s.nodes (shifted n.prop v) p) h v long
       ∙ (side p n at has true v ∙ sym (rest n.prop n.high (omega arith) at.node.high_later w)))))))
 
-  pub cubes_node : (p : ℕ) (n : Node) → StandsAt s p n → HasPlace s p → place_cubes s p ≡ map (λ cube. record { prop = n.prop; holds = false } ∷ cube) (place_cubes s n.low) ++ map (λ cube. record { prop = n.prop; holds = true } ∷ cube) (place_cubes s n.high)
+  pub cubes_node : (p : ℕ) (n : Node) → StandsAt s p n → HasPlace s p
+      → place_cubes s p ≡ map (λ cube. record { prop = n.prop; holds = false } ∷ cube) (place_cubes s n.low) ++ map (λ cube. record { prop = n.prop; holds = true } ∷ cube) (place_cubes s n.high)
   unfolding place_cubes
   cubes_node p n at has =
       let a = at.node.low in
@@ -98,8 +104,10 @@ module _ (s : Store) (is : IsReduced s.names s.nodes) where
       let m : ℕ = s.names - (n.prop + 1) in
       let g : List Bool → Bool = λ v. outcome s.nodes (shifted n.prop v) p in
       let one : s.names - n.prop ≡ suc m = omega arith in
-      let low : cubes (n.prop + 1) m (λ v. g (false ∷ v)) ≡ place_cubes s n.low = (λ j. cubes (n.prop + 1) m (λ v. side p n at has false v j)) ∙ from_before (n.prop + 1) n.low (omega arith) (omega arith) in
-      let high : cubes (n.prop + 1) m (λ v. g (true ∷ v)) ≡ place_cubes s n.high = (λ j. cubes (n.prop + 1) m (λ v. side p n at has true v j)) ∙ from_before (n.prop + 1) n.high (omega arith) (omega arith) in
+      let low : cubes (n.prop + 1) m (λ v. g (false ∷ v)) ≡ place_cubes s n.low = (λ j. cubes (n.prop + 1) m (λ v. side p n at has false v j))
+      ∙ from_before (n.prop + 1) n.low (omega arith) (omega arith) in
+      let high : cubes (n.prop + 1) m (λ v. g (true ∷ v)) ≡ place_cubes s n.high = (λ j. cubes (n.prop + 1) m (λ v. side p n at has true v j))
+      ∙ from_before (n.prop + 1) n.high (omega arith) (omega arith) in
       ap (λ k. cubes_from s k p) at.level
       ∙ (ap (λ k. cubes n.prop k g) one
       ∙ (ap (λ b. split n.prop b (cubes (n.prop + 1) m (λ v. g (false ∷ v))) (cubes (n.prop + 1) m (λ v. g (true ∷ v)))) (depends p n at has m refl (is_independent m g) refl)
@@ -109,7 +117,8 @@ module _ (s : Store) (is : IsReduced s.names s.nodes) where
   pub cubes_of_guard : (g : Guard) → Has s g → cubes 0 s.names (truth_on (label_in s g)) ≡ place_cubes s g.place
   cubes_of_guard g has =
       let none : s.names ≡ s.names - 0 = omega arith in
-      let same : (v : List Bool) → truth_on (label_in s g) v ≡ outcome s.nodes (shifted 0 v) g.place = λ v. truth_is s is g has (holds_in v) ∙ outcome_agrees s is g.place has (holds_in v) (shifted 0 v) (λ j x y. let e : j ≡ j - 0 = omega arith in ap (holds_in v) e) in
+      let same : (v : List Bool) → truth_on (label_in s g) v ≡ outcome s.nodes (shifted 0 v) g.place = λ v. truth_is s is g has (holds_in v)
+      ∙ outcome_agrees s is g.place has (holds_in v) (shifted 0 v) (λ j x y. let e : j ≡ j - 0 = omega arith in ap (holds_in v) e) in
       (λ j. cubes 0 (none j) (λ v. same v j)) ∙ from_before 0 g.place has (omega arith)
 
 -- each cube has a literal
@@ -138,7 +147,8 @@ tidy_cubes i (suc n) g =
     let high = cubes (i + 1) n (λ v. g (true ∷ v)) in
     elim (is_independent n g) as (λ b. IsTidy (split i b low high)) [
       | true ↦ tidy_cubes (i + 1) n (λ v. g (false ∷ v))
-      | false ↦ inr (long-append (map (λ cube. record { prop = i; holds = false } ∷ cube) low) (map (λ cube. record { prop = i; holds = true } ∷ cube) high) (long_under (record { prop = i; holds = false }) low) (long_under (record { prop = i; holds = true }) high))
+      | false ↦ inr (long-append (map (λ cube. record { prop = i; holds = false } ∷ cube) low) (map (λ cube. record { prop = i; holds = true } ∷ cube) high)
+          (long_under (record { prop = i; holds = false }) low) (long_under (record { prop = i; holds = true }) high))
     ]
 
 long_pieces : (cs : List (List Literal)) → AllLong cs → map cube_piece cs ≡ map cube_text cs
@@ -162,25 +172,32 @@ pub label_of_cubes : (s : Store) (is : IsReduced s.names s.nodes) (g : Guard) �
 label_of_cubes s is g has cs e = ap cubes_text (cubes_of_guard s is g has ∙ e)
 
 -- what is written of a label that has a cube
-pub label_written : (s : Store) (is : IsReduced s.names s.nodes) (g : Guard) → Has s g → (literals : List Literal) (now : Bool) (old new : List ℕ) → literals ≡ [] → WritesCubes literals (place_cubes s g.place) false now old new → now ≡ true → new ≡ old ++ label_text s.names (label_in s g)
+pub label_written : (s : Store) (is : IsReduced s.names s.nodes) (g : Guard) → Has s g → (literals : List Literal) (now : Bool) (old new : List ℕ) → literals ≡ []
+    → WritesCubes literals (place_cubes s g.place) false now old new → now ≡ true → new ≡ old ++ label_text s.names (label_in s g)
 label_written s is g has literals now old new none w h =
     let all = cubes_of_guard s is g has in
     let cs = cubes 0 s.names (truth_on (label_in s g)) in
     let some : true ≡ is_any cs = sym h ∙ (w.some ∙ ap is_any (sym all)) in
-    w.text ∙ (λ j. old ++ pieces_after false (codes " | ") (map (λ cube. cube_piece (none j ++ cube)) (sym all j))) ∙ ap (λ t. old ++ t) (tidy_text cs (tidy_cubes 0 s.names (truth_on (label_in s g))) some)
+    w.text ∙ (λ j. old ++ pieces_after false (codes " | ") (map (λ cube. cube_piece (none j ++ cube)) (sym all j)))
+    ∙ ap (λ t. old ++ t) (tidy_text cs (tidy_cubes 0 s.names (truth_on (label_in s g))) some)
 
 -- and of one that has none
-pub no_label_written : (s : Store) (is : IsReduced s.names s.nodes) (g : Guard) → Has s g → (literals : List Literal) (now : Bool) (old new last : List ℕ) → WritesCubes literals (place_cubes s g.place) false now old new → now ≡ false → last ≡ new ++ codes "f" → last ≡ old ++ label_text s.names (label_in s g)
+pub no_label_written : (s : Store) (is : IsReduced s.names s.nodes) (g : Guard) → Has s g → (literals : List Literal) (now : Bool) (old new last : List ℕ)
+    → WritesCubes literals (place_cubes s g.place) false now old new → now ≡ false → last ≡ new ++ codes "f" → last ≡ old ++ label_text s.names (label_in s g)
 no_label_written s is g has literals now old new last w h f =
     let none : place_cubes s g.place ≡ [] = no_cube (place_cubes s g.place) (sym h ∙ w.some) in
     let same : new ≡ old = w.text ∙ (ap (λ ds. old ++ pieces_after false (codes " | ") (map (λ cube. cube_piece (literals ++ cube)) ds)) none ∙ append-nil old) in
     f ∙ (λ j. same j ++ sym (label_of_cubes s is g has [] none) j)
 
 -- the cubes of a place that is one literal
-pub literal_holds : (s : Store) (is : IsReduced s.names s.nodes) (p : ℕ) (n : Node) → StandsAt s p n → HasPlace s p → n.low ≡ 0 → n.high ≡ 1 → place_cubes s p ≡ (record { prop = n.prop; holds = true } ∷ []) ∷ []
+pub literal_holds : (s : Store) (is : IsReduced s.names s.nodes) (p : ℕ) (n : Node) → StandsAt s p n → HasPlace s p → n.low ≡ 0 → n.high ≡ 1
+    → place_cubes s p ≡ (record { prop = n.prop; holds = true } ∷ []) ∷ []
 literal_holds s is p n at has low high =
-    cubes_node s is p n at has ∙ (λ j. map (λ cube. record { prop = n.prop; holds = false } ∷ cube) ((ap (place_cubes s) low ∙ cubes_false s is) j) ++ map (λ cube. record { prop = n.prop; holds = true } ∷ cube) ((ap (place_cubes s) high ∙ cubes_true s is) j))
+    cubes_node s is p n at has ∙ (λ j. map (λ cube. record { prop = n.prop; holds = false } ∷ cube) ((ap (place_cubes s) low ∙ cubes_false s is) j) ++ map
+    (λ cube. record { prop = n.prop; holds = true } ∷ cube) ((ap (place_cubes s) high ∙ cubes_true s is) j))
 
-pub literal_fails : (s : Store) (is : IsReduced s.names s.nodes) (p : ℕ) (n : Node) → StandsAt s p n → HasPlace s p → n.low ≡ 1 → n.high ≡ 0 → place_cubes s p ≡ (record { prop = n.prop; holds = false } ∷ []) ∷ []
+pub literal_fails : (s : Store) (is : IsReduced s.names s.nodes) (p : ℕ) (n : Node) → StandsAt s p n → HasPlace s p → n.low ≡ 1 → n.high ≡ 0
+    → place_cubes s p ≡ (record { prop = n.prop; holds = false } ∷ []) ∷ []
 literal_fails s is p n at has low high =
-    cubes_node s is p n at has ∙ (λ j. map (λ cube. record { prop = n.prop; holds = false } ∷ cube) ((ap (place_cubes s) low ∙ cubes_true s is) j) ++ map (λ cube. record { prop = n.prop; holds = true } ∷ cube) ((ap (place_cubes s) high ∙ cubes_false s is) j))
+    cubes_node s is p n at has ∙ (λ j. map (λ cube. record { prop = n.prop; holds = false } ∷ cube) ((ap (place_cubes s) low ∙ cubes_true s is) j) ++ map
+    (λ cube. record { prop = n.prop; holds = true } ∷ cube) ((ap (place_cubes s) high ∙ cubes_false s is) j))

@@ -106,7 +106,8 @@ level_most s is (suc (suc i)) h =
     let b = got.1.node.within in
     omega arith
 
-new_node : (s : Store) → IsReduced s.names s.nodes → (prop low high : ℕ) → HasPlace s low → HasPlace s high → prop < level s low → prop < level s high → low ≢ high → IsNode s.names s.nodes (2 + length s.nodes) (record { prop = prop; low = low; high = high })
+new_node : (s : Store) → IsReduced s.names s.nodes → (prop low high : ℕ) → HasPlace s low → HasPlace s high → prop < level s low → prop < level s high → low ≢ high
+    → IsNode s.names s.nodes (2 + length s.nodes) (record { prop = prop; low = low; high = high })
 new_node s is prop low high has_low has_high low_later high_later differ =
     let most = level_most s is low has_low in
     record {
@@ -119,14 +120,17 @@ new_node s is prop low high has_low has_high low_later high_later differ =
     }
 
 -- a store with a node more
-pub make_reduced : (s old : Store) → s ≡ old → IsReduced s.names s.nodes → (prop low high : ℕ) → HasPlace old low → HasPlace old high → prop < level old low → prop < level old high → low ≢ high → (new : List Node) → Adds s.nodes new (record { prop = prop; low = low; high = high }) → IsReduced s.names new
+pub make_reduced : (s old : Store) → s ≡ old → IsReduced s.names s.nodes → (prop low high : ℕ) → HasPlace old low → HasPlace old high → prop < level old low → prop < level old high
+    → low ≢ high → (new : List Node) → Adds s.nodes new (record { prop = prop; low = low; high = high }) → IsReduced s.names new
 make_reduced s old e is prop low high has_low has_high low_later high_later differ new adds =
     let node : Node = record { prop = prop; low = low; high = high } in
     let fits : (t : Store) → s ≡ t → HasPlace t low → HasPlace t high → prop < level t low → prop < level t high → IsNode s.names s.nodes (2 + length s.nodes) node =
-    λ t same a b c d. new_node s is prop low high (subst (λ (u : Store). HasPlace u low) (sym same) a) (subst (λ (u : Store). HasPlace u high) (sym same) b) (subst (λ (u : Store). prop < level u low) (sym same) c) (subst (λ (u : Store). prop < level u high) (sym same) d) differ in
+    λ t same a b c d. new_node s is prop low high (subst (λ (u : Store). HasPlace u low) (sym same) a) (subst (λ (u : Store). HasPlace u high) (sym same) b)
+    (subst (λ (u : Store). prop < level u low) (sym same) c) (subst (λ (u : Store). prop < level u high) (sym same) d) differ in
     reduced_adds s.names s.nodes new node is adds (fits old e has_low has_high low_later high_later)
 
-pub made : (s : Store) → IsReduced s.names s.nodes → (prop low high index place : ℕ) → place ≡ index + 2 → slice_get s.nodes index ≡ Some (record { prop = prop; low = low; high = high }) → IsChoice s prop low high place
+pub made : (s : Store) → IsReduced s.names s.nodes → (prop low high index place : ℕ) → place ≡ index + 2 → slice_get s.nodes index ≡ Some (record { prop = prop; low = low; high = high })
+    → IsChoice s prop low high place
 made s is prop low high index place e h =
     let within = slice_get_within s.nodes index _ h in
     let there : 2 + index ≡ place = omega arith in

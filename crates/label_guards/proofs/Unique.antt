@@ -47,7 +47,8 @@ other_levels s is k below p q sum inner has_p has_q later same =
     at.node.differ (low ∙ sym high)
 
 -- two nodes with the same truth have the same sides
-same_sides : (s : Store) → IsReduced s.names s.nodes → (p q : ℕ) (n m : Node) → StandsAt s p n → StandsAt s q m → HasPlace s p → HasPlace s q → n.prop ≡ m.prop → Same s p q → Same s n.low m.low × Same s n.high m.high
+same_sides : (s : Store) → IsReduced s.names s.nodes → (p q : ℕ) (n m : Node) → StandsAt s p n → StandsAt s q m → HasPlace s p → HasPlace s q → n.prop ≡ m.prop → Same s p q
+    → Same s n.low m.low × Same s n.high m.high
 same_sides s is p q n m at bt has_p has_q e same =
     let a = at.node.low in
     let b = at.node.high in

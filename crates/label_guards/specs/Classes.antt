@@ -51,7 +51,8 @@ ClassesExcludeMore = (old new : Store) (list : List Guard) (most : ℕ) (classes
 
 -- The classes are determined, as a list of labels.
 abbrev pub ClassesAreDetermined : Type 0
-ClassesAreDetermined = (s : Store) (list : List Guard) (most more : ℕ) (classes others : List Guard) → AreClasses s list most classes → AreClasses s list more others → map (label_in s) classes ≡ map (label_in s) others
+ClassesAreDetermined = (s : Store) (list : List Guard) (most more : ℕ) (classes others : List Guard) → AreClasses s list most classes → AreClasses s list more others
+    → map (label_in s) classes ≡ map (label_in s) others
 
 -- Under no guards, the one class is always true.
 abbrev pub OneClassUnderNone : Type 0

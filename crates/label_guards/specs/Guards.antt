@@ -1,5 +1,5 @@
 -- What is said of the guards of a store, by their labels alone.
-use Rattle.std.specs.Prelude.{◌≡◌, ◌≢◌, ℕ, Bool, false, List, length, AllPairs, if◌then◌else◌, nat_eq}
+use Rattle.std.specs.Prelude.{◌≡◌, ◌≢◌, ◌⊎◌, ℕ, ◌<◌, Bool, true, false, List, length, AllPairs, if◌then◌else◌, nat_eq}
 use Rattle.aut_base.specs.Label.{truth, holds_at}
 use Rattle.aut_base.specs.Valuation.{truth_on}
 use Rattle.aut_base.specs.Word.{NameSet}
@@ -38,3 +38,11 @@ IsMetByTheSame s names g h = (letter : NameSet) → truth_in s g (holds_at names
 -- the same propositions, but for one of them
 abbrev pub with_prop : (ℕ → Bool) → ℕ → Bool → ℕ → Bool
 with_prop on prop value i = if nat_eq i prop then value else on i
+
+-- the guard has the same truth whether the proposition holds or not
+abbrev pub IsFreeOf : Store → Guard → ℕ → Type 0
+IsFreeOf s g prop = (on : ℕ → Bool) → truth_in s g (with_prop on prop true) ≡ truth_in s g (with_prop on prop false)
+
+-- each proposition on which the guard depends is taken to a number below `count`
+abbrev pub GoesBelow : ℕ → (ℕ → ℕ) → Store → Guard → Type 0
+GoesBelow count to s g = (prop : ℕ) → prop < s.names → (to prop < count) ⊎ IsFreeOf s g prop

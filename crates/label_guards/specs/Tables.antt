@@ -1,5 +1,5 @@
 -- A table of the results of one call, by the places that it went through.
-use Rattle.std.specs.Prelude.{◌≡◌, ℕ, ◌≤◌, Bool, cond, List, Some, nat_eq}
+use Rattle.std.specs.Prelude.{◌≡◌, ◌⊎◌, ℕ, ◌<◌, ◌≤◌, Bool, true, false, cond, List, Some, nat_eq}
 use Rattle.std.specs.Map.{lookup}
 use Rattle.label_guards.specs.Guards.{with_prop}
 use Rattle.label_guards.specs.Nodes.{level}
@@ -24,3 +24,11 @@ pub record IsFixedAt (s : Store) (prop : ℕ) (value : Bool) (place found : ℕ)
 pub record IsBrought (other s : Store) (places : ℕ → ℕ) (place found : ℕ) : Type 0 where
   pub has : HasPlace s found
   pub truth : (on : ℕ → Bool) → outcome s.nodes on found ≡ outcome other.nodes (λ k. on (places k)) place
+
+-- the truth at a place is the same whether the proposition holds or not
+abbrev pub IsFreeAt : Store → ℕ → ℕ → Type 0
+IsFreeAt s place prop = (on : ℕ → Bool) → outcome s.nodes (with_prop on prop true) place ≡ outcome s.nodes (with_prop on prop false) place
+
+-- each proposition on which the truth at a place depends is taken to a number below `count`
+abbrev pub PlaceGoesBelow : ℕ → (ℕ → ℕ) → Store → ℕ → Type 0
+PlaceGoesBelow count to s place = (prop : ℕ) → prop < s.names → (to prop < count) ⊎ IsFreeAt s place prop

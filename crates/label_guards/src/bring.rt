@@ -1,12 +1,12 @@
 //! Guards of one store taken into another.
 
-ghost use Rattle.std.specs.Prelude.{◌≡◌, ◌<◌, ◌≤◌, ℕ, All, Bool, IfOk, if◌then◌else◌, length};
+ghost use Rattle.std.specs.Prelude.{◌≡◌, ◌<◌, ◌≤◌, ℕ, Bool, IfOk, if◌then◌else◌, length};
 ghost use Rattle.std.specs.List.{slice_index_or};
-ghost use Rattle.label_guards.specs.Guards.{IsGuardOf, truth_in};
+ghost use Rattle.label_guards.specs.Guards.{GoesBelow, IsGuardOf, truth_in};
 ghost use Rattle.label_guards.specs.Nodes.{Grows, IsReduced};
 ghost use Rattle.label_guards.specs.Operations.{IsPlaceOf};
 ghost use Rattle.label_guards.specs.Store.{Has, HasPlace, Keeps, outcome, places};
-ghost use Rattle.label_guards.specs.Tables.{AreDone, IsBrought};
+ghost use Rattle.label_guards.specs.Tables.{AreDone, IsBrought, PlaceGoesBelow};
 
 use crate::guard::Guard;
 use crate::guards::{Guards, Operation};
@@ -16,7 +16,8 @@ use std::alloc::Global;
 
 impl Guards {
     /// The guard of another store, in this one. Proposition k of the other store is here the one at place k of the
-    /// list; the places may be in any order. Each node of the guard is gone through once.
+    /// list, and for those on which the guard doesn't depend the list may have any number; the places may be in any order.
+    /// Each node of the guard is gone through once.
     pub fn bring(
         &mut self,
         alloc: Global,
@@ -26,7 +27,7 @@ impl Guards {
     ) -> Result<Guard, Memory>
         requires has { Has other.now g }
         requires count { length to.now ≡ other.now.names }
-        requires within { All (λ prop. prop < self.old.names) to.now }
+        requires within { GoesBelow self.old.names (λ k. slice_index_or to.now k 0) other.now g }
         ensures keeps { Keeps self.old self.new }
         ensures brought { IfOk result (IsGuardOf self.new (λ on. truth_in other.now g (λ k. on (slice_index_or to.now k 0)))) }
     {
@@ -47,7 +48,7 @@ impl Guards {
     ) -> Result<usize, Memory>
         requires has { HasPlace other.now place }
         requires count { length to.now ≡ other.now.names }
-        requires within { All (λ prop. prop < self.old.names) to.now }
+        requires within { PlaceGoesBelow self.old.names (λ k. slice_index_or to.now k 0) other.now place }
         requires done { AreDone (IsBrought other.now self.old (λ k. slice_index_or to.now k 0)) done.old.entries }
         ensures grows { Grows self.old self.new }
         ensures kept { places self.old ≤ places self.new }
@@ -60,6 +61,7 @@ impl Guards {
         if let Some(found) = done_at(done, place) {
             return Ok(found);
         }
+        other.reduced();
         let node = other.node_at(place);
         let low = self.bring_with(done, other, node.low, to)?;
         let high = self.bring_with(done, other, node.high, to)?;

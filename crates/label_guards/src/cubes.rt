@@ -1,9 +1,9 @@
 //! The text of a guard, cube by cube.
 
-ghost use Rattle.std.specs.Prelude.{◌≡◌, ◌++◌, [], ◌∷◌, ◌<◌, Bool, true, map, IfOk, IfSome, OnOk};
+ghost use Rattle.std.specs.Prelude.{◌≡◌, ◌++◌, [], ◌∷◌, ◌<◌, Bool, true, map, IfOk, IfSome, OnErr, OnOk};
 ghost use Rattle.std.specs.Fmt.{decimal};
 ghost use Rattle.aut_base.specs.LabelText.{label_text, literal_text};
-ghost use Rattle.label_guards.specs.Pieces.{WritesCubes, cube_piece, literal_of, place_cubes};
+ghost use Rattle.label_guards.specs.Pieces.{Gains, WritesCubes, cube_piece, literal_of, place_cubes};
 ghost use Rattle.label_guards.specs.Store.{Has, HasPlace, label_in};
 
 use crate::guard::Guard;
@@ -30,10 +30,11 @@ impl Guards {
     }
 
     /// Adds the canonical text of the guard's label, as `cubes` gives it. The labels `t`, `f` and those of one literal
-    /// take no memory but that of the text.
+    /// take no memory but that of the text. Refused for want of memory, it leaves what was there, and maybe a part behind it.
     pub fn push_cubes(&self, alloc: Global, out: &mut Text, g: Guard) -> Result<(), Memory>
         requires { Has self.now g }
-        ensures { OnOk result (out.new ≡ out.old ++ label_text self.now.names (label_in self.now g)) }
+        ensures ok { OnOk result (out.new ≡ out.old ++ label_text self.now.names (label_in self.now g)) }
+        ensures err { OnErr result (Gains out.old out.new) }
     {
         self.reduced();
         if let Some(literal) = self.literal_at(g.place) {
@@ -82,6 +83,7 @@ impl Guards {
     ) -> Result<bool, Memory>
         requires { HasPlace self.now place }
         ensures kept { OnOk result (cube.new.items ≡ cube.old.items) }
+        ensures gains { Gains out.old out.new }
         ensures cubes { IfOk result (λ now. WritesCubes (map literal_of cube.old.items) (place_cubes self.now place) is_written now out.old out.new) }
     {
         self.reduced();
@@ -117,6 +119,7 @@ impl Guards {
     ) -> Result<bool, Memory>
         requires { HasPlace self.now place }
         ensures kept { OnOk result (cube.new.items ≡ cube.old.items) }
+        ensures gains { Gains out.old out.new }
         ensures cubes { IfOk result (λ now. WritesCubes (map literal_of cube.old.items ++ literal_of literal ∷ []) (place_cubes self.now place) is_written now out.old out.new) }
     {
         cube.push(literal)?;
@@ -129,7 +132,8 @@ impl Guards {
 /// Adds one cube more.
 #[inline]
 fn push_next(out: &mut Text, cube: &[Literal], is_written: bool) -> Result<(), Memory>
-    ensures { OnOk result (WritesCubes (map literal_of cube.now) ([] ∷ []) is_written true out.old out.new) }
+    ensures gains { Gains out.old out.new }
+    ensures cubes { OnOk result (WritesCubes (map literal_of cube.now) ([] ∷ []) is_written true out.old out.new) }
 {
     if !is_written {
         return push_cube(out, cube);
@@ -140,7 +144,8 @@ fn push_next(out: &mut Text, cube: &[Literal], is_written: bool) -> Result<(), M
 
 /// Adds a cube, or `t` if it has no literal.
 fn push_cube(out: &mut Text, cube: &[Literal]) -> Result<(), Memory>
-    ensures { OnOk result (out.new ≡ out.old ++ cube_piece (map literal_of cube.now)) }
+    ensures ok { OnOk result (out.new ≡ out.old ++ cube_piece (map literal_of cube.now)) }
+    ensures err { OnErr result (Gains out.old out.new) }
 {
     if cube.is_empty() {
         return out.push(b't');
@@ -157,7 +162,8 @@ fn push_cube(out: &mut Text, cube: &[Literal]) -> Result<(), Memory>
 /// Adds a literal.
 #[inline]
 fn push_literal(out: &mut Text, literal: Literal) -> Result<(), Memory>
-    ensures { OnOk result (out.new ≡ out.old ++ literal_text (literal_of literal)) }
+    ensures ok { OnOk result (out.new ≡ out.old ++ literal_text (literal_of literal)) }
+    ensures err { OnErr result (Gains out.old out.new) }
 {
     if literal.holds {
         return push_number(out, literal.prop);
@@ -169,7 +175,8 @@ fn push_literal(out: &mut Text, literal: Literal) -> Result<(), Memory>
 /// Adds a number in decimal digits.
 #[tactic(auto, using(std::proofs::lemmas::Fmt::decimal_digit, std::proofs::lemmas::Fmt::decimal_step))]
 fn push_number(out: &mut Text, number: u32) -> Result<(), Memory>
-    ensures { OnOk result (out.new ≡ out.old ++ decimal number) }
+    ensures ok { OnOk result (out.new ≡ out.old ++ decimal number) }
+    ensures err { OnErr result (Gains out.old out.new) }
 {
     if number < 10 {
         return out.push(b'0' + number as u8);

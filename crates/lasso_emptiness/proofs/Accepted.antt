@@ -33,7 +33,8 @@ head_from Kind p q [] some trail = absurd (omega arith)
 head_from Kind p q (e ∷ es) some trail = trail.1
 
 -- the word of a stem and a closed path
-pub own_word : (c : Core) (passable stem cycle : List LiveEdge) (state : ℕ) (w : Lasso) → state ≡ (edge_at cycle 0).from → IsStem c.starts passable state stem → IsAccepting c.links (IsPassable c) c.formula cycle → AreLettersOf c stem w.stem → AreLettersOf c cycle w.cycle → IsOwnWord (automaton_of c) w
+pub own_word : (c : Core) (passable stem cycle : List LiveEdge) (state : ℕ) (w : Lasso) → state ≡ (edge_at cycle 0).from → IsStem c.starts passable state stem
+    → IsAccepting c.links (IsPassable c) c.formula cycle → AreLettersOf c stem w.stem → AreLettersOf c cycle w.cycle → IsOwnWord (automaton_of c) w
 own_word c passable stem cycle state w at leads accepting stem_letters cycle_letters =
     let around = accepting.state in
     let same : state ≡ around = at ∙ head_from (IsPassable c) around around cycle accepting.some accepting.closed in
@@ -63,7 +64,8 @@ own_word c passable stem cycle state w at leads accepting stem_letters cycle_let
     }
 
 -- a path from a reached state goes along edges that leave reached states, and its end is reached
-pub reached_on : (starts : List ℕ) (edges reached : List LiveEdge) → AreReachedEdges starts edges reached → (p q : ℕ) (es : List LiveEdge) → ReachedFrom (map arc_of edges) starts p → IsTrail (Contains edges) p es q → IsTrail (Contains reached) p es q × ReachedFrom (map arc_of edges) starts q
+pub reached_on : (starts : List ℕ) (edges reached : List LiveEdge) → AreReachedEdges starts edges reached → (p q : ℕ) (es : List LiveEdge) → ReachedFrom (map arc_of edges) starts p
+    → IsTrail (Contains edges) p es q → IsTrail (Contains reached) p es q × ReachedFrom (map arc_of edges) starts q
 reached_on starts edges reached are p q [] from trail = (trail, subst (ReachedFrom (map arc_of edges) starts) trail from)
 reached_on starts edges reached are p q (e ∷ es) from trail =
     let here : ReachedFrom (map arc_of edges) starts e.from = subst (ReachedFrom (map arc_of edges) starts) (sym trail.1) from in
@@ -76,13 +78,16 @@ reached_on starts edges reached are p q (e ∷ es) from trail =
     ((are.added e trail.0 here, trail.1, rest.0), rest.1)
 
 -- where no closed path along reached edges is accepting, nothing is accepted
-pub accepts_nothing : (c : Core) → IsCore c → (passable reached : List LiveEdge) → ArePassable c passable → AreReachedEdges c.starts passable reached → NoneAccepting c.links (Contains reached) c.formula → AcceptsNothing (automaton_of c)
+pub accepts_nothing : (c : Core) → IsCore c → (passable reached : List LiveEdge) → ArePassable c passable → AreReachedEdges c.starts passable reached
+    → NoneAccepting c.links (Contains reached) c.formula → AcceptsNothing (automaton_of c)
 accepts_nothing c is passable reached are picked none u v accepts =
     let way = trail_of c is accepts.start accepts.state (u ++ copies accepts.turns v) accepts.way accepts.leads in
     let loop = trail_of c is accepts.state accepts.state (copies accepts.rounds v) accepts.cycle accepts.returns in
     let start : ReachedFrom (map arc_of passable) c.starts accepts.start = record { start = accepts.start; listed = accepts.is_start; reached = reach_none (map arc_of passable) accepts.start } in
-    let there = reached_on c.starts passable reached picked accepts.start accepts.state way.edges start (trail_weaker (IsPassable c) (Contains passable) are.whole accepts.start accepts.state way.edges way.trail) in
-    let around = reached_on c.starts passable reached picked accepts.state accepts.state loop.edges there.1 (trail_weaker (IsPassable c) (Contains passable) are.whole accepts.state accepts.state loop.edges loop.trail) in
+    let there = reached_on c.starts passable reached picked accepts.start accepts.state way.edges start
+    (trail_weaker (IsPassable c) (Contains passable) are.whole accepts.start accepts.state way.edges way.trail) in
+    let around = reached_on c.starts passable reached picked accepts.state accepts.state loop.edges there.1
+    (trail_weaker (IsPassable c) (Contains passable) are.whole accepts.state accepts.state loop.edges loop.trail) in
     let long : length accepts.cycle ≡ length (copies accepts.rounds v) = as_long (automaton_of c) accepts.state (copies accepts.rounds v) accepts.cycle accepts.state accepts.returns in
     let some : 0 < length (copies accepts.rounds v) = some_copies accepts.rounds v accepts.positive accepts.endless in
     let edges_long : length loop.edges ≡ length accepts.cycle = loop.long in
@@ -98,7 +103,8 @@ accepts_nothing c is passable reached are picked none u v accepts =
     some_copies (suc k) v positive endless = let long = length-append v (copies k v) in omega arith
 
 -- a closed path along reached edges is one along passable edges, from reached states
-pub along_passable : (c : Core) (passable reached cycle : List LiveEdge) → ArePassable c passable → AreReachedEdges c.starts passable reached → IsAccepting c.links (Contains reached) c.formula cycle → IsAccepting c.links (IsPassable c) c.formula cycle
+pub along_passable : (c : Core) (passable reached cycle : List LiveEdge) → ArePassable c passable → AreReachedEdges c.starts passable reached
+    → IsAccepting c.links (Contains reached) c.formula cycle → IsAccepting c.links (IsPassable c) c.formula cycle
 along_passable c passable reached cycle are picked accepting = record {
   some = accepting.some;
   state = accepting.state;
@@ -135,7 +141,8 @@ own_same P u v x y endless endless' same in_stem in_cycle = placed_all P (u ++ v
     grown a b some = let one : 1 ≤ b = omega arith in omega (arith, mul-le-mul_left a one)
 
 -- the reduced word of an accepted one
-pub reduced_word : (c : Core) (w new : Lasso) → 0 < length w.cycle → 0 < length new.cycle → IsOwnWord (automaton_of c) w → SpellsSame new.stem new.cycle w.stem w.cycle → IsReduced new.stem new.cycle → (Accepts (automaton_of c) new.stem new.cycle ↔ Accepts (automaton_of c) w.stem w.cycle) → IsAcceptedWord (automaton_of c) new
+pub reduced_word : (c : Core) (w new : Lasso) → 0 < length w.cycle → 0 < length new.cycle → IsOwnWord (automaton_of c) w → SpellsSame new.stem new.cycle w.stem w.cycle
+    → IsReduced new.stem new.cycle → (Accepts (automaton_of c) new.stem new.cycle ↔ Accepts (automaton_of c) w.stem w.cycle) → IsAcceptedWord (automaton_of c) new
 reduced_word c w new endless endless' own same reduced accepts = record {
   reduced = reduced;
   own_names = own_same (HoldsOnly c.names) new.stem new.cycle w.stem w.cycle endless' endless same (front w.stem w.cycle own.own_names) (back w.stem w.cycle own.own_names);
@@ -149,12 +156,14 @@ reduced_word c w new endless endless' own same reduced accepts = record {
     back xs ys all = each_there (HoldsOnly c.names) ys (λ x here. All-contains (HoldsOnly c.names) (xs ++ ys) x all (Contains-append_right xs ys x here))
 
 -- the answer of a search, said of the automaton's own parts
-pub finds_in : (links own : List Link) (slice edges : List LiveEdge) (f g : FormulaTree) (found : Option (List LiveEdge)) → links ≡ own → slice ≡ edges → f ≡ g → Finds links (Contains slice) f found → Finds own (Contains edges) g found
+pub finds_in : (links own : List Link) (slice edges : List LiveEdge) (f g : FormulaTree) (found : Option (List LiveEdge)) → links ≡ own → slice ≡ edges → f ≡ g
+    → Finds links (Contains slice) f found → Finds own (Contains edges) g found
 finds_in links own slice edges f g found links_are edges_are f_is finds =
     subst (λ h. Finds own (Contains edges) h found) f_is (subst (λ es. Finds own (Contains es) f found) edges_are (subst (λ (ls : List Link). Finds ls (Contains slice) f found) links_are finds))
 
 -- an edge that is reached is one of the edges, and leaves a reached state
-pub leaves_reached : (starts : List ℕ) (edges reached : List LiveEdge) → AreReachedEdges starts edges reached → (e : LiveEdge) → Contains reached e → Contains edges e × ReachedFrom (map arc_of edges) starts e.from
+pub leaves_reached : (starts : List ℕ) (edges reached : List LiveEdge) → AreReachedEdges starts edges reached → (e : LiveEdge) → Contains reached e
+    → Contains edges e × ReachedFrom (map arc_of edges) starts e.from
 leaves_reached starts edges reached picked e here = elim (picked.nothing_else e here) [
   | inl old ↦ absurd (none_there e old)
   | inr found ↦ found

@@ -23,14 +23,17 @@ module _ (edges : List LiveEdge) (f g : LiveEdge → ℕ × ℕ) (tails : (e : L
   pub turned : (p q : ℕ) → Reaches (map f edges) p q → Reaches (map g edges) q p
   turned p q reaches = turned_walk p q reaches.walk reaches.leads
 
-pub has_nodes_back : (nodes states : ℕ) (arcs : List (ℕ × ℕ)) (edges : List LiveEdge) → nodes ≡ states → arcs ≡ map back_arc_of edges → All (λ (e : LiveEdge). (e.from < states) × (e.to < states)) edges → All (λ (a : ℕ × ℕ). (a.0 < nodes) × (a.1 < nodes)) arcs
+pub has_nodes_back : (nodes states : ℕ) (arcs : List (ℕ × ℕ)) (edges : List LiveEdge) → nodes ≡ states → arcs ≡ map back_arc_of edges
+    → All (λ (e : LiveEdge). (e.from < states) × (e.to < states)) edges → All (λ (a : ℕ × ℕ). (a.0 < nodes) × (a.1 < nodes)) arcs
 has_nodes_back nodes states arcs edges same made ends =
     subst (All (λ (a : ℕ × ℕ). (a.0 < nodes) × (a.1 < nodes))) (sym made)
     (subst (λ n. All (λ (a : ℕ × ℕ). (a.0 < n) × (a.1 < n)) (map back_arc_of edges)) (sym same)
-    (All-map (λ (a : ℕ × ℕ). (a.0 < states) × (a.1 < states)) back_arc_of edges (All-weaker (λ (e : LiveEdge). (e.from < states) × (e.to < states)) (λ (e : LiveEdge). (e.to < states) × (e.from < states)) (λ e both. (both.1, both.0)) edges ends)))
+    (All-map (λ (a : ℕ × ℕ). (a.0 < states) × (a.1 < states)) back_arc_of edges
+    (All-weaker (λ (e : LiveEdge). (e.from < states) × (e.to < states)) (λ (e : LiveEdge). (e.to < states) × (e.from < states)) (λ e both. (both.1, both.0)) edges ends)))
 
 -- what is reached backwards from a state reaches it
-pub reaching_exact : (nodes states : ℕ) (arcs : List (ℕ × ℕ)) (from : List ℕ) (edges : List LiveEdge) (state : ℕ) → nodes ≡ states → arcs ≡ map back_arc_of edges → from ≡ state ∷ [] → (flags : List Bool) → AreReached nodes arcs from flags → (p : ℕ) → p < states → IsTrue (get_or flags p false) ↔ Reaches (map arc_of edges) p state
+pub reaching_exact : (nodes states : ℕ) (arcs : List (ℕ × ℕ)) (from : List ℕ) (edges : List LiveEdge) (state : ℕ) → nodes ≡ states → arcs ≡ map back_arc_of edges → from ≡ state ∷ []
+    → (flags : List Bool) → AreReached nodes arcs from flags → (p : ℕ) → p < states → IsTrue (get_or flags p false) ↔ Reaches (map arc_of edges) p state
 reaching_exact nodes states arcs from edges state nodes_are arcs_are from_is flags are p below = (there, back)
   where
     inside : p < nodes

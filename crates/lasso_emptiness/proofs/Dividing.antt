@@ -50,7 +50,11 @@ module _ (links : List Link) (set : ℕ) (neg : Bool) (all : List (List LiveEdge
     done = λ group here. inl here;
   }
 
-  divided_more : (before rest : List (List LiveEdge)) (off new : List LiveEdge) (crossed crossed' : List (List LiveEdge)) (group : List LiveEdge) → before ≡ rest ++ group ∷ [] → AddsOff links set neg group off new → ((g : List LiveEdge) → Contains crossed g → Contains crossed' g) → ((g : List LiveEdge) → Contains crossed' g → Contains crossed g ⊎ (group ≡ g)) → ((e : LiveEdge) → Contains group e → on_side set neg (marks_of links e) ≡ true → Contains crossed' group) → DividedSoFar links set neg all before off crossed → DividedSoFar links set neg all rest new crossed'
+  divided_more : (before rest : List (List LiveEdge)) (off new : List LiveEdge) (crossed crossed' : List (List LiveEdge)) (group : List LiveEdge) → before ≡ rest ++ group ∷ []
+      → AddsOff links set neg group off new → ((g : List LiveEdge) → Contains crossed g → Contains crossed' g)
+      → ((g : List LiveEdge) → Contains crossed' g → Contains crossed g ⊎ (group ≡ g))
+      → ((e : LiveEdge) → Contains group e → on_side set neg (marks_of links e) ≡ true → Contains crossed' group) → DividedSoFar links set neg all before off crossed
+      → DividedSoFar links set neg all rest new crossed'
   divided_more before rest off new crossed crossed' group popped adds kept from covers so_far = record {
     rest_inside = λ g here. so_far.rest_inside g (popped_rest before rest group g popped here);
     off_some = λ e here. elim (adds.nothing_else e here) [
@@ -74,16 +78,21 @@ module _ (links : List Link) (set : ℕ) (neg : Bool) (all : List (List LiveEdge
       listed : Contains all group
       listed = so_far.rest_inside group (popped_item before rest group popped)
 
-  pub divided_crossed : (before rest : List (List LiveEdge)) (off new : List LiveEdge) (crossed crossed' : List (List LiveEdge)) (group : List LiveEdge) → before ≡ rest ++ group ∷ [] → AddsOff links set neg group off new → crossed' ≡ crossed ++ group ∷ [] → DividedSoFar links set neg all before off crossed → DividedSoFar links set neg all rest new crossed'
+  pub divided_crossed : (before rest : List (List LiveEdge)) (off new : List LiveEdge) (crossed crossed' : List (List LiveEdge)) (group : List LiveEdge) → before ≡ rest ++ group ∷ []
+      → AddsOff links set neg group off new → crossed' ≡ crossed ++ group ∷ [] → DividedSoFar links set neg all before off crossed → DividedSoFar links set neg all rest new crossed'
   divided_crossed before rest off new crossed crossed' group popped adds made so_far =
-      divided_more before rest off new crossed crossed' group popped adds (λ g here. popped_rest crossed' crossed group g made here) (λ g here. popped_cases crossed' crossed group g made here) (λ e here on. popped_item crossed' crossed group made) so_far
+      divided_more before rest off new crossed crossed' group popped adds (λ g here. popped_rest crossed' crossed group g made here)
+      (λ g here. popped_cases crossed' crossed group g made here) (λ e here on. popped_item crossed' crossed group made) so_far
 
-  pub divided_off : (before rest : List (List LiveEdge)) (off new : List LiveEdge) (crossed : List (List LiveEdge)) (group : List LiveEdge) → before ≡ rest ++ group ∷ [] → AddsOff links set neg group off new → All (λ (e : LiveEdge). on_side set neg (marks_of links e) ≡ false) group → DividedSoFar links set neg all before off crossed → DividedSoFar links set neg all rest new crossed
+  pub divided_off : (before rest : List (List LiveEdge)) (off new : List LiveEdge) (crossed : List (List LiveEdge)) (group : List LiveEdge) → before ≡ rest ++ group ∷ []
+      → AddsOff links set neg group off new → All (λ (e : LiveEdge). on_side set neg (marks_of links e) ≡ false) group → DividedSoFar links set neg all before off crossed
+      → DividedSoFar links set neg all rest new crossed
   divided_off before rest off new crossed group popped adds none so_far =
       divided_more before rest off new crossed crossed group popped adds (λ g here. here) (λ g here. inl here)
       (λ e here on. absurd (true≢false (sym on ∙ All-contains (λ (d : LiveEdge). on_side set neg (marks_of links d) ≡ false) group e none here))) so_far
 
-  pub divided_all : (before : List (List LiveEdge)) (off : List LiveEdge) (crossed : List (List LiveEdge)) → length before ≡ 0 → DividedSoFar links set neg all before off crossed → IsSplit links set neg all off crossed
+  pub divided_all : (before : List (List LiveEdge)) (off : List LiveEdge) (crossed : List (List LiveEdge)) → length before ≡ 0 → DividedSoFar links set neg all before off crossed
+      → IsSplit links set neg all off crossed
   divided_all before off crossed empty so_far = record {
     off_some = so_far.off_some;
     off_side = so_far.off_side;
@@ -118,7 +127,8 @@ module _ (links : List Link) (f : FormulaTree) where
   none_in_never group never cycle accepting =
       true≢false (sym accepting.meets ∙ never (map (marks_of links) cycle) (each_there (Contains (map (marks_of links) group)) (map (marks_of links) cycle) (λ marks here.
       let edge = from_map (marks_of links) cycle marks here in
-      subst (Contains (map (marks_of links) group)) edge.2 (there_map (marks_of links) group edge.0 (trail_kind (Contains group) accepting.state accepting.state cycle edge.0 accepting.closed edge.1)))))
+      subst (Contains (map (marks_of links) group)) edge.2
+      (there_map (marks_of links) group edge.0 (trail_kind (Contains group) accepting.state accepting.state cycle edge.0 accepting.closed edge.1)))))
 
   module _ (all : List (List LiveEdge)) where
     pub judged_none : JudgedSoFar links f all all [] None
@@ -129,7 +139,8 @@ module _ (links : List Link) (f : FormulaTree) where
       side = refl;
     }
 
-    pub judged_never : (before rest left : List (List LiveEdge)) (undecided : Option Side) (group : List LiveEdge) → before ≡ rest ++ group ∷ [] → NoneAccepting links (Contains group) f → JudgedSoFar links f all before left undecided → JudgedSoFar links f all rest left undecided
+    pub judged_never : (before rest left : List (List LiveEdge)) (undecided : Option Side) (group : List LiveEdge) → before ≡ rest ++ group ∷ [] → NoneAccepting links (Contains group) f
+        → JudgedSoFar links f all before left undecided → JudgedSoFar links f all rest left undecided
     judged_never before rest left undecided group popped never so_far = record {
       rest_inside = λ g here. so_far.rest_inside g (popped_rest before rest group g popped here);
       left_inside = so_far.left_inside;
@@ -143,7 +154,8 @@ module _ (links : List Link) (f : FormulaTree) where
       side = so_far.side;
     }
 
-    pub judged_open : (before rest left new : List (List LiveEdge)) (undecided : Option Side) (side : Side) (group : List LiveEdge) → before ≡ rest ++ group ∷ [] → new ≡ left ++ group ∷ [] → has_side side.set side.neg f ≡ true → JudgedSoFar links f all before left undecided → JudgedSoFar links f all rest new (Some side)
+    pub judged_open : (before rest left new : List (List LiveEdge)) (undecided : Option Side) (side : Side) (group : List LiveEdge) → before ≡ rest ++ group ∷ [] → new ≡ left ++ group ∷ []
+        → has_side side.set side.neg f ≡ true → JudgedSoFar links f all before left undecided → JudgedSoFar links f all rest new (Some side)
     judged_open before rest left new undecided side group popped made has so_far = record {
       rest_inside = λ g here. so_far.rest_inside g (popped_rest before rest group g popped here);
       left_inside = λ g here. elim (popped_cases new left group g made here) [
@@ -163,7 +175,8 @@ module _ (links : List Link) (f : FormulaTree) where
       side = has;
     }
 
-    pub judged_met : (before rest left : List (List LiveEdge)) (undecided : Option Side) (group : List LiveEdge) → before ≡ rest ++ group ∷ [] → 0 < length group → met_along links group f ≡ true → JudgedSoFar links f all before left undecided → IsMetGroup links all f group
+    pub judged_met : (before rest left : List (List LiveEdge)) (undecided : Option Side) (group : List LiveEdge) → before ≡ rest ++ group ∷ [] → 0 < length group
+        → met_along links group f ≡ true → JudgedSoFar links f all before left undecided → IsMetGroup links all f group
     judged_met before rest left undecided group popped some meets so_far = record {
       listed = so_far.rest_inside group (popped_item before rest group popped);
       some = some;
@@ -179,7 +192,8 @@ module _ (links : List Link) (f : FormulaTree) where
       ]
     ]
 
-    pub judged_all_open : (before left : List (List LiveEdge)) (side : Side) → length before ≡ 0 → JudgedSoFar links f all before left (Some side) → (has_side side.set side.neg f ≡ true) × AreLeft links all f left
+    pub judged_all_open : (before left : List (List LiveEdge)) (side : Side) → length before ≡ 0 → JudgedSoFar links f all before left (Some side)
+        → (has_side side.set side.neg f ≡ true) × AreLeft links all f left
     judged_all_open before left side empty so_far = (
       so_far.side,
       record {

@@ -50,14 +50,17 @@ module _ (numbers : List ℕ) (edges : List LiveEdge) (i : ℕ) (within : i < le
   is : e ≡ get_or edges i e
   is = get_or_default edges i _ e within
 
-  pub groups_skip : (groups : List (List LiveEdge)) → get_or numbers e.from 0 ≢ get_or numbers e.to 0 → ((k : ℕ) → get_or groups k [] ≡ filter (is_inside numbers k) (take i edges)) → (k : ℕ) → get_or groups k [] ≡ filter (is_inside numbers k) (take (i + 1) edges)
+  pub groups_skip : (groups : List (List LiveEdge)) → get_or numbers e.from 0 ≢ get_or numbers e.to 0 → ((k : ℕ) → get_or groups k [] ≡ filter (is_inside numbers k) (take i edges)) → (k : ℕ)
+      → get_or groups k [] ≡ filter (is_inside numbers k) (take (i + 1) edges)
   groups_skip groups differ so_far k =
       so_far k ∙ sym (append-nil (filter (is_inside numbers k) (take i edges)))
       ∙ ap (λ b. filter (is_inside numbers k) (take i edges) ++ (if b then e ∷ [] else [])) (sym (outside numbers k e differ))
       ∙ sym (filter-append (is_inside numbers k) (take i edges) (e ∷ []))
       ∙ ap (filter (is_inside numbers k)) (sym (take-push edges i e within is))
 
-  pub groups_more : (old new : List (List LiveEdge)) (number : ℕ) → get_or numbers e.from 0 ≡ number → get_or numbers e.to 0 ≡ number → ((k : ℕ) → get_or old k [] ≡ filter (is_inside numbers k) (take i edges)) → ((k : ℕ) → get_or new k [] ≡ (if nat_eq k number then get_or old k [] ++ e ∷ [] else get_or old k [])) → (k : ℕ) → get_or new k [] ≡ filter (is_inside numbers k) (take (i + 1) edges)
+  pub groups_more : (old new : List (List LiveEdge)) (number : ℕ) → get_or numbers e.from 0 ≡ number → get_or numbers e.to 0 ≡ number
+      → ((k : ℕ) → get_or old k [] ≡ filter (is_inside numbers k) (take i edges)) → ((k : ℕ) → get_or new k [] ≡ (if nat_eq k number then get_or old k [] ++ e ∷ [] else get_or old k []))
+      → (k : ℕ) → get_or new k [] ≡ filter (is_inside numbers k) (take (i + 1) edges)
   groups_more old new number from to so_far made k =
       made k
       ∙ cases (nat_eq k number) (get_or old k [])
@@ -71,7 +74,8 @@ module _ (numbers : List ℕ) (edges : List LiveEdge) (i : ℕ) (within : i < le
       cases false es = sym (append-nil es)
 
 -- the groups of all edges
-module _ (states : ℕ) (numbers : List ℕ) (edges : List LiveEdge) (groups : List (List LiveEdge)) (ends : All (λ (e : LiveEdge). (e.from < states) × (e.to < states)) edges) (are : AreComponents states (map arc_of edges) numbers) (made : (k : ℕ) → get_or groups k [] ≡ filter (is_inside numbers k) edges) where
+module _ (states : ℕ) (numbers : List ℕ) (edges : List LiveEdge) (groups : List (List LiveEdge)) (ends : All (λ (e : LiveEdge). (e.from < states) × (e.to < states)) edges)
+    (are : AreComponents states (map arc_of edges) numbers) (made : (k : ℕ) → get_or groups k [] ≡ filter (is_inside numbers k) edges) where
   abbrev arcs : List (ℕ × ℕ)
   arcs = map arc_of edges
 
@@ -97,7 +101,8 @@ module _ (states : ℕ) (numbers : List ℕ) (edges : List LiveEdge) (groups : L
       let same : get_or numbers p 0 ≡ get_or numbers a.1 0 = (are.same p a.1 at next).1 (out, home) in
       let there : get_or numbers a.1 0 ≡ k = sym same ∙ number in
       let inside : is_inside numbers k edge ≡ true = inside_from numbers k edge (ap (λ x. get_or numbers x 0) tail ∙ number) (ap (λ x. get_or numbers x 0) head ∙ there) in (
-        subst (Contains (map arc_of (filter (is_inside numbers k) edges))) found.2 (there_map arc_of (filter (is_inside numbers k) edges) edge (there_filter (is_inside numbers k) edges edge found.1 inside)),
+        subst (Contains (map arc_of (filter (is_inside numbers k) edges))) found.2
+            (there_map arc_of (filter (is_inside numbers k) edges) edge (there_filter (is_inside numbers k) edges edge found.1 inside)),
         leads.1,
         stays k a.1 q walk next there leads.2 (reach_then arcs q p a.1 back out),
       )
@@ -114,7 +119,8 @@ module _ (states : ℕ) (numbers : List ℕ) (edges : List LiveEdge) (groups : L
       record { walk = both.0.walk; leads = stays k d.to e.from both.0.walk ends_d.1 from.1 both.0.leads both.1 }
 
   -- the edges of a closed path lie in one component
-  one_component : (k p q : ℕ) (es : List LiveEdge) → p < states → get_or numbers p 0 ≡ k → IsTrail (Contains edges) p es q → Reaches arcs q p → IsTrail (Contains (filter (is_inside numbers k) edges)) p es q
+  one_component : (k p q : ℕ) (es : List LiveEdge) → p < states → get_or numbers p 0 ≡ k → IsTrail (Contains edges) p es q → Reaches arcs q p
+      → IsTrail (Contains (filter (is_inside numbers k) edges)) p es q
   one_component k p q [] at number trail back = trail
   one_component k p q (e ∷ es) at number trail back =
       let both = ends_of e trail.0 in
@@ -126,7 +132,8 @@ module _ (states : ℕ) (numbers : List ℕ) (edges : List LiveEdge) (groups : L
       let inside : is_inside numbers k e ≡ true = inside_from numbers k e (ap (λ x. get_or numbers x 0) trail.1 ∙ number) there in
       (there_filter (is_inside numbers k) edges e trail.0 inside, trail.1, one_component k e.to q es both.1 there trail.2 (reach_then arcs q p e.to back out))
 
-  whole : (state : ℕ) (cycle : List LiveEdge) → 0 < length cycle → IsTrail (Contains edges) state cycle state → (group : List LiveEdge) × Contains groups group × IsTrail (Contains group) state cycle state
+  whole : (state : ℕ) (cycle : List LiveEdge) → 0 < length cycle → IsTrail (Contains edges) state cycle state
+      → (group : List LiveEdge) × Contains groups group × IsTrail (Contains group) state cycle state
   whole state [] some closed = absurd (omega arith)
   whole state (e ∷ es) some closed =
       let at : state < states = subst (λ x. x < states) closed.1 (ends_of e closed.0).0 in
@@ -150,6 +157,7 @@ module _ (states : ℕ) (numbers : List ℕ) (edges : List LiveEdge) (groups : L
     whole = whole;
   }
 
-pub components_of : (nodes states : ℕ) (arcs others : List (ℕ × ℕ)) (numbers slice : List ℕ) → nodes ≡ states → arcs ≡ others → slice ≡ numbers → AreComponents nodes arcs numbers → AreComponents states others slice
+pub components_of : (nodes states : ℕ) (arcs others : List (ℕ × ℕ)) (numbers slice : List ℕ) → nodes ≡ states → arcs ≡ others → slice ≡ numbers → AreComponents nodes arcs numbers
+    → AreComponents states others slice
 components_of nodes states arcs others numbers slice nodes_are arcs_are same are =
     subst (λ n. AreComponents n others slice) nodes_are (subst (λ a. AreComponents nodes a slice) arcs_are (subst (λ ns. AreComponents nodes arcs ns) (sym same) are))

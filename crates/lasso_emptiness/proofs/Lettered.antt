@@ -56,14 +56,16 @@ least_letter_of c is e l letter at least =
 pub met_by_letter : (c : Core) → IsCore c → (l : Link) (letter : NameSet) → truth (holds_at c.names letter) (label_in c.store l.guard) ≡ true → IsNeverMet c.store l.guard → ⊥
 met_by_letter c is l letter meets never =
     let size : length (valuation_at c.names letter) ≡ c.store.names = length-map c.names _ ∙ sym is.parts.store_names in
-    true≢false (sym meets ∙ truth_agrees (holds_at c.names letter) (holds_in (valuation_at c.names letter)) (label_in c.store l.guard) (valuation_at_holds c.names letter) ∙ never (valuation_at c.names letter) size)
+    true≢false (sym meets ∙ truth_agrees (holds_at c.names letter) (holds_in (valuation_at c.names letter)) (label_in c.store l.guard) (valuation_at_holds c.names letter)
+    ∙ never (valuation_at c.names letter) size)
 
 -- an edge's marks are those of its link
 marks_at : (c : Core) (e : LiveEdge) (l : Link) → IsEdgeAt c e l → l.marks ≡ marks_of c.links e
 marks_at c e l at =
     let within = slice_get_within c.links e.link l at.stands in
     let inside : e.link < length (map (λ (m : Link). m.marks) c.links) = omega (arith, within, length-map c.links (λ (m : Link). m.marks)) in
-    sym (get_or_default (map (λ (m : Link). m.marks) c.links) e.link [] l.marks inside ∙ get_or-map (λ (m : Link). m.marks) c.links e.link l _ within ∙ ap (λ (m : Link). m.marks) (get_or_from_slice_get c.links e.link l l at.stands))
+    sym (get_or_default (map (λ (m : Link). m.marks) c.links) e.link [] l.marks inside ∙ get_or-map (λ (m : Link). m.marks) c.links e.link l _ within
+    ∙ ap (λ (m : Link). m.marks) (get_or_from_slice_get c.links e.link l l at.stands))
 
 -- one letter more
 pub letters_push : (c : Core) (es : List LiveEdge) (xs : List NameSet) (e : LiveEdge) (x : NameSet) → AreLettersOf c es xs → IsLetterOf c e x → AreLettersOf c (es ++ e ∷ []) (xs ++ x ∷ [])
@@ -103,7 +105,12 @@ reads_along c Kind p q (e ∷ es) (x ∷ xs) trail letters =
     let at = letters.0.at in
     record {
       trees = edge_of c.store l ∷ rest.trees;
-      path = (sym trail.1 ∙ at.from, there_map (edge_of c.store) c.links l (placed_there c.links e.link l at.stands), letters.0.meets, subst (λ x. IsPath (automaton_of c) x xs rest.trees q) at.to rest.path);
+      path = (
+        sym trail.1 ∙ at.from,
+        there_map (edge_of c.store) c.links l (placed_there c.links e.link l at.stands),
+        letters.0.meets,
+        subst (λ x. IsPath (automaton_of c) x xs rest.trees q) at.to rest.path,
+      );
       marks = ap (λ (ms : List ℕ). ms ∷ map (λ (t : TreeEdge). t.marks) rest.trees) (marks_at c e l at) ∙ ap (λ mss. marks_of c.links e ∷ mss) rest.marks;
     }
 
@@ -155,12 +162,14 @@ link_read c e passable links l links_are read =
     read ∙ ap (λ (ls : List Link). get_or ls e.link l) links_are ∙ get_or_from_slice_get c.links e.link passable.link l passable.at.stands
 
 -- what was picked for the guard of an edge's link, from a store and names that are the automaton's
-pub picked_letter : (c : Core) → IsCore c → (e : LiveEdge) → IsPassable c e → (links : List Link) (l : Link) (store : Store) (names : List (List ℕ)) (letter : NameSet) → links ≡ c.links → l ≡ get_or links e.link l → store ≡ c.store → names ≡ c.names → IsLeastLetter store names l.guard letter → IsLetterOf c e letter
+pub picked_letter : (c : Core) → IsCore c → (e : LiveEdge) → IsPassable c e → (links : List Link) (l : Link) (store : Store) (names : List (List ℕ)) (letter : NameSet) → links ≡ c.links
+    → l ≡ get_or links e.link l → store ≡ c.store → names ≡ c.names → IsLeastLetter store names l.guard letter → IsLetterOf c e letter
 picked_letter c is e passable links l store names letter links_are read store_is names_are least =
     least_letter_of c is e passable.link letter passable.at
     (subst (λ (m : Link). IsLeastLetter c.store c.names m.guard letter) (link_read c e passable links l links_are read)
     (subst (λ ns. IsLeastLetter c.store ns l.guard letter) names_are (subst (λ (s : Store). IsLeastLetter s names l.guard letter) store_is least)))
 
-pub never_picked : (c : Core) (e : LiveEdge) → IsPassable c e → (links : List Link) (l : Link) (store : Store) → links ≡ c.links → l ≡ get_or links e.link l → store ≡ c.store → IsNeverMet store l.guard → ⊥
+pub never_picked : (c : Core) (e : LiveEdge) → IsPassable c e → (links : List Link) (l : Link) (store : Store) → links ≡ c.links → l ≡ get_or links e.link l → store ≡ c.store
+    → IsNeverMet store l.guard → ⊥
 never_picked c e passable links l store links_are read store_is never =
     passable.some (subst (λ (m : Link). IsNeverMet c.store m.guard) (link_read c e passable links l links_are read) (subst (λ (s : Store). IsNeverMet s l.guard) store_is never))

@@ -25,7 +25,8 @@ module _ (links : List Link) (edges : List LiveEdge) (set : ℕ) (neg : Bool) wh
   inf_not_met none = met-Inf (map (marks_of links) edges) set neg ∙ none_on none
 
   pub inf_never : All (λ (e : LiveEdge). on_side set neg (marks_of links e) ≡ false) edges → IsNever (map (marks_of links) edges) (Inf set neg)
-  inf_never none = λ some within. met-Inf some set neg ∙ list_any_none (on_side set neg) some (λ k d inside. none_at (on_side set neg) (map (marks_of links) edges) _ (none_on none) (within k d inside))
+  inf_never none = λ some within. met-Inf some set neg
+      ∙ list_any_none (on_side set neg) some (λ k d inside. none_at (on_side set neg) (map (marks_of links) edges) _ (none_on none) (within k d inside))
 
   pub fin_met : All (λ (e : LiveEdge). on_side set neg (marks_of links e) ≡ false) edges → met_along links edges (Fin set neg) ≡ true
   fin_met none = met-Fin (map (marks_of links) edges) set neg ∙ ap not (none_on none)

@@ -17,10 +17,12 @@ some_has_side-trees set neg [] = refl
 some_has_side-trees set neg (f ∷ fs) = ap (λ b. has_side set neg f || b) (some_has_side-trees set neg fs)
 
 has_side-And : (set : ℕ) (neg : Bool) (p : Formulas) → has_side set neg (formula_tree (And p)) ≡ list_any (has_side set neg) (formula_list p)
-has_side-And set neg p = ap (has_side set neg) (formula_tree-And p) ∙ ap (λ rest. has_side set neg (formula_parts p).first || (has_side set neg (formula_parts p).second || rest)) (some_has_side-trees set neg (formula_parts p).others)
+has_side-And set neg p = ap (has_side set neg) (formula_tree-And p)
+    ∙ ap (λ rest. has_side set neg (formula_parts p).first || (has_side set neg (formula_parts p).second || rest)) (some_has_side-trees set neg (formula_parts p).others)
 
 has_side-Or : (set : ℕ) (neg : Bool) (p : Formulas) → has_side set neg (formula_tree (Or p)) ≡ list_any (has_side set neg) (formula_list p)
-has_side-Or set neg p = ap (has_side set neg) (formula_tree-Or p) ∙ ap (λ rest. has_side set neg (formula_parts p).first || (has_side set neg (formula_parts p).second || rest)) (some_has_side-trees set neg (formula_parts p).others)
+has_side-Or set neg p = ap (has_side set neg) (formula_tree-Or p)
+    ∙ ap (λ rest. has_side set neg (formula_parts p).first || (has_side set neg (formula_parts p).second || rest)) (some_has_side-trees set neg (formula_parts p).others)
 
 -- a conjunction and a disjunction are judged by their parts
 pub judged-And : (cycle : List (List ℕ)) (p : Formulas) (v : Verdict) → AreAllJudged cycle (formula_list p) v → IsJudged cycle (formula_tree (And p)) v
@@ -41,9 +43,11 @@ all_taken-trees set neg value (f ∷ fs) = ap (λ rest. more (taken set neg valu
 pub taken-And : (set : ℕ) (neg value : Bool) (p q : Formulas) → formula_list q ≡ map (taken set neg value) (formula_list p) → formula_tree (And q) ≡ taken set neg value (formula_tree (And p))
 taken-And set neg value p q parts =
     formula_tree-And q ∙ ap all_of parts
-    ∙ sym (ap (taken set neg value) (formula_tree-And p) ∙ ap (λ rest. FormulaTree.And (taken set neg value (formula_parts p).first) (taken set neg value (formula_parts p).second) rest) (all_taken-trees set neg value (formula_parts p).others))
+    ∙ sym (ap (taken set neg value) (formula_tree-And p)
+    ∙ ap (λ rest. FormulaTree.And (taken set neg value (formula_parts p).first) (taken set neg value (formula_parts p).second) rest) (all_taken-trees set neg value (formula_parts p).others))
 
 pub taken-Or : (set : ℕ) (neg value : Bool) (p q : Formulas) → formula_list q ≡ map (taken set neg value) (formula_list p) → formula_tree (Or q) ≡ taken set neg value (formula_tree (Or p))
 taken-Or set neg value p q parts =
     formula_tree-Or q ∙ ap some_of parts
-    ∙ sym (ap (taken set neg value) (formula_tree-Or p) ∙ ap (λ rest. FormulaTree.Or (taken set neg value (formula_parts p).first) (taken set neg value (formula_parts p).second) rest) (all_taken-trees set neg value (formula_parts p).others))
+    ∙ sym (ap (taken set neg value) (formula_tree-Or p)
+    ∙ ap (λ rest. FormulaTree.Or (taken set neg value (formula_parts p).first) (taken set neg value (formula_parts p).second) rest) (all_taken-trees set neg value (formula_parts p).others))

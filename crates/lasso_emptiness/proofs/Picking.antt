@@ -50,7 +50,8 @@ module _ (Kind : LiveEdge → Type 0) (edges old : List LiveEdge) (i : ℕ) (wit
       })
 
 -- the same edges, said to be of another kind
-pub picks_alike : (K L : LiveEdge → Type 0) (edges old new : List LiveEdge) → ((e : LiveEdge) → Contains edges e → K e → L e) → ((e : LiveEdge) → Contains edges e → L e → K e) → Picks K edges old new → Picks L edges old new
+pub picks_alike : (K L : LiveEdge → Type 0) (edges old new : List LiveEdge) → ((e : LiveEdge) → Contains edges e → K e → L e) → ((e : LiveEdge) → Contains edges e → L e → K e)
+    → Picks K edges old new → Picks L edges old new
 picks_alike K L edges old new there back picks = record {
   kept = picks.kept;
   added = λ e here kind. picks.added e here (back e here kind);
@@ -61,11 +62,15 @@ picks_alike K L edges old new there back picks = record {
 }
 
 -- the edges of flagged states, where exactly what is reached is flagged
-pub flagged_are_reached : (nodes states : ℕ) (arcs : List (ℕ × ℕ)) (starts from : List ℕ) (flags slice : List Bool) (edges : List LiveEdge) → AreReached nodes arcs from flags → slice ≡ flags → nodes ≡ states → arcs ≡ map arc_of edges → from ≡ starts → All (λ (e : LiveEdge). (e.from < states) × (e.to < states)) edges → (new : List LiveEdge) → Picks (λ (e : LiveEdge). get_or slice e.from false ≡ true) edges [] new → AreReachedEdges starts edges new
+pub flagged_are_reached : (nodes states : ℕ) (arcs : List (ℕ × ℕ)) (starts from : List ℕ) (flags slice : List Bool) (edges : List LiveEdge) → AreReached nodes arcs from flags → slice ≡ flags
+    → nodes ≡ states → arcs ≡ map arc_of edges → from ≡ starts → All (λ (e : LiveEdge). (e.from < states) × (e.to < states)) edges → (new : List LiveEdge)
+    → Picks (λ (e : LiveEdge). get_or slice e.from false ≡ true) edges [] new → AreReachedEdges starts edges new
 flagged_are_reached nodes states arcs starts from flags slice edges are same nodes_are arcs_are starts_are ends new picks =
     picks_alike (λ (e : LiveEdge). get_or slice e.from false ≡ true) (λ (e : LiveEdge). ReachedFrom (map arc_of edges) starts e.from) edges [] new
-    (λ e here flag. subst (λ s. ReachedFrom (map arc_of edges) s e.from) starts_are (subst (λ a. ReachedFrom a from e.from) arcs_are ((are.exact e.from (within e here)).0 (ap (λ fs. get_or fs e.from false) (sym same) ∙ flag))))
-    (λ e here reached. ap (λ fs. get_or fs e.from false) same ∙ (are.exact e.from (within e here)).1 (subst (λ a. ReachedFrom a from e.from) (sym arcs_are) (subst (λ s. ReachedFrom (map arc_of edges) s e.from) (sym starts_are) reached)))
+    (λ e here flag. subst (λ s. ReachedFrom (map arc_of edges) s e.from) starts_are
+    (subst (λ a. ReachedFrom a from e.from) arcs_are ((are.exact e.from (within e here)).0 (ap (λ fs. get_or fs e.from false) (sym same) ∙ flag))))
+    (λ e here reached. ap (λ fs. get_or fs e.from false) same
+    ∙ (are.exact e.from (within e here)).1 (subst (λ a. ReachedFrom a from e.from) (sym arcs_are) (subst (λ s. ReachedFrom (map arc_of edges) s e.from) (sym starts_are) reached)))
     picks
   where
     within : (e : LiveEdge) → Contains edges e → e.from < nodes

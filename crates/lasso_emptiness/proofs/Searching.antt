@@ -18,7 +18,8 @@ use Rattle.lasso_emptiness.proofs.Marked.{none_on}
 use Rattle.lasso_emptiness.proofs.Trails.{trail_kind, trail_weaker, trail_with}
 
 -- the same closed path, along edges of another kind
-pub accepting_weaker : (links : List Link) (K L : LiveEdge → Type 0) (f : FormulaTree) (cycle : List LiveEdge) → ((e : LiveEdge) → K e → L e) → IsAccepting links K f cycle → IsAccepting links L f cycle
+pub accepting_weaker : (links : List Link) (K L : LiveEdge → Type 0) (f : FormulaTree) (cycle : List LiveEdge) → ((e : LiveEdge) → K e → L e) → IsAccepting links K f cycle
+    → IsAccepting links L f cycle
 accepting_weaker links K L f cycle weaker accepting = record {
   some = accepting.some;
   state = accepting.state;
@@ -27,7 +28,8 @@ accepting_weaker links K L f cycle weaker accepting = record {
 }
 
 -- what the groups of components answer for all edges
-pub finds_of_groups : (links : List Link) (edges : List LiveEdge) (groups : List (List LiveEdge)) (f : FormulaTree) → AreGroups edges groups → (found : Option (List LiveEdge)) → FindsInAny links groups f found → Finds links (Contains edges) f found
+pub finds_of_groups : (links : List Link) (edges : List LiveEdge) (groups : List (List LiveEdge)) (f : FormulaTree) → AreGroups edges groups → (found : Option (List LiveEdge))
+    → FindsInAny links groups f found → Finds links (Contains edges) f found
 finds_of_groups links edges groups f are None none = λ cycle accepting.
     let there = are.whole accepting.state cycle accepting.some accepting.closed in
     none there.0 there.1 cycle (record { some = accepting.some; state = accepting.state; closed = there.2; meets = accepting.meets })
@@ -35,7 +37,8 @@ finds_of_groups links edges groups f are (Some cycle) accepting =
     accepting_weaker links (InSome groups) (Contains edges) f cycle (λ e some. (are.each some.group some.listed).inside e some.here) accepting
 
 -- a closed path through the edges that are needed
-pub accepting_tour : (links : List Link) (edges needed cycle : List LiveEdge) (f : FormulaTree) → AreNeeded links edges f needed → IsTour edges needed cycle → IsAccepting links (Contains edges) f cycle
+pub accepting_tour : (links : List Link) (edges needed cycle : List LiveEdge) (f : FormulaTree) → AreNeeded links edges f needed → IsTour edges needed cycle
+    → IsAccepting links (Contains edges) f cycle
 accepting_tour links edges needed cycle f are tour = record {
   some = tour.some;
   state = tour.state;
@@ -44,14 +47,19 @@ accepting_tour links edges needed cycle f are tour = record {
 }
 
 -- Groups are left after others have no such path, and are divided by the side of a `Fin`.
-module _ (links : List Link) (set : ℕ) (neg : Bool) (f : FormulaTree) (groups left crossed : List (List LiveEdge)) (off : List LiveEdge) (are : AreLeft links groups f left) (split : IsSplit links set neg left off crossed) where
+module _ (links : List Link) (set : ℕ) (neg : Bool) (f : FormulaTree) (groups left crossed : List (List LiveEdge)) (off : List LiveEdge) (are : AreLeft links groups f left)
+    (split : IsSplit links set neg left off crossed) where
   -- a path off the side meets the condition as it does with the `Fin` taken as true
   pub found_off : (cycle : List LiveEdge) → IsAccepting links (Contains off) (taken set neg true f) cycle → IsAccepting links (InSome groups) f cycle
   found_off cycle accepting = record {
     some = accepting.some;
     state = accepting.state;
-    closed = trail_weaker (Contains off) (InSome groups) (λ e here. let some = split.off_some e here in record { group = some.group; listed = are.inside some.group some.listed; here = some.here }) accepting.state accepting.state cycle accepting.closed;
-    meets = sym (met-taken (map (marks_of links) cycle) set neg true f (none_on links cycle set neg (each_there (λ (e : LiveEdge). on_side set neg (marks_of links e) ≡ false) cycle (λ e here. split.off_side e (trail_kind (Contains off) accepting.state accepting.state cycle e accepting.closed here))))) ∙ accepting.meets;
+    closed = trail_weaker (Contains off) (InSome groups)
+        (λ e here. let some = split.off_some e here in record { group = some.group; listed = are.inside some.group some.listed; here = some.here }) accepting.state accepting.state cycle
+        accepting.closed;
+    meets = sym (met-taken (map (marks_of links) cycle) set neg true f
+        (none_on links cycle set neg (each_there (λ (e : LiveEdge). on_side set neg (marks_of links e) ≡ false) cycle
+        (λ e here. split.off_side e (trail_kind (Contains off) accepting.state accepting.state cycle e accepting.closed here))))) ∙ accepting.meets;
   }
 
   -- a path that meets the condition with the `Fin` taken as false meets it
@@ -59,7 +67,8 @@ module _ (links : List Link) (set : ℕ) (neg : Bool) (f : FormulaTree) (groups 
   found_crossed cycle accepting = record {
     some = accepting.some;
     state = accepting.state;
-    closed = trail_weaker (InSome crossed) (InSome groups) (λ e some. record { group = some.group; listed = are.inside some.group (split.inside some.group some.listed); here = some.here }) accepting.state accepting.state cycle accepting.closed;
+    closed = trail_weaker (InSome crossed) (InSome groups) (λ e some. record { group = some.group; listed = are.inside some.group (split.inside some.group some.listed); here = some.here })
+        accepting.state accepting.state cycle accepting.closed;
     meets = met-denied (map (marks_of links) cycle) set neg f accepting.meets;
   }
 
@@ -75,7 +84,8 @@ module _ (links : List Link) (set : ℕ) (neg : Bool) (f : FormulaTree) (groups 
         some = accepting.some;
         state = accepting.state;
         closed = trail_with (Contains group) (Contains off) accepting.state accepting.state cycle accepting.closed (λ e here in_group.
-            split.all_off e (record { group = group; listed = there; here = in_group }) (none_at (on_side set neg) (map (marks_of links) cycle) (marks_of links e) is (there_map (marks_of links) cycle e here)));
+            split.all_off e (record { group = group; listed = there; here = in_group })
+            (none_at (on_side set neg) (map (marks_of links) cycle) (marks_of links e) is (there_map (marks_of links) cycle e here)));
         meets = met-taken (map (marks_of links) cycle) set neg true f is ∙ accepting.meets;
       })
       go there true is =
@@ -90,7 +100,8 @@ module _ (links : List Link) (set : ℕ) (neg : Bool) (f : FormulaTree) (groups 
           })
 
   -- what is found in the groups that have an edge on the side, once nothing is found off it
-  pub finds_of_split : NoneAccepting links (Contains off) (taken set neg true f) → (found : Option (List LiveEdge)) → FindsInAny links crossed (taken set neg false f) found → FindsInAny links groups f found
+  pub finds_of_split : NoneAccepting links (Contains off) (taken set neg true f) → (found : Option (List LiveEdge)) → FindsInAny links crossed (taken set neg false f) found
+      → FindsInAny links groups f found
   finds_of_split none_off None none = none_found none_off none
   finds_of_split none_off (Some cycle) accepting = found_crossed cycle accepting
 

@@ -34,16 +34,19 @@ module _ (links : List Link) (edges : List LiveEdge) where
           absurd (true≢false (sym holds ∙ met-Fin (marked edges) set neg ∙ ap not some))
 
   -- nothing is added
-  pub suits_same : (test : List (List ℕ) → Type 0) (old : List LiveEdge) → All (Contains edges) old → ((cycle : List LiveEdge) → All (Contains edges) cycle → All (Contains cycle) old → test (marked cycle)) → Suits links edges test old old
+  pub suits_same : (test : List (List ℕ) → Type 0) (old : List LiveEdge) → All (Contains edges) old
+      → ((cycle : List LiveEdge) → All (Contains edges) cycle → All (Contains cycle) old → test (marked cycle)) → Suits links edges test old old
   suits_same test old inside enough = record { kept = All-contains_itself old; inside = inside; enough = enough }
 
   -- an edge on the side of an `Inf` is there
-  pub inf_there : (set : ℕ) (neg : Bool) (old : List LiveEdge) (e : LiveEdge) → All (Contains edges) old → Contains old e → on_side set neg (marks_of links e) ≡ true → Serves links edges (Inf set neg) old old
+  pub inf_there : (set : ℕ) (neg : Bool) (old : List LiveEdge) (e : LiveEdge) → All (Contains edges) old → Contains old e → on_side set neg (marks_of links e) ≡ true
+      → Serves links edges (Inf set neg) old old
   inf_there set neg old e inside there on =
       suits_same (λ marks. met marks (Inf set neg) ≡ true) old inside (λ cycle within has. inf_met links cycle set neg e (All-contains (Contains cycle) old e has there) on)
 
   -- one is added
-  pub inf_added : (set : ℕ) (neg : Bool) (old new : List LiveEdge) (e : LiveEdge) → new ≡ old ++ e ∷ [] → All (Contains edges) old → Contains edges e → on_side set neg (marks_of links e) ≡ true → Serves links edges (Inf set neg) old new
+  pub inf_added : (set : ℕ) (neg : Bool) (old new : List LiveEdge) (e : LiveEdge) → new ≡ old ++ e ∷ [] → All (Contains edges) old → Contains edges e
+      → on_side set neg (marks_of links e) ≡ true → Serves links edges (Inf set neg) old new
   inf_added set neg old new e made inside here on = subst (Serves links edges (Inf set neg) old) (sym made) (record {
     kept = All-weaker (Contains old) (Contains (old ++ e ∷ [])) (λ d. Contains-append_left old (e ∷ []) d) old (All-contains_itself old);
     inside = All-push (Contains edges) old e inside here;
@@ -51,22 +54,28 @@ module _ (links : List Link) (edges : List LiveEdge) where
   })
 
   -- what is needed for two tests, one after the other
-  pub suits_then : (P Q R : List (List ℕ) → Type 0) (old mid new : List LiveEdge) → ((marks : List (List ℕ)) → P marks → Q marks → R marks) → Suits links edges P old mid → Suits links edges Q mid new → Suits links edges R old new
+  pub suits_then : (P Q R : List (List ℕ) → Type 0) (old mid new : List LiveEdge) → ((marks : List (List ℕ)) → P marks → Q marks → R marks) → Suits links edges P old mid
+      → Suits links edges Q mid new → Suits links edges R old new
   suits_then P Q R old mid new both first second = record {
     kept = All-weaker (Contains mid) (Contains new) (λ d there. All-contains (Contains new) mid d second.kept there) old first.kept;
     inside = second.inside;
-    enough = λ cycle within has. both (marked cycle) (first.enough cycle within (All-weaker (Contains new) (Contains cycle) (λ d there. All-contains (Contains cycle) new d has there) mid second.kept)) (second.enough cycle within has);
+    enough = λ cycle within has. both (marked cycle)
+        (first.enough cycle within (All-weaker (Contains new) (Contains cycle) (λ d there. All-contains (Contains cycle) new d has there) mid second.kept)) (second.enough cycle within has);
   }
 
-  pub suits_all_more : (fs : List FormulaTree) (place : ℕ) (part : FormulaTree) (old mid new : List LiveEdge) → slice_get fs place ≡ Some part → Suits links edges (λ marks. list_all (met marks) (take place fs) ≡ true) old mid → Serves links edges part mid new → Suits links edges (λ marks. list_all (met marks) (take (place + 1) fs) ≡ true) old new
+  pub suits_all_more : (fs : List FormulaTree) (place : ℕ) (part : FormulaTree) (old mid new : List LiveEdge) → slice_get fs place ≡ Some part
+      → Suits links edges (λ marks. list_all (met marks) (take place fs) ≡ true) old mid → Serves links edges part mid new
+      → Suits links edges (λ marks. list_all (met marks) (take (place + 1) fs) ≡ true) old new
   suits_all_more fs place part old mid new is before here =
       suits_then (λ marks. list_all (met marks) (take place fs) ≡ true) (λ marks. met marks part ≡ true) (λ marks. list_all (met marks) (take (place + 1) fs) ≡ true) old mid new
       (λ marks so_far holds. all_take_more (met marks) fs place part is so_far holds) before here
 
-  pub suits_all_done : (fs : List FormulaTree) (place : ℕ) (old new : List LiveEdge) → length fs ≤ place → Suits links edges (λ marks. list_all (met marks) (take place fs) ≡ true) old new → ServesAll links edges fs old new
+  pub suits_all_done : (fs : List FormulaTree) (place : ℕ) (old new : List LiveEdge) → length fs ≤ place → Suits links edges (λ marks. list_all (met marks) (take place fs) ≡ true) old new
+      → ServesAll links edges fs old new
   suits_all_done fs place old new all so_far = subst (λ gs. ServesAll links edges gs old new) (take_all place fs all) so_far
 
-  pub suits_one : (fs : List FormulaTree) (place : ℕ) (part : FormulaTree) (old new : List LiveEdge) → slice_get fs place ≡ Some part → Serves links edges part old new → ServesOne links edges fs old new
+  pub suits_one : (fs : List FormulaTree) (place : ℕ) (part : FormulaTree) (old new : List LiveEdge) → slice_get fs place ≡ Some part → Serves links edges part old new
+      → ServesOne links edges fs old new
   suits_one fs place part old new is here = record {
     kept = here.kept;
     inside = here.inside;

@@ -18,10 +18,12 @@ use Rattle.lasso_emptiness.proofs.Trails.{trail_then}
 arc_there : (edges : List LiveEdge) (place : ℕ) → place < length edges → arc_at (map arc_of edges) place ≡ arc_of (edge_at edges place)
 arc_there edges place within =
     let inside : place < length (map arc_of edges) = omega (arith, within, length-map edges arc_of) in
-    get_or_default (map arc_of edges) place (0, 0) (arc_of (edge_at edges place)) inside ∙ get_or-map arc_of edges place (edge_at edges place) _ within ∙ ap arc_of (sym (get_or_default edges place _ (edge_at edges place) within))
+    get_or_default (map arc_of edges) place (0, 0) (arc_of (edge_at edges place)) inside ∙ get_or-map arc_of edges place (edge_at edges place) _ within
+    ∙ ap arc_of (sym (get_or_default edges place _ (edge_at edges place) within))
 
 -- a walk by places is a path
-trail_at : (edges : List LiveEdge) (p q : ℕ) (places : List ℕ) → All (λ place. place < length edges) places → IsWalk (map arc_of edges) p (map (arc_at (map arc_of edges)) places) q → IsTrail (Contains edges) p (map (edge_at edges) places) q
+trail_at : (edges : List LiveEdge) (p q : ℕ) (places : List ℕ) → All (λ place. place < length edges) places → IsWalk (map arc_of edges) p (map (arc_at (map arc_of edges)) places) q
+    → IsTrail (Contains edges) p (map (edge_at edges) places) q
 trail_at edges p q [] within walk = walk
 trail_at edges p q (place ∷ places) within walk =
     let here : place < length edges = All-head (λ k. k < length edges) place places within in
@@ -33,9 +35,13 @@ trail_at edges p q (place ∷ places) within walk =
     )
 
 -- a shortest path was added
-pub way_added : (edges : List LiveEdge) (arcs : List (ℕ × ℕ)) (found places : List ℕ) (p q : ℕ) (old new : List LiveEdge) → arcs ≡ map arc_of edges → places ≡ found → IsShortest arcs p q found → new ≡ old ++ map (edge_at edges) places → GoesOn (Contains edges) p q old new
+pub way_added : (edges : List LiveEdge) (arcs : List (ℕ × ℕ)) (found places : List ℕ) (p q : ℕ) (old new : List LiveEdge) → arcs ≡ map arc_of edges → places ≡ found
+    → IsShortest arcs p q found → new ≡ old ++ map (edge_at edges) places → GoesOn (Contains edges) p q old new
 way_added edges arcs found places p q old new arcs_are same shortest made =
-    let inside : All (λ place. place < length edges) places = subst (All (λ place. place < length edges)) (sym same) (All-weaker (λ place. place < length arcs) (λ place. place < length edges) (λ place below. let long : length arcs ≡ length edges = ap length arcs_are ∙ length-map edges arc_of in omega arith) found shortest.placed) in
+    let inside : All (λ place. place < length edges) places =
+    subst (All (λ place. place < length edges)) (sym same)
+    (All-weaker (λ place. place < length arcs) (λ place. place < length edges) (λ place below. let long : length arcs ≡ length edges = ap length arcs_are
+    ∙ length-map edges arc_of in omega arith) found shortest.placed) in
     let walk = subst (λ ps. IsWalk (map arc_of edges) p (map (arc_at (map arc_of edges)) ps) q) (sym same) (subst (λ arcs. IsWalk arcs p (map (arc_at arcs) found) q) arcs_are shortest.walks) in
     record { way = map (edge_at edges) places; added = made; leads = trail_at edges p q places inside walk }
 
@@ -64,20 +70,24 @@ module _ (edges needed : List LiveEdge) (joined : IsJoined edges) (inside : All 
   pub tours_reaches : (cycle : List LiveEdge) (first at : ℕ) → ToursSoFar edges (take i needed) cycle first at → Reaches (map arc_of edges) at next.from
   tours_reaches cycle first at so_far = so_far.goes_on next next_inside
 
-  pub tours_more : (cycle mid new : List LiveEdge) (first at : ℕ) → ToursSoFar edges (take i needed) cycle first at → GoesOn (Contains edges) at next.from cycle mid → new ≡ mid ++ next ∷ [] → ToursSoFar edges (take (i + 1) needed) new first next.to
+  pub tours_more : (cycle mid new : List LiveEdge) (first at : ℕ) → ToursSoFar edges (take i needed) cycle first at → GoesOn (Contains edges) at next.from cycle mid → new ≡ mid ++ next ∷ []
+      → ToursSoFar edges (take (i + 1) needed) new first next.to
   tours_more cycle mid new first at so_far on made =
       let whole : new ≡ (cycle ++ on.way) ++ next ∷ [] = made ∙ ap (λ es. es ++ next ∷ []) on.added in
       subst (λ done. ToursSoFar edges done new first next.to) (sym (take-push needed i next within (get_or_default needed i _ next within)))
       (subst (λ es. ToursSoFar edges (take i needed ++ next ∷ []) es first next.to) (sym whole) (record {
-        leads = trail_then (Contains edges) first next.from next.to (cycle ++ on.way) (next ∷ []) (trail_then (Contains edges) first at next.from cycle on.way so_far.leads on.leads) (next_inside, refl, refl);
+        leads = trail_then (Contains edges) first next.from next.to (cycle ++ on.way) (next ∷ []) (trail_then (Contains edges) first at next.from cycle on.way so_far.leads on.leads)
+            (next_inside, refl, refl);
         passes = All-push (Contains ((cycle ++ on.way) ++ next ∷ [])) (take i needed) next
-            (All-weaker (Contains cycle) (Contains ((cycle ++ on.way) ++ next ∷ [])) (λ e here. Contains-append_left (cycle ++ on.way) (next ∷ []) e (Contains-append_left cycle on.way e here)) (take i needed) so_far.passes)
+            (All-weaker (Contains cycle) (Contains ((cycle ++ on.way) ++ next ∷ []))
+            (λ e here. Contains-append_left (cycle ++ on.way) (next ∷ []) e (Contains-append_left cycle on.way e here)) (take i needed) so_far.passes)
             (Contains-push (cycle ++ on.way) next);
         goes_on = λ e here. joined next e next_inside here;
       }))
 
 -- the path is closed
-pub tours_all : (edges needed cycle new : List LiveEdge) (i first at : ℕ) → 0 < length needed → length needed ≤ i → ToursSoFar edges (take i needed) cycle first at → GoesOn (Contains edges) at first cycle new → IsTour edges needed new
+pub tours_all : (edges needed cycle new : List LiveEdge) (i first at : ℕ) → 0 < length needed → length needed ≤ i → ToursSoFar edges (take i needed) cycle first at
+    → GoesOn (Contains edges) at first cycle new → IsTour edges needed new
 tours_all edges needed cycle new i first at some all so_far on =
     subst (IsTour edges needed) (sym on.added) (record {
       some = longer needed passes some;

@@ -38,7 +38,8 @@ trail_reaches edges p q es trail = record { walk = map arc_of es; leads = walk_o
     walk_of p q (e ∷ es) trail = (there_map arc_of edges e trail.0, trail.1, walk_of e.to q es trail.2)
 
 -- the graph of the edges has their ends as nodes
-pub has_nodes : (nodes states : ℕ) (arcs : List (ℕ × ℕ)) (edges : List LiveEdge) → nodes ≡ states → arcs ≡ map arc_of edges → All (λ (e : LiveEdge). (e.from < states) × (e.to < states)) edges → All (λ (a : ℕ × ℕ). (a.0 < nodes) × (a.1 < nodes)) arcs
+pub has_nodes : (nodes states : ℕ) (arcs : List (ℕ × ℕ)) (edges : List LiveEdge) → nodes ≡ states → arcs ≡ map arc_of edges
+    → All (λ (e : LiveEdge). (e.from < states) × (e.to < states)) edges → All (λ (a : ℕ × ℕ). (a.0 < nodes) × (a.1 < nodes)) arcs
 has_nodes nodes states arcs edges same made ends =
     subst (All (λ (a : ℕ × ℕ). (a.0 < nodes) × (a.1 < nodes))) (sym made)
     (subst (λ n. All (λ (a : ℕ × ℕ). (a.0 < n) × (a.1 < n)) (map arc_of edges)) (sym same) (All-map (λ (a : ℕ × ℕ). (a.0 < states) × (a.1 < states)) arc_of edges ends))

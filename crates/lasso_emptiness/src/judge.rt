@@ -14,6 +14,7 @@ use crate::verdict::Verdict;
 use aut_base::{Formula, Formulas};
 use aut_core::Link;
 
+// Why so: 'The search for an accepted word judges a component as a whole' in docs/DECISIONS.md.
 /// Whether the edges together meet the condition, or no cycle of some of them does, or on which side of a set that
 /// depends. A `Fin` that they meet together is met by each cycle of them.
 #[cycle(judge)]

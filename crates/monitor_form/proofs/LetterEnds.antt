@@ -1,5 +1,6 @@
 -- The states to which edges lead at a letter, link by link, and the goals of a set as these in rising order.
-use Rattle.std.proofs.Common.{◌≡◌, ◌∙◌, ◌+◌, ◌<◌, ◌≤◌, ◌==◌, ◌&&◌, ℕ, Bool, true, false, cond, Contains, List, [], ◌∷◌, ◌++◌, Some, ap, eq-eqb, filter, get_or, length, map, refl, slice_get, subst, sym, take}
+use Rattle.std.proofs.Common.{◌≡◌, ◌∙◌, ◌+◌, ◌<◌, ◌≤◌, ◌==◌, ◌&&◌, ℕ, Bool, true, false, cond, Contains, List, [], ◌∷◌, ◌++◌, Some, ap, eq-eqb}
+use Rattle.std.proofs.Common.{filter, get_or, length, map, refl, slice_get, subst, sym, take}
 use Rattle.std.proofs.lemmas.Bool.{and_from, and_parts, eqb-true}
 use Rattle.std.proofs.lemmas.List.{append-nil, append_assoc, map-append, take_all}
 use Rattle.std.proofs.lemmas.List.Elements.{All-contains, filter-append}

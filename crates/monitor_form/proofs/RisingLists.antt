@@ -42,7 +42,8 @@ increases_of low (x ∷ xs) rises first = (
 -- one that has the numbers below n that pass
 pub kept_of_range : (p : ℕ → Bool) (n : ℕ) (xs : List ℕ) → IsStrictlyIncreasing xs → ((q : ℕ) → Contains xs q → (q < n) × (p q ≡ true)) → ((q : ℕ) → q < n → p q ≡ true → Contains xs q)
     → xs ≡ filter p (range_with_len 0 n)
-kept_of_range p n xs rises to back = same_members 0 xs (filter p (range_with_len 0 n)) (increases_of 0 xs (AllPairs-from_increasing xs rises) (λ d some. omega arith)) (increases_kept p 0 (range_with_len 0 n) (increases_range 0 n))
+kept_of_range p n xs rises to back = same_members 0 xs (filter p (range_with_len 0 n)) (increases_of 0 xs (AllPairs-from_increasing xs rises) (λ d some. omega arith))
+    (increases_kept p 0 (range_with_len 0 n) (increases_range 0 n))
     (λ q there. (let h = to q there in there_filter p (range_with_len 0 n) q (there_range_zero n q h.0) h.1))
     (λ q there. (
     let h = from_filter p (range_with_len 0 n) q there in

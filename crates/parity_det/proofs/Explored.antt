@@ -1,5 +1,6 @@
 -- The trees that an exploration finds, and the steps between them.
-use Rattle.std.proofs.Common.{◌≡◌, ◌∙◌, ◌<◌, ◌≤◌, ◌==◌, ℕ, suc, zero, Bool, true, false, cond, Contains, List, [], ◌∷◌, None, Option, Some, ap, arith, eq-eqb, get_or, leb, length, refl, slice_get, subst, sym}
+use Rattle.std.proofs.Common.{◌≡◌, ◌∙◌, ◌<◌, ◌≤◌, ◌==◌, ℕ, suc, zero, Bool, true, false, cond, Contains, List, [], ◌∷◌, None, Option, Some, ap, arith}
+use Rattle.std.proofs.Common.{eq-eqb, get_or, leb, length, refl, slice_get, subst, sym}
 use Rattle.std.proofs.lemmas.Bool.{eqb-true, leb-false, leb-true, true≢false}
 use Rattle.std.proofs.lemmas.Option.{get_or_from_slice_get, slice_get-get_or, slice_get_within}
 use Rattle.aut_base.proofs.Members.{any_found, any_from, from_filter, from_flat_map, from_map, there_filter, there_flat_map, there_map, there_at}

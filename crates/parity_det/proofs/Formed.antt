@@ -79,7 +79,8 @@ module _ (b : Automaton) (trees : List (List Node)) (arrows : List Arrow) (is : 
       let edge = edge_for (tree_moves b) same_tree (start_tree b) trees arrows is i at.0 t (next_tree b.states (class_moves b t w) t) here counted gives in
       let a = edge.0 in
       let same : (parity_edge b trees (width trees) a).label ≡ class_label n labels w =
-      (λ j. class_label n (labels_at (edge.2 j)) (get_or (tree_classes b (tree_at trees (edge.2 j))) (edge.3 j) [])) ∙ ap (class_label n labels) (get_or_from_slice_get (tree_classes b t) at.0 w [] at.1) in
+      (λ j. class_label n (labels_at (edge.2 j)) (get_or (tree_classes b (tree_at trees (edge.2 j))) (edge.3 j) []))
+      ∙ ap (class_label n labels) (get_or_from_slice_get (tree_classes b t) at.0 w [] at.1) in
       record {
         edge = parity_edge b trees (width trees) a;
         is_edge = there_map (parity_edge b trees (width trees)) arrows a (placed_there arrows edge.1.0 a edge.1.1);

@@ -14,7 +14,9 @@ use Rattle.aut_base.specs.declared.limit.Limit.{Limit}
 use Rattle.filter_plan.specs.declared.plan.Plan.{Plan}
 use Rattle.plan_meaning.proofs.CanonicalEdges.{same_met, settled}
 use Rattle.plan_meaning.proofs.CanonicalRuns.{unambiguous_one, unambiguous_other}
-use Rattle.plan_meaning.specs.Filters.{AcceptsWord, AllHold, Edges, EquivalentTo, FailsAt, Filter, Holds, HoldsWithin, IncludedIn, Intersects, IsComplete, IsDeterministic, IsDroppedBy, IsEmpty, IsKeptBy, IsUnambiguous, Judged, LacksWithin, Names, Passes, PassesAt, RejectsWord, Sets, States, filters}
+use Rattle.plan_meaning.specs.Filters.{AcceptsWord, AllHold, Edges, EquivalentTo, FailsAt, Filter, Holds, HoldsWithin, IncludedIn, Intersects}
+use Rattle.plan_meaning.specs.Filters.{IsComplete, IsDeterministic, IsDroppedBy, IsEmpty, IsKeptBy, IsUnambiguous, Judged, LacksWithin, Names, Passes}
+use Rattle.plan_meaning.specs.Filters.{PassesAt, RejectsWord, Sets, States, filters}
 use Rattle.plan_meaning.specs.Limits.{PassesOfBoth, PassesOfEquivalence, PassesOfInclusion, PassesOfSquare, PassesOfWord}
 use Rattle.plan_meaning.specs.declared.fault.PlanFault.{PlanFault}
 use Rattle.plan_meaning.specs.declared.fault.PlanFault.TheVariants as fault

@@ -20,7 +20,8 @@ use Rattle.parity_det.proofs.ParityLaws.{complement_is_determined, parity_exclud
 use Rattle.parity_det.specs.Complements as det
 use Rattle.parity_det.specs.declared.fault.CompFault.{CompFault}
 use Rattle.parity_det.specs.declared.fault.CompFault.TheVariants as comp
-use Rattle.plan_meaning.specs.Changes.{Bring, Change, Complement, Complete, IsInForm, Makes, MakesAll, MakesWithin, PassesBuchi, PassesDnf, PassesForm, PassesIn, PassesMonitor, PassesWithoutFin, Product, ProductOr, RemoveAp, StopsIn, Sum, Trim}
+use Rattle.plan_meaning.specs.Changes.{Bring, Change, Complement, Complete, IsInForm, Makes, MakesAll, MakesWithin, PassesBuchi, PassesDnf}
+use Rattle.plan_meaning.specs.Changes.{PassesForm, PassesIn, PassesMonitor, PassesWithoutFin, Product, ProductOr, RemoveAp, StopsIn, Sum, Trim}
 use Rattle.plan_meaning.specs.Laws.{ChangesAreDetermined}
 use Rattle.plan_meaning.specs.Limits.{HaveFewNames, HaveManyNames, PassesOfBoth, PassesOfEither, PassesOfSum, PassesParity}
 
@@ -120,7 +121,8 @@ record IsOfSubsets (which : Limit) (a : Automaton) : Type 0 where
 one_of_monitor : (which other : Limit) (a : Automaton) → PassesMonitor which a → PassesMonitor other a → which ≡ other
 one_of_monitor which other a h k = joined (of_monitor which a h) (of_monitor other a k)
   where
-    of_monitor : (l : Limit) (x : Automaton) → PassesMonitor l x → ((l ≡ limit.Terms) × NeedsTooManyTerms x.formula) ⊎ (((l ≡ limit.BuchiStates) × (NeedsTooManyTerms x.formula → ⊥) × (MOST_BUCHI_STATES < buchi_states x)) ⊎ IsOfSubsets l x)
+    of_monitor : (l : Limit) (x : Automaton) → PassesMonitor l x
+        → ((l ≡ limit.Terms) × NeedsTooManyTerms x.formula) ⊎ (((l ≡ limit.BuchiStates) × (NeedsTooManyTerms x.formula → ⊥) × (MOST_BUCHI_STATES < buchi_states x)) ⊎ IsOfSubsets l x)
     of_monitor limit.Terms x p = inl (refl, p)
     of_monitor limit.BuchiStates x p = inr (inl (refl, p.0, p.1))
     of_monitor limit.Classes x p = inr (inr (record { few = p.0; fault = explored.Classes; meets = p.1; shown = refl }))
@@ -128,7 +130,8 @@ one_of_monitor which other a h k = joined (of_monitor which a h) (of_monitor oth
     of_monitor _ x p = absurd p
 
     joined : ((which ≡ limit.Terms) × NeedsTooManyTerms a.formula) ⊎ (((which ≡ limit.BuchiStates) × (NeedsTooManyTerms a.formula → ⊥) × (MOST_BUCHI_STATES < buchi_states a)) ⊎ IsOfSubsets which a)
-        → ((other ≡ limit.Terms) × NeedsTooManyTerms a.formula) ⊎ (((other ≡ limit.BuchiStates) × (NeedsTooManyTerms a.formula → ⊥) × (MOST_BUCHI_STATES < buchi_states a)) ⊎ IsOfSubsets other a) → which ≡ other
+        → ((other ≡ limit.Terms) × NeedsTooManyTerms a.formula)
+        ⊎ (((other ≡ limit.BuchiStates) × (NeedsTooManyTerms a.formula → ⊥) × (MOST_BUCHI_STATES < buchi_states a)) ⊎ IsOfSubsets other a) → which ≡ other
     joined (inl x) (inl y) = x.0 ∙ sym y.0
     joined (inl x) (inr (inl y)) = absurd (y.1 x.1)
     joined (inl x) (inr (inr y)) = absurd (y.few x.1)

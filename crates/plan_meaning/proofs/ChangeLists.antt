@@ -34,7 +34,8 @@ module _ (xs : List (Option coded.Change)) (i : ℕ) (d o : Option coded.Change)
 
 -- ---- places and sizes
 
-pub at_place : (n : ℕ) (xs : List (Option coded.Change)) (i : ℕ) (d : Option coded.Change) (c : coded.Change) → AreInOrder n xs → i < length xs → get_or xs i d ≡ Some c → (place_of c ≡ n + i) × IsPossible c
+pub at_place : (n : ℕ) (xs : List (Option coded.Change)) (i : ℕ) (d : Option coded.Change) (c : coded.Change) → AreInOrder n xs → i < length xs → get_or xs i d ≡ Some c
+    → (place_of c ≡ n + i) × IsPossible c
 at_place n [] i d c order lt is = absurd (omega (arith, lt))
 at_place n (o ∷ os) zero d c order lt is = let there = subst (λ (x : Option coded.Change). IfSome x (λ y. (place_of y ≡ n) × IsPossible y)) is order.0 in (omega (arith, there.0), there.1)
 at_place n (o ∷ os) (suc i) d c order lt is = let there = at_place (suc n) os i d c order.1 (omega (arith, lt)) is in (omega (arith, there.0), there.1)

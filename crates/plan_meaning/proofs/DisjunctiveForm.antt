@@ -37,8 +37,10 @@ module _ (n : ℕ) where
     terms_below False h = tt
     terms_below (Inf set neg) h = ((h, tt), tt)
     terms_below (Fin set neg) h = ((h, tt), tt)
-    terms_below (And a b cs) h = pairs_below (terms a) (choices (terms b ∷ each_terms cs)) (terms_below a h.0) (pairs_below (terms b) (choices (each_terms cs)) (terms_below b h.1) (choices_below cs h.2))
-    terms_below (Or a b cs) h = AllByRecursion-append TermBelow (terms a) (terms b ++ flat_map (λ those. those) (each_terms cs)) (terms_below a h.0) (AllByRecursion-append TermBelow (terms b) (flat_map (λ those. those) (each_terms cs)) (terms_below b h.1) (each_below cs h.2))
+    terms_below (And a b cs) h = pairs_below (terms a) (choices (terms b ∷ each_terms cs)) (terms_below a h.0)
+        (pairs_below (terms b) (choices (each_terms cs)) (terms_below b h.1) (choices_below cs h.2))
+    terms_below (Or a b cs) h = AllByRecursion-append TermBelow (terms a) (terms b ++ flat_map (λ those. those) (each_terms cs)) (terms_below a h.0)
+        (AllByRecursion-append TermBelow (terms b) (flat_map (λ those. those) (each_terms cs)) (terms_below b h.1) (each_below cs h.2))
 
     choices_below : (fs : FormulaTrees) → EachSetsBelow n fs → TermsBelow (choices (each_terms fs))
     choices_below none h = (tt, tt)
@@ -57,7 +59,8 @@ path_under f a p (x ∷ xs) [] q h = h
 path_under f a p (x ∷ xs) (e ∷ es) q h = (h.0, h.1, h.2, path_under f a e.to xs es q h.3)
 
 -- under a condition that holds wherever its own does
-accepts_under : (f : FormulaTree) (a : Automaton) → ((cycle : List (List ℕ)) → met cycle a.formula ≡ true → met cycle f ≡ true) → (u v : List NameSet) → Accepts a u v → Accepts (record a { formula = f }) u v
+accepts_under : (f : FormulaTree) (a : Automaton) → ((cycle : List (List ℕ)) → met cycle a.formula ≡ true → met cycle f ≡ true) → (u v : List NameSet) → Accepts a u v
+    → Accepts (record a { formula = f }) u v
 accepts_under f a holds u v r = record {
   endless = r.endless;
   start = r.start;

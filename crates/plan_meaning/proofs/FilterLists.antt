@@ -21,8 +21,10 @@ module _ (xs : List (Option coded.Filter)) (i : ℕ) (d o : Option coded.Filter)
   -- this one is the last that is examined
   pub ends : (f : coded.Filter) (r : Result Bool PlanFault) → o ≡ Some f → (r ≡ Ok true → ⊥) → Examines r (filter_of f) a → JudgesWithin r (asked_for xs) a
   ends f (Ok true) some not_true this = absurd (not_true refl)
-  ends f (Ok false) some not_true this = record { before = asked_for (take i xs); filter = filter_of f; after = asked_for (drop (i + 1) xs); all = parted filter_of xs i d o lt is f some; held = held; fails = this }
-  ends f (Err (fault.Limit which)) some not_true this = record { before = asked_for (take i xs); filter = filter_of f; after = asked_for (drop (i + 1) xs); all = parted filter_of xs i d o lt is f some; held = held; passes = this }
+  ends f (Ok false) some not_true this = record
+      { before = asked_for (take i xs); filter = filter_of f; after = asked_for (drop (i + 1) xs); all = parted filter_of xs i d o lt is f some; held = held; fails = this }
+  ends f (Err (fault.Limit which)) some not_true this =
+      record { before = asked_for (take i xs); filter = filter_of f; after = asked_for (drop (i + 1) xs); all = parted filter_of xs i d o lt is f some; held = held; passes = this }
   ends f (Err fault.Memory) some not_true this = tt
 
 -- a fault that is passed on

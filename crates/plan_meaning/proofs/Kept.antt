@@ -61,6 +61,7 @@ module _ (p : Plan) (ops : List Automaton) where
   are_from (x ∷ xs) h = All-cons (λ y. IfSome y (IsFrom p ops)) x xs h.0 (are_from xs h.1)
 
 -- an operand that stands is what the definition says
-pub operand_is : {B : Type 0} (P : B → Type 0) (view : B → Automaton) (found : Option B) (there : Option Automaton) → option_map view found ≡ there → IfSome found P → IfSome found (λ x. P x × (there ≡ Some (view x)))
+pub operand_is : {B : Type 0} (P : B → Type 0) (view : B → Automaton) (found : Option B) (there : Option Automaton) → option_map view found ≡ there → IfSome found P
+    → IfSome found (λ x. P x × (there ≡ Some (view x)))
 operand_is P view None there is h = tt
 operand_is P view (Some x) there is h = (h, sym is)

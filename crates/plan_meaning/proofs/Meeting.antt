@@ -30,7 +30,8 @@ none_passed a b made law names is few limit.Pairs more = law conj (over_both a b
 none_passed a b made law names is few _ other = other
 
 -- the same of one whose labels are canonical
-pub within_product : (a b made : Automaton) → FewPairsExcludeMore → canonical a ≡ a → HaveFewNames a b → IsProductOf a b made → made.states ≤ MOST_PAIRS → (which : Limit) → PassesOfBoth which (canonical a) b → ⊥
+pub within_product : (a b made : Automaton) → FewPairsExcludeMore → canonical a ≡ a → HaveFewNames a b → IsProductOf a b made → made.states ≤ MOST_PAIRS → (which : Limit)
+    → PassesOfBoth which (canonical a) b → ⊥
 within_product a b made law settled names is few which passed =
     none_passed a b made law names is few which (subst (λ (x : Automaton). PassesOfBoth which x b) settled passed)
 
@@ -60,7 +61,8 @@ not_empty a found w is h =
 swapped : (a b : Automaton) → AcceptTogether a b → AcceptTogether b a
 swapped a b h = record { stem = h.stem; cycle = h.cycle; first = h.second; second = h.first }
 
-module _ (p : WordPattern) (word a : Automaton) (accepts : (b : Automaton) → AcceptTogether word b ↔ AcceptsPattern p b) (is : word ≡ canonical (word_automaton p)) (few : length p.names ≤ MOST_NAMES) where
+module _ (p : WordPattern) (word a : Automaton) (accepts : (b : Automaton) → AcceptTogether word b ↔ AcceptsPattern p b) (is : word ≡ canonical (word_automaton p))
+    (few : length p.names ≤ MOST_NAMES) where
   passed_by_word : (which : Limit) → PassesOfBoth which (canonical a) word → PassesOfWord which (canonical a) p
   passed_by_word which passed = inr (few, subst (λ (x : Automaton). PassesOfBoth which (canonical a) x) is passed)
 

@@ -33,7 +33,8 @@ module _ (a : Automaton) where
   has_prefix : (u v : List NameSet) (n : ℕ) → SomePrefix (λ x y. Accepts a x y) u v n → HasPrefix a u v n
   has_prefix u v n p = record { stem = p.stem; cycle = p.cycle; accepted = p.said; same = p.same }
 
-  pub monitor_made : (made : Automaton) → (NeedsTooManyTerms a.formula → ⊥) → buchi_states a ≤ MOST_BUCHI_STATES → ((f : Fault) → MeetsLimit a f → ⊥) → IsMonitor a made → IsDeterministic made → AcceptsPrefixes made a → IsMade (Bring form.Monitor ∷ []) a made
+  pub monitor_made : (made : Automaton) → (NeedsTooManyTerms a.formula → ⊥) → buchi_states a ≤ MOST_BUCHI_STATES → ((f : Fault) → MeetsLimit a f → ⊥) → IsMonitor a made
+      → IsDeterministic made → AcceptsPrefixes made a → IsMade (Bring form.Monitor ∷ []) a made
   monitor_made made terms few none is deterministic accepts = record {
     all = (made, record { within = within terms few none; makes = is }, deterministic, refl);
     says = λ u v some. (
@@ -43,7 +44,8 @@ module _ (a : Automaton) where
   }
 
   -- what a refusal says, which is that of terms where they are needed and too many
-  pub monitor_refused : (f : MonFault) → (NeedsTooManyTerms a.formula → f ≡ monitor.Terms) → (f ≡ monitor.Terms → NeedsTooManyTerms a.formula) → (f ≡ monitor.BuchiStates → MOST_BUCHI_STATES < buchi_states a)
+  pub monitor_refused : (f : MonFault) → (NeedsTooManyTerms a.formula → f ≡ monitor.Terms) → (f ≡ monitor.Terms → NeedsTooManyTerms a.formula)
+      → (f ≡ monitor.BuchiStates → MOST_BUCHI_STATES < buchi_states a)
       → (f ≡ monitor.Classes → MeetsLimit a explored.Classes) → (f ≡ monitor.Subsets → MeetsLimit a explored.Things) → Steps (Bring form.Monitor ∷ []) a (Err (fault_of_monitor f))
   monitor_refused monitor.Terms passed terms states classes subsets = inl (terms refl)
   monitor_refused monitor.BuchiStates passed terms states classes subsets = inl ((λ many. let told = passed many in cc), states refl)

@@ -11,7 +11,8 @@ use Rattle.plan_meaning.specs.Operands.{IsOfReadSize, place_of_refuted}
 
 -- the operand at a place is one of them
 pub sized_at : (ops : List Core) (place : ℕ) (one : Core) → place < length ops → All IsOfReadSize (map automaton_of ops) → slice_index_or ops place one ≡ one → IsOfReadSize (automaton_of one)
-sized_at ops place one within sized there = subst IsOfReadSize (get_or-map automaton_of ops place one (automaton_of one) within ∙ ap automaton_of there) (sized place (automaton_of one) (omega (arith, within, length-map ops automaton_of)))
+sized_at ops place one within sized there = subst IsOfReadSize (get_or-map automaton_of ops place one (automaton_of one) within ∙ ap automaton_of there)
+    (sized place (automaton_of one) (omega (arith, within, length-map ops automaton_of)))
 
 -- that of a refutation is there
 pub refuted_within : (p : Plan) (file : List ℕ) (ops : List Core) → length (map automaton_of ops) ≡ length (operands p) → refuted p.output ≡ Some file → place_of_refuted p < length ops
@@ -23,4 +24,15 @@ refuted_within p file ops number is =
     let met = listed p.intersect ++ products in
     let compared = listed p.equivalent_to ++ met in
     let one : length last ≡ 1 = ap (λ o. length (listed o)) is in
-    omega (arith, one, number, length-map ops automaton_of, length-append (listed p.sum) last, length-append (listed p.product_or) sums, length-append (listed p.product) unions, length-append (listed p.intersect) products, length-append (listed p.equivalent_to) met, length-append (listed p.included_in) compared)
+    omega (
+      arith,
+      one,
+      number,
+      length-map ops automaton_of,
+      length-append (listed p.sum) last,
+      length-append (listed p.product_or) sums,
+      length-append (listed p.product) unions,
+      length-append (listed p.intersect) products,
+      length-append (listed p.equivalent_to) met,
+      length-append (listed p.included_in) compared,
+    )

@@ -11,11 +11,13 @@ use Rattle.plan_meaning.specs.Standing.{those_standing}
 -- ---- the list as far as a loop has come
 
 -- one item more
-pub one_more : {C S : Type 0} (spec : C → S) (xs : List (Option C)) (i : ℕ) (d o : Option C) → i < length xs → get_or xs i d ≡ o → filter_map (option_map spec) (take (i + 1) xs) ≡ filter_map (option_map spec) (take i xs) ++ filter_map (option_map spec) (o ∷ [])
+pub one_more : {C S : Type 0} (spec : C → S) (xs : List (Option C)) (i : ℕ) (d o : Option C) → i < length xs → get_or xs i d ≡ o
+    → filter_map (option_map spec) (take (i + 1) xs) ≡ filter_map (option_map spec) (take i xs) ++ filter_map (option_map spec) (o ∷ [])
 one_more spec xs i d o lt is = ap (filter_map (option_map spec)) (take_more xs i d lt ∙ ap (λ x. take i xs ++ x ∷ []) is) ∙ filter_map-append (option_map spec) (take i xs) (o ∷ [])
 
 -- what stands before an item, the item, and what stands behind it
-pub parted : {C S : Type 0} (spec : C → S) (xs : List (Option C)) (i : ℕ) (d o : Option C) → i < length xs → get_or xs i d ≡ o → (f : C) → o ≡ Some f → filter_map (option_map spec) xs ≡ filter_map (option_map spec) (take i xs) ++ spec f ∷ filter_map (option_map spec) (drop (i + 1) xs)
+pub parted : {C S : Type 0} (spec : C → S) (xs : List (Option C)) (i : ℕ) (d o : Option C) → i < length xs → get_or xs i d ≡ o → (f : C) → o ≡ Some f
+    → filter_map (option_map spec) xs ≡ filter_map (option_map spec) (take i xs) ++ spec f ∷ filter_map (option_map spec) (drop (i + 1) xs)
 parted spec xs i d o lt is f some =
     let asked = filter_map (option_map spec) in
     sym (ap asked (take-append-drop (i + 1) xs)) ∙ filter_map-append (option_map spec) (take (i + 1) xs) (drop (i + 1) xs)
@@ -35,7 +37,8 @@ pub same_standing : {C S : Type 0} (spec : C → S) (xs : List (Option C)) (os :
 same_standing spec xs os e = standing spec xs ∙ ap those_standing e
 
 -- an item by an option that has a value: `wrap` makes it in code of what definitions see as `view`
-pub by_option : {A B C S : Type 0} (spec : C → S) (view : B → A) (wrap : B → C) (meaning : A → S) → ((x : B) → spec (wrap x) ≡ meaning (view x)) → (o : Option B) (p : Option A) (r : Option C) → MatchOption o (r ≡ None) (λ x. IsSomeAnd r (λ y. y ≡ wrap x)) → option_map view o ≡ p → option_map spec r ≡ option_map meaning p
+pub by_option : {A B C S : Type 0} (spec : C → S) (view : B → A) (wrap : B → C) (meaning : A → S) → ((x : B) → spec (wrap x) ≡ meaning (view x))
+    → (o : Option B) (p : Option A) (r : Option C) → MatchOption o (r ≡ None) (λ x. IsSomeAnd r (λ y. y ≡ wrap x)) → option_map view o ≡ p → option_map spec r ≡ option_map meaning p
 by_option spec view wrap meaning says None p r is there = ap (option_map spec) is ∙ ap (option_map meaning) there
 by_option spec view wrap meaning says (Some x) p None is there = absurd is
 by_option spec view wrap meaning says (Some x) p (Some y) is there = ap (λ z. Some (spec z)) is ∙ ap (λ z. Some z) (says x) ∙ ap (option_map meaning) there
@@ -48,7 +51,8 @@ by_flag spec false f r is = ap (option_map spec) is
 -- ---- what holds of an item that stands
 
 -- by an option, where something is known of its value
-pub of_option : {B C : Type 0} (Q : B → Type 0) (P : C → Type 0) (wrap : B → C) → ((x : B) → Q x → P (wrap x)) → (o : Option B) (r : Option C) → MatchOption o (r ≡ None) (λ x. IsSomeAnd r (λ y. y ≡ wrap x)) → IfSome o Q → IfSome r P
+pub of_option : {B C : Type 0} (Q : B → Type 0) (P : C → Type 0) (wrap : B → C) → ((x : B) → Q x → P (wrap x)) → (o : Option B) (r : Option C)
+    → MatchOption o (r ≡ None) (λ x. IsSomeAnd r (λ y. y ≡ wrap x)) → IfSome o Q → IfSome r P
 of_option {C = C} Q P wrap says None r is h = subst (λ (z : Option C). IfSome z P) (sym is) tt
 of_option Q P wrap says (Some x) None is h = tt
 of_option Q P wrap says (Some x) (Some y) is h = subst P (sym is) (says x h)

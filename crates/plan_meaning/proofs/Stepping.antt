@@ -12,14 +12,16 @@ use Rattle.aut_core.specs.Core.{Core, automaton_of}
 use Rattle.filter_plan.specs.declared.plan.Form.{Form}
 use Rattle.filter_plan.specs.declared.plan.Form.TheVariants as form
 use Rattle.filter_plan.specs.declared.plan.Hidden.{Hidden}
-use Rattle.plan_meaning.specs.Changes.{Bring, Change, ChangedTo, Complement, Complete, Language, Makes, MakesAll, PassesIn, Product, ProductOr, RemoveAp, StopsIn, Sum, Trim, SomePrefix, said_by, said_by_all, said_in_form}
+use Rattle.plan_meaning.specs.Changes.{Bring, Change, ChangedTo, Complement, Complete, Language, Makes, MakesAll, PassesIn, Product, ProductOr}
+use Rattle.plan_meaning.specs.Changes.{RemoveAp, StopsIn, Sum, Trim, SomePrefix, said_by, said_by_all, said_in_form}
 use Rattle.plan_meaning.specs.declared.fault.PlanFault.{PlanFault}
 use Rattle.plan_meaning.specs.declared.fault.PlanFault.TheVariants as fault
 use Rattle.plan_meaning.specs.inner.Stepping.{IsMade, MakesAsPromised, Promises, Steps}
 
 -- ---- one change, and none
 
-pub changed_once : (c : Change) (a made : Automaton) → ((which : Limit) → PassesIn which c a → ⊥) → Makes c a made → Promises c a made → ((u v : List NameSet) → Accepts made u v ↔ said_by c (λ x y. Accepts a x y) u v) → IsMade (c ∷ []) a made
+pub changed_once : (c : Change) (a made : Automaton) → ((which : Limit) → PassesIn which c a → ⊥) → Makes c a made → Promises c a made
+    → ((u v : List NameSet) → Accepts made u v ↔ said_by c (λ x y. Accepts a x y) u v) → IsMade (c ∷ []) a made
 changed_once c a made within makes promised says = record { all = (made, record { within = within; makes = makes }, promised, refl); says = λ u v some. says u v }
 
 -- one proposition hidden

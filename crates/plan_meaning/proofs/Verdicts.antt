@@ -6,7 +6,8 @@ use Rattle.aut_base.specs.declared.limit.Limit.{Limit}
 use Rattle.aut_base.specs.declared.limit.Limit.TheVariants as limit
 use Rattle.parity_det.proofs.ParityLaws.{complement_is_determined}
 use Rattle.plan_meaning.proofs.ChangeLaws.{of_parity, one_of_parity}
-use Rattle.plan_meaning.specs.Filters.{AcceptsWord, AllHold, EquivalentTo, FailsAt, Filter, HoldsWithin, IncludedIn, Intersects, IsDroppedBy, IsKeptBy, IsUnambiguous, LacksWithin, Passes, PassesAt, RejectsWord, filters}
+use Rattle.plan_meaning.specs.Filters.{AcceptsWord, AllHold, EquivalentTo, FailsAt, Filter, HoldsWithin, IncludedIn, Intersects, IsDroppedBy}
+use Rattle.plan_meaning.specs.Filters.{IsKeptBy, IsUnambiguous, LacksWithin, Passes, PassesAt, RejectsWord, filters}
 use Rattle.plan_meaning.specs.Laws.{Dropped, Kept, OneLimitOfInclusion, OneVerdict, Over, SomeVerdict}
 use Rattle.plan_meaning.specs.Limits.{HaveFewNames, HaveManyNames, PassesOfBoth, PassesOfEquivalence, PassesOfSquare, PassesOfWord}
 use Rattle.word_syntax.specs.Grammar.{WordPattern}
@@ -26,7 +27,8 @@ many_or_few a b many few = absurd (omega arith)
 one_of_both : (which other : Limit) (a b : Automaton) → PassesOfBoth which a b → PassesOfBoth other a b → which ≡ other
 one_of_both which other a b h k = joined (of_both which a b h) (of_both other a b k)
   where
-    joined : ((which ≡ limit.Names) × HaveManyNames a b) ⊎ ((which ≡ limit.Pairs) × HaveFewNames a b) → ((other ≡ limit.Names) × HaveManyNames a b) ⊎ ((other ≡ limit.Pairs) × HaveFewNames a b) → which ≡ other
+    joined : ((which ≡ limit.Names) × HaveManyNames a b) ⊎ ((which ≡ limit.Pairs) × HaveFewNames a b)
+        → ((other ≡ limit.Names) × HaveManyNames a b) ⊎ ((other ≡ limit.Pairs) × HaveFewNames a b) → which ≡ other
     joined (inl x) (inl y) = x.0 ∙ sym y.0
     joined (inl x) (inr y) = absurd (many_or_few a b x.1 y.1)
     joined (inr x) (inl y) = absurd (many_or_few a b y.1 x.1)
@@ -89,7 +91,8 @@ no_end So (f ∷ fs) a apart all (inl so) = apart f all.0 so
 no_end So (f ∷ fs) a apart all (inr rest) = no_end So fs a apart all.1 rest.1
 
 -- they end at one filter
-one_end : {G : Type 0} (So Also : Filter → Type 0) (fs : List Filter) (a : Automaton) → ((f : Filter) → HoldsWithin f a → So f → ⊥) → ((f : Filter) → HoldsWithin f a → Also f → ⊥) → ((f : Filter) → So f → Also f → G) → EndsIn So fs a → EndsIn Also fs a → G
+one_end : {G : Type 0} (So Also : Filter → Type 0) (fs : List Filter) (a : Automaton) → ((f : Filter) → HoldsWithin f a → So f → ⊥) → ((f : Filter) → HoldsWithin f a → Also f → ⊥)
+    → ((f : Filter) → So f → Also f → G) → EndsIn So fs a → EndsIn Also fs a → G
 one_end So Also [] a apart other joined h k = absurd h
 one_end So Also (f ∷ fs) a apart other joined (inl so) (inl also) = joined f so also
 one_end So Also (f ∷ fs) a apart other joined (inl so) (inr rest) = absurd (apart f rest.0 so)
@@ -110,10 +113,12 @@ module _ (fs : List Filter) (a : Automaton) where
   all_or_passes which all h = no_end (λ f. Passes which f a) fs a (passes_apart which) all (passes_in which fs a h)
 
   fails_or_passes : (which : Limit) → FailsAt fs a → PassesAt which fs a → ⊥
-  fails_or_passes which h k = one_end (λ f. LacksWithin f a) (λ f. Passes which f a) fs a lacks_apart (passes_apart which) (λ f lacks passed. lacks.within which passed) (fails_in fs a h) (passes_in which fs a k)
+  fails_or_passes which h k = one_end (λ f. LacksWithin f a) (λ f. Passes which f a) fs a lacks_apart (passes_apart which) (λ f lacks passed. lacks.within which passed) (fails_in fs a h)
+      (passes_in which fs a k)
 
   passes_one : (which other : Limit) → PassesAt which fs a → PassesAt other fs a → which ≡ other
-  passes_one which other h k = one_end (λ f. Passes which f a) (λ f. Passes other f a) fs a (passes_apart which) (passes_apart other) (λ f passed also. one_limit f which other a passed also) (passes_in which fs a h) (passes_in other fs a k)
+  passes_one which other h k = one_end (λ f. Passes which f a) (λ f. Passes other f a) fs a (passes_apart which) (passes_apart other) (λ f passed also. one_limit f which other a passed also)
+      (passes_in which fs a h) (passes_in other fs a k)
 
   -- ---- one verdict
 

@@ -14,6 +14,7 @@ use inclusion::counterexample;
 use parity_det::{CompFault, complement};
 use std::alloc::Global;
 
+// Why so: 'Complements of operands are kept beside the session, and lent to each call' in docs/DECISIONS.md.
 /// The complements of the operands of `--included-in`, `--equivalent-to` and `--refute`, as far as they were asked for. An
 /// operand that isn't deterministic is dear to complement, and many automata are compared with it.
 #[derive(Drop)]

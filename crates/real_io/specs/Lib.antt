@@ -1,3 +1,4 @@
 pub mod Left
 pub mod Opening
+pub mod Sent
 pub mod Unread

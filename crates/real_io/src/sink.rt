@@ -1,12 +1,13 @@
 //! A sink over a writer.
 
-ghost use Rattle.std.specs.Prelude.{◌≡◌, None, OnOk};
+ghost use Rattle.std.specs.Prelude.{◌≡◌, ◌≤◌, None, OnErr, OnOk, length, take};
 ghost use Rattle.std.specs.Io.KnownBytes.{Appends};
 ghost use Rattle.aut_io.specs.Seen.{Writes};
+ghost use Rattle.real_io.specs.Sent.{AppendsFront};
 
 use aut_base::Failed;
 use aut_io::Sink;
-use std::io::Write;
+use std::io::{ErrorKind, Write};
 
 /// Writes each piece at once, by as many calls of the system as it takes.
 #[derive(Drop)]
@@ -30,14 +31,42 @@ impl<W: Write> Sink for RealSink<W> {
 
     fn write(&mut self, piece: &[u8]) -> Result<(), Failed>
         ensures told { Writes (record { written = None; faults = self.old.faults }) piece.now result (record { written = None; faults = self.new.faults }) }
+
+        // The writer holds the piece more, or a front of it where the write failed: no byte is written twice or out of its turn.
         ensures gains { OnOk result (Appends (W.contents self.old.writer) (W.contents self.new.writer) piece.now) }
+        ensures front { OnErr result (AppendsFront (W.contents self.old.writer) (W.contents self.new.writer) piece.now) }
     {
-        match self.writer.write_all(piece) {
-            Ok(()) => Ok(()),
-            Err(_) => {
+        match send(&mut self.writer, piece) {
+            (_, Ok(())) => Ok(()),
+            (_, Err(fault)) => {
                 self.faults = self.faults.saturating_add(1);
-                Err(Failed)
+                Err(fault)
             }
         }
     }
+}
+
+/// Writes the bytes by as many calls as it takes, once more where a signal came between, and answers how many the writer took.
+/// A writer that takes none of them has failed, as for std's `write_all`, which doesn't say what it took before it failed.
+fn send<W: Write>(writer: &mut W, bytes: &[u8]) -> (usize, Result<(), Failed>)
+    ensures bound { result.0 ≤ length bytes.now }
+    ensures taken { Appends (W.contents writer.old) (W.contents writer.new) (take result.0 bytes.now) }
+    ensures all { OnOk result.1 (result.0 ≡ length bytes.now) }
+{
+    let mut sent = 0;
+    'writes: for _ in 0..u64::MAX {
+        if sent >= bytes.len() {
+            return (sent, Ok(()));
+        }
+        match writer.write(&bytes[sent..]) {
+            Ok(0) => return (sent, Err(Failed)),
+            Ok(count) => sent += count,
+            Err(error) => {
+                if error.kind() != ErrorKind::Interrupted {
+                    return (sent, Err(Failed));
+                }
+            }
+        }
+    }
+    (sent, Err(Failed))
 }

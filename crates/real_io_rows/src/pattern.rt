@@ -4,7 +4,7 @@ use crate::stop::Stop;
 use aut_io::Sink;
 use real_io::RealSink;
 use std::alloc::Global;
-use std::fs::File;
+use std::io::Write;
 
 /// The size of the file: three blocks and a part of one.
 pub(crate) const SIZE: u32 = 200_001;
@@ -17,9 +17,9 @@ pub(crate) fn pattern(place: u32) -> u8 {
     (place % 251) as u8
 }
 
-/// Writes the file piece by piece.
-pub(crate) fn write_pattern(alloc: Global, file: File) -> Result<(), Stop> {
-    let mut sink = RealSink::new(file);
+/// Writes the bytes of the file piece by piece.
+pub(crate) fn write_pattern<W: Write + Drop>(alloc: Global, writer: W) -> Result<(), Stop> {
+    let mut sink = RealSink::new(writer);
     let mut piece = Vec::new(alloc);
     for place in 0..SIZE {
         piece.push(pattern(place))?;
@@ -32,12 +32,12 @@ pub(crate) fn write_pattern(alloc: Global, file: File) -> Result<(), Stop> {
     Ok(())
 }
 
-/// Whether these are the bytes of the file.
-pub(crate) fn is_pattern(bytes: &[u8]) -> bool {
-    if bytes.len() != SIZE as usize {
+/// Whether these are the first bytes of the file, so many of them.
+pub(crate) fn is_pattern(bytes: &[u8], size: u32) -> bool {
+    if bytes.len() != size as usize {
         return false;
     }
-    for place in 0..SIZE {
+    for place in 0..size {
         if bytes[place as usize] != pattern(place) {
             return false;
         }

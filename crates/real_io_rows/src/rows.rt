@@ -81,7 +81,7 @@ pub(crate) fn is_met<I: Inputs>(alloc: Global, inputs: &mut I, row: &Row) -> Res
 }
 
 /// Whether these bytes of the pattern come next.
-fn gives<I: Inputs>(inputs: &mut I, from: u32, to: u32) -> Result<bool, Stop> {
+pub(crate) fn gives<I: Inputs>(inputs: &mut I, from: u32, to: u32) -> Result<bool, Stop> {
     for place in from..to {
         if inputs.next()? != Some(pattern(place)) {
             return Ok(false);
@@ -91,6 +91,6 @@ fn gives<I: Inputs>(inputs: &mut I, from: u32, to: u32) -> Result<bool, Stop> {
 }
 
 /// Whether nothing is left, and nothing comes after that.
-fn is_ended<I: Inputs>(inputs: &mut I) -> Result<bool, Stop> {
+pub(crate) fn is_ended<I: Inputs>(inputs: &mut I) -> Result<bool, Stop> {
     Ok(inputs.next()?.is_none() && inputs.next()?.is_none())
 }

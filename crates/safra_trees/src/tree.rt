@@ -5,6 +5,7 @@ ghost use Rattle.safra_trees.specs.Flat.{IsStored};
 
 use aut_base::Numbers;
 
+// Why so: 'Safra trees' in docs/DECISIONS.md.
 /// A compact Safra tree, or none. Contracts see it by `tree_of` of `specs/View` as the list of its nodes.
 ///
 /// Each state stands in one list, with the deepest node that holds it. So two trees are equal exactly where they are the

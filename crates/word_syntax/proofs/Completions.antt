@@ -35,7 +35,8 @@ of_letter place s next token.LeftBrace e = absurd (none_anyway s.ready next e)
 of_letter place s next token.RightBrace e = absurd (none_anyway s.ready next e)
 
 -- what a letter's reader does, a word's reader does within its letter
-pub lifted : (place : List ℕ → ℕ) (s : WordState) (a b : LetterState) (w : List Token) → has_letters s.stage ≡ true → Runs (letter_step place) a w b → Runs (word_step place) (with_letter s a) w (with_letter s b)
+pub lifted : (place : List ℕ → ℕ) (s : WordState) (a b : LetterState) (w : List Token) → has_letters s.stage ≡ true → Runs (letter_step place) a w b
+    → Runs (word_step place) (with_letter s a) w (with_letter s b)
 lifted place s a b [] has runs = ap (with_letter s) runs
 lifted place s a b (t ∷ w) has runs =
     (with_letter s runs.0, letter_taken place (with_letter s a) t (Some runs.0) (of_letter place a runs.0 t runs.1) has runs.1, lifted place s runs.0 b w has runs.2)
@@ -86,7 +87,8 @@ end_cycle place stem cycle l =
     record {
       more = rest.more ++ token.RightBrace ∷ [];
       last = last;
-      runs = runs_then (word_step place) s (with_letter s (ended [] rest.inner)) last rest.more (token.RightBrace ∷ []) (lifted place s l (ended [] rest.inner) rest.more refl rest.runs) (last, refl, refl);
+      runs = runs_then (word_step place) s (with_letter s (ended [] rest.inner)) last rest.more (token.RightBrace ∷ []) (lifted place s l (ended [] rest.inner) rest.more refl rest.runs)
+          (last, refl, refl);
       stage = refl;
       nameless = nameless_then rest.more (token.RightBrace ∷ []) rest.nameless refl;
     }
@@ -106,7 +108,8 @@ end_stem place stem cycle l =
     record {
       more = rest.more ++ (token.Semicolon ∷ token.Cycle ∷ behind.more);
       last = behind.last;
-      runs = runs_then (word_step place) s (with_letter s (ended [] rest.inner)) behind.last rest.more (token.Semicolon ∷ token.Cycle ∷ behind.more) (lifted place s l (ended [] rest.inner) rest.more refl rest.runs)
+      runs = runs_then (word_step place) s (with_letter s (ended [] rest.inner)) behind.last rest.more (token.Semicolon ∷ token.Cycle ∷ behind.more)
+          (lifted place s l (ended [] rest.inner) rest.more refl rest.runs)
           (word stem' cycle Stem none, refl, (word stem' cycle Brace none, refl, behind.runs));
       stage = behind.stage;
       nameless = nameless_then rest.more (token.Semicolon ∷ token.Cycle ∷ behind.more) rest.nameless behind.nameless;

@@ -1,5 +1,6 @@
 -- Places in a list that comes again and again.
-use Rattle.std.proofs.Common.{◌≡◌, ◌∙◌, ◌∷◌, ◌++◌, ◌+◌, ◌-◌, ◌*◌, ◌/◌, ◌%◌, ◌<◌, ◌≤◌, List, [], ap, arith, drop, inl, inr, length, length-append, length-drop, refl, slice_get, suc, sym, take, zero, if◌then◌else◌, ℕ}
+use Rattle.std.proofs.Common.{◌≡◌, ◌∙◌, ◌∷◌, ◌++◌, ◌+◌, ◌-◌, ◌*◌, ◌/◌, ◌%◌, ◌<◌, ◌≤◌, List, [], ap, arith, drop, inl, inr, length, length-append}
+use Rattle.std.proofs.Common.{length-drop, refl, slice_get, suc, sym, take, zero, if◌then◌else◌, ℕ}
 use Rattle.std.proofs.Math.Nat.{add-mod-mod, add-mod_right, add-mul-mod_self_left, mod-add-div, mod-eq_of_lt, mod-lt}
 use Rattle.std.proofs.lemmas.Bool.{cases_lt, le-ltb}
 use Rattle.std.proofs.lemmas.List.{length-take-le}

@@ -1,5 +1,6 @@
 -- The token that is found at the front of bytes is the one that stands there.
-use Rattle.std.proofs.Common.{◌≡◌, ◌∙◌, ◌∷◌, ◌++◌, ◌+◌, ◌<◌, ◌≤◌, ◌&&◌, ◌==◌, Bool, List, None, Option, Some, [], ap, arith, codes, cond, drop, false, inl, inr, length, length-append, nat_lt, ne_eqb, refl, subst, suc, sym, take, true, ℕ}
+use Rattle.std.proofs.Common.{◌≡◌, ◌∙◌, ◌∷◌, ◌++◌, ◌+◌, ◌<◌, ◌≤◌, ◌&&◌, ◌==◌, Bool, List, None, Option, Some, [], ap, arith, codes, cond, drop, false}
+use Rattle.std.proofs.Common.{inl, inr, length, length-append, nat_lt, ne_eqb, refl, subst, suc, sym, take, true, ℕ}
 use Rattle.std.proofs.lemmas.Bool.{and_from, and_left, and_right, cases_Bool, cond-false, cond-true, eqb-false, eqb-true, lt-ltb, or_from, or_left, or_parts}
 use Rattle.std.proofs.lemmas.List.{append_assoc, take-append-drop}
 use Rattle.std.proofs.lemmas.List.Sums.{prefix_len-le-length}
@@ -105,7 +106,8 @@ holds_cond : (bytes : List ℕ) (c : Bool) (x y : Option (Token × ℕ)) → (c 
 holds_cond bytes true x y h k = h refl
 holds_cond bytes false x y h k = k refl
 
-holds_map : (bytes : List ℕ) (c : Bool) (x y : Option Token) → (c ≡ true → Holds bytes (option_map (λ t. (t, 1)) x)) → (c ≡ false → Holds bytes (option_map (λ t. (t, 1)) y)) → Holds bytes (option_map (λ t. (t, 1)) (cond c x y))
+holds_map : (bytes : List ℕ) (c : Bool) (x y : Option Token) → (c ≡ true → Holds bytes (option_map (λ t. (t, 1)) x)) → (c ≡ false → Holds bytes (option_map (λ t. (t, 1)) y))
+    → Holds bytes (option_map (λ t. (t, 1)) (cond c x y))
 holds_map bytes true x y h k = h refl
 holds_map bytes false x y h k = k refl
 
@@ -126,7 +128,12 @@ and_holds [] = record { some = omega arith; within = omega arith; front = record
 and_holds (c ∷ cs) = elim (cases_Bool (c == 38)) [
   | inl e ↦ (let long : nat_lt 1 (length (38 ∷ c ∷ cs)) ≡ true = lt-ltb 1 (length (38 ∷ c ∷ cs)) (omega arith) in
       subst (λ (n : ℕ). HasFront (38 ∷ c ∷ cs) token.And n) (sym (cond-true _ _ _ (and_from _ _ long e)))
-      (record { some = omega arith; within = omega arith; front = record { word = codes "&&"; split = ap (λ (x : ℕ). 38 ∷ x ∷ cs) (eqb-true c 38 e); spells = inr refl; ends = ends_anyhow (codes "&&") cs (λ x. refl) } }))
+      (record {
+        some = omega arith;
+        within = omega arith;
+        front =
+            record { word = codes "&&"; split = ap (λ (x : ℕ). 38 ∷ x ∷ cs) (eqb-true c 38 e); spells = inr refl; ends = ends_anyhow (codes "&&") cs (λ x. refl) };
+      }))
   | inr e ↦ subst (λ (n : ℕ). HasFront (38 ∷ c ∷ cs) token.And n) (sym (cond-false _ _ _ (and_right (nat_lt 1 (length (38 ∷ c ∷ cs))) _ e)))
       (record { some = omega arith; within = omega arith; front = record { word = codes "&"; split = refl; spells = inl refl; ends = or_from _ _ e refl } })
 ]
@@ -136,7 +143,12 @@ or_holds [] = record { some = omega arith; within = omega arith; front = record 
 or_holds (c ∷ cs) = elim (cases_Bool (c == 124)) [
   | inl e ↦ (let long : nat_lt 1 (length (124 ∷ c ∷ cs)) ≡ true = lt-ltb 1 (length (124 ∷ c ∷ cs)) (omega arith) in
       subst (λ (n : ℕ). HasFront (124 ∷ c ∷ cs) token.Or n) (sym (cond-true _ _ _ (and_from _ _ long e)))
-      (record { some = omega arith; within = omega arith; front = record { word = codes "||"; split = ap (λ (x : ℕ). 124 ∷ x ∷ cs) (eqb-true c 124 e); spells = inr refl; ends = ends_anyhow (codes "||") cs (λ x. refl) } }))
+      (record {
+        some = omega arith;
+        within = omega arith;
+        front =
+            record { word = codes "||"; split = ap (λ (x : ℕ). 124 ∷ x ∷ cs) (eqb-true c 124 e); spells = inr refl; ends = ends_anyhow (codes "||") cs (λ x. refl) };
+      }))
   | inr e ↦ subst (λ (n : ℕ). HasFront (124 ∷ c ∷ cs) token.Or n) (sym (cond-false _ _ _ (and_right (nat_lt 1 (length (124 ∷ c ∷ cs))) _ e)))
       (record { some = omega arith; within = omega arith; front = record { word = codes "|"; split = refl; spells = inl refl; ends = e } })
 ]
@@ -160,13 +172,27 @@ goes_plain : (b : ℕ) (bs : List ℕ) (o : Option (List ℕ × ℕ)) → (b ≡
 goes_plain b bs None not_quote not_escape u = tt
 goes_plain b bs (Some s) not_quote not_escape u =
     let next : 1 + s.1 ≡ suc s.1 = omega arith in
-    record { inner = b ∷ u.inner; quotes = plain not_quote not_escape u.quotes; split = ap (λ (x : List ℕ). b ∷ x) u.split ∙ ap (λ (n : ℕ). b ∷ (u.inner ++ 34 ∷ drop n (b ∷ bs))) (sym next); some = omega arith; within = omega (arith, u.within) }
+    record {
+      inner = b ∷ u.inner;
+      quotes = plain not_quote not_escape u.quotes;
+      split = ap (λ (x : List ℕ). b ∷ x) u.split
+          ∙ ap (λ (n : ℕ). b ∷ (u.inner ++ 34 ∷ drop n (b ∷ bs))) (sym next);
+      some = omega arith;
+      within = omega (arith, u.within);
+    }
 
 goes_escaped : (b c : ℕ) (cs : List ℕ) (o : Option (List ℕ × ℕ)) → b ≡ 92 → Unquotes cs o → Unquotes (b ∷ c ∷ cs) (option_map (quoted_more c 2) o)
 goes_escaped b c cs None e u = tt
 goes_escaped b c cs (Some s) e u =
     let next : 2 + s.1 ≡ suc (suc s.1) = omega arith in
-    record { inner = 92 ∷ c ∷ u.inner; quotes = escaped u.quotes; split = ap (λ (x : List ℕ). b ∷ c ∷ x) u.split ∙ (ap (λ (x : ℕ). x ∷ c ∷ (u.inner ++ 34 ∷ drop s.1 cs)) e ∙ ap (λ (n : ℕ). 92 ∷ c ∷ (u.inner ++ 34 ∷ drop n (b ∷ c ∷ cs))) (sym next)); some = omega arith; within = omega (arith, u.within) }
+    record {
+      inner = 92 ∷ c ∷ u.inner;
+      quotes = escaped u.quotes;
+      split = ap (λ (x : List ℕ). b ∷ c ∷ x) u.split
+          ∙ (ap (λ (x : ℕ). x ∷ c ∷ (u.inner ++ 34 ∷ drop s.1 cs)) e ∙ ap (λ (n : ℕ). 92 ∷ c ∷ (u.inner ++ 34 ∷ drop n (b ∷ c ∷ cs))) (sym next));
+      some = omega arith;
+      within = omega (arith, u.within);
+    }
 
 unquoted_is : (bs : List ℕ) → Unquotes bs (unquoted bs)
 unquoted_is [] = tt
@@ -178,7 +204,8 @@ unquoted_is (b ∷ c ∷ cs) = elim (cases_Bool (b == 34)) [
   | inl e ↦ subst (λ (o : Option (List ℕ × ℕ)). Unquotes (b ∷ c ∷ cs) o) (sym (unquoted_close b (c ∷ cs) (eqb-true b 34 e))) (closes_here b (c ∷ cs) (eqb-true b 34 e))
   | inr e ↦ (elim (cases_Bool (b == 92)) [
     | inl f ↦ subst (λ (o : Option (List ℕ × ℕ)). Unquotes (b ∷ c ∷ cs) o) (sym (unquoted_escaped b c cs (eqb-true b 92 f))) (goes_escaped b c cs (unquoted cs) (eqb-true b 92 f) (unquoted_is cs))
-    | inr f ↦ subst (λ (o : Option (List ℕ × ℕ)). Unquotes (b ∷ c ∷ cs) o) (sym (unquoted_plain b (c ∷ cs) (eqb-false b 34 e) (eqb-false b 92 f))) (goes_plain b (c ∷ cs) (unquoted (c ∷ cs)) (eqb-false b 34 e) (eqb-false b 92 f) (unquoted_is (c ∷ cs)))
+    | inr f ↦ subst (λ (o : Option (List ℕ × ℕ)). Unquotes (b ∷ c ∷ cs) o) (sym (unquoted_plain b (c ∷ cs) (eqb-false b 34 e) (eqb-false b 92 f)))
+        (goes_plain b (c ∷ cs) (unquoted (c ∷ cs)) (eqb-false b 34 e) (eqb-false b 92 f) (unquoted_is (c ∷ cs)))
   ])
 ]
 
@@ -204,7 +231,9 @@ string_holds bs (Some s) u =
 from_byte : (b : ℕ) (bs : List ℕ) → Holds (b ∷ bs) (token_from b (b ∷ bs))
 from_byte b bs =
     holds_cond (b ∷ bs) (is_letter b) _ _ (λ e. bare_front b bs e) (λ _.
-    holds_cond (b ∷ bs) (b == 34) _ _ (λ e. (let P : ℕ → Type 0 = λ y. Holds (y ∷ bs) (option_map (λ (s : List ℕ × ℕ). (token.Name s.0, 1 + s.1)) (unquoted bs)) in subst P (sym (eqb-true b 34 e)) (string_holds bs (unquoted bs) (unquoted_is bs)))) (λ _.
+    holds_cond (b ∷ bs) (b == 34) _ _ (λ e. (let P : ℕ
+    → Type 0 = λ y. Holds (y ∷ bs) (option_map (λ (s : List ℕ × ℕ). (token.Name s.0, 1 + s.1)) (unquoted bs)) in
+    subst P (sym (eqb-true b 34 e)) (string_holds bs (unquoted bs) (unquoted_is bs)))) (λ _.
     holds_cond (b ∷ bs) (b == 38) _ _ (λ e. (let P : ℕ → Type 0 = λ y. HasFront (y ∷ bs) token.And (doubled 38 (y ∷ bs)) in subst P (sym (eqb-true b 38 e)) (and_holds bs))) (λ _.
     holds_cond (b ∷ bs) (b == 124) _ _ (λ e. (let P : ℕ → Type 0 = λ y. HasFront (y ∷ bs) token.Or (doubled 124 (y ∷ bs)) in subst P (sym (eqb-true b 124 e)) (or_holds bs))) (λ _. signs_hold b bs))))
 
@@ -232,7 +261,8 @@ bare_found (b ∷ bs) rest bare ends =
     let size = prefix_before is_word (b ∷ bs) rest all (ends_bare b bs rest bare.0 ends) in
     record {
       size = length (b ∷ bs);
-      found = front_cons b (bs ++ rest) ∙ (cond-true _ _ _ bare.0 ∙ (ap (λ (n : ℕ). Some (bare_token (take n (b ∷ (bs ++ rest))), n)) size ∙ ap (λ (w : List ℕ). Some (bare_token w, length (b ∷ bs))) (take_word (b ∷ bs) rest)));
+      found = front_cons b (bs ++ rest) ∙ (cond-true _ _ _ bare.0
+          ∙ (ap (λ (n : ℕ). Some (bare_token (take n (b ∷ (bs ++ rest))), n)) size ∙ ap (λ (w : List ℕ). Some (bare_token w, length (b ∷ bs))) (take_word (b ∷ bs) rest)));
       behind = sym (dropped (b ∷ bs) rest);
     }
 
@@ -276,7 +306,8 @@ double_sign : (sign : ℕ) (rest : List ℕ) → (sign == sign) ≡ true → dou
 double_sign sign rest e = cond-true _ _ _ (and_from _ _ (lt-ltb 1 (length (sign ∷ sign ∷ rest)) (omega arith)) e)
 
 bare_name : (w : List ℕ) → IsBareName w → bare_token w ≡ token.Name w
-bare_name w b = cond-false _ _ _ (differ_texts w (codes "true") b.not_true) ∙ (cond-false _ _ _ (differ_texts w (codes "false") b.not_false) ∙ cond-false _ _ _ (differ_texts w (codes "cycle") b.not_cycle))
+bare_name w b = cond-false _ _ _ (differ_texts w (codes "true") b.not_true)
+    ∙ (cond-false _ _ _ (differ_texts w (codes "false") b.not_false) ∙ cond-false _ _ _ (differ_texts w (codes "cycle") b.not_cycle))
 
 pub front_stands : (bytes : List ℕ) (t : Token) (rest : List ℕ) → IsFront bytes t rest → Finds bytes t rest
 front_stands bytes t rest f = finds_along bytes f.word rest t f.split (word_found t f.word rest f.spells f.ends)
@@ -295,13 +326,16 @@ front_stands bytes t rest f = finds_along bytes f.word rest t f.split (word_foun
     word_found token.True word rest (inr e) ends = at_word token.True word (codes "true") rest e (λ h. bare_found (codes "true") rest (refl, refl) h) ends
     word_found token.False word rest (inl e) ends = at_word token.False word (codes "0") rest e (λ _. one_found 48 rest token.False refl) ends
     word_found token.False word rest (inr e) ends = at_word token.False word (codes "false") rest e (λ h. bare_found (codes "false") rest (refl, refl) h) ends
-    word_found (token.Name name) word rest (inl (b, e)) ends = at_word (token.Name name) word name rest e (λ h. renamed (name ++ rest) rest (bare_token name) (token.Name name) (bare_name name b) (bare_found name rest b.bare h)) ends
+    word_found (token.Name name) word rest (inl (b, e)) ends =
+        at_word (token.Name name) word name rest e (λ h. renamed (name ++ rest) rest (bare_token name) (token.Name name) (bare_name name b) (bare_found name rest b.bare h)) ends
     word_found (token.Name name) word rest (inr q) ends = string_found name word rest q
     word_found token.Not word rest e ends = at_word token.Not word (codes "!") rest e (λ _. one_found 33 rest token.Not refl) ends
     word_found token.And word rest (inl e) ends = at_word token.And word (codes "&") rest e (λ h. one_found 38 rest token.And (ap (λ (n : ℕ). Some (token.And, n)) (single_and rest h))) ends
-    word_found token.And word rest (inr e) ends = at_word token.And word (codes "&&") rest e (λ _. sized [] rest token.And 38 2 (38 ∷ rest) (ap (λ (n : ℕ). Some (token.And, n)) (double_sign 38 rest refl)) refl) ends
+    word_found token.And word rest (inr e) ends =
+        at_word token.And word (codes "&&") rest e (λ _. sized [] rest token.And 38 2 (38 ∷ rest) (ap (λ (n : ℕ). Some (token.And, n)) (double_sign 38 rest refl)) refl) ends
     word_found token.Or word rest (inl e) ends = at_word token.Or word (codes "|") rest e (λ h. one_found 124 rest token.Or (ap (λ (n : ℕ). Some (token.Or, n)) (single_or rest h))) ends
-    word_found token.Or word rest (inr e) ends = at_word token.Or word (codes "||") rest e (λ _. sized [] rest token.Or 124 2 (124 ∷ rest) (ap (λ (n : ℕ). Some (token.Or, n)) (double_sign 124 rest refl)) refl) ends
+    word_found token.Or word rest (inr e) ends =
+        at_word token.Or word (codes "||") rest e (λ _. sized [] rest token.Or 124 2 (124 ∷ rest) (ap (λ (n : ℕ). Some (token.Or, n)) (double_sign 124 rest refl)) refl) ends
     word_found token.LeftParen word rest e ends = at_word token.LeftParen word (codes "(") rest e (λ _. one_found 40 rest token.LeftParen refl) ends
     word_found token.RightParen word rest e ends = at_word token.RightParen word (codes ")") rest e (λ _. one_found 41 rest token.RightParen refl) ends
     word_found token.Semicolon word rest e ends = at_word token.Semicolon word (codes ";") rest e (λ _. one_found 59 rest token.Semicolon refl) ends

@@ -81,7 +81,8 @@ divides (suc fuel) v n p e small l some per room =
     ]
 
 -- a turn that changes nothing is a period
-turn_period : (v : List NameSet) (size e : ℕ) → ((i : ℕ) → i < length v → slice_get v i ≡ slice_get v (i % size)) → ((i : ℕ) → slice_get v ((i + e) % size) ≡ slice_get v (i % size)) → IsPeriod v (length v) e
+turn_period : (v : List NameSet) (size e : ℕ) → ((i : ℕ) → i < length v → slice_get v i ≡ slice_get v (i % size)) → ((i : ℕ) → slice_get v ((i + e) % size) ≡ slice_get v (i % size))
+    → IsPeriod v (length v) e
 turn_period v size e same turn k h = same k (omega arith) ∙ (sym (turn k) ∙ sym (same (k + e) h))
 
 twice : (e k size : ℕ) → 2 ≤ k → size ≡ k * e → 2 * e ≤ size

@@ -9,7 +9,8 @@ use Rattle.aut_base.specs.CanonicalLabel.{all_of}
 use Rattle.aut_base.specs.Label as label
 use Rattle.aut_base.specs.Label.{LabelTree}
 use Rattle.word_syntax.proofs.LetterRuns.{awaiting, ended, level}
-use Rattle.word_syntax.specs.Grammar.{AreConjunctions, AreOperands, IsConjunction, IsLetter, IsOperand, alternative, always, either, group, joined, negated, never, no_conjunction, no_operand, operand, proposition}
+use Rattle.word_syntax.specs.Grammar.{AreConjunctions, AreOperands, IsConjunction, IsLetter, IsOperand, alternative, always, either, group, joined}
+use Rattle.word_syntax.specs.Grammar.{negated, never, no_conjunction, no_operand, operand, proposition}
 use Rattle.word_syntax.specs.inner.Machine as machine
 use Rattle.word_syntax.specs.inner.Machine.{LetterState, LevelTree, complete_level, fresh_level, has_room, letter_step, level_label, nots_on}
 use Rattle.word_syntax.specs.declared.token.Token.{Token}
@@ -91,7 +92,8 @@ pub fresh_begun : (names : List (List ℕ)) (around room : ℕ) → around + roo
 fresh_begun names around room e = record { room = room; ors_tokens = []; ands_tokens = []; room_is = e; fits = omega arith; ors = no_conjunction; ands = no_operand; spelled = refl }
 
 -- an operand ends at a level
-level_complete : (names : List (List ℕ)) (l : LevelTree) (u w : List Token) (t : LabelTree) → IsBegun names l u → ((room : ℕ) → l.around + l.nots + room ≡ MOST_DEPTH → IsOperand names room w t) → IsEnded names (complete_level l t) (u ++ w)
+level_complete : (names : List (List ℕ)) (l : LevelTree) (u w : List Token) (t : LabelTree) → IsBegun names l u
+    → ((room : ℕ) → l.around + l.nots + room ≡ MOST_DEPTH → IsOperand names room w t) → IsEnded names (complete_level l t) (u ++ w)
 level_complete names l u w t begun one = record {
   room = begun.room;
   ors_tokens = begun.ors_tokens;
@@ -121,7 +123,9 @@ level_negated names l u may begun =
       fits = omega (arith, begun.room_is);
       ors = begun.ors;
       ands = begun.ands;
-      spelled = ap (λ (x : List Token). x ++ token.Not ∷ []) begun.spelled ∙ (append_three begun.ors_tokens begun.ands_tokens (nots l.nots) (token.Not ∷ []) ∙ ap (λ (x : List Token). begun.ors_tokens ++ (begun.ands_tokens ++ x)) (nots_last l.nots [] ∙ (ap (λ (x : List Token). token.Not ∷ x) (append-nil (nots l.nots)) ∙ ap nots (sym one))));
+      spelled = ap (λ (x : List Token). x ++ token.Not ∷ []) begun.spelled
+          ∙ (append_three begun.ors_tokens begun.ands_tokens (nots l.nots) (token.Not ∷ [])
+          ∙ ap (λ (x : List Token). begun.ors_tokens ++ (begun.ands_tokens ++ x)) (nots_last l.nots [] ∙ (ap (λ (x : List Token). token.Not ∷ x) (append-nil (nots l.nots)) ∙ ap nots (sym one))));
     }
 
 -- a whole conjunction
@@ -138,7 +142,9 @@ level_anded names l u e = record {
   fits = omega (arith, e.no_nots);
   ors = e.ors;
   ands = operand e.ands e.operand refl e.all;
-  spelled = ap (λ (x : List Token). x ++ token.And ∷ []) e.spelled ∙ (append_three e.ors_tokens e.ands_tokens e.last_tokens (token.And ∷ []) ∙ (in_ands e.ors_tokens e.ands_tokens e.last_tokens (token.And ∷ []) ∙ ap (λ (n : ℕ). e.ors_tokens ++ ((e.ands_tokens ++ (e.last_tokens ++ token.And ∷ [])) ++ nots n)) (sym e.no_nots)));
+  spelled = ap (λ (x : List Token). x ++ token.And ∷ []) e.spelled
+      ∙ (append_three e.ors_tokens e.ands_tokens e.last_tokens (token.And ∷ [])
+      ∙ (in_ands e.ors_tokens e.ands_tokens e.last_tokens (token.And ∷ []) ∙ ap (λ (n : ℕ). e.ors_tokens ++ ((e.ands_tokens ++ (e.last_tokens ++ token.And ∷ [])) ++ nots n)) (sym e.no_nots)));
 }
 
 -- `|`
@@ -151,7 +157,9 @@ level_ored names l u e = record {
   fits = omega (arith, e.no_nots);
   ors = alternative e.ors (level_conjunction names l u e) refl refl;
   ands = no_operand;
-  spelled = ap (λ (x : List Token). x ++ token.Or ∷ []) e.spelled ∙ (append_three e.ors_tokens e.ands_tokens e.last_tokens (token.Or ∷ []) ∙ (in_ors e.ors_tokens e.ands_tokens e.last_tokens (token.Or ∷ []) ∙ ap (λ (n : ℕ). (e.ors_tokens ++ ((e.ands_tokens ++ e.last_tokens) ++ token.Or ∷ [])) ++ ([] ++ nots n)) (sym e.no_nots)));
+  spelled = ap (λ (x : List Token). x ++ token.Or ∷ []) e.spelled
+      ∙ (append_three e.ors_tokens e.ands_tokens e.last_tokens (token.Or ∷ [])
+      ∙ (in_ors e.ors_tokens e.ands_tokens e.last_tokens (token.Or ∷ []) ∙ ap (λ (n : ℕ). (e.ors_tokens ++ ((e.ands_tokens ++ e.last_tokens) ++ token.Or ∷ [])) ++ ([] ++ nots n)) (sym e.no_nots)));
 }
 
 -- a whole level
@@ -159,15 +167,19 @@ pub level_letter : (names : List (List ℕ)) (l : LevelTree) (u : List Token) (e
 level_letter names l u e = either e.ors (level_conjunction names l u e) e.spelled refl
 
 -- the letter's reader goes on
-part_operand : (names : List (List ℕ)) (o : List LevelTree) (l : LevelTree) (v w u : List Token) (t : LabelTree) → Surrounds names o l.around v → IsBegun names l u → ((room : ℕ) → l.around + l.nots + room ≡ MOST_DEPTH → IsOperand names room w t) → IsPart names (ended o (complete_level l t)) ((v ++ u) ++ w)
+part_operand : (names : List (List ℕ)) (o : List LevelTree) (l : LevelTree) (v w u : List Token) (t : LabelTree) → Surrounds names o l.around v → IsBegun names l u
+    → ((room : ℕ) → l.around + l.nots + room ≡ MOST_DEPTH → IsOperand names room w t) → IsPart names (ended o (complete_level l t)) ((v ++ u) ++ w)
 part_operand names o l v w u t outer begun one = record { outer_tokens = v; level_tokens = u ++ w; outer = outer; inner = level_complete names l u w t begun one; spelled = append_assoc v u w }
 
-part_negated : (names : List (List ℕ)) (o : List LevelTree) (l : LevelTree) (s : LetterState) (v u : List Token) → Surrounds names o l.around v → IsBegun names l u → machine.maybe_negated (awaiting o l) ≡ Some s → IsPart names s ((v ++ u) ++ token.Not ∷ [])
+part_negated : (names : List (List ℕ)) (o : List LevelTree) (l : LevelTree) (s : LetterState) (v u : List Token) → Surrounds names o l.around v → IsBegun names l u
+    → machine.maybe_negated (awaiting o l) ≡ Some s → IsPart names s ((v ++ u) ++ token.Not ∷ [])
 part_negated names o l s v u outer begun step =
     let may = cond_some (has_room l) (machine.negated (awaiting o l)) s step in
-    subst (λ (x : LetterState). IsPart names x ((v ++ u) ++ token.Not ∷ [])) may.1 (record { outer_tokens = v; level_tokens = u ++ token.Not ∷ []; outer = outer; inner = level_negated names l u may.0 begun; spelled = append_assoc v u (token.Not ∷ []) })
+    subst (λ (x : LetterState). IsPart names x ((v ++ u) ++ token.Not ∷ [])) may.1
+    (record { outer_tokens = v; level_tokens = u ++ token.Not ∷ []; outer = outer; inner = level_negated names l u may.0 begun; spelled = append_assoc v u (token.Not ∷ []) })
 
-part_opened : (names : List (List ℕ)) (o : List LevelTree) (l : LevelTree) (s : LetterState) (v u : List Token) → Surrounds names o l.around v → IsBegun names l u → machine.maybe_opened (awaiting o l) ≡ Some s → IsPart names s ((v ++ u) ++ token.LeftParen ∷ [])
+part_opened : (names : List (List ℕ)) (o : List LevelTree) (l : LevelTree) (s : LetterState) (v u : List Token) → Surrounds names o l.around v → IsBegun names l u
+    → machine.maybe_opened (awaiting o l) ≡ Some s → IsPart names s ((v ++ u) ++ token.LeftParen ∷ [])
 part_opened names o l s v u outer begun step =
     let may = cond_some (has_room l) (machine.opened (awaiting o l)) s step in
     let below : l.around + l.nots < MOST_DEPTH = ltb-true _ _ may.0 in
@@ -182,19 +194,29 @@ part_opened names o l s v u outer begun step =
 in_parens : (v u inner : List Token) (a b : Token) → (v ++ (u ++ a ∷ [])) ++ (inner ++ b ∷ []) ≡ (v ++ u) ++ (a ∷ (inner ++ b ∷ []))
 in_parens v u inner a b = simp append_assoc
 
-part_closed : (names : List (List ℕ)) (o : List LevelTree) (l : LevelTree) (s : LetterState) (v u : List Token) → Surrounds names o l.around v → IsEnded names l u → machine.closed o l ≡ Some s → IsPart names s ((v ++ u) ++ token.RightParen ∷ [])
+part_closed : (names : List (List ℕ)) (o : List LevelTree) (l : LevelTree) (s : LetterState) (v u : List Token) → Surrounds names o l.around v → IsEnded names l u
+    → machine.closed o l ≡ Some s → IsPart names s ((v ++ u) ++ token.RightParen ∷ [])
 part_closed names [] l s v u outer e step = absurd (none-some s step)
 part_closed names (k ∷ ks) l s v u outer e step =
     let whole = level_letter names l u e in
     let P : LetterState → Type 0 = λ x. IsPart names x ((v ++ u) ++ token.RightParen ∷ []) in
     let Q : List Token → Type 0 = λ x. IsPart names (ended ks (complete_level k (level_label l))) x in
-    let same : (outer.0 ++ outer.1) ++ (token.LeftParen ∷ (u ++ token.RightParen ∷ [])) ≡ (v ++ u) ++ token.RightParen ∷ [] = sym (ap (λ (x : List Token). (x ++ u) ++ token.RightParen ∷ []) outer.2 ∙ (append_assoc (outer.0 ++ (outer.1 ++ token.LeftParen ∷ [])) u (token.RightParen ∷ []) ∙ in_parens outer.0 outer.1 u token.LeftParen token.RightParen)) in
-    subst P (same_Some _ _ step) (subst Q same (part_operand names ks k outer.0 (token.LeftParen ∷ (u ++ token.RightParen ∷ [])) outer.1 (level_label l) outer.3 outer.4 (λ room is. let next : suc e.room ≡ room = omega (arith, e.room_is, outer.5) in subst (λ (r : ℕ). IsOperand names r (token.LeftParen ∷ (u ++ token.RightParen ∷ [])) (level_label l)) next (group whole))))
+    let same : (outer.0 ++ outer.1) ++ (token.LeftParen ∷ (u ++ token.RightParen ∷ [])) ≡ (v ++ u) ++ token.RightParen ∷ [] =
+    sym (ap (λ (x : List Token). (x ++ u) ++ token.RightParen ∷ []) outer.2
+    ∙ (append_assoc (outer.0 ++ (outer.1 ++ token.LeftParen ∷ [])) u (token.RightParen ∷ []) ∙ in_parens outer.0 outer.1 u token.LeftParen token.RightParen)) in
+    subst P (same_Some _ _ step) (subst Q same
+    (part_operand names ks k outer.0 (token.LeftParen ∷ (u ++ token.RightParen ∷ [])) outer.1 (level_label l) outer.3 outer.4
+    (λ room is. let next : suc e.room ≡ room = omega (arith, e.room_is, outer.5) in subst (λ (r : ℕ). IsOperand names r (token.LeftParen ∷ (u ++ token.RightParen ∷ [])) (level_label l))
+    next (group whole))))
 
-begin_part : (place : List ℕ → ℕ) (names : List (List ℕ)) (o : List LevelTree) (l : LevelTree) (s : LetterState) (t : Token) (v u : List Token) → Knows place names t → Surrounds names o l.around v → IsBegun names l u → machine.begin_operand place (awaiting o l) t ≡ Some s → IsPart names s ((v ++ u) ++ t ∷ [])
-begin_part place names o l s token.True v u knows outer begun step = subst (λ (x : LetterState). IsPart names x ((v ++ u) ++ token.True ∷ [])) (same_Some _ _ step) (part_operand names o l v (token.True ∷ []) u label.True outer begun (λ room is. always))
-begin_part place names o l s token.False v u knows outer begun step = subst (λ (x : LetterState). IsPart names x ((v ++ u) ++ token.False ∷ [])) (same_Some _ _ step) (part_operand names o l v (token.False ∷ []) u label.False outer begun (λ room is. never))
-begin_part place names o l s (token.Name name) v u knows outer begun step = subst (λ (x : LetterState). IsPart names x ((v ++ u) ++ token.Name name ∷ [])) (same_Some _ _ step) (part_operand names o l v (token.Name name ∷ []) u (label.Prop (place name)) outer begun (λ room is. proposition name (place name) knows))
+begin_part : (place : List ℕ → ℕ) (names : List (List ℕ)) (o : List LevelTree) (l : LevelTree) (s : LetterState) (t : Token) (v u : List Token) → Knows place names t
+    → Surrounds names o l.around v → IsBegun names l u → machine.begin_operand place (awaiting o l) t ≡ Some s → IsPart names s ((v ++ u) ++ t ∷ [])
+begin_part place names o l s token.True v u knows outer begun step = subst (λ (x : LetterState). IsPart names x ((v ++ u) ++ token.True ∷ [])) (same_Some _ _ step)
+    (part_operand names o l v (token.True ∷ []) u label.True outer begun (λ room is. always))
+begin_part place names o l s token.False v u knows outer begun step = subst (λ (x : LetterState). IsPart names x ((v ++ u) ++ token.False ∷ [])) (same_Some _ _ step)
+    (part_operand names o l v (token.False ∷ []) u label.False outer begun (λ room is. never))
+begin_part place names o l s (token.Name name) v u knows outer begun step = subst (λ (x : LetterState). IsPart names x ((v ++ u) ++ token.Name name ∷ [])) (same_Some _ _ step)
+    (part_operand names o l v (token.Name name ∷ []) u (label.Prop (place name)) outer begun (λ room is. proposition name (place name) knows))
 begin_part place names o l s token.Not v u knows outer begun step = part_negated names o l s v u outer begun step
 begin_part place names o l s token.LeftParen v u knows outer begun step = part_opened names o l s v u outer begun step
 begin_part place names o l s token.And v u knows outer begun step = absurd (none-some s step)
@@ -205,9 +227,12 @@ begin_part place names o l s token.Cycle v u knows outer begun step = absurd (no
 begin_part place names o l s token.LeftBrace v u knows outer begun step = absurd (none-some s step)
 begin_part place names o l s token.RightBrace v u knows outer begun step = absurd (none-some s step)
 
-after_part : (names : List (List ℕ)) (o : List LevelTree) (l : LevelTree) (s : LetterState) (t : Token) (v u : List Token) → Surrounds names o l.around v → IsEnded names l u → machine.after_operand (ended o l) t ≡ Some s → IsPart names s ((v ++ u) ++ t ∷ [])
-after_part names o l s token.And v u outer e step = subst (λ (x : LetterState). IsPart names x ((v ++ u) ++ token.And ∷ [])) (same_Some _ _ step) (record { outer_tokens = v; level_tokens = u ++ token.And ∷ []; outer = outer; inner = level_anded names l u e; spelled = append_assoc v u (token.And ∷ []) })
-after_part names o l s token.Or v u outer e step = subst (λ (x : LetterState). IsPart names x ((v ++ u) ++ token.Or ∷ [])) (same_Some _ _ step) (record { outer_tokens = v; level_tokens = u ++ token.Or ∷ []; outer = outer; inner = level_ored names l u e; spelled = append_assoc v u (token.Or ∷ []) })
+after_part : (names : List (List ℕ)) (o : List LevelTree) (l : LevelTree) (s : LetterState) (t : Token) (v u : List Token) → Surrounds names o l.around v → IsEnded names l u
+    → machine.after_operand (ended o l) t ≡ Some s → IsPart names s ((v ++ u) ++ t ∷ [])
+after_part names o l s token.And v u outer e step = subst (λ (x : LetterState). IsPart names x ((v ++ u) ++ token.And ∷ [])) (same_Some _ _ step)
+    (record { outer_tokens = v; level_tokens = u ++ token.And ∷ []; outer = outer; inner = level_anded names l u e; spelled = append_assoc v u (token.And ∷ []) })
+after_part names o l s token.Or v u outer e step = subst (λ (x : LetterState). IsPart names x ((v ++ u) ++ token.Or ∷ [])) (same_Some _ _ step)
+    (record { outer_tokens = v; level_tokens = u ++ token.Or ∷ []; outer = outer; inner = level_ored names l u e; spelled = append_assoc v u (token.Or ∷ []) })
 after_part names o l s token.RightParen v u outer e step = part_closed names o l s v u outer e step
 after_part names o l s token.True v u outer e step = absurd (none-some s step)
 after_part names o l s token.False v u outer e step = absurd (none-some s step)
@@ -219,14 +244,17 @@ after_part names o l s token.Cycle v u outer e step = absurd (none-some s step)
 after_part names o l s token.LeftBrace v u outer e step = absurd (none-some s step)
 after_part names o l s token.RightBrace v u outer e step = absurd (none-some s step)
 
-step_part : (place : List ℕ → ℕ) (names : List (List ℕ)) (o : List LevelTree) (l : LevelTree) (ready : Bool) (s : LetterState) (t : Token) (v u : List Token) → Knows place names t → Surrounds names o l.around v → IsLevel names ready l u → letter_step place (record { outer = o; level = l; ready = ready }) t ≡ Some s → IsPart names s ((v ++ u) ++ t ∷ [])
+step_part : (place : List ℕ → ℕ) (names : List (List ℕ)) (o : List LevelTree) (l : LevelTree) (ready : Bool) (s : LetterState) (t : Token) (v u : List Token) → Knows place names t
+    → Surrounds names o l.around v → IsLevel names ready l u → letter_step place (record { outer = o; level = l; ready = ready }) t ≡ Some s → IsPart names s ((v ++ u) ++ t ∷ [])
 step_part place names o l false s t v u knows outer inner step = begin_part place names o l s t v u knows outer inner step
 step_part place names o l true s t v u knows outer inner step = after_part names o l s t v u outer inner step
 
 -- one token more
-pub part_step : (place : List ℕ → ℕ) (names : List (List ℕ)) (s next : LetterState) (t : Token) (w : List Token) → Knows place names t → IsPart names s w → letter_step place s t ≡ Some next → IsPart names next (w ++ t ∷ [])
+pub part_step : (place : List ℕ → ℕ) (names : List (List ℕ)) (s next : LetterState) (t : Token) (w : List Token) → Knows place names t → IsPart names s w → letter_step place s t ≡ Some next
+    → IsPart names next (w ++ t ∷ [])
 part_step place names s next t w knows part step =
-    subst (λ (x : List Token). IsPart names next (x ++ t ∷ [])) (sym part.spelled) (step_part place names s.outer s.level s.ready next t part.outer_tokens part.level_tokens knows part.outer part.inner step)
+    subst (λ (x : List Token). IsPart names next (x ++ t ∷ [])) (sym part.spelled)
+    (step_part place names s.outer s.level s.ready next t part.outer_tokens part.level_tokens knows part.outer part.inner step)
 
 -- nothing is read yet
 pub part_fresh : (names : List (List ℕ)) → IsPart names machine.fresh []

@@ -18,14 +18,17 @@ pub letters_within : (a b : NameSet) → a ≡ b → IsWithin a b
 letters_within a b e name h = ap (λ (x : NameSet). set.contains x name) (sym e) ∙ h
 
 -- one name more is copied
-pub name_copied : (names : List (List ℕ)) (i : ℕ) (name : List ℕ) (letter new : NameSet) → i < length names → name ≡ get_or names i name → letter ≡ set.from_list (take i names) → new ≡ set.insert letter name → new ≡ set.from_list (take (i + 1) names)
+pub name_copied : (names : List (List ℕ)) (i : ℕ) (name : List ℕ) (letter new : NameSet) → i < length names → name ≡ get_or names i name → letter ≡ set.from_list (take i names)
+    → new ≡ set.insert letter name → new ≡ set.from_list (take (i + 1) names)
 name_copied names i name letter new within is so_far added =
     added ∙ (ap (λ (x : NameSet). set.insert x name) so_far ∙ (sym (insert_pushed (take i names) name) ∙ ap (λ (x : List (List ℕ)). set.from_list x) (sym (take-push names i name within is))))
 
 -- what the comparison of two letters says of their places
-pub differ_between : (v w : List NameSet) (i j : ℕ) (a b : NameSet) (r : Bool) → i < length v → j < length w → a ≡ get_or v i a → b ≡ get_or w j b → (IsTrue r ↔ (a ≡ b)) → r ≡ false → slice_get v i ≢ slice_get w j
+pub differ_between : (v w : List NameSet) (i j : ℕ) (a b : NameSet) (r : Bool) → i < length v → j < length w → a ≡ get_or v i a → b ≡ get_or w j b → (IsTrue r ↔ (a ≡ b)) → r ≡ false
+    → slice_get v i ≢ slice_get w j
 differ_between v w i j a b r within within' is is' said unlike e =
     false≢true (sym unlike ∙ said.1 (same_Some a b (sym (slice_get-at v i a within is) ∙ (e ∙ slice_get-at w j b within' is'))))
 
-pub same_between : (v w : List NameSet) (i j : ℕ) (a b : NameSet) (r : Bool) → i < length v → j < length w → a ≡ get_or v i a → b ≡ get_or w j b → (IsTrue r ↔ (a ≡ b)) → r ≡ true → slice_get v i ≡ slice_get w j
+pub same_between : (v w : List NameSet) (i j : ℕ) (a b : NameSet) (r : Bool) → i < length v → j < length w → a ≡ get_or v i a → b ≡ get_or w j b → (IsTrue r ↔ (a ≡ b)) → r ≡ true
+    → slice_get v i ≡ slice_get w j
 same_between v w i j a b r within within' is is' said alike = slice_get-at v i a within is ∙ (ap Some (said.0 alike) ∙ sym (slice_get-at w j b within' is'))

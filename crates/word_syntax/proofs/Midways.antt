@@ -1,5 +1,6 @@
 -- A text is read token by token.
-use Rattle.std.proofs.Common.{Bool, cond, true, false, ◌≡◌, ◌≢◌, ◌∙◌, ◌∷◌, ◌++◌, ◌+◌, ◌<◌, ◌≤◌, ◌^◌, List, None, Option, Some, [], ap, arith, drop, inl, inr, length, length-append, length-drop, map, refl, subst, sym, ℕ}
+use Rattle.std.proofs.Common.{Bool, cond, true, false, ◌≡◌, ◌≢◌, ◌∙◌, ◌∷◌, ◌++◌, ◌+◌, ◌<◌, ◌≤◌, ◌^◌, List, None, Option, Some, [], ap, arith, drop}
+use Rattle.std.proofs.Common.{inl, inr, length, length-append, length-drop, map, refl, subst, sym, ℕ}
 use Rattle.std.proofs.lemmas.List.{append-nil, drop_all, length-map}
 use Rattle.std.proofs.lemmas.Option.{none-some, option_and_then_some, same_Some}
 use Rattle.std.specs.List.{list_all}
@@ -28,7 +29,8 @@ lexes_push text [] rest bytes next t l a f = subst (λ (x : List ℕ). Lexes x (
 lexes_push text (u ∷ ts) rest bytes next t l a f = (l.0, l.1, l.2, l.3, lexes_push l.1 ts rest bytes next t l.4 a f)
 
 -- one token more, whatever the places
-read_push : (tokens : List Token) (s next : WordState) (t : Token) (old new : List (List ℕ)) → old ≡ distinct (names_of tokens) → NamesGo t old new → HasRead tokens s → ((place : List ℕ → ℕ) → Agrees place new → word_step place s t ≡ Some next) → HasRead (tokens ++ t ∷ []) next
+read_push : (tokens : List Token) (s next : WordState) (t : Token) (old new : List (List ℕ)) → old ≡ distinct (names_of tokens) → NamesGo t old new → HasRead tokens s
+    → ((place : List ℕ → ℕ) → Agrees place new → word_step place s t ≡ Some next) → HasRead (tokens ++ t ∷ []) next
 read_push tokens s next t old new is go read step place agrees =
     let more = distinct_front (names_of tokens) (names_of (t ∷ [])) in
     let P : List (List ℕ) → Type 0 = λ x. Agrees place x in
@@ -132,7 +134,8 @@ offset_of : (text : List ℕ) (k : ℕ) → k ≤ length text → k + length (dr
 offset_of text k within = omega (arith, length-drop k text)
 
 -- a token that can't stand there
-pub stopped_at_token : (text : List ℕ) (at start end : ℕ) (before : WordReader) (t : Token) → IsMidway text at before → IsNext text at t start end → ((place : List ℕ → ℕ) → word_step place (word_state before) t ≡ None) → IsStoppedAt text start
+pub stopped_at_token : (text : List ℕ) (at start end : ℕ) (before : WordReader) (t : Token) → IsMidway text at before → IsNext text at t start end
+    → ((place : List ℕ → ℕ) → word_step place (word_state before) t ≡ None) → IsStoppedAt text start
 stopped_at_token text at start end before t m n stuck = record {
   tokens = m.tokens;
   rest = drop at text;
@@ -177,7 +180,8 @@ through text at start r m n all =
     }
 
 -- all is read, and it is a word
-pub written : (text : List ℕ) (r : WordReader) → length text < 2 ^ 32 → IsThrough text r → r.stage ≡ End → Writes text (record { names = r.names; stem = map label_tree r.stem; cycle = map label_tree r.cycle })
+pub written : (text : List ℕ) (r : WordReader) → length text < 2 ^ 32 → IsThrough text r → r.stage ≡ End
+    → Writes text (record { names = r.names; stem = map label_tree r.stem; cycle = map label_tree r.cycle })
 written text r short t is_end =
     let P : List (List ℕ) → Type 0 = λ x. IsWord t.tokens (record { names = x; stem = map label_tree r.stem; cycle = map label_tree r.cycle }) in
     record { short = short; tokens = t.tokens; rest = t.rest; lexes = t.lexes; blank = t.blank; word = subst P (sym t.names) (whole_word t.tokens (word_state r) t.read is_end) }

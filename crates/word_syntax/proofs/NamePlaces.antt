@@ -113,13 +113,16 @@ mutual_push n (m ∷ ms) =
       | inl e ↦ (
         λ has. ap (λ (x : List (List ℕ)). m ∷ x) (elim (decided n (distinct ms)) [
           | inl h ↦ ap (others m) (before.0 h)
-          | inr g ↦ ap (others m) (before.1 g) ∙ (filter-append (λ k. not (same_text m k)) (distinct ms) (n ∷ []) ∙ (ap (λ (x : List (List ℕ)). others m (distinct ms) ++ x) (dropped m n [] e) ∙ append-nil (others m (distinct ms))))
+          | inr g ↦ ap (others m) (before.1 g) ∙ (filter-append (λ k. not (same_text m k)) (distinct ms) (n ∷ [])
+              ∙ (ap (λ (x : List (List ℕ)). others m (distinct ms) ++ x) (dropped m n [] e) ∙ append-nil (others m (distinct ms))))
         ]),
         λ none. absurd (none (inl e)),
       )
       | inr f ↦ (
         λ has. (let later : Has n (distinct ms) = elim has [ inl e ↦ absurd (f e) | inr h ↦ (others_has m n (distinct ms) h).1 ] in ap (λ (x : List (List ℕ)). m ∷ others m x) (before.0 later)),
-        λ none. (let g : Has n (distinct ms) → ⊥ = λ h. none (inr (has_others m n (distinct ms) f h)) in ap (λ (x : List (List ℕ)). m ∷ x) (ap (others m) (before.1 g) ∙ (filter-append (λ k. not (same_text m k)) (distinct ms) (n ∷ []) ∙ ap (λ (x : List (List ℕ)). others m (distinct ms) ++ x) (kept m n [] f)))),
+        λ none. (let g : Has n (distinct ms) → ⊥ = λ h. none (inr (has_others m n (distinct ms) f h)) in
+            ap (λ (x : List (List ℕ)). m ∷ x) (ap (others m) (before.1 g)
+            ∙ (filter-append (λ k. not (same_text m k)) (distinct ms) (n ∷ []) ∙ ap (λ (x : List (List ℕ)). others m (distinct ms) ++ x) (kept m n [] f)))),
       )
     ]
 
@@ -192,7 +195,8 @@ agrees_front place ns more agrees i n e = agrees i n (slice_get-append_left ns m
 -- the names of tokens have places among the distinct ones
 pub knows_all : (v w : List Token) (t : Token) (all : List Token) → all ≡ v ++ (t ∷ w) → Knows (place_in (distinct (names_of all))) (distinct (names_of all)) t
 knows_all v w (token.Name n) all e =
-    let there : Has n (names_of all) = subst (λ (x : List Token). Has n (names_of x)) (sym e) (subst (λ (x : List (List ℕ)). Has n x) (sym (names_of-append v (token.Name n ∷ w))) (behind (names_of v) (names_of w) n)) in
+    let there : Has n (names_of all) = subst (λ (x : List Token). Has n (names_of x)) (sym e)
+    (subst (λ (x : List (List ℕ)). Has n x) (sym (names_of-append v (token.Name n ∷ w))) (behind (names_of v) (names_of w) n)) in
     place_stands (distinct (names_of all)) n (has_distinct n (names_of all) there)
   where
     behind : (xs ys : List (List ℕ)) (n : List ℕ) → Has n (xs ++ (n ∷ ys))

@@ -26,7 +26,8 @@ after_blanks text rest at n is count =
       blank = ap (λ (k : ℕ). list_all is_blank (take k (drop at text))) size ∙ prefix_all is_blank (drop at text);
     }
 
-pub found_next : (text rest front : List ℕ) (at n : ℕ) (t : Token) (size : ℕ) (o : Option (Token × ℕ)) → at ≤ length text → rest ≡ drop at text → n ≡ prefix_len is_blank rest → front ≡ drop (at + n) text → o ≡ front_token front → o ≡ Some (t, size) → IsNext text at t (at + n) (at + n + size)
+pub found_next : (text rest front : List ℕ) (at n : ℕ) (t : Token) (size : ℕ) (o : Option (Token × ℕ)) → at ≤ length text → rest ≡ drop at text → n ≡ prefix_len is_blank rest
+    → front ≡ drop (at + n) text → o ≡ front_token front → o ≡ Some (t, size) → IsNext text at t (at + n) (at + n + size)
 found_next text rest front at n t size o within is count there found some =
     let f = front_found (drop (at + n) text) t size (ap front_token (sym there) ∙ (sym found ∙ some)) in
     let bound = blank_bound text rest at n within is count in
@@ -39,7 +40,8 @@ found_next text rest front at n t size o within is count there found some =
       within = omega (arith, f.within);
     }
 
-pub found_nothing : (text rest front : List ℕ) (at n : ℕ) (o : Option (Token × ℕ)) → at ≤ length text → rest ≡ drop at text → n ≡ prefix_len is_blank rest → front ≡ drop (at + n) text → o ≡ front_token front → o ≡ None → IsNothing text at (at + n)
+pub found_nothing : (text rest front : List ℕ) (at n : ℕ) (o : Option (Token × ℕ)) → at ≤ length text → rest ≡ drop at text → n ≡ prefix_len is_blank rest → front ≡ drop (at + n) text
+    → o ≡ front_token front → o ≡ None → IsNothing text at (at + n)
 found_nothing text rest front at n o within is count there found none =
     let size : n ≡ prefix_len is_blank (drop at text) = count ∙ ap (prefix_len is_blank) is in
     record {

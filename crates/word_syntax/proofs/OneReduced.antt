@@ -65,9 +65,11 @@ common : (fuel : ℕ) (w : ℕ → Option NameSet) (from a b : ℕ) → a + b �
 common zero w from a b small some_a some_b r s = absurd (omega arith)
 common (suc fuel) w from a b small some_a some_b r s = elim (cases_order a b) [
   | inl e ↦ record { size = a; some = some_a; repeats = r; first = 1; first_is = omega arith; second = 1; second_is = omega arith }
-  | inr (inl less) ↦ (let c = common fuel w from a (b - a) (omega arith) some_a (omega arith) r (λ n h. let e : n + (b - a) + a ≡ n + b = omega arith in sym (r (n + (b - a)) (omega arith)) ∙ (same_at w (n + (b - a) + a) (n + b) e ∙ s n h)) in
+  | inr (inl less) ↦ (let c = common fuel w from a (b - a) (omega arith) some_a (omega arith) r (λ n h. let e : n + (b - a) + a ≡ n + b = omega arith in sym (r (n + (b - a)) (omega arith))
+      ∙ (same_at w (n + (b - a) + a) (n + b) e ∙ s n h)) in
       record { size = c.size; some = c.some; repeats = c.repeats; first = c.first; first_is = c.first_is; second = c.first + c.second; second_is = omega (arith, c.first_is, c.second_is) })
-  | inr (inr more) ↦ (let c = common fuel w from (a - b) b (omega arith) (omega arith) some_b (λ n h. let e : n + (a - b) + b ≡ n + a = omega arith in sym (s (n + (a - b)) (omega arith)) ∙ (same_at w (n + (a - b) + b) (n + a) e ∙ r n h)) s in
+  | inr (inr more) ↦ (let c = common fuel w from (a - b) b (omega arith) (omega arith) some_b (λ n h. let e : n + (a - b) + b ≡ n + a = omega arith in sym (s (n + (a - b)) (omega arith))
+      ∙ (same_at w (n + (a - b) + b) (n + a) e ∙ r n h)) s in
       record { size = c.size; some = c.some; repeats = c.repeats; first = c.second + c.first; first_is = omega (arith, c.first_is, c.second_is); second = c.second; second_is = c.second_is })
 ]
 
@@ -89,7 +91,8 @@ no_less w u v from g (suc (suc k)) spells reduced some some_g r e =
     absurd (reduced.primitive (take g v) (suc (suc k)) (omega arith) (copies_of_turn v g (suc (suc k)) some_g (omega arith) e (λ i.
     let far : from ≤ length u + (from * length v + i) = far_enough from (length v) (length u) i some in
     let f : length u + (from * length v + (i + g)) ≡ length u + (from * length v + i) + g = omega arith in
-    sym (far_out w u v spells (i + g) from) ∙ (same_at w (length u + (from * length v + (i + g))) (length u + (from * length v + i) + g) f ∙ (r (length u + (from * length v + i)) far ∙ far_out w u v spells i from)))))
+    sym (far_out w u v spells (i + g) from) ∙ (same_at w (length u + (from * length v + (i + g))) (length u + (from * length v + i) + g) f
+    ∙ (r (length u + (from * length v + i)) far ∙ far_out w u v spells i from)))))
   where
     grows : (n l : ℕ) → 0 < l → n ≤ n * l
     grows zero l some = omega arith
@@ -98,11 +101,15 @@ no_less w u v from g (suc (suc k)) spells reduced some some_g r e =
     far_enough : (from l m i : ℕ) → 0 < l → from ≤ m + (from * l + i)
     far_enough from l m i some = omega (arith, grows from l some)
 
-same_length : (w : ℕ → Option NameSet) (u v x y : List NameSet) → ((n : ℕ) → w n ≡ letter_at u v n) → ((n : ℕ) → w n ≡ letter_at x y n) → 0 < length v → 0 < length y → IsReduced u v → IsReduced x y → length v ≡ length y
+same_length : (w : ℕ → Option NameSet) (u v x y : List NameSet) → ((n : ℕ) → w n ≡ letter_at u v n) → ((n : ℕ) → w n ≡ letter_at x y n) → 0 < length v → 0 < length y → IsReduced u v
+    → IsReduced x y → length v ≡ length y
 same_length w u v x y one two some some' reduced reduced' =
     let from = length u + length x in
-    let c = common (length v + length y) w (length u + length x) (length v) (length y) (omega arith) some some' (repeats_later w (length u) (length u + length x) (length v) (omega arith) (cycle_repeats w u v one)) (repeats_later w (length x) (length u + length x) (length y) (omega arith) (cycle_repeats w x y two)) in
-    no_less w u v (length u + length x) c.size c.first one reduced some c.some c.repeats c.first_is ∙ sym (no_less w x y (length u + length x) c.size c.second two reduced' some' c.some c.repeats c.second_is)
+    let c = common (length v + length y) w (length u + length x) (length v) (length y) (omega arith) some some'
+    (repeats_later w (length u) (length u + length x) (length v) (omega arith) (cycle_repeats w u v one))
+    (repeats_later w (length x) (length u + length x) (length y) (omega arith) (cycle_repeats w x y two)) in
+    no_less w u v (length u + length x) c.size c.first one reduced some c.some c.repeats c.first_is
+    ∙ sym (no_less w x y (length u + length x) c.size c.second two reduced' some' c.some c.repeats c.second_is)
 
 -- the last element of a list
 record Last (xs : List NameSet) : Type 0 where
@@ -121,13 +128,15 @@ last_stands xs l =
     ap (λ (z : List NameSet). slice_get z (length xs - 1)) l.is ∙ (ap (slice_get (l.front ++ l.last ∷ [])) size ∙ slice_get-push_last l.front l.last (length l.front) refl)
 
 -- no stem is longer
-no_longer : (w : ℕ → Option NameSet) (u v x y : List NameSet) → ((n : ℕ) → w n ≡ letter_at u v n) → ((n : ℕ) → w n ≡ letter_at x y n) → 0 < length v → length v ≡ length y → IsReduced u v → length x < length u → ⊥
+no_longer : (w : ℕ → Option NameSet) (u v x y : List NameSet) → ((n : ℕ) → w n ≡ letter_at u v n) → ((n : ℕ) → w n ≡ letter_at x y n) → 0 < length v → length v ≡ length y → IsReduced u v
+    → length x < length u → ⊥
 no_longer w u v x y one two some same reduced longer =
     let a = last_of u (omega arith) in
     let b = last_of v some in
     let here : w (length u - 1) ≡ Some a.last = one (length u - 1) ∙ (stem_letter u v (length u - 1) (omega arith) ∙ last_stands u a) in
     let e : length u - 1 + length y ≡ length u + (0 * length v + (length v - 1)) = omega arith in
-    let there : w (length u - 1 + length y) ≡ Some b.last = same_at w (length u - 1 + length y) (length u + (0 * length v + (length v - 1))) e ∙ (far_out w u v one (length v - 1) 0 ∙ (ap (slice_get v) (mod-eq_of_lt (omega arith)) ∙ last_stands v b)) in
+    let there : w (length u - 1 + length y) ≡ Some b.last = same_at w (length u - 1 + length y) (length u + (0 * length v + (length v - 1))) e
+    ∙ (far_out w u v one (length v - 1) 0 ∙ (ap (slice_get v) (mod-eq_of_lt (omega arith)) ∙ last_stands v b)) in
     reduced.stem a.front b.front a.last b.last a.is b.is (same_Some a.last b.last (sym here ∙ (sym (cycle_repeats w x y two (length u - 1) (omega arith)) ∙ there)))
 
 pub one_reduced_lasso : OneReducedLasso
@@ -142,5 +151,7 @@ one_reduced_lasso u v x y some some' reduced reduced' same =
     ] in (
       lists_same u x stems (λ i h. sym (stem_letter u v i h) ∙ (same i ∙ stem_letter x y i (omega arith))),
       lists_same v y cycles (λ i h. let inside : i < length y = omega arith in
-          ap (slice_get v) (sym (mod-eq_of_lt h)) ∙ (sym (far_out (letter_at u v) u v one i 0) ∙ (same_at (letter_at u v) (length u + (0 * length v + i)) (length x + (0 * length y + i)) (omega arith) ∙ (far_out (letter_at u v) x y same i 0 ∙ ap (slice_get y) (mod-eq_of_lt inside))))),
+          ap (slice_get v) (sym (mod-eq_of_lt h)) ∙ (sym (far_out (letter_at u v) u v one i 0)
+          ∙ (same_at (letter_at u v) (length u + (0 * length v + i)) (length x + (0 * length y + i)) (omega arith)
+          ∙ (far_out (letter_at u v) x y same i 0 ∙ ap (slice_get y) (mod-eq_of_lt inside))))),
     )

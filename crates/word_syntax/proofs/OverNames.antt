@@ -12,11 +12,14 @@ use Rattle.word_syntax.specs.Printing.{HoldsOnly}
 abbrev pub Members : NameSet → List (List ℕ) → Type 0
 Members letter items = (name : List ℕ) → IsTrue (contains letter name) ↔ Contains items name
 
-pub not_held : (names items : List (List ℕ)) (letter : NameSet) (i : ℕ) (item : List ℕ) → i < length items → item ≡ get_or items i item → Members letter items → All (λ other. other ≢ item) names → HoldsOnly names letter → ⊥
+pub not_held : (names items : List (List ℕ)) (letter : NameSet) (i : ℕ) (item : List ℕ) → i < length items → item ≡ get_or items i item → Members letter items
+    → All (λ other. other ≢ item) names → HoldsOnly names letter → ⊥
 not_held names items letter i item within is members lacks holds = All-contains (λ other. other ≢ item) names item lacks (holds item ((members item).1 (i, within, sym is))) refl
 
-pub held_more : (names items : List (List ℕ)) (i : ℕ) (item : List ℕ) → i < length items → item ≡ get_or items i item → AllByRecursion (λ name. Contains names name) (take i items) → Contains names item → AllByRecursion (λ name. Contains names name) (take (i + 1) items)
-held_more names items i item within is so_far here = subst (λ (x : List (List ℕ)). AllByRecursion (λ name. Contains names name) x) (sym (take-push items i item within is)) (AllByRecursion-push (λ name. Contains names name) (take i items) item so_far here)
+pub held_more : (names items : List (List ℕ)) (i : ℕ) (item : List ℕ) → i < length items → item ≡ get_or items i item → AllByRecursion (λ name. Contains names name) (take i items)
+    → Contains names item → AllByRecursion (λ name. Contains names name) (take (i + 1) items)
+held_more names items i item within is so_far here = subst (λ (x : List (List ℕ)). AllByRecursion (λ name. Contains names name) x) (sym (take-push items i item within is))
+    (AllByRecursion-push (λ name. Contains names name) (take i items) item so_far here)
 
 each_held : (names items : List (List ℕ)) (name : List ℕ) → AllByRecursion (λ n. Contains names n) items → (k : ℕ) → k < length items → get_or items k name ≡ name → Contains names name
 each_held names [] name all k within is = absurd (omega arith)

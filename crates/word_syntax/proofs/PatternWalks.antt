@@ -1,5 +1,6 @@
 -- The automaton of a pattern goes from one letter to the next.
-use Rattle.std.proofs.Common.{◌≡◌, ◌∙◌, ◌∷◌, ◌++◌, ◌+◌, ◌-◌, ◌%◌, ◌<◌, ◌≤◌, ◌⊎◌, Contains, List, Some, [], ap, arith, cond, eq-eqb, get_or, inl, inr, length, length-append, nat_lt, ne_eqb, refl, slice_get, subst, suc, sym, true, zero, ℕ}
+use Rattle.std.proofs.Common.{◌≡◌, ◌∙◌, ◌∷◌, ◌++◌, ◌+◌, ◌-◌, ◌%◌, ◌<◌, ◌≤◌, ◌⊎◌, Contains, List, Some, [], ap, arith, cond, eq-eqb, get_or, inl, inr}
+use Rattle.std.proofs.Common.{length, length-append, nat_lt, ne_eqb, refl, slice_get, subst, suc, sym, true, zero, ℕ}
 use Rattle.std.proofs.Math.Nat.{mod-add-mod, mod-eq_of_lt, mod-lt, mod_self}
 use Rattle.std.proofs.lemmas.Bool.{cases_lt, cond-false, cond-true, le-ltb, lt-ltb}
 use Rattle.std.proofs.lemmas.Option.{get_or_from_slice_get, none-some, same_Some, slice_get_within}
@@ -56,14 +57,17 @@ state_next p some k = elim (cases_lt (k + 1) (length p.stem)) [
   | inr h ↦ (elim (cases_lt k (length p.stem)) [
     | inl inside ↦ (let here = state_in_stem p k inside in let last : k + 1 ≡ length p.stem = omega arith in
         let start : (k + 1 - length p.stem) % length p.cycle ≡ 0 = let z : k + 1 - length p.stem ≡ 0 = omega arith in ap (λ (n : ℕ). n % length p.cycle) z ∙ mod-eq_of_lt some in
-        next_other (length p.stem) (length (labels p)) (state_at p k) (λ e. absurd (omega (arith, total_is p))) ∙ (let e : state_at p k + 1 ≡ length p.stem + (k + 1 - length p.stem) % length p.cycle = omega arith in e ∙ sym (state_in_cycle p (k + 1) h)))
+        next_other (length p.stem) (length (labels p)) (state_at p k) (λ e. absurd (omega (arith, total_is p)))
+        ∙ (let e : state_at p k + 1 ≡ length p.stem + (k + 1 - length p.stem) % length p.cycle = omega arith in e ∙ sym (state_in_cycle p (k + 1) h)))
     | inr past ↦ (let here = state_in_cycle p k past in
         let there = state_in_cycle p (k + 1) (omega arith) in
         let moved : k + 1 - length p.stem ≡ k - length p.stem + 1 = omega arith in
         let rest : (k + 1 - length p.stem) % length p.cycle ≡ (k - length p.stem + 1) % length p.cycle = ap (λ (n : ℕ). n % length p.cycle) moved in
         elim (mod_more (k - length p.stem) (length p.cycle) some) [
-          | inl last ↦ next_last (length p.stem) (length (labels p)) (state_at p k) (omega (arith, total_is p, last.0)) ∙ (let e : length p.stem ≡ length p.stem + (k + 1 - length p.stem) % length p.cycle = omega (arith, last.1) in e ∙ sym there)
-          | inr other ↦ next_other (length p.stem) (length (labels p)) (state_at p k) (λ e. absurd (omega (arith, total_is p, other.0))) ∙ (let e : state_at p k + 1 ≡ length p.stem + (k + 1 - length p.stem) % length p.cycle = omega (arith, other.1) in e ∙ sym there)
+          | inl last ↦ next_last (length p.stem) (length (labels p)) (state_at p k) (omega (arith, total_is p, last.0))
+              ∙ (let e : length p.stem ≡ length p.stem + (k + 1 - length p.stem) % length p.cycle = omega (arith, last.1) in e ∙ sym there)
+          | inr other ↦ next_other (length p.stem) (length (labels p)) (state_at p k) (λ e. absurd (omega (arith, total_is p, other.0)))
+              ∙ (let e : state_at p k + 1 ≡ length p.stem + (k + 1 - length p.stem) % length p.cycle = omega (arith, other.1) in e ∙ sym there)
         ])
   ])
 ]
@@ -72,7 +76,8 @@ state_next p some k = elim (cases_lt (k + 1) (length p.stem)) [
 abbrev pub edge_at : ℕ → ℕ → ℕ → LabelTree → TreeEdge
 edge_at back total place t = record { from = place; label = t; to = next_state back total place; marks = [] }
 
-edges_get : (back total place : ℕ) (ts : List LabelTree) (i : ℕ) (e : TreeEdge) → slice_get (edges_along back total place ts) i ≡ Some e → (t : LabelTree) × (slice_get ts i ≡ Some t) × (e ≡ edge_at back total (place + i) t)
+edges_get : (back total place : ℕ) (ts : List LabelTree) (i : ℕ) (e : TreeEdge) → slice_get (edges_along back total place ts) i ≡ Some e
+    → (t : LabelTree) × (slice_get ts i ≡ Some t) × (e ≡ edge_at back total (place + i) t)
 edges_get back total place [] i e h = absurd (none-some e h)
 edges_get back total place (t ∷ ts) zero e h = let z : place ≡ place + 0 = omega arith in (t, refl, sym (same_Some _ e h) ∙ ap (λ (n : ℕ). edge_at back total n t) z)
 edges_get back total place (t ∷ ts) (suc i) e h =
@@ -82,7 +87,8 @@ edges_get back total place (t ∷ ts) (suc i) e h =
 
 edges_has : (back total place : ℕ) (ts : List LabelTree) (i : ℕ) (t : LabelTree) → slice_get ts i ≡ Some t → slice_get (edges_along back total place ts) i ≡ Some (edge_at back total (place + i) t)
 edges_has back total place [] i t h = absurd (none-some t h)
-edges_has back total place (u ∷ ts) zero t h = let z : place ≡ place + 0 = omega arith in ap (λ (x : LabelTree). Some (edge_at back total place x)) (same_Some u t h) ∙ ap (λ (n : ℕ). Some (edge_at back total n t)) z
+edges_has back total place (u ∷ ts) zero t h = let z : place ≡ place + 0 = omega arith in ap (λ (x : LabelTree). Some (edge_at back total place x)) (same_Some u t h)
+    ∙ ap (λ (n : ℕ). Some (edge_at back total n t)) z
 edges_has back total place (u ∷ ts) (suc i) t h =
     let z : place + 1 + i ≡ place + suc i = omega arith in
     edges_has back total (place + 1) ts i t h ∙ ap (λ (n : ℕ). Some (edge_at back total n t)) z
@@ -104,7 +110,8 @@ MeetsFrom p k [] = Unit {0}
 MeetsFrom p k (x ∷ xs) = ((t : LabelTree) → slice_get (labels p) (state_at p k) ≡ Some t → truth (holds_at p.names x) t ≡ true) × MeetsFrom p (k + 1) xs
 
 -- a path reads letters that meet the formulas, and ends after them
-pub walked : (p : WordPattern) → 0 < length p.cycle → (k q : ℕ) (xs : List NameSet) (es : List TreeEdge) → IsPath (word_automaton p) (state_at p k) xs es q → MeetsFrom p k xs × (q ≡ state_at p (k + length xs))
+pub walked : (p : WordPattern) → 0 < length p.cycle → (k q : ℕ) (xs : List NameSet) (es : List TreeEdge) → IsPath (word_automaton p) (state_at p k) xs es q
+    → MeetsFrom p k xs × (q ≡ state_at p (k + length xs))
 walked p some k q [] [] path = let z : k ≡ k + 0 = omega arith in (tt, sym path ∙ ap (state_at p) z)
 walked p some k q [] (e ∷ es) path = absurd path
 walked p some k q (x ∷ xs) [] path = absurd path
@@ -139,7 +146,8 @@ walk p some k (x ∷ xs) meets =
     let rest = walk p some (k + 1) xs meets.1 in
     let e : TreeEdge = edge_at (length p.stem) (length (labels p)) (state_at p k) label.0 in
     let z : 0 + state_at p k ≡ state_at p k = omega arith in
-    let has : slice_get (word_automaton p).edges (state_at p k) ≡ Some e = edges_has (length p.stem) (length (labels p)) 0 (labels p) (state_at p k) label.0 label.1 ∙ ap (λ (n : ℕ). Some (edge_at (length p.stem) (length (labels p)) n label.0)) z in
+    let has : slice_get (word_automaton p).edges (state_at p k) ≡ Some e = edges_has (length p.stem) (length (labels p)) 0 (labels p) (state_at p k) label.0 label.1
+    ∙ ap (λ (n : ℕ). Some (edge_at (length p.stem) (length (labels p)) n label.0)) z in
     let far : k + 1 + length xs ≡ k + length (x ∷ xs) = omega arith in
     let P : ℕ → Type 0 = λ n. IsPath (word_automaton p) n xs rest.way (state_at p (k + length (x ∷ xs))) in
     let Q : ℕ → Type 0 = λ n. IsPath (word_automaton p) (state_at p (k + 1)) xs rest.way (state_at p n) in

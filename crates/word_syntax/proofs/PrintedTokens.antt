@@ -53,7 +53,8 @@ escaped_quotes : (n : List ℕ) → Quotes (flat_map escaped_byte n) n
 escaped_quotes [] = nothing
 escaped_quotes (b ∷ bs) = elim (cases_Bool ((b == 34) || (b == 92))) [
   | inl e ↦ subst (λ (x : List ℕ). Quotes (x ++ flat_map escaped_byte bs) (b ∷ bs)) (sym (cond-true _ _ _ e)) (escaped (escaped_quotes bs))
-  | inr e ↦ (let parts = or_parts (b == 34) (b == 92) e in subst (λ (x : List ℕ). Quotes (x ++ flat_map escaped_byte bs) (b ∷ bs)) (sym (cond-false _ _ _ e)) (plain (eqb-false b 34 parts.0) (eqb-false b 92 parts.1) (escaped_quotes bs)))
+  | inr e ↦ (let parts = or_parts (b == 34) (b == 92) e in subst (λ (x : List ℕ). Quotes (x ++ flat_map escaped_byte bs) (b ∷ bs)) (sym (cond-false _ _ _ e))
+      (plain (eqb-false b 34 parts.0) (eqb-false b 92 parts.1) (escaped_quotes bs)))
 ]
 
 small_letter : (b : ℕ) → is_small b ≡ true → is_letter b ≡ true
@@ -83,16 +84,21 @@ quoted_alone (b ∷ bs) c = refl
 
 lex_name : (n rest : List ℕ) (ts : List Token) (end : List ℕ) → StopsAt is_word rest → Lexes rest ts end → Lexes (name_text n ++ rest) (token.Name n ∷ ts) end
 lex_name n rest ts end stop lexes = elim (cases_Bool (is_plain n)) [
-  | inl e ↦ (let bare = plain_bare n e in subst (λ (x : List ℕ). Lexes (x ++ rest) (token.Name n ∷ ts) end) (sym (cond-true _ _ _ e)) (lex_cons (token.Name n) n rest ts end (inl (bare, refl)) (bare_stops n rest bare.bare stop) lexes))
+  | inl e ↦ (let bare = plain_bare n e in subst (λ (x : List ℕ). Lexes (x ++ rest) (token.Name n ∷ ts) end) (sym (cond-true _ _ _ e))
+      (lex_cons (token.Name n) n rest ts end (inl (bare, refl)) (bare_stops n rest bare.bare stop) lexes))
   | inr e ↦ (let word : List ℕ = 34 ∷ (flat_map escaped_byte n ++ 34 ∷ []) in
-      subst (λ (x : List ℕ). Lexes (x ++ rest) (token.Name n ∷ ts) end) (sym (cond-false _ _ _ e)) (lex_cons (token.Name n) (34 ∷ (flat_map escaped_byte n ++ 34 ∷ [])) rest ts end (inr (record { inner = flat_map escaped_byte n; quotes = escaped_quotes n; is = refl })) (ends_anyhow (34 ∷ (flat_map escaped_byte n ++ 34 ∷ [])) rest (quoted_alone (flat_map escaped_byte n))) lexes))
+      subst (λ (x : List ℕ). Lexes (x ++ rest) (token.Name n ∷ ts) end) (sym (cond-false _ _ _ e))
+      (lex_cons (token.Name n) (34 ∷ (flat_map escaped_byte n ++ 34 ∷ [])) rest ts end (inr (record { inner = flat_map escaped_byte n; quotes = escaped_quotes n; is = refl }))
+      (ends_anyhow (34 ∷ (flat_map escaped_byte n ++ 34 ∷ [])) rest (quoted_alone (flat_map escaped_byte n))) lexes))
 ]
 
 -- a literal
 lex_literal : (x : NameSet) (n rest : List ℕ) (ts : List Token) (end : List ℕ) → StopsAt is_word rest → Lexes rest ts end → Lexes (literal_text x n ++ rest) (literal_tokens x n ++ ts) end
 lex_literal x n rest ts end stop lexes = elim (cases_Bool (contains x n)) [
-  | inl e ↦ subst (λ (w : List ℕ). Lexes (w ++ rest) (literal_tokens x n ++ ts) end) (sym (cond-true _ _ _ e)) (subst (λ (w : List Token). Lexes (name_text n ++ rest) (w ++ ts) end) (sym (cond-true _ _ _ e)) (lex_name n rest ts end stop lexes))
-  | inr e ↦ subst (λ (w : List ℕ). Lexes (w ++ rest) (literal_tokens x n ++ ts) end) (sym (cond-false _ _ _ e)) (subst (λ (w : List Token). Lexes ((codes "!" ++ name_text n) ++ rest) (w ++ ts) end) (sym (cond-false _ _ _ e))
+  | inl e ↦ subst (λ (w : List ℕ). Lexes (w ++ rest) (literal_tokens x n ++ ts) end) (sym (cond-true _ _ _ e))
+      (subst (λ (w : List Token). Lexes (name_text n ++ rest) (w ++ ts) end) (sym (cond-true _ _ _ e)) (lex_name n rest ts end stop lexes))
+  | inr e ↦ subst (λ (w : List ℕ). Lexes (w ++ rest) (literal_tokens x n ++ ts) end) (sym (cond-false _ _ _ e))
+      (subst (λ (w : List Token). Lexes ((codes "!" ++ name_text n) ++ rest) (w ++ ts) end) (sym (cond-false _ _ _ e))
       (lex_cons token.Not (codes "!") (name_text n ++ rest) (token.Name n ∷ ts) end refl (ends_anyhow (codes "!") (name_text n ++ rest) (λ c. refl)) (lex_name n rest ts end stop lexes)))
 ]
 
@@ -117,21 +123,28 @@ literal_begins x n ts = elim (cases_Bool (contains x n)) [
 
 literals_begin : (x : NameSet) (n : List ℕ) (ns : List (List ℕ)) (ts : List Token) → (first : Token) × (others : List Token) × (literals_tokens x (n ∷ ns) ++ ts ≡ first ∷ others)
 literals_begin x n [] ts = literal_begins x n ts
-literals_begin x n (m ∷ ms) ts = let b = literal_begins x n (token.And ∷ literals_tokens x (m ∷ ms) ++ ts) in (b.0, b.1, append_assoc (literal_tokens x n) (token.And ∷ literals_tokens x (m ∷ ms)) ts ∙ b.2)
+literals_begin x n (m ∷ ms) ts = let b = literal_begins x n (token.And ∷ literals_tokens x (m ∷ ms) ++ ts) in
+    (b.0, b.1, append_assoc (literal_tokens x n) (token.And ∷ literals_tokens x (m ∷ ms)) ts ∙ b.2)
 
 -- the literals of a letter
-lex_literals : (x : NameSet) (n : List ℕ) (ns : List (List ℕ)) (rest : List ℕ) (ts : List Token) (end : List ℕ) → StopsAt is_word rest → Lexes rest ts end → Lexes (joined (codes " & ") (map (literal_text x) (n ∷ ns)) ++ rest) (literals_tokens x (n ∷ ns) ++ ts) end
+lex_literals : (x : NameSet) (n : List ℕ) (ns : List (List ℕ)) (rest : List ℕ) (ts : List Token) (end : List ℕ) → StopsAt is_word rest → Lexes rest ts end
+    → Lexes (joined (codes " & ") (map (literal_text x) (n ∷ ns)) ++ rest) (literals_tokens x (n ∷ ns) ++ ts) end
 lex_literals x n [] rest ts end stop lexes = lex_literal x n rest ts end stop lexes
 lex_literals x n (m ∷ ms) rest ts end stop lexes =
     let more : List ℕ = joined (codes " & ") (map (literal_text x) (m ∷ ms)) ++ rest in
     let later = lex_literals x m ms rest ts end stop lexes in
     let b = literals_begin x m ms ts in
-    let and = lex_space (codes "&" ++ (32 ∷ more)) token.And (literals_tokens x (m ∷ ms) ++ ts) end (lex_cons token.And (codes "&") (32 ∷ more) (literals_tokens x (m ∷ ms) ++ ts) end (inl refl) refl (spaced more (literals_tokens x (m ∷ ms) ++ ts) end (begun more b.0 b.1 (literals_tokens x (m ∷ ms) ++ ts) end b.2 later))) in
+    let and = lex_space (codes "&" ++ (32 ∷ more)) token.And (literals_tokens x (m ∷ ms) ++ ts) end
+    (lex_cons token.And (codes "&") (32 ∷ more) (literals_tokens x (m ∷ ms) ++ ts) end (inl refl) refl
+    (spaced more (literals_tokens x (m ∷ ms) ++ ts) end (begun more b.0 b.1 (literals_tokens x (m ∷ ms) ++ ts) end b.2 later))) in
     let whole = lex_literal x n (32 ∷ (codes "&" ++ (32 ∷ more))) (token.And ∷ literals_tokens x (m ∷ ms) ++ ts) end refl and in
-    let text : (literal_text x n ++ (codes " & " ++ joined (codes " & ") (map (literal_text x) (m ∷ ms)))) ++ rest ≡ literal_text x n ++ (32 ∷ (codes "&" ++ (32 ∷ more))) = append_assoc (literal_text x n) (codes " & " ++ joined (codes " & ") (map (literal_text x) (m ∷ ms))) rest in
-    subst (λ (w : List ℕ). Lexes w ((literal_tokens x n ++ (token.And ∷ literals_tokens x (m ∷ ms))) ++ ts) end) (sym text) (subst (λ (w : List Token). Lexes (literal_text x n ++ (32 ∷ (codes "&" ++ (32 ∷ more)))) w end) (sym (append_assoc (literal_tokens x n) (token.And ∷ literals_tokens x (m ∷ ms)) ts)) whole)
+    let text : (literal_text x n ++ (codes " & " ++ joined (codes " & ") (map (literal_text x) (m ∷ ms)))) ++ rest ≡ literal_text x n ++ (32 ∷ (codes "&" ++ (32 ∷ more))) =
+    append_assoc (literal_text x n) (codes " & " ++ joined (codes " & ") (map (literal_text x) (m ∷ ms))) rest in
+    subst (λ (w : List ℕ). Lexes w ((literal_tokens x n ++ (token.And ∷ literals_tokens x (m ∷ ms))) ++ ts) end) (sym text)
+    (subst (λ (w : List Token). Lexes (literal_text x n ++ (32 ∷ (codes "&" ++ (32 ∷ more)))) w end) (sym (append_assoc (literal_tokens x n) (token.And ∷ literals_tokens x (m ∷ ms)) ts)) whole)
 
-lex_letter : (names : List (List ℕ)) (x : NameSet) (rest : List ℕ) (ts : List Token) (end : List ℕ) → StopsAt is_word rest → Lexes rest ts end → Lexes (letter_text names x ++ rest) (letter_tokens names x ++ ts) end
+lex_letter : (names : List (List ℕ)) (x : NameSet) (rest : List ℕ) (ts : List Token) (end : List ℕ) → StopsAt is_word rest → Lexes rest ts end
+    → Lexes (letter_text names x ++ rest) (letter_tokens names x ++ ts) end
 lex_letter [] x rest ts end stop lexes = lex_cons token.True (codes "1") rest ts end (inl refl) (ends_anyhow (codes "1") rest (λ c. refl)) lexes
 lex_letter (n ∷ ns) x rest ts end stop lexes = lex_literals x n ns rest ts end stop lexes
 
@@ -146,9 +159,11 @@ lex_semicolon text ts end b = lex_cons token.Semicolon (codes ";") (32 ∷ text)
 -- the letters of the cycle
 cycle_begins : (names : List (List ℕ)) (x : NameSet) (xs : List NameSet) (ts : List Token) → (first : Token) × (others : List Token) × (cycle_tokens names (x ∷ xs) ++ ts ≡ first ∷ others)
 cycle_begins names x [] ts = letter_begins names x ts
-cycle_begins names x (y ∷ ys) ts = let b = letter_begins names x (token.Semicolon ∷ cycle_tokens names (y ∷ ys) ++ ts) in (b.0, b.1, append_assoc (letter_tokens names x) (token.Semicolon ∷ cycle_tokens names (y ∷ ys)) ts ∙ b.2)
+cycle_begins names x (y ∷ ys) ts = let b = letter_begins names x (token.Semicolon ∷ cycle_tokens names (y ∷ ys) ++ ts) in
+    (b.0, b.1, append_assoc (letter_tokens names x) (token.Semicolon ∷ cycle_tokens names (y ∷ ys)) ts ∙ b.2)
 
-lex_cycle : (names : List (List ℕ)) (x : NameSet) (xs : List NameSet) (rest : List ℕ) (ts : List Token) (end : List ℕ) → StopsAt is_word rest → Lexes rest ts end → Lexes (joined (codes "; ") (map (letter_text names) (x ∷ xs)) ++ rest) (cycle_tokens names (x ∷ xs) ++ ts) end
+lex_cycle : (names : List (List ℕ)) (x : NameSet) (xs : List NameSet) (rest : List ℕ) (ts : List Token) (end : List ℕ) → StopsAt is_word rest → Lexes rest ts end
+    → Lexes (joined (codes "; ") (map (letter_text names) (x ∷ xs)) ++ rest) (cycle_tokens names (x ∷ xs) ++ ts) end
 lex_cycle names x [] rest ts end stop lexes = lex_letter names x rest ts end stop lexes
 lex_cycle names x (y ∷ ys) rest ts end stop lexes =
     let more : List ℕ = joined (codes "; ") (map (letter_text names) (y ∷ ys)) ++ rest in
@@ -156,15 +171,20 @@ lex_cycle names x (y ∷ ys) rest ts end stop lexes =
     let b = cycle_begins names y ys ts in
     let next = lex_semicolon more (cycle_tokens names (y ∷ ys) ++ ts) end (begun more b.0 b.1 (cycle_tokens names (y ∷ ys) ++ ts) end b.2 later) in
     let whole = lex_letter names x (59 ∷ 32 ∷ more) (token.Semicolon ∷ cycle_tokens names (y ∷ ys) ++ ts) end refl next in
-    let text : (letter_text names x ++ (codes "; " ++ joined (codes "; ") (map (letter_text names) (y ∷ ys)))) ++ rest ≡ letter_text names x ++ (59 ∷ 32 ∷ more) = append_assoc (letter_text names x) (codes "; " ++ joined (codes "; ") (map (letter_text names) (y ∷ ys))) rest in
-    subst (λ (w : List ℕ). Lexes w ((letter_tokens names x ++ (token.Semicolon ∷ cycle_tokens names (y ∷ ys))) ++ ts) end) (sym text) (subst (λ (w : List Token). Lexes (letter_text names x ++ (59 ∷ 32 ∷ more)) w end) (sym (append_assoc (letter_tokens names x) (token.Semicolon ∷ cycle_tokens names (y ∷ ys)) ts)) whole)
+    let text : (letter_text names x ++ (codes "; " ++ joined (codes "; ") (map (letter_text names) (y ∷ ys)))) ++ rest ≡ letter_text names x ++ (59 ∷ 32 ∷ more) =
+    append_assoc (letter_text names x) (codes "; " ++ joined (codes "; ") (map (letter_text names) (y ∷ ys))) rest in
+    subst (λ (w : List ℕ). Lexes w ((letter_tokens names x ++ (token.Semicolon ∷ cycle_tokens names (y ∷ ys))) ++ ts) end) (sym text)
+    (subst (λ (w : List Token). Lexes (letter_text names x ++ (59 ∷ 32 ∷ more)) w end) (sym (append_assoc (letter_tokens names x) (token.Semicolon ∷ cycle_tokens names (y ∷ ys)) ts)) whole)
 
 -- the letters of the stem
-stem_begins : (names : List (List ℕ)) (xs : List NameSet) (ts : List Token) (t : Token) (us : List Token) → ts ≡ t ∷ us → (first : Token) × (others : List Token) × (stem_tokens names xs ++ ts ≡ first ∷ others)
+stem_begins : (names : List (List ℕ)) (xs : List NameSet) (ts : List Token) (t : Token) (us : List Token) → ts ≡ t ∷ us
+    → (first : Token) × (others : List Token) × (stem_tokens names xs ++ ts ≡ first ∷ others)
 stem_begins names [] ts t us is = (t, us, is)
-stem_begins names (x ∷ xs) ts t us is = let b = letter_begins names x (token.Semicolon ∷ stem_tokens names xs ++ ts) in (b.0, b.1, append_assoc (letter_tokens names x) (token.Semicolon ∷ stem_tokens names xs) ts ∙ b.2)
+stem_begins names (x ∷ xs) ts t us is = let b = letter_begins names x (token.Semicolon ∷ stem_tokens names xs ++ ts) in
+    (b.0, b.1, append_assoc (letter_tokens names x) (token.Semicolon ∷ stem_tokens names xs) ts ∙ b.2)
 
-lex_stem : (names : List (List ℕ)) (xs : List NameSet) (rest : List ℕ) (ts : List Token) (t : Token) (us : List Token) (end : List ℕ) → ts ≡ t ∷ us → Lexes rest ts end → Lexes (flat_map (λ letter. letter_text names letter ++ codes "; ") xs ++ rest) (stem_tokens names xs ++ ts) end
+lex_stem : (names : List (List ℕ)) (xs : List NameSet) (rest : List ℕ) (ts : List Token) (t : Token) (us : List Token) (end : List ℕ) → ts ≡ t ∷ us → Lexes rest ts end
+    → Lexes (flat_map (λ letter. letter_text names letter ++ codes "; ") xs ++ rest) (stem_tokens names xs ++ ts) end
 lex_stem names [] rest ts t us end is lexes = lexes
 lex_stem names (x ∷ xs) rest ts t us end is lexes =
     let others : List ℕ = flat_map (λ letter. letter_text names letter ++ codes "; ") xs in
@@ -173,17 +193,22 @@ lex_stem names (x ∷ xs) rest ts t us end is lexes =
     let b = stem_begins names xs ts t us is in
     let next = lex_semicolon more (stem_tokens names xs ++ ts) end (begun more b.0 b.1 (stem_tokens names xs ++ ts) end b.2 later) in
     let whole = lex_letter names x (59 ∷ 32 ∷ more) (token.Semicolon ∷ stem_tokens names xs ++ ts) end refl next in
-    let text : ((letter_text names x ++ codes "; ") ++ others) ++ rest ≡ letter_text names x ++ (59 ∷ 32 ∷ more) = append_assoc (letter_text names x ++ codes "; ") others rest ∙ append_assoc (letter_text names x) (codes "; ") (others ++ rest) in
-    subst (λ (w : List ℕ). Lexes w ((letter_tokens names x ++ (token.Semicolon ∷ stem_tokens names xs)) ++ ts) end) (sym text) (subst (λ (w : List Token). Lexes (letter_text names x ++ (59 ∷ 32 ∷ more)) w end) (sym (append_assoc (letter_tokens names x) (token.Semicolon ∷ stem_tokens names xs) ts)) whole)
+    let text : ((letter_text names x ++ codes "; ") ++ others) ++ rest ≡ letter_text names x ++ (59 ∷ 32 ∷ more) = append_assoc (letter_text names x ++ codes "; ") others rest
+    ∙ append_assoc (letter_text names x) (codes "; ") (others ++ rest) in
+    subst (λ (w : List ℕ). Lexes w ((letter_tokens names x ++ (token.Semicolon ∷ stem_tokens names xs)) ++ ts) end) (sym text)
+    (subst (λ (w : List Token). Lexes (letter_text names x ++ (59 ∷ 32 ∷ more)) w end) (sym (append_assoc (letter_tokens names x) (token.Semicolon ∷ stem_tokens names xs) ts)) whole)
 
 -- the whole word
 lex_some : (names : List (List ℕ)) (u : List NameSet) (x : NameSet) (xs : List NameSet) → Lexes (word_text names u (x ∷ xs)) (word_tokens names u (x ∷ xs)) []
 lex_some names u x xs =
     let close = lex_cons token.RightBrace (codes "}") [] [] [] refl tt refl in
     let cycle = lex_cycle names x xs (codes "}") (token.RightBrace ∷ []) [] refl close in
-    let brace = lex_cons token.LeftBrace (codes "{") (joined (codes "; ") (map (letter_text names) (x ∷ xs)) ++ codes "}") (cycle_tokens names (x ∷ xs) ++ token.RightBrace ∷ []) [] refl (ends_anyhow (codes "{") (joined (codes "; ") (map (letter_text names) (x ∷ xs)) ++ codes "}") (λ c. refl)) cycle in
-    let word = lex_cons token.Cycle (codes "cycle") (codes "{" ++ (joined (codes "; ") (map (letter_text names) (x ∷ xs)) ++ codes "}")) (token.LeftBrace ∷ (cycle_tokens names (x ∷ xs) ++ token.RightBrace ∷ [])) [] refl refl brace in
-    lex_stem names u (codes "cycle{" ++ (joined (codes "; ") (map (letter_text names) (x ∷ xs)) ++ codes "}")) (token.Cycle ∷ token.LeftBrace ∷ (cycle_tokens names (x ∷ xs) ++ token.RightBrace ∷ [])) token.Cycle (token.LeftBrace ∷ (cycle_tokens names (x ∷ xs) ++ token.RightBrace ∷ [])) [] refl word
+    let brace = lex_cons token.LeftBrace (codes "{") (joined (codes "; ") (map (letter_text names) (x ∷ xs)) ++ codes "}") (cycle_tokens names (x ∷ xs) ++ token.RightBrace ∷ []) [] refl
+    (ends_anyhow (codes "{") (joined (codes "; ") (map (letter_text names) (x ∷ xs)) ++ codes "}") (λ c. refl)) cycle in
+    let word = lex_cons token.Cycle (codes "cycle") (codes "{" ++ (joined (codes "; ") (map (letter_text names) (x ∷ xs)) ++ codes "}"))
+    (token.LeftBrace ∷ (cycle_tokens names (x ∷ xs) ++ token.RightBrace ∷ [])) [] refl refl brace in
+    lex_stem names u (codes "cycle{" ++ (joined (codes "; ") (map (letter_text names) (x ∷ xs)) ++ codes "}"))
+    (token.Cycle ∷ token.LeftBrace ∷ (cycle_tokens names (x ∷ xs) ++ token.RightBrace ∷ [])) token.Cycle (token.LeftBrace ∷ (cycle_tokens names (x ∷ xs) ++ token.RightBrace ∷ [])) [] refl word
 
 pub printed_tokens : (names : List (List ℕ)) (u v : List NameSet) → 0 < length v → Lexes (word_text names u v) (word_tokens names u v) []
 printed_tokens names u [] some = absurd (omega arith)

@@ -121,7 +121,8 @@ begins_front v w b = record { more = w ++ b.more; pattern = b.pattern; word = su
 begins_whole : (v w : List Token) (p : WordPattern) → IsWord (v ++ w) p → Begins v
 begins_whole v w p x = record { more = w; pattern = p; word = x }
 
-no_further : (tokens : List Token) (rest bytes : List ℕ) (us : List Token) (q : List ℕ) → AfterBlanks rest bytes → Stops tokens bytes → (g : GoesFurther tokens rest us q) → (Begins us ⊎ ((p : WordPattern) × IsWord us p)) → ⊥
+no_further : (tokens : List Token) (rest bytes : List ℕ) (us : List Token) (q : List ℕ) → AfterBlanks rest bytes → Stops tokens bytes → (g : GoesFurther tokens rest us q)
+    → (Begins us ⊎ ((p : WordPattern) × IsWord us p)) → ⊥
 no_further tokens rest bytes us q a s g b =
     let l = g.lexes in
     let same : l.0 ≡ bytes = after_is rest l.0 l.2 (front_first l.0 g.first l.1 l.3) ∙ sym (after_is rest bytes a (stops_first tokens bytes s)) in
@@ -134,7 +135,8 @@ no_further tokens rest bytes us q a s g b =
 
 not_both : (text : List ℕ) (p : WordPattern) (k : ℕ) → Writes text p → IsStoppedAt text k → ⊥
 not_both text p k w s = elim (compare text w.tokens s.tokens w.rest s.rest w.lexes s.lexes) [
-  | inl e ↦ at_end s.tokens s.bytes s.stops (all_blank s.rest s.bytes (subst (λ (x : List ℕ). list_all is_blank x ≡ true) e.1 w.blank) s.after_blanks) (subst (λ (x : List Token). IsWord x p) e.0 w.word)
+  | inl e ↦ at_end s.tokens s.bytes s.stops (all_blank s.rest s.bytes (subst (λ (x : List ℕ). list_all is_blank x ≡ true) e.1 w.blank) s.after_blanks)
+      (subst (λ (x : List Token). IsWord x p) e.0 w.word)
   | inr (inl g) ↦ no_more w.rest g.first g.more s.rest w.blank g.lexes
   | inr (inr g) ↦ no_further s.tokens s.rest s.bytes w.tokens w.rest s.after_blanks s.stops g (inr (p, w.word))
 ]
@@ -146,7 +148,8 @@ not_both text p k w s = elim (compare text w.tokens s.tokens w.rest s.rest w.lex
 
 one_offset : (text : List ℕ) (j k : ℕ) → IsStoppedAt text j → IsStoppedAt text k → j ≡ k
 one_offset text j k s t = elim (compare text s.tokens t.tokens s.rest t.rest s.lexes t.lexes) [
-  | inl e ↦ (let same : s.bytes ≡ t.bytes = after_is s.rest s.bytes s.after_blanks (stops_first s.tokens s.bytes s.stops) ∙ (ap unblanked e.1 ∙ sym (after_is t.rest t.bytes t.after_blanks (stops_first t.tokens t.bytes t.stops))) in
+  | inl e ↦ (let same : s.bytes ≡ t.bytes = after_is s.rest s.bytes s.after_blanks (stops_first s.tokens s.bytes s.stops)
+      ∙ (ap unblanked e.1 ∙ sym (after_is t.rest t.bytes t.after_blanks (stops_first t.tokens t.bytes t.stops))) in
       let lengths : length s.bytes ≡ length t.bytes = ap (λ (x : List ℕ). length x) same in
       omega (arith, s.offset, t.offset, lengths))
   | inr (inl g) ↦ absurd (no_further s.tokens s.rest s.bytes t.tokens t.rest s.after_blanks s.stops g (inl t.begins))

@@ -1,5 +1,6 @@
 -- The stem that is left and the turned root are the reduced lasso of the same infinite word.
-use Rattle.std.proofs.Common.{◌↔◌, ◌≡◌, ◌≢◌, ◌∙◌, ◌∷◌, ◌++◌, ◌+◌, ◌-◌, ◌*◌, ◌%◌, ◌<◌, ◌≤◌, ◌⊎◌, List, Some, [], ap, arith, drop, inl, inr, length, length-append, refl, slice_get, subst, suc, sym, take, zero, ℕ}
+use Rattle.std.proofs.Common.{◌↔◌, ◌≡◌, ◌≢◌, ◌∙◌, ◌∷◌, ◌++◌, ◌+◌, ◌-◌, ◌*◌, ◌%◌, ◌<◌, ◌≤◌, ◌⊎◌, List, Some, [], ap, arith, drop, inl, inr, length}
+use Rattle.std.proofs.Common.{length-append, refl, slice_get, subst, suc, sym, take, zero, ℕ}
 use Rattle.std.proofs.Math.Nat.{add-mod_right, mod-eq_of_lt}
 use Rattle.std.proofs.lemmas.Bool.{cases_lt}
 use Rattle.std.proofs.lemmas.List.{length-take-le}
@@ -20,7 +21,8 @@ cyclic_within : (v : List NameSet) (i : ℕ) → i < length v → cyclic v i ≡
 cyclic_within v i h = ap (slice_get v) (mod-eq_of_lt h)
 
 -- a letter of the stem more is left out, where the root begins inside
-pub shared_more : (stem root : List NameSet) (kept from : ℕ) → 0 < kept → 0 < from → IsMidShared stem root kept from → slice_get stem (kept - 1) ≡ slice_get root (from - 1) → IsMidShared stem root (kept - 1) (from - 1)
+pub shared_more : (stem root : List NameSet) (kept from : ℕ) → 0 < kept → 0 < from → IsMidShared stem root kept from → slice_get stem (kept - 1) ≡ slice_get root (from - 1)
+    → IsMidShared stem root (kept - 1) (from - 1)
 shared_more stem root kept from some begun m same = record {
   within = omega (arith, m.within);
   inside = omega (arith, m.inside);
@@ -34,13 +36,15 @@ shared_more stem root kept from some begun m same = record {
 }
 
 -- and where it begins at its first letter
-pub shared_around : (stem root : List NameSet) (kept : ℕ) → 0 < kept → IsMidShared stem root kept 0 → slice_get stem (kept - 1) ≡ slice_get root (length root - 1) → IsMidShared stem root (kept - 1) (length root - 1)
+pub shared_around : (stem root : List NameSet) (kept : ℕ) → 0 < kept → IsMidShared stem root kept 0 → slice_get stem (kept - 1) ≡ slice_get root (length root - 1)
+    → IsMidShared stem root (kept - 1) (length root - 1)
 shared_around stem root kept some m same = record {
   within = omega (arith, m.within);
   inside = omega (arith, m.inside);
   same = λ n h k. elim (cases_lt n kept) [
     | inl here ↦ (let at : n ≡ kept - 1 = omega arith in let zeros : length root - 1 + (n - (kept - 1)) ≡ length root - 1 = omega arith in
-        at_same stem n (kept - 1) at ∙ (same ∙ (sym (cyclic_within root (length root - 1) (omega (arith, m.inside))) ∙ cyclic_same root (length root - 1) (length root - 1 + (n - (kept - 1))) (sym zeros))))
+        at_same stem n (kept - 1) at ∙ (same ∙ (sym (cyclic_within root (length root - 1) (omega (arith, m.inside)))
+        ∙ cyclic_same root (length root - 1) (length root - 1 + (n - (kept - 1))) (sym zeros))))
     | inr past ↦ (let e : length root - 1 + (n - (kept - 1)) ≡ 1 * length root + (0 + (n - kept)) = omega (arith, m.inside) in
         m.same n past k ∙ sym (cyclic_again root (length root - 1 + (n - (kept - 1))) (0 + (n - kept)) 1 e))
   ];
@@ -55,7 +59,8 @@ last_inside root from begun inside =
     cyclic_again root (from + (length root - 1)) (from - 1) 1 e ∙ cyclic_within root (from - 1) (omega arith)
 
 pub last_around : (root : List NameSet) → 0 < length root → cyclic root (0 + (length root - 1)) ≡ slice_get root (length root - 1)
-last_around root some = let e : 0 + (length root - 1) ≡ length root - 1 = omega arith in cyclic_same root (0 + (length root - 1)) (length root - 1) e ∙ cyclic_within root (length root - 1) (omega arith)
+last_around root some = let e : 0 + (length root - 1) ≡ length root - 1 = omega arith in cyclic_same root (0 + (length root - 1)) (length root - 1) e
+    ∙ cyclic_within root (length root - 1) (omega arith)
 
 -- the root of a cycle, again and again
 root_cyclic : (cycle : List NameSet) (size x : ℕ) → (r : IsRoot cycle size) → cyclic cycle x ≡ slice_get cycle (x % size)
@@ -85,7 +90,9 @@ turned_cyclic : (stem cycle u v : List NameSet) (m : Made stem cycle u v) (x : �
 turned_cyclic stem cycle u v m x =
     let root : List NameSet = take m.size cycle in
     let inside = m.shared.shared.inside in
-    ap (λ (w : List NameSet). cyclic w x) m.cycle_is ∙ (ap (λ (n : ℕ). slice_get (drop m.from (take m.size cycle) ++ take m.from (take m.size cycle)) (x % n)) (length-turned (take m.size cycle) m.from inside) ∙ turned_at (take m.size cycle) m.from x inside)
+    ap (λ (w : List NameSet). cyclic w x) m.cycle_is
+    ∙ (ap (λ (n : ℕ). slice_get (drop m.from (take m.size cycle) ++ take m.from (take m.size cycle)) (x % n)) (length-turned (take m.size cycle) m.from inside)
+    ∙ turned_at (take m.size cycle) m.from x inside)
 
 made_size : (stem cycle u v : List NameSet) (m : Made stem cycle u v) → length v ≡ m.size
 made_size stem cycle u v m = ap (λ (w : List NameSet). length w) m.cycle_is ∙ (length-turned (take m.size cycle) m.from m.shared.shared.inside ∙ length-take-le m.size cycle m.root.within)
@@ -121,7 +128,8 @@ made_primitive stem cycle u v m w k more is =
     let inside : m.from < m.size = omega (arith, s.inside) in
     let at : (x : ℕ) → cyclic (take m.size cycle) (m.from + x) ≡ slice_get w (x % length w) = λ x.
     (let below : x % m.size < k * length w = omega (arith, m.root.some) in
-    sym (turned_cyclic stem cycle u v m x) ∙ (ap (λ (n : ℕ). slice_get v (x % n)) (made_size stem cycle u v m) ∙ (ap (λ (l : List NameSet). slice_get l (x % m.size)) is ∙ (copies_at k w (x % m.size) below
+    sym (turned_cyclic stem cycle u v m x) ∙ (ap (λ (n : ℕ). slice_get v (x % n)) (made_size stem cycle u v m)
+    ∙ (ap (λ (l : List NameSet). slice_get l (x % m.size)) is ∙ (copies_at k w (x % m.size) below
     ∙ ap (slice_get w) (mod_of_multiple x m.size k (length w) size))))) in
     let any : (i : ℕ) → slice_get cycle (i % m.size) ≡ slice_get w ((i + (m.size - m.from)) % length w) = λ i.
     (let around : m.from + (i + (m.size - m.from)) ≡ 1 * length (take m.size cycle) + i = omega arith in
@@ -142,9 +150,12 @@ made_end stem cycle u v m x y a b u_is v_is same =
     let root : length (take m.size cycle) ≡ m.size = length-take-le m.size cycle m.root.within in
     let kept_at : m.kept - 1 ≡ length x = omega arith in
     let turned_last : length (take m.size cycle) - 1 ≡ length y = omega arith in
-    let first : slice_get stem (m.kept - 1) ≡ Some a = sym (slice_get-take m.kept stem (m.kept - 1) (omega arith)) ∙ (ap (λ (w : List NameSet). slice_get w (m.kept - 1)) (sym m.stem_is ∙ u_is) ∙ (at_same (x ++ a ∷ []) (m.kept - 1) (length x) kept_at ∙ slice_get-push_last x a (length x) refl)) in
+    let first : slice_get stem (m.kept - 1) ≡ Some a = sym (slice_get-take m.kept stem (m.kept - 1) (omega arith))
+    ∙ (ap (λ (w : List NameSet). slice_get w (m.kept - 1)) (sym m.stem_is ∙ u_is) ∙ (at_same (x ++ a ∷ []) (m.kept - 1) (length x) kept_at ∙ slice_get-push_last x a (length x) refl)) in
     let second : cyclic (take m.size cycle) (m.from + (length (take m.size cycle) - 1)) ≡ Some b =
-    sym (turned_cyclic stem cycle u v m (length (take m.size cycle) - 1)) ∙ (cyclic_same v (length (take m.size cycle) - 1) (length y) turned_last ∙ (cyclic_within v (length y) (omega (arith, made_size stem cycle u v m)) ∙ (ap (λ (w : List NameSet). slice_get w (length y)) v_is ∙ slice_get-push_last y b (length y) refl))) in
+    sym (turned_cyclic stem cycle u v m (length (take m.size cycle) - 1))
+    ∙ (cyclic_same v (length (take m.size cycle) - 1) (length y) turned_last
+    ∙ (cyclic_within v (length y) (omega (arith, made_size stem cycle u v m)) ∙ (ap (λ (w : List NameSet). slice_get w (length y)) v_is ∙ slice_get-push_last y b (length y) refl))) in
     m.shared.last (omega arith) (first ∙ (ap Some same ∙ sym second))
 
 pub made_reduced : (stem cycle u v : List NameSet) → Made stem cycle u v → IsReduced u v
@@ -158,7 +169,8 @@ pub before_inside : (root : List NameSet) (from before : ℕ) → from < length 
 before_inside root from before inside (inl b) = omega (arith, b.0, b.1)
 before_inside root from before inside (inr b) = omega (arith, b.0, b.1)
 
-pub shared_step : (stem root : List NameSet) (kept from before : ℕ) → 0 < kept → IsMidShared stem root kept from → Before root from before → slice_get stem (kept - 1) ≡ slice_get root before → IsMidShared stem root (kept - 1) before
+pub shared_step : (stem root : List NameSet) (kept from before : ℕ) → 0 < kept → IsMidShared stem root kept from → Before root from before → slice_get stem (kept - 1) ≡ slice_get root before
+    → IsMidShared stem root (kept - 1) before
 shared_step stem root kept from before some m (inl b) same =
     let P : ℕ → Type 0 = λ x. IsMidShared stem root kept x in
     let Q : ℕ → Type 0 = λ x. IsMidShared stem root (kept - 1) x in
@@ -171,7 +183,8 @@ last_before : (root : List NameSet) (from before : ℕ) → from < length root �
 last_before root from before inside (inl b) = ap (λ (x : ℕ). cyclic root (x + (length root - 1))) b.0 ∙ (last_around root (omega arith) ∙ at_same root (length root - 1) before (sym b.1))
 last_before root from before inside (inr b) = last_inside root from b.0 inside ∙ at_same root (from - 1) before (sym b.1)
 
-pub shared_end : (stem root : List NameSet) (kept from before : ℕ) → IsMidShared stem root kept from → Before root from before → slice_get stem (kept - 1) ≢ slice_get root before → IsShared stem root kept from
+pub shared_end : (stem root : List NameSet) (kept from before : ℕ) → IsMidShared stem root kept from → Before root from before → slice_get stem (kept - 1) ≢ slice_get root before
+    → IsShared stem root kept from
 shared_end stem root kept from before m b differ = record { shared = m; last = λ some e. differ (e ∙ last_before root from before m.inside b) }
 
 -- so each automaton accepts both or neither

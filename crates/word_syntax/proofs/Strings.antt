@@ -27,20 +27,26 @@ more_same : (text : List ℕ) (at b size : ℕ) (o : Option (List ℕ × ℕ)) �
 more_same text at b size None = refl
 more_same text at b size (Some s) = ap Some (pair_same text at b size s)
 
-pub string_closes : (bytes text : List ℕ) (at : ℕ) → at < length bytes → get_or bytes at 0 ≡ 34 → unquoted bytes ≡ option_map (quoted_after text at) (unquoted (drop at bytes)) → Some (text, at + 1) ≡ unquoted bytes
+pub string_closes : (bytes text : List ℕ) (at : ℕ) → at < length bytes → get_or bytes at 0 ≡ 34 → unquoted bytes ≡ option_map (quoted_after text at) (unquoted (drop at bytes))
+    → Some (text, at + 1) ≡ unquoted bytes
 string_closes bytes text at within is same =
-    sym (same ∙ (ap (λ (xs : List ℕ). option_map (quoted_after text at) (unquoted xs)) (drop_more bytes at 0 within) ∙ (ap (option_map (quoted_after text at)) (unquoted_close (get_or bytes at 0) (drop (at + 1) bytes) is)
+    sym (same ∙ (ap (λ (xs : List ℕ). option_map (quoted_after text at) (unquoted xs)) (drop_more bytes at 0 within)
+    ∙ (ap (option_map (quoted_after text at)) (unquoted_close (get_or bytes at 0) (drop (at + 1) bytes) is)
     ∙ ap (λ (w : List ℕ). Some (w, at + 1)) (append-nil text))))
 
-pub string_goes_on : (bytes text new : List ℕ) (at : ℕ) → at < length bytes → (get_or bytes at 0 ≡ 34 → ⊥) → (get_or bytes at 0 ≡ 92 → ⊥) → new ≡ text ++ get_or bytes at 0 ∷ [] → unquoted bytes ≡ option_map (quoted_after text at) (unquoted (drop at bytes)) → unquoted bytes ≡ option_map (quoted_after new (at + 1)) (unquoted (drop (at + 1) bytes))
+pub string_goes_on : (bytes text new : List ℕ) (at : ℕ) → at < length bytes → (get_or bytes at 0 ≡ 34 → ⊥) → (get_or bytes at 0 ≡ 92 → ⊥) → new ≡ text ++ get_or bytes at 0 ∷ []
+    → unquoted bytes ≡ option_map (quoted_after text at) (unquoted (drop at bytes)) → unquoted bytes ≡ option_map (quoted_after new (at + 1)) (unquoted (drop (at + 1) bytes))
 string_goes_on bytes text new at within not_quote not_escape is same =
-    same ∙ (ap (λ (xs : List ℕ). option_map (quoted_after text at) (unquoted xs)) (drop_more bytes at 0 within) ∙ (ap (option_map (quoted_after text at)) (unquoted_plain (get_or bytes at 0) (drop (at + 1) bytes) not_quote not_escape)
+    same ∙ (ap (λ (xs : List ℕ). option_map (quoted_after text at) (unquoted xs)) (drop_more bytes at 0 within)
+    ∙ (ap (option_map (quoted_after text at)) (unquoted_plain (get_or bytes at 0) (drop (at + 1) bytes) not_quote not_escape)
     ∙ (more_same text at (get_or bytes at 0) 1 (unquoted (drop (at + 1) bytes)) ∙ ap (λ (w : List ℕ). option_map (quoted_after w (at + 1)) (unquoted (drop (at + 1) bytes))) (sym is))))
 
-pub string_escapes : (bytes text new : List ℕ) (at : ℕ) → at + 1 < length bytes → get_or bytes at 0 ≡ 92 → new ≡ text ++ get_or bytes (at + 1) 0 ∷ [] → unquoted bytes ≡ option_map (quoted_after text at) (unquoted (drop at bytes)) → unquoted bytes ≡ option_map (quoted_after new (at + 2)) (unquoted (drop (at + 2) bytes))
+pub string_escapes : (bytes text new : List ℕ) (at : ℕ) → at + 1 < length bytes → get_or bytes at 0 ≡ 92 → new ≡ text ++ get_or bytes (at + 1) 0 ∷ []
+    → unquoted bytes ≡ option_map (quoted_after text at) (unquoted (drop at bytes)) → unquoted bytes ≡ option_map (quoted_after new (at + 2)) (unquoted (drop (at + 2) bytes))
 string_escapes bytes text new at within escape is same =
     let here : at < length bytes = omega arith in
     let two : at + 1 + 1 ≡ at + 2 = omega arith in
-    same ∙ (ap (λ (xs : List ℕ). option_map (quoted_after text at) (unquoted xs)) (drop_more bytes at 0 here ∙ ap (λ (xs : List ℕ). get_or bytes at 0 ∷ xs) (drop_more bytes (at + 1) 0 within ∙ ap (λ (n : ℕ). get_or bytes (at + 1) 0 ∷ drop n bytes) two))
+    same ∙ (ap (λ (xs : List ℕ). option_map (quoted_after text at) (unquoted xs))
+    (drop_more bytes at 0 here ∙ ap (λ (xs : List ℕ). get_or bytes at 0 ∷ xs) (drop_more bytes (at + 1) 0 within ∙ ap (λ (n : ℕ). get_or bytes (at + 1) 0 ∷ drop n bytes) two))
     ∙ (ap (option_map (quoted_after text at)) (unquoted_escaped (get_or bytes at 0) (get_or bytes (at + 1) 0) (drop (at + 2) bytes) escape)
     ∙ (more_same text at (get_or bytes (at + 1) 0) 2 (unquoted (drop (at + 2) bytes)) ∙ ap (λ (w : List ℕ). option_map (quoted_after w (at + 2)) (unquoted (drop (at + 2) bytes))) (sym is))))

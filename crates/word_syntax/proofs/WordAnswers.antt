@@ -34,8 +34,10 @@ pub wanted : (text : List ℕ) (r : Result WordReader WordFault) → IsErrAnd r 
 wanted text (Ok x) h = absurd h
 wanted text (Err g) h = subst (λ (x : WordFault). StopsOrGoes text (Err x)) (sym h) tt
 
-pub word_written : (text bytes : List ℕ) (r : WordReader) → bytes ≡ text → length bytes < 2 ^ 32 → IsThrough bytes r → r.stage ≡ End → Writes text (record { names = r.names; stem = map label_tree r.stem; cycle = map label_tree r.cycle })
-word_written text bytes r is short t e = let P : List ℕ → Type 0 = λ x. Writes x (record { names = r.names; stem = map label_tree r.stem; cycle = map label_tree r.cycle }) in subst P is (written bytes r short t e)
+pub word_written : (text bytes : List ℕ) (r : WordReader) → bytes ≡ text → length bytes < 2 ^ 32 → IsThrough bytes r → r.stage ≡ End
+    → Writes text (record { names = r.names; stem = map label_tree r.stem; cycle = map label_tree r.cycle })
+word_written text bytes r is short t e = let P : List ℕ
+    → Type 0 = λ x. Writes x (record { names = r.names; stem = map label_tree r.stem; cycle = map label_tree r.cycle }) in subst P is (written bytes r short t e)
 
 pub word_ended : (text bytes : List ℕ) (r : WordReader) → bytes ≡ text → length bytes < 2 ^ 32 → IsThrough bytes r → r.stage ≢ End → IsBadAt text (length bytes) × WritesNothing text
 word_ended text bytes r is short t e =
@@ -43,13 +45,15 @@ word_ended text bytes r is short t e =
     subst P is (ended_early bytes r short t e)
 
 -- a name alone
-pub name_found : (text bytes : List ℕ) (o : Option (Token × ℕ)) (t : Token) (name : List ℕ) (size : ℕ) → bytes ≡ text → o ≡ front_token bytes → o ≡ Some (t, size) → t ≡ token.Name name → IsNameAtFront text name size
+pub name_found : (text bytes : List ℕ) (o : Option (Token × ℕ)) (t : Token) (name : List ℕ) (size : ℕ) → bytes ≡ text → o ≡ front_token bytes → o ≡ Some (t, size) → t ≡ token.Name name
+    → IsNameAtFront text name size
 name_found text bytes o t name size is found some e =
     let f = front_found text t size (ap front_token (sym is) ∙ (sym found ∙ some)) in
     let P : Token → Type 0 = λ x. IsFront text x (drop size text) in
     record { within = f.within; front = subst P e f.front }
 
-pub no_name : (text bytes : List ℕ) (o : Option (Token × ℕ)) (t : Token) (size : ℕ) → bytes ≡ text → o ≡ front_token bytes → o ≡ Some (t, size) → ((name : List ℕ) → t ≡ token.Name name → ⊥) → NoNameAtFront text
+pub no_name : (text bytes : List ℕ) (o : Option (Token × ℕ)) (t : Token) (size : ℕ) → bytes ≡ text → o ≡ front_token bytes → o ≡ Some (t, size) → ((name : List ℕ) → t ≡ token.Name name → ⊥)
+    → NoNameAtFront text
 no_name text bytes o t size is found some other name rest f =
     let x = front_stands text (token.Name name) rest f in
     let same = some_pair_parts (token.Name name) t x.size size (sym x.found ∙ (ap front_token (sym is) ∙ (sym found ∙ some))) in

@@ -32,7 +32,8 @@ no_operands : {names : List (List ℕ)} {room : ℕ} {w : List Token} {ts : List
 no_operands no_operand e = refl
 no_operands (operand {ts = ts} {us = us} {t = t} before one spelled parts) e = absurd (not_pushed ts us t e parts)
 
-whole_level : (names : List (List ℕ)) (o : List LevelTree) (l : LevelTree) (ready : Bool) (v u : List Token) → Surrounds names o l.around v → IsLevel names ready l u → (ready && is_none o) ≡ true → IsLetter names MOST_DEPTH (v ++ u) (level_label l)
+whole_level : (names : List (List ℕ)) (o : List LevelTree) (l : LevelTree) (ready : Bool) (v u : List Token) → Surrounds names o l.around v → IsLevel names ready l u
+    → (ready && is_none o) ≡ true → IsLetter names MOST_DEPTH (v ++ u) (level_label l)
 whole_level names o l false v u outer inner e = cc
 whole_level names [] l true v u outer inner e =
     let all : inner.room ≡ MOST_DEPTH = omega (arith, inner.room_is, outer.1) in
@@ -48,7 +49,8 @@ whole_part names s w t part e =
     let Q : List Token → Type 0 = λ x. IsLetter names MOST_DEPTH x (level_label s.level) in
     subst P found.1 (subst Q (sym part.spelled) (whole_level names s.outer s.level s.ready part.outer_tokens part.level_tokens part.outer part.inner found.0))
 
-fresh_level_empty : (names : List (List ℕ)) (o : List LevelTree) (l : LevelTree) (ready : Bool) (v u : List Token) → Surrounds names o l.around v → IsLevel names ready l u → not ready ≡ true → o ≡ [] → l.ors ≡ [] → l.ands ≡ [] → l.nots ≡ 0 → v ++ u ≡ []
+fresh_level_empty : (names : List (List ℕ)) (o : List LevelTree) (l : LevelTree) (ready : Bool) (v u : List Token) → Surrounds names o l.around v → IsLevel names ready l u → not ready ≡ true
+    → o ≡ [] → l.ors ≡ [] → l.ands ≡ [] → l.nots ≡ 0 → v ++ u ≡ []
 fresh_level_empty names o l true v u outer inner waits e1 e2 e3 e4 = cc
 fresh_level_empty names [] l false v u outer inner waits e1 e2 e3 e4 =
     let ors = no_conjunctions inner.ors e2 in
@@ -64,7 +66,8 @@ fresh_part names s w part e =
     let c = and_parts (is_none s.level.ors) (is_none s.level.ands && (s.level.nots == 0)) b.1 in
     let d = and_parts (is_none s.level.ands) (s.level.nots == 0) c.1 in
     let zeros : s.level.nots ≡ 0 = grind (arith, nat_tests) in
-    part.spelled ∙ fresh_level_empty names s.outer s.level s.ready part.outer_tokens part.level_tokens part.outer part.inner a.0 (none_is s.outer b.0) (none_is s.level.ors c.0) (none_is s.level.ands d.0) zeros
+    part.spelled ∙ fresh_level_empty names s.outer s.level s.ready part.outer_tokens part.level_tokens part.outer part.inner a.0 (none_is s.outer b.0) (none_is s.level.ors c.0)
+    (none_is s.level.ands d.0) zeros
 
 -- in the stem
 pub record StemPart (names : List (List ℕ)) (s : WordState) (tokens : List Token) : Type 0 where
@@ -129,14 +132,17 @@ four v a w x y z = simp append_assoc
 five : (v a w : List Token) (x y z : Token) → (v ++ (x ∷ y ∷ (a ++ w))) ++ z ∷ [] ≡ v ++ (x ∷ y ∷ ((a ++ (w ++ z ∷ [])) ++ []))
 five v a w x y z = simp (append_assoc, append-nil)
 
-semicolon_part : (names : List (List ℕ)) (stem cycle : List LabelTree) (stage : Stage) (l : LetterState) (next : WordState) (t : LabelTree) (tokens : List Token) → IsWordPart names (word stem cycle stage l) tokens → whole_letter l ≡ Some t → machine.ended_at stage (word stem cycle stage l) t ≡ Some next → IsWordPart names next (tokens ++ token.Semicolon ∷ [])
+semicolon_part : (names : List (List ℕ)) (stem cycle : List LabelTree) (stage : Stage) (l : LetterState) (next : WordState) (t : LabelTree) (tokens : List Token)
+    → IsWordPart names (word stem cycle stage l) tokens → whole_letter l ≡ Some t → machine.ended_at stage (word stem cycle stage l) t ≡ Some next
+    → IsWordPart names next (tokens ++ token.Semicolon ∷ [])
 semicolon_part names stem cycle Stem l next t tokens p whole step = part_at names _ next (tokens ++ token.Semicolon ∷ []) step (record {
   stem_tokens = p.stem_tokens ++ (p.letter_tokens ++ token.Semicolon ∷ []);
   letter_tokens = [];
   stem = letter p.stem (whole_part names l p.letter_tokens t p.part whole) refl refl;
   part = part_fresh names;
   cycle = p.cycle;
-  spelled = ap (λ (x : List Token). x ++ token.Semicolon ∷ []) p.spelled ∙ (append_assoc p.stem_tokens p.letter_tokens (token.Semicolon ∷ []) ∙ sym (append-nil (p.stem_tokens ++ (p.letter_tokens ++ token.Semicolon ∷ []))));
+  spelled = ap (λ (x : List Token). x ++ token.Semicolon ∷ []) p.spelled
+      ∙ (append_assoc p.stem_tokens p.letter_tokens (token.Semicolon ∷ []) ∙ sym (append-nil (p.stem_tokens ++ (p.letter_tokens ++ token.Semicolon ∷ []))));
 })
 semicolon_part names stem cycle Cycle l next t tokens p whole step = part_at names _ next (tokens ++ token.Semicolon ∷ []) step (record {
   stem_tokens = p.stem_tokens;
@@ -150,7 +156,9 @@ semicolon_part names stem cycle Cycle l next t tokens p whole step = part_at nam
 semicolon_part names stem cycle Brace l next t tokens p whole step = absurd (none-some next step)
 semicolon_part names stem cycle End l next t tokens p whole step = absurd (none-some next step)
 
-brace_part : (names : List (List ℕ)) (stem cycle : List LabelTree) (stage : Stage) (l : LetterState) (next : WordState) (t : LabelTree) (tokens : List Token) → IsWordPart names (word stem cycle stage l) tokens → whole_letter l ≡ Some t → machine.closed_at stage (word stem cycle stage l) t ≡ Some next → IsWordPart names next (tokens ++ token.RightBrace ∷ [])
+brace_part : (names : List (List ℕ)) (stem cycle : List LabelTree) (stage : Stage) (l : LetterState) (next : WordState) (t : LabelTree) (tokens : List Token)
+    → IsWordPart names (word stem cycle stage l) tokens → whole_letter l ≡ Some t → machine.closed_at stage (word stem cycle stage l) t ≡ Some next
+    → IsWordPart names next (tokens ++ token.RightBrace ∷ [])
 brace_part names stem cycle Cycle l next t tokens p whole step = part_at names _ next (tokens ++ token.RightBrace ∷ []) step (record {
   stem_tokens = p.stem_tokens;
   cycle_tokens = p.cycle_tokens;
@@ -167,7 +175,8 @@ brace_part names stem cycle Stem l next t tokens p whole step = absurd (none-som
 brace_part names stem cycle Brace l next t tokens p whole step = absurd (none-some next step)
 brace_part names stem cycle End l next t tokens p whole step = absurd (none-some next step)
 
-cycle_part : (names : List (List ℕ)) (stem cycle : List LabelTree) (stage : Stage) (l : LetterState) (next : WordState) (tokens : List Token) → IsWordPart names (word stem cycle stage l) tokens → machine.cycle_at stage (word stem cycle stage l) ≡ Some next → IsWordPart names next (tokens ++ token.Cycle ∷ [])
+cycle_part : (names : List (List ℕ)) (stem cycle : List LabelTree) (stage : Stage) (l : LetterState) (next : WordState) (tokens : List Token)
+    → IsWordPart names (word stem cycle stage l) tokens → machine.cycle_at stage (word stem cycle stage l) ≡ Some next → IsWordPart names next (tokens ++ token.Cycle ∷ [])
 cycle_part names stem cycle Stem l next tokens p step =
     let found = cond_some (is_fresh l) (word stem cycle Brace l) next step in
     let none = fresh_part names l p.letter_tokens p.part found.0 in
@@ -183,7 +192,8 @@ cycle_part names stem cycle Cycle l next tokens p step = absurd (none-some next 
 cycle_part names stem cycle Brace l next tokens p step = absurd (none-some next step)
 cycle_part names stem cycle End l next tokens p step = absurd (none-some next step)
 
-opened_part : (names : List (List ℕ)) (stem cycle : List LabelTree) (stage : Stage) (l : LetterState) (next : WordState) (tokens : List Token) → IsWordPart names (word stem cycle stage l) tokens → machine.brace_at stage (word stem cycle stage l) ≡ Some next → IsWordPart names next (tokens ++ token.LeftBrace ∷ [])
+opened_part : (names : List (List ℕ)) (stem cycle : List LabelTree) (stage : Stage) (l : LetterState) (next : WordState) (tokens : List Token)
+    → IsWordPart names (word stem cycle stage l) tokens → machine.brace_at stage (word stem cycle stage l) ≡ Some next → IsWordPart names next (tokens ++ token.LeftBrace ∷ [])
 opened_part names stem cycle Brace l next tokens p step =
     let P : List LabelTree → Type 0 = λ x. AreLetters names MOST_DEPTH [] x in
     part_at names _ next (tokens ++ token.LeftBrace ∷ []) step (record {
@@ -204,7 +214,9 @@ mapped : (f : LetterState → WordState) (o : Option LetterState) (next : WordSt
 mapped f None next e = absurd (none-some next e)
 mapped f (Some l) next e = (l, refl, same_Some _ _ e)
 
-lettered_part : (place : List ℕ → ℕ) (names : List (List ℕ)) (stem cycle : List LabelTree) (stage : Stage) (l : LetterState) (next : WordState) (t : Token) (tokens : List Token) → Knows place names t → IsWordPart names (word stem cycle stage l) tokens → cond (machine.has_letters stage) (option_map (with_letter (word stem cycle stage l)) (letter_step place l t)) None ≡ Some next → IsWordPart names next (tokens ++ t ∷ [])
+lettered_part : (place : List ℕ → ℕ) (names : List (List ℕ)) (stem cycle : List LabelTree) (stage : Stage) (l : LetterState) (next : WordState) (t : Token) (tokens : List Token)
+    → Knows place names t → IsWordPart names (word stem cycle stage l) tokens
+    → cond (machine.has_letters stage) (option_map (with_letter (word stem cycle stage l)) (letter_step place l t)) None ≡ Some next → IsWordPart names next (tokens ++ t ∷ [])
 lettered_part place names stem cycle Stem l next t tokens knows p step =
     let m = mapped (with_letter (word stem cycle Stem l)) (letter_step place l t) next step in
     part_at names _ next (tokens ++ t ∷ []) (ap Some m.2) (record {
@@ -230,9 +242,12 @@ lettered_part place names stem cycle Brace l next t tokens knows p step = absurd
 lettered_part place names stem cycle End l next t tokens knows p step = absurd (none-some next step)
 
 -- one token more
-pub word_part_step : (place : List ℕ → ℕ) (names : List (List ℕ)) (s next : WordState) (t : Token) (tokens : List Token) → Knows place names t → IsWordPart names s tokens → word_step place s t ≡ Some next → IsWordPart names next (tokens ++ t ∷ [])
-word_part_step place names s next token.Semicolon tokens knows p step = option_and_then_some (machine.ended_at s.stage s) (whole_letter s.letter) next step (λ t whole e. semicolon_part names s.stem s.cycle s.stage s.letter next t tokens p whole e)
-word_part_step place names s next token.RightBrace tokens knows p step = option_and_then_some (machine.closed_at s.stage s) (whole_letter s.letter) next step (λ t whole e. brace_part names s.stem s.cycle s.stage s.letter next t tokens p whole e)
+pub word_part_step : (place : List ℕ → ℕ) (names : List (List ℕ)) (s next : WordState) (t : Token) (tokens : List Token) → Knows place names t → IsWordPart names s tokens
+    → word_step place s t ≡ Some next → IsWordPart names next (tokens ++ t ∷ [])
+word_part_step place names s next token.Semicolon tokens knows p step = option_and_then_some (machine.ended_at s.stage s) (whole_letter s.letter) next step
+    (λ t whole e. semicolon_part names s.stem s.cycle s.stage s.letter next t tokens p whole e)
+word_part_step place names s next token.RightBrace tokens knows p step = option_and_then_some (machine.closed_at s.stage s) (whole_letter s.letter) next step
+    (λ t whole e. brace_part names s.stem s.cycle s.stage s.letter next t tokens p whole e)
 word_part_step place names s next token.Cycle tokens knows p step = cycle_part names s.stem s.cycle s.stage s.letter next tokens p step
 word_part_step place names s next token.LeftBrace tokens knows p step = opened_part names s.stem s.cycle s.stage s.letter next tokens p step
 word_part_step place names s next token.True tokens knows p step = lettered_part place names s.stem s.cycle s.stage s.letter next token.True tokens knows p step

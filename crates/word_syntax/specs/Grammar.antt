@@ -35,25 +35,30 @@ mutual
   -- (operand "&")*
   pub data AreOperands : List (List ℕ) → ℕ → List Token → List LabelTree → Type 0 where
     no_operand : {names : List (List ℕ)} {room : ℕ} → AreOperands names room [] []
-    operand : {names : List (List ℕ)} {room : ℕ} {v w u : List Token} {ts us : List LabelTree} {t : LabelTree} → AreOperands names room v ts → IsOperand names room w t → u ≡ v ++ (w ++ token.And ∷ []) → us ≡ ts ++ t ∷ [] → AreOperands names room u us
+    operand : {names : List (List ℕ)} {room : ℕ} {v w u : List Token} {ts us : List LabelTree} {t : LabelTree} → AreOperands names room v ts → IsOperand names room w t
+        → u ≡ v ++ (w ++ token.And ∷ []) → us ≡ ts ++ t ∷ [] → AreOperands names room u us
 
   -- conjunction = (operand "&")* operand
   pub data IsConjunction : List (List ℕ) → ℕ → List Token → LabelTree → Type 0 where
-    joined : {names : List (List ℕ)} {room : ℕ} {v w u : List Token} {ts : List LabelTree} {t c : LabelTree} → AreOperands names room v ts → IsOperand names room w t → u ≡ v ++ w → c ≡ all_of (ts ++ t ∷ []) → IsConjunction names room u c
+    joined : {names : List (List ℕ)} {room : ℕ} {v w u : List Token} {ts : List LabelTree} {t c : LabelTree} → AreOperands names room v ts → IsOperand names room w t → u ≡ v ++ w
+        → c ≡ all_of (ts ++ t ∷ []) → IsConjunction names room u c
 
   -- (conjunction "|")*
   pub data AreConjunctions : List (List ℕ) → ℕ → List Token → List LabelTree → Type 0 where
     no_conjunction : {names : List (List ℕ)} {room : ℕ} → AreConjunctions names room [] []
-    alternative : {names : List (List ℕ)} {room : ℕ} {v w u : List Token} {ts us : List LabelTree} {t : LabelTree} → AreConjunctions names room v ts → IsConjunction names room w t → u ≡ v ++ (w ++ token.Or ∷ []) → us ≡ ts ++ t ∷ [] → AreConjunctions names room u us
+    alternative : {names : List (List ℕ)} {room : ℕ} {v w u : List Token} {ts us : List LabelTree} {t : LabelTree} → AreConjunctions names room v ts → IsConjunction names room w t
+        → u ≡ v ++ (w ++ token.Or ∷ []) → us ≡ ts ++ t ∷ [] → AreConjunctions names room u us
 
   -- letter = (conjunction "|")* conjunction
   pub data IsLetter : List (List ℕ) → ℕ → List Token → LabelTree → Type 0 where
-    either : {names : List (List ℕ)} {room : ℕ} {v w u : List Token} {ts : List LabelTree} {t l : LabelTree} → AreConjunctions names room v ts → IsConjunction names room w t → u ≡ v ++ w → l ≡ one_of (ts ++ t ∷ []) → IsLetter names room u l
+    either : {names : List (List ℕ)} {room : ℕ} {v w u : List Token} {ts : List LabelTree} {t l : LabelTree} → AreConjunctions names room v ts → IsConjunction names room w t → u ≡ v ++ w
+        → l ≡ one_of (ts ++ t ∷ []) → IsLetter names room u l
 
 -- (letter ";")*
 pub data AreLetters (names : List (List ℕ)) (room : ℕ) : List Token → List LabelTree → Type 0 where
   no_letter : AreLetters names room [] []
-  letter : {v w u : List Token} {ts us : List LabelTree} {t : LabelTree} → AreLetters names room v ts → IsLetter names room w t → u ≡ v ++ (w ++ token.Semicolon ∷ []) → us ≡ ts ++ t ∷ [] → AreLetters names room u us
+  letter : {v w u : List Token} {ts us : List LabelTree} {t : LabelTree} → AreLetters names room v ts → IsLetter names room w t → u ≡ v ++ (w ++ token.Semicolon ∷ []) → us ≡ ts ++ t ∷ []
+      → AreLetters names room u us
 
 -- the names among the tokens, in order
 abbrev pub names_of : List Token → List (List ℕ)

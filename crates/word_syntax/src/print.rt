@@ -8,6 +8,7 @@ use crate::bytes::{are_words, is_small};
 use aut_base::{Lasso, Letter, Memory, Names, Text};
 use std::alloc::Global;
 
+// Why so: 'A text of 2^32 bytes or more writes no word' in docs/DECISIONS.md.
 /// The word as a text, with a literal for each of these names in each letter.
 pub fn print_word(alloc: Global, word: &Lasso, names: &Names) -> Result<Text, Memory>
     requires stem { All (printing.HoldsOnly names.now) word.now.stem }

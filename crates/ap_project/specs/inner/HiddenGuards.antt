@@ -21,10 +21,6 @@ pub record IsHiddenGuard (s t : Store) (how : Hide) (prop : ℕ) (to : List ℕ)
   pub has : Has t h
   pub truth : (on : ℕ → Bool) → truth_in t h on ≡ hidden_in s how prop g (λ k. on (slice_index_or to k 0))
 
--- the guard is true on each valuation or on none
-abbrev pub IsConstant : Store → Guard → Type 0
-IsConstant s g = (on other : ℕ → Bool) → truth_in s g on ≡ truth_in s g other
-
 -- places in a list of so many items, if it has any
 abbrev pub AreWithin : ℕ → List ℕ → Type 0
 AreWithin count places = 0 < count → All (λ place. place < count) places

@@ -13,7 +13,8 @@ flags_of form = sameb the_type form Deterministic ∷ sameb the_type form Parity
 
 -- which flags stand
 abbrev pub standing : List Row → List Bool
-standing rows = is_on (values_of (codes "deterministic") rows) ∷ is_on (values_of (codes "parity") rows) ∷ is_on (values_of (codes "buchi") rows) ∷ is_on (values_of (codes "remove-fin") rows) ∷ is_on (values_of (codes "dnf-acceptance") rows) ∷ is_on (values_of (codes "monitor") rows) ∷ []
+standing rows = is_on (values_of (codes "deterministic") rows) ∷ is_on (values_of (codes "parity") rows) ∷ is_on (values_of (codes "buchi") rows) ∷ is_on
+    (values_of (codes "remove-fin") rows) ∷ is_on (values_of (codes "dnf-acceptance") rows) ∷ is_on (values_of (codes "monitor") rows) ∷ []
 
 -- each flag stands where the plan has its form
 pub record IsForm (rows : List Row) (form : Form) : Type 0 where

@@ -68,7 +68,8 @@ next_on at_hand more start a = record {
 }
 
 -- What the bytes at hand would close ends before the last byte, and so before the token does.
-too_early : (input : List ℕ) (start offset byte : ℕ) (token : Token) (held : Option ℕ) (left at_hand : List ℕ) → IsNext input start token offset (unread held left) → is_some held ≡ not (closes_itself token) → input ≡ at_hand ++ byte ∷ left → AfterBlanks at_hand HasFront → ⊥
+too_early : (input : List ℕ) (start offset byte : ℕ) (token : Token) (held : Option ℕ) (left at_hand : List ℕ) → IsNext input start token offset (unread held left)
+    → is_some held ≡ not (closes_itself token) → input ≡ at_hand ++ byte ∷ left → AfterBlanks at_hand HasFront → ⊥
 too_early input start offset byte token None left at_hand n h e a =
     let there = subst (λ (w : List ℕ). IsNext w start a.holds.token (start + length a.before) (a.holds.rest ++ byte ∷ left)) (sym e) (next_on at_hand (byte ∷ left) start a) in
     let same = one_next_token input start a.holds.token token (start + length a.before) offset (a.holds.rest ++ byte ∷ left) left there n in
@@ -76,9 +77,11 @@ too_early input start offset byte token None left at_hand n h e a =
 too_early input start offset byte token (Some b) left at_hand n h e a =
     let there = subst (λ (w : List ℕ). IsNext w start a.holds.token (start + length a.before) (a.holds.rest ++ byte ∷ left)) (sym e) (next_on at_hand (byte ∷ left) start a) in
     let same = one_next_token input start a.holds.token token (start + length a.before) offset (a.holds.rest ++ byte ∷ left) (b ∷ left) there n in
-    needs_more a.holds.token a.holds.rest a.holds.front.ends (ap closes_itself same.0 ∙ held_open token h) (empty_of_length a.holds.rest (zero_length a.holds.rest (omega (arith, simp length-append at (ap length same.2)))))
+    needs_more a.holds.token a.holds.rest a.holds.front.ends (ap closes_itself same.0 ∙ held_open token h)
+    (empty_of_length a.holds.rest (zero_length a.holds.rest (omega (arith, simp length-append at (ap length same.2)))))
 
-asked : (input : List ℕ) (start offset byte : ℕ) (token : Token) (held : Option ℕ) (left at_hand : List ℕ) → IsNext input start token offset (unread held left) → is_some held ≡ not (closes_itself token) → input ≡ at_hand ++ byte ∷ left → AskedForOne input left
+asked : (input : List ℕ) (start offset byte : ℕ) (token : Token) (held : Option ℕ) (left at_hand : List ℕ) → IsNext input start token offset (unread held left)
+    → is_some held ≡ not (closes_itself token) → input ≡ at_hand ++ byte ∷ left → AskedForOne input left
 asked input start offset byte token held left at_hand n h e = record {
   at_hand = at_hand;
   byte = byte;

@@ -145,7 +145,8 @@ comment_opens text rest e none = record {
   open_still = λ body more k w. let done : closing 1 rest ≡ Some more = ap (closing 1) k ∙ closing_after 1 body more w in cc;
 }
 
-in_comment : (n : ℕ) → ((text : List ℕ) → length text ≤ n → Settles text) → (text rest : List ℕ) → length text ≤ suc n → text ≡ 47 ∷ 42 ∷ rest → (r : Option (List ℕ)) → closing 1 rest ≡ r → Settles text
+in_comment : (n : ℕ) → ((text : List ℕ) → length text ≤ n → Settles text) → (text rest : List ℕ) → length text ≤ suc n → text ≡ 47 ∷ 42 ∷ rest → (r : Option (List ℕ)) → closing 1 rest ≡ r
+    → Settles text
 in_comment n settle text rest l e None k = within (here text (comment_opens text rest e k))
 in_comment n settle text rest l e (Some more) k =
     let w = closing_sound 1 rest more k in
@@ -223,7 +224,8 @@ no_quote text a n rest e = n (cons-head a.holds.first 34 a.holds.rest rest (sym 
 -- anything else
 other_stands : (start : ℕ) (text : List ℕ) → Nothing start text → (a : AfterBlanks text IsSolid) → (a.holds.first ≡ 34 → ⊥) → ⊥
 other_stands start text none a n =
-    let open_no : ((a.bytes ≡ 47 ∷ []) ⊎ Begins a.bytes) → ⊥ = λ b. none InToken (held_at text a (record { some = some_first text a; no_string = no_quote text a n; unclosed = no_front start text none a; begins = b })) in
+    let open_no : ((a.bytes ≡ 47 ∷ []) ⊎ Begins a.bytes)
+    → ⊥ = λ b. none InToken (held_at text a (record { some = some_first text a; no_string = no_quote text a n; unclosed = no_front start text none a; begins = b })) in
     none (NoToken (start + length a.before)) (held_at text a (
       omega (arith, simp length-append at (ap length a.split)),
       record {

@@ -37,7 +37,8 @@ open_comment_stuck bytes o = record {
 no_space_quote : (b : ℕ) → b ≡ 34 → is_space b ≡ true → ⊥
 no_space_quote b e h = let quote : is_space 34 ≡ true = sym (ap is_space e) ∙ h in cc
 
-string_at : (token : Token) (x tail rest : List ℕ) → 34 ≡ token_kind token → ((inner text more : List ℕ) → x ≡ inner ++ 34 ∷ more → Quotes inner text → ⊥) → Spells token (34 ∷ tail) → x ≡ tail ++ rest → ⊥
+string_at : (token : Token) (x tail rest : List ℕ) → 34 ≡ token_kind token → ((inner text more : List ℕ) → x ≡ inner ++ 34 ∷ more → Quotes inner text → ⊥) → Spells token (34 ∷ tail)
+    → x ≡ tail ++ rest → ⊥
 string_at (Str text) x tail rest k still s e =
     let tails : tail ≡ s.0 ++ 34 ∷ [] = (let whole : 34 ∷ tail ≡ 34 ∷ (s.0 ++ 34 ∷ []) = s.2 in cc) in
     still s.0 text rest (e ∙ ap (λ w. w ++ rest) tails ∙ append_assoc s.0 (34 ∷ []) rest) s.1

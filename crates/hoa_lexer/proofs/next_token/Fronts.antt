@@ -1,5 +1,6 @@
 -- What may stand where a token is sought.
-use Rattle.std.proofs.Common.{◌≡◌, ◌≢◌, ℕ, zero, suc, ◌+◌, ◌&&◌, ◌==◌, true, false, List, [], ◌∷◌, ◌++◌, length, Option, Some, None, Result, Ok, Err, inl, inr, refl, sym, subst, ◌∙◌, ap, arith, ⊎_elim}
+use Rattle.std.proofs.Common.{◌≡◌, ◌≢◌, ℕ, zero, suc, ◌+◌, ◌&&◌, ◌==◌, true, false, List, [], ◌∷◌, ◌++◌, length, Option, Some, None, Result, Ok, Err}
+use Rattle.std.proofs.Common.{inl, inr, refl, sym, subst, ◌∙◌, ap, arith, ⊎_elim}
 use Rattle.std.proofs.lemmas.Bool.{false≢true, and_right, cases_Bool}
 use Rattle.std.proofs.lemmas.List.{append_assoc, append-nil, length-append}
 use Rattle.aut_base.proofs.Lists.{cons-head}
@@ -317,7 +318,8 @@ asks_behind x y z s a = record {
   asks = asks_after s.before a.at_hand s.blanks a.asks;
 }
 
-pub fails_after : (fault : LexFault) (start start' offset offset' : ℕ) (x y z : List ℕ) → Skips x y → start + length x ≡ start' + length y → Answers (Err fault) start' offset' y z → Answers (Err fault) start offset x z
+pub fails_after : (fault : LexFault) (start start' offset offset' : ℕ) (x y z : List ℕ) → Skips x y → start + length x ≡ start' + length y → Answers (Err fault) start' offset' y z
+    → Answers (Err fault) start offset x z
 fails_after (BadToken k) start start' offset offset' x y z s e a = (
   after_skips x y (λ bytes. (k + length bytes ≡ start' + length y) × IsNoToken bytes) (λ bytes. (k + length bytes ≡ start + length x) × IsNoToken bytes)
       (λ bytes h. (h.0 ∙ sym e, h.1)) s a.0,
@@ -472,7 +474,8 @@ begins_token first (b ∷ bs) y z s n k e =
     let same : first ≡ b = cons-head first b y (bs ++ z) e in
     (ap is_space (sym same) ∙ s, λ w. n (same ∙ w))
 
-pub places_token : (fault : LexFault) (first start old offset : ℕ) (x y z : List ℕ) → is_space first ≡ false → first ≢ 47 → Skips x (first ∷ y) → start + length x ≡ offset + length (first ∷ y) → ReadsToken (Err fault) offset (first ∷ y) z → Places (Err fault) start old offset x z
+pub places_token : (fault : LexFault) (first start old offset : ℕ) (x y z : List ℕ) → is_space first ≡ false → first ≢ 47 → Skips x (first ∷ y)
+    → start + length x ≡ offset + length (first ∷ y) → ReadsToken (Err fault) offset (first ∷ y) z → Places (Err fault) start old offset x z
 places_token fault first start old offset x y z solid no_slash s e h =
     let u = token_used fault offset (first ∷ y) z h in (
       s.before ++ u.0,

@@ -44,6 +44,7 @@ moves_nowhere a s = record {
 }
 
 -- an error that `?` hands on
-pub handed_on : {A : Type 0} (P : Result A LexFault → List ℕ → List ℕ → Type 0) (a b : Option (List ℕ)) (r : Result A LexFault) (f : LexFault) → IsErrAnd r (λ y. y ≡ f) → Between a b (P (Err f)) → Between a b (P r)
+pub handed_on : {A : Type 0} (P : Result A LexFault → List ℕ → List ℕ → Type 0) (a b : Option (List ℕ)) (r : Result A LexFault) (f : LexFault) → IsErrAnd r (λ y. y ≡ f)
+    → Between a b (P (Err f)) → Between a b (P r)
 handed_on P a b (Ok x) f h one = absurd h
 handed_on P a b (Err y) f h one = subst (λ (e : LexFault). Between a b (P (Err e))) (sym h) one

@@ -25,7 +25,15 @@ token_examples = record {
       record { before = []; bytes = codes "HOA:v1 "; split = refl; blanks = nothing; place = refl; front = record { word = codes "HOA:"; split = refl; spells = ((refl, refl), refl); ends = tt } },
       (
         codes " ",
-        record { before = []; bytes = codes "v1 "; split = refl; blanks = nothing; place = refl; front = record { word = codes "v1"; split = refl; spells = ((refl, refl), refl); ends = (refl, refl) } },
+        record {
+          before = [];
+          bytes = codes "v1 ";
+          split = refl;
+          blanks = nothing;
+          place = refl;
+          front =
+              record { word = codes "v1"; split = refl; spells = ((refl, refl), refl); ends = (refl, refl) };
+        },
         refl,
       ),
     );
@@ -40,7 +48,15 @@ token_examples = record {
       record { before = []; bytes = codes "010 "; split = refl; blanks = nothing; place = refl; front = record { word = codes "0"; split = refl; spells = (refl, refl, lit< tt); ends = tt } },
       (
         codes " ",
-        record { before = []; bytes = codes "10 "; split = refl; blanks = nothing; place = refl; front = record { word = codes "10"; split = refl; spells = ((refl, one_is_not_zero, refl), refl, lit< tt); ends = refl } },
+        record {
+          before = [];
+          bytes = codes "10 ";
+          split = refl;
+          blanks = nothing;
+          place = refl;
+          front =
+              record { word = codes "10"; split = refl; spells = ((refl, one_is_not_zero, refl), refl, lit< tt); ends = refl };
+        },
         refl,
       ),
     );
@@ -52,7 +68,15 @@ token_examples = record {
     tokens = refl;
     lexes = (
       [],
-      record { before = []; bytes = 34 ∷ 97 ∷ 92 ∷ 34 ∷ 34 ∷ []; split = refl; blanks = nothing; place = refl; front = record { word = 34 ∷ 97 ∷ 92 ∷ 34 ∷ 34 ∷ []; split = refl; spells = (97 ∷ 92 ∷ 34 ∷ [], plain a_is_no_quote a_is_no_backslash (escaped no_quote), refl); ends = tt } },
+      record {
+        before = [];
+        bytes = 34 ∷ 97 ∷ 92 ∷ 34 ∷ 34 ∷ [];
+        split = refl;
+        blanks = nothing;
+        place = refl;
+        front =
+            record { word = 34 ∷ 97 ∷ 92 ∷ 34 ∷ 34 ∷ []; split = refl; spells = (97 ∷ 92 ∷ 34 ∷ [], plain a_is_no_quote a_is_no_backslash (escaped no_quote), refl); ends = tt };
+      },
       refl,
     );
     blanks = nothing;
@@ -78,7 +102,15 @@ token_examples = record {
     tokens = refl;
     lexes = (
       [],
-      record { before = codes " "; bytes = codes "--END--"; split = refl; blanks = space refl nothing; place = refl; front = record { word = codes "--END--"; split = refl; spells = refl; ends = tt } },
+      record {
+        before = codes " ";
+        bytes = codes "--END--";
+        split = refl;
+        blanks = space refl nothing;
+        place = refl;
+        front =
+            record { word = codes "--END--"; split = refl; spells = refl; ends = tt };
+      },
       refl,
     );
     blanks = nothing;

@@ -16,7 +16,8 @@ use Rattle.hoa_lexer.proofs.next_token.Fronts.{front_of, same_place}
 use Rattle.hoa_lexer.proofs.next_token.Exclusive.{blanks_no_token}
 use Rattle.hoa_lexer.proofs.spelling.Numbers.{int_stops, nonzero}
 use Rattle.hoa_lexer.specs.declared.token.Token.{Token}
-use Rattle.hoa_lexer.specs.declared.token.Token.TheVariants.{HeaderName, Identifier, Str, Int, Alias, Bang, Amp, Bar, LeftParen, RightParen, LeftBrace, RightBrace, LeftBracket, RightBracket, Body, End, Abort}
+use Rattle.hoa_lexer.specs.declared.token.Token.TheVariants.{HeaderName, Identifier, Str, Int, Alias, Bang, Amp, Bar, LeftParen, RightParen}
+use Rattle.hoa_lexer.specs.declared.token.Token.TheVariants.{LeftBrace, RightBrace, LeftBracket, RightBracket, Body, End, Abort}
 use Rattle.aut_base.proofs.Lists.{append-cancel, cons-head, cons-tail}
 
 -- one token, and one rest
@@ -73,13 +74,15 @@ same_int_zero n m b bs s s' rest rest' z h k e f =
     let there : bs ≡ rest' = f ∙ ap (λ w. w ++ rest') none' in
     record { token = ap Int value; after = sym here ∙ there }
 
-same_int_run : (n m b : ℕ) (bs s s' rest rest' : List ℕ) → 0 < b - 48 → Spells (Int n) (b ∷ s) → Spells (Int m) (b ∷ s') → bs ≡ s ++ rest → bs ≡ s' ++ rest' → Ends (Int n) rest → Ends (Int m) rest' → IsSame (Int n) (Int m) rest rest'
+same_int_run : (n m b : ℕ) (bs s s' rest rest' : List ℕ) → 0 < b - 48 → Spells (Int n) (b ∷ s) → Spells (Int m) (b ∷ s') → bs ≡ s ++ rest → bs ≡ s' ++ rest' → Ends (Int n) rest
+    → Ends (Int m) rest' → IsSame (Int n) (Int m) rest rest'
 same_int_run n m b bs s s' rest rest' z h k e f u v =
     let w = same_run is_digit s s' rest rest' (sym e ∙ f) (numeral_rest b s h.0) (numeral_rest b s' k.0)
     (int_stops n rest (omega (arith, h.1, nonzero b s z)) u) (int_stops m rest' (omega (arith, k.1, nonzero b s' z)) v) in
     record { token = ap Int (sym h.1 ∙ ap (λ q. value_of (b ∷ q)) w.run ∙ k.1); after = w.after }
 
-one_int : (u : Token) (n b : ℕ) (bs s s' rest rest' : List ℕ) → 48 ≡ token_kind u → Spells (Int n) (b ∷ s) → Spells u (b ∷ s') → bs ≡ s ++ rest → bs ≡ s' ++ rest' → Ends (Int n) rest → Ends u rest' → IsSame (Int n) u rest rest'
+one_int : (u : Token) (n b : ℕ) (bs s s' rest rest' : List ℕ) → 48 ≡ token_kind u → Spells (Int n) (b ∷ s) → Spells u (b ∷ s') → bs ≡ s ++ rest → bs ≡ s' ++ rest' → Ends (Int n) rest
+    → Ends u rest' → IsSame (Int n) u rest rest'
 one_int (Int m) n b bs s s' rest rest' q h k e f u v = elim (cases_eq b 48) [
   | inl z ↦ same_int_zero n m b bs s s' rest rest' z h k e f
   | inr z ↦ same_int_run n m b bs s s' rest rest' (omega (arith, z, digit_least b (numeral_first b s h.0))) h k e f u v
@@ -111,7 +114,8 @@ colon_no : (rest tail : List ℕ) → 58 ∷ tail ≡ rest → StopsAt (λ b. b 
 colon_no [] tail e s = s
 colon_no (r ∷ rs) tail e s = eqb-false r 58 s (let same : r ≡ 58 = cc in same)
 
-one_header : (u : Token) (b : ℕ) (bs s s' rest rest' name : List ℕ) → 65 ≡ token_kind u → Spells (HeaderName name) (b ∷ s) → Spells u (b ∷ s') → bs ≡ s ++ rest → bs ≡ s' ++ rest' → Ends u rest' → IsSame (HeaderName name) u rest rest'
+one_header : (u : Token) (b : ℕ) (bs s s' rest rest' name : List ℕ) → 65 ≡ token_kind u → Spells (HeaderName name) (b ∷ s) → Spells u (b ∷ s') → bs ≡ s ++ rest → bs ≡ s' ++ rest'
+    → Ends u rest' → IsSame (HeaderName name) u rest rest'
 one_header (HeaderName name') b bs s s' rest rest' name q h k e f v =
     let x = header_run b bs s rest name h.0 h.1 e in
     let y = header_run b bs s' rest' name' k.0 k.1 f in
@@ -125,7 +129,8 @@ one_header (Identifier name') b bs s s' rest rest' name q h k e f v =
     absurd (colon_no rest' rest w.after v.1)
 one_header _ b bs s s' rest rest' name q h k e f v = absurd (omega arith)
 
-one_identifier : (u : Token) (b : ℕ) (bs s s' rest rest' name : List ℕ) → 65 ≡ token_kind u → Spells (Identifier name) (b ∷ s) → Spells u (b ∷ s') → bs ≡ s ++ rest → bs ≡ s' ++ rest' → Ends (Identifier name) rest → Ends u rest' → IsSame (Identifier name) u rest rest'
+one_identifier : (u : Token) (b : ℕ) (bs s s' rest rest' name : List ℕ) → 65 ≡ token_kind u → Spells (Identifier name) (b ∷ s) → Spells u (b ∷ s') → bs ≡ s ++ rest → bs ≡ s' ++ rest'
+    → Ends (Identifier name) rest → Ends u rest' → IsSame (Identifier name) u rest rest'
 one_identifier (HeaderName name') b bs s s' rest rest' name q h k e f u v =
     turned (HeaderName name') (Identifier name) rest' rest (one_header (Identifier name) b bs s' s rest' rest name' refl k h f e u)
 one_identifier (Identifier name') b bs s s' rest rest' name q h k e f u v =
@@ -141,7 +146,8 @@ alias_words : (name : List ℕ) → IsAliasName name → list_all is_word name �
 alias_words [] h = absurd h
 alias_words (b ∷ bs) h = h
 
-one_alias : (u : Token) (b : ℕ) (bs s s' rest rest' name : List ℕ) → 64 ≡ token_kind u → Spells (Alias name) (b ∷ s) → Spells u (b ∷ s') → bs ≡ s ++ rest → bs ≡ s' ++ rest' → Ends (Alias name) rest → Ends u rest' → IsSame (Alias name) u rest rest'
+one_alias : (u : Token) (b : ℕ) (bs s s' rest rest' name : List ℕ) → 64 ≡ token_kind u → Spells (Alias name) (b ∷ s) → Spells u (b ∷ s') → bs ≡ s ++ rest → bs ≡ s' ++ rest'
+    → Ends (Alias name) rest → Ends u rest' → IsSame (Alias name) u rest rest'
 one_alias (Alias name') b bs s s' rest rest' name q h k e f u v =
     let x : b ∷ s ≡ 64 ∷ name = h.1 in
     let y : b ∷ s' ≡ 64 ∷ name' = k.1 in
@@ -161,7 +167,8 @@ same_quotes (x ∷ y ∷ inner) inner' (z ∷ text) text' rest rest' (escaped h)
 same_quotes (x ∷ inner) inner' (z ∷ text) text' rest rest' (plain n m h) nothing e = absurd (n (cons-head x 34 (inner ++ 34 ∷ rest) rest' e))
 same_quotes (x ∷ y ∷ inner) (x' ∷ y' ∷ inner') (z ∷ text) (z' ∷ text') rest rest' (escaped h) (escaped k) e =
     let first : y ≡ y' = cons-head y y' (inner ++ 34 ∷ rest) (inner' ++ 34 ∷ rest') (cons-tail 92 92 (y ∷ (inner ++ 34 ∷ rest)) (y' ∷ (inner' ++ 34 ∷ rest')) e) in
-    let w = same_quotes inner inner' text text' rest rest' h k (cons-tail y y' (inner ++ 34 ∷ rest) (inner' ++ 34 ∷ rest') (cons-tail 92 92 (y ∷ (inner ++ 34 ∷ rest)) (y' ∷ (inner' ++ 34 ∷ rest')) e)) in
+    let w = same_quotes inner inner' text text' rest rest' h k
+    (cons-tail y y' (inner ++ 34 ∷ rest) (inner' ++ 34 ∷ rest') (cons-tail 92 92 (y ∷ (inner ++ 34 ∷ rest)) (y' ∷ (inner' ++ 34 ∷ rest')) e)) in
     let run = w.run in
     record { run = cc; after = w.after }
 same_quotes (x ∷ y ∷ inner) (x' ∷ inner') (z ∷ text) (z' ∷ text') rest rest' (escaped h) (plain n m k) e =
@@ -179,7 +186,8 @@ quoted_split b bs s rest inner e f =
     let same : s ≡ inner ++ 34 ∷ [] = cc in
     f ∙ ap (λ w. w ++ rest) same ∙ append_assoc inner (34 ∷ []) rest
 
-one_string : (u : Token) (b : ℕ) (bs s s' rest rest' text : List ℕ) → 34 ≡ token_kind u → Spells (Str text) (b ∷ s) → Spells u (b ∷ s') → bs ≡ s ++ rest → bs ≡ s' ++ rest' → IsSame (Str text) u rest rest'
+one_string : (u : Token) (b : ℕ) (bs s s' rest rest' text : List ℕ) → 34 ≡ token_kind u → Spells (Str text) (b ∷ s) → Spells u (b ∷ s') → bs ≡ s ++ rest → bs ≡ s' ++ rest'
+    → IsSame (Str text) u rest rest'
 one_string (Str text') b bs s s' rest rest' text q h k e f =
     let w = same_quotes h.0 k.0 text text' rest rest' h.1 k.1 (sym (quoted_split b bs s rest h.0 h.2 e) ∙ quoted_split b bs s' rest' k.0 k.2 f) in
     record { token = ap Str w.run; after = w.after }
@@ -205,27 +213,33 @@ one_bar : (u : Token) (b : ℕ) (bs s s' rest rest' : List ℕ) → 124 ≡ toke
 one_bar Bar b bs s s' rest rest' q h k e f = fixed Bar b bs s s' rest rest' _ h k e f
 one_bar _ b bs s s' rest rest' q h k e f = absurd (omega arith)
 
-one_left_paren : (u : Token) (b : ℕ) (bs s s' rest rest' : List ℕ) → 40 ≡ token_kind u → Spells LeftParen (b ∷ s) → Spells u (b ∷ s') → bs ≡ s ++ rest → bs ≡ s' ++ rest' → IsSame LeftParen u rest rest'
+one_left_paren : (u : Token) (b : ℕ) (bs s s' rest rest' : List ℕ) → 40 ≡ token_kind u → Spells LeftParen (b ∷ s) → Spells u (b ∷ s') → bs ≡ s ++ rest → bs ≡ s' ++ rest'
+    → IsSame LeftParen u rest rest'
 one_left_paren LeftParen b bs s s' rest rest' q h k e f = fixed LeftParen b bs s s' rest rest' _ h k e f
 one_left_paren _ b bs s s' rest rest' q h k e f = absurd (omega arith)
 
-one_right_paren : (u : Token) (b : ℕ) (bs s s' rest rest' : List ℕ) → 41 ≡ token_kind u → Spells RightParen (b ∷ s) → Spells u (b ∷ s') → bs ≡ s ++ rest → bs ≡ s' ++ rest' → IsSame RightParen u rest rest'
+one_right_paren : (u : Token) (b : ℕ) (bs s s' rest rest' : List ℕ) → 41 ≡ token_kind u → Spells RightParen (b ∷ s) → Spells u (b ∷ s') → bs ≡ s ++ rest → bs ≡ s' ++ rest'
+    → IsSame RightParen u rest rest'
 one_right_paren RightParen b bs s s' rest rest' q h k e f = fixed RightParen b bs s s' rest rest' _ h k e f
 one_right_paren _ b bs s s' rest rest' q h k e f = absurd (omega arith)
 
-one_left_brace : (u : Token) (b : ℕ) (bs s s' rest rest' : List ℕ) → 123 ≡ token_kind u → Spells LeftBrace (b ∷ s) → Spells u (b ∷ s') → bs ≡ s ++ rest → bs ≡ s' ++ rest' → IsSame LeftBrace u rest rest'
+one_left_brace : (u : Token) (b : ℕ) (bs s s' rest rest' : List ℕ) → 123 ≡ token_kind u → Spells LeftBrace (b ∷ s) → Spells u (b ∷ s') → bs ≡ s ++ rest → bs ≡ s' ++ rest'
+    → IsSame LeftBrace u rest rest'
 one_left_brace LeftBrace b bs s s' rest rest' q h k e f = fixed LeftBrace b bs s s' rest rest' _ h k e f
 one_left_brace _ b bs s s' rest rest' q h k e f = absurd (omega arith)
 
-one_right_brace : (u : Token) (b : ℕ) (bs s s' rest rest' : List ℕ) → 125 ≡ token_kind u → Spells RightBrace (b ∷ s) → Spells u (b ∷ s') → bs ≡ s ++ rest → bs ≡ s' ++ rest' → IsSame RightBrace u rest rest'
+one_right_brace : (u : Token) (b : ℕ) (bs s s' rest rest' : List ℕ) → 125 ≡ token_kind u → Spells RightBrace (b ∷ s) → Spells u (b ∷ s') → bs ≡ s ++ rest → bs ≡ s' ++ rest'
+    → IsSame RightBrace u rest rest'
 one_right_brace RightBrace b bs s s' rest rest' q h k e f = fixed RightBrace b bs s s' rest rest' _ h k e f
 one_right_brace _ b bs s s' rest rest' q h k e f = absurd (omega arith)
 
-one_left_bracket : (u : Token) (b : ℕ) (bs s s' rest rest' : List ℕ) → 91 ≡ token_kind u → Spells LeftBracket (b ∷ s) → Spells u (b ∷ s') → bs ≡ s ++ rest → bs ≡ s' ++ rest' → IsSame LeftBracket u rest rest'
+one_left_bracket : (u : Token) (b : ℕ) (bs s s' rest rest' : List ℕ) → 91 ≡ token_kind u → Spells LeftBracket (b ∷ s) → Spells u (b ∷ s') → bs ≡ s ++ rest → bs ≡ s' ++ rest'
+    → IsSame LeftBracket u rest rest'
 one_left_bracket LeftBracket b bs s s' rest rest' q h k e f = fixed LeftBracket b bs s s' rest rest' _ h k e f
 one_left_bracket _ b bs s s' rest rest' q h k e f = absurd (omega arith)
 
-one_right_bracket : (u : Token) (b : ℕ) (bs s s' rest rest' : List ℕ) → 93 ≡ token_kind u → Spells RightBracket (b ∷ s) → Spells u (b ∷ s') → bs ≡ s ++ rest → bs ≡ s' ++ rest' → IsSame RightBracket u rest rest'
+one_right_bracket : (u : Token) (b : ℕ) (bs s s' rest rest' : List ℕ) → 93 ≡ token_kind u → Spells RightBracket (b ∷ s) → Spells u (b ∷ s') → bs ≡ s ++ rest → bs ≡ s' ++ rest'
+    → IsSame RightBracket u rest rest'
 one_right_bracket RightBracket b bs s s' rest rest' q h k e f = fixed RightBracket b bs s s' rest rest' _ h k e f
 one_right_bracket _ b bs s s' rest rest' q h k e f = absurd (omega arith)
 
@@ -258,7 +272,8 @@ one_abort End b bs s s' rest rest' q h k e f = absurd (apart 65 69 b bs s s' res
 one_abort Abort b bs s s' rest rest' q h k e f = fixed Abort b bs s s' rest rest' _ h k e f
 one_abort _ b bs s s' rest rest' q h k e f = absurd (omega arith)
 
-one_front : (t u : Token) (b : ℕ) (bs s s' rest rest' : List ℕ) → token_kind t ≡ token_kind u → Spells t (b ∷ s) → Spells u (b ∷ s') → bs ≡ s ++ rest → bs ≡ s' ++ rest' → Ends t rest → Ends u rest' → IsSame t u rest rest'
+one_front : (t u : Token) (b : ℕ) (bs s s' rest rest' : List ℕ) → token_kind t ≡ token_kind u → Spells t (b ∷ s) → Spells u (b ∷ s') → bs ≡ s ++ rest → bs ≡ s' ++ rest' → Ends t rest
+    → Ends u rest' → IsSame t u rest rest'
 one_front (HeaderName name) u b bs s s' rest rest' q h k e f v w = one_header u b bs s s' rest rest' name q h k e f w
 one_front (Identifier name) u b bs s s' rest rest' q h k e f v w = one_identifier u b bs s s' rest rest' name q h k e f v w
 one_front (Str text) u b bs s s' rest rest' q h k e f v w = one_string u b bs s s' rest rest' text q h k e f

@@ -1,5 +1,6 @@
 -- Comments, and what follows their end.
-use Rattle.std.proofs.Common.{◌≡◌, ℕ, zero, suc, ◌+◌, ◌<◌, ◌≤◌, ◌&&◌, ◌==◌, Bool, true, false, cond, List, [], ◌∷◌, ◌++◌, length, Option, Some, None, Ok, Err, inl, inr, refl, sym, subst, ◌∙◌, ap, arith, MatchBool}
+use Rattle.std.proofs.Common.{◌≡◌, ℕ, zero, suc, ◌+◌, ◌<◌, ◌≤◌, ◌&&◌, ◌==◌, Bool, true, false, cond, List, [], ◌∷◌, ◌++◌, length, Option, Some, None}
+use Rattle.std.proofs.Common.{Ok, Err, inl, inr, refl, sym, subst, ◌∙◌, ap, arith, MatchBool}
 use Rattle.std.proofs.lemmas.Bool.{cases_Bool}
 use Rattle.std.proofs.lemmas.List.{append_assoc, length-append}
 use Rattle.hoa_lexer.specs.Blanks.{Closes}
@@ -42,7 +43,8 @@ by_tests true q A B C x y z w f g k h = f h
 by_tests false true A B C x y z w f g k h = g h
 by_tests false false A B C x y z w f g k h = k h
 
-by_lengths : (p q : Bool) (A B C : Type 0) (d n : ℕ) → (A → d + d ≤ n) → (B → suc (suc d) + suc (suc d) ≤ n) → (C → suc d + suc d ≤ suc n) → MatchBool p A (MatchBool q B C) → suc d + suc d ≤ suc (suc n)
+by_lengths : (p q : Bool) (A B C : Type 0) (d n : ℕ) → (A → d + d ≤ n) → (B → suc (suc d) + suc (suc d) ≤ n) → (C → suc d + suc d ≤ suc n) → MatchBool p A (MatchBool q B C)
+    → suc d + suc d ≤ suc (suc n)
 by_lengths true q A B C d n f g k h = omega (arith, f h)
 by_lengths false true A B C d n f g k h = omega (arith, g h)
 by_lengths false false A B C d n f g k h = omega (arith, k h)
@@ -69,7 +71,8 @@ closed_out d b c bs rest h w = record { body = b ∷ c ∷ w.body; closes = rw h
 closed_in : (d b c : ℕ) (bs rest : List ℕ) → ((b == 42) && (c == 47)) ≡ false → ((b == 47) && (c == 42)) ≡ true → IsClosed (suc (suc d)) bs rest → IsClosed (suc d) (b ∷ c ∷ bs) rest
 closed_in d b c bs rest h k w = record { body = b ∷ c ∷ w.body; closes = rw (h, k) w.closes; split = ap (λ xs. b ∷ c ∷ xs) w.split }
 
-closed_on_at : (d b c : ℕ) (bs rest body : List ℕ) → ((b == 42) && (c == 47)) ≡ false → ((b == 47) && (c == 42)) ≡ false → Closes (suc d) body → c ∷ bs ≡ body ++ rest → IsClosed (suc d) (b ∷ c ∷ bs) rest
+closed_on_at : (d b c : ℕ) (bs rest body : List ℕ) → ((b == 42) && (c == 47)) ≡ false → ((b == 47) && (c == 42)) ≡ false → Closes (suc d) body → c ∷ bs ≡ body ++ rest
+    → IsClosed (suc d) (b ∷ c ∷ bs) rest
 closed_on_at d b c bs rest [] h k w e = absurd w
 closed_on_at d b c bs rest (x ∷ xs) h k w e =
     let same : x ≡ c = cc in
@@ -120,7 +123,8 @@ at_hand_open d seen last new (Some rest) p l e k =
     let v = closing_sound d (last ++ new) (rest ++ new) (e ∙ ap (closing 1) whole ∙ closing_after 1 w.body (rest ++ new) w.closes) in
     absurd (omega (arith, closes_long d v.body v.closes, simp length-append at (ap length v.split)))
 
-pub step_err : (h1 h2 : Option ℕ) (fault : LexFault) (first depth : ℕ) (x y z : List ℕ) → x ≡ first ∷ y → h1 ≡ None → unread h1 y ≡ z → h2 ≡ None → IsReadFault fault → StepsIn (Err fault) depth x (unread h2 z)
+pub step_err : (h1 h2 : Option ℕ) (fault : LexFault) (first depth : ℕ) (x y z : List ℕ) → x ≡ first ∷ y → h1 ≡ None → unread h1 y ≡ z → h2 ≡ None → IsReadFault fault
+    → StepsIn (Err fault) depth x (unread h2 z)
 step_err h1 h2 Read first depth x y z p e q k r =
     let a = unheld h1 y e in
     let b = unheld h2 z k in
@@ -141,29 +145,34 @@ step_out_at (suc d) next first second x z e p t =
     let same : next ≡ d = omega arith in
     ap (λ n. closing n z) same ∙ sym (steps_out d first second z t) ∙ ap (closing (suc d)) (sym p)
 
-pub step_closes : (h1 : Option ℕ) (first second depth next : ℕ) (x y z : List ℕ) → next + 1 ≡ depth → x ≡ first ∷ y → h1 ≡ None → unread h1 y ≡ second ∷ z → ((first == 42) && (second == 47)) ≡ true → StepsIn (Ok next) depth x z
+pub step_closes : (h1 : Option ℕ) (first second depth next : ℕ) (x y z : List ℕ) → next + 1 ≡ depth → x ≡ first ∷ y → h1 ≡ None → unread h1 y ≡ second ∷ z
+    → ((first == 42) && (second == 47)) ≡ true → StepsIn (Ok next) depth x z
 step_closes h1 first second depth next x y z d p e q t =
     let a = unheld h1 y e in
     let whole : x ≡ first ∷ second ∷ z = cc in
     (step_out_at depth next first second x z d whole t, first ∷ second ∷ [], whole)
 
-step_in_at : (d next first second : ℕ) (x z : List ℕ) → 0 < d → next ≡ d + 1 → x ≡ first ∷ second ∷ z → ((first == 42) && (second == 47)) ≡ false → ((first == 47) && (second == 42)) ≡ true → closing next z ≡ closing d x
+step_in_at : (d next first second : ℕ) (x z : List ℕ) → 0 < d → next ≡ d + 1 → x ≡ first ∷ second ∷ z → ((first == 42) && (second == 47)) ≡ false → ((first == 47) && (second == 42)) ≡ true
+    → closing next z ≡ closing d x
 step_in_at zero next first second x z l e p s t = absurd (omega arith)
 step_in_at (suc d) next first second x z l e p s t =
     let same : next ≡ suc (suc d) = omega arith in
     ap (λ n. closing n z) same ∙ sym (steps_in d first second z s t) ∙ ap (closing (suc d)) (sym p)
 
-pub step_opens : (h1 : Option ℕ) (first second depth next : ℕ) (x y z : List ℕ) → 0 < depth → next ≡ depth + 1 → x ≡ first ∷ y → h1 ≡ None → unread h1 y ≡ second ∷ z → ((first == 42) && (second == 47)) ≡ false → ((first == 47) && (second == 42)) ≡ true → StepsIn (Ok next) depth x z
+pub step_opens : (h1 : Option ℕ) (first second depth next : ℕ) (x y z : List ℕ) → 0 < depth → next ≡ depth + 1 → x ≡ first ∷ y → h1 ≡ None → unread h1 y ≡ second ∷ z
+    → ((first == 42) && (second == 47)) ≡ false → ((first == 47) && (second == 42)) ≡ true → StepsIn (Ok next) depth x z
 step_opens h1 first second depth next x y z l d p e q s t =
     let a = unheld h1 y e in
     let whole : x ≡ first ∷ second ∷ z = cc in
     (step_in_at depth next first second x z l d whole s t, first ∷ second ∷ [], whole)
 
-step_on_at : (d first second : ℕ) (x z : List ℕ) → 0 < d → x ≡ first ∷ second ∷ z → ((first == 42) && (second == 47)) ≡ false → ((first == 47) && (second == 42)) ≡ false → closing d (second ∷ z) ≡ closing d x
+step_on_at : (d first second : ℕ) (x z : List ℕ) → 0 < d → x ≡ first ∷ second ∷ z → ((first == 42) && (second == 47)) ≡ false → ((first == 47) && (second == 42)) ≡ false
+    → closing d (second ∷ z) ≡ closing d x
 step_on_at zero first second x z l p s t = absurd (omega arith)
 step_on_at (suc d) first second x z l p s t = sym (steps_on d first second z s t) ∙ ap (closing (suc d)) (sym p)
 
-pub step_stays : (h1 h2 : Option ℕ) (first second depth : ℕ) (x y z : List ℕ) → 0 < depth → x ≡ first ∷ y → h1 ≡ None → unread h1 y ≡ second ∷ z → h2 ≡ Some second → ((first == 42) && (second == 47)) ≡ false → ((first == 47) && (second == 42)) ≡ false → StepsIn (Ok depth) depth x (unread h2 z)
+pub step_stays : (h1 h2 : Option ℕ) (first second depth : ℕ) (x y z : List ℕ) → 0 < depth → x ≡ first ∷ y → h1 ≡ None → unread h1 y ≡ second ∷ z → h2 ≡ Some second
+    → ((first == 42) && (second == 47)) ≡ false → ((first == 47) && (second == 42)) ≡ false → StepsIn (Ok depth) depth x (unread h2 z)
 step_stays h1 h2 first second depth x y z l p e q k s t =
     let a = unheld h1 y e in
     let b = holding h2 second z k in
@@ -172,11 +181,13 @@ step_stays h1 h2 first second depth x y z l p e q k s t =
 
 -- the loop over steps
 
-pub comment_step : (depth next : ℕ) (x y z : List ℕ) → (closing depth y ≡ closing 1 x) × (seen : List ℕ) × (x ≡ seen ++ y) → StepsIn (Ok next) depth y z → (closing next z ≡ closing 1 x) × (seen : List ℕ) × (x ≡ seen ++ z)
+pub comment_step : (depth next : ℕ) (x y z : List ℕ) → (closing depth y ≡ closing 1 x) × (seen : List ℕ) × (x ≡ seen ++ y) → StepsIn (Ok next) depth y z
+    → (closing next z ≡ closing 1 x) × (seen : List ℕ) × (x ≡ seen ++ z)
 comment_step depth next x y z h s =
     (s.0 ∙ h.0, h.1 ++ s.1, h.2 ∙ ap (λ w. h.1 ++ w) s.2 ∙ sym (append_assoc h.1 s.1 z))
 
-pub comment_err : (fault : LexFault) (depth : ℕ) (x y z : List ℕ) → 0 < depth → (closing depth y ≡ closing 1 x) × (seen : List ℕ) × (x ≡ seen ++ y) → StepsIn (Err fault) depth y z → ClosesComment (Err fault) x z
+pub comment_err : (fault : LexFault) (depth : ℕ) (x y z : List ℕ) → 0 < depth → (closing depth y ≡ closing 1 x) × (seen : List ℕ) × (x ≡ seen ++ y) → StepsIn (Err fault) depth y z
+    → ClosesComment (Err fault) x z
 comment_err OpenComment depth x y z l h s = (sym h.0 ∙ s.0, s.1)
 comment_err Bytes depth x y z l h s =
     let whole : x ≡ h.1 ++ (s.0 ++ z) = h.2 ∙ ap (λ w. h.1 ++ w) s.1 in

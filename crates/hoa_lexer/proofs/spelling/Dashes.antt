@@ -126,7 +126,8 @@ dashes_pauses x y e = record {
   begins = record { more = codes "END--"; front = end_front };
 }
 
-pub dashes_bad : (k offset b : ℕ) (h : Option ℕ) (x z : List ℕ) → k ≡ offset → h ≡ None → (b ≡ 66 → ⊥) → (b ≡ 69 → ⊥) → (b ≡ 65 → ⊥) → x ≡ b ∷ z → ReadsToken (Err (BadToken k)) offset (45 ∷ 45 ∷ x) (unread h z)
+pub dashes_bad : (k offset b : ℕ) (h : Option ℕ) (x z : List ℕ) → k ≡ offset → h ≡ None → (b ≡ 66 → ⊥) → (b ≡ 69 → ⊥) → (b ≡ 65 → ⊥) → x ≡ b ∷ z
+    → ReadsToken (Err (BadToken k)) offset (45 ∷ 45 ∷ x) (unread h z)
 dashes_bad k offset b h x z s l m n o e =
     let next : x ≡ b ∷ unread h z = e ∙ ap (λ w. b ∷ w) (sym (unheld h z l)) in (
       s,
@@ -226,7 +227,8 @@ tail_open_token token letter b tail x d w = record {
   begins = inr (tail_begins token letter b tail x d w);
 }
 
-tail_pauses : (token : Token) (letter b : ℕ) (h : Option ℕ) (tail seen x z : List ℕ) → IsDashed token letter tail → h ≡ None → Expects tail seen b → x ≡ seen ++ z → Pauses (45 ∷ 45 ∷ letter ∷ x) (unread h z)
+tail_pauses : (token : Token) (letter b : ℕ) (h : Option ℕ) (tail seen x z : List ℕ) → IsDashed token letter tail → h ≡ None → Expects tail seen b → x ≡ seen ++ z
+    → Pauses (45 ∷ 45 ∷ letter ∷ x) (unread h z)
 tail_pauses token letter b h tail seen x z d e w k = record {
   at_hand = 45 ∷ 45 ∷ letter ∷ seen;
   split = ap (λ v. 45 ∷ 45 ∷ letter ∷ v) (k ∙ ap (λ v. seen ++ v) (sym (unheld h z e)));
@@ -235,7 +237,8 @@ tail_pauses token letter b h tail seen x z d e w k = record {
   begins = tail_begins token letter b tail seen d w;
 }
 
-pub tail_err : (fault : LexFault) (token : Token) (letter offset : ℕ) (h : Option ℕ) (tail x z : List ℕ) → IsDashed token letter tail → h ≡ None → ReadsWord (Err fault) tail offset x z → ReadsToken (Err fault) offset (45 ∷ 45 ∷ letter ∷ x) (unread h z)
+pub tail_err : (fault : LexFault) (token : Token) (letter offset : ℕ) (h : Option ℕ) (tail x z : List ℕ) → IsDashed token letter tail → h ≡ None → ReadsWord (Err fault) tail offset x z
+    → ReadsToken (Err fault) offset (45 ∷ 45 ∷ letter ∷ x) (unread h z)
 tail_err (BadToken k) token letter offset h tail x z d e r = (
   r.0,
   tail_no_token token letter r.2 r.3 tail r.1 x z d r.4 r.5 r.6,
@@ -261,7 +264,8 @@ expects_at word k l = record {
   split = sym (take-append-drop k word) ∙ ap (λ v. take k word ++ v) (drop-cons word k 0 l);
 }
 
-pub expect_bad : (word : List ℕ) (k byte place offset : ℕ) (x y z : List ℕ) → k < length word → place ≡ offset → x ≡ take k word ++ y → y ≡ byte ∷ z → (byte ≡ get_or word k 0 → ⊥) → ReadsWord (Err (BadToken place)) word offset x z
+pub expect_bad : (word : List ℕ) (k byte place offset : ℕ) (x y z : List ℕ) → k < length word → place ≡ offset → x ≡ take k word ++ y → y ≡ byte ∷ z → (byte ≡ get_or word k 0 → ⊥)
+    → ReadsWord (Err (BadToken place)) word offset x z
 expect_bad word k byte place offset x y z l o e r w =
     (o, take k word, get_or word k 0, byte, expects_at word k l, e ∙ ap (λ v. take k word ++ v) r, w)
 

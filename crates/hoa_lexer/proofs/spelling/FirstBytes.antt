@@ -7,7 +7,8 @@ use Rattle.hoa_lexer.specs.Spelling.{Spells}
 use Rattle.hoa_lexer.specs.Text.{IsFront, HasFront, IsNoToken}
 use Rattle.hoa_lexer.specs.inner.Steps.{IsSign}
 use Rattle.hoa_lexer.specs.declared.token.Token.{Token}
-use Rattle.hoa_lexer.specs.declared.token.Token.TheVariants.{HeaderName, Identifier, Str, Int, Alias, Bang, Amp, Bar, LeftParen, RightParen, LeftBrace, RightBrace, LeftBracket, RightBracket, Body, End, Abort}
+use Rattle.hoa_lexer.specs.declared.token.Token.TheVariants.{HeaderName, Identifier, Str, Int, Alias, Bang, Amp, Bar, LeftParen, RightParen}
+use Rattle.hoa_lexer.specs.declared.token.Token.TheVariants.{LeftBrace, RightBrace, LeftBracket, RightBracket, Body, End, Abort}
 
 -- `A` for a letter, `0` for a digit, and else the byte
 abbrev pub kind : ℕ → ℕ
@@ -190,7 +191,8 @@ pub digit_no_space : (b : ℕ) → is_digit b ≡ true → is_space b ≡ false
 digit_no_space b d = ⊎_elim (λ h. absurd (no_space (Int 0) b (kind_digit b d) h)) (λ h. h) (cases_Bool (is_space b))
 
 -- a byte of no kind begins no token, however the text goes on
-pub no_kind_token : (b : ℕ) (x : List ℕ) → is_space b ≡ false → is_letter b ≡ false → is_digit b ≡ false → (b ≡ 34 → ⊥) → (b ≡ 64 → ⊥) → (b ≡ 45 → ⊥) → (b ≡ 47 → ⊥) → ((t : Token) → IsSign t b → ⊥) → IsNoToken (b ∷ x)
+pub no_kind_token : (b : ℕ) (x : List ℕ) → is_space b ≡ false → is_letter b ≡ false → is_digit b ≡ false → (b ≡ 34 → ⊥) → (b ≡ 64 → ⊥) → (b ≡ 45 → ⊥) → (b ≡ 47 → ⊥)
+    → ((t : Token) → IsSign t b → ⊥) → IsNoToken (b ∷ x)
 no_kind_token b x n l d s a m o k = record {
   some = λ e. cc;
   no_space = solid b x n;

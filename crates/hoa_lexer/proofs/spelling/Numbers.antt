@@ -60,7 +60,8 @@ numeral first (b ∷ bs) h p d = (h, λ e. absurd (omega arith), d)
 pub number_zero : (first value : ℕ) (x : List ℕ) → is_digit first ≡ true → value ≡ first - 48 → value ≡ 0 → IsFront (first ∷ x) (Int 0) x
 number_zero first value x d e z = record { word = first ∷ []; split = refl; spells = (d, omega arith, lit< tt); ends = tt }
 
-pub number_token : (first value b : ℕ) (x y z : List ℕ) → is_digit first ≡ true → 0 < first - 48 → value < 2 ^ 32 → IsDigits first value x y → y ≡ b ∷ z → is_digit b ≡ false → IsFront (first ∷ x) (Int value) (b ∷ z)
+pub number_token : (first value b : ℕ) (x y z : List ℕ) → is_digit first ≡ true → 0 < first - 48 → value < 2 ^ 32 → IsDigits first value x y → y ≡ b ∷ z → is_digit b ≡ false
+    → IsFront (first ∷ x) (Int value) (b ∷ z)
 number_token first value b x y z d v l w e n = record {
   word = first ∷ w.seen;
   split = ap (λ q. first ∷ q) (w.split ∙ ap (λ q. w.seen ++ q) e);
@@ -74,7 +75,8 @@ holds_int (suc n) l = refl
 
 -- an integer whose digits may go on
 
-number_open_at : (token : Token) (first : ℕ) (seen tail rest : List ℕ) → 48 ≡ token_kind token → 0 < first - 48 → Spells token (first ∷ tail) → Ends token rest → seen ≡ tail ++ rest → list_all is_digit seen ≡ true → ⊥
+number_open_at : (token : Token) (first : ℕ) (seen tail rest : List ℕ) → 48 ≡ token_kind token → 0 < first - 48 → Spells token (first ∷ tail) → Ends token rest → seen ≡ tail ++ rest
+    → list_all is_digit seen ≡ true → ⊥
 number_open_at (Int n) first seen tail rest k v s e p h = stops_not is_digit seen tail rest h p (int_stops n rest (omega (arith, s.1, nonzero first tail v)) e)
 number_open_at (HeaderName name) first seen tail rest k v s e p h = absurd (omega arith)
 number_open_at (Identifier name) first seen tail rest k v s e p h = absurd (omega arith)
@@ -124,7 +126,8 @@ number_pauses first value x y z d v l w e = record {
   begins = number_begins first w.seen d v w.digits (omega (arith, w.value_is));
 }
 
-pub number_err : (fault : LexFault) (h : Option ℕ) (offset first value : ℕ) (x y z : List ℕ) → is_digit first ≡ true → 0 < first - 48 → value < 2 ^ 32 → IsReadFault fault → h ≡ None → IsDigits first value x y → y ≡ z → ReadsToken (Err fault) offset (first ∷ x) (unread h z)
+pub number_err : (fault : LexFault) (h : Option ℕ) (offset first value : ℕ) (x y z : List ℕ) → is_digit first ≡ true → 0 < first - 48 → value < 2 ^ 32 → IsReadFault fault → h ≡ None
+    → IsDigits first value x y → y ≡ z → ReadsToken (Err fault) offset (first ∷ x) (unread h z)
 number_err Bytes h offset first value x y z d v l r k w e = number_pauses first value x y (unread h z) d v l w (e ∙ sym (unheld h z k))
 number_err Read h offset first value x y z d v l r k w e = number_pauses first value x y (unread h z) d v l w (e ∙ sym (unheld h z k))
 number_err (BadToken n) h offset first value x y z d v l r k w e = absurd r
@@ -147,7 +150,8 @@ longer a (b ∷ bs) (t ∷ ts) more rest e d s =
     let shorter = longer (10 * a + (b - 48)) bs ts more rest tails (and_parts (is_digit b) (list_all is_digit bs) d).1 s in
     subst (λ (c : ℕ). value_from (10 * a + (b - 48)) bs ≤ value_from (10 * a + (c - 48)) ts) same shorter
 
-number_great_at : (token : Token) (first : ℕ) (seen more tail rest : List ℕ) → 48 ≡ token_kind token → 0 < first - 48 → 2 ^ 32 ≤ value_of (first ∷ seen) → Spells token (first ∷ tail) → Ends token rest → seen ++ more ≡ tail ++ rest → list_all is_digit seen ≡ true → ⊥
+number_great_at : (token : Token) (first : ℕ) (seen more tail rest : List ℕ) → 48 ≡ token_kind token → 0 < first - 48 → 2 ^ 32 ≤ value_of (first ∷ seen) → Spells token (first ∷ tail)
+    → Ends token rest → seen ++ more ≡ tail ++ rest → list_all is_digit seen ≡ true → ⊥
 number_great_at (Int n) first seen more tail rest k v g s e p h =
     let stops = int_stops n rest (omega (arith, s.1, nonzero first tail v)) e in
     omega (arith, s.1, s.2, g, longer (10 * 0 + (first - 48)) seen tail more rest p h stops)
@@ -170,7 +174,8 @@ number_great first value x y d v g w = record {
       number_great_at f.token first w.seen (y ++ t.more) head.tail f.rest (sym (kind_digit first d) ∙ head.kinds) v (omega (arith, w.value_is)) head.spells f.front.ends whole w.digits;
 }
 
-pub number_bad : (k offset first value value' b : ℕ) (h : Option ℕ) (x y z : List ℕ) → k ≡ offset → h ≡ None → is_digit first ≡ true → 0 < first - 48 → value < 2 ^ 32 → IsDigits first value x y → y ≡ b ∷ z → is_digit b ≡ true → value' ≡ 10 * value + (b - 48) → 2 ^ 32 ≤ value' → ReadsToken (Err (BadToken k)) offset (first ∷ x) (unread h z)
+pub number_bad : (k offset first value value' b : ℕ) (h : Option ℕ) (x y z : List ℕ) → k ≡ offset → h ≡ None → is_digit first ≡ true → 0 < first - 48 → value < 2 ^ 32
+    → IsDigits first value x y → y ≡ b ∷ z → is_digit b ≡ true → value' ≡ 10 * value + (b - 48) → 2 ^ 32 ≤ value' → ReadsToken (Err (BadToken k)) offset (first ∷ x) (unread h z)
 number_bad k offset first value value' b h x y z s n d v l w e g p m =
     let all = digits_push first value value' b x y z w e g p in (
       s,

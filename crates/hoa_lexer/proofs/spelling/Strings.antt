@@ -114,14 +114,16 @@ string_token h text x y z k q e = record {
   ends = tt;
 }
 
-pub string_push : (b : ℕ) (text text' x y z : List ℕ) → (inner : List ℕ) × Quotes inner text × (x ≡ inner ++ y) → (seen : List ℕ) × Quotes seen (b ∷ []) × (y ≡ seen ++ z) → text' ≡ text ++ b ∷ [] → (inner : List ℕ) × Quotes inner text' × (x ≡ inner ++ z)
+pub string_push : (b : ℕ) (text text' x y z : List ℕ) → (inner : List ℕ) × Quotes inner text × (x ≡ inner ++ y) → (seen : List ℕ) × Quotes seen (b ∷ []) × (y ≡ seen ++ z)
+    → text' ≡ text ++ b ∷ [] → (inner : List ℕ) × Quotes inner text' × (x ≡ inner ++ z)
 string_push b text text' x y z h k e = (
   h.0 ++ k.0,
   subst (λ (w : List ℕ). Quotes (h.0 ++ k.0) w) (sym e) (quotes_append h.0 k.0 text (b ∷ []) h.1 k.1),
   h.2 ∙ ap (λ w. h.0 ++ w) k.2 ∙ sym (append_assoc h.0 k.0 z),
 )
 
-string_pauses : (h : Option ℕ) (text x y z : List ℕ) → h ≡ None → (inner : List ℕ) × Quotes inner text × (x ≡ inner ++ y) → (seen : List ℕ) × IsHalf seen × (y ≡ seen ++ z) → Pauses (34 ∷ x) (unread h z)
+string_pauses : (h : Option ℕ) (text x y z : List ℕ) → h ≡ None → (inner : List ℕ) × Quotes inner text × (x ≡ inner ++ y) → (seen : List ℕ) × IsHalf seen × (y ≡ seen ++ z)
+    → Pauses (34 ∷ x) (unread h z)
 string_pauses h text x y z k q r = record {
   at_hand = 34 ∷ (q.0 ++ r.0);
   split = ap (λ w. 34 ∷ w) (q.2 ∙ ap (λ w. q.0 ++ w) (r.2 ∙ ap (λ w. r.0 ++ w) (sym (unheld h z k))) ∙ sym (append_assoc q.0 r.0 (unread h z)));
@@ -131,10 +133,12 @@ string_pauses h text x y z k q r = record {
 }
 
 -- memory was wanting for a byte
-pub string_stops : (h : Option ℕ) (text : List ℕ) (b : ℕ) (x y z : List ℕ) → h ≡ None → (inner : List ℕ) × Quotes inner text × (x ≡ inner ++ y) → (seen : List ℕ) × Quotes seen (b ∷ []) × (y ≡ seen ++ z) → Pauses (34 ∷ x) (unread h z)
+pub string_stops : (h : Option ℕ) (text : List ℕ) (b : ℕ) (x y z : List ℕ) → h ≡ None → (inner : List ℕ) × Quotes inner text × (x ≡ inner ++ y)
+    → (seen : List ℕ) × Quotes seen (b ∷ []) × (y ≡ seen ++ z) → Pauses (34 ∷ x) (unread h z)
 string_stops h text b x y z k q r = string_pauses h (text ++ b ∷ []) x z z k (string_push b text (text ++ b ∷ []) x y z q r refl) ([], inl refl, refl)
 
-pub string_err : (fault : LexFault) (h : Option ℕ) (offset : ℕ) (text x y z : List ℕ) → h ≡ None → (inner : List ℕ) × Quotes inner text × (x ≡ inner ++ y) → ReadsQuoted (Err fault) y z → ReadsToken (Err fault) offset (34 ∷ x) (unread h z)
+pub string_err : (fault : LexFault) (h : Option ℕ) (offset : ℕ) (text x y z : List ℕ) → h ≡ None → (inner : List ℕ) × Quotes inner text × (x ≡ inner ++ y) → ReadsQuoted (Err fault) y z
+    → ReadsToken (Err fault) offset (34 ∷ x) (unread h z)
 string_err OpenString h offset text x y z k q r = (
   record {
     rest = x;

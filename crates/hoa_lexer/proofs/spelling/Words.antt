@@ -98,7 +98,8 @@ word_pauses h first x z l k a = record {
 pub word_stops : (first : ℕ) (x : List ℕ) → is_letter first ≡ true → Pauses (first ∷ x) x
 word_stops first x l = word_pauses None first x x l refl (record { seen = []; words = refl; split = refl })
 
-pub word_err : (fault : LexFault) (h : Option ℕ) (offset first : ℕ) (name name' x z : List ℕ) → is_letter first ≡ true → h ≡ None → AddsWords (Err fault) name name' x z → ReadsToken (Err fault) offset (first ∷ x) (unread h z)
+pub word_err : (fault : LexFault) (h : Option ℕ) (offset first : ℕ) (name name' x z : List ℕ) → is_letter first ≡ true → h ≡ None → AddsWords (Err fault) name name' x z
+    → ReadsToken (Err fault) offset (first ∷ x) (unread h z)
 word_err Bytes h offset first name name' x z l k a = word_pauses h first x z l k a
 word_err Read h offset first name name' x z l k a = word_pauses h first x z l k a
 word_err Memory h offset first name name' x z l k a = word_pauses h first x z l k a
@@ -181,7 +182,8 @@ nothing_added : (seen : List ℕ) → [] ≡ seen → (b : ℕ) (x z : List ℕ)
 nothing_added [] n b x z e = e
 nothing_added (c ∷ cs) n b x z e = cc
 
-pub alias_bad : (k offset b : ℕ) (o h : Option ℕ) (name name' x z : List ℕ) → k ≡ offset → h ≡ None → o ≡ Some b → name ≡ [] → (length name' == 0) ≡ true → AddsWords (Ok o) name name' x z → ReadsToken (Err (BadToken k)) offset (64 ∷ x) (unread h z)
+pub alias_bad : (k offset b : ℕ) (o h : Option ℕ) (name name' x z : List ℕ) → k ≡ offset → h ≡ None → o ≡ Some b → name ≡ [] → (length name' == 0) ≡ true → AddsWords (Ok o) name name' x z
+    → ReadsToken (Err (BadToken k)) offset (64 ∷ x) (unread h z)
 alias_bad k offset b None h name name' x z s l e m n a = cc
 alias_bad k offset b (Some c) h name name' x z s l e m n a =
     let read : x ≡ c ∷ z = nothing_added a.0.seen (sym (empty_of_length name' n) ∙ a.0.named ∙ ap (λ v. v ++ a.0.seen) m) c x z a.0.split in

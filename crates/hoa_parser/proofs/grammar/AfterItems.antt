@@ -5,8 +5,13 @@ use Rattle.std.specs.List.{AllByRecursion}
 use Rattle.std.proofs.lemmas.List.{append_assoc}
 use Rattle.hoa_lexer.specs.declared.token.Token.{Token}
 use Rattle.hoa_lexer.specs.declared.token.Token.TheVariants as token
-use Rattle.hoa_parser.specs.inner.Expecting.{Part, Number, MoreNumbers, Quoted, MaybeQuoted, Strings, Word, Words, AliasName, AccValues, Values, Factors, Products, Atoms, Conjunctions, Items, Takes, after, header_move, move, conj_parts, label_parts, condition_parts}
-use Rattle.hoa_parser.specs.Grammar.{AccValue, acc_number, acc_word, acc_value_token, Value, number_value, text_value, word_value, value_token, Conj, and_number, conj_tokens, condition_tokens, label_tokens, optional_text, ItemPhrase, states_item, start_item, names_item, alias_item, acceptance_item, acc_name_item, tool_item, name_item, properties_item, other_item, item_tokens, ItemWithin}
+use Rattle.hoa_parser.specs.inner.Expecting.{Part, Number, MoreNumbers, Quoted, MaybeQuoted, Strings, Word, Words, AliasName, AccValues, Values}
+use Rattle.hoa_parser.specs.inner.Expecting.{Factors, Products, Atoms, Conjunctions, Items, Takes, after, header_move, move, conj_parts, label_parts}
+use Rattle.hoa_parser.specs.inner.Expecting.{condition_parts}
+use Rattle.hoa_parser.specs.Grammar.{AccValue, acc_number, acc_word, acc_value_token, Value, number_value, text_value, word_value, value_token, Conj}
+use Rattle.hoa_parser.specs.Grammar.{and_number, conj_tokens, condition_tokens, label_tokens, optional_text, ItemPhrase, states_item, start_item}
+use Rattle.hoa_parser.specs.Grammar.{names_item, alias_item, acceptance_item, acc_name_item, tool_item, name_item, properties_item, other_item}
+use Rattle.hoa_parser.specs.Grammar.{item_tokens, ItemWithin}
 use Rattle.hoa_parser.proofs.grammar.AfterLabels.{Leaves, taken, left, regrouped, label_follows, condition_follows}
 
 -- lists of values
@@ -25,7 +30,8 @@ acc_value_taken : (v : AccValue) → move AccValues (acc_value_token v) ≡ Take
 acc_value_taken (acc_number n) = refl
 acc_value_taken (acc_word word) = refl
 
-acc_values_follow : (most : ℕ) (values : List AccValue) (others : List Part) (c : List Token) → Leaves AccValues c → after most (AccValues ∷ others) (map acc_value_token values ++ c) ≡ after most others c
+acc_values_follow : (most : ℕ) (values : List AccValue) (others : List Part) (c : List Token) → Leaves AccValues c
+    → after most (AccValues ∷ others) (map acc_value_token values ++ c) ≡ after most others c
 acc_values_follow most [] others c e = left most AccValues others c e
 acc_values_follow most (v ∷ vs) others c e =
     taken most AccValues (AccValues ∷ []) others (acc_value_token v) (map acc_value_token vs ++ c) (acc_value_taken v) (omega arith)
@@ -136,7 +142,8 @@ behind_items : (items : List ItemPhrase) (c : List Token) → IsBehindItem c →
 behind_items [] c b = b
 behind_items (i ∷ is) c b = subst IsBehindItem (sym (append_assoc (item_tokens i) (flat_map item_tokens is) c)) (behind_item i (flat_map item_tokens is ++ c))
 
-pub items_follow : (most : ℕ) (items : List ItemPhrase) (c : List Token) → AllByRecursion (ItemWithin most) items → IsBehindItem c → after most (Items ∷ []) (flat_map item_tokens items ++ c) ≡ after most (Items ∷ []) c
+pub items_follow : (most : ℕ) (items : List ItemPhrase) (c : List Token) → AllByRecursion (ItemWithin most) items → IsBehindItem c
+    → after most (Items ∷ []) (flat_map item_tokens items ++ c) ≡ after most (Items ∷ []) c
 items_follow most [] c w b = refl
 items_follow most (i ∷ is) c w b =
     regrouped most (Items ∷ []) (item_tokens i) (flat_map item_tokens is) c

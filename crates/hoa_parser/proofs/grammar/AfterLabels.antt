@@ -5,8 +5,14 @@ use Rattle.std.proofs.lemmas.Bool.{le-leb}
 use Rattle.std.proofs.lemmas.List.{append_assoc}
 use Rattle.hoa_lexer.specs.declared.token.Token.{Token}
 use Rattle.hoa_lexer.specs.declared.token.Token.TheVariants as token
-use Rattle.hoa_parser.specs.inner.Expecting.{Part, Factor, Factors, Products, Atom, Atoms, Conjunctions, OpeningParen, MaybeBang, Number, ClosingParen, Move, Takes, Passes, after, after_some, behind, moved, move, open_at, label_parts, condition_parts, set_parts}
-use Rattle.hoa_parser.specs.Grammar.{Label, Lands, Lnots, Lnot, label, no_land, or_land, no_lnot, and_lnot, true_label, false_label, proposition, alias, negated, group, label_tokens, lands_tokens, lnots_tokens, lnot_tokens, LabelWithin, LandsWithin, LnotsWithin, LnotWithin, Condition, Fands, Fatoms, Fatom, condition, no_fand, or_fand, no_fatom, and_fatom, true_condition, false_condition, infinitely, finitely, condition_group, condition_tokens, fands_tokens, fatoms_tokens, fatom_tokens, ConditionWithin, FandsWithin, FatomsWithin, FatomWithin, set_tokens}
+use Rattle.hoa_parser.specs.inner.Expecting.{Part, Factor, Factors, Products, Atom, Atoms, Conjunctions, OpeningParen, MaybeBang, Number}
+use Rattle.hoa_parser.specs.inner.Expecting.{ClosingParen, Move, Takes, Passes, after, after_some, behind, moved, move, open_at, label_parts}
+use Rattle.hoa_parser.specs.inner.Expecting.{condition_parts, set_parts}
+use Rattle.hoa_parser.specs.Grammar.{Label, Lands, Lnots, Lnot, label, no_land, or_land, no_lnot, and_lnot, true_label, false_label, proposition}
+use Rattle.hoa_parser.specs.Grammar.{alias, negated, group, label_tokens, lands_tokens, lnots_tokens, lnot_tokens, LabelWithin, LandsWithin}
+use Rattle.hoa_parser.specs.Grammar.{LnotsWithin, LnotWithin, Condition, Fands, Fatoms, Fatom, condition, no_fand, or_fand, no_fatom, and_fatom}
+use Rattle.hoa_parser.specs.Grammar.{true_condition, false_condition, infinitely, finitely, condition_group, condition_tokens, fands_tokens}
+use Rattle.hoa_parser.specs.Grammar.{fatoms_tokens, fatom_tokens, ConditionWithin, FandsWithin, FatomsWithin, FatomWithin, set_tokens}
 
 -- the tokens go on behind what the part stands for
 abbrev pub Leaves : Part → List Token → Type 0
@@ -22,7 +28,8 @@ after_append most (Some parts) (t ∷ ts) v = after_append most (behind most par
 pub opened : (most : ℕ) (parts others : List Part) (passed : Option (List Part)) → open_at parts ≤ most → moved most (Takes parts) passed others ≡ Some (parts ++ others)
 opened most parts others passed l = ap (λ b. cond b (Some (parts ++ others)) None) (le-leb (open_at parts) most l)
 
-pub taken : (most : ℕ) (part : Part) (parts others : List Part) (t : Token) (c : List Token) → move part t ≡ Takes parts → open_at parts ≤ most → after most (part ∷ others) (t ∷ c) ≡ after most (parts ++ others) c
+pub taken : (most : ℕ) (part : Part) (parts others : List Part) (t : Token) (c : List Token) → move part t ≡ Takes parts → open_at parts ≤ most
+    → after most (part ∷ others) (t ∷ c) ≡ after most (parts ++ others) c
 taken most part parts others t c e l =
     ap (λ (m : Move). after_some most (moved most m (behind most others t) others) c) e
     ∙ ap (λ (o : Option (List Part)). after_some most o c) (opened most parts others (behind most others t) l)
@@ -39,7 +46,8 @@ lands_leave depth no_land c e = e
 lands_leave depth (or_land f fs ls) c e = refl
 
 mutual
-  pub label_follows : (most depth : ℕ) (l : Label) (others : List Part) (c : List Token) → depth ≤ most → LabelWithin most depth l → Leaves (Factors depth) c → Leaves (Products depth) c → after most (label_parts depth ++ others) (label_tokens l ++ c) ≡ after most others c
+  pub label_follows : (most depth : ℕ) (l : Label) (others : List Part) (c : List Token) → depth ≤ most → LabelWithin most depth l → Leaves (Factors depth) c → Leaves (Products depth) c
+      → after most (label_parts depth ++ others) (label_tokens l ++ c) ≡ after most others c
   label_follows most depth (label f fs ls) others c d w e g =
       regrouped most (label_parts depth ++ others) (lnot_tokens f) (lnots_tokens fs ++ lands_tokens ls) c
       ∙ lnot_follows most depth f (Factors depth ∷ Products depth ∷ others) ((lnots_tokens fs ++ lands_tokens ls) ++ c) d w.0
@@ -47,7 +55,8 @@ mutual
       ∙ lnots_follow most depth fs (Products depth ∷ others) (lands_tokens ls ++ c) d w.1 (lands_leave depth ls c e)
       ∙ lands_follow most depth ls others c d w.2 e g
 
-  lands_follow : (most depth : ℕ) (ls : Lands) (others : List Part) (c : List Token) → depth ≤ most → LandsWithin most depth ls → Leaves (Factors depth) c → Leaves (Products depth) c → after most (Products depth ∷ others) (lands_tokens ls ++ c) ≡ after most others c
+  lands_follow : (most depth : ℕ) (ls : Lands) (others : List Part) (c : List Token) → depth ≤ most → LandsWithin most depth ls → Leaves (Factors depth) c → Leaves (Products depth) c
+      → after most (Products depth ∷ others) (lands_tokens ls ++ c) ≡ after most others c
   lands_follow most depth no_land others c d w e g = left most (Products depth) others c g
   lands_follow most depth (or_land f fs ls) others c d w e g =
       taken most (Products depth) (label_parts depth) others token.Bar ((lnot_tokens f ++ (lnots_tokens fs ++ lands_tokens ls)) ++ c) refl d
@@ -57,7 +66,8 @@ mutual
       ∙ lnots_follow most depth fs (Products depth ∷ others) (lands_tokens ls ++ c) d w.1 (lands_leave depth ls c e)
       ∙ lands_follow most depth ls others c d w.2 e g
 
-  lnots_follow : (most depth : ℕ) (fs : Lnots) (others : List Part) (c : List Token) → depth ≤ most → LnotsWithin most depth fs → Leaves (Factors depth) c → after most (Factors depth ∷ others) (lnots_tokens fs ++ c) ≡ after most others c
+  lnots_follow : (most depth : ℕ) (fs : Lnots) (others : List Part) (c : List Token) → depth ≤ most → LnotsWithin most depth fs → Leaves (Factors depth) c
+      → after most (Factors depth ∷ others) (lnots_tokens fs ++ c) ≡ after most others c
   lnots_follow most depth no_lnot others c d w e = left most (Factors depth) others c e
   lnots_follow most depth (and_lnot f fs) others c d w e =
       taken most (Factors depth) (Factor depth ∷ Factors depth ∷ []) others token.Amp ((lnot_tokens f ++ lnots_tokens fs) ++ c) refl d
@@ -65,7 +75,8 @@ mutual
       ∙ lnot_follows most depth f (Factors depth ∷ others) (lnots_tokens fs ++ c) d w.0
       ∙ lnots_follow most depth fs others c d w.1 e
 
-  lnot_follows : (most depth : ℕ) (f : Lnot) (others : List Part) (c : List Token) → depth ≤ most → LnotWithin most depth f → after most (Factor depth ∷ others) (lnot_tokens f ++ c) ≡ after most others c
+  lnot_follows : (most depth : ℕ) (f : Lnot) (others : List Part) (c : List Token) → depth ≤ most → LnotWithin most depth f
+      → after most (Factor depth ∷ others) (lnot_tokens f ++ c) ≡ after most others c
   lnot_follows most depth true_label others c d w = taken most (Factor depth) [] others (token.Identifier (codes "t")) c refl (omega arith)
   lnot_follows most depth false_label others c d w = taken most (Factor depth) [] others (token.Identifier (codes "f")) c refl (omega arith)
   lnot_follows most depth (proposition i) others c d w = taken most (Factor depth) [] others (token.Int i) c refl (omega arith)
@@ -97,7 +108,8 @@ set_follows most set true others c =
     ∙ taken most ClosingParen [] others token.RightParen c refl (omega arith)
 
 mutual
-  pub condition_follows : (most depth : ℕ) (l : Condition) (others : List Part) (c : List Token) → depth ≤ most → ConditionWithin most depth l → Leaves (Atoms depth) c → Leaves (Conjunctions depth) c → after most (condition_parts depth ++ others) (condition_tokens l ++ c) ≡ after most others c
+  pub condition_follows : (most depth : ℕ) (l : Condition) (others : List Part) (c : List Token) → depth ≤ most → ConditionWithin most depth l → Leaves (Atoms depth) c
+      → Leaves (Conjunctions depth) c → after most (condition_parts depth ++ others) (condition_tokens l ++ c) ≡ after most others c
   condition_follows most depth (condition f fs ls) others c d w e g =
       regrouped most (condition_parts depth ++ others) (fatom_tokens f) (fatoms_tokens fs ++ fands_tokens ls) c
       ∙ fatom_follows most depth f (Atoms depth ∷ Conjunctions depth ∷ others) ((fatoms_tokens fs ++ fands_tokens ls) ++ c) d w.0
@@ -105,7 +117,8 @@ mutual
       ∙ fatoms_follow most depth fs (Conjunctions depth ∷ others) (fands_tokens ls ++ c) d w.1 (fands_leave depth ls c e)
       ∙ fands_follow most depth ls others c d w.2 e g
 
-  fands_follow : (most depth : ℕ) (ls : Fands) (others : List Part) (c : List Token) → depth ≤ most → FandsWithin most depth ls → Leaves (Atoms depth) c → Leaves (Conjunctions depth) c → after most (Conjunctions depth ∷ others) (fands_tokens ls ++ c) ≡ after most others c
+  fands_follow : (most depth : ℕ) (ls : Fands) (others : List Part) (c : List Token) → depth ≤ most → FandsWithin most depth ls → Leaves (Atoms depth) c → Leaves (Conjunctions depth) c
+      → after most (Conjunctions depth ∷ others) (fands_tokens ls ++ c) ≡ after most others c
   fands_follow most depth no_fand others c d w e g = left most (Conjunctions depth) others c g
   fands_follow most depth (or_fand f fs ls) others c d w e g =
       taken most (Conjunctions depth) (condition_parts depth) others token.Bar ((fatom_tokens f ++ (fatoms_tokens fs ++ fands_tokens ls)) ++ c) refl d
@@ -115,7 +128,8 @@ mutual
       ∙ fatoms_follow most depth fs (Conjunctions depth ∷ others) (fands_tokens ls ++ c) d w.1 (fands_leave depth ls c e)
       ∙ fands_follow most depth ls others c d w.2 e g
 
-  fatoms_follow : (most depth : ℕ) (fs : Fatoms) (others : List Part) (c : List Token) → depth ≤ most → FatomsWithin most depth fs → Leaves (Atoms depth) c → after most (Atoms depth ∷ others) (fatoms_tokens fs ++ c) ≡ after most others c
+  fatoms_follow : (most depth : ℕ) (fs : Fatoms) (others : List Part) (c : List Token) → depth ≤ most → FatomsWithin most depth fs → Leaves (Atoms depth) c
+      → after most (Atoms depth ∷ others) (fatoms_tokens fs ++ c) ≡ after most others c
   fatoms_follow most depth no_fatom others c d w e = left most (Atoms depth) others c e
   fatoms_follow most depth (and_fatom f fs) others c d w e =
       taken most (Atoms depth) (Atom depth ∷ Atoms depth ∷ []) others token.Amp ((fatom_tokens f ++ fatoms_tokens fs) ++ c) refl d
@@ -123,7 +137,8 @@ mutual
       ∙ fatom_follows most depth f (Atoms depth ∷ others) (fatoms_tokens fs ++ c) d w.0
       ∙ fatoms_follow most depth fs others c d w.1 e
 
-  fatom_follows : (most depth : ℕ) (f : Fatom) (others : List Part) (c : List Token) → depth ≤ most → FatomWithin most depth f → after most (Atom depth ∷ others) (fatom_tokens f ++ c) ≡ after most others c
+  fatom_follows : (most depth : ℕ) (f : Fatom) (others : List Part) (c : List Token) → depth ≤ most → FatomWithin most depth f
+      → after most (Atom depth ∷ others) (fatom_tokens f ++ c) ≡ after most others c
   fatom_follows most depth true_condition others c d w = taken most (Atom depth) [] others (token.Identifier (codes "t")) c refl (omega arith)
   fatom_follows most depth false_condition others c d w = taken most (Atom depth) [] others (token.Identifier (codes "f")) c refl (omega arith)
   fatom_follows most depth (infinitely set neg) others c d w =

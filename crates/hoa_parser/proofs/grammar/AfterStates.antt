@@ -6,7 +6,9 @@ use Rattle.std.proofs.lemmas.List.{append_assoc}
 use Rattle.hoa_lexer.specs.declared.token.Token.{Token}
 use Rattle.hoa_lexer.specs.declared.token.Token.TheVariants as token
 use Rattle.hoa_parser.specs.inner.Expecting.{Part, Whole, Number, MoreNumbers, MaybeQuoted, Word, ClosingBracket, Items, States, MaybeLabel, MaybeMarks, Marks, Edges, after, conj_parts, label_parts}
-use Rattle.hoa_parser.specs.Grammar.{Label, label_tokens, conj_tokens, and_number, optional_label, OptionalWithin, optional_text, optional_marks, item_tokens, EdgePhrase, edge_tokens, StatePhrase, StateWithin, state_tokens, body_tokens, AutomatonPhrase, AutomatonWithin, automaton_tokens, Spells}
+use Rattle.hoa_parser.specs.Grammar.{Label, label_tokens, conj_tokens, and_number, optional_label, OptionalWithin, optional_text, optional_marks}
+use Rattle.hoa_parser.specs.Grammar.{item_tokens, EdgePhrase, edge_tokens, StatePhrase, StateWithin, state_tokens, body_tokens, AutomatonPhrase}
+use Rattle.hoa_parser.specs.Grammar.{AutomatonWithin, automaton_tokens, Spells}
 use Rattle.hoa_parser.specs.Raw.{Written}
 use Rattle.hoa_parser.proofs.grammar.AfterLabels.{Leaves, taken, left, regrouped, label_follows}
 use Rattle.hoa_parser.proofs.grammar.AfterItems.{conj_follows, text_follows, items_follow}
@@ -23,13 +25,15 @@ marks_follow most (Some marks) others c e =
     ∙ marks_go_on most marks others c
 
 -- a label in brackets, behind the opening one
-guard_follows : (most : ℕ) (l : Label) (others : List Part) (c : List Token) → OptionalWithin most (Some l) → after most (label_parts 0 ++ ClosingBracket ∷ others) ((label_tokens l ++ token.RightBracket ∷ []) ++ c) ≡ after most others c
+guard_follows : (most : ℕ) (l : Label) (others : List Part) (c : List Token) → OptionalWithin most (Some l)
+    → after most (label_parts 0 ++ ClosingBracket ∷ others) ((label_tokens l ++ token.RightBracket ∷ []) ++ c) ≡ after most others c
 guard_follows most l others c w =
     regrouped most (label_parts 0 ++ ClosingBracket ∷ others) (label_tokens l) (token.RightBracket ∷ []) c
     ∙ label_follows most 0 l (ClosingBracket ∷ others) (token.RightBracket ∷ c) (omega arith) w refl refl
     ∙ taken most ClosingBracket [] others token.RightBracket c refl (omega arith)
 
-label_of_state_follows : (most : ℕ) (l : Option Label) (others : List Part) (c : List Token) → OptionalWithin most l → Leaves MaybeLabel c → after most (MaybeLabel ∷ others) (optional_label l ++ c) ≡ after most others c
+label_of_state_follows : (most : ℕ) (l : Option Label) (others : List Part) (c : List Token) → OptionalWithin most l → Leaves MaybeLabel c
+    → after most (MaybeLabel ∷ others) (optional_label l ++ c) ≡ after most others c
 label_of_state_follows most None others c w e = left most MaybeLabel others c e
 label_of_state_follows most (Some l) others c w e =
     taken most MaybeLabel (label_parts 0 ++ ClosingBracket ∷ []) others token.LeftBracket ((label_tokens l ++ token.RightBracket ∷ []) ++ c) refl (omega arith)
@@ -81,13 +85,15 @@ marks_leave_text None c e = e.text
 marks_leave_text (Some marks) c e = refl
 
 -- the target of an edge, and its marks
-goal_follows : (most : ℕ) (e : EdgePhrase) (c : List Token) (others : List Part) → LeavesEdge c → after most (conj_parts ++ MaybeMarks ∷ others) ((conj_tokens e.to ++ optional_marks e.marks) ++ c) ≡ after most others c
+goal_follows : (most : ℕ) (e : EdgePhrase) (c : List Token) (others : List Part) → LeavesEdge c
+    → after most (conj_parts ++ MaybeMarks ∷ others) ((conj_tokens e.to ++ optional_marks e.marks) ++ c) ≡ after most others c
 goal_follows most e c others b =
     regrouped most (conj_parts ++ MaybeMarks ∷ others) (conj_tokens e.to) (optional_marks e.marks) c
     ∙ conj_follows most e.to (MaybeMarks ∷ others) (optional_marks e.marks ++ c) (marks_leave_numbers e.marks c b)
     ∙ marks_follow most e.marks others c b.marks
 
-edge_follows_by : (most : ℕ) (l : Option Label) (e : EdgePhrase) (others : List Part) (c : List Token) → OptionalWithin most l → LeavesEdge c → after most (Edges ∷ others) ((optional_label l ++ (conj_tokens e.to ++ optional_marks e.marks)) ++ c) ≡ after most (Edges ∷ others) c
+edge_follows_by : (most : ℕ) (l : Option Label) (e : EdgePhrase) (others : List Part) (c : List Token) → OptionalWithin most l → LeavesEdge c
+    → after most (Edges ∷ others) ((optional_label l ++ (conj_tokens e.to ++ optional_marks e.marks)) ++ c) ≡ after most (Edges ∷ others) c
 edge_follows_by most None e others c w b =
     taken most Edges (MoreNumbers ∷ MaybeMarks ∷ Edges ∷ []) others (token.Int e.to.first) ((flat_map and_number e.to.others ++ optional_marks e.marks) ++ c) refl (omega arith)
     ∙ sym (taken most Number [] (MoreNumbers ∷ MaybeMarks ∷ Edges ∷ others) (token.Int e.to.first) ((flat_map and_number e.to.others ++ optional_marks e.marks) ++ c) refl (omega arith))
@@ -96,7 +102,8 @@ edge_follows_by most (Some l) e others c w b =
     let goal : List Token = conj_tokens e.to ++ optional_marks e.marks in
     let parts : List Part = conj_parts ++ MaybeMarks ∷ Edges ∷ others in
     regrouped most (Edges ∷ others) (optional_label (Some l)) goal c
-    ∙ taken most Edges (label_parts 0 ++ ClosingBracket ∷ (conj_parts ++ MaybeMarks ∷ Edges ∷ [])) others token.LeftBracket ((label_tokens l ++ token.RightBracket ∷ []) ++ (goal ++ c)) refl (omega arith)
+    ∙ taken most Edges (label_parts 0 ++ ClosingBracket ∷ (conj_parts ++ MaybeMarks ∷ Edges ∷ [])) others token.LeftBracket ((label_tokens l ++ token.RightBracket ∷ []) ++ (goal ++ c)) refl
+    (omega arith)
     ∙ guard_follows most l parts (goal ++ c) w
     ∙ goal_follows most e c (Edges ∷ others) b
 
@@ -108,7 +115,8 @@ behind_edges : (edges : List EdgePhrase) (c : List Token) → IsBehindEdge c →
 behind_edges [] c b = b
 behind_edges (e ∷ es) c b = subst IsBehindEdge (sym (append_assoc (edge_tokens e) (flat_map edge_tokens es) c)) (behind_edge_by e.label e (flat_map edge_tokens es ++ c))
 
-edges_follow : (most : ℕ) (edges : List EdgePhrase) (others : List Part) (c : List Token) → AllByRecursion (λ (e : EdgePhrase). OptionalWithin most e.label) edges → IsBehindState c → after most (Edges ∷ others) (flat_map edge_tokens edges ++ c) ≡ after most others c
+edges_follow : (most : ℕ) (edges : List EdgePhrase) (others : List Part) (c : List Token) → AllByRecursion (λ (e : EdgePhrase). OptionalWithin most e.label) edges → IsBehindState c
+    → after most (Edges ∷ others) (flat_map edge_tokens edges ++ c) ≡ after most others c
 edges_follow most [] others c w b = left most Edges others c (leaves_edges c b)
 edges_follow most (e ∷ es) others c w b =
     regrouped most (Edges ∷ others) (edge_tokens e) (flat_map edge_tokens es) c
@@ -121,7 +129,8 @@ state_follows most s c w b =
     let marks : List Token = optional_marks s.marks ++ edges in
     let name : List Token = optional_text s.name ++ marks in
     let behind_marks : LeavesEdge (edges ++ c) = leaves_edge (edges ++ c) (behind_edges s.edges c (state_ends_edge c b)) in
-    taken most States (MaybeLabel ∷ Number ∷ MaybeQuoted ∷ MaybeMarks ∷ Edges ∷ States ∷ []) [] (token.HeaderName (codes "State")) ((optional_label s.label ++ (token.Int s.number ∷ name)) ++ c) refl (omega arith)
+    taken most States (MaybeLabel ∷ Number ∷ MaybeQuoted ∷ MaybeMarks ∷ Edges ∷ States ∷ []) [] (token.HeaderName (codes "State"))
+    ((optional_label s.label ++ (token.Int s.number ∷ name)) ++ c) refl (omega arith)
     ∙ regrouped most (MaybeLabel ∷ Number ∷ MaybeQuoted ∷ MaybeMarks ∷ Edges ∷ States ∷ []) (optional_label s.label) (token.Int s.number ∷ name) c
     ∙ label_of_state_follows most s.label (Number ∷ MaybeQuoted ∷ MaybeMarks ∷ Edges ∷ States ∷ []) (token.Int s.number ∷ (name ++ c)) w.0 refl
     ∙ taken most Number [] (MaybeQuoted ∷ MaybeMarks ∷ Edges ∷ States ∷ []) (token.Int s.number) (name ++ c) refl (omega arith)

@@ -49,9 +49,11 @@ pub flat_clear : {P M : Type 0} (tokens : P → List Token) (meaning : P → M) 
     → IsClear (flat_map tokens) (map meaning) (either starts goes_on)
 flat_clear tokens meaning goes_on starts one begins apart [] [] c d e s k = record { value = refl; rest = e }
 flat_clear tokens meaning goes_on starts one begins apart [] (q ∷ qs) c d e s k =
-    absurd (begun_not starts (tokens q) (flat_map tokens qs ++ d) c (begins q) (stops_less (either starts goes_on) starts c (λ t. left_of_or (starts t) (goes_on t)) s) (e ∙ append_assoc (tokens q) (flat_map tokens qs) d))
+    absurd (begun_not starts (tokens q) (flat_map tokens qs ++ d) c (begins q) (stops_less (either starts goes_on) starts c (λ t. left_of_or (starts t) (goes_on t)) s)
+    (e ∙ append_assoc (tokens q) (flat_map tokens qs) d))
 flat_clear tokens meaning goes_on starts one begins apart (p ∷ ps) [] c d e s k =
-    absurd (begun_not starts (tokens p) (flat_map tokens ps ++ c) d (begins p) (stops_less (either starts goes_on) starts d (λ t. left_of_or (starts t) (goes_on t)) k) (sym e ∙ append_assoc (tokens p) (flat_map tokens ps) c))
+    absurd (begun_not starts (tokens p) (flat_map tokens ps ++ c) d (begins p) (stops_less (either starts goes_on) starts d (λ t. left_of_or (starts t) (goes_on t)) k)
+    (sym e ∙ append_assoc (tokens p) (flat_map tokens ps) c))
 flat_clear tokens meaning goes_on starts one begins apart (p ∷ ps) (q ∷ qs) c d e s k =
     let a = one p q (flat_map tokens ps ++ c) (flat_map tokens qs ++ d)
     (sym (append_assoc (tokens p) (flat_map tokens ps) c) ∙ e ∙ append_assoc (tokens q) (flat_map tokens qs) d)

@@ -3,18 +3,26 @@ use Rattle.std.proofs.Common.{◌≡◌, ℕ, suc, ◌≤◌, Bool, true, false,
 use Rattle.std.proofs.lemmas.Bool.{leb-true}
 use Rattle.hoa_lexer.specs.declared.token.Token.{Token}
 use Rattle.hoa_parser.specs.inner.Expecting.{Part, Move, Takes, Passes, Refuses, after, after_some, behind, moved, move, open_at}
-use Rattle.hoa_parser.specs.Grammar.{Label, Lands, Lnots, Lnot, label, no_land, or_land, no_lnot, and_lnot, true_label, false_label, proposition, alias, negated, group, LabelWithin, LandsWithin, LnotsWithin, LnotWithin, Condition, Fands, Fatoms, Fatom, condition, no_fand, or_fand, no_fatom, and_fatom, true_condition, false_condition, infinitely, finitely, condition_group, ConditionWithin, FandsWithin, FatomsWithin, FatomWithin, ItemPhrase, alias_item, acceptance_item, states_item, start_item, names_item, acc_name_item, tool_item, name_item, properties_item, other_item, ItemWithin, OptionalWithin, EdgePhrase, StatePhrase, StateWithin, AutomatonPhrase, AutomatonWithin, IsViable}
+use Rattle.hoa_parser.specs.Grammar.{Label, Lands, Lnots, Lnot, label, no_land, or_land, no_lnot, and_lnot, true_label, false_label, proposition}
+use Rattle.hoa_parser.specs.Grammar.{alias, negated, group, LabelWithin, LandsWithin, LnotsWithin, LnotWithin, Condition, Fands, Fatoms, Fatom}
+use Rattle.hoa_parser.specs.Grammar.{condition, no_fand, or_fand, no_fatom, and_fatom, true_condition, false_condition, infinitely, finitely}
+use Rattle.hoa_parser.specs.Grammar.{condition_group, ConditionWithin, FandsWithin, FatomsWithin, FatomWithin, ItemPhrase, alias_item}
+use Rattle.hoa_parser.specs.Grammar.{acceptance_item, states_item, start_item, names_item, acc_name_item, tool_item, name_item, properties_item}
+use Rattle.hoa_parser.specs.Grammar.{other_item, ItemWithin, OptionalWithin, EdgePhrase, StatePhrase, StateWithin, AutomatonPhrase, AutomatonWithin}
+use Rattle.hoa_parser.specs.Grammar.{IsViable}
 use Rattle.hoa_parser.proofs.grammar.AfterLabels.{opened}
 use Rattle.aut_base.proofs.Lists.{none_some}
 use Rattle.aut_base.proofs.AllByRecursion.{AllByRecursion-weaker}
 
 -- what is expected
 
-opened_more : (m n : ℕ) (ps others left : List Part) (passed : Option (List Part)) (b : Bool) → b ≡ leb (open_at ps) m → m ≤ n → cond b (Some (ps ++ others)) None ≡ Some left → moved n (Takes ps) passed others ≡ Some left
+opened_more : (m n : ℕ) (ps others left : List Part) (passed : Option (List Part)) (b : Bool) → b ≡ leb (open_at ps) m → m ≤ n → cond b (Some (ps ++ others)) None ≡ Some left
+    → moved n (Takes ps) passed others ≡ Some left
 opened_more m n ps others left passed true is l e = opened n ps others passed (omega (arith, leb-true (open_at ps) m (sym is))) ∙ e
 opened_more m n ps others left passed false is l e = absurd (none_some left e)
 
-moved_more : (m n : ℕ) (move : Move) (passed passed' : Option (List Part)) (others left : List Part) → m ≤ n → (passed ≡ Some left → passed' ≡ Some left) → moved m move passed others ≡ Some left → moved n move passed' others ≡ Some left
+moved_more : (m n : ℕ) (move : Move) (passed passed' : Option (List Part)) (others left : List Part) → m ≤ n → (passed ≡ Some left → passed' ≡ Some left)
+    → moved m move passed others ≡ Some left → moved n move passed' others ≡ Some left
 moved_more m n (Takes ps) passed passed' others left l later e = opened_more m n ps others left passed' (leb (open_at ps) m) refl l e
 moved_more m n Passes passed passed' others left l later e = later e
 moved_more m n Refuses passed passed' others left l later e = absurd (none_some left e)
@@ -23,7 +31,8 @@ pub behind_more : (m n : ℕ) (ps left : List Part) (z : Token) → m ≤ n → 
 behind_more m n [] left z l e = e
 behind_more m n (p ∷ ps) left z l e = moved_more m n (move p z) (behind m ps z) (behind n ps z) ps left l (behind_more m n ps left z l) e
 
-step_more : (m n : ℕ) (ps left : List Part) (z : Token) (ts : List Token) (expected : Option (List Part)) → expected ≡ behind m ps z → m ≤ n → ((parts : List Part) → after m parts ts ≡ Some left → after n parts ts ≡ Some left) → after_some m expected ts ≡ Some left → after_some n (behind n ps z) ts ≡ Some left
+step_more : (m n : ℕ) (ps left : List Part) (z : Token) (ts : List Token) (expected : Option (List Part)) → expected ≡ behind m ps z → m ≤ n
+    → ((parts : List Part) → after m parts ts ≡ Some left → after n parts ts ≡ Some left) → after_some m expected ts ≡ Some left → after_some n (behind n ps z) ts ≡ Some left
 step_more m n ps left z ts None is l later e = absurd (none_some left e)
 step_more m n ps left z ts (Some parts) is l later e = ap (λ (o : Option (List Part)). after_some n o ts) (behind_more m n ps parts z l (sym is)) ∙ later parts e
 

@@ -6,7 +6,10 @@ use Rattle.hoa_lexer.specs.declared.token.Token.{Token}
 use Rattle.hoa_lexer.specs.declared.token.Token.TheVariants as token
 use Rattle.hoa_parser.specs.inner.Expecting as part
 use Rattle.hoa_parser.specs.inner.Expecting.{Takes, header_move, move}
-use Rattle.hoa_parser.specs.Grammar.{label, label_tokens, condition, condition_tokens, and_number, acc_number, acc_word, acc_value_token, number_value, text_value, word_value, value_token, optional_text, header_of, ItemPhrase, states_item, start_item, names_item, alias_item, acceptance_item, acc_name_item, tool_item, name_item, properties_item, other_item, item_tokens, ItemWithin}
+use Rattle.hoa_parser.specs.Grammar.{label, label_tokens, condition, condition_tokens, and_number, acc_number, acc_word, acc_value_token}
+use Rattle.hoa_parser.specs.Grammar.{number_value, text_value, word_value, value_token, optional_text, header_of, ItemPhrase, states_item, start_item}
+use Rattle.hoa_parser.specs.Grammar.{names_item, alias_item, acceptance_item, acc_name_item, tool_item, name_item, properties_item, other_item}
+use Rattle.hoa_parser.specs.Grammar.{item_tokens, ItemWithin}
 use Rattle.hoa_parser.specs.declared.header.Header.{Header}
 use Rattle.hoa_parser.specs.declared.header.Header.TheVariants as header
 use Rattle.hoa_parser.proofs.grammar.PartsWritten.{Fills, Derives, rest_tokens}
@@ -95,7 +98,8 @@ closing_bracket_writes most token.RightBracket = λ l u d. ap (λ w. token.Right
 closing_bracket_writes most _ = tt
 
 -- an item before others
-one_more : (most : ℕ) (i : ItemPhrase) (name : List ℕ) (values u w : List Token) → item_tokens i ≡ token.HeaderName name ∷ values → ItemWithin most i → u ≡ values ++ w → Derives most (part.Items ∷ []) w → Fills most part.Items (token.HeaderName name ∷ u)
+one_more : (most : ℕ) (i : ItemPhrase) (name : List ℕ) (values u w : List Token) → item_tokens i ≡ token.HeaderName name ∷ values → ItemWithin most i → u ≡ values ++ w
+    → Derives most (part.Items ∷ []) w → Fills most part.Items (token.HeaderName name ∷ u)
 one_more most i name values u w named_so within e d =
     let f = single most part.Items w d in
     record {

@@ -6,7 +6,11 @@ use Rattle.hoa_lexer.specs.declared.token.Token.{Token}
 use Rattle.hoa_lexer.specs.declared.token.Token.TheVariants as token
 use Rattle.hoa_parser.specs.inner.Expecting as part
 use Rattle.hoa_parser.specs.inner.Expecting.{Part, Move, Takes, Passes, Refuses, open_at, label_parts, condition_parts, set_parts, label_word, condition_word, move}
-use Rattle.hoa_parser.specs.Grammar.{Lands, Lnots, Lnot, label, no_land, or_land, no_lnot, and_lnot, true_label, false_label, proposition, alias, negated, group, label_tokens, lands_tokens, lnots_tokens, lnot_tokens, LabelWithin, Fands, Fatoms, Fatom, condition, no_fand, or_fand, no_fatom, and_fatom, true_condition, false_condition, infinitely, finitely, condition_group, condition_tokens, fands_tokens, fatoms_tokens, fatom_tokens, ConditionWithin, set_tokens, bang_tokens}
+use Rattle.hoa_parser.specs.Grammar.{Lands, Lnots, Lnot, label, no_land, or_land, no_lnot, and_lnot, true_label, false_label, proposition, alias}
+use Rattle.hoa_parser.specs.Grammar.{negated, group, label_tokens, lands_tokens, lnots_tokens, lnot_tokens, LabelWithin, Fands, Fatoms, Fatom}
+use Rattle.hoa_parser.specs.Grammar.{condition, no_fand, or_fand, no_fatom, and_fatom, true_condition, false_condition, infinitely, finitely}
+use Rattle.hoa_parser.specs.Grammar.{condition_group, condition_tokens, fands_tokens, fatoms_tokens, fatom_tokens, ConditionWithin, set_tokens}
+use Rattle.hoa_parser.specs.Grammar.{bang_tokens}
 use Rattle.aut_base.specs.Text.{same_text}
 use Rattle.hoa_parser.proofs.grammar.PartsWritten.{Fills, Derives}
 use Rattle.hoa_parser.proofs.grammar.HeaderNames.{same}
@@ -151,9 +155,19 @@ condition_word_writes most depth word =
     (cond_either P (same_text word (codes "f")) (Takes []) _
     (λ h l u d. record { phrase = false_condition; keeps = tt; spelled = let w : word ≡ codes "f" = same word (codes "f") h in cc })
     (cond_either P (same_text word (codes "Inf")) (Takes set_parts) _
-    (λ h l u d. let x = has_set most u d in record { phrase = infinitely x.set x.neg; keeps = tt; spelled = ap (λ w. token.Identifier w ∷ u) (same word (codes "Inf") h) ∙ ap (λ w. token.Identifier (codes "Inf") ∷ w) x.split })
+    (λ h l u d. let x = has_set most u d in record {
+      phrase = infinitely x.set x.neg;
+      keeps = tt;
+      spelled = ap (λ w. token.Identifier w ∷ u) (same word (codes "Inf") h)
+          ∙ ap (λ w. token.Identifier (codes "Inf") ∷ w) x.split;
+    })
     (cond_either P (same_text word (codes "Fin")) (Takes set_parts) Refuses
-    (λ h l u d. let x = has_set most u d in record { phrase = finitely x.set x.neg; keeps = tt; spelled = ap (λ w. token.Identifier w ∷ u) (same word (codes "Fin") h) ∙ ap (λ w. token.Identifier (codes "Fin") ∷ w) x.split }) tt)))
+    (λ h l u d. let x = has_set most u d in record {
+      phrase = finitely x.set x.neg;
+      keeps = tt;
+      spelled = ap (λ w. token.Identifier w ∷ u) (same word (codes "Fin") h)
+          ∙ ap (λ w. token.Identifier (codes "Fin") ∷ w) x.split;
+    }) tt)))
 
 pub atom_writes : (most depth : ℕ) (z : Token) → Writes most (part.Atom depth) z (move (part.Atom depth) z)
 atom_writes most depth (token.Identifier word) = condition_word_writes most depth word

@@ -5,7 +5,10 @@ use Rattle.hoa_lexer.specs.declared.token.Token.{Token}
 use Rattle.hoa_lexer.specs.declared.token.Token.TheVariants.{Identifier, Str, Int, RightParen, RightBrace, RightBracket, End, Abort}
 use Rattle.hoa_parser.specs.inner.Expecting as part
 use Rattle.hoa_parser.specs.inner.Expecting.{Part, behind}
-use Rattle.hoa_parser.specs.Grammar.{AccValue, AutomatonPhrase, Condition, EdgePhrase, Fands, Fatom, Fatoms, IsViable, ItemPhrase, Label, Lands, Lnot, Lnots, StatePhrase, Value, acc_value_token, and_number, automaton_tokens, condition_tokens, conj_tokens, edge_tokens, fands_tokens, fatom_tokens, fatoms_tokens, item_tokens, label_tokens, lands_tokens, lnot_tokens, lnots_tokens, optional_label, optional_marks, optional_text, set_tokens, state_tokens, value_token}
+use Rattle.hoa_parser.specs.Grammar.{AccValue, AutomatonPhrase, Condition, EdgePhrase, Fands, Fatom, Fatoms, IsViable, ItemPhrase, Label, Lands, Lnot}
+use Rattle.hoa_parser.specs.Grammar.{Lnots, StatePhrase, Value, acc_value_token, and_number, automaton_tokens, condition_tokens, conj_tokens}
+use Rattle.hoa_parser.specs.Grammar.{edge_tokens, fands_tokens, fatom_tokens, fatoms_tokens, item_tokens, label_tokens, lands_tokens, lnot_tokens}
+use Rattle.hoa_parser.specs.Grammar.{lnots_tokens, optional_label, optional_marks, optional_text, set_tokens, state_tokens, value_token}
 use Rattle.hoa_parser.specs.Grammar.AccValue.{acc_number, acc_word}
 use Rattle.hoa_parser.specs.Grammar.Condition.{condition}
 use Rattle.hoa_parser.specs.Grammar.Fands.{no_fand, or_fand}

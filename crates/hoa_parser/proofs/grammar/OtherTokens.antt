@@ -2,7 +2,9 @@
 use Rattle.std.proofs.Common.{◌≡◌, ℕ, List, refl}
 use Rattle.hoa_lexer.specs.declared.token.Token.{Token}
 use Rattle.hoa_lexer.specs.declared.token.Token.TheVariants as token
-use Rattle.hoa_parser.specs.inner.Expecting.{Passes, Refuses, move, Number, MoreNumbers, Quoted, MaybeQuoted, Strings, Word, Words, AliasName, Factors, Products, Atoms, Conjunctions, OpeningParen, MaybeBang, ClosingParen, ClosingBracket, Items, States, MaybeLabel, MaybeMarks, Marks, Edges}
+use Rattle.hoa_parser.specs.inner.Expecting.{Passes, Refuses, move, Number, MoreNumbers, Quoted, MaybeQuoted, Strings, Word, Words, AliasName}
+use Rattle.hoa_parser.specs.inner.Expecting.{Factors, Products, Atoms, Conjunctions, OpeningParen, MaybeBang, ClosingParen, ClosingBracket, Items}
+use Rattle.hoa_parser.specs.inner.Expecting.{States, MaybeLabel, MaybeMarks, Marks, Edges}
 
 pub no_number : (z : Token) → (((x : ℕ) → z ≡ token.Int x → ⊥)) → move Number z ≡ Refuses
 no_number (token.Int n) not_Int = absurd (not_Int n refl)

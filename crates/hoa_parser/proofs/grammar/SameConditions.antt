@@ -7,7 +7,8 @@ use Rattle.hoa_lexer.specs.declared.token.Token.{Token}
 use Rattle.hoa_lexer.specs.declared.token.Token.TheVariants.{Amp, Bar, LeftParen, RightParen}
 use Rattle.aut_base.proofs.Lists.{append_three}
 use Rattle.aut_base.specs.Formula as formula
-use Rattle.hoa_parser.specs.Grammar.{Condition, Fands, Fatoms, Fatom, all_of, one_of, set_tokens, condition_tokens, fands_tokens, fatoms_tokens, fatom_tokens, condition_meaning, fands_meaning, fatoms_meaning, fatom_meaning}
+use Rattle.hoa_parser.specs.Grammar.{Condition, Fands, Fatoms, Fatom, all_of, one_of, set_tokens, condition_tokens, fands_tokens, fatoms_tokens}
+use Rattle.hoa_parser.specs.Grammar.{fatom_tokens, condition_meaning, fands_meaning, fatoms_meaning, fatom_meaning}
 use Rattle.hoa_parser.specs.Grammar.Condition.{condition}
 use Rattle.hoa_parser.specs.Grammar.Fands.{no_fand, or_fand}
 use Rattle.hoa_parser.specs.Grammar.Fatoms.{no_fatom, and_fatom}
@@ -33,7 +34,8 @@ same_set m n true false c d e = cc
 same_set m n true true c d e = record { set = cc; sign = refl; rest = cc }
 
 mutual
-  pub same_condition : (l m : Condition) (c d : List Token) → condition_tokens l ++ c ≡ condition_tokens m ++ d → Stops is_join c → Stops is_join d → IsSame (condition_meaning l) (condition_meaning m) c d
+  pub same_condition : (l m : Condition) (c d : List Token) → condition_tokens l ++ c ≡ condition_tokens m ++ d → Stops is_join c → Stops is_join d
+      → IsSame (condition_meaning l) (condition_meaning m) c d
   same_condition (condition f fs ls) (condition g gs ms) c d e s t =
       let a = same_fatom f g (fatoms_tokens fs ++ (fands_tokens ls ++ c)) (fatoms_tokens gs ++ (fands_tokens ms ++ d))
       (sym (append_three (fatom_tokens f) (fatoms_tokens fs) (fands_tokens ls) c) ∙ e ∙ append_three (fatom_tokens g) (fatoms_tokens gs) (fands_tokens ms) d) in

@@ -5,7 +5,8 @@ use Rattle.std.proofs.lemmas.List.{map-id}
 use Rattle.hoa_lexer.specs.declared.token.Token.{Token}
 use Rattle.hoa_lexer.specs.declared.token.Token.TheVariants.{HeaderName, Identifier, Str, Int, Alias, Amp, Bar, Body}
 use Rattle.hoa_parser.specs.Raw as raw
-use Rattle.hoa_parser.specs.Grammar.{AccValue, Conj, ItemPhrase, Value, acc_value_token, and_number, condition_tokens, conj_meaning, conj_tokens, header_of, item_meaning, item_tokens, label_tokens, optional_text, value_token}
+use Rattle.hoa_parser.specs.Grammar.{AccValue, Conj, ItemPhrase, Value, acc_value_token, and_number, condition_tokens, conj_meaning, conj_tokens}
+use Rattle.hoa_parser.specs.Grammar.{header_of, item_meaning, item_tokens, label_tokens, optional_text, value_token}
 use Rattle.hoa_parser.specs.Grammar.AccValue.{acc_number, acc_word}
 use Rattle.hoa_parser.specs.Grammar.ItemPhrase.{states_item, start_item, names_item, alias_item, acceptance_item, acc_name_item, tool_item, name_item, properties_item, other_item}
 use Rattle.hoa_parser.specs.Grammar.Value.{number_value, text_value, word_value}
@@ -158,7 +159,8 @@ one_item (tool_item v x) (tool_item w y) c d h e s k =
     record { value = refl; rest = same_text_end x y c d (later_tokens _ _ _ _ f) (stops_less is_inner is_text c inner_text s) (stops_less is_inner is_text d inner_text k) }
 one_item (name_item v) (name_item w) c d h e s k = record { value = cc; rest = cc }
 one_item (properties_item xs) (properties_item ys) c d h e s k =
-    let a = map_clear Identifier (λ x. x) is_word (λ x y w. cc) (λ x. refl) xs ys c d (later_tokens _ _ _ _ e) (stops_less is_inner is_word c inner_word s) (stops_less is_inner is_word d inner_word k) in
+    let a = map_clear Identifier (λ x. x) is_word (λ x y w. cc) (λ x. refl) xs ys c d (later_tokens _ _ _ _ e) (stops_less is_inner is_word c inner_word s)
+    (stops_less is_inner is_word d inner_word k) in
     let words : xs ≡ ys = sym (map-id xs) ∙ a.value ∙ map-id ys in
     record { value = ap raw.Properties words; rest = a.rest }
 one_item (other_item v is xs) (other_item w it ys) c d h e s k =

@@ -6,7 +6,8 @@ use Rattle.std.proofs.lemmas.List.{append_assoc}
 use Rattle.hoa_lexer.specs.declared.token.Token.{Token}
 use Rattle.hoa_lexer.specs.declared.token.Token.TheVariants.{Bang, Amp, Bar, LeftParen, RightParen}
 use Rattle.hoa_parser.specs.Raw as raw
-use Rattle.hoa_parser.specs.Grammar.{Label, Lands, Lnots, Lnot, conjunction, disjunction, label_tokens, lands_tokens, lnots_tokens, lnot_tokens, label_meaning, lands_meaning, lnots_meaning, lnot_meaning}
+use Rattle.hoa_parser.specs.Grammar.{Label, Lands, Lnots, Lnot, conjunction, disjunction, label_tokens, lands_tokens, lnots_tokens, lnot_tokens}
+use Rattle.hoa_parser.specs.Grammar.{label_meaning, lands_meaning, lnots_meaning, lnot_meaning}
 use Rattle.hoa_parser.specs.Grammar.Label.{label}
 use Rattle.hoa_parser.specs.Grammar.Lands.{no_land, or_land}
 use Rattle.hoa_parser.specs.Grammar.Lnots.{no_lnot, and_lnot}

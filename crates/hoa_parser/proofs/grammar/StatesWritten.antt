@@ -7,7 +7,8 @@ use Rattle.hoa_lexer.specs.declared.token.Token.{Token}
 use Rattle.hoa_lexer.specs.declared.token.Token.TheVariants as token
 use Rattle.hoa_parser.specs.inner.Expecting as part
 use Rattle.hoa_parser.specs.inner.Expecting.{Part, Takes, if_header, move}
-use Rattle.hoa_parser.specs.Grammar.{Label, label, label_tokens, and_number, optional_label, OptionalWithin, optional_text, optional_marks, header_of, EdgePhrase, edge_tokens, StatePhrase, state_tokens, body_tokens}
+use Rattle.hoa_parser.specs.Grammar.{Label, label, label_tokens, and_number, optional_label, OptionalWithin, optional_text, optional_marks, header_of}
+use Rattle.hoa_parser.specs.Grammar.{EdgePhrase, edge_tokens, StatePhrase, state_tokens, body_tokens}
 use Rattle.hoa_parser.specs.declared.header.Header.{Header}
 use Rattle.hoa_parser.specs.declared.header.Header.TheVariants as header
 use Rattle.hoa_parser.proofs.grammar.PartsWritten.{Derives, rest_tokens}
@@ -96,7 +97,8 @@ regroup_state guard name marks edges states number =
     ∙ ap (λ w. guard ++ number ∷ w) (sym (append_assoc name (marks ++ edges) states))
     ∙ sym (append_assoc guard (number ∷ (name ++ (marks ++ edges))) states)
 
-state_writes : (most : ℕ) (name : List ℕ) (h : Header) → IsNamed name h → Writes most part.States (token.HeaderName name) (if_header header.State h (part.MaybeLabel ∷ part.Number ∷ part.MaybeQuoted ∷ part.MaybeMarks ∷ part.Edges ∷ part.States ∷ []))
+state_writes : (most : ℕ) (name : List ℕ) (h : Header) → IsNamed name h
+    → Writes most part.States (token.HeaderName name) (if_header header.State h (part.MaybeLabel ∷ part.Number ∷ part.MaybeQuoted ∷ part.MaybeMarks ∷ part.Edges ∷ part.States ∷ []))
 state_writes most name header.State is = λ l u (v, w, guard, (v₁, w₁, n, (v₂, w₂, text, (v₃, w₃, marks, (v₄, w₄, edges, d, e₄), e₃), e₂), e₁), e).
     let others = single most part.States w₄ d in
     let state : StatePhrase = record { label = guard.phrase; number = n.phrase; name = text.phrase; marks = marks.phrase; edges = edges.phrase } in

@@ -28,12 +28,14 @@ pub record IsOneOf {V : Type 0} (part : Part) (spelled : V → Token) (z : Token
   pub room : nat_le (open_at (part ∷ [])) most_depth ≡ true
 
 -- it was taken, or it is what the reading ends at
-pub one_more : {V : Type 0} {part : Part} {spelled : V → Token} {s m s' : State} → IsOneOf part spelled m.ahead → ReadsTo (part ∷ []) (part ∷ []) (AreSpelled spelled) s m → Advanced m s' → ReadsTo (part ∷ []) (part ∷ []) (AreSpelled spelled) s s'
+pub one_more : {V : Type 0} {part : Part} {spelled : V → Token} {s m s' : State} → IsOneOf part spelled m.ahead → ReadsTo (part ∷ []) (part ∷ []) (AreSpelled spelled) s m → Advanced m s'
+    → ReadsTo (part ∷ []) (part ∷ []) (AreSpelled spelled) s s'
 one_more {part = part} {spelled = spelled} {m = m} one before next =
     reads_as (λ a c h. (h.1.0 ++ one.value ∷ [], spelled_more spelled h.1.0 one.value (h.1.0 ++ one.value ∷ []) a h.0 c refl h.1.1 (subst (λ (t : Token). Passed h.0 (t ∷ []) c) one.is h.2)))
     (reads_then before (takes part [] m.ahead refl one.taken one.room one.unended next))
 
-pub no_more : {V : Type 0} {part : Part} {spelled : V → Token} {f : ReadFault} {s m s' : State} → IsOneOf part spelled m.ahead → ReadsTo (part ∷ []) (part ∷ []) (AreSpelled spelled) s m → Unadvanced f m s' → FailsAt f (part ∷ []) s s'
+pub no_more : {V : Type 0} {part : Part} {spelled : V → Token} {f : ReadFault} {s m s' : State} → IsOneOf part spelled m.ahead → ReadsTo (part ∷ []) (part ∷ []) (AreSpelled spelled) s m
+    → Unadvanced f m s' → FailsAt f (part ∷ []) s s'
 no_more {part = part} {m = m} one before last = fails_after before (takes_last part [] m.ahead refl one.taken one.room one.unended last)
 
 pub acc_value_at : (z : Token) → is_acc_value z ≡ true → IsOneOf AccValues acc_value_token z

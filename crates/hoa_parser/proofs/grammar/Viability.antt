@@ -9,7 +9,9 @@ use Rattle.hoa_parser.specs.Grammar.{automaton_meaning, IsViable, Spells}
 use Rattle.hoa_parser.specs.Raw.{Written}
 use Rattle.hoa_parser.proofs.grammar.PartsWritten.{Derives, completable}
 use Rattle.hoa_parser.proofs.grammar.LabelsWritten.{Writes, single, factor_writes, factors_write, products_write, atom_writes, atoms_write, conjunctions_write}
-use Rattle.hoa_parser.proofs.grammar.ItemsWritten.{number_writes, more_numbers_write, quoted_writes, maybe_quoted_writes, strings_write, word_writes, words_write, alias_name_writes, acc_values_write, values_write, opening_paren_writes, maybe_bang_writes, closing_paren_writes, closing_bracket_writes, items_write}
+use Rattle.hoa_parser.proofs.grammar.ItemsWritten.{number_writes, more_numbers_write, quoted_writes, maybe_quoted_writes, strings_write, word_writes}
+use Rattle.hoa_parser.proofs.grammar.ItemsWritten.{words_write, alias_name_writes, acc_values_write, values_write, opening_paren_writes}
+use Rattle.hoa_parser.proofs.grammar.ItemsWritten.{maybe_bang_writes, closing_paren_writes, closing_bracket_writes, items_write}
 use Rattle.hoa_parser.proofs.grammar.StatesWritten.{maybe_label_writes, maybe_marks_write, marks_write, edges_write, states_write, whole_writes}
 use Rattle.aut_base.proofs.Lists.{none_some}
 
@@ -62,14 +64,16 @@ divided most (p ∷ ps) others u (v, w, f, d, e) =
       split = e ∙ ap (λ y. v ++ y) x.split ∙ sym (append_assoc v x.before x.rest);
     }
 
-taken_derives : (most : ℕ) (p : Part) (ps others parts : List Part) (z : Token) (u : List Token) (b : Bool) → b ≡ leb (open_at ps) most → Writes most p z (Takes ps) → cond b (Some (ps ++ others)) None ≡ Some parts → Derives most parts u → Derives most (p ∷ others) (z ∷ u)
+taken_derives : (most : ℕ) (p : Part) (ps others parts : List Part) (z : Token) (u : List Token) (b : Bool) → b ≡ leb (open_at ps) most → Writes most p z (Takes ps)
+    → cond b (Some (ps ++ others)) None ≡ Some parts → Derives most parts u → Derives most (p ∷ others) (z ∷ u)
 taken_derives most p ps others parts z u true l w e d =
     let same : ps ++ others ≡ parts = cc in
     let x = divided most ps others u (subst (λ (y : List Part). Derives most y u) (sym same) d) in
     (z ∷ x.before, x.rest, w (leb-true (open_at ps) most (sym l)) x.before x.first, x.later, ap (λ y. z ∷ y) x.split)
 taken_derives most p ps others parts z u false l w e d = absurd (none_some parts e)
 
-moved_derives : (most : ℕ) (p : Part) (others parts : List Part) (z : Token) (u : List Token) (m : Move) → Writes most p z m → moved most m (behind most others z) others ≡ Some parts → Derives most parts u → (behind most others z ≡ Some parts → Derives most others (z ∷ u)) → Derives most (p ∷ others) (z ∷ u)
+moved_derives : (most : ℕ) (p : Part) (others parts : List Part) (z : Token) (u : List Token) (m : Move) → Writes most p z m → moved most m (behind most others z) others ≡ Some parts
+    → Derives most parts u → (behind most others z ≡ Some parts → Derives most others (z ∷ u)) → Derives most (p ∷ others) (z ∷ u)
 moved_derives most p others parts z u (Takes ps) w e d later = taken_derives most p ps others parts z u (leb (open_at ps) most) refl w e d
 moved_derives most p others parts z u Passes w e d later = ([], z ∷ u, w, later e, refl)
 moved_derives most p others parts z u Refuses w e d later = absurd (none_some parts e)
@@ -78,7 +82,8 @@ behind_derives : (most : ℕ) (ps parts : List Part) (z : Token) (u : List Token
 behind_derives most [] parts z u e d = absurd (none_some parts e)
 behind_derives most (p ∷ others) parts z u e d = moved_derives most p others parts z u (move p z) (writes most p z) e d (λ h. behind_derives most others parts z u h d)
 
-step_derives : (most : ℕ) (ps left : List Part) (z : Token) (ts u : List Token) (expected : Option (List Part)) → expected ≡ behind most ps z → after_some most expected ts ≡ Some left → ((parts : List Part) → after most parts ts ≡ Some left → Derives most parts (ts ++ u)) → Derives most ps (z ∷ (ts ++ u))
+step_derives : (most : ℕ) (ps left : List Part) (z : Token) (ts u : List Token) (expected : Option (List Part)) → expected ≡ behind most ps z → after_some most expected ts ≡ Some left
+    → ((parts : List Part) → after most parts ts ≡ Some left → Derives most parts (ts ++ u)) → Derives most ps (z ∷ (ts ++ u))
 step_derives most ps left z ts u None is e later = absurd (none_some left e)
 step_derives most ps left z ts u (Some parts) is e later = behind_derives most ps parts z (ts ++ u) (sym is) (later parts e)
 

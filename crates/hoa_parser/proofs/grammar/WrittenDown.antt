@@ -4,7 +4,9 @@ use Rattle.std.specs.Prelude.{codes}
 use Rattle.std.specs.Option.{option_map}
 use Rattle.hoa_lexer.specs.declared.token.Token.{Token}
 use Rattle.hoa_lexer.specs.declared.token.Token.TheVariants.{HeaderName, Int, Alias, LeftBracket, RightBracket}
-use Rattle.hoa_parser.specs.Grammar.{AutomatonPhrase, AutomatonWithin, EdgePhrase, ItemPhrase, ItemWithin, Label, OptionalWithin, Spells, StatePhrase, StateWithin, automaton_meaning, automaton_tokens, condition_meaning, edge_meaning, edge_tokens, item_meaning, item_tokens, label_meaning, marks_meaning, optional_label, optional_marks, state_meaning, state_tokens}
+use Rattle.hoa_parser.specs.Grammar.{AutomatonPhrase, AutomatonWithin, EdgePhrase, ItemPhrase, ItemWithin, Label, OptionalWithin, Spells, StatePhrase}
+use Rattle.hoa_parser.specs.Grammar.{StateWithin, automaton_meaning, automaton_tokens, condition_meaning, edge_meaning, edge_tokens, item_meaning}
+use Rattle.hoa_parser.specs.Grammar.{item_tokens, label_meaning, marks_meaning, optional_label, optional_marks, state_meaning, state_tokens}
 use Rattle.hoa_parser.specs.Grammar.ItemPhrase.{states_item, start_item, names_item, alias_item, acceptance_item, acc_name_item, tool_item, name_item, properties_item, other_item}
 use Rattle.hoa_parser.specs.GrammarLaws.{CanBeWrittenDown}
 use Rattle.hoa_parser.specs.Raw as raw

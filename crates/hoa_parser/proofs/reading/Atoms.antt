@@ -34,7 +34,8 @@ some_there (Some t) h = (t, refl)
 same_some : (t u : RawTree) → Some u ≡ Some t → t ≡ u
 same_some t u e = cc
 
-word_atom : (depth : ℕ) (word : List ℕ) (t : RawTree) (a b : Bool) → same_text word (codes "t") ≡ a → same_text word (codes "f") ≡ b → cond a (Some raw.True) (cond b (Some raw.False) None) ≡ Some t → IsAtom depth (token.Identifier word) t
+word_atom : (depth : ℕ) (word : List ℕ) (t : RawTree) (a b : Bool) → same_text word (codes "t") ≡ a → same_text word (codes "f") ≡ b
+    → cond a (Some raw.True) (cond b (Some raw.False) None) ≡ Some t → IsAtom depth (token.Identifier word) t
 word_atom depth word t true b p q e = record {
   phrase = true_label;
   within = tt;
@@ -59,7 +60,8 @@ atom_found depth (token.Int i) t e = record { phrase = proposition i; within = t
 atom_found depth (token.Alias name) t e = record { phrase = alias name; within = tt; spelled = refl; means = same_some t (raw.Alias name) e; taken = refl; goes_on = refl }
 atom_found depth z t e = absurd (let no : None ≡ Some t = e in cc)
 
-no_truth_value : (word : List ℕ) (a b : Bool) → same_text word (codes "t") ≡ a → same_text word (codes "f") ≡ b → cond a (Some raw.True) (cond b (Some raw.False) None) ≡ None → label_word word ≡ Refuses
+no_truth_value : (word : List ℕ) (a b : Bool) → same_text word (codes "t") ≡ a → same_text word (codes "f") ≡ b → cond a (Some raw.True) (cond b (Some raw.False) None) ≡ None
+    → label_word word ≡ Refuses
 no_truth_value word true b p q e = absurd (let no : Some raw.True ≡ None = e in cc)
 no_truth_value word false true p q e = absurd (let no : Some raw.False ≡ None = e in cc)
 no_truth_value word false false p q e = ap (λ (x : Bool). cond x (Takes []) (cond (same_text word (codes "f")) (Takes []) Refuses)) p ∙ ap (λ (x : Bool). cond x (Takes []) Refuses) q

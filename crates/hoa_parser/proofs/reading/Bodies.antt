@@ -35,7 +35,8 @@ edge_front most others token.LeftBracket begins = refl
 edge_front most others (token.Int n) begins = refl
 edge_front most others z begins = absurd (begins refl)
 
-edge_means : (l k : Option RawTree) (to to' marks marks' : List ℕ) → l ≡ k → to ≡ to' → marks ≡ marks' → (let e : WrittenEdge = record { label = l; to = to; marks = marks } in e) ≡ record { label = k; to = to'; marks = marks' }
+edge_means : (l k : Option RawTree) (to to' marks marks' : List ℕ) → l ≡ k → to ≡ to' → marks ≡ marks'
+    → (let e : WrittenEdge = record { label = l; to = to; marks = marks } in e) ≡ record { label = k; to = to'; marks = marks' }
 edge_means l k to to' marks marks' same_label same_to same_marks = cc
 
 pub edge_is : (l : Option RawLabel) (to marks : List ℕ) (a b c d : Cursor) → IsMaybeLabel l a b → IsConj to b c → AreMarks marks c d → IsEdge (record { label = l; to = to; marks = marks }) a d
@@ -56,10 +57,12 @@ state_rest = part.MaybeLabel ∷ part.Number ∷ part.MaybeQuoted ∷ part.Maybe
 pub is_state_name : (z : Token) (name : List ℕ) → z ≡ token.HeaderName name → header_of name ≡ header.State → z ≡ state_name
 is_state_name z name is kind = is ∙ ap token.HeaderName (subst (IsNamed name) kind (named name))
 
-state_means : (l k : Option RawTree) (n : ℕ) (marks marks' : List ℕ) (edges edges' : List WrittenEdge) → l ≡ k → marks ≡ marks' → edges ≡ edges' → (let e : WrittenState = record { label = l; number = n; marks = marks; edges = edges } in e) ≡ record { label = k; number = n; marks = marks'; edges = edges' }
+state_means : (l k : Option RawTree) (n : ℕ) (marks marks' : List ℕ) (edges edges' : List WrittenEdge) → l ≡ k → marks ≡ marks' → edges ≡ edges'
+    → (let e : WrittenState = record { label = l; number = n; marks = marks; edges = edges } in e) ≡ record { label = k; number = n; marks = marks'; edges = edges' }
 state_means l k n marks marks' edges edges' same_label same_marks same_edges = cc
 
-pub state_is : (l : Option RawLabel) (n : ℕ) (marks : List ℕ) (edges : List RawEdge) (a b c d e f g : Cursor) → Read state_name a b → IsMaybeLabel l b c → IsNumber n c d → IsOptionalText tt d e → AreMarks marks e f → AreEdges edges f g
+pub state_is : (l : Option RawLabel) (n : ℕ) (marks : List ℕ) (edges : List RawEdge) (a b c d e f g : Cursor) → Read state_name a b → IsMaybeLabel l b c → IsNumber n c d
+    → IsOptionalText tt d e → AreMarks marks e f → AreEdges edges f g
     → IsState (record { label = l; number = n; marks = marks; edges = edges }) a g
 state_is l n marks edges a b c d e f g opens labelled numbered texts marked goes = record {
   phrase = record { label = labelled.phrase; number = n; name = texts.0; marks = marked.phrase; edges = goes.phrase };

@@ -44,7 +44,8 @@ chained {tokens = tokens} {meaning = meaning} k (p ∷ ps) h =
 -- all of the parts, as one
 pub chain_whole : {P C T : Type 0} {W : P → Type 0} {tokens : P → List Token} {meaning : P → T} {AllWithin : C → Type 0} {all_tokens : C → List Token} {all_meaning : C → List T}
     → IsChain W tokens meaning AllWithin all_tokens all_meaning → (join : T → T → List T → T) (whole : T → List T → T) → ((t u : T) (us : List T) → whole t (u ∷ us) ≡ join t u us)
-    → (x y first value : T) (zs : List T) (a b : Cursor) → value ≡ join x y zs → Adds W tokens meaning first (x ∷ y ∷ zs) a b → IsWritten AllWithin all_tokens (λ ps. whole first (all_meaning ps)) value a b
+    → (x y first value : T) (zs : List T) (a b : Cursor) → value ≡ join x y zs → Adds W tokens meaning first (x ∷ y ∷ zs) a b
+    → IsWritten AllWithin all_tokens (λ ps. whole first (all_meaning ps)) value a b
 chain_whole {meaning = meaning} k join whole joins x y first value zs a b is one =
     let c = chained k one.phrase one.within in
     record {

@@ -6,7 +6,8 @@ use Rattle.hoa_lexer.specs.declared.token.Token.TheVariants as token
 use Rattle.hoa_parser.proofs.reading.FrontParts.{passed_then, subst_tokens}
 use Rattle.hoa_parser.proofs.reading.Chains.{IsChain, chain_whole}
 use Rattle.hoa_parser.specs.inner.Chains.{AddsFands, AddsFatoms}
-use Rattle.hoa_parser.specs.Grammar.{FandsWithin, FatomWithin, FatomsWithin, and_fatom, all_of, one_of, condition, fands_meaning, fands_tokens, fatom_meaning, fatom_tokens, fatoms_meaning, fatoms_tokens, no_fand, no_fatom, or_fand}
+use Rattle.hoa_parser.specs.Grammar.{FandsWithin, FatomWithin, FatomsWithin, and_fatom, all_of, one_of, condition, fands_meaning, fands_tokens}
+use Rattle.hoa_parser.specs.Grammar.{fatom_meaning, fatom_tokens, fatoms_meaning, fatoms_tokens, no_fand, no_fatom, or_fand}
 use Rattle.hoa_parser.specs.inner.Parsing.{Cursor}
 use Rattle.hoa_parser.specs.inner.RuleReads.{IsAndFatoms, IsCondition, IsFand, IsFatom, IsOrFands, FandWithin, fand_meaning, fand_tokens}
 use Rattle.aut_base.specs.Formula as formula
@@ -17,7 +18,17 @@ use Rattle.aut_base.specs.declared.formula.Formulas.{Formulas}
 
 -- what their chains are
 fatoms_chain : (depth : ℕ) → IsChain (FatomWithin most_depth depth) (λ f. token.Amp ∷ fatom_tokens f) fatom_meaning (FatomsWithin most_depth depth) fatoms_tokens fatoms_meaning
-fatoms_chain depth = record { none = no_fatom; none_within = tt; none_tokens = refl; none_meaning = refl; more = and_fatom; more_within = λ f fs h k. (h, k); more_tokens = λ f fs. refl; more_meaning = λ f fs. refl }
+fatoms_chain depth = record {
+  none = no_fatom;
+  none_within = tt;
+  none_tokens = refl;
+  none_meaning = refl;
+  more = and_fatom;
+  more_within = λ f fs h k. (h, k);
+  more_tokens =
+      λ f fs. refl;
+  more_meaning = λ f fs. refl;
+}
 
 fands_chain : (depth : ℕ) → IsChain (FandWithin depth) (λ p. token.Bar ∷ fand_tokens p) fand_meaning (FandsWithin most_depth depth) fands_tokens fands_meaning
 fands_chain depth = record {
@@ -32,11 +43,15 @@ fands_chain depth = record {
 }
 
 -- all of the parts, as one condition
-pub fatoms_whole : (depth : ℕ) (first : FormulaTree) (parts : Formulas) (l : Formula) (a b : Cursor) → formula_tree l ≡ formula.And (formula_parts parts).first (formula_parts parts).second (trees (formula_parts parts).others) → AddsFatoms depth first parts a b → IsAndFatoms depth first l a b
-fatoms_whole depth first parts l = chain_whole (fatoms_chain depth) (λ x y zs. formula.And x y (trees zs)) all_of (λ t u us. refl) (formula_parts parts).first (formula_parts parts).second first (formula_tree l) (formula_parts parts).others
+pub fatoms_whole : (depth : ℕ) (first : FormulaTree) (parts : Formulas) (l : Formula) (a b : Cursor)
+    → formula_tree l ≡ formula.And (formula_parts parts).first (formula_parts parts).second (trees (formula_parts parts).others) → AddsFatoms depth first parts a b → IsAndFatoms depth first l a b
+fatoms_whole depth first parts l = chain_whole (fatoms_chain depth) (λ x y zs. formula.And x y (trees zs)) all_of (λ t u us. refl) (formula_parts parts).first (formula_parts parts).second
+    first (formula_tree l) (formula_parts parts).others
 
-pub fands_whole : (depth : ℕ) (first : FormulaTree) (parts : Formulas) (l : Formula) (a b : Cursor) → formula_tree l ≡ formula.Or (formula_parts parts).first (formula_parts parts).second (trees (formula_parts parts).others) → AddsFands depth first parts a b → IsOrFands depth first l a b
-fands_whole depth first parts l = chain_whole (fands_chain depth) (λ x y zs. formula.Or x y (trees zs)) one_of (λ t u us. refl) (formula_parts parts).first (formula_parts parts).second first (formula_tree l) (formula_parts parts).others
+pub fands_whole : (depth : ℕ) (first : FormulaTree) (parts : Formulas) (l : Formula) (a b : Cursor)
+    → formula_tree l ≡ formula.Or (formula_parts parts).first (formula_parts parts).second (trees (formula_parts parts).others) → AddsFands depth first parts a b → IsOrFands depth first l a b
+fands_whole depth first parts l = chain_whole (fands_chain depth) (λ x y zs. formula.Or x y (trees zs)) one_of (λ t u us. refl) (formula_parts parts).first (formula_parts parts).second first
+    (formula_tree l) (formula_parts parts).others
 
 -- a first part, and a chain behind it
 pub fand_of : (depth : ℕ) (first l : Formula) (a b c : Cursor) → IsFatom depth first a b → IsAndFatoms depth (formula_tree first) l b c → IsFand depth l a c

@@ -14,6 +14,7 @@ pub group_of : (depth : ℕ) (l : Formula) (a b c d : Cursor) → suc depth ≤ 
 group_of depth l a b c d room opens one close = record {
   phrase = condition_group one.phrase;
   within = (room, one.within);
-  passed = passed_then a b d (token.LeftParen ∷ []) (condition_tokens one.phrase ++ token.RightParen ∷ []) opens (passed_then b c d (condition_tokens one.phrase) (token.RightParen ∷ []) one.passed close);
+  passed = passed_then a b d (token.LeftParen ∷ []) (condition_tokens one.phrase ++ token.RightParen ∷ []) opens
+      (passed_then b c d (condition_tokens one.phrase) (token.RightParen ∷ []) one.passed close);
   means = one.means;
 }

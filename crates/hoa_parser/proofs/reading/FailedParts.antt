@@ -110,7 +110,8 @@ taken_no_abort part parts z takes opens is =
     cc
 
 -- there is no token behind one that the first part takes
-pub unread_behind : (f : ReadFault) (part : Part) (parts others : List Part) (a last : Cursor) → move part a.token ≡ Takes parts → nat_le (open_at parts) most_depth ≡ true → is_end a.token ≡ false → last.held ≡ None → last.token ≡ a.token → Unlexed f a.used a.rest last.rest
+pub unread_behind : (f : ReadFault) (part : Part) (parts others : List Part) (a last : Cursor) → move part a.token ≡ Takes parts → nat_le (open_at parts) most_depth ≡ true
+    → is_end a.token ≡ false → last.held ≡ None → last.token ≡ a.token → Unlexed f a.used a.rest last.rest
     → Unread f (part ∷ others) a last
 unread_behind f part parts others a last takes opens unended held stays bytes = record {
   target = part ∷ others;

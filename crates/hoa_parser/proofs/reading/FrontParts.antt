@@ -20,7 +20,8 @@ unended_then [] v p q = q
 unended_then (t ∷ u) v p q = (p.0, unended_then u v p.1 q)
 
 -- a part that takes a token leaves what it leaves, whatever is behind it
-pub takes_behind : (most : ℕ) (part : Part) (parts others : List Part) (z : Token) → move part z ≡ Takes parts → nat_le (open_at parts) most ≡ true → behind most (part ∷ others) z ≡ Some (parts ++ others)
+pub takes_behind : (most : ℕ) (part : Part) (parts others : List Part) (z : Token) → move part z ≡ Takes parts → nat_le (open_at parts) most ≡ true
+    → behind most (part ∷ others) z ≡ Some (parts ++ others)
 takes_behind most part parts others z takes opens =
     ap (λ (m : Move). moved most m (behind most others z) others) takes ∙ ap (λ (b : Bool). if b then Some (parts ++ others) else None) opens
 
@@ -45,7 +46,8 @@ pub goes_nowhere : (parts : List Part) (a : Cursor) → Goes parts a parts a
 goes_nowhere parts a = goes_over parts parts a (λ most others. refl)
 
 -- the token at hand is taken by the first part
-pub goes_on : (part : Part) (parts others : List Part) (a b : Cursor) → move part a.token ≡ Takes parts → nat_le (open_at parts) most_depth ≡ true → is_end a.token ≡ false → Follows a b → Goes (part ∷ others) a (parts ++ others) b
+pub goes_on : (part : Part) (parts others : List Part) (a b : Cursor) → move part a.token ≡ Takes parts → nat_le (open_at parts) most_depth ≡ true → is_end a.token ≡ false → Follows a b
+    → Goes (part ∷ others) a (parts ++ others) b
 goes_on part parts others a b takes opens unended follows = record {
   tokens = a.token ∷ [];
   passed = (b, refl, follows, refl);
@@ -55,7 +57,8 @@ goes_on part parts others a b takes opens unended follows = record {
   over = λ most more. refl;
 }
 
-leads_then : (p q left last : List Part) (u v : List Token) (z : Token) → Leads p u left → ((others : List Part) → behind most_depth (left ++ others) z ≡ behind most_depth (q ++ others) z) → Leads q (z ∷ v) last → Leads p (u ++ z ∷ v) last
+leads_then : (p q left last : List Part) (u v : List Token) (z : Token) → Leads p u left → ((others : List Part) → behind most_depth (left ++ others) z ≡ behind most_depth (q ++ others) z)
+    → Leads q (z ∷ v) last → Leads p (u ++ z ∷ v) last
 leads_then p q left last u v z first over second = record {
   runs = λ others.
       after_append most_depth (Some (p ++ others)) u (z ∷ v)
@@ -74,7 +77,8 @@ same_left q last leads =
 leads_nil : (p left : List Part) (u : List Token) → Leads p u left → Leads p (u ++ []) left
 leads_nil p left u leads = subst (λ (us : List Token). Leads p us left) (sym (append-nil u)) leads
 
-goes_both : (p q r : List Part) (a m b : Cursor) (one : Goes p a q m) (v : List Token) (left : List Part) → Passed m v b → Leads q v left → Unended v → ((most : ℕ) (others : List Part) → behind most (left ++ others) b.token ≡ behind most (r ++ others) b.token) → Goes p a r b
+goes_both : (p q r : List Part) (a m b : Cursor) (one : Goes p a q m) (v : List Token) (left : List Part) → Passed m v b → Leads q v left → Unended v
+    → ((most : ℕ) (others : List Part) → behind most (left ++ others) b.token ≡ behind most (r ++ others) b.token) → Goes p a r b
 goes_both p q r a m b one [] left passed leads unended over = record {
   tokens = one.tokens ++ [];
   passed = passed_then a m b one.tokens [] one.passed passed;
@@ -90,7 +94,8 @@ goes_both p q r a m b one (z ∷ v) left passed leads unended over = record {
   tokens = one.tokens ++ z ∷ v;
   passed = passed_then a m b one.tokens (z ∷ v) one.passed passed;
   left = left;
-  leads = leads_then p q one.left left one.tokens v z one.leads (λ others. subst (λ (t : Token). behind most_depth (one.left ++ others) t ≡ behind most_depth (q ++ others) t) (sym passed.1) (one.over most_depth others)) leads;
+  leads = leads_then p q one.left left one.tokens v z one.leads
+      (λ others. subst (λ (t : Token). behind most_depth (one.left ++ others) t ≡ behind most_depth (q ++ others) t) (sym passed.1) (one.over most_depth others)) leads;
   unended = unended_then one.tokens (z ∷ v) one.unended unended;
   over = over;
 }

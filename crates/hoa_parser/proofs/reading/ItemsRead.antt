@@ -11,10 +11,13 @@ use Rattle.hoa_parser.proofs.reading.RuleParts.{next_answer}
 use Rattle.hoa_parser.proofs.reading.Steps.{Read, reads_as, takes, takes_last}
 use Rattle.hoa_parser.specs.inner.Expecting.{Items, Part, Takes, header_move, move, open_at}
 use Rattle.hoa_parser.specs.inner.Expecting as expecting
-use Rattle.hoa_parser.specs.Grammar.{ItemPhrase, ItemWithin, acc_name_item, acceptance_item, alias_item, header_of, item_meaning, item_tokens, name_item, names_item, other_item, properties_item, start_item, states_item, tool_item, acc_value_token, conj_tokens, condition_tokens, label_tokens, optional_text, value_token}
+use Rattle.hoa_parser.specs.Grammar.{ItemPhrase, ItemWithin, acc_name_item, acceptance_item, alias_item, header_of, item_meaning, item_tokens}
+use Rattle.hoa_parser.specs.Grammar.{name_item, names_item, other_item, properties_item, start_item, states_item, tool_item, acc_value_token}
+use Rattle.hoa_parser.specs.Grammar.{conj_tokens, condition_tokens, label_tokens, optional_text, value_token}
 use Rattle.hoa_parser.specs.inner.Parsing.{Advanced, Cursor, FailsAt, Passed, Reads, ReadsTo, State, Unadvanced}
 use Rattle.hoa_parser.specs.inner.Expecting.{header_parts}
-use Rattle.hoa_parser.specs.inner.RuleReads.{AreAccValues, AreTexts, AreValues, AreWords, IsAliasName, IsCondition, IsConj, IsItem, IsItemOf, IsItemWritten, IsLabel, IsNumber, IsOptionalText, IsQuoted, IsWord, ItemRest}
+use Rattle.hoa_parser.specs.inner.RuleReads.{AreAccValues, AreTexts, AreValues, AreWords, IsAliasName, IsCondition, IsConj, IsItem, IsItemOf}
+use Rattle.hoa_parser.specs.inner.RuleReads.{IsItemWritten, IsLabel, IsNumber, IsOptionalText, IsQuoted, IsWord, ItemRest}
 use Rattle.hoa_parser.specs.Raw as raw
 use Rattle.hoa_parser.specs.Raw.{WrittenItem, written_item}
 use Rattle.hoa_parser.specs.Standing.{most_depth}
@@ -29,7 +32,8 @@ name_of : (name : List ℕ) (h : Header) → header_of name ≡ h → IsNamed na
 name_of name h is = subst (IsNamed name) is (named name)
 
 -- what follows the name of a header, where the name is all that is wanted of it
-rest_of : (name : List ℕ) (h : Header) (known : List ℕ) (ts : List Token) (phrase : ItemPhrase) (i : WrittenItem) (a b : Cursor) → (header_of name ≡ h → name ≡ known) → ItemWithin most_depth phrase → token.HeaderName known ∷ ts ≡ item_tokens phrase → i ≡ item_meaning phrase → Passed a ts b → ItemRest h name i a b
+rest_of : (name : List ℕ) (h : Header) (known : List ℕ) (ts : List Token) (phrase : ItemPhrase) (i : WrittenItem) (a b : Cursor) → (header_of name ≡ h → name ≡ known)
+    → ItemWithin most_depth phrase → token.HeaderName known ∷ ts ≡ item_tokens phrase → i ≡ item_meaning phrase → Passed a ts b → ItemRest h name i a b
 rest_of name h known ts phrase i a b is within spelled means passed = record {
   tokens = ts;
   passed = passed;
@@ -43,12 +47,14 @@ names_read count names a b c p q = λ name.
 
 pub alias_read : (text : List ℕ) (l : RawLabel) (a b c : Cursor) → IsAliasName text a b → IsLabel 0 l b c → IsItemWritten header.Alias (item.Alias text l) a c
 alias_read text l a b c p q = λ name.
-    rest_of name header.Alias (codes "Alias") (token.Alias text ∷ label_tokens q.phrase) (alias_item text q.phrase) (written_item (item.Alias text l)) a c (λ e. name_of name header.Alias e) q.within refl
+    rest_of name header.Alias (codes "Alias") (token.Alias text ∷ label_tokens q.phrase) (alias_item text q.phrase) (written_item (item.Alias text l)) a c (λ e. name_of name header.Alias e)
+    q.within refl
     (ap (raw.AliasOf text) q.means) (passed_then a b c (token.Alias text ∷ []) (label_tokens q.phrase) p q.passed)
 
 pub acceptance_read : (sets : ℕ) (f : Formula) (a b c : Cursor) → IsNumber sets a b → IsCondition 0 f b c → IsItemWritten header.Acceptance (item.Acceptance sets f) a c
 acceptance_read sets f a b c p q = λ name.
-    rest_of name header.Acceptance (codes "Acceptance") (token.Int sets ∷ condition_tokens q.phrase) (acceptance_item sets q.phrase) (written_item (item.Acceptance sets f)) a c (λ e. name_of name header.Acceptance e) q.within refl
+    rest_of name header.Acceptance (codes "Acceptance") (token.Int sets ∷ condition_tokens q.phrase) (acceptance_item sets q.phrase) (written_item (item.Acceptance sets f)) a c
+    (λ e. name_of name header.Acceptance e) q.within refl
     (ap (raw.Acceptance sets) q.means) (passed_then a b c (token.Int sets ∷ []) (condition_tokens q.phrase) p q.passed)
 
 pub acc_name_read : (word : List ℕ) (done : Unit {0}) (a b c : Cursor) → IsWord word a b → AreAccValues done b c → IsItemWritten header.AccName item.AccName a c
@@ -66,13 +72,15 @@ pub states_read : (name : List ℕ) (n : ℕ) (a b : Cursor) → IsNumber n a b 
 states_read name n a b p = rest_of name header.States (codes "States") (token.Int n ∷ []) (states_item n) (raw.States n) a b (λ e. name_of name header.States e) tt refl refl p
 
 pub start_read : (name : List ℕ) (states : List ℕ) (a b : Cursor) → IsConj states a b → IsItemOf header.Start name (item.Start states) a b
-start_read name states a b p = rest_of name header.Start (codes "Start") (conj_tokens p.phrase) (start_item p.phrase) (raw.Start states) a b (λ e. name_of name header.Start e) tt refl (ap raw.Start p.means) p.passed
+start_read name states a b p = rest_of name header.Start (codes "Start") (conj_tokens p.phrase) (start_item p.phrase) (raw.Start states) a b (λ e. name_of name header.Start e) tt refl
+    (ap raw.Start p.means) p.passed
 
 pub name_read : (name : List ℕ) (text : List ℕ) (a b : Cursor) → IsQuoted text a b → IsItemOf header.Name name (item.Name text) a b
 name_read name text a b p = rest_of name header.Name (codes "name") (token.Str text ∷ []) (name_item text) (raw.Name text) a b (λ e. name_of name header.Name e) tt refl refl p
 
 pub properties_read : (name : List ℕ) (words : List (List ℕ)) (a b : Cursor) → AreWords words a b → IsItemOf header.Properties name (item.Properties words) a b
-properties_read name words a b p = rest_of name header.Properties (codes "properties") (map token.Identifier words) (properties_item words) (raw.Properties words) a b (λ e. name_of name header.Properties e) tt refl refl p
+properties_read name words a b p = rest_of name header.Properties (codes "properties") (map token.Identifier words) (properties_item words) (raw.Properties words) a b
+    (λ e. name_of name header.Properties e) tt refl refl p
 
 -- a header of a name that is not known
 pub is_other : (h : Header) → h ≢ header.Opening → h ≢ header.State → (h ≡ header.Other) ⊎ ((h ≡ header.Opening) ⊎ (h ≡ header.State)) → h ≡ header.Other
@@ -132,21 +140,25 @@ item_whole name i a b c p q =
     }
 
 -- the name of a header is taken
-pub header_taken : (name : List ℕ) (h : Header) {s s' : State} → h ≡ header_of name → h ≢ header.Opening → h ≢ header.State → s.ahead ≡ token.HeaderName name → Advanced s s' → ReadsTo (Items ∷ []) (header_parts h ++ Items ∷ []) (Read (token.HeaderName name)) s s'
+pub header_taken : (name : List ℕ) (h : Header) {s s' : State} → h ≡ header_of name → h ≢ header.Opening → h ≢ header.State → s.ahead ≡ token.HeaderName name → Advanced s s'
+    → ReadsTo (Items ∷ []) (header_parts h ++ Items ∷ []) (Read (token.HeaderName name)) s s'
 header_taken name h {s} {s'} same no_opening no_state is one =
     subst (λ (ps : List Part). ReadsTo (Items ∷ []) ps (Read (token.HeaderName name)) s s') (append-nil (header_parts h ++ Items ∷ []))
     (takes Items [] (token.HeaderName name) is (ap header_move (sym same) ∙ header_takes h no_opening no_state) (header_opens h) refl one)
 
-pub header_last : {f : ReadFault} (name : List ℕ) (h : Header) {s s' : State} → h ≡ header_of name → h ≢ header.Opening → h ≢ header.State → s.ahead ≡ token.HeaderName name → Unadvanced f s s' → FailsAt f (Items ∷ []) s s'
+pub header_last : {f : ReadFault} (name : List ℕ) (h : Header) {s s' : State} → h ≡ header_of name → h ≢ header.Opening → h ≢ header.State → s.ahead ≡ token.HeaderName name
+    → Unadvanced f s s' → FailsAt f (Items ∷ []) s s'
 header_last name h same no_opening no_state is one = takes_last Items [] (token.HeaderName name) is (ap header_move (sym same) ∙ header_takes h no_opening no_state) (header_opens h) refl one
 
 -- an item that has a form of its own
-pub item_of_form : (h : Header) (name : List ℕ) (result : Result Item ReadFault) (s s' : State) → Reads (header_parts h) [] (IsItemWritten h) result s s' → Reads (header_parts h) [] (IsItemOf h name) result s s'
+pub item_of_form : (h : Header) (name : List ℕ) (result : Result Item ReadFault) (s s' : State) → Reads (header_parts h) [] (IsItemWritten h) result s s'
+    → Reads (header_parts h) [] (IsItemOf h name) result s s'
 item_of_form h name (Ok i) s s' one = reads_as (λ a b p. p name) one
 item_of_form h name (Err f) s s' one = one
 
 -- whatever is answered of what is behind the name
-pub item_behind : {s m : State} (name : List ℕ) (h : Header) (result : Result Item ReadFault) (s' : State) → h ≡ header_of name → h ≢ header.Opening → h ≢ header.State → s.ahead ≡ token.HeaderName name → Advanced s m
+pub item_behind : {s m : State} (name : List ℕ) (h : Header) (result : Result Item ReadFault) (s' : State) → h ≡ header_of name → h ≢ header.Opening → h ≢ header.State
+    → s.ahead ≡ token.HeaderName name → Advanced s m
     → Reads (header_parts h) [] (IsItemOf h name) result m s' → Reads (Items ∷ []) (Items ∷ []) IsItem result s s'
 item_behind name h result s' same no_opening no_state is one two =
     next_answer (header_parts h) (Items ∷ []) (IsItemOf h name) IsItem result s' (λ w a d p. item_whole name w a p.0 d p.1 (subst (λ (k : Header). IsItemOf k name w p.0 d) same p.2))

@@ -6,7 +6,8 @@ use Rattle.hoa_lexer.specs.declared.token.Token.TheVariants as token
 use Rattle.hoa_parser.proofs.reading.FrontParts.{passed_then, subst_tokens}
 use Rattle.hoa_parser.proofs.reading.Chains.{IsChain, chain_whole}
 use Rattle.hoa_parser.specs.inner.Chains.{AddsLands, AddsLnots}
-use Rattle.hoa_parser.specs.Grammar.{LandsWithin, LnotWithin, LnotsWithin, and_lnot, conjunction, disjunction, label, lands_meaning, lands_tokens, lnot_meaning, lnot_tokens, lnots_meaning, lnots_tokens, no_land, no_lnot, or_land}
+use Rattle.hoa_parser.specs.Grammar.{LandsWithin, LnotWithin, LnotsWithin, and_lnot, conjunction, disjunction, label, lands_meaning, lands_tokens}
+use Rattle.hoa_parser.specs.Grammar.{lnot_meaning, lnot_tokens, lnots_meaning, lnots_tokens, no_land, no_lnot, or_land}
 use Rattle.hoa_parser.specs.inner.Parsing.{Cursor}
 use Rattle.hoa_parser.specs.inner.RuleReads.{IsAndLnots, IsLabel, IsLand, IsLnot, IsOrLands, LandWithin, land_meaning, land_tokens}
 use Rattle.hoa_parser.specs.Raw as raw
@@ -17,7 +18,17 @@ use Rattle.hoa_parser.specs.declared.raw.RawLabels.{RawLabels}
 
 -- what their chains are
 lnots_chain : (depth : ℕ) → IsChain (LnotWithin most_depth depth) (λ f. token.Amp ∷ lnot_tokens f) lnot_meaning (LnotsWithin most_depth depth) lnots_tokens lnots_meaning
-lnots_chain depth = record { none = no_lnot; none_within = tt; none_tokens = refl; none_meaning = refl; more = and_lnot; more_within = λ f fs h k. (h, k); more_tokens = λ f fs. refl; more_meaning = λ f fs. refl }
+lnots_chain depth = record {
+  none = no_lnot;
+  none_within = tt;
+  none_tokens = refl;
+  none_meaning = refl;
+  more = and_lnot;
+  more_within = λ f fs h k. (h, k);
+  more_tokens =
+      λ f fs. refl;
+  more_meaning = λ f fs. refl;
+}
 
 lands_chain : (depth : ℕ) → IsChain (LandWithin depth) (λ p. token.Bar ∷ land_tokens p) land_meaning (LandsWithin most_depth depth) lands_tokens lands_meaning
 lands_chain depth = record {
@@ -32,11 +43,15 @@ lands_chain depth = record {
 }
 
 -- all of the parts, as one label
-pub lnots_whole : (depth : ℕ) (first : RawTree) (parts : RawLabels) (l : RawLabel) (a b : Cursor) → raw_tree l ≡ raw.And (raw_parts parts).first (raw_parts parts).second (raw_trees (raw_parts parts).others) → AddsLnots depth first parts a b → IsAndLnots depth first l a b
-lnots_whole depth first parts l = chain_whole (lnots_chain depth) (λ x y zs. raw.And x y (raw_trees zs)) conjunction (λ t u us. refl) (raw_parts parts).first (raw_parts parts).second first (raw_tree l) (raw_parts parts).others
+pub lnots_whole : (depth : ℕ) (first : RawTree) (parts : RawLabels) (l : RawLabel) (a b : Cursor)
+    → raw_tree l ≡ raw.And (raw_parts parts).first (raw_parts parts).second (raw_trees (raw_parts parts).others) → AddsLnots depth first parts a b → IsAndLnots depth first l a b
+lnots_whole depth first parts l = chain_whole (lnots_chain depth) (λ x y zs. raw.And x y (raw_trees zs)) conjunction (λ t u us. refl) (raw_parts parts).first (raw_parts parts).second first
+    (raw_tree l) (raw_parts parts).others
 
-pub lands_whole : (depth : ℕ) (first : RawTree) (parts : RawLabels) (l : RawLabel) (a b : Cursor) → raw_tree l ≡ raw.Or (raw_parts parts).first (raw_parts parts).second (raw_trees (raw_parts parts).others) → AddsLands depth first parts a b → IsOrLands depth first l a b
-lands_whole depth first parts l = chain_whole (lands_chain depth) (λ x y zs. raw.Or x y (raw_trees zs)) disjunction (λ t u us. refl) (raw_parts parts).first (raw_parts parts).second first (raw_tree l) (raw_parts parts).others
+pub lands_whole : (depth : ℕ) (first : RawTree) (parts : RawLabels) (l : RawLabel) (a b : Cursor)
+    → raw_tree l ≡ raw.Or (raw_parts parts).first (raw_parts parts).second (raw_trees (raw_parts parts).others) → AddsLands depth first parts a b → IsOrLands depth first l a b
+lands_whole depth first parts l = chain_whole (lands_chain depth) (λ x y zs. raw.Or x y (raw_trees zs)) disjunction (λ t u us. refl) (raw_parts parts).first (raw_parts parts).second first
+    (raw_tree l) (raw_parts parts).others
 
 -- a first part, and a chain behind it
 pub land_of : (depth : ℕ) (first l : RawLabel) (a b c : Cursor) → IsLnot depth first a b → IsAndLnots depth (raw_tree first) l b c → IsLand depth l a c

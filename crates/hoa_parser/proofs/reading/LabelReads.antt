@@ -27,7 +27,8 @@ atom_last depth t s s' is one =
     takes_last (Factor depth) [] s.ahead refl found.taken refl found.goes_on one
 
 -- "!" lnot
-pub negated_of : (depth : ℕ) (inner l : RawLabel) (a b c : Cursor) → suc depth ≤ most_depth → raw_tree l ≡ raw.Not (raw_tree inner) → Read token.Bang a b → IsLnot (suc depth) inner b c → IsLnot depth l a c
+pub negated_of : (depth : ℕ) (inner l : RawLabel) (a b c : Cursor) → suc depth ≤ most_depth → raw_tree l ≡ raw.Not (raw_tree inner) → Read token.Bang a b → IsLnot (suc depth) inner b c
+    → IsLnot depth l a c
 negated_of depth inner l a b c room same bang one = record {
   phrase = negated one.phrase;
   within = (room, one.within);

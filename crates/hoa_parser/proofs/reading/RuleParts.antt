@@ -13,19 +13,22 @@ use Rattle.hoa_parser.specs.declared.fault.ReadFault.{ReadFault}
 use Rattle.aut_base.proofs.AllByRecursion.{AllByRecursion-append}
 
 -- whatever is answered of the next parts is the answer to all
-pub next_answer : {T : Type 0} {p : List Part} {A : Relation} {s m : State} (parts more : List Part) (Q R : T → Relation) (result : Result T ReadFault) (s' : State) → ((w : T) (a c : Cursor) → Then A (Q w) a c → R w a c)
+pub next_answer : {T : Type 0} {p : List Part} {A : Relation} {s m : State} (parts more : List Part) (Q R : T → Relation) (result : Result T ReadFault) (s' : State)
+    → ((w : T) (a c : Cursor) → Then A (Q w) a c → R w a c)
     → ReadsTo p (parts ++ more) A s m → Reads parts [] Q result m s' → Reads p more R result s s'
 next_answer parts more Q R (Ok w) s' f one two = reads_as (f w) (next_reads one two)
 next_answer parts more Q R (Err e) s' f one two = next_fails more one two
 
 -- a byte was used
-pub uses_then : {T : Type 0} {s m : State} (p q : List Part) (Q : T → Relation) (result : Result T ReadFault) (s' : State) → Advanced s m → Reads p q Q result m s' → OnOk result (Uses s.lexer s'.lexer)
+pub uses_then : {T : Type 0} {s m : State} (p q : List Part) (Q : T → Relation) (result : Result T ReadFault) (s' : State) → Advanced s m → Reads p q Q result m s'
+    → OnOk result (Uses s.lexer s'.lexer)
 uses_then p q Q (Ok w) s' one two = omega (arith, one.uses, two.moves.used)
 uses_then p q Q (Err f) s' one two = tt
 
 -- phrases and one more, behind what `before` says
 pub phrases_more : {X Y : Type 0} {W : X → Type 0} {tokens : X → List Token} {meaning : X → Y} (before ys zs : List Y) (y : Y) (a b c : Cursor) → zs ≡ ys ++ y ∷ []
-    → IsWritten (AllByRecursion W) (flat_map tokens) (λ xs. before ++ map meaning xs) ys a b → IsWritten W tokens meaning y b c → IsWritten (AllByRecursion W) (flat_map tokens) (λ xs. before ++ map meaning xs) zs a c
+    → IsWritten (AllByRecursion W) (flat_map tokens) (λ xs. before ++ map meaning xs) ys a b → IsWritten W tokens meaning y b c
+    → IsWritten (AllByRecursion W) (flat_map tokens) (λ xs. before ++ map meaning xs) zs a c
 phrases_more {W = W} {tokens = tokens} {meaning = meaning} before ys zs y a b c list h k = record {
   phrase = h.phrase ++ k.phrase ∷ [];
   within = AllByRecursion-append W h.phrase (k.phrase ∷ []) h.within (k.within, tt);
@@ -40,10 +43,14 @@ abbrev pub ListSo : {X Y Z : Type 0} → (X → Type 0) → (X → List Token) �
 ListSo W tokens meaning value zs = IsWritten (AllByRecursion W) (flat_map tokens) (map meaning) (map value zs)
 
 -- a list of phrases is read by reading one phrase after the other
-pub list_none : {X Y Z : Type 0} (p : Part) (W : X → Type 0) (tokens : X → List Token) (meaning : X → Y) (value : Z → Y) (zs : List Z) (s : State) → zs ≡ [] → s.lexer.spent ≡ false → ReadsTo (p ∷ []) (p ∷ []) (ListSo W tokens meaning value zs) s s
-list_none p W tokens meaning value zs s none unspent = reads_nothing (p ∷ []) (ListSo W tokens meaning value zs) s unspent (λ a. record { phrase = []; within = tt; passed = refl; means = ap (map value) none })
+pub list_none : {X Y Z : Type 0} (p : Part) (W : X → Type 0) (tokens : X → List Token) (meaning : X → Y) (value : Z → Y) (zs : List Z) (s : State) → zs ≡ [] → s.lexer.spent ≡ false
+    → ReadsTo (p ∷ []) (p ∷ []) (ListSo W tokens meaning value zs) s s
+list_none p W tokens meaning value zs s none unspent =
+    reads_nothing (p ∷ []) (ListSo W tokens meaning value zs) s unspent (λ a. record { phrase = []; within = tt; passed = refl; means = ap (map value) none })
 
 pub list_next : {X Y Z : Type 0} (p : Part) (W : X → Type 0) (tokens : X → List Token) (meaning : X → Y) (value : Z → Y) (zs ws : List Z) (z : Z) {s m s' : State} → ws ≡ zs ++ z ∷ []
-    → ReadsTo (p ∷ []) (p ∷ []) (ListSo W tokens meaning value zs) s m → ReadsTo (p ∷ []) (p ∷ []) (IsWritten W tokens meaning (value z)) m s' → ReadsTo (p ∷ []) (p ∷ []) (ListSo W tokens meaning value ws) s s'
+    → ReadsTo (p ∷ []) (p ∷ []) (ListSo W tokens meaning value zs) s m → ReadsTo (p ∷ []) (p ∷ []) (IsWritten W tokens meaning (value z)) m s'
+    → ReadsTo (p ∷ []) (p ∷ []) (ListSo W tokens meaning value ws) s s'
 list_next p W tokens meaning value zs ws z same one two =
-    reads_as (λ a c h. phrases_more {W = W} {tokens = tokens} {meaning = meaning} [] (map value zs) (map value ws) (value z) a h.0 c (ap (map value) same ∙ map-append value zs (z ∷ [])) h.1 h.2) (reads_then one two)
+    reads_as (λ a c h. phrases_more {W = W} {tokens = tokens} {meaning = meaning} [] (map value zs) (map value ws) (value z) a h.0 c (ap (map value) same ∙ map-append value zs (z ∷ [])) h.1
+    h.2) (reads_then one two)

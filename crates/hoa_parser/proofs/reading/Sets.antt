@@ -17,7 +17,8 @@ use Rattle.hoa_parser.specs.declared.parse.condition.Sign.{Sign}
 use Rattle.hoa_parser.specs.declared.parse.condition.Sign.TheVariants as sign
 
 -- "(" "!"? INT ")"
-pub set_of : (number : ℕ) (neg : Bool) (a b c d e : Cursor) → Read token.LeftParen a b → IsMaybeBang neg b c → IsNumber number c d → Read token.RightParen d e → IsSet (record { number = number; neg = neg }) a e
+pub set_of : (number : ℕ) (neg : Bool) (a b c d e : Cursor) → Read token.LeftParen a b → IsMaybeBang neg b c → IsNumber number c d → Read token.RightParen d e
+    → IsSet (record { number = number; neg = neg }) a e
 set_of number neg a b c d e opens bang one close =
     passed_then a b e (token.LeftParen ∷ []) (bang_tokens neg ++ (token.Int number ∷ token.RightParen ∷ [])) opens
     (passed_then b c e (bang_tokens neg) (token.Int number ∷ token.RightParen ∷ []) bang (passed_then c d e (token.Int number ∷ []) (token.RightParen ∷ []) one close))
@@ -41,12 +42,14 @@ sign_opens sign.Inf = refl
 sign_opens sign.Fin = refl
 
 -- a sign that is all of the atom
-pub sign_alone : (depth : ℕ) (g : Sign) (phrase : Fatom) (l : Formula) (a b : Cursor) → FatomWithin most_depth depth phrase → fatom_tokens phrase ≡ token.Identifier (sign_word g) ∷ [] → formula_tree l ≡ fatom_meaning phrase
+pub sign_alone : (depth : ℕ) (g : Sign) (phrase : Fatom) (l : Formula) (a b : Cursor) → FatomWithin most_depth depth phrase → fatom_tokens phrase ≡ token.Identifier (sign_word g) ∷ []
+    → formula_tree l ≡ fatom_meaning phrase
     → Read (token.Identifier (sign_word g)) a b → IsFatom depth l a b
 sign_alone depth g phrase l a b within spelled means one = record { phrase = phrase; within = within; passed = subst_tokens a b (sym spelled) one; means = means }
 
 -- a sign and its set
-pub sign_with_set : (depth : ℕ) (g : Sign) (set : SetAt) (phrase : Fatom) (l : Formula) (a b c : Cursor) → FatomWithin most_depth depth phrase → fatom_tokens phrase ≡ token.Identifier (sign_word g) ∷ set_tokens set.number set.neg → formula_tree l ≡ fatom_meaning phrase
+pub sign_with_set : (depth : ℕ) (g : Sign) (set : SetAt) (phrase : Fatom) (l : Formula) (a b c : Cursor) → FatomWithin most_depth depth phrase
+    → fatom_tokens phrase ≡ token.Identifier (sign_word g) ∷ set_tokens set.number set.neg → formula_tree l ≡ fatom_meaning phrase
     → Read (token.Identifier (sign_word g)) a b → IsSet set b c → IsFatom depth l a c
 sign_with_set depth g set phrase l a b c within spelled means one two = record {
   phrase = phrase;
@@ -56,5 +59,6 @@ sign_with_set depth g set phrase l a b c within spelled means one two = record {
 }
 
 -- the token at hand was a sign
-pub sign_taken_here : (depth : ℕ) (g : Sign) {s s' : State} → s.ahead ≡ token.Identifier (sign_word g) → Advanced s s' → ReadsTo (Atom depth ∷ []) (sign_parts g ++ []) (Read (token.Identifier (sign_word g))) s s'
+pub sign_taken_here : (depth : ℕ) (g : Sign) {s s' : State} → s.ahead ≡ token.Identifier (sign_word g) → Advanced s s'
+    → ReadsTo (Atom depth ∷ []) (sign_parts g ++ []) (Read (token.Identifier (sign_word g))) s s'
 sign_taken_here depth g is one = takes (Atom depth) [] (token.Identifier (sign_word g)) is (sign_taken depth g) (sign_opens g) refl one

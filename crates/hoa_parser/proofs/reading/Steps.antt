@@ -97,10 +97,12 @@ turns {p} {q} s unspent over = record {
 }
 
 -- so those are read in place of these
-pub reads_for : {p parts : List Part} {B : Relation} {s m : State} (more : List Part) → s.lexer.spent ≡ false → ((most : ℕ) (others : List Part) → behind most (p ++ others) s.ahead ≡ behind most ((parts ++ more) ++ others) s.ahead) → ReadsTo parts [] B s m → ReadsTo p more B s m
+pub reads_for : {p parts : List Part} {B : Relation} {s m : State} (more : List Part) → s.lexer.spent ≡ false
+    → ((most : ℕ) (others : List Part) → behind most (p ++ others) s.ahead ≡ behind most ((parts ++ more) ++ others) s.ahead) → ReadsTo parts [] B s m → ReadsTo p more B s m
 reads_for {B = B} {s = s} more unspent over one = reads_as (λ a c h. subst (λ (x : Cursor). B x c) (sym h.1) h.2) (next_reads (turns s unspent over) one)
 
-pub fails_for : {p parts : List Part} {f : ReadFault} {s m : State} (more : List Part) → s.lexer.spent ≡ false → ((most : ℕ) (others : List Part) → behind most (p ++ others) s.ahead ≡ behind most ((parts ++ more) ++ others) s.ahead) → FailsAt f parts s m → FailsAt f p s m
+pub fails_for : {p parts : List Part} {f : ReadFault} {s m : State} (more : List Part) → s.lexer.spent ≡ false
+    → ((most : ℕ) (others : List Part) → behind most (p ++ others) s.ahead ≡ behind most ((parts ++ more) ++ others) s.ahead) → FailsAt f parts s m → FailsAt f p s m
 fails_for {s = s} more unspent over one = next_fails more (turns s unspent over) one
 
 -- nothing was read
@@ -119,13 +121,15 @@ pub reads_end : {p : List Part} {A : Relation} {s s' : State} (part : Part) → 
 reads_end {A = A} {s' = s'} part over one = reads_as (λ a c h. subst (λ (x : Cursor). A a x) h.2 h.1) (reads_then one (passes part [] s' one.spent over))
 
 -- it was taken by the first part
-pub takes : {parts : List Part} {s s' : State} (part : Part) (others : List Part) (z : Token) → s.ahead ≡ z → move part z ≡ Takes parts → nat_le (open_at parts) most_depth ≡ true → is_end z ≡ false → Advanced s s'
+pub takes : {parts : List Part} {s s' : State} (part : Part) (others : List Part) (z : Token) → s.ahead ≡ z → move part z ≡ Takes parts → nat_le (open_at parts) most_depth ≡ true
+    → is_end z ≡ false → Advanced s s'
     → ReadsTo (part ∷ others) (parts ++ others) (Read z) s s'
 takes {parts} {s} {s'} part others z is goes opens unended one = record {
   moves = one.moves;
   spent = one.spent;
   holds = λ h. one.holds;
-  text = between_as s.seen.left s'.seen.left _ _ (λ x y h. ((place s' y, sym is, h, refl), goes_on part parts others (place s x) (place s' y) (ap (move part) is ∙ goes) opens (ap is_end is ∙ unended) h)) one.text;
+  text = between_as s.seen.left s'.seen.left _ _
+      (λ x y h. ((place s' y, sym is, h, refl), goes_on part parts others (place s x) (place s' y) (ap (move part) is ∙ goes) opens (ap is_end is ∙ unended) h)) one.text;
 }
 
 leaves_unread : (f : ReadFault) (s : State) → s.lexer.held ≡ None → s.ahead ≢ token.Abort → Leaves f s
@@ -137,11 +141,13 @@ leaves_unread fault.Read s none no_abort = none
 leaves_unread fault.Memory s none no_abort = tt
 
 -- and there is no token behind it
-pub takes_last : {parts : List Part} {f : ReadFault} {s s' : State} (part : Part) (others : List Part) (z : Token) → s.ahead ≡ z → move part z ≡ Takes parts → nat_le (open_at parts) most_depth ≡ true → is_end z ≡ false → Unadvanced f s s' → FailsAt f (part ∷ others) s s'
+pub takes_last : {parts : List Part} {f : ReadFault} {s s' : State} (part : Part) (others : List Part) (z : Token) → s.ahead ≡ z → move part z ≡ Takes parts
+    → nat_le (open_at parts) most_depth ≡ true → is_end z ≡ false → Unadvanced f s s' → FailsAt f (part ∷ others) s s'
 takes_last {parts} {f} {s} {s'} part others z is goes opens unended one = record {
   moves = one.moves;
   leaves = λ h. leaves_unread f s' one.held (λ e. taken_no_abort part parts z goes opens (sym is ∙ sym one.stays ∙ e));
-  text = between_as s.seen.left s'.seen.left _ _ (λ x y h. inr (unread_behind f part parts others (place s x) (place s' y) (ap (move part) is ∙ goes) opens (ap is_end is ∙ unended) one.held one.stays h)) one.text;
+  text = between_as s.seen.left s'.seen.left _ _
+      (λ x y h. inr (unread_behind f part parts others (place s x) (place s' y) (ap (move part) is ∙ goes) opens (ap is_end is ∙ unended) one.held one.stays h)) one.text;
 }
 
 unheld : (held : Option ℕ) (z : Token) → is_some held ≡ not (closes_itself z) → closes_itself z ≡ true → held ≡ None
@@ -149,7 +155,8 @@ unheld None z h c = refl
 unheld (Some b) z h c = absurd (let no : true ≡ false = h ∙ ap not c in cc)
 
 -- it cannot stand there
-pub refuses : (p : List Part) (f : ReadFault) (s : State) → s.lexer.spent ≡ false → f ≡ fault.Syntax s.lexer.offset → ((most : ℕ) (others : List Part) → behind most (p ++ others) s.ahead ≡ None) → FailsAt f p s s
+pub refuses : (p : List Part) (f : ReadFault) (s : State) → s.lexer.spent ≡ false → f ≡ fault.Syntax s.lexer.offset
+    → ((most : ℕ) (others : List Part) → behind most (p ++ others) s.ahead ≡ None) → FailsAt f p s s
 refuses p f s unspent same refused =
     subst (λ (g : ReadFault). FailsAt g p s s) (sym same)
     (record {
@@ -158,11 +165,13 @@ refuses p f s unspent same refused =
       text = between_same s.seen.left _ (λ x. inl (record { target = p; goes = goes_nowhere p (place s x); refused = refused }, refl));
     })
 
-pub token_refused : (part : Part) (others : List Part) (f : ReadFault) (s : State) → s.lexer.spent ≡ false → f ≡ fault.Syntax s.lexer.offset → move part s.ahead ≡ expecting.Refuses → FailsAt f (part ∷ others) s s
+pub token_refused : (part : Part) (others : List Part) (f : ReadFault) (s : State) → s.lexer.spent ≡ false → f ≡ fault.Syntax s.lexer.offset → move part s.ahead ≡ expecting.Refuses
+    → FailsAt f (part ∷ others) s s
 token_refused part others f s unspent same is = refuses (part ∷ others) f s unspent same (λ most more. refuses_behind most part (others ++ more) s.ahead is)
 
 -- it opens one more than may be open
-pub too_deep : {parts : List Part} (part : Part) (others : List Part) (z : Token) (s : State) → s.ahead ≡ z → closes_itself z ≡ true → move part z ≡ Takes parts → nat_le (open_at parts) most_depth ≡ false → most_depth ≤ open_at parts → nat_le (open_at parts) (open_at parts) ≡ true
+pub too_deep : {parts : List Part} (part : Part) (others : List Part) (z : Token) (s : State) → s.ahead ≡ z → closes_itself z ≡ true → move part z ≡ Takes parts
+    → nat_le (open_at parts) most_depth ≡ false → most_depth ≤ open_at parts → nat_le (open_at parts) (open_at parts) ≡ true
     → FailsAt fault.Depth (part ∷ others) s s
 too_deep {parts} part others z s is closes goes over far same = record {
   moves = moves_nowhere s.lexer s.seen;
@@ -189,11 +198,13 @@ no_memory {p} {q} {A} {s} {s'} one = record {
 }
 
 -- a fault that a `?` hands on
-pub handed_on : {T : Type 0} {p : List Part} {f : ReadFault} {s s' : State} (r : List Part) (Q : T → Relation) (result : Result T ReadFault) → IsErrAnd result (λ y. y ≡ f) → FailsAt f p s s' → Reads p r Q result s s'
+pub handed_on : {T : Type 0} {p : List Part} {f : ReadFault} {s s' : State} (r : List Part) (Q : T → Relation) (result : Result T ReadFault) → IsErrAnd result (λ y. y ≡ f) → FailsAt f p s s'
+    → Reads p r Q result s s'
 handed_on r Q (Ok x) h one = absurd h
 handed_on {p = p} {s = s} {s' = s'} r Q (Err y) h one = subst (λ (e : ReadFault). FailsAt e p s s') (sym h) one
 
 -- a part of one token, and whatever is answered of the token behind it
-pub token_read : (part : Part) (z : Token) (Q : Unit {0} → Relation) (result : Result (Unit {0}) ReadFault) (s s' : State) → s.ahead ≡ z → move part z ≡ Takes [] → is_end z ≡ false → ((v : Unit {0}) (a b : Cursor) → Read z a b → Q v a b) → Advances result s s' → Reads (part ∷ []) [] Q result s s'
+pub token_read : (part : Part) (z : Token) (Q : Unit {0} → Relation) (result : Result (Unit {0}) ReadFault) (s s' : State) → s.ahead ≡ z → move part z ≡ Takes [] → is_end z ≡ false
+    → ((v : Unit {0}) (a b : Cursor) → Read z a b → Q v a b) → Advances result s s' → Reads (part ∷ []) [] Q result s s'
 token_read part z Q (Ok v) s s' is goes unended f one = reads_as (f v) (takes part [] z is goes refl unended one)
 token_read part z Q (Err e) s s' is goes unended f one = takes_last part [] z is goes refl unended one

@@ -55,7 +55,8 @@ unfinished ts p left e most w s =
     some_nothing p left (sym there ∙ spelled_follows n ts w more)
 
 -- A token that could stand if more might be open.
-pub deep : (m : ℕ) (ts : List Token) (left left' : List Part) (z : Token) → after most_depth (part.Whole ∷ []) ts ≡ Some left → behind most_depth left z ≡ None → behind m left z ≡ Some left' → most_depth ≤ m → IsViable m (ts ++ z ∷ []) × (IsViable most_depth (ts ++ z ∷ []) → ⊥)
+pub deep : (m : ℕ) (ts : List Token) (left left' : List Part) (z : Token) → after most_depth (part.Whole ∷ []) ts ≡ Some left → behind most_depth left z ≡ None → behind m left z ≡ Some left'
+    → most_depth ≤ m → IsViable m (ts ++ z ∷ []) × (IsViable most_depth (ts ++ z ∷ []) → ⊥)
 deep m ts left left' z e here there l = (
   viable m (ts ++ z ∷ []) left' (after_next m ts left z (after_more most_depth m ts (part.Whole ∷ []) left l e) ∙ there),
   refused most_depth (ts ++ z ∷ []) (after_next most_depth ts left z e ∙ here),

@@ -107,7 +107,8 @@ lexes_off (t ∷ ts) input start rest more some l =
           (subst (λ (w : List ℕ). Lexes w (start + (length (input ++ more) - length w)) ts (rest ++ more)) same l.2)),
     )
 
-pub begun_off : (start : ℕ) (text : List ℕ) (tokens : List Token) (used : ℕ) (rest more : List ℕ) → rest ≢ [] → IsBegun start (text ++ more) tokens used (rest ++ more) → IsBegun start text tokens used rest
+pub begun_off : (start : ℕ) (text : List ℕ) (tokens : List Token) (used : ℕ) (rest more : List ℕ) → rest ≢ [] → IsBegun start (text ++ more) tokens used (rest ++ more)
+    → IsBegun start text tokens used rest
 begun_off start text tokens used rest more some b = record {
   placed = b.placed;
   shown = b.shown;
@@ -117,7 +118,8 @@ begun_off start text tokens used rest more some b = record {
   unfinished = b.unfinished;
 }
 
-pub hopeless_so : (k start : ℕ) (text left : List ℕ) (tokens : List Token) (used : ℕ) (rest : List ℕ) → IsBegun start text tokens used (rest ++ left) → rest ≢ [] → IsMisplaced k tokens used rest ⊎ IsNoTokenAt k used rest → IsHopeless k start text left
+pub hopeless_so : (k start : ℕ) (text left : List ℕ) (tokens : List Token) (used : ℕ) (rest : List ℕ) → IsBegun start text tokens used (rest ++ left) → rest ≢ []
+    → IsMisplaced k tokens used rest ⊎ IsNoTokenAt k used rest → IsHopeless k start text left
 hopeless_so k start text left tokens used rest begun some why =
     let leaves = lexes_leaves begun.placed text start (rest ++ left) begun.lexes in
     let taken = leaves.before ++ rest in
@@ -138,7 +140,8 @@ next_some input start t i rest n e =
     let f : HasFront n.bytes = record { token = t; rest = rest; front = n.front } in
     no_front (subst HasFront (right_empty n.before n.bytes (sym n.split ∙ e)) f)
 
-misplaced_at : (k start : ℕ) (text left : List ℕ) (tokens : List Token) (used : ℕ) (rest after : List ℕ) (z : Token) (held : Option ℕ) → IsBegun start text tokens used rest → IsNext rest used z k after → after ≡ unread held left → (held ≡ None → closes_itself z ≡ true)
+misplaced_at : (k start : ℕ) (text left : List ℕ) (tokens : List Token) (used : ℕ) (rest after : List ℕ) (z : Token) (held : Option ℕ) → IsBegun start text tokens used rest
+    → IsNext rest used z k after → after ≡ unread held left → (held ≡ None → closes_itself z ≡ true)
     → IsDead (tokens ++ z ∷ []) → (tokens ≢ [] → z ≢ token.Abort) → IsHopeless k start text left
 misplaced_at k start text left tokens used rest after z held begun next ends closed is_dead no_abort =
     let last = held_bytes held in
@@ -173,13 +176,16 @@ passed_holds a b [] p h = subst (λ (x : Cursor). is_some x.held ≡ not (closes
 passed_holds a b (t ∷ ts) p h = passed_holds p.0 b ts p.3 p.2.holds
 
 -- for the token at hand
-asked_for_token : (start : ℕ) (text left : List ℕ) (a last : Cursor) (target : List Part) → Starts start text a → Goes (part.Whole ∷ []) a target last → last.rest ≡ unread last.held left → AskedForLast start text left
+asked_for_token : (start : ℕ) (text left : List ℕ) (a last : Cursor) (target : List Part) → Starts start text a → Goes (part.Whole ∷ []) a target last → last.rest ≡ unread last.held left
+    → AskedForLast start text left
 asked_for_token start text left a last target starts g ends =
     let s = before start text a last target g starts in
     asked_last start text left g.tokens s.used s.rest s.begun
-    (last_is_asked_for s.rest s.used last.offset last.token last.held left (subst (λ (w : List ℕ). IsNext s.rest s.used last.token last.offset w) ends s.next) (passed_holds a last g.tokens g.passed starts.holds))
+    (last_is_asked_for s.rest s.used last.offset last.token last.held left (subst (λ (w : List ℕ). IsNext s.rest s.used last.token last.offset w) ends s.next)
+    (passed_holds a last g.tokens g.passed starts.holds))
 
-misplaced_shown : (k start : ℕ) (text left : List ℕ) (a b : Cursor) → Starts start text a → Refuses (part.Whole ∷ []) a b → k ≡ b.offset → b.token ≢ token.Abort → b.rest ≡ unread b.held left → IsHopeless k start text left
+misplaced_shown : (k start : ℕ) (text left : List ℕ) (a b : Cursor) → Starts start text a → Refuses (part.Whole ∷ []) a b → k ≡ b.offset → b.token ≢ token.Abort → b.rest ≡ unread b.held left
+    → IsHopeless k start text left
 misplaced_shown k start text left a b starts r at other ends =
     let g = r.goes in
     let s = before start text a b r.target g starts in
@@ -214,9 +220,11 @@ shows_unread fault.Read start text left a last starts u ends = tt
 shows_unread fault.Memory start text left a last starts u ends = tt
 
 -- why no automaton was read
-pub shows_fault : (f : ReadFault) (start : ℕ) (text left : List ℕ) (a last : Cursor) → (Abandons f last.token → ⊥) → Starts start text a → Fails f (part.Whole ∷ []) a last → last.rest ≡ unread last.held left → Shows (Err f) start text left
+pub shows_fault : (f : ReadFault) (start : ℕ) (text left : List ℕ) (a last : Cursor) → (Abandons f last.token → ⊥) → Starts start text a → Fails f (part.Whole ∷ []) a last
+    → last.rest ≡ unread last.held left → Shows (Err f) start text left
 shows_fault f start text left a last other starts (inr u) ends = shows_unread f start text left a last starts u (ends ∙ unheld last.held left u.held)
-shows_fault (fault.Syntax k) start text left a last other starts (inl h) ends = (misplaced_shown k start text left a last starts h.0 h.1 other ends, asked_for_token start text left a last h.0.target starts h.0.goes ends)
+shows_fault (fault.Syntax k) start text left a last other starts (inl h) ends =
+    (misplaced_shown k start text left a last starts h.0 h.1 other ends, asked_for_token start text left a last h.0.target starts h.0.goes ends)
 shows_fault fault.Depth start text left a last other starts (inl h) ends = asked_for_token start text left a last h.target starts h.goes ends
 shows_fault fault.Truncated start text left a last other starts (inl h) ends = absurd h
 shows_fault fault.Bytes start text left a last other starts (inl h) ends = tt
@@ -224,7 +232,8 @@ shows_fault fault.Read start text left a last other starts (inl h) ends = tt
 shows_fault fault.Memory start text left a last other starts (inl h) ends = tt
 
 -- the automaton was abandoned
-pub shows_aborted : (f : ReadFault) (start : ℕ) (text left : List ℕ) (a last : Cursor) → Abandons f last.token → Starts start text a → Fails f (part.Whole ∷ []) a last → last.rest ≡ unread last.held left → AskedForLast start text left
+pub shows_aborted : (f : ReadFault) (start : ℕ) (text left : List ℕ) (a last : Cursor) → Abandons f last.token → Starts start text a → Fails f (part.Whole ∷ []) a last
+    → last.rest ≡ unread last.held left → AskedForLast start text left
 shows_aborted (fault.Syntax k) start text left a last abort starts (inl h) ends = asked_for_token start text left a last h.0.target starts h.0.goes ends
 shows_aborted (fault.Syntax k) start text left a last abort starts (inr u) ends = absurd (u.no_abort abort)
 shows_aborted fault.Truncated start text left a last never starts h ends = absurd never
@@ -236,7 +245,14 @@ shows_aborted fault.Memory start text left a last never starts h ends = absurd n
 shows_open : (start : ℕ) (old left : List ℕ) → IsBlanks old ⊎ EndsOpen old → left ≡ [] → Shows (Err fault.Truncated) start old left
 shows_open start old left ends none = (
   none,
-  record { tokens = []; used = start; rest = old; begun = nothing_begun start old; asks = record { at_hand = old; split = sym (append-nil old) ∙ ap (λ (w : List ℕ). old ++ w) (sym none); asks = open_end_asks old ends } },
+  record {
+    tokens = [];
+    used = start;
+    rest = old;
+    begun = nothing_begun start old;
+    asks =
+        record { at_hand = old; split = sym (append-nil old) ∙ ap (λ (w : List ℕ). old ++ w) (sym none); asks = open_end_asks old ends };
+  },
 )
 
 -- no token was there
@@ -250,9 +266,11 @@ shows_lexing lex.Bytes start offset old left h = tt
 shows_lexing lex.Memory start offset old left h = tt
 
 -- it was another than `HOA:`
-pub shows_other : (start k : ℕ) (text left : List ℕ) (z : Token) (held : Option ℕ) → IsNext text start z k (unread held left) → is_some held ≡ not (closes_itself z) → move part.Whole z ≡ part.Refuses → Shows (Err (fault.Syntax k)) start text left
+pub shows_other : (start k : ℕ) (text left : List ℕ) (z : Token) (held : Option ℕ) → IsNext text start z k (unread held left) → is_some held ≡ not (closes_itself z)
+    → move part.Whole z ≡ part.Refuses → Shows (Err (fault.Syntax k)) start text left
 shows_other start k text left z held next holds other = (
-  misplaced_at k start text left [] start text (unread held left) z held (nothing_begun start text) next refl (holds_closed held z holds) (dead [] (part.Whole ∷ []) z refl (λ most. refuses_behind most part.Whole [] z other)) (λ some. absurd (some refl)),
+  misplaced_at k start text left [] start text (unread held left) z held (nothing_begun start text) next refl (holds_closed held z holds)
+      (dead [] (part.Whole ∷ []) z refl (λ most. refuses_behind most part.Whole [] z other)) (λ some. absurd (some refl)),
   asked_last start text left [] start text (nothing_begun start text) (last_is_asked_for text start k z held left next holds),
 )
 
@@ -260,26 +278,32 @@ shows_other start k text left z held next holds other = (
 abbrev pub Left : Lexer → Seen → Seen → (ℕ → List ℕ → List ℕ → Type 0) → Type 0
 Left lexer seen seen' R = Tells seen seen' (λ x y. R (lexer.since - held_count lexer.held) (unread lexer.held x) y)
 
-pub raw_aborted_shows : (f : ReadFault) (lexer : Lexer) (seen : Seen) (s s' : State) → Opened lexer seen s → Abandons f s'.ahead → FailsAt f (part.Whole ∷ []) s s' → Left lexer seen s'.seen (Shows (Ok front.Aborted))
+pub raw_aborted_shows : (f : ReadFault) (lexer : Lexer) (seen : Seen) (s s' : State) → Opened lexer seen s → Abandons f s'.ahead → FailsAt f (part.Whole ∷ []) s s'
+    → Left lexer seen s'.seen (Shows (Ok front.Aborted))
 raw_aborted_shows f lexer seen s s' opened abandons read =
     said_then lexer seen s s' (Fails f (part.Whole ∷ [])) _ opened read.text
     (λ x y z starts says. shows_aborted f _ _ z (place s y) (place s' z) abandons starts says refl)
 
-pub raw_fault_shows : (f : ReadFault) (lexer : Lexer) (seen : Seen) (s s' : State) → Opened lexer seen s → (Abandons f s'.ahead → ⊥) → FailsAt f (part.Whole ∷ []) s s' → Left lexer seen s'.seen (Shows (Err f))
+pub raw_fault_shows : (f : ReadFault) (lexer : Lexer) (seen : Seen) (s s' : State) → Opened lexer seen s → (Abandons f s'.ahead → ⊥) → FailsAt f (part.Whole ∷ []) s s'
+    → Left lexer seen s'.seen (Shows (Err f))
 raw_fault_shows f lexer seen s s' opened other read =
     said_then lexer seen s s' (Fails f (part.Whole ∷ [])) _ opened read.text
     (λ x y z starts says. shows_fault f _ _ z (place s y) (place s' z) other starts says refl)
 
 -- the lexer gave no token
-pub raw_unlexed_shows : (f : LexFault) (result : Result Front ReadFault) (lexer lexer' : Lexer) (offset : ℕ) (seen seen' : Seen) → (e : ReadFault) × (result ≡ Err e) × (e ≡ read_fault f) → lexer'.held ≡ None
+pub raw_unlexed_shows : (f : LexFault) (result : Result Front ReadFault) (lexer lexer' : Lexer) (offset : ℕ) (seen seen' : Seen) → (e : ReadFault) × (result ≡ Err e) × (e ≡ read_fault f)
+    → lexer'.held ≡ None
     → Tells seen seen' (λ x y. lexing.Answers (Err f) (lexer.since - held_count lexer.held) offset (unread lexer.held x) (unread lexer'.held y)) → Left lexer seen seen' (Shows result)
 raw_unlexed_shows f result lexer lexer' offset seen seen' same none said =
     between_as seen.left seen'.left _ _
     (λ x y h. subst (λ (r : Result Front ReadFault). Shows r (lexer.since - held_count lexer.held) (unread lexer.held x) y) (sym (same.1 ∙ ap Err same.2))
-    (shows_lexing f _ offset (unread lexer.held x) y (subst (λ (w : List ℕ). lexing.Answers (Err f) (lexer.since - held_count lexer.held) offset (unread lexer.held x) w) (unheld lexer'.held y none) h))) said
+    (shows_lexing f _ offset (unread lexer.held x) y
+    (subst (λ (w : List ℕ). lexing.Answers (Err f) (lexer.since - held_count lexer.held) offset (unread lexer.held x) w) (unheld lexer'.held y none) h))) said
 
 -- it gave another token than `HOA:`
-pub raw_other_shows : (k : ℕ) (lexer : Lexer) (seen : Seen) (s : State) → Opened lexer seen s → k ≡ s.lexer.offset → move part.Whole s.ahead ≡ part.Refuses → Left lexer seen s.seen (Shows (Err (fault.Syntax k)))
+pub raw_other_shows : (k : ℕ) (lexer : Lexer) (seen : Seen) (s : State) → Opened lexer seen s → k ≡ s.lexer.offset → move part.Whole s.ahead ≡ part.Refuses
+    → Left lexer seen s.seen (Shows (Err (fault.Syntax k)))
 raw_other_shows k lexer seen s opened same other =
     between_as seen.left s.seen.left _ _
-    (λ x y h. shows_other _ k (unread lexer.held x) y s.ahead s.lexer.held (subst (λ (n : ℕ). IsNext (unread lexer.held x) (lexer.since - held_count lexer.held) s.ahead n (unread s.lexer.held y)) (sym same) h) opened.holds other) opened.next
+    (λ x y h. shows_other _ k (unread lexer.held x) y s.ahead s.lexer.held
+    (subst (λ (n : ℕ). IsNext (unread lexer.held x) (lexer.since - held_count lexer.held) s.ahead n (unread s.lexer.held y)) (sym same) h) opened.holds other) opened.next

@@ -109,7 +109,8 @@ not_further a b ps qs used used' rest rest' f g h =
     halts_here a (shown ps) (shown h.more) h.token.0 used rest f (record { offset = h.token.1; after = h.after; next = h.next })
     (subst (λ (ts : List Token). IsViable most_depth ts) (ap shown h.goes_on ∙ map-append (λ p. p.0) ps (h.token ∷ h.more)) (halts_viable b (shown qs) used' rest' g))
 
-same_place : (b : Standing) (ps qs : List (Token × ℕ)) (start : ℕ) (text rest rest' : List ℕ) → ps ≡ qs → rest ≡ rest' → Halts b (shown qs) (place start text rest') rest' → Halts b (shown ps) (place start text rest) rest
+same_place : (b : Standing) (ps qs : List (Token × ℕ)) (start : ℕ) (text rest rest' : List ℕ) → ps ≡ qs → rest ≡ rest' → Halts b (shown qs) (place start text rest') rest'
+    → Halts b (shown ps) (place start text rest) rest
 same_place b ps qs start text rest rest' e k h =
     subst (λ (r : List ℕ). Halts b (shown ps) (place start text r) r) (sym k) (subst (λ (ts : List (Token × ℕ)). Halts b (shown ts) (place start text rest') rest') (sym e) h)
 

@@ -41,7 +41,8 @@ begun start text tokens used rest p ps r = record {
   unfinished = unfinished tokens p ps r.leads;
 }
 
-lexes_more : (input : List ℕ) (start : ℕ) (ts : List (Token × ℕ)) (rest : List ℕ) (used : ℕ) (t : Token × ℕ) (next : List ℕ) → Lexes input start ts rest → length rest ≤ length input → used ≡ start + (length input - length rest) → IsNext rest used t.0 t.1 next → Lexes input start (ts ++ t ∷ []) next
+lexes_more : (input : List ℕ) (start : ℕ) (ts : List (Token × ℕ)) (rest : List ℕ) (used : ℕ) (t : Token × ℕ) (next : List ℕ) → Lexes input start ts rest → length rest ≤ length input
+    → used ≡ start + (length input - length rest) → IsNext rest used t.0 t.1 next → Lexes input start (ts ++ t ∷ []) next
 lexes_more input start [] rest used t next l s e n = (
   next,
   subst (λ (m : ℕ). IsNext input m t.0 t.1 next) (let same : length input ≡ length rest = ap length l in omega (arith, same, e)) (subst (λ (w : List ℕ). IsNext w used t.0 t.1 next) (sym l) n),
@@ -61,7 +62,8 @@ next_less input start t i rest n =
     omega (arith, word_some t n.front.word n.front.spells, simp length-append at (ap length n.split), simp length-append at (ap length n.front.split))
 
 -- one token more
-further : (start : ℕ) (text : List ℕ) (tokens : List Token) (used : ℕ) (rest : List ℕ) (left left' : List Part) (t : Token) (k : ℕ) (next : List ℕ) → Reached start text tokens used rest left → IsNext rest used t k next → behind most_depth left t ≡ Some left'
+further : (start : ℕ) (text : List ℕ) (tokens : List Token) (used : ℕ) (rest : List ℕ) (left left' : List Part) (t : Token) (k : ℕ) (next : List ℕ) → Reached start text tokens used rest left
+    → IsNext rest used t k next → behind most_depth left t ≡ Some left'
     → Reached start text (tokens ++ t ∷ []) (used + (length rest - length next)) next left'
 further start text tokens used rest left left' t k next r n e =
     let less = next_less rest used t k next n in
@@ -79,7 +81,8 @@ nothing_placed [] e = refl
 nothing_placed (p ∷ ps) e = absurd (let no : p.0 ∷ map (λ q. q.0) ps ≡ [] = e in cc)
 
 -- only blanks are left
-blanks : (start : ℕ) (text : List ℕ) (tokens : List Token) (used : ℕ) (rest : List ℕ) (p : Part) (ps : List Part) → Nothing start text → Reached start text tokens used rest (p ∷ ps) → IsBlanks rest → ⊥
+blanks : (start : ℕ) (text : List ℕ) (tokens : List Token) (used : ℕ) (rest : List ℕ) (p : Part) (ps : List Part) → Nothing start text → Reached start text tokens used rest (p ∷ ps)
+    → IsBlanks rest → ⊥
 blanks start text [] used rest p ps none r h =
     let all : text ≡ rest = subst (λ (ts : List (Token × ℕ)). Lexes text start ts rest) (nothing_placed r.placed r.shown) r.lexes in
     none Blank (subst IsBlanks (sym all) h)
@@ -91,7 +94,8 @@ abort_or token.Abort = inl refl
 abort_or t = inr (λ e. (let no : t ≡ token.Abort = e in cc))
 
 -- the token cannot stand there
-aborts : (start : ℕ) (text : List ℕ) (tokens : List Token) (used : ℕ) (rest : List ℕ) (p : Part) (ps : List Part) (k : ℕ) (next : List ℕ) → Nothing start text → Reached start text tokens used rest (p ∷ ps) → IsNext rest used token.Abort k next → ⊥
+aborts : (start : ℕ) (text : List ℕ) (tokens : List Token) (used : ℕ) (rest : List ℕ) (p : Part) (ps : List Part) (k : ℕ) (next : List ℕ) → Nothing start text
+    → Reached start text tokens used rest (p ∷ ps) → IsNext rest used token.Abort k next → ⊥
 aborts start text [] used rest p ps k next none r n =
     none (Bad k) (record {
       tokens = [];
@@ -103,7 +107,8 @@ aborts start text [] used rest p ps k next none r n =
 aborts start text (t ∷ ts) used rest p ps k next none r n =
     none (Aborted next) (record { tokens = t ∷ ts; used = used; rest = rest; begun = begun start text (t ∷ ts) used rest p ps r; some = λ e. (let no : t ∷ ts ≡ [] = e in cc); offset = k; next = n })
 
-refuses : (start : ℕ) (text : List ℕ) (tokens : List Token) (used : ℕ) (rest : List ℕ) (p : Part) (ps : List Part) (t : Token) (k : ℕ) (next : List ℕ) → Nothing start text → Reached start text tokens used rest (p ∷ ps) → IsNext rest used t k next → behind most_depth (p ∷ ps) t ≡ None → ⊥
+refuses : (start : ℕ) (text : List ℕ) (tokens : List Token) (used : ℕ) (rest : List ℕ) (p : Part) (ps : List Part) (t : Token) (k : ℕ) (next : List ℕ) → Nothing start text
+    → Reached start text tokens used rest (p ∷ ps) → IsNext rest used t k next → behind most_depth (p ∷ ps) t ≡ None → ⊥
 refuses start text tokens used rest p ps t k next none r n e =
     let first = begun start text tokens used rest p ps r in
     elim (abort_or t) [
@@ -146,13 +151,16 @@ abbrev Later : ℕ → List ℕ → List Token → ℕ → List ℕ → Type 0
 Later start text tokens used rest =
     (t : Token) (k : ℕ) (next : List ℕ) (q : Part) (qs : List Part) → IsNext rest used t k next → Reached start text (tokens ++ t ∷ []) (used + (length rest - length next)) next (q ∷ qs) → ⊥
 
-token_so : (start : ℕ) (text : List ℕ) (tokens : List Token) (used : ℕ) (rest : List ℕ) (p : Part) (ps : List Part) (t : Token) (k : ℕ) (next : List ℕ) (found : Option (List Part)) → behind most_depth (p ∷ ps) t ≡ found → Nothing start text
+token_so : (start : ℕ) (text : List ℕ) (tokens : List Token) (used : ℕ) (rest : List ℕ) (p : Part) (ps : List Part) (t : Token) (k : ℕ) (next : List ℕ) (found : Option (List Part))
+    → behind most_depth (p ∷ ps) t ≡ found → Nothing start text
     → Reached start text tokens used rest (p ∷ ps) → Later start text tokens used rest → IsNext rest used t k next → ⊥
 token_so start text tokens used rest p ps t k next None e none r later h = refuses start text tokens used rest p ps t k next none r h e
-token_so start text tokens used rest p ps t k next (Some []) e none r later h = whole start text (tokens ++ t ∷ []) (used + (length rest - length next)) next none (further start text tokens used rest (p ∷ ps) [] t k next r h e)
+token_so start text tokens used rest p ps t k next (Some []) e none r later h =
+    whole start text (tokens ++ t ∷ []) (used + (length rest - length next)) next none (further start text tokens used rest (p ∷ ps) [] t k next r h e)
 token_so start text tokens used rest p ps t k next (Some (q ∷ qs)) e none r later h = later t k next q qs h (further start text tokens used rest (p ∷ ps) (q ∷ qs) t k next r h e)
 
-next_so : (start : ℕ) (text : List ℕ) (tokens : List Token) (used : ℕ) (rest : List ℕ) (p : Part) (ps : List Part) (a : Next) → Nothing start text → Reached start text tokens used rest (p ∷ ps) → Later start text tokens used rest → StandsNext a used rest → ⊥
+next_so : (start : ℕ) (text : List ℕ) (tokens : List Token) (used : ℕ) (rest : List ℕ) (p : Part) (ps : List Part) (a : Next) → Nothing start text
+    → Reached start text tokens used rest (p ∷ ps) → Later start text tokens used rest → StandsNext a used rest → ⊥
 next_so start text tokens used rest p ps NoMore none r later h = blanks start text tokens used rest p ps none r h
 next_so start text tokens used rest p ps (OneToken t k next) none r later h = token_so start text tokens used rest p ps t k next (behind most_depth (p ∷ ps) t) refl none r later h
 next_so start text tokens used rest p ps (NoToken k) none r later h =
@@ -165,7 +173,8 @@ next_so start text tokens used rest p ps InToken none r later h =
     none Cut (record { tokens = tokens; used = used; rest = rest; begun = begun start text tokens used rest p ps r; ends = inr (inr (inr h)) })
 
 -- from there on something stands next
-reached : (n start : ℕ) (text : List ℕ) (tokens : List Token) (used : ℕ) (rest : List ℕ) (p : Part) (ps : List Part) → Nothing start text → Reached start text tokens used rest (p ∷ ps) → length rest ≤ n → ⊥
+reached : (n start : ℕ) (text : List ℕ) (tokens : List Token) (used : ℕ) (rest : List ℕ) (p : Part) (ps : List Part) → Nothing start text → Reached start text tokens used rest (p ∷ ps)
+    → length rest ≤ n → ⊥
 reached zero start text tokens used rest p ps none r l =
     some_next used rest (λ a h. next_so start text tokens used rest p ps a none r (λ t k next q qs n s. absurd (omega (arith, l, next_less rest used t k next n))) h)
 reached (suc m) start text tokens used rest p ps none r l =

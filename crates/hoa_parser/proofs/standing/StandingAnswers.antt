@@ -83,7 +83,8 @@ before start text a b target g starts =
     }
 
 -- behind it
-pub begun_with : (f : ReadFault) (start : ℕ) (text : List ℕ) (a last : Cursor) (u : Unread f (part.Whole ∷ []) a last) → Starts start text a → IsBegun start text (u.goes.tokens ++ u.b.token ∷ []) u.b.used u.b.rest
+pub begun_with : (f : ReadFault) (start : ℕ) (text : List ℕ) (a last : Cursor) (u : Unread f (part.Whole ∷ []) a last) → Starts start text a
+    → IsBegun start text (u.goes.tokens ++ u.b.token ∷ []) u.b.used u.b.rest
 begun_with f start text a last u starts =
     let g = u.goes in
     let s = stand_with start text a u.b g.tokens starts.next starts.used g.passed in
@@ -174,12 +175,16 @@ answers_unread fault.Truncated start text a last starts u = record {
   ends = ends_so (u.goes.tokens ++ u.b.token ∷ []) u.b.rest (some_more u.goes.tokens u.b.token) u.bytes.0;
 }
 answers_unread fault.Depth start text a last starts u = absurd u.bytes
-answers_unread fault.Bytes start text a last starts u = record { tokens = u.goes.tokens ++ u.b.token ∷ []; used = u.b.used; rest = u.b.rest; begun = begun_with _ start text a last u starts; asks = u.bytes }
-answers_unread fault.Read start text a last starts u = record { tokens = u.goes.tokens ++ u.b.token ∷ []; used = u.b.used; rest = u.b.rest; begun = begun_with _ start text a last u starts; asks = u.bytes }
-answers_unread fault.Memory start text a last starts u = record { tokens = u.goes.tokens ++ u.b.token ∷ []; used = u.b.used; rest = u.b.rest; begun = begun_with _ start text a last u starts; behind = inl u.bytes }
+answers_unread fault.Bytes start text a last starts u =
+    record { tokens = u.goes.tokens ++ u.b.token ∷ []; used = u.b.used; rest = u.b.rest; begun = begun_with _ start text a last u starts; asks = u.bytes }
+answers_unread fault.Read start text a last starts u =
+    record { tokens = u.goes.tokens ++ u.b.token ∷ []; used = u.b.used; rest = u.b.rest; begun = begun_with _ start text a last u starts; asks = u.bytes }
+answers_unread fault.Memory start text a last starts u =
+    record { tokens = u.goes.tokens ++ u.b.token ∷ []; used = u.b.used; rest = u.b.rest; begun = begun_with _ start text a last u starts; behind = inl u.bytes }
 
 -- why no automaton was read
-pub answers_fault : (f : ReadFault) (start : ℕ) (text : List ℕ) (a last : Cursor) → (Abandons f last.token → ⊥) → Starts start text a → Fails f (part.Whole ∷ []) a last → Answers (Err f) start text last.rest
+pub answers_fault : (f : ReadFault) (start : ℕ) (text : List ℕ) (a last : Cursor) → (Abandons f last.token → ⊥) → Starts start text a → Fails f (part.Whole ∷ []) a last
+    → Answers (Err f) start text last.rest
 answers_fault f start text a last other starts (inr u) = answers_unread f start text a last starts u
 answers_fault (fault.Syntax k) start text a last other starts (inl h) = misplaced start text a last k starts h.0 h.1 other
 answers_fault fault.Depth start text a last other starts (inl h) = too_deep start text a last starts h
@@ -191,7 +196,8 @@ answers_fault fault.Bytes start text a last other starts (inl h) = absurd h
 answers_fault fault.Read start text a last other starts (inl h) = absurd h
 
 -- the automaton was abandoned
-pub answers_aborted : (f : ReadFault) (start : ℕ) (text : List ℕ) (a last : Cursor) → Abandons f last.token → Starts start text a → a.token ≡ opening → Fails f (part.Whole ∷ []) a last → IsAborted start text last.rest
+pub answers_aborted : (f : ReadFault) (start : ℕ) (text : List ℕ) (a last : Cursor) → Abandons f last.token → Starts start text a → a.token ≡ opening → Fails f (part.Whole ∷ []) a last
+    → IsAborted start text last.rest
 answers_aborted (fault.Syntax k) start text a last abort starts is (inl h) = aborted start text a last starts is h.0 abort
 answers_aborted (fault.Syntax k) start text a last abort starts is (inr u) = absurd (u.no_abort abort)
 answers_aborted fault.Truncated start text a last never starts is h = absurd never
@@ -242,12 +248,15 @@ answers_lexing lex.Read start offset old new h = record { tokens = []; used = st
 answers_lexing lex.Bytes start offset old new h = record { tokens = []; used = start; rest = old; begun = nothing_begun start old; asks = h }
 answers_lexing lex.Memory start offset old new h = record { tokens = []; used = start; rest = old; begun = nothing_begun start old; behind = inl h }
 
-used_so : (since since' taken taken' hold hold' x y old new : ℕ) → hold ≤ since → since' + taken ≡ since + taken' → taken' + y ≡ taken + x → taken ≤ taken' → old ≡ hold + x → new ≡ hold' + y → new ≤ old → since' - hold' ≡ (since - hold) + (old - new)
+used_so : (since since' taken taken' hold hold' x y old new : ℕ) → hold ≤ since → since' + taken ≡ since + taken' → taken' + y ≡ taken + x → taken ≤ taken' → old ≡ hold + x → new ≡ hold' + y
+    → new ≤ old → since' - hold' ≡ (since - hold) + (old - new)
 used_so since since' taken taken' hold hold' x y old new within same took later is is' shorter = omega (arith, within, same, took, later, is, is', shorter)
 
 -- the first token that the lexer gave
-starts_so : (lexer : Lexer) (s : State) (x y : List ℕ) → IsNext (unread lexer.held x) (lexer.since - held_count lexer.held) s.ahead s.lexer.offset (unread s.lexer.held y) → is_some s.lexer.held ≡ not (closes_itself s.ahead)
-    → s.lexer.since + lexer.taken ≡ lexer.since + s.lexer.taken → s.lexer.taken + length y ≡ lexer.taken + length x → lexer.taken ≤ s.lexer.taken → Starts (lexer.since - held_count lexer.held) (unread lexer.held x) (place s y)
+starts_so : (lexer : Lexer) (s : State) (x y : List ℕ) → IsNext (unread lexer.held x) (lexer.since - held_count lexer.held) s.ahead s.lexer.offset (unread s.lexer.held y)
+    → is_some s.lexer.held ≡ not (closes_itself s.ahead)
+    → s.lexer.since + lexer.taken ≡ lexer.since + s.lexer.taken → s.lexer.taken + length y ≡ lexer.taken + length x → lexer.taken ≤ s.lexer.taken
+    → Starts (lexer.since - held_count lexer.held) (unread lexer.held x) (place s y)
 starts_so lexer s x y next holds since took later = record {
   next = next;
   used = used_so lexer.since s.lexer.since lexer.taken s.lexer.taken (held_count lexer.held) (held_count s.lexer.held) (length x) (length y) _ _
@@ -275,7 +284,8 @@ first_so : (t : Option Token) (z : Token) (start offset : ℕ) (old new : List �
 first_so t z start offset old new some h = subst (λ (o : Option Token). lexing.Answers (Ok o) start offset old new) some h
 
 -- the lexer gave a token
-pub opened_so : (t : Option Token) (lexer : Lexer) (seen : Seen) (s : State) → t ≡ Some s.ahead → Tells seen s.seen (λ x y. lexing.Answers (Ok t) (lexer.since - held_count lexer.held) s.lexer.offset (unread lexer.held x) (unread s.lexer.held y))
+pub opened_so : (t : Option Token) (lexer : Lexer) (seen : Seen) (s : State) → t ≡ Some s.ahead
+    → Tells seen s.seen (λ x y. lexing.Answers (Ok t) (lexer.since - held_count lexer.held) s.lexer.offset (unread lexer.held x) (unread s.lexer.held y))
     → lexing.Holds (Ok t) s.lexer.held → Moves (stop_of_next {A = Token} (Ok t)) lexer s.lexer seen s.seen → Opened lexer seen s
 opened_so t lexer seen s some answers holds moves = record {
   moves = subst (λ (o : Option Token). Moves (stop_of_next {A = Token} (Ok o)) lexer s.lexer seen s.seen) some moves;
@@ -287,17 +297,20 @@ opened_so t lexer seen s some answers holds moves = record {
 abbrev pub Between : Lexer → Seen → State → (ℕ → List ℕ → List ℕ → Type 0) → Type 0
 Between lexer seen s R = Tells seen s.seen (λ x y. R (lexer.since - held_count lexer.held) (unread lexer.held x) (unread s.lexer.held y))
 
-pub raw_whole : (raw : Raw) (lexer : Lexer) (seen : Seen) (s s' : State) → Opened lexer seen s → ReadsTo (part.Whole ∷ []) (part.States ∷ []) (IsAutomaton raw) s s' → Between lexer seen s' (Answers (Ok (front.Whole raw)))
+pub raw_whole : (raw : Raw) (lexer : Lexer) (seen : Seen) (s s' : State) → Opened lexer seen s → ReadsTo (part.Whole ∷ []) (part.States ∷ []) (IsAutomaton raw) s s'
+    → Between lexer seen s' (Answers (Ok (front.Whole raw)))
 raw_whole raw lexer seen s s' opened read =
     said_then lexer seen s s' (λ a b. IsAutomaton raw a b × Goes (part.Whole ∷ []) a (part.States ∷ []) b) _ opened read.text
     (λ x y z starts says. answers_whole raw _ _ (place s y) (place s' z) starts says.0)
 
-pub raw_aborted : (f : ReadFault) (lexer : Lexer) (seen : Seen) (s s' : State) → Opened lexer seen s → s.ahead ≡ opening → Abandons f s'.ahead → FailsAt f (part.Whole ∷ []) s s' → Between lexer seen s' (Answers (Ok front.Aborted))
+pub raw_aborted : (f : ReadFault) (lexer : Lexer) (seen : Seen) (s s' : State) → Opened lexer seen s → s.ahead ≡ opening → Abandons f s'.ahead → FailsAt f (part.Whole ∷ []) s s'
+    → Between lexer seen s' (Answers (Ok front.Aborted))
 raw_aborted f lexer seen s s' opened is abandons read =
     said_then lexer seen s s' (Fails f (part.Whole ∷ [])) _ opened read.text
     (λ x y z starts says. answers_aborted f _ _ (place s y) (place s' z) abandons starts is says)
 
-pub raw_fault : (f : ReadFault) (lexer : Lexer) (seen : Seen) (s s' : State) → Opened lexer seen s → (Abandons f s'.ahead → ⊥) → FailsAt f (part.Whole ∷ []) s s' → Between lexer seen s' (Answers (Err f))
+pub raw_fault : (f : ReadFault) (lexer : Lexer) (seen : Seen) (s s' : State) → Opened lexer seen s → (Abandons f s'.ahead → ⊥) → FailsAt f (part.Whole ∷ []) s s'
+    → Between lexer seen s' (Answers (Err f))
 raw_fault f lexer seen s s' opened other read =
     said_then lexer seen s s' (Fails f (part.Whole ∷ [])) _ opened read.text
     (λ x y z starts says. answers_fault f _ _ (place s y) (place s' z) other starts says)
@@ -308,9 +321,12 @@ pub raw_unlexed : (f : LexFault) (result : Result Front ReadFault) (lexer lexer'
     → Tells seen seen' (λ x y. Answers result (lexer.since - held_count lexer.held) (unread lexer.held x) (unread lexer'.held y))
 raw_unlexed f result lexer lexer' offset seen seen' same said =
     between_as seen.left seen'.left _ _
-    (λ x y h. subst (λ (r : Result Front ReadFault). Answers r (lexer.since - held_count lexer.held) (unread lexer.held x) (unread lexer'.held y)) (sym (same.1 ∙ ap Err same.2)) (answers_lexing f _ offset _ _ h)) said
+    (λ x y h. subst (λ (r : Result Front ReadFault). Answers r (lexer.since - held_count lexer.held) (unread lexer.held x) (unread lexer'.held y)) (sym (same.1 ∙ ap Err same.2))
+    (answers_lexing f _ offset _ _ h)) said
 
 -- it gave another token than `HOA:`
-pub raw_other : (k : ℕ) (lexer : Lexer) (seen : Seen) (s : State) → Opened lexer seen s → k ≡ s.lexer.offset → move part.Whole s.ahead ≡ part.Refuses → Between lexer seen s (Answers (Err (fault.Syntax k)))
+pub raw_other : (k : ℕ) (lexer : Lexer) (seen : Seen) (s : State) → Opened lexer seen s → k ≡ s.lexer.offset → move part.Whole s.ahead ≡ part.Refuses
+    → Between lexer seen s (Answers (Err (fault.Syntax k)))
 raw_other k lexer seen s opened same other =
-    between_as seen.left s.seen.left _ _ (λ x y h. answers_other _ (unread lexer.held x) s.ahead k (unread s.lexer.held y) (subst (λ (n : ℕ). IsNext (unread lexer.held x) (lexer.since - held_count lexer.held) s.ahead n (unread s.lexer.held y)) (sym same) h) other) opened.next
+    between_as seen.left s.seen.left _ _ (λ x y h. answers_other _ (unread lexer.held x) s.ahead k (unread s.lexer.held y)
+    (subst (λ (n : ℕ). IsNext (unread lexer.held x) (lexer.since - held_count lexer.held) s.ahead n (unread s.lexer.held y)) (sym same) h) other) opened.next

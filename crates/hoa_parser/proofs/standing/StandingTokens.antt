@@ -28,7 +28,8 @@ used_later : (start used later all rest last : ℕ) → used ≡ start + (all - 
 used_later start used later all rest last first second outer inner = omega (arith, first, second, outer, inner)
 
 -- from the first token on
-pub stand_before : (start : ℕ) (text : List ℕ) (a b : Cursor) (ts : List Token) → IsNext text start a.token a.offset a.rest → a.used ≡ start + (length text - length a.rest) → Passed a ts b → StandBefore start text ts b
+pub stand_before : (start : ℕ) (text : List ℕ) (a b : Cursor) (ts : List Token) → IsNext text start a.token a.offset a.rest → a.used ≡ start + (length text - length a.rest) → Passed a ts b
+    → StandBefore start text ts b
 stand_before start text a b [] next used passed = record {
   placed = [];
   shown = refl;
@@ -53,7 +54,8 @@ stand_before start text a b (t ∷ ts) next used passed =
       next = later.next;
     }
 
-pub stand_with : (start : ℕ) (text : List ℕ) (a b : Cursor) (ts : List Token) → IsNext text start a.token a.offset a.rest → a.used ≡ start + (length text - length a.rest) → Passed a ts b → StandWith start text ts b
+pub stand_with : (start : ℕ) (text : List ℕ) (a b : Cursor) (ts : List Token) → IsNext text start a.token a.offset a.rest → a.used ≡ start + (length text - length a.rest) → Passed a ts b
+    → StandWith start text ts b
 stand_with start text a b [] next used passed =
     subst (λ (x : Cursor). StandWith start text [] x) passed
     (record {

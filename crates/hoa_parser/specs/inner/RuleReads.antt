@@ -6,7 +6,14 @@ use Rattle.aut_base.specs.Formula.{FormulaTree, formula_tree}
 use Rattle.aut_base.specs.declared.formula.Formula.{Formula}
 use Rattle.hoa_lexer.specs.declared.token.Token.{Token}
 use Rattle.hoa_lexer.specs.declared.token.Token.TheVariants as token
-use Rattle.hoa_parser.specs.Grammar.{AccValue, AutomatonPhrase, AutomatonWithin, ConditionWithin, Conj, FandsWithin, Fatom, FatomWithin, Fatoms, FatomsWithin, ItemPhrase, ItemWithin, LabelWithin, LandsWithin, Lnot, LnotWithin, Lnots, LnotsWithin, OptionalWithin, StateWithin, Value, acc_value_token, all_of, and_number, automaton_meaning, bang_tokens, header_of, condition_meaning, condition_tokens, conj_meaning, conj_tokens, conjunction, disjunction, edge_meaning, edge_tokens, fands_meaning, fands_tokens, fatom_meaning, fatom_tokens, fatoms_meaning, fatoms_tokens, item_meaning, item_tokens, label_meaning, label_tokens, lands_meaning, lands_tokens, lnot_meaning, lnot_tokens, lnots_meaning, lnots_tokens, marks_meaning, one_of, optional_label, optional_marks, optional_text, set_tokens, state_meaning, state_tokens, value_token}
+use Rattle.hoa_parser.specs.Grammar.{AccValue, AutomatonPhrase, AutomatonWithin, ConditionWithin, Conj, FandsWithin, Fatom, FatomWithin, Fatoms}
+use Rattle.hoa_parser.specs.Grammar.{FatomsWithin, ItemPhrase, ItemWithin, LabelWithin, LandsWithin, Lnot, LnotWithin, Lnots, LnotsWithin}
+use Rattle.hoa_parser.specs.Grammar.{OptionalWithin, StateWithin, Value, acc_value_token, all_of, and_number, automaton_meaning, bang_tokens}
+use Rattle.hoa_parser.specs.Grammar.{header_of, condition_meaning, condition_tokens, conj_meaning, conj_tokens, conjunction, disjunction}
+use Rattle.hoa_parser.specs.Grammar.{edge_meaning, edge_tokens, fands_meaning, fands_tokens, fatom_meaning, fatom_tokens, fatoms_meaning}
+use Rattle.hoa_parser.specs.Grammar.{fatoms_tokens, item_meaning, item_tokens, label_meaning, label_tokens, lands_meaning, lands_tokens, lnot_meaning}
+use Rattle.hoa_parser.specs.Grammar.{lnot_tokens, lnots_meaning, lnots_tokens, marks_meaning, one_of, optional_label, optional_marks, optional_text}
+use Rattle.hoa_parser.specs.Grammar.{set_tokens, state_meaning, state_tokens, value_token}
 use Rattle.hoa_parser.specs.inner.Parsing.{IsWritten, Passed, Cursor}
 use Rattle.hoa_parser.specs.Raw as raw
 use Rattle.hoa_parser.specs.Raw.{RawTree, WrittenEdge, WrittenItem, WrittenState, raw_tree, written, written_edge, written_item, written_state}

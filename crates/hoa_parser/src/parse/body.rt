@@ -1,6 +1,6 @@
 //! The states of a body and their edges.
 
-ghost use Rattle.std.specs.Prelude.{◌≡◌, ◌≢◌, ◌∷◌, [], false, OnOk};
+ghost use Rattle.std.specs.Prelude.{◌≡◌, ◌≢◌, ◌∷◌, ◌++◌, [], false, OnOk};
 ghost use Rattle.hoa_lexer.specs.declared.token.Token.{Token};
 ghost use Rattle.hoa_parser.specs.inner.Expecting as part;
 ghost use Rattle.hoa_parser.specs.inner.Expecting.{move};
@@ -12,6 +12,7 @@ use super::lists::{conj, maybe_marks};
 use super::tokens::{advance, closing_bracket, maybe_quoted, number, refused};
 use crate::header::{Header, header_named};
 use crate::{RawEdge, RawEdges, RawLabel, RawState, RawStates, ReadFault};
+use aut_base::Memory;
 use aut_io::Inputs;
 use hoa_lexer::{Lexer, Token};
 use std::alloc::Global;
@@ -115,8 +116,18 @@ fn edges<I: Inputs>(
             _ => return Ok(edges),
         }
         let edge = edge(alloc, lexer, inputs, ahead)?;
-        edges.push(edge)?;
+        push_edge(alloc, &mut edges, edge)?;
     }
+}
+
+/// Adds an edge. The first takes room for itself alone: an edge is large, and in a great automaton most states have one.
+fn push_edge(alloc: Global, edges: &mut RawEdges, edge: RawEdge) -> Result<(), Memory>
+    ensures { OnOk result (edges.new ≡ edges.old ++ edge ∷ []) }
+{
+    if edges.is_empty() {
+        *edges = RawEdges::from_vec(Vec::with_capacity(alloc, 1)?);
+    }
+    edges.push(edge)
 }
 
 /// edge = ("[" label "]")? conj sig?

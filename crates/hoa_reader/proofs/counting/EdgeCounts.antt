@@ -27,7 +27,8 @@ below_count n (s ∷ ss) = cond (nat_lt s.number n) (length s.edges) 0 + below_c
 one_state : (w : Written) (s : WrittenState) → length (tree_edges_of w s) ≡ length s.edges
 one_state w s = length-map (enumerate_from 0 s.edges) (λ (p : ℕ × WrittenEdge). tree_edge_of w s p.0 p.1) ∙ length-enumerate_from 0 s.edges
 
-at_if : (w : Written) (s : WrittenState) (ss : List WrittenState) (b : Bool) (n : ℕ) → length (flat_map (tree_edges_of w) ss) ≡ n → length (flat_map (tree_edges_of w) (cond b (s ∷ ss) ss)) ≡ cond b (length s.edges) 0 + n
+at_if : (w : Written) (s : WrittenState) (ss : List WrittenState) (b : Bool) (n : ℕ) → length (flat_map (tree_edges_of w) ss) ≡ n
+    → length (flat_map (tree_edges_of w) (cond b (s ∷ ss) ss)) ≡ cond b (length s.edges) 0 + n
 at_if w s ss true n e = let first = length-append (tree_edges_of w s) (flat_map (tree_edges_of w) ss) in let own = one_state w s in omega (arith, first, own, e)
 at_if w s ss false n e = omega (arith, e)
 

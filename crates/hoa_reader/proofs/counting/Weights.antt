@@ -26,10 +26,12 @@ tall_cons : (n h c m : ℕ) (b : Bool) → c ≡ cap h → n < 2 ^ 64 - 1 → b 
 tall_cons n h c m b e l f = grind (arith, nat_tests)
 
 -- labels are taller than a number where the tallest is
-pub tall_law : (ms : List Meaning) (defs : List AliasDef) (known : Places Known) → AreKnown ms defs known → (ts : List RawTree) → are_tall known ts ≡ nat_lt MOST_ALIASES (greatest (map (λ t. height (expanded ms t)) ts))
+pub tall_law : (ms : List Meaning) (defs : List AliasDef) (known : Places Known) → AreKnown ms defs known → (ts : List RawTree)
+    → are_tall known ts ≡ nat_lt MOST_ALIASES (greatest (map (λ t. height (expanded ms t)) ts))
 tall_law ms defs known all [] = refl
 tall_law ms defs known all (t ∷ ts) =
-    tall_cons MOST_ALIASES (height (expanded ms t)) (capped_height (heights_in known) t) (greatest (map (λ t. height (expanded ms t)) ts)) (are_tall known ts) (known_heights ms defs known all t) (omega arith) (tall_law ms defs known all ts)
+    tall_cons MOST_ALIASES (height (expanded ms t)) (capped_height (heights_in known) t) (greatest (map (λ t. height (expanded ms t)) ts)) (are_tall known ts)
+    (known_heights ms defs known all t) (omega arith) (tall_law ms defs known all ts)
 
 -- the weights of edges, as they are counted
 abbrev pub own_weighed : List Meaning → RawTree → ℕ
@@ -42,7 +44,8 @@ own_law : (b : Bool) (c n : ℕ) → c ≡ cap n → cond b c 0 ≡ cap (cond b 
 own_law true c n e = e
 own_law false c n e = omega arith
 
-edge_law : (ms : List Meaning) (defs : List AliasDef) (known : Places Known) → AreKnown ms defs known → (o p : Option RawTree) → option_map_or (capped_size (sizes_in known)) o (option_map_or (own_counted known) p 0) ≡ cap (option_map_or (λ t. label_size (expanded ms t)) o (option_map_or (own_weighed ms) p 0))
+edge_law : (ms : List Meaning) (defs : List AliasDef) (known : Places Known) → AreKnown ms defs known → (o p : Option RawTree)
+    → option_map_or (capped_size (sizes_in known)) o (option_map_or (own_counted known) p 0) ≡ cap (option_map_or (λ t. label_size (expanded ms t)) o (option_map_or (own_weighed ms) p 0))
 edge_law ms defs known all None None = omega arith
 edge_law ms defs known all None (Some t) = own_law (holds_alias t) (capped_size (sizes_in known) t) (label_size (expanded ms t)) (known_sizes ms defs known all t)
 edge_law ms defs known all (Some t) p = known_sizes ms defs known all t
@@ -51,11 +54,13 @@ sum_law : {X : Type 0} (f g : X → ℕ) → ((x : X) → cap (f x) ≡ cap (g x
 sum_law f g h [] = refl
 sum_law f g h (x ∷ xs) = let here = h x in let rest = sum_law f g h xs in let first = sum_by-cons f x xs in let second = sum_by-cons g x xs in omega (arith, here, rest, first, second)
 
-pub weight_law : (ms : List Meaning) (defs : List AliasDef) (known : Places Known) → AreKnown ms defs known → (states : List WrittenState) → cap (counted known states) ≡ cap (sum_by (λ (s : WrittenState). sum_by (edge_weighed ms s) s.edges) states)
+pub weight_law : (ms : List Meaning) (defs : List AliasDef) (known : Places Known) → AreKnown ms defs known → (states : List WrittenState)
+    → cap (counted known states) ≡ cap (sum_by (λ (s : WrittenState). sum_by (edge_weighed ms s) s.edges) states)
 weight_law ms defs known all states =
     sum_law (state_counted known) (λ (s : WrittenState). sum_by (edge_weighed ms s) s.edges)
     (λ s. sum_law (edge_counted known s) (edge_weighed ms s) (λ e. let law = edge_law ms defs known all s.label e.label in omega (arith, law)) s.edges) states
 
 -- the limit of both
-pub either_passes : (tallest weight counts : ℕ) (tall heavy : Bool) → tall ≡ nat_lt MOST_ALIASES tallest → heavy ≡ nat_lt 16785407 counts → cap counts ≡ cap weight → (tall || heavy) ≡ nat_lt MOST_ALIASES (max tallest (weight / 8192))
+pub either_passes : (tallest weight counts : ℕ) (tall heavy : Bool) → tall ≡ nat_lt MOST_ALIASES tallest → heavy ≡ nat_lt 16785407 counts → cap counts ≡ cap weight
+    → (tall || heavy) ≡ nat_lt MOST_ALIASES (max tallest (weight / 8192))
 either_passes tallest weight counts tall heavy t h same = grind (arith, nat_tests)

@@ -37,7 +37,8 @@ mutual
 abbrev pub MeansBelow : ℕ → Meaning → Type 0
 MeansBelow n m = AllBelow n m.label
 
-first_below : (n : ℕ) (m : Meaning) (ms : List Meaning) (name : List ℕ) (b : Bool) → AllBelow n m.label → AllBelow n (meaning_of ms name) → AllBelow n (option_map_or (λ (m : Meaning). m.label) (cond b (Some m) (find (λ (m : Meaning). same_text m.name name) ms)) label.False)
+first_below : (n : ℕ) (m : Meaning) (ms : List Meaning) (name : List ℕ) (b : Bool) → AllBelow n m.label → AllBelow n (meaning_of ms name)
+    → AllBelow n (option_map_or (λ (m : Meaning). m.label) (cond b (Some m) (find (λ (m : Meaning). same_text m.name name) ms)) label.False)
 first_below n m ms name true here there = here
 first_below n m ms name false here there = there
 
@@ -66,7 +67,8 @@ mutual
       let parts = and_parts _ _ e in (expanded_below n ms t all parts.0, each_expanded_below n ms ts all parts.1)
 
 -- the aliases of all lines
-pub meanings_below : (n : ℕ) (ms : List Meaning) (lines : List AliasLine) → AllByRecursion (MeansBelow n) ms → list_all (λ (l : AliasLine). props_below n l.label) lines ≡ true → AllByRecursion (MeansBelow n) (meanings_after ms lines)
+pub meanings_below : (n : ℕ) (ms : List Meaning) (lines : List AliasLine) → AllByRecursion (MeansBelow n) ms → list_all (λ (l : AliasLine). props_below n l.label) lines ≡ true
+    → AllByRecursion (MeansBelow n) (meanings_after ms lines)
 meanings_below n ms [] all e = all
 meanings_below n ms (line ∷ lines) all e =
     let parts = and_parts _ _ e in

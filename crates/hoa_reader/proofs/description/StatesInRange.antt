@@ -10,7 +10,8 @@ use Rattle.aut_base.specs.Automaton.{TreeEdge}
 use Rattle.hoa_reader.proofs.description.LabelsInRange.{numbers_are_below}
 use Rattle.hoa_reader.specs.Described.{after_all, tree_edge_of, tree_edges_from, tree_edges_of, below, edges_of, state_count, without_repeats}
 use Rattle.hoa_parser.specs.Raw.{Written, WrittenEdge, WrittenState}
-use Rattle.aut_base.proofs.AllByRecursion.{AllByRecursion-of_each, AllByRecursion-append, AllByRecursion-filter, AllByRecursion-filter_passes, AllByRecursion-flat_map, AllByRecursion-map, AllByRecursion-weaker}
+use Rattle.aut_base.proofs.AllByRecursion.{AllByRecursion-of_each, AllByRecursion-append, AllByRecursion-filter, AllByRecursion-filter_passes}
+use Rattle.aut_base.proofs.AllByRecursion.{AllByRecursion-flat_map, AllByRecursion-map, AllByRecursion-weaker}
 use Rattle.aut_base.proofs.Numbers.{other_number}
 use Rattle.std.proofs.lemmas.List.Elements.{All-from_recursion}
 
@@ -44,7 +45,8 @@ ascends_append n [] [] a less same = tt
 ascends_append n [] (e ∷ es) a less same =
     (AllByRecursion-weaker (λ (f : TreeEdge). f.from ≡ n) (λ (f : TreeEdge). e.from ≤ f.from) es (λ f h. omega (arith, h, same.0)) same.1, ascends_append n [] es tt tt same.1)
 ascends_append n (d ∷ ds) es a less same =
-    let later : AllByRecursion (λ (f : TreeEdge). d.from ≤ f.from) es = AllByRecursion-weaker (λ (f : TreeEdge). f.from ≡ n) (λ (f : TreeEdge). d.from ≤ f.from) es (λ f h. omega (arith, h, less.0)) same in
+    let later : AllByRecursion (λ (f : TreeEdge). d.from ≤ f.from) es = AllByRecursion-weaker (λ (f : TreeEdge). f.from ≡ n) (λ (f : TreeEdge). d.from ≤ f.from) es
+    (λ f h. omega (arith, h, less.0)) same in
     (AllByRecursion-append (λ (f : TreeEdge). d.from ≤ f.from) ds es a.0 later, ascends_append n ds es a.1 less.1 same)
 
 ascending : (es : List TreeEdge) → Ascends es → AllPairs (λ p q. p ≤ q) (map (λ (e : TreeEdge). e.from) es)
@@ -54,14 +56,16 @@ ascending (e ∷ es) a =
     (All-from_recursion (λ q. e.from ≤ q) (map (λ (f : TreeEdge). f.from) es) (AllByRecursion-map (λ q. e.from ≤ q) (λ (f : TreeEdge). f.from) es a.0)) (ascending es a.1)
 
 leave : (w : Written) (s : WrittenState) → AllByRecursion (λ (e : TreeEdge). e.from ≡ s.number) (tree_edges_of w s)
-leave w s = AllByRecursion-map (λ (e : TreeEdge). e.from ≡ s.number) (λ (p : ℕ × WrittenEdge). tree_edge_of w s p.0 p.1) (enumerate_from 0 s.edges) (AllByRecursion-of_each _ (enumerate_from 0 s.edges) (λ p. refl))
+leave w s = AllByRecursion-map (λ (e : TreeEdge). e.from ≡ s.number) (λ (p : ℕ × WrittenEdge). tree_edge_of w s p.0 p.1) (enumerate_from 0 s.edges)
+    (AllByRecursion-of_each _ (enumerate_from 0 s.edges) (λ p. refl))
 
 leave_one : (w : Written) (q : ℕ) → AllByRecursion (λ (e : TreeEdge). e.from ≡ q) (tree_edges_from w q)
 leave_one w q =
     let ours : WrittenState → Bool = λ s. s.number == q in
     AllByRecursion-flat_map (λ (e : TreeEdge). e.from ≡ q) (tree_edges_of w) (filter ours w.states)
     (AllByRecursion-weaker (λ s. ours s ≡ true) (λ s. AllByRecursion (λ (e : TreeEdge). e.from ≡ q) (tree_edges_of w s)) (filter ours w.states)
-    (λ s h. AllByRecursion-weaker (λ (e : TreeEdge). e.from ≡ s.number) (λ (e : TreeEdge). e.from ≡ q) (tree_edges_of w s) (λ e i. i ∙ eqb-true s.number q h) (leave w s)) (AllByRecursion-filter_passes ours w.states))
+    (λ s h. AllByRecursion-weaker (λ (e : TreeEdge). e.from ≡ s.number) (λ (e : TreeEdge). e.from ≡ q) (tree_edges_of w s) (λ e i. i ∙ eqb-true s.number q h) (leave w s))
+    (AllByRecursion-filter_passes ours w.states))
 
 pub edges_leave_below : (w : Written) (n : ℕ) → AllByRecursion (λ (e : TreeEdge). e.from < n) (flat_map (tree_edges_from w) (below n))
 edges_leave_below w n =

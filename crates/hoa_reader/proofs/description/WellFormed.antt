@@ -15,9 +15,12 @@ use Rattle.hoa_reader.proofs.description.LabelsInRange.{MeansBelow, expanded_bel
 use Rattle.hoa_reader.proofs.description.StatesInRange.{all_used_below, all_without_repeats, edges_in_order, they_differ}
 use Rattle.hoa_reader.specs.Described.{Meaning, after_all, tree_edge_of, tree_edges_from, tree_edges_of, below, described, edges_of, expanded, meanings_of, only_state, state_count}
 use Rattle.hoa_parser.specs.Raw.{RawTree, Written, WrittenEdge, WrittenState}
-use Rattle.hoa_reader.specs.Validity.{IsKept, IsValid, acceptance_of, alias_lines, body_labels, edges_written, is_one_state, names_of, numbers_below, props_below, starts_written, state_labels, states_item, used_states}
+use Rattle.hoa_reader.specs.Validity.{IsKept, IsValid, acceptance_of, alias_lines, body_labels, edges_written, is_one_state, names_of, numbers_below}
+use Rattle.hoa_reader.specs.Validity.{props_below, starts_written, state_labels, states_item, used_states}
 use Rattle.hoa_reader.specs.declared.elaborate.Rule.TheVariants.{V4, V5, V6, V8, V9}
-use Rattle.aut_base.proofs.AllByRecursion.{AllByRecursion-left, AllByRecursion-right, AllByRecursion-both, AllByRecursion-enumerate_from, AllByRecursion-from_flat_map, AllByRecursion-from_map, AllByRecursion-from_list_all, AllByRecursion-map, AllByRecursion-weaker, AllByRecursion-filter, AllByRecursion-flat_map, AllByRecursion-of_each}
+use Rattle.aut_base.proofs.AllByRecursion.{AllByRecursion-left, AllByRecursion-right, AllByRecursion-both, AllByRecursion-enumerate_from}
+use Rattle.aut_base.proofs.AllByRecursion.{AllByRecursion-from_flat_map, AllByRecursion-from_map, AllByRecursion-from_list_all, AllByRecursion-map}
+use Rattle.aut_base.proofs.AllByRecursion.{AllByRecursion-weaker, AllByRecursion-filter, AllByRecursion-flat_map, AllByRecursion-of_each}
 
 -- the numbers of states are below the number of states
 abbrev pub AreBelow : ℕ → List ℕ → Type 0
@@ -32,7 +35,8 @@ one_below n [] h = absurd (false≢true h.0)
 one_below n (q ∷ qs) h = h.1.0
 
 -- a label that stands there or not, before another
-optional_below : (n : ℕ) (ms : List Meaning) (o : Option RawTree) (other : LabelTree) → AllByRecursion (MeansBelow n) ms → AllByRecursion (λ t. props_below n t ≡ true) (option_to_list o) → AllBelow n other → AllBelow n (option_map_or (expanded ms) o other)
+optional_below : (n : ℕ) (ms : List Meaning) (o : Option RawTree) (other : LabelTree) → AllByRecursion (MeansBelow n) ms → AllByRecursion (λ t. props_below n t ≡ true) (option_to_list o)
+    → AllBelow n other → AllBelow n (option_map_or (expanded ms) o other)
 optional_below n ms None other all h there = there
 optional_below n ms (Some t) other all h there = expanded_below n ms t all h.0
 
@@ -62,7 +66,8 @@ below_rises zero = λ i j d l m. absurd (omega (arith, m))
 below_rises (suc n) =
     all_pairs_push (λ x y. x < y) (below n) n (below_rises n) (λ k d l. All-from_recursion (λ q. q < n) (below n) (numbers_are_below n) k d l)
 
-tree_edge_good : (w : Written) (s : WrittenState) (i : ℕ) (e : WrittenEdge) → AllByRecursion (MeansBelow (length (names_of w))) (meanings_of w) → (s.number < state_count w) → Labels (length (names_of w)) (option_to_list s.label) → IsGoodEdge (state_count w) (length (names_of w)) e → IsEdgeOf (described w) (tree_edge_of w s i e)
+tree_edge_good : (w : Written) (s : WrittenState) (i : ℕ) (e : WrittenEdge) → AllByRecursion (MeansBelow (length (names_of w))) (meanings_of w) → (s.number < state_count w)
+    → Labels (length (names_of w)) (option_to_list s.label) → IsGoodEdge (state_count w) (length (names_of w)) e → IsEdgeOf (described w) (tree_edge_of w s i e)
 tree_edge_good w s i e means number labels good =
     let k = length (names_of w) in
     let sets = (acceptance_of w).sets in
@@ -75,14 +80,16 @@ tree_edge_good w s i e means number labels good =
       marks_rise = AllPairs-filter (λ m n. m < n) ours (below sets) (below_rises sets);
     }
 
-tree_edges_good : (w : Written) → AllByRecursion (MeansBelow (length (names_of w))) (meanings_of w) → (s : WrittenState) → IsGoodState (state_count w) (length (names_of w)) s → AllByRecursion (IsEdgeOf (described w)) (tree_edges_of w s)
+tree_edges_good : (w : Written) → AllByRecursion (MeansBelow (length (names_of w))) (meanings_of w) → (s : WrittenState) → IsGoodState (state_count w) (length (names_of w)) s
+    → AllByRecursion (IsEdgeOf (described w)) (tree_edges_of w s)
 tree_edges_good w means s good =
     let P : WrittenEdge → Type 0 = IsGoodEdge (state_count w) (length (names_of w)) in
     AllByRecursion-map (IsEdgeOf (described w)) (λ (p : ℕ × WrittenEdge). tree_edge_of w s p.0 p.1) (enumerate_from 0 s.edges)
     (AllByRecursion-weaker (λ (p : ℕ × WrittenEdge). P p.1) (λ (p : ℕ × WrittenEdge). IsEdgeOf (described w) (tree_edge_of w s p.0 p.1)) (enumerate_from 0 s.edges)
     (λ p h. tree_edge_good w s p.0 p.1 means good.0 good.1 h) (AllByRecursion-enumerate_from P 0 s.edges good.2))
 
-edges_good : (w : Written) → AllByRecursion (MeansBelow (length (names_of w))) (meanings_of w) → AllByRecursion (IsGoodState (state_count w) (length (names_of w))) w.states → All (IsEdgeOf (described w)) (edges_of w)
+edges_good : (w : Written) → AllByRecursion (MeansBelow (length (names_of w))) (meanings_of w) → AllByRecursion (IsGoodState (state_count w) (length (names_of w))) w.states
+    → All (IsEdgeOf (described w)) (edges_of w)
 edges_good w means good =
     let n = state_count w in
     let P : TreeEdge → Type 0 = IsEdgeOf (described w) in
@@ -93,11 +100,13 @@ edges_good w means good =
     (AllByRecursion-filter (IsGoodState n (length (names_of w))) ours w.states good)))))
 
 -- the groups of states that are one state each
-groups_below : (n : ℕ) {X : Type 0} (group : X → List ℕ) (xs : List X) → list_all (λ x. is_one_state (group x)) xs ≡ true → AreBelow n (flat_map group xs) → AllByRecursion (λ x. only_state (group x) < n) xs
+groups_below : (n : ℕ) {X : Type 0} (group : X → List ℕ) (xs : List X) → list_all (λ x. is_one_state (group x)) xs ≡ true → AreBelow n (flat_map group xs)
+    → AllByRecursion (λ x. only_state (group x) < n) xs
 groups_below n group xs ones used =
     let P : ℕ → Type 0 = λ q. q < n in
     AllByRecursion-weaker (λ x. (is_one_state (group x) ≡ true) × AreBelow n (group x)) (λ x. only_state (group x) < n) xs (λ x h. one_below n (group x) h)
-    (AllByRecursion-both (λ x. is_one_state (group x) ≡ true) (λ x. AreBelow n (group x)) xs (AllByRecursion-from_list_all (λ x. is_one_state (group x)) xs ones) (AllByRecursion-from_flat_map P group xs used))
+    (AllByRecursion-both (λ x. is_one_state (group x) ≡ true) (λ x. AreBelow n (group x)) xs (AllByRecursion-from_list_all (λ x. is_one_state (group x)) xs ones)
+    (AllByRecursion-from_flat_map P group xs used))
 
 pub well_formed : (w : Written) → IsKept V4 w → IsKept V5 w → IsKept V6 w → IsKept V8 w → IsKept V9 w → IsWellFormed (described w)
 well_formed w counted one states props sets =

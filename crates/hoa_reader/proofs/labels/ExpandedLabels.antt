@@ -39,7 +39,8 @@ pub parts_expanded : (ms : List Meaning) (ps : List RawLabel) → each_expanded 
 parts_expanded ms [] = refl
 parts_expanded ms (p ∷ ps) = ap (LabelTrees.more (expanded ms (raw_tree p))) (parts_expanded ms ps)
 
-pub part_size : (ms : List Meaning) (ps : List RawLabel) (i : ℕ) (p : RawLabel) → i < length ps → p ≡ get_or ps i p → label_size (expanded ms (raw_tree p)) ≤ labels_size (each_expanded ms (raw_trees (map raw_tree ps)))
+pub part_size : (ms : List Meaning) (ps : List RawLabel) (i : ℕ) (p : RawLabel) → i < length ps → p ≡ get_or ps i p
+    → label_size (expanded ms (raw_tree p)) ≤ labels_size (each_expanded ms (raw_trees (map raw_tree ps)))
 part_size ms [] i p l is = absurd (omega (arith, l))
 part_size ms (q ∷ ps) zero p l is = let same : label_size (expanded ms (raw_tree p)) ≡ label_size (expanded ms (raw_tree q)) = ap (λ x. label_size (expanded ms (raw_tree x))) is in omega (arith, same)
 part_size ms (q ∷ ps) (suc i) p l is = let rest = part_size ms ps i p (omega (arith, l)) is in omega (arith, rest)

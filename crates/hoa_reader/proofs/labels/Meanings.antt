@@ -12,7 +12,8 @@ use Rattle.aut_base.specs.Label as label
 use Rattle.aut_base.specs.Label.{LabelTree, LabelTrees, label_size, labels_size}
 use Rattle.hoa_reader.specs.Counts.{greatest_height, height}
 use Rattle.hoa_reader.specs.Described.{Meaning, each_expanded, expanded, meaning_of, meanings_after}
-use Rattle.hoa_reader.specs.inner.Growing.{AreKnown, IsKnownAs, IsKnownBy, alias_name, cap, capped_height, capped_heights, capped_size, capped_sizes, known_height, known_size, meaning_names, meanings_by}
+use Rattle.hoa_reader.specs.inner.Growing.{AreKnown, IsKnownAs, IsKnownBy, alias_name, cap, capped_height, capped_heights, capped_size, capped_sizes}
+use Rattle.hoa_reader.specs.inner.Growing.{known_height, known_size, meaning_names, meanings_by}
 use Rattle.hoa_reader.specs.inner.Pieces.{alias_def, line_names}
 use Rattle.hoa_reader.specs.inner.Places.{place_in}
 use Rattle.hoa_parser.specs.Raw as raw
@@ -80,11 +81,13 @@ mutual
   expanded_push ms m (raw.And a b cs) e =
       let first = and_parts _ _ e in let second = and_parts _ _ first.1 in
       let p = expanded_push ms m a first.0 in let q = expanded_push ms m b second.0 in let r = each_expanded_push ms m cs second.1 in
-      ap (λ x. label.And x (expanded (ms ++ m ∷ []) b) (each_expanded (ms ++ m ∷ []) cs)) p ∙ ap (λ x. label.And (expanded ms a) x (each_expanded (ms ++ m ∷ []) cs)) q ∙ ap (λ x. label.And (expanded ms a) (expanded ms b) x) r
+      ap (λ x. label.And x (expanded (ms ++ m ∷ []) b) (each_expanded (ms ++ m ∷ []) cs)) p ∙ ap (λ x. label.And (expanded ms a) x (each_expanded (ms ++ m ∷ []) cs)) q
+      ∙ ap (λ x. label.And (expanded ms a) (expanded ms b) x) r
   expanded_push ms m (raw.Or a b cs) e =
       let first = and_parts _ _ e in let second = and_parts _ _ first.1 in
       let p = expanded_push ms m a first.0 in let q = expanded_push ms m b second.0 in let r = each_expanded_push ms m cs second.1 in
-      ap (λ x. label.Or x (expanded (ms ++ m ∷ []) b) (each_expanded (ms ++ m ∷ []) cs)) p ∙ ap (λ x. label.Or (expanded ms a) x (each_expanded (ms ++ m ∷ []) cs)) q ∙ ap (λ x. label.Or (expanded ms a) (expanded ms b) x) r
+      ap (λ x. label.Or x (expanded (ms ++ m ∷ []) b) (each_expanded (ms ++ m ∷ []) cs)) p ∙ ap (λ x. label.Or (expanded ms a) x (each_expanded (ms ++ m ∷ []) cs)) q
+      ∙ ap (λ x. label.Or (expanded ms a) (expanded ms b) x) r
 
   each_expanded_push : (ms : List Meaning) (m : Meaning) (ts : RawTrees) → all_leaves_pass (λ i. true) (is_listed (meaning_names ms)) ts ≡ true → each_expanded (ms ++ m ∷ []) ts ≡ each_expanded ms ts
   each_expanded_push ms m raw.none e = refl
@@ -136,7 +139,8 @@ kept_known ms m defs q (Some k) s h =
       known = subst M (sym (meaning_push_old ms m q h.listed)) (known_more ms m defs (meaning_of ms q) k h.known);
     }
 
-new_known : (ms : List Meaning) (m : Meaning) (defs : List AliasDef) (q : List ℕ) (k : Known) → same_text m.name q ≡ true → is_listed (meaning_names ms) m.name ≡ false → IsKnownAs ms defs m.label k → IsKnownBy (ms ++ m ∷ []) defs q (Some k)
+new_known : (ms : List Meaning) (m : Meaning) (defs : List AliasDef) (q : List ℕ) (k : Known) → same_text m.name q ≡ true → is_listed (meaning_names ms) m.name ≡ false
+    → IsKnownAs ms defs m.label k → IsKnownBy (ms ++ m ∷ []) defs q (Some k)
 new_known ms m defs q k s away h =
     let M : LabelTree → Type 0 = λ t. IsKnownAs (ms ++ m ∷ []) defs t k in
     let gone : is_listed (meaning_names ms) q ≡ false = ap (is_listed (meaning_names ms)) (sym ((same_texts m.name q).0 s)) ∙ away in
@@ -145,12 +149,14 @@ new_known ms m defs q k s away h =
       known = subst M (sym (meaning_push_new ms m q gone s)) (known_more ms m defs m.label k h);
     }
 
-one_known : (ms : List Meaning) (m : Meaning) (defs : List AliasDef) (q : List ℕ) (k : Known) (o : Option Known) (b : Bool) → same_text m.name q ≡ b → is_listed (meaning_names ms) m.name ≡ false → IsKnownAs ms defs m.label k → IsKnownBy ms defs q o → IsKnownBy (ms ++ m ∷ []) defs q (cond b (Some k) o)
+one_known : (ms : List Meaning) (m : Meaning) (defs : List AliasDef) (q : List ℕ) (k : Known) (o : Option Known) (b : Bool) → same_text m.name q ≡ b
+    → is_listed (meaning_names ms) m.name ≡ false → IsKnownAs ms defs m.label k → IsKnownBy ms defs q o → IsKnownBy (ms ++ m ∷ []) defs q (cond b (Some k) o)
 one_known ms m defs q k o true s away h before = new_known ms m defs q k s away h
 one_known ms m defs q k o false s away h before = kept_known ms m defs q o s before
 
 -- one more alias is known
-pub known_push : (ms : List Meaning) (m : Meaning) (defs : List AliasDef) (old new : Places Known) (k : Known) → AreKnown ms defs old → is_listed (meaning_names ms) m.name ≡ false → IsKnownAs ms defs m.label k → ((q : List ℕ) → place_in new q ≡ update same_text (place_in old) m.name (Some k) q) → AreKnown (ms ++ m ∷ []) defs new
+pub known_push : (ms : List Meaning) (m : Meaning) (defs : List AliasDef) (old new : Places Known) (k : Known) → AreKnown ms defs old → is_listed (meaning_names ms) m.name ≡ false
+    → IsKnownAs ms defs m.label k → ((q : List ℕ) → place_in new q ≡ update same_text (place_in old) m.name (Some k) q) → AreKnown (ms ++ m ∷ []) defs new
 known_push ms m defs old new k before away h changed = λ q.
     let P : Option Known → Type 0 = λ o. IsKnownBy (ms ++ m ∷ []) defs q o in
     subst P (sym (changed q)) (one_known ms m defs q k (place_in old q) (same_text m.name q) refl away h (before q))
@@ -200,10 +206,12 @@ mutual
   sizes_law ms g h raw.none = refl
   sizes_law ms g h (raw.more t ts) = let p = size_law ms g h t in let q = sizes_law ms g h ts in omega (arith, p, q)
 
-pub known_heights : (ms : List Meaning) (defs : List AliasDef) (known : Places Known) → AreKnown ms defs known → (t : RawTree) → capped_height (λ q. known_height (place_in known q)) t ≡ cap (height (expanded ms t))
+pub known_heights : (ms : List Meaning) (defs : List AliasDef) (known : Places Known) → AreKnown ms defs known → (t : RawTree)
+    → capped_height (λ q. known_height (place_in known q)) t ≡ cap (height (expanded ms t))
 known_heights ms defs known all = height_law ms (λ q. known_height (place_in known q)) (λ q. height_by ms defs q (place_in known q) (all q))
 
-pub known_sizes : (ms : List Meaning) (defs : List AliasDef) (known : Places Known) → AreKnown ms defs known → (t : RawTree) → capped_size (λ q. known_size (place_in known q)) t ≡ cap (label_size (expanded ms t))
+pub known_sizes : (ms : List Meaning) (defs : List AliasDef) (known : Places Known) → AreKnown ms defs known → (t : RawTree)
+    → capped_size (λ q. known_size (place_in known q)) t ≡ cap (label_size (expanded ms t))
 known_sizes ms defs known all = size_law ms (λ q. known_size (place_in known q)) (λ q. size_by ms defs q (place_in known q) (all q))
 
 -- a label that is an alias

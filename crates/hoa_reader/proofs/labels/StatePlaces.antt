@@ -1,5 +1,6 @@
 -- Where states are defined, state by state.
-use Rattle.std.proofs.Common.{◌≡◌, ◌≢◌, ◌==◌, ◌<◌, ◌+◌, ℕ, zero, suc, Bool, true, false, cond, ◌||◌, List, [], ◌∷◌, ◌++◌, length, get_or, set, map, slice_get, Option, Some, None, refl, sym, ap, ◌∙◌, arith, subst}
+use Rattle.std.proofs.Common.{◌≡◌, ◌≢◌, ◌==◌, ◌<◌, ◌+◌, ℕ, zero, suc, Bool, true, false, cond, ◌||◌, List, [], ◌∷◌, ◌++◌, length, get_or, set, map}
+use Rattle.std.proofs.Common.{slice_get, Option, Some, None, refl, sym, ap, ◌∙◌, arith, subst}
 use Rattle.std.proofs.lemmas.Bool.{false≢true, eqb-true}
 use Rattle.std.proofs.lemmas.Bool.Decides.{Decides-eqb}
 use Rattle.std.proofs.lemmas.Grind.{flat_map-append}
@@ -36,7 +37,8 @@ kept_at ws w q (Some p) e h = record {
   alone = states_at-push ws w q ∙ ap (λ (t : Bool). states_at ws q ++ cond t (w ∷ []) []) e ∙ append-nil (states_at ws q) ∙ h.alone;
 }
 
-at_one : (ws : List WrittenState) (w : WrittenState) (index : List (Option ℕ)) (i q : ℕ) (b : Bool) → (w.number == q) ≡ b → q < length index → length ws ≡ i → list_any (λ x. x == w.number) (numbers ws) ≡ false → IsPlace ws q (get_or index q None) → IsPlace (ws ++ w ∷ []) q (get_or (set index w.number (Some i)) q None)
+at_one : (ws : List WrittenState) (w : WrittenState) (index : List (Option ℕ)) (i q : ℕ) (b : Bool) → (w.number == q) ≡ b → q < length index → length ws ≡ i
+    → list_any (λ x. x == w.number) (numbers ws) ≡ false → IsPlace ws q (get_or index q None) → IsPlace (ws ++ w ∷ []) q (get_or (set index w.number (Some i)) q None)
 at_one ws w index i q true e l long away h =
     let same : w.number ≡ q = eqb-true w.number q e in
     let P : Option ℕ → Type 0 = λ o. IsPlace (ws ++ w ∷ []) q o in
@@ -54,7 +56,9 @@ at_one ws w index i q false e l long away h =
     subst P (sym (get_or-set_other index w.number q (Some i) None other)) (kept_at ws w q (get_or index q None) e h)
 
 -- one more state stands at its number
-pub index_more : (ws : List WrittenState) (w : WrittenState) (index : List (Option ℕ)) (i count : ℕ) → length index ≡ count → length ws ≡ i → list_any (λ x. x == w.number) (numbers ws) ≡ false → ((q : ℕ) → q < count → IsPlace ws q (get_or index q None)) → (q : ℕ) → q < count → IsPlace (ws ++ w ∷ []) q (get_or (set index w.number (Some i)) q None)
+pub index_more : (ws : List WrittenState) (w : WrittenState) (index : List (Option ℕ)) (i count : ℕ) → length index ≡ count → length ws ≡ i
+    → list_any (λ x. x == w.number) (numbers ws) ≡ false → ((q : ℕ) → q < count → IsPlace ws q (get_or index q None)) → (q : ℕ) → q < count
+    → IsPlace (ws ++ w ∷ []) q (get_or (set index w.number (Some i)) q None)
 index_more ws w index i count len long away h q l = at_one ws w index i q (w.number == q) refl (omega (arith, len, l)) long away (h q l)
 
 pub below_more : (n : ℕ) → below (n + 1) ≡ below n ++ n ∷ []

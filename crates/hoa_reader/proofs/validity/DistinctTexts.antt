@@ -14,14 +14,16 @@ same_texts : (a b : List ℕ) → Decides (pointwise eqb a b) (a ≡ b)
 same_texts a b = slice_eq-Decides Decides-eqb a b (pointwise eqb a b) refl
 
 -- a text that stands before as well
-pub repeats : (xs : List (List ℕ)) (i : ℕ) (x : List ℕ) → i < length xs → x ≡ get_or xs i x → ((k : ℕ) × (k < length (take i xs)) × HoldsAt (λ y. pointwise eqb y x ≡ true) (take i xs) k) → AllPairs (λ a b. a ≢ b) xs → ⊥
+pub repeats : (xs : List (List ℕ)) (i : ℕ) (x : List ℕ) → i < length xs → x ≡ get_or xs i x → ((k : ℕ) × (k < length (take i xs)) × HoldsAt (λ y. pointwise eqb y x ≡ true) (take i xs) k)
+    → AllPairs (λ a b. a ≢ b) xs → ⊥
 repeats xs i x l is found all =
     let before : found.0 < i = omega (arith, found.1, length-take i xs) in
     let same : get_or (take i xs) found.0 x ≡ x = (same_texts (get_or (take i xs) found.0 x) x).0 (found.2 x) in
     all found.0 i x before l (sym (get_or-take i xs found.0 x before) ∙ same ∙ is)
 
 -- one more text that does not stand before
-pub differs : (xs : List (List ℕ)) (i : ℕ) (x : List ℕ) → i < length xs → x ≡ get_or xs i x → AllWithin (λ y. pointwise eqb y x ≡ false) (take i xs) 0 (length (take i xs)) → AllPairs (λ a b. a ≢ b) (take i xs) → AllPairs (λ a b. a ≢ b) (take (i + 1) xs)
+pub differs : (xs : List (List ℕ)) (i : ℕ) (x : List ℕ) → i < length xs → x ≡ get_or xs i x → AllWithin (λ y. pointwise eqb y x ≡ false) (take i xs) 0 (length (take i xs))
+    → AllPairs (λ a b. a ≢ b) (take i xs) → AllPairs (λ a b. a ≢ b) (take (i + 1) xs)
 differs xs i x l is other all =
     let P : List (List ℕ) → Type 0 = λ ys. AllPairs (λ a b. a ≢ b) ys in
     let new : (k : ℕ) (d : List ℕ) → k < length (take i xs) → get_or (take i xs) k d ≢ x =

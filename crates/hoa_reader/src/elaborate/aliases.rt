@@ -32,6 +32,7 @@ pub(crate) struct Growth {
     pub(crate) size: u64,
 }
 
+// Why so: 'How far labels would grow is found without growing them' in docs/DECISIONS.md.
 /// How tall and how large the label is once its aliases are replaced.
 #[cycle(growth)]
 #[tactic(auto, using(hoa_parser::proofs::grammar::RawTrees::raw_tree_rules))]

@@ -93,6 +93,7 @@ fn left_after<'a>(state: &'a RawState, known: &Places<'a, Known>, most: u64) -> 
     Some(left)
 }
 
+// Why so: 'The label of a state weighs once for each edge' in docs/DECISIONS.md.
 /// Whether the edges of these states count more than this.
 pub(crate) fn are_heavy<'a>(states: &'a [RawState], known: &Places<'a, Known>, most: u64) -> bool
     ensures { result ≡ nat_lt most (counted known.now (map written_state states.now)) }

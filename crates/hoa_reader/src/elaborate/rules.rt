@@ -156,6 +156,7 @@ fn none_repeats(alloc: Global, states: &[RawState]) -> Result<bool, Memory>
     Ok(true)
 }
 
+// Why so: 'Numbers that rise are looked at first' in docs/DECISIONS.md.
 /// Whether all of these differ. Numbers that rise do, which takes no set to see.
 pub(crate) fn numbers_differ(alloc: Global, states: &[RawState]) -> Result<bool, Memory>
     ensures { IfOk result (λ differ. differ ≡ all_differ ◌==◌ (numbers (map written_state states.now))) }
@@ -327,6 +328,7 @@ fn has_edges_for_letters(state: &RawState, names: usize) -> bool
             || !(state.label.is_none() && none_labelled(state.edges.as_slice())))
 }
 
+// Why so: 'V12 compares with the true 2^n' in docs/DECISIONS.md.
 /// Whether each state has a label, no edges, or one for each letter over this many names.
 pub(crate) fn have_edges_for_letters(states: &[RawState], names: usize) -> bool
     ensures { result ≡ list_all (has_edge_per_letter names) (map written_state states.now) }

@@ -20,12 +20,14 @@ abbrev pub closing : Automaton → List WrittenItem
 closing a = raw.Ap (length a.names) a.names ∷ raw.Acceptance a.sets a.formula ∷ raw.Properties (codes "trans-labels" ∷ codes "explicit-labels" ∷ codes "trans-acc" ∷ []) ∷ []
 
 -- what no start gives
-no_start : {Y : Type 0} (f : WrittenItem → Option Y) (starts : List ℕ) (rest : List WrittenItem) → ((s : ℕ) → f (raw.Start (s ∷ [])) ≡ None) → filter_map f (starting starts ++ rest) ≡ filter_map f rest
+no_start : {Y : Type 0} (f : WrittenItem → Option Y) (starts : List ℕ) (rest : List WrittenItem) → ((s : ℕ) → f (raw.Start (s ∷ [])) ≡ None)
+    → filter_map f (starting starts ++ rest) ≡ filter_map f rest
 no_start f [] rest h = refl
 no_start f (s ∷ ss) rest h = ap (λ o. cons_option o (filter_map f (starting ss ++ rest))) (h s) ∙ no_start f ss rest h
 
 -- what neither the name nor a start gives
-pub found : {Y : Type 0} (f : WrittenItem → Option Y) (a : Automaton) (name : Option (List ℕ)) → ((text : List ℕ) → f (raw.Name text) ≡ None) → ((s : ℕ) → f (raw.Start (s ∷ [])) ≡ None) → filter_map f (canonical_items a name) ≡ filter_map f (raw.States a.states ∷ closing a)
+pub found : {Y : Type 0} (f : WrittenItem → Option Y) (a : Automaton) (name : Option (List ℕ)) → ((text : List ℕ) → f (raw.Name text) ≡ None) → ((s : ℕ) → f (raw.Start (s ∷ [])) ≡ None)
+    → filter_map f (canonical_items a name) ≡ filter_map f (raw.States a.states ∷ closing a)
 found f a None h k = ap (cons_option (f (raw.States a.states))) (no_start f a.starts (closing a) k)
 found f a (Some text) h k =
     ap (λ o. cons_option o (cons_option (f (raw.States a.states)) (filter_map f (starting a.starts ++ closing a)))) (h text)
@@ -64,7 +66,8 @@ all_starts p (s ∷ ss) rest h all = ap (λ b. b && list_all p (starting ss ++ r
 abbrev pub counted_from : (WrittenItem → Bool) → ℕ → List WrittenItem → ℕ
 counted_from p = fold (λ k x. k + cond (p x) 1 0)
 
-pub no_starts_counted : (p : WrittenItem → Bool) (n : ℕ) (starts : List ℕ) (rest : List WrittenItem) → ((s : ℕ) → p (raw.Start (s ∷ [])) ≡ false) → counted_from p n (starting starts ++ rest) ≡ counted_from p n rest
+pub no_starts_counted : (p : WrittenItem → Bool) (n : ℕ) (starts : List ℕ) (rest : List WrittenItem) → ((s : ℕ) → p (raw.Start (s ∷ [])) ≡ false)
+    → counted_from p n (starting starts ++ rest) ≡ counted_from p n rest
 no_starts_counted p n [] rest h = refl
 no_starts_counted p n (s ∷ ss) rest h =
     let same : n + 0 ≡ n = omega arith in
@@ -82,7 +85,8 @@ edges_at a q P all =
     let ours : TreeEdge → Bool = λ e. e.from == q in
     AllByRecursion-map P (canonical_edge (length a.names)) (filter ours a.edges) (AllByRecursion-filter (λ e. P (canonical_edge (length a.names) e)) ours a.edges all)
 
-pub each_edge : (a : Automaton) (name : Option (List ℕ)) (P : WrittenEdge → Type 0) → AllByRecursion (λ e. P (canonical_edge (length a.names) e)) a.edges → AllByRecursion P (edges_written (canonical_written a name))
+pub each_edge : (a : Automaton) (name : Option (List ℕ)) (P : WrittenEdge → Type 0) → AllByRecursion (λ e. P (canonical_edge (length a.names) e)) a.edges
+    → AllByRecursion P (edges_written (canonical_written a name))
 each_edge a name P all =
     AllByRecursion-flat_map P (λ (s : WrittenState). s.edges) (canonical_written a name).states
     (each_state a name (λ s. AllByRecursion P s.edges) (λ q l. edges_at a q P all))

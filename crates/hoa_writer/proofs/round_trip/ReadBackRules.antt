@@ -1,5 +1,6 @@
 -- What the canonical text of a well-formed automaton writes keeps all rules.
-use Rattle.std.proofs.Common.{◌≡◌, ◌≢◌, ◌==◌, ◌<◌, ◌^◌, ℕ, Bool, true, false, ◌&&◌, ◌||◌, List, [], ◌∷◌, ◌++◌, length, filter, map, nat_lt, refl, sym, ap, ◌∙◌, subst, arith, AllPairs, Option, Some, None}
+use Rattle.std.proofs.Common.{◌≡◌, ◌≢◌, ◌==◌, ◌<◌, ◌^◌, ℕ, Bool, true, false, ◌&&◌, ◌||◌, List, [], ◌∷◌, ◌++◌, length, filter, map, nat_lt, refl, sym}
+use Rattle.std.proofs.Common.{ap, ◌∙◌, subst, arith, AllPairs, Option, Some, None}
 use Rattle.std.proofs.lemmas.Bool.{eq-eqb, lt-ltb, ne_eqb}
 use Rattle.std.proofs.lemmas.List.Elements.{recursion_from_All}
 use Rattle.std.specs.Prelude.{flat_map, is_some, nat_le, option_to_list}
@@ -9,9 +10,13 @@ use Rattle.aut_base.specs.Automaton.{TreeEdge, Automaton, IsEdgeOf, IsWellFormed
 use Rattle.aut_base.specs.Label.{LabelTree}
 use Rattle.hoa_parser.specs.Raw.{RawTree, WrittenEdge, WrittenItem, WrittenState}
 use Rattle.aut_base.specs.Text.{same_text}
-use Rattle.hoa_reader.specs.Validity.{AcceptanceLine, AliasLine, IsKept, IsValid, acceptance_item, aliases_among, all_differ, all_edges_labelled, body_labels, edges_written, has_edge_per_letter, is_acc_name, is_name, is_one_state, is_tool, labels_one_way, marks_below, may_be_passed_over, names_agree, names_item, names_of, no_edge_labelled, numbers_below, props_below, sets_below, starts_written, state_labels, states_item, used_states, uses_earlier}
+use Rattle.hoa_reader.specs.Validity.{AcceptanceLine, AliasLine, IsKept, IsValid, acceptance_item, aliases_among, all_differ, all_edges_labelled}
+use Rattle.hoa_reader.specs.Validity.{body_labels, edges_written, has_edge_per_letter, is_acc_name, is_name, is_one_state, is_tool, labels_one_way}
+use Rattle.hoa_reader.specs.Validity.{marks_below, may_be_passed_over, names_agree, names_item, names_of, no_edge_labelled, numbers_below}
+use Rattle.hoa_reader.specs.Validity.{props_below, sets_below, starts_written, state_labels, states_item, used_states, uses_earlier}
 use Rattle.hoa_reader.specs.declared.elaborate.Rule.TheVariants.{V2, V3, V4, V5, V6, V7, V8, V9, V10, V11, V12}
-use Rattle.hoa_writer.proofs.round_trip.CanonicalLines.{acceptance_found, all_starts, closing, counted_from, each_edge, each_state, edges_at, names_found, no_aliases, no_starts_counted, starting, starts_found, states_found}
+use Rattle.hoa_writer.proofs.round_trip.CanonicalLines.{acceptance_found, all_starts, closing, counted_from, each_edge, each_state, edges_at}
+use Rattle.hoa_writer.proofs.round_trip.CanonicalLines.{names_found, no_aliases, no_starts_counted, starting, starts_found, states_found}
 use Rattle.hoa_writer.proofs.round_trip.CanonicalTrees.{no_alias, props_are_below, sets_are_below, two}
 use Rattle.aut_base.proofs.Ordered.{every_passes, pairs_from, pairs_weaker, range_rises}
 use Rattle.hoa_writer.proofs.text.InOrder.{all_differ_from}
@@ -20,10 +25,12 @@ use Rattle.hoa_writer.specs.CanonicalWritten.{canonical_edge, canonical_state, c
 use Rattle.aut_base.proofs.AllByRecursion.{AllByRecursion-map, AllByRecursion-weaker, AllByRecursion-append, AllByRecursion-flat_map, AllByRecursion-of_each}
 
 -- lines that stand once
-once : (p : WrittenItem → Bool) (k : ℕ) (a : Automaton) → ((s : ℕ) → p (WrittenItem.Start (s ∷ [])) ≡ false) → nat_le (counted_from p k (closing a)) 1 ≡ true → nat_le (counted_from p k (starting a.starts ++ closing a)) 1 ≡ true
+once : (p : WrittenItem → Bool) (k : ℕ) (a : Automaton) → ((s : ℕ) → p (WrittenItem.Start (s ∷ [])) ≡ false) → nat_le (counted_from p k (closing a)) 1 ≡ true
+    → nat_le (counted_from p k (starting a.starts ++ closing a)) 1 ≡ true
 once p k a h e = ap (λ n. nat_le n 1) (no_starts_counted p k a.starts (closing a) h) ∙ e
 
-exactly : (p : WrittenItem → Bool) (k : ℕ) (a : Automaton) → ((s : ℕ) → p (WrittenItem.Start (s ∷ [])) ≡ false) → (counted_from p k (closing a) == 1) ≡ true → (counted_from p k (starting a.starts ++ closing a) == 1) ≡ true
+exactly : (p : WrittenItem → Bool) (k : ℕ) (a : Automaton) → ((s : ℕ) → p (WrittenItem.Start (s ∷ [])) ≡ false) → (counted_from p k (closing a) == 1) ≡ true
+    → (counted_from p k (starting a.starts ++ closing a) == 1) ≡ true
 exactly p k a h e = ap (λ n. n == 1) (no_starts_counted p k a.starts (closing a) h) ∙ e
 
 lines_once : (a : Automaton) (name : Option (List ℕ)) → IsKept V2 (canonical_written a name)
@@ -57,7 +64,8 @@ names_counted a (Some text) h = all_starts names_agree a.starts (closing a) (λ 
 single_states : (a : Automaton) (name : Option (List ℕ)) → IsKept V5 (canonical_written a name)
 single_states a name =
     let one : ℕ → List ℕ = λ s. s ∷ [] in
-    two _ _ (ap (list_all is_one_state) (starts_found a name) ∙ every_passes is_one_state (map one a.starts) (AllByRecursion-map (λ q. is_one_state q ≡ true) one a.starts (AllByRecursion-of_each _ a.starts (λ s. refl))))
+    two _ _ (ap (list_all is_one_state) (starts_found a name)
+    ∙ every_passes is_one_state (map one a.starts) (AllByRecursion-map (λ q. is_one_state q ≡ true) one a.starts (AllByRecursion-of_each _ a.starts (λ s. refl))))
     (every_passes (λ (e : WrittenEdge). is_one_state e.to) (edges_written (canonical_written a name))
     (each_edge a name (λ (e : WrittenEdge). is_one_state e.to ≡ true) (AllByRecursion-of_each _ a.edges (λ e. refl))))
 
@@ -71,7 +79,8 @@ states_below a name h =
     let P : ℕ → Type 0 = λ q. nat_lt q n ≡ true in
     let one : ℕ → List ℕ = λ s. s ∷ [] in
     let groups : AllByRecursion (AllByRecursion P) (map one a.starts) =
-    AllByRecursion-map (AllByRecursion P) one a.starts (AllByRecursion-weaker (λ s. s < n) (λ s. AllByRecursion P (one s)) a.starts (λ s l. (lt-ltb s n l, tt)) (recursion_from_All (λ s. s < n) a.starts h.starts)) in
+    AllByRecursion-map (AllByRecursion P) one a.starts
+    (AllByRecursion-weaker (λ s. s < n) (λ s. AllByRecursion P (one s)) a.starts (λ s l. (lt-ltb s n l, tt)) (recursion_from_All (λ s. s < n) a.starts h.starts)) in
     let starts : AllByRecursion P (flat_map (λ (q : List ℕ). q) (starts_written w)) =
     AllByRecursion-flat_map P (λ (q : List ℕ). q) (starts_written w) (subst (AllByRecursion (AllByRecursion P)) (sym (starts_found a name)) groups) in
     let numbers : AllByRecursion P (map (λ (s : WrittenState). s.number) w.states) =
@@ -85,7 +94,8 @@ states_below a name h =
     (AllByRecursion-append P (map (λ (s : WrittenState). s.number) w.states) (flat_map (λ (e : WrittenEdge). e.to) (edges_written w)) numbers goals))) refl
 
 -- labels of the body
-each_label : (a : Automaton) (name : Option (List ℕ)) (P : RawTree → Type 0) → ((t : LabelTree) → P (written_label (canonical_label (length a.names) t))) → AllByRecursion P (body_labels (canonical_written a name))
+each_label : (a : Automaton) (name : Option (List ℕ)) (P : RawTree → Type 0) → ((t : LabelTree) → P (written_label (canonical_label (length a.names) t)))
+    → AllByRecursion P (body_labels (canonical_written a name))
 each_label a name P h =
     AllByRecursion-flat_map P state_labels (canonical_written a name).states (each_state a name (λ s. AllByRecursion P (state_labels s))
     (λ q l. AllByRecursion-flat_map P (λ (e : WrittenEdge). option_to_list e.label) (canonical_state a q).edges
@@ -94,7 +104,8 @@ each_label a name P h =
 aliases_defined : (a : Automaton) (name : Option (List ℕ)) → IsKept V7 (canonical_written a name)
 aliases_defined a name =
     let labels = body_labels (canonical_written a name) in
-    ap (λ (lines : List AliasLine). all_differ same_text (map (λ line. line.name) lines) && (uses_earlier [] lines && list_all (aliases_among (map (λ line. line.name) lines)) labels)) (no_aliases a name)
+    ap (λ (lines : List AliasLine). all_differ same_text (map (λ line. line.name) lines) && (uses_earlier [] lines && list_all (aliases_among (map (λ line. line.name) lines)) labels))
+    (no_aliases a name)
     ∙ every_passes (aliases_among []) labels (each_label a name (λ t. aliases_among [] t ≡ true) (no_alias (length a.names) []))
 
 propositions_named : (a : Automaton) (name : Option (List ℕ)) → IsKept V8 (canonical_written a name)
@@ -115,7 +126,8 @@ sets_kept a name h =
     (every_passes (marks_below n) w.states (each_state a name (λ s. marks_below n s ≡ true)
     (λ q l. every_passes (λ (e : WrittenEdge). numbers_below n e.marks) (canonical_state a q).edges
     (edges_at a q (λ e. numbers_below n e.marks ≡ true) (AllByRecursion-weaker (IsEdgeOf a) (λ e. numbers_below n e.marks ≡ true) a.edges
-    (λ e k. every_passes (λ i. nat_lt i n) e.marks (AllByRecursion-weaker (λ i. i < n) (λ i. nat_lt i n ≡ true) e.marks (λ i m. lt-ltb i n m) (recursion_from_All (λ i. i < n) e.marks k.marks))) (tree_edges a h))))))
+    (λ e k. every_passes (λ i. nat_lt i n) e.marks
+    (AllByRecursion-weaker (λ i. i < n) (λ i. nat_lt i n ≡ true) e.marks (λ i m. lt-ltb i n m) (recursion_from_All (λ i. i < n) e.marks k.marks))) (tree_edges a h))))))
 
 -- states of the body
 numbers_of : (a : Automaton) (qs : List ℕ) → map (λ (s : WrittenState). s.number) (map (canonical_state a) qs) ≡ qs
@@ -135,7 +147,8 @@ or_true false c e = e
 one_way : (a : Automaton) (name : Option (List ℕ)) → IsKept V11 (canonical_written a name)
 one_way a name =
     every_passes labels_one_way (canonical_written a name).states (each_state a name (λ s. labels_one_way s ≡ true)
-    (λ q l. or_true (no_edge_labelled (canonical_state a q)) (all_edges_labelled (canonical_state a q)) (every_passes (λ (e : WrittenEdge). is_some e.label) (canonical_state a q).edges (edges_at a q (λ e. is_some e.label ≡ true) (AllByRecursion-of_each _ a.edges (λ e. refl))))))
+    (λ q l. or_true (no_edge_labelled (canonical_state a q)) (all_edges_labelled (canonical_state a q))
+    (every_passes (λ (e : WrittenEdge). is_some e.label) (canonical_state a q).edges (edges_at a q (λ e. is_some e.label ≡ true) (AllByRecursion-of_each _ a.edges (λ e. refl))))))
 
 -- no edge goes without a label
 edge_has_label : (n k q : ℕ) (es : List TreeEdge) → has_edge_per_letter n (record { label = None; number = q; marks = []; edges = map (canonical_edge k) es }) ≡ true

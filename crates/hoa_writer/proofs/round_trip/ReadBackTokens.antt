@@ -11,7 +11,8 @@ use Rattle.aut_base.specs.Automaton.{TreeEdge, Automaton, IsEdgeOf, IsWellFormed
 use Rattle.hoa_lexer.specs.Laws.{HasTokens}
 use Rattle.hoa_lexer.specs.declared.token.Token.{Token}
 use Rattle.hoa_lexer.specs.declared.token.Token.TheVariants.{HeaderName, Identifier, Str, Int, LeftBracket, RightBracket, LeftBrace, RightBrace, Body, End}
-use Rattle.hoa_parser.specs.Grammar.{AutomatonPhrase, EdgePhrase, ItemPhrase, Spells, StatePhrase, automaton_meaning, automaton_tokens, edge_meaning, edge_tokens, item_meaning, item_tokens, label_tokens, marks_meaning, optional_marks, state_meaning, state_tokens}
+use Rattle.hoa_parser.specs.Grammar.{AutomatonPhrase, EdgePhrase, ItemPhrase, Spells, StatePhrase, automaton_meaning, automaton_tokens, edge_meaning}
+use Rattle.hoa_parser.specs.Grammar.{edge_tokens, item_meaning, item_tokens, label_tokens, marks_meaning, optional_marks, state_meaning, state_tokens}
 use Rattle.hoa_parser.specs.Grammar.ItemPhrase.{states_item, start_item, names_item, acceptance_item, name_item, properties_item}
 use Rattle.hoa_parser.proofs.grammar.OneRaw.{one_raw}
 use Rattle.hoa_parser.specs.Raw as raw
@@ -22,7 +23,8 @@ use Rattle.hoa_writer.specs.CanonicalWritten.{canonical_edge, canonical_state, n
 use Rattle.hoa_writer.proofs.spelling.ConditionsSpelled.{text_condition, text_condition_means, condition_spelled}
 use Rattle.hoa_writer.proofs.spelling.LabelsSpelled.{text_label, text_label_means, label_spelled}
 use Rattle.hoa_writer.proofs.spelling.PhraseDepths.{automaton_opens, automaton_within}
-use Rattle.hoa_writer.proofs.spelling.SpelledOut.{Free, Held, Stops, free_free, free_held, held_free, held_held, as_held, free_one, free_blank, free_none, free_header, free_each, free_is_read, held_identifier}
+use Rattle.hoa_writer.proofs.spelling.SpelledOut.{Free, Held, Stops, free_free, free_held, held_free, held_held, as_held, free_one, free_blank}
+use Rattle.hoa_writer.proofs.spelling.SpelledOut.{free_none, free_header, free_each, free_is_read, held_identifier}
 use Rattle.hoa_writer.proofs.spelling.WordsSpelled.{number, string, gap}
 
 -- the phrase of an automaton
@@ -133,7 +135,8 @@ marks_stop (m ∷ ms) rest s = (refl, refl)
 
 -- edges
 
-edge_spelled : (a : Automaton) (e : TreeEdge) → a.states < 2 ^ 32 → a.sets < 2 ^ 32 → length a.names < 2 ^ 32 → IsEdgeOf a e → Free (edge_tokens (text_edge (length a.names) e)) (edge_line (length a.names) e)
+edge_spelled : (a : Automaton) (e : TreeEdge) → a.states < 2 ^ 32 → a.sets < 2 ^ 32 → length a.names < 2 ^ 32 → IsEdgeOf a e
+    → Free (edge_tokens (text_edge (length a.names) e)) (edge_line (length a.names) e)
 edge_spelled a e few sets names h =
     let n = length a.names in
     let label = label_tokens (text_label n e.label) in
@@ -188,11 +191,13 @@ strings_stop (name ∷ names) rest s = (refl, refl)
 ended : {ts : List Token} {text : List ℕ} → Free (ts ++ []) text → Free ts text
 ended {ts} {text} f = subst (λ (us : List Token). Free us text) (append-nil ts) f
 
-names_spelled : (names : List (List ℕ)) → length names < 2 ^ 32 → Free (item_tokens (names_item (length names) names)) (line (codes "AP: " ++ (decimal (length names) ++ flat_map (λ name. codes " " ++ quoted name) names)))
+names_spelled : (names : List (List ℕ)) → length names < 2 ^ 32
+    → Free (item_tokens (names_item (length names) names)) (line (codes "AP: " ++ (decimal (length names) ++ flat_map (λ name. codes " " ++ quoted name) names)))
 names_spelled names l =
     ended (in_line (free_held (free_free (free_header (codes "AP") (refl, refl)) gap) (held_held (number (length names) l) (strings_stop names) (as_held (strings_spelled names)))))
 
-acceptance_spelled : (a : Automaton) → a.sets < 2 ^ 32 → IsWellFormed a → Free (item_tokens (acceptance_item a.sets (text_condition a.formula))) (line (codes "Acceptance: " ++ (decimal a.sets ++ (codes " " ++ formula_text a.formula))))
+acceptance_spelled : (a : Automaton) → a.sets < 2 ^ 32 → IsWellFormed a
+    → Free (item_tokens (acceptance_item a.sets (text_condition a.formula))) (line (codes "Acceptance: " ++ (decimal a.sets ++ (codes " " ++ formula_text a.formula))))
 acceptance_spelled a sets w =
     ended (in_line (free_held (free_free (free_header (codes "Acceptance") (refl, refl)) gap)
     (held_held (number a.sets sets) (λ rest s. (refl, refl)) (free_held gap (condition_spelled a.sets a.formula (omega arith) w.formula)))))
@@ -225,7 +230,8 @@ header_spelled a name few sets names w =
     ≡ HeaderName (codes "HOA") ∷ Identifier (codes "v1") ∷ flat_map item_tokens (text_items a name) = cc in
     subst (λ (ts : List Token). Free ts (header_lines a name)) same whole
 
-automaton_spelled : (a : Automaton) (name : Option (List ℕ)) → a.states < 2 ^ 32 → a.sets < 2 ^ 32 → length a.names < 2 ^ 32 → IsWellFormed a → Free (automaton_tokens (text_automaton a name)) (canonical_text a name)
+automaton_spelled : (a : Automaton) (name : Option (List ℕ)) → a.states < 2 ^ 32 → a.sets < 2 ^ 32 → length a.names < 2 ^ 32 → IsWellFormed a
+    → Free (automaton_tokens (text_automaton a name)) (canonical_text a name)
 automaton_spelled a name few sets names w =
     let body = free_free (free_one Body (codes "--BODY--") refl (λ rest. tt)) (free_blank 10 refl) in
     let end = free_free (free_one End (codes "--END--") refl (λ rest. tt)) (free_blank 10 refl) in
@@ -239,7 +245,8 @@ pub record ReadsAs (text : List ℕ) (w : Written) : Type 0 where
   pub spells : Spells most tokens w
   pub alone : (n : ℕ) (v : Written) → Spells n tokens v → v ≡ w
 
-pub canonical_reads : (a : Automaton) (name : Option (List ℕ)) → a.states < 2 ^ 32 → a.sets < 2 ^ 32 → length a.names < 2 ^ 32 → IsWellFormed a → ReadsAs (canonical_text a name) (canonical_written a name)
+pub canonical_reads : (a : Automaton) (name : Option (List ℕ)) → a.states < 2 ^ 32 → a.sets < 2 ^ 32 → length a.names < 2 ^ 32 → IsWellFormed a
+    → ReadsAs (canonical_text a name) (canonical_written a name)
 canonical_reads a name few sets names w =
     let phrase = text_automaton a name in
     let tokens = automaton_tokens phrase in

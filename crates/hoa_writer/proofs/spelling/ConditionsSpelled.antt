@@ -6,7 +6,8 @@ use Rattle.aut_base.specs.Formula as formula
 use Rattle.aut_base.specs.Formula.{FormulaTree, FormulaTrees, SetsBelow, EachSetsBelow, trees}
 use Rattle.hoa_lexer.specs.declared.token.Token.{Token}
 use Rattle.hoa_lexer.specs.declared.token.Token.TheVariants.{Identifier, Int, Amp, Bar, LeftParen, RightParen}
-use Rattle.hoa_parser.specs.Grammar.{Condition, Fands, Fatom, Fatoms, bang_tokens, set_tokens, condition_meaning, condition_tokens, fands_meaning, fands_tokens, fatom_meaning, fatom_tokens, fatoms_meaning, fatoms_tokens}
+use Rattle.hoa_parser.specs.Grammar.{Condition, Fands, Fatom, Fatoms, bang_tokens, set_tokens, condition_meaning, condition_tokens, fands_meaning}
+use Rattle.hoa_parser.specs.Grammar.{fands_tokens, fatom_meaning, fatom_tokens, fatoms_meaning, fatoms_tokens}
 use Rattle.hoa_parser.specs.Grammar.Condition.{condition}
 use Rattle.hoa_parser.specs.Grammar.Fands.{no_fand, or_fand}
 use Rattle.hoa_parser.specs.Grammar.Fatoms.{no_fatom, and_fatom}
@@ -100,7 +101,8 @@ set_spelled set true h = free_held bang (number set h)
 set_spelled set false h = number set h
 
 -- `Inf(` or `Fin(`, and the set
-named_spelled : (name : List ℕ) (set : ℕ) (neg : Bool) → set < 2 ^ 32 → Held (Identifier name ∷ []) name → Free (Identifier name ∷ set_tokens set neg) (name ++ (codes "(" ++ (set_text set neg ++ codes ")")))
+named_spelled : (name : List ℕ) (set : ℕ) (neg : Bool) → set < 2 ^ 32 → Held (Identifier name ∷ []) name
+    → Free (Identifier name ∷ set_tokens set neg) (name ++ (codes "(" ++ (set_text set neg ++ codes ")")))
 named_spelled name set true h k = held_free k (λ rest. (refl, refl)) (free_free left (held_free (set_spelled set true h) (λ rest. (refl, refl)) right))
 named_spelled name set false h k = held_free k (λ rest. (refl, refl)) (free_free left (held_free (set_spelled set false h) (λ rest. (refl, refl)) right))
 
@@ -109,7 +111,8 @@ grouped h = as_held (free_free left (held_free h (λ rest. (refl, refl)) right))
 
 -- parts, and each part after a sign
 
-conjoined : {a b c : List Token} {x y z : List ℕ} → Held a x → Held b y → Held c z → ((rest : List ℕ) → Stops rest → Stops (z ++ rest)) → Held (a ++ ((Amp ∷ (b ++ c)) ++ [])) (x ++ (codes " & " ++ (y ++ z)))
+conjoined : {a b c : List Token} {x y z : List ℕ} → Held a x → Held b y → Held c z → ((rest : List ℕ) → Stops rest → Stops (z ++ rest))
+    → Held (a ++ ((Amp ∷ (b ++ c)) ++ [])) (x ++ (codes " & " ++ (y ++ z)))
 conjoined {a} {b} {c} {x} {y} {z} f g h stops =
     subst (λ (ts : List Token). Held (a ++ ts) (x ++ (codes " & " ++ (y ++ z)))) (sym (append-nil (Amp ∷ (b ++ c))))
     (held_held f (λ rest s. (refl, refl)) (free_held amp_apart (held_held g stops h)))

@@ -4,7 +4,8 @@ use Rattle.std.specs.Prelude.{codes}
 use Rattle.std.proofs.lemmas.List.{append_assoc, append-nil}
 use Rattle.aut_base.specs.Label.{LabelTree, trees}
 use Rattle.hoa_lexer.specs.declared.token.Token.{Token}
-use Rattle.hoa_parser.specs.Grammar.{Label, Lands, Lnot, Lnots, conjunction, disjunction, label_meaning, label_tokens, lands_meaning, lands_tokens, lnot_meaning, lnot_tokens, lnots_meaning, lnots_tokens}
+use Rattle.hoa_parser.specs.Grammar.{Label, Lands, Lnot, Lnots, conjunction, disjunction, label_meaning, label_tokens, lands_meaning, lands_tokens}
+use Rattle.hoa_parser.specs.Grammar.{lnot_meaning, lnot_tokens, lnots_meaning, lnots_tokens}
 use Rattle.hoa_parser.specs.Grammar.Label.{label}
 use Rattle.hoa_parser.specs.Grammar.Lands.{no_land, or_land}
 use Rattle.hoa_parser.specs.Grammar.Lnots.{no_lnot, and_lnot}

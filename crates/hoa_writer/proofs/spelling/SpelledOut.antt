@@ -95,7 +95,8 @@ held_int n word h = record { before = λ rest s. one (Int n) word rest h (ends_i
 
 -- many
 
-pub free_each : {A P : Type 0} (phrase : A → P) (tokens : P → List Token) (text : A → List ℕ) (xs : List A) → All (λ x. Free (tokens (phrase x)) (text x)) xs → Free (flat_map tokens (map phrase xs)) (flat_map text xs)
+pub free_each : {A P : Type 0} (phrase : A → P) (tokens : P → List Token) (text : A → List ℕ) (xs : List A) → All (λ x. Free (tokens (phrase x)) (text x)) xs
+    → Free (flat_map tokens (map phrase xs)) (flat_map text xs)
 free_each phrase tokens text [] h = free_none
 free_each phrase tokens text (x ∷ xs) h = free_free (h zero x (omega arith)) (free_each phrase tokens text xs (λ k d near. h (suc k) d (omega arith)))
 

@@ -25,19 +25,23 @@ text-And p = ap formula_text (formula_tree-And p) ∙ two_parts (codes " & ") (f
 pub text-Or : (p : Formulas) → formula_text (formula_tree (formula.Or p)) ≡ list_text (codes " | ") (formula_list p)
 text-Or p = ap formula_text (formula_tree-Or p) ∙ two_parts (codes " | ") (formula_parts p).first (formula_parts p).second (formula_parts p).others
 
-each_more : (separator : List ℕ) (fs : List FormulaTree) (place : ℕ) (f : FormulaTree) → slice_get fs place ≡ Some f → flat_map (λ g. separator ++ part_text g) (take (suc place) fs) ≡ flat_map (λ g. separator ++ part_text g) (take place fs) ++ (separator ++ part_text f)
+each_more : (separator : List ℕ) (fs : List FormulaTree) (place : ℕ) (f : FormulaTree) → slice_get fs place ≡ Some f
+    → flat_map (λ g. separator ++ part_text g) (take (suc place) fs) ≡ flat_map (λ g. separator ++ part_text g) (take place fs) ++ (separator ++ part_text f)
 each_more separator [] place f e = absurd cc
 each_more separator (g ∷ gs) zero f e = let same : g ≡ f = cc in append-nil (separator ++ part_text g) ∙ ap (λ h. separator ++ part_text h) same
 each_more separator (g ∷ gs) (suc k) f e =
-    ap (λ t. (separator ++ part_text g) ++ t) (each_more separator gs k f e) ∙ sym (append_assoc (separator ++ part_text g) (flat_map (λ h. separator ++ part_text h) (take k gs)) (separator ++ part_text f))
+    ap (λ t. (separator ++ part_text g) ++ t) (each_more separator gs k f e)
+    ∙ sym (append_assoc (separator ++ part_text g) (flat_map (λ h. separator ++ part_text h) (take k gs)) (separator ++ part_text f))
 
-list_suc : (separator : List ℕ) (fs : List FormulaTree) (k : ℕ) (f : FormulaTree) → slice_get fs (suc k) ≡ Some f → list_text separator (take (suc (suc k)) fs) ≡ list_text separator (take (suc k) fs) ++ (separator ++ part_text f)
+list_suc : (separator : List ℕ) (fs : List FormulaTree) (k : ℕ) (f : FormulaTree) → slice_get fs (suc k) ≡ Some f
+    → list_text separator (take (suc (suc k)) fs) ≡ list_text separator (take (suc k) fs) ++ (separator ++ part_text f)
 list_suc separator [] k f e = absurd cc
 list_suc separator (g ∷ gs) k f e =
     ap (λ t. part_text g ++ t) (each_more separator gs k f e) ∙ sym (append_assoc (part_text g) (flat_map (λ h. separator ++ part_text h) (take k gs)) (separator ++ part_text f))
 
 -- a further part
-pub list_more : (separator : List ℕ) (fs : List FormulaTree) (place : ℕ) (f : FormulaTree) → 0 < place → slice_get fs place ≡ Some f → list_text separator (take (place + 1) fs) ≡ list_text separator (take place fs) ++ (separator ++ part_text f)
+pub list_more : (separator : List ℕ) (fs : List FormulaTree) (place : ℕ) (f : FormulaTree) → 0 < place → slice_get fs place ≡ Some f
+    → list_text separator (take (place + 1) fs) ≡ list_text separator (take place fs) ++ (separator ++ part_text f)
 list_more separator fs zero f h e = absurd (omega arith)
 list_more separator fs (suc k) f h e =
     let next : suc k + 1 ≡ suc (suc k) = omega arith in

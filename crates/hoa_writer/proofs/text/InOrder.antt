@@ -35,11 +35,13 @@ by_numbers key (suc n) xs h =
     ∙ (ap (λ ys. ys ++ (At key n xs ++ [])) (by_numbers key n xs h) ∙ (ap (λ ys. Under key n xs ++ ys) (append-nil (At key n xs)) ∙ under_more key n xs h))
 
 -- a list in order of numbers below n, put together number by number
-pub number_by_number : {X : Type 0} (key : X → ℕ) (n : ℕ) (xs : List X) → Pairs (λ x y. key x ≤ key y) xs → AllByRecursion (λ x. key x < n) xs → flat_map (λ q. filter (λ x. key x == q) xs) (below n) ≡ xs
+pub number_by_number : {X : Type 0} (key : X → ℕ) (n : ℕ) (xs : List X) → Pairs (λ x y. key x ≤ key y) xs → AllByRecursion (λ x. key x < n) xs
+    → flat_map (λ q. filter (λ x. key x == q) xs) (below n) ≡ xs
 number_by_number key n xs h all =
     by_numbers key n xs h ∙ all_kept (λ x. nat_lt (key x) n) xs (AllByRecursion-weaker (λ x. key x < n) (λ x. nat_lt (key x) n ≡ true) xs (λ x l. lt-ltb (key x) n l) all)
 
-one_at : (m q : ℕ) (ms : List ℕ) (b : Bool) → (m == q) ≡ b → AllByRecursion (λ y. m < y) ms → cond (is_in q ms) (q ∷ []) [] ≡ At (λ x. x) q ms → cond (b || is_in q ms) (q ∷ []) [] ≡ cond b (m ∷ At (λ x. x) q ms) (At (λ x. x) q ms)
+one_at : (m q : ℕ) (ms : List ℕ) (b : Bool) → (m == q) ≡ b → AllByRecursion (λ y. m < y) ms → cond (is_in q ms) (q ∷ []) [] ≡ At (λ x. x) q ms
+    → cond (b || is_in q ms) (q ∷ []) [] ≡ cond b (m ∷ At (λ x. x) q ms) (At (λ x. x) q ms)
 one_at m q ms true e h ih =
     let same : m ≡ q = eqb-true m q e in
     sym (ap (λ ys. m ∷ ys) (none_kept (λ x. x == q) ms (AllByRecursion-weaker (λ y. m < y) (λ y. (y == q) ≡ false) ms (λ y l. ne_eqb y q (λ f. omega (arith, l, same, f))) h)) ∙ ap (λ x. x ∷ []) same)
@@ -52,5 +54,6 @@ one_mark q (m ∷ ms) h = one_at m q ms (m == q) refl h.0 (one_mark q ms h.1)
 pub in_order_already : (sets : ℕ) (marks : List ℕ) → Pairs (λ x y. x < y) marks → AllByRecursion (λ x. x < sets) marks → marks_in_order sets marks ≡ marks
 in_order_already sets marks h all =
     filter_by_one (λ q. is_in q marks) (below sets)
-    ∙ (flat_map_same (λ q. cond (is_in q marks) (q ∷ []) []) (λ q. At (λ x. x) q marks) (below sets) (AllByRecursion-weaker (λ q. q < sets) (λ q. cond (is_in q marks) (q ∷ []) [] ≡ At (λ x. x) q marks) (below sets) (λ q l. one_mark q marks h) (numbers_are_below sets))
+    ∙ (flat_map_same (λ q. cond (is_in q marks) (q ∷ []) []) (λ q. At (λ x. x) q marks) (below sets)
+    (AllByRecursion-weaker (λ q. q < sets) (λ q. cond (is_in q marks) (q ∷ []) [] ≡ At (λ x. x) q marks) (below sets) (λ q l. one_mark q marks h) (numbers_are_below sets))
     ∙ number_by_number (λ x. x) sets marks (pairs_weaker (λ x y. x < y) (λ x y. x ≤ y) marks (λ x y l. omega (arith, l)) h) all)

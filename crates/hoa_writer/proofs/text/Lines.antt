@@ -25,14 +25,17 @@ link_has_guard c q i ls l all same within is =
     (subst (IsLinkOf c) (sym is) (mine i l within)).guard
 
 -- the lines of the links that leave a state are those of its edges
-pub edges_written : (c : Core) (q i : ℕ) (ls : List Link) (old new : List ℕ) → length c.names ≡ c.store.names → ls ≡ filter (λ k. k.from == q) c.links → length ls ≤ i → new ≡ old ++ flat_map (link_line c.store) (take i ls) → new ≡ old ++ flat_map (edge_line (length c.names)) (filter (λ e. e.from == q) (automaton_of c).edges)
+pub edges_written : (c : Core) (q i : ℕ) (ls : List Link) (old new : List ℕ) → length c.names ≡ c.store.names → ls ≡ filter (λ k. k.from == q) c.links → length ls ≤ i
+    → new ≡ old ++ flat_map (link_line c.store) (take i ls) → new ≡ old ++ flat_map (edge_line (length c.names)) (filter (λ e. e.from == q) (automaton_of c).edges)
 edges_written c q i ls old new names same end so =
     let edges : flat_map (edge_line c.store.names) (filter (λ (e : TreeEdge). e.from == q) (map (edge_of c.store) c.links)) ≡ flat_map (link_line c.store) (filter (λ k. k.from == q) c.links) =
     ap (flat_map (edge_line c.store.names)) (filter_map_of (λ (e : TreeEdge). e.from == q) (edge_of c.store) c.links) ∙ links_written c.store (filter (λ k. k.from == q) c.links) in
-    so ∙ ap (λ ks. old ++ flat_map (link_line c.store) ks) (take_all i ls end ∙ same) ∙ ap (λ text. old ++ text) (sym edges) ∙ ap (λ n. old ++ flat_map (edge_line n) (filter (λ (e : TreeEdge). e.from == q) (automaton_of c).edges)) (sym names)
+    so ∙ ap (λ ks. old ++ flat_map (link_line c.store) ks) (take_all i ls end ∙ same) ∙ ap (λ text. old ++ text) (sym edges)
+    ∙ ap (λ n. old ++ flat_map (edge_line n) (filter (λ (e : TreeEdge). e.from == q) (automaton_of c).edges)) (sym names)
 
 -- one more state
-pub state_written : (a : Automaton) (q : ℕ) (old now step new : List ℕ) → now ≡ old ++ flat_map (state_lines a) (range_with_len 0 q) → step ≡ now ++ line (codes "State: " ++ decimal q) → new ≡ step ++ flat_map (edge_line (length a.names)) (filter (λ e. e.from == q) a.edges) → new ≡ old ++ flat_map (state_lines a) (range_with_len 0 (q + 1))
+pub state_written : (a : Automaton) (q : ℕ) (old now step new : List ℕ) → now ≡ old ++ flat_map (state_lines a) (range_with_len 0 q) → step ≡ now ++ line (codes "State: " ++ decimal q)
+    → new ≡ step ++ flat_map (edge_line (length a.names)) (filter (λ e. e.from == q) a.edges) → new ≡ old ++ flat_map (state_lines a) (range_with_len 0 (q + 1))
 state_written a q old now step new so head edges =
     let text = flat_map (edge_line (length a.names)) (filter (λ e. e.from == q) a.edges) in
     let lines = flat_map (state_lines a) (range_with_len 0 q) in

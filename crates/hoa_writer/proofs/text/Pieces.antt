@@ -15,7 +15,8 @@ marks_text_more (m ∷ ms) h =
     ap (λ t. codes " {" ++ (t ++ codes "}")) (joined_more (codes " ") decimal m ms) ∙ ap (λ t. codes " {" ++ t) (append_assoc (decimal m) (flat_map (λ x. codes " " ++ decimal x) ms) (codes "}"))
 
 -- marks after the first and the others
-pub marks_written : (marks : List ℕ) (i : ℕ) (out one two three last : List ℕ) → 0 < length marks → length marks - 1 ≤ i → one ≡ out ++ codes " {" → two ≡ one ++ decimal (get_or marks 0 0) → three ≡ two ++ flat_map (λ m. codes " " ++ decimal m) (take i (take (length marks - 1) (drop 1 marks))) → last ≡ three ++ codes "}" → last ≡ out ++ marks_text marks
+pub marks_written : (marks : List ℕ) (i : ℕ) (out one two three last : List ℕ) → 0 < length marks → length marks - 1 ≤ i → one ≡ out ++ codes " {" → two ≡ one ++ decimal (get_or marks 0 0)
+    → three ≡ two ++ flat_map (λ m. codes " " ++ decimal m) (take i (take (length marks - 1) (drop 1 marks))) → last ≡ three ++ codes "}" → last ≡ out ++ marks_text marks
 marks_written marks i out one two three last some h open_ first rest close =
     let others = flat_map (λ (m : ℕ). codes " " ++ decimal m) in
     let all : three ≡ two ++ others (drop 1 marks) = rest ∙ ap (λ ms. two ++ others ms) (all_others marks i h) in
@@ -28,15 +29,18 @@ two_written out one two a b whole first second e =
     second ∙ (ap (λ t. t ++ b) first ∙ (append_assoc out a b ∙ ap (λ t. out ++ t) e))
 
 -- a line of four pieces
-pub line_written : (out one two three four last a b c d e : List ℕ) → one ≡ out ++ a → two ≡ one ++ b → three ≡ two ++ c → four ≡ three ++ d → last ≡ four ++ e → last ≡ out ++ ((a ++ (b ++ (c ++ d))) ++ e)
+pub line_written : (out one two three four last a b c d e : List ℕ) → one ≡ out ++ a → two ≡ one ++ b → three ≡ two ++ c → four ≡ three ++ d → last ≡ four ++ e
+    → last ≡ out ++ ((a ++ (b ++ (c ++ d))) ++ e)
 line_written out one two three four last a b c d e f g h i j = rw (j, i, h, g, f) (simp append_assoc)
 
 -- the line of the names
-pub names_written : (names : List (List ℕ)) (i : ℕ) (out one two three last : List ℕ) → length names ≤ i → one ≡ out ++ codes "AP: " → two ≡ one ++ decimal (length names) → three ≡ two ++ flat_map (λ name. codes " " ++ quoted name) (take i names) → last ≡ three ++ codes "\n" → last ≡ out ++ names_line names
+pub names_written : (names : List (List ℕ)) (i : ℕ) (out one two three last : List ℕ) → length names ≤ i → one ≡ out ++ codes "AP: " → two ≡ one ++ decimal (length names)
+    → three ≡ two ++ flat_map (λ name. codes " " ++ quoted name) (take i names) → last ≡ three ++ codes "\n" → last ≡ out ++ names_line names
 names_written names i out one two three last end f g h j =
     let all : take i names ≡ names = take_all i names end in
     rw (j, h, all, g, f) (simp append_assoc)
 
 -- seven pieces, one after another
-pub seven_written : (out one two three four five six last a b c d e f g : List ℕ) → one ≡ out ++ a → two ≡ one ++ b → three ≡ two ++ c → four ≡ three ++ d → five ≡ four ++ e → six ≡ five ++ f → last ≡ six ++ g → last ≡ out ++ (a ++ (b ++ (c ++ (d ++ (e ++ (f ++ g))))))
+pub seven_written : (out one two three four five six last a b c d e f g : List ℕ) → one ≡ out ++ a → two ≡ one ++ b → three ≡ two ++ c → four ≡ three ++ d → five ≡ four ++ e
+    → six ≡ five ++ f → last ≡ six ++ g → last ≡ out ++ (a ++ (b ++ (c ++ (d ++ (e ++ (f ++ g))))))
 seven_written out one two three four five six last a b c d e f g h i j k l m n = rw (n, m, l, k, j, i, h) (simp append_assoc)

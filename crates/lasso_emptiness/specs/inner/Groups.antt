@@ -20,4 +20,5 @@ pub record IsGroup (edges group : List LiveEdge) : Type 0 where
 -- each closed path along the edges lies in one of the groups
 pub record AreGroups (edges : List LiveEdge) (groups : List (List LiveEdge)) : Type 0 where
   pub each : (group : List LiveEdge) → Contains groups group → IsGroup edges group
-  pub whole : (state : ℕ) (cycle : List LiveEdge) → 0 < length cycle → IsTrail (Contains edges) state cycle state → (group : List LiveEdge) × Contains groups group × IsTrail (Contains group) state cycle state
+  pub whole : (state : ℕ) (cycle : List LiveEdge) → 0 < length cycle → IsTrail (Contains edges) state cycle state
+      → (group : List LiveEdge) × Contains groups group × IsTrail (Contains group) state cycle state

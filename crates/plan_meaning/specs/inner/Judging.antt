@@ -2,12 +2,12 @@
 use Rattle.std.specs.Prelude.{◌≡◌, Bool, true, false, List, All, filter_map, Option, Some, IfSome, Result, Ok, Err}
 use Rattle.std.specs.Option.{option_map}
 use Rattle.aut_base.specs.Automaton.{Automaton}
-use Rattle.aut_base.specs.declared.limit.Limit.{Limit}
 use Rattle.aut_core.specs.Core.{automaton_of}
 use Rattle.filter_plan.specs.declared.plan.Plan.{Plan}
 use Rattle.plan_meaning.specs.Complements.{KeepsOf}
-use Rattle.plan_meaning.specs.Filters.{AcceptsWord, AllHold, Edges, EquivalentTo, FailsAt, Filter, HoldsWithin, IncludedIn, Intersects, IsComplete, IsDeterministic, IsEmpty, IsUnambiguous, LacksWithin, Names, Passes, PassesAt, RejectsWord, Sets, States}
-use Rattle.plan_meaning.specs.Limits.{IsIncluded, PassesOfInclusion}
+use Rattle.plan_meaning.specs.Filters.{AcceptsWord, AllHold, Edges, EquivalentTo, FailsAt, Filter, HoldsWithin, IncludedIn, Intersects, IsComplete}
+use Rattle.plan_meaning.specs.Filters.{IsDeterministic, IsEmpty, IsUnambiguous, LacksWithin, Names, Passes, PassesAt, RejectsWord, Sets, States}
+use Rattle.plan_meaning.specs.Limits.{IsIncluded, IsWithinInclusion, PassesOfInclusion}
 use Rattle.plan_meaning.specs.Operands.{IsOfReadSize, operand_at, place_of_equivalent_to, place_of_included_in}
 use Rattle.plan_meaning.specs.declared.complements.Complements.{Complements}
 use Rattle.plan_meaning.specs.declared.fault.PlanFault.{PlanFault}
@@ -36,8 +36,8 @@ Examines (Err fault.Memory) f a = Unit {0}
 
 -- the one is included in the other, or isn't, or a limit is passed
 abbrev pub ComparesInclusion : Result Bool PlanFault → Automaton → Automaton → Type 0
-ComparesInclusion (Ok true) a b = ((which : Limit) → PassesOfInclusion which a b → ⊥) × IsIncluded a b
-ComparesInclusion (Ok false) a b = ((which : Limit) → PassesOfInclusion which a b → ⊥) × (IsIncluded a b → ⊥)
+ComparesInclusion (Ok true) a b = IsWithinInclusion a b × IsIncluded a b
+ComparesInclusion (Ok false) a b = IsWithinInclusion a b × (IsIncluded a b → ⊥)
 ComparesInclusion (Err (fault.Limit which)) a b = PassesOfInclusion which a b
 ComparesInclusion (Err fault.Memory) a b = Unit {0}
 

@@ -24,6 +24,7 @@ pub(crate) enum Change<'a> {
     Complete,
 }
 
+// Why so: 'Filters and changes of a plan are lists, in code as in the definitions' in docs/DECISIONS.md.
 /// The changes of a plan, in the order in which they are made, each where its option stands.
 pub(crate) fn changes<'a>(plan: &'a Plan, operands: &'a Automata) -> [Option<Change<'a>>; 8]
     requires operands { AreOperands plan.now (map automaton_of operands.now) }

@@ -11,6 +11,7 @@ use aut_core::Automaton;
 use filter_plan::{Plan, Range};
 use word_syntax::Pattern;
 
+// Why so: 'What a filter needs is in the filter' in docs/DECISIONS.md.
 /// A filter, with what it compares automata with.
 #[derive(Clone, Copy)]
 pub(crate) enum Filter<'a> {
@@ -29,6 +30,7 @@ pub(crate) enum Filter<'a> {
     Names(&'a Range),
 }
 
+// Why so: 'Filters and changes of a plan are lists, in code as in the definitions' in docs/DECISIONS.md.
 /// The filters of a plan, in the order in which they are examined, each where its option stands.
 pub(crate) fn filters<'a>(plan: &'a Plan, operands: &'a Automata) -> [Option<Filter<'a>>; 13]
     requires operands { AreOperands plan.now (map automaton_of operands.now) }

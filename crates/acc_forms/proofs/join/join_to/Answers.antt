@@ -4,7 +4,8 @@ use Rattle.acc_forms.specs.inner.Join.{joined}
 use Rattle.acc_forms.proofs.JoinLaws.{first_outweighs, second_neutral, second_outweighs, first_neutral}
 use Rattle.acc_forms.proofs.Meanings.{holds_of_new}
 use Rattle.acc_forms.proofs.join.join_to.Goals as goal
-use Rattle.acc_forms.proofs.join.join_to.Goals.{then-outweighs-via-then-outweighs, then-outweighs-via-else-outweighs+then-is_neutral, then-outweighs-2-via-then-outweighs-2, then-outweighs-2-via-else-outweighs-2+then-is_neutral-2}
+use Rattle.acc_forms.proofs.join.join_to.Goals.{then-outweighs-via-then-outweighs, then-outweighs-via-else-outweighs+then-is_neutral}
+use Rattle.acc_forms.proofs.join.join_to.Goals.{then-outweighs-2-via-then-outweighs-2, then-outweighs-2-via-else-outweighs-2+then-is_neutral-2}
 
 pub returns-then-outweighs : goal.returns-then-outweighs
 returns-then-outweighs c =

@@ -12,4 +12,5 @@ pub names-preserved : goal.names-preserved
 names-preserved c =
     let items = c.as_slice-name-items.ensures.items in
     let at = c.name-item.is ∙ ap (λ ns. get_or ns c.names.name-index c.name-item.result) items in
-    placed_more c.args.names.now c.args.other.now c.names.to c.push.new.self c.names.name-index c.place_in.result c.name-item.result (omega (arith, ap length items, c.names-test.true)) at c.names.invariant c.place_in.ensures c.in_ok-push.ensures.ok
+    placed_more c.args.names.now c.args.other.now c.names.to c.push.new.self c.names.name-index c.place_in.result c.name-item.result (omega (arith, ap length items, c.names-test.true)) at
+    c.names.invariant c.place_in.ensures c.in_ok-push.ensures.ok

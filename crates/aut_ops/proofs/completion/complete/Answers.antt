@@ -9,7 +9,9 @@ use Rattle.aut_ops.proofs.SinkStates.{completed_accepts, completed_complete, com
 use Rattle.aut_ops.proofs.completion.complete.Goals as goal
 
 pub returns-then-is_complete-clause-shape : goal.returns-then-is_complete-clause-shape
-returns-then-is_complete-clause-shape c = IfOk-weaker c.copy.result _ _ (λ core e. ap automaton_of e ∙ sym (completed_same (automaton_of c.args.a.now) c.whole.ensures.well_formed (c.is_complete.ensures.0 c.if-is_complete.true))) c.copy.ensures
+returns-then-is_complete-clause-shape c =
+    IfOk-weaker c.copy.result _ _ (λ core e. ap automaton_of e ∙ sym (completed_same (automaton_of c.args.a.now) c.whole.ensures.well_formed (c.is_complete.ensures.0 c.if-is_complete.true)))
+    c.copy.ensures
 
 pub sunk-requires-clause-states : goal.sunk-requires-clause-states
 sunk-requires-clause-states c =

@@ -14,5 +14,6 @@ states-preserved c =
     let keeps = subst (λ (s : Store). Keeps s c.states.guards) c.requires c.states.invariant.keeps in
     record {
       keeps = keeps_on c.states.invariant.keeps c.fill_state.ensures.keeps;
-      links = state_more c.args.a.now c.states.guards c.fill_state.new.guards c.states.links c.fill_state.new.links c.links_of.result.now c.states.state c.states-in-states.result c.states-in-states.ensures c.whole.ensures keeps c.links_of.ensures c.states.invariant.links c.in_ok-fill_state.ensures.filled;
+      links = state_more c.args.a.now c.states.guards c.fill_state.new.guards c.states.links c.fill_state.new.links c.links_of.result.now c.states.state c.states-in-states.result
+          c.states-in-states.ensures c.whole.ensures keeps c.links_of.ensures c.states.invariant.links c.in_ok-fill_state.ensures.filled;
     }

@@ -24,8 +24,10 @@ seconds-preserved c =
     let q : ℕ = get_or qs i 0 in
     let at = get_or_default qs i 0 q c.seconds-test.true in
     let f : ℕ → ℕ × ℕ = λ second. (c.args.first, second) in
-    let one = listed_one c.seconds.pairing.pairs c.number.new.self.pairs c.seconds.starts c.push.new.self c.in_ok-place.place (f q) c.in_ok-place.ensures.pairs c.in_ok-place.ensures.place c.in_ok-push.ensures.ok in
-    let all = listed_then c.args.pairing.now.pairs c.seconds.pairing.pairs c.number.new.self.pairs c.args.starts.now c.seconds.starts c.push.new.self (map f (take i qs)) (f q ∷ []) c.seconds.invariant.listed one in
+    let one = listed_one c.seconds.pairing.pairs c.number.new.self.pairs c.seconds.starts c.push.new.self c.in_ok-place.place (f q) c.in_ok-place.ensures.pairs c.in_ok-place.ensures.place
+    c.in_ok-push.ensures.ok in
+    let all = listed_then c.args.pairing.now.pairs c.seconds.pairing.pairs c.number.new.self.pairs c.args.starts.now c.seconds.starts c.push.new.self (map f (take i qs)) (f q ∷ [])
+    c.seconds.invariant.listed one in
     record {
       store = c.number.ensures.store ∙ c.seconds.invariant.store;
       links = c.number.ensures.links ∙ c.seconds.invariant.links;

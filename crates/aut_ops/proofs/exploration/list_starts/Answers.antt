@@ -24,8 +24,10 @@ returns-in_err-list_row-clause-many c is =
     let at = get_or_default ps i 0 p within in
     let row : ℕ → List (ℕ × ℕ) = λ first. map (λ second. (first, second)) c.args.seconds.now in
     let many = c.in_err-list_row.ensures.many (passed_on c.from_residual.result _ _ c.from_residual.ensures.1 is) in
-    let same : map (λ (second : ℕ). (get_or c.as_slice-first-items.result.now i 0, second)) c.as_slice.result.now ≡ row p = λ j. map (λ (second : ℕ). (get_or (c.as_slice-first-items.ensures j) i 0, second)) (c.as_slice.ensures j) in
-    beyond_front MOST_PAIRS [] c.firsts.pairing.pairs (all_pairs (take i ps) c.args.seconds.now) (row p) _ (all_pairs ps c.args.seconds.now) c.firsts.invariant.listed.pairs (rows_whole row ps i p within at) (subst (AreBeyond MOST_PAIRS c.firsts.pairing.pairs) same many)
+    let same : map (λ (second : ℕ). (get_or c.as_slice-first-items.result.now i 0, second)) c.as_slice.result.now ≡ row p =
+    λ j. map (λ (second : ℕ). (get_or (c.as_slice-first-items.ensures j) i 0, second)) (c.as_slice.ensures j) in
+    beyond_front MOST_PAIRS [] c.firsts.pairing.pairs (all_pairs (take i ps) c.args.seconds.now) (row p) _ (all_pairs ps c.args.seconds.now) c.firsts.invariant.listed.pairs
+    (rows_whole row ps i p within at) (subst (AreBeyond MOST_PAIRS c.firsts.pairing.pairs) same many)
 
 pub firsts-preserved : goal.firsts-preserved
 firsts-preserved c =
@@ -35,9 +37,11 @@ firsts-preserved c =
     let within : c.firsts.first-index < length c.args.firsts.now = omega (arith, c.firsts-test.true, ap (λ (xs : List ℕ). length xs) c.as_slice-first-items.ensures) in
     let at = get_or_default ps i 0 p within in
     let row : ℕ → List (ℕ × ℕ) = λ first. map (λ second. (first, second)) c.args.seconds.now in
-    let same : map (λ (second : ℕ). (get_or c.as_slice-first-items.result.now i 0, second)) c.as_slice.result.now ≡ row p = λ j. map (λ (second : ℕ). (get_or (c.as_slice-first-items.ensures j) i 0, second)) (c.as_slice.ensures j) in
+    let same : map (λ (second : ℕ). (get_or c.as_slice-first-items.result.now i 0, second)) c.as_slice.result.now ≡ row p =
+    λ j. map (λ (second : ℕ). (get_or (c.as_slice-first-items.ensures j) i 0, second)) (c.as_slice.ensures j) in
     let one = subst (AreListed c.firsts.pairing.pairs c.list_row.new.pairing.pairs c.firsts.starts c.list_row.new.starts) same c.in_ok-list_row.ensures.listed in
-    let all = listed_then [] c.firsts.pairing.pairs c.list_row.new.pairing.pairs [] c.firsts.starts c.list_row.new.starts (all_pairs (take i ps) c.args.seconds.now) (row p) c.firsts.invariant.listed one in
+    let all = listed_then [] c.firsts.pairing.pairs c.list_row.new.pairing.pairs [] c.firsts.starts c.list_row.new.starts (all_pairs (take i ps) c.args.seconds.now) (row p)
+    c.firsts.invariant.listed one in
     record {
       store = c.list_row.ensures.store ∙ c.firsts.invariant.store;
       links = c.list_row.ensures.links ∙ c.firsts.invariant.links;

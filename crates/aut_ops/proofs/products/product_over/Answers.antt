@@ -14,22 +14,39 @@ use Rattle.aut_ops.proofs.products.product_over.Goals as goal
 pub returns-in_err-starts-clause-pairs : goal.returns-in_err-starts-clause-pairs
 returns-in_err-starts-clause-pairs c is =
     let many = c.in_err-starts.ensures.many (passed_on c.from_residual-in_err-starts.result _ _ c.from_residual-in_err-starts.ensures.1 is) in
-    starts_beyond MOST_PAIRS c.args.a.now c.args.b.now c.whole.ensures c.whole-2.ensures c.requires.names c.requires.sets (subst (AreBeyond MOST_PAIRS []) (λ i. all_pairs (c.starts.ensures i) (c.starts-2.ensures i)) many)
+    starts_beyond MOST_PAIRS c.args.a.now c.args.b.now c.whole.ensures c.whole-2.ensures c.requires.names c.requires.sets
+    (subst (AreBeyond MOST_PAIRS []) (λ i. all_pairs (c.starts.ensures i) (c.starts-2.ensures i)) many)
 
 pub condition-requires : goal.condition-requires
 condition-requires c =
-    subst (SetsBelow (4294967296 - c.sets-sets.result)) (sym c.formula-2.ensures) (sets_weaker c.args.b.now.sets (4294967296 - c.sets-sets.result) (omega (arith, c.sets-sets.ensures, c.requires.sets)) c.args.b.now.formula c.whole-2.ensures.parts.formula)
+    subst (SetsBelow (4294967296 - c.sets-sets.result)) (sym c.formula-2.ensures)
+    (sets_weaker c.args.b.now.sets (4294967296 - c.sets-sets.result) (omega (arith, c.sets-sets.ensures, c.requires.sets)) c.args.b.now.formula c.whole-2.ensures.parts.formula)
 
 pub from_parts-requires : goal.from_parts-requires
 from_parts-requires c =
-    (made c.args.join c.args.a.now c.args.b.now c.explore.new.pairing c.list_starts.new.pairing.pairs c.in_ok-names.names c.in_ok-starts.starts c.len-states.result c.sets-sets.result c.sets.result (formula_tree c.in_ok-formula.formula) (formula_tree c.formula.result.now) (formula_tree c.formula-2.result.now) c.into_parts-guards.result.0 c.into_parts-guards.result.1 c.whole.ensures c.whole-2.ensures c.requires.names c.in_ok-explore.ensures.keeps c.in_ok-explore.ensures.pairs c.in_ok-explore.ensures.edges c.in_ok-explore.ensures.longer (subst (ArePlaces c.list_starts.new.pairing.pairs c.in_ok-starts.starts) (λ i. all_pairs (c.starts.ensures i) (c.starts-2.ensures i)) c.in_ok-starts.ensures.places) (c.in_ok-names.ensures ∙ c.names.ensures) c.len-states.ensures c.sets-sets.ensures c.sets.ensures c.formula.ensures c.formula-2.ensures c.in_ok-formula.ensures c.into_parts-guards.ensures.store c.into_parts-guards.ensures.links).parts
+    (made c.args.join c.args.a.now c.args.b.now c.explore.new.pairing c.list_starts.new.pairing.pairs c.in_ok-names.names c.in_ok-starts.starts c.len-states.result c.sets-sets.result
+    c.sets.result (formula_tree c.in_ok-formula.formula) (formula_tree c.formula.result.now) (formula_tree c.formula-2.result.now) c.into_parts-guards.result.0
+    c.into_parts-guards.result.1 c.whole.ensures c.whole-2.ensures c.requires.names c.in_ok-explore.ensures.keeps c.in_ok-explore.ensures.pairs c.in_ok-explore.ensures.edges
+    c.in_ok-explore.ensures.longer (subst (ArePlaces c.list_starts.new.pairing.pairs c.in_ok-starts.starts) (λ i. all_pairs (c.starts.ensures i) (c.starts-2.ensures i))
+    c.in_ok-starts.ensures.places) (c.in_ok-names.ensures ∙ c.names.ensures) c.len-states.ensures c.sets-sets.ensures c.sets.ensures c.formula.ensures c.formula-2.ensures
+    c.in_ok-formula.ensures c.into_parts-guards.ensures.store c.into_parts-guards.ensures.links).parts
 
 pub returns-clause-shape : goal.returns-clause-shape
 returns-clause-shape c =
-    let all = made c.args.join c.args.a.now c.args.b.now c.explore.new.pairing c.list_starts.new.pairing.pairs c.in_ok-names.names c.in_ok-starts.starts c.len-states.result c.sets-sets.result c.sets.result (formula_tree c.in_ok-formula.formula) (formula_tree c.formula.result.now) (formula_tree c.formula-2.result.now) c.into_parts-guards.result.0 c.into_parts-guards.result.1 c.whole.ensures c.whole-2.ensures c.requires.names c.in_ok-explore.ensures.keeps c.in_ok-explore.ensures.pairs c.in_ok-explore.ensures.edges c.in_ok-explore.ensures.longer (subst (ArePlaces c.list_starts.new.pairing.pairs c.in_ok-starts.starts) (λ i. all_pairs (c.starts.ensures i) (c.starts-2.ensures i)) c.in_ok-starts.ensures.places) (c.in_ok-names.ensures ∙ c.names.ensures) c.len-states.ensures c.sets-sets.ensures c.sets.ensures c.formula.ensures c.formula-2.ensures c.in_ok-formula.ensures c.into_parts-guards.ensures.store c.into_parts-guards.ensures.links in
+    let all = made c.args.join c.args.a.now c.args.b.now c.explore.new.pairing c.list_starts.new.pairing.pairs c.in_ok-names.names c.in_ok-starts.starts c.len-states.result
+    c.sets-sets.result c.sets.result (formula_tree c.in_ok-formula.formula) (formula_tree c.formula.result.now) (formula_tree c.formula-2.result.now) c.into_parts-guards.result.0
+    c.into_parts-guards.result.1 c.whole.ensures c.whole-2.ensures c.requires.names c.in_ok-explore.ensures.keeps c.in_ok-explore.ensures.pairs c.in_ok-explore.ensures.edges
+    c.in_ok-explore.ensures.longer (subst (ArePlaces c.list_starts.new.pairing.pairs c.in_ok-starts.starts) (λ i. all_pairs (c.starts.ensures i) (c.starts-2.ensures i))
+    c.in_ok-starts.ensures.places) (c.in_ok-names.ensures ∙ c.names.ensures) c.len-states.ensures c.sets-sets.ensures c.sets.ensures c.formula.ensures c.formula-2.ensures
+    c.in_ok-formula.ensures c.into_parts-guards.ensures.store c.into_parts-guards.ensures.links in
     subst (λ (core : Core). IsProduct (join_of c.args.join) (automaton_of c.args.a.now) (automaton_of c.args.b.now) (automaton_of core)) (sym c.in_ok-from_parts.ensures) all.shape
 
 pub returns-clause-accepts : goal.returns-clause-accepts
 returns-clause-accepts c =
-    let all = made c.args.join c.args.a.now c.args.b.now c.explore.new.pairing c.list_starts.new.pairing.pairs c.in_ok-names.names c.in_ok-starts.starts c.len-states.result c.sets-sets.result c.sets.result (formula_tree c.in_ok-formula.formula) (formula_tree c.formula.result.now) (formula_tree c.formula-2.result.now) c.into_parts-guards.result.0 c.into_parts-guards.result.1 c.whole.ensures c.whole-2.ensures c.requires.names c.in_ok-explore.ensures.keeps c.in_ok-explore.ensures.pairs c.in_ok-explore.ensures.edges c.in_ok-explore.ensures.longer (subst (ArePlaces c.list_starts.new.pairing.pairs c.in_ok-starts.starts) (λ i. all_pairs (c.starts.ensures i) (c.starts-2.ensures i)) c.in_ok-starts.ensures.places) (c.in_ok-names.ensures ∙ c.names.ensures) c.len-states.ensures c.sets-sets.ensures c.sets.ensures c.formula.ensures c.formula-2.ensures c.in_ok-formula.ensures c.into_parts-guards.ensures.store c.into_parts-guards.ensures.links in
+    let all = made c.args.join c.args.a.now c.args.b.now c.explore.new.pairing c.list_starts.new.pairing.pairs c.in_ok-names.names c.in_ok-starts.starts c.len-states.result
+    c.sets-sets.result c.sets.result (formula_tree c.in_ok-formula.formula) (formula_tree c.formula.result.now) (formula_tree c.formula-2.result.now) c.into_parts-guards.result.0
+    c.into_parts-guards.result.1 c.whole.ensures c.whole-2.ensures c.requires.names c.in_ok-explore.ensures.keeps c.in_ok-explore.ensures.pairs c.in_ok-explore.ensures.edges
+    c.in_ok-explore.ensures.longer (subst (ArePlaces c.list_starts.new.pairing.pairs c.in_ok-starts.starts) (λ i. all_pairs (c.starts.ensures i) (c.starts-2.ensures i))
+    c.in_ok-starts.ensures.places) (c.in_ok-names.ensures ∙ c.names.ensures) c.len-states.ensures c.sets-sets.ensures c.sets.ensures c.formula.ensures c.formula-2.ensures
+    c.in_ok-formula.ensures c.into_parts-guards.ensures.store c.into_parts-guards.ensures.links in
     subst (λ (core : Core). JoinAccepts c.args.join (automaton_of core) (automaton_of c.args.a.now) (automaton_of c.args.b.now)) (sym c.in_ok-from_parts.ensures) all.accepts

@@ -22,7 +22,8 @@ pub reach-requires-2-clause-nodes : goal.reach-requires-2-clause-nodes
 reach-requires-2-clause-nodes c =
     let graph = c.in_ok-graph.graph in
     let back = c.in_ok-turned.field-0 in
-    let within = turned_nodes graph.nodes graph.arcs (graph_nodes (automaton_of c.args.b.now) c.whole.ensures.well_formed graph.nodes graph.arcs c.in_ok-graph.ensures.nodes c.in_ok-graph.ensures.arcs) in
+    let within = turned_nodes graph.nodes graph.arcs
+    (graph_nodes (automaton_of c.args.b.now) c.whole.ensures.well_formed graph.nodes graph.arcs c.in_ok-graph.ensures.nodes c.in_ok-graph.ensures.arcs) in
     subst (HasNodes back.nodes) (sym c.in_ok-turned.ensures.arcs) (subst (λ n. HasNodes n (map turned_arc graph.arcs)) (sym c.in_ok-turned.ensures.nodes) within)
 
 pub reach-requires-2-clause-from : goal.reach-requires-2-clause-from
@@ -45,5 +46,7 @@ returns c =
     let are = subst (λ (ls : List (ℕ × ℕ)). AreComponents b.states ls numbers) arcs (subst (λ n. AreComponents n graph.arcs numbers) nodes c.in_ok-numbers.ensures) in
     let first = graph_reached a c.whole.ensures.well_formed graph.nodes graph.arcs _ c.in_ok-reached.reached nodes arcs c.starts.ensures c.in_ok-reached.ensures in
     let turned_arcs = c.in_ok-turned.ensures.arcs ∙ ap (map turned_arc) arcs in
-    let second = subst (λ (ls : List (ℕ × ℕ)). AreReached b.states ls sources c.in_ok-leading.leading) turned_arcs (subst (λ n. AreReached n back.arcs sources c.in_ok-leading.leading) (c.in_ok-turned.ensures.nodes ∙ nodes) c.in_ok-leading.ensures) in
-    IfOk-weaker c.both.result _ _ (λ flags is. found_useful b c.whole.ensures numbers are sources c.in_ok-reached.reached c.in_ok-leading.leading flags c.in_ok-sources.ensures first second (is ∙ (λ i. both_flagged (c.as_slice.ensures i) (c.as_slice-2.ensures i)))) c.both.ensures
+    let second = subst (λ (ls : List (ℕ × ℕ)). AreReached b.states ls sources c.in_ok-leading.leading) turned_arcs
+    (subst (λ n. AreReached n back.arcs sources c.in_ok-leading.leading) (c.in_ok-turned.ensures.nodes ∙ nodes) c.in_ok-leading.ensures) in
+    IfOk-weaker c.both.result _ _ (λ flags is. found_useful b c.whole.ensures numbers are sources c.in_ok-reached.reached c.in_ok-leading.leading flags c.in_ok-sources.ensures first second
+    (is ∙ (λ i. both_flagged (c.as_slice.ensures i) (c.as_slice-2.ensures i)))) c.both.ensures

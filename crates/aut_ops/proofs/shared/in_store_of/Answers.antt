@@ -7,7 +7,16 @@ use Rattle.aut_ops.proofs.shared.in_store_of.Goals as goal
 
 pub from_parts-requires : goal.from_parts-requires
 from_parts-requires c =
-    let core : Core = record { names = c.in_ok-names.names; starts = c.in_ok-starts.starts; states = c.states.result; links = c.in_ok-links.links; sets = c.sets.result; formula = formula_tree c.in_ok-formula.formula; store = c.brought.new.guards } in
+    let core : Core = record {
+      names = c.in_ok-names.names;
+      starts = c.in_ok-starts.starts;
+      states = c.states.result;
+      links = c.in_ok-links.links;
+      sets = c.sets.result;
+      formula =
+          formula_tree c.in_ok-formula.formula;
+      store = c.brought.new.guards;
+    } in
     let same : automaton_of core ≡ automaton_of c.args.a.now = λ i. record {
       names = (c.in_ok-names.ensures ∙ c.names.ensures) i;
       starts = (c.in_ok-starts.ensures ∙ c.starts.ensures) i;

@@ -12,12 +12,14 @@ use Rattle.aut_ops.proofs.trimming.flagged_alone.Goals as goal
 pub renumbered_links-requires-clause-from : goal.renumbered_links-requires-clause-from
 renumbered_links-requires-clause-from c =
     let count = ranks_count c.args.flags.now c.in_ok-new.new.ranks c.in_ok-new.ensures.ranks ∙ c.requires in
-    subst (All (λ (l : Link). l.from < length c.in_ok-new.new.ranks)) (sym (c.as_slice.ensures ∙ c.in_ok-staying.ensures)) (links_from_states c.args.a.now c.whole.ensures (length c.in_ok-new.new.ranks) count (link_stays c.args.a.now c.args.flags.now))
+    subst (All (λ (l : Link). l.from < length c.in_ok-new.new.ranks)) (sym (c.as_slice.ensures ∙ c.in_ok-staying.ensures))
+    (links_from_states c.args.a.now c.whole.ensures (length c.in_ok-new.new.ranks) count (link_stays c.args.a.now c.args.flags.now))
 
 pub renumbered_links-requires-clause-to : goal.renumbered_links-requires-clause-to
 renumbered_links-requires-clause-to c =
     let count = ranks_count c.args.flags.now c.in_ok-new.new.ranks c.in_ok-new.ensures.ranks ∙ c.requires in
-    subst (All (λ (l : Link). l.to < length c.in_ok-new.new.ranks)) (sym (c.as_slice.ensures ∙ c.in_ok-staying.ensures)) (links_to_states c.args.a.now c.whole.ensures (length c.in_ok-new.new.ranks) count (link_stays c.args.a.now c.args.flags.now))
+    subst (All (λ (l : Link). l.to < length c.in_ok-new.new.ranks)) (sym (c.as_slice.ensures ∙ c.in_ok-staying.ensures))
+    (links_to_states c.args.a.now c.whole.ensures (length c.in_ok-new.new.ranks) count (link_stays c.args.a.now c.args.flags.now))
 
 pub renumbered-requires : goal.renumbered-requires
 renumbered-requires c =
@@ -26,9 +28,19 @@ renumbered-requires c =
     subst (All (λ p. p < length c.in_ok-new.new.ranks)) (sym flagged) (starts_states c.args.a.now c.whole.ensures (length c.in_ok-new.new.ranks) count (is_flagged c.args.flags.now))
 
 pub from_parts-requires : goal.from_parts-requires
-from_parts-requires c = (numbered_alone c.args.a.now c.args.flags.now c.in_ok-new.new.ranks c.in_ok-names.names c.in_ok-flagged.flagged c.in_ok-starts.starts c.in_ok-new.new.count c.in_ok-staying.staying c.in_ok-links.links c.sets.result (formula_tree c.in_ok-formula.formula) c.in_ok-guards.guards c.whole.ensures c.requires c.in_ok-new.ensures.ranks (c.in_ok-names.ensures ∙ c.names.ensures) (c.in_ok-flagged.ensures ∙ ap (filter (is_flagged c.args.flags.now)) (c.as_slice-2.ensures ∙ c.starts.ensures)) (c.in_ok-starts.ensures ∙ ap (map (new_number c.in_ok-new.new.ranks)) c.as_slice-3.ensures) c.in_ok-new.ensures.count c.in_ok-staying.ensures (c.in_ok-links.ensures ∙ ap (map (new_link c.in_ok-new.new.ranks)) c.as_slice.ensures) c.sets.ensures (c.in_ok-formula.ensures ∙ c.formula.ensures) (c.in_ok-guards.ensures ∙ c.guards.ensures)).parts
+from_parts-requires c = (numbered_alone c.args.a.now c.args.flags.now c.in_ok-new.new.ranks c.in_ok-names.names c.in_ok-flagged.flagged c.in_ok-starts.starts c.in_ok-new.new.count
+    c.in_ok-staying.staying c.in_ok-links.links c.sets.result (formula_tree c.in_ok-formula.formula) c.in_ok-guards.guards c.whole.ensures c.requires c.in_ok-new.ensures.ranks
+    (c.in_ok-names.ensures ∙ c.names.ensures) (c.in_ok-flagged.ensures ∙ ap (filter (is_flagged c.args.flags.now)) (c.as_slice-2.ensures ∙ c.starts.ensures))
+    (c.in_ok-starts.ensures ∙ ap (map (new_number c.in_ok-new.new.ranks)) c.as_slice-3.ensures) c.in_ok-new.ensures.count c.in_ok-staying.ensures
+    (c.in_ok-links.ensures ∙ ap (map (new_link c.in_ok-new.new.ranks)) c.as_slice.ensures) c.sets.ensures (c.in_ok-formula.ensures ∙ c.formula.ensures)
+    (c.in_ok-guards.ensures ∙ c.guards.ensures)).parts
 
 pub returns : goal.returns
 returns c =
-    let made = numbered_alone c.args.a.now c.args.flags.now c.in_ok-new.new.ranks c.in_ok-names.names c.in_ok-flagged.flagged c.in_ok-starts.starts c.in_ok-new.new.count c.in_ok-staying.staying c.in_ok-links.links c.sets.result (formula_tree c.in_ok-formula.formula) c.in_ok-guards.guards c.whole.ensures c.requires c.in_ok-new.ensures.ranks (c.in_ok-names.ensures ∙ c.names.ensures) (c.in_ok-flagged.ensures ∙ ap (filter (is_flagged c.args.flags.now)) (c.as_slice-2.ensures ∙ c.starts.ensures)) (c.in_ok-starts.ensures ∙ ap (map (new_number c.in_ok-new.new.ranks)) c.as_slice-3.ensures) c.in_ok-new.ensures.count c.in_ok-staying.ensures (c.in_ok-links.ensures ∙ ap (map (new_link c.in_ok-new.new.ranks)) c.as_slice.ensures) c.sets.ensures (c.in_ok-formula.ensures ∙ c.formula.ensures) (c.in_ok-guards.ensures ∙ c.guards.ensures) in
+    let made = numbered_alone c.args.a.now c.args.flags.now c.in_ok-new.new.ranks c.in_ok-names.names c.in_ok-flagged.flagged c.in_ok-starts.starts c.in_ok-new.new.count
+    c.in_ok-staying.staying c.in_ok-links.links c.sets.result (formula_tree c.in_ok-formula.formula) c.in_ok-guards.guards c.whole.ensures c.requires c.in_ok-new.ensures.ranks
+    (c.in_ok-names.ensures ∙ c.names.ensures) (c.in_ok-flagged.ensures ∙ ap (filter (is_flagged c.args.flags.now)) (c.as_slice-2.ensures ∙ c.starts.ensures))
+    (c.in_ok-starts.ensures ∙ ap (map (new_number c.in_ok-new.new.ranks)) c.as_slice-3.ensures) c.in_ok-new.ensures.count c.in_ok-staying.ensures
+    (c.in_ok-links.ensures ∙ ap (map (new_link c.in_ok-new.new.ranks)) c.as_slice.ensures) c.sets.ensures (c.in_ok-formula.ensures ∙ c.formula.ensures)
+    (c.in_ok-guards.ensures ∙ c.guards.ensures) in
     IfOk-weaker c.from_parts.result _ _ (λ core e. ap automaton_of e ∙ made.is) c.from_parts.ensures

@@ -17,4 +17,5 @@ returns-clause-accepts c =
     let a = automaton_of c.args.a.now in
     let reached = graph_reached a c.whole.ensures.well_formed _ _ _ _ c.in_ok-graph.ensures.nodes c.in_ok-graph.ensures.arcs c.starts.ensures c.in_ok-reached.ensures in
     let flagged = subst (AreReached a.states (passable_arcs a) a.starts) (sym c.as_slice.ensures) reached in
-    IfOk-weaker c.flagged_alone.result _ _ (λ made e. subst (λ (x : Automaton). AcceptTheSame x a) (sym e) (trimmed_accepts a c.whole.ensures.well_formed c.as_slice.result.now flagged)) c.flagged_alone.ensures
+    IfOk-weaker c.flagged_alone.result _ _ (λ made e. subst (λ (x : Automaton). AcceptTheSame x a) (sym e) (trimmed_accepts a c.whole.ensures.well_formed c.as_slice.result.now flagged))
+    c.flagged_alone.ensures

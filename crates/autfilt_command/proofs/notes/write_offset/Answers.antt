@@ -5,7 +5,8 @@ use Rattle.autfilt_run.proofs.Writing.{writes_as, writes_first, writes_then}
 use Rattle.autfilt_command.proofs.notes.write_offset.Goals as goal
 
 pub returns-in_err-write_pieces : goal.returns-in_err-write_pieces
-returns-in_err-write_pieces g c = writes_as _ _ _ _ _ (line_is c.args.name.now (codes "syntax error at byte ") (decimal c.args.offset)) (writes_first _ _ _ _ _ _ c.from_residual.ensures.1 c.in_err-write_pieces.ensures)
+returns-in_err-write_pieces g c = writes_as _ _ _ _ _ (line_is c.args.name.now (codes "syntax error at byte ") (decimal c.args.offset))
+    (writes_first _ _ _ _ _ _ c.from_residual.ensures.1 c.in_err-write_pieces.ensures)
 
 pub returns-in_err-write_number : goal.returns-in_err-write_number
 returns-in_err-write_number g c =

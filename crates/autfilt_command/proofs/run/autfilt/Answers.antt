@@ -10,11 +10,13 @@ use Rattle.autfilt_command.proofs.run.autfilt.Goals as goal
 pub returns-in-Err-Usage-clause-run : goal.returns-in-Err-Usage-clause-run
 returns-in-Err-Usage-clause-run g c =
     ends_refused c.args.words.now c.from.result c.note_end.result _ _ _ _ _ _ c.from.ensures c.note_end.ensures.same
-    (was_refused c.args.words.now c.in-Err-Usage.field-0 c.in-Err-Usage.field-0-is c.in-Err-Usage.ensures.usage) (c.note_end.ensures.noted (g.M.Sink.seen c.args.notes.now) [] (nothing_noted (g.M.Sink.seen c.args.notes.now)))
+    (was_refused c.args.words.now c.in-Err-Usage.field-0 c.in-Err-Usage.field-0-is c.in-Err-Usage.ensures.usage)
+    (c.note_end.ensures.noted (g.M.Sink.seen c.args.notes.now) [] (nothing_noted (g.M.Sink.seen c.args.notes.now)))
 
 pub returns-in-Err-Memory-clause-run : goal.returns-in-Err-Memory-clause-run
 returns-in-Err-Memory-clause-run g c =
-    ends_wanting c.args.words.now c.from-in-Err-Memory.result c.note_end-in-Err-Memory.result _ _ _ _ c.from-in-Err-Memory.ensures c.note_end-in-Err-Memory.ensures.same (c.note_end-in-Err-Memory.ensures.noted (g.M.Sink.seen c.args.notes.now) [] (nothing_noted (g.M.Sink.seen c.args.notes.now)))
+    ends_wanting c.args.words.now c.from-in-Err-Memory.result c.note_end-in-Err-Memory.result _ _ _ _ c.from-in-Err-Memory.ensures c.note_end-in-Err-Memory.ensures.same
+    (c.note_end-in-Err-Memory.ensures.noted (g.M.Sink.seen c.args.notes.now) [] (nothing_noted (g.M.Sink.seen c.args.notes.now)))
 
 pub prepare-requires-clause-names : goal.prepare-requires-clause-names
 prepare-requires-clause-names g c = may_open_operands g.I.Inputs.may_open c.in-Ok.plan c.new-session.result.plan c.new-session.ensures.plan (c.requires c.in-Ok.plan c.in-Ok.ensures.plan)
@@ -30,7 +32,8 @@ returns-in-Err-clause-run g c =
 
 pub take_steps-requires-clause-names : goal.take_steps-requires-clause-names
 take_steps-requires-clause-names g c =
-    may_open_streams g.I.Inputs.may_open c.in-Ok.plan c.prepare.new.session.plan (c.in-Ok-prepare.ensures.prepared.same_plan ∙ c.new-session.ensures.plan) c.in-None.is (c.requires c.in-Ok.plan c.in-Ok.ensures.plan)
+    may_open_streams g.I.Inputs.may_open c.in-Ok.plan c.prepare.new.session.plan (c.in-Ok-prepare.ensures.prepared.same_plan ∙ c.new-session.ensures.plan) c.in-None.is
+    (c.requires c.in-Ok.plan c.in-Ok.ensures.plan)
 
 pub new-made-requires-clause-some : goal.new-made-requires-clause-some
 new-made-requires-clause-some g c = (made_within c.args.words.now c.in-Ok.plan c.in-Some.count c.in-Ok.ensures.plan c.in-Some.is).0
@@ -58,5 +61,6 @@ returns-in-Some-clause-run g c =
     let ready = c.prepare.new.session in
     let noting = c.in-Ok-prepare.noting in
     let prepared = subst (λ (x : Plan). IsPrepared x ready s m k l noting) c.new-session.ensures.plan c.in-Ok-prepare.ensures in
-    ends_made c.args.words.now c.from-in-Some.result c.in-Ok.plan ready c.in-Some.count c.take_steps-in-Some.result s m (seen_of_made c.new-made.result) (seen_of_made c.take_steps-in-Some.new.inputs) _ _ k l _ noting c.from-in-Some.ensures c.in-Ok.ensures.plan c.in-Some.is
+    ends_made c.args.words.now c.from-in-Some.result c.in-Ok.plan ready c.in-Some.count c.take_steps-in-Some.result s m (seen_of_made c.new-made.result)
+    (seen_of_made c.take_steps-in-Some.new.inputs) _ _ k l _ noting c.from-in-Some.ensures c.in-Ok.ensures.plan c.in-Some.is
     (ap seen_of_made c.new-made.ensures) prepared c.take_steps-in-Some.ensures

@@ -21,7 +21,8 @@ returns-in-Ok-Ready g c =
     let is = c.in-Ok-Ready.field-0-is in
     let did = subst (λ (x : Prep). Prepares (Ok x) old new m t) is said.prepares in
     let keeps : KeepsPlan old new = record { plan = said.plan; opened = said.opened; kept = said.kept } in
-    prepared_all c.args.session.now.plan old new (g.I.Inputs.seen c.args.inputs.now) m t (g.M.Sink.seen c.args.notes.now) (g.M.Sink.seen c.operands.notes) c.operands.noting c.operands.invariant.prepared keeps did (said.ready is) (said.closed is)
+    prepared_all c.args.session.now.plan old new (g.I.Inputs.seen c.args.inputs.now) m t (g.M.Sink.seen c.args.notes.now) (g.M.Sink.seen c.operands.notes) c.operands.noting
+    c.operands.invariant.prepared keeps did (said.ready is) (said.closed is)
 
 pub operands-smaller : goal.operands-smaller
 operands-smaller g c =
@@ -47,7 +48,8 @@ operands-preserved g c =
     let keeps : KeepsPlan old new = record { plan = said.plan; opened = said.opened; kept = said.kept } in
     let added = subst (λ (x : List ℕ). Adds (aborted_line x) c.operands.noting c.note_skipped-noting.result l j) c.name_in_hand.ensures c.note_skipped-noting.ensures in
     record {
-      prepared = prepared_skipped c.args.session.now.plan old new (g.I.Inputs.seen c.args.inputs.now) m t (g.M.Sink.seen c.args.notes.now) l j c.operands.noting c.note_skipped-noting.result c.operands.invariant.prepared keeps did added;
+      prepared = prepared_skipped c.args.session.now.plan old new (g.I.Inputs.seen c.args.inputs.now) m t (g.M.Sink.seen c.args.notes.now) l j c.operands.noting c.note_skipped-noting.result
+          c.operands.invariant.prepared keeps did added;
       stage = said.skipped is;
     }
 
@@ -60,4 +62,5 @@ returns-in-Err g c =
     let old = c.operands.session in
     let new = c.prepare.new.self in
     let closes = subst (λ (x : List ℕ). Closes (line_of (end.Fault c.in-Err.fault) x) c.operands.noting l j) c.name_in_hand-name.ensures c.note_end.ensures.noted in
-    prepared_fails c.in-Err.fault c.note_end.result c.args.session.now.plan old new (g.I.Inputs.seen c.args.inputs.now) m t (g.M.Sink.seen c.args.notes.now) l j c.operands.noting c.note_end.ensures.same c.operands.invariant.prepared c.in-Err.ensures.prepares closes
+    prepared_fails c.in-Err.fault c.note_end.result c.args.session.now.plan old new (g.I.Inputs.seen c.args.inputs.now) m t (g.M.Sink.seen c.args.notes.now) l j c.operands.noting
+    c.note_end.ensures.same c.operands.invariant.prepared c.in-Err.ensures.prepares closes

@@ -13,7 +13,13 @@ use Rattle.filter_plan.specs.declared.plan.Plan.{Plan}
 use Rattle.autfilt_command.proofs.run.take_steps.Goals as goal
 
 pub steps-init : goal.steps-init
-steps-init g c = (record { ran = run_none c.args.session (g.I.Inputs.seen c.args.inputs.now) (g.W.Sink.seen c.args.out.now) (g.M.Sink.seen c.args.notes.now) c.args.noting c.requires.begun; stage = c.requires.begun.stage }, c.new-complements.ensures c.args.session.plan (operands_in c.args.session))
+steps-init g c = (
+  record {
+    ran = run_none c.args.session (g.I.Inputs.seen c.args.inputs.now) (g.W.Sink.seen c.args.out.now) (g.M.Sink.seen c.args.notes.now) c.args.noting c.requires.begun;
+    stage = c.requires.begun.stage;
+  },
+  c.new-complements.ensures c.args.session.plan (operands_in c.args.session),
+)
 
 pub steps-preserved-in-Ok-Opened : goal.steps-preserved-in-Ok-Opened
 steps-preserved-in-Ok-Opened g c =
@@ -31,7 +37,8 @@ steps-preserved-in-Ok-Opened g c =
     let step = opened old new m t p q (steps_as old new said.plan) done did in
     let added = adds_nothing c.steps.noting (g.M.Sink.seen c.steps.notes) in (
       record {
-        ran = run_more _ c.args.session old new (g.I.Inputs.seen c.args.inputs.now) m t (g.W.Sink.seen c.args.out.now) p q _ _ _ c.args.noting c.steps.noting c.steps.noting said.plan said.operands did.opening.asks inv.ran step added;
+        ran = run_more _ c.args.session old new (g.I.Inputs.seen c.args.inputs.now) m t (g.W.Sink.seen c.args.out.now) p q _ _ _ c.args.noting c.steps.noting c.steps.noting said.plan
+            said.operands did.opening.asks inv.ran step added;
         stage = said.prepared (λ e. let none : turn.Opened ≡ turn.Done = sym is ∙ e in cc);
       },
       kept_as old new c.step.new.complements said.plan said.operands said.kept,
@@ -53,7 +60,8 @@ steps-preserved-in-Ok-Kept g c =
     let step = kept old new m t p q (steps_as old new said.plan) done did in
     let added = adds_nothing c.steps.noting (g.M.Sink.seen c.steps.notes) in (
       record {
-        ran = run_more _ c.args.session old new (g.I.Inputs.seen c.args.inputs.now) m t (g.W.Sink.seen c.args.out.now) p q _ _ _ c.args.noting c.steps.noting c.steps.noting said.plan said.operands did.reading.asks inv.ran step added;
+        ran = run_more _ c.args.session old new (g.I.Inputs.seen c.args.inputs.now) m t (g.W.Sink.seen c.args.out.now) p q _ _ _ c.args.noting c.steps.noting c.steps.noting said.plan
+            said.operands did.reading.asks inv.ran step added;
         stage = said.prepared (λ e. let none : turn.Kept ≡ turn.Done = sym is ∙ e in cc);
       },
       kept_as old new c.step.new.complements said.plan said.operands said.kept,
@@ -75,7 +83,8 @@ steps-preserved-in-Ok-Dropped g c =
     let step = dropped old new m t p q (steps_as old new said.plan) done did in
     let added = adds_nothing c.steps.noting (g.M.Sink.seen c.steps.notes) in (
       record {
-        ran = run_more _ c.args.session old new (g.I.Inputs.seen c.args.inputs.now) m t (g.W.Sink.seen c.args.out.now) p q _ _ _ c.args.noting c.steps.noting c.steps.noting said.plan said.operands did.reads.reading.asks inv.ran step added;
+        ran = run_more _ c.args.session old new (g.I.Inputs.seen c.args.inputs.now) m t (g.W.Sink.seen c.args.out.now) p q _ _ _ c.args.noting c.steps.noting c.steps.noting said.plan
+            said.operands did.reads.reading.asks inv.ran step added;
         stage = said.prepared (λ e. let none : turn.Dropped ≡ turn.Done = sym is ∙ e in cc);
       },
       kept_as old new c.step.new.complements said.plan said.operands said.kept,
@@ -97,7 +106,8 @@ steps-preserved g c =
     let step = ended old new m t p q (steps_as old new said.plan) done did in
     let added = adds_nothing c.steps.noting (g.M.Sink.seen c.steps.notes) in (
       record {
-        ran = run_more _ c.args.session old new (g.I.Inputs.seen c.args.inputs.now) m t (g.W.Sink.seen c.args.out.now) p q _ _ _ c.args.noting c.steps.noting c.steps.noting said.plan said.operands did.reading.asks inv.ran step added;
+        ran = run_more _ c.args.session old new (g.I.Inputs.seen c.args.inputs.now) m t (g.W.Sink.seen c.args.out.now) p q _ _ _ c.args.noting c.steps.noting c.steps.noting said.plan
+            said.operands did.reading.asks inv.ran step added;
         stage = said.prepared (λ e. let none : turn.StreamEnd ≡ turn.Done = sym is ∙ e in cc);
       },
       kept_as old new c.step.new.complements said.plan said.operands said.kept,
@@ -117,9 +127,11 @@ steps-preserved-in-Ok-Skipped g c =
     let did = subst (λ (x : Turn). Turns x old new m t p q) is said.steps in
     let done = subst (λ (x : Turn). progress new ≡ after x (progress old)) is said.progress in
     let step = skipped old new m t p q (steps_as old new said.plan) done did in
-    let added = subst (λ (x : List ℕ). Adds (aborted_line x) c.steps.noting c.note_skipped-noting.result (g.M.Sink.seen c.steps.notes) (g.M.Sink.seen c.note_skipped-noting.new.notes)) c.name_in_hand-in-Ok-Skipped.ensures c.note_skipped-noting.ensures in (
+    let added = subst (λ (x : List ℕ). Adds (aborted_line x) c.steps.noting c.note_skipped-noting.result (g.M.Sink.seen c.steps.notes) (g.M.Sink.seen c.note_skipped-noting.new.notes))
+    c.name_in_hand-in-Ok-Skipped.ensures c.note_skipped-noting.ensures in (
       record {
-        ran = run_more _ c.args.session old new (g.I.Inputs.seen c.args.inputs.now) m t (g.W.Sink.seen c.args.out.now) p q _ _ _ c.args.noting c.steps.noting c.note_skipped-noting.result said.plan said.operands did.reading.asks inv.ran step added;
+        ran = run_more _ c.args.session old new (g.I.Inputs.seen c.args.inputs.now) m t (g.W.Sink.seen c.args.out.now) p q _ _ _ c.args.noting c.steps.noting c.note_skipped-noting.result
+            said.plan said.operands did.reading.asks inv.ran step added;
         stage = said.prepared (λ e. let none : turn.Skipped ≡ turn.Done = sym is ∙ e in cc);
       },
       kept_as old new c.step.new.complements said.plan said.operands said.kept,
@@ -140,7 +152,8 @@ returns-in-Ok-Done g c =
     let done = subst (λ (x : Turn). progress new ≡ after x (progress old)) is said.progress in
     carries_as c.args.session c.args.noting c.note_end.result c.finish-end.result _ _ _ _ _ _ c.note_end.ensures.same
     (run_finished c.finish-end.result c.name_in_hand.result.now c.args.session old (g.I.Inputs.seen c.args.inputs.now) m t (g.W.Sink.seen c.args.out.now) p r q _ _ _ c.args.noting c.steps.noting
-    c.steps.invariant.0.ran did.0 did.1 (λ is. subst (λ (x : Plan). prints_count x ≡ true) said.plan (c.finish-end.ensures.due is)) (finish_as c.finish-end.result old new r q said.plan done c.finish-end.ensures.finishes) c.note_end.ensures.noted)
+    c.steps.invariant.0.ran did.0 did.1 (λ is. subst (λ (x : Plan). prints_count x ≡ true) said.plan (c.finish-end.ensures.due is))
+    (finish_as c.finish-end.result old new r q said.plan done c.finish-end.ensures.finishes) c.note_end.ensures.noted)
 
 pub returns-in-Err : goal.returns-in-Err
 returns-in-Err g c =

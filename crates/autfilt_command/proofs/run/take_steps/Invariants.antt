@@ -8,7 +8,8 @@ use Rattle.autfilt_command.proofs.run.take_steps.Given as goal
 -- The events happened so far, and what is kept of complements is that of the operands.
 abbrev pub invariant-steps : goal.invariant-steps
 invariant-steps g l =
-    IsRunning l.fn.session l.session (g.I.Inputs.seen l.fn.inputs) (g.I.Inputs.seen l.inputs) (g.W.Sink.seen l.fn.out) (g.W.Sink.seen l.out) (g.M.Sink.seen l.fn.notes) (g.M.Sink.seen l.notes) l.fn.noting l.noting
+    IsRunning l.fn.session l.session (g.I.Inputs.seen l.fn.inputs) (g.I.Inputs.seen l.inputs) (g.W.Sink.seen l.fn.out) (g.W.Sink.seen l.out) (g.M.Sink.seen l.fn.notes)
+    (g.M.Sink.seen l.notes) l.fn.noting l.noting
     × AreKept l.session.plan (operands_in l.session) l.complements
 
 -- A step opens a stream, closes one, or takes bytes of one.

@@ -20,14 +20,16 @@ returns-in_err-judge-clause-handles g c =
 
 pub returns-then-not-branch-clause-handles : goal.returns-then-not-branch-clause-handles
 returns-then-not-branch-clause-handles g c = (
-  is_unwanted c.in_ok-judge.field-0 c.args.plan.now (map automaton_of c.args.operands.now) (written c.args.raw.now) (automaton_of c.in_ok-automaton.automaton) c.in_ok-automaton.ensures c.if-not-branch.true c.in_ok-judge.ensures.judged,
+  is_unwanted c.in_ok-judge.field-0 c.args.plan.now (map automaton_of c.args.operands.now) (written c.args.raw.now) (automaton_of c.in_ok-automaton.automaton) c.in_ok-automaton.ensures
+      c.if-not-branch.true c.in_ok-judge.ensures.judged,
   refl,
 )
 
 pub returns-then-not-prints_each-clause-handles : goal.returns-then-not-prints_each-clause-handles
 returns-then-not-prints_each-clause-handles g c = (
   [],
-  is_wanted_silent c.in_ok-judge.field-0 c.prints_each.result c.args.plan.now (map automaton_of c.args.operands.now) (written c.args.raw.now) (automaton_of c.in_ok-automaton.automaton) c.in_ok-automaton.ensures
+  is_wanted_silent c.in_ok-judge.field-0 c.prints_each.result c.args.plan.now (map automaton_of c.args.operands.now) (written c.args.raw.now) (automaton_of c.in_ok-automaton.automaton)
+      c.in_ok-automaton.ensures
       c.if-not-branch.false c.in_ok-judge.ensures.judged c.prints_each.ensures c.if-not-prints_each.true,
   nothing _,
   refl,
@@ -46,7 +48,8 @@ returns-in_err-text-clause-handles g c =
 pub returns-in-Ok-clause-handles : goal.returns-in-Ok-clause-handles
 returns-in-Ok-clause-handles g c = (
   c.as_bytes.result.now,
-  is_wanted c.in_ok-judge.field-0 c.prints_each.result c.args.plan.now (map automaton_of c.args.operands.now) (written c.args.raw.now) (automaton_of c.in_ok-automaton.automaton) (option_copied c.name.result) c.in_ok-text.text c.as_bytes.result.now
+  is_wanted c.in_ok-judge.field-0 c.prints_each.result c.args.plan.now (map automaton_of c.args.operands.now) (written c.args.raw.now) (automaton_of c.in_ok-automaton.automaton)
+      (option_copied c.name.result) c.in_ok-text.text c.as_bytes.result.now
       c.in_ok-automaton.ensures c.if-not-branch.false c.in_ok-judge.ensures.judged c.prints_each.ensures c.if-not-prints_each.false c.as_bytes.ensures c.in_ok-text.ensures.prints c.name.ensures,
   c.in-Ok.ensures.ok,
   c.in-Ok.ensures.calm,
@@ -56,7 +59,8 @@ pub returns-clause-handles : goal.returns-clause-handles
 returns-clause-handles g c = (
   c.as_bytes.result.now,
   sym c.prints_each.ensures ∙ c.if-not-prints_each.false,
-  is_wanted c.in_ok-judge.field-0 c.prints_each.result c.args.plan.now (map automaton_of c.args.operands.now) (written c.args.raw.now) (automaton_of c.in_ok-automaton.automaton) (option_copied c.name.result) c.in_ok-text.text c.as_bytes.result.now
+  is_wanted c.in_ok-judge.field-0 c.prints_each.result c.args.plan.now (map automaton_of c.args.operands.now) (written c.args.raw.now) (automaton_of c.in_ok-automaton.automaton)
+      (option_copied c.name.result) c.in_ok-text.text c.as_bytes.result.now
       c.in_ok-automaton.ensures c.if-not-branch.false c.in_ok-judge.ensures.judged c.prints_each.ensures c.if-not-prints_each.false c.as_bytes.ensures c.in_ok-text.ensures.prints c.name.ensures,
   c.in-Err.ensures.err,
   c.in-Err.ensures.failed,

@@ -7,7 +7,8 @@ pub returns-then-number-lt10 : goal.returns-then-number-lt10
 returns-then-number-lt10 g t c = writes_as _ _ _ _ _ (sym (decimal_digit c.args.number (omega arith))) c.write_digit.ensures
 
 pub returns-in_err-write_number : goal.returns-in_err-write_number
-returns-in_err-write_number g t c = writes_as _ _ _ _ _ (sym (decimal_step c.args.number (omega arith) (omega arith))) (writes_first _ _ _ _ _ _ c.from_residual.ensures.1 c.in_err-write_number.ensures)
+returns-in_err-write_number g t c = writes_as _ _ _ _ _ (sym (decimal_step c.args.number (omega arith) (omega arith)))
+    (writes_first _ _ _ _ _ _ c.from_residual.ensures.1 c.in_err-write_number.ensures)
 
 pub returns : goal.returns
 returns g t c = writes_as _ _ _ _ _ (sym (decimal_step c.args.number (omega arith) (omega arith))) (writes_then _ _ _ _ _ _ _ c.in_ok-write_number.ensures c.write_digit-2.ensures)

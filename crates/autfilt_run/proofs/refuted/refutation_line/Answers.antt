@@ -14,4 +14,5 @@ word_line-requires-clause-cycle c =
 
 pub returns-in_ok-word_line-in-Some-clause-tells : goal.returns-in_ok-word_line-in-Some-clause-tells
 returns-in_ok-word_line-in-Some-clause-tells c =
-    is_line (automaton_of c.args.a.now) c.in-Some.found (refuted_operand c.args.plan.now (map automaton_of c.args.operands.now)) c.in_ok-found.field-0 c.in_ok-word_line-in-Some.field-0 c.in-Some.is c.in_ok-word_line-in-Some.ensures c.in_ok-found.ensures.refuted
+    is_line (automaton_of c.args.a.now) c.in-Some.found (refuted_operand c.args.plan.now (map automaton_of c.args.operands.now)) c.in_ok-found.field-0 c.in_ok-word_line-in-Some.field-0
+    c.in-Some.is c.in_ok-word_line-in-Some.ensures c.in_ok-found.ensures.refuted

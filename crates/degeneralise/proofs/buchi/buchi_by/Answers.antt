@@ -18,7 +18,8 @@ pub levelled-requires-2-clause-copies : goal.levelled-requires-2-clause-copies
 levelled-requires-2-clause-copies c =
     let a = automaton_of c.args.a.now in
     let needed : is_generalised_buchi a.formula ≡ false = sym (c.if-is_generalised_buchi.ensures ∙ ap is_generalised_buchi c.formula.ensures) in
-    let same : c.in_ok-copied.copied.states ≡ c.states-2.result * length c.args.listed.now = c.in_ok-copied.ensures.states ∙ (copies_as_watches a needed ∙ λ i. sym c.states-2.ensures i * length (sym c.requires.watches i)) in
+    let same : c.in_ok-copied.copied.states ≡ c.states-2.result * length c.args.listed.now = c.in_ok-copied.ensures.states
+    ∙ (copies_as_watches a needed ∙ λ i. sym c.states-2.ensures i * length (sym c.requires.watches i)) in
     omega (arith, same)
 
 pub levelled-requires-2-clause-room : goal.levelled-requires-2-clause-room

@@ -12,7 +12,16 @@ use Rattle.degeneralise.proofs.buchi.levelled.Goals as goal
 pub from_parts-requires : goal.from_parts-requires
 from_parts-requires c =
     let k = c.args.k in
-    let new : Core = record { names = c.in_ok-copy_names.field-0; starts = c.in_ok-starts.starts; states = c.states.result * k; links = c.in_ok-links.links; sets = 1; formula = formula_tree (Inf 0 false); store = c.in_ok-copy.field-0 } in
+    let new : Core = record {
+      names = c.in_ok-copy_names.field-0;
+      starts = c.in_ok-starts.starts;
+      states = c.states.result * k;
+      links = c.in_ok-links.links;
+      sets = 1;
+      formula =
+          formula_tree (Inf 0 false);
+      store = c.in_ok-copy.field-0;
+    } in
     levelled_parts k (watch_of c.args.states c.args.watches.now) c.args.a.now new c.whole.ensures (room_of k c.args.states c.args.watches.now c.requires.some c.requires.room) (record {
       names = c.in_ok-copy_names.ensures ∙ c.names.ensures;
       starts = c.in_ok-starts.ensures ∙ ap (map (λ start. state_at k start 0)) c.starts.ensures;
@@ -27,7 +36,16 @@ from_parts-requires c =
 pub returns : goal.returns
 returns c =
     let k = c.args.k in
-    let new : Core = record { names = c.in_ok-copy_names.field-0; starts = c.in_ok-starts.starts; states = c.states.result * k; links = c.in_ok-links.links; sets = 1; formula = formula_tree (Inf 0 false); store = c.in_ok-copy.field-0 } in
+    let new : Core = record {
+      names = c.in_ok-copy_names.field-0;
+      starts = c.in_ok-starts.starts;
+      states = c.states.result * k;
+      links = c.in_ok-links.links;
+      sets = 1;
+      formula =
+          formula_tree (Inf 0 false);
+      store = c.in_ok-copy.field-0;
+    } in
     let same = are_levelled k (watch_of c.args.states c.args.watches.now) c.args.a.now new (record {
       names = c.in_ok-copy_names.ensures ∙ c.names.ensures;
       starts = c.in_ok-starts.ensures ∙ ap (map (λ start. state_at k start 0)) c.starts.ensures;

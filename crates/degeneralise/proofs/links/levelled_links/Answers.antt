@@ -12,5 +12,6 @@ pub states-preserved : goal.states-preserved
 states-preserved c =
     let s = c.args.a.now.store in
     let pieces : ℕ → List TreeEdge = λ state. level_edges c.args.k (edges_from state (map (edge_of s) c.args.a.now.links)) (watch_of c.args.states c.args.watches.now state) in
-    let one = subst (λ (w : Watch). Adds s c.states.links c.push_state.new.links (level_edges c.args.k (edges_from c.states.state (map (edge_of s) c.args.a.now.links)) w)) c.watch_of.ensures c.in_ok-push_state.ensures in
+    let one = subst (λ (w : Watch). Adds s c.states.links c.push_state.new.links (level_edges c.args.k (edges_from c.states.state (map (edge_of s) c.args.a.now.links)) w)) c.watch_of.ensures
+    c.in_ok-push_state.ensures in
     subst (λ (es : List TreeEdge). Adds s [] c.push_state.new.links es) (flat_range_on pieces c.states.state) (adds_then c.states.invariant one)

@@ -7,4 +7,5 @@ use Rattle.degeneralise.specs.Buchi.{level_edges, watch_of}
 use Rattle.degeneralise.proofs.links.levelled_links.Given as goal
 
 abbrev pub invariant-states : goal.invariant-states
-invariant-states l = Adds l.a.store [] l.links (flat_map (λ state. level_edges l.k (edges_from state (map (edge_of l.a.store) l.a.links)) (watch_of l.states l.watches state)) (range_with_len 0 l.state))
+invariant-states l = Adds l.a.store [] l.links
+    (flat_map (λ state. level_edges l.k (edges_from state (map (edge_of l.a.store) l.a.links)) (watch_of l.states l.watches state)) (range_with_len 0 l.state))

@@ -15,17 +15,21 @@ use Rattle.degeneralise.specs.Buchi.{edge_at}
 use Rattle.degeneralise.proofs.links.push_level.Goals as goal
 
 -- a link of one state is the automaton's
-at_link : (a : Core) (state i : ℕ) (items : List Link) (l : Link) → All (IsLinkOf a) a.links → items ≡ filter (λ (m : Link). m.from == state) a.links → i < length items → l ≡ get_or items i l → IsLinkOf a l
-at_link a state i items l all are within is = subst (IsLinkOf a) (sym is) (subst (λ (ls : List Link). All (IsLinkOf a) ls) (sym are) (All-filter (λ (m : Link). m.from == state) (IsLinkOf a) a.links all) i l within)
+at_link : (a : Core) (state i : ℕ) (items : List Link) (l : Link) → All (IsLinkOf a) a.links → items ≡ filter (λ (m : Link). m.from == state) a.links → i < length items
+    → l ≡ get_or items i l → IsLinkOf a l
+at_link a state i items l all are within is =
+    subst (IsLinkOf a) (sym is) (subst (λ (ls : List Link). All (IsLinkOf a) ls) (sym are) (All-filter (λ (m : Link). m.from == state) (IsLinkOf a) a.links all) i l within)
 
 pub link_at-requires-clause-from : goal.link_at-requires-clause-from
 link_at-requires-clause-from c =
-    let link = at_link c.args.a.now c.args.state c.links.link-index c.links_of-link-items.result.now c.link-item.result c.whole.ensures.parts.links c.links_of-link-items.ensures c.links-test.true c.link-item.is in
+    let link = at_link c.args.a.now c.args.state c.links.link-index c.links_of-link-items.result.now c.link-item.result c.whole.ensures.parts.links c.links_of-link-items.ensures
+    c.links-test.true c.link-item.is in
     omega (arith, row_fits c.link-item.result.from c.args.k c.args.a.now.states c.args.k link.from (omega arith), c.requires.fit)
 
 pub link_at-requires-clause-to : goal.link_at-requires-clause-to
 link_at-requires-clause-to c =
-    let link = at_link c.args.a.now c.args.state c.links.link-index c.links_of-link-items.result.now c.link-item.result c.whole.ensures.parts.links c.links_of-link-items.ensures c.links-test.true c.link-item.is in
+    let link = at_link c.args.a.now c.args.state c.links.link-index c.links_of-link-items.result.now c.link-item.result c.whole.ensures.parts.links c.links_of-link-items.ensures
+    c.links-test.true c.link-item.is in
     omega (arith, row_fits c.link-item.result.to c.args.k c.args.a.now.states c.args.k link.to (omega arith), c.requires.fit)
 
 pub links-preserved : goal.links-preserved
@@ -37,7 +41,8 @@ links-preserved c =
     let link = at_link c.args.a.now c.args.state c.links.link-index c.links_of-link-items.result.now l c.whole.ensures.parts.links c.links_of-link-items.ensures c.links-test.true c.link-item.is in
     let e : TreeEdge = edge_at c.args.k c.args.watch.now c.args.level (edge_of s l) in
     let is : edge_of s made ≡ e = λ i. record { from = its.from i; label = label_in s (its.guard i); to = its.to i; marks = its.marks i } in
-    subst (λ (es : List TreeEdge). Adds s c.args.links.now c.push.new.self es) (map_map_on (edge_at c.args.k c.args.watch.now c.args.level) (edge_of s) c.links_of-link-items.result.now c.links.link-index l c.links-test.true c.link-item.is)
+    subst (λ (es : List TreeEdge). Adds s c.args.links.now c.push.new.self es)
+    (map_map_on (edge_at c.args.k c.args.watch.now c.args.level) (edge_of s) c.links_of-link-items.result.now c.links.link-index l c.links-test.true c.link-item.is)
     (adds_then c.links.invariant (adds_one s c.links.links c.push.new.self made e c.in_ok-push.ensures.ok (subst (λ (g : Guard). Has s g) (sym its.guard) link.guard) is))
 
 pub returns : goal.returns

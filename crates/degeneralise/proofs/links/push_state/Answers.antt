@@ -11,5 +11,6 @@ use Rattle.degeneralise.proofs.links.push_state.Goals as goal
 pub levels-preserved : goal.levels-preserved
 levels-preserved c =
     let s = c.args.a.now.store in
-    subst (λ (es : List TreeEdge). Adds s c.args.links.now c.push_level.new.links es) (flat_range_on (λ level. map (edge_at c.args.k c.args.watch.now level) (edges_from c.args.state (map (edge_of s) c.args.a.now.links))) c.levels.level)
+    subst (λ (es : List TreeEdge). Adds s c.args.links.now c.push_level.new.links es)
+    (flat_range_on (λ level. map (edge_at c.args.k c.args.watch.now level) (edges_from c.args.state (map (edge_of s) c.args.a.now.links))) c.levels.level)
     (adds_then c.levels.invariant c.in_ok-push_level.ensures)

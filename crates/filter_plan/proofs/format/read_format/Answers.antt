@@ -11,7 +11,8 @@ returns-in_default-clause-usage c _ whole is =
 
 pub pieces-preserved : goal.pieces-preserved
 pieces-preserved c = record {
-  so_far = format_more c.args.text.now c.pieces.rest.now c.in-Some.after.now c.pieces.pieces c.push.new.self c.in-Some.piece c.pieces.invariant.so_far c.in-Some.ensures.written c.in_ok-push.ensures.ok;
+  so_far = format_more c.args.text.now c.pieces.rest.now c.in-Some.after.now c.pieces.pieces c.push.new.self c.in-Some.piece c.pieces.invariant.so_far c.in-Some.ensures.written
+      c.in_ok-push.ensures.ok;
   left = λ whole is. let left = c.pieces.invariant.left whole is in
       step_of_format c.pieces.rest.now c.in-Some.after.now c.in-Some.piece c.in-Some.ensures.first left.0 left.1;
 }

@@ -14,7 +14,8 @@ Answers text found = MatchOption found (NoNameAtFront text) (λ name. IsNameAtFr
 no_name : (text : List ℕ) (found : Option (List ℕ × ℕ)) → Answers text found → found ≡ None → (h : Hidden) → IsHidden text h → ⊥
 no_name text found answers none h is = (subst (Answers text) none answers) h.name (suffix h.how) is
 
-other_way : (text : List ℕ) (found : Option (List ℕ × ℕ)) (name : List ℕ) (size : ℕ) → Answers text found → found ≡ Some (name, size) → ((how : Hide) → take (length text - size) (drop size text) ≡ suffix how → ⊥) → (h : Hidden) → IsHidden text h → ⊥
+other_way : (text : List ℕ) (found : Option (List ℕ × ℕ)) (name : List ℕ) (size : ℕ) → Answers text found → found ≡ Some (name, size)
+    → ((how : Hide) → take (length text - size) (drop size text) ≡ suffix how → ⊥) → (h : Hidden) → IsHidden text h → ⊥
 other_way text found name size answers some none h is =
     let front : IsNameAtFront text name size = subst (Answers text) some answers in
     let same = one_front text (Name name) (Name h.name) (drop size text) (suffix h.how) front.front is in

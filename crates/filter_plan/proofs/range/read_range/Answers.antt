@@ -12,7 +12,8 @@ at_bounds : (text a b : List ℕ) → text ≡ a ++ (codes ".." ++ b) → IsOnly
 at_bounds text a b is only None none = λ r h. none r (bounds_of_range text a b r is only h)
 at_bounds text a b is only (Some r) some = range_of_bounds text a b r is some
 
-at_single : (text : List ℕ) → ((a b : List ℕ) → AllDigits 10 a → text ≡ a ++ (codes ".." ++ b) → ⊥) → (found : Option Range) → MatchOption found ((n : ℕ) → IsNumber text n → ⊥) (λ r. IsNumber text r.low × (r.high ≡ Some r.low))
+at_single : (text : List ℕ) → ((a b : List ℕ) → AllDigits 10 a → text ≡ a ++ (codes ".." ++ b) → ⊥) → (found : Option Range)
+    → MatchOption found ((n : ℕ) → IsNumber text n → ⊥) (λ r. IsNumber text r.low × (r.high ≡ Some r.low))
     → MatchOption found ((r : Range) → IsRange text r → ⊥) (IsRange text)
 at_single text only None none = λ r h. none r.low (single_of_range text r only h)
 at_single text only (Some r) some = range_of_single text r some

@@ -31,8 +31,10 @@ links-preserved c =
     let more = copy_edges_more (edge_of s) n copy items c.links.link-index l c.links-test.true c.link-item.is in
     let one = ap (λ b. before ++ cond b (edge_in n copy e ∷ []) []) (sym c.if-not-meets_all.ensures) in
     let given = c.links-link-items.ensures in
-    let link : IsLinkOf c.args.a.now l = subst (IsLinkOf c.args.a.now) (sym (c.link-item.is ∙ ap (λ ls. get_or ls c.links.link-index l) given)) (c.whole.ensures.parts.links c.links.link-index l (omega (arith, ap length given, c.links-test.true))) in
+    let link : IsLinkOf c.args.a.now l = subst (IsLinkOf c.args.a.now) (sym (c.link-item.is ∙ ap (λ ls. get_or ls c.links.link-index l) given))
+    (c.whole.ensures.parts.links c.links.link-index l (omega (arith, ap length given, c.links-test.true))) in
     let states : c.states.result ≡ n = c.states.ensures in
     let marks = c.in_ok-marks_in.ensures in
-    subst (λ (es : List TreeEdge). Adds s c.args.links.now c.push.new.self es) (sym (more ∙ one)) (adds_then c.links.invariant (adds_one s c.links.links c.push.new.self _ (edge_in n copy e) c.in_ok-push.ensures.ok link.guard
+    subst (λ (es : List TreeEdge). Adds s c.args.links.now c.push.new.self es) (sym (more ∙ one))
+    (adds_then c.links.invariant (adds_one s c.links.links c.push.new.self _ (edge_in n copy e) c.in_ok-push.ensures.ok link.guard
     (λ j. record { from = copy.number * states j + l.from; label = e.label; to = copy.number * states j + l.to; marks = marks j })))

@@ -32,12 +32,22 @@ sets_owned-requires c =
 
 pub all_sets-requires : goal.all_sets-requires
 all_sets-requires c =
-    let sets : sum_by (λ copy. literal_places copy.infs) c.in_ok-copies.copies ≡ sum_by (λ term. sets_of term) c.args.listed.now = ap (λ (cs : List TermCopy). sum_by (λ copy. literal_places copy.infs) cs) c.in_ok-copies.ensures ∙ copies_sets 1 0 c.args.listed.now in
+    let sets : sum_by (λ copy. literal_places copy.infs) c.in_ok-copies.copies ≡ sum_by (λ term. sets_of term) c.args.listed.now =
+    ap (λ (cs : List TermCopy). sum_by (λ copy. literal_places copy.infs) cs) c.in_ok-copies.ensures ∙ copies_sets 1 0 c.args.listed.now in
     omega (arith, sets, sets_within c.args.listed.now c.requires.few)
 
 pub from_parts-requires : goal.from_parts-requires
 from_parts-requires c =
-    let new : Core = record { names = c.in_ok-copy_names.field-0; starts = c.in_ok-copy_numbers.field-0; states = (1 + c.len.result) * c.states.result; links = c.in_ok-links.links; sets = c.all_sets.result; formula = formula_tree c.in_ok-formula.formula; store = c.in_ok-copy.field-0 } in
+    let new : Core = record {
+      names = c.in_ok-copy_names.field-0;
+      starts = c.in_ok-copy_numbers.field-0;
+      states = (1 + c.len.result) * c.states.result;
+      links = c.in_ok-links.links;
+      sets =
+          c.all_sets.result;
+      formula = formula_tree c.in_ok-formula.formula;
+      store = c.in_ok-copy.field-0;
+    } in
     copied_parts c.args.a.now new c.args.listed.now c.in_ok-copies.copies c.in_ok-owned.owned c.whole.ensures (record {
       listed = c.requires.terms;
       made = c.in_ok-copies.ensures;
@@ -54,7 +64,16 @@ from_parts-requires c =
 
 pub returns : goal.returns
 returns c =
-    let new : Core = record { names = c.in_ok-copy_names.field-0; starts = c.in_ok-copy_numbers.field-0; states = (1 + c.len.result) * c.states.result; links = c.in_ok-links.links; sets = c.all_sets.result; formula = formula_tree c.in_ok-formula.formula; store = c.in_ok-copy.field-0 } in
+    let new : Core = record {
+      names = c.in_ok-copy_names.field-0;
+      starts = c.in_ok-copy_numbers.field-0;
+      states = (1 + c.len.result) * c.states.result;
+      links = c.in_ok-links.links;
+      sets =
+          c.all_sets.result;
+      formula = formula_tree c.in_ok-formula.formula;
+      store = c.in_ok-copy.field-0;
+    } in
     let same = are_copied c.args.a.now new c.args.listed.now c.in_ok-copies.copies c.in_ok-owned.owned (record {
       listed = c.requires.terms;
       made = c.in_ok-copies.ensures;

@@ -22,7 +22,8 @@ terms-preserved c =
     record {
       number = omega (arith, so_far.number);
       first = omega (arith, so_far.first, sets, ap (sum_by sets_of) more, sum_by_push sets_of (take i items) term);
-      copies = c.in_ok-push.ensures.ok ∙ (ap (λ (cs : List TermCopy). cs ++ record { number = c.terms.number; first = c.terms.first; fins = c.in_ok-fins.field-0; infs = c.in_ok-infs.field-0 } ∷ []) so_far.copies
+      copies = c.in_ok-push.ensures.ok ∙ (ap (λ (cs : List TermCopy).
+          cs ++ record { number = c.terms.number; first = c.terms.first; fins = c.in_ok-fins.field-0; infs = c.in_ok-infs.field-0 } ∷ []) so_far.copies
           ∙ ((λ j. term_copies (take i items) ++ record { number = number j; first = first j; fins = c.in_ok-fins.ensures j; infs = c.in_ok-infs.ensures j } ∷ [])
           ∙ sym (ap term_copies more ∙ copies_push 1 0 (take i items) term)));
     }

@@ -9,18 +9,21 @@ returns-then-not-index c = λ reaches.
 
 pub bounds-arcs-place : goal.bounds-arcs-place
 bounds-arcs-place c = rw c.as_slice-arcs.ensures
-    (back_goes_on c.args.graph.now.nodes c.args.graph.now.arcs c.args.from c.args.to c.back.at c.index-place.result.now c.in_ok-search.search c.back.places.items c.back.invariant c.back-test.true c.index-place.ensures).0
+    (back_goes_on c.args.graph.now.nodes c.args.graph.now.arcs c.args.from c.args.to c.back.at c.index-place.result.now c.in_ok-search.search c.back.places.items c.back.invariant
+    c.back-test.true c.index-place.ensures).0
 
 pub offset_bounds-arcs-place : goal.offset_bounds-arcs-place
 offset_bounds-arcs-place c =
-    let within = (back_goes_on c.args.graph.now.nodes c.args.graph.now.arcs c.args.from c.args.to c.back.at c.index-place.result.now c.in_ok-search.search c.back.places.items c.back.invariant c.back-test.true c.index-place.ensures).0 in
+    let within = (back_goes_on c.args.graph.now.nodes c.args.graph.now.arcs c.args.from c.args.to c.back.at c.index-place.result.now c.in_ok-search.search c.back.places.items
+    c.back.invariant c.back-test.true c.index-place.ensures).0 in
     let here : c.index-place.result.now < length c.as_slice-arcs.result.now = rw c.as_slice-arcs.ensures within in
     search rules
 
 pub back-preserved : goal.back-preserved
 back-preserved c =
     rw (c.in_ok-push.ensures.items, c.as_slice-arcs.ensures)
-    (back_goes_on c.args.graph.now.nodes c.args.graph.now.arcs c.args.from c.args.to c.back.at c.index-place.result.now c.in_ok-search.search c.back.places.items c.back.invariant c.back-test.true c.index-place.ensures).1
+    (back_goes_on c.args.graph.now.nodes c.args.graph.now.arcs c.args.from c.args.to c.back.at c.index-place.result.now c.in_ok-search.search c.back.places.items c.back.invariant
+    c.back-test.true c.index-place.ensures).1
 
 pub returns : goal.returns
 returns c =

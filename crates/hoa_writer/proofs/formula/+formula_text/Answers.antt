@@ -25,13 +25,15 @@ push_formula-push_parts-requires-in-Or t c =
 pub push_formula-returns-in_ok-extend-in-Inf : goal.push_formula-returns-in_ok-extend-in-Inf
 push_formula-returns-in_ok-extend-in-Inf t c =
     on_ok_weaker c.push_set.result
-    (λ e. two_written c.args.out.now c.extend.new.self _ (codes "Inf(") (set_text c.in-Inf.set c.in-Inf.neg ++ codes ")") _ c.in_ok-extend-in-Inf.ensures.ok e (sym (ap formula_text (ap formula_tree c.in-Inf.is ∙ formula_tree-Inf c.in-Inf.set c.in-Inf.neg))))
+    (λ e. two_written c.args.out.now c.extend.new.self _ (codes "Inf(") (set_text c.in-Inf.set c.in-Inf.neg ++ codes ")") _ c.in_ok-extend-in-Inf.ensures.ok e
+    (sym (ap formula_text (ap formula_tree c.in-Inf.is ∙ formula_tree-Inf c.in-Inf.set c.in-Inf.neg))))
     c.push_set.ensures
 
 pub push_formula-returns-in_ok-extend-in-Fin : goal.push_formula-returns-in_ok-extend-in-Fin
 push_formula-returns-in_ok-extend-in-Fin t c =
     on_ok_weaker c.push_set-in-Fin.result
-    (λ e. two_written c.args.out.now c.extend-in-Fin.new.self _ (codes "Fin(") (set_text c.in-Fin.set c.in-Fin.neg ++ codes ")") _ c.in_ok-extend-in-Fin.ensures.ok e (sym (ap formula_text (ap formula_tree c.in-Fin.is ∙ formula_tree-Fin c.in-Fin.set c.in-Fin.neg))))
+    (λ e. two_written c.args.out.now c.extend-in-Fin.new.self _ (codes "Fin(") (set_text c.in-Fin.set c.in-Fin.neg ++ codes ")") _ c.in_ok-extend-in-Fin.ensures.ok e
+    (sym (ap formula_text (ap formula_tree c.in-Fin.is ∙ formula_tree-Fin c.in-Fin.set c.in-Fin.neg))))
     c.push_set-in-Fin.ensures
 
 pub push_formula-returns-in-And : goal.push_formula-returns-in-And
@@ -56,5 +58,6 @@ push_parts-parts-preserved t c =
     let part = formula_tree c.at-in-parts.result.now in
     let more = list_more c.args.separator.now (formula_list c.args.parts.now) c.parts.place part (omega arith) c.at-in-parts.ensures in
     let done = list_text c.args.separator.now (take c.parts.place (formula_list c.args.parts.now)) in
-    let both = two_written c.parts.out c.extend.new.self c.push_part-in-parts.new.out c.args.separator.now (part_text part) (c.args.separator.now ++ part_text part) c.in_ok-extend.ensures.ok c.in_ok-push_part-2.ensures refl in
+    let both = two_written c.parts.out c.extend.new.self c.push_part-in-parts.new.out c.args.separator.now (part_text part) (c.args.separator.now ++ part_text part) c.in_ok-extend.ensures.ok
+    c.in_ok-push_part-2.ensures refl in
     two_written c.args.out.now c.parts.out c.push_part-in-parts.new.out done (c.args.separator.now ++ part_text part) _ c.parts.invariant both (sym more)

@@ -7,4 +7,5 @@ use Rattle.hoa_writer.proofs.write.reads_back.Goals as goal
 pub returns : goal.returns
 returns c =
     let few = c.whole.ensures.parts.few in
-    text_reads_back (automaton_of c.args.a.now) (option_copied c.args._name) c.whole.ensures.well_formed (subst (λ n. n < 2 ^ 32) c.states.ensures c.fits.ensures) (subst (λ n. n < 2 ^ 32) c.sets.ensures c.fits-2.ensures) (omega (arith, few))
+    text_reads_back (automaton_of c.args.a.now) (option_copied c.args._name) c.whole.ensures.well_formed (subst (λ n. n < 2 ^ 32) c.states.ensures c.fits.ensures)
+    (subst (λ n. n < 2 ^ 32) c.sets.ensures c.fits-2.ensures) (omega (arith, few))

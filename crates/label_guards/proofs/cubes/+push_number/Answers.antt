@@ -1,14 +1,18 @@
 use Rattle.std.proofs.Common.{◌+◌, ◌%◌, ◌/◌, ◌++◌, [], ◌∷◌, ◌∙◌, sym, ap, arith}
 use Rattle.std.proofs.lemmas.Fmt.{decimal_step}
 use Rattle.std.proofs.lemmas.List.{append_assoc}
-use Rattle.std.proofs.lemmas.Result.{on_ok_weaker}
+use Rattle.std.proofs.lemmas.Result.{on_err_weaker, on_ok_weaker}
 use Rattle.std.specs.Fmt.{decimal}
 use Rattle.label_guards.proofs.cubes.+push_number.Goals as goal
 
-pub returns : goal.returns
-returns t c =
+pub returns-clause-ok : goal.returns-clause-ok
+returns-clause-ok t c =
     let n = c.args.number in
     let digit = (48 + n % 10) ∷ [] in
     on_ok_weaker c.push-2.result
-    (λ e. e ∙ (ap (λ xs. xs ++ digit) c.in_ok-push_number.ensures ∙ (append_assoc c.args.out.now (decimal (n / 10)) digit ∙ ap (λ xs. c.args.out.now ++ xs) (sym (decimal_step n (omega arith) (omega arith))))))
+    (λ e. e ∙ (ap (λ xs. xs ++ digit) c.in_ok-push_number.ensures.ok
+    ∙ (append_assoc c.args.out.now (decimal (n / 10)) digit ∙ ap (λ xs. c.args.out.now ++ xs) (sym (decimal_step n (omega arith) (omega arith))))))
     c.push-2.ensures.ok
+
+pub returns-clause-err : goal.returns-clause-err
+returns-clause-err t c = on_err_weaker c.push-2.result (λ e. (decimal (c.args.number / 10), e ∙ c.in_ok-push_number.ensures.ok)) c.push-2.ensures.err

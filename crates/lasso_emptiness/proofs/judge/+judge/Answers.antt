@@ -27,7 +27,8 @@ judge_all-judge-requires t c =
 
 pub judge_all-parts-preserved-in-Met : goal.judge_all-parts-preserved-in-Met
 judge_all-parts-preserved-in-Met t c =
-    all_so_far_more (map (marks_of c.args.links.now) c.args.edges.now) (formula_list c.args.parts.now) c.parts.place (formula_tree c.at.result.now) c.parts.undecided c.at.ensures c.parts.invariant c.in-Met.ensures
+    all_so_far_more (map (marks_of c.args.links.now) c.args.edges.now) (formula_list c.args.parts.now) c.parts.place (formula_tree c.at.result.now) c.parts.undecided c.at.ensures
+    c.parts.invariant c.in-Met.ensures
 
 pub judge_all-returns-in-Never : goal.judge_all-returns-in-Never
 judge_all-returns-in-Never t c =
@@ -35,7 +36,8 @@ judge_all-returns-in-Never t c =
 
 pub judge_all-parts-preserved : goal.judge_all-parts-preserved
 judge_all-parts-preserved t c =
-    all_open (map (marks_of c.args.links.now) c.args.edges.now) (formula_list c.args.parts.now) c.parts.place (formula_tree c.at.result.now) c.in-Open.side c.at.ensures c.in-Open.ensures.0 c.in-Open.ensures.1
+    all_open (map (marks_of c.args.links.now) c.args.edges.now) (formula_list c.args.parts.now) c.parts.place (formula_tree c.at.result.now) c.in-Open.side c.at.ensures c.in-Open.ensures.0
+    c.in-Open.ensures.1
 
 pub judge_some-judge-requires : goal.judge_some-judge-requires
 judge_some-judge-requires t c =
@@ -48,8 +50,10 @@ judge_some-returns-in-Met t c =
 
 pub judge_some-parts-preserved-in-Never : goal.judge_some-parts-preserved-in-Never
 judge_some-parts-preserved-in-Never t c =
-    one_so_far_never (map (marks_of c.args.links.now) c.args.edges.now) (formula_list c.args.parts.now) c.parts.place (formula_tree c.at.result.now) c.parts.undecided c.at.ensures c.parts.invariant c.in-Never.ensures
+    one_so_far_never (map (marks_of c.args.links.now) c.args.edges.now) (formula_list c.args.parts.now) c.parts.place (formula_tree c.at.result.now) c.parts.undecided c.at.ensures
+    c.parts.invariant c.in-Never.ensures
 
 pub judge_some-parts-preserved : goal.judge_some-parts-preserved
 judge_some-parts-preserved t c =
-    one_so_far_open (map (marks_of c.args.links.now) c.args.edges.now) (formula_list c.args.parts.now) c.parts.place (formula_tree c.at.result.now) c.parts.undecided c.in-Open.side c.at.ensures c.parts.invariant c.in-Open.ensures.0 c.in-Open.ensures.1
+    one_so_far_open (map (marks_of c.args.links.now) c.args.edges.now) (formula_list c.args.parts.now) c.parts.place (formula_tree c.at.result.now) c.parts.undecided c.in-Open.side
+    c.at.ensures c.parts.invariant c.in-Open.ensures.0 c.in-Open.ensures.1

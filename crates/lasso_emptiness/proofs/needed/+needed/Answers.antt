@@ -20,8 +20,16 @@ use Rattle.lasso_emptiness.proofs.needed.+needed.Goals as goal
 pub add_for_all-add_needed-requires : goal.add_for_all-add_needed-requires
 add_for_all-add_needed-requires t c =
     let part = formula_tree c.at.result.now in
-    let smaller = formula_size-at (formula_list c.args.parts.now) c.parts.place part c.at.ensures in
-    (omega arith, (c.requires.within, (all_passes_at (met (map (marks_of c.args.links.now) c.args.edges.now)) (formula_list c.args.parts.now) c.parts.place part c.at.ensures c.requires.met, c.parts.invariant.inside)))
+    let smaller = formula_size-at (formula_list c.args.parts.now) c.parts.place part c.at.ensures in (
+      omega arith,
+      (
+        c.requires.within,
+        (
+          all_passes_at (met (map (marks_of c.args.links.now) c.args.edges.now)) (formula_list c.args.parts.now) c.parts.place part c.at.ensures c.requires.met,
+          c.parts.invariant.inside,
+        ),
+      ),
+    )
 
 pub add_for_all-parts-preserved : goal.add_for_all-parts-preserved
 add_for_all-parts-preserved t c =
@@ -30,13 +38,24 @@ add_for_all-parts-preserved t c =
 pub add_for_one-add_needed-requires : goal.add_for_one-add_needed-requires
 add_for_one-add_needed-requires t c =
     let smaller = formula_size-at (formula_list c.args.parts.now) c.parts.place (formula_tree c.at-in-Met.result.now) c.at-in-Met.ensures in
-    let same = same_Some _ _ (sym c.at.ensures ∙ c.at-in-Met.ensures) in
-    (omega arith, (c.requires.within, (ap (met_along c.args.links.now c.args.edges.now) (sym same) ∙ c.in-Met.ensures, subst (All (Contains c.args.edges.now)) (sym c.parts.invariant.same) c.requires.inside)))
+    let same = same_Some _ _ (sym c.at.ensures ∙ c.at-in-Met.ensures) in (
+      omega arith,
+      (
+        c.requires.within,
+        (
+          ap (met_along c.args.links.now c.args.edges.now) (sym same)
+              ∙ c.in-Met.ensures,
+          subst (All (Contains c.args.edges.now)) (sym c.parts.invariant.same) c.requires.inside,
+        ),
+      ),
+    )
 
 pub add_for_one-returns-in-Met : goal.add_for_one-returns-in-Met
 add_for_one-returns-in-Met t c =
-    let old = subst (λ (es : List LiveEdge). OnOk c.add_needed.result (Serves c.args.links.now c.args.edges.now (formula_tree c.at-in-Met.result.now) es c.add_needed.new.needed)) c.parts.invariant.same c.add_needed.ensures in
-    ok_weaker c.add_needed.result (Serves c.args.links.now c.args.edges.now (formula_tree c.at-in-Met.result.now) c.args.needed.now c.add_needed.new.needed) (ServesOne c.args.links.now c.args.edges.now (formula_list c.args.parts.now) c.args.needed.now c.add_needed.new.needed)
+    let old = subst (λ (es : List LiveEdge). OnOk c.add_needed.result (Serves c.args.links.now c.args.edges.now (formula_tree c.at-in-Met.result.now) es c.add_needed.new.needed))
+    c.parts.invariant.same c.add_needed.ensures in
+    ok_weaker c.add_needed.result (Serves c.args.links.now c.args.edges.now (formula_tree c.at-in-Met.result.now) c.args.needed.now c.add_needed.new.needed)
+    (ServesOne c.args.links.now c.args.edges.now (formula_list c.args.parts.now) c.args.needed.now c.add_needed.new.needed)
     (suits_one c.args.links.now c.args.edges.now (formula_list c.args.parts.now) c.parts.place (formula_tree c.at-in-Met.result.now) c.args.needed.now c.add_needed.new.needed c.at-in-Met.ensures)
     old
 
@@ -46,7 +65,8 @@ add_for_one-parts-preserved t c =
     let part = formula_tree c.at.result.now in
     record {
       same = c.parts.invariant.same;
-      none_met = any_more (met cycle) (formula_list c.args.parts.now) c.parts.place part c.at.ensures c.parts.invariant.none_met (not_met cycle part c.judge.result c.judge.ensures c.in_default.not-Met);
+      none_met = any_more (met cycle) (formula_list c.args.parts.now) c.parts.place part c.at.ensures c.parts.invariant.none_met
+          (not_met cycle part c.judge.result c.judge.ensures c.in_default.not-Met);
     }
 
 pub add_needed-add_for_all-requires : goal.add_needed-add_for_all-requires
@@ -63,26 +83,32 @@ add_needed-add_for_one-requires t c =
 
 pub add_needed-returns-in-True : goal.add_needed-returns-in-True
 add_needed-returns-in-True t c =
-    suits_same c.args.links.now c.args.edges.now _ c.args.needed.now c.requires.inside (λ cycle within has. ap (λ (f : Formula). met_along c.args.links.now cycle (formula_tree f)) c.in-True.is ∙ ap (met_along c.args.links.now cycle) formula_tree-True)
+    suits_same c.args.links.now c.args.edges.now _ c.args.needed.now c.requires.inside
+    (λ cycle within has. ap (λ (f : Formula). met_along c.args.links.now cycle (formula_tree f)) c.in-True.is ∙ ap (met_along c.args.links.now cycle) formula_tree-True)
 
 pub add_needed-returns-in-Fin : goal.add_needed-returns-in-Fin
 add_needed-returns-in-Fin t c =
     let fin = ap formula_tree c.in-Fin.is ∙ formula_tree-Fin c.in-Fin.set c.in-Fin.neg in
     suits_same c.args.links.now c.args.edges.now _ c.args.needed.now c.requires.inside
-    (λ cycle within has. ap (met_along c.args.links.now cycle) fin ∙ fin_fewer c.args.links.now c.args.edges.now c.in-Fin.set c.in-Fin.neg cycle within (sym (ap (met_along c.args.links.now c.args.edges.now) fin) ∙ c.requires.met))
+    (λ cycle within has. ap (met_along c.args.links.now cycle) fin
+    ∙ fin_fewer c.args.links.now c.args.edges.now c.in-Fin.set c.in-Fin.neg cycle within (sym (ap (met_along c.args.links.now c.args.edges.now) fin) ∙ c.requires.met))
 
 pub add_needed-returns-in-And : goal.add_needed-returns-in-And
 add_needed-returns-in-And t c =
     let links = c.args.links.now in
     let edges = c.args.edges.now in
-    ok_weaker c.add_for_all.result (ServesAll links edges (formula_list c.in-And.parts) c.args.needed.now c.add_for_all.new.needed) (Serves links edges (formula_tree c.args.condition.now) c.args.needed.now c.add_for_all.new.needed)
-    (λ parts. subst (λ (f : Formula). Serves links edges (formula_tree f) c.args.needed.now c.add_for_all.new.needed) (sym c.in-And.is) (serves-And links edges c.in-And.parts c.args.needed.now c.add_for_all.new.needed parts))
+    ok_weaker c.add_for_all.result (ServesAll links edges (formula_list c.in-And.parts) c.args.needed.now c.add_for_all.new.needed)
+    (Serves links edges (formula_tree c.args.condition.now) c.args.needed.now c.add_for_all.new.needed)
+    (λ parts. subst (λ (f : Formula). Serves links edges (formula_tree f) c.args.needed.now c.add_for_all.new.needed) (sym c.in-And.is)
+    (serves-And links edges c.in-And.parts c.args.needed.now c.add_for_all.new.needed parts))
     c.add_for_all.ensures
 
 pub add_needed-returns-in-Or : goal.add_needed-returns-in-Or
 add_needed-returns-in-Or t c =
     let links = c.args.links.now in
     let edges = c.args.edges.now in
-    ok_weaker c.add_for_one.result (ServesOne links edges (formula_list c.in-Or.parts) c.args.needed.now c.add_for_one.new.needed) (Serves links edges (formula_tree c.args.condition.now) c.args.needed.now c.add_for_one.new.needed)
-    (λ parts. subst (λ (f : Formula). Serves links edges (formula_tree f) c.args.needed.now c.add_for_one.new.needed) (sym c.in-Or.is) (serves-Or links edges c.in-Or.parts c.args.needed.now c.add_for_one.new.needed parts))
+    ok_weaker c.add_for_one.result (ServesOne links edges (formula_list c.in-Or.parts) c.args.needed.now c.add_for_one.new.needed)
+    (Serves links edges (formula_tree c.args.condition.now) c.args.needed.now c.add_for_one.new.needed)
+    (λ parts. subst (λ (f : Formula). Serves links edges (formula_tree f) c.args.needed.now c.add_for_one.new.needed) (sym c.in-Or.is)
+    (serves-Or links edges c.in-Or.parts c.args.needed.now c.add_for_one.new.needed parts))
     c.add_for_one.ensures

@@ -20,7 +20,8 @@ search-search_in-requires t c =
     let Within = IsWithin (length c.args.links.now) c.args.states in (
       omega arith,
       (
-        each_there (All Within) c.in_ok-groups.groups.items (λ group listed. each_there Within group (λ e here. All-contains Within c.args.edges.now e c.requires ((c.in_ok-groups.ensures.each group listed).inside e here))),
+        each_there (All Within) c.in_ok-groups.groups.items
+            (λ group listed. each_there Within group (λ e here. All-contains Within c.args.edges.now e c.requires ((c.in_ok-groups.ensures.each group listed).inside e here))),
         each_there IsJoined c.in_ok-groups.groups.items (λ group listed. (c.in_ok-groups.ensures.each group listed).joined),
       ),
     )
@@ -36,7 +37,9 @@ pub search_in-divide-requires : goal.search_in-divide-requires
 search_in-divide-requires t c =
     let said = subst (IsSurveyed c.args.links.now c.args.groups.items (formula_tree c.args.condition.now)) c.in-Open.is c.in_ok-group.ensures in
     let Linked = λ (e : LiveEdge). e.link < length c.args.links.now in
-    each_there (All Linked) c.in-Open.left.items (λ group listed. each_there Linked group (λ e here. (within_all (IsWithin (length c.args.links.now) c.args.states) c.args.groups.items c.requires.within group (said.1.inside group listed) e here).link))
+    each_there (All Linked) c.in-Open.left.items
+    (λ group listed. each_there Linked group (λ e here.
+    (within_all (IsWithin (length c.args.links.now) c.args.states) c.args.groups.items c.requires.within group (said.1.inside group listed) e here).link))
 
 pub search_in-search-requires : goal.search_in-search-requires
 search_in-search-requires t c =
@@ -57,9 +60,12 @@ search_in-returns-in-Some t c =
     let f = formula_tree c.args.condition.now in
     let side = c.in-Open.side in
     let said = subst (IsSurveyed links c.args.groups.items f) c.in-Open.is c.in_ok-group.ensures in
-    let found = some_said (NoneAccepting links (Contains c.as_slice-in-Open.result.now) (formula_tree c.in_ok-holds-in-Open.holds)) (IsAccepting links (Contains c.as_slice-in-Open.result.now) (formula_tree c.in_ok-holds-in-Open.holds)) c.in_ok-cycle-in-Open.field-0 c.in-Some.cycle c.in-Some.is c.in_ok-cycle-in-Open.ensures in
+    let found = some_said (NoneAccepting links (Contains c.as_slice-in-Open.result.now) (formula_tree c.in_ok-holds-in-Open.holds))
+    (IsAccepting links (Contains c.as_slice-in-Open.result.now) (formula_tree c.in_ok-holds-in-Open.holds)) c.in_ok-cycle-in-Open.field-0 c.in-Some.cycle c.in-Some.is
+    c.in_ok-cycle-in-Open.ensures in
     let off = subst (λ (es : List LiveEdge). IsAccepting links (Contains es) (formula_tree c.in_ok-holds-in-Open.holds) c.in-Some.cycle) c.as_slice-in-Open.ensures found in
-    found_off links side.set side.neg f c.args.groups.items c.in-Open.left.items c.in_ok-parts-in-Open.parts.crossed.items c.in_ok-parts-in-Open.parts.off said.1 c.in_ok-parts-in-Open.ensures c.in-Some.cycle
+    found_off links side.set side.neg f c.args.groups.items c.in-Open.left.items c.in_ok-parts-in-Open.parts.crossed.items c.in_ok-parts-in-Open.parts.off said.1
+    c.in_ok-parts-in-Open.ensures c.in-Some.cycle
     (subst (λ (g : FormulaTree). IsAccepting links (Contains c.in_ok-parts-in-Open.parts.off) g c.in-Some.cycle) c.in_ok-holds-in-Open.ensures off)
 
 pub search_in-search_in-requires : goal.search_in-search_in-requires
@@ -72,7 +78,8 @@ search_in-search_in-requires t c =
     let crossed = c.in_ok-parts-in-Open.parts.crossed.items in (
       omega arith,
       (
-        each_there (All Within) crossed (λ group listed. All-contains (All Within) c.args.groups.items group c.requires.within (said.1.inside group (c.in_ok-parts-in-Open.ensures.inside group listed))),
+        each_there (All Within) crossed (λ group listed. All-contains (All Within) c.args.groups.items group c.requires.within
+            (said.1.inside group (c.in_ok-parts-in-Open.ensures.inside group listed))),
         each_there IsJoined crossed (λ group listed. All-contains IsJoined c.args.groups.items group c.requires.joined (said.1.inside group (c.in_ok-parts-in-Open.ensures.inside group listed))),
       ),
     )
@@ -94,8 +101,11 @@ search_in-returns-in_ok-fails-in-Open t c =
     let off = c.in_ok-parts-in-Open.parts.off in
     let crossed = c.in_ok-parts-in-Open.parts.crossed.items in
     let said = subst (IsSurveyed links c.args.groups.items f) c.in-Open.is c.in_ok-group.ensures in
-    let none = none_said (NoneAccepting links (Contains c.as_slice-in-Open.result.now) (formula_tree c.in_ok-holds-in-Open.holds)) (IsAccepting links (Contains c.as_slice-in-Open.result.now) (formula_tree c.in_ok-holds-in-Open.holds)) c.in_ok-cycle-in-Open.field-0 c.in_default.is c.in_ok-cycle-in-Open.ensures in
-    let none_off = subst (λ (g : FormulaTree). NoneAccepting links (Contains off) g) c.in_ok-holds-in-Open.ensures (subst (λ (es : List LiveEdge). NoneAccepting links (Contains es) (formula_tree c.in_ok-holds-in-Open.holds)) c.as_slice-in-Open.ensures none) in
+    let none = none_said (NoneAccepting links (Contains c.as_slice-in-Open.result.now) (formula_tree c.in_ok-holds-in-Open.holds))
+    (IsAccepting links (Contains c.as_slice-in-Open.result.now) (formula_tree c.in_ok-holds-in-Open.holds)) c.in_ok-cycle-in-Open.field-0 c.in_default.is c.in_ok-cycle-in-Open.ensures in
+    let none_off = subst (λ (g : FormulaTree). NoneAccepting links (Contains off) g) c.in_ok-holds-in-Open.ensures
+    (subst (λ (es : List LiveEdge). NoneAccepting links (Contains es) (formula_tree c.in_ok-holds-in-Open.holds)) c.as_slice-in-Open.ensures none) in
     IfOk-weaker c.search_in.result (FindsInAny links crossed (formula_tree c.in_ok-fails-in-Open.fails)) (FindsInAny links c.args.groups.items f)
-    (λ found finds. finds_of_split links side.set side.neg f c.args.groups.items c.in-Open.left.items crossed off said.1 c.in_ok-parts-in-Open.ensures none_off found (subst (λ (g : FormulaTree). FindsInAny links crossed g found) c.in_ok-fails-in-Open.ensures finds))
+    (λ found finds. finds_of_split links side.set side.neg f c.args.groups.items c.in-Open.left.items crossed off said.1 c.in_ok-parts-in-Open.ensures none_off found
+    (subst (λ (g : FormulaTree). FindsInAny links crossed g found) c.in_ok-fails-in-Open.ensures finds))
     c.search_in.ensures

@@ -12,5 +12,6 @@ pub returns : goal.returns
 returns c =
     let f = formula_tree c.args.condition.now in
     IfOk-weaker c.tour.result (IsTour c.args.edges.now c.as_slice.result.now) (IsAccepting c.args.links.now (Contains c.args.edges.now) f)
-    (λ cycle tour. accepting_tour c.args.links.now c.args.edges.now c.in_ok-needed.needed cycle f c.in_ok-needed.ensures (subst (λ (es : List LiveEdge). IsTour c.args.edges.now es cycle) c.as_slice.ensures tour))
+    (λ cycle tour. accepting_tour c.args.links.now c.args.edges.now c.in_ok-needed.needed cycle f c.in_ok-needed.ensures
+    (subst (λ (es : List LiveEdge). IsTour c.args.edges.now es cycle) c.as_slice.ensures tour))
     c.tour.ensures

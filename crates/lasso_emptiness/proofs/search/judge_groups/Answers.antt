@@ -13,7 +13,8 @@ use Rattle.lasso_emptiness.proofs.search.judge_groups.Goals as goal
 pub judge-requires : goal.judge-requires
 judge-requires c =
     subst (All (λ (e : LiveEdge). e.link < length c.args.links.now)) (sym c.as_slice.ensures)
-    (All-contains (All (λ (e : LiveEdge). e.link < length c.args.links.now)) c.args.groups.items c.in-Some.group c.requires (c.groups.invariant.rest_inside c.in-Some.group (popped_item c.groups.groups.items c.pop.new.self.items c.in-Some.group c.in-Some.ensures.items)))
+    (All-contains (All (λ (e : LiveEdge). e.link < length c.args.links.now)) c.args.groups.items c.in-Some.group c.requires
+    (c.groups.invariant.rest_inside c.in-Some.group (popped_item c.groups.groups.items c.pop.new.self.items c.in-Some.group c.in-Some.ensures.items)))
 
 pub groups-preserved-then-is_empty : goal.groups-preserved-then-is_empty
 groups-preserved-then-is_empty c =
@@ -40,7 +41,8 @@ returns-in-Met c =
 pub groups-preserved : goal.groups-preserved
 groups-preserved c =
     let f = formula_tree c.args.condition.now in
-    judged_open c.args.links.now f c.args.groups.items c.groups.groups.items c.pop.new.self.items c.groups.left.items c.push.new.self.items c.groups.undecided c.in-Open.side c.in-Some.group c.in-Some.ensures.items
+    judged_open c.args.links.now f c.args.groups.items c.groups.groups.items c.pop.new.self.items c.groups.left.items c.push.new.self.items c.groups.undecided c.in-Open.side c.in-Some.group
+    c.in-Some.ensures.items
     c.in_ok-push-in-Open.ensures.items c.in-Open.ensures.0 c.groups.invariant
 
 pub returns-in-Some-undecided : goal.returns-in-Some-undecided

@@ -14,4 +14,5 @@ edges-preserved c =
     let i = c.edges.edge-index in
     let e = edge_at edges i in
     subst (λ (es : List LiveEdge). AreLettersOf c.args.a.now es c.push.new.self) (sym (take-push edges i e c.edges-test.true (get_or_default edges i _ e c.edges-test.true)))
-    (subst (λ (xs : List NameSet). AreLettersOf c.args.a.now (take i edges ++ e ∷ []) xs) (sym c.in_ok-push.ensures.ok) (letters_push c.args.a.now (take i edges) c.edges.letters e c.in_ok-letter_on.field-0 c.edges.invariant c.in_ok-letter_on.ensures))
+    (subst (λ (xs : List NameSet). AreLettersOf c.args.a.now (take i edges ++ e ∷ []) xs) (sym c.in_ok-push.ensures.ok)
+    (letters_push c.args.a.now (take i edges) c.edges.letters e c.in_ok-letter_on.field-0 c.edges.invariant c.in_ok-letter_on.ensures))

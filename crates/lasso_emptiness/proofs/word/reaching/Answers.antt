@@ -12,6 +12,8 @@ reach-requires-clause-nodes c = has_nodes_back _ c.args.states _ c.args.edges.no
 
 pub returns-clause-exact : goal.returns-clause-exact
 returns-clause-exact c =
-    IfOk-weaker c.reach.result (AreReached c.in_ok-backward_graph_of.field-0.nodes c.in_ok-backward_graph_of.field-0.arcs c.push.new.self) (λ flags. (p : ℕ) → p < c.args.states → IsTrue (get_or flags p false) ↔ Reaches (map arc_of c.args.edges.now) p c.args.state)
-    (reaching_exact _ c.args.states _ c.push.new.self c.args.edges.now c.args.state c.in_ok-backward_graph_of.ensures.nodes c.in_ok-backward_graph_of.ensures.arcs (c.in_ok-push.ensures.ok ∙ ap (λ (ns : List ℕ). ns ++ c.args.state ∷ []) c.new-from.ensures))
+    IfOk-weaker c.reach.result (AreReached c.in_ok-backward_graph_of.field-0.nodes c.in_ok-backward_graph_of.field-0.arcs c.push.new.self)
+    (λ flags. (p : ℕ) → p < c.args.states → IsTrue (get_or flags p false) ↔ Reaches (map arc_of c.args.edges.now) p c.args.state)
+    (reaching_exact _ c.args.states _ c.push.new.self c.args.edges.now c.args.state c.in_ok-backward_graph_of.ensures.nodes c.in_ok-backward_graph_of.ensures.arcs
+    (c.in_ok-push.ensures.ok ∙ ap (λ (ns : List ℕ). ns ++ c.args.state ∷ []) c.new-from.ensures))
     c.reach.ensures

@@ -13,13 +13,15 @@ use Rattle.lasso_emptiness.proofs.word.word_around.Goals as goal
 
 pub stem_to-requires-clause-ends : goal.stem_to-requires-clause-ends
 stem_to-requires-clause-ends c =
-    each_there (λ (e : LiveEdge). (e.from < c.args.a.now.states) × (e.to < c.args.a.now.states)) c.args.passable.now (λ e here. let within = passable_within c.args.a.now c.whole.ensures e (c.requires.passable.each e here) in (within.from, within.to))
+    each_there (λ (e : LiveEdge). (e.from < c.args.a.now.states) × (e.to < c.args.a.now.states)) c.args.passable.now
+    (λ e here. let within = passable_within c.args.a.now c.whole.ensures e (c.requires.passable.each e here) in (within.from, within.to))
 
 pub stem_to-requires-clause-state : goal.stem_to-requires-clause-state
 stem_to-requires-clause-state c =
     let first = edge_at c.args.cycle.now 0 in
     let here = Contains-get_or c.args.cycle.now 0 _ c.requires.accepting.some in
-    (passable_within c.args.a.now c.whole.ensures first (trail_kind (IsPassable c.args.a.now) c.requires.accepting.state c.requires.accepting.state c.args.cycle.now first c.requires.accepting.closed here)).from
+    (passable_within c.args.a.now c.whole.ensures first
+    (trail_kind (IsPassable c.args.a.now) c.requires.accepting.state c.requires.accepting.state c.args.cycle.now first c.requires.accepting.closed here)).from
 
 pub stem_to-requires-clause-reached : goal.stem_to-requires-clause-reached
 stem_to-requires-clause-reached c = c.requires.reached (edge_at c.args.cycle.now 0) (Contains-get_or c.args.cycle.now 0 _ c.requires.accepting.some)
@@ -27,11 +29,13 @@ stem_to-requires-clause-reached c = c.requires.reached (edge_at c.args.cycle.now
 pub letters_along-requires : goal.letters_along-requires
 letters_along-requires c =
     let stem = c.in_ok-stem.ensures in
-    subst (All (IsPassable c.args.a.now)) (sym c.as_slice.ensures) (each_there (IsPassable c.args.a.now) c.in_ok-stem.stem (λ e here. c.requires.passable.each e (trail_kind (Contains c.args.passable.now) stem.start _ c.in_ok-stem.stem e stem.leads here)))
+    subst (All (IsPassable c.args.a.now)) (sym c.as_slice.ensures)
+    (each_there (IsPassable c.args.a.now) c.in_ok-stem.stem (λ e here. c.requires.passable.each e (trail_kind (Contains c.args.passable.now) stem.start _ c.in_ok-stem.stem e stem.leads here)))
 
 pub letters_along-requires-2 : goal.letters_along-requires-2
 letters_along-requires-2 c =
-    each_there (IsPassable c.args.a.now) c.args.cycle.now (λ e here. trail_kind (IsPassable c.args.a.now) c.requires.accepting.state c.requires.accepting.state c.args.cycle.now e c.requires.accepting.closed here)
+    each_there (IsPassable c.args.a.now) c.args.cycle.now
+    (λ e here. trail_kind (IsPassable c.args.a.now) c.requires.accepting.state c.requires.accepting.state c.args.cycle.now e c.requires.accepting.closed here)
 
 pub returns : goal.returns
 returns c =

@@ -7,14 +7,16 @@ use Rattle.plan_meaning.proofs.changing.make_all.Goals as goal
 
 pub make-requires-clause-size : goal.make-requires-clause-size
 make-requires-clause-size c =
-    sized_at c.changes.change-index _ _ (at_place 0 c.args.changes.now c.changes.change-index _ c.in-Some.change c.requires.order c.changes-test.true (sym c.change-item.is ∙ c.in-Some.is)).0 c.changes.invariant.1
+    sized_at c.changes.change-index _ _ (at_place 0 c.args.changes.now c.changes.change-index _ c.in-Some.change c.requires.order c.changes-test.true (sym c.change-item.is ∙ c.in-Some.is)).0
+    c.changes.invariant.1
 
 pub make-requires-clause-possible : goal.make-requires-clause-possible
 make-requires-clause-possible c = (at_place 0 c.args.changes.now c.changes.change-index _ c.in-Some.change c.requires.order c.changes-test.true (sym c.change-item.is ∙ c.in-Some.is)).1
 
 pub returns-in_err-made-clause-steps : goal.returns-in_err-made-clause-steps
 returns-in_err-made-clause-steps c =
-    stops_here c.args.changes.now c.changes.change-index _ _ (automaton_of c.args.a) (automaton_of c.changes.made) c.changes-test.true (sym c.change-item.is ∙ c.in-Some.is) c.changes.invariant.0 c.in_err-made.field-0.0 c.from_residual.result c.from_residual.ensures.1 c.in_err-made.ensures.steps
+    stops_here c.args.changes.now c.changes.change-index _ _ (automaton_of c.args.a) (automaton_of c.changes.made) c.changes-test.true (sym c.change-item.is ∙ c.in-Some.is)
+    c.changes.invariant.0 c.in_err-made.field-0.0 c.from_residual.result c.from_residual.ensures.1 c.in_err-made.ensures.steps
 
 pub changes-preserved : goal.changes-preserved
 changes-preserved c =
@@ -25,8 +27,10 @@ changes-preserved c =
     elim c.match-change.branch [
       | in-Some+in_ok-made w ↦
           let is = sym c.change-item.is ∙ w.in-Some.is in
-          subst (λ (x : Core). IsMade (changes_asked (take (i + 1) xs)) a (automaton_of x) × IsOfSizeAt (i + 1) (automaton_of x)) (sym w.made-is)
-          (made_on xs i _ _ a b c.changes-test.true is c.changes.invariant.0 _ w.in_ok-made.ensures.steps, grown i _ _ (at_place 0 xs i _ w.in-Some.change c.requires.order c.changes-test.true is).0 w.in_ok-made.ensures.size)
+          subst (λ (x : Core). IsMade (changes_asked (take (i + 1) xs)) a (automaton_of x) × IsOfSizeAt (i + 1) (automaton_of x)) (sym w.made-is) (
+            made_on xs i _ _ a b c.changes-test.true is c.changes.invariant.0 _ w.in_ok-made.ensures.steps,
+            grown i _ _ (at_place 0 xs i _ w.in-Some.change c.requires.order c.changes-test.true is).0 w.in_ok-made.ensures.size,
+          )
       | in_default w ↦
           subst (λ (x : Core). IsMade (changes_asked (take (i + 1) xs)) a (automaton_of x) × IsOfSizeAt (i + 1) (automaton_of x)) (sym w.made-is)
           (made_on xs i _ _ a b c.changes-test.true (sym c.change-item.is ∙ w.in_default.is) c.changes.invariant.0 b (none_made b), grows i b c.changes.invariant.1)

@@ -16,7 +16,8 @@ returns-in_err-holds-clause-judges c =
     let xs = c.filters-asked.result in
     let fault = c.in_err-holds.field-0.0 in
     let stop : Result Bool PlanFault = Err fault in
-    let ended = ends xs c.filters.filter-index _ _ a within c.in-Some.is c.filters.invariant.0 c.in-Some.filter stop refl (λ same. let s : stop ≡ Ok true = same in cc) c.in_err-holds.ensures.examines in
+    let ended = ends xs c.filters.filter-index _ _ a within c.in-Some.is c.filters.invariant.0 c.in-Some.filter stop refl (λ same. let s : stop ≡ Ok true = same in cc)
+    c.in_err-holds.ensures.examines in
     passed_on c.from_residual.result fault _ a c.from_residual.ensures.1 (subst (λ (fs : List Filter). JudgesWithin stop fs a) c.filters-asked.ensures.list ended)
 
 pub returns-in_err-holds-clause-kept : goal.returns-in_err-holds-clause-kept
@@ -47,8 +48,10 @@ filters-preserved c =
     elim c.match-filter.branch [
       | in-Some+in_ok-holds+else-not-branch w ↦ (let there = w.in-Some.is in
           let from = from_at p ops xs c.filters.filter-index _ w.in-Some.filter c.filters-asked.ensures.from within there in (
-            goes_on xs c.filters.filter-index _ _ a within there c.filters.invariant.0 (subst (λ (b : Bool). Examines (Ok b) (filter_of w.in-Some.filter) a) w.if-not-branch.false w.in_ok-holds.ensures.examines, tt),
-            subst (AreKept p ops) (sym w.complements-is) (kept_on p ops w.in-Some.filter c.filters.complements w.holds.new.complements from c.filters.invariant.1 w.in_ok-holds.ensures.ready w.in_ok-holds.ensures.others),
+            goes_on xs c.filters.filter-index _ _ a within there c.filters.invariant.0
+                (subst (λ (b : Bool). Examines (Ok b) (filter_of w.in-Some.filter) a) w.if-not-branch.false w.in_ok-holds.ensures.examines, tt),
+            subst (AreKept p ops) (sym w.complements-is)
+                (kept_on p ops w.in-Some.filter c.filters.complements w.holds.new.complements from c.filters.invariant.1 w.in_ok-holds.ensures.ready w.in_ok-holds.ensures.others),
             c.filters.invariant.2,
           ))
       | in_default w ↦ (

@@ -14,5 +14,6 @@ bytes-preserved-in-92 c = record {
 pub bytes-preserved : goal.bytes-preserved
 bytes-preserved c = record {
   within = omega arith;
-  same = string_goes_on c.args.bytes.now c.bytes.text c.push-in_default.new.self c.bytes.at c.bytes-test.true (λ h. omega arith) (λ h. omega arith) c.in_ok-push-in_default.ensures.ok c.bytes.invariant.same;
+  same = string_goes_on c.args.bytes.now c.bytes.text c.push-in_default.new.self c.bytes.at c.bytes-test.true (λ h. omega arith) (λ h. omega arith) c.in_ok-push-in_default.ensures.ok
+      c.bytes.invariant.same;
 }

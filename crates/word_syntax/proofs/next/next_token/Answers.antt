@@ -12,11 +12,14 @@ from-requires-2 c = blank_bound c.args.bytes.now c.from.result.now c.args.at c.b
 
 pub overflow_add-result : goal.overflow_add-result
 overflow_add-result c =
-    let next = found_next c.args.bytes.now c.from.result.now c.from-2.result.now c.args.at c.blanks.result c.in-Some.token c.in-Some.size c.in_ok-token.field-0 c.requires c.from.ensures c.blanks.ensures c.from-2.ensures c.in_ok-token.ensures c.in-Some.is in
+    let next = found_next c.args.bytes.now c.from.result.now c.from-2.result.now c.args.at c.blanks.result c.in-Some.token c.in-Some.size c.in_ok-token.field-0 c.requires c.from.ensures
+    c.blanks.ensures c.from-2.ensures c.in_ok-token.ensures c.in-Some.is in
     omega (arith, next.within)
 
 pub returns-in-Some : goal.returns-in-Some
-returns-in-Some c = found_next c.args.bytes.now c.from.result.now c.from-2.result.now c.args.at c.blanks.result c.in-Some.token c.in-Some.size c.in_ok-token.field-0 c.requires c.from.ensures c.blanks.ensures c.from-2.ensures c.in_ok-token.ensures c.in-Some.is
+returns-in-Some c = found_next c.args.bytes.now c.from.result.now c.from-2.result.now c.args.at c.blanks.result c.in-Some.token c.in-Some.size c.in_ok-token.field-0 c.requires c.from.ensures
+    c.blanks.ensures c.from-2.ensures c.in_ok-token.ensures c.in-Some.is
 
 pub returns-in-None : goal.returns-in-None
-returns-in-None c = found_nothing c.args.bytes.now c.from.result.now c.from-2.result.now c.args.at c.blanks.result c.in_ok-token.field-0 c.requires c.from.ensures c.blanks.ensures c.from-2.ensures c.in_ok-token.ensures c.in-None.is
+returns-in-None c = found_nothing c.args.bytes.now c.from.result.now c.from-2.result.now c.args.at c.blanks.result c.in_ok-token.field-0 c.requires c.from.ensures c.blanks.ensures
+    c.from-2.ensures c.in_ok-token.ensures c.in-None.is

@@ -13,10 +13,12 @@ pub candidates-preserved : goal.candidates-preserved
 candidates-preserved c =
     let unlike : c.is_same.result ≡ false = search rules in
     candidate_next c.args.letters.now c.args.front c.candidates.period _ c.candidates-test.true c.candidates.invariant (c.requires.least (c.args.front - c.candidates.period) (omega arith))
-    (differ_between c.args.letters.now c.args.letters.now c.args.front (c.args.front - c.candidates.period) c.index-letters-front.result c.index-letters-front-in-candidates.result c.is_same.result c.requires.within (omega arith) c.index-letters-front.is c.index-letters-front-in-candidates.is c.is_same.ensures unlike)
+    (differ_between c.args.letters.now c.args.letters.now c.args.front (c.args.front - c.candidates.period) c.index-letters-front.result c.index-letters-front-in-candidates.result
+    c.is_same.result c.requires.within (omega arith) c.index-letters-front.is c.index-letters-front-in-candidates.is c.is_same.ensures unlike)
 
 pub returns-else-not-is_same : goal.returns-else-not-is_same
 returns-else-not-is_same c =
     let alike : c.is_same.result ≡ true = search rules in
     candidate_agrees c.args.letters.now c.args.front c.candidates.period c.candidates-test.true c.candidates.invariant
-    (same_between c.args.letters.now c.args.letters.now c.args.front (c.args.front - c.candidates.period) c.index-letters-front.result c.index-letters-front-in-candidates.result c.is_same.result c.requires.within (omega arith) c.index-letters-front.is c.index-letters-front-in-candidates.is c.is_same.ensures alike)
+    (same_between c.args.letters.now c.args.letters.now c.args.front (c.args.front - c.candidates.period) c.index-letters-front.result c.index-letters-front-in-candidates.result
+    c.is_same.result c.requires.within (omega arith) c.index-letters-front.is c.index-letters-front-in-candidates.is c.is_same.ensures alike)

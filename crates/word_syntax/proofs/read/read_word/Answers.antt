@@ -6,7 +6,8 @@ use Rattle.word_syntax.proofs.WordAnswers.{passed_on, word_ended, word_written}
 use Rattle.word_syntax.proofs.read.read_word.Goals as goal
 
 pub returns-in_err-names : goal.returns-in_err-names
-returns-in_err-names c = passed_on c.args.text.now c.as_bytes-bytes.result.now c.from_residual.result c.in_err-names.field-0.0 c.as_bytes-bytes.ensures (omega arith) c.from_residual.ensures.1 c.in_err-names.ensures
+returns-in_err-names c = passed_on c.args.text.now c.as_bytes-bytes.result.now c.from_residual.result c.in_err-names.field-0.0 c.as_bytes-bytes.ensures (omega arith)
+    c.from_residual.ensures.1 c.in_err-names.ensures
 
 pub invariant_of-result : goal.invariant_of-result
 invariant_of-result c =

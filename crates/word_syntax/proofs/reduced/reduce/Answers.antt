@@ -19,8 +19,11 @@ returns-clause-same c =
       from = from;
       root = subst P c.as_slice-letters.ensures c.in_ok-root_size.ensures;
       shared = subst R root (subst Q c.as_slice.ensures c.shared_end-shared.ensures);
-      stem_is = c.in_ok-push_copies.ensures ∙ (ap (λ (x : List NameSet). x ++ c.before-2.result.now) c.new-stem.ensures ∙ (c.before-2.ensures ∙ ap (λ (x : List NameSet). take kept x) c.as_slice-2.ensures));
-      cycle_is = c.in_ok-push_copies-3.ensures ∙ (ap (λ (x : List NameSet). x ++ c.before-3.result.now) (c.in_ok-push_copies-2.ensures ∙ (ap (λ (x : List NameSet). x ++ c.behind.result.now) c.new-cycle.ensures ∙ (c.behind.ensures ∙ ap (λ (x : List NameSet). drop from x) root)))
+      stem_is = c.in_ok-push_copies.ensures ∙ (ap (λ (x : List NameSet). x ++ c.before-2.result.now) c.new-stem.ensures
+          ∙ (c.before-2.ensures ∙ ap (λ (x : List NameSet). take kept x) c.as_slice-2.ensures));
+      cycle_is = c.in_ok-push_copies-3.ensures ∙
+          (ap (λ (x : List NameSet). x ++ c.before-3.result.now)
+          (c.in_ok-push_copies-2.ensures ∙ (ap (λ (x : List NameSet). x ++ c.behind.result.now) c.new-cycle.ensures ∙ (c.behind.ensures ∙ ap (λ (x : List NameSet). drop from x) root)))
           ∙ ap (λ (x : List NameSet). drop from (take size c.args.word.now.cycle) ++ x) (c.before-3.ensures ∙ ap (λ (x : List NameSet). take from x) root));
     })
 
@@ -39,8 +42,11 @@ returns-clause-reduced c =
       from = from;
       root = subst P c.as_slice-letters.ensures c.in_ok-root_size.ensures;
       shared = subst R root (subst Q c.as_slice.ensures c.shared_end-shared.ensures);
-      stem_is = c.in_ok-push_copies.ensures ∙ (ap (λ (x : List NameSet). x ++ c.before-2.result.now) c.new-stem.ensures ∙ (c.before-2.ensures ∙ ap (λ (x : List NameSet). take kept x) c.as_slice-2.ensures));
-      cycle_is = c.in_ok-push_copies-3.ensures ∙ (ap (λ (x : List NameSet). x ++ c.before-3.result.now) (c.in_ok-push_copies-2.ensures ∙ (ap (λ (x : List NameSet). x ++ c.behind.result.now) c.new-cycle.ensures ∙ (c.behind.ensures ∙ ap (λ (x : List NameSet). drop from x) root)))
+      stem_is = c.in_ok-push_copies.ensures ∙ (ap (λ (x : List NameSet). x ++ c.before-2.result.now) c.new-stem.ensures
+          ∙ (c.before-2.ensures ∙ ap (λ (x : List NameSet). take kept x) c.as_slice-2.ensures));
+      cycle_is = c.in_ok-push_copies-3.ensures ∙
+          (ap (λ (x : List NameSet). x ++ c.before-3.result.now)
+          (c.in_ok-push_copies-2.ensures ∙ (ap (λ (x : List NameSet). x ++ c.behind.result.now) c.new-cycle.ensures ∙ (c.behind.ensures ∙ ap (λ (x : List NameSet). drop from x) root)))
           ∙ ap (λ (x : List NameSet). drop from (take size c.args.word.now.cycle) ++ x) (c.before-3.ensures ∙ ap (λ (x : List NameSet). take from x) root));
     })
 
@@ -59,7 +65,10 @@ returns-clause-accepted c =
       from = from;
       root = subst P c.as_slice-letters.ensures c.in_ok-root_size.ensures;
       shared = subst R root (subst Q c.as_slice.ensures c.shared_end-shared.ensures);
-      stem_is = c.in_ok-push_copies.ensures ∙ (ap (λ (x : List NameSet). x ++ c.before-2.result.now) c.new-stem.ensures ∙ (c.before-2.ensures ∙ ap (λ (x : List NameSet). take kept x) c.as_slice-2.ensures));
-      cycle_is = c.in_ok-push_copies-3.ensures ∙ (ap (λ (x : List NameSet). x ++ c.before-3.result.now) (c.in_ok-push_copies-2.ensures ∙ (ap (λ (x : List NameSet). x ++ c.behind.result.now) c.new-cycle.ensures ∙ (c.behind.ensures ∙ ap (λ (x : List NameSet). drop from x) root)))
+      stem_is = c.in_ok-push_copies.ensures ∙ (ap (λ (x : List NameSet). x ++ c.before-2.result.now) c.new-stem.ensures
+          ∙ (c.before-2.ensures ∙ ap (λ (x : List NameSet). take kept x) c.as_slice-2.ensures));
+      cycle_is = c.in_ok-push_copies-3.ensures ∙
+          (ap (λ (x : List NameSet). x ++ c.before-3.result.now)
+          (c.in_ok-push_copies-2.ensures ∙ (ap (λ (x : List NameSet). x ++ c.behind.result.now) c.new-cycle.ensures ∙ (c.behind.ensures ∙ ap (λ (x : List NameSet). drop from x) root)))
           ∙ ap (λ (x : List NameSet). drop from (take size c.args.word.now.cycle) ++ x) (c.before-3.ensures ∙ ap (λ (x : List NameSet). take from x) root));
     })

@@ -18,16 +18,21 @@ links-preserved c =
     let given = c.links-link-items.ensures in
     let on_bring = c.bring.ensures.keeps.names in
     let names : AreNames c.bring.new.self c.args.names.now = (c.requires.names.0 ∙ sym (on_bring ∙ c.links.invariant.names), c.requires.names.1) in
-    let brought = subst (λ (s : Store). IsGuardOf c.bring.new.self (λ on. truth_in s link.guard (λ k. on (slice_index_or c.args.to.now k 0))) c.in_ok-bring.field-0) c.guards.ensures c.in_ok-bring.ensures.brought in
+    let brought = subst (λ (s : Store). IsGuardOf c.bring.new.self (λ on. truth_in s link.guard (λ k. on (slice_index_or c.args.to.now k 0))) c.in_ok-bring.field-0) c.guards.ensures
+    c.in_ok-bring.ensures.brought in
     let label = brought_label old.store c.bring.new.self old.names c.args.names.now c.args.to.now link.guard c.in_ok-bring.field-0 c.whole.ensures.parts.store_names names c.requires.places brought in
     let marks = c.in_ok-copy_marks.ensures in
     record {
       names = on_bring ∙ c.links.invariant.names;
-      links = stand_more (λ (m : Link). record (edge_of old.store m) { label = label_over old.names c.args.names.now (edge_of old.store m).label }) old.links c.links.link-index link c.links.guards c.bring.new.self c.links.links c.push.new.self (record { from = link.from; guard = c.in_ok-bring.field-0; to = link.to; marks = c.in_ok-copy_marks.field-0 }) (omega (arith, ap length given, c.links-test.true)) (c.link-item.is ∙ ap (λ ls. get_or ls c.links.link-index link) given) c.links.invariant.links c.bring.ensures.keeps brought.has (λ i. record { from = link.from; label = label i; to = link.to; marks = marks i }) c.in_ok-push.ensures.ok;
+      links = stand_more (λ (m : Link). record (edge_of old.store m) { label = label_over old.names c.args.names.now (edge_of old.store m).label }) old.links c.links.link-index link
+          c.links.guards c.bring.new.self c.links.links c.push.new.self (record { from = link.from; guard = c.in_ok-bring.field-0; to = link.to; marks = c.in_ok-copy_marks.field-0 })
+          (omega (arith, ap length given, c.links-test.true)) (c.link-item.is ∙ ap (λ ls. get_or ls c.links.link-index link) given) c.links.invariant.links c.bring.ensures.keeps brought.has
+          (λ i. record { from = link.from; label = label i; to = link.to; marks = marks i }) c.in_ok-push.ensures.ok;
     }
 
 pub returns-clause-edges : goal.returns-clause-edges
 returns-clause-edges c =
     let old = c.args.self.now in
-    let all = stand_all (λ (m : Link). record (edge_of old.store m) { label = label_over old.names c.args.names.now (edge_of old.store m).label }) old.links c.links.link-index c.links.guards c.links.links (omega (arith, ap length c.links-link-items.ensures, c.links-test.false)) c.links.invariant.links in
+    let all = stand_all (λ (m : Link). record (edge_of old.store m) { label = label_over old.names c.args.names.now (edge_of old.store m).label }) old.links c.links.link-index c.links.guards
+    c.links.links (omega (arith, ap length c.links-link-items.ensures, c.links-test.false)) c.links.invariant.links in
     all ∙ sym (map-map (λ (e : TreeEdge). record e { label = label_over old.names c.args.names.now e.label }) (edge_of old.store) old.links)

@@ -16,21 +16,38 @@ use Rattle.aut_core.proofs.automaton.Automaton.from_parts.Goals.{then-is_single,
 
 pub invariant_of-result : goal.invariant_of-result
 invariant_of-result c =
-    let core : Core = record { names = c.args.names; starts = c.args.starts; states = c.args.states; links = c.args.links; sets = c.args.sets; formula = formula_tree c.args.formula; store = c.args.guards } in
-    let within : All (λ (e : TreeEdge). e.from < c.args.states) (map (edge_of c.args.guards) c.args.links) = All-map (λ (e : TreeEdge). e.from < c.args.states) (edge_of c.args.guards) c.args.links (λ k d w. (c.requires.links k d w).from) in
-    let found : AreSurveyed c.args.names (map (edge_of c.args.guards) c.args.links) c.args.states c.in_ok-all.all.found = subst (λ (ls : List Link). AreSurveyed c.args.names (map (edge_of c.args.guards) ls) c.args.states c.in_ok-all.all.found) c.as_slice-2.ensures c.in_ok-all.ensures.found in
+    let core : Core = record {
+      names = c.args.names;
+      starts = c.args.starts;
+      states = c.args.states;
+      links = c.args.links;
+      sets = c.args.sets;
+      formula = formula_tree c.args.formula;
+      store =
+          c.args.guards;
+    } in
+    let within : All (λ (e : TreeEdge). e.from < c.args.states) (map (edge_of c.args.guards) c.args.links) =
+    All-map (λ (e : TreeEdge). e.from < c.args.states) (edge_of c.args.guards) c.args.links (λ k d w. (c.requires.links k d w).from) in
+    let found : AreSurveyed c.args.names (map (edge_of c.args.guards) c.args.links) c.args.states c.in_ok-all.all.found =
+    subst (λ (ls : List Link). AreSurveyed c.args.names (map (edge_of c.args.guards) ls) c.args.states c.in_ok-all.all.found) c.as_slice-2.ensures c.in_ok-all.ensures.found in
     let differ : AllPairs (λ (a b : List ℕ). a ≢ b) c.args.names = subst (λ (ns : List (List ℕ)). AllPairs (λ a b. a ≢ b) ns) c.names.view_is c.names.invariant in
-    let rise : All (λ (l : Link). AllPairs (λ m n. m < n) l.marks) c.args.links = subst (λ (ls : List Link). All (λ (l : Link). AllPairs (λ m n. m < n) l.marks) ls) c.as_slice.ensures c.marks_rise.ensures in
+    let rise : All (λ (l : Link). AllPairs (λ m n. m < n) l.marks) c.args.links = subst (λ (ls : List Link). All (λ (l : Link). AllPairs (λ m n. m < n) l.marks) ls) c.as_slice.ensures
+    c.marks_rise.ensures in
     let kept : IsKept core c.in_ok-all.all.rows c.if-is_single.is_deterministic c.if-has_start.is_complete = record {
       core = made core c.requires differ rise;
       index = subst (λ (ls : List Link). IsIndex ls c.args.states c.in_ok-all.all.rows) c.as_slice-2.ensures c.in_ok-all.ensures.rows;
       deterministic = elim c.if-is_single.branch [
-        | then-is_single w ↦ subst (λ b. IsTrue b ↔ IsDeterministic (automaton_of core)) (sym w.is_deterministic-is) (deterministic_if (automaton_of core) c.in_ok-all.all.found.apart within (omega (arith, c.len-is_single.ensures, w.if-is_single.true)) found.apart)
-        | else-is_single w ↦ not_deterministic (automaton_of core) c.if-is_single.is_deterministic (omega (arith, c.len-is_single.ensures, w.if-is_single.false)) (w.is_deterministic-is ∙ ap (λ n. leb n 1) c.len-is_single.ensures)
+        | then-is_single w ↦ subst (λ b. IsTrue b ↔ IsDeterministic (automaton_of core)) (sym w.is_deterministic-is)
+            (deterministic_if (automaton_of core) c.in_ok-all.all.found.apart within (omega (arith, c.len-is_single.ensures, w.if-is_single.true)) found.apart)
+        | else-is_single w ↦ not_deterministic (automaton_of core) c.if-is_single.is_deterministic (omega (arith, c.len-is_single.ensures, w.if-is_single.false))
+            (w.is_deterministic-is ∙ ap (λ n. leb n 1) c.len-is_single.ensures)
       ];
       complete = elim c.if-has_start.branch [
-        | then-has_start w ↦ subst (λ b. IsTrue b ↔ IsComplete (automaton_of core)) (sym w.is_complete-is) (complete_if (automaton_of core) c.in_ok-all.all.found.filled (sym c.is_empty-has_start.ensures ∙ w.if-has_start.true) found.filled)
-        | else-has_start w ↦ not_complete (automaton_of core) c.if-has_start.is_complete (sym c.is_empty-has_start.ensures ∙ w.if-has_start.false) (w.is_complete-is ∙ ap not c.is_empty-has_start.ensures)
+        | then-has_start w ↦ subst (λ b. IsTrue b ↔ IsComplete (automaton_of core)) (sym w.is_complete-is)
+            (complete_if (automaton_of core) c.in_ok-all.all.found.filled (sym c.is_empty-has_start.ensures ∙ w.if-has_start.true) found.filled)
+        | else-has_start w ↦ not_complete (automaton_of core) c.if-has_start.is_complete (sym c.is_empty-has_start.ensures ∙ w.if-has_start.false)
+            (w.is_complete-is ∙ ap not c.is_empty-has_start.ensures)
       ];
     } in
-    subst (λ (f : Fields). IsKept (record { names = f.names; starts = f.starts; states = f.states; links = f.links; sets = f.sets; formula = formula_tree f.formula; store = f.guards }) f.rows f.is_deterministic f.is_complete) (sym c.in_ok-new.ensures.ok) kept
+    subst (λ (f : Fields). IsKept (record { names = f.names; starts = f.starts; states = f.states; links = f.links; sets = f.sets; formula = formula_tree f.formula; store = f.guards })
+    f.rows f.is_deterministic f.is_complete) (sym c.in_ok-new.ensures.ok) kept

@@ -23,4 +23,5 @@ returns c =
     let starts = ap (λ (f : Fields). get_or f.rows c.args.state 0) (sym c.deref-fields.ensures) ∙ c.at-start.ensures.item 0 in
     let ends = ap (λ (f : Fields). get_or f.rows (c.args.state + 1) 0) (sym c.deref-fields.ensures) ∙ c.at-end.ensures.item 0 in
     let row = row_indexed c.args.state _ _ c.self.invariant.index (subst (λ (core : Core). c.args.state < core.states) (sym c.self.view_is) c.requires) starts ends in
-    ap (λ (ls : List Link). slice_range ls c.at-start.result.now c.at-end.result.now) (c.as_slice.ensures ∙ ap (λ (f : Fields). f.links) c.deref-fields.ensures) ∙ row.1 ∙ ap (λ (core : Core). filter (λ (l : Link). l.from == c.args.state) core.links) c.self.view_is
+    ap (λ (ls : List Link). slice_range ls c.at-start.result.now c.at-end.result.now) (c.as_slice.ensures ∙ ap (λ (f : Fields). f.links) c.deref-fields.ensures) ∙ row.1
+    ∙ ap (λ (core : Core). filter (λ (l : Link). l.from == c.args.state) core.links) c.self.view_is

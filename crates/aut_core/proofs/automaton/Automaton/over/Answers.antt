@@ -14,7 +14,16 @@ brought-requires-clause-names c = (sym (c.in_ok-guards.ensures.names ∙ c.len.e
 
 pub from_parts-requires : goal.from_parts-requires
 from_parts-requires c =
-    let core : Core = record { names = c.in_ok-copied.copied; starts = c.in_ok-starts.starts; states = c.states.result; links = c.in_ok-links.links; sets = c.sets.result; formula = formula_tree c.in_ok-formula.formula; store = c.brought.new.guards } in
+    let core : Core = record {
+      names = c.in_ok-copied.copied;
+      starts = c.in_ok-starts.starts;
+      states = c.states.result;
+      links = c.in_ok-links.links;
+      sets = c.sets.result;
+      formula =
+          formula_tree c.in_ok-formula.formula;
+      store = c.brought.new.guards;
+    } in
     let same : automaton_of core ≡ over_names c.args.names.now (automaton_of c.args.self.now) = λ i. record {
       names = c.in_ok-copied.ensures i;
       starts = (c.in_ok-starts.ensures ∙ c.starts.ensures) i;
@@ -23,11 +32,21 @@ from_parts-requires c =
       sets = c.sets.ensures i;
       formula = (c.in_ok-formula.ensures ∙ c.formula.ensures) i;
     } in
-    over_parts c.args.self.now core c.args.names.now c.whole.ensures (record { differ = c.as_slice-distinct.ensures.distinct; has = c.requires.has }) c.requires.few same (c.brought.ensures.names ∙ (c.in_ok-guards.ensures.names ∙ c.len.ensures)) c.in_ok-links.ensures.has
+    over_parts c.args.self.now core c.args.names.now c.whole.ensures (record { differ = c.as_slice-distinct.ensures.distinct; has = c.requires.has }) c.requires.few same
+    (c.brought.ensures.names ∙ (c.in_ok-guards.ensures.names ∙ c.len.ensures)) c.in_ok-links.ensures.has
 
 pub returns-clause-accepts : goal.returns-clause-accepts
 returns-clause-accepts c =
-    let core : Core = record { names = c.in_ok-copied.copied; starts = c.in_ok-starts.starts; states = c.states.result; links = c.in_ok-links.links; sets = c.sets.result; formula = formula_tree c.in_ok-formula.formula; store = c.brought.new.guards } in
+    let core : Core = record {
+      names = c.in_ok-copied.copied;
+      starts = c.in_ok-starts.starts;
+      states = c.states.result;
+      links = c.in_ok-links.links;
+      sets = c.sets.result;
+      formula =
+          formula_tree c.in_ok-formula.formula;
+      store = c.brought.new.guards;
+    } in
     let same : automaton_of core ≡ over_names c.args.names.now (automaton_of c.args.self.now) = λ i. record {
       names = c.in_ok-copied.ensures i;
       starts = (c.in_ok-starts.ensures ∙ c.starts.ensures) i;

@@ -13,7 +13,8 @@ returns-in_err-read_operands-clause-prepares g c =
     (record {
       events = said.events;
       happened = λ texts told p stands.
-          said.happened texts told p (stands_in_as c.args.self.now _ s.left p (record { plan = refl; lexer = refl; operands_same = refl; tried = refl; is_open = refl; kept = refl; skipped = refl }) stands);
+          said.happened texts told p (stands_in_as c.args.self.now _ s.left p
+          (record { plan = refl; lexer = refl; operands_same = refl; tried = refl; is_open = refl; kept = refl; skipped = refl }) stands);
       passed = said.passed;
       skipped = said.skipped;
       no_write = said.no_write;

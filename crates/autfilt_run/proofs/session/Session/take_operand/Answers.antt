@@ -31,7 +31,15 @@ returns-in_err-read_raw-clause-turns g c =
 pub overflow_add-self : goal.overflow_add-self
 overflow_add-self g c =
     let said = c.in_ok-read_raw.ensures in
-    omega (arith, c.args.self.now.counted, c.args.self.now.most_is, c.read_raw.new.lexer.within, said.moves.most, rises c.in_ok-read_raw.field-0 c.args.self.now.lexer c.read_raw.new.lexer c.in-Aborted.is c.requires.held said.held said.used)
+    omega (
+      arith,
+      c.args.self.now.counted,
+      c.args.self.now.most_is,
+      c.read_raw.new.lexer.within,
+      said.moves.most,
+      rises c.in_ok-read_raw.field-0 c.args.self.now.lexer c.read_raw.new.lexer
+          c.in-Aborted.is c.requires.held said.held said.used,
+    )
 
 pub returns-in-Aborted-clause-turns : goal.returns-in-Aborted-clause-turns
 returns-in-Aborted-clause-turns g c =

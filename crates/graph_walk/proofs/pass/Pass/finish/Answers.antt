@@ -8,8 +8,10 @@ close-requires-clause-marked c =
 
 pub returns-then-top : goal.returns-then-top
 returns-then-top c =
-    finishes_closed c.args.graph.now.nodes c.args.graph.now.arcs c.args.self.now c.close.new.self _ c.args.top c.pop.result c.requires.midway c.requires.done c.if-top.true c.close.ensures refl refl refl c.pop.ensures.items c.pop.ensures.cases
+    finishes_closed c.args.graph.now.nodes c.args.graph.now.arcs c.args.self.now c.close.new.self _ c.args.top c.pop.result c.requires.midway c.requires.done c.if-top.true c.close.ensures
+    refl refl refl c.pop.ensures.items c.pop.ensures.cases
 
 pub returns-in_ok-under : goal.returns-in_ok-under
 returns-in_ok-under c =
-    merges c.args.graph.now.nodes c.args.graph.now.arcs c.args.self.now _ c.args.top c.in_ok-under.under c.min.result c.requires.midway c.requires.done c.if-top.false refl refl refl c.in_ok-under.ensures.items c.min.ensures
+    merges c.args.graph.now.nodes c.args.graph.now.arcs c.args.self.now _ c.args.top c.in_ok-under.under c.min.result c.requires.midway c.requires.done c.if-top.false refl refl refl
+    c.in_ok-under.ensures.items c.min.ensures

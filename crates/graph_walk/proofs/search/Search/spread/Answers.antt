@@ -4,8 +4,11 @@ use Rattle.graph_walk.proofs.search.Search.spread.Goals as goal
 
 pub arcs-init : goal.arcs-init
 arcs-init c =
-    spread_begins c.args.graph.now.nodes c.args.graph.now.arcs c.args.starts.now c.args.chains.now.last.items c.args.chains.now.before.items c.args.done c.index-end.result.now c.index-node.result.now c.args.self.now c.requires.chains c.requires.size c.requires.sized c.requires.searching c.requires.within c.index-node.ensures c.index-end.ensures
+    spread_begins c.args.graph.now.nodes c.args.graph.now.arcs c.args.starts.now c.args.chains.now.last.items c.args.chains.now.before.items c.args.done c.index-end.result.now
+    c.index-node.result.now c.args.self.now c.requires.chains c.requires.size c.requires.sized c.requires.searching c.requires.within c.index-node.ensures c.index-end.ensures
 
 pub arcs-preserved : goal.arcs-preserved
 arcs-preserved c =
-    spread_goes_on c.args.graph.now.nodes c.args.graph.now.arcs c.args.starts.now c.args.chains.now.last.items c.args.chains.now.before.items c.args.done c.arcs.end c.index-end-in-arcs.result.now c.index-node.result.now _ _ c.arcs.self c.add.new.self c.requires.chains c.arcs.invariant (omega arith) (search rules) (search rules) c.in_ok-add.ensures.adds c.in_ok-add.ensures.size c.in_ok-add.ensures.sized c.index-end-in-arcs.ensures
+    spread_goes_on c.args.graph.now.nodes c.args.graph.now.arcs c.args.starts.now c.args.chains.now.last.items c.args.chains.now.before.items c.args.done c.arcs.end
+    c.index-end-in-arcs.result.now c.index-node.result.now _ _ c.arcs.self c.add.new.self c.requires.chains c.arcs.invariant (omega arith) (search rules) (search rules)
+    c.in_ok-add.ensures.adds c.in_ok-add.ensures.size c.in_ok-add.ensures.sized c.index-end-in-arcs.ensures

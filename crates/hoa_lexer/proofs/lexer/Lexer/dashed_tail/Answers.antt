@@ -14,7 +14,8 @@ returns-clause-answers g c =
 
 pub returns-in_err-expect-clause-answers : goal.returns-in_err-expect-clause-answers
 returns-in_err-expect-clause-answers g c =
-    handed_on (λ r x z. ReadsToken r c.args.self.now.offset (45 ∷ 45 ∷ c.args.letter ∷ x) (unread c.expect.new.self.held z)) (g.I.Inputs.seen c.args.inputs.now).left (g.I.Inputs.seen c.expect.new.inputs).left _ _ c.from_residual.ensures.1
+    handed_on (λ r x z. ReadsToken r c.args.self.now.offset (45 ∷ 45 ∷ c.args.letter ∷ x) (unread c.expect.new.self.held z)) (g.I.Inputs.seen c.args.inputs.now).left
+    (g.I.Inputs.seen c.expect.new.inputs).left _ _ c.from_residual.ensures.1
     (between_as (g.I.Inputs.seen c.args.inputs.now).left (g.I.Inputs.seen c.expect.new.inputs).left _ _
     (λ x z p. tail_err c.in_err-expect.field-0.0 c.args.token c.args.letter _ _ c.args.tail.now x z c.requires.word c.in_err-expect.ensures.held p)
     c.in_err-expect.ensures.answers)

@@ -10,7 +10,8 @@ use Rattle.hoa_lexer.proofs.lexer.Lexer.dashes.Goals as goal
 pub returns-in-Some-clause-answers : goal.returns-in-Some-clause-answers
 returns-in-Some-clause-answers g c =
     between_as (g.I.Inputs.seen c.args.inputs.now).left (g.I.Inputs.seen c.fetch.new.inputs).left _ _
-    (λ x z p. dash_bad _ _ c.in-Some.field-0 _ x z (omega (arith, c.in_ok-fetch.ensures.advances.offset)) c.in_ok-fetch.ensures.held (λ (q : c.in-Some.field-0 ≡ 45). omega arith) (byte_read _ _ x z c.in-Some.is p))
+    (λ x z p. dash_bad _ _ c.in-Some.field-0 _ x z (omega (arith, c.in_ok-fetch.ensures.advances.offset)) c.in_ok-fetch.ensures.held (λ (q : c.in-Some.field-0 ≡ 45). omega arith)
+    (byte_read _ _ x z c.in-Some.is p))
     c.in_ok-fetch.ensures.answers
 
 pub returns-in-None-clause-answers : goal.returns-in-None-clause-answers
@@ -21,7 +22,8 @@ returns-in-None-clause-answers g c =
 
 pub returns-in_err-fetch-clause-answers : goal.returns-in_err-fetch-clause-answers
 returns-in_err-fetch-clause-answers g c =
-    handed_on (λ r x z. ReadsToken r c.args.self.now.offset (45 ∷ x) (unread c.fetch.new.self.held z)) (g.I.Inputs.seen c.args.inputs.now).left (g.I.Inputs.seen c.fetch.new.inputs).left _ _ c.from_residual.ensures.1
+    handed_on (λ r x z. ReadsToken r c.args.self.now.offset (45 ∷ x) (unread c.fetch.new.self.held z)) (g.I.Inputs.seen c.args.inputs.now).left (g.I.Inputs.seen c.fetch.new.inputs).left _ _
+    c.from_residual.ensures.1
     (between_as (g.I.Inputs.seen c.args.inputs.now).left (g.I.Inputs.seen c.fetch.new.inputs).left _ _
     (λ x z p. dash_err c.in_err-fetch.field-0.0 _ _ x z c.in_err-fetch.ensures.kinds c.in_err-fetch.ensures.held p)
     c.in_err-fetch.ensures.answers)

@@ -17,7 +17,8 @@ pub returns-in_err-byte-in-Some-eq92-clause-answers : goal.returns-in_err-byte-i
 returns-in_err-byte-in-Some-eq92-clause-answers g c =
     handed_on (λ r x z. ReadsQuoted r x z) (g.I.Inputs.seen c.args.inputs.now).left (g.I.Inputs.seen c.fetch-in-Some-eq92.new.inputs).left _ _ c.from_residual-in_err-byte-in-Some-eq92.ensures.1
     (between_then (g.I.Inputs.seen c.args.inputs.now).left (g.I.Inputs.seen c.fetch.new.inputs).left (g.I.Inputs.seen c.fetch-in-Some-eq92.new.inputs).left _ _ _
-    (λ x y z p q. quoted_err c.in_err-byte-in-Some-eq92.field-0.0 (92 ∷ []) x y z c.in_err-byte-in-Some-eq92.ensures.kinds (inr refl) (byte_read _ 92 x y (c.in-Some-eq92.is ∙ ap Some c.in-Some-eq92.field-0-test) p)
+    (λ x y z p q. quoted_err c.in_err-byte-in-Some-eq92.field-0.0 (92 ∷ []) x y z c.in_err-byte-in-Some-eq92.ensures.kinds (inr refl)
+    (byte_read _ 92 x y (c.in-Some-eq92.is ∙ ap Some c.in-Some-eq92.field-0-test) p)
     q)
     c.in_ok-fetch.ensures.answers c.in_err-byte-in-Some-eq92.ensures.answers)
 

@@ -17,8 +17,10 @@ blanks-init g c =
 pub blanks-preserved-in-Continue-branch-4 : goal.blanks-preserved-in-Continue-branch-4
 blanks-preserved-in-Continue-branch-4 g c =
     record {
-      answers = between_then (g.I.Inputs.seen c.args.inputs.now).left (g.I.Inputs.seen c.peek.new.inputs).left (g.I.Inputs.seen c.skip_comment.new.inputs).left _ _ _ (λ x y z p q. skips_then _ _ _ p q)
-          (between_then (g.I.Inputs.seen c.args.inputs.now).left (g.I.Inputs.seen c.blanks.inputs).left (g.I.Inputs.seen c.peek.new.inputs).left _ _ (λ x z. Skips (unread c.args.self.now.held x) (47 ∷ z))
+      answers = between_then (g.I.Inputs.seen c.args.inputs.now).left (g.I.Inputs.seen c.peek.new.inputs).left (g.I.Inputs.seen c.skip_comment.new.inputs).left _ _ _
+          (λ x y z p q. skips_then _ _ _ p q)
+          (between_then (g.I.Inputs.seen c.args.inputs.now).left (g.I.Inputs.seen c.blanks.inputs).left (g.I.Inputs.seen c.peek.new.inputs).left _ _
+          (λ x z. Skips (unread c.args.self.now.held x) (47 ∷ z))
           (λ x y z p q. blanks_to 47 _ _ z p (byte_read _ 47 _ z (c.in-Some-eq47.is ∙ ap Some c.in-Some-eq47.field-0-test) q))
           c.blanks.invariant.answers c.in_ok-peek.ensures.answers)
           c.in_ok-skip_comment-in-Some-eq47.ensures.answers;
@@ -37,7 +39,8 @@ returns-in_err-skip_comment-in-Some-eq47-clause-answers g c =
     let taken = between_then old at read _ _ (λ x z. c.peek.new.self.taken + length z ≡ c.args.self.now.taken + length x)
     (λ x y z p q. omega (arith, p, q)) c.blanks.invariant.advances.moves.taken c.in_ok-peek.ensures.advances.moves.taken in
     let one : held_count c.peek.new.self.held ≡ 1 = ap held_count (c.in_ok-peek.ensures.held ∙ c.in-Some-eq47.is) in
-    handed_on (λ r x z. SkipsBlanks r (c.args.self.now.since - held_count c.args.self.now.held) (unread c.args.self.now.held x) (unread c.skip_comment.new.self.held z)) old new _ _ c.from_residual-in_err-skip_comment-in-Some-eq47.ensures.1
+    handed_on (λ r x z. SkipsBlanks r (c.args.self.now.since - held_count c.args.self.now.held) (unread c.args.self.now.held x) (unread c.skip_comment.new.self.held z)) old new _ _
+    c.from_residual-in_err-skip_comment-in-Some-eq47.ensures.1
     (between_then old read new (λ x y. Skips (unread c.args.self.now.held x) (47 ∷ y) × (c.peek.new.self.taken + length y ≡ c.args.self.now.taken + length x)) _ _
     (λ x y z p q. fails_after _ _ _ 0 0 _ _ _ p.0 (omega (arith, p.1, one, length_unread c.args.self.now.held x)) q)
     (between_both old read _ _ (λ x y. Skips (unread c.args.self.now.held x) (47 ∷ y) × (c.peek.new.self.taken + length y ≡ c.args.self.now.taken + length x)) (λ x y p q. (p, q)) slash taken)
@@ -66,14 +69,16 @@ blanks-preserved g c =
 
 pub returns-in_err-peek-clause-answers : goal.returns-in_err-peek-clause-answers
 returns-in_err-peek-clause-answers g c =
-    handed_on (λ r x z. SkipsBlanks r (c.args.self.now.since - held_count c.args.self.now.held) (unread c.args.self.now.held x) (unread c.peek.new.self.held z)) (g.I.Inputs.seen c.args.inputs.now).left (g.I.Inputs.seen c.peek.new.inputs).left _ _ c.from_residual.ensures.1
+    handed_on (λ r x z. SkipsBlanks r (c.args.self.now.since - held_count c.args.self.now.held) (unread c.args.self.now.held x) (unread c.peek.new.self.held z))
+    (g.I.Inputs.seen c.args.inputs.now).left (g.I.Inputs.seen c.peek.new.inputs).left _ _ c.from_residual.ensures.1
     (between_then (g.I.Inputs.seen c.args.inputs.now).left (g.I.Inputs.seen c.blanks.inputs).left (g.I.Inputs.seen c.peek.new.inputs).left _ _ _
     (λ x y z p q. blanks_err _ _ _ _ _ z c.in_err-peek.ensures.kinds c.in_err-peek.ensures.held p q)
     c.blanks.invariant.answers c.in_err-peek.ensures.answers)
 
 pub returns-in_err-peek-clause-begun : goal.returns-in_err-peek-clause-begun
 returns-in_err-peek-clause-begun g c =
-    handed_on (λ r x z. BeginsNone r (unread c.args.self.now.held x) (unread c.peek.new.self.held z)) (g.I.Inputs.seen c.args.inputs.now).left (g.I.Inputs.seen c.peek.new.inputs).left _ _ c.from_residual.ensures.1
+    handed_on (λ r x z. BeginsNone r (unread c.args.self.now.held x) (unread c.peek.new.self.held z)) (g.I.Inputs.seen c.args.inputs.now).left (g.I.Inputs.seen c.peek.new.inputs).left _ _
+    c.from_residual.ensures.1
     (between_then (g.I.Inputs.seen c.args.inputs.now).left (g.I.Inputs.seen c.blanks.inputs).left (g.I.Inputs.seen c.peek.new.inputs).left _ _ _
     (λ x y z p q. blanks_begun _ _ _ z c.in_err-peek.ensures.held p q)
     c.blanks.invariant.answers c.in_err-peek.ensures.answers)

@@ -27,7 +27,8 @@ returns-in-None-clause-answers g c =
 
 pub returns-in_err-peek-clause-answers : goal.returns-in_err-peek-clause-answers
 returns-in_err-peek-clause-answers g c =
-    handed_on (λ r x z. SkipsComment r (c.args.self.now.since - 1) (47 ∷ x) (unread c.peek.new.self.held z)) (g.I.Inputs.seen c.args.inputs.now).left (g.I.Inputs.seen c.peek.new.inputs).left _ _ c.from_residual.ensures.1
+    handed_on (λ r x z. SkipsComment r (c.args.self.now.since - 1) (47 ∷ x) (unread c.peek.new.self.held z)) (g.I.Inputs.seen c.args.inputs.now).left (g.I.Inputs.seen c.peek.new.inputs).left
+    _ _ c.from_residual.ensures.1
     (between_as (g.I.Inputs.seen c.args.inputs.now).left (g.I.Inputs.seen c.peek.new.inputs).left _ _
     (λ x y p. skip_err c.in_err-peek.field-0.0 _ _ x y c.in_err-peek.ensures.kinds c.in_err-peek.ensures.held p)
     c.in_err-peek.ensures.answers)

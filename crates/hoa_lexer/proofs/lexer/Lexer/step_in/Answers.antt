@@ -16,17 +16,20 @@ returns-in_err-second-clause-answers g c =
 pub returns-then-closes-clause-answers : goal.returns-then-closes-clause-answers
 returns-then-closes-clause-answers g c =
     between_then (g.I.Inputs.seen c.args.inputs.now).left (g.I.Inputs.seen c.take.new.inputs).left (g.I.Inputs.seen c.peek.new.inputs).left _ _ _
-    (λ x y z p q. step_closes _ _ _ c.args.depth _ _ y z (omega arith) (byte_read _ _ _ y c.in-Some.is p) c.in_ok-first.ensures.held (byte_read _ _ _ z c.in-Some-2.is q) (sym c.closes.ensures ∙ c.if-closes.true))
+    (λ x y z p q. step_closes _ _ _ c.args.depth _ _ y z (omega arith) (byte_read _ _ _ y c.in-Some.is p) c.in_ok-first.ensures.held (byte_read _ _ _ z c.in-Some-2.is q)
+    (sym c.closes.ensures ∙ c.if-closes.true))
     c.in_ok-first.ensures.answers c.in_ok-second.ensures.answers
 
 pub returns-then-opens-clause-answers : goal.returns-then-opens-clause-answers
 returns-then-opens-clause-answers g c =
     between_then (g.I.Inputs.seen c.args.inputs.now).left (g.I.Inputs.seen c.take.new.inputs).left (g.I.Inputs.seen c.peek.new.inputs).left _ _ _
-    (λ x y z p q. step_opens _ _ _ c.args.depth _ _ y z (omega arith) (omega arith) (byte_read _ _ _ y c.in-Some.is p) c.in_ok-first.ensures.held (byte_read _ _ _ z c.in-Some-2.is q) (sym c.closes.ensures ∙ c.if-closes.false) (sym c.opens.ensures ∙ c.if-opens.true))
+    (λ x y z p q. step_opens _ _ _ c.args.depth _ _ y z (omega arith) (omega arith) (byte_read _ _ _ y c.in-Some.is p) c.in_ok-first.ensures.held (byte_read _ _ _ z c.in-Some-2.is q)
+    (sym c.closes.ensures ∙ c.if-closes.false) (sym c.opens.ensures ∙ c.if-opens.true))
     c.in_ok-first.ensures.answers c.in_ok-second.ensures.answers
 
 pub returns-clause-answers : goal.returns-clause-answers
 returns-clause-answers g c =
     between_then (g.I.Inputs.seen c.args.inputs.now).left (g.I.Inputs.seen c.take.new.inputs).left (g.I.Inputs.seen c.peek.new.inputs).left _ _ _
-    (λ x y z p q. step_stays _ _ _ _ c.args.depth _ y z (omega arith) (byte_read _ _ _ y c.in-Some.is p) c.in_ok-first.ensures.held (byte_read _ _ _ z c.in-Some-2.is q) (c.in_ok-second.ensures.held ∙ c.in-Some-2.is) (sym c.closes.ensures ∙ c.if-closes.false) (sym c.opens.ensures ∙ c.if-opens.false))
+    (λ x y z p q. step_stays _ _ _ _ c.args.depth _ y z (omega arith) (byte_read _ _ _ y c.in-Some.is p) c.in_ok-first.ensures.held (byte_read _ _ _ z c.in-Some-2.is q)
+    (c.in_ok-second.ensures.held ∙ c.in-Some-2.is) (sym c.closes.ensures ∙ c.if-closes.false) (sym c.opens.ensures ∙ c.if-opens.false))
     c.in_ok-first.ensures.answers c.in_ok-second.ensures.answers

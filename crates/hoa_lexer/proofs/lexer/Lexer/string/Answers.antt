@@ -34,14 +34,16 @@ returns-in-None-clause-answers g c =
 
 pub returns-in_err-byte-clause-answers : goal.returns-in_err-byte-clause-answers
 returns-in_err-byte-clause-answers g c =
-    handed_on (λ r x z. ReadsToken r c.args.self.now.offset (34 ∷ x) (unread c.quoted_byte.new.self.held z)) (g.I.Inputs.seen c.args.inputs.now).left (g.I.Inputs.seen c.quoted_byte.new.inputs).left _ _ c.from_residual.ensures.1
+    handed_on (λ r x z. ReadsToken r c.args.self.now.offset (34 ∷ x) (unread c.quoted_byte.new.self.held z)) (g.I.Inputs.seen c.args.inputs.now).left
+    (g.I.Inputs.seen c.quoted_byte.new.inputs).left _ _ c.from_residual.ensures.1
     (between_then (g.I.Inputs.seen c.args.inputs.now).left (g.I.Inputs.seen c.string.inputs).left (g.I.Inputs.seen c.quoted_byte.new.inputs).left _ _ _
     (λ x y z p q. string_err c.in_err-byte.field-0.0 _ _ _ x y z c.in_err-byte.ensures.held p q)
     c.string.invariant.answers c.in_err-byte.ensures.answers)
 
 pub returns-in_err-push-in-Some-clause-answers : goal.returns-in_err-push-in-Some-clause-answers
 returns-in_err-push-in-Some-clause-answers g c =
-    handed_on (λ r x z. ReadsToken r c.args.self.now.offset (34 ∷ x) (unread c.quoted_byte.new.self.held z)) (g.I.Inputs.seen c.args.inputs.now).left (g.I.Inputs.seen c.quoted_byte.new.inputs).left _ _ c.from_residual-in_err-push-in-Some.ensures.1
+    handed_on (λ r x z. ReadsToken r c.args.self.now.offset (34 ∷ x) (unread c.quoted_byte.new.self.held z)) (g.I.Inputs.seen c.args.inputs.now).left
+    (g.I.Inputs.seen c.quoted_byte.new.inputs).left _ _ c.from_residual-in_err-push-in-Some.ensures.1
     (between_then (g.I.Inputs.seen c.args.inputs.now).left (g.I.Inputs.seen c.string.inputs).left (g.I.Inputs.seen c.quoted_byte.new.inputs).left _ _ _
     (λ x y z p q. string_stops _ _ c.in-Some.byte x y z c.in_ok-byte.ensures.held p (quoted_read _ _ y z c.in-Some.is q))
     c.string.invariant.answers c.in_ok-byte.ensures.answers)

@@ -15,7 +15,8 @@ returns-in-None-clause-answers g c =
 
 pub returns-in_err-word_bytes-clause-answers : goal.returns-in_err-word_bytes-clause-answers
 returns-in_err-word_bytes-clause-answers g c =
-    handed_on (λ r x z. ReadsToken r c.args.self.now.offset (c.args.first ∷ x) (unread c.word_bytes.new.self.held z)) (g.I.Inputs.seen c.args.inputs.now).left (g.I.Inputs.seen c.word_bytes.new.inputs).left _ _ c.from_residual-in_err-word_bytes.ensures.1
+    handed_on (λ r x z. ReadsToken r c.args.self.now.offset (c.args.first ∷ x) (unread c.word_bytes.new.self.held z)) (g.I.Inputs.seen c.args.inputs.now).left
+    (g.I.Inputs.seen c.word_bytes.new.inputs).left _ _ c.from_residual-in_err-word_bytes.ensures.1
     (between_as (g.I.Inputs.seen c.args.inputs.now).left (g.I.Inputs.seen c.word_bytes.new.inputs).left _ _
     (λ x z p. word_err c.in_err-word_bytes.field-0.0 _ _ c.args.first _ _ x z c.requires.letter c.in_err-word_bytes.ensures.none_held p)
     c.in_err-word_bytes.ensures.answers)

@@ -22,7 +22,8 @@ pub returns-in_err-push-clause-reads : goal.returns-in_err-push-clause-reads
 returns-in_err-push-clause-reads g c = handed_on _ _ _ c.from_residual-in_err-push.ensures.1 (no_memory (reads_then c.states.invariant c.in_ok-state.ensures.reads))
 
 pub returns-in_default-clause-reads : goal.returns-in_default-clause-reads
-returns-in_default-clause-reads g c = fails_after c.states.invariant (token_refused part.States [] _ _ c.states.invariant.spent c.refused.ensures (no_states _ c.in_default.not-HeaderName c.in_default.not-End))
+returns-in_default-clause-reads g c = fails_after c.states.invariant
+    (token_refused part.States [] _ _ c.states.invariant.spent c.refused.ensures (no_states _ c.in_default.not-HeaderName c.in_default.not-End))
 
 pub returns-in-End-clause-reads : goal.returns-in-End-clause-reads
 returns-in-End-clause-reads g c = reads_as (λ a b h. record { written = h.0; ends = h.1 }) (reads_at token.End c.in-End.is c.states.invariant)

@@ -7,7 +7,13 @@ pub returns-in_err-sets : goal.returns-in_err-sets
 returns-in_err-sets g c = record { reads = handed_on _ _ _ c.from_residual.ensures.1 (fails_before (condition_parts 0) c.in_err-sets.ensures.reads) }
 
 pub returns-in_err-formula : goal.returns-in_err-formula
-returns-in_err-formula g c = record { reads = handed_on _ _ _ c.from_residual-in_err-formula.ensures.1 (next_fails _ (reads_before (condition_parts 0) c.in_ok-sets.ensures.reads) c.in_err-formula.ensures.reads) }
+returns-in_err-formula g c = record {
+  reads =
+      handed_on _ _ _ c.from_residual-in_err-formula.ensures.1 (next_fails _ (reads_before (condition_parts 0) c.in_ok-sets.ensures.reads) c.in_err-formula.ensures.reads);
+}
 
 pub returns : goal.returns
-returns g c = record { reads = reads_as (λ a d h. acceptance_read c.in_ok-sets.sets c.in_ok-formula.formula a h.0 d h.1 h.2) (next_reads (reads_before (condition_parts 0) c.in_ok-sets.ensures.reads) c.in_ok-formula.ensures.reads) }
+returns g c = record {
+  reads = reads_as (λ a d h. acceptance_read c.in_ok-sets.sets c.in_ok-formula.formula a h.0 d h.1 h.2)
+      (next_reads (reads_before (condition_parts 0) c.in_ok-sets.ensures.reads) c.in_ok-formula.ensures.reads);
+}

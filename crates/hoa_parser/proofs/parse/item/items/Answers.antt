@@ -21,7 +21,8 @@ pub returns-in_err-push-clause-reads : goal.returns-in_err-push-clause-reads
 returns-in_err-push-clause-reads g c = handed_on _ _ _ c.from_residual-in_err-push.ensures.1 (no_memory (reads_then c.items.invariant c.in_ok-item.ensures.reads))
 
 pub returns-in_default-clause-reads : goal.returns-in_default-clause-reads
-returns-in_default-clause-reads g c = fails_after c.items.invariant (token_refused part.Items [] _ _ c.items.invariant.spent c.refused.ensures (no_items _ c.in_default.not-HeaderName c.in_default.not-Body))
+returns-in_default-clause-reads g c = fails_after c.items.invariant
+    (token_refused part.Items [] _ _ c.items.invariant.spent c.refused.ensures (no_items _ c.in_default.not-HeaderName c.in_default.not-Body))
 
 pub returns-in-Body-clause-reads : goal.returns-in-Body-clause-reads
 returns-in-Body-clause-reads g c = c.items.invariant

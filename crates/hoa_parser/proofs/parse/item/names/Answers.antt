@@ -8,7 +8,13 @@ pub returns-in_err-count : goal.returns-in_err-count
 returns-in_err-count g c = record { reads = handed_on _ _ _ c.from_residual.ensures.1 (fails_before (Strings ∷ []) c.in_err-count.ensures.reads) }
 
 pub returns-in_err-names : goal.returns-in_err-names
-returns-in_err-names g c = record { reads = handed_on _ _ _ c.from_residual-in_err-names.ensures.1 (next_fails _ (reads_before (Strings ∷ []) c.in_ok-count.ensures.reads) c.in_err-names.ensures.reads) }
+returns-in_err-names g c = record {
+  reads =
+      handed_on _ _ _ c.from_residual-in_err-names.ensures.1 (next_fails _ (reads_before (Strings ∷ []) c.in_ok-count.ensures.reads) c.in_err-names.ensures.reads);
+}
 
 pub returns : goal.returns
-returns g c = record { reads = reads_as (λ a d h. names_read c.in_ok-count.count c.in_ok-names.names a h.0 d h.1 h.2) (next_reads (reads_before (Strings ∷ []) c.in_ok-count.ensures.reads) c.in_ok-names.ensures.reads) }
+returns g c = record {
+  reads = reads_as (λ a d h. names_read c.in_ok-count.count c.in_ok-names.names a h.0 d h.1 h.2)
+      (next_reads (reads_before (Strings ∷ []) c.in_ok-count.ensures.reads) c.in_ok-names.ensures.reads);
+}

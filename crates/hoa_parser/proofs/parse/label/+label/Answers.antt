@@ -4,7 +4,8 @@ use Rattle.aut_base.specs.declared.limit.TheConstants.{MOST_DEPTH}
 use Rattle.hoa_lexer.specs.declared.token.Token.TheVariants as token
 use Rattle.hoa_parser.proofs.reading.FrontParts.{passed_then}
 use Rattle.hoa_parser.proofs.reading.RuleParts.{next_answer}
-use Rattle.hoa_parser.proofs.reading.Steps.{fails_after, fails_before, handed_on, next_fails, next_reads, no_memory, reads_as, reads_before, reads_end, reads_then, takes, takes_last, token_passed, too_deep}
+use Rattle.hoa_parser.proofs.reading.Steps.{fails_after, fails_before, handed_on, next_fails, next_reads, no_memory, reads_as, reads_before}
+use Rattle.hoa_parser.proofs.reading.Steps.{reads_end, reads_then, takes, takes_last, token_passed, too_deep}
 use Rattle.hoa_parser.proofs.grammar.RawTrees.{raw_tree-And, raw_tree-Not, raw_tree-Or}
 use Rattle.hoa_parser.proofs.reading.Chains.{chain_first, chain_next}
 use Rattle.hoa_parser.proofs.reading.LabelChains.{label_of, land_of, lands_whole, lnots_whole}
@@ -48,7 +49,10 @@ or_land-returns-clause-reads g t c =
 
 pub and_lnots-returns-in_default : goal.and_lnots-returns-in_default
 and_lnots-returns-in_default g t c =
-    record { reads = token_passed (Factors c.args.depth) (IsAndLnots c.args.depth (raw_tree c.args.first) c.args.first) _ c.requires.unspent (past_factors c.args.depth _ c.in_default.not-Amp) (λ a. record { phrase = no_lnot; within = tt; passed = refl; means = refl }) }
+    record {
+      reads = token_passed (Factors c.args.depth) (IsAndLnots c.args.depth (raw_tree c.args.first) c.args.first) _ c.requires.unspent
+          (past_factors c.args.depth _ c.in_default.not-Amp) (λ a. record { phrase = no_lnot; within = tt; passed = refl; means = refl });
+    }
 
 pub and_lnots-and_lnot-requires : goal.and_lnots-and_lnot-requires
 and_lnots-and_lnot-requires g t c κs within =
@@ -68,7 +72,10 @@ and_lnots-lnots-init g t c =
 
 pub and_lnots-returns-in_default-ahead : goal.and_lnots-returns-in_default-ahead
 and_lnots-returns-in_default-ahead g t c =
-    record { reads = reads_as (λ a e h. lnots_whole c.args.depth (raw_tree c.args.first) c.lnots.parts (rust.And c.lnots.parts) a e (raw_tree-And c.lnots.parts) h) (reads_end (Factors c.args.depth) (past_factors c.args.depth _ c.in_default-ahead.not-Amp) c.lnots.invariant) }
+    record {
+      reads = reads_as (λ a e h. lnots_whole c.args.depth (raw_tree c.args.first) c.lnots.parts (rust.And c.lnots.parts) a e (raw_tree-And c.lnots.parts) h)
+          (reads_end (Factors c.args.depth) (past_factors c.args.depth _ c.in_default-ahead.not-Amp) c.lnots.invariant);
+    }
 
 pub and_lnots-and_lnot-requires-in-lnots : goal.and_lnots-and_lnot-requires-in-lnots
 and_lnots-and_lnot-requires-in-lnots g t c κs within =
@@ -84,7 +91,16 @@ and_lnots-returns-in_err-push g t c =
 
 pub and_lnots-lnots-smaller : goal.and_lnots-lnots-smaller
 and_lnots-lnots-smaller g t c =
-    omega (arith, c.in_ok-next.ensures.uses, c.in_ok-next.ensures.reads.moves.most, c.and_lnot-in-lnots.new.lexer.within, c.and_lnot-in-lnots.new.lexer.since_within, c.and_lnot-in-lnots.new.lexer.held_within, c.lnots.lexer.since_within, c.lnots.lexer.held_within)
+    omega (
+      arith,
+      c.in_ok-next.ensures.uses,
+      c.in_ok-next.ensures.reads.moves.most,
+      c.and_lnot-in-lnots.new.lexer.within,
+      c.and_lnot-in-lnots.new.lexer.since_within,
+      c.and_lnot-in-lnots.new.lexer.held_within,
+      c.lnots.lexer.since_within,
+      c.lnots.lexer.held_within,
+    )
 
 pub and_lnots-lnots-preserved : goal.and_lnots-lnots-preserved
 and_lnots-lnots-preserved g t c =
@@ -92,7 +108,10 @@ and_lnots-lnots-preserved g t c =
 
 pub or_lands-returns-in_default : goal.or_lands-returns-in_default
 or_lands-returns-in_default g t c =
-    record { reads = token_passed (Products c.args.depth) (IsOrLands c.args.depth (raw_tree c.args.first) c.args.first) _ c.requires.unspent (past_products c.args.depth _ c.in_default.not-Bar) (λ a. record { phrase = no_land; within = tt; passed = refl; means = refl }) }
+    record {
+      reads = token_passed (Products c.args.depth) (IsOrLands c.args.depth (raw_tree c.args.first) c.args.first) _ c.requires.unspent
+          (past_products c.args.depth _ c.in_default.not-Bar) (λ a. record { phrase = no_land; within = tt; passed = refl; means = refl });
+    }
 
 pub or_lands-or_land-requires : goal.or_lands-or_land-requires
 or_lands-or_land-requires g t c κs within =
@@ -112,7 +131,10 @@ or_lands-lands-init g t c =
 
 pub or_lands-returns-in_default-ahead : goal.or_lands-returns-in_default-ahead
 or_lands-returns-in_default-ahead g t c =
-    record { reads = reads_as (λ a e h. lands_whole c.args.depth (raw_tree c.args.first) c.lands.parts (rust.Or c.lands.parts) a e (raw_tree-Or c.lands.parts) h) (reads_end (Products c.args.depth) (past_products c.args.depth _ c.in_default-ahead.not-Bar) c.lands.invariant) }
+    record {
+      reads = reads_as (λ a e h. lands_whole c.args.depth (raw_tree c.args.first) c.lands.parts (rust.Or c.lands.parts) a e (raw_tree-Or c.lands.parts) h)
+          (reads_end (Products c.args.depth) (past_products c.args.depth _ c.in_default-ahead.not-Bar) c.lands.invariant);
+    }
 
 pub or_lands-or_land-requires-in-lands : goal.or_lands-or_land-requires-in-lands
 or_lands-or_land-requires-in-lands g t c κs within =
@@ -128,7 +150,16 @@ or_lands-returns-in_err-push g t c =
 
 pub or_lands-lands-smaller : goal.or_lands-lands-smaller
 or_lands-lands-smaller g t c =
-    omega (arith, c.in_ok-next.ensures.uses, c.in_ok-next.ensures.reads.moves.most, c.or_land-in-lands.new.lexer.within, c.or_land-in-lands.new.lexer.since_within, c.or_land-in-lands.new.lexer.held_within, c.lands.lexer.since_within, c.lands.lexer.held_within)
+    omega (
+      arith,
+      c.in_ok-next.ensures.uses,
+      c.in_ok-next.ensures.reads.moves.most,
+      c.or_land-in-lands.new.lexer.within,
+      c.or_land-in-lands.new.lexer.since_within,
+      c.or_land-in-lands.new.lexer.held_within,
+      c.lands.lexer.since_within,
+      c.lands.lexer.held_within,
+    )
 
 pub or_lands-lands-preserved : goal.or_lands-lands-preserved
 or_lands-lands-preserved g t c =
@@ -148,7 +179,10 @@ label-or_lands-requires g t c κs within =
 
 pub label-returns : goal.label-returns
 label-returns g t c =
-    record { reads = next_answer (Products c.args.depth ∷ []) [] (IsOrLands c.args.depth (raw_tree c.in_ok-first.first)) (IsLabel c.args.depth) c.or_lands.result _ (λ w a e h. label_of c.args.depth c.in_ok-first.first w a h.0 e h.1 h.2) (reads_before (Products c.args.depth ∷ []) c.in_ok-first.ensures.reads) c.or_lands.ensures.reads }
+    record {
+      reads = next_answer (Products c.args.depth ∷ []) [] (IsOrLands c.args.depth (raw_tree c.in_ok-first.first)) (IsLabel c.args.depth) c.or_lands.result _
+          (λ w a e h. label_of c.args.depth c.in_ok-first.first w a h.0 e h.1 h.2) (reads_before (Products c.args.depth ∷ []) c.in_ok-first.ensures.reads) c.or_lands.ensures.reads;
+    }
 
 pub land-lnot-requires : goal.land-lnot-requires
 land-lnot-requires g t c κs within =
@@ -164,15 +198,25 @@ land-and_lnots-requires g t c κs within =
 
 pub land-returns : goal.land-returns
 land-returns g t c =
-    record { reads = next_answer (Factors c.args.depth ∷ []) [] (IsAndLnots c.args.depth (raw_tree c.in_ok-first.first)) (IsLand c.args.depth) c.and_lnots.result _ (λ w a e h. land_of c.args.depth c.in_ok-first.first w a h.0 e h.1 h.2) (reads_before (Factors c.args.depth ∷ []) c.in_ok-first.ensures.reads) c.and_lnots.ensures.reads }
+    record {
+      reads = next_answer (Factors c.args.depth ∷ []) [] (IsAndLnots c.args.depth (raw_tree c.in_ok-first.first)) (IsLand c.args.depth) c.and_lnots.result _
+          (λ w a e h. land_of c.args.depth c.in_ok-first.first w a h.0 e h.1 h.2) (reads_before (Factors c.args.depth ∷ []) c.in_ok-first.ensures.reads) c.and_lnots.ensures.reads;
+    }
 
 pub group-returns-then-depth-ge-MOST_DEPTH : goal.group-returns-then-depth-ge-MOST_DEPTH
 group-returns-then-depth-ge-MOST_DEPTH g t c =
-    record { reads = too_deep (Factor c.args.depth) [] token.LeftParen _ c.requires.paren refl refl (lt-leb (suc c.args.depth) MOST_DEPTH (omega (arith, c.if-depth-ge-MOST_DEPTH.true))) (omega (arith, c.if-depth-ge-MOST_DEPTH.true)) (le-leb (suc c.args.depth) (suc c.args.depth) (omega arith)) }
+    record {
+      reads = too_deep (Factor c.args.depth) [] token.LeftParen _ c.requires.paren refl refl (lt-leb (suc c.args.depth) MOST_DEPTH (omega (arith, c.if-depth-ge-MOST_DEPTH.true)))
+          (omega (arith, c.if-depth-ge-MOST_DEPTH.true)) (le-leb (suc c.args.depth) (suc c.args.depth) (omega arith));
+    }
 
 pub group-returns-in_err-advance : goal.group-returns-in_err-advance
 group-returns-in_err-advance g t c =
-    record { reads = handed_on _ _ _ c.from_residual.ensures.1 (takes_last (Factor c.args.depth) [] token.LeftParen c.requires.paren refl (le-leb (suc c.args.depth) MOST_DEPTH (omega (arith, c.if-depth-ge-MOST_DEPTH.false))) refl c.in_err-advance.ensures) }
+    record {
+      reads = handed_on _ _ _ c.from_residual.ensures.1
+          (takes_last (Factor c.args.depth) [] token.LeftParen c.requires.paren refl (le-leb (suc c.args.depth) MOST_DEPTH (omega (arith, c.if-depth-ge-MOST_DEPTH.false))) refl
+          c.in_err-advance.ensures);
+    }
 
 pub group-label-requires : goal.group-label-requires
 group-label-requires g t c κs within =
@@ -180,23 +224,41 @@ group-label-requires g t c κs within =
 
 pub group-returns-in_err-inner : goal.group-returns-in_err-inner
 group-returns-in_err-inner g t c =
-    record { reads = handed_on _ _ _ c.from_residual-in_err-inner.ensures.1 (next_fails _ (takes (Factor c.args.depth) [] token.LeftParen c.requires.paren refl (le-leb (suc c.args.depth) MOST_DEPTH (omega (arith, c.if-depth-ge-MOST_DEPTH.false))) refl c.in_ok-advance.ensures) (rw add-one at c.in_err-inner.ensures.reads)) }
+    record {
+      reads = handed_on _ _ _ c.from_residual-in_err-inner.ensures.1
+          (next_fails _ (takes (Factor c.args.depth) [] token.LeftParen c.requires.paren refl (le-leb (suc c.args.depth) MOST_DEPTH (omega (arith, c.if-depth-ge-MOST_DEPTH.false))) refl
+          c.in_ok-advance.ensures) (rw add-one at c.in_err-inner.ensures.reads));
+    }
 
 pub group-returns-in_err-closing_paren : goal.group-returns-in_err-closing_paren
 group-returns-in_err-closing_paren g t c =
-    record { reads = handed_on _ _ _ c.from_residual-in_err-closing_paren.ensures.1 (next_fails _ (next_reads (takes (Factor c.args.depth) [] token.LeftParen c.requires.paren refl (le-leb (suc c.args.depth) MOST_DEPTH (omega (arith, c.if-depth-ge-MOST_DEPTH.false))) refl c.in_ok-advance.ensures) (rw add-one at c.in_ok-inner.ensures.reads)) c.in_err-closing_paren.ensures.reads) }
+    record {
+      reads = handed_on _ _ _ c.from_residual-in_err-closing_paren.ensures.1
+          (next_fails _ (next_reads (takes (Factor c.args.depth) [] token.LeftParen c.requires.paren refl (le-leb (suc c.args.depth) MOST_DEPTH (omega (arith, c.if-depth-ge-MOST_DEPTH.false)))
+          refl c.in_ok-advance.ensures) (rw add-one at c.in_ok-inner.ensures.reads)) c.in_err-closing_paren.ensures.reads);
+    }
 
 pub group-returns : goal.group-returns
 group-returns g t c =
-    record { reads = reads_as (λ a e h. group_of c.args.depth c.in_ok-inner.inner a h.1.0 h.0 e (omega (arith, c.if-depth-ge-MOST_DEPTH.false)) h.1.1 h.1.2 h.2) (next_reads (next_reads (takes (Factor c.args.depth) [] token.LeftParen c.requires.paren refl (le-leb (suc c.args.depth) MOST_DEPTH (omega (arith, c.if-depth-ge-MOST_DEPTH.false))) refl c.in_ok-advance.ensures) (rw add-one at c.in_ok-inner.ensures.reads)) c.in_ok-closing_paren.ensures.reads) }
+    record {
+      reads = reads_as (λ a e h. group_of c.args.depth c.in_ok-inner.inner a h.1.0 h.0 e (omega (arith, c.if-depth-ge-MOST_DEPTH.false)) h.1.1 h.1.2 h.2)
+          (next_reads (next_reads (takes (Factor c.args.depth) [] token.LeftParen c.requires.paren refl (le-leb (suc c.args.depth) MOST_DEPTH (omega (arith, c.if-depth-ge-MOST_DEPTH.false)))
+          refl c.in_ok-advance.ensures) (rw add-one at c.in_ok-inner.ensures.reads)) c.in_ok-closing_paren.ensures.reads);
+    }
 
 pub negation-returns-then-depth-ge-MOST_DEPTH : goal.negation-returns-then-depth-ge-MOST_DEPTH
 negation-returns-then-depth-ge-MOST_DEPTH g t c =
-    record { reads = too_deep (Factor c.args.depth) [] token.Bang _ c.requires.bang refl refl (lt-leb (suc c.args.depth) MOST_DEPTH (omega (arith, c.if-depth-ge-MOST_DEPTH.true))) (omega (arith, c.if-depth-ge-MOST_DEPTH.true)) (le-leb (suc c.args.depth) (suc c.args.depth) (omega arith)) }
+    record {
+      reads = too_deep (Factor c.args.depth) [] token.Bang _ c.requires.bang refl refl (lt-leb (suc c.args.depth) MOST_DEPTH (omega (arith, c.if-depth-ge-MOST_DEPTH.true)))
+          (omega (arith, c.if-depth-ge-MOST_DEPTH.true)) (le-leb (suc c.args.depth) (suc c.args.depth) (omega arith));
+    }
 
 pub negation-returns-in_err-advance : goal.negation-returns-in_err-advance
 negation-returns-in_err-advance g t c =
-    record { reads = handed_on _ _ _ c.from_residual.ensures.1 (takes_last (Factor c.args.depth) [] token.Bang c.requires.bang refl (le-leb (suc c.args.depth) MOST_DEPTH (omega (arith, c.if-depth-ge-MOST_DEPTH.false))) refl c.in_err-advance.ensures) }
+    record {
+      reads = handed_on _ _ _ c.from_residual.ensures.1
+          (takes_last (Factor c.args.depth) [] token.Bang c.requires.bang refl (le-leb (suc c.args.depth) MOST_DEPTH (omega (arith, c.if-depth-ge-MOST_DEPTH.false))) refl c.in_err-advance.ensures);
+    }
 
 pub negation-lnot-requires : goal.negation-lnot-requires
 negation-lnot-requires g t c κs within =
@@ -204,15 +266,28 @@ negation-lnot-requires g t c κs within =
 
 pub negation-returns-in_err-inner : goal.negation-returns-in_err-inner
 negation-returns-in_err-inner g t c =
-    record { reads = handed_on _ _ _ c.from_residual-in_err-inner.ensures.1 (next_fails _ (takes (Factor c.args.depth) [] token.Bang c.requires.bang refl (le-leb (suc c.args.depth) MOST_DEPTH (omega (arith, c.if-depth-ge-MOST_DEPTH.false))) refl c.in_ok-advance.ensures) (rw add-one at c.in_err-inner.ensures.reads)) }
+    record {
+      reads = handed_on _ _ _ c.from_residual-in_err-inner.ensures.1
+          (next_fails _ (takes (Factor c.args.depth) [] token.Bang c.requires.bang refl (le-leb (suc c.args.depth) MOST_DEPTH (omega (arith, c.if-depth-ge-MOST_DEPTH.false))) refl
+          c.in_ok-advance.ensures) (rw add-one at c.in_err-inner.ensures.reads));
+    }
 
 pub negation-returns-in_err-new : goal.negation-returns-in_err-new
 negation-returns-in_err-new g t c =
-    record { reads = handed_on _ _ _ c.from_residual-in_err-new.ensures.1 (no_memory (next_reads (takes (Factor c.args.depth) [] token.Bang c.requires.bang refl (le-leb (suc c.args.depth) MOST_DEPTH (omega (arith, c.if-depth-ge-MOST_DEPTH.false))) refl c.in_ok-advance.ensures) (rw add-one at c.in_ok-inner.ensures.reads))) }
+    record {
+      reads = handed_on _ _ _ c.from_residual-in_err-new.ensures.1
+          (no_memory (next_reads (takes (Factor c.args.depth) [] token.Bang c.requires.bang refl (le-leb (suc c.args.depth) MOST_DEPTH (omega (arith, c.if-depth-ge-MOST_DEPTH.false))) refl
+          c.in_ok-advance.ensures) (rw add-one at c.in_ok-inner.ensures.reads)));
+    }
 
 pub negation-returns : goal.negation-returns
 negation-returns g t c =
-    record { reads = reads_as (λ a e h. negated_of c.args.depth c.in_ok-inner.inner _ a h.0 e (omega (arith, c.if-depth-ge-MOST_DEPTH.false)) (raw_tree-Not c.in_ok-new.field-0 ∙ ap (λ (l : RawLabel). RawTree.Not (raw_tree l)) c.in_ok-new.ensures.ok) h.1 h.2) (next_reads (takes (Factor c.args.depth) [] token.Bang c.requires.bang refl (le-leb (suc c.args.depth) MOST_DEPTH (omega (arith, c.if-depth-ge-MOST_DEPTH.false))) refl c.in_ok-advance.ensures) (rw add-one at c.in_ok-inner.ensures.reads)) }
+    record {
+      reads = reads_as (λ a e h. negated_of c.args.depth c.in_ok-inner.inner _ a h.0 e (omega (arith, c.if-depth-ge-MOST_DEPTH.false))
+          (raw_tree-Not c.in_ok-new.field-0 ∙ ap (λ (l : RawLabel). RawTree.Not (raw_tree l)) c.in_ok-new.ensures.ok) h.1 h.2)
+          (next_reads (takes (Factor c.args.depth) [] token.Bang c.requires.bang refl (le-leb (suc c.args.depth) MOST_DEPTH (omega (arith, c.if-depth-ge-MOST_DEPTH.false))) refl
+          c.in_ok-advance.ensures) (rw add-one at c.in_ok-inner.ensures.reads));
+    }
 
 pub lnot-negation-requires : goal.lnot-negation-requires
 lnot-negation-requires g t c κs within =

@@ -15,7 +15,13 @@ returns-then-not-is_atom g c = record {
 }
 
 pub returns-in_err-take : goal.returns-in_err-take
-returns-in_err-take g c = record { reads = handed_on _ _ _ c.from_residual.ensures.1 (atom_last c.args.depth _ _ _ (some_there _ (sym c.is_atom.ensures ∙ c.if-not-is_atom.false)).1 c.in_err-take.ensures.advances) }
+returns-in_err-take g c = record {
+  reads =
+      handed_on _ _ _ c.from_residual.ensures.1 (atom_last c.args.depth _ _ _ (some_there _ (sym c.is_atom.ensures ∙ c.if-not-is_atom.false)).1 c.in_err-take.ensures.advances);
+}
 
 pub returns : goal.returns
-returns g c = record { reads = atom_taken c.args.depth c.in-Some.label _ _ (ap atom_of (sym c.in_ok-take.ensures.takes) ∙ sym c.atom_of.ensures ∙ ap (option_map raw_tree) c.in-Some.is) c.in_ok-take.ensures.advances }
+returns g c = record {
+  reads = atom_taken c.args.depth c.in-Some.label _ _ (ap atom_of (sym c.in_ok-take.ensures.takes) ∙ sym c.atom_of.ensures ∙ ap (option_map raw_tree) c.in-Some.is)
+      c.in_ok-take.ensures.advances;
+}

@@ -14,16 +14,28 @@ pub returns-in_default : goal.returns-in_default
 returns-in_default g c = record { reads = reads_end MoreNumbers (past_numbers _ c.in_default.not-Amp) c.numbers.invariant }
 
 pub returns-in_err-advance : goal.returns-in_err-advance
-returns-in_err-advance g c = record { reads = handed_on _ _ _ c.from_residual.ensures.1 (fails_after c.numbers.invariant (takes_last MoreNumbers [] token.Amp c.in-Amp.is refl refl refl c.in_err-advance.ensures)) }
+returns-in_err-advance g c = record {
+  reads =
+      handed_on _ _ _ c.from_residual.ensures.1 (fails_after c.numbers.invariant (takes_last MoreNumbers [] token.Amp c.in-Amp.is refl refl refl c.in_err-advance.ensures));
+}
 
 pub returns-in_err-next : goal.returns-in_err-next
-returns-in_err-next g c = record { reads = handed_on _ _ _ c.from_residual-in_err-next.ensures.1 (next_fails (MoreNumbers ∷ []) (reads_then c.numbers.invariant (takes MoreNumbers [] token.Amp c.in-Amp.is refl refl refl c.in_ok-advance.ensures)) c.in_err-next.ensures.reads) }
+returns-in_err-next g c = record {
+  reads =
+      handed_on _ _ _ c.from_residual-in_err-next.ensures.1
+      (next_fails (MoreNumbers ∷ []) (reads_then c.numbers.invariant (takes MoreNumbers [] token.Amp c.in-Amp.is refl refl refl c.in_ok-advance.ensures)) c.in_err-next.ensures.reads);
+}
 
 pub returns-in_err-push : goal.returns-in_err-push
-returns-in_err-push g c = record { reads = handed_on _ _ _ c.from_residual-in_err-push.ensures.1 (no_memory (next_reads (reads_then c.numbers.invariant (takes MoreNumbers [] token.Amp c.in-Amp.is refl refl refl c.in_ok-advance.ensures)) c.in_ok-next.ensures.reads)) }
+returns-in_err-push g c = record {
+  reads =
+      handed_on _ _ _ c.from_residual-in_err-push.ensures.1
+      (no_memory (next_reads (reads_then c.numbers.invariant (takes MoreNumbers [] token.Amp c.in-Amp.is refl refl refl c.in_ok-advance.ensures)) c.in_ok-next.ensures.reads));
+}
 
 pub numbers-preserved : goal.numbers-preserved
 numbers-preserved g c =
     reads_as
-    (λ a d h. numbers_more c.args.numbers c.numbers.numbers c.push.new.self c.in_ok-next.next a h.0 d c.in_ok-push.ensures.ok (numbers_amp c.args.numbers c.numbers.numbers a h.1.0 h.0 h.1.1 h.1.2) h.2)
+    (λ a d h. numbers_more c.args.numbers c.numbers.numbers c.push.new.self c.in_ok-next.next a h.0 d c.in_ok-push.ensures.ok
+    (numbers_amp c.args.numbers c.numbers.numbers a h.1.0 h.0 h.1.1 h.1.2) h.2)
     (next_reads (reads_then c.numbers.invariant (takes MoreNumbers [] token.Amp c.in-Amp.is refl refl refl c.in_ok-advance.ensures)) c.in_ok-next.ensures.reads)

@@ -18,10 +18,18 @@ pub returns-in_default : goal.returns-in_default
 returns-in_default g c = record { reads = reads_end Strings (past_strings _ c.in_default.not-Str) c.texts.invariant }
 
 pub returns-in_err-text : goal.returns-in_err-text
-returns-in_err-text g c = record { reads = handed_on _ _ _ c.from_residual.ensures.1 (fails_after c.texts.invariant (fails_for (Strings ∷ []) c.texts.invariant.spent (one_more _ c.in-Str.field-0 c.in-Str.is) c.in_err-text.ensures.reads)) }
+returns-in_err-text g c = record {
+  reads =
+      handed_on _ _ _ c.from_residual.ensures.1
+      (fails_after c.texts.invariant (fails_for (Strings ∷ []) c.texts.invariant.spent (one_more _ c.in-Str.field-0 c.in-Str.is) c.in_err-text.ensures.reads));
+}
 
 pub returns-in_err-push : goal.returns-in_err-push
-returns-in_err-push g c = record { reads = handed_on _ _ _ c.from_residual-in_err-push.ensures.1 (no_memory (reads_then c.texts.invariant (reads_for (Strings ∷ []) c.texts.invariant.spent (one_more _ c.in-Str.field-0 c.in-Str.is) c.in_ok-text.ensures.reads))) }
+returns-in_err-push g c = record {
+  reads =
+      handed_on _ _ _ c.from_residual-in_err-push.ensures.1
+      (no_memory (reads_then c.texts.invariant (reads_for (Strings ∷ []) c.texts.invariant.spent (one_more _ c.in-Str.field-0 c.in-Str.is) c.in_ok-text.ensures.reads)));
+}
 
 pub texts-preserved : goal.texts-preserved
 texts-preserved g c =

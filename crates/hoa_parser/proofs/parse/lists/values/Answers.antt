@@ -11,7 +11,10 @@ pub returns-then-not-is_value : goal.returns-then-not-is_value
 returns-then-not-is_value g c = record { reads = reads_end Values (no_value c.values.ahead (sym c.is_value.ensures ∙ c.if-not-is_value.true)) c.values.invariant }
 
 pub returns-in_err-advance : goal.returns-in_err-advance
-returns-in_err-advance g c = record { reads = handed_on _ _ _ c.from_residual.ensures.1 (no_more (value_at _ (sym c.is_value.ensures ∙ c.if-not-is_value.false)) c.values.invariant c.in_err-advance.ensures) }
+returns-in_err-advance g c = record {
+  reads =
+      handed_on _ _ _ c.from_residual.ensures.1 (no_more (value_at _ (sym c.is_value.ensures ∙ c.if-not-is_value.false)) c.values.invariant c.in_err-advance.ensures);
+}
 
 pub values-preserved : goal.values-preserved
 values-preserved g c = one_more (value_at _ (sym c.is_value.ensures ∙ c.if-not-is_value.false)) c.values.invariant c.in_ok-advance.ensures

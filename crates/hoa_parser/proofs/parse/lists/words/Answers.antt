@@ -18,10 +18,18 @@ pub returns-in_default : goal.returns-in_default
 returns-in_default g c = record { reads = reads_end Words (past_words _ c.in_default.not-Identifier) c.words.invariant }
 
 pub returns-in_err-word : goal.returns-in_err-word
-returns-in_err-word g c = record { reads = handed_on _ _ _ c.from_residual.ensures.1 (fails_after c.words.invariant (fails_for (Words ∷ []) c.words.invariant.spent (one_more _ c.in-Identifier.field-0 c.in-Identifier.is) c.in_err-word.ensures.reads)) }
+returns-in_err-word g c = record {
+  reads =
+      handed_on _ _ _ c.from_residual.ensures.1
+      (fails_after c.words.invariant (fails_for (Words ∷ []) c.words.invariant.spent (one_more _ c.in-Identifier.field-0 c.in-Identifier.is) c.in_err-word.ensures.reads));
+}
 
 pub returns-in_err-push : goal.returns-in_err-push
-returns-in_err-push g c = record { reads = handed_on _ _ _ c.from_residual-in_err-push.ensures.1 (no_memory (reads_then c.words.invariant (reads_for (Words ∷ []) c.words.invariant.spent (one_more _ c.in-Identifier.field-0 c.in-Identifier.is) c.in_ok-word.ensures.reads))) }
+returns-in_err-push g c = record {
+  reads =
+      handed_on _ _ _ c.from_residual-in_err-push.ensures.1
+      (no_memory (reads_then c.words.invariant (reads_for (Words ∷ []) c.words.invariant.spent (one_more _ c.in-Identifier.field-0 c.in-Identifier.is) c.in_ok-word.ensures.reads)));
+}
 
 pub words-preserved : goal.words-preserved
 words-preserved g c =

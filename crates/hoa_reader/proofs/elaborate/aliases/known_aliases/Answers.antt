@@ -18,17 +18,20 @@ use Rattle.hoa_reader.proofs.elaborate.aliases.known_aliases.Goals as goal
 use Rattle.aut_base.proofs.Lists.{take-push, split-at, drop-at, slice_get-at}
 
 -- what is left of the lines begins with an alias that uses those before it
-uses_here : (before : List (List ℕ)) (defs : List AliasDef) (i : ℕ) (def : AliasDef) → i < length defs → def ≡ get_or defs i def → uses_earlier before (map alias_def (drop i defs)) ≡ true → (aliases_among before (raw_tree def.label.now) ≡ true) × (uses_earlier (before ++ def.name.now ∷ []) (map alias_def (drop (i + 1) defs)) ≡ true)
+uses_here : (before : List (List ℕ)) (defs : List AliasDef) (i : ℕ) (def : AliasDef) → i < length defs → def ≡ get_or defs i def → uses_earlier before (map alias_def (drop i defs)) ≡ true
+    → (aliases_among before (raw_tree def.label.now) ≡ true) × (uses_earlier (before ++ def.name.now ∷ []) (map alias_def (drop (i + 1) defs)) ≡ true)
 uses_here before defs i def l is e = and_parts _ _ (sym (ap (λ ds. uses_earlier before (map alias_def ds)) (drop-at defs i def l is)) ∙ e)
 
 -- its name is not that of an earlier one
-name_is_new : (defs : List AliasDef) (i : ℕ) (def : AliasDef) → i < length defs → def ≡ get_or defs i def → all_differ same_text (named defs) ≡ true → is_listed (named (take i defs)) def.name.now ≡ false
+name_is_new : (defs : List AliasDef) (i : ℕ) (def : AliasDef) → i < length defs → def ≡ get_or defs i def → all_differ same_text (named defs) ≡ true
+    → is_listed (named (take i defs)) def.name.now ≡ false
 name_is_new defs i def l is differ =
     let whole : named defs ≡ named (take i defs) ++ def.name.now ∷ named (drop (i + 1) defs) = ap named (split-at defs i def l is) ∙ named-append (take i defs) (def ∷ drop (i + 1) defs) in
     false_from_ne_true _ (λ again. false≢true (repeats same_text (named (take i defs)) def.name.now (named (drop (i + 1) defs)) again ∙ ap (all_differ same_text) (sym whole) ∙ differ))
 
 -- the aliases up to one more place
-one_more_meaning : (defs : List AliasDef) (i : ℕ) (def : AliasDef) → i < length defs → def ≡ get_or defs i def → meanings_by (take (i + 1) defs) ≡ meanings_by (take i defs) ++ record { name = def.name.now; label = expanded (meanings_by (take i defs)) (raw_tree def.label.now) } ∷ []
+one_more_meaning : (defs : List AliasDef) (i : ℕ) (def : AliasDef) → i < length defs → def ≡ get_or defs i def
+    → meanings_by (take (i + 1) defs) ≡ meanings_by (take i defs) ++ record { name = def.name.now; label = expanded (meanings_by (take i defs)) (raw_tree def.label.now) } ∷ []
 one_more_meaning defs i def l is =
     ap meanings_by (take-push defs i def l is)
     ∙ ap (meanings_after []) (map-append alias_def (take i defs) (def ∷ []))

@@ -11,7 +11,8 @@ returns-then-aliases_props_below c =
     let n = length c.args.parts.now.names.now in
     let count : n ≡ length (names_of w) = ap length c.requires.names in
     let aliases : list_all (λ (line : AliasLine). props_below n line.label) (alias_lines w) ≡ true =
-    ap (list_all (λ (line : AliasLine). props_below n line.label)) (sym (ap (map alias_def) c.deref.ensures.value ∙ c.requires.defs)) ∙ sym c.aliases_props_below.ensures ∙ c.if-aliases_props_below.true in
+    ap (list_all (λ (line : AliasLine). props_below n line.label)) (sym (ap (map alias_def) c.deref.ensures.value ∙ c.requires.defs)) ∙ sym c.aliases_props_below.ensures
+    ∙ c.if-aliases_props_below.true in
     c.labels_props_below.ensures
     ∙ ap (λ (ts : List RawTree). list_all (props_below n) ts) (ap (map label_refs) c.deref-then-aliases_props_below.ensures.value ∙ c.requires.labels)
     ∙ ap (λ b. b && list_all (props_below n) (body_labels w)) (sym aliases)

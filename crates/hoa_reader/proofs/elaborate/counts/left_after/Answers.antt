@@ -17,7 +17,8 @@ returns-then-count-left c =
     let here : c.edge_count-count.result ≡ edge_counted c.args.known.now s (written_edge edge) = c.edge_count-count.ensures s c.state_weight-own.ensures in
     let slice = c.as_slice-edge-items.ensures in
     let rest : S (drop i c.as_slice-edge-items.result.now) ≡ edge_counted c.args.known.now s (written_edge edge) + S (drop (i + 1) c.as_slice-edge-items.result.now) =
-    ap S (drop-at c.as_slice-edge-items.result.now i edge c.edges-test.true c.edge-item.is) ∙ sum_by-cons (edge_counted c.args.known.now s) (written_edge edge) (map written_edge (drop (i + 1) c.as_slice-edge-items.result.now)) in
+    ap S (drop-at c.as_slice-edge-items.result.now i edge c.edges-test.true c.edge-item.is)
+    ∙ sum_by-cons (edge_counted c.args.known.now s) (written_edge edge) (map written_edge (drop (i + 1) c.as_slice-edge-items.result.now)) in
     let left : S (drop i edges) ≡ S (drop i c.as_slice-edge-items.result.now) = ap (λ (es : List RawEdge). S (drop i es)) (sym slice) in
     let before : c.edges.left + state_counted c.args.known.now s ≡ c.args.most + S (drop i edges) = c.edges.invariant in
     omega (arith, here, rest, left, before, c.if-count-left.true)
@@ -32,9 +33,11 @@ edges-preserved c =
     let here : c.edge_count-count.result ≡ edge_counted c.args.known.now s (written_edge edge) = c.edge_count-count.ensures s c.state_weight-own.ensures in
     let slice = c.as_slice-edge-items.ensures in
     let rest : S (drop i c.as_slice-edge-items.result.now) ≡ edge_counted c.args.known.now s (written_edge edge) + S (drop (i + 1) c.as_slice-edge-items.result.now) =
-    ap S (drop-at c.as_slice-edge-items.result.now i edge c.edges-test.true c.edge-item.is) ∙ sum_by-cons (edge_counted c.args.known.now s) (written_edge edge) (map written_edge (drop (i + 1) c.as_slice-edge-items.result.now)) in
+    ap S (drop-at c.as_slice-edge-items.result.now i edge c.edges-test.true c.edge-item.is)
+    ∙ sum_by-cons (edge_counted c.args.known.now s) (written_edge edge) (map written_edge (drop (i + 1) c.as_slice-edge-items.result.now)) in
     let left : S (drop i edges) ≡ S (drop i c.as_slice-edge-items.result.now) = ap (λ (es : List RawEdge). S (drop i es)) (sym slice) in
     let next : S (drop (i + 1) edges) ≡ S (drop (i + 1) c.as_slice-edge-items.result.now) = ap (λ (es : List RawEdge). S (drop (i + 1) es)) (sym slice) in
     let before : c.edges.left + state_counted c.args.known.now s ≡ c.args.most + S (drop i edges) = c.edges.invariant in
-    let goal : (c.edges.left - c.edge_count-count.result) + state_counted c.args.known.now s ≡ c.args.most + S (drop (i + 1) edges) = omega (arith, here, rest, left, next, before, c.if-count-left.false) in
+    let goal : (c.edges.left - c.edge_count-count.result) + state_counted c.args.known.now s ≡ c.args.most + S (drop (i + 1) edges) =
+    omega (arith, here, rest, left, next, before, c.if-count-left.false) in
     goal

@@ -8,5 +8,7 @@ use Rattle.hoa_reader.proofs.elaborate.edges.add_edges.Given as goal
 abbrev pub invariant-written : goal.invariant-written
 invariant-written l = record {
   letter : l.letter ≡ l.edge-index;
-  added : map tree_edge l.edges ++ map (λ (p : ℕ × WrittenEdge). tree_edge_for l.shared (written_state l.state) p.0 p.1) (enumerate_from l.edge-index (map written_edge (drop l.edge-index l.state.edges))) ≡ map tree_edge l.initial.edges ++ map (λ (p : ℕ × WrittenEdge). tree_edge_for l.shared (written_state l.state) p.0 p.1) (enumerate_from 0 (map written_edge l.state.edges));
+  added : map tree_edge l.edges ++ map (λ (p : ℕ × WrittenEdge). tree_edge_for l.shared (written_state l.state) p.0 p.1)
+      (enumerate_from l.edge-index (map written_edge (drop l.edge-index l.state.edges))) ≡ map tree_edge l.initial.edges ++ map
+      (λ (p : ℕ × WrittenEdge). tree_edge_for l.shared (written_state l.state) p.0 p.1) (enumerate_from 0 (map written_edge l.state.edges));
 }

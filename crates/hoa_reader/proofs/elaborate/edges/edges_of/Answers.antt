@@ -20,7 +20,8 @@ add_edges-requires-clause-marks c =
     let inside : n < length items = omega (arith, within, c.in_ok-places.ensures.len) in
     let here : get_or items n None ≡ Some c.in-Some.place = get_or_default items n None c.index.result.now inside ∙ sym c.index.ensures ∙ c.in-Some.is in
     let one : IsDefinedAt ws n c.in-Some.place = subst P here (c.in_ok-places.ensures.place n within) in
-    let state : written_state c.index-states-place.result ≡ one.state = ap written_state c.index-states-place.is ∙ got_map c.args.states.now c.in-Some.place one.state c.index-states-place.result one.there in
+    let state : written_state c.index-states-place.result ≡ one.state = ap written_state c.index-states-place.is
+    ∙ got_map c.args.states.now c.in-Some.place one.state c.index-states-place.result one.there in
     ap (marks_below sets) state ∙ all_passes_at (marks_below sets) ws c.in-Some.place one.state one.there c.requires.marks
 
 pub numbers-preserved : goal.numbers-preserved
@@ -34,7 +35,8 @@ numbers-preserved c =
     let inside : n < length items = omega (arith, within, c.in_ok-places.ensures.len) in
     let here : get_or items n None ≡ Some c.in-Some.place = get_or_default items n None c.index.result.now inside ∙ sym c.index.ensures ∙ c.in-Some.is in
     let one : IsDefinedAt ws n c.in-Some.place = subst P here (c.in_ok-places.ensures.place n within) in
-    let state : written_state c.index-states-place.result ≡ one.state = ap written_state c.index-states-place.is ∙ got_map c.args.states.now c.in-Some.place one.state c.index-states-place.result one.there in
+    let state : written_state c.index-states-place.result ≡ one.state = ap written_state c.index-states-place.is
+    ∙ got_map c.args.states.now c.in-Some.place one.state c.index-states-place.result one.there in
     let goal : map tree_edge c.add_edges.new.edges ≡ edges_for x ws (n + 1) =
     c.in_ok-add_edges.ensures
     ∙ ap (λ (es : List TreeEdge). es ++ tree_edges_for x (written_state c.index-states-place.result)) c.numbers.invariant

@@ -45,7 +45,8 @@ pub expand-returns-in_ok-expand_parts-in-And : goal.expand-returns-in_ok-expand_
 expand-returns-in_ok-expand_parts-in-And t c =
     let ms = meanings_by c.args.defs.now in
     let p = c.in-And.parts in
-    and_of c.in_ok-expand_parts-in-And.field-0 (expanded ms (raw_tree p.first.value)) (expanded ms (raw_tree p.second.value)) (map (λ x. expanded ms (raw_tree x)) p.others.items) c.in_ok-expand_parts-in-And.ensures
+    and_of c.in_ok-expand_parts-in-And.field-0 (expanded ms (raw_tree p.first.value)) (expanded ms (raw_tree p.second.value)) (map (λ x. expanded ms (raw_tree x)) p.others.items)
+    c.in_ok-expand_parts-in-And.ensures
     ∙ ap (LabelTree.And (expanded ms (raw_tree p.first.value)) (expanded ms (raw_tree p.second.value))) (sym (parts_expanded ms p.others.items))
     ∙ sym (ap (λ l. expanded ms (raw_tree l)) c.in-And.is ∙ ap (expanded ms) (raw_tree-And-fields p))
 
@@ -53,7 +54,8 @@ pub expand-returns-in_ok-expand_parts-in-Or : goal.expand-returns-in_ok-expand_p
 expand-returns-in_ok-expand_parts-in-Or t c =
     let ms = meanings_by c.args.defs.now in
     let p = c.in-Or.parts in
-    or_of c.in_ok-expand_parts-in-Or.field-0 (expanded ms (raw_tree p.first.value)) (expanded ms (raw_tree p.second.value)) (map (λ x. expanded ms (raw_tree x)) p.others.items) c.in_ok-expand_parts-in-Or.ensures
+    or_of c.in_ok-expand_parts-in-Or.field-0 (expanded ms (raw_tree p.first.value)) (expanded ms (raw_tree p.second.value)) (map (λ x. expanded ms (raw_tree x)) p.others.items)
+    c.in_ok-expand_parts-in-Or.ensures
     ∙ ap (LabelTree.Or (expanded ms (raw_tree p.first.value)) (expanded ms (raw_tree p.second.value))) (sym (parts_expanded ms p.others.items))
     ∙ sym (ap (λ l. expanded ms (raw_tree l)) c.in-Or.is ∙ ap (expanded ms) (raw_tree-Or-fields p))
 

@@ -14,4 +14,5 @@ decreases-expand l = steps_left l.defs.now (raw_tree l.label.now)
 abbrev pub decreases-expand_parts : goal.decreases-expand_parts
 decreases-expand_parts l =
     let size : RawTree → ℕ = λ t. label_size (expanded (meanings_by l.defs.now) t) in
-    2 * (size (raw_tree l.parts.now.first.value) + (size (raw_tree l.parts.now.second.value) + labels_size (each_expanded (meanings_by l.defs.now) (raw_trees (map raw_tree l.parts.now.others.items))))) + 1
+    2 * (size (raw_tree l.parts.now.first.value) +
+    (size (raw_tree l.parts.now.second.value) + labels_size (each_expanded (meanings_by l.defs.now) (raw_trees (map raw_tree l.parts.now.others.items))))) + 1

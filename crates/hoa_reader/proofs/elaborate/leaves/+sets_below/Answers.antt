@@ -10,7 +10,8 @@ all_sets_below-sets_below-requires t c =
     let small = formula_size-at (formula_list c.args.parts.now) c.places.place (formula_tree c.at.result.now) c.at.ensures in
     (omega (arith, small, c.decreases), tt)
 
-one_left : (n : ℕ) (xs : List FormulaTree) (i : ℕ) (x : FormulaTree) (b : Bool) → slice_get xs i ≡ Some x → b ≡ sets_below n x → all_sets_below n (trees (drop i xs)) ≡ (b && all_sets_below n (trees (drop (i + 1) xs)))
+one_left : (n : ℕ) (xs : List FormulaTree) (i : ℕ) (x : FormulaTree) (b : Bool) → slice_get xs i ≡ Some x → b ≡ sets_below n x
+    → all_sets_below n (trees (drop i xs)) ≡ (b && all_sets_below n (trees (drop (i + 1) xs)))
 one_left n xs i x b is e = ap (λ ts. all_sets_below n (trees ts)) (drop-slice_get xs i x is) ∙ ap (λ y. y && all_sets_below n (trees (drop (i + 1) xs))) (sym e)
 
 pub all_sets_below-returns-then-not-sets_below : goal.all_sets_below-returns-then-not-sets_below

@@ -19,7 +19,8 @@ returns-then-not-branch c =
     let i = c.defs.def-index in
     let def = c.def-item.result in
     let there : is_some (place_in c.defs.names def.name.now) ≡ true = grind (arith, some_not_none) in
-    let whole : named defs ≡ named (take i defs) ++ def.name.now ∷ named (drop (i + 1) defs) = ap named (split-at defs i def c.defs-test.true c.def-item.is) ∙ named-append (take i defs) (def ∷ drop (i + 1) defs) in
+    let whole : named defs ≡ named (take i defs) ++ def.name.now ∷ named (drop (i + 1) defs) = ap named (split-at defs i def c.defs-test.true c.def-item.is)
+    ∙ named-append (take i defs) (def ∷ drop (i + 1) defs) in
     let no : all_differ same_text (named defs) ≡ false =
     ap (all_differ same_text) whole ∙ sym (repeats same_text (named (take i defs)) def.name.now (named (drop (i + 1) defs)) (sym (c.defs.invariant.names def.name.now) ∙ there)) in
     ap (λ b. b && uses_earlier [] (map alias_def defs)) no

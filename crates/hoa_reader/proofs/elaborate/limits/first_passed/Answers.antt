@@ -17,7 +17,8 @@ returns-then-has_more_edges c =
     let sets : nat_lt MOST_SETS (acceptance_of w).sets ≡ false = ap (nat_lt MOST_SETS) (sym c.set_count.ensures) ∙ grind (arith, nat_tests) in
     let states : nat_lt MOST_STATES (state_count w) ≡ false = ap (nat_lt MOST_STATES) (sym c.state_count.ensures) ∙ grind (arith, nat_tests) in
     let edges : c.has_more_edges.result ≡ nat_lt MOST_EDGES (length (edges_of w)) =
-    c.has_more_edges.ensures ∙ ap (λ (ss : List RawState). nat_lt MOST_EDGES (length (all_edges (map written_state ss)))) c.as_slice.ensures ∙ ap (nat_lt MOST_EDGES) (sym (edge_count w c.requires.below)) in
+    c.has_more_edges.ensures ∙ ap (λ (ss : List RawState). nat_lt MOST_EDGES (length (all_edges (map written_state ss)))) c.as_slice.ensures
+    ∙ ap (nat_lt MOST_EDGES) (sym (edge_count w c.requires.below)) in
     record { count = Edges; shown = refl; passes = record { passes = sym edges ∙ c.if-has_more_edges.true; earlier = (names, (sets, (states, tt))) } }
 
 pub returns-then-grow_too_far : goal.returns-then-grow_too_far
@@ -27,8 +28,14 @@ returns-then-grow_too_far c =
     let sets : nat_lt MOST_SETS (acceptance_of w).sets ≡ false = ap (nat_lt MOST_SETS) (sym c.set_count.ensures) ∙ grind (arith, nat_tests) in
     let states : nat_lt MOST_STATES (state_count w) ≡ false = ap (nat_lt MOST_STATES) (sym c.state_count.ensures) ∙ grind (arith, nat_tests) in
     let edges : c.has_more_edges.result ≡ nat_lt MOST_EDGES (length (edges_of w)) =
-    c.has_more_edges.ensures ∙ ap (λ (ss : List RawState). nat_lt MOST_EDGES (length (all_edges (map written_state ss)))) c.as_slice.ensures ∙ ap (nat_lt MOST_EDGES) (sym (edge_count w c.requires.below)) in
-    record { count = Aliases; shown = refl; passes = record { passes = sym c.grow_too_far.ensures ∙ c.if-grow_too_far.true; earlier = (names, (sets, (states, (sym edges ∙ c.if-has_more_edges.false, tt)))) } }
+    c.has_more_edges.ensures ∙ ap (λ (ss : List RawState). nat_lt MOST_EDGES (length (all_edges (map written_state ss)))) c.as_slice.ensures
+    ∙ ap (nat_lt MOST_EDGES) (sym (edge_count w c.requires.below)) in
+    record {
+      count = Aliases;
+      shown = refl;
+      passes =
+          record { passes = sym c.grow_too_far.ensures ∙ c.if-grow_too_far.true; earlier = (names, (sets, (states, (sym edges ∙ c.if-has_more_edges.false, tt)))) };
+    }
 
 pub returns : goal.returns
 returns c =
@@ -37,5 +44,6 @@ returns c =
     let sets : nat_lt MOST_SETS (acceptance_of w).sets ≡ false = ap (nat_lt MOST_SETS) (sym c.set_count.ensures) ∙ grind (arith, nat_tests) in
     let states : nat_lt MOST_STATES (state_count w) ≡ false = ap (nat_lt MOST_STATES) (sym c.state_count.ensures) ∙ grind (arith, nat_tests) in
     let edges : c.has_more_edges.result ≡ nat_lt MOST_EDGES (length (edges_of w)) =
-    c.has_more_edges.ensures ∙ ap (λ (ss : List RawState). nat_lt MOST_EDGES (length (all_edges (map written_state ss)))) c.as_slice.ensures ∙ ap (nat_lt MOST_EDGES) (sym (edge_count w c.requires.below)) in
+    c.has_more_edges.ensures ∙ ap (λ (ss : List RawState). nat_lt MOST_EDGES (length (all_edges (map written_state ss)))) c.as_slice.ensures
+    ∙ ap (nat_lt MOST_EDGES) (sym (edge_count w c.requires.below)) in
     (names, (sets, (states, (sym edges ∙ c.if-has_more_edges.false, (sym c.grow_too_far.ensures ∙ c.if-grow_too_far.false, tt)))))

@@ -16,7 +16,8 @@ use Rattle.hoa_reader.specs.declared.elaborate.places.Places.{Places}
 use Rattle.hoa_parser.specs.declared.raw.RawState.{RawState}
 use Rattle.hoa_reader.proofs.elaborate.limits.grow_too_far.Goals as goal
 
-grows : (w : Written) (p : Parts) (known : Places Known) (tall heavy : Bool) → ArePartsOf w p → AreKnown (meanings_by p.defs.items) p.defs.items known → tall ≡ are_tall known (body_labels w) → heavy ≡ nat_lt 16785407 (counted known w.states) → (tall || heavy) ≡ nat_lt MOST_ALIASES (count_of Aliases w)
+grows : (w : Written) (p : Parts) (known : Places Known) (tall heavy : Bool) → ArePartsOf w p → AreKnown (meanings_by p.defs.items) p.defs.items known → tall ≡ are_tall known (body_labels w)
+    → heavy ≡ nat_lt 16785407 (counted known w.states) → (tall || heavy) ≡ nat_lt MOST_ALIASES (count_of Aliases w)
 grows w p known tall heavy parts all t h =
     let ms = meanings_by p.defs.items in
     let same : ms ≡ meanings_of w = ap (meanings_after []) parts.defs in
@@ -39,5 +40,6 @@ returns c =
     let tall : false ≡ are_tall known (body_labels w) = sym c.if-are_tall.false ∙ c.are_tall.ensures ∙ ap (are_tall known) (ap (map label_refs) c.deref.ensures.value ∙ c.requires.parts.labels) in
     let most : (c.from.result + 1) * 8192 - 1 ≡ 16785407 = omega (arith, c.from.ensures) in
     let heavy : c.are_heavy.result ≡ nat_lt 16785407 (counted known w.states) =
-    c.are_heavy.ensures ∙ ap (λ n. nat_lt n (counted known (map written_state c.as_slice.result.now))) most ∙ ap (λ (ss : List RawState). nat_lt 16785407 (counted known (map written_state ss))) c.as_slice.ensures in
+    c.are_heavy.ensures ∙ ap (λ n. nat_lt n (counted known (map written_state c.as_slice.result.now))) most
+    ∙ ap (λ (ss : List RawState). nat_lt 16785407 (counted known (map written_state ss))) c.as_slice.ensures in
     grows w c.args.parts.now known false c.are_heavy.result c.requires.parts c.requires.known tall heavy

@@ -5,4 +5,5 @@ use Rattle.hoa_reader.specs.Validity.{is_one_state}
 use Rattle.hoa_reader.proofs.elaborate.rules.all_lead_to_single_states.Given as goal
 
 abbrev pub invariant-states : goal.invariant-states
-invariant-states l = list_all (λ s. list_all (λ e. is_one_state e.to) s.edges) (map written_state (drop l.state-index l.states)) ≡ list_all (λ s. list_all (λ e. is_one_state e.to) s.edges) (map written_state l.states)
+invariant-states l = list_all (λ s. list_all (λ e. is_one_state e.to) s.edges) (map written_state (drop l.state-index l.states)) ≡ list_all (λ s. list_all (λ e. is_one_state e.to) s.edges)
+    (map written_state l.states)

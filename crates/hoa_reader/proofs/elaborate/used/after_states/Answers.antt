@@ -28,5 +28,6 @@ states-preserved c =
     let before : max c.states.after (max (own (drop i states)) (ends (drop i states))) ≡ max c.args.least (max (own states) (ends states)) = c.states.invariant in
     let now : c.after_edges-after.result ≡ max c.max-after.result (after_all (flat_map (λ (e : WrittenEdge). e.to) (map written_edge c.as_slice.result.now))) = c.after_edges-after.ensures in
     let next : c.max-after.result ≡ max c.states.after (state.number + 1) = grind (arith, c.max-after.ensures, c.from.ensures) in
-    let goal : max c.after_edges-after.result (max (own (drop (i + 1) states)) (ends (drop (i + 1) states))) ≡ max c.args.least (max (own states) (ends states)) = omega (arith, edges, first, second, before, now, next) in
+    let goal : max c.after_edges-after.result (max (own (drop (i + 1) states)) (ends (drop (i + 1) states))) ≡ max c.args.least (max (own states) (ends states)) =
+    omega (arith, edges, first, second, before, now, next) in
     goal

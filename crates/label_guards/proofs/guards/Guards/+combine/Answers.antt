@@ -32,10 +32,13 @@ choice-requires-clause-high_later t c =
 pub note-requires : goal.note-requires
 note-requires t c =
     let least : c.min-prop.result ≡ min (level c.args.self.now c.args.g) (level c.args.self.now c.args.h) = c.min-prop.ensures ∙ (λ i. min (c.level.ensures.level i) (c.level-2.ensures.level i)) in
-    join_step c.combine.ensures.grows c.combine-2.ensures.grows c.choice.ensures.grows c.args.operation _ _ _ _ _ _ _ _ _ _ c.requires.left c.requires.right least c.sides-g_low.ensures c.sides-h_low.ensures c.in_ok-low.ensures.joined c.in_ok-high.ensures.joined c.in_ok-place.ensures.made
+    join_step c.combine.ensures.grows c.combine-2.ensures.grows c.choice.ensures.grows c.args.operation _ _ _ _ _ _ _ _ _ _ c.requires.left c.requires.right least c.sides-g_low.ensures
+    c.sides-h_low.ensures c.in_ok-low.ensures.joined c.in_ok-high.ensures.joined c.in_ok-place.ensures.made
 
 pub returns-clause-joined : goal.returns-clause-joined
 returns-clause-joined t c =
     let least : c.min-prop.result ≡ min (level c.args.self.now c.args.g) (level c.args.self.now c.args.h) = c.min-prop.ensures ∙ (λ i. min (c.level.ensures.level i) (c.level-2.ensures.level i)) in
-    let joined : IsJoin c.choice.new.self c.args.operation c.args.g c.args.h c.in_ok-place.place = join_step c.combine.ensures.grows c.combine-2.ensures.grows c.choice.ensures.grows c.args.operation _ _ _ _ _ _ _ _ _ _ c.requires.left c.requires.right least c.sides-g_low.ensures c.sides-h_low.ensures c.in_ok-low.ensures.joined c.in_ok-high.ensures.joined c.in_ok-place.ensures.made in
+    let joined : IsJoin c.choice.new.self c.args.operation c.args.g c.args.h c.in_ok-place.place =
+    join_step c.combine.ensures.grows c.combine-2.ensures.grows c.choice.ensures.grows c.args.operation _ _ _ _ _ _ _ _ _ _ c.requires.left c.requires.right least c.sides-g_low.ensures
+    c.sides-h_low.ensures c.in_ok-low.ensures.joined c.in_ok-high.ensures.joined c.in_ok-place.ensures.made in
     subst (λ (s : Store). IsJoin s c.args.operation c.args.g c.args.h c.in_ok-place.place) (sym c.note.ensures) joined

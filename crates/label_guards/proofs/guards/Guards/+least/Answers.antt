@@ -15,7 +15,9 @@ lesser-found-requires-clause-high t c = least_small _ c.reduced.ensures _ _ c.in
 
 pub returns-clause-done : goal.returns-clause-done
 returns-clause-done t c = done_put (IsLeastAt c.args.self.now) _ _ c.args.place _ c.in_ok-put_done.ensures.ok c.least-2.ensures.done
-    (subst (IsLeastAt c.args.self.now c.args.place) (sym c.lesser-found.ensures) (least_step _ c.reduced.ensures _ _ c.node_at-node.ensures c.requires.has _ _ c.in_ok-low.ensures.least c.in_ok-high.ensures.least))
+    (subst (IsLeastAt c.args.self.now c.args.place) (sym c.lesser-found.ensures)
+    (least_step _ c.reduced.ensures _ _ c.node_at-node.ensures c.requires.has _ _ c.in_ok-low.ensures.least c.in_ok-high.ensures.least))
 
 pub returns-clause-least : goal.returns-clause-least
-returns-clause-least t c = subst (IsLeastAt c.args.self.now c.args.place) (sym c.lesser-found.ensures) (least_step _ c.reduced.ensures _ _ c.node_at-node.ensures c.requires.has _ _ c.in_ok-low.ensures.least c.in_ok-high.ensures.least)
+returns-clause-least t c = subst (IsLeastAt c.args.self.now c.args.place) (sym c.lesser-found.ensures)
+    (least_step _ c.reduced.ensures _ _ c.node_at-node.ensures c.requires.has _ _ c.in_ok-low.ensures.least c.in_ok-high.ensures.least)

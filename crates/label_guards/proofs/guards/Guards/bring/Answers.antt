@@ -1,7 +1,11 @@
 use Rattle.std.proofs.Common.{get_or}
 use Rattle.label_guards.proofs.Brought.{brought_guard}
+use Rattle.label_guards.proofs.Dependence.{guard_goes_below}
 use Rattle.label_guards.proofs.LabelTruth.{keeps}
 use Rattle.label_guards.proofs.guards.Guards.bring.Goals as goal
+
+pub bring_with-requires-clause-within : goal.bring_with-requires-clause-within
+bring_with-requires-clause-within c = guard_goes_below _ (λ k. get_or c.args.to.now k 0) c.args.other.now c.args.g c.reduced.ensures c.requires.has c.requires.within
 
 pub returns-in_err-place-clause-keeps : goal.returns-in_err-place-clause-keeps
 returns-in_err-place-clause-keeps c = keeps c.bring_with.ensures.grows

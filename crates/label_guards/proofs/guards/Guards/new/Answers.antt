@@ -7,4 +7,5 @@ use Rattle.label_guards.proofs.LabelTruth.{only_constants}
 use Rattle.label_guards.proofs.guards.Guards.new.Goals as goal
 
 pub returns-clause-bare : goal.returns-clause-bare
-returns-clause-bare c = subst (λ (f : Fields). (g : Guard) → Has f.nodes g → IsGuardOf f.nodes (λ on. false) g ⊎ IsGuardOf f.nodes (λ on. true) g) (sym c.in_ok-new.ensures.ok) (only_constants _ c.reduced.ensures c.new-nodes.ensures.nodes)
+returns-clause-bare c = subst (λ (f : Fields). (g : Guard) → Has f.nodes g → IsGuardOf f.nodes (λ on. false) g ⊎ IsGuardOf f.nodes (λ on. true) g) (sym c.in_ok-new.ensures.ok)
+    (only_constants _ c.reduced.ensures c.new-nodes.ensures.nodes)

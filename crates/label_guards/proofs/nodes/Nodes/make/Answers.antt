@@ -13,7 +13,8 @@ invariant_of-self-2 c = make_reduced _ _ c.self.view_is c.self.invariant _ _ _ c
 pub returns-clause-made : goal.returns-clause-made
 returns-clause-made c =
     let new : Store = record { names = c.self.inside.names; nodes = c.put.new.set.keys } in
-    let is : IsReduced new.names new.nodes = make_reduced _ _ c.self.view_is c.self.invariant _ _ _ c.requires.low c.requires.high c.requires.low_later c.requires.high_later c.if-low-high.false _ c.put.ensures.adds in
+    let is : IsReduced new.names new.nodes = make_reduced _ _ c.self.view_is c.self.invariant _ _ _ c.requires.low c.requires.high c.requires.low_later c.requires.high_later
+    c.if-low-high.false _ c.put.ensures.adds in
     elim c.match-checked_add.branch [
       | in-Some w ↦ rw w.result-is (made new is _ _ _ c.in_ok-index.index _ w.in-Some.ensures.1 c.in_ok-index.ensures.stored)
       | in-None w ↦ rw w.result-is tt

@@ -8,7 +8,8 @@ use Rattle.lasso_emptiness.proofs.side.Side.first_of.Goals as goal
 
 pub edges-preserved : goal.edges-preserved
 edges-preserved c =
-    All-more (λ (e : LiveEdge). on_side c.args.self.set c.args.self.neg (marks_of c.args.links.now e) ≡ false) c.args.edges.now c.edges.edge-index _ c.edges-test.true c.edges.invariant (sym c.has_edge.ensures ∙ c.if-has_edge.false)
+    All-more (λ (e : LiveEdge). on_side c.args.self.set c.args.self.neg (marks_of c.args.links.now e) ≡ false) c.args.edges.now c.edges.edge-index _ c.edges-test.true c.edges.invariant
+    (sym c.has_edge.ensures ∙ c.if-has_edge.false)
 
 pub returns : goal.returns
 returns c =

@@ -9,7 +9,16 @@ use Rattle.plan_meaning.proofs.changing.disjunctive.with_disjuncts.Goals as goal
 
 pub from_parts-requires : goal.from_parts-requires
 from_parts-requires c =
-    let new : Core = record { names = c.in_ok-names.names; starts = c.in_ok-starts.starts; states = c.states.result; links = c.in_ok-links.links; sets = c.sets.result; formula = formula_tree c.in_ok-formula.formula; store = c.in_ok-guards.guards } in
+    let new : Core = record {
+      names = c.in_ok-names.names;
+      starts = c.in_ok-starts.starts;
+      states = c.states.result;
+      links = c.in_ok-links.links;
+      sets = c.sets.result;
+      formula =
+          formula_tree c.in_ok-formula.formula;
+      store = c.in_ok-guards.guards;
+    } in
     let are : AreOfTerms c.args.a.now new c.in_ok-terms.terms = record {
       listed = c.in_ok-terms.ensures.list ∙ ap terms c.formula.ensures;
       names = c.in_ok-names.ensures ∙ c.names.ensures;
@@ -24,7 +33,16 @@ from_parts-requires c =
 
 pub returns-clause-accepts : goal.returns-clause-accepts
 returns-clause-accepts c =
-    let new : Core = record { names = c.in_ok-names.names; starts = c.in_ok-starts.starts; states = c.states.result; links = c.in_ok-links.links; sets = c.sets.result; formula = formula_tree c.in_ok-formula.formula; store = c.in_ok-guards.guards } in
+    let new : Core = record {
+      names = c.in_ok-names.names;
+      starts = c.in_ok-starts.starts;
+      states = c.states.result;
+      links = c.in_ok-links.links;
+      sets = c.sets.result;
+      formula =
+          formula_tree c.in_ok-formula.formula;
+      store = c.in_ok-guards.guards;
+    } in
     let are : AreOfTerms c.args.a.now new c.in_ok-terms.terms = record {
       listed = c.in_ok-terms.ensures.list ∙ ap terms c.formula.ensures;
       names = c.in_ok-names.ensures ∙ c.names.ensures;
@@ -35,4 +53,5 @@ returns-clause-accepts c =
       formula = c.in_ok-formula.ensures.tree;
       store = c.in_ok-guards.ensures ∙ c.guards.ensures;
     } in
-    subst (λ (x : Automaton). AcceptTheSame x (automaton_of c.args.a.now)) (sym (ap automaton_of c.in_ok-from_parts.ensures ∙ are_disjunctive c.args.a.now new c.in_ok-terms.terms are)) (disjunctive_accepts (automaton_of c.args.a.now))
+    subst (λ (x : Automaton). AcceptTheSame x (automaton_of c.args.a.now)) (sym (ap automaton_of c.in_ok-from_parts.ensures ∙ are_disjunctive c.args.a.now new c.in_ok-terms.terms are))
+    (disjunctive_accepts (automaton_of c.args.a.now))

@@ -5,4 +5,5 @@ use Rattle.plan_meaning.proofs.changing.shaping.monitored.Goals as goal
 pub returns-clause-steps : goal.returns-clause-steps
 returns-clause-steps c =
     let r = c.in_ok-monitor in
-    monitor_made (automaton_of c.args.a.now) (automaton_of r.field-0) (λ many. let told = r.ensures.passed_terms many in cc) r.ensures.within_states r.ensures.within r.ensures.shape r.ensures.deterministic r.ensures.accepts
+    monitor_made (automaton_of c.args.a.now) (automaton_of r.field-0) (λ many. let told = r.ensures.passed_terms many in cc) r.ensures.within_states r.ensures.within r.ensures.shape
+    r.ensures.deterministic r.ensures.accepts

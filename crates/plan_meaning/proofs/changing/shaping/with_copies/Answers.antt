@@ -8,4 +8,5 @@ returns-clause-steps c =
     copies_made (automaton_of c.args.a.now) (automaton_of r.field-0) c.requires.fin (λ many. let told = r.ensures.passed many in cc) r.ensures.shape r.ensures.accepts
 
 pub returns-clause-size : goal.returns-clause-size
-returns-clause-size c = fin_room (automaton_of c.args.a.now) (automaton_of c.in_ok-copies.field-0) (λ many. let told = c.in_ok-copies.ensures.passed many in cc) c.in_ok-copies.ensures.shape c.requires.size
+returns-clause-size c = fin_room (automaton_of c.args.a.now) (automaton_of c.in_ok-copies.field-0) (λ many. let told = c.in_ok-copies.ensures.passed many in cc) c.in_ok-copies.ensures.shape
+    c.requires.size
