@@ -55,8 +55,17 @@ refuted_within p file ops number is =
     let met = listed p.intersect ++ products in
     let compared = listed p.equivalent_to ++ met in
     let one : length last ≡ 1 = ap (λ o. length (listed o)) is in
-    omega (arith, one, number, length-append (listed p.sum) last, length-append (listed p.product_or) sums, length-append (listed p.product) unions,
-    length-append (listed p.intersect) products, length-append (listed p.equivalent_to) met, length-append (listed p.included_in) compared)
+    omega (
+      arith,
+      one,
+      number,
+      length-append (listed p.sum) last,
+      length-append (listed p.product_or) sums,
+      length-append (listed p.product) unions,
+      length-append (listed p.intersect) products,
+      length-append (listed p.equivalent_to) met,
+      length-append (listed p.included_in) compared,
+    )
 
 -- the operand that automata are refuted against, which is one of those that were read
 record IsRead (p : Plan) (ops : List Automaton) : Type 0 where
@@ -101,7 +110,7 @@ module _ (p : Plan) (file : List ℕ) (output : p.output ≡ Refute file) (on : 
       let never : (text : List ℕ) → SaysOfInclusion a r.operand text → ⊥ = λ text says. none (inl (text, line_is_due limits text says)) in
       let names = joined_names a.names r.operand.names in
       let no_word : (word : Lasso) → Refutes a r.operand word → ⊥ =
-          λ word refutes. never (word_text names word.stem word.cycle ++ codes "\n") (inl (record { word = word; refutes = refutes; shown = refl })) in
+      λ word refutes. never (word_text names word.stem word.cycle ++ codes "\n") (inl (record { word = word; refutes = refutes; shown = refl })) in
       never (codes "included\n") (inr (included a r.operand formed no_word, refl))
 
 pub refuted_is_due : RefutedIsDue

@@ -89,7 +89,7 @@ path_or_not a [] p P test = elim (test [] p) [
 ]
 path_or_not a (x ∷ xs) p P test =
     let begun : (e : TreeEdge) → OrNot (Begins a p x xs P e) =
-        λ e. begins_or_not a p x xs P e (path_or_not a xs e.to (λ es q. P (e ∷ es) q) (λ es q. test (e ∷ es) q)) in
+    λ e. begins_or_not a p x xs P e (path_or_not a xs e.to (λ es q. P (e ∷ es) q) (λ es q. test (e ∷ es) q)) in
     elim (listed_or_not (Begins a p x xs P) begun a.edges) [
       | inl b ↦ inl (record {
         path = b.0 ∷ b.2.rest.path;
