@@ -1,3 +1,4 @@
 pub mod alike
 pub mod existence
+pub mod refuted
 pub mod shown

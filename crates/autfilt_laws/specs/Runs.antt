@@ -28,7 +28,9 @@ use Rattle.hoa_lexer.specs.Blanks.{IsBlanks}
 use Rattle.hoa_parser.specs.Raw.{Written}
 use Rattle.hoa_parser.specs.Standing.{Aborted, Stands}
 use Rattle.hoa_reader.specs.Counts.{PassesNone}
+use Rattle.hoa_reader.specs.Described.{described}
 use Rattle.hoa_reader.specs.Validity.{IsValid}
+use Rattle.plan_meaning.specs.Filters.{IsKept}
 
 -- The texts decided the end: no call failed, memory was not wanting, and not too many bytes were taken.
 abbrev pub IsByText : End → Type 0
@@ -202,10 +204,11 @@ pub record AreGoodOperands (plan : Plan) (taken : List OperandEvent) : Type 0 wh
   pub number : length (operands_of taken) ≡ length (operands plan)
   pub good : AllByRecursion IsGoodOperand taken
 
--- Of each automaton that may be read, with operands that were read, either something is due under the plan or a limit is passed.
+-- Of each automaton that may be read and is kept, with operands that were read, either something is due under the plan or a
+-- limit is passed.
 abbrev pub IsAlwaysDue : Plan → Type 0
 IsAlwaysDue plan =
-    (taken : List OperandEvent) → AreGoodOperands plan taken → (w : Written) → IsValid w → PassesNone w
+    (taken : List OperandEvent) → AreGoodOperands plan taken → (w : Written) → IsValid w → PassesNone w → IsKept plan (operands_of taken) (described w)
     → (((text : List ℕ) × IsDue plan (operands_of taken) w text) ⊎ ((which : Limit) × IsOver which plan (operands_of taken) w) → ⊥) → ⊥
 
 -- Under such a plan there is a run over all texts that together have fewer bytes than may be taken.
@@ -219,6 +222,10 @@ SomeEnd =
 abbrev pub UnchangedIsDue : Type 0
 UnchangedIsDue = (plan : Plan) → changes plan ≡ false → plan.output ≡ Hoa → IsAlwaysDue plan
 
--- and so is each that prints nothing of an automaton.
+-- so is each that prints nothing of an automaton,
 abbrev pub SilentIsDue : Type 0
 SilentIsDue = (plan : Plan) → prints_each plan ≡ false → IsAlwaysDue plan
+
+-- and each that refutes: a word that the automaton accepts and the operand doesn't can be shown, or there is none.
+abbrev pub RefutedIsDue : Type 0
+RefutedIsDue = (plan : Plan) (file : List ℕ) → plan.output ≡ Refute file → IsAlwaysDue plan

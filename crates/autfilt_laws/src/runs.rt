@@ -1,6 +1,6 @@
 //! Laws of runs: there is one, and no other.
 
-ghost use Rattle.autfilt_laws.specs.Runs.{Completes, OneEnd, OneFront, OneOperandFront, SilentIsDue, SomeEnd, UnchangedIsDue};
+ghost use Rattle.autfilt_laws.specs.Runs.{Completes, OneEnd, OneFront, OneOperandFront, RefutedIsDue, SilentIsDue, SomeEnd, UnchangedIsDue};
 
 use crate::places::refusals_are_shown;
 use aut_ops::trimmed_is_determined;
@@ -42,6 +42,7 @@ pub fn some_end()
     ensures end { SomeEnd }
     ensures unchanged { UnchangedIsDue }
     ensures silent { SilentIsDue }
+    ensures refuted { RefutedIsDue }
 {
     some_standing();
     some_verdict();

@@ -87,7 +87,8 @@ both_halted one on a plain p f g x y =
     one_fit a plain x.what f g x.fits (subst (λ (s : Standing). Fits a s g) (sym is) y.fits)
 
 -- what leads on from there has to fit, too
-pub halted_look : OneStanding → (on : Type 0) (a : Asking) (p q : Point) (f : RunFault) (W : List ℕ → Standing) (F : Stream → List ℕ → Point) → Halted on a p f → (b : Look p W F q) → Fits a (W b.next) f
+pub halted_look : OneStanding → (on : Type 0) (a : Asking) (p q : Point) (f : RunFault) (W : List ℕ → Standing) (F : Stream → List ℕ → Point) → Halted on a p f → (b : Look p W F q)
+    → Fits a (W b.next) f
 halted_look one on a p q f W F h b =
     subst (λ (s : Standing). Fits a s f) (one_standing_in one p.stream h.stream b.stream h.what (W b.next) h.is_open b.is_open h.stands b.stands) h.fits
 

@@ -33,7 +33,8 @@ pub one_stream : (o : Option Stream) (s t : Stream) → o ≡ Some s → o ≡ S
 one_stream o s t a b = let same : Some s ≡ Some t = sym a ∙ b in cc
 
 -- what stands in the one open file
-pub one_standing_in : OneStanding → (o : Option Stream) (s t : Stream) (a b : Standing) → o ≡ Some s → o ≡ Some t → Stands a (place s.text s.rest) s.rest → Stands b (place t.text t.rest) t.rest → a ≡ b
+pub one_standing_in : OneStanding → (o : Option Stream) (s t : Stream) (a b : Standing) → o ≡ Some s → o ≡ Some t → Stands a (place s.text s.rest) s.rest
+    → Stands b (place t.text t.rest) t.rest → a ≡ b
 one_standing_in one o s t a b is is' x y =
     let P : Stream → Type 0 = λ z. Stands b (place z.text z.rest) z.rest in
     one (place s.text s.rest) s.rest a b x (subst P (sym (one_stream o s t is is')) y)

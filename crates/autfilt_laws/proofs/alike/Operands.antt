@@ -25,7 +25,8 @@ both_taken p q r w v a b e =
     let same = whole_is w v a.next b.next e in
     (ap Taken same.0, one_point p q r _ _ _ a b same.1)
 
-both_over : (p q r : Point) (name other : List ℕ) → (h : PassesOver name p q) → (k : PassesOver other p r) → standing.Aborted h.reads.next ≡ standing.Aborted k.reads.next → Same (PassedOver name) (PassedOver other) q r
+both_over : (p q r : Point) (name other : List ℕ) → (h : PassesOver name p q) → (k : PassesOver other p r) → standing.Aborted h.reads.next ≡ standing.Aborted k.reads.next
+    → Same (PassedOver name) (PassedOver other) q r
 both_over p q r name other h k e =
     let a = look_over p q name h in
     let b = look_over p r other k in

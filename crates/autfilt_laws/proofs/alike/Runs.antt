@@ -103,7 +103,7 @@ one_streams_end one plain plan texts taken first a b x y s t =
     let e = ends_so plan texts taken first a x s in
     let d = ends_so plan texts taken first b y t in
     let same =
-        same_events one plain plan ops passed over a.events b.events a.events b.events a.end b.end start s.point t.point s.judged t.judged s.happen t.happen e d in
+    same_events one plain plan ops passed over a.events b.events a.events b.events a.end b.end start s.point t.point s.judged t.judged s.happen t.happen e d in
     let there = subst (λ (z : Point). Ends plan ops passed z b.events b.end) (sym same.1) d in
     let ends = alike one plain plan ops passed s.point a.events a.end b.end x y e (ends_like plan ops passed s.point a.events b.events b.end same.0 there) in
     let here = subst (λ (z : Point). EndsAt plan ops b.end b.name z b.left) (sym same.1) t.ends in

@@ -66,14 +66,16 @@ module _ (some : SomeStanding) (shown : AreShown) (texts : Texts) (spare : ℕ) 
           behind next (λ r. none (behind_one (Taken w) p (taken_at p s next) (record { stream = s; is_open = is; next = next; good = h; few = omega (arith, few); to = refl }) r))
       go (OneAborted next h) =
           deeper next (aborted_less (place s.text s.rest) s.rest next h)
-          (λ r. none (behind_one (PassedOver s.name) p (read_on p s next p.kept) (record { reads = record { stream = s; is_open = is; next = next; stands = h; few = omega (arith, few); to = refl }; named = refl }) r))
+          (λ r. none (behind_one (PassedOver s.name) p (read_on p s next p.kept)
+          (record { reads = record { stream = s; is_open = is; next = next; stands = h; few = omega (arith, few); to = refl }; named = refl }) r))
       go (OneRefused h) = none (stopped p s more is few h.fault h.left h.by_text (stops_operand h.fault (place s.text s.rest) s.rest h.left h.stops))
 
   -- what follows the file
   abbrev Behind : List (List ℕ) → ℕ → Type 0
   Behind names more = (q : Point) → q.coming ≡ names → q.stream ≡ None → q.before + more < MOST_BYTES → NotNone (ReadsThere texts spare q)
 
-  in_file : (n : ℕ) (p : Point) (s : Stream) (more : ℕ) → p.stream ≡ Some s → length s.rest ≤ n → p.before + (length s.text + more) < MOST_BYTES → Behind p.coming more → NotNone (ReadsThere texts spare p)
+  in_file : (n : ℕ) (p : Point) (s : Stream) (more : ℕ) → p.stream ≡ Some s → length s.rest ≤ n → p.before + (length s.text + more) < MOST_BYTES → Behind p.coming more
+      → NotNone (ReadsThere texts spare p)
   in_file zero p s more is small few behind =
       at_rest p s more is few (λ next l. absurd (omega (arith, l, small))) (λ next. behind (taken_at p s next) refl refl (omega (arith, few)))
   in_file (suc n) p s more is small few behind =

@@ -51,7 +51,7 @@ pub record Existing (plan : Plan) (ops : List Automaton) : Type 0 where
   pub some : SomeStanding
   pub shown : AreShown
   pub verdict : SomeVerdict
-  pub due : (w : Written) → IsValid w → PassesNone w → NotNone (((text : List ℕ) × IsDue plan ops w text) ⊎ ((which : Limit) × IsOver which plan ops w))
+  pub due : (w : Written) → IsValid w → PassesNone w → IsKept plan ops (described w) → NotNone (((text : List ℕ) × IsDue plan ops w text) ⊎ ((which : Limit) × IsOver which plan ops w))
 
 module _ (plan : Plan) (ops : List Automaton) (on : Existing plan ops) (texts : Texts) where
   done : (p : Point) → IsDone plan p → Reads plan ops texts p
@@ -63,7 +63,8 @@ module _ (plan : Plan) (ops : List Automaton) (on : Existing plan ops) (texts : 
   stopped : (p : Point) (s : Stream) (more : ℕ) → asks_on plan p.kept ≡ true → p.stream ≡ Some s → p.before + (length s.text + more) < MOST_BYTES
       → (f : RunFault) (left : List ℕ) → IsByText (end.Fault f) → StopsAt (λ which w. IsOver which plan ops w) f (place s.text s.rest) s.rest left → Reads plan ops texts p
   stopped p s more asks is few f left by h =
-      let at : AtNamed (asks_on plan p.kept ≡ true) p s.name (Some left) (StopsAt (λ which w. IsOver which plan ops w) f) = record { at = record { asks = asks; stream = s; is_open = is; now = left; told = refl; stands = h }; named = refl } in
+      let at : AtNamed (asks_on plan p.kept ≡ true) p s.name (Some left) (StopsAt (λ which w. IsOver which plan ops w) f) =
+      record { at = record { asks = asks; stream = s; is_open = is; now = left; told = refl; stands = h }; named = refl } in
       let here : IsStopped plan ops p = record {
         fault = f;
         by_text = by;
@@ -96,7 +97,7 @@ module _ (plan : Plan) (ops : List Automaton) (on : Existing plan ops) (texts : 
       due_or_over k (inr o) = none (passed p s more asks is few o.0 w next good o.1)
 
       by_verdict : (v : Verdict) → IsVerdict v plan ops (described w) → ⊥
-      by_verdict verdict.Kept k = on.due w good.valid good.within (due_or_over k)
+      by_verdict verdict.Kept k = on.due w good.valid good.within k (due_or_over k)
       by_verdict verdict.Dropped d =
           deeper p.kept
           (λ r. none (behind_one (Dropped w) p (read_on p s next p.kept) asks d (record { stream = s; is_open = is; next = next; stands = good; few = omega (arith, few); to = refl }) r))
@@ -114,7 +115,8 @@ module _ (plan : Plan) (ops : List Automaton) (on : Existing plan ops) (texts : 
       go (OneGood w next h) = at_good p s more asks is few w next h (λ kept. deeper next kept (whole_less (place s.text s.rest) s.rest w next h.whole)) none
       go (OneAborted next h) =
           deeper next p.kept (aborted_less (place s.text s.rest) s.rest next h)
-          (λ r. none (behind_one (Skipped s.name) p (read_on p s next p.kept) asks tt (record { reads = record { stream = s; is_open = is; next = next; stands = h; few = omega (arith, few); to = refl }; named = refl }) r))
+          (λ r. none (behind_one (Skipped s.name) p (read_on p s next p.kept) asks tt
+          (record { reads = record { stream = s; is_open = is; next = next; stands = h; few = omega (arith, few); to = refl }; named = refl }) r))
       go (OneRefused h) = none (stopped p s more asks is few h.fault h.left h.by_text h.stops)
 
   -- no more is asked for, or more is
@@ -126,7 +128,8 @@ module _ (plan : Plan) (ops : List Automaton) (on : Existing plan ops) (texts : 
   abbrev Behind : List (List ℕ) → ℕ → Type 0
   Behind names more = (q : Point) → q.coming ≡ names → q.stream ≡ None → q.before + more < MOST_BYTES → NotNone (Reads plan ops texts q)
 
-  in_stream : (n : ℕ) (p : Point) (s : Stream) (more : ℕ) → p.stream ≡ Some s → length s.rest ≤ n → p.before + (length s.text + more) < MOST_BYTES → Behind p.coming more → NotNone (Reads plan ops texts p)
+  in_stream : (n : ℕ) (p : Point) (s : Stream) (more : ℕ) → p.stream ≡ Some s → length s.rest ≤ n → p.before + (length s.text + more) < MOST_BYTES → Behind p.coming more
+      → NotNone (Reads plan ops texts p)
   in_stream zero p s more is small few behind =
       asked_or_done p (asks_on plan p.kept) refl
       (λ asks. at_rest p s more asks is few (λ next kept l. absurd (omega (arith, l, small))) (behind (ended_at p s) refl refl (omega (arith, few))))
@@ -145,6 +148,7 @@ module _ (plan : Plan) (ops : List Automaton) (on : Existing plan ops) (texts : 
       let q = opened_at p names name text in
       asked_or_done p (asks_on plan p.kept) refl
       (λ asks stuck.
-      in_stream (length text) q (record { name = name; text = text; rest = text }) (size_of texts names) refl (omega arith) (omega (arith, few, size)) (λ r coming none_open l. in_streams names r coming none_open l)
+      in_stream (length text) q (record { name = name; text = text; rest = text }) (size_of texts names) refl (omega arith) (omega (arith, few, size))
+      (λ r coming none_open l. in_streams names r coming none_open l)
       (λ r. stuck (behind_one (Opened name) p q asks tt (record { closed = closed; others = names; next = is; to = refl }) r)))
       none

@@ -14,7 +14,8 @@ use Rattle.filter_plan.specs.declared.plan.Output.TheVariants.{Hoa, Stats, Refut
 use Rattle.filter_plan.specs.declared.plan.Plan.{Plan}
 use Rattle.hoa_parser.specs.Raw.{Written}
 use Rattle.hoa_reader.specs.Described.{described}
-use Rattle.plan_meaning.specs.Changes.{Change, PassesBuchi, PassesDnf, PassesForm, PassesIn, PassesMonitor, PassesWithoutFin, StopsIn, Product, ProductOr, Sum, RemoveAp, Trim, Complement, Bring, Complete, changes_of}
+use Rattle.plan_meaning.specs.Changes.{Change, PassesBuchi, PassesDnf, PassesForm, PassesIn, PassesMonitor, PassesWithoutFin, StopsIn, Product}
+use Rattle.plan_meaning.specs.Changes.{ProductOr, Sum, RemoveAp, Trim, Complement, Bring, Complete, changes_of}
 use Rattle.plan_meaning.specs.Filters as filter
 use Rattle.plan_meaning.specs.Filters.{Filter, IsOverFilters, Passes}
 use Rattle.plan_meaning.specs.Operands.{refuted_operand}

@@ -45,7 +45,8 @@ passed_by_text limit.Classes h = tt
 passed_by_text limit.Subsets h = tt
 passed_by_text limit.Pairs h = tt
 
-pub passed_stops : (over : Limit → Written → Type 0) (which : Limit) (start : ℕ) (rest left : List ℕ) → IsOfWhole which → StandsWith (λ w. PassesLimit which w ⊎ over which w) start rest left → StopsAt over (fault.Limit which) start rest left
+pub passed_stops : (over : Limit → Written → Type 0) (which : Limit) (start : ℕ) (rest left : List ℕ) → IsOfWhole which → StandsWith (λ w. PassesLimit which w ⊎ over which w) start rest left
+    → StopsAt over (fault.Limit which) start rest left
 passed_stops over limit.Depth start rest left of h = absurd of
 passed_stops over limit.Bytes start rest left of h = absurd of
 passed_stops over limit.Names start rest left of h = h
@@ -63,7 +64,8 @@ passed_stops over limit.Pairs start rest left of h = h
 
 -- ---- where the run stands then
 
-pub stops_where : (on : Type 0) (stops : RunFault → ℕ → List ℕ → List ℕ → Type 0) (f : RunFault) (name : List ℕ) (p : Point) (left : Option (List ℕ)) → IsByText (end.Fault f) → AtNamed on p name left (stops f) → StopsWhere on stops f name p left
+pub stops_where : (on : Type 0) (stops : RunFault → ℕ → List ℕ → List ℕ → Type 0) (f : RunFault) (name : List ℕ) (p : Point) (left : Option (List ℕ)) → IsByText (end.Fault f)
+    → AtNamed on p name left (stops f) → StopsWhere on stops f name p left
 stops_where on stops (fault.SyntaxAt k) name p left by h = h
 stops_where on stops fault.Truncated name p left by h = h
 stops_where on stops (fault.Invalid rule) name p left by h = h
@@ -111,7 +113,8 @@ is_within fault.ReadFault taken by few = absurd by
 is_within fault.WriteFault taken by few = absurd by
 is_within fault.Memory taken by few = absurd by
 
-pub is_counted : (f : RunFault) (p : Point) (s : Stream) (now : List ℕ) (more : ℕ) → IsByText (end.Fault f) → p.stream ≡ Some s → p.before + (length s.text + more) < MOST_BYTES → IsCounted f p (Some now)
+pub is_counted : (f : RunFault) (p : Point) (s : Stream) (now : List ℕ) (more : ℕ) → IsByText (end.Fault f) → p.stream ≡ Some s → p.before + (length s.text + more) < MOST_BYTES
+    → IsCounted f p (Some now)
 is_counted f p s now more by is few =
     let same : taken_of p (Some now) ≡ p.before + place s.text now = ap (λ o. p.before + taken_in o (Some now)) is in
     let less : p.before + place s.text now < MOST_BYTES = omega (arith, few) in

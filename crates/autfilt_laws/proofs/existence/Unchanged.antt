@@ -140,7 +140,7 @@ module _ (p : Plan) (ops : List Automaton) (w : Written) (n : ChangesNothing p) 
   due_where reads hoa true = (canonical_text made (name_due p w), subst (λ (o : Output). IsPrinted o p ops w (canonical_text made (name_due p w))) (sym hoa) (is_canonical reads))
 
 pub unchanged : CanonicalTextReadsBack → UnchangedIsDue
-unchanged reads p same hoa taken good w valid within none = none (inl (due_where p (operands_of taken) w (changes_nothing p same) valid within reads hoa (prints_each p)))
+unchanged reads p same hoa taken good w valid within kept none = none (inl (due_where p (operands_of taken) w (changes_nothing p same) valid within reads hoa (prints_each p)))
 
 pub silent : SilentIsDue
-silent p off taken good w valid within none = none (inl ([], subst (λ (b : Bool). IsDueWhere b p (operands_of taken) w []) (sym off) refl))
+silent p off taken good w valid within kept none = none (inl ([], subst (λ (b : Bool). IsDueWhere b p (operands_of taken) w []) (sym off) refl))

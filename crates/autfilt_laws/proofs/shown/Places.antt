@@ -16,7 +16,8 @@ use Rattle.autfilt_laws.proofs.shown.Ends.{IsClosed, closing}
 use Rattle.autfilt_laws.proofs.shown.NoTokens.{refuses_at}
 
 -- the last byte was asked for, where a token stands next
-asked_for_token : (start : ℕ) (text : List ℕ) (tokens : List Token) (used : ℕ) (rest : List ℕ) (t : Token) (k : ℕ) (after : List ℕ) → IsBegun start text tokens used rest → IsNext rest used t k after → (c : IsClosed t after) → AskedForLast start text c.left
+asked_for_token : (start : ℕ) (text : List ℕ) (tokens : List Token) (used : ℕ) (rest : List ℕ) (t : Token) (k : ℕ) (after : List ℕ) → IsBegun start text tokens used rest
+    → IsNext rest used t k after → (c : IsClosed t after) → AskedForLast start text c.left
 asked_for_token start text tokens used rest t k after begun next c =
     asked_last start text c.left tokens used rest begun
     (last_is_asked_for rest used k t c.held c.left (subst (λ (w : List ℕ). IsNext rest used t k w) c.follows next) c.needed)
@@ -28,7 +29,8 @@ closed_so : (held : Option ℕ) (t : Token) → is_some held ≡ not (closes_its
 closed_so None t e none = true_from_not (closes_itself t) e
 closed_so (Some b) t e none = cc
 
-misplaced_shown : (k start : ℕ) (text : List ℕ) (tokens : List Token) (used : ℕ) (rest : List ℕ) → IsBegun start text tokens used rest → (m : IsMisplaced k tokens used rest) → (c : IsClosed m.next_token m.after) → IsHopeless k start text c.left
+misplaced_shown : (k start : ℕ) (text : List ℕ) (tokens : List Token) (used : ℕ) (rest : List ℕ) → IsBegun start text tokens used rest → (m : IsMisplaced k tokens used rest)
+    → (c : IsClosed m.next_token m.after) → IsHopeless k start text c.left
 misplaced_shown k start text tokens used rest begun m c =
     let z = m.next_token in
     let last = held_bytes c.held in

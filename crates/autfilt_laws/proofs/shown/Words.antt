@@ -64,7 +64,8 @@ alias_named : (first : ℕ) (x : List ℕ) → is_word first ≡ true → IsNoTo
 alias_named first x w n =
     let a = ahead x in
     elim a.stops [
-      | inl e ↦ no_open_token (64 ∷ first ∷ x) n (alias_end [] (first ∷ a.seen) (first ∷ x) (record { seen = first ∷ a.seen; named = refl; words = rw (w, a.words) refl; split = ap (λ v. first ∷ v) (a.split ∙ ap (λ v. a.seen ++ v) e) }))
+      | inl e ↦ no_open_token (64 ∷ first ∷ x) n
+          (alias_end [] (first ∷ a.seen) (first ∷ x) (record { seen = first ∷ a.seen; named = refl; words = rw (w, a.words) refl; split = ap (λ v. first ∷ v) (a.split ∙ ap (λ v. a.seen ++ v) e) }))
       | inr s ↦ not_token (64 ∷ first ∷ x) (Alias (first ∷ a.seen)) a.rest n (record {
         word = 64 ∷ first ∷ a.seen;
         split = ap (λ v. 64 ∷ first ∷ v) a.split;
