@@ -1,4 +1,3 @@
-use Rattle.std.proofs.Common.{sym}
 use Rattle.aut_core.proofs.Growth.{keeps_on}
 use Rattle.letter_classes.proofs.ClassGuards.{few_answer, set_answer}
 use Rattle.letter_classes.proofs.classes.classes_of_set.Goals as goal

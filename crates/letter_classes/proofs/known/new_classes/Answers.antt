@@ -1,4 +1,4 @@
-use Rattle.std.proofs.Common.{◌∙◌, All, List, Some, ap, arith, length, subst, sym}
+use Rattle.std.proofs.Common.{◌∙◌, List, ap, arith, length, subst, sym}
 use Rattle.std.proofs.lemmas.List.Elements.{All-weaker}
 use Rattle.aut_base.proofs.Outcomes.{none_said, some_said}
 use Rattle.label_guards.proofs.ClassLeastLaws.{more_by_leasts}
