@@ -6,4 +6,9 @@ use Rattle.autfilt_laws.proofs.runs.some_end.Goals as goal
 pub returns : goal.returns
 returns c =
     let r = c.refusals_are_shown.ensures in
-    record { end = some_end c.some_standing.ensures (record { bad = r.bad; deep = r.deep; cut = r.cut }) c.some_verdict.ensures; unchanged = unchanged c.canonical_text_reads_back.ensures; silent = silent; refuted = refuted_is_due }
+    record {
+      end = some_end c.some_standing.ensures (record { bad = r.bad; deep = r.deep; cut = r.cut }) c.some_verdict.ensures;
+      unchanged = unchanged c.canonical_text_reads_back.ensures;
+      silent = silent;
+      refuted = refuted_is_due;
+    }
