@@ -1,6 +1,5 @@
 -- Each automaton of a text, whole or abandoned, takes at least one byte.
 use Rattle.std.proofs.Common.{ℕ, ◌+◌, ◌-◌, ◌<◌, ◌≤◌, List, [], ◌∷◌, length, map, ap, arith}
-use Rattle.hoa_lexer.specs.Spelling as spelling
 use Rattle.hoa_lexer.specs.Text.{Lexes}
 use Rattle.hoa_lexer.specs.declared.token.Token.{Token}
 use Rattle.hoa_parser.proofs.standing.DeadEnds.{nothing_unfinished}

@@ -9,7 +9,6 @@ use Rattle.ap_project.specs.Laws.{SayTheSame}
 use Rattle.aut_base.specs.Acceptance.{Accepts}
 use Rattle.aut_base.specs.Automaton.{Automaton, IsWellFormed}
 use Rattle.aut_base.specs.CanonicalLabel.{canonical}
-use Rattle.aut_base.specs.Word.{NameSet}
 use Rattle.aut_base.specs.declared.limit.TheConstants.{MOST_NAMES, MOST_SETS, MOST_STATES}
 use Rattle.autfilt_laws.specs.Runs.{SilentIsDue, UnchangedIsDue}
 use Rattle.autfilt_run.proofs.printing.ReadsAs.{reads_as}
