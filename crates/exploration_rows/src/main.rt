@@ -10,7 +10,6 @@ use aut_base::{Memory, Numbers};
 use doubling::{Doubling, Number};
 use exploration::{Explored, Fault, Limits, explore};
 use rising::Rising;
-use row_files::Fault;
 use std::alloc::Global;
 use std::hash::Hash;
 
@@ -34,7 +33,7 @@ const DOUBLING: [(u32, u32, u32); 6] = [
 /// The limits of things and of classes.
 const RISING: [(u32, u32); 4] = [(2, 6), (1, 6), (2, 5), (9, 99)];
 
-fn main(rt: HostRuntime) -> Result<(), Fault> {
+fn main(rt: HostRuntime) -> Result<(), row_files::Fault> {
     let alloc = rt.alloc();
     for (bound, things, classes) in DOUBLING {
         let mut system = Doubling {
