@@ -1,17 +1,19 @@
 -- What callers see of the sources and sinks in memory.
-use Rattle.std.specs.Prelude.{ℕ, ◌+◌, ◌-◌, ◌/◌, ◌^◌, ◌==◌, Bool, min, Option, None, Some, List, [], take, drop, length}
+use Rattle.std.specs.Prelude.{ℕ, ◌-◌, ◌/◌, ◌==◌, Bool, Option, None, Some, List, [], take, drop, length}
 use Rattle.std.specs.List.{list_any, slice_index_or}
 use Rattle.aut_io.specs.Outside.{Texts}
 
--- the texts of a source, and the rest of the open one
+-- the texts of a source, the rest of the open one, and how many times one was opened, or tried
 pub record TextState : Type 0 where
   pub texts : Texts
   pub left : List ℕ
+  pub openings : ℕ
 
 -- A source in memory: `calls` were made so far, and those with a number in `failing` fail.
 pub record SourceState : Type 0 where
   pub texts : Texts
   pub left : List ℕ
+  pub openings : ℕ
   pub failing : List ℕ
   pub calls : ℕ
   pub open_faults : ℕ
@@ -30,10 +32,6 @@ pub record SinkState : Type 0 where
 abbrev pub rest_of : List (List ℕ) → Option ℕ → ℕ → List ℕ
 rest_of texts None taken = []
 rest_of texts (Some place) taken = drop taken (slice_index_or texts place [])
-
--- a count one higher, which stands still at the last value of a `u64`
-abbrev pub raised : ℕ → ℕ
-raised count = min (count + 1) (2 ^ 64 - 1)
 
 -- whether the call with this number is to fail
 abbrev pub is_listed : List ℕ → ℕ → Bool

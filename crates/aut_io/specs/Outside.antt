@@ -1,12 +1,21 @@
 -- What the outside is told and what it takes.
-use Rattle.std.specs.Prelude.{◌≡◌, ℕ, ◌+◌, ◌-◌, ◌^◌, ◌≤◌, min, List, [], ◌∷◌, ◌++◌, take, Option, Some, None, unwrap_or, Result, Ok, Err}
+use Rattle.std.specs.Prelude.{◌≡◌, ℕ, zero, suc, ◌+◌, ◌-◌, ◌^◌, min, List, [], ◌∷◌, ◌++◌, take, Option, Some, None, unwrap_or, Result, Ok, Err}
 use Rattle.std.specs.Cmp.Lexicographic.{slice_cmp}
 use Rattle.std.specs.Ordering.{nat_cmp}
 use Rattle.std.specs.FinMap.{FinMap, get}
 
--- A count that never falls rose: it is greater after than before, or stands at the last value of a `u64`.
+-- a count one higher, which stands still at the last value of a `u64`
+abbrev pub raised : ℕ → ℕ
+raised count = min (count + 1) (2 ^ 64 - 1)
+
+-- a count that rose so many times
+abbrev pub raised_by : ℕ → ℕ → ℕ
+raised_by zero count = count
+raised_by (suc times) count = raised (raised_by times count)
+
+-- a count rose by one
 abbrev pub Rose : ℕ → ℕ → Type 0
-Rose before after = min (before + 1) (2 ^ 64 - 1) ≤ after
+Rose before after = after ≡ raised before
 
 -- from names to the bytes that stand under them
 abbrev pub Texts : Type 0

@@ -12,15 +12,18 @@ pub record Seen : Type 0 where
   pub texts : Option Texts
   -- the rest of the open text, where the object tells it: empty where nothing is open
   pub left : Option (List ℕ)
+  -- how many times `open` was called
+  pub openings : ℕ
   -- how many calls of `open` failed
   pub open_faults : ℕ
   -- how many calls of `next` failed
   pub read_faults : ℕ
 
--- A text is opened, or none is open. A fault comes only where the count of open faults rose, and want of memory alone
--- leaves it.
+-- A text is opened, or none is open. Each call is counted, once. A fault comes only where the count of open faults rose by
+-- one, and want of memory alone leaves it.
 pub record Opens (old : Seen) (name : List ℕ) (result : Result (Unit {0}) OpenFail) (new : Seen) : Type 0 where
   pub texts : new.texts ≡ old.texts
+  pub counted : Rose old.openings new.openings
   pub opened : OnOk result (Opened old.texts name new.left)
   pub closed : OnErr result (Closed old.texts new.left)
   pub failed : IsErrOf result fail.Failed → Rose old.open_faults new.open_faults
@@ -29,13 +32,14 @@ pub record Opens (old : Seen) (name : List ℕ) (result : Result (Unit {0}) Open
   pub later : old.open_faults ≤ new.open_faults
   pub reads : new.read_faults ≡ old.read_faults
 
--- The next byte is taken. A fault comes only where the count of read faults rose.
+-- The next byte is taken. A fault comes only where the count of read faults rose by one.
 pub record Nexts (old : Seen) (result : Result (Option ℕ) Failed) (new : Seen) : Type 0 where
   pub texts : new.texts ≡ old.texts
   pub takes : Takes old.left new.left result
   pub failed : OnErr result (Rose old.read_faults new.read_faults)
   pub calm : OnOk result (new.read_faults ≡ old.read_faults)
   pub later : old.read_faults ≤ new.read_faults
+  pub openings : new.openings ≡ old.openings
   pub opens : new.open_faults ≡ old.open_faults
 
 -- What a sink tells: all that was written, where the object tells it, and how many writes failed.
@@ -43,7 +47,7 @@ pub record SinkSeen : Type 0 where
   pub written : Option (List ℕ)
   pub faults : ℕ
 
--- A piece is written, or a prefix of it where the write failed. A fault comes only where the count rose.
+-- A piece is written, or a prefix of it where the write failed. A fault comes only where the count rose by one.
 pub record Writes (old : SinkSeen) (piece : List ℕ) (result : Result (Unit {0}) Failed) (new : SinkSeen) : Type 0 where
   pub ok : OnOk result (Gains old.written new.written piece)
   pub err : OnErr result (GainsPrefix old.written new.written piece)
@@ -53,11 +57,11 @@ pub record Writes (old : SinkSeen) (piece : List ℕ) (result : Result (Unit {0}
 
 -- what sources and sinks in memory tell
 abbrev pub seen_of : SourceState → Seen
-seen_of m = record { texts = Some m.texts; left = Some m.left; open_faults = m.open_faults; read_faults = m.read_faults }
+seen_of m = record { texts = Some m.texts; left = Some m.left; openings = m.openings; open_faults = m.open_faults; read_faults = m.read_faults }
 
 -- a source whose calls never fail
 abbrev pub seen_of_sure : TextState → Seen
-seen_of_sure s = record { texts = Some s.texts; left = Some s.left; open_faults = 0; read_faults = 0 }
+seen_of_sure s = record { texts = Some s.texts; left = Some s.left; openings = s.openings; open_faults = 0; read_faults = 0 }
 
 abbrev pub sink_seen_of : SinkState → SinkSeen
 sink_seen_of s = record { written = Some s.written; faults = s.faults }

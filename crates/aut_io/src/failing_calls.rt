@@ -1,7 +1,8 @@
 //! Calls that fail where they are told to.
 
 ghost use Rattle.std.specs.Prelude.{◌≡◌};
-ghost use Rattle.aut_io.specs.InMemory.{is_listed, raised};
+ghost use Rattle.aut_io.specs.InMemory.{is_listed};
+ghost use Rattle.aut_io.specs.Outside.{raised};
 
 use aut_base::Numbers;
 

@@ -8,7 +8,7 @@ use aut_base::{Failed, OpenFail, Text};
 // Why so: 'All that inputs tell is one value, and one relation says what every call of a reader keeps' in docs/DECISIONS.md.
 /// Texts under names, one of which at a time is open and read byte by byte.
 pub trait Inputs {
-    /// All that the object tells: its texts, what is left of the open one, and how many calls failed.
+    /// All that the object tells: its texts, what is left of the open one, how many times one was opened, and how many calls failed.
     ghost seen: { Self → Seen };
 
     /// Which names may be opened, the same for all objects of one type.

@@ -1,5 +1,6 @@
 //! The outside: where texts come from and where they go. A caller learns of a fault only by a count that
-//! rose, so no program over these traits can blame the outside for what is its own.
+//! rose, so no program over these traits can blame the outside for what is its own. Openings are counted too, so none can open a
+//! text once more than it says.
 //!
 //! A caller sees the traits `Inputs` and `Sink`, and sources and sinks in memory. What these tell stands in `specs/Seen`,
 //! and what those in memory do in `specs/InMemory`.

@@ -3,7 +3,8 @@
 ghost use Rattle.std.specs.Prelude.{◌≡◌, ◌||◌, [], not, is_err, length, OnErr, IsErrOf};
 ghost use Rattle.std.specs.FinMap.{contains_key, from_entries};
 ghost use Rattle.std.specs.List.{zip};
-ghost use Rattle.aut_io.specs.InMemory.{is_listed, raised};
+ghost use Rattle.aut_io.specs.InMemory.{is_listed};
+ghost use Rattle.aut_io.specs.Outside.{raised};
 
 use crate::failing_calls::FailingCalls;
 use crate::inputs::Inputs;
@@ -29,14 +30,14 @@ impl Model for MemInputs {
 
     ghost coded = { source_state_code };
 
-    ghost view = { λ m. record { texts = m.store.texts; left = m.store.left; failing = m.calls.listed; calls = m.calls.made; open_faults = m.open_faults; read_faults = m.read_faults } };
+    ghost view = { λ m. record { texts = m.store.texts; left = m.store.left; openings = m.store.openings; failing = m.calls.listed; calls = m.calls.made; open_faults = m.open_faults; read_faults = m.read_faults } };
 }
 
 impl MemInputs {
     /// These texts under these names, nothing open and no call made yet.
     pub fn new(names: Names, texts: Words, failing: Numbers) -> Self
         requires { length texts ≡ length names }
-        ensures { result ≡ record { texts = from_entries (zip names texts); left = []; failing = failing; calls = 0; open_faults = 0; read_faults = 0 } }
+        ensures { result ≡ record { texts = from_entries (zip names texts); left = []; openings = 0; failing = failing; calls = 0; open_faults = 0; read_faults = 0 } }
     {
         MemInputs {
             store: TextStore::new(names, texts),
@@ -60,12 +61,12 @@ impl Inputs for MemInputs {
         ensures kind { OnErr result (IsErrOf result OpenFail.Failed) }
         ensures opens { Opens (seen_of self.old) name.now result (seen_of self.new) }
 
-        // It counts the call, and its own fault by one.
+        // It counts the call.
         ensures counted { self.new.calls ≡ raised self.old.calls }
         ensures failing { self.new.failing ≡ self.old.failing }
-        ensures failed { OnErr result (self.new.open_faults ≡ raised self.old.open_faults) }
     {
-        if self.calls.count() || !self.store.open(name) {
+        let is_there = self.store.open(name);
+        if self.calls.count() || !is_there {
             self.store.close();
             self.open_faults = self.open_faults.saturating_add(1);
             return Err(OpenFail::Failed);
@@ -78,10 +79,9 @@ impl Inputs for MemInputs {
         ensures fails { is_err result ≡ is_listed self.old.failing self.old.calls }
         ensures nexts { Nexts (seen_of self.old) result (seen_of self.new) }
 
-        // It counts the call, and its own fault by one.
+        // It counts the call.
         ensures counted { self.new.calls ≡ raised self.old.calls }
         ensures failing { self.new.failing ≡ self.old.failing }
-        ensures failed { OnErr result (self.new.read_faults ≡ raised self.old.read_faults) }
     {
         if self.calls.count() {
             self.read_faults = self.read_faults.saturating_add(1);

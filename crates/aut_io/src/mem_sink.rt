@@ -1,7 +1,8 @@
 //! A sink in memory that fails where it is told to, and where it is full.
 
 ghost use Rattle.std.specs.Prelude.{◌≡◌, ◌+◌, ◌≤◌, ◌||◌, ◌++◌, [], not, nat_lt, is_err, length, take, if◌then◌else◌, IfOk, OnErr};
-ghost use Rattle.aut_io.specs.InMemory.{half, is_listed, raised, room};
+ghost use Rattle.aut_io.specs.InMemory.{half, is_listed, room};
+ghost use Rattle.aut_io.specs.Outside.{raised};
 
 use crate::failing_calls::FailingCalls;
 use crate::sink::Sink;
@@ -91,11 +92,10 @@ impl Sink for MemSink {
         // All that fits is written, of the piece or, where the call is listed, of its first half.
         ensures kept { self.new.written ≡ self.old.written ++ take (room self.old) (if is_listed self.old.failing self.old.calls then half piece.now else piece.now) }
 
-        // It counts the call, and the fault by one.
+        // It counts the call.
         ensures counted { self.new.calls ≡ raised self.old.calls }
         ensures capacity { self.new.capacity ≡ self.old.capacity }
         ensures failing { self.new.failing ≡ self.old.failing }
-        ensures failed { OnErr result (self.new.faults ≡ raised self.old.faults) }
     {
         if self.calls.count() {
             let _whole = self.keep(&piece[..piece.len() / 2]);

@@ -30,7 +30,7 @@ impl SureInputs {
     /// These texts under these names, nothing open.
     pub fn new(names: Names, texts: Words) -> Self
         requires { length texts ≡ length names }
-        ensures { result ≡ record { texts = from_entries (zip names texts); left = [] } }
+        ensures { result ≡ record { texts = from_entries (zip names texts); left = []; openings = 0 } }
     {
         SureInputs {
             store: TextStore::new(names, texts),

@@ -5,12 +5,13 @@ ghost use Rattle.std.specs.Cmp.Lexicographic.{slice_cmp};
 ghost use Rattle.std.specs.FinMap.{contains_key, find, from_entries};
 ghost use Rattle.std.specs.List.{slice_index_or, zip};
 ghost use Rattle.std.specs.Ordering.{nat_cmp};
-ghost use Rattle.aut_io.specs.Outside.{text_of};
+ghost use Rattle.aut_io.specs.Outside.{raised, text_of};
 
 use aut_base::{Names, Text, Words};
 use std::marker::Model;
 
-/// What the sources in memory stand on. Contracts see the texts, and what is left of the open one.
+/// What the sources in memory stand on. Contracts see the texts, what is left of the open one, and how many times one was opened
+/// or tried.
 #[derive(Debug, Drop)]
 pub(crate) struct TextStore {
     names: Names,
@@ -19,6 +20,7 @@ pub(crate) struct TextStore {
     opened: Option<usize>,
     /// How many bytes of the open text were taken.
     taken: usize,
+    openings: u64,
 }
 
 impl Model for TextStore {
@@ -32,7 +34,7 @@ impl Model for TextStore {
 
     ghost coded = { text_state_code };
 
-    ghost view = { λ s. record { texts = from_entries (zip s.names s.texts); left = rest_of s.texts s.opened s.taken } };
+    ghost view = { λ s. record { texts = from_entries (zip s.names s.texts); left = rest_of s.texts s.opened s.taken; openings = s.openings } };
 
     ghost invariant = { λ s. (length s.texts ≡ length s.names) × IfSome s.opened (λ k. k < length s.texts) };
 }
@@ -41,21 +43,23 @@ impl TextStore {
     /// These texts under these names, none of them open.
     pub(crate) fn new(names: Names, texts: Words) -> Self
         requires { length texts ≡ length names }
-        ensures { result ≡ record { texts = from_entries (zip names texts); left = [] } }
+        ensures { result ≡ record { texts = from_entries (zip names texts); left = []; openings = 0 } }
     {
         TextStore {
             names,
             texts,
             opened: None,
             taken: 0,
+            openings: 0,
         }
     }
 
     /// Opens the text under a name, and answers whether it is there. Where it isn't, nothing is open.
     pub(crate) fn open(&mut self, name: &Text) -> bool
         ensures there { result ≡ contains_key self.old.texts name.now }
-        ensures opened { self.new ≡ record { texts = self.old.texts; left = text_of self.old.texts name.now } }
+        ensures opened { self.new ≡ record { texts = self.old.texts; left = text_of self.old.texts name.now; openings = raised self.old.openings } }
     {
+        self.openings = self.openings.saturating_add(1);
         self.taken = 0;
         self.opened = place_of(self.names.as_slice(), self.texts.as_slice(), name);
         self.opened.is_some()
@@ -63,7 +67,7 @@ impl TextStore {
 
     /// Leaves nothing open.
     pub(crate) fn close(&mut self)
-        ensures { self.new ≡ record { texts = self.old.texts; left = [] } }
+        ensures { self.new ≡ record self.old { left = [] } }
     {
         self.opened = None;
     }
@@ -72,7 +76,7 @@ impl TextStore {
     #[tactic(auto, using(aut_base::proofs::Lists::drop_one_more))]
     pub(crate) fn take(&mut self) -> Option<u8>
         ensures byte { result ≡ slice_get self.old.left 0 }
-        ensures rest { self.new ≡ record { texts = self.old.texts; left = drop 1 self.old.left } }
+        ensures rest { self.new ≡ record self.old { left = drop 1 self.old.left } }
     {
         let Some(place) = self.opened else {
             return None

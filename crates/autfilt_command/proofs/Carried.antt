@@ -15,6 +15,7 @@ use Rattle.autfilt_command.specs.declared.ended.End.TheVariants as end
 use Rattle.autfilt_command.specs.declared.ended.Ended.{Ended}
 use Rattle.autfilt_command.specs.inner.Running.{Carries, FailsPreparing, HasPrepared, IsPrepared}
 use Rattle.autfilt_run.proofs.printing.Gains.{nothing}
+use Rattle.autfilt_run.proofs.turns.Openings.{tried_none}
 use Rattle.autfilt_run.proofs.turns.Stepping.{is_closed}
 use Rattle.autfilt_run.specs.Events.{Event, Point, start_of}
 use Rattle.made_stream.specs.Made.{seen_of_made}
@@ -60,6 +61,7 @@ goes_over plan ready e events name s m t o q k l noting h runs = record {
   number = ap length (sym h.prepared.operands_are) ∙ length-map ready.operands automaton_of ∙ ready.all_read h.stage ∙ ap (λ (x : Plan). length (operands x)) h.prepared.same_plan;
   prepared = λ texts told. stands_behind plan ready s m k l noting texts told h;
   texts = h.prepared.texts;
+  openings = h.prepared.openings;
   runs = runs;
 }
 
@@ -84,7 +86,7 @@ ends_by words result plan ready e s m t o q k l j noting is asks made h c =
 -- a run over the generated stream
 pub ends_made : (words : List (List ℕ)) (result : Ended) (plan : Plan) (ready : Session) (n : ℕ) (e : End) (s m a t : Seen) (o q k l j : SinkSeen) (noting : Bool) → result ≡ ended_of e
     → IsPlan words plan → plan.made ≡ Some n
-    → a ≡ seen_of_made (record { count = n; left = [] }) → IsPrepared plan ready s m k l noting → Carries ready noting e a t o q l j → EndsBy words result s m o q k j
+    → a ≡ seen_of_made (record { count = n; left = []; openings = 0 }) → IsPrepared plan ready s m k l noting → Carries ready noting e a t o q l j → EndsBy words result s m o q k j
 ends_made words result plan ready n e s m a t o q k l j noting is asks made first h c =
     let runs = of_prepared (λ x ops n. Runs x ops n ready.lexer.taken e c.events c.name a t o q) plan ready s m k l noting h.prepared c.runs in
     let own : RunsOverMade n plan (operands_of h.prepared.taken) (length (all_passed h.prepared.taken)) ready.lexer.taken e c.events c.name m m o q = record {
@@ -114,7 +116,7 @@ ends_failed words result plan e s m o k j is asks h = record {
   events = [];
   name = h.name;
   refused = λ r. absurd (r plan asks);
-  runs = λ p a. (plan, asks, inl (record { fault = h.fault; ends = h.ends; no_write = h.no_write; happened = h.happened; none = refl; output = refl }));
+  runs = λ p a. (plan, asks, inl (record { fault = h.fault; ends = h.ends; no_write = h.no_write; happened = h.happened; openings = h.openings; none = refl; output = refl }));
   noted = h.noted;
 }
 
@@ -140,6 +142,7 @@ wanting plan s o = record {
   ends = refl;
   no_write = λ x. cc;
   happened = λ texts told. record { point = start_of (operands plan) s.left 0; read = refl; stops = inl refl; counted = record { few = omega arith; within = tt } };
+  openings = tried_none fault.Memory s s (omega arith) refl;
   none = refl;
   output = refl;
 }

@@ -11,22 +11,24 @@ use Rattle.aut_base.specs.declared.limit.Limit.TheVariants as limit
 use Rattle.aut_base.specs.declared.limit.TheConstants.{MOST_BYTES}
 use Rattle.aut_io.specs.Outside.{Gains, GainsPrefix, Rose, Texts}
 use Rattle.aut_io.specs.Seen.{Seen, SinkSeen}
-use Rattle.autfilt_command.proofs.Running.{asks_at, asks_of, calm_then, gains_as, noted_push, of_fresh}
+use Rattle.autfilt_command.proofs.Running.{asks_at, asks_of, calm_then, gains_as, noted_push, of_fresh, opened_push}
 use Rattle.autfilt_command.proofs.Stepped.{StepsAs, keeps_on, parts_of, still_writes}
 use Rattle.autfilt_command.proofs.Stepping.{happen_push, wants_stream}
 use Rattle.autfilt_command.specs.Ends.{ended_of}
 use Rattle.autfilt_command.specs.Noted.{HasNoted, Notes}
 use Rattle.autfilt_command.specs.Notes.{line_of}
-use Rattle.autfilt_command.specs.Run.{AreCalm, BreaksOff, EndsAt, EndsBecause, EndsByTally, Prints, all_noted, end_of, tally_after}
+use Rattle.autfilt_command.specs.Run.{AreCalm, BreaksOff, EndsAt, EndsBecause, EndsByTally, EndsOpened, Prints, all_noted, end_of, tally_after}
 use Rattle.autfilt_command.specs.declared.ended.End.{End}
 use Rattle.autfilt_command.specs.declared.ended.End.TheVariants as end
 use Rattle.autfilt_command.specs.inner.Running.{Carries, Finishes, FinishesWell, HasRun}
 use Rattle.autfilt_run.proofs.printing.Gains.{both}
+use Rattle.autfilt_run.proofs.turns.Openings.{opened_as, opened_then, tried_behind, tried_none}
 use Rattle.autfilt_run.proofs.turns.Preparing.{calm_limit, taken_few, untold_closed}
 use Rattle.autfilt_run.proofs.turns.Stepping.{closed_counted, is_closed, name_as, reads_on, stops_at, stops_named, stream_counted}
 use Rattle.autfilt_run.proofs.printing.Writing.{rose_from}
-use Rattle.autfilt_run.specs.Events.{Dropped, Ended, Event, IsGood, IsJudged, Kept, Opened, Point, ReadsOn, Skipped, Stream, Tally, all_written, counted, place, read_on, start_of, tally, tally_from}
+use Rattle.autfilt_run.specs.Events.{Dropped, Ended, Event, IsGood, IsJudged, Kept, Opened, Point, ReadsOn, Skipped, Stream, Tally, all_written, counted, opened_stream, opened_streams, place, read_on, start_of, tally, tally_from}
 use Rattle.autfilt_run.specs.Faults.{stop_of_fault}
+use Rattle.autfilt_run.specs.Openings.{AreOpened, AreTried, MayEnd}
 use Rattle.autfilt_run.specs.Over.{IsOver}
 use Rattle.autfilt_run.specs.Plans.{asks_on, count_text, prints_count, prints_each, streams_of}
 use Rattle.autfilt_run.specs.Points.{IsIn, StandsAt, name_in, operands_in}
@@ -72,6 +74,7 @@ record HaltsAt (f : RunFault) (old : Session) (name : List ℕ) (m t : Seen) (p 
   output : q ≡ p
   prints : (plan : Plan) (events : List Event) (a b : Option (List ℕ)) → Gains a b (all_written events) → Prints plan (end.Fault f) events a b
   causes : (s : Seen) (o : SinkSeen) → AreCalm s m o p → EndsBecause (ended_of (end.Fault f)) s t o q
+  tried : AreTried f 0 m t
   texts : t.texts ≡ m.texts
 
 fault_in : {f g : RunFault} → end.Fault f ≡ end.Fault g → f ≡ g
@@ -98,6 +101,7 @@ run_halted f other name fresh old s m t o p q k l j first noting h at closes = r
           numbered = λ is. absurd (other (fault_in is));
         };
     tallied = tt;
+    openings = tried_behind f (length (opened_streams h.events)) s m t h.openings at.tried;
     prints = at.prints fresh.plan h.events o.written q.written (subst (λ (x : SinkSeen). Gains o.written x.written (all_written h.events)) (sym at.output) h.gains);
   };
   noted = closed fresh old s m o p k l j first noting (line_of (end.Fault f) name) h closes;
@@ -140,13 +144,14 @@ named_halts f name old new m t p q steady is stops h at stands = (
 calm_halt : (f : RunFault) (name : List ℕ) (old new : Session) (m t : Seen) (p q : SinkSeen) → StepsAs old new → name ≡ name_in new → t.read_faults ≡ m.read_faults
     → ((at : Point) → AtNamed (Asks old at) at name t.left (StopsAt (over_of old) f) → Stops old.plan (operands_in old) f name at t.left)
     → ((plan : Plan) (events : List Event) (a b : Option (List ℕ)) → Gains a b (all_written events) → Prints plan (end.Fault f) events a b)
-    → ((s : Seen) (o : SinkSeen) → AreCalm s t o q → EndsBecause (ended_of (end.Fault f)) s t o q)
+    → ((s : Seen) (o : SinkSeen) → AreCalm s t o q → EndsBecause (ended_of (end.Fault f)) s t o q) → MayEnd f 0
     → Reads (stop_of_fault f) (StopsAt (over_of old) f old.lexer.since) old new m t p q → HaltsAt f old name m t p q
-calm_halt f name old new m t p q steady is calm stops prints causes h = record {
+calm_halt f name old new m t p q steady is calm stops prints causes may h = record {
   halts = λ texts told at stands. named_halts f name old new m t p q steady is stops h at stands;
   output = h.output;
   prints = prints;
   causes = λ s o before. causes s o (calm_then s m t o p q before (record { opens = h.moves.opens; reads = calm; writes = still_writes p q h.output }));
+  tried = tried_none f m t may h.moves.openings;
   texts = h.moves.texts;
 }
 
@@ -179,6 +184,7 @@ unopened name old new m t p q h same = record {
     h.opens.reads ∙ calm.reads,
     still_writes p q h.output ∙ calm.writes,
   );
+  tried = record { tried = 1; may = refl; opened = h.opens.counted };
   texts = h.opens.texts;
 }
 
@@ -200,6 +206,10 @@ opening_calm : (m t : Seen) (name : List ℕ) → OpensNext m name (Err opening.
 opening_calm m t name (inl same) = record { opens = ap (λ (x : Seen). x.open_faults) same; reads = ap (λ (x : Seen). x.read_faults) same; texts = ap (λ (x : Seen). x.texts) same }
 opening_calm m t name (inr h) = record { opens = h.memory refl; reads = h.reads; texts = h.texts }
 
+opening_tried : (m t : Seen) (name : List ℕ) → OpensNext m name (Err opening.Memory) t → AreTried fault.Memory 0 m t
+opening_tried m t name (inl same) = tried_none fault.Memory m t (omega arith) (ap (λ (x : Seen). x.openings) same)
+opening_tried m t name (inr h) = record { tried = 1; may = omega arith; opened = h.counted }
+
 lacking : (name : List ℕ) (old new : Session) (m t : Seen) (p q : SinkSeen) → StepsAs old new → Fails fault.Memory old new m t p q → HaltsAt fault.Memory old name m t p q
 lacking name old new m t p q steady (inl h) =
     let calm = opening_calm m t h.name h.opens in
@@ -211,6 +221,7 @@ lacking name old new m t p q steady (inl h) =
       output = h.output;
       prints = λ plan events a b g. g;
       causes = λ s o before. calm_then s m t o p q before (record { opens = calm.opens; reads = calm.reads; writes = still_writes p q h.output });
+      tried = opening_tried m t h.name h.opens;
       texts = calm.texts;
     }
 lacking name old new m t p q steady (inr h) = record {
@@ -218,6 +229,7 @@ lacking name old new m t p q steady (inr h) = record {
   output = h.output;
   prints = λ plan events a b g. g;
   causes = λ s o before. calm_then s m t o p q before (record { opens = h.moves.opens; reads = h.moves.reads; writes = still_writes p q h.output });
+  tried = tried_none fault.Memory m t (omega arith) h.moves.openings;
   texts = h.moves.texts;
 }
 
@@ -233,13 +245,14 @@ halted fault.ReadFault name old new m t p q n steady h is = record {
   output = h.output;
   prints = λ plan events a b g. g;
   causes = λ s o before. (h.moves.opens ∙ before.opens, rose_from s.read_faults m.read_faults t.read_faults before.reads h.moves.reads, still_writes p q h.output ∙ before.writes);
+  tried = tried_none fault.ReadFault m t refl h.moves.openings;
   texts = h.moves.texts;
 }
-halted (fault.SyntaxAt k) name old new m t p q n steady h is = calm_halt (fault.SyntaxAt k) name old new m t p q steady is h.moves.reads (λ x s. s) (λ plan events a b g. g) (λ s o calm. calm) h
-halted fault.Truncated name old new m t p q n steady h is = calm_halt fault.Truncated name old new m t p q steady is h.moves.reads (λ x s. s) (λ plan events a b g. g) (λ s o calm. calm) h
-halted (fault.Invalid rule) name old new m t p q n steady h is = calm_halt (fault.Invalid rule) name old new m t p q steady is h.moves.reads (λ x s. s) (λ plan events a b g. g) (λ s o calm. calm) h
+halted (fault.SyntaxAt k) name old new m t p q n steady h is = calm_halt (fault.SyntaxAt k) name old new m t p q steady is h.moves.reads (λ x s. s) (λ plan events a b g. g) (λ s o calm. calm) refl h
+halted fault.Truncated name old new m t p q n steady h is = calm_halt fault.Truncated name old new m t p q steady is h.moves.reads (λ x s. s) (λ plan events a b g. g) (λ s o calm. calm) refl h
+halted (fault.Invalid rule) name old new m t p q n steady h is = calm_halt (fault.Invalid rule) name old new m t p q steady is h.moves.reads (λ x s. s) (λ plan events a b g. g) (λ s o calm. calm) refl h
 halted (fault.Limit which) name old new m t p q n steady h is =
-    calm_halt (fault.Limit which) name old new m t p q steady is (calm_limit which _ _ h.moves.reads) (limit_stops which name old t) (λ plan events a b g. g) (λ s o calm. calm) h
+    calm_halt (fault.Limit which) name old new m t p q steady is (calm_limit which _ _ h.moves.reads) (limit_stops which name old t) (λ plan events a b g. g) (λ s o calm. calm) refl h
 
 -- ---- a write that failed
 
@@ -309,6 +322,9 @@ write_failed fresh old new s m t o p q k l j first noting name steady same h par
               numbered = λ is counts. absurd (never_both fresh.plan counts on);
             };
         tallied = tt;
+        openings = tried_behind fault.WriteFault (length (opened_streams (h.events ++ event ∷ []))) s t t
+            (opened_as _ _ s t (opened_push h.events event) (opened_then (length (opened_streams h.events)) (length (opened_stream event)) s m t h.openings part.moves.openings))
+            (tried_none fault.WriteFault t t refl refl);
         prints = inl (broken_off fresh.plan on h.events part.automaton part.text o.written p.written q.written h.gains part.gains);
       };
       noted = λ sink text before.
@@ -386,9 +402,9 @@ all_read : (e : End) (name : List ℕ) (fresh old : Session) (s m : Seen) (o p q
     → ((events : List Event) → e ≡ end_of (tally_after fresh.skipped events) → EndsByTally e fresh.skipped events)
     → ((at : Point) → IsDone fresh.plan at → m.left ≡ at.left → EndsAt fresh.plan (operands_in fresh) e name at m.left)
     → ((events : List Event) (a b : Option (List ℕ)) → Gains a b (all_written events ++ count_text fresh.plan (tally events).kept) → Prints fresh.plan e events a b)
-    → (AreCalm s m o q → EndsBecause (ended_of e) s m o q) → (e ≢ end.Usage) → FinishesWell e (count_text old.plan old.kept) (record { kept = old.kept; skipped = old.skipped }) p q
+    → (AreCalm s m o q → EndsBecause (ended_of e) s m o q) → ((n : ℕ) → AreOpened n s m → EndsOpened e n s m) → (e ≢ end.Usage) → FinishesWell e (count_text old.plan old.kept) (record { kept = old.kept; skipped = old.skipped }) p q
     → Closes (line_of e name) noting l j → Carries fresh first e s m o q k j
-all_read e name fresh old s m o p q k l j first noting h done tallied ends prints because asked f closes = record {
+all_read e name fresh old s m o p q k l j first noting h done tallied ends prints because opens asked f closes = record {
   events = h.events;
   name = name;
   runs = record {
@@ -402,6 +418,7 @@ all_read e name fresh old s m o p q k l j first noting h done tallied ends print
           numbered = λ is counts. subst (λ (x : Plan). IsDone x r.point) h.same_plan (done_at old m r.point r.stands done);
         };
     tallied = tallied h.events (f.end ∙ ap end_of (sym h.tallied));
+    openings = opens (length (opened_streams h.events)) h.openings;
     prints = prints h.events o.written q.written
         (both o.written p.written q.written (all_written h.events) (count_text fresh.plan (tally h.events).kept) h.gains
         (gains_as p.written q.written _ _ (count_of fresh old h.events h.same_plan h.tallied) f.gains));
@@ -440,6 +457,7 @@ count_failed name fresh old s m o p q k l j first noting h done counts gains ros
                   λ is on. subst (λ (x : Plan). IsDone x r.point) h.same_plan (done_at old m r.point r.stands done);
             };
         tallied = tt;
+        openings = tried_behind fault.WriteFault (length (opened_streams h.events)) s m m h.openings (tried_none fault.WriteFault m m refl refl);
         prints = inr (record { prints = subst (λ (x : Plan). prints_count x ≡ true) h.same_plan counts; part = part.0; gains = part.1 });
       };
       noted = closed fresh old s m o p k l j first noting (line_of (end.Fault fault.WriteFault) name) h closes;
@@ -456,9 +474,9 @@ finished e name fresh old s m o p q k l j first noting h done due (inl f) closes
     → Carries fresh first x s m o q k j in
     subst C (sym f.end)
     (end_is C
-    (λ g n. all_read end.Output name fresh old s m o p q k l j first noting h done (λ events x. x) (λ at d x. (d, x)) (λ events a b x. x) (λ x. x) (λ x. cc) g n)
-    (λ g n. all_read end.NoneOutput name fresh old s m o p q k l j first noting h done (λ events x. x) (λ at d x. (d, x)) (λ events a b x. x) (λ x. x) (λ x. cc) g n)
-    (λ g n. all_read end.Aborts name fresh old s m o p q k l j first noting h done (λ events x. x) (λ at d x. (d, x)) (λ events a b x. x) (λ x. x) (λ x. cc) g n)
+    (λ g n. all_read end.Output name fresh old s m o p q k l j first noting h done (λ events x. x) (λ at d x. (d, x)) (λ events a b x. x) (λ x. x) (λ n x. x) (λ x. cc) g n)
+    (λ g n. all_read end.NoneOutput name fresh old s m o p q k l j first noting h done (λ events x. x) (λ at d x. (d, x)) (λ events a b x. x) (λ x. x) (λ n x. x) (λ x. cc) g n)
+    (λ g n. all_read end.Aborts name fresh old s m o p q k l j first noting h done (λ events x. x) (λ at d x. (d, x)) (λ events a b x. x) (λ x. x) (λ n x. x) (λ x. cc) g n)
     (old.skipped == 0) (old.kept == 0)) f closes
 finished e name fresh old s m o p q k l j first noting h done due (inr f) closes =
     let C : End → Type 0 = λ x. Closes (line_of x name) noting l j → Carries fresh first x s m o q k j in

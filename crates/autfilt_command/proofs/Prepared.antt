@@ -15,9 +15,10 @@ use Rattle.autfilt_command.specs.declared.ended.End.{End}
 use Rattle.autfilt_command.specs.declared.ended.End.TheVariants as end
 use Rattle.autfilt_command.specs.inner.Running.{FailsPreparing, HasPrepared, IsNew, IsPrepared}
 use Rattle.autfilt_run.proofs.printing.Gains.{nothing}
+use Rattle.autfilt_run.proofs.turns.Openings.{opened_as, opened_then, tried_as, tried_then}
 use Rattle.autfilt_run.proofs.turns.Preparing.{counts_then, passed_push}
 use Rattle.autfilt_run.specs.Events.{Point, start_of}
-use Rattle.autfilt_run.specs.Operands.{AreRead, OperandEvent, PassedOver, all_passed, operand_of, operands_of, passed_of}
+use Rattle.autfilt_run.specs.Operands.{AreRead, OperandEvent, PassedOver, all_passed, opened_file, opened_files, operand_of, operands_of, passed_of}
 use Rattle.autfilt_run.specs.Points.{StandsIn, name_in, open_count}
 use Rattle.autfilt_run.specs.Preparing.{FailsToPrepare, HasRead, HasSkipped, IsReady}
 use Rattle.autfilt_run.specs.declared.fault.RunFault.{RunFault}
@@ -32,6 +33,9 @@ use Rattle.filter_plan.specs.declared.plan.Plan.{Plan}
 are_read_then : (texts : Texts) (before more : List OperandEvent) (p m q : Point) → AreRead texts before p m → AreRead texts more m q → AreRead texts (before ++ more) p q
 are_read_then texts [] more p m q h then = subst (λ (x : Point). AreRead texts more x q) (sym h) then
 are_read_then texts (e ∷ es) more p m q h then = (h.0, h.1, are_read_then texts es more h.0 m q h.2 then)
+
+opened_files_then : (before more : List OperandEvent) → length (opened_files before) + length (opened_files more) ≡ length (opened_files (before ++ more))
+opened_files_then before more = sym (length-append (opened_files before) (opened_files more)) ∙ ap length (sym (flat_map-append opened_file before more))
 
 passed_then : (before more : List OperandEvent) → all_passed (before ++ more) ≡ all_passed before ++ all_passed more
 passed_then before more = flat_map-append passed_of before more
@@ -81,6 +85,7 @@ prepared_none s seen k is = record {
   skipped = is.skipped;
   happened = λ texts told. (start_of (operands s.plan) seen.left 0, refl, starts_in s seen is);
   noted = (nothing k.written, refl);
+  openings = refl;
   calm = record { opens = refl; reads = refl };
   texts = refl;
   opened = is.opened;
@@ -101,6 +106,7 @@ more events plan old new s m t k l j noting noting' h keeps read skipped noted =
       let b = read.happened texts (h.texts ∙ told) a.0 a.2 in
       (b.0, are_read_then texts h.taken events (start_of (operands plan) s.left 0) a.0 b.0 a.1 b.1, b.2);
   noted = noted;
+  openings = opened_as _ _ s t (opened_files_then h.taken events) (opened_then (length (opened_files h.taken)) (length (opened_files events)) s m t h.openings read.openings);
   calm = record { opens = read.opens ∙ h.calm.opens; reads = read.reads ∙ h.calm.reads };
   texts = read.texts ∙ h.texts;
   opened = keeps.opened ∙ h.opened;
@@ -149,4 +155,5 @@ prepared_fails f e plan old new s m t k l j noting is h failed closes = record {
   noted = subst (λ (x : End). Notes (passed_noted (all_passed (h.taken ++ failed.events)) ++ line_of x (name_in new)) k j) (sym is)
       (subst (λ (x : List ℕ). Notes (x ++ line_of (end.Fault f) (name_in new)) k j) (sym (noted_none h.taken failed.events failed.passed)) (closes k (passed_noted (all_passed h.taken)) h.noted));
   counts = counts_then f s m t h.calm.opens h.calm.reads failed.counts;
+  openings = tried_as f _ _ s t (opened_files_then h.taken failed.events) (tried_then f (length (opened_files h.taken)) (length (opened_files failed.events)) s m t h.openings failed.openings);
 }

@@ -11,9 +11,10 @@ use Rattle.autfilt_command.specs.declared.ended.End.{End}
 use Rattle.autfilt_command.specs.declared.ended.End.TheVariants as end
 use Rattle.autfilt_command.specs.declared.ended.Ended.{Ended}
 use Rattle.autfilt_command.specs.declared.ended.Ended.TheVariants as ended
-use Rattle.autfilt_run.specs.Events.{AreJudged, Event, Happen, Kept, Point, Skipped, Tally, all_written, start_of, tally, tally_from}
+use Rattle.autfilt_run.specs.Events.{AreJudged, Event, Happen, Kept, Point, Skipped, Tally, all_written, opened_streams, start_of, tally, tally_from}
 use Rattle.made_stream.specs.Made.{seen_of_made}
-use Rattle.autfilt_run.specs.Operands.{AreRead, OperandEvent, all_passed, operands_of}
+use Rattle.autfilt_run.specs.Openings.{AreOpened, AreTried}
+use Rattle.autfilt_run.specs.Operands.{AreRead, OperandEvent, all_passed, opened_files, operands_of}
 use Rattle.autfilt_run.specs.Plans.{count_text, prints_count, prints_each, streams_of}
 use Rattle.autfilt_run.specs.Runs.{IsCounted, IsDone, Stops, StopsInOperands}
 use Rattle.autfilt_run.specs.declared.fault.RunFault.{RunFault}
@@ -57,6 +58,14 @@ abbrev pub EndsAt : Plan → List Automaton → End → List ℕ → Point → O
 EndsAt plan ops (end.Fault f) name p left = Stops plan ops f name p left × IsCounted f p left
 EndsAt plan ops end.Usage name p left = ⊥
 EndsAt plan ops e name p left = IsDone plan p × (left ≡ p.left)
+
+-- Each of so many streams was opened once, and maybe one more was tried, where that ended the run.
+abbrev pub EndsOpened : End → ℕ → Seen → Seen → Type 0
+EndsOpened (end.Fault f) count seen seen' = AreTried f count seen seen'
+EndsOpened end.Usage count seen seen' = ⊥
+EndsOpened end.Output count seen seen' = AreOpened count seen seen'
+EndsOpened end.NoneOutput count seen seen' = AreOpened count seen seen'
+EndsOpened end.Aborts count seen seen' = AreOpened count seen seen'
 
 -- The events happened over these texts, from this point on, and the run ended so.
 pub record RunsTo (plan : Plan) (ops : List Automaton) (texts : Texts) (first : Point) (left' : Option (List ℕ)) (events : List Event) (e : End) (name : List ℕ) : Type 0 where
@@ -112,13 +121,14 @@ pub record Runs (plan : Plan) (ops : List Automaton) (passed before : ℕ) (e : 
   -- the events happened, and what stands behind them ended the run, where the inputs tell their texts
   pub happened : (texts : Texts) → seen.texts ≡ Some texts → RunsTo plan ops texts (start_of (streams_of plan) seen.left before) seen'.left events e name
   pub tallied : EndsByTally e passed events
+  pub openings : EndsOpened e (length (opened_streams events)) seen seen'
   pub prints : Prints plan e events out.written out'.written
 
 -- The run over the generated stream, which leaves the inputs as they were.
 pub record RunsOverMade (n : ℕ) (plan : Plan) (ops : List Automaton) (passed before : ℕ) (e : End) (events : List Event) (name : List ℕ) (seen seen' : Seen) (out out' : SinkSeen) : Type 0 where
   pub untouched : seen' ≡ seen
   pub made : Seen
-  pub runs : Runs plan ops passed before e events name (seen_of_made (record { count = n; left = [] })) made out out'
+  pub runs : Runs plan ops passed before e events name (seen_of_made (record { count = n; left = []; openings = 0 })) made out out'
 
 -- the run over the streams of the inputs, or over the generated one
 abbrev pub RunsOverAs : Option ℕ → Plan → List Automaton → ℕ → ℕ → End → List Event → List ℕ → Seen → Seen → SinkSeen → SinkSeen → Type 0
@@ -133,6 +143,7 @@ pub record GoesOverAll (plan : Plan) (e : End) (taken : List OperandEvent) (even
   pub number : length (operands_of taken) ≡ length (operands plan)
   pub prepared : (texts : Texts) → seen.texts ≡ Some texts → (p : Point) × AreAllRead plan texts seen.left taken p × (p.left ≡ mid.left) × (p.before ≡ before)
   pub texts : mid.texts ≡ seen.texts
+  pub openings : AreOpened (length (opened_files taken)) seen mid
   pub runs : RunsOverAs plan.made plan (operands_of taken) (length (all_passed taken)) before e events name mid seen' out out'
 
 -- A fault ended the run while operands were read. Nothing was written.
@@ -141,6 +152,7 @@ pub record FailsInOperands (plan : Plan) (e : End) (taken : List OperandEvent) (
   pub ends : e ≡ end.Fault fault
   pub no_write : fault ≢ run.WriteFault
   pub happened : (texts : Texts) → seen.texts ≡ Some texts → EndsInOperands plan texts seen.left seen'.left taken fault name
+  pub openings : AreTried fault (length (opened_files taken)) seen seen'
   pub none : events ≡ []
   pub output : out' ≡ out
 

@@ -1,6 +1,7 @@
 -- Calls of a session, as what happens in a run.
 pub mod Alike
 pub mod Files
+pub mod Openings
 pub mod OperandTurning
 pub mod Preparing
 pub mod Reading

@@ -146,6 +146,17 @@ written_of _ = []
 abbrev pub all_written : List Event → List ℕ
 all_written = flat_map written_of
 
+-- the names of the streams that were opened
+abbrev pub opened_stream : Event → List (List ℕ)
+opened_stream (Opened name) = name ∷ []
+opened_stream (Kept w text) = []
+opened_stream (Dropped w) = []
+opened_stream (Skipped name) = []
+opened_stream Ended = []
+
+abbrev pub opened_streams : List Event → List (List ℕ)
+opened_streams = flat_map opened_stream
+
 -- how many automata were kept, and how many were skipped
 pub record Tally : Type 0 where
   pub kept : ℕ

@@ -2,6 +2,7 @@ pub mod Due
 pub mod Events
 pub mod Faults
 pub mod Figures
+pub mod Openings
 pub mod Operands
 pub mod Over
 pub mod Plans

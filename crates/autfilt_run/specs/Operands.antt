@@ -49,6 +49,15 @@ operand_of _ = []
 abbrev pub operands_of : List OperandEvent → List Automaton
 operands_of = flat_map operand_of
 
+-- the names of the files that were opened
+abbrev pub opened_file : OperandEvent → List (List ℕ)
+opened_file (FileOpened name) = name ∷ []
+opened_file (Taken w) = []
+opened_file (PassedOver name) = []
+
+abbrev pub opened_files : List OperandEvent → List (List ℕ)
+opened_files = flat_map opened_file
+
 -- the names of the files whose abandoned automata were passed over
 abbrev pub passed_of : OperandEvent → List (List ℕ)
 passed_of (PassedOver name) = name ∷ []

@@ -3,7 +3,8 @@ use Rattle.std.specs.Prelude.{◌≡◌, ◌≢◌, ◌+◌, ◌<◌, true, List
 use Rattle.aut_io.specs.Outside.{Rose, Texts}
 use Rattle.aut_io.specs.Seen.{Seen}
 use Rattle.autfilt_run.specs.Events.{Point}
-use Rattle.autfilt_run.specs.Operands.{AreRead, OperandEvent, PassedOver, all_passed, operands_of}
+use Rattle.autfilt_run.specs.Openings.{AreOpened, AreTried}
+use Rattle.autfilt_run.specs.Operands.{AreRead, OperandEvent, PassedOver, all_passed, opened_files, operands_of}
 use Rattle.autfilt_run.specs.Points.{StandsIn, name_in, operands_in}
 use Rattle.autfilt_run.specs.Runs.{IsCounted, StopsInOperands}
 use Rattle.autfilt_run.specs.declared.fault.RunFault.{RunFault}
@@ -13,11 +14,12 @@ use Rattle.autfilt_run.specs.declared.session.Prep.TheVariants.{Ready, Skipped}
 use Rattle.autfilt_run.specs.declared.session.Session.{Session}
 use Rattle.filter_plan.specs.Words.{operands}
 
--- The events happened, and no count of faults rose.
+-- The events happened, each file was opened once, and no count of faults rose.
 pub record HasRead (events : List OperandEvent) (old new : Session) (seen seen' : Seen) : Type 0 where
   pub operands : operands_in new ≡ operands_in old ++ operands_of events
   -- where the inputs tell their texts
   pub happened : (texts : Texts) → seen.texts ≡ Some texts → (p : Point) → StandsIn old seen.left p → (q : Point) × AreRead texts events p q × StandsIn new seen'.left q
+  pub openings : AreOpened (length (opened_files events)) seen seen'
   pub opens : seen'.open_faults ≡ seen.open_faults
   pub reads : seen'.read_faults ≡ seen.read_faults
   pub texts : seen'.texts ≡ seen.texts
@@ -55,6 +57,7 @@ pub record FailsToPrepare (f : RunFault) (old new : Session) (seen seen' : Seen)
   pub skipped : new.skipped ≡ old.skipped
   pub no_write : f ≢ fault.WriteFault
   pub counts : CountsAt f seen seen'
+  pub openings : AreTried f (length (opened_files events)) seen seen'
 
 abbrev pub Prepares : Result Prep RunFault → Session → Session → Seen → Seen → Type 0
 Prepares (Ok Ready) = IsReady

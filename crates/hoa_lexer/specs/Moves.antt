@@ -18,7 +18,7 @@ pub data Stop : Type 0 where
   -- anywhere else
   Elsewhere : Stop
 
--- The count of read faults rises where a read failed, and stays elsewhere.
+-- The count of read faults rises by one where a read failed, and stays elsewhere.
 abbrev pub CountsReads : Stop → ℕ → ℕ → Type 0
 CountsReads AtFault before after = Rose before after
 CountsReads _ before after = after ≡ before
@@ -41,6 +41,7 @@ pub record Moves (stop : Stop) (old new : Lexer) (seen seen' : Seen) : Type 0 wh
   -- the outside
   pub reads : CountsReads stop seen.read_faults seen'.read_faults
   pub reads_later : seen.read_faults ≤ seen'.read_faults
+  pub openings : seen'.openings ≡ seen.openings
   pub opens : seen'.open_faults ≡ seen.open_faults
   pub texts : seen'.texts ≡ seen.texts
 

@@ -42,11 +42,12 @@ made_name = codes "made"
 abbrev pub made_texts : ℕ → Texts
 made_texts count = from_entries ((made_name, made_text count) ∷ [])
 
--- what callers see: how many automata the text has, and the rest of the open text
+-- what callers see: how many automata the text has, the rest of the open text, and how many times one was opened
 pub record MadeState : Type 0 where
   pub count : ℕ
   pub left : List ℕ
+  pub openings : ℕ
 
 -- what the generated text tells: its calls never fail
 abbrev pub seen_of_made : MadeState → Seen
-seen_of_made m = record { texts = Some (made_texts m.count); left = Some m.left; open_faults = 0; read_faults = 0 }
+seen_of_made m = record { texts = Some (made_texts m.count); left = Some m.left; openings = m.openings; open_faults = 0; read_faults = 0 }

@@ -22,6 +22,7 @@ pub struct Made {
     count: u32,
     /// The place of the next byte, where one is left.
     place: Option<Place>,
+    openings: u64,
 }
 
 impl Model for Made {
@@ -33,7 +34,7 @@ impl Model for Made {
 
     ghost use Rattle.made_stream.specs.inner.Left.{left_at};
 
-    ghost view = { λ m. record { count = m.count; left = left_at m.count m.place } };
+    ghost view = { λ m. record { count = m.count; left = left_at m.count m.place; openings = m.openings } };
 
     ghost invariant = { λ m. (1 ≤ m.count) × (m.count ≤ MOST_MADE) };
 }
@@ -43,15 +44,19 @@ impl Made {
     pub fn new(count: u32) -> Self
         requires some { 1 ≤ count }
         requires few { count ≤ MOST_MADE }
-        ensures { result ≡ record { count = count; left = [] } }
+        ensures { result ≡ record { count = count; left = []; openings = 0 } }
     {
-        Made { count, place: None }
+        Made {
+            count,
+            place: None,
+            openings: 0,
+        }
     }
 
     /// Takes the next byte, if any is left.
     fn take(&mut self) -> Option<u8>
         ensures byte { result ≡ slice_get self.old.left 0 }
-        ensures rest { self.new ≡ record { count = self.old.count; left = drop 1 self.old.left } }
+        ensures rest { self.new ≡ record self.old { left = drop 1 self.old.left } }
     {
         let Some(place) = self.place else { return None };
         self.place = place.next(self.count);
@@ -71,6 +76,7 @@ impl Inputs for Made {
         ensures ok { IsOk result }
         ensures opens { Opens (seen_of_made self.old) name.now result (seen_of_made self.new) }
     {
+        self.openings = self.openings.saturating_add(1);
         self.place = if name.is(b"made") {
             Some(Place::first(1))
         } else {

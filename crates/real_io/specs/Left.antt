@@ -8,7 +8,7 @@ use Rattle.real_io.specs.declared.inputs.RealInputs.{RealInputs}
 
 -- Of all texts they tell only how many calls failed.
 abbrev pub seen_of : {R O F : Type 0} → RealInputs R O F → Seen
-seen_of s = record { texts = None; left = None; open_faults = s.open_faults; read_faults = s.read_faults }
+seen_of s = record { texts = None; left = None; openings = s.openings; open_faults = s.open_faults; read_faults = s.read_faults }
 
 -- the bytes of the block that are standard input's: while a file is open, they are the file's
 abbrev pub of_standard : {F : Type 0} → Origin F → List ℕ → List ℕ

@@ -1,12 +1,13 @@
 //! Bytes of a reader, which are read by blocks.
 
-ghost use Rattle.std.specs.Prelude.{◌≡◌, ◌≤◌, ◌<◌, ◌∷◌, [], None, length, IfOk, OnErr, OnOk};
+ghost use Rattle.std.specs.Prelude.{◌≡◌, ◌≢◌, ◌≤◌, ◌<◌, ◌∷◌, [], None, length, IfErr, IfOk, OnErr, OnOk};
+ghost use Rattle.std.specs.IoError.{error_kind};
 ghost use Rattle.std.specs.Io.KnownBytes.{Consumes, IsAtEnd, Keeps, prepend_known};
 ghost use Rattle.real_io.specs.Unread.{GivesFirst, held};
 
 use aut_base::{Failed, Memory};
 use std::alloc::Global;
-use std::io::{ErrorKind, Read};
+use std::io::{self, ErrorKind, Read};
 use std::marker::Model;
 
 /// How many bytes are read at once.
@@ -92,30 +93,37 @@ impl Block {
     {
         self.place = 0;
         self.end = 0;
-        self.end = read_block(reader, &mut self.bytes)?;
-        Ok(())
+        match read_block(reader, &mut self.bytes) {
+            Ok(count) => {
+                self.end = count;
+                Ok(())
+            }
+            Err(_) => Err(Failed),
+        }
     }
 }
 
-/// Reads into the block, once more where a signal came between, and answers how many bytes were read.
+/// Reads into the block, once more where a signal came between, and answers how many bytes were read. The turns are counted so
+/// that the loop is proved to end.
 #[cold]
-fn read_block<R: Read>(reader: &mut R, block: &mut [u8]) -> Result<usize, Failed>
+fn read_block<R: Read>(reader: &mut R, block: &mut [u8]) -> io::Result<usize>
     requires { 0 < length block.old }
     ensures size { length block.new ≡ length block.old }
     ensures within { IfOk result (λ count. count ≤ length block.new) }
     ensures takes { IfOk result (λ count. Consumes (R.remaining reader.old) (R.remaining reader.new) (held block.new 0 count)) }
     ensures end { IfOk result (λ count. count ≡ 0 → IsAtEnd (R.remaining reader.new)) }
     ensures keeps { OnErr result (Keeps (R.remaining reader.old) (R.remaining reader.new)) }
+    ensures retried { IfErr result (λ error. error_kind error ≢ ErrorKind.Interrupted) }
 {
     'tries: for _ in 0..u64::MAX {
         match reader.read(block) {
             Ok(count) => return Ok(count),
             Err(error) => {
                 if error.kind() != ErrorKind::Interrupted {
-                    return Err(Failed);
+                    return Err(error);
                 }
             }
         }
     }
-    Err(Failed)
+    Err(io::Error::from(ErrorKind::TimedOut))
 }

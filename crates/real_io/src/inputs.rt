@@ -33,6 +33,7 @@ pub struct RealInputs<R, O: Opener> {
     /// Bytes of the open file, or of standard input where no file is open: what was read of it and not given stays,
     /// since the system gives each byte once.
     block: Block,
+    openings: u64,
     open_faults: u64,
     read_faults: u64,
 }
@@ -40,7 +41,7 @@ pub struct RealInputs<R, O: Opener> {
 impl<R: Read + Drop, O: Opener + Drop> RealInputs<R, O> {
     /// Takes room for one block.
     pub fn new(alloc: Global, standard: R, opener: O) -> Result<Self, Memory>
-        ensures counts { IfOk result (λ inputs. (inputs.open_faults ≡ 0) × (inputs.read_faults ≡ 0)) }
+        ensures counts { IfOk result (λ inputs. (inputs.openings ≡ 0) × (inputs.open_faults ≡ 0) × (inputs.read_faults ≡ 0)) }
         ensures standard { IfOk result (λ inputs. (inputs.standard ≡ standard) × (inputs.block ≡ [])) }
         ensures opener { IfOk result (λ inputs. inputs.opener ≡ opener) }
         ensures closed { IfOk result (λ inputs. inputs.origin ≡ Origin.Nothing) }
@@ -50,6 +51,7 @@ impl<R: Read + Drop, O: Opener + Drop> RealInputs<R, O> {
             opener,
             origin: Origin::Nothing,
             block: Block::new(alloc)?,
+            openings: 0,
             open_faults: 0,
             read_faults: 0,
         })
@@ -73,6 +75,7 @@ impl<R: Read + Drop, O: Opener + Drop> Inputs for RealInputs<R, O> {
         ensures block { self.new.block ≡ of_standard self.new.origin (of_standard self.old.origin self.old.block) }
         ensures kept { (self.new.standard ≡ self.old.standard) × (self.new.opener ≡ self.old.opener) }
     {
+        self.openings = self.openings.saturating_add(1);
         if let Origin::File(_) = &self.origin {
             self.block.clear();
         }

@@ -1,13 +1,14 @@
 //! A sink over a writer.
 
-ghost use Rattle.std.specs.Prelude.{◌≡◌, ◌≤◌, None, OnErr, OnOk, length, take};
+ghost use Rattle.std.specs.Prelude.{◌≡◌, ◌≢◌, ◌≤◌, IfErr, None, OnErr, OnOk, length, take};
+ghost use Rattle.std.specs.IoError.{error_kind};
 ghost use Rattle.std.specs.Io.KnownBytes.{Appends};
 ghost use Rattle.aut_io.specs.Seen.{Writes};
 ghost use Rattle.real_io.specs.Sent.{AppendsFront};
 
 use aut_base::Failed;
 use aut_io::Sink;
-use std::io::{ErrorKind, Write};
+use std::io::{self, ErrorKind, Write};
 
 /// Writes each piece at once, by as many calls of the system as it takes.
 #[derive(Drop)]
@@ -38,20 +39,22 @@ impl<W: Write> Sink for RealSink<W> {
     {
         match send(&mut self.writer, piece) {
             (_, Ok(())) => Ok(()),
-            (_, Err(fault)) => {
+            (_, Err(_)) => {
                 self.faults = self.faults.saturating_add(1);
-                Err(fault)
+                Err(Failed)
             }
         }
     }
 }
 
 /// Writes the bytes by as many calls as it takes, once more where a signal came between, and answers how many the writer took.
-/// A writer that takes none of them has failed, as for std's `write_all`, which doesn't say what it took before it failed.
-fn send<W: Write>(writer: &mut W, bytes: &[u8]) -> (usize, Result<(), Failed>)
+/// A writer that takes none of them has failed, as for std's `write_all`, which doesn't say what it took before it failed. The
+/// turns are counted so that the loop is proved to end.
+fn send<W: Write>(writer: &mut W, bytes: &[u8]) -> (usize, io::Result<()>)
     ensures bound { result.0 ≤ length bytes.now }
     ensures taken { Appends (W.contents writer.old) (W.contents writer.new) (take result.0 bytes.now) }
     ensures all { OnOk result.1 (result.0 ≡ length bytes.now) }
+    ensures retried { IfErr result.1 (λ error. error_kind error ≢ ErrorKind.Interrupted) }
 {
     let mut sent = 0;
     'writes: for _ in 0..u64::MAX {
@@ -59,14 +62,14 @@ fn send<W: Write>(writer: &mut W, bytes: &[u8]) -> (usize, Result<(), Failed>)
             return (sent, Ok(()));
         }
         match writer.write(&bytes[sent..]) {
-            Ok(0) => return (sent, Err(Failed)),
+            Ok(0) => return (sent, Err(io::Error::from(ErrorKind::WriteZero))),
             Ok(count) => sent += count,
             Err(error) => {
                 if error.kind() != ErrorKind::Interrupted {
-                    return (sent, Err(Failed));
+                    return (sent, Err(error));
                 }
             }
         }
     }
-    (sent, Err(Failed))
+    (sent, Err(io::Error::from(ErrorKind::TimedOut)))
 }

@@ -52,6 +52,7 @@ has_read_as events old old' new new' s t a back b h = record {
   happened = λ texts told p stands.
       let x = h.happened texts told p (stands_in_as old' old s.left p back stands) in
       (x.0, x.1, stands_in_as new new' t.left x.0 b x.2);
+  openings = h.openings;
   opens = h.opens;
   reads = h.reads;
   texts = h.texts;

@@ -1,6 +1,7 @@
 -- Turns over the operands, as what happens in a run.
 use Rattle.std.proofs.Common.{◌≡◌, ◌≢◌, ℕ, suc, ◌+◌, ◌-◌, ◌<◌, ◌≤◌, Bool, true, false, List, [], ◌∷◌, ◌++◌, length, drop, Option, Some, None, Result}
 use Rattle.std.proofs.Common.{Ok, Err, refl, sym, ap, ◌∙◌, subst, inl, inr, append_assoc, append-nil, arith}
+use Rattle.std.proofs.lemmas.List.{length-append}
 use Rattle.std.specs.Prelude.{map, slice_get}
 use Rattle.std.specs.Result.{IsErrAnd}
 use Rattle.aut_base.specs.declared.fault.OpenFail.TheVariants as opening
@@ -10,11 +11,13 @@ use Rattle.aut_base.specs.declared.limit.TheConstants.{MOST_BYTES}
 use Rattle.aut_core.specs.Core.{automaton_of}
 use Rattle.aut_io.specs.Outside.{Closed, Texts}
 use Rattle.aut_io.specs.Seen.{Seen}
+use Rattle.autfilt_run.proofs.turns.Openings.{opened_as, opened_then, tried_behind, tried_none}
 use Rattle.autfilt_run.proofs.turns.Stepping.{KeepsOn, closed_counted, is_closed, name_as, one_name, opens_stream, reads_on, rest_from, stops_at, stops_named, stream_counted, takes_operand}
 use Rattle.autfilt_run.proofs.printing.Writing.{rose_from}
 use Rattle.autfilt_run.specs.Events.{Point, ReadsOn}
 use Rattle.autfilt_run.specs.Faults.{stop_of_fault}
-use Rattle.autfilt_run.specs.Operands.{AreRead, FileOpened, OperandEvent, PassedOver, Proceeds, Taken, all_passed, operand_of, operands_of, passed_of}
+use Rattle.autfilt_run.specs.Openings.{AreOpened, AreTried, MayEnd}
+use Rattle.autfilt_run.specs.Operands.{AreRead, FileOpened, OperandEvent, PassedOver, Proceeds, Taken, all_passed, opened_file, opened_files, operand_of, operands_of, passed_of}
 use Rattle.autfilt_run.specs.Points.{IsAt, StandsIn, name_in, open_count, operands_in}
 use Rattle.autfilt_run.specs.Preparing.{CountsAt, FailsToPrepare, HasRead, HasSkipped, IsReady, Prepares}
 use Rattle.autfilt_run.specs.Runs.{AtNamed, IsCounted, StopsAtOperand, StopsInOperands, WantsMemory, WantsStream, taken_of}
@@ -45,12 +48,20 @@ pub passed_push : (events : List OperandEvent) (event : OperandEvent) → all_pa
 passed_push [] event = append-nil (passed_of event)
 passed_push (e ∷ es) event = ap (λ x. passed_of e ++ x) (passed_push es event) ∙ sym (append_assoc (passed_of e) (all_passed es) (passed_of event))
 
+opened_push : (events : List OperandEvent) (event : OperandEvent) → length (opened_files events) + length (opened_file event) ≡ length (opened_files (events ++ event ∷ []))
+opened_push events event = sym (length-append (opened_files events) (opened_file event)) ∙ ap length (sym (all_opened events event))
+  where
+    all_opened : (events : List OperandEvent) (event : OperandEvent) → opened_files (events ++ event ∷ []) ≡ opened_files events ++ opened_file event
+    all_opened [] event = append-nil (opened_file event)
+    all_opened (e ∷ es) event = ap (λ x. opened_file e ++ x) (all_opened es event) ∙ sym (append_assoc (opened_file e) (opened_files es) (opened_file event))
+
 -- ---- one turn
 
 -- A turn was this event.
 pub record Turned (event : OperandEvent) (old new : Session) (s t : Seen) : Type 0 where
   pub goes : (texts : Texts) → s.texts ≡ Some texts → (p : Point) → StandsIn old s.left p → (q : Point) × Proceeds texts event p q × StandsIn new t.left q
   pub operands : operands_in new ≡ operands_in old ++ operand_of event
+  pub openings : AreOpened (length (opened_file event)) s t
   pub opens : t.open_faults ≡ s.open_faults
   pub reads : t.read_faults ≡ s.read_faults
   pub texts : t.texts ≡ s.texts
@@ -98,6 +109,7 @@ opened old new s t keeps h =
             },
           );
       operands = same_operands old new h.tries.operands_same;
+      openings = h.tries.opens.counted;
       opens = h.tries.opens.calm;
       reads = h.tries.opens.reads;
       texts = h.tries.opens.texts;
@@ -121,6 +133,7 @@ taken old new s t keeps few h =
             },
           );
       operands = h.taken;
+      openings = h.reads.moves.openings;
       opens = h.reads.moves.opens;
       reads = h.reads.moves.reads;
       texts = h.reads.moves.texts;
@@ -146,6 +159,7 @@ passed old new s t keeps few h =
             },
           );
       operands = same_operands old new h.operands_same;
+      openings = h.reads.moves.openings;
       opens = h.reads.moves.opens;
       reads = h.reads.moves.reads;
       texts = h.reads.moves.texts;
@@ -155,7 +169,7 @@ passed old new s t keeps few h =
 
 -- nothing happened yet
 pub read_none : (old : Session) (s : Seen) → HasRead [] old old s s
-read_none old s = record { operands = sym (append-nil (operands_in old)); happened = λ texts told p stands. (p, refl, stands); opens = refl; reads = refl; texts = refl }
+read_none old s = record { operands = sym (append-nil (operands_in old)); happened = λ texts told p stands. (p, refl, stands); openings = refl; opens = refl; reads = refl; texts = refl }
 
 -- one event more
 pub read_more : (events : List OperandEvent) (event : OperandEvent) (first old new : Session) (s m t : Seen) → HasRead events first old s m → Turned event old new m t
@@ -167,6 +181,7 @@ read_more events event first old new s m t h turned = record {
       let a = h.happened texts told p stands in
       let b = turned.goes texts (h.texts ∙ told) a.0 a.2 in
       (b.0, are_read_push texts events event p a.0 b.0 a.1 b.1, b.2);
+  openings = opened_as _ _ s t (opened_push events event) (opened_then (length (opened_files events)) (length (opened_file event)) s m t h.openings turned.openings);
   opens = turned.opens ∙ h.opens;
   reads = turned.reads ∙ h.reads;
   texts = turned.texts ∙ h.texts;
@@ -237,6 +252,7 @@ record HaltsAt (f : RunFault) (old new : Session) (m t : Seen) : Type 0 where
   halts : (texts : Texts) → m.texts ≡ Some texts → (q : Point) → StandsIn old m.left q → StopsInOperands f (name_in new) q t.left × IsCounted f q t.left
   skipped : new.skipped ≡ old.skipped
   counts : CountsAt f m t
+  tried : AreTried f 0 m t
 
 pub untold_closed : (texts : Option Texts) (left : Option (List ℕ)) (t : Texts) → texts ≡ Some t → Closed texts left → left ≡ Some []
 untold_closed None left t e h = cc
@@ -266,6 +282,7 @@ unopened old new m t few h = record {
   );
   skipped = h.skipped;
   counts = (h.opens.failed refl, h.opens.reads);
+  tried = record { tried = 1; may = refl; opened = h.opens.counted };
 }
 
 unopened_for_memory : (old new : Session) (m t : Seen) → old.lexer.taken ≤ MOST_BYTES → TriesFile (Err opening.Memory) old new m t → HaltsAt fault.Memory old new m t
@@ -276,6 +293,7 @@ unopened_for_memory old new m t few h = record {
   );
   skipped = h.skipped;
   counts = (h.opens.memory refl, h.opens.reads);
+  tried = record { tried = 1; may = omega arith; opened = h.opens.counted };
 }
 
 file_counted : (f : RunFault) (old new : Session) (m t : Seen) (q : Point) → new.lexer.most ≡ MOST_BYTES → new.lexer.taken ≤ MOST_BYTES → old.is_open ≡ true → IsAt old m.left q
@@ -289,14 +307,15 @@ file_counted f old new m t q most few opened_so stands moves =
 
 -- what stands at the rest of the open file
 named : (f : RunFault) (old new : Session) (m t : Seen) → KeepsAll old new → new.lexer.most ≡ MOST_BYTES → new.lexer.taken ≤ MOST_BYTES
-    → ((q : Point) → AtNamed (Unit {0}) q (name_in new) t.left (StopsAtOperand f) → StopsInOperands f (name_in new) q t.left) → CountsAt f m t → FailsReading f old new m t → HaltsAt f old new m t
-named f old new m t keeps most few stops counts h = record {
+    → ((q : Point) → AtNamed (Unit {0}) q (name_in new) t.left (StopsAtOperand f) → StopsInOperands f (name_in new) q t.left) → CountsAt f m t → MayEnd f 0 → FailsReading f old new m t → HaltsAt f old new m t
+named f old new m t keeps most few stops counts may h = record {
   halts = λ texts told q stands. (
     stops q (stops_named (Unit {0}) (StopsAtOperand f) old m t q (name_in new) (name_as old new keeps.plan h.reads.in_hand) stands.at h.reads.was_open tt h.reads.read),
     file_counted f old new m t q most few h.reads.was_open stands.at h.reads.moves,
   );
   skipped = h.skipped;
   counts = counts;
+  tried = tried_none f m t may h.reads.moves.openings;
 }
 
 pub calm_limit : (which : Limit) (a b : ℕ) → CountsReads (stop_of_fault (fault.Limit which)) a b → b ≡ a
@@ -327,12 +346,13 @@ halted fault.Memory old new m t keeps most few few' (inr h) = record {
   );
   skipped = h.skipped;
   counts = (h.reads.moves.opens, h.reads.moves.reads);
+  tried = tried_none fault.Memory m t (omega arith) h.reads.moves.openings;
 }
-halted fault.ReadFault old new m t keeps most few few' h = named fault.ReadFault old new m t keeps most few' (λ q x. x) (h.reads.moves.opens, h.reads.moves.reads) h
-halted (fault.SyntaxAt k) old new m t keeps most few few' h = named (fault.SyntaxAt k) old new m t keeps most few' (λ q x. x) (h.reads.moves.opens, h.reads.moves.reads) h
-halted fault.Truncated old new m t keeps most few few' h = named fault.Truncated old new m t keeps most few' (λ q x. x) (h.reads.moves.opens, h.reads.moves.reads) h
-halted (fault.Invalid rule) old new m t keeps most few few' h = named (fault.Invalid rule) old new m t keeps most few' (λ q x. x) (h.reads.moves.opens, h.reads.moves.reads) h
-halted (fault.Limit which) old new m t keeps most few few' h = named (fault.Limit which) old new m t keeps most few' (λ q x. x) (h.reads.moves.opens, calm_limit which _ _ h.reads.moves.reads) h
+halted fault.ReadFault old new m t keeps most few few' h = named fault.ReadFault old new m t keeps most few' (λ q x. x) (h.reads.moves.opens, h.reads.moves.reads) refl h
+halted (fault.SyntaxAt k) old new m t keeps most few few' h = named (fault.SyntaxAt k) old new m t keeps most few' (λ q x. x) (h.reads.moves.opens, h.reads.moves.reads) refl h
+halted fault.Truncated old new m t keeps most few few' h = named fault.Truncated old new m t keeps most few' (λ q x. x) (h.reads.moves.opens, h.reads.moves.reads) refl h
+halted (fault.Invalid rule) old new m t keeps most few few' h = named (fault.Invalid rule) old new m t keeps most few' (λ q x. x) (h.reads.moves.opens, h.reads.moves.reads) refl h
+halted (fault.Limit which) old new m t keeps most few few' h = named (fault.Limit which) old new m t keeps most few' (λ q x. x) (h.reads.moves.opens, calm_limit which _ _ h.reads.moves.reads) refl h
 
 pub counts_then : (f : RunFault) (s m t : Seen) → m.open_faults ≡ s.open_faults → m.read_faults ≡ s.read_faults → CountsAt f m t → CountsAt f s t
 counts_then fault.CannotOpen s m t a b h = (rose_from s.open_faults m.open_faults t.open_faults a h.0, h.1 ∙ b)
@@ -362,6 +382,7 @@ fails f first old new s m t most few few' h keeps failed =
       skipped = at.skipped ∙ h.skipped;
       no_write = no_write f old new m t failed;
       counts = counts_then f s m t h.read.opens h.read.reads at.counts;
+      openings = tried_behind f (length (opened_files h.events)) s m t h.read.openings at.tried;
     }
 
 -- a fault that `?` hands on

@@ -24,6 +24,7 @@ moves_then stop a b c s m t one two = record {
   within = two.within;
   reads = counts_then stop _ _ _ one.reads two.reads;
   reads_later = omega (arith, one.reads_later, two.reads_later);
+  openings = two.openings ∙ one.openings;
   opens = two.opens ∙ one.opens;
   texts = two.texts ∙ one.texts;
 }
@@ -39,6 +40,7 @@ moves_nowhere a s = record {
   within = tt;
   reads = refl;
   reads_later = omega arith;
+  openings = refl;
   opens = refl;
   texts = refl;
 }

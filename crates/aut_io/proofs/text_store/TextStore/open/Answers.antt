@@ -17,4 +17,4 @@ pub returns-clause-there : goal.returns-clause-there
 returns-clause-there c = rw (← c.self.view_is) (c.is_some.ensures ∙ (found c).0)
 
 pub returns-clause-opened : goal.returns-clause-opened
-returns-clause-opened c = rw (← c.self.view_is, (found c).1) refl
+returns-clause-opened c = rw (← c.self.view_is, (found c).1, c.saturating_add-self-inside.ensures) refl

@@ -1,0 +1,28 @@
+-- How many times texts are opened: once for each file or stream that a run comes to, and no more.
+use Rattle.std.specs.Prelude.{◌≡◌, ℕ, ◌+◌, ◌≤◌}
+use Rattle.aut_io.specs.Outside.{raised_by}
+use Rattle.aut_io.specs.Seen.{Seen}
+use Rattle.autfilt_run.specs.declared.fault.RunFault.{RunFault}
+use Rattle.autfilt_run.specs.declared.fault.RunFault.TheVariants as fault
+
+-- `open` was called so many times
+abbrev pub AreOpened : ℕ → Seen → Seen → Type 0
+AreOpened count seen seen' = seen'.openings ≡ raised_by count seen.openings
+
+-- How many calls of `open` a fault may end: one where a text can't be opened, one or none where memory is wanting, and none of
+-- those that come while a text is read or written.
+abbrev pub MayEnd : RunFault → ℕ → Type 0
+MayEnd fault.CannotOpen tried = tried ≡ 1
+MayEnd fault.Memory tried = tried ≤ 1
+MayEnd fault.ReadFault tried = tried ≡ 0
+MayEnd (fault.SyntaxAt k) tried = tried ≡ 0
+MayEnd fault.Truncated tried = tried ≡ 0
+MayEnd (fault.Invalid rule) tried = tried ≡ 0
+MayEnd (fault.Limit which) tried = tried ≡ 0
+MayEnd fault.WriteFault tried = tried ≡ 0
+
+-- `open` was called so many times, and maybe once more where the fault came
+pub record AreTried (f : RunFault) (count : ℕ) (seen seen' : Seen) : Type 0 where
+  pub tried : ℕ
+  pub may : MayEnd f tried
+  pub opened : AreOpened (count + tried) seen seen'
