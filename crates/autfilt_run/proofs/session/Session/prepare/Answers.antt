@@ -19,6 +19,7 @@ returns-in_err-read_operands-clause-prepares g c =
       skipped = said.skipped;
       no_write = said.no_write;
       counts = said.counts;
+      openings = said.openings;
     })
 
 pub invariant_of-self-in-Ready : goal.invariant_of-self-in-Ready

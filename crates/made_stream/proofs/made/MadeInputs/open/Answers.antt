@@ -13,7 +13,7 @@ returns-clause-opens c =
           rw w.self-is
           record {
             texts = refl;
-            counted = c.saturating_add.ensures;
+            counted = c.saturating_add-self-inside.ensures;
             opened = ap Some (w.first.ensures _ ∙ all_rings _ c.self.invariant.0 ∙ sym name);
             closed = tt;
             failed = search rules;
@@ -27,7 +27,7 @@ returns-clause-opens c =
           rw w.self-is
           record {
             texts = refl;
-            counted = c.saturating_add.ensures;
+            counted = c.saturating_add-self-inside.ensures;
             opened = ap Some (sym name);
             closed = tt;
             failed = search rules;
