@@ -1,22 +1,21 @@
--- What has been found is the classes, once no valuation is left.
+-- What has been found is the classes.
 use Rattle.std.proofs.Common.{◌≡◌, ℕ, zero, suc, ◌≤◌, ◌∙◌, Bool, true, false, not, ◌&&◌, List, [], ◌∷◌, length, map, All, Some, slice_get, sym, refl, ap}
 use Rattle.std.proofs.lemmas.Bool.{false≢true}
 use Rattle.std.proofs.lemmas.List.Elements.{All-from_recursion}
 use Rattle.std.proofs.lemmas.Option.{none-some, same_Some}
 use Rattle.std.specs.List.{AllByRecursion, list_all}
 use Rattle.aut_base.proofs.Ordered.{Pairs}
-use Rattle.aut_base.proofs.ValuationLists.{length-valuation_of}
-use Rattle.aut_base.specs.Valuation.{IsLeast, holds_in, truth_on, valuation_of}
+use Rattle.aut_base.specs.Valuation.{IsLeast, holds_in, truth_on}
 use Rattle.label_guards.specs.declared.guard.Guard.{Guard}
+use Rattle.label_guards.specs.ClassParts.{IsAlikeness, Test}
 use Rattle.label_guards.specs.Classes.{AreClasses, IsBefore, IsMet, agree}
 use Rattle.label_guards.specs.Guards.{truth_in}
-use Rattle.label_guards.specs.Leasts.{IsNeverMetAt}
-use Rattle.label_guards.specs.Nodes.{IsReduced}
+use Rattle.label_guards.specs.Nodes.{Grows, IsReduced}
 use Rattle.label_guards.specs.Store.{Store, Has, label_in}
-use Rattle.label_guards.proofs.Firsts.{IsAlikeness, IsEarlier, IsFirst, Test, is_apart}
-use Rattle.label_guards.proofs.FoundClasses.{AreFound, IsUnderWay, agree_alike, agree_is, alike_agree, all_pairs}
+use Rattle.label_guards.proofs.ClassParts.{joined, turned}
+use Rattle.label_guards.proofs.Firsts.{IsEarlier, IsFirst}
+use Rattle.label_guards.proofs.FoundClasses.{AreAllFound, AreFound, agree_alike, agree_is, alike_agree, all_pairs}
 use Rattle.label_guards.proofs.LabelTruth.{keeps, truth_is}
-use Rattle.label_guards.proofs.Unique.{outcome_firsts}
 
 -- where a test holds of an item of a list
 pub met_at : {X : Type 0} (f : X → Bool) (xs : List X) (i : ℕ) → slice_get (map f xs) i ≡ Some true → (x : X) × (slice_get xs i ≡ Some x) × (f x ≡ true)
@@ -33,13 +32,6 @@ some_met f (x ∷ xs) h = this (f x) refl (some_met f xs)
     this false e more = let found = more (ap (λ b. not b && list_all (λ y. not (f y)) xs) (sym e) ∙ h) in (suc found.0, found.1)
 
 module _ (alike : Test) (is : IsAlikeness alike) where
-  turned : (on also : ℕ → Bool) → alike on also ≡ true → alike also on ≡ true
-  turned on also h = is.same on also h also ∙ is.self also
-
-  -- those that are alike to one are alike
-  joined : (v on also : ℕ → Bool) → alike v on ≡ true → alike v also ≡ true → alike on also ≡ true
-  joined v on also h k = sym (is.same v also k on) ∙ turned v on h
-
   -- those that are alike to two that are alike
   across : (v w on also : ℕ → Bool) → alike v on ≡ true → alike w also ≡ true → alike on also ≡ true → alike v w ≡ true
   across v w on also h k e = is.same w also k v ∙ (sym (is.same on also e v) ∙ h)
@@ -54,11 +46,12 @@ module _ (alike : Test) (is : IsAlikeness alike) where
   one_place [] pairs i j v w at_i at_j e = absurd (none-some v at_i)
   one_place (x ∷ vs) pairs zero zero v w at_i at_j e = refl
   one_place (x ∷ vs) pairs zero (suc j) v w at_i at_j e = absurd (not_later x w vs j pairs.0 at_j (ap (λ y. alike (holds_in y) (holds_in w)) (same_Some x v at_i) ∙ e))
-  one_place (x ∷ vs) pairs (suc i) zero v w at_i at_j e = absurd (not_later x v vs i pairs.0 at_i (ap (λ y. alike (holds_in y) (holds_in v)) (same_Some x w at_j) ∙ turned (holds_in v) (holds_in w) e))
+  one_place (x ∷ vs) pairs (suc i) zero v w at_i at_j e =
+      absurd (not_later x v vs i pairs.0 at_i (ap (λ y. alike (holds_in y) (holds_in v)) (same_Some x w at_j) ∙ turned alike is (holds_in v) (holds_in w) e))
   one_place (x ∷ vs) pairs (suc i) (suc j) v w at_i at_j e = ap suc (one_place vs pairs.1 i j v w at_i at_j e)
 
   -- what the guards found say, by their valuations
-  module _ (n : ℕ) (s : Store) (reduced : IsReduced s.names s.nodes) (names : s.names ≡ n) where
+  module _ (s : Store) (reduced : IsReduced s.names s.nodes) where
     truth_found : (v : List Bool) (c : Guard) → AreFound s alike (v ∷ []) (c ∷ []) → (on : ℕ → Bool) → truth_in s c on ≡ alike (holds_in v) on
     truth_found v c found on = truth_is s reduced c found.0.has on ∙ found.0.truth on
 
@@ -74,14 +67,14 @@ module _ (alike : Test) (is : IsAlikeness alike) where
     found_has (v ∷ vs) [] found = absurd found
     found_has (v ∷ vs) (c ∷ cs) found = (found.0.has, found_has vs cs found.1)
 
-    least_found : (v : List Bool) (c : Guard) → IsFirst n alike v → AreFound s alike (v ∷ []) (c ∷ []) → IsLeast s.names (truth_on (label_in s c)) v
+    least_found : (v : List Bool) (c : Guard) → IsFirst s.names alike v → AreFound s alike (v ∷ []) (c ∷ []) → IsLeast s.names (truth_on (label_in s c)) v
     least_found v c first found = record {
-      size = first.size ∙ sym names;
+      size = first.size;
       is_true = truth_found v c found (holds_in v) ∙ is.self (holds_in v);
-      least = λ w size h. first.least w (size ∙ names) (sym (truth_found v c found (holds_in w)) ∙ h);
+      least = λ w size h. first.least w size (sym (truth_found v c found (holds_in w)) ∙ h);
     }
 
-    found_met : (vs : List (List Bool)) (cs : List Guard) → AllByRecursion (IsFirst n alike) vs → AreFound s alike vs cs → AllByRecursion (IsMet s) cs
+    found_met : (vs : List (List Bool)) (cs : List Guard) → AllByRecursion (IsFirst s.names alike) vs → AreFound s alike vs cs → AllByRecursion (IsMet s) cs
     found_met [] [] first found = tt
     found_met [] (c ∷ cs) first found = absurd found
     found_met (v ∷ vs) [] first found = absurd found
@@ -89,8 +82,8 @@ module _ (alike : Test) (is : IsAlikeness alike) where
         let least = least_found v c first.0 (found.0, tt) in
         (record { valuation = v; size = least.size; truth = least.is_true }, found_met vs cs first.1 found.1)
 
-    before_all : (v : List Bool) (c : Guard) (vs : List (List Bool)) (cs : List Guard) → IsFirst n alike v → AreFound s alike (v ∷ []) (c ∷ []) → AllByRecursion (IsEarlier alike v) vs
-        → AllByRecursion (IsFirst n alike) vs → AreFound s alike vs cs → AllByRecursion (IsBefore s c) cs
+    before_all : (v : List Bool) (c : Guard) (vs : List (List Bool)) (cs : List Guard) → IsFirst s.names alike v → AreFound s alike (v ∷ []) (c ∷ []) → AllByRecursion (IsEarlier alike v) vs
+        → AllByRecursion (IsFirst s.names alike) vs → AreFound s alike vs cs → AllByRecursion (IsBefore s c) cs
     before_all v c [] [] first is_c earlier firsts found = tt
     before_all v c [] (d ∷ cs) first is_c earlier firsts found = absurd found
     before_all v c (w ∷ vs) [] first is_c earlier firsts found = absurd found
@@ -105,33 +98,30 @@ module _ (alike : Test) (is : IsAlikeness alike) where
       before_all v c vs cs first is_c earlier.1 firsts.1 found.1,
     )
 
-    found_ordered : (vs : List (List Bool)) (cs : List Guard) → Pairs (IsEarlier alike) vs → AllByRecursion (IsFirst n alike) vs → AreFound s alike vs cs → Pairs (IsBefore s) cs
+    found_ordered : (vs : List (List Bool)) (cs : List Guard) → Pairs (IsEarlier alike) vs → AllByRecursion (IsFirst s.names alike) vs → AreFound s alike vs cs → Pairs (IsBefore s) cs
     found_ordered [] [] pairs firsts found = tt
     found_ordered [] (c ∷ cs) pairs firsts found = absurd found
     found_ordered (v ∷ vs) [] pairs firsts found = absurd found
     found_ordered (v ∷ vs) (c ∷ cs) pairs firsts found = (before_all v c vs cs firsts.0 (found.0, tt) pairs.0 firsts.1 found.1, found_ordered vs cs pairs.1 firsts.1 found.1)
 
-pub are_classes : (old s : Store) → IsReduced old.names old.nodes → IsReduced s.names s.nodes → (list classes : List Guard) (rest most : ℕ) → All (Has old) list
-    → IsUnderWay old s list classes rest → length classes ≤ most → IsNeverMetAt s rest → AreClasses s list most classes
-are_classes old s was reduced list classes rest most has way few none =
+pub are_classes : (old s : Store) → IsReduced old.names old.nodes → IsReduced s.names s.nodes → Grows old s → (list classes : List Guard) (most : ℕ) → All (Has old) list
+    → AreAllFound s (agree old list) classes → length classes ≤ most → AreClasses s list most classes
+are_classes old s was reduced grows list classes most has all few =
     let alike : Test = agree old list in
     let is : IsAlikeness alike = agree_is old list in
-    let vs : List (List Bool) = way.valuations in
-    let said : (on : ℕ → Bool) → map (λ c. truth_in s c on) classes ≡ map (λ v. alike (holds_in v) on) vs = truths alike is old.names s reduced way.grows.names vs classes way.found in
-    let not_apart : (on : ℕ → Bool) → is_apart alike vs on ≡ false = λ on.
-    sym (way.apart.truth on) ∙ (outcome_firsts s reduced rest way.apart.has on ∙ none (valuation_of s.names on) (length-valuation_of s.names on)) in
+    let vs : List (List Bool) = all.valuations in
+    let said : (on : ℕ → Bool) → map (λ c. truth_in s c on) classes ≡ map (λ v. alike (holds_in v) on) vs = truths alike is s reduced vs classes all.found in
     record {
-      has = All-from_recursion (Has s) classes (found_has alike is old.names s reduced way.grows.names vs classes way.found);
+      has = All-from_recursion (Has s) classes (found_has alike is s reduced vs classes all.found);
       few = few;
-      met = All-from_recursion (IsMet s) classes (found_met alike is old.names s reduced way.grows.names vs classes way.firsts.first way.found);
-      every = λ on. let some = some_met (λ v. alike (holds_in v) on) vs (not_apart on) in (some.0, ap (λ bs. slice_get bs some.0) (said on) ∙ some.1);
+      met = All-from_recursion (IsMet s) classes (found_met alike is s reduced vs classes all.first all.found);
+      every = λ on. let some = some_met (λ v. alike (holds_in v) on) vs (all.every on) in (some.0, ap (λ bs. slice_get bs some.0) (said on) ∙ some.1);
       alike = λ on also i j meets_i meets_j.
           let v = met_at (λ v. alike (holds_in v) on) vs i (ap (λ bs. slice_get bs i) (sym (said on)) ∙ meets_i) in
           let w = met_at (λ v. alike (holds_in v) also) vs j (ap (λ bs. slice_get bs j) (sym (said also)) ∙ meets_j) in (
             (λ e. let same : v.0 ≡ w.0 = same_Some v.0 w.0 (sym v.1 ∙ (ap (slice_get vs) e ∙ w.1)) in
-                alike_agree old was s (keeps way.grows) on also list has (joined alike is (holds_in v.0) on also v.2 (ap (λ x. alike (holds_in x) also) same ∙ w.2))),
-            (λ h. one_place alike is vs way.firsts.pairs i j v.0 w.0 v.1 w.1
-                (across alike is (holds_in v.0) (holds_in w.0) on also v.2 w.2 (agree_alike old was s (keeps way.grows) on also list has h))),
+                alike_agree old was s (keeps grows) on also list has (joined alike is (holds_in v.0) on also v.2 (ap (λ x. alike (holds_in x) also) same ∙ w.2))),
+            (λ h. one_place alike is vs all.pairs i j v.0 w.0 v.1 w.1 (across alike is (holds_in v.0) (holds_in w.0) on also v.2 w.2 (agree_alike old was s (keeps grows) on also list has h))),
           );
-      ordered = all_pairs (IsBefore s) classes (found_ordered alike is old.names s reduced way.grows.names vs classes way.firsts.pairs way.firsts.first way.found);
+      ordered = all_pairs (IsBefore s) classes (found_ordered alike is s reduced vs classes all.pairs all.first all.found);
     }

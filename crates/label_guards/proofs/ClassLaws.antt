@@ -17,6 +17,7 @@ use Rattle.label_guards.specs.Classes.{AreAlike, AreClasses, IsBefore, IsMet, Me
 use Rattle.label_guards.specs.Guards.{truth_in}
 use Rattle.label_guards.specs.Store.{Store, Has, Keeps, label_at, label_in, outcome}
 use Rattle.label_guards.proofs.ClassGuards.{met_at}
+use Rattle.label_guards.proofs.ClassParts.{both_ways}
 
 -- alike in the later store is alike in the earlier one
 alike_before : {old new : Store} → Keeps old new → (list : List Guard) → All (Has old) list → (on also : ℕ → Bool) → AreAlike new list on also → AreAlike old list on also
@@ -135,11 +136,6 @@ module _ (s : Store) (list : List Guard) where
       let e : j ≡ there.0 = (also.alike v on j there.0 (met_from (λ g. truth_in s g v) others j d at_j in_d) there.1).1 alike in
       let found = met_at (λ g. truth_in s g on) others j (ap (slice_get (map (λ g. truth_in s g on) others)) e ∙ there.1) in
       subst (λ (g : Guard). truth_in s g on ≡ true) (same_Some found.0 d (sym found.1 ∙ at_j)) found.2
-
-  both_ways : (a b : Bool) → (a ≡ true → b ≡ true) → (b ≡ true → a ≡ true) → a ≡ b
-  both_ways true b to from = sym (to refl)
-  both_ways false true to from = from refl
-  both_ways false false to from = refl
 
   same_label : (c d : Guard) → ((on : ℕ → Bool) → truth_in s c on ≡ truth_in s d on) → label_in s c ≡ label_in s d
   unfolding label_at

@@ -1,10 +1,10 @@
 -- On which propositions a guard and its sides depend.
-use Rattle.std.proofs.Common.{◌≡◌, ◌⊎◌, ◌∙◌, ℕ, ◌<◌, Bool, true, false, List, All, length, get_or, if◌then◌else◌, sym, refl, ap, inl, inr, arith, nat_eq}
+use Rattle.std.proofs.Common.{◌≡◌, ◌∙◌, ℕ, ◌<◌, Bool, true, false, List, All, length, if◌then◌else◌, sym, refl, ap, inl, inr, arith, nat_eq}
 use Rattle.std.specs.List.{slice_index_or}
 use Rattle.std.proofs.lemmas.List.Elements.{All-get_or}
 use Rattle.label_guards.specs.declared.guard.Guard.{Guard}
 use Rattle.label_guards.specs.declared.nodes.Node.{Node}
-use Rattle.label_guards.specs.Guards.{GoesBelow, IsFreeOf, with_prop}
+use Rattle.label_guards.specs.Guards.{GoesBelow, with_prop}
 use Rattle.label_guards.specs.Nodes.{IsReduced, StandsAt, level}
 use Rattle.label_guards.specs.Store.{Has, HasPlace, Store, outcome}
 use Rattle.label_guards.specs.Tables.{IsFreeAt, PlaceGoesBelow}

@@ -1,7 +1,8 @@
--- The classes that a loop has found so far, and what they are in the end.
-use Rattle.std.proofs.Common.{◌≡◌, ℕ, suc, ◌+◌, ◌≤◌, ◌∙◌, Bool, true, false, not, ◌&&◌, List, [], ◌∷◌, ◌++◌, length, All, AllPairs, sym, refl, ap, subst, arith, length-append}
+-- The classes that were found, and what they say of the labels.
+use Rattle.std.proofs.Common.{zero, ◌<◌, take, ◌≡◌, ℕ, suc, ◌+◌, ◌∙◌, Bool, true, false, ◌&&◌, List, [], ◌∷◌, length, All, AllPairs, sym, refl, ap, arith}
 use Rattle.std.proofs.lemmas.Bool.{and_parts, false≢true}
-use Rattle.std.proofs.lemmas.List.Elements.{All-from_recursion, recursion_from_All}
+use Rattle.std.proofs.lemmas.List.{length-take-le}
+use Rattle.std.proofs.lemmas.List.Elements.{All-from_recursion, All-take, recursion_from_All}
 use Rattle.std.proofs.lemmas.List.Kept.{AllPairs-cons}
 use Rattle.std.specs.Bool.{beq}
 use Rattle.std.specs.Cmp.{booleans_Decides}
@@ -9,19 +10,17 @@ use Rattle.std.specs.List.{AllByRecursion}
 use Rattle.aut_base.proofs.AllByRecursion.{AllByRecursion-weaker}
 use Rattle.aut_base.proofs.Ordered.{Pairs, pairs_weaker}
 use Rattle.aut_base.specs.Label.{truth}
-use Rattle.aut_base.specs.Valuation.{holds_in, number_of}
+use Rattle.aut_base.specs.Valuation.{holds_in}
 use Rattle.label_guards.specs.declared.guard.Guard.{Guard}
 use Rattle.label_guards.specs.Classes.{AreAlike, HasMoreClasses, agree}
 use Rattle.label_guards.specs.Guards.{truth_in}
-use Rattle.label_guards.specs.Leasts.{IsLeastNumber, bits_of}
-use Rattle.label_guards.specs.Nodes.{Grows, IsReduced}
+use Rattle.label_guards.specs.Nodes.{IsReduced}
 use Rattle.label_guards.specs.Operations.{IsPlaceOf}
 use Rattle.label_guards.specs.Store.{Store, Has, Keeps, outcome}
-use Rattle.label_guards.proofs.Firsts.{AreFirsts, IsAlikeness, IsEarlier, IsFirst, Test, apart_push, firsts_push, is_apart}
-use Rattle.label_guards.proofs.Growth.{grows_none, grows_on, outcome_kept}
-use Rattle.label_guards.proofs.LabelTruth.{at, keeps, truth_is}
-use Rattle.label_guards.proofs.Parts.{place_kept, place_same, true_place}
-use Rattle.label_guards.proofs.Valuations.{bits_of-number}
+use Rattle.label_guards.specs.ClassParts.{IsAlikeness, Test}
+use Rattle.label_guards.proofs.Firsts.{IsEarlier, IsFirst, is_apart}
+use Rattle.label_guards.proofs.Growth.{grows_none}
+use Rattle.label_guards.proofs.LabelTruth.{keeps, truth_is}
 
 -- the classes are those of these valuations
 abbrev pub AreFound : Store → Test → List (List Bool) → List Guard → Type 0
@@ -30,26 +29,13 @@ AreFound s alike [] (c ∷ cs) = ⊥
 AreFound s alike (v ∷ vs) [] = ⊥
 AreFound s alike (v ∷ vs) (c ∷ cs) = IsPlaceOf s (alike (holds_in v)) c.place × AreFound s alike vs cs
 
--- the classes so far, and the place of what is in none of them
-pub record IsUnderWay (old s : Store) (list classes : List Guard) (rest : ℕ) : Type 0 where
-  pub grows : Grows old s
+-- all classes of what is alike, in the order of their least valuations
+pub record AreAllFound (s : Store) (alike : Test) (classes : List Guard) : Type 0 where
   pub valuations : List (List Bool)
-  pub firsts : AreFirsts old.names (agree old list) valuations
-  pub found : AreFound s (agree old list) valuations classes
-  pub apart : IsPlaceOf s (is_apart (agree old list) valuations) rest
-
-found_kept : {s t : Store} → Grows s t → (alike : Test) (vs : List (List Bool)) (cs : List Guard) → AreFound s alike vs cs → AreFound t alike vs cs
-found_kept grows alike [] [] found = tt
-found_kept grows alike [] (c ∷ cs) found = absurd found
-found_kept grows alike (v ∷ vs) [] found = absurd found
-found_kept grows alike (v ∷ vs) (c ∷ cs) found = (place_kept grows (alike (holds_in v)) c.place found.0, found_kept grows alike vs cs found.1)
-
-found_push : (s : Store) (alike : Test) (vs : List (List Bool)) (cs : List Guard) (v : List Bool) (c : Guard) → AreFound s alike vs cs → IsPlaceOf s (alike (holds_in v)) c.place
-    → AreFound s alike (vs ++ v ∷ []) (cs ++ c ∷ [])
-found_push s alike [] [] v c found is = (is, tt)
-found_push s alike [] (d ∷ cs) v c found is = absurd found
-found_push s alike (w ∷ vs) [] v c found is = absurd found
-found_push s alike (w ∷ vs) (d ∷ cs) v c found is = (found.0, found_push s alike vs cs v c found.1 is)
+  pub first : AllByRecursion (IsFirst s.names alike) valuations
+  pub pairs : Pairs (IsEarlier alike) valuations
+  pub found : AreFound s alike valuations classes
+  pub every : (on : ℕ → Bool) → is_apart alike valuations on ≡ false
 
 length-found : (s : Store) (alike : Test) (vs : List (List Bool)) (cs : List Guard) → AreFound s alike vs cs → length vs ≡ length cs
 length-found s alike [] [] found = refl
@@ -74,51 +60,6 @@ agree-same s (g ∷ list) on also h other =
 
 pub agree_is : (s : Store) (list : List Guard) → IsAlikeness (agree s list)
 agree_is s list = record { self = agree-self s list; same = agree-same s list }
-
-agree_kept : {old s : Store} → Grows old s → (list : List Guard) → AllByRecursion (Has old) list → (on also : ℕ → Bool) → agree s list on also ≡ agree old list on also
-agree_kept grows [] has on also = refl
-agree_kept grows (g ∷ list) has on also = λ i. beq (outcome_kept grows on g.place has.0 i) (outcome_kept grows also g.place has.0 i) && agree_kept grows list has.1 on also i
-
-pub start : (s : Store) (list : List Guard) → IsUnderWay s s list [] 1
-start s list = record {
-  grows = grows_none s;
-  valuations = [];
-  firsts = record { first = tt; pairs = tt; later = λ w size h. tt };
-  found = tt;
-  apart = true_place s;
-}
-
-module _ {old s : Store} (list classes : List Guard) (rest number : ℕ) (way : IsUnderWay old s list classes rest) (least : IsLeastNumber s rest number) where
-  size : length least.valuation ≡ old.names
-  size = least.size ∙ way.grows.names
-
-  -- one valuation more
-  firsts : AreFirsts old.names (agree old list) (way.valuations ++ least.valuation ∷ [])
-  firsts = firsts_push (agree old list) (agree_is old list) old.names way.valuations least.valuation way.firsts size
-      (sym (way.apart.truth (holds_in least.valuation)) ∙ least.truth)
-      (λ w size_w h. subst (λ m. m ≤ number_of w) (sym least.is_number) (least.least w (size_w ∙ sym way.grows.names) (way.apart.truth (holds_in w) ∙ h)))
-
-  -- the class of the number is that of its valuation
-  of_valuation : AllByRecursion (Has old) list → (on : ℕ → Bool) → agree s list (holds_in (bits_of s.names number)) on ≡ agree old list (holds_in least.valuation) on
-  of_valuation has on =
-      let e : bits_of s.names number ≡ least.valuation = ap (bits_of s.names) (sym least.is_number) ∙ bits_of-number least.valuation s.names least.size in
-      ap (λ v. agree s list (holds_in v) on) e ∙ agree_kept way.grows list has (holds_in least.valuation) on
-
-  pub one_more : {t u : Store} → Grows s t → Grows t u → (place left : ℕ) → All (Has old) list
-      → IsPlaceOf t (agree s list (holds_in (bits_of s.names number))) place
-      → IsPlaceOf u (λ on. outcome t.nodes on rest && not (outcome t.nodes on place)) left → IsUnderWay old u list (classes ++ at place ∷ []) left
-  one_more {t} {u} first second place left has class without =
-      let alike : Test = agree old list in
-      let v : List Bool = least.valuation in
-      let is : IsPlaceOf t (alike (holds_in v)) place = place_same t _ (alike (holds_in v)) place (of_valuation (recursion_from_All (Has old) list has)) class in
-      record {
-        grows = grows_on way.grows (grows_on first second);
-        valuations = way.valuations ++ v ∷ [];
-        firsts = firsts;
-        found = found_push u alike way.valuations classes v (at place) (found_kept (grows_on first second) alike way.valuations classes way.found) (place_kept second (alike (holds_in v)) place is);
-        apart = place_same u _ (is_apart alike (way.valuations ++ v ∷ [])) left
-            (λ on. (λ i. (outcome_kept first on rest way.apart.has ∙ way.apart.truth on) i && not (is.truth on i)) ∙ sym (apart_push alike (agree_is old list) way.valuations v on)) without;
-      }
 
 -- what is alike by labels is so by places
 module _ (old : Store) (reduced : IsReduced old.names old.nodes) (t : Store) (kept : Keeps old t) (on also : ℕ → Bool) where
@@ -146,16 +87,31 @@ pub all_pairs : {X : Type 0} (R : X → X → Type 0) (xs : List X) → Pairs R 
 all_pairs R [] pairs = λ i j d less within. absurd (omega (arith, within))
 all_pairs R (x ∷ xs) pairs = AllPairs-cons R x xs (All-from_recursion (R x) xs pairs.0) (all_pairs R xs pairs.1)
 
-pub more_classes : (old s : Store) → IsReduced old.names old.nodes → (list classes : List Guard) (rest number most : ℕ) → All (Has old) list → IsUnderWay old s list classes rest
-    → IsLeastNumber s rest number → length classes ≡ most → HasMoreClasses old list most
-more_classes old s reduced list classes rest number most has way least full =
-    let vs : List (List Bool) = way.valuations ++ least.valuation ∷ [] in
-    let are : AreFirsts old.names (agree old list) vs = firsts list classes rest number way least in
-    let same : length way.valuations ≡ length classes = length-found s (agree old list) way.valuations classes way.found in
+module _ {X : Type 0} where
+  all_taken : (P : X → Type 0) (k : ℕ) (xs : List X) → AllByRecursion P xs → AllByRecursion P (take k xs)
+  all_taken P zero xs all = tt
+  all_taken P (suc k) [] all = tt
+  all_taken P (suc k) (x ∷ xs) all = (all.0, all_taken P k xs all.1)
+
+  pairs_taken : (R : X → X → Type 0) (k : ℕ) (xs : List X) → Pairs R xs → Pairs R (take k xs)
+  pairs_taken R zero xs pairs = tt
+  pairs_taken R (suc k) [] pairs = tt
+  pairs_taken R (suc k) (x ∷ xs) pairs = (all_taken (R x) k xs pairs.0, pairs_taken R k xs pairs.1)
+
+-- more classes under the first guards of the list are more under all of it
+pub more_classes : (old s : Store) → IsReduced old.names old.nodes → s.names ≡ old.names → (list classes : List Guard) (count most : ℕ) → All (Has old) list
+    → AreAllFound s (agree old (take count list)) classes → most < length classes → HasMoreClasses old list most
+more_classes old s reduced names list classes count most has all more =
+    let alike : Test = agree old (take count list) in
+    let vs : List (List Bool) = take (most + 1) all.valuations in
+    let same : length all.valuations ≡ length classes = length-found s alike all.valuations classes all.found in
     record {
       valuations = vs;
-      count = length-append way.valuations (least.valuation ∷ []) ∙ ap (λ n. n + 1) (same ∙ full);
-      sizes = All-from_recursion (λ v. length v ≡ old.names) vs (AllByRecursion-weaker (IsFirst old.names (agree old list)) (λ v. length v ≡ old.names) vs (λ v is. is.size) are.first);
-      differ = all_pairs _ vs (pairs_weaker (IsEarlier (agree old list)) (λ v w. AreAlike old list (holds_in v) (holds_in w) → ⊥) vs
-          (λ v w h alike. false≢true (sym h.0 ∙ agree_alike old reduced old (keeps (grows_none old)) (holds_in v) (holds_in w) list has alike)) are.pairs);
+      count = length-take-le (most + 1) all.valuations (omega arith);
+      sizes = All-from_recursion (λ v. length v ≡ old.names) vs
+          (AllByRecursion-weaker (IsFirst s.names alike) (λ v. length v ≡ old.names) vs (λ v is. is.size ∙ names) (all_taken (IsFirst s.names alike) (most + 1) all.valuations all.first));
+      differ = all_pairs _ vs (pairs_weaker (IsEarlier alike) (λ v w. AreAlike old list (holds_in v) (holds_in w) → ⊥) vs
+          (λ v w h same. false≢true (sym h.0 ∙ agree_alike old reduced old (keeps (grows_none old)) (holds_in v) (holds_in w) (take count list) (All-take (Has old) count list has)
+          (All-take (λ g. truth_in old g (holds_in v) ≡ truth_in old g (holds_in w)) count list same)))
+          (pairs_taken (IsEarlier alike) (most + 1) all.valuations all.pairs));
     }

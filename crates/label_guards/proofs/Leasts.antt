@@ -3,14 +3,14 @@ use Rattle.std.proofs.Common.{◌≡◌, ◌⊎◌, ℕ, zero, suc, ◌+◌, ◌
 use Rattle.std.proofs.Common.{Some, None, IfSome, sym, refl, ap, subst, inl, inr, arith}
 use Rattle.std.proofs.Math.Nat.{pow-le-pow_right}
 use Rattle.aut_base.specs.declared.limit.TheConstants.{MOST_NAMES}
-use Rattle.aut_base.specs.Valuation.{holds_in, letter_of, number_of}
+use Rattle.aut_base.specs.Valuation.{IsLeast, holds_in, letter_of, number_of, truth_on}
 use Rattle.aut_base.specs.Word.{NameSet}
 use Rattle.label_guards.specs.declared.guard.Guard.{Guard}
 use Rattle.label_guards.specs.declared.nodes.Node.{Node}
 use Rattle.label_guards.specs.Guards.{IsNeverMet}
-use Rattle.label_guards.specs.Leasts.{IsLeastLetter, IsNeverMetAt, IsLeastNumber, IsLeastAt, lesser_of, bits_of}
+use Rattle.label_guards.specs.Leasts.{IsLeastLetter, IsNeverMetAt, IsLeastNumber, IsLeastAt, IsLeastIn, IsMetAt, lesser_of, bits_of}
 use Rattle.label_guards.specs.Nodes.{IsReduced, StandsAt}
-use Rattle.label_guards.specs.Store.{Store, Has, HasPlace, outcome}
+use Rattle.label_guards.specs.Store.{Store, Has, HasPlace, label_in, outcome}
 use Rattle.label_guards.proofs.Agreement.{outcome_agrees}
 use Rattle.label_guards.proofs.LabelTruth.{truth_is}
 use Rattle.label_guards.proofs.Outcomes.{outcome-false, outcome-true}
@@ -49,6 +49,10 @@ least_true s = record {
   bare = λ i h. none_of-at s.names i;
   least = λ w size h. omega arith;
 }
+
+pub met_true : (s : Store) → IsMetAt s 1 0
+met_true s = let least = least_true s in
+    record { valuation = least.valuation; size = least.size; is_number = least.is_number; truth = least.truth; bare = least.bare }
 
 module _ (s : Store) (is : IsReduced s.names s.nodes) (p : ℕ) (n : Node) (at : StandsAt s p n) (has : HasPlace s p) where
   choose : (on : ℕ → Bool) (b : Bool) → on n.prop ≡ b → outcome s.nodes on p ≡ (if b then outcome s.nodes on n.high else outcome s.nodes on n.low)
@@ -113,6 +117,29 @@ module _ (s : Store) (is : IsReduced s.names s.nodes) (p : ℕ) (n : Node) (at :
         least = least;
       }
 
+  -- a valuation that meets a side, with the proposition set
+  pub met_low : (m : ℕ) → IsMetAt s n.low m → IsMetAt s p m
+  met_low m low = let a = at.node.low_later in let l = at.level in record {
+    valuation = low.valuation;
+    size = low.size;
+    is_number = low.is_number;
+    truth = choose (holds_in low.valuation) false (low.bare n.prop a) ∙ low.truth;
+    bare = λ i h. low.bare i (omega arith);
+  }
+
+  pub met_high : (m : ℕ) → IsMetAt s n.high m → IsMetAt s p (m + 2 ^ n.prop)
+  met_high m high = let a = at.node.high_later in let l = at.level in
+      let v : List Bool = put high.valuation n.prop true in
+      let b = number-put_true high.valuation n.prop (within high.valuation high.size) (high.bare n.prop a) in
+      let c = high.is_number in
+      record {
+        valuation = v;
+        size = length-put high.valuation n.prop true ∙ high.size;
+        is_number = omega arith;
+        truth = choose (holds_in v) true (put-at high.valuation n.prop true (within high.valuation high.size)) ∙ (high_put high.valuation true ∙ high.truth);
+        bare = λ i h. put-other high.valuation n.prop true i (λ e. let f : i ≡ n.prop = e in absurd (omega arith)) ∙ high.bare i (omega arith);
+      }
+
   pub least_step : (a b : Option ℕ) → IsLeastAt s n.low a → IsLeastAt s n.high b → IsLeastAt s p (lesser_of (2 ^ n.prop) a b)
   least_step None None low high = λ v size. not_met _ (λ h. elim (either (holds_in v n.prop)) [
     | inl e ↦ false_true _ (high (put v n.prop false) (length-put v n.prop false ∙ size)) (meets_high v size h e)
@@ -145,32 +172,53 @@ module _ (s : Store) (is : IsReduced s.names s.nodes) (p : ℕ) (n : Node) (at :
         | inr e ↦ let a = e.0 in inr (omega arith, omega arith)
       ]
 
--- the number of a least valuation is small
-pub least_small : (s : Store) → IsReduced s.names s.nodes → (p : ℕ) (found : Option ℕ) → IsLeastAt s p found → IfSome found (λ number. number < 2 ^ MOST_NAMES)
-least_small s is p None least = tt
-least_small s is p (Some m) least =
-    let v : List Bool = least.valuation in
+number_small : (s : Store) → IsReduced s.names s.nodes → (v : List Bool) (m : ℕ) → length v ≡ s.names → number_of v ≡ m → m < 2 ^ MOST_NAMES
+number_small s is v m size is_number =
     let a = number_bound v in
-    let b = least.is_number in
     let few = is.few in
-    let d = least.size in
     let e : length v ≤ MOST_NAMES = omega arith in
     let f : 0 < 2 = omega arith in
     let c : 2 ^ length v ≤ 2 ^ MOST_NAMES = pow-le-pow_right f e in
     omega arith
 
+-- the number of a least valuation is small
+pub least_small : (s : Store) → IsReduced s.names s.nodes → (p : ℕ) (found : Option ℕ) → IsLeastAt s p found → IfSome found (λ number. number < 2 ^ MOST_NAMES)
+least_small s is p None least = tt
+least_small s is p (Some m) least = number_small s is least.valuation m least.size least.is_number
+
+-- what the number of a valuation that meets a place is below
+pub met_small : (s : Store) → IsReduced s.names s.nodes → (p m : ℕ) → IsMetAt s p m → m < 2 ^ MOST_NAMES
+met_small s is p m met = number_small s is met.valuation m met.size met.is_number
+
 -- what is found of a place is found of its guard
+pub met_guard : (s : Store) → IsReduced s.names s.nodes → (g : Guard) → Has s g → (number : ℕ) → IsMetAt s g.place number → truth_on (label_in s g) (bits_of s.names number) ≡ true
+met_guard s is g has number met =
+    let same : bits_of s.names number ≡ met.valuation = ap (bits_of s.names) (sym met.is_number) ∙ bits_of-number met.valuation s.names met.size in
+    ap (truth_on (label_in s g)) same ∙ (truth_is s is g has (holds_in met.valuation) ∙ met.truth)
+
 pub never_met : (s : Store) → IsReduced s.names s.nodes → (g : Guard) → Has s g → IsNeverMetAt s g.place → IsNeverMet s g
 never_met s is g has none v size = truth_is s is g has (holds_in v) ∙ none v size
 
-pub least_letter : (s : Store) → IsReduced s.names s.nodes → (g : Guard) → Has s g → (names : List (List ℕ)) → length names ≡ s.names → (number : ℕ) (letter : NameSet)
-    → IsLeastNumber s g.place number → letter ≡ letter_of names (bits_of (length names) number) → IsLeastLetter s names g letter
-least_letter s is g has names count number letter least e = record {
-  valuation = least.valuation;
-  least = record {
-    size = least.size;
-    is_true = truth_is s is g has (holds_in least.valuation) ∙ least.truth;
-    least = λ w size h. subst (λ m. m ≤ number_of w) (sym least.is_number) (least.least w size (sym (truth_is s is g has (holds_in w)) ∙ h));
-  };
-  letter_of = e ∙ ap (letter_of names) (ap (bits_of (length names)) (sym least.is_number) ∙ bits_of-number least.valuation (length names) (least.size ∙ sym count));
+-- the valuation of the number is the least that meets the label
+least_valuation : (s : Store) → IsReduced s.names s.nodes → (g : Guard) → Has s g → (number : ℕ) → IsLeastNumber s g.place number
+    → IsLeast s.names (truth_on (label_in s g)) (bits_of s.names number)
+least_valuation s is g has number least =
+    let e : least.valuation ≡ bits_of s.names number = sym (bits_of-number least.valuation s.names least.size) ∙ ap (bits_of s.names) least.is_number in
+    subst (IsLeast s.names (truth_on (label_in s g))) e (record {
+      size = least.size;
+      is_true = truth_is s is g has (holds_in least.valuation) ∙ least.truth;
+      least = λ w size h. subst (λ m. m ≤ number_of w) (sym least.is_number) (least.least w size (sym (truth_is s is g has (holds_in w)) ∙ h));
+    })
+
+pub least_of_label : (s : Store) → IsReduced s.names s.nodes → (g : Guard) → Has s g → (found : Option ℕ) → IsLeastAt s g.place found → IsLeastIn s g found
+least_of_label s is g has None none = never_met s is g has none
+least_of_label s is g has (Some number) least = least_valuation s is g has number least
+
+-- so the letter of its number is the least
+pub least_letter : (s : Store) (g : Guard) (names : List (List ℕ)) → length names ≡ s.names → (number : ℕ) (letter : NameSet) → IsLeast s.names (truth_on (label_in s g)) (bits_of s.names number)
+    → letter ≡ letter_of names (bits_of (length names) number) → IsLeastLetter s names g letter
+least_letter s g names count number letter least e = record {
+  valuation = bits_of s.names number;
+  least = least;
+  letter_of = e ∙ ap (λ n. letter_of names (bits_of n number)) count;
 }

@@ -3,7 +3,7 @@ pub mod Brought
 pub mod ClassGuards
 pub mod ClassLaws
 pub mod ClassLeastLaws
-pub mod ClassPlaces
+pub mod ClassParts
 pub mod Dependence
 pub mod Firsts
 pub mod FoundClasses
@@ -15,6 +15,7 @@ pub mod Leasts
 pub mod LetterSteps
 pub mod Outcomes
 pub mod Parts
+pub mod PartsInOrder
 pub mod Pieces
 pub mod PlaceCubes
 pub mod Reduced

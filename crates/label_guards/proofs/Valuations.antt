@@ -48,6 +48,10 @@ pub number_bound : (v : List Bool) → number_of v < 2 ^ length v
 number_bound [] = omega arith
 number_bound (x ∷ v) = let a = number_bound v in let b : 2 ^ suc (length v) ≡ 2 ^ length v * 2 = pow-suc 2 (length v) in let c = bit_small x in omega arith
 
+pub length-bits_of : (n number : ℕ) → length (bits_of n number) ≡ n
+length-bits_of zero number = refl
+length-bits_of (suc n) number = ap suc (length-bits_of n (number / 2))
+
 -- a valuation is that of its number
 pub bits_of-number : (v : List Bool) (n : ℕ) → length v ≡ n → bits_of n (number_of v) ≡ v
 bits_of-number [] zero e = refl

@@ -1,4 +1,5 @@
 pub mod ClassLeasts
+pub mod ClassParts
 pub mod Classes
 pub mod Guards
 pub mod Leasts

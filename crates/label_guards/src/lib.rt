@@ -12,6 +12,7 @@ mod holds;
 mod labels;
 mod law;
 mod nodes;
+mod numbers;
 mod pick;
 mod table;
 

@@ -5,7 +5,7 @@ ghost use Rattle.std.specs.FinSet as set;
 ghost use Rattle.aut_base.specs.declared.limit.TheConstants.{MOST_NAMES};
 ghost use Rattle.aut_base.specs.Valuation.{letter_of};
 ghost use Rattle.label_guards.specs.Guards.{IsNeverMet};
-ghost use Rattle.label_guards.specs.Leasts.{IsLeastAt, IsLeastLetter, bits_of, lesser_of};
+ghost use Rattle.label_guards.specs.Leasts.{IsLeastAt, IsLeastLetter, IsLeastOf, bits_of, lesser_of};
 ghost use Rattle.label_guards.specs.Store.{Has, HasPlace};
 ghost use Rattle.label_guards.specs.Tables.{AreDone};
 
@@ -23,23 +23,21 @@ impl Guards {
         requires names { length names.now ≡ self.now.names }
         ensures { IfOk result (λ found. MatchOption found (IsNeverMet self.now g) (IsLeastLetter self.now names.now g)) }
     {
-        self.reduced();
-        let mut leasts = Results::new(alloc);
-        match self.least(&mut leasts, g.place)? {
+        match self.least(alloc, g)? {
             Some(number) => Ok(Some(letter_at(alloc, names, number)?)),
             None => Ok(None),
         }
     }
 
     /// The number of the least valuation that meets a place, where the table has what was found so far.
-    pub(crate) fn least(
+    pub(crate) fn least_with(
         &self,
         leasts: &mut Results<Option<u64>>,
         place: usize,
     ) -> Result<Option<u64>, Memory>
         requires has { HasPlace self.now place }
-        requires done { AreDone (IsLeastAt self.now) leasts.old.entries }
-        ensures done { AreDone (IsLeastAt self.now) leasts.new.entries }
+        requires done { AreDone (IsLeastOf self.now) leasts.old.entries }
+        ensures done { AreDone (IsLeastOf self.now) leasts.new.entries }
         ensures least { IfOk result (IsLeastAt self.now place) }
     {
         self.reduced();
@@ -53,8 +51,8 @@ impl Guards {
             return Ok(found);
         }
         let node = self.node_at(place);
-        let low = self.least(leasts, node.low)?;
-        let high = self.least(leasts, node.high)?;
+        let low = self.least_with(leasts, node.low)?;
+        let high = self.least_with(leasts, node.high)?;
         let found = lesser(node.prop, low, high);
         put_done(leasts, place, found)?;
         Ok(found)
@@ -76,7 +74,7 @@ fn lesser(prop: u32, low: Option<u64>, high: Option<u64>) -> Option<u64>
 }
 
 /// What a proposition adds to the number of a valuation.
-fn weight(prop: u32) -> u64
+pub(crate) fn weight(prop: u32) -> u64
     requires { prop < MOST_NAMES }
     ensures weight { result ≡ 2 ^ prop }
     ensures small { result < 2 ^ MOST_NAMES }

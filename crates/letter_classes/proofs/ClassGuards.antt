@@ -1,29 +1,29 @@
 -- The guards that a store gives for the classes of a set, and what becomes of them in a store that has grown.
-use Rattle.std.proofs.Common.{◌≡◌, ◌∙◌, ◌&&◌, ◌<◌, ◌≤◌, ℕ, Bool, List, Option, None, Some, Result, Ok, Err, ap, arith, filter, length, nat_lt, not, slice_get, subst, sym}
+use Rattle.std.proofs.Common.{◌≡◌, ◌∙◌, ◌&&◌, ◌<◌, ◌≤◌, ℕ, Bool, true, false, cond, List, [], ◌∷◌, Option, None, Some, Result, Ok, Err, ap, arith, filter, length, map, nat_lt, refl, not, slice_get, subst, sym}
 use Rattle.std.specs.Prelude.{IfOk, MatchOption}
-use Rattle.std.proofs.lemmas.Bool.{true≢false}
+use Rattle.std.proofs.lemmas.Bool.{and_parts, true≢false}
 use Rattle.std.proofs.lemmas.List.Elements.{All-contains}
 use Rattle.std.proofs.lemmas.List.Folds.{list_all-map}
 use Rattle.std.specs.Bool.{beq}
 use Rattle.std.specs.List.{list_all, list_any}
-use Rattle.aut_base.proofs.ValuationLetters.{letter_of_holds}
+use Rattle.aut_base.proofs.CanonicalTruth.{truth_on-label_of}
+use Rattle.aut_base.specs.Automaton.{TreeEdge}
 use Rattle.aut_base.specs.CanonicalLabel.{label_of}
-use Rattle.aut_base.specs.Label.{LabelTree, holds_at, truth}
-use Rattle.aut_base.specs.Valuation.{IsLeast, holds_in, letter_of, number_of, truth_on, valuations}
-use Rattle.aut_base.specs.Word.{NameSet}
+use Rattle.aut_base.specs.Label.{LabelTree, truth}
+use Rattle.aut_base.specs.Valuation.{IsLeast, holds_in, number_of, truth_on, valuations}
 use Rattle.aut_core.proofs.Growth.{keeps_on}
 use Rattle.aut_core.specs.Core.{Core, IsCore, automaton_of}
 use Rattle.exploration.specs.Moves.{AreClasses}
-use Rattle.label_guards.proofs.ClassLeastLaws.{least_is_one}
+use Rattle.label_guards.proofs.Valuations.{length-bits_of}
 use Rattle.label_guards.specs.ClassLeasts.{are_alike, class_leasts, labels_in}
 use Rattle.label_guards.specs.Guards.{IsNeverMet}
-use Rattle.label_guards.specs.Leasts.{IsLeastLetter}
+use Rattle.label_guards.specs.Leasts.{bits_of}
 use Rattle.label_guards.specs.Store.{Has, Keeps, Store, label_in}
 use Rattle.label_guards.specs.declared.guard.Guard.{Guard}
 use Rattle.letter_classes.proofs.KnownLists.{map_same}
 use Rattle.letter_classes.proofs.SetGuards.{guards_has, guards_labels}
 use Rattle.letter_classes.specs.Known.{IsKnown}
-use Rattle.letter_classes.specs.SetClasses.{FitsStore, IsClassGuard, TellTheSame, guards_from, set_classes, set_labels}
+use Rattle.letter_classes.specs.SetClasses.{FitsStore, IsClassGuard, TellTheSame, guards_from, set_classes, set_edges, set_labels}
 
 -- what is alike, by what says which propositions hold
 abbrev Alike : Type 0
@@ -112,16 +112,48 @@ class_kept c s t keeps set k g is = record {
   label = keeps.labels g is.has ∙ is.label;
 }
 
--- The letter that a store picks for the guard of a class is that of the class's valuation.
+-- the number that a store finds, which is this one, is that of a valuation that meets the guard
+pub met_number : (s t : Store) (g : Guard) (found : Option ℕ) (number : ℕ) → t ≡ s → found ≡ Some number
+    → MatchOption found (IsNeverMet t g) (λ n. truth_on (label_in t g) (bits_of t.names n) ≡ true) → truth_on (label_in s g) (bits_of s.names number) ≡ true
+met_number s t g found number same is met =
+    subst (λ (x : Store). truth_on (label_in x g) (bits_of x.names number) ≡ true) same
+    (subst (λ (o : Option ℕ). MatchOption o (IsNeverMet t g) (λ n. truth_on (label_in t g) (bits_of t.names n) ≡ true)) is met)
+
+-- Where all labels of these edges are alike at two valuations, both read the same edges.
+same_edges : (v w : List Bool) (es : List TreeEdge) → are_alike (map (λ e. e.label) es) (holds_in v) (holds_in w) ≡ true
+    → filter (λ e. truth_on e.label w) es ≡ filter (λ e. truth_on e.label v) es
+same_edges v w [] alike = refl
+same_edges v w (e ∷ es) alike =
+    let parts = and_parts (beq (truth_on e.label v) (truth_on e.label w)) (are_alike (map (λ e. e.label) es) (holds_in v) (holds_in w)) alike in
+    let head = beq_same (truth_on e.label v) (truth_on e.label w) parts.0 in
+    let tail = same_edges v w es parts.1 in
+    λ i. cond (sym head i) (e ∷ tail i) (tail i)
+  where
+    beq_same : (a b : Bool) → beq a b ≡ true → a ≡ b
+    beq_same true true h = refl
+    beq_same false false h = refl
+    beq_same true false h = absurd (true≢false (sym h))
+    beq_same false true h = absurd (true≢false (sym h))
+
+-- A valuation that meets the guard of a class reads the edges from the set that the class's own valuation reads.
 module _ (c : Core) (core : IsCore c) (s : Store) (set : List ℕ) (k : ℕ) (g : Guard) (fits : FitsStore c s set) (is : IsClassGuard c s set k g) where
   names_are : s.names ≡ length c.names
   names_are = fits.keeps.names ∙ core.parts.store_names
 
-  pub some_letter : IsNeverMet s g → ⊥
-  some_letter never = true≢false (sym is.least.is_true ∙ never is.valuation is.least.size)
+  pub some_meets : IsNeverMet s g → ⊥
+  some_meets never = true≢false (sym is.least.is_true ∙ never is.valuation is.least.size)
 
-  pub letter_holds : (letter : NameSet) → IsLeastLetter s c.names g letter → holds_at c.names letter ≡ holds_in is.valuation
-  letter_holds letter least =
-      let one = least_is_one s.names (truth_on (label_in s g)) least.valuation is.valuation least.least is.least in
-      let same : letter ≡ letter_of c.names is.valuation = least.letter_of ∙ ap (letter_of c.names) one in
-      ap (holds_at c.names) same ∙ (λ j. λ i. letter_of_holds c.names is.valuation i core.well_formed.names_differ (is.least.size ∙ names_are) j)
+  pub class_edges : (w : List Bool) → length w ≡ s.names → truth_on (label_in s g) w ≡ true
+      → filter (λ e. truth_on e.label w) (set_edges (automaton_of c) set) ≡ filter (λ e. truth_on e.label is.valuation) (set_edges (automaton_of c) set)
+  class_edges w size meets =
+      let alike : are_alike (set_labels (automaton_of c) set) (holds_in is.valuation) (holds_in w) ≡ true =
+      sym (truth_on-label_of (length c.names) (λ u. are_alike (set_labels (automaton_of c) set) (holds_in is.valuation) (holds_in u)) w (size ∙ names_are))
+      ∙ (ap (λ (t : LabelTree). truth_on t w) (sym is.label) ∙ meets) in
+      same_edges is.valuation w (set_edges (automaton_of c) set) alike
+
+  -- the same of a number, at which an automaton's own store says what holds
+  pub number_edges : (n number : ℕ) → n ≡ c.store.names → truth_on (label_in s g) (bits_of s.names number) ≡ true
+      → filter (λ e. truth_on e.label (bits_of n number)) (set_edges (automaton_of c) set) ≡ filter (λ e. truth_on e.label is.valuation) (set_edges (automaton_of c) set)
+  number_edges n number own meets =
+      let size : n ≡ s.names = own ∙ sym fits.keeps.names in
+      class_edges (bits_of n number) (length-bits_of n number ∙ size) (subst (λ (m : ℕ). truth_on (label_in s g) (bits_of m number) ≡ true) (sym size) meets)

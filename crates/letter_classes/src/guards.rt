@@ -11,7 +11,7 @@ use std::alloc::Global;
 
 /// The guards of the edges from the states of the set, each once. Many edges have the same guard, and whoever goes through the
 /// guards for each class has less to do.
-pub fn set_guards(alloc: Global, a: &Automaton, set: &[u32]) -> Result<GuardList, Memory>
+pub(crate) fn set_guards(alloc: Global, a: &Automaton, set: &[u32]) -> Result<GuardList, Memory>
     requires { All (λ q. q < a.now.states) set.now }
     ensures has { IfOk result (All (Has a.now.store)) }
     ensures told { IfOk result (λ list. TellTheSame list (guards_from a.now set.now)) }

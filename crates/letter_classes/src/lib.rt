@@ -1,9 +1,8 @@
 //! The classes of letters that the edges from a set of states don't tell apart, as constructions that explore sets of states
 //! class by class take them.
 //!
-//! A caller sees `classes_of_set`, over a `ClassStore`, which keeps the classes of the lists of guards that it has met, and
-//! `set_guards` for the guards that tell the classes apart. What the classes are is defined in `specs/SetClasses`, by the least
-//! valuation of each.
+//! A caller sees `classes_of_set`, over a `ClassStore`, which keeps the classes of the lists of guards that it has met. What the
+//! classes are is defined in `specs/SetClasses`, by the least valuation of each.
 #![tactic(auto)]
 
 mod classes;
@@ -12,5 +11,4 @@ mod known;
 mod store;
 
 pub use classes::classes_of_set;
-pub use guards::set_guards;
 pub use store::ClassStore;

@@ -1,14 +1,12 @@
 //! A store of guards that keeps the classes of the lists of guards that were met.
 
-ghost use Rattle.std.specs.Prelude.{◌≡◌, ◌↔◌, ◌<◌, ◌≤◌, ◌&&◌, ℕ, All, IfOk, IsTrue, List, MatchOption, length};
+ghost use Rattle.std.specs.Prelude.{◌≡◌, ◌<◌, ◌≤◌, All, IfOk, MatchOption, length};
 ghost use Rattle.label_guards.specs.ClassLeasts.{class_leasts, labels_in};
-ghost use Rattle.label_guards.specs.Guards.{AreNames, IsGuardOf, IsMetByNone, IsNeverMet, truth_in};
-ghost use Rattle.label_guards.specs.Leasts.{IsLeastLetter};
 ghost use Rattle.label_guards.specs.Store.{Has, Keeps};
 ghost use Rattle.letter_classes.specs.Known.{IsKnown};
 
 use crate::known::{Known, known_classes};
-use aut_base::{Letter, Memory, Names};
+use aut_base::Memory;
 use label_guards::{Guard, GuardList, Guards};
 use std::alloc::Global;
 use std::marker::Model;
@@ -66,31 +64,10 @@ impl ClassStore {
         known_classes(alloc, &mut self.guards, &mut self.known, list, most)
     }
 
-    /// The guard that is true where both are.
-    pub fn and(&mut self, g: Guard, h: Guard) -> Result<Guard, Memory>
-        requires left { Has self.old g }
-        requires right { Has self.old h }
-        ensures keeps { Keeps self.old self.new }
-        ensures and { IfOk result (IsGuardOf self.new (λ on. truth_in self.old g on && truth_in self.old h on)) }
+    /// The store alone, to be asked.
+    pub fn guards(&self) -> &Guards
+        ensures { result.now ≡ self.now }
     {
-        self.guards.and(g, h)
-    }
-
-    /// Whether the guard is never true, in constant time.
-    pub fn is_false(&self, g: Guard) -> bool
-        requires { Has self.now g }
-        ensures valuations { IsTrue result ↔ IsNeverMet self.now g }
-        ensures letters { (names : List (List ℕ)) → AreNames self.now names → (IsTrue result ↔ IsMetByNone self.now names g) }
-    {
-        self.guards.is_false(g)
-    }
-
-    /// The letter of the least valuation that meets the guard, or `None` where none meets it.
-    pub fn pick(&self, alloc: Global, names: &Names, g: Guard) -> Result<Option<Letter>, Memory>
-        requires has { Has self.now g }
-        requires names { length names.now ≡ self.now.names }
-        ensures { IfOk result (λ found. MatchOption found (IsNeverMet self.now g) (IsLeastLetter self.now names.now g)) }
-    {
-        self.guards.pick(alloc, names, g)
+        &self.guards
     }
 }

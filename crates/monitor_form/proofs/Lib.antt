@@ -1,6 +1,6 @@
 pub mod Built
 pub mod Formed
-pub mod LetterEnds
+pub mod EdgeEnds
 pub mod LivePaths
 pub mod LongPaths
 pub mod MonitorLaws

@@ -76,10 +76,10 @@ impl<'a> System for Subsets<'a> {
         class: Guard,
     ) -> Result<Option<(Numbers, ())>, StepFault> {
         self.automaton.whole();
-        let Some(letter) = self.guards.pick(alloc, self.automaton.names(), class)? else {
+        let Some(number) = self.guards.guards().meeting(class) else {
             unreachable!()
         };
-        let goals = goals(alloc, self.automaton, thing.as_slice(), &letter)?;
+        let goals = goals(alloc, self.automaton, thing.as_slice(), number)?;
         if goals.is_empty() {
             return Ok(None);
         }

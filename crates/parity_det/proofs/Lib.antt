@@ -1,10 +1,9 @@
 pub mod Built
 pub mod DualSets
+pub mod EdgeMoves
 pub mod Explored
 pub mod FewNodes
 pub mod Formed
-pub mod MetGuards
-pub mod MetMoves
 pub mod ParityLaws
 pub mod TreeSteps
 pub mod Widths

@@ -1,5 +1,5 @@
 -- The step of a tree for a class, under the moves that its valuation allows.
-use Rattle.std.proofs.Common.{◌≡◌, ◌∙◌, ◌<◌, ◌≤◌, ℕ, All, Err, List, ap, filter, length, map, refl, slice_get, subst, sym}
+use Rattle.std.proofs.Common.{◌≡◌, ◌∙◌, ◌<◌, ◌≤◌, ℕ, true, Err, List, ap, length, map, refl, slice_get, subst, sym}
 use Rattle.std.proofs.lemmas.Option.{same_Some}
 use Rattle.aut_base.specs.Automaton.{Automaton}
 use Rattle.aut_base.specs.Valuation.{truth_on}
@@ -8,15 +8,15 @@ use Rattle.aut_core.specs.Core.{Core, IsCore, automaton_of}
 use Rattle.exploration.specs.Moves as same
 use Rattle.exploration.specs.Moves.{Fails, Gives, IsStep, Move}
 use Rattle.exploration.specs.declared.fault.StepFault.{StepFault}
-use Rattle.label_guards.specs.Store.{Keeps, Store}
+use Rattle.label_guards.specs.Leasts.{bits_of}
+use Rattle.label_guards.specs.Store.{Keeps, Store, label_in}
 use Rattle.label_guards.specs.declared.guard.Guard.{Guard}
-use Rattle.letter_classes.proofs.ClassGuards.{class_kept, fits_kept}
-use Rattle.letter_classes.specs.SetClasses.{FitsStore, IsClassGuard, TellTheSame, guards_from, set_edges}
+use Rattle.letter_classes.proofs.ClassGuards.{class_kept, fits_kept, number_edges}
+use Rattle.letter_classes.specs.SetClasses.{FitsStore, IsClassGuard, set_edges}
 use Rattle.parity_det.proofs.Explored.{large_fails, small_given}
-use Rattle.parity_det.proofs.MetGuards.{met_at}
 use Rattle.parity_det.specs.Determinisation.{class_moves, step_at, tree_classes, tree_moves, unless_large}
 use Rattle.parity_det.specs.Faults.{step_fault}
-use Rattle.parity_det.specs.Systems.{AreMet, AreMetAt, IsClassEvent}
+use Rattle.parity_det.specs.Systems.{IsClassEvent, moves_of, reads_at}
 use Rattle.parity_laws.specs.Buchi.{move_of}
 use Rattle.safra_laws.specs.Rounds.{next_tree}
 use Rattle.safra_trees.specs.Events.{event_of}
@@ -27,14 +27,13 @@ use Rattle.safra_trees.specs.declared.fault.TreeFault.{TreeFault}
 use Rattle.safra_trees.specs.declared.fault.TreeFault.TheVariants as tree
 use Rattle.safra_trees.specs.declared.moves.Move as moves
 
--- The moves under the guards that the class meets, of a set that is the root's states.
-module _ (c : Core) (core : IsCore c) (s : Store) (t : List Node) (k : ℕ) (g : Guard) (fits : FitsStore c s (root_states t)) (is : IsClassGuard c s (root_states t) k g)
-    (set : List ℕ) (root : set ≡ root_states t) (list met : List Guard) (told : TellTheSame list (guards_from c set)) (are : AreMet s g list met) where
-  pub met_root : All (AreMetAt c met is.valuation) set
-  met_root = subst (All (AreMetAt c met is.valuation)) (sym root) (met_at c core s (root_states t) k g fits is list met (subst (λ (qs : List ℕ). TellTheSame list (guards_from c qs)) root told) are)
-
-  pub met_class : (taken : List moves.Move) → taken ≡ map move_of (filter (λ e. truth_on e.label is.valuation) (set_edges (automaton_of c) set)) → taken ≡ class_moves (automaton_of c) t is.valuation
-  met_class taken e = e ∙ ap (λ qs. map move_of (filter (λ e. truth_on e.label is.valuation) (set_edges (automaton_of c) qs))) root
+-- The moves at a valuation that meets the guard of the class, of a set that is the root's states, are those of the class.
+pub class_taken : (c : Core) → IsCore c → (s : Store) (t : List Node) (k : ℕ) (g : Guard) → FitsStore c s (root_states t) → (is : IsClassGuard c s (root_states t) k g)
+    → (set : List ℕ) → set ≡ root_states t → (number : ℕ) → truth_on (label_in s g) (bits_of s.names number) ≡ true
+    → (taken : List moves.Move) → taken ≡ moves_of (reads_at c number) (set_edges (automaton_of c) set) → taken ≡ class_moves (automaton_of c) t is.valuation
+class_taken c core s t k g fits is set root number meets taken e =
+    e ∙ (ap (λ qs. moves_of (reads_at c number) (set_edges (automaton_of c) qs)) root
+    ∙ ap (map move_of) (number_edges c core s (root_states t) k g fits is c.store.names number refl meets))
 
 -- a system whose store has grown
 pub system_keeps : (c : Core) (s t : Store) → Keeps s t → same.Keeps (tree_moves (automaton_of c)) (tree_moves (automaton_of c)) (λ x. FitsStore c s (root_states x))

@@ -1,33 +1,29 @@
 -- What the functions of the construction say to one another.
-use Rattle.std.specs.Prelude.{◌≡◌, ◌&&◌, ◌∷◌, [], ℕ, Bool, false, Contains, List, Some, length, nat_eq, slice_get}
-use Rattle.std.specs.List.{list_any}
-use Rattle.aut_base.specs.Automaton.{Automaton}
+use Rattle.std.specs.Prelude.{◌≡◌, ◌∷◌, [], ℕ, Bool, List, Some, filter, map, slice_get}
+use Rattle.aut_base.specs.Automaton.{Automaton, TreeEdge}
 use Rattle.aut_base.specs.Valuation.{truth_on}
 use Rattle.aut_core.specs.Core.{Core, automaton_of}
 use Rattle.aut_core.specs.declared.link.Link.{Link}
 use Rattle.exploration.specs.Turns.{Comes, Meets, begin}
 use Rattle.exploration.specs.declared.exploration.Edge.{Edge}
 use Rattle.exploration.specs.declared.fault.Fault.{Fault}
-use Rattle.label_guards.specs.Store.{Store, label_in}
+use Rattle.label_guards.specs.Leasts.{bits_of}
 use Rattle.label_guards.specs.declared.guard.Guard.{Guard}
 use Rattle.parity_det.specs.Determinisation.{class_moves, start_tree, tree_classes, tree_rules}
+use Rattle.parity_laws.specs.Buchi.{move_of}
 use Rattle.safra_laws.specs.Priorities.{priority_by}
 use Rattle.safra_trees.specs.Events.{event_of}
 use Rattle.safra_trees.specs.Trees.{Node}
 use Rattle.safra_trees.specs.declared.event.Event.{Event}
+use Rattle.safra_trees.specs.declared.moves.Move.{Move}
 
--- no valuation meets both guards
-abbrev pub AreApart : Store → Guard → Guard → Type 0
-AreApart s g h = (v : List Bool) → length v ≡ s.names → (truth_on (label_in s g) v && truth_on (label_in s h) v) ≡ false
+-- the edge is read at the valuation of this number
+abbrev pub reads_at : Core → ℕ → TreeEdge → Bool
+reads_at c number e = truth_on e.label (bits_of c.store.names number)
 
--- the guards of the list that some valuation meets together with this one
-pub record AreMet (s : Store) (class : Guard) (list met : List Guard) : Type 0 where
-  pub sound : (g : Guard) → Contains met g → AreApart s class g → ⊥
-  pub whole : (g : Guard) → Contains list g → (AreApart s class g → ⊥) → Contains met g
-
--- of the links that leave the state, the list has the guards of just those that are true at the valuation
-abbrev pub AreMetAt : Core → List Guard → List Bool → ℕ → Type 0
-AreMetAt c met v q = (l : Link) → Contains c.links l → l.from ≡ q → list_any (λ (g : Guard). nat_eq g.place l.guard.place) met ≡ truth_on (label_in c.store l.guard) v
+-- the moves of those of the edges that are read
+abbrev pub moves_of : (TreeEdge → Bool) → List TreeEdge → List Move
+moves_of reads es = map move_of (filter reads es)
 
 -- the event is that of the step for the class of this number
 abbrev pub IsClassEvent : Core → List Node → ℕ → Event → Type 0

@@ -10,7 +10,6 @@ mod fault;
 mod form;
 mod law;
 mod marks;
-mod met;
 mod moves;
 mod trees;
 

@@ -3,13 +3,12 @@
 ghost use Rattle.std.specs.Prelude.{◌≡◌};
 
 use crate::fault::step_fault;
-use crate::met::met_guards;
-use crate::moves::met_moves;
+use crate::moves::moves_at;
 use aut_base::Memory;
 use aut_core::Automaton;
 use exploration::{StepFault, System};
 use label_guards::Guard;
-use letter_classes::{ClassStore, classes_of_set, set_guards};
+use letter_classes::{ClassStore, classes_of_set};
 use safra_trees::{Event, SafraTree};
 use std::alloc::Global;
 
@@ -77,10 +76,10 @@ impl<'a> System for Trees<'a> {
         class: Guard,
     ) -> Result<Option<(SafraTree, Event)>, StepFault> {
         self.automaton.whole();
-        let set = thing.root_states();
-        let list = set_guards(alloc, self.automaton, set)?;
-        let met = met_guards(alloc, &mut self.guards, &list, class)?;
-        let moves = met_moves(alloc, self.automaton, set, &met)?;
+        let Some(number) = self.guards.guards().meeting(class) else {
+            unreachable!()
+        };
+        let moves = moves_at(alloc, self.automaton, thing.root_states(), number)?;
         match safra_trees::step(alloc, self.automaton.states(), thing, &moves) {
             Ok(made) => Ok(Some(made)),
             Err(fault) => Err(step_fault(fault)),

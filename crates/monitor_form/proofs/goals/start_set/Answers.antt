@@ -1,5 +1,5 @@
 use Rattle.std.proofs.Common.{◌∙◌}
-use Rattle.monitor_form.proofs.LetterEnds.{starts_are}
+use Rattle.monitor_form.proofs.EdgeEnds.{starts_are}
 use Rattle.monitor_form.proofs.goals.start_set.Goals as goal
 
 pub returns : goal.returns

@@ -1,0 +1,87 @@
+-- The states to which edges that are read lead, link by link, and the goals of a set as these in rising order.
+use Rattle.std.proofs.Common.{◌≡◌, ◌∙◌, ◌+◌, ◌<◌, ◌≤◌, ◌==◌, ◌&&◌, ℕ, Bool, true, false, cond, Contains, List, [], ◌∷◌, ◌++◌, Some, ap, eq-eqb}
+use Rattle.std.proofs.Common.{filter, get_or, length, map, refl, slice_get, subst, sym, take}
+use Rattle.std.proofs.lemmas.Bool.{and_from, and_parts, eqb-true}
+use Rattle.std.proofs.lemmas.List.{append-nil, append_assoc, map-append, take_all}
+use Rattle.std.proofs.lemmas.List.Elements.{All-contains, filter-append}
+use Rattle.std.specs.List.{list_any}
+use Rattle.std.specs.List.Sorted.{IsStrictlyIncreasing}
+use Rattle.aut_base.proofs.Members.{any_found, any_from, from_filter, from_flat_map, from_map, there_filter, there_map}
+use Rattle.aut_base.proofs.Steps.{map_on}
+use Rattle.aut_base.specs.Automaton.{Automaton, IsEdgeOf, TreeEdge}
+use Rattle.aut_base.specs.Valuation.{truth_on}
+use Rattle.aut_core.specs.Core.{Core, IsCore, automaton_of, edge_of}
+use Rattle.aut_core.specs.Surveys.{edges_from}
+use Rattle.aut_core.specs.declared.link.Link.{Link}
+use Rattle.aut_ops.proofs.Linked.{edges_filter}
+use Rattle.letter_classes.proofs.SetGuards.{set_edges_on}
+use Rattle.letter_classes.specs.SetClasses.{set_edges}
+use Rattle.monitor_form.proofs.RisingLists.{kept_of_range}
+use Rattle.monitor_form.specs.Subsets.{goals, is_goal, start_set}
+use Rattle.monitor_form.specs.Systems.{ends_of}
+
+abbrev end_of : TreeEdge → ℕ
+end_of e = e.to
+
+abbrev pub link_ends : Core → (TreeEdge → Bool) → List Link → List ℕ
+link_ends c reads ls = ends_of reads (map (edge_of c.store) ls)
+
+ends_join : (reads : TreeEdge → Bool) (es fs : List TreeEdge) → ends_of reads (es ++ fs) ≡ ends_of reads es ++ ends_of reads fs
+ends_join reads es fs = ap (map end_of) (filter-append reads es fs) ∙ map-append end_of (filter reads es) (filter reads fs)
+
+pub all_links : (c : Core) (reads : TreeEdge → Bool) (state i : ℕ) (row : List Link) (old new : List ℕ) → row ≡ filter (λ l. l.from == state) c.links → length row ≤ i
+    → new ≡ old ++ link_ends c reads (take i row) → new ≡ old ++ ends_of reads (edges_from state (automaton_of c).edges)
+all_links c reads state i row old new e all so =
+    so ∙ ap (λ es. old ++ ends_of reads es) (ap (map (edge_of c.store)) (take_all i row all ∙ e) ∙ sym (edges_filter c.store state c.links))
+
+-- the edges of one state more
+pub state_more : (b : Automaton) (reads : TreeEdge → Bool) (set : List ℕ) (k state : ℕ) (now new : List ℕ) → slice_get set k ≡ Some state → now ≡ ends_of reads (set_edges b (take k set))
+    → new ≡ now ++ ends_of reads (edges_from state b.edges) → new ≡ ends_of reads (set_edges b (take (k + 1) set))
+state_more b reads set k state now new at so e =
+    e ∙ (ap (λ qs. qs ++ ends_of reads (edges_from state b.edges)) so
+    ∙ (sym (ends_join reads (set_edges b (take k set)) (edges_from state b.edges)) ∙ ap (ends_of reads) (set_edges_on b set k state at)))
+
+-- in rising order they are the goals
+module _ (c : Core) (core : IsCore c) (v : List Bool) (set ends found : List ℕ) (rises : IsStrictlyIncreasing found) (keeps : (q : ℕ) → Contains ends q → Contains found q)
+    (adds_none : (q : ℕ) → Contains found q → Contains ends q) where
+  abbrev a : Automaton
+  a = automaton_of c
+
+  abbrev reads : TreeEdge → Bool
+  reads e = truth_on e.label v
+
+  to_goal : ends ≡ ends_of reads (set_edges a set) → (q : ℕ) → Contains found q → (q < c.states) × (is_goal reads (set_edges a set) q ≡ true)
+  to_goal is q there =
+      let end = from_map end_of (filter reads (set_edges a set)) q (subst (λ (qs : List ℕ). Contains qs q) is (adds_none q there)) in
+      let kept = from_filter reads (set_edges a set) end.0 end.1 in
+      let place = from_flat_map (λ p. edges_from p a.edges) set end.0 kept.0 in
+      let edge = from_filter (λ (e : TreeEdge). e.from == place.0) a.edges end.0 place.2 in
+      let bounds = All-contains (IsEdgeOf a) a.edges end.0 core.well_formed.edges edge.0 in (
+        subst (λ p. p < c.states) end.2 bounds.to,
+        any_from (λ e. (e.to == q) && reads e) (set_edges a set) end.0 kept.0 (and_from (end.0.to == q) (reads end.0) (eq-eqb end.0.to q end.2) kept.1),
+      )
+
+  from_goal : ends ≡ ends_of reads (set_edges a set) → (q : ℕ) → q < c.states → is_goal reads (set_edges a set) q ≡ true → Contains found q
+  from_goal is q less passes =
+      let e = any_found (λ d. (d.to == q) && reads d) (set_edges a set) passes in
+      let parts = and_parts (e.0.to == q) (reads e.0) e.2 in
+      let there = there_map end_of (filter reads (set_edges a set)) e.0 (there_filter reads (set_edges a set) e.0 e.1 parts.1) in
+      keeps q (subst (λ (qs : List ℕ). Contains qs q) (sym is) (subst (Contains (ends_of reads (set_edges a set))) (eqb-true e.0.to q parts.0) there))
+
+  pub goals_are : (k : ℕ) → length set ≤ k → ends ≡ ends_of reads (set_edges a (take k set)) → found ≡ goals a set v
+  goals_are k all so =
+      let is : ends ≡ ends_of reads (set_edges a set) = so ∙ ap (λ qs. ends_of reads (set_edges a qs)) (take_all k set all) in
+      kept_of_range (is_goal reads (set_edges a set)) c.states found rises (to_goal is) (from_goal is)
+
+-- the starts in rising order
+pub starts_are : (c : Core) → IsCore c → (starts found : List ℕ) → starts ≡ c.starts → IsStrictlyIncreasing found → ((q : ℕ) → Contains starts q → Contains found q)
+    → ((q : ℕ) → Contains found q → Contains starts q) → found ≡ start_set (automaton_of c)
+starts_are c core starts found is rises keeps adds_none = kept_of_range (λ q. list_any (λ s. s == q) c.starts) c.states found rises
+    (λ q there. (
+    let start = subst (λ (qs : List ℕ). Contains qs q) is (adds_none q there) in
+    (All-contains (λ p. p < c.states) c.starts q core.well_formed.starts start, any_from (λ s. s == q) c.starts q start (eq-eqb q q refl))
+    ))
+    (λ q less passes. (
+    let s = any_found (λ s. s == q) c.starts passes in
+    keeps q (subst (λ (qs : List ℕ). Contains qs q) (sym is) (subst (Contains c.starts) (eqb-true s.0 q s.2) s.1))
+    ))
