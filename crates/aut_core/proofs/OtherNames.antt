@@ -1,6 +1,6 @@
 -- A label over other names.
 use Rattle.std.proofs.Common.{◌≡◌, ◌≢◌, ◌∙◌, ◌<◌, ◌≤◌, ◌+◌, ⊎_elim, ℕ, Bool, false, List, [], ◌∷◌, ◌++◌, All, AllPairs, Contains, Some, ap, arith}
-use Rattle.std.proofs.Common.{get_or, length, length-append, refl, slice_get, subst, sym}
+use Rattle.std.proofs.Common.{get_or, length, length-append, map, refl, slice_get, subst, sym}
 use Rattle.std.proofs.lemmas.Bool.{cases_lt}
 use Rattle.std.proofs.lemmas.List.{get_or_append_left, get_or-append-add}
 use Rattle.std.proofs.lemmas.List.Elements.{All-contains, All-map, All-push, All-weaker}
@@ -27,8 +27,9 @@ use Rattle.aut_base.specs.declared.limit.TheConstants.{MOST_NAMES}
 use Rattle.label_guards.specs.Guards.{AreNames, IsGuardOf, truth_in}
 use Rattle.label_guards.specs.Store.{Has, Store, label_in}
 use Rattle.label_guards.specs.declared.guard.Guard.{Guard}
-use Rattle.aut_core.specs.Core.{AreParts, Core, IsCore, automaton_of}
+use Rattle.aut_core.specs.Core.{AreParts, Core, IsCore, automaton_of, edge_of}
 use Rattle.aut_core.specs.OtherNames.{AcceptTheSame, label_over, over_names}
+use Rattle.aut_core.specs.declared.link.Link.{Link}
 use Rattle.aut_core.proofs.Made.{label_in_below, label_in_settled, parts_from}
 
 -- each name stands in the other list at its place
@@ -85,6 +86,23 @@ same_at old new among x i less =
     ∙ (letter_of_holds new v j among.differ (length-valuation_of (length new) (holds_at new x))
     ∙ (holds_in-valuation_of (length new) (holds_at new x) j there.1
     ∙ ap (λ o. option_map_or (contains x) o false) (sym both)))
+
+-- over its own names a label is as it was
+label_over_own : (s : Store) (names : List (List ℕ)) → AreNames s names → (g : Guard) → label_over names names (label_in s g) ≡ label_in s g
+label_over_own s names are g =
+    label_of-same (length names) (λ v. truth (holds_at names (letter_of names v)) (label_in s g)) (truth_on (label_in s g))
+    (λ v long. truth_below s.names (holds_at names (letter_of names v)) (holds_in v) (label_in s g) (label_in_below s g) (λ i less. letter_of_holds names v i are.1 long))
+    ∙ (ap (λ n. label_of n (truth_on (label_in s g))) are.0 ∙ label_in_settled s g)
+
+-- and so is the automaton
+pub over_own : (c : Core) → IsCore c → over_names c.names (automaton_of c) ≡ automaton_of c
+over_own c core = λ i. record (automaton_of c) { edges = edges i }
+  where
+    own : (l : Link) → label_over c.names c.names (label_in c.store l.guard) ≡ label_in c.store l.guard
+    own l = label_over_own c.store c.names (sym core.parts.store_names, core.well_formed.names_differ) l.guard
+
+    edges : map (λ (e : TreeEdge). record e { label = label_over c.names c.names e.label }) (map (edge_of c.store) c.links) ≡ map (edge_of c.store) c.links
+    edges = map-map (λ (e : TreeEdge). record e { label = label_over c.names c.names e.label }) (edge_of c.store) c.links ∙ (λ j. map (λ (l : Link). record (edge_of c.store l) { label = own l j }) c.links)
 
 over_says : (old new : List (List ℕ)) → AreAmong old new → (t : LabelTree) → AllBelow (length old) t → (x : NameSet) → truth (holds_at new x) (label_over old new t) ≡ truth (holds_at old x) t
 over_says old new among t below x =

@@ -17,8 +17,23 @@ use label_guards::Guards;
 use std::alloc::Global;
 
 impl Automaton {
-    /// The same automaton over a list of names that has all of its own, in any order. It accepts the same words.
+    /// The same automaton over a list of names that has all of its own, in any order. It accepts the same words. Over its own
+    /// names it is copied, and no guard is brought.
     pub fn over(&self, alloc: Global, names: &Names) -> Result<Automaton, Memory>
+        requires has { All (Contains names.now) self.now.names }
+        requires few { length names.now ≤ MOST_NAMES }
+        ensures over { IfOk result (λ made. automaton_of made ≡ over_names names.now (automaton_of self.now)) }
+        ensures accepts { IfOk result (λ made. AcceptTheSame (automaton_of made) (automaton_of self.now)) }
+    {
+        self.whole();
+        if names.as_slice() == self.names().as_slice() {
+            return self.copy(alloc);
+        }
+        self.over_others(alloc, names)
+    }
+
+    /// The same where the names may be others, guard by guard.
+    fn over_others(&self, alloc: Global, names: &Names) -> Result<Automaton, Memory>
         requires has { All (Contains names.now) self.now.names }
         requires few { length names.now ≤ MOST_NAMES }
         ensures over { IfOk result (λ made. automaton_of made ≡ over_names names.now (automaton_of self.now)) }
