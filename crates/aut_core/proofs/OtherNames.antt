@@ -102,7 +102,8 @@ over_own c core = λ i. record (automaton_of c) { edges = edges i }
     own l = label_over_own c.store c.names (sym core.parts.store_names, core.well_formed.names_differ) l.guard
 
     edges : map (λ (e : TreeEdge). record e { label = label_over c.names c.names e.label }) (map (edge_of c.store) c.links) ≡ map (edge_of c.store) c.links
-    edges = map-map (λ (e : TreeEdge). record e { label = label_over c.names c.names e.label }) (edge_of c.store) c.links ∙ (λ j. map (λ (l : Link). record (edge_of c.store l) { label = own l j }) c.links)
+    edges = map-map (λ (e : TreeEdge). record e { label = label_over c.names c.names e.label }) (edge_of c.store) c.links
+        ∙ (λ j. map (λ (l : Link). record (edge_of c.store l) { label = own l j }) c.links)
 
 over_says : (old new : List (List ℕ)) → AreAmong old new → (t : LabelTree) → AllBelow (length old) t → (x : NameSet) → truth (holds_at new x) (label_over old new t) ≡ truth (holds_at old x) t
 over_says old new among t below x =

@@ -26,7 +26,8 @@ use Rattle.autfilt_run.proofs.turns.Openings.{opened_as, opened_then, tried_behi
 use Rattle.autfilt_run.proofs.turns.Preparing.{calm_limit, taken_few, untold_closed}
 use Rattle.autfilt_run.proofs.turns.Stepping.{closed_counted, is_closed, name_as, reads_on, stops_at, stops_named, stream_counted}
 use Rattle.autfilt_run.proofs.printing.Writing.{rose_from}
-use Rattle.autfilt_run.specs.Events.{Dropped, Ended, Event, IsGood, IsJudged, Kept, Opened, Point, ReadsOn, Skipped, Stream, Tally, all_written, counted, opened_stream, opened_streams, place, read_on, start_of, tally, tally_from}
+use Rattle.autfilt_run.specs.Events.{Dropped, Ended, Event, IsGood, IsJudged, Kept, Opened, Point, ReadsOn, Skipped, Stream, Tally, all_written}
+use Rattle.autfilt_run.specs.Events.{counted, opened_stream, opened_streams, place, read_on, start_of, tally, tally_from}
 use Rattle.autfilt_run.specs.Faults.{stop_of_fault}
 use Rattle.autfilt_run.specs.Openings.{AreOpened, AreTried, MayEnd}
 use Rattle.autfilt_run.specs.Over.{IsOver}
@@ -250,7 +251,8 @@ halted fault.ReadFault name old new m t p q n steady h is = record {
 }
 halted (fault.SyntaxAt k) name old new m t p q n steady h is = calm_halt (fault.SyntaxAt k) name old new m t p q steady is h.moves.reads (λ x s. s) (λ plan events a b g. g) (λ s o calm. calm) refl h
 halted fault.Truncated name old new m t p q n steady h is = calm_halt fault.Truncated name old new m t p q steady is h.moves.reads (λ x s. s) (λ plan events a b g. g) (λ s o calm. calm) refl h
-halted (fault.Invalid rule) name old new m t p q n steady h is = calm_halt (fault.Invalid rule) name old new m t p q steady is h.moves.reads (λ x s. s) (λ plan events a b g. g) (λ s o calm. calm) refl h
+halted (fault.Invalid rule) name old new m t p q n steady h is = calm_halt (fault.Invalid rule) name old new m t p q steady is h.moves.reads (λ x s. s) (λ plan events a b g. g)
+    (λ s o calm. calm) refl h
 halted (fault.Limit which) name old new m t p q n steady h is =
     calm_halt (fault.Limit which) name old new m t p q steady is (calm_limit which _ _ h.moves.reads) (limit_stops which name old t) (λ plan events a b g. g) (λ s o calm. calm) refl h
 
@@ -402,7 +404,8 @@ all_read : (e : End) (name : List ℕ) (fresh old : Session) (s m : Seen) (o p q
     → ((events : List Event) → e ≡ end_of (tally_after fresh.skipped events) → EndsByTally e fresh.skipped events)
     → ((at : Point) → IsDone fresh.plan at → m.left ≡ at.left → EndsAt fresh.plan (operands_in fresh) e name at m.left)
     → ((events : List Event) (a b : Option (List ℕ)) → Gains a b (all_written events ++ count_text fresh.plan (tally events).kept) → Prints fresh.plan e events a b)
-    → (AreCalm s m o q → EndsBecause (ended_of e) s m o q) → ((n : ℕ) → AreOpened n s m → EndsOpened e n s m) → (e ≢ end.Usage) → FinishesWell e (count_text old.plan old.kept) (record { kept = old.kept; skipped = old.skipped }) p q
+    → (AreCalm s m o q → EndsBecause (ended_of e) s m o q) → ((n : ℕ) → AreOpened n s m → EndsOpened e n s m) → (e ≢ end.Usage)
+    → FinishesWell e (count_text old.plan old.kept) (record { kept = old.kept; skipped = old.skipped }) p q
     → Closes (line_of e name) noting l j → Carries fresh first e s m o q k j
 all_read e name fresh old s m o p q k l j first noting h done tallied ends prints because opens asked f closes = record {
   events = h.events;

@@ -307,7 +307,8 @@ file_counted f old new m t q most few opened_so stands moves =
 
 -- what stands at the rest of the open file
 named : (f : RunFault) (old new : Session) (m t : Seen) → KeepsAll old new → new.lexer.most ≡ MOST_BYTES → new.lexer.taken ≤ MOST_BYTES
-    → ((q : Point) → AtNamed (Unit {0}) q (name_in new) t.left (StopsAtOperand f) → StopsInOperands f (name_in new) q t.left) → CountsAt f m t → MayEnd f 0 → FailsReading f old new m t → HaltsAt f old new m t
+    → ((q : Point) → AtNamed (Unit {0}) q (name_in new) t.left (StopsAtOperand f) → StopsInOperands f (name_in new) q t.left) → CountsAt f m t → MayEnd f 0 → FailsReading f old new m t
+    → HaltsAt f old new m t
 named f old new m t keeps most few stops counts may h = record {
   halts = λ texts told q stands. (
     stops q (stops_named (Unit {0}) (StopsAtOperand f) old m t q (name_in new) (name_as old new keeps.plan h.reads.in_hand) stands.at h.reads.was_open tt h.reads.read),
