@@ -3,11 +3,11 @@ use Rattle.std.proofs.Common.{◌≡◌, ◌∙◌, ℕ, ◌<◌, Bool, true, fa
 use Rattle.std.specs.List.{All, list_any, list_all}
 use Rattle.std.proofs.lemmas.Bool.{true≢false, and_parts, and_from, or_parts, or_cases, or_left, or_right}
 use Rattle.std.proofs.lemmas.List.Elements.{All-head, All-tail}
-use Rattle.aut_base.proofs.ListTests.{any-longer}
+use Rattle.aut_base.proofs.lists.ListTests.{any-longer}
 use Rattle.aut_base.specs.Formula.{FormulaTree, FormulaTrees, True, False, Inf, Fin, And, Or, none, more, met, all_met, some_met}
 use Rattle.aut_base.specs.Marks.{is_in}
 use Rattle.acc_forms.specs.Atoms.{has_fin, some_fin}
-use Rattle.aut_base.proofs.Truth.{and-true, and_alike, or-false, or_alike}
+use Rattle.aut_base.proofs.numbers.Truth.{and-true, and_alike, or-false, or_alike}
 
 module _ (cycle edges : List (List ℕ)) where
   mutual

@@ -3,7 +3,7 @@ use Rattle.std.proofs.Common.{◌+◌, ◌≤◌, ◌||◌, ℕ, Bool, true, fal
 use Rattle.std.specs.List.{AllByRecursion}
 use Rattle.acc_forms.specs.Joined.{all_of, conj, conjuncts, disj, disjuncts, is_false, is_true, listed, some_of}
 use Rattle.acc_forms.specs.Shift.{shift, shifts}
-use Rattle.aut_base.proofs.AllByRecursion.{AllByRecursion-append}
+use Rattle.aut_base.proofs.lists.AllByRecursion.{AllByRecursion-append}
 use Rattle.aut_base.specs.Formula.{And, EachSetsBelow, False, Fin, FormulaTree, FormulaTrees, Inf, Or, SetsBelow, True, more, none, trees}
 
 mutual

@@ -7,13 +7,13 @@ use Rattle.std.proofs.lemmas.List.Folds.{list_any-append, list_all-append}
 use Rattle.aut_base.specs.Formula.{FormulaTree, FormulaTrees, True, False, Inf, Fin, And, Or, none, more, met, all_met, some_met, trees, formula_tree, formula_list, formula_parts}
 use Rattle.aut_base.specs.declared.formula.Formula.TheVariants as formula
 use Rattle.aut_base.specs.declared.formula.Formulas.{Formulas}
-use Rattle.aut_base.proofs.FormulaTrees.{formula_tree-And, formula_tree-Or}
+use Rattle.aut_base.proofs.trees.FormulaTrees.{formula_tree-And, formula_tree-Or}
 use Rattle.acc_forms.specs.Joined.{listed, conjuncts, disjuncts, all_of, some_of, is_true, is_false, conj, disj}
 use Rattle.acc_forms.specs.inner.Join.{joined, outweighs, is_neutral, parts_under, node}
 use Rattle.acc_forms.specs.declared.join.Join.{Join}
 use Rattle.acc_forms.specs.declared.join.Join.TheVariants as join
 use Rattle.acc_forms.proofs.Parts.{met-all_of, met-some_of}
-use Rattle.aut_base.proofs.Truth.{and-true, or-false}
+use Rattle.aut_base.proofs.numbers.Truth.{and-true, or-false}
 
 listed-trees : (fs : List FormulaTree) → listed (trees fs) ≡ fs
 listed-trees [] = refl

@@ -2,7 +2,7 @@
 use Rattle.std.proofs.Common.{◌≡◌, ◌∙◌, ℕ, zero, suc, ◌+◌, ◌-◌, ◌%◌, ◌<◌, ◌≤◌, Bool, true, false, cond, not, ◌&&◌, ◌||◌, List, inl, inr, refl, sym, ap, subst, arith, ⊎_elim}
 use Rattle.std.specs.List.{list_any}
 use Rattle.std.proofs.lemmas.Bool.{cases_Bool, cases_eq, cases_lt, eq-eqb, ne_eqb, both_ways}
-use Rattle.aut_base.proofs.ListTests.{all-not}
+use Rattle.aut_base.proofs.lists.ListTests.{all-not}
 use Rattle.aut_base.specs.Formula.{FormulaTree, Inf, Fin, And, Or, none, met}
 use Rattle.aut_base.specs.Marks.{is_in}
 use Rattle.acc_forms.specs.Parity.{is_odd, parity_from, parity_min_odd, IsCarried, MinIsOdd}

@@ -5,7 +5,7 @@ use Rattle.std.specs.List.{list_any, list_all}
 use Rattle.aut_base.specs.Formula.{FormulaTree, more, formula_tree, formula_parts, formula_list, trees, met, all_met, some_met, SetsBelow, EachSetsBelow}
 use Rattle.aut_base.specs.declared.formula.Formula.TheVariants.{And, Or}
 use Rattle.aut_base.specs.declared.formula.Formulas.{Formulas}
-use Rattle.aut_base.proofs.FormulaTrees.{formula_tree-And, formula_tree-Or}
+use Rattle.aut_base.proofs.trees.FormulaTrees.{formula_tree-And, formula_tree-Or}
 use Rattle.acc_forms.specs.Atoms.{has_fin, some_fin}
 use Rattle.acc_forms.specs.Dual.{dual, duals}
 use Rattle.acc_forms.specs.Joined.{all_of, some_of}

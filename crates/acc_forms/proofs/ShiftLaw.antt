@@ -2,7 +2,7 @@
 use Rattle.std.proofs.Common.{◌≡◌, ◌∙◌, ℕ, ◌+◌, ◌-◌, ◌≤◌, true, false, cond, not, ◌&&◌, ◌||◌, List, [], ◌∷◌, map, nat_eq, nat_le, refl, sym, ap, arith, ⊎_elim}
 use Rattle.std.proofs.lemmas.Bool.{cases_lt, cases_eq, eq-eqb, ne_eqb, le-leb, lt-leb}
 use Rattle.std.specs.List.{list_any, filter}
-use Rattle.aut_base.proofs.ListTests.{all-map_alike, any-map_alike}
+use Rattle.aut_base.proofs.lists.ListTests.{all-map_alike, any-map_alike}
 use Rattle.aut_base.specs.Formula.{FormulaTree, FormulaTrees, True, False, Inf, Fin, And, Or, none, more, met, all_met, some_met}
 use Rattle.aut_base.specs.Marks.{is_in}
 use Rattle.acc_forms.specs.Shift.{shift, shifts, raised, lowered}

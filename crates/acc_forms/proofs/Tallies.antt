@@ -8,8 +8,8 @@ use Rattle.acc_forms.specs.Terms.{pairs, literals, choices, terms}
 use Rattle.acc_forms.specs.inner.Tally.{tally_of}
 use Rattle.acc_forms.specs.declared.literal.Literal.{Literal}
 use Rattle.acc_forms.specs.declared.tally.Tally.{Tally}
-use Rattle.aut_base.proofs.Lists.{take-slice_get}
-use Rattle.aut_base.proofs.Capped.{capped_add, capped_mul}
+use Rattle.aut_base.proofs.lists.Lists.{take-slice_get}
+use Rattle.aut_base.proofs.numbers.Capped.{capped_add, capped_mul}
 use Rattle.acc_forms.proofs.TermLists.{length-pairs, literals-pairs, choices-push}
 
 pub times_tally : (a b : Tally) (xs ys : List (List Literal)) (number first second all : ℕ) →

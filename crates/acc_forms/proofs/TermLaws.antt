@@ -5,13 +5,13 @@ use Rattle.std.proofs.lemmas.List.Folds.{list_any-append, flat_map-map}
 use Rattle.aut_base.specs.Formula.{FormulaTree, FormulaTrees, True, False, Inf, Fin, And, Or, none, more, met, all_met, some_met, trees, formula_tree, formula_list, formula_parts}
 use Rattle.aut_base.specs.declared.formula.Formula.TheVariants as formula
 use Rattle.aut_base.specs.declared.formula.Formulas.{Formulas}
-use Rattle.aut_base.proofs.FormulaTrees.{formula_tree-And, formula_tree-Or}
+use Rattle.aut_base.proofs.trees.FormulaTrees.{formula_tree-And, formula_tree-Or}
 use Rattle.acc_forms.specs.Joined.{conj, disj}
 use Rattle.acc_forms.specs.Terms.{terms, each_terms, choices, literal_tree, some_term_met, of_term, of_terms}
 use Rattle.acc_forms.specs.declared.literal.Literal.{Literal}
 use Rattle.acc_forms.proofs.JoinLaws.{met-conj, met-disj}
 use Rattle.acc_forms.proofs.TermLists.{any-pairs}
-use Rattle.aut_base.proofs.Truth.{and-true, or-false}
+use Rattle.aut_base.proofs.numbers.Truth.{and-true, or-false}
 use Rattle.std.proofs.Math.Bool.{and_assoc, or_assoc}
 
 abbrev holds : List (List ℕ) → Literal → Bool

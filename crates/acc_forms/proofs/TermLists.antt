@@ -7,7 +7,7 @@ use Rattle.std.proofs.lemmas.List.Folds.{list_any-append, list_all-append}
 use Rattle.std.proofs.lemmas.List.Sums.{sum_by-append, sum_by-cons}
 use Rattle.acc_forms.specs.Terms.{pairs, choices, literals}
 use Rattle.acc_forms.specs.declared.literal.Literal.{Literal}
-use Rattle.aut_base.proofs.Truth.{and_or, or_and}
+use Rattle.aut_base.proofs.numbers.Truth.{and_or, or_and}
 
 map-joined : (x y : List Literal) (zs : List (List Literal)) → map (λ z. (x ++ y) ++ z) zs ≡ map (λ z. x ++ z) (map (λ z. y ++ z) zs)
 map-joined x y [] = refl

@@ -25,7 +25,7 @@ pub fn empty_meets(formula: &Formula) -> bool
 }
 
 #[cycle(fin)]
-#[tactic(auto, using(aut_base::proofs::FormulaTrees::formula_trees))]
+#[tactic(auto, using(aut_base::proofs::trees::FormulaTrees::formula_trees))]
 fn fin_stands_in(formula: &Formula) -> bool
     ensures { result ≡ has_fin (formula_tree formula.now) }
 {
@@ -50,7 +50,7 @@ fn fin_stands_in_some(parts: &Formulas) -> bool
 }
 
 #[cycle(without_sets)]
-#[tactic(auto, using(aut_base::proofs::FormulaTrees::formula_trees))]
+#[tactic(auto, using(aut_base::proofs::trees::FormulaTrees::formula_trees))]
 fn holds_without_sets(formula: &Formula) -> bool
     ensures { result ≡ met ([] ∷ []) (formula_tree formula.now) }
 {

@@ -16,7 +16,7 @@ pub fn dual(alloc: Global, formula: &Formula) -> Result<Formula, Memory>
 }
 
 #[cycle(dual)]
-#[tactic(auto, using(aut_base::proofs::FormulaTrees::formula_trees))]
+#[tactic(auto, using(aut_base::proofs::trees::FormulaTrees::formula_trees))]
 fn exchanged(alloc: Global, formula: &Formula) -> Result<Formula, Memory>
     ensures { IfOk result (λ new. formula_tree new ≡ dual (formula_tree formula.now)) }
 {

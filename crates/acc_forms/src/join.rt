@@ -57,7 +57,7 @@ impl Join {
     }
 
     /// The parts of a condition that is joined in this way, and None of any other.
-    #[tactic(auto, using(aut_base::proofs::FormulaTrees::formula_trees))]
+    #[tactic(auto, using(aut_base::proofs::trees::FormulaTrees::formula_trees))]
     fn parts(self, formula: &Formula) -> Option<&Formulas>
         ensures found { IfSome result (λ parts. parts_under self (formula_tree formula.now) ≡ formula_list parts.now) }
         ensures other { IfNone result (is_neutral self (formula_tree formula.now) ≡ false → parts_under self (formula_tree formula.now) ≡ formula_tree formula.now ∷ []) }
@@ -70,7 +70,7 @@ impl Join {
     }
 
     /// The condition of these parts.
-    #[tactic(auto, using(aut_base::proofs::FormulaTrees::formula_trees))]
+    #[tactic(auto, using(aut_base::proofs::trees::FormulaTrees::formula_trees))]
     fn node(self, parts: Formulas) -> Formula
         ensures { formula_tree result ≡ node self (formula_list parts) }
     {

@@ -22,7 +22,7 @@ impl Literal {
     ghost use Rattle.acc_forms.specs.Terms.{literal_tree};
 
     /// The atom as a condition.
-    #[tactic(auto, using(aut_base::proofs::FormulaTrees::formula_trees))]
+    #[tactic(auto, using(aut_base::proofs::trees::FormulaTrees::formula_trees))]
     pub(crate) fn formula(self) -> Formula
         ensures { formula_tree result ≡ literal_tree self }
     {

@@ -22,7 +22,7 @@ pub fn parity_min_odd(alloc: Global, n: u32) -> Result<Formula, Memory>
 }
 
 /// The atom of a set: Inf of an odd one, Fin of an even one.
-#[tactic(auto, using(aut_base::proofs::FormulaTrees::formula_trees))]
+#[tactic(auto, using(aut_base::proofs::trees::FormulaTrees::formula_trees))]
 fn atom(set: u32) -> Formula
     ensures { formula_tree result ≡ parity_atom set }
 {
@@ -34,7 +34,7 @@ fn atom(set: u32) -> Formula
 }
 
 /// The condition that this set decides, and where no edge is in it the rest.
-#[tactic(auto, using(aut_base::proofs::FormulaTrees::formula_trees))]
+#[tactic(auto, using(aut_base::proofs::trees::FormulaTrees::formula_trees))]
 fn decided_first(alloc: Global, set: u32, rest: Formula) -> Result<Formula, Memory>
     ensures { IfOk result (λ new. formula_tree new ≡ (if is_odd set then Or (parity_atom set) (formula_tree rest) none else And (parity_atom set) (formula_tree rest) none)) }
 {

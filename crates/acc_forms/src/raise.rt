@@ -18,7 +18,7 @@ pub fn shift(alloc: Global, formula: &Formula, by: u32) -> Result<Formula, Memor
 }
 
 #[cycle(shift)]
-#[tactic(auto, using(aut_base::proofs::FormulaTrees::formula_trees))]
+#[tactic(auto, using(aut_base::proofs::trees::FormulaTrees::formula_trees))]
 fn shifted(alloc: Global, formula: &Formula, by: u32) -> Result<Formula, Memory>
     requires { SetsBelow (2 ^ 32 - by) (formula_tree formula.now) }
     ensures { IfOk result (λ new. formula_tree new ≡ shift by (formula_tree formula.now)) }

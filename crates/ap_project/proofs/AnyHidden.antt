@@ -3,9 +3,9 @@ use Rattle.std.proofs.Common.{◌≡◌, ◌∙◌, ◌*◌, ◌<◌, ◌≤◌,
 use Rattle.std.proofs.lemmas.Bool.{cases_Bool, or_cases, or_left, or_right}
 use Rattle.std.proofs.lemmas.List.{append-nil, length-map}
 use Rattle.std.specs.FinSet as set
-use Rattle.aut_base.proofs.Copies.{length-copies}
+use Rattle.aut_base.proofs.lists.Copies.{length-copies}
 use Rattle.std.proofs.Math.Nat.{le-mul_of_pos_right}
-use Rattle.aut_base.proofs.SameWord.{same_word_same_verdict}
+use Rattle.aut_base.proofs.words.SameWord.{same_word_same_verdict}
 use Rattle.aut_base.specs.Acceptance.{Accepts, IsPath}
 use Rattle.aut_base.specs.Automaton.{Automaton, TreeEdge}
 use Rattle.aut_base.specs.Formula.{met}

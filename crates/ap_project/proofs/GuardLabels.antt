@@ -7,13 +7,13 @@ use Rattle.std.proofs.lemmas.Option.{same_Some, slice_get-get_or}
 use Rattle.std.specs.FinSet.{contains}
 use Rattle.std.specs.List.{slice_index_or}
 use Rattle.std.specs.Map.{lookup}
-use Rattle.aut_base.proofs.CanonicalTruth.{label_of-same, truth_below}
+use Rattle.aut_base.proofs.canonical.CanonicalTruth.{label_of-same, truth_below}
 use Rattle.aut_base.specs.CanonicalLabel.{label_of}
 use Rattle.aut_base.specs.Label.{holds_at, truth}
 use Rattle.aut_base.specs.Valuation.{holds_in, letter_of, truth_on}
 use Rattle.aut_base.specs.Word.{NameSet}
 use Rattle.aut_core.proofs.Made.{label_in_below, label_in_settled}
-use Rattle.label_guards.proofs.Dependence.{all_go_below}
+use Rattle.label_guards.proofs.rebuilt.Dependence.{all_go_below}
 use Rattle.label_guards.specs.Guards.{GoesBelow, IsFreeOf, IsGuardOf, truth_in, with_prop}
 use Rattle.label_guards.specs.Store.{Has, Keeps, Store, label_in}
 use Rattle.label_guards.specs.declared.guard.Guard.{Guard}

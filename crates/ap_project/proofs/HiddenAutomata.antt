@@ -5,10 +5,10 @@ use Rattle.std.proofs.lemmas.List.Elements.{All-contains, All-map, All-weaker, C
 use Rattle.std.proofs.lemmas.Option.{get_or_from_slice_get, slice_get-get_or}
 use Rattle.std.proofs.lemmas.Simd.{map-map}
 use Rattle.std.specs.List.Sorted.{IsNonDecreasing}
-use Rattle.aut_base.proofs.CanonicalAutomata.{labels_below}
-use Rattle.aut_base.proofs.CanonicalBelow.{label_of_below}
-use Rattle.aut_base.proofs.CanonicalTruth.{truth_below}
-use Rattle.aut_base.proofs.Truth.{or_same}
+use Rattle.aut_base.proofs.canonical.CanonicalAutomata.{labels_below}
+use Rattle.aut_base.proofs.canonical.CanonicalBelow.{label_of_below}
+use Rattle.aut_base.proofs.canonical.CanonicalTruth.{truth_below}
+use Rattle.aut_base.proofs.numbers.Truth.{or_same}
 use Rattle.aut_base.specs.Automaton.{Automaton, IsEdgeOf, IsWellFormed, TreeEdge}
 use Rattle.aut_base.specs.Label.{AllBelow, LabelTree, holds_at, truth}
 use Rattle.aut_base.specs.Word.{NameSet}

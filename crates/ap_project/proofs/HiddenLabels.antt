@@ -5,10 +5,10 @@ use Rattle.std.proofs.lemmas.List.Kept.{AllPairs-filter}
 use Rattle.std.proofs.lemmas.Option.{slice_get-get_or, slice_get_within}
 use Rattle.std.specs.FinSet.{contains}
 use Rattle.std.specs.Option.{option_map_or}
-use Rattle.aut_base.proofs.CanonicalTruth.{truth-label_of, truth_below}
-use Rattle.aut_base.proofs.Members.{there_at}
-use Rattle.aut_base.proofs.ValuationLetters.{letter_of_holds}
-use Rattle.aut_base.proofs.ValuationLists.{holds_in-valuation_of, length-valuation_of}
+use Rattle.aut_base.proofs.canonical.CanonicalTruth.{truth-label_of, truth_below}
+use Rattle.aut_base.proofs.lists.Members.{there_at}
+use Rattle.aut_base.proofs.canonical.ValuationLetters.{letter_of_holds}
+use Rattle.aut_base.proofs.canonical.ValuationLists.{holds_in-valuation_of, length-valuation_of}
 use Rattle.aut_base.specs.Label.{AllBelow, LabelTree, holds_at, truth}
 use Rattle.aut_base.specs.Text.{same_text}
 use Rattle.aut_base.specs.Valuation.{holds_in, letter_of, valuation_of}

@@ -6,10 +6,10 @@ use Rattle.std.proofs.lemmas.List.{append-nil, get_or-take}
 use Rattle.std.proofs.lemmas.List.Elements.{All-filter, Contains-get_or, filter-append}
 use Rattle.std.proofs.lemmas.List.Filters.{length-filter_both}
 use Rattle.std.proofs.lemmas.Option.{get_or_from_slice_get, slice_get-get_or}
-use Rattle.aut_base.proofs.Lists.{take-push}
-use Rattle.aut_base.proofs.Members.{there_filter}
-use Rattle.aut_base.proofs.Texts.{differ_texts}
-use Rattle.aut_base.proofs.Truth.{left_of_or, right_of_or}
+use Rattle.aut_base.proofs.lists.Lists.{take-push}
+use Rattle.aut_base.proofs.lists.Members.{there_filter}
+use Rattle.aut_base.proofs.words.Texts.{differ_texts}
+use Rattle.aut_base.proofs.numbers.Truth.{left_of_or, right_of_or}
 use Rattle.aut_base.specs.Text as text
 use Rattle.aut_core.specs.OtherNames.{is_among}
 use Rattle.ap_project.specs.Hiding.{names_without}

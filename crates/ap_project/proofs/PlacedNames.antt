@@ -4,7 +4,7 @@ use Rattle.std.proofs.lemmas.Bool.{cases_lt}
 use Rattle.std.proofs.lemmas.List.{get_or-append-add, get_or_append_left}
 use Rattle.std.proofs.lemmas.List.Elements.{All-push}
 use Rattle.std.proofs.lemmas.Option.{same_Some, slice_get_within}
-use Rattle.aut_base.proofs.Lists.{slice_get-append_left, slice_get-append_right, take-push}
+use Rattle.aut_base.proofs.lists.Lists.{slice_get-append_left, slice_get-append_right, take-push}
 use Rattle.ap_project.specs.inner.HiddenGuards.{ArePlaces}
 
 push_place : (names others : List (List ℕ)) (to : List ℕ) (x : List ℕ) (place : ℕ) → ArePlaces names others to → (0 < length others → place < length others)

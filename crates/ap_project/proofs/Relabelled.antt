@@ -1,6 +1,6 @@
 -- An automaton with other labels on the same edges hides a name, where each label is true just where it has to be.
 use Rattle.std.proofs.Common.{◌∙◌, Contains, ap, refl, subst, sym}
-use Rattle.aut_base.proofs.Members.{from_map, there_map}
+use Rattle.aut_base.proofs.lists.Members.{from_map, there_map}
 use Rattle.aut_base.specs.Automaton.{TreeEdge}
 use Rattle.aut_base.specs.Label.{LabelTree, holds_at, truth}
 use Rattle.ap_project.specs.Laws.{RelabelledIsHidden}

@@ -4,8 +4,8 @@ use Rattle.std.proofs.Math.Nat.{le-mul_of_pos_right}
 use Rattle.std.proofs.lemmas.List.{length-append}
 use Rattle.std.proofs.lemmas.Option.{none-some, same_Some, slice_get-get_or}
 use Rattle.std.specs.FinSet as set
-use Rattle.aut_base.proofs.Copies.{copies-add, copies-copies, length-copies}
-use Rattle.aut_base.proofs.Spelled.{word_letter}
+use Rattle.aut_base.proofs.lists.Copies.{copies-add, copies-copies, length-copies}
+use Rattle.aut_base.proofs.words.Spelled.{word_letter}
 use Rattle.aut_base.specs.Acceptance.{Accepts, IsPath}
 use Rattle.aut_base.specs.Automaton.{Automaton, TreeEdge}
 use Rattle.aut_base.specs.Formula.{met}

@@ -57,7 +57,7 @@ impl Formula {
     /// Whether the condition is met where the edges that come again and again are those of a cycle, given by the
     /// marks of each.
     #[cycle(formula_met)]
-    #[tactic(auto, using(crate::proofs::FormulaTrees::formula_trees))]
+    #[tactic(auto, using(crate::proofs::trees::FormulaTrees::formula_trees))]
     pub fn met_by(&self, cycle: &[Marks]) -> bool
         requires { 0 < length cycle.now }
         ensures { result ≡ met cycle.now (formula_tree self.now) }
@@ -90,7 +90,7 @@ impl Formula {
 impl Formula {
     /// Whether every acceptance set of the condition is below this number.
     #[cycle(formula_below)]
-    #[tactic(auto, using(crate::proofs::FormulaTrees::formula_trees))]
+    #[tactic(auto, using(crate::proofs::trees::FormulaTrees::formula_trees))]
     pub fn is_below(&self, sets: u32) -> bool
         ensures { IsTrue result ↔ SetsBelow sets (formula_tree self.now) }
     {
@@ -119,7 +119,7 @@ fn all_below(parts: &[Formula], sets: u32) -> bool
     true
 }
 
-#[tactic(auto, using(crate::proofs::FormulaTrees::formula_trees))]
+#[tactic(auto, using(crate::proofs::trees::FormulaTrees::formula_trees))]
 impl Formulas {
     /// These two parts.
     pub fn pair(alloc: Global, first: Formula, second: Formula) -> Result<Formulas, Memory>

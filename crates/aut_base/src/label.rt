@@ -52,7 +52,7 @@ impl Label {
     // Why so: '`Label::truth` is public beside `Label::holds`' in docs/DECISIONS.md.
     /// Whether the label is true where `on` says of each proposition whether it holds.
     #[cycle(label_truth)]
-    #[tactic(auto, using(crate::proofs::LabelTrees::label_trees))]
+    #[tactic(auto, using(crate::proofs::trees::LabelTrees::label_trees))]
     pub fn truth(&self, on: &[bool]) -> bool
         requires { AllBelow (length on.now) (label_tree self.now) }
         ensures { result ≡ truth (λ i. slice_index_or on.now i false) (label_tree self.now) }
@@ -73,7 +73,7 @@ impl Label {
 impl Label {
     /// Whether the label holds of the letter, where propositions go by their place in the list of names.
     #[cycle(label_holds)]
-    #[tactic(auto, using(crate::proofs::LabelTrees::label_trees))]
+    #[tactic(auto, using(crate::proofs::trees::LabelTrees::label_trees))]
     pub fn holds(&self, names: &Names, letter: &Letter) -> bool
         requires { AllBelow (length names.now) (label_tree self.now) }
         ensures { result ≡ truth (holds_at names.now letter.now) (label_tree self.now) }
@@ -94,7 +94,7 @@ impl Label {
 impl Label {
     /// Whether every proposition of the label is below this number.
     #[cycle(label_below)]
-    #[tactic(auto, using(crate::proofs::LabelTrees::label_trees))]
+    #[tactic(auto, using(crate::proofs::trees::LabelTrees::label_trees))]
     pub fn is_below(&self, names: usize) -> bool
         ensures { IsTrue result ↔ AllBelow names (label_tree self.now) }
     {
@@ -123,7 +123,7 @@ fn all_below(parts: &[Label], names: usize) -> bool
     true
 }
 
-#[tactic(auto, using(crate::proofs::LabelTrees::label_trees))]
+#[tactic(auto, using(crate::proofs::trees::LabelTrees::label_trees))]
 impl Labels {
     /// These two parts.
     pub fn pair(alloc: Global, first: Label, second: Label) -> Result<Labels, Memory>

@@ -12,7 +12,7 @@ impl Description {
     /// Whether starts are distinct, edges stand in the order of the states that they leave, and every number is in
     /// range. Names differ and marks rise by their types. Takes time in proportion to the size of the description, and to
     /// the square of the number of starts.
-    #[tactic(auto, using(crate::proofs::WellFormed::well_formed))]
+    #[tactic(auto, using(crate::proofs::order::WellFormed::well_formed))]
     pub fn is_well_formed(&self) -> bool
         ensures { IsTrue result ↔ IsWellFormed (automaton self.now) }
     {

@@ -2,7 +2,7 @@
 use Rattle.std.proofs.Common.{All, List, [], ap, arith, get_or, length, map, refl, subst, suc, sym, take, zero, ℕ, ◌++◌, ◌+◌, ◌<◌, ◌∙◌, ◌∷◌, ◌≡◌, ◌≤◌}
 use Rattle.std.proofs.lemmas.List.{map-append, take_all}
 use Rattle.std.proofs.lemmas.List.Elements.{All-append, All-weaker}
-use Rattle.aut_base.proofs.Lists.{take-push}
+use Rattle.aut_base.proofs.lists.Lists.{take-push}
 use Rattle.aut_base.specs.Automaton.{TreeEdge}
 use Rattle.label_guards.specs.Store.{Has, Keeps, Store}
 use Rattle.aut_core.specs.Core.{edge_of}

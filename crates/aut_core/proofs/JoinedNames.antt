@@ -1,7 +1,7 @@
 -- Names that are put together, name by name.
-use Rattle.aut_base.proofs.Lists.{take-push}
-use Rattle.aut_base.proofs.Ordered.{of_kept}
-use Rattle.aut_base.proofs.Texts as texts
+use Rattle.aut_base.proofs.lists.Lists.{take-push}
+use Rattle.aut_base.proofs.order.Ordered.{of_kept}
+use Rattle.aut_base.proofs.words.Texts as texts
 use Rattle.std.proofs.Common.{◌≡◌, ◌≢◌, ◌∙◌, ◌<◌, ◌≤◌, ◌+◌, ℕ, zero, suc, Bool, true, false, cond, not, List, [], ◌∷◌, ◌++◌, All, AllPairs, Contains}
 use Rattle.std.proofs.Common.{ap, arith, filter, get_or, length, length-take, refl, subst, sym, take}
 use Rattle.std.proofs.lemmas.Bool.{false_from_ne_true}

@@ -5,8 +5,8 @@ use Rattle.aut_base.specs.declared.limit.TheConstants.{MOST_NAMES}
 use Rattle.std.proofs.lemmas.List.Elements.{All-map}
 use Rattle.std.proofs.lemmas.Simd.{map-map}
 use Rattle.std.specs.List.Sorted.{IsNonDecreasing}
-use Rattle.aut_base.proofs.CanonicalBelow.{label_of_below}
-use Rattle.aut_base.proofs.CanonicalTruth.{label_of-same, truth_on-label_of}
+use Rattle.aut_base.proofs.canonical.CanonicalBelow.{label_of_below}
+use Rattle.aut_base.proofs.canonical.CanonicalTruth.{label_of-same, truth_on-label_of}
 use Rattle.aut_base.specs.Automaton.{IsEdgeOf, IsWellFormed, TreeEdge}
 use Rattle.aut_base.specs.CanonicalLabel.{canonical_label}
 use Rattle.aut_base.specs.Label.{AllBelow, LabelTree}

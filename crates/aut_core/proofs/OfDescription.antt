@@ -2,8 +2,8 @@
 use Rattle.std.proofs.Common.{◌≡◌, ◌↔◌, ◌∙◌, ◌≤◌, ℕ, List, All, ap, arith, get_or, length, map, refl, subst, sym}
 use Rattle.std.proofs.lemmas.List.{get_or-map, length-map}
 use Rattle.std.proofs.lemmas.Simd.{map-map}
-use Rattle.aut_base.proofs.CanonicalAutomata as automata
-use Rattle.aut_base.proofs.LabelLaws.{canonical_accepts_the_same}
+use Rattle.aut_base.proofs.canonical.CanonicalAutomata as automata
+use Rattle.aut_base.proofs.canonical.LabelLaws.{canonical_accepts_the_same}
 use Rattle.aut_base.specs.Acceptance.{Accepts}
 use Rattle.aut_base.specs.Automaton.{Automaton, IsWellFormed, TreeEdge, automaton, tree_edge}
 use Rattle.aut_base.specs.CanonicalLabel.{canonical, canonical_label}

@@ -10,13 +10,13 @@ use Rattle.std.proofs.lemmas.Option.{slice_get-get_or, slice_get_within}
 use Rattle.std.specs.FinSet.{contains}
 use Rattle.std.specs.List.{slice_index_or}
 use Rattle.std.specs.Option.{option_map_or}
-use Rattle.aut_base.proofs.CanonicalAutomata.{labels_below}
-use Rattle.aut_base.proofs.CanonicalBelow.{label_of_below}
-use Rattle.aut_base.proofs.CanonicalTruth.{label_of-same, truth-label_of, truth_below}
-use Rattle.aut_base.proofs.OtherEdges.{relabelled_accepts}
-use Rattle.aut_base.proofs.ValuationLists.{holds_in-valuation_of, length-valuation_of}
-use Rattle.aut_base.proofs.Lists.{slice_get-at}
-use Rattle.aut_base.proofs.ValuationLetters.{letter_of_holds}
+use Rattle.aut_base.proofs.canonical.CanonicalAutomata.{labels_below}
+use Rattle.aut_base.proofs.canonical.CanonicalBelow.{label_of_below}
+use Rattle.aut_base.proofs.canonical.CanonicalTruth.{label_of-same, truth-label_of, truth_below}
+use Rattle.aut_base.proofs.runs.OtherEdges.{relabelled_accepts}
+use Rattle.aut_base.proofs.canonical.ValuationLists.{holds_in-valuation_of, length-valuation_of}
+use Rattle.aut_base.proofs.lists.Lists.{slice_get-at}
+use Rattle.aut_base.proofs.canonical.ValuationLetters.{letter_of_holds}
 use Rattle.aut_base.specs.Automaton.{Automaton, IsEdgeOf, IsWellFormed, TreeEdge}
 use Rattle.aut_base.specs.CanonicalLabel.{label_of}
 use Rattle.aut_base.specs.Label.{AllBelow, LabelTree, holds_at, truth}

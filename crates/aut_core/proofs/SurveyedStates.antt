@@ -2,7 +2,7 @@
 use Rattle.std.proofs.Common.{◌≡◌, ◌∙◌, ◌↔◌, ◌<◌, ◌≤◌, ◌+◌, ◌==◌, ◌⊎◌, inl, inr, ⊎_elim, ℕ, Bool, ◌&&◌, IsTrue, List, All, arith, filter, map, subst, sym}
 use Rattle.std.proofs.lemmas.Bool.{and_parts, and_from, cases_lt}
 use Rattle.std.proofs.lemmas.List.Elements.{All-filter}
-use Rattle.aut_base.proofs.Ordered.{filter_map_of}
+use Rattle.aut_base.proofs.order.Ordered.{filter_map_of}
 use Rattle.aut_base.specs.Automaton.{TreeEdge}
 use Rattle.label_guards.specs.Store.{Has, Keeps, Store}
 use Rattle.aut_core.specs.Core.{edge_of}

@@ -1,5 +1,5 @@
 -- What the guards of links tell, link by link.
-use Rattle.aut_base.proofs.Truth.{or-false}
+use Rattle.aut_base.proofs.numbers.Truth.{or-false}
 use Rattle.std.proofs.Common.{◌≡◌, ◌∙◌, ◌↔◌, ◌+◌, ℕ, Bool, true, false, ◌&&◌, ◌||◌, IsTrue, List, [], ◌∷◌, ◌++◌, ap, arith, get_or, length, length-append, map, refl, subst, sym}
 use Rattle.std.proofs.lemmas.Bool.{and_parts, and_from}
 use Rattle.std.proofs.lemmas.List.{get_or_append_left, get_or-append-add, map-append}

@@ -73,7 +73,7 @@ impl TextStore {
     }
 
     /// Takes the next byte of the open text, if any is left.
-    #[tactic(auto, using(aut_base::proofs::Lists::drop_one_more))]
+    #[tactic(auto, using(aut_base::proofs::lists::Lists::drop_one_more))]
     pub(crate) fn take(&mut self) -> Option<u8>
         ensures byte { result ≡ slice_get self.old.left 0 }
         ensures rest { self.new ≡ record self.old { left = drop 1 self.old.left } }

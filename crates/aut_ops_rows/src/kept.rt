@@ -136,7 +136,7 @@ pub(crate) const ROWS: [KeptRow; 9] = [
 ];
 
 /// Whether the condition is that set 0 comes again and again.
-#[tactic(auto, using(aut_base::proofs::FormulaTrees::formula_trees))]
+#[tactic(auto, using(aut_base::proofs::trees::FormulaTrees::formula_trees))]
 fn is_again(condition: &Formula) -> bool
     ensures { IsTrue result → formula_tree condition.now ≡ Inf 0 false }
 {

@@ -2,7 +2,7 @@
 use Rattle.std.proofs.Common.{◌≡◌, ℕ, ◌+◌, Bool, true, List, [], ◌∷◌, ◌++◌, drop, length, Option, refl, sym, ap, ◌∙◌, subst, append_assoc, append-nil}
 use Rattle.std.proofs.lemmas.List.{length-append}
 use Rattle.std.specs.Prelude.{map}
-use Rattle.aut_base.proofs.AllByRecursion.{AllByRecursion-push}
+use Rattle.aut_base.proofs.lists.AllByRecursion.{AllByRecursion-push}
 use Rattle.aut_base.specs.Automaton.{Automaton}
 use Rattle.aut_core.specs.Core.{Core, automaton_of}
 use Rattle.aut_io.specs.Outside.{Gains}

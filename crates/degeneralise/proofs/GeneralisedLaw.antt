@@ -4,8 +4,8 @@ use Rattle.std.specs.List.{list_all, list_any}
 use Rattle.std.proofs.lemmas.Bool.{false≢true}
 use Rattle.std.proofs.lemmas.List.{length-map}
 use Rattle.std.proofs.lemmas.Option.{none-some, same_Some}
-use Rattle.aut_base.proofs.Members.{each_from, each_is, first_there, from_flat_map, there_flat_map}
-use Rattle.aut_base.proofs.Truth.{and-true}
+use Rattle.aut_base.proofs.lists.Members.{each_from, each_is, first_there, from_flat_map, there_flat_map}
+use Rattle.aut_base.proofs.numbers.Truth.{and-true}
 use Rattle.aut_base.specs.Acceptance.{IsPath}
 use Rattle.aut_base.specs.Automaton.{Automaton, IsWellFormed, TreeEdge}
 use Rattle.aut_base.specs.Formula.{FormulaTree, FormulaTrees, True, False, And, Or, none, more, met, all_met}

@@ -1,7 +1,7 @@
 -- Edges between levels that are added one by one, and the parts of the automaton that is made of them.
 use Rattle.std.proofs.Common.{◌≡◌, ◌∙◌, ◌+◌, ◌*◌, ◌<◌, ◌≤◌, ℕ, false, List, ◌∷◌, ◌++◌, All, ap, arith, flat_map, length, map, subst, sym}
 use Rattle.std.specs.List.{range_with_len}
-use Rattle.aut_base.proofs.Lists.{flat_map-range_more}
+use Rattle.aut_base.proofs.lists.Lists.{flat_map-range_more}
 use Rattle.aut_base.specs.Automaton.{IsWellFormed}
 use Rattle.aut_core.proofs.Made.{parts_from}
 use Rattle.aut_core.specs.Core.{AreParts, Core, IsCore, automaton_of, edge_of}

@@ -2,7 +2,7 @@
 use Rattle.std.proofs.Common.{◌≡◌, ◌∙◌, ◌<◌, ◌==◌, ℕ, Contains, ap, arith, map, refl}
 use Rattle.std.specs.List.{range_with_len}
 use Rattle.std.proofs.lemmas.Bool.{eq-eqb, eqb-true}
-use Rattle.aut_base.proofs.Members.{from_filter, from_flat_map, from_map, from_range, there_filter, there_flat_map, there_map, there_range}
+use Rattle.aut_base.proofs.lists.Members.{from_filter, from_flat_map, from_map, from_range, there_filter, there_flat_map, there_map, there_range}
 use Rattle.aut_base.specs.Automaton.{Automaton, TreeEdge}
 use Rattle.aut_core.specs.Surveys.{edges_from}
 use Rattle.degeneralise.specs.Buchi.{Watch, edge_at, level_edges, levelled, levels}

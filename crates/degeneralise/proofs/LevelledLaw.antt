@@ -3,9 +3,9 @@ use Rattle.std.proofs.Common.{◌≡◌, ◌∙◌, ◌↔◌, ◌+◌, ◌-◌,
 use Rattle.std.specs.List.{list_any}
 use Rattle.std.proofs.lemmas.Bool.{cases_Bool, false≢true}
 use Rattle.std.proofs.lemmas.Nat.{mul-lt, same_from_place}
-use Rattle.aut_base.proofs.Copies.{any-copies, copies-add, copies-copies}
-use Rattle.aut_base.proofs.Members.{any_found, any_from, from_map, there_map}
-use Rattle.aut_base.proofs.Paths.{goes_on, path_copies, path_join}
+use Rattle.aut_base.proofs.lists.Copies.{any-copies, copies-add, copies-copies}
+use Rattle.aut_base.proofs.lists.Members.{any_found, any_from, from_map, there_map}
+use Rattle.aut_base.proofs.runs.Paths.{goes_on, path_copies, path_join}
 use Rattle.aut_base.specs.Acceptance.{Accepts, IsPath}
 use Rattle.aut_base.specs.Automaton.{Automaton, TreeEdge}
 use Rattle.aut_base.specs.Formula.{met}
@@ -18,7 +18,7 @@ use Rattle.fin_removal.proofs.TermMet.{Passes}
 use Rattle.fin_removal.specs.Meeting.{meets_at, literal_places}
 use Rattle.degeneralise.specs.Buchi.{Watch, level_after, levelled, levels, state_at}
 use Rattle.degeneralise.proofs.LevelWalks.{HasRoom, end_below, end_is_turn, end_level, end_then, marked_waits, marks_are_marked, some_level, waits_along, walk, walk_path, walked}
-use Rattle.aut_base.proofs.Pigeonhole.{pigeons}
+use Rattle.aut_base.proofs.numbers.Pigeonhole.{pigeons}
 use Rattle.degeneralise.proofs.Turns.{all_passed, marked, met_on, rises, turn, turn_below, turn_then}
 
 -- each literal of the list is met by some edge of the cycle

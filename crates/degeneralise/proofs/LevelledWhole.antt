@@ -4,8 +4,8 @@ use Rattle.std.proofs.lemmas.Bool.{cond_both, eqb-true}
 use Rattle.std.proofs.lemmas.List.{append-nil, get_or-map, length-map}
 use Rattle.std.proofs.lemmas.List.Elements.{All-cons, All-map, All-nil, All-weaker}
 use Rattle.std.proofs.lemmas.Nat.{mul-add-lt, same_from_place}
-use Rattle.aut_base.proofs.Members.{each_there, from_filter, from_map}
-use Rattle.aut_base.proofs.Rising.{Rises, rises_at, rises_pieces, rises_wider, rising}
+use Rattle.aut_base.proofs.lists.Members.{each_there, from_filter, from_map}
+use Rattle.aut_base.proofs.order.Rising.{Rises, rises_at, rises_pieces, rises_wider, rising}
 use Rattle.aut_base.specs.Automaton.{Automaton, IsEdgeOf, IsWellFormed, TreeEdge}
 use Rattle.aut_core.specs.Surveys.{edges_from}
 use Rattle.fin_removal.proofs.CopiedEdges.{edge_bounds}

@@ -5,7 +5,7 @@ use Rattle.std.specs.Option.{option_and_then, option_map}
 use Rattle.std.proofs.lemmas.Nat.{div-mul-add}
 use Rattle.std.proofs.lemmas.Option.{slice_get-map}
 use Rattle.acc_forms.specs.declared.literal.Literal.{Literal}
-use Rattle.aut_base.proofs.Members.{each_there}
+use Rattle.aut_base.proofs.lists.Members.{each_there}
 use Rattle.fin_removal.specs.Copies.{CopyOfTerm as TermCopy, copies_from, owned, owned_sets, sets_of, state_in, term_copies}
 use Rattle.degeneralise.specs.Buchi.{Watch, levels, most_levels, watch_of}
 

@@ -34,7 +34,7 @@ fn are_infs(parts: &Formulas) -> bool
     true
 }
 
-#[tactic(auto, using(aut_base::proofs::FormulaTrees::formula_trees))]
+#[tactic(auto, using(aut_base::proofs::trees::FormulaTrees::formula_trees))]
 fn is_inf(formula: &Formula) -> bool
     ensures { result ≡ is_inf_atom (formula_tree formula.now) }
 {
@@ -77,7 +77,7 @@ fn literals_of(alloc: Global, parts: &Formulas) -> Result<Literals, Memory>
 }
 
 /// Adds the literal of an Inf.
-#[tactic(auto, using(aut_base::proofs::FormulaTrees::formula_trees))]
+#[tactic(auto, using(aut_base::proofs::trees::FormulaTrees::formula_trees))]
 fn push_inf(found: &mut Literals, formula: &Formula) -> Result<(), Memory>
     ensures { OnOk result (found.new ≡ found.old ++ inf_literals (formula_tree formula.now)) }
 {

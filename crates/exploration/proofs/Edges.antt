@@ -4,9 +4,9 @@ use Rattle.std.proofs.Common.{sym}
 use Rattle.std.proofs.lemmas.Bool.{cases_lt}
 use Rattle.std.proofs.lemmas.Option.{get_or_from_slice_get, none-some, same_Some, slice_get-get_or, slice_get_within}
 use Rattle.std.specs.List.{AllZip}
-use Rattle.aut_base.proofs.AllPairsOf.{pairs_append}
-use Rattle.aut_base.proofs.Lists.{slice_get-append_left}
-use Rattle.aut_base.proofs.Members.{each_there, there_at}
+use Rattle.aut_base.proofs.order.AllPairsOf.{pairs_append}
+use Rattle.aut_base.proofs.lists.Lists.{slice_get-append_left}
+use Rattle.aut_base.proofs.lists.Members.{each_there, there_at}
 use Rattle.exploration.specs.Moves.{Fails, Gives, Lacks, Move, Moves}
 use Rattle.exploration.specs.Reached.{IsArrow, IsExplored, Step, step_to, steps_before, steps_below, steps_of}
 use Rattle.exploration.specs.Turns.{Arrow}

@@ -5,7 +5,7 @@ use Rattle.std.proofs.lemmas.List.{append-nil}
 use Rattle.std.proofs.lemmas.List.Elements.{All-push}
 use Rattle.std.proofs.lemmas.Option.{slice_get-get_or, slice_get_within}
 use Rattle.std.specs.List.{list_any}
-use Rattle.aut_base.proofs.Lists.{slice_get-append_left, slice_get-at}
+use Rattle.aut_base.proofs.lists.Lists.{slice_get-append_left, slice_get-at}
 use Rattle.exploration.specs.Turns.{with_new}
 
 -- a thing that is listed adds nothing, and one that isn't itself

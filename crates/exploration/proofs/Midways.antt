@@ -6,8 +6,8 @@ use Rattle.std.proofs.lemmas.List.{append-nil, map-append}
 use Rattle.std.proofs.lemmas.List.Sums.{fold-append}
 use Rattle.std.proofs.lemmas.Option.{none-some, same_Some, slice_get_within}
 use Rattle.std.specs.List.{AllZip, position_or_len}
-use Rattle.aut_base.proofs.ListTests.{zip_append}
-use Rattle.aut_base.proofs.Lists.{slice_get-append_left}
+use Rattle.aut_base.proofs.lists.ListTests.{zip_append}
+use Rattle.aut_base.proofs.lists.Lists.{slice_get-append_left}
 use Rattle.exploration.proofs.Lists.{Longer, longer_at, longer_back, new_longer}
 use Rattle.exploration.proofs.Places.{new_at, new_once, new_place}
 use Rattle.exploration.specs.Moves.{Fails, Gives, Lacks, Move, Moves}

@@ -4,7 +4,7 @@ use Rattle.std.proofs.lemmas.Bool.{true≢false}
 use Rattle.std.proofs.lemmas.List.Folds.{list_any_at}
 use Rattle.std.proofs.lemmas.Option.{get_or_from_slice_get, slice_get_within}
 use Rattle.std.specs.List.{list_any, position_or_len}
-use Rattle.aut_base.proofs.Lists.{slice_get-push_cases, slice_get-push_last}
+use Rattle.aut_base.proofs.lists.Lists.{slice_get-push_cases, slice_get-push_last}
 use Rattle.exploration.proofs.Lists.{new_cases}
 use Rattle.exploration.specs.Turns.{with_new}
 

@@ -4,8 +4,8 @@ use Rattle.std.proofs.lemmas.List.{length-map, map-append}
 use Rattle.std.proofs.lemmas.Option.{slice_get-map}
 use Rattle.std.specs.List.{list_any, position_or_len}
 use Rattle.std.specs.Option.{option_map}
-use Rattle.aut_base.proofs.Lists.{list_any-map}
-use Rattle.aut_base.proofs.Truth.{same_truth}
+use Rattle.aut_base.proofs.lists.Lists.{list_any-map}
+use Rattle.aut_base.proofs.numbers.Truth.{same_truth}
 use Rattle.exploration.proofs.Lists.{Longer, longer_length, read_here}
 use Rattle.exploration.specs.Turns.{has_room, with_new}
 

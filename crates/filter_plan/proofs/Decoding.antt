@@ -3,7 +3,7 @@ use Rattle.std.proofs.Common.{◌≡◌, ◌∙◌, ◌+◌, ◌<◌, ℕ, List,
 use Rattle.std.specs.Prelude.{All}
 use Rattle.std.proofs.lemmas.List.{map-append}
 use Rattle.std.proofs.lemmas.List.Elements.{All-more}
-use Rattle.aut_base.proofs.Lists.{take-push}
+use Rattle.aut_base.proofs.lists.Lists.{take-push}
 use Rattle.filter_plan.specs.Words.{IsText}
 
 pub one_more : {T : Type 0} (f : T → List ℕ) (words : List (List ℕ)) (i : ℕ) (w : List ℕ) (old new : List T) (t : T) → i < length words → w ≡ get_or words i w

@@ -4,7 +4,7 @@ use Rattle.std.specs.Option.{option_map}
 use Rattle.std.specs.Char.{digit_value}
 use Rattle.std.specs.Str.Parse.{AllDigits}
 use Rattle.std.proofs.lemmas.Option.{none-some, same_Some}
-use Rattle.aut_base.proofs.Lists.{cons-head, cons-tail}
+use Rattle.aut_base.proofs.lists.Lists.{cons-head, cons-tail}
 use Rattle.filter_plan.proofs.FormatTexts.{first_of_text}
 use Rattle.filter_plan.proofs.RangeTexts.{IsOnlyCut, bounds_of_range, digits_have_no_dot, dot_is_no_digit}
 use Rattle.filter_plan.specs.Formats.{IsFormat, piece_text}
@@ -21,7 +21,7 @@ use Rattle.filter_plan.specs.declared.plan.Output.TheVariants.{Hoa, Stats, Refut
 use Rattle.filter_plan.specs.declared.range.Range.{Range}
 use Rattle.filter_plan.specs.inner.Bounds.{IsBounds, IsHigh, IsLow}
 use Rattle.filter_plan.specs.inner.Pieces.{first_piece}
-use Rattle.word_syntax.proofs.FrontTokens.{one_front}
+use Rattle.word_syntax.proofs.texts.FrontTokens.{one_front}
 use Rattle.word_syntax.specs.Writing.{OneReading, word_pattern}
 use Rattle.word_syntax.specs.declared.pattern.Pattern.{Pattern}
 use Rattle.word_syntax.specs.declared.token.Token.TheVariants.{Name}

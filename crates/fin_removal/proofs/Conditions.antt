@@ -2,7 +2,7 @@
 use Rattle.std.proofs.Common.{◌≡◌, ℕ, false, ◌||◌, List, [], ◌∷◌, ◌++◌, refl}
 use Rattle.std.specs.List.{AllByRecursion, fold}
 use Rattle.std.proofs.lemmas.Bool.{cond_both, or_from, or_parts}
-use Rattle.aut_base.proofs.AllByRecursion.{AllByRecursion-append}
+use Rattle.aut_base.proofs.lists.AllByRecursion.{AllByRecursion-append}
 use Rattle.aut_base.specs.Formula.{FormulaTree, FormulaTrees, True, False, Inf, Fin, And, Or, none, more, SetsBelow, trees}
 use Rattle.acc_forms.proofs.FormulaSets.{sets_all_of, sets_conjuncts, sets_disjuncts, sets_some_of}
 use Rattle.acc_forms.specs.Atoms.{has_fin, some_fin}

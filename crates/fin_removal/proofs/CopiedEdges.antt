@@ -1,7 +1,7 @@
 -- The edges of an automaton with its copies, and where each comes from.
 use Rattle.std.proofs.Common.{◌≡◌, ◌⊎◌, true, List, ◌++◌, Contains, filter, flat_map, map, inl, inr, ⊎_elim}
 use Rattle.std.proofs.lemmas.List.Elements.{All-contains, Contains-append_cases, Contains-append_left, Contains-append_right}
-use Rattle.aut_base.proofs.Members.{first_there, from_filter, from_flat_map, from_map, later_there, there_cases, there_filter, there_flat_map, there_map}
+use Rattle.aut_base.proofs.lists.Members.{first_there, from_filter, from_flat_map, from_map, later_there, there_cases, there_filter, there_flat_map, there_map}
 use Rattle.aut_base.specs.Automaton.{Automaton, IsEdgeOf, IsWellFormed, TreeEdge}
 use Rattle.fin_removal.specs.Copies.{allows, copy_edges, edge_in, enter, main_edges, stay}
 use Rattle.fin_removal.specs.declared.term_copy.TermCopy.{TermCopy}

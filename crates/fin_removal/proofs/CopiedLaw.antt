@@ -7,9 +7,9 @@ use Rattle.std.proofs.lemmas.List.Elements.{All-contains}
 use Rattle.std.proofs.lemmas.Nat.{same_from_place}
 use Rattle.acc_forms.proofs.TermLaws.{met-of_terms, met-terms}
 use Rattle.acc_forms.specs.Terms.{literal_tree, terms}
-use Rattle.aut_base.proofs.Copies.{copies-add}
-use Rattle.aut_base.proofs.Members.{any_found, any_from, from_map, there_map}
-use Rattle.aut_base.proofs.Paths.{goes_on, path_join}
+use Rattle.aut_base.proofs.lists.Copies.{copies-add}
+use Rattle.aut_base.proofs.lists.Members.{any_found, any_from, from_map, there_map}
+use Rattle.aut_base.proofs.runs.Paths.{goes_on, path_join}
 use Rattle.aut_base.specs.Acceptance.{Accepts, IsPath}
 use Rattle.aut_base.specs.Automaton.{Automaton, IsWellFormed, TreeEdge}
 use Rattle.aut_base.specs.Formula.{met}

@@ -1,7 +1,7 @@
 -- Paths of an automaton, and those of it with its copies.
 use Rattle.std.proofs.Common.{◌≡◌, ◌∙◌, ◌+◌, ◌*◌, ◌<◌, ◌⊎◌, ℕ, true, List, [], ◌∷◌, Contains, ap, arith, map, refl, subst, sym, inl, inr, ⊎_elim}
 use Rattle.std.proofs.lemmas.Nat.{same_from_place}
-use Rattle.aut_base.proofs.Members.{first_there, later_there, there_cases}
+use Rattle.aut_base.proofs.lists.Members.{first_there, later_there, there_cases}
 use Rattle.aut_base.specs.Acceptance.{IsPath}
 use Rattle.aut_base.specs.Automaton.{Automaton, IsWellFormed, TreeEdge}
 use Rattle.aut_base.specs.Label.{holds_at, truth}

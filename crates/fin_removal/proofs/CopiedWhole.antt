@@ -3,10 +3,10 @@ use Rattle.std.proofs.Common.{◌≡◌, ◌+◌, ◌*◌, ◌<◌, ◌≤◌, �
 use Rattle.std.specs.List.{AllByRecursion, range_with_len, sum_by}
 use Rattle.std.proofs.lemmas.List.Elements.{All-nil, All-weaker}
 use Rattle.std.proofs.Math.Nat.{mul-le-mul_right}
-use Rattle.aut_base.proofs.AllByRecursion.{AllByRecursion-map, AllByRecursion-weaker}
-use Rattle.aut_base.proofs.Members.{each_there, from_map, there_cases}
-use Rattle.aut_base.proofs.Ordered.{range_within}
-use Rattle.aut_base.proofs.Rising.{increases_kept, increases_moved, increases_range, increasing, risen, Rises, rises_each, rises_kept, rises_moved, rises_then, rising}
+use Rattle.aut_base.proofs.lists.AllByRecursion.{AllByRecursion-map, AllByRecursion-weaker}
+use Rattle.aut_base.proofs.lists.Members.{each_there, from_map, there_cases}
+use Rattle.aut_base.proofs.order.Ordered.{range_within}
+use Rattle.aut_base.proofs.order.Rising.{increases_kept, increases_moved, increases_range, increasing, risen, Rises, rises_each, rises_kept, rises_moved, rises_then, rising}
 use Rattle.aut_base.specs.Automaton.{Automaton, IsEdgeOf, IsWellFormed, TreeEdge}
 use Rattle.aut_base.specs.Formula.{FormulaTree, SetsBelow}
 use Rattle.acc_forms.specs.Atoms.{has_fin}

@@ -3,7 +3,7 @@ use Rattle.std.proofs.Common.{◌≡◌, ◌∙◌, ℕ, zero, suc, ◌+◌, ◌
 use Rattle.std.specs.List.{range_with_len}
 use Rattle.std.proofs.lemmas.List.{append-nil, map-append}
 use Rattle.std.proofs.lemmas.List.Elements.{All-append, All-nil, All-cons, All-weaker, filter-append}
-use Rattle.aut_base.proofs.Lists.{range_more, take-push}
+use Rattle.aut_base.proofs.lists.Lists.{range_more, take-push}
 use Rattle.aut_base.specs.Automaton.{TreeEdge}
 use Rattle.fin_removal.specs.Copies.{allows, copy_edges, edge_in}
 use Rattle.fin_removal.specs.Meeting.{meets_at}

@@ -3,7 +3,7 @@ use Rattle.std.proofs.Common.{◌≡◌, ◌∙◌, ◌+◌, ◌<◌, ◌≤◌,
 use Rattle.std.specs.List.{sum_by}
 use Rattle.std.proofs.lemmas.List.Sums.{sum_by-cons}
 use Rattle.acc_forms.specs.declared.literal.Literal.{Literal}
-use Rattle.aut_base.proofs.Members.{later_there}
+use Rattle.aut_base.proofs.lists.Members.{later_there}
 use Rattle.fin_removal.specs.Copies.{copies_from, sets_of}
 use Rattle.fin_removal.specs.Meeting.{fins, infs, literal_places}
 use Rattle.fin_removal.specs.declared.term_copy.TermCopy.{TermCopy}

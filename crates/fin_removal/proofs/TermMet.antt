@@ -5,7 +5,7 @@ use Rattle.std.specs.Option.{option_map_or}
 use Rattle.std.proofs.lemmas.Bool.{cases_Bool, cases_lt, eq-eqb, eqb-true, not-true, not_from_false}
 use Rattle.std.proofs.lemmas.List.Elements.{Contains-get_or}
 use Rattle.std.proofs.lemmas.Option.{slice_get-get_or, slice_get_past}
-use Rattle.aut_base.proofs.Members.{any_found, any_from, each_from, each_is, from_filter, from_map, from_range, there_filter, there_map, there_range}
+use Rattle.aut_base.proofs.lists.Members.{any_found, any_from, each_from, each_is, from_filter, from_map, from_range, there_filter, there_map, there_range}
 use Rattle.aut_base.specs.Formula.{met}
 use Rattle.aut_base.specs.Marks.{is_in}
 use Rattle.acc_forms.specs.Terms.{literal_tree}

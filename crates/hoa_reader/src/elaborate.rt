@@ -130,7 +130,7 @@ fn description<'a>(
 }
 
 /// The acceptance condition, held apart.
-#[tactic(auto, using(aut_base::proofs::FormulaTrees::formula_trees))]
+#[tactic(auto, using(aut_base::proofs::trees::FormulaTrees::formula_trees))]
 fn condition(alloc: Global, raw: &Raw, parts: &Parts<'_>) -> Result<Formula, Memory>
     requires { ArePartsOf (written raw.now) parts.now }
     ensures { IfOk result (λ formula. formula_tree formula ≡ (acceptance_of (written raw.now)).formula) }

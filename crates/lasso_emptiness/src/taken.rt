@@ -11,7 +11,7 @@ use std::alloc::Global;
 
 /// The condition with each `Fin` of this side taken as true, or as false.
 #[cycle(take)]
-#[tactic(auto, using(aut_base::proofs::FormulaTrees::formula_trees))]
+#[tactic(auto, using(aut_base::proofs::trees::FormulaTrees::formula_trees))]
 pub(crate) fn take(
     alloc: Global,
     condition: &Formula,
@@ -34,7 +34,7 @@ pub(crate) fn take(
 }
 
 /// `Fin` of this set.
-#[tactic(auto, using(aut_base::proofs::FormulaTrees::formula_trees))]
+#[tactic(auto, using(aut_base::proofs::trees::FormulaTrees::formula_trees))]
 fn take_fin(set: u32, neg: bool, side: Side, value: bool) -> Formula
     ensures { formula_tree result ≡ taken side.set side.neg value (FormulaTree.Fin set neg) }
 {

@@ -7,7 +7,7 @@ use Rattle.std.proofs.lemmas.List.Elements.{All-contains}
 use Rattle.std.proofs.lemmas.List.Folds.{list_all-map}
 use Rattle.std.specs.Bool.{beq}
 use Rattle.std.specs.List.{list_all, list_any}
-use Rattle.aut_base.proofs.CanonicalTruth.{truth_on-label_of}
+use Rattle.aut_base.proofs.canonical.CanonicalTruth.{truth_on-label_of}
 use Rattle.aut_base.specs.Automaton.{TreeEdge}
 use Rattle.aut_base.specs.CanonicalLabel.{label_of}
 use Rattle.aut_base.specs.Label.{LabelTree, truth}
@@ -15,7 +15,7 @@ use Rattle.aut_base.specs.Valuation.{IsLeast, holds_in, number_of, truth_on, val
 use Rattle.aut_core.proofs.Growth.{keeps_on}
 use Rattle.aut_core.specs.Core.{Core, IsCore, automaton_of}
 use Rattle.exploration.specs.Moves.{AreClasses}
-use Rattle.label_guards.proofs.Valuations.{length-bits_of}
+use Rattle.label_guards.proofs.valuations.Valuations.{length-bits_of}
 use Rattle.label_guards.specs.ClassLeasts.{are_alike, class_leasts, labels_in}
 use Rattle.label_guards.specs.Guards.{IsNeverMet}
 use Rattle.label_guards.specs.Leasts.{bits_of}

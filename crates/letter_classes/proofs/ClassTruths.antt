@@ -2,8 +2,8 @@
 use Rattle.std.proofs.Common.{◌≡◌, ◌∙◌, ℕ, Bool, List, ap, length, sym}
 use Rattle.std.proofs.lemmas.List.{length-map}
 use Rattle.std.specs.FinSet as set
-use Rattle.aut_base.proofs.CanonicalTruth.{truth_on-label_of}
-use Rattle.aut_base.proofs.ValuationLetters.{valuation_at, valuation_at_holds}
+use Rattle.aut_base.proofs.canonical.CanonicalTruth.{truth_on-label_of}
+use Rattle.aut_base.proofs.canonical.ValuationLetters.{valuation_at, valuation_at_holds}
 use Rattle.aut_base.specs.Label.{LabelTree, holds_at, truth}
 use Rattle.aut_base.specs.Valuation.{holds_in}
 use Rattle.aut_base.specs.Word.{NameSet}

@@ -4,12 +4,12 @@ use Rattle.std.proofs.lemmas.Bool.{and_parts, true≢false}
 use Rattle.std.proofs.lemmas.List.Elements.{All-contains, All-weaker}
 use Rattle.std.proofs.lemmas.Option.{same_Some, slice_get-get_or, slice_get_within}
 use Rattle.std.specs.Map.{lookup}
-use Rattle.aut_base.proofs.CanonicalTruth.{label_of-same}
-use Rattle.aut_base.proofs.Members.{placed_there}
+use Rattle.aut_base.proofs.canonical.CanonicalTruth.{label_of-same}
+use Rattle.aut_base.proofs.lists.Members.{placed_there}
 use Rattle.aut_base.specs.Label.{LabelTree}
 use Rattle.aut_base.specs.Valuation.{IsLeast, holds_in, truth_on}
 use Rattle.aut_core.proofs.Made.{label_in_settled}
-use Rattle.label_guards.proofs.ClassLeastLaws.{by_leasts}
+use Rattle.label_guards.proofs.alike.ClassLeastLaws.{by_leasts}
 use Rattle.label_guards.specs.ClassLeasts.{are_alike, class_leasts, labels_in}
 use Rattle.label_guards.specs.Classes.{AreClasses}
 use Rattle.label_guards.specs.Store.{Has, Keeps, Store, label_in}

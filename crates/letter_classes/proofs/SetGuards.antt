@@ -3,13 +3,13 @@ use Rattle.std.proofs.Common.{◌≡◌, ◌∙◌, ◌+◌, ◌<◌, ◌==◌, 
 use Rattle.std.proofs.Common.{slice_get, subst, sym, take}
 use Rattle.std.proofs.lemmas.List.{map-append}
 use Rattle.std.proofs.lemmas.List.Elements.{All-contains, All-filter}
-use Rattle.aut_base.proofs.Members.{each_there, from_filter, from_flat_map, from_map, read_has}
-use Rattle.aut_base.proofs.Steps.{flat_map_on}
+use Rattle.aut_base.proofs.lists.Members.{each_there, from_filter, from_flat_map, from_map, read_has}
+use Rattle.aut_base.proofs.lists.Steps.{flat_map_on}
 use Rattle.aut_base.specs.Automaton.{Automaton, TreeEdge}
 use Rattle.aut_core.specs.Core.{Core, IsCore, IsLinkOf, automaton_of, edge_of}
 use Rattle.aut_core.specs.Surveys.{edges_from}
 use Rattle.aut_core.specs.declared.link.Link.{Link}
-use Rattle.aut_ops.proofs.Linked.{edges_filter}
+use Rattle.aut_ops.proofs.links.Linked.{edges_filter}
 use Rattle.label_guards.specs.Store.{Has, label_in}
 use Rattle.letter_classes.specs.SetClasses.{guards_from, set_edges, set_labels}
 

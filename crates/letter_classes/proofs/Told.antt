@@ -7,9 +7,9 @@ use Rattle.std.proofs.lemmas.List.Folds.{list_all-append}
 use Rattle.std.proofs.Math.Dec.{eqb, ltb}
 use Rattle.std.specs.List.{list_all, list_any}
 use Rattle.std.specs.Prelude.{flat_map, get_or}
-use Rattle.aut_base.proofs.Members.{any_found, each_from, each_is, each_there, none_at}
-use Rattle.aut_base.proofs.Steps.{flat_map_on, map_on}
-use Rattle.aut_base.proofs.Truth.{and-true}
+use Rattle.aut_base.proofs.lists.Members.{any_found, each_from, each_is, each_there, none_at}
+use Rattle.aut_base.proofs.lists.Steps.{flat_map_on, map_on}
+use Rattle.aut_base.proofs.numbers.Truth.{and-true}
 use Rattle.aut_core.specs.declared.link.Link.{Link}
 use Rattle.label_guards.specs.Store.{Has, Store, places}
 use Rattle.label_guards.specs.declared.guard.Guard.{Guard}

@@ -3,7 +3,7 @@ use Rattle.std.proofs.Common.{◌≡◌, ℕ, ◌+◌, ◌-◌, ◌<◌, ◌≤�
 use Rattle.std.specs.Fmt.{decimal}
 use Rattle.std.specs.List.{slice_index_or}
 use Rattle.std.proofs.lemmas.Option.{slice_get-get_or}
-use Rattle.aut_base.proofs.Lists.{slice_get-append_left, slice_get-append_right}
+use Rattle.aut_base.proofs.lists.Lists.{slice_get-append_left, slice_get-append_right}
 use Rattle.made_stream.specs.inner.Left.{left_at}
 use Rattle.made_stream.specs.inner.Parts.{part_back, part_front, part_number, part_text}
 use Rattle.made_stream.specs.declared.made.place.Part.{Part}

@@ -3,7 +3,7 @@ use Rattle.std.proofs.Common.{◌≡◌, ℕ, ◌+◌, ◌-◌, ◌/◌, ◌%◌
 use Rattle.std.proofs.lemmas.Bool.{cases_lt}
 use Rattle.std.specs.Fmt.{decimal}
 use Rattle.std.proofs.lemmas.Fmt.{decimal_digit, decimal_step}
-use Rattle.aut_base.proofs.Lists.{slice_get-append_left, slice_get-push_last}
+use Rattle.aut_base.proofs.lists.Lists.{slice_get-append_left, slice_get-push_last}
 
 pub length-decimal_digit : (n : ℕ) → n < 10 → length (decimal n) ≡ 1
 length-decimal_digit n small = ap length (decimal_digit n small)

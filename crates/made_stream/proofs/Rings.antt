@@ -6,7 +6,7 @@ use Rattle.std.specs.List.{flat_map, range_with_len}
 use Rattle.std.proofs.lemmas.Fmt.{decimal_digit}
 use Rattle.std.proofs.lemmas.List.{drop_all}
 use Rattle.std.proofs.Math.Seq.{drop-cons}
-use Rattle.aut_base.proofs.Lists.{drop-slice_get}
+use Rattle.aut_base.proofs.lists.Lists.{drop-slice_get}
 use Rattle.made_stream.specs.Made.{line, made_text, mark, ring_text, state_back, state_on}
 use Rattle.made_stream.specs.inner.Parts.{behind_part, behind_state, part_text, rings_behind}
 use Rattle.made_stream.specs.declared.made.place.Part.{Part}

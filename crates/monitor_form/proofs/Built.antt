@@ -7,7 +7,7 @@ use Rattle.std.specs.Cmp.Lexicographic.{pointwise}
 use Rattle.std.specs.List.{list_any, range_with_len}
 use Rattle.std.specs.List.Sorted.{IsNonDecreasing}
 use Rattle.std.specs.Prelude.{⊤, nat_eq}
-use Rattle.aut_base.proofs.Members.{each_there, from_filter, from_range, there_at, there_map}
+use Rattle.aut_base.proofs.lists.Members.{each_there, from_filter, from_range, there_at, there_map}
 use Rattle.aut_base.specs.Automaton.{Automaton}
 use Rattle.aut_base.specs.Formula.{FormulaTree}
 use Rattle.aut_base.specs.declared.limit.TheConstants.{MOST_SUBSETS}

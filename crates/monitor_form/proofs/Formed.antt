@@ -4,9 +4,9 @@ use Rattle.std.proofs.lemmas.Bool.{and_from, and_parts, eqb-true, true≢false}
 use Rattle.std.proofs.lemmas.List.Elements.{All-contains, Contains-get_or}
 use Rattle.std.proofs.lemmas.Option.{get_or_from_slice_get, slice_get-get_or, slice_get_within}
 use Rattle.std.specs.List.{list_any, range_with_len}
-use Rattle.aut_base.proofs.Members.{any_found, any_from, first_there, from_filter, from_flat_map, from_map, none_there, placed_there, there_at, there_filter, there_flat_map, there_map}
-use Rattle.aut_base.proofs.Members.{there_range_zero}
-use Rattle.aut_base.proofs.ValuationLetters.{valuation_at}
+use Rattle.aut_base.proofs.lists.Members.{any_found, any_from, first_there, from_filter, from_flat_map, from_map, none_there, placed_there, there_at, there_filter, there_flat_map, there_map}
+use Rattle.aut_base.proofs.lists.Members.{there_range_zero}
+use Rattle.aut_base.proofs.canonical.ValuationLetters.{valuation_at}
 use Rattle.aut_base.specs.Automaton.{Automaton, IsEdgeOf, IsWellFormed, TreeEdge}
 use Rattle.aut_base.specs.Label.{holds_at, truth}
 use Rattle.aut_base.specs.Valuation.{holds_in, truth_on}
@@ -17,7 +17,7 @@ use Rattle.exploration.proofs.Edges.{ArrowBefore, arrows_rise, edge_for, edge_fr
 use Rattle.exploration.specs.Moves.{Fails, Gives, Lacks, Move}
 use Rattle.exploration.specs.Reached.{IsExplored}
 use Rattle.exploration.specs.Turns.{Arrow, EndsWith}
-use Rattle.label_guards.proofs.ClassLeastLaws.{alike_each, alike_on, alike_turned, least_alike, leasts_apart}
+use Rattle.label_guards.proofs.alike.ClassLeastLaws.{alike_each, alike_on, alike_turned, least_alike, leasts_apart}
 use Rattle.label_guards.specs.ClassLeasts.{are_alike}
 use Rattle.letter_classes.proofs.ClassTruths.{at_letter, class_truth, valuation_long}
 use Rattle.letter_classes.specs.SetClasses.{class_label, set_classes, set_edges, set_labels}
@@ -26,7 +26,7 @@ use Rattle.monitor_form.specs.Subsets.{goals, is_goal, monitor_edge, monitor_on,
 use Rattle.exploration.proofs.Ends.{explored}
 use Rattle.std.specs.Cmp.Lexicographic.{bytes_decides, pointwise}
 use Rattle.std.specs.Prelude.{nat_eq}
-use Rattle.aut_base.proofs.AllPairsOf.{pairs_map}
+use Rattle.aut_base.proofs.order.AllPairsOf.{pairs_map}
 use Rattle.monitor_form.specs.Subsets.{IsExploredFrom, IsSubsetForm}
 
 -- steps that give a set

@@ -4,8 +4,8 @@ use Rattle.std.proofs.Common.{◌≡◌, ◌∙◌, ◌<◌, ◌&&◌, ℕ, Bool
 use Rattle.std.proofs.lemmas.Bool.{and_from, and_parts, or_left}
 use Rattle.std.proofs.lemmas.List.Elements.{All-contains}
 use Rattle.std.specs.List.{list_any}
-use Rattle.aut_base.proofs.Members.{from_filter, from_map, there_filter, there_map}
-use Rattle.aut_base.proofs.Truth.{not_not}
+use Rattle.aut_base.proofs.lists.Members.{from_filter, from_map, there_filter, there_map}
+use Rattle.aut_base.proofs.numbers.Truth.{not_not}
 use Rattle.aut_base.specs.Acceptance.{IsPath}
 use Rattle.aut_base.specs.Automaton.{Automaton, IsEdgeOf, IsWellFormed, TreeEdge}
 use Rattle.aut_base.specs.Formula.{Inf, met}
@@ -13,7 +13,7 @@ use Rattle.aut_base.specs.Label.{holds_at, truth}
 use Rattle.aut_base.specs.Marks.{is_in}
 use Rattle.aut_base.specs.Valuation.{letter_of}
 use Rattle.aut_base.specs.Word.{NameSet}
-use Rattle.aut_ops.proofs.Labels.{some_letter}
+use Rattle.aut_ops.proofs.links.Labels.{some_letter}
 use Rattle.aut_ops.specs.Labels.{is_never}
 use Rattle.aut_ops.specs.Passable.{arc_of, between, is_flagged, is_passable, passable_arcs, passable_edges, stays}
 use Rattle.aut_ops.specs.Pruning.{AreUseful, IsMarkedOnCycle, IsUseful}

@@ -6,7 +6,7 @@ use Rattle.aut_base.specs.declared.limit.TheConstants.{MOST_BUCHI_STATES}
 use Rattle.aut_core.specs.Core.{Core, automaton_of}
 use Rattle.aut_core.specs.Deterministic.{IsDeterministic}
 use Rattle.aut_core.specs.OtherNames.{AcceptTheSame}
-use Rattle.aut_ops.proofs.FlagLaws.{pruned_is_determined}
+use Rattle.aut_ops.proofs.flagged.FlagLaws.{pruned_is_determined}
 use Rattle.aut_ops.specs.Pruning.{IsPruned}
 use Rattle.degeneralise.specs.Buchi.{buchi, buchi_states}
 use Rattle.exploration.proofs.Ends.{ends_or_meets, has_one_ending, has_one_outcome}

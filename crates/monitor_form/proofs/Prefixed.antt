@@ -1,10 +1,10 @@
 -- Why a monitor accepts the words of which no finite part is ruled out.
 use Rattle.std.proofs.Common.{◌≡◌, ◌∙◌, ◌<◌, ◌≤◌, ℕ, zero, suc, List, [], ◌∷◌, ◌++◌, Contains, ap, arith, inl, inr, length, map, refl, subst, sym}
 use Rattle.std.proofs.lemmas.List.{append-nil, length-append}
-use Rattle.aut_base.proofs.Lists.{slice_get-append_left}
-use Rattle.aut_base.proofs.Members.{first_there, none_there, there_cases}
-use Rattle.aut_base.proofs.Paths.{path_join, path_split}
-use Rattle.aut_base.proofs.Spelled.{stem_letter}
+use Rattle.aut_base.proofs.lists.Lists.{slice_get-append_left}
+use Rattle.aut_base.proofs.lists.Members.{first_there, none_there, there_cases}
+use Rattle.aut_base.proofs.runs.Paths.{path_join, path_split}
+use Rattle.aut_base.proofs.words.Spelled.{stem_letter}
 use Rattle.aut_base.specs.Acceptance.{Accepts, IsPath}
 use Rattle.aut_base.specs.Automaton.{Automaton, TreeEdge}
 use Rattle.aut_base.specs.Formula.{met}

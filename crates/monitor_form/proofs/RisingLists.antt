@@ -3,8 +3,8 @@ use Rattle.std.proofs.Common.{◌≡◌, ◌+◌, ◌<◌, ◌≤◌, ℕ, suc, 
 use Rattle.std.proofs.lemmas.List.Kept.{AllPairs-from_increasing}
 use Rattle.std.specs.List.{range_with_len}
 use Rattle.std.specs.List.Sorted.{IsStrictlyIncreasing}
-use Rattle.aut_base.proofs.Members.{first_there, from_filter, from_range, later_there, none_there, there_cases, there_filter, there_range_zero}
-use Rattle.aut_base.proofs.Rising.{Increases, increases_kept, increases_range}
+use Rattle.aut_base.proofs.lists.Members.{first_there, from_filter, from_range, later_there, none_there, there_cases, there_filter, there_range_zero}
+use Rattle.aut_base.proofs.order.Rising.{Increases, increases_kept, increases_range}
 
 from_low : (low : ℕ) (xs : List ℕ) → Increases low xs → (q : ℕ) → Contains xs q → low ≤ q
 from_low low [] c q there = absurd (none_there q there)

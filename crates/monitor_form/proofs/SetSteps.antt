@@ -2,7 +2,7 @@
 use Rattle.std.proofs.Common.{◌≡◌, ◌∙◌, ◌<◌, ◌==◌, ◌&&◌, ◌||◌, ℕ, suc, All, Bool, true, false, cond, List, [], ◌∷◌, ap, arith, filter, length, refl, slice_get, subst, sym}
 use Rattle.std.proofs.lemmas.Bool.{eqb-true, true≢false}
 use Rattle.std.specs.List.{list_any, range_with_len}
-use Rattle.aut_base.proofs.Members.{each_there, from_filter, from_range}
+use Rattle.aut_base.proofs.lists.Members.{each_there, from_filter, from_range}
 use Rattle.aut_base.specs.Automaton.{Automaton, TreeEdge}
 use Rattle.aut_base.specs.Valuation.{truth_on}
 use Rattle.aut_core.specs.Core.{Core, IsCore, automaton_of}

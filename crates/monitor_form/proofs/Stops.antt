@@ -1,10 +1,10 @@
 -- A path over copies of a list, by the states that it is in after each.
 use Rattle.std.proofs.Common.{◌≡◌, ◌∙◌, ◌+◌, ◌-◌, ◌<◌, ◌≤◌, ℕ, zero, suc, List, [], ◌++◌, ap, arith, refl, subst, sym}
-use Rattle.aut_base.proofs.Paths.{path_join, path_split}
+use Rattle.aut_base.proofs.runs.Paths.{path_join, path_split}
 use Rattle.aut_base.specs.Acceptance.{IsPath}
 use Rattle.aut_base.specs.Automaton.{Automaton, TreeEdge}
 use Rattle.aut_base.specs.Word.{NameSet, copies}
-use Rattle.aut_base.proofs.Pigeonhole.{pigeons}
+use Rattle.aut_base.proofs.numbers.Pigeonhole.{pigeons}
 
 abbrev pub first_then : {A : Type 0} → A → (ℕ → A) → ℕ → A
 first_then x f zero = x

@@ -5,7 +5,7 @@ use Rattle.std.proofs.lemmas.Option.{get_or_from_slice_get, slice_get_within}
 use Rattle.std.proofs.lemmas.Simd.{map-map}
 use Rattle.std.specs.List.Sorted.{IsNonDecreasing}
 use Rattle.acc_forms.specs.Parity.{parity_min_odd}
-use Rattle.aut_base.proofs.Members.{each_there, there_at, there_map}
+use Rattle.aut_base.proofs.lists.Members.{each_there, there_at, there_map}
 use Rattle.aut_base.specs.declared.limit.TheConstants.{MOST_NODES, MOST_TREES}
 use Rattle.aut_core.specs.Core.{AreParts, Core, IsCore, IsLinkOf, automaton_of, edge_of}
 use Rattle.aut_core.specs.declared.link.Link.{Link}

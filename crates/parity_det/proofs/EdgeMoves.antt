@@ -4,12 +4,12 @@ use Rattle.std.proofs.Common.{get_or, length, map, nat_eq, refl, slice_get, subs
 use Rattle.std.proofs.lemmas.Bool.{eqb-true}
 use Rattle.std.proofs.lemmas.List.{append-nil, append_assoc, map-append, take_all}
 use Rattle.std.proofs.lemmas.List.Elements.{All-contains, filter-append}
-use Rattle.aut_base.proofs.Members.{each_there, from_filter, from_flat_map, from_map, placed_there}
+use Rattle.aut_base.proofs.lists.Members.{each_there, from_filter, from_flat_map, from_map, placed_there}
 use Rattle.aut_base.specs.Automaton.{Automaton, IsEdgeOf, TreeEdge}
 use Rattle.aut_core.specs.Core.{Core, IsCore, automaton_of, edge_of}
 use Rattle.aut_core.specs.Surveys.{edges_from}
 use Rattle.aut_core.specs.declared.link.Link.{Link}
-use Rattle.aut_ops.proofs.Linked.{edges_filter}
+use Rattle.aut_ops.proofs.links.Linked.{edges_filter}
 use Rattle.letter_classes.proofs.SetGuards.{set_edges_on}
 use Rattle.letter_classes.specs.SetClasses.{set_edges}
 use Rattle.parity_det.specs.Systems.{moves_of}

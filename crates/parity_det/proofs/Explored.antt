@@ -3,7 +3,7 @@ use Rattle.std.proofs.Common.{◌≡◌, ◌∙◌, ◌<◌, ◌≤◌, ◌==◌
 use Rattle.std.proofs.Common.{eq-eqb, get_or, leb, length, refl, slice_get, subst, sym}
 use Rattle.std.proofs.lemmas.Bool.{eqb-true, leb-false, leb-true, true≢false}
 use Rattle.std.proofs.lemmas.Option.{get_or_from_slice_get, slice_get-get_or, slice_get_within}
-use Rattle.aut_base.proofs.Members.{any_found, any_from, from_filter, from_flat_map, from_map, there_filter, there_flat_map, there_map, there_at}
+use Rattle.aut_base.proofs.lists.Members.{any_found, any_from, from_filter, from_flat_map, from_map, there_filter, there_flat_map, there_map, there_at}
 use Rattle.aut_base.specs.Automaton.{Automaton, TreeEdge}
 use Rattle.aut_base.specs.Label.{holds_at, truth}
 use Rattle.aut_base.specs.Valuation.{holds_in, truth_on}
@@ -14,7 +14,7 @@ use Rattle.exploration.proofs.Edges.{edge_from}
 use Rattle.exploration.specs.Moves.{Fails, Gives, Lacks, Move}
 use Rattle.exploration.specs.Reached.{IsExplored, IsReached, Leads}
 use Rattle.exploration.specs.Turns.{Arrow}
-use Rattle.label_guards.proofs.ClassLeastLaws.{alike_each}
+use Rattle.label_guards.proofs.alike.ClassLeastLaws.{alike_each}
 use Rattle.label_guards.specs.ClassLeasts.{are_alike}
 use Rattle.letter_classes.specs.SetClasses.{set_edges, set_labels}
 use Rattle.parity_det.specs.Determinisation.{class_moves, same_tree, start_tree, step_at, tree_classes, tree_moves, unless_large, width}

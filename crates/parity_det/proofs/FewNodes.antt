@@ -2,7 +2,7 @@
 use Rattle.std.proofs.Common.{◌≡◌, ◌⊎◌, ◌∙◌, ◌+◌, ◌-◌, ◌<◌, ◌≤◌, ◌==◌, ◌&&◌, ℕ, zero, suc, Bool, true, false, Contains, List, [], ◌∷◌, ap, arith, inl, inr, length, max, refl, slice_get, subst, sym}
 use Rattle.std.proofs.lemmas.Bool.{and_parts, cases_lt, eqb-true}
 use Rattle.std.specs.List.{list_any, range_with_len}
-use Rattle.aut_base.proofs.Members.{any_found, first_there, from_filter, from_flat_map, from_map, later_there, there_at}
+use Rattle.aut_base.proofs.lists.Members.{any_found, first_there, from_filter, from_flat_map, from_map, later_there, there_at}
 use Rattle.aut_base.specs.Automaton.{Automaton, TreeEdge}
 use Rattle.aut_base.specs.Valuation.{truth_on}
 use Rattle.aut_core.specs.Surveys.{edges_from}

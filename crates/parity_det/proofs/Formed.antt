@@ -3,9 +3,9 @@ use Rattle.std.proofs.Common.{◌≡◌, ◌∙◌, ◌<◌, ℕ, Bool, true, Co
 use Rattle.std.proofs.lemmas.Bool.{cases_lt}
 use Rattle.std.proofs.lemmas.List.Elements.{Contains-get_or}
 use Rattle.std.proofs.lemmas.Option.{get_or_from_slice_get, slice_get-get_or, slice_get_within}
-use Rattle.aut_base.proofs.AllPairsOf.{pairs_map}
-use Rattle.aut_base.proofs.Members.{each_there, from_map, placed_there, there_at, there_map}
-use Rattle.aut_base.proofs.ValuationLetters.{valuation_at}
+use Rattle.aut_base.proofs.order.AllPairsOf.{pairs_map}
+use Rattle.aut_base.proofs.lists.Members.{each_there, from_map, placed_there, there_at, there_map}
+use Rattle.aut_base.proofs.canonical.ValuationLetters.{valuation_at}
 use Rattle.aut_base.specs.Automaton.{Automaton, TreeEdge}
 use Rattle.aut_base.specs.Label.{LabelTree, holds_at, truth}
 use Rattle.aut_base.specs.Valuation.{holds_in}
@@ -17,7 +17,7 @@ use Rattle.exploration.proofs.Ends.{explored}
 use Rattle.exploration.specs.Moves.{Fails, Gives}
 use Rattle.exploration.specs.Reached.{IsExplored}
 use Rattle.exploration.specs.Turns.{Arrow, EndsWith}
-use Rattle.label_guards.proofs.ClassLeastLaws.{alike_on, alike_turned, least_alike, leasts_apart}
+use Rattle.label_guards.proofs.alike.ClassLeastLaws.{alike_on, alike_turned, least_alike, leasts_apart}
 use Rattle.label_guards.specs.ClassLeasts.{are_alike}
 use Rattle.letter_classes.proofs.ClassTruths.{at_letter, class_truth, valuation_long}
 use Rattle.letter_classes.specs.SetClasses.{class_label, set_labels}

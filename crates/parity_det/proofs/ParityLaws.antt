@@ -4,7 +4,7 @@ use Rattle.aut_base.specs.Automaton.{Automaton, IsWellFormed}
 use Rattle.aut_base.specs.Formula.{Inf}
 use Rattle.aut_base.specs.declared.limit.TheConstants.{MOST_BUCHI_STATES}
 use Rattle.aut_core.specs.OtherNames.{AcceptTheSame}
-use Rattle.aut_ops.proofs.FlagLaws.{pruned_is_determined}
+use Rattle.aut_ops.proofs.flagged.FlagLaws.{pruned_is_determined}
 use Rattle.aut_ops.specs.Pruning.{IsPruned}
 use Rattle.degeneralise.specs.Buchi.{NeedsTooManyTerms, buchi, buchi_states}
 use Rattle.exploration.proofs.Ends.{ends_or_meets, has_one_ending, has_one_outcome}

@@ -2,7 +2,7 @@
 use Rattle.std.proofs.Common.{◌+◌, ◌-◌, ◌<◌, ◌≤◌, ℕ, suc, zero, All, Bool, true, false, cond, List, [], ◌∷◌, arith, length, slice_get, subst}
 use Rattle.std.specs.List.{list_any, range_with_len}
 use Rattle.acc_forms.specs.Parity.{is_odd, parity_atom, parity_from, parity_min_odd}
-use Rattle.aut_base.proofs.Members.{each_there, there_at}
+use Rattle.aut_base.proofs.lists.Members.{each_there, there_at}
 use Rattle.aut_base.specs.Automaton.{Automaton}
 use Rattle.aut_base.specs.Formula.{And, Fin, FormulaTree, Inf, Or, SetsBelow, none}
 use Rattle.aut_base.specs.declared.limit.TheConstants.{MOST_NODES}

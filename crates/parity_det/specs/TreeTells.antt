@@ -2,7 +2,7 @@
 use Rattle.std.proofs.Common.{◌≡◌, ◌↔◌, ◌∙◌, ◌==◌, ℕ, true, List, [], ◌∷◌, ap, inl, inr, nat_eq, refl, sym}
 use Rattle.std.proofs.lemmas.Bool.{and_from, and_parts, cases_Bool, eq-eqb, eqb-true, true≢false}
 use Rattle.std.specs.Cmp.Lexicographic.{pointwise}
-use Rattle.aut_base.proofs.Texts.{other_text, same_text}
+use Rattle.aut_base.proofs.words.Texts.{other_text, same_text}
 use Rattle.parity_det.specs.Determinisation.{same_node, same_tree}
 use Rattle.safra_trees.proofs.laws.EqualTrees.{fields_eq, trees_equal}
 use Rattle.safra_trees.specs.Trees.{Node}

@@ -17,7 +17,7 @@ pub(crate) enum Chain {
     Several(Labels),
 }
 
-#[tactic(auto, using(aut_base::proofs::LabelTrees::label_trees))]
+#[tactic(auto, using(aut_base::proofs::trees::LabelTrees::label_trees))]
 impl Chain {
     /// These parts and one more.
     pub(crate) fn add(self, alloc: Global, label: Label) -> Result<Chain, Memory>

@@ -4,7 +4,7 @@ use Rattle.std.specs.Prelude.{◌||◌, is_some}
 use Rattle.std.specs.Bool.{then_some}
 use Rattle.std.specs.Option.{option_map}
 use Rattle.std.proofs.lemmas.Bool.{false≢true, ltb-false}
-use Rattle.aut_base.proofs.CanonicalAutomata.{canonical_accepts_the_same, canonical_is_well_formed, labels_below}
+use Rattle.aut_base.proofs.canonical.CanonicalAutomata.{canonical_accepts_the_same, canonical_is_well_formed, labels_below}
 use Rattle.ap_project.specs.Laws.{SayTheSame}
 use Rattle.aut_base.specs.Acceptance.{Accepts}
 use Rattle.aut_base.specs.Automaton.{Automaton, IsWellFormed}

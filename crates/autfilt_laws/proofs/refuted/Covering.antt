@@ -6,11 +6,11 @@ use Rattle.std.proofs.lemmas.List.{take-append-drop}
 use Rattle.std.proofs.lemmas.List.Elements.{Contains-append_left, Contains-append_right}
 use Rattle.std.specs.Cmp.Lexicographic.{pointwise}
 use Rattle.std.specs.List.{list_all, list_any}
-use Rattle.aut_base.proofs.LassoRuns.{marks_of}
-use Rattle.aut_base.proofs.Members.{any_found, any_from, each_from, each_is, first_there, from_map, later_there, none_there, there_cases, there_map}
-use Rattle.aut_base.proofs.SameEdges.{Alike, met_alike}
-use Rattle.aut_base.proofs.Texts.{same_text}
-use Rattle.aut_base.proofs.Truth.{same_truth}
+use Rattle.aut_base.proofs.runs.LassoRuns.{marks_of}
+use Rattle.aut_base.proofs.lists.Members.{any_found, any_from, each_from, each_is, first_there, from_map, later_there, none_there, there_cases, there_map}
+use Rattle.aut_base.proofs.words.SameEdges.{Alike, met_alike}
+use Rattle.aut_base.proofs.words.Texts.{same_text}
+use Rattle.aut_base.proofs.numbers.Truth.{same_truth}
 use Rattle.aut_base.specs.Automaton.{TreeEdge}
 use Rattle.aut_base.specs.Formula.{FormulaTree, met}
 

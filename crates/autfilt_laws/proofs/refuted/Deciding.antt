@@ -3,8 +3,8 @@
 use Rattle.std.proofs.Common.{◌≡◌, ◌∙◌, ◌<◌, ◌≤◌, ℕ, true, List, ◌++◌, Contains, arith, inl, inr, length, refl, subst}
 use Rattle.std.proofs.lemmas.Bool.{cases_eq}
 use Rattle.std.proofs.lemmas.List.Elements.{All-contains}
-use Rattle.aut_base.proofs.LassoRuns.{marks_of}
-use Rattle.aut_base.proofs.Paths.{path_join, path_split}
+use Rattle.aut_base.proofs.runs.LassoRuns.{marks_of}
+use Rattle.aut_base.proofs.runs.Paths.{path_join, path_split}
 use Rattle.aut_base.specs.Acceptance.{Accepts, IsPath}
 use Rattle.aut_base.specs.Automaton.{Automaton, IsEdgeOf, IsWellFormed, TreeEdge}
 use Rattle.aut_base.specs.Formula.{met}

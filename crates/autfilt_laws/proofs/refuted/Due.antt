@@ -3,9 +3,9 @@ use Rattle.std.proofs.Common.{◌≡◌, ◌∙◌, ◌<◌, ◌⊎◌, ℕ, Boo
 use Rattle.std.proofs.lemmas.List.{length-append}
 use Rattle.std.specs.List.{AllByRecursion}
 use Rattle.std.specs.Prelude.{MatchOption}
-use Rattle.aut_base.proofs.CanonicalAutomata.{canonical_is_well_formed}
-use Rattle.aut_base.proofs.Lists.{slice_get-at}
-use Rattle.aut_base.proofs.Members.{item_at, none_there, there_cases}
+use Rattle.aut_base.proofs.canonical.CanonicalAutomata.{canonical_is_well_formed}
+use Rattle.aut_base.proofs.lists.Lists.{slice_get-at}
+use Rattle.aut_base.proofs.lists.Members.{item_at, none_there, there_cases}
 use Rattle.aut_base.specs.Automaton.{Automaton, IsWellFormed}
 use Rattle.aut_base.specs.CanonicalLabel.{canonical}
 use Rattle.aut_base.specs.declared.letter.Lasso.{Lasso}

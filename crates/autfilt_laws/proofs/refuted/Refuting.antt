@@ -4,9 +4,9 @@ use Rattle.std.proofs.Common.{◌≡◌, ◌∙◌, ◌+◌, ◌*◌, ◌<◌, �
 use Rattle.std.proofs.Math.Nat.{mul-le-mul_right}
 use Rattle.std.proofs.lemmas.List.{length-append, length-map}
 use Rattle.std.proofs.lemmas.List.Elements.{All-append, All-contains, All-map}
-use Rattle.aut_base.proofs.Copies.{length-copies}
-use Rattle.aut_base.proofs.Members.{each_there}
-use Rattle.aut_base.proofs.SameWord.{same_word_same_verdict}
+use Rattle.aut_base.proofs.lists.Copies.{length-copies}
+use Rattle.aut_base.proofs.lists.Members.{each_there}
+use Rattle.aut_base.proofs.words.SameWord.{same_word_same_verdict}
 use Rattle.aut_base.specs.Acceptance.{Accepts}
 use Rattle.aut_base.specs.Automaton.{Automaton, IsWellFormed}
 use Rattle.aut_base.specs.Word.{NameSet, SpellsSame, copies}

@@ -4,10 +4,10 @@ use Rattle.std.proofs.Math.Nat.{le-mul_of_pos_right}
 use Rattle.std.proofs.lemmas.List.{append-nil, length-append}
 use Rattle.std.proofs.lemmas.List.Elements.{Contains-append_cases, Contains-append_left, Contains-append_right}
 use Rattle.ap_project.proofs.Related.{unrolled}
-use Rattle.aut_base.proofs.Copies.{length-copies}
-use Rattle.aut_base.proofs.Lists.{slice_get-append_left}
-use Rattle.aut_base.proofs.Members.{first_there, there_cases}
-use Rattle.aut_base.proofs.Spelled.{word_letter}
+use Rattle.aut_base.proofs.lists.Copies.{length-copies}
+use Rattle.aut_base.proofs.lists.Lists.{slice_get-append_left}
+use Rattle.aut_base.proofs.lists.Members.{first_there, there_cases}
+use Rattle.aut_base.proofs.words.Spelled.{word_letter}
 use Rattle.aut_base.specs.Word.{NameSet, SpellsSame, copies}
 
 -- a cycle in the place of copies of it

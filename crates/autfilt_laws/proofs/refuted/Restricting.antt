@@ -3,9 +3,9 @@ use Rattle.std.proofs.Common.{◌≡◌, ◌∙◌, ◌↔◌, ℕ, zero, suc, L
 use Rattle.std.proofs.Math.Path.{fun_ext}
 use Rattle.std.specs.FinSet as set
 use Rattle.ap_project.proofs.Related.{Carries, accepts_carried, map_related, related_map}
-use Rattle.aut_base.proofs.LetterNames.{contains_listed}
-use Rattle.aut_base.proofs.Members.{first_there, from_filter, later_there, there_filter}
-use Rattle.aut_base.proofs.Truth.{same_truth}
+use Rattle.aut_base.proofs.words.LetterNames.{contains_listed}
+use Rattle.aut_base.proofs.lists.Members.{first_there, from_filter, later_there, there_filter}
+use Rattle.aut_base.proofs.numbers.Truth.{same_truth}
 use Rattle.aut_base.specs.Acceptance.{Accepts}
 use Rattle.aut_base.specs.Automaton.{Automaton}
 use Rattle.aut_base.specs.Label.{holds_at, truth}

@@ -1,7 +1,7 @@
 -- Searches that end with what is looked for, or with that there is none.
 use Rattle.std.proofs.Common.{◌≡◌, ◌∙◌, ◌⊎◌, ◌<◌, ◌≤◌, ℕ, zero, suc, Bool, true, List, [], ◌∷◌, Contains, arith, inl, inr, refl, subst, sym}
 use Rattle.std.proofs.lemmas.Bool.{cases_Bool, cases_eq, cases_lt, true≢false}
-use Rattle.aut_base.proofs.Members.{first_there, later_there, none_there, there_cases}
+use Rattle.aut_base.proofs.lists.Members.{first_there, later_there, none_there, there_cases}
 use Rattle.aut_base.specs.Acceptance.{IsPath}
 use Rattle.aut_base.specs.Automaton.{Automaton, TreeEdge}
 use Rattle.aut_base.specs.Label.{holds_at, truth}

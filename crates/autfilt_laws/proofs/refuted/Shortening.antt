@@ -6,11 +6,11 @@ use Rattle.std.proofs.lemmas.Bool.{cases_lt}
 use Rattle.std.proofs.lemmas.List.{take-append-drop}
 use Rattle.std.proofs.lemmas.List.Elements.{Contains-append_cases, Contains-append_left, Contains-append_right}
 use Rattle.std.proofs.lemmas.Nat.{mul-add-lt, same_from_place}
-use Rattle.aut_base.proofs.Copies.{copies-add, length-copies}
-use Rattle.aut_base.proofs.Members.{none_there, there_cases}
-use Rattle.aut_base.proofs.Paths.{path_join}
-use Rattle.aut_base.proofs.Pigeonhole.{pigeons}
-use Rattle.aut_base.proofs.Walks.{ends}
+use Rattle.aut_base.proofs.lists.Copies.{copies-add, length-copies}
+use Rattle.aut_base.proofs.lists.Members.{none_there, there_cases}
+use Rattle.aut_base.proofs.runs.Paths.{path_join}
+use Rattle.aut_base.proofs.numbers.Pigeonhole.{pigeons}
+use Rattle.aut_base.proofs.runs.Walks.{ends}
 use Rattle.aut_base.specs.Acceptance.{IsPath}
 use Rattle.aut_base.specs.Automaton.{Automaton, TreeEdge}
 use Rattle.aut_base.specs.Word.{NameSet, copies}

@@ -1,7 +1,7 @@
 -- Where something stands next in a text that a reader refuses, there is a place at which a reader stops.
 use Rattle.std.proofs.Common.{List, None, Option, Some, [], ap, inl, inr, is_some, not, subst, sym, true, ℕ, ◌++◌, ◌∙◌, ◌≡◌, ◌≢◌, ◌⊎◌}
 use Rattle.std.proofs.lemmas.List.{append_assoc, append-nil}
-use Rattle.aut_base.proofs.Truth.{true_from_not}
+use Rattle.aut_base.proofs.numbers.Truth.{true_from_not}
 use Rattle.hoa_lexer.specs.Blanks.{IsBlanks}
 use Rattle.hoa_lexer.specs.Spelling.{closes_itself}
 use Rattle.hoa_lexer.specs.Text.{IsNext}

@@ -2,7 +2,7 @@
 use Rattle.std.proofs.Common.{◌≡◌, ◌≤◌, List, sym, ap, ◌∙◌, subst}
 use Rattle.std.specs.Prelude.{◌↔◌}
 use Rattle.std.proofs.lemmas.Bool.{ltb-false}
-use Rattle.aut_base.proofs.CanonicalAutomata.{canonical_accepts_the_same, labels_below}
+use Rattle.aut_base.proofs.canonical.CanonicalAutomata.{canonical_accepts_the_same, labels_below}
 use Rattle.aut_base.specs.Acceptance.{Accepts}
 use Rattle.aut_base.specs.Automaton.{Automaton}
 use Rattle.aut_base.specs.CanonicalLabel.{canonical}

@@ -9,7 +9,7 @@ use Rattle.hoa_lexer.specs.Text.{AfterBlanks, AskedForOne, HasFront, IsNext}
 use Rattle.hoa_lexer.specs.declared.token.Token.{Token}
 use Rattle.hoa_lexer.specs.declared.token.Token.TheVariants.{Identifier, Int, Alias}
 use Rattle.hoa_lexer.proofs.spelling.FirstBytes.{spelled_some}
-use Rattle.aut_base.proofs.Lists.{empty_of_length}
+use Rattle.aut_base.proofs.lists.Lists.{empty_of_length}
 use Rattle.hoa_lexer.proofs.next_token.Fronts.{front_of}
 use Rattle.hoa_lexer.proofs.next_token.Unique.{one_next_token}
 

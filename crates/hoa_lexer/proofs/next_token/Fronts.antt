@@ -3,7 +3,7 @@ use Rattle.std.proofs.Common.{◌≡◌, ◌≢◌, ℕ, zero, suc, ◌+◌, ◌
 use Rattle.std.proofs.Common.{inl, inr, refl, sym, subst, ◌∙◌, ap, arith, ⊎_elim}
 use Rattle.std.proofs.lemmas.Bool.{false≢true, and_right, cases_Bool}
 use Rattle.std.proofs.lemmas.List.{append_assoc, append-nil, length-append}
-use Rattle.aut_base.proofs.Lists.{cons-head}
+use Rattle.aut_base.proofs.lists.Lists.{cons-head}
 use Rattle.hoa_lexer.specs.Blanks.{Closes, IsBlanks, IsOpenComment}
 use Rattle.hoa_lexer.specs.Blanks.IsBlanks.{nothing, space, comment}
 use Rattle.hoa_lexer.specs.Bytes.{is_space}

@@ -18,7 +18,7 @@ use Rattle.hoa_lexer.proofs.spelling.Numbers.{int_stops, nonzero}
 use Rattle.hoa_lexer.specs.declared.token.Token.{Token}
 use Rattle.hoa_lexer.specs.declared.token.Token.TheVariants.{HeaderName, Identifier, Str, Int, Alias, Bang, Amp, Bar, LeftParen, RightParen}
 use Rattle.hoa_lexer.specs.declared.token.Token.TheVariants.{LeftBrace, RightBrace, LeftBracket, RightBracket, Body, End, Abort}
-use Rattle.aut_base.proofs.Lists.{append-cancel, cons-head, cons-tail}
+use Rattle.aut_base.proofs.lists.Lists.{append-cancel, cons-head, cons-tail}
 
 -- one token, and one rest
 record IsSame (t u : Token) (rest rest' : List ℕ) : Type 0 where

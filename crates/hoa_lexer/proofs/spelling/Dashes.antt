@@ -12,7 +12,7 @@ use Rattle.hoa_lexer.specs.declared.token.LexFault.{LexFault}
 use Rattle.hoa_lexer.specs.declared.token.LexFault.TheVariants.{BadToken, OpenComment, OpenString, OpenToken, Read, Bytes, Memory}
 use Rattle.hoa_lexer.specs.declared.token.Token.{Token}
 use Rattle.hoa_lexer.specs.declared.token.Token.TheVariants.{HeaderName, Identifier, Str, Int, Alias, Body, End, Abort}
-use Rattle.aut_base.proofs.Lists.{cons-head}
+use Rattle.aut_base.proofs.lists.Lists.{cons-head}
 
 no_slash_here : {xs ys : List ℕ} → 45 ∷ xs ≡ 47 ∷ ys → ⊥
 no_slash_here {xs} {ys} e = omega (arith, cons-head 45 47 xs ys e)

@@ -17,7 +17,7 @@ use Rattle.hoa_lexer.specs.declared.token.LexFault.{LexFault}
 use Rattle.hoa_lexer.specs.declared.token.LexFault.TheVariants.{BadToken, OpenComment, OpenString, OpenToken, Read, Bytes, Memory}
 use Rattle.hoa_lexer.specs.declared.token.Token.{Token}
 use Rattle.hoa_lexer.specs.declared.token.Token.TheVariants.{HeaderName, Identifier, Str, Int, Alias}
-use Rattle.aut_base.proofs.Lists.{list_all-push}
+use Rattle.aut_base.proofs.lists.Lists.{list_all-push}
 
 -- digits after the first, and the value of all so far
 pub record IsDigits (first value : ℕ) (x y : List ℕ) : Type 0 where

@@ -15,7 +15,7 @@ use Rattle.hoa_lexer.specs.declared.token.LexFault.{LexFault}
 use Rattle.hoa_lexer.specs.declared.token.LexFault.TheVariants.{BadToken, OpenComment, OpenString, OpenToken, Read, Bytes, Memory}
 use Rattle.hoa_lexer.specs.declared.token.Token.{Token}
 use Rattle.hoa_lexer.specs.declared.token.Token.TheVariants.{HeaderName, Identifier, Str, Int, Alias}
-use Rattle.aut_base.proofs.Lists.{list_all-push, push_not_empty, empty_of_length, cons-head}
+use Rattle.aut_base.proofs.lists.Lists.{list_all-push, push_not_empty, empty_of_length, cons-head}
 
 pub words_end : (o : Option ℕ) (name name' x z : List ℕ) → o ≡ None → AddsWords (Ok o) name name' x z → AddsWord name name' x []
 words_end None name name' x z e a = a.0

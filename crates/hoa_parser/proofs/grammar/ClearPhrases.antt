@@ -4,7 +4,7 @@ use Rattle.std.specs.Prelude.{◌||◌}
 use Rattle.std.proofs.lemmas.List.{append_assoc}
 use Rattle.hoa_lexer.specs.declared.token.Token.{Token}
 use Rattle.hoa_parser.proofs.grammar.Stops.{Stops, IsSame, stops_not, first_token, later_tokens}
-use Rattle.aut_base.proofs.Truth.{left_of_or, right_of_or}
+use Rattle.aut_base.proofs.numbers.Truth.{left_of_or, right_of_or}
 
 -- tokens of phrases, of which these stop the last, have one meaning and one end
 abbrev pub IsClear : {P M : Type 0} → (P → List Token) → (P → M) → (Token → Bool) → Type 0

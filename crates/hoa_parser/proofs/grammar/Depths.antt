@@ -11,8 +11,8 @@ use Rattle.hoa_parser.specs.Grammar.{acceptance_item, states_item, start_item, n
 use Rattle.hoa_parser.specs.Grammar.{other_item, ItemWithin, OptionalWithin, EdgePhrase, StatePhrase, StateWithin, AutomatonPhrase, AutomatonWithin}
 use Rattle.hoa_parser.specs.Grammar.{IsViable}
 use Rattle.hoa_parser.proofs.grammar.AfterLabels.{opened}
-use Rattle.aut_base.proofs.Lists.{none_some}
-use Rattle.aut_base.proofs.AllByRecursion.{AllByRecursion-weaker}
+use Rattle.aut_base.proofs.lists.Lists.{none_some}
+use Rattle.aut_base.proofs.lists.AllByRecursion.{AllByRecursion-weaker}
 
 -- what is expected
 

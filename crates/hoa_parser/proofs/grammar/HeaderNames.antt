@@ -7,7 +7,7 @@ use Rattle.hoa_parser.specs.Grammar.{header_of}
 use Rattle.aut_base.specs.Text.{same_text}
 use Rattle.hoa_parser.specs.declared.header.Header.{Header}
 use Rattle.hoa_parser.specs.declared.header.Header.TheVariants as header
-use Rattle.aut_base.proofs.Truth.{cond_either}
+use Rattle.aut_base.proofs.numbers.Truth.{cond_either}
 
 -- the name that every header of this kind has
 abbrev pub IsNamed : List ℕ → Header → Type 0

@@ -14,7 +14,7 @@ use Rattle.hoa_parser.specs.Grammar.{bang_tokens}
 use Rattle.aut_base.specs.Text.{same_text}
 use Rattle.hoa_parser.proofs.grammar.PartsWritten.{Fills, Derives}
 use Rattle.hoa_parser.proofs.grammar.HeaderNames.{same}
-use Rattle.aut_base.proofs.Truth.{cond_either}
+use Rattle.aut_base.proofs.numbers.Truth.{cond_either}
 
 -- what is so of a move: what is taken writes the part, and what is passed stands behind nothing
 abbrev pub Writes : ℕ → Part → Token → Move → Type 0

@@ -5,7 +5,7 @@ use Rattle.std.proofs.Math.Path.{ap₂}
 use Rattle.std.proofs.lemmas.List.{append_assoc}
 use Rattle.hoa_lexer.specs.declared.token.Token.{Token}
 use Rattle.hoa_lexer.specs.declared.token.Token.TheVariants.{Amp, Bar, LeftParen, RightParen}
-use Rattle.aut_base.proofs.Lists.{append_three}
+use Rattle.aut_base.proofs.lists.Lists.{append_three}
 use Rattle.aut_base.specs.Formula as formula
 use Rattle.hoa_parser.specs.Grammar.{Condition, Fands, Fatoms, Fatom, all_of, one_of, set_tokens, condition_tokens, fands_tokens, fatoms_tokens}
 use Rattle.hoa_parser.specs.Grammar.{fatom_tokens, condition_meaning, fands_meaning, fatoms_meaning, fatom_meaning}

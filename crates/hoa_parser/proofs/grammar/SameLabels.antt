@@ -14,7 +14,7 @@ use Rattle.hoa_parser.specs.Grammar.Lnots.{no_lnot, and_lnot}
 use Rattle.hoa_parser.specs.Grammar.Lnot.{true_label, false_label, proposition, alias, negated, group}
 use Rattle.hoa_parser.proofs.grammar.JoinedParts.{ap₃}
 use Rattle.hoa_parser.proofs.grammar.Stops.{Stops, IsSame, is_amp, is_join, join_no_amp, stops_not, later_tokens, words_apart}
-use Rattle.aut_base.proofs.Lists.{append_three}
+use Rattle.aut_base.proofs.lists.Lists.{append_three}
 
 -- what follows the factors of a conjunction
 lands_stop : (ls : Lands) (c : List Token) → Stops is_join c → Stops is_amp (lands_tokens ls ++ c)

@@ -11,7 +11,7 @@ use Rattle.hoa_parser.proofs.grammar.ClearPhrases.{Begins, IsClear, either, flat
 use Rattle.hoa_parser.proofs.grammar.SameItems.{is_text, same_conj, same_text_end}
 use Rattle.hoa_parser.proofs.grammar.SameLabels.{same_label}
 use Rattle.hoa_parser.proofs.grammar.Stops.{Stops, IsSame, is_amp, stops_not, first_token, later_tokens}
-use Rattle.aut_base.proofs.Lists.{append_three}
+use Rattle.aut_base.proofs.lists.Lists.{append_three}
 
 abbrev is_bracket : Token → Bool
 is_bracket LeftBracket = true

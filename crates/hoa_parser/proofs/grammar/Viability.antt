@@ -13,7 +13,7 @@ use Rattle.hoa_parser.proofs.grammar.ItemsWritten.{number_writes, more_numbers_w
 use Rattle.hoa_parser.proofs.grammar.ItemsWritten.{words_write, alias_name_writes, acc_values_write, values_write, opening_paren_writes}
 use Rattle.hoa_parser.proofs.grammar.ItemsWritten.{maybe_bang_writes, closing_paren_writes, closing_bracket_writes, items_write}
 use Rattle.hoa_parser.proofs.grammar.StatesWritten.{maybe_label_writes, maybe_marks_write, marks_write, edges_write, states_write, whole_writes}
-use Rattle.aut_base.proofs.Lists.{none_some}
+use Rattle.aut_base.proofs.lists.Lists.{none_some}
 
 writes : (most : ℕ) (p : Part) (z : Token) → Writes most p z (move p z)
 writes most part.Whole z = whole_writes most z

@@ -19,8 +19,8 @@ use Rattle.hoa_lexer.proofs.spelling.Apart.{spelled_apart_is_read}
 use Rattle.hoa_parser.proofs.grammar.PlainConditions.{plain_condition, condition_spells, condition_means, condition_within}
 use Rattle.hoa_parser.proofs.grammar.PlainDepths.{plain_within}
 use Rattle.hoa_parser.proofs.grammar.PlainLabels.{plain_label, label_spells, label_means}
-use Rattle.aut_base.proofs.AllByRecursion.{AllByRecursion-map_within}
-use Rattle.aut_base.proofs.Lists.{map-map_same}
+use Rattle.aut_base.proofs.lists.AllByRecursion.{AllByRecursion-map_within}
+use Rattle.aut_base.proofs.lists.Lists.{map-map_same}
 
 -- the phrase that is written down of a phrase
 abbrev plain_item : ItemPhrase → ItemPhrase

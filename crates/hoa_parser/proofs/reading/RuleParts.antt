@@ -10,7 +10,7 @@ use Rattle.hoa_parser.proofs.reading.Steps.{Then, next_fails, next_reads, reads_
 use Rattle.hoa_parser.specs.inner.Expecting.{Part}
 use Rattle.hoa_parser.specs.inner.Parsing.{Advanced, Cursor, IsWritten, Reads, ReadsTo, Relation, State, Uses}
 use Rattle.hoa_parser.specs.declared.fault.ReadFault.{ReadFault}
-use Rattle.aut_base.proofs.AllByRecursion.{AllByRecursion-append}
+use Rattle.aut_base.proofs.lists.AllByRecursion.{AllByRecursion-append}
 
 -- whatever is answered of the next parts is the answer to all
 pub next_answer : {T : Type 0} {p : List Part} {A : Relation} {s m : State} (parts more : List Part) (Q R : T → Relation) (result : Result T ReadFault) (s' : State)

@@ -33,8 +33,8 @@ use Rattle.hoa_parser.specs.declared.fault.ReadFault.{ReadFault}
 use Rattle.hoa_parser.specs.declared.fault.ReadFault.TheVariants as fault
 use Rattle.hoa_parser.specs.declared.read.Front.{Front}
 use Rattle.hoa_parser.specs.declared.read.Front.TheVariants as front
-use Rattle.aut_base.proofs.Truth.{true_from_not}
-use Rattle.aut_base.proofs.Lists.{right_empty}
+use Rattle.aut_base.proofs.numbers.Truth.{true_from_not}
+use Rattle.aut_base.proofs.lists.Lists.{right_empty}
 
 -- the byte that is held, if any
 abbrev pub held_bytes : Option ℕ → List ℕ

@@ -13,7 +13,7 @@ use Rattle.hoa_parser.specs.Raw.{Written, WrittenEdge, WrittenState}
 use Rattle.hoa_reader.specs.Validity.{IsKept, edges_written, starts_written, states_item, used_states}
 use Rattle.hoa_reader.specs.inner.Weighing.{all_edges}
 use Rattle.hoa_reader.specs.declared.elaborate.Rule.TheVariants.{V6}
-use Rattle.aut_base.proofs.AllByRecursion.{AllByRecursion-left, AllByRecursion-right, AllByRecursion-from_map}
+use Rattle.aut_base.proofs.lists.AllByRecursion.{AllByRecursion-left, AllByRecursion-right, AllByRecursion-from_map}
 
 -- the edges of the states of this number, and of those below it
 abbrev at_count : ℕ → List WrittenState → ℕ

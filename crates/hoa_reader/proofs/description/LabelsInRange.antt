@@ -3,7 +3,7 @@ use Rattle.std.proofs.Common.{◌≡◌, ◌/◌, ◌%◌, ◌^◌, ◌<◌, ◌
 use Rattle.std.proofs.lemmas.Bool.{ltb-true, and_parts}
 use Rattle.std.specs.List.{AllByRecursion, list_all}
 use Rattle.std.specs.Option.{option_map_or}
-use Rattle.aut_base.proofs.CanonicalBelow.{trees_below}
+use Rattle.aut_base.proofs.canonical.CanonicalBelow.{trees_below}
 use Rattle.aut_base.specs.Formula as formula
 use Rattle.aut_base.specs.Formula.{EachSetsBelow, FormulaTree, FormulaTrees, SetsBelow}
 use Rattle.aut_base.specs.Label as label
@@ -13,7 +13,7 @@ use Rattle.hoa_parser.specs.Raw as raw
 use Rattle.hoa_parser.specs.Raw.{RawTree, RawTrees}
 use Rattle.aut_base.specs.Text.{same_text}
 use Rattle.hoa_reader.specs.Validity.{AliasLine, all_leaves_pass, all_sets_below, props_below, sets_below}
-use Rattle.aut_base.proofs.AllByRecursion.{AllByRecursion-push, AllByRecursion-weaker, AllByRecursion-map}
+use Rattle.aut_base.proofs.lists.AllByRecursion.{AllByRecursion-push, AllByRecursion-weaker, AllByRecursion-map}
 
 -- the condition
 mutual

@@ -10,9 +10,9 @@ use Rattle.aut_base.specs.Automaton.{TreeEdge}
 use Rattle.hoa_reader.proofs.description.LabelsInRange.{numbers_are_below}
 use Rattle.hoa_reader.specs.Described.{after_all, tree_edge_of, tree_edges_from, tree_edges_of, below, edges_of, state_count, without_repeats}
 use Rattle.hoa_parser.specs.Raw.{Written, WrittenEdge, WrittenState}
-use Rattle.aut_base.proofs.AllByRecursion.{AllByRecursion-of_each, AllByRecursion-append, AllByRecursion-filter, AllByRecursion-filter_passes}
-use Rattle.aut_base.proofs.AllByRecursion.{AllByRecursion-flat_map, AllByRecursion-map, AllByRecursion-weaker}
-use Rattle.aut_base.proofs.Numbers.{other_number}
+use Rattle.aut_base.proofs.lists.AllByRecursion.{AllByRecursion-of_each, AllByRecursion-append, AllByRecursion-filter, AllByRecursion-filter_passes}
+use Rattle.aut_base.proofs.lists.AllByRecursion.{AllByRecursion-flat_map, AllByRecursion-map, AllByRecursion-weaker}
+use Rattle.aut_base.proofs.numbers.Numbers.{other_number}
 use Rattle.std.proofs.lemmas.List.Elements.{All-from_recursion}
 
 pub all_without_repeats : (P : ℕ → Type 0) (xs : List ℕ) → AllByRecursion P xs → AllByRecursion P (without_repeats xs)

@@ -18,9 +18,9 @@ use Rattle.hoa_parser.specs.Raw.{RawTree, Written, WrittenEdge, WrittenState}
 use Rattle.hoa_reader.specs.Validity.{IsKept, IsValid, acceptance_of, alias_lines, body_labels, edges_written, is_one_state, names_of, numbers_below}
 use Rattle.hoa_reader.specs.Validity.{props_below, starts_written, state_labels, states_item, used_states}
 use Rattle.hoa_reader.specs.declared.elaborate.Rule.TheVariants.{V4, V5, V6, V8, V9}
-use Rattle.aut_base.proofs.AllByRecursion.{AllByRecursion-left, AllByRecursion-right, AllByRecursion-both, AllByRecursion-enumerate_from}
-use Rattle.aut_base.proofs.AllByRecursion.{AllByRecursion-from_flat_map, AllByRecursion-from_map, AllByRecursion-from_list_all, AllByRecursion-map}
-use Rattle.aut_base.proofs.AllByRecursion.{AllByRecursion-weaker, AllByRecursion-filter, AllByRecursion-flat_map, AllByRecursion-of_each}
+use Rattle.aut_base.proofs.lists.AllByRecursion.{AllByRecursion-left, AllByRecursion-right, AllByRecursion-both, AllByRecursion-enumerate_from}
+use Rattle.aut_base.proofs.lists.AllByRecursion.{AllByRecursion-from_flat_map, AllByRecursion-from_map, AllByRecursion-from_list_all, AllByRecursion-map}
+use Rattle.aut_base.proofs.lists.AllByRecursion.{AllByRecursion-weaker, AllByRecursion-filter, AllByRecursion-flat_map, AllByRecursion-of_each}
 
 -- the numbers of states are below the number of states
 abbrev pub AreBelow : ℕ → List ℕ → Type 0

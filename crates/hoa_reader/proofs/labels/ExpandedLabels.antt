@@ -1,6 +1,6 @@
 -- Labels whose aliases are replaced, part by part.
 use Rattle.std.proofs.Common.{◌≡◌, ◌<◌, ◌≤◌, ℕ, zero, suc, List, [], ◌∷◌, map, length, get_or, Option, Some, None, refl, ap, ◌∙◌, arith}
-use Rattle.aut_base.proofs.LabelTrees.{label_tree-And, label_tree-Or}
+use Rattle.aut_base.proofs.trees.LabelTrees.{label_tree-And, label_tree-Or}
 use Rattle.aut_base.specs.Label.{LabelTree, LabelTrees, label_list, label_size, label_tree, labels_size, trees}
 use Rattle.aut_base.specs.declared.label.Label.TheVariants as label
 use Rattle.aut_base.specs.declared.label.Labels.{Labels}

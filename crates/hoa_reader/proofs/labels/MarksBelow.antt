@@ -3,8 +3,8 @@ use Rattle.std.proofs.Common.{◌≡◌, ◌<◌, ◌∙◌, ℕ, Bool, true, Li
 use Rattle.std.proofs.lemmas.Bool.{and_parts}
 use Rattle.std.proofs.lemmas.List.Folds.{list_all-map}
 use Rattle.std.specs.List.{list_all}
-use Rattle.aut_base.proofs.Lists.{slice_get-at}
-use Rattle.aut_base.proofs.Members.{all_passes_at}
+use Rattle.aut_base.proofs.lists.Lists.{slice_get-at}
+use Rattle.aut_base.proofs.lists.Members.{all_passes_at}
 use Rattle.hoa_parser.specs.Raw.{WrittenEdge, written_edge, written_state}
 use Rattle.hoa_parser.specs.declared.raw.RawEdge.{RawEdge}
 use Rattle.hoa_parser.specs.declared.raw.RawState.{RawState}

@@ -16,7 +16,7 @@ use Rattle.hoa_reader.specs.inner.Pieces.{numbers}
 use Rattle.hoa_parser.specs.Raw.{WrittenState, written_state}
 use Rattle.hoa_reader.specs.declared.elaborate.edges.Shared.{Shared}
 use Rattle.hoa_parser.specs.declared.raw.RawState.{RawState}
-use Rattle.aut_base.proofs.Lists.{slice_get-push_left, slice_get-push_last}
+use Rattle.aut_base.proofs.lists.Lists.{slice_get-push_left, slice_get-push_last}
 
 none_if : (b a : Bool) (x : WrittenState) (ys : List WrittenState) → (b || a) ≡ false → (a ≡ false → ys ≡ []) → cond b (x ∷ ys) ys ≡ []
 none_if true a x ys e h = absurd (false≢true (sym e))

@@ -3,7 +3,7 @@ use Rattle.std.proofs.Common.{◌≡◌, ℕ, Bool, ◌&&◌, List, refl, ap, �
 use Rattle.hoa_parser.specs.Raw as raw
 use Rattle.hoa_parser.specs.Raw.{RawTree, RawTrees}
 use Rattle.hoa_reader.specs.Validity.{all_leaves_pass, leaves_pass}
-use Rattle.aut_base.proofs.Truth.{and_three}
+use Rattle.aut_base.proofs.numbers.Truth.{and_three}
 
 mutual
   pub leaves_agree : (prop : ℕ → Bool) (f g : List ℕ → Bool) → ((name : List ℕ) → f name ≡ g name) → (t : RawTree) → leaves_pass prop f t ≡ leaves_pass prop g t

@@ -9,7 +9,7 @@ use Rattle.hoa_parser.specs.Raw as raw
 use Rattle.hoa_parser.specs.Raw.{WrittenItem}
 use Rattle.aut_base.specs.Text.{same_text}
 use Rattle.hoa_reader.specs.Validity.{all_differ, names_agree, names_item}
-use Rattle.aut_base.proofs.Truth.{neither}
+use Rattle.aut_base.proofs.numbers.Truth.{neither}
 use Rattle.std.proofs.lemmas.List.Elements.{All-from_recursion}
 
 others_differ : (x : List ℕ) (xs : List (List ℕ)) → not (list_any (same_text x) xs) ≡ true → AllByRecursion (λ y. x ≢ y) xs

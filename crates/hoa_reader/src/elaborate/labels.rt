@@ -64,7 +64,7 @@ fn expand_parts<'a>(
 }
 
 /// The proposition, where the bit of its place is set in the letter's number, else its negation.
-#[tactic(auto, using(aut_base::proofs::LabelTrees::label_trees))]
+#[tactic(auto, using(aut_base::proofs::trees::LabelTrees::label_trees))]
 fn literal(alloc: Global, letter: u64, place: u32) -> Result<Label, Memory>
     ensures { IfOk result (λ new. label_tree new ≡ literal letter place) }
 {
@@ -86,7 +86,7 @@ fn is_set(number: u64, place: u32) -> bool
 }
 
 /// The label of the letter of this number over so many names.
-#[tactic(auto, using(aut_base::proofs::LabelTrees::label_trees))]
+#[tactic(auto, using(aut_base::proofs::trees::LabelTrees::label_trees))]
 pub(crate) fn letter_label(alloc: Global, names: u32, letter: u64) -> Result<Label, Memory>
     ensures { IfOk result (λ new. label_tree new ≡ letter_label names letter) }
 {

@@ -16,7 +16,7 @@ use std::alloc::Global;
 
 /// Whether each set of the condition is below their number.
 #[cycle(sets_below)]
-#[tactic(auto, using(aut_base::proofs::FormulaTrees::formula_trees))]
+#[tactic(auto, using(aut_base::proofs::trees::FormulaTrees::formula_trees))]
 pub(crate) fn sets_below(formula: &Formula, sets: u32) -> bool
     ensures { result ≡ sets_below sets (formula_tree formula.now) }
 {

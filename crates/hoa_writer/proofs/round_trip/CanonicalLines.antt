@@ -8,9 +8,9 @@ use Rattle.hoa_parser.specs.Naming.{name_item, name_of}
 use Rattle.hoa_parser.specs.Raw as raw
 use Rattle.hoa_parser.specs.Raw.{Written, WrittenEdge, WrittenItem, WrittenState}
 use Rattle.hoa_reader.specs.Validity.{acceptance_item, acceptance_of, alias_item, alias_lines, edges_written, names_item, names_of, start_item, starts_written, states_item}
-use Rattle.aut_base.proofs.Ordered.{range_within}
+use Rattle.aut_base.proofs.order.Ordered.{range_within}
 use Rattle.hoa_writer.specs.CanonicalWritten.{canonical_edge, canonical_items, canonical_state, canonical_written}
-use Rattle.aut_base.proofs.AllByRecursion.{AllByRecursion-map, AllByRecursion-weaker, AllByRecursion-filter, AllByRecursion-flat_map}
+use Rattle.aut_base.proofs.lists.AllByRecursion.{AllByRecursion-map, AllByRecursion-weaker, AllByRecursion-filter, AllByRecursion-flat_map}
 
 abbrev pub starting : List ℕ → List WrittenItem
 starting = map (λ s. raw.Start (s ∷ []))

@@ -7,7 +7,7 @@ use Rattle.aut_base.specs.Label as label
 use Rattle.aut_base.specs.Label.{AllBelow, EachBelow, LabelTree, LabelTrees, trees}
 use Rattle.hoa_reader.specs.Described.{Meaning, each_expanded, expanded}
 use Rattle.hoa_reader.specs.Validity.{aliases_among, all_leaves_pass, all_sets_below, leaves_pass, props_below, sets_below}
-use Rattle.aut_base.proofs.CanonicalBelow.{canonical_label_below}
+use Rattle.aut_base.proofs.canonical.CanonicalBelow.{canonical_label_below}
 use Rattle.aut_base.specs.CanonicalLabel.{canonical_label}
 use Rattle.aut_base.specs.CanonicalLabel.{canonical_label}
 use Rattle.hoa_writer.specs.CanonicalWritten.{written_label, written_labels}

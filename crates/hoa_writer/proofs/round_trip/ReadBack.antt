@@ -1,6 +1,6 @@
 -- The canonical text of a well-formed automaton reads back.
 use Rattle.std.proofs.Common.{◌↔◌, sym, subst}
-use Rattle.aut_base.proofs.CanonicalAutomata.{canonical_accepts_the_same, labels_below}
+use Rattle.aut_base.proofs.canonical.CanonicalAutomata.{canonical_accepts_the_same, labels_below}
 use Rattle.aut_base.specs.Acceptance.{Accepts}
 use Rattle.aut_base.specs.Automaton.{Automaton}
 use Rattle.hoa_writer.proofs.round_trip.CanonicalLines.{canonical_named}

@@ -14,11 +14,11 @@ use Rattle.hoa_parser.specs.Raw.{Written, WrittenState}
 use Rattle.hoa_reader.specs.Validity.{AcceptanceLine, acceptance_of, used_states}
 use Rattle.hoa_writer.proofs.round_trip.CanonicalLines.{acceptance_found, names_found, starts_found, states_found}
 use Rattle.hoa_writer.proofs.round_trip.CanonicalTrees.{expanded_written}
-use Rattle.aut_base.proofs.Ordered.{Pairs, filter_map_of, flat_map_same, map_flat_map, one_in_range, pairs_from, pairs_unmap}
+use Rattle.aut_base.proofs.order.Ordered.{Pairs, filter_map_of, flat_map_same, map_flat_map, one_in_range, pairs_from, pairs_unmap}
 use Rattle.hoa_writer.proofs.text.InOrder.{in_order_already, no_repeats, number_by_number}
 use Rattle.aut_base.specs.CanonicalLabel.{canonical, canonical_label}
 use Rattle.hoa_writer.specs.CanonicalWritten.{canonical_edge, canonical_state, canonical_written}
-use Rattle.aut_base.proofs.AllByRecursion.{AllByRecursion-weaker}
+use Rattle.aut_base.proofs.lists.AllByRecursion.{AllByRecursion-weaker}
 
 abbrev relabelled : ℕ → TreeEdge → TreeEdge
 relabelled n e = record e { label = canonical_label n e.label }

@@ -5,7 +5,7 @@ use Rattle.std.proofs.lemmas.Bool.{eq-eqb, lt-ltb, ne_eqb}
 use Rattle.std.proofs.lemmas.List.Elements.{recursion_from_All}
 use Rattle.std.specs.Prelude.{flat_map, is_some, nat_le, option_to_list}
 use Rattle.std.specs.List.{AllByRecursion, list_all, range_with_len}
-use Rattle.aut_base.proofs.Texts.{differ_texts}
+use Rattle.aut_base.proofs.words.Texts.{differ_texts}
 use Rattle.aut_base.specs.Automaton.{TreeEdge, Automaton, IsEdgeOf, IsWellFormed}
 use Rattle.aut_base.specs.Label.{LabelTree}
 use Rattle.hoa_parser.specs.Raw.{RawTree, WrittenEdge, WrittenItem, WrittenState}
@@ -18,11 +18,11 @@ use Rattle.hoa_reader.specs.declared.elaborate.Rule.TheVariants.{V2, V3, V4, V5,
 use Rattle.hoa_writer.proofs.round_trip.CanonicalLines.{acceptance_found, all_starts, closing, counted_from, each_edge, each_state, edges_at}
 use Rattle.hoa_writer.proofs.round_trip.CanonicalLines.{names_found, no_aliases, no_starts_counted, starting, starts_found, states_found}
 use Rattle.hoa_writer.proofs.round_trip.CanonicalTrees.{no_alias, props_are_below, sets_are_below, two}
-use Rattle.aut_base.proofs.Ordered.{every_passes, pairs_from, pairs_weaker, range_rises}
+use Rattle.aut_base.proofs.order.Ordered.{every_passes, pairs_from, pairs_weaker, range_rises}
 use Rattle.hoa_writer.proofs.text.InOrder.{all_differ_from}
 use Rattle.aut_base.specs.CanonicalLabel.{canonical_label}
 use Rattle.hoa_writer.specs.CanonicalWritten.{canonical_edge, canonical_state, canonical_written, written_label}
-use Rattle.aut_base.proofs.AllByRecursion.{AllByRecursion-map, AllByRecursion-weaker, AllByRecursion-append, AllByRecursion-flat_map, AllByRecursion-of_each}
+use Rattle.aut_base.proofs.lists.AllByRecursion.{AllByRecursion-map, AllByRecursion-weaker, AllByRecursion-append, AllByRecursion-flat_map, AllByRecursion-of_each}
 
 -- lines that stand once
 once : (p : WrittenItem → Bool) (k : ℕ) (a : Automaton) → ((s : ℕ) → p (WrittenItem.Start (s ∷ [])) ≡ false) → nat_le (counted_from p k (closing a)) 1 ≡ true

@@ -13,7 +13,7 @@ use Rattle.hoa_lexer.specs.declared.token.Token.TheVariants.{Str, Int, Bang, Amp
 use Rattle.hoa_writer.specs.CanonicalText as canonical
 use Rattle.hoa_writer.specs.CanonicalText.{quoted}
 use Rattle.hoa_writer.proofs.spelling.SpelledOut.{Free, Held, free_blank, free_free, free_one, held_int}
-use Rattle.aut_base.proofs.Lists.{list_all-push}
+use Rattle.aut_base.proofs.lists.Lists.{list_all-push}
 
 -- numbers
 

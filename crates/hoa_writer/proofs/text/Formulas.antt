@@ -6,7 +6,7 @@ use Rattle.std.specs.Prelude.{codes}
 use Rattle.aut_base.specs.Formula.{FormulaTree, trees, formula_tree, formula_list, formula_parts}
 use Rattle.aut_base.specs.declared.formula.Formula.TheVariants as formula
 use Rattle.aut_base.specs.declared.formula.Formulas.{Formulas}
-use Rattle.aut_base.proofs.FormulaTrees.{formula_tree-And, formula_tree-Or}
+use Rattle.aut_base.proofs.trees.FormulaTrees.{formula_tree-And, formula_tree-Or}
 use Rattle.hoa_writer.specs.CanonicalText.{formula_text, parts_text}
 use Rattle.hoa_writer.specs.inner.Pieces.{part_text, list_text}
 

@@ -1,6 +1,6 @@
 -- Numbers that stand in order, taken apart number by number.
-use Rattle.aut_base.proofs.AllByRecursion.{AllByRecursion-weaker}
-use Rattle.aut_base.proofs.Ordered.{At, Pairs, Under, all_kept, filter_by_one, flat_map_same, none_kept, none_pass, pairs_weaker, under_more, under_zero}
+use Rattle.aut_base.proofs.lists.AllByRecursion.{AllByRecursion-weaker}
+use Rattle.aut_base.proofs.order.Ordered.{At, Pairs, Under, all_kept, filter_by_one, flat_map_same, none_kept, none_pass, pairs_weaker, under_more, under_zero}
 use Rattle.aut_base.specs.Marks.{is_in}
 use Rattle.hoa_reader.proofs.description.LabelsInRange.{numbers_are_below}
 use Rattle.hoa_reader.specs.Described.{below, marks_in_order, without_repeats}

@@ -5,8 +5,8 @@ use Rattle.std.proofs.lemmas.List.Elements.{All-filter}
 use Rattle.std.specs.Fmt.{decimal}
 use Rattle.std.specs.List.{flat_map, range_with_len}
 use Rattle.std.specs.Prelude.{codes}
-use Rattle.aut_base.proofs.Lists.{flat_map-range_more}
-use Rattle.aut_base.proofs.Ordered.{filter_map_of}
+use Rattle.aut_base.proofs.lists.Lists.{flat_map-range_more}
+use Rattle.aut_base.proofs.order.Ordered.{filter_map_of}
 use Rattle.aut_base.specs.Automaton.{Automaton, TreeEdge}
 use Rattle.aut_core.specs.Core.{Core, IsLinkOf, automaton_of, edge_of}
 use Rattle.aut_core.specs.declared.link.Link.{Link}

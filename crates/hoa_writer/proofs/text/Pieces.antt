@@ -6,7 +6,7 @@ use Rattle.std.specs.List.{flat_map}
 use Rattle.std.specs.Prelude.{codes}
 use Rattle.hoa_writer.specs.CanonicalText.{marks_text, quoted}
 use Rattle.hoa_writer.specs.inner.Lines.{names_line}
-use Rattle.label_guards.proofs.Pieces.{all_others, joined_more}
+use Rattle.label_guards.proofs.labelled.Pieces.{all_others, joined_more}
 
 -- marks, as they are written
 pub marks_text_more : (marks : List ℕ) → 0 < length marks → marks_text marks ≡ codes " {" ++ (decimal (get_or marks 0 0) ++ (flat_map (λ m. codes " " ++ decimal m) (drop 1 marks) ++ codes "}"))

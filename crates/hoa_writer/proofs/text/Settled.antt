@@ -3,9 +3,9 @@ use Rattle.std.proofs.Common.{◌≡◌, ◌==◌, ◌∙◌, ℕ, List, [], ◌
 use Rattle.std.specs.Fmt.{decimal}
 use Rattle.std.specs.List.{flat_map, range_with_len}
 use Rattle.std.specs.Prelude.{Option, codes}
-use Rattle.aut_base.proofs.CanonicalAutomata.{relabelled}
-use Rattle.aut_base.proofs.CanonicalTruth.{cubes_same, truth_on-label_of}
-use Rattle.aut_base.proofs.Ordered.{filter_map_of}
+use Rattle.aut_base.proofs.canonical.CanonicalAutomata.{relabelled}
+use Rattle.aut_base.proofs.canonical.CanonicalTruth.{cubes_same, truth_on-label_of}
+use Rattle.aut_base.proofs.order.Ordered.{filter_map_of}
 use Rattle.aut_base.specs.Automaton.{Automaton, TreeEdge}
 use Rattle.aut_base.specs.CanonicalLabel.{canonical, canonical_label}
 use Rattle.aut_base.specs.Label.{LabelTree}

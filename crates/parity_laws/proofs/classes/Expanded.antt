@@ -4,8 +4,8 @@ use Rattle.std.proofs.lemmas.Bool.{eq-eqb}
 use Rattle.std.proofs.lemmas.List.FromFn.{get_or-range_with_len, length-range_with_len}
 use Rattle.std.proofs.lemmas.Option.{none-some, same_Some}
 use Rattle.std.specs.List.{range_with_len}
-use Rattle.aut_base.proofs.AllPairsOf.{pairs_map}
-use Rattle.aut_base.proofs.Members.{from_filter, from_map, from_range, there_filter, there_map, there_range_zero}
+use Rattle.aut_base.proofs.order.AllPairsOf.{pairs_map}
+use Rattle.aut_base.proofs.lists.Members.{from_filter, from_map, from_range, there_filter, there_map, there_range_zero}
 use Rattle.aut_base.specs.Automaton.{Automaton, TreeEdge}
 use Rattle.aut_base.specs.Label.{LabelTree, True, holds_at, truth}
 use Rattle.aut_base.specs.Word.{NameSet}

@@ -1,6 +1,6 @@
 -- What is explored class by class is determinised.
 use Rattle.std.proofs.Common.{◌<◌, ℕ, true, List, ap, arith, length, refl}
-use Rattle.aut_base.proofs.Members.{each_there}
+use Rattle.aut_base.proofs.lists.Members.{each_there}
 use Rattle.aut_base.specs.Automaton.{Automaton, TreeEdge}
 use Rattle.aut_core.proofs.Deterministic.{deterministic_if}
 use Rattle.aut_core.specs.Deterministic.{IsComplete, IsDeterministic}

@@ -1,7 +1,7 @@
 -- Classes of guards are classes of their labels.
 use Rattle.std.proofs.Common.{◌≡◌, ◌∙◌, ℕ, Bool, List, [], ◌∷◌, ap, map, refl, slice_get, subst, sym}
 use Rattle.std.proofs.lemmas.List.Elements.{All-contains}
-use Rattle.aut_base.proofs.Members.{each_there, from_map, there_map}
+use Rattle.aut_base.proofs.lists.Members.{each_there, from_map, there_map}
 use Rattle.aut_base.specs.Label.{LabelTree, truth}
 use Rattle.label_guards.specs.Guards.{truth_in}
 use Rattle.label_guards.specs.Store.{Store, label_in}

@@ -2,7 +2,7 @@
 use Rattle.std.proofs.Common.{◌≡◌, ◌∙◌, ◌&&◌, ℕ, Bool, true, List, All, Contains, ap, filter, subst, sym}
 use Rattle.std.proofs.lemmas.List.Elements.{All-contains}
 use Rattle.std.proofs.lemmas.Bool.{and_from, and_parts}
-use Rattle.aut_base.proofs.Members.{from_filter, from_map, there_filter, there_map}
+use Rattle.aut_base.proofs.lists.Members.{from_filter, from_map, there_filter, there_map}
 use Rattle.aut_base.specs.Automaton.{Automaton, TreeEdge}
 use Rattle.aut_base.specs.Label.{LabelTree, holds_at, truth}
 use Rattle.aut_base.specs.Word.{NameSet}

@@ -3,8 +3,8 @@ use Rattle.std.proofs.Common.{◌≡◌, ◌∙◌, ◌+◌, ◌*◌, ◌<◌, �
 use Rattle.std.proofs.lemmas.Bool.{cases_Bool, not-true, true≢false}
 use Rattle.std.proofs.lemmas.List.Elements.{All-contains, Contains-get_or}
 use Rattle.std.proofs.Math.Nat.{mul_comm}
-use Rattle.aut_base.proofs.LassoRuns.{later, marks_of, run_of}
-use Rattle.aut_base.proofs.Paths.{path_join}
+use Rattle.aut_base.proofs.runs.LassoRuns.{later, marks_of, run_of}
+use Rattle.aut_base.proofs.runs.Paths.{path_join}
 use Rattle.aut_base.specs.Acceptance.{Accepts, IsPath}
 use Rattle.aut_base.specs.Automaton.{Automaton, IsEdgeOf, TreeEdge}
 use Rattle.aut_base.specs.Formula.{FormulaTree, met}

@@ -1,6 +1,6 @@
 -- The language of a determinised automaton, and of the one with the dual condition.
 use Rattle.std.proofs.Common.{[], Contains, inl, inr, length, subst, sym}
-use Rattle.aut_base.proofs.Members.{first_there}
+use Rattle.aut_base.proofs.lists.Members.{first_there}
 use Rattle.parity_laws.proofs.complements.Dual.{complements, never_both, one_of_the_two}
 use Rattle.parity_laws.proofs.directions.FromTrees.{from_trees}
 use Rattle.parity_laws.proofs.directions.ToTrees.{to_trees}

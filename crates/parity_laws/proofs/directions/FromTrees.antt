@@ -2,9 +2,9 @@
 -- priority.
 use Rattle.std.proofs.Common.{◌≡◌, ◌∙◌, ◌+◌, ◌*◌, ◌<◌, ℕ, zero, suc, true, List, [], ◌∷◌, ◌++◌, Contains, ap, append_assoc, arith, inl, inr, length, map, refl, subst, sym}
 use Rattle.std.proofs.lemmas.List.{length-map, map-append}
-use Rattle.aut_base.proofs.Copies.{copies-add, copies-copies}
-use Rattle.aut_base.proofs.Members.{none_there, there_cases}
-use Rattle.aut_base.proofs.Paths.{goes_on}
+use Rattle.aut_base.proofs.lists.Copies.{copies-add, copies-copies}
+use Rattle.aut_base.proofs.lists.Members.{none_there, there_cases}
+use Rattle.aut_base.proofs.runs.Paths.{goes_on}
 use Rattle.aut_base.specs.Acceptance.{Accepts, IsPath}
 use Rattle.aut_base.specs.Automaton.{Automaton, TreeEdge}
 use Rattle.aut_base.specs.Formula.{met}

@@ -2,10 +2,10 @@
 -- path, whose round the Büchi automaton's cycle goes round as often; so its least priority is odd.
 use Rattle.std.proofs.Common.{◌≡◌, ◌∙◌, ◌+◌, ◌*◌, ◌<◌, ℕ, true, false, List, [], ◌++◌, Contains, ap, length, map, subst, sym}
 use Rattle.std.specs.List.{list_any}
-use Rattle.aut_base.proofs.Copies.{copies-copies}
-use Rattle.aut_base.proofs.Members.{first_there}
-use Rattle.aut_base.proofs.Paths.{path_copies, path_join}
-use Rattle.aut_base.proofs.SameEdges.{gone_alike, met_alike}
+use Rattle.aut_base.proofs.lists.Copies.{copies-copies}
+use Rattle.aut_base.proofs.lists.Members.{first_there}
+use Rattle.aut_base.proofs.runs.Paths.{path_copies, path_join}
+use Rattle.aut_base.proofs.words.SameEdges.{gone_alike, met_alike}
 use Rattle.aut_base.specs.Acceptance.{Accepts, IsPath}
 use Rattle.aut_base.specs.Automaton.{Automaton, TreeEdge}
 use Rattle.aut_base.specs.Formula.{Inf, met}

@@ -1,8 +1,8 @@
 -- The trees along a path of a determinised automaton.
 use Rattle.std.proofs.Common.{◌≡◌, ◌∙◌, ◌+◌, ◌*◌, ◌<◌, ℕ, List, [], ◌∷◌, ◌++◌, Contains, ap, append_assoc, arith, inl, inr, length, map, refl, subst, sym}
 use Rattle.std.proofs.lemmas.Nat.{mul-lt}
-use Rattle.aut_base.proofs.Copies.{copies-add, copies-copies}
-use Rattle.aut_base.proofs.Members.{none_there, there_cases}
+use Rattle.aut_base.proofs.lists.Copies.{copies-add, copies-copies}
+use Rattle.aut_base.proofs.lists.Members.{none_there, there_cases}
 use Rattle.aut_base.specs.Acceptance.{IsPath}
 use Rattle.aut_base.specs.Automaton.{Automaton, TreeEdge}
 use Rattle.aut_base.specs.Word.{NameSet, copies}

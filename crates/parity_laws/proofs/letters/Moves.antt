@@ -2,8 +2,8 @@
 use Rattle.std.proofs.Common.{◌≡◌, ◌∙◌, ◌<◌, ℕ, true, false, List, [], ◌∷◌, Contains, ap, filter, map, refl, subst, sym}
 use Rattle.std.proofs.lemmas.List.Elements.{All-contains}
 use Rattle.std.specs.List.{list_any}
-use Rattle.aut_base.proofs.Lists.{list_any-map}
-use Rattle.aut_base.proofs.Members.{from_filter, from_map, there_filter, there_map}
+use Rattle.aut_base.proofs.lists.Lists.{list_any-map}
+use Rattle.aut_base.proofs.lists.Members.{from_filter, from_map, there_filter, there_map}
 use Rattle.aut_base.specs.Acceptance.{IsPath}
 use Rattle.aut_base.specs.Automaton.{Automaton, IsEdgeOf, TreeEdge}
 use Rattle.aut_base.specs.Formula.{FormulaTree, Inf, met}

@@ -1,7 +1,7 @@
 -- Parity min odd on a cycle whose edges have one mark each.
 use Rattle.std.proofs.Common.{◌≡◌, ◌∙◌, ◌+◌, ◌%◌, ◌/◌, ◌==◌, ◌||◌, ◌<◌, ℕ, Bool, true, false, List, [], ◌∷◌, Contains, ap, arith, inl, inr, length, map, refl, subst, sym}
 use Rattle.std.proofs.lemmas.Bool.{cases_lt, eq-eqb, eqb-true, or_cases, true≢false}
-use Rattle.aut_base.proofs.Members.{any_found, any_from, first_there, from_map, there_map}
+use Rattle.aut_base.proofs.lists.Members.{any_found, any_from, first_there, from_map, there_map}
 use Rattle.aut_base.specs.Formula.{met}
 use Rattle.aut_base.specs.Marks.{is_in}
 use Rattle.acc_forms.proofs.ParityLaw.{met-parity_means, met-parity_says}

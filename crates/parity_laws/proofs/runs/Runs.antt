@@ -1,7 +1,7 @@
 -- The runs of an automaton in which each state goes on under each letter, and where they close over a cycle.
 use Rattle.std.proofs.Common.{◌≡◌, ◌∙◌, ◌+◌, ◌-◌, ◌<◌, ℕ, zero, suc, true, List, [], ◌∷◌, ◌++◌, Contains, ap, arith, refl, subst, sym}
-use Rattle.aut_base.proofs.Paths.{path_join}
-use Rattle.aut_base.proofs.Pigeonhole.{pigeons}
+use Rattle.aut_base.proofs.runs.Paths.{path_join}
+use Rattle.aut_base.proofs.numbers.Pigeonhole.{pigeons}
 use Rattle.aut_base.specs.Acceptance.{IsPath}
 use Rattle.aut_base.specs.Automaton.{Automaton, TreeEdge}
 use Rattle.aut_base.specs.Word.{NameSet, copies}

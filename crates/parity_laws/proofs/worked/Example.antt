@@ -11,7 +11,7 @@ use Rattle.std.specs.Ordering.{nat_cmp}
 use Rattle.std.proofs.lemmas.Cmp.{nat_list_cmp_total}
 use Rattle.std.proofs.lemmas.Bool.{cases_Bool, true≢false}
 use Rattle.std.proofs.lemmas.Option.{none-some, same_Some}
-use Rattle.aut_base.proofs.Members.{each_there, first_there, later_there, none_there, placed_there, there_cases}
+use Rattle.aut_base.proofs.lists.Members.{each_there, first_there, later_there, none_there, placed_there, there_cases}
 use Rattle.aut_base.specs.Automaton.{TreeEdge}
 use Rattle.aut_base.specs.Label.{LabelTree, truth}
 use Rattle.safra_trees.specs.Step.{IsTree}

@@ -4,8 +4,8 @@ use Rattle.acc_forms.specs.Joined.{conj, disj}
 use Rattle.aut_base.specs.Automaton.{Automaton}
 use Rattle.aut_base.specs.declared.limit.Limit.{Limit}
 use Rattle.aut_base.specs.declared.limit.Limit.TheVariants as limit
-use Rattle.aut_ops.proofs.FlagLaws.{trimmed_is_determined}
-use Rattle.aut_ops.proofs.Laws.{products_are_determined}
+use Rattle.aut_ops.proofs.flagged.FlagLaws.{trimmed_is_determined}
+use Rattle.aut_ops.proofs.pairs.Laws.{products_are_determined}
 use Rattle.aut_ops.specs.Completion.{completed}
 use Rattle.aut_ops.specs.Products.{over_both}
 use Rattle.aut_base.specs.declared.limit.TheConstants.{MOST_BUCHI_STATES}

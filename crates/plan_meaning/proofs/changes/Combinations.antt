@@ -4,8 +4,8 @@ use Rattle.acc_forms.specs.Joined.{conj, disj}
 use Rattle.aut_base.specs.Automaton.{Automaton}
 use Rattle.aut_base.specs.declared.limit.Limit.{Limit}
 use Rattle.aut_base.specs.declared.limit.Limit.TheVariants as limit
-use Rattle.aut_ops.proofs.CompletedSizes.{completed_sets}
-use Rattle.aut_ops.proofs.Laws.{few_pairs_exclude_more}
+use Rattle.aut_ops.proofs.sinks.CompletedSizes.{completed_sets}
+use Rattle.aut_ops.proofs.pairs.Laws.{few_pairs_exclude_more}
 use Rattle.aut_ops.specs.Completion.{completed}
 use Rattle.aut_ops.specs.Languages.{AcceptsBoth, AcceptsEither}
 use Rattle.aut_ops.specs.Sums.{summed}

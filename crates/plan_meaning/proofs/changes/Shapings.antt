@@ -10,8 +10,8 @@ use Rattle.aut_base.specs.declared.limit.Limit.{Limit}
 use Rattle.aut_base.specs.declared.limit.Limit.TheVariants as limit
 use Rattle.aut_core.specs.Deterministic.{IsComplete, IsDeterministic}
 use Rattle.aut_core.specs.OtherNames.{AcceptTheSame}
-use Rattle.aut_ops.proofs.Ranks.{rank_within}
-use Rattle.aut_ops.proofs.SinkStates.{completed_same}
+use Rattle.aut_ops.proofs.flagged.Ranks.{rank_within}
+use Rattle.aut_ops.proofs.sinks.SinkStates.{completed_same}
 use Rattle.aut_ops.specs.Completion.{completed}
 use Rattle.aut_ops.specs.Trimming.{IsTrimmed}
 use Rattle.degeneralise.specs.Buchi.{NeedsTooManyTerms, buchi, buchi_states}

@@ -2,8 +2,8 @@
 use Rattle.std.proofs.Common.{◌≡◌, ℕ, ◌<◌, Bool, true, false, List, [], ◌∷◌, length, Result, Ok, Err, get_or, sym, ap, ◌∙◌, subst, arith}
 use Rattle.std.proofs.lemmas.List.{get_or-map, length-map}
 use Rattle.std.proofs.lemmas.List.Elements.{Contains-get_or}
-use Rattle.aut_base.proofs.CanonicalAutomata.{canonical-twice, canonical_accepts_the_same, labels_below}
-use Rattle.aut_base.proofs.Members.{from_map, there_map}
+use Rattle.aut_base.proofs.canonical.CanonicalAutomata.{canonical-twice, canonical_accepts_the_same, labels_below}
+use Rattle.aut_base.proofs.lists.Members.{from_map, there_map}
 use Rattle.aut_base.specs.Automaton.{Automaton, IsWellFormed, TreeEdge}
 use Rattle.aut_base.specs.CanonicalLabel.{canonical}
 use Rattle.aut_base.specs.LabelLaws.{LabelsBelow}

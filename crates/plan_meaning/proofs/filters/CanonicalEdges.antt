@@ -1,8 +1,8 @@
 -- Letters meet edges alike under canonical labels.
 use Rattle.std.proofs.Common.{◌≡◌, Contains, length}
 use Rattle.std.proofs.lemmas.List.Elements.{All-contains}
-use Rattle.aut_base.proofs.CanonicalAutomata.{relabelled}
-use Rattle.aut_base.proofs.CanonicalTruth.{canonical_label_keeps_truth}
+use Rattle.aut_base.proofs.canonical.CanonicalAutomata.{relabelled}
+use Rattle.aut_base.proofs.canonical.CanonicalTruth.{canonical_label_keeps_truth}
 use Rattle.aut_base.specs.Automaton.{Automaton, TreeEdge}
 use Rattle.aut_base.specs.Label.{AllBelow, holds_at}
 use Rattle.aut_base.specs.LabelLaws.{LabelsBelow}

@@ -3,7 +3,7 @@ use Rattle.std.proofs.Common.{◌≡◌, ◌∙◌, ◌++◌, ◌-◌, ◌==◌,
 use Rattle.std.proofs.lemmas.Bool.{cases_lt, eqb-true}
 use Rattle.std.proofs.lemmas.List.{append-nil}
 use Rattle.std.specs.List.{list_any, range_with_len}
-use Rattle.aut_base.proofs.Members.{any_found}
+use Rattle.aut_base.proofs.lists.Members.{any_found}
 use Rattle.safra_trees.proofs.list_step.Forests.{keeps_holds}
 use Rattle.safra_trees.proofs.list_step.Pruned.{goes_too, has_parts, new_holds, old_holds, pruned_length, pruned_parts}
 use Rattle.safra_trees.proofs.list_step.Ranks.{rank_back}

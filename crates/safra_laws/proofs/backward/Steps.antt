@@ -2,7 +2,7 @@
 use Rattle.std.proofs.Common.{◌≡◌, ◌∙◌, ◌&&◌, ◌==◌, ℕ, ◌+◌, ◌-◌, ◌<◌, ◌≤◌, true, false, not, List, [], ◌∷◌, ◌++◌, Contains, filter, length, nat_lt, sym, ap, arith, inl, inr, subst}
 use Rattle.std.proofs.lemmas.Bool.{and_parts, both_ways, cases_Bool, cases_lt, eqb-true, ltb-true, not_from_false, or_parts}
 use Rattle.std.specs.List.{list_any, range_with_len}
-use Rattle.aut_base.proofs.Members.{any_found, each_is, from_filter, from_range, there_filter, there_range_zero}
+use Rattle.aut_base.proofs.lists.Members.{any_found, each_is, from_filter, from_range, there_filter, there_range_zero}
 use Rattle.safra_trees.proofs.list_step.Forests.{ancestors_of, keeps_holds, stays_free, stays_some, stays_up}
 use Rattle.safra_trees.proofs.list_step.Pruned.{grown_forest, new_holds, new_parent, old_holds, old_parent, pruned_length, pruned_parent, pruned_parts, pruned_within, rank_zero}
 use Rattle.safra_trees.proofs.list_step.Ranks.{rank_all, rank_back, rank_same}

@@ -3,7 +3,7 @@
 -- does so all along, since the names of such children only go down.
 use Rattle.std.proofs.Common.{◌≡◌, ◌∙◌, ◌⊎◌, ◌+◌, ◌<◌, ◌≤◌, ℕ, zero, suc, true, List, [], ◌∷◌, Contains, ap, arith, inl, inr, length, subst, sym}
 use Rattle.std.proofs.lemmas.Bool.{cases_eq}
-use Rattle.aut_base.proofs.Members.{first_there, later_there, none_there, there_cases}
+use Rattle.aut_base.proofs.lists.Members.{first_there, later_there, none_there, there_cases}
 use Rattle.safra_trees.specs.Trees.{Node, holds, node_at}
 use Rattle.safra_laws.proofs.forward.RunSteps.{HasGreenStep, IsRun, RunStep}
 

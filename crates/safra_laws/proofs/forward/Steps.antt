@@ -2,7 +2,7 @@
 use Rattle.std.proofs.Common.{◌≡◌, ◌∙◌, ◌+◌, ◌-◌, ◌<◌, ◌≤◌, ◌==◌, ◌&&◌, ℕ, Bool, true, false, not, List, [], ◌∷◌, Contains, ap, arith, inl, inr, length, refl, subst, sym}
 use Rattle.std.proofs.lemmas.Bool.{and_from, cases_Bool, cases_eq, cases_lt, eq-eqb, not_from_false, true≢false}
 use Rattle.std.specs.List.{range_with_len}
-use Rattle.aut_base.proofs.Members.{any_from, first_there, from_filter, later_there, none_there, there_cases, there_filter, there_range_zero}
+use Rattle.aut_base.proofs.lists.Members.{any_from, first_there, from_filter, later_there, none_there, there_cases, there_filter, there_range_zero}
 use Rattle.safra_trees.proofs.list_step.Forests.{Next, next_child, stays_from}
 use Rattle.safra_trees.proofs.list_step.Pruned.{grown_forest, new_holds, new_parent, old_holds, old_parent, pruned_holds, pruned_parent, pruned_parts, pruned_within}
 use Rattle.safra_trees.proofs.list_step.Ranks.{rank_all, rank_low, rank_rises, rank_whole}

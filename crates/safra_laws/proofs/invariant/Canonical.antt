@@ -3,7 +3,7 @@ use Rattle.std.proofs.Common.{◌≡◌, ◌∙◌, ◌+◌, ◌++◌, ◌<◌, 
 use Rattle.std.proofs.lemmas.Bool.{cases_lt}
 use Rattle.std.proofs.lemmas.List.{get_or_past}
 use Rattle.std.specs.List.{list_any, range_with_len}
-use Rattle.aut_base.proofs.Truth.{same_truth}
+use Rattle.aut_base.proofs.numbers.Truth.{same_truth}
 use Rattle.safra_trees.proofs.list_step.Forests.{stays_up}
 use Rattle.safra_trees.proofs.list_step.Pruned.{grown_forest, has_from, has_parts, old_parent, pruned_at, pruned_length, pruned_parent}
 use Rattle.safra_trees.proofs.list_step.Ranks.{names_more, rank_back, rank_rises}

@@ -2,7 +2,7 @@
 use Rattle.std.proofs.Common.{◌≡◌, ◌⊎◌, ◌+◌, ◌<◌, ◌≤◌, ℕ, zero, suc, Bool, true, false, List, [], ◌∷◌, arith, inl, inr, length, refl, subst, sym}
 use Rattle.std.proofs.lemmas.Bool.{both_ways, cases_eq, cases_lt}
 use Rattle.std.specs.List.{list_any, range_with_len}
-use Rattle.aut_base.proofs.Pigeonhole.{pigeons}
+use Rattle.aut_base.proofs.numbers.Pigeonhole.{pigeons}
 use Rattle.safra_trees.proofs.list_step.Pruned.{has_parts}
 use Rattle.safra_trees.proofs.list_step.Ranks.{rank_all, rank_rises, rank_same}
 use Rattle.safra_trees.specs.Step.{IsTree, Own, rank}

@@ -2,7 +2,7 @@
 use Rattle.std.proofs.Common.{◌≡◌, ◌∙◌, ◌==◌, ℕ, ◌<◌, Bool, true, false, cond, List, [], ◌∷◌, Contains, refl, sym, arith, subst}
 use Rattle.std.proofs.lemmas.Bool.{eq-eqb}
 use Rattle.std.specs.List.{list_any, range_with_len}
-use Rattle.aut_base.proofs.Members.{any_found, any_from, from_range, there_range_zero}
+use Rattle.aut_base.proofs.lists.Members.{any_found, any_from, from_range, there_range_zero}
 use Rattle.safra_trees.proofs.list_step.Pruned.{has_from}
 use Rattle.safra_trees.specs.Step.{IsTree, Own, names}
 use Rattle.safra_trees.specs.Trees.{Node, first_tree, has, holds}

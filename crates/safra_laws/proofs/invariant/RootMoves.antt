@@ -2,8 +2,8 @@
 use Rattle.std.proofs.Common.{◌≡◌, ◌∙◌, ◌&&◌, ◌==◌, ◌-◌, ◌+◌, ◌++◌, ◌≤◌, ℕ, zero, suc, Bool, true, cond, List, Contains, ap, arith, length, map, nat_lt}
 use Rattle.std.proofs.Math.Path.{fun_ext}
 use Rattle.std.proofs.lemmas.Bool.{and_parts}
-use Rattle.aut_base.proofs.Members.{any_found, any_from}
-use Rattle.aut_base.proofs.Truth.{same_truth}
+use Rattle.aut_base.proofs.lists.Members.{any_found, any_from}
+use Rattle.aut_base.proofs.numbers.Truth.{same_truth}
 use Rattle.safra_trees.specs.Step.{Forest, IsTree, goes, goes_well, greens, grown, pruned, reds}
 use Rattle.safra_trees.specs.Trees.{Node, holds, node_at}
 use Rattle.safra_trees.specs.declared.moves.Move.{Move}

@@ -5,8 +5,8 @@ use Rattle.std.proofs.lemmas.List.Elements.{All-contains, Contains-append_cases,
 use Rattle.std.proofs.lemmas.List.FromFn.{get_or-range_with_len, length-range_with_len}
 use Rattle.std.proofs.lemmas.List.Kept.{AllPairs-filter}
 use Rattle.std.specs.List.{range_with_len}
-use Rattle.aut_base.proofs.AllPairsOf.{pairs_first}
-use Rattle.aut_base.proofs.Members.{first_there, from_filter, from_map, from_range, none_there, there_cases, there_map}
+use Rattle.aut_base.proofs.order.AllPairsOf.{pairs_first}
+use Rattle.aut_base.proofs.lists.Members.{first_there, from_filter, from_map, from_range, none_there, there_cases, there_map}
 use Rattle.safra_trees.specs.Step.{covered, greens, grown, names, reds, stays}
 use Rattle.safra_laws.proofs.backward.Steps.{green_facts}
 use Rattle.safra_laws.proofs.parity.Least.{lowest_is, lowest_low}

@@ -1,7 +1,7 @@
 -- Where a name is green and neither it nor a lower one is red, the least priority of the round is odd.
 use Rattle.std.proofs.Common.{◌≡◌, ◌∙◌, ◌⊎◌, ◌+◌, ◌<◌, ◌≤◌, ℕ, List, [], ◌∷◌, ◌++◌, Contains, arith, inl, inr, length, map, subst, sym}
 use Rattle.std.proofs.lemmas.List.Elements.{Contains-append_cases, Contains-append_right}
-use Rattle.aut_base.proofs.Members.{from_map, there_map}
+use Rattle.aut_base.proofs.lists.Members.{from_map, there_map}
 use Rattle.safra_trees.specs.Step.{greens, grown, reds}
 use Rattle.safra_trees.specs.Trees.{Node}
 use Rattle.safra_trees.specs.declared.moves.Move.{Move}

@@ -1,7 +1,7 @@
 -- The least of some numbers, and the letter at which a priority is met.
 use Rattle.std.proofs.Common.{◌≡◌, ◌+◌, ◌∙◌, ◌⊎◌, ◌≤◌, ℕ, List, [], ◌∷◌, ◌++◌, Contains, ap, arith, inl, inr, length, map, refl, subst, sym}
 use Rattle.std.proofs.lemmas.Bool.{cases_lt}
-use Rattle.aut_base.proofs.Members.{first_there, later_there, none_there, there_cases}
+use Rattle.aut_base.proofs.lists.Members.{first_there, later_there, none_there, there_cases}
 use Rattle.safra_trees.specs.Step.{greens, grown, reds}
 use Rattle.safra_trees.specs.Trees.{Node}
 use Rattle.safra_trees.specs.declared.moves.Move.{Move}

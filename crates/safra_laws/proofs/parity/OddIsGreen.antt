@@ -1,7 +1,7 @@
 -- Where the least priority of a round is odd, it is that of a green name, and neither that name nor a lower one is red.
 use Rattle.std.proofs.Common.{◌≡◌, ◌∙◌, ◌+◌, ◌≤◌, ℕ, List, [], ◌∷◌, ◌++◌, Contains, arith, inl, inr, length, map, subst}
 use Rattle.std.proofs.lemmas.List.Elements.{Contains-append_cases, Contains-append_left}
-use Rattle.aut_base.proofs.Members.{first_there, from_map, later_there, there_map}
+use Rattle.aut_base.proofs.lists.Members.{first_there, from_map, later_there, there_map}
 use Rattle.safra_trees.specs.Step.{greens, grown, reds}
 use Rattle.safra_trees.specs.Trees.{Node}
 use Rattle.safra_trees.specs.declared.moves.Move.{Move}

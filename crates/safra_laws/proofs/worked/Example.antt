@@ -1,6 +1,6 @@
 -- The worked example, computed, and what the laws say of it.
 use Rattle.std.proofs.Common.{◌<◌, [], ◌∷◌, Contains, arith, inl, inr, refl, subst}
-use Rattle.aut_base.proofs.Members.{first_there, later_there, none_there, there_cases}
+use Rattle.aut_base.proofs.lists.Members.{first_there, later_there, none_there, there_cases}
 use Rattle.safra_trees.specs.Step.{IsTree}
 use Rattle.safra_trees.specs.declared.moves.Move.{Move}
 use Rattle.safra_laws.proofs.TreesAfter.{after_is_tree}

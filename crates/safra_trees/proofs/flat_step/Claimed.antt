@@ -1,7 +1,7 @@
 -- The claim on a state is its place in the grown forest.
 use Rattle.std.proofs.Common.{◌≡◌, ◌∙◌, ◌⊎◌, ◌≤◌, ℕ, true, List, [], ◌∷◌, Contains, ap, arith, inl, inr, length, nat_lt, refl, subst, sym}
 use Rattle.std.proofs.lemmas.Bool.{both_ways, cases_Bool, cond-false, cond-true, ltb-false, ltb-true}
-use Rattle.aut_base.proofs.Members.{first_there, later_there, none_there, there_cases}
+use Rattle.aut_base.proofs.lists.Members.{first_there, later_there, none_there, there_cases}
 use Rattle.safra_trees.specs.inner.Claims.{claim, claimant, first_of, key, leads}
 use Rattle.safra_trees.specs.declared.moves.Move.{Move}
 

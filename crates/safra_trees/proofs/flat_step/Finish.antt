@@ -6,7 +6,7 @@ use Rattle.std.proofs.lemmas.Bool.{cases_Bool, cases_eq, cases_lt, ltb-true}
 use Rattle.std.proofs.lemmas.List.{length-map}
 use Rattle.std.proofs.lemmas.List.FromFn.{length-range_with_len}
 use Rattle.std.specs.List.{range_with_len}
-use Rattle.aut_base.proofs.Members.{first_there, from_filter, from_range, later_there, each_there}
+use Rattle.aut_base.proofs.lists.Members.{first_there, from_filter, from_range, later_there, each_there}
 use Rattle.safra_trees.proofs.flat_step.Gathered.{gathered, gathered_stored, new_parents, new_places, new_states}
 use Rattle.safra_trees.proofs.flat_step.Grown.{grown_by, grown_forest_of, grown_same}
 use Rattle.safra_trees.proofs.flat_step.Homes.{IsPassed, green_flag}

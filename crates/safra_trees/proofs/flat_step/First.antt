@@ -2,7 +2,7 @@
 use Rattle.std.proofs.Common.{◌≡◌, ◌∙◌, ◌<◌, ◌==◌, ℕ, suc, Bool, true, cond, List, [], ◌∷◌, AllPairs, Contains, ap, arith, filter, inl, inr, length, min, refl, replicate, subst, sym, All}
 use Rattle.std.proofs.lemmas.Bool.{cases_Bool, cond-false, cond-true, eq-eqb, eqb-true, or_left}
 use Rattle.std.specs.List.{list_any, range_with_len}
-use Rattle.aut_base.proofs.Members.{any_found, any_from, each_there, first_there, from_filter, none_there, there_cases, there_filter}
+use Rattle.aut_base.proofs.lists.Members.{any_found, any_from, each_there, first_there, from_filter, none_there, there_cases, there_filter}
 use Rattle.safra_trees.proofs.flat_step.Finish.{names_alike, names_below}
 use Rattle.safra_trees.proofs.flat_step.Gathered.{rising_names}
 use Rattle.safra_trees.specs.inner.Passes.{flag}

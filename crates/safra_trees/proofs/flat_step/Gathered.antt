@@ -6,8 +6,8 @@ use Rattle.std.proofs.lemmas.List.{length-map}
 use Rattle.std.proofs.lemmas.List.Kept.{AllPairs-cons, AllPairs-filter}
 use Rattle.std.proofs.lemmas.Option.{same_Some}
 use Rattle.std.specs.List.{range_with_len}
-use Rattle.aut_base.proofs.Members.{any_from, each_there, first_there, from_filter, from_map, from_range, later_there, placed_there, there_filter, there_map, there_range_zero}
-use Rattle.aut_base.proofs.Truth.{same_truth}
+use Rattle.aut_base.proofs.lists.Members.{any_from, each_there, first_there, from_filter, from_map, from_range, later_there, placed_there, there_filter, there_map, there_range_zero}
+use Rattle.aut_base.proofs.numbers.Truth.{same_truth}
 use Rattle.aut_base.specs.declared.limit.TheConstants.{MOST_NODES}
 use Rattle.safra_trees.proofs.flat_step.Homes.{IsPassed, home_of, home_stays, inhabited, stays_open}
 use Rattle.safra_trees.proofs.list_step.Forests.{IsForest, stays_up}

@@ -1,7 +1,7 @@
 -- The claims that the moves of a letter make are the places in the grown forest.
 use Rattle.std.proofs.Common.{◌≡◌, ◌∙◌, ◌+◌, ◌-◌, ◌<◌, ◌≤◌, ◌==◌, ◌&&◌, ℕ, suc, true, false, List, ap, arith, inl, inr, length, nat_lt, subst, sym}
 use Rattle.std.proofs.lemmas.Bool.{and_from, and_parts, cases_Bool, cases_lt, cond-false, cond-true, lt-ltb, le-ltb, ltb-true}
-use Rattle.aut_base.proofs.Members.{any_found, any_from}
+use Rattle.aut_base.proofs.lists.Members.{any_found, any_from}
 use Rattle.safra_trees.proofs.flat_step.Claimed.{IsClaim, claim_is}
 use Rattle.safra_trees.proofs.flat_step.Orders.{IsFirst, IsGrown, first_alike, key_end, key_fresh, key_old, key_order, order_over, place_first}
 use Rattle.safra_trees.proofs.flat_step.Placed.{nodes_length, stored_found, stored_node, stored_there}

@@ -3,9 +3,9 @@ use Rattle.std.proofs.Common.{◌≡◌, ◌≢◌, ◌∙◌, ◌<◌, ◌≤�
 use Rattle.std.proofs.lemmas.Bool.{and_from, and_parts, both_ways, cases_Bool, cases_eq, cond-false, cond-true, eq-eqb}
 use Rattle.std.proofs.lemmas.Bool.{eqb-true, lt-ltb, ltb-true, ne_eqb, not-true, not_from_false, or_from, or_parts, or_right}
 use Rattle.std.specs.List.{list_any, range_with_len}
-use Rattle.aut_base.proofs.Lists.{list_any-map}
-use Rattle.aut_base.proofs.Members.{any_found, any_from, from_range, there_range_zero}
-use Rattle.aut_base.proofs.Truth.{same_truth}
+use Rattle.aut_base.proofs.lists.Lists.{list_any-map}
+use Rattle.aut_base.proofs.lists.Members.{any_found, any_from, from_range, there_range_zero}
+use Rattle.aut_base.proofs.numbers.Truth.{same_truth}
 use Rattle.safra_trees.proofs.list_step.Forests.{IsForest, ancestors_of, stays_free, stays_from, stays_some}
 use Rattle.safra_trees.specs.inner.Free.{place}
 use Rattle.safra_trees.proofs.list_step.KeptPlaces.{kept_under, place_keeps, over_kept}

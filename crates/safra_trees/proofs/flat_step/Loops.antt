@@ -2,7 +2,7 @@
 use Rattle.std.proofs.Common.{◌≡◌, ◌∙◌, ◌+◌, ◌<◌, ℕ, suc, Bool, true, false, List, [], ◌∷◌, ◌++◌, Some, ap, arith, length, map, slice_get, sym}
 use Rattle.std.proofs.lemmas.List.{map-append}
 use Rattle.std.specs.List.{range_with_len}
-use Rattle.aut_base.proofs.Lists.{range_more}
+use Rattle.aut_base.proofs.lists.Lists.{range_more}
 use Rattle.safra_trees.proofs.list_step.Ranks.{names_kept, names_left, rank_at, rank_kept}
 use Rattle.safra_trees.specs.Step.{names, rank}
 

@@ -6,8 +6,8 @@ use Rattle.std.proofs.lemmas.List.Elements.{All-head, All-tail}
 use Rattle.std.proofs.lemmas.List.{length-map}
 use Rattle.std.proofs.lemmas.List.FromFn.{length-range_with_len}
 use Rattle.std.specs.List.{range_with_len}
-use Rattle.aut_base.proofs.AllPairsOf.{pairs_first, pairs_rest}
-use Rattle.aut_base.proofs.Members.{any_found}
+use Rattle.aut_base.proofs.order.AllPairsOf.{pairs_first, pairs_rest}
+use Rattle.aut_base.proofs.lists.Members.{any_found}
 use Rattle.safra_trees.proofs.list_step.Ranks.{index_map}
 use Rattle.safra_trees.specs.Flat.{IsStored, at, is_over, node_of, nodes_of, placed}
 use Rattle.safra_trees.proofs.list_step.Over.{over_top}

@@ -2,7 +2,7 @@
 use Rattle.std.proofs.Common.{◌≡◌, ◌↔◌, ◌∙◌, ◌&&◌, Bool, List, ap, inl, inr, nat_eq, refl, sym, true, ℕ}
 use Rattle.std.proofs.lemmas.Bool.{and_from, and_parts, cases_Bool}
 use Rattle.std.specs.Cmp.Lexicographic.{pointwise}
-use Rattle.aut_base.proofs.Texts.{other_text, same_text}
+use Rattle.aut_base.proofs.words.Texts.{other_text, same_text}
 use Rattle.safra_trees.specs.Flat.{nodes_of}
 use Rattle.safra_trees.specs.View.{tree_of}
 use Rattle.safra_trees.specs.declared.tree.SafraTree.{SafraTree}

@@ -3,7 +3,7 @@ use Rattle.std.proofs.Common.{◌≡◌, ◌∙◌, ◌+◌, ◌<◌, ◌==◌, 
 use Rattle.std.proofs.Props.{props}
 use Rattle.std.proofs.lemmas.Bool.{eq-eqb, or_left, or_right}
 use Rattle.std.specs.List.{range_with_len}
-use Rattle.aut_base.proofs.AllPairsOf.{pairs_rest}
+use Rattle.aut_base.proofs.order.AllPairsOf.{pairs_rest}
 use Rattle.safra_trees.proofs.flat_step.Placed.{stored_found, stored_root, stored_there}
 use Rattle.safra_trees.proofs.flat_step.Survey.{listed_by}
 use Rattle.safra_trees.proofs.laws.StoredTrees.{head_place, tail_place}

@@ -1,7 +1,7 @@
 -- A stored tree is a tree.
 use Rattle.std.proofs.Common.{◌≡◌, ◌∙◌, ◌<◌, ◌==◌, ℕ, true, false, List, [], ◌∷◌, AllPairs, ap, arith, inl, inr, length, refl, subst, sym}
 use Rattle.std.proofs.lemmas.Bool.{both_ways, cases_Bool, cond-false, cond-true, eqb-true, eq-eqb, ne_eqb, or_cases, or_left, or_right, true≢false}
-use Rattle.aut_base.proofs.AllPairsOf.{pairs_first, pairs_rest}
+use Rattle.aut_base.proofs.order.AllPairsOf.{pairs_first, pairs_rest}
 use Rattle.safra_trees.proofs.flat_step.Grown.{stored_inside, stored_parent}
 use Rattle.safra_trees.proofs.flat_step.Placed.{absent, nodes_length, place_absent, stored_found, stored_there}
 use Rattle.safra_trees.proofs.list_step.Over.{over_cases, over_chain, over_low, over_self}

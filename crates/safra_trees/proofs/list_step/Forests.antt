@@ -2,7 +2,7 @@
 use Rattle.std.proofs.Common.{◌≡◌, ◌∙◌, ◌⊎◌, ◌<◌, ◌≤◌, ◌==◌, ◌&&◌, ℕ, zero, suc, Bool, true, false, not, List, [], ◌∷◌, Contains, ap, arith, inl, inr, nat_lt, refl, subst, sym}
 use Rattle.std.proofs.lemmas.Bool.{and_from, and_parts, cases_Bool, cases_eq, eq-eqb, eqb-true, lt-ltb, ltb-true, not-true, not_from_false, or_from, or_parts}
 use Rattle.std.specs.List.{list_any, range_with_len}
-use Rattle.aut_base.proofs.Members.{any_found, any_from, first_there, from_range, later_there, there_range_zero}
+use Rattle.aut_base.proofs.lists.Members.{any_found, any_from, first_there, from_range, later_there, there_range_zero}
 use Rattle.safra_trees.specs.Step.{Forest, above, ancestors, covered, is_child, keeps, stays, taken}
 
 pub record IsForest (f : Forest) : Type 0 where

@@ -4,9 +4,9 @@ use Rattle.std.proofs.lemmas.Bool.{and_from, and_parts, both_ways, eqb-true, fal
 use Rattle.std.proofs.lemmas.List.Folds.{list_any-append}
 use Rattle.std.specs.List.{list_any, range_with_len}
 use Rattle.safra_trees.proofs.list_step.Forests.{IsForest, keeps_child, keeps_free, keeps_holds, keeps_up, least, none_any}
-use Rattle.aut_base.proofs.Lists.{range_more}
-use Rattle.aut_base.proofs.Members.{each_from, each_is, from_filter, from_range, none_at, there_filter, there_range_zero}
-use Rattle.aut_base.proofs.Truth.{or-false}
+use Rattle.aut_base.proofs.lists.Lists.{range_more}
+use Rattle.aut_base.proofs.lists.Members.{each_from, each_is, from_filter, from_range, none_at, there_filter, there_range_zero}
+use Rattle.aut_base.proofs.numbers.Truth.{or-false}
 use Rattle.safra_trees.specs.inner.Free.{free, given}
 use Rattle.safra_trees.specs.Step.{Forest, covered, is_child, keeps, taken}
 

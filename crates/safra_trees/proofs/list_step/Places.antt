@@ -4,7 +4,7 @@ use Rattle.std.proofs.lemmas.Bool.{and_from, and_parts, both_ways, cases_Bool, c
 use Rattle.std.specs.List.{list_any, range_with_len}
 use Rattle.safra_trees.proofs.list_step.Forests.{IsForest, none_any}
 use Rattle.safra_trees.proofs.list_step.Local.{covered_left, free_more, keeps_local, keeps_root}
-use Rattle.aut_base.proofs.Members.{from_range}
+use Rattle.aut_base.proofs.lists.Members.{from_range}
 use Rattle.safra_trees.specs.inner.Free.{free, given, place, takes}
 use Rattle.safra_trees.specs.Step.{Forest, covered, is_child, keeps}
 

@@ -4,7 +4,7 @@ use Rattle.std.proofs.lemmas.Bool.{and_cases, and_from, and_parts, both_ways, ca
 use Rattle.std.proofs.lemmas.List.{length-map}
 use Rattle.std.specs.List.{list_all, list_any, range_with_len}
 use Rattle.safra_trees.proofs.list_step.Forests.{IsForest, ancestors_of, keeps_free, keeps_holds, keeps_up, stays_free, stays_some, stays_up}
-use Rattle.aut_base.proofs.Members.{any_found, any_from, first_there, from_filter, from_range, later_there, none_at, there_filter, there_range_zero}
+use Rattle.aut_base.proofs.lists.Members.{any_found, any_from, first_there, from_filter, from_range, later_there, none_at, there_filter, there_range_zero}
 use Rattle.safra_trees.proofs.list_step.Ranks.{index_map, rank_at, rank_back, rank_order, rank_rises, rank_same}
 use Rattle.safra_trees.specs.Step.{Forest, IsTree, Own, ancestors, covered, goes, goes_well, grown, is_child, keeps, names, pruned, rank, renamed, stays}
 use Rattle.safra_trees.specs.Trees.{Node, has, holds, node_at}

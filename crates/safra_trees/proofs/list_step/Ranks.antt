@@ -6,7 +6,7 @@ use Rattle.std.proofs.lemmas.List.{append-nil, length-append}
 use Rattle.std.proofs.lemmas.List.Elements.{filter-append}
 use Rattle.std.proofs.lemmas.Option.{none-some, same_Some}
 use Rattle.std.specs.List.{range_with_len}
-use Rattle.aut_base.proofs.Lists.{range_more, slice_get-append_left, slice_get-push_last}
+use Rattle.aut_base.proofs.lists.Lists.{range_more, slice_get-append_left, slice_get-push_last}
 use Rattle.safra_trees.specs.Step.{names, rank}
 
 -- one name more

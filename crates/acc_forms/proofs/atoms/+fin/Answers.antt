@@ -1,8 +1,8 @@
 use Rattle.std.proofs.Common.{◌∙◌, ap, sym, arith}
 use Rattle.aut_base.specs.Formula.{formula_tree, formula_list}
-use Rattle.aut_base.proofs.FormulaSizes.{formula_size-at}
+use Rattle.aut_base.proofs.trees.FormulaSizes.{formula_size-at}
 use Rattle.acc_forms.specs.Atoms.{has_fin}
-use Rattle.aut_base.proofs.Steps.{any_more, any_here}
+use Rattle.aut_base.proofs.lists.Steps.{any_more, any_here}
 use Rattle.acc_forms.proofs.Parts.{has_fin-And, has_fin-Or}
 use Rattle.acc_forms.proofs.atoms.+fin.Goals as goal
 

@@ -1,7 +1,7 @@
 use Rattle.std.proofs.Common.{◌∙◌, ap, sym, arith, [], ◌∷◌}
 use Rattle.aut_base.specs.Formula.{formula_tree, formula_list, met}
-use Rattle.aut_base.proofs.FormulaSizes.{formula_size-at}
-use Rattle.aut_base.proofs.Steps.{any_more, any_here, all_more, all_not_here}
+use Rattle.aut_base.proofs.trees.FormulaSizes.{formula_size-at}
+use Rattle.aut_base.proofs.lists.Steps.{any_more, any_here, all_more, all_not_here}
 use Rattle.acc_forms.proofs.Parts.{met-And, met-Or}
 use Rattle.acc_forms.proofs.atoms.+without_sets.Goals as goal
 

@@ -1,5 +1,5 @@
 use Rattle.aut_base.specs.Formula.{formula_tree, formula_list}
-use Rattle.aut_base.proofs.Steps.{rest_more}
+use Rattle.aut_base.proofs.lists.Steps.{rest_more}
 use Rattle.acc_forms.proofs.join.push_from.Goals as goal
 
 pub parts-preserved : goal.parts-preserved

@@ -1,8 +1,8 @@
 use Rattle.std.proofs.Common.{◌∙◌, ◌-◌, ◌^◌, ap, sym, arith}
 use Rattle.aut_base.specs.Formula.{formula_tree, formula_list}
-use Rattle.aut_base.proofs.FormulaSizes.{formula_size-at}
+use Rattle.aut_base.proofs.trees.FormulaSizes.{formula_size-at}
 use Rattle.acc_forms.specs.Shift.{shift}
-use Rattle.aut_base.proofs.Steps.{map_more}
+use Rattle.aut_base.proofs.lists.Steps.{map_more}
 use Rattle.acc_forms.proofs.Parts.{shift-And, shift-Or, below-at}
 use Rattle.acc_forms.proofs.raise.+shift.Goals as goal
 

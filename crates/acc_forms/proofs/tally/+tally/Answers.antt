@@ -1,7 +1,7 @@
 use Rattle.std.proofs.Common.{◌∙◌, ap, sym, arith, map, take}
 use Rattle.std.specs.List.{flat_map}
 use Rattle.aut_base.specs.Formula.{formula_tree, formula_list}
-use Rattle.aut_base.proofs.FormulaSizes.{formula_size-at}
+use Rattle.aut_base.proofs.trees.FormulaSizes.{formula_size-at}
 use Rattle.acc_forms.specs.Terms.{terms, choices}
 use Rattle.acc_forms.specs.inner.Tally.{tally_of}
 use Rattle.acc_forms.proofs.Tallies.{choices_more, terms_more}

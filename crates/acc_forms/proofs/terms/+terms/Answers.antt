@@ -2,7 +2,7 @@ use Rattle.std.proofs.Common.{◌≡◌, ◌∙◌, ◌++◌, ap, sym, arith, ma
 use Rattle.std.specs.List.{flat_map}
 use Rattle.std.proofs.lemmas.Result.{IfOk-weaker}
 use Rattle.aut_base.specs.Formula.{formula_tree, formula_list}
-use Rattle.aut_base.proofs.FormulaSizes.{formula_size-at}
+use Rattle.aut_base.proofs.trees.FormulaSizes.{formula_size-at}
 use Rattle.acc_forms.specs.Terms.{terms, choices, pairs}
 use Rattle.acc_forms.proofs.Tallies.{choices_more, terms_more}
 use Rattle.acc_forms.proofs.TermLaws.{terms-And, terms-Or}

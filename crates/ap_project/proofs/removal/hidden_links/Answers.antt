@@ -1,5 +1,5 @@
 use Rattle.std.proofs.Common.{◌∙◌, ◌<◌, ap, arith, get_or, length, sym}
-use Rattle.aut_base.proofs.Members.{read_has}
+use Rattle.aut_base.proofs.lists.Members.{read_has}
 use Rattle.label_guards.specs.Store.{Has}
 use Rattle.aut_core.proofs.Following.{stand_more}
 use Rattle.aut_core.proofs.Growth.{keeps_on}

@@ -1,7 +1,7 @@
 use Rattle.std.proofs.Common.{◌≡◌, ◌∙◌, List, [], ap, length, subst, sym, ℕ}
 use Rattle.std.proofs.lemmas.Option.{get_or_from_slice_get, slice_get_within}
 use Rattle.std.proofs.lemmas.Result.{IfOk-weaker}
-use Rattle.aut_base.proofs.Members.{placed_there}
+use Rattle.aut_base.proofs.lists.Members.{placed_there}
 use Rattle.aut_base.specs.Formula.{formula_tree}
 use Rattle.aut_core.proofs.JoinedNames.{among}
 use Rattle.aut_core.specs.Core.{Core, automaton_of}

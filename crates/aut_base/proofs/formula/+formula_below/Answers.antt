@@ -1,6 +1,6 @@
 -- Each answer follows from the layer of the tree that it is about. Said here, it is found in a quarter of the time.
 use Rattle.std.proofs.Common.{arith}
-use Rattle.aut_base.proofs.FormulaTrees.{formula_trees}
+use Rattle.aut_base.proofs.trees.FormulaTrees.{formula_trees}
 use Rattle.aut_base.proofs.formula.+formula_below.Goals as goal
 
 pub Formula::is_below-returns-in-Inf : goal.Formula::is_below-returns-in-Inf

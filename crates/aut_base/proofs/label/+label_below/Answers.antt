@@ -1,6 +1,6 @@
 -- Each answer follows from the layer of the tree that it is about. Said here, it is found in a quarter of the time.
 use Rattle.std.proofs.Common.{arith}
-use Rattle.aut_base.proofs.LabelTrees.{label_trees}
+use Rattle.aut_base.proofs.trees.LabelTrees.{label_trees}
 use Rattle.aut_base.proofs.label.+label_below.Goals as goal
 
 pub Label::is_below-returns-in-Prop : goal.Label::is_below-returns-in-Prop

@@ -1,7 +1,7 @@
 -- Each answer follows from the layer of the tree that it is about. Said here, it is found in a third of the time.
 use Rattle.std.proofs.Common.{arith}
 use Rattle.std.proofs.lemmas.Grind.{common_steps}
-use Rattle.aut_base.proofs.LabelTrees.{label_trees}
+use Rattle.aut_base.proofs.trees.LabelTrees.{label_trees}
 use Rattle.aut_base.proofs.label.+label_truth.Goals as goal
 
 pub Label::truth-returns-in-Prop : goal.Label::truth-returns-in-Prop

@@ -1,4 +1,4 @@
-use Rattle.aut_base.proofs.LabelLaws as law
+use Rattle.aut_base.proofs.canonical.LabelLaws as law
 use Rattle.aut_base.proofs.law.canonical_accepts_the_same.Goals as goal
 
 pub returns : goal.returns

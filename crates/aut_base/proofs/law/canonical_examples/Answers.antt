@@ -1,4 +1,4 @@
-use Rattle.aut_base.proofs.LabelExamples as examples
+use Rattle.aut_base.proofs.canonical.LabelExamples as examples
 use Rattle.aut_base.proofs.law.canonical_examples.Goals as goal
 
 pub returns : goal.returns

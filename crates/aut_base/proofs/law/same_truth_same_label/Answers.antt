@@ -1,4 +1,4 @@
-use Rattle.aut_base.proofs.CanonicalLabels as labels
+use Rattle.aut_base.proofs.canonical.CanonicalLabels as labels
 use Rattle.aut_base.proofs.law.same_truth_same_label.Goals as goal
 
 pub returns : goal.returns

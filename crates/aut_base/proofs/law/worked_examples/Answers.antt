@@ -1,4 +1,4 @@
-use Rattle.aut_base.proofs.Examples as examples
+use Rattle.aut_base.proofs.runs.Examples as examples
 use Rattle.aut_base.proofs.law.worked_examples.Goals as goal
 
 pub returns : goal.returns

@@ -1,5 +1,5 @@
 use Rattle.std.proofs.Common.{◌∙◌, sym, arith}
-use Rattle.aut_base.proofs.Texts.{not_before_more, other_text, same_text, none_is, is_there}
+use Rattle.aut_base.proofs.words.Texts.{not_before_more, other_text, same_text, none_is, is_there}
 use Rattle.aut_base.proofs.names.place_of.Goals as goal
 
 pub places-preserved : goal.places-preserved

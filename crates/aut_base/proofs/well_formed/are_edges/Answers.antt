@@ -1,7 +1,7 @@
 use Rattle.std.proofs.Common.{arith, rules}
 use Rattle.std.proofs.lemmas.List.Elements.{All-map}
 use Rattle.aut_base.specs.Automaton.{tree_edge, automaton, IsEdgeOf}
-use Rattle.aut_base.proofs.WellFormed.{one_of_all}
+use Rattle.aut_base.proofs.order.WellFormed.{one_of_all}
 use Rattle.aut_base.proofs.well_formed.are_edges.Goals as goal
 
 pub returns-then-not-is_edge : goal.returns-then-not-is_edge

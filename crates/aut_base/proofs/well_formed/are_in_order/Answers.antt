@@ -1,5 +1,5 @@
 use Rattle.std.proofs.Common.{arith, rules}
-use Rattle.aut_base.proofs.WellFormed.{in_order, out_of_order}
+use Rattle.aut_base.proofs.order.WellFormed.{in_order, out_of_order}
 use Rattle.aut_base.proofs.well_formed.are_in_order.Goals as goal
 
 pub returns-then-edges-i : goal.returns-then-edges-i

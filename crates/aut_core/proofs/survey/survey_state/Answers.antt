@@ -1,6 +1,6 @@
 use Rattle.std.proofs.Common.{◌≡◌, ◌∙◌, ◌+◌, ◌&&◌, List, [], ◌∷◌, ◌++◌, ap, map, subst, sym, take}
 use Rattle.std.proofs.lemmas.List.{take_all}
-use Rattle.aut_base.proofs.Lists.{take-push}
+use Rattle.aut_base.proofs.lists.Lists.{take-push}
 use Rattle.label_guards.specs.Store.{Has}
 use Rattle.aut_core.specs.Core.{edge_of}
 use Rattle.aut_core.specs.Surveys.{IsSurvey}

@@ -5,7 +5,7 @@ use Rattle.aut_base.specs.Automaton.{Automaton}
 use Rattle.aut_core.specs.Core.{automaton_of}
 use Rattle.aut_core.specs.Deterministic.{IsComplete, IsDeterministic}
 use Rattle.aut_core.specs.OtherNames.{AcceptTheSame}
-use Rattle.aut_ops.proofs.SinkStates.{completed_accepts, completed_complete, completed_deterministic, completed_other, completed_same}
+use Rattle.aut_ops.proofs.sinks.SinkStates.{completed_accepts, completed_complete, completed_deterministic, completed_other, completed_same}
 use Rattle.aut_ops.proofs.completion.complete.Goals as goal
 
 pub returns-then-is_complete-clause-shape : goal.returns-then-is_complete-clause-shape

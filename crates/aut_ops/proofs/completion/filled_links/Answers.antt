@@ -1,6 +1,6 @@
 use Rattle.std.proofs.Common.{subst}
 use Rattle.aut_core.proofs.Growth.{keeps_on}
-use Rattle.aut_ops.proofs.FilledStates.{row_have, state_more}
+use Rattle.aut_ops.proofs.sinks.FilledStates.{row_have, state_more}
 use Rattle.label_guards.specs.Store.{Keeps, Store}
 use Rattle.aut_ops.proofs.completion.filled_links.Goals as goal
 

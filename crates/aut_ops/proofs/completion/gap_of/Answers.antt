@@ -1,9 +1,9 @@
 use Rattle.std.proofs.lemmas.Result.{IfOk-weaker}
-use Rattle.aut_base.proofs.Members.{read_has}
+use Rattle.aut_base.proofs.lists.Members.{read_has}
 use Rattle.aut_core.proofs.Growth.{keeps_none, keeps_on}
 use Rattle.aut_core.specs.declared.link.Link.{Link}
 use Rattle.label_guards.specs.Store.{Has}
-use Rattle.aut_ops.proofs.Linked.{met_more, none_met}
+use Rattle.aut_ops.proofs.links.Linked.{met_more, none_met}
 use Rattle.aut_ops.proofs.completion.gap_of.Goals as goal
 
 pub row-init : goal.row-init

@@ -1,9 +1,9 @@
 use Rattle.std.proofs.Common.{◌∙◌, ap}
 use Rattle.std.proofs.lemmas.Result.{IfOk-weaker}
 use Rattle.aut_core.specs.Core.{automaton_of}
-use Rattle.aut_ops.proofs.Completions.{with_sink_formed}
-use Rattle.aut_ops.proofs.FilledStates.{sunk}
-use Rattle.aut_ops.proofs.Linked.{parts_for}
+use Rattle.aut_ops.proofs.sinks.Completions.{with_sink_formed}
+use Rattle.aut_ops.proofs.sinks.FilledStates.{sunk}
+use Rattle.aut_ops.proofs.links.Linked.{parts_for}
 use Rattle.aut_ops.specs.Completion.{with_sink}
 use Rattle.aut_ops.proofs.completion.sunk.Goals as goal
 

@@ -1,6 +1,6 @@
 use Rattle.std.proofs.Common.{ℕ, List, ap, arith, length}
 use Rattle.std.specs.List.{slice_index_or}
-use Rattle.aut_ops.proofs.ListSteps.{joint_below}
+use Rattle.aut_ops.proofs.links.ListSteps.{joint_below}
 use Rattle.aut_ops.proofs.edge_marks.joint_marks.Goals as goal
 
 pub push-requires : goal.push-requires

@@ -1,6 +1,6 @@
 use Rattle.std.proofs.Common.{◌-◌}
 use Rattle.aut_base.specs.declared.limit.TheConstants.{MOST_PAIRS}
-use Rattle.aut_ops.proofs.Explorations.{IsExplored}
+use Rattle.aut_ops.proofs.pairs.Explorations.{IsExplored}
 use Rattle.aut_ops.proofs.exploration.explore.Given as goal
 
 abbrev pub invariant-pairs : goal.invariant-pairs

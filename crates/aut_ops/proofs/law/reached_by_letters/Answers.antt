@@ -1,4 +1,4 @@
-use Rattle.aut_ops.proofs.Laws as laws
+use Rattle.aut_ops.proofs.pairs.Laws as laws
 use Rattle.aut_ops.proofs.law.reached_by_letters.Goals as goal
 
 pub returns : goal.returns

@@ -1,5 +1,5 @@
 use Rattle.std.proofs.Common.{◌∙◌, ◌↔◌, IsTrue, ap, not, subst}
-use Rattle.aut_ops.proofs.Labels.{never_is}
+use Rattle.aut_ops.proofs.links.Labels.{never_is}
 use Rattle.aut_ops.specs.Labels.{is_never}
 use Rattle.label_guards.specs.Guards.{IsNeverMet}
 use Rattle.label_guards.specs.Store.{Store, label_in}

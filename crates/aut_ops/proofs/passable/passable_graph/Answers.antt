@@ -1,5 +1,5 @@
 use Rattle.std.proofs.Common.{ap, arith, length}
-use Rattle.aut_ops.proofs.Alone.{passable_links}
+use Rattle.aut_ops.proofs.flagged.Alone.{passable_links}
 use Rattle.aut_ops.proofs.passable.passable_graph.Goals as goal
 
 pub returns-clause-arcs : goal.returns-clause-arcs

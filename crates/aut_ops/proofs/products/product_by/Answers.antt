@@ -5,7 +5,7 @@ use Rattle.aut_base.specs.declared.limit.TheConstants.{MOST_NAMES}
 use Rattle.aut_core.specs.Core.{automaton_of}
 use Rattle.aut_core.specs.OtherNames.{joined_names, over_names}
 use Rattle.aut_ops.proofs.Faults.{on_ok_always}
-use Rattle.aut_ops.proofs.MadeProducts.{accepts_over}
+use Rattle.aut_ops.proofs.joint_runs.MadeProducts.{accepts_over}
 use Rattle.aut_ops.specs.Products.{HasMorePairs, IsProduct, over_both}
 use Rattle.aut_base.specs.declared.limit.TheConstants.{MOST_PAIRS}
 use Rattle.aut_ops.specs.inner.Joins.{join_of}

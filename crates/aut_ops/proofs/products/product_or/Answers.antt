@@ -5,9 +5,9 @@ use Rattle.aut_base.specs.Automaton.{Automaton}
 use Rattle.aut_base.specs.declared.limit.TheConstants.{MOST_NAMES}
 use Rattle.aut_core.specs.Core.{automaton_of}
 use Rattle.aut_core.specs.OtherNames.{joined_names, over_names}
-use Rattle.aut_ops.proofs.CompleteRuns.{complete_runs}
-use Rattle.aut_ops.proofs.Languages.{either_like}
-use Rattle.aut_ops.proofs.SinkStates.{completed_names}
+use Rattle.aut_ops.proofs.sinks.CompleteRuns.{complete_runs}
+use Rattle.aut_ops.proofs.following.Languages.{either_like}
+use Rattle.aut_ops.proofs.sinks.SinkStates.{completed_names}
 use Rattle.aut_ops.specs.Completion.{completed}
 use Rattle.aut_ops.specs.Products.{HasMorePairs, IsProduct, over_both}
 use Rattle.aut_base.specs.declared.limit.TheConstants.{MOST_PAIRS}

@@ -1,10 +1,10 @@
 use Rattle.std.proofs.Common.{◌∙◌, ◌-◌, [], arith, subst, sym}
 use Rattle.aut_base.specs.Formula.{SetsBelow, formula_tree}
 use Rattle.aut_core.specs.Core.{Core, automaton_of}
-use Rattle.aut_ops.proofs.Explorations.{starts_beyond}
+use Rattle.aut_ops.proofs.pairs.Explorations.{starts_beyond}
 use Rattle.aut_ops.proofs.Faults.{passed_on}
 use Rattle.acc_forms.proofs.FormulaSets.{sets_weaker}
-use Rattle.aut_ops.proofs.MadeProducts.{made}
+use Rattle.aut_ops.proofs.joint_runs.MadeProducts.{made}
 use Rattle.aut_ops.specs.Products.{IsProduct, all_pairs}
 use Rattle.aut_base.specs.declared.limit.TheConstants.{MOST_PAIRS}
 use Rattle.aut_ops.specs.inner.Joins.{JoinAccepts, join_of}

@@ -2,7 +2,7 @@ use Rattle.std.proofs.Common.{◌∙◌, ap, filter}
 use Rattle.std.proofs.lemmas.Result.{IfOk-weaker}
 use Rattle.aut_base.specs.Formula.{formula_tree}
 use Rattle.aut_core.specs.Core.{automaton_of}
-use Rattle.aut_ops.proofs.Alone.{kept_alone}
+use Rattle.aut_ops.proofs.flagged.Alone.{kept_alone}
 use Rattle.aut_ops.specs.Passable.{is_flagged}
 use Rattle.aut_ops.proofs.pruning.flagged_in_place.Goals as goal
 

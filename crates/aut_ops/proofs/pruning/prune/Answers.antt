@@ -3,7 +3,7 @@ use Rattle.std.proofs.lemmas.Result.{IfOk-weaker}
 use Rattle.aut_base.specs.Automaton.{Automaton}
 use Rattle.aut_core.specs.Core.{automaton_of}
 use Rattle.aut_core.specs.OtherNames.{AcceptTheSame}
-use Rattle.aut_ops.proofs.Useful.{useful_accepts}
+use Rattle.aut_ops.proofs.flagged.Useful.{useful_accepts}
 use Rattle.aut_ops.specs.Pruning.{AreUseful}
 use Rattle.aut_ops.proofs.pruning.prune.Goals as goal
 

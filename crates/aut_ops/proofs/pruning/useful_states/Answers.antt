@@ -3,9 +3,9 @@ use Rattle.std.proofs.lemmas.List.Elements.{All-map}
 use Rattle.std.proofs.lemmas.Result.{IfOk-weaker}
 use Rattle.aut_core.specs.Core.{automaton_of}
 use Rattle.aut_core.specs.declared.link.Link.{Link}
-use Rattle.aut_ops.proofs.Alone.{links_from_states}
-use Rattle.aut_ops.proofs.Between.{graph_nodes, graph_reached}
-use Rattle.aut_ops.proofs.Useful.{found_useful, turned_nodes}
+use Rattle.aut_ops.proofs.flagged.Alone.{links_from_states}
+use Rattle.aut_ops.proofs.flagged.Between.{graph_nodes, graph_reached}
+use Rattle.aut_ops.proofs.flagged.Useful.{found_useful, turned_nodes}
 use Rattle.aut_ops.specs.inner.Renumbering.{both_flagged, link_closes, turned_arc}
 use Rattle.graph_walk.specs.Components.{AreComponents}
 use Rattle.graph_walk.specs.Reach.{AreReached}

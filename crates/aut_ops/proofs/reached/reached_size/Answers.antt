@@ -1,7 +1,7 @@
 use Rattle.std.proofs.Common.{subst, sym}
 use Rattle.aut_core.specs.Core.{automaton_of}
-use Rattle.aut_ops.proofs.Alone.{reached_size}
-use Rattle.aut_ops.proofs.Between.{graph_nodes, graph_reached}
+use Rattle.aut_ops.proofs.flagged.Alone.{reached_size}
+use Rattle.aut_ops.proofs.flagged.Between.{graph_nodes, graph_reached}
 use Rattle.aut_ops.specs.Passable.{passable_arcs}
 use Rattle.graph_walk.specs.Reach.{AreReached}
 use Rattle.aut_ops.proofs.reached.reached_size.Goals as goal

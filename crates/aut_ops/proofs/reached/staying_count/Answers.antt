@@ -1,5 +1,5 @@
 use Rattle.std.proofs.Common.{arith}
-use Rattle.aut_ops.proofs.ListSteps.{kept_within}
+use Rattle.aut_ops.proofs.links.ListSteps.{kept_within}
 use Rattle.aut_ops.specs.inner.Renumbering.{link_stays}
 use Rattle.aut_ops.proofs.reached.staying_count.Goals as goal
 

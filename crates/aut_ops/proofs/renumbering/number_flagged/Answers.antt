@@ -1,6 +1,6 @@
 use Rattle.std.proofs.Common.{arith}
-use Rattle.aut_ops.proofs.RangeSteps.{mapped_more}
-use Rattle.aut_ops.proofs.Ranks.{rank_set, rank_unset, rank_within}
+use Rattle.aut_ops.proofs.links.RangeSteps.{mapped_more}
+use Rattle.aut_ops.proofs.flagged.Ranks.{rank_set, rank_unset, rank_within}
 use Rattle.aut_ops.specs.Trimming.{rank}
 use Rattle.aut_ops.proofs.renumbering.number_flagged.Goals as goal
 

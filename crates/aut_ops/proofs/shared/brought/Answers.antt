@@ -3,10 +3,10 @@ use Rattle.std.specs.List.{range_with_len, slice_index_or}
 use Rattle.aut_core.proofs.Following.{stand_more}
 use Rattle.aut_core.proofs.Growth.{keeps_on}
 use Rattle.aut_core.specs.Core.{edge_of}
-use Rattle.label_guards.proofs.Dependence.{all_go_below}
+use Rattle.label_guards.proofs.rebuilt.Dependence.{all_go_below}
 use Rattle.label_guards.specs.Guards.{IsGuardOf, truth_in}
 use Rattle.label_guards.specs.Store.{Store}
-use Rattle.aut_ops.proofs.BroughtLinks.{brought_edge, places_count, places_within}
+use Rattle.aut_ops.proofs.links.BroughtLinks.{brought_edge, places_count, places_within}
 use Rattle.aut_ops.proofs.shared.brought.Goals as goal
 
 pub bring-requires-clause-count : goal.bring-requires-clause-count

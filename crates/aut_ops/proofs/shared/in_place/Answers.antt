@@ -1,7 +1,7 @@
 use Rattle.std.proofs.Common.{◌+◌, ◌++◌, ◌∷◌, ◌∙◌, ◌≡◌, [], ap, arith, sym}
 use Rattle.std.specs.List.{range_with_len}
 use Rattle.aut_ops.proofs.shared.in_place.Goals as goal
-use Rattle.aut_base.proofs.Lists.{range_more}
+use Rattle.aut_base.proofs.lists.Lists.{range_more}
 
 pub props-preserved : goal.props-preserved
 props-preserved c =

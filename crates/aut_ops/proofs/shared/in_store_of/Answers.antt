@@ -1,7 +1,7 @@
 use Rattle.std.proofs.Common.{◌≡◌, ◌∙◌, ap, length}
 use Rattle.aut_base.specs.Formula.{formula_tree}
 use Rattle.aut_core.specs.Core.{Core, automaton_of}
-use Rattle.aut_ops.proofs.Linked.{parts_for}
+use Rattle.aut_ops.proofs.links.Linked.{parts_for}
 use Rattle.label_guards.specs.Store.{Store}
 use Rattle.aut_ops.proofs.shared.in_store_of.Goals as goal
 

@@ -1,8 +1,8 @@
 use Rattle.std.proofs.Common.{◌∙◌, ◌+◌, ◌<◌, ◌++◌, ◌∷◌, ℕ, List, [], All, ap, map, subst, sym}
 use Rattle.std.proofs.lemmas.List.Elements.{All-map}
-use Rattle.aut_base.proofs.Members.{read_has}
+use Rattle.aut_base.proofs.lists.Members.{read_has}
 use Rattle.aut_core.specs.declared.link.Link.{Link}
-use Rattle.aut_ops.proofs.ListSteps.{map_more}
+use Rattle.aut_ops.proofs.links.ListSteps.{map_more}
 use Rattle.aut_ops.specs.inner.Linked.{moved_link}
 use Rattle.aut_ops.proofs.sums.push_moved.Goals as goal
 

@@ -4,8 +4,8 @@ use Rattle.aut_base.specs.Automaton.{Automaton}
 use Rattle.aut_base.specs.Formula.{SetsBelow, formula_tree}
 use Rattle.aut_core.specs.Core.{automaton_of}
 use Rattle.acc_forms.proofs.FormulaSets.{sets_weaker}
-use Rattle.aut_ops.proofs.SumLinks.{side}
-use Rattle.aut_ops.proofs.SumRuns.{sum_accepts}
+use Rattle.aut_ops.proofs.following.SumLinks.{side}
+use Rattle.aut_ops.proofs.following.SumRuns.{sum_accepts}
 use Rattle.aut_ops.specs.Languages.{AcceptsEither}
 use Rattle.aut_ops.proofs.sums.side_by_side.Goals as goal
 

@@ -1,7 +1,7 @@
 use Rattle.std.proofs.Common.{◌∙◌}
 use Rattle.std.proofs.lemmas.Result.{IfOk-weaker}
 use Rattle.aut_core.specs.Core.{automaton_of}
-use Rattle.aut_ops.proofs.Languages.{either_like}
+use Rattle.aut_ops.proofs.following.Languages.{either_like}
 use Rattle.aut_ops.specs.Sums.{side_by_side}
 use Rattle.aut_ops.proofs.sums.sum_over.Goals as goal
 

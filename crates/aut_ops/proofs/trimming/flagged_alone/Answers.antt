@@ -3,8 +3,8 @@ use Rattle.std.proofs.lemmas.Result.{IfOk-weaker}
 use Rattle.aut_base.specs.Formula.{formula_tree}
 use Rattle.aut_core.specs.Core.{automaton_of}
 use Rattle.aut_core.specs.declared.link.Link.{Link}
-use Rattle.aut_ops.proofs.Alone.{links_from_states, links_to_states, numbered_alone, starts_states}
-use Rattle.aut_ops.proofs.Ranks.{ranks_count}
+use Rattle.aut_ops.proofs.flagged.Alone.{links_from_states, links_to_states, numbered_alone, starts_states}
+use Rattle.aut_ops.proofs.flagged.Ranks.{ranks_count}
 use Rattle.aut_ops.specs.Passable.{is_flagged}
 use Rattle.aut_ops.specs.inner.Renumbering.{link_stays, new_link, new_number}
 use Rattle.aut_ops.proofs.trimming.flagged_alone.Goals as goal

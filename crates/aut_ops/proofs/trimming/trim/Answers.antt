@@ -3,8 +3,8 @@ use Rattle.std.proofs.lemmas.Result.{IfOk-weaker}
 use Rattle.aut_base.specs.Automaton.{Automaton}
 use Rattle.aut_core.specs.Core.{automaton_of}
 use Rattle.aut_core.specs.OtherNames.{AcceptTheSame}
-use Rattle.aut_ops.proofs.Between.{graph_nodes, graph_reached}
-use Rattle.aut_ops.proofs.Trimmed.{trimmed_accepts}
+use Rattle.aut_ops.proofs.flagged.Between.{graph_nodes, graph_reached}
+use Rattle.aut_ops.proofs.flagged.Trimmed.{trimmed_accepts}
 use Rattle.aut_ops.specs.Passable.{passable_arcs}
 use Rattle.graph_walk.specs.Reach.{AreReached}
 use Rattle.aut_ops.proofs.trimming.trim.Goals as goal

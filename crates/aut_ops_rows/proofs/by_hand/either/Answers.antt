@@ -1,6 +1,6 @@
 use Rattle.std.proofs.Common.{arith}
 use Rattle.aut_core.specs.Core.{automaton_of}
-use Rattle.aut_ops.proofs.CompletedSizes.{completed_sets, completed_states}
+use Rattle.aut_ops.proofs.sinks.CompletedSizes.{completed_sets, completed_states}
 use Rattle.aut_ops_rows.proofs.by_hand.either.Goals as goal
 
 pub product_or-requires-clause-states : goal.product_or-requires-clause-states

@@ -1,6 +1,6 @@
 use Rattle.std.proofs.Common.{◌∙◌, ◌*◌, ap, false, map, refl}
 use Rattle.std.proofs.lemmas.Result.{IfOk-weaker}
-use Rattle.aut_base.proofs.FormulaTrees.{formula_tree-Inf}
+use Rattle.aut_base.proofs.trees.FormulaTrees.{formula_tree-Inf}
 use Rattle.aut_base.specs.Formula.{formula_tree}
 use Rattle.aut_base.specs.declared.formula.Formula.TheVariants.{Inf}
 use Rattle.aut_core.specs.Core.{Core, automaton_of}

@@ -1,5 +1,5 @@
 use Rattle.std.proofs.Common.{◌∙◌, ◌++◌, ap}
-use Rattle.aut_base.proofs.Steps.{flat_map_on}
+use Rattle.aut_base.proofs.lists.Steps.{flat_map_on}
 use Rattle.aut_base.specs.Formula.{formula_list, formula_tree}
 use Rattle.degeneralise.specs.Buchi.{inf_literals}
 use Rattle.degeneralise.proofs.generalised.literals_of.Goals as goal

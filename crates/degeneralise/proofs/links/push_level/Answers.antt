@@ -2,8 +2,8 @@ use Rattle.std.proofs.Common.{◌≡◌, ◌∙◌, ◌==◌, ◌<◌, List, All
 use Rattle.std.proofs.lemmas.List.{take_all}
 use Rattle.std.proofs.lemmas.List.Elements.{All-filter}
 use Rattle.std.proofs.lemmas.Nat.{row_fits}
-use Rattle.aut_base.proofs.Ordered.{filter_map_of}
-use Rattle.aut_base.proofs.Steps.{map_map_on}
+use Rattle.aut_base.proofs.order.Ordered.{filter_map_of}
+use Rattle.aut_base.proofs.lists.Steps.{map_map_on}
 use Rattle.aut_base.specs.Automaton.{TreeEdge}
 use Rattle.aut_core.specs.Core.{Core, IsLinkOf, edge_of}
 use Rattle.aut_core.specs.declared.link.Link.{Link}

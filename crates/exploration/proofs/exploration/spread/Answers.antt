@@ -1,7 +1,7 @@
 use Rattle.std.proofs.Common.{◌≡◌, ◌∙◌, ◌+◌, ◌<◌, ℕ, MatchOption, Option, Some, ap, arith, inl, length, map, refl, slice_get, subst, sym}
 use Rattle.std.proofs.lemmas.List.{length-map}
 use Rattle.std.proofs.lemmas.List.Elements.{All-contains}
-use Rattle.aut_base.proofs.Members.{placed_there}
+use Rattle.aut_base.proofs.lists.Members.{placed_there}
 use Rattle.exploration.specs.Turns.{Arrow}
 use Rattle.exploration.proofs.Faults.{err_is, list_met, step_met}
 use Rattle.exploration.proofs.Lists.{read_here}

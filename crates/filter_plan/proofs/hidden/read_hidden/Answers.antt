@@ -1,6 +1,6 @@
 use Rattle.std.proofs.Common.{◌≡◌, ◌∙◌, ◌-◌, List, ℕ, MatchOption, Option, None, Some, arith, drop, length, length-drop, subst, take}
 use Rattle.std.proofs.lemmas.List.{take_all}
-use Rattle.word_syntax.proofs.FrontTokens.{one_front}
+use Rattle.word_syntax.proofs.texts.FrontTokens.{one_front}
 use Rattle.filter_plan.specs.Hiding.{IsHidden, suffix}
 use Rattle.filter_plan.specs.declared.plan.Hidden.{Hidden}
 use Rattle.ap_project.specs.declared.hide.Hide.{Hide}

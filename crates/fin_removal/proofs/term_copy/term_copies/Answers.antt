@@ -2,7 +2,7 @@ use Rattle.std.proofs.Common.{◌≡◌, ◌∙◌, ◌+◌, [], ◌∷◌, ◌+
 use Rattle.std.specs.List.{sum_by}
 use Rattle.std.proofs.lemmas.List.{length-take-le}
 use Rattle.std.proofs.lemmas.List.Sums.{sum_by_push}
-use Rattle.aut_base.proofs.Lists.{take-push}
+use Rattle.aut_base.proofs.lists.Lists.{take-push}
 use Rattle.fin_removal.specs.Copies.{sets_of, term_copies}
 use Rattle.fin_removal.specs.Meeting.{literal_places}
 use Rattle.fin_removal.specs.declared.term_copy.TermCopy.{TermCopy}

@@ -1,9 +1,9 @@
 use Rattle.std.proofs.Common.{◌∙◌, sym, ap, arith, refl, ◌++◌, take}
 use Rattle.std.proofs.lemmas.Result.{on_ok_weaker}
 use Rattle.std.specs.Prelude.{codes}
-use Rattle.aut_base.proofs.FormulaSizes.{formula_size-And, formula_size-Or, formula_size-at}
+use Rattle.aut_base.proofs.trees.FormulaSizes.{formula_size-And, formula_size-Or, formula_size-at}
 use Rattle.aut_base.specs.Formula.{formula_list, formula_size, formula_tree}
-use Rattle.aut_base.proofs.FormulaTrees.{formula_tree-Inf, formula_tree-Fin}
+use Rattle.aut_base.proofs.trees.FormulaTrees.{formula_tree-Inf, formula_tree-Fin}
 use Rattle.hoa_writer.specs.CanonicalText.{formula_text, set_text}
 use Rattle.hoa_writer.specs.inner.Pieces.{list_text, part_text}
 use Rattle.hoa_writer.proofs.text.Formulas.{text-And, text-Or, list_more}

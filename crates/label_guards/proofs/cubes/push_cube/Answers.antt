@@ -1,5 +1,5 @@
 use Rattle.std.proofs.Common.{arith, length}
-use Rattle.label_guards.proofs.Pieces.{cube_written, some_item}
+use Rattle.label_guards.proofs.labelled.Pieces.{cube_written, some_item}
 use Rattle.label_guards.proofs.cubes.push_cube.Goals as goal
 
 pub returns-clause-ok : goal.returns-clause-ok

@@ -1,5 +1,5 @@
 use Rattle.std.proofs.Common.{◌≡◌, ◌<◌, ℕ, List, length, get_or, subst}
-use Rattle.label_guards.proofs.LetterSteps.{midway_step}
+use Rattle.label_guards.proofs.valuations.LetterSteps.{midway_step}
 use Rattle.label_guards.proofs.pick.letter_at.Goals as goal
 
 pub names-preserved : goal.names-preserved

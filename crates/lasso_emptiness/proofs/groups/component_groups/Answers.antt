@@ -5,8 +5,8 @@ use Rattle.std.proofs.lemmas.Result.{IfOk-weaker}
 use Rattle.lasso_emptiness.specs.declared.live.LiveEdge.{LiveEdge}
 use Rattle.lasso_emptiness.specs.inner.Edges.{arc_of}
 use Rattle.lasso_emptiness.specs.inner.Groups.{AreGroups, is_inside}
-use Rattle.lasso_emptiness.proofs.Grouping.{are_groups, components_of}
-use Rattle.lasso_emptiness.proofs.Trails.{has_nodes}
+use Rattle.lasso_emptiness.proofs.components.Grouping.{are_groups, components_of}
+use Rattle.lasso_emptiness.proofs.trails.Trails.{has_nodes}
 use Rattle.lasso_emptiness.proofs.groups.component_groups.Goals as goal
 
 pub components-requires : goal.components-requires

@@ -1,5 +1,5 @@
 use Rattle.std.proofs.Common.{refl, sym}
-use Rattle.lasso_emptiness.proofs.Grouping.{groups_more, groups_skip}
+use Rattle.lasso_emptiness.proofs.components.Grouping.{groups_more, groups_skip}
 use Rattle.lasso_emptiness.proofs.groups.groups_by_number.Goals as goal
 
 pub edges-preserved : goal.edges-preserved

@@ -1,12 +1,12 @@
 use Rattle.std.proofs.Common.{arith, map, subst, sym}
-use Rattle.aut_base.proofs.Members.{any_at}
+use Rattle.aut_base.proofs.lists.Members.{any_at}
 use Rattle.aut_base.specs.Formula.{formula_tree, formula_list}
 use Rattle.aut_base.specs.declared.formula.Formula.{Formula}
-use Rattle.aut_base.proofs.FormulaSizes.{formula_size-at}
+use Rattle.aut_base.proofs.trees.FormulaSizes.{formula_size-at}
 use Rattle.lasso_emptiness.specs.inner.Edges.{marks_of}
 use Rattle.lasso_emptiness.specs.inner.Judged.{IsJudged}
-use Rattle.lasso_emptiness.proofs.Judgements.{all_never, all_open, all_so_far_more, one_so_far_never, one_so_far_open}
-use Rattle.lasso_emptiness.proofs.Parts.{judged-And, judged-Or}
+use Rattle.lasso_emptiness.proofs.conditions.Judgements.{all_never, all_open, all_so_far_more, one_so_far_never, one_so_far_open}
+use Rattle.lasso_emptiness.proofs.conditions.Parts.{judged-And, judged-Or}
 use Rattle.aut_base.specs.Formula.{met}
 use Rattle.lasso_emptiness.proofs.judge.+judge.Goals as goal
 

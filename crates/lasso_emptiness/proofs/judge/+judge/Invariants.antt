@@ -2,7 +2,7 @@
 use Rattle.std.proofs.Common.{◌+◌, ◌*◌, map}
 use Rattle.aut_base.specs.Formula.{formula_tree, formula_list, formula_size, formulas_size, trees}
 use Rattle.lasso_emptiness.specs.inner.Edges.{marks_of}
-use Rattle.lasso_emptiness.proofs.Judgements.{AllSoFar, OneSoFar}
+use Rattle.lasso_emptiness.proofs.conditions.Judgements.{AllSoFar, OneSoFar}
 use Rattle.lasso_emptiness.proofs.judge.+judge.Given as goal
 
 abbrev pub decreases-judge : goal.decreases-judge

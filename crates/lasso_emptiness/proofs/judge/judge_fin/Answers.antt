@@ -1,5 +1,5 @@
-use Rattle.lasso_emptiness.proofs.Marked.{fin_met, fin_not_met}
-use Rattle.lasso_emptiness.proofs.Conditions.{has_side-Fin}
+use Rattle.lasso_emptiness.proofs.conditions.Marked.{fin_met, fin_not_met}
+use Rattle.lasso_emptiness.proofs.conditions.Conditions.{has_side-Fin}
 use Rattle.lasso_emptiness.proofs.judge.judge_fin.Goals as goal
 
 pub returns-in-Some : goal.returns-in-Some

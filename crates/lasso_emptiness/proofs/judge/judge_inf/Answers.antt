@@ -1,4 +1,4 @@
-use Rattle.lasso_emptiness.proofs.Marked.{inf_met, inf_never}
+use Rattle.lasso_emptiness.proofs.conditions.Marked.{inf_met, inf_never}
 use Rattle.lasso_emptiness.proofs.judge.judge_inf.Goals as goal
 
 pub returns-in-Some : goal.returns-in-Some

@@ -1,7 +1,7 @@
 use Rattle.std.proofs.Common.{◌≡◌, ◌∙◌, [], false, get_or, sym, true}
 use Rattle.std.proofs.lemmas.Bool.{true≢false}
 use Rattle.lasso_emptiness.specs.declared.live.LiveEdge.{LiveEdge}
-use Rattle.lasso_emptiness.proofs.Picking.{picks_more, picks_skip}
+use Rattle.lasso_emptiness.proofs.components.Picking.{picks_more, picks_skip}
 use Rattle.lasso_emptiness.proofs.live.flagged_edges.Goals as goal
 
 pub edges-preserved : goal.edges-preserved

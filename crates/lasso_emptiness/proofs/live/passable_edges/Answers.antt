@@ -1,10 +1,10 @@
 use Rattle.std.proofs.Common.{◌∙◌, List, ap, arith, length, slice_get, subst, sym}
 use Rattle.std.proofs.lemmas.Bool.{true≢false}
-use Rattle.aut_base.proofs.Lists.{slice_get-at}
+use Rattle.aut_base.proofs.lists.Lists.{slice_get-at}
 use Rattle.aut_core.specs.declared.link.Link.{Link}
 use Rattle.label_guards.specs.Guards.{IsNeverMet}
 use Rattle.label_guards.specs.Store.{Store}
-use Rattle.lasso_emptiness.proofs.Passable.{passable_all, passable_pushed, passable_skipped}
+use Rattle.lasso_emptiness.proofs.trails.Passable.{passable_all, passable_pushed, passable_skipped}
 use Rattle.lasso_emptiness.proofs.live.passable_edges.Goals as goal
 
 pub links-preserved : goal.links-preserved

@@ -1,5 +1,5 @@
 -- The edges so far are all passable ones of the links so far.
-use Rattle.lasso_emptiness.proofs.Passable.{PassableBelow}
+use Rattle.lasso_emptiness.proofs.trails.Passable.{PassableBelow}
 use Rattle.lasso_emptiness.proofs.live.passable_edges.Given as goal
 
 abbrev pub invariant-links : goal.invariant-links

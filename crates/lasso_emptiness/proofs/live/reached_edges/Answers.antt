@@ -4,8 +4,8 @@ use Rattle.std.proofs.lemmas.Result.{IfOk-weaker}
 use Rattle.lasso_emptiness.specs.declared.live.LiveEdge.{LiveEdge}
 use Rattle.lasso_emptiness.specs.inner.Live.{AreReachedEdges}
 use Rattle.lasso_emptiness.specs.inner.Picked.{Picks}
-use Rattle.lasso_emptiness.proofs.Picking.{flagged_are_reached}
-use Rattle.lasso_emptiness.proofs.Trails.{has_nodes}
+use Rattle.lasso_emptiness.proofs.components.Picking.{flagged_are_reached}
+use Rattle.lasso_emptiness.proofs.trails.Trails.{has_nodes}
 use Rattle.lasso_emptiness.proofs.live.reached_edges.Goals as goal
 
 pub reach-requires-clause-nodes : goal.reach-requires-clause-nodes

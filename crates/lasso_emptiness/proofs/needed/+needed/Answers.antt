@@ -2,19 +2,19 @@ use Rattle.std.proofs.Common.{◌∙◌, List, ap, arith, map, subst, sym}
 use Rattle.std.specs.List.{All, Contains}
 use Rattle.std.specs.Prelude.{OnOk}
 use Rattle.std.proofs.lemmas.Option.{same_Some}
-use Rattle.aut_base.proofs.Members.{all_passes_at}
+use Rattle.aut_base.proofs.lists.Members.{all_passes_at}
 use Rattle.aut_base.proofs.Outcomes.{ok_weaker}
 use Rattle.aut_base.specs.Formula.{formula_list, formula_size, formula_tree, met}
 use Rattle.aut_base.specs.declared.formula.Formula.{Formula}
-use Rattle.aut_base.proofs.FormulaSizes.{formula_size-And, formula_size-Or, formula_size-at}
-use Rattle.aut_base.proofs.FormulaTrees.{formula_tree-Fin, formula_tree-True}
-use Rattle.aut_base.proofs.Steps.{any_more}
+use Rattle.aut_base.proofs.trees.FormulaSizes.{formula_size-And, formula_size-Or, formula_size-at}
+use Rattle.aut_base.proofs.trees.FormulaTrees.{formula_tree-Fin, formula_tree-True}
+use Rattle.aut_base.proofs.lists.Steps.{any_more}
 use Rattle.acc_forms.proofs.Parts.{met-And, met-Or}
 use Rattle.lasso_emptiness.specs.declared.live.LiveEdge.{LiveEdge}
 use Rattle.lasso_emptiness.specs.inner.Edges.{marks_of, met_along}
 use Rattle.lasso_emptiness.specs.inner.Needed.{Serves, ServesAll, ServesOne}
-use Rattle.lasso_emptiness.proofs.Judgements.{not_met}
-use Rattle.lasso_emptiness.proofs.Sufficient.{fin_fewer, serves-And, serves-Or, suits_all_more, suits_one, suits_same}
+use Rattle.lasso_emptiness.proofs.conditions.Judgements.{not_met}
+use Rattle.lasso_emptiness.proofs.conditions.Sufficient.{fin_fewer, serves-And, serves-Or, suits_all_more, suits_one, suits_same}
 use Rattle.lasso_emptiness.proofs.needed.+needed.Goals as goal
 
 pub add_for_all-add_needed-requires : goal.add_for_all-add_needed-requires

@@ -7,8 +7,8 @@ use Rattle.aut_base.specs.Formula.{Inf}
 use Rattle.lasso_emptiness.specs.declared.live.LiveEdge.{LiveEdge}
 use Rattle.lasso_emptiness.specs.inner.Edges.{marks_of, on_side}
 use Rattle.lasso_emptiness.specs.inner.Needed.{Serves}
-use Rattle.lasso_emptiness.proofs.Marked.{inf_not_met}
-use Rattle.lasso_emptiness.proofs.Sufficient.{inf_added, inf_there}
+use Rattle.lasso_emptiness.proofs.conditions.Marked.{inf_not_met}
+use Rattle.lasso_emptiness.proofs.conditions.Sufficient.{inf_added, inf_there}
 use Rattle.lasso_emptiness.proofs.needed.add_on_side.Goals as goal
 
 pub first_of-requires : goal.first_of-requires

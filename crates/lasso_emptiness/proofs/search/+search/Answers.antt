@@ -2,7 +2,7 @@ use Rattle.std.proofs.Common.{◌<◌, List, ap, arith, false, length, subst, sy
 use Rattle.std.specs.List.{All, Contains}
 use Rattle.std.proofs.lemmas.List.Elements.{All-contains}
 use Rattle.std.proofs.lemmas.Result.{IfOk-weaker}
-use Rattle.aut_base.proofs.Members.{each_there}
+use Rattle.aut_base.proofs.lists.Members.{each_there}
 use Rattle.aut_base.proofs.Outcomes.{none_said, some_said}
 use Rattle.aut_base.specs.Formula.{FormulaTree, formula_tree}
 use Rattle.lasso_emptiness.specs.declared.live.LiveEdge.{LiveEdge}
@@ -11,8 +11,8 @@ use Rattle.lasso_emptiness.specs.inner.Groups.{IsJoined}
 use Rattle.lasso_emptiness.specs.inner.Judged.{fins}
 use Rattle.lasso_emptiness.specs.inner.Splits.{IsSurveyed}
 use Rattle.lasso_emptiness.specs.inner.Trails.{Finds, FindsInAny, InSome, IsAccepting, NoneAccepting}
-use Rattle.lasso_emptiness.proofs.Conditions.{fins-taken}
-use Rattle.lasso_emptiness.proofs.Searching.{accepting_weaker, finds_of_groups, finds_of_split, found_off, within_all}
+use Rattle.lasso_emptiness.proofs.conditions.Conditions.{fins-taken}
+use Rattle.lasso_emptiness.proofs.components.Searching.{accepting_weaker, finds_of_groups, finds_of_split, found_off, within_all}
 use Rattle.lasso_emptiness.proofs.search.+search.Goals as goal
 
 pub search-search_in-requires : goal.search-search_in-requires

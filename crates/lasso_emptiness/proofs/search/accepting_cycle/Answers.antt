@@ -5,7 +5,7 @@ use Rattle.aut_base.specs.Formula.{formula_tree}
 use Rattle.lasso_emptiness.specs.declared.live.LiveEdge.{LiveEdge}
 use Rattle.lasso_emptiness.specs.inner.Tours.{IsTour}
 use Rattle.lasso_emptiness.specs.inner.Trails.{IsAccepting}
-use Rattle.lasso_emptiness.proofs.Searching.{accepting_tour}
+use Rattle.lasso_emptiness.proofs.components.Searching.{accepting_tour}
 use Rattle.lasso_emptiness.proofs.search.accepting_cycle.Goals as goal
 
 pub returns : goal.returns

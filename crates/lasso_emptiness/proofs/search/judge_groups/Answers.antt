@@ -7,7 +7,7 @@ use Rattle.aut_base.specs.Formula.{formula_tree}
 use Rattle.lasso_emptiness.specs.declared.live.LiveEdge.{LiveEdge}
 use Rattle.lasso_emptiness.specs.inner.Edges.{marks_of, met_along}
 use Rattle.lasso_emptiness.specs.inner.Judged.{IsNever}
-use Rattle.lasso_emptiness.proofs.Dividing.{JudgedSoFar, judged_all_never, judged_all_open, judged_met, judged_never, judged_open, none_in_empty, none_in_never, popped_item}
+use Rattle.lasso_emptiness.proofs.components.Dividing.{JudgedSoFar, judged_all_never, judged_all_open, judged_met, judged_never, judged_open, none_in_empty, none_in_never, popped_item}
 use Rattle.lasso_emptiness.proofs.search.judge_groups.Goals as goal
 
 pub judge-requires : goal.judge-requires

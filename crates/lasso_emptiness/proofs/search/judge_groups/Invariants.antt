@@ -1,6 +1,6 @@
 use Rattle.std.proofs.Common.{length}
 use Rattle.aut_base.specs.Formula.{formula_tree}
-use Rattle.lasso_emptiness.proofs.Dividing.{JudgedSoFar}
+use Rattle.lasso_emptiness.proofs.components.Dividing.{JudgedSoFar}
 use Rattle.lasso_emptiness.proofs.search.judge_groups.Given as goal
 
 abbrev pub invariant-groups : goal.invariant-groups

@@ -2,7 +2,7 @@ use Rattle.std.proofs.Common.{◌≡◌, ◌∙◌, false, sym}
 use Rattle.std.proofs.lemmas.Bool.{true≢false}
 use Rattle.lasso_emptiness.specs.declared.live.LiveEdge.{LiveEdge}
 use Rattle.lasso_emptiness.specs.inner.Edges.{marks_of, on_side}
-use Rattle.lasso_emptiness.proofs.Picking.{picks_more, picks_skip}
+use Rattle.lasso_emptiness.proofs.components.Picking.{picks_more, picks_skip}
 use Rattle.lasso_emptiness.proofs.split.add_off_side.Goals as goal
 
 pub edges-preserved : goal.edges-preserved

@@ -5,7 +5,7 @@ use Rattle.aut_base.proofs.Outcomes.{none_from}
 use Rattle.lasso_emptiness.specs.declared.live.LiveEdge.{LiveEdge}
 use Rattle.lasso_emptiness.specs.inner.Edges.{marks_of, on_side}
 use Rattle.lasso_emptiness.specs.inner.Splits.{AddsOff}
-use Rattle.lasso_emptiness.proofs.Dividing.{divided_all, divided_crossed, divided_off, popped_item}
+use Rattle.lasso_emptiness.proofs.components.Dividing.{divided_all, divided_crossed, divided_off, popped_item}
 use Rattle.lasso_emptiness.proofs.split.divide.Goals as goal
 
 pub add_off_side-requires : goal.add_off_side-requires

@@ -1,5 +1,5 @@
 use Rattle.std.proofs.Common.{length}
-use Rattle.lasso_emptiness.proofs.Dividing.{DividedSoFar}
+use Rattle.lasso_emptiness.proofs.components.Dividing.{DividedSoFar}
 use Rattle.lasso_emptiness.proofs.split.divide.Given as goal
 
 abbrev pub invariant-groups : goal.invariant-groups

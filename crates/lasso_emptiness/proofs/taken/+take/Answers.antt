@@ -1,9 +1,9 @@
 use Rattle.std.proofs.Common.{◌∙◌, ap, sym, arith}
 use Rattle.aut_base.specs.Formula.{formula_tree, formula_list}
-use Rattle.aut_base.proofs.FormulaSizes.{formula_size-at}
-use Rattle.aut_base.proofs.Steps.{map_more}
+use Rattle.aut_base.proofs.trees.FormulaSizes.{formula_size-at}
+use Rattle.aut_base.proofs.lists.Steps.{map_more}
 use Rattle.lasso_emptiness.specs.inner.Taken.{taken}
-use Rattle.lasso_emptiness.proofs.Parts.{taken-And, taken-Or}
+use Rattle.lasso_emptiness.proofs.conditions.Parts.{taken-And, taken-Or}
 use Rattle.lasso_emptiness.proofs.taken.+take.Goals as goal
 
 pub take-returns-in_ok-take_parts-in-And : goal.take-returns-in_ok-take_parts-in-And

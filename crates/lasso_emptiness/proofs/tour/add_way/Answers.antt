@@ -4,8 +4,8 @@ use Rattle.aut_base.proofs.Outcomes.{ok_weaker, some_said}
 use Rattle.graph_walk.specs.Path.{IsShortest}
 use Rattle.graph_walk.specs.Walk.{Reaches}
 use Rattle.lasso_emptiness.specs.inner.Tours.{GoesOn, edge_at}
-use Rattle.lasso_emptiness.proofs.Touring.{way_added}
-use Rattle.lasso_emptiness.proofs.Trails.{has_nodes}
+use Rattle.lasso_emptiness.proofs.trails.Touring.{way_added}
+use Rattle.lasso_emptiness.proofs.trails.Trails.{has_nodes}
 use Rattle.lasso_emptiness.proofs.tour.add_way.Goals as goal
 
 pub path-requires-clause-nodes : goal.path-requires-clause-nodes

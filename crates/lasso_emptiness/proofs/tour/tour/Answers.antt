@@ -3,7 +3,7 @@ use Rattle.std.specs.List.{All, Contains}
 use Rattle.std.proofs.lemmas.List.Elements.{All-contains, All-get_or}
 use Rattle.lasso_emptiness.specs.declared.live.LiveEdge.{LiveEdge}
 use Rattle.lasso_emptiness.specs.inner.Tours.{edge_at}
-use Rattle.lasso_emptiness.proofs.Touring.{ToursSoFar, tours_all, tours_more, tours_none, tours_reaches}
+use Rattle.lasso_emptiness.proofs.trails.Touring.{ToursSoFar, tours_all, tours_more, tours_none, tours_reaches}
 use Rattle.lasso_emptiness.proofs.tour.tour.Goals as goal
 
 pub needed-init : goal.needed-init

@@ -1,6 +1,6 @@
 -- The edges so far are passed, from where the first begins on.
 use Rattle.std.proofs.Common.{◌<◌, take}
-use Rattle.lasso_emptiness.proofs.Touring.{ToursSoFar}
+use Rattle.lasso_emptiness.proofs.trails.Touring.{ToursSoFar}
 use Rattle.lasso_emptiness.proofs.tour.tour.Given as goal
 
 abbrev pub invariant-needed : goal.invariant-needed

@@ -1,6 +1,6 @@
 use Rattle.std.proofs.Common.{◌<◌, List, map, length, subst, sym}
 use Rattle.std.specs.List.{All, Contains}
-use Rattle.aut_base.proofs.Members.{each_there}
+use Rattle.aut_base.proofs.lists.Members.{each_there}
 use Rattle.aut_base.proofs.Outcomes.{none_said, some_said}
 use Rattle.aut_base.specs.Formula.{formula_tree}
 use Rattle.aut_core.specs.declared.link.Link.{Link}
@@ -9,9 +9,9 @@ use Rattle.lasso_emptiness.specs.declared.live.LiveEdge.{LiveEdge}
 use Rattle.lasso_emptiness.specs.inner.Edges.{IsWithin, arc_of}
 use Rattle.lasso_emptiness.specs.inner.Live.{AreReachedEdges, IsPassable}
 use Rattle.lasso_emptiness.specs.inner.Trails.{IsAccepting, NoneAccepting}
-use Rattle.lasso_emptiness.proofs.Accepted.{accepts_nothing, along_passable, finds_in, leaves_reached, reduced_word}
-use Rattle.lasso_emptiness.proofs.Lettered.{passable_within}
-use Rattle.lasso_emptiness.proofs.Trails.{trail_kind}
+use Rattle.lasso_emptiness.proofs.trails.Accepted.{accepts_nothing, along_passable, finds_in, leaves_reached, reduced_word}
+use Rattle.lasso_emptiness.proofs.trails.Lettered.{passable_within}
+use Rattle.lasso_emptiness.proofs.trails.Trails.{trail_kind}
 use Rattle.lasso_emptiness.proofs.word.accepted_word.Goals as goal
 
 pub reached_edges-requires : goal.reached_edges-requires

@@ -3,7 +3,7 @@ use Rattle.aut_base.proofs.Outcomes.{none_said, some_said}
 use Rattle.aut_core.specs.declared.link.Link.{Link}
 use Rattle.label_guards.specs.Guards.{IsNeverMet}
 use Rattle.label_guards.specs.Leasts.{IsLeastLetter}
-use Rattle.lasso_emptiness.proofs.Lettered.{never_picked, picked_letter}
+use Rattle.lasso_emptiness.proofs.trails.Lettered.{never_picked, picked_letter}
 use Rattle.lasso_emptiness.proofs.word.letter_on.Goals as goal
 
 pub returns-in-Some : goal.returns-in-Some

@@ -1,11 +1,11 @@
 use Rattle.std.proofs.Common.{◌∷◌, ◌++◌, [], List, subst, sym, take}
 use Rattle.std.proofs.lemmas.List.{get_or_default}
-use Rattle.aut_base.proofs.Lists.{take-push}
+use Rattle.aut_base.proofs.lists.Lists.{take-push}
 use Rattle.aut_base.specs.Word.{NameSet}
 use Rattle.lasso_emptiness.specs.declared.live.LiveEdge.{LiveEdge}
 use Rattle.lasso_emptiness.specs.inner.Letters.{AreLettersOf}
 use Rattle.lasso_emptiness.specs.inner.Tours.{edge_at}
-use Rattle.lasso_emptiness.proofs.Lettered.{letters_push}
+use Rattle.lasso_emptiness.proofs.trails.Lettered.{letters_push}
 use Rattle.lasso_emptiness.proofs.word.letters_along.Goals as goal
 
 pub edges-preserved : goal.edges-preserved

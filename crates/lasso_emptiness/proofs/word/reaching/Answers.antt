@@ -4,7 +4,7 @@ use Rattle.std.proofs.lemmas.Result.{IfOk-weaker}
 use Rattle.graph_walk.specs.Reach.{AreReached}
 use Rattle.graph_walk.specs.Walk.{Reaches}
 use Rattle.lasso_emptiness.specs.inner.Edges.{arc_of}
-use Rattle.lasso_emptiness.proofs.Backwards.{has_nodes_back, reaching_exact}
+use Rattle.lasso_emptiness.proofs.trails.Backwards.{has_nodes_back, reaching_exact}
 use Rattle.lasso_emptiness.proofs.word.reaching.Goals as goal
 
 pub reach-requires-clause-nodes : goal.reach-requires-clause-nodes

@@ -1,14 +1,14 @@
 use Rattle.std.proofs.Common.{◌<◌, List, refl, subst, sym}
 use Rattle.std.specs.List.{All, Contains}
 use Rattle.std.proofs.lemmas.List.Elements.{Contains-get_or}
-use Rattle.aut_base.proofs.Members.{each_there}
+use Rattle.aut_base.proofs.lists.Members.{each_there}
 use Rattle.lasso_emptiness.specs.declared.live.LiveEdge.{LiveEdge}
 use Rattle.lasso_emptiness.specs.inner.Letters.{AreLettersOf}
 use Rattle.lasso_emptiness.specs.inner.Live.{IsPassable}
 use Rattle.lasso_emptiness.specs.inner.Tours.{edge_at}
-use Rattle.lasso_emptiness.proofs.Accepted.{own_word}
-use Rattle.lasso_emptiness.proofs.Lettered.{passable_within}
-use Rattle.lasso_emptiness.proofs.Trails.{trail_kind}
+use Rattle.lasso_emptiness.proofs.trails.Accepted.{own_word}
+use Rattle.lasso_emptiness.proofs.trails.Lettered.{passable_within}
+use Rattle.lasso_emptiness.proofs.trails.Trails.{trail_kind}
 use Rattle.lasso_emptiness.proofs.word.word_around.Goals as goal
 
 pub stem_to-requires-clause-ends : goal.stem_to-requires-clause-ends

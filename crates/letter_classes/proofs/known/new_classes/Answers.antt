@@ -1,7 +1,7 @@
 use Rattle.std.proofs.Common.{◌∙◌, List, ap, arith, length, subst, sym}
 use Rattle.std.proofs.lemmas.List.Elements.{All-weaker}
 use Rattle.aut_base.proofs.Outcomes.{none_said, some_said}
-use Rattle.label_guards.proofs.ClassLeastLaws.{more_by_leasts}
+use Rattle.label_guards.proofs.alike.ClassLeastLaws.{more_by_leasts}
 use Rattle.label_guards.specs.Classes.{AreClasses, HasMoreClasses}
 use Rattle.label_guards.specs.Store.{Has}
 use Rattle.label_guards.specs.declared.guard.Guard.{Guard}

@@ -1,6 +1,6 @@
 use Rattle.std.proofs.Common.{◌≡◌, ◌∙◌, ◌++◌, [], ◌∷◌, ℕ, List, ap, length, map}
 use Rattle.std.proofs.lemmas.Result.{IfOk-weaker}
-use Rattle.aut_base.proofs.FormulaTrees.{formula_tree-True}
+use Rattle.aut_base.proofs.trees.FormulaTrees.{formula_tree-True}
 use Rattle.aut_base.specs.Formula.{formula_tree}
 use Rattle.aut_base.specs.declared.formula.Formula.TheVariants.{True}
 use Rattle.aut_core.specs.Core.{automaton_of}

@@ -2,9 +2,9 @@ use Rattle.std.proofs.Common.{◌∙◌, ◌+◌, ◌-◌, ap, arith, false, sub
 use Rattle.std.proofs.lemmas.Result.{IfOk-weaker}
 use Rattle.acc_forms.proofs.FormulaSets.{sets_weaker}
 use Rattle.acc_forms.specs.Joined.{conj}
-use Rattle.aut_base.proofs.FormulaTrees.{formula_tree-Inf}
+use Rattle.aut_base.proofs.trees.FormulaTrees.{formula_tree-Inf}
 use Rattle.aut_base.specs.Formula.{SetsBelow, formula_tree}
-use Rattle.unambiguous.proofs.Sums.{both_below}
+use Rattle.unambiguous.proofs.deciding.Sums.{both_below}
 use Rattle.unambiguous.proofs.condition.flagged_condition.Goals as goal
 
 pub shift-requires : goal.shift-requires

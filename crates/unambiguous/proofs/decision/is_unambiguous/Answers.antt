@@ -1,5 +1,5 @@
 use Rattle.aut_core.specs.Core.{automaton_of}
-use Rattle.unambiguous.proofs.Verdicts.{verdict}
+use Rattle.unambiguous.proofs.deciding.Verdicts.{verdict}
 use Rattle.unambiguous.proofs.decision.is_unambiguous.Goals as goal
 
 pub returns-clause-answer : goal.returns-clause-answer

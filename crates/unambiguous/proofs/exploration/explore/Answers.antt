@@ -1,6 +1,6 @@
 use Rattle.std.proofs.Common.{◌++◌, List, ap, arith, length, length-append, subst}
-use Rattle.unambiguous.proofs.Explored.{explored_more}
-use Rattle.unambiguous.proofs.Stages.{Flagged, kept_on, state_within, states_few}
+use Rattle.unambiguous.proofs.growing.Explored.{explored_more}
+use Rattle.unambiguous.proofs.growing.Stages.{Flagged, kept_on, state_within, states_few}
 use Rattle.unambiguous.specs.inner.Stages.{IsExplored}
 use Rattle.unambiguous.proofs.exploration.explore.Goals as goal
 

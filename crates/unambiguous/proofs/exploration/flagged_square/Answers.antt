@@ -2,8 +2,8 @@ use Rattle.std.proofs.Common.{◌∙◌, ap, arith, subst, sym}
 use Rattle.std.specs.List.{range_with_len}
 use Rattle.aut_base.specs.Formula.{formula_tree}
 use Rattle.aut_core.specs.Core.{Core, automaton_of}
-use Rattle.unambiguous.proofs.Explored.{all_made, few_pairs}
-use Rattle.unambiguous.proofs.Stages.{states_few}
+use Rattle.unambiguous.proofs.growing.Explored.{all_made, few_pairs}
+use Rattle.unambiguous.proofs.growing.Stages.{states_few}
 use Rattle.unambiguous.specs.Square.{IsFlaggedSquare}
 use Rattle.unambiguous.proofs.exploration.flagged_square.Goals as goal
 

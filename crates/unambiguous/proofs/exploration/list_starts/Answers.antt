@@ -2,9 +2,9 @@ use Rattle.std.proofs.Common.{◌≡◌, ◌∙◌, ◌==◌, ℕ, not, List, Co
 use Rattle.std.proofs.lemmas.Bool.{cases_lt}
 use Rattle.std.proofs.lemmas.List.{get_or_default}
 use Rattle.std.proofs.lemmas.Option.{same_Some, slice_get_within}
-use Rattle.aut_base.proofs.Lists.{slice_get-at}
-use Rattle.aut_base.proofs.Members.{there_at}
-use Rattle.unambiguous.proofs.Explored.{kept_there}
+use Rattle.aut_base.proofs.lists.Lists.{slice_get-at}
+use Rattle.aut_base.proofs.lists.Members.{there_at}
+use Rattle.unambiguous.proofs.growing.Explored.{kept_there}
 use Rattle.unambiguous.proofs.exploration.list_starts.Goals as goal
 
 pub starts-preserved : goal.starts-preserved

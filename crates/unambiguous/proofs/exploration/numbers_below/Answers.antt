@@ -1,6 +1,6 @@
 use Rattle.std.proofs.Common.{◌+◌, ◌++◌, ◌∷◌, ◌∙◌, ◌≡◌, [], ap, arith, sym}
 use Rattle.std.specs.List.{range_with_len}
-use Rattle.aut_base.proofs.Lists.{range_more}
+use Rattle.aut_base.proofs.lists.Lists.{range_more}
 use Rattle.unambiguous.proofs.exploration.numbers_below.Goals as goal
 
 pub numbers-preserved : goal.numbers-preserved

@@ -1,4 +1,4 @@
-use Rattle.unambiguous.proofs.Sums.{joint_below}
+use Rattle.unambiguous.proofs.deciding.Sums.{joint_below}
 use Rattle.unambiguous.proofs.flagged_marks.flagged_marks.Goals as goal
 
 pub push-requires : goal.push-requires

@@ -1,4 +1,4 @@
-use Rattle.unambiguous.proofs.Starts as law
+use Rattle.unambiguous.proofs.tracks.Starts as law
 use Rattle.unambiguous.proofs.law.places_fix_start.Goals as goal
 
 pub returns : goal.returns

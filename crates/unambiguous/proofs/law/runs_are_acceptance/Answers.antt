@@ -1,4 +1,4 @@
-use Rattle.unambiguous.proofs.Accepted as law
+use Rattle.unambiguous.proofs.tracks.Accepted as law
 use Rattle.unambiguous.proofs.law.runs_are_acceptance.Goals as goal
 
 pub returns : goal.returns

@@ -1,4 +1,4 @@
-use Rattle.unambiguous.proofs.Decided.{square_accepts}
+use Rattle.unambiguous.proofs.deciding.Decided.{square_accepts}
 use Rattle.unambiguous.proofs.law.square_accepts.Goals as goal
 
 pub returns : goal.returns

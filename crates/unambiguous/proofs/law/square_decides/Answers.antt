@@ -1,4 +1,4 @@
-use Rattle.unambiguous.proofs.Decided.{square_decides}
+use Rattle.unambiguous.proofs.deciding.Decided.{square_decides}
 use Rattle.unambiguous.proofs.law.square_decides.Goals as goal
 
 pub returns : goal.returns

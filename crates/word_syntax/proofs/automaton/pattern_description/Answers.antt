@@ -1,10 +1,10 @@
 use Rattle.std.proofs.Common.{List, [], ap, arith, length, map, ◌+◌, ◌++◌, ◌∷◌, ◌∙◌, ◌≡◌, ℕ}
 use Rattle.std.proofs.lemmas.List.{length-append, length-map}
-use Rattle.aut_base.proofs.FormulaTrees.{formula_tree-True}
+use Rattle.aut_base.proofs.trees.FormulaTrees.{formula_tree-True}
 use Rattle.aut_base.specs.Automaton.{tree_edge}
 use Rattle.aut_base.specs.Label.{label_tree}
 use Rattle.aut_base.specs.declared.label.Label.{Label}
-use Rattle.word_syntax.proofs.PatternEdges.{all_edges, edges_number, made_automaton}
+use Rattle.word_syntax.proofs.matching.PatternEdges.{all_edges, edges_number, made_automaton}
 use Rattle.word_syntax.specs.Matching.{edges_along}
 use Rattle.word_syntax.proofs.automaton.pattern_description.Goals as goal
 

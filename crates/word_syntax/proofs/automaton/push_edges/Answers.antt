@@ -1,5 +1,5 @@
 use Rattle.std.proofs.Common.{arith, length, refl, ◌+◌, ◌∙◌, ◌≡◌}
-use Rattle.word_syntax.proofs.PatternEdges.{edge_more, made_edge, one_more_edge}
+use Rattle.word_syntax.proofs.matching.PatternEdges.{edge_more, made_edge, one_more_edge}
 use Rattle.word_syntax.proofs.automaton.push_edges.Goals as goal
 
 pub labels-preserved : goal.labels-preserved

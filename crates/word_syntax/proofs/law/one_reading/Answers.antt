@@ -1,4 +1,4 @@
-use Rattle.word_syntax.proofs.Readings.{one_reading}
+use Rattle.word_syntax.proofs.texts.Readings.{one_reading}
 use Rattle.word_syntax.proofs.law.one_reading.Goals as goal
 
 pub returns : goal.returns

@@ -1,4 +1,4 @@
-use Rattle.word_syntax.proofs.OneReduced.{one_reduced_lasso}
+use Rattle.word_syntax.proofs.lassos.OneReduced.{one_reduced_lasso}
 use Rattle.word_syntax.proofs.law.one_reduced_lasso.Goals as goal
 
 pub returns : goal.returns

@@ -1,4 +1,4 @@
-use Rattle.word_syntax.proofs.PrintedWords.{printed_is_read_back}
+use Rattle.word_syntax.proofs.printing.PrintedWords.{printed_is_read_back}
 use Rattle.word_syntax.proofs.law.printed_is_read_back.Goals as goal
 
 pub returns : goal.returns

@@ -1,4 +1,4 @@
-use Rattle.word_syntax.proofs.Nots.{nots_more}
+use Rattle.word_syntax.proofs.grammar.Nots.{nots_more}
 use Rattle.word_syntax.proofs.letter.negated.Goals as goal
 
 pub nots-preserved : goal.nots-preserved

@@ -1,6 +1,6 @@
 use Rattle.std.proofs.Common.{List, ap, ℕ, ◌∙◌}
 use Rattle.std.specs.FinSet as set
-use Rattle.word_syntax.proofs.LetterSame.{name_copied}
+use Rattle.word_syntax.proofs.lassos.LetterSame.{name_copied}
 use Rattle.word_syntax.proofs.letters.copy_letter.Goals as goal
 
 pub names-preserved : goal.names-preserved

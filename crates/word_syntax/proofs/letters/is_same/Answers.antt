@@ -1,5 +1,5 @@
 use Rattle.std.proofs.Common.{sym}
-use Rattle.word_syntax.proofs.LetterSame.{letters_same, letters_within}
+use Rattle.word_syntax.proofs.lassos.LetterSame.{letters_same, letters_within}
 use Rattle.word_syntax.proofs.letters.is_same.Goals as goal
 
 pub returns-then-is_within : goal.returns-then-is_within

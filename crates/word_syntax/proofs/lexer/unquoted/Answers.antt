@@ -1,5 +1,5 @@
 use Rattle.std.proofs.Common.{arith}
-use Rattle.word_syntax.proofs.Strings.{string_closes, string_escapes, string_goes_on}
+use Rattle.word_syntax.proofs.texts.Strings.{string_closes, string_escapes, string_goes_on}
 use Rattle.word_syntax.proofs.lexer.unquoted.Goals as goal
 
 pub returns-in-34-clause-value : goal.returns-in-34-clause-value

@@ -1,7 +1,7 @@
 use Rattle.std.proofs.Common.{◌≡◌, ◌-◌, ◌≤◌, length, drop}
 use Rattle.std.specs.Option.{option_map}
 use Rattle.word_syntax.specs.inner.Fronts.{unquoted}
-use Rattle.word_syntax.proofs.Strings.{quoted_after}
+use Rattle.word_syntax.proofs.texts.Strings.{quoted_after}
 use Rattle.word_syntax.proofs.lexer.unquoted.Given as goal
 
 abbrev pub invariant-bytes : goal.invariant-bytes

@@ -1,5 +1,5 @@
 use Rattle.std.proofs.Common.{◌+◌, ◌≤◌, arith, length}
-use Rattle.word_syntax.proofs.NextTokens.{blank_bound, found_next, found_nothing}
+use Rattle.word_syntax.proofs.texts.NextTokens.{blank_bound, found_next, found_nothing}
 use Rattle.word_syntax.proofs.next.next_token.Goals as goal
 
 pub overflow_add-start : goal.overflow_add-start

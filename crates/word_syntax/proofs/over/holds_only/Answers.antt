@@ -1,5 +1,5 @@
 use Rattle.std.proofs.Common.{refl}
-use Rattle.word_syntax.proofs.OverNames.{all_held, held_more, members_of, not_held}
+use Rattle.word_syntax.proofs.printing.OverNames.{all_held, held_more, members_of, not_held}
 use Rattle.word_syntax.proofs.over.holds_only.Goals as goal
 
 pub returns-then-not-has : goal.returns-then-not-has

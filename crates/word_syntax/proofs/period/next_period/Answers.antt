@@ -1,6 +1,6 @@
 use Rattle.std.proofs.Common.{arith, false, rules, true, ◌-◌, ◌≡◌}
-use Rattle.word_syntax.proofs.LeastPeriods.{candidate_agrees, candidate_next, candidate_start, least_small}
-use Rattle.word_syntax.proofs.LetterSame.{differ_between, same_between}
+use Rattle.word_syntax.proofs.lassos.LeastPeriods.{candidate_agrees, candidate_next, candidate_start, least_small}
+use Rattle.word_syntax.proofs.lassos.LetterSame.{differ_between, same_between}
 use Rattle.word_syntax.proofs.period.next_period.Goals as goal
 
 pub candidates-init : goal.candidates-init

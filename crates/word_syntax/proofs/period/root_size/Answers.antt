@@ -1,6 +1,6 @@
 use Rattle.std.proofs.Common.{arith, length, subst, sym, ℕ}
 use Rattle.std.proofs.lemmas.List.{get_or_read}
-use Rattle.word_syntax.proofs.LeastPeriods.{root_shorter, root_whole}
+use Rattle.word_syntax.proofs.lassos.LeastPeriods.{root_shorter, root_whole}
 use Rattle.word_syntax.specs.inner.Periods.{IsLeastPeriod}
 use Rattle.word_syntax.proofs.period.root_size.Goals as goal
 

@@ -1,6 +1,6 @@
 use Rattle.std.proofs.Common.{arith, false, inl, inr, rules, true, ◌-◌, ◌≡◌}
-use Rattle.word_syntax.proofs.LetterSame.{differ_between, same_between}
-use Rattle.word_syntax.proofs.ReducedWords.{Before, before_inside, shared_end, shared_step}
+use Rattle.word_syntax.proofs.lassos.LetterSame.{differ_between, same_between}
+use Rattle.word_syntax.proofs.lassos.ReducedWords.{Before, before_inside, shared_end, shared_step}
 use Rattle.word_syntax.proofs.period.shared_end.Goals as goal
 use Rattle.word_syntax.proofs.period.shared_end.Goals.{then-from-eq0, else-from-eq0}
 

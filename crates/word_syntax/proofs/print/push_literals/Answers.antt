@@ -1,5 +1,5 @@
 use Rattle.std.proofs.Common.{List, ap, arith, codes, ℕ, ◌++◌, ◌∙◌}
-use Rattle.word_syntax.proofs.Joining.{joined_more}
+use Rattle.word_syntax.proofs.printing.Joining.{joined_more}
 use Rattle.word_syntax.specs.Printing as printing
 use Rattle.word_syntax.proofs.print.push_literals.Goals as goal
 

@@ -1,4 +1,4 @@
-use Rattle.word_syntax.proofs.WordAnswers.{name_found, no_name, no_token_no_name}
+use Rattle.word_syntax.proofs.texts.WordAnswers.{name_found, no_name, no_token_no_name}
 use Rattle.word_syntax.proofs.read.read_name.Goals as goal
 
 pub returns-in-Name : goal.returns-in-Name

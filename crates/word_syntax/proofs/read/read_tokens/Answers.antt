@@ -1,4 +1,4 @@
-use Rattle.word_syntax.proofs.Midways.{midway_more, stopped_at_bytes, stopped_at_token}
+use Rattle.word_syntax.proofs.texts.Midways.{midway_more, stopped_at_bytes, stopped_at_token}
 use Rattle.word_syntax.proofs.read.read_tokens.Goals as goal
 
 pub returns-in_default : goal.returns-in_default

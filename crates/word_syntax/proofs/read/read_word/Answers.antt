@@ -1,8 +1,8 @@
 use Rattle.std.proofs.Common.{◌<◌, ◌^◌, arith, length}
 use Rattle.std.proofs.lemmas.List.{length-map}
 use Rattle.aut_base.specs.Label.{label_tree}
-use Rattle.word_syntax.proofs.BelowNames.{cycle_below, some_cycle, stem_below}
-use Rattle.word_syntax.proofs.WordAnswers.{passed_on, word_ended, word_written}
+use Rattle.word_syntax.proofs.matching.BelowNames.{cycle_below, some_cycle, stem_below}
+use Rattle.word_syntax.proofs.texts.WordAnswers.{passed_on, word_ended, word_written}
 use Rattle.word_syntax.proofs.read.read_word.Goals as goal
 
 pub returns-in_err-names : goal.returns-in_err-names

@@ -1,6 +1,6 @@
 use Rattle.std.proofs.Common.{List, ap, drop, subst, take, ◌++◌, ◌∙◌}
 use Rattle.aut_base.specs.Word.{NameSet}
-use Rattle.word_syntax.proofs.ReducedWords.{made_accepted, made_reduced, made_same}
+use Rattle.word_syntax.proofs.lassos.ReducedWords.{made_accepted, made_reduced, made_same}
 use Rattle.word_syntax.specs.inner.Periods.{IsRoot, IsShared}
 use Rattle.word_syntax.proofs.reduced.reduce.Goals as goal
 

@@ -1,7 +1,7 @@
 use Rattle.std.proofs.Common.{arith}
 use Rattle.aut_base.specs.Label.{label_tree}
-use Rattle.aut_base.proofs.LabelTrees.{label_list-fields}
-use Rattle.aut_base.proofs.Places.{tree_behind_two}
+use Rattle.aut_base.proofs.trees.LabelTrees.{label_list-fields}
+use Rattle.aut_base.proofs.trees.Places.{tree_behind_two}
 use Rattle.aut_base.proofs.label.Labels.at.Goals as goal
 
 pub returns-in_default : goal.returns-in_default

@@ -1,6 +1,6 @@
 use Rattle.std.proofs.Common.{◌∙◌, sym, ap}
 use Rattle.std.specs.FinSet.{insert}
-use Rattle.aut_base.proofs.LetterNames.{insert_listed, pushed_ok}
+use Rattle.aut_base.proofs.words.LetterNames.{insert_listed, pushed_ok}
 use Rattle.aut_base.proofs.letter.Letter.add.Goals as goal
 
 pub returns-then-has-clause-ok : goal.returns-then-has-clause-ok

@@ -1,6 +1,6 @@
 use Rattle.std.proofs.Common.{◌∙◌, ap}
 use Rattle.std.specs.FinSet.{contains}
-use Rattle.aut_base.proofs.LetterNames.{contains_as_found}
+use Rattle.aut_base.proofs.words.LetterNames.{contains_as_found}
 use Rattle.aut_base.proofs.letter.Letter.has.Goals as goal
 
 pub returns : goal.returns

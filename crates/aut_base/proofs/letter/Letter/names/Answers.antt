@@ -1,6 +1,6 @@
 use Rattle.std.proofs.Common.{subst, ◌↔◌, Contains, IsTrue}
 use Rattle.std.specs.FinSet.{contains}
-use Rattle.aut_base.proofs.LetterNames.{NameSet, contains_listed}
+use Rattle.aut_base.proofs.words.LetterNames.{NameSet, contains_listed}
 use Rattle.aut_base.proofs.letter.Letter.names.Goals as goal
 
 pub returns-clause-members : goal.returns-clause-members

@@ -6,7 +6,7 @@ use Rattle.hoa_parser.proofs.reading.FrontParts.{passed_then}
 use Rattle.hoa_parser.proofs.reading.RuleParts.{next_answer}
 use Rattle.hoa_parser.proofs.reading.Steps.{fails_after, fails_before, handed_on, next_fails, next_reads, no_memory, reads_as, reads_before}
 use Rattle.hoa_parser.proofs.reading.Steps.{reads_end, reads_then, takes, takes_last, token_passed, too_deep}
-use Rattle.aut_base.proofs.FormulaTrees.{formula_tree-And, formula_tree-Or}
+use Rattle.aut_base.proofs.trees.FormulaTrees.{formula_tree-And, formula_tree-Or}
 use Rattle.hoa_parser.proofs.reading.Chains.{chain_first, chain_next}
 use Rattle.hoa_parser.proofs.reading.ConditionChains.{condition_of, fand_of, fands_whole, fatoms_whole}
 use Rattle.hoa_parser.proofs.reading.ConditionReads.{group_of}

@@ -1,5 +1,5 @@
 use Rattle.std.proofs.Common.{[], Some, refl, sym, ap, ◌∙◌}
-use Rattle.aut_base.proofs.FormulaTrees.{formula_tree-False, formula_tree-Fin, formula_tree-Inf, formula_tree-True}
+use Rattle.aut_base.proofs.trees.FormulaTrees.{formula_tree-False, formula_tree-Fin, formula_tree-Inf, formula_tree-True}
 use Rattle.aut_base.specs.declared.formula.Formula.TheVariants as rust
 use Rattle.hoa_lexer.specs.declared.token.Token.TheVariants as token
 use Rattle.hoa_parser.proofs.reading.Atoms.{no_sign, sign_found, sign_word}

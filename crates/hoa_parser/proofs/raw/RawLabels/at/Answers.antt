@@ -1,5 +1,5 @@
 use Rattle.std.proofs.Common.{arith}
-use Rattle.aut_base.proofs.Places.{tree_behind_two}
+use Rattle.aut_base.proofs.trees.Places.{tree_behind_two}
 use Rattle.hoa_parser.specs.Raw.{raw_tree}
 use Rattle.hoa_parser.proofs.grammar.RawTrees.{raw_list-fields}
 use Rattle.hoa_parser.proofs.raw.RawLabels.at.Goals as goal

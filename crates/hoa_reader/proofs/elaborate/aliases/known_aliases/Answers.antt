@@ -15,7 +15,7 @@ use Rattle.aut_base.specs.Text.{same_text}
 use Rattle.hoa_reader.specs.Validity.{aliases_among, all_differ, is_listed, uses_earlier}
 use Rattle.hoa_reader.specs.declared.elaborate.parts.AliasDef.{AliasDef}
 use Rattle.hoa_reader.proofs.elaborate.aliases.known_aliases.Goals as goal
-use Rattle.aut_base.proofs.Lists.{take-push, split-at, drop-at, slice_get-at}
+use Rattle.aut_base.proofs.lists.Lists.{take-push, split-at, drop-at, slice_get-at}
 
 -- what is left of the lines begins with an alias that uses those before it
 uses_here : (before : List (List ℕ)) (defs : List AliasDef) (i : ℕ) (def : AliasDef) → i < length defs → def ≡ get_or defs i def → uses_earlier before (map alias_def (drop i defs)) ≡ true

@@ -7,7 +7,7 @@ use Rattle.hoa_reader.specs.Validity.{keeps, numbers_below, states_item, used_st
 use Rattle.hoa_reader.specs.declared.elaborate.Rule.{Rule}
 use Rattle.hoa_parser.specs.declared.raw.Item.{Item}
 use Rattle.hoa_reader.proofs.elaborate.broken.keeps.Goals as goal
-use Rattle.aut_base.proofs.Lists.{list_all-same}
+use Rattle.aut_base.proofs.lists.Lists.{list_all-same}
 
 pub returns-in-V6 : goal.returns-in-V6
 returns-in-V6 c =

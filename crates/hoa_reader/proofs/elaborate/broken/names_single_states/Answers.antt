@@ -5,7 +5,7 @@ use Rattle.hoa_parser.specs.Raw.{WrittenEdge, WrittenState, written, written_sta
 use Rattle.hoa_reader.specs.Validity.{edges_written, is_one_state, starts_written}
 use Rattle.hoa_parser.specs.declared.raw.RawState.{RawState}
 use Rattle.hoa_reader.proofs.elaborate.broken.names_single_states.Goals as goal
-use Rattle.aut_base.proofs.Lists.{list_all-flat_map}
+use Rattle.aut_base.proofs.lists.Lists.{list_all-flat_map}
 
 pub returns-then-start_in_single_states : goal.returns-then-start_in_single_states
 returns-then-start_in_single_states c =

@@ -5,7 +5,7 @@ use Rattle.hoa_parser.specs.Raw.{written_edge, written_state}
 use Rattle.hoa_reader.specs.inner.Weighing.{edge_counted, state_counted}
 use Rattle.hoa_parser.specs.declared.raw.RawEdge.{RawEdge}
 use Rattle.hoa_reader.proofs.elaborate.counts.left_after.Goals as goal
-use Rattle.aut_base.proofs.Lists.{drop-at}
+use Rattle.aut_base.proofs.lists.Lists.{drop-at}
 
 pub returns-then-count-left : goal.returns-then-count-left
 returns-then-count-left c =

@@ -1,7 +1,7 @@
 use Rattle.std.proofs.Common.{◌≡◌, ◌++◌, ◌+◌, ◌<◌, ◌∙◌, ℕ, List, Option, Some, None, get_or, length, map, sym, ap, subst, arith}
 use Rattle.std.proofs.lemmas.List.{append-nil, get_or_default}
 use Rattle.std.specs.Prelude.{flat_map}
-use Rattle.aut_base.proofs.Members.{all_passes_at}
+use Rattle.aut_base.proofs.lists.Members.{all_passes_at}
 use Rattle.aut_base.specs.Automaton.{TreeEdge, tree_edge}
 use Rattle.hoa_reader.proofs.labels.StatePlaces.{edges_more, got_map}
 use Rattle.hoa_reader.specs.inner.TreeEdges.{IsDefinedAt, IsPlace, tree_edges_for, edges_for}

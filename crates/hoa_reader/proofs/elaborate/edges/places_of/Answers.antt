@@ -10,7 +10,7 @@ use Rattle.hoa_parser.specs.Raw.{WrittenState, written_state}
 use Rattle.hoa_reader.specs.Validity.{all_differ}
 use Rattle.hoa_parser.specs.declared.raw.RawState.{RawState}
 use Rattle.hoa_reader.proofs.elaborate.edges.places_of.Goals as goal
-use Rattle.aut_base.proofs.Lists.{take-push, split-at}
+use Rattle.aut_base.proofs.lists.Lists.{take-push, split-at}
 
 abbrev named : List RawState → List ℕ
 named states = numbers (map written_state states)

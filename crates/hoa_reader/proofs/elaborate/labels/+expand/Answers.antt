@@ -1,5 +1,5 @@
 use Rattle.std.proofs.Common.{◌≡◌, ◌<◌, ◌≤◌, ℕ, List, map, Option, Some, IfOk, get_or, sym, ap, ◌∙◌, subst, arith, false}
-use Rattle.aut_base.proofs.LabelTrees.{label_tree-False}
+use Rattle.aut_base.proofs.trees.LabelTrees.{label_tree-False}
 use Rattle.aut_base.specs.Label.{LabelTree, label_size, label_tree, labels_size}
 use Rattle.hoa_reader.proofs.labels.ExpandedLabels.{and_of, bit_small, or_of, part_size, parts_expanded, size_pos}
 use Rattle.hoa_parser.proofs.grammar.RawTrees.{raw_tree-Alias, raw_tree-And-fields, raw_tree-Or-fields}

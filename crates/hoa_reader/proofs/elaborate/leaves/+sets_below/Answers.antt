@@ -1,9 +1,9 @@
 use Rattle.std.proofs.Common.{◌≡◌, ℕ, Some, slice_get, ◌&&◌, ◌+◌, Bool, true, false, drop, List, arith, sym, ap, ◌∙◌}
-use Rattle.aut_base.proofs.FormulaSizes.{formula_size-at}
+use Rattle.aut_base.proofs.trees.FormulaSizes.{formula_size-at}
 use Rattle.aut_base.specs.Formula.{FormulaTree, formula_list, formula_tree, trees}
 use Rattle.hoa_reader.specs.Validity.{all_sets_below, sets_below}
 use Rattle.hoa_reader.proofs.elaborate.leaves.+sets_below.Goals as goal
-use Rattle.aut_base.proofs.Lists.{drop-slice_get}
+use Rattle.aut_base.proofs.lists.Lists.{drop-slice_get}
 
 pub all_sets_below-sets_below-requires : goal.all_sets_below-sets_below-requires
 all_sets_below-sets_below-requires t c =

@@ -11,7 +11,7 @@ use Rattle.hoa_parser.specs.Raw.{raw_tree}
 use Rattle.aut_base.specs.Text.{same_text}
 use Rattle.hoa_reader.specs.Validity.{aliases_among, all_differ, is_listed, uses_earlier}
 use Rattle.hoa_reader.proofs.elaborate.leaves.defined.Goals as goal
-use Rattle.aut_base.proofs.Lists.{take-push, split-at}
+use Rattle.aut_base.proofs.lists.Lists.{take-push, split-at}
 
 pub returns-then-not-branch : goal.returns-then-not-branch
 returns-then-not-branch c =

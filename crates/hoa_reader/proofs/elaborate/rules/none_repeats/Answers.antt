@@ -9,8 +9,8 @@ use Rattle.hoa_parser.specs.Raw.{WrittenState, written_state}
 use Rattle.hoa_reader.specs.Validity.{all_differ}
 use Rattle.hoa_parser.specs.declared.raw.RawState.{RawState}
 use Rattle.hoa_reader.proofs.elaborate.rules.none_repeats.Goals as goal
-use Rattle.aut_base.proofs.Numbers.{is_eq-nat_cmp}
-use Rattle.aut_base.proofs.Lists.{take-push, split-at}
+use Rattle.aut_base.proofs.numbers.Numbers.{is_eq-nat_cmp}
+use Rattle.aut_base.proofs.lists.Lists.{take-push, split-at}
 
 abbrev numbers : List RawState → List ℕ
 numbers states = map (λ (s : WrittenState). s.number) (map written_state states)

@@ -6,7 +6,7 @@ use Rattle.hoa_reader.specs.inner.Places.{place_in}
 use Rattle.aut_base.specs.Text.{same_text}
 use Rattle.hoa_reader.specs.Validity.{all_differ}
 use Rattle.hoa_reader.proofs.elaborate.rules.texts_differ.Goals as goal
-use Rattle.aut_base.proofs.Lists.{take-push, split-at}
+use Rattle.aut_base.proofs.lists.Lists.{take-push, split-at}
 
 pub returns-then-not-branch : goal.returns-then-not-branch
 returns-then-not-branch c =

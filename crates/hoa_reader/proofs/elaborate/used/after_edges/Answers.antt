@@ -5,7 +5,7 @@ use Rattle.hoa_reader.specs.Described.{after_all}
 use Rattle.hoa_parser.specs.Raw.{WrittenEdge, written_edge}
 use Rattle.hoa_parser.specs.declared.raw.RawEdge.{RawEdge}
 use Rattle.hoa_reader.proofs.elaborate.used.after_edges.Goals as goal
-use Rattle.aut_base.proofs.Lists.{drop-at}
+use Rattle.aut_base.proofs.lists.Lists.{drop-at}
 
 abbrev ends : List RawEdge → List ℕ
 ends edges = flat_map (λ (e : WrittenEdge). e.to) (map written_edge edges)

@@ -6,7 +6,7 @@ use Rattle.hoa_reader.specs.inner.Pieces.{goals, numbers}
 use Rattle.hoa_parser.specs.Raw.{WrittenEdge, written_edge, written_state}
 use Rattle.hoa_parser.specs.declared.raw.RawState.{RawState}
 use Rattle.hoa_reader.proofs.elaborate.used.after_states.Goals as goal
-use Rattle.aut_base.proofs.Lists.{drop-at}
+use Rattle.aut_base.proofs.lists.Lists.{drop-at}
 
 abbrev own : List RawState → ℕ
 own states = after_all (numbers (map written_state states))

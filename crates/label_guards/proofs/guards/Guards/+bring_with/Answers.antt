@@ -1,8 +1,8 @@
 use Rattle.std.proofs.Common.{◌∙◌, ℕ, List, arith, get_or, subst, sym}
 use Rattle.label_guards.specs.Tables.{AreDone, IsBrought, PlaceGoesBelow}
-use Rattle.label_guards.proofs.Brought.{brought_kept, brought_end, brought_step}
-use Rattle.label_guards.proofs.Dependence.{high_goes_below, low_goes_below, node_goes_below}
-use Rattle.label_guards.proofs.Tables.{done_put, done_under}
+use Rattle.label_guards.proofs.rebuilt.Brought.{brought_kept, brought_end, brought_step}
+use Rattle.label_guards.proofs.rebuilt.Dependence.{high_goes_below, low_goes_below, node_goes_below}
+use Rattle.label_guards.proofs.diagrams.Tables.{done_put, done_under}
 use Rattle.label_guards.proofs.guards.Guards.+bring_with.Goals as goal
 
 pub bring_with-requires : goal.bring_with-requires

@@ -2,8 +2,8 @@ use Rattle.std.proofs.Common.{◌≡◌, ◌∙◌, min, subst, sym, arith}
 use Rattle.label_guards.specs.Nodes.{level}
 use Rattle.label_guards.specs.Operations.{IsJoin}
 use Rattle.label_guards.specs.Store.{Store}
-use Rattle.label_guards.proofs.Joins.{join_short, side_later, join_step}
-use Rattle.label_guards.proofs.Growth.{grows_on, grows_none}
+use Rattle.label_guards.proofs.diagrams.Joins.{join_short, side_later, join_step}
+use Rattle.label_guards.proofs.diagrams.Growth.{grows_on, grows_none}
 use Rattle.label_guards.proofs.guards.Guards.+combine.Goals as goal
 
 pub returns-in-Some-clause-joined : goal.returns-in-Some-clause-joined

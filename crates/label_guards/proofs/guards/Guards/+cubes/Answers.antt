@@ -2,8 +2,8 @@ use Rattle.std.proofs.Common.{◌≡◌, ◌∙◌, List, [], ◌∷◌, true, a
 use Rattle.std.proofs.lemmas.Result.{IfOk-weaker}
 use Rattle.aut_base.specs.CanonicalLabel.{Literal}
 use Rattle.label_guards.specs.Pieces.{WritesCubes, literal_of, place_cubes}
-use Rattle.label_guards.proofs.Pieces.{both_sides, none_written}
-use Rattle.label_guards.proofs.PlaceCubes.{cubes_false, cubes_true, cubes_node}
+use Rattle.label_guards.proofs.labelled.Pieces.{both_sides, none_written}
+use Rattle.label_guards.proofs.labelled.PlaceCubes.{cubes_false, cubes_true, cubes_node}
 use Rattle.label_guards.proofs.guards.Guards.+cubes.Goals as goal
 
 pub push_place-returns-then-place-eq0-clause-cubes :

@@ -1,8 +1,8 @@
 use Rattle.std.proofs.Common.{ℕ, List, subst, sym, arith}
 use Rattle.label_guards.specs.Tables.{AreDone, IsFixedAt}
-use Rattle.label_guards.proofs.Fixed.{fixed_kept, fixed_behind, fixed_high, fixed_low, fixed_later, fixed_step}
-use Rattle.label_guards.proofs.Growth.{grows_on, grows_none}
-use Rattle.label_guards.proofs.Tables.{done_put, done_under}
+use Rattle.label_guards.proofs.rebuilt.Fixed.{fixed_kept, fixed_behind, fixed_high, fixed_low, fixed_later, fixed_step}
+use Rattle.label_guards.proofs.diagrams.Growth.{grows_on, grows_none}
+use Rattle.label_guards.proofs.diagrams.Tables.{done_put, done_under}
 use Rattle.label_guards.proofs.guards.Guards.+fix_with.Goals as goal
 
 pub returns-then-prop-level-clause-fixed : goal.returns-then-prop-level-clause-fixed

@@ -1,8 +1,8 @@
 use Rattle.std.proofs.Common.{ℕ, None, Some, subst, sym}
 use Rattle.label_guards.specs.Leasts.{IsLeastAt, IsLeastOf}
 use Rattle.label_guards.specs.Tables.{AreDone}
-use Rattle.label_guards.proofs.Leasts.{least_false, least_true, least_small, least_step}
-use Rattle.label_guards.proofs.Tables.{done_put}
+use Rattle.label_guards.proofs.valuations.Leasts.{least_false, least_true, least_small, least_step}
+use Rattle.label_guards.proofs.diagrams.Tables.{done_put}
 use Rattle.label_guards.proofs.guards.Guards.+least_with.Goals as goal
 
 pub returns-then-place-eq0-clause-least : goal.returns-then-place-eq0-clause-least

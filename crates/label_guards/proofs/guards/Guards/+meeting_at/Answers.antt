@@ -1,6 +1,6 @@
 use Rattle.std.proofs.Common.{subst, sym, ◌+◌, ℕ}
 use Rattle.label_guards.specs.Leasts.{IsMetAt}
-use Rattle.label_guards.proofs.Leasts.{met_high, met_small, met_true}
+use Rattle.label_guards.proofs.valuations.Leasts.{met_high, met_small, met_true}
 use Rattle.label_guards.proofs.guards.Guards.+meeting_at.Goals as goal
 
 pub returns-then-place-eq1-clause-met : goal.returns-then-place-eq1-clause-met

@@ -1,12 +1,12 @@
 use Rattle.std.proofs.Common.{◌≡◌, ◌∙◌, ◌-◌, ap, not, subst, sym, arith}
 use Rattle.std.proofs.lemmas.Result.{IfOk-weaker}
 use Rattle.aut_base.specs.Label.{AllBelow, LabelTree, label_list, label_tree, truth}
-use Rattle.aut_base.proofs.LabelSizes.{label_size-at}
-use Rattle.aut_base.proofs.LabelTrees.{label_tree-True, label_tree-False, label_tree-Prop}
+use Rattle.aut_base.proofs.trees.LabelSizes.{label_size-at}
+use Rattle.aut_base.proofs.trees.LabelTrees.{label_tree-True, label_tree-False, label_tree-Prop}
 use Rattle.label_guards.specs.declared.guards.Operation.TheVariants.{And, Or}
-use Rattle.label_guards.proofs.Growth.{grows_on, grows_none}
-use Rattle.label_guards.proofs.Parts.{place_same, true_place, false_place, prop_place, negated_place, not_place, place_of_label, part_below, all_none}
-use Rattle.label_guards.proofs.Parts.{some_none, all_step, some_step, joined_place, met_branch, joined_branch}
+use Rattle.label_guards.proofs.diagrams.Growth.{grows_on, grows_none}
+use Rattle.label_guards.proofs.labelled.Parts.{place_same, true_place, false_place, prop_place, negated_place, not_place, place_of_label, part_below, all_none}
+use Rattle.label_guards.proofs.labelled.Parts.{some_none, all_step, some_step, joined_place, met_branch, joined_branch}
 use Rattle.label_guards.proofs.guards.Guards.+place_of.Goals as goal
 
 pub place_of-returns-in-True-clause-place : goal.place_of-returns-in-True-clause-place

@@ -1,4 +1,4 @@
-use Rattle.label_guards.proofs.LabelTruth.{always_is}
+use Rattle.label_guards.proofs.labelled.LabelTruth.{always_is}
 use Rattle.label_guards.proofs.guards.Guards.always.Goals as goal
 
 pub returns : goal.returns

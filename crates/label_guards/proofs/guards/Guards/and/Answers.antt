@@ -1,5 +1,5 @@
 use Rattle.label_guards.specs.declared.guards.Operation.TheVariants.{And}
-use Rattle.label_guards.proofs.LabelTruth.{joined_guard, keeps}
+use Rattle.label_guards.proofs.labelled.LabelTruth.{joined_guard, keeps}
 use Rattle.label_guards.proofs.guards.Guards.and.Goals as goal
 
 pub returns-in_err-place-clause-keeps : goal.returns-in_err-place-clause-keeps

@@ -1,5 +1,5 @@
 use Rattle.std.proofs.lemmas.Result.{IfOk-weaker}
-use Rattle.label_guards.proofs.Parts.{branch_true, branch_false}
+use Rattle.label_guards.proofs.labelled.Parts.{branch_true, branch_false}
 use Rattle.label_guards.proofs.guards.Guards.branch.Goals as goal
 
 pub returns-then-literal-clause-place : goal.returns-then-literal-clause-place

@@ -1,7 +1,7 @@
 use Rattle.std.proofs.Common.{get_or}
-use Rattle.label_guards.proofs.Brought.{brought_guard}
-use Rattle.label_guards.proofs.Dependence.{guard_goes_below}
-use Rattle.label_guards.proofs.LabelTruth.{keeps}
+use Rattle.label_guards.proofs.rebuilt.Brought.{brought_guard}
+use Rattle.label_guards.proofs.rebuilt.Dependence.{guard_goes_below}
+use Rattle.label_guards.proofs.labelled.LabelTruth.{keeps}
 use Rattle.label_guards.proofs.guards.Guards.bring.Goals as goal
 
 pub bring_with-requires-clause-within : goal.bring_with-requires-clause-within

@@ -1,7 +1,7 @@
 use Rattle.std.proofs.Common.{sym, subst}
 use Rattle.label_guards.specs.Operations.{AreJoins}
 use Rattle.label_guards.specs.declared.guards.Fields.{Fields}
-use Rattle.label_guards.proofs.Joins.{joins_kept}
+use Rattle.label_guards.proofs.diagrams.Joins.{joins_kept}
 use Rattle.label_guards.proofs.guards.Guards.choice.Goals as goal
 
 pub invariant_of-self : goal.invariant_of-self

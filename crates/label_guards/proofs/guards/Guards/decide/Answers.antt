@@ -1,6 +1,6 @@
 use Rattle.std.proofs.lemmas.Result.{IfOk-weaker}
-use Rattle.label_guards.proofs.Brought.{chosen, decided}
-use Rattle.label_guards.proofs.Growth.{grows_on}
+use Rattle.label_guards.proofs.rebuilt.Brought.{chosen, decided}
+use Rattle.label_guards.proofs.diagrams.Growth.{grows_on}
 use Rattle.label_guards.proofs.guards.Guards.decide.Goals as goal
 
 pub returns-then-prop-level-2-clause-decided : goal.returns-then-prop-level-2-clause-decided

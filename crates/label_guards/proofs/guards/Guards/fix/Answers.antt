@@ -1,5 +1,5 @@
-use Rattle.label_guards.proofs.Fixed.{fixed_guard}
-use Rattle.label_guards.proofs.LabelTruth.{keeps}
+use Rattle.label_guards.proofs.rebuilt.Fixed.{fixed_guard}
+use Rattle.label_guards.proofs.labelled.LabelTruth.{keeps}
 use Rattle.label_guards.proofs.guards.Guards.fix.Goals as goal
 
 pub returns-in_err-place-clause-keeps : goal.returns-in_err-place-clause-keeps

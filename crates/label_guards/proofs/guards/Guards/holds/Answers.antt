@@ -1,5 +1,5 @@
 use Rattle.std.proofs.Common.{arith}
-use Rattle.label_guards.proofs.LabelTruth.{walked}
+use Rattle.label_guards.proofs.labelled.LabelTruth.{walked}
 use Rattle.label_guards.proofs.guards.Guards.holds.Goals as goal
 
 pub returns : goal.returns

@@ -1,5 +1,5 @@
 use Rattle.std.proofs.Common.{◌∙◌, arith}
-use Rattle.label_guards.proofs.LabelTruth.{truth_is, walked}
+use Rattle.label_guards.proofs.labelled.LabelTruth.{truth_is, walked}
 use Rattle.label_guards.proofs.guards.Guards.holds_at.Goals as goal
 
 pub returns-clause-label : goal.returns-clause-label

@@ -1,4 +1,4 @@
-use Rattle.label_guards.proofs.LabelTruth.{false_valuations, false_letters}
+use Rattle.label_guards.proofs.labelled.LabelTruth.{false_valuations, false_letters}
 use Rattle.label_guards.proofs.guards.Guards.is_false.Goals as goal
 
 pub returns-clause-valuations : goal.returns-clause-valuations

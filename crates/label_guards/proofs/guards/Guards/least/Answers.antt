@@ -1,5 +1,5 @@
 use Rattle.std.proofs.lemmas.Result.{IfOk-weaker}
-use Rattle.label_guards.proofs.Leasts.{least_of_label}
+use Rattle.label_guards.proofs.valuations.Leasts.{least_of_label}
 use Rattle.label_guards.proofs.guards.Guards.least.Goals as goal
 
 pub returns-clause-label : goal.returns-clause-label

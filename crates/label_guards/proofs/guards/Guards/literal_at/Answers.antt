@@ -1,4 +1,4 @@
-use Rattle.label_guards.proofs.PlaceCubes.{literal_holds, literal_fails}
+use Rattle.label_guards.proofs.labelled.PlaceCubes.{literal_holds, literal_fails}
 use Rattle.label_guards.proofs.guards.Guards.literal_at.Goals as goal
 
 pub returns-in-0-eq1 : goal.returns-in-0-eq1

@@ -1,6 +1,6 @@
 use Rattle.std.proofs.Common.{subst, sym}
 use Rattle.label_guards.specs.Leasts.{IsNeverMetAt}
-use Rattle.label_guards.proofs.Leasts.{least_false, met_guard, never_met}
+use Rattle.label_guards.proofs.valuations.Leasts.{least_false, met_guard, never_met}
 use Rattle.label_guards.proofs.guards.Guards.meeting.Goals as goal
 
 pub returns-then-g-eq0 : goal.returns-then-g-eq0

@@ -1,4 +1,4 @@
-use Rattle.label_guards.proofs.LabelTruth.{never_is}
+use Rattle.label_guards.proofs.labelled.LabelTruth.{never_is}
 use Rattle.label_guards.proofs.guards.Guards.never.Goals as goal
 
 pub returns : goal.returns

@@ -3,7 +3,7 @@ use Rattle.label_guards.specs.Guards.{IsGuardOf}
 use Rattle.label_guards.specs.Store.{Has}
 use Rattle.label_guards.specs.declared.guard.Guard.{Guard}
 use Rattle.label_guards.specs.declared.guards.Fields.{Fields}
-use Rattle.label_guards.proofs.LabelTruth.{only_constants}
+use Rattle.label_guards.proofs.labelled.LabelTruth.{only_constants}
 use Rattle.label_guards.proofs.guards.Guards.new.Goals as goal
 
 pub returns-clause-bare : goal.returns-clause-bare

@@ -1,4 +1,4 @@
-use Rattle.label_guards.proofs.LabelTruth.{negated_guard, keeps}
+use Rattle.label_guards.proofs.labelled.LabelTruth.{negated_guard, keeps}
 use Rattle.label_guards.proofs.guards.Guards.not.Goals as goal
 
 pub returns-in_err-place-clause-keeps : goal.returns-in_err-place-clause-keeps

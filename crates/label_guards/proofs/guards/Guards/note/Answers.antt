@@ -2,7 +2,7 @@ use Rattle.std.proofs.Common.{sym, subst}
 use Rattle.label_guards.specs.Operations.{AreJoins, IsJoin}
 use Rattle.label_guards.specs.Store.{Store}
 use Rattle.label_guards.specs.declared.guards.Fields.{Fields}
-use Rattle.label_guards.proofs.Joins.{joins_insert}
+use Rattle.label_guards.proofs.diagrams.Joins.{joins_insert}
 use Rattle.label_guards.proofs.guards.Guards.note.Goals as goal
 
 pub invariant_of-self-2 : goal.invariant_of-self-2

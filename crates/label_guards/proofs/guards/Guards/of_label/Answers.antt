@@ -1,5 +1,5 @@
 use Rattle.aut_base.specs.Label.{label_tree}
-use Rattle.label_guards.proofs.LabelTruth.{keeps, canonical_at}
+use Rattle.label_guards.proofs.labelled.LabelTruth.{keeps, canonical_at}
 use Rattle.label_guards.proofs.guards.Guards.of_label.Goals as goal
 
 pub returns-in_err-place-clause-keeps : goal.returns-in_err-place-clause-keeps

@@ -1,6 +1,6 @@
 use Rattle.std.proofs.Common.{subst}
 use Rattle.label_guards.specs.Leasts.{IsLeastIn}
-use Rattle.label_guards.proofs.Leasts.{least_letter}
+use Rattle.label_guards.proofs.valuations.Leasts.{least_letter}
 use Rattle.label_guards.proofs.guards.Guards.pick.Goals as goal
 
 pub returns-in_ok-letter_at-in-Some : goal.returns-in_ok-letter_at-in-Some

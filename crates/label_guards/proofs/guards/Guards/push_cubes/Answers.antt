@@ -1,7 +1,7 @@
 use Rattle.std.proofs.Common.{◌∙◌, ◌++◌, sym, ap, map}
 use Rattle.std.proofs.lemmas.Result.{on_ok_weaker}
 use Rattle.label_guards.specs.Pieces.{literal_of}
-use Rattle.label_guards.proofs.PlaceCubes.{label_of_cubes, label_written, no_label_written}
+use Rattle.label_guards.proofs.labelled.PlaceCubes.{label_of_cubes, label_written, no_label_written}
 use Rattle.label_guards.proofs.guards.Guards.push_cubes.Goals as goal
 
 pub returns-in-Some-clause-ok : goal.returns-in-Some-clause-ok

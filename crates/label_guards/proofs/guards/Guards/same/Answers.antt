@@ -1,4 +1,4 @@
-use Rattle.label_guards.proofs.LabelTruth.{same_labels, same_valuations, same_letters}
+use Rattle.label_guards.proofs.labelled.LabelTruth.{same_labels, same_valuations, same_letters}
 use Rattle.label_guards.proofs.guards.Guards.same.Goals as goal
 
 pub returns-clause-labels : goal.returns-clause-labels

@@ -1,6 +1,6 @@
 use Rattle.label_guards.specs.Nodes.{IsReduced}
 use Rattle.label_guards.specs.Store.{Store}
-use Rattle.label_guards.proofs.Reduced.{make_reduced, made}
+use Rattle.label_guards.proofs.diagrams.Reduced.{make_reduced, made}
 use Rattle.label_guards.proofs.nodes.Nodes.make.Goals as goal
 use Rattle.label_guards.proofs.nodes.Nodes.make.Goals.{in-Some, in-None}
 

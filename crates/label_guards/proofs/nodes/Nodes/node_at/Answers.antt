@@ -2,7 +2,7 @@ use Rattle.std.proofs.Common.{◌≡◌, ◌-◌, ◌∙◌, length, slice_get, 
 use Rattle.std.proofs.lemmas.Option.{slice_get-get_or}
 use Rattle.label_guards.specs.Nodes.{IsReduced}
 use Rattle.label_guards.specs.Store.{Store}
-use Rattle.label_guards.proofs.Reduced.{stands_at}
+use Rattle.label_guards.proofs.diagrams.Reduced.{stands_at}
 use Rattle.label_guards.proofs.nodes.Nodes.node_at.Goals as goal
 
 pub returns : goal.returns

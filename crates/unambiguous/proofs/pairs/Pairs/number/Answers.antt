@@ -2,8 +2,8 @@ use Rattle.std.proofs.Common.{◌∙◌, ◌+◌, ◌≤◌, ℕ, List, ap, arit
 use Rattle.aut_base.specs.declared.limit.TheConstants.{MOST_PAIRS}
 use Rattle.aut_ops.specs.BreadthFirst.{with_new}
 use Rattle.aut_ops.specs.Products.{same_pair}
-use Rattle.unambiguous.proofs.Counted.{IsCounted, counted}
-use Rattle.unambiguous.proofs.Stages.{Flagged, place_fits}
+use Rattle.unambiguous.proofs.growing.Counted.{IsCounted, counted}
+use Rattle.unambiguous.proofs.growing.Stages.{Flagged, place_fits}
 use Rattle.unambiguous.specs.inner.Stages.{AreOver, pair_of, pairs_of}
 use Rattle.unambiguous.proofs.pairs.Pairs.number.Goals as goal
 use Rattle.unambiguous.proofs.pairs.Pairs.number.Goals.{After-from}

@@ -1,10 +1,10 @@
 use Rattle.std.proofs.Common.{◌≡◌, ◌∙◌, List, Some, ap, arith, length, slice_get, subst, sym}
 use Rattle.std.proofs.lemmas.Option.{slice_get_within}
-use Rattle.aut_base.proofs.Lists.{slice_get-at}
+use Rattle.aut_base.proofs.lists.Lists.{slice_get-at}
 use Rattle.aut_core.specs.declared.link.Link.{Link}
-use Rattle.unambiguous.proofs.Rounds.{followed_more}
-use Rattle.unambiguous.proofs.RowPlaces.{can_meet}
-use Rattle.unambiguous.proofs.Stages.{grows_on, longer_at}
+use Rattle.unambiguous.proofs.growing.Rounds.{followed_more}
+use Rattle.unambiguous.proofs.growing.RowPlaces.{can_meet}
+use Rattle.unambiguous.proofs.growing.Stages.{grows_on, longer_at}
 use Rattle.unambiguous.specs.inner.Stages.{CanMeet, IsMet, row_of}
 use Rattle.unambiguous.proofs.square.Square.follow.Goals as goal
 

@@ -1,9 +1,9 @@
 use Rattle.std.proofs.Common.{◌∙◌, List, ap, arith, length, slice_get, sym}
 use Rattle.std.proofs.lemmas.Option.{slice_get_within}
-use Rattle.aut_base.proofs.Lists.{slice_get-at}
+use Rattle.aut_base.proofs.lists.Lists.{slice_get-at}
 use Rattle.aut_core.specs.declared.link.Link.{Link}
-use Rattle.unambiguous.proofs.Rounds.{spread_more}
-use Rattle.unambiguous.proofs.Stages.{grows_on}
+use Rattle.unambiguous.proofs.growing.Rounds.{spread_more}
+use Rattle.unambiguous.proofs.growing.Stages.{grows_on}
 use Rattle.unambiguous.specs.inner.Stages.{row_of}
 use Rattle.unambiguous.proofs.square.Square.spread.Goals as goal
 

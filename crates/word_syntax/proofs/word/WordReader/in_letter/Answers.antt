@@ -1,5 +1,5 @@
 use Rattle.std.proofs.Common.{◌≡◌, None, Some, rules, true}
-use Rattle.word_syntax.proofs.InLetters.{letter_taken}
+use Rattle.word_syntax.proofs.grammar.InLetters.{letter_taken}
 use Rattle.word_syntax.specs.inner.Machine as machine
 use Rattle.word_syntax.specs.inner.Chains.{letter_state, word_state}
 use Rattle.word_syntax.proofs.word.WordReader.in_letter.Goals as goal

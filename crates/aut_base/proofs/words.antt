@@ -1,0 +1,6 @@
+-- Names, letters made of them, and lasso words that spell the same infinite word.
+pub mod LetterNames
+pub mod SameEdges
+pub mod SameWord
+pub mod Spelled
+pub mod Texts

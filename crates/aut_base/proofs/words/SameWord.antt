@@ -1,0 +1,168 @@
+-- Why lasso words that spell the same infinite word are accepted alike. A path that reads the one word goes on
+-- round its closed path until it has read a whole number of cycles of the other. The closed path, turned to begin
+-- there and gone often enough, reads a whole number of them as well, and has the same edges.
+use Rattle.std.proofs.Common.{◌≡◌, ◌∙◌, ℕ, ◌+◌, ◌-◌, ◌*◌, ◌<◌, ◌≤◌, true, List, ◌++◌, length, map, take, drop, Option, Contains, refl, sym, ap, subst, arith}
+use Rattle.std.proofs.Math.Nat.{le-mul_of_pos_right}
+use Rattle.std.proofs.lemmas.List.{length-append, length-drop, length-take-le, take-append-drop}
+use Rattle.aut_base.specs.Acceptance.{Accepts, SameWordSameVerdict}
+use Rattle.aut_base.specs.Automaton.{TreeEdge, Automaton}
+use Rattle.aut_base.specs.Formula.{met}
+use Rattle.aut_base.specs.Word.{NameSet, copies, letter_at, SpellsSame}
+use Rattle.aut_base.proofs.lists.Copies.{length-copies}
+use Rattle.aut_base.proofs.words.SameEdges.{met_alike, turned_alike}
+use Rattle.aut_base.proofs.words.Spelled.{word_letter, round_letter}
+use Rattle.aut_base.proofs.runs.Walks.{Reads, Agrees, as_long, reads_word, reads_path, ends, join, split_first, split_second, repeated}
+
+word_agrees : (w : ℕ → Option NameSet) (u v : List NameSet) (i : ℕ) → ((n : ℕ) → w n ≡ letter_at u v n) → 0 < length v → Agrees w 0 (u ++ copies i v)
+word_agrees w u v i spells some k within =
+    let at : 0 + k ≡ k = omega arith in
+    let long = length-append u (copies i v) in
+    let times = length-copies i v in
+    ap w at ∙ (spells k ∙ word_letter u v i k some (omega arith))
+
+round_agrees : (w : ℕ → Option NameSet) (u v : List NameSet) (s j : ℕ) → ((n : ℕ) → w n ≡ letter_at u v n) → 0 < length v → Agrees w (length u + s * length v) (copies j v)
+round_agrees w u v s j spells some k within =
+    let times = length-copies j v in
+    spells (length u + s * length v + k) ∙ round_letter u v s j k _ some (omega arith) (omega arith)
+
+-- When the second word is taken up: `wait` steps after moment o, once its cycle of y letters was read `turns`
+-- times after its stem of x letters. A closed path of `size` edges is gone `times` times from there.
+record Moment (o size x y : ℕ) : Type 0 where
+  turns : ℕ
+  wait : ℕ
+  times : ℕ
+  rounds : ℕ
+  at : o + wait ≡ x + turns * y
+  enough : wait ≤ times * size
+  whole : times * size ≡ rounds * y
+  some_times : 0 < times
+  some_rounds : 0 < rounds
+
+moment : (o size x y : ℕ) → 0 < size → 0 < y → Moment o size x y
+moment o size x y some_size some_y =
+    let wait = x + o * y - o in
+    let later : o ≤ o * y = le-mul_of_pos_right o some_y in
+    let wide : wait + 1 ≤ (wait + 1) * y = le-mul_of_pos_right (wait + 1) some_y in
+    let wider : (wait + 1) * y ≤ (wait + 1) * y * size = le-mul_of_pos_right ((wait + 1) * y) some_size in
+    let long : wait + 1 ≤ (wait + 1) * size = le-mul_of_pos_right (wait + 1) some_size in
+    record {
+      turns = o;
+      wait = wait;
+      times = (wait + 1) * y;
+      rounds = (wait + 1) * size;
+      at = omega arith;
+      enough = omega arith;
+      whole = omega arith;
+      some_times = omega arith;
+      some_rounds = omega arith;
+    }
+
+-- A closed path, gone on with for `wait` steps, and gone from there.
+record Turned (a : Automaton) (w : ℕ → Option NameSet) (n q wait : ℕ) (all : List TreeEdge) : Type 0 where
+  here : ℕ
+  on : Reads a w n q (take wait all) here
+  round : Reads a w (n + wait) here (drop wait all ++ take wait all) here
+
+turn : (a : Automaton) (w : ℕ → Option NameSet) (n m q wait : ℕ) (all : List TreeEdge) → wait ≤ length all → m ≡ n + length all → Reads a w n q all q → Reads a w m q all q → Turned a w n q wait all
+turn a w n m q wait all enough at first again =
+    let front = take wait all in
+    let back = drop wait all in
+    let parts : front ++ back ≡ all = take-append-drop wait all in
+    let long : length front ≡ wait = length-take-le wait all enough in
+    let left : length back ≡ length all - wait = length-drop wait all in
+    let P : ℕ → List TreeEdge → Type 0 = λ t es. Reads a w t q es q in
+    let first' : Reads a w n q (front ++ back) q = subst (P n) (sym parts) first in
+    let again' : Reads a w m q (front ++ back) q = subst (P m) (sym parts) again in
+    record {
+      here = ends q front;
+      on = split_first a w n q q front back first';
+      round = join a w (n + wait) m (ends q front) q (ends q front) back front (omega arith) (split_second a w n (n + wait) q q front back (omega arith) first')
+          (split_first a w m q q front back again');
+    }
+
+-- What acceptance says of the infinite word `w`, whose letters come again after every l from moment o on: a path
+-- leads to a closed path, which can be gone at each of those moments.
+record Looped (a : Automaton) (w : ℕ → Option NameSet) (o l : ℕ) : Type 0 where
+  start : ℕ
+  state : ℕ
+  turns : ℕ
+  rounds : ℕ
+  way : List TreeEdge
+  cycle : List TreeEdge
+  is_start : Contains a.starts start
+  long_way : length way ≡ o + turns * l
+  long_cycle : length cycle ≡ rounds * l
+  some_cycle : 0 < length cycle
+  leads : Reads a w 0 start way state
+  round : (s : ℕ) → Reads a w (o + s * l) state cycle state
+  meets : met (map (λ e. e.marks) cycle) a.formula ≡ true
+
+looped : (a : Automaton) (u v : List NameSet) → 0 < length v → Accepts a u v → Looped a (letter_at u v) (length u) (length v)
+looped a u v some r =
+    let w : ℕ → Option NameSet = letter_at u v in
+    let wide : r.rounds ≤ r.rounds * length v = le-mul_of_pos_right r.rounds some in
+    let positive : 0 < r.rounds = r.positive in
+    let word : length (u ++ copies r.turns v) ≡ length u + r.turns * length v = length-append u (copies r.turns v) ∙ ap (λ k. length u + k) (length-copies r.turns v) in
+    let long : length r.cycle ≡ r.rounds * length v = as_long a r.state (copies r.rounds v) r.cycle r.state r.returns ∙ length-copies r.rounds v in
+    record {
+      start = r.start;
+      state = r.state;
+      turns = r.turns;
+      rounds = r.rounds;
+      way = r.way;
+      cycle = r.cycle;
+      is_start = r.is_start;
+      long_way = as_long a r.start (u ++ copies r.turns v) r.way r.state r.leads ∙ word;
+      long_cycle = long;
+      some_cycle = omega arith;
+      leads = reads_word a w 0 r.start (u ++ copies r.turns v) r.way r.state (word_agrees w u v r.turns (λ n. refl) some) r.leads;
+      round = λ s. reads_word a w (length u + s * length v) r.state (copies r.rounds v) r.cycle r.state (round_agrees w u v s r.rounds (λ n. refl) some) r.returns;
+      meets = r.meets;
+    }
+
+-- the closed path, gone `times` times, and turned
+turned : (a : Automaton) (w : ℕ → Option NameSet) (o l wait times : ℕ) (g : Looped a w o l) → wait ≤ times * length g.cycle → Turned a w (o + g.turns * l) g.state wait (copies times g.cycle)
+turned a w o l wait times g enough =
+    let all = copies times g.cycle in
+    let long : length all ≡ times * length g.cycle = length-copies times g.cycle in
+    let long' : times * length g.cycle ≡ times * (g.rounds * l) = ap (λ k. times * k) g.long_cycle in
+    let many = repeated a w o l g.rounds g.state g.cycle g.long_cycle g.round times in
+    turn a w (o + g.turns * l) (o + (g.turns + times * g.rounds) * l) g.state wait all (omega arith) (omega arith) (many g.turns) (many (g.turns + times * g.rounds))
+
+taken_up : (a : Automaton) (w : ℕ → Option NameSet) (o l : ℕ) (x y : List NameSet) (g : Looped a w o l) → 0 < length y → ((n : ℕ) → w n ≡ letter_at x y n)
+    → Moment (o + g.turns * l) (length g.cycle) (length x) (length y) → Accepts a x y
+taken_up a w o l x y g some spells m =
+    let all = copies m.times g.cycle in
+    let front = take m.wait all in
+    let back = drop m.wait all in
+    let t = turned a w o l m.wait m.times g m.enough in
+    let long_all : length all ≡ m.times * length g.cycle = length-copies m.times g.cycle in
+    let long_front : length front ≡ m.wait = length-take-le m.wait all (omega arith) in
+    let long_back : length back ≡ length all - m.wait = length-drop m.wait all in
+    let word : length (x ++ copies m.turns y) ≡ length x + m.turns * length y = length-append x (copies m.turns y) ∙ ap (λ k. length x + k) (length-copies m.turns y) in
+    let gone : length (copies m.rounds y) ≡ m.rounds * length y = length-copies m.rounds y in
+    let P : ℕ → Type 0 = λ n. Reads a w n t.here (back ++ front) t.here in
+    record {
+      endless = some;
+      start = g.start;
+      state = t.here;
+      turns = m.turns;
+      rounds = m.rounds;
+      way = g.way ++ front;
+      cycle = back ++ front;
+      is_start = g.is_start;
+      leads = reads_path a w 0 g.start (x ++ copies m.turns y) (g.way ++ front) t.here (word_agrees w x y m.turns spells some) (omega (arith, length-append g.way front))
+          (join a w 0 (o + g.turns * l) g.start g.state t.here g.way front (omega arith) g.leads t.on);
+      positive = m.some_rounds;
+      returns = reads_path a w (length x + m.turns * length y) t.here (copies m.rounds y) (back ++ front) t.here (round_agrees w x y m.turns m.rounds spells some)
+          (omega (arith, length-append back front)) (subst P m.at t.round);
+      meets = met_alike (map (λ e. e.marks) (back ++ front)) (map (λ e. e.marks) g.cycle) (turned_alike (λ e. e.marks) m.times m.wait g.cycle m.some_times) a.formula ∙ g.meets;
+    }
+
+carry : (a : Automaton) (u v x y : List NameSet) → 0 < length v → 0 < length y → SpellsSame u v x y → Accepts a u v → Accepts a x y
+carry a u v x y some_v some_y same r =
+    let g = looped a u v some_v r in
+    taken_up a (letter_at u v) (length u) (length v) x y g some_y same (moment (length u + g.turns * length v) (length g.cycle) (length x) (length y) g.some_cycle some_y)
+
+pub same_word_same_verdict : SameWordSameVerdict
+same_word_same_verdict a u v x y some_v some_y same = (carry a u v x y some_v some_y same, carry a x y u v some_y some_v (λ n. sym (same n)))

@@ -1,0 +1,129 @@
+-- The links of an automaton of flagged states, as the edges that they stand for.
+use Rattle.std.proofs.Common.{◌≡◌, ◌∙◌, ◌<◌, ◌≤◌, ℕ, Bool, List, [], ◌∷◌, All, ap, arith, filter, get_or, length, map, refl, subst, sym, take}
+use Rattle.std.proofs.lemmas.List.{length-map, take_all}
+use Rattle.std.proofs.lemmas.List.Elements.{All-filter, All-head, All-map, All-tail, All-weaker}
+use Rattle.std.proofs.lemmas.List.FromFn.{get_or-map-range_with_len}
+use Rattle.std.proofs.lemmas.Simd.{map-map}
+use Rattle.std.specs.List.{range_with_len}
+use Rattle.aut_base.proofs.lists.Lists.{map-filter}
+use Rattle.aut_base.specs.Automaton.{Automaton, TreeEdge}
+use Rattle.aut_base.specs.Formula.{FormulaTree}
+use Rattle.aut_core.specs.Core.{AreParts, Core, IsCore, IsLinkOf, automaton_of, edge_of}
+use Rattle.aut_core.specs.declared.link.Link.{Link}
+use Rattle.label_guards.specs.Store.{Has, Store}
+use Rattle.aut_ops.proofs.flagged.Between.{between_formed}
+use Rattle.aut_ops.proofs.sinks.FilledStates.{links_have}
+use Rattle.aut_ops.proofs.links.Linked.{parts_for}
+use Rattle.aut_ops.proofs.flagged.Trimmed.{alone_formed}
+use Rattle.aut_ops.specs.Passable.{arc_of, between, is_flagged, is_passable, passable_arcs, stays}
+use Rattle.aut_ops.specs.Trimming.{IsReachedSize, rank, renumbered, renumbered_edge}
+use Rattle.aut_ops.specs.declared.reached.ReachedSize.{ReachedSize}
+use Rattle.graph_walk.specs.Reach.{AreReached}
+use Rattle.aut_ops.specs.inner.Renumbering.{link_arc, link_passable, link_stays, new_link, new_number}
+
+-- the edges of the links that stay
+pub edges_staying : (c : Core) (flags : List Bool) → map (edge_of c.store) (filter (link_stays c flags) c.links) ≡ (between flags (automaton_of c)).edges
+edges_staying c flags = map-filter (edge_of c.store) (stays (length c.names) flags) c.links
+
+module _ (flags : List Bool) (ranks : List ℕ) (is : ranks ≡ map (rank flags) (range_with_len 0 (length flags))) where
+  pub number_is : (q : ℕ) → q < length flags → new_number ranks q ≡ rank flags q
+  number_is q within = ap (λ (ns : List ℕ). get_or ns q 0) is ∙ get_or-map-range_with_len (rank flags) 0 (length flags) q q 0 within (omega arith)
+
+  pub numbers_are : (ps : List ℕ) → All (λ p. p < length flags) ps → map (new_number ranks) ps ≡ map (rank flags) ps
+  numbers_are [] within = refl
+  numbers_are (p ∷ ps) within =
+      ap (λ n. n ∷ map (new_number ranks) ps) (number_is p (All-head (λ q. q < length flags) p ps within))
+      ∙ ap (λ ns. rank flags p ∷ ns) (numbers_are ps (All-tail (λ q. q < length flags) p ps within))
+
+  pub edges_are : (s : Store) (links : List Link) → All (λ (l : Link). l.from < length flags) links → All (λ (l : Link). l.to < length flags) links
+      → map (edge_of s) (map (new_link ranks) links) ≡ map (renumbered_edge flags) (map (edge_of s) links)
+  edges_are s [] from to = refl
+  edges_are s (l ∷ ls) from to =
+      let begins = number_is l.from (All-head (λ (m : Link). m.from < length flags) l ls from) in
+      let ends = number_is l.to (All-head (λ (m : Link). m.to < length flags) l ls to) in
+      let e : TreeEdge = edge_of s l in
+      let same : edge_of s (new_link ranks l) ≡ renumbered_edge flags e = λ i. record { from = begins i; label = e.label; to = ends i; marks = l.marks } in
+      ap (λ (d : TreeEdge). d ∷ map (edge_of s) (map (new_link ranks) ls)) same
+      ∙ ap (λ ds. renumbered_edge flags e ∷ ds) (edges_are s ls (All-tail (λ (m : Link). m.from < length flags) l ls from) (All-tail (λ (m : Link). m.to < length flags) l ls to))
+
+-- the ends of links are states
+pub links_from_states : (c : Core) → IsCore c → (n : ℕ) → n ≡ c.states → (p : Link → Bool) → All (λ l. l.from < n) (filter p c.links)
+links_from_states c core n is p = All-filter p (λ (l : Link). l.from < n) c.links (All-weaker (IsLinkOf c) (λ (l : Link). l.from < n) (λ l link. omega (arith, link.from, is)) c.links core.parts.links)
+
+pub links_to_states : (c : Core) → IsCore c → (n : ℕ) → n ≡ c.states → (p : Link → Bool) → All (λ l. l.to < n) (filter p c.links)
+links_to_states c core n is p = All-filter p (λ (l : Link). l.to < n) c.links (All-weaker (IsLinkOf c) (λ (l : Link). l.to < n) (λ l link. omega (arith, link.to, is)) c.links core.parts.links)
+
+pub starts_states : (c : Core) → IsCore c → (n : ℕ) → n ≡ c.states → (p : ℕ → Bool) → All (λ q. q < n) (filter p c.starts)
+starts_states c core n is p = All-filter p (λ q. q < n) c.starts (All-weaker (λ q. q < c.states) (λ q. q < n) (λ q less. omega (arith, less, is)) c.starts core.parts.starts)
+
+-- the arcs of the links that are passable
+pub passable_links : (c : Core) (arcs : List (ℕ × ℕ)) (i : ℕ) → length c.links ≤ i → arcs ≡ map link_arc (filter (link_passable c) (take i c.links)) → arcs ≡ passable_arcs (automaton_of c)
+passable_links c arcs i end so_far =
+    so_far ∙ (ap (λ ls. map link_arc (filter (link_passable c) ls)) (take_all i c.links end)
+    ∙ (sym (map-map arc_of (edge_of c.store) (filter (link_passable c) c.links)) ∙ ap (map arc_of) (map-filter (edge_of c.store) (is_passable (length c.names)) c.links)))
+
+-- parts that make such an automaton
+pub record MakesOf (x : Automaton) (made : Core) : Type 0 where
+  pub is : automaton_of made ≡ x
+  pub parts : AreParts made
+
+-- the edges between flagged states, under the numbers that they have
+pub kept_alone : (c : Core) (flags : List Bool) (names : List (List ℕ)) (starts : List ℕ) (states : ℕ) (links : List Link) (sets : ℕ) (formula : FormulaTree) (store : Store) → IsCore c
+    → names ≡ c.names → starts ≡ filter (is_flagged flags) c.starts → states ≡ c.states → links ≡ filter (link_stays c flags) c.links → sets ≡ c.sets → formula ≡ c.formula → store ≡ c.store
+    → MakesOf (between flags (automaton_of c)) (record { names = names; starts = starts; states = states; links = links; sets = sets; formula = formula; store = store })
+kept_alone c flags names starts states links sets formula store core names_are starts_are states_are links_are sets_are formula_is store_is =
+    let made : Core = record { names = names; starts = starts; states = states; links = links; sets = sets; formula = formula; store = store } in
+    let edges : map (edge_of store) links ≡ (between flags (automaton_of c)).edges = (λ i. map (edge_of (store_is i)) (links_are i)) ∙ edges_staying c flags in
+    let is : automaton_of made ≡ between flags (automaton_of c) =
+    λ i. record { names = names_are i; starts = starts_are i; states = states_are i; edges = edges i; sets = sets_are i; formula = formula_is i } in
+    record {
+      is = is;
+      parts = parts_for made (between flags (automaton_of c)) is (between_formed (automaton_of c) core.well_formed flags) core.parts.few
+          (ap (λ (s : Store). s.names) store_is ∙ core.parts.store_names) (guards_there store links store_is links_are);
+    }
+  where
+    guards_there : (s : Store) (ls : List Link) → s ≡ c.store → ls ≡ filter (link_stays c flags) c.links → All (λ (l : Link). Has s l.guard) ls
+    guards_there s ls s_is ls_are = subst (λ (t : Store). All (λ (l : Link). Has t l.guard) ls) (sym s_is)
+        (subst (All (λ (l : Link). Has c.store l.guard)) (sym ls_are) (All-filter (link_stays c flags) (λ (l : Link). Has c.store l.guard) c.links (links_have c core)))
+
+-- the same with the states numbered anew
+pub numbered_alone : (c : Core) (flags : List Bool) (ranks : List ℕ) (names : List (List ℕ)) (flagged starts : List ℕ) (states : ℕ) (staying links : List Link) (sets : ℕ)
+    (formula : FormulaTree) (store : Store) → IsCore c → length flags ≡ c.states → ranks ≡ map (rank flags) (range_with_len 0 (length flags)) → names ≡ c.names
+    → flagged ≡ filter (is_flagged flags) c.starts → starts ≡ map (new_number ranks) flagged → states ≡ rank flags (length flags) → staying ≡ filter (link_stays c flags) c.links
+    → links ≡ map (new_link ranks) staying → sets ≡ c.sets → formula ≡ c.formula → store ≡ c.store
+    → MakesOf (renumbered flags (between flags (automaton_of c))) (record { names = names; starts = starts; states = states; links = links; sets = sets; formula = formula; store = store })
+numbered_alone c flags ranks names flagged starts states staying links sets formula store core size ranks_are names_are flagged_are starts_are states_are staying_are links_are sets_are
+    formula_is store_is =
+    let made : Core = record { names = names; starts = starts; states = states; links = links; sets = sets; formula = formula; store = store } in
+    let kept = filter (link_stays c flags) c.links in
+    let edges : map (edge_of store) links ≡ (renumbered flags (between flags (automaton_of c))).edges =
+    (λ i. map (edge_of (store_is i)) ((links_are ∙ ap (map (new_link ranks)) staying_are) i))
+    ∙ (edges_are flags ranks ranks_are c.store kept (links_from_states c core (length flags) size (link_stays c flags)) (links_to_states c core (length flags) size (link_stays c flags))
+    ∙ ap (map (renumbered_edge flags)) (edges_staying c flags)) in
+    let within = starts_states c core (length flags) size (is_flagged flags) in
+    let begins = starts_are ∙ (ap (map (new_number ranks)) flagged_are ∙ numbers_are flags ranks ranks_are (filter (is_flagged flags) c.starts) within) in
+    let is : automaton_of made ≡ renumbered flags (between flags (automaton_of c)) =
+    λ i. record { names = names_are i; starts = begins i; states = (states_are ∙ ap (rank flags) size) i; edges = edges i; sets = sets_are i; formula = formula_is i } in
+    record {
+      is = is;
+      parts = parts_for made (renumbered flags (between flags (automaton_of c))) is (alone_formed (automaton_of c) core.well_formed flags) core.parts.few
+          (ap (λ (s : Store). s.names) store_is ∙ core.parts.store_names)
+          (guards_there store links store_is (links_are ∙ ap (map (new_link ranks)) staying_are));
+    }
+  where
+    guards_there : (s : Store) (ls : List Link) → s ≡ c.store → ls ≡ map (new_link ranks) (filter (link_stays c flags) c.links) → All (λ (l : Link). Has s l.guard) ls
+    guards_there s ls s_is ls_are =
+        subst (λ (t : Store). All (λ (l : Link). Has t l.guard) ls) (sym s_is) (subst (All (λ (l : Link). Has c.store l.guard)) (sym ls_are)
+        (All-map (λ (l : Link). Has c.store l.guard) (new_link ranks) (filter (link_stays c flags) c.links)
+        (All-filter (link_stays c flags) (λ (l : Link). Has c.store l.guard) c.links (links_have c core))))
+
+-- how many of the states and of the links stay
+pub reached_size : (c : Core) (flags : List Bool) (size : ReachedSize) → AreReached c.states (passable_arcs (automaton_of c)) c.starts flags → size.states ≡ rank flags (length flags)
+    → size.edges ≡ length (filter (link_stays c flags) c.links) → IsReachedSize (automaton_of c) size
+reached_size c flags size reached states edges = record {
+  trimmed = renumbered flags (between flags (automaton_of c));
+  is_trimmed = record { flags = flags; reached = reached; is = refl };
+  states = states ∙ ap (rank flags) reached.size;
+  edges = edges ∙ (sym (length-map (filter (link_stays c flags) c.links) (edge_of c.store))
+      ∙ (ap (λ (es : List TreeEdge). length es) (edges_staying c flags) ∙ sym (length-map (between flags (automaton_of c)).edges (renumbered_edge flags))));
+}

@@ -1,0 +1,72 @@
+-- Automata that follow each other edge by edge, between states that stand for one another.
+use Rattle.std.proofs.Common.{◌≡◌, ℕ, true, List, [], ◌∷◌, ◌++◌, Contains, refl, subst}
+use Rattle.std.specs.List.{AllZip}
+use Rattle.aut_base.specs.Acceptance.{IsPath}
+use Rattle.aut_base.specs.Automaton.{Automaton, TreeEdge}
+use Rattle.aut_base.specs.Label.{holds_at, truth}
+use Rattle.aut_base.specs.Word.{NameSet, copies}
+use Rattle.aut_base.proofs.runs.LassoRuns.{marks_of}
+use Rattle.aut_base.specs.Runs.{LassoRun}
+
+-- an edge of the automaton that answers this one: it leaves the state q, and can be gone at the letter
+pub record Answer (b : Automaton) (Stands : ℕ → ℕ → Type 0) (Marked : List ℕ → List ℕ → Type 0) (x : NameSet) (q : ℕ) (e : TreeEdge) : Type 0 where
+  pub edge : TreeEdge
+  pub from : q ≡ edge.from
+  pub there : Contains b.edges edge
+  pub holds : truth (holds_at b.names x) edge.label ≡ true
+  pub to : Stands e.to edge.to
+  pub marks : Marked e.marks edge.marks
+
+-- Where a state of the first stands for one of the second, each edge that can be gone from it is answered from there.
+-- A state stands for at most one.
+pub record Simulates (a b : Automaton) (Stands : ℕ → ℕ → Type 0) (Marked : List ℕ → List ℕ → Type 0) : Type 0 where
+  pub one : (p q r : ℕ) → Stands p q → Stands p r → q ≡ r
+  pub step : (p q : ℕ) (e : TreeEdge) (x : NameSet) → Stands p q → p ≡ e.from → Contains a.edges e → truth (holds_at a.names x) e.label ≡ true → Answer b Stands Marked x q e
+
+-- the path of the second that answers one of the first
+pub record Image (b : Automaton) (Stands : ℕ → ℕ → Type 0) (Marked : List ℕ → List ℕ → Type 0) (q : ℕ) (xs : List NameSet) (es : List TreeEdge) (p' : ℕ) : Type 0 where
+  pub state : ℕ
+  pub edges : List TreeEdge
+  pub goes : IsPath b q xs edges state
+  pub to : Stands p' state
+  pub marks : AllZip Marked (marks_of es) (marks_of edges)
+
+pub image : (a b : Automaton) (Stands : ℕ → ℕ → Type 0) (Marked : List ℕ → List ℕ → Type 0) → Simulates a b Stands Marked → (p q p' : ℕ) (xs : List NameSet) (es : List TreeEdge) → Stands p q
+    → IsPath a p xs es p' → Image b Stands Marked q xs es p'
+image a b Stands Marked sim p q p' [] [] stands path = record { state = q; edges = []; goes = refl; to = subst (λ s. Stands s q) path stands; marks = tt }
+image a b Stands Marked sim p q p' [] (e ∷ es) stands path = absurd path
+image a b Stands Marked sim p q p' (x ∷ xs) [] stands path = absurd path
+image a b Stands Marked sim p q p' (x ∷ xs) (e ∷ es) stands path =
+    let first = sim.step p q e x stands path.0 path.1 path.2 in
+    let rest = image a b Stands Marked sim e.to first.edge.to p' xs es first.to path.3 in
+    record {
+      state = rest.state;
+      edges = first.edge ∷ rest.edges;
+      goes = (first.from, first.there, first.holds, rest.goes);
+      to = rest.to;
+      marks = (first.marks, rest.marks);
+    }
+
+-- the run of the second that answers one of the first
+pub record RunImage (b : Automaton) (Marked : List ℕ → List ℕ → Type 0) (u v : List NameSet) (turns rounds : ℕ) (cycle : List TreeEdge) : Type 0 where
+  pub run : LassoRun b u v turns rounds
+  pub marks : AllZip Marked (marks_of cycle) (marks_of run.cycle)
+
+pub run_image : (a b : Automaton) (Stands : ℕ → ℕ → Type 0) (Marked : List ℕ → List ℕ → Type 0) → Simulates a b Stands Marked
+    → (u v : List NameSet) (turns rounds : ℕ) (r : LassoRun a u v turns rounds) (start : ℕ) → Contains b.starts start → Stands r.start start → RunImage b Marked u v turns rounds r.cycle
+run_image a b Stands Marked sim u v turns rounds r start is_start stands =
+    let way = image a b Stands Marked sim r.start start r.state (u ++ copies turns v) r.way stands r.leads in
+    let cycle = image a b Stands Marked sim r.state way.state r.state (copies rounds v) r.cycle way.to r.returns in
+    let P : ℕ → Type 0 = λ s. IsPath b way.state (copies rounds v) cycle.edges s in
+    record {
+      run = record {
+        start = start;
+        state = way.state;
+        way = way.edges;
+        cycle = cycle.edges;
+        is_start = is_start;
+        leads = way.goes;
+        returns = subst P (sim.one r.state cycle.state way.state cycle.to way.to) cycle.goes;
+      };
+      marks = cycle.marks;
+    }

@@ -1,0 +1,211 @@
+-- A run of a product is a run of each of the two automata.
+use Rattle.std.proofs.Common.{◌≡◌, ◌∙◌, ◌&&◌, ◌+◌, ◌*◌, ◌<◌, ◌≤◌, ℕ, List, [], ◌∷◌, ◌++◌, Contains, Some, ap, arith, length, refl, slice_get, subst, sym}
+use Rattle.std.proofs.Math.Nat.{le-mul_of_pos_right, mul_comm}
+use Rattle.std.proofs.lemmas.Bool.{and_from, and_parts}
+use Rattle.std.proofs.lemmas.List.Elements.{All-contains}
+use Rattle.std.proofs.lemmas.Option.{get_or_from_slice_get, same_Some, slice_get_within}
+use Rattle.std.specs.List.{AllZip, position_or_len}
+use Rattle.acc_forms.specs.Shift.{shift}
+use Rattle.aut_base.proofs.canonical.CanonicalBelow.{label_of_below}
+use Rattle.aut_base.proofs.lists.Members.{from_map, there_map}
+use Rattle.aut_base.specs.Acceptance.{IsPath}
+use Rattle.aut_base.specs.Automaton.{Automaton, IsEdgeOf, IsWellFormed, TreeEdge}
+use Rattle.aut_base.specs.Formula.{FormulaTree, SetsBelow, met}
+use Rattle.aut_base.specs.Label.{AllBelow, LabelTree, holds_at, truth}
+use Rattle.aut_base.specs.Valuation.{truth_on}
+use Rattle.aut_base.specs.Word.{NameSet, copies}
+use Rattle.aut_ops.proofs.following.CycleMarks.{AgreeBelow, AgreeRaised, joint_first, joint_second, met_below, met_raised}
+use Rattle.aut_ops.proofs.joint_runs.JointEdges.{edge_of, edge_there, from_start, joined, next_there, pairs_differ, start_there, there_start}
+use Rattle.aut_ops.proofs.links.Labels.{not_never, truth_both}
+use Rattle.aut_base.proofs.runs.LassoRuns.{Likewise, later, marks_of}
+use Rattle.aut_base.specs.Runs.{LassoRun}
+use Rattle.aut_ops.proofs.pairs.Places.{one_place, pair_tells, place_there}
+use Rattle.aut_ops.proofs.following.Simulations.{Simulates, run_image}
+use Rattle.aut_ops.specs.Labels.{both_labels}
+use Rattle.aut_ops.specs.Products.{ArePairs, numbered, product_on, same_pair, start_pairs}
+
+-- a run of the product, with runs of both whose cycles it goes round
+pub record JointRun (a b p : Automaton) (u v : List NameSet) (turns rounds : ℕ) (firsts seconds : List TreeEdge) : Type 0 where
+  pub run : LassoRun p u v turns rounds
+  pub first : (f : FormulaTree) → SetsBelow a.sets f → met (marks_of run.cycle) f ≡ met (marks_of firsts) f
+  pub second : (f : FormulaTree) → SetsBelow b.sets f → met (marks_of run.cycle) (shift a.sets f) ≡ met (marks_of seconds) f
+
+module _ (join : FormulaTree → FormulaTree → FormulaTree) (a b : Automaton) (names : b.names ≡ a.names) (formed : IsWellFormed a) (also : IsWellFormed b) (pairs : List (ℕ × ℕ))
+    (listed : ArePairs a b pairs) where
+  abbrev p : Automaton
+  p = product_on join pairs a b
+
+  edge_of_first : (e : TreeEdge) → Contains a.edges e → IsEdgeOf a e
+  edge_of_first e there = All-contains (IsEdgeOf a) a.edges e formed.edges there
+
+  edge_of_second : (e : TreeEdge) → Contains b.edges e → IsEdgeOf b e
+  edge_of_second e there = All-contains (IsEdgeOf b) b.edges e also.edges there
+
+  second_below : (e : TreeEdge) → Contains b.edges e → AllBelow (length a.names) e.label
+  second_below e there = subst (λ (ns : List (List ℕ)). AllBelow (length ns) e.label) names (edge_of_second e there).label
+
+  -- both labels hold
+  both_hold : (x : NameSet) (d e : TreeEdge) → Contains a.edges d → Contains b.edges e
+      → truth (holds_at a.names x) (both_labels (length a.names) d.label e.label) ≡ (truth (holds_at a.names x) d.label && truth (holds_at b.names x) e.label)
+  both_hold x d e one two =
+      truth_both (length a.names) (holds_at a.names x) d.label e.label (edge_of_first d one).label (second_below e two)
+      ∙ ap (λ ns. truth (holds_at a.names x) d.label && truth (holds_at ns x) e.label) (sym names)
+
+  -- the product follows each of the two
+
+  abbrev FirstOf : ℕ → ℕ → Type 0
+  FirstOf k q = (r : ℕ) × (slice_get pairs k ≡ Some (q, r))
+
+  abbrev SecondOf : ℕ → ℕ → Type 0
+  SecondOf k q = (r : ℕ) × (slice_get pairs k ≡ Some (r, q))
+
+  product_in_first : Simulates p a FirstOf (AgreeBelow a.sets)
+  product_in_first = record {
+    one = λ k q r s t. ap (λ (x : ℕ × ℕ). x.0) (same_Some (q, s.0) (r, t.0) (sym s.1 ∙ t.1));
+    step = λ k q e x stands at there holds.
+        let of = edge_of a b pairs listed e there in
+        let same : (q, stands.0) ≡ (of.first.from, of.second.from) = same_Some (q, stands.0) (of.first.from, of.second.from) (sym stands.1 ∙ (ap (slice_get pairs) at ∙ of.from)) in
+        let both = and_parts (truth (holds_at a.names x) of.first.label) (truth (holds_at b.names x) of.second.label) (sym (both_hold x of.first of.second of.in_first of.in_second)
+        ∙ (ap (λ (t : LabelTree). truth (holds_at a.names x) t) of.label ∙ holds)) in
+        record {
+          edge = of.first;
+          from = ap (λ (y : ℕ × ℕ). y.0) same;
+          there = of.in_first;
+          holds = both.0;
+          to = (of.second.to, of.to);
+          marks = subst (λ ms. AgreeBelow a.sets ms of.first.marks) of.marks (joint_first a.sets of.first.marks of.second.marks);
+        };
+  }
+
+  product_in_second : Simulates p b SecondOf (AgreeRaised a.sets b.sets)
+  product_in_second = record {
+    one = λ k q r s t. ap (λ (x : ℕ × ℕ). x.1) (same_Some (s.0, q) (t.0, r) (sym s.1 ∙ t.1));
+    step = λ k q e x stands at there holds.
+        let of = edge_of a b pairs listed e there in
+        let same : (stands.0, q) ≡ (of.first.from, of.second.from) = same_Some (stands.0, q) (of.first.from, of.second.from) (sym stands.1 ∙ (ap (slice_get pairs) at ∙ of.from)) in
+        let both = and_parts (truth (holds_at a.names x) of.first.label) (truth (holds_at b.names x) of.second.label) (sym (both_hold x of.first of.second of.in_first of.in_second)
+        ∙ (ap (λ (t : LabelTree). truth (holds_at a.names x) t) of.label ∙ holds)) in
+        record {
+          edge = of.second;
+          from = ap (λ (y : ℕ × ℕ). y.1) same;
+          there = of.in_second;
+          holds = both.1;
+          to = (of.first.to, of.to);
+          marks = subst (λ ms. AgreeRaised a.sets b.sets ms of.second.marks) of.marks (joint_second a.sets b.sets of.first.marks of.second.marks (edge_of_first of.first of.in_first).marks);
+        };
+  }
+
+  -- and two paths that read the same are one of the product
+
+  record PairPath (k : ℕ) (xs : List NameSet) (es fs : List TreeEdge) (s t : ℕ) : Type 0 where
+    state : ℕ
+    edges : List TreeEdge
+    goes : IsPath p k xs edges state
+    to : slice_get pairs state ≡ Some (s, t)
+    firsts : AllZip (AgreeBelow a.sets) (marks_of edges) (marks_of es)
+    seconds : AllZip (AgreeRaised a.sets b.sets) (marks_of edges) (marks_of fs)
+
+  there_at : (k : ℕ) (x : ℕ × ℕ) → slice_get pairs k ≡ Some x → Contains pairs x
+  there_at k x at = (k, slice_get_within pairs k x at, get_or_from_slice_get pairs k x x at)
+
+  pair_path : (k s t s' t' : ℕ) (xs : List NameSet) (es fs : List TreeEdge) → slice_get pairs k ≡ Some (s, t) → IsPath a s xs es s' → IsPath b t xs fs t' → PairPath k xs es fs s' t'
+  pair_path k s t s' t' [] [] [] at one two = record { state = k; edges = []; goes = refl; to = at ∙ (λ i. Some (one i, two i)); firsts = tt; seconds = tt }
+  pair_path k s t s' t' [] (e ∷ es) fs at one two = absurd one
+  pair_path k s t s' t' [] [] (f ∷ fs) at one two = absurd two
+  pair_path k s t s' t' (x ∷ xs) [] fs at one two = absurd one
+  pair_path k s t s' t' (x ∷ xs) (e ∷ es) [] at one two = absurd two
+  pair_path k s t s' t' (x ∷ xs) (e ∷ es) (f ∷ fs) at one two =
+      let here = there_at k (s, t) at in
+      let holds = both_hold x e f one.1 two.1 ∙ and_from (truth (holds_at a.names x) e.label) (truth (holds_at b.names x) f.label) one.2 two.2 in
+      let some = not_never (length a.names) (holds_at a.names x) (both_labels (length a.names) e.label f.label)
+      (label_of_below (length a.names) (λ v. truth_on e.label v && truth_on f.label v)) holds in
+      let next = next_there a b pairs listed (s, t) e f here one.1 two.1 (sym one.0) (sym two.0) some in
+      let edge : TreeEdge = numbered pairs (joined (length a.names) a.sets e f) in
+      let rest = pair_path edge.to e.to f.to s' t' xs es fs (place_there same_pair pair_tells pairs (pairs_differ a b pairs listed) (e.to, f.to) next) one.3 two.3 in
+      let from : slice_get pairs edge.from ≡ Some (s, t) = place_there same_pair pair_tells pairs (pairs_differ a b pairs listed) (e.from, f.from)
+      (subst (λ y. Contains pairs y) (λ i. (one.0 i, two.0 i)) here) ∙ (λ i. Some (sym one.0 i, sym two.0 i)) in
+      record {
+        state = rest.state;
+        edges = edge ∷ rest.edges;
+        goes = (
+          one_place same_pair pair_tells pairs (pairs_differ a b pairs listed) k edge.from (s, t) at from,
+          edge_there a b pairs listed (s, t) e f here one.1 two.1 (sym one.0)
+              (sym two.0) some,
+          holds,
+          rest.goes,
+        );
+        to = rest.to;
+        firsts = (joint_first a.sets e.marks f.marks, rest.firsts);
+        seconds = (joint_second a.sets b.sets e.marks f.marks (edge_of_first e one.1).marks, rest.seconds);
+      }
+
+  same_turns : (u v : List NameSet) (turns rounds : ℕ) (r : LassoRun a u v turns rounds) (s : LassoRun b u v turns rounds) → JointRun a b p u v turns rounds r.cycle s.cycle
+  same_turns u v turns rounds r s =
+      let differ = pairs_differ a b pairs listed in
+      let there = start_there a b pairs listed r.start s.start r.is_start s.is_start in
+      let start : ℕ = position_or_len (same_pair (r.start, s.start)) pairs in
+      let way = pair_path start r.start s.start r.state s.state (u ++ copies turns v) r.way s.way (place_there same_pair pair_tells pairs differ (r.start, s.start) there) r.leads s.leads in
+      let cycle = pair_path way.state r.state s.state r.state s.state (copies rounds v) r.cycle s.cycle way.to r.returns s.returns in
+      let P : ℕ → Type 0 = λ q. IsPath p way.state (copies rounds v) cycle.edges q in
+      record {
+        run = record {
+          start = start;
+          state = way.state;
+          way = way.edges;
+          cycle = cycle.edges;
+          is_start = there_map (λ pair. position_or_len (same_pair pair) pairs) (start_pairs a b) (r.start, s.start) (there_start a b r.start s.start r.is_start s.is_start);
+          leads = way.goes;
+          returns = subst P (one_place same_pair pair_tells pairs differ cycle.state way.state (r.state, s.state) cycle.to way.to) cycle.goes;
+        };
+        first = λ f below. met_below a.sets (marks_of cycle.edges) (marks_of r.cycle) cycle.firsts f below;
+        second = λ f below. met_raised a.sets b.sets (marks_of cycle.edges) (marks_of s.cycle) cycle.seconds f below;
+      }
+
+  -- runs over the same word, whenever they close
+  pub record Joined (u v : List NameSet) (firsts seconds : List TreeEdge) : Type 0 where
+    pub turns : ℕ
+    pub rounds : ℕ
+    pub positive : 0 < rounds
+    pub joint : JointRun a b p u v turns rounds firsts seconds
+
+  pub join_runs : (u v : List NameSet) (i j k l : ℕ) (r : LassoRun a u v i j) (s : LassoRun b u v k l) → 0 < j → 0 < l → Joined u v r.cycle s.cycle
+  join_runs u v i j k l r s some_r some_s =
+      let one = later a u v i j k l r some_r some_s in
+      let two = later b u v k l i j s some_s some_r in
+      let turns : k + i ≡ i + k = omega arith in
+      let rounds : j * l ≡ l * j = mul_comm j l in
+      let again : Likewise b u v (i + k) (l * j) s.cycle = subst (λ t. Likewise b u v t (l * j) s.cycle) turns (subst (λ m. Likewise b u v (k + i) m s.cycle) rounds two) in
+      let both = same_turns u v (i + k) (l * j) one.run again.run in
+      let wide : l ≤ l * j = le-mul_of_pos_right l some_r in
+      record {
+        turns = i + k;
+        rounds = l * j;
+        positive = omega (arith, wide, some_s);
+        joint = record {
+          run = both.run;
+          first = λ f below. both.first f below ∙ one.alike f;
+          second = λ f below. both.second f below ∙ again.alike f;
+        };
+      }
+
+  -- the runs of both that a run of the product is
+  pub record Parts (u v : List NameSet) (turns rounds : ℕ) (cycle : List TreeEdge) : Type 0 where
+    pub first_run : LassoRun a u v turns rounds
+    pub second_run : LassoRun b u v turns rounds
+    pub first : (f : FormulaTree) → SetsBelow a.sets f → met (marks_of cycle) f ≡ met (marks_of first_run.cycle) f
+    pub second : (f : FormulaTree) → SetsBelow b.sets f → met (marks_of cycle) (shift a.sets f) ≡ met (marks_of second_run.cycle) f
+
+  pub part_runs : (u v : List NameSet) (turns rounds : ℕ) (r : LassoRun p u v turns rounds) → Parts u v turns rounds r.cycle
+  part_runs u v turns rounds r =
+      let start = from_map (λ pair. position_or_len (same_pair pair) pairs) (start_pairs a b) r.start r.is_start in
+      let both = from_start a b start.0 start.1 in
+      let there = start_there a b pairs listed start.0.0 start.0.1 both.0 both.1 in
+      let at : slice_get pairs r.start ≡ Some start.0 = ap (slice_get pairs) (sym start.2) ∙ place_there same_pair pair_tells pairs (pairs_differ a b pairs listed) start.0 there in
+      let one = run_image p a FirstOf (AgreeBelow a.sets) product_in_first u v turns rounds r start.0.0 both.0 (start.0.1, at) in
+      let two = run_image p b SecondOf (AgreeRaised a.sets b.sets) product_in_second u v turns rounds r start.0.1 both.1 (start.0.0, at) in
+      record {
+        first_run = one.run;
+        second_run = two.run;
+        first = λ f below. met_below a.sets (marks_of r.cycle) (marks_of one.run.cycle) one.marks f below;
+        second = λ f below. met_raised a.sets b.sets (marks_of r.cycle) (marks_of two.run.cycle) two.marks f below;
+      }

@@ -1,0 +1,35 @@
+-- A list that is added to another item by item, each turned into something else.
+use Rattle.std.proofs.Common.{◌≡◌, ◌∙◌, ◌+◌, ◌<◌, ◌≤◌, ℕ, zero, suc, Bool, true, false, cond, filter, List, [], ◌∷◌, ◌++◌, All, AllPairs, ap}
+use Rattle.std.proofs.Common.{append_assoc, arith, get_or, length, length-take, map, subst, sym, take}
+use Rattle.std.proofs.lemmas.List.{get_or-take, get_or_default, map-append}
+use Rattle.std.proofs.lemmas.List.Elements.{All-append, All-map, All-weaker}
+use Rattle.aut_base.proofs.lists.Lists.{take-push}
+
+pub map_more : {X Y : Type 0} (f : X → Y) (start old new : List Y) (xs : List X) (i : ℕ) (x : X) (y : Y) → i < length xs → x ≡ get_or xs i x → old ≡ start ++ map f (take i xs) → y ≡ f x
+    → new ≡ old ++ y ∷ [] → new ≡ start ++ map f (take (i + 1) xs)
+map_more f start old new xs i x y within is so_far same pushed =
+    pushed ∙ (ap (λ ys. ys ++ y ∷ []) so_far ∙ (append_assoc start (map f (take i xs)) (y ∷ [])
+    ∙ ap (λ ys. start ++ ys) (ap (λ z. map f (take i xs) ++ z ∷ []) same ∙ (sym (map-append f (take i xs) (x ∷ [])) ∙ sym (ap (map f) (take-push xs i x within is))))))
+
+-- the next of increasing marks, raised, is above those so far
+pub joint_below : (marks others all : List ℕ) (by i mark : ℕ) → All (λ m. m < by) marks → AllPairs (λ m n. m < n) others → i < length others → mark ≡ get_or others i 0
+    → all ≡ marks ++ map (λ m. m + by) (take i others) → All (λ m. m < mark + by) all
+joint_below marks others all by i mark low rise within is so_far = subst (All (λ m. m < mark + by)) (sym so_far)
+    (All-append (λ m. m < mark + by) marks (map (λ m. m + by) (take i others))
+    (All-weaker (λ m. m < by) (λ m. m < mark + by) (λ m l. omega (arith, l)) marks low)
+    (All-map (λ m. m < mark + by) (λ m. m + by) (take i others) (λ k d less.
+    let early : k < i = omega (arith, less, length-take i others) in
+    let up = rise k i 0 early within in
+    let at = get_or-take i others k d early in
+    let same = get_or_default others k d 0 (omega (arith, early, within)) in
+    omega (arith, up, at, same, is))))
+
+-- of so many items no more are kept
+pub kept_within : {X : Type 0} (p : X → Bool) (xs : List X) (i : ℕ) → length (filter p (take i xs)) ≤ i
+kept_within p xs zero = omega arith
+kept_within p [] (suc i) = omega arith
+kept_within p (x ∷ xs) (suc i) = by (p x) (kept_within p xs i)
+  where
+    by : (b : Bool) → length (filter p (take i xs)) ≤ i → length (cond b (x ∷ filter p (take i xs)) (filter p (take i xs))) ≤ suc i
+    by true rest = omega (arith, rest)
+    by false rest = omega (arith, rest)

@@ -1,0 +1,7 @@
+-- The pairs of a product, as they are reached, listed and numbered.
+pub mod BreadthFirst
+pub mod Explorations
+pub mod Laws
+pub mod Listings
+pub mod Pairings
+pub mod Places

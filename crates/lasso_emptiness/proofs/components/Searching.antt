@@ -1,0 +1,109 @@
+-- What is found, or not, in parts of the edges, is found, or not, in all of them.
+use Rattle.std.proofs.Common.{◌≡◌, ◌∙◌, ℕ, Bool, true, false, List, map, Option, None, Some, inl, inr, ap, refl, sym}
+use Rattle.std.specs.List.{All, Contains, list_any}
+use Rattle.std.proofs.lemmas.List.Elements.{All-contains}
+use Rattle.aut_base.proofs.lists.Members.{any_found, each_there, from_map, none_at, there_map}
+use Rattle.aut_base.specs.Formula.{FormulaTree}
+use Rattle.aut_core.specs.declared.link.Link.{Link}
+use Rattle.lasso_emptiness.specs.declared.live.LiveEdge.{LiveEdge}
+use Rattle.lasso_emptiness.specs.inner.Edges.{marks_of, on_side}
+use Rattle.lasso_emptiness.specs.inner.Groups.{AreGroups}
+use Rattle.lasso_emptiness.specs.inner.Needed.{AreNeeded}
+use Rattle.lasso_emptiness.specs.inner.Splits.{AreLeft, IsSplit}
+use Rattle.lasso_emptiness.specs.inner.Taken.{taken}
+use Rattle.lasso_emptiness.specs.inner.Tours.{IsTour}
+use Rattle.lasso_emptiness.specs.inner.Trails.{Finds, FindsInAny, InSome, IsAccepting, NoneAccepting, NoneInAny}
+use Rattle.lasso_emptiness.proofs.conditions.Conditions.{met-denied, met-taken}
+use Rattle.lasso_emptiness.proofs.conditions.Marked.{none_on}
+use Rattle.lasso_emptiness.proofs.trails.Trails.{trail_kind, trail_weaker, trail_with}
+
+-- the same closed path, along edges of another kind
+pub accepting_weaker : (links : List Link) (K L : LiveEdge → Type 0) (f : FormulaTree) (cycle : List LiveEdge) → ((e : LiveEdge) → K e → L e) → IsAccepting links K f cycle
+    → IsAccepting links L f cycle
+accepting_weaker links K L f cycle weaker accepting = record {
+  some = accepting.some;
+  state = accepting.state;
+  closed = trail_weaker K L weaker accepting.state accepting.state cycle accepting.closed;
+  meets = accepting.meets;
+}
+
+-- what the groups of components answer for all edges
+pub finds_of_groups : (links : List Link) (edges : List LiveEdge) (groups : List (List LiveEdge)) (f : FormulaTree) → AreGroups edges groups → (found : Option (List LiveEdge))
+    → FindsInAny links groups f found → Finds links (Contains edges) f found
+finds_of_groups links edges groups f are None none = λ cycle accepting.
+    let there = are.whole accepting.state cycle accepting.some accepting.closed in
+    none there.0 there.1 cycle (record { some = accepting.some; state = accepting.state; closed = there.2; meets = accepting.meets })
+finds_of_groups links edges groups f are (Some cycle) accepting =
+    accepting_weaker links (InSome groups) (Contains edges) f cycle (λ e some. (are.each some.group some.listed).inside e some.here) accepting
+
+-- a closed path through the edges that are needed
+pub accepting_tour : (links : List Link) (edges needed cycle : List LiveEdge) (f : FormulaTree) → AreNeeded links edges f needed → IsTour edges needed cycle
+    → IsAccepting links (Contains edges) f cycle
+accepting_tour links edges needed cycle f are tour = record {
+  some = tour.some;
+  state = tour.state;
+  closed = tour.closed;
+  meets = are.enough cycle (each_there (Contains edges) cycle (λ e here. trail_kind (Contains edges) tour.state tour.state cycle e tour.closed here)) tour.passes;
+}
+
+-- Groups are left after others have no such path, and are divided by the side of a `Fin`.
+module _ (links : List Link) (set : ℕ) (neg : Bool) (f : FormulaTree) (groups left crossed : List (List LiveEdge)) (off : List LiveEdge) (are : AreLeft links groups f left)
+    (split : IsSplit links set neg left off crossed) where
+  -- a path off the side meets the condition as it does with the `Fin` taken as true
+  pub found_off : (cycle : List LiveEdge) → IsAccepting links (Contains off) (taken set neg true f) cycle → IsAccepting links (InSome groups) f cycle
+  found_off cycle accepting = record {
+    some = accepting.some;
+    state = accepting.state;
+    closed = trail_weaker (Contains off) (InSome groups)
+        (λ e here. let some = split.off_some e here in record { group = some.group; listed = are.inside some.group some.listed; here = some.here }) accepting.state accepting.state cycle
+        accepting.closed;
+    meets = sym (met-taken (map (marks_of links) cycle) set neg true f
+        (none_on links cycle set neg (each_there (λ (e : LiveEdge). on_side set neg (marks_of links e) ≡ false) cycle
+        (λ e here. split.off_side e (trail_kind (Contains off) accepting.state accepting.state cycle e accepting.closed here))))) ∙ accepting.meets;
+  }
+
+  -- a path that meets the condition with the `Fin` taken as false meets it
+  pub found_crossed : (cycle : List LiveEdge) → IsAccepting links (InSome crossed) (taken set neg false f) cycle → IsAccepting links (InSome groups) f cycle
+  found_crossed cycle accepting = record {
+    some = accepting.some;
+    state = accepting.state;
+    closed = trail_weaker (InSome crossed) (InSome groups) (λ e some. record { group = some.group; listed = are.inside some.group (split.inside some.group some.listed); here = some.here })
+        accepting.state accepting.state cycle accepting.closed;
+    meets = met-denied (map (marks_of links) cycle) set neg f accepting.meets;
+  }
+
+  -- each path is off the side, or passes an edge on it
+  pub none_found : NoneAccepting links (Contains off) (taken set neg true f) → NoneInAny links crossed (taken set neg false f) → NoneInAny links groups f
+  none_found none_off none_crossed group listed cycle accepting = elim (are.others group listed) [
+    | inl there ↦ go there (list_any (on_side set neg) (map (marks_of links) cycle)) refl
+    | inr none ↦ none cycle accepting
+  ]
+    where
+      go : Contains left group → (b : Bool) → list_any (on_side set neg) (map (marks_of links) cycle) ≡ b → ⊥
+      go there false is = none_off cycle (record {
+        some = accepting.some;
+        state = accepting.state;
+        closed = trail_with (Contains group) (Contains off) accepting.state accepting.state cycle accepting.closed (λ e here in_group.
+            split.all_off e (record { group = group; listed = there; here = in_group })
+            (none_at (on_side set neg) (map (marks_of links) cycle) (marks_of links e) is (there_map (marks_of links) cycle e here)));
+        meets = met-taken (map (marks_of links) cycle) set neg true f is ∙ accepting.meets;
+      })
+      go there true is =
+          let found = any_found (on_side set neg) (map (marks_of links) cycle) is in
+          let edge = from_map (marks_of links) cycle found.0 found.1 in
+          let here = trail_kind (Contains group) accepting.state accepting.state cycle edge.0 accepting.closed edge.1 in
+          none_crossed group (split.all_crossed group edge.0 there here (ap (on_side set neg) edge.2 ∙ found.2)) cycle (record {
+            some = accepting.some;
+            state = accepting.state;
+            closed = accepting.closed;
+            meets = met-taken (map (marks_of links) cycle) set neg false f is ∙ accepting.meets;
+          })
+
+  -- what is found in the groups that have an edge on the side, once nothing is found off it
+  pub finds_of_split : NoneAccepting links (Contains off) (taken set neg true f) → (found : Option (List LiveEdge)) → FindsInAny links crossed (taken set neg false f) found
+      → FindsInAny links groups f found
+  finds_of_split none_off None none = none_found none_off none
+  finds_of_split none_off (Some cycle) accepting = found_crossed cycle accepting
+
+pub within_all : (P : LiveEdge → Type 0) (groups : List (List LiveEdge)) → All (All P) groups → (group : List LiveEdge) → Contains groups group → (e : LiveEdge) → Contains group e → P e
+within_all P groups all group listed e here = All-contains P group e (All-contains (All P) groups group all listed) here

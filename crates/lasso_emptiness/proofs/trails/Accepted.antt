@@ -1,0 +1,170 @@
+-- A closed path that is reached and accepting makes an accepted word, and an accepted word such a path.
+use Rattle.std.proofs.Common.{◌≡◌, ◌∙◌, ◌↔◌, ℕ, zero, suc, ◌+◌, ◌*◌, ◌<◌, ◌≤◌, List, [], ◌∷◌, ◌++◌, length, get_or, map, Option, Some, slice_get, inl, inr, ap, arith, refl, subst, sym}
+use Rattle.std.specs.List.{All, Contains}
+use Rattle.std.proofs.lemmas.List.{append-nil, length-append}
+use Rattle.std.proofs.lemmas.List.Elements.{All-append, All-contains, All-nil, Contains-append_cases, Contains-append_left, Contains-append_right}
+use Rattle.std.proofs.lemmas.Option.{get_or_from_slice_get, slice_get-get_or, slice_get_within}
+use Rattle.std.proofs.Math.Nat.{mul-le-mul_left}
+use Rattle.aut_base.proofs.lists.Members.{each_there, none_there, there_map}
+use Rattle.aut_base.proofs.words.Spelled.{word_letter}
+use Rattle.aut_base.proofs.runs.Walks.{as_long}
+use Rattle.aut_base.specs.Acceptance.{Accepts, IsPath}
+use Rattle.aut_base.specs.Formula.{FormulaTree, met}
+use Rattle.aut_base.specs.Word.{IsReduced, NameSet, SpellsSame, copies}
+use Rattle.aut_base.specs.declared.letter.Lasso.{Lasso}
+use Rattle.aut_core.specs.Core.{Core, IsCore, automaton_of}
+use Rattle.aut_core.specs.declared.link.Link.{Link}
+use Rattle.graph_walk.specs.Reach.{ReachedFrom}
+use Rattle.graph_walk.proofs.WalkLemmas.{reach_none, reach_then}
+use Rattle.lasso_emptiness.specs.Emptiness.{AcceptsNothing, IsAcceptedWord}
+use Rattle.lasso_emptiness.specs.declared.live.LiveEdge.{LiveEdge}
+use Rattle.lasso_emptiness.specs.inner.Edges.{arc_of}
+use Rattle.lasso_emptiness.specs.inner.Letters.{AreLettersOf, IsOwnWord}
+use Rattle.lasso_emptiness.specs.inner.Live.{ArePassable, AreReachedEdges, IsPassable}
+use Rattle.lasso_emptiness.specs.inner.Tours.{IsStem, edge_at}
+use Rattle.lasso_emptiness.specs.inner.Trails.{Finds, IsAccepting, IsTrail, NoneAccepting}
+use Rattle.lasso_emptiness.proofs.trails.Lettered.{letters_long, letters_own, reads_along, trail_of}
+use Rattle.lasso_emptiness.proofs.trails.Trails.{trail_weaker}
+use Rattle.word_syntax.specs.Printing.{HoldsOnly}
+
+-- the first edge of a path begins where the path does
+pub head_from : (Kind : LiveEdge → Type 0) (p q : ℕ) (es : List LiveEdge) → 0 < length es → IsTrail Kind p es q → (edge_at es 0).from ≡ p
+head_from Kind p q [] some trail = absurd (omega arith)
+head_from Kind p q (e ∷ es) some trail = trail.1
+
+-- the word of a stem and a closed path
+pub own_word : (c : Core) (passable stem cycle : List LiveEdge) (state : ℕ) (w : Lasso) → state ≡ (edge_at cycle 0).from → IsStem c.starts passable state stem
+    → IsAccepting c.links (IsPassable c) c.formula cycle → AreLettersOf c stem w.stem → AreLettersOf c cycle w.cycle → IsOwnWord (automaton_of c) w
+own_word c passable stem cycle state w at leads accepting stem_letters cycle_letters =
+    let around = accepting.state in
+    let same : state ≡ around = at ∙ head_from (IsPassable c) around around cycle accepting.some accepting.closed in
+    let way = reads_along c (Contains passable) leads.start state stem w.stem leads.leads stem_letters in
+    let loop = reads_along c (IsPassable c) around around cycle w.cycle accepting.closed cycle_letters in
+    let long : length w.cycle ≡ length cycle = letters_long c cycle w.cycle cycle_letters in
+    let some : 0 < length cycle = accepting.some in
+    record {
+      own_names = each_there (HoldsOnly c.names) (w.stem ++ w.cycle) (λ x here. elim (Contains-append_cases w.stem w.cycle x here) [
+        | inl left ↦ letters_own c stem w.stem stem_letters x left
+        | inr right ↦ letters_own c cycle w.cycle cycle_letters x right
+      ]);
+      accepts = record {
+        endless = omega arith;
+        start = leads.start;
+        state = around;
+        turns = 0;
+        rounds = 1;
+        way = way.trees;
+        cycle = loop.trees;
+        is_start = leads.is_start;
+        leads = subst (λ xs. IsPath (automaton_of c) leads.start xs way.trees around) (sym (append-nil w.stem)) (subst (λ q. IsPath (automaton_of c) leads.start w.stem way.trees q) same way.path);
+        positive = omega arith;
+        returns = subst (λ xs. IsPath (automaton_of c) around xs loop.trees around) (sym (append-nil w.cycle)) loop.path;
+        meets = ap (λ marks. met marks c.formula) loop.marks ∙ accepting.meets;
+      };
+    }
+
+-- a path from a reached state goes along edges that leave reached states, and its end is reached
+pub reached_on : (starts : List ℕ) (edges reached : List LiveEdge) → AreReachedEdges starts edges reached → (p q : ℕ) (es : List LiveEdge) → ReachedFrom (map arc_of edges) starts p
+    → IsTrail (Contains edges) p es q → IsTrail (Contains reached) p es q × ReachedFrom (map arc_of edges) starts q
+reached_on starts edges reached are p q [] from trail = (trail, subst (ReachedFrom (map arc_of edges) starts) trail from)
+reached_on starts edges reached are p q (e ∷ es) from trail =
+    let here : ReachedFrom (map arc_of edges) starts e.from = subst (ReachedFrom (map arc_of edges) starts) (sym trail.1) from in
+    let next : ReachedFrom (map arc_of edges) starts e.to = record {
+      start = here.start;
+      listed = here.listed;
+      reached = reach_then (map arc_of edges) here.start e.from e.to here.reached (record { walk = arc_of e ∷ []; leads = (there_map arc_of edges e trail.0, refl, refl) });
+    } in
+    let rest = reached_on starts edges reached are e.to q es next trail.2 in
+    ((are.added e trail.0 here, trail.1, rest.0), rest.1)
+
+-- where no closed path along reached edges is accepting, nothing is accepted
+pub accepts_nothing : (c : Core) → IsCore c → (passable reached : List LiveEdge) → ArePassable c passable → AreReachedEdges c.starts passable reached
+    → NoneAccepting c.links (Contains reached) c.formula → AcceptsNothing (automaton_of c)
+accepts_nothing c is passable reached are picked none u v accepts =
+    let way = trail_of c is accepts.start accepts.state (u ++ copies accepts.turns v) accepts.way accepts.leads in
+    let loop = trail_of c is accepts.state accepts.state (copies accepts.rounds v) accepts.cycle accepts.returns in
+    let start : ReachedFrom (map arc_of passable) c.starts accepts.start = record { start = accepts.start; listed = accepts.is_start; reached = reach_none (map arc_of passable) accepts.start } in
+    let there = reached_on c.starts passable reached picked accepts.start accepts.state way.edges start
+    (trail_weaker (IsPassable c) (Contains passable) are.whole accepts.start accepts.state way.edges way.trail) in
+    let around = reached_on c.starts passable reached picked accepts.state accepts.state loop.edges there.1
+    (trail_weaker (IsPassable c) (Contains passable) are.whole accepts.state accepts.state loop.edges loop.trail) in
+    let long : length accepts.cycle ≡ length (copies accepts.rounds v) = as_long (automaton_of c) accepts.state (copies accepts.rounds v) accepts.cycle accepts.state accepts.returns in
+    let some : 0 < length (copies accepts.rounds v) = some_copies accepts.rounds v accepts.positive accepts.endless in
+    let edges_long : length loop.edges ≡ length accepts.cycle = loop.long in
+    none loop.edges (record {
+      some = omega arith;
+      state = accepts.state;
+      closed = around.0;
+      meets = ap (λ marks. met marks c.formula) (sym loop.marks) ∙ accepts.meets;
+    })
+  where
+    some_copies : (k : ℕ) (v : List NameSet) → 0 < k → 0 < length v → 0 < length (copies k v)
+    some_copies zero v positive endless = absurd (omega arith)
+    some_copies (suc k) v positive endless = let long = length-append v (copies k v) in omega arith
+
+-- a closed path along reached edges is one along passable edges, from reached states
+pub along_passable : (c : Core) (passable reached cycle : List LiveEdge) → ArePassable c passable → AreReachedEdges c.starts passable reached
+    → IsAccepting c.links (Contains reached) c.formula cycle → IsAccepting c.links (IsPassable c) c.formula cycle
+along_passable c passable reached cycle are picked accepting = record {
+  some = accepting.some;
+  state = accepting.state;
+  closed = trail_weaker (Contains reached) (IsPassable c) (λ e here. elim (picked.nothing_else e here) [
+    | inl old ↦ (let within = old.1 in absurd (omega arith))
+    | inr found ↦ are.each e found.0
+  ]) accepting.state accepting.state cycle accepting.closed;
+  meets = accepting.meets;
+}
+
+-- what holds of each letter of a word holds of those of each word that spells the same
+copies_all : (P : NameSet → Type 0) (k : ℕ) (y : List NameSet) → All P y → All P (copies k y)
+copies_all P zero y all = All-nil P
+copies_all P (suc k) y all = All-append P y (copies k y) all (copies_all P k y all)
+
+placed_all : (P : NameSet → Type 0) (xs : List NameSet) → ((k : ℕ) (x : NameSet) → slice_get xs k ≡ Some x → P x) → All P xs
+placed_all P xs each k d within = each k (get_or xs k d) (slice_get-get_or xs k d within)
+
+all_placed : (P : NameSet → Type 0) (xs : List NameSet) (k : ℕ) (x : NameSet) → All P xs → slice_get xs k ≡ Some x → P x
+all_placed P xs k x all is = subst P (get_or_from_slice_get xs k x x is) (all k x (slice_get_within xs k x is))
+
+pub own_same : (P : NameSet → Type 0) (u v x y : List NameSet) → 0 < length v → 0 < length y → SpellsSame u v x y → All P x → All P y → All P (u ++ v)
+own_same P u v x y endless endless' same in_stem in_cycle = placed_all P (u ++ v) (λ k z is.
+    let within = slice_get_within (u ++ v) k z is in
+    let long = length-append u v in
+    let few : k < length u + 1 * length v = omega arith in
+    let enough : k + 1 ≤ (k + 1) * length y = grown (k + 1) (length y) endless' in
+    let inside : k < length x + (k + 1) * length y = omega arith in
+    let once : slice_get (u ++ copies 1 v) k ≡ Some z = ap (λ vs. slice_get (u ++ vs) k) (append-nil v) ∙ is in
+    let there : slice_get (x ++ copies (k + 1) y) k ≡ Some z = sym (word_letter x y (k + 1) k endless' inside) ∙ sym (same k) ∙ word_letter u v 1 k endless few ∙ once in
+    all_placed P (x ++ copies (k + 1) y) k z (All-append P x (copies (k + 1) y) in_stem (copies_all P (k + 1) y in_cycle)) there)
+  where
+    grown : (a b : ℕ) → 0 < b → a ≤ a * b
+    grown a b some = let one : 1 ≤ b = omega arith in omega (arith, mul-le-mul_left a one)
+
+-- the reduced word of an accepted one
+pub reduced_word : (c : Core) (w new : Lasso) → 0 < length w.cycle → 0 < length new.cycle → IsOwnWord (automaton_of c) w → SpellsSame new.stem new.cycle w.stem w.cycle
+    → IsReduced new.stem new.cycle → (Accepts (automaton_of c) new.stem new.cycle ↔ Accepts (automaton_of c) w.stem w.cycle) → IsAcceptedWord (automaton_of c) new
+reduced_word c w new endless endless' own same reduced accepts = record {
+  reduced = reduced;
+  own_names = own_same (HoldsOnly c.names) new.stem new.cycle w.stem w.cycle endless' endless same (front w.stem w.cycle own.own_names) (back w.stem w.cycle own.own_names);
+  accepts = accepts.1 own.accepts;
+}
+  where
+    front : (xs ys : List NameSet) → All (HoldsOnly c.names) (xs ++ ys) → All (HoldsOnly c.names) xs
+    front xs ys all = each_there (HoldsOnly c.names) xs (λ x here. All-contains (HoldsOnly c.names) (xs ++ ys) x all (Contains-append_left xs ys x here))
+
+    back : (xs ys : List NameSet) → All (HoldsOnly c.names) (xs ++ ys) → All (HoldsOnly c.names) ys
+    back xs ys all = each_there (HoldsOnly c.names) ys (λ x here. All-contains (HoldsOnly c.names) (xs ++ ys) x all (Contains-append_right xs ys x here))
+
+-- the answer of a search, said of the automaton's own parts
+pub finds_in : (links own : List Link) (slice edges : List LiveEdge) (f g : FormulaTree) (found : Option (List LiveEdge)) → links ≡ own → slice ≡ edges → f ≡ g
+    → Finds links (Contains slice) f found → Finds own (Contains edges) g found
+finds_in links own slice edges f g found links_are edges_are f_is finds =
+    subst (λ h. Finds own (Contains edges) h found) f_is (subst (λ es. Finds own (Contains es) f found) edges_are (subst (λ (ls : List Link). Finds ls (Contains slice) f found) links_are finds))
+
+-- an edge that is reached is one of the edges, and leaves a reached state
+pub leaves_reached : (starts : List ℕ) (edges reached : List LiveEdge) → AreReachedEdges starts edges reached → (e : LiveEdge) → Contains reached e
+    → Contains edges e × ReachedFrom (map arc_of edges) starts e.from
+leaves_reached starts edges reached picked e here = elim (picked.nothing_else e here) [
+  | inl old ↦ absurd (none_there e old)
+  | inr found ↦ found
+]

@@ -1,0 +1,6 @@
+-- Runs by the places of their edges, put together and taken apart, and runs of deterministic automata.
+pub mod Accepted
+pub mod Deterministic
+pub mod Nth
+pub mod Starts
+pub mod Tracks

@@ -1,0 +1,87 @@
+-- Runs by places are the runs of acceptance.
+use Rattle.std.proofs.Common.{◌≡◌, ◌∙◌, ℕ, ◌<◌, List, [], ◌∷◌, ◌++◌, ap, length, map, refl, sym}
+use Rattle.aut_base.proofs.lists.Members.{placed_there, there_at}
+use Rattle.aut_base.specs.Acceptance.{Accepts, IsPath}
+use Rattle.aut_base.specs.Automaton.{Automaton, TreeEdge}
+use Rattle.aut_base.specs.Formula.{met}
+use Rattle.aut_base.specs.Word.{NameSet, copies}
+use Rattle.unambiguous.proofs.deciding.Decided.{marks_here}
+use Rattle.unambiguous.specs.Laws.{RunsAreAcceptance}
+use Rattle.unambiguous.specs.Runs.{AcceptingRun, IsTrack, marks_at}
+
+module _ (a : Automaton) where
+  record Placed (p q : ℕ) (xs : List NameSet) (es : List TreeEdge) : Type 0 where
+    places : List ℕ
+    track : IsTrack a p xs places q
+    marks : map (marks_at a) places ≡ map (λ (e : TreeEdge). e.marks) es
+
+  placed : (p q : ℕ) (xs : List NameSet) (es : List TreeEdge) → IsPath a p xs es q → Placed p q xs es
+  placed p q [] [] path = record { places = []; track = path; marks = refl }
+  placed p q [] (e ∷ es) path = absurd path
+  placed p q (x ∷ xs) [] path = absurd path
+  placed p q (x ∷ xs) (e ∷ es) path =
+      let at = there_at a.edges e path.1 in
+      let rest = placed e.to q xs es path.3 in
+      record {
+        places = at.0 ∷ rest.places;
+        track = (e, at.1, path.0, path.2, rest.track);
+        marks = ap (λ ms. ms ∷ map (marks_at a) rest.places) (sym (marks_here a at.0 e at.1)) ∙ ap (λ cs. e.marks ∷ cs) rest.marks;
+      }
+
+  record Gone (p q : ℕ) (xs : List NameSet) (ms : List ℕ) : Type 0 where
+    edges : List TreeEdge
+    path : IsPath a p xs edges q
+    marks : map (λ (e : TreeEdge). e.marks) edges ≡ map (marks_at a) ms
+
+  gone : (p q : ℕ) (xs : List NameSet) (ms : List ℕ) → IsTrack a p xs ms q → Gone p q xs ms
+  gone p q [] [] track = record { edges = []; path = track; marks = refl }
+  gone p q [] (m ∷ ms) track = absurd track
+  gone p q (x ∷ xs) [] track = absurd track
+  gone p q (x ∷ xs) (m ∷ ms) track =
+      let e = track.0 in
+      let rest = gone e.to q xs ms track.4 in
+      record {
+        edges = e ∷ rest.edges;
+        path = (track.2, placed_there a.edges m e track.1, track.3, rest.path);
+        marks = ap (λ cs. e.marks ∷ cs) rest.marks ∙ ap (λ ns. ns ∷ map (marks_at a) ms) (marks_here a m e track.1);
+      }
+
+  to_run : (u v : List NameSet) → Accepts a u v → AcceptingRun a u v
+  to_run u v r =
+      let way = placed r.start r.state (u ++ copies r.turns v) r.way r.leads in
+      let cycle = placed r.state r.state (copies r.rounds v) r.cycle r.returns in
+      record {
+        start = r.start;
+        state = r.state;
+        turns = r.turns;
+        rounds = r.rounds;
+        way = way.places;
+        cycle = cycle.places;
+        is_start = r.is_start;
+        leads = way.track;
+        positive = r.positive;
+        returns = cycle.track;
+        meets = ap (λ cs. met cs a.formula) cycle.marks ∙ r.meets;
+      }
+
+  from_run : (u v : List NameSet) → 0 < length v → AcceptingRun a u v → Accepts a u v
+  from_run u v endless r =
+      let way = gone r.start r.state (u ++ copies r.turns v) r.way r.leads in
+      let cycle = gone r.state r.state (copies r.rounds v) r.cycle r.returns in
+      record {
+        endless = endless;
+        start = r.start;
+        state = r.state;
+        turns = r.turns;
+        rounds = r.rounds;
+        way = way.edges;
+        cycle = cycle.edges;
+        is_start = r.is_start;
+        leads = way.path;
+        positive = r.positive;
+        returns = cycle.path;
+        meets = ap (λ cs. met cs a.formula) cycle.marks ∙ r.meets;
+      }
+
+pub runs_are_acceptance : RunsAreAcceptance
+runs_are_acceptance a u v endless = (to_run a u v, from_run a u v endless)

@@ -1,0 +1,37 @@
+-- The first edge of a run fixes its start.
+use Rattle.std.proofs.Common.{◌≡◌, ◌∙◌, ℕ, ◌<◌, List, [], ◌∷◌, ◌++◌, Some, ap, arith, length, slice_get, sym}
+use Rattle.std.proofs.lemmas.Option.{same_Some}
+use Rattle.aut_base.specs.Automaton.{Automaton, TreeEdge}
+use Rattle.aut_base.specs.Word.{NameSet, copies}
+use Rattle.unambiguous.proofs.tracks.Nth.{item}
+use Rattle.unambiguous.proofs.tracks.Tracks.{some_edges}
+use Rattle.unambiguous.specs.Laws.{PlacesFixStart}
+use Rattle.unambiguous.specs.Runs.{AcceptingRun, IsTrack, nth}
+
+module _ (a : Automaton) where
+  record Begins (p : ℕ) (ms ns : List ℕ) : Type 0 where
+    place : ℕ
+    edge : TreeEdge
+    at : slice_get a.edges place ≡ Some edge
+    from : p ≡ edge.from
+    is_first : nth ms ns 0 ≡ Some place
+
+  begins : (p q r : ℕ) (xs ys : List NameSet) (ms ns : List ℕ) → IsTrack a p xs ms q → IsTrack a q ys ns r → 0 < length ns → Begins p ms ns
+  begins p q r xs ys ms [] one two some = absurd (omega (arith, some))
+  begins p q r xs [] ms (n ∷ ns) one two some = absurd two
+  begins p q r [] (y ∷ ys) [] (n ∷ ns) one two some = record { place = n; edge = two.0; at = two.1; from = one ∙ two.2; is_first = item [] (n ∷ ns) 1 0 some (omega arith) }
+  begins p q r [] (y ∷ ys) (m ∷ ms) (n ∷ ns) one two some = absurd one
+  begins p q r (x ∷ xs) (y ∷ ys) [] (n ∷ ns) one two some = absurd one
+  begins p q r (x ∷ xs) (y ∷ ys) (m ∷ ms) (n ∷ ns) one two some = record { place = m; edge = one.0; at = one.1; from = one.2; is_first = item (m ∷ ms) (n ∷ ns) 1 0 some (omega arith) }
+
+  begun : (u v : List NameSet) → 0 < length v → (r : AcceptingRun a u v) → Begins r.start r.way r.cycle
+  begun u v endless r = begins r.start r.state r.state (u ++ copies r.turns v) (copies r.rounds v) r.way r.cycle r.leads r.returns
+      (some_edges a u v endless r.state r.state r.rounds r.cycle r.positive r.returns)
+
+pub places_fix_start : PlacesFixStart
+places_fix_start a u v endless r t same =
+    let mine = begun a u v endless r in
+    let his = begun a u v endless t in
+    let place : mine.place ≡ his.place = same_Some mine.place his.place (sym mine.is_first ∙ (same 0 ∙ his.is_first)) in
+    let edge : mine.edge ≡ his.edge = same_Some mine.edge his.edge (sym mine.at ∙ (ap (slice_get a.edges) place ∙ his.at)) in
+    mine.from ∙ (ap (λ (e : TreeEdge). e.from) edge ∙ sym his.from)

@@ -1,0 +1,147 @@
+-- Tracks put together and taken apart, and runs that close later and go round more often.
+use Rattle.std.proofs.Common.{◌≡◌, ◌∙◌, ℕ, zero, suc, ◌+◌, ◌*◌, ◌<◌, List, [], ◌∷◌, ◌++◌, Contains, ap, append_assoc, arith, length, map, refl, subst, sym}
+use Rattle.std.proofs.lemmas.List.{map-append}
+use Rattle.std.proofs.lemmas.List.Folds.{list_all-append, list_any-append}
+use Rattle.std.proofs.lemmas.Nat.{mul-lt}
+use Rattle.std.specs.List.{list_all, list_any}
+use Rattle.aut_base.proofs.lists.Copies.{copies-copies, copies-push, length-copies}
+use Rattle.aut_base.proofs.words.SameEdges.{Alike, gone_alike, met_alike}
+use Rattle.aut_base.proofs.numbers.Truth.{and_comm, or_comm}
+use Rattle.aut_base.specs.Automaton.{Automaton}
+use Rattle.aut_base.specs.Formula.{FormulaTree, met}
+use Rattle.aut_base.specs.Word.{NameSet, copies}
+use Rattle.unambiguous.proofs.tracks.Nth.{nth_copies, nth_turned}
+use Rattle.unambiguous.specs.Runs.{AcceptingRun, IsTrack, marks_at, nth}
+
+module _ (a : Automaton) where
+  pub as_long : (p : ℕ) (xs : List NameSet) (ms : List ℕ) (q : ℕ) → IsTrack a p xs ms q → length ms ≡ length xs
+  as_long p [] [] q track = refl
+  as_long p [] (m ∷ ms) q track = absurd track
+  as_long p (x ∷ xs) [] q track = absurd track
+  as_long p (x ∷ xs) (m ∷ ms) q track = ap suc (as_long track.0.to xs ms q track.4)
+
+  track_join : (p r q : ℕ) (xs ys : List NameSet) (ms ns : List ℕ) → IsTrack a p xs ms r → IsTrack a r ys ns q → IsTrack a p (xs ++ ys) (ms ++ ns) q
+  track_join p r q [] ys [] ns first second = let P : ℕ → Type 0 = λ s. IsTrack a s ys ns q in subst P (sym first) second
+  track_join p r q [] ys (m ∷ ms) ns first second = absurd first
+  track_join p r q (x ∷ xs) ys [] ns first second = absurd first
+  track_join p r q (x ∷ xs) ys (m ∷ ms) ns first second = (first.0, first.1, first.2, first.3, track_join first.0.to r q xs ys ms ns first.4 second)
+
+  record Halves (p q : ℕ) (xs ys : List NameSet) (ms : List ℕ) : Type 0 where
+    middle : ℕ
+    front : List ℕ
+    back : List ℕ
+    parts : ms ≡ front ++ back
+    first : IsTrack a p xs front middle
+    second : IsTrack a middle ys back q
+
+  track_split : (p q : ℕ) (xs ys : List NameSet) (ms : List ℕ) → IsTrack a p (xs ++ ys) ms q → Halves p q xs ys ms
+  track_split p q [] ys ms track = record { middle = p; front = []; back = ms; parts = refl; first = refl; second = track }
+  track_split p q (x ∷ xs) ys [] track = absurd track
+  track_split p q (x ∷ xs) ys (m ∷ ms) track =
+      let rest = track_split track.0.to q xs ys ms track.4 in
+      record {
+        middle = rest.middle;
+        front = m ∷ rest.front;
+        back = rest.back;
+        parts = ap (λ (ns : List ℕ). m ∷ ns) rest.parts;
+        first = (track.0, track.1, track.2, track.3, rest.first);
+        second = rest.second;
+      }
+
+  track_copies : (q k : ℕ) (xs : List NameSet) (ms : List ℕ) → IsTrack a q xs ms q → IsTrack a q (copies k xs) (copies k ms) q
+  track_copies q zero xs ms track = refl
+  track_copies q (suc k) xs ms track = track_join q q q xs (copies k xs) ms (copies k ms) track (track_copies q k xs ms track)
+
+  -- a run, whatever its cycle meets
+  pub record Run (u v : List NameSet) (turns rounds : ℕ) : Type 0 where
+    pub start : ℕ
+    pub state : ℕ
+    pub way : List ℕ
+    pub cycle : List ℕ
+    pub is_start : Contains a.starts start
+    pub leads : IsTrack a start (u ++ copies turns v) way state
+    pub returns : IsTrack a state (copies rounds v) cycle state
+
+  abbrev pub run_of : (u v : List NameSet) (r : AcceptingRun a u v) → Run u v r.turns r.rounds
+  run_of u v r = record { start = r.start; state = r.state; way = r.way; cycle = r.cycle; is_start = r.is_start; leads = r.leads; returns = r.returns }
+
+  -- a run along the same edges, whose cycle meets the same conditions
+  pub record Likewise (u v : List NameSet) (turns rounds : ℕ) (way cycle : List ℕ) : Type 0 where
+    pub run : Run u v turns rounds
+    pub alike : (f : FormulaTree) → met (map (marks_at a) run.cycle) f ≡ met (map (marks_at a) cycle) f
+    pub same : (n : ℕ) → nth run.way run.cycle n ≡ nth way cycle n
+
+  swapped_alike : {A : Type 0} (xs ys : List A) → Alike (ys ++ xs) (xs ++ ys)
+  swapped_alike xs ys = record {
+    some = λ p. list_any-append p ys xs ∙ (or_comm (list_any p ys) (list_any p xs) ∙ sym (list_any-append p xs ys));
+    each = λ p. list_all-append p ys xs ∙ (and_comm (list_all p ys) (list_all p xs) ∙ sym (list_all-append p xs ys));
+  }
+
+  swapped : (xs ys ms : List ℕ) → ms ≡ xs ++ ys → (f : FormulaTree) → met (map (marks_at a) (ys ++ xs)) f ≡ met (map (marks_at a) ms) f
+  swapped xs ys ms parts f =
+      ap (λ cs. met cs f) (map-append (marks_at a) ys xs)
+      ∙ (met_alike (map (marks_at a) ys ++ map (marks_at a) xs) (map (marks_at a) xs ++ map (marks_at a) ys) (swapped_alike (map (marks_at a) xs) (map (marks_at a) ys)) f
+      ∙ ap (λ cs. met cs f) (sym (map-append (marks_at a) xs ys) ∙ ap (map (marks_at a)) (sym parts)))
+
+  module _ (u v : List NameSet) (endless : 0 < length v) where
+    pub some_edges : (p q k : ℕ) (ms : List ℕ) → 0 < k → IsTrack a p (copies k v) ms q → 0 < length ms
+    some_edges p q k ms positive track = omega (arith, as_long p (copies k v) ms q track, length-copies k v, mul-lt 0 0 k (length v) positive endless)
+
+    -- the cycle is read once more before the run closes
+    one_turn : (turns rounds : ℕ) (r : Run u v turns rounds) → 0 < rounds → Likewise u v (suc turns) rounds r.way r.cycle
+    one_turn turns zero r some = absurd (omega arith)
+    one_turn turns (suc k) r some =
+        let parts = track_split r.state r.state v (copies k v) r.cycle r.returns in
+        let word : (u ++ copies turns v) ++ v ≡ u ++ copies (suc turns) v = append_assoc u (copies turns v) v ∙ ap (λ w. u ++ w) (copies-push turns v) in
+        let P : List NameSet → Type 0 = λ w. IsTrack a r.start w (r.way ++ parts.front) parts.middle in
+        let Q : List NameSet → Type 0 = λ w. IsTrack a parts.middle w (parts.back ++ parts.front) parts.middle in
+        let long : 0 < length (parts.front ++ parts.back) = subst (λ (ms : List ℕ). 0 < length ms) parts.parts (some_edges r.state r.state (suc k) r.cycle some r.returns) in
+        record {
+          run = record {
+            start = r.start;
+            state = parts.middle;
+            way = r.way ++ parts.front;
+            cycle = parts.back ++ parts.front;
+            is_start = r.is_start;
+            leads = subst P word (track_join r.start r.state parts.middle (u ++ copies turns v) v r.way parts.front r.leads parts.first);
+            returns = subst Q (copies-push k v) (track_join parts.middle r.state parts.middle (copies k v) v parts.back parts.front parts.second parts.first);
+          };
+          alike = swapped parts.front parts.back r.cycle parts.parts;
+          same = λ n. nth_turned r.way parts.front parts.back n long ∙ ap (λ ms. nth r.way ms n) (sym parts.parts);
+        }
+
+    some_turns : (turns rounds k : ℕ) (r : Run u v turns rounds) → 0 < rounds → Likewise u v (turns + k) rounds r.way r.cycle
+    some_turns turns rounds zero r some =
+        let e : turns ≡ turns + 0 = omega arith in
+        let P : ℕ → Type 0 = λ n. Likewise u v n rounds r.way r.cycle in
+        subst P e (record { run = r; alike = λ f. refl; same = λ n. refl })
+    some_turns turns rounds (suc k) r some =
+        let once = one_turn turns rounds r some in
+        let more = some_turns (suc turns) rounds k once.run some in
+        let e : suc turns + k ≡ turns + suc k = omega arith in
+        let P : ℕ → Type 0 = λ n. Likewise u v n rounds r.way r.cycle in
+        subst P e (record { run = more.run; alike = λ f. more.alike f ∙ once.alike f; same = λ n. more.same n ∙ once.same n })
+
+    more_rounds : (turns rounds k : ℕ) (r : Run u v turns rounds) → 0 < rounds → 0 < k → Likewise u v turns (k * rounds) r.way r.cycle
+    more_rounds turns rounds k r positive some =
+        let P : List NameSet → Type 0 = λ w. IsTrack a r.state w (copies k r.cycle) r.state in
+        record {
+          run = record {
+            start = r.start;
+            state = r.state;
+            way = r.way;
+            cycle = copies k r.cycle;
+            is_start = r.is_start;
+            leads = r.leads;
+            returns = subst P (copies-copies k rounds v) (track_copies r.state k (copies rounds v) r.cycle r.returns);
+          };
+          alike = met_alike (map (marks_at a) (copies k r.cycle)) (map (marks_at a) r.cycle) (gone_alike (marks_at a) k r.cycle some);
+          same = λ n. nth_copies r.way r.cycle k n some (some_edges r.state r.state rounds r.cycle positive r.returns);
+        }
+
+    -- k more turns before the run closes, and m times the rounds
+    pub later : (turns rounds k m : ℕ) (r : Run u v turns rounds) → 0 < rounds → 0 < m → Likewise u v (turns + k) (m * rounds) r.way r.cycle
+    later turns rounds k m r some times =
+        let first = some_turns turns rounds k r some in
+        let second = more_rounds (turns + k) rounds m first.run some times in
+        record { run = second.run; alike = λ f. second.alike f ∙ first.alike f; same = λ n. second.same n ∙ first.same n }

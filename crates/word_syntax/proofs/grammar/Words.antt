@@ -1,0 +1,159 @@
+-- A word's reader and the grammar agree: on what is a word, on what a word can begin with, and on the pattern.
+use Rattle.std.proofs.Common.{◌≡◌, ◌≢◌, ◌∙◌, ◌∷◌, ◌++◌, List, None, Some, [], ap, arith, refl, subst, sym, ℕ}
+use Rattle.std.proofs.lemmas.List.{append_assoc, append-nil}
+use Rattle.std.specs.List.{AllByRecursion}
+use Rattle.aut_base.specs.declared.limit.TheConstants.{MOST_DEPTH}
+use Rattle.aut_base.specs.Label.{LabelTree}
+use Rattle.word_syntax.proofs.grammar.Completions.{lifted, word_end}
+use Rattle.word_syntax.proofs.grammar.LetterParts.{Knows}
+use Rattle.word_syntax.proofs.grammar.LetterRuns.{ended, letter_runs}
+use Rattle.word_syntax.proofs.grammar.NamePlaces.{agrees_front, distinct_differ, distinct_front, knows_all, names_of-append, place_in, places_agree}
+use Rattle.word_syntax.proofs.grammar.Runs.{runs_once, runs_over, runs_push, runs_stuck, runs_then, runs_to}
+use Rattle.word_syntax.specs.inner.Runs.{Runs}
+use Rattle.word_syntax.proofs.grammar.WordParts.{EndPart, IsWordPart, PartAt, word, word_part_start, word_part_step}
+use Rattle.word_syntax.specs.Grammar.{AreLetters, Begins, IsWord, WordPattern, distinct, letter, names_of, no_letter}
+use Rattle.word_syntax.specs.inner.Chains.{Agrees}
+use Rattle.word_syntax.specs.inner.Reading.{HasRead}
+use Rattle.word_syntax.specs.inner.Machine.{WordState, fresh, with_letter, word_start, word_step}
+use Rattle.word_syntax.specs.declared.stage.Stage.{Stage}
+use Rattle.word_syntax.specs.declared.stage.Stage.TheVariants.{Stem, Brace, Cycle, End}
+use Rattle.word_syntax.specs.declared.token.Token.{Token}
+use Rattle.word_syntax.specs.declared.token.Token.TheVariants as token
+
+-- letters of the stem, and of the cycle
+stem_runs : (place : List ℕ → ℕ) {names : List (List ℕ)} {w : List Token} {ts : List LabelTree} → Agrees place names → AreLetters names MOST_DEPTH w ts
+    → Runs (word_step place) word_start w (word ts [] Stem fresh)
+stem_runs place agrees no_letter = refl
+stem_runs place agrees (letter {v = v} {w = w} {u = u} {ts = ts} {us = us} {t = t} before one spelled parts) =
+    let first = stem_runs place agrees before in
+    let read = letter_runs place agrees one [] 0 (omega arith) in
+    let here : WordState = word ts [] Stem fresh in
+    let second = lifted place here fresh (ended [] read.inner) w refl read.runs in
+    let third = runs_push (word_step place) here (with_letter here (ended [] read.inner)) (word (ts ++ t ∷ []) [] Stem fresh) w token.Semicolon second
+    (ap (λ (x : LabelTree). Some (word (ts ++ x ∷ []) [] Stem fresh)) read.says) in
+    runs_to (word_step place) _ _ _ u (runs_over (word_step place) _ _ _ _ (sym spelled)
+    (runs_then (word_step place) word_start here (word (ts ++ t ∷ []) [] Stem fresh) v (w ++ token.Semicolon ∷ []) first third)) (ap (λ (x : List LabelTree). word x [] Stem fresh) (sym parts))
+
+cycle_runs : (place : List ℕ → ℕ) (stem : List LabelTree) {names : List (List ℕ)} {w : List Token} {ts : List LabelTree} → Agrees place names → AreLetters names MOST_DEPTH w ts
+    → Runs (word_step place) (word stem [] Cycle fresh) w (word stem ts Cycle fresh)
+cycle_runs place stem agrees no_letter = refl
+cycle_runs place stem agrees (letter {v = v} {w = w} {u = u} {ts = ts} {us = us} {t = t} before one spelled parts) =
+    let first = cycle_runs place stem agrees before in
+    let read = letter_runs place agrees one [] 0 (omega arith) in
+    let here : WordState = word stem ts Cycle fresh in
+    let second = lifted place here fresh (ended [] read.inner) w refl read.runs in
+    let third = runs_push (word_step place) here (with_letter here (ended [] read.inner)) (word stem (ts ++ t ∷ []) Cycle fresh) w token.Semicolon second
+    (ap (λ (x : LabelTree). Some (word stem (ts ++ x ∷ []) Cycle fresh)) read.says) in
+    runs_to (word_step place) _ _ _ u (runs_over (word_step place) _ _ _ _ (sym spelled)
+    (runs_then (word_step place) (word stem [] Cycle fresh) here (word stem (ts ++ t ∷ []) Cycle fresh) v (w ++ token.Semicolon ∷ []) first third))
+    (ap (λ (x : List LabelTree). word stem x Cycle fresh) (sym parts))
+
+-- what is written as a word is read to its end
+pub word_runs : (place : List ℕ → ℕ) (tokens : List Token) (p : WordPattern) → Agrees place p.names → IsWord tokens p → Runs (word_step place) word_start tokens (word p.stem p.cycle End fresh)
+word_runs place tokens p agrees w =
+    let stem = stem_runs place agrees w.stem in
+    let letters = cycle_runs place p.stem agrees w.letters in
+    let read = letter_runs place agrees w.last_letter [] 0 (omega arith) in
+    let here : WordState = word p.stem w.first Cycle fresh in
+    let last : WordState = word p.stem (w.first ++ w.last ∷ []) End fresh in
+    let final = runs_push (word_step place) here (with_letter here (ended [] read.inner)) last w.last_tokens token.RightBrace
+    (lifted place here fresh (ended [] read.inner) w.last_tokens refl read.runs) (ap (λ (x : LabelTree). Some (word p.stem (w.first ++ x ∷ []) End fresh)) read.says) in
+    let rest = runs_then (word_step place) (word p.stem [] Cycle fresh) here last w.cycle_tokens (w.last_tokens ++ token.RightBrace ∷ []) letters final in
+    let all = runs_then (word_step place) word_start (word p.stem [] Stem fresh) last w.stem_tokens (token.Cycle ∷ token.LeftBrace ∷ (w.cycle_tokens ++ (w.last_tokens ++ token.RightBrace ∷ []))) stem
+    (word p.stem [] Brace fresh, refl, (word p.stem [] Cycle fresh, refl, rest)) in
+    runs_to (word_step place) word_start last (word p.stem p.cycle End fresh) tokens (runs_over (word_step place) word_start last _ tokens (sym w.spelled) all)
+    (ap (λ (x : List LabelTree). word p.stem x End fresh) (sym w.cycle))
+
+-- what is read is a part of a word
+run_part : (place : List ℕ → ℕ) (names : List (List ℕ)) (s last : WordState) (v w : List Token) → AllByRecursion (Knows place names) w → IsWordPart names s v
+    → Runs (word_step place) s w last → IsWordPart names last (v ++ w)
+run_part place names s last v [] known part runs =
+    let P : WordState → Type 0 = λ x. IsWordPart names x (v ++ []) in
+    let Q : List Token → Type 0 = λ x. IsWordPart names s x in
+    subst P runs (subst Q (sym (append-nil v)) part)
+run_part place names s last v (t ∷ w) known part runs =
+    let Q : List Token → Type 0 = λ x. IsWordPart names last x in
+    subst Q (append_assoc v (t ∷ []) w) (run_part place names runs.0 last (v ++ t ∷ []) w known.1 (word_part_step place names s runs.0 t v known.0 part runs.1) runs.2)
+
+known_from : (all v w : List Token) → all ≡ v ++ w → AllByRecursion (Knows (place_in (distinct (names_of all))) (distinct (names_of all))) w
+known_from all v [] e = tt
+known_from all v (t ∷ w) e = (knows_all v w t all e, known_from all (v ++ t ∷ []) w (e ∙ sym (append_assoc v (t ∷ []) w)))
+
+ended_word : (names : List (List ℕ)) (s : WordState) (tokens : List Token) → names ≡ distinct (names_of tokens) → EndPart names s tokens
+    → IsWord tokens (record { names = names; stem = s.stem; cycle = s.cycle })
+ended_word names s tokens e p = record {
+  stem_tokens = p.stem_tokens;
+  cycle_tokens = p.cycle_tokens;
+  last_tokens = p.last_tokens;
+  first = p.first;
+  last = p.last;
+  names = e;
+  stem = p.stem;
+  letters = p.letters;
+  last_letter = p.last_letter;
+  cycle = p.cycle;
+  spelled = p.spelled;
+}
+
+own_places : (tokens : List Token) → Agrees (place_in (distinct (names_of tokens))) (distinct (names_of tokens))
+own_places tokens = places_agree (distinct (names_of tokens)) (distinct_differ (names_of tokens))
+
+ran_word : (tokens : List Token) (s : WordState) → Runs (word_step (place_in (distinct (names_of tokens)))) word_start tokens s → s.stage ≡ End
+    → IsWord tokens (record { names = distinct (names_of tokens); stem = s.stem; cycle = s.cycle })
+ran_word tokens s runs is_end =
+    let names = distinct (names_of tokens) in
+    let part = run_part (place_in names) names word_start s [] tokens (known_from tokens [] tokens refl) (word_part_start names) runs in
+    let P : Stage → Type 0 = λ x. PartAt x names s tokens in
+    ended_word names s tokens refl (subst P is_end part)
+
+pub whole_word : (tokens : List Token) (s : WordState) → HasRead tokens s → s.stage ≡ End → IsWord tokens (record { names = distinct (names_of tokens); stem = s.stem; cycle = s.cycle })
+whole_word tokens s read is_end = ran_word tokens s (read (place_in (distinct (names_of tokens))) (own_places tokens)) is_end
+
+pub no_word : (tokens : List Token) (s : WordState) (p : WordPattern) → HasRead tokens s → s.stage ≢ End → IsWord tokens p → ⊥
+no_word tokens s p read not_end w =
+    let P : List (List ℕ) → Type 0 = λ x. Agrees (place_in (distinct (names_of tokens))) x in
+    let place = place_in (distinct (names_of tokens)) in
+    let same = runs_once (word_step place) word_start s (word p.stem p.cycle End fresh) tokens (read place (own_places tokens))
+    (word_runs place tokens p (subst P (sym w.names) (own_places tokens)) w) in
+    not_end (ap (λ (x : WordState). x.stage) same)
+
+-- a word can begin with what is read
+pub begins : (tokens : List Token) (s : WordState) → HasRead tokens s → Begins tokens
+begins tokens s read =
+    let rest = word_end (place_in (distinct (names_of tokens))) s in
+    let all : List Token = tokens ++ rest.more in
+    let same : names_of tokens ≡ names_of all = sym (names_of-append tokens rest.more ∙ (ap (λ (x : List (List ℕ)). names_of tokens ++ x) rest.nameless ∙ append-nil (names_of tokens))) in
+    let P : List (List ℕ) → Type 0 = λ x. Runs (word_step (place_in (distinct x))) word_start all rest.last in
+    record {
+      more = rest.more;
+      pattern = record { names = distinct (names_of all); stem = rest.last.stem; cycle = rest.last.cycle };
+      word = ran_word all rest.last (subst P same
+          (runs_then (word_step (place_in (distinct (names_of tokens)))) word_start s rest.last tokens rest.more (read (place_in (distinct (names_of tokens))) (own_places tokens))
+          rest.runs)) rest.stage;
+    }
+
+-- and not with a token more that the reader can't take
+pub begins_not : (tokens : List Token) (s : WordState) (t : Token) → HasRead tokens s → ((place : List ℕ → ℕ) → word_step place s t ≡ None) → Begins (tokens ++ t ∷ []) → ⊥
+begins_not tokens s t read stuck b =
+    let all : List Token = (tokens ++ t ∷ []) ++ b.more in
+    let place = place_in (distinct (names_of all)) in
+    let P : List (List ℕ) → Type 0 = λ x. Agrees place x in
+    let front = distinct_front (names_of tokens) (names_of (t ∷ b.more)) in
+    let whole : distinct (names_of all) ≡ distinct (names_of tokens) ++ front.0 = ap (λ (x : List Token). distinct (names_of x)) (append_assoc tokens (t ∷ []) b.more)
+    ∙ (ap distinct (names_of-append tokens (t ∷ b.more)) ∙ front.1) in
+    runs_stuck (word_step place) word_start s (word b.pattern.stem b.pattern.cycle End fresh) tokens t b.more
+    (read place (agrees_front place (distinct (names_of tokens)) front.0 (subst P whole (own_places all))))
+    (stuck place) (word_runs place all b.pattern (subst P (sym b.word.names) (own_places all)) b.word)
+
+-- tokens are the word of one pattern at most
+pub one_pattern : (tokens : List Token) (p q : WordPattern) → IsWord tokens p → IsWord tokens q → p ≡ q
+one_pattern tokens p q w x =
+    let place = place_in (distinct (names_of tokens)) in
+    let P : List (List ℕ) → Type 0 = λ ns. Agrees place ns in
+    let same : word p.stem p.cycle End fresh ≡ word q.stem q.cycle End fresh = runs_once (word_step place) word_start (word p.stem p.cycle End fresh) (word q.stem q.cycle End fresh) tokens
+    (word_runs place tokens p (subst P (sym w.names) (own_places tokens)) w) (word_runs place tokens q (subst P (sym x.names) (own_places tokens)) x) in
+    let names : p.names ≡ q.names = w.names ∙ sym x.names in
+    let stem : p.stem ≡ q.stem = ap (λ (s : WordState). s.stem) same in
+    let cycle : p.cycle ≡ q.cycle = ap (λ (s : WordState). s.cycle) same in
+    ap (λ (ns : List (List ℕ)). record { names = ns; stem = p.stem; cycle = p.cycle }) names
+    ∙ (ap (λ (us : List LabelTree). record { names = q.names; stem = us; cycle = p.cycle }) stem ∙ ap (λ (us : List LabelTree). record { names = q.names; stem = q.stem; cycle = us }) cycle)
