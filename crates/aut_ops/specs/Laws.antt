@@ -9,7 +9,7 @@ use Rattle.aut_ops.specs.Products.{ArePairs, HasMorePairs, IsProduct, next_pairs
 use Rattle.aut_ops.specs.Pruning.{IsPruned}
 use Rattle.aut_ops.specs.Trimming.{IsTrimmed}
 
--- Two automata have one list of pairs. Its pairs differ, and are just those that are reached.
+-- Two automata have no more than one list of pairs. Its pairs differ, and are just those that are reached.
 pub record PairsLaw (a b : Automaton) (pairs : List (ℕ × ℕ)) : Type 0 where
   pub one : (others : List (ℕ × ℕ)) → ArePairs a b others → others ≡ pairs
   pub differ : AllPairs (λ p q. p ≢ q) pairs
@@ -18,7 +18,7 @@ pub record PairsLaw (a b : Automaton) (pairs : List (ℕ × ℕ)) : Type 0 where
 abbrev pub PairsAreDetermined : Type 0
 PairsAreDetermined = (a b : Automaton) (pairs : List (ℕ × ℕ)) → ArePairs a b pairs → PairsLaw a b pairs
 
--- So they have one product.
+-- So they have no more than one product.
 abbrev pub ProductsAreDetermined : Type 0
 ProductsAreDetermined = (join : FormulaTree → FormulaTree → FormulaTree) (a b made other : Automaton) → IsProduct join a b made → IsProduct join a b other → made ≡ other
 

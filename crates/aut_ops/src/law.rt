@@ -2,12 +2,12 @@
 
 ghost use Rattle.aut_ops.specs.Laws.{FewPairsExcludeMore, PairsAreDetermined, ProductsAreDetermined, PrunedIsDetermined, ReachedByLetters, TrimmedIsDetermined};
 
-/// Two automata have one list of pairs, which are just those that are reached.
+/// Two automata have no more than one list of pairs, which are just those that are reached.
 pub fn pairs_are_determined()
     ensures { PairsAreDetermined }
 {}
 
-/// Two automata have one product under a join of their conditions.
+/// Two automata have no more than one product under a join of their conditions.
 pub fn products_are_determined()
     ensures { ProductsAreDetermined }
 {}
@@ -22,12 +22,12 @@ pub fn reached_by_letters()
     ensures { ReachedByLetters }
 {}
 
-/// An automaton has one trimmed one.
+/// An automaton has no more than one trimmed one.
 pub fn trimmed_is_determined()
     ensures { TrimmedIsDetermined }
 {}
 
-/// An automaton has one pruned one.
+/// An automaton has no more than one pruned one.
 pub fn pruned_is_determined()
     ensures { PrunedIsDetermined }
 {}

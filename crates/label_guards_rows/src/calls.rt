@@ -70,6 +70,22 @@ pub(crate) fn holds(store: &Guards, names: &Names, g: Guard, letter: &Letter) ->
     Some(store.holds(names, g, letter))
 }
 
+/// Whether the guard is true at the valuation of this number.
+pub(crate) fn holds_at(store: &Guards, g: Guard, number: u64) -> Option<bool> {
+    if !store.has(g) {
+        return None;
+    }
+    Some(store.holds_at(g, number))
+}
+
+/// The number of some valuation that meets the guard, if one does.
+pub(crate) fn meeting(store: &Guards, g: Guard) -> Option<u64> {
+    if !store.has(g) {
+        return None;
+    }
+    store.meeting(g)
+}
+
 /// The least letter that meets the guard, if one does.
 pub(crate) fn pick(
     alloc: Global,

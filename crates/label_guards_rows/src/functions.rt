@@ -1,6 +1,8 @@
 //! Truth functions of a few propositions as guards, and whether the calls make of them what their tables ask for.
 
-use crate::calls::{and, bring, classes, fix, holds, is_false, not, of_label, or, pick, same};
+use crate::calls::{
+    and, bring, classes, fix, holds, holds_at, is_false, meeting, not, of_label, or, pick, same,
+};
 use crate::tables::{self, Table, bit, brought, fixed, is_letter, label, letter, names, negated};
 use aut_base::{Memory, Names, Numbers};
 use label_guards::{Guard, GuardList, Guards};
@@ -57,7 +59,7 @@ impl Functions {
         if !self.is_negated_rightly(alloc, table)? || !self.holds_rightly(alloc, table)? {
             return Ok(false);
         }
-        if !self.picks_rightly(alloc, table)? {
+        if !self.picks_rightly(alloc, table)? || !self.meets_rightly(alloc, table)? {
             return Ok(false);
         }
         self.fixes_rightly(alloc, table)
@@ -75,7 +77,10 @@ impl Functions {
         let g = self.guard(alloc, table)?;
         for valuation in 0..tables::valuations(self.props) {
             let letter = letter(alloc, valuation, self.props)?;
-            if holds(&self.store, &self.names, g, &letter) != Some(bit(table, valuation)) {
+            let wanted = Some(bit(table, valuation));
+            if holds(&self.store, &self.names, g, &letter) != wanted
+                || holds_at(&self.store, g, u64::from(valuation)) != wanted
+            {
                 return Ok(false);
             }
         }
@@ -89,6 +94,16 @@ impl Functions {
                 is_letter(alloc, &letter, table.trailing_zeros() as u16, self.props)
             }
             Some(_) => Ok(false),
+            None => Ok(table == 0),
+        }
+    }
+
+    fn meets_rightly(&mut self, alloc: Global, table: Table) -> Result<bool, Memory> {
+        let g = self.guard(alloc, table)?;
+        match meeting(&self.store, g) {
+            Some(number) => Ok(
+                number < u64::from(tables::valuations(self.props)) && bit(table, number as u16),
+            ),
             None => Ok(table == 0),
         }
     }

@@ -51,7 +51,7 @@ fn judge_inf(links: &[Link], edges: &[LiveEdge], side: Side) -> Verdict
     requires { All (λ e. e.link < length links.now) edges.now }
     ensures { IsJudged (map (marks_of links.now) edges.now) (FormulaTree.Inf side.set side.neg) result }
 {
-    match side.first_of(links, edges) {
+    match side.one_of(links, edges) {
         Some(_) => Verdict::Met,
         None => Verdict::Never,
     }
@@ -62,7 +62,7 @@ fn judge_fin(links: &[Link], edges: &[LiveEdge], side: Side) -> Verdict
     requires { All (λ e. e.link < length links.now) edges.now }
     ensures { IsJudged (map (marks_of links.now) edges.now) (FormulaTree.Fin side.set side.neg) result }
 {
-    match side.first_of(links, edges) {
+    match side.one_of(links, edges) {
         Some(_) => Verdict::Open(side),
         None => Verdict::Met,
     }

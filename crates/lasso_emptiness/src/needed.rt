@@ -5,7 +5,7 @@ ghost use Rattle.std.specs.List.{list_all, list_any};
 ghost use Rattle.aut_base.specs.Formula.{FormulaTree, formula_tree, formula_list, met};
 ghost use Rattle.lasso_emptiness.specs.declared.live.LiveEdge.{LiveEdge};
 ghost use Rattle.lasso_emptiness.specs.inner.Edges.{marks_of, met_along};
-ghost use Rattle.lasso_emptiness.specs.inner.Needed.{AreNeeded, Serves, ServesAll, ServesOne};
+ghost use Rattle.lasso_emptiness.specs.inner.Needed.{AddsOnce, AreNeeded, Serves, ServesAll, ServesOne};
 
 use crate::judge::judge;
 use crate::live::{LiveEdge, LiveEdges};
@@ -37,8 +37,8 @@ pub(crate) fn needed_edges(
     Ok(needed)
 }
 
-/// Adds edges such that each cycle of the component's edges that passes all of them meets the condition. For each `Inf`
-/// that is needed it is one edge at most.
+/// Adds edges such that each cycle of the component's edges that passes all of them meets the condition. For an `Inf` one is
+/// added only where none that serves it is there.
 #[cycle(needed)]
 fn add_needed(
     links: &[Link],
@@ -79,12 +79,13 @@ fn add_on_side(
     requires within { All (λ e. e.link < length links.now) edges.now }
     requires met { met_along links.now edges.now (FormulaTree.Inf side.set side.neg) ≡ true }
     requires inside { All (Contains edges.now) needed.old }
-    ensures { OnOk result (Serves links.now edges.now (FormulaTree.Inf side.set side.neg) needed.old needed.new) }
+    ensures serves { OnOk result (Serves links.now edges.now (FormulaTree.Inf side.set side.neg) needed.old needed.new) }
+    ensures once { OnOk result (AddsOnce links.now side.set side.neg needed.old needed.new) }
 {
-    if side.first_of(links, needed.as_slice()).is_some() {
+    if side.one_of(links, needed.as_slice()).is_some() {
         return Ok(());
     }
-    match side.first_of(links, edges) {
+    match side.one_of(links, edges) {
         Some(edge) => needed.push(edge),
         None => Ok(()),
     }

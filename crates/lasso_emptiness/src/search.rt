@@ -28,7 +28,7 @@ pub(crate) enum Survey {
     Met(LiveEdges),
     /// No cycle within one of the components meets it.
     Never,
-    /// Of these components it depends on a `Fin`, of the first one found on the `Fin` of this side.
+    /// Of these components it depends on a `Fin`, of one of them on the `Fin` of this side.
     Open(Side, Groups),
 }
 

@@ -34,7 +34,7 @@ pub(crate) fn divide(
     let mut crossed = Groups::new(alloc);
     'groups: while let Some(group) = groups.pop() {
         add_off_side(links, group.as_slice(), side, &mut off)?;
-        if side.first_of(links, group.as_slice()).is_none() {
+        if side.one_of(links, group.as_slice()).is_none() {
             continue;
         }
         crossed.push(group)?;

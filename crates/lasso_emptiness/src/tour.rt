@@ -38,7 +38,7 @@ pub(crate) fn tour(
     Ok(cycle)
 }
 
-/// Adds a shortest path from one state to another.
+/// Adds a path from one state to another.
 pub(crate) fn add_way(
     alloc: Global,
     graph: &Graph,

@@ -68,7 +68,7 @@ fn word_around(
     })
 }
 
-/// A shortest path from the first start that reaches a state to that state.
+/// A path from a start that reaches the state to it.
 fn stem_to(
     alloc: Global,
     a: &Automaton,
@@ -83,7 +83,7 @@ fn stem_to(
     a.whole();
     let flags = reaching(alloc, a.states(), edges, state)?;
     let mut stem = LiveEdges::new(alloc);
-    match first_flagged(a.starts().as_slice(), flags.as_slice()) {
+    match one_flagged(a.starts().as_slice(), flags.as_slice()) {
         Some(start) => {
             let graph = graph_of(alloc, a.states(), edges)?;
             add_way(alloc, &graph, edges, start, state, &mut stem)?;
@@ -93,8 +93,8 @@ fn stem_to(
     }
 }
 
-/// The first of these states that is flagged, or None where none is.
-fn first_flagged(states: &[u32], flags: &[bool]) -> Option<u32>
+/// One of these states that is flagged, or None where none is.
+fn one_flagged(states: &[u32], flags: &[bool]) -> Option<u32>
     requires { All (λ p. p < length flags.now) states.now }
     ensures { MatchOption result (All (λ p. slice_index_or flags.now p false ≡ false) states.now) (λ p. Contains states.now p × (slice_index_or flags.now p false ≡ true)) }
 {
@@ -130,7 +130,7 @@ fn letters_along(alloc: Global, a: &Automaton, edges: &[LiveEdge]) -> Result<Let
     Ok(letters)
 }
 
-/// The least letter that meets the label of an edge.
+/// A letter that meets the label of an edge.
 fn letter_on(alloc: Global, a: &Automaton, edge: LiveEdge) -> Result<Letter, Memory>
     requires { IsPassable a.now edge }
     ensures { IfOk result (IsLetterOf a.now edge) }

@@ -11,7 +11,7 @@ use Rattle.lasso_emptiness.specs.declared.live.LiveEdge.{LiveEdge}
 use Rattle.lasso_emptiness.specs.declared.side.Side.{Side}
 use Rattle.lasso_emptiness.specs.inner.Edges.{marks_of, met_along, on_side}
 use Rattle.lasso_emptiness.specs.inner.Judged.{IsNever, has_side}
-use Rattle.lasso_emptiness.specs.inner.Splits.{AddsOff, AreLeft, IsMetGroup, IsSplit}
+use Rattle.lasso_emptiness.specs.inner.Splits.{AddsOff, AreLeft, Crosses, IsMetGroup, IsSplit}
 use Rattle.lasso_emptiness.specs.inner.Trails.{InSome, IsTrail, NoneAccepting, NoneInAny}
 use Rattle.lasso_emptiness.proofs.trails.Trails.{trail_kind}
 
@@ -38,6 +38,7 @@ pub record DividedSoFar (links : List Link) (set : ℕ) (neg : Bool) (all rest :
   pub off_some : (e : LiveEdge) → Contains off e → InSome all e
   pub off_side : (e : LiveEdge) → Contains off e → on_side set neg (marks_of links e) ≡ false
   pub crossed_inside : (group : List LiveEdge) → Contains crossed group → Contains all group
+  pub crosses : (group : List LiveEdge) → Contains crossed group → Crosses links set neg group
   pub done : (group : List LiveEdge) → Contains all group → Contains rest group ⊎ IsDivided links set neg group off crossed
 
 module _ (links : List Link) (set : ℕ) (neg : Bool) (all : List (List LiveEdge)) where
@@ -47,12 +48,13 @@ module _ (links : List Link) (set : ℕ) (neg : Bool) (all : List (List LiveEdge
     off_some = λ e here. absurd (none_there e here);
     off_side = λ e here. absurd (none_there e here);
     crossed_inside = λ group here. absurd (none_there group here);
+    crosses = λ group here. absurd (none_there group here);
     done = λ group here. inl here;
   }
 
   divided_more : (before rest : List (List LiveEdge)) (off new : List LiveEdge) (crossed crossed' : List (List LiveEdge)) (group : List LiveEdge) → before ≡ rest ++ group ∷ []
       → AddsOff links set neg group off new → ((g : List LiveEdge) → Contains crossed g → Contains crossed' g)
-      → ((g : List LiveEdge) → Contains crossed' g → Contains crossed g ⊎ (group ≡ g))
+      → ((g : List LiveEdge) → Contains crossed' g → Contains crossed g ⊎ ((group ≡ g) × Crosses links set neg group))
       → ((e : LiveEdge) → Contains group e → on_side set neg (marks_of links e) ≡ true → Contains crossed' group) → DividedSoFar links set neg all before off crossed
       → DividedSoFar links set neg all rest new crossed'
   divided_more before rest off new crossed crossed' group popped adds kept from covers so_far = record {
@@ -62,7 +64,8 @@ module _ (links : List Link) (set : ℕ) (neg : Bool) (all : List (List LiveEdge
       | inr added ↦ record { group = group; listed = listed; here = added.0 }
     ];
     off_side = λ e here. elim (adds.nothing_else e here) [ inl old ↦ so_far.off_side e old | inr added ↦ added.1 ];
-    crossed_inside = λ g here. elim (from g here) [ inl old ↦ so_far.crossed_inside g old | inr same ↦ subst (Contains all) same listed ];
+    crossed_inside = λ g here. elim (from g here) [ inl old ↦ so_far.crossed_inside g old | inr new ↦ subst (Contains all) new.0 listed ];
+    crosses = λ g here. elim (from g here) [ inl old ↦ so_far.crosses g old | inr new ↦ subst (Crosses links set neg) new.0 new.1 ];
     done = λ g here. elim (so_far.done g here) [
       | inl left ↦ elim (popped_cases before rest group g popped left) [
         | inl later ↦ inl later
@@ -79,10 +82,11 @@ module _ (links : List Link) (set : ℕ) (neg : Bool) (all : List (List LiveEdge
       listed = so_far.rest_inside group (popped_item before rest group popped)
 
   pub divided_crossed : (before rest : List (List LiveEdge)) (off new : List LiveEdge) (crossed crossed' : List (List LiveEdge)) (group : List LiveEdge) → before ≡ rest ++ group ∷ []
-      → AddsOff links set neg group off new → crossed' ≡ crossed ++ group ∷ [] → DividedSoFar links set neg all before off crossed → DividedSoFar links set neg all rest new crossed'
-  divided_crossed before rest off new crossed crossed' group popped adds made so_far =
+      → AddsOff links set neg group off new → crossed' ≡ crossed ++ group ∷ [] → Crosses links set neg group → DividedSoFar links set neg all before off crossed
+          → DividedSoFar links set neg all rest new crossed'
+  divided_crossed before rest off new crossed crossed' group popped adds made on_it so_far =
       divided_more before rest off new crossed crossed' group popped adds (λ g here. popped_rest crossed' crossed group g made here)
-      (λ g here. popped_cases crossed' crossed group g made here) (λ e here on. popped_item crossed' crossed group made) so_far
+      (λ g here. elim (popped_cases crossed' crossed group g made here) [ inl old ↦ inl old | inr same ↦ inr (same, on_it) ]) (λ e here on. popped_item crossed' crossed group made) so_far
 
   pub divided_off : (before rest : List (List LiveEdge)) (off new : List LiveEdge) (crossed : List (List LiveEdge)) (group : List LiveEdge) → before ≡ rest ++ group ∷ []
       → AddsOff links set neg group off new → All (λ (e : LiveEdge). on_side set neg (marks_of links e) ≡ false) group → DividedSoFar links set neg all before off crossed
@@ -101,6 +105,7 @@ module _ (links : List Link) (set : ℕ) (neg : Bool) (all : List (List LiveEdge
       | inr divided ↦ divided.to_off e some.here on
     ];
     inside = so_far.crossed_inside;
+    crosses = so_far.crosses;
     all_crossed = λ group e listed here on. elim (so_far.done group listed) [
       | inl left ↦ absurd (none_left before group empty left)
       | inr divided ↦ divided.to_crossed e here on

@@ -1,10 +1,10 @@
 -- Edges that a closed path has to pass for a condition to be met.
-use Rattle.std.specs.Prelude.{◌≡◌, ℕ, ◌<◌, true, List, All, Contains, length, map}
+use Rattle.std.specs.Prelude.{◌≡◌, ◌⊎◌, ◌++◌, ◌∷◌, [], ℕ, ◌<◌, Bool, true, false, List, All, Contains, length, map}
 use Rattle.std.specs.List.{list_all, list_any}
 use Rattle.aut_base.specs.Formula.{FormulaTree, met}
 use Rattle.aut_core.specs.declared.link.Link.{Link}
 use Rattle.lasso_emptiness.specs.declared.live.LiveEdge.{LiveEdge}
-use Rattle.lasso_emptiness.specs.inner.Edges.{marks_of}
+use Rattle.lasso_emptiness.specs.inner.Edges.{marks_of, on_side}
 
 -- Edges were added, so that each cycle of these edges that has all of them passes the test.
 pub record Suits (links : List Link) (edges : List LiveEdge) (test : List (List ℕ) → Type 0) (old new : List LiveEdge) : Type 0 where
@@ -21,6 +21,10 @@ ServesAll links edges fs = Suits links edges (λ marks. list_all (met marks) fs 
 
 abbrev pub ServesOne : List Link → List LiveEdge → List FormulaTree → List LiveEdge → List LiveEdge → Type 0
 ServesOne links edges fs = Suits links edges (λ marks. list_any (met marks) fs ≡ true)
+
+-- nothing was added, or no edge was on the side and one was added
+abbrev pub AddsOnce : List Link → ℕ → Bool → List LiveEdge → List LiveEdge → Type 0
+AddsOnce links set neg old new = (new ≡ old) ⊎ (All (λ e. on_side set neg (marks_of links e) ≡ false) old × ((e : LiveEdge) × (new ≡ old ++ e ∷ [])))
 
 -- edges of these, one at least: each cycle of these edges that has all of them meets the condition
 pub record AreNeeded (links : List Link) (edges : List LiveEdge) (f : FormulaTree) (needed : List LiveEdge) : Type 0 where

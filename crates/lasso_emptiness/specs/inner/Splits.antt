@@ -26,12 +26,17 @@ IsSurveyed links groups f (Met group) = IsMetGroup links groups f group
 IsSurveyed links groups f Never = NoneInAny links groups f
 IsSurveyed links groups f (Open side left) = (has_side side.set side.neg f ≡ true) × AreLeft links groups f left.items
 
--- the edges of the groups that are not on the side, and the groups that have an edge on it
+-- some edge of the group is on the side
+abbrev pub Crosses : List Link → ℕ → Bool → List LiveEdge → Type 0
+Crosses links set neg group = (e : LiveEdge) × Contains group e × (on_side set neg (marks_of links e) ≡ true)
+
+-- the edges of the groups that are not on the side, and just the groups that have an edge on it
 pub record IsSplit (links : List Link) (set : ℕ) (neg : Bool) (groups : List (List LiveEdge)) (off : List LiveEdge) (crossed : List (List LiveEdge)) : Type 0 where
   pub off_some : (e : LiveEdge) → Contains off e → InSome groups e
   pub off_side : (e : LiveEdge) → Contains off e → on_side set neg (marks_of links e) ≡ false
   pub all_off : (e : LiveEdge) → InSome groups e → on_side set neg (marks_of links e) ≡ false → Contains off e
   pub inside : (group : List LiveEdge) → Contains crossed group → Contains groups group
+  pub crosses : (group : List LiveEdge) → Contains crossed group → Crosses links set neg group
   pub all_crossed : (group : List LiveEdge) (e : LiveEdge) → Contains groups group → Contains group e → on_side set neg (marks_of links e) ≡ true → Contains crossed group
 
 -- the edges that are not on the side were added

@@ -4,7 +4,7 @@ use Rattle.std.proofs.lemmas.List.{take_all}
 use Rattle.std.proofs.lemmas.List.Elements.{All-more}
 use Rattle.lasso_emptiness.specs.inner.Edges.{marks_of, on_side}
 use Rattle.lasso_emptiness.specs.declared.live.LiveEdge.{LiveEdge}
-use Rattle.lasso_emptiness.proofs.side.Side.first_of.Goals as goal
+use Rattle.lasso_emptiness.proofs.side.Side.one_of.Goals as goal
 
 pub edges-preserved : goal.edges-preserved
 edges-preserved c =

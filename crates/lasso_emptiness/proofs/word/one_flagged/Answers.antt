@@ -2,7 +2,7 @@ use Rattle.std.proofs.Common.{◌≡◌, ℕ, false, get_or, subst}
 use Rattle.std.specs.List.{All}
 use Rattle.std.proofs.lemmas.List.{take_all}
 use Rattle.std.proofs.lemmas.List.Elements.{All-more}
-use Rattle.lasso_emptiness.proofs.word.first_flagged.Goals as goal
+use Rattle.lasso_emptiness.proofs.word.one_flagged.Goals as goal
 
 pub states-preserved : goal.states-preserved
 states-preserved c =
