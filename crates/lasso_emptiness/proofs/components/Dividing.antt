@@ -83,7 +83,7 @@ module _ (links : List Link) (set : ℕ) (neg : Bool) (all : List (List LiveEdge
 
   pub divided_crossed : (before rest : List (List LiveEdge)) (off new : List LiveEdge) (crossed crossed' : List (List LiveEdge)) (group : List LiveEdge) → before ≡ rest ++ group ∷ []
       → AddsOff links set neg group off new → crossed' ≡ crossed ++ group ∷ [] → Crosses links set neg group → DividedSoFar links set neg all before off crossed
-          → DividedSoFar links set neg all rest new crossed'
+      → DividedSoFar links set neg all rest new crossed'
   divided_crossed before rest off new crossed crossed' group popped adds made on_it so_far =
       divided_more before rest off new crossed crossed' group popped adds (λ g here. popped_rest crossed' crossed group g made here)
       (λ g here. elim (popped_cases crossed' crossed group g made here) [ inl old ↦ inl old | inr same ↦ inr (same, on_it) ]) (λ e here on. popped_item crossed' crossed group made) so_far
