@@ -1,6 +1,7 @@
 //! Inputs over standard input and files.
 
 ghost use Rattle.std.specs.Prelude.{◌≡◌, ◌≢◌, [], IfOk, IsUtf8};
+ghost use Rattle.aut_io.specs.Outside.{Rose};
 ghost use Rattle.aut_io.specs.Seen.{Nexts, Opens};
 ghost use Rattle.real_io.specs.Left.{KeepsStandard, of_standard, seen_of, unread, unread_standard};
 ghost use Rattle.real_io.specs.Opening.{IsAnswered, OpensFile, fail_of, standard_name};
@@ -73,7 +74,12 @@ impl<R: Read + Drop, O: Opener + Drop> Inputs for RealInputs<R, O> {
 
         // The block keeps bytes of standard input until a file is opened, and no others: it is empty where one is opened.
         ensures block { self.new.block ≡ of_standard self.new.origin (of_standard self.old.origin self.old.block) }
-        ensures kept { (self.new.standard ≡ self.old.standard) × (self.new.opener ≡ self.old.opener) }
+        ensures kept { self.new.standard ≡ self.old.standard }
+
+        // A file is asked for once, and nothing else is.
+        ensures once { name.now ≢ standard_name → IsUtf8 name.now → Rose (O.calls self.old.opener) (O.calls self.new.opener) }
+        ensures none_by_name { name.now ≡ standard_name → self.new.opener ≡ self.old.opener }
+        ensures none_by_bytes { ¬ IsUtf8 name.now → self.new.opener ≡ self.old.opener }
     {
         self.openings = self.openings.saturating_add(1);
         if let Origin::File(_) = &self.origin {
@@ -84,7 +90,7 @@ impl<R: Read + Drop, O: Opener + Drop> Inputs for RealInputs<R, O> {
             self.origin = Origin::Standard;
             return Ok(());
         }
-        match open_file(&self.opener, name) {
+        match open_file(&mut self.opener, name) {
             Ok(file) => {
                 self.block.clear();
                 self.origin = Origin::File(file);
@@ -130,10 +136,11 @@ impl<R: Read + Drop, O: Opener + Drop> Inputs for RealInputs<R, O> {
     }
 }
 
-/// Opens the file under a name, where the name is text.
-fn open_file<O: Opener>(opener: &O, name: &Text) -> Result<O::File, OpenFail>
-    ensures bytes { ¬ IsUtf8 name.now → result ≡ Err OpenFail.Failed }
-    ensures text { IsUtf8 name.now → IsAnswered (O.answers opener.now name.now) result }
+/// Opens the file under a name, by one call, where the name is text.
+fn open_file<O: Opener>(opener: &mut O, name: &Text) -> Result<O::File, OpenFail>
+    ensures bytes { ¬ IsUtf8 name.now → (result ≡ Err OpenFail.Failed) × (opener.new ≡ opener.old) }
+    ensures text { IsUtf8 name.now → IsAnswered (O.answers opener.old name.now) result }
+    ensures once { IsUtf8 name.now → Rose (O.calls opener.old) (O.calls opener.new) }
 {
     let Ok(path) = from_utf8(name.as_bytes()) else {
         return Err(OpenFail::Failed)

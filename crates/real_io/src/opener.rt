@@ -1,7 +1,8 @@
 //! What opens files.
 
-ghost use Rattle.std.specs.Prelude.{ℕ, List, Result};
+ghost use Rattle.std.specs.Prelude.{◌≡◌, ℕ, List, Result};
 ghost use Rattle.std.specs.declared.io.Error.{Error};
+ghost use Rattle.aut_io.specs.Outside.{Rose};
 
 use std::fs::File;
 use std::io;
@@ -16,21 +17,28 @@ pub trait Opener {
     /// What may be answered where a name is opened.
     ghost answers: { Self → List ℕ → Result Self.File Error → Type 0 };
 
+    /// How many times `open` was called. It stands still at the last value of a `u64`.
+    ghost calls: { Self → ℕ };
+
     /// Opens the file under a name, to be read from its beginning.
-    fn open(&self, name: &str) -> io::Result<Self::File>
-        ensures { answers self.now name.now result };
+    fn open(&mut self, name: &str) -> io::Result<Self::File>
+        ensures answered { answers self.old name.now result }
+        ensures called { Rose (calls self.old) (calls self.new) };
 }
 
 /// The files of the system. No contract can know what stands under their names.
 #[derive(Drop)]
 pub struct SystemFiles<F> {
     files: F,
+    calls: u64,
 }
 
 impl<F> SystemFiles<F> {
-    /// The files that are opened by this.
-    pub fn new(files: F) -> Self {
-        SystemFiles { files }
+    /// The files that are opened by this. None was asked for yet.
+    pub fn new(files: F) -> Self
+        ensures { result.calls ≡ 0 }
+    {
+        SystemFiles { files, calls: 0 }
     }
 }
 
@@ -39,7 +47,10 @@ impl<F: Files> Opener for SystemFiles<F> {
 
     ghost answers = { λ _ _ _. Unit {0} };
 
-    fn open(&self, name: &str) -> io::Result<F::File> {
+    ghost calls = { λ s. s.calls };
+
+    fn open(&mut self, name: &str) -> io::Result<F::File> {
+        self.calls = self.calls.saturating_add(1);
         File::open(&self.files, name)
     }
 }

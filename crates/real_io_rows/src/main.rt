@@ -67,7 +67,7 @@ fn count_different<I: Inputs>(alloc: Global, inputs: &mut I) -> Result<u32, Stop
 
 /// Whether want of memory is told apart where a file is opened.
 fn is_want_of_memory(alloc: Global) -> Result<bool, Stop> {
-    let mut inputs = RealInputs::new(alloc, b"".as_slice(), NoMemory)?;
+    let mut inputs = RealInputs::new(alloc, b"".as_slice(), NoMemory::new())?;
     let name = Text::from_bytes(alloc, NAME.as_bytes())?;
     Ok(inputs.open(&name) == Err(OpenFail::Memory) && inputs.next()?.is_none())
 }
@@ -81,7 +81,7 @@ fn is_steadied(rt: &HostRuntime) -> Result<bool, Stop> {
     )?;
     let is_written = is_pattern(&fs::read(rt, UNSTEADY_NAME)?, SIZE);
     let file = Unsteady::new(File::open(rt, UNSTEADY_NAME)?, u32::MAX);
-    let mut inputs = RealInputs::new(alloc, file, NoMemory)?;
+    let mut inputs = RealInputs::new(alloc, file, NoMemory::new())?;
     let is_open = inputs.open(&Text::from_bytes(alloc, b"-")?).is_ok();
     let is_read = gives(&mut inputs, 0, SIZE)? && is_ended(&mut inputs)?;
     fs::remove_file(rt, UNSTEADY_NAME)?;
@@ -98,7 +98,7 @@ fn is_front(rt: &HostRuntime) -> Result<bool, Stop> {
     ).is_err();
     let is_written = is_pattern(&fs::read(rt, UNSTEADY_NAME)?, 11_001);
     let file = Unsteady::new(File::open(rt, UNSTEADY_NAME)?, 2);
-    let mut inputs = RealInputs::new(alloc, file, NoMemory)?;
+    let mut inputs = RealInputs::new(alloc, file, NoMemory::new())?;
     let is_open = inputs.open(&Text::from_bytes(alloc, b"-")?).is_ok();
     let is_read = gives(&mut inputs, 0, 8_000)? && inputs.next().is_err() && inputs.next().is_err();
     fs::remove_file(rt, UNSTEADY_NAME)?;

@@ -6,14 +6,26 @@ use std::io;
 
 /// Opens nothing, for want of memory.
 #[derive(Clone, Copy)]
-pub(crate) struct NoMemory;
+pub(crate) struct NoMemory {
+    calls: u64,
+}
+
+impl NoMemory {
+    /// Nothing was asked for yet.
+    pub(crate) fn new() -> Self {
+        NoMemory { calls: 0 }
+    }
+}
 
 impl Opener for NoMemory {
     type File = File;
 
     ghost answers = { λ _ _ _. Unit {0} };
 
-    fn open(&self, _name: &str) -> io::Result<File> {
+    ghost calls = { λ s. s.calls };
+
+    fn open(&mut self, _name: &str) -> io::Result<File> {
+        self.calls = self.calls.saturating_add(1);
         Err(io::Error::from(io::ErrorKind::OutOfMemory))
     }
 }
