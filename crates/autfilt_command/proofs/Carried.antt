@@ -1,6 +1,6 @@
 -- From a plan that was carried out to what the words ask for.
 use Rattle.std.proofs.Common.{◌≡◌, ℕ, ◌+◌, Bool, true, List, [], length, drop, Option, Some, None, Err, IsErrOf, refl, sym, ap, ◌∙◌, subst, inl, inr, arith}
-use Rattle.std.proofs.lemmas.List.{drop_all, length-map}
+use Rattle.std.proofs.lemmas.List.{drop_all, length-map, take_all}
 use Rattle.aut_base.specs.Automaton.{Automaton}
 use Rattle.aut_core.specs.Core.{automaton_of}
 use Rattle.aut_io.specs.Outside.{Texts}
@@ -21,6 +21,7 @@ use Rattle.autfilt_run.specs.Events.{Event, Point, start_of}
 use Rattle.made_stream.specs.Made.{seen_of_made}
 use Rattle.autfilt_run.specs.Operands.{all_passed, operands_of}
 use Rattle.autfilt_run.specs.Points.{open_count, operands_in}
+use Rattle.autfilt_run.specs.Preparing.{opened_names}
 use Rattle.autfilt_run.specs.declared.fault.RunFault.TheVariants as fault
 use Rattle.autfilt_run.specs.declared.session.Session.{Session}
 use Rattle.filter_plan.specs.Words.{IsPlan, operands}
@@ -45,6 +46,9 @@ of_prepared R plan ready s m k l noting h r =
 none_to_come : (ready : Session) → length ready.operands ≡ length (operands ready.plan) → drop (length ready.operands + open_count ready.is_open) (operands ready.plan) ≡ []
 none_to_come ready all = drop_all (length ready.operands + open_count ready.is_open) (operands ready.plan) (omega (arith, all))
 
+all_named : (ready : Session) → length ready.operands ≡ length (operands ready.plan) → opened_names ready ≡ operands ready.plan
+all_named ready all = take_all (length ready.operands + open_count ready.is_open) (operands ready.plan) (omega (arith, all))
+
 -- where the run stands once all operands were read
 stands_behind : (plan : Plan) (ready : Session) (s m : Seen) (k l : SinkSeen) (noting : Bool) (texts : Texts) → s.texts ≡ Some texts → (h : IsPrepared plan ready s m k l noting)
     → (p : Point) × AreAllRead plan texts s.left h.prepared.taken p × (p.left ≡ m.left) × (p.before ≡ ready.lexer.taken)
@@ -61,6 +65,7 @@ goes_over plan ready e events name s m t o q k l noting h runs = record {
   number = ap length (sym h.prepared.operands_are) ∙ length-map ready.operands automaton_of ∙ ready.all_read h.stage ∙ ap (λ (x : Plan). length (operands x)) h.prepared.same_plan;
   prepared = λ texts told. stands_behind plan ready s m k l noting texts told h;
   texts = h.prepared.texts;
+  named = sym h.prepared.named ∙ (all_named ready (ready.all_read h.stage) ∙ ap operands h.prepared.same_plan);
   openings = h.prepared.openings;
   runs = runs;
 }
@@ -116,7 +121,7 @@ ends_failed words result plan e s m o k j is asks h = record {
   events = [];
   name = h.name;
   refused = λ r. absurd (r plan asks);
-  runs = λ p a. (plan, asks, inl (record { fault = h.fault; ends = h.ends; no_write = h.no_write; happened = h.happened; openings = h.openings; none = refl; output = refl }));
+  runs = λ p a. (plan, asks, inl (record { fault = h.fault; ends = h.ends; no_write = h.no_write; happened = h.happened; named = h.named; openings = h.openings; none = refl; output = refl }));
   noted = h.noted;
 }
 
@@ -142,6 +147,7 @@ wanting plan s o = record {
   ends = refl;
   no_write = λ x. cc;
   happened = λ texts told. record { point = start_of (operands plan) s.left 0; read = refl; stops = inl refl; counted = record { few = omega arith; within = tt } };
+  named = (0, refl);
   openings = tried_none fault.Memory s s (omega arith) refl;
   none = refl;
   output = refl;

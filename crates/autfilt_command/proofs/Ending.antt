@@ -11,7 +11,7 @@ use Rattle.aut_base.specs.declared.limit.Limit.TheVariants as limit
 use Rattle.aut_base.specs.declared.limit.TheConstants.{MOST_BYTES}
 use Rattle.aut_io.specs.Outside.{Gains, GainsPrefix, Rose, Texts}
 use Rattle.aut_io.specs.Seen.{Seen, SinkSeen}
-use Rattle.autfilt_command.proofs.Running.{asks_at, asks_of, calm_then, gains_as, noted_push, of_fresh, opened_push}
+use Rattle.autfilt_command.proofs.Running.{asks_at, asks_of, calm_then, gains_as, noted_push, of_fresh, opened_push, opened_streams_push}
 use Rattle.autfilt_command.proofs.Stepped.{StepsAs, keeps_on, parts_of, still_writes}
 use Rattle.autfilt_command.proofs.Stepping.{happen_push, wants_stream}
 use Rattle.autfilt_command.specs.Ends.{ended_of}
@@ -102,6 +102,7 @@ run_halted f other name fresh old s m t o p q k l j first noting h at closes = r
           numbered = λ is. absurd (other (fault_in is));
         };
     tallied = tt;
+    named = (old.opened, h.named);
     openings = tried_behind f (length (opened_streams h.events)) s m t h.openings at.tried;
     prints = at.prints fresh.plan h.events o.written q.written (subst (λ (x : SinkSeen). Gains o.written x.written (all_written h.events)) (sym at.output) h.gains);
   };
@@ -324,6 +325,7 @@ write_failed fresh old new s m t o p q k l j first noting name steady same h par
               numbered = λ is counts. absurd (never_both fresh.plan counts on);
             };
         tallied = tt;
+        named = (old.opened, opened_streams_push h.events event ∙ (append-nil (opened_streams h.events) ∙ h.named));
         openings = tried_behind fault.WriteFault (length (opened_streams (h.events ++ event ∷ []))) s t t
             (opened_as _ _ s t (opened_push h.events event) (opened_then (length (opened_streams h.events)) (length (opened_stream event)) s m t h.openings part.moves.openings))
             (tried_none fault.WriteFault t t refl refl);
@@ -421,6 +423,7 @@ all_read e name fresh old s m o p q k l j first noting h done tallied ends print
           numbered = λ is counts. subst (λ (x : Plan). IsDone x r.point) h.same_plan (done_at old m r.point r.stands done);
         };
     tallied = tallied h.events (f.end ∙ ap end_of (sym h.tallied));
+    named = (old.opened, h.named);
     openings = opens (length (opened_streams h.events)) h.openings;
     prints = prints h.events o.written q.written
         (both o.written p.written q.written (all_written h.events) (count_text fresh.plan (tally h.events).kept) h.gains
@@ -460,6 +463,7 @@ count_failed name fresh old s m o p q k l j first noting h done counts gains ros
                   λ is on. subst (λ (x : Plan). IsDone x r.point) h.same_plan (done_at old m r.point r.stands done);
             };
         tallied = tt;
+        named = (old.opened, h.named);
         openings = tried_behind fault.WriteFault (length (opened_streams h.events)) s m m h.openings (tried_none fault.WriteFault m m refl refl);
         prints = inr (record { prints = subst (λ (x : Plan). prints_count x ≡ true) h.same_plan counts; part = part.0; gains = part.1 });
       };

@@ -1,5 +1,5 @@
 -- Preparing a session: the operands so far and more of them, and faults.
-use Rattle.std.proofs.Common.{◌≡◌, ℕ, ◌+◌, Bool, true, false, List, [], ◌∷◌, ◌++◌, length, drop, refl, sym, ap, ◌∙◌, subst, append-nil, arith}
+use Rattle.std.proofs.Common.{◌≡◌, ℕ, ◌+◌, Bool, true, false, List, [], ◌∷◌, ◌++◌, length, drop, take, refl, sym, ap, ◌∙◌, subst, append-nil, arith}
 use Rattle.std.proofs.lemmas.Grind.{flat_map-append}
 use Rattle.std.proofs.lemmas.List.{length-append}
 use Rattle.std.specs.Prelude.{map}
@@ -66,13 +66,16 @@ pub record KeepsPlan (old new : Session) : Type 0 where
   pub opened : new.opened ≡ old.opened
   pub kept : new.kept ≡ old.kept
 
-starts_in : (s : Session) (seen : Seen) → IsNew s → StandsIn s seen.left (start_of (operands s.plan) seen.left 0)
-starts_in s seen is =
+none_counted : (s : Session) → IsNew s → length s.operands + open_count s.is_open ≡ 0
+none_counted s is =
     let unread : length s.operands ≡ 0 = ap length is.none in
     let shut : open_count s.is_open ≡ 0 = ap open_count is.is_closed in
-    let none : length s.operands + open_count s.is_open ≡ 0 = omega (arith, unread, shut) in
+    omega (arith, unread, shut)
+
+starts_in : (s : Session) (seen : Seen) → IsNew s → StandsIn s seen.left (start_of (operands s.plan) seen.left 0)
+starts_in s seen is =
     record {
-      coming = ap (λ (n : ℕ). drop n (operands s.plan)) (sym none);
+      coming = ap (λ (n : ℕ). drop n (operands s.plan)) (sym (none_counted s is));
       at = record { kept = sym is.kept; left_is = refl; stream = (is.is_closed, is.taken) };
     }
 
@@ -85,6 +88,7 @@ prepared_none s seen k is = record {
   skipped = is.skipped;
   happened = λ texts told. (start_of (operands s.plan) seen.left 0, refl, starts_in s seen is);
   noted = (nothing k.written, refl);
+  named = ap (λ (n : ℕ). take n (operands s.plan)) (none_counted s is);
   openings = refl;
   calm = record { opens = refl; reads = refl };
   texts = refl;
@@ -106,6 +110,7 @@ more events plan old new s m t k l j noting noting' h keeps read skipped noted =
       let b = read.happened texts (h.texts ∙ told) a.0 a.2 in
       (b.0, are_read_then texts h.taken events (start_of (operands plan) s.left 0) a.0 b.0 a.1 b.1, b.2);
   noted = noted;
+  named = read.named ∙ (ap (λ x. x ++ opened_files events) h.named ∙ sym (flat_map-append opened_file h.taken events));
   openings = opened_as _ _ s t (opened_files_then h.taken events) (opened_then (length (opened_files h.taken)) (length (opened_files events)) s m t h.openings read.openings);
   calm = record { opens = read.opens ∙ h.calm.opens; reads = read.reads ∙ h.calm.reads };
   texts = read.texts ∙ h.texts;
@@ -155,5 +160,10 @@ prepared_fails f e plan old new s m t k l j noting is h failed closes = record {
   noted = subst (λ (x : End). Notes (passed_noted (all_passed (h.taken ++ failed.events)) ++ line_of x (name_in new)) k j) (sym is)
       (subst (λ (x : List ℕ). Notes (x ++ line_of (end.Fault f) (name_in new)) k j) (sym (noted_none h.taken failed.events failed.passed)) (closes k (passed_noted (all_passed h.taken)) h.noted));
   counts = counts_then f s m t h.calm.opens h.calm.reads failed.counts;
+  named = (
+    failed.named.0,
+    flat_map-append opened_file h.taken failed.events ∙ (ap (λ x. x ++ opened_files failed.events) (sym h.named)
+        ∙ (failed.named.1 ∙ ap (λ (p : Plan). take failed.named.0 (operands p)) h.same_plan)),
+  );
   openings = tried_as f _ _ s t (opened_files_then h.taken failed.events) (tried_then f (length (opened_files h.taken)) (length (opened_files failed.events)) s m t h.openings failed.openings);
 }

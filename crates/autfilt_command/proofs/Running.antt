@@ -1,5 +1,5 @@
 -- Runs: the events so far and one more, and the end.
-use Rattle.std.proofs.Common.{◌≡◌, ℕ, ◌+◌, Bool, true, List, [], ◌∷◌, ◌++◌, drop, length, Option, refl, sym, ap, ◌∙◌, subst, append_assoc, append-nil}
+use Rattle.std.proofs.Common.{◌≡◌, ℕ, ◌+◌, Bool, true, List, [], ◌∷◌, ◌++◌, drop, length, take, Option, refl, sym, ap, ◌∙◌, subst, append_assoc, append-nil}
 use Rattle.std.proofs.lemmas.List.{length-append}
 use Rattle.std.specs.Prelude.{map}
 use Rattle.aut_base.proofs.lists.AllByRecursion.{AllByRecursion-push}
@@ -33,12 +33,12 @@ pub noted_push : (events : List Event) (event : Event) → all_noted (events ++ 
 noted_push [] event = append-nil (noted event)
 noted_push (e ∷ es) event = ap (λ x. noted e ++ x) (noted_push es event) ∙ sym (append_assoc (noted e) (all_noted es) (noted event))
 
+pub opened_streams_push : (events : List Event) (event : Event) → opened_streams (events ++ event ∷ []) ≡ opened_streams events ++ opened_stream event
+opened_streams_push [] event = append-nil (opened_stream event)
+opened_streams_push (e ∷ es) event = ap (λ x. opened_stream e ++ x) (opened_streams_push es event) ∙ sym (append_assoc (opened_stream e) (opened_streams es) (opened_stream event))
+
 pub opened_push : (events : List Event) (event : Event) → length (opened_streams events) + length (opened_stream event) ≡ length (opened_streams (events ++ event ∷ []))
-opened_push events event = sym (length-append (opened_streams events) (opened_stream event)) ∙ ap length (sym (all_opened events event))
-  where
-    all_opened : (events : List Event) (event : Event) → opened_streams (events ++ event ∷ []) ≡ opened_streams events ++ opened_stream event
-    all_opened [] event = append-nil (opened_stream event)
-    all_opened (e ∷ es) event = ap (λ x. opened_stream e ++ x) (all_opened es event) ∙ sym (append_assoc (opened_stream e) (opened_streams es) (opened_stream event))
+opened_push events event = sym (length-append (opened_streams events) (opened_stream event)) ∙ ap length (sym (opened_streams_push events event))
 
 tally_push : (t : Tally) (events : List Event) (event : Event) → tally_from t (events ++ event ∷ []) ≡ counted (tally_from t events) event
 tally_push t [] event = refl
@@ -92,6 +92,8 @@ run_more event fresh old new s m t o p q k l j first noting noting' plan operand
   noted = λ sink text before.
       noted_as sink j _ _ noting' (append_assoc text (all_noted h.events) (noted event) ∙ ap (λ x. text ++ x) (sym (noted_push h.events event)))
       (notes sink (text ++ all_noted h.events) (h.noted sink text before));
+  named = opened_streams_push h.events event ∙ (ap (λ xs. xs ++ opened_stream event) h.named
+      ∙ sym (subst (λ (p : Plan). take new.opened (streams_of p) ≡ take old.opened (streams_of p) ++ opened_stream event) h.same_plan step.named));
   openings = opened_as _ _ s t (opened_push h.events event) (opened_then (length (opened_streams h.events)) (length (opened_stream event)) s m t h.openings step.openings);
   tallied = tally_push _ h.events event ∙ ap (λ (x : Tally). counted x event) h.tallied ∙ step.tallied;
   calm = calm_then s m t o p q h.calm step.calm;
@@ -116,6 +118,7 @@ run_none fresh s o k first is = record {
   gains = nothing o.written;
   noted = adds_nothing first k;
   tallied = ap (λ (n : ℕ). record { kept = n; skipped = fresh.skipped }) (sym is.kept);
+  named = ap (λ (n : ℕ). take n (streams_of fresh.plan)) (sym is.opened);
   openings = refl;
   calm = record { opens = refl; reads = refl; writes = refl };
   texts = refl;

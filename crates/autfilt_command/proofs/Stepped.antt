@@ -1,15 +1,16 @@
 -- What a turn of a session is as an event of the run.
-use Rattle.std.proofs.Common.{◌≡◌, ℕ, ◌+◌, ◌≤◌, true, List, [], length, Option, Some, sym, ap, ◌∙◌, subst}
+use Rattle.std.proofs.Common.{◌≡◌, ℕ, ◌+◌, ◌≤◌, true, List, [], ◌++◌, length, take, append-nil, Option, Some, sym, ap, ◌∙◌, subst}
 use Rattle.aut_base.specs.declared.limit.TheConstants.{MOST_BYTES}
 use Rattle.aut_io.specs.Outside.{Gains, Texts}
 use Rattle.aut_io.specs.Seen.{Seen, SinkSeen}
 use Rattle.autfilt_command.proofs.Stepping.{GoesOn, goes_on, opens_next}
 use Rattle.autfilt_command.specs.Run.{AreCalm}
 use Rattle.autfilt_run.proofs.printing.Gains.{nothing}
-use Rattle.autfilt_run.proofs.turns.Preparing.{taken_few}
+use Rattle.autfilt_run.proofs.turns.Preparing.{taken_few, take_named}
 use Rattle.autfilt_run.proofs.turns.Stepping.{KeepsOn, ends_stream, is_open, name_as, one_name, reads_on}
 use Rattle.autfilt_run.specs.Events.{Dropped, EndsStream, Ended, Event, Goes, IsGood, IsJudged, Kept, Opened, Point, ReadsOn, Skipped, Tally, counted, opened_stream, written_of}
 use Rattle.autfilt_run.specs.Openings.{AreOpened}
+use Rattle.autfilt_run.specs.Plans.{streams_of}
 use Rattle.autfilt_run.specs.Points.{StandsAt, name_in, operands_in}
 use Rattle.autfilt_run.specs.Turns as turns
 use Rattle.autfilt_run.specs.Turns.{Progress, after, progress}
@@ -25,6 +26,7 @@ pub record Stepped (event : Event) (old new : Session) (m t : Seen) (p q : SinkS
   pub goes : (texts : Texts) → m.texts ≡ Some texts → (at : Point) → StandsAt old m.left at → GoesOn (λ x. Goes texts event at x) new t.left
   pub gains : Gains p.written q.written (written_of event)
   pub tallied : counted (record { kept = old.kept; skipped = old.skipped }) event ≡ record { kept = new.kept; skipped = new.skipped }
+  pub named : take new.opened (streams_of old.plan) ≡ take old.opened (streams_of old.plan) ++ opened_stream event
   pub openings : AreOpened (length (opened_stream event)) m t
   pub calm : AreCalm m t p q
   pub texts : t.texts ≡ m.texts
@@ -79,6 +81,10 @@ reads_more R old new m t at steady stands opened_so open_still opened tried read
 kept_at : (old new : Session) (left : Option (List ℕ)) (at : Point) (P : ℕ → Type 0) → StandsAt old left at → new.kept ≡ old.kept → P new.kept → P at.kept
 kept_at old new left at P stands same h = subst P (same ∙ sym stands.at.kept) h
 
+-- no stream more was opened
+none_named : (old new : Session) → new.opened ≡ old.opened → take new.opened (streams_of old.plan) ≡ take old.opened (streams_of old.plan) ++ []
+none_named old new same = ap (λ (n : ℕ). take n (streams_of old.plan)) same ∙ sym (append-nil (take old.opened (streams_of old.plan)))
+
 pub opened : (old new : Session) (m t : Seen) (p q : SinkSeen) → StepsAs old new → progress new ≡ after turn.Opened (progress old) → (h : turns.Turns turn.Opened old new m t p q)
     → Stepped (Opened h.name) old new m t p q
 opened old new m t p q steady done h =
@@ -88,6 +94,7 @@ opened old new m t p q steady done h =
       goes = λ texts told at stands. opens_next texts old new m t at h.name told stands h.opening h.opens h.begins h.in_hand steady.plan x.opened x.is_open x.kept;
       gains = still_gains p q h.output;
       tallied = tally_as old.kept old.skipped new.kept new.skipped x.kept x.skipped;
+      named = ap (λ (n : ℕ). take n (streams_of old.plan)) x.opened ∙ take_named (streams_of old.plan) old.opened h.name h.opening.named;
       openings = h.opens.counted;
       calm = record { opens = h.opens.calm; reads = h.opens.reads; writes = still_writes p q h.output };
       texts = h.opens.texts;
@@ -104,6 +111,7 @@ ended old new m t p q steady done h =
           (ends_stream old new m t at stands.at h.reading.is_open x.is_open x.kept h.read h.moves steady.most (keeps_on old new steady h.in_hand));
       gains = still_gains p q h.output;
       tallied = tally_as old.kept old.skipped new.kept new.skipped x.kept x.skipped;
+      named = none_named old new x.opened;
       openings = h.moves.openings;
       calm = record { opens = h.moves.opens; reads = h.moves.reads; writes = still_writes p q h.output };
       texts = h.moves.texts;
@@ -125,6 +133,7 @@ dropped old new m t p q steady done h =
           };
       gains = still_gains p q h.reads.output;
       tallied = tally_as old.kept old.skipped new.kept new.skipped x.kept x.skipped;
+      named = none_named old new x.opened;
       openings = h.reads.moves.openings;
       calm = record { opens = h.reads.moves.opens; reads = h.reads.moves.reads; writes = still_writes p q h.reads.output };
       texts = h.reads.moves.texts;
@@ -145,6 +154,7 @@ kept old new m t p q steady done h =
           };
       gains = h.gains;
       tallied = tally_as (old.kept + 1) old.skipped new.kept new.skipped x.kept x.skipped;
+      named = none_named old new x.opened;
       openings = h.moves.openings;
       calm = record { opens = h.moves.opens; reads = h.moves.reads; writes = h.writes };
       texts = h.moves.texts;
@@ -168,6 +178,7 @@ skipped old new m t p q steady done h =
           };
       gains = still_gains p q h.output;
       tallied = tally_as old.kept (old.skipped + 1) new.kept new.skipped x.kept x.skipped;
+      named = none_named old new x.opened;
       openings = h.moves.openings;
       calm = record { opens = h.moves.opens; reads = h.moves.reads; writes = still_writes p q h.output };
       texts = h.moves.texts;

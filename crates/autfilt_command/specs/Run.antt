@@ -121,6 +121,8 @@ pub record Runs (plan : Plan) (ops : List Automaton) (passed before : ℕ) (e : 
   -- the events happened, and what stands behind them ended the run, where the inputs tell their texts
   pub happened : (texts : Texts) → seen.texts ≡ Some texts → RunsTo plan ops texts (start_of (streams_of plan) seen.left before) seen'.left events e name
   pub tallied : EndsByTally e passed events
+  -- each stream that was opened is the next of the plan, and was opened once, also where the inputs don't tell their texts
+  pub named : (k : ℕ) × (opened_streams events ≡ take k (streams_of plan))
   pub openings : EndsOpened e (length (opened_streams events)) seen seen'
   pub prints : Prints plan e events out.written out'.written
 
@@ -143,6 +145,8 @@ pub record GoesOverAll (plan : Plan) (e : End) (taken : List OperandEvent) (even
   pub number : length (operands_of taken) ≡ length (operands plan)
   pub prepared : (texts : Texts) → seen.texts ≡ Some texts → (p : Point) × AreAllRead plan texts seen.left taken p × (p.left ≡ mid.left) × (p.before ≡ before)
   pub texts : mid.texts ≡ seen.texts
+  -- the file of each operand was opened, once
+  pub named : opened_files taken ≡ operands plan
   pub openings : AreOpened (length (opened_files taken)) seen mid
   pub runs : RunsOverAs plan.made plan (operands_of taken) (length (all_passed taken)) before e events name mid seen' out out'
 
@@ -152,6 +156,7 @@ pub record FailsInOperands (plan : Plan) (e : End) (taken : List OperandEvent) (
   pub ends : e ≡ end.Fault fault
   pub no_write : fault ≢ run.WriteFault
   pub happened : (texts : Texts) → seen.texts ≡ Some texts → EndsInOperands plan texts seen.left seen'.left taken fault name
+  pub named : (k : ℕ) × (opened_files taken ≡ take k (operands plan))
   pub openings : AreTried fault (length (opened_files taken)) seen seen'
   pub none : events ≡ []
   pub output : out' ≡ out

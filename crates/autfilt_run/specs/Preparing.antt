@@ -1,11 +1,11 @@
 -- What preparing a session does: operands are read.
-use Rattle.std.specs.Prelude.{◌≡◌, ◌≢◌, ◌+◌, ◌<◌, true, List, [], ◌∷◌, ◌++◌, length, Some, Result, Ok, Err}
+use Rattle.std.specs.Prelude.{◌≡◌, ◌≢◌, ℕ, ◌+◌, ◌<◌, true, List, [], ◌∷◌, ◌++◌, length, take, Some, Result, Ok, Err}
 use Rattle.aut_io.specs.Outside.{Rose, Texts}
 use Rattle.aut_io.specs.Seen.{Seen}
 use Rattle.autfilt_run.specs.Events.{Point}
 use Rattle.autfilt_run.specs.Openings.{AreOpened, AreTried}
 use Rattle.autfilt_run.specs.Operands.{AreRead, OperandEvent, PassedOver, all_passed, opened_files, operands_of}
-use Rattle.autfilt_run.specs.Points.{StandsIn, name_in, operands_in}
+use Rattle.autfilt_run.specs.Points.{StandsIn, name_in, open_count, operands_in}
 use Rattle.autfilt_run.specs.Runs.{IsCounted, StopsInOperands}
 use Rattle.autfilt_run.specs.declared.fault.RunFault.{RunFault}
 use Rattle.autfilt_run.specs.declared.fault.RunFault.TheVariants as fault
@@ -14,11 +14,16 @@ use Rattle.autfilt_run.specs.declared.session.Prep.TheVariants.{Ready, Skipped}
 use Rattle.autfilt_run.specs.declared.session.Session.{Session}
 use Rattle.filter_plan.specs.Words.{operands}
 
+-- the names of the operands whose files were opened, in order
+abbrev pub opened_names : Session → List (List ℕ)
+opened_names s = take (length s.operands + open_count s.is_open) (operands s.plan)
+
 -- The events happened, each file was opened once, and no count of faults rose.
 pub record HasRead (events : List OperandEvent) (old new : Session) (seen seen' : Seen) : Type 0 where
   pub operands : operands_in new ≡ operands_in old ++ operands_of events
   -- where the inputs tell their texts
   pub happened : (texts : Texts) → seen.texts ≡ Some texts → (p : Point) → StandsIn old seen.left p → (q : Point) × AreRead texts events p q × StandsIn new seen'.left q
+  pub named : opened_names new ≡ opened_names old ++ opened_files events
   pub openings : AreOpened (length (opened_files events)) seen seen'
   pub opens : seen'.open_faults ≡ seen.open_faults
   pub reads : seen'.read_faults ≡ seen.read_faults
@@ -57,6 +62,7 @@ pub record FailsToPrepare (f : RunFault) (old new : Session) (seen seen' : Seen)
   pub skipped : new.skipped ≡ old.skipped
   pub no_write : f ≢ fault.WriteFault
   pub counts : CountsAt f seen seen'
+  pub named : (k : ℕ) × (opened_names old ++ opened_files events ≡ take k (operands old.plan))
   pub openings : AreTried f (length (opened_files events)) seen seen'
 
 abbrev pub Prepares : Result Prep RunFault → Session → Session → Seen → Seen → Type 0

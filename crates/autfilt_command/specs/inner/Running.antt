@@ -1,5 +1,5 @@
 -- How far a run has come.
-use Rattle.std.specs.Prelude.{◌≡◌, ◌≢◌, ◌⊎◌, ℕ, ◌++◌, Bool, false, List, [], length, Option, Some, Result, Ok, Err}
+use Rattle.std.specs.Prelude.{◌≡◌, ◌≢◌, ◌⊎◌, ℕ, ◌++◌, Bool, false, List, [], length, take, Option, Some, Result, Ok, Err}
 use Rattle.aut_io.specs.Outside.{Gains, GainsPrefix, Rose, Texts}
 use Rattle.aut_io.specs.Seen.{Seen, SinkSeen}
 use Rattle.autfilt_command.specs.Ends.{ended_of}
@@ -13,7 +13,7 @@ use Rattle.autfilt_run.specs.Openings.{AreOpened, AreTried}
 use Rattle.autfilt_run.specs.Operands.{AreRead, OperandEvent, all_passed, opened_files, operands_of}
 use Rattle.autfilt_run.specs.Plans.{streams_of}
 use Rattle.autfilt_run.specs.Points.{StandsAt, StandsIn, operands_in}
-use Rattle.autfilt_run.specs.Preparing.{CountsAt}
+use Rattle.autfilt_run.specs.Preparing.{CountsAt, opened_names}
 use Rattle.autfilt_run.specs.declared.fault.RunFault.{RunFault}
 use Rattle.autfilt_run.specs.declared.fault.RunFault.TheVariants as run
 use Rattle.autfilt_run.specs.declared.session.Session.{Session}
@@ -46,6 +46,7 @@ pub record HasPrepared (plan : Plan) (s : Session) (seen seen' : Seen) (notes no
   pub skipped : s.skipped ≡ length (all_passed taken)
   pub happened : (texts : Texts) → seen.texts ≡ Some texts → (p : Point) × AreRead texts taken (start_of (operands plan) seen.left 0) p × StandsIn s seen'.left p
   pub noted : HasNoted (passed_noted (all_passed taken)) noting notes notes'
+  pub named : opened_names s ≡ opened_files taken
   pub openings : AreOpened (length (opened_files taken)) seen seen'
   pub calm : AreCalmInputs seen seen'
   pub texts : seen'.texts ≡ seen.texts
@@ -73,6 +74,7 @@ pub record FailsPreparing (plan : Plan) (e : End) (seen seen' : Seen) (notes not
   pub happened : (texts : Texts) → seen.texts ≡ Some texts → EndsInOperands plan texts seen.left seen'.left taken fault name
   pub noted : Notes (passed_noted (all_passed taken) ++ line_of e name) notes notes'
   pub counts : CountsAt fault seen seen'
+  pub named : (k : ℕ) × (opened_files taken ≡ take k (operands plan))
   pub openings : AreTried fault (length (opened_files taken)) seen seen'
 
 -- what preparing answers: whether notes are taken still, or how the run ended
@@ -105,6 +107,7 @@ pub record HasRun (fresh s : Session) (seen seen' : Seen) (out out' notes notes'
   pub gains : Gains out.written out'.written (all_written events)
   pub noted : (sink : SinkSeen) (text : List ℕ) → HasNoted text first sink notes → HasNoted (text ++ all_noted events) noting sink notes'
   pub tallied : tally_after fresh.skipped events ≡ record { kept = s.kept; skipped = s.skipped }
+  pub named : opened_streams events ≡ take s.opened (streams_of fresh.plan)
   pub openings : AreOpened (length (opened_streams events)) seen seen'
   pub calm : AreCalm seen seen' out out'
   pub texts : seen'.texts ≡ seen.texts

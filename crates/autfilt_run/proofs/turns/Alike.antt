@@ -1,13 +1,13 @@
 -- Sessions that differ in nothing but what may be done with them next.
-use Rattle.std.proofs.Common.{◌≡◌, ℕ, ◌+◌, ◌<◌, List, [], ◌∷◌, ◌++◌, Option, Some, None, Ok, length, drop, sym, ap, ◌∙◌, subst}
+use Rattle.std.proofs.Common.{◌≡◌, ℕ, ◌+◌, ◌<◌, List, [], ◌∷◌, ◌++◌, Option, Some, None, Ok, length, drop, take, sym, ap, ◌∙◌, subst}
 use Rattle.std.specs.Prelude.{map}
 use Rattle.aut_core.specs.Core.{Core, automaton_of}
 use Rattle.aut_io.specs.Seen.{Seen}
 use Rattle.autfilt_run.specs.Events.{Point, Stream}
-use Rattle.autfilt_run.specs.Operands.{OperandEvent, PassedOver, operands_of}
+use Rattle.autfilt_run.specs.Operands.{OperandEvent, PassedOver, opened_files, operands_of}
 use Rattle.autfilt_run.specs.Plans.{files_of, name_at}
 use Rattle.autfilt_run.specs.Points.{IsIn, StandsIn, name_in, open_count}
-use Rattle.autfilt_run.specs.Preparing.{HasRead, HasSkipped, IsReady, Prepares}
+use Rattle.autfilt_run.specs.Preparing.{HasRead, HasSkipped, IsReady, Prepares, opened_names}
 use Rattle.autfilt_run.specs.declared.session.Prep.{Prep}
 use Rattle.autfilt_run.specs.declared.session.Prep.TheVariants as prep
 use Rattle.autfilt_run.specs.declared.session.Session.{Session}
@@ -45,6 +45,12 @@ stands_in_as a b left p h x = record {
   at = record { kept = x.at.kept ∙ h.kept; left_is = x.at.left_is; stream = is_in_as p.stream a b left p.before h x.at.stream };
 }
 
+names_as : (a b : Session) → AreAlike a b → opened_names a ≡ opened_names b
+names_as a b h =
+    ap (λ (p : Plan). take (length a.operands + open_count a.is_open) (operands p)) h.plan
+    ∙ (ap (λ (cores : List Core). take (length cores + open_count a.is_open) (operands b.plan)) h.operands_same
+    ∙ ap (λ i. take (length b.operands + open_count i) (operands b.plan)) h.is_open)
+
 has_read_as : (events : List OperandEvent) (old old' new new' : Session) (s t : Seen) → AreAlike old old' → AreAlike old' old → AreAlike new new' → HasRead events old new s t
     → HasRead events old' new' s t
 has_read_as events old old' new new' s t a back b h = record {
@@ -52,6 +58,7 @@ has_read_as events old old' new new' s t a back b h = record {
   happened = λ texts told p stands.
       let x = h.happened texts told p (stands_in_as old' old s.left p back stands) in
       (x.0, x.1, stands_in_as new new' t.left x.0 b x.2);
+  named = sym (names_as new new' b) ∙ (h.named ∙ ap (λ x. x ++ opened_files events) (names_as old old' a));
   openings = h.openings;
   opens = h.opens;
   reads = h.reads;

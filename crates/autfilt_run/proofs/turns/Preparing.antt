@@ -1,7 +1,9 @@
 -- Turns over the operands, as what happens in a run.
-use Rattle.std.proofs.Common.{◌≡◌, ◌≢◌, ℕ, suc, ◌+◌, ◌-◌, ◌<◌, ◌≤◌, Bool, true, false, List, [], ◌∷◌, ◌++◌, length, drop, Option, Some, None, Result}
+use Rattle.std.proofs.Common.{◌≡◌, ◌≢◌, ℕ, suc, ◌+◌, ◌-◌, ◌<◌, ◌≤◌, Bool, true, false, List, [], ◌∷◌, ◌++◌, length, drop, get_or, take, Option, Some, None, Result}
 use Rattle.std.proofs.Common.{Ok, Err, refl, sym, ap, ◌∙◌, subst, inl, inr, append_assoc, append-nil, arith}
 use Rattle.std.proofs.lemmas.List.{length-append}
+use Rattle.std.proofs.lemmas.Option.{same_Some, slice_get-get_or, slice_get_within}
+use Rattle.aut_base.proofs.lists.Lists.{take-push}
 use Rattle.std.specs.Prelude.{map, slice_get}
 use Rattle.std.specs.Result.{IsErrAnd}
 use Rattle.aut_base.specs.declared.fault.OpenFail.TheVariants as opening
@@ -19,7 +21,7 @@ use Rattle.autfilt_run.specs.Faults.{stop_of_fault}
 use Rattle.autfilt_run.specs.Openings.{AreOpened, AreTried, MayEnd}
 use Rattle.autfilt_run.specs.Operands.{AreRead, FileOpened, OperandEvent, PassedOver, Proceeds, Taken, all_passed, opened_file, opened_files, operand_of, operands_of, passed_of}
 use Rattle.autfilt_run.specs.Points.{IsAt, StandsIn, name_in, open_count, operands_in}
-use Rattle.autfilt_run.specs.Preparing.{CountsAt, FailsToPrepare, HasRead, HasSkipped, IsReady, Prepares}
+use Rattle.autfilt_run.specs.Preparing.{CountsAt, FailsToPrepare, HasRead, HasSkipped, IsReady, Prepares, opened_names}
 use Rattle.autfilt_run.specs.Runs.{AtNamed, IsCounted, StopsAtOperand, StopsInOperands, WantsMemory, WantsStream, taken_of}
 use Rattle.autfilt_run.specs.declared.fault.RunFault.{RunFault}
 use Rattle.autfilt_run.specs.declared.fault.RunFault.TheVariants as fault
@@ -48,12 +50,12 @@ pub passed_push : (events : List OperandEvent) (event : OperandEvent) → all_pa
 passed_push [] event = append-nil (passed_of event)
 passed_push (e ∷ es) event = ap (λ x. passed_of e ++ x) (passed_push es event) ∙ sym (append_assoc (passed_of e) (all_passed es) (passed_of event))
 
+opened_files_push : (events : List OperandEvent) (event : OperandEvent) → opened_files (events ++ event ∷ []) ≡ opened_files events ++ opened_file event
+opened_files_push [] event = append-nil (opened_file event)
+opened_files_push (e ∷ es) event = ap (λ x. opened_file e ++ x) (opened_files_push es event) ∙ sym (append_assoc (opened_file e) (opened_files es) (opened_file event))
+
 opened_push : (events : List OperandEvent) (event : OperandEvent) → length (opened_files events) + length (opened_file event) ≡ length (opened_files (events ++ event ∷ []))
-opened_push events event = sym (length-append (opened_files events) (opened_file event)) ∙ ap length (sym (all_opened events event))
-  where
-    all_opened : (events : List OperandEvent) (event : OperandEvent) → opened_files (events ++ event ∷ []) ≡ opened_files events ++ opened_file event
-    all_opened [] event = append-nil (opened_file event)
-    all_opened (e ∷ es) event = ap (λ x. opened_file e ++ x) (all_opened es event) ∙ sym (append_assoc (opened_file e) (opened_files es) (opened_file event))
+opened_push events event = sym (length-append (opened_files events) (opened_file event)) ∙ ap length (sym (opened_files_push events event))
 
 -- ---- one turn
 
@@ -61,6 +63,7 @@ opened_push events event = sym (length-append (opened_files events) (opened_file
 pub record Turned (event : OperandEvent) (old new : Session) (s t : Seen) : Type 0 where
   pub goes : (texts : Texts) → s.texts ≡ Some texts → (p : Point) → StandsIn old s.left p → (q : Point) × Proceeds texts event p q × StandsIn new t.left q
   pub operands : operands_in new ≡ operands_in old ++ operand_of event
+  pub named : opened_names new ≡ opened_names old ++ opened_file event
   pub openings : AreOpened (length (opened_file event)) s t
   pub opens : t.open_faults ≡ s.open_faults
   pub reads : t.read_faults ≡ s.read_faults
@@ -82,6 +85,15 @@ plus_none n = omega arith
 
 counted_closed : (s : Session) (n : ℕ) → s.is_open ≡ false → length s.operands ≡ n → length s.operands + open_count s.is_open ≡ n
 counted_closed s n is len = ap (λ (b : Bool). length s.operands + open_count b) is ∙ plus_none (length s.operands) ∙ len
+
+-- the names of the files that were opened, once there are so many
+names_of : (s : Session) (p : Plan) (n : ℕ) → s.plan ≡ p → length s.operands + open_count s.is_open ≡ n → opened_names s ≡ take n (operands p)
+names_of s p n plan is = ap (λ (q : Plan). take (length s.operands + open_count s.is_open) (operands q)) plan ∙ ap (λ (k : ℕ). take k (operands p)) is
+
+pub take_named : (xs : List (List ℕ)) (i : ℕ) (x : List ℕ) → slice_get xs i ≡ Some x → take (i + 1) xs ≡ take i xs ++ x ∷ []
+take_named xs i x at =
+    let within = slice_get_within xs i x at in
+    take-push xs i x within (same_Some x (get_or xs i x) (sym at ∙ slice_get-get_or xs i x within))
 
 suc_is : (n : ℕ) → suc n ≡ n + 1
 suc_is n = omega arith
@@ -109,6 +121,9 @@ opened old new s t keeps h =
             },
           );
       operands = same_operands old new h.tries.operands_same;
+      named = names_of new old.plan (k + 1) keeps.plan (counted_open new k h.now_open (ap length h.tries.operands_same))
+          ∙ (take_named (operands old.plan) k h.tries.name h.tries.next
+          ∙ ap (λ xs. xs ++ h.tries.name ∷ []) (sym (names_of old old.plan k refl (counted_closed old k h.tries.closed refl))));
       openings = h.tries.opens.counted;
       opens = h.tries.opens.calm;
       reads = h.tries.opens.reads;
@@ -133,6 +148,8 @@ taken old new s t keeps few h =
             },
           );
       operands = h.taken;
+      named = names_of new old.plan (k + 1) keeps.plan (counted_closed new (k + 1) h.closed h.one_more)
+          ∙ (sym (names_of old old.plan (k + 1) refl (counted_open old k h.reads.was_open refl)) ∙ sym (append-nil (opened_names old)));
       openings = h.reads.moves.openings;
       opens = h.reads.moves.opens;
       reads = h.reads.moves.reads;
@@ -159,6 +176,8 @@ passed old new s t keeps few h =
             },
           );
       operands = same_operands old new h.operands_same;
+      named = names_of new old.plan (k + 1) keeps.plan (counted_open new k h.still_open (ap length h.operands_same))
+          ∙ (sym (names_of old old.plan (k + 1) refl (counted_open old k h.reads.was_open refl)) ∙ sym (append-nil (opened_names old)));
       openings = h.reads.moves.openings;
       opens = h.reads.moves.opens;
       reads = h.reads.moves.reads;
@@ -169,7 +188,7 @@ passed old new s t keeps few h =
 
 -- nothing happened yet
 pub read_none : (old : Session) (s : Seen) → HasRead [] old old s s
-read_none old s = record { operands = sym (append-nil (operands_in old)); happened = λ texts told p stands. (p, refl, stands); openings = refl; opens = refl; reads = refl; texts = refl }
+read_none old s = record { operands = sym (append-nil (operands_in old)); happened = λ texts told p stands. (p, refl, stands); named = sym (append-nil (opened_names old)); openings = refl; opens = refl; reads = refl; texts = refl }
 
 -- one event more
 pub read_more : (events : List OperandEvent) (event : OperandEvent) (first old new : Session) (s m t : Seen) → HasRead events first old s m → Turned event old new m t
@@ -181,6 +200,8 @@ read_more events event first old new s m t h turned = record {
       let a = h.happened texts told p stands in
       let b = turned.goes texts (h.texts ∙ told) a.0 a.2 in
       (b.0, are_read_push texts events event p a.0 b.0 a.1 b.1, b.2);
+  named = turned.named ∙ (ap (λ x. x ++ opened_file event) h.named ∙ (append_assoc (opened_names first) (opened_files events) (opened_file event)
+      ∙ ap (λ x. opened_names first ++ x) (sym (opened_files_push events event))));
   openings = opened_as _ _ s t (opened_push events event) (opened_then (length (opened_files events)) (length (opened_file event)) s m t h.openings turned.openings);
   opens = turned.opens ∙ h.opens;
   reads = turned.reads ∙ h.reads;
@@ -383,6 +404,10 @@ fails f first old new s m t most few few' h keeps failed =
       skipped = at.skipped ∙ h.skipped;
       no_write = no_write f old new m t failed;
       counts = counts_then f s m t h.read.opens h.read.reads at.counts;
+      named = (
+        length old.operands + open_count old.is_open,
+        sym h.read.named ∙ ap (λ (p : Plan). take (length old.operands + open_count old.is_open) (operands p)) h.keeps.plan,
+      );
       openings = tried_behind f (length (opened_files h.events)) s m t h.read.openings at.tried;
     }
 

@@ -19,6 +19,7 @@ returns-in_err-read_operands-clause-prepares g c =
       skipped = said.skipped;
       no_write = said.no_write;
       counts = said.counts;
+      named = said.named;
       openings = said.openings;
     })
 
