@@ -188,7 +188,16 @@ passed old new s t keeps few h =
 
 -- nothing happened yet
 pub read_none : (old : Session) (s : Seen) → HasRead [] old old s s
-read_none old s = record { operands = sym (append-nil (operands_in old)); happened = λ texts told p stands. (p, refl, stands); named = sym (append-nil (opened_names old)); openings = refl; opens = refl; reads = refl; texts = refl }
+read_none old s = record {
+  operands = sym (append-nil (operands_in old));
+  happened = λ texts told p stands. (p, refl, stands);
+  named = sym (append-nil (opened_names old));
+  openings =
+      refl;
+  opens = refl;
+  reads = refl;
+  texts = refl;
+}
 
 -- one event more
 pub read_more : (events : List OperandEvent) (event : OperandEvent) (first old new : Session) (s m t : Seen) → HasRead events first old s m → Turned event old new m t
