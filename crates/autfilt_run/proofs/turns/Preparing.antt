@@ -192,8 +192,7 @@ read_none old s = record {
   operands = sym (append-nil (operands_in old));
   happened = λ texts told p stands. (p, refl, stands);
   named = sym (append-nil (opened_names old));
-  openings =
-      refl;
+  openings = refl;
   opens = refl;
   reads = refl;
   texts = refl;
