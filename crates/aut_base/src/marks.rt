@@ -5,13 +5,15 @@ ghost use Rattle.std.specs.List.{slice_index_or};
 ghost use Rattle.aut_base.specs.Marks.{is_in};
 
 use crate::Memory;
+use smallvec::SmallVec;
 use std::alloc::Global;
 use std::marker::Model;
+
 
 /// Numbers of acceptance sets, increasing and without repeats. Contracts see the list of the numbers.
 #[derive(Clone, Debug, Drop)]
 pub struct Marks {
-    items: Vec<u32>,
+    items: SmallVec<u32, 2>,
 }
 
 impl Model for Marks {
@@ -30,7 +32,7 @@ impl Marks {
         ensures { result ≡ [] }
     {
         Marks {
-            items: Vec::new(alloc),
+            items: SmallVec::new(alloc),
         }
     }
 
@@ -54,14 +56,14 @@ impl Marks {
         ensures value { Some result.now ≡ slice_get self.now place }
         ensures item { (d : ℕ) → slice_index_or self.now place d ≡ result.now }
     {
-        &self.items[place]
+        &self.items.as_slice()[place]
     }
 
     /// Whether this set is among the marks.
     pub fn has(&self, set: u32) -> bool
         ensures { result ≡ is_in set self.now }
     {
-        self.items.contains(&set)
+        self.items.as_slice().contains(&set)
     }
 
     /// The marks, to go over. They increase.
@@ -69,7 +71,7 @@ impl Marks {
         ensures items { result.now ≡ self.now }
         ensures increasing { AllPairs (λ a b. a < b) self.now }
     {
-        &self.items
+        self.items.as_slice()
     }
 
     /// Adds a mark that is greater than all before it. Refused for want of memory, it leaves the marks as they were.

@@ -108,6 +108,15 @@ impl<T: Drop> Seq<T> {
             Err(_) => Err(Memory),
         }
     }
+
+    /// Drops the items. The memory that they took stays for those to come.
+    pub fn clear(&mut self)
+    where
+        T: Drop,
+        ensures { self.new ≡ [] }
+    {
+        self.items.clear();
+    }
 }
 
 impl Seq<u8> {
