@@ -1,12 +1,12 @@
--- The parts into which a list of guards splits what may hold, each under the number of its least valuation.
-use Rattle.std.specs.Prelude.{◌≡◌, ℕ, ◌≤◌, Bool, true, not, ◌&&◌, List, length, take, IsSome, MatchOption, Option, Some}
+-- The parts into which a list of guards splits what may hold, each with the number of its least valuation.
+use Rattle.std.specs.Prelude.{◌≡◌, ◌⊎◌, ℕ, ◌≤◌, Bool, true, not, ◌&&◌, List, [], ◌∷◌, ◌++◌, All, Some, count_by, length, map, slice_get, slice_set, take}
 use Rattle.std.specs.Bool.{beq}
-use Rattle.std.specs.BTreeMap.{BTreeMap, IsUnchanged, Updates, get}
-use Rattle.std.specs.Ordering.{nat_cmp}
-use Rattle.aut_base.specs.Valuation.{holds_in}
+use Rattle.std.specs.List.Sorted.{IsNonDecreasingBy, IsPermutation}
+use Rattle.aut_base.specs.Valuation.{holds_in, number_of}
+use Rattle.label_guards.specs.declared.classes.Part.{Part}
 use Rattle.label_guards.specs.declared.guard.Guard.{Guard}
 use Rattle.label_guards.specs.Classes.{agree}
-use Rattle.label_guards.specs.Leasts.{IsLeastAt, IsLeastNumber, bits_of}
+use Rattle.label_guards.specs.Leasts.{IsLeastNumber, bits_of}
 use Rattle.label_guards.specs.Operations.{IsPlaceOf}
 use Rattle.label_guards.specs.Store.{Store, outcome}
 
@@ -23,43 +23,69 @@ pub record IsAlikeness (alike : Test) : Type 0 where
 abbrev pub also_by : Store → Test → ℕ → Test
 also_by s alike by on also = alike on also && beq (outcome s.nodes on by) (outcome s.nodes also by)
 
--- The place is true of what is alike to the valuation of this number, and that is the least one of it.
-pub record IsPart (s : Store) (alike : Test) (number place : ℕ) : Type 0 where
-  pub least : IsLeastNumber s place number
-  pub is : IsPlaceOf s (alike (holds_in (bits_of s.names number))) place
+-- the least valuation of its class
+pub record IsFirst (n : ℕ) (alike : Test) (v : List Bool) : Type 0 where
+  pub size : length v ≡ n
+  pub least : (w : List Bool) → length w ≡ n → alike (holds_in v) (holds_in w) ≡ true → number_of v ≤ number_of w
 
--- one of the parts is of what is alike to this
-pub record IsIn (s : Store) (alike : Test) (parts : BTreeMap ℕ ℕ) (on : ℕ → Bool) : Type 0 where
-  pub number : ℕ
-  pub there : IsSome (get nat_cmp parts number)
-  pub is : alike (holds_in (bits_of s.names number)) on ≡ true
+-- The number is that of the least valuation of a class, and the place is true of that class.
+pub record IsPart (s : Store) (alike : Test) (part : Part) : Type 0 where
+  pub number : number_of (bits_of s.names part.number) ≡ part.number
+  pub first : IsFirst s.names alike (bits_of s.names part.number)
+  pub is : IsPlaceOf s (alike (holds_in (bits_of s.names part.number))) part.place
 
-pub record AreParts (s : Store) (alike : Test) (parts : BTreeMap ℕ ℕ) : Type 0 where
-  pub each : (number place : ℕ) → get nat_cmp parts number ≡ Some place → IsPart s alike number place
-  pub every : (on : ℕ → Bool) → IsIn s alike parts on
+-- Each is a part, and of whatever may hold exactly one is true.
+pub record AreParts (s : Store) (alike : Test) (parts : List Part) : Type 0 where
+  pub each : All (IsPart s alike) parts
+  pub one : (on : ℕ → Bool) → count_by (λ (part : Part). outcome s.nodes on part.place) parts ≡ 1
 
 -- The parts are those of the first guards of the list, and of all of it where there are no more than `most`.
-pub record AreSplit (old s : Store) (list : List Guard) (most : ℕ) (parts : BTreeMap ℕ ℕ) : Type 0 where
+pub record AreSplit (old s : Store) (list : List Guard) (most : ℕ) (parts : List Part) : Type 0 where
   pub count : ℕ
   pub are : AreParts s (agree old (take count list)) parts
-  pub all : length parts.entries ≤ most → take count list ≡ list
+  pub all : length parts ≤ most → take count list ≡ list
 
--- The place is added under the number of its least valuation, if it has one.
-pub record IsAdded (s : Store) (old new : BTreeMap ℕ ℕ) (place : ℕ) : Type 0 where
-  pub found : Option ℕ
-  pub least : IsLeastAt s place found
-  pub added : MatchOption found (IsUnchanged old new) (λ number. Updates nat_cmp old new number (Some place))
+-- the guard has the same truth wherever the place is true
+pub record IsOneSided (s : Store) (place by : ℕ) : Type 0 where
+  pub side : Bool
+  pub same : (on : ℕ → Bool) → outcome s.nodes on place ≡ true → outcome s.nodes on by ≡ side
 
--- What is true where both places are is added, and what is true where the first is and the second isn't.
-pub record IsSplit (old s : Store) (before after : BTreeMap ℕ ℕ) (place by : ℕ) : Type 0 where
-  pub both : ℕ
-  pub others : ℕ
-  pub is_both : IsPlaceOf s (λ on. outcome old.nodes on place && outcome old.nodes on by) both
-  pub is_others : IsPlaceOf s (λ on. outcome old.nodes on place && not (outcome old.nodes on by)) others
-  pub between : BTreeMap ℕ ℕ
-  pub first : IsAdded s before between both
-  pub second : IsAdded s between after others
+-- the truth of the guard at the least valuation of the part
+abbrev pub side_of : Store → Part → ℕ → Bool
+side_of s part by = outcome s.nodes (holds_in (bits_of s.names part.number)) by
 
--- the guard of a place
-abbrev pub guard_at : ℕ → Guard
-guard_at place = record { place = place }
+-- Of where the part is true, the one place has those at which the guard is as at the least valuation, and the other the rest.
+pub record AreHalves (old s : Store) (part : Part) (by kept rest : ℕ) : Type 0 where
+  pub is_kept : IsPlaceOf s (λ on. outcome old.nodes on part.place && beq (side_of old part by) (outcome old.nodes on by)) kept
+  pub is_rest : IsPlaceOf s (λ on. outcome old.nodes on part.place && beq (not (side_of old part by)) (outcome old.nodes on by)) rest
+
+-- The part at the index isn't split.
+pub record IsWhole (old : Store) (before after : List Part) (index by : ℕ) : Type 0 where
+  pub part : Part
+  pub was : slice_get before index ≡ Some part
+  pub one_sided : IsOneSided old part.place by
+  pub unchanged : after ≡ before
+
+-- The part at the index is split: one half keeps its number and its index, the other is added under its own number.
+pub record IsHalved (old s : Store) (before after : List Part) (index by : ℕ) : Type 0 where
+  pub part : Part
+  pub was : slice_get before index ≡ Some part
+  pub kept : ℕ
+  pub rest : Part
+  pub halves : AreHalves old s part by kept rest.place
+  pub least : IsLeastNumber s rest.place rest.number
+  pub made : after ≡ slice_set (before ++ rest ∷ []) index (record { number = part.number; place = kept })
+
+abbrev pub IsSplit : Store → Store → List Part → List Part → ℕ → ℕ → Type 0
+IsSplit old s before after index by = IsWhole old before after index by ⊎ IsHalved old s before after index by
+
+-- the guard of a part
+abbrev pub guard_of : Part → Guard
+guard_of part = record { place = part.place }
+
+-- the guards of these parts, in the order of their numbers
+pub record AreInOrder (parts : List Part) (classes : List Guard) : Type 0 where
+  pub sorted : List Part
+  pub same : IsPermutation parts sorted
+  pub order : IsNonDecreasingBy (λ (part : Part). part.number) sorted
+  pub are : classes ≡ map guard_of sorted

@@ -7,13 +7,13 @@ use Rattle.std.specs.List.{AllByRecursion, list_all}
 use Rattle.aut_base.proofs.order.Ordered.{Pairs}
 use Rattle.aut_base.specs.Valuation.{IsLeast, holds_in, truth_on}
 use Rattle.label_guards.specs.declared.guard.Guard.{Guard}
-use Rattle.label_guards.specs.ClassParts.{IsAlikeness, Test}
+use Rattle.label_guards.specs.ClassParts.{IsAlikeness, IsFirst, Test}
 use Rattle.label_guards.specs.Classes.{AreClasses, IsBefore, IsMet, agree}
 use Rattle.label_guards.specs.Guards.{truth_in}
 use Rattle.label_guards.specs.Nodes.{Grows, IsReduced}
 use Rattle.label_guards.specs.Store.{Store, Has, label_in}
 use Rattle.label_guards.proofs.alike.ClassParts.{joined, turned}
-use Rattle.label_guards.proofs.alike.Firsts.{IsEarlier, IsFirst}
+use Rattle.label_guards.proofs.alike.Firsts.{IsEarlier}
 use Rattle.label_guards.proofs.alike.FoundClasses.{AreAllFound, AreFound, agree_alike, agree_is, alike_agree, all_pairs}
 use Rattle.label_guards.proofs.labelled.LabelTruth.{keeps, truth_is}
 

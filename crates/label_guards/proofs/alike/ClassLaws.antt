@@ -5,6 +5,7 @@ use Rattle.std.proofs.Math.Decide.{dec_lt}
 use Rattle.std.proofs.lemmas.List.{length-map}
 use Rattle.std.proofs.lemmas.List.Elements.{All-from_recursion}
 use Rattle.std.proofs.lemmas.Option.{get_or_from_slice_get, none-some, same_Some, slice_get-map, slice_get_within}
+use Rattle.std.specs.Cmp.{both_ways}
 use Rattle.std.specs.List.{AllByRecursion}
 use Rattle.indexmap.proofs.IndexTableLemmas.Probe.{pigeonhole}
 use Rattle.aut_base.proofs.lists.AllByRecursion.{AllByRecursion-map}
@@ -17,7 +18,6 @@ use Rattle.label_guards.specs.Classes.{AreAlike, AreClasses, IsBefore, IsMet, Me
 use Rattle.label_guards.specs.Guards.{truth_in}
 use Rattle.label_guards.specs.Store.{Store, Has, Keeps, label_at, label_in, outcome}
 use Rattle.label_guards.proofs.alike.ClassGuards.{met_at}
-use Rattle.label_guards.proofs.alike.ClassParts.{both_ways}
 
 -- alike in the later store is alike in the earlier one
 alike_before : {old new : Store} → Keeps old new → (list : List Guard) → All (Has old) list → (on also : ℕ → Bool) → AreAlike new list on also → AreAlike old list on also

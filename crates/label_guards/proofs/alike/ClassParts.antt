@@ -1,36 +1,35 @@
 -- How the parts of what may hold are split by one guard more.
-use Rattle.std.proofs.Common.{◌≡◌, ◌⊎◌, ℕ, ◌+◌, ◌∙◌, Bool, true, false, not, ◌&&◌, ◌||◌, cond, List, [], ◌∷◌, take, Option, Some, None, All, IsSome, BTreeMap, nat_cmp, is_eq}
-use Rattle.std.proofs.Common.{zero, suc, slice_get, inl, inr, refl, sym, ap, subst, arith}
-use Rattle.std.proofs.lemmas.Bool.{and_parts, eqb-true, false≢true}
-use Rattle.std.proofs.lemmas.Cmp.{nat_cmp_total}
-use Rattle.std.proofs.lemmas.Map.Entries.{btree_map_get_place}
-use Rattle.std.proofs.lemmas.List.Elements.{All-from_recursion}
+use Rattle.std.proofs.Common.{◌≡◌, ◌⊎◌, ℕ, ◌+◌, ◌<◌, ◌≤◌, ◌≢◌, ◌∙◌, Bool, true, false, not, ◌&&◌, cond, List, [], ◌∷◌, ◌++◌, length, set, take, get_or, All, Option, Some, None, count_by}
+use Rattle.std.proofs.Common.{slice_get, inl, inr, refl, sym, ap, subst, arith}
+use Rattle.std.proofs.Math.Decide.{dec_lt, ℕ_discrete}
+use Rattle.std.proofs.lemmas.Bool.{and_parts, false≢true}
+use Rattle.std.proofs.lemmas.List.{get_or-set_other, get_or-set_same, get_or_append_left, get_or_push, length-append, length-set}
+use Rattle.std.proofs.lemmas.List.Elements.{All-from_recursion, All-push, All-set, recursion_from_All}
 use Rattle.std.proofs.lemmas.List.Folds.{list_all-append}
-use Rattle.std.proofs.lemmas.Option.{get_or_from_slice_get, none-some, same_Some, slice_get_within}
+use Rattle.std.proofs.lemmas.List.Sums.{sum_by-cons, sum_by-set, sum_by_push}
+use Rattle.std.proofs.lemmas.Option.{get_or_from_slice_get, slice_get_within}
 use Rattle.std.specs.Bool.{beq}
-use Rattle.std.specs.BTreeMap.{IsOrdered, IsUnchanged, Updates, get, is_at, values}
-use Rattle.std.specs.Map.{lookup, values_of}
-use Rattle.std.specs.Option.{MatchOption}
-use Rattle.std.specs.Cmp.{booleans_Decides}
-use Rattle.std.specs.List.{AllByRecursion, list_all, list_any}
+use Rattle.std.specs.Cmp.{booleans_Decides, both_ways}
+use Rattle.std.specs.List.{AllByRecursion, list_all}
 use Rattle.aut_base.proofs.lists.Lists.{take-slice_get}
-use Rattle.aut_base.proofs.numbers.Numbers.{is_eq-nat_cmp}
 use Rattle.aut_base.proofs.numbers.Truth.{and-true}
 use Rattle.aut_base.proofs.canonical.ValuationLists.{length-valuation_of}
-use Rattle.aut_base.specs.Valuation.{holds_in, valuation_of}
+use Rattle.aut_base.specs.Valuation.{holds_in, number_of, valuation_of}
+use Rattle.label_guards.specs.declared.classes.Part.{Part}
 use Rattle.label_guards.specs.declared.guard.Guard.{Guard}
 use Rattle.label_guards.specs.declared.guards.Operation.TheVariants.{And, Xor}
-use Rattle.label_guards.specs.ClassParts.{AreParts, IsAdded, IsAlikeness, IsIn, IsPart, IsSplit, Test, also_by}
+use Rattle.label_guards.specs.ClassParts.{AreHalves, AreParts, IsAlikeness, IsFirst, IsHalved, IsOneSided, IsPart, IsSplit, IsWhole, Test, also_by, side_of}
 use Rattle.label_guards.specs.Classes.{agree}
 use Rattle.label_guards.specs.Leasts.{IsLeastAt, IsLeastNumber, IsLeastOf, bits_of}
 use Rattle.label_guards.specs.Nodes.{Grows, IsReduced}
 use Rattle.label_guards.specs.Operations.{IsJoin, IsPlaceOf, differs}
 use Rattle.label_guards.specs.Store.{Store, Has, HasPlace, outcome}
-use Rattle.label_guards.proofs.diagrams.Growth.{grows_on, has_kept, level_kept, outcome_kept}
+use Rattle.label_guards.proofs.diagrams.Growth.{grows_none, grows_on, has_kept, level_kept, outcome_kept}
+use Rattle.label_guards.proofs.diagrams.Outcomes.{outcome-false, outcome-true}
+use Rattle.label_guards.proofs.diagrams.Unique.{outcome_firsts}
 use Rattle.label_guards.proofs.valuations.Leasts.{least_true}
 use Rattle.label_guards.proofs.labelled.Parts.{place_kept, place_same, true_place}
-use Rattle.label_guards.proofs.diagrams.Unique.{outcome_firsts}
-use Rattle.label_guards.proofs.valuations.Valuations.{bits_of-number}
+use Rattle.label_guards.proofs.valuations.Valuations.{bits_of-number, length-bits_of}
 
 -- what is found of a place stays so
 number_kept : {s t : Store} → Grows s t → (place m : ℕ) → HasPlace s place → IsLeastNumber s place m → IsLeastNumber t place m
@@ -50,19 +49,19 @@ least_at grows place (Some m) has least = number_kept grows place m has least
 pub least_kept : {s t : Store} → Grows s t → (place : ℕ) (found : Option ℕ) → IsLeastOf s place found → IsLeastOf t place found
 least_kept grows place found is = record { has = has_kept grows place is.has; least = least_at grows place found is.has is.least }
 
--- the places that are split
-pub both_part : {s t u : Store} → Grows s t → Grows t u → (place by both : ℕ) → HasPlace s place → HasPlace s by → IsJoin t And place by both
-    → IsPlaceOf u (λ on. outcome s.nodes on place && outcome s.nodes on by) both
-both_part {s} {t} {u} first second place by both has_place has_by joined = place_kept second _ both (record {
+-- where the part and the guard are true, and where the part alone is
+pub both_part : {s t : Store} → Grows s t → (place by both : ℕ) → HasPlace s place → HasPlace s by → IsJoin t And place by both
+    → IsPlaceOf t (λ on. outcome s.nodes on place && outcome s.nodes on by) both
+both_part grows place by both has_place has_by joined = record {
   has = joined.has;
-  truth = λ on. joined.truth on ∙ (λ j. outcome_kept first on place has_place j && outcome_kept first on by has_by j);
-})
+  truth = λ on. joined.truth on ∙ (λ j. outcome_kept grows on place has_place j && outcome_kept grows on by has_by j);
+}
 
-pub others_part : {s t u : Store} → Grows s t → Grows t u → (place by both others : ℕ) → HasPlace s place → HasPlace s by → IsJoin t And place by both → IsJoin u Xor place both others
+others_part : {s t u : Store} → Grows s t → Grows t u → (place by both others : ℕ) → HasPlace s place → HasPlace s by → IsJoin t And place by both → IsJoin u Xor place both others
     → IsPlaceOf u (λ on. outcome s.nodes on place && not (outcome s.nodes on by)) others
 others_part {s} {t} {u} first second place by both others has_place has_by joined turned = record {
   has = turned.has;
-  truth = λ on. turned.truth on ∙ ((λ j. differs (outcome_kept (grows_on first second) on place has_place j) ((both_part first second place by both has_place has_by joined).truth on j))
+  truth = λ on. turned.truth on ∙ ((λ j. differs (outcome_kept (grows_on first second) on place has_place j) ((place_kept second _ both (both_part first place by both has_place has_by joined)).truth on j))
       ∙ taken (outcome s.nodes on place) (outcome s.nodes on by));
 }
   where
@@ -70,14 +69,56 @@ others_part {s} {t} {u} first second place by both others has_place has_by joine
     taken true b = refl
     taken false b = refl
 
-either_way : (b : Bool) → (b ≡ true) ⊎ (b ≡ false)
-either_way true = inl refl
-either_way false = inr refl
+-- the guard is true in nothing of the part, or in all of it
+module _ {s t : Store} (grows : Grows s t) (place by both : ℕ) (is : IsPlaceOf t (λ on. outcome s.nodes on place && outcome s.nodes on by) both) where
+  there : (on : ℕ → Bool) → outcome s.nodes on place ≡ true → outcome s.nodes on by ≡ outcome t.nodes on both
+  there on met = sym (ap (λ b. b && outcome s.nodes on by) met) ∙ sym (is.truth on)
 
-pub both_ways : (a b : Bool) → (a ≡ true → b ≡ true) → (b ≡ true → a ≡ true) → a ≡ b
-both_ways true b to from = sym (to refl)
-both_ways false true to from = from refl
-both_ways false false to from = refl
+  pub true_in_none : both ≡ 0 → IsOneSided s place by
+  true_in_none e = record { side = false; same = λ on met. there on met ∙ (ap (outcome t.nodes on) e ∙ outcome-false t.nodes on) }
+
+  pub true_in_all : HasPlace s place → both ≡ place → IsOneSided s place by
+  true_in_all has e = record { side = true; same = λ on met. there on met ∙ (ap (outcome t.nodes on) e ∙ (outcome_kept grows on place has ∙ met)) }
+
+is_true : (b : Bool) → b ≡ beq true b
+is_true true = refl
+is_true false = refl
+
+is_false : (b : Bool) → not b ≡ beq false b
+is_false true = refl
+is_false false = refl
+
+-- which half has the least valuation
+module _ {s t u : Store} (first : Grows s t) (second : Grows t u) (part : Part) (by both others : ℕ) (has_place : HasPlace s part.place) (has_by : HasPlace s by)
+    (joined : IsJoin t And part.place by both) (turned : IsJoin u Xor part.place both others) where
+  is_both : IsPlaceOf u (λ on. outcome s.nodes on part.place && outcome s.nodes on by) both
+  is_both = place_kept second _ both (both_part first part.place by both has_place has_by joined)
+
+  is_others : IsPlaceOf u (λ on. outcome s.nodes on part.place && not (outcome s.nodes on by)) others
+  is_others = others_part first second part.place by both others has_place has_by joined turned
+
+  was_side : (b : Bool) → outcome u.nodes (holds_in (bits_of u.names part.number)) by ≡ b → side_of s part by ≡ b
+  was_side b e =
+      let grows = grows_on first second in
+      sym (outcome_kept grows (holds_in (bits_of s.names part.number)) by has_by) ∙ (sym (ap (λ (n : ℕ). outcome u.nodes (holds_in (bits_of n part.number)) by) grows.names) ∙ e)
+
+  pub both_kept : outcome u.nodes (holds_in (bits_of u.names part.number)) by ≡ true → AreHalves s u part by both others
+  both_kept e =
+      let side = was_side true e in
+      record {
+        is_kept = place_same u _ _ both (λ on. ap (λ b. outcome s.nodes on part.place && b) (is_true (outcome s.nodes on by) ∙ ap (λ b. beq b (outcome s.nodes on by)) (sym side))) is_both;
+        is_rest = place_same u _ _ others
+            (λ on. ap (λ b. outcome s.nodes on part.place && b) (is_false (outcome s.nodes on by) ∙ ap (λ b. beq (not b) (outcome s.nodes on by)) (sym side))) is_others;
+      }
+
+  pub others_kept : outcome u.nodes (holds_in (bits_of u.names part.number)) by ≡ false → AreHalves s u part by others both
+  others_kept e =
+      let side = was_side false e in
+      record {
+        is_kept = place_same u _ _ others (λ on. ap (λ b. outcome s.nodes on part.place && b) (is_false (outcome s.nodes on by) ∙ ap (λ b. beq b (outcome s.nodes on by)) (sym side))) is_others;
+        is_rest = place_same u _ _ both
+            (λ on. ap (λ b. outcome s.nodes on part.place && b) (is_true (outcome s.nodes on by) ∙ ap (λ b. beq (not b) (outcome s.nodes on by)) (sym side))) is_both;
+      }
 
 module _ (alike : Test) (is : IsAlikeness alike) where
   pub turned : (on also : ℕ → Bool) → alike on also ≡ true → alike also on ≡ true
@@ -90,214 +131,253 @@ module _ (alike : Test) (is : IsAlikeness alike) where
   alike_left : (v w : ℕ → Bool) → alike v w ≡ true → (on : ℕ → Bool) → alike v on ≡ alike w on
   alike_left v w h on = both_ways (alike v on) (alike w on) (λ k. joined v w on h k) (λ k. sym (is.same w on k v) ∙ h)
 
--- the map has what was put at a key, and what it had at the others
-put_cases : (before after : BTreeMap ℕ ℕ) (m q : ℕ) → Updates nat_cmp before after m (Some q) → (k : ℕ)
-    → ((m ≡ k) × (get nat_cmp after k ≡ Some q)) ⊎ (get nat_cmp after k ≡ get nat_cmp before k)
-put_cases before after m q put k = by (is_eq (nat_cmp m k)) refl
-  where
-    by : (b : Bool) → is_eq (nat_cmp m k) ≡ b → ((m ≡ k) × (get nat_cmp after k ≡ Some q)) ⊎ (get nat_cmp after k ≡ get nat_cmp before k)
-    by true e = inl (eqb-true m k (sym (is_eq-nat_cmp m k) ∙ e), put.0 k ∙ ap (λ c. cond c (Some q) (get nat_cmp before k)) e)
-    by false e = inr (put.0 k ∙ ap (λ c. cond c (Some q) (get nat_cmp before k)) e)
+-- where fewer are alike, the least valuation of the greater class is that of its own
+narrowed : {s t : Store} → Grows s t → (alike also : Test) → ((on w : ℕ → Bool) → also on w ≡ true → alike on w ≡ true) → (part : Part) → IsPart s alike part → (q : ℕ)
+    → IsPlaceOf t (also (holds_in (bits_of s.names part.number))) q → IsPart t also (record { number = part.number; place = q })
+narrowed {s} {t} grows alike also weaker part is q piece = record {
+  number = ap (λ (n : ℕ). number_of (bits_of n part.number)) grows.names ∙ is.number;
+  first = subst (λ (n : ℕ). IsFirst n also (bits_of n part.number)) (sym grows.names) (record { size = is.first.size; least = λ w size h. is.first.least w size (weaker _ _ h) });
+  is = subst (λ (n : ℕ). IsPlaceOf t (also (holds_in (bits_of n part.number))) q) (sym grows.names) piece;
+}
 
-abbrev AddsUnder : BTreeMap ℕ ℕ → BTreeMap ℕ ℕ → ℕ → Option ℕ → Type 0
-AddsUnder before after q found = MatchOption found (IsUnchanged before after) (λ number. Updates nat_cmp before after number (Some q))
+part_kept : {s t : Store} → Grows s t → (alike : Test) (part : Part) → IsPart s alike part → IsPart t alike part
+part_kept grows alike part is = narrowed grows alike alike (λ on w h. h) part is part.place (place_kept grows _ part.place is.is)
 
-added_cases : (t : Store) (before after : BTreeMap ℕ ℕ) (q : ℕ) (found : Option ℕ) → IsLeastAt t q found → AddsUnder before after q found → (k : ℕ)
-    → (IsLeastNumber t q k × (get nat_cmp after k ≡ Some q)) ⊎ (get nat_cmp after k ≡ get nat_cmp before k)
-added_cases t before after q None none added k = inr (ap (lookup (is_at (nat_cmp k))) added)
-added_cases t before after q (Some m) least added k = elim (put_cases before after m q added k) [
-  | inl h ↦ inl (subst (IsLeastNumber t q) h.0 least, h.1)
-  | inr h ↦ inr h
-]
+-- what becomes of a part under one guard more
+module _ {old s : Store} (first : Grows old s) (alike : Test) (by : ℕ) (has_by : HasPlace old by) (part : Part) (is : IsPart s alike part) where
+  abbrev also : Test
+  also = also_by old alike by
 
--- each entry is a part
-abbrev pub Each : Store → Test → BTreeMap ℕ ℕ → Type 0
-Each t alike parts = (number place : ℕ) → get nat_cmp parts number ≡ Some place → IsPart t alike number place
+  abbrev v : ℕ → Bool
+  v = holds_in (bits_of s.names part.number)
 
--- a place is added that is a part under its number
-module _ (t : Store) (alike : Test) (before after : BTreeMap ℕ ℕ) (q : ℕ) (right : (m : ℕ) → IsLeastNumber t q m → IsPart t alike m q) (add : IsAdded t before after q) where
-  each_more : Each t alike before → Each t alike after
-  each_more each number place e = elim (added_cases t before after q add.found add.least add.added number) [
-    | inl h ↦ subst (IsPart t alike number) (same_Some q place (sym h.1 ∙ e)) (right number h.0)
-    | inr h ↦ each number place (sym h ∙ e)
-  ]
+  by_was : (on : ℕ → Bool) → outcome s.nodes on by ≡ outcome old.nodes on by
+  by_was on = outcome_kept first on by has_by
 
-  in_more : (on : ℕ → Bool) → IsIn t alike before on → IsIn t alike after on
-  in_more on is = record {
-    number = is.number;
-    there = elim (added_cases t before after q add.found add.least add.added is.number) [
-      | inl h ↦ subst IsSome (sym h.1) refl
-      | inr h ↦ subst IsSome (sym h) is.there
-    ];
-    is = is.is;
-  }
+  weaker : (on w : ℕ → Bool) → also on w ≡ true → alike on w ≡ true
+  weaker on w h = (and_parts _ _ h).0
 
-  in_added : IsReduced t.names t.nodes → HasPlace t q → (on : ℕ → Bool) → outcome t.nodes on q ≡ true → IsIn t alike after on
-  in_added reduced has on met = by add.found add.least add.added
+  whole_part : IsAlikeness alike → IsOneSided s part.place by → IsPart s also part
+  whole_part likeness one = narrowed (grows_none s) alike also weaker part is part.place (place_same s _ _ part.place same is.is)
     where
-      by : (found : Option ℕ) → IsLeastAt t q found → AddsUnder before after q found → IsIn t alike after on
-      by None none added =
-          absurd (false≢true (sym (none (valuation_of t.names on) (length-valuation_of t.names on)) ∙ (sym (outcome_firsts t reduced q has on) ∙ met)))
-      by (Some m) least added = record { number = m; there = subst IsSome (sym added.1) refl; is = sym ((right m least).is.truth on) ∙ met }
+      here : (on : ℕ → Bool) → alike v on ≡ true → outcome s.nodes on by ≡ one.side
+      here on h = one.same on (is.is.truth on ∙ h)
 
--- what is true of a part where the guard is as `side` says is a part
-part_of_piece : {old t : Store} → Grows old t → (alike : Test) → IsAlikeness alike → (by number place : ℕ) → IsPart old alike number place → (side : Bool) (q : ℕ)
-    → IsPlaceOf t (λ on. outcome old.nodes on place && beq side (outcome old.nodes on by)) q → (m : ℕ) → IsLeastNumber t q m → IsPart t (also_by old alike by) m q
-part_of_piece {old} {t} grows alike is by number place part side q piece m least =
-    let v : ℕ → Bool = holds_in least.valuation in
-    let w : ℕ → Bool = holds_in (bits_of old.names number) in
-    let e : bits_of t.names m ≡ least.valuation = ap (bits_of t.names) (sym least.is_number) ∙ bits_of-number least.valuation t.names least.size in
-    let meets = and_parts _ _ (sym (piece.truth v) ∙ least.truth) in
-    let in_part : alike w v ≡ true = sym (part.is.truth v) ∙ meets.0 in
-    let same : side ≡ outcome old.nodes v by = (booleans_Decides _ _).0 meets.1 in
-    record {
-      least = least;
-      is = place_same t _ (also_by old alike by (holds_in (bits_of t.names m))) q
-          (λ on. (λ i. (part.is.truth on ∙ alike_left alike is w v in_part on) i && beq (same i) (outcome old.nodes on by)) ∙ ap (λ x. also_by old alike by (holds_in x) on) (sym e)) piece;
-    }
+      same : (on : ℕ → Bool) → alike v on ≡ also v on
+      same on = both_ways (alike v on) (also v on) (λ h. λ i. h i && (booleans_Decides (outcome old.nodes v by) (outcome old.nodes on by)).1
+          (sym (by_was v) ∙ (here v (likeness.self v) ∙ (sym (here on h) ∙ by_was on))) i) (weaker v on)
 
-or_parts : (a b : Bool) → (a || b) ≡ true → (a ≡ true) ⊎ (b ≡ true)
-or_parts true b h = inl refl
-or_parts false b h = inr h
+  module _ {t : Store} (second : Grows s t) where
+    kept_part : (kept : ℕ) → IsPlaceOf t (λ on. outcome s.nodes on part.place && beq (side_of s part by) (outcome s.nodes on by)) kept
+        → IsPart t also (record { number = part.number; place = kept })
+    kept_part kept half = narrowed second alike also weaker part is kept (place_same t _ (also v) kept (λ on i. is.is.truth on i && beq (by_was v i) (by_was on i)) half)
 
--- the parts that were split so far, and those that are left
-pub record IsMidway (old s : Store) (alike : Test) (by : ℕ) (found : BTreeMap ℕ ℕ) (left : List ℕ) : Type 0 where
-  pub each : Each s (also_by old alike by) found
-  pub left_parts : AllByRecursion (λ place. (number : ℕ) × IsPart old alike number place) left
-  pub every : (on : ℕ → Bool) → (list_any (outcome old.nodes on) left ≡ true) ⊎ IsIn s (also_by old alike by) found on
+    rest_part : IsAlikeness alike → (rest : Part) → IsPlaceOf t (λ on. outcome s.nodes on part.place && beq (not (side_of s part by)) (outcome s.nodes on by)) rest.place
+        → IsLeastNumber t rest.place rest.number → IsPart t also rest
+    rest_part likeness rest half least =
+        let w : ℕ → Bool = holds_in least.valuation in
+        let e : bits_of t.names rest.number ≡ least.valuation = ap (bits_of t.names) (sym least.is_number) ∙ bits_of-number least.valuation t.names least.size in
+        let meets = and_parts _ _ (sym (half.truth w) ∙ least.truth) in
+        let in_part : alike v w ≡ true = sym (is.is.truth w) ∙ meets.0 in
+        let side : not (side_of s part by) ≡ outcome old.nodes w by = (booleans_Decides _ _).0 meets.1 ∙ by_was w in
+        let piece : IsPlaceOf t (also w) rest.place =
+        place_same t _ (also w) rest.place (λ on i. (is.is.truth on ∙ alike_left alike likeness v w in_part on) i && beq (side i) (by_was on i)) half in
+        record {
+          number = ap number_of e ∙ least.is_number;
+          first = subst (IsFirst t.names also) (sym e)
+              (record { size = least.size; least = λ u size h. subst (λ (m : ℕ). m ≤ number_of u) (sym least.is_number) (least.least u size (piece.truth (holds_in u) ∙ h)) });
+          is = subst (λ (bits : List Bool). IsPlaceOf t (also (holds_in bits)) rest.place) (sym e) piece;
+        }
 
-part_kept : {s t : Store} → Grows s t → (alike : Test) (number place : ℕ) → IsPart s alike number place → IsPart t alike number place
-part_kept {s} {t} grows alike number place part = record {
-  least = number_kept grows place number part.is.has part.least;
-  is = subst (λ (n : ℕ). IsPlaceOf t (alike (holds_in (bits_of n number))) place) (sym grows.names) (place_kept grows _ place part.is);
-}
+-- how many of the parts are true
+abbrev pub count_true : Store → (ℕ → Bool) → List Part → ℕ
+count_true s on parts = count_by (λ (part : Part). outcome s.nodes on part.place) parts
 
-in_kept : {s t : Store} → Grows s t → (alike : Test) (parts : BTreeMap ℕ ℕ) (on : ℕ → Bool) → IsIn s alike parts on → IsIn t alike parts on
-in_kept grows alike parts on is = record { number = is.number; there = is.there; is = ap (λ (n : ℕ). alike (holds_in (bits_of n is.number)) on) grows.names ∙ is.is }
+count_kept : {s t : Store} → Grows s t → (on : ℕ → Bool) (parts : List Part) → AllByRecursion (λ (part : Part). HasPlace s part.place) parts → count_true t on parts ≡ count_true s on parts
+count_kept grows on [] has = refl
+count_kept {s} {t} grows on (p ∷ ps) has =
+    sum_by-cons (λ (part : Part). cond (outcome t.nodes on part.place) 1 0) p ps
+    ∙ ((λ i. cond (outcome_kept grows on p.place has.0 i) 1 0 + count_kept grows on ps has.1 i) ∙ sym (sum_by-cons (λ (part : Part). cond (outcome s.nodes on part.place) 1 0) p ps))
 
-pub split_step : {old s t : Store} → Grows old s → Grows s t → IsReduced t.names t.nodes → (alike : Test) → IsAlikeness alike → (by : ℕ) → HasPlace old by → (before after : BTreeMap ℕ ℕ)
-    → (place : ℕ) (left : List ℕ) → IsSplit s t before after place by → IsMidway old s alike by before (place ∷ left) → IsMidway old t alike by after left
-split_step {old} {s} {t} first second reduced alike is by has_by before after place left split way =
-    let also : Test = also_by old alike by in
-    let number : ℕ = way.left_parts.0.0 in
-    let part : IsPart old alike number place = way.left_parts.0.1 in
-    let grows : Grows old t = grows_on first second in
-    let was : (on : ℕ → Bool) → outcome s.nodes on place ≡ outcome old.nodes on place = λ on. outcome_kept first on place part.is.has in
-    let by_was : (on : ℕ → Bool) → outcome s.nodes on by ≡ outcome old.nodes on by = λ on. outcome_kept first on by has_by in
-    let both : IsPlaceOf t (λ on. outcome old.nodes on place && beq true (outcome old.nodes on by)) split.both =
-    place_same t _ _ split.both (λ on. (λ i. was on i && by_was on i) ∙ ap (λ b. outcome old.nodes on place && b) (is_true (outcome old.nodes on by))) split.is_both in
-    let others : IsPlaceOf t (λ on. outcome old.nodes on place && beq false (outcome old.nodes on by)) split.others =
-    place_same t _ _ split.others (λ on. (λ i. was on i && not (by_was on i)) ∙ ap (λ b. outcome old.nodes on place && b) (is_false (outcome old.nodes on by))) split.is_others in
-    let right_both = part_of_piece grows alike is by number place part true split.both both in
-    let right_others = part_of_piece grows alike is by number place part false split.others others in
-    let each : Each t also split.between = each_more t also before split.between split.both right_both split.first (λ k p e. part_kept second also k p (way.each k p e)) in
-    let more : (on : ℕ → Bool) → IsIn t also split.between on → IsIn t also after on = in_more t also split.between after split.others right_others split.second in
-    let before_more : (on : ℕ → Bool) → IsIn t also before on → IsIn t also split.between on = in_more t also before split.between split.both right_both split.first in
-    record {
-      each = each_more t also split.between after split.others right_others split.second each;
-      left_parts = way.left_parts.1;
-      every = λ on. elim (way.every on) [
-        | inl h ↦ elim (or_parts _ _ h) [
-          | inl met ↦ inr (elim (either_way (outcome old.nodes on by)) [
-            | inl e ↦ more on (in_added t also before split.between split.both right_both split.first reduced both.has on
-                (both.truth on ∙ (λ i. met i && beq true (e i))))
-            | inr e ↦ in_added t also split.between after split.others right_others split.second reduced others.has on
-                (others.truth on ∙ (λ i. met i && beq false (e i)))
-          ])
-          | inr later ↦ inl later
-        ]
-        | inr h ↦ inr (more on (before_more on (in_kept second also before on h)))
-      ];
-    }
-  where
-    is_true : (b : Bool) → b ≡ beq true b
-    is_true true = refl
-    is_true false = refl
+two_halves : (a b side : Bool) → cond (a && beq side b) 1 0 + cond (a && beq (not side) b) 1 0 ≡ cond a 1 0
+two_halves true true true = refl
+two_halves true true false = refl
+two_halves true false true = refl
+two_halves true false false = refl
+two_halves false b side = refl
 
-    is_false : (b : Bool) → not b ≡ beq false b
-    is_false true = refl
-    is_false false = refl
+count_halved : {s t : Store} → Grows s t → (before after : List Part) (index by : ℕ) → All (λ (part : Part). HasPlace s part.place) before → IsHalved s t before after index by
+    → (on : ℕ → Bool) → count_true t on after ≡ count_true s on before
+count_halved {s} {t} grows before after index by has split on =
+    let f : Part → ℕ = λ part. cond (outcome t.nodes on part.place) 1 0 in
+    let part : Part = split.part in
+    let kept : Part = record { number = part.number; place = split.kept } in
+    let within : index < length before = slice_get_within before index part split.was in
+    let long = length-append before (split.rest ∷ []) in
+    let within_more : index < length (before ++ split.rest ∷ []) = omega (arith, long) in
+    let was : get_or (before ++ split.rest ∷ []) index part ≡ part = get_or_append_left before (split.rest ∷ []) part index within ∙ get_or_from_slice_get before index part part split.was in
+    let changed = sum_by-set f (before ++ split.rest ∷ []) index kept part within_more in
+    let more = sum_by_push f before split.rest in
+    let same = count_kept grows on before (recursion_from_All _ before has) in
+    let has_part : HasPlace s part.place = subst (λ (p : Part). HasPlace s p.place) (get_or_from_slice_get before index part part split.was) (has index part within) in
+    let at_part : f (get_or (before ++ split.rest ∷ []) index part) ≡ cond (outcome s.nodes on part.place) 1 0 = ap f was ∙ ap (λ b. cond {A = ℕ} b 1 0) (outcome_kept grows on part.place has_part) in
+    let at_kept = ap (λ b. cond {A = ℕ} b 1 0) (split.halves.is_kept.truth on) in
+    let at_rest = ap (λ b. cond {A = ℕ} b 1 0) (split.halves.is_rest.truth on) in
+    let halves = two_halves (outcome s.nodes on part.place) (outcome s.nodes on by) (side_of s part by) in
+    ap (count_true t on) split.made ∙ omega arith
 
--- nothing is split yet
-value_parts : (s : Store) (alike : Test) (es : List (ℕ × ℕ)) → AllByRecursion (λ e. IsPart s alike e.0 e.1) es → AllByRecursion (λ place. (number : ℕ) × IsPart s alike number place) (values_of es)
-value_parts s alike [] all = tt
-value_parts s alike (e ∷ es) all = ((e.0, all.0), value_parts s alike es all.1)
+-- The parts before the index and those that were added are split, and the others aren't yet.
+pub record IsMidway (old s : Store) (alike : Test) (by count index : ℕ) (parts : List Part) : Type 0 where
+  pub within : count ≤ length parts
+  pub left : (k : ℕ) (d : Part) → index ≤ k → k < count → IsPart s alike (get_or parts k d)
+  pub split : (k : ℕ) (d : Part) → k < length parts → (k < index) ⊎ (count ≤ k) → IsPart s (also_by old alike by) (get_or parts k d)
+  pub one : (on : ℕ → Bool) → count_true s on parts ≡ 1
 
-value_met : (s : Store) (alike : Test) (on : ℕ → Bool) (es : List (ℕ × ℕ)) → AllByRecursion (λ e. IsPart s alike e.0 e.1) es → (number : ℕ) → IsSome (lookup (is_at (nat_cmp number)) es)
-    → alike (holds_in (bits_of s.names number)) on ≡ true → list_any (outcome s.nodes on) (values_of es) ≡ true
-value_met s alike on [] all number there h = absurd (false≢true there)
-value_met s alike on (e ∷ es) all number there h = by (is_eq (nat_cmp number e.0)) refl (λ later. value_met s alike on es all.1 number later h)
-  where
-    or_true : (b : Bool) → (b || true) ≡ true
-    or_true true = refl
-    or_true false = refl
-
-    by : (b : Bool) → is_eq (nat_cmp number e.0) ≡ b → (IsSome (lookup (is_at (nat_cmp number)) es) → list_any (outcome s.nodes on) (values_of es) ≡ true)
-        → list_any (outcome s.nodes on) (values_of (e ∷ es)) ≡ true
-    by true is more =
-        let same : number ≡ e.0 = eqb-true number e.0 (sym (is_eq-nat_cmp number e.0) ∙ is) in
-        let met : outcome s.nodes on e.1 ≡ true = all.0.is.truth on ∙ (ap (λ k. alike (holds_in (bits_of s.names k)) on) (sym same) ∙ h) in
-        ap (λ b. b || list_any (outcome s.nodes on) (values_of es)) met
-    by false is more =
-        let later = more (subst IsSome (ap (λ c. cond c (Some e.1) (lookup (is_at (nat_cmp number)) es)) is) there) in
-        ap (λ b. outcome s.nodes on e.1 || b) later ∙ or_true (outcome s.nodes on e.1)
-
--- the entries of a map in order are parts, each by its place
-pub each_entry : (s : Store) (alike : Test) (parts : BTreeMap ℕ ℕ) → IsOrdered nat_cmp parts → Each s alike parts → AllByRecursion (λ (e : ℕ × ℕ). IsPart s alike e.0 e.1) parts.entries
-each_entry s alike parts ordered each = by_places parts.entries (λ i e at. each e.0 e.1 (btree_map_get_place nat_cmp_total parts i e.0 e.1 ordered at))
-  where
-    by_places : (es : List (ℕ × ℕ)) → ((i : ℕ) (e : ℕ × ℕ) → slice_get es i ≡ Some e → IsPart s alike e.0 e.1) → AllByRecursion (λ (e : ℕ × ℕ). IsPart s alike e.0 e.1) es
-    by_places [] h = tt
-    by_places (e ∷ es) h = (h zero e refl, by_places es (λ i x at. h (suc i) x at))
-
-pub split_start : (s : Store) (alike : Test) (by : ℕ) (parts none : BTreeMap ℕ ℕ) → IsOrdered nat_cmp parts → none.entries ≡ [] → AreParts s alike parts
-    → IsMidway s s alike by none (values parts)
-split_start s alike by parts none ordered empty are =
-    let all = each_entry s alike parts ordered are.each in
-    record {
-      each = λ number place e. absurd (none-some place (sym (ap (lookup (is_at (nat_cmp number))) empty) ∙ e));
-      left_parts = value_parts s alike parts.entries all;
-      every = λ on. inl (value_met s alike on parts.entries all (are.every on).number (are.every on).there (are.every on).is);
-    }
-
-pub split_end : (old s : Store) (alike : Test) (by : ℕ) (found : BTreeMap ℕ ℕ) (left : List ℕ) → left ≡ [] → IsMidway old s alike by found left → AreParts s (also_by old alike by) found
-split_end old s alike by found left end way = record {
-  each = way.each;
-  every = λ on. elim (way.every on) [
-    | inl h ↦ absurd (false≢true (sym (ap (list_any (outcome old.nodes on)) end) ∙ h))
-    | inr h ↦ h
+pub split_end : (old s : Store) (alike : Test) (by count index : ℕ) (parts : List Part) → count ≤ index → IsMidway old s alike by count index parts → AreParts s (also_by old alike by) parts
+split_end old s alike by count index parts end way = record {
+  each = λ k d within. elim (dec_lt k index) [
+    | yes h ↦ way.split k d within (inl h)
+    | no h ↦ way.split k d within (inr (omega arith))
   ];
+  one = way.one;
 }
+
+module _ {old s t : Store} (first : Grows old s) (second : Grows s t) (alike : Test) (is : IsAlikeness alike) (by : ℕ) (has_by : HasPlace old by) (before after : List Part) (count index : ℕ)
+    (has : All (λ (part : Part). HasPlace s part.place) before) (here : index < count) (way : IsMidway old s alike by count index before) where
+  abbrev finer : Test
+  finer = also_by old alike by
+
+  the_part : (part : Part) → slice_get before index ≡ Some part → IsPart s alike part
+  the_part part was = subst (IsPart s alike) (get_or_from_slice_get before index part part was) (way.left index part (omega arith) here)
+
+  split_before : (k : ℕ) (d : Part) → k < length before → (k ≡ index → ⊥) → (k < index + 1) ⊎ (count ≤ k) → IsPart t finer (get_or before k d)
+  split_before k d within other where_it_is = part_kept second finer _ (way.split k d within (earlier where_it_is))
+    where
+      earlier : (k < index + 1) ⊎ (count ≤ k) → (k < index) ⊎ (count ≤ k)
+      earlier (inl h) = inl (omega arith)
+      earlier (inr h) = inr h
+
+  step_whole : IsWhole s before after index by → IsMidway old t alike by count (index + 1) after
+  step_whole whole = subst (IsMidway old t alike by count (index + 1)) (sym whole.unchanged) (record {
+    within = way.within;
+    left = λ k d from to. part_kept second alike _ (way.left k d (omega (arith, from)) to);
+    split = split;
+    one = λ on. count_kept second on before (recursion_from_All _ before has) ∙ way.one on;
+  })
+    where
+      split : (k : ℕ) (d : Part) → k < length before → (k < index + 1) ⊎ (count ≤ k) → IsPart t finer (get_or before k d)
+      split k d within where_it_is = elim (ℕ_discrete k index) [
+        | yes e ↦ part_kept second finer _ (subst (IsPart s finer) (sym (ap (λ i. get_or before i d) e ∙ get_or_from_slice_get before index whole.part d whole.was))
+            (whole_part first alike by has_by whole.part (the_part whole.part whole.was) is whole.one_sided))
+        | no e ↦ split_before k d within e where_it_is
+      ]
+
+  step_halved : IsHalved s t before after index by → IsMidway old t alike by count (index + 1) after
+  step_halved half = subst (IsMidway old t alike by count (index + 1)) (sym half.made) (record {
+    within = let a = way.within in omega (arith, long);
+    left = λ k d from to.
+        let other : k ≢ index = omega arith in
+        let within : k < length before = let a = way.within in omega arith in
+        subst (IsPart t alike) (sym (get_or-set_other more index k kept d other ∙ get_or_append_left before (half.rest ∷ []) d k within)) (part_kept second alike _ (way.left k d (omega (arith, from)) to));
+    split = split;
+    one = λ on. sym (ap (count_true t on) half.made) ∙ (count_halved second before after index by has half on ∙ way.one on);
+  })
+    where
+      kept : Part
+      kept = record { number = half.part.number; place = half.kept }
+
+      more : List Part
+      more = before ++ half.rest ∷ []
+
+      long : length (set more index kept) ≡ length before + 1
+      long = length-set more index kept ∙ length-append before (half.rest ∷ [])
+
+      part : IsPart s alike half.part
+      part = the_part half.part half.was
+
+      past : (k : ℕ) (d : Part) → k < length (set more index kept) → (k ≡ index → ⊥) → (k < index + 1) ⊎ (count ≤ k) → IsPart t finer (get_or more k d)
+      past k d within other where_it_is = elim (dec_lt k (length before)) [
+        | yes h ↦ subst (IsPart t finer) (sym (get_or_append_left before (half.rest ∷ []) d k h)) (split_before k d h other where_it_is)
+        | no h ↦ let last : length before ≡ k = omega (arith, within, long) in subst (IsPart t finer) (sym (get_or_push before half.rest d k last))
+            (rest_part first alike by has_by half.part part second is half.rest half.halves.is_rest half.least)
+      ]
+
+      split : (k : ℕ) (d : Part) → k < length (set more index kept) → (k < index + 1) ⊎ (count ≤ k) → IsPart t finer (get_or (set more index kept) k d)
+      split k d within where_it_is = elim (ℕ_discrete k index) [
+        | yes e ↦ let a = way.within in let b = length-append before (half.rest ∷ []) in let within_more : index < length more = omega arith in
+            subst (IsPart t finer) (sym (ap (λ i. get_or (set more index kept) i d) e ∙ get_or-set_same more index kept d within_more))
+            (kept_part first alike by has_by half.part part second half.kept half.halves.is_kept)
+        | no other ↦ subst (IsPart t finer) (sym (get_or-set_other more index k kept d other)) (past k d within other where_it_is)
+      ]
+
+  pub split_step : IsSplit s t before after index by → IsMidway old t alike by count (index + 1) after
+  split_step (inl whole) = step_whole whole
+  split_step (inr half) = step_halved half
+
+-- the parts have their places still
+pub split_has : {s t : Store} → Grows s t → (before after : List Part) (index by : ℕ) → All (λ (part : Part). HasPlace s part.place) before → IsSplit s t before after index by
+    → All (λ (part : Part). HasPlace t part.place) after
+split_has {s} {t} grows before after index by has split = this split
+  where
+    still : All (λ (part : Part). HasPlace t part.place) before
+    still k d within = has_kept grows _ (has k d within)
+
+    this : IsSplit s t before after index by → All (λ (part : Part). HasPlace t part.place) after
+    this (inl whole) = subst (All (λ (part : Part). HasPlace t part.place)) (sym whole.unchanged) still
+    this (inr half) = subst (All (λ (part : Part). HasPlace t part.place)) (sym half.made)
+        (All-set (λ (part : Part). HasPlace t part.place) (before ++ half.rest ∷ []) index (record { number = half.part.number; place = half.kept }) half.halves.is_kept.has
+        (All-push (λ (part : Part). HasPlace t part.place) before half.rest still half.halves.is_rest.has))
+
+-- no part is lost
+pub split_longer : (s t : Store) (before after : List Part) (index by : ℕ) → IsSplit s t before after index by → length before ≤ length after
+split_longer s t before after index by (inl whole) = let same = ap length whole.unchanged in omega arith
+split_longer s t before after index by (inr half) =
+    let a = ap length half.made in
+    let b = length-set (before ++ half.rest ∷ []) index (record { number = half.part.number; place = half.kept }) in
+    let c = length-append before (half.rest ∷ []) in
+    omega arith
+
+-- What is never true is of no part, so the guard has the truth that it has at the least valuation.
+pub no_rest : {s t : Store} → Grows s t → IsReduced t.names t.nodes → (part : Part) (by kept rest : ℕ) → HasPlace s part.place → HasPlace s by → AreHalves s t part by kept rest
+    → IsLeastAt t rest None → IsOneSided s part.place by
+no_rest {s} {t} grows reduced part by kept rest has_place has_by halves none = record {
+  side = side_of s part by;
+  same = λ on met. this (outcome s.nodes on by) (side_of s part by)
+      (sym (ap (λ b. b && beq (not (side_of s part by)) (outcome s.nodes on by)) met) ∙ (sym (halves.is_rest.truth on) ∙ (outcome_firsts t reduced rest halves.is_rest.has on
+      ∙ none (valuation_of t.names on) (length-valuation_of t.names on))));
+}
+  where
+    this : (b side : Bool) → beq (not side) b ≡ false → b ≡ side
+    this true true h = refl
+    this true false h = absurd (false≢true (sym h))
+    this false true h = absurd (false≢true (sym h))
+    this false false h = refl
 
 pub guard_there : (s : Store) (list : List Guard) (i : ℕ) (g : Guard) → All (Has s) list → slice_get list i ≡ Some g → Has s g
 guard_there s list i g has at = subst (Has s) (get_or_from_slice_get list i g g at) (has i g (slice_get_within list i g at))
 
 -- The one part that is true everywhere is of what is alike under no guard.
-pub whole_parts : (s : Store) (parts : BTreeMap ℕ ℕ) → parts.entries ≡ (0, 1) ∷ [] → AreParts s (agree s []) parts
-whole_parts s parts e = record {
-  each = λ number place at. by number place (is_eq (nat_cmp number 0)) refl (sym (ap (lookup (is_at (nat_cmp number))) e) ∙ at);
-  every = λ on. record { number = 0; there = subst IsSome (sym (ap (lookup (is_at (nat_cmp 0))) e)) refl; is = refl };
-}
+pub whole_parts : (s : Store) (parts : List Part) → parts ≡ record { number = 0; place = 1 } ∷ [] → AreParts s (agree s []) parts
+whole_parts s parts e = subst (AreParts s (agree s [])) (sym e) (record {
+  each = All-from_recursion (IsPart s (agree s [])) (record { number = 0; place = 1 } ∷ []) (one, tt);
+  one = λ on. ap (λ (b : Bool). 0 + cond {A = ℕ} b 1 0) (outcome-true s.nodes on);
+})
   where
-    one : IsPart s (agree s []) 0 1
-    one = record { least = least_true s; is = true_place s }
+    least : IsLeastNumber s 1 0
+    least = least_true s
 
-    by : (number place : ℕ) (b : Bool) → is_eq (nat_cmp number 0) ≡ b → cond (is_eq (nat_cmp number 0)) (Some 1) None ≡ Some place → IsPart s (agree s []) number place
-    by number place true is h =
-        let same : 0 ≡ number = sym (eqb-true number 0 (sym (is_eq-nat_cmp number 0) ∙ is)) in
-        let that : 1 ≡ place = same_Some 1 place (sym (ap (λ c. cond c (Some 1) None) is) ∙ h) in
-        subst (λ (k : ℕ). IsPart s (agree s []) k place) same (subst (IsPart s (agree s []) 0) that one)
-    by number place false is h = absurd (none-some place (sym (ap (λ c. cond c (Some 1) None) is) ∙ h))
+    zeros : bits_of s.names 0 ≡ least.valuation
+    zeros = ap (bits_of s.names) (sym least.is_number) ∙ bits_of-number least.valuation s.names least.size
 
-entry_places : (s : Store) (alike : Test) (es : List (ℕ × ℕ)) → AllByRecursion (λ e. IsPart s alike e.0 e.1) es → AllByRecursion (HasPlace s) (values_of es)
-entry_places s alike [] all = tt
-entry_places s alike (e ∷ es) all = (all.0.is.has, entry_places s alike es all.1)
-
-pub parts_have : (s : Store) (alike : Test) (parts : BTreeMap ℕ ℕ) → IsOrdered nat_cmp parts → AreParts s alike parts → All (HasPlace s) (values parts)
-parts_have s alike parts ordered are = All-from_recursion (HasPlace s) (values parts) (entry_places s alike parts.entries (each_entry s alike parts ordered are.each))
+    one : IsPart s (agree s []) (record { number = 0; place = 1 })
+    one = record {
+      number = ap number_of zeros ∙ least.is_number;
+      first = record { size = length-bits_of s.names 0; least = λ w size h. subst (λ (m : ℕ). m ≤ number_of w) (sym (ap number_of zeros ∙ least.is_number)) (omega arith) };
+      is = true_place s;
+    }
 
 -- What is alike by one guard more is alike under one guard more.
-pub parts_more : {old s : Store} → Grows old s → (list : List Guard) (i : ℕ) (g : Guard) → Has old g → slice_get list i ≡ Some g → (t : Store) (parts : BTreeMap ℕ ℕ)
+pub parts_more : {old s : Store} → Grows old s → (list : List Guard) (i : ℕ) (g : Guard) → Has old g → slice_get list i ≡ Some g → (t : Store) (parts : List Part)
     → AreParts t (also_by s (agree old (take i list)) g.place) parts → AreParts t (agree old (take (i + 1) list)) parts
 parts_more {old} {s} grows list i g has at t parts are =
     let same : (ℕ → Bool) → (ℕ → Bool) → Guard → Bool = λ on also h. beq (outcome old.nodes on h.place) (outcome old.nodes also h.place) in

@@ -17,8 +17,8 @@ use Rattle.label_guards.specs.Guards.{truth_in}
 use Rattle.label_guards.specs.Nodes.{IsReduced}
 use Rattle.label_guards.specs.Operations.{IsPlaceOf}
 use Rattle.label_guards.specs.Store.{Store, Has, Keeps, outcome}
-use Rattle.label_guards.specs.ClassParts.{IsAlikeness, Test}
-use Rattle.label_guards.proofs.alike.Firsts.{IsEarlier, IsFirst, is_apart}
+use Rattle.label_guards.specs.ClassParts.{IsAlikeness, IsFirst, Test}
+use Rattle.label_guards.proofs.alike.Firsts.{AreApart, IsEarlier, is_apart}
 use Rattle.label_guards.proofs.diagrams.Growth.{grows_none}
 use Rattle.label_guards.proofs.labelled.LabelTruth.{keeps, truth_is}
 
@@ -36,12 +36,6 @@ pub record AreAllFound (s : Store) (alike : Test) (classes : List Guard) : Type 
   pub pairs : Pairs (IsEarlier alike) valuations
   pub found : AreFound s alike valuations classes
   pub every : (on : ℕ → Bool) → is_apart alike valuations on ≡ false
-
-length-found : (s : Store) (alike : Test) (vs : List (List Bool)) (cs : List Guard) → AreFound s alike vs cs → length vs ≡ length cs
-length-found s alike [] [] found = refl
-length-found s alike [] (c ∷ cs) found = absurd found
-length-found s alike (v ∷ vs) [] found = absurd found
-length-found s alike (v ∷ vs) (c ∷ cs) found = ap suc (length-found s alike vs cs found.1)
 
 beq-self : (b : Bool) → beq b b ≡ true
 beq-self true = refl
@@ -99,19 +93,18 @@ module _ {X : Type 0} where
   pairs_taken R (suc k) (x ∷ xs) pairs = (all_taken (R x) k xs pairs.0, pairs_taken R k xs pairs.1)
 
 -- more classes under the first guards of the list are more under all of it
-pub more_classes : (old s : Store) → IsReduced old.names old.nodes → s.names ≡ old.names → (list classes : List Guard) (count most : ℕ) → All (Has old) list
-    → AreAllFound s (agree old (take count list)) classes → most < length classes → HasMoreClasses old list most
-more_classes old s reduced names list classes count most has all more =
+pub more_classes : (old s : Store) → IsReduced old.names old.nodes → s.names ≡ old.names → (list : List Guard) (valuations : List (List Bool)) (count most : ℕ) → All (Has old) list
+    → AllByRecursion (IsFirst s.names (agree old (take count list))) valuations → Pairs (AreApart (agree old (take count list))) valuations → most < length valuations → HasMoreClasses old list most
+more_classes old s reduced names list valuations count most has firsts apart more =
     let alike : Test = agree old (take count list) in
-    let vs : List (List Bool) = take (most + 1) all.valuations in
-    let same : length all.valuations ≡ length classes = length-found s alike all.valuations classes all.found in
+    let vs : List (List Bool) = take (most + 1) valuations in
     record {
       valuations = vs;
-      count = length-take-le (most + 1) all.valuations (omega arith);
+      count = length-take-le (most + 1) valuations (omega arith);
       sizes = All-from_recursion (λ v. length v ≡ old.names) vs
-          (AllByRecursion-weaker (IsFirst s.names alike) (λ v. length v ≡ old.names) vs (λ v is. is.size ∙ names) (all_taken (IsFirst s.names alike) (most + 1) all.valuations all.first));
-      differ = all_pairs _ vs (pairs_weaker (IsEarlier alike) (λ v w. AreAlike old list (holds_in v) (holds_in w) → ⊥) vs
-          (λ v w h same. false≢true (sym h.0 ∙ agree_alike old reduced old (keeps (grows_none old)) (holds_in v) (holds_in w) (take count list) (All-take (Has old) count list has)
+          (AllByRecursion-weaker (IsFirst s.names alike) (λ v. length v ≡ old.names) vs (λ v is. is.size ∙ names) (all_taken (IsFirst s.names alike) (most + 1) valuations firsts));
+      differ = all_pairs _ vs (pairs_weaker (AreApart alike) (λ v w. AreAlike old list (holds_in v) (holds_in w) → ⊥) vs
+          (λ v w h same. false≢true (sym h ∙ agree_alike old reduced old (keeps (grows_none old)) (holds_in v) (holds_in w) (take count list) (All-take (Has old) count list has)
           (All-take (λ g. truth_in old g (holds_in v) ≡ truth_in old g (holds_in w)) count list same)))
-          (pairs_taken (IsEarlier alike) (most + 1) all.valuations all.pairs));
+          (pairs_taken (AreApart alike) (most + 1) valuations apart));
     }
