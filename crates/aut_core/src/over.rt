@@ -13,7 +13,7 @@ use crate::automaton::Automaton;
 use crate::copies::{copy_marks, copy_names, copy_numbers};
 use crate::link::{Link, Links};
 use aut_base::{Memory, Names, Numbers, Text};
-use label_guards::Guards;
+use label_guards::{Brought, Guards};
 use std::alloc::Global;
 
 impl Automaton {
@@ -77,10 +77,11 @@ impl Automaton {
     {
         self.whole();
         let mut links = Links::from_vec(Vec::with_capacity(alloc, self.links().len())?);
+        let mut done = Brought::new(alloc);
         'links: for link in self.links() {
             links.push(Link {
                 from: link.from,
-                guard: guards.bring(alloc, self.guards(), link.guard, to)?,
+                guard: guards.bring_more(&mut done, self.guards(), link.guard, to)?,
                 to: link.to,
                 marks: copy_marks(&link.marks)?,
             })?;
