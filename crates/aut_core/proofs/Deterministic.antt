@@ -1,7 +1,7 @@
 -- What is true of the edges of each state, and of the automaton.
 use Rattle.aut_base.proofs.order.AllPairsOf.{pairs_first, pairs_rest}
 use Rattle.aut_base.proofs.order.Ordered.{any_kept, of_kept}
-use Rattle.std.proofs.Common.{◌≡◌, ◌∙◌, ◌↔◌, ◌==◌, ◌<◌, ◌≤◌, ℕ, Bool, true, false, cond, ◌||◌, IsTrue, List, [], ◌∷◌, All, AllPairs, Contains, ap, arith, get_or, leb, length, not, refl, subst, sym}
+use Rattle.std.proofs.Common.{◌≡◌, ◌∙◌, ◌↔◌, ◌==◌, ◌<◌, ◌≤◌, ℕ, Bool, true, false, cond, IsTrue, List, [], ◌∷◌, All, AllPairs, Contains, ap, arith, get_or, leb, length, not, refl, subst, sym}
 use Rattle.std.proofs.lemmas.Bool.{eq-eqb, eqb-false, eqb-true, false≢true, leb-true}
 use Rattle.std.proofs.lemmas.List.Elements.{All-contains_itself, All-filter, All-tail, filter_passes}
 use Rattle.std.proofs.lemmas.List.Folds.{Any-from_list_any}

@@ -6,6 +6,7 @@ pub mod Made
 pub mod OfDescription
 pub mod OtherFormula
 pub mod OtherNames
+pub mod Relabelled
 pub mod Rows
 pub mod SurveyedStates
 pub mod Surveys

@@ -105,12 +105,12 @@ over_own c core = λ i. record (automaton_of c) { edges = edges i }
     edges = map-map (λ (e : TreeEdge). record e { label = label_over c.names c.names e.label }) (edge_of c.store) c.links
         ∙ (λ j. map (λ (l : Link). record (edge_of c.store l) { label = own l j }) c.links)
 
-over_says : (old new : List (List ℕ)) → AreAmong old new → (t : LabelTree) → AllBelow (length old) t → (x : NameSet) → truth (holds_at new x) (label_over old new t) ≡ truth (holds_at old x) t
+pub over_says : (old new : List (List ℕ)) → AreAmong old new → (t : LabelTree) → AllBelow (length old) t → (x : NameSet) → truth (holds_at new x) (label_over old new t) ≡ truth (holds_at old x) t
 over_says old new among t below x =
     truth-label_of (holds_at new x) (length new) (λ v. truth (holds_at old (letter_of new v)) t)
     ∙ truth_below (length old) (holds_at old (letter_of new (valuation_of (length new) (holds_at new x)))) (holds_at old x) t below (same_at old new among x)
 
-abbrev over_edge : List (List ℕ) → List (List ℕ) → TreeEdge → TreeEdge
+abbrev pub over_edge : List (List ℕ) → List (List ℕ) → TreeEdge → TreeEdge
 over_edge old new e = record e { label = label_over old new e.label }
 
 pub over_accepts : (a : Automaton) (names : List (List ℕ)) → AreAmong a.names names → LabelsBelow a → AcceptTheSame (over_names names a) a

@@ -1,10 +1,14 @@
 -- What the links of one state tell together. Only inner functions speak in these words.
-use Rattle.std.specs.Prelude.{◌≡◌, ◌↔◌, ℕ, ◌==◌, ◌<◌, true, IsTrue, List, filter, AllPairs}
+use Rattle.std.specs.Prelude.{◌≡◌, ◌↔◌, ℕ, ◌==◌, ◌<◌, ◌&&◌, false, true, IsTrue, List, filter, AllPairs}
 use Rattle.std.specs.List.{list_any}
 use Rattle.aut_base.specs.Automaton.{TreeEdge}
+use Rattle.aut_base.specs.Label.{holds_at}
 use Rattle.aut_base.specs.Word.{NameSet}
 use Rattle.aut_core.specs.Deterministic.{AreApart, is_met}
 use Rattle.aut_core.specs.declared.survey.Survey.{Survey}
+use Rattle.label_guards.specs.Guards.{truth_in}
+use Rattle.label_guards.specs.Store.{Store}
+use Rattle.label_guards.specs.declared.guard.Guard.{Guard}
 
 -- no letter meets two of the edges
 abbrev pub AreAllApart : List (List ℕ) → List TreeEdge → Type 0
@@ -18,11 +22,16 @@ IsFilled names es = (letter : NameSet) → list_any (is_met names letter) es ≡
 abbrev pub edges_from : ℕ → List TreeEdge → List TreeEdge
 edges_from state = filter (λ e. e.from == state)
 
-pub record IsSurvey (names : List (List ℕ)) (es : List TreeEdge) (found : Survey) : Type 0 where
-  pub apart : IsTrue found.apart ↔ AreAllApart names es
-  pub filled : IsTrue found.filled ↔ IsFilled names es
+-- what was known of others, and is still true with these edges
+pub record IsSurvey (names : List (List ℕ)) (es : List TreeEdge) (known found : Survey) : Type 0 where
+  pub apart : IsTrue found.apart ↔ (IsTrue known.apart × AreAllApart names es)
+  pub filled : IsTrue found.filled ↔ (IsTrue known.filled × IsFilled names es)
 
--- the same of the edges of each state below this one
+-- no letter meets both guards
+abbrev pub AreMetApart : Store → List (List ℕ) → Guard → Guard → Type 0
+AreMetApart s names g h = (letter : NameSet) → (truth_in s g (holds_at names letter) && truth_in s h (holds_at names letter)) ≡ false
+
+-- both of the edges of each state below this one
 pub record AreSurveyed (names : List (List ℕ)) (es : List TreeEdge) (states : ℕ) (found : Survey) : Type 0 where
   pub apart : IsTrue found.apart ↔ ((state : ℕ) → state < states → AreAllApart names (edges_from state es))
   pub filled : IsTrue found.filled ↔ ((state : ℕ) → state < states → IsFilled names (edges_from state es))

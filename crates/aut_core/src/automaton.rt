@@ -1,9 +1,12 @@
 //! Automata whose labels are guards.
 
-ghost use Rattle.std.specs.Prelude.{◌≡◌, ◌==◌, ◌<◌, ◌↔◌, ℕ, filter, IfOk, IsTrue};
+ghost use Rattle.std.specs.Prelude.{◌≡◌, ◌==◌, ◌<◌, ◌≤◌, ◌↔◌, ℕ, All, Contains, filter, IfOk, IsTrue, length};
 ghost use Rattle.aut_base.specs.Formula.{SetsBelow, formula_tree};
+ghost use Rattle.aut_base.specs.declared.limit.TheConstants.{MOST_NAMES};
 ghost use Rattle.aut_core.specs.Core.{AreParts, IsCore, automaton_of};
 ghost use Rattle.aut_core.specs.Deterministic.{IsComplete, IsDeterministic};
+ghost use Rattle.aut_core.specs.Links.{StandFor};
+ghost use Rattle.aut_core.specs.OtherNames.{over_names};
 
 use crate::copies::{copy_links, copy_names, copy_numbers, copy_places};
 use crate::link::{Link, Links, marks_rise};
@@ -194,6 +197,40 @@ impl Automaton {
         };
         Ok(Automaton {
             fields: Box::new(alloc, copied)?,
+        })
+    }
+
+    // Why so: 'Determinism and completeness are known when an automaton is made' in docs/DECISIONS.md.
+    /// The same automaton over these names, which have all of its own, by links that stand for its edges there. The same letters
+    /// meet them, so what is known of it stays, and no guard is looked at.
+    pub(crate) fn relabelled(
+        &self,
+        alloc: Global,
+        names: Names,
+        guards: Guards,
+        links: Links,
+    ) -> Result<Automaton, Memory>
+        requires has { All (Contains names) self.now.names }
+        requires few { length names ≤ MOST_NAMES }
+        requires count { guards.names ≡ length names }
+        requires edges { StandFor guards links (over_names names (automaton_of self.now)).edges }
+        ensures { IfOk result (λ made. made ≡ record self.now { names = names; store = guards; links = links }) }
+    {
+        let fields = &self.fields;
+        let made = Fields {
+            starts: copy_numbers(&fields.starts)?,
+            rows: copy_places(&fields.rows)?,
+            formula: fields.formula.copy(alloc)?,
+            names,
+            guards,
+            links,
+            states: fields.states,
+            sets: fields.sets,
+            is_deterministic: fields.is_deterministic,
+            is_complete: fields.is_complete,
+        };
+        Ok(Automaton {
+            fields: Box::new(alloc, made)?,
         })
     }
 

@@ -1,19 +1,19 @@
 //! An automaton over more names than its own.
 
-ghost use Rattle.std.specs.Prelude.{◌≡◌, ◌≤◌, ◌<◌, ℕ, All, Contains, IfOk, length, map, slice_get, Some};
+ghost use Rattle.std.specs.Prelude.{◌≡◌, ◌≤◌, ◌<◌, ℕ, All, Contains, IfOk, length, slice_get, Some};
 ghost use Rattle.std.specs.List.{slice_index_or};
 ghost use Rattle.aut_base.specs.declared.limit.TheConstants.{MOST_NAMES};
-ghost use Rattle.aut_base.specs.Automaton.{TreeEdge};
-ghost use Rattle.aut_core.specs.Core.{automaton_of, edge_of};
-ghost use Rattle.aut_core.specs.OtherNames.{AcceptTheSame, label_over, over_names};
+ghost use Rattle.aut_core.specs.Core.{automaton_of};
+ghost use Rattle.aut_core.specs.Links.{StandFor};
+ghost use Rattle.aut_core.specs.OtherNames.{AcceptTheSame, over_names};
 ghost use Rattle.label_guards.specs.Guards.{AreNames};
-ghost use Rattle.label_guards.specs.Store.{Has};
+ghost use Rattle.label_guards.specs.Store.{Keeps};
 
 use crate::automaton::Automaton;
-use crate::copies::{copy_marks, copy_names, copy_numbers};
+use crate::copies::{copy_marks, copy_names};
 use crate::link::{Link, Links};
 use aut_base::{Memory, Names, Numbers, Text};
-use label_guards::Guards;
+use label_guards::{Brought, Guards};
 use std::alloc::Global;
 
 impl Automaton {
@@ -29,34 +29,30 @@ impl Automaton {
         if names.as_slice() == self.names().as_slice() {
             return self.copy(alloc);
         }
-        self.over_others(alloc, names)
+        let guards = Guards::new(alloc, names.len() as u32)?;
+        self.over_in(alloc, names, guards)
     }
 
-    /// The same where the names may be others, guard by guard.
-    fn over_others(&self, alloc: Global, names: &Names) -> Result<Automaton, Memory>
+    /// The same automaton over these names, which have all of its own, with its guards brought into this store, which is over
+    /// them. What the store has it keeps.
+    pub fn over_in(
+        &self,
+        alloc: Global,
+        names: &Names,
+        mut guards: Guards,
+    ) -> Result<Automaton, Memory>
         requires has { All (Contains names.now) self.now.names }
         requires few { length names.now ≤ MOST_NAMES }
+        requires store { guards.names ≡ length names.now }
         ensures over { IfOk result (λ made. automaton_of made ≡ over_names names.now (automaton_of self.now)) }
         ensures accepts { IfOk result (λ made. AcceptTheSame (automaton_of made) (automaton_of self.now)) }
+        ensures keeps { IfOk result (λ made. Keeps guards made.store) }
     {
         self.whole();
         let _distinct = names.as_slice();
-        let copied = copy_names(names)?;
-        let starts = copy_numbers(self.starts())?;
-        let formula = self.formula().copy(alloc)?;
         let to = places_in(alloc, self.names(), names)?;
-        let mut guards = Guards::new(alloc, names.len() as u32)?;
         let links = self.brought(alloc, &mut guards, names, &to)?;
-        Automaton::from_parts(
-            alloc,
-            copied,
-            guards,
-            self.states(),
-            starts,
-            links,
-            self.sets(),
-            formula,
-        )
+        self.relabelled(alloc, copy_names(names)?, guards, links)
     }
 
     /// The links with guards of another store, over the names there.
@@ -71,16 +67,16 @@ impl Automaton {
         requires count { length to.now ≡ length self.now.names }
         requires within { All (λ place. place < length names.now) to.now }
         requires places { (k : ℕ) → k < length self.now.names → slice_get names.now (slice_index_or to.now k 0) ≡ slice_get self.now.names k }
-        ensures names { guards.new.names ≡ guards.old.names }
-        ensures has { IfOk result (All (λ l. Has guards.new l.guard)) }
-        ensures edges { IfOk result (λ links. map (edge_of guards.new) links ≡ map (λ (e : TreeEdge). record e { label = label_over self.now.names names.now e.label }) (map (edge_of self.now.store) self.now.links)) }
+        ensures keeps { Keeps guards.old guards.new }
+        ensures edges { IfOk result (λ links. StandFor guards.new links (over_names names.now (automaton_of self.now)).edges) }
     {
         self.whole();
         let mut links = Links::from_vec(Vec::with_capacity(alloc, self.links().len())?);
+        let mut done = Brought::new(alloc);
         'links: for link in self.links() {
             links.push(Link {
                 from: link.from,
-                guard: guards.bring(alloc, self.guards(), link.guard, to)?,
+                guard: guards.bring_more(&mut done, self.guards(), link.guard, to)?,
                 to: link.to,
                 marks: copy_marks(&link.marks)?,
             })?;

@@ -1,16 +1,16 @@
 //! What the guards of each state's links tell together.
 
-ghost use Rattle.std.specs.Prelude.{◌≡◌, All, IfOk, map};
+ghost use Rattle.std.specs.Prelude.{◌≡◌, ◌↔◌, All, IfOk, IsTrue, map};
 ghost use Rattle.std.specs.List.Sorted.{IsNonDecreasing};
 ghost use Rattle.aut_core.specs.Core.{edge_of};
 ghost use Rattle.aut_core.specs.Index.{IsIndex};
-ghost use Rattle.aut_core.specs.Surveys.{AreSurveyed, IsSurvey};
+ghost use Rattle.aut_core.specs.Surveys.{AreMetApart, AreSurveyed, IsSurvey};
 ghost use Rattle.label_guards.specs.Guards.{AreNames};
 ghost use Rattle.label_guards.specs.Store.{Has, Keeps};
 
 use crate::link::{Link, row_end};
 use aut_base::{Memory, Names, Places};
-use label_guards::Guards;
+use label_guards::{Guard, Guards};
 use std::alloc::Global;
 
 /// Whether no letter meets two links, and whether each letter meets one, of one state or of several.
@@ -61,38 +61,72 @@ fn survey_rows(
 {
     let mut rows = Vec::with_capacity(alloc, states as usize + 1)?;
     let mut start = 0usize;
-    let mut apart = true;
-    let mut filled = true;
+    let mut found = Survey {
+        apart: true,
+        filled: true,
+    };
     rows.push(start)?;
     'states: for state in 0..states {
         let end = row_end(links, start, state);
-        let found = survey_state(store, names, &links[start..end])?;
-        apart = apart && found.apart;
-        filled = filled && found.filled;
+        found = survey_state(store, names, &links[start..end], found)?;
         rows.push(end)?;
         start = end;
     }
     Ok(Surveyed {
-        found: Survey { apart, filled },
+        found,
         rows: Places::from_vec(rows),
     })
 }
 
-/// What is true of the links of one state. Each is compared with the disjunction of those before it.
-fn survey_state(store: &mut Guards, names: &Names, links: &[Link]) -> Result<Survey, Memory>
+/// What is still true with the links of one state more. Each is compared with the disjunction of those before it, as long as
+/// there is anything to learn.
+fn survey_state(
+    store: &mut Guards,
+    names: &Names,
+    links: &[Link],
+    known: Survey,
+) -> Result<Survey, Memory>
     requires names { AreNames store.old names.now }
     requires has { All (λ l. Has store.old l.guard) links.now }
     ensures keeps { Keeps store.old store.new }
-    ensures found { IfOk result (IsSurvey names.now (map (edge_of store.old) links.now)) }
+    ensures found { IfOk result (IsSurvey names.now (map (edge_of store.old) links.now) known) }
 {
     let mut met = store.never();
-    let mut apart = true;
+    let mut apart = known.apart;
     'links: for link in links {
-        let both = store.and(met, link.guard)?;
-        let none = store.is_false(both);
-        apart = apart && none;
+        if !apart && !known.filled {
+            return Ok(Survey {
+                apart: false,
+                filled: false,
+            });
+        }
+        apart = still_apart(store, names, apart, met, link.guard)?;
         met = store.or(met, link.guard)?;
     }
     let filled = store.same(met, store.always());
-    Ok(Survey { apart, filled })
+    Ok(Survey {
+        apart,
+        filled: known.filled && filled,
+    })
+}
+
+/// Whether no letter meets both guards, if that is still asked.
+fn still_apart(
+    store: &mut Guards,
+    names: &Names,
+    asked: bool,
+    g: Guard,
+    h: Guard,
+) -> Result<bool, Memory>
+    requires names { AreNames store.old names.now }
+    requires left { Has store.old g }
+    requires right { Has store.old h }
+    ensures keeps { Keeps store.old store.new }
+    ensures apart { IfOk result (λ apart. IsTrue apart ↔ (IsTrue asked × AreMetApart store.old names.now g h)) }
+{
+    if !asked {
+        return Ok(false);
+    }
+    let both = store.and(g, h)?;
+    Ok(store.is_false(both))
 }

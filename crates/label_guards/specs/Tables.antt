@@ -1,5 +1,6 @@
 -- A table of the results of one call, by the places that it went through.
 use Rattle.std.specs.Prelude.{◌≡◌, ◌⊎◌, ℕ, ◌<◌, ◌≤◌, Bool, true, false, cond, List, Some, nat_eq}
+use Rattle.std.specs.List.{slice_index_or}
 use Rattle.std.specs.Map.{lookup}
 use Rattle.label_guards.specs.Guards.{with_prop}
 use Rattle.label_guards.specs.Nodes.{level}
@@ -24,6 +25,10 @@ pub record IsFixedAt (s : Store) (prop : ℕ) (value : Bool) (place found : ℕ)
 pub record IsBrought (other s : Store) (places : ℕ → ℕ) (place found : ℕ) : Type 0 where
   pub has : HasPlace s found
   pub truth : (on : ℕ → Bool) → outcome s.nodes on found ≡ outcome other.nodes (λ k. on (places k)) place
+
+-- the table has what places of another store are in this one, where proposition k is the one at place k of the list
+pub record AreBrought (other s : Store) (to : List ℕ) (entries : List (ℕ × ℕ)) : Type 0 where
+  pub done : AreDone (IsBrought other s (λ k. slice_index_or to k 0)) entries
 
 -- the truth at a place is the same whether the proposition holds or not
 abbrev pub IsFreeAt : Store → ℕ → ℕ → Type 0

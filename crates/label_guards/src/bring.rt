@@ -1,18 +1,44 @@
 //! Guards of one store taken into another.
 
-ghost use Rattle.std.specs.Prelude.{◌≡◌, ◌<◌, ◌≤◌, ℕ, Bool, IfOk, if◌then◌else◌, length};
+ghost use Rattle.std.specs.Prelude.{◌≡◌, ◌<◌, ◌≤◌, ℕ, Bool, IfOk, List, if◌then◌else◌, length};
 ghost use Rattle.std.specs.List.{slice_index_or};
 ghost use Rattle.label_guards.specs.Guards.{GoesBelow, IsGuardOf, truth_in};
 ghost use Rattle.label_guards.specs.Nodes.{Grows, IsReduced};
 ghost use Rattle.label_guards.specs.Operations.{IsPlaceOf};
-ghost use Rattle.label_guards.specs.Store.{Has, HasPlace, Keeps, outcome, places};
-ghost use Rattle.label_guards.specs.Tables.{AreDone, IsBrought, PlaceGoesBelow};
+ghost use Rattle.label_guards.specs.Store.{Has, HasPlace, Keeps, Store, outcome, places};
+ghost use Rattle.label_guards.specs.Tables.{AreBrought, AreDone, IsBrought, PlaceGoesBelow};
 
 use crate::guard::Guard;
 use crate::guards::{Guards, Operation};
 use crate::table::{Done, done_at, put_done};
 use aut_base::{Memory, Numbers};
 use std::alloc::Global;
+use std::marker::Model;
+
+/// What was brought of one store into another so far, so that a node which several guards share is gone through once.
+#[derive(Drop)]
+pub struct Brought {
+    done: Done,
+}
+
+impl Model for Brought {
+    ghost use Rattle.std.specs.Prelude.{ℕ, List};
+
+    ghost Value = { List (ℕ × ℕ) };
+
+    ghost view = { λ s. s.done.entries };
+}
+
+impl Brought {
+    /// Nothing yet, of any store.
+    pub fn new(alloc: Global) -> Brought
+        ensures { (other s : Store) (to : List ℕ) → AreBrought other s to result }
+    {
+        Brought {
+            done: Done::new(alloc),
+        }
+    }
+}
 
 impl Guards {
     /// The guard of another store, in this one. Proposition k of the other store is here the one at place k of the
@@ -34,6 +60,28 @@ impl Guards {
         other.reduced();
         let mut done = Done::new(alloc);
         let place = self.bring_with(&mut done, other, g.place, to)?;
+        self.reduced();
+        Ok(Guard { place })
+    }
+
+    /// The same, beside other guards of that store which are here already.
+    pub fn bring_more(
+        &mut self,
+        brought: &mut Brought,
+        other: &Guards,
+        g: Guard,
+        to: &Numbers,
+    ) -> Result<Guard, Memory>
+        requires has { Has other.now g }
+        requires count { length to.now ≡ other.now.names }
+        requires within { GoesBelow self.old.names (λ k. slice_index_or to.now k 0) other.now g }
+        requires before { AreBrought other.now self.old to.now brought.old }
+        ensures keeps { Keeps self.old self.new }
+        ensures so_far { AreBrought other.now self.new to.now brought.new }
+        ensures brought { IfOk result (IsGuardOf self.new (λ on. truth_in other.now g (λ k. on (slice_index_or to.now k 0)))) }
+    {
+        other.reduced();
+        let place = self.bring_with(&mut brought.done, other, g.place, to)?;
         self.reduced();
         Ok(Guard { place })
     }

@@ -16,6 +16,7 @@ mod numbers;
 mod pick;
 mod table;
 
+pub use bring::Brought;
 pub use guard::{Guard, GuardList};
 pub use guards::Guards;
 pub use law::{

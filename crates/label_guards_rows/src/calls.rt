@@ -2,7 +2,7 @@
 //! carries their contracts.
 
 use aut_base::{Label, Letter, Memory, Names, Numbers, Text};
-use label_guards::{Guard, GuardList, Guards};
+use label_guards::{Brought, Guard, GuardList, Guards};
 use std::alloc::Global;
 
 pub(crate) fn of_label(store: &mut Guards, label: &Label) -> Result<Option<Guard>, Memory> {
@@ -46,6 +46,7 @@ pub(crate) fn fix(
     Ok(Some(store.fix(alloc, g, prop, value)?))
 }
 
+/// The guard of the other store, brought alone, first and once more.
 pub(crate) fn bring(
     alloc: Global,
     store: &mut Guards,
@@ -59,7 +60,11 @@ pub(crate) fn bring(
     if !to.as_slice().iter().all(|place| *place < store.names()) {
         return Ok(None);
     }
-    Ok(Some(store.bring(alloc, other, g, to)?))
+    let mut brought = Brought::new(alloc);
+    let first = store.bring_more(&mut brought, other, g, to)?;
+    let again = store.bring_more(&mut brought, other, g, to)?;
+    let alone = store.bring(alloc, other, g, to)?;
+    Ok((first == alone && again == alone).then_some(alone))
 }
 
 /// Whether the letter meets the guard.
