@@ -9,7 +9,7 @@ use smallvec::SmallVec;
 use std::alloc::Global;
 use std::marker::Model;
 
-
+// Why so: 'Few marks stand in the edge' in docs/DECISIONS.md.
 /// Numbers of acceptance sets, increasing and without repeats. Contracts see the list of the numbers.
 #[derive(Clone, Debug, Drop)]
 pub struct Marks {
