@@ -1,5 +1,4 @@
 -- Links that stand for edges, what their labels say, and lists of them made item by item.
-pub mod BroughtLinks
 pub mod Labels
 pub mod Linked
 pub mod ListSteps

@@ -80,10 +80,10 @@ fn product_by(
     let names = join_names(alloc, a.names(), b.names())?;
     let _distinct = names.as_slice();
     let both = share(alloc, a, b, &names)?;
-    product_over(alloc, &both.first, &both.second, join)
+    product_over(alloc, &both.first, both.second(b), join)
 }
 
-/// The product of two automata over the same names, where the second's store has the guards of the first.
+/// The product of two automata over the same names, where the first's store has the guards of the second.
 fn product_over(
     alloc: Global,
     a: &Automaton,
@@ -91,7 +91,7 @@ fn product_over(
     join: Join,
 ) -> Result<Automaton, PairFault>
     requires names { b.now.names ≡ a.now.names }
-    requires store { Keeps a.now.store b.now.store }
+    requires store { Keeps b.now.store a.now.store }
     requires sets { a.now.sets + b.now.sets < 2 ^ 32 }
     ensures shape { IfOk result (λ made. IsProduct (join_of join) (automaton_of a.now) (automaton_of b.now) (automaton_of made)) }
     ensures accepts { IfOk result (λ made. JoinAccepts join (automaton_of made) (automaton_of a.now) (automaton_of b.now)) }
@@ -104,7 +104,7 @@ fn product_over(
     let sets = a.sets();
     let names = copy_names(a.names())?;
     let formula = join.condition(alloc, a.formula(), b.formula(), sets)?;
-    let mut pairing = Pairing::new(alloc, b.guards().copy(alloc)?);
+    let mut pairing = Pairing::new(alloc, a.guards().copy(alloc)?);
     let starts = list_starts(alloc, &mut pairing, a.starts(), b.starts())?;
     explore(&mut pairing, a, b)?;
     let states = pairing.len() as u32;

@@ -45,13 +45,13 @@ fn sum_over(alloc: Global, a: &Automaton, b: &Automaton, names: &Names) -> Resul
     ensures accepts { IfOk result (λ made. AcceptsEither (automaton_of made) (automaton_of a.now) (automaton_of b.now)) }
 {
     let both = share(alloc, a, b, names)?;
-    side_by_side(alloc, &both.first, &both.second)
+    side_by_side(alloc, &both.first, both.second(b))
 }
 
-/// The first automaton, and behind it the second.
+/// The first automaton, and behind it the second, whose guards the first's store has.
 fn side_by_side(alloc: Global, a: &Automaton, b: &Automaton) -> Result<Automaton, Memory>
     requires names { b.now.names ≡ a.now.names }
-    requires store { Keeps a.now.store b.now.store }
+    requires store { Keeps b.now.store a.now.store }
     requires states { a.now.states + b.now.states < 2 ^ 32 }
     requires sets { a.now.sets + b.now.sets + 1 < 2 ^ 32 }
     ensures shape { IfOk result (λ made. automaton_of made ≡ side_by_side (automaton_of a.now) (automaton_of b.now)) }
@@ -68,7 +68,7 @@ fn side_by_side(alloc: Global, a: &Automaton, b: &Automaton) -> Result<Automaton
     let starts = joined_starts(a.starts(), b.starts(), states)?;
     let formula = either_condition(alloc, a.formula(), b.formula(), sets, fresh)?;
     let names = copy_names(a.names())?;
-    let guards = b.guards().copy(alloc)?;
+    let guards = a.guards().copy(alloc)?;
     Automaton::from_parts(
         alloc,
         names,

@@ -1,5 +1,5 @@
 -- What conditions see of the marks of a cycle.
-use Rattle.std.proofs.Common.{◌≡◌, ◌≢◌, ◌∙◌, ◌==◌, ℕ, ◌+◌, ◌<◌, ◌≤◌, ◌&&◌, ◌||◌, true, false, not, List, [], ◌∷◌, ◌++◌, All, ap, arith, get_or, inl, inr, map, refl, sym}
+use Rattle.std.proofs.Common.{◌≡◌, ◌≢◌, ◌∙◌, ◌==◌, ℕ, ◌+◌, ◌<◌, ◌≤◌, ◌||◌, true, false, not, List, [], ◌∷◌, ◌++◌, All, ap, arith, get_or, inl, inr, map, refl, sym}
 use Rattle.std.proofs.lemmas.Bool.{cases_eq, eq-eqb, ne_eqb}
 use Rattle.std.proofs.lemmas.List.Folds.{list_any-append, list_any_none}
 use Rattle.std.specs.List.{AllZip}

@@ -1,5 +1,5 @@
 -- The links of two automata side by side.
-use Rattle.std.proofs.Common.{◌≡◌, ◌∙◌, ◌+◌, ◌++◌, ℕ, false, List, [], ap, length, map, subst, sym}
+use Rattle.std.proofs.Common.{◌≡◌, ◌∙◌, ◌+◌, ◌++◌, ℕ, false, List, [], ap, map, subst, sym}
 use Rattle.std.proofs.lemmas.List.Elements.{All-map}
 use Rattle.std.proofs.lemmas.Simd.{map-map}
 use Rattle.acc_forms.specs.Joined.{conj, disj}
@@ -30,8 +30,8 @@ pub record IsSide (a b c : Core) : Type 0 where
   pub parts : AreParts c
 
 pub side : (a b : Core) (t : Store) (names : List (List ℕ)) (starts : List ℕ) (states others sets seconds : ℕ) (none first firsts new seconds_links : List Link) (formula f g : FormulaTree)
-    → IsCore a → IsCore b → b.names ≡ a.names → Keeps a.store b.store
-    → t ≡ b.store → names ≡ a.names → starts ≡ a.starts ++ map (λ p. p + states) b.starts → states ≡ a.states → others ≡ b.states → sets ≡ a.sets → seconds ≡ b.sets
+    → IsCore a → IsCore b → b.names ≡ a.names → Keeps b.store a.store
+    → t ≡ a.store → names ≡ a.names → starts ≡ a.starts ++ map (λ p. p + states) b.starts → states ≡ a.states → others ≡ b.states → sets ≡ a.sets → seconds ≡ b.sets
     → none ≡ [] → firsts ≡ a.links → first ≡ none ++ firsts → seconds_links ≡ b.links → new ≡ first ++ map (moved_link states sets (sets + seconds)) seconds_links
     → f ≡ a.formula → g ≡ b.formula → formula ≡ disj (conj f (Fin (sets + seconds) false)) (conj (shift sets g) (Inf (sets + seconds) false))
     → IsSide a b (record { names = names; starts = starts; states = states + others; links = new; sets = sets + seconds + 1; formula = formula; store = t })
@@ -40,10 +40,11 @@ side a b t names starts states others sets seconds none first firsts new seconds
     let whole : new ≡ a.links ++ map (moved_link a.states a.sets (a.sets + b.sets)) b.links =
     moved ∙ ((λ i. first ++ map (moved_link (at i) (sets_are i) (sets_are i + seconds_are i)) (seconds_links_are i))
     ∙ ap (λ (ls : List Link). ls ++ map (moved_link a.states a.sets (a.sets + b.sets)) b.links) (begun ∙ (ap (λ (ls : List Link). ls ++ firsts) empty ∙ firsts_are))) in
-    let stand = stand_append b.store a.links (map (moved_link a.states a.sets (a.sets + b.sets)) b.links) new (automaton_of a).edges
+    let stand = stand_append a.store a.links (map (moved_link a.states a.sets (a.sets + b.sets)) b.links) new (automaton_of a).edges
     (map (moved_edge a.states a.sets (a.sets + b.sets)) (automaton_of b).edges)
-    (stand_kept a.store b.store a.links (automaton_of a).edges keeps (stand_itself a.store a.links (links_have a core_a)))
-    (stand_moved b.store a.states a.sets (a.sets + b.sets) b.links (automaton_of b).edges (stand_itself b.store b.links (links_have b core_b))) whole in
+    (stand_itself a.store a.links (links_have a core_a))
+    (stand_moved a.store a.states a.sets (a.sets + b.sets) b.links (automaton_of b).edges
+    (stand_kept b.store a.store b.links (automaton_of b).edges keeps (stand_itself b.store b.links (links_have b core_b)))) whole in
     let there = subst (λ (s : Store). StandFor s new (side_by_side (automaton_of a) (automaton_of b)).edges) (sym same_store) stand in
     let core : Core = record { names = names; starts = starts; states = states + others; links = new; sets = sets + seconds + 1; formula = formula; store = t } in
     let is : automaton_of core ≡ side_by_side (automaton_of a) (automaton_of b) = λ i. record {
@@ -57,5 +58,5 @@ side a b t names starts states others sets seconds none first firsts new seconds
     record {
       is = is;
       parts = parts_for core (side_by_side (automaton_of a) (automaton_of b)) is (sum_formed (automaton_of a) (automaton_of b) joined core_a.well_formed core_b.well_formed) core_a.parts.few
-          (ap (λ (s : Store). s.names) same_store ∙ (core_b.parts.store_names ∙ ap (λ (ns : List (List ℕ)). length ns) joined)) there.has;
+          (ap (λ (s : Store). s.names) same_store ∙ core_a.parts.store_names) there.has;
     }

@@ -1,8 +1,8 @@
 -- What labels say that are put together.
-use Rattle.std.proofs.Common.{◌≡◌, ◌≢◌, ◌∙◌, ◌↔◌, ◌⊎◌, ◌+◌, ◌++◌, ◌<◌, ℕ, zero, suc, Bool, true, false, not, ◌&&◌, ◌||◌, IsTrue, if◌then◌else◌, List}
+use Rattle.std.proofs.Common.{◌≡◌, ◌≢◌, ◌∙◌, ◌↔◌, ◌⊎◌, ◌+◌, ◌++◌, ℕ, zero, suc, Bool, true, false, not, ◌&&◌, ◌||◌, IsTrue, if◌then◌else◌, List}
 use Rattle.std.proofs.Common.{[], ◌∷◌, All, AllPairs, Contains, ap, arith, inl, inr, length, map, refl, sym}
 use Rattle.std.proofs.lemmas.Bool.{cases_Bool, false≢true}
-use Rattle.std.specs.List.{list_any, slice_index_or}
+use Rattle.std.specs.List.{list_any}
 use Rattle.aut_base.proofs.canonical.CanonicalTruth.{label_of-same, truth-label_of, truth_below}
 use Rattle.aut_base.proofs.lists.ListTests.{one_passes}
 use Rattle.aut_base.proofs.lists.Members.{from_flat_map, none_there, there_cases}
@@ -12,7 +12,7 @@ use Rattle.aut_base.specs.Automaton.{TreeEdge}
 use Rattle.aut_base.specs.CanonicalLabel.{cubes, cubes_tree, is_independent, label_of}
 use Rattle.aut_base.specs.Label.{AllBelow, LabelTree, True, holds_at, truth}
 use Rattle.aut_base.specs.Valuation.{holds_in, letter_of, truth_on, valuation_of, valuations}
-use Rattle.aut_core.proofs.Made.{label_in_below, label_in_settled}
+use Rattle.aut_core.proofs.Made.{label_in_settled}
 use Rattle.label_guards.specs.Guards.{IsGuardOf, IsNeverMet, truth_in}
 use Rattle.label_guards.specs.Store.{Store, label_in}
 use Rattle.label_guards.specs.declared.guard.Guard.{Guard}
@@ -107,14 +107,6 @@ all_cubes i (suc n) =
 -- the label that is always true
 pub label_always : (s : Store) (g : Guard) → IsGuardOf s (λ on. true) g → label_in s g ≡ True
 label_always s g is = label_from s g (λ on. true) (λ v. true) is (λ v long. refl) ∙ ap cubes_tree (all_cubes 0 s.names)
-
--- a guard of another store, where each proposition is the same here
-pub label_brought : (s t : Store) (to : List ℕ) (g h : Guard) → t.names ≡ s.names → ((k : ℕ) → k < s.names → slice_index_or to k 0 ≡ k)
-    → IsGuardOf t (λ on. truth_in s g (λ k. on (slice_index_or to k 0))) h → label_in t h ≡ label_in s g
-label_brought s t to g h names same is =
-    label_from t h (λ on. truth_in s g (λ k. on (slice_index_or to k 0))) (truth_on (label_in s g)) is
-    (λ v long. truth_below s.names (λ k. holds_in v (slice_index_or to k 0)) (holds_in v) (label_in s g) (label_in_below s g) (λ i less. ap (holds_in v) (same i less)))
-    ∙ (ap (λ n. label_of n (truth_on (label_in s g))) names ∙ label_in_settled s g)
 
 -- whether a guard is never met, as its label tells
 pub never_is : (s : Store) (g : Guard) (b : Bool) → (IsTrue b ↔ IsNeverMet s g) → b ≡ is_never s.names (label_in s g)

@@ -1,5 +1,5 @@
 -- Links of a second automaton beside those of a first.
-use Rattle.std.specs.Prelude.{◌≡◌, ℕ, ◌+◌, [], ◌∷◌, ◌++◌, map}
+use Rattle.std.specs.Prelude.{ℕ, ◌+◌, [], ◌∷◌, ◌++◌, map}
 use Rattle.aut_core.specs.declared.link.Link.{Link}
 
 -- the link between states and in sets with higher numbers, and in one more set
