@@ -30,7 +30,6 @@ use aut_ops::prune;
 use degeneralise::to_buchi;
 use exploration::{Explored, Limits, explore};
 use label_guards::{Guard, Guards};
-use letter_classes::ClassStore;
 use safra_trees::{Event, SafraTree, start};
 use std::alloc::Global;
 
@@ -95,17 +94,13 @@ fn tree_form(alloc: Global, b: &Automaton) -> Result<Automaton, DetFault>
 {
     b.whole();
     let first = start(alloc, b.states(), b.starts())?;
-    let store = ClassStore::new(alloc, b.guards().copy(alloc)?);
-    let mut system = Trees {
-        automaton: b,
-        guards: store,
-    };
+    let mut system = Trees::new(alloc, b, b.guards().copy(alloc)?);
     let limits = Limits {
         things: MOST_TREES,
         classes: MOST_CLASSES,
     };
     let found = explore(alloc, &mut system, first, limits)?;
-    Ok(built(alloc, b, system.guards.into_guards(), &found)?)
+    Ok(built(alloc, b, system.into_guards(), &found)?)
 }
 
 /// The automaton of the trees and edges that were found.

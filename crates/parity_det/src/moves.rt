@@ -1,6 +1,6 @@
 //! The moves that are allowed from a set of states at a valuation.
 
-ghost use Rattle.std.specs.Prelude.{◌≡◌, ◌<◌, ◌++◌, All, IfOk, OnOk};
+ghost use Rattle.std.specs.Prelude.{◌≡◌, ◌<◌, ◌++◌, All, OnOk};
 ghost use Rattle.aut_core.specs.Core.{automaton_of};
 ghost use Rattle.aut_core.specs.Surveys.{edges_from};
 ghost use Rattle.letter_classes.specs.SetClasses.{set_edges};
@@ -10,37 +10,25 @@ ghost use Rattle.safra_trees.specs.Events.{IsWithin};
 use aut_base::Memory;
 use aut_core::Automaton;
 use safra_trees::{Move, Moves};
-use std::alloc::Global;
 
-/// The moves from these states at the valuation of this number: the edges under labels that are true there, accepting where
-/// they are in set 0.
-pub(crate) fn moves_at(
-    alloc: Global,
+/// Makes of the list the moves from these states at the valuation of this number: the edges under labels that are true there,
+/// accepting where they are in set 0.
+pub(crate) fn list_moves(
+    moves: &mut Moves,
     a: &Automaton,
     set: &[u32],
     number: u64,
-) -> Result<Moves, Memory>
+) -> Result<(), Memory>
     requires { All (λ q. q < a.now.states) set.now }
-    ensures moves { IfOk result (λ moves. moves ≡ moves_of (reads_at a.now number) (set_edges (automaton_of a.now) set.now)) }
-    ensures within { IfOk result (All (IsWithin a.now.states)) }
+    ensures moves { OnOk result (moves.new ≡ moves_of (reads_at a.now number) (set_edges (automaton_of a.now) set.now)) }
+    ensures within { OnOk result (All (IsWithin a.now.states) moves.new) }
 {
     a.whole();
-    let mut moves = Moves::from_vec(Vec::with_capacity(alloc, count_links(a, set))?);
+    moves.clear();
     'set: for state in set {
-        push_moves(&mut moves, a, *state, number)?;
+        push_moves(moves, a, *state, number)?;
     }
-    Ok(moves)
-}
-
-/// How many edges leave these states, as far as can be counted.
-fn count_links(a: &Automaton, set: &[u32]) -> usize
-    requires { All (λ q. q < a.now.states) set.now }
-{
-    let mut count = 0usize;
-    'set: for state in set {
-        count = count.saturating_add(a.links_of(*state).len());
-    }
-    count
+    Ok(())
 }
 
 /// Adds the moves from this state, edge by edge.

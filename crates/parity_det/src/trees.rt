@@ -3,20 +3,48 @@
 ghost use Rattle.std.specs.Prelude.{◌≡◌};
 
 use crate::fault::step_fault;
-use crate::moves::moves_at;
+use crate::moves::list_moves;
 use aut_base::Memory;
 use aut_core::Automaton;
 use exploration::{StepFault, System};
-use label_guards::Guard;
+use label_guards::{Guard, Guards};
 use letter_classes::{ClassStore, classes_of_set};
-use safra_trees::{Event, SafraTree};
+use safra_trees::{Event, Moves, Room, SafraTree};
 use std::alloc::Global;
 
 /// The trees of an automaton, and a store that has its guards and those of the classes that were asked for.
 #[derive(Drop)]
 pub(crate) struct Trees<'a> {
-    pub(crate) automaton: &'a Automaton,
-    pub(crate) guards: ClassStore,
+    automaton: &'a Automaton,
+    guards: ClassStore,
+    /// The moves of the step in hand.
+    moves: Moves,
+    /// What each step fills.
+    room: Room,
+}
+
+impl<'a> Trees<'a> {
+    ghost use Rattle.std.specs.Prelude.{◌≡◌};
+
+    /// The trees of this automaton, with its guards in this store.
+    pub(crate) fn new(alloc: Global, automaton: &'a Automaton, guards: Guards) -> Trees<'a>
+        ensures automaton { result.automaton.now ≡ automaton.now }
+        ensures guards { result.guards ≡ guards }
+    {
+        Trees {
+            automaton,
+            guards: ClassStore::new(alloc, guards),
+            moves: Moves::new(alloc),
+            room: Room::new(alloc),
+        }
+    }
+
+    /// The store alone.
+    pub(crate) fn into_guards(self) -> Guards
+        ensures { result ≡ self.guards }
+    {
+        self.guards.into_guards()
+    }
 }
 
 impl<'a> System for Trees<'a> {
@@ -79,8 +107,9 @@ impl<'a> System for Trees<'a> {
         let Some(number) = self.guards.guards().meeting(class) else {
             unreachable!()
         };
-        let moves = moves_at(alloc, self.automaton, thing.root_states(), number)?;
-        match safra_trees::step(alloc, self.automaton.states(), thing, &moves) {
+        list_moves(&mut self.moves, self.automaton, thing.root_states(), number)?;
+        let states = self.automaton.states();
+        match safra_trees::step(alloc, states, thing, &self.moves, &mut self.room) {
             Ok(made) => Ok(Some(made)),
             Err(fault) => Err(step_fault(fault)),
         }

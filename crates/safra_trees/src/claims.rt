@@ -7,11 +7,11 @@ ghost use Rattle.safra_trees.specs.Flat.{at};
 ghost use Rattle.safra_trees.specs.inner.Claims.{claim, claimant, first_of, key, place_of};
 
 use crate::Move;
-use std::alloc::{AllocError, Global};
+use std::alloc::AllocError;
 
 /// For each of so many states its place, `none` where it has none.
 pub(crate) fn places_by_state(
-    alloc: Global,
+    room: Vec<u32>,
     count: u32,
     none: u32,
     states: &[u32],
@@ -24,7 +24,9 @@ pub(crate) fn places_by_state(
     ensures below { IfOk result (λ found. All (λ x. x ≤ none) found.items) }
     ensures places { IfOk result (λ found. (s : ℕ) → s < count → at found.items s ≡ place_of none states.now places.now s) }
 {
-    let mut found = vec![in alloc; none; count as usize]?;
+    let mut found = room;
+    found.clear();
+    found.resize(count as usize, none)?;
     'states: for place in 0..states.len() {
         found[states[place] as usize] = places[place];
     }
@@ -34,7 +36,7 @@ pub(crate) fn places_by_state(
 /// For each state the first name in the order that a move lets claim it, or twice the number of nodes where none does.
 /// A move from a place lets that place claim its goal, and its fresh child where it is accepting.
 pub(crate) fn claims(
-    alloc: Global,
+    room: Vec<u32>,
     order: &[u32],
     places: &[u32],
     moves: &[Move],
@@ -48,7 +50,9 @@ pub(crate) fn claims(
     ensures claims { IfOk result (λ claims. (s : ℕ) → s < length places.now → at claims.items s ≡ claim order.now (at places.now) s moves.now (length order.now + length order.now)) }
 {
     let nodes = order.len() as u32;
-    let mut claims = vec![in alloc; nodes + nodes; places.len()]?;
+    let mut claims = room;
+    claims.clear();
+    claims.resize(places.len(), nodes + nodes)?;
     'moves: for one in moves {
         let place = places[one.from as usize];
         if place >= nodes {

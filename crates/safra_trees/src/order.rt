@@ -5,16 +5,17 @@ ghost use Rattle.aut_base.specs.declared.limit.TheConstants.{MOST_NODES};
 ghost use Rattle.safra_trees.specs.Flat.{at};
 ghost use Rattle.safra_trees.specs.inner.Order.{IsOrder, IsShifted};
 
-use std::alloc::{AllocError, Global};
+use std::alloc::AllocError;
 
 /// For each name its number in the order: children before their parents, older ones with all below them first.
-pub(crate) fn claiming_order(alloc: Global, parents: &[u32]) -> Result<Vec<u32>, AllocError>
+pub(crate) fn claiming_order(room: Vec<u32>, parents: &[u32]) -> Result<Vec<u32>, AllocError>
     requires few { length parents.now ≤ MOST_NODES }
     requires lower { (x : ℕ) → 0 < x → x < length parents.now → at parents.now x < x }
     ensures size { IfOk result (λ order. length order.items ≡ length parents.now) }
     ensures order { IfOk result (λ order. IsOrder (length parents.now) (at parents.now) (at order.items)) }
 {
-    let mut order = Vec::with_capacity(alloc, parents.len())?;
+    let mut order = room;
+    order.clear();
     'names: for parent in parents {
         let number = if order.len() == 0 {
             0

@@ -27,11 +27,13 @@ pub(crate) fn grown_parent(parents: &[u32], name: u32) -> u32
 }
 
 /// For each of so many names whether it claims a state.
-pub(crate) fn claiming(alloc: Global, size: u32, claims: &[u32]) -> Result<Vec<bool>, AllocError>
+pub(crate) fn claiming(room: Vec<bool>, size: u32, claims: &[u32]) -> Result<Vec<bool>, AllocError>
     ensures size { IfOk result (λ own. length own.items ≡ size) }
     ensures own { IfOk result (λ own. (y : ℕ) → y < size → flag own.items y ≡ has claims.now y) }
 {
-    let mut own = vec![in alloc; false; size as usize]?;
+    let mut own = room;
+    own.clear();
+    own.resize(size as usize, false)?;
     'claims: for claim in claims {
         if *claim >= size {
             continue;
@@ -42,7 +44,7 @@ pub(crate) fn claiming(alloc: Global, size: u32, claims: &[u32]) -> Result<Vec<b
 }
 
 /// For each name the node at which its states end up: an ancestor where that gives its children up, else the name itself.
-pub(crate) fn homes(alloc: Global, parents: &[u32], own: &[bool]) -> Result<Vec<u32>, AllocError>
+pub(crate) fn homes(room: Vec<u32>, parents: &[u32], own: &[bool]) -> Result<Vec<u32>, AllocError>
     requires few { length parents.now ≤ MOST_NODES }
     requires lower { (x : ℕ) → 0 < x → x < length parents.now → at parents.now x < x }
     requires size { length own.now ≡ length parents.now + length parents.now }
@@ -50,7 +52,8 @@ pub(crate) fn homes(alloc: Global, parents: &[u32], own: &[bool]) -> Result<Vec<
     ensures low { IfOk result (λ homes. (x : ℕ) → x < length own.now → at homes.items x ≤ x) }
     ensures homes { IfOk result (λ homes. AreHomes own.now (grown_parent parents.now) (length own.now) homes.items) }
 {
-    let mut homes = Vec::with_capacity(alloc, own.len())?;
+    let mut homes = room;
+    homes.clear();
     'names: for name in 0..own.len() as u32 {
         let home = home_of(parents, own, &homes, name);
         homes.push(home)?;
@@ -81,14 +84,16 @@ fn home_of(parents: &[u32], own: &[bool], homes: &[u32], name: u32) -> u32
 }
 
 /// For each of so many names whether the states of a claim end up at it.
-pub(crate) fn staying(alloc: Global, homes: &[u32], claims: &[u32]) -> Result<Vec<bool>, AllocError>
+pub(crate) fn staying(room: Vec<bool>, homes: &[u32], claims: &[u32]) -> Result<Vec<bool>, AllocError>
     requires few { length homes.now < 2 ^ 32 }
     requires low { All (λ x. x < length homes.now) homes.now }
     ensures size { IfOk result (λ stay. length stay.items ≡ length homes.now) }
     ensures stay { IfOk result (λ stay. (y : ℕ) → y < length homes.now → flag stay.items y ≡ list_any (ends_at homes.now y) claims.now) }
 {
     let size = homes.len() as u32;
-    let mut stay = vec![in alloc; false; homes.len()]?;
+    let mut stay = room;
+    stay.clear();
+    stay.resize(homes.len(), false)?;
     'claims: for claim in claims {
         if *claim >= size {
             continue;
@@ -108,12 +113,13 @@ pub(crate) struct NewNames {
 }
 
 /// The ranks of the names that stay.
-pub(crate) fn new_names(alloc: Global, stay: &[bool]) -> Result<NewNames, AllocError>
+pub(crate) fn new_names(room: Vec<u32>, stay: &[bool]) -> Result<NewNames, AllocError>
     requires { length stay.now < 2 ^ 32 }
     ensures ranks { IfOk result (λ made. made.ranks.items ≡ map (rank (flag stay.now)) (range_with_len 0 (length stay.now))) }
     ensures count { IfOk result (λ made. made.count ≡ rank (flag stay.now) (length stay.now)) }
 {
-    let mut ranks = Vec::with_capacity(alloc, stay.len())?;
+    let mut ranks = room;
+    ranks.clear();
     let mut count = 0;
     'names: for name in 0..stay.len() {
         ranks.push(count)?;
@@ -174,19 +180,6 @@ pub(crate) fn least_covered(stay: &[bool], own: &[bool]) -> Option<u32>
         }
     }
     None
-}
-
-/// What the passes of a step find.
-#[derive(Drop)]
-pub(crate) struct Passes {
-    /// For each state the name that claims it, or the number of names where none does.
-    pub(crate) claims: Vec<u32>,
-    /// For each name whether it claims a state.
-    pub(crate) own: Vec<bool>,
-    /// For each name the node at which its states end up.
-    pub(crate) homes: Vec<u32>,
-    /// For each name whether it stays.
-    pub(crate) stay: Vec<bool>,
 }
 
 /// The states that have a place, and their places by new names.

@@ -11,21 +11,24 @@ ghost use Rattle.safra_trees.specs.inner.Passes.{ArePasses};
 use crate::claims::{claims, places_by_state};
 use crate::order::claiming_order;
 use crate::passes::{
-    Passes, claiming, homes, least_covered, least_gone, new_names, new_parents, new_places, staying,
+    claiming, homes, least_covered, least_gone, new_names, new_parents, new_places, staying,
 };
-use crate::{Event, Move, Moves, SafraTree, TreeFault};
+use crate::{Event, Move, Moves, Room, SafraTree, TreeFault};
 use aut_base::{MOST_NODES, Numbers};
 use std::alloc::{AllocError, Global};
+use std::mem;
 
 /// The step of a tree of an automaton with so many states, under the moves of a letter: the new tree, and the least names
 /// that were red and green. `Nodes` comes exactly where the new tree has more than `aut_base::MOST_NODES` nodes.
 ///
-/// It takes time in the moves, the states, and the square of the nodes.
+/// It takes time in the moves, the states, and the square of the nodes. Lists on its way are filled in the room, whose lists are
+/// empty again after a fault.
 pub fn step(
     alloc: Global,
     states: u32,
     tree: &SafraTree,
     moves: &Moves,
+    room: &mut Room,
 ) -> Result<(SafraTree, Event), TreeFault>
     requires states { All (λ s. s < states) (root_states (tree_of tree.now)) }
     requires moves { All (IsWithin states) moves.now }
@@ -35,8 +38,9 @@ pub fn step(
     ensures few { IfOk result (λ made. length (tree_of made.0) ≤ MOST_NODES) }
     ensures nodes { IsErrOf result TreeFault.Nodes → MOST_NODES < length (pruned (grown states moves.now (tree_of tree.now))) }
 {
-    let found = passes(alloc, states, tree, moves.as_slice())?;
-    let names = new_names(alloc, &found.stay)?;
+    let lists = mem::replace(room, Room::new(alloc));
+    let found = passes(states, tree, moves.as_slice(), lists)?;
+    let names = new_names(found.ranks, &found.stay)?;
     if names.count > MOST_NODES {
         return Err(TreeFault::Nodes);
     }
@@ -57,38 +61,45 @@ pub fn step(
         states: Numbers::from_vec(made.states),
         places: Numbers::from_vec(made.places),
     };
+    *room = Room {
+        ranks: names.ranks,
+        ..found
+    };
     Ok((new, event))
 }
 
 /// Which names claim states, and which stay.
 fn passes(
-    alloc: Global,
     states: u32,
     tree: &SafraTree,
     moves: &[Move],
-) -> Result<Passes, AllocError>
+    room: Room,
+) -> Result<Room, AllocError>
     requires states { All (λ s. s < states) (root_states (tree_of tree.now)) }
     requires moves { All (IsWithin states) moves.now }
     ensures { IfOk result (λ found. ArePasses (grown states moves.now (tree_of tree.now)) found.claims.items found.own.items found.homes.items found.stay.items) }
 {
     let parents = tree.parents.as_slice();
     let nodes = parents.len() as u32;
-    let order = claiming_order(alloc, parents)?;
+    let order = claiming_order(room.order, parents)?;
     let places = places_by_state(
-        alloc,
+        room.places,
         states,
         nodes,
         tree.states.as_slice(),
         tree.places.as_slice(),
     )?;
-    let claims = claims(alloc, &order, &places, moves)?;
-    let own = claiming(alloc, nodes + nodes, &claims)?;
-    let homes = homes(alloc, parents, &own)?;
-    let stay = staying(alloc, &homes, &claims)?;
-    Ok(Passes {
+    let claims = claims(room.claims, &order, &places, moves)?;
+    let own = claiming(room.own, nodes + nodes, &claims)?;
+    let homes = homes(room.homes, parents, &own)?;
+    let stay = staying(room.stay, &homes, &claims)?;
+    Ok(Room {
+        order,
+        places,
         claims,
         own,
         homes,
         stay,
+        ranks: room.ranks,
     })
 }

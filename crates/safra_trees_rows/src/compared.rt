@@ -8,7 +8,7 @@ use crate::automata::{Sequence, every_letter, moves_by_chance};
 use crate::plain::{PlainNode, is_set, plain_start, plain_step};
 use crate::stored::is_stored;
 use aut_base::Numbers;
-use safra_trees::{Event, Move, Moves, SafraTree, TreeFault, start, step};
+use safra_trees::{Event, Move, Moves, Room, SafraTree, TreeFault, start, step};
 use std::alloc::Global;
 
 /// More trees than three states can have.
@@ -160,7 +160,7 @@ pub(crate) fn next_tree(
     if !are_states(states, tree.root_states()) || !are_within(states, moves.as_slice()) {
         return Err(Stop::Row);
     }
-    Ok(step(alloc, states, tree, moves))
+    Ok(step(alloc, states, tree, moves, &mut Room::new(alloc)))
 }
 
 /// Whether all are states.

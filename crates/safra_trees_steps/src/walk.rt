@@ -10,7 +10,7 @@ use crate::Stop;
 use crate::letters::{LETTERS, STATES, growing_letter};
 use crate::sequence::Sequence;
 use aut_base::Numbers;
-use safra_trees::{Event, Moves, SafraTree, start, step};
+use safra_trees::{Event, Moves, Room, SafraTree, start, step};
 use std::alloc::Global;
 
 /// The sizes of the trees that are stepped.
@@ -56,6 +56,7 @@ pub(crate) fn walk(
     requires within { All (λ letter. All (IsWithin STATES) letter) letters.now }
 {
     let mut standing = first(alloc)?;
+    let mut room = Room::new(alloc);
     let mut seen = Seen {
         least: standing.tree.nodes(),
         most: standing.tree.nodes(),
@@ -64,7 +65,7 @@ pub(crate) fn walk(
         checksum: 0,
     };
     'steps: for _ in 0..steps {
-        let (next, event) = next_by_chance(alloc, &standing, letters, sequence)?;
+        let (next, event) = next_by_chance(alloc, &standing, letters, sequence, &mut room)?;
         seen.add(&next.tree, &event);
         if is_stepped(next.tree.nodes()) {
             standing = next;
@@ -77,8 +78,9 @@ pub(crate) fn walk(
 fn first(alloc: Global) -> Result<Standing, Stop> {
     let mut standing = one_node(alloc)?;
     let moves = growing_letter(alloc)?;
+    let mut room = Room::new(alloc);
     'steps: for _ in 1..FIRST_NODES {
-        standing = next(alloc, &standing, &moves)?.0;
+        standing = next(alloc, &standing, &moves, &mut room)?.0;
     }
     Ok(standing)
 }
@@ -97,19 +99,25 @@ fn next_by_chance(
     standing: &Standing,
     letters: &[Moves],
     sequence: &mut Sequence,
+    room: &mut Room,
 ) -> Result<(Standing, Event), Stop>
     requires count { length letters.now ≡ LETTERS }
     requires within { All (λ letter. All (IsWithin STATES) letter) letters.now }
 {
     let choice = sequence.next(LETTERS) as usize;
-    next(alloc, standing, &letters[choice])
+    next(alloc, standing, &letters[choice], room)
 }
 
 /// The step of a tree.
-fn next(alloc: Global, standing: &Standing, moves: &Moves) -> Result<(Standing, Event), Stop>
+fn next(
+    alloc: Global,
+    standing: &Standing,
+    moves: &Moves,
+    room: &mut Room,
+) -> Result<(Standing, Event), Stop>
     requires { All (IsWithin STATES) moves.now }
 {
-    let (tree, event) = step(alloc, STATES, &standing.tree, moves)?;
+    let (tree, event) = step(alloc, STATES, &standing.tree, moves, room)?;
     Ok((Standing { tree }, event))
 }
 

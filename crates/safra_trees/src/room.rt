@@ -1,0 +1,39 @@
+//! The lists that a step fills on its way.
+
+use std::alloc::Global;
+
+// Why so: 'A step of a tree fills lists that stay' in docs/DECISIONS.md.
+/// The lists that a step fills on its way. Whoever takes many steps keeps them from one to the next, which then needs memory for
+/// the new tree alone. What stands in them before a step plays no part in it.
+#[derive(Drop)]
+pub struct Room {
+    /// For each name its number in the order in which nodes claim.
+    pub(crate) order: Vec<u32>,
+    /// For each state its place, or the number of nodes where it has none.
+    pub(crate) places: Vec<u32>,
+    /// For each state the name that claims it, or the number of names where none does.
+    pub(crate) claims: Vec<u32>,
+    /// For each name whether it claims a state.
+    pub(crate) own: Vec<bool>,
+    /// For each name the node at which its states end up.
+    pub(crate) homes: Vec<u32>,
+    /// For each name whether it stays.
+    pub(crate) stay: Vec<bool>,
+    /// For each name the number of those before it that stay.
+    pub(crate) ranks: Vec<u32>,
+}
+
+impl Room {
+    /// Empty lists. Takes no memory.
+    pub fn new(alloc: Global) -> Room {
+        Room {
+            order: Vec::new(alloc),
+            places: Vec::new(alloc),
+            claims: Vec::new(alloc),
+            own: Vec::new(alloc),
+            homes: Vec::new(alloc),
+            stay: Vec::new(alloc),
+            ranks: Vec::new(alloc),
+        }
+    }
+}
