@@ -1,6 +1,6 @@
 -- What is found in a product, and what none or a word says of inclusion.
-use Rattle.std.proofs.Common.{ℕ, List, Option, Some, None, inl, inr, ap, subst}
-use Rattle.std.specs.Prelude.{◌++◌, All, MatchOption}
+use Rattle.std.proofs.Common.{◌↔◌, ℕ, Bool, List, Option, Some, None, inl, inr, ap, subst}
+use Rattle.std.specs.Prelude.{◌++◌, All, IsTrue, MatchOption}
 use Rattle.aut_base.specs.Acceptance.{Accepts}
 use Rattle.aut_base.specs.Automaton.{Automaton}
 use Rattle.aut_base.specs.Word.{NameSet}
@@ -9,8 +9,9 @@ use Rattle.aut_ops.specs.Languages.{AcceptsBoth}
 use Rattle.aut_ops.specs.Products.{IsProductOf}
 use Rattle.inclusion.specs.Common.{AcceptNoneTogether, IsWordOfBoth}
 use Rattle.inclusion.specs.Laws.{IncludedWhereNone, NotIncludedWhereWord, SameWhereNoneTwice}
-use Rattle.lasso_emptiness.specs.Emptiness.{AcceptsNothing, IsAcceptedWord}
+use Rattle.lasso_emptiness.specs.Emptiness.{AcceptsNothing, AcceptsSome, IsAcceptedWord}
 use Rattle.parity_laws.specs.Complement.{AreComplements}
+use Rattle.word_syntax.specs.Matching.{AcceptTogether}
 use Rattle.word_syntax.specs.Printing.{HoldsOnly}
 
 -- what is found of a product is found of both
@@ -25,6 +26,16 @@ of_both a b made (Some w) is accepts word =
       first = both.0;
       second = both.1;
     }
+
+-- a word of a product is one of both
+pub some_of_both : (a b made : Automaton) (some : Bool) → AcceptsBoth made a b → IsTrue some ↔ AcceptsSome made → IsTrue some ↔ AcceptTogether a b
+some_of_both a b made some accepts said = (
+  λ is.
+      let word = said.0 is in
+      let both = (accepts word.stem word.cycle).0 word.accepts in
+      record { stem = word.stem; cycle = word.cycle; first = both.0; second = both.1 },
+  λ word. said.1 (record { stem = word.stem; cycle = word.cycle; accepts = (accepts word.stem word.cycle).1 (word.first, word.second) }),
+)
 
 included : (a b co : Automaton) → AreComplements b co → AcceptNoneTogether a co → (u v : List NameSet) → Accepts a u v → Accepts b u v
 included a b co h none u v accepts = elim (h.one u v accepts.endless) [ inl other ↦ other | inr never ↦ absurd (none (record { stem = u; cycle = v; first = accepts; second = never })) ]

@@ -1,11 +1,11 @@
 //! A lasso word that two automata accept, or that there is none, and what that says of inclusion where the second is a
 //! complement.
 //!
-//! A caller sees `counterexample` and laws. What it answers is defined in `specs/Common`.
+//! A caller sees `accept_together`, `counterexample` and laws. What they answer is defined in `specs/Common`.
 #![tactic(auto)]
 
 mod law;
 mod search;
 
 pub use law::{included_where_none, not_included_where_word, same_where_none_twice};
-pub use search::counterexample;
+pub use search::{accept_together, counterexample};

@@ -6,6 +6,12 @@ use Rattle.aut_base.specs.Word.{IsReduced, NameSet}
 use Rattle.aut_base.specs.declared.letter.Lasso.{Lasso}
 use Rattle.word_syntax.specs.Printing.{HoldsOnly}
 
+-- some lasso word is accepted
+pub record AcceptsSome (a : Automaton) : Type 0 where
+  pub stem : List NameSet
+  pub cycle : List NameSet
+  pub accepts : Accepts a stem cycle
+
 -- no lasso word is accepted
 abbrev pub AcceptsNothing : Automaton → Type 0
 AcceptsNothing a = (u v : List NameSet) → Accepts a u v → ⊥

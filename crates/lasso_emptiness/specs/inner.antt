@@ -1,4 +1,5 @@
 -- What the inner functions speak of.
+pub mod Carriers
 pub mod Edges
 pub mod Groups
 pub mod Judged

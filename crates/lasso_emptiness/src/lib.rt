@@ -1,10 +1,11 @@
 //! Whether an automaton accepts some lasso word, for any acceptance condition (Emerson and Lei 1987), and one that it
 //! accepts.
 //!
-//! A caller sees `accepted_word`. What it answers is defined in `specs/Emptiness`; `specs/inner` speaks of the inner
+//! A caller sees `accepts_some` and `accepted_word`. What they answer is defined in `specs/Emptiness`; `specs/inner` speaks of the inner
 //! functions.
 #![tactic(auto)]
 
+mod emptiness;
 mod groups;
 mod judge;
 mod live;
@@ -17,4 +18,4 @@ mod tour;
 mod verdict;
 mod word;
 
-pub use word::accepted_word;
+pub use emptiness::{accepted_word, accepts_some};

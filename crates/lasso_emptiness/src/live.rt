@@ -28,7 +28,7 @@ pub(crate) fn passable_edges(alloc: Global, a: &Automaton) -> Result<LiveEdges, 
     ensures { IfOk result (ArePassable a.now) }
 {
     a.whole();
-    let mut edges = LiveEdges::new(alloc);
+    let mut edges = LiveEdges::from_vec(Vec::with_capacity(alloc, a.links().len())?);
     'links: for (place, link) in a.links().iter().enumerate() {
         if a.guards().is_false(link.guard) {
             continue;
@@ -62,7 +62,7 @@ fn flagged_edges(alloc: Global, edges: &[LiveEdge], flags: &[bool]) -> Result<Li
     requires { All (λ e. e.from < length flags.now) edges.now }
     ensures { IfOk result (Picks (λ e. slice_index_or flags.now e.from false ≡ true) edges.now []) }
 {
-    let mut flagged = LiveEdges::new(alloc);
+    let mut flagged = LiveEdges::from_vec(Vec::with_capacity(alloc, edges.len())?);
     'edges: for edge in edges {
         if !flags[edge.from as usize] {
             continue;
@@ -77,7 +77,7 @@ pub(crate) fn graph_of(alloc: Global, states: u32, edges: &[LiveEdge]) -> Result
     ensures nodes { IfOk result (λ graph. graph.nodes ≡ states) }
     ensures arcs { IfOk result (λ graph. graph.arcs ≡ map arc_of edges.now) }
 {
-    let mut arcs = Arcs::new(alloc);
+    let mut arcs = Arcs::from_vec(Vec::with_capacity(alloc, edges.len())?);
     'edges: for edge in edges {
         arcs.push((edge.from, edge.to))?;
     }
@@ -96,7 +96,7 @@ pub(crate) fn backward_graph_of(
     ensures nodes { IfOk result (λ graph. graph.nodes ≡ states) }
     ensures arcs { IfOk result (λ graph. graph.arcs ≡ map back_arc_of edges.now) }
 {
-    let mut arcs = Arcs::new(alloc);
+    let mut arcs = Arcs::from_vec(Vec::with_capacity(alloc, edges.len())?);
     'edges: for edge in edges {
         arcs.push((edge.to, edge.from))?;
     }

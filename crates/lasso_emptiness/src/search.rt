@@ -1,21 +1,19 @@
-//! The search for a closed path that meets a condition.
+//! The search for a component that meets a condition.
 
-ghost use Rattle.std.specs.Prelude.{◌≡◌, ◌<◌, ℕ, true, List, All, Contains, IfOk, length};
+ghost use Rattle.std.specs.Prelude.{◌<◌, ℕ, List, All, Contains, IfOk, length};
 ghost use Rattle.aut_base.specs.Formula.{FormulaTree, formula_tree};
 ghost use Rattle.lasso_emptiness.specs.declared.live.LiveEdge.{LiveEdge};
-ghost use Rattle.lasso_emptiness.specs.inner.Edges.{IsWithin, met_along};
+ghost use Rattle.lasso_emptiness.specs.inner.Carriers.{Finds, FindsInAny};
+ghost use Rattle.lasso_emptiness.specs.inner.Edges.{IsWithin};
 ghost use Rattle.lasso_emptiness.specs.inner.Groups.{IsJoined};
 ghost use Rattle.lasso_emptiness.specs.inner.Splits.{IsSurveyed};
-ghost use Rattle.lasso_emptiness.specs.inner.Trails.{Finds, FindsInAny, IsAccepting};
 
 use crate::groups::{Groups, component_groups};
 use crate::judge::judge;
 use crate::live::{LiveEdge, LiveEdges};
-use crate::needed::needed_edges;
 use crate::side::Side;
 use crate::split::divide;
 use crate::taken::take;
-use crate::tour::tour;
 use crate::verdict::Verdict;
 use aut_base::{Formula, Memory};
 use aut_core::Link;
@@ -32,7 +30,7 @@ pub(crate) enum Survey {
     Open(Side, Groups),
 }
 
-/// A closed path along the edges that meets the condition, or None where there is none.
+/// Edges of one component that together meet the condition, or None where no closed path along the edges meets it.
 #[cycle(search)]
 pub(crate) fn search(
     alloc: Global,
@@ -48,9 +46,9 @@ pub(crate) fn search(
     search_in(alloc, links, states, groups, condition)
 }
 
-/// A closed path within one of the components that meets the condition, or None where there is none. Where it depends on
-/// a `Fin`, a path that passes no edge on its side is looked for with the `Fin` taken as true, in the components of what
-/// is left; and any other one in the same components, with the `Fin` taken as false.
+/// Such edges within one of the components, or None where no closed path meets the condition. Where it depends on a `Fin`,
+/// edges off its side are looked for with the `Fin` taken as true, in the components of what is left; and any other ones in
+/// the same components, with the `Fin` taken as false.
 #[cycle(search)]
 fn search_in(
     alloc: Global,
@@ -64,16 +62,13 @@ fn search_in(
     ensures { IfOk result (FindsInAny links.now groups.items (formula_tree condition.now)) }
 {
     match judge_groups(alloc, links, groups, condition)? {
-        Survey::Met(group) => {
-            let cycle = accepting_cycle(alloc, links, states, group.as_slice(), condition)?;
-            Ok(Some(cycle))
-        }
+        Survey::Met(group) => Ok(Some(group)),
         Survey::Never => Ok(None),
         Survey::Open(side, left) => {
             let parts = divide(alloc, links, left, side)?;
             let holds = take(alloc, condition, side, true)?;
-            if let Some(cycle) = search(alloc, links, states, parts.off.as_slice(), &holds)? {
-                return Ok(Some(cycle));
+            if let Some(group) = search(alloc, links, states, parts.off.as_slice(), &holds)? {
+                return Ok(Some(group));
             }
             let fails = take(alloc, condition, side, false)?;
             search_in(alloc, links, states, parts.crossed, &fails)
@@ -110,22 +105,4 @@ fn judge_groups(
         Some(side) => Ok(Survey::Open(side, left)),
         None => Ok(Survey::Never),
     }
-}
-
-/// A closed path along the edges of a component that together meet the condition.
-fn accepting_cycle(
-    alloc: Global,
-    links: &[Link],
-    states: u32,
-    edges: &[LiveEdge],
-    condition: &Formula,
-) -> Result<LiveEdges, Memory>
-    requires within { All (IsWithin (length links.now) states) edges.now }
-    requires joined { IsJoined edges.now }
-    requires some { 0 < length edges.now }
-    requires met { met_along links.now edges.now (formula_tree condition.now) ≡ true }
-    ensures { IfOk result (IsAccepting links.now (Contains edges.now) (formula_tree condition.now)) }
-{
-    let needed = needed_edges(alloc, links, edges, condition)?;
-    tour(alloc, states, edges, needed.as_slice())
 }

@@ -1,55 +1,48 @@
-//! The call, and the word of a closed path.
+//! The closed path of a component, and the word of a closed path.
 
 ghost use Rattle.std.specs.Prelude.{◌≡◌, ◌<◌, ◌↔◌, ℕ, true, false, IsTrue, List, All, Contains, IfOk, MatchOption, length, map};
 ghost use Rattle.aut_core.specs.Core.{automaton_of};
 ghost use Rattle.aut_core.specs.declared.link.Link.{Link};
 ghost use Rattle.graph_walk.specs.Reach.{ReachedFrom};
+ghost use Rattle.aut_base.specs.Formula.{FormulaTree, formula_tree};
 ghost use Rattle.graph_walk.specs.Walk.{Reaches};
 ghost use Rattle.std.specs.List.{slice_index_or};
-ghost use Rattle.lasso_emptiness.specs.Emptiness.{AcceptsNothing, IsAcceptedWord};
 ghost use Rattle.lasso_emptiness.specs.declared.live.LiveEdge.{LiveEdge};
-ghost use Rattle.lasso_emptiness.specs.inner.Edges.{IsWithin, arc_of};
+ghost use Rattle.lasso_emptiness.specs.inner.Edges.{IsWithin, arc_of, met_along};
+ghost use Rattle.lasso_emptiness.specs.inner.Groups.{IsJoined};
 ghost use Rattle.lasso_emptiness.specs.inner.Letters.{AreLettersOf, IsLetterOf, IsOwnWord};
 ghost use Rattle.lasso_emptiness.specs.inner.Live.{ArePassable, IsPassable};
 ghost use Rattle.lasso_emptiness.specs.inner.Trails.{IsAccepting};
 ghost use Rattle.lasso_emptiness.specs.inner.Tours.{IsStem};
 
-use crate::live::{
-    LiveEdge, LiveEdges, backward_graph_of, graph_of, passable_edges, reached_edges,
-};
-use crate::search::search;
-use crate::tour::add_way;
-use aut_base::{Flags, Lasso, Letter, Letters, Memory, Numbers};
-use aut_core::Automaton;
+use crate::live::{LiveEdge, LiveEdges, backward_graph_of, graph_of};
+use crate::needed::needed_edges;
+use crate::tour::{add_way, tour};
+use aut_base::{Flags, Formula, Lasso, Letter, Letters, Memory, Numbers};
+use aut_core::{Automaton, Link};
 use graph_walk::reach;
 use std::alloc::Global;
-use word_syntax::reduce;
 
-/// A lasso word that the automaton accepts, or None where it accepts none.
-pub fn accepted_word(alloc: Global, a: &Automaton) -> Result<Option<Lasso>, Memory>
-    ensures { IfOk result (λ found. MatchOption found (AcceptsNothing (automaton_of a.now)) (IsAcceptedWord (automaton_of a.now))) }
+/// A closed path along the edges of a component that together meet the condition.
+pub(crate) fn accepting_cycle(
+    alloc: Global,
+    links: &[Link],
+    states: u32,
+    edges: &[LiveEdge],
+    condition: &Formula,
+) -> Result<LiveEdges, Memory>
+    requires within { All (IsWithin (length links.now) states) edges.now }
+    requires joined { IsJoined edges.now }
+    requires some { 0 < length edges.now }
+    requires met { met_along links.now edges.now (formula_tree condition.now) ≡ true }
+    ensures { IfOk result (IsAccepting links.now (Contains edges.now) (formula_tree condition.now)) }
 {
-    a.whole();
-    let passable = passable_edges(alloc, a)?;
-    let reached = reached_edges(alloc, a, passable.as_slice())?;
-    let found = search(
-        alloc,
-        a.links(),
-        a.states(),
-        reached.as_slice(),
-        a.formula(),
-    )?;
-    match found {
-        Some(cycle) => {
-            let word = word_around(alloc, a, passable.as_slice(), cycle.as_slice())?;
-            Ok(Some(reduce(alloc, &word)?))
-        }
-        None => Ok(None),
-    }
+    let needed = needed_edges(alloc, links, edges, condition)?;
+    tour(alloc, states, edges, needed.as_slice())
 }
 
 /// A word that leads from a start to a closed path and then around it.
-fn word_around(
+pub(crate) fn word_around(
     alloc: Global,
     a: &Automaton,
     passable: &[LiveEdge],

@@ -59,7 +59,7 @@ pub(crate) fn word_beside(
 }
 
 /// Makes the complement, unless it is kept.
-fn keep_complement(
+pub(crate) fn keep_complement(
     alloc: Global,
     b: &Automaton,
     kept: &mut Option<Automaton>,

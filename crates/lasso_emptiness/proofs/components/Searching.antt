@@ -6,13 +6,14 @@ use Rattle.aut_base.proofs.lists.Members.{any_found, each_there, from_map, none_
 use Rattle.aut_base.specs.Formula.{FormulaTree}
 use Rattle.aut_core.specs.declared.link.Link.{Link}
 use Rattle.lasso_emptiness.specs.declared.live.LiveEdge.{LiveEdge}
+use Rattle.lasso_emptiness.specs.inner.Carriers.{Finds, FindsInAny, IsCarrier}
 use Rattle.lasso_emptiness.specs.inner.Edges.{marks_of, on_side}
 use Rattle.lasso_emptiness.specs.inner.Groups.{AreGroups}
 use Rattle.lasso_emptiness.specs.inner.Needed.{AreNeeded}
 use Rattle.lasso_emptiness.specs.inner.Splits.{AreLeft, IsSplit}
 use Rattle.lasso_emptiness.specs.inner.Taken.{taken}
 use Rattle.lasso_emptiness.specs.inner.Tours.{IsTour}
-use Rattle.lasso_emptiness.specs.inner.Trails.{Finds, FindsInAny, InSome, IsAccepting, NoneAccepting, NoneInAny}
+use Rattle.lasso_emptiness.specs.inner.Trails.{InSome, IsAccepting, NoneAccepting, NoneInAny}
 use Rattle.lasso_emptiness.proofs.conditions.Conditions.{met-denied, met-taken}
 use Rattle.lasso_emptiness.proofs.conditions.Marked.{none_on}
 use Rattle.lasso_emptiness.proofs.trails.Trails.{trail_kind, trail_weaker, trail_with}
@@ -27,14 +28,24 @@ accepting_weaker links K L f cycle weaker accepting = record {
   meets = accepting.meets;
 }
 
+-- the same edges, of another kind
+pub carrier_weaker : (links : List Link) (K L : LiveEdge → Type 0) (f : FormulaTree) (group : List LiveEdge) → ((e : LiveEdge) → K e → L e) → IsCarrier links K f group
+    → IsCarrier links L f group
+carrier_weaker links K L f group weaker carrier = record {
+  some = carrier.some;
+  kind = λ e here. weaker e (carrier.kind e here);
+  joined = carrier.joined;
+  meets = carrier.meets;
+}
+
 -- what the groups of components answer for all edges
 pub finds_of_groups : (links : List Link) (edges : List LiveEdge) (groups : List (List LiveEdge)) (f : FormulaTree) → AreGroups edges groups → (found : Option (List LiveEdge))
     → FindsInAny links groups f found → Finds links (Contains edges) f found
 finds_of_groups links edges groups f are None none = λ cycle accepting.
     let there = are.whole accepting.state cycle accepting.some accepting.closed in
     none there.0 there.1 cycle (record { some = accepting.some; state = accepting.state; closed = there.2; meets = accepting.meets })
-finds_of_groups links edges groups f are (Some cycle) accepting =
-    accepting_weaker links (InSome groups) (Contains edges) f cycle (λ e some. (are.each some.group some.listed).inside e some.here) accepting
+finds_of_groups links edges groups f are (Some group) carrier =
+    carrier_weaker links (InSome groups) (Contains edges) f group (λ e some. (are.each some.group some.listed).inside e some.here) carrier
 
 -- a closed path through the edges that are needed
 pub accepting_tour : (links : List Link) (edges needed cycle : List LiveEdge) (f : FormulaTree) → AreNeeded links edges f needed → IsTour edges needed cycle
@@ -49,27 +60,23 @@ accepting_tour links edges needed cycle f are tour = record {
 -- Groups are left after others have no such path, and are divided by the side of a `Fin`.
 module _ (links : List Link) (set : ℕ) (neg : Bool) (f : FormulaTree) (groups left crossed : List (List LiveEdge)) (off : List LiveEdge) (are : AreLeft links groups f left)
     (split : IsSplit links set neg left off crossed) where
-  -- a path off the side meets the condition as it does with the `Fin` taken as true
-  pub found_off : (cycle : List LiveEdge) → IsAccepting links (Contains off) (taken set neg true f) cycle → IsAccepting links (InSome groups) f cycle
-  found_off cycle accepting = record {
-    some = accepting.some;
-    state = accepting.state;
-    closed = trail_weaker (Contains off) (InSome groups)
-        (λ e here. let some = split.off_some e here in record { group = some.group; listed = are.inside some.group some.listed; here = some.here }) accepting.state accepting.state cycle
-        accepting.closed;
-    meets = sym (met-taken (map (marks_of links) cycle) set neg true f
-        (none_on links cycle set neg (each_there (λ (e : LiveEdge). on_side set neg (marks_of links e) ≡ false) cycle
-        (λ e here. split.off_side e (trail_kind (Contains off) accepting.state accepting.state cycle e accepting.closed here))))) ∙ accepting.meets;
+  -- edges off the side meet the condition as they do with the `Fin` taken as true
+  pub found_off : (group : List LiveEdge) → IsCarrier links (Contains off) (taken set neg true f) group → IsCarrier links (InSome groups) f group
+  found_off group carrier = record {
+    some = carrier.some;
+    kind = λ e here. let some = split.off_some e (carrier.kind e here) in record { group = some.group; listed = are.inside some.group some.listed; here = some.here };
+    joined = carrier.joined;
+    meets = sym (met-taken (map (marks_of links) group) set neg true f
+        (none_on links group set neg (each_there (λ (e : LiveEdge). on_side set neg (marks_of links e) ≡ false) group (λ e here. split.off_side e (carrier.kind e here))))) ∙ carrier.meets;
   }
 
-  -- a path that meets the condition with the `Fin` taken as false meets it
-  pub found_crossed : (cycle : List LiveEdge) → IsAccepting links (InSome crossed) (taken set neg false f) cycle → IsAccepting links (InSome groups) f cycle
-  found_crossed cycle accepting = record {
-    some = accepting.some;
-    state = accepting.state;
-    closed = trail_weaker (InSome crossed) (InSome groups) (λ e some. record { group = some.group; listed = are.inside some.group (split.inside some.group some.listed); here = some.here })
-        accepting.state accepting.state cycle accepting.closed;
-    meets = met-denied (map (marks_of links) cycle) set neg f accepting.meets;
+  -- edges that meet the condition with the `Fin` taken as false meet it
+  pub found_crossed : (group : List LiveEdge) → IsCarrier links (InSome crossed) (taken set neg false f) group → IsCarrier links (InSome groups) f group
+  found_crossed group carrier = record {
+    some = carrier.some;
+    kind = λ e here. let some = carrier.kind e here in record { group = some.group; listed = are.inside some.group (split.inside some.group some.listed); here = some.here };
+    joined = carrier.joined;
+    meets = met-denied (map (marks_of links) group) set neg f carrier.meets;
   }
 
   -- each path is off the side, or passes an edge on it
@@ -103,7 +110,7 @@ module _ (links : List Link) (set : ℕ) (neg : Bool) (f : FormulaTree) (groups 
   pub finds_of_split : NoneAccepting links (Contains off) (taken set neg true f) → (found : Option (List LiveEdge)) → FindsInAny links crossed (taken set neg false f) found
       → FindsInAny links groups f found
   finds_of_split none_off None none = none_found none_off none
-  finds_of_split none_off (Some cycle) accepting = found_crossed cycle accepting
+  finds_of_split none_off (Some group) carrier = found_crossed group carrier
 
 pub within_all : (P : LiveEdge → Type 0) (groups : List (List LiveEdge)) → All (All P) groups → (group : List LiveEdge) → Contains groups group → (e : LiveEdge) → Contains group e → P e
 within_all P groups all group listed e here = All-contains P group e (All-contains (All P) groups group all listed) here

@@ -1,6 +1,7 @@
 -- A closed path that is reached and accepting makes an accepted word, and an accepted word such a path.
-use Rattle.std.proofs.Common.{◌≡◌, ◌∙◌, ◌↔◌, ℕ, zero, suc, ◌+◌, ◌*◌, ◌<◌, ◌≤◌, List, [], ◌∷◌, ◌++◌, length, get_or, map, Option, Some, slice_get, inl, inr, ap, arith, refl, subst, sym}
+use Rattle.std.proofs.Common.{◌≡◌, ◌∙◌, ◌↔◌, ℕ, zero, suc, ◌+◌, ◌*◌, ◌<◌, ◌≤◌, List, [], ◌∷◌, ◌++◌, length, get_or, map, Option, None, Some, slice_get, inl, inr, ap, arith, refl, subst, sym}
 use Rattle.std.specs.List.{All, Contains}
+use Rattle.std.specs.Prelude.{MatchOption}
 use Rattle.std.proofs.lemmas.List.{append-nil, length-append}
 use Rattle.std.proofs.lemmas.List.Elements.{All-append, All-contains, All-nil, Contains-append_cases, Contains-append_left, Contains-append_right}
 use Rattle.std.proofs.lemmas.Option.{get_or_from_slice_get, slice_get-get_or, slice_get_within}
@@ -18,11 +19,12 @@ use Rattle.graph_walk.specs.Reach.{ReachedFrom}
 use Rattle.graph_walk.proofs.WalkLemmas.{reach_none, reach_then}
 use Rattle.lasso_emptiness.specs.Emptiness.{AcceptsNothing, IsAcceptedWord}
 use Rattle.lasso_emptiness.specs.declared.live.LiveEdge.{LiveEdge}
+use Rattle.lasso_emptiness.specs.inner.Carriers.{Finds, IsCarrier}
 use Rattle.lasso_emptiness.specs.inner.Edges.{arc_of}
 use Rattle.lasso_emptiness.specs.inner.Letters.{AreLettersOf, IsOwnWord}
-use Rattle.lasso_emptiness.specs.inner.Live.{ArePassable, AreReachedEdges, IsPassable}
+use Rattle.lasso_emptiness.specs.inner.Live.{ArePassable, AreReachedEdges, IsPassable, IsReachedEdge}
 use Rattle.lasso_emptiness.specs.inner.Tours.{IsStem, edge_at}
-use Rattle.lasso_emptiness.specs.inner.Trails.{Finds, IsAccepting, IsTrail, NoneAccepting}
+use Rattle.lasso_emptiness.specs.inner.Trails.{IsAccepting, IsTrail, NoneAccepting}
 use Rattle.lasso_emptiness.proofs.trails.Lettered.{letters_long, letters_own, reads_along, trail_of}
 use Rattle.lasso_emptiness.proofs.trails.Trails.{trail_weaker}
 use Rattle.word_syntax.specs.Printing.{HoldsOnly}
@@ -102,19 +104,6 @@ accepts_nothing c is passable reached are picked none u v accepts =
     some_copies zero v positive endless = absurd (omega arith)
     some_copies (suc k) v positive endless = let long = length-append v (copies k v) in omega arith
 
--- a closed path along reached edges is one along passable edges, from reached states
-pub along_passable : (c : Core) (passable reached cycle : List LiveEdge) → ArePassable c passable → AreReachedEdges c.starts passable reached
-    → IsAccepting c.links (Contains reached) c.formula cycle → IsAccepting c.links (IsPassable c) c.formula cycle
-along_passable c passable reached cycle are picked accepting = record {
-  some = accepting.some;
-  state = accepting.state;
-  closed = trail_weaker (Contains reached) (IsPassable c) (λ e here. elim (picked.nothing_else e here) [
-    | inl old ↦ (let within = old.1 in absurd (omega arith))
-    | inr found ↦ are.each e found.0
-  ]) accepting.state accepting.state cycle accepting.closed;
-  meets = accepting.meets;
-}
-
 -- what holds of each letter of a word holds of those of each word that spells the same
 copies_all : (P : NameSet → Type 0) (k : ℕ) (y : List NameSet) → All P y → All P (copies k y)
 copies_all P zero y all = All-nil P
@@ -168,3 +157,14 @@ leaves_reached starts edges reached picked e here = elim (picked.nothing_else e 
   | inl old ↦ absurd (none_there e old)
   | inr found ↦ found
 ]
+
+-- what a search among reached edges answers, said of the automaton
+pub component_said : (c : Core) → IsCore c → (passable reached : List LiveEdge) → ArePassable c passable → AreReachedEdges c.starts passable reached → (found : Option (List LiveEdge))
+    → Finds c.links (Contains reached) c.formula found → MatchOption found (AcceptsNothing (automaton_of c)) (IsCarrier c.links (IsReachedEdge c passable) c.formula)
+component_said c is passable reached are picked None none = accepts_nothing c is passable reached are picked none
+component_said c is passable reached are picked (Some group) carrier = record {
+  some = carrier.some;
+  kind = λ e here. let there = leaves_reached c.starts passable reached picked e (carrier.kind e here) in record { passable = are.each e there.0; reached = there.1 };
+  joined = carrier.joined;
+  meets = carrier.meets;
+}

@@ -1,6 +1,8 @@
 -- Joined edges that together meet a condition carry an accepting closed path, and where they are reached an accepted word.
-use Rattle.std.proofs.Common.{◌≡◌, ◌∙◌, ◌⊎◌, ℕ, zero, suc, ◌+◌, ◌<◌, ◌≤◌, Bool, true, false, List, [], ◌∷◌, ◌++◌, length, map, take, inl, inr, ap, arith, refl, subst, sym}
+use Rattle.std.proofs.Common.{◌≡◌, ◌∙◌, ◌↔◌, ℕ, zero, suc, ◌+◌, ◌<◌, ◌≤◌, Bool, true, false, List, [], ◌∷◌, ◌++◌, length, map, take, Option, None, Some, is_some, ap, arith, refl, subst, sym}
 use Rattle.std.specs.List.{All, Contains, list_all, list_any}
+use Rattle.std.specs.Prelude.{IsTrue, MatchOption}
+use Rattle.std.proofs.lemmas.Bool.{true≢false}
 use Rattle.std.proofs.lemmas.List.Elements.{All-contains, All-contains_itself, Contains-get_or}
 use Rattle.aut_base.proofs.lists.Members.{any_found, any_from, each_from, each_is, first_there, from_map, later_there, there_map}
 use Rattle.aut_base.proofs.numbers.Truth.{same_truth}
@@ -10,7 +12,7 @@ use Rattle.aut_base.specs.Word.{NameSet}
 use Rattle.aut_core.specs.Core.{Core, IsCore, automaton_of}
 use Rattle.aut_core.specs.declared.link.Link.{Link}
 use Rattle.graph_walk.specs.Walk.{IsWalk, Reaches}
-use Rattle.lasso_emptiness.specs.Emptiness.{AcceptsSome}
+use Rattle.lasso_emptiness.specs.Emptiness.{AcceptsNothing, AcceptsSome}
 use Rattle.lasso_emptiness.specs.declared.live.LiveEdge.{LiveEdge}
 use Rattle.lasso_emptiness.specs.inner.Carriers.{IsCarrier}
 use Rattle.lasso_emptiness.specs.inner.Edges.{arc_of, marks_of, met_along}
@@ -30,7 +32,7 @@ path_along edges p q [] leads = ([], leads)
 path_along edges p q (arc ∷ walk) leads =
     let edge = from_map arc_of edges arc leads.0 in
     let rest = path_along edges edge.0.to q walk (subst (λ x. IsWalk (map arc_of edges) x walk q) (sym (ap (λ (a : ℕ × ℕ). a.1) edge.2)) leads.2) in
-    (edge.0 ∷ rest.0, edge.1, ap (λ (a : ℕ × ℕ). a.0) edge.2 ∙ leads.1, rest.1)
+    (edge.0 ∷ rest.0, (edge.1, ap (λ (a : ℕ × ℕ). a.0) edge.2 ∙ leads.1, rest.1))
 
 path_to : (edges : List LiveEdge) (p q : ℕ) → Reaches (map arc_of edges) p q → (way : List LiveEdge) × IsTrail (Contains edges) p way q
 path_to edges p q reaches = path_along edges p q reaches.walk reaches.leads
@@ -114,7 +116,7 @@ letters_for c is [] passable = ([], _)
 letters_for c is (e ∷ es) passable =
     let letter = letter_for c is e (passable e (first_there e es)) in
     let rest = letters_for c is es (λ d here. passable d (later_there e es d here)) in
-    (letter.0 ∷ rest.0, letter.1, rest.1)
+    (letter.0 ∷ rest.0, (letter.1, rest.1))
 
 -- where such edges are reached some word is accepted
 pub carrier_accepts : (c : Core) → IsCore c → (edges group : List LiveEdge) → ArePassable c edges → IsCarrier c.links (IsReachedEdge c edges) c.formula group
@@ -139,3 +141,9 @@ carrier_accepts c is edges group are carrier =
       meets = carried.1.meets;
     }) stem.1 loop.1 in
     record { stem = stem.0; cycle = loop.0; accepts = own.accepts }
+
+-- what the test for such edges says
+pub some_accepted : (c : Core) → IsCore c → (edges : List LiveEdge) (found : Option (List LiveEdge)) (some : Bool) → ArePassable c edges → some ≡ is_some found
+    → MatchOption found (AcceptsNothing (automaton_of c)) (IsCarrier c.links (IsReachedEdge c edges) c.formula) → IsTrue some ↔ AcceptsSome (automaton_of c)
+some_accepted c is edges None some are tells none = ((λ holds. absurd (true≢false (sym holds ∙ tells))), (λ word. absurd (none word.stem word.cycle word.accepts)))
+some_accepted c is edges (Some group) some are tells carrier = ((λ holds. carrier_accepts c is edges group are carrier), (λ word. tells))

@@ -1,5 +1,5 @@
 -- Letters that labels allow, and paths that read them.
-use Rattle.std.proofs.Common.{◌≡◌, ◌∙◌, ℕ, suc, ◌<◌, Bool, true, false, List, [], ◌∷◌, ◌++◌, length, get_or, map, Some, slice_get, inl, inr, ap, arith, refl, subst, sym}
+use Rattle.std.proofs.Common.{◌≡◌, ◌∙◌, ◌⊎◌, ℕ, zero, suc, ◌<◌, Bool, true, false, List, [], ◌∷◌, ◌++◌, length, get_or, map, Some, slice_get, inl, inr, ap, arith, refl, subst, sym}
 use Rattle.std.specs.List.{Contains}
 use Rattle.std.proofs.lemmas.Bool.{true≢false}
 use Rattle.std.proofs.lemmas.List.{get_or-map, get_or_default, length-map}
@@ -11,7 +11,7 @@ use Rattle.aut_base.proofs.canonical.ValuationLetters.{letter_of_holds, valuatio
 use Rattle.aut_base.specs.Acceptance.{IsPath}
 use Rattle.aut_base.specs.Automaton.{TreeEdge}
 use Rattle.aut_base.specs.Label.{LabelTree, holds_at, truth}
-use Rattle.aut_base.specs.Valuation.{holds_in, letter_of, names_on}
+use Rattle.aut_base.specs.Valuation.{holds_in, letter_of, names_on, truth_on}
 use Rattle.aut_base.specs.Word.{NameSet}
 use Rattle.aut_core.specs.Core.{Core, IsCore, automaton_of, edge_of}
 use Rattle.aut_core.specs.declared.link.Link.{Link}
@@ -38,19 +38,55 @@ own_names (n ∷ names) (true ∷ v) name here = elim (there_cases n (names_on n
   | inr rest ↦ later_there n names name (own_names names v name rest)
 ]
 
--- the least letter of a link's label is one for its edge
-pub least_letter_of : (c : Core) → IsCore c → (e : LiveEdge) (l : Link) (letter : NameSet) → IsEdgeAt c e l → IsLeastLetter c.store c.names l.guard letter → IsLetterOf c e letter
-least_letter_of c is e l letter at least =
-    let v = least.valuation in
-    let size : length v ≡ length c.names = least.least.size ∙ is.parts.store_names in
+-- the letter of a valuation that meets a link's label is one for its edge
+letter_of_valuation : (c : Core) → IsCore c → (e : LiveEdge) (l : Link) → IsEdgeAt c e l → (v : List Bool) → length v ≡ c.store.names → truth_on (label_in c.store l.guard) v ≡ true
+    → IsLetterOf c e (letter_of c.names v)
+letter_of_valuation c is e l at v size met =
+    let all : length v ≡ length c.names = size ∙ is.parts.store_names in
     record {
       link = l;
       at = at;
-      meets = ap (λ (x : NameSet). truth (holds_at c.names x) (label_in c.store l.guard)) least.letter_of
-          ∙ truth_agrees (holds_at c.names (letter_of c.names v)) (holds_in v) (label_in c.store l.guard) (λ i. letter_of_holds c.names v i is.well_formed.names_differ size)
-          ∙ least.least.is_true;
-      own_names = subst (HoldsOnly c.names) (sym least.letter_of) (λ name holds. own_names c.names v name ((contains_listed (names_on c.names v) name).0 holds));
+      meets = truth_agrees (holds_at c.names (letter_of c.names v)) (holds_in v) (label_in c.store l.guard) (λ i. letter_of_holds c.names v i is.well_formed.names_differ all) ∙ met;
+      own_names = λ name holds. own_names c.names v name ((contains_listed (names_on c.names v) name).0 holds);
     }
+
+-- the least letter of a link's label is one for its edge
+pub least_letter_of : (c : Core) → IsCore c → (e : LiveEdge) (l : Link) (letter : NameSet) → IsEdgeAt c e l → IsLeastLetter c.store c.names l.guard letter → IsLetterOf c e letter
+least_letter_of c is e l letter at least =
+    subst (IsLetterOf c e) (sym least.letter_of) (letter_of_valuation c is e l at least.valuation least.least.size least.least.is_true)
+
+-- a valuation that passes a test, or none does
+some_valuation : (n : ℕ) (p : List Bool → Bool) → ((v : List Bool) × (length v ≡ n) × (p v ≡ true)) ⊎ ((v : List Bool) → length v ≡ n → p v ≡ false)
+some_valuation zero p = go (p []) refl
+  where
+    go : (b : Bool) → p [] ≡ b → ((v : List Bool) × (length v ≡ 0) × (p v ≡ true)) ⊎ ((v : List Bool) → length v ≡ 0 → p v ≡ false)
+    go true is = inl ([], refl, is)
+    go false is = inr (λ v empty. none v empty)
+      where
+        none : (v : List Bool) → length v ≡ 0 → p v ≡ false
+        none [] empty = is
+        none (b ∷ v) empty = absurd (omega (arith, empty))
+some_valuation (suc n) p = elim (some_valuation n (λ v. p (true ∷ v))) [
+  | inl found ↦ inl (true ∷ found.0, ap suc found.1, found.2)
+  | inr none ↦ elim (some_valuation n (λ v. p (false ∷ v))) [
+    | inl found ↦ inl (false ∷ found.0, ap suc found.1, found.2)
+    | inr neither ↦ inr (λ v size. each none neither v size)
+  ]
+]
+  where
+    each : ((v : List Bool) → length v ≡ n → p (true ∷ v) ≡ false) → ((v : List Bool) → length v ≡ n → p (false ∷ v) ≡ false) → (v : List Bool) → length v ≡ suc n → p v ≡ false
+    each on off [] size = absurd (omega (arith, size))
+    each on off (true ∷ v) size = on v (omega (arith, size))
+    each on off (false ∷ v) size = off v (omega (arith, size))
+
+-- a letter for an edge whose label is not false
+pub letter_for : (c : Core) → IsCore c → (e : LiveEdge) → IsPassable c e → (letter : NameSet) × IsLetterOf c e letter
+letter_for c is e passable =
+    let l = passable.link in
+    elim (some_valuation c.store.names (truth_on (label_in c.store l.guard))) [
+      | inl found ↦ (letter_of c.names found.0, letter_of_valuation c is e l passable.at found.0 found.1 found.2)
+      | inr none ↦ absurd (passable.some none)
+    ]
 
 -- a label that some letter meets is not false
 pub met_by_letter : (c : Core) → IsCore c → (l : Link) (letter : NameSet) → truth (holds_at c.names letter) (label_in c.store l.guard) ≡ true → IsNeverMet c.store l.guard → ⊥

@@ -28,3 +28,8 @@ pub record ArePassable (c : Core) (edges : List LiveEdge) : Type 0 where
 -- those of the edges that leave a state that is reached along them from one of these states
 abbrev pub AreReachedEdges : List ℕ → List LiveEdge → List LiveEdge → Type 0
 AreReachedEdges starts edges reached = Picks (λ e. ReachedFrom (map arc_of edges) starts e.from) edges [] reached
+
+-- the edge's label is not false, and it leaves a state that is reached along these edges from a start
+pub record IsReachedEdge (c : Core) (edges : List LiveEdge) (e : LiveEdge) : Type 0 where
+  pub passable : IsPassable c e
+  pub reached : ReachedFrom (map arc_of edges) c.starts e.from

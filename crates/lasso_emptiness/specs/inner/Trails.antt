@@ -1,5 +1,5 @@
--- Paths along edges, and what a search for a closed one answers.
-use Rattle.std.specs.Prelude.{◌≡◌, ℕ, ◌<◌, true, List, [], ◌∷◌, length, Contains, Option, MatchOption}
+-- Paths along edges, and closed ones that meet a condition.
+use Rattle.std.specs.Prelude.{◌≡◌, ℕ, ◌<◌, true, List, [], ◌∷◌, length, Contains}
 use Rattle.aut_base.specs.Formula.{FormulaTree}
 use Rattle.aut_core.specs.declared.link.Link.{Link}
 use Rattle.lasso_emptiness.specs.declared.live.LiveEdge.{LiveEdge}
@@ -20,10 +20,6 @@ pub record IsAccepting (links : List Link) (Kind : LiveEdge → Type 0) (f : For
 abbrev pub NoneAccepting : List Link → (LiveEdge → Type 0) → FormulaTree → Type 0
 NoneAccepting links Kind f = (cycle : List LiveEdge) → IsAccepting links Kind f cycle → ⊥
 
--- such a closed path, or None where there is none
-abbrev pub Finds : List Link → (LiveEdge → Type 0) → FormulaTree → Option (List LiveEdge) → Type 0
-Finds links Kind f found = MatchOption found (NoneAccepting links Kind f) (IsAccepting links Kind f)
-
 -- the edge is in one of the groups
 pub record InSome (groups : List (List LiveEdge)) (e : LiveEdge) : Type 0 where
   pub group : List LiveEdge
@@ -33,7 +29,3 @@ pub record InSome (groups : List (List LiveEdge)) (e : LiveEdge) : Type 0 where
 -- no group has such a closed path
 abbrev pub NoneInAny : List Link → List (List LiveEdge) → FormulaTree → Type 0
 NoneInAny links groups f = (group : List LiveEdge) → Contains groups group → NoneAccepting links (Contains group) f
-
--- such a closed path along the edges of the groups, or None where no group has one
-abbrev pub FindsInAny : List Link → List (List LiveEdge) → FormulaTree → Option (List LiveEdge) → Type 0
-FindsInAny links groups f found = MatchOption found (NoneInAny links groups f) (IsAccepting links (InSome groups) f)

@@ -1,7 +1,8 @@
 -- A word that one automaton accepts and another doesn't, by a product with the complement of the other.
-use Rattle.std.proofs.Common.{ℕ, ◌≡◌, ◌≤◌, Option, None, Some, List, Result, Ok, Err, arith, inl, inr, length, refl, subst, sym}
-use Rattle.std.specs.Prelude.{◌++◌, All, MatchOption}
+use Rattle.std.proofs.Common.{ℕ, ◌≡◌, ◌≤◌, ◌↔◌, Bool, true, false, not, Option, None, Some, List, Result, Ok, Err, arith, inl, inr, length, refl, subst, sym}
+use Rattle.std.specs.Prelude.{◌++◌, All, IsTrue, MatchOption}
 use Rattle.std.specs.Result.{IsErrAnd}
+use Rattle.std.proofs.lemmas.Bool.{true≢false}
 use Rattle.aut_base.specs.Automaton.{Automaton}
 use Rattle.aut_base.specs.declared.letter.Lasso.{Lasso}
 use Rattle.aut_base.specs.declared.limit.Limit.{Limit}
@@ -23,8 +24,11 @@ use Rattle.plan_meaning.specs.Complements.{IsKeptOf}
 use Rattle.plan_meaning.specs.Limits.{HaveFewNames, HaveManyNames, IsIncluded, PassesOfBoth, PassesOfInclusion, PassesUnlessDeterministic}
 use Rattle.plan_meaning.specs.Refutations.{Refutes}
 use Rattle.plan_meaning.specs.declared.fault.PlanFault.{PlanFault}
+use Rattle.plan_meaning.specs.declared.fault.PlanFault.TheVariants as fault
 use Rattle.plan_meaning.specs.inner.Beside.{FindsBeside, IsFoundBeside}
 use Rattle.plan_meaning.specs.inner.Faults.{fault_of_pairs, fault_of_parity}
+use Rattle.plan_meaning.specs.inner.Judging.{ComparesInclusion}
+use Rattle.word_syntax.specs.Matching.{AcceptTogether}
 use Rattle.word_syntax.specs.Printing.{HoldsOnly}
 
 abbrev HavePairs : Automaton → Automaton → Type 0
@@ -67,6 +71,11 @@ module _ (a b co : Automaton) (kept : IsKeptOf b co) where
     found = of_found found said;
   }
 
+  -- whether a word is accepted with the complement, or none
+  pub compared : (some : Bool) → HaveFewNames a co → (HavePairs a co → ⊥) → IsTrue some ↔ AcceptTogether a co → ComparesInclusion (Ok (not some)) a b
+  compared true few pairs said = (inclusion_within few pairs, λ all. (included_where_none a b co kept.complements).1 all (said.0 refl))
+  compared false few pairs said = (inclusion_within few pairs, (included_where_none a b co kept.complements).0 (λ word. true≢false (sym (said.1 word))))
+
   -- what a refusal of the product says
   pub product_refused : (f : PairFault) → (f ≡ pair.Names → HaveManyNames a co) → (f ≡ pair.Pairs → HaveFewNames a co) → (f ≡ pair.Pairs → HavePairs a co) → FindsBeside (Err (fault_of_pairs f)) a b
   product_refused pair.Names names few pairs = inr (kept.within, record { co = co; is = kept.shape; passes = names refl })
@@ -86,3 +95,12 @@ complement_refused a b comp.Memory h = tt
 pub told : (a b : Automaton) (r : Result (Option Lasso) PlanFault) (came : PlanFault) → IsErrAnd r (λ y. y ≡ came) → FindsBeside (Err came) a b → FindsBeside r a b
 told a b (Ok x) came passed h = absurd passed
 told a b (Err y) came passed h = subst (λ (f : PlanFault). FindsBeside (Err f) a b) (sym passed) h
+
+-- the same of a comparison
+refused_too : (a b : Automaton) (f : PlanFault) → FindsBeside (Err f) a b → ComparesInclusion (Err f) a b
+refused_too a b (fault.Limit which) h = h
+refused_too a b fault.Memory h = h
+
+pub not_compared : (a b : Automaton) (r : Result Bool PlanFault) (came : PlanFault) → IsErrAnd r (λ y. y ≡ came) → FindsBeside (Err came) a b → ComparesInclusion r a b
+not_compared a b (Ok x) came passed h = absurd passed
+not_compared a b (Err y) came passed h = refused_too a b y (subst (λ (f : PlanFault). FindsBeside (Err f) a b) (sym passed) h)

@@ -1,19 +1,15 @@
 -- What a product says of two automata, and of an automaton and a pattern.
-use Rattle.std.proofs.Common.{◌≡◌, ◌↔◌, ◌≤◌, Bool, true, false, Option, Some, None, Result, Ok, Err, arith, inl, inr, length, subst, sym}
-use Rattle.std.specs.Prelude.{MatchOption}
-use Rattle.acc_forms.specs.Joined.{conj}
+use Rattle.std.proofs.Common.{◌≡◌, ◌↔◌, ◌≤◌, Bool, true, false, not, Result, Ok, Err, arith, inl, inr, length, refl, subst, sym}
+use Rattle.std.specs.Prelude.{IsTrue}
+use Rattle.std.proofs.lemmas.Bool.{true≢false}
 use Rattle.aut_base.specs.Automaton.{Automaton}
 use Rattle.aut_base.specs.CanonicalLabel.{canonical}
-use Rattle.aut_base.specs.declared.letter.Lasso.{Lasso}
 use Rattle.aut_base.specs.declared.limit.Limit.{Limit}
 use Rattle.aut_base.specs.declared.limit.Limit.TheVariants as limit
-use Rattle.aut_base.specs.declared.limit.TheConstants.{MOST_NAMES}
-use Rattle.aut_ops.specs.Languages.{AcceptsBoth}
-use Rattle.aut_ops.specs.Laws.{FewPairsExcludeMore}
-use Rattle.aut_ops.specs.Products.{IsProductOf, over_both}
-use Rattle.aut_base.specs.declared.limit.TheConstants.{MOST_PAIRS}
-use Rattle.lasso_emptiness.specs.Emptiness.{AcceptsNothing, IsAcceptedWord}
-use Rattle.plan_meaning.specs.Filters.{AcceptsWord, Intersects, IsEmpty, LacksWithin}
+use Rattle.aut_base.specs.declared.limit.TheConstants.{MOST_NAMES, MOST_PAIRS}
+use Rattle.aut_ops.specs.Products.{HasMorePairs, over_both}
+use Rattle.lasso_emptiness.specs.Emptiness.{AcceptsSome}
+use Rattle.plan_meaning.specs.Filters.{AcceptsWord, Intersects, IsEmpty}
 use Rattle.plan_meaning.specs.Limits.{HaveFewNames, PassesOfBoth, PassesOfWord}
 use Rattle.plan_meaning.specs.declared.fault.PlanFault.{PlanFault}
 use Rattle.plan_meaning.specs.declared.fault.PlanFault.TheVariants as fault
@@ -23,38 +19,35 @@ use Rattle.word_syntax.specs.Matching.{AcceptTogether, AcceptsPattern, word_auto
 
 -- ---- limits
 
--- a product that is made passes none
-none_passed : (a b made : Automaton) → FewPairsExcludeMore → HaveFewNames a b → IsProductOf a b made → made.states ≤ MOST_PAIRS → (which : Limit) → PassesOfBoth which a b → ⊥
-none_passed a b made law names is few limit.Names many = absurd (omega arith)
-none_passed a b made law names is few limit.Pairs more = law conj (over_both a b a) (over_both a b b) made MOST_PAIRS is few more.1
-none_passed a b made law names is few _ other = other
-
--- the same of one whose labels are canonical
-pub within_product : (a b made : Automaton) → FewPairsExcludeMore → canonical a ≡ a → HaveFewNames a b → IsProductOf a b made → made.states ≤ MOST_PAIRS → (which : Limit)
-    → PassesOfBoth which (canonical a) b → ⊥
-within_product a b made law settled names is few which passed =
-    none_passed a b made law names is few which (subst (λ (x : Automaton). PassesOfBoth which x b) settled passed)
+-- two automata that were looked at together pass none
+none_passed : (a b : Automaton) → HaveFewNames a b → (HasMorePairs MOST_PAIRS (over_both a b a) (over_both a b b) → ⊥) → (which : Limit) → PassesOfBoth which a b → ⊥
+none_passed a b names few limit.Names many = absurd (omega arith)
+none_passed a b names few limit.Pairs more = few more.1
+none_passed a b names few _ other = other
 
 -- ---- words
 
--- a word of the product is one of both
-pub meet_by : (a b made : Automaton) (found : Option Lasso) (w : Lasso) → AcceptsBoth made a b → found ≡ Some w → MatchOption found (AcceptsNothing made) (IsAcceptedWord made) → AcceptTogether a b
-meet_by a b made found w accepts is h =
-    let word : IsAcceptedWord made w = subst (λ (x : Option Lasso). MatchOption x (AcceptsNothing made) (IsAcceptedWord made)) is h in
-    let both = (accepts w.stem w.cycle).0 word.accepts in
-    record { stem = w.stem; cycle = w.cycle; first = both.0; second = both.1 }
+-- whether some word is accepted by both
+pub examines_both : (a b : Automaton) (some : Bool) → canonical a ≡ a → HaveFewNames a b → (HasMorePairs MOST_PAIRS (over_both a b a) (over_both a b b) → ⊥)
+    → IsTrue some ↔ AcceptTogether a b → Examines (Ok some) (Intersects b) a
+examines_both a b true settled names few said = record {
+  within = λ which passed. none_passed a b names few which (subst (λ (x : Automaton). PassesOfBoth which x b) settled passed);
+  holds = said.0 refl;
+}
+examines_both a b false settled names few said = record {
+  within = λ which passed. none_passed a b names few which (subst (λ (x : Automaton). PassesOfBoth which x b) settled passed);
+  fails = λ word. true≢false (sym (said.1 word));
+}
 
--- where the product has none, they have none together
-pub miss_by : (a b made : Automaton) (found : Option Lasso) → AcceptsBoth made a b → found ≡ None → MatchOption found (AcceptsNothing made) (IsAcceptedWord made) → AcceptTogether a b → ⊥
-miss_by a b made found accepts is h word =
-    let none : AcceptsNothing made = subst (λ (x : Option Lasso). MatchOption x (AcceptsNothing made) (IsAcceptedWord made)) is h in
-    none word.stem word.cycle ((accepts word.stem word.cycle).1 (word.first, word.second))
-
--- a word is accepted, so the filter that asks for none doesn't hold
-pub not_empty : (a : Automaton) (found : Option Lasso) (w : Lasso) → found ≡ Some w → MatchOption found (AcceptsNothing a) (IsAcceptedWord a) → LacksWithin IsEmpty a
-not_empty a found w is h =
-    let word : IsAcceptedWord a w = subst (λ (x : Option Lasso). MatchOption x (AcceptsNothing a) (IsAcceptedWord a)) is h in
-    record { within = λ which passed. passed; fails = λ empty. empty w.stem w.cycle word.accepts }
+-- whether none is accepted
+pub examines_empty : (a : Automaton) (some : Bool) → IsTrue some ↔ AcceptsSome a → Examines (Ok (not some)) IsEmpty a
+examines_empty a true said =
+    let word = said.0 refl in
+    record { within = λ which passed. passed; fails = λ empty. empty word.stem word.cycle word.accepts }
+examines_empty a false said = record {
+  within = λ which passed. passed;
+  holds = λ u v accepts. true≢false (sym (said.1 (record { stem = u; cycle = v; accepts = accepts })));
+}
 
 -- ---- patterns
 

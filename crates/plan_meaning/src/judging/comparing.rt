@@ -6,9 +6,10 @@ ghost use Rattle.plan_meaning.specs.Filters as asked;
 ghost use Rattle.plan_meaning.specs.Operands.{IsOfReadSize};
 ghost use Rattle.plan_meaning.specs.inner.Judging.{ComparesInclusion, Examines};
 
-use crate::complements::word_beside;
+use crate::complements::keep_complement;
 use crate::fault::PlanFault;
 use aut_core::Automaton;
+use inclusion::accept_together;
 use std::alloc::Global;
 
 /// Whether each word that it accepts is accepted by the other, whose complement is kept.
@@ -51,7 +52,8 @@ pub(crate) fn is_equivalent(
     has_no_word_beside(alloc, other, a, &mut own)
 }
 
-/// Whether the first accepts no word that the second doesn't.
+/// Whether the first accepts no word that the second doesn't: none together with the complement of the second, which is made here
+/// unless it is kept.
 fn has_no_word_beside(
     alloc: Global,
     a: &Automaton,
@@ -64,8 +66,12 @@ fn has_no_word_beside(
     ensures compares { ComparesInclusion result (automaton_of a.now) (automaton_of b.now) }
     ensures kept { KeepsOf (automaton_of b.now) kept.new }
 {
-    match word_beside(alloc, a, b, kept)? {
-        Some(_) => Ok(false),
-        None => Ok(true),
+    keep_complement(alloc, b, kept)?;
+    match kept {
+        Some(co_b) => {
+            let some = accept_together(alloc, a, co_b)?;
+            Ok(!some)
+        }
+        None => unreachable!(),
     }
 }

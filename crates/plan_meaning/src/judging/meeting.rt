@@ -9,8 +9,8 @@ ghost use Rattle.word_syntax.specs.Writing.{word_pattern};
 
 use crate::fault::PlanFault;
 use aut_core::Automaton;
-use aut_ops::{few_pairs_exclude_more, product};
-use lasso_emptiness::accepted_word;
+use inclusion::accept_together;
+use lasso_emptiness::accepts_some;
 use std::alloc::Global;
 use word_syntax::{Pattern, pattern_automaton};
 
@@ -49,26 +49,20 @@ pub(crate) fn intersects(alloc: Global, a: &Automaton, other: &Automaton) -> Res
     meets(alloc, a, other)
 }
 
-/// Whether both accept some word: whether their product accepts one.
+/// Whether both accept some word.
 fn meets(alloc: Global, a: &Automaton, other: &Automaton) -> Result<bool, PlanFault>
     requires { a.now.sets + other.now.sets < 2 ^ 32 }
     ensures { Examines result (asked.Intersects (automaton_of other.now)) (automaton_of a.now) }
 {
     a.whole();
-    few_pairs_exclude_more();
-    let both = product(alloc, a, other)?;
-    match accepted_word(alloc, &both)? {
-        Some(_) => return Ok(true),
-        None => return Ok(false),
-    }
+    let some = accept_together(alloc, a, other)?;
+    Ok(some)
 }
 
 /// Whether it accepts no word.
 pub(crate) fn accepts_nothing(alloc: Global, a: &Automaton) -> Result<bool, PlanFault>
     ensures { Examines result asked.IsEmpty (automaton_of a.now) }
 {
-    match accepted_word(alloc, a)? {
-        Some(_) => return Ok(false),
-        None => return Ok(true),
-    }
+    let some = accepts_some(alloc, a)?;
+    Ok(!some)
 }

@@ -6,13 +6,14 @@ use Rattle.aut_base.proofs.lists.Members.{each_there}
 use Rattle.aut_base.proofs.Outcomes.{none_said, some_said}
 use Rattle.aut_base.specs.Formula.{FormulaTree, formula_tree}
 use Rattle.lasso_emptiness.specs.declared.live.LiveEdge.{LiveEdge}
+use Rattle.lasso_emptiness.specs.inner.Carriers.{Finds, FindsInAny, IsCarrier}
 use Rattle.lasso_emptiness.specs.inner.Edges.{IsWithin}
 use Rattle.lasso_emptiness.specs.inner.Groups.{IsJoined}
 use Rattle.lasso_emptiness.specs.inner.Judged.{fins}
 use Rattle.lasso_emptiness.specs.inner.Splits.{IsSurveyed}
-use Rattle.lasso_emptiness.specs.inner.Trails.{Finds, FindsInAny, InSome, IsAccepting, NoneAccepting}
+use Rattle.lasso_emptiness.specs.inner.Trails.{InSome, NoneAccepting}
 use Rattle.lasso_emptiness.proofs.conditions.Conditions.{fins-taken}
-use Rattle.lasso_emptiness.proofs.components.Searching.{accepting_weaker, finds_of_groups, finds_of_split, found_off, within_all}
+use Rattle.lasso_emptiness.proofs.components.Searching.{finds_of_groups, finds_of_split, found_off, within_all}
 use Rattle.lasso_emptiness.proofs.search.+search.Goals as goal
 
 pub search-search_in-requires : goal.search-search_in-requires
@@ -49,7 +50,7 @@ search_in-search-requires t c =
     let same = ap fins c.in_ok-holds-in-Open.ensures in
     let Within = IsWithin (length c.args.links.now) c.args.states in (
       omega arith,
-      subst (All Within) (sym c.as_slice-in-Open.ensures) (each_there Within c.in_ok-parts-in-Open.parts.off (λ e here.
+      subst (All Within) (sym c.as_slice.ensures) (each_there Within c.in_ok-parts-in-Open.parts.off (λ e here.
           let some = c.in_ok-parts-in-Open.ensures.off_some e here in
           within_all Within c.args.groups.items c.requires.within some.group (said.1.inside some.group some.listed) e some.here)),
     )
@@ -60,13 +61,13 @@ search_in-returns-in-Some t c =
     let f = formula_tree c.args.condition.now in
     let side = c.in-Open.side in
     let said = subst (IsSurveyed links c.args.groups.items f) c.in-Open.is c.in_ok-group.ensures in
-    let found = some_said (NoneAccepting links (Contains c.as_slice-in-Open.result.now) (formula_tree c.in_ok-holds-in-Open.holds))
-    (IsAccepting links (Contains c.as_slice-in-Open.result.now) (formula_tree c.in_ok-holds-in-Open.holds)) c.in_ok-cycle-in-Open.field-0 c.in-Some.cycle c.in-Some.is
-    c.in_ok-cycle-in-Open.ensures in
-    let off = subst (λ (es : List LiveEdge). IsAccepting links (Contains es) (formula_tree c.in_ok-holds-in-Open.holds) c.in-Some.cycle) c.as_slice-in-Open.ensures found in
+    let found = some_said (NoneAccepting links (Contains c.as_slice.result.now) (formula_tree c.in_ok-holds-in-Open.holds))
+    (IsCarrier links (Contains c.as_slice.result.now) (formula_tree c.in_ok-holds-in-Open.holds)) c.in_ok-group-in-Open.field-0 c.in-Some.group c.in-Some.is
+    c.in_ok-group-in-Open.ensures in
+    let off = subst (λ (es : List LiveEdge). IsCarrier links (Contains es) (formula_tree c.in_ok-holds-in-Open.holds) c.in-Some.group) c.as_slice.ensures found in
     found_off links side.set side.neg f c.args.groups.items c.in-Open.left.items c.in_ok-parts-in-Open.parts.crossed.items c.in_ok-parts-in-Open.parts.off said.1
-    c.in_ok-parts-in-Open.ensures c.in-Some.cycle
-    (subst (λ (g : FormulaTree). IsAccepting links (Contains c.in_ok-parts-in-Open.parts.off) g c.in-Some.cycle) c.in_ok-holds-in-Open.ensures off)
+    c.in_ok-parts-in-Open.ensures c.in-Some.group
+    (subst (λ (g : FormulaTree). IsCarrier links (Contains c.in_ok-parts-in-Open.parts.off) g c.in-Some.group) c.in_ok-holds-in-Open.ensures off)
 
 pub search_in-search_in-requires : goal.search_in-search_in-requires
 search_in-search_in-requires t c =
@@ -84,14 +85,15 @@ search_in-search_in-requires t c =
       ),
     )
 
-pub search_in-returns-in_ok-cycle-in-Met : goal.search_in-returns-in_ok-cycle-in-Met
-search_in-returns-in_ok-cycle-in-Met t c =
-    let links = c.args.links.now in
-    let f = formula_tree c.args.condition.now in
-    let said = subst (IsSurveyed links c.args.groups.items f) c.in-Met.is c.in_ok-group.ensures in
-    accepting_weaker links (Contains c.in-Met.group) (InSome c.args.groups.items) f c.in_ok-cycle-in-Met.cycle
-    (λ e here. record { group = c.in-Met.group; listed = said.listed; here = here })
-    (subst (λ (es : List LiveEdge). IsAccepting links (Contains es) f c.in_ok-cycle-in-Met.cycle) c.as_slice.ensures c.in_ok-cycle-in-Met.ensures)
+pub search_in-returns-in-Met : goal.search_in-returns-in-Met
+search_in-returns-in-Met t c =
+    let said = subst (IsSurveyed c.args.links.now c.args.groups.items (formula_tree c.args.condition.now)) c.in-Met.is c.in_ok-group.ensures in
+    record {
+      some = said.some;
+      kind = λ e here. record { group = c.in-Met.group; listed = said.listed; here = here };
+      joined = All-contains IsJoined c.args.groups.items c.in-Met.group c.requires.joined said.listed;
+      meets = said.meets;
+    }
 
 pub search_in-returns-in_ok-fails-in-Open : goal.search_in-returns-in_ok-fails-in-Open
 search_in-returns-in_ok-fails-in-Open t c =
@@ -101,10 +103,10 @@ search_in-returns-in_ok-fails-in-Open t c =
     let off = c.in_ok-parts-in-Open.parts.off in
     let crossed = c.in_ok-parts-in-Open.parts.crossed.items in
     let said = subst (IsSurveyed links c.args.groups.items f) c.in-Open.is c.in_ok-group.ensures in
-    let none = none_said (NoneAccepting links (Contains c.as_slice-in-Open.result.now) (formula_tree c.in_ok-holds-in-Open.holds))
-    (IsAccepting links (Contains c.as_slice-in-Open.result.now) (formula_tree c.in_ok-holds-in-Open.holds)) c.in_ok-cycle-in-Open.field-0 c.in_default.is c.in_ok-cycle-in-Open.ensures in
+    let none = none_said (NoneAccepting links (Contains c.as_slice.result.now) (formula_tree c.in_ok-holds-in-Open.holds))
+    (IsCarrier links (Contains c.as_slice.result.now) (formula_tree c.in_ok-holds-in-Open.holds)) c.in_ok-group-in-Open.field-0 c.in_default.is c.in_ok-group-in-Open.ensures in
     let none_off = subst (λ (g : FormulaTree). NoneAccepting links (Contains off) g) c.in_ok-holds-in-Open.ensures
-    (subst (λ (es : List LiveEdge). NoneAccepting links (Contains es) (formula_tree c.in_ok-holds-in-Open.holds)) c.as_slice-in-Open.ensures none) in
+    (subst (λ (es : List LiveEdge). NoneAccepting links (Contains es) (formula_tree c.in_ok-holds-in-Open.holds)) c.as_slice.ensures none) in
     IfOk-weaker c.search_in.result (FindsInAny links crossed (formula_tree c.in_ok-fails-in-Open.fails)) (FindsInAny links c.args.groups.items f)
     (λ found finds. finds_of_split links side.set side.neg f c.args.groups.items c.in-Open.left.items crossed off said.1 c.in_ok-parts-in-Open.ensures none_off found
     (subst (λ (g : FormulaTree). FindsInAny links crossed g found) c.in_ok-fails-in-Open.ensures finds))
