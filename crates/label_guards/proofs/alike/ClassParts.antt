@@ -61,7 +61,8 @@ others_part : {s t u : Store} → Grows s t → Grows t u → (place by both oth
     → IsPlaceOf u (λ on. outcome s.nodes on place && not (outcome s.nodes on by)) others
 others_part {s} {t} {u} first second place by both others has_place has_by joined turned = record {
   has = turned.has;
-  truth = λ on. turned.truth on ∙ ((λ j. differs (outcome_kept (grows_on first second) on place has_place j) ((place_kept second _ both (both_part first place by both has_place has_by joined)).truth on j))
+  truth = λ on. turned.truth on ∙ ((λ j. differs (outcome_kept (grows_on first second) on place has_place j)
+      ((place_kept second _ both (both_part first place by both has_place has_by joined)).truth on j))
       ∙ taken (outcome s.nodes on place) (outcome s.nodes on by));
 }
   where
@@ -135,7 +136,7 @@ module _ (alike : Test) (is : IsAlikeness alike) where
   alike_left : (v w : ℕ → Bool) → alike v w ≡ true → (on : ℕ → Bool) → alike v on ≡ alike w on
   alike_left v w h on = both_ways (alike v on) (alike w on) (λ k. joined v w on h k) (λ k. sym (is.same w on k v) ∙ h)
 
--- where fewer are alike, the least valuation of the greater class is that of its own
+-- the least valuation of a class is also that of the smaller class that it is in
 narrowed : {s t : Store} → Grows s t → (alike also : Test) → ((on w : ℕ → Bool) → also on w ≡ true → alike on w ≡ true) → (part : Part) → IsPart s alike part → (q : ℕ)
     → IsPlaceOf t (also (holds_in (bits_of s.names part.number))) q → IsPart t also (record { number = part.number; place = q })
 narrowed {s} {t} grows alike also weaker part is q piece = record {
@@ -282,7 +283,8 @@ module _ {old s t : Store} (first : Grows old s) (second : Grows s t) (alike : T
     left = λ k d from to.
         let other : k ≢ index = omega arith in
         let within : k < length before = let a = way.within in omega arith in
-        subst (IsPart t alike) (sym (get_or-set_other more index k kept d other ∙ get_or_append_left before (half.rest ∷ []) d k within)) (part_kept second alike _ (way.left k d (omega (arith, from)) to));
+        subst (IsPart t alike) (sym (get_or-set_other more index k kept d other ∙ get_or_append_left before (half.rest ∷ []) d k within))
+        (part_kept second alike _ (way.left k d (omega (arith, from)) to));
     split = split;
     one = λ on. sym (ap (count_true t on) half.made) ∙ (count_halved second before after index by has half on ∙ way.one on);
   })
