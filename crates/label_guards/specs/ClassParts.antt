@@ -45,10 +45,14 @@ pub record AreSplit (old s : Store) (list : List Guard) (most : ℕ) (parts : Li
   pub are : AreParts s (agree old (take count list)) parts
   pub all : length parts ≤ most → take count list ≡ list
 
--- the guard has the same truth wherever the place is true
+-- the guard has this truth wherever the place is true
+abbrev pub HasSide : Store → ℕ → ℕ → Bool → Type 0
+HasSide s place by side = (on : ℕ → Bool) → outcome s.nodes on place ≡ true → outcome s.nodes on by ≡ side
+
+-- it has the same truth there
 pub record IsOneSided (s : Store) (place by : ℕ) : Type 0 where
   pub side : Bool
-  pub same : (on : ℕ → Bool) → outcome s.nodes on place ≡ true → outcome s.nodes on by ≡ side
+  pub same : HasSide s place by side
 
 -- the truth of the guard at the least valuation of the part
 abbrev pub side_of : Store → Part → ℕ → Bool

@@ -1,5 +1,5 @@
 -- How the parts of what may hold are split by one guard more.
-use Rattle.std.proofs.Common.{◌≡◌, ◌⊎◌, ℕ, ◌+◌, ◌<◌, ◌≤◌, ◌≢◌, ◌∙◌, Bool, true, false, not, ◌&&◌, cond, List, [], ◌∷◌, ◌++◌, length, set, take, get_or, All, Option, Some, None, count_by}
+use Rattle.std.proofs.Common.{◌≡◌, ◌⊎◌, ℕ, ◌+◌, ◌<◌, ◌≤◌, ◌≢◌, ◌∙◌, Bool, true, false, not, ◌&&◌, cond, nat_eq, List, [], ◌∷◌, ◌++◌, length, set, take, get_or, All, Option, Some, None, count_by}
 use Rattle.std.proofs.Common.{slice_get, inl, inr, refl, sym, ap, subst, arith}
 use Rattle.std.proofs.Math.Decide.{dec_lt, ℕ_discrete}
 use Rattle.std.proofs.lemmas.Bool.{and_parts, false≢true}
@@ -8,7 +8,7 @@ use Rattle.std.proofs.lemmas.List.Elements.{All-from_recursion, All-push, All-se
 use Rattle.std.proofs.lemmas.List.Folds.{list_all-append}
 use Rattle.std.proofs.lemmas.List.Sums.{sum_by-cons, sum_by-set, sum_by_push}
 use Rattle.std.proofs.lemmas.Option.{get_or_from_slice_get, slice_get_within}
-use Rattle.std.specs.Bool.{beq}
+use Rattle.std.specs.Bool.{OnTrue, beq}
 use Rattle.std.specs.Cmp.{booleans_Decides, both_ways}
 use Rattle.std.specs.List.{AllByRecursion, list_all}
 use Rattle.aut_base.proofs.lists.Lists.{take-slice_get}
@@ -18,7 +18,7 @@ use Rattle.aut_base.specs.Valuation.{holds_in, number_of, valuation_of}
 use Rattle.label_guards.specs.declared.classes.Part.{Part}
 use Rattle.label_guards.specs.declared.guard.Guard.{Guard}
 use Rattle.label_guards.specs.declared.guards.Operation.TheVariants.{And, Xor}
-use Rattle.label_guards.specs.ClassParts.{AreHalves, AreParts, IsAlikeness, IsFirst, IsHalved, IsOneSided, IsPart, IsSplit, IsWhole, Test, also_by, side_of}
+use Rattle.label_guards.specs.ClassParts.{AreHalves, AreParts, HasSide, IsAlikeness, IsFirst, IsHalved, IsOneSided, IsPart, IsSplit, IsWhole, Test, also_by, side_of}
 use Rattle.label_guards.specs.Classes.{agree}
 use Rattle.label_guards.specs.Leasts.{IsLeastAt, IsLeastNumber, IsLeastOf, bits_of}
 use Rattle.label_guards.specs.Nodes.{Grows, IsReduced}
@@ -61,7 +61,8 @@ others_part : {s t u : Store} → Grows s t → Grows t u → (place by both oth
     → IsPlaceOf u (λ on. outcome s.nodes on place && not (outcome s.nodes on by)) others
 others_part {s} {t} {u} first second place by both others has_place has_by joined turned = record {
   has = turned.has;
-  truth = λ on. turned.truth on ∙ ((λ j. differs (outcome_kept (grows_on first second) on place has_place j) ((place_kept second _ both (both_part first place by both has_place has_by joined)).truth on j))
+  truth = λ on. turned.truth on ∙ ((λ j. differs (outcome_kept (grows_on first second) on place has_place j)
+      ((place_kept second _ both (both_part first place by both has_place has_by joined)).truth on j))
       ∙ taken (outcome s.nodes on place) (outcome s.nodes on by));
 }
   where
@@ -88,6 +89,19 @@ is_false : (b : Bool) → not b ≡ beq false b
 is_false true = refl
 is_false false = refl
 
+-- where nothing is left of the part, and where nothing is left to ask of the guard
+pub never_side : (s : Store) (place by : ℕ) (side : Bool) → place ≡ 0 → HasSide s place by side
+never_side s place by side e = λ on met. absurd (false≢true (sym (ap (outcome s.nodes on) e ∙ outcome-false s.nodes on) ∙ met))
+
+pub end_side : (s : Store) (place by : ℕ) (side : Bool) → by < 2 → OnTrue (beq (nat_eq by 1) side) (HasSide s place by side)
+end_side s place by side within = this (nat_eq by 1) refl side
+  where
+    this : (b : Bool) → nat_eq by 1 ≡ b → (side : Bool) → OnTrue (beq b side) (HasSide s place by side)
+    this true e true = let same : by ≡ 1 = grind arith in λ on met. ap (outcome s.nodes on) same ∙ outcome-true s.nodes on
+    this true e false = tt
+    this false e true = tt
+    this false e false = let same : by ≡ 0 = grind arith in λ on met. ap (outcome s.nodes on) same ∙ outcome-false s.nodes on
+
 -- which half has the least valuation
 module _ {s t u : Store} (first : Grows s t) (second : Grows t u) (part : Part) (by both others : ℕ) (has_place : HasPlace s part.place) (has_by : HasPlace s by)
     (joined : IsJoin t And part.place by both) (turned : IsJoin u Xor part.place both others) where
@@ -97,28 +111,19 @@ module _ {s t u : Store} (first : Grows s t) (second : Grows t u) (part : Part) 
   is_others : IsPlaceOf u (λ on. outcome s.nodes on part.place && not (outcome s.nodes on by)) others
   is_others = others_part first second part.place by both others has_place has_by joined turned
 
-  was_side : (b : Bool) → outcome u.nodes (holds_in (bits_of u.names part.number)) by ≡ b → side_of s part by ≡ b
-  was_side b e =
-      let grows = grows_on first second in
-      sym (outcome_kept grows (holds_in (bits_of s.names part.number)) by has_by) ∙ (sym (ap (λ (n : ℕ). outcome u.nodes (holds_in (bits_of n part.number)) by) grows.names) ∙ e)
+  pub both_kept : side_of s part by ≡ true → AreHalves s u part by both others
+  both_kept side = record {
+    is_kept = place_same u _ _ both (λ on. ap (λ b. outcome s.nodes on part.place && b) (is_true (outcome s.nodes on by) ∙ ap (λ b. beq b (outcome s.nodes on by)) (sym side))) is_both;
+    is_rest = place_same u _ _ others
+        (λ on. ap (λ b. outcome s.nodes on part.place && b) (is_false (outcome s.nodes on by) ∙ ap (λ b. beq (not b) (outcome s.nodes on by)) (sym side))) is_others;
+  }
 
-  pub both_kept : outcome u.nodes (holds_in (bits_of u.names part.number)) by ≡ true → AreHalves s u part by both others
-  both_kept e =
-      let side = was_side true e in
-      record {
-        is_kept = place_same u _ _ both (λ on. ap (λ b. outcome s.nodes on part.place && b) (is_true (outcome s.nodes on by) ∙ ap (λ b. beq b (outcome s.nodes on by)) (sym side))) is_both;
-        is_rest = place_same u _ _ others
-            (λ on. ap (λ b. outcome s.nodes on part.place && b) (is_false (outcome s.nodes on by) ∙ ap (λ b. beq (not b) (outcome s.nodes on by)) (sym side))) is_others;
-      }
-
-  pub others_kept : outcome u.nodes (holds_in (bits_of u.names part.number)) by ≡ false → AreHalves s u part by others both
-  others_kept e =
-      let side = was_side false e in
-      record {
-        is_kept = place_same u _ _ others (λ on. ap (λ b. outcome s.nodes on part.place && b) (is_false (outcome s.nodes on by) ∙ ap (λ b. beq b (outcome s.nodes on by)) (sym side))) is_others;
-        is_rest = place_same u _ _ both
-            (λ on. ap (λ b. outcome s.nodes on part.place && b) (is_true (outcome s.nodes on by) ∙ ap (λ b. beq (not b) (outcome s.nodes on by)) (sym side))) is_both;
-      }
+  pub others_kept : side_of s part by ≡ false → AreHalves s u part by others both
+  others_kept side = record {
+    is_kept = place_same u _ _ others (λ on. ap (λ b. outcome s.nodes on part.place && b) (is_false (outcome s.nodes on by) ∙ ap (λ b. beq b (outcome s.nodes on by)) (sym side))) is_others;
+    is_rest = place_same u _ _ both
+        (λ on. ap (λ b. outcome s.nodes on part.place && b) (is_true (outcome s.nodes on by) ∙ ap (λ b. beq (not b) (outcome s.nodes on by)) (sym side))) is_both;
+  }
 
 module _ (alike : Test) (is : IsAlikeness alike) where
   pub turned : (on also : ℕ → Bool) → alike on also ≡ true → alike also on ≡ true
@@ -131,7 +136,7 @@ module _ (alike : Test) (is : IsAlikeness alike) where
   alike_left : (v w : ℕ → Bool) → alike v w ≡ true → (on : ℕ → Bool) → alike v on ≡ alike w on
   alike_left v w h on = both_ways (alike v on) (alike w on) (λ k. joined v w on h k) (λ k. sym (is.same w on k v) ∙ h)
 
--- where fewer are alike, the least valuation of the greater class is that of its own
+-- the least valuation of a class is also that of the smaller class that it is in
 narrowed : {s t : Store} → Grows s t → (alike also : Test) → ((on w : ℕ → Bool) → also on w ≡ true → alike on w ≡ true) → (part : Part) → IsPart s alike part → (q : ℕ)
     → IsPlaceOf t (also (holds_in (bits_of s.names part.number))) q → IsPart t also (record { number = part.number; place = q })
 narrowed {s} {t} grows alike also weaker part is q piece = record {
@@ -278,7 +283,8 @@ module _ {old s t : Store} (first : Grows old s) (second : Grows s t) (alike : T
     left = λ k d from to.
         let other : k ≢ index = omega arith in
         let within : k < length before = let a = way.within in omega arith in
-        subst (IsPart t alike) (sym (get_or-set_other more index k kept d other ∙ get_or_append_left before (half.rest ∷ []) d k within)) (part_kept second alike _ (way.left k d (omega (arith, from)) to));
+        subst (IsPart t alike) (sym (get_or-set_other more index k kept d other ∙ get_or_append_left before (half.rest ∷ []) d k within))
+        (part_kept second alike _ (way.left k d (omega (arith, from)) to));
     split = split;
     one = λ on. sym (ap (count_true t on) half.made) ∙ (count_halved second before after index by has half on ∙ way.one on);
   })
