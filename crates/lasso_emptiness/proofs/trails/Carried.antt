@@ -1,5 +1,5 @@
 -- Joined edges that together meet a condition carry an accepting closed path, and where they are reached an accepted word.
-use Rattle.std.proofs.Common.{◌≡◌, ◌∙◌, ◌↔◌, ℕ, zero, suc, ◌+◌, ◌<◌, ◌≤◌, Bool, true, false, List, [], ◌∷◌, ◌++◌, length, map, take, Option, None, Some, is_some, ap, arith, refl, subst, sym}
+use Rattle.std.proofs.Common.{◌≡◌, ◌∙◌, ◌↔◌, ℕ, zero, suc, ◌+◌, ◌<◌, ◌≤◌, Bool, List, [], ◌∷◌, ◌++◌, length, map, take, Option, None, Some, is_some, ap, arith, refl, subst, sym}
 use Rattle.std.specs.List.{All, Contains, list_all, list_any}
 use Rattle.std.specs.Prelude.{IsTrue, MatchOption}
 use Rattle.std.proofs.lemmas.Bool.{true≢false}
@@ -7,7 +7,7 @@ use Rattle.std.proofs.lemmas.List.Elements.{All-contains, All-contains_itself, C
 use Rattle.aut_base.proofs.lists.Members.{any_found, any_from, each_from, each_is, first_there, from_map, later_there, there_map}
 use Rattle.aut_base.proofs.numbers.Truth.{same_truth}
 use Rattle.aut_base.proofs.words.SameEdges.{Alike, met_alike}
-use Rattle.aut_base.specs.Formula.{FormulaTree, met}
+use Rattle.aut_base.specs.Formula.{FormulaTree}
 use Rattle.aut_base.specs.Word.{NameSet}
 use Rattle.aut_core.specs.Core.{Core, IsCore, automaton_of}
 use Rattle.aut_core.specs.declared.link.Link.{Link}
@@ -15,11 +15,11 @@ use Rattle.graph_walk.specs.Walk.{IsWalk, Reaches}
 use Rattle.lasso_emptiness.specs.Emptiness.{AcceptsNothing, AcceptsSome}
 use Rattle.lasso_emptiness.specs.declared.live.LiveEdge.{LiveEdge}
 use Rattle.lasso_emptiness.specs.inner.Carriers.{IsCarrier}
-use Rattle.lasso_emptiness.specs.inner.Edges.{arc_of, marks_of, met_along}
+use Rattle.lasso_emptiness.specs.inner.Edges.{arc_of, marks_of}
 use Rattle.lasso_emptiness.specs.inner.Groups.{IsJoined}
 use Rattle.lasso_emptiness.specs.inner.Letters.{AreLettersOf, IsOwnWord}
 use Rattle.lasso_emptiness.specs.inner.Live.{ArePassable, IsPassable, IsReachedEdge}
-use Rattle.lasso_emptiness.specs.inner.Tours.{IsStem, IsTour, edge_at}
+use Rattle.lasso_emptiness.specs.inner.Tours.{IsTour, edge_at}
 use Rattle.lasso_emptiness.specs.inner.Trails.{IsAccepting, IsTrail}
 use Rattle.lasso_emptiness.proofs.trails.Accepted.{own_word}
 use Rattle.lasso_emptiness.proofs.trails.Lettered.{letter_for, letters_long}
@@ -47,9 +47,11 @@ record PassesFirst (edges : List LiveEdge) (i first : ℕ) : Type 0 where
 tour_of_all : (edges : List LiveEdge) → 0 < length edges → IsJoined edges → (cycle : List LiveEdge) × IsTour edges edges cycle
 tour_of_all edges some joined =
     let whole = passes (length edges) (omega arith) in
-    let back = path_to edges whole.at first (whole.so_far.goes_on (edge_at edges 0) first_here) in
-    (whole.cycle ++ back.0, tours_all edges edges whole.cycle (whole.cycle ++ back.0) (length edges) first whole.at some (omega arith) whole.so_far
-        (record { way = back.0; added = refl; leads = back.1 }))
+    let back = path_to edges whole.at first (whole.so_far.goes_on (edge_at edges 0) first_here) in (
+      whole.cycle ++ back.0,
+      tours_all edges edges whole.cycle (whole.cycle ++ back.0) (length edges) first whole.at some (omega arith) whole.so_far
+          (record { way = back.0; added = refl; leads = back.1 }),
+    )
   where
     first : ℕ
     first = (edge_at edges 0).from
@@ -91,8 +93,7 @@ carried_path : (links : List Link) (Kind : LiveEdge → Type 0) (f : FormulaTree
 carried_path links Kind f group carrier =
     let tour = tour_of_all group carrier.some carrier.joined in
     let cycle = tour.0 in
-    let on : (e : LiveEdge) → Contains cycle e → Contains group e = λ e here. trail_kind (Contains group) tour.1.state tour.1.state cycle e tour.1.closed here in
-    (
+    let on : (e : LiveEdge) → Contains cycle e → Contains group e = λ e here. trail_kind (Contains group) tour.1.state tour.1.state cycle e tour.1.closed here in (
       cycle,
       record {
         some = tour.1.some;

@@ -1,4 +1,4 @@
-use Rattle.std.proofs.Common.{◌∙◌, ◌<◌, List, length, map, subst, sym}
+use Rattle.std.proofs.Common.{◌∙◌, List, length, map, subst, sym}
 use Rattle.std.specs.List.{All, Contains}
 use Rattle.aut_base.proofs.lists.Members.{each_there}
 use Rattle.aut_base.proofs.Outcomes.{some_said}

@@ -1,4 +1,4 @@
-use Rattle.std.proofs.Common.{◌<◌, List, Option, None, Some, length, subst, sym}
+use Rattle.std.proofs.Common.{◌<◌, List, length, subst, sym}
 use Rattle.std.specs.List.{All, Contains}
 use Rattle.std.specs.Prelude.{MatchOption}
 use Rattle.std.proofs.lemmas.Result.{IfOk-weaker}

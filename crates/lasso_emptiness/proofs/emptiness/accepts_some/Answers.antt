@@ -1,5 +1,4 @@
-use Rattle.std.proofs.Common.{List, subst, sym}
-use Rattle.lasso_emptiness.specs.declared.live.LiveEdge.{LiveEdge}
+use Rattle.std.proofs.Common.{subst, sym}
 use Rattle.lasso_emptiness.specs.inner.Live.{ArePassable}
 use Rattle.lasso_emptiness.proofs.trails.Carried.{some_accepted}
 use Rattle.lasso_emptiness.proofs.emptiness.accepts_some.Goals as goal

@@ -11,7 +11,7 @@ use Rattle.lasso_emptiness.specs.inner.Edges.{IsWithin}
 use Rattle.lasso_emptiness.specs.inner.Groups.{IsJoined}
 use Rattle.lasso_emptiness.specs.inner.Judged.{fins}
 use Rattle.lasso_emptiness.specs.inner.Splits.{IsSurveyed}
-use Rattle.lasso_emptiness.specs.inner.Trails.{InSome, NoneAccepting}
+use Rattle.lasso_emptiness.specs.inner.Trails.{NoneAccepting}
 use Rattle.lasso_emptiness.proofs.conditions.Conditions.{fins-taken}
 use Rattle.lasso_emptiness.proofs.components.Searching.{finds_of_groups, finds_of_split, found_off, within_all}
 use Rattle.lasso_emptiness.proofs.search.+search.Goals as goal
