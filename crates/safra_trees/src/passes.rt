@@ -84,7 +84,11 @@ fn home_of(parents: &[u32], own: &[bool], homes: &[u32], name: u32) -> u32
 }
 
 /// For each of so many names whether the states of a claim end up at it.
-pub(crate) fn staying(room: Vec<bool>, homes: &[u32], claims: &[u32]) -> Result<Vec<bool>, AllocError>
+pub(crate) fn staying(
+    room: Vec<bool>,
+    homes: &[u32],
+    claims: &[u32],
+) -> Result<Vec<bool>, AllocError>
     requires few { length homes.now < 2 ^ 32 }
     requires low { All (λ x. x < length homes.now) homes.now }
     ensures size { IfOk result (λ stay. length stay.items ≡ length homes.now) }

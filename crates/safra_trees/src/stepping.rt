@@ -69,12 +69,7 @@ pub fn step(
 }
 
 /// Which names claim states, and which stay.
-fn passes(
-    states: u32,
-    tree: &SafraTree,
-    moves: &[Move],
-    room: Room,
-) -> Result<Room, AllocError>
+fn passes(states: u32, tree: &SafraTree, moves: &[Move], room: Room) -> Result<Room, AllocError>
     requires states { All (λ s. s < states) (root_states (tree_of tree.now)) }
     requires moves { All (IsWithin states) moves.now }
     ensures { IfOk result (λ found. ArePasses (grown states moves.now (tree_of tree.now)) found.claims.items found.own.items found.homes.items found.stay.items) }

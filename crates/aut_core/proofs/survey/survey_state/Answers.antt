@@ -32,7 +32,8 @@ pub returns-then-not-known-clause-found : goal.returns-then-not-known-clause-fou
 returns-then-not-known-clause-found c =
     let xs = c.args.links.now in
     let k = c.links.link-index in
-    looked_enough c.args.names.now c.args.store.now c.links.store (take k xs) (drop k xs) xs c.links.met c.args.known c.links.apart (sym (take-append-drop k xs)) c.if-not-apart.true c.if-not-known.true
+    looked_enough c.args.names.now c.args.store.now c.links.store (take k xs) (drop k xs) xs c.links.met c.args.known c.links.apart (sym (take-append-drop k xs)) c.if-not-apart.true
+    c.if-not-known.true
     c.links.invariant
 
 pub returns-then-known-clause-found : goal.returns-then-known-clause-found
