@@ -5,7 +5,9 @@ ghost use Rattle.std.specs.Option.{option_copied};
 ghost use Rattle.hoa_parser.specs.Naming.{name_of};
 ghost use Rattle.hoa_parser.specs.Raw.{raw_list, raw_tree, written};
 
-use aut_base::{Formula, Memory, Numbers, Seq, Text, Words};
+use crate::FewNumbers;
+use aut_base::{Formula, Memory, Seq, Text, Words};
+use hoa_lexer::Name;
 use std::alloc::Global;
 
 /// A label as it is written; an alias stands for the label that it was defined as.
@@ -15,7 +17,7 @@ pub enum RawLabel {
     True,
     False,
     Prop(u32),
-    Alias(Text),
+    Alias(Name),
     Not(Box<RawLabel>),
     And(RawLabels),
     Or(RawLabels),
@@ -81,16 +83,16 @@ impl RawLabels {
 pub enum Item {
     States(u32),
     /// The states of one `Start:` line, joined by `&`.
-    Start(Numbers),
+    Start(FewNumbers),
     Ap { count: u32, names: Words },
-    Alias { name: Text, label: RawLabel },
+    Alias { name: Name, label: RawLabel },
     Acceptance { sets: u32, formula: Formula },
     AccName,
     Tool,
     Name(Text),
-    Properties(Words),
+    Properties(Seq<Name>),
     /// A header of a name that HOA v1 doesn't give a meaning.
-    Other(Text),
+    Other(Name),
 }
 
 /// The items of a header, in order.
@@ -101,8 +103,8 @@ pub type Items = Seq<Item>;
 pub struct RawEdge {
     pub label: Option<RawLabel>,
     /// The goals, joined by `&`.
-    pub to: Numbers,
-    pub marks: Numbers,
+    pub to: FewNumbers,
+    pub marks: FewNumbers,
 }
 
 /// The edges of a state, in order.
@@ -113,7 +115,7 @@ pub type RawEdges = Seq<RawEdge>;
 pub struct RawState {
     pub label: Option<RawLabel>,
     pub number: u32,
-    pub marks: Numbers,
+    pub marks: FewNumbers,
     pub edges: RawEdges,
 }
 
@@ -124,7 +126,7 @@ pub type RawStates = Seq<RawState>;
 #[derive(Debug, Drop)]
 pub struct Raw {
     /// The identifier after `HOA:`.
-    pub version: Text,
+    pub version: Name,
     pub items: Items,
     pub states: RawStates,
 }

@@ -60,7 +60,7 @@ fn show_item(alloc: Global, line: &mut Text, item: &Item) -> Result<(), Memory> 
         }
         Item::Alias { name, label } => {
             line.extend(b"; alias")?;
-            show_text(line, name)?;
+            show_text(line, name.as_bytes())?;
             line.push(b' ')?;
             show_label(alloc, line, label)
         }
@@ -73,15 +73,18 @@ fn show_item(alloc: Global, line: &mut Text, item: &Item) -> Result<(), Memory> 
         Item::Tool => line.extend(b"; tool"),
         Item::Name(text) => {
             line.extend(b"; name")?;
-            show_text(line, text)
+            show_text(line, text.as_bytes())
         }
         Item::Properties(words) => {
             line.extend(b"; properties")?;
-            show_texts(line, words.as_slice())
+            for word in words.as_slice() {
+                show_text(line, word.as_bytes())?;
+            }
+            Ok(())
         }
         Item::Other(name) => {
             line.extend(b"; other")?;
-            show_text(line, name)
+            show_text(line, name.as_bytes())
         }
     }
 }

@@ -11,9 +11,9 @@ ghost use Rattle.hoa_parser.specs.Raw.{raw_tree};
 
 use super::tokens::{advance, closing_paren, refused, take};
 use crate::{RawLabel, RawLabels, ReadFault};
-use aut_base::{MOST_DEPTH, Text};
+use aut_base::MOST_DEPTH;
 use aut_io::Inputs;
-use hoa_lexer::{Lexer, Token};
+use hoa_lexer::{Lexer, Name, Token};
 use std::alloc::Global;
 
 /// label = land ("|" land)*, where `depth` of `(` and `!` are open
@@ -248,7 +248,7 @@ fn atom_of(token: Token) -> Option<RawLabel>
 
 /// "t" | "f"
 #[tactic(auto, using(crate::proofs::grammar::RawTrees::raw_tree_rules))]
-fn truth_value(word: &Text) -> Option<RawLabel>
+fn truth_value(word: &Name) -> Option<RawLabel>
     ensures { option_map raw_tree result ≡ truth_value word.now }
 {
     if word.is(b"t") {

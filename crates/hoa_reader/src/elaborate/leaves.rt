@@ -172,7 +172,7 @@ fn defined<'a>(alloc: Global, defs: &[AliasDef<'a>]) -> Result<Option<Places<'a,
         if !aliases_among(def.label, &names) {
             return Ok(None);
         }
-        if !names.add(def.name, ())? {
+        if !names.add(def.name.as_bytes(), ())? {
             return Ok(None);
         }
     }
