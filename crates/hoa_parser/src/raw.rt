@@ -1,6 +1,6 @@
 //! An automaton as its text writes it, before any rule is checked (HOA v1, Grammar).
 
-ghost use Rattle.std.specs.Prelude.{◌≡◌, ◌<◌, [], ◌∷◌, ◌++◌, length, IfOk, OnOk, OnErr, slice_get};
+ghost use Rattle.std.specs.Prelude.{◌≡◌, ◌<◌, [], ◌∷◌, ◌++◌, length, OnOk, OnErr, slice_get};
 ghost use Rattle.std.specs.Option.{option_copied};
 ghost use Rattle.hoa_parser.specs.Naming.{name_of};
 ghost use Rattle.hoa_parser.specs.Raw.{raw_list, raw_tree, written};
@@ -17,34 +17,34 @@ pub enum RawLabel {
     True,
     False,
     Prop(u32),
+    /// A proposition behind `!`: most negations are of one, and this takes no box.
+    Negated(u32),
     Alias(Name),
     Not(Box<RawLabel>),
-    And(RawLabels),
-    Or(RawLabels),
+    And(Box<RawLabels>),
+    Or(Box<RawLabels>),
 }
 
 /// The parts of a conjunction or disjunction: at least two.
 #[cycle(raw_label)]
 #[derive(Debug, Drop)]
 pub struct RawLabels {
-    pub first: Box<RawLabel>,
-    pub second: Box<RawLabel>,
+    pub first: RawLabel,
+    pub second: RawLabel,
     pub others: Vec<RawLabel>,
 }
 
 #[tactic(auto, using(crate::proofs::grammar::RawTrees::raw_tree_rules))]
 impl RawLabels {
     /// These two parts.
-    pub fn pair(alloc: Global, first: RawLabel, second: RawLabel) -> Result<RawLabels, Memory>
-        ensures { IfOk result (λ new. raw_list new ≡ raw_tree first ∷ raw_tree second ∷ []) }
+    pub fn pair(alloc: Global, first: RawLabel, second: RawLabel) -> RawLabels
+        ensures { raw_list result ≡ raw_tree first ∷ raw_tree second ∷ [] }
     {
-        let first = Box::new(alloc, first)?;
-        let second = Box::new(alloc, second)?;
-        Ok(RawLabels {
+        RawLabels {
             first,
             second,
             others: Vec::new(alloc),
-        })
+        }
     }
 
     /// Adds a part at the end. Refused for want of memory, it drops the part and leaves the others as they were.

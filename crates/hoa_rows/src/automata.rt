@@ -13,6 +13,10 @@ fn show_label(alloc: Global, line: &mut Text, label: &RawLabel) -> Result<(), Me
         RawLabel::True => line.push(b't'),
         RawLabel::False => line.push(b'f'),
         RawLabel::Prop(place) => show_number(alloc, line, u64::from(*place)),
+        RawLabel::Negated(place) => {
+            line.push(b'!')?;
+            show_number(alloc, line, u64::from(*place))
+        }
         RawLabel::Alias(name) => {
             line.push(b'@')?;
             line.extend(name.as_bytes())

@@ -45,6 +45,7 @@ pub(crate) fn growth_of<'a>(label: &'a RawLabel, known: &Places<'a, Known>) -> G
         RawLabel::True => Growth { height: 1, size: 1 },
         RawLabel::False => Growth { height: 1, size: 1 },
         RawLabel::Prop(_) => Growth { height: 1, size: 1 },
+        RawLabel::Negated(_) => one_more(Growth { height: 1, size: 1 }),
         RawLabel::Alias(name) => match known.find(name) {
             Some(known) => Growth {
                 height: known.height,
@@ -115,6 +116,7 @@ fn alias_in(label: &RawLabel) -> Option<&Name>
         RawLabel::True => None,
         RawLabel::False => None,
         RawLabel::Prop(_) => None,
+        RawLabel::Negated(_) => None,
         RawLabel::Not(_) => None,
         RawLabel::And(_) => None,
         RawLabel::Or(_) => None,
