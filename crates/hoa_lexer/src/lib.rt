@@ -1,13 +1,14 @@
 //! The tokens of HOA v1, read byte by byte: each the longest that the bytes allow, and not one byte more is
 //! taken than tells that it ends.
 //!
-//! A caller sees the lexer, its tokens and faults, and laws. What the next token of a text is stands in `specs/Text` and
-//! `specs/Spelling`, what an answer says in these terms in `specs/Reading`, and what each call counts in `specs/Moves`.
-//! `specs/Blanks` and `Bytes` say what stands between tokens; `specs/inner` speaks of the inner functions.
+//! A caller sees the lexer, its tokens with their names, its faults, and laws. What the next token of a text is stands in
+//! `specs/Text` and `specs/Spelling`, what an answer says in these terms in `specs/Reading`, and what each call counts in
+//! `specs/Moves`. `specs/Blanks` and `Bytes` say what stands between tokens; `specs/inner` speaks of the inner functions.
 #![tactic(auto)]
 
 mod laws;
 mod lexer;
+mod name;
 mod token;
 
 pub use laws::{
@@ -15,4 +16,5 @@ pub use laws::{
     token_examples,
 };
 pub use lexer::Lexer;
+pub use name::Name;
 pub use token::{LexFault, Token};

@@ -3,6 +3,7 @@
 ghost use Rattle.std.specs.Prelude.{◌≡◌};
 ghost use Rattle.hoa_lexer.specs.declared.token.LexFault.{LexFault};
 
+use crate::Name;
 use aut_base::{Memory, Text};
 
 // Why so: 'An alias token holds its name without the `@`' in docs/DECISIONS.md.
@@ -10,13 +11,13 @@ use aut_base::{Memory, Text};
 #[derive(Debug, Drop)]
 pub enum Token {
     /// A header's name, without the colon.
-    HeaderName(Text),
-    Identifier(Text),
+    HeaderName(Name),
+    Identifier(Name),
     /// A string, without its quotes and with its escapes resolved.
     Str(Text),
     Int(u32),
     /// An alias, without the `@`.
-    Alias(Text),
+    Alias(Name),
     Bang,
     Amp,
     Bar,

@@ -42,18 +42,19 @@ abbrev pub tree_step : RawLabel-F RawTree RawParts → RawTree
 tree_step RawLabel-F.True = True
 tree_step RawLabel-F.False = False
 tree_step (RawLabel-F.Prop i) = Prop i
+tree_step (RawLabel-F.Negated i) = Not (Prop i)
 tree_step (RawLabel-F.Alias name) = Alias name
 tree_step (RawLabel-F.Not t) = Not t.value
-tree_step (RawLabel-F.And p) = And p.first p.second (raw_trees p.others)
-tree_step (RawLabel-F.Or p) = Or p.first p.second (raw_trees p.others)
+tree_step (RawLabel-F.And p) = And p.value.first p.value.second (raw_trees p.value.others)
+tree_step (RawLabel-F.Or p) = Or p.value.first p.value.second (raw_trees p.value.others)
 
 -- the tree of a label
 abbrev pub raw_tree : RawLabel → RawTree
-raw_tree = fold-RawLabel RawTree RawParts tree_step (λ ls. record { first = ls.first.value; second = ls.second.value; others = ls.others.items })
+raw_tree = fold-RawLabel RawTree RawParts tree_step (λ ls. record { first = ls.first; second = ls.second; others = ls.others.items })
 
 -- the parts of a conjunction or disjunction
 abbrev pub raw_parts : RawLabels → RawParts
-raw_parts = fold-RawLabels RawTree RawParts tree_step (λ ls. record { first = ls.first.value; second = ls.second.value; others = ls.others.items })
+raw_parts = fold-RawLabels RawTree RawParts tree_step (λ ls. record { first = ls.first; second = ls.second; others = ls.others.items })
 
 -- the same as one list, of two parts or more
 abbrev pub raw_list : RawLabels → List RawTree

@@ -3,7 +3,7 @@
 ghost use Rattle.std.specs.Prelude.{◌≡◌};
 ghost use Rattle.hoa_parser.specs.Grammar.{header_of};
 
-use aut_base::Text;
+use hoa_lexer::Name;
 
 /// What the name of a header says about what follows it.
 #[derive(Clone, Copy, Debug, PartialEq, Eq)]
@@ -25,7 +25,7 @@ pub enum Header {
 }
 
 /// The header of this name. `State` is asked first: a body has one for each of its states.
-pub(crate) fn header_named(name: &Text) -> Header
+pub(crate) fn header_named(name: &Name) -> Header
     ensures { result ≡ header_of name.now }
 {
     if name.is(b"State") {

@@ -1,11 +1,13 @@
 //! An automaton as its text writes it, before any rule is checked (HOA v1, Grammar).
 
-ghost use Rattle.std.specs.Prelude.{◌≡◌, ◌<◌, [], ◌∷◌, ◌++◌, length, IfOk, OnOk, OnErr, slice_get};
+ghost use Rattle.std.specs.Prelude.{◌≡◌, ◌<◌, [], ◌∷◌, ◌++◌, length, OnOk, OnErr, slice_get};
 ghost use Rattle.std.specs.Option.{option_copied};
 ghost use Rattle.hoa_parser.specs.Naming.{name_of};
 ghost use Rattle.hoa_parser.specs.Raw.{raw_list, raw_tree, written};
 
-use aut_base::{Formula, Memory, Numbers, Seq, Text, Words};
+use crate::FewNumbers;
+use aut_base::{Formula, Memory, Seq, Text, Words};
+use hoa_lexer::Name;
 use std::alloc::Global;
 
 /// A label as it is written; an alias stands for the label that it was defined as.
@@ -15,34 +17,34 @@ pub enum RawLabel {
     True,
     False,
     Prop(u32),
-    Alias(Text),
+    /// A proposition behind `!`: most negations are of one, and this takes no box.
+    Negated(u32),
+    Alias(Name),
     Not(Box<RawLabel>),
-    And(RawLabels),
-    Or(RawLabels),
+    And(Box<RawLabels>),
+    Or(Box<RawLabels>),
 }
 
 /// The parts of a conjunction or disjunction: at least two.
 #[cycle(raw_label)]
 #[derive(Debug, Drop)]
 pub struct RawLabels {
-    pub first: Box<RawLabel>,
-    pub second: Box<RawLabel>,
+    pub first: RawLabel,
+    pub second: RawLabel,
     pub others: Vec<RawLabel>,
 }
 
 #[tactic(auto, using(crate::proofs::grammar::RawTrees::raw_tree_rules))]
 impl RawLabels {
     /// These two parts.
-    pub fn pair(alloc: Global, first: RawLabel, second: RawLabel) -> Result<RawLabels, Memory>
-        ensures { IfOk result (λ new. raw_list new ≡ raw_tree first ∷ raw_tree second ∷ []) }
+    pub fn pair(alloc: Global, first: RawLabel, second: RawLabel) -> RawLabels
+        ensures { raw_list result ≡ raw_tree first ∷ raw_tree second ∷ [] }
     {
-        let first = Box::new(alloc, first)?;
-        let second = Box::new(alloc, second)?;
-        Ok(RawLabels {
+        RawLabels {
             first,
             second,
             others: Vec::new(alloc),
-        })
+        }
     }
 
     /// Adds a part at the end. Refused for want of memory, it drops the part and leaves the others as they were.
@@ -81,16 +83,16 @@ impl RawLabels {
 pub enum Item {
     States(u32),
     /// The states of one `Start:` line, joined by `&`.
-    Start(Numbers),
+    Start(FewNumbers),
     Ap { count: u32, names: Words },
-    Alias { name: Text, label: RawLabel },
+    Alias { name: Name, label: RawLabel },
     Acceptance { sets: u32, formula: Formula },
     AccName,
     Tool,
     Name(Text),
-    Properties(Words),
+    Properties(Seq<Name>),
     /// A header of a name that HOA v1 doesn't give a meaning.
-    Other(Text),
+    Other(Name),
 }
 
 /// The items of a header, in order.
@@ -101,8 +103,8 @@ pub type Items = Seq<Item>;
 pub struct RawEdge {
     pub label: Option<RawLabel>,
     /// The goals, joined by `&`.
-    pub to: Numbers,
-    pub marks: Numbers,
+    pub to: FewNumbers,
+    pub marks: FewNumbers,
 }
 
 /// The edges of a state, in order.
@@ -113,7 +115,7 @@ pub type RawEdges = Seq<RawEdge>;
 pub struct RawState {
     pub label: Option<RawLabel>,
     pub number: u32,
-    pub marks: Numbers,
+    pub marks: FewNumbers,
     pub edges: RawEdges,
 }
 
@@ -124,7 +126,7 @@ pub type RawStates = Seq<RawState>;
 #[derive(Debug, Drop)]
 pub struct Raw {
     /// The identifier after `HOA:`.
-    pub version: Text,
+    pub version: Name,
     pub items: Items,
     pub states: RawStates,
 }

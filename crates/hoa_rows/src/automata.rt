@@ -13,6 +13,10 @@ fn show_label(alloc: Global, line: &mut Text, label: &RawLabel) -> Result<(), Me
         RawLabel::True => line.push(b't'),
         RawLabel::False => line.push(b'f'),
         RawLabel::Prop(place) => show_number(alloc, line, u64::from(*place)),
+        RawLabel::Negated(place) => {
+            line.push(b'!')?;
+            show_number(alloc, line, u64::from(*place))
+        }
         RawLabel::Alias(name) => {
             line.push(b'@')?;
             line.extend(name.as_bytes())
@@ -60,7 +64,7 @@ fn show_item(alloc: Global, line: &mut Text, item: &Item) -> Result<(), Memory> 
         }
         Item::Alias { name, label } => {
             line.extend(b"; alias")?;
-            show_text(line, name)?;
+            show_text(line, name.as_bytes())?;
             line.push(b' ')?;
             show_label(alloc, line, label)
         }
@@ -73,15 +77,18 @@ fn show_item(alloc: Global, line: &mut Text, item: &Item) -> Result<(), Memory> 
         Item::Tool => line.extend(b"; tool"),
         Item::Name(text) => {
             line.extend(b"; name")?;
-            show_text(line, text)
+            show_text(line, text.as_bytes())
         }
         Item::Properties(words) => {
             line.extend(b"; properties")?;
-            show_texts(line, words.as_slice())
+            for word in words.as_slice() {
+                show_text(line, word.as_bytes())?;
+            }
+            Ok(())
         }
         Item::Other(name) => {
             line.extend(b"; other")?;
-            show_text(line, name)
+            show_text(line, name.as_bytes())
         }
     }
 }

@@ -40,16 +40,16 @@ pub(crate) fn show_marks(alloc: Global, line: &mut Text, marks: &[u32]) -> Resul
 }
 
 /// Adds a text.
-pub(crate) fn show_text(line: &mut Text, text: &Text) -> Result<(), Memory> {
+pub(crate) fn show_text(line: &mut Text, text: &[u8]) -> Result<(), Memory> {
     line.extend(b" <")?;
-    line.extend(text.as_bytes())?;
+    line.extend(text)?;
     line.push(b'>')
 }
 
 /// Adds each text.
 pub(crate) fn show_texts(line: &mut Text, texts: &[Text]) -> Result<(), Memory> {
     for text in texts {
-        show_text(line, text)?;
+        show_text(line, text.as_bytes())?;
     }
     Ok(())
 }

@@ -6,8 +6,8 @@ ghost use Rattle.hoa_lexer.specs.Bytes as kinds;
 
 use super::Lexer;
 use super::bytes::is_word;
-use crate::{LexFault, Token};
-use aut_base::{Memory, Text};
+use crate::{LexFault, Name, Token};
+use aut_base::Memory;
 use aut_io::Inputs;
 use std::alloc::Global;
 
@@ -56,7 +56,7 @@ impl Lexer {
         ensures advances { Advances (stop_of result) self.old self.new (I.seen inputs.old) (I.seen inputs.new) }
     {
         self.held = None;
-        let mut name = Text::new(alloc);
+        let mut name = Name::new(alloc);
         match self.word_bytes(inputs, &mut name)? {
             Some(_) => {
                 if name.is_empty() {
@@ -74,7 +74,7 @@ impl Lexer {
     fn word_bytes<I: Inputs>(
         &mut self,
         inputs: &mut I,
-        name: &mut Text,
+        name: &mut Name,
     ) -> Result<Option<u8>, LexFault>
         requires { self.old.held ≡ None }
         ensures answers { Tells (I.seen inputs.old) (I.seen inputs.new) (λ old new.
@@ -98,11 +98,11 @@ impl Lexer {
     }
 }
 
-/// A name that begins with this byte, and has room at once for as many as most names have.
-fn begun(alloc: Global, first: u8) -> Result<Text, Memory>
+/// A name that begins with this byte.
+fn begun(alloc: Global, first: u8) -> Result<Name, Memory>
     ensures { IfOk result (λ name. name ≡ first ∷ []) }
 {
-    let mut bytes = Vec::with_capacity(alloc, 8)?;
-    bytes.push(first)?;
-    Ok(Text::from_vec(bytes))
+    let mut name = Name::new(alloc);
+    name.push(first)?;
+    Ok(name)
 }

@@ -10,9 +10,9 @@ ghost use Rattle.aut_base.specs.Formula.{formula_tree};
 
 use super::tokens::{advance, closing_paren, number, opening_paren, refused};
 use crate::ReadFault;
-use aut_base::{Formula, Formulas, MOST_DEPTH, Text};
+use aut_base::{Formula, Formulas, MOST_DEPTH};
 use aut_io::Inputs;
-use hoa_lexer::{Lexer, Token};
+use hoa_lexer::{Lexer, Name, Token};
 use std::alloc::Global;
 
 /// formula = fand ("|" fand)*, where `depth` of `(` are open
@@ -217,7 +217,7 @@ fn sign_at(token: &Token) -> Option<Sign>
 }
 
 /// What the word says, if anything.
-fn sign_named(word: &Text) -> Option<Sign>
+fn sign_named(word: &Name) -> Option<Sign>
     ensures { result ≡ sign_of word.now }
 {
     if word.is(b"t") {

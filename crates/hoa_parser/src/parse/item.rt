@@ -14,9 +14,8 @@ use super::lists::{acc_values, conj, strings, values, words};
 use super::tokens::{alias_name, maybe_quoted, number, quoted, refused, take, word};
 use crate::header::{Header, header_named};
 use crate::{Item, Items, ReadFault};
-use aut_base::Text;
 use aut_io::Inputs;
-use hoa_lexer::{Lexer, Token};
+use hoa_lexer::{Lexer, Name, Token};
 use std::alloc::Global;
 
 /// item*, up to `--BODY--`
@@ -77,7 +76,7 @@ fn item_of<I: Inputs>(
     inputs: &mut I,
     ahead: &mut Token,
     header: Header,
-    name: Text,
+    name: Name,
 ) -> Result<Item, ReadFault>
     requires unspent { lexer.old.spent ≡ false }
     requires no_opening { header ≢ Header.Opening }

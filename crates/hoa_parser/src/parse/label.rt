@@ -1,19 +1,19 @@
 //! Labels of edges, states and aliases.
 
-ghost use Rattle.std.specs.Prelude.{◌≡◌, ◌≢◌, ◌≤◌, ◌∷◌, [], false, is_some, OnOk};
+ghost use Rattle.std.specs.Prelude.{◌≡◌, ◌≢◌, ◌≤◌, ◌∷◌, [], false, is_some, IfOk, OnOk};
 ghost use Rattle.std.specs.Option.{option_map};
 ghost use Rattle.hoa_lexer.specs.declared.token.Token.{Token};
 ghost use Rattle.hoa_parser.specs.inner.Expecting as part;
 ghost use Rattle.hoa_parser.specs.inner.Expecting.{label_parts};
 ghost use Rattle.hoa_parser.specs.inner.Parsing.{Reads, Uses, state};
 ghost use Rattle.hoa_parser.specs.inner.RuleReads.{atom_of, truth_value, IsAndLnot, IsAndLnots, IsLabel, IsLand, IsLnot, IsOrLand, IsOrLands};
-ghost use Rattle.hoa_parser.specs.Raw.{raw_tree};
+ghost use Rattle.hoa_parser.specs.Raw.{RawTree, raw_tree};
 
 use super::tokens::{advance, closing_paren, refused, take};
 use crate::{RawLabel, RawLabels, ReadFault};
-use aut_base::{MOST_DEPTH, Text};
+use aut_base::{MOST_DEPTH, Memory};
 use aut_io::Inputs;
-use hoa_lexer::{Lexer, Token};
+use hoa_lexer::{Lexer, Name, Token};
 use std::alloc::Global;
 
 /// label = land ("|" land)*, where `depth` of `(` and `!` are open
@@ -54,11 +54,11 @@ fn or_lands<I: Inputs>(
         _ => return Ok(first),
     }
     let second = or_land(alloc, lexer, inputs, ahead, depth)?;
-    let mut parts = RawLabels::pair(alloc, first, second)?;
+    let mut parts = RawLabels::pair(alloc, first, second);
     'lands: loop {
         match ahead {
             Token::Bar => {}
-            _ => return Ok(RawLabel::Or(parts)),
+            _ => return Ok(RawLabel::Or(Box::new(alloc, parts)?)),
         }
         let next = or_land(alloc, lexer, inputs, ahead, depth)?;
         parts.push(next)?;
@@ -123,11 +123,11 @@ fn and_lnots<I: Inputs>(
         _ => return Ok(first),
     }
     let second = and_lnot(alloc, lexer, inputs, ahead, depth)?;
-    let mut parts = RawLabels::pair(alloc, first, second)?;
+    let mut parts = RawLabels::pair(alloc, first, second);
     'lnots: loop {
         match ahead {
             Token::Amp => {}
-            _ => return Ok(RawLabel::And(parts)),
+            _ => return Ok(RawLabel::And(Box::new(alloc, parts)?)),
         }
         let next = and_lnot(alloc, lexer, inputs, ahead, depth)?;
         parts.push(next)?;
@@ -195,7 +195,18 @@ fn negation<I: Inputs>(
     }
     advance(alloc, lexer, inputs, ahead)?;
     let inner = lnot(alloc, lexer, inputs, ahead, depth + 1)?;
-    Ok(RawLabel::Not(Box::new(alloc, inner)?))
+    Ok(negated(alloc, inner)?)
+}
+
+/// The label with `!` before it.
+#[tactic(auto, using(crate::proofs::grammar::RawTrees::raw_tree_rules))]
+fn negated(alloc: Global, inner: RawLabel) -> Result<RawLabel, Memory>
+    ensures { IfOk result (λ label. raw_tree label ≡ RawTree.Not (raw_tree inner)) }
+{
+    match inner {
+        RawLabel::Prop(place) => Ok(RawLabel::Negated(place)),
+        _ => Ok(RawLabel::Not(Box::new(alloc, inner)?)),
+    }
 }
 
 /// "(" label ")"
@@ -248,7 +259,7 @@ fn atom_of(token: Token) -> Option<RawLabel>
 
 /// "t" | "f"
 #[tactic(auto, using(crate::proofs::grammar::RawTrees::raw_tree_rules))]
-fn truth_value(word: &Text) -> Option<RawLabel>
+fn truth_value(word: &Name) -> Option<RawLabel>
     ensures { option_map raw_tree result ≡ truth_value word.now }
 {
     if word.is(b"t") {

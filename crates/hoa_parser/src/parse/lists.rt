@@ -9,10 +9,10 @@ ghost use Rattle.hoa_parser.specs.inner.RuleReads as written;
 ghost use Rattle.hoa_parser.specs.inner.RuleReads.{AddsMarks, AddsNumbers, AreAccValues, AreMarks, AreTexts, AreValues, AreWords, IsConj};
 
 use super::tokens::{advance, number, quoted, refused, word};
-use crate::ReadFault;
-use aut_base::{Numbers, Words};
+use crate::{FewNumbers, ReadFault};
+use aut_base::{Seq, Words};
 use aut_io::Inputs;
-use hoa_lexer::{Lexer, Token};
+use hoa_lexer::{Lexer, Name, Token};
 use std::alloc::Global;
 
 /// conj = INT ("&" INT)*
@@ -22,13 +22,13 @@ pub(super) fn conj<I: Inputs>(
     lexer: &mut Lexer,
     inputs: &mut I,
     ahead: &mut Token,
-) -> Result<Numbers, ReadFault>
+) -> Result<FewNumbers, ReadFault>
     requires unspent { lexer.old.spent ≡ false }
     ensures reads { Reads conj_parts [] IsConj result
         (state lexer.old ahead.old (I.seen inputs.old)) (state lexer.new ahead.new (I.seen inputs.new)) }
     ensures uses { OnOk result (Uses lexer.old lexer.new) }
 {
-    let mut numbers = Numbers::new(alloc);
+    let mut numbers = FewNumbers::new(alloc);
     let first = number(alloc, lexer, inputs, ahead)?;
     numbers.push(first)?;
     more_numbers(alloc, lexer, inputs, ahead, numbers)
@@ -40,8 +40,8 @@ pub(super) fn more_numbers<I: Inputs>(
     lexer: &mut Lexer,
     inputs: &mut I,
     ahead: &mut Token,
-    mut numbers: Numbers,
-) -> Result<Numbers, ReadFault>
+    mut numbers: FewNumbers,
+) -> Result<FewNumbers, ReadFault>
     requires unspent { lexer.old.spent ≡ false }
     ensures reads { Reads (part.MoreNumbers ∷ []) [] (AddsNumbers numbers) result
         (state lexer.old ahead.old (I.seen inputs.old)) (state lexer.new ahead.new (I.seen inputs.new)) }
@@ -85,12 +85,12 @@ pub(super) fn words<I: Inputs>(
     lexer: &mut Lexer,
     inputs: &mut I,
     ahead: &mut Token,
-) -> Result<Words, ReadFault>
+) -> Result<Seq<Name>, ReadFault>
     requires unspent { lexer.old.spent ≡ false }
     ensures reads { Reads (part.Words ∷ []) [] AreWords result
         (state lexer.old ahead.old (I.seen inputs.old)) (state lexer.new ahead.new (I.seen inputs.new)) }
 {
-    let mut words = Words::new(alloc);
+    let mut words = Seq::new(alloc);
     'words: loop {
         match ahead {
             Token::Identifier(_) => {}
@@ -160,12 +160,12 @@ pub(super) fn maybe_marks<I: Inputs>(
     lexer: &mut Lexer,
     inputs: &mut I,
     ahead: &mut Token,
-) -> Result<Numbers, ReadFault>
+) -> Result<FewNumbers, ReadFault>
     requires unspent { lexer.old.spent ≡ false }
     ensures reads { Reads (part.MaybeMarks ∷ []) [] AreMarks result
         (state lexer.old ahead.old (I.seen inputs.old)) (state lexer.new ahead.new (I.seen inputs.new)) }
 {
-    let marks = Numbers::new(alloc);
+    let marks = FewNumbers::new(alloc);
     match ahead {
         Token::LeftBrace => {}
         _ => return Ok(marks),
@@ -180,8 +180,8 @@ fn marks_behind<I: Inputs>(
     lexer: &mut Lexer,
     inputs: &mut I,
     ahead: &mut Token,
-    mut marks: Numbers,
-) -> Result<Numbers, ReadFault>
+    mut marks: FewNumbers,
+) -> Result<FewNumbers, ReadFault>
     requires unspent { lexer.old.spent ≡ false }
     ensures reads { Reads (part.Marks ∷ []) [] (AddsMarks marks) result
         (state lexer.old ahead.old (I.seen inputs.old)) (state lexer.new ahead.new (I.seen inputs.new)) }

@@ -10,7 +10,7 @@ ghost use Rattle.hoa_parser.specs.inner.RuleReads.{IsAliasName, IsToken, IsNumbe
 use crate::ReadFault;
 use aut_base::Text;
 use aut_io::Inputs;
-use hoa_lexer::{Lexer, Token};
+use hoa_lexer::{Lexer, Name, Token};
 use std::alloc::Global;
 use std::mem;
 
@@ -122,7 +122,7 @@ pub(super) fn word<I: Inputs>(
     lexer: &mut Lexer,
     inputs: &mut I,
     ahead: &mut Token,
-) -> Result<Text, ReadFault>
+) -> Result<Name, ReadFault>
     requires unspent { lexer.old.spent ≡ false }
     ensures reads { Reads (part.Word ∷ []) [] IsWord result
         (state lexer.old ahead.old (I.seen inputs.old)) (state lexer.new ahead.new (I.seen inputs.new)) }
@@ -144,7 +144,7 @@ pub(super) fn alias_name<I: Inputs>(
     lexer: &mut Lexer,
     inputs: &mut I,
     ahead: &mut Token,
-) -> Result<Text, ReadFault>
+) -> Result<Name, ReadFault>
     requires unspent { lexer.old.spent ≡ false }
     ensures reads { Reads (part.AliasName ∷ []) [] IsAliasName result
         (state lexer.old ahead.old (I.seen inputs.old)) (state lexer.new ahead.new (I.seen inputs.new)) }

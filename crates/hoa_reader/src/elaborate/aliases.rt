@@ -12,7 +12,8 @@ ghost use Rattle.hoa_reader.specs.Validity.{aliases_among, leaves_pass};
 
 use crate::elaborate::parts::AliasDef;
 use crate::elaborate::places::Places;
-use aut_base::{Memory, Text};
+use aut_base::Memory;
+use hoa_lexer::Name;
 use hoa_parser::RawLabel;
 use std::alloc::Global;
 
@@ -44,6 +45,7 @@ pub(crate) fn growth_of<'a>(label: &'a RawLabel, known: &Places<'a, Known>) -> G
         RawLabel::True => Growth { height: 1, size: 1 },
         RawLabel::False => Growth { height: 1, size: 1 },
         RawLabel::Prop(_) => Growth { height: 1, size: 1 },
+        RawLabel::Negated(_) => one_more(Growth { height: 1, size: 1 }),
         RawLabel::Alias(name) => match known.find(name) {
             Some(known) => Growth {
                 height: known.height,
@@ -106,7 +108,7 @@ fn one_more(inner: Growth) -> Growth
 
 /// The alias that the label is.
 #[tactic(auto, using(hoa_parser::proofs::grammar::RawTrees::raw_tree_rules))]
-fn alias_in(label: &RawLabel) -> Option<&Text>
+fn alias_in(label: &RawLabel) -> Option<&Name>
     ensures { option_map (λ t. t.now) result ≡ alias_name (raw_tree label.now) }
 {
     match label {
@@ -114,6 +116,7 @@ fn alias_in(label: &RawLabel) -> Option<&Text>
         RawLabel::True => None,
         RawLabel::False => None,
         RawLabel::Prop(_) => None,
+        RawLabel::Negated(_) => None,
         RawLabel::Not(_) => None,
         RawLabel::And(_) => None,
         RawLabel::Or(_) => None,
@@ -152,7 +155,7 @@ pub(crate) fn known_aliases<'a>(
     let mut place = 0;
     'defs: for def in defs {
         let new = known_of(place, def.label, &known);
-        known.add(def.name, new)?;
+        known.add(def.name.as_bytes(), new)?;
         place += 1;
     }
     Ok(known)

@@ -1,7 +1,7 @@
 //! The labels of edges.
 
 ghost use Rattle.std.specs.Prelude.{◌≡◌, ◌≤◌, ◌==◌, ◌/◌, ◌%◌, ◌^◌, ◌∷◌, map, IfOk};
-ghost use Rattle.aut_base.specs.Label.{label_list, label_tree};
+ghost use Rattle.aut_base.specs.Label.{LabelTree, label_list, label_tree};
 ghost use Rattle.hoa_reader.specs.Described.{below, expanded, letter_label, literal};
 ghost use Rattle.hoa_reader.specs.inner.Growing.{AreKnown, meanings_by};
 ghost use Rattle.hoa_parser.specs.Raw.{raw_tree};
@@ -29,6 +29,7 @@ pub(crate) fn expand<'a>(
         RawLabel::True => Ok(Label::True),
         RawLabel::False => Ok(Label::False),
         RawLabel::Prop(place) => Ok(Label::Prop(*place)),
+        RawLabel::Negated(place) => negated(alloc, *place),
         RawLabel::Alias(name) => match known.find(name) {
             Some(alias) => expand(alloc, defs[alias.place].label, defs, known),
             None => Ok(Label::False),
@@ -51,7 +52,7 @@ fn expand_parts<'a>(
     known: &Places<'a, Known>,
 ) -> Result<Labels, Memory>
     requires { AreKnown (meanings_by defs.now) defs.now known.now }
-    ensures { IfOk result (λ new. label_list new ≡ map (λ p. expanded (meanings_by defs.now) (raw_tree p)) (parts.now.first.value ∷ parts.now.second.value ∷ parts.now.others.items)) }
+    ensures { IfOk result (λ new. label_list new ≡ map (λ p. expanded (meanings_by defs.now) (raw_tree p)) (parts.now.first ∷ parts.now.second ∷ parts.now.others.items)) }
 {
     let first = expand(alloc, &parts.first, defs, known)?;
     let second = expand(alloc, &parts.second, defs, known)?;
@@ -68,11 +69,18 @@ fn expand_parts<'a>(
 fn literal(alloc: Global, letter: u64, place: u32) -> Result<Label, Memory>
     ensures { IfOk result (λ new. label_tree new ≡ literal letter place) }
 {
-    let prop = Label::Prop(place);
     if is_set(letter, place) {
-        return Ok(prop);
+        return Ok(Label::Prop(place));
     }
-    Ok(Label::Not(Box::new(alloc, prop)?))
+    negated(alloc, place)
+}
+
+/// The negation of the proposition.
+#[tactic(auto, using(aut_base::proofs::trees::LabelTrees::label_trees))]
+fn negated(alloc: Global, place: u32) -> Result<Label, Memory>
+    ensures { IfOk result (λ new. label_tree new ≡ LabelTree.Not (LabelTree.Prop place)) }
+{
+    Ok(Label::Not(Box::new(alloc, Label::Prop(place))?))
 }
 
 /// Whether the bit of this place is set.

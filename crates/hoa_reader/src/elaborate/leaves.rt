@@ -52,7 +52,7 @@ pub(crate) fn props_below(label: &RawLabel, names: usize) -> bool
     match label {
         RawLabel::True => true,
         RawLabel::False => true,
-        RawLabel::Prop(place) => (*place as usize) < names,
+        RawLabel::Prop(place) | RawLabel::Negated(place) => (*place as usize) < names,
         RawLabel::Alias(_) => true,
         RawLabel::Not(inner) => props_below(inner, names),
         RawLabel::And(parts) => props_below(&parts.first, names)
@@ -85,6 +85,7 @@ pub(crate) fn aliases_among<'a>(label: &'a RawLabel, names: &Places<'a, ()>) -> 
         RawLabel::True => true,
         RawLabel::False => true,
         RawLabel::Prop(_) => true,
+        RawLabel::Negated(_) => true,
         RawLabel::Alias(name) => names.find(name).is_some(),
         RawLabel::Not(inner) => aliases_among(inner, names),
         RawLabel::And(parts) => aliases_among(&parts.first, names)
@@ -117,6 +118,7 @@ pub(crate) fn has_no_alias(label: &RawLabel) -> bool
         RawLabel::True => true,
         RawLabel::False => true,
         RawLabel::Prop(_) => true,
+        RawLabel::Negated(_) => true,
         RawLabel::Alias(_) => false,
         RawLabel::Not(inner) => has_no_alias(inner),
         RawLabel::And(parts) => has_no_alias(&parts.first)
@@ -172,7 +174,7 @@ fn defined<'a>(alloc: Global, defs: &[AliasDef<'a>]) -> Result<Option<Places<'a,
         if !aliases_among(def.label, &names) {
             return Ok(None);
         }
-        if !names.add(def.name, ())? {
+        if !names.add(def.name.as_bytes(), ())? {
             return Ok(None);
         }
     }

@@ -9,14 +9,15 @@ ghost use Rattle.hoa_reader.specs.inner.Pieces.{alias_def, acceptance_def, label
 
 use crate::elaborate::sizes::count_of_edges;
 use crate::elaborate::used::after_used;
-use aut_base::{Formula, Memory, Numbers, Text};
-use hoa_parser::{Item, Raw, RawEdge, RawLabel, RawState};
+use aut_base::{Formula, Memory, Text};
+use hoa_lexer::Name;
+use hoa_parser::{FewNumbers, Item, Raw, RawEdge, RawLabel, RawState};
 use std::alloc::Global;
 
 /// An alias with its label.
 #[derive(Clone, Copy)]
 pub(crate) struct AliasDef<'a> {
-    pub(crate) name: &'a Text,
+    pub(crate) name: &'a Name,
     pub(crate) label: &'a RawLabel,
 }
 
@@ -81,7 +82,7 @@ pub(crate) fn aliases_of(alloc: Global, items: &[Item]) -> Result<Vec<AliasDef<'
 }
 
 /// What the `Start:` lines name, in order.
-pub(crate) fn starts_of(alloc: Global, items: &[Item]) -> Result<Vec<&Numbers>, Memory>
+pub(crate) fn starts_of(alloc: Global, items: &[Item]) -> Result<Vec<&FewNumbers>, Memory>
     ensures { IfOk result (λ starts. map (λ s. s.now) starts.items ≡ filter_map start_item (map written_item items.now)) }
 {
     let mut starts = Vec::new(alloc);
@@ -133,7 +134,7 @@ pub(crate) struct Parts<'a> {
     pub(crate) names: &'a [Text],
     pub(crate) acceptance: Option<AcceptanceDef<'a>>,
     pub(crate) defs: Vec<AliasDef<'a>>,
-    pub(crate) starts: Vec<&'a Numbers>,
+    pub(crate) starts: Vec<&'a FewNumbers>,
     /// The labels of states and edges.
     pub(crate) labels: Vec<&'a RawLabel>,
     /// The least number that is above every number of a state.

@@ -5,7 +5,8 @@ ghost use Rattle.std.specs.Map.{update};
 ghost use Rattle.hoa_reader.specs.inner.Places.{place_in};
 ghost use Rattle.aut_base.specs.Text.{same_text};
 
-use aut_base::{Memory, Text};
+use aut_base::Memory;
+use hoa_lexer::Name;
 use std::alloc::Global;
 use std::collections::BTreeMap;
 
@@ -25,18 +26,18 @@ impl<'a, V: Copy> Places<'a, V> {
         }
     }
 
-    /// What is known of the text, if it is there.
-    pub(crate) fn find(&self, text: &'a Text) -> Option<V>
-        ensures { result ≡ place_in self.now text.now }
+    /// What is known of the name, if it is there.
+    pub(crate) fn find(&self, name: &'a Name) -> Option<V>
+        ensures { result ≡ place_in self.now name.now }
     {
-        self.places.get(&text.as_bytes()).copied()
+        self.places.get(&name.as_bytes()).copied()
     }
 
-    /// Says this of the text, and answers whether it is new.
-    pub(crate) fn add(&mut self, text: &'a Text, value: V) -> Result<bool, Memory>
+    /// Says this of the text of these bytes, and answers whether it is new.
+    pub(crate) fn add(&mut self, text: &'a [u8], value: V) -> Result<bool, Memory>
         ensures fresh { IfOk result (λ fresh. fresh ≡ is_none (place_in self.old text.now)) }
         ensures added { IfOk result (λ fresh. (q : List ℕ) → place_in self.new q ≡ update same_text (place_in self.old) text.now (Some value) q) }
     {
-        Ok(self.places.insert(text.as_bytes(), value)?.is_none())
+        Ok(self.places.insert(text, value)?.is_none())
     }
 }

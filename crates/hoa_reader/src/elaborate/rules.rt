@@ -9,8 +9,9 @@ ghost use Rattle.aut_base.specs.Text.{same_text};
 ghost use Rattle.hoa_reader.specs.Validity.{all_differ, begins_with_capital, has_edge_per_letter, is_one_state, labels_one_way, marks_below, may_be_passed_over, names_agree, numbers_below, states_item};
 
 use crate::elaborate::places::Places;
-use aut_base::{Memory, Numbers, Text};
-use hoa_parser::{Item, RawEdge, RawState};
+use aut_base::{Memory, Text};
+use hoa_lexer::Name;
+use hoa_parser::{FewNumbers, Item, RawEdge, RawState};
 use std::alloc::Global;
 use std::collections::BTreeSet;
 
@@ -26,7 +27,7 @@ pub(crate) enum Line {
 }
 
 /// Whether the version is `v1`.
-pub(crate) fn is_version_one(version: &Text) -> bool
+pub(crate) fn is_version_one(version: &Name) -> bool
     ensures { result ≡ same_text version.now (codes "v1") }
 {
     version.as_bytes() == b"v1".as_slice()
@@ -72,7 +73,7 @@ pub(crate) fn stand_once(items: &[Item]) -> bool
 }
 
 /// Whether the name begins with a capital letter.
-fn begins_with_capital(name: &Text) -> bool
+fn begins_with_capital(name: &Name) -> bool
     ensures { result ≡ begins_with_capital name.now }
 {
     match name.as_bytes() {
@@ -82,7 +83,7 @@ fn begins_with_capital(name: &Text) -> bool
 }
 
 /// Whether none of the names begins with a capital letter.
-fn none_begins_with_capital(names: &[Text]) -> bool
+fn none_begins_with_capital(names: &[Name]) -> bool
     ensures { result ≡ list_all (λ name. not (begins_with_capital name)) names.now }
 {
     'names: for name in names {
@@ -122,7 +123,7 @@ pub(crate) fn texts_differ(alloc: Global, texts: &[Text]) -> Result<bool, Memory
 {
     let mut seen = Places::new(alloc);
     'texts: for text in texts {
-        if !seen.add(text, ())? {
+        if !seen.add(text.as_bytes(), ())? {
             return Ok(false);
         }
     }
@@ -195,7 +196,7 @@ pub(crate) fn all_names_agree(alloc: Global, items: &[Item]) -> Result<bool, Mem
 }
 
 /// Whether each start is one state.
-pub(crate) fn start_in_single_states(starts: &[&Numbers]) -> bool
+pub(crate) fn start_in_single_states(starts: &[&FewNumbers]) -> bool
     ensures { result ≡ list_all is_one_state (map (λ s. s.now) starts.now) }
 {
     'starts: for states in starts {

@@ -4,11 +4,12 @@ ghost use Rattle.std.specs.Prelude.{◌≡◌, ◌≢◌, AllPairs, map, IfOk};
 ghost use Rattle.hoa_reader.specs.Described.{only_state, without_repeats};
 
 use aut_base::{Memory, Names, Numbers, Text};
+use hoa_parser::FewNumbers;
 use std::alloc::Global;
 use std::collections::BTreeSet;
 
 /// The state of each start, each where it stands first.
-pub(crate) fn starts_of(alloc: Global, groups: &[&Numbers]) -> Result<Numbers, Memory>
+pub(crate) fn starts_of(alloc: Global, groups: &[&FewNumbers]) -> Result<Numbers, Memory>
     ensures { IfOk result (λ starts. starts ≡ without_repeats (map only_state (map (λ g. g.now) groups.now))) }
 {
     let mut starts = Numbers::new(alloc);
@@ -25,7 +26,7 @@ pub(crate) fn starts_of(alloc: Global, groups: &[&Numbers]) -> Result<Numbers, M
 
 /// The state that a start or an edge names.
 #[inline]
-pub(crate) fn only_state(states: &Numbers) -> u32
+pub(crate) fn only_state(states: &FewNumbers) -> u32
     ensures { result ≡ only_state states.now }
 {
     match states.as_slice() {

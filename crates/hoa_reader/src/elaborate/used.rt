@@ -5,8 +5,7 @@ ghost use Rattle.hoa_reader.specs.Described.{after_all};
 ghost use Rattle.hoa_reader.specs.inner.Pieces.{goals, numbers, starts_named};
 ghost use Rattle.hoa_parser.specs.Raw.{written_edge, written_state};
 
-use aut_base::Numbers;
-use hoa_parser::{RawEdge, RawState};
+use hoa_parser::{FewNumbers, RawEdge, RawState};
 
 /// The least number that is above these, and no less than the other.
 fn after_numbers(numbers: &[u32], least: u64) -> u64
@@ -33,7 +32,7 @@ fn after_edges(edges: &[RawEdge], least: u64) -> u64
 
 /// The same for the starts.
 #[tactic(auto, using(crate::proofs::counting::AfterAll::after_alls))]
-fn after_starts(starts: &[&Numbers], least: u64) -> u64
+fn after_starts(starts: &[&FewNumbers], least: u64) -> u64
     ensures { result ≡ max least (after_all (starts_named starts.now)) }
 {
     let mut after = least;
@@ -58,7 +57,7 @@ fn after_states(states: &[RawState], least: u64) -> u64
 
 /// The least number that is above every number of a state.
 #[tactic(auto, using(crate::proofs::counting::AfterAll::after_alls))]
-pub(crate) fn after_used(starts: &[&Numbers], states: &[RawState]) -> u64
+pub(crate) fn after_used(starts: &[&FewNumbers], states: &[RawState]) -> u64
     ensures { result ≡ after_all (starts_named starts.now ++ (numbers (map written_state states.now) ++ goals (map written_state states.now))) }
 {
     after_states(states, after_starts(starts, 0))

@@ -6,15 +6,14 @@ use Rattle.hoa_parser.proofs.reading.FrontParts.{passed_then}
 use Rattle.hoa_parser.proofs.reading.RuleParts.{next_answer}
 use Rattle.hoa_parser.proofs.reading.Steps.{fails_after, fails_before, handed_on, next_fails, next_reads, no_memory, reads_as, reads_before}
 use Rattle.hoa_parser.proofs.reading.Steps.{reads_end, reads_then, takes, takes_last, token_passed, too_deep}
-use Rattle.hoa_parser.proofs.grammar.RawTrees.{raw_tree-And, raw_tree-Not, raw_tree-Or}
+use Rattle.hoa_parser.proofs.grammar.RawTrees.{raw_tree-And, raw_tree-Or}
 use Rattle.hoa_parser.proofs.reading.Chains.{chain_first, chain_next}
 use Rattle.hoa_parser.proofs.reading.LabelChains.{label_of, land_of, lands_whole, lnots_whole}
 use Rattle.hoa_parser.proofs.reading.LabelReads.{group_of, negated_of}
 use Rattle.hoa_parser.specs.Grammar.{no_land, no_lnot}
 use Rattle.hoa_parser.specs.inner.RuleReads.{IsAndLnot, IsAndLnots, IsLabel, IsLand, IsLnot, IsOrLand, IsOrLands}
-use Rattle.hoa_parser.specs.Raw.{RawTree, raw_tree}
-use Rattle.hoa_parser.specs.declared.raw.RawLabel.{RawLabel}
-use Rattle.hoa_parser.specs.declared.raw.RawLabel.TheVariants as rust
+use Rattle.hoa_parser.specs.Raw.{RawTree, raw_parts, raw_tree, raw_trees}
+use Rattle.hoa_parser.specs.declared.raw.RawLabels.{RawLabels}
 use Rattle.hoa_parser.specs.inner.Expecting.{Factor, Factors, Products}
 use Rattle.hoa_parser.proofs.grammar.OtherTokens.{past_factors, past_products}
 use Rattle.hoa_parser.proofs.parse.label.+label.Goals as goal
@@ -62,18 +61,22 @@ pub and_lnots-returns-in_err-second : goal.and_lnots-returns-in_err-second
 and_lnots-returns-in_err-second g t c =
     record { reads = handed_on _ _ _ c.from_residual.ensures.1 c.in_err-second.ensures.reads }
 
-pub and_lnots-returns-in_err-parts : goal.and_lnots-returns-in_err-parts
-and_lnots-returns-in_err-parts g t c =
-    record { reads = handed_on _ _ _ c.from_residual-in_err-parts.ensures.1 (no_memory c.in_ok-second.ensures.reads) }
-
 pub and_lnots-lnots-init : goal.and_lnots-lnots-init
 and_lnots-lnots-init g t c =
-    chain_first (raw_tree c.args.first) _ _ c.in_ok-parts.ensures c.in_ok-second.ensures.reads
+    chain_first (raw_tree c.args.first) _ _ c.pair-parts.ensures c.in_ok-second.ensures.reads
+
+pub and_lnots-returns-in_err-new-in_default-ahead : goal.and_lnots-returns-in_err-new-in_default-ahead
+and_lnots-returns-in_err-new-in_default-ahead g t c =
+    record {
+      reads = handed_on _ _ _ c.from_residual-in_err-new-in_default-ahead.ensures.1
+          (no_memory (reads_end (Factors c.args.depth) (past_factors c.args.depth _ c.in_default-ahead.not-Amp) c.lnots.invariant));
+    }
 
 pub and_lnots-returns-in_default-ahead : goal.and_lnots-returns-in_default-ahead
 and_lnots-returns-in_default-ahead g t c =
     record {
-      reads = reads_as (λ a e h. lnots_whole c.args.depth (raw_tree c.args.first) c.lnots.parts (rust.And c.lnots.parts) a e (raw_tree-And c.lnots.parts) h)
+      reads = reads_as (λ a e h. lnots_whole c.args.depth (raw_tree c.args.first) c.lnots.parts _ a e
+          (raw_tree-And c.in_ok-new-in_default-ahead.field-0 ∙ ap (λ (p : RawLabels). RawTree.And (raw_parts p).first (raw_parts p).second (raw_trees (raw_parts p).others)) c.in_ok-new-in_default-ahead.ensures.ok) h)
           (reads_end (Factors c.args.depth) (past_factors c.args.depth _ c.in_default-ahead.not-Amp) c.lnots.invariant);
     }
 
@@ -121,18 +124,22 @@ pub or_lands-returns-in_err-second : goal.or_lands-returns-in_err-second
 or_lands-returns-in_err-second g t c =
     record { reads = handed_on _ _ _ c.from_residual.ensures.1 c.in_err-second.ensures.reads }
 
-pub or_lands-returns-in_err-parts : goal.or_lands-returns-in_err-parts
-or_lands-returns-in_err-parts g t c =
-    record { reads = handed_on _ _ _ c.from_residual-in_err-parts.ensures.1 (no_memory c.in_ok-second.ensures.reads) }
-
 pub or_lands-lands-init : goal.or_lands-lands-init
 or_lands-lands-init g t c =
-    chain_first (raw_tree c.args.first) _ _ c.in_ok-parts.ensures c.in_ok-second.ensures.reads
+    chain_first (raw_tree c.args.first) _ _ c.pair-parts.ensures c.in_ok-second.ensures.reads
+
+pub or_lands-returns-in_err-new-in_default-ahead : goal.or_lands-returns-in_err-new-in_default-ahead
+or_lands-returns-in_err-new-in_default-ahead g t c =
+    record {
+      reads = handed_on _ _ _ c.from_residual-in_err-new-in_default-ahead.ensures.1
+          (no_memory (reads_end (Products c.args.depth) (past_products c.args.depth _ c.in_default-ahead.not-Bar) c.lands.invariant));
+    }
 
 pub or_lands-returns-in_default-ahead : goal.or_lands-returns-in_default-ahead
 or_lands-returns-in_default-ahead g t c =
     record {
-      reads = reads_as (λ a e h. lands_whole c.args.depth (raw_tree c.args.first) c.lands.parts (rust.Or c.lands.parts) a e (raw_tree-Or c.lands.parts) h)
+      reads = reads_as (λ a e h. lands_whole c.args.depth (raw_tree c.args.first) c.lands.parts _ a e
+          (raw_tree-Or c.in_ok-new-in_default-ahead.field-0 ∙ ap (λ (p : RawLabels). RawTree.Or (raw_parts p).first (raw_parts p).second (raw_trees (raw_parts p).others)) c.in_ok-new-in_default-ahead.ensures.ok) h)
           (reads_end (Products c.args.depth) (past_products c.args.depth _ c.in_default-ahead.not-Bar) c.lands.invariant);
     }
 
@@ -272,10 +279,10 @@ negation-returns-in_err-inner g t c =
           c.in_ok-advance.ensures) (rw add-one at c.in_err-inner.ensures.reads));
     }
 
-pub negation-returns-in_err-new : goal.negation-returns-in_err-new
-negation-returns-in_err-new g t c =
+pub negation-returns-in_err-negated : goal.negation-returns-in_err-negated
+negation-returns-in_err-negated g t c =
     record {
-      reads = handed_on _ _ _ c.from_residual-in_err-new.ensures.1
+      reads = handed_on _ _ _ c.from_residual-in_err-negated.ensures.1
           (no_memory (next_reads (takes (Factor c.args.depth) [] token.Bang c.requires.bang refl (le-leb (suc c.args.depth) MOST_DEPTH (omega (arith, c.if-depth-ge-MOST_DEPTH.false))) refl
           c.in_ok-advance.ensures) (rw add-one at c.in_ok-inner.ensures.reads)));
     }
@@ -284,7 +291,7 @@ pub negation-returns : goal.negation-returns
 negation-returns g t c =
     record {
       reads = reads_as (λ a e h. negated_of c.args.depth c.in_ok-inner.inner _ a h.0 e (omega (arith, c.if-depth-ge-MOST_DEPTH.false))
-          (raw_tree-Not c.in_ok-new.field-0 ∙ ap (λ (l : RawLabel). RawTree.Not (raw_tree l)) c.in_ok-new.ensures.ok) h.1 h.2)
+          c.in_ok-negated.ensures h.1 h.2)
           (next_reads (takes (Factor c.args.depth) [] token.Bang c.requires.bang refl (le-leb (suc c.args.depth) MOST_DEPTH (omega (arith, c.if-depth-ge-MOST_DEPTH.false))) refl
           c.in_ok-advance.ensures) (rw add-one at c.in_ok-inner.ensures.reads));
     }

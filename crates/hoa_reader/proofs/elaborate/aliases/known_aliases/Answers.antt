@@ -66,7 +66,7 @@ defs-preserved c =
           subst P (sym (one_more_meaning defs i def c.defs-test.true c.def-item.is))
           (known_push ms m defs c.defs.known c.add.new.self c.known_of-new.result c.defs.invariant.known (ap (λ ns. is_listed ns def.name.now) names ∙ away)
           (c.known_of-new.ensures ms defs def at refl c.defs.invariant.known (ap (λ ns. aliases_among ns (raw_tree def.label.now)) names ∙ here.0))
-          c.in_ok-add.ensures.added);
+          (rw c.as_bytes.ensures at c.in_ok-add.ensures.added));
       earlier =
           ap (λ ns. uses_earlier ns (map alias_def (drop (i + 1) defs))) (ap named (take-push defs i def c.defs-test.true c.def-item.is) ∙ named-append (take i defs) (def ∷ []))
           ∙ here.1;

@@ -7,7 +7,7 @@ use Rattle.hoa_reader.proofs.labels.Meanings.{meaning_missing}
 use Rattle.hoa_reader.specs.Described.{each_expanded, expanded, meaning_of}
 use Rattle.hoa_reader.specs.inner.Growing.{AreKnown, IsKnownBy, IsKnownOne, alias_name, meaning_names, meanings_by, steps_left}
 use Rattle.hoa_reader.specs.inner.Places.{place_in}
-use Rattle.hoa_parser.specs.Raw.{RawTree, raw_tree, raw_trees}
+use Rattle.hoa_parser.specs.Raw.{raw_tree, raw_trees}
 use Rattle.hoa_reader.specs.Validity.{is_listed}
 use Rattle.hoa_reader.specs.declared.elaborate.aliases.Known.{Known}
 use Rattle.hoa_reader.specs.declared.elaborate.parts.AliasDef.{AliasDef}
@@ -45,29 +45,27 @@ pub expand-returns-in_ok-expand_parts-in-And : goal.expand-returns-in_ok-expand_
 expand-returns-in_ok-expand_parts-in-And t c =
     let ms = meanings_by c.args.defs.now in
     let p = c.in-And.parts in
-    and_of c.in_ok-expand_parts-in-And.field-0 (expanded ms (raw_tree p.first.value)) (expanded ms (raw_tree p.second.value)) (map (λ x. expanded ms (raw_tree x)) p.others.items)
-    c.in_ok-expand_parts-in-And.ensures
-    ∙ ap (LabelTree.And (expanded ms (raw_tree p.first.value)) (expanded ms (raw_tree p.second.value))) (sym (parts_expanded ms p.others.items))
+    and_of c.in_ok-expand_parts-in-And.field-0 (expanded ms (raw_tree p.value.first)) (expanded ms (raw_tree p.value.second)) (map (λ x. expanded ms (raw_tree x)) p.value.others.items)
+    (rw c.deref-in-And.ensures at c.in_ok-expand_parts-in-And.ensures)
+    ∙ ap (LabelTree.And (expanded ms (raw_tree p.value.first)) (expanded ms (raw_tree p.value.second))) (sym (parts_expanded ms p.value.others.items))
     ∙ sym (ap (λ l. expanded ms (raw_tree l)) c.in-And.is ∙ ap (expanded ms) (raw_tree-And-fields p))
 
 pub expand-returns-in_ok-expand_parts-in-Or : goal.expand-returns-in_ok-expand_parts-in-Or
 expand-returns-in_ok-expand_parts-in-Or t c =
     let ms = meanings_by c.args.defs.now in
     let p = c.in-Or.parts in
-    or_of c.in_ok-expand_parts-in-Or.field-0 (expanded ms (raw_tree p.first.value)) (expanded ms (raw_tree p.second.value)) (map (λ x. expanded ms (raw_tree x)) p.others.items)
-    c.in_ok-expand_parts-in-Or.ensures
-    ∙ ap (LabelTree.Or (expanded ms (raw_tree p.first.value)) (expanded ms (raw_tree p.second.value))) (sym (parts_expanded ms p.others.items))
+    or_of c.in_ok-expand_parts-in-Or.field-0 (expanded ms (raw_tree p.value.first)) (expanded ms (raw_tree p.value.second)) (map (λ x. expanded ms (raw_tree x)) p.value.others.items)
+    (rw c.deref-in-Or.ensures at c.in_ok-expand_parts-in-Or.ensures)
+    ∙ ap (LabelTree.Or (expanded ms (raw_tree p.value.first)) (expanded ms (raw_tree p.value.second))) (sym (parts_expanded ms p.value.others.items))
     ∙ sym (ap (λ l. expanded ms (raw_tree l)) c.in-Or.is ∙ ap (expanded ms) (raw_tree-Or-fields p))
 
 pub expand_parts-expand-requires : goal.expand_parts-expand-requires
 expand_parts-expand-requires t c =
     let ms = meanings_by c.args.defs.now in
     let p = c.args.parts.now in
-    let size : RawTree → ℕ = λ x. label_size (expanded ms x) in
-    let same : size (raw_tree c.deref.result.now) ≡ size (raw_tree p.first.value) = ap (λ x. size (raw_tree x)) c.deref.ensures in
-    let pos = size_pos (expanded ms (raw_tree p.second.value)) in
-    let bit = bit_small (alias_name (raw_tree c.deref.result.now)) in
-    let less : steps_left c.args.defs.now (raw_tree c.deref.result.now) < t = omega (arith, same, pos, bit, c.decreases) in
+    let pos = size_pos (expanded ms (raw_tree p.second)) in
+    let bit = bit_small (alias_name (raw_tree p.first)) in
+    let less : steps_left c.args.defs.now (raw_tree p.first) < t = omega (arith, pos, bit, c.decreases) in
     (less, c.requires)
 
 pub expand_parts-expand-requires-in-others : goal.expand_parts-expand-requires-in-others
@@ -77,7 +75,7 @@ expand_parts-expand-requires-in-others t c =
     let small : label_size (expanded ms (raw_tree c.part-item.result)) ≤ labels_size (each_expanded ms (raw_trees (map raw_tree p.others.items))) =
     subst (λ (ps : List RawLabel). label_size (expanded ms (raw_tree c.part-item.result)) ≤ labels_size (each_expanded ms (raw_trees (map raw_tree ps)))) c.deref-part-items.ensures.value
     (part_size ms c.deref-part-items.result.now c.others.part-index c.part-item.result c.others-test.true c.part-item.is) in
-    let pos = size_pos (expanded ms (raw_tree p.first.value)) in
+    let pos = size_pos (expanded ms (raw_tree p.first)) in
     let bit = bit_small (alias_name (raw_tree c.part-item.result)) in
     let less : steps_left c.args.defs.now (raw_tree c.part-item.result) < t = omega (arith, small, pos, bit, c.decreases) in
     (less, c.requires)

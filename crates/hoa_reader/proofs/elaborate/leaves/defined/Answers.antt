@@ -44,7 +44,7 @@ defs-preserved c =
           ap (λ e. uses_earlier e rest) more ∙ ap (λ b. b && uses_earlier (before ++ def.name.now ∷ []) rest) (sym known)
           ∙ sym (ap (λ ds. uses_earlier before (map alias_def ds)) split) ∙ c.defs.invariant.earlier;
       names = λ q.
-          ap is_some (c.in_ok-add.ensures.added q)
+          ap is_some (rw c.as_bytes.ensures at (c.in_ok-add.ensures.added q))
           ∙ found_or (same_text def.name.now q) (list_any (λ x. same_text x q) before) tt (place_in c.defs.names q) (c.defs.invariant.names q)
           ∙ sym (ap (list_any (λ x. same_text x q)) more ∙ list_any-append (λ x. same_text x q) before (def.name.now ∷ []));
     }

@@ -27,7 +27,7 @@ texts-preserved c =
     record {
       differ = ap (all_differ same_text) more ∙ differ_more same_text (take i texts) text c.texts.invariant.differ (sym (c.texts.invariant.seen text) ∙ away);
       seen = λ q.
-          ap is_some (c.in_ok-add.ensures.added q)
+          ap is_some (rw c.as_bytes.ensures at (c.in_ok-add.ensures.added q))
           ∙ found_or (same_text text q) (list_any (λ x. same_text x q) (take i texts)) _ (place_in c.texts.seen q) (c.texts.invariant.seen q)
           ∙ sym (ap (list_any (λ x. same_text x q)) more ∙ list_any-append (λ x. same_text x q) (take i texts) (text ∷ []));
     }
