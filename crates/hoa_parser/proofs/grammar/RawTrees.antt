@@ -4,7 +4,8 @@ use Rattle.std.specs.Global.{Global}
 use Rattle.std.specs.declared.boxed.Box.{Box}
 use Rattle.hoa_parser.specs.Raw.{RawTree, RawParts, tree_step, raw_tree, raw_parts, raw_list, raw_trees}
 use Rattle.hoa_parser.specs.declared.raw.RawLabel.{RawLabel}
-use Rattle.hoa_parser.specs.declared.raw.RawLabel.TheVariants.{True, False, Prop, Negated, Alias, Not, And, Or, rolls-True, rolls-False, rolls-Prop, rolls-Negated, rolls-Alias, rolls-Not, rolls-And, rolls-Or}
+use Rattle.hoa_parser.specs.declared.raw.RawLabel.TheVariants.{True, False, Prop, Negated, Alias, Not, And, Or, rolls-True, rolls-False, rolls-Prop}
+use Rattle.hoa_parser.specs.declared.raw.RawLabel.TheVariants.{rolls-Negated, rolls-Alias, rolls-Not, rolls-And, rolls-Or}
 use Rattle.hoa_parser.specs.declared.raw.RawLabel.TheOpen.{RawLabel-F, RawLabels-F}
 use Rattle.hoa_parser.specs.declared.raw.RawLabel.TheFolds.{fold-roll-RawLabel, fold_out-RawLabels}
 use Rattle.hoa_parser.specs.declared.raw.RawLabels.{RawLabels}

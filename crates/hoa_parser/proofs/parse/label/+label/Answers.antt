@@ -76,7 +76,8 @@ pub and_lnots-returns-in_default-ahead : goal.and_lnots-returns-in_default-ahead
 and_lnots-returns-in_default-ahead g t c =
     record {
       reads = reads_as (λ a e h. lnots_whole c.args.depth (raw_tree c.args.first) c.lnots.parts _ a e
-          (raw_tree-And c.in_ok-new-in_default-ahead.field-0 ∙ ap (λ (p : RawLabels). RawTree.And (raw_parts p).first (raw_parts p).second (raw_trees (raw_parts p).others)) c.in_ok-new-in_default-ahead.ensures.ok) h)
+          (raw_tree-And c.in_ok-new-in_default-ahead.field-0
+          ∙ ap (λ (p : RawLabels). RawTree.And (raw_parts p).first (raw_parts p).second (raw_trees (raw_parts p).others)) c.in_ok-new-in_default-ahead.ensures.ok) h)
           (reads_end (Factors c.args.depth) (past_factors c.args.depth _ c.in_default-ahead.not-Amp) c.lnots.invariant);
     }
 
@@ -139,7 +140,8 @@ pub or_lands-returns-in_default-ahead : goal.or_lands-returns-in_default-ahead
 or_lands-returns-in_default-ahead g t c =
     record {
       reads = reads_as (λ a e h. lands_whole c.args.depth (raw_tree c.args.first) c.lands.parts _ a e
-          (raw_tree-Or c.in_ok-new-in_default-ahead.field-0 ∙ ap (λ (p : RawLabels). RawTree.Or (raw_parts p).first (raw_parts p).second (raw_trees (raw_parts p).others)) c.in_ok-new-in_default-ahead.ensures.ok) h)
+          (raw_tree-Or c.in_ok-new-in_default-ahead.field-0
+          ∙ ap (λ (p : RawLabels). RawTree.Or (raw_parts p).first (raw_parts p).second (raw_trees (raw_parts p).others)) c.in_ok-new-in_default-ahead.ensures.ok) h)
           (reads_end (Products c.args.depth) (past_products c.args.depth _ c.in_default-ahead.not-Bar) c.lands.invariant);
     }
 
