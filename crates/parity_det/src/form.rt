@@ -30,7 +30,8 @@ use aut_ops::prune;
 use degeneralise::to_buchi;
 use exploration::{Explored, Limits, explore};
 use label_guards::{Guard, Guards};
-use safra_trees::{Event, SafraTree, start};
+use letter_classes::ClassStore;
+use safra_trees::{Event, Moves, Room, SafraTree, start};
 use std::alloc::Global;
 
 /// The deterministic automaton of a Büchi automaton. Its states are the compact Safra trees that the automaton, pruned,
@@ -94,13 +95,19 @@ fn tree_form(alloc: Global, b: &Automaton) -> Result<Automaton, DetFault>
 {
     b.whole();
     let first = start(alloc, b.states(), b.starts())?;
-    let mut system = Trees::new(alloc, b, b.guards().copy(alloc)?);
+    let store = ClassStore::new(alloc, b.guards().copy(alloc)?);
+    let mut system = Trees {
+        automaton: b,
+        guards: store,
+        moves: Moves::new(alloc),
+        room: Room::new(alloc),
+    };
     let limits = Limits {
         things: MOST_TREES,
         classes: MOST_CLASSES,
     };
     let found = explore(alloc, &mut system, first, limits)?;
-    Ok(built(alloc, b, system.into_guards(), &found)?)
+    Ok(built(alloc, b, system.guards.into_guards(), &found)?)
 }
 
 /// The automaton of the trees and edges that were found.

@@ -1,6 +1,6 @@
 //! The moves that are allowed from a set of states at a valuation.
 
-ghost use Rattle.std.specs.Prelude.{◌≡◌, ◌<◌, ◌++◌, All, OnOk};
+ghost use Rattle.std.specs.Prelude.{◌≡◌, ◌<◌, ◌++◌, All, IfOk, OnOk};
 ghost use Rattle.aut_core.specs.Core.{automaton_of};
 ghost use Rattle.aut_core.specs.Surveys.{edges_from};
 ghost use Rattle.letter_classes.specs.SetClasses.{set_edges};
@@ -11,24 +11,25 @@ use aut_base::Memory;
 use aut_core::Automaton;
 use safra_trees::{Move, Moves};
 
-/// Makes of the list the moves from these states at the valuation of this number: the edges under labels that are true there,
-/// accepting where they are in set 0.
-pub(crate) fn list_moves(
-    moves: &mut Moves,
+/// The moves from these states at the valuation of this number: the edges under labels that are true there, accepting where
+/// they are in set 0. They take the room of the list, whatever stood in it.
+pub(crate) fn moves_at(
+    list: Moves,
     a: &Automaton,
     set: &[u32],
     number: u64,
-) -> Result<(), Memory>
+) -> Result<Moves, Memory>
     requires { All (λ q. q < a.now.states) set.now }
-    ensures moves { OnOk result (moves.new ≡ moves_of (reads_at a.now number) (set_edges (automaton_of a.now) set.now)) }
-    ensures within { OnOk result (All (IsWithin a.now.states) moves.new) }
+    ensures moves { IfOk result (λ moves. moves ≡ moves_of (reads_at a.now number) (set_edges (automaton_of a.now) set.now)) }
+    ensures within { IfOk result (All (IsWithin a.now.states)) }
 {
     a.whole();
+    let mut moves = list;
     moves.clear();
     'set: for state in set {
-        push_moves(moves, a, *state, number)?;
+        push_moves(&mut moves, a, *state, number)?;
     }
-    Ok(())
+    Ok(moves)
 }
 
 /// Adds the moves from this state, edge by edge.

@@ -3,48 +3,25 @@
 ghost use Rattle.std.specs.Prelude.{◌≡◌};
 
 use crate::fault::step_fault;
-use crate::moves::list_moves;
+use crate::moves::moves_at;
 use aut_base::Memory;
 use aut_core::Automaton;
 use exploration::{StepFault, System};
-use label_guards::{Guard, Guards};
+use label_guards::Guard;
 use letter_classes::{ClassStore, classes_of_set};
 use safra_trees::{Event, Moves, Room, SafraTree};
 use std::alloc::Global;
+use std::mem;
 
 /// The trees of an automaton, and a store that has its guards and those of the classes that were asked for.
 #[derive(Drop)]
 pub(crate) struct Trees<'a> {
-    automaton: &'a Automaton,
-    guards: ClassStore,
-    /// The moves of the step in hand.
-    moves: Moves,
+    pub(crate) automaton: &'a Automaton,
+    pub(crate) guards: ClassStore,
+    /// A list for the moves of a step, which the next one uses again.
+    pub(crate) moves: Moves,
     /// What each step fills.
-    room: Room,
-}
-
-impl<'a> Trees<'a> {
-    ghost use Rattle.std.specs.Prelude.{◌≡◌};
-
-    /// The trees of this automaton, with its guards in this store.
-    pub(crate) fn new(alloc: Global, automaton: &'a Automaton, guards: Guards) -> Trees<'a>
-        ensures automaton { result.automaton.now ≡ automaton.now }
-        ensures guards { result.guards ≡ guards }
-    {
-        Trees {
-            automaton,
-            guards: ClassStore::new(alloc, guards),
-            moves: Moves::new(alloc),
-            room: Room::new(alloc),
-        }
-    }
-
-    /// The store alone.
-    pub(crate) fn into_guards(self) -> Guards
-        ensures { result ≡ self.guards }
-    {
-        self.guards.into_guards()
-    }
+    pub(crate) room: Room,
 }
 
 impl<'a> System for Trees<'a> {
@@ -107,10 +84,19 @@ impl<'a> System for Trees<'a> {
         let Some(number) = self.guards.guards().meeting(class) else {
             unreachable!()
         };
-        list_moves(&mut self.moves, self.automaton, thing.root_states(), number)?;
-        let states = self.automaton.states();
-        match safra_trees::step(alloc, states, thing, &self.moves, &mut self.room) {
-            Ok(made) => Ok(Some(made)),
+        let list = mem::replace(&mut self.moves, Moves::new(alloc));
+        let moves = moves_at(list, self.automaton, thing.root_states(), number)?;
+        match safra_trees::step(
+            alloc,
+            self.automaton.states(),
+            thing,
+            &moves,
+            &mut self.room,
+        ) {
+            Ok(made) => {
+                self.moves = moves;
+                Ok(Some(made))
+            }
             Err(fault) => Err(step_fault(fault)),
         }
     }

@@ -42,8 +42,8 @@ returns-in-Ok-clause-gives c = record {
   keeps = c.requires.fits.keeps;
 }
 
-pub returns-clause-step : goal.returns-clause-step
-returns-clause-step c =
+pub returns-in-Err-clause-step : goal.returns-in-Err-clause-step
+returns-in-Err-clause-step c =
     let a = c.args.self.now.automaton.now in
     let s = c.args.self.now.guards in
     let t = tree_of c.args.thing.now in
