@@ -5,5 +5,6 @@ pub mod Explored
 pub mod FewNodes
 pub mod Formed
 pub mod ParityLaws
+pub mod Refused
 pub mod TreeSteps
 pub mod Widths
