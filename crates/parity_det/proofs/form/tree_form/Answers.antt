@@ -36,19 +36,19 @@ pub returns-in_err-found-clause-trees : goal.returns-in_err-found-clause-trees
 returns-in_err-found-clause-trees c = λ is.
     let b = c.args.b.now in
     let started = c.in_ok-first.ensures.tree ∙ ap (λ n. first_tree n c.starts.result.now) c.states.ensures ∙ ap (first_tree b.states) c.starts.ensures in
-    let fault = trees_fault c.in_err-found.field-0 (told_fault c.from_residual-in_err-found.result _ _ c.from_residual-in_err-found.ensures.1 is) in
-    met_first (automaton_of b) (tree_of c.in_ok-first.first) c.in_err-found.field-0 limit.Things started c.in_err-found.ensures.meets fault (λ other. cc)
+    let fault = trees_fault c.in_err-found.field-0.0 (told_fault c.from_residual-in_err-found.result _ _ c.from_residual-in_err-found.ensures.1 is) in
+    met_first (automaton_of b) (tree_of c.in_ok-first.first) c.in_err-found.field-0.0 limit.Things started c.in_err-found.ensures.meets fault (λ other. cc)
 
 pub returns-in_err-found-clause-nodes : goal.returns-in_err-found-clause-nodes
 returns-in_err-found-clause-nodes c = λ is.
     let b = c.args.b.now in
     let started = c.in_ok-first.ensures.tree ∙ ap (λ n. first_tree n c.starts.result.now) c.states.ensures ∙ ap (first_tree b.states) c.starts.ensures in
-    let fault = nodes_fault c.in_err-found.field-0 (told_fault c.from_residual-in_err-found.result _ _ c.from_residual-in_err-found.ensures.1 is) in
-    met_first (automaton_of b) (tree_of c.in_ok-first.first) c.in_err-found.field-0 limit.Nodes started c.in_err-found.ensures.meets fault (λ other. cc)
+    let fault = nodes_fault c.in_err-found.field-0.0 (told_fault c.from_residual-in_err-found.result _ _ c.from_residual-in_err-found.ensures.1 is) in
+    met_first (automaton_of b) (tree_of c.in_ok-first.first) c.in_err-found.field-0.0 limit.Nodes started c.in_err-found.ensures.meets fault (λ other. cc)
 
 pub returns-in_err-found-clause-classes : goal.returns-in_err-found-clause-classes
 returns-in_err-found-clause-classes c = λ is.
     let b = c.args.b.now in
     let started = c.in_ok-first.ensures.tree ∙ ap (λ n. first_tree n c.starts.result.now) c.states.ensures ∙ ap (first_tree b.states) c.starts.ensures in
-    let fault = classes_fault c.in_err-found.field-0 (told_fault c.from_residual-in_err-found.result _ _ c.from_residual-in_err-found.ensures.1 is) in
-    met_first (automaton_of b) (tree_of c.in_ok-first.first) c.in_err-found.field-0 limit.Classes started c.in_err-found.ensures.meets fault (λ other. cc)
+    let fault = classes_fault c.in_err-found.field-0.0 (told_fault c.from_residual-in_err-found.result _ _ c.from_residual-in_err-found.ensures.1 is) in
+    met_first (automaton_of b) (tree_of c.in_ok-first.first) c.in_err-found.field-0.0 limit.Classes started c.in_err-found.ensures.meets fault (λ other. cc)
