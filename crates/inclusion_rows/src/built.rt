@@ -1,4 +1,6 @@
-//! Automata as the call takes them.
+//! Automata as the calls take them.
+
+ghost use Rattle.std.specs.Prelude.{◌+◌, ◌<◌, ◌^◌};
 
 use crate::small::{Ask, Condition, SmallEdge};
 use aut_base::{
@@ -7,7 +9,7 @@ use aut_base::{
 };
 use aut_core::Automaton;
 use aut_ops::PairFault;
-use inclusion::counterexample;
+use inclusion::{accept_together, counterexample};
 use std::alloc::Global;
 
 /// What is answered of two automata.
@@ -17,7 +19,7 @@ pub(crate) enum Answer {
     None,
     Names,
     Pairs,
-    /// One of them isn't well formed.
+    /// One of them isn't well formed, or two calls answer otherwise.
     Nothing,
 }
 
@@ -42,6 +44,9 @@ pub(crate) fn answered(
         && a.sets() <= 2
         && b.sets() <= 2
     {
+        if !is_told_alike(alloc, &a, &b)? {
+            return Ok(Answer::Nothing);
+        }
         return match counterexample(alloc, &a, &b) {
             Ok(Some(word)) => Ok(Answer::Word(word)),
             Ok(None) => Ok(Answer::None),
@@ -51,6 +56,23 @@ pub(crate) fn answered(
         };
     }
     Ok(Answer::Nothing)
+}
+
+/// Whether it is said without a word that there is one just where one is found, and refused just where that is.
+fn is_told_alike(alloc: Global, a: &Automaton, b: &Automaton) -> Result<bool, Memory>
+    requires { a.now.sets + b.now.sets < 2 ^ 32 }
+{
+    let found = match counterexample(alloc, a, b) {
+        Ok(found) => Some(found.is_some()),
+        Err(PairFault::Memory) => return Err(Memory),
+        Err(_) => None,
+    };
+    let some = match accept_together(alloc, a, b) {
+        Ok(some) => Some(some),
+        Err(PairFault::Memory) => return Err(Memory),
+        Err(_) => None,
+    };
+    Ok(found == some)
 }
 
 /// The automaton over names of one byte each, where state 0 is the start, or None where it is none.

@@ -7,7 +7,7 @@ use aut_base::{
     Numbers, Text,
 };
 use aut_core::Automaton;
-use lasso_emptiness::accepted_word;
+use lasso_emptiness::{accepted_word, accepts_some};
 use std::alloc::Global;
 
 /// A word, as the truth of the name in each letter. A letter with another name stands as two.
@@ -17,11 +17,14 @@ struct Truths {
     cycle: Vec<bool>,
 }
 
-/// Whether the search finds a reduced word that is accepted, or none where no short word is.
+/// Whether the search finds a reduced word that is accepted, or none where no short word is, and whether it says without a
+/// word that there is one just where it finds one.
 pub(crate) fn agrees(alloc: Global, row: &Small) -> Result<bool, Memory> {
-    match found(alloc, &described(alloc, row)?)? {
-        Some(word) => is_right(alloc, row, &word),
-        None => Ok(!slow::accepts_some(row)),
+    let described = described(alloc, row)?;
+    let says_some = says_some(alloc, &described)?;
+    match found(alloc, &described)? {
+        Some(word) => Ok(says_some && is_right(alloc, row, &word)?),
+        None => Ok(!says_some && !slow::accepts_some(row)),
     }
 }
 
@@ -36,11 +39,25 @@ fn is_right(alloc: Global, row: &Small, word: &Lasso) -> Result<bool, Memory> {
 
 /// What the search finds, or None where the description isn't well formed.
 pub(crate) fn found(alloc: Global, described: &Description) -> Result<Option<Lasso>, Memory> {
+    match made(alloc, described)? {
+        Some(automaton) => accepted_word(alloc, &automaton),
+        None => Ok(None),
+    }
+}
+
+/// What is said without a word: whether there is one. Of a description that isn't well formed nothing is said.
+fn says_some(alloc: Global, described: &Description) -> Result<bool, Memory> {
+    match made(alloc, described)? {
+        Some(automaton) => accepts_some(alloc, &automaton),
+        None => Ok(false),
+    }
+}
+
+fn made(alloc: Global, described: &Description) -> Result<Option<Automaton>, Memory> {
     if !described.is_well_formed() || described.names.len() > 32 {
         return Ok(None);
     }
-    let automaton = Automaton::from_description(alloc, described)?;
-    accepted_word(alloc, &automaton)
+    Ok(Some(Automaton::from_description(alloc, described)?))
 }
 
 fn letter_truths(alloc: Global, letters: &[Letter]) -> Result<Vec<bool>, Memory> {
