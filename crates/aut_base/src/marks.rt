@@ -6,14 +6,14 @@ ghost use Rattle.aut_base.specs.Marks.{is_in};
 
 use crate::Memory;
 use smallvec::SmallVec;
-use std::alloc::Global;
+use std::alloc::{AllocError, Global};
 use std::marker::Model;
 
 // Why so: 'Few marks stand in the edge' in docs/DECISIONS.md.
 /// Numbers of acceptance sets, increasing and without repeats. Contracts see the list of the numbers.
-#[derive(Clone, Debug, Drop)]
+#[derive(Debug, Drop)]
 pub struct Marks {
-    items: SmallVec<u32, 2>,
+    items: SmallVec<u32, 4>,
 }
 
 impl Model for Marks {
@@ -26,8 +26,23 @@ impl Model for Marks {
     ghost invariant = { λ s. AllPairs (λ a b. a < b) s.items.items };
 }
 
+// Written out: a derived one goes by the clone of each number.
+impl Clone for Marks {
+    ghost use Rattle.std.specs.Prelude.{◌≡◌};
+
+    ghost is_clone = { λ marks copy. copy ≡ marks };
+
+    #[inline]
+    fn clone(&self) -> Result<Self, AllocError> {
+        let mut items = SmallVec::new(*self.items.allocator());
+        items.extend_from_slice(self.items.as_slice())?;
+        Ok(Marks { items })
+    }
+}
+
 impl Marks {
     /// No mark.
+    #[inline]
     pub fn new(alloc: Global) -> Self
         ensures { result ≡ [] }
     {
@@ -37,6 +52,7 @@ impl Marks {
     }
 
     /// The number of marks.
+    #[inline]
     pub fn len(&self) -> usize
         ensures { result ≡ length self.now }
     {
@@ -44,6 +60,7 @@ impl Marks {
     }
 
     /// Whether there is no mark.
+    #[inline]
     pub fn is_empty(&self) -> bool
         ensures { result ≡ (length self.now == 0) }
     {
@@ -51,6 +68,7 @@ impl Marks {
     }
 
     /// The mark at this place, from 0.
+    #[inline]
     pub fn at(&self, place: usize) -> &u32
         requires { place < length self.now }
         ensures value { Some result.now ≡ slice_get self.now place }
@@ -60,6 +78,7 @@ impl Marks {
     }
 
     /// Whether this set is among the marks.
+    #[inline]
     pub fn has(&self, set: u32) -> bool
         ensures { result ≡ is_in set self.now }
     {
@@ -67,6 +86,7 @@ impl Marks {
     }
 
     /// The marks, to go over. They increase.
+    #[inline]
     pub fn as_slice(&self) -> &[u32]
         ensures items { result.now ≡ self.now }
         ensures increasing { AllPairs (λ a b. a < b) self.now }
@@ -75,6 +95,7 @@ impl Marks {
     }
 
     /// Adds a mark that is greater than all before it. Refused for want of memory, it leaves the marks as they were.
+    #[inline]
     pub fn push(&mut self, item: u32) -> Result<(), Memory>
         requires { All (λ mark. mark < item) self.old }
         ensures ok { OnOk result (self.new ≡ self.old ++ item ∷ []) }

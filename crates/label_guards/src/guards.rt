@@ -170,6 +170,8 @@ impl Guards {
     }
 
     /// The place of the operation's result.
+    #[cycle(combine)]
+    #[inline]
     pub(crate) fn combine(
         &mut self,
         operation: Operation,
@@ -183,9 +185,28 @@ impl Guards {
         ensures joined { IfOk result (λ place. IsJoin self.new operation g h place) }
     {
         self.reduced();
-        if let Some(place) = shortcut(operation, g, h) {
-            return Ok(place);
+        match shortcut(operation, g, h) {
+            Some(place) => Ok(place),
+            None => self.combine_nodes(operation, g, h),
         }
+    }
+
+    /// The same where the nodes are to be looked at. It stands apart so that what needs no look costs no call.
+    #[cycle(combine)]
+    fn combine_nodes(
+        &mut self,
+        operation: Operation,
+        g: usize,
+        h: usize,
+    ) -> Result<usize, Memory>
+        requires left { HasPlace self.old g }
+        requires right { HasPlace self.old h }
+        requires inner { (2 ≤ g) ⊎ (2 ≤ h) }
+        ensures grows { Grows self.old self.new }
+        ensures kept { places self.old ≤ places self.new }
+        ensures joined { IfOk result (λ place. IsJoin self.new operation g h place) }
+    {
+        self.reduced();
         if let Some(place) = self.known(operation, g, h) {
             return Ok(place);
         }

@@ -6,11 +6,11 @@ use Rattle.label_guards.proofs.diagrams.Joins.{join_short, side_later, join_step
 use Rattle.label_guards.proofs.diagrams.Growth.{grows_on, grows_none}
 use Rattle.label_guards.proofs.guards.Guards.+combine.Goals as goal
 
-pub returns-in-Some-clause-joined : goal.returns-in-Some-clause-joined
-returns-in-Some-clause-joined t c = join_short _ c.reduced.ensures c.args.operation _ _ _ c.requires.left c.requires.right c.in-Some.ensures.short
+pub combine-returns-in-Some-clause-joined : goal.combine-returns-in-Some-clause-joined
+combine-returns-in-Some-clause-joined t c = join_short _ c.reduced.ensures c.args.operation _ _ _ c.requires.left c.requires.right c.in-Some.ensures.short
 
-pub choice-requires-clause-low_later : goal.choice-requires-clause-low_later
-choice-requires-clause-low_later t c =
+pub combine_nodes-choice-requires-clause-low_later : goal.combine_nodes-choice-requires-clause-low_later
+combine_nodes-choice-requires-clause-low_later t c =
     let g = c.sides-g_low.ensures in
     let h = c.sides-h_low.ensures in
     let a = g.low_bound in
@@ -19,8 +19,8 @@ choice-requires-clause-low_later t c =
     let y = c.requires.right in
     side_later c.combine.ensures.grows c.combine-2.ensures.grows c.args.operation _ _ _ _ (omega arith) (omega arith) g.low_later h.low_later c.in_ok-low.ensures.joined
 
-pub choice-requires-clause-high_later : goal.choice-requires-clause-high_later
-choice-requires-clause-high_later t c =
+pub combine_nodes-choice-requires-clause-high_later : goal.combine_nodes-choice-requires-clause-high_later
+combine_nodes-choice-requires-clause-high_later t c =
     let g = c.sides-g_low.ensures in
     let h = c.sides-h_low.ensures in
     let a = g.high_bound in
@@ -29,14 +29,14 @@ choice-requires-clause-high_later t c =
     let y = c.requires.right in
     side_later (grows_on c.combine.ensures.grows c.combine-2.ensures.grows) (grows_none _) c.args.operation _ _ _ _ (omega arith) (omega arith) g.high_later h.high_later c.in_ok-high.ensures.joined
 
-pub note-requires : goal.note-requires
-note-requires t c =
+pub combine_nodes-note-requires : goal.combine_nodes-note-requires
+combine_nodes-note-requires t c =
     let least : c.min-prop.result ≡ min (level c.args.self.now c.args.g) (level c.args.self.now c.args.h) = c.min-prop.ensures ∙ (λ i. min (c.level.ensures.level i) (c.level-2.ensures.level i)) in
     join_step c.combine.ensures.grows c.combine-2.ensures.grows c.choice.ensures.grows c.args.operation _ _ _ _ _ _ _ _ _ _ c.requires.left c.requires.right least c.sides-g_low.ensures
     c.sides-h_low.ensures c.in_ok-low.ensures.joined c.in_ok-high.ensures.joined c.in_ok-place.ensures.made
 
-pub returns-clause-joined : goal.returns-clause-joined
-returns-clause-joined t c =
+pub combine_nodes-returns-clause-joined : goal.combine_nodes-returns-clause-joined
+combine_nodes-returns-clause-joined t c =
     let least : c.min-prop.result ≡ min (level c.args.self.now c.args.g) (level c.args.self.now c.args.h) = c.min-prop.ensures ∙ (λ i. min (c.level.ensures.level i) (c.level-2.ensures.level i)) in
     let joined : IsJoin c.choice.new.self c.args.operation c.args.g c.args.h c.in_ok-place.place =
     join_step c.combine.ensures.grows c.combine-2.ensures.grows c.choice.ensures.grows c.args.operation _ _ _ _ _ _ _ _ _ _ c.requires.left c.requires.right least c.sides-g_low.ensures
