@@ -15,9 +15,11 @@ pub enum Label {
     True,
     False,
     Prop(u32),
+    /// A proposition behind `!`: most negations are of one, and this takes no box. It is seen as the negation that it is.
+    Negated(u32),
     Not(Box<Label>),
-    And(Labels),
-    Or(Labels),
+    And(Box<Labels>),
+    Or(Box<Labels>),
 }
 
 // Why so: 'Two parts by structure' in docs/DECISIONS.md.
@@ -25,8 +27,8 @@ pub enum Label {
 #[cycle(label)]
 #[derive(Debug, Drop)]
 pub struct Labels {
-    first: Box<Label>,
-    second: Box<Label>,
+    first: Label,
+    second: Label,
     others: Vec<Label>,
 }
 
@@ -40,12 +42,19 @@ impl Label {
             Label::True => Ok(Label::True),
             Label::False => Ok(Label::False),
             Label::Prop(place) => Ok(Label::Prop(*place)),
+            Label::Negated(place) => Ok(Label::Negated(*place)),
             Label::Not(inner) => {
                 let inner = inner.copy(alloc)?;
                 Ok(Label::Not(Box::new(alloc, inner)?))
             }
-            Label::And(parts) => Ok(Label::And(parts.copy(alloc)?)),
-            Label::Or(parts) => Ok(Label::Or(parts.copy(alloc)?)),
+            Label::And(parts) => {
+                let parts = parts.copy(alloc)?;
+                Ok(Label::And(Box::new(alloc, parts)?))
+            }
+            Label::Or(parts) => {
+                let parts = parts.copy(alloc)?;
+                Ok(Label::Or(Box::new(alloc, parts)?))
+            }
         }
     }
 
@@ -61,6 +70,7 @@ impl Label {
             Label::True => true,
             Label::False => false,
             Label::Prop(place) => on[*place as usize],
+            Label::Negated(place) => !on[*place as usize],
             Label::Not(inner) => !inner.truth(on),
             Label::And(parts) => parts.first.truth(on)
                 && (parts.second.truth(on) && all_true(&parts.others, on)),
@@ -82,6 +92,7 @@ impl Label {
             Label::True => true,
             Label::False => false,
             Label::Prop(place) => letter.has(names.at(*place as usize)),
+            Label::Negated(place) => !letter.has(names.at(*place as usize)),
             Label::Not(inner) => !inner.holds(names, letter),
             Label::And(parts) => parts.first.holds(names, letter)
                 && (parts.second.holds(names, letter) && all_hold(&parts.others, names, letter)),
@@ -100,7 +111,7 @@ impl Label {
     {
         match self {
             Label::True | Label::False => true,
-            Label::Prop(place) => (*place as usize) < names,
+            Label::Prop(place) | Label::Negated(place) => (*place as usize) < names,
             Label::Not(inner) => inner.is_below(names),
             Label::And(parts) => parts.first.is_below(names)
                 && (parts.second.is_below(names) && all_below(&parts.others, names)),
@@ -126,16 +137,14 @@ fn all_below(parts: &[Label], names: usize) -> bool
 #[tactic(auto, using(crate::proofs::trees::LabelTrees::label_trees))]
 impl Labels {
     /// These two parts.
-    pub fn pair(alloc: Global, first: Label, second: Label) -> Result<Labels, Memory>
-        ensures { IfOk result (λ new. label_list new ≡ label_tree first ∷ label_tree second ∷ []) }
+    pub fn pair(alloc: Global, first: Label, second: Label) -> Labels
+        ensures { label_list result ≡ label_tree first ∷ label_tree second ∷ [] }
     {
-        let first = Box::new(alloc, first)?;
-        let second = Box::new(alloc, second)?;
-        Ok(Labels {
+        Labels {
             first,
             second,
             others: Vec::new(alloc),
-        })
+        }
     }
 
     /// Adds a part at the end. Refused for want of memory, it drops the part and leaves the others as they were.
@@ -174,7 +183,7 @@ impl Labels {
         ensures { IfOk result (λ new. label_parts new ≡ label_parts self.now) }
     {
         let first = self.first.copy(alloc)?;
-        let mut copies = Labels::pair(alloc, first, self.second.copy(alloc)?)?;
+        let mut copies = Labels::pair(alloc, first, self.second.copy(alloc)?);
         copies.others = copy_all(alloc, &self.others)?;
         Ok(copies)
     }

@@ -4,6 +4,7 @@ pub mod Classes
 pub mod Guards
 pub mod Leasts
 pub mod Nodes
+pub mod Numbers
 pub mod Operations
 pub mod Pieces
 pub mod Store

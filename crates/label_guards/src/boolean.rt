@@ -17,6 +17,7 @@ impl Guards {
     }
 
     /// The guard that is never true, `f`.
+    #[inline]
     pub fn never(&self) -> Guard
         ensures { IsGuardOf self.now (λ on. false) result }
     {
@@ -25,6 +26,7 @@ impl Guards {
     }
 
     /// The guard that is always true, `t`.
+    #[inline]
     pub fn always(&self) -> Guard
         ensures { IsGuardOf self.now (λ on. true) result }
     {
@@ -33,6 +35,7 @@ impl Guards {
     }
 
     /// The guard that is true where both are.
+    #[inline]
     pub fn and(&mut self, g: Guard, h: Guard) -> Result<Guard, Memory>
         requires left { Has self.old g }
         requires right { Has self.old h }
@@ -46,6 +49,7 @@ impl Guards {
     }
 
     /// The guard that is true where one of them is, or both.
+    #[inline]
     pub fn or(&mut self, g: Guard, h: Guard) -> Result<Guard, Memory>
         requires left { Has self.old g }
         requires right { Has self.old h }
@@ -71,6 +75,7 @@ impl Guards {
     }
 
     /// Whether the guard is never true, in constant time: `f` has one number.
+    #[inline]
     pub fn is_false(&self, g: Guard) -> bool
         requires { Has self.now g }
         ensures valuations { IsTrue result ↔ IsNeverMet self.now g }
@@ -81,6 +86,7 @@ impl Guards {
     }
 
     /// Whether the guards have the same truth, in constant time: they then have the same number.
+    #[inline]
     pub fn same(&self, g: Guard, h: Guard) -> bool
         requires left { Has self.now g }
         requires right { Has self.now h }

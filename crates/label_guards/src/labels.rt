@@ -37,6 +37,7 @@ impl Guards {
             Label::True => Ok(1),
             Label::False => Ok(0),
             Label::Prop(prop) => self.choice(*prop, 0, 1),
+            Label::Negated(prop) => self.choice(*prop, 1, 0),
             Label::Not(inner) => self.place_of_not(inner),
             Label::And(parts) => self.place_of_all(parts),
             Label::Or(parts) => self.place_of_some(parts),
@@ -166,6 +167,10 @@ fn as_literal(label: &Label) -> Option<Literal>
         Label::Prop(prop) => Some(Literal {
             prop: *prop,
             holds: true,
+        }),
+        Label::Negated(prop) => Some(Literal {
+            prop: *prop,
+            holds: false,
         }),
         Label::Not(inner) => negated(inner),
         _ => None,

@@ -11,6 +11,7 @@ mod guards;
 mod holds;
 mod labels;
 mod law;
+mod letter;
 mod nodes;
 mod numbers;
 mod pick;

@@ -14,7 +14,7 @@ use std::alloc::Global;
 pub(crate) enum Chain {
     Nothing,
     One(Label),
-    Several(Labels),
+    Several(Box<Labels>),
 }
 
 #[tactic(auto, using(aut_base::proofs::trees::LabelTrees::label_trees))]
@@ -25,7 +25,10 @@ impl Chain {
     {
         match self {
             Chain::Nothing => Ok(Chain::One(label)),
-            Chain::One(first) => Ok(Chain::Several(Labels::pair(alloc, first, label)?)),
+            Chain::One(first) => {
+                let pair = Labels::pair(alloc, first, label);
+                Ok(Chain::Several(Box::new(alloc, pair)?))
+            }
             Chain::Several(mut labels) => {
                 labels.push(label)?;
                 Ok(Chain::Several(labels))

@@ -1,5 +1,7 @@
 -- Labels whose aliases are replaced, part by part.
 use Rattle.std.proofs.Common.{◌≡◌, ◌<◌, ◌≤◌, ℕ, zero, suc, List, [], ◌∷◌, map, length, get_or, Option, Some, None, refl, ap, ◌∙◌, arith}
+use Rattle.std.specs.Global.{Global}
+use Rattle.std.specs.declared.boxed.Box.{Box}
 use Rattle.aut_base.proofs.trees.LabelTrees.{label_tree-And, label_tree-Or}
 use Rattle.aut_base.specs.Label.{LabelTree, LabelTrees, label_list, label_size, label_tree, labels_size, trees}
 use Rattle.aut_base.specs.declared.label.Label.TheVariants as label
@@ -29,10 +31,10 @@ abbrev as_or : List LabelTree → LabelTree
 as_or (a ∷ b ∷ cs) = LabelTree.Or a b (trees cs)
 as_or _ = LabelTree.True
 
-pub and_of : (p : Labels) (a b : LabelTree) (cs : List LabelTree) → label_list p ≡ a ∷ b ∷ cs → label_tree (label.And p) ≡ LabelTree.And a b (trees cs)
+pub and_of : (p : Box Labels Global) (a b : LabelTree) (cs : List LabelTree) → label_list p.value ≡ a ∷ b ∷ cs → label_tree (label.And p) ≡ LabelTree.And a b (trees cs)
 and_of p a b cs e = label_tree-And p ∙ ap as_and e
 
-pub or_of : (p : Labels) (a b : LabelTree) (cs : List LabelTree) → label_list p ≡ a ∷ b ∷ cs → label_tree (label.Or p) ≡ LabelTree.Or a b (trees cs)
+pub or_of : (p : Box Labels Global) (a b : LabelTree) (cs : List LabelTree) → label_list p.value ≡ a ∷ b ∷ cs → label_tree (label.Or p) ≡ LabelTree.Or a b (trees cs)
 or_of p a b cs e = label_tree-Or p ∙ ap as_or e
 
 pub parts_expanded : (ms : List Meaning) (ps : List RawLabel) → each_expanded ms (raw_trees (map raw_tree ps)) ≡ trees (map (λ p. expanded ms (raw_tree p)) ps)

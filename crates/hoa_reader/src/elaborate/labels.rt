@@ -29,7 +29,7 @@ pub(crate) fn expand<'a>(
         RawLabel::True => Ok(Label::True),
         RawLabel::False => Ok(Label::False),
         RawLabel::Prop(place) => Ok(Label::Prop(*place)),
-        RawLabel::Negated(place) => negated(alloc, *place),
+        RawLabel::Negated(place) => Ok(Label::Negated(*place)),
         RawLabel::Alias(name) => match known.find(name) {
             Some(alias) => expand(alloc, defs[alias.place].label, defs, known),
             None => Ok(Label::False),
@@ -38,8 +38,14 @@ pub(crate) fn expand<'a>(
             let inner = expand(alloc, inner, defs, known)?;
             Ok(Label::Not(Box::new(alloc, inner)?))
         }
-        RawLabel::And(parts) => Ok(Label::And(expand_parts(alloc, parts, defs, known)?)),
-        RawLabel::Or(parts) => Ok(Label::Or(expand_parts(alloc, parts, defs, known)?)),
+        RawLabel::And(parts) => {
+            let parts = expand_parts(alloc, parts, defs, known)?;
+            Ok(Label::And(Box::new(alloc, parts)?))
+        }
+        RawLabel::Or(parts) => {
+            let parts = expand_parts(alloc, parts, defs, known)?;
+            Ok(Label::Or(Box::new(alloc, parts)?))
+        }
     }
 }
 
@@ -56,7 +62,7 @@ fn expand_parts<'a>(
 {
     let first = expand(alloc, &parts.first, defs, known)?;
     let second = expand(alloc, &parts.second, defs, known)?;
-    let mut labels = Labels::pair(alloc, first, second)?;
+    let mut labels = Labels::pair(alloc, first, second);
     'others: for part in &parts.others {
         let part = expand(alloc, part, defs, known)?;
         labels.push(part)?;
@@ -66,21 +72,13 @@ fn expand_parts<'a>(
 
 /// The proposition, where the bit of its place is set in the letter's number, else its negation.
 #[tactic(auto, using(aut_base::proofs::trees::LabelTrees::label_trees))]
-fn literal(alloc: Global, letter: u64, place: u32) -> Result<Label, Memory>
-    ensures { IfOk result (λ new. label_tree new ≡ literal letter place) }
+fn literal(letter: u64, place: u32) -> Label
+    ensures { label_tree result ≡ literal letter place }
 {
     if is_set(letter, place) {
-        return Ok(Label::Prop(place));
+        return Label::Prop(place);
     }
-    negated(alloc, place)
-}
-
-/// The negation of the proposition.
-#[tactic(auto, using(aut_base::proofs::trees::LabelTrees::label_trees))]
-fn negated(alloc: Global, place: u32) -> Result<Label, Memory>
-    ensures { IfOk result (λ new. label_tree new ≡ LabelTree.Not (LabelTree.Prop place)) }
-{
-    Ok(Label::Not(Box::new(alloc, Label::Prop(place))?))
+    Label::Negated(place)
 }
 
 /// Whether the bit of this place is set.
@@ -100,8 +98,11 @@ pub(crate) fn letter_label(alloc: Global, names: u32, letter: u64) -> Result<Lab
 {
     match names {
         0 => Ok(Label::True),
-        1 => literal(alloc, letter, 0),
-        _ => Ok(Label::And(literals(alloc, names, letter)?)),
+        1 => Ok(literal(letter, 0)),
+        _ => {
+            let literals = literals(alloc, names, letter)?;
+            Ok(Label::And(Box::new(alloc, literals)?))
+        }
     }
 }
 
@@ -110,11 +111,11 @@ fn literals(alloc: Global, names: u32, letter: u64) -> Result<Labels, Memory>
     requires { 2 ≤ names }
     ensures { IfOk result (λ new. label_list new ≡ map (literal letter) (below names)) }
 {
-    let first = literal(alloc, letter, 0)?;
-    let second = literal(alloc, letter, 1)?;
-    let mut labels = Labels::pair(alloc, first, second)?;
+    let first = literal(letter, 0);
+    let second = literal(letter, 1);
+    let mut labels = Labels::pair(alloc, first, second);
     'places: for place in 2..names {
-        labels.push(literal(alloc, letter, place)?)?;
+        labels.push(literal(letter, place))?;
     }
     Ok(labels)
 }

@@ -13,7 +13,7 @@ use Rattle.word_syntax.specs.declared.token.Token.TheVariants as token
 abbrev pub chain_list : Chain → List LabelTree
 chain_list Nothing = []
 chain_list (One l) = label_tree l ∷ []
-chain_list (Several ls) = label_list ls
+chain_list (Several ls) = label_list ls.value
 
 abbrev pub level_tree : Level → LevelTree
 level_tree l = record { around = l.around; ors = chain_list l.ors; ands = chain_list l.ands; nots = l.nots }

@@ -1,6 +1,6 @@
 use Rattle.std.proofs.Common.{◌≡◌, ◌<◌, ◌≤◌, ℕ, List, map, Option, Some, IfOk, get_or, sym, ap, ◌∙◌, subst, arith, false}
 use Rattle.aut_base.proofs.trees.LabelTrees.{label_tree-False}
-use Rattle.aut_base.specs.Label.{LabelTree, label_size, label_tree, labels_size}
+use Rattle.aut_base.specs.Label.{LabelTree, label_list, label_size, label_tree, labels_size}
 use Rattle.hoa_reader.proofs.labels.ExpandedLabels.{and_of, bit_small, or_of, part_size, parts_expanded, size_pos}
 use Rattle.hoa_parser.proofs.grammar.RawTrees.{raw_tree-Alias, raw_tree-And-fields, raw_tree-Or-fields}
 use Rattle.hoa_reader.proofs.labels.Meanings.{meaning_missing}
@@ -41,21 +41,21 @@ expand-returns-in-None t c =
     let gone : is_listed (meaning_names (meanings_by defs)) name ≡ false = subst P (sym c.find.ensures ∙ c.in-None.is) (c.requires name) in
     label_tree-False ∙ sym (is_alias defs c.args.label.now name c.in-Alias.is ∙ meaning_missing (meanings_by defs) name gone)
 
-pub expand-returns-in_ok-expand_parts-in-And : goal.expand-returns-in_ok-expand_parts-in-And
-expand-returns-in_ok-expand_parts-in-And t c =
+pub expand-returns-in_ok-new-in-And : goal.expand-returns-in_ok-new-in-And
+expand-returns-in_ok-new-in-And t c =
     let ms = meanings_by c.args.defs.now in
     let p = c.in-And.parts in
-    and_of c.in_ok-expand_parts-in-And.field-0 (expanded ms (raw_tree p.value.first)) (expanded ms (raw_tree p.value.second)) (map (λ x. expanded ms (raw_tree x)) p.value.others.items)
-    (rw c.deref-in-And.ensures at c.in_ok-expand_parts-in-And.ensures)
+    and_of c.in_ok-new-in-And.field-0 (expanded ms (raw_tree p.value.first)) (expanded ms (raw_tree p.value.second)) (map (λ x. expanded ms (raw_tree x)) p.value.others.items)
+    (ap label_list c.in_ok-new-in-And.ensures.ok ∙ (rw c.deref-in-And.ensures at c.in_ok-parts-in-And.ensures))
     ∙ ap (LabelTree.And (expanded ms (raw_tree p.value.first)) (expanded ms (raw_tree p.value.second))) (sym (parts_expanded ms p.value.others.items))
     ∙ sym (ap (λ l. expanded ms (raw_tree l)) c.in-And.is ∙ ap (expanded ms) (raw_tree-And-fields p))
 
-pub expand-returns-in_ok-expand_parts-in-Or : goal.expand-returns-in_ok-expand_parts-in-Or
-expand-returns-in_ok-expand_parts-in-Or t c =
+pub expand-returns-in_ok-new-in-Or : goal.expand-returns-in_ok-new-in-Or
+expand-returns-in_ok-new-in-Or t c =
     let ms = meanings_by c.args.defs.now in
     let p = c.in-Or.parts in
-    or_of c.in_ok-expand_parts-in-Or.field-0 (expanded ms (raw_tree p.value.first)) (expanded ms (raw_tree p.value.second)) (map (λ x. expanded ms (raw_tree x)) p.value.others.items)
-    (rw c.deref-in-Or.ensures at c.in_ok-expand_parts-in-Or.ensures)
+    or_of c.in_ok-new-in-Or.field-0 (expanded ms (raw_tree p.value.first)) (expanded ms (raw_tree p.value.second)) (map (λ x. expanded ms (raw_tree x)) p.value.others.items)
+    (ap label_list c.in_ok-new-in-Or.ensures.ok ∙ (rw c.deref-in-Or.ensures at c.in_ok-parts-in-Or.ensures))
     ∙ ap (LabelTree.Or (expanded ms (raw_tree p.value.first)) (expanded ms (raw_tree p.value.second))) (sym (parts_expanded ms p.value.others.items))
     ∙ sym (ap (λ l. expanded ms (raw_tree l)) c.in-Or.is ∙ ap (expanded ms) (raw_tree-Or-fields p))
 

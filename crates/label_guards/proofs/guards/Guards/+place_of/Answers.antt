@@ -2,7 +2,7 @@ use Rattle.std.proofs.Common.{◌≡◌, ◌∙◌, ◌-◌, ap, not, subst, sym
 use Rattle.std.proofs.lemmas.Result.{IfOk-weaker}
 use Rattle.aut_base.specs.Label.{AllBelow, LabelTree, label_list, label_tree, truth}
 use Rattle.aut_base.proofs.trees.LabelSizes.{label_size-at}
-use Rattle.aut_base.proofs.trees.LabelTrees.{label_tree-True, label_tree-False, label_tree-Prop}
+use Rattle.aut_base.proofs.trees.LabelTrees.{label_tree-True, label_tree-False, label_tree-Prop, label_tree-Negated}
 use Rattle.label_guards.specs.declared.guards.Operation.TheVariants.{And, Or}
 use Rattle.label_guards.proofs.diagrams.Growth.{grows_on, grows_none}
 use Rattle.label_guards.proofs.labelled.Parts.{place_same, true_place, false_place, prop_place, negated_place, not_place, place_of_label, part_below, all_none}
@@ -18,6 +18,11 @@ place_of-returns-in-False-clause-place t c = place_of_label _ _ _ 0 (ap label_tr
 pub place_of-returns-in-Prop-clause-place : goal.place_of-returns-in-Prop-clause-place
 place_of-returns-in-Prop-clause-place t c =
     IfOk-weaker c.choice.result _ _ (λ place made. place_of_label _ _ _ place (ap label_tree c.in-Prop.is ∙ label_tree-Prop _) (prop_place _ _ place made)) c.choice.ensures.made
+
+pub place_of-returns-in-Negated-clause-place : goal.place_of-returns-in-Negated-clause-place
+place_of-returns-in-Negated-clause-place t c =
+    IfOk-weaker c.choice-in-Negated.result _ _ (λ place made. place_of_label _ _ _ place (ap label_tree c.in-Negated.is ∙ label_tree-Negated _) (negated_place _ _ place made))
+    c.choice-in-Negated.ensures.made
 
 pub place_of_not-returns-in-Prop-clause-place : goal.place_of_not-returns-in-Prop-clause-place
 place_of_not-returns-in-Prop-clause-place t c =

@@ -1,0 +1,12 @@
+-- Valuations by their numbers, where labels are implicit (HOA v1, implicit labels).
+use Rattle.std.specs.Prelude.{ℕ, zero, suc, ◌/◌, ◌%◌, ◌^◌, ◌==◌, Bool, true, ◌&&◌}
+use Rattle.std.specs.Bool.{beq}
+
+-- bit k of the number
+abbrev pub is_set : ℕ → ℕ → Bool
+is_set number k = (number / (2 ^ k)) % 2 == 1
+
+-- whether just those of the first n propositions hold whose bits are set
+abbrev pub is_at : ℕ → ℕ → (ℕ → Bool) → Bool
+is_at number zero on = true
+is_at number (suc n) on = is_at number n on && beq (on n) (is_set number n)
