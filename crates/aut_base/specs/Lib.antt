@@ -2,6 +2,7 @@ pub mod Acceptance
 pub mod Automaton
 pub mod CanonicalLabel
 pub mod Examples
+pub mod FewNumbers
 pub mod Formula
 pub mod Label
 pub mod LabelExamples

@@ -8,6 +8,7 @@
 
 mod description;
 mod fault;
+mod few;
 mod formula;
 mod label;
 mod law;
@@ -20,6 +21,7 @@ mod well_formed;
 
 pub use description::{Description, Edge, Edges};
 pub use fault::{Failed, Memory, OpenFail};
+pub use few::FewNumbers;
 pub use formula::{Formula, Formulas};
 pub use label::{Label, Labels};
 pub use law::{

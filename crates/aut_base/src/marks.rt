@@ -4,16 +4,14 @@ ghost use Rattle.std.specs.Prelude.{◌≡◌, ◌==◌, ◌<◌, ℕ, [], ◌�
 ghost use Rattle.std.specs.List.{slice_index_or};
 ghost use Rattle.aut_base.specs.Marks.{is_in};
 
-use crate::Memory;
-use smallvec::SmallVec;
+use crate::{FewNumbers, Memory};
 use std::alloc::{AllocError, Global};
 use std::marker::Model;
 
-// Why so: 'Few marks stand in the edge' in docs/DECISIONS.md.
 /// Numbers of acceptance sets, increasing and without repeats. Contracts see the list of the numbers.
 #[derive(Debug, Drop)]
 pub struct Marks {
-    items: SmallVec<u32, 4>,
+    items: FewNumbers,
 }
 
 impl Model for Marks {
@@ -21,12 +19,11 @@ impl Model for Marks {
 
     ghost Value = { List ℕ };
 
-    ghost view = { λ s. s.items.items };
+    ghost view = { λ s. s.items };
 
-    ghost invariant = { λ s. AllPairs (λ a b. a < b) s.items.items };
+    ghost invariant = { λ s. AllPairs (λ a b. a < b) s.items };
 }
 
-// Written out: a derived one goes by the clone of each number.
 impl Clone for Marks {
     ghost use Rattle.std.specs.Prelude.{◌≡◌};
 
@@ -34,9 +31,9 @@ impl Clone for Marks {
 
     #[inline]
     fn clone(&self) -> Result<Self, AllocError> {
-        let mut items = SmallVec::new(*self.items.allocator());
-        items.extend_from_slice(self.items.as_slice())?;
-        Ok(Marks { items })
+        Ok(Marks {
+            items: self.items.clone()?,
+        })
     }
 }
 
@@ -47,7 +44,7 @@ impl Marks {
         ensures { result ≡ [] }
     {
         Marks {
-            items: SmallVec::new(alloc),
+            items: FewNumbers::new(alloc),
         }
     }
 
@@ -101,9 +98,6 @@ impl Marks {
         ensures ok { OnOk result (self.new ≡ self.old ++ item ∷ []) }
         ensures err { OnErr result (self.new ≡ self.old) }
     {
-        match self.items.push(item) {
-            Ok(()) => Ok(()),
-            Err(_) => Err(Memory),
-        }
+        self.items.push(item)
     }
 }

@@ -1,6 +1,6 @@
 -- What the guards of links tell, link by link.
 use Rattle.aut_base.proofs.numbers.Truth.{or-false}
-use Rattle.std.proofs.Common.{◌≡◌, ◌∙◌, ◌↔◌, ◌+◌, ℕ, Bool, true, false, ◌&&◌, ◌||◌, IsTrue, List, [], ◌∷◌, ◌++◌, ap, arith, get_or, length, length-append, map, refl, subst, sym}
+use Rattle.std.proofs.Common.{◌≡◌, ◌∙◌, ◌↔◌, ◌+◌, ◌<◌, ◌≤◌, ℕ, Bool, true, false, ◌&&◌, ◌||◌, IsTrue, List, [], ◌∷◌, ◌++◌, All, ap, arith, get_or, length, length-append, map, refl, subst, sym}
 use Rattle.std.proofs.lemmas.Bool.{and_from, and_parts, false≢true}
 use Rattle.std.proofs.lemmas.List.{get_or_append_left, get_or-append-add, map-append}
 use Rattle.std.proofs.lemmas.List.Folds.{Any-from_list_any, list_any-append, list_any_at}
@@ -13,11 +13,11 @@ use Rattle.label_guards.specs.Guards.{IsGuardOf, IsMetByTheSame, truth_in}
 use Rattle.label_guards.specs.Store.{Has, Keeps, Store, label_in}
 use Rattle.label_guards.specs.declared.guard.Guard.{Guard}
 use Rattle.aut_core.specs.Core.{edge_of}
-use Rattle.aut_core.specs.Surveys.{AreAllApart, AreMetApart, IsSurvey}
+use Rattle.aut_core.specs.Surveys.{AreAllApart, AreMetApart, IsMetAlways, IsSurvey}
 use Rattle.aut_core.specs.Deterministic.{AreApart, is_met}
 use Rattle.aut_core.specs.declared.link.Link.{Link}
 use Rattle.aut_core.specs.declared.survey.Survey.{Survey}
-use Rattle.aut_core.proofs.Growth.{keeps_none, keeps_on}
+use Rattle.aut_core.proofs.Growth.{keeps_none, keeps_on, kept_edges}
 
 -- what is known after these links: the guard that is true where one of theirs is, and whether they are apart, if that is asked
 pub record IsLooked (names : List (List ℕ)) (old now : Store) (links : List Link) (met : Guard) (asked are_apart : Bool) : Type 0 where
@@ -125,3 +125,45 @@ looked_enough names old s links more all met known are parted not_apart not_fill
   );
   filled = ((λ e. absurd (false≢true e)), (λ h. sym not_filled ∙ h.0));
 }
+
+pub no_link : (xs : List Link) → length xs < 1 → [] ≡ xs
+no_link [] none = refl
+no_link (x ∷ xs) none = absurd (omega (arith, none))
+
+pub one_link : (xs : List Link) (x : Link) → 1 ≤ length xs → length xs < 2 → x ≡ get_or xs 0 x → x ∷ [] ≡ xs
+one_link [] x some few is = absurd (omega (arith, some))
+one_link (y ∷ []) x some few is = ap (λ z. z ∷ []) is
+one_link (y ∷ z ∷ zs) x some few is = absurd (omega (arith, few))
+
+-- Without a link nothing is met, and nothing twice.
+pub none_surveyed : (names : List (List ℕ)) (s : Store) (never : Guard) (known found : Survey) → IsGuardOf s (λ on. false) never → found.apart ≡ known.apart
+    → (IsTrue found.filled ↔ (IsTrue known.filled × IsMetAlways s names never)) → IsSurvey names [] known found
+none_surveyed names s never known found is apart filled = record {
+  apart = (
+    (λ e. (sym apart ∙ e, λ i j d less within. absurd (omega (arith, within)))),
+    (λ h. apart ∙ h.0),
+  );
+  filled = (
+    (λ e. (let parts = filled.0 e in (parts.0, λ letter. sym (is.truth (holds_at names letter)) ∙ parts.1 letter))),
+    (λ h. filled.1 (h.0, λ letter. is.truth (holds_at names letter) ∙ h.1 letter)),
+  );
+}
+
+-- One link alone is met where its guard is, and none twice.
+pub one_surveyed : (names : List (List ℕ)) (s : Store) (x : Link) (known found : Survey) → found.apart ≡ known.apart
+    → (IsTrue found.filled ↔ (IsTrue known.filled × IsMetAlways s names x.guard)) → IsSurvey names (edge_of s x ∷ []) known found
+one_surveyed names s x known found apart filled = record {
+  apart = (
+    (λ e. (sym apart ∙ e, λ i j d less within. absurd (omega (arith, less, within)))),
+    (λ h. apart ∙ h.0),
+  );
+  filled = (
+    (λ e. (let parts = filled.0 e in (parts.0, λ letter. or-false (truth_in s x.guard (holds_at names letter)) ∙ parts.1 letter))),
+    (λ h. filled.1 (h.0, λ letter. sym (or-false (truth_in s x.guard (holds_at names letter))) ∙ h.1 letter)),
+  );
+}
+
+-- What is said of edges in a store that keeps the labels.
+pub kept_survey : (names : List (List ℕ)) (s t : Store) (links : List Link) (known found : Survey) → Keeps s t → All (λ l. Has s l.guard) links
+    → IsSurvey names (map (edge_of t) links) known found → IsSurvey names (map (edge_of s) links) known found
+kept_survey names s t links known found keeps has = subst (λ (es : List TreeEdge). IsSurvey names es known found) (kept_edges links keeps has)

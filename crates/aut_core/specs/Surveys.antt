@@ -31,6 +31,10 @@ pub record IsSurvey (names : List (List ℕ)) (es : List TreeEdge) (known found 
 abbrev pub AreMetApart : Store → List (List ℕ) → Guard → Guard → Type 0
 AreMetApart s names g h = (letter : NameSet) → (truth_in s g (holds_at names letter) && truth_in s h (holds_at names letter)) ≡ false
 
+-- each letter meets the guard
+abbrev pub IsMetAlways : Store → List (List ℕ) → Guard → Type 0
+IsMetAlways s names g = (letter : NameSet) → truth_in s g (holds_at names letter) ≡ true
+
 -- both of the edges of each state below this one
 pub record AreSurveyed (names : List (List ℕ)) (es : List TreeEdge) (states : ℕ) (found : Survey) : Type 0 where
   pub apart : IsTrue found.apart ↔ ((state : ℕ) → state < states → AreAllApart names (edges_from state es))

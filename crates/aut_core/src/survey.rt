@@ -1,10 +1,10 @@
 //! What the guards of each state's links tell together.
 
-ghost use Rattle.std.specs.Prelude.{◌≡◌, ◌↔◌, All, IfOk, IsTrue, map};
+ghost use Rattle.std.specs.Prelude.{◌≡◌, ◌↔◌, ℕ, List, All, IfOk, IfSome, IsSome, IsTrue, OnOk, map};
 ghost use Rattle.std.specs.List.Sorted.{IsNonDecreasing};
 ghost use Rattle.aut_core.specs.Core.{edge_of};
 ghost use Rattle.aut_core.specs.Index.{IsIndex};
-ghost use Rattle.aut_core.specs.Surveys.{AreMetApart, AreSurveyed, IsSurvey};
+ghost use Rattle.aut_core.specs.Surveys.{AreMetApart, AreSurveyed, IsMetAlways, IsSurvey};
 ghost use Rattle.label_guards.specs.Guards.{AreNames};
 ghost use Rattle.label_guards.specs.Store.{Has, Keeps};
 
@@ -27,7 +27,7 @@ pub(crate) struct Surveyed {
     pub(crate) rows: Places,
 }
 
-/// What is true at every state, with an index of the links, in one pass. The disjunctions go into a store that is let go.
+/// What is true at every state, with an index of the links, in one pass.
 pub(crate) fn survey_states(
     alloc: Global,
     guards: &Guards,
@@ -41,25 +41,8 @@ pub(crate) fn survey_states(
     ensures found { IfOk result (λ all. AreSurveyed names.now (map (edge_of guards.now) links.now) states all.found) }
     ensures rows { IfOk result (λ all. IsIndex links.now states all.rows) }
 {
-    let mut store = guards.copy(alloc)?;
-    survey_rows(alloc, &mut store, names, links, states)
-}
-
-/// The same, with the disjunctions in this store.
-fn survey_rows(
-    alloc: Global,
-    store: &mut Guards,
-    names: &Names,
-    links: &[Link],
-    states: u32,
-) -> Result<Surveyed, Memory>
-    requires names { AreNames store.old names.now }
-    requires has { All (λ l. Has store.old l.guard) links.now }
-    requires in_order { IsNonDecreasing (map (λ l. l.from) links.now) }
-    ensures found { IfOk result (λ all. AreSurveyed names.now (map (edge_of store.old) links.now) states all.found) }
-    ensures rows { IfOk result (λ all. IsIndex links.now states all.rows) }
-{
     let mut rows = Vec::with_capacity(alloc, states as usize + 1)?;
+    let mut room = None;
     let mut start = 0usize;
     let mut found = Survey {
         apart: true,
@@ -68,7 +51,7 @@ fn survey_rows(
     rows.push(start)?;
     'states: for state in 0..states {
         let end = row_end(links, start, state);
-        found = survey_state(store, names, &links[start..end], found)?;
+        found = survey_state(alloc, guards, &mut room, names, &links[start..end], found)?;
         rows.push(end)?;
         start = end;
     }
@@ -78,9 +61,62 @@ fn survey_rows(
     })
 }
 
-/// What is still true with the links of one state more. Each is compared with the disjunction of those before it, as long as
-/// there is anything to learn.
+/// What is still true with the links of one state more. Where there are several, their disjunctions go into a store that is let
+/// go: a copy of this one, which is made at the first such state.
 fn survey_state(
+    alloc: Global,
+    guards: &Guards,
+    room: &mut Option<Guards>,
+    names: &Names,
+    links: &[Link],
+    known: Survey,
+) -> Result<Survey, Memory>
+    requires names { AreNames guards.now names.now }
+    requires has { All (λ l. Has guards.now l.guard) links.now }
+    requires room { IfSome room.old (Keeps guards.now) }
+    ensures room { IfSome room.new (Keeps guards.now) }
+    ensures found { IfOk result (IsSurvey names.now (map (edge_of guards.now) links.now) known) }
+{
+    match links {
+        [] => Ok(survey_met(guards, known, guards.never())),
+        [link] => Ok(survey_met(guards, known, link.guard)),
+        _ => {
+            make_room(alloc, guards, room)?;
+            match room {
+                Some(store) => survey_links(store, names, links, known),
+                None => unreachable!(),
+            }
+        }
+    }
+}
+
+/// Makes the copy of the store, if there is none yet.
+fn make_room(alloc: Global, guards: &Guards, room: &mut Option<Guards>) -> Result<(), Memory>
+    requires { IfSome room.old (Keeps guards.now) }
+    ensures keeps { IfSome room.new (Keeps guards.now) }
+    ensures some { OnOk result (IsSome room.new) }
+{
+    if room.is_none() {
+        *room = Some(guards.copy(alloc)?);
+    }
+    Ok(())
+}
+
+/// What is still true with links of one state, no two of which are met by one letter, where one is met where this guard is.
+fn survey_met(guards: &Guards, known: Survey, met: Guard) -> Survey
+    requires { Has guards.now met }
+    ensures apart { result.apart ≡ known.apart }
+    ensures filled { (names : List (List ℕ)) → AreNames guards.now names → (IsTrue result.filled ↔ (IsTrue known.filled × IsMetAlways guards.now names met)) }
+{
+    Survey {
+        apart: known.apart,
+        filled: known.filled && guards.same(met, guards.always()),
+    }
+}
+
+/// What is still true with these links. Each is compared with the disjunction of those before it, as long as there is anything to
+/// learn.
+fn survey_links(
     store: &mut Guards,
     names: &Names,
     links: &[Link],

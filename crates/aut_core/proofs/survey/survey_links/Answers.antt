@@ -7,7 +7,7 @@ use Rattle.aut_core.specs.Surveys.{IsSurvey}
 use Rattle.aut_core.specs.declared.link.Link.{Link}
 use Rattle.aut_core.proofs.Growth.{keeps_on}
 use Rattle.aut_core.proofs.Surveys.{IsLooked, looked_all, looked_enough, looked_more, looked_none}
-use Rattle.aut_core.proofs.survey.survey_state.Goals as goal
+use Rattle.aut_core.proofs.survey.survey_links.Goals as goal
 
 pub links-init : goal.links-init
 links-init c = looked_none c.args.names.now c.args.store.now c.never-met.result c.args.known.apart c.never-met.ensures

@@ -1,0 +1,147 @@
+//! Few numbers, which lie in the value itself.
+
+ghost use Rattle.std.specs.Prelude.{◌≡◌, ◌==◌, [], ◌∷◌, ◌++◌, length, IfOk, OnOk, OnErr};
+ghost use Rattle.aut_base.specs.FewNumbers.{held_numbers};
+
+use crate::Memory;
+use std::alloc::{AllocError, Global};
+use std::marker::Model;
+
+// Why so: 'What is short lies in the value itself' in docs/DECISIONS.md.
+/// Numbers, of which up to three lie in the value itself: nearly all sets of an edge, goals and starts are as few. Contracts see
+/// the list.
+#[derive(Debug, Drop)]
+pub struct FewNumbers {
+    alloc: Global,
+    held: Held,
+}
+
+/// Where the numbers lie.
+#[derive(Debug, Drop)]
+pub(crate) enum Held {
+    None,
+    One([u32; 1]),
+    Two([u32; 2]),
+    Three([u32; 3]),
+    More(Box<Vec<u32>>),
+}
+
+impl Model for FewNumbers {
+    ghost use Rattle.std.specs.Prelude.{ℕ, List};
+    ghost use Rattle.aut_base.specs.FewNumbers.{held_numbers};
+
+    ghost Value = { List ℕ };
+
+    ghost view = { λ n. held_numbers n.held };
+}
+
+impl FewNumbers {
+    /// No number yet.
+    #[inline]
+    pub fn new(alloc: Global) -> FewNumbers
+        ensures { result ≡ [] }
+    {
+        FewNumbers {
+            alloc,
+            held: Held::None,
+        }
+    }
+
+    /// The numbers, to go over.
+    #[inline]
+    pub fn as_slice(&self) -> &[u32]
+        ensures { result.now ≡ self.now }
+    {
+        match &self.held {
+            Held::None => &[],
+            Held::One(numbers) => &numbers[..],
+            Held::Two(numbers) => &numbers[..],
+            Held::Three(numbers) => &numbers[..],
+            Held::More(numbers) => numbers.as_slice(),
+        }
+    }
+
+    /// How many there are.
+    #[inline]
+    pub fn len(&self) -> usize
+        ensures { result ≡ length self.now }
+    {
+        self.as_slice().len()
+    }
+
+    /// Whether there is none.
+    #[inline]
+    pub fn is_empty(&self) -> bool
+        ensures { result ≡ (length self.now == 0) }
+    {
+        self.as_slice().is_empty()
+    }
+
+    /// Adds a number at the end. Refused for want of memory, it leaves the list as it was.
+    #[inline]
+    pub fn push(&mut self, number: u32) -> Result<(), Memory>
+        ensures ok { OnOk result (self.new ≡ self.old ++ number ∷ []) }
+        ensures err { OnErr result (self.new ≡ self.old) }
+    {
+        let next = match &mut self.held {
+            Held::None => Held::One([number]),
+            Held::One(before) => Held::Two([before[0], number]),
+            Held::Two(before) => Held::Three([before[0], before[1], number]),
+            Held::Three(before) => four(self.alloc, before, number)?,
+            Held::More(numbers) => {
+                return push_more(numbers, number);
+            }
+        };
+        self.held = next;
+        Ok(())
+    }
+}
+
+/// Three numbers and one more.
+#[cold]
+fn four(alloc: Global, three: &[u32], number: u32) -> Result<Held, Memory>
+    ensures { IfOk result (λ held. held_numbers held ≡ three.now ++ number ∷ []) }
+{
+    let mut numbers = Vec::from_slice(alloc, three)?;
+    numbers.push(number)?;
+    Ok(Held::More(Box::new(alloc, numbers)?))
+}
+
+/// Adds a number to a list.
+fn push_more(numbers: &mut Vec<u32>, number: u32) -> Result<(), Memory>
+    ensures ok { OnOk result (numbers.new.items ≡ numbers.old.items ++ number ∷ []) }
+    ensures err { OnErr result (numbers.new.items ≡ numbers.old.items) }
+{
+    match numbers.push(number) {
+        Ok(()) => Ok(()),
+        Err(_) => Err(Memory),
+    }
+}
+
+impl Clone for FewNumbers {
+    ghost use Rattle.std.specs.Prelude.{◌≡◌};
+
+    ghost is_clone = { λ numbers copy. copy ≡ numbers };
+
+    #[inline]
+    fn clone(&self) -> Result<Self, AllocError> {
+        let held = match &self.held {
+            Held::None => Held::None,
+            Held::One(numbers) => Held::One([numbers[0]]),
+            Held::Two(numbers) => Held::Two([numbers[0], numbers[1]]),
+            Held::Three(numbers) => Held::Three([numbers[0], numbers[1], numbers[2]]),
+            Held::More(numbers) => Held::More(copied(self.alloc, numbers.as_slice())?),
+        };
+        Ok(FewNumbers {
+            alloc: self.alloc,
+            held,
+        })
+    }
+}
+
+/// The same numbers, in a list of their own.
+fn copied(alloc: Global, numbers: &[u32]) -> Result<Box<Vec<u32>>, AllocError>
+    ensures { IfOk result (λ copy. copy.value.items ≡ numbers.now) }
+{
+    Ok(Box::new(alloc, Vec::from_slice(alloc, numbers)?)?)
+}
