@@ -9,7 +9,10 @@ pub slice_end : (bytes : List ℕ) (from : ℕ) → take (length bytes - from) (
 slice_end bytes from = let size = length-drop from bytes in take_all (length bytes - from) (drop from bytes) (omega arith)
 
 -- what a block holds behind the first bytes that it holds
-pub held_behind : (block : List ℕ) (place end count : ℕ) → count ≤ length (held block place end) → held block (place + count) end ≡ drop count (held block place end)
+pub held_behind : (block : List ℕ) (place end count : ℕ) → count ≤ length (held block place end)
+    → held block (place + count) end ≡ drop count (held block place end)
 held_behind block place end count within =
-    let more : end - place ≡ count + (end - (place + count)) = omega (arith, length-take (end - place) (drop place block)) in
-    ap (take (end - (place + count))) (sym (drop-drop count place block)) ∙ sym (drop-take count (end - (place + count)) (drop place block)) ∙ ap (λ n. drop count (take n (drop place block))) (sym more)
+    let left = end - (place + count) in
+    let more : end - place ≡ count + left = omega (arith, length-take (end - place) (drop place block)) in
+    ap (take left) (sym (drop-drop count place block)) ∙ sym (drop-take count left (drop place block))
+    ∙ ap (λ n. drop count (take n (drop place block))) (sym more)
