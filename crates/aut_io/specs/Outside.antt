@@ -43,6 +43,12 @@ Takes (Some old) new (Err e) = new ≡ Some old
 Takes (Some []) new (Ok byte) = (byte ≡ None) × (new ≡ Some [])
 Takes (Some (b ∷ rest)) new (Ok byte) = (byte ≡ Some b) × (new ≡ Some rest)
 
+-- What is left once exactly these bytes of it were taken.
+abbrev pub Passes : Option (List ℕ) → List ℕ → Option (List ℕ) → Type 0
+Passes None bytes new = new ≡ None
+Passes (Some old) bytes None = ⊥
+Passes (Some old) bytes (Some new) = old ≡ bytes ++ new
+
 -- what was written has gained the piece
 abbrev pub Gains : Option (List ℕ) → Option (List ℕ) → List ℕ → Type 0
 Gains None new piece = new ≡ None

@@ -4,7 +4,7 @@ use Rattle.aut_base.specs.declared.fault.Failed.{Failed}
 use Rattle.aut_base.specs.declared.fault.OpenFail.{OpenFail}
 use Rattle.aut_base.specs.declared.fault.OpenFail.TheVariants as fail
 use Rattle.aut_io.specs.InMemory.{SinkState, SourceState, TextState}
-use Rattle.aut_io.specs.Outside.{Closed, Gains, GainsPrefix, Opened, Rose, Takes, Texts}
+use Rattle.aut_io.specs.Outside.{Closed, Gains, GainsPrefix, Opened, Passes, Rose, Takes, Texts}
 
 -- What inputs tell. The counts stand still at the last value of a `u64`.
 pub record Seen : Type 0 where
@@ -41,6 +41,14 @@ pub record Nexts (old : Seen) (result : Result (Option ℕ) Failed) (new : Seen)
   pub later : old.read_faults ≤ new.read_faults
   pub openings : new.openings ≡ old.openings
   pub opens : new.open_faults ≡ old.open_faults
+
+-- These bytes were taken, without a read.
+pub record Skips (old : Seen) (bytes : List ℕ) (new : Seen) : Type 0 where
+  pub texts : new.texts ≡ old.texts
+  pub passes : Passes old.left bytes new.left
+  pub openings : new.openings ≡ old.openings
+  pub opens : new.open_faults ≡ old.open_faults
+  pub reads : new.read_faults ≡ old.read_faults
 
 -- What a sink tells: all that was written, where the object tells it, and how many writes failed.
 pub record SinkSeen : Type 0 where

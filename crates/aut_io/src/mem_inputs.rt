@@ -1,6 +1,6 @@
 //! A source in memory that fails where it is told to.
 
-ghost use Rattle.std.specs.Prelude.{◌≡◌, ◌||◌, [], not, is_err, length, OnErr, IsErrOf};
+ghost use Rattle.std.specs.Prelude.{◌≡◌, ◌≤◌, ◌||◌, [], not, is_err, length, OnErr, IsErrOf};
 ghost use Rattle.std.specs.FinMap.{contains_key, from_entries};
 ghost use Rattle.std.specs.List.{zip};
 ghost use Rattle.aut_io.specs.InMemory.{is_listed};
@@ -13,7 +13,8 @@ use aut_base::{Failed, Names, Numbers, OpenFail, Text, Words};
 use std::marker::Model;
 
 /// Texts in memory under names. A call of `open` or `next` fails where its number, counted from 0 over both,
-/// is listed, and `open` also where the name isn't there.
+/// is listed, and `open` also where the name isn't there. It has no bytes at hand, so that each is taken by a call of `next`,
+/// which is counted and may fail.
 #[derive(Debug, Drop)]
 pub struct MemInputs {
     store: TextStore,
@@ -49,9 +50,11 @@ impl MemInputs {
 }
 
 impl Inputs for MemInputs {
-    ghost use Rattle.aut_io.specs.Seen.{Nexts, Opens, seen_of};
+    ghost use Rattle.aut_io.specs.Seen.{Nexts, Opens, Skips, seen_of};
 
     ghost seen = { seen_of };
+
+    ghost at_hand = { λ _. [] };
 
     ghost may_open = { λ _. Unit {0} };
 
@@ -89,4 +92,15 @@ impl Inputs for MemInputs {
         }
         Ok(self.store.take())
     }
+
+    fn ahead(&self) -> &[u8]
+        ensures { result.now ≡ [] }
+    {
+        b""
+    }
+
+    fn skip(&mut self, count: usize)
+        requires { count ≤ 0 }
+        ensures { self.new ≡ self.old }
+    {}
 }

@@ -1,6 +1,6 @@
 //! A source in memory that never fails.
 
-ghost use Rattle.std.specs.Prelude.{◌≡◌, [], length, IsOk};
+ghost use Rattle.std.specs.Prelude.{◌≡◌, ◌≤◌, [], length, take, IsOk};
 ghost use Rattle.std.specs.FinMap.{from_entries};
 ghost use Rattle.std.specs.List.{zip};
 
@@ -9,7 +9,7 @@ use crate::text_store::TextStore;
 use aut_base::{Failed, Names, OpenFail, Text, Words};
 use std::marker::Model;
 
-/// Texts in memory under names. No call fails: a name that isn't there stands for the empty text.
+/// Texts in memory under names. No call fails: a name that isn't there stands for the empty text. All that is left is at hand.
 #[derive(Debug, Drop)]
 pub struct SureInputs {
     store: TextStore,
@@ -39,9 +39,11 @@ impl SureInputs {
 }
 
 impl Inputs for SureInputs {
-    ghost use Rattle.aut_io.specs.Seen.{Nexts, Opens, seen_of_sure};
+    ghost use Rattle.aut_io.specs.Seen.{Nexts, Opens, Skips, seen_of_sure};
 
     ghost seen = { seen_of_sure };
+
+    ghost at_hand = { λ s. s.left };
 
     ghost may_open = { λ _. Unit {0} };
 
@@ -58,5 +60,18 @@ impl Inputs for SureInputs {
         ensures nexts { Nexts (seen_of_sure self.old) result (seen_of_sure self.new) }
     {
         Ok(self.store.take())
+    }
+
+    fn ahead(&self) -> &[u8]
+        ensures { result.now ≡ self.now.left }
+    {
+        self.store.ahead()
+    }
+
+    fn skip(&mut self, count: usize)
+        requires { count ≤ length self.old.left }
+        ensures skips { Skips (seen_of_sure self.old) (take count self.old.left) (seen_of_sure self.new) }
+    {
+        self.store.skip(count);
     }
 }

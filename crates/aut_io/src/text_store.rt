@@ -1,6 +1,6 @@
 //! Texts under names, of which one at a time may be open.
 
-ghost use Rattle.std.specs.Prelude.{◌≡◌, ◌<◌, None, Some, [], length, MatchOption, drop, slice_get};
+ghost use Rattle.std.specs.Prelude.{◌≡◌, ◌<◌, ◌≤◌, None, Some, [], length, MatchOption, drop, slice_get};
 ghost use Rattle.std.specs.Cmp.Lexicographic.{slice_cmp};
 ghost use Rattle.std.specs.FinMap.{contains_key, find, from_entries};
 ghost use Rattle.std.specs.List.{slice_index_or, zip};
@@ -24,9 +24,9 @@ pub(crate) struct TextStore {
 }
 
 impl Model for TextStore {
-    ghost use Rattle.std.specs.Prelude.{◌≡◌, ◌<◌, IfSome, length};
+    ghost use Rattle.std.specs.Prelude.{◌≡◌, ◌<◌, ◌≤◌, [], IfSome, length};
     ghost use Rattle.std.specs.FinMap.{from_entries};
-    ghost use Rattle.std.specs.List.{zip};
+    ghost use Rattle.std.specs.List.{slice_index_or, zip};
     ghost use Rattle.aut_io.specs.Codes.{text_state_code};
     ghost use Rattle.aut_io.specs.InMemory.{TextState, rest_of};
 
@@ -36,7 +36,7 @@ impl Model for TextStore {
 
     ghost view = { λ s. record { texts = from_entries (zip s.names s.texts); left = rest_of s.texts s.opened s.taken; openings = s.openings } };
 
-    ghost invariant = { λ s. (length s.texts ≡ length s.names) × IfSome s.opened (λ k. k < length s.texts) };
+    ghost invariant = { λ s. (length s.texts ≡ length s.names) × IfSome s.opened (λ k. (k < length s.texts) × (s.taken ≤ length (slice_index_or s.texts k []))) };
 }
 
 impl TextStore {
@@ -89,6 +89,26 @@ impl TextStore {
         } else {
             None
         }
+    }
+
+    /// All that is left of the open text.
+    pub(crate) fn ahead(&self) -> &[u8]
+        ensures { result.now ≡ self.now.left }
+    {
+        match self.opened {
+            Some(place) => &self.texts.at(place).as_slice()[self.taken..],
+            None => b"",
+        }
+    }
+
+    /// Takes so many bytes of what is left.
+    pub(crate) fn skip(&mut self, count: usize)
+        requires { count ≤ length self.old.left }
+        ensures { self.new ≡ record self.old { left = drop count self.old.left } }
+    {
+        let Some(place) = self.opened else { return };
+        let left = self.texts.at(place).len() - self.taken;
+        self.taken += count.min(left);
     }
 }
 

@@ -4,5 +4,6 @@ pub mod Comments
 pub mod Dashes
 pub mod FirstBytes
 pub mod Numbers
+pub mod Runs
 pub mod Strings
 pub mod Words

@@ -1,5 +1,5 @@
-//! The tokens of HOA v1, read byte by byte: each the longest that the bytes allow, and not one byte more is
-//! taken than tells that it ends.
+//! The tokens of HOA v1, read byte by byte, and words by runs of the bytes at hand: each token the longest that the bytes
+//! allow, and not one byte more is taken than tells that it ends.
 //!
 //! A caller sees the lexer, its tokens with their names, its faults, and laws. What the next token of a text is stands in
 //! `specs/Text` and `specs/Spelling`, what an answer says in these terms in `specs/Reading`, and what each call counts in

@@ -16,7 +16,7 @@ pub const MOST_MADE: u32 = 10_000;
 
 // Why so: 'The generated stream is inputs of its own' in docs/DECISIONS.md.
 /// One text under the name `made`: rings of one to `count` states, one automaton after the other. It is generated as it
-/// is read, and no call fails. Any other name stands for the empty text.
+/// is read, and no call fails. Any other name stands for the empty text. It has no bytes at hand, since they stand in no memory.
 #[derive(Debug, Drop)]
 pub struct Made {
     count: u32,
@@ -70,6 +70,8 @@ impl Inputs for Made {
 
     ghost seen = { seen_of_made };
 
+    ghost at_hand = { λ _. [] };
+
     ghost may_open = { λ _. Unit {0} };
 
     fn open(&mut self, name: &Text) -> Result<(), OpenFail>
@@ -91,6 +93,17 @@ impl Inputs for Made {
     {
         Ok(self.take())
     }
+
+    fn ahead(&self) -> &[u8]
+        ensures { result.now ≡ [] }
+    {
+        b""
+    }
+
+    fn skip(&mut self, count: usize)
+        requires { count ≤ 0 }
+        ensures { self.new ≡ self.old }
+    {}
 }
 
 /// The text of the first automata, byte for byte, and the most of them in figures.

@@ -10,6 +10,14 @@ use Rattle.real_io.specs.declared.inputs.RealInputs.{RealInputs}
 abbrev pub seen_of : {R O F : Type 0} → RealInputs R O F → Seen
 seen_of s = record { texts = None; left = None; openings = s.openings; open_faults = s.open_faults; read_faults = s.read_faults }
 
+-- the bytes at hand: those of the block, where a text is open
+abbrev pub at_hand_in : {F : Type 0} → Origin F → List ℕ → List ℕ
+at_hand_in Nothing block = []
+at_hand_in _ block = block
+
+abbrev pub at_hand : {R O F : Type 0} → RealInputs R O F → List ℕ
+at_hand s = at_hand_in s.origin s.block
+
 -- the bytes of the block that are standard input's: while a file is open, they are the file's
 abbrev pub of_standard : {F : Type 0} → Origin F → List ℕ → List ℕ
 of_standard (File file) block = []

@@ -1,6 +1,6 @@
 //! Bytes of a reader, which are read by blocks.
 
-ghost use Rattle.std.specs.Prelude.{◌≡◌, ◌≢◌, ◌≤◌, ◌<◌, ◌∷◌, [], None, length, IfErr, IfOk, OnErr, OnOk};
+ghost use Rattle.std.specs.Prelude.{◌≡◌, ◌≢◌, ◌≤◌, ◌<◌, ◌∷◌, [], None, drop, length, IfErr, IfOk, OnErr, OnOk};
 ghost use Rattle.std.specs.IoError.{error_kind};
 ghost use Rattle.std.specs.Io.KnownBytes.{Consumes, IsAtEnd, Keeps, prepend_known};
 ghost use Rattle.real_io.specs.Unread.{GivesFirst, held};
@@ -68,6 +68,23 @@ impl Block {
             return Ok(None);
         }
         Ok(Some(self.give()))
+    }
+
+    /// The bytes that the block holds.
+    #[inline]
+    pub(crate) fn ahead(&self) -> &[u8]
+        ensures { result.now ≡ self.now }
+    {
+        &self.bytes[self.place..self.end]
+    }
+
+    /// Takes so many of the bytes that the block holds.
+    #[inline]
+    pub(crate) fn skip(&mut self, count: usize)
+        requires { count ≤ length self.old }
+        ensures { self.new ≡ drop count self.old }
+    {
+        self.place += count;
     }
 
     /// The first byte that the block holds.

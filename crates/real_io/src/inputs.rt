@@ -1,9 +1,10 @@
 //! Inputs over standard input and files.
 
-ghost use Rattle.std.specs.Prelude.{◌≡◌, ◌≢◌, [], IfOk, IsUtf8};
+ghost use Rattle.std.specs.Prelude.{◌≡◌, ◌≢◌, ◌≤◌, [], length, take, IfOk, IsUtf8};
+ghost use Rattle.std.specs.Io.KnownBytes.{Consumes};
 ghost use Rattle.aut_io.specs.Outside.{Rose};
-ghost use Rattle.aut_io.specs.Seen.{Nexts, Opens};
-ghost use Rattle.real_io.specs.Left.{KeepsStandard, of_standard, seen_of, unread, unread_standard};
+ghost use Rattle.aut_io.specs.Seen.{Nexts, Opens, Skips};
+ghost use Rattle.real_io.specs.Left.{KeepsStandard, at_hand, of_standard, seen_of, unread, unread_standard};
 ghost use Rattle.real_io.specs.Opening.{IsAnswered, OpensFile, fail_of, standard_name};
 ghost use Rattle.real_io.specs.Unread.{GivesFirst};
 
@@ -61,6 +62,8 @@ impl<R: Read + Drop, O: Opener + Drop> RealInputs<R, O> {
 
 impl<R: Read + Drop, O: Opener + Drop> Inputs for RealInputs<R, O> {
     ghost seen = { seen_of };
+
+    ghost at_hand = { at_hand };
 
     ghost may_open = { λ _. Unit {0} };
 
@@ -132,6 +135,36 @@ impl<R: Read + Drop, O: Opener + Drop> Inputs for RealInputs<R, O> {
                 self.read_faults = self.read_faults.saturating_add(1);
                 Err(fault)
             }
+        }
+    }
+
+    #[inline]
+    fn ahead(&self) -> &[u8]
+        ensures { result.now ≡ at_hand self.now }
+    {
+        match &self.origin {
+            Origin::Nothing => b"",
+            Origin::Standard | Origin::File(_) => self.block.ahead(),
+        }
+    }
+
+    #[inline]
+    fn skip(&mut self, count: usize)
+        requires { count ≤ length (at_hand self.old) }
+        ensures told { Skips (seen_of self.old) (take count (at_hand self.old)) (seen_of self.new) }
+
+        // These bytes are the first of what the open text has left, and the others stay.
+        ensures gives { Consumes (unread R.remaining O.File.remaining self.old) (unread R.remaining O.File.remaining self.new) (take count (at_hand self.old)) }
+        ensures open { self.new.origin ≡ self.old.origin }
+
+        // The same of standard input where it is open. Nothing is taken of it where it isn't.
+        ensures standard { self.old.origin ≡ Origin.Standard → Consumes (unread_standard R.remaining self.old) (unread_standard R.remaining self.new) (take count (at_hand self.old)) }
+        ensures kept { self.old.origin ≢ Origin.Standard → KeepsStandard self.old self.new }
+        ensures opener { self.new.opener ≡ self.old.opener }
+    {
+        match &self.origin {
+            Origin::Nothing => {}
+            Origin::Standard | Origin::File(_) => self.block.skip(count),
         }
     }
 }

@@ -1,6 +1,7 @@
 //! The kinds of bytes.
 
-ghost use Rattle.std.specs.Prelude.{◌≡◌};
+ghost use Rattle.std.specs.Prelude.{◌≡◌, ◌≤◌, length};
+ghost use Rattle.std.specs.List.{prefix_len};
 ghost use Rattle.hoa_lexer.specs.Bytes as kinds;
 
 /// Space, tab, line feed or carriage return.
@@ -33,4 +34,17 @@ pub(super) fn is_word(byte: u8) -> bool
     ensures { result ≡ kinds.is_word byte }
 {
     is_letter(byte) || is_digit(byte) || byte == b'-'
+}
+
+/// How many letters, digits and `-` stand at the front.
+pub(super) fn word_run(bytes: &[u8]) -> usize
+    ensures run { result ≡ prefix_len kinds.is_word bytes.now }
+    ensures within { result ≤ length bytes.now }
+{
+    for (place, byte) in bytes.iter().enumerate() {
+        if !is_word(*byte) {
+            return place;
+        }
+    }
+    bytes.len()
 }

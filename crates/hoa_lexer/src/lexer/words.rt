@@ -5,15 +5,15 @@ ghost use Rattle.hoa_lexer.specs.Reading.{held_count, unread, Tells};
 ghost use Rattle.hoa_lexer.specs.Bytes as kinds;
 
 use super::Lexer;
-use super::bytes::is_word;
+use super::bytes::{is_word, word_run};
 use crate::{LexFault, Name, Token};
 use aut_base::Memory;
 use aut_io::Inputs;
 use std::alloc::Global;
 
 impl Lexer {
-    ghost use Rattle.hoa_lexer.specs.Moves.{stop_of, stop_of_next};
-    ghost use Rattle.hoa_lexer.specs.inner.Steps.{AddsWords, Advances, HoldsAfter, ReadsToken};
+    ghost use Rattle.hoa_lexer.specs.Moves.{Elsewhere, stop_of, stop_of_next};
+    ghost use Rattle.hoa_lexer.specs.inner.Steps.{AddsWord, AddsWords, Advances, HoldsAfter, ReadsToken};
 
     /// An identifier or the name of a header, the first byte of which is held.
     pub(super) fn word<I: Inputs>(
@@ -83,6 +83,7 @@ impl Lexer {
         ensures none_held { IfErr result (λ fault. self.new.held ≡ None) }
         ensures advances { Advances (stop_of_next result) self.old self.new (I.seen inputs.old) (I.seen inputs.new) }
     {
+        self.take_run(inputs, name)?;
         'bytes: loop {
             match self.fetch(inputs)? {
                 Some(byte) => {
@@ -95,6 +96,26 @@ impl Lexer {
                 None => return Ok(None),
             }
         }
+    }
+
+    // Why so: 'Words are taken by runs' in docs/DECISIONS.md.
+    /// Adds to a name the letters, digits and `-` that stand next and are at hand, as many as may still be taken. Refused for want of
+    /// memory, it takes none of them.
+    fn take_run<I: Inputs>(&mut self, inputs: &mut I, name: &mut Name) -> Result<(), Memory>
+        requires { self.old.held ≡ None }
+        ensures answers { Tells (I.seen inputs.old) (I.seen inputs.new) (λ old new.
+            AddsWord name.old name.new old new) }
+        ensures held { self.new.held ≡ None }
+        ensures advances { Advances Elsewhere self.old self.new (I.seen inputs.old) (I.seen inputs.new) }
+    {
+        let ahead = inputs.ahead();
+        let most = (ahead.len() as u64).min(self.most - self.taken) as usize;
+        let run = word_run(&ahead[..most]);
+        name.extend(&ahead[..run])?;
+        inputs.skip(run);
+        self.taken += run as u64;
+        self.since += run as u64;
+        Ok(())
     }
 }
 
