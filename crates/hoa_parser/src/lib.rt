@@ -6,7 +6,6 @@
 #![tactic(auto)]
 
 mod fault;
-mod few_numbers;
 mod header;
 mod laws;
 mod parse;
@@ -14,7 +13,6 @@ mod raw;
 mod read;
 
 pub use fault::ReadFault;
-pub use few_numbers::FewNumbers;
 pub use laws::{
     bad_is_hopeless, can_be_written_down, grammar_examples, one_raw, one_standing, settled_stays,
     some_standing, whole_goes_no_further, written_down_is_read,

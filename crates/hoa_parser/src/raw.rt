@@ -5,8 +5,7 @@ ghost use Rattle.std.specs.Option.{option_copied};
 ghost use Rattle.hoa_parser.specs.Naming.{name_of};
 ghost use Rattle.hoa_parser.specs.Raw.{raw_list, raw_tree, written};
 
-use crate::FewNumbers;
-use aut_base::{Formula, Memory, Seq, Text, Words};
+use aut_base::{FewNumbers, Formula, Memory, Seq, Text, Words};
 use hoa_lexer::Name;
 use std::alloc::Global;
 

@@ -9,8 +9,8 @@ ghost use Rattle.hoa_parser.specs.inner.RuleReads as written;
 ghost use Rattle.hoa_parser.specs.inner.RuleReads.{AddsMarks, AddsNumbers, AreAccValues, AreMarks, AreTexts, AreValues, AreWords, IsConj};
 
 use super::tokens::{advance, number, quoted, refused, word};
-use crate::{FewNumbers, ReadFault};
-use aut_base::{Seq, Words};
+use crate::ReadFault;
+use aut_base::{FewNumbers, Seq, Words};
 use aut_io::Inputs;
 use hoa_lexer::{Lexer, Name, Token};
 use std::alloc::Global;

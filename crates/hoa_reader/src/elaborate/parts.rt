@@ -9,9 +9,9 @@ ghost use Rattle.hoa_reader.specs.inner.Pieces.{alias_def, acceptance_def, label
 
 use crate::elaborate::sizes::count_of_edges;
 use crate::elaborate::used::after_used;
-use aut_base::{Formula, Memory, Text};
+use aut_base::{FewNumbers, Formula, Memory, Text};
 use hoa_lexer::Name;
-use hoa_parser::{FewNumbers, Item, Raw, RawEdge, RawLabel, RawState};
+use hoa_parser::{Item, Raw, RawEdge, RawLabel, RawState};
 use std::alloc::Global;
 
 /// An alias with its label.

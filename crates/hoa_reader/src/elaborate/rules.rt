@@ -9,9 +9,9 @@ ghost use Rattle.aut_base.specs.Text.{same_text};
 ghost use Rattle.hoa_reader.specs.Validity.{all_differ, begins_with_capital, has_edge_per_letter, is_one_state, labels_one_way, marks_below, may_be_passed_over, names_agree, numbers_below, states_item};
 
 use crate::elaborate::places::Places;
-use aut_base::{Memory, Text};
+use aut_base::{FewNumbers, Memory, Text};
 use hoa_lexer::Name;
-use hoa_parser::{FewNumbers, Item, RawEdge, RawState};
+use hoa_parser::{Item, RawEdge, RawState};
 use std::alloc::Global;
 use std::collections::BTreeSet;
 

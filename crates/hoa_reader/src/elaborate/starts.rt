@@ -3,8 +3,7 @@
 ghost use Rattle.std.specs.Prelude.{◌≡◌, ◌≢◌, AllPairs, map, IfOk};
 ghost use Rattle.hoa_reader.specs.Described.{only_state, without_repeats};
 
-use aut_base::{Memory, Names, Numbers, Text};
-use hoa_parser::FewNumbers;
+use aut_base::{FewNumbers, Memory, Names, Numbers, Text};
 use std::alloc::Global;
 use std::collections::BTreeSet;
 

@@ -5,7 +5,8 @@ ghost use Rattle.hoa_reader.specs.Described.{after_all};
 ghost use Rattle.hoa_reader.specs.inner.Pieces.{goals, numbers, starts_named};
 ghost use Rattle.hoa_parser.specs.Raw.{written_edge, written_state};
 
-use hoa_parser::{FewNumbers, RawEdge, RawState};
+use aut_base::FewNumbers;
+use hoa_parser::{RawEdge, RawState};
 
 /// The least number that is above these, and no less than the other.
 fn after_numbers(numbers: &[u32], least: u64) -> u64
