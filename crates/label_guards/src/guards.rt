@@ -193,12 +193,7 @@ impl Guards {
 
     /// The same where the nodes are to be looked at. It stands apart so that what needs no look costs no call.
     #[cycle(combine)]
-    fn combine_nodes(
-        &mut self,
-        operation: Operation,
-        g: usize,
-        h: usize,
-    ) -> Result<usize, Memory>
+    fn combine_nodes(&mut self, operation: Operation, g: usize, h: usize) -> Result<usize, Memory>
         requires left { HasPlace self.old g }
         requires right { HasPlace self.old h }
         requires inner { (2 ≤ g) ⊎ (2 ≤ h) }
