@@ -7,6 +7,7 @@ use Rattle.std.proofs.lemmas.Option.{same_Some, slice_get-get_or}
 use Rattle.std.specs.FinSet.{contains}
 use Rattle.std.specs.List.{slice_index_or}
 use Rattle.std.specs.Map.{lookup}
+use Rattle.std.proofs.lemmas.Bool.{eqb-true}
 use Rattle.aut_base.proofs.canonical.CanonicalTruth.{label_of-same, truth_below}
 use Rattle.aut_base.specs.CanonicalLabel.{label_of}
 use Rattle.aut_base.specs.Label.{holds_at, truth}
@@ -23,9 +24,6 @@ use Rattle.ap_project.proofs.OtherNames.{apart, is_left}
 use Rattle.ap_project.specs.Hiding.{SameBut, hidden_label, hidden_truth, hidden_value, including, names_without, without}
 use Rattle.ap_project.specs.declared.hide.Hide.{Hide}
 use Rattle.ap_project.specs.inner.HiddenGuards.{AreHidden, ArePlaces, AreWithin, IsHiddenGuard, IsPut, hidden_in, name_at, same_guard}
-
-same_number : (a b : ℕ) → nat_eq a b ≡ true → a ≡ b
-same_number a b e = grind arith
 
 other_number : (a b : ℕ) → nat_eq a b ≡ false → a ≢ b
 other_number a b e = grind arith
@@ -66,7 +64,7 @@ table_more s t how prop to old new g found put are is = λ q h e. by q h (same_g
     by q h false differ e = are q h (sym (ap (λ b. cond b (Some found) (lookup (same_guard q) old)) differ) ∙ e)
     by q h true same e =
         let value : found ≡ h = same_Some found h (sym (ap (λ b. cond b (Some found) (lookup (same_guard q) old)) same) ∙ e) in
-        let place = same_number g.place q.place same in
+        let place = eqb-true g.place q.place same in
         let key : g ≡ q = λ i. record { place = place i } in
         subst (λ (x : Guard). IsHiddenGuard s t how prop to x h) key (subst (IsHiddenGuard s t how prop to g) value is)
 
@@ -116,7 +114,7 @@ module _ (s t : Store) (names : List (List ℕ)) (how : Hide) (prop : ℕ) (to :
     where
       by : (k : ℕ) → k < length names → (e : Bool) → nat_eq k prop ≡ e → with_prop (λ k. holds_in v (slice_index_or to k 0)) prop b k ≡ holds_at names y k
       by k less true e =
-          let same = same_number k prop e in
+          let same = eqb-true k prop e in
           ap (λ c. if c then b else holds_in v (slice_index_or to k 0)) e
           ∙ (sym here ∙ sym (ap (holds_at names y) same ∙ holds_there names prop (name_at names prop) y (slice_get-get_or names prop [] within)))
       by k less false e =

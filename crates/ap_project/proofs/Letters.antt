@@ -4,32 +4,28 @@ use Rattle.std.proofs.lemmas.Bool.{false_from_ne_true, true≢false}
 use Rattle.std.proofs.lemmas.Cmp.{eq_by_cmp_equiv, nat_list_cmp_total}
 use Rattle.std.proofs.lemmas.Map.Lookups.{exact_bytes}
 use Rattle.std.proofs.lemmas.Map.Views.{tells_apart}
-use Rattle.std.specs.Cmp.Lexicographic.{slice_cmp}
 use Rattle.std.specs.FinMap.{nat_cmp-IsAntisymmetric, slice_cmp-IsAntisymmetric}
 use Rattle.std.specs.FinSet as set
-use Rattle.std.specs.Ordering.{eq_by_cmp, nat_cmp}
+use Rattle.aut_base.proofs.words.LetterNames.{same_name}
 use Rattle.aut_base.specs.Word.{NameSet}
 use Rattle.ap_project.specs.Hiding.{SameBut, including, without}
-
-abbrev same : List ℕ → List ℕ → Bool
-same = eq_by_cmp (slice_cmp nat_cmp)
 
 same_from : (x y : NameSet) → ((q : List ℕ) → set.contains x q ≡ set.contains y q) → x ≡ y
 same_from x y is = set.same_set nat_list_cmp_total (slice_cmp-IsAntisymmetric nat_cmp-IsAntisymmetric) x y is
 
-is_other : (q name : List ℕ) → q ≢ name → same q name ≡ false
-is_other q name apart = false_from_ne_true (same q name) (λ e. apart (tells_apart exact_bytes q name e))
+is_other : (q name : List ℕ) → q ≢ name → same_name q name ≡ false
+is_other q name apart = false_from_ne_true (same_name q name) (λ e. apart (tells_apart exact_bytes q name e))
 
-is_same : (q name : List ℕ) → q ≡ name → same q name ≡ true
-is_same q name e = ap (λ p. same p name) e ∙ (eq_by_cmp_equiv nat_list_cmp_total).refl name
+is_same : (q name : List ℕ) → q ≡ name → same_name q name ≡ true
+is_same q name e = ap (λ p. same_name p name) e ∙ (eq_by_cmp_equiv nat_list_cmp_total).refl name
 
-apart_from : (q name : List ℕ) → same q name ≡ false → q ≢ name
+apart_from : (q name : List ℕ) → same_name q name ≡ false → q ≢ name
 apart_from q name differ e = true≢false (sym (is_same q name e) ∙ differ)
 
-has_without : (name : List ℕ) (x : NameSet) (q : List ℕ) → set.contains (without name x) q ≡ (not (same q name) && set.contains x q)
+has_without : (name : List ℕ) (x : NameSet) (q : List ℕ) → set.contains (without name x) q ≡ (not (same_name q name) && set.contains x q)
 has_without name x q = set.contains-remove nat_list_cmp_total x name q
 
-has_including : (name : List ℕ) (x : NameSet) (q : List ℕ) → set.contains (including name x) q ≡ (same q name || set.contains x q)
+has_including : (name : List ℕ) (x : NameSet) (q : List ℕ) → set.contains (including name x) q ≡ (same_name q name || set.contains x q)
 has_including name x q = set.contains-insert nat_list_cmp_total x name q
 
 pub but_without : (name : List ℕ) (x : NameSet) → SameBut name x (without name x)
@@ -40,14 +36,14 @@ but_including name x q apart = sym (has_including name x q ∙ ap (λ b. b || se
 
 -- what a letter says of one name, with another or that one taken out of it or put into it
 pub without_alike : (name : List ℕ) (x y : NameSet) (q : List ℕ) → (q ≢ name → set.contains x q ≡ set.contains y q) → set.contains (without name x) q ≡ set.contains (without name y) q
-without_alike name x y q but = has_without name x q ∙ (by (same q name) (set.contains x q) (set.contains y q) (λ differ. but (apart_from q name differ)) ∙ sym (has_without name y q))
+without_alike name x y q but = has_without name x q ∙ (by (same_name q name) (set.contains x q) (set.contains y q) (λ differ. but (apart_from q name differ)) ∙ sym (has_without name y q))
   where
     by : (b c d : Bool) → (b ≡ false → c ≡ d) → (not b && c) ≡ (not b && d)
     by true c d e = refl
     by false c d e = e refl
 
 pub including_alike : (name : List ℕ) (x y : NameSet) (q : List ℕ) → (q ≢ name → set.contains x q ≡ set.contains y q) → set.contains (including name x) q ≡ set.contains (including name y) q
-including_alike name x y q but = has_including name x q ∙ (by (same q name) (set.contains x q) (set.contains y q) (λ differ. but (apart_from q name differ)) ∙ sym (has_including name y q))
+including_alike name x y q but = has_including name x q ∙ (by (same_name q name) (set.contains x q) (set.contains y q) (λ differ. but (apart_from q name differ)) ∙ sym (has_including name y q))
   where
     by : (b c d : Bool) → (b ≡ false → c ≡ d) → (b || c) ≡ (b || d)
     by true c d e = refl
@@ -66,14 +62,14 @@ pub including_again : (name : List ℕ) (x : NameSet) → including name (withou
 including_again name x = sym (including_same name x (without name x) (but_without name x))
 
 pub absent_itself : (name : List ℕ) (x : NameSet) → set.contains x name ≡ false → without name x ≡ x
-absent_itself name x lacks = same_from (without name x) x (λ q. has_without name x q ∙ by (same q name) (set.contains x q) (λ e. ap (set.contains x) (tells_apart exact_bytes q name e) ∙ lacks))
+absent_itself name x lacks = same_from (without name x) x (λ q. has_without name x q ∙ by (same_name q name) (set.contains x q) (λ e. ap (set.contains x) (tells_apart exact_bytes q name e) ∙ lacks))
   where
     by : (b c : Bool) → (b ≡ true → c ≡ false) → (not b && c) ≡ c
     by true c e = sym (e refl)
     by false c e = refl
 
 pub present_itself : (name : List ℕ) (x : NameSet) → set.contains x name ≡ true → including name x ≡ x
-present_itself name x has = same_from (including name x) x (λ q. has_including name x q ∙ by (same q name) (set.contains x q) (λ e. ap (set.contains x) (tells_apart exact_bytes q name e) ∙ has))
+present_itself name x has = same_from (including name x) x (λ q. has_including name x q ∙ by (same_name q name) (set.contains x q) (λ e. ap (set.contains x) (tells_apart exact_bytes q name e) ∙ has))
   where
     by : (b c : Bool) → (b ≡ true → c ≡ true) → (b || c) ≡ c
     by true c e = sym (e refl)

@@ -1,27 +1,14 @@
 -- Words whose letters are related place by place, and runs that go over from one word and automaton to another.
-use Rattle.std.proofs.Common.{◌≡◌, ◌∙◌, ◌+◌, ◌*◌, ◌<◌, ◌≤◌, ℕ, zero, suc, true, List, [], ◌∷◌, ◌++◌, Contains, Some, ap, append_assoc, arith, length, map, refl, slice_get, subst, sym}
-use Rattle.std.proofs.Math.Nat.{le-mul_of_pos_right}
-use Rattle.std.proofs.lemmas.List.{length-append}
+use Rattle.std.proofs.Common.{◌≡◌, ◌∙◌, ◌+◌, ◌*◌, ◌<◌, ℕ, zero, suc, true, List, [], ◌∷◌, ◌++◌, Contains, Some, ap, arith, length, map, refl, slice_get, subst, sym}
 use Rattle.std.proofs.lemmas.Option.{none-some, same_Some, slice_get-get_or}
 use Rattle.std.specs.FinSet as set
-use Rattle.aut_base.proofs.lists.Copies.{copies-add, copies-copies, length-copies}
-use Rattle.aut_base.proofs.words.Spelled.{word_letter}
 use Rattle.aut_base.specs.Acceptance.{Accepts, IsPath}
 use Rattle.aut_base.specs.Automaton.{Automaton, TreeEdge}
 use Rattle.aut_base.specs.Formula.{met}
 use Rattle.aut_base.specs.Label.{holds_at, truth}
 use Rattle.aut_base.specs.Word.{NameSet, SpellsSame, copies, letter_at}
+use Rattle.aut_base.proofs.words.Turns.{covers, letter_in, more_turns}
 use Rattle.ap_project.specs.Laws.{Forth}
-
-more_turns : (j k r : ℕ) (u v : List NameSet) → (u ++ copies j v) ++ copies k (copies r v) ≡ u ++ copies (j + k * r) v
-more_turns j k r u v = append_assoc u (copies j v) (copies k (copies r v)) ∙ ap (λ w. u ++ w) (ap (λ w. copies j v ++ w) (copies-copies k r v) ∙ sym (copies-add j (k * r) v))
-
-covers : (t : ℕ) (u v : List NameSet) → 0 < length v → t ≤ length (u ++ copies t v)
-covers t u v some = let wide : t ≤ t * length v = le-mul_of_pos_right t some in omega (arith, wide, length-append u (copies t v), length-copies t v)
-
--- the letters of the part of a word
-letter_in : (u v : List NameSet) (t k : ℕ) → 0 < length v → k < length (u ++ copies t v) → letter_at u v k ≡ slice_get (u ++ copies t v) k
-letter_in u v t k some within = word_letter u v t k some (omega (arith, within, length-append u (copies t v), length-copies t v))
 
 -- lists of letters that are as long, and related place by place
 abbrev pub Related : (NameSet → NameSet → Type 0) → List NameSet → List NameSet → Type 0

@@ -1,6 +1,7 @@
 -- What calls that may fail, or find nothing, tell.
-use Rattle.std.proofs.Common.{◌≡◌, ◌<◌, true, false, List, [], ◌∷◌, length, nat_eq, Option, None, Some, Result, Ok, Err, arith, subst, sym}
+use Rattle.std.proofs.Common.{◌≡◌, ◌<◌, true, false, List, [], ◌∷◌, length, nat_eq, Option, None, Some, Result, Ok, Err, IsErrOf, ap, arith, subst, sym}
 use Rattle.std.specs.Prelude.{MatchOption, OnOk, is_some}
+use Rattle.std.specs.Result.{IsErrAnd}
 use Rattle.std.proofs.lemmas.Bool.{true≢false}
 
 pub found_from : {A : Type 0} (P : Type 0) (Q : A → Type 0) (r : Option A) → is_some r ≡ true → MatchOption r P Q → (x : A) × Q x
@@ -10,6 +11,10 @@ found_from P Q (Some x) is said = (x, said)
 pub ok_weaker : {T E : Type 0} (r : Result T E) (P Q : Type 0) → (P → Q) → OnOk r P → OnOk r Q
 ok_weaker (Ok x) P Q weaker said = weaker said
 ok_weaker (Err e) P Q weaker said = said
+
+pub ok_always : {T E P : Type 0} (r : Result T E) → P → OnOk r P
+ok_always (Ok x) said = said
+ok_always (Err e) said = tt
 
 pub none_from : {A : Type 0} (P : Type 0) (Q : A → Type 0) (r : Option A) → is_some r ≡ false → MatchOption r P Q → P
 none_from P Q None is said = said
@@ -25,3 +30,19 @@ none_said P Q r is said = subst (λ o. MatchOption o P Q) is said
 pub some_in : {A : Type 0} (xs : List A) → false ≡ nat_eq (length xs) 0 → 0 < length xs
 some_in [] is = absurd (true≢false (sym is))
 some_in (x ∷ xs) is = omega arith
+
+-- the error that `?` passes on is the one that came
+pub failed_as : {T F : Type 0} (r : Result T F) (came : F) → IsErrAnd r (λ y. y ≡ came) → r ≡ Err came
+failed_as (Ok x) came passed = absurd passed
+failed_as (Err y) came passed = ap Err passed
+
+-- so what holds of it holds of the result
+pub hands_on : {T F : Type 0} (r : Result T F) (came : F) (P : Result T F → Type 0) → IsErrAnd r (λ y. y ≡ came) → P (Err came) → P r
+hands_on r came P passed holds = subst P (sym (failed_as r came passed)) holds
+
+-- and it is the one that is told
+pub told_fault : {T F : Type 0} (r : Result T F) (came told : F) → IsErrAnd r (λ y. y ≡ came) → r ≡ Err told → came ≡ told
+told_fault r came told passed is = let same = failed_as r came passed in cc
+
+pub passed_on : {T U F : Type 0} (r : Result T F) (came told : F) → IsErrAnd r (λ y. y ≡ came) → IsErrOf r told → IsErrOf {T = U} (Err came) told
+passed_on r came told passed is = ap Err (told_fault r came told passed is)

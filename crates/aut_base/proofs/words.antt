@@ -1,6 +1,7 @@
--- Names, letters made of them, and lasso words that spell the same infinite word.
+-- Names, letters made of them, lasso words that spell the same infinite word, and their turns.
 pub mod LetterNames
 pub mod SameEdges
 pub mod SameWord
 pub mod Spelled
 pub mod Texts
+pub mod Turns

@@ -1,4 +1,3 @@
-pub mod Faults
 pub mod flagged
 pub mod following
 pub mod joint_runs

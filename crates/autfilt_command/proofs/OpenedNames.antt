@@ -1,8 +1,8 @@
 -- The names that are opened: those of operands, and those of streams where none is generated.
 use Rattle.std.proofs.Common.{◌≡◌, ℕ, List, Option, Some, None, sym, subst}
 use Rattle.std.specs.List.{All}
+use Rattle.aut_base.proofs.lists.Members.{all_of_first, all_of_second}
 use Rattle.autfilt_command.specs.Asked.{names_opened, opened_or}
-use Rattle.autfilt_run.proofs.printing.FigureLines.{all_of_first, all_of_second}
 use Rattle.autfilt_run.specs.Plans.{streams_of, streams_or}
 use Rattle.filter_plan.specs.Words.{operands}
 use Rattle.filter_plan.specs.declared.plan.Plan.{Plan}

@@ -4,6 +4,7 @@ use Rattle.std.specs.List.{list_any, range_with_len}
 use Rattle.std.proofs.lemmas.List.{length-map}
 use Rattle.std.proofs.lemmas.Option.{none-some, same_Some}
 use Rattle.aut_base.proofs.lists.Members.{from_map, from_range, there_map, there_range}
+use Rattle.aut_base.proofs.runs.LassoRuns.{marks_of}
 use Rattle.aut_base.specs.Acceptance.{IsPath}
 use Rattle.aut_base.specs.Automaton.{Automaton, IsWellFormed, TreeEdge}
 use Rattle.aut_base.specs.Formula.{met}
@@ -14,7 +15,7 @@ use Rattle.acc_forms.specs.Terms.{terms}
 use Rattle.acc_forms.specs.declared.literal.Literal.{Literal}
 use Rattle.acc_forms.specs.declared.literal.Literal.TheVariants.{Inf}
 use Rattle.fin_removal.proofs.CopiedEdges.{Enters, Stays, Within, comes_from, edge_bounds}
-use Rattle.fin_removal.proofs.CopiedLaw.{copied_accepts_the_same, marks_of, not_in_main, own_sets, own_sets_met}
+use Rattle.fin_removal.proofs.CopiedLaw.{copied_accepts_the_same, not_in_main, own_sets, own_sets_met}
 use Rattle.fin_removal.proofs.CopiedPaths.{IsElsewhere, IsMain, copies_of, from_copy, from_main, not_main}
 use Rattle.fin_removal.proofs.CopiedWhole.{copied_well_formed}
 use Rattle.fin_removal.proofs.CopyNumbers.{Owns}

@@ -6,6 +6,7 @@ use Rattle.std.proofs.lemmas.List.{length-map}
 use Rattle.std.proofs.lemmas.Option.{none-some, same_Some}
 use Rattle.aut_base.proofs.lists.Members.{each_from, each_is, first_there, from_flat_map, there_flat_map}
 use Rattle.aut_base.proofs.numbers.Truth.{and-true}
+use Rattle.aut_base.proofs.runs.LassoRuns.{marks_of}
 use Rattle.aut_base.specs.Acceptance.{IsPath}
 use Rattle.aut_base.specs.Automaton.{Automaton, IsWellFormed, TreeEdge}
 use Rattle.aut_base.specs.Formula.{FormulaTree, FormulaTrees, True, False, And, Or, none, more, met, all_met}
@@ -16,7 +17,6 @@ use Rattle.acc_forms.specs.Joined.{conjuncts, listed}
 use Rattle.acc_forms.specs.declared.literal.Literal.{Literal}
 use Rattle.acc_forms.specs.declared.literal.Literal.TheVariants.{Inf}
 use Rattle.fin_removal.proofs.CopiedEdges.{edge_bounds}
-use Rattle.fin_removal.proofs.CopiedLaw.{marks_of}
 use Rattle.fin_removal.proofs.TermMet.{each_passed, passes_each}
 use Rattle.fin_removal.specs.Meeting.{meets}
 use Rattle.degeneralise.specs.Buchi.{Watch, inf_literals, is_generalised_buchi, is_inf_atom, levelled, levels, watch_of}

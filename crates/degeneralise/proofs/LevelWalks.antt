@@ -4,6 +4,7 @@ use Rattle.std.specs.List.{list_any}
 use Rattle.std.proofs.lemmas.Bool.{false≢true, or_cases}
 use Rattle.std.proofs.lemmas.Nat.{same_from_place}
 use Rattle.aut_base.proofs.lists.Members.{first_there, later_there}
+use Rattle.aut_base.proofs.runs.LassoRuns.{marks_of}
 use Rattle.aut_base.specs.Acceptance.{IsPath}
 use Rattle.aut_base.specs.Automaton.{Automaton, IsWellFormed, TreeEdge}
 use Rattle.aut_base.specs.Label.{holds_at, truth}
@@ -11,7 +12,6 @@ use Rattle.aut_base.specs.Marks.{is_in}
 use Rattle.aut_base.specs.Word.{NameSet}
 use Rattle.acc_forms.specs.declared.literal.Literal.{Literal}
 use Rattle.fin_removal.proofs.CopiedEdges.{edge_bounds}
-use Rattle.fin_removal.proofs.CopiedLaw.{marks_of}
 use Rattle.degeneralise.specs.Buchi.{Watch, edge_at, level_after, levelled, levels, marks_at, state_at}
 use Rattle.degeneralise.proofs.LevelledEdges.{comes_from, has_level}
 use Rattle.degeneralise.proofs.Turns.{marked, turn, turn_below}

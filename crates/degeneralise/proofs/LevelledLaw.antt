@@ -5,6 +5,7 @@ use Rattle.std.proofs.lemmas.Bool.{cases_Bool, false≢true}
 use Rattle.std.proofs.lemmas.Nat.{mul-lt, same_from_place}
 use Rattle.aut_base.proofs.lists.Copies.{any-copies, copies-add, copies-copies}
 use Rattle.aut_base.proofs.lists.Members.{any_found, any_from, from_map, there_map}
+use Rattle.aut_base.proofs.runs.LassoRuns.{marks_of}
 use Rattle.aut_base.proofs.runs.Paths.{goes_on, path_copies, path_join}
 use Rattle.aut_base.specs.Acceptance.{Accepts, IsPath}
 use Rattle.aut_base.specs.Automaton.{Automaton, TreeEdge}
@@ -13,7 +14,7 @@ use Rattle.aut_base.specs.Marks.{is_in}
 use Rattle.aut_base.specs.Word.{NameSet, copies}
 use Rattle.aut_core.specs.OtherNames.{AcceptTheSame}
 use Rattle.acc_forms.specs.declared.literal.Literal.{Literal}
-use Rattle.fin_removal.proofs.CopiedLaw.{gone_on, marks_of}
+use Rattle.fin_removal.proofs.CopiedLaw.{gone_on}
 use Rattle.fin_removal.proofs.TermMet.{Passes}
 use Rattle.fin_removal.specs.Meeting.{meets_at, literal_places}
 use Rattle.degeneralise.specs.Buchi.{Watch, level_after, levelled, levels, state_at}

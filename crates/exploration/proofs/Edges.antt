@@ -3,7 +3,7 @@ use Rattle.std.proofs.Common.{◌≡◌, ◌∙◌, ◌⊎◌, ◌<◌, ℕ, zer
 use Rattle.std.proofs.Common.{sym}
 use Rattle.std.proofs.lemmas.Bool.{cases_lt}
 use Rattle.std.proofs.lemmas.Option.{get_or_from_slice_get, none-some, same_Some, slice_get-get_or, slice_get_within}
-use Rattle.std.specs.List.{AllZip}
+use Rattle.aut_base.proofs.lists.ListTests.{zip_left, zip_right}
 use Rattle.aut_base.proofs.order.AllPairsOf.{pairs_append}
 use Rattle.aut_base.proofs.lists.Lists.{slice_get-append_left}
 use Rattle.aut_base.proofs.lists.Members.{each_there, there_at}
@@ -28,20 +28,6 @@ has_cases (z ∷ xs) ys x (suc n, at) = elim (has_cases xs ys x (n, at)) [
   | inl h ↦ inl (suc h.0, h.1)
   | inr h ↦ inr h
 ]
-
-zip_right : {A B : Type 0} (R : A → B → Type 0) (xs : List A) (ys : List B) (n : ℕ) (y : B) → AllZip R xs ys → slice_get ys n ≡ Some y → (x : A) × (slice_get xs n ≡ Some x) × R x y
-zip_right R [] [] n y all at = absurd (none-some y at)
-zip_right R [] (b ∷ ys) n y all at = absurd all
-zip_right R (a ∷ xs) [] n y all at = absurd all
-zip_right R (a ∷ xs) (b ∷ ys) zero y all at = (a, refl, subst (R a) (same_Some b y at) all.0)
-zip_right R (a ∷ xs) (b ∷ ys) (suc n) y all at = zip_right R xs ys n y all.1 at
-
-zip_left : {A B : Type 0} (R : A → B → Type 0) (xs : List A) (ys : List B) (n : ℕ) (x : A) → AllZip R xs ys → slice_get xs n ≡ Some x → (y : B) × (slice_get ys n ≡ Some y) × R x y
-zip_left R [] [] n x all at = absurd (none-some x at)
-zip_left R [] (b ∷ ys) n x all at = absurd all
-zip_left R (a ∷ xs) [] n x all at = absurd all
-zip_left R (a ∷ xs) (b ∷ ys) zero x all at = (b, refl, subst (λ z. R z b) (same_Some a x at) all.0)
-zip_left R (a ∷ xs) (b ∷ ys) (suc n) x all at = zip_left R xs ys n x all.1 at
 
 has_from : {X : Type 0} (xs : List X) (x : X) → Contains xs x → Has xs x
 has_from xs x there = there_at xs x there

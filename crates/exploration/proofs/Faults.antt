@@ -1,6 +1,7 @@
 -- Faults that are passed on.
 use Rattle.std.proofs.Common.{◌≡◌, ◌⊎◌, IfErr, Result, Ok, Err, inl, inr, subst, sym}
 use Rattle.std.specs.Result.{IsErrAnd}
+use Rattle.aut_base.proofs.Outcomes.{hands_on}
 use Rattle.exploration.specs.Faults.{step_fault}
 use Rattle.exploration.specs.Moves.{Fails, IsStep, Move}
 use Rattle.exploration.specs.declared.fault.Fault.{Fault}
@@ -9,8 +10,7 @@ use Rattle.exploration.specs.declared.fault.StepFault.{StepFault}
 use Rattle.exploration.specs.declared.fault.StepFault.TheVariants as step
 
 pub err_is : {T : Type 0} (P : Fault → Type 0) (r : Result T Fault) (came : Fault) → IsErrAnd r (λ y. y ≡ came) → P came → IfErr r P
-err_is P (Ok x) came e p = tt
-err_is P (Err y) came e p = subst P (sym e) p
+err_is P r came e p = hands_on r came (λ x. IfErr x P) e p
 
 pub step_met : {T X : Type 0} (N : Type 0) (seen : T → X) (P : Fault → Type 0) (move : Move X) (came : StepFault) → IsStep {N = N} seen move (Err came)
     → (move ≡ Fails → P fault.Nodes) → P fault.Memory → P (step_fault came)

@@ -9,6 +9,7 @@ use Rattle.acc_forms.proofs.TermLaws.{met-of_terms, met-terms}
 use Rattle.acc_forms.specs.Terms.{literal_tree, terms}
 use Rattle.aut_base.proofs.lists.Copies.{copies-add}
 use Rattle.aut_base.proofs.lists.Members.{any_found, any_from, from_map, there_map}
+use Rattle.aut_base.proofs.runs.LassoRuns.{marks_of}
 use Rattle.aut_base.proofs.runs.Paths.{goes_on, path_join}
 use Rattle.aut_base.specs.Acceptance.{Accepts, IsPath}
 use Rattle.aut_base.specs.Automaton.{Automaton, IsWellFormed, TreeEdge}
@@ -22,9 +23,6 @@ use Rattle.fin_removal.specs.declared.term_copy.TermCopy.{TermCopy}
 use Rattle.fin_removal.proofs.CopiedPaths.{IsElsewhere, IsMain, copies_of, copy_path, entered, entering_path, from_copy, from_main, main_path, not_main}
 use Rattle.fin_removal.proofs.CopyNumbers.{Owns, copy_for, same_set, term_for}
 use Rattle.fin_removal.proofs.TermMet.{IsMetIn, in_marks, of_marks, owned_is_met, owned_met, term_is_met, term_met}
-
-abbrev pub marks_of : List TreeEdge → List (List ℕ)
-marks_of es = map (λ (e : TreeEdge). e.marks) es
 
 -- the copy of a term that the cycle meets
 record MetCopy (a : Automaton) (es : List TreeEdge) : Type 0 where

@@ -8,10 +8,12 @@ use Rattle.std.proofs.lemmas.List.Folds.{list_all-map}
 use Rattle.std.specs.Bool.{beq}
 use Rattle.std.specs.List.{list_all, list_any}
 use Rattle.aut_base.proofs.canonical.CanonicalTruth.{truth_on-label_of}
+use Rattle.aut_base.proofs.canonical.ValuationLists.{same_test}
 use Rattle.aut_base.specs.Automaton.{TreeEdge}
 use Rattle.aut_base.specs.CanonicalLabel.{label_of}
 use Rattle.aut_base.specs.Label.{LabelTree, truth}
 use Rattle.aut_base.specs.Valuation.{IsLeast, holds_in, number_of, truth_on, valuations}
+use Rattle.aut_base.proofs.lists.Members.{map_alike}
 use Rattle.aut_core.proofs.Growth.{keeps_on}
 use Rattle.aut_core.specs.Core.{Core, IsCore, automaton_of}
 use Rattle.exploration.specs.Moves.{AreClasses}
@@ -21,7 +23,6 @@ use Rattle.label_guards.specs.Guards.{IsNeverMet}
 use Rattle.label_guards.specs.Leasts.{bits_of}
 use Rattle.label_guards.specs.Store.{Has, Keeps, Store, label_in}
 use Rattle.label_guards.specs.declared.guard.Guard.{Guard}
-use Rattle.letter_classes.proofs.KnownLists.{map_same}
 use Rattle.letter_classes.proofs.SetGuards.{guards_has, guards_labels}
 use Rattle.letter_classes.specs.Known.{IsKnown}
 use Rattle.letter_classes.specs.SetClasses.{FitsStore, IsClassGuard, TellTheSame, guards_from, set_classes, set_edges, set_labels}
@@ -43,7 +44,7 @@ module _ (c : Core) (core : IsCore c) (set : List ℕ) (list : List Guard) (told
   -- in a later store the labels are the same
   labels_kept : (s : Store) → Keeps c.store s → labels_in s (guards_from c set) ≡ set_labels (automaton_of c) set
   labels_kept s keeps =
-      map_same (label_in s) (label_in c.store) (guards_from c set) (λ g there. keeps.labels g (All-contains (Has c.store) (guards_from c set) g (guards_has c core set) there))
+      map_alike (label_in s) (label_in c.store) (guards_from c set) (λ g there. keeps.labels g (All-contains (Has c.store) (guards_from c set) g (guards_has c core set) there))
       ∙ guards_labels c set
 
   -- and so is what is alike
@@ -126,15 +127,9 @@ same_edges : (v w : List Bool) (es : List TreeEdge) → are_alike (map (λ e. e.
 same_edges v w [] alike = refl
 same_edges v w (e ∷ es) alike =
     let parts = and_parts (beq (truth_on e.label v) (truth_on e.label w)) (are_alike (map (λ e. e.label) es) (holds_in v) (holds_in w)) alike in
-    let head = beq_same (truth_on e.label v) (truth_on e.label w) parts.0 in
+    let head = same_test (truth_on e.label v) (truth_on e.label w) parts.0 in
     let tail = same_edges v w es parts.1 in
     λ i. cond (sym head i) (e ∷ tail i) (tail i)
-  where
-    beq_same : (a b : Bool) → beq a b ≡ true → a ≡ b
-    beq_same true true h = refl
-    beq_same false false h = refl
-    beq_same true false h = absurd (true≢false (sym h))
-    beq_same false true h = absurd (true≢false (sym h))
 
 -- A valuation that meets the guard of a class reads the edges from the set that the class's own valuation reads.
 module _ (c : Core) (core : IsCore c) (s : Store) (set : List ℕ) (k : ℕ) (g : Guard) (fits : FitsStore c s set) (is : IsClassGuard c s set k g) where

@@ -1,11 +1,11 @@
 -- Lists of guards with their classes: as a store finds them, in a store that has grown, and in a table with one list more.
-use Rattle.std.proofs.Common.{◌≡◌, ◌∙◌, ◌<◌, ℕ, zero, suc, All, Bool, true, false, cond, Contains, List, [], ◌∷◌, Some, ap, arith, get_or, length, map, nat_eq, refl, slice_get, subst, sym}
+use Rattle.std.proofs.Common.{◌≡◌, ◌∙◌, ◌<◌, ℕ, All, Bool, true, false, cond, List, [], ◌∷◌, Some, ap, arith, get_or, length, nat_eq, refl, slice_get, subst, sym}
 use Rattle.std.proofs.lemmas.Bool.{and_parts, true≢false}
 use Rattle.std.proofs.lemmas.List.Elements.{All-contains, All-weaker}
 use Rattle.std.proofs.lemmas.Option.{same_Some, slice_get-get_or, slice_get_within}
 use Rattle.std.specs.Map.{lookup}
 use Rattle.aut_base.proofs.canonical.CanonicalTruth.{label_of-same}
-use Rattle.aut_base.proofs.lists.Members.{placed_there}
+use Rattle.aut_base.proofs.lists.Members.{placed_there, map_alike}
 use Rattle.aut_base.specs.Label.{LabelTree}
 use Rattle.aut_base.specs.Valuation.{IsLeast, holds_in, truth_on}
 use Rattle.aut_core.proofs.Made.{label_in_settled}
@@ -17,10 +17,6 @@ use Rattle.label_guards.specs.declared.guard.Guard.{Guard}
 use Rattle.letter_classes.proofs.Told.{same_place}
 use Rattle.letter_classes.specs.Known.{AreKnown, IsKnown, IsListClass, IsPut, same_list}
 use Rattle.letter_classes.specs.SetClasses.{class_label}
-
-pub map_same : {X Y : Type 0} (f g : X → Y) (xs : List X) → ((x : X) → Contains xs x → f x ≡ g x) → map f xs ≡ map g xs
-map_same f g [] same = refl
-map_same f g (x ∷ xs) same = λ i. same x (zero, omega arith, refl) i ∷ map_same f g xs (λ y there. same y (suc there.0, omega (arith, there.1), there.2)) i
 
 -- what a store finds
 class_found : (s : Store) (list classes : List Guard) (most : ℕ) → AreClasses s list most classes → (k : ℕ) (g : Guard) → slice_get classes k ≡ Some g → IsListClass s list k g
@@ -59,7 +55,7 @@ module _ (s t : Store) (keeps : Keeps s t) where
 
   known_later : (list classes : List Guard) → IsKnown s list classes → IsKnown t list classes
   known_later list classes is =
-      let labels : labels_in t list ≡ labels_in s list = map_same (label_in t) (label_in s) list (λ g there. keeps.labels g (All-contains (Has s) list g is.has there)) in
+      let labels : labels_in t list ≡ labels_in s list = map_alike (label_in t) (label_in s) list (λ g there. keeps.labels g (All-contains (Has s) list g is.has there)) in
       let leasts : class_leasts t.names (labels_in t list) ≡ class_leasts s.names (labels_in s list) = λ i. class_leasts (keeps.names i) (labels i) in
       record {
         has = All-weaker (Has s) (Has t) keeps.has list is.has;

@@ -1,5 +1,5 @@
 -- The automaton that is made of the sets and edges that were found.
-use Rattle.std.proofs.Common.{◌≡◌, ◌≢◌, ◌∙◌, ◌<◌, ℕ, zero, suc, All, Contains, List, [], ◌∷◌, None, Option, Some, ap, arith, get_or, inl, inr, length, map, refl, slice_get, subst, sym}
+use Rattle.std.proofs.Common.{◌≡◌, ◌∙◌, ◌<◌, ℕ, zero, suc, All, Contains, List, [], ◌∷◌, ap, arith, get_or, length, map, refl, subst, sym}
 use Rattle.std.proofs.lemmas.List.Elements.{All-contains, All-map}
 use Rattle.std.proofs.lemmas.Option.{get_or_from_slice_get, slice_get_within}
 use Rattle.std.proofs.lemmas.Simd.{map-map}
@@ -7,7 +7,7 @@ use Rattle.std.specs.Cmp.Lexicographic.{pointwise}
 use Rattle.std.specs.List.{list_any, range_with_len}
 use Rattle.std.specs.List.Sorted.{IsNonDecreasing}
 use Rattle.std.specs.Prelude.{⊤, nat_eq}
-use Rattle.aut_base.proofs.lists.Members.{each_there, from_filter, from_range, there_at, there_map}
+use Rattle.aut_base.proofs.lists.Members.{each_there, from_filter, from_range, there_at, there_map, map_alike}
 use Rattle.aut_base.specs.Automaton.{Automaton}
 use Rattle.aut_base.specs.Formula.{FormulaTree}
 use Rattle.aut_base.specs.declared.limit.TheConstants.{MOST_SUBSETS}
@@ -16,25 +16,16 @@ use Rattle.aut_core.specs.Core.{AreParts, Core, IsCore, IsLinkOf, automaton_of, 
 use Rattle.aut_core.specs.declared.link.Link.{Link}
 use Rattle.exploration.proofs.Edges.{arrows_rise, edge_from}
 use Rattle.exploration.proofs.InOrder.{froms_rise}
-use Rattle.exploration.specs.Explorations.{IsClassed, IsMet, IsSound, arrow_of}
-use Rattle.exploration.specs.Moves.{Fails, Gives, Lacks, Move}
-use Rattle.exploration.specs.Reached.{IsCaused, IsExplored}
-use Rattle.exploration.specs.Turns.{Arrow, Comes, EndsWith, Meets, begin}
+use Rattle.exploration.specs.Explorations.{IsClassed, IsSound, arrow_of}
+use Rattle.exploration.specs.Reached.{IsExplored}
+use Rattle.exploration.specs.Turns.{Arrow, EndsWith}
 use Rattle.exploration.specs.declared.exploration.Edge.{Edge}
-use Rattle.exploration.specs.declared.fault.Fault.{Fault}
-use Rattle.exploration.specs.declared.fault.Fault.TheVariants as limit
 use Rattle.label_guards.specs.Store.{Keeps, Store, label_in}
 use Rattle.label_guards.specs.declared.guard.Guard.{Guard}
 use Rattle.letter_classes.specs.SetClasses.{FitsStore, IsClassGuard, class_label, set_classes, set_labels}
-use Rattle.monitor_form.specs.Faults.{exploration_fault}
 use Rattle.monitor_form.specs.Monitors.{first_places, set_at}
-use Rattle.monitor_form.specs.Subsets.{IsExploredFrom, MeetsSubsetLimit, monitor_edge, monitor_on, start_set, step_at, subset_moves, subset_rules, unless_empty}
+use Rattle.monitor_form.specs.Subsets.{IsExploredFrom, monitor_edge, monitor_on, start_set, subset_moves, subset_rules}
 use Rattle.monitor_form.specs.Systems.{link_of}
-use Rattle.monitor_form.specs.declared.fault.MonFault.TheVariants as fault
-
-map_alike : {X Y : Type 0} (f g : X → Y) (xs : List X) → ((x : X) → Contains xs x → f x ≡ g x) → map f xs ≡ map g xs
-map_alike f g [] same = refl
-map_alike f g (x ∷ xs) same = λ i. same x (zero, omega arith, refl) i ∷ map_alike f g xs (λ y there. same y (suc there.0, omega (arith, there.1), there.2)) i
 
 first_place : (ss : List ℕ) → 0 < length ss → 0 ∷ [] ≡ first_places ss
 first_place [] some = absurd (omega (arith, some))
@@ -145,68 +136,6 @@ start_fits b s set e f = record {
       let bounds = from_range 0 b.states q kept.0 in omega (arith, bounds.1)));
   keeps = subst (Keeps b.store) (sym e) (keeps_none b.store);
 }
-
--- no step fails
-abbrev fate : Move (List ℕ) → ℕ
-fate (Gives qs) = 0
-fate Lacks = 0
-fate Fails = 1
-
-unless_fails : (qs : List ℕ) → fate (unless_empty qs) ≡ 0
-unless_fails [] = refl
-unless_fails (q ∷ qs) = refl
-
-step_fate : (b : Automaton) (set : List ℕ) (o : Option (List _)) → fate (step_at b set o) ≡ 0
-step_fate b set None = refl
-step_fate b set (Some v) = unless_fails _
-
-pub no_failure : (b : Automaton) (start : List ℕ) (f : Fault) → IsCaused (subset_rules b) start f → f ≢ limit.Nodes
-no_failure b start f cause e = elim (subst (IsCaused (subset_rules b) start) e cause) [
-  | inl m ↦ nodes_memory m
-  | inr x ↦ (
-      let zeroth = step_fate b x.thing (slice_get (set_classes b x.thing) x.class) in
-      let one : fate (step_at b x.thing (slice_get (set_classes b x.thing) x.class)) ≡ 1 = ap fate x.fails in
-      absurd (omega (arith, zeroth, one))
-      )
-]
-  where
-    nodes_memory : limit.Nodes ≡ limit.Memory → ⊥
-    nodes_memory m = cc
-
--- a limit that is met, by the fault that tells it
-pub met_limit : (b : Automaton) (start : List ℕ) (f : Fault) (wanted : Fault) → start ≡ start_set b → 0 < length b.starts → IsMet (subset_rules b) (begin start) f → f ≡ wanted
-    → wanted ≢ limit.Memory → MeetsSubsetLimit b wanted
-met_limit b start f wanted same some met e other = record {
-  some = some;
-  meets = subst (λ (s : List ℕ). Comes (subset_rules b) (begin s) (Meets wanted)) same (elim (subst (IsMet (subset_rules b) (begin start)) e met) [
-    | inl memory ↦ absurd (other memory)
-    | inr comes ↦ comes
-  ]);
-}
-
-pub classes_fault : (f : Fault) → exploration_fault f ≡ fault.Classes → f ≡ limit.Classes
-classes_fault limit.Classes e = refl
-classes_fault limit.Things e = absurd cc
-classes_fault limit.Nodes e = absurd cc
-classes_fault limit.Memory e = absurd cc
-
-pub subsets_fault : (f : Fault) → exploration_fault f ≡ fault.Subsets → f ≡ limit.Things
-subsets_fault limit.Classes e = absurd cc
-subsets_fault limit.Things e = refl
-subsets_fault limit.Nodes e = absurd cc
-subsets_fault limit.Memory e = absurd cc
-
-pub no_terms : (f : Fault) → exploration_fault f ≡ fault.Terms → ⊥
-no_terms limit.Classes e = cc
-no_terms limit.Things e = cc
-no_terms limit.Nodes e = cc
-no_terms limit.Memory e = cc
-
-pub no_states : (f : Fault) → exploration_fault f ≡ fault.BuchiStates → ⊥
-no_states limit.Classes e = cc
-no_states limit.Things e = cc
-no_states limit.Nodes e = cc
-no_states limit.Memory e = cc
 
 -- where there are starts
 pub explored_from : (b : Automaton) (ss : List ℕ) (sets : List (List ℕ)) (arrows : List Arrow) → 0 < length ss → EndsWith (subset_rules b) (start_set b) sets arrows → IsExploredFrom b ss sets arrows

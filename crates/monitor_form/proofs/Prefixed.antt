@@ -9,7 +9,8 @@ use Rattle.aut_base.specs.Acceptance.{Accepts, IsPath}
 use Rattle.aut_base.specs.Automaton.{Automaton, TreeEdge}
 use Rattle.aut_base.specs.Formula.{met}
 use Rattle.aut_base.specs.Word.{NameSet, copies}
-use Rattle.monitor_form.proofs.LongPaths.{begins_with, letter_in, long_path}
+use Rattle.aut_base.proofs.words.Turns.{letter_in}
+use Rattle.monitor_form.proofs.LongPaths.{begins_with, long_path}
 use Rattle.monitor_form.proofs.Stops.{Stops, loop_of, stops}
 use Rattle.monitor_form.specs.Monitors.{AreLive, IsGoal, IsLive, IsMonitorOf, MonitorAccepts, first_places, set_at}
 use Rattle.monitor_form.specs.Prefixes.{HasPrefix}

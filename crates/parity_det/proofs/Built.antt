@@ -1,11 +1,11 @@
 -- The automaton that is made of the trees and edges that were found.
-use Rattle.std.proofs.Common.{◌≡◌, ◌∙◌, ◌+◌, ◌<◌, ◌≤◌, ℕ, zero, suc, All, Contains, List, [], ◌∷◌, ap, arith, get_or, length, map, refl, subst, sym}
+use Rattle.std.proofs.Common.{◌≡◌, ◌∙◌, ◌+◌, ◌<◌, ◌≤◌, ℕ, zero, suc, All, Contains, List, [], ◌∷◌, ap, arith, get_or, length, map, subst, sym}
 use Rattle.std.proofs.lemmas.List.Elements.{All-contains, All-map}
 use Rattle.std.proofs.lemmas.Option.{get_or_from_slice_get, slice_get_within}
 use Rattle.std.proofs.lemmas.Simd.{map-map}
 use Rattle.std.specs.List.Sorted.{IsNonDecreasing}
 use Rattle.acc_forms.specs.Parity.{parity_min_odd}
-use Rattle.aut_base.proofs.lists.Members.{each_there, there_at, there_map}
+use Rattle.aut_base.proofs.lists.Members.{each_there, there_at, there_map, map_alike}
 use Rattle.aut_base.specs.declared.limit.TheConstants.{MOST_NODES, MOST_TREES}
 use Rattle.aut_core.specs.Core.{AreParts, Core, IsCore, IsLinkOf, automaton_of, edge_of}
 use Rattle.aut_core.specs.declared.link.Link.{Link}
@@ -29,10 +29,6 @@ use Rattle.safra_laws.specs.Priorities.{priority}
 use Rattle.safra_trees.specs.Step.{IsTree}
 use Rattle.safra_trees.specs.Trees.{Node, root_states}
 use Rattle.safra_trees.specs.declared.event.Event.{Event}
-
-map_alike : {X Y : Type 0} (f g : X → Y) (xs : List X) → ((x : X) → Contains xs x → f x ≡ g x) → map f xs ≡ map g xs
-map_alike f g [] same = refl
-map_alike f g (x ∷ xs) same = λ i. same x (zero, omega arith, refl) i ∷ map_alike f g xs (λ y there. same y (suc there.0, omega (arith, there.1), there.2)) i
 
 module _ (b : Core) (core : IsCore b) (s : Store) (keeps : Keeps b.store s) (trees : List (List Node)) (edges : List (Edge Guard Event))
     (is : IsExplored same_tree (tree_moves (automaton_of b)) (start_tree (automaton_of b)) trees (map arrow_of edges))

@@ -1,6 +1,5 @@
 -- What an exploration of trees that is refused says of the limit that it met.
-use Rattle.std.proofs.Common.{◌≡◌, List, Result, Ok, Err, inl, inr, refl, subst}
-use Rattle.std.specs.Result.{IsErrAnd}
+use Rattle.std.proofs.Common.{◌≡◌, List, inl, inr, refl, subst}
 use Rattle.aut_base.specs.Automaton.{Automaton}
 use Rattle.exploration.specs.Explorations.{IsMet}
 use Rattle.exploration.specs.Turns.{Comes, Meets, begin}
@@ -9,14 +8,8 @@ use Rattle.exploration.specs.declared.fault.Fault.TheVariants as limit
 use Rattle.parity_det.specs.Determinisation.{start_tree, tree_rules}
 use Rattle.parity_det.specs.Faults.{fault_of_exploration}
 use Rattle.parity_det.specs.Systems.{MeetsFirst}
-use Rattle.parity_det.specs.declared.fault.DetFault.{DetFault}
 use Rattle.parity_det.specs.declared.fault.DetFault.TheVariants as det
 use Rattle.safra_trees.specs.Trees.{Node}
-
--- a fault that was passed on is the one that is told
-pub told_fault : {T : Type 0} (r : Result T DetFault) (came told : DetFault) → IsErrAnd r (λ y. y ≡ came) → r ≡ Err told → came ≡ told
-told_fault (Ok x) came told passed is = absurd passed
-told_fault (Err y) came told passed is = let same : y ≡ came = passed in cc
 
 -- the limit that comes first
 pub met_first : (b : Automaton) (start : List Node) (f wanted : Fault) → start ≡ start_tree b → IsMet (tree_rules b) (begin start) f → f ≡ wanted → (wanted ≡ limit.Memory → ⊥)

@@ -6,17 +6,13 @@ use Rattle.std.proofs.lemmas.Map.Lookups.{exact_bytes}
 use Rattle.std.proofs.lemmas.Map.Views.{tells_apart}
 use Rattle.std.proofs.lemmas.Option.{slice_get-get_or, slice_get_past, none-some, same_Some, get_or_from_slice_get, slice_get_within}
 use Rattle.std.proofs.lemmas.List.{get_or_past}
-use Rattle.std.specs.Cmp.Lexicographic.{slice_cmp}
 use Rattle.std.specs.FinSet as set
 use Rattle.std.specs.List.{list_any}
 use Rattle.std.specs.Option.{option_map_or}
-use Rattle.std.specs.Ordering.{nat_cmp, eq_by_cmp}
+use Rattle.aut_base.proofs.words.LetterNames.{same_name}
 use Rattle.aut_base.specs.Label.{holds_at}
 use Rattle.aut_base.specs.Valuation.{holds_in, letter_of, names_on}
 use Rattle.aut_base.specs.Word.{NameSet}
-
-abbrev same : List ℕ → List ℕ → Bool
-same = eq_by_cmp (slice_cmp nat_cmp)
 
 -- none of the names passes the test
 none_on : (p : List ℕ → Bool) (names : List (List ℕ)) (v : List Bool) → ((k : ℕ) (name : List ℕ) → slice_get names k ≡ Some name → p name ≡ false) → list_any p (names_on names v) ≡ false
@@ -54,10 +50,10 @@ letter_of_holds names v i differ long = ⊎_elim within past (cases_lt i (length
     within less =
         let name = get_or names i [] in
         let is : slice_get names i ≡ Some name = slice_get-get_or names i [] less in
-        let others : (k : ℕ) (other : List ℕ) → k ≢ i → slice_get names k ≡ Some other → same name other ≡ false =
-        λ k other away there. false_from_ne_true (same name other) (λ e. apart_at names differ i k name other away is there (tells_apart exact_bytes name other e)) in
+        let others : (k : ℕ) (other : List ℕ) → k ≢ i → slice_get names k ≡ Some other → same_name name other ≡ false =
+        λ k other away there. false_from_ne_true (same_name name other) (λ e. apart_at names differ i k name other away is there (tells_apart exact_bytes name other e)) in
         ap (λ o. option_map_or (set.contains (letter_of names v)) o false) is
-        ∙ (set.contains-from_list nat_list_cmp_total (names_on names v) name ∙ one_on (same name) names v i name is ((eq_by_cmp_equiv nat_list_cmp_total).refl name) others)
+        ∙ (set.contains-from_list nat_list_cmp_total (names_on names v) name ∙ one_on (same_name name) names v i name is ((eq_by_cmp_equiv nat_list_cmp_total).refl name) others)
 
     past : length names ≤ i → holds_at names (letter_of names v) i ≡ holds_in v i
     past more =

@@ -1,9 +1,10 @@
 -- The list of all valuations of n propositions, and tests of all of them.
-use Rattle.std.proofs.Common.{◌≡◌, ◌∙◌, ℕ, zero, suc, ◌+◌, ◌<◌, Bool, true, false, ◌&&◌, List, [], ◌∷◌, length, map, refl, sym, ap, arith}
-use Rattle.std.proofs.lemmas.Bool.{and_from, and_parts}
+use Rattle.std.proofs.Common.{◌≡◌, ◌∙◌, ℕ, zero, suc, ◌+◌, ◌<◌, Bool, true, false, ◌&&◌, List, [], ◌∷◌, Contains, length, map, refl, sym, ap, arith, eq-eqb, eqb}
+use Rattle.std.proofs.lemmas.Bool.{and_from, and_parts, eqb-true}
 use Rattle.std.specs.Bool.{beq}
 use Rattle.std.specs.List.{list_all, range_with_len}
 use Rattle.std.specs.Prelude.{flat_map}
+use Rattle.aut_base.proofs.lists.Members.{each_is}
 use Rattle.aut_base.specs.CanonicalLabel.{is_independent}
 use Rattle.aut_base.specs.Valuation.{holds_in, valuations, valuation_of}
 use Rattle.std.proofs.Math.Bool.{and_assoc}
@@ -32,6 +33,10 @@ all_valuations zero p each = and_from (p []) true (each [] refl) refl
 all_valuations (suc n) p each =
     all-both_ways p (valuations n) ∙ all_valuations n (λ v. p (false ∷ v) && p (true ∷ v)) (λ v long. and_from _ _ (each (false ∷ v) (ap suc long)) (each (true ∷ v) (ap suc long)))
 
+-- the list has just the valuations of n propositions
+pub each_size : (n : ℕ) (v : List Bool) → Contains (valuations n) v → length v ≡ n
+each_size n v there = eqb-true (length v) n (each_is (λ w. eqb (length w) n) (valuations n) v (all_valuations n (λ w. eqb (length w) n) (λ w size. eq-eqb (length w) n size)) there)
+
 -- tests that agree on the lists of that length
 pub all_same : (n : ℕ) (p q : List Bool → Bool) → ((v : List Bool) → length v ≡ n → p v ≡ q v) → list_all p (valuations n) ≡ list_all q (valuations n)
 all_same zero p q same = ap (λ b. b && true) (same [] refl)
@@ -40,13 +45,13 @@ all_same (suc n) p q same =
     ∙ (all_same n (λ v. p (false ∷ v) && p (true ∷ v)) (λ v. q (false ∷ v) && q (true ∷ v)) (λ v long. let f = same (false ∷ v) (ap suc long) in let t = same (true ∷ v) (ap suc long) in cc)
     ∙ sym (all-both_ways q (valuations n)))
 
-same_test : (a b : Bool) → beq a b ≡ true → a ≡ b
+pub same_test : (a b : Bool) → beq a b ≡ true → a ≡ b
 same_test true true e = refl
 same_test false false e = refl
 same_test true false e = sym e
 same_test false true e = e
 
-test_same : (a b : Bool) → a ≡ b → beq a b ≡ true
+pub test_same : (a b : Bool) → a ≡ b → beq a b ≡ true
 test_same true true e = refl
 test_same false false e = refl
 test_same true false e = sym e

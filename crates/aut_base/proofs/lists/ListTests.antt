@@ -1,9 +1,10 @@
 -- Tests of the items of lists: of each, of some, of two lists item by item.
-use Rattle.std.proofs.Common.{Bool, Contains, List, [], ap, false, inl, inr, map, not, refl, sym, true, ◌&&◌, ◌++◌, ◌||◌, ◌∙◌, ◌∷◌, ◌≡◌}
-use Rattle.std.proofs.lemmas.Bool.{and_parts, cases_Bool, false≢true, or_left}
+use Rattle.std.proofs.Common.{Bool, Contains, List, Some, [], ap, false, inl, inr, map, not, refl, slice_get, subst, suc, sym, true, zero, ℕ, ◌&&◌, ◌++◌, ◌||◌, ◌∙◌, ◌∷◌, ◌≡◌}
+use Rattle.std.proofs.lemmas.Bool.{cases_Bool, false≢true, or_left}
 use Rattle.std.proofs.lemmas.List.Folds.{list_any-append}
+use Rattle.std.proofs.lemmas.Option.{none-some, same_Some}
 use Rattle.std.specs.List.{AllZip, list_all, list_any}
-use Rattle.aut_base.proofs.lists.Members.{first_there, later_there, none_there, there_cases}
+use Rattle.aut_base.proofs.lists.Members.{first_there, later_there}
 use Rattle.aut_base.proofs.numbers.Truth.{not-and, not-or}
 
 pub any-not : {A : Type 0} (p : A → Bool) (xs : List A) → list_any (λ x. not (p x)) xs ≡ not (list_all p xs)
@@ -43,18 +44,22 @@ zip_append R [] us (y ∷ ys) vs first second = absurd first
 zip_append R (x ∷ xs) us [] vs first second = absurd first
 zip_append R (x ∷ xs) us (y ∷ ys) vs first second = (first.0, zip_append R xs us ys vs first.1 second)
 
+-- what stands at the same place of the other list
+pub zip_left : {X Y : Type 0} (R : X → Y → Type 0) (xs : List X) (ys : List Y) (k : ℕ) (x : X) → AllZip R xs ys → slice_get xs k ≡ Some x → (y : Y) × (slice_get ys k ≡ Some y) × R x y
+zip_left R [] ys k x zip at = absurd (none-some x at)
+zip_left R (a ∷ xs) [] k x zip at = absurd zip
+zip_left R (a ∷ xs) (b ∷ ys) zero x zip at = (b, refl, subst (λ z. R z b) (same_Some a x at) zip.0)
+zip_left R (a ∷ xs) (b ∷ ys) (suc k) x zip at = zip_left R xs ys k x zip.1 at
+
+pub zip_right : {X Y : Type 0} (R : X → Y → Type 0) (xs : List X) (ys : List Y) (k : ℕ) (y : Y) → AllZip R xs ys → slice_get ys k ≡ Some y → (x : X) × (slice_get xs k ≡ Some x) × R x y
+zip_right R xs [] k y zip at = absurd (none-some y at)
+zip_right R [] (b ∷ ys) k y zip at = absurd zip
+zip_right R (a ∷ xs) (b ∷ ys) zero y zip at = (a, refl, subst (R a) (same_Some b y at) zip.0)
+zip_right R (a ∷ xs) (b ∷ ys) (suc k) y zip at = zip_right R xs ys k y zip.1 at
+
 pub one_passes : {X : Type 0} (p : X → Bool) (xs : List X) → list_all (λ x. not (p x)) xs ≡ false → (x : X) × Contains xs x × (p x ≡ true)
 one_passes p [] e = absurd (false≢true (sym e))
 one_passes p (x ∷ xs) e = elim (cases_Bool (p x)) [
   | inl one ↦ (x, first_there x xs, one)
   | inr none ↦ (let rest = one_passes p xs (sym (ap (λ b. not b && list_all (λ y. not (p y)) xs) none) ∙ e) in (rest.0, later_there x xs rest.0 rest.1, rest.2))
 ]
-
-pub passes_each : {X : Type 0} (p : X → Bool) (xs : List X) → list_all p xs ≡ true → (x : X) → Contains xs x → p x ≡ true
-passes_each p [] all x there = absurd (none_there x there)
-passes_each p (y ∷ xs) all x there =
-    let parts = and_parts (p y) (list_all p xs) all in
-    elim (there_cases y xs x there) [
-      | inl here ↦ sym (ap p here) ∙ parts.0
-      | inr later ↦ passes_each p xs parts.1 x later
-    ]

@@ -1,9 +1,9 @@
 -- What stands in a list: in one that is made of another, by its place, and by tests of some item or of all.
-use Rattle.std.proofs.Common.{◌≡◌, ◌∙◌, ◌↔◌, ◌⊎◌, ◌&&◌, ◌+◌, ◌<◌, ◌≤◌, ℕ, zero, suc, Bool, true, false, cond, List, [], ◌∷◌, All, Contains, Some, ap}
+use Rattle.std.proofs.Common.{◌≡◌, ◌∙◌, ◌↔◌, ◌⊎◌, ◌&&◌, ◌+◌, ◌<◌, ◌≤◌, ℕ, zero, suc, Bool, true, false, cond, List, [], ◌∷◌, ◌++◌, All, Contains, Some, ap}
 use Rattle.std.proofs.Common.{arith, filter, get_or, inl, inr, length, map, refl, slice_get, subst, sym, take}
 use Rattle.std.proofs.lemmas.Bool.{and_from, and_parts, cases_eq, or_cases, or_left, or_parts, or_right, true≢false}
 use Rattle.std.proofs.lemmas.List.{get_or-map, length-map}
-use Rattle.std.proofs.lemmas.List.Elements.{All-contains_itself, All-filter, Contains-append_cases, Contains-append_left, Contains-append_right, Contains-get_or, filter_passes}
+use Rattle.std.proofs.lemmas.List.Elements.{All-contains, All-contains_itself, All-filter, Contains-append_cases, Contains-append_left, Contains-append_right, Contains-get_or, filter_passes}
 use Rattle.std.proofs.lemmas.List.Folds.{Any-from_list_any, list_all-append, list_any_at}
 use Rattle.std.proofs.lemmas.List.FromFn.{get_or-range_with_len, length-range_with_len}
 use Rattle.std.proofs.lemmas.Option.{none-some, same_Some}
@@ -28,6 +28,13 @@ there_cases x xs y (suc k, within, is) = inr (k, omega (arith, within), is)
 pub each_there : {X : Type 0} (P : X → Type 0) (xs : List X) → ((x : X) → Contains xs x → P x) → All P xs
 each_there P xs h k d within = h (get_or xs k d) (Contains-get_or xs k d within)
 
+-- what holds of each item of two lists holds of those of the first, and of the second
+pub all_of_first : {X : Type 0} (P : X → Type 0) (xs ys : List X) → All P (xs ++ ys) → All P xs
+all_of_first P xs ys all k d within = All-contains P (xs ++ ys) (get_or xs k d) all (Contains-append_left xs ys (get_or xs k d) (Contains-get_or xs k d within))
+
+pub all_of_second : {X : Type 0} (P : X → Type 0) (xs ys : List X) → All P (xs ++ ys) → All P ys
+all_of_second P xs ys all k d within = All-contains P (xs ++ ys) (get_or ys k d) all (Contains-append_right xs ys (get_or ys k d) (Contains-get_or ys k d within))
+
 pub there_map : {X Y : Type 0} (f : X → Y) (xs : List X) (x : X) → Contains xs x → Contains (map f xs) (f x)
 there_map f xs x there = (there.0, omega (arith, there.1, length-map xs f), get_or-map f xs there.0 x (f x) there.1 ∙ ap f there.2)
 
@@ -37,6 +44,11 @@ from_map f (x ∷ xs) y there = elim (there_cases (f x) (map f xs) y there) [
   | inl here ↦ (x, first_there x xs, here)
   | inr later ↦ (let rest = from_map f xs y later in (rest.0, later_there x xs rest.0 rest.1, rest.2))
 ]
+
+-- two functions that agree on what the list contains
+pub map_alike : {X Y : Type 0} (f g : X → Y) (xs : List X) → ((x : X) → Contains xs x → f x ≡ g x) → map f xs ≡ map g xs
+map_alike f g [] same = refl
+map_alike f g (x ∷ xs) same = λ i. same x (zero, omega arith, refl) i ∷ map_alike f g xs (λ y there. same y (suc there.0, omega (arith, there.1), there.2)) i
 
 pub there_flat_map : {X Y : Type 0} (f : X → List Y) (xs : List X) (x : X) (y : Y) → Contains xs x → Contains (f x) y → Contains (flat_map f xs) y
 there_flat_map f [] x y outer inner = absurd (none_there x outer)

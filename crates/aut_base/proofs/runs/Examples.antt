@@ -16,10 +16,10 @@ use Rattle.aut_base.specs.Marks.{is_in}
 use Rattle.aut_base.specs.Word.{NameSet, copies}
 use Rattle.aut_base.proofs.runs.OneState.{marks_at, marks_if, one_state_accepts}
 
-on_a : set.contains on name_a ≡ true
+pub on_a : set.contains on name_a ≡ true
 on_a = set.contains-insert nat_list_cmp_total set.empty name_a name_a
 
-off_a : set.contains off name_a ≡ false
+pub off_a : set.contains off name_a ≡ false
 off_a = set.contains-empty (slice_cmp nat_cmp) name_a
 
 -- the letter, by whether `a` holds

@@ -15,8 +15,9 @@ NameSet = set.FinSet (slice_cmp nat_cmp)
 abbrev pub sign : List (List ℕ) → NameSet
 sign names = set.from_list names
 
-abbrev same : List ℕ → List ℕ → Bool
-same = eq_by_cmp (slice_cmp nat_cmp)
+-- whether two names are the same
+abbrev pub same_name : List ℕ → List ℕ → Bool
+same_name = eq_by_cmp (slice_cmp nat_cmp)
 
 contains_found : (names : List (List ℕ)) (name : List ℕ) → Contains names name → set.contains (sign names) name ≡ true
 contains_found names name h = set.contains-from_list nat_list_cmp_total names name ∙ list_any-from_Contains (eq_by_cmp_equiv nat_list_cmp_total) name names h
@@ -42,7 +43,8 @@ same_or true c h = h refl
 pub insert_listed : (names : List (List ℕ)) (name : List ℕ) → Contains names name → sign names ≡ set.insert (sign names) name
 insert_listed names name h =
     set.same_set nat_list_cmp_total (slice_cmp-IsAntisymmetric nat_cmp-IsAntisymmetric) _ _ (λ q.
-    same_or (same q name) _ (λ e. ap (set.contains (sign names)) (tells_apart exact_bytes q name e) ∙ contains_found names name h) ∙ sym (set.contains-insert nat_list_cmp_total (sign names) name q))
+    same_or (same_name q name) _ (λ e. ap (set.contains (sign names)) (tells_apart exact_bytes q name e) ∙ contains_found names name h)
+    ∙ sym (set.contains-insert nat_list_cmp_total (sign names) name q))
 
 pub insert_pushed : (names : List (List ℕ)) (name : List ℕ) → sign (names ++ name ∷ []) ≡ set.insert (sign names) name
 insert_pushed names name = set.from_list_push nat_list_cmp_total (slice_cmp-IsAntisymmetric nat_cmp-IsAntisymmetric) names name

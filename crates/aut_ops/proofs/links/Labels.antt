@@ -1,13 +1,12 @@
 -- What labels say that are put together.
 use Rattle.std.proofs.Common.{◌≡◌, ◌≢◌, ◌∙◌, ◌↔◌, ◌⊎◌, ◌+◌, ◌++◌, ℕ, zero, suc, Bool, true, false, not, ◌&&◌, ◌||◌, IsTrue, if◌then◌else◌, List}
-use Rattle.std.proofs.Common.{[], ◌∷◌, All, AllPairs, Contains, ap, arith, inl, inr, length, map, refl, sym}
+use Rattle.std.proofs.Common.{[], ◌∷◌, All, AllPairs, ap, arith, inl, inr, length, map, refl, sym}
 use Rattle.std.proofs.lemmas.Bool.{cases_Bool, false≢true}
 use Rattle.std.specs.List.{list_any}
 use Rattle.aut_base.proofs.canonical.CanonicalTruth.{label_of-same, truth-label_of, truth_below}
 use Rattle.aut_base.proofs.lists.ListTests.{one_passes}
-use Rattle.aut_base.proofs.lists.Members.{from_flat_map, none_there, there_cases}
 use Rattle.aut_base.proofs.canonical.ValuationLetters.{letter_of_holds}
-use Rattle.aut_base.proofs.canonical.ValuationLists.{all_valuations, each_valuation, holds_in-valuation_of, length-valuation_of}
+use Rattle.aut_base.proofs.canonical.ValuationLists.{all_valuations, each_size, each_valuation, holds_in-valuation_of, length-valuation_of}
 use Rattle.aut_base.specs.Automaton.{TreeEdge}
 use Rattle.aut_base.specs.CanonicalLabel.{cubes, cubes_tree, is_independent, label_of}
 use Rattle.aut_base.specs.Label.{AllBelow, LabelTree, True, holds_at, truth}
@@ -57,28 +56,12 @@ not_never n holds t below holds_now = elim (cases_Bool (is_never n t)) [
 pub never_each : (n : ℕ) (t : LabelTree) → ((v : List Bool) → length v ≡ n → truth_on t v ≡ false) → is_never n t ≡ true
 never_each n t fails = all_valuations n (λ v. not (truth_on t v)) (λ v long. ap not (fails v long))
 
-valuation_long : (n : ℕ) (v : List Bool) → Contains (valuations n) v → length v ≡ n
-valuation_long zero v there = elim (there_cases [] [] v there) [
-  | inl is ↦ ap length (sym is)
-  | inr later ↦ absurd (none_there v later)
-]
-valuation_long (suc n) v there =
-    let from = from_flat_map (λ (w : List Bool). (false ∷ w) ∷ (true ∷ w) ∷ []) (valuations n) v there in
-    let long = valuation_long n from.0 from.1 in
-    elim (there_cases (false ∷ from.0) ((true ∷ from.0) ∷ []) v from.2) [
-      | inl is ↦ ap length (sym is) ∙ ap suc long
-      | inr later ↦ elim (there_cases (true ∷ from.0) [] v later) [
-        | inl is ↦ ap length (sym is) ∙ ap suc long
-        | inr none ↦ absurd (none_there v none)
-      ]
-    ]
-
 -- a label that isn't so is met by some letter
 pub some_letter : (names : List (List ℕ)) (t : LabelTree) → AllPairs (λ a b. a ≢ b) names → AllBelow (length names) t → is_never (length names) t ≡ false
     → (v : List Bool) × (truth (holds_at names (letter_of names v)) t ≡ true)
 some_letter names t differ below some =
     let found = one_passes (truth_on t) (valuations (length names)) some in
-    let long = valuation_long (length names) found.0 found.1 in
+    let long = each_size (length names) found.0 found.1 in
     (found.0, truth_below (length names) (holds_at names (letter_of names found.0)) (holds_in found.0) t below (λ i less. letter_of_holds names found.0 i differ long) ∙ found.2)
 
 pub at_letter : (names : List (List ℕ)) (t : LabelTree) (v : List Bool) → AllPairs (λ a b. a ≢ b) names → AllBelow (length names) t → length v ≡ length names

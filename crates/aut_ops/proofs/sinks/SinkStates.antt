@@ -9,8 +9,7 @@ use Rattle.std.proofs.lemmas.List.Quantifiers.{all_pairs_push}
 use Rattle.std.specs.List.{list_all, list_any, range_with_len}
 use Rattle.aut_base.proofs.canonical.CanonicalAutomata.{labels_below}
 use Rattle.aut_base.proofs.canonical.CanonicalBelow.{label_of_below}
-use Rattle.aut_base.proofs.lists.ListTests.{passes_each}
-use Rattle.aut_base.proofs.lists.Members.{each_from, from_filter, from_range, there_filter, there_range_zero}
+use Rattle.aut_base.proofs.lists.Members.{each_from, each_is, from_filter, from_range, there_filter, there_range_zero}
 use Rattle.aut_base.proofs.numbers.Truth.{true_from_not}
 use Rattle.aut_base.specs.Automaton.{Automaton, IsWellFormed, TreeEdge}
 use Rattle.aut_base.specs.Label.{AllBelow, holds_at}
@@ -98,7 +97,7 @@ module _ (a : Automaton) (formed : IsWellFormed a) where
           | inr some ↦ omega (arith, eqb-false (length a.starts) 0 some)
         ];
         edges = λ q less letter.
-            let never = passes_each (λ p. is_never n (no_label n (row p))) (range_with_len 0 a.states) parts.1 q (there_range_zero a.states q less) in
+            let never = each_is (λ p. is_never n (no_label n (row p))) (range_with_len 0 a.states) q parts.1 (there_range_zero a.states q less) in
             let fails = never_false n (holds_at a.names letter) (no_label n (row q)) (gap_below q) never in
             met_by_row q letter (true_from_not (list_any (is_met a.names letter) (row q)) (sym fails ∙ gap_truth q letter));
       }

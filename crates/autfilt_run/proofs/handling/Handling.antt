@@ -2,6 +2,7 @@
 use Rattle.std.proofs.Common.{◌≡◌, ℕ, Bool, true, false, if◌then◌else◌, List, [], Option, Some, None, Result, Ok, Err, refl, sym, ap, ◌∙◌, subst, inl, inr}
 use Rattle.std.specs.Prelude.{◌++◌, All, MatchOption, codes}
 use Rattle.std.specs.Result.{IsErrAnd}
+use Rattle.aut_base.proofs.Outcomes.{hands_on}
 use Rattle.aut_base.specs.Automaton.{Automaton}
 use Rattle.aut_base.specs.declared.letter.Lasso.{Lasso}
 use Rattle.aut_core.specs.OtherNames.{joined_names}
@@ -154,13 +155,7 @@ not_printed (asked.Limit which) b c p ops w core name o r is h e on stops = (
 )
 not_printed asked.Memory b c p ops w core name o r is h e on stops = refl
 
--- an error that `?` hands on
-pub hands_on : {A : Type 0} (r : Result A RunFault) (f : RunFault) (P : Result A RunFault → Type 0) → IsErrAnd r (λ y. y ≡ f) → P (Err f) → P r
-hands_on (Ok a) f P h p = absurd h
-hands_on (Err g) f P h p = subst (λ (x : RunFault). P (Err x)) (sym h) p
-
 -- memory was wanting for what is printed
 pub wants_memory : (r : Result (List ℕ) PlanFault) (o : Output) (p : Plan) (ops : List Automaton) (a : Automaton) (name : Option (List ℕ)) → IsErrAnd r (λ y. y ≡ asked.Memory)
     → PrintsOrStops r o p ops a name
-wants_memory (Ok text) o p ops a name h = absurd h
-wants_memory (Err f) o p ops a name h = subst (λ (x : PlanFault). PrintsOrStops (Err x) o p ops a name) (sym h) tt
+wants_memory r o p ops a name h = hands_on r asked.Memory (λ x. PrintsOrStops x o p ops a name) h tt

@@ -1,9 +1,7 @@
 -- A line of figures, piece by piece, and the word of an automaton.
 use Rattle.std.proofs.Common.{◌≡◌, ℕ, ◌+◌, ◌<◌, List, ◌∷◌, ◌++◌, length, get_or, drop, Result, Ok, Err, IfOk, inl, refl, sym, ap, ◌∙◌, subst, append_assoc}
-use Rattle.std.specs.List.{All}
 use Rattle.std.specs.Fmt.{decimal}
 use Rattle.std.proofs.lemmas.List.{drop_more}
-use Rattle.std.proofs.lemmas.List.Elements.{All-contains, All-contains_itself, Contains-append_left, Contains-append_right}
 use Rattle.aut_base.specs.Automaton.{Automaton}
 use Rattle.aut_base.specs.declared.letter.Lasso.{Lasso}
 use Rattle.aut_ops.specs.Trimming.{IsTrimmed}
@@ -33,17 +31,6 @@ piece_more pieces i d piece a begun shown new within is extended shows so_far =
           (subst (IsLine pieces a) (sym (append_assoc begun shown text))
           (so_far.whole (shown ++ text) (subst (λ rest. IsLine rest a (shown ++ text)) (sym next) line)));
     }
-
--- what holds of each item of two lists holds of those of the first, and of the second
-pub all_of_first : {A : Type 0} (P : A → Type 0) (xs ys : List A) → All P (xs ++ ys) → All P xs
-all_of_first P xs ys all k d within =
-    let x = get_or xs k d in
-    All-contains P (xs ++ ys) x all (Contains-append_left xs ys x (All-contains_itself xs k d within))
-
-pub all_of_second : {A : Type 0} (P : A → Type 0) (xs ys : List A) → All P (xs ++ ys) → All P ys
-all_of_second P xs ys all k d within =
-    let y = get_or ys k d in
-    All-contains P (xs ++ ys) y all (Contains-append_right xs ys y (All-contains_itself ys k d within))
 
 -- the digits of a figure of the trimmed automaton
 pub shows_reached :

@@ -1,8 +1,8 @@
 -- The line of a refutation that was found.
 use Rattle.std.proofs.Common.{◌≡◌, ◌∙◌, ℕ, List, Option, None, Some, ap, inl, subst, sym}
 use Rattle.std.specs.Prelude.{◌++◌, All, MatchOption, codes}
+use Rattle.aut_base.proofs.lists.Members.{all_of_first, all_of_second}
 use Rattle.aut_base.specs.Automaton.{Automaton}
-use Rattle.autfilt_run.proofs.printing.FigureLines.{all_of_first, all_of_second}
 use Rattle.autfilt_run.specs.inner.Handling.{ShowsInclusion}
 use Rattle.plan_meaning.specs.Refutations.{IsRefutation, IsRefutedOr}
 use Rattle.plan_meaning.specs.declared.refuting.Refutation.{Refutation}

@@ -3,6 +3,7 @@ use Rattle.std.proofs.Common.{◌≡◌, ◌≢◌, ◌⊎◌, ℕ, ◌+◌, ◌
 use Rattle.std.specs.Prelude.{map}
 use Rattle.std.specs.Result.{IsErrAnd}
 use Rattle.std.proofs.lemmas.List.{map-append}
+use Rattle.aut_base.proofs.Outcomes.{hands_on}
 use Rattle.aut_base.specs.Automaton.{Automaton}
 use Rattle.aut_base.specs.declared.limit.Limit.{Limit}
 use Rattle.aut_core.specs.Core.{Core, automaton_of}
@@ -74,8 +75,7 @@ not_taken _ w old new s t r hand same whole moves h = absurd h
 
 -- a fault that `?` hands on
 pub turns_on : (r : Result OperandTurn RunFault) (f : RunFault) (old new : Session) (s t : Seen) → IsErrAnd r (λ y. y ≡ f) → FailsOperand f old new s t → KeepsAll old new → TurnsOperands r old new s t
-turns_on (Ok turn) f old new s t h fails keeps = absurd h
-turns_on (Err g) f old new s t h fails keeps = record { turns = subst (λ (x : RunFault). FailsOperand x old new s t) (sym h) fails; keeps = keeps }
+turns_on r f old new s t h fails keeps = hands_on r f (λ x. TurnsOperands x old new s t) h (record { turns = fails; keeps = keeps })
 
 -- an abandoned automaton uses a byte
 pub rises : (field : Front) (old new : Lexer) → field ≡ front.Aborted → old.held ≡ None → Holds (Ok field) new.held

@@ -1,8 +1,10 @@
 -- Turns over the operands, as what happens in a run.
 use Rattle.std.proofs.Common.{◌≡◌, ◌≢◌, ℕ, suc, ◌+◌, ◌-◌, ◌<◌, ◌≤◌, Bool, true, false, List, [], ◌∷◌, ◌++◌, length, drop, get_or, take, Option, Some, None, Result}
-use Rattle.std.proofs.Common.{Ok, Err, refl, sym, ap, ◌∙◌, subst, inl, inr, append_assoc, append-nil, arith}
+use Rattle.std.proofs.Common.{Err, refl, sym, ap, ◌∙◌, subst, inl, inr, append_assoc, append-nil, arith}
+use Rattle.std.proofs.Math.Numerals.{suc-eq-add-one}
 use Rattle.std.proofs.lemmas.List.{length-append}
 use Rattle.std.proofs.lemmas.Option.{same_Some, slice_get-get_or, slice_get_within}
+use Rattle.aut_base.proofs.Outcomes.{hands_on}
 use Rattle.aut_base.proofs.lists.Lists.{take-push}
 use Rattle.std.specs.Prelude.{map, slice_get}
 use Rattle.std.specs.Result.{IsErrAnd}
@@ -95,9 +97,6 @@ take_named xs i x at =
     let within = slice_get_within xs i x at in
     take-push xs i x within (same_Some x (get_or xs i x) (sym at ∙ slice_get-get_or xs i x within))
 
-suc_is : (n : ℕ) → suc n ≡ n + 1
-suc_is n = omega arith
-
 same_operands : (old new : Session) → new.operands ≡ old.operands → operands_in new ≡ operands_in old ++ []
 same_operands old new same = ap (λ cores. map automaton_of cores) same ∙ sym (append-nil (operands_in old))
 
@@ -116,7 +115,8 @@ opened old new s t keeps h =
             go.point,
             go.goes,
             record {
-              coming = go.comes ∙ ap (λ (n : ℕ). drop n (operands old.plan)) (suc_is k) ∙ coming_of old new keeps.plan (k + 1) (counted_open new k h.now_open (ap length h.tries.operands_same));
+              coming = go.comes ∙ ap (λ (n : ℕ). drop n (operands old.plan)) (suc-eq-add-one k)
+                  ∙ coming_of old new keeps.plan (k + 1) (counted_open new k h.now_open (ap length h.tries.operands_same));
               at = go.at;
             },
           );
@@ -421,8 +421,7 @@ fails f first old new s m t most few few' h keeps failed =
 
 -- a fault that `?` hands on
 pub prepares_on : (r : Result Prep RunFault) (f : RunFault) (old new : Session) (s t : Seen) → IsErrAnd r (λ y. y ≡ f) → FailsToPrepare f old new s t → Prepares r old new s t
-prepares_on (Ok p) f old new s t h failed = absurd h
-prepares_on (Err g) f old new s t h failed = subst (λ (x : RunFault). FailsToPrepare x old new s t) (sym h) failed
+prepares_on r f old new s t h failed = hands_on r f (λ x. Prepares x old new s t) h failed
 
 pub taken_few : (s : Session) → s.lexer.taken ≤ MOST_BYTES
 taken_few s = subst (λ (n : ℕ). s.lexer.taken ≤ n) s.most_is s.lexer.within

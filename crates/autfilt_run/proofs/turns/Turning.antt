@@ -1,6 +1,7 @@
 -- What a step answers where something was read.
-use Rattle.std.proofs.Common.{◌≡◌, ℕ, Option, Result, Ok, Err, refl, sym, subst, inr}
+use Rattle.std.proofs.Common.{◌≡◌, ℕ, Option, Result, Err, refl, sym, subst, inr}
 use Rattle.std.specs.Result.{IsErrAnd}
+use Rattle.aut_base.proofs.Outcomes.{hands_on}
 use Rattle.aut_base.specs.declared.limit.Limit.{Limit}
 use Rattle.aut_io.specs.Seen.{Seen, SinkSeen}
 use Rattle.autfilt_run.proofs.handling.PassedLimits.{both_ways, elsewhere}
@@ -75,5 +76,4 @@ not_handled _ w old new s t o o' r hand whole moves h = absurd h
 
 -- a fault that `?` hands on
 pub steps_on : (r : Result Turn RunFault) (f : RunFault) (old new : Session) (s t : Seen) (o o' : SinkSeen) → IsErrAnd r (λ y. y ≡ f) → Fails f old new s t o o' → Steps r old new s t o o'
-steps_on (Ok turn) f old new s t o o' h fails = absurd h
-steps_on (Err g) f old new s t o o' h fails = subst (λ (x : RunFault). Fails x old new s t o o') (sym h) fails
+steps_on r f old new s t o o' h fails = hands_on r f (λ x. Steps x old new s t o o') h fails

@@ -5,6 +5,7 @@ use Rattle.std.proofs.lemmas.List.{append-nil}
 use Rattle.std.proofs.lemmas.List.Elements.{recursion_from_All}
 use Rattle.std.specs.Prelude.{flat_map}
 use Rattle.std.specs.List.{AllByRecursion, enumerate_from, range_with_len}
+use Rattle.aut_base.proofs.canonical.CanonicalAutomata.{relabelled}
 use Rattle.aut_base.specs.Automaton.{TreeEdge, Automaton, IsEdgeOf, IsWellFormed}
 use Rattle.aut_base.specs.Formula.{FormulaTree}
 use Rattle.aut_base.specs.Label.{LabelTree}
@@ -19,9 +20,6 @@ use Rattle.hoa_writer.proofs.text.InOrder.{in_order_already, no_repeats, number_
 use Rattle.aut_base.specs.CanonicalLabel.{canonical, canonical_label}
 use Rattle.hoa_writer.specs.CanonicalWritten.{canonical_edge, canonical_state, canonical_written}
 use Rattle.aut_base.proofs.lists.AllByRecursion.{AllByRecursion-weaker}
-
-abbrev relabelled : ℕ → TreeEdge → TreeEdge
-relabelled n e = record e { label = canonical_label n e.label }
 
 -- what is to hold of an edge of the state q: the order of its marks is that of the sets
 abbrev Stands : ℕ → ℕ → TreeEdge → Type 0

@@ -1,8 +1,8 @@
 -- Least valuations of classes: there are such, they stand in order, and what are classes are theirs.
-use Rattle.std.proofs.Common.{◌≡◌, ◌∙◌, ◌⊎◌, ◌+◌, ◌^◌, ◌<◌, ◌≤◌, ◌&&◌, ℕ, zero, suc, Bool, true, false, cond, not, List, [], ◌∷◌, Contains, Some, ap, arith, eq-eqb, eqb, filter, get_or, inl, inr}
+use Rattle.std.proofs.Common.{◌≡◌, ◌∙◌, ◌⊎◌, ◌+◌, ◌^◌, ◌<◌, ◌≤◌, ◌&&◌, ℕ, zero, suc, Bool, true, false, cond, not, List, [], ◌∷◌, Contains, Some, ap, arith, filter, get_or, inl, inr}
 use Rattle.std.proofs.Common.{length, map, nat_lt, refl, slice_get, subst, sym}
 use Rattle.std.proofs.Math.Decide.{dec_lt}
-use Rattle.std.proofs.lemmas.Bool.{and_parts, cases_lt, eqb-true, false≢true, lt-ltb, ltb-true, true≢false}
+use Rattle.std.proofs.lemmas.Bool.{and_parts, cases_lt, false≢true, lt-ltb, ltb-true, true≢false}
 use Rattle.std.proofs.lemmas.List.Elements.{All-from_recursion, recursion_from_All}
 use Rattle.std.proofs.lemmas.Option.{get_or_from_slice_get, none-some, same_Some, slice_get-get_or, slice_get_within}
 use Rattle.std.specs.Bool.{beq}
@@ -10,11 +10,12 @@ use Rattle.std.specs.List.{AllByRecursion, AllZip, list_any}
 use Rattle.indexmap.proofs.IndexTableLemmas.Probe.{pigeonhole}
 use Rattle.aut_base.proofs.lists.AllByRecursion.{AllByRecursion-filter}
 use Rattle.aut_base.proofs.canonical.LabelExamples.{in_order}
+use Rattle.aut_base.proofs.lists.ListTests.{zip_left, zip_right}
 use Rattle.aut_base.proofs.lists.Members.{any_found, any_from, each_from, each_is, first_there, from_filter, from_map, later_there, none_there, placed_there, read_has, there_at, there_cases}
 use Rattle.aut_base.proofs.lists.Members.{there_filter, there_map, there_range_zero}
 use Rattle.aut_base.proofs.order.Ordered.{Pairs, pairs_from, pairs_unmap, range_rises}
 use Rattle.aut_base.proofs.numbers.Truth.{same_truth}
-use Rattle.aut_base.proofs.canonical.ValuationLists.{all_valuations}
+use Rattle.aut_base.proofs.canonical.ValuationLists.{each_size, same_test, test_same}
 use Rattle.aut_base.specs.Label.{LabelTree, truth}
 use Rattle.aut_base.specs.Valuation.{IsLeast, holds_in, number_of, truth_on, valuations}
 use Rattle.label_guards.specs.declared.guard.Guard.{Guard}
@@ -50,10 +51,7 @@ pairs_at R (z ∷ xs) (suc i) (suc j) x y h at there less = pairs_at R xs i j x 
 valuations_rise : (n : ℕ) → Pairs Less (valuations n)
 valuations_rise n = pairs_unmap (λ a b. a < b) number_of (valuations n) (subst (Pairs (λ a b. a < b)) (sym (in_order n)) (range_rises 0 (2 ^ n)))
 
--- the list has just the valuations of n propositions
-pub each_size : (n : ℕ) (v : List Bool) → Contains (valuations n) v → length v ≡ n
-each_size n v there = eqb-true (length v) n (each_is (λ w. eqb (length w) n) (valuations n) v (all_valuations n (λ w. eqb (length w) n) (λ w size. eq-eqb (length w) n size)) there)
-
+-- the list has all valuations of n propositions
 pub valuation_there : (n : ℕ) (v : List Bool) → length v ≡ n → Contains (valuations n) v
 valuation_there n v size =
     let small : number_of v < 2 ^ n = subst (λ (m : ℕ). number_of v < 2 ^ m) size (number_bound v) in
@@ -131,18 +129,6 @@ rising_same (x ∷ xs) (y ∷ ys) p q to from = λ i. heads i ∷ rising_same xs
     ]
 
 -- alike
-
-same_test : (a b : Bool) → beq a b ≡ true → a ≡ b
-same_test true true e = refl
-same_test false false e = refl
-same_test true false e = sym e
-same_test false true e = e
-
-test_same : (a b : Bool) → a ≡ b → beq a b ≡ true
-test_same true true e = refl
-test_same false false e = refl
-test_same true false e = sym e
-test_same false true e = e
 
 pub alike_each : (labels : List LabelTree) (on also : ℕ → Bool) → are_alike labels on also ≡ true → (t : LabelTree) → Contains labels t → truth on t ≡ truth also t
 alike_each labels on also h t there = same_test (truth on t) (truth also t) (each_is (λ u. beq (truth on u) (truth also u)) labels t h there)
@@ -227,18 +213,6 @@ module _ (n : ℕ) (labels : List LabelTree) where
       omega (arith, less, more)
 
 -- lists side by side
-
-zip_left : {A B : Type 0} (R : A → B → Type 0) (xs : List A) (ys : List B) (k : ℕ) (x : A) → AllZip R xs ys → slice_get xs k ≡ Some x → (y : B) × (slice_get ys k ≡ Some y) × R x y
-zip_left R [] ys k x all at = absurd (none-some x at)
-zip_left R (a ∷ xs) [] k x all at = absurd all
-zip_left R (a ∷ xs) (b ∷ ys) zero x all at = (b, refl, subst (λ z. R z b) (same_Some a x at) all.0)
-zip_left R (a ∷ xs) (b ∷ ys) (suc k) x all at = zip_left R xs ys k x all.1 at
-
-zip_right : {A B : Type 0} (R : A → B → Type 0) (xs : List A) (ys : List B) (k : ℕ) (y : B) → AllZip R xs ys → slice_get ys k ≡ Some y → (x : A) × (slice_get xs k ≡ Some x) × R x y
-zip_right R xs [] k y all at = absurd (none-some y at)
-zip_right R [] (b ∷ ys) k y all at = absurd all
-zip_right R (a ∷ xs) (b ∷ ys) zero y all at = (a, refl, subst (R a) (same_Some b y at) all.0)
-zip_right R (a ∷ xs) (b ∷ ys) (suc k) y all at = zip_right R xs ys k y all.1 at
 
 zip_length : {A B : Type 0} (R : A → B → Type 0) (xs : List A) (ys : List B) → AllZip R xs ys → length xs ≡ length ys
 zip_length R [] [] all = refl

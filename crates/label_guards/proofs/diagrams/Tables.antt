@@ -1,11 +1,9 @@
 -- A table of results with one more, or under a larger store.
-use Rattle.std.proofs.Common.{◌≡◌, ℕ, ◌∙◌, Bool, true, false, cond, nat_eq, Some, List, sym, refl, ap, subst, arith}
+use Rattle.std.proofs.Common.{◌≡◌, ℕ, ◌∙◌, Bool, true, false, cond, nat_eq, Some, List, sym, refl, ap, subst}
 use Rattle.std.specs.Map.{lookup}
 use Rattle.std.proofs.lemmas.Option.{same_Some}
+use Rattle.std.proofs.lemmas.Bool.{eqb-true}
 use Rattle.label_guards.specs.Tables.{IsPut, AreDone}
-
-number_same : (a b : ℕ) → nat_eq a b ≡ true → a ≡ b
-number_same a b h = grind arith
 
 pub done_put : {V : Type 0} (IsRight : ℕ → V → Type 0) (old new : List (ℕ × V)) (place : ℕ) (found : V) → IsPut old new place found → AreDone IsRight old → IsRight place found → AreDone IsRight new
 done_put {V} IsRight old new place found put are right = λ p q h. by p q (nat_eq place p) refl (sym (put p) ∙ h)
@@ -14,7 +12,7 @@ done_put {V} IsRight old new place found put are right = λ p q h. by p q (nat_e
     by p q false e h = are p q (sym (ap (λ c. cond c (Some found) (lookup (nat_eq p) old)) e) ∙ h)
     by p q true e h =
         let same : found ≡ q = same_Some found q (sym (ap (λ c. cond c (Some found) (lookup (nat_eq p) old)) e) ∙ h) in
-        subst (λ (x : ℕ). IsRight x q) (number_same place p e) (subst (IsRight place) same right)
+        subst (λ (x : ℕ). IsRight x q) (eqb-true place p e) (subst (IsRight place) same right)
 
 pub done_under : {V : Type 0} {IsRight IsStill : ℕ → V → Type 0} (entries : List (ℕ × V)) → ((p : ℕ) (q : V) → IsRight p q → IsStill p q) → AreDone IsRight entries → AreDone IsStill entries
 done_under entries under are = λ p q h. under p q (are p q h)

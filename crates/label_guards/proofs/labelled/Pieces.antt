@@ -5,6 +5,7 @@ use Rattle.std.proofs.lemmas.List.{append-nil, append_assoc, map-append, take_al
 use Rattle.std.proofs.lemmas.List.Concat.{flat_map-append}
 use Rattle.std.specs.List.{flat_map}
 use Rattle.std.specs.Prelude.{codes}
+use Rattle.aut_base.proofs.lists.Members.{map_alike}
 use Rattle.aut_base.specs.CanonicalLabel as canonical
 use Rattle.aut_base.specs.LabelText.{joined, literal_text}
 use Rattle.label_guards.specs.Pieces.{Gains, each_after, pieces_after, cube_piece, literal_of, is_any, WritesCubes}
@@ -75,16 +76,12 @@ some_item n is_empty f e =
     let some = eqb-false n 0 (sym e ∙ f) in
     omega arith
 
-map_same : {A B : Type 0} (f g : A → B) → ((x : A) → f x ≡ g x) → (xs : List A) → map f xs ≡ map g xs
-map_same f g same [] = refl
-map_same f g same (x ∷ xs) = (ap (λ y. y ∷ map f xs) (same x)) ∙ ap (λ ys. g x ∷ ys) (map_same f g same xs)
-
 -- an item in front of each list is an item behind what stands in front
 map-front : {A B : Type 0} (f : List A → B) (front : List A) (a : A) (lists : List (List A))
     → map (λ rest. f (front ++ rest)) (map (λ v. a ∷ v) lists) ≡ map (λ rest. f ((front ++ a ∷ []) ++ rest)) lists
 map-front f front a lists =
     map-map (λ rest. f (front ++ rest)) (λ v. a ∷ v) lists
-    ∙ map_same (λ v. f (front ++ a ∷ v)) (λ v. f ((front ++ a ∷ []) ++ v)) (λ v. ap f (sym (append_assoc front (a ∷ []) v))) lists
+    ∙ map_alike (λ v. f (front ++ a ∷ v)) (λ v. f ((front ++ a ∷ []) ++ v)) lists (λ v there. ap f (sym (append_assoc front (a ∷ []) v)))
 
 or_assoc : (a b c : Bool) → ((a || b) || c) ≡ (a || (b || c))
 or_assoc true b c = refl

@@ -2,6 +2,7 @@
 use Rattle.std.proofs.Common.{◌≡◌, ◌∙◌, ℕ, ◌<◌, Bool, true, false, List, All, length, if◌then◌else◌, sym, refl, ap, inl, inr, arith, nat_eq}
 use Rattle.std.specs.List.{slice_index_or}
 use Rattle.std.proofs.lemmas.List.Elements.{All-get_or}
+use Rattle.std.proofs.lemmas.Bool.{eqb-true}
 use Rattle.label_guards.specs.declared.guard.Guard.{Guard}
 use Rattle.label_guards.specs.declared.nodes.Node.{Node}
 use Rattle.label_guards.specs.Guards.{GoesBelow, with_prop}
@@ -29,9 +30,6 @@ set_before : (s : Store) → IsReduced s.names s.nodes → (q : ℕ) → HasPlac
 set_before s is q has prop later on k value b = outcome_agrees s is q has (with_prop (with_prop on prop value) k b) (with_prop on k b) (λ i x y.
     ap (λ c. if nat_eq i k then b else c) (fixed-later on prop value i (omega arith)))
 
-same_number : (a b : ℕ) → nat_eq a b ≡ true → a ≡ b
-same_number a b h = grind arith
-
 -- A side of a node, where the node's proposition is so, is free of what the node is free of.
 side_free : (s : Store) → IsReduced s.names s.nodes → (p : ℕ) (n : Node) (value : Bool) (q : ℕ) → HasPlace s q → n.prop < level s q
     → ((on : ℕ → Bool) → on n.prop ≡ value → outcome s.nodes on p ≡ outcome s.nodes on q) → (k : ℕ) → IsFreeAt s p k → IsFreeAt s q k
@@ -42,7 +40,7 @@ side_free s is p n value q has later side k free on = by (nat_eq n.prop k) refl
 
     by : (e : Bool) → nat_eq n.prop k ≡ e → outcome s.nodes (with_prop on k true) q ≡ outcome s.nodes (with_prop on k false) q
     by true e =
-        let same = same_number n.prop k e in
+        let same = eqb-true n.prop k e in
         outcome_fixed s is q has on k true (omega arith) ∙ sym (outcome_fixed s is q has on k false (omega arith))
     by false e =
         let to_side : (b : Bool) → outcome s.nodes (with_prop base k b) p ≡ outcome s.nodes (with_prop on k b) q = λ b.

@@ -2,6 +2,7 @@
 -- priority.
 use Rattle.std.proofs.Common.{◌≡◌, ◌∙◌, ◌+◌, ◌*◌, ◌<◌, ℕ, zero, suc, true, List, [], ◌∷◌, ◌++◌, Contains, ap, append_assoc, arith, inl, inr, length, map, refl, subst, sym}
 use Rattle.std.proofs.lemmas.List.{length-map, map-append}
+use Rattle.std.proofs.Math.Nat.{mul-pos}
 use Rattle.aut_base.proofs.lists.Copies.{copies-add, copies-copies}
 use Rattle.aut_base.proofs.lists.Members.{none_there, there_cases}
 use Rattle.aut_base.proofs.runs.Paths.{goes_on}
@@ -16,7 +17,7 @@ use Rattle.safra_laws.proofs.parity.Both.{odd_is_accepted}
 use Rattle.safra_laws.proofs.parity.Least.{priorities_are_below}
 use Rattle.safra_laws.specs.Priorities.{IsOdd, least_priority, priorities, priority}
 use Rattle.safra_laws.specs.Rounds.{IsAccepted, IsMovePath, next_tree, tree_after}
-use Rattle.parity_laws.proofs.directions.Trees.{follow, only_start, product_positive}
+use Rattle.parity_laws.proofs.directions.Trees.{follow, only_start}
 use Rattle.parity_laws.proofs.letters.Moves.{accepting_met, edges_of_path}
 use Rattle.parity_laws.proofs.letters.Priorities.{met_odd, single}
 use Rattle.parity_laws.specs.Buchi.{IsBuchi, moves_at}
@@ -53,7 +54,7 @@ accepted_of b buchi u v turns rounds endless positive a =
       cycle = second.edges;
       is_start = a.is_start;
       leads = subst (λ z. IsPath b a.start z first.edges a.state) (append_assoc u (copies turns v) w ∙ ap (λ z. u ++ z) (sym (copies-add turns rounds v))) first.path;
-      positive = product_positive a.rounds rounds a.positive positive;
+      positive = mul-pos a.positive positive;
       returns = subst (λ z. IsPath b a.state z second.edges a.state) (copies-copies a.rounds rounds v) second.path;
       meets = accepting_met second.edges a.cycle b.formula buchi.formula second.is a.accepts;
     }

@@ -2,6 +2,7 @@
 -- path, whose round the Büchi automaton's cycle goes round as often; so its least priority is odd.
 use Rattle.std.proofs.Common.{◌≡◌, ◌∙◌, ◌+◌, ◌*◌, ◌<◌, ℕ, true, false, List, [], ◌++◌, Contains, ap, length, map, subst, sym}
 use Rattle.std.specs.List.{list_any}
+use Rattle.std.proofs.Math.Nat.{mul-pos}
 use Rattle.aut_base.proofs.lists.Copies.{copies-copies}
 use Rattle.aut_base.proofs.lists.Members.{first_there}
 use Rattle.aut_base.proofs.runs.Paths.{path_copies, path_join}
@@ -10,6 +11,7 @@ use Rattle.aut_base.specs.Acceptance.{Accepts, IsPath}
 use Rattle.aut_base.specs.Automaton.{Automaton, TreeEdge}
 use Rattle.aut_base.specs.Formula.{Inf, met}
 use Rattle.aut_base.specs.Word.{NameSet, copies}
+use Rattle.aut_base.proofs.words.Turns.{more_turns}
 use Rattle.acc_forms.specs.Parity.{parity_min_odd}
 use Rattle.safra_trees.specs.Step.{IsTree}
 use Rattle.safra_trees.specs.Trees.{Node, first_tree, holds}
@@ -20,7 +22,7 @@ use Rattle.safra_laws.proofs.invariant.Root.{root_is_reached}
 use Rattle.safra_laws.proofs.parity.Both.{accepted_is_odd}
 use Rattle.safra_laws.specs.Priorities.{priorities}
 use Rattle.safra_laws.specs.Rounds.{IsReached, tree_after}
-use Rattle.parity_laws.proofs.directions.Trees.{closed, follow, more_turns, product_positive}
+use Rattle.parity_laws.proofs.directions.Trees.{closed, follow}
 use Rattle.parity_laws.proofs.letters.Moves.{goals_below, met_buchi, moves_of_path}
 use Rattle.parity_laws.proofs.letters.Priorities.{odd_met}
 use Rattle.parity_laws.proofs.runs.Runs.{closes, run}
@@ -73,7 +75,7 @@ to_trees b d trees most buchi det u v a =
       cycle = c.cycle;
       is_start = subst (λ xs. Contains xs 0) (sym det.starts) (first_there 0 []);
       leads = subst (λ z. IsPath d 0 z (begun.way ++ c.way) c.state) (more_turns a.turns c.before a.rounds u v) whole;
-      positive = product_positive c.more a.rounds c.positive a.positive;
+      positive = mul-pos c.positive a.positive;
       returns = subst (λ z. IsPath d c.state z c.cycle c.state) (copies-copies c.more a.rounds v) c.returns;
       meets = ap (met (map (λ (e : TreeEdge). e.marks) c.cycle)) det.formula
           ∙ (ap (λ ms. met ms (parity_min_odd (most + most + 1))) home.marks ∙ odd_met most (priorities n most t (map (moves_at b) round)) odd);

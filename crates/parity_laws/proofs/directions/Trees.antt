@@ -1,25 +1,15 @@
 -- The trees along a path of a determinised automaton.
-use Rattle.std.proofs.Common.{◌≡◌, ◌∙◌, ◌+◌, ◌*◌, ◌<◌, ℕ, List, [], ◌∷◌, ◌++◌, Contains, ap, append_assoc, arith, inl, inr, length, map, refl, subst, sym}
-use Rattle.std.proofs.lemmas.Nat.{mul-lt}
-use Rattle.aut_base.proofs.lists.Copies.{copies-add, copies-copies}
+use Rattle.std.proofs.Common.{◌≡◌, ◌∙◌, ◌<◌, ℕ, List, [], ◌∷◌, Contains, ap, arith, inl, inr, length, map, refl, subst, sym}
 use Rattle.aut_base.proofs.lists.Members.{none_there, there_cases}
 use Rattle.aut_base.specs.Acceptance.{IsPath}
 use Rattle.aut_base.specs.Automaton.{Automaton, TreeEdge}
-use Rattle.aut_base.specs.Word.{NameSet, copies}
+use Rattle.aut_base.specs.Word.{NameSet}
 use Rattle.safra_trees.specs.Trees.{Node}
 use Rattle.safra_laws.specs.Priorities.{priorities, priority}
 use Rattle.safra_laws.specs.Rounds.{NamesAtMost, next_tree, tree_after}
 use Rattle.parity_laws.proofs.runs.Runs.{IsClosed}
 use Rattle.parity_laws.specs.Buchi.{moves_at}
 use Rattle.parity_laws.specs.Determinised.{IsDeterminised, tree_at}
-
-pub product_positive : (a b : ℕ) → 0 < a → 0 < b → 0 < a * b
-product_positive a b more some = omega (arith, mul-lt 0 0 a b more some)
-
--- more turns of a cycle behind the stem
-pub more_turns : (j k r : ℕ) (u v : List NameSet) → (u ++ copies j v) ++ copies k (copies r v) ≡ u ++ copies (j + k * r) v
-more_turns j k r u v =
-    append_assoc u (copies j v) (copies k (copies r v)) ∙ ap (λ w. u ++ w) (ap (λ w. copies j v ++ w) (copies-copies k r v) ∙ sym (copies-add j (k * r) v))
 
 pub only_start : (xs : List ℕ) (s : ℕ) → xs ≡ 0 ∷ [] → Contains xs s → s ≡ 0
 only_start xs s is there = elim (there_cases 0 [] s (subst (λ ys. Contains ys s) is there)) [ inl e ↦ sym e | inr none ↦ absurd (none_there s none) ]

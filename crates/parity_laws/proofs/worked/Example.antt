@@ -1,14 +1,11 @@
 -- The worked example is explored class by class.
 use Rattle.parity_laws.specs.Complement.{dualised}
 use Rattle.std.proofs.lemmas.List.Elements.{All-contains}
-use Rattle.aut_base.specs.Examples.{edge, name_a, off, on}
+use Rattle.aut_base.proofs.runs.Examples.{off_a, on_a}
+use Rattle.aut_base.specs.Examples.{edge, off, on}
 use Rattle.aut_base.specs.Acceptance.{Accepts}
 use Rattle.std.proofs.Common.{◌≡◌, ◌∙◌, ◌⊎◌, ◌<◌, ◌≤◌, ℕ, zero, suc, Bool, true, false, cond, not, List, []}
 use Rattle.std.proofs.Common.{◌∷◌, All, Contains, Some, ap, arith, inl, inr, length, map, nat_eq, refl, slice_index_or, subst, sym}
-use Rattle.std.specs.FinSet as set
-use Rattle.std.specs.Cmp.Lexicographic.{slice_cmp}
-use Rattle.std.specs.Ordering.{nat_cmp}
-use Rattle.std.proofs.lemmas.Cmp.{nat_list_cmp_total}
 use Rattle.std.proofs.lemmas.Bool.{cases_Bool, true≢false}
 use Rattle.std.proofs.lemmas.Option.{none-some, same_Some}
 use Rattle.aut_base.proofs.lists.Members.{each_there, first_there, later_there, none_there, placed_there, there_cases}
@@ -155,12 +152,6 @@ buchi = record {
   starts = each_of (λ s. s < 2) (0 ∷ []) (omega arith, tt);
   ends = each_of (λ (e : TreeEdge). e.to < 2) finitely_often.edges (omega arith, (omega arith, (omega arith, tt)));
 }
-
-on_a : set.contains on name_a ≡ true
-on_a = set.contains-insert nat_list_cmp_total set.empty name_a name_a
-
-off_a : set.contains off name_a ≡ false
-off_a = set.contains-empty (slice_cmp nat_cmp) name_a
 
 -- by way of the second state to the third, and there round
 always_accepted : Accepts determinised [] (on ∷ [])

@@ -1,5 +1,6 @@
 -- The changes of a plan as a list.
 use Rattle.std.proofs.Common.{◌≡◌, ◌<◌, ◌+◌, ℕ, zero, suc, List, [], ◌∷◌, ◌++◌, Option, Some, Result, Err, IfSome, refl, sym, ap, ◌∙◌, arith, subst, take, drop, get_or, length}
+use Rattle.std.proofs.Math.Numerals.{suc-eq-add-one}
 use Rattle.std.specs.Option.{option_map}
 use Rattle.std.specs.Result.{IsErrAnd}
 use Rattle.std.proofs.lemmas.List.{take-append-drop}
@@ -51,12 +52,9 @@ grows_by_one (suc (suc (suc (suc (suc (suc zero)))))) a h = record { states = om
 grows_by_one (suc (suc (suc (suc (suc (suc (suc zero))))))) a h = record { states = omega (arith, h.states); sets = omega (arith, h.sets) }
 grows_by_one (suc (suc (suc (suc (suc (suc (suc (suc n)))))))) a h = h
 
-next_place : (n : ℕ) → suc n ≡ n + 1
-next_place n = omega arith
-
 -- where nothing is asked for
 pub grows : (n : ℕ) (a : Automaton) → IsOfSizeAt n a → IsOfSizeAt (n + 1) a
-grows n a h = subst (λ (k : ℕ). IsOfSizeAt k a) (next_place n) (grows_by_one n a h)
+grows n a h = subst (λ (k : ℕ). IsOfSizeAt k a) (suc-eq-add-one n) (grows_by_one n a h)
 
 pub grown : (n place : ℕ) (a : Automaton) → place ≡ 0 + n → IsOfSizeAt (suc place) a → IsOfSizeAt (n + 1) a
 grown n place a is h = let same : suc place ≡ n + 1 = omega (arith, is) in subst (λ (k : ℕ). IsOfSizeAt k a) same h

@@ -1,9 +1,10 @@
 -- Steps one after the other make their changes one after the other.
-use Rattle.std.proofs.Common.{◌≡◌, ◌↔◌, ◌⊎◌, ℕ, List, [], ◌∷◌, ◌++◌, Result, Ok, Err, inl, inr, refl, subst, sym}
+use Rattle.std.proofs.Common.{◌≡◌, ◌↔◌, ◌⊎◌, ℕ, List, [], ◌∷◌, ◌++◌, Result, Ok, Err, inl, inr, refl, subst}
 use Rattle.std.specs.Result.{IsErrAnd}
 use Rattle.ap_project.proofs.Languages.{same_hidden}
 use Rattle.ap_project.specs.Hiding.{AcceptsHidden, hidden}
 use Rattle.ap_project.specs.Laws.{SayTheSame}
+use Rattle.aut_base.proofs.Outcomes.{hands_on}
 use Rattle.aut_base.specs.Acceptance.{Accepts}
 use Rattle.aut_base.specs.Automaton.{Automaton}
 use Rattle.aut_base.specs.Word.{NameSet}
@@ -105,14 +106,9 @@ steps_then cs ds a b (Ok made) first second = made_then cs ds a b (automaton_of 
 steps_then cs ds a b (Err (fault.Limit which)) first second = stops_behind which cs ds a b (makes_all cs a b first.all) second
 steps_then cs ds a b (Err fault.Memory) first second = tt
 
--- a fault that a step passes on
-pub steps_told : (cs : List Change) (a : Automaton) (came : PlanFault) (r : Result Core PlanFault) → IsErrAnd r (λ y. y ≡ came) → Steps cs a (Err came) → Steps cs a r
-steps_told cs a came (Ok made) passed steps = absurd passed
-steps_told cs a came (Err y) passed steps = subst (λ (f : PlanFault). Steps cs a (Err f)) (sym passed) steps
-
--- and no step behind it is made
+-- a fault that a step passes on: no step behind it is made
 pub steps_end : (cs ds : List Change) (a : Automaton) (came : PlanFault) (r : Result Core PlanFault) → IsErrAnd r (λ y. y ≡ came) → Steps cs a (Err came) → Steps (cs ++ ds) a r
-steps_end cs ds a came r passed steps = steps_told (cs ++ ds) a came r passed (ended came steps)
+steps_end cs ds a came r passed steps = hands_on r came (Steps (cs ++ ds) a) passed (ended came steps)
   where
     ended : (f : PlanFault) → Steps cs a (Err f) → Steps (cs ++ ds) a (Err f)
     ended (fault.Limit which) stops = stops_before which cs ds a stops

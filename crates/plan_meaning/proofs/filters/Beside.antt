@@ -1,7 +1,6 @@
 -- A word that one automaton accepts and another doesn't, by a product with the complement of the other.
-use Rattle.std.proofs.Common.{ℕ, ◌≡◌, ◌≤◌, ◌↔◌, Bool, true, false, not, Option, None, Some, List, Result, Ok, Err, arith, inl, inr, length, refl, subst, sym}
+use Rattle.std.proofs.Common.{ℕ, ◌≡◌, ◌≤◌, ◌↔◌, Bool, true, false, not, Option, None, Some, List, Ok, Err, arith, inl, inr, length, refl, subst, sym}
 use Rattle.std.specs.Prelude.{◌++◌, All, IsTrue, MatchOption}
-use Rattle.std.specs.Result.{IsErrAnd}
 use Rattle.std.proofs.lemmas.Bool.{true≢false}
 use Rattle.aut_base.specs.Automaton.{Automaton}
 use Rattle.aut_base.specs.declared.letter.Lasso.{Lasso}
@@ -23,8 +22,6 @@ use Rattle.plan_meaning.proofs.changes.Determinised.{within}
 use Rattle.plan_meaning.specs.Complements.{IsKeptOf}
 use Rattle.plan_meaning.specs.Limits.{HaveFewNames, HaveManyNames, IsIncluded, PassesOfBoth, PassesOfInclusion, PassesUnlessDeterministic}
 use Rattle.plan_meaning.specs.Refutations.{Refutes}
-use Rattle.plan_meaning.specs.declared.fault.PlanFault.{PlanFault}
-use Rattle.plan_meaning.specs.declared.fault.PlanFault.TheVariants as fault
 use Rattle.plan_meaning.specs.inner.Beside.{FindsBeside, IsFoundBeside}
 use Rattle.plan_meaning.specs.inner.Faults.{fault_of_pairs, fault_of_parity}
 use Rattle.plan_meaning.specs.inner.Judging.{ComparesInclusion}
@@ -90,17 +87,3 @@ complement_refused a b comp.Trees h = inl h
 complement_refused a b comp.Nodes h = inl h
 complement_refused a b comp.Classes h = inl h
 complement_refused a b comp.Memory h = tt
-
--- a fault that is passed on
-pub told : (a b : Automaton) (r : Result (Option Lasso) PlanFault) (came : PlanFault) → IsErrAnd r (λ y. y ≡ came) → FindsBeside (Err came) a b → FindsBeside r a b
-told a b (Ok x) came passed h = absurd passed
-told a b (Err y) came passed h = subst (λ (f : PlanFault). FindsBeside (Err f) a b) (sym passed) h
-
--- the same of a comparison
-refused_too : (a b : Automaton) (f : PlanFault) → FindsBeside (Err f) a b → ComparesInclusion (Err f) a b
-refused_too a b (fault.Limit which) h = h
-refused_too a b fault.Memory h = h
-
-pub not_compared : (a b : Automaton) (r : Result Bool PlanFault) (came : PlanFault) → IsErrAnd r (λ y. y ≡ came) → FindsBeside (Err came) a b → ComparesInclusion r a b
-not_compared a b (Ok x) came passed h = absurd passed
-not_compared a b (Err y) came passed h = refused_too a b y (subst (λ (f : PlanFault). FindsBeside (Err f) a b) (sym passed) h)

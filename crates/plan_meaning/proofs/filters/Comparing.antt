@@ -1,7 +1,6 @@
 -- Whether one automaton is included in another, and whether both accept the same, by whether there is a word that the one accepts
 -- and the other doesn't.
 use Rattle.std.proofs.Common.{◌≡◌, Bool, true, false, Option, None, Some, Result, Ok, Err, inl, inr, subst, sym}
-use Rattle.std.specs.Result.{IsErrAnd}
 use Rattle.aut_base.specs.Automaton.{Automaton}
 use Rattle.aut_base.specs.CanonicalLabel.{canonical}
 use Rattle.aut_base.specs.declared.letter.Lasso.{Lasso}
@@ -10,7 +9,7 @@ use Rattle.plan_meaning.specs.Filters.{EquivalentTo, IncludedIn}
 use Rattle.plan_meaning.specs.Limits.{PassesOfEquivalence, PassesOfInclusion}
 use Rattle.plan_meaning.specs.declared.fault.PlanFault.{PlanFault}
 use Rattle.plan_meaning.specs.declared.fault.PlanFault.TheVariants as fault
-use Rattle.plan_meaning.specs.inner.Beside.{FindsBeside, IsFoundBeside}
+use Rattle.plan_meaning.specs.inner.Beside.{IsFoundBeside}
 use Rattle.plan_meaning.specs.inner.Judging.{ComparesInclusion, Examines}
 
 -- a word was found, or there is none
@@ -21,11 +20,6 @@ by_none a b (Some w) is h = absurd cc
 pub by_word : (a b : Automaton) (found : Option Lasso) (w : Lasso) → found ≡ Some w → IsFoundBeside a b found → ComparesInclusion (Ok false) a b
 by_word a b None w is h = absurd cc
 by_word a b (Some x) w is h = (h.within, λ included. h.found.rejected (included x.stem x.cycle h.found.accepted))
-
--- a refusal says the same
-pub by_refusal : (a b : Automaton) (f : PlanFault) → FindsBeside (Err f) a b → ComparesInclusion (Err f) a b
-by_refusal a b (fault.Limit which) h = h
-by_refusal a b fault.Memory h = tt
 
 -- ---- the filters
 
@@ -66,8 +60,3 @@ module _ (a b : Automaton) (settled : canonical a ≡ a) where
       by which (inr p) = k.0 which p.2
   equivalent_if (Err (fault.Limit which)) h k = subst (λ (x : Automaton). PassesOfEquivalence which x b) (sym settled) (inr (h.0, h.1, k))
   equivalent_if (Err fault.Memory) h k = tt
-
--- a fault that is passed on
-pub inclusion_told : (a b : Automaton) (r : Result Bool PlanFault) (came : PlanFault) → IsErrAnd r (λ y. y ≡ came) → ComparesInclusion (Err came) a b → ComparesInclusion r a b
-inclusion_told a b (Ok x) came passed h = absurd passed
-inclusion_told a b (Err y) came passed h = subst (λ (f : PlanFault). ComparesInclusion (Err f) a b) (sym passed) h

@@ -1,6 +1,7 @@
 -- Filters that are examined one after the other.
 use Rattle.std.proofs.Common.{◌≡◌, ◌<◌, ◌+◌, ℕ, Bool, true, false, List, [], ◌∷◌, ◌++◌, Option, Some, Result, Ok, Err, refl, sym, subst, take, drop, get_or, length}
 use Rattle.std.specs.Result.{IsErrAnd}
+use Rattle.aut_base.proofs.Outcomes.{hands_on}
 use Rattle.aut_base.specs.Automaton.{Automaton}
 use Rattle.plan_meaning.proofs.StandingLists.{one_more, parted}
 use Rattle.plan_meaning.specs.Filters.{AllHold, Filter}
@@ -29,5 +30,4 @@ module _ (xs : List (Option coded.Filter)) (i : ℕ) (d o : Option coded.Filter)
 
 -- a fault that is passed on
 pub passed_on : (r : Result Bool PlanFault) (f : PlanFault) (fs : List Filter) (a : Automaton) → IsErrAnd r (λ y. y ≡ f) → JudgesWithin (Err f) fs a → JudgesWithin r fs a
-passed_on (Ok b) f fs a passed h = absurd passed
-passed_on (Err y) f fs a passed h = subst (λ (e : PlanFault). JudgesWithin (Err e) fs a) (sym passed) h
+passed_on r f fs a passed h = hands_on r f (λ x. JudgesWithin x fs a) passed h

@@ -1,25 +1,19 @@
 -- Steps keep sets in the order of their states, and the root its own parent.
-use Rattle.std.proofs.Common.{◌≡◌, ◌∙◌, ◌+◌, ◌++◌, ◌<◌, ℕ, zero, suc, Bool, true, false, cond, List, [], ◌∷◌, ap, arith, inl, inr, length, refl, subst, sym}
+use Rattle.std.proofs.Common.{◌≡◌, ◌∙◌, ◌+◌, ◌<◌, ℕ, Bool, true, false, List, [], ap, arith, inl, inr, length, refl, subst, sym}
 use Rattle.std.proofs.lemmas.Bool.{cases_lt}
 use Rattle.std.proofs.lemmas.List.{get_or_past}
 use Rattle.std.specs.List.{list_any, range_with_len}
 use Rattle.aut_base.proofs.numbers.Truth.{same_truth}
+use Rattle.safra_trees.proofs.flat_step.Finish.{names_alike}
 use Rattle.safra_trees.proofs.list_step.Forests.{stays_up}
 use Rattle.safra_trees.proofs.list_step.Pruned.{grown_forest, has_from, has_parts, old_parent, pruned_at, pruned_length, pruned_parent}
-use Rattle.safra_trees.proofs.list_step.Ranks.{names_more, rank_back, rank_rises}
+use Rattle.safra_trees.proofs.list_step.Ranks.{rank_back, rank_rises}
 use Rattle.safra_trees.specs.Step.{IsTree, grown, keeps, names, pruned, rank, stays}
 use Rattle.safra_trees.specs.Trees.{Node, has, holds, node_at}
 use Rattle.safra_trees.specs.declared.moves.Move.{Move}
 use Rattle.safra_laws.proofs.invariant.FirstTree.{tree_if}
 use Rattle.safra_laws.specs.Canonical.{FirstIsCanonical, IsCanonical, StepsKeepCanonical}
 use Rattle.safra_laws.specs.Rounds.{next_tree}
-
-names_same : (p q : ℕ → Bool) (k : ℕ) → ((s : ℕ) → s < k → p s ≡ q s) → names p k ≡ names q k
-names_same p q zero same = refl
-names_same p q (suc k) same =
-    names_more p k
-    ∙ (ap (λ (ys : List ℕ). ys ++ cond {A = List ℕ} (p k) (k ∷ []) []) (names_same p q k (λ s less. same s (omega (arith, less))))
-    ∙ (ap (λ (c : Bool). names q k ++ cond {A = List ℕ} c (k ∷ []) []) (same k (omega arith)) ∙ sym (names_more q k)))
 
 -- a test of states, and whether a state is among those that pass it
 has_same : (p : ℕ → Bool) (n s : ℕ) → s < n → p s ≡ has (names p n) s
@@ -33,7 +27,7 @@ sets_of_step n ms t x within =
     let is = pruned_at f y at.below at.stays in
     let each : (s : ℕ) → s < n → keeps f y s ≡ holds (pruned f) (rank (stays f) y) s = λ s less. has_same (keeps f y) n s less ∙ ap (λ (d : Node). has d.states s) (sym is) in
     let P : ℕ → Type 0 = λ z. (node_at (pruned f) z).states ≡ names (holds (pruned f) z) n in
-    subst P at.is (ap (λ (d : Node). d.states) is ∙ names_same (keeps f y) (holds (pruned f) (rank (stays f) y)) n each)
+    subst P at.is (ap (λ (d : Node). d.states) is ∙ names_alike (keeps f y) (holds (pruned f) (rank (stays f) y)) n each)
 
 -- the root of the step was the root
 was_root : (n : ℕ) (ms : List Move) (t : List Node) (y : ℕ) → IsTree t → y < length t + length t → stays (grown n ms t) y ≡ true → rank (stays (grown n ms t)) y ≡ 0 → y ≡ 0
@@ -67,7 +61,7 @@ canonical_if n starts true = record {
   sets = λ x within. (
       let is : 0 ≡ x = omega (arith, within) in
       let P : ℕ → Type 0 = λ z. (node_at (tree_if n starts true) z).states ≡ names (holds (tree_if n starts true) z) n in
-      subst P is (names_same (has starts) (has (names (has starts) n)) n (λ s less. has_same (has starts) n s less)));
+      subst P is (names_alike (has starts) (has (names (has starts) n)) n (λ s less. has_same (has starts) n s less)));
   root = refl;
 }
 

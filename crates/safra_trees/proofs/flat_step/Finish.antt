@@ -1,12 +1,12 @@
 -- The lists that the step writes are those of the names that stay.
 use Rattle.aut_base.specs.declared.limit.TheConstants.{MOST_NODES}
 use Rattle.safra_trees.specs.Trees.{root_states}
-use Rattle.std.proofs.Common.{◌≡◌, ◌∙◌, ◌+◌, ◌<◌, ◌≤◌, ◌&&◌, ◌-◌, ℕ, zero, suc, Bool, List, [], ◌∷◌, ◌++◌, Contains, Some, ap, arith, inl, inr, length, map, nat_lt, not, refl, subst, sym, All}
+use Rattle.std.proofs.Common.{◌≡◌, ◌∙◌, ◌+◌, ◌<◌, ◌≤◌, ◌&&◌, ◌-◌, ℕ, zero, suc, Bool, List, [], ◌∷◌, ◌++◌, Some, ap, arith, inl, inr, length, map, nat_lt, not, refl, subst, sym, All}
 use Rattle.std.proofs.lemmas.Bool.{cases_Bool, cases_eq, cases_lt, ltb-true}
 use Rattle.std.proofs.lemmas.List.{length-map}
 use Rattle.std.proofs.lemmas.List.FromFn.{length-range_with_len}
 use Rattle.std.specs.List.{range_with_len}
-use Rattle.aut_base.proofs.lists.Members.{first_there, from_filter, from_range, later_there, each_there}
+use Rattle.aut_base.proofs.lists.Members.{from_filter, from_range, each_there, map_alike}
 use Rattle.safra_trees.proofs.flat_step.Gathered.{gathered, gathered_stored, new_parents, new_places, new_states}
 use Rattle.safra_trees.proofs.flat_step.Grown.{grown_by, grown_forest_of, grown_same}
 use Rattle.safra_trees.proofs.flat_step.Homes.{IsPassed, green_flag}
@@ -32,10 +32,6 @@ names_alike p q (suc k) same =
 
 rank_alike : (p q : ℕ → Bool) (k : ℕ) → ((x : ℕ) → x < k → p x ≡ q x) → rank p k ≡ rank q k
 rank_alike p q k same = ap length (names_alike p q k same)
-
-map_alike : {X : Type 0} (g h : ℕ → X) (xs : List ℕ) → ((x : ℕ) → Contains xs x → g x ≡ h x) → map g xs ≡ map h xs
-map_alike g h [] same = refl
-map_alike g h (x ∷ xs) same = ap (λ y. y ∷ map g xs) (same x (first_there x xs)) ∙ ap (λ ys. h x ∷ ys) (map_alike g h xs (λ y there. same y (later_there x xs y there)))
 
 mapped_at : (g : ℕ → ℕ) (n i : ℕ) → i < n → at (map g (range_with_len 0 n)) i ≡ g i
 mapped_at g n i less = let e : 0 + i ≡ i = omega arith in index_map g (range_with_len 0 n) i i 0 (range_at 0 n i less ∙ ap Some e)

@@ -6,18 +6,13 @@ use Rattle.std.specs.List.{list_any, range_with_len}
 use Rattle.safra_trees.proofs.list_step.Forests.{IsForest, keeps_child, keeps_free, keeps_holds, keeps_up, least, none_any}
 use Rattle.aut_base.proofs.lists.Lists.{range_more}
 use Rattle.aut_base.proofs.lists.Members.{each_from, each_is, from_filter, from_range, none_at, there_filter, there_range_zero}
-use Rattle.aut_base.proofs.numbers.Truth.{or-false}
+use Rattle.aut_base.proofs.numbers.Truth.{or-false, same_truth}
 use Rattle.safra_trees.specs.inner.Free.{free, given}
 use Rattle.safra_trees.specs.Step.{Forest, covered, is_child, keeps, taken}
 
-pub same_tests : (a b : Bool) → (a ≡ true → b ≡ true) → (b ≡ true → a ≡ true) → a ≡ b
-same_tests true b there back = sym (there refl)
-same_tests false true there back = back refl
-same_tests false false there back = refl
-
 -- a child takes what is free when its turn comes
 pub keeps_local : (f : Forest) → IsForest f → (y s : ℕ) → 0 < y → y < f.size → keeps f y s ≡ (f.holds y s && free f (f.parent y) y s)
-keeps_local f is y s more less = same_tests (keeps f y s) (f.holds y s && free f (f.parent y) y s)
+keeps_local f is y s more less = same_truth (keeps f y s) (f.holds y s && free f (f.parent y) y s)
     (λ kept. and_from (f.holds y s) (free f (f.parent y) y s) (keeps_holds f y s kept)
     (and_from (keeps f (f.parent y) s) (not (given f (f.parent y) y s)) (keeps_up f is y s more less kept)
     (not_from_false (given f (f.parent y) y s) (none_any (λ z. is_child f (f.parent y) z && keeps f z s) (range_with_len 0 y)
@@ -71,7 +66,7 @@ free_more f x y s = ap (λ b. keeps f x s && not b) (given_more f x y s) ∙ spl
 
 -- a node is covered where nothing of it is left free
 pub covered_left : (f : Forest) (x : ℕ) → covered f x ≡ not (list_any (free f x f.size) (range_with_len 0 f.bound))
-covered_left f x = same_tests (covered f x) (not (list_any (free f x f.size) (range_with_len 0 f.bound)))
+covered_left f x = same_truth (covered f x) (not (list_any (free f x f.size) (range_with_len 0 f.bound)))
     (λ all. not_from_false (list_any (free f x f.size) (range_with_len 0 f.bound))
     (none_any (free f x f.size) (range_with_len 0 f.bound) (λ s there. false_from_ne_true (free f x f.size s) (λ left. (
     let parts = and_parts (keeps f x s) (not (given f x f.size s)) left in

@@ -12,6 +12,7 @@ use Rattle.std.specs.Option.{option_map_or}
 use Rattle.acc_forms.specs.Shift.{shift}
 use Rattle.aut_base.proofs.lists.Copies.{copies-add}
 use Rattle.aut_base.proofs.lists.Members.{placed_there}
+use Rattle.aut_base.proofs.runs.LassoRuns.{marks_of}
 use Rattle.aut_base.proofs.runs.Paths.{path_join}
 use Rattle.aut_base.proofs.numbers.Truth.{or-false}
 use Rattle.aut_base.specs.Acceptance.{Accepts, IsPath}
@@ -81,9 +82,6 @@ nth_same xs ys us vs same n =
 
 pub marks_here : (a : Automaton) (m : ℕ) (e : TreeEdge) → slice_get a.edges m ≡ Some e → e.marks ≡ marks_at a m
 marks_here a m e at = ap (λ (o : Option TreeEdge). option_map_or (λ (e : TreeEdge). e.marks) o []) (sym at)
-
-abbrev marks_of : List TreeEdge → List (List ℕ)
-marks_of = map (λ (e : TreeEdge). e.marks)
 
 module _ (a s : Automaton) (triple : ℕ → Option (ℕ × ℕ × Bool)) (formed : IsWellFormed a) (square : IsSquare a s triple) where
   abbrev top : ℕ

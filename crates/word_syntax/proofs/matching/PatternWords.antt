@@ -1,7 +1,7 @@
 -- The automaton of a pattern accepts the words that match it, and each word that it accepts has a spelling that matches.
 use Rattle.std.proofs.Common.{◌≡◌, ◌∙◌, ◌∷◌, ◌++◌, ◌+◌, ◌-◌, ◌*◌, ◌/◌, ◌%◌, ◌<◌, ◌≤◌, ◌↔◌, Contains, List, Option, Some, [], ap, arith, drop, inl}
 use Rattle.std.proofs.Common.{inr, length, length-append, length-drop, refl, slice_get, subst, suc, sym, take, true, zero, ℕ}
-use Rattle.std.proofs.Math.Nat.{add-mul-mod_self_left, mod-eq_of_lt, mod-lt}
+use Rattle.std.proofs.Math.Nat.{add-mul-mod_self_left, mod-eq_of_lt, mod-lt, mul-pos}
 use Rattle.std.proofs.lemmas.Bool.{cases_lt}
 use Rattle.std.proofs.lemmas.List.{append_assoc, append-nil, length-take-le}
 use Rattle.std.proofs.lemmas.Nat.{div-add-mod'}
@@ -102,10 +102,6 @@ again p k rounds h =
     state_in_cycle p (k + rounds * length p.cycle) (omega arith)
     ∙ (ap (λ (n : ℕ). length p.stem + n % length p.cycle) e ∙ (ap (λ (n : ℕ). length p.stem + n) (add-mul-mod_self_left (k - length p.stem) (length p.cycle) rounds) ∙ sym (state_in_cycle p k h)))
 
-positive : (k l : ℕ) → 0 < k → 0 < l → 0 < k * l
-positive zero l h m = absurd (omega arith)
-positive (suc k) l h m = omega arith
-
 -- a word that matches is accepted
 pub matching_accepted : (p : WordPattern) → 0 < length p.cycle → (u v : List NameSet) → Matches p u v → Accepts (word_automaton p) u v
 matching_accepted p some u v m =
@@ -129,7 +125,7 @@ matching_accepted p some u v m =
     let back : state_at p (length p.stem + m.turns * length p.cycle + length v) ≡ state_at p (length p.stem + m.turns * length p.cycle) =
     ap (λ (n : ℕ). state_at p (length p.stem + m.turns * length p.cycle + n)) cycle ∙ again p (length p.stem + m.turns * length p.cycle) m.rounds (omega arith) in
     record {
-      endless = omega (arith, cycle, positive m.rounds (length p.cycle) m.some some);
+      endless = omega (arith, cycle, mul-pos m.some some);
       start = 0;
       state = state_at p (length p.stem + m.turns * length p.cycle);
       turns = 0;
@@ -194,7 +190,7 @@ respelled p some u v turns endless room meets =
     length-take-le (length p.stem + length u * length p.cycle) (u ++ copies turns v) (omega arith) in
     let cycle_long : length (take (length v * length p.cycle) (drop (length p.stem + length u * length p.cycle) (u ++ copies turns v))) ≡ length v * length p.cycle =
     length-take-le (length v * length p.cycle) (drop (length p.stem + length u * length p.cycle) (u ++ copies turns v)) (omega arith) in
-    let some_cycle : 0 < length v * length p.cycle = positive (length v) (length p.cycle) endless some in
+    let some_cycle : 0 < length v * length p.cycle = mul-pos endless some in
     let behind : length u ≤ length p.stem + length u * length p.cycle = let h = grows (length u) (length p.cycle) some in omega arith in
     let in_stem : (i : ℕ) → i < length p.stem + length u * length p.cycle
     → slice_get stem i ≡ slice_get (u ++ copies turns v) i = λ i h. slice_get-take (length p.stem + length u * length p.cycle) (u ++ copies turns v) i h in

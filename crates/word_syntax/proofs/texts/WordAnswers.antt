@@ -1,7 +1,8 @@
 -- What the answers to a text are put together from.
-use Rattle.std.proofs.Common.{◌≡◌, ◌≢◌, ◌∙◌, ◌<◌, ◌^◌, List, None, Option, Some, Result, Ok, Err, drop, length, map, subst, sym, ap, ℕ}
+use Rattle.std.proofs.Common.{◌≡◌, ◌≢◌, ◌∙◌, ◌<◌, ◌^◌, List, None, Option, Some, Result, Err, drop, length, map, subst, sym, ap, ℕ}
 use Rattle.std.proofs.lemmas.Option.{some_pair_parts}
 use Rattle.std.specs.Result.{IsErrAnd}
+use Rattle.aut_base.proofs.Outcomes.{hands_on}
 use Rattle.aut_base.specs.Label.{label_tree}
 use Rattle.word_syntax.proofs.texts.FrontTokens.{front_found, front_stands, none_found}
 use Rattle.word_syntax.proofs.texts.Midways.{ended_early, stopped_bad, written}
@@ -23,16 +24,7 @@ fault_said text Memory short s = tt
 
 -- a fault that is passed on
 pub passed_on : (text bytes : List ℕ) (r : Result Pattern WordFault) (f : WordFault) → bytes ≡ text → length bytes < 2 ^ 32 → IsErrAnd r (λ y. y ≡ f) → StopsOrGoes bytes (Err f) → AnswersWord r text
-passed_on text bytes (Ok p) f is short h s = absurd h
-passed_on text bytes (Err g) f is short h s =
-    let P : List ℕ → Type 0 = λ x. AnswersWord (Err f) x in
-    let Q : WordFault → Type 0 = λ x. AnswersWord (Err x) text in
-    subst Q (sym h) (subst P is (fault_said bytes f short s))
-
--- want of memory
-pub wanted : (text : List ℕ) (r : Result WordReader WordFault) → IsErrAnd r (λ y. y ≡ Memory) → StopsOrGoes text r
-wanted text (Ok x) h = absurd h
-wanted text (Err g) h = subst (λ (x : WordFault). StopsOrGoes text (Err x)) (sym h) tt
+passed_on text bytes r f is short h s = hands_on r f (λ x. AnswersWord x text) h (subst (AnswersWord (Err f)) is (fault_said bytes f short s))
 
 pub word_written : (text bytes : List ℕ) (r : WordReader) → bytes ≡ text → length bytes < 2 ^ 32 → IsThrough bytes r → r.stage ≡ End
     → Writes text (record { names = r.names; stem = map label_tree r.stem; cycle = map label_tree r.cycle })

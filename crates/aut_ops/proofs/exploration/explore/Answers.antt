@@ -1,6 +1,6 @@
 use Rattle.std.proofs.Common.{arith}
 use Rattle.aut_ops.proofs.pairs.Explorations.{explored_all, explored_beyond, explored_more, explored_none, pair_within, row_steps, rows_can}
-use Rattle.aut_ops.proofs.Faults.{passed_on}
+use Rattle.aut_base.proofs.Outcomes.{passed_on}
 use Rattle.aut_base.specs.declared.limit.TheConstants.{MOST_PAIRS}
 use Rattle.aut_ops.proofs.exploration.explore.Goals as goal
 

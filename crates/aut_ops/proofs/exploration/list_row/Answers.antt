@@ -1,8 +1,8 @@
 use Rattle.std.proofs.Common.{◌∙◌, ◌∷◌, ℕ, [], get_or, map, subst, sym, take}
 use Rattle.std.proofs.lemmas.List.{get_or_default}
-use Rattle.aut_ops.proofs.Faults.{passed_on}
 use Rattle.aut_ops.proofs.pairs.Listings.{beyond_front, listed_one, listed_then, row_next, row_whole}
 use Rattle.aut_ops.proofs.pairs.Pairings.{beyond_one}
+use Rattle.aut_base.proofs.Outcomes.{passed_on}
 use Rattle.aut_base.specs.declared.limit.TheConstants.{MOST_PAIRS}
 use Rattle.aut_ops.specs.inner.Pairings.{AreListed}
 use Rattle.aut_ops.proofs.exploration.list_row.Goals as goal

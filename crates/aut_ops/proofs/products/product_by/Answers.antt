@@ -1,10 +1,10 @@
 use Rattle.std.proofs.Common.{◌≡◌, ◌∙◌, ◌≤◌, List, ℕ, All, Contains, ap, length, subst, sym}
 use Rattle.std.proofs.lemmas.Result.{IfOk-weaker}
+use Rattle.aut_base.proofs.Outcomes.{ok_always}
 use Rattle.aut_base.specs.Automaton.{Automaton}
 use Rattle.aut_base.specs.declared.limit.TheConstants.{MOST_NAMES}
 use Rattle.aut_core.specs.Core.{Core, automaton_of}
 use Rattle.aut_core.specs.OtherNames.{AcceptTheSame, joined_names, over_names}
-use Rattle.aut_ops.proofs.Faults.{on_ok_always}
 use Rattle.aut_ops.proofs.joint_runs.MadeProducts.{accepts_over}
 use Rattle.aut_ops.specs.Products.{HasMorePairs, IsProduct, over_both}
 use Rattle.aut_base.specs.declared.limit.TheConstants.{MOST_PAIRS}
@@ -35,7 +35,7 @@ returns-clause-accepts c =
     (subst (λ (x : Core). AcceptTheSame (automaton_of x) b) (sym c.second.ensures) c.in_ok-both.ensures.second_accepts) is) c.product_over.ensures.accepts
 
 pub returns-clause-within : goal.returns-clause-within
-returns-clause-within c = on_ok_always c.product_over.result
+returns-clause-within c = ok_always c.product_over.result
     (subst (λ (ns : List (List ℕ)). length ns ≤ MOST_NAMES) (λ i. joined_names (c.names.ensures i) (c.names-2.ensures i)) c.in_ok-names.ensures.within)
 
 pub returns-clause-pairs : goal.returns-clause-pairs

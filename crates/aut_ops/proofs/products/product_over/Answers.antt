@@ -1,8 +1,8 @@
 use Rattle.std.proofs.Common.{◌∙◌, ◌-◌, [], arith, subst, sym}
+use Rattle.aut_base.proofs.Outcomes.{passed_on}
 use Rattle.aut_base.specs.Formula.{SetsBelow, formula_tree}
 use Rattle.aut_core.specs.Core.{Core, automaton_of}
 use Rattle.aut_ops.proofs.pairs.Explorations.{starts_beyond}
-use Rattle.aut_ops.proofs.Faults.{passed_on}
 use Rattle.acc_forms.proofs.FormulaSets.{sets_weaker}
 use Rattle.aut_ops.proofs.joint_runs.MadeProducts.{made}
 use Rattle.aut_ops.specs.Products.{IsProduct, all_pairs}

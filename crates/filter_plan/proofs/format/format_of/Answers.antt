@@ -1,6 +1,7 @@
 use Rattle.std.proofs.Common.{◌≡◌, ◌∷◌, [], rules}
+use Rattle.aut_base.proofs.Outcomes.{passed_on}
 use Rattle.clap.specs.Words.{found_of, rows_of}
-use Rattle.filter_plan.proofs.Readings.{passed_on, refused_one}
+use Rattle.filter_plan.proofs.Readings.{refused_one}
 use Rattle.filter_plan.specs.Formats.{IsFormat}
 use Rattle.filter_plan.specs.Table.{values_of}
 use Rattle.filter_plan.proofs.format.format_of.Goals as goal
@@ -8,4 +9,4 @@ use Rattle.filter_plan.proofs.format.format_of.Goals as goal
 pub returns-in_err-read_format-in-Some-clause-usage : goal.returns-in_err-read_format-in-Some-clause-usage
 returns-in_err-read_format-in-Some-clause-usage c passed =
     let is : values_of c.args.id.now (rows_of (found_of c.args.matches.now)) ≡ c.in-Some.text.now ∷ [] = search rules in
-    refused_one IsFormat _ c.in-Some.text.now is (c.in_err-read_format-in-Some.ensures.usage (passed_on _ _ c.from_residual-in_err-read_format-in-Some.ensures.1 passed))
+    refused_one IsFormat _ c.in-Some.text.now is (c.in_err-read_format-in-Some.ensures.usage (passed_on _ _ _ c.from_residual-in_err-read_format-in-Some.ensures.1 passed))

@@ -1,6 +1,6 @@
 use Rattle.std.proofs.Common.{List}
+use Rattle.aut_base.proofs.Outcomes.{passed_on}
 use Rattle.clap.specs.Words.{Row, found_of, rows_of}
-use Rattle.filter_plan.proofs.Readings.{passed_on}
 use Rattle.filter_plan.proofs.TableParts.{AreParts, parts_of_table, table_of_parts}
 use Rattle.filter_plan.specs.declared.plan.Plan.{Plan}
 use Rattle.filter_plan.specs.inner.Given.{IsGiven, operands_of, patterns_of, ranges_of}
@@ -10,31 +10,31 @@ parts : (rows : List Row) (p : Plan) → IsGiven rows p → AreParts rows p
 parts rows p is = parts_of_table rows p is.options
 
 pub returns-in_err-form-clause-usage : goal.returns-in_err-form-clause-usage
-returns-in_err-form-clause-usage c passed p is = c.in_err-form.ensures.usage (passed_on _ _ c.from_residual.ensures.1 passed) p.form (parts _ p is).form
+returns-in_err-form-clause-usage c passed p is = c.in_err-form.ensures.usage (passed_on _ _ _ c.from_residual.ensures.1 passed) p.form (parts _ p is).form
 
 pub returns-in_err-ranges-clause-usage : goal.returns-in_err-ranges-clause-usage
-returns-in_err-ranges-clause-usage c passed p is = c.in_err-ranges.ensures.usage (passed_on _ _ c.from_residual-in_err-ranges.ensures.1 passed) (ranges_of p) (parts _ p is).ranges
+returns-in_err-ranges-clause-usage c passed p is = c.in_err-ranges.ensures.usage (passed_on _ _ _ c.from_residual-in_err-ranges.ensures.1 passed) (ranges_of p) (parts _ p is).ranges
 
 pub returns-in_err-most-clause-usage : goal.returns-in_err-most-clause-usage
-returns-in_err-most-clause-usage c passed p is = c.in_err-most.ensures.usage (passed_on _ _ c.from_residual-in_err-most.ensures.1 passed) p.most (parts _ p is).most
+returns-in_err-most-clause-usage c passed p is = c.in_err-most.ensures.usage (passed_on _ _ _ c.from_residual-in_err-most.ensures.1 passed) p.most (parts _ p is).most
 
 pub returns-in_err-made-clause-usage : goal.returns-in_err-made-clause-usage
-returns-in_err-made-clause-usage c passed p is = c.in_err-made.ensures.usage (passed_on _ _ c.from_residual-in_err-made.ensures.1 passed) p.made (parts _ p is).made
+returns-in_err-made-clause-usage c passed p is = c.in_err-made.ensures.usage (passed_on _ _ _ c.from_residual-in_err-made.ensures.1 passed) p.made (parts _ p is).made
 
 pub returns-in_err-streams-clause-usage : goal.returns-in_err-streams-clause-usage
-returns-in_err-streams-clause-usage c passed p is = c.in_err-streams.ensures.usage (passed_on _ _ c.from_residual-in_err-streams.ensures.1 passed) (parts _ p is).first
+returns-in_err-streams-clause-usage c passed p is = c.in_err-streams.ensures.usage (passed_on _ _ _ c.from_residual-in_err-streams.ensures.1 passed) (parts _ p is).first
 
 pub returns-in_err-output-clause-usage : goal.returns-in_err-output-clause-usage
-returns-in_err-output-clause-usage c passed p is = c.in_err-output.ensures.usage (passed_on _ _ c.from_residual-in_err-output.ensures.1 passed) p.output (parts _ p is).output
+returns-in_err-output-clause-usage c passed p is = c.in_err-output.ensures.usage (passed_on _ _ _ c.from_residual-in_err-output.ensures.1 passed) p.output (parts _ p is).output
 
 pub returns-in_err-remove_ap-clause-usage : goal.returns-in_err-remove_ap-clause-usage
-returns-in_err-remove_ap-clause-usage c passed p is = c.in_err-remove_ap.ensures.usage (passed_on _ _ c.from_residual-in_err-remove_ap.ensures.1 passed) p.remove_ap (parts _ p is).remove_ap
+returns-in_err-remove_ap-clause-usage c passed p is = c.in_err-remove_ap.ensures.usage (passed_on _ _ _ c.from_residual-in_err-remove_ap.ensures.1 passed) p.remove_ap (parts _ p is).remove_ap
 
 pub returns-in_err-patterns-clause-usage : goal.returns-in_err-patterns-clause-usage
-returns-in_err-patterns-clause-usage c passed p is = c.in_err-patterns.ensures.usage (passed_on _ _ c.from_residual-in_err-patterns.ensures.1 passed) (patterns_of p) (parts _ p is).patterns
+returns-in_err-patterns-clause-usage c passed p is = c.in_err-patterns.ensures.usage (passed_on _ _ _ c.from_residual-in_err-patterns.ensures.1 passed) (patterns_of p) (parts _ p is).patterns
 
 pub returns-in_err-operands-clause-usage : goal.returns-in_err-operands-clause-usage
-returns-in_err-operands-clause-usage c passed p is = c.in_err-operands.ensures.usage (passed_on _ _ c.from_residual-in_err-operands.ensures.1 passed) (operands_of p) (parts _ p is).operands
+returns-in_err-operands-clause-usage c passed p is = c.in_err-operands.ensures.usage (passed_on _ _ _ c.from_residual-in_err-operands.ensures.1 passed) (operands_of p) (parts _ p is).operands
 
 pub returns-clause-given : goal.returns-clause-given
 returns-clause-given c = record {

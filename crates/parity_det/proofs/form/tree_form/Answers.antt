@@ -1,4 +1,5 @@
 use Rattle.std.proofs.Common.{◌∙◌, All, ◌<◌, ap, map, subst, sym}
+use Rattle.aut_base.proofs.Outcomes.{told_fault}
 use Rattle.aut_base.specs.declared.limit.TheConstants.{MOST_TREES}
 use Rattle.aut_core.proofs.Growth.{keeps_none}
 use Rattle.aut_core.specs.Core.{Core, automaton_of}
@@ -7,7 +8,7 @@ use Rattle.exploration.specs.declared.fault.Fault.TheVariants as limit
 use Rattle.label_guards.specs.Store.{Keeps, Store}
 use Rattle.letter_classes.specs.SetClasses.{FitsStore, IsClassGuard}
 use Rattle.parity_det.specs.Systems.{IsClassEvent}
-use Rattle.parity_det.proofs.Refused.{classes_fault, met_first, nodes_fault, told_fault, trees_fault}
+use Rattle.parity_det.proofs.Refused.{classes_fault, met_first, nodes_fault, trees_fault}
 use Rattle.safra_trees.specs.Trees.{first_tree, root_states}
 use Rattle.safra_trees.specs.View.{tree_of}
 use Rattle.parity_det.proofs.form.tree_form.Goals as goal

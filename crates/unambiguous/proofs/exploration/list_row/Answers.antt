@@ -2,9 +2,9 @@ use Rattle.std.proofs.Common.{◌≡◌, ◌∙◌, ◌++◌, ◌==◌, ℕ, not
 use Rattle.std.proofs.lemmas.Bool.{cases_lt}
 use Rattle.std.proofs.lemmas.List.{get_or_default}
 use Rattle.std.proofs.lemmas.Option.{same_Some, slice_get_within}
+use Rattle.aut_base.proofs.Outcomes.{passed_on}
 use Rattle.aut_base.proofs.lists.Lists.{slice_get-at}
 use Rattle.aut_base.proofs.lists.Members.{placed_there, there_at}
-use Rattle.aut_ops.proofs.Faults.{passed_on}
 use Rattle.unambiguous.proofs.growing.Explored.{kept_there, start_more, start_reached}
 use Rattle.unambiguous.proofs.growing.Stages.{beyond, kept_on}
 use Rattle.unambiguous.proofs.exploration.list_row.Goals as goal

@@ -1,5 +1,5 @@
+use Rattle.aut_base.proofs.Outcomes.{passed_on}
 use Rattle.aut_base.proofs.lists.Members.{read_has}
-use Rattle.aut_ops.proofs.Faults.{passed_on}
 use Rattle.aut_ops.proofs.pairs.Pairings.{adds_next, beyond_next, can_still, meeting_kept}
 use Rattle.aut_base.specs.declared.limit.TheConstants.{MOST_PAIRS}
 use Rattle.aut_ops.specs.inner.Pairings.{CanMeet, meeting}

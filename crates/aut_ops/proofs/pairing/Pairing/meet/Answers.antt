@@ -1,11 +1,11 @@
 use Rattle.std.proofs.Common.{◌≡◌, ◌∙◌, ◌∷◌, ◌++◌, Some, [], List, ap, slice_get, subst, sym}
 use Rattle.aut_core.specs.Core.{edge_of}
 use Rattle.aut_core.specs.declared.link.Link.{Link}
-use Rattle.aut_ops.proofs.Faults.{passed_on}
 use Rattle.aut_ops.proofs.joint_runs.JointEdges.{joined}
 use Rattle.aut_ops.proofs.links.Labels.{label_both}
 use Rattle.aut_ops.proofs.pairs.Pairings.{adds_nothing, adds_one, beyond_one, ends, met_none, met_one, never_met}
 use Rattle.aut_ops.specs.Products.{JointEdge}
+use Rattle.aut_base.proofs.Outcomes.{passed_on}
 use Rattle.aut_base.specs.declared.limit.TheConstants.{MOST_PAIRS}
 use Rattle.aut_ops.specs.inner.Pairings.{Adds, AreBeyond, Stage, meeting}
 use Rattle.aut_ops.proofs.pairing.Pairing.meet.Goals as goal

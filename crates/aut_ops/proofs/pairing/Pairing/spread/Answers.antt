@@ -1,8 +1,8 @@
 use Rattle.std.proofs.Common.{All}
 use Rattle.std.proofs.lemmas.List.Elements.{All-weaker}
+use Rattle.aut_base.proofs.Outcomes.{passed_on}
 use Rattle.aut_base.proofs.lists.Members.{read_has}
 use Rattle.aut_core.specs.declared.link.Link.{Link}
-use Rattle.aut_ops.proofs.Faults.{passed_on}
 use Rattle.aut_ops.proofs.pairs.Pairings.{adds_next, beyond_next, can_still, spread_kept}
 use Rattle.aut_base.specs.declared.limit.TheConstants.{MOST_PAIRS}
 use Rattle.aut_ops.specs.inner.Pairings.{CanMeet, followed}

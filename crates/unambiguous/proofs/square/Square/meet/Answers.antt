@@ -1,6 +1,6 @@
 use Rattle.std.proofs.Common.{◌∙◌, ◌++◌, ◌∷◌, [], List, ap, refl, sym, subst}
+use Rattle.aut_base.proofs.Outcomes.{passed_on}
 use Rattle.aut_core.specs.declared.link.Link.{Link}
-use Rattle.aut_ops.proofs.Faults.{passed_on}
 use Rattle.unambiguous.proofs.growing.Stages.{IsMeeting, beyond, meet_marks, met_apart, none_met, one_met, some_reached}
 use Rattle.unambiguous.specs.Square.{flagged_marks}
 use Rattle.unambiguous.specs.inner.Stages.{CanMeet, Grows, IsSound, Stage, pairs_of}
