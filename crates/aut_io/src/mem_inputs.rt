@@ -50,7 +50,7 @@ impl MemInputs {
 }
 
 impl Inputs for MemInputs {
-    ghost use Rattle.aut_io.specs.Seen.{Nexts, Opens, Skips, seen_of};
+    ghost use Rattle.aut_io.specs.Seen.{Nexts, Opens, seen_of};
 
     ghost seen = { seen_of };
 
