@@ -102,7 +102,7 @@ fn label(alloc: Global, table: Table) -> Result<Label, Memory> {
     for letter in SIGNS {
         if table.allows(letter) {
             let cube = cube(alloc, letter)?;
-            label = Label::Or(Labels::pair(alloc, label, cube)?);
+            label = Label::Or(Box::new(alloc, Labels::pair(alloc, label, cube))?);
         }
     }
     Ok(label)
@@ -111,7 +111,8 @@ fn label(alloc: Global, table: Table) -> Result<Label, Memory> {
 fn cube(alloc: Global, letter: Sign) -> Result<Label, Memory> {
     let first = literal(alloc, 0, letter.a)?;
     let second = literal(alloc, 1, letter.b)?;
-    Ok(Label::And(Labels::pair(alloc, first, second)?))
+    let parts = Labels::pair(alloc, first, second);
+    Ok(Label::And(Box::new(alloc, parts)?))
 }
 
 fn literal(alloc: Global, prop: u32, holds: bool) -> Result<Label, Memory> {

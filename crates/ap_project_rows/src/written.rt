@@ -44,29 +44,30 @@ fn label(alloc: Global, sign: u8) -> Result<Label, Memory> {
         b't' => Ok(Label::True),
         b'f' => Ok(Label::False),
         b'n' => fails(alloc, 0),
-        b'&' => Ok(Label::And(both(alloc)?)),
-        b'|' => Ok(Label::Or(both(alloc)?)),
+        b'&' => Ok(Label::And(Box::new(alloc, both(alloc))?)),
+        b'|' => Ok(Label::Or(Box::new(alloc, both(alloc))?)),
         b'=' => alike(alloc),
         b'x' => never(alloc),
         _ => Ok(Label::Prop(digit(sign))),
     }
 }
 
-fn both(alloc: Global) -> Result<Labels, Memory> {
-    Ok(Labels::pair(alloc, Label::Prop(0), Label::Prop(1))?)
+fn both(alloc: Global) -> Labels {
+    Labels::pair(alloc, Label::Prop(0), Label::Prop(1))
 }
 
 fn alike(alloc: Global) -> Result<Label, Memory> {
     let first = fails(alloc, 0)?;
     let second = fails(alloc, 1)?;
-    let neither = Label::And(Labels::pair(alloc, first, second)?);
-    let both = Label::And(both(alloc)?);
-    Ok(Label::Or(Labels::pair(alloc, both, neither)?))
+    let neither = Label::And(Box::new(alloc, Labels::pair(alloc, first, second))?);
+    let both = Label::And(Box::new(alloc, both(alloc))?);
+    Ok(Label::Or(Box::new(alloc, Labels::pair(alloc, both, neither))?))
 }
 
 fn never(alloc: Global) -> Result<Label, Memory> {
     let other = fails(alloc, 0)?;
-    Ok(Label::And(Labels::pair(alloc, Label::Prop(0), other)?))
+    let parts = Labels::pair(alloc, Label::Prop(0), other);
+    Ok(Label::And(Box::new(alloc, parts)?))
 }
 
 /// The only set, or none.

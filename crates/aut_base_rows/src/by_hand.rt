@@ -86,7 +86,8 @@ fn first_alone(alloc: Global) -> Result<Label, Memory>
     ensures { IfOk result (λ label. (n : ℕ) → 2 ≤ n → AllBelow n (label_tree label)) }
 {
     let not_second = Label::Not(Box::new(alloc, Label::Prop(1))?);
-    Ok(Label::And(Labels::pair(alloc, Label::Prop(0), not_second)?))
+    let parts = Labels::pair(alloc, Label::Prop(0), not_second);
+    Ok(Label::And(Box::new(alloc, parts)?))
 }
 
 /// Whether a label holds at letters as it should.

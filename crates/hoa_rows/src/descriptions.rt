@@ -23,6 +23,10 @@ fn show_node(alloc: Global, line: &mut Text, label: &Label) -> Result<(), Memory
         Label::True => line.push(b't'),
         Label::False => line.push(b'f'),
         Label::Prop(place) => show_number(alloc, line, u64::from(*place)),
+        Label::Negated(place) => {
+            line.push(b'!')?;
+            show_number(alloc, line, u64::from(*place))
+        }
         Label::Not(inner) => {
             line.push(b'!')?;
             match &**inner {

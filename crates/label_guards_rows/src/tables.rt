@@ -99,7 +99,8 @@ pub(crate) fn label(alloc: Global, of: Table, props: u8) -> Result<Label, Memory
     let mut label = Label::False;
     for valuation in 0..valuations(props) {
         if bit(of, valuation) {
-            label = Label::Or(Labels::pair(alloc, label, alone(alloc, valuation, props)?)?);
+            let more = Labels::pair(alloc, label, alone(alloc, valuation, props)?);
+            label = Label::Or(Box::new(alloc, more)?);
         }
     }
     Ok(label)
@@ -109,17 +110,18 @@ pub(crate) fn label(alloc: Global, of: Table, props: u8) -> Result<Label, Memory
 fn alone(alloc: Global, valuation: u16, props: u8) -> Result<Label, Memory> {
     let mut label = Label::True;
     for prop in 0..props {
-        label = Label::And(Labels::pair(alloc, label, literal(alloc, valuation, prop)?)?);
+        let more = Labels::pair(alloc, label, literal(valuation, prop));
+        label = Label::And(Box::new(alloc, more)?);
     }
     Ok(label)
 }
 
 /// A proposition, or its negation where it doesn't hold.
-fn literal(alloc: Global, valuation: u16, prop: u8) -> Result<Label, Memory> {
+fn literal(valuation: u16, prop: u8) -> Label {
     if bit(valuation, u16::from(prop)) {
-        return Ok(Label::Prop(u32::from(prop)));
+        return Label::Prop(u32::from(prop));
     }
-    Ok(Label::Not(Box::new(alloc, Label::Prop(u32::from(prop)))?))
+    Label::Negated(u32::from(prop))
 }
 
 /// The name of a proposition: `a`, `b` and so on.

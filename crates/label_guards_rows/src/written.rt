@@ -10,10 +10,10 @@ pub(crate) fn written(alloc: Global, text: &[u8]) -> Result<Label, Memory> {
     for word in text.split(|byte| *byte == b' ') {
         let part = match word {
             b"!" => Label::Not(Box::new(alloc, last(&mut parts))?),
-            b"&" => Label::And(last_two(alloc, &mut parts)?),
-            b"|" => Label::Or(last_two(alloc, &mut parts)?),
-            b"&&" => Label::And(last_three(alloc, &mut parts)?),
-            b"||" => Label::Or(last_three(alloc, &mut parts)?),
+            b"&" => Label::And(Box::new(alloc, last_two(alloc, &mut parts))?),
+            b"|" => Label::Or(Box::new(alloc, last_two(alloc, &mut parts))?),
+            b"&&" => Label::And(Box::new(alloc, last_three(alloc, &mut parts)?)?),
+            b"||" => Label::Or(Box::new(alloc, last_three(alloc, &mut parts)?)?),
             _ => leaf(word),
         };
         parts.push(part)?;
@@ -28,7 +28,7 @@ fn leaf(word: &[u8]) -> Label {
     }
 }
 
-fn last_two(alloc: Global, parts: &mut Vec<Label>) -> Result<Labels, Memory> {
+fn last_two(alloc: Global, parts: &mut Vec<Label>) -> Labels {
     let second = last(parts);
     let first = last(parts);
     Labels::pair(alloc, first, second)
@@ -36,7 +36,7 @@ fn last_two(alloc: Global, parts: &mut Vec<Label>) -> Result<Labels, Memory> {
 
 fn last_three(alloc: Global, parts: &mut Vec<Label>) -> Result<Labels, Memory> {
     let third = last(parts);
-    let mut all = last_two(alloc, parts)?;
+    let mut all = last_two(alloc, parts);
     all.push(third)?;
     Ok(all)
 }

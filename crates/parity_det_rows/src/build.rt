@@ -25,7 +25,7 @@ pub(crate) fn built(
         let second = literal(alloc, *second, 1)?;
         edges.push(Edge {
             from: *from,
-            label: Label::And(Labels::pair(alloc, first, second)?),
+            label: Label::And(Box::new(alloc, Labels::pair(alloc, first, second))?),
             to: *to,
             marks: marks(alloc, *bits)?,
         })?;

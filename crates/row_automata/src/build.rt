@@ -79,7 +79,8 @@ fn label(alloc: Global, sign: u8) -> Result<Label, Memory> {
 fn both(alloc: Global, first: bool, second: bool) -> Result<Label, Memory> {
     let first = literal(alloc, 0, first)?;
     let second = literal(alloc, 1, second)?;
-    Ok(Label::And(Labels::pair(alloc, first, second)?))
+    let parts = Labels::pair(alloc, first, second);
+    Ok(Label::And(Box::new(alloc, parts)?))
 }
 
 fn literal(alloc: Global, prop: u32, holds: bool) -> Result<Label, Memory> {

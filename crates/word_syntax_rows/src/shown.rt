@@ -53,6 +53,10 @@ fn add_label(alloc: Global, text: &mut Text, label: &Label, depth: u32) -> Resul
         Label::True => text.extend(b"t"),
         Label::False => text.extend(b"f"),
         Label::Prop(place) => add_number(alloc, text, u64::from(*place)),
+        Label::Negated(place) => {
+            text.extend(b"!")?;
+            add_number(alloc, text, u64::from(*place))
+        }
         Label::Not(inner) => {
             text.extend(b"!")?;
             add_label(alloc, text, inner, depth - 1)
