@@ -1,14 +1,14 @@
 -- Lists that tell the same of each guard, though the one has each guard once.
-use Rattle.std.proofs.Common.{◌≡◌, ◌∙◌, ◌+◌, ◌<◌, ◌&&◌, ℕ, All, Bool, true, false, Contains, List, [], ◌∷◌, ◌++◌, Some, ap, length, map, not, refl, slice_get, subst, sym, take}
-use Rattle.std.proofs.lemmas.Bool.{eq-eqb, eqb-true, lt-ltb, ltb-true, true≢false}
+use Rattle.std.proofs.Common.{◌≡◌, ◌∙◌, ◌+◌, ◌<◌, ◌&&◌, ℕ, All, Bool, true, false, Contains, List, [], ◌∷◌, ◌++◌, ap, length, map, refl, sym, take}
+use Rattle.std.proofs.lemmas.Bool.{eqb-true, lt-ltb, ltb-true, true≢false}
 use Rattle.std.proofs.lemmas.List.{append_assoc}
 use Rattle.std.proofs.lemmas.List.Elements.{All-contains}
 use Rattle.std.proofs.lemmas.List.Folds.{list_all-append}
 use Rattle.std.proofs.Math.Dec.{eqb, ltb}
 use Rattle.std.specs.List.{list_all, list_any}
-use Rattle.std.specs.Prelude.{flat_map, get_or}
-use Rattle.aut_base.proofs.lists.Members.{any_found, each_from, each_is, each_there, none_at}
-use Rattle.aut_base.proofs.lists.Steps.{flat_map_on, map_on}
+use Rattle.std.specs.Prelude.{get_or}
+use Rattle.aut_base.proofs.lists.Members.{any_found, each_from, each_is, each_there}
+use Rattle.aut_base.proofs.lists.Steps.{map_on}
 use Rattle.aut_base.proofs.numbers.Truth.{and-true}
 use Rattle.aut_core.specs.declared.link.Link.{Link}
 use Rattle.label_guards.specs.Store.{Has, Store, places}
@@ -50,26 +50,3 @@ told_has s list all told has =
     let p : Guard → Bool = λ (g : Guard). ltb g.place (places s) in
     let passes : list_all p list ≡ true = told p ∙ each_from p all (λ g at. lt-ltb g.place (places s) (All-contains (Has s) all g has at)) in
     each_there (Has s) list (λ g at. ltb-true g.place (places s) (each_is p list g passes at))
-
--- one state more
-pub state_told : (f : ℕ → List Guard) (set : List ℕ) (k state : ℕ) (now new row : List Guard) → slice_get set k ≡ Some state → row ≡ f state
-    → TellTheSame now (flat_map f (take k set)) → TellTheSame new (now ++ row) → TellTheSame new (flat_map f (take (k + 1) set))
-state_told f set k state now new row at is so e p =
-    e p ∙ (list_all-append p now row ∙ (ap (λ b. b && list_all p row) (so p)
-    ∙ (sym (list_all-append p (flat_map f (take k set)) row) ∙ ap (list_all p) (ap (λ r. flat_map f (take k set) ++ r) is ∙ flat_map_on f set k state at))))
-
--- a guard of the one list is in the other
-pub told_there : (list all : List Guard) → TellTheSame list all → (g : Guard) → Contains all g → Contains list g
-told_there list all told g there = by (list_any same list) refl
-  where
-    same : Guard → Bool
-    same h = eqb h.place g.place
-
-    by : (b : Bool) → list_any same list ≡ b → Contains list g
-    by true is =
-        let found = any_found same list is in
-        subst (λ (h : Guard). Contains list h) (same_place found.0 g found.2) found.1
-    by false isnt =
-        let none : list_all (λ h. not (same h)) list ≡ true = each_from (λ h. not (same h)) list (λ h at. ap not (none_at same list h isnt at)) in
-        let no : not (same g) ≡ true = each_is (λ h. not (same h)) all g (sym (told (λ h. not (same h))) ∙ none) there in
-        absurd (true≢false (sym no ∙ ap not (eq-eqb g.place g.place refl)))

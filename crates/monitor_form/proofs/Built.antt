@@ -43,24 +43,6 @@ module _ (b : Core) (core : IsCore b) (s : Store) (keeps : Keeps b.store s) wher
   store_names : s.names ≡ length b.names
   store_names = keeps.names ∙ core.parts.store_names
 
-  pub built_none : length b.starts ≡ 0 → IsBuilt b [] [] (made 0 [] [])
-  built_none empty = record {
-    parts = record {
-      few = core.parts.few;
-      store_names = store_names;
-      starts_differ = λ i j d less within. absurd (omega (arith, within));
-      starts = λ k d within. absurd (omega (arith, within));
-      in_order = λ i j d order within. absurd (omega (arith, within));
-      links = λ k d within. absurd (omega (arith, within));
-      formula = tt;
-    };
-    is = ap (λ (ss : List ℕ). record { names = b.names; starts = ss; states = 0; edges = []; sets = 0; formula = FormulaTree.True }) (no_place b.starts empty);
-  }
-    where
-      no_place : (ss : List ℕ) → length ss ≡ 0 → [] ≡ first_places ss
-      no_place [] e = refl
-      no_place (q ∷ ss) e = absurd (omega (arith, e))
-
   module _ (sets : List (List ℕ)) (edges : List (Edge Guard ⊤)) (is : IsExplored (pointwise nat_eq) (subset_moves (automaton_of b)) (start_set (automaton_of b)) sets (map arrow_of edges))
       (sound : IsSound (FitsStore b s) (IsClassGuard b s) (λ _ _ _. ⊤) MOST_SUBSETS sets edges) where
     classed : (e : Edge Guard ⊤) → Contains edges e → IsClassed (IsClassGuard b s) (λ _ _ _. ⊤) sets e

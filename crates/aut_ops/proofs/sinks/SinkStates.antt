@@ -157,9 +157,6 @@ module _ (a : Automaton) (formed : IsWellFormed a) where
     | inr other ↦ subst P (sym other.1) sunk
   ]
 
-  pub completed_formed : IsWellFormed (completed a)
-  completed_formed = completed_has IsWellFormed (λ _. formed) (with_sink_formed a formed)
-
   pub completed_complete : IsComplete (completed a)
   completed_complete = completed_has IsComplete (λ is. is) with_sink_complete
 

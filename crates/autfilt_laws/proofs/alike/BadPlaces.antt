@@ -2,40 +2,21 @@
 use Rattle.std.proofs.Common.{◌≡◌, ◌⊎◌, ℕ, ◌+◌, ◌-◌, List, [], ◌∷◌, ◌++◌, length, inl, inr, refl, sym, ap, ◌∙◌, subst, arith}
 use Rattle.std.proofs.lemmas.List.{append_assoc, append-nil, append_cancel_right, length-append}
 use Rattle.autfilt_run.specs.Runs.{IsSyntaxFault}
-use Rattle.hoa_lexer.proofs.next_token.Asked.{ends_on}
 use Rattle.hoa_lexer.proofs.next_token.Fronts.{front_of}
 use Rattle.hoa_lexer.proofs.next_token.Unique.{one_next_token}
-use Rattle.hoa_lexer.specs.Text.{AfterBlanks, AsksForMore, HasFront, IsFront, IsNext, Lexes}
+use Rattle.hoa_lexer.specs.Text.{AfterBlanks, AsksForMore, HasFront, IsNext, Lexes}
 use Rattle.hoa_lexer.specs.declared.token.Token.{Token}
 use Rattle.hoa_parser.proofs.standing.Halts.{Halts, halts_here, reading, shown}
 use Rattle.hoa_parser.proofs.standing.Hopeless.{Leaves, lexes_leaves}
 use Rattle.hoa_parser.proofs.standing.NextCases.{HasNext, next_no_fault}
 use Rattle.hoa_parser.proofs.standing.Readings.{place}
-use Rattle.hoa_parser.proofs.standing.Settled.{no_token_at_on, place_on}
+use Rattle.hoa_parser.proofs.standing.Settled.{front_on, next_on, no_token_at_on, place_on}
 use Rattle.hoa_parser.specs.Grammar.{IsViable}
 use Rattle.hoa_parser.specs.Reads.{AskedForLast, AsksOn, IsHopeless}
 use Rattle.hoa_parser.specs.Standing as standing
 use Rattle.hoa_parser.specs.Standing.{IsBad, IsMisplaced, IsNoTokenAt, most_depth}
 
 -- ---- with more bytes behind
-
-front_on : (bytes rest more : List ℕ) (t : Token) → IsFront bytes t rest → IsFront (bytes ++ more) t (rest ++ more)
-front_on bytes rest more t f = record {
-  word = f.word;
-  split = ap (λ w. w ++ more) f.split ∙ append_assoc f.word rest more;
-  spells = f.spells;
-  ends = ends_on t rest more f.ends;
-}
-
-next_on : (input rest more : List ℕ) (start i : ℕ) (t : Token) → IsNext input start t i rest → IsNext (input ++ more) start t i (rest ++ more)
-next_on input rest more start i t n = record {
-  before = n.before;
-  bytes = n.bytes ++ more;
-  split = ap (λ w. w ++ more) n.split ∙ append_assoc n.before n.bytes more;
-  blanks = n.blanks;
-  place = n.place;
-  front = front_on n.bytes rest more t n.front;
-}
 
 token_on : (x more : List ℕ) → AfterBlanks x HasFront → AfterBlanks (x ++ more) HasFront
 token_on x more a = record {

@@ -11,7 +11,7 @@ use Rattle.hoa_parser.specs.Standing.Standing.{Blank, Whole, Deep, Bad, Aborted,
 use Rattle.hoa_parser.specs.StandingLaws.{BadIsHopeless, SettledStays}
 use Rattle.hoa_parser.proofs.standing.OneStanding.{one_standing}
 
-front_on : (bytes rest more : List ℕ) (t : Token) → IsFront bytes t rest → IsFront (bytes ++ more) t (rest ++ more)
+pub front_on : (bytes rest more : List ℕ) (t : Token) → IsFront bytes t rest → IsFront (bytes ++ more) t (rest ++ more)
 front_on bytes rest more t f = record {
   word = f.word;
   split = ap (λ w. w ++ more) f.split ∙ append_assoc f.word rest more;
@@ -19,7 +19,7 @@ front_on bytes rest more t f = record {
   ends = ends_on t rest more f.ends;
 }
 
-next_on : (input rest more : List ℕ) (start i : ℕ) (t : Token) → IsNext input start t i rest → IsNext (input ++ more) start t i (rest ++ more)
+pub next_on : (input rest more : List ℕ) (start i : ℕ) (t : Token) → IsNext input start t i rest → IsNext (input ++ more) start t i (rest ++ more)
 next_on input rest more start i t n = record {
   before = n.before;
   bytes = n.bytes ++ more;

@@ -1,5 +1,5 @@
 -- Groups taken one after the other from a list: divided by a side, and judged.
-use Rattle.std.proofs.Common.{◌≡◌, ◌∙◌, ◌⊎◌, ℕ, ◌<◌, Bool, true, false, List, [], ◌∷◌, ◌++◌, length, map, Option, None, Some, inl, inr, arith, refl, subst, sym}
+use Rattle.std.proofs.Common.{◌≡◌, ◌∙◌, ◌⊎◌, ℕ, ◌<◌, Bool, true, false, List, [], ◌∷◌, ◌++◌, length, map, Option, None, Some, inl, inr, arith, subst, sym}
 use Rattle.std.specs.Prelude.{MatchOption}
 use Rattle.std.specs.List.{All, Contains}
 use Rattle.std.proofs.lemmas.Bool.{true≢false}
@@ -42,16 +42,6 @@ pub record DividedSoFar (links : List Link) (set : ℕ) (neg : Bool) (all rest :
   pub done : (group : List LiveEdge) → Contains all group → Contains rest group ⊎ IsDivided links set neg group off crossed
 
 module _ (links : List Link) (set : ℕ) (neg : Bool) (all : List (List LiveEdge)) where
-  pub divided_none : DividedSoFar links set neg all all [] []
-  divided_none = record {
-    rest_inside = λ group here. here;
-    off_some = λ e here. absurd (none_there e here);
-    off_side = λ e here. absurd (none_there e here);
-    crossed_inside = λ group here. absurd (none_there group here);
-    crosses = λ group here. absurd (none_there group here);
-    done = λ group here. inl here;
-  }
-
   divided_more : (before rest : List (List LiveEdge)) (off new : List LiveEdge) (crossed crossed' : List (List LiveEdge)) (group : List LiveEdge) → before ≡ rest ++ group ∷ []
       → AddsOff links set neg group off new → ((g : List LiveEdge) → Contains crossed g → Contains crossed' g)
       → ((g : List LiveEdge) → Contains crossed' g → Contains crossed g ⊎ ((group ≡ g) × Crosses links set neg group))
@@ -136,14 +126,6 @@ module _ (links : List Link) (f : FormulaTree) where
       (there_map (marks_of links) group edge.0 (trail_kind (Contains group) accepting.state accepting.state cycle edge.0 accepting.closed edge.1)))))
 
   module _ (all : List (List LiveEdge)) where
-    pub judged_none : JudgedSoFar links f all all [] None
-    judged_none = record {
-      rest_inside = λ group here. here;
-      left_inside = λ group here. absurd (none_there group here);
-      done = λ group here. inl here;
-      side = refl;
-    }
-
     pub judged_never : (before rest left : List (List LiveEdge)) (undecided : Option Side) (group : List LiveEdge) → before ≡ rest ++ group ∷ [] → NoneAccepting links (Contains group) f
         → JudgedSoFar links f all before left undecided → JudgedSoFar links f all rest left undecided
     judged_never before rest left undecided group popped never so_far = record {

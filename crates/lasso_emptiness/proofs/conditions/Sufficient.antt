@@ -1,9 +1,8 @@
 -- Edges that serve a condition: none are added, some for each part, or those of one part.
-use Rattle.std.proofs.Common.{◌≡◌, ◌∙◌, ℕ, ◌+◌, ◌≤◌, Bool, true, false, not, List, [], ◌∷◌, ◌++◌, length, map, take, Some, slice_get, refl, sym, ap, subst}
+use Rattle.std.proofs.Common.{◌≡◌, ◌∙◌, ℕ, ◌+◌, ◌≤◌, Bool, true, false, not, List, [], ◌∷◌, ◌++◌, map, take, Some, slice_get, refl, sym, ap, subst}
 use Rattle.std.specs.List.{All, Contains, list_all, list_any}
 use Rattle.std.proofs.lemmas.Bool.{true≢false}
 use Rattle.std.proofs.lemmas.List.Elements.{All-contains, All-contains_itself, All-push, All-weaker, Contains-append_left, Contains-push}
-use Rattle.std.proofs.lemmas.List.{take_all}
 use Rattle.aut_base.proofs.lists.Members.{all_take_more, any_at, any_found, from_map}
 use Rattle.aut_base.specs.Formula.{FormulaTree, Fin, Inf, formula_list, formula_tree, met}
 use Rattle.aut_base.specs.declared.formula.Formula.TheVariants.{And, Or}
@@ -69,10 +68,6 @@ module _ (links : List Link) (edges : List LiveEdge) where
   suits_all_more fs place part old mid new is before here =
       suits_then (λ marks. list_all (met marks) (take place fs) ≡ true) (λ marks. met marks part ≡ true) (λ marks. list_all (met marks) (take (place + 1) fs) ≡ true) old mid new
       (λ marks so_far holds. all_take_more (met marks) fs place part is so_far holds) before here
-
-  pub suits_all_done : (fs : List FormulaTree) (place : ℕ) (old new : List LiveEdge) → length fs ≤ place → Suits links edges (λ marks. list_all (met marks) (take place fs) ≡ true) old new
-      → ServesAll links edges fs old new
-  suits_all_done fs place old new all so_far = subst (λ gs. ServesAll links edges gs old new) (take_all place fs all) so_far
 
   pub suits_one : (fs : List FormulaTree) (place : ℕ) (part : FormulaTree) (old new : List LiveEdge) → slice_get fs place ≡ Some part → Serves links edges part old new
       → ServesOne links edges fs old new

@@ -6,7 +6,7 @@ use Rattle.aut_base.specs.declared.limit.Limit.TheVariants as limit
 use Rattle.aut_core.specs.Deterministic.{IsDeterministic}
 use Rattle.aut_core.specs.OtherNames.{AcceptTheSame}
 use Rattle.filter_plan.specs.declared.plan.Form.TheVariants as form
-use Rattle.parity_det.specs.Complements.{IsComplementOf, IsParityRefusal, IsRefusal, IsWithinParity}
+use Rattle.parity_det.specs.Complements.{IsComplementOf, IsRefusal, IsWithinParity}
 use Rattle.parity_det.specs.Determinisation.{IsParityOf}
 use Rattle.parity_det.specs.Shapes.{IsParity}
 use Rattle.parity_det.specs.declared.fault.CompFault.{CompFault}
@@ -42,23 +42,6 @@ module _ (a : Automaton) where
     all = (made, record { within = λ which h. within (none h.0) which h.1; makes = is }, tt, refl);
     says = λ u v some. complements.exactly u v some;
   }
-
-  -- what a refusal says
-  pub parity_refused : (f : CompFault) → IsParityRefusal a f → Steps (Bring form.Parity ∷ []) a (Err (fault_of_parity f))
-  parity_refused comp.Terms h = inl h
-  parity_refused comp.BuchiStates h = inl h
-  parity_refused comp.Trees h = inl h
-  parity_refused comp.Nodes h = inl h
-  parity_refused comp.Classes h = inl h
-  parity_refused comp.Memory h = tt
-
-  pub deterministic_refused : (f : CompFault) → (IsDeterministic a → ⊥) → IsParityRefusal a f → Steps (Bring form.Deterministic ∷ []) a (Err (fault_of_parity f))
-  deterministic_refused comp.Terms other h = inl (other, h)
-  deterministic_refused comp.BuchiStates other h = inl (other, h)
-  deterministic_refused comp.Trees other h = inl (other, h)
-  deterministic_refused comp.Nodes other h = inl (other, h)
-  deterministic_refused comp.Classes other h = inl (other, h)
-  deterministic_refused comp.Memory other h = tt
 
   pub complement_refused : (f : CompFault) → IsRefusal a f → Steps (Complement ∷ []) a (Err (fault_of_parity f))
   complement_refused comp.Terms h = inl h

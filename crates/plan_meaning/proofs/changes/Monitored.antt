@@ -1,5 +1,5 @@
 -- What is made of an automaton in the form of a monitor.
-use Rattle.std.proofs.Common.{◌≡◌, ◌<◌, ◌≤◌, ℕ, List, [], ◌∷◌, Err, arith, inl, refl}
+use Rattle.std.proofs.Common.{◌≡◌, ◌<◌, ◌≤◌, ℕ, List, [], ◌∷◌, arith, refl}
 use Rattle.aut_base.specs.Acceptance.{Accepts}
 use Rattle.aut_base.specs.Automaton.{Automaton}
 use Rattle.aut_base.specs.Word.{NameSet}
@@ -13,11 +13,9 @@ use Rattle.exploration.specs.declared.fault.Fault.TheVariants as explored
 use Rattle.filter_plan.specs.declared.plan.Form.TheVariants as form
 use Rattle.monitor_form.specs.Prefixes.{AcceptsPrefixes, HasPrefix}
 use Rattle.monitor_form.specs.Subsets.{IsMonitor, MeetsLimit}
-use Rattle.monitor_form.specs.declared.fault.MonFault.{MonFault}
 use Rattle.monitor_form.specs.declared.fault.MonFault.TheVariants as monitor
 use Rattle.plan_meaning.specs.Changes.{Bring, PassesMonitor, SomePrefix}
-use Rattle.plan_meaning.specs.inner.Faults.{fault_of_monitor}
-use Rattle.plan_meaning.specs.inner.Stepping.{IsMade, Steps}
+use Rattle.plan_meaning.specs.inner.Stepping.{IsMade}
 
 module _ (a : Automaton) where
   within : (NeedsTooManyTerms a.formula → ⊥) → buchi_states a ≤ MOST_BUCHI_STATES → ((f : Fault) → MeetsLimit a f → ⊥) → (which : Limit) → PassesMonitor which a → ⊥
@@ -42,13 +40,3 @@ module _ (a : Automaton) where
       (λ x. (accepts u v some).1 (λ n. has_prefix u v n (x n))),
     );
   }
-
-  -- what a refusal says, which is that of terms where they are needed and too many
-  pub monitor_refused : (f : MonFault) → (NeedsTooManyTerms a.formula → f ≡ monitor.Terms) → (f ≡ monitor.Terms → NeedsTooManyTerms a.formula)
-      → (f ≡ monitor.BuchiStates → MOST_BUCHI_STATES < buchi_states a)
-      → (f ≡ monitor.Classes → MeetsLimit a explored.Classes) → (f ≡ monitor.Subsets → MeetsLimit a explored.Things) → Steps (Bring form.Monitor ∷ []) a (Err (fault_of_monitor f))
-  monitor_refused monitor.Terms passed terms states classes subsets = inl (terms refl)
-  monitor_refused monitor.BuchiStates passed terms states classes subsets = inl ((λ many. let told = passed many in cc), states refl)
-  monitor_refused monitor.Classes passed terms states classes subsets = inl ((λ many. let told = passed many in cc), classes refl)
-  monitor_refused monitor.Subsets passed terms states classes subsets = inl ((λ many. let told = passed many in cc), subsets refl)
-  monitor_refused monitor.Memory passed terms states classes subsets = tt

@@ -13,7 +13,7 @@ use Rattle.aut_core.specs.Core.{Core, automaton_of}
 use Rattle.filter_plan.specs.declared.plan.Form.{Form}
 use Rattle.filter_plan.specs.declared.plan.Form.TheVariants as form
 use Rattle.filter_plan.specs.declared.plan.Hidden.{Hidden}
-use Rattle.plan_meaning.specs.Changes.{Bring, Change, ChangedTo, Complement, Complete, Language, Makes, MakesAll, PassesIn, Product, ProductOr}
+use Rattle.plan_meaning.specs.Changes.{Bring, Change, Complement, Complete, Language, Makes, MakesAll, PassesIn, Product, ProductOr}
 use Rattle.plan_meaning.specs.Changes.{RemoveAp, StopsIn, Sum, Trim, SomePrefix, said_by, said_by_all, said_in_form}
 use Rattle.plan_meaning.specs.declared.fault.PlanFault.{PlanFault}
 use Rattle.plan_meaning.specs.declared.fault.PlanFault.TheVariants as fault
@@ -113,9 +113,3 @@ steps_end cs ds a came r passed steps = hands_on r came (Steps (cs ++ ds) a) pas
     ended : (f : PlanFault) → Steps cs a (Err f) → Steps (cs ++ ds) a (Err f)
     ended (fault.Limit which) stops = stops_before which cs ds a stops
     ended fault.Memory stops = tt
-
--- what the last step answers is what the changes make
-pub changed_to : (cs : List Change) (a : Automaton) (r : Result Core PlanFault) → Steps cs a r → ChangedTo r cs a
-changed_to cs a (Ok made) steps = makes_all cs a (automaton_of made) steps.all
-changed_to cs a (Err (fault.Limit which)) steps = steps
-changed_to cs a (Err fault.Memory) steps = tt

@@ -10,7 +10,6 @@ use Rattle.aut_base.specs.declared.limit.TheConstants.{MOST_NAMES, MOST_PAIRS}
 use Rattle.aut_core.specs.Deterministic.{IsDeterministic}
 use Rattle.aut_core.specs.OtherNames.{joined_names}
 use Rattle.aut_ops.specs.Products.{HasMorePairs, over_both}
-use Rattle.aut_ops.specs.declared.fault.PairFault.{PairFault}
 use Rattle.aut_ops.specs.declared.fault.PairFault.TheVariants as pair
 use Rattle.inclusion.proofs.Common.{included_where_none, not_included_where_word}
 use Rattle.inclusion.specs.Common.{AcceptNoneTogether, IsWordOfBoth}
@@ -20,10 +19,10 @@ use Rattle.parity_det.specs.declared.fault.CompFault.{CompFault}
 use Rattle.parity_det.specs.declared.fault.CompFault.TheVariants as comp
 use Rattle.plan_meaning.proofs.changes.Determinised.{within}
 use Rattle.plan_meaning.specs.Complements.{IsKeptOf}
-use Rattle.plan_meaning.specs.Limits.{HaveFewNames, HaveManyNames, IsIncluded, PassesOfBoth, PassesOfInclusion, PassesUnlessDeterministic}
+use Rattle.plan_meaning.specs.Limits.{HaveFewNames, IsIncluded, PassesOfBoth, PassesOfInclusion, PassesUnlessDeterministic}
 use Rattle.plan_meaning.specs.Refutations.{Refutes}
 use Rattle.plan_meaning.specs.inner.Beside.{FindsBeside, IsFoundBeside}
-use Rattle.plan_meaning.specs.inner.Faults.{fault_of_pairs, fault_of_parity}
+use Rattle.plan_meaning.specs.inner.Faults.{fault_of_parity}
 use Rattle.plan_meaning.specs.inner.Judging.{ComparesInclusion}
 use Rattle.word_syntax.specs.Matching.{AcceptTogether}
 use Rattle.word_syntax.specs.Printing.{HoldsOnly}
@@ -72,12 +71,6 @@ module _ (a b co : Automaton) (kept : IsKeptOf b co) where
   pub compared : (some : Bool) → HaveFewNames a co → (HavePairs a co → ⊥) → IsTrue some ↔ AcceptTogether a co → ComparesInclusion (Ok (not some)) a b
   compared true few pairs said = (inclusion_within few pairs, λ all. (included_where_none a b co kept.complements).1 all (said.0 refl))
   compared false few pairs said = (inclusion_within few pairs, (included_where_none a b co kept.complements).0 (λ word. true≢false (sym (said.1 word))))
-
-  -- what a refusal of the product says
-  pub product_refused : (f : PairFault) → (f ≡ pair.Names → HaveManyNames a co) → (f ≡ pair.Pairs → HaveFewNames a co) → (f ≡ pair.Pairs → HavePairs a co) → FindsBeside (Err (fault_of_pairs f)) a b
-  product_refused pair.Names names few pairs = inr (kept.within, record { co = co; is = kept.shape; passes = names refl })
-  product_refused pair.Pairs names few pairs = inr (kept.within, record { co = co; is = kept.shape; passes = (few refl, pairs refl) })
-  product_refused pair.Memory names few pairs = tt
 
 -- what a refusal of the complement says
 pub complement_refused : (a b : Automaton) (f : CompFault) → IsRefusal b f → FindsBeside (Err (fault_of_parity f)) a b

@@ -1,25 +1,14 @@
 -- Whether one automaton is included in another, and whether both accept the same, by whether there is a word that the one accepts
 -- and the other doesn't.
-use Rattle.std.proofs.Common.{◌≡◌, Bool, true, false, Option, None, Some, Result, Ok, Err, inl, inr, subst, sym}
+use Rattle.std.proofs.Common.{◌≡◌, Bool, true, false, Result, Ok, Err, inl, inr, subst, sym}
 use Rattle.aut_base.specs.Automaton.{Automaton}
 use Rattle.aut_base.specs.CanonicalLabel.{canonical}
-use Rattle.aut_base.specs.declared.letter.Lasso.{Lasso}
 use Rattle.aut_base.specs.declared.limit.Limit.{Limit}
 use Rattle.plan_meaning.specs.Filters.{EquivalentTo, IncludedIn}
 use Rattle.plan_meaning.specs.Limits.{PassesOfEquivalence, PassesOfInclusion}
 use Rattle.plan_meaning.specs.declared.fault.PlanFault.{PlanFault}
 use Rattle.plan_meaning.specs.declared.fault.PlanFault.TheVariants as fault
-use Rattle.plan_meaning.specs.inner.Beside.{IsFoundBeside}
 use Rattle.plan_meaning.specs.inner.Judging.{ComparesInclusion, Examines}
-
--- a word was found, or there is none
-pub by_none : (a b : Automaton) (found : Option Lasso) → found ≡ None → IsFoundBeside a b found → ComparesInclusion (Ok true) a b
-by_none a b None is h = (h.within, h.found)
-by_none a b (Some w) is h = absurd cc
-
-pub by_word : (a b : Automaton) (found : Option Lasso) (w : Lasso) → found ≡ Some w → IsFoundBeside a b found → ComparesInclusion (Ok false) a b
-by_word a b None w is h = absurd cc
-by_word a b (Some x) w is h = (h.within, λ included. h.found.rejected (included x.stem x.cycle h.found.accepted))
 
 -- ---- the filters
 
@@ -40,11 +29,6 @@ module _ (a b : Automaton) (settled : canonical a ≡ a) where
       by : (which : Limit) → PassesOfEquivalence which a b → ⊥
       by which (inl p) = h.0 which p
       by which (inr p) = h.1 p.1
-
-  -- where that passes a limit
-  pub equivalence_refused : (f : PlanFault) → ComparesInclusion (Err f) a b → Examines (Err f) (EquivalentTo b) a
-  equivalence_refused (fault.Limit which) h = subst (λ (x : Automaton). PassesOfEquivalence which x b) (sym settled) (inl h)
-  equivalence_refused fault.Memory h = tt
 
   -- where it is included, by whether the other is
   pub equivalent_if : (r : Result Bool PlanFault) → ComparesInclusion (Ok true) a b → ComparesInclusion r b a → Examines r (EquivalentTo b) a
