@@ -1,6 +1,9 @@
 -- What is described.
+pub mod Built
 pub mod DescribingExamples
+pub mod Framed
 pub mod LabelsInRange
 pub mod OneMore
+pub mod Refusals
 pub mod StatesInRange
 pub mod WellFormed

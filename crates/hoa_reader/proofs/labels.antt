@@ -1,8 +1,10 @@
 -- Labels, aliases, states and marks, one after the other.
 pub mod AliasNames
 pub mod ExpandedLabels
+pub mod LinkedEdges
 pub mod MarksBelow
 pub mod Meanings
 pub mod MergedMarks
 pub mod StartsAndMarks
 pub mod StatePlaces
+pub mod WrittenLabels

@@ -1,8 +1,10 @@
 -- What is answered of an automaton that was read.
 use Rattle.std.specs.Prelude.{◌≡◌, Result, Ok, Err}
-use Rattle.aut_base.specs.Automaton.{IsWellFormed, automaton}
+use Rattle.aut_base.specs.Automaton.{Automaton, IsWellFormed, automaton}
+use Rattle.aut_base.specs.CanonicalLabel.{canonical}
 use Rattle.aut_base.specs.declared.description.Description.{Description}
 use Rattle.aut_base.specs.declared.limit.Limit.{Limit}
+use Rattle.aut_core.specs.Core.{Core, automaton_of}
 use Rattle.hoa_reader.specs.Counts.{Count, PassesFirst, PassesNone}
 use Rattle.hoa_reader.specs.Described.{described}
 use Rattle.hoa_reader.specs.inner.Gathered.{limit_of}
@@ -30,3 +32,16 @@ Elaborates (Ok d) w = IsDescribed w d
 Elaborates (Err (fault.Invalid rule)) w = IsFirstBroken rule w
 Elaborates (Err (fault.Limit which)) w = PassesLimit which w
 Elaborates (Err fault.Memory) w = Unit {0}
+
+-- It is valid and within the limits, and this is what it describes, with each label in its canonical form.
+pub record IsBuilt (w : Written) (a : Automaton) : Type 0 where
+  pub valid : IsValid w
+  pub within : PassesNone w
+  pub same : a ≡ canonical (described w)
+  pub formed : IsWellFormed (described w)
+
+abbrev pub Builds : Result Core ElabFault → Written → Type 0
+Builds (Ok core) w = IsBuilt w (automaton_of core)
+Builds (Err (fault.Invalid rule)) w = IsFirstBroken rule w
+Builds (Err (fault.Limit which)) w = PassesLimit which w
+Builds (Err fault.Memory) w = Unit {0}

@@ -1,4 +1,5 @@
 -- Definitions that only inner functions speak in.
+pub mod Examined
 pub mod Gathered
 pub mod Growing
 pub mod Pieces

@@ -2,22 +2,25 @@
 
 ghost use Rattle.std.specs.Prelude.{◌≡◌, IfOk};
 ghost use Rattle.aut_base.specs.Automaton.{automaton};
-ghost use Rattle.aut_base.specs.Formula.{formula_tree};
+ghost use Rattle.aut_base.specs.CanonicalLabel.{canonical};
+ghost use Rattle.aut_core.specs.Core.{automaton_of};
+ghost use Rattle.hoa_parser.specs.Raw.{written};
 ghost use Rattle.hoa_reader.specs.Counts.{PassesNone};
 ghost use Rattle.hoa_reader.specs.Described.{described};
-ghost use Rattle.hoa_reader.specs.Elaborating.{Elaborates};
-ghost use Rattle.hoa_reader.specs.inner.Gathered.{ArePartsOf};
-ghost use Rattle.hoa_reader.specs.inner.Growing.{AreKnown, meanings_by};
-ghost use Rattle.hoa_parser.specs.Raw.{written};
-ghost use Rattle.hoa_reader.specs.Validity.{IsValid, acceptance_of};
+ghost use Rattle.hoa_reader.specs.Elaborating.{Builds, Elaborates};
+ghost use Rattle.hoa_reader.specs.Validity.{IsValid};
+ghost use Rattle.hoa_reader.specs.inner.Examined.{IsExamined};
 
 mod aliases;
 mod broken;
 mod counts;
 mod edges;
+mod examined;
+mod frame;
 mod labels;
 mod leaves;
 mod limits;
+mod links;
 mod marks;
 mod parts;
 mod places;
@@ -26,15 +29,14 @@ mod sizes;
 mod starts;
 mod used;
 
-use aliases::{Known, known_aliases};
-use aut_base::{Description, Formula, Limit, Memory};
-use broken::first_broken;
-use edges::{Shared, edges_of};
+use aut_base::{Description, Limit, Memory};
+use aut_core::Automaton;
+use edges::edges_of;
+use examined::{Examined, examine};
+use frame::frame_of;
 use hoa_parser::Raw;
-use limits::first_passed;
-use parts::{Parts, parts_of};
-use places::Places;
-use sizes::{set_count, state_count};
+use label_guards::Guards;
+use links::links_of;
 use std::alloc::Global;
 
 /// The rules that an automaton has to keep, in the order in which they are examined.
@@ -80,63 +82,58 @@ impl From<Memory> for ElabFault {
 pub fn describe(alloc: Global, raw: &Raw) -> Result<Description, ElabFault>
     ensures { Elaborates result (written raw.now) }
 {
-    let parts = parts_of(alloc, raw)?;
-    if let Some(rule) = first_broken(alloc, raw, &parts)? {
-        return Err(ElabFault::Invalid(rule));
-    }
-    let known = known_aliases(alloc, &parts.defs)?;
-    if let Some(limit) = first_passed(raw, &parts, &known) {
-        return Err(ElabFault::Limit(limit));
-    }
-    match description(alloc, raw, parts, known) {
-        Ok(description) => Ok(description),
-        Err(Memory) => Err(ElabFault::Memory),
-    }
+    let examined = examine(alloc, raw)?;
+    Ok(description(alloc, raw, examined)?)
 }
 
-/// The automaton, where no rule is broken and no limit passed.
+// Why so: 'An automaton can be built straight from what was read' in docs/DECISIONS.md.
+/// The automaton that is described by what was read, with guards in place of labels. The same as `Automaton::from_description`
+/// of what `describe` answers, but no description is made.
+pub fn build(alloc: Global, raw: &Raw) -> Result<Automaton, ElabFault>
+    ensures { Builds result (written raw.now) }
+{
+    let examined = examine(alloc, raw)?;
+    Ok(automaton(alloc, raw, examined)?)
+}
+
+/// The description, where no rule is broken and no limit passed.
 fn description<'a>(
     alloc: Global,
     raw: &'a Raw,
-    parts: Parts<'a>,
-    known: Places<'a, Known>,
+    examined: Examined<'a>,
 ) -> Result<Description, Memory>
-    requires parts { ArePartsOf (written raw.now) parts }
-    requires known { AreKnown (meanings_by parts.defs.items) parts.defs.items known }
-    requires valid { IsValid (written raw.now) }
-    requires within { PassesNone (written raw.now) }
+    requires { IsExamined (written raw.now) examined }
     ensures { IfOk result (λ d. automaton d ≡ described (written raw.now)) }
 {
-    let sets = set_count(raw, &parts);
-    let states = state_count(raw, &parts) as u32;
-    let names = starts::names_of(alloc, parts.names)?;
-    let starts = starts::starts_of(alloc, &parts.starts)?;
-    let formula = condition(alloc, raw, &parts)?;
-    let shared = Shared {
-        names: parts.names.len() as u32,
-        sets,
-        defs: parts.defs,
-        known,
-    };
-    let edges = edges_of(alloc, &shared, raw.states.as_slice(), states)?;
+    let frame = frame_of(alloc, raw, examined)?;
+    let edges = edges_of(alloc, &frame.shared, raw.states.as_slice(), frame.states)?;
     Ok(Description {
-        names,
-        starts,
-        states,
+        names: frame.names,
+        starts: frame.starts,
+        states: frame.states,
         edges,
-        sets,
-        formula,
+        sets: frame.shared.sets,
+        formula: frame.formula,
     })
 }
 
-/// The acceptance condition, held apart.
-#[tactic(auto, using(aut_base::proofs::trees::FormulaTrees::formula_trees))]
-fn condition(alloc: Global, raw: &Raw, parts: &Parts<'_>) -> Result<Formula, Memory>
-    requires { ArePartsOf (written raw.now) parts.now }
-    ensures { IfOk result (λ formula. formula_tree formula ≡ (acceptance_of (written raw.now)).formula) }
+/// The automaton, where no rule is broken and no limit passed.
+fn automaton<'a>(alloc: Global, raw: &'a Raw, examined: Examined<'a>) -> Result<Automaton, Memory>
+    requires { IsExamined (written raw.now) examined }
+    ensures { IfOk result (λ core. automaton_of core ≡ canonical (described (written raw.now))) }
 {
-    match &parts.acceptance {
-        Some(acceptance) => acceptance.formula.copy(alloc),
-        None => Ok(Formula::True),
-    }
+    let frame = frame_of(alloc, raw, examined)?;
+    let mut guards = Guards::new(alloc, frame.shared.names)?;
+    let states = raw.states.as_slice();
+    let links = links_of(alloc, &mut guards, &frame.shared, states, frame.states)?;
+    Automaton::from_parts(
+        alloc,
+        frame.names,
+        guards,
+        frame.states,
+        frame.starts,
+        links,
+        frame.shared.sets,
+        frame.formula,
+    )
 }

@@ -1,5 +1,6 @@
 -- What a valid text describes is well formed.
-use Rattle.std.proofs.Common.{◌≡◌, ◌<◌, ◌==◌, ℕ, Bool, true, List, [], ◌∷◌, ◌++◌, length, map, filter, nat_lt, get_or, Option, Some, None, All, zero, suc, arith, AllPairs}
+use Rattle.std.proofs.Common.{◌≡◌, ◌<◌, ◌==◌, ℕ, Bool, true, List, [], ◌∷◌, ◌++◌, length, map, filter, nat_lt, get_or, Option, Some, None, All, zero}
+use Rattle.std.proofs.Common.{suc, arith, AllPairs}
 use Rattle.std.proofs.lemmas.List.Kept.{AllPairs-filter}
 use Rattle.std.proofs.lemmas.List.Quantifiers.{all_pairs_push}
 use Rattle.std.proofs.lemmas.List.Elements.{All-from_recursion}
@@ -13,7 +14,8 @@ use Rattle.aut_base.specs.Label.{AllBelow, LabelTree}
 use Rattle.aut_base.specs.Marks.{is_in}
 use Rattle.hoa_reader.proofs.description.LabelsInRange.{MeansBelow, expanded_below, letter_below, meanings_below, numbers_are_below, sets_in_range}
 use Rattle.hoa_reader.proofs.description.StatesInRange.{all_used_below, all_without_repeats, edges_in_order, they_differ}
-use Rattle.hoa_reader.specs.Described.{Meaning, after_all, tree_edge_of, tree_edges_from, tree_edges_of, below, described, edges_of, expanded, meanings_of, only_state, state_count}
+use Rattle.hoa_reader.specs.Described.{Meaning, after_all, tree_edge_of, tree_edges_from, tree_edges_of, below, described, edges_of, expanded}
+use Rattle.hoa_reader.specs.Described.{meanings_of, only_state, state_count}
 use Rattle.hoa_parser.specs.Raw.{RawTree, Written, WrittenEdge, WrittenState}
 use Rattle.hoa_reader.specs.Validity.{IsKept, IsValid, acceptance_of, alias_lines, body_labels, edges_written, is_one_state, names_of, numbers_below}
 use Rattle.hoa_reader.specs.Validity.{props_below, starts_written, state_labels, states_item, used_states}
@@ -28,14 +30,16 @@ AreBelow n = AllByRecursion (λ q. q < n)
 
 pub used_are_below : (used counts : List ℕ) → list_all (λ n. numbers_below n used) counts ≡ true → AreBelow (get_or counts 0 (after_all used)) used
 used_are_below used [] e = all_used_below used
-used_are_below used (n ∷ ns) e = AllByRecursion-weaker (λ q. nat_lt q n ≡ true) (λ q. q < n) used (λ q h. ltb-true q n h) (AllByRecursion-from_list_all (λ q. nat_lt q n) used (and_parts _ _ e).0)
+used_are_below used (n ∷ ns) e = AllByRecursion-weaker (λ q. nat_lt q n ≡ true) (λ q. q < n) used (λ q h. ltb-true q n h)
+    (AllByRecursion-from_list_all (λ q. nat_lt q n) used (and_parts _ _ e).0)
 
 one_below : (n : ℕ) (group : List ℕ) → (is_one_state group ≡ true) × AreBelow n group → only_state group < n
 one_below n [] h = absurd (false≢true h.0)
 one_below n (q ∷ qs) h = h.1.0
 
 -- a label that stands there or not, before another
-optional_below : (n : ℕ) (ms : List Meaning) (o : Option RawTree) (other : LabelTree) → AllByRecursion (MeansBelow n) ms → AllByRecursion (λ t. props_below n t ≡ true) (option_to_list o)
+optional_below : (n : ℕ) (ms : List Meaning) (o : Option RawTree) (other : LabelTree) → AllByRecursion (MeansBelow n) ms
+    → AllByRecursion (λ t. props_below n t ≡ true) (option_to_list o)
     → AllBelow n other → AllBelow n (option_map_or (expanded ms) o other)
 optional_below n ms None other all h there = there
 optional_below n ms (Some t) other all h there = expanded_below n ms t all h.0
@@ -50,7 +54,8 @@ IsGoodState n k s = (s.number < n) × AllByRecursion (λ t. props_below k t ≡ 
 abbrev Labels : ℕ → List RawTree → Type 0
 Labels k = AllByRecursion (λ t. props_below k t ≡ true)
 
-good_state : (n k : ℕ) (s : WrittenState) → (s.number < n) × (AllByRecursion (λ (e : WrittenEdge). only_state e.to < n) s.edges × Labels k (state_labels s)) → IsGoodState n k s
+good_state : (n k : ℕ) (s : WrittenState)
+    → (s.number < n) × (AllByRecursion (λ (e : WrittenEdge). only_state e.to < n) s.edges × Labels k (state_labels s)) → IsGoodState n k s
 good_state n k s h =
     let own = option_to_list s.label in
     let others = flat_map (λ (e : WrittenEdge). option_to_list e.label) s.edges in
@@ -66,7 +71,8 @@ below_rises zero = λ i j d l m. absurd (omega (arith, m))
 below_rises (suc n) =
     all_pairs_push (λ x y. x < y) (below n) n (below_rises n) (λ k d l. All-from_recursion (λ q. q < n) (below n) (numbers_are_below n) k d l)
 
-tree_edge_good : (w : Written) (s : WrittenState) (i : ℕ) (e : WrittenEdge) → AllByRecursion (MeansBelow (length (names_of w))) (meanings_of w) → (s.number < state_count w)
+tree_edge_good : (w : Written) (s : WrittenState) (i : ℕ) (e : WrittenEdge) → AllByRecursion (MeansBelow (length (names_of w))) (meanings_of w)
+    → (s.number < state_count w)
     → Labels (length (names_of w)) (option_to_list s.label) → IsGoodEdge (state_count w) (length (names_of w)) e → IsEdgeOf (described w) (tree_edge_of w s i e)
 tree_edge_good w s i e means number labels good =
     let k = length (names_of w) in
@@ -76,28 +82,33 @@ tree_edge_good w s i e means number labels good =
       from = number;
       to = good.0;
       label = optional_below k (meanings_of w) s.label _ means labels (optional_below k (meanings_of w) e.label _ means good.1 (letter_below k i));
-      marks = All-from_recursion (λ mark. mark < sets) (filter ours (below sets)) (AllByRecursion-filter (λ mark. mark < sets) ours (below sets) (numbers_are_below sets));
+      marks = All-from_recursion (λ mark. mark < sets) (filter ours (below sets))
+          (AllByRecursion-filter (λ mark. mark < sets) ours (below sets) (numbers_are_below sets));
       marks_rise = AllPairs-filter (λ m n. m < n) ours (below sets) (below_rises sets);
     }
 
-tree_edges_good : (w : Written) → AllByRecursion (MeansBelow (length (names_of w))) (meanings_of w) → (s : WrittenState) → IsGoodState (state_count w) (length (names_of w)) s
-    → AllByRecursion (IsEdgeOf (described w)) (tree_edges_of w s)
+tree_edges_good : (w : Written) → AllByRecursion (MeansBelow (length (names_of w))) (meanings_of w) → (s : WrittenState)
+    → IsGoodState (state_count w) (length (names_of w)) s → AllByRecursion (IsEdgeOf (described w)) (tree_edges_of w s)
 tree_edges_good w means s good =
     let P : WrittenEdge → Type 0 = IsGoodEdge (state_count w) (length (names_of w)) in
     AllByRecursion-map (IsEdgeOf (described w)) (λ (p : ℕ × WrittenEdge). tree_edge_of w s p.0 p.1) (enumerate_from 0 s.edges)
-    (AllByRecursion-weaker (λ (p : ℕ × WrittenEdge). P p.1) (λ (p : ℕ × WrittenEdge). IsEdgeOf (described w) (tree_edge_of w s p.0 p.1)) (enumerate_from 0 s.edges)
+    (AllByRecursion-weaker (λ (p : ℕ × WrittenEdge). P p.1) (λ (p : ℕ × WrittenEdge). IsEdgeOf (described w) (tree_edge_of w s p.0 p.1))
+    (enumerate_from 0 s.edges)
     (λ p h. tree_edge_good w s p.0 p.1 means good.0 good.1 h) (AllByRecursion-enumerate_from P 0 s.edges good.2))
 
-edges_good : (w : Written) → AllByRecursion (MeansBelow (length (names_of w))) (meanings_of w) → AllByRecursion (IsGoodState (state_count w) (length (names_of w))) w.states
-    → All (IsEdgeOf (described w)) (edges_of w)
-edges_good w means good =
+-- the edges of each state are as they should be
+abbrev AreGoodEdges : Written → Type 0
+AreGoodEdges w = AllByRecursion (λ (s : WrittenState). AllByRecursion (IsEdgeOf (described w)) (tree_edges_of w s)) w.states
+
+edges_good : (w : Written) → AreGoodEdges w → All (IsEdgeOf (described w)) (edges_of w)
+edges_good w good =
     let n = state_count w in
     let P : TreeEdge → Type 0 = IsEdgeOf (described w) in
-    All-from_recursion P (edges_of w) (AllByRecursion-flat_map P (tree_edges_from w) (below n) (AllByRecursion-of_each (λ q. AllByRecursion P (tree_edges_from w q)) (below n)
+    All-from_recursion P (edges_of w) (AllByRecursion-flat_map P (tree_edges_from w) (below n)
+    (AllByRecursion-of_each (λ q. AllByRecursion P (tree_edges_from w q)) (below n)
     (λ q. let ours : WrittenState → Bool = λ s. s.number == q in
     AllByRecursion-flat_map P (tree_edges_of w) (filter ours w.states)
-    (AllByRecursion-weaker (IsGoodState n (length (names_of w))) (λ s. AllByRecursion P (tree_edges_of w s)) (filter ours w.states) (tree_edges_good w means)
-    (AllByRecursion-filter (IsGoodState n (length (names_of w))) ours w.states good)))))
+    (AllByRecursion-filter (λ (s : WrittenState). AllByRecursion P (tree_edges_of w s)) ours w.states good))))
 
 -- the groups of states that are one state each
 groups_below : (n : ℕ) {X : Type 0} (group : X → List ℕ) (xs : List X) → list_all (λ x. is_one_state (group x)) xs ≡ true → AreBelow n (flat_map group xs)
@@ -105,39 +116,66 @@ groups_below : (n : ℕ) {X : Type 0} (group : X → List ℕ) (xs : List X) →
 groups_below n group xs ones used =
     let P : ℕ → Type 0 = λ q. q < n in
     AllByRecursion-weaker (λ x. (is_one_state (group x) ≡ true) × AreBelow n (group x)) (λ x. only_state (group x) < n) xs (λ x h. one_below n (group x) h)
-    (AllByRecursion-both (λ x. is_one_state (group x) ≡ true) (λ x. AreBelow n (group x)) xs (AllByRecursion-from_list_all (λ x. is_one_state (group x)) xs ones)
+    (AllByRecursion-both (λ x. is_one_state (group x) ≡ true) (λ x. AreBelow n (group x)) xs
+    (AllByRecursion-from_list_all (λ x. is_one_state (group x)) xs ones)
     (AllByRecursion-from_flat_map P group xs used))
+
+-- the starts, the states of the body and the goals of their edges
+states_below : (w : Written) → IsKept V6 w → AreBelow (state_count w) (used_states w)
+states_below w states = used_are_below (used_states w) (filter_map states_item w.items) states
+
+state_edges_good : (w : Written) → IsKept V5 w → IsKept V6 w → IsKept V8 w → AreGoodEdges w
+state_edges_good w one states props =
+    let n = state_count w in
+    let k = length (names_of w) in
+    let P : ℕ → Type 0 = λ q. q < n in
+    let labels = and_parts _ _ props in
+    let numbers = map (λ (s : WrittenState). s.number) w.states in
+    let goals = flat_map (λ (e : WrittenEdge). e.to) (edges_written w) in
+    let others = AllByRecursion-right P (flat_map (λ (q : List ℕ). q) (starts_written w)) (numbers ++ goals) (states_below w states) in
+    let to = groups_below n (λ (e : WrittenEdge). e.to) (edges_written w) (and_parts _ _ one).1 (AllByRecursion-right P numbers goals others) in
+    let means = meanings_below k [] (alias_lines w) tt labels.0 in
+    let G : WrittenState → Type 0 = λ s. (s.number < n) × (AllByRecursion (λ (e : WrittenEdge). only_state e.to < n) s.edges × Labels k (state_labels s)) in
+    let facts : AllByRecursion G w.states =
+    AllByRecursion-both (λ (s : WrittenState). s.number < n)
+    (λ (s : WrittenState). AllByRecursion (λ (e : WrittenEdge). only_state e.to < n) s.edges × Labels k (state_labels s)) w.states
+    (AllByRecursion-from_map P (λ (s : WrittenState). s.number) w.states (AllByRecursion-left P numbers goals others))
+    (AllByRecursion-both (λ (s : WrittenState). AllByRecursion (λ (e : WrittenEdge). only_state e.to < n) s.edges)
+    (λ (s : WrittenState). Labels k (state_labels s)) w.states
+    (AllByRecursion-from_flat_map (λ (e : WrittenEdge). only_state e.to < n) (λ (s : WrittenState). s.edges) w.states to)
+    (AllByRecursion-from_flat_map (λ t. props_below k t ≡ true) state_labels w.states
+    (AllByRecursion-from_list_all (props_below k) (body_labels w) labels.1))) in
+    AllByRecursion-weaker G (λ (s : WrittenState). AllByRecursion (IsEdgeOf (described w)) (tree_edges_of w s)) w.states
+    (λ (s : WrittenState) g. tree_edges_good w means s (good_state n k s g)) facts
 
 pub well_formed : (w : Written) → IsKept V4 w → IsKept V5 w → IsKept V6 w → IsKept V8 w → IsKept V9 w → IsWellFormed (described w)
 well_formed w counted one states props sets =
     let n = state_count w in
-    let k = length (names_of w) in
     let P : ℕ → Type 0 = λ q. q < n in
-    let singles = and_parts _ _ one in
-    let labels = and_parts _ _ props in
     let numbers = map (λ (s : WrittenState). s.number) w.states in
     let goals = flat_map (λ (e : WrittenEdge). e.to) (edges_written w) in
-    let used : AreBelow n (used_states w) = used_are_below (used_states w) (filter_map states_item w.items) states in
-    let starts = AllByRecursion-left P (flat_map (λ (q : List ℕ). q) (starts_written w)) (numbers ++ goals) used in
-    let others = AllByRecursion-right P (flat_map (λ (q : List ℕ). q) (starts_written w)) (numbers ++ goals) used in
-    let to = groups_below n (λ (e : WrittenEdge). e.to) (edges_written w) singles.1 (AllByRecursion-right P numbers goals others) in
-    let means = meanings_below k [] (alias_lines w) tt labels.0 in
-    let G : WrittenState → Type 0 = λ s. (s.number < n) × (AllByRecursion (λ (e : WrittenEdge). only_state e.to < n) s.edges × Labels k (state_labels s)) in
-    let facts : AllByRecursion G w.states =
-    AllByRecursion-both (λ (s : WrittenState). s.number < n) (λ (s : WrittenState). AllByRecursion (λ (e : WrittenEdge). only_state e.to < n) s.edges × Labels k (state_labels s)) w.states
-    (AllByRecursion-from_map P (λ (s : WrittenState). s.number) w.states (AllByRecursion-left P numbers goals others))
-    (AllByRecursion-both (λ (s : WrittenState). AllByRecursion (λ (e : WrittenEdge). only_state e.to < n) s.edges) (λ (s : WrittenState). Labels k (state_labels s)) w.states
-    (AllByRecursion-from_flat_map (λ (e : WrittenEdge). only_state e.to < n) (λ (s : WrittenState). s.edges) w.states to)
-    (AllByRecursion-from_flat_map (λ t. props_below k t ≡ true) state_labels w.states (AllByRecursion-from_list_all (props_below k) (body_labels w) labels.1))) in
+    let starts = AllByRecursion-left P (flat_map (λ (q : List ℕ). q) (starts_written w)) (numbers ++ goals) (states_below w states) in
     let heads = map only_state (starts_written w) in
     record {
       names_differ = pairs_differ (names_of w) (names_differ w.items counted);
       starts_differ = they_differ heads;
-      starts = All-from_recursion P _ (all_without_repeats P heads (AllByRecursion-map P only_state (starts_written w) (groups_below n (λ (q : List ℕ). q) (starts_written w) singles.0 starts)));
+      starts = All-from_recursion P _ (all_without_repeats P heads
+          (AllByRecursion-map P only_state (starts_written w) (groups_below n (λ (q : List ℕ). q) (starts_written w) (and_parts _ _ one).0 starts)));
       in_order = edges_in_order w;
-      edges = edges_good w means (AllByRecursion-weaker G (IsGoodState n k) w.states (good_state n k) facts);
+      edges = edges_good w (state_edges_good w one states props);
       formula = sets_in_range (acceptance_of w).sets (acceptance_of w).formula (and_parts _ _ sets).0;
     }
 
 pub valid_is_well_formed : (w : Written) → IsValid w → IsWellFormed (described w)
 valid_is_well_formed w v = well_formed w v.1.1.1.0 v.1.1.1.1.0 v.1.1.1.1.1.0 v.1.1.1.1.1.1.1.0 v.1.1.1.1.1.1.1.1.0
+
+-- the labels of each state's edges speak of the names
+pub valid_labels : (w : Written) → IsValid w
+    → All (λ (s : WrittenState). AllByRecursion (λ (e : TreeEdge). AllBelow (length (names_of w)) e.label) (tree_edges_of w s)) w.states
+valid_labels w v =
+    let P : TreeEdge → Type 0 = IsEdgeOf (described w) in
+    let B : TreeEdge → Type 0 = λ e. AllBelow (length (names_of w)) e.label in
+    All-from_recursion (λ (s : WrittenState). AllByRecursion B (tree_edges_of w s)) w.states
+    (AllByRecursion-weaker (λ (s : WrittenState). AllByRecursion P (tree_edges_of w s)) (λ (s : WrittenState). AllByRecursion B (tree_edges_of w s)) w.states
+    (λ (s : WrittenState) good. AllByRecursion-weaker P B (tree_edges_of w s) (λ (e : TreeEdge) g. g.label) good)
+    (state_edges_good w v.1.1.1.1.0 v.1.1.1.1.1.0 v.1.1.1.1.1.1.1.0))

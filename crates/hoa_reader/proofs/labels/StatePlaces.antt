@@ -4,7 +4,7 @@ use Rattle.std.proofs.Common.{slice_get, Option, Some, None, refl, sym, ap, ◌�
 use Rattle.std.proofs.lemmas.Bool.{false≢true, eqb-true}
 use Rattle.std.proofs.lemmas.Bool.Decides.{Decides-eqb}
 use Rattle.std.proofs.lemmas.Grind.{flat_map-append}
-use Rattle.std.proofs.lemmas.List.{append-nil, get_or-set_other, get_or-set_same}
+use Rattle.std.proofs.lemmas.List.{append-nil, get_or-set_other, get_or-set_same, get_or_default}
 use Rattle.std.proofs.lemmas.List.Elements.{filter-append}
 use Rattle.std.proofs.lemmas.Option.{none-some, same_Some}
 use Rattle.std.specs.Prelude.{flat_map}
@@ -38,16 +38,19 @@ kept_at ws w q (Some p) e h = record {
 }
 
 at_one : (ws : List WrittenState) (w : WrittenState) (index : List (Option ℕ)) (i q : ℕ) (b : Bool) → (w.number == q) ≡ b → q < length index → length ws ≡ i
-    → list_any (λ x. x == w.number) (numbers ws) ≡ false → IsPlace ws q (get_or index q None) → IsPlace (ws ++ w ∷ []) q (get_or (set index w.number (Some i)) q None)
+    → list_any (λ x. x == w.number) (numbers ws) ≡ false → IsPlace ws q (get_or index q None)
+    → IsPlace (ws ++ w ∷ []) q (get_or (set index w.number (Some i)) q None)
 at_one ws w index i q true e l long away h =
     let same : w.number ≡ q = eqb-true w.number q e in
     let P : Option ℕ → Type 0 = λ o. IsPlace (ws ++ w ∷ []) q o in
-    let here : get_or (set index w.number (Some i)) q None ≡ Some i = ap (λ n. get_or (set index n (Some i)) q None) same ∙ get_or-set_same index q (Some i) None l in
+    let here : get_or (set index w.number (Some i)) q None ≡ Some i = ap (λ n. get_or (set index n (Some i)) q None) same
+    ∙ get_or-set_same index q (Some i) None l in
     let gone : list_any (λ x. x == q) (numbers ws) ≡ false = ap (λ n. list_any (λ x. x == n) (numbers ws)) (sym same) ∙ away in
     let new : IsDefinedAt (ws ++ w ∷ []) q i = record {
       state = w;
       there = slice_get-push_last ws w i long;
-      alone = states_at-push ws w q ∙ ap (λ (t : Bool). states_at ws q ++ cond t (w ∷ []) []) e ∙ ap (λ (xs : List WrittenState). xs ++ w ∷ []) (none_at ws q gone);
+      alone = states_at-push ws w q ∙ ap (λ (t : Bool). states_at ws q ++ cond t (w ∷ []) []) e
+          ∙ ap (λ (xs : List WrittenState). xs ++ w ∷ []) (none_at ws q gone);
     } in
     subst P (sym here) new
 at_one ws w index i q false e l long away h =
@@ -70,7 +73,23 @@ edges_more x ws n =
     let F : ℕ → List TreeEdge = λ q. flat_map (tree_edges_for x) (states_at ws q) in
     ap (flat_map F) (below_more n) ∙ flat_map-append F (below n) (n ∷ []) ∙ ap (λ (es : List TreeEdge). edges_for x ws n ++ es) (append-nil (F n))
 
-pub got_map : (states : List RawState) (i : ℕ) (s : WrittenState) (d : RawState) → slice_get (map written_state states) i ≡ Some s → written_state (get_or states i d) ≡ s
+-- what is known of the state at the place that the index has for a number
+pub record IsFound (ws : List WrittenState) (n place : ℕ) (state : WrittenState) : Type 0 where
+  pub one : IsDefinedAt ws n place
+  pub is : state ≡ one.state
+
+pub got_map : (states : List RawState) (i : ℕ) (s : WrittenState) (d : RawState) → slice_get (map written_state states) i ≡ Some s
+    → written_state (get_or states i d) ≡ s
 got_map [] i s d is = absurd (none-some s is)
 got_map (x ∷ xs) zero s d is = same_Some (written_state x) s is
 got_map (x ∷ xs) (suc i) s d is = got_map xs i s d is
+
+pub found : (states : List RawState) (items : List (Option ℕ)) (count n place : ℕ) (at : Option ℕ) (state : RawState) → length items ≡ count
+    → ((q : ℕ) → q < count → IsPlace (map written_state states) q (get_or items q None)) → n < length items → at ≡ get_or items n at → at ≡ Some place
+    → state ≡ get_or states place state
+    → IsFound (map written_state states) n place (written_state state)
+found states items count n place at state len places within at_is some state_is =
+    let ws = map written_state states in
+    let P : Option ℕ → Type 0 = λ o. IsPlace ws n o in
+    let one : IsDefinedAt ws n place = subst P (get_or_default items n None at within ∙ sym at_is ∙ some) (places n (omega (arith, within, len))) in
+    record { one = one; is = ap written_state state_is ∙ got_map states place one.state state one.there }

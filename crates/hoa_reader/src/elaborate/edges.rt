@@ -2,10 +2,12 @@
 
 ghost use Rattle.std.specs.Prelude.{◌≡◌, ◌<◌, ◌==◌, ◌++◌, ℕ, None, Some, true, get_or, length, map, slice_set, IfOk, OnOk};
 ghost use Rattle.std.specs.List.{list_all};
+ghost use Rattle.std.specs.Option.{option_map};
 ghost use Rattle.aut_base.specs.Automaton.{tree_edge};
 ghost use Rattle.aut_base.specs.Label.{label_tree};
-ghost use Rattle.hoa_reader.specs.inner.TreeEdges.{HasKnown, IsPlace, tree_edge_for, tree_edges_for, edges_for, label_for};
-ghost use Rattle.hoa_reader.specs.inner.Pieces.{numbers};
+ghost use Rattle.hoa_reader.specs.Described.{marks_in_order};
+ghost use Rattle.hoa_reader.specs.inner.TreeEdges.{HasKnown, IsPlace, tree_edge_for, tree_edges_for, edges_for, label_for, label_written};
+ghost use Rattle.hoa_reader.specs.inner.Pieces.{label_refs, numbers};
 ghost use Rattle.hoa_parser.specs.Raw.{written_edge, written_state};
 ghost use Rattle.hoa_reader.specs.Validity.{all_differ, marks_below, numbers_below};
 
@@ -16,8 +18,8 @@ use crate::elaborate::parts::AliasDef;
 use crate::elaborate::places::Places;
 use crate::elaborate::sizes::count_of_edges;
 use crate::elaborate::starts::only_state;
-use aut_base::{Edge, Edges, Label, Memory};
-use hoa_parser::{RawEdge, RawState};
+use aut_base::{Edge, Edges, Label, Marks, Memory};
+use hoa_parser::{RawEdge, RawLabel, RawState};
 use std::alloc::Global;
 
 /// What all edges share: the numbers of names and sets, and the aliases with what is known of each.
@@ -29,9 +31,20 @@ pub(crate) struct Shared<'a> {
     pub(crate) known: Places<'a, Known>,
 }
 
+/// The label that is written for an edge of this state: the state's if it has one, else the edge's own.
+#[inline]
+fn label_written<'a>(state: &'a RawState, edge: &'a RawEdge) -> Option<&'a RawLabel>
+    ensures { option_map label_refs result ≡ label_written (written_state state.now) (written_edge edge.now) }
+{
+    match &state.label {
+        Some(label) => Some(label),
+        None => edge.label.as_ref(),
+    }
+}
+
 /// The label of the edge that stands at this place in its state.
 #[inline]
-fn label_of<'a>(
+pub(crate) fn label_of<'a>(
     alloc: Global,
     shared: &Shared<'a>,
     state: &'a RawState,
@@ -41,13 +54,26 @@ fn label_of<'a>(
     requires { HasKnown shared.now }
     ensures { IfOk result (λ new. label_tree new ≡ label_for shared.now (written_state state.now) letter (written_edge edge.now)) }
 {
-    match &state.label {
+    match label_written(state, edge) {
         Some(label) => expand(alloc, label, &shared.defs, &shared.known),
-        None => match &edge.label {
-            Some(label) => expand(alloc, label, &shared.defs, &shared.known),
-            None => letter_label(alloc, shared.names, letter),
-        },
+        None => letter_label(alloc, shared.names, letter),
     }
+}
+
+/// The acceptance sets of an edge of this state: the state's and its own.
+#[inline]
+pub(crate) fn marks_of(
+    alloc: Global,
+    sets: u32,
+    state: &RawState,
+    edge: &RawEdge,
+) -> Result<Marks, Memory>
+    requires own { numbers_below sets state.now.marks ≡ true }
+    requires marks { numbers_below sets edge.now.marks ≡ true }
+    ensures { IfOk result (λ all. all ≡ marks_in_order sets (state.now.marks ++ edge.now.marks)) }
+{
+    let own = state.marks.as_slice();
+    joined(alloc, sets, own, edge.marks.as_slice())
 }
 
 /// The edge that stands at this place in its state.
@@ -63,14 +89,11 @@ fn edge_of<'a>(
     requires marks { numbers_below shared.now.sets edge.now.marks ≡ true }
     ensures { IfOk result (λ new. tree_edge new ≡ tree_edge_for shared.now (written_state state.now) letter (written_edge edge.now)) }
 {
-    let label = label_of(alloc, shared, state, edge, letter)?;
-    let own = state.marks.as_slice();
-    let marks = joined(alloc, shared.sets, own, edge.marks.as_slice())?;
     Ok(Edge {
         from: state.number,
-        label,
+        label: label_of(alloc, shared, state, edge, letter)?,
         to: only_state(&edge.to),
-        marks,
+        marks: marks_of(alloc, shared.sets, state, edge)?,
     })
 }
 
@@ -104,7 +127,11 @@ fn put(places: &mut Vec<Option<usize>>, number: usize, place: usize)
 }
 
 /// Where each state is defined, if it is.
-fn places_of(alloc: Global, states: &[RawState], count: u32) -> Result<Vec<Option<usize>>, Memory>
+pub(crate) fn places_of(
+    alloc: Global,
+    states: &[RawState],
+    count: u32,
+) -> Result<Vec<Option<usize>>, Memory>
     requires { all_differ ◌==◌ (numbers (map written_state states.now)) ≡ true }
     ensures len { IfOk result (λ places. length places.items ≡ count) }
     ensures place { IfOk result (λ places. (q : ℕ) → q < count → IsPlace (map written_state states.now) q (get_or places.items q None)) }

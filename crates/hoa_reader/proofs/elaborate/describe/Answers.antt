@@ -1,17 +1,24 @@
-use Rattle.std.proofs.Common.{◌≡◌, sym, subst}
-use Rattle.aut_base.specs.Automaton.{Automaton, IsWellFormed, automaton}
-use Rattle.hoa_reader.proofs.description.WellFormed.{valid_is_well_formed}
-use Rattle.hoa_reader.specs.Counts.{PassesNone}
-use Rattle.hoa_reader.specs.Described.{described}
+use Rattle.std.proofs.Common.{subst, sym}
+use Rattle.aut_base.specs.Automaton.{IsWellFormed}
 use Rattle.hoa_parser.specs.Raw.{written}
-use Rattle.hoa_reader.specs.Validity.{IsValid}
+use Rattle.hoa_reader.proofs.description.Refusals.{describes_none}
+use Rattle.hoa_reader.proofs.description.WellFormed.{valid_is_well_formed}
+use Rattle.hoa_reader.specs.declared.elaborate.ElabFault.TheVariants as fault
 use Rattle.hoa_reader.proofs.elaborate.describe.Goals as goal
 
-pub returns-in-Ok : goal.returns-in-Ok
-returns-in-Ok c =
-    let w = written c.args.raw.now in
-    let valid : IsValid w = rw c.in_default.is at c.in_ok-rule.ensures in
-    let within : PassesNone w = rw c.in_default-first_passed.is at c.first_passed.ensures in
-    let same : automaton c.in-Ok.description ≡ described w = c.in-Ok.ensures in
-    let P : Automaton → Type 0 = λ a. IsWellFormed a in
-    record { valid = valid; within = within; same = same; formed = subst P (sym same) (valid_is_well_formed w valid) }
+pub returns-in_err-examined : goal.returns-in_err-examined
+returns-in_err-examined c =
+    describes_none c.from_residual.result c.in_err-examined.field-0.0 (written c.args.raw.now) c.from_residual.ensures.1
+    c.in_err-examined.ensures
+
+pub returns-in_err-description : goal.returns-in_err-description
+returns-in_err-description c =
+    describes_none c.from_residual-in_err-description.result fault.Memory (written c.args.raw.now) c.from_residual-in_err-description.ensures.1 tt
+
+pub returns : goal.returns
+returns c = record {
+  valid = c.in_ok-examined.ensures.valid;
+  within = c.in_ok-examined.ensures.within;
+  same = c.in_ok-description.ensures;
+  formed = subst IsWellFormed (sym c.in_ok-description.ensures) (valid_is_well_formed (written c.args.raw.now) c.in_ok-examined.ensures.valid);
+}

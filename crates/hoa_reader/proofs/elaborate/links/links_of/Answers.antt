@@ -1,0 +1,63 @@
+use Rattle.std.proofs.Common.{◌≡◌, ◌++◌, ◌+◌, ◌<◌, ◌∙◌, List, ap, arith, length, map, subst, sym}
+use Rattle.std.proofs.lemmas.List.{map-append}
+use Rattle.aut_base.proofs.lists.Members.{all_passes_at}
+use Rattle.aut_base.specs.Automaton.{TreeEdge}
+use Rattle.aut_core.specs.Core.{edge_of}
+use Rattle.aut_core.specs.Links.{StandFor}
+use Rattle.hoa_parser.specs.Raw.{written_state}
+use Rattle.hoa_reader.proofs.labels.LinkedEdges.{edges_of_none, edges_of_one, holds_there}
+use Rattle.hoa_reader.proofs.labels.StatePlaces.{found}
+use Rattle.hoa_reader.specs.Validity.{marks_below}
+use Rattle.hoa_reader.specs.inner.TreeEdges.{HasLabelsBelow, edges_for, settled, tree_edges_for}
+use Rattle.hoa_reader.proofs.elaborate.links.links_of.Goals as goal
+
+pub add_links-requires-clause-marks : goal.add_links-requires-clause-marks
+add_links-requires-clause-marks c =
+    let ws = map written_state c.args.states.now in
+    let items = c.in_ok-places.places.items in
+    let within : c.numbers.number < length items = grind (arith, c.numbers-test.true, c.len-number-end.ensures) in
+    let at = found c.args.states.now items c.args.count c.numbers.number c.in-Some.place c.index.result.now c.index-states-place.result
+    c.in_ok-places.ensures.len c.in_ok-places.ensures.place
+    within c.index.ensures c.in-Some.is c.index-states-place.is in
+    ap (marks_below c.args.shared.now.sets) at.is
+    ∙ all_passes_at (marks_below c.args.shared.now.sets) ws c.in-Some.place at.one.state at.one.there c.requires.marks
+
+pub add_links-requires-clause-below : goal.add_links-requires-clause-below
+add_links-requires-clause-below c =
+    let x = c.args.shared.now in
+    let ws = map written_state c.args.states.now in
+    let items = c.in_ok-places.places.items in
+    let within : c.numbers.number < length items = grind (arith, c.numbers-test.true, c.len-number-end.ensures) in
+    let at = found c.args.states.now items c.args.count c.numbers.number c.in-Some.place c.index.result.now c.index-states-place.result
+    c.in_ok-places.ensures.len c.in_ok-places.ensures.place
+    within c.index.ensures c.in-Some.is c.index-states-place.is in
+    subst (λ m. HasLabelsBelow x m (written_state c.index-states-place.result)) (sym c.numbers.invariant.names)
+    (subst (HasLabelsBelow x c.args.guards.now.names) (sym at.is)
+    (holds_there ws c.numbers.number c.in-Some.place (HasLabelsBelow x c.args.guards.now.names) at.one c.requires.below))
+
+pub numbers-preserved : goal.numbers-preserved
+numbers-preserved c =
+    let x = c.args.shared.now in
+    let m = c.args.guards.now.names in
+    let ws = map written_state c.args.states.now in
+    let n = c.numbers.number in
+    let items = c.in_ok-places.places.items in
+    let within : n < length items = grind (arith, c.numbers-test.true, c.len-number-end.ensures) in
+    let at = found c.args.states.now items c.args.count n c.in-Some.place c.index.result.now c.index-states-place.result c.in_ok-places.ensures.len
+    c.in_ok-places.ensures.place
+    within c.index.ensures c.in-Some.is c.index-states-place.is in
+    let old = c.numbers.guards.names in
+    let more : map (settled m) (edges_for x ws (n + 1)) ≡ map (settled m) (edges_for x ws n) ++ map (settled m)
+    (tree_edges_for x (written_state c.index-states-place.result)) =
+    ap (map (settled m)) (edges_of_one x ws n c.in-Some.place at.one) ∙ (map-append (settled m) (edges_for x ws n) (tree_edges_for x at.one.state)
+    ∙ ap (λ s. map (settled m) (edges_for x ws n) ++ map (settled m) (tree_edges_for x s)) (sym at.is)) in
+    let all : map (edge_of c.numbers.guards) c.numbers.links ++ map (settled old) (tree_edges_for x (written_state c.index-states-place.result)) ≡ map
+    (settled m) (edges_for x ws (n + 1)) =
+    ap (λ es. es ++ map (settled old) (tree_edges_for x (written_state c.index-states-place.result))) c.numbers.invariant.stand.edges
+    ∙ (ap (λ k. map (settled m) (edges_for x ws n) ++ map (settled k) (tree_edges_for x (written_state c.index-states-place.result)))
+    c.numbers.invariant.names ∙ sym more) in
+    record {
+      names = c.add_links.ensures.names
+          ∙ c.numbers.invariant.names;
+      stand = subst (StandFor c.add_links.new.guards c.add_links.new.links) all c.in_ok-add_links.ensures.stand;
+    }

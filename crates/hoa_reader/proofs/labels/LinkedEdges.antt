@@ -1,0 +1,65 @@
+-- Links that are made edge by edge, where it is known which edges are still to come.
+use Rattle.std.proofs.Common.{◌≡◌, ◌++◌, ◌∷◌, ◌∙◌, ◌+◌, ◌<◌, ◌≤◌, [], ℕ, List, All, ap, drop, get_or, length, map, subst, sym}
+use Rattle.std.proofs.lemmas.List.{append-nil, append_assoc, drop_all}
+use Rattle.std.proofs.lemmas.Option.{get_or_from_slice_get, slice_get_within}
+use Rattle.std.specs.List.{enumerate_from}
+use Rattle.std.specs.Prelude.{flat_map}
+use Rattle.aut_base.proofs.lists.Lists.{drop-at}
+use Rattle.aut_base.specs.Automaton.{TreeEdge}
+use Rattle.aut_core.proofs.Following.{stand_itself, stand_kept, stand_push}
+use Rattle.aut_core.specs.Core.{edge_of}
+use Rattle.aut_core.specs.Links.{StandFor}
+use Rattle.aut_core.specs.declared.link.Link.{Link}
+use Rattle.hoa_parser.specs.Raw.{WrittenEdge, WrittenState, written_edge, written_state}
+use Rattle.hoa_parser.specs.declared.raw.RawEdge.{RawEdge}
+use Rattle.hoa_parser.specs.declared.raw.RawState.{RawState}
+use Rattle.hoa_reader.proofs.labels.StatePlaces.{edges_more}
+use Rattle.hoa_reader.specs.declared.elaborate.edges.Shared.{Shared}
+use Rattle.hoa_reader.specs.inner.TreeEdges.{IsDefinedAt, edges_for, states_at, tree_edge_for, tree_edges_for}
+use Rattle.label_guards.specs.Store.{Has, Keeps, Store}
+
+-- the edges of a state from this one on
+abbrev pub edges_from : Shared → RawState → ℕ → List TreeEdge
+edges_from x state i = map (λ (p : ℕ × WrittenEdge). tree_edge_for x (written_state state) p.0 p.1) (enumerate_from i (map written_edge (drop i state.edges)))
+
+pub next_edge : (x : Shared) (state : RawState) (edges : List RawEdge) (i : ℕ) (edge : RawEdge) → edges ≡ state.edges → i < length edges
+    → edge ≡ get_or edges i edge
+    → edges_from x state i ≡ tree_edge_for x (written_state state) i (written_edge edge) ∷ edges_from x state (i + 1)
+next_edge x state edges i edge same within is =
+    ap (λ (es : List RawEdge). map (λ (p : ℕ × WrittenEdge). tree_edge_for x (written_state state) p.0 p.1) (enumerate_from i (map written_edge es)))
+    (subst (λ (es : List RawEdge). drop i es ≡ edge ∷ drop (i + 1) es) same (drop-at edges i edge within is))
+
+pub no_edge : (x : Shared) (state : RawState) (edges : List RawEdge) (i : ℕ) → edges ≡ state.edges → length edges ≤ i → edges_from x state i ≡ []
+no_edge x state edges i same past =
+    ap (λ (es : List RawEdge). map (λ (p : ℕ × WrittenEdge). tree_edge_for x (written_state state) p.0 p.1) (enumerate_from i (map written_edge es)))
+    (subst (λ (es : List RawEdge). drop i es ≡ []) same (drop_all i edges past))
+
+-- the links so far have guards of the store, and with those of the rest they stand for all edges
+pub record AreOnTheWay (s : Store) (links : List Link) (rest all : List TreeEdge) : Type 0 where
+  pub has : All (λ l. Has s l.guard) links
+  pub edges : map (edge_of s) links ++ rest ≡ all
+
+pub link_more : (s t : Store) (old new : List Link) (l : Link) (e : TreeEdge) (rest all : List TreeEdge) → AreOnTheWay s old (e ∷ rest) all → Keeps s t
+    → Has t l.guard → edge_of t l ≡ e
+    → new ≡ old ++ l ∷ [] → AreOnTheWay t new rest all
+link_more s t old new l e rest all way keeps has is pushed =
+    let stand : StandFor t new (map (edge_of s) old ++ e ∷ []) =
+    stand_push t old new l (map (edge_of s) old) e (stand_kept s t old (map (edge_of s) old) keeps (stand_itself s old way.has)) has is pushed in
+    record { has = stand.has; edges = ap (λ es. es ++ rest) stand.edges ∙ (append_assoc (map (edge_of s) old) (e ∷ []) rest ∙ way.edges) }
+
+pub all_linked : (s : Store) (links : List Link) (all : List TreeEdge) → AreOnTheWay s links [] all → StandFor s links all
+all_linked s links all way = record { has = way.has; edges = sym (append-nil (map (edge_of s) links)) ∙ way.edges }
+
+-- what holds of each state holds of the one that is defined at this place
+pub holds_there : (ws : List WrittenState) (n place : ℕ) (P : WrittenState → Type 0) (one : IsDefinedAt ws n place) → All P ws → P one.state
+holds_there ws n place P one all =
+    subst P (get_or_from_slice_get ws place one.state one.state one.there) (all place one.state (slice_get_within ws place one.state one.there))
+
+-- a state that isn't defined has no edges
+pub edges_of_none : (x : Shared) (ws : List WrittenState) (n : ℕ) → states_at ws n ≡ [] → edges_for x ws (n + 1) ≡ edges_for x ws n
+edges_of_none x ws n none = edges_more x ws n ∙ (ap (λ ss. edges_for x ws n ++ flat_map (tree_edges_for x) ss) none ∙ append-nil (edges_for x ws n))
+
+pub edges_of_one : (x : Shared) (ws : List WrittenState) (n place : ℕ) (one : IsDefinedAt ws n place)
+    → edges_for x ws (n + 1) ≡ edges_for x ws n ++ tree_edges_for x one.state
+edges_of_one x ws n place one =
+    edges_more x ws n ∙ ap (λ es. edges_for x ws n ++ es) (ap (flat_map (tree_edges_for x)) one.alone ∙ append-nil (tree_edges_for x one.state))

@@ -1,0 +1,39 @@
+-- What was read, once it is known to keep the rules and to be within the limits, and what of it is no edge.
+use Rattle.std.specs.Prelude.{◌≡◌, length, Result, Ok, Err}
+use Rattle.aut_base.specs.Formula.{formula_tree}
+use Rattle.hoa_parser.specs.Raw.{Written}
+use Rattle.hoa_reader.specs.Counts.{PassesNone}
+use Rattle.hoa_reader.specs.Described.{meanings_of, starts_of, state_count}
+use Rattle.hoa_reader.specs.Elaborating.{PassesLimit}
+use Rattle.hoa_reader.specs.Validity.{IsFirstBroken, IsValid, acceptance_of, names_of}
+use Rattle.hoa_reader.specs.declared.elaborate.ElabFault.{ElabFault}
+use Rattle.hoa_reader.specs.declared.elaborate.ElabFault.TheVariants as fault
+use Rattle.hoa_reader.specs.declared.elaborate.examined.Examined.{Examined}
+use Rattle.hoa_reader.specs.declared.elaborate.frame.Frame.{Frame}
+use Rattle.hoa_reader.specs.inner.Gathered.{ArePartsOf}
+use Rattle.hoa_reader.specs.inner.Growing.{AreKnown, meanings_by}
+use Rattle.hoa_reader.specs.inner.TreeEdges.{HasKnown}
+
+-- It is valid and within the limits, and these are its parts.
+pub record IsExamined (w : Written) (e : Examined) : Type 0 where
+  pub valid : IsValid w
+  pub within : PassesNone w
+  pub parts : ArePartsOf w e.parts
+  pub known : AreKnown (meanings_by e.parts.defs.items) e.parts.defs.items e.known
+
+abbrev pub Examines : Result Examined ElabFault → Written → Type 0
+Examines (Ok e) w = IsExamined w e
+Examines (Err (fault.Invalid rule)) w = IsFirstBroken rule w
+Examines (Err (fault.Limit which)) w = PassesLimit which w
+Examines (Err fault.Memory) w = Unit {0}
+
+-- all that is described but for the edges, and what these share
+pub record IsFrameOf (w : Written) (f : Frame) : Type 0 where
+  pub names : f.names ≡ names_of w
+  pub starts : f.starts ≡ starts_of w
+  pub states : f.states ≡ state_count w
+  pub formula : formula_tree f.formula ≡ (acceptance_of w).formula
+  pub count : f.shared.names ≡ length (names_of w)
+  pub sets : f.shared.sets ≡ (acceptance_of w).sets
+  pub meanings : meanings_by f.shared.defs.items ≡ meanings_of w
+  pub known : HasKnown f.shared

@@ -1,0 +1,126 @@
+//! The edges of the described automaton, with guards in place of labels.
+
+ghost use Rattle.std.specs.Prelude.{◌≡◌, ◌==◌, ◌++◌, All, true, map, IfOk, OnOk};
+ghost use Rattle.std.specs.List.{list_all};
+ghost use Rattle.aut_base.specs.CanonicalLabel.{canonical_label};
+ghost use Rattle.aut_base.specs.Label.{AllBelow, label_tree};
+ghost use Rattle.aut_core.specs.Core.{edge_of};
+ghost use Rattle.aut_core.specs.Links.{StandFor};
+ghost use Rattle.hoa_parser.specs.Raw.{written_edge, written_state};
+ghost use Rattle.hoa_reader.specs.Validity.{all_differ, marks_below, numbers_below};
+ghost use Rattle.hoa_reader.specs.inner.Pieces.{numbers};
+ghost use Rattle.hoa_reader.specs.inner.TreeEdges.{HasKnown, HasLabelsBelow, edges_for, label_for, settled, tree_edge_for, tree_edges_for};
+ghost use Rattle.label_guards.specs.Store.{Has, Keeps, label_in};
+
+use crate::elaborate::edges::{Shared, label_of, marks_of, places_of};
+use crate::elaborate::sizes::count_of_edges;
+use crate::elaborate::starts::only_state;
+use aut_base::{Label, Memory};
+use aut_core::{Link, Links};
+use hoa_parser::{RawEdge, RawState};
+use label_guards::{Guard, Guards};
+use std::alloc::Global;
+
+/// The guard of this label, which is let go.
+fn guard_taken(guards: &mut Guards, label: Label) -> Result<Guard, Memory>
+    requires { AllBelow guards.old.names (label_tree label) }
+    ensures keeps { Keeps guards.old guards.new }
+    ensures has { IfOk result (Has guards.new) }
+    ensures label { IfOk result (λ new. label_in guards.new new ≡ canonical_label guards.old.names (label_tree label)) }
+{
+    guards.of_label(&label)
+}
+
+/// The guard of the edge that stands at this place in its state.
+fn guard_of<'a>(
+    alloc: Global,
+    guards: &mut Guards,
+    shared: &Shared<'a>,
+    state: &'a RawState,
+    edge: &'a RawEdge,
+    letter: u64,
+) -> Result<Guard, Memory>
+    requires known { HasKnown shared.now }
+    requires below { AllBelow guards.old.names (label_for shared.now (written_state state.now) letter (written_edge edge.now)) }
+    ensures keeps { Keeps guards.old guards.new }
+    ensures has { IfOk result (Has guards.new) }
+    ensures label { IfOk result (λ new. label_in guards.new new ≡ canonical_label guards.old.names (label_for shared.now (written_state state.now) letter (written_edge edge.now))) }
+{
+    let label = label_of(alloc, shared, state, edge, letter)?;
+    guard_taken(guards, label)
+}
+
+/// The edge that stands at this place in its state, under its guard.
+fn link_of<'a>(
+    alloc: Global,
+    guards: &mut Guards,
+    shared: &Shared<'a>,
+    state: &'a RawState,
+    edge: &'a RawEdge,
+    letter: u64,
+) -> Result<Link, Memory>
+    requires known { HasKnown shared.now }
+    requires below { AllBelow guards.old.names (label_for shared.now (written_state state.now) letter (written_edge edge.now)) }
+    requires own { numbers_below shared.now.sets state.now.marks ≡ true }
+    requires marks { numbers_below shared.now.sets edge.now.marks ≡ true }
+    ensures keeps { Keeps guards.old guards.new }
+    ensures has { IfOk result (λ new. Has guards.new new.guard) }
+    ensures edge { IfOk result (λ new. edge_of guards.new new ≡ settled guards.old.names (tree_edge_for shared.now (written_state state.now) letter (written_edge edge.now))) }
+{
+    Ok(Link {
+        from: state.number,
+        guard: guard_of(alloc, guards, shared, state, edge, letter)?,
+        to: only_state(&edge.to),
+        marks: marks_of(alloc, shared.sets, state, edge)?,
+    })
+}
+
+/// Adds the edges of the state.
+fn add_links<'a>(
+    alloc: Global,
+    guards: &mut Guards,
+    links: &mut Links,
+    shared: &Shared<'a>,
+    state: &'a RawState,
+) -> Result<(), Memory>
+    requires known { HasKnown shared.now }
+    requires marks { marks_below shared.now.sets (written_state state.now) ≡ true }
+    requires below { HasLabelsBelow shared.now guards.old.names (written_state state.now) }
+    requires has { All (λ l. Has guards.old l.guard) links.old }
+    ensures names { guards.new.names ≡ guards.old.names }
+    ensures stand { OnOk result (StandFor guards.new links.new (map (edge_of guards.old) links.old ++ map (settled guards.old.names) (tree_edges_for shared.now (written_state state.now)))) }
+{
+    let mut letter = 0;
+    'written: for edge in state.edges.as_slice() {
+        let new = link_of(alloc, guards, shared, state, edge, letter)?;
+        links.push(new)?;
+        letter += 1;
+    }
+    Ok(())
+}
+
+/// The edges, in the order of the states that they leave.
+pub(crate) fn links_of<'a>(
+    alloc: Global,
+    guards: &mut Guards,
+    shared: &Shared<'a>,
+    states: &'a [RawState],
+    count: u32,
+) -> Result<Links, Memory>
+    requires known { HasKnown shared.now }
+    requires differ { all_differ ◌==◌ (numbers (map written_state states.now)) ≡ true }
+    requires marks { list_all (marks_below shared.now.sets) (map written_state states.now) ≡ true }
+    requires below { All (HasLabelsBelow shared.now guards.old.names) (map written_state states.now) }
+    ensures names { guards.new.names ≡ guards.old.names }
+    ensures stand { IfOk result (λ links. StandFor guards.new links (map (settled guards.old.names) (edges_for shared.now (map written_state states.now) count))) }
+{
+    let places = places_of(alloc, states, count)?;
+    let mut links = Links::from_vec(Vec::with_capacity(alloc, count_of_edges(states))?);
+    'numbers: for number in 0..places.len() {
+        let Some(place) = places[number] else {
+            continue;
+        };
+        add_links(alloc, guards, &mut links, shared, &states[place])?;
+    }
+    Ok(links)
+}
