@@ -1,5 +1,5 @@
 -- An automaton that was read, with labels in canonical form.
-use Rattle.std.proofs.Common.{◌≡◌, ◌≤◌, List, sym, ap, ◌∙◌, subst}
+use Rattle.std.proofs.Common.{◌≡◌, List, refl, sym, ap, ◌∙◌, subst}
 use Rattle.std.specs.Prelude.{◌↔◌}
 use Rattle.std.proofs.lemmas.Bool.{ltb-false}
 use Rattle.aut_base.proofs.canonical.CanonicalAutomata.{canonical_accepts_the_same, labels_below}
@@ -7,14 +7,26 @@ use Rattle.aut_base.specs.Acceptance.{Accepts}
 use Rattle.aut_base.specs.Automaton.{Automaton}
 use Rattle.aut_base.specs.CanonicalLabel.{canonical}
 use Rattle.aut_base.specs.Word.{NameSet}
-use Rattle.aut_base.specs.declared.limit.TheConstants.{MOST_SETS}
+use Rattle.aut_base.specs.declared.limit.TheConstants.{MOST_SETS, MOST_STATES}
 use Rattle.autfilt_run.specs.inner.Taking.{IsReadAs}
 use Rattle.hoa_parser.specs.Raw.{Written}
-use Rattle.hoa_reader.specs.Counts.{PassesNone, Sets, count_of}
+use Rattle.hoa_reader.specs.Counts.{Sets, States, count_of}
 use Rattle.hoa_reader.specs.Described as reader
+use Rattle.hoa_reader.specs.Elaborating.{IsBuilt}
+use Rattle.plan_meaning.specs.Operands.{IsOfReadSize}
 
-sets_of : (w : Written) → PassesNone w → (reader.described w).sets ≤ MOST_SETS
-sets_of w within = ltb-false MOST_SETS (count_of Sets w) within.1.0
+-- the one that is built is the one that is read
+pub read_as : (w : Written) (core : Automaton) → IsBuilt w core → IsReadAs w core
+read_as w core built = record {
+  valid = built.valid;
+  within = built.within;
+  described = reader.described w;
+  is = built.same;
+  same = refl;
+  formed = built.formed;
+  size = subst IsOfReadSize (sym built.same)
+      (record { states = ltb-false MOST_STATES (count_of States w) built.within.1.1.0; sets = ltb-false MOST_SETS (count_of Sets w) built.within.1.0 });
+}
 
 -- it is the one in canonical form
 pub core_is : (w : Written) (core : Automaton) → IsReadAs w core → core ≡ canonical (reader.described w)

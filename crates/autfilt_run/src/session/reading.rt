@@ -134,7 +134,7 @@ impl Session {
                 Ok(Turn::Skipped)
             }
             Front::Whole(raw) => {
-                if handle(alloc, &self.plan, &self.operands, complements, &raw, out)? {
+                if handle(alloc, &self.plan, &self.operands, complements, raw, out)? {
                     self.kept += 1;
                     Ok(Turn::Kept)
                 } else {
