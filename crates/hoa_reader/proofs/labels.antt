@@ -1,6 +1,7 @@
 -- Labels, aliases, states and marks, one after the other.
 pub mod AliasNames
 pub mod ExpandedLabels
+pub mod LetterTruth
 pub mod LinkedEdges
 pub mod MarksBelow
 pub mod Meanings

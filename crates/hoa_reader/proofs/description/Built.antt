@@ -1,5 +1,5 @@
 -- The parts of the automaton that is built.
-use Rattle.std.proofs.Common.{◌≡◌, ◌≤◌, ◌∙◌, ℕ, List, All, ap, arith, length, map, subst, sym}
+use Rattle.std.proofs.Common.{◌≡◌, ◌≤◌, ◌∙◌, ℕ, List, ap, arith, length, map, subst, sym}
 use Rattle.std.proofs.lemmas.Bool.{ltb-false}
 use Rattle.aut_base.proofs.canonical.LabelLaws.{canonical_accepts_the_same}
 use Rattle.aut_base.specs.Automaton.{IsWellFormed}
@@ -7,7 +7,7 @@ use Rattle.aut_base.specs.CanonicalLabel.{canonical}
 use Rattle.aut_base.specs.Formula.{formula_tree}
 use Rattle.aut_base.specs.declared.limit.TheConstants.{MOST_NAMES}
 use Rattle.aut_core.proofs.Made.{parts_from}
-use Rattle.aut_core.specs.Core.{AreParts, Core, automaton_of, edge_of}
+use Rattle.aut_core.specs.Core.{AreParts, Core, automaton_of}
 use Rattle.aut_core.specs.Links.{StandFor}
 use Rattle.aut_core.specs.declared.link.Link.{Link}
 use Rattle.hoa_parser.specs.Raw.{Written, WrittenState}
@@ -19,7 +19,7 @@ use Rattle.hoa_reader.specs.Validity.{IsValid, names_of}
 use Rattle.hoa_reader.specs.declared.elaborate.frame.Frame.{Frame}
 use Rattle.hoa_reader.specs.inner.Examined.{IsFrameOf}
 use Rattle.hoa_reader.specs.inner.TreeEdges.{edges_for, settled}
-use Rattle.label_guards.specs.Store.{Has, Store}
+use Rattle.label_guards.specs.Store.{Store}
 
 pub few_names : (w : Written) → PassesNone w → length (names_of w) ≤ MOST_NAMES
 few_names w within = ltb-false MOST_NAMES (length (names_of w)) within.0

@@ -9,7 +9,7 @@ use Rattle.aut_base.specs.Label.{AllBelow}
 use Rattle.hoa_parser.specs.Raw.{Written, WrittenEdge, WrittenState}
 use Rattle.hoa_reader.proofs.description.WellFormed.{valid_labels}
 use Rattle.hoa_reader.specs.Described.{Meaning, below, edges_of, expanded, letter_label, marks_in_order, meanings_of, only_state}
-use Rattle.hoa_reader.specs.Validity.{IsValid, acceptance_of, marks_below, names_of}
+use Rattle.hoa_reader.specs.Validity.{IsValid, marks_below, names_of}
 use Rattle.hoa_reader.specs.declared.elaborate.frame.Frame.{Frame}
 use Rattle.hoa_reader.specs.inner.Examined.{IsFrameOf}
 use Rattle.hoa_reader.specs.inner.TreeEdges.{HasLabelsBelow, edges_for}

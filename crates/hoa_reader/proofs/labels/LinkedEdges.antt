@@ -15,7 +15,7 @@ use Rattle.hoa_parser.specs.declared.raw.RawEdge.{RawEdge}
 use Rattle.hoa_parser.specs.declared.raw.RawState.{RawState}
 use Rattle.hoa_reader.proofs.labels.StatePlaces.{edges_more}
 use Rattle.hoa_reader.specs.declared.elaborate.edges.Shared.{Shared}
-use Rattle.hoa_reader.specs.inner.TreeEdges.{IsDefinedAt, edges_for, states_at, tree_edge_for, tree_edges_for}
+use Rattle.hoa_reader.specs.inner.TreeEdges.{IsDefinedAt, edges_for, tree_edge_for, tree_edges_for}
 use Rattle.label_guards.specs.Store.{Has, Keeps, Store}
 
 -- the edges of a state from this one on
@@ -54,10 +54,6 @@ all_linked s links all way = record { has = way.has; edges = sym (append-nil (ma
 pub holds_there : (ws : List WrittenState) (n place : ℕ) (P : WrittenState → Type 0) (one : IsDefinedAt ws n place) → All P ws → P one.state
 holds_there ws n place P one all =
     subst P (get_or_from_slice_get ws place one.state one.state one.there) (all place one.state (slice_get_within ws place one.state one.there))
-
--- a state that isn't defined has no edges
-pub edges_of_none : (x : Shared) (ws : List WrittenState) (n : ℕ) → states_at ws n ≡ [] → edges_for x ws (n + 1) ≡ edges_for x ws n
-edges_of_none x ws n none = edges_more x ws n ∙ (ap (λ ss. edges_for x ws n ++ flat_map (tree_edges_for x) ss) none ∙ append-nil (edges_for x ws n))
 
 pub edges_of_one : (x : Shared) (ws : List WrittenState) (n place : ℕ) (one : IsDefinedAt ws n place)
     → edges_for x ws (n + 1) ≡ edges_for x ws n ++ tree_edges_for x one.state

@@ -33,7 +33,7 @@ pub(crate) struct Shared<'a> {
 
 /// The label that is written for an edge of this state: the state's if it has one, else the edge's own.
 #[inline]
-fn label_written<'a>(state: &'a RawState, edge: &'a RawEdge) -> Option<&'a RawLabel>
+pub(crate) fn label_written<'a>(state: &'a RawState, edge: &'a RawEdge) -> Option<&'a RawLabel>
     ensures { option_map label_refs result ≡ label_written (written_state state.now) (written_edge edge.now) }
 {
     match &state.label {

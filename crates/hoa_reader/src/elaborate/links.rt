@@ -12,7 +12,7 @@ ghost use Rattle.hoa_reader.specs.inner.Pieces.{numbers};
 ghost use Rattle.hoa_reader.specs.inner.TreeEdges.{HasKnown, HasLabelsBelow, edges_for, label_for, settled, tree_edge_for, tree_edges_for};
 ghost use Rattle.label_guards.specs.Store.{Has, Keeps, label_in};
 
-use crate::elaborate::edges::{Shared, label_of, marks_of, places_of};
+use crate::elaborate::edges::{Shared, label_of, label_written, marks_of, places_of};
 use crate::elaborate::sizes::count_of_edges;
 use crate::elaborate::starts::only_state;
 use aut_base::{Label, Memory};
@@ -31,7 +31,8 @@ fn guard_taken(guards: &mut Guards, label: Label) -> Result<Guard, Memory>
     guards.of_label(&label)
 }
 
-/// The guard of the edge that stands at this place in its state.
+/// The guard of the edge that stands at this place in its state. Where no label is written it is made from the letter's number,
+/// without a label.
 fn guard_of<'a>(
     alloc: Global,
     guards: &mut Guards,
@@ -41,11 +42,15 @@ fn guard_of<'a>(
     letter: u64,
 ) -> Result<Guard, Memory>
     requires known { HasKnown shared.now }
+    requires names { guards.old.names ≡ shared.now.names }
     requires below { AllBelow guards.old.names (label_for shared.now (written_state state.now) letter (written_edge edge.now)) }
     ensures keeps { Keeps guards.old guards.new }
     ensures has { IfOk result (Has guards.new) }
     ensures label { IfOk result (λ new. label_in guards.new new ≡ canonical_label guards.old.names (label_for shared.now (written_state state.now) letter (written_edge edge.now))) }
 {
+    if label_written(state, edge).is_none() {
+        return guards.of_number(letter);
+    }
     let label = label_of(alloc, shared, state, edge, letter)?;
     guard_taken(guards, label)
 }
@@ -60,6 +65,7 @@ fn link_of<'a>(
     letter: u64,
 ) -> Result<Link, Memory>
     requires known { HasKnown shared.now }
+    requires names { guards.old.names ≡ shared.now.names }
     requires below { AllBelow guards.old.names (label_for shared.now (written_state state.now) letter (written_edge edge.now)) }
     requires own { numbers_below shared.now.sets state.now.marks ≡ true }
     requires marks { numbers_below shared.now.sets edge.now.marks ≡ true }
@@ -84,6 +90,7 @@ fn add_links<'a>(
     state: &'a RawState,
 ) -> Result<(), Memory>
     requires known { HasKnown shared.now }
+    requires names { guards.old.names ≡ shared.now.names }
     requires marks { marks_below shared.now.sets (written_state state.now) ≡ true }
     requires below { HasLabelsBelow shared.now guards.old.names (written_state state.now) }
     requires has { All (λ l. Has guards.old l.guard) links.old }
@@ -108,6 +115,7 @@ pub(crate) fn links_of<'a>(
     count: u32,
 ) -> Result<Links, Memory>
     requires known { HasKnown shared.now }
+    requires names { guards.old.names ≡ shared.now.names }
     requires differ { all_differ ◌==◌ (numbers (map written_state states.now)) ≡ true }
     requires marks { list_all (marks_below shared.now.sets) (map written_state states.now) ≡ true }
     requires below { All (HasLabelsBelow shared.now guards.old.names) (map written_state states.now) }

@@ -16,6 +16,9 @@ new-requires c =
     let count = c.in_ok-frame.ensures.count in
     omega (arith, few, count)
 
+pub links_of-requires-clause-names : goal.links_of-requires-clause-names
+links_of-requires-clause-names c = c.in_ok-guards.ensures.names
+
 pub links_of-requires-clause-marks : goal.links_of-requires-clause-marks
 links_of-requires-clause-marks c =
     let frame = c.in_ok-frame.frame in

@@ -1,4 +1,4 @@
-use Rattle.std.proofs.Common.{◌≡◌, ◌∙◌, true, List, ap, map}
+use Rattle.std.proofs.Common.{◌≡◌, ◌∙◌, List, ap, map}
 use Rattle.std.specs.List.{list_all}
 use Rattle.aut_base.specs.Automaton.{tree_edge}
 use Rattle.hoa_parser.specs.Raw.{written, written_state}

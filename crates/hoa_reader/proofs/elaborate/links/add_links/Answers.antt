@@ -9,6 +9,9 @@ use Rattle.hoa_reader.proofs.labels.MarksBelow.{edge_marks_below}
 use Rattle.hoa_reader.specs.inner.TreeEdges.{label_for, settled, tree_edge_for, tree_edges_for}
 use Rattle.hoa_reader.proofs.elaborate.links.add_links.Goals as goal
 
+pub link_of-requires-clause-names : goal.link_of-requires-clause-names
+link_of-requires-clause-names c = c.written.invariant.names ∙ c.requires.names
+
 pub link_of-requires-clause-marks : goal.link_of-requires-clause-marks
 link_of-requires-clause-marks c =
     edge_marks_below c.args.shared.now.sets c.args.state.now c.as_slice-edge-items.result.now c.written.edge-index c.edge-item.result c.requires.marks

@@ -1,8 +1,35 @@
-use Rattle.std.proofs.Common.{◌∙◌, ap, subst, sym}
+use Rattle.std.proofs.Common.{◌≡◌, ◌∙◌, Option, None, Some, ap, refl, subst, sym, true}
+use Rattle.std.proofs.lemmas.Bool.{false≢true}
 use Rattle.std.proofs.lemmas.Result.{IfOk-weaker}
+use Rattle.std.specs.Option.{option_map}
+use Rattle.std.specs.Prelude.{is_none}
 use Rattle.aut_base.specs.CanonicalLabel.{canonical_label}
-use Rattle.aut_base.specs.Label.{AllBelow}
+use Rattle.aut_base.specs.Label.{AllBelow, truth}
+use Rattle.hoa_parser.specs.Raw.{written_edge, written_state}
+use Rattle.hoa_reader.proofs.labels.LetterTruth.{letter_truth}
+use Rattle.hoa_reader.proofs.labels.WrittenLabels.{has_none}
+use Rattle.hoa_reader.specs.inner.Pieces.{label_refs}
+use Rattle.hoa_reader.specs.inner.TreeEdges.{label_for}
+use Rattle.label_guards.specs.Numbers.{is_at}
 use Rattle.hoa_reader.proofs.elaborate.links.guard_of.Goals as goal
+
+nothing : {A : Type 0} (o : Option A) → is_none o ≡ true → o ≡ None
+nothing None is = refl
+nothing (Some x) is = absurd (false≢true is)
+
+pub returns-then-is_none-clause-has : goal.returns-then-is_none-clause-has
+returns-then-is_none-clause-has c = IfOk-weaker c.of_number.result _ _ (λ g is. is.has) c.of_number.ensures.guard
+
+pub returns-then-is_none-clause-label : goal.returns-then-is_none-clause-label
+returns-then-is_none-clause-label c =
+    let x = c.args.shared.now in
+    let s = written_state c.args.state.now in
+    let e = written_edge c.args.edge.now in
+    let none = nothing c.label_written.result (sym c.is_none.ensures ∙ c.if-is_none.true) in
+    let due = has_none x s c.args.letter e (sym c.label_written.ensures ∙ ap (option_map label_refs) none) in
+    IfOk-weaker c.of_number.result _ _
+    (λ g is. is (label_for x s c.args.letter e)
+    (λ on. ap (truth on) (sym due) ∙ (letter_truth c.args.letter x.names on ∙ ap (λ n. is_at c.args.letter n on) (sym c.requires.names)))) c.of_number.ensures.label
 
 pub guard_taken-requires : goal.guard_taken-requires
 guard_taken-requires c = subst (AllBelow c.args.guards.now.names) (sym c.in_ok-label.ensures) c.requires.below

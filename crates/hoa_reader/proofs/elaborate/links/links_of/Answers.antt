@@ -1,15 +1,17 @@
-use Rattle.std.proofs.Common.{◌≡◌, ◌++◌, ◌+◌, ◌<◌, ◌∙◌, List, ap, arith, length, map, subst, sym}
+use Rattle.std.proofs.Common.{◌≡◌, ◌++◌, ◌+◌, ◌<◌, ◌∙◌, ap, arith, length, map, subst, sym}
 use Rattle.std.proofs.lemmas.List.{map-append}
 use Rattle.aut_base.proofs.lists.Members.{all_passes_at}
-use Rattle.aut_base.specs.Automaton.{TreeEdge}
 use Rattle.aut_core.specs.Core.{edge_of}
 use Rattle.aut_core.specs.Links.{StandFor}
 use Rattle.hoa_parser.specs.Raw.{written_state}
-use Rattle.hoa_reader.proofs.labels.LinkedEdges.{edges_of_none, edges_of_one, holds_there}
+use Rattle.hoa_reader.proofs.labels.LinkedEdges.{edges_of_one, holds_there}
 use Rattle.hoa_reader.proofs.labels.StatePlaces.{found}
 use Rattle.hoa_reader.specs.Validity.{marks_below}
 use Rattle.hoa_reader.specs.inner.TreeEdges.{HasLabelsBelow, edges_for, settled, tree_edges_for}
 use Rattle.hoa_reader.proofs.elaborate.links.links_of.Goals as goal
+
+pub add_links-requires-clause-names : goal.add_links-requires-clause-names
+add_links-requires-clause-names c = c.numbers.invariant.names ∙ c.requires.names
 
 pub add_links-requires-clause-marks : goal.add_links-requires-clause-marks
 add_links-requires-clause-marks c =
