@@ -249,7 +249,7 @@ fn steps_from(
     Ok(steps)
 }
 
-/// The bit of a set, of which there are few.
+/// The bit of a set, of which there are at most eight; behind them the bit that is greater than all of theirs.
 fn bit(set: u32) -> u32 {
     match set {
         0 => 1,
@@ -259,6 +259,7 @@ fn bit(set: u32) -> u32 {
         4 => 16,
         5 => 32,
         6 => 64,
-        _ => 128,
+        7 => 128,
+        _ => 256,
     }
 }
