@@ -87,6 +87,12 @@ EMERSON_LEI = [
 FOUR_SETS = EMERSON_LEI + ['Inf(0) & Inf(1) & Inf(2) & Inf(3)', '(Inf(0) & Inf(1)) | (Inf(2) & Fin(3))']
 
 
+def implicit(count):
+    """One state with an edge for each letter over so many names, and no label written."""
+    text = automaton(1, names(count), '0 t', []).replace('trans-labels explicit-labels', 'trans-labels implicit-labels')
+    return text.replace('State: 0\n', 'State: 0\n' + '0\n' * 2 ** count)
+
+
 def line(states):
     return automaton(states, ['a'], '1 Inf(0)', [(q, '0', q + 1, []) for q in range(states - 1)])
 
@@ -181,6 +187,7 @@ def main():
     write(folder, 'canonical.hoa', map(canonical, range(300)))
     write(folder, 'small.hoa', map(small, range(3000)))
     write(folder, 'loops.hoa', [loops(100000)])
+    write(folder, 'implicit.hoa', [implicit(19)])
     emerson_lei = [literals(EMERSON_LEI, 4, 0.15) for _ in range(20000)]
     write(folder, 'emerson-lei.hoa', emerson_lei)
     write(folder, 'emerson-lei-2000.hoa', emerson_lei[:2000])

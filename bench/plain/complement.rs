@@ -33,7 +33,7 @@ impl Compared {
 }
 
 /// Whether both accept no word together. Takes the labels of the first for a while.
-fn are_apart(a: &mut Automaton, b: &Automaton) -> Result<bool, Fault> {
+pub fn are_apart(a: &mut Automaton, b: &Automaton) -> Result<bool, Fault> {
     let mut made = product(a, b)?;
     let answer = is_empty(&made);
     a.labels = std::mem::take(&mut made.labels);

@@ -79,6 +79,14 @@ impl Labels {
         self.node(var, FALSE, TRUE)
     }
 
+    /// The label that is true at one letter alone, bit k of whose number tells of proposition k.
+    pub fn letter(&mut self, vars: u32, number: u64) -> Label {
+        (0..vars).rev().fold(TRUE, |label, var| match number >> var & 1 {
+            0 => self.node(var, label, FALSE),
+            _ => self.node(var, FALSE, label),
+        })
+    }
+
     pub fn and(&mut self, a: Label, b: Label) -> Label {
         self.choose(a, b, FALSE)
     }

@@ -31,6 +31,7 @@ use std::process::ExitCode;
 #[derive(Default)]
 struct Plan {
     is_empty: bool,
+    intersect: Option<String>,
     included_in: Option<String>,
     equivalent_to: Option<String>,
     is_unambiguous: bool,
@@ -49,6 +50,7 @@ struct Plan {
 
 /// The first automata of the files that stand with options.
 struct Operands {
+    intersect: Option<Automaton>,
     included_in: Option<Compared>,
     equivalent_to: Option<Compared>,
     product: Option<Automaton>,
@@ -69,6 +71,7 @@ fn read_plan() -> Result<Plan, Fault> {
     let mut plan = Plan::default();
     for word in std::env::args().skip(1) {
         match word.split_once('=').unwrap_or((&word, "")) {
+            ("--intersect", file) => plan.intersect = Some(file.to_string()),
             ("--included-in", file) => plan.included_in = Some(file.to_string()),
             ("--equivalent-to", file) => plan.equivalent_to = Some(file.to_string()),
             ("--product", file) => plan.product = Some(file.to_string()),
@@ -92,6 +95,7 @@ fn read_plan() -> Result<Plan, Fault> {
 /// Reads all streams, and answers how many automata were kept.
 fn run(plan: &Plan) -> Result<u64, Fault> {
     let mut operands = Operands {
+        intersect: operand(&plan.intersect)?,
         included_in: operand(&plan.included_in)?.map(Compared::with),
         equivalent_to: operand(&plan.equivalent_to)?.map(Compared::with),
         product: operand(&plan.product)?,
@@ -136,6 +140,11 @@ fn open(name: &str) -> Result<Reader, Fault> {
 fn keeps(plan: &Plan, operands: &mut Operands, a: &mut Automaton) -> Result<bool, Fault> {
     if plan.is_empty && !emptiness::is_empty(a) {
         return Ok(false);
+    }
+    if let Some(other) = &operands.intersect {
+        if complement::are_apart(a, other)? {
+            return Ok(false);
+        }
     }
     if let Some(other) = &mut operands.included_in {
         if !other.includes(a)? {

@@ -1,5 +1,5 @@
-//! Automata read from a stream, one at a time: those with `States:`, with a label at each edge and none at a state, and
-//! without aliases and comments.
+//! Automata read from a stream, one at a time: those with `States:`, without a label at a state, and without aliases and
+//! comments.
 
 use crate::automaton::{Atom, Automaton, Condition, Join};
 use crate::bytes::{Bytes, Fault};
@@ -191,9 +191,10 @@ impl Reader {
             }
             on_state.clear();
             self.add_marks(&mut on_state)?;
-            while self.bytes.takes(b'[') {
-                let label = self.label()?;
-                self.bytes.take(b']')?;
+            let mut letter = 0;
+            while let Some(sign @ (b'[' | b'0'..=b'9')) = self.bytes.front() {
+                let label = self.label_of_edge(sign, letter)?;
+                letter += 1;
                 let to = self.below(self.made.states, 6)?;
                 marks.clone_from(&on_state);
                 self.add_marks(&mut marks)?;
@@ -214,6 +215,17 @@ impl Reader {
             marks.dedup();
         }
         Ok(())
+    }
+
+    /// The label that is written, or that of the letter of this number where none is.
+    fn label_of_edge(&mut self, sign: u8, letter: u64) -> Result<Label, Fault> {
+        if sign != b'[' {
+            return Ok(self.made.labels.letter(self.made.names.len() as u32, letter));
+        }
+        self.bytes.take(b'[')?;
+        let label = self.label()?;
+        self.bytes.take(b']')?;
+        Ok(label)
     }
 
     fn label(&mut self) -> Result<Label, Fault> {

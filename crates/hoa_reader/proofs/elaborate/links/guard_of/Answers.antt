@@ -1,8 +1,8 @@
-use Rattle.std.proofs.Common.{◌≡◌, ◌∙◌, Option, None, Some, ap, refl, subst, sym, true}
-use Rattle.std.proofs.lemmas.Bool.{false≢true}
+use Rattle.std.proofs.Common.{◌≡◌, ◌∙◌, Option, None, Some, ap, false, not, refl, subst, sym}
+use Rattle.std.proofs.lemmas.Bool.{true≢false}
 use Rattle.std.proofs.lemmas.Result.{IfOk-weaker}
 use Rattle.std.specs.Option.{option_map}
-use Rattle.std.specs.Prelude.{is_none}
+use Rattle.std.specs.Prelude.{is_some}
 use Rattle.aut_base.specs.CanonicalLabel.{canonical_label}
 use Rattle.aut_base.specs.Label.{AllBelow, truth}
 use Rattle.hoa_parser.specs.Raw.{written_edge, written_state}
@@ -13,9 +13,9 @@ use Rattle.hoa_reader.specs.inner.TreeEdges.{label_for}
 use Rattle.label_guards.specs.Numbers.{is_at}
 use Rattle.hoa_reader.proofs.elaborate.links.guard_of.Goals as goal
 
-nothing : {A : Type 0} (o : Option A) → is_none o ≡ true → o ≡ None
+nothing : {A : Type 0} (o : Option A) → is_some o ≡ false → o ≡ None
 nothing None is = refl
-nothing (Some x) is = absurd (false≢true is)
+nothing (Some x) is = absurd (true≢false is)
 
 pub returns-then-is_none-clause-has : goal.returns-then-is_none-clause-has
 returns-then-is_none-clause-has c = IfOk-weaker c.of_number.result _ _ (λ g is. is.has) c.of_number.ensures.guard
@@ -25,7 +25,7 @@ returns-then-is_none-clause-label c =
     let x = c.args.shared.now in
     let s = written_state c.args.state.now in
     let e = written_edge c.args.edge.now in
-    let none = nothing c.label_written.result (sym c.is_none.ensures ∙ c.if-is_none.true) in
+    let none = nothing c.label_written.result (c.is_none.ensures ∙ ap not c.if-is_none.true) in
     let due = has_none x s c.args.letter e (sym c.label_written.ensures ∙ ap (option_map label_refs) none) in
     IfOk-weaker c.of_number.result _ _
     (λ g is. is (label_for x s c.args.letter e)
