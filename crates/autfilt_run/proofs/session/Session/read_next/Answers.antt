@@ -51,8 +51,8 @@ returns-in_err-handle-in-Whole-clause-steps g c =
     steps_on c.from_residual-in_err-handle-in-Whole.result f c.args.self.now _ s t o o' c.from_residual-in_err-handle-in-Whole.ensures.1
     (not_handled f (written c.in-Whole.raw) c.args.self.now _ s t o o' (record { asks = c.requires.asks; is_open = c.requires.is_open }) refl whole moves c.in_err-handle-in-Whole.ensures.handles)
 
-pub returns-clause-steps : goal.returns-clause-steps
-returns-clause-steps g c =
+pub returns-else-branch-clause-steps : goal.returns-else-branch-clause-steps
+returns-else-branch-clause-steps g c =
     let s = g.I.Inputs.seen c.args.inputs.now in
     let t = g.I.Inputs.seen c.read_raw.new.inputs in
     let said = c.in_ok-read_raw.ensures in
