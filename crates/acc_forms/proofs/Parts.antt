@@ -77,6 +77,3 @@ pub below-at : (n : ℕ) (fs : List FormulaTree) (place : ℕ) (part : FormulaTr
 below-at n [] place part is below = absurd (none-some part is)
 below-at n (f ∷ fs) zero part is below = subst (SetsBelow n) (same_Some f part is) below.0
 below-at n (f ∷ fs) (suc place) part is below = below-at n fs place part is below.1
-
-pub below-And : (n : ℕ) (p : Formulas) → EachSetsBelow n (trees (formula_list p)) → SetsBelow n (formula_tree (And p))
-below-And n p below = subst (SetsBelow n) (sym (formula_tree-And p)) (below.0, below.1.0, below.1.1)

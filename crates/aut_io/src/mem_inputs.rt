@@ -31,7 +31,15 @@ impl Model for MemInputs {
 
     ghost coded = { source_state_code };
 
-    ghost view = { λ m. record { texts = m.store.texts; left = m.store.left; openings = m.store.openings; failing = m.calls.listed; calls = m.calls.made; open_faults = m.open_faults; read_faults = m.read_faults } };
+    ghost view = { λ m. record {
+      texts = m.store.texts;
+      left = m.store.left;
+      openings = m.store.openings;
+      failing = m.calls.listed;
+      calls = m.calls.made;
+      open_faults = m.open_faults;
+      read_faults = m.read_faults;
+    } };
 }
 
 impl MemInputs {

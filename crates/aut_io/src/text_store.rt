@@ -115,7 +115,8 @@ impl TextStore {
 /// The place of the text under a name.
 fn place_of(names: &[Text], texts: &[Text], name: &Text) -> Option<usize>
     requires { length texts.now ≡ length names.now }
-    ensures { MatchOption result (find (slice_cmp nat_cmp) name.now (zip names.now texts.now) ≡ None) (λ k. (k < length texts.now) × (find (slice_cmp nat_cmp) name.now (zip names.now texts.now) ≡ Some (slice_index_or texts.now k []))) }
+    ensures { MatchOption result (find (slice_cmp nat_cmp) name.now (zip names.now texts.now) ≡ None)
+        (λ k. (k < length texts.now) × (find (slice_cmp nat_cmp) name.now (zip names.now texts.now) ≡ Some (slice_index_or texts.now k []))) }
 {
     for (place, other) in names.iter().enumerate() {
         if name == other {

@@ -26,26 +26,6 @@ module _ {X C N : Type 0} (told : X → ℕ → N → Type 0) (same : X → X �
     pub idle : turn r (stage_of xs es total done hand) ≡ taken r (stage_of xs es total done hand) (slice_get xs done)
     pub comes : Comes r (begin start) (Goes (stage_of xs es total done hand))
 
-  pub exploring_none : (xs : List X) (es : List (Edge C N)) → f start → 0 < l.things → xs ≡ start ∷ [] → es ≡ [] → IsExploring m f is 0 0 xs es
-  exploring_none xs es fit room one none = subst (λ (ys : List X). IsExploring m f is 0 0 ys es) (sym one)
-      (subst (λ (ds : List (Edge C N)). IsExploring m f is 0 0 (start ∷ []) ds) (sym none) (record {
-        keeps = keeps_none m f is;
-        sound = record {
-          each = λ k d less. subst f (only k d less) fit;
-          few = omega (arith, room);
-          classed = λ k d less. absurd (omega (arith, less));
-        };
-        within = omega arith;
-        few = omega arith;
-        hand = None;
-        idle = refl;
-        comes = comes_none r (begin start);
-      }))
-    where
-      only : (k : ℕ) (d : X) → k < length (start ∷ []) → start ≡ get_or (start ∷ []) k d
-      only zero d less = refl
-      only (suc k) d less = absurd (omega (arith, less))
-
   module _ (m' : Moves X) (f' : X → Type 0) (is' : X → ℕ → C → Type 0) (done total : ℕ) (xs : List X) (es : List (Edge C N)) (so : IsExploring m' f' is' done total xs es) where
     pub exploring_all : length xs ≤ done → EndsWith r start xs (map arrow_of es)
     exploring_all all = record {

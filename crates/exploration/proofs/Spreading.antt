@@ -51,14 +51,6 @@ module _ {X C N : Type 0} (told : X → ℕ → N → Type 0) where
     pub spreads : Spreads (rules_of same m l) at 0 k xs es xs' es'
 
   module _ (same : X → X → Bool) (l : Limits) (m : Moves X) (f : X → Type 0) (is : X → ℕ → C → Type 0) (at : ℕ) (xs : List X) (es : List (Edge C N)) where
-    pub spread_none : IsSound f is told l.things xs es → IsSpread same l m m f f is is at 0 xs es xs es
-    spread_none sound = record {
-      keeps = keeps_none m f is;
-      sound = sound;
-      longer = longer_none xs;
-      spreads = λ x sum e. comes_none (rules_of same m l) (stage_of xs es sum (at + 1) (Some (x, 0)));
-    }
-
     -- the number is that of a class of the thing that was read
     pub number_less : (m' : Moves X) (f' : X → Type 0) (is' : X → ℕ → C → Type 0) (k : ℕ) (xs' : List X) (es' : List (Edge C N)) (cs : List C) (x : X)
         → IsSpread same l m m' f f' is is' at k xs es xs' es' → at < length xs

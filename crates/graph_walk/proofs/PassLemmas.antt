@@ -75,11 +75,6 @@ module _ (nodes : ℕ) (arcs : List (ℕ × ℕ)) (p : Pass) (top : Frame) (plac
       let there : ReachesPlace arcs p.order.items m.hold.0.node at = (head arcs place, stands, reach_place arcs place m.hold.0.node (head arcs place) place_within from_top refl) in
       looks low next (omega (arith, low_is)) (inr (at, lower, stands)) (rw low_is (reaches_lower arcs p.order.items m.hold.0.node top.low at m.hold.0.back there)) last
 
-  -- to a closed node
-  pub sees_closed : (number next : ℕ) → mark_of p.marks.items (head arcs place) ≡ Closed number → IsLast arcs (tail arcs place) place next
-      → Steps nodes arcs p top p (record { place = top.place; low = top.low; next = next })
-  sees_closed number next closed last = looks top.low next (omega arith) (inl (number, closed)) m.hold.0.back last
-
   -- to a fresh node, which is entered
   pub sees_fresh : (last before : List ℕ) (w next : ℕ) (q p' : Pass) (f : Frame) → AreChained nodes arcs (length arcs) last before → head arcs place ≡ w → w < nodes
       → mark_of p.marks.items w ≡ Fresh → IsLast arcs (tail arcs place) place next → q.marks.items ≡ p.marks.items → q.order.items ≡ p.order.items → q.count ≡ p.count

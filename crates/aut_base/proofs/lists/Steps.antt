@@ -13,9 +13,6 @@ any_more p xs k x is so_far fails = sym (ap (λ b. b || list_any p (drop (k + 1)
 pub any_here : {A : Type 0} (p : A → Bool) (xs : List A) (k : ℕ) (x : A) → slice_get xs k ≡ Some x → list_any p (drop k xs) ≡ list_any p xs → p x ≡ true → true ≡ list_any p xs
 any_here p xs k x is so_far passes = sym (ap (λ b. b || list_any p (drop (k + 1) xs)) passes) ∙ sym (ap (list_any p) (drop-slice_get xs k x is)) ∙ so_far
 
-pub any_none : {A : Type 0} (p : A → Bool) (xs : List A) (k : ℕ) → length xs ≤ k → list_any p (drop k xs) ≡ list_any p xs → false ≡ list_any p xs
-any_none p xs k all so_far = sym (ap (list_any p) (drop_all k xs all)) ∙ so_far
-
 pub all_more : {A : Type 0} (p : A → Bool) (xs : List A) (k : ℕ) (x : A) → slice_get xs k ≡ Some x → list_all p (drop k xs) ≡ list_all p xs → p x ≡ true → list_all p (drop (k + 1) xs) ≡ list_all p xs
 all_more p xs k x is so_far passes = sym (ap (λ b. b && list_all p (drop (k + 1) xs)) passes) ∙ sym (ap (list_all p) (drop-slice_get xs k x is)) ∙ so_far
 

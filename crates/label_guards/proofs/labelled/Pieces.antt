@@ -11,12 +11,6 @@ use Rattle.aut_base.specs.LabelText.{joined, literal_text}
 use Rattle.label_guards.specs.Pieces.{Gains, each_after, pieces_after, cube_piece, literal_of, is_any, WritesCubes}
 use Rattle.label_guards.specs.declared.cubes.Literal.{Literal}
 
-pub gains_none : (text : List ℕ) → Gains text text
-gains_none text = ([], sym (append-nil text))
-
-pub gains_on : (one : List ℕ) {two three : List ℕ} → Gains one two → Gains two three → Gains one three
-gains_on one first second = (first.0 ++ second.0, second.1 ∙ (ap (λ t. t ++ second.0) first.1 ∙ append_assoc one first.0 second.0))
-
 -- after the first piece, each stands after the separator
 pub joined_each : (separator piece : List ℕ) (pieces : List (List ℕ)) → joined separator (piece ∷ pieces) ≡ piece ++ each_after separator pieces
 joined_each separator piece [] = sym (append-nil piece)

@@ -117,16 +117,6 @@ module _ (s : Store) (is : IsReduced s.names s.nodes) (p : ℕ) (n : Node) (at :
         least = least;
       }
 
-  -- a valuation that meets a side, with the proposition set
-  pub met_low : (m : ℕ) → IsMetAt s n.low m → IsMetAt s p m
-  met_low m low = let a = at.node.low_later in let l = at.level in record {
-    valuation = low.valuation;
-    size = low.size;
-    is_number = low.is_number;
-    truth = choose (holds_in low.valuation) false (low.bare n.prop a) ∙ low.truth;
-    bare = λ i h. low.bare i (omega arith);
-  }
-
   pub met_high : (m : ℕ) → IsMetAt s n.high m → IsMetAt s p (m + 2 ^ n.prop)
   met_high m high = let a = at.node.high_later in let l = at.level in
       let v : List Bool = put high.valuation n.prop true in
