@@ -51,9 +51,25 @@ impl Model for Automaton {
 
     ghost coded = { Prim.hlevel (codes, formula_code) };
 
-    ghost view = { λ s. record { names = s.fields.value.names; starts = s.fields.value.starts; states = s.fields.value.states; links = s.fields.value.links; sets = s.fields.value.sets; formula = formula_tree s.fields.value.formula; store = s.fields.value.guards } };
+    ghost view = { λ s. record {
+      names = s.fields.value.names;
+      starts = s.fields.value.starts;
+      states = s.fields.value.states;
+      links = s.fields.value.links;
+      sets = s.fields.value.sets;
+      formula = formula_tree s.fields.value.formula;
+      store = s.fields.value.guards;
+    } };
 
-    ghost invariant = { λ s. IsKept (record { names = s.fields.value.names; starts = s.fields.value.starts; states = s.fields.value.states; links = s.fields.value.links; sets = s.fields.value.sets; formula = formula_tree s.fields.value.formula; store = s.fields.value.guards }) s.fields.value.rows s.fields.value.is_deterministic s.fields.value.is_complete };
+    ghost invariant = { λ s. IsKept (record {
+      names = s.fields.value.names;
+      starts = s.fields.value.starts;
+      states = s.fields.value.states;
+      links = s.fields.value.links;
+      sets = s.fields.value.sets;
+      formula = formula_tree s.fields.value.formula;
+      store = s.fields.value.guards;
+    }) s.fields.value.rows s.fields.value.is_deterministic s.fields.value.is_complete };
 }
 
 impl Automaton {

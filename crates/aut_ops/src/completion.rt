@@ -141,7 +141,8 @@ fn fill_state(
     requires links { All (λ l. Has guards.old l.guard) links.old }
     requires row { All (λ l. Has guards.old l.guard) row.now }
     ensures keeps { Keeps guards.old guards.new }
-    ensures filled { OnOk result (StandFor guards.new links.new (map (edge_of guards.old) links.old ++ (map (edge_of guards.old) row.now ++ gap_edges guards.old.names state sink (map (edge_of guards.old) row.now)))) }
+    ensures filled { OnOk result (StandFor guards.new links.new
+        (map (edge_of guards.old) links.old ++ (map (edge_of guards.old) row.now ++ gap_edges guards.old.names state sink (map (edge_of guards.old) row.now)))) }
 {
     let gap = gap_of(guards, row)?;
     push_links(links, row)?;

@@ -31,7 +31,9 @@ pub fn product(alloc: Global, a: &Automaton, b: &Automaton) -> Result<Automaton,
     ensures few { IfOk result (λ made. made.states ≤ MOST_PAIRS) }
     ensures names { IsErrOf result PairFault.Names → MOST_NAMES < length (joined_names a.now.names b.now.names) }
     ensures names_first { IsErrOf result PairFault.Pairs → length (joined_names a.now.names b.now.names) ≤ MOST_NAMES }
-    ensures pairs { IsErrOf result PairFault.Pairs → HasMorePairs MOST_PAIRS (over_both (automaton_of a.now) (automaton_of b.now) (automaton_of a.now)) (over_both (automaton_of a.now) (automaton_of b.now) (automaton_of b.now)) }
+    ensures pairs { IsErrOf result PairFault.Pairs → HasMorePairs MOST_PAIRS
+        (over_both (automaton_of a.now) (automaton_of b.now) (automaton_of a.now))
+        (over_both (automaton_of a.now) (automaton_of b.now) (automaton_of b.now)) }
 {
     product_by(alloc, a, b, Join::All)
 }
@@ -48,7 +50,9 @@ pub fn product_or(alloc: Global, a: &Automaton, b: &Automaton) -> Result<Automat
     ensures few { IfOk result (λ made. made.states ≤ MOST_PAIRS) }
     ensures names { IsErrOf result PairFault.Names → MOST_NAMES < length (joined_names a.now.names b.now.names) }
     ensures names_first { IsErrOf result PairFault.Pairs → length (joined_names a.now.names b.now.names) ≤ MOST_NAMES }
-    ensures pairs { IsErrOf result PairFault.Pairs → HasMorePairs MOST_PAIRS (over_both (automaton_of a.now) (automaton_of b.now) (completed (automaton_of a.now))) (over_both (automaton_of a.now) (automaton_of b.now) (completed (automaton_of b.now))) }
+    ensures pairs { IsErrOf result PairFault.Pairs → HasMorePairs MOST_PAIRS
+        (over_both (automaton_of a.now) (automaton_of b.now) (completed (automaton_of a.now)))
+        (over_both (automaton_of a.now) (automaton_of b.now) (completed (automaton_of b.now))) }
 {
     a.whole();
     b.whole();
@@ -67,13 +71,17 @@ fn product_by(
     join: Join,
 ) -> Result<Automaton, PairFault>
     requires sets { a.now.sets + b.now.sets < 2 ^ 32 }
-    ensures shape { IfOk result (λ made. IsProduct (join_of join) (over_both (automaton_of a.now) (automaton_of b.now) (automaton_of a.now)) (over_both (automaton_of a.now) (automaton_of b.now) (automaton_of b.now)) (automaton_of made)) }
+    ensures shape { IfOk result (λ made. IsProduct (join_of join)
+        (over_both (automaton_of a.now) (automaton_of b.now) (automaton_of a.now))
+        (over_both (automaton_of a.now) (automaton_of b.now) (automaton_of b.now)) (automaton_of made)) }
     ensures accepts { IfOk result (λ made. JoinAccepts join (automaton_of made) (automaton_of a.now) (automaton_of b.now)) }
     ensures within { OnOk result (length (joined_names a.now.names b.now.names) ≤ MOST_NAMES) }
     ensures few { IfOk result (λ made. made.states ≤ MOST_PAIRS) }
     ensures names { IsErrOf result PairFault.Names → MOST_NAMES < length (joined_names a.now.names b.now.names) }
     ensures names_first { IsErrOf result PairFault.Pairs → length (joined_names a.now.names b.now.names) ≤ MOST_NAMES }
-    ensures pairs { IsErrOf result PairFault.Pairs → HasMorePairs MOST_PAIRS (over_both (automaton_of a.now) (automaton_of b.now) (automaton_of a.now)) (over_both (automaton_of a.now) (automaton_of b.now) (automaton_of b.now)) }
+    ensures pairs { IsErrOf result PairFault.Pairs → HasMorePairs MOST_PAIRS
+        (over_both (automaton_of a.now) (automaton_of b.now) (automaton_of a.now))
+        (over_both (automaton_of a.now) (automaton_of b.now) (automaton_of b.now)) }
 {
     a.whole();
     b.whole();

@@ -27,7 +27,8 @@ pub(crate) fn levelled_links(
     requires room { All (λ watch. levels watch ≤ k) watches.now }
     requires fit { a.now.states * k < 2 ^ 32 }
     ensures has { IfOk result (All (λ l. Has a.now.store l.guard)) }
-    ensures edges { IfOk result (λ links. map (edge_of a.now.store) links ≡ flat_map (λ state. level_edges k (edges_from state (map (edge_of a.now.store) a.now.links)) (watch_of states watches.now state)) (range_with_len 0 a.now.states)) }
+    ensures edges { IfOk result (λ links. map (edge_of a.now.store) links
+        ≡ flat_map (λ state. level_edges k (edges_from state (map (edge_of a.now.store) a.now.links)) (watch_of states watches.now state)) (range_with_len 0 a.now.states)) }
 {
     let mut links = Links::new(alloc);
     'states: for state in 0..a.states() {

@@ -95,8 +95,11 @@ fn spread<S: System>(
     ensures frame { S.frame system.new ≡ S.frame system.old }
     ensures keeps { Keeps (S.moves system.old) (S.moves system.new) (S.fits system.old) (S.fits system.new) (S.is_class system.old) (S.is_class system.new) }
     ensures sound { OnOk result (IsSound (S.fits system.new) (S.is_class system.new) (S.is_note (S.frame system.old)) limits.things (map S.seen found.new.things.keys) found.new.edges.items) }
-    ensures spreads { OnOk result (Spreads (rules_of S.same (S.moves system.old) limits) at 0 (length classes.now) (map S.seen found.old.things.keys) found.old.edges.items (map S.seen found.new.things.keys) found.new.edges.items) }
-    ensures meets { IfErr result (λ f. (x : S.Seen) (sum : ℕ) → slice_get (map S.seen found.old.things.keys) at ≡ Some x → IsMet (rules_of S.same (S.moves system.old) limits) (stage_of (map S.seen found.old.things.keys) found.old.edges.items sum (at + 1) (Some (x, 0))) f) }
+    ensures spreads { OnOk result (Spreads (rules_of S.same (S.moves system.old) limits) at 0 (length classes.now)
+        (map S.seen found.old.things.keys) found.old.edges.items
+        (map S.seen found.new.things.keys) found.new.edges.items) }
+    ensures meets { IfErr result (λ f. (x : S.Seen) (sum : ℕ) → slice_get (map S.seen found.old.things.keys) at ≡ Some x
+        → IsMet (rules_of S.same (S.moves system.old) limits) (stage_of (map S.seen found.old.things.keys) found.old.edges.items sum (at + 1) (Some (x, 0))) f) }
     ensures longer { OnOk result (length (map S.seen found.old.things.keys) ≤ length (map S.seen found.new.things.keys)) }
 {
     'classes: for number in 0..classes.len() {

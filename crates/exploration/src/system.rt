@@ -58,7 +58,8 @@ pub trait System {
         requires { fits self.old (seen thing.now) }
         ensures frame { frame self.new ≡ frame self.old }
         ensures keeps { Keeps (moves self.old) (moves self.new) (fits self.old) (fits self.new) (is_class self.old) (is_class self.new) }
-        ensures classes { IfOk result (λ found. MatchOption found (most < (moves self.old).count (seen thing.now)) (λ cs. AreClasses (is_class self.new (seen thing.now)) ((moves self.old).count (seen thing.now)) cs.items)) }
+        ensures classes { IfOk result (λ found. MatchOption found (most < (moves self.old).count (seen thing.now))
+            (λ cs. AreClasses (is_class self.new (seen thing.now)) ((moves self.old).count (seen thing.now)) cs.items)) }
         ensures few { IfOk result (λ found. MatchOption found (Unit {0}) (λ cs. (moves self.old).count (seen thing.now) ≤ most)) };
 
     /// The thing to which the step for this class leads, and its note, or None where there is none.

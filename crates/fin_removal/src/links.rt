@@ -21,7 +21,8 @@ pub(crate) fn copied_links(
 ) -> Result<Links, Memory>
     requires { All (IsNumbered a.now.states) copies.now }
     ensures has { IfOk result (All (λ l. Has a.now.store l.guard)) }
-    ensures edges { IfOk result (λ links. map (edge_of a.now.store) links ≡ flat_map (main_edges a.now.states copies.now) (map (edge_of a.now.store) a.now.links) ++ flat_map (copy_edges a.now.states (map (edge_of a.now.store) a.now.links)) copies.now) }
+    ensures edges { IfOk result (λ links. map (edge_of a.now.store) links
+        ≡ flat_map (main_edges a.now.states copies.now) (map (edge_of a.now.store) a.now.links) ++ flat_map (copy_edges a.now.states (map (edge_of a.now.store) a.now.links)) copies.now) }
 {
     let mut links = Links::new(alloc);
     push_main_copy(alloc, &mut links, a, copies)?;

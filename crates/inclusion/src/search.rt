@@ -20,10 +20,14 @@ pub fn accept_together(alloc: Global, a: &Automaton, b: &Automaton) -> Result<bo
     requires sets { a.now.sets + b.now.sets < 2 ^ 32 }
     ensures some { IfOk result (λ some. IsTrue some ↔ AcceptTogether (automaton_of a.now) (automaton_of b.now)) }
     ensures within { OnOk result (length (joined_names a.now.names b.now.names) ≤ MOST_NAMES) }
-    ensures few { OnOk result (HasMorePairs MOST_PAIRS (over_both (automaton_of a.now) (automaton_of b.now) (automaton_of a.now)) (over_both (automaton_of a.now) (automaton_of b.now) (automaton_of b.now)) → ⊥) }
+    ensures few { OnOk result (HasMorePairs MOST_PAIRS
+        (over_both (automaton_of a.now) (automaton_of b.now) (automaton_of a.now))
+        (over_both (automaton_of a.now) (automaton_of b.now) (automaton_of b.now)) → ⊥) }
     ensures names { IsErrOf result PairFault.Names → MOST_NAMES < length (joined_names a.now.names b.now.names) }
     ensures names_first { IsErrOf result PairFault.Pairs → length (joined_names a.now.names b.now.names) ≤ MOST_NAMES }
-    ensures pairs { IsErrOf result PairFault.Pairs → HasMorePairs MOST_PAIRS (over_both (automaton_of a.now) (automaton_of b.now) (automaton_of a.now)) (over_both (automaton_of a.now) (automaton_of b.now) (automaton_of b.now)) }
+    ensures pairs { IsErrOf result PairFault.Pairs → HasMorePairs MOST_PAIRS
+        (over_both (automaton_of a.now) (automaton_of b.now) (automaton_of a.now))
+        (over_both (automaton_of a.now) (automaton_of b.now) (automaton_of b.now)) }
 {
     few_pairs_exclude_more();
     let both = product(alloc, a, b)?;
@@ -41,10 +45,14 @@ pub fn counterexample(
     requires sets { a.now.sets + co_b.now.sets < 2 ^ 32 }
     ensures word { IfOk result (λ found. MatchOption found (AcceptNoneTogether (automaton_of a.now) (automaton_of co_b.now)) (IsWordOfBoth (automaton_of a.now) (automaton_of co_b.now))) }
     ensures within { OnOk result (length (joined_names a.now.names co_b.now.names) ≤ MOST_NAMES) }
-    ensures few { OnOk result (HasMorePairs MOST_PAIRS (over_both (automaton_of a.now) (automaton_of co_b.now) (automaton_of a.now)) (over_both (automaton_of a.now) (automaton_of co_b.now) (automaton_of co_b.now)) → ⊥) }
+    ensures few { OnOk result (HasMorePairs MOST_PAIRS
+        (over_both (automaton_of a.now) (automaton_of co_b.now) (automaton_of a.now))
+        (over_both (automaton_of a.now) (automaton_of co_b.now) (automaton_of co_b.now)) → ⊥) }
     ensures names { IsErrOf result PairFault.Names → MOST_NAMES < length (joined_names a.now.names co_b.now.names) }
     ensures names_first { IsErrOf result PairFault.Pairs → length (joined_names a.now.names co_b.now.names) ≤ MOST_NAMES }
-    ensures pairs { IsErrOf result PairFault.Pairs → HasMorePairs MOST_PAIRS (over_both (automaton_of a.now) (automaton_of co_b.now) (automaton_of a.now)) (over_both (automaton_of a.now) (automaton_of co_b.now) (automaton_of co_b.now)) }
+    ensures pairs { IsErrOf result PairFault.Pairs → HasMorePairs MOST_PAIRS
+        (over_both (automaton_of a.now) (automaton_of co_b.now) (automaton_of a.now))
+        (over_both (automaton_of a.now) (automaton_of co_b.now) (automaton_of co_b.now)) }
 {
     few_pairs_exclude_more();
     let both = product(alloc, a, co_b)?;

@@ -38,7 +38,8 @@ impl Side {
     /// One of the edges that is on the side, or None where none is.
     pub(crate) fn one_of(self, links: &[Link], edges: &[LiveEdge]) -> Option<LiveEdge>
         requires { All (λ e. e.link < length links.now) edges.now }
-        ensures { MatchOption result (All (λ e. on_side self.set self.neg (marks_of links.now e) ≡ false) edges.now) (λ e. Contains edges.now e × (on_side self.set self.neg (marks_of links.now e) ≡ true)) }
+        ensures { MatchOption result (All (λ e. on_side self.set self.neg (marks_of links.now e) ≡ false) edges.now)
+            (λ e. Contains edges.now e × (on_side self.set self.neg (marks_of links.now e) ≡ true)) }
     {
         'edges: for edge in edges {
             if self.has_edge(links, *edge) {

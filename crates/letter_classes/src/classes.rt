@@ -26,7 +26,8 @@ pub fn classes_of_set(
     requires states { All (λ q. q < a.now.states) set.now }
     requires store { Keeps a.now.store guards.old }
     ensures keeps { Keeps guards.old guards.new }
-    ensures classes { IfOk result (λ found. MatchOption found (most < length (set_classes (automaton_of a.now) set.now)) (λ cs. AreClasses (IsClassGuard a.now guards.new set.now) (length (set_classes (automaton_of a.now) set.now)) cs.items)) }
+    ensures classes { IfOk result (λ found. MatchOption found (most < length (set_classes (automaton_of a.now) set.now))
+        (λ cs. AreClasses (IsClassGuard a.now guards.new set.now) (length (set_classes (automaton_of a.now) set.now)) cs.items)) }
     ensures few { IfOk result (λ found. MatchOption found (Unit {0}) (λ cs. length (set_classes (automaton_of a.now) set.now) ≤ most)) }
 {
     a.whole();

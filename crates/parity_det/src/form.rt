@@ -119,7 +119,8 @@ fn built(
 ) -> Result<Automaton, Memory>
     requires keeps { Keeps b.now.store guards }
     requires explored { IsExplored same_tree (tree_moves (automaton_of b.now)) (start_tree (automaton_of b.now)) (map tree_of found.now.things.keys) (map arrow_of found.now.edges.items) }
-    requires sound { IsSound (λ t. FitsStore b.now guards (root_states t)) (λ t k g. IsClassGuard b.now guards (root_states t) k g) (λ t k event. IsClassEvent b.now t k event) MOST_TREES (map tree_of found.now.things.keys) found.now.edges.items }
+    requires sound { IsSound (λ t. FitsStore b.now guards (root_states t)) (λ t k g. IsClassGuard b.now guards (root_states t) k g)
+        (λ t k event. IsClassEvent b.now t k event) MOST_TREES (map tree_of found.now.things.keys) found.now.edges.items }
     ensures few { IfOk result (λ made. made.sets ≤ 2 * MOST_NODES + 1) }
     ensures is { IfOk result (λ made. automaton_of made ≡ parity_on (map tree_of found.now.things.keys) (map arrow_of found.now.edges.items) (automaton_of b.now)) }
 {

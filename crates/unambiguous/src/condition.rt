@@ -17,7 +17,8 @@ pub(crate) fn flagged_condition(
 ) -> Result<Formula, Memory>
     requires below { SetsBelow sets (formula_tree formula.now) }
     requires fits { sets + sets + 1 < 2 ^ 32 }
-    ensures meaning { IfOk result (λ new. (cycle : List (List ℕ)) → met cycle (formula_tree new) ≡ (met cycle (formula_tree formula.now) && (met cycle (shift sets (formula_tree formula.now)) && met cycle (Inf (sets + sets) false)))) }
+    ensures meaning { IfOk result (λ new. (cycle : List (List ℕ)) → met cycle (formula_tree new)
+        ≡ (met cycle (formula_tree formula.now) && (met cycle (shift sets (formula_tree formula.now)) && met cycle (Inf (sets + sets) false)))) }
     ensures below { IfOk result (λ new. SetsBelow (sets + sets + 1) (formula_tree new)) }
 {
     let second = shift(alloc, formula, sets)?;

@@ -6,7 +6,8 @@ ghost use Rattle.hoa_reader.specs.inner.Pieces.{is_line, lines_once, numbers};
 ghost use Rattle.hoa_reader.specs.inner.Rising.{rises_from};
 ghost use Rattle.hoa_parser.specs.Raw.{written_edge, written_item, written_state};
 ghost use Rattle.aut_base.specs.Text.{same_text};
-ghost use Rattle.hoa_reader.specs.Validity.{all_differ, begins_with_capital, has_edge_per_letter, is_one_state, labels_one_way, marks_below, may_be_passed_over, names_agree, numbers_below, states_item};
+ghost use Rattle.hoa_reader.specs.Validity.{all_differ, begins_with_capital, has_edge_per_letter, is_one_state, labels_one_way};
+ghost use Rattle.hoa_reader.specs.Validity.{marks_below, may_be_passed_over, names_agree, numbers_below, states_item};
 
 use crate::elaborate::places::Places;
 use aut_base::{FewNumbers, Memory, Text};
