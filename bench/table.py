@@ -5,6 +5,8 @@ Usage: table.py AUTFILT PLAIN FOLDER [--quick] [--only WORD].. [--steps STEPS PL
 --steps gives the two programs that step trees.
 """
 import argparse
+import collections
+import contextlib
 import os
 import re
 import shutil
@@ -50,6 +52,12 @@ WORKLOADS = [
     ('inclusion of 20,000 in one', ['-c', '--included-in=operand.hoa'], ['emerson-lei.hoa', 'operand.hoa']),
 ]
 
+# The same of what is read from standard input, a pipe.
+PIPED = [
+    ('count 10,000 of ten states through a pipe', ['-c', '-'], 'many.hoa'),
+    ('print these through a pipe', ['-'], 'many.hoa'),
+]
+
 # What it is, and the words for the two programs that step trees, the last of them how many steps.
 STEPS = ('100,000 steps of trees of 10 to 40 nodes', ['1', '100000'])
 
@@ -59,46 +67,65 @@ LONGEST = 600
 LONGEST_COUNTED = 5
 
 
-def outcome(words, folder):
+# A command in a folder, with the file there that comes through a pipe, or None.
+Command = collections.namedtuple('Command', 'words folder piped')
+
+
+@contextlib.contextmanager
+def started(command, words, **streams):
+    """The process of these words, with the standard input of the command."""
+    if command.piped is None:
+        with subprocess.Popen(words, cwd=command.folder, stdin=subprocess.DEVNULL, **streams) as run:
+            yield run
+        return
+    with subprocess.Popen(['cat', command.piped], cwd=command.folder, stdout=subprocess.PIPE) as source:
+        with subprocess.Popen(words, cwd=command.folder, stdin=source.stdout, **streams) as run:
+            source.stdout.close()
+            yield run
+
+
+def outcome(command):
     """What a run prints, and its status."""
-    run = subprocess.run(words, cwd=folder, stdin=subprocess.DEVNULL, stdout=subprocess.PIPE, stderr=subprocess.PIPE,
-                         timeout=LONGEST)
-    return run.stdout, run.returncode
+    with started(command, command.words, stdout=subprocess.PIPE, stderr=subprocess.PIPE) as run:
+        try:
+            return run.communicate(timeout=LONGEST)[0], run.returncode
+        finally:
+            run.kill()
 
 
-def processor_seconds(words, folder):
+def processor_seconds(command):
     """Seconds of the processor, in the program and in the system for it."""
-    with subprocess.Popen(words, cwd=folder, stdin=subprocess.DEVNULL, stdout=subprocess.DEVNULL,
-                          stderr=subprocess.DEVNULL) as run:
+    with started(command, command.words, stdout=subprocess.DEVNULL, stderr=subprocess.DEVNULL) as run:
         _, status, usage = os.wait4(run.pid, 0)
         run.returncode = os.waitstatus_to_exitcode(status)
     return usage.ru_utime + usage.ru_stime
 
 
-def megabytes(words, folder):
+def megabytes(command):
     """The most memory that was in use. A child of this process would count what this one holds, so `time` is its parent."""
     if not os.access('/usr/bin/time', os.X_OK):
         return None
     with tempfile.NamedTemporaryFile('r') as told:
-        subprocess.run(['/usr/bin/time', '-q', '-o', told.name, '-f', '%M'] + words, cwd=folder, stdin=subprocess.DEVNULL,
-                       stdout=subprocess.DEVNULL, stderr=subprocess.DEVNULL)
+        words = ['/usr/bin/time', '-q', '-o', told.name, '-f', '%M'] + command.words
+        with started(command, words, stdout=subprocess.DEVNULL, stderr=subprocess.DEVNULL) as run:
+            run.wait()
         return int(told.read().split()[-1]) / 1024
 
 
-def instructions(words, folder):
-    run = subprocess.run(['valgrind', '--tool=callgrind', '--callgrind-out-file=/dev/null'] + words, cwd=folder,
-                         stdin=subprocess.DEVNULL, stdout=subprocess.DEVNULL, stderr=subprocess.PIPE, text=True)
-    found = re.search(r'Collected : (\d+)', run.stderr)
+def instructions(command):
+    words = ['valgrind', '--tool=callgrind', '--callgrind-out-file=/dev/null'] + command.words
+    with started(command, words, stdout=subprocess.DEVNULL, stderr=subprocess.PIPE, text=True) as run:
+        found = re.search(r'Collected : (\d+)', run.communicate()[1])
     return int(found.group(1)) if found else None
 
 
-def measure(words, folder, size, counts):
+def measure(command, size, counts):
     """Instructions a byte, seconds, megabytes; None for what isn't measured."""
-    seconds = min(processor_seconds(words, folder) for _ in range(RUNS))
+    seconds = min(processor_seconds(command) for _ in range(RUNS))
     counted = None
     if counts and seconds < LONGEST_COUNTED:
-        counted = instructions(words, folder)
-    return counted and counted / size, seconds, megabytes(words, folder)
+        counted = instructions(command)
+    return counted and counted / size, seconds, megabytes(command)
 
 
 def columns(value, other, form):
@@ -108,34 +135,39 @@ def columns(value, other, form):
     return [form % value, form % other, '%.1f' % (value / other) if other else '-']
 
 
-def row(name, commands, size, folder, counts):
+def row(name, commands, size, counts):
     """What the two commands took, by this size; and whether they did the same."""
     try:
-        first, second = (outcome(command, folder) for command in commands)
+        first, second = (outcome(command) for command in commands)
     except subprocess.TimeoutExpired as late:
         return [name, '%d' % size, 'more than %d seconds: %s' % (LONGEST, late.cmd[0])], False
     if first != second:
         return [name, '%d' % size, 'THE OUTPUTS DIFFER, or the statuses: %d and %d' % (first[1], second[1])], False
-    taken = [measure(command, folder, size, counts) for command in commands]
+    taken = [measure(command, size, counts) for command in commands]
     cells = [name, '%d' % size]
     for place, form in enumerate(['%.0f', '%.3f', '%.1f']):
         cells += columns(taken[0][place], taken[1][place], form)
     return cells, True
 
 
+def works(asked):
+    """Each workload: its name, the two commands, and the size to count by."""
+    def size(files):
+        return sum(os.path.getsize(os.path.join(asked.folder, file)) for file in files)
+    for name, words, files in WORKLOADS:
+        yield name, [Command([it] + words + files[:1], asked.folder, None) for it in (asked.autfilt, asked.plain)], size(files)
+    for name, words, file in PIPED:
+        yield name, [Command([it] + words, asked.folder, file) for it in (asked.autfilt, asked.plain)], size([file])
+    if asked.steps:
+        name, words = STEPS
+        yield name, [Command([it] + words, asked.folder, None) for it in asked.steps], int(words[-1])
+
+
 def rows(asked, counts):
     """Each workload that is asked for."""
-    def is_asked(name):
-        return not asked.only or any(word in name for word in asked.only)
-    for name, words, files in WORKLOADS:
-        if is_asked(name):
-            size = sum(os.path.getsize(os.path.join(asked.folder, file)) for file in files)
-            commands = [[program] + words + files[:1] for program in (asked.autfilt, asked.plain)]
-            yield row(name, commands, size, asked.folder, counts)
-    name, words = STEPS
-    if asked.steps and is_asked(name):
-        commands = [[program] + words for program in asked.steps]
-        yield row(name, commands, int(words[-1]), asked.folder, counts)
+    for name, commands, size in works(asked):
+        if not asked.only or any(word in name for word in asked.only):
+            yield row(name, commands, size, counts)
 
 
 def main():

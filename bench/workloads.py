@@ -207,6 +207,7 @@ def main():
     write(folder, 'deep-chain.hoa', [deep_chain(100)])
     write(folder, 'six-states.hoa', map(six_states, range(3000)))
     write(folder, 'operand.hoa', [operand()])
+    write(folder, 'many.hoa', map(canonical, range(10000)))
 
 
 main()
