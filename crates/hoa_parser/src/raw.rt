@@ -18,7 +18,8 @@ pub enum RawLabel {
     Prop(u32),
     /// A proposition behind `!`: most negations are of one, and this takes no box.
     Negated(u32),
-    Alias(Name),
+    /// Its name lies in memory of its own, so that a label without aliases is small.
+    Alias(Box<Name>),
     Not(Box<RawLabel>),
     And(Box<RawLabels>),
     Or(Box<RawLabels>),

@@ -26,7 +26,7 @@ raw_tree-Prop i = ap raw_tree (sym (rolls-Prop i)) ∙ fold-roll-RawLabel RawTre
 pub raw_tree-Negated : (i : ℕ) → raw_tree (Negated i) ≡ RawTree.Not (RawTree.Prop i)
 raw_tree-Negated i = ap raw_tree (sym (rolls-Negated i)) ∙ fold-roll-RawLabel RawTree RawParts tree_step parts_step (RawLabel-F.Negated i)
 
-pub raw_tree-Alias : (name : List ℕ) → raw_tree (Alias name) ≡ RawTree.Alias name
+pub raw_tree-Alias : (name : Box (List ℕ) Global) → raw_tree (Alias name) ≡ RawTree.Alias name.value
 raw_tree-Alias name = ap raw_tree (sym (rolls-Alias name)) ∙ fold-roll-RawLabel RawTree RawParts tree_step parts_step (RawLabel-F.Alias name)
 
 pub raw_tree-Not : (inner : Box RawLabel Global) → raw_tree (Not inner) ≡ RawTree.Not (raw_tree inner.value)

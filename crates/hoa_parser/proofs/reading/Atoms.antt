@@ -6,7 +6,7 @@ use Rattle.hoa_parser.proofs.grammar.HeaderNames.{same}
 use Rattle.hoa_parser.specs.inner.Expecting.{Atom, Factor, Refuses, Takes, label_word, move, set_parts}
 use Rattle.hoa_parser.specs.Grammar.{Lnot, LnotWithin, alias, false_label, lnot_meaning, lnot_tokens, proposition, true_label}
 use Rattle.hoa_parser.specs.inner.Parsing.{is_end}
-use Rattle.hoa_parser.specs.inner.RuleReads.{atom_of, sign_at}
+use Rattle.hoa_parser.specs.inner.RuleReads.{atom_of, plain_atom_of, sign_at}
 use Rattle.hoa_parser.specs.Raw as raw
 use Rattle.hoa_parser.specs.Raw.{RawTree}
 use Rattle.hoa_parser.specs.Standing.{most_depth}
@@ -23,13 +23,10 @@ pub record IsAtom (depth : ℕ) (z : Token) (t : RawTree) : Type 0 where
   pub taken : move (Factor depth) z ≡ Takes []
   pub goes_on : is_end z ≡ false
 
-pub none_there : (o : Option RawTree) → is_some o ≡ false → o ≡ None
-none_there None h = refl
-none_there (Some t) h = absurd (let no : true ≡ false = h in cc)
-
-pub some_there : (o : Option RawTree) → is_some o ≡ true → (t : RawTree) × (o ≡ Some t)
-some_there None h = absurd (let no : false ≡ true = h in cc)
-some_there (Some t) h = (t, refl)
+-- and where it is no alias
+pub plain_atom : (z : Token) → ((name : List ℕ) → z ≢ token.Alias name) → atom_of z ≡ plain_atom_of z
+plain_atom (token.Alias name) not_alias = absurd (not_alias name refl)
+plain_atom z not_alias = refl
 
 same_some : (t u : RawTree) → Some u ≡ Some t → t ≡ u
 same_some t u e = cc

@@ -161,15 +161,20 @@ IsAndFatoms depth first l = IsWritten (FatomsWithin most_depth depth) fatoms_tok
 abbrev pub IsOrFands : ℕ → FormulaTree → Formula → Cursor → Cursor → Type 0
 IsOrFands depth first l = IsWritten (FandsWithin most_depth depth) fands_tokens (λ ls. one_of first (fands_meaning ls)) (formula_tree l)
 
--- what a token says as a label of its own, if it is one
+-- the constant that a word is, if it is one
 abbrev pub truth_value : List ℕ → Option RawTree
 truth_value word = if same_text word (codes "t") then Some raw.True else if same_text word (codes "f") then Some raw.False else None
 
+-- what a token that is no alias says as a label of its own, if it is one
+abbrev pub plain_atom_of : Token → Option RawTree
+plain_atom_of (token.Identifier word) = truth_value word
+plain_atom_of (token.Int place) = Some (raw.Prop place)
+plain_atom_of _ = None
+
+-- what a token says as a label of its own, if it is one
 abbrev pub atom_of : Token → Option RawTree
-atom_of (token.Identifier word) = truth_value word
-atom_of (token.Int place) = Some (raw.Prop place)
 atom_of (token.Alias name) = Some (raw.Alias name)
-atom_of _ = None
+atom_of z = plain_atom_of z
 
 -- what a word says in a condition, if anything
 abbrev pub sign_of : List ℕ → Option Sign

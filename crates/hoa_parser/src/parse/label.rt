@@ -1,12 +1,12 @@
 //! Labels of edges, states and aliases.
 
-ghost use Rattle.std.specs.Prelude.{◌≡◌, ◌≢◌, ◌≤◌, ◌∷◌, [], false, is_some, IfOk, OnOk};
+ghost use Rattle.std.specs.Prelude.{◌≡◌, ◌≢◌, ◌≤◌, ℕ, List, ◌∷◌, [], false, IfOk, OnOk};
 ghost use Rattle.std.specs.Option.{option_map};
 ghost use Rattle.hoa_lexer.specs.declared.token.Token.{Token};
 ghost use Rattle.hoa_parser.specs.inner.Expecting as part;
 ghost use Rattle.hoa_parser.specs.inner.Expecting.{label_parts};
 ghost use Rattle.hoa_parser.specs.inner.Parsing.{Reads, Uses, state};
-ghost use Rattle.hoa_parser.specs.inner.RuleReads.{atom_of, truth_value, IsAndLnot, IsAndLnots, IsLabel, IsLand, IsLnot, IsOrLand, IsOrLands};
+ghost use Rattle.hoa_parser.specs.inner.RuleReads.{plain_atom_of, truth_value, IsAndLnot, IsAndLnots, IsLabel, IsLand, IsLnot, IsOrLand, IsOrLands};
 ghost use Rattle.hoa_parser.specs.Raw.{RawTree, raw_tree};
 
 use super::tokens::{advance, closing_paren, refused, take};
@@ -233,26 +233,14 @@ fn group<I: Inputs>(
     Ok(inner)
 }
 
-/// Whether the token is a label of its own: "t" | "f" | INT | ANAME
-fn is_atom(token: &Token) -> bool
-    ensures { result ≡ is_some (atom_of token.now) }
-{
-    match token {
-        Token::Identifier(word) => truth_value(word).is_some(),
-        Token::Int(_) | Token::Alias(_) => true,
-        _ => false,
-    }
-}
-
-/// What the token says as a label of its own, if it is one.
+/// The label that the token says of its own, if it is no alias: "t" | "f" | INT
 #[tactic(auto, using(crate::proofs::grammar::RawTrees::raw_tree_rules))]
-fn atom_of(token: Token) -> Option<RawLabel>
-    ensures { option_map raw_tree result ≡ atom_of token }
+fn plain_atom(token: &Token) -> Option<RawLabel>
+    ensures { option_map raw_tree result ≡ plain_atom_of token.now }
 {
     match token {
-        Token::Identifier(word) => truth_value(&word),
-        Token::Int(place) => Some(RawLabel::Prop(place)),
-        Token::Alias(name) => Some(RawLabel::Alias(name)),
+        Token::Identifier(word) => truth_value(word),
+        Token::Int(place) => Some(RawLabel::Prop(*place)),
         _ => None,
     }
 }
@@ -286,11 +274,32 @@ fn atom<I: Inputs>(
     ensures reads { Reads (part.Factor depth ∷ []) [] (IsLnot depth) result
         (state lexer.old ahead.old (I.seen inputs.old)) (state lexer.new ahead.new (I.seen inputs.new)) }
 {
-    if !is_atom(ahead) {
-        return Err(refused(lexer));
+    match ahead {
+        Token::Alias(_) => return alias(alloc, lexer, inputs, ahead, depth),
+        _ => {}
     }
-    match atom_of(take(alloc, lexer, inputs, ahead)?) {
-        Some(label) => Ok(label),
-        None => unreachable!(),
+    let Some(label) = plain_atom(ahead) else {
+        return Err(refused(lexer));
+    };
+    advance(alloc, lexer, inputs, ahead)?;
+    Ok(label)
+}
+
+/// ANAME
+fn alias<I: Inputs>(
+    alloc: Global,
+    lexer: &mut Lexer,
+    inputs: &mut I,
+    ahead: &mut Token,
+    depth: u32,
+) -> Result<RawLabel, ReadFault>
+    requires unspent { lexer.old.spent ≡ false }
+    requires names { (name : List ℕ) × (ahead.old ≡ Token.Alias name) }
+    ensures reads { Reads (part.Factor depth ∷ []) [] (IsLnot depth) result
+        (state lexer.old ahead.old (I.seen inputs.old)) (state lexer.new ahead.new (I.seen inputs.new)) }
+{
+    match take(alloc, lexer, inputs, ahead)? {
+        Token::Alias(name) => Ok(RawLabel::Alias(Box::new(alloc, name)?)),
+        _ => unreachable!(),
     }
 }

@@ -1,4 +1,6 @@
 use Rattle.std.proofs.Common.{◌≡◌, ◌<◌, ◌≤◌, ℕ, List, map, Option, Some, IfOk, get_or, sym, ap, ◌∙◌, subst, arith, false}
+use Rattle.std.specs.Global.{Global}
+use Rattle.std.specs.declared.boxed.Box.{Box}
 use Rattle.aut_base.proofs.trees.LabelTrees.{label_tree-False}
 use Rattle.aut_base.specs.Label.{LabelTree, label_list, label_size, label_tree, labels_size}
 use Rattle.hoa_reader.proofs.labels.ExpandedLabels.{and_of, bit_small, or_of, part_size, parts_expanded, size_pos}
@@ -20,14 +22,14 @@ use Rattle.std.proofs.lemmas.Option.{get_or_from_slice_get}
 found : (defs : List AliasDef) (known : Places Known) (name : List ℕ) (k : Known) → AreKnown (meanings_by defs) defs known → place_in known name ≡ Some k → IsKnownOne (meanings_by defs) defs name k
 found defs known name k all is = let P : Option Known → Type 0 = λ o. IsKnownBy (meanings_by defs) defs name o in subst P is (all name)
 
-is_alias : (defs : List AliasDef) (label : RawLabel) (name : List ℕ) → label ≡ raw_label.Alias name → expanded (meanings_by defs) (raw_tree label) ≡ meaning_of (meanings_by defs) name
+is_alias : (defs : List AliasDef) (label : RawLabel) (name : Box (List ℕ) Global) → label ≡ raw_label.Alias name → expanded (meanings_by defs) (raw_tree label) ≡ meaning_of (meanings_by defs) name.value
 is_alias defs label name is = ap (λ l. expanded (meanings_by defs) (raw_tree l)) is ∙ ap (expanded (meanings_by defs)) (raw_tree-Alias name)
 
 pub expand-returns-in-Some : goal.expand-returns-in-Some
 expand-returns-in-Some t c =
     let defs = c.args.defs.now in
     let name = c.in-Alias.name in
-    let one = found defs c.args.known.now name c.in-Some.alias c.requires (sym c.find.ensures ∙ c.in-Some.is) in
+    let one = found defs c.args.known.now name.value c.in-Some.alias c.requires (sym (rw c.deref.ensures at c.find.ensures) ∙ c.in-Some.is) in
     let here : get_or defs c.in-Some.alias.place c.index-defs-alias.result ≡ one.known.def = get_or_from_slice_get defs c.in-Some.alias.place one.known.def c.index-defs-alias.result one.known.there in
     let e : expanded (meanings_by defs) (raw_tree (get_or defs c.in-Some.alias.place c.index-defs-alias.result).label.now) ≡ expanded (meanings_by defs) (raw_tree c.args.label.now) =
     ap (λ (d : AliasDef). expanded (meanings_by defs) (raw_tree d.label.now)) here ∙ sym one.known.same ∙ sym (is_alias defs c.args.label.now name c.in-Alias.is) in
@@ -37,9 +39,9 @@ pub expand-returns-in-None : goal.expand-returns-in-None
 expand-returns-in-None t c =
     let defs = c.args.defs.now in
     let name = c.in-Alias.name in
-    let P : Option Known → Type 0 = λ o. IsKnownBy (meanings_by defs) defs name o in
-    let gone : is_listed (meaning_names (meanings_by defs)) name ≡ false = subst P (sym c.find.ensures ∙ c.in-None.is) (c.requires name) in
-    label_tree-False ∙ sym (is_alias defs c.args.label.now name c.in-Alias.is ∙ meaning_missing (meanings_by defs) name gone)
+    let P : Option Known → Type 0 = λ o. IsKnownBy (meanings_by defs) defs name.value o in
+    let gone : is_listed (meaning_names (meanings_by defs)) name.value ≡ false = subst P (sym (rw c.deref.ensures at c.find.ensures) ∙ c.in-None.is) (c.requires name.value) in
+    label_tree-False ∙ sym (is_alias defs c.args.label.now name c.in-Alias.is ∙ meaning_missing (meanings_by defs) name.value gone)
 
 pub expand-returns-in_ok-new-in-And : goal.expand-returns-in_ok-new-in-And
 expand-returns-in_ok-new-in-And t c =
