@@ -1,5 +1,5 @@
 -- What a lexer answers, of what it has not read yet.
-use Rattle.std.specs.Prelude.{◌≡◌, ◌≢◌, ◌⊎◌, ℕ, ◌+◌, false, List, [], ◌∷◌, ◌++◌, length, Option, Some, None, Result, Ok, Err, is_some, not}
+use Rattle.std.specs.Prelude.{◌≡◌, ◌≢◌, ◌⊎◌, ℕ, ◌+◌, Bool, true, false, List, [], ◌∷◌, ◌++◌, length, Option, Some, None, Result, Ok, Err, is_some, not}
 use Rattle.aut_io.specs.Seen.{Seen}
 use Rattle.hoa_lexer.specs.Blanks.{IsBlanks, IsOpenComment}
 use Rattle.hoa_lexer.specs.Bytes.{is_space}
@@ -42,6 +42,19 @@ Answers (Err OpenToken) start offset old new = AfterBlanks old IsOpenToken × (n
 Answers (Err Bytes) start offset old new = AsksPast old new
 Answers (Err Read) start offset old new = AsksPast old new
 Answers (Err Memory) start offset old new = AsksPast old new
+
+-- The answer of a call that puts a token in the place of one before, in the words of a call that gives it: true is that this
+-- token was put there, false that there is none.
+abbrev pub renewed : Result Bool LexFault → Token → Result (Option Token) LexFault
+renewed (Ok true) token = Ok (Some token)
+renewed (Ok false) token = Ok None
+renewed (Err fault) token = Err fault
+
+-- and where none was put there, the one before stays
+abbrev pub Stays : Result Bool LexFault → Token → Token → Type 0
+Stays (Ok true) old new = Unit {0}
+Stays (Ok false) old new = new ≡ old
+Stays (Err fault) old new = new ≡ old
 
 -- what a token can begin with, and no blank
 abbrev pub BeginsToken : List ℕ → Type 0

@@ -1,8 +1,8 @@
 //! The lexer.
 
-ghost use Rattle.std.specs.Prelude.{◌≡◌, ◌≢◌, ◌+◌, ◌-◌, ◌<◌, ◌≤◌, ◌∷◌, None, false, is_err, IsSome, IfOk, OnOk};
+ghost use Rattle.std.specs.Prelude.{◌≡◌, ◌≢◌, ◌+◌, ◌-◌, ◌<◌, ◌≤◌, ◌∷◌, None, false, is_err, IsSome, IsTrue, IfOk, OnOk};
 ghost use Rattle.hoa_lexer.specs.Bytes as kinds;
-ghost use Rattle.hoa_lexer.specs.Reading.{held_count, unread, Answers, Holds, Places, Tells};
+ghost use Rattle.hoa_lexer.specs.Reading.{held_count, renewed, unread, Answers, Holds, Places, Stays, Tells};
 
 mod blanks;
 mod bytes;
@@ -113,28 +113,65 @@ impl Lexer {
             → self.old.taken + held_count self.new.held < self.new.taken + held_count self.old.held) }
         ensures moves { Moves (stop_of_next result) self.old self.new (I.seen inputs.old) (I.seen inputs.new) }
     {
-        let answer = self.scan(alloc, inputs);
+        let mut token = Token::End;
+        if self.renew(alloc, inputs, &mut token)? {
+            return Ok(Some(token));
+        }
+        Ok(None)
+    }
+
+    // Why so: 'A token is put in the place of the one before' in docs/DECISIONS.md.
+    /// The next token of the inputs' open text, which is put in the place of this one, and true; or false, where only blanks
+    /// stood before its end. Then, as after a fault, the token stays what it was.
+    pub fn renew<I: Inputs>(
+        &mut self,
+        alloc: Global,
+        inputs: &mut I,
+        token: &mut Token,
+    ) -> Result<bool, LexFault>
+        requires { self.old.spent ≡ false }
+
+        // The same as `next` answers.
+        ensures answers { Tells (I.seen inputs.old) (I.seen inputs.new) (λ old new.
+            Answers (renewed result token.new) (self.old.since - held_count self.old.held) self.new.offset (unread self.old.held old) (unread self.new.held new)) }
+        ensures places { Tells (I.seen inputs.old) (I.seen inputs.new) (λ old new.
+            Places (renewed result token.new) (self.old.since - held_count self.old.held) self.old.offset self.new.offset (unread self.old.held old) (unread self.new.held new)) }
+        ensures holds { Holds (renewed result token.new) self.new.held }
+        ensures spent { self.new.spent ≡ is_err result }
+        ensures used { IfOk result (λ more. IsTrue more
+            → self.old.taken + held_count self.new.held < self.new.taken + held_count self.old.held) }
+        ensures moves { Moves (stop_of_next (renewed result token.new)) self.old self.new (I.seen inputs.old) (I.seen inputs.new) }
+        ensures stays { Stays result token.old token.new }
+    {
+        let answer = self.scan(alloc, inputs, token);
         self.spent = answer.is_err();
         answer
     }
 
     /// Blanks and the next token.
-    fn scan<I: Inputs>(&mut self, alloc: Global, inputs: &mut I) -> Result<Option<Token>, LexFault>
+    fn scan<I: Inputs>(
+        &mut self,
+        alloc: Global,
+        inputs: &mut I,
+        token: &mut Token,
+    ) -> Result<bool, LexFault>
         ensures answers { Tells (I.seen inputs.old) (I.seen inputs.new) (λ old new.
-            Answers result (self.old.since - held_count self.old.held) self.new.offset (unread self.old.held old) (unread self.new.held new)) }
+            Answers (renewed result token.new) (self.old.since - held_count self.old.held) self.new.offset (unread self.old.held old) (unread self.new.held new)) }
         ensures places { Tells (I.seen inputs.old) (I.seen inputs.new) (λ old new.
-            Places result (self.old.since - held_count self.old.held) self.old.offset self.new.offset (unread self.old.held old) (unread self.new.held new)) }
-        ensures holds { Holds result self.new.held }
-        ensures used { IfOk result (λ token. IsSome token
+            Places (renewed result token.new) (self.old.since - held_count self.old.held) self.old.offset self.new.offset (unread self.old.held old) (unread self.new.held new)) }
+        ensures holds { Holds (renewed result token.new) self.new.held }
+        ensures used { IfOk result (λ more. IsTrue more
             → self.old.taken + held_count self.new.held < self.new.taken + held_count self.old.held) }
-        ensures moves { Moves (stop_of_next result) self.old self.new (I.seen inputs.old) (I.seen inputs.new) }
+        ensures moves { Moves (stop_of_next (renewed result token.new)) self.old self.new (I.seen inputs.old) (I.seen inputs.new) }
+        ensures stays { Stays result token.old token.new }
     {
         match self.skip_blanks(inputs)? {
             Some(first) => {
                 self.offset = self.since - 1;
-                Ok(Some(self.token(alloc, inputs, first)?))
+                *token = self.token(alloc, inputs, first)?;
+                Ok(true)
             }
-            None => Ok(None),
+            None => Ok(false),
         }
     }
 

@@ -1,7 +1,7 @@
 -- Identifiers, names of headers and aliases.
 use Rattle.std.proofs.Common.{◌≡◌, ℕ, Bool, true, false, List, [], ◌∷◌, ◌++◌, ◌==◌, length, Option, Some, None, Ok, Err, inr, refl, sym, ◌∙◌, ap, arith}
 use Rattle.std.specs.List.{list_all}
-use Rattle.std.proofs.lemmas.Bool.{false≢true, and_parts}
+use Rattle.std.proofs.lemmas.Bool.{false≢true, and_from, and_parts}
 use Rattle.std.proofs.lemmas.List.{append_assoc, append-nil}
 use Rattle.std.proofs.lemmas.List.Folds.{list_all-append}
 use Rattle.hoa_lexer.specs.Bytes.{is_letter, is_word}
@@ -27,6 +27,14 @@ takes_word b name name' x y z a e w = record {
   seen = a.seen ++ b ∷ [];
   words = list_all-push is_word b a.seen a.words w;
   split = a.split ∙ ap (λ v. a.seen ++ v) e ∙ sym (append_assoc a.seen (b ∷ []) z);
+}
+
+-- or for a run behind it
+pub takes_run : (name name' x y z : List ℕ) → TakesWord x y → AddsWord name name' y z → TakesWord x z
+takes_run name name' x y z a b = record {
+  seen = a.seen ++ b.seen;
+  words = list_all-append is_word a.seen b.seen ∙ and_from (list_all is_word a.seen) (list_all is_word b.seen) a.words b.words;
+  split = a.split ∙ ap (λ v. a.seen ++ v) b.split ∙ sym (append_assoc a.seen b.seen z);
 }
 
 pub words_left : (o : Option ℕ) (name name' x z : List ℕ) → o ≡ None → AddsWords (Ok o) name name' x z → z ≡ []

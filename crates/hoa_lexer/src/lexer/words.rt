@@ -83,7 +83,6 @@ impl Lexer {
         ensures none_held { IfErr result (λ fault. self.new.held ≡ None) }
         ensures advances { Advances (stop_of_next result) self.old self.new (I.seen inputs.old) (I.seen inputs.new) }
     {
-        self.take_run(inputs, name)?;
         'bytes: loop {
             match self.fetch(inputs)? {
                 Some(byte) => {
@@ -95,6 +94,7 @@ impl Lexer {
                 }
                 None => return Ok(None),
             }
+            self.take_run(inputs, name)?;
         }
     }
 

@@ -44,13 +44,10 @@ pub(super) fn advance<I: Inputs>(
     ensures { Advances result
         (state lexer.old ahead.old (I.seen inputs.old)) (state lexer.new ahead.new (I.seen inputs.new)) }
 {
-    match lexer.next(alloc, inputs)? {
-        Some(token) => {
-            *ahead = token;
-            Ok(())
-        }
-        None => Err(ReadFault::Truncated),
+    if lexer.renew(alloc, inputs, ahead)? {
+        return Ok(());
     }
+    Err(ReadFault::Truncated)
 }
 
 /// What is answered of a token that cannot stand where it does: the one at hand, which the lexer gave last.
