@@ -1,6 +1,6 @@
 //! The lexer.
 
-ghost use Rattle.std.specs.Prelude.{◌≡◌, ◌≢◌, ◌+◌, ◌-◌, ◌<◌, ◌≤◌, ◌∷◌, None, false, is_err, IsSome, IsTrue, IfOk, OnOk};
+ghost use Rattle.std.specs.Prelude.{◌≡◌, ◌≢◌, ◌+◌, ◌-◌, ◌<◌, ◌≤◌, ◌∷◌, None, false, is_err, IsSome, IsTrue, IfOk, OnErr, OnOk};
 ghost use Rattle.hoa_lexer.specs.Bytes as kinds;
 ghost use Rattle.hoa_lexer.specs.Reading.{held_count, renewed, unread, Answers, Holds, Places, Stays, Tells};
 
@@ -36,7 +36,7 @@ pub struct Lexer {
 
 impl Lexer {
     ghost use Rattle.hoa_lexer.specs.Moves.{Moves, stop_of, stop_of_next};
-    ghost use Rattle.hoa_lexer.specs.inner.Steps.{Advances, HoldsAfter, ReadsToken};
+    ghost use Rattle.hoa_lexer.specs.inner.Steps.{put, Advances, HoldsAfter, ReadsToken};
 
     /// A lexer that may take this many bytes in its life.
     pub fn new(most: u64) -> Lexer
@@ -168,43 +168,49 @@ impl Lexer {
         match self.skip_blanks(inputs)? {
             Some(first) => {
                 self.offset = self.since - 1;
-                *token = self.token(alloc, inputs, first)?;
+                self.token(alloc, inputs, first, token)?;
                 Ok(true)
             }
             None => Ok(false),
         }
     }
 
-    /// The token that begins with the byte that is held, which no blank does.
+    /// Puts the token in the place of this one that begins with the byte that is held, which no blank does. After a fault it stays
+    /// what it was.
     fn token<I: Inputs>(
         &mut self,
         alloc: Global,
         inputs: &mut I,
         first: u8,
-    ) -> Result<Token, LexFault>
+        token: &mut Token,
+    ) -> Result<(), LexFault>
         requires held { self.old.held ≡ Some first }
         requires space { kinds.is_space first ≡ false }
         requires slash { first ≢ 47 }
         ensures answers { Tells (I.seen inputs.old) (I.seen inputs.new) (λ old new.
-            ReadsToken result self.old.offset (first ∷ old) (unread self.new.held new)) }
-        ensures holds { HoldsAfter result self.new.held }
+            ReadsToken (put result token.new) self.old.offset (first ∷ old) (unread self.new.held new)) }
+        ensures holds { HoldsAfter (put result token.new) self.new.held }
+        ensures stays { OnErr result (token.new ≡ token.old) }
         ensures progress { OnOk result (self.old.taken + held_count self.new.held < self.new.taken + held_count self.old.held) }
         ensures advances { Advances (stop_of result) self.old self.new (I.seen inputs.old) (I.seen inputs.new) }
     {
         if is_letter(first) {
-            return self.word(alloc, inputs, first);
+            return self.word(alloc, inputs, first, token);
         }
         if is_digit(first) {
-            return self.number(inputs, first);
+            return self.number(inputs, first, token);
         }
         match first {
-            b'"' => self.string(alloc, inputs),
-            b'@' => self.alias(alloc, inputs),
-            b'-' => self.dashes(inputs),
+            b'"' => self.string(alloc, inputs, token),
+            b'@' => self.alias(alloc, inputs, token),
+            b'-' => self.dashes(inputs, token),
             _ => {
                 self.held = None;
                 match sign(first) {
-                    Some(token) => Ok(token),
+                    Some(sign) => {
+                        *token = sign;
+                        Ok(())
+                    }
                     None => Err(LexFault::BadToken(self.offset)),
                 }
             }

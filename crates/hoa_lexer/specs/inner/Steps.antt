@@ -149,6 +149,11 @@ pub record ShowsNone (old new : List ℕ) : Type 0 where
   pub split : old ≡ used ++ new
   pub none : IsNoToken used
 
+-- the answer of a call that puts a token in its place, in the words of a call that gives it
+abbrev pub put : Result (Unit {0}) LexFault → Token → Result Token LexFault
+put (Ok done) token = Ok token
+put (Err fault) token = Err fault
+
 -- the token that stands next, where no blank does
 abbrev pub ReadsToken : Result Token LexFault → ℕ → List ℕ → List ℕ → Type 0
 ReadsToken (Ok token) offset old new = IsFront old token new

@@ -1,6 +1,6 @@
 //! The words in dashes: `--BODY--`, `--END--` and `--ABORT--`.
 
-ghost use Rattle.std.specs.Prelude.{◌≡◌, ◌+◌, ◌<◌, ◌∷◌, None, OnOk};
+ghost use Rattle.std.specs.Prelude.{◌≡◌, ◌+◌, ◌<◌, ◌∷◌, None, OnOk, OnErr};
 ghost use Rattle.hoa_lexer.specs.Reading.{held_count, unread, Tells};
 
 use super::Lexer;
@@ -9,38 +9,40 @@ use aut_io::Inputs;
 
 impl Lexer {
     ghost use Rattle.hoa_lexer.specs.Moves.{stop_of};
-    ghost use Rattle.hoa_lexer.specs.inner.Steps.{Advances, HoldsAfter, IsDashed, ReadsToken, ReadsWord};
+    ghost use Rattle.hoa_lexer.specs.inner.Steps.{put, Advances, HoldsAfter, IsDashed, ReadsToken, ReadsWord};
 
-    /// A word in dashes, the first byte of which is held.
-    pub(super) fn dashes<I: Inputs>(&mut self, inputs: &mut I) -> Result<Token, LexFault>
+    /// Puts a word in dashes in the place of the token. Its first byte is held.
+    pub(super) fn dashes<I: Inputs>(&mut self, inputs: &mut I, token: &mut Token) -> Result<(), LexFault>
         requires { self.old.held ≡ Some 45 }
         ensures answers { Tells (I.seen inputs.old) (I.seen inputs.new) (λ old new.
-            ReadsToken result self.old.offset (45 ∷ old) (unread self.new.held new)) }
-        ensures holds { HoldsAfter result self.new.held }
+            ReadsToken (put result token.new) self.old.offset (45 ∷ old) (unread self.new.held new)) }
+        ensures holds { HoldsAfter (put result token.new) self.new.held }
+        ensures stays { OnErr result (token.new ≡ token.old) }
         ensures progress { OnOk result (self.old.taken + held_count self.new.held < self.new.taken + held_count self.old.held) }
         ensures advances { Advances (stop_of result) self.old self.new (I.seen inputs.old) (I.seen inputs.new) }
     {
         self.held = None;
         match self.fetch(inputs)? {
-            Some(b'-') => self.dashed(inputs),
+            Some(b'-') => self.dashed(inputs, token),
             Some(_) => Err(LexFault::BadToken(self.offset)),
             None => Err(LexFault::OpenToken),
         }
     }
 
     /// A word in dashes, the first two bytes of which were used.
-    fn dashed<I: Inputs>(&mut self, inputs: &mut I) -> Result<Token, LexFault>
+    fn dashed<I: Inputs>(&mut self, inputs: &mut I, token: &mut Token) -> Result<(), LexFault>
         requires { self.old.held ≡ None }
         ensures answers { Tells (I.seen inputs.old) (I.seen inputs.new) (λ old new.
-            ReadsToken result self.old.offset (45 ∷ 45 ∷ old) (unread self.new.held new)) }
-        ensures holds { HoldsAfter result self.new.held }
+            ReadsToken (put result token.new) self.old.offset (45 ∷ 45 ∷ old) (unread self.new.held new)) }
+        ensures holds { HoldsAfter (put result token.new) self.new.held }
+        ensures stays { OnErr result (token.new ≡ token.old) }
         ensures progress { OnOk result (self.old.taken + held_count self.new.held < self.new.taken + held_count self.old.held) }
         ensures advances { Advances (stop_of result) self.old self.new (I.seen inputs.old) (I.seen inputs.new) }
     {
         match self.fetch(inputs)? {
-            Some(b'B') => self.dashed_tail(inputs, Token::Body, b'B', b"ODY--"),
-            Some(b'E') => self.dashed_tail(inputs, Token::End, b'E', b"ND--"),
-            Some(b'A') => self.dashed_tail(inputs, Token::Abort, b'A', b"BORT--"),
+            Some(b'B') => self.dashed_tail(inputs, token, Token::Body, b'B', b"ODY--"),
+            Some(b'E') => self.dashed_tail(inputs, token, Token::End, b'E', b"ND--"),
+            Some(b'A') => self.dashed_tail(inputs, token, Token::Abort, b'A', b"BORT--"),
             Some(_) => Err(LexFault::BadToken(self.offset)),
             None => Err(LexFault::OpenToken),
         }
@@ -50,19 +52,22 @@ impl Lexer {
     fn dashed_tail<I: Inputs>(
         &mut self,
         inputs: &mut I,
-        token: Token,
+        token: &mut Token,
+        dashed: Token,
         letter: u8,
         tail: &[u8],
-    ) -> Result<Token, LexFault>
-        requires word { IsDashed token letter tail.now }
+    ) -> Result<(), LexFault>
+        requires word { IsDashed dashed letter tail.now }
         requires held { self.old.held ≡ None }
         ensures answers { Tells (I.seen inputs.old) (I.seen inputs.new) (λ old new.
-            ReadsToken result self.old.offset (45 ∷ 45 ∷ letter ∷ old) (unread self.new.held new)) }
-        ensures holds { HoldsAfter result self.new.held }
+            ReadsToken (put result token.new) self.old.offset (45 ∷ 45 ∷ letter ∷ old) (unread self.new.held new)) }
+        ensures holds { HoldsAfter (put result token.new) self.new.held }
+        ensures stays { OnErr result (token.new ≡ token.old) }
         ensures advances { Advances (stop_of result) self.old self.new (I.seen inputs.old) (I.seen inputs.new) }
     {
         self.expect(inputs, tail)?;
-        Ok(token)
+        *token = dashed;
+        Ok(())
     }
 
     /// Uses the bytes of a word.

@@ -1,6 +1,6 @@
 //! Integers.
 
-ghost use Rattle.std.specs.Prelude.{◌≡◌, ◌+◌, ◌<◌, ◌∷◌, true, OnOk};
+ghost use Rattle.std.specs.Prelude.{◌≡◌, ◌+◌, ◌<◌, ◌∷◌, true, OnOk, OnErr};
 ghost use Rattle.hoa_lexer.specs.Reading.{held_count, unread, Tells};
 ghost use Rattle.hoa_lexer.specs.Bytes as kinds;
 
@@ -11,29 +11,38 @@ use aut_io::Inputs;
 
 impl Lexer {
     ghost use Rattle.hoa_lexer.specs.Moves.{stop_of};
-    ghost use Rattle.hoa_lexer.specs.inner.Steps.{Advances, HoldsAfter, ReadsToken};
+    ghost use Rattle.hoa_lexer.specs.inner.Steps.{put, Advances, HoldsAfter, ReadsToken};
 
-    /// An integer, the first digit of which is held. It is refused as soon as it has no value that a `u32` holds.
-    pub(super) fn number<I: Inputs>(&mut self, inputs: &mut I, first: u8) -> Result<Token, LexFault>
+    /// Puts an integer in the place of the token. Its first digit is held. It is refused as soon as it has no value that a `u32`
+    /// holds.
+    pub(super) fn number<I: Inputs>(
+        &mut self,
+        inputs: &mut I,
+        first: u8,
+        token: &mut Token,
+    ) -> Result<(), LexFault>
         requires held { self.old.held ≡ Some first }
         requires digit { kinds.is_digit first ≡ true }
         ensures answers { Tells (I.seen inputs.old) (I.seen inputs.new) (λ old new.
-            ReadsToken result self.old.offset (first ∷ old) (unread self.new.held new)) }
-        ensures holds { HoldsAfter result self.new.held }
+            ReadsToken (put result token.new) self.old.offset (first ∷ old) (unread self.new.held new)) }
+        ensures holds { HoldsAfter (put result token.new) self.new.held }
+        ensures stays { OnErr result (token.new ≡ token.old) }
         ensures progress { OnOk result (self.old.taken + held_count self.new.held < self.new.taken + held_count self.old.held) }
         ensures advances { Advances (stop_of result) self.old self.new (I.seen inputs.old) (I.seen inputs.new) }
     {
         self.held = None;
         let mut value = u64::from(first - b'0');
         if value == 0 {
-            return Ok(Token::Int(0));
+            *token = Token::Int(0);
+            return Ok(());
         }
         'digits: loop {
             match self.fetch(inputs)? {
                 Some(byte) => {
                     if !is_digit(byte) {
                         self.held = Some(byte);
-                        return Ok(Token::Int(value as u32));
+                        *token = Token::Int(value as u32);
+                        return Ok(());
                     }
                     value = 10 * value + u64::from(byte - b'0');
                     if value > u64::from(u32::MAX) {

@@ -1,6 +1,6 @@
 //! Strings in quotes.
 
-ghost use Rattle.std.specs.Prelude.{◌≡◌, ◌+◌, ◌<◌, ◌∷◌, None, OnOk};
+ghost use Rattle.std.specs.Prelude.{◌≡◌, ◌+◌, ◌<◌, ◌∷◌, None, OnOk, OnErr};
 ghost use Rattle.hoa_lexer.specs.Reading.{held_count, unread, Tells};
 
 use super::Lexer;
@@ -11,18 +11,20 @@ use std::alloc::Global;
 
 impl Lexer {
     ghost use Rattle.hoa_lexer.specs.Moves.{stop_of};
-    ghost use Rattle.hoa_lexer.specs.inner.Steps.{Advances, HoldsAfter, ReadsQuoted, ReadsToken};
+    ghost use Rattle.hoa_lexer.specs.inner.Steps.{put, Advances, HoldsAfter, ReadsQuoted, ReadsToken};
 
-    /// A string, the first quote of which is held.
+    /// Puts a string in the place of the token. Its first quote is held.
     pub(super) fn string<I: Inputs>(
         &mut self,
         alloc: Global,
         inputs: &mut I,
-    ) -> Result<Token, LexFault>
+        token: &mut Token,
+    ) -> Result<(), LexFault>
         requires { self.old.held ≡ Some 34 }
         ensures answers { Tells (I.seen inputs.old) (I.seen inputs.new) (λ old new.
-            ReadsToken result self.old.offset (34 ∷ old) (unread self.new.held new)) }
-        ensures holds { HoldsAfter result self.new.held }
+            ReadsToken (put result token.new) self.old.offset (34 ∷ old) (unread self.new.held new)) }
+        ensures holds { HoldsAfter (put result token.new) self.new.held }
+        ensures stays { OnErr result (token.new ≡ token.old) }
         ensures progress { OnOk result (self.old.taken + held_count self.new.held < self.new.taken + held_count self.old.held) }
         ensures advances { Advances (stop_of result) self.old self.new (I.seen inputs.old) (I.seen inputs.new) }
     {
@@ -31,7 +33,10 @@ impl Lexer {
         'string: loop {
             match self.quoted_byte(inputs)? {
                 Some(byte) => text.push(byte)?,
-                None => return Ok(Token::Str(text)),
+                None => {
+                    *token = Token::Str(text);
+                    return Ok(());
+                }
             }
         }
     }

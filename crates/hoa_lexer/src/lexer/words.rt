@@ -1,6 +1,6 @@
 //! Identifiers, names of headers and aliases.
 
-ghost use Rattle.std.specs.Prelude.{◌≡◌, ◌+◌, ◌<◌, ◌∷◌, [], None, true, OnOk, IfOk, IfErr};
+ghost use Rattle.std.specs.Prelude.{◌≡◌, ◌+◌, ◌<◌, ◌∷◌, [], None, true, OnOk, IfOk, IfErr, OnErr};
 ghost use Rattle.hoa_lexer.specs.Reading.{held_count, unread, Tells};
 ghost use Rattle.hoa_lexer.specs.Bytes as kinds;
 
@@ -13,20 +13,22 @@ use std::alloc::Global;
 
 impl Lexer {
     ghost use Rattle.hoa_lexer.specs.Moves.{Elsewhere, stop_of, stop_of_next};
-    ghost use Rattle.hoa_lexer.specs.inner.Steps.{AddsWord, AddsWords, Advances, HoldsAfter, ReadsToken};
+    ghost use Rattle.hoa_lexer.specs.inner.Steps.{put, AddsWord, AddsWords, Advances, HoldsAfter, ReadsToken};
 
-    /// An identifier or the name of a header, the first byte of which is held.
+    /// Puts an identifier or the name of a header in the place of the token. Its first byte is held.
     pub(super) fn word<I: Inputs>(
         &mut self,
         alloc: Global,
         inputs: &mut I,
         first: u8,
-    ) -> Result<Token, LexFault>
+        token: &mut Token,
+    ) -> Result<(), LexFault>
         requires held { self.old.held ≡ Some first }
         requires letter { kinds.is_letter first ≡ true }
         ensures answers { Tells (I.seen inputs.old) (I.seen inputs.new) (λ old new.
-            ReadsToken result self.old.offset (first ∷ old) (unread self.new.held new)) }
-        ensures holds { HoldsAfter result self.new.held }
+            ReadsToken (put result token.new) self.old.offset (first ∷ old) (unread self.new.held new)) }
+        ensures holds { HoldsAfter (put result token.new) self.new.held }
+        ensures stays { OnErr result (token.new ≡ token.old) }
         ensures progress { OnOk result (self.old.taken + held_count self.new.held < self.new.taken + held_count self.old.held) }
         ensures advances { Advances (stop_of result) self.old self.new (I.seen inputs.old) (I.seen inputs.new) }
     {
@@ -35,23 +37,29 @@ impl Lexer {
         match self.word_bytes(inputs, &mut name)? {
             Some(b':') => {
                 self.held = None;
-                Ok(Token::HeaderName(name))
+                *token = Token::HeaderName(name);
+                Ok(())
             }
-            Some(_) => Ok(Token::Identifier(name)),
+            Some(_) => {
+                *token = Token::Identifier(name);
+                Ok(())
+            }
             None => Err(LexFault::OpenToken),
         }
     }
 
-    /// An alias, the first byte of which is held.
+    /// Puts an alias in the place of the token. Its first byte is held.
     pub(super) fn alias<I: Inputs>(
         &mut self,
         alloc: Global,
         inputs: &mut I,
-    ) -> Result<Token, LexFault>
+        token: &mut Token,
+    ) -> Result<(), LexFault>
         requires { self.old.held ≡ Some 64 }
         ensures answers { Tells (I.seen inputs.old) (I.seen inputs.new) (λ old new.
-            ReadsToken result self.old.offset (64 ∷ old) (unread self.new.held new)) }
-        ensures holds { HoldsAfter result self.new.held }
+            ReadsToken (put result token.new) self.old.offset (64 ∷ old) (unread self.new.held new)) }
+        ensures holds { HoldsAfter (put result token.new) self.new.held }
+        ensures stays { OnErr result (token.new ≡ token.old) }
         ensures progress { OnOk result (self.old.taken + held_count self.new.held < self.new.taken + held_count self.old.held) }
         ensures advances { Advances (stop_of result) self.old self.new (I.seen inputs.old) (I.seen inputs.new) }
     {
@@ -63,7 +71,8 @@ impl Lexer {
                     self.held = None;
                     return Err(LexFault::BadToken(self.offset));
                 }
-                Ok(Token::Alias(name))
+                *token = Token::Alias(name);
+                Ok(())
             }
             None => Err(LexFault::OpenToken),
         }

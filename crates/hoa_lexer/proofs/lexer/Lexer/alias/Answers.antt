@@ -1,6 +1,6 @@
 use Rattle.std.proofs.Common.{arith, refl, sym, ◌∷◌, ◌∙◌}
 use Rattle.hoa_lexer.specs.Reading.{unread}
-use Rattle.hoa_lexer.specs.inner.Steps.{ReadsToken}
+use Rattle.hoa_lexer.specs.inner.Steps.{put, ReadsToken}
 use Rattle.hoa_lexer.proofs.next_token.Between.{between_as}
 use Rattle.hoa_lexer.proofs.next_token.Moving.{handed_on}
 use Rattle.hoa_lexer.proofs.spelling.Comments.{unheld}
@@ -22,7 +22,7 @@ returns-in-None-clause-answers g c =
 
 pub returns-in_err-word_bytes-clause-answers : goal.returns-in_err-word_bytes-clause-answers
 returns-in_err-word_bytes-clause-answers g c =
-    handed_on (λ r x z. ReadsToken r c.args.self.now.offset (64 ∷ x) (unread c.word_bytes.new.self.held z)) (g.I.Inputs.seen c.args.inputs.now).left
+    handed_on (λ r x z. ReadsToken (put r c.args.token.now) c.args.self.now.offset (64 ∷ x) (unread c.word_bytes.new.self.held z)) (g.I.Inputs.seen c.args.inputs.now).left
     (g.I.Inputs.seen c.word_bytes.new.inputs).left _ _ c.from_residual.ensures.1
     (between_as (g.I.Inputs.seen c.args.inputs.now).left (g.I.Inputs.seen c.word_bytes.new.inputs).left _ _
     (λ x z p. alias_err c.in_err-word_bytes.field-0.0 _ _ _ _ x z c.in_err-word_bytes.ensures.none_held p)

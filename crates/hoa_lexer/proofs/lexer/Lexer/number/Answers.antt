@@ -1,6 +1,6 @@
 use Rattle.std.proofs.Common.{rules, arith, ◌+◌, ◌-◌, ◌*◌, ◌<◌, ◌∷◌, ◌∙◌, refl, sym}
 use Rattle.hoa_lexer.specs.Reading.{unread}
-use Rattle.hoa_lexer.specs.inner.Steps.{ReadsToken}
+use Rattle.hoa_lexer.specs.inner.Steps.{put, ReadsToken}
 use Rattle.hoa_lexer.proofs.next_token.Between.{between_then, between_same}
 use Rattle.hoa_lexer.proofs.next_token.Moving.{handed_on}
 use Rattle.hoa_lexer.proofs.spelling.Comments.{byte_read, end_read, unheld}
@@ -41,6 +41,7 @@ digits-preserved g c =
           c.digits.invariant.answers c.in_ok-byte.ensures.answers;
       advances = search rules;
       held = c.in_ok-byte.ensures.held;
+      stays = c.digits.invariant.stays;
       some = omega arith;
       fits = omega arith;
       used = omega (arith, c.in_ok-byte.ensures.advances.moves.later, c.digits.invariant.used);
@@ -57,7 +58,7 @@ returns-in-None-clause-answers g c =
 pub returns-in_err-byte-clause-answers : goal.returns-in_err-byte-clause-answers
 returns-in_err-byte-clause-answers g c =
     let first : 0 < c.args.first - 48 = omega (arith, c.from-value.ensures) in
-    handed_on (λ r x z. ReadsToken r c.args.self.now.offset (c.args.first ∷ x) (unread c.fetch.new.self.held z)) (g.I.Inputs.seen c.args.inputs.now).left
+    handed_on (λ r x z. ReadsToken (put r c.digits.token) c.args.self.now.offset (c.args.first ∷ x) (unread c.fetch.new.self.held z)) (g.I.Inputs.seen c.args.inputs.now).left
     (g.I.Inputs.seen c.fetch.new.inputs).left _ _ c.from_residual.ensures.1
     (between_then (g.I.Inputs.seen c.args.inputs.now).left (g.I.Inputs.seen c.digits.inputs).left (g.I.Inputs.seen c.fetch.new.inputs).left _ _ _
     (λ x y z p q. number_err c.in_err-byte.field-0.0 _ _ c.args.first c.digits.value x _ z c.requires.digit first (omega arith) c.in_err-byte.ensures.kinds c.in_err-byte.ensures.held p q)

@@ -10,6 +10,7 @@ invariant-digits g l = record {
   answers : Between (g.I.Inputs.seen l.fn.inputs).left (g.I.Inputs.seen l.inputs).left (λ old new. IsDigits l.fn.first l.value old new);
   advances : Advances Elsewhere l.fn.self l.self (g.I.Inputs.seen l.fn.inputs) (g.I.Inputs.seen l.inputs);
   held : l.self.held ≡ None;
+  stays : l.token ≡ l.fn.token;
   some : 0 < l.value;
   fits : l.value < 2 ^ 32;
   used : l.fn.self.taken < l.self.taken + held_count l.fn.self.held;

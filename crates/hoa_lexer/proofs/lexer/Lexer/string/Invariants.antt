@@ -10,6 +10,7 @@ invariant-string g l = record {
   answers : Between (g.I.Inputs.seen l.fn.inputs).left (g.I.Inputs.seen l.inputs).left (λ old new. (inner : List ℕ) × Quotes inner l.text × (old ≡ inner ++ new));
   advances : Advances Elsewhere l.fn.self l.self (g.I.Inputs.seen l.fn.inputs) (g.I.Inputs.seen l.inputs);
   held : l.self.held ≡ None;
+  stays : l.token ≡ l.fn.token;
   used : l.fn.self.taken + held_count l.self.held < l.self.taken + held_count l.fn.self.held;
 }
 

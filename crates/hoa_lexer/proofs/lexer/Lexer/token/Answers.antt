@@ -6,7 +6,7 @@ use Rattle.hoa_lexer.proofs.lexer.Lexer.token.Goals as goal
 
 pub returns-in-Some-clause-answers : goal.returns-in-Some-clause-answers
 returns-in-Some-clause-answers g c =
-    between_same (g.I.Inputs.seen c.args.inputs.now).left _ (λ x. mark_front c.in-Some.token c.args.first x c.in-Some.ensures)
+    between_same (g.I.Inputs.seen c.args.inputs.now).left _ (λ x. mark_front c.in-Some.sign c.args.first x c.in-Some.ensures)
 
 pub returns-in-None-clause-answers : goal.returns-in-None-clause-answers
 returns-in-None-clause-answers g c =

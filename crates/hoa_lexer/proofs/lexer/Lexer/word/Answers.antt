@@ -1,6 +1,6 @@
 use Rattle.std.proofs.Common.{◌∷◌, ◌∙◌}
 use Rattle.hoa_lexer.specs.Reading.{unread}
-use Rattle.hoa_lexer.specs.inner.Steps.{ReadsToken}
+use Rattle.hoa_lexer.specs.inner.Steps.{put, ReadsToken}
 use Rattle.hoa_lexer.proofs.next_token.Between.{between_as, between_same}
 use Rattle.hoa_lexer.proofs.next_token.Moving.{handed_on}
 use Rattle.hoa_lexer.proofs.spelling.Comments.{unheld}
@@ -15,7 +15,7 @@ returns-in-None-clause-answers g c =
 
 pub returns-in_err-word_bytes-clause-answers : goal.returns-in_err-word_bytes-clause-answers
 returns-in_err-word_bytes-clause-answers g c =
-    handed_on (λ r x z. ReadsToken r c.args.self.now.offset (c.args.first ∷ x) (unread c.word_bytes.new.self.held z)) (g.I.Inputs.seen c.args.inputs.now).left
+    handed_on (λ r x z. ReadsToken (put r c.args.token.now) c.args.self.now.offset (c.args.first ∷ x) (unread c.word_bytes.new.self.held z)) (g.I.Inputs.seen c.args.inputs.now).left
     (g.I.Inputs.seen c.word_bytes.new.inputs).left _ _ c.from_residual-in_err-word_bytes.ensures.1
     (between_as (g.I.Inputs.seen c.args.inputs.now).left (g.I.Inputs.seen c.word_bytes.new.inputs).left _ _
     (λ x z p. word_err c.in_err-word_bytes.field-0.0 _ _ c.args.first _ _ x z c.requires.letter c.in_err-word_bytes.ensures.none_held p)
@@ -23,5 +23,5 @@ returns-in_err-word_bytes-clause-answers g c =
 
 pub returns-in_err-name-clause-answers : goal.returns-in_err-name-clause-answers
 returns-in_err-name-clause-answers g c =
-    handed_on (λ r x z. ReadsToken r c.args.self.now.offset (c.args.first ∷ x) z) (g.I.Inputs.seen c.args.inputs.now).left (g.I.Inputs.seen c.args.inputs.now).left _ _ c.from_residual.ensures.1
+    handed_on (λ r x z. ReadsToken (put r c.args.token.now) c.args.self.now.offset (c.args.first ∷ x) z) (g.I.Inputs.seen c.args.inputs.now).left (g.I.Inputs.seen c.args.inputs.now).left _ _ c.from_residual.ensures.1
     (between_same (g.I.Inputs.seen c.args.inputs.now).left _ (λ x. word_stops c.args.first x c.requires.letter))
