@@ -18,6 +18,7 @@ use std::alloc::Global;
 
 /// label = land ("|" land)*, where `depth` of `(` and `!` are open
 #[cycle(label)]
+#[inline]
 pub(super) fn label<I: Inputs>(
     alloc: Global,
     lexer: &mut Lexer,
@@ -34,8 +35,9 @@ pub(super) fn label<I: Inputs>(
     or_lands(alloc, lexer, inputs, ahead, depth, first)
 }
 
-/// ("|" land)*, behind a first one
+/// ("|" land)*, behind a first one. Mostly there is none.
 #[cycle(label)]
+#[inline]
 fn or_lands<I: Inputs>(
     alloc: Global,
     lexer: &mut Lexer,
@@ -50,9 +52,27 @@ fn or_lands<I: Inputs>(
         (state lexer.old ahead.old (I.seen inputs.old)) (state lexer.new ahead.new (I.seen inputs.new)) }
 {
     match ahead {
-        Token::Bar => {}
-        _ => return Ok(first),
+        Token::Bar => more_lands(alloc, lexer, inputs, ahead, depth, first),
+        _ => Ok(first),
     }
+}
+
+/// ("|" land)+, behind a first one
+#[cycle(label)]
+fn more_lands<I: Inputs>(
+    alloc: Global,
+    lexer: &mut Lexer,
+    inputs: &mut I,
+    ahead: &mut Token,
+    depth: u32,
+    first: RawLabel,
+) -> Result<RawLabel, ReadFault>
+    requires unspent { lexer.old.spent ≡ false }
+    requires bar { ahead.old ≡ Token.Bar }
+    requires depth { depth ≤ MOST_DEPTH }
+    ensures reads { Reads (part.Products depth ∷ []) [] (IsOrLands depth (raw_tree first)) result
+        (state lexer.old ahead.old (I.seen inputs.old)) (state lexer.new ahead.new (I.seen inputs.new)) }
+{
     let second = or_land(alloc, lexer, inputs, ahead, depth)?;
     let mut parts = RawLabels::pair(alloc, first, second);
     'lands: loop {
@@ -87,6 +107,7 @@ fn or_land<I: Inputs>(
 
 /// land = lnot ("&" lnot)*
 #[cycle(label)]
+#[inline]
 fn land<I: Inputs>(
     alloc: Global,
     lexer: &mut Lexer,
@@ -103,8 +124,9 @@ fn land<I: Inputs>(
     and_lnots(alloc, lexer, inputs, ahead, depth, first)
 }
 
-/// ("&" lnot)*, behind a first one
+/// ("&" lnot)*, behind a first one. Mostly there is none.
 #[cycle(label)]
+#[inline]
 fn and_lnots<I: Inputs>(
     alloc: Global,
     lexer: &mut Lexer,
@@ -119,9 +141,27 @@ fn and_lnots<I: Inputs>(
         (state lexer.old ahead.old (I.seen inputs.old)) (state lexer.new ahead.new (I.seen inputs.new)) }
 {
     match ahead {
-        Token::Amp => {}
-        _ => return Ok(first),
+        Token::Amp => more_lnots(alloc, lexer, inputs, ahead, depth, first),
+        _ => Ok(first),
     }
+}
+
+/// ("&" lnot)+, behind a first one
+#[cycle(label)]
+fn more_lnots<I: Inputs>(
+    alloc: Global,
+    lexer: &mut Lexer,
+    inputs: &mut I,
+    ahead: &mut Token,
+    depth: u32,
+    first: RawLabel,
+) -> Result<RawLabel, ReadFault>
+    requires unspent { lexer.old.spent ≡ false }
+    requires amp { ahead.old ≡ Token.Amp }
+    requires depth { depth ≤ MOST_DEPTH }
+    ensures reads { Reads (part.Factors depth ∷ []) [] (IsAndLnots depth (raw_tree first)) result
+        (state lexer.old ahead.old (I.seen inputs.old)) (state lexer.new ahead.new (I.seen inputs.new)) }
+{
     let second = and_lnot(alloc, lexer, inputs, ahead, depth)?;
     let mut parts = RawLabels::pair(alloc, first, second);
     'lnots: loop {
@@ -156,6 +196,7 @@ fn and_lnot<I: Inputs>(
 
 /// lnot = "!" lnot | "t" | "f" | INT | ANAME | "(" label ")"
 #[cycle(label)]
+#[inline]
 fn lnot<I: Inputs>(
     alloc: Global,
     lexer: &mut Lexer,

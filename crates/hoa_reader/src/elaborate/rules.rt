@@ -118,10 +118,13 @@ pub(crate) fn may_all_be_passed_over(items: &[Item]) -> bool
     true
 }
 
-/// Whether all of these differ.
+/// Whether all of these differ. Of one alone it takes no memory to see.
 pub(crate) fn texts_differ(alloc: Global, texts: &[Text]) -> Result<bool, Memory>
     ensures { IfOk result (λ differ. differ ≡ all_differ same_text texts.now) }
 {
+    if let [_] = texts {
+        return Ok(true);
+    }
     let mut seen = Places::new(alloc);
     'texts: for text in texts {
         if !seen.add(text.as_bytes(), ())? {

@@ -7,11 +7,15 @@ use aut_base::{FewNumbers, Memory, Names, Numbers, Text};
 use std::alloc::Global;
 use std::collections::BTreeSet;
 
-/// The state of each start, each where it stands first.
+/// The state of each start, each where it stands first. One alone is looked for among no others.
 pub(crate) fn starts_of(alloc: Global, groups: &[&FewNumbers]) -> Result<Numbers, Memory>
     ensures { IfOk result (λ starts. starts ≡ without_repeats (map only_state (map (λ g. g.now) groups.now))) }
 {
     let mut starts = Numbers::new(alloc);
+    if let [group] = groups {
+        starts.push(only_state(group))?;
+        return Ok(starts);
+    }
     let mut seen = BTreeSet::new(alloc);
     'groups: for group in groups {
         let start = only_state(group);

@@ -53,48 +53,48 @@ and_lnots-returns-in_default g t c =
           (past_factors c.args.depth _ c.in_default.not-Amp) (λ a. record { phrase = no_lnot; within = tt; passed = refl; means = refl });
     }
 
-pub and_lnots-and_lnot-requires : goal.and_lnots-and_lnot-requires
-and_lnots-and_lnot-requires g t c κs within =
-    (omega (arith, c.decreases), (within, (c.requires.unspent, (c.in-Amp.is, c.requires.depth))))
+pub more_lnots-and_lnot-requires : goal.more_lnots-and_lnot-requires
+more_lnots-and_lnot-requires g t c κs within =
+    (omega (arith, c.decreases), (within, (c.requires.unspent, (c.requires.amp, c.requires.depth))))
 
-pub and_lnots-returns-in_err-second : goal.and_lnots-returns-in_err-second
-and_lnots-returns-in_err-second g t c =
+pub more_lnots-returns-in_err-second : goal.more_lnots-returns-in_err-second
+more_lnots-returns-in_err-second g t c =
     record { reads = handed_on _ _ _ c.from_residual.ensures.1 c.in_err-second.ensures.reads }
 
-pub and_lnots-lnots-init : goal.and_lnots-lnots-init
-and_lnots-lnots-init g t c =
+pub more_lnots-lnots-init : goal.more_lnots-lnots-init
+more_lnots-lnots-init g t c =
     chain_first (raw_tree c.args.first) _ _ c.pair-parts.ensures c.in_ok-second.ensures.reads
 
-pub and_lnots-returns-in_err-new-in_default-ahead : goal.and_lnots-returns-in_err-new-in_default-ahead
-and_lnots-returns-in_err-new-in_default-ahead g t c =
+pub more_lnots-returns-in_err-new-in_default : goal.more_lnots-returns-in_err-new-in_default
+more_lnots-returns-in_err-new-in_default g t c =
     record {
-      reads = handed_on _ _ _ c.from_residual-in_err-new-in_default-ahead.ensures.1
-          (no_memory (reads_end (Factors c.args.depth) (past_factors c.args.depth _ c.in_default-ahead.not-Amp) c.lnots.invariant));
+      reads = handed_on _ _ _ c.from_residual-in_err-new-in_default.ensures.1
+          (no_memory (reads_end (Factors c.args.depth) (past_factors c.args.depth _ c.in_default.not-Amp) c.lnots.invariant));
     }
 
-pub and_lnots-returns-in_default-ahead : goal.and_lnots-returns-in_default-ahead
-and_lnots-returns-in_default-ahead g t c =
+pub more_lnots-returns-in_default : goal.more_lnots-returns-in_default
+more_lnots-returns-in_default g t c =
     record {
       reads = reads_as (λ a e h. lnots_whole c.args.depth (raw_tree c.args.first) c.lnots.parts _ a e
-          (raw_tree-And c.in_ok-new-in_default-ahead.field-0
-          ∙ ap (λ (p : RawLabels). RawTree.And (raw_parts p).first (raw_parts p).second (raw_trees (raw_parts p).others)) c.in_ok-new-in_default-ahead.ensures.ok) h)
-          (reads_end (Factors c.args.depth) (past_factors c.args.depth _ c.in_default-ahead.not-Amp) c.lnots.invariant);
+          (raw_tree-And c.in_ok-new-in_default.field-0
+          ∙ ap (λ (p : RawLabels). RawTree.And (raw_parts p).first (raw_parts p).second (raw_trees (raw_parts p).others)) c.in_ok-new-in_default.ensures.ok) h)
+          (reads_end (Factors c.args.depth) (past_factors c.args.depth _ c.in_default.not-Amp) c.lnots.invariant);
     }
 
-pub and_lnots-and_lnot-requires-in-lnots : goal.and_lnots-and_lnot-requires-in-lnots
-and_lnots-and_lnot-requires-in-lnots g t c κs within =
-    (omega (arith, c.decreases), (within, (c.lnots.invariant.spent, (c.in-Amp-ahead.is, c.requires.depth))))
+pub more_lnots-and_lnot-requires-in-lnots : goal.more_lnots-and_lnot-requires-in-lnots
+more_lnots-and_lnot-requires-in-lnots g t c κs within =
+    (omega (arith, c.decreases), (within, (c.lnots.invariant.spent, (c.in-Amp.is, c.requires.depth))))
 
-pub and_lnots-returns-in_err-next : goal.and_lnots-returns-in_err-next
-and_lnots-returns-in_err-next g t c =
+pub more_lnots-returns-in_err-next : goal.more_lnots-returns-in_err-next
+more_lnots-returns-in_err-next g t c =
     record { reads = handed_on _ _ _ c.from_residual-in_err-next.ensures.1 (fails_after c.lnots.invariant c.in_err-next.ensures.reads) }
 
-pub and_lnots-returns-in_err-push : goal.and_lnots-returns-in_err-push
-and_lnots-returns-in_err-push g t c =
+pub more_lnots-returns-in_err-push : goal.more_lnots-returns-in_err-push
+more_lnots-returns-in_err-push g t c =
     record { reads = handed_on _ _ _ c.from_residual-in_err-push.ensures.1 (no_memory (reads_then c.lnots.invariant c.in_ok-next.ensures.reads)) }
 
-pub and_lnots-lnots-smaller : goal.and_lnots-lnots-smaller
-and_lnots-lnots-smaller g t c =
+pub more_lnots-lnots-smaller : goal.more_lnots-lnots-smaller
+more_lnots-lnots-smaller g t c =
     omega (
       arith,
       c.in_ok-next.ensures.uses,
@@ -106,8 +106,8 @@ and_lnots-lnots-smaller g t c =
       c.lnots.lexer.held_within,
     )
 
-pub and_lnots-lnots-preserved : goal.and_lnots-lnots-preserved
-and_lnots-lnots-preserved g t c =
+pub more_lnots-lnots-preserved : goal.more_lnots-lnots-preserved
+more_lnots-lnots-preserved g t c =
     chain_next (raw_tree c.args.first) _ _ _ c.in_ok-push.ensures.ok c.lnots.invariant c.in_ok-next.ensures.reads
 
 pub or_lands-returns-in_default : goal.or_lands-returns-in_default
@@ -117,48 +117,48 @@ or_lands-returns-in_default g t c =
           (past_products c.args.depth _ c.in_default.not-Bar) (λ a. record { phrase = no_land; within = tt; passed = refl; means = refl });
     }
 
-pub or_lands-or_land-requires : goal.or_lands-or_land-requires
-or_lands-or_land-requires g t c κs within =
-    (omega (arith, c.decreases), (within, (c.requires.unspent, (c.in-Bar.is, c.requires.depth))))
+pub more_lands-or_land-requires : goal.more_lands-or_land-requires
+more_lands-or_land-requires g t c κs within =
+    (omega (arith, c.decreases), (within, (c.requires.unspent, (c.requires.bar, c.requires.depth))))
 
-pub or_lands-returns-in_err-second : goal.or_lands-returns-in_err-second
-or_lands-returns-in_err-second g t c =
+pub more_lands-returns-in_err-second : goal.more_lands-returns-in_err-second
+more_lands-returns-in_err-second g t c =
     record { reads = handed_on _ _ _ c.from_residual.ensures.1 c.in_err-second.ensures.reads }
 
-pub or_lands-lands-init : goal.or_lands-lands-init
-or_lands-lands-init g t c =
+pub more_lands-lands-init : goal.more_lands-lands-init
+more_lands-lands-init g t c =
     chain_first (raw_tree c.args.first) _ _ c.pair-parts.ensures c.in_ok-second.ensures.reads
 
-pub or_lands-returns-in_err-new-in_default-ahead : goal.or_lands-returns-in_err-new-in_default-ahead
-or_lands-returns-in_err-new-in_default-ahead g t c =
+pub more_lands-returns-in_err-new-in_default : goal.more_lands-returns-in_err-new-in_default
+more_lands-returns-in_err-new-in_default g t c =
     record {
-      reads = handed_on _ _ _ c.from_residual-in_err-new-in_default-ahead.ensures.1
-          (no_memory (reads_end (Products c.args.depth) (past_products c.args.depth _ c.in_default-ahead.not-Bar) c.lands.invariant));
+      reads = handed_on _ _ _ c.from_residual-in_err-new-in_default.ensures.1
+          (no_memory (reads_end (Products c.args.depth) (past_products c.args.depth _ c.in_default.not-Bar) c.lands.invariant));
     }
 
-pub or_lands-returns-in_default-ahead : goal.or_lands-returns-in_default-ahead
-or_lands-returns-in_default-ahead g t c =
+pub more_lands-returns-in_default : goal.more_lands-returns-in_default
+more_lands-returns-in_default g t c =
     record {
       reads = reads_as (λ a e h. lands_whole c.args.depth (raw_tree c.args.first) c.lands.parts _ a e
-          (raw_tree-Or c.in_ok-new-in_default-ahead.field-0
-          ∙ ap (λ (p : RawLabels). RawTree.Or (raw_parts p).first (raw_parts p).second (raw_trees (raw_parts p).others)) c.in_ok-new-in_default-ahead.ensures.ok) h)
-          (reads_end (Products c.args.depth) (past_products c.args.depth _ c.in_default-ahead.not-Bar) c.lands.invariant);
+          (raw_tree-Or c.in_ok-new-in_default.field-0
+          ∙ ap (λ (p : RawLabels). RawTree.Or (raw_parts p).first (raw_parts p).second (raw_trees (raw_parts p).others)) c.in_ok-new-in_default.ensures.ok) h)
+          (reads_end (Products c.args.depth) (past_products c.args.depth _ c.in_default.not-Bar) c.lands.invariant);
     }
 
-pub or_lands-or_land-requires-in-lands : goal.or_lands-or_land-requires-in-lands
-or_lands-or_land-requires-in-lands g t c κs within =
-    (omega (arith, c.decreases), (within, (c.lands.invariant.spent, (c.in-Bar-ahead.is, c.requires.depth))))
+pub more_lands-or_land-requires-in-lands : goal.more_lands-or_land-requires-in-lands
+more_lands-or_land-requires-in-lands g t c κs within =
+    (omega (arith, c.decreases), (within, (c.lands.invariant.spent, (c.in-Bar.is, c.requires.depth))))
 
-pub or_lands-returns-in_err-next : goal.or_lands-returns-in_err-next
-or_lands-returns-in_err-next g t c =
+pub more_lands-returns-in_err-next : goal.more_lands-returns-in_err-next
+more_lands-returns-in_err-next g t c =
     record { reads = handed_on _ _ _ c.from_residual-in_err-next.ensures.1 (fails_after c.lands.invariant c.in_err-next.ensures.reads) }
 
-pub or_lands-returns-in_err-push : goal.or_lands-returns-in_err-push
-or_lands-returns-in_err-push g t c =
+pub more_lands-returns-in_err-push : goal.more_lands-returns-in_err-push
+more_lands-returns-in_err-push g t c =
     record { reads = handed_on _ _ _ c.from_residual-in_err-push.ensures.1 (no_memory (reads_then c.lands.invariant c.in_ok-next.ensures.reads)) }
 
-pub or_lands-lands-smaller : goal.or_lands-lands-smaller
-or_lands-lands-smaller g t c =
+pub more_lands-lands-smaller : goal.more_lands-lands-smaller
+more_lands-lands-smaller g t c =
     omega (
       arith,
       c.in_ok-next.ensures.uses,
@@ -170,8 +170,8 @@ or_lands-lands-smaller g t c =
       c.lands.lexer.held_within,
     )
 
-pub or_lands-lands-preserved : goal.or_lands-lands-preserved
-or_lands-lands-preserved g t c =
+pub more_lands-lands-preserved : goal.more_lands-lands-preserved
+more_lands-lands-preserved g t c =
     chain_next (raw_tree c.args.first) _ _ _ c.in_ok-push.ensures.ok c.lands.invariant c.in_ok-next.ensures.reads
 
 pub label-land-requires : goal.label-land-requires

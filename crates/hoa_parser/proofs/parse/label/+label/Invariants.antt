@@ -8,44 +8,50 @@ use Rattle.hoa_parser.specs.Raw.{raw_tree}
 use Rattle.hoa_parser.proofs.parse.label.+label.Given as goal
 
 abbrev pub decreases-and_lnot : goal.decreases-and_lnot
-decreases-and_lnot g l = 8 * (MOST_DEPTH - l.depth) + 3
+decreases-and_lnot g l = 10 * (MOST_DEPTH - l.depth) + 3
+
+abbrev pub decreases-more_lnots : goal.decreases-more_lnots
+decreases-more_lnots g l = 10 * (MOST_DEPTH - l.depth) + 4
 
 abbrev pub decreases-and_lnots : goal.decreases-and_lnots
-decreases-and_lnots g l = 8 * (MOST_DEPTH - l.depth) + 4
+decreases-and_lnots g l = 10 * (MOST_DEPTH - l.depth) + 5
 
 abbrev pub decreases-group : goal.decreases-group
-decreases-group g l = 8 * (MOST_DEPTH - l.depth) + 1
+decreases-group g l = 10 * (MOST_DEPTH - l.depth) + 1
 
 abbrev pub decreases-label : goal.decreases-label
-decreases-label g l = 8 * (MOST_DEPTH - l.depth) + 8
+decreases-label g l = 10 * (MOST_DEPTH - l.depth) + 10
 
 abbrev pub decreases-land : goal.decreases-land
-decreases-land g l = 8 * (MOST_DEPTH - l.depth) + 5
+decreases-land g l = 10 * (MOST_DEPTH - l.depth) + 6
 
 abbrev pub decreases-lnot : goal.decreases-lnot
-decreases-lnot g l = 8 * (MOST_DEPTH - l.depth) + 2
+decreases-lnot g l = 10 * (MOST_DEPTH - l.depth) + 2
 
 abbrev pub decreases-negation : goal.decreases-negation
-decreases-negation g l = 8 * (MOST_DEPTH - l.depth) + 1
+decreases-negation g l = 10 * (MOST_DEPTH - l.depth) + 1
 
 abbrev pub decreases-or_land : goal.decreases-or_land
-decreases-or_land g l = 8 * (MOST_DEPTH - l.depth) + 6
+decreases-or_land g l = 10 * (MOST_DEPTH - l.depth) + 7
+
+abbrev pub decreases-more_lands : goal.decreases-more_lands
+decreases-more_lands g l = 10 * (MOST_DEPTH - l.depth) + 8
 
 abbrev pub decreases-or_lands : goal.decreases-or_lands
-decreases-or_lands g l = 8 * (MOST_DEPTH - l.depth) + 7
+decreases-or_lands g l = 10 * (MOST_DEPTH - l.depth) + 9
 
-abbrev pub invariant-and_lnots-lnots : goal.invariant-and_lnots-lnots
-invariant-and_lnots-lnots g l =
+abbrev pub invariant-more_lnots-lnots : goal.invariant-more_lnots-lnots
+invariant-more_lnots-lnots g l =
     ReadsTo (Factors l.fn.depth ∷ []) (Factors l.fn.depth ∷ []) (AddsLnots l.fn.depth (raw_tree l.fn.first) l.parts)
     (state l.fn.lexer l.fn.ahead (g.I.Inputs.seen l.fn.inputs)) (state l.lexer l.ahead (g.I.Inputs.seen l.inputs))
 
-abbrev pub decreases-and_lnots-lnots : goal.decreases-and_lnots-lnots
-decreases-and_lnots-lnots g l = l.lexer.most + 1 - (l.lexer.taken - held_count l.lexer.held)
+abbrev pub decreases-more_lnots-lnots : goal.decreases-more_lnots-lnots
+decreases-more_lnots-lnots g l = l.lexer.most + 1 - (l.lexer.taken - held_count l.lexer.held)
 
-abbrev pub invariant-or_lands-lands : goal.invariant-or_lands-lands
-invariant-or_lands-lands g l =
+abbrev pub invariant-more_lands-lands : goal.invariant-more_lands-lands
+invariant-more_lands-lands g l =
     ReadsTo (Products l.fn.depth ∷ []) (Products l.fn.depth ∷ []) (AddsLands l.fn.depth (raw_tree l.fn.first) l.parts)
     (state l.fn.lexer l.fn.ahead (g.I.Inputs.seen l.fn.inputs)) (state l.lexer l.ahead (g.I.Inputs.seen l.inputs))
 
-abbrev pub decreases-or_lands-lands : goal.decreases-or_lands-lands
-decreases-or_lands-lands g l = l.lexer.most + 1 - (l.lexer.taken - held_count l.lexer.held)
+abbrev pub decreases-more_lands-lands : goal.decreases-more_lands-lands
+decreases-more_lands-lands g l = l.lexer.most + 1 - (l.lexer.taken - held_count l.lexer.held)

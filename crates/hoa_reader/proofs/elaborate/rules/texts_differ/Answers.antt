@@ -1,12 +1,15 @@
 use Rattle.std.proofs.Common.{◌≡◌, arith, true, false, ◌∷◌, [], ◌∙◌, ap, sym, take, drop, ◌+◌, is_some}
 use Rattle.std.proofs.lemmas.List.Folds.{list_any-append}
 use Rattle.std.specs.List.{list_any}
-use Rattle.hoa_reader.proofs.validity.AllDiffer.{differ_more, found_or, repeats, some_not_none}
+use Rattle.hoa_reader.proofs.validity.AllDiffer.{one_differs, differ_more, found_or, repeats, some_not_none}
 use Rattle.hoa_reader.specs.inner.Places.{place_in}
 use Rattle.aut_base.specs.Text.{same_text}
 use Rattle.hoa_reader.specs.Validity.{all_differ}
 use Rattle.hoa_reader.proofs.elaborate.rules.texts_differ.Goals as goal
 use Rattle.aut_base.proofs.lists.Lists.{take-push, split-at}
+
+pub returns-in-len1 : goal.returns-in-len1
+returns-in-len1 c = one_differs same_text c.args.texts.now (omega (arith, c.in-len1.len_below))
 
 pub returns-then-not-branch : goal.returns-then-not-branch
 returns-then-not-branch c =
