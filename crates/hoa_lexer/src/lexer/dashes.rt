@@ -12,7 +12,11 @@ impl Lexer {
     ghost use Rattle.hoa_lexer.specs.inner.Steps.{put, Advances, HoldsAfter, IsDashed, ReadsToken, ReadsWord};
 
     /// Puts a word in dashes in the place of the token. Its first byte is held.
-    pub(super) fn dashes<I: Inputs>(&mut self, inputs: &mut I, token: &mut Token) -> Result<(), LexFault>
+    pub(super) fn dashes<I: Inputs>(
+        &mut self,
+        inputs: &mut I,
+        token: &mut Token,
+    ) -> Result<(), LexFault>
         requires { self.old.held ≡ Some 45 }
         ensures answers { Tells (I.seen inputs.old) (I.seen inputs.new) (λ old new.
             ReadsToken (put result token.new) self.old.offset (45 ∷ old) (unread self.new.held new)) }

@@ -1,10 +1,8 @@
-use Rattle.std.proofs.Common.{[], sym, ap, ◌∙◌}
-use Rattle.std.specs.Option.{option_map}
+use Rattle.std.proofs.Common.{[], sym, ◌∙◌}
 use Rattle.hoa_parser.proofs.reading.Atoms.{no_atom, plain_atom}
 use Rattle.hoa_parser.proofs.reading.LabelReads.{atom_last, atom_taken}
 use Rattle.hoa_parser.proofs.reading.Steps.{handed_on, token_refused}
 use Rattle.hoa_parser.specs.inner.Expecting.{Factor}
-use Rattle.hoa_parser.specs.Raw.{raw_tree}
 use Rattle.hoa_parser.proofs.parse.label.atom.Goals as goal
 
 pub returns-in_default-plain_atom : goal.returns-in_default-plain_atom

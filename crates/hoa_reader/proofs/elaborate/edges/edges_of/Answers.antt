@@ -1,4 +1,4 @@
-use Rattle.std.proofs.Common.{◌≡◌, ◌++◌, ◌+◌, ◌<◌, ◌∙◌, List, ap, arith, length, map, sym}
+use Rattle.std.proofs.Common.{◌++◌, ◌<◌, ◌∙◌, List, ap, arith, length, map, sym}
 use Rattle.aut_base.proofs.lists.Members.{all_passes_at}
 use Rattle.aut_base.specs.Automaton.{TreeEdge}
 use Rattle.hoa_parser.specs.Raw.{written_state}
