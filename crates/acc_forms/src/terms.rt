@@ -159,14 +159,14 @@ fn push_joined(
     ensures { OnOk result (found.new ≡ found.old ++ map (λ second. first.now ++ second) seconds.now) }
 {
     'seconds: for second in seconds.as_slice() {
-        let both = joined(alloc, first, second)?;
+        let both = literals_of_both(alloc, first, second)?;
         found.push(both)?;
     }
     Ok(())
 }
 
 /// The literals of both.
-fn joined(alloc: Global, first: &Literals, second: &Literals) -> Result<Literals, Memory>
+fn literals_of_both(alloc: Global, first: &Literals, second: &Literals) -> Result<Literals, Memory>
     ensures { IfOk result (λ both. both ≡ first.now ++ second.now) }
 {
     let mut both = Literals::new(alloc);

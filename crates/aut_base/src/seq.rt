@@ -120,6 +120,9 @@ impl<T: Drop> Seq<T> {
 }
 
 impl Seq<u8> {
+    ghost use Rattle.std.specs.Prelude.{List, ℕ};
+    ghost use Rattle.std.specs.Fmt.{decimal};
+
     /// The text of these bytes.
     pub fn from_bytes(alloc: Global, bytes: &[u8]) -> Result<Self, Memory>
         ensures { IfOk result (λ text. text ≡ bytes.now) }
@@ -161,6 +164,19 @@ impl Seq<u8> {
             Ok(()) => Ok(()),
             Err(_) => Err(Memory),
         }
+    }
+
+    /// Adds a number in decimal digits. Refused for want of memory, it leaves some of them at the end.
+    #[tactic(auto, using(std::proofs::lemmas::Fmt::decimal_digit, std::proofs::lemmas::Fmt::decimal_step))]
+    pub fn push_decimal(&mut self, number: u64) -> Result<(), Memory>
+        ensures ok { OnOk result (self.new ≡ self.old ++ decimal number) }
+        ensures err { OnErr result ((more : List ℕ) × (self.new ≡ self.old ++ more)) }
+    {
+        if number < 10 {
+            return self.push(b'0' + number as u8);
+        }
+        self.push_decimal(number / 10)?;
+        self.push(b'0' + (number % 10) as u8)
     }
 }
 

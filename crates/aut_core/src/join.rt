@@ -33,7 +33,7 @@ pub fn join_names(alloc: Global, a: &Names, b: &Names) -> Result<Names, NameFaul
     ensures within { OnOk result (length (joined_names a.now b.now) ≤ MOST_NAMES) }
     ensures names { IsErrOf result NameFault.Names → MOST_NAMES < length (joined_names a.now b.now) }
 {
-    let names = joined(alloc, a, b)?;
+    let names = names_of_both(alloc, a, b)?;
     if names.len() > MOST_NAMES as usize {
         return Err(NameFault::Names);
     }
@@ -41,7 +41,7 @@ pub fn join_names(alloc: Global, a: &Names, b: &Names) -> Result<Names, NameFaul
 }
 
 /// The same, however many they are.
-fn joined(alloc: Global, a: &Names, b: &Names) -> Result<Names, Memory>
+fn names_of_both(alloc: Global, a: &Names, b: &Names) -> Result<Names, Memory>
     ensures joined { IfOk result (λ names. names ≡ joined_names a.now b.now) }
     ensures both { IfOk result (HaveBoth a.now b.now) }
 {

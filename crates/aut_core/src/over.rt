@@ -51,12 +51,12 @@ impl Automaton {
         self.whole();
         let _distinct = names.as_slice();
         let to = places_in(alloc, self.names(), names)?;
-        let links = self.brought(alloc, &mut guards, names, &to)?;
+        let links = self.links_over(alloc, &mut guards, names, &to)?;
         self.relabelled(alloc, copy_names(names)?, guards, links)
     }
 
     /// The links with guards of another store, over the names there.
-    fn brought(
+    fn links_over(
         &self,
         alloc: Global,
         guards: &mut Guards,

@@ -34,11 +34,11 @@ pub fn complete(alloc: Global, a: &Automaton) -> Result<Automaton, Memory>
     if a.is_complete() {
         return a.copy(alloc);
     }
-    sunk(alloc, a)
+    complete_with_sink(alloc, a)
 }
 
 /// The automaton with a sink.
-fn sunk(alloc: Global, a: &Automaton) -> Result<Automaton, Memory>
+fn complete_with_sink(alloc: Global, a: &Automaton) -> Result<Automaton, Memory>
     requires states { (with_sink (automaton_of a.now)).states < 2 ^ 32 }
     requires sets { (with_sink (automaton_of a.now)).sets < 2 ^ 32 }
     ensures { IfOk result (λ made. automaton_of made ≡ with_sink (automaton_of a.now)) }

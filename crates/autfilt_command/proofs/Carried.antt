@@ -19,7 +19,7 @@ use Rattle.autfilt_run.proofs.turns.Openings.{tried_none}
 use Rattle.autfilt_run.proofs.turns.Stepping.{is_closed}
 use Rattle.autfilt_run.specs.Events.{Event, Point, start_of}
 use Rattle.made_stream.specs.Made.{seen_of_made}
-use Rattle.autfilt_run.specs.Operands.{all_passed, operands_of}
+use Rattle.autfilt_run.specs.OperandEvents.{all_passed, operands_of}
 use Rattle.autfilt_run.specs.Points.{open_count, operands_in}
 use Rattle.autfilt_run.specs.Preparing.{opened_names}
 use Rattle.autfilt_run.specs.declared.fault.RunFault.TheVariants as fault

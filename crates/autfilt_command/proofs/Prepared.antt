@@ -18,7 +18,7 @@ use Rattle.autfilt_run.proofs.printing.Gains.{nothing}
 use Rattle.autfilt_run.proofs.turns.Openings.{opened_as, opened_then, tried_as, tried_then}
 use Rattle.autfilt_run.proofs.turns.Preparing.{counts_then, passed_push}
 use Rattle.autfilt_run.specs.Events.{Point, start_of}
-use Rattle.autfilt_run.specs.Operands.{AreRead, OperandEvent, PassedOver, all_passed, opened_file, opened_files, operand_of, operands_of, passed_of}
+use Rattle.autfilt_run.specs.OperandEvents.{AreRead, OperandEvent, PassedOver, all_passed, opened_file, opened_files, operand_of, operands_of, passed_of}
 use Rattle.autfilt_run.specs.Points.{StandsIn, name_in, open_count}
 use Rattle.autfilt_run.specs.Preparing.{FailsToPrepare, HasRead, HasSkipped, IsReady}
 use Rattle.autfilt_run.specs.declared.fault.RunFault.{RunFault}

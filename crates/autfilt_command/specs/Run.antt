@@ -14,7 +14,7 @@ use Rattle.autfilt_command.specs.declared.ended.Ended.TheVariants as ended
 use Rattle.autfilt_run.specs.Events.{AreJudged, Event, Happen, Kept, Point, Skipped, Tally, all_written, opened_streams, start_of, tally, tally_from}
 use Rattle.made_stream.specs.Made.{seen_of_made}
 use Rattle.autfilt_run.specs.Openings.{AreOpened, AreTried}
-use Rattle.autfilt_run.specs.Operands.{AreRead, OperandEvent, all_passed, opened_files, operands_of}
+use Rattle.autfilt_run.specs.OperandEvents.{AreRead, OperandEvent, all_passed, opened_files, operands_of}
 use Rattle.autfilt_run.specs.Plans.{count_text, prints_count, prints_each, streams_of}
 use Rattle.autfilt_run.specs.Runs.{IsCounted, IsDone, Stops, StopsInOperands}
 use Rattle.autfilt_run.specs.declared.fault.RunFault.{RunFault}

@@ -13,7 +13,7 @@ use Rattle.autfilt_command.specs.declared.ended.End.TheVariants as end
 use Rattle.autfilt_run.specs.Due.{IsDue}
 use Rattle.autfilt_run.specs.Events.{AreJudged, Dropped, Ended, Event, Happen, IsGood, Kept, Opened, Point, Skipped, Stream, place, start_of}
 use Rattle.made_stream.specs.Made.{made_texts}
-use Rattle.autfilt_run.specs.Operands.{AreRead, FileOpened, OperandEvent, PassedOver, Taken, all_passed, operands_of}
+use Rattle.autfilt_run.specs.OperandEvents.{AreRead, FileOpened, OperandEvent, PassedOver, Taken, all_passed, operands_of}
 use Rattle.autfilt_run.specs.Over.{IsOver}
 use Rattle.autfilt_run.specs.Plans.{asks_on, prints_each, streams_of}
 use Rattle.autfilt_run.specs.declared.fault.RunFault.{RunFault}

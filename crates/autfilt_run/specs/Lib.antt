@@ -3,7 +3,7 @@ pub mod Events
 pub mod Faults
 pub mod Figures
 pub mod Openings
-pub mod Operands
+pub mod OperandEvents
 pub mod Over
 pub mod Plans
 pub mod Points

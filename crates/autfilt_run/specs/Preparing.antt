@@ -4,7 +4,7 @@ use Rattle.aut_io.specs.Outside.{Rose, Texts}
 use Rattle.aut_io.specs.Seen.{Seen}
 use Rattle.autfilt_run.specs.Events.{Point}
 use Rattle.autfilt_run.specs.Openings.{AreOpened, AreTried}
-use Rattle.autfilt_run.specs.Operands.{AreRead, OperandEvent, PassedOver, all_passed, opened_files, operands_of}
+use Rattle.autfilt_run.specs.OperandEvents.{AreRead, OperandEvent, PassedOver, all_passed, opened_files, operands_of}
 use Rattle.autfilt_run.specs.Points.{StandsIn, name_in, open_count, operands_in}
 use Rattle.autfilt_run.specs.Runs.{IsCounted, StopsInOperands}
 use Rattle.autfilt_run.specs.declared.fault.RunFault.{RunFault}

@@ -71,18 +71,6 @@ fn number_text(alloc: Global, number: u64) -> Result<Text, Memory>
     ensures { IfOk result (λ text. text ≡ decimal number) }
 {
     let mut text = Text::new(alloc);
-    push_number(&mut text, number)?;
+    text.push_decimal(number)?;
     Ok(text)
-}
-
-/// Adds a number in decimal digits.
-#[tactic(auto, using(std::proofs::lemmas::Fmt::decimal_digit, std::proofs::lemmas::Fmt::decimal_step))]
-fn push_number(out: &mut Text, number: u64) -> Result<(), Memory>
-    ensures { OnOk result (out.new ≡ out.old ++ decimal number) }
-{
-    if number < 10 {
-        return out.push(b'0' + number as u8);
-    }
-    push_number(out, number / 10)?;
-    out.push(b'0' + (number % 10) as u8)
 }

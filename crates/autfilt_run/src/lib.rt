@@ -10,7 +10,7 @@ mod fault;
 mod figures;
 mod handle;
 mod number;
-mod operands;
+mod operand_files;
 mod refuted;
 mod session;
 mod streams;

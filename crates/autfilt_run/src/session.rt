@@ -8,7 +8,7 @@ ghost use Rattle.autfilt_run.specs.declared.session.Stage.{Stage};
 ghost use Rattle.filter_plan.specs.Words as words;
 ghost use Rattle.plan_meaning.specs.Operands.{IsOfReadSize};
 
-mod operands;
+mod operand_reading;
 mod reading;
 
 use crate::fault::RunFault;

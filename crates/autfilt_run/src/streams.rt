@@ -5,7 +5,7 @@ ghost use Rattle.std.specs.List.{slice_index_or};
 ghost use Rattle.autfilt_run.specs.Plans.{files_of, streams_of};
 ghost use Rattle.autfilt_run.specs.Turns.{OpensNext};
 
-use crate::operands::{operand_count, operand_file};
+use crate::operand_files::{operand_count, operand_file};
 use aut_base::{OpenFail, Text};
 use aut_io::Inputs;
 use filter_plan::Plan;

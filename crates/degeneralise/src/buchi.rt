@@ -58,10 +58,10 @@ fn buchi_by(
     ensures no_states { result ≡ Err BuchiFault.BuchiStates → ⊥ }
 {
     if is_generalised_buchi(a.formula()) {
-        return Ok(levelled(alloc, a, a.states(), listed, k)?);
+        return Ok(put_on_levels(alloc, a, a.states(), listed, k)?);
     }
     let copied = copies(alloc, a)?;
-    Ok(levelled(alloc, &copied, a.states(), listed, k)?)
+    Ok(put_on_levels(alloc, &copied, a.states(), listed, k)?)
 }
 
 /// Whether this many copies of this many states and levels are few enough.
@@ -75,7 +75,7 @@ fn are_few(states: u32, copies: usize, levels: usize) -> bool
 }
 
 /// The automaton with room for k levels at each state.
-fn levelled(
+fn put_on_levels(
     alloc: Global,
     a: &Automaton,
     states: u32,

@@ -7,7 +7,7 @@ use Rattle.std.proofs.lemmas.List.{append-nil}
 use Rattle.filter_plan.specs.Formats.{piece_text}
 use Rattle.filter_plan.specs.declared.format.Piece.{Piece}
 use Rattle.filter_plan.specs.declared.format.Piece.TheVariants.{Byte, States, Edges, Sets, Word}
-use Rattle.filter_plan.specs.inner.Pieces.{first_piece}
+use Rattle.filter_plan.specs.inner.FormatPieces.{first_piece}
 
 pub first_of_text : (p : Piece) (rest : List ℕ) → first_piece (piece_text p ++ rest) ≡ Some (p, rest)
 first_of_text (Byte b) rest = go (b == 37) refl

@@ -20,7 +20,7 @@ use Rattle.filter_plan.specs.declared.plan.Output.{Output}
 use Rattle.filter_plan.specs.declared.plan.Output.TheVariants.{Hoa, Stats, Refute}
 use Rattle.filter_plan.specs.declared.range.Range.{Range}
 use Rattle.filter_plan.specs.inner.Bounds.{IsBounds, IsHigh, IsLow}
-use Rattle.filter_plan.specs.inner.Pieces.{first_piece}
+use Rattle.filter_plan.specs.inner.FormatPieces.{first_piece}
 use Rattle.word_syntax.proofs.texts.FrontTokens.{one_front}
 use Rattle.word_syntax.specs.Writing.{OneReading, word_pattern}
 use Rattle.word_syntax.specs.declared.pattern.Pattern.{Pattern}

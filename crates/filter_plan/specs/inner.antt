@@ -1,7 +1,7 @@
 -- Definitions that only inner functions speak in.
 pub mod Entries
 pub mod Bounds
-pub mod Pieces
+pub mod FormatPieces
 pub mod Groups
 pub mod Forms
 pub mod Outputs

@@ -5,7 +5,7 @@ ghost use Rattle.std.specs.Option.{option_map};
 ghost use Rattle.clap.specs.Words.{found_of, rows_of};
 ghost use Rattle.filter_plan.specs.Formats.{IsFormat, piece_text};
 ghost use Rattle.filter_plan.specs.Table.{Reads, values_of};
-ghost use Rattle.filter_plan.specs.inner.Pieces.{escape, first_piece};
+ghost use Rattle.filter_plan.specs.inner.FormatPieces.{escape, first_piece};
 ghost use Rattle.filter_plan.specs.declared.format.Piece.{Piece};
 
 use crate::UsageFault;

@@ -30,7 +30,7 @@ pub fn copies(alloc: Global, a: &Automaton) -> Result<Automaton, FormFault>
 {
     a.whole();
     let terms = disjuncts(alloc, a.formula())?;
-    Ok(copied(alloc, a, &terms)?)
+    Ok(make_copies(alloc, a, &terms)?)
 }
 
 // Why so: 'A copy without `Fin` is one copy for each term' in docs/DECISIONS.md.
@@ -53,7 +53,7 @@ pub fn remove_fin(alloc: Global, a: &Automaton) -> Result<Automaton, FormFault>
 }
 
 /// The same with the terms at hand.
-fn copied(alloc: Global, a: &Automaton, listed: &Terms) -> Result<Automaton, Memory>
+fn make_copies(alloc: Global, a: &Automaton, listed: &Terms) -> Result<Automaton, Memory>
     requires terms { listed.now ≡ terms a.now.formula }
     requires few { count listed.now ≤ MOST_TERMS }
     requires fit { CopiesFit (automaton_of a.now) }

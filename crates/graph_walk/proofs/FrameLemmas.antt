@@ -4,7 +4,7 @@ use Rattle.std.proofs.lemmas.Bool.{cases_lt, cases_eq}
 use Rattle.graph_walk.specs.Walk.{Reaches}
 use Rattle.graph_walk.specs.declared.pass.Frame.{Frame}
 use Rattle.graph_walk.specs.inner.Chains.{head, tail, IsLast}
-use Rattle.graph_walk.specs.inner.Frames.{IsSettled, ReachesPlace, Holds, Hold}
+use Rattle.graph_walk.specs.inner.Frames.{IsSettled, ReachesPlace, IsOpenNode, Hold}
 use Rattle.graph_walk.specs.inner.Places.{At}
 use Rattle.graph_walk.proofs.Marked.{at_end, at_cases, at_same}
 use Rattle.graph_walk.proofs.WalkLemmas.{reach_none, reach_then}
@@ -17,8 +17,8 @@ settled_below order closed low lower w le settled =
     settled
 
 module _ (arcs : List (ℕ × ℕ)) (order order' : List ℕ) (closed closed' : ℕ → Type 0) (settles : (low w : ℕ) → IsSettled order closed low w → IsSettled order' closed' low w) where
-  holds_move : (end : ℕ) (f : Frame) → ((i x : ℕ) → i < end → At order i x → At order' i x) → ((i x : ℕ) → i < end → At order' i x → At order i x) → Holds arcs order closed end f
-      → Holds arcs order' closed' end f
+  holds_move : (end : ℕ) (f : Frame) → ((i x : ℕ) → i < end → At order i x → At order' i x) → ((i x : ℕ) → i < end → At order' i x → At order i x) → IsOpenNode arcs order closed end f
+      → IsOpenNode arcs order' closed' end f
   holds_move end f there back h = record {
     node = h.node;
     here = there f.place h.node h.within h.here;
@@ -43,9 +43,9 @@ module _ (arcs : List (ℕ × ℕ)) (order order' : List ℕ) (closed closed' : 
   )
 
 -- one arc more of a node was looked at
-pub holds_looks : (arcs : List (ℕ × ℕ)) (order : List ℕ) (closed : ℕ → Type 0) (end : ℕ) (f : Frame) (place low next : ℕ) (h : Holds arcs order closed end f) → f.next ≡ place + 1
+pub holds_looks : (arcs : List (ℕ × ℕ)) (order : List ℕ) (closed : ℕ → Type 0) (end : ℕ) (f : Frame) (place low next : ℕ) (h : IsOpenNode arcs order closed end f) → f.next ≡ place + 1
     → low ≤ f.low → IsSettled order closed low (head arcs place) → ReachesPlace arcs order h.node low → IsLast arcs (tail arcs place) place next
-    → Holds arcs order closed end (record { place = f.place; low = low; next = next })
+    → IsOpenNode arcs order closed end (record { place = f.place; low = low; next = next })
 holds_looks arcs order closed end f place low next h is lower settled back last =
     let minus : f.next - 1 ≡ place = omega (arith, is) in
     let leaves : tail arcs place ≡ h.node = ap (tail arcs) (sym minus) ∙ h.leaves (omega (arith, is)) in
@@ -79,7 +79,7 @@ reaches_lower arcs order node low other first second =
 
 -- a node that was just entered
 pub holds_enters : (arcs : List (ℕ × ℕ)) (order : List ℕ) (closed : ℕ → Type 0) (w next : ℕ) → ((i x : ℕ) → At order i x → Reaches arcs x w) → IsLast arcs w (length arcs) next
-    → Holds arcs (order ++ w ∷ []) closed (length order + 1) (record { place = length order; low = length order; next = next })
+    → IsOpenNode arcs (order ++ w ∷ []) closed (length order + 1) (record { place = length order; low = length order; next = next })
 holds_enters arcs order closed w next to_it last = record {
   node = w;
   here = at_end order w;
@@ -101,8 +101,8 @@ holds_enters arcs order closed w next to_it last = record {
 }
 
 -- a node whose arcs are done is left for the one below it, since it reaches a node before its own place
-pub holds_merge : (arcs : List (ℕ × ℕ)) (order : List ℕ) (closed : ℕ → Type 0) (end : ℕ) (f g : Frame) → Holds arcs order closed end f → Holds arcs order closed f.place g → f.next ≡ 0
-    → f.low < f.place → Holds arcs order closed end (record g { low = min g.low f.low })
+pub holds_merge : (arcs : List (ℕ × ℕ)) (order : List ℕ) (closed : ℕ → Type 0) (end : ℕ) (f g : Frame) → IsOpenNode arcs order closed end f → IsOpenNode arcs order closed f.place g → f.next ≡ 0
+    → f.low < f.place → IsOpenNode arcs order closed end (record g { low = min g.low f.low })
 holds_merge arcs order closed end f g top under ended low =
     let across = top.down g.place under.node (omega (arith, top.within, under.within)) under.here in
     let lower : min g.low f.low ≤ f.low = omega arith in

@@ -9,7 +9,7 @@ use Rattle.graph_walk.specs.declared.pass.Frame.{Frame}
 use Rattle.graph_walk.specs.declared.pass.Mark.{Mark}
 use Rattle.graph_walk.specs.declared.pass.Mark.TheVariants.{Fresh, Open, Closed}
 use Rattle.graph_walk.specs.inner.Chains.{head, tail}
-use Rattle.graph_walk.specs.inner.Frames.{IsSettled, Holds}
+use Rattle.graph_walk.specs.inner.Frames.{IsSettled, IsOpenNode}
 use Rattle.graph_walk.specs.inner.Marks.{mark_of, number_of, IsNumbered, IsClosed, one_if_fresh, fresh_count, AreNumbered, Keeps, ClosesFrom}
 use Rattle.graph_walk.specs.inner.Places.{At}
 use Rattle.graph_walk.proofs.Marked.{at_kept, at_end, at_cases, at_same}
@@ -99,7 +99,7 @@ closed_reach arcs numbered count are p q n (a ∷ walk) is leads =
 
 -- the open nodes from the place of f on become a component
 module _ (arcs : List (ℕ × ℕ)) (marks marks' : List Mark) (order : List ℕ) (count : ℕ) (f : Frame) (keeps : Keeps arcs marks order count)
-    (h : Holds arcs order (IsClosed marks) (length order) f) (ended : f.next ≡ 0) (own : f.low ≡ f.place) (closes : ClosesFrom order f.place (length order) count marks marks') where
+    (h : IsOpenNode arcs order (IsClosed marks) (length order) f) (ended : f.next ≡ 0) (own : f.low ≡ f.place) (closes : ClosesFrom order f.place (length order) count marks marks') where
   abbrev IsChosen : ℕ → Type 0
   IsChosen x = (i : ℕ) × (f.place ≤ i) × At order i x
 

@@ -11,7 +11,7 @@ use Rattle.graph_walk.specs.declared.pass.Mark.{Mark}
 use Rattle.graph_walk.specs.declared.pass.Mark.TheVariants.{Fresh, Open, Closed}
 use Rattle.graph_walk.specs.declared.pass.Pass.{Pass}
 use Rattle.graph_walk.specs.inner.Chains.{head, tail, IsLast, AreChained}
-use Rattle.graph_walk.specs.inner.Frames.{IsSettled, ReachesPlace, Holds, Hold}
+use Rattle.graph_walk.specs.inner.Frames.{IsSettled, ReachesPlace, IsOpenNode, Hold}
 use Rattle.graph_walk.specs.inner.Marks.{mark_of, IsClosed, fresh_count, Keeps, ClosesFrom}
 use Rattle.graph_walk.specs.inner.Pass.{IsMidway, IsIdle, NoneFreshened, left_of, Steps, Enters, Closes, Finishes}
 use Rattle.graph_walk.specs.inner.Places.{At}
@@ -95,7 +95,7 @@ module _ (nodes : ℕ) (arcs : List (ℕ × ℕ)) (p : Pass) (top : Frame) (plac
       let keeps = keeps_enters arcs p.marks.items p.order.items p.count w m.keeps fits fresh in
       let kept = numbered_kept arcs p.marks.items p.order.items p.count w m.keeps fits fresh in
       let chain_w : IsLast arcs w (length arcs) f.next = subst (λ k. IsLast arcs w (length arcs) k) (sym e.next) (chains.lasts w within) in
-      let entered : Holds arcs order' (IsClosed new) (n + 1) (record { place = n; low = n; next = f.next }) =
+      let entered : IsOpenNode arcs order' (IsClosed new) (n + 1) (record { place = n; low = n; next = f.next }) =
       holds_enters arcs p.order.items (IsClosed new) w f.next
       (λ i x at. reach_then arcs x m.hold.0.node w (m.hold.0.down i x at.0 at) (reach_place arcs place m.hold.0.node w place_within from_top enters))
       chain_w in
@@ -145,7 +145,7 @@ enters_first nodes arcs last before w p p' f chains idle within fresh e =
     let keeps = keeps_enters arcs p.marks.items p.order.items p.count w idle.keeps fits fresh in
     let chain : IsLast arcs w (length arcs) f.next = subst (λ k. IsLast arcs w (length arcs) k) (sym e.next) (chains.lasts w within) in
     let none : n ≡ 0 = ap length idle.no_order in
-    let entered : Holds arcs order' (IsClosed new) (n + 1) (record { place = n; low = n; next = f.next }) =
+    let entered : IsOpenNode arcs order' (IsClosed new) (n + 1) (record { place = n; low = n; next = f.next }) =
     holds_enters arcs p.order.items (IsClosed new) w f.next (λ i x at. absurd (omega (arith, at.0))) chain in
     record {
       size = ap length e.marks ∙ (length-set p.marks.items w (Open n) ∙ idle.size);
@@ -174,7 +174,7 @@ merges nodes arcs p p' top g low m ended other marks order count below low_is =
         keeps = rw (marks, order, count) m.keeps;
         hold = hold_same arcs p.marks.items p'.marks.items p.order.items p'.order.items n (length p'.order.items) (record { place = g.place; low = low; next = g.next })
             (reverse p'.below.items) (reverse p'.below.items) marks order (ap length order) refl
-            (subst (λ (k : ℕ). Holds arcs p.order.items (IsClosed p.marks.items) n (record { place = g.place; low = k; next = g.next })) (sym low_is) merged, hold.1);
+            (subst (λ (k : ℕ). IsOpenNode arcs p.order.items (IsClosed p.marks.items) n (record { place = g.place; low = k; next = g.next })) (sym low_is) merged, hold.1);
       };
       falls = omega (arith, ended, ap (λ (ms : List Mark). fresh_count ms * (length arcs + 2)) marks, ap (sum_by left_of) below, sum_by_push left_of p'.below.items g);
       freshened = λ x was. ap (λ (ms : List Mark). mark_of ms x) (sym marks) ∙ was;

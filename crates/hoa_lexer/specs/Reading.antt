@@ -82,7 +82,7 @@ Places (Ok None) start offset offset' old new = offset' ≡ offset
 Places (Err fault) start offset offset' old new = (used : List ℕ) × (old ≡ used ++ new) × IsPlaced start offset offset' used
 
 -- A byte past the token is held exactly where that byte was needed to close it. After a fault none is held.
-abbrev pub Holds : Result (Option Token) LexFault → Option ℕ → Type 0
-Holds (Ok None) held = held ≡ None
-Holds (Ok (Some token)) held = is_some held ≡ not (closes_itself token)
-Holds (Err fault) held = held ≡ None
+abbrev pub HoldsPast : Result (Option Token) LexFault → Option ℕ → Type 0
+HoldsPast (Ok None) held = held ≡ None
+HoldsPast (Ok (Some token)) held = is_some held ≡ not (closes_itself token)
+HoldsPast (Err fault) held = held ≡ None

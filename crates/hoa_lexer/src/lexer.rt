@@ -2,7 +2,7 @@
 
 ghost use Rattle.std.specs.Prelude.{◌≡◌, ◌≢◌, ◌+◌, ◌-◌, ◌<◌, ◌≤◌, ◌∷◌, None, false, is_err, IsSome, IsTrue, IfOk, OnErr, OnOk};
 ghost use Rattle.hoa_lexer.specs.Bytes as kinds;
-ghost use Rattle.hoa_lexer.specs.Reading.{held_count, renewed, unread, Answers, Holds, Places, Stays, Tells};
+ghost use Rattle.hoa_lexer.specs.Reading.{held_count, renewed, unread, Answers, HoldsPast, Places, Stays, Tells};
 
 mod blanks;
 mod bytes;
@@ -105,7 +105,7 @@ impl Lexer {
             Answers result (self.old.since - held_count self.old.held) self.new.offset (unread self.old.held old) (unread self.new.held new)) }
         ensures places { Tells (I.seen inputs.old) (I.seen inputs.new) (λ old new.
             Places result (self.old.since - held_count self.old.held) self.old.offset self.new.offset (unread self.old.held old) (unread self.new.held new)) }
-        ensures holds { Holds result self.new.held }
+        ensures holds { HoldsPast result self.new.held }
         ensures spent { self.new.spent ≡ is_err result }
 
         // A token uses at least one byte, also where the inputs don't tell what is left.
@@ -136,7 +136,7 @@ impl Lexer {
             Answers (renewed result token.new) (self.old.since - held_count self.old.held) self.new.offset (unread self.old.held old) (unread self.new.held new)) }
         ensures places { Tells (I.seen inputs.old) (I.seen inputs.new) (λ old new.
             Places (renewed result token.new) (self.old.since - held_count self.old.held) self.old.offset self.new.offset (unread self.old.held old) (unread self.new.held new)) }
-        ensures holds { Holds (renewed result token.new) self.new.held }
+        ensures holds { HoldsPast (renewed result token.new) self.new.held }
         ensures spent { self.new.spent ≡ is_err result }
         ensures used { IfOk result (λ more. IsTrue more
             → self.old.taken + held_count self.new.held < self.new.taken + held_count self.old.held) }
@@ -159,7 +159,7 @@ impl Lexer {
             Answers (renewed result token.new) (self.old.since - held_count self.old.held) self.new.offset (unread self.old.held old) (unread self.new.held new)) }
         ensures places { Tells (I.seen inputs.old) (I.seen inputs.new) (λ old new.
             Places (renewed result token.new) (self.old.since - held_count self.old.held) self.old.offset self.new.offset (unread self.old.held old) (unread self.new.held new)) }
-        ensures holds { Holds (renewed result token.new) self.new.held }
+        ensures holds { HoldsPast (renewed result token.new) self.new.held }
         ensures used { IfOk result (λ more. IsTrue more
             → self.old.taken + held_count self.new.held < self.new.taken + held_count self.old.held) }
         ensures moves { Moves (stop_of_next (renewed result token.new)) self.old self.new (I.seen inputs.old) (I.seen inputs.new) }

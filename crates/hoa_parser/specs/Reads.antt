@@ -67,10 +67,10 @@ Shows (Err fault.Truncated) start old left = (left ≡ []) × AsksOn start old l
 Shows _ start old left = Unit {0}
 
 -- A byte may be held past a token that cannot stand where it does, and where memory was wanting; else none is.
-abbrev pub Holds : Result Front ReadFault → Option ℕ → Type 0
-Holds (Err (fault.Syntax k)) held = Unit {0}
-Holds (Err fault.Memory) held = Unit {0}
-Holds _ held = held ≡ None
+abbrev pub HoldsBehind : Result Front ReadFault → Option ℕ → Type 0
+HoldsBehind (Err (fault.Syntax k)) held = Unit {0}
+HoldsBehind (Err fault.Memory) held = Unit {0}
+HoldsBehind _ held = held ≡ None
 
 -- where a reader came to its answer
 abbrev pub stop_of_fault : ReadFault → Stop

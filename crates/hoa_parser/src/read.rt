@@ -3,7 +3,7 @@
 ghost use Rattle.std.specs.Prelude.{◌≡◌, ◌≢◌, ◌+◌, ◌-◌, ◌<◌, false, IfOk, OnOk};
 ghost use Rattle.hoa_lexer.specs.Moves.{Moves};
 ghost use Rattle.hoa_lexer.specs.Reading.{Tells, held_count, unread};
-ghost use Rattle.hoa_parser.specs.Reads.{Answers, Holds, Shows, stop_of_front};
+ghost use Rattle.hoa_parser.specs.Reads.{Answers, HoldsBehind, Shows, stop_of_front};
 
 use crate::parse::{abandons, automaton, opens};
 use crate::{Raw, ReadFault};
@@ -37,7 +37,7 @@ pub fn read_raw<I: Inputs>(
     // The bytes that were taken show it, and the last of them was asked for.
     ensures shown { Tells (I.seen inputs.old) (I.seen inputs.new) (λ old new.
         Shows result (lexer.old.since - held_count lexer.old.held) (unread lexer.old.held old) new) }
-    ensures held { Holds result lexer.new.held }
+    ensures held { HoldsBehind result lexer.new.held }
     ensures spent { OnOk result (lexer.new.spent ≡ false) }
 
     // An automaton uses at least one byte, also where the inputs don't tell what is left.

@@ -2,7 +2,7 @@
 pub mod Examined
 pub mod Gathered
 pub mod Growing
-pub mod Pieces
+pub mod PickedOut
 pub mod Places
 pub mod Rising
 pub mod TreeEdges

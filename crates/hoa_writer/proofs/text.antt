@@ -2,5 +2,5 @@
 pub mod Formulas
 pub mod InOrder
 pub mod Lines
-pub mod Pieces
+pub mod JoinedTexts
 pub mod Settled

@@ -1,3 +1,3 @@
 -- Definitions that only inner functions speak in.
 pub mod Lines
-pub mod Pieces
+pub mod JoinedTexts

@@ -3,7 +3,7 @@
 ghost use Rattle.std.specs.Prelude.{◌≡◌, ◌++◌, codes, OnOk};
 ghost use Rattle.aut_base.specs.Formula.{formula_tree, formula_list};
 ghost use Rattle.hoa_writer.specs.CanonicalText.{formula_text, part, set_text};
-ghost use Rattle.hoa_writer.specs.inner.Pieces.{list_text};
+ghost use Rattle.hoa_writer.specs.inner.JoinedTexts.{list_text};
 
 use crate::number::push_number;
 use aut_base::{Formula, Formulas, Memory, Text};

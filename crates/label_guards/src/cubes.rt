@@ -166,21 +166,8 @@ fn push_literal(out: &mut Text, literal: Literal) -> Result<(), Memory>
     ensures err { OnErr result (Gains out.old out.new) }
 {
     if literal.holds {
-        return push_number(out, literal.prop);
+        return out.push_decimal(u64::from(literal.prop));
     }
     out.push(b'!')?;
-    push_number(out, literal.prop)
-}
-
-/// Adds a number in decimal digits.
-#[tactic(auto, using(std::proofs::lemmas::Fmt::decimal_digit, std::proofs::lemmas::Fmt::decimal_step))]
-fn push_number(out: &mut Text, number: u32) -> Result<(), Memory>
-    ensures ok { OnOk result (out.new ≡ out.old ++ decimal number) }
-    ensures err { OnErr result (Gains out.old out.new) }
-{
-    if number < 10 {
-        return out.push(b'0' + number as u8);
-    }
-    push_number(out, number / 10)?;
-    out.push(b'0' + (number % 10) as u8)
+    out.push_decimal(u64::from(literal.prop))
 }

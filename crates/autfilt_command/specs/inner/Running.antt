@@ -10,7 +10,7 @@ use Rattle.autfilt_command.specs.declared.ended.End.{End}
 use Rattle.autfilt_command.specs.declared.ended.End.TheVariants as end
 use Rattle.autfilt_run.specs.Events.{AreJudged, Event, Happen, Point, Tally, all_written, opened_streams, start_of}
 use Rattle.autfilt_run.specs.Openings.{AreOpened, AreTried}
-use Rattle.autfilt_run.specs.Operands.{AreRead, OperandEvent, all_passed, opened_files, operands_of}
+use Rattle.autfilt_run.specs.OperandEvents.{AreRead, OperandEvent, all_passed, opened_files, operands_of}
 use Rattle.autfilt_run.specs.Plans.{streams_of}
 use Rattle.autfilt_run.specs.Points.{StandsAt, StandsIn, operands_in}
 use Rattle.autfilt_run.specs.Preparing.{CountsAt, opened_names}

@@ -2,7 +2,7 @@
 use Rattle.std.proofs.Common.{◌≡◌, ℕ, List, [], Option, Some, None, sym, ap, ◌∙◌, subst}
 use Rattle.aut_io.specs.Outside.{Texts}
 use Rattle.autfilt_run.specs.Events.{EndsStream, IsGood, OpensStream, PassesOver, Point, ReadsOn, Stream, ended_at, place, read_on}
-use Rattle.autfilt_run.specs.Operands.{TakesOperand, taken_at}
+use Rattle.autfilt_run.specs.OperandEvents.{TakesOperand, taken_at}
 use Rattle.hoa_parser.specs.Raw.{Written}
 use Rattle.hoa_parser.specs.Standing as standing
 use Rattle.hoa_parser.specs.Standing.{OneStanding, Standing, Stands}

@@ -8,7 +8,7 @@ use Rattle.autfilt_laws.proofs.alike.Looks.{look_over, look_taken}
 use Rattle.autfilt_laws.proofs.alike.Operands.{one_proceeds}
 use Rattle.autfilt_laws.specs.Runs.{IsByText}
 use Rattle.autfilt_run.specs.Events.{Point}
-use Rattle.autfilt_run.specs.Operands.{AreRead, FileOpened, OperandEvent, PassedOver, Proceeds, Taken}
+use Rattle.autfilt_run.specs.OperandEvents.{AreRead, FileOpened, OperandEvent, PassedOver, Proceeds, Taken}
 use Rattle.autfilt_run.specs.Runs.{StopsAtOperand, StopsInOperands}
 use Rattle.autfilt_run.specs.declared.fault.RunFault.{RunFault}
 use Rattle.hoa_parser.specs.Standing.{OneStanding}

@@ -10,7 +10,7 @@ use Rattle.autfilt_laws.proofs.alike.Faults.{Asking, Fits, Halted, in_operands, 
 use Rattle.autfilt_laws.proofs.alike.OperandEnds.{halted_there}
 use Rattle.autfilt_laws.specs.Runs.{AreReadable, Completes, EndsBefore, EndsInStreams, IsByText, IsReadable, Outcome}
 use Rattle.autfilt_run.specs.Events.{Event, Point, Stream, place}
-use Rattle.autfilt_run.specs.Operands.{all_passed, operands_of}
+use Rattle.autfilt_run.specs.OperandEvents.{all_passed, operands_of}
 use Rattle.autfilt_run.specs.Over.{IsOver}
 use Rattle.autfilt_run.specs.Plans.{asks_on}
 use Rattle.autfilt_run.specs.declared.fault.RunFault.{RunFault}

@@ -12,7 +12,7 @@ use Rattle.autfilt_laws.proofs.alike.OperandEnds.{IsHaltedIn, IsThrough, halted_
 use Rattle.autfilt_laws.proofs.alike.Verdicts.{AreOne}
 use Rattle.autfilt_laws.specs.Runs.{AreLike, AreSame, EndsBefore, EndsInStreams, IsByText, OneEnd, Outcome, streams_from, texts_or}
 use Rattle.autfilt_run.specs.Events.{AreJudged, Happen, Point, start_of}
-use Rattle.autfilt_run.specs.Operands.{OperandEvent, all_passed, operands_of}
+use Rattle.autfilt_run.specs.OperandEvents.{OperandEvent, all_passed, operands_of}
 use Rattle.autfilt_run.specs.Runs.{StopsInOperands}
 use Rattle.autfilt_run.specs.declared.fault.RunFault.{RunFault}
 use Rattle.filter_plan.specs.Words.{operands}

@@ -5,7 +5,7 @@ use Rattle.aut_io.specs.Outside.{Texts}
 use Rattle.autfilt_command.specs.Run.{AreAllRead}
 use Rattle.autfilt_laws.specs.Runs.{AreGoodOperands, IsGoodOperand}
 use Rattle.autfilt_run.specs.Events.{Point, Stream, start_of}
-use Rattle.autfilt_run.specs.Operands.{AreRead, FileOpened, OperandEvent, PassedOver, Taken, operands_of}
+use Rattle.autfilt_run.specs.OperandEvents.{AreRead, FileOpened, OperandEvent, PassedOver, Taken, operands_of}
 use Rattle.filter_plan.specs.Words.{operands}
 use Rattle.filter_plan.specs.declared.plan.Plan.{Plan}
 

@@ -10,7 +10,7 @@ use Rattle.autfilt_laws.proofs.existence.Shorter.{aborted_less}
 use Rattle.autfilt_laws.proofs.existence.Stopping.{is_counted, stops_operand, stops_where}
 use Rattle.autfilt_laws.specs.Runs.{IsByText, size_of}
 use Rattle.autfilt_run.specs.Events.{Point, Stream, opened_at, place, read_on}
-use Rattle.autfilt_run.specs.Operands.{AreRead, FileOpened, OperandEvent, PassedOver, Proceeds, Taken, taken_at}
+use Rattle.autfilt_run.specs.OperandEvents.{AreRead, FileOpened, OperandEvent, PassedOver, Proceeds, Taken, taken_at}
 use Rattle.autfilt_run.specs.Runs.{AtNamed, IsCounted, StopsAtOperand, StopsInOperands}
 use Rattle.autfilt_run.specs.declared.fault.RunFault.{RunFault}
 use Rattle.autfilt_run.specs.declared.fault.RunFault.TheVariants as fault

@@ -12,7 +12,7 @@ use Rattle.autfilt_laws.proofs.existence.InOperands.{IsStoppedThere, ReadsThere,
 use Rattle.autfilt_laws.proofs.existence.InStreams.{Existing, IsStopped, Reads, in_streams}
 use Rattle.autfilt_laws.specs.Runs.{IsByText, IsEnded, Outcome, SomeEnd, size_of, streams_from, texts_or}
 use Rattle.autfilt_run.specs.Events.{Point, Tally, start_of}
-use Rattle.autfilt_run.specs.Operands.{AreRead, OperandEvent, all_passed, operands_of}
+use Rattle.autfilt_run.specs.OperandEvents.{AreRead, OperandEvent, all_passed, operands_of}
 use Rattle.autfilt_run.specs.Plans.{streams_of}
 use Rattle.autfilt_run.specs.Runs.{IsDone}
 use Rattle.filter_plan.specs.Words.{operands}

@@ -13,7 +13,7 @@ use Rattle.aut_base.specs.declared.limit.TheConstants.{MOST_NAMES, MOST_SETS, MO
 use Rattle.autfilt_laws.specs.Runs.{SilentIsDue, UnchangedIsDue}
 use Rattle.autfilt_run.proofs.printing.ReadsAs.{reads_as}
 use Rattle.autfilt_run.specs.Due.{IsCanonical, IsDueWhere, IsMade, IsPrinted, name_due}
-use Rattle.autfilt_run.specs.Operands.{operands_of}
+use Rattle.autfilt_run.specs.OperandEvents.{operands_of}
 use Rattle.autfilt_run.specs.Plans.{prints_each}
 use Rattle.filter_plan.specs.Words.{changes, has_form}
 use Rattle.filter_plan.specs.declared.plan.Form.{Form}

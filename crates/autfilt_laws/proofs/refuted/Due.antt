@@ -15,7 +15,7 @@ use Rattle.autfilt_laws.proofs.existence.Unchanged.{silent}
 use Rattle.autfilt_laws.proofs.refuted.Refuting.{included}
 use Rattle.autfilt_laws.specs.Runs.{IsGoodOperand, RefutedIsDue}
 use Rattle.autfilt_run.specs.Due.{IsDue, IsDueWhere, IsPrinted}
-use Rattle.autfilt_run.specs.Operands.{FileOpened, OperandEvent, PassedOver, Taken, operands_of}
+use Rattle.autfilt_run.specs.OperandEvents.{FileOpened, OperandEvent, PassedOver, Taken, operands_of}
 use Rattle.autfilt_run.specs.Over.{IsOver, IsOverPrinting, StopsPrinting}
 use Rattle.autfilt_run.specs.Plans.{prints_each}
 use Rattle.autfilt_run.specs.RefutationLine.{IsRefutationLine, SaysOfInclusion}

@@ -4,7 +4,7 @@ use Rattle.std.specs.Prelude.{map}
 use Rattle.aut_core.specs.Core.{Core, automaton_of}
 use Rattle.aut_io.specs.Seen.{Seen}
 use Rattle.autfilt_run.specs.Events.{Point, Stream}
-use Rattle.autfilt_run.specs.Operands.{OperandEvent, PassedOver, opened_files, operands_of}
+use Rattle.autfilt_run.specs.OperandEvents.{OperandEvent, PassedOver, opened_files, operands_of}
 use Rattle.autfilt_run.specs.Plans.{files_of, name_at}
 use Rattle.autfilt_run.specs.Points.{IsIn, StandsIn, name_in, open_count}
 use Rattle.autfilt_run.specs.Preparing.{HasRead, HasSkipped, IsReady, Prepares, opened_names}

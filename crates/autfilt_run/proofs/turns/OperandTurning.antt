@@ -16,7 +16,7 @@ use Rattle.autfilt_run.specs.declared.fault.RunFault.TheVariants as fault
 use Rattle.autfilt_run.specs.declared.session.Session.{Session}
 use Rattle.autfilt_run.specs.declared.session.Stage.{Stage}
 use Rattle.autfilt_run.specs.declared.session.Stage.TheVariants as stages
-use Rattle.autfilt_run.specs.declared.session.operands.OperandTurn.{OperandTurn}
+use Rattle.autfilt_run.specs.declared.session.operand_reading.OperandTurn.{OperandTurn}
 use Rattle.autfilt_run.specs.inner.OperandTurns.{FailsOperand, KeepsAll, TurnsOperands}
 use Rattle.autfilt_run.specs.inner.Taking.{TakesAutomaton}
 use Rattle.hoa_lexer.proofs.next_token.Between.{between_as}
@@ -25,7 +25,7 @@ use Rattle.hoa_lexer.specs.Reading.{Between, held_count}
 use Rattle.hoa_lexer.specs.declared.lexer.Lexer.{Lexer}
 use Rattle.hoa_parser.specs.Raw.{Written}
 use Rattle.hoa_parser.specs.Reads as reads
-use Rattle.hoa_parser.specs.Reads.{Holds}
+use Rattle.hoa_parser.specs.Reads.{HoldsBehind}
 use Rattle.hoa_parser.specs.Standing.{Stands, Whole}
 use Rattle.hoa_parser.specs.declared.fault.ReadFault.{ReadFault}
 use Rattle.hoa_parser.specs.declared.fault.ReadFault.TheVariants as reading
@@ -37,7 +37,7 @@ abbrev none_over : Limit → Written → Type 0
 none_over which w = ⊥
 
 -- a fault of the reader
-pub not_read : (f : ReadFault) (old new : Session) (s t : Seen) (held' : Option ℕ) → old.is_open ≡ true → new.tried ≡ old.tried → new.skipped ≡ old.skipped → Holds (Err f) held'
+pub not_read : (f : ReadFault) (old new : Session) (s t : Seen) (held' : Option ℕ) → old.is_open ≡ true → new.tried ≡ old.tried → new.skipped ≡ old.skipped → HoldsBehind (Err f) held'
     → Between s.left t.left (AnswersAt (Err f) old.lexer.since held') → Moves (reads.stop_of_fault f) old.lexer new.lexer s t → FailsOperand (fault_of_reading f) old new s t
 not_read (reading.Syntax k) old new s t held' r hand same n at moves =
     record { reads = record { was_open = r; in_hand = hand; read = stops none_over (reading.Syntax k) old.lexer.since held' s.left t.left n at; moves = moves }; skipped = same }
@@ -78,10 +78,10 @@ pub turns_on : (r : Result OperandTurn RunFault) (f : RunFault) (old new : Sessi
 turns_on r f old new s t h fails keeps = hands_on r f (λ x. TurnsOperands x old new s t) h (record { turns = fails; keeps = keeps })
 
 -- an abandoned automaton uses a byte
-pub rises : (field : Front) (old new : Lexer) → field ≡ front.Aborted → old.held ≡ None → Holds (Ok field) new.held
+pub rises : (field : Front) (old new : Lexer) → field ≡ front.Aborted → old.held ≡ None → HoldsBehind (Ok field) new.held
     → (field ≢ front.Blank → old.taken + held_count new.held < new.taken + held_count old.held) → old.taken < new.taken
 rises field old new is none holds used =
-    let after : new.held ≡ None = subst (λ (x : Front). Holds (Ok x) new.held) is holds in
+    let after : new.held ≡ None = subst (λ (x : Front). HoldsBehind (Ok x) new.held) is holds in
     let more = used (λ e. let same : front.Aborted ≡ front.Blank = sym is ∙ e in cc) in
     omega (arith, more, ap held_count after, ap held_count none)
 

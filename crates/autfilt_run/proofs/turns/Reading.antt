@@ -10,7 +10,7 @@ use Rattle.autfilt_run.specs.declared.fault.RunFault.TheVariants as run
 use Rattle.hoa_lexer.proofs.next_token.Between.{between_as, between_both}
 use Rattle.hoa_lexer.specs.Reading.{Between, held_count, unread}
 use Rattle.hoa_parser.specs.Raw.{Written, written}
-use Rattle.hoa_parser.specs.Reads.{Answers, Holds, Shows}
+use Rattle.hoa_parser.specs.Reads.{Answers, HoldsBehind, Shows}
 use Rattle.hoa_parser.specs.Standing.{Aborted, Stands, Whole}
 use Rattle.hoa_parser.specs.declared.fault.ReadFault.{ReadFault}
 use Rattle.hoa_parser.specs.declared.fault.ReadFault.TheVariants as fault
@@ -49,7 +49,7 @@ pub read_at : (r : Result Front ReadFault) (start : ℕ) (held held' : Option �
 read_at r start held held' left left' e a b = between_both left left' _ _ _ (λ old new p q. unheld_before r start held held' old new e (p, q)) a b
 
 -- an error ends the run
-stops_reading : (over : Limit → Written → Type 0) (f : ReadFault) (start : ℕ) (held' : Option ℕ) (old new : List ℕ) → Holds (Err f) held' → AnswersAt (Err f) start held' old new
+stops_reading : (over : Limit → Written → Type 0) (f : ReadFault) (start : ℕ) (held' : Option ℕ) (old new : List ℕ) → HoldsBehind (Err f) held' → AnswersAt (Err f) start held' old new
     → StopsAt over (fault_of_reading f) start old new
 stops_reading over (fault.Syntax k) start held' old new n h = record { bad = h.0; shown = h.1.0; last = h.1.1 }
 stops_reading over fault.Truncated start held' old new n h = record { cut = h.0; nothing = h.1.0; asks = h.1.1 }
@@ -58,35 +58,35 @@ stops_reading over fault.Bytes start held' old new n h = subst (λ (x : Option �
 stops_reading over fault.Read start held' old new n h = subst (λ (x : Option ℕ). StopsAt over run.ReadFault start old (unread x new)) n h.0
 stops_reading over fault.Memory start held' old new n h = inl (held', h.0)
 
-pub stops : (over : Limit → Written → Type 0) (f : ReadFault) (start : ℕ) (held' : Option ℕ) (left left' : Option (List ℕ)) → Holds (Err f) held'
+pub stops : (over : Limit → Written → Type 0) (f : ReadFault) (start : ℕ) (held' : Option ℕ) (left left' : Option (List ℕ)) → HoldsBehind (Err f) held'
     → Between left left' (AnswersAt (Err f) start held') → Between left left' (StopsAt over (fault_of_reading f) start)
 stops over f start held' left left' n h = between_as left left' (AnswersAt (Err f) start held') (StopsAt over (fault_of_reading f) start) (λ old new k. stops_reading over f start held' old new n k) h
 
 -- an automaton was read whole
 pub is_whole : (field : Front) (raw : Raw) (start : ℕ) (held' : Option ℕ) (left left' : Option (List ℕ))
-    → field ≡ front.Whole raw → Holds (Ok field) held' → Between left left' (AnswersAt (Ok field) start held')
+    → field ≡ front.Whole raw → HoldsBehind (Ok field) held' → Between left left' (AnswersAt (Ok field) start held')
     → Between left left' (λ old new. Stands (Whole (written raw) new) start old)
 is_whole field raw start held' left left' e k h =
-    let P : Front → Type 0 = λ x. Holds (Ok x) held' → Between left left' (AnswersAt (Ok x) start held') → Between left left' (λ old new. Stands (Whole (written raw) new) start old) in
+    let P : Front → Type 0 = λ x. HoldsBehind (Ok x) held' → Between left left' (AnswersAt (Ok x) start held') → Between left left' (λ old new. Stands (Whole (written raw) new) start old) in
     subst P (sym e)
     (λ k h. between_as left left' _ _ (λ old new a. subst (λ (x : Option ℕ). Stands (Whole (written raw) (unread x new)) start old) k a.0) h)
     k h
 
 -- an abandoned one was skipped
 pub is_skipped : (field : Front) (start : ℕ) (held' : Option ℕ) (left left' : Option (List ℕ))
-    → field ≡ front.Aborted → Holds (Ok field) held' → Between left left' (AnswersAt (Ok field) start held')
+    → field ≡ front.Aborted → HoldsBehind (Ok field) held' → Between left left' (AnswersAt (Ok field) start held')
     → Between left left' (λ old new. Stands (Aborted new) start old)
 is_skipped field start held' left left' e k h =
-    let P : Front → Type 0 = λ x. Holds (Ok x) held' → Between left left' (AnswersAt (Ok x) start held') → Between left left' (λ old new. Stands (Aborted new) start old) in
+    let P : Front → Type 0 = λ x. HoldsBehind (Ok x) held' → Between left left' (AnswersAt (Ok x) start held') → Between left left' (λ old new. Stands (Aborted new) start old) in
     subst P (sym e)
     (λ k h. between_as left left' _ _ (λ old new a. subst (λ (x : Option ℕ). Stands (Aborted (unread x new)) start old) k a.0) h)
     k h
 
 -- only blanks were left
 pub is_blank : (field : Front) (start : ℕ) (held' : Option ℕ) (left left' : Option (List ℕ))
-    → field ≡ front.Blank → Holds (Ok field) held' → Between left left' (AnswersAt (Ok field) start held') → Between left left' IsAllRead
+    → field ≡ front.Blank → HoldsBehind (Ok field) held' → Between left left' (AnswersAt (Ok field) start held') → Between left left' IsAllRead
 is_blank field start held' left left' e k h =
-    let P : Front → Type 0 = λ x. Holds (Ok x) held' → Between left left' (AnswersAt (Ok x) start held') → Between left left' IsAllRead in
+    let P : Front → Type 0 = λ x. HoldsBehind (Ok x) held' → Between left left' (AnswersAt (Ok x) start held') → Between left left' IsAllRead in
     subst P (sym e)
     (λ k h. between_as left left' _ _ (λ old new a. subst (λ (x : Option ℕ). IsAllRead old (unread x new)) k a.0) h)
     k h

@@ -5,7 +5,7 @@ use Rattle.aut_base.specs.declared.limit.TheConstants.{MOST_BYTES}
 use Rattle.aut_io.specs.Outside.{Opened, Texts, text_of}
 use Rattle.aut_io.specs.Seen.{Opens, Seen}
 use Rattle.autfilt_run.specs.Events.{EndsStream, IsGood, OpensStream, Point, ReadsOn, Stream, ended_at, opened_at, place, read_on}
-use Rattle.autfilt_run.specs.Operands.{TakesOperand, taken_at}
+use Rattle.autfilt_run.specs.OperandEvents.{TakesOperand, taken_at}
 use Rattle.autfilt_run.specs.Plans.{files_of, name_at}
 use Rattle.autfilt_run.specs.Points.{IsAt, IsIn, name_in}
 use Rattle.autfilt_run.specs.Runs.{AtNamed, AtStream, IsAllRead, taken_in, taken_of}

@@ -19,7 +19,7 @@ use Rattle.hoa_lexer.specs.Moves.{Elsewhere, Moves, Stop}
 use Rattle.hoa_lexer.specs.Reading.{Between}
 use Rattle.hoa_parser.specs.Raw.{Written}
 use Rattle.hoa_parser.specs.Reads as reads
-use Rattle.hoa_parser.specs.Reads.{Holds}
+use Rattle.hoa_parser.specs.Reads.{HoldsBehind}
 use Rattle.hoa_parser.specs.Standing.{Stands, Whole}
 use Rattle.hoa_parser.specs.declared.fault.ReadFault.{ReadFault}
 use Rattle.hoa_parser.specs.declared.fault.ReadFault.TheVariants as reading
@@ -29,7 +29,7 @@ abbrev pub over_in : Session → Limit → Written → Type 0
 over_in s which w = IsOver which s.plan (operands_in s) w
 
 -- a fault of the reader
-pub not_read : (f : ReadFault) (old new : Session) (s t : Seen) (o : SinkSeen) (held' : Option ℕ) → IsReading old → new.tried ≡ old.tried → Holds (Err f) held'
+pub not_read : (f : ReadFault) (old new : Session) (s t : Seen) (o : SinkSeen) (held' : Option ℕ) → IsReading old → new.tried ≡ old.tried → HoldsBehind (Err f) held'
     → Between s.left t.left (AnswersAt (Err f) old.lexer.since held')
     → Moves (reads.stop_of_fault f) old.lexer new.lexer s t → Fails (fault_of_reading f) old new s t o o
 not_read (reading.Syntax k) old new s t o held' r hand n at moves =

@@ -12,8 +12,8 @@ use Rattle.autfilt_run.specs.Turns.{Begins}
 use Rattle.autfilt_run.specs.declared.fault.RunFault.{RunFault}
 use Rattle.autfilt_run.specs.declared.fault.RunFault.TheVariants as fault
 use Rattle.autfilt_run.specs.declared.session.Session.{Session}
-use Rattle.autfilt_run.specs.declared.session.operands.OperandTurn.{OperandTurn}
-use Rattle.autfilt_run.specs.declared.session.operands.OperandTurn.TheVariants as turn
+use Rattle.autfilt_run.specs.declared.session.operand_reading.OperandTurn.{OperandTurn}
+use Rattle.autfilt_run.specs.declared.session.operand_reading.OperandTurn.TheVariants as turn
 use Rattle.filter_plan.specs.Words.{operands}
 use Rattle.hoa_lexer.specs.Moves.{Elsewhere, Moves, Stop}
 use Rattle.hoa_lexer.specs.Reading.{Between}

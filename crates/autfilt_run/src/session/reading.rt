@@ -12,7 +12,7 @@ ghost use Rattle.plan_meaning.specs.Complements.{AreKept};
 use super::{Session, Stage, Turn};
 use crate::fault::RunFault;
 use crate::handle::handle;
-use crate::operands::operand_count;
+use crate::operand_files::operand_count;
 use crate::streams::{open_stream, stream_count};
 use aut_io::{Inputs, Sink};
 use hoa_reader::{Front, read_raw};

@@ -15,7 +15,7 @@ ReachesPlace arcs order node low = (w : ℕ) × At order low w × Reaches arcs n
 
 -- A node whose arcs are being looked at. Of the open nodes, those from its own place on and before the place `end` were
 -- entered from it.
-pub record Holds (arcs : List (ℕ × ℕ)) (order : List ℕ) (closed : ℕ → Type 0) (end : ℕ) (f : Frame) : Type 0 where
+pub record IsOpenNode (arcs : List (ℕ × ℕ)) (order : List ℕ) (closed : ℕ → Type 0) (end : ℕ) (f : Frame) : Type 0 where
   pub node : ℕ
   pub here : At order f.place node
   pub within : f.place < end
@@ -31,4 +31,4 @@ pub record Holds (arcs : List (ℕ × ℕ)) (order : List ℕ) (closed : ℕ →
 -- all nodes whose arcs are being looked at, the last that was entered first
 abbrev pub Hold : List (ℕ × ℕ) → List ℕ → (ℕ → Type 0) → ℕ → List Frame → Type 0
 Hold arcs order closed end [] = end ≡ 0
-Hold arcs order closed end (f ∷ fs) = Holds arcs order closed end f × Hold arcs order closed f.place fs
+Hold arcs order closed end (f ∷ fs) = IsOpenNode arcs order closed end f × Hold arcs order closed f.place fs

@@ -286,10 +286,10 @@ first_so t z start offset old new some h = subst (λ (o : Option Token). lexing.
 -- the lexer gave a token
 pub opened_so : (t : Option Token) (lexer : Lexer) (seen : Seen) (s : State) → t ≡ Some s.ahead
     → Tells seen s.seen (λ x y. lexing.Answers (Ok t) (lexer.since - held_count lexer.held) s.lexer.offset (unread lexer.held x) (unread s.lexer.held y))
-    → lexing.Holds (Ok t) s.lexer.held → Moves (stop_of_next {A = Token} (Ok t)) lexer s.lexer seen s.seen → Opened lexer seen s
+    → lexing.HoldsPast (Ok t) s.lexer.held → Moves (stop_of_next {A = Token} (Ok t)) lexer s.lexer seen s.seen → Opened lexer seen s
 opened_so t lexer seen s some answers holds moves = record {
   moves = subst (λ (o : Option Token). Moves (stop_of_next {A = Token} (Ok o)) lexer s.lexer seen s.seen) some moves;
-  holds = subst (λ (o : Option Token). lexing.Holds (Ok o) s.lexer.held) some holds;
+  holds = subst (λ (o : Option Token). lexing.HoldsPast (Ok o) s.lexer.held) some holds;
   next = between_as seen.left s.seen.left _ _ (λ x y h. first_so t s.ahead _ s.lexer.offset _ _ some h) answers;
 }
 

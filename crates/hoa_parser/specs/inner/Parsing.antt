@@ -128,8 +128,8 @@ abbrev pub Places : State → State → Relation → Type 0
 Places s s' A = Tells s.seen s'.seen (λ x y. A (place s x) (place s' y))
 
 -- a byte past the token at hand is held exactly where it was needed to close it
-abbrev pub Holds : State → Type 0
-Holds s = is_some s.lexer.held ≡ not (closes_itself s.ahead)
+abbrev pub HoldsNeeded : State → Type 0
+HoldsNeeded s = is_some s.lexer.held ≡ not (closes_itself s.ahead)
 
 -- the fault is that `--ABORT--` cannot stand there
 abbrev pub Abandons : ReadFault → Token → Type 0
@@ -152,7 +152,7 @@ pub record Advanced (s s' : State) : Type 0 where
   pub moves : Moves Elsewhere s.lexer s'.lexer s.seen s'.seen
   pub uses : Uses s.lexer s'.lexer
   pub spent : s'.lexer.spent ≡ false
-  pub holds : Holds s'
+  pub holds : HoldsNeeded s'
   pub text : Places s s' Follows
 
 -- No token came, and the one at hand stays.
@@ -170,13 +170,13 @@ Advances (Err fault) s s' = Unadvanced fault s s'
 pub record ReadsTo (parts target : List Part) (A : Relation) (s s' : State) : Type 0 where
   pub moves : Moves Elsewhere s.lexer s'.lexer s.seen s'.seen
   pub spent : s'.lexer.spent ≡ false
-  pub holds : Holds s → Holds s'
+  pub holds : HoldsNeeded s → HoldsNeeded s'
   pub text : Places s s' (λ a b. A a b × Goes parts a target b)
 
 -- They could not be read.
 pub record FailsAt (fault : ReadFault) (parts : List Part) (s s' : State) : Type 0 where
   pub moves : Moves (stop_of_fault fault) s.lexer s'.lexer s.seen s'.seen
-  pub leaves : Holds s → Leaves fault s'
+  pub leaves : HoldsNeeded s → Leaves fault s'
   pub text : Places s s' (Fails fault parts)
 
 -- What an answer says: the parts were read as far as `target`, and `Q` is true of the value, or they could not be.

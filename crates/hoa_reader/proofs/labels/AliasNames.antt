@@ -1,7 +1,7 @@
 -- The names of aliases, of which some stand before others.
 use Rattle.std.proofs.Common.{◌≡◌, ◌∙◌, ℕ, List, ◌++◌, ap, map}
 use Rattle.std.proofs.lemmas.List.{map-append}
-use Rattle.hoa_reader.specs.inner.Pieces.{alias_def, line_names}
+use Rattle.hoa_reader.specs.inner.PickedOut.{alias_def, line_names}
 use Rattle.hoa_reader.specs.Validity.{AliasLine}
 use Rattle.hoa_reader.specs.declared.elaborate.parts.AliasDef.{AliasDef}
 

@@ -14,7 +14,7 @@ use Rattle.hoa_reader.specs.Counts.{greatest_height, height}
 use Rattle.hoa_reader.specs.Described.{Meaning, each_expanded, expanded, meaning_of, meanings_after}
 use Rattle.hoa_reader.specs.inner.Growing.{AreKnown, IsKnownAs, IsKnownBy, alias_name, cap, capped_height, capped_heights, capped_size, capped_sizes}
 use Rattle.hoa_reader.specs.inner.Growing.{known_height, known_size, meaning_names, meanings_by}
-use Rattle.hoa_reader.specs.inner.Pieces.{alias_def, line_names}
+use Rattle.hoa_reader.specs.inner.PickedOut.{alias_def, line_names}
 use Rattle.hoa_reader.specs.inner.Places.{place_in}
 use Rattle.hoa_parser.specs.Raw as raw
 use Rattle.hoa_parser.specs.Raw.{RawTree, RawTrees, raw_tree}

@@ -12,7 +12,7 @@ use Rattle.std.specs.List.{list_any}
 use Rattle.aut_base.specs.Automaton.{TreeEdge}
 use Rattle.hoa_reader.specs.inner.TreeEdges.{IsDefinedAt, IsPlace, tree_edges_for, edges_for, states_at}
 use Rattle.hoa_reader.specs.Described.{below}
-use Rattle.hoa_reader.specs.inner.Pieces.{numbers}
+use Rattle.hoa_reader.specs.inner.PickedOut.{numbers}
 use Rattle.hoa_parser.specs.Raw.{WrittenState, written_state}
 use Rattle.hoa_reader.specs.declared.elaborate.edges.Shared.{Shared}
 use Rattle.hoa_parser.specs.declared.raw.RawState.{RawState}

@@ -5,7 +5,7 @@ use Rattle.aut_base.specs.declared.limit.Limit.{Limit}
 use Rattle.aut_base.specs.declared.limit.Limit.TheVariants as limit
 use Rattle.hoa_reader.specs.Counts.{Count, Names, Sets, States, Edges, Aliases, PassesFirst}
 use Rattle.hoa_reader.specs.Described.{after_all}
-use Rattle.hoa_reader.specs.inner.Pieces.{acceptance_def, alias_def, label_refs}
+use Rattle.hoa_reader.specs.inner.PickedOut.{acceptance_def, alias_def, label_refs}
 use Rattle.hoa_parser.specs.Raw.{Written}
 use Rattle.hoa_reader.specs.Validity.{acceptance_of, alias_lines, body_labels, names_of, no_acceptance, starts_written, used_states}
 use Rattle.hoa_reader.specs.declared.elaborate.parts.Parts.{Parts}

@@ -3,7 +3,7 @@ use Rattle.std.specs.Prelude.{◌≡◌, ◌+◌, ◌-◌, ◌*◌, ◌^◌, min
 use Rattle.aut_base.specs.Label.{LabelTree, label_size}
 use Rattle.hoa_reader.specs.Counts.{height}
 use Rattle.hoa_reader.specs.Described.{Meaning, expanded, meaning_of, meanings_after}
-use Rattle.hoa_reader.specs.inner.Pieces.{alias_def}
+use Rattle.hoa_reader.specs.inner.PickedOut.{alias_def}
 use Rattle.hoa_reader.specs.inner.Places.{place_in}
 use Rattle.hoa_parser.specs.Raw as raw
 use Rattle.hoa_parser.specs.Raw.{RawTree, RawTrees, WrittenEdge, WrittenState, raw_tree}

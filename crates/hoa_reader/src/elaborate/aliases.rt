@@ -4,7 +4,7 @@ ghost use Rattle.std.specs.Prelude.{◌≡◌, ◌+◌, max, List, map, true, is
 ghost use Rattle.std.specs.Option.{option_map};
 ghost use Rattle.hoa_reader.specs.Described.{Meaning, expanded};
 ghost use Rattle.hoa_reader.specs.inner.Growing.{AreKnown, IsKnownAs, alias_name, cap, capped_height, capped_heights, capped_size, capped_sizes, heights_in, meaning_names, meanings_by, sizes_in};
-ghost use Rattle.hoa_reader.specs.inner.Pieces.{alias_def, are_defined};
+ghost use Rattle.hoa_reader.specs.inner.PickedOut.{alias_def, are_defined};
 ghost use Rattle.hoa_reader.specs.inner.Places.{place_in};
 ghost use Rattle.hoa_parser.specs.Raw.{raw_tree, raw_trees};
 ghost use Rattle.hoa_reader.specs.declared.elaborate.parts.AliasDef.{AliasDef};

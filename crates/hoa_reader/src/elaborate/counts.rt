@@ -3,7 +3,7 @@
 ghost use Rattle.std.specs.Prelude.{◌≡◌, ◌<◌, ◌+◌, nat_lt, length, map, MatchOption};
 ghost use Rattle.std.specs.Option.{option_map, option_map_or};
 ghost use Rattle.hoa_reader.specs.inner.Growing.{capped_size, sizes_in};
-ghost use Rattle.hoa_reader.specs.inner.Pieces.{label_refs};
+ghost use Rattle.hoa_reader.specs.inner.PickedOut.{label_refs};
 ghost use Rattle.hoa_parser.specs.Raw.{WrittenState, written_edge, written_state};
 ghost use Rattle.hoa_reader.specs.inner.Weighing.{all_edges, are_tall, counted, edge_counted, own_counted, state_counted};
 

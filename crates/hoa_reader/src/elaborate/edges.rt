@@ -7,13 +7,13 @@ ghost use Rattle.aut_base.specs.Automaton.{tree_edge};
 ghost use Rattle.aut_base.specs.Label.{label_tree};
 ghost use Rattle.hoa_reader.specs.Described.{marks_in_order};
 ghost use Rattle.hoa_reader.specs.inner.TreeEdges.{HasKnown, IsPlace, tree_edge_for, tree_edges_for, edges_for, label_for, label_written};
-ghost use Rattle.hoa_reader.specs.inner.Pieces.{label_refs, numbers};
+ghost use Rattle.hoa_reader.specs.inner.PickedOut.{label_refs, numbers};
 ghost use Rattle.hoa_parser.specs.Raw.{written_edge, written_state};
 ghost use Rattle.hoa_reader.specs.Validity.{all_differ, marks_below, numbers_below};
 
 use crate::elaborate::aliases::Known;
 use crate::elaborate::labels::{expand, letter_label};
-use crate::elaborate::marks::joined;
+use crate::elaborate::marks::marks_of_both;
 use crate::elaborate::parts::AliasDef;
 use crate::elaborate::places::Places;
 use crate::elaborate::sizes::count_of_edges;
@@ -73,7 +73,7 @@ pub(crate) fn marks_of(
     ensures { IfOk result (λ all. all ≡ marks_in_order sets (state.now.marks ++ edge.now.marks)) }
 {
     let own = state.marks.as_slice();
-    joined(alloc, sets, own, edge.marks.as_slice())
+    marks_of_both(alloc, sets, own, edge.marks.as_slice())
 }
 
 /// The edge that stands at this place in its state.

@@ -3,7 +3,7 @@
 ghost use Rattle.std.specs.Prelude.{◌≡◌, ◌&&◌, [], map, true, false, is_some, nat_lt, MatchOption, IfOk};
 ghost use Rattle.std.specs.List.{list_all};
 ghost use Rattle.aut_base.specs.Formula.{formula_list, formula_tree, trees};
-ghost use Rattle.hoa_reader.specs.inner.Pieces.{HasDefined, alias_def, are_defined, label_refs, line_names};
+ghost use Rattle.hoa_reader.specs.inner.PickedOut.{HasDefined, alias_def, are_defined, label_refs, line_names};
 ghost use Rattle.hoa_reader.specs.inner.Places.{place_in};
 ghost use Rattle.hoa_parser.specs.Raw.{raw_tree, raw_trees};
 ghost use Rattle.hoa_reader.specs.Validity.{aliases_among, all_leaves_pass, all_sets_below, is_listed, leaves_pass, props_below, sets_below};

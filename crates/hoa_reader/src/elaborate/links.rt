@@ -8,7 +8,7 @@ ghost use Rattle.aut_core.specs.Core.{edge_of};
 ghost use Rattle.aut_core.specs.Links.{StandFor};
 ghost use Rattle.hoa_parser.specs.Raw.{written_edge, written_state};
 ghost use Rattle.hoa_reader.specs.Validity.{all_differ, marks_below, numbers_below};
-ghost use Rattle.hoa_reader.specs.inner.Pieces.{numbers};
+ghost use Rattle.hoa_reader.specs.inner.PickedOut.{numbers};
 ghost use Rattle.hoa_reader.specs.inner.TreeEdges.{HasKnown, HasLabelsBelow, edges_for, label_for, settled, tree_edge_for, tree_edges_for};
 ghost use Rattle.label_guards.specs.Store.{Has, Keeps, label_in};
 

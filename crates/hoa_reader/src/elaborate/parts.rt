@@ -5,7 +5,7 @@ ghost use Rattle.std.specs.Option.{option_map, option_map_or};
 ghost use Rattle.hoa_reader.specs.inner.Gathered.{ArePartsOf};
 ghost use Rattle.hoa_parser.specs.Raw.{raw_tree, written, written_edge, written_item, written_state};
 ghost use Rattle.hoa_reader.specs.Validity.{acceptance_item, alias_item, names_item, no_acceptance, start_item, states_item, state_labels};
-ghost use Rattle.hoa_reader.specs.inner.Pieces.{alias_def, acceptance_def, label_refs, list_of};
+ghost use Rattle.hoa_reader.specs.inner.PickedOut.{alias_def, acceptance_def, label_refs, list_of};
 
 use crate::elaborate::sizes::count_of_edges;
 use crate::elaborate::used::after_used;

@@ -2,7 +2,7 @@
 
 ghost use Rattle.std.specs.Prelude.{◌≡◌, ℕ, ◌==◌, ◌^◌, codes, count_by, filter_map, is_none, is_some, nat_le, not, map, IfOk};
 ghost use Rattle.std.specs.List.{list_all};
-ghost use Rattle.hoa_reader.specs.inner.Pieces.{is_line, lines_once, numbers};
+ghost use Rattle.hoa_reader.specs.inner.PickedOut.{is_line, lines_once, numbers};
 ghost use Rattle.hoa_reader.specs.inner.Rising.{rises_from};
 ghost use Rattle.hoa_parser.specs.Raw.{written_edge, written_item, written_state};
 ghost use Rattle.aut_base.specs.Text.{same_text};

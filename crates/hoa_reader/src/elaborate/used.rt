@@ -2,7 +2,7 @@
 
 ghost use Rattle.std.specs.Prelude.{◌≡◌, ◌++◌, max, map, flat_map};
 ghost use Rattle.hoa_reader.specs.Described.{after_all};
-ghost use Rattle.hoa_reader.specs.inner.Pieces.{goals, numbers, starts_named};
+ghost use Rattle.hoa_reader.specs.inner.PickedOut.{goals, numbers, starts_named};
 ghost use Rattle.hoa_parser.specs.Raw.{written_edge, written_state};
 
 use aut_base::FewNumbers;

@@ -8,7 +8,7 @@ use Rattle.aut_base.specs.declared.formula.Formula.TheVariants as formula
 use Rattle.aut_base.specs.declared.formula.Formulas.{Formulas}
 use Rattle.aut_base.proofs.trees.FormulaTrees.{formula_tree-And, formula_tree-Or}
 use Rattle.hoa_writer.specs.CanonicalText.{formula_text, parts_text}
-use Rattle.hoa_writer.specs.inner.Pieces.{part_text, list_text}
+use Rattle.hoa_writer.specs.inner.JoinedTexts.{part_text, list_text}
 
 parts_text-trees : (separator : List ℕ) (fs : List FormulaTree) → parts_text separator (trees fs) ≡ flat_map (λ f. separator ++ part_text f) fs
 parts_text-trees separator [] = refl

@@ -95,23 +95,23 @@ sign_front b bs t spells alone = record {
   front = record { word = b ∷ []; split = refl; spells = spells; ends = ends_anyhow (b ∷ []) bs alone };
 }
 
-abbrev Holds : List ℕ → Option (Token × ℕ) → Type 0
-Holds bytes None = Unit {0}
-Holds bytes (Some found) = HasFront bytes found.0 found.1
+abbrev HasFound : List ℕ → Option (Token × ℕ) → Type 0
+HasFound bytes None = Unit {0}
+HasFound bytes (Some found) = HasFront bytes found.0 found.1
 
 holds_sign : (b x : ℕ) (bs : List ℕ) (t : Token) → (b == x) ≡ true → HasFront (x ∷ bs) t 1 → HasFront (b ∷ bs) t 1
 holds_sign b x bs t e h = let P : ℕ → Type 0 = λ y. HasFront (y ∷ bs) t 1 in subst P (sym (eqb-true b x e)) h
 
-holds_cond : (bytes : List ℕ) (c : Bool) (x y : Option (Token × ℕ)) → (c ≡ true → Holds bytes x) → (c ≡ false → Holds bytes y) → Holds bytes (cond c x y)
+holds_cond : (bytes : List ℕ) (c : Bool) (x y : Option (Token × ℕ)) → (c ≡ true → HasFound bytes x) → (c ≡ false → HasFound bytes y) → HasFound bytes (cond c x y)
 holds_cond bytes true x y h k = h refl
 holds_cond bytes false x y h k = k refl
 
-holds_map : (bytes : List ℕ) (c : Bool) (x y : Option Token) → (c ≡ true → Holds bytes (option_map (λ t. (t, 1)) x)) → (c ≡ false → Holds bytes (option_map (λ t. (t, 1)) y))
-    → Holds bytes (option_map (λ t. (t, 1)) (cond c x y))
+holds_map : (bytes : List ℕ) (c : Bool) (x y : Option Token) → (c ≡ true → HasFound bytes (option_map (λ t. (t, 1)) x)) → (c ≡ false → HasFound bytes (option_map (λ t. (t, 1)) y))
+    → HasFound bytes (option_map (λ t. (t, 1)) (cond c x y))
 holds_map bytes true x y h k = h refl
 holds_map bytes false x y h k = k refl
 
-signs_hold : (b : ℕ) (bs : List ℕ) → Holds (b ∷ bs) (option_map (λ t. (t, 1)) (sign_token b))
+signs_hold : (b : ℕ) (bs : List ℕ) → HasFound (b ∷ bs) (option_map (λ t. (t, 1)) (sign_token b))
 signs_hold b bs =
     holds_map (b ∷ bs) (b == 49) _ _ (λ e. holds_sign b 49 bs token.True e (sign_front 49 bs token.True (inl refl) (λ c. refl))) (λ _.
     holds_map (b ∷ bs) (b == 48) _ _ (λ e. holds_sign b 48 bs token.False e (sign_front 48 bs token.False (inl refl) (λ c. refl))) (λ _.
@@ -209,7 +209,7 @@ unquoted_is (b ∷ c ∷ cs) = elim (cases_Bool (b == 34)) [
   ])
 ]
 
-string_holds : (bs : List ℕ) (o : Option (List ℕ × ℕ)) → Unquotes bs o → Holds (34 ∷ bs) (option_map (λ (s : List ℕ × ℕ). (token.Name s.0, 1 + s.1)) o)
+string_holds : (bs : List ℕ) (o : Option (List ℕ × ℕ)) → Unquotes bs o → HasFound (34 ∷ bs) (option_map (λ (s : List ℕ × ℕ). (token.Name s.0, 1 + s.1)) o)
 string_holds bs None u = tt
 string_holds bs (Some s) u =
     let next : 1 + s.1 ≡ suc s.1 = omega arith in
@@ -228,21 +228,21 @@ string_holds bs (Some s) u =
     string_alone [] c = refl
     string_alone (b ∷ bs) c = refl
 
-from_byte : (b : ℕ) (bs : List ℕ) → Holds (b ∷ bs) (token_from b (b ∷ bs))
+from_byte : (b : ℕ) (bs : List ℕ) → HasFound (b ∷ bs) (token_from b (b ∷ bs))
 from_byte b bs =
     holds_cond (b ∷ bs) (is_letter b) _ _ (λ e. bare_front b bs e) (λ _.
     holds_cond (b ∷ bs) (b == 34) _ _ (λ e. (let P : ℕ
-    → Type 0 = λ y. Holds (y ∷ bs) (option_map (λ (s : List ℕ × ℕ). (token.Name s.0, 1 + s.1)) (unquoted bs)) in
+    → Type 0 = λ y. HasFound (y ∷ bs) (option_map (λ (s : List ℕ × ℕ). (token.Name s.0, 1 + s.1)) (unquoted bs)) in
     subst P (sym (eqb-true b 34 e)) (string_holds bs (unquoted bs) (unquoted_is bs)))) (λ _.
     holds_cond (b ∷ bs) (b == 38) _ _ (λ e. (let P : ℕ → Type 0 = λ y. HasFront (y ∷ bs) token.And (doubled 38 (y ∷ bs)) in subst P (sym (eqb-true b 38 e)) (and_holds bs))) (λ _.
     holds_cond (b ∷ bs) (b == 124) _ _ (λ e. (let P : ℕ → Type 0 = λ y. HasFront (y ∷ bs) token.Or (doubled 124 (y ∷ bs)) in subst P (sym (eqb-true b 124 e)) (or_holds bs))) (λ _. signs_hold b bs))))
 
-fronts_hold : (bytes : List ℕ) → Holds bytes (front_token bytes)
+fronts_hold : (bytes : List ℕ) → HasFound bytes (front_token bytes)
 fronts_hold [] = tt
-fronts_hold (b ∷ bs) = subst (λ (o : Option (Token × ℕ)). Holds (b ∷ bs) o) (sym (front_cons b bs)) (from_byte b bs)
+fronts_hold (b ∷ bs) = subst (λ (o : Option (Token × ℕ)). HasFound (b ∷ bs) o) (sym (front_cons b bs)) (from_byte b bs)
 
 pub front_found : (bytes : List ℕ) (t : Token) (size : ℕ) → front_token bytes ≡ Some (t, size) → HasFront bytes t size
-front_found bytes t size e = let P : Option (Token × ℕ) → Type 0 = λ o. Holds bytes o in subst P e (fronts_hold bytes)
+front_found bytes t size e = let P : Option (Token × ℕ) → Type 0 = λ o. HasFound bytes o in subst P e (fronts_hold bytes)
 
 -- what is found where a token stands
 pub record Finds (bytes : List ℕ) (t : Token) (rest : List ℕ) : Type 0 where

@@ -14,22 +14,22 @@ copies-requires c listed =
     let few = subst (λ (ws : List Watch). a.states * length ws * c.args.k ≤ MOST_BUCHI_STATES) c.requires.watches c.requires.few in
     omega (arith, few_copies a c.args.k needed some few)
 
-pub levelled-requires-2-clause-copies : goal.levelled-requires-2-clause-copies
-levelled-requires-2-clause-copies c =
+pub put_on_levels-requires-2-clause-copies : goal.put_on_levels-requires-2-clause-copies
+put_on_levels-requires-2-clause-copies c =
     let a = automaton_of c.args.a.now in
     let needed : is_generalised_buchi a.formula ≡ false = sym (c.if-is_generalised_buchi.ensures ∙ ap is_generalised_buchi c.formula.ensures) in
     let same : c.in_ok-copied.copied.states ≡ c.states-2.result * length c.args.listed.now = c.in_ok-copied.ensures.states
     ∙ (copies_as_watches a needed ∙ λ i. sym c.states-2.ensures i * length (sym c.requires.watches i)) in
     omega (arith, same)
 
-pub levelled-requires-2-clause-room : goal.levelled-requires-2-clause-room
-levelled-requires-2-clause-room c = subst (λ (k : ℕ). All (λ watch. levels watch ≤ k) c.args.listed.now) (sym c.requires.levels) (room_in c.args.listed.now)
+pub put_on_levels-requires-2-clause-room : goal.put_on_levels-requires-2-clause-room
+put_on_levels-requires-2-clause-room c = subst (λ (k : ℕ). All (λ watch. levels watch ≤ k) c.args.listed.now) (sym c.requires.levels) (room_in c.args.listed.now)
 
-pub levelled-requires-2-clause-some : goal.levelled-requires-2-clause-some
-levelled-requires-2-clause-some c = subst (λ (k : ℕ). 0 < k) (sym c.requires.levels) (some_room c.args.listed.now)
+pub put_on_levels-requires-2-clause-some : goal.put_on_levels-requires-2-clause-some
+put_on_levels-requires-2-clause-some c = subst (λ (k : ℕ). 0 < k) (sym c.requires.levels) (some_room c.args.listed.now)
 
-pub levelled-requires-2-clause-fit : goal.levelled-requires-2-clause-fit
-levelled-requires-2-clause-fit c =
+pub put_on_levels-requires-2-clause-fit : goal.put_on_levels-requires-2-clause-fit
+put_on_levels-requires-2-clause-fit c =
     let a = automaton_of c.args.a.now in
     let needed : is_generalised_buchi a.formula ≡ false = sym (c.if-is_generalised_buchi.ensures ∙ ap is_generalised_buchi c.formula.ensures) in
     let few = subst (λ (ws : List Watch). a.states * length ws * c.args.k ≤ MOST_BUCHI_STATES) c.requires.watches c.requires.few in

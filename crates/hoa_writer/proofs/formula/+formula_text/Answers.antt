@@ -5,9 +5,9 @@ use Rattle.aut_base.proofs.trees.FormulaSizes.{formula_size-And, formula_size-Or
 use Rattle.aut_base.specs.Formula.{formula_list, formula_size, formula_tree}
 use Rattle.aut_base.proofs.trees.FormulaTrees.{formula_tree-Inf, formula_tree-Fin}
 use Rattle.hoa_writer.specs.CanonicalText.{formula_text, set_text}
-use Rattle.hoa_writer.specs.inner.Pieces.{list_text, part_text}
+use Rattle.hoa_writer.specs.inner.JoinedTexts.{list_text, part_text}
 use Rattle.hoa_writer.proofs.text.Formulas.{text-And, text-Or, list_more}
-use Rattle.hoa_writer.proofs.text.Pieces.{two_written}
+use Rattle.hoa_writer.proofs.text.JoinedTexts.{two_written}
 use Rattle.hoa_writer.proofs.formula.+formula_text.Goals as goal
 
 pub push_formula-push_parts-requires : goal.push_formula-push_parts-requires

@@ -1,7 +1,7 @@
 -- Each part is smaller than the whole, and the parts so far are written.
 use Rattle.std.proofs.Common.{◌≡◌, ◌+◌, ◌*◌, ◌++◌, take}
 use Rattle.aut_base.specs.Formula.{formula_list, formula_size, formula_tree, formulas_size, trees}
-use Rattle.hoa_writer.specs.inner.Pieces.{list_text}
+use Rattle.hoa_writer.specs.inner.JoinedTexts.{list_text}
 use Rattle.hoa_writer.proofs.formula.+formula_text.Given as goal
 
 abbrev pub decreases-push_formula : goal.decreases-push_formula

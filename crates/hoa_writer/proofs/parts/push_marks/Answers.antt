@@ -1,6 +1,6 @@
 use Rattle.std.proofs.Common.{arith, length}
 use Rattle.std.proofs.lemmas.Result.{on_ok_weaker}
-use Rattle.hoa_writer.proofs.text.Pieces.{marks_written}
+use Rattle.hoa_writer.proofs.text.JoinedTexts.{marks_written}
 use Rattle.hoa_writer.proofs.parts.push_marks.Goals as goal
 use Rattle.label_guards.proofs.labelled.Pieces.{some_item}
 

@@ -3,7 +3,7 @@ use Rattle.std.specs.Fmt.{decimal}
 use Rattle.std.specs.Prelude.{codes}
 use Rattle.aut_base.specs.Formula.{formula_tree}
 use Rattle.hoa_writer.specs.CanonicalText.{formula_text}
-use Rattle.hoa_writer.proofs.text.Pieces.{line_written}
+use Rattle.hoa_writer.proofs.text.JoinedTexts.{line_written}
 use Rattle.hoa_writer.proofs.write.push_acceptance.Goals as goal
 
 pub returns : goal.returns

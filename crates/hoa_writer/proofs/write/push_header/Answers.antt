@@ -7,7 +7,7 @@ use Rattle.aut_base.specs.Formula.{formula_tree}
 use Rattle.aut_base.specs.declared.limit.TheConstants.{MOST_NAMES}
 use Rattle.hoa_writer.specs.CanonicalText.{formula_text, line, name_line}
 use Rattle.hoa_writer.specs.inner.Lines.{start_lines, names_line}
-use Rattle.hoa_writer.proofs.text.Pieces.{seven_written}
+use Rattle.hoa_writer.proofs.text.JoinedTexts.{seven_written}
 use Rattle.hoa_writer.proofs.write.push_header.Goals as goal
 
 pub push_names-requires : goal.push_names-requires

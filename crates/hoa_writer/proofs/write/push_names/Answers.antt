@@ -1,6 +1,6 @@
 use Rattle.std.proofs.Common.{arith}
 use Rattle.std.proofs.lemmas.Result.{on_ok_weaker}
-use Rattle.hoa_writer.proofs.text.Pieces.{names_written}
+use Rattle.hoa_writer.proofs.text.JoinedTexts.{names_written}
 use Rattle.hoa_writer.proofs.write.push_names.Goals as goal
 
 pub returns : goal.returns

@@ -1,6 +1,6 @@
 use Rattle.std.proofs.Common.{◌∙◌, Ok, ap, subst}
 use Rattle.autfilt_run.proofs.turns.Preparing.{fails, has_skipped, is_ready, more_opened, more_taken, prepares_on, shorter_opened, shorter_taken, taken_few}
-use Rattle.autfilt_run.specs.declared.session.operands.OperandTurn.{OperandTurn}
+use Rattle.autfilt_run.specs.declared.session.operand_reading.OperandTurn.{OperandTurn}
 use Rattle.autfilt_run.specs.inner.OperandTurns.{TurnsAs}
 use Rattle.autfilt_run.proofs.session.Session.read_operands.Goals as goal
 

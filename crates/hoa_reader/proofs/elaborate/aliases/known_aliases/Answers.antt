@@ -8,7 +8,7 @@ use Rattle.hoa_reader.proofs.validity.Leaves.{leaves_agree}
 use Rattle.hoa_reader.proofs.labels.Meanings.{known_listed, known_push, names_by}
 use Rattle.hoa_reader.specs.Described.{Meaning, expanded, meanings_after}
 use Rattle.hoa_reader.specs.inner.Growing.{AreKnown, meanings_by}
-use Rattle.hoa_reader.specs.inner.Pieces.{alias_def}
+use Rattle.hoa_reader.specs.inner.PickedOut.{alias_def}
 use Rattle.hoa_reader.specs.inner.Places.{place_in}
 use Rattle.hoa_parser.specs.Raw.{raw_tree}
 use Rattle.aut_base.specs.Text.{same_text}

@@ -1,6 +1,6 @@
 use Rattle.std.proofs.Common.{◌≡◌, map, take, drop, true}
 use Rattle.hoa_reader.specs.inner.Growing.{AreKnown, meanings_by}
-use Rattle.hoa_reader.specs.inner.Pieces.{alias_def, line_names}
+use Rattle.hoa_reader.specs.inner.PickedOut.{alias_def, line_names}
 use Rattle.hoa_reader.specs.Validity.{uses_earlier}
 use Rattle.hoa_reader.proofs.elaborate.aliases.known_aliases.Given as goal
 

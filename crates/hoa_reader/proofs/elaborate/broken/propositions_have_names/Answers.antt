@@ -1,6 +1,6 @@
 use Rattle.std.proofs.Common.{◌≡◌, ◌&&◌, true, map, List, ap, sym, ◌∙◌, length}
 use Rattle.std.specs.List.{list_all}
-use Rattle.hoa_reader.specs.inner.Pieces.{alias_def, label_refs}
+use Rattle.hoa_reader.specs.inner.PickedOut.{alias_def, label_refs}
 use Rattle.hoa_parser.specs.Raw.{RawTree, written}
 use Rattle.hoa_reader.specs.Validity.{AliasLine, alias_lines, body_labels, names_of, props_below}
 use Rattle.hoa_reader.proofs.elaborate.broken.propositions_have_names.Goals as goal

@@ -1,5 +1,5 @@
 use Rattle.std.proofs.Common.{◌≡◌, map, drop}
-use Rattle.hoa_reader.specs.inner.Pieces.{label_refs}
+use Rattle.hoa_reader.specs.inner.PickedOut.{label_refs}
 use Rattle.hoa_reader.specs.inner.Weighing.{are_tall}
 use Rattle.hoa_reader.proofs.elaborate.counts.are_tall.Given as goal
 

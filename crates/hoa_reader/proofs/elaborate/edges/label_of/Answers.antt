@@ -6,7 +6,7 @@ use Rattle.hoa_reader.proofs.labels.WrittenLabels.{has_none, has_written}
 use Rattle.hoa_reader.specs.Described.{expanded}
 use Rattle.hoa_reader.specs.declared.elaborate.parts.AliasDef.{AliasDef}
 use Rattle.hoa_reader.specs.inner.Growing.{meanings_by}
-use Rattle.hoa_reader.specs.inner.Pieces.{label_refs}
+use Rattle.hoa_reader.specs.inner.PickedOut.{label_refs}
 use Rattle.hoa_reader.proofs.elaborate.edges.label_of.Goals as goal
 
 pub returns-in-Some : goal.returns-in-Some

@@ -5,7 +5,7 @@ use Rattle.std.specs.List.{list_any}
 use Rattle.hoa_reader.proofs.validity.AllDiffer.{repeats}
 use Rattle.hoa_reader.proofs.labels.StatePlaces.{index_more}
 use Rattle.hoa_reader.specs.inner.TreeEdges.{IsPlace}
-use Rattle.hoa_reader.specs.inner.Pieces.{numbers}
+use Rattle.hoa_reader.specs.inner.PickedOut.{numbers}
 use Rattle.hoa_parser.specs.Raw.{WrittenState, written_state}
 use Rattle.hoa_reader.specs.Validity.{all_differ}
 use Rattle.hoa_parser.specs.declared.raw.RawState.{RawState}

@@ -1,6 +1,6 @@
 use Rattle.std.proofs.Common.{◌≡◌, map, drop}
 use Rattle.std.specs.List.{list_all}
-use Rattle.hoa_reader.specs.inner.Pieces.{alias_def}
+use Rattle.hoa_reader.specs.inner.PickedOut.{alias_def}
 use Rattle.hoa_reader.specs.Validity.{AliasLine, props_below}
 use Rattle.hoa_reader.proofs.elaborate.leaves.aliases_props_below.Given as goal
 

@@ -5,7 +5,7 @@ use Rattle.std.specs.List.{list_any}
 use Rattle.hoa_reader.proofs.labels.AliasNames.{named, named-append}
 use Rattle.hoa_reader.proofs.validity.AllDiffer.{differ_more, found_or, repeats, some_not_none}
 use Rattle.hoa_reader.proofs.validity.Leaves.{leaves_agree}
-use Rattle.hoa_reader.specs.inner.Pieces.{alias_def}
+use Rattle.hoa_reader.specs.inner.PickedOut.{alias_def}
 use Rattle.hoa_reader.specs.inner.Places.{place_in}
 use Rattle.hoa_parser.specs.Raw.{raw_tree}
 use Rattle.aut_base.specs.Text.{same_text}

@@ -1,6 +1,6 @@
 use Rattle.std.proofs.Common.{◌≡◌, true, is_some, [], map, take, drop, List, ℕ}
 use Rattle.std.specs.List.{list_any}
-use Rattle.hoa_reader.specs.inner.Pieces.{alias_def, line_names}
+use Rattle.hoa_reader.specs.inner.PickedOut.{alias_def, line_names}
 use Rattle.hoa_reader.specs.inner.Places.{place_in}
 use Rattle.aut_base.specs.Text.{same_text}
 use Rattle.hoa_reader.specs.Validity.{all_differ, uses_earlier}

@@ -3,7 +3,7 @@ use Rattle.std.proofs.lemmas.Grind.{common_steps}
 use Rattle.std.proofs.lemmas.List.{drop_more}
 use Rattle.std.specs.List.{list_all}
 use Rattle.hoa_reader.proofs.validity.Leaves.{leaves_agree}
-use Rattle.hoa_reader.specs.inner.Pieces.{HasDefined, alias_def, label_refs, line_names}
+use Rattle.hoa_reader.specs.inner.PickedOut.{HasDefined, alias_def, label_refs, line_names}
 use Rattle.hoa_reader.specs.inner.Places.{place_in}
 use Rattle.hoa_parser.specs.Raw.{RawTree, raw_tree}
 use Rattle.hoa_reader.specs.Validity.{aliases_among, is_listed}

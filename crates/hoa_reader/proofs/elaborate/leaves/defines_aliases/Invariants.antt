@@ -1,6 +1,6 @@
 use Rattle.std.proofs.Common.{◌≡◌, map, drop}
 use Rattle.std.specs.List.{list_all}
-use Rattle.hoa_reader.specs.inner.Pieces.{alias_def, label_refs, line_names}
+use Rattle.hoa_reader.specs.inner.PickedOut.{alias_def, label_refs, line_names}
 use Rattle.hoa_reader.specs.Validity.{aliases_among}
 use Rattle.hoa_reader.proofs.elaborate.leaves.defines_aliases.Given as goal
 

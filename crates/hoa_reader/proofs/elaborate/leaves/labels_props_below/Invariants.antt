@@ -1,6 +1,6 @@
 use Rattle.std.proofs.Common.{◌≡◌, map, drop}
 use Rattle.std.specs.List.{list_all}
-use Rattle.hoa_reader.specs.inner.Pieces.{label_refs}
+use Rattle.hoa_reader.specs.inner.PickedOut.{label_refs}
 use Rattle.hoa_reader.specs.Validity.{props_below}
 use Rattle.hoa_reader.proofs.elaborate.leaves.labels_props_below.Given as goal
 

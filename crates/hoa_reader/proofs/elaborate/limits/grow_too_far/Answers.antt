@@ -6,7 +6,7 @@ use Rattle.hoa_reader.specs.Counts.{Aliases, count_of, greatest, height, weight}
 use Rattle.hoa_reader.specs.Described.{Meaning, expanded, meanings_after, meanings_of}
 use Rattle.hoa_reader.specs.inner.Gathered.{ArePartsOf}
 use Rattle.hoa_reader.specs.inner.Growing.{AreKnown, cap, meanings_by}
-use Rattle.hoa_reader.specs.inner.Pieces.{label_refs}
+use Rattle.hoa_reader.specs.inner.PickedOut.{label_refs}
 use Rattle.hoa_parser.specs.Raw.{RawTree, Written, WrittenState, written, written_state}
 use Rattle.hoa_reader.specs.Validity.{body_labels}
 use Rattle.hoa_reader.specs.inner.Weighing.{are_tall, counted}

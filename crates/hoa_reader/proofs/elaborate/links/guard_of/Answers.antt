@@ -8,7 +8,7 @@ use Rattle.aut_base.specs.Label.{AllBelow, truth}
 use Rattle.hoa_parser.specs.Raw.{written_edge, written_state}
 use Rattle.hoa_reader.proofs.labels.LetterTruth.{letter_truth}
 use Rattle.hoa_reader.proofs.labels.WrittenLabels.{has_none}
-use Rattle.hoa_reader.specs.inner.Pieces.{label_refs}
+use Rattle.hoa_reader.specs.inner.PickedOut.{label_refs}
 use Rattle.hoa_reader.specs.inner.TreeEdges.{label_for}
 use Rattle.label_guards.specs.Numbers.{is_at}
 use Rattle.hoa_reader.proofs.elaborate.links.guard_of.Goals as goal

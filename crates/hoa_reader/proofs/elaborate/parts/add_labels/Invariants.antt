@@ -1,6 +1,6 @@
 use Rattle.std.proofs.Common.{◌≡◌, ◌++◌, map, flat_map, take, option_to_list}
 use Rattle.hoa_parser.specs.Raw.{written_edge}
-use Rattle.hoa_reader.specs.inner.Pieces.{label_refs}
+use Rattle.hoa_reader.specs.inner.PickedOut.{label_refs}
 use Rattle.hoa_reader.proofs.elaborate.parts.add_labels.Given as goal
 
 abbrev pub invariant-edges : goal.invariant-edges

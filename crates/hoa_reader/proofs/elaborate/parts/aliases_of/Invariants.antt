@@ -1,7 +1,7 @@
 use Rattle.std.proofs.Common.{◌≡◌, ◌++◌, map, filter_map, drop}
 use Rattle.hoa_parser.specs.Raw.{written_item}
 use Rattle.hoa_reader.specs.Validity.{alias_item}
-use Rattle.hoa_reader.specs.inner.Pieces.{alias_def}
+use Rattle.hoa_reader.specs.inner.PickedOut.{alias_def}
 use Rattle.hoa_reader.proofs.elaborate.parts.aliases_of.Given as goal
 
 abbrev pub invariant-items : goal.invariant-items

@@ -1,7 +1,7 @@
 use Rattle.std.proofs.Common.{◌≡◌, map, flat_map, take}
 use Rattle.hoa_parser.specs.Raw.{written_state}
 use Rattle.hoa_reader.specs.Validity.{state_labels}
-use Rattle.hoa_reader.specs.inner.Pieces.{label_refs}
+use Rattle.hoa_reader.specs.inner.PickedOut.{label_refs}
 use Rattle.hoa_reader.proofs.elaborate.parts.labels_of.Given as goal
 
 abbrev pub invariant-states : goal.invariant-states

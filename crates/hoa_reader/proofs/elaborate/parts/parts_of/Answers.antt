@@ -1,7 +1,7 @@
 use Rattle.std.proofs.Common.{◌≡◌, ◌++◌, map, List, [], ℕ, ap, ◌∙◌, get_or}
 use Rattle.std.specs.Prelude.{filter_map, flat_map}
 use Rattle.hoa_reader.specs.Described.{after_all}
-use Rattle.hoa_reader.specs.inner.Pieces.{goals, numbers, starts_named}
+use Rattle.hoa_reader.specs.inner.PickedOut.{goals, numbers, starts_named}
 use Rattle.hoa_parser.specs.Raw.{written_item, written_state}
 use Rattle.hoa_reader.specs.Validity.{acceptance_item, alias_item, names_item, no_acceptance, start_item, state_labels}
 use Rattle.hoa_parser.specs.declared.raw.Item.{Item}

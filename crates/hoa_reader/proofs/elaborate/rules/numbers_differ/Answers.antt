@@ -1,6 +1,6 @@
 use Rattle.std.proofs.Common.{◌∙◌, map, sym}
 use Rattle.hoa_reader.proofs.validity.RisingNumbers.{rising_differ}
-use Rattle.hoa_reader.specs.inner.Pieces.{numbers}
+use Rattle.hoa_reader.specs.inner.PickedOut.{numbers}
 use Rattle.hoa_parser.specs.Raw.{written_state}
 use Rattle.hoa_reader.proofs.elaborate.rules.numbers_differ.Goals as goal
 

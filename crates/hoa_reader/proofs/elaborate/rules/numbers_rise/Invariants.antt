@@ -1,5 +1,5 @@
 use Rattle.std.proofs.Common.{◌≡◌, map, drop}
-use Rattle.hoa_reader.specs.inner.Pieces.{numbers}
+use Rattle.hoa_reader.specs.inner.PickedOut.{numbers}
 use Rattle.hoa_reader.specs.inner.Rising.{rises_from}
 use Rattle.hoa_parser.specs.Raw.{written_state}
 use Rattle.hoa_reader.proofs.elaborate.rules.numbers_rise.Given as goal

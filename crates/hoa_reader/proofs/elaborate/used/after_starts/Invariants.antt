@@ -1,6 +1,6 @@
 use Rattle.std.proofs.Common.{◌≡◌, max, drop}
 use Rattle.hoa_reader.specs.Described.{after_all}
-use Rattle.hoa_reader.specs.inner.Pieces.{starts_named}
+use Rattle.hoa_reader.specs.inner.PickedOut.{starts_named}
 use Rattle.hoa_reader.proofs.elaborate.used.after_starts.Given as goal
 
 abbrev pub invariant-starts : goal.invariant-starts

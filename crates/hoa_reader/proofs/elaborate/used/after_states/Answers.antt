@@ -2,7 +2,7 @@ use Rattle.std.proofs.Common.{◌≡◌, ◌+◌, max, map, drop, List, ℕ, ari
 use Rattle.std.specs.Prelude.{flat_map}
 use Rattle.hoa_reader.proofs.counting.AfterAll.{goals-cons}
 use Rattle.hoa_reader.specs.Described.{after_all}
-use Rattle.hoa_reader.specs.inner.Pieces.{goals, numbers}
+use Rattle.hoa_reader.specs.inner.PickedOut.{goals, numbers}
 use Rattle.hoa_parser.specs.Raw.{WrittenEdge, written_edge, written_state}
 use Rattle.hoa_parser.specs.declared.raw.RawState.{RawState}
 use Rattle.hoa_reader.proofs.elaborate.used.after_states.Goals as goal

@@ -1,6 +1,6 @@
 use Rattle.std.proofs.Common.{◌≡◌, max, map, drop}
 use Rattle.hoa_reader.specs.Described.{after_all}
-use Rattle.hoa_reader.specs.inner.Pieces.{goals, numbers}
+use Rattle.hoa_reader.specs.inner.PickedOut.{goals, numbers}
 use Rattle.hoa_parser.specs.Raw.{written_state}
 use Rattle.hoa_reader.proofs.elaborate.used.after_states.Given as goal
 

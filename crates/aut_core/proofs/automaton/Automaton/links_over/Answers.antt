@@ -11,7 +11,7 @@ use Rattle.aut_core.specs.declared.link.Link.{Link}
 use Rattle.aut_core.proofs.Following.{stand_all, stand_more}
 use Rattle.aut_core.proofs.Growth.{keeps_none, keeps_on}
 use Rattle.aut_core.proofs.OtherNames.{brought_label}
-use Rattle.aut_core.proofs.automaton.Automaton.brought.Goals as goal
+use Rattle.aut_core.proofs.automaton.Automaton.links_over.Goals as goal
 
 pub links-init : goal.links-init
 links-init c = record { keeps = keeps_none c.args.guards.now; done = c.new-done.ensures c.args.self.now.store c.args.guards.now c.args.to.now; links = search rules }

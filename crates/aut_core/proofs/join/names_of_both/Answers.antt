@@ -1,6 +1,6 @@
 use Rattle.std.proofs.Common.{◌∙◌, ap, arith, get_or, length}
 use Rattle.aut_core.proofs.JoinedNames.{apart_so_far, have_both, joined_all, joined_more, joined_skip}
-use Rattle.aut_core.proofs.join.joined.Goals as goal
+use Rattle.aut_core.proofs.join.names_of_both.Goals as goal
 
 pub others-preserved-then-has : goal.others-preserved-then-has
 others-preserved-then-has c =

@@ -7,7 +7,7 @@ use Rattle.aut_core.specs.Core.{Core, automaton_of}
 use Rattle.degeneralise.specs.Buchi.{state_at, watch_of}
 use Rattle.degeneralise.proofs.LevelSteps.{are_levelled, levelled_parts}
 use Rattle.degeneralise.proofs.WatchLists.{room_of}
-use Rattle.degeneralise.proofs.buchi.levelled.Goals as goal
+use Rattle.degeneralise.proofs.buchi.put_on_levels.Goals as goal
 
 pub from_parts-requires : goal.from_parts-requires
 from_parts-requires c =

@@ -5,7 +5,7 @@ use Rattle.aut_ops.proofs.sinks.Completions.{with_sink_formed}
 use Rattle.aut_ops.proofs.sinks.FilledStates.{sunk}
 use Rattle.aut_ops.proofs.links.Linked.{parts_for}
 use Rattle.aut_ops.specs.Completion.{with_sink}
-use Rattle.aut_ops.proofs.completion.sunk.Goals as goal
+use Rattle.aut_ops.proofs.completion.complete_with_sink.Goals as goal
 
 pub from_parts-requires : goal.from_parts-requires
 from_parts-requires c =

@@ -4,7 +4,7 @@ use Rattle.aut_core.specs.OtherNames.{label_over}
 use Rattle.aut_core.specs.Links.{StandFor}
 use Rattle.label_guards.specs.Store.{Keeps}
 use Rattle.label_guards.specs.Tables.{AreBrought}
-use Rattle.aut_core.proofs.automaton.Automaton.brought.Given as goal
+use Rattle.aut_core.proofs.automaton.Automaton.links_over.Given as goal
 
 abbrev pub invariant-links : goal.invariant-links
 invariant-links l = record {

@@ -4,13 +4,13 @@ ghost use Rattle.std.specs.Prelude.{◌≡◌, ◌<◌, All, IfOk, None, OnErr, 
 ghost use Rattle.autfilt_run.specs.Preparing.{Prepares};
 ghost use Rattle.autfilt_run.specs.declared.session.Prep.TheVariants as prep;
 ghost use Rattle.autfilt_run.specs.declared.session.Stage.{Stage};
-ghost use Rattle.autfilt_run.specs.declared.session.operands.OperandTurn.TheVariants as turn;
+ghost use Rattle.autfilt_run.specs.declared.session.operand_reading.OperandTurn.TheVariants as turn;
 ghost use Rattle.autfilt_run.specs.inner.OperandTurns.{TurnsOperands};
 ghost use Rattle.filter_plan.specs.Words.{operands};
 
 use super::{Prep, Session, Stage};
 use crate::fault::RunFault;
-use crate::operands::{operand_count, operand_file};
+use crate::operand_files::{operand_count, operand_file};
 use crate::taken::automaton_taken;
 use aut_io::Inputs;
 use hoa_reader::{Front, read_raw};

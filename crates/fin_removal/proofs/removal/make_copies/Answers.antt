@@ -12,7 +12,7 @@ use Rattle.fin_removal.specs.declared.term_copy.TermCopy.{TermCopy}
 use Rattle.fin_removal.specs.inner.Links.{IsNumbered}
 use Rattle.fin_removal.proofs.CopiedParts.{are_copied, copied_parts}
 use Rattle.fin_removal.proofs.TermCopies.{are_numbered, copies_sets, sets_within}
-use Rattle.fin_removal.proofs.removal.copied.Goals as goal
+use Rattle.fin_removal.proofs.removal.make_copies.Goals as goal
 
 pub term_copies-requires-clause-sets : goal.term_copies-requires-clause-sets
 term_copies-requires-clause-sets c = omega (arith, sets_within c.args.listed.now c.requires.few)
