@@ -45,6 +45,7 @@ WORKLOADS = [
     ('parity that passes the limit of trees', ['--parity', '--stats=%s'], ['shift-16.hoa']),
     ('parity automata of 3,000, six states', ['--parity'], ['six-states.hoa']),
     ('complements of 3,000, six states', ['--complement'], ['six-states.hoa']),
+    ('deterministic forms of 3,000, six states', ['-D'], ['six-states.hoa']),
     ('intersection of 20,000 with one', ['-c', '--intersect=operand.hoa'], ['emerson-lei.hoa', 'operand.hoa']),
     ('inclusion of 2,000 in one', ['-c', '--included-in=operand.hoa'], ['emerson-lei-2000.hoa', 'operand.hoa']),
     ('inclusion of 2,000 in it as -D gives it', ['-c', '--included-in=operand-d.hoa'],
