@@ -175,8 +175,8 @@ impl Lexer {
         }
     }
 
-    /// Puts the token in the place of this one that begins with the byte that is held, which no blank does. After a fault it stays
-    /// what it was.
+    /// Puts the token that begins with the byte that is held, which no blank does, in the place of this one. After a fault this
+    /// one stays what it was.
     fn token<I: Inputs>(
         &mut self,
         alloc: Global,

@@ -12,7 +12,7 @@ impl Lexer {
     ghost use Rattle.hoa_lexer.specs.Moves.{stop_of, stop_of_next};
     ghost use Rattle.hoa_lexer.specs.inner.Steps.{Advances, BeginsNone, ClosesComment, HoldsRead, IsSolid, SkipsBlanks, SkipsComment, StepsIn};
 
-    /// Uses blanks. HoldsPast the byte after them, or tells by None that the text ended.
+    /// Uses blanks. Holds the byte after them, or tells by None that the text ended.
     pub(super) fn skip_blanks<I: Inputs>(&mut self, inputs: &mut I) -> Result<Option<u8>, LexFault>
         ensures answers { Tells (I.seen inputs.old) (I.seen inputs.new) (λ old new.
             SkipsBlanks result (self.old.since - held_count self.old.held) (unread self.old.held old) (unread self.new.held new)) }

@@ -78,7 +78,7 @@ impl Lexer {
         }
     }
 
-    /// Adds to a name all letters, digits and `-` that stand next. HoldsPast the byte after them, or tells by None that
+    /// Adds to a name all letters, digits and `-` that stand next. Holds the byte after them, or tells by None that
     /// the text ended.
     fn word_bytes<I: Inputs>(
         &mut self,

@@ -274,7 +274,7 @@ fn group<I: Inputs>(
     Ok(inner)
 }
 
-/// The label that the token says of its own, if it is no alias: "t" | "f" | INT
+/// What the token says as a label of its own, if it does: "t" | "f" | INT. An alias is left to `alias`.
 #[tactic(auto, using(crate::proofs::grammar::RawTrees::raw_tree_rules))]
 fn plain_atom(token: &Token) -> Option<RawLabel>
     ensures { option_map raw_tree result ≡ plain_atom_of token.now }
