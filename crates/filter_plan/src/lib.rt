@@ -10,7 +10,7 @@ mod command;
 mod entry;
 mod fault;
 mod file;
-mod file_count;
+mod file_counts;
 mod form;
 mod format;
 mod group;
@@ -29,7 +29,7 @@ mod table;
 mod values;
 
 pub use fault::UsageFault;
-pub use file_count::file_count;
+pub use file_counts::file_count;
 pub use format::{Piece, StatsText};
 pub use laws::{one_plan, word_examples};
 pub use plan::{Form, Hidden, Output, Plan};
