@@ -1,7 +1,6 @@
 //! The text of a guard, cube by cube.
 
 ghost use Rattle.std.specs.Prelude.{◌≡◌, ◌++◌, [], ◌∷◌, ◌<◌, Bool, true, map, IfOk, IfSome, OnErr, OnOk};
-ghost use Rattle.std.specs.Fmt.{decimal};
 ghost use Rattle.aut_base.specs.LabelText.{label_text, literal_text};
 ghost use Rattle.label_guards.specs.Pieces.{Gains, WritesCubes, cube_piece, literal_of, place_cubes};
 ghost use Rattle.label_guards.specs.Store.{Has, HasPlace, label_in};

@@ -32,7 +32,8 @@ pub returns-clause-accepts : goal.returns-clause-accepts
 returns-clause-accepts c =
     let a = automaton_of c.args.a.now in
     let other = completed_other a c.whole.ensures.well_formed (λ is. false≢true (sym c.if-is_complete.false ∙ c.is_complete.ensures.1 is)) in
-    IfOk-weaker c.complete_with_sink.result _ _ (λ core e. subst (λ (x : Automaton). AcceptTheSame x a) (sym (e ∙ sym other)) (completed_accepts a c.whole.ensures.well_formed)) c.complete_with_sink.ensures
+    IfOk-weaker c.complete_with_sink.result _ _ (λ core e. subst (λ (x : Automaton). AcceptTheSame x a) (sym (e ∙ sym other)) (completed_accepts a c.whole.ensures.well_formed))
+    c.complete_with_sink.ensures
 
 pub returns-clause-complete : goal.returns-clause-complete
 returns-clause-complete c =

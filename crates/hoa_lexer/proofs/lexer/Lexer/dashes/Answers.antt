@@ -22,7 +22,8 @@ returns-in-None-clause-answers g c =
 
 pub returns-in_err-fetch-clause-answers : goal.returns-in_err-fetch-clause-answers
 returns-in_err-fetch-clause-answers g c =
-    handed_on (λ r x z. ReadsToken (put r c.args.token.now) c.args.self.now.offset (45 ∷ x) (unread c.fetch.new.self.held z)) (g.I.Inputs.seen c.args.inputs.now).left (g.I.Inputs.seen c.fetch.new.inputs).left _ _
+    handed_on (λ r x z. ReadsToken (put r c.args.token.now) c.args.self.now.offset (45 ∷ x) (unread c.fetch.new.self.held z)) (g.I.Inputs.seen c.args.inputs.now).left
+    (g.I.Inputs.seen c.fetch.new.inputs).left _ _
     c.from_residual.ensures.1
     (between_as (g.I.Inputs.seen c.args.inputs.now).left (g.I.Inputs.seen c.fetch.new.inputs).left _ _
     (λ x z p. dash_err c.in_err-fetch.field-0.0 _ _ x z c.in_err-fetch.ensures.kinds c.in_err-fetch.ensures.held p)

@@ -14,7 +14,8 @@ token-requires-clause-slash g c = solid_slash _ _ c.in-Some.is c.in_ok-first.ens
 
 pub returns-in_err-first-clause-places : goal.returns-in_err-first-clause-places
 returns-in_err-first-clause-places g c =
-    handed_on (λ r x z. Places (renewed r c.args.token.now) (c.args.self.now.since - held_count c.args.self.now.held) c.args.self.now.offset c.skip_blanks.new.self.offset (unread c.args.self.now.held x)
+    handed_on (λ r x z. Places (renewed r c.args.token.now) (c.args.self.now.since - held_count c.args.self.now.held) c.args.self.now.offset c.skip_blanks.new.self.offset
+    (unread c.args.self.now.held x)
     (unread c.skip_blanks.new.self.held z)) (g.I.Inputs.seen c.args.inputs.now).left (g.I.Inputs.seen c.skip_blanks.new.inputs).left _ _ c.from_residual.ensures.1
     (between_as (g.I.Inputs.seen c.args.inputs.now).left (g.I.Inputs.seen c.skip_blanks.new.inputs).left _ _
     (λ x z p. places_blanks c.in_err-first.field-0.0 _ _ _ _ _ c.in_err-first.ensures.advances.offset p)
@@ -42,7 +43,8 @@ returns-in_err-token-in-Some-clause-answers g c =
     let one : held_count c.skip_blanks.new.self.held ≡ 1 = ap held_count held in
     let skips = between_both old at _ _ (λ x y. Skips (unread c.args.self.now.held x) (c.in-Some.first ∷ y) × (c.skip_blanks.new.self.taken + length y ≡ c.args.self.now.taken + length x))
     (λ x y p q. (skips_byte _ _ _ _ _ y c.in-Some.is held p, q)) c.in_ok-first.ensures.answers c.in_ok-first.ensures.advances.moves.taken in
-    handed_on (λ r x z. Answers (renewed r c.token.new.token) (c.args.self.now.since - held_count c.args.self.now.held) c.token.new.self.offset (unread c.args.self.now.held x) (unread c.token.new.self.held z)) old new
+    handed_on (λ r x z. Answers (renewed r c.token.new.token) (c.args.self.now.since - held_count c.args.self.now.held) c.token.new.self.offset (unread c.args.self.now.held x)
+    (unread c.token.new.self.held z)) old new
     _ _ c.from_residual-in_err-token-in-Some.ensures.1
     (between_then old at new _ _ _
     (λ x y z p q. err_offset c.in_err-token-in-Some.field-0.0 _ (c.skip_blanks.new.self.since - 1) _ _ _ (token_err _ _ _ _ _ _ p.0 (omega (arith, p.1, one, length_unread c.args.self.now.held x)) q))

@@ -23,5 +23,6 @@ returns-in_err-word_bytes-clause-answers g c =
 
 pub returns-in_err-name-clause-answers : goal.returns-in_err-name-clause-answers
 returns-in_err-name-clause-answers g c =
-    handed_on (λ r x z. ReadsToken (put r c.args.token.now) c.args.self.now.offset (c.args.first ∷ x) z) (g.I.Inputs.seen c.args.inputs.now).left (g.I.Inputs.seen c.args.inputs.now).left _ _ c.from_residual.ensures.1
+    handed_on (λ r x z. ReadsToken (put r c.args.token.now) c.args.self.now.offset (c.args.first ∷ x) z) (g.I.Inputs.seen c.args.inputs.now).left (g.I.Inputs.seen c.args.inputs.now).left _ _
+    c.from_residual.ensures.1
     (between_same (g.I.Inputs.seen c.args.inputs.now).left _ (λ x. word_stops c.args.first x c.requires.letter))

@@ -22,7 +22,8 @@ use Rattle.std.proofs.lemmas.Option.{get_or_from_slice_get}
 found : (defs : List AliasDef) (known : Places Known) (name : List ℕ) (k : Known) → AreKnown (meanings_by defs) defs known → place_in known name ≡ Some k → IsKnownOne (meanings_by defs) defs name k
 found defs known name k all is = let P : Option Known → Type 0 = λ o. IsKnownBy (meanings_by defs) defs name o in subst P is (all name)
 
-is_alias : (defs : List AliasDef) (label : RawLabel) (name : Box (List ℕ) Global) → label ≡ raw_label.Alias name → expanded (meanings_by defs) (raw_tree label) ≡ meaning_of (meanings_by defs) name.value
+is_alias : (defs : List AliasDef) (label : RawLabel) (name : Box (List ℕ) Global) → label ≡ raw_label.Alias name
+    → expanded (meanings_by defs) (raw_tree label) ≡ meaning_of (meanings_by defs) name.value
 is_alias defs label name is = ap (λ l. expanded (meanings_by defs) (raw_tree l)) is ∙ ap (expanded (meanings_by defs)) (raw_tree-Alias name)
 
 pub expand-returns-in-Some : goal.expand-returns-in-Some
