@@ -96,11 +96,8 @@ impl Formula {
     {
         match self {
             Formula::True | Formula::False => true,
-            Formula::Inf { set, .. } => *set < sets,
-            Formula::Fin { set, .. } => *set < sets,
-            Formula::And(parts) => parts.first.is_below(sets)
-                && (parts.second.is_below(sets) && all_below(&parts.others, sets)),
-            Formula::Or(parts) => parts.first.is_below(sets)
+            Formula::Inf { set, .. } | Formula::Fin { set, .. } => *set < sets,
+            Formula::And(parts) | Formula::Or(parts) => parts.first.is_below(sets)
                 && (parts.second.is_below(sets) && all_below(&parts.others, sets)),
         }
     }

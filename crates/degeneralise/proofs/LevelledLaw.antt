@@ -5,12 +5,13 @@ use Rattle.std.proofs.lemmas.Bool.{cases_Bool, false≢true}
 use Rattle.std.proofs.lemmas.Nat.{mul-lt, same_from_place}
 use Rattle.aut_base.proofs.lists.Copies.{any-copies, copies-add, copies-copies}
 use Rattle.aut_base.proofs.lists.Members.{any_found, any_from, from_map, there_map}
-use Rattle.aut_base.proofs.runs.LassoRuns.{marks_of}
+use Rattle.aut_base.proofs.runs.LassoRuns.{accepts_of, marks_of}
 use Rattle.aut_base.proofs.runs.Paths.{goes_on, path_copies, path_join}
 use Rattle.aut_base.specs.Acceptance.{Accepts, IsPath}
 use Rattle.aut_base.specs.Automaton.{Automaton, TreeEdge}
 use Rattle.aut_base.specs.Formula.{met}
 use Rattle.aut_base.specs.Marks.{is_in}
+use Rattle.aut_base.specs.Runs.{LassoRun}
 use Rattle.aut_base.specs.Word.{NameSet, copies}
 use Rattle.aut_core.specs.OtherNames.{AcceptTheSame}
 use Rattle.acc_forms.specs.declared.literal.Literal.{Literal}
@@ -150,20 +151,9 @@ module _ (k : ℕ) (watch : ℕ → Watch) (a : Automaton) (has : HasRoom k watc
       let mark : marked ls level cycle.edges ≡ true = sym (marks_are_marked k watch ls level cycle.edges along) ∙ marks in
       let here : level < literal_places ls = subst (λ (w : Watch). level < levels w) waits.is below in
       let some = goes_on a way.end way.end r.rounds v cycle.edges r.endless r.positive returns in
-      record {
-        endless = r.endless;
-        start = start.0;
-        state = way.end;
-        turns = r.turns;
-        rounds = r.rounds;
-        way = way.edges;
-        cycle = cycle.edges;
-        is_start = start.1;
-        leads = way.path;
-        positive = r.positive;
-        returns = returns;
-        meets = (asks.waits way.end ls (copies r.rounds v) cycle.edges some returns waits.is).1 (λ j within. on_passed ls j cycle.edges (all_passed ls level cycle.edges here back mark j within));
-      }
+      let run : LassoRun a u v r.turns r.rounds = record { start = start.0; state = way.end; way = way.edges; cycle = cycle.edges; is_start = start.1; leads = way.path; returns = returns } in
+      accepts_of a u v r.turns r.rounds run r.endless r.positive
+      ((asks.waits way.end ls (copies r.rounds v) cycle.edges some returns waits.is).1 (λ j within. on_passed ls j cycle.edges (all_passed ls level cycle.edges here back mark j within)))
 
   pub levelled_accepts_the_same : AcceptTheSame (levelled k watch a) a
   levelled_accepts_the_same u v = (from_levels u v, by_levels u v)

@@ -9,12 +9,13 @@ use Rattle.acc_forms.proofs.TermLaws.{met-of_terms, met-terms}
 use Rattle.acc_forms.specs.Terms.{literal_tree, terms}
 use Rattle.aut_base.proofs.lists.Copies.{copies-add}
 use Rattle.aut_base.proofs.lists.Members.{any_found, any_from, from_map, there_map}
-use Rattle.aut_base.proofs.runs.LassoRuns.{marks_of}
+use Rattle.aut_base.proofs.runs.LassoRuns.{accepts_of, marks_of}
 use Rattle.aut_base.proofs.runs.Paths.{goes_on, path_join}
 use Rattle.aut_base.specs.Acceptance.{Accepts, IsPath}
 use Rattle.aut_base.specs.Automaton.{Automaton, IsWellFormed, TreeEdge}
 use Rattle.aut_base.specs.Formula.{met}
 use Rattle.aut_base.specs.Marks.{is_in}
+use Rattle.aut_base.specs.Runs.{LassoRun}
 use Rattle.aut_base.specs.Word.{NameSet, copies}
 use Rattle.aut_core.specs.OtherNames.{AcceptTheSame}
 use Rattle.fin_removal.specs.Copies.{allows, copied, edge_in, owned, owned_sets, state_in, stay}
@@ -176,21 +177,10 @@ without_copies a formed u v r =
     (λ (m : IsElsewhere a formed way.end r.state).
     let cycle = from_copy a formed m.copy m.listed way.end way.below (copies r.rounds v) r.cycle r.state (subst (λ (s : ℕ). IsPath (copied a) s (copies r.rounds v) r.cycle r.state) m.at r.returns) in
     let closed = same_from_place m.copy.number cycle.end m.copy.number way.end a.states cycle.below way.below (sym cycle.at ∙ m.at) in
-    record {
-      endless = r.endless;
-      start = r.start;
-      state = way.end;
-      turns = r.turns;
-      rounds = r.rounds;
-      way = way.edges;
-      cycle = cycle.edges;
-      is_start = r.is_start;
-      leads = way.path;
-      positive = r.positive;
-      returns = subst (λ (q : ℕ). IsPath a way.end (copies r.rounds v) cycle.edges q) closed.1 cycle.path;
-      meets = copy_met a cycle.edges m.copy m.listed
-          (in_copy a m.copy m.listed cycle.edges cycle.allowed (subst (λ (es : List TreeEdge). met (marks_of es) (copied a).formula ≡ true) cycle.is r.meets));
-    })
+    let returns = subst (λ (q : ℕ). IsPath a way.end (copies r.rounds v) cycle.edges q) closed.1 cycle.path in
+    let run : LassoRun a u v r.turns r.rounds = record { start = r.start; state = way.end; way = way.edges; cycle = cycle.edges; is_start = r.is_start; leads = way.path; returns = returns } in
+    accepts_of a u v r.turns r.rounds run r.endless r.positive
+    (copy_met a cycle.edges m.copy m.listed (in_copy a m.copy m.listed cycle.edges cycle.allowed (subst (λ (es : List TreeEdge). met (marks_of es) (copied a).formula ≡ true) cycle.is r.meets))))
     way.place
 
 pub copied_accepts_the_same : (a : Automaton) → IsWellFormed a → AcceptTheSame (copied a) a

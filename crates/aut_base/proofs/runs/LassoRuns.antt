@@ -1,6 +1,6 @@
 -- Runs over a lasso word: a path to a state, and one from there back to it. A run can be taken to close later, after
 -- more turns of the cycle, and to go round more often, and keeps what conditions its cycle meets.
-use Rattle.std.proofs.Common.{◌≡◌, ◌∙◌, ℕ, zero, suc, ◌+◌, ◌*◌, ◌<◌, true, List, ◌++◌, ap, append_assoc, arith, length, map, refl, subst, sym}
+use Rattle.std.proofs.Common.{◌≡◌, ◌∙◌, ℕ, zero, suc, ◌+◌, ◌*◌, ◌<◌, true, List, ◌++◌, Contains, ap, append_assoc, arith, length, map, refl, subst, sym}
 use Rattle.std.proofs.lemmas.List.{map-append}
 use Rattle.std.proofs.lemmas.List.Folds.{list_all-append, list_any-append}
 use Rattle.std.specs.List.{list_all, list_any}
@@ -36,6 +36,13 @@ accepts_of a u v turns rounds r endless positive meets = record {
   returns = r.returns;
   meets = meets;
 }
+
+-- a word that an automaton accepts is accepted by another in which the same run begins at a start and goes along edges, if its
+-- cycle meets the other's condition
+pub accepts_too : (a b : Automaton) (u v : List NameSet) (r : Accepts a u v) → Contains b.starts r.start → IsPath b r.start (u ++ copies r.turns v) r.way r.state
+    → IsPath b r.state (copies r.rounds v) r.cycle r.state → met (marks_of r.cycle) b.formula ≡ true → Accepts b u v
+accepts_too a b u v r is_start leads returns meets =
+    accepts_of b u v r.turns r.rounds (record { start = r.start; state = r.state; way = r.way; cycle = r.cycle; is_start = is_start; leads = leads; returns = returns }) r.endless r.positive meets
 
 -- a run whose cycle meets the same conditions
 pub record Likewise (a : Automaton) (u v : List NameSet) (turns rounds : ℕ) (cycle : List TreeEdge) : Type 0 where

@@ -7,7 +7,40 @@ use Rattle.aut_base.specs.Acceptance.{Accepts, IsPath}
 use Rattle.aut_base.specs.Automaton.{TreeEdge, Automaton}
 use Rattle.aut_base.specs.Formula.{met}
 use Rattle.aut_base.specs.Label.{holds_at, truth}
+use Rattle.aut_base.specs.Runs.{LassoRun}
 use Rattle.aut_base.specs.Word.{NameSet, copies}
+use Rattle.aut_base.proofs.runs.LassoRuns.{accepts_of, marks_of, run_of}
+
+-- ---- the same edges
+
+-- a path of an automaton is one of another over the same names that has its edges
+pub path_wider : (a b : Automaton) → a.names ≡ b.names → ((e : TreeEdge) → Contains a.edges e → Contains b.edges e) → (p q : ℕ) (xs : List NameSet) (es : List TreeEdge) → IsPath a p xs es q
+    → IsPath b p xs es q
+path_wider a b names has p q [] [] path = path
+path_wider a b names has p q [] (e ∷ es) path = absurd path
+path_wider a b names has p q (x ∷ xs) [] path = absurd path
+path_wider a b names has p q (x ∷ xs) (e ∷ es) path =
+    (path.0, has e path.1, subst (λ ns. truth (holds_at ns x) e.label ≡ true) names path.2, path_wider a b names has e.to q xs es path.3)
+
+-- and so is a run that begins at a start of the other
+abbrev pub run_wider : (a b : Automaton) (u v : List NameSet) → a.names ≡ b.names → ((e : TreeEdge) → Contains a.edges e → Contains b.edges e) → (turns rounds : ℕ) (r : LassoRun a u v turns rounds)
+    → Contains b.starts r.start → LassoRun b u v turns rounds
+run_wider a b u v names has turns rounds r is_start = record {
+  start = r.start;
+  state = r.state;
+  way = r.way;
+  cycle = r.cycle;
+  is_start = is_start;
+  leads = path_wider a b names has r.start r.state (u ++ copies turns v) r.way r.leads;
+  returns = path_wider a b names has r.state r.state (copies rounds v) r.cycle r.returns;
+}
+
+-- a word that the automaton accepts is accepted by the other if the run's cycle meets its condition
+pub accepts_wider : (a b : Automaton) → a.names ≡ b.names → ((e : TreeEdge) → Contains a.edges e → Contains b.edges e) → (u v : List NameSet) (r : Accepts a u v) → Contains b.starts r.start
+    → met (marks_of r.cycle) b.formula ≡ true → Accepts b u v
+accepts_wider a b names has u v r is_start meets = accepts_of b u v r.turns r.rounds (run_wider a b u v names has r.turns r.rounds (run_of a u v r) is_start) r.endless r.positive meets
+
+-- ---- edges that can be gone at the same letters
 
 -- an edge of the automaton that can be gone at the letter in place of this one
 pub record Twin (b : Automaton) (x : NameSet) (e : TreeEdge) : Type 0 where
@@ -45,20 +78,16 @@ pub accepts_follows : (a b : Automaton) → Follows a b → ((s : ℕ) → Conta
 accepts_follows a b follows starts formula u v r =
     let way = path_follows a b follows r.start (u ++ copies r.turns v) r.way r.state r.leads in
     let cycle = path_follows a b follows r.state (copies r.rounds v) r.cycle r.state r.returns in
-    record {
-      endless = r.endless;
+    let run : LassoRun b u v r.turns r.rounds = record {
       start = r.start;
       state = r.state;
-      turns = r.turns;
-      rounds = r.rounds;
       way = way.edges;
       cycle = cycle.edges;
       is_start = starts r.start r.is_start;
       leads = way.goes;
-      positive = r.positive;
       returns = cycle.goes;
-      meets = ap (λ marks. met marks b.formula) cycle.marks ∙ (ap (met (map (λ (e : TreeEdge). e.marks) r.cycle)) (sym formula) ∙ r.meets);
-    }
+    } in
+    accepts_of b u v r.turns r.rounds run r.endless r.positive (ap (λ marks. met marks b.formula) cycle.marks ∙ (ap (met (marks_of r.cycle)) (sym formula) ∙ r.meets))
 
 -- the edges of one automaton are those of the other, with labels that say the same
 pub record Relabels (a b : Automaton) (f : TreeEdge → TreeEdge) : Type 0 where

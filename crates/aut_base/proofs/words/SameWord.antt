@@ -1,16 +1,17 @@
 -- Why lasso words that spell the same infinite word are accepted alike. A path that reads the one word goes on
 -- round its closed path until it has read a whole number of cycles of the other. The closed path, turned to begin
 -- there and gone often enough, reads a whole number of them as well, and has the same edges.
-use Rattle.std.proofs.Common.{◌≡◌, ◌∙◌, ℕ, ◌+◌, ◌-◌, ◌*◌, ◌<◌, ◌≤◌, true, List, ◌++◌, length, map, take, drop, Option, Contains, refl, sym, ap, subst, arith}
+use Rattle.std.proofs.Common.{◌≡◌, ◌∙◌, ℕ, ◌+◌, ◌-◌, ◌*◌, ◌<◌, ◌≤◌, List, ◌++◌, length, take, drop, Option, refl, sym, ap, subst, arith}
 use Rattle.std.proofs.Math.Nat.{le-mul_of_pos_right}
 use Rattle.std.proofs.lemmas.List.{length-append, length-drop, length-take-le, take-append-drop}
 use Rattle.aut_base.specs.Acceptance.{Accepts, SameWordSameVerdict}
 use Rattle.aut_base.specs.Automaton.{TreeEdge, Automaton}
-use Rattle.aut_base.specs.Formula.{met}
 use Rattle.aut_base.specs.Word.{NameSet, copies, letter_at, SpellsSame}
 use Rattle.aut_base.proofs.lists.Copies.{length-copies}
 use Rattle.aut_base.proofs.words.SameEdges.{met_alike, turned_alike}
 use Rattle.aut_base.proofs.words.Spelled.{word_letter, round_letter}
+use Rattle.aut_base.proofs.runs.LassoRuns.{accepts_of, marks_of}
+use Rattle.aut_base.specs.Runs.{LassoRun}
 use Rattle.aut_base.proofs.runs.Walks.{Reads, Agrees, as_long, reads_word, reads_path, ends, join, split_first, split_second, repeated}
 
 word_agrees : (w : ℕ → Option NameSet) (u v : List NameSet) (i : ℕ) → ((n : ℕ) → w n ≡ letter_at u v n) → 0 < length v → Agrees w 0 (u ++ copies i v)
@@ -82,22 +83,14 @@ turn a w n m q wait all enough at first again =
 
 -- What acceptance says of the infinite word `w`, whose letters come again after every l from moment o on: a path
 -- leads to a closed path, which can be gone at each of those moments.
-record Looped (a : Automaton) (w : ℕ → Option NameSet) (o l : ℕ) : Type 0 where
-  start : ℕ
-  state : ℕ
-  turns : ℕ
-  rounds : ℕ
-  way : List TreeEdge
-  cycle : List TreeEdge
-  is_start : Contains a.starts start
-  long_way : length way ≡ o + turns * l
-  long_cycle : length cycle ≡ rounds * l
-  some_cycle : 0 < length cycle
-  leads : Reads a w 0 start way state
-  round : (s : ℕ) → Reads a w (o + s * l) state cycle state
-  meets : met (map (λ e. e.marks) cycle) a.formula ≡ true
+record Looped (a : Automaton) (u v : List NameSet) (r : Accepts a u v) (w : ℕ → Option NameSet) (o l : ℕ) : Type 0 where
+  long_way : length r.way ≡ o + r.turns * l
+  long_cycle : length r.cycle ≡ r.rounds * l
+  some_cycle : 0 < length r.cycle
+  leads : Reads a w 0 r.start r.way r.state
+  round : (s : ℕ) → Reads a w (o + s * l) r.state r.cycle r.state
 
-looped : (a : Automaton) (u v : List NameSet) → 0 < length v → Accepts a u v → Looped a (letter_at u v) (length u) (length v)
+looped : (a : Automaton) (u v : List NameSet) → 0 < length v → (r : Accepts a u v) → Looped a u v r (letter_at u v) (length u) (length v)
 looped a u v some r =
     let w : ℕ → Option NameSet = letter_at u v in
     let wide : r.rounds ≤ r.rounds * length v = le-mul_of_pos_right r.rounds some in
@@ -105,64 +98,54 @@ looped a u v some r =
     let word : length (u ++ copies r.turns v) ≡ length u + r.turns * length v = length-append u (copies r.turns v) ∙ ap (λ k. length u + k) (length-copies r.turns v) in
     let long : length r.cycle ≡ r.rounds * length v = as_long a r.state (copies r.rounds v) r.cycle r.state r.returns ∙ length-copies r.rounds v in
     record {
-      start = r.start;
-      state = r.state;
-      turns = r.turns;
-      rounds = r.rounds;
-      way = r.way;
-      cycle = r.cycle;
-      is_start = r.is_start;
       long_way = as_long a r.start (u ++ copies r.turns v) r.way r.state r.leads ∙ word;
       long_cycle = long;
       some_cycle = omega arith;
       leads = reads_word a w 0 r.start (u ++ copies r.turns v) r.way r.state (word_agrees w u v r.turns (λ n. refl) some) r.leads;
       round = λ s. reads_word a w (length u + s * length v) r.state (copies r.rounds v) r.cycle r.state (round_agrees w u v s r.rounds (λ n. refl) some) r.returns;
-      meets = r.meets;
     }
 
 -- the closed path, gone `times` times, and turned
-turned : (a : Automaton) (w : ℕ → Option NameSet) (o l wait times : ℕ) (g : Looped a w o l) → wait ≤ times * length g.cycle → Turned a w (o + g.turns * l) g.state wait (copies times g.cycle)
-turned a w o l wait times g enough =
-    let all = copies times g.cycle in
-    let long : length all ≡ times * length g.cycle = length-copies times g.cycle in
-    let long' : times * length g.cycle ≡ times * (g.rounds * l) = ap (λ k. times * k) g.long_cycle in
-    let many = repeated a w o l g.rounds g.state g.cycle g.long_cycle g.round times in
-    turn a w (o + g.turns * l) (o + (g.turns + times * g.rounds) * l) g.state wait all (omega arith) (omega arith) (many g.turns) (many (g.turns + times * g.rounds))
+turned : (a : Automaton) (u v : List NameSet) (r : Accepts a u v) (w : ℕ → Option NameSet) (o l wait times : ℕ) (g : Looped a u v r w o l) → wait ≤ times * length r.cycle
+    → Turned a w (o + r.turns * l) r.state wait (copies times r.cycle)
+turned a u v r w o l wait times g enough =
+    let all = copies times r.cycle in
+    let long : length all ≡ times * length r.cycle = length-copies times r.cycle in
+    let long' : times * length r.cycle ≡ times * (r.rounds * l) = ap (λ k. times * k) g.long_cycle in
+    let many = repeated a w o l r.rounds r.state r.cycle g.long_cycle g.round times in
+    turn a w (o + r.turns * l) (o + (r.turns + times * r.rounds) * l) r.state wait all (omega arith) (omega arith) (many r.turns) (many (r.turns + times * r.rounds))
 
-taken_up : (a : Automaton) (w : ℕ → Option NameSet) (o l : ℕ) (x y : List NameSet) (g : Looped a w o l) → 0 < length y → ((n : ℕ) → w n ≡ letter_at x y n)
-    → Moment (o + g.turns * l) (length g.cycle) (length x) (length y) → Accepts a x y
-taken_up a w o l x y g some spells m =
-    let all = copies m.times g.cycle in
+taken_up : (a : Automaton) (u v : List NameSet) (r : Accepts a u v) (w : ℕ → Option NameSet) (o l : ℕ) (x y : List NameSet) (g : Looped a u v r w o l) → 0 < length y
+    → ((n : ℕ) → w n ≡ letter_at x y n) → Moment (o + r.turns * l) (length r.cycle) (length x) (length y) → Accepts a x y
+taken_up a u v r w o l x y g some spells m =
+    let all = copies m.times r.cycle in
     let front = take m.wait all in
     let back = drop m.wait all in
-    let t = turned a w o l m.wait m.times g m.enough in
-    let long_all : length all ≡ m.times * length g.cycle = length-copies m.times g.cycle in
+    let t = turned a u v r w o l m.wait m.times g m.enough in
+    let long_all : length all ≡ m.times * length r.cycle = length-copies m.times r.cycle in
     let long_front : length front ≡ m.wait = length-take-le m.wait all (omega arith) in
     let long_back : length back ≡ length all - m.wait = length-drop m.wait all in
     let word : length (x ++ copies m.turns y) ≡ length x + m.turns * length y = length-append x (copies m.turns y) ∙ ap (λ k. length x + k) (length-copies m.turns y) in
     let gone : length (copies m.rounds y) ≡ m.rounds * length y = length-copies m.rounds y in
     let P : ℕ → Type 0 = λ n. Reads a w n t.here (back ++ front) t.here in
-    record {
-      endless = some;
-      start = g.start;
+    let run : LassoRun a x y m.turns m.rounds = record {
+      start = r.start;
       state = t.here;
-      turns = m.turns;
-      rounds = m.rounds;
-      way = g.way ++ front;
+      way = r.way ++ front;
       cycle = back ++ front;
-      is_start = g.is_start;
-      leads = reads_path a w 0 g.start (x ++ copies m.turns y) (g.way ++ front) t.here (word_agrees w x y m.turns spells some) (omega (arith, length-append g.way front))
-          (join a w 0 (o + g.turns * l) g.start g.state t.here g.way front (omega arith) g.leads t.on);
-      positive = m.some_rounds;
+      is_start = r.is_start;
+      leads = reads_path a w 0 r.start (x ++ copies m.turns y) (r.way ++ front) t.here (word_agrees w x y m.turns spells some) (omega (arith, length-append r.way front))
+          (join a w 0 (o + r.turns * l) r.start r.state t.here r.way front (omega arith) g.leads t.on);
       returns = reads_path a w (length x + m.turns * length y) t.here (copies m.rounds y) (back ++ front) t.here (round_agrees w x y m.turns m.rounds spells some)
           (omega (arith, length-append back front)) (subst P m.at t.round);
-      meets = met_alike (map (λ e. e.marks) (back ++ front)) (map (λ e. e.marks) g.cycle) (turned_alike (λ e. e.marks) m.times m.wait g.cycle m.some_times) a.formula ∙ g.meets;
-    }
+    } in
+    accepts_of a x y m.turns m.rounds run some m.some_rounds
+    (met_alike (marks_of (back ++ front)) (marks_of r.cycle) (turned_alike (λ e. e.marks) m.times m.wait r.cycle m.some_times) a.formula ∙ r.meets)
 
 carry : (a : Automaton) (u v x y : List NameSet) → 0 < length v → 0 < length y → SpellsSame u v x y → Accepts a u v → Accepts a x y
 carry a u v x y some_v some_y same r =
     let g = looped a u v some_v r in
-    taken_up a (letter_at u v) (length u) (length v) x y g some_y same (moment (length u + g.turns * length v) (length g.cycle) (length x) (length y) g.some_cycle some_y)
+    taken_up a u v r (letter_at u v) (length u) (length v) x y g some_y same (moment (length u + r.turns * length v) (length r.cycle) (length x) (length y) g.some_cycle some_y)
 
 pub same_word_same_verdict : SameWordSameVerdict
 same_word_same_verdict a u v x y some_v some_y same = (carry a u v x y some_v some_y same, carry a x y u v some_y some_v (λ n. sym (same n)))

@@ -11,7 +11,8 @@ use Rattle.aut_base.specs.Label.{holds_at, truth}
 use Rattle.aut_base.specs.Word.{NameSet, copies}
 use Rattle.aut_core.specs.OtherNames.{AcceptTheSame}
 use Rattle.aut_ops.proofs.links.Labels.{not_never}
-use Rattle.aut_ops.proofs.sinks.SinkRuns.{path_wider}
+use Rattle.aut_base.proofs.runs.LassoRuns.{accepts_too}
+use Rattle.aut_base.proofs.runs.OtherEdges.{accepts_wider}
 use Rattle.aut_ops.specs.Passable.{arc_of, between, is_flagged, is_passable, passable_arcs, passable_edges, stays}
 use Rattle.graph_walk.proofs.WalkLemmas.{reach_none, reach_then}
 use Rattle.graph_walk.specs.Reach.{AreReached}
@@ -94,40 +95,17 @@ module _ (a : Automaton) (formed : IsWellFormed a) where
         wider : Accepts (between flags a) u v → Accepts a u v
         wider r =
             let has : (e : TreeEdge) → Contains (between flags a).edges e → Contains a.edges e = λ e there. (from_filter (stays (length a.names) flags) a.edges e there).0 in
-            record {
-              endless = r.endless;
-              start = r.start;
-              state = r.state;
-              turns = r.turns;
-              rounds = r.rounds;
-              way = r.way;
-              cycle = r.cycle;
-              is_start = (from_filter (is_flagged flags) a.starts r.start r.is_start).0;
-              leads = path_wider (between flags a) a refl has r.start r.state (u ++ copies r.turns v) r.way r.leads;
-              positive = r.positive;
-              returns = path_wider (between flags a) a refl has r.state r.state (copies r.rounds v) r.cycle r.returns;
-              meets = r.meets;
-            }
+            accepts_wider (between flags a) a refl has u v r (from_filter (is_flagged flags) a.starts r.start r.is_start).0 r.meets
 
         narrower : Accepts a u v → Accepts (between flags a) u v
         narrower r =
             let leads = path_reaches r.start r.state (u ++ copies r.turns v) r.way r.leads in
             let none = reach_none (passable_arcs a) in
-            record {
-              endless = r.endless;
-              start = r.start;
-              state = r.state;
-              turns = r.turns;
-              rounds = r.rounds;
-              way = r.way;
-              cycle = r.cycle;
-              is_start = there_filter (is_flagged flags) a.starts r.start r.is_start
-                  (on u v r r.start (All-contains (λ p. p < a.states) a.starts r.start formed.starts r.is_start) (none r.start) leads);
-              leads = path_between r.start r.state (on u v r) r.start r.state (u ++ copies r.turns v) r.way (none r.start) (none r.state) r.leads;
-              positive = r.positive;
-              returns = path_between r.start r.state (on u v r) r.state r.state (copies r.rounds v) r.cycle leads (none r.state) r.returns;
-              meets = r.meets;
-            }
+            let flagged = on u v r r.start (All-contains (λ p. p < a.states) a.starts r.start formed.starts r.is_start) (none r.start) leads in
+            accepts_too a (between flags a) u v r (there_filter (is_flagged flags) a.starts r.start r.is_start flagged)
+            (path_between r.start r.state (on u v r) r.start r.state (u ++ copies r.turns v) r.way (none r.start) (none r.state) r.leads)
+            (path_between r.start r.state (on u v r) r.state r.state (copies r.rounds v) r.cycle leads (none r.state) r.returns)
+            r.meets
 
     pub between_formed : IsWellFormed (between flags a)
     between_formed = record {

@@ -21,7 +21,7 @@ use Rattle.aut_ops.proofs.pairs.Listings.{places_longer}
 use Rattle.aut_ops.proofs.pairs.Places.{pair_tells, place_is}
 use Rattle.aut_ops.proofs.joint_runs.ProductFormed.{product_formed}
 use Rattle.aut_ops.proofs.joint_runs.ProductLanguages.{product_accepts, product_or_accepts}
-use Rattle.aut_ops.proofs.sinks.SinkRuns.{path_wider}
+use Rattle.aut_base.proofs.runs.OtherEdges.{run_wider}
 use Rattle.aut_ops.specs.Products.{ArePairs, IsProduct, JointEdge, joint_edges, numbered, product_on, same_pair, start_pairs}
 use Rattle.aut_ops.specs.declared.join.Join.{Join}
 use Rattle.aut_ops.specs.declared.join.Join.TheVariants as join
@@ -96,29 +96,17 @@ made j a b stage begun names starts states sets seconds formula f g store links 
 
 -- runs over other names
 
-run_wider : (a b : Automaton) (u v : List NameSet) → a.names ≡ b.names → ((s : ℕ) → Contains a.starts s → Contains b.starts s) → ((e : TreeEdge) → Contains a.edges e → Contains b.edges e)
-    → (turns rounds : ℕ) → LassoRun a u v turns rounds → LassoRun b u v turns rounds
-run_wider a b u v names starts edges turns rounds r = record {
-  start = r.start;
-  state = r.state;
-  way = r.way;
-  cycle = r.cycle;
-  is_start = starts r.start r.is_start;
-  leads = path_wider a b names edges r.start r.state (u ++ copies turns v) r.way r.leads;
-  returns = path_wider a b names edges r.state r.state (copies rounds v) r.cycle r.returns;
-}
-
 pub over_runs : (a : Automaton) (names : List (List ℕ)) → AreAmong a.names names → IsWellFormed a → HasRuns a → HasRuns (over_names names a)
 over_runs a names among formed runs u v endless =
     let some = runs u v endless in
     let any : Automaton = record a { formula = True } in
-    let one = accepts_of any u v some.turns some.rounds (run_wider a any u v refl (λ s there. there) (λ e there. there) some.turns some.rounds some.run) endless some.positive refl in
+    let one = accepts_of any u v some.turns some.rounds (run_wider a any u v refl (λ e there. there) some.turns some.rounds some.run some.run.is_start) endless some.positive refl in
     let two = (over_accepts any names among (labels_below a formed) u v).1 one in
     record {
       turns = two.turns;
       rounds = two.rounds;
       positive = two.positive;
-      run = run_wider (over_names names any) (over_names names a) u v refl (λ s there. there) (λ e there. there) two.turns two.rounds (run_of (over_names names any) u v two);
+      run = run_wider (over_names names any) (over_names names a) u v refl (λ e there. there) two.turns two.rounds (run_of (over_names names any) u v two) two.is_start;
     }
 
 -- and what the product of the automata over their names accepts

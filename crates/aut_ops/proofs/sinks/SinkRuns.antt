@@ -15,13 +15,13 @@ use Rattle.aut_base.specs.Acceptance.{Accepts, IsPath}
 use Rattle.aut_base.specs.Automaton.{Automaton, IsEdgeOf, IsWellFormed, TreeEdge}
 use Rattle.aut_base.specs.Formula.{Fin, FormulaTree, met}
 use Rattle.aut_base.proofs.numbers.Truth.{and_comm}
-use Rattle.aut_base.specs.Label.{holds_at, truth}
 use Rattle.aut_base.specs.Marks.{is_in}
 use Rattle.aut_base.specs.Word.{NameSet, copies}
 use Rattle.aut_core.specs.OtherNames.{AcceptTheSame}
 use Rattle.aut_ops.proofs.sinks.Completions.{Kind, kind, loop, old_there}
 use Rattle.aut_ops.proofs.following.CycleMarks.{not_in_past}
-use Rattle.aut_base.proofs.runs.LassoRuns.{marks_of}
+use Rattle.aut_base.proofs.runs.LassoRuns.{accepts_too, marks_of}
+use Rattle.aut_base.proofs.runs.OtherEdges.{accepts_wider}
 use Rattle.aut_ops.specs.Completion.{is_met_unmarked, sink_marks, with_sink}
 
 -- each edge of a path is one of the automaton's
@@ -31,15 +31,6 @@ path_marks a P each p q [] [] path = λ k d within. absurd (omega (arith, within
 path_marks a P each p q [] (e ∷ es) path = absurd path
 path_marks a P each p q (x ∷ xs) [] path = absurd path
 path_marks a P each p q (x ∷ xs) (e ∷ es) path = All-cons P e.marks (marks_of es) (each e path.1) (path_marks a P each e.to q xs es path.3)
-
--- a path of an automaton is one of another over the same names that has its edges
-pub path_wider : (a b : Automaton) → a.names ≡ b.names → ((e : TreeEdge) → Contains a.edges e → Contains b.edges e) → (p q : ℕ) (xs : List NameSet) (es : List TreeEdge) → IsPath a p xs es q
-    → IsPath b p xs es q
-path_wider a b names has p q [] [] path = path
-path_wider a b names has p q [] (e ∷ es) path = absurd path
-path_wider a b names has p q (x ∷ xs) [] path = absurd path
-path_wider a b names has p q (x ∷ xs) (e ∷ es) path =
-    (path.0, has e path.1, subst (λ ns. truth (holds_at ns x) e.label ≡ true) names path.2, path_wider a b names has e.to q xs es path.3)
 
 -- a closed path that reads a word has an edge
 pub cycle_long : (a : Automaton) (q rounds : ℕ) (v : List NameSet) (es : List TreeEdge) → 0 < length v → 0 < rounds → IsPath a q (copies rounds v) es q → 0 < length (marks_of es)
@@ -142,20 +133,10 @@ module _ (a : Automaton) (formed : IsWellFormed a) where
   outside_accepts u v r at = by (start_is (length a.starts == 0) r.start r.is_start)
     where
       by : Contains a.starts r.start ⊎ (r.start ≡ a.states) → Accepts a u v
-      by (inl first) = record {
-        endless = r.endless;
-        start = r.start;
-        state = r.state;
-        turns = r.turns;
-        rounds = r.rounds;
-        way = r.way;
-        cycle = r.cycle;
-        is_start = first;
-        leads = outside r.start r.state (u ++ copies r.turns v) r.way (All-contains (λ p. p < a.states) a.starts r.start formed.starts first) at r.leads;
-        positive = r.positive;
-        returns = outside r.state r.state (copies r.rounds v) r.cycle at at r.returns;
-        meets = met_old (is_met_unmarked a.formula) (marks_of r.cycle) r.meets;
-      }
+      by (inl first) =
+          let below = All-contains (λ p. p < a.states) a.starts r.start formed.starts first in
+          accepts_too c a u v r first (outside r.start r.state (u ++ copies r.turns v) r.way below at r.leads) (outside r.state r.state (copies r.rounds v) r.cycle at at r.returns)
+          (met_old (is_met_unmarked a.formula) (marks_of r.cycle) r.meets)
       by (inr sunk) = let end = (in_sink r.start r.state (u ++ copies r.turns v) r.way sunk r.leads).0 in absurd (omega (arith, end, at))
 
   with_sink_accepted : (u v : List NameSet) → Accepts c u v → Accepts a u v
@@ -170,21 +151,9 @@ module _ (a : Automaton) (formed : IsWellFormed a) where
       by (inr sunk) = absurd (sink_rejects u v r sunk)
 
   with_sink_accepts : (u v : List NameSet) → Accepts a u v → Accepts c u v
-  with_sink_accepts u v r = record {
-    endless = r.endless;
-    start = r.start;
-    state = r.state;
-    turns = r.turns;
-    rounds = r.rounds;
-    way = r.way;
-    cycle = r.cycle;
-    is_start = start_kept (length a.starts == 0) r.start refl r.is_start;
-    leads = path_wider a c refl (old_there a formed) r.start r.state (u ++ copies r.turns v) r.way r.leads;
-    positive = r.positive;
-    returns = path_wider a c refl (old_there a formed) r.state r.state (copies r.rounds v) r.cycle r.returns;
-    meets = met_new (is_met_unmarked a.formula) (marks_of r.cycle)
-        (path_marks a (All (λ m. m < a.sets)) (λ e there. (All-contains (IsEdgeOf a) a.edges e formed.edges there).marks) r.state r.state (copies r.rounds v) r.cycle r.returns) r.meets;
-  }
+  with_sink_accepts u v r =
+      let within = path_marks a (All (λ m. m < a.sets)) (λ e there. (All-contains (IsEdgeOf a) a.edges e formed.edges there).marks) r.state r.state (copies r.rounds v) r.cycle r.returns in
+      accepts_wider a c refl (old_there a formed) u v r (start_kept (length a.starts == 0) r.start refl r.is_start) (met_new (is_met_unmarked a.formula) (marks_of r.cycle) within r.meets)
 
   pub sink_keeps_language : AcceptTheSame c a
   sink_keeps_language u v = (with_sink_accepted u v, with_sink_accepts u v)

@@ -1,9 +1,10 @@
 -- A deterministic automaton whose states go on, with the dual condition: of each word exactly one of the two accepts it.
-use Rattle.std.proofs.Common.{◌≡◌, ◌∙◌, ◌+◌, ◌*◌, ◌<◌, ◌⊎◌, ℕ, true, not, List, [], ◌∷◌, ◌++◌, Contains, ap, arith, inl, inr, length, map, slice_index_or, subst, sym}
+use Rattle.std.proofs.Common.{◌≡◌, ◌∙◌, ◌+◌, ◌*◌, ◌<◌, ◌⊎◌, ℕ, true, not, List, [], ◌∷◌, ◌++◌, Contains, ap, arith, inl, inr, length, refl, slice_index_or, subst, sym}
 use Rattle.std.proofs.lemmas.Bool.{cases_Bool, not-true, true≢false}
 use Rattle.std.proofs.lemmas.List.Elements.{All-contains, Contains-get_or}
 use Rattle.std.proofs.Math.Nat.{mul_comm}
-use Rattle.aut_base.proofs.runs.LassoRuns.{later, marks_of, run_of}
+use Rattle.aut_base.proofs.runs.LassoRuns.{accepts_of, later, marks_of, run_of}
+use Rattle.aut_base.proofs.runs.OtherEdges.{run_wider}
 use Rattle.aut_base.proofs.runs.Paths.{path_join}
 use Rattle.aut_base.specs.Acceptance.{Accepts, IsPath}
 use Rattle.aut_base.specs.Automaton.{Automaton, IsEdgeOf, TreeEdge}
@@ -16,19 +17,6 @@ use Rattle.aut_core.specs.Deterministic.{IsDeterministic}
 use Rattle.parity_laws.proofs.runs.OnePath.{one_start, same_path}
 use Rattle.parity_laws.proofs.runs.Runs.{IsClosed, closes, run}
 use Rattle.parity_laws.specs.Complement.{AreComplements, ComplementsOfTheSame, DualIsComplement, dualised}
-
--- the same paths, whatever the condition is
-to_dual : (d : Automaton) (p q : ℕ) (xs : List NameSet) (es : List TreeEdge) → IsPath d p xs es q → IsPath (dualised d) p xs es q
-to_dual d p q [] [] path = path
-to_dual d p q [] (e ∷ es) path = absurd path
-to_dual d p q (x ∷ xs) [] path = absurd path
-to_dual d p q (x ∷ xs) (e ∷ es) path = (path.0, path.1, path.2, to_dual d e.to q xs es path.3)
-
-from_dual : (d : Automaton) (p q : ℕ) (xs : List NameSet) (es : List TreeEdge) → IsPath (dualised d) p xs es q → IsPath d p xs es q
-from_dual d p q [] [] path = path
-from_dual d p q [] (e ∷ es) path = absurd path
-from_dual d p q (x ∷ xs) [] path = absurd path
-from_dual d p q (x ∷ xs) (e ∷ es) path = (path.0, path.1, path.2, from_dual d e.to q xs es path.3)
 
 opposite : (cycle : List (List ℕ)) (f : FormulaTree) → met cycle f ≡ true → met cycle (dual f) ≡ true → ⊥
 opposite cycle f one two = true≢false (sym one ∙ not-true (met cycle f) (sym (met-dual cycle f) ∙ two))
@@ -46,15 +34,7 @@ one_cycle d det u v turns rounds first second =
 
 -- a run of the automaton with the dual condition is one of the automaton
 abbrev own_run : (d : Automaton) (u v : List NameSet) (a : Accepts (dualised d) u v) → LassoRun d u v a.turns a.rounds
-own_run d u v a = record {
-  start = a.start;
-  state = a.state;
-  way = a.way;
-  cycle = a.cycle;
-  is_start = a.is_start;
-  leads = from_dual d a.start a.state (u ++ copies a.turns v) a.way a.leads;
-  returns = from_dual d a.state a.state (copies a.rounds v) a.cycle a.returns;
-}
+own_run d u v a = run_wider (dualised d) d u v refl (λ e there. there) a.turns a.rounds (run_of (dualised d) u v a) a.is_start
 
 pub never_both : (d : Automaton) → IsDeterministic d → (u v : List NameSet) → Accepts d u v → Accepts (dualised d) u v → ⊥
 never_both d det u v one two =
@@ -82,36 +62,19 @@ one_of_the_two d size start closed is_start below u v endless =
     let begun = run d size closed start below u in
     let c = closes d size closed begun.stop begun.below v in
     let way = begun.way ++ c.way in
-    let leads : IsPath d start (u ++ copies c.before v) way c.state = path_join d start begun.stop c.state u (copies c.before v) begun.way c.way begun.leads c.leads in
-    elim (cases_Bool (met (map (λ (e : TreeEdge). e.marks) c.cycle) d.formula)) [
-      | inl meets ↦ inl (record {
-        endless = endless;
-        start = start;
-        state = c.state;
-        turns = c.before;
-        rounds = c.more;
-        way = way;
-        cycle = c.cycle;
-        is_start = is_start;
-        leads = leads;
-        positive = c.positive;
-        returns = c.returns;
-        meets = meets;
-      })
-      | inr fails ↦ inr (record {
-        endless = endless;
-        start = start;
-        state = c.state;
-        turns = c.before;
-        rounds = c.more;
-        way = way;
-        cycle = c.cycle;
-        is_start = is_start;
-        leads = to_dual d start c.state (u ++ copies c.before v) way leads;
-        positive = c.positive;
-        returns = to_dual d c.state c.state (copies c.more v) c.cycle c.returns;
-        meets = met-dual (map (λ (e : TreeEdge). e.marks) c.cycle) d.formula ∙ ap not fails;
-      })
+    let to : LassoRun d u v c.before c.more = record {
+      start = start;
+      state = c.state;
+      way = way;
+      cycle = c.cycle;
+      is_start = is_start;
+      leads = path_join d start begun.stop c.state u (copies c.before v) begun.way c.way begun.leads c.leads;
+      returns = c.returns;
+    } in
+    elim (cases_Bool (met (marks_of c.cycle) d.formula)) [
+      | inl meets ↦ inl (accepts_of d u v c.before c.more to endless c.positive meets)
+      | inr fails ↦ inr (accepts_of (dualised d) u v c.before c.more (run_wider d (dualised d) u v refl (λ e there. there) c.before c.more to is_start) endless c.positive
+          (met-dual (marks_of c.cycle) d.formula ∙ ap not fails))
     ]
 
 pub complements : (a made : Automaton) → ((u v : List NameSet) → 0 < length v → Accepts a u v ⊎ Accepts made u v)

@@ -1,12 +1,14 @@
 -- An automaton under its condition in disjunctive form.
-use Rattle.std.proofs.Common.{◌≡◌, ◌∙◌, ℕ, true, List, [], ◌∷◌, ◌++◌, flat_map, map, subst, sym}
+use Rattle.std.proofs.Common.{◌≡◌, ◌∙◌, ℕ, true, List, [], ◌∷◌, ◌++◌, flat_map, map, refl, subst, sym}
 use Rattle.std.specs.List.{AllByRecursion}
 use Rattle.acc_forms.proofs.TermLaws.{met-of_terms, met-terms}
 use Rattle.acc_forms.specs.Terms.{choices, each_terms, literal_tree, of_terms, pairs, terms}
 use Rattle.acc_forms.specs.declared.literal.Literal.{Literal}
 use Rattle.aut_base.proofs.lists.AllByRecursion.{AllByRecursion-append, AllByRecursion-flat_map, AllByRecursion-map, AllByRecursion-weaker}
-use Rattle.aut_base.specs.Acceptance.{Accepts, IsPath}
-use Rattle.aut_base.specs.Automaton.{Automaton, TreeEdge}
+use Rattle.aut_base.proofs.runs.LassoRuns.{marks_of}
+use Rattle.aut_base.proofs.runs.OtherEdges.{accepts_wider}
+use Rattle.aut_base.specs.Acceptance.{Accepts}
+use Rattle.aut_base.specs.Automaton.{Automaton}
 use Rattle.aut_base.specs.Formula.{And, EachSetsBelow, False, Fin, FormulaTree, FormulaTrees, Inf, Or, SetsBelow, True, met, more, none}
 use Rattle.aut_base.specs.Word.{NameSet}
 use Rattle.aut_core.specs.Core.{Core, IsCore, automaton_of}
@@ -51,29 +53,10 @@ module _ (n : ℕ) where
 
 -- ---- it accepts the same words
 
-path_under : (f : FormulaTree) (a : Automaton) (p : ℕ) (xs : List NameSet) (es : List TreeEdge) (q : ℕ) → IsPath a p xs es q → IsPath (record a { formula = f }) p xs es q
-path_under f a p [] [] q h = h
-path_under f a p [] (e ∷ es) q h = h
-path_under f a p (x ∷ xs) [] q h = h
-path_under f a p (x ∷ xs) (e ∷ es) q h = (h.0, h.1, h.2, path_under f a e.to xs es q h.3)
-
 -- under a condition that holds wherever its own does
 accepts_under : (f : FormulaTree) (a : Automaton) → ((cycle : List (List ℕ)) → met cycle a.formula ≡ true → met cycle f ≡ true) → (u v : List NameSet) → Accepts a u v
     → Accepts (record a { formula = f }) u v
-accepts_under f a holds u v r = record {
-  endless = r.endless;
-  start = r.start;
-  state = r.state;
-  turns = r.turns;
-  rounds = r.rounds;
-  way = r.way;
-  cycle = r.cycle;
-  is_start = r.is_start;
-  leads = path_under f a r.start _ r.way r.state r.leads;
-  positive = r.positive;
-  returns = path_under f a r.state _ r.cycle r.state r.returns;
-  meets = holds (map (λ e. e.marks) r.cycle) r.meets;
-}
+accepts_under f a holds u v r = accepts_wider a (record a { formula = f }) refl (λ e there. there) u v r r.is_start (holds (marks_of r.cycle) r.meets)
 
 met_alike : (f : FormulaTree) (cycle : List (List ℕ)) → met cycle (of_terms (terms f)) ≡ met cycle f
 met_alike f cycle = met-of_terms cycle (terms f) ∙ sym (met-terms cycle f)

@@ -1,9 +1,11 @@
 -- Runs by places are the runs of acceptance.
 use Rattle.std.proofs.Common.{◌≡◌, ◌∙◌, ℕ, ◌<◌, List, [], ◌∷◌, ◌++◌, ap, length, map, refl, sym}
 use Rattle.aut_base.proofs.lists.Members.{placed_there, there_at}
+use Rattle.aut_base.proofs.runs.LassoRuns.{accepts_of}
 use Rattle.aut_base.specs.Acceptance.{Accepts, IsPath}
 use Rattle.aut_base.specs.Automaton.{Automaton, TreeEdge}
 use Rattle.aut_base.specs.Formula.{met}
+use Rattle.aut_base.specs.Runs.{LassoRun}
 use Rattle.aut_base.specs.Word.{NameSet, copies}
 use Rattle.unambiguous.proofs.deciding.Decided.{marks_here}
 use Rattle.unambiguous.specs.Laws.{RunsAreAcceptance}
@@ -68,20 +70,8 @@ module _ (a : Automaton) where
   from_run u v endless r =
       let way = gone r.start r.state (u ++ copies r.turns v) r.way r.leads in
       let cycle = gone r.state r.state (copies r.rounds v) r.cycle r.returns in
-      record {
-        endless = endless;
-        start = r.start;
-        state = r.state;
-        turns = r.turns;
-        rounds = r.rounds;
-        way = way.edges;
-        cycle = cycle.edges;
-        is_start = r.is_start;
-        leads = way.path;
-        positive = r.positive;
-        returns = cycle.path;
-        meets = ap (λ cs. met cs a.formula) cycle.marks ∙ r.meets;
-      }
+      let run : LassoRun a u v r.turns r.rounds = record { start = r.start; state = r.state; way = way.edges; cycle = cycle.edges; is_start = r.is_start; leads = way.path; returns = cycle.path } in
+      accepts_of a u v r.turns r.rounds run endless r.positive (ap (λ cs. met cs a.formula) cycle.marks ∙ r.meets)
 
 pub runs_are_acceptance : RunsAreAcceptance
 runs_are_acceptance a u v endless = (to_run a u v, from_run a u v endless)

@@ -1,0 +1,23 @@
+-- An accepting run of one automaton is one of another in which it begins at a start and goes along edges at the same places, if
+-- the marks there meet the other's condition.
+use Rattle.std.proofs.Common.{◌≡◌, true, List, ◌++◌, Contains, map}
+use Rattle.aut_base.specs.Automaton.{Automaton}
+use Rattle.aut_base.specs.Formula.{met}
+use Rattle.aut_base.specs.Word.{NameSet, copies}
+use Rattle.unambiguous.specs.Runs.{AcceptingRun, IsTrack, marks_at}
+
+abbrev pub accepting_too : (a b : Automaton) (u v : List NameSet) (r : AcceptingRun a u v) → Contains b.starts r.start → IsTrack b r.start (u ++ copies r.turns v) r.way r.state
+    → IsTrack b r.state (copies r.rounds v) r.cycle r.state → met (map (marks_at b) r.cycle) b.formula ≡ true → AcceptingRun b u v
+accepting_too a b u v r is_start leads returns meets = record {
+  start = r.start;
+  state = r.state;
+  turns = r.turns;
+  rounds = r.rounds;
+  way = r.way;
+  cycle = r.cycle;
+  is_start = is_start;
+  leads = leads;
+  positive = r.positive;
+  returns = returns;
+  meets = meets;
+}
