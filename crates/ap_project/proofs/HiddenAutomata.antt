@@ -54,19 +54,19 @@ names_hidden how name a = by (is_among a.names name) refl
     by true there = ap (λ (h : Automaton). h.names) (hidden_there how name a there)
     by false lacking = ap (λ (h : Automaton). h.names) (hidden_lacking how name a lacking) ∙ sym (all_left name a.names lacking)
 
-pub states_hidden : (how : Hide) (name : List ℕ) (a : Automaton) → (hidden how name a).states ≡ a.states
-states_hidden how name a = by (is_among a.names name) refl
+-- what all automata over other names share with their own
+kept_hidden : {T : Type 0} (part : Automaton → T) (how : Hide) (name : List ℕ) (a : Automaton) → part (over_others how name a) ≡ part a → part (hidden how name a) ≡ part a
+kept_hidden part how name a kept = by (is_among a.names name) refl
   where
-    by : (b : Bool) → is_among a.names name ≡ b → (hidden how name a).states ≡ a.states
-    by true there = ap (λ (h : Automaton). h.states) (hidden_there how name a there)
-    by false lacking = ap (λ (h : Automaton). h.states) (hidden_lacking how name a lacking)
+    by : (b : Bool) → is_among a.names name ≡ b → part (hidden how name a) ≡ part a
+    by true there = ap part (hidden_there how name a there) ∙ kept
+    by false lacking = ap part (hidden_lacking how name a lacking)
+
+pub states_hidden : (how : Hide) (name : List ℕ) (a : Automaton) → (hidden how name a).states ≡ a.states
+states_hidden how name a = kept_hidden (λ (h : Automaton). h.states) how name a refl
 
 pub sets_hidden : (how : Hide) (name : List ℕ) (a : Automaton) → (hidden how name a).sets ≡ a.sets
-sets_hidden how name a = by (is_among a.names name) refl
-  where
-    by : (b : Bool) → is_among a.names name ≡ b → (hidden how name a).sets ≡ a.sets
-    by true there = ap (λ (h : Automaton). h.sets) (hidden_there how name a there)
-    by false lacking = ap (λ (h : Automaton). h.sets) (hidden_lacking how name a lacking)
+sets_hidden how name a = kept_hidden (λ (h : Automaton). h.sets) how name a refl
 
 others_are_hidden : (how : Hide) (name : List ℕ) (a : Automaton) → IsWellFormed a → IsHidden how name a (over_others how name a)
 others_are_hidden how name a formed = relabelled_is_hidden how name a (over_others how name a) (record {

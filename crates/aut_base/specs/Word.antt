@@ -13,9 +13,13 @@ abbrev pub copies : {A : Type 0} → ℕ → List A → List A
 copies zero v = []
 copies (suc k) v = v ++ copies k v
 
--- The n-th letter of the word that is `u` and then `v` again and again, from n = 0.
+-- the n-th of the list that is `stem` and then `cycle` again and again, from n = 0
+abbrev pub nth : {A : Type 0} → List A → List A → ℕ → Option A
+nth stem cycle n = if nat_lt n (length stem) then slice_get stem n else slice_get cycle ((n - length stem) % length cycle)
+
+-- The n-th letter of the word that is `u` and then `v` again and again.
 abbrev pub letter_at : List NameSet → List NameSet → ℕ → Option NameSet
-letter_at u v n = if nat_lt n (length u) then slice_get u n else slice_get v ((n - length u) % length v)
+letter_at u v n = nth u v n
 
 -- both lasso words spell the same infinite word
 abbrev pub SpellsSame : List NameSet → List NameSet → List NameSet → List NameSet → Type 0

@@ -13,7 +13,7 @@ use Rattle.std.specs.Option.{option_map_or}
 use Rattle.aut_base.proofs.canonical.CanonicalAutomata.{labels_below}
 use Rattle.aut_base.proofs.canonical.CanonicalBelow.{label_of_below}
 use Rattle.aut_base.proofs.canonical.CanonicalTruth.{label_of-same, truth-label_of, truth_below}
-use Rattle.aut_base.proofs.runs.OtherEdges.{relabelled_accepts}
+use Rattle.aut_base.proofs.runs.OtherEdges.{other_labels_accept}
 use Rattle.aut_base.proofs.canonical.ValuationLists.{holds_in-valuation_of, length-valuation_of}
 use Rattle.aut_base.proofs.lists.Lists.{slice_get-at}
 use Rattle.aut_base.proofs.canonical.ValuationLetters.{letter_of_holds}
@@ -114,16 +114,8 @@ abbrev pub over_edge : List (List ℕ) → List (List ℕ) → TreeEdge → Tree
 over_edge old new e = record e { label = label_over old new e.label }
 
 pub over_accepts : (a : Automaton) (names : List (List ℕ)) → AreAmong a.names names → LabelsBelow a → AcceptTheSame (over_names names a) a
-over_accepts a names among below =
-    relabelled_accepts a (over_names names a) (over_edge a.names names) (record {
-      edges = refl;
-      starts = refl;
-      formula = refl;
-      from = λ e. refl;
-      to = λ e. refl;
-      marks = λ e. refl;
-      says = λ e x there. over_says a.names names among e.label (All-contains (λ d. AllBelow (length a.names) d.label) a.edges e below there) x;
-    })
+over_accepts a names among below = other_labels_accept a names (λ e. label_over a.names names e.label)
+    (λ e x there. over_says a.names names among e.label (All-contains (λ d. AllBelow (length a.names) d.label) a.edges e below there) x)
 
 pub over_well_formed : (a : Automaton) (names : List (List ℕ)) → AreAmong a.names names → IsWellFormed a → IsWellFormed (over_names names a)
 over_well_formed a names among formed = record {

@@ -216,6 +216,32 @@ impl Automaton {
         })
     }
 
+    /// An automaton of these states, starts and links, with copies of what else this one has.
+    pub fn with_states(
+        &self,
+        alloc: Global,
+        states: u32,
+        starts: Numbers,
+        links: Links,
+    ) -> Result<Automaton, Memory>
+        requires { AreParts (record self.now { states = states; starts = starts; links = links }) }
+        ensures { IfOk result (λ made. made ≡ record self.now { states = states; starts = starts; links = links }) }
+    {
+        let names = copy_names(self.names())?;
+        let guards = self.guards().copy(alloc)?;
+        let formula = self.formula().copy(alloc)?;
+        Automaton::from_parts(
+            alloc,
+            names,
+            guards,
+            states,
+            starts,
+            links,
+            self.sets(),
+            formula,
+        )
+    }
+
     // Why so: 'Determinism and completeness are known when an automaton is made' in docs/DECISIONS.md.
     /// The same automaton over these names, which have all of its own, by links that stand for its edges there. The same letters
     /// meet them, so what is known of it stays, and no guard is looked at.

@@ -12,7 +12,7 @@ ghost use Rattle.label_guards.specs.Store.{Has};
 
 use crate::passable::{flagged_starts, is_passable, links_between, passable_graph};
 use aut_base::{Arcs, Flags, Memory, Numbers};
-use aut_core::{Automaton, Link, copy_names};
+use aut_core::{Automaton, Link};
 use graph_walk::{Graph, components, reach};
 use std::alloc::Global;
 
@@ -38,19 +38,7 @@ fn flagged_in_place(alloc: Global, a: &Automaton, flags: &[bool]) -> Result<Auto
     a.whole();
     let links = links_between(alloc, a, flags)?;
     let starts = flagged_starts(alloc, a.starts().as_slice(), flags)?;
-    let names = copy_names(a.names())?;
-    let guards = a.guards().copy(alloc)?;
-    let formula = a.formula().copy(alloc)?;
-    Automaton::from_parts(
-        alloc,
-        names,
-        guards,
-        a.states(),
-        starts,
-        links,
-        a.sets(),
-        formula,
-    )
+    a.with_states(alloc, a.states(), starts, links)
 }
 
 /// For each state whether it is useful.

@@ -9,7 +9,7 @@ ghost use Rattle.aut_ops.specs.Trimming.{IsTrimmed, renumbered};
 use crate::passable::{flagged_starts, links_between, passable_graph};
 use crate::renumbering::{number_flagged, renumbered, renumbered_links};
 use aut_base::Memory;
-use aut_core::{Automaton, copy_names};
+use aut_core::Automaton;
 use graph_walk::reach;
 use std::alloc::Global;
 
@@ -36,17 +36,5 @@ fn flagged_alone(alloc: Global, a: &Automaton, flags: &[bool]) -> Result<Automat
     let links = renumbered_links(alloc, &new.ranks, staying.as_slice())?;
     let flagged = flagged_starts(alloc, a.starts().as_slice(), flags)?;
     let starts = renumbered(alloc, &new.ranks, flagged.as_slice())?;
-    let names = copy_names(a.names())?;
-    let guards = a.guards().copy(alloc)?;
-    let formula = a.formula().copy(alloc)?;
-    Automaton::from_parts(
-        alloc,
-        names,
-        guards,
-        new.count,
-        starts,
-        links,
-        a.sets(),
-        formula,
-    )
+    a.with_states(alloc, new.count, starts, links)
 }

@@ -4,7 +4,7 @@ use Rattle.std.proofs.Common.{slice_get, subst, sym}
 use Rattle.std.proofs.lemmas.Bool.{leb-false, ltb-false, ltb-true, true≢false}
 use Rattle.std.proofs.lemmas.Option.{none-some, same_Some}
 use Rattle.exploration.proofs.Lists.{new_cases}
-use Rattle.exploration.proofs.Midways.{Held, IsHeld, Midway, all_midway, held_gives, meets_ends, meets_goes}
+use Rattle.exploration.proofs.Midways.{Held, IsHeld, Midway, all_midway, begun, held_gives, meets_ends, meets_goes}
 use Rattle.exploration.specs.Moves.{Fails, Gives, Lacks, Move}
 use Rattle.exploration.specs.Explorations.{IsMet}
 use Rattle.exploration.specs.Reached.{AreReached, Excess, IsCaused, IsReached, count_of, counts}
@@ -60,19 +60,10 @@ module _ {X : Type 0} (r : Rules X) (tells : (a b : X) → r.same a b ≡ true �
   stepped_met s x k Fails f is less h e = subst (Excess r start) (meets_same fault.Nodes f e) (record { thing = x; class = k; reached = h.reached h.place x h.at; less = less; fails = is })
 
   turned_met : (s : Stage X) (h : Option (X × ℕ)) (f : Fault) → Held r tells itself start s h → turned r s h ≡ Meets f → Excess r start f
-  turned_met s None f held e = subst FromStart (sym held) (λ e. taken_met (begin start) (Some start) f refl
-      (record { reached = alone (IsReached r.moves start) (record { word = []; leads = refl }); once = λ i j y a b. alone_at i y a ∙ sym (alone_at j y b) }) refl e) e
+  turned_met s None f held e = subst FromStart (sym held) (λ e. taken_met (begin start) (Some start) f refl (begun r tells itself start) refl e) e
     where
       FromStart : Stage X → Type 0
       FromStart w = taken r w (slice_get w.things w.next) ≡ Meets f → Excess r start f
-
-      alone_at : (i : ℕ) (y : X) → slice_get (start ∷ []) i ≡ Some y → i ≡ 0
-      alone_at zero y at = refl
-      alone_at (suc i) y at = absurd (none-some y at)
-
-      alone : (P : X → Type 0) → P start → (i : ℕ) (y : X) → slice_get (start ∷ []) i ≡ Some y → P y
-      alone P p zero y at = subst P (same_Some start y at) p
-      alone P p (suc i) y at = absurd (none-some y at)
   turned_met s (Some h) f held e = by (ltb h.1 (r.moves.count h.0)) refl e
     where
       by : (b : Bool) → ltb h.1 (r.moves.count h.0) ≡ b → cond b (stepped r s h.0 h.1 (r.moves.step h.0 h.1)) (taken r s (slice_get s.things s.next)) ≡ Meets f → Excess r start f

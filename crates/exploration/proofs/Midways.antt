@@ -11,7 +11,7 @@ use Rattle.aut_base.proofs.lists.Lists.{slice_get-append_left}
 use Rattle.exploration.proofs.Lists.{Longer, longer_at, longer_back, new_longer}
 use Rattle.exploration.proofs.Places.{new_at, new_once, new_place}
 use Rattle.exploration.specs.Moves.{Fails, Gives, Lacks, Move, Moves}
-use Rattle.exploration.specs.Reached.{IsArrow, IsReached, Leads, Step, count_of, counts, step_to, steps_before, steps_below, steps_of}
+use Rattle.exploration.specs.Reached.{AreReached, IsArrow, IsReached, Leads, Step, count_of, counts, step_to, steps_before, steps_below, steps_of}
 use Rattle.exploration.specs.Turns.{Ends, Goes, Meets, Rules, Stage, Turn, after, begin, go_on, has_room, stepped, taken, turn, turned, with_new}
 use Rattle.exploration.specs.declared.fault.Fault.{Fault}
 use Rattle.exploration.specs.declared.fault.Fault.TheVariants as fault
@@ -231,6 +231,21 @@ module _ {X : Type 0} (r : Rules X) (tells : (a b : X) → r.same a b ≡ true �
         edges = subst (λ (ts : List (Step X)). AllZip (IsArrow s.things) s.arrows ts) done h.edges;
       }
 
+  -- at first the start alone is reached
+  pub begun : AreReached m start (start ∷ [])
+  begun = record {
+    reached = alone (IsReached m start) (record { word = []; leads = refl });
+    once = λ i j y a b. alone_at i y a ∙ sym (alone_at j y b);
+  }
+    where
+      alone_at : (i : ℕ) (y : X) → slice_get (start ∷ []) i ≡ Some y → i ≡ 0
+      alone_at zero y at = refl
+      alone_at (suc i) y at = absurd (none-some y at)
+
+      alone : (P : X → Type 0) → P start → (i : ℕ) (y : X) → slice_get (start ∷ []) i ≡ Some y → P y
+      alone P p zero y at = subst P (same_Some start y at) p
+      alone P p (suc i) y at = absurd (none-some y at)
+
   pub held_first : (total : ℕ) → total ≡ 0 + m.count start → total ≤ r.most_classes → IsHeld (record { things = start ∷ []; sum = total; next = 0 + 1; hand = Some (start, 0); arrows = [] }) start 0
   held_first total sum few = record {
     place = 0;
@@ -241,20 +256,12 @@ module _ {X : Type 0} (r : Rules X) (tells : (a b : X) → r.same a b ≡ true �
     within = few;
     first = refl;
     in_turn = refl;
-    reached = alone (IsReached m start) (record { word = []; leads = refl });
-    once = λ i j y a b. alone_at i y a ∙ sym (alone_at j y b);
+    reached = begun.reached;
+    once = begun.once;
     sure = λ i j y at small. absurd (omega (arith, small));
     sure_hand = λ j less. absurd (omega (arith, less));
     edges = tt;
   }
-    where
-      alone_at : (i : ℕ) (y : X) → slice_get (start ∷ []) i ≡ Some y → i ≡ 0
-      alone_at zero y at = refl
-      alone_at (suc i) y at = absurd (none-some y at)
-
-      alone : (P : X → Type 0) → P start → (i : ℕ) (y : X) → slice_get (start ∷ []) i ≡ Some y → P y
-      alone P p zero y at = subst P (same_Some start y at) p
-      alone P p (suc i) y at = absurd (none-some y at)
 
   -- from stage to stage
 

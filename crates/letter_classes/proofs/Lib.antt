@@ -1,5 +1,6 @@
 pub mod ClassGuards
 pub mod ClassTruths
 pub mod KnownLists
+pub mod ReadEdges
 pub mod SetGuards
 pub mod Told

@@ -1,4 +1,4 @@
--- The states to which edges that are read lead, link by link, and the goals of a set as these in rising order.
+-- The goals of a set are the states to which edges that are read lead, in rising order.
 use Rattle.std.proofs.Common.{◌≡◌, ◌∙◌, ◌+◌, ◌<◌, ◌≤◌, ◌==◌, ◌&&◌, ℕ, Bool, true, false, cond, Contains, List, [], ◌∷◌, ◌++◌, Some, ap, eq-eqb}
 use Rattle.std.proofs.Common.{filter, get_or, length, map, refl, slice_get, subst, sym, take}
 use Rattle.std.proofs.lemmas.Bool.{and_from, and_parts, eqb-true}
@@ -22,24 +22,6 @@ use Rattle.monitor_form.specs.Systems.{ends_of}
 
 abbrev end_of : TreeEdge → ℕ
 end_of e = e.to
-
-abbrev pub link_ends : Core → (TreeEdge → Bool) → List Link → List ℕ
-link_ends c reads ls = ends_of reads (map (edge_of c.store) ls)
-
-ends_join : (reads : TreeEdge → Bool) (es fs : List TreeEdge) → ends_of reads (es ++ fs) ≡ ends_of reads es ++ ends_of reads fs
-ends_join reads es fs = ap (map end_of) (filter-append reads es fs) ∙ map-append end_of (filter reads es) (filter reads fs)
-
-pub all_links : (c : Core) (reads : TreeEdge → Bool) (state i : ℕ) (row : List Link) (old new : List ℕ) → row ≡ filter (λ l. l.from == state) c.links → length row ≤ i
-    → new ≡ old ++ link_ends c reads (take i row) → new ≡ old ++ ends_of reads (edges_from state (automaton_of c).edges)
-all_links c reads state i row old new e all so =
-    so ∙ ap (λ es. old ++ ends_of reads es) (ap (map (edge_of c.store)) (take_all i row all ∙ e) ∙ sym (edges_filter c.store state c.links))
-
--- the edges of one state more
-pub state_more : (b : Automaton) (reads : TreeEdge → Bool) (set : List ℕ) (k state : ℕ) (now new : List ℕ) → slice_get set k ≡ Some state → now ≡ ends_of reads (set_edges b (take k set))
-    → new ≡ now ++ ends_of reads (edges_from state b.edges) → new ≡ ends_of reads (set_edges b (take (k + 1) set))
-state_more b reads set k state now new at so e =
-    e ∙ (ap (λ qs. qs ++ ends_of reads (edges_from state b.edges)) so
-    ∙ (sym (ends_join reads (set_edges b (take k set)) (edges_from state b.edges)) ∙ ap (ends_of reads) (set_edges_on b set k state at)))
 
 -- in rising order they are the goals
 module _ (c : Core) (core : IsCore c) (v : List Bool) (set ends found : List ℕ) (rises : IsStrictlyIncreasing found) (keeps : (q : ℕ) → Contains ends q → Contains found q)

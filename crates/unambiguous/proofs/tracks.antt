@@ -2,5 +2,6 @@
 pub mod Accepted
 pub mod Deterministic
 pub mod Nth
+pub mod SamePlaces
 pub mod Starts
 pub mod Tracks

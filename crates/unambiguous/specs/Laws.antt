@@ -4,10 +4,10 @@ use Rattle.aut_base.specs.Acceptance.{Accepts}
 use Rattle.aut_base.specs.Automaton.{Automaton, IsWellFormed, TreeEdge}
 use Rattle.aut_base.specs.Formula.{FormulaTree}
 use Rattle.aut_base.specs.Label.{LabelTree}
-use Rattle.aut_base.specs.Word.{NameSet}
+use Rattle.aut_base.specs.Word.{NameSet, nth}
 use Rattle.aut_core.specs.Deterministic.{IsDeterministic}
 use Rattle.lasso_emptiness.specs.Emptiness.{AcceptsNothing}
-use Rattle.unambiguous.specs.Runs.{AcceptingRun, IsUnambiguous, nth}
+use Rattle.unambiguous.specs.Runs.{AcceptingRun, IsUnambiguous}
 use Rattle.unambiguous.specs.Square.{IsFlaggedSquare, TwoRuns}
 
 -- The flagged square accepts no lasso word exactly where the automaton is unambiguous.

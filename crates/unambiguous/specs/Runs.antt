@@ -1,14 +1,10 @@
 -- Accepting runs over lasso words, as places in the list of edges, and unambiguous automata.
-use Rattle.std.specs.Prelude.{◌≡◌, ℕ, ◌-◌, ◌%◌, ◌<◌, true, List, [], ◌∷◌, ◌++◌, map, Contains, length, Option, Some, nat_lt, if◌then◌else◌, slice_get}
+use Rattle.std.specs.Prelude.{◌≡◌, ℕ, ◌<◌, true, List, [], ◌∷◌, ◌++◌, map, Contains, length, Some, slice_get}
 use Rattle.std.specs.Option.{option_map_or}
 use Rattle.aut_base.specs.Automaton.{TreeEdge, Automaton}
 use Rattle.aut_base.specs.Formula.{met}
 use Rattle.aut_base.specs.Label.{truth, holds_at}
-use Rattle.aut_base.specs.Word.{NameSet, copies}
-
--- the n-th of the list that is `stem` and then `cycle` again and again, from n = 0
-abbrev pub nth : {A : Type 0} → List A → List A → ℕ → Option A
-nth stem cycle n = if nat_lt n (length stem) then slice_get stem n else slice_get cycle ((n - length stem) % length cycle)
+use Rattle.aut_base.specs.Word.{NameSet, copies, nth}
 
 -- the marks of the edge at this place
 abbrev pub marks_at : Automaton → ℕ → List ℕ

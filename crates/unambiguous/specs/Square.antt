@@ -3,9 +3,9 @@ use Rattle.std.specs.Prelude.{◌≡◌, ◌≢◌, ℕ, ◌+◌, ◌==◌, Bool
 use Rattle.aut_base.specs.Automaton.{TreeEdge, Automaton}
 use Rattle.aut_base.specs.Formula.{Inf, met}
 use Rattle.aut_base.specs.Label.{truth, holds_at}
-use Rattle.aut_base.specs.Word.{NameSet}
+use Rattle.aut_base.specs.Word.{NameSet, nth}
 use Rattle.acc_forms.specs.Shift.{shift}
-use Rattle.unambiguous.specs.Runs.{AcceptingRun, nth}
+use Rattle.unambiguous.specs.Runs.{AcceptingRun}
 
 -- the flag after edges at these two places
 abbrev pub flag_after : Bool → ℕ → ℕ → Bool

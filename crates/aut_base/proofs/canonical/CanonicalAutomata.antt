@@ -14,7 +14,7 @@ use Rattle.aut_base.specs.Word.{NameSet}
 use Rattle.aut_base.proofs.canonical.CanonicalBelow.{canonical_label_below}
 use Rattle.aut_base.proofs.canonical.CanonicalLabels.{canonical_label-twice}
 use Rattle.aut_base.proofs.canonical.CanonicalTruth.{canonical_label_keeps_truth, truth_below}
-use Rattle.aut_base.proofs.runs.OtherEdges.{relabelled_accepts}
+use Rattle.aut_base.proofs.runs.OtherEdges.{other_labels_accept, relabelled_accepts}
 use Rattle.aut_base.proofs.lists.Lists.{slice_get-append_left}
 
 -- the edge with its label in canonical form, in an automaton of this many names
@@ -25,16 +25,8 @@ pub labels_below : (a : Automaton) → IsWellFormed a → LabelsBelow a
 labels_below a formed = All-weaker (IsEdgeOf a) (λ e. AllBelow (length a.names) e.label) (λ e h. h.label) a.edges formed.edges
 
 pub canonical_accepts_the_same : (a : Automaton) → LabelsBelow a → (u v : List NameSet) → Accepts (canonical a) u v ↔ Accepts a u v
-canonical_accepts_the_same a below =
-    relabelled_accepts a (canonical a) (relabelled (length a.names)) (record {
-      edges = refl;
-      starts = refl;
-      formula = refl;
-      from = λ e. refl;
-      to = λ e. refl;
-      marks = λ e. refl;
-      says = λ e x there. canonical_label_keeps_truth (length a.names) e.label (holds_at a.names x) (All-contains (λ d. AllBelow (length a.names) d.label) a.edges e below there);
-    })
+canonical_accepts_the_same a below = other_labels_accept a a.names (λ e. canonical_label (length a.names) e.label)
+    (λ e x there. canonical_label_keeps_truth (length a.names) e.label (holds_at a.names x) (All-contains (λ d. AllBelow (length a.names) d.label) a.edges e below there))
 
 pub other_names_play_no_part : (a : Automaton) (others : List (List ℕ)) → LabelsBelow a → (u v : List NameSet) → Accepts (record a { names = a.names ++ others }) u v ↔ Accepts a u v
 other_names_play_no_part a others below =

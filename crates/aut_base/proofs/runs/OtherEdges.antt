@@ -6,7 +6,7 @@ use Rattle.std.proofs.lemmas.List.Elements.{Contains-get_or}
 use Rattle.aut_base.specs.Acceptance.{Accepts, IsPath}
 use Rattle.aut_base.specs.Automaton.{TreeEdge, Automaton}
 use Rattle.aut_base.specs.Formula.{met}
-use Rattle.aut_base.specs.Label.{holds_at, truth}
+use Rattle.aut_base.specs.Label.{LabelTree, holds_at, truth}
 use Rattle.aut_base.specs.Runs.{LassoRun}
 use Rattle.aut_base.specs.Word.{NameSet, copies}
 use Rattle.aut_base.proofs.runs.LassoRuns.{accepts_of, marks_of, run_of}
@@ -135,3 +135,18 @@ relabelled_accepts a b f new u v = (
   accepts_follows b a (new_follows a b f new) (λ s. subst (λ starts. Contains starts s) new.starts) new.formula u v,
   accepts_follows a b (old_follows a b f new) (λ s. subst (λ starts. Contains starts s) (sym new.starts)) (sym new.formula) u v,
 )
+
+-- the same edges, under labels that say the same over these names
+pub other_labels_accept : (a : Automaton) (names : List (List ℕ)) (label : TreeEdge → LabelTree)
+    → ((e : TreeEdge) (x : NameSet) → Contains a.edges e → truth (holds_at names x) (label e) ≡ truth (holds_at a.names x) e.label)
+    → (u v : List NameSet) → Accepts (record a { names = names; edges = map (λ (e : TreeEdge). record e { label = label e }) a.edges }) u v ↔ Accepts a u v
+other_labels_accept a names label says =
+    relabelled_accepts a (record a { names = names; edges = map (λ (e : TreeEdge). record e { label = label e }) a.edges }) (λ (e : TreeEdge). record e { label = label e }) (record {
+      edges = refl;
+      starts = refl;
+      formula = refl;
+      from = λ e. refl;
+      to = λ e. refl;
+      marks = λ e. refl;
+      says = λ e x there. says e x there;
+    })

@@ -7,7 +7,6 @@ use Rattle.std.proofs.lemmas.Simd.{map-map}
 use Rattle.std.specs.List.{range_with_len}
 use Rattle.aut_base.proofs.lists.Lists.{map-filter}
 use Rattle.aut_base.specs.Automaton.{Automaton, TreeEdge}
-use Rattle.aut_base.specs.Formula.{FormulaTree}
 use Rattle.aut_core.specs.Core.{AreParts, Core, IsCore, IsLinkOf, automaton_of, edge_of}
 use Rattle.aut_core.specs.declared.link.Link.{Link}
 use Rattle.label_guards.specs.Store.{Has, Store}
@@ -68,54 +67,42 @@ pub record MakesOf (x : Automaton) (made : Core) : Type 0 where
   pub parts : AreParts made
 
 -- the edges between flagged states, under the numbers that they have
-pub kept_alone : (c : Core) (flags : List Bool) (names : List (List ℕ)) (starts : List ℕ) (states : ℕ) (links : List Link) (sets : ℕ) (formula : FormulaTree) (store : Store) → IsCore c
-    → names ≡ c.names → starts ≡ filter (is_flagged flags) c.starts → states ≡ c.states → links ≡ filter (link_stays c flags) c.links → sets ≡ c.sets → formula ≡ c.formula → store ≡ c.store
-    → MakesOf (between flags (automaton_of c)) (record { names = names; starts = starts; states = states; links = links; sets = sets; formula = formula; store = store })
-kept_alone c flags names starts states links sets formula store core names_are starts_are states_are links_are sets_are formula_is store_is =
-    let made : Core = record { names = names; starts = starts; states = states; links = links; sets = sets; formula = formula; store = store } in
-    let edges : map (edge_of store) links ≡ (between flags (automaton_of c)).edges = (λ i. map (edge_of (store_is i)) (links_are i)) ∙ edges_staying c flags in
+pub kept_alone : (c : Core) (flags : List Bool) (starts : List ℕ) (states : ℕ) (links : List Link) → IsCore c → starts ≡ filter (is_flagged flags) c.starts → states ≡ c.states
+    → links ≡ filter (link_stays c flags) c.links → MakesOf (between flags (automaton_of c)) (record c { starts = starts; states = states; links = links })
+kept_alone c flags starts states links core starts_are states_are links_are =
+    let made : Core = record c { starts = starts; states = states; links = links } in
+    let edges : map (edge_of c.store) links ≡ (between flags (automaton_of c)).edges = ap (map (edge_of c.store)) links_are ∙ edges_staying c flags in
     let is : automaton_of made ≡ between flags (automaton_of c) =
-    λ i. record { names = names_are i; starts = starts_are i; states = states_are i; edges = edges i; sets = sets_are i; formula = formula_is i } in
+    λ i. record { names = c.names; starts = starts_are i; states = states_are i; edges = edges i; sets = c.sets; formula = c.formula } in
     record {
       is = is;
-      parts = parts_for made (between flags (automaton_of c)) is (between_formed (automaton_of c) core.well_formed flags) core.parts.few
-          (ap (λ (s : Store). s.names) store_is ∙ core.parts.store_names) (guards_there store links store_is links_are);
+      parts = parts_for made (between flags (automaton_of c)) is (between_formed (automaton_of c) core.well_formed flags) core.parts.few core.parts.store_names
+          (subst (All (λ (l : Link). Has c.store l.guard)) (sym links_are) (All-filter (link_stays c flags) (λ (l : Link). Has c.store l.guard) c.links (links_have c core)));
     }
-  where
-    guards_there : (s : Store) (ls : List Link) → s ≡ c.store → ls ≡ filter (link_stays c flags) c.links → All (λ (l : Link). Has s l.guard) ls
-    guards_there s ls s_is ls_are = subst (λ (t : Store). All (λ (l : Link). Has t l.guard) ls) (sym s_is)
-        (subst (All (λ (l : Link). Has c.store l.guard)) (sym ls_are) (All-filter (link_stays c flags) (λ (l : Link). Has c.store l.guard) c.links (links_have c core)))
 
 -- the same with the states numbered anew
-pub numbered_alone : (c : Core) (flags : List Bool) (ranks : List ℕ) (names : List (List ℕ)) (flagged starts : List ℕ) (states : ℕ) (staying links : List Link) (sets : ℕ)
-    (formula : FormulaTree) (store : Store) → IsCore c → length flags ≡ c.states → ranks ≡ map (rank flags) (range_with_len 0 (length flags)) → names ≡ c.names
-    → flagged ≡ filter (is_flagged flags) c.starts → starts ≡ map (new_number ranks) flagged → states ≡ rank flags (length flags) → staying ≡ filter (link_stays c flags) c.links
-    → links ≡ map (new_link ranks) staying → sets ≡ c.sets → formula ≡ c.formula → store ≡ c.store
-    → MakesOf (renumbered flags (between flags (automaton_of c))) (record { names = names; starts = starts; states = states; links = links; sets = sets; formula = formula; store = store })
-numbered_alone c flags ranks names flagged starts states staying links sets formula store core size ranks_are names_are flagged_are starts_are states_are staying_are links_are sets_are
-    formula_is store_is =
-    let made : Core = record { names = names; starts = starts; states = states; links = links; sets = sets; formula = formula; store = store } in
+pub numbered_alone : (c : Core) (flags : List Bool) (ranks flagged starts : List ℕ) (states : ℕ) (staying links : List Link) → IsCore c → length flags ≡ c.states
+    → ranks ≡ map (rank flags) (range_with_len 0 (length flags)) → flagged ≡ filter (is_flagged flags) c.starts → starts ≡ map (new_number ranks) flagged → states ≡ rank flags (length flags)
+    → staying ≡ filter (link_stays c flags) c.links → links ≡ map (new_link ranks) staying
+    → MakesOf (renumbered flags (between flags (automaton_of c))) (record c { starts = starts; states = states; links = links })
+numbered_alone c flags ranks flagged starts states staying links core size ranks_are flagged_are starts_are states_are staying_are links_are =
+    let made : Core = record c { starts = starts; states = states; links = links } in
     let kept = filter (link_stays c flags) c.links in
-    let edges : map (edge_of store) links ≡ (renumbered flags (between flags (automaton_of c))).edges =
-    (λ i. map (edge_of (store_is i)) ((links_are ∙ ap (map (new_link ranks)) staying_are) i))
+    let new : links ≡ map (new_link ranks) kept = links_are ∙ ap (map (new_link ranks)) staying_are in
+    let edges : map (edge_of c.store) links ≡ (renumbered flags (between flags (automaton_of c))).edges = ap (map (edge_of c.store)) new
     ∙ (edges_are flags ranks ranks_are c.store kept (links_from_states c core (length flags) size (link_stays c flags)) (links_to_states c core (length flags) size (link_stays c flags))
     ∙ ap (map (renumbered_edge flags)) (edges_staying c flags)) in
     let within = starts_states c core (length flags) size (is_flagged flags) in
     let begins = starts_are ∙ (ap (map (new_number ranks)) flagged_are ∙ numbers_are flags ranks ranks_are (filter (is_flagged flags) c.starts) within) in
     let is : automaton_of made ≡ renumbered flags (between flags (automaton_of c)) =
-    λ i. record { names = names_are i; starts = begins i; states = (states_are ∙ ap (rank flags) size) i; edges = edges i; sets = sets_are i; formula = formula_is i } in
+    λ i. record { names = c.names; starts = begins i; states = (states_are ∙ ap (rank flags) size) i; edges = edges i; sets = c.sets; formula = c.formula } in
+    let there : All (λ (l : Link). Has c.store l.guard) (map (new_link ranks) kept) = All-map (λ (l : Link). Has c.store l.guard) (new_link ranks) kept
+    (All-filter (link_stays c flags) (λ (l : Link). Has c.store l.guard) c.links (links_have c core)) in
     record {
       is = is;
-      parts = parts_for made (renumbered flags (between flags (automaton_of c))) is (alone_formed (automaton_of c) core.well_formed flags) core.parts.few
-          (ap (λ (s : Store). s.names) store_is ∙ core.parts.store_names)
-          (guards_there store links store_is (links_are ∙ ap (map (new_link ranks)) staying_are));
+      parts = parts_for made (renumbered flags (between flags (automaton_of c))) is (alone_formed (automaton_of c) core.well_formed flags) core.parts.few core.parts.store_names
+          (subst (All (λ (l : Link). Has c.store l.guard)) (sym new) there);
     }
-  where
-    guards_there : (s : Store) (ls : List Link) → s ≡ c.store → ls ≡ map (new_link ranks) (filter (link_stays c flags) c.links) → All (λ (l : Link). Has s l.guard) ls
-    guards_there s ls s_is ls_are =
-        subst (λ (t : Store). All (λ (l : Link). Has t l.guard) ls) (sym s_is) (subst (All (λ (l : Link). Has c.store l.guard)) (sym ls_are)
-        (All-map (λ (l : Link). Has c.store l.guard) (new_link ranks) (filter (link_stays c flags) c.links)
-        (All-filter (link_stays c flags) (λ (l : Link). Has c.store l.guard) c.links (links_have c core))))
 
 -- how many of the states and of the links stay
 pub reached_size : (c : Core) (flags : List Bool) (size : ReachedSize) → AreReached c.states (passable_arcs (automaton_of c)) c.starts flags → size.states ≡ rank flags (length flags)

@@ -20,7 +20,7 @@ use Rattle.aut_base.specs.Automaton.{Automaton, IsEdgeOf, IsWellFormed, TreeEdge
 use Rattle.aut_base.specs.Formula.{Inf, met}
 use Rattle.aut_base.specs.Label.{holds_at, truth}
 use Rattle.aut_base.specs.Marks.{is_in}
-use Rattle.aut_base.specs.Word.{NameSet, copies}
+use Rattle.aut_base.specs.Word.{NameSet, copies, nth}
 use Rattle.aut_ops.proofs.following.CycleMarks.{AgreeBelow, AgreeRaised, met_below, met_raised}
 use Rattle.unambiguous.proofs.deciding.Flags.{flagged_first, flagged_second, flagged_top}
 use Rattle.unambiguous.proofs.tracks.Nth.{cycle_item, stem_item}
@@ -28,7 +28,7 @@ use Rattle.unambiguous.proofs.tracks.Starts.{places_fix_start}
 use Rattle.unambiguous.proofs.tracks.Tracks.{Run, as_long, later, run_of, some_edges}
 use Rattle.lasso_emptiness.specs.Emptiness.{AcceptsNothing}
 use Rattle.unambiguous.specs.Laws.{SquareAccepts, SquareDecides}
-use Rattle.unambiguous.specs.Runs.{AcceptingRun, IsTrack, IsUnambiguous, marks_at, nth}
+use Rattle.unambiguous.specs.Runs.{AcceptingRun, IsTrack, IsUnambiguous, marks_at}
 use Rattle.unambiguous.specs.Square.{IsSquare, TwoRuns, flag_after}
 
 -- whether the places differ somewhere

@@ -7,11 +7,11 @@ use Rattle.std.specs.FinSet.{empty}
 use Rattle.aut_base.proofs.lists.Members.{first_there, there_at}
 use Rattle.aut_base.specs.Automaton.{Automaton, TreeEdge}
 use Rattle.aut_base.specs.Label.{holds_at, truth}
-use Rattle.aut_base.specs.Word.{NameSet, copies}
+use Rattle.aut_base.specs.Word.{NameSet, copies, nth}
 use Rattle.aut_core.specs.Deterministic.{IsDeterministic}
 use Rattle.unambiguous.proofs.tracks.Tracks.{later, run_of}
 use Rattle.unambiguous.specs.Laws.{DeterministicIsUnambiguous, TwiceIsAmbiguous, turn, twice}
-use Rattle.unambiguous.specs.Runs.{AcceptingRun, IsTrack, nth}
+use Rattle.unambiguous.specs.Runs.{AcceptingRun, IsTrack}
 
 module _ (a : Automaton) (det : IsDeterministic a) where
   -- at most one start

@@ -2,11 +2,11 @@
 use Rattle.std.proofs.Common.{◌≡◌, ◌∙◌, ℕ, ◌<◌, List, [], ◌∷◌, ◌++◌, Some, ap, arith, length, slice_get, sym}
 use Rattle.std.proofs.lemmas.Option.{same_Some}
 use Rattle.aut_base.specs.Automaton.{Automaton, TreeEdge}
-use Rattle.aut_base.specs.Word.{NameSet, copies}
+use Rattle.aut_base.specs.Word.{NameSet, copies, nth}
 use Rattle.unambiguous.proofs.tracks.Nth.{item}
 use Rattle.unambiguous.proofs.tracks.Tracks.{some_edges}
 use Rattle.unambiguous.specs.Laws.{PlacesFixStart}
-use Rattle.unambiguous.specs.Runs.{AcceptingRun, IsTrack, nth}
+use Rattle.unambiguous.specs.Runs.{AcceptingRun, IsTrack}
 
 module _ (a : Automaton) where
   record Begins (p : ℕ) (ms ns : List ℕ) : Type 0 where

@@ -9,9 +9,9 @@ use Rattle.aut_base.proofs.words.SameEdges.{Alike, gone_alike, met_alike}
 use Rattle.aut_base.proofs.numbers.Truth.{and_comm, or_comm}
 use Rattle.aut_base.specs.Automaton.{Automaton}
 use Rattle.aut_base.specs.Formula.{FormulaTree, met}
-use Rattle.aut_base.specs.Word.{NameSet, copies}
+use Rattle.aut_base.specs.Word.{NameSet, copies, nth}
 use Rattle.unambiguous.proofs.tracks.Nth.{nth_copies, nth_turned}
-use Rattle.unambiguous.specs.Runs.{AcceptingRun, IsTrack, marks_at, nth}
+use Rattle.unambiguous.specs.Runs.{AcceptingRun, IsTrack, marks_at}
 
 module _ (a : Automaton) where
   pub as_long : (p : ℕ) (xs : List NameSet) (ms : List ℕ) (q : ℕ) → IsTrack a p xs ms q → length ms ≡ length xs

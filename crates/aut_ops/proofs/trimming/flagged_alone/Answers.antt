@@ -1,6 +1,5 @@
 use Rattle.std.proofs.Common.{◌∙◌, ◌<◌, All, ap, filter, length, map, subst, sym}
 use Rattle.std.proofs.lemmas.Result.{IfOk-weaker}
-use Rattle.aut_base.specs.Formula.{formula_tree}
 use Rattle.aut_core.specs.Core.{automaton_of}
 use Rattle.aut_core.specs.declared.link.Link.{Link}
 use Rattle.aut_ops.proofs.flagged.Alone.{links_from_states, links_to_states, numbered_alone, starts_states}
@@ -27,20 +26,16 @@ renumbered-requires c =
     let flagged = c.as_slice-3.ensures ∙ (c.in_ok-flagged.ensures ∙ ap (filter (is_flagged c.args.flags.now)) (c.as_slice-2.ensures ∙ c.starts.ensures)) in
     subst (All (λ p. p < length c.in_ok-new.new.ranks)) (sym flagged) (starts_states c.args.a.now c.whole.ensures (length c.in_ok-new.new.ranks) count (is_flagged c.args.flags.now))
 
-pub from_parts-requires : goal.from_parts-requires
-from_parts-requires c = (numbered_alone c.args.a.now c.args.flags.now c.in_ok-new.new.ranks c.in_ok-names.names c.in_ok-flagged.flagged c.in_ok-starts.starts c.in_ok-new.new.count
-    c.in_ok-staying.staying c.in_ok-links.links c.sets.result (formula_tree c.in_ok-formula.formula) c.in_ok-guards.guards c.whole.ensures c.requires c.in_ok-new.ensures.ranks
-    (c.in_ok-names.ensures ∙ c.names.ensures) (c.in_ok-flagged.ensures ∙ ap (filter (is_flagged c.args.flags.now)) (c.as_slice-2.ensures ∙ c.starts.ensures))
+pub with_states-requires : goal.with_states-requires
+with_states-requires c = (numbered_alone c.args.a.now c.args.flags.now c.in_ok-new.new.ranks c.in_ok-flagged.flagged c.in_ok-starts.starts c.in_ok-new.new.count c.in_ok-staying.staying
+    c.in_ok-links.links c.whole.ensures c.requires c.in_ok-new.ensures.ranks (c.in_ok-flagged.ensures ∙ ap (filter (is_flagged c.args.flags.now)) (c.as_slice-2.ensures ∙ c.starts.ensures))
     (c.in_ok-starts.ensures ∙ ap (map (new_number c.in_ok-new.new.ranks)) c.as_slice-3.ensures) c.in_ok-new.ensures.count c.in_ok-staying.ensures
-    (c.in_ok-links.ensures ∙ ap (map (new_link c.in_ok-new.new.ranks)) c.as_slice.ensures) c.sets.ensures (c.in_ok-formula.ensures ∙ c.formula.ensures)
-    (c.in_ok-guards.ensures ∙ c.guards.ensures)).parts
+    (c.in_ok-links.ensures ∙ ap (map (new_link c.in_ok-new.new.ranks)) c.as_slice.ensures)).parts
 
 pub returns : goal.returns
 returns c =
-    let made = numbered_alone c.args.a.now c.args.flags.now c.in_ok-new.new.ranks c.in_ok-names.names c.in_ok-flagged.flagged c.in_ok-starts.starts c.in_ok-new.new.count
-    c.in_ok-staying.staying c.in_ok-links.links c.sets.result (formula_tree c.in_ok-formula.formula) c.in_ok-guards.guards c.whole.ensures c.requires c.in_ok-new.ensures.ranks
-    (c.in_ok-names.ensures ∙ c.names.ensures) (c.in_ok-flagged.ensures ∙ ap (filter (is_flagged c.args.flags.now)) (c.as_slice-2.ensures ∙ c.starts.ensures))
+    let made = numbered_alone c.args.a.now c.args.flags.now c.in_ok-new.new.ranks c.in_ok-flagged.flagged c.in_ok-starts.starts c.in_ok-new.new.count c.in_ok-staying.staying
+    c.in_ok-links.links c.whole.ensures c.requires c.in_ok-new.ensures.ranks (c.in_ok-flagged.ensures ∙ ap (filter (is_flagged c.args.flags.now)) (c.as_slice-2.ensures ∙ c.starts.ensures))
     (c.in_ok-starts.ensures ∙ ap (map (new_number c.in_ok-new.new.ranks)) c.as_slice-3.ensures) c.in_ok-new.ensures.count c.in_ok-staying.ensures
-    (c.in_ok-links.ensures ∙ ap (map (new_link c.in_ok-new.new.ranks)) c.as_slice.ensures) c.sets.ensures (c.in_ok-formula.ensures ∙ c.formula.ensures)
-    (c.in_ok-guards.ensures ∙ c.guards.ensures) in
-    IfOk-weaker c.from_parts.result _ _ (λ core e. ap automaton_of e ∙ made.is) c.from_parts.ensures
+    (c.in_ok-links.ensures ∙ ap (map (new_link c.in_ok-new.new.ranks)) c.as_slice.ensures) in
+    IfOk-weaker c.with_states.result _ _ (λ core e. ap automaton_of e ∙ made.is) c.with_states.ensures

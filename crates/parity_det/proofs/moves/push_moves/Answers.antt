@@ -1,7 +1,8 @@
 use Rattle.std.proofs.Common.{arith, subst, sym}
 use Rattle.label_guards.specs.Store.{HasPlace, Store}
 use Rattle.letter_classes.proofs.SetGuards.{row_link}
-use Rattle.parity_det.proofs.EdgeMoves.{all_links}
+use Rattle.letter_classes.proofs.ReadEdges.{all_links}
+use Rattle.parity_laws.specs.Buchi.{move_of}
 use Rattle.parity_det.specs.Systems.{reads_at}
 use Rattle.parity_det.proofs.moves.push_moves.Goals as goal
 
@@ -12,5 +13,5 @@ holds_at-requires c =
     subst (λ (s : Store). HasPlace s c.link-item.result.guard.place) (sym c.guards.ensures) link.guard
 
 pub returns : goal.returns
-returns c = all_links c.args.a.now (reads_at c.args.a.now c.args.number) c.args.state c.links.link-index c.links_of-link-items.result.now c.args.moves.now c.links.moves
+returns c = all_links move_of (reads_at c.args.a.now c.args.number) c.args.a.now c.args.state c.links.link-index c.links_of-link-items.result.now c.args.moves.now c.links.moves
     c.links_of-link-items.ensures (omega (arith, c.links-test.false)) c.links.invariant
