@@ -28,6 +28,10 @@ pub record IsBehindFront (p : Place) (front : List ℕ) (number digits : ℕ) : 
   pub digits_is : digits ≡ length (decimal number)
   pub behind : length front ≤ p.given
 
+pub behind_front : (p : Place) (front : List ℕ) (number digits : ℕ) → front ≡ part_front p.part → number ≡ part_number p.ring p.state p.part → digits ≡ length (decimal number)
+    → length front ≤ p.given → IsBehindFront p front number digits
+behind_front p front number digits front_is number_is digits_is behind = record { front_is = front_is; number_is = number_is; digits_is = digits_is; behind = behind }
+
 at_place :
     (count : ℕ) (p : Place) (byte : ℕ) → slice_get (part_text p.ring p.state p.part) p.given ≡ Some byte →
     slice_get (left_at count (Some p)) 0 ≡ Some byte

@@ -1,5 +1,5 @@
 -- A run of a product is a run of each of the two automata.
-use Rattle.std.proofs.Common.{◌≡◌, ◌∙◌, ◌&&◌, ◌+◌, ◌*◌, ◌<◌, ◌≤◌, ℕ, List, [], ◌∷◌, ◌++◌, Contains, Some, ap, arith, length, refl, slice_get, subst, sym}
+use Rattle.std.proofs.Common.{◌≡◌, ◌∙◌, ◌&&◌, ◌+◌, ◌*◌, ◌<◌, ◌≤◌, ℕ, true, List, [], ◌∷◌, ◌++◌, Contains, Some, ap, arith, length, refl, slice_get, subst, sym}
 use Rattle.std.proofs.Math.Nat.{le-mul_of_pos_right, mul_comm}
 use Rattle.std.proofs.lemmas.Bool.{and_from, and_parts}
 use Rattle.std.proofs.lemmas.List.Elements.{All-contains}
@@ -15,7 +15,7 @@ use Rattle.aut_base.specs.Label.{AllBelow, LabelTree, holds_at, truth}
 use Rattle.aut_base.specs.Valuation.{truth_on}
 use Rattle.aut_base.specs.Word.{NameSet, copies}
 use Rattle.aut_ops.proofs.following.CycleMarks.{AgreeBelow, AgreeRaised, joint_first, joint_second, met_below, met_raised}
-use Rattle.aut_ops.proofs.joint_runs.JointEdges.{edge_of, edge_there, from_start, joined, next_there, pairs_differ, start_there, there_start}
+use Rattle.aut_ops.proofs.joint_runs.JointEdges.{EdgeOf, edge_of, edge_there, from_start, joined, next_there, pairs_differ, start_there, there_start}
 use Rattle.aut_ops.proofs.links.Labels.{not_never, truth_both}
 use Rattle.aut_base.proofs.runs.LassoRuns.{Likewise, later, marks_of}
 use Rattle.aut_base.specs.Runs.{LassoRun}
@@ -59,19 +59,36 @@ module _ (join : FormulaTree → FormulaTree → FormulaTree) (a b : Automaton) 
   abbrev SecondOf : ℕ → ℕ → Type 0
   SecondOf k q = (r : ℕ) × (slice_get pairs k ≡ Some (r, q))
 
+  -- an edge of the product that is gone from a pair is one of each, and both are gone
+  record Gone (e : TreeEdge) (x : NameSet) (s t : ℕ) : Type 0 where
+    of : EdgeOf a b pairs listed e
+    from : (s, t) ≡ (of.first.from, of.second.from)
+    first_holds : truth (holds_at a.names x) of.first.label ≡ true
+    second_holds : truth (holds_at b.names x) of.second.label ≡ true
+
+  gone : (k s t : ℕ) (e : TreeEdge) (x : NameSet) → slice_get pairs k ≡ Some (s, t) → k ≡ e.from → Contains p.edges e → truth (holds_at p.names x) e.label ≡ true → Gone e x s t
+  gone k s t e x stands at there holds =
+      let of = edge_of a b pairs listed e there in
+      let both = and_parts (truth (holds_at a.names x) of.first.label) (truth (holds_at b.names x) of.second.label) (sym (both_hold x of.first of.second of.in_first of.in_second)
+      ∙ (ap (λ (l : LabelTree). truth (holds_at a.names x) l) of.label ∙ holds)) in
+      record {
+        of = of;
+        from = same_Some (s, t) (of.first.from, of.second.from) (sym stands ∙ (ap (slice_get pairs) at ∙ of.from));
+        first_holds = both.0;
+        second_holds = both.1;
+      }
+
   product_in_first : Simulates p a FirstOf (AgreeBelow a.sets)
   product_in_first = record {
     one = λ k q r s t. ap (λ (x : ℕ × ℕ). x.0) (same_Some (q, s.0) (r, t.0) (sym s.1 ∙ t.1));
     step = λ k q e x stands at there holds.
-        let of = edge_of a b pairs listed e there in
-        let same : (q, stands.0) ≡ (of.first.from, of.second.from) = same_Some (q, stands.0) (of.first.from, of.second.from) (sym stands.1 ∙ (ap (slice_get pairs) at ∙ of.from)) in
-        let both = and_parts (truth (holds_at a.names x) of.first.label) (truth (holds_at b.names x) of.second.label) (sym (both_hold x of.first of.second of.in_first of.in_second)
-        ∙ (ap (λ (t : LabelTree). truth (holds_at a.names x) t) of.label ∙ holds)) in
+        let both = gone k q stands.0 e x stands.1 at there holds in
+        let of = both.of in
         record {
           edge = of.first;
-          from = ap (λ (y : ℕ × ℕ). y.0) same;
+          from = ap (λ (y : ℕ × ℕ). y.0) both.from;
           there = of.in_first;
-          holds = both.0;
+          holds = both.first_holds;
           to = (of.second.to, of.to);
           marks = subst (λ ms. AgreeBelow a.sets ms of.first.marks) of.marks (joint_first a.sets of.first.marks of.second.marks);
         };
@@ -81,15 +98,13 @@ module _ (join : FormulaTree → FormulaTree → FormulaTree) (a b : Automaton) 
   product_in_second = record {
     one = λ k q r s t. ap (λ (x : ℕ × ℕ). x.1) (same_Some (s.0, q) (t.0, r) (sym s.1 ∙ t.1));
     step = λ k q e x stands at there holds.
-        let of = edge_of a b pairs listed e there in
-        let same : (stands.0, q) ≡ (of.first.from, of.second.from) = same_Some (stands.0, q) (of.first.from, of.second.from) (sym stands.1 ∙ (ap (slice_get pairs) at ∙ of.from)) in
-        let both = and_parts (truth (holds_at a.names x) of.first.label) (truth (holds_at b.names x) of.second.label) (sym (both_hold x of.first of.second of.in_first of.in_second)
-        ∙ (ap (λ (t : LabelTree). truth (holds_at a.names x) t) of.label ∙ holds)) in
+        let both = gone k stands.0 q e x stands.1 at there holds in
+        let of = both.of in
         record {
           edge = of.second;
-          from = ap (λ (y : ℕ × ℕ). y.1) same;
+          from = ap (λ (y : ℕ × ℕ). y.1) both.from;
           there = of.in_second;
-          holds = both.1;
+          holds = both.second_holds;
           to = (of.first.to, of.to);
           marks = subst (λ ms. AgreeRaised a.sets b.sets ms of.second.marks) of.marks (joint_second a.sets b.sets of.first.marks of.second.marks (edge_of_first of.first of.in_first).marks);
         };

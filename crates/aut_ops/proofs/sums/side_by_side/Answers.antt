@@ -4,9 +4,10 @@ use Rattle.aut_base.specs.Automaton.{Automaton}
 use Rattle.aut_base.specs.Formula.{SetsBelow, formula_tree}
 use Rattle.aut_core.specs.Core.{automaton_of}
 use Rattle.acc_forms.proofs.FormulaSets.{sets_weaker}
-use Rattle.aut_ops.proofs.following.SumLinks.{side}
+use Rattle.aut_ops.proofs.following.SumLinks.{IsSide, side}
 use Rattle.aut_ops.proofs.following.SumRuns.{sum_accepts}
 use Rattle.aut_ops.specs.Languages.{AcceptsEither}
+use Rattle.aut_ops.proofs.sums.side_by_side.Goals.{After-states}
 use Rattle.aut_ops.proofs.sums.side_by_side.Goals as goal
 
 pub either_condition-requires : goal.either_condition-requires
@@ -14,33 +15,35 @@ either_condition-requires c =
     subst (SetsBelow (4294967296 - c.sets-sets.result)) (sym c.formula-2.ensures)
     (sets_weaker c.args.b.now.sets (4294967296 - c.sets-sets.result) (omega (arith, c.sets-sets.ensures, c.requires.sets)) c.args.b.now.formula c.whole-2.ensures.parts.formula)
 
-pub from_parts-requires : goal.from_parts-requires
-from_parts-requires c = (side c.args.a.now c.args.b.now c.in_ok-guards.guards c.in_ok-names.names c.in_ok-starts.starts c.states-states.result c.states.result c.sets-sets.result
-    c.sets.result c.new-links.result c.push_links.new.links c.links.result.now c.push_moved.new.links c.links-3.result.now (formula_tree c.in_ok-formula.formula)
-    (formula_tree c.formula.result.now) (formula_tree c.formula-2.result.now) c.whole.ensures c.whole-2.ensures c.requires.names c.requires.store (c.in_ok-guards.ensures ∙ c.guards.ensures)
-    (c.in_ok-names.ensures ∙ c.names.ensures) (c.in_ok-starts.ensures ∙ (λ i. c.starts.ensures i ++ map (λ p. p + c.states-states.result) (c.starts-2.ensures i))) c.states-states.ensures
-    c.states.ensures c.sets-sets.ensures c.sets.ensures c.new-links.ensures c.links.ensures c.in_ok-push_links.ensures c.links-3.ensures c.in_ok-push_moved.ensures c.formula.ensures
-    c.formula-2.ensures c.in_ok-formula.ensures).parts
+-- the sum as it is handed on
+abbrev core : After-states → Core
+core c = record {
+  names = c.in_ok-names.names;
+  starts = c.in_ok-starts.starts;
+  states = c.states-states.result + c.states.result;
+  links = c.push_moved.new.links;
+  sets = c.sets-sets.result + c.sets.result + 1;
+  formula = formula_tree c.in_ok-formula.formula;
+  store = c.in_ok-guards.guards;
+}
 
-pub returns-clause-shape : goal.returns-clause-shape
-returns-clause-shape c =
-    let made = side c.args.a.now c.args.b.now c.in_ok-guards.guards c.in_ok-names.names c.in_ok-starts.starts c.states-states.result c.states.result c.sets-sets.result c.sets.result
+is_sum : (c : After-states) → IsSide c.args.a.now c.args.b.now (core c)
+is_sum c = side c.args.a.now c.args.b.now c.in_ok-guards.guards c.in_ok-names.names c.in_ok-starts.starts c.states-states.result c.states.result c.sets-sets.result c.sets.result
     c.new-links.result c.push_links.new.links c.links.result.now c.push_moved.new.links c.links-3.result.now (formula_tree c.in_ok-formula.formula) (formula_tree c.formula.result.now)
     (formula_tree c.formula-2.result.now) c.whole.ensures c.whole-2.ensures c.requires.names c.requires.store (c.in_ok-guards.ensures ∙ c.guards.ensures)
     (c.in_ok-names.ensures ∙ c.names.ensures) (c.in_ok-starts.ensures ∙ (λ i. c.starts.ensures i ++ map (λ p. p + c.states-states.result) (c.starts-2.ensures i))) c.states-states.ensures
     c.states.ensures c.sets-sets.ensures c.sets.ensures c.new-links.ensures c.links.ensures c.in_ok-push_links.ensures c.links-3.ensures c.in_ok-push_moved.ensures c.formula.ensures
-    c.formula-2.ensures c.in_ok-formula.ensures in
-    IfOk-weaker c.from_parts.result _ _ (λ core e. ap automaton_of e ∙ made.is) c.from_parts.ensures
+    c.formula-2.ensures c.in_ok-formula.ensures
+
+pub from_parts-requires : goal.from_parts-requires
+from_parts-requires c = (is_sum (goal.at.from_parts-requires c).After-states).parts
+
+pub returns-clause-shape : goal.returns-clause-shape
+returns-clause-shape c = IfOk-weaker c.from_parts.result _ _ (λ made e. ap automaton_of e ∙ (is_sum (goal.at.returns-clause-shape c).After-states).is) c.from_parts.ensures
 
 pub returns-clause-accepts : goal.returns-clause-accepts
 returns-clause-accepts c =
-    let made = side c.args.a.now c.args.b.now c.in_ok-guards.guards c.in_ok-names.names c.in_ok-starts.starts c.states-states.result c.states.result c.sets-sets.result c.sets.result
-    c.new-links.result c.push_links.new.links c.links.result.now c.push_moved.new.links c.links-3.result.now (formula_tree c.in_ok-formula.formula) (formula_tree c.formula.result.now)
-    (formula_tree c.formula-2.result.now) c.whole.ensures c.whole-2.ensures c.requires.names c.requires.store (c.in_ok-guards.ensures ∙ c.guards.ensures)
-    (c.in_ok-names.ensures ∙ c.names.ensures) (c.in_ok-starts.ensures ∙ (λ i. c.starts.ensures i ++ map (λ p. p + c.states-states.result) (c.starts-2.ensures i))) c.states-states.ensures
-    c.states.ensures c.sets-sets.ensures c.sets.ensures c.new-links.ensures c.links.ensures c.in_ok-push_links.ensures c.links-3.ensures c.in_ok-push_moved.ensures c.formula.ensures
-    c.formula-2.ensures c.in_ok-formula.ensures in
     let a = automaton_of c.args.a.now in
     let b = automaton_of c.args.b.now in
-    IfOk-weaker c.from_parts.result _ _ (λ core e. subst (λ (x : Automaton). AcceptsEither x a b) (sym (ap automaton_of e ∙ made.is))
+    IfOk-weaker c.from_parts.result _ _ (λ made e. subst (λ (x : Automaton). AcceptsEither x a b) (sym (ap automaton_of e ∙ (is_sum (goal.at.returns-clause-accepts c).After-states).is))
     (sum_accepts a b c.requires.names c.whole.ensures.well_formed c.whole-2.ensures.well_formed)) c.from_parts.ensures

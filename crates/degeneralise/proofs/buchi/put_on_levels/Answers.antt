@@ -5,55 +5,43 @@ use Rattle.aut_base.specs.Formula.{formula_tree}
 use Rattle.aut_base.specs.declared.formula.Formula.TheVariants.{Inf}
 use Rattle.aut_core.specs.Core.{Core, automaton_of}
 use Rattle.degeneralise.specs.Buchi.{state_at, watch_of}
-use Rattle.degeneralise.proofs.LevelSteps.{are_levelled, levelled_parts}
+use Rattle.degeneralise.proofs.LevelSteps.{AreLevelledParts, are_levelled, levelled_parts}
 use Rattle.degeneralise.proofs.WatchLists.{room_of}
+use Rattle.degeneralise.proofs.buchi.put_on_levels.Goals.{After-states}
 use Rattle.degeneralise.proofs.buchi.put_on_levels.Goals as goal
+
+-- the levels as they are handed on
+abbrev new : After-states → Core
+new c = record {
+  names = c.in_ok-copy_names.field-0;
+  starts = c.in_ok-starts.starts;
+  states = c.states.result * c.args.k;
+  links = c.in_ok-links.links;
+  sets = 1;
+  formula = formula_tree (Inf 0 false);
+  store = c.in_ok-copy.field-0;
+}
+
+are : (c : After-states) → AreLevelledParts c.args.k (watch_of c.args.states c.args.watches.now) c.args.a.now (new c)
+are c = record {
+  names = c.in_ok-copy_names.ensures ∙ c.names.ensures;
+  starts = c.in_ok-starts.ensures ∙ ap (map (λ start. state_at c.args.k start 0)) c.starts.ensures;
+  states = ap (λ n. n * c.args.k) c.states.ensures;
+  store = c.in_ok-copy.ensures ∙ c.guards.ensures;
+  has = c.in_ok-links.ensures.has;
+  edges = c.in_ok-links.ensures.edges;
+  sets = refl;
+  formula = formula_tree-Inf 0 false;
+}
 
 pub from_parts-requires : goal.from_parts-requires
 from_parts-requires c =
-    let k = c.args.k in
-    let new : Core = record {
-      names = c.in_ok-copy_names.field-0;
-      starts = c.in_ok-starts.starts;
-      states = c.states.result * k;
-      links = c.in_ok-links.links;
-      sets = 1;
-      formula =
-          formula_tree (Inf 0 false);
-      store = c.in_ok-copy.field-0;
-    } in
-    levelled_parts k (watch_of c.args.states c.args.watches.now) c.args.a.now new c.whole.ensures (room_of k c.args.states c.args.watches.now c.requires.some c.requires.room) (record {
-      names = c.in_ok-copy_names.ensures ∙ c.names.ensures;
-      starts = c.in_ok-starts.ensures ∙ ap (map (λ start. state_at k start 0)) c.starts.ensures;
-      states = ap (λ n. n * k) c.states.ensures;
-      store = c.in_ok-copy.ensures ∙ c.guards.ensures;
-      has = c.in_ok-links.ensures.has;
-      edges = c.in_ok-links.ensures.edges;
-      sets = refl;
-      formula = formula_tree-Inf 0 false;
-    })
+    let at = (goal.at.from_parts-requires c).After-states in
+    let room = room_of c.args.k c.args.states c.args.watches.now c.requires.some c.requires.room in
+    levelled_parts c.args.k (watch_of c.args.states c.args.watches.now) c.args.a.now (new at) c.whole.ensures room (are at)
 
 pub returns : goal.returns
 returns c =
-    let k = c.args.k in
-    let new : Core = record {
-      names = c.in_ok-copy_names.field-0;
-      starts = c.in_ok-starts.starts;
-      states = c.states.result * k;
-      links = c.in_ok-links.links;
-      sets = 1;
-      formula =
-          formula_tree (Inf 0 false);
-      store = c.in_ok-copy.field-0;
-    } in
-    let same = are_levelled k (watch_of c.args.states c.args.watches.now) c.args.a.now new (record {
-      names = c.in_ok-copy_names.ensures ∙ c.names.ensures;
-      starts = c.in_ok-starts.ensures ∙ ap (map (λ start. state_at k start 0)) c.starts.ensures;
-      states = ap (λ n. n * k) c.states.ensures;
-      store = c.in_ok-copy.ensures ∙ c.guards.ensures;
-      has = c.in_ok-links.ensures.has;
-      edges = c.in_ok-links.ensures.edges;
-      sets = refl;
-      formula = formula_tree-Inf 0 false;
-    }) in
+    let at = (goal.at.returns c).After-states in
+    let same = are_levelled c.args.k (watch_of c.args.states c.args.watches.now) c.args.a.now (new at) (are at) in
     IfOk-weaker c.from_parts.result _ _ (λ made e. ap automaton_of e ∙ same) c.from_parts.ensures

@@ -1,4 +1,4 @@
-use Rattle.std.proofs.Common.{◌≡◌, ◌∙◌, ◌-◌, ◌<◌, ◌≤◌, ℕ, MatchOption, Option, ap, arith, length, map, refl, subst, sym}
+use Rattle.std.proofs.Common.{◌≡◌, ◌∙◌, ◌-◌, ◌<◌, ◌≤◌, ℕ, MatchOption, Option, Some, ap, arith, length, map, refl, slice_get, subst, sym}
 use Rattle.exploration.proofs.Exploring.{classes_there, exploring_all, exploring_beyond, exploring_met, exploring_more}
 use Rattle.exploration.proofs.Causes.{caused}
 use Rattle.exploration.proofs.Ends.{explored, explored_within}
@@ -10,28 +10,44 @@ use Rattle.exploration.specs.Moves.{AreClasses}
 use Rattle.exploration.specs.Reached.{IsCaused}
 use Rattle.exploration.specs.Turns.{begin}
 use Rattle.exploration.specs.declared.fault.Fault.TheVariants as fault
+use Rattle.exploration.proofs.exploration.explore.Given.{Over}
+use Rattle.exploration.proofs.exploration.explore.Goals.{After-index-as_slice-done, In-Some}
 use Rattle.exploration.proofs.exploration.explore.Goals as goal
+
+-- the thing at hand
+here : (g : Over) (c : After-index-as_slice-done g) → slice_get (map g.S.System.seen c.things.found.things.keys) c.things.done ≡ Some (g.S.System.seen c.index-as_slice-done.result)
+here g c = read_seen g.S.System.seen c.as_slice.result.now c.things.found.things.keys c.things.done c.index-as_slice-done.result c.as_slice.ensures.keys
+    (omega (arith, c.things-test.true, c.len.ensures.len)) c.index-as_slice-done.is
+
+-- its classes
+few : (g : Over) (c : In-Some g) → (g.S.System.moves c.things.system).count (g.S.System.seen c.index-as_slice-done.result) ≤ c.args.limits.classes - c.things.sum
+few g c = subst (λ (o : Option _). MatchOption o (Unit {0}) (λ cs. (g.S.System.moves c.things.system).count (g.S.System.seen c.index-as_slice-done.result) ≤ c.args.limits.classes - c.things.sum))
+    c.in-Some.is c.in_ok-classes.ensures.few
+
+are : (g : Over) (c : In-Some g) → AreClasses (g.S.System.is_class c.classes.new.self (g.S.System.seen c.index-as_slice-done.result))
+    ((g.S.System.moves c.things.system).count (g.S.System.seen c.index-as_slice-done.result)) c.in-Some.classes.items
+are g c =
+    let x = g.S.System.seen c.index-as_slice-done.result in
+    subst (λ (o : Option _). MatchOption o (c.args.limits.classes - c.things.sum < (g.S.System.moves c.things.system).count x)
+    (λ cs. AreClasses (g.S.System.is_class c.classes.new.self x) ((g.S.System.moves c.things.system).count x) cs.items)) c.in-Some.is c.in_ok-classes.ensures.classes
 
 pub returns-in_default-clause-meets : goal.returns-in_default-clause-meets
 returns-in_default-clause-meets g c =
     let seen = g.S.System.seen in
     let x = c.index-as_slice-done.result in
-    let within : c.things.done < length c.things.found.things.keys = omega (arith, c.things-test.true, c.len.ensures.len) in
-    let here = read_seen seen c.as_slice.result.now c.things.found.things.keys c.things.done x c.as_slice.ensures.keys within c.index-as_slice-done.is in
+    let at = here g (goal.at.returns-in_default-clause-meets g c).After-index-as_slice-done in
     let many = subst (λ (o : Option _). MatchOption o (c.args.limits.classes - c.things.sum < (g.S.System.moves c.things.system).count (seen x))
     (λ cs. AreClasses (g.S.System.is_class c.classes.new.self (seen x)) ((g.S.System.moves c.things.system).count (seen x)) cs.items)) c.in_default.is c.in_ok-classes.ensures.classes in
-    exploring_beyond _ _ _ _ _ _ _ _ _ _ c.things.done c.things.sum _ _ c.things.invariant.exploring (seen x) here many
+    exploring_beyond _ _ _ _ _ _ _ _ _ _ c.things.done c.things.sum _ _ c.things.invariant.exploring (seen x) at many
 
 pub spread-requires-clause-classes : goal.spread-requires-clause-classes
 spread-requires-clause-classes g c =
     let seen = g.S.System.seen in
     let x = c.index-as_slice-done.result in
-    let within : c.things.done < length c.things.found.things.keys = omega (arith, c.things-test.true, c.len.ensures.len) in
-    let here = read_seen seen c.as_slice.result.now c.things.found.things.keys c.things.done x c.as_slice.ensures.keys within c.index-as_slice-done.is in
-    let are = subst (λ (o : Option _). MatchOption o (c.args.limits.classes - c.things.sum < (g.S.System.moves c.things.system).count (seen x))
-    (λ cs. AreClasses (g.S.System.is_class c.classes.new.self (seen x)) ((g.S.System.moves c.things.system).count (seen x)) cs.items)) c.in-Some.is c.in_ok-classes.ensures.classes in
+    let at = here g (goal.at.spread-requires-clause-classes g c).After-index-as_slice-done in
+    let classes = are g (goal.at.spread-requires-clause-classes g c).In-Some in
     classes_there (g.S.System.moves c.things.system) (g.S.System.moves c.classes.new.self) _ (map seen c.things.found.things.keys) c.things.done (seen x) c.in-Some.classes.items
-    c.as_slice-in-things.result.now c.in_ok-classes.ensures.keeps.moves here c.as_slice-in-things.ensures.value are
+    c.as_slice-in-things.result.now c.in_ok-classes.ensures.keeps.moves at c.as_slice-in-things.ensures.value classes
 
 pub spread-requires-clause-sound : goal.spread-requires-clause-sound
 spread-requires-clause-sound g c =
@@ -45,13 +61,11 @@ pub returns-in_err-spread-clause-meets : goal.returns-in_err-spread-clause-meets
 returns-in_err-spread-clause-meets g c =
     let seen = g.S.System.seen in
     let x = c.index-as_slice-done.result in
-    let within : c.things.done < length c.things.found.things.keys = omega (arith, c.things-test.true, c.len.ensures.len) in
-    let here = read_seen seen c.as_slice.result.now c.things.found.things.keys c.things.done x c.as_slice.ensures.keys within c.index-as_slice-done.is in
-    let few = subst (λ (o : Option _). MatchOption o (Unit {0}) (λ cs. (g.S.System.moves c.things.system).count (seen x) ≤ c.args.limits.classes - c.things.sum)) c.in-Some.is
-    c.in_ok-classes.ensures.few in
+    let at = here g (goal.at.returns-in_err-spread-clause-meets g c).After-index-as_slice-done in
+    let small = few g (goal.at.returns-in_err-spread-clause-meets g c).In-Some in
     err_is (IsMet (rules_of g.S.System.same (g.S.System.moves c.args.system.now) c.args.limits) (begin (g.S.System.seen c.args.start))) c.from_residual-in_err-spread.result _
     c.from_residual-in_err-spread.ensures.1
-    (exploring_met _ _ _ _ _ _ _ _ _ _ c.things.done c.things.sum _ _ c.things.invariant.exploring (seen x) here (g.S.System.moves c.classes.new.self) _ _ c.in_ok-classes.ensures.keeps few _
+    (exploring_met _ _ _ _ _ _ _ _ _ _ c.things.done c.things.sum _ _ c.things.invariant.exploring (seen x) at (g.S.System.moves c.classes.new.self) _ _ c.in_ok-classes.ensures.keeps small _
     c.in_err-spread.ensures.meets)
 
 pub things-preserved : goal.things-preserved
@@ -59,11 +73,9 @@ things-preserved g c =
     let seen = g.S.System.seen in
     let x = c.index-as_slice-done.result in
     let within : c.things.done < length c.things.found.things.keys = omega (arith, c.things-test.true, c.len.ensures.len) in
-    let here = read_seen seen c.as_slice.result.now c.things.found.things.keys c.things.done x c.as_slice.ensures.keys within c.index-as_slice-done.is in
-    let few = subst (λ (o : Option _). MatchOption o (Unit {0}) (λ cs. (g.S.System.moves c.things.system).count (seen x) ≤ c.args.limits.classes - c.things.sum)) c.in-Some.is
-    c.in_ok-classes.ensures.few in
-    let are = subst (λ (o : Option _). MatchOption o (c.args.limits.classes - c.things.sum < (g.S.System.moves c.things.system).count (seen x))
-    (λ cs. AreClasses (g.S.System.is_class c.classes.new.self (seen x)) ((g.S.System.moves c.things.system).count (seen x)) cs.items)) c.in-Some.is c.in_ok-classes.ensures.classes in
+    let at = here g (goal.at.things-preserved g c).After-index-as_slice-done in
+    let small = few g (goal.at.things-preserved g c).In-Some in
+    let classes = are g (goal.at.things-preserved g c).In-Some in
     let size : c.len-in-things.result ≡ length c.in-Some.classes.items = c.len-in-things.ensures ∙ (sym c.as_slice-in-things.ensures.len ∙ ap length c.as_slice-in-things.ensures.value) in
     let copy : length c.as_slice-in-things.result.now ≡ c.len-in-things.result = ap length c.as_slice-in-things.ensures.value ∙ sym size in
     let spreads = subst (λ (n : ℕ). Spreads (rules_of g.S.System.same (g.S.System.moves c.classes.new.self) c.args.limits) c.things.done 0 n (map seen c.things.found.things.keys)
@@ -73,8 +85,8 @@ things-preserved g c =
     record {
       frame = c.in_ok-spread.ensures.frame ∙ (c.in_ok-classes.ensures.frame ∙ c.things.invariant.frame);
       exploring = exploring_more _ _ _ _ _ _ _ _ _ _ c.things.done c.things.sum _ _
-          c.things.invariant.exploring (seen x) here (g.S.System.moves c.classes.new.self) _ _ c.in_ok-classes.ensures.keeps few _ _ _ c.len-in-things.result (map seen c.spread.new.found.things.keys)
-          c.spread.new.found.edges.items c.in_ok-spread.ensures.keeps (size ∙ are.all) spreads sound (within_seen seen c.things.found.things.keys c.things.done within) c.in_ok-spread.ensures.longer;
+          c.things.invariant.exploring (seen x) at (g.S.System.moves c.classes.new.self) _ _ c.in_ok-classes.ensures.keeps small _ _ _ c.len-in-things.result (map seen c.spread.new.found.things.keys)
+          c.spread.new.found.edges.items c.in_ok-spread.ensures.keeps (size ∙ classes.all) spreads sound (within_seen seen c.things.found.things.keys c.things.done within) c.in_ok-spread.ensures.longer;
     }
 
 pub returns-clause-ends : goal.returns-clause-ends

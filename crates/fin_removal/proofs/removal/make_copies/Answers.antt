@@ -10,8 +10,9 @@ use Rattle.fin_removal.specs.Copies.{sets_of}
 use Rattle.fin_removal.specs.Meeting.{literal_places}
 use Rattle.fin_removal.specs.declared.term_copy.TermCopy.{TermCopy}
 use Rattle.fin_removal.specs.inner.Links.{IsNumbered}
-use Rattle.fin_removal.proofs.CopiedParts.{are_copied, copied_parts}
+use Rattle.fin_removal.proofs.CopiedParts.{AreCopiedParts, are_copied, copied_parts}
 use Rattle.fin_removal.proofs.TermCopies.{are_numbered, copies_sets, sets_within}
+use Rattle.fin_removal.proofs.removal.make_copies.Goals.{After-all_sets}
 use Rattle.fin_removal.proofs.removal.make_copies.Goals as goal
 
 pub term_copies-requires-clause-sets : goal.term_copies-requires-clause-sets
@@ -36,55 +37,40 @@ all_sets-requires c =
     ap (λ (cs : List TermCopy). sum_by (λ copy. literal_places copy.infs) cs) c.in_ok-copies.ensures ∙ copies_sets 1 0 c.args.listed.now in
     omega (arith, sets, sets_within c.args.listed.now c.requires.few)
 
+-- the copies as they are handed on
+abbrev new : After-all_sets → Core
+new c = record {
+  names = c.in_ok-copy_names.field-0;
+  starts = c.in_ok-copy_numbers.field-0;
+  states = (1 + c.len.result) * c.states.result;
+  links = c.in_ok-links.links;
+  sets = c.all_sets.result;
+  formula = formula_tree c.in_ok-formula.formula;
+  store = c.in_ok-copy.field-0;
+}
+
+are : (c : After-all_sets) → AreCopiedParts c.args.a.now (new c) c.args.listed.now c.in_ok-copies.copies c.in_ok-owned.owned
+are c = record {
+  listed = c.requires.terms;
+  made = c.in_ok-copies.ensures;
+  names = c.in_ok-copy_names.ensures ∙ c.names.ensures;
+  starts = c.in_ok-copy_numbers.ensures ∙ c.starts.ensures;
+  states = λ i. (1 + c.len.ensures i) * c.states.ensures i;
+  store = c.in_ok-copy.ensures ∙ c.guards.ensures;
+  has = c.in_ok-links.ensures.has;
+  edges = c.in_ok-links.ensures.edges;
+  count = c.all_sets.ensures;
+  owned = c.in_ok-owned.ensures;
+  formula = c.in_ok-formula.ensures.tree;
+}
+
 pub from_parts-requires : goal.from_parts-requires
 from_parts-requires c =
-    let new : Core = record {
-      names = c.in_ok-copy_names.field-0;
-      starts = c.in_ok-copy_numbers.field-0;
-      states = (1 + c.len.result) * c.states.result;
-      links = c.in_ok-links.links;
-      sets =
-          c.all_sets.result;
-      formula = formula_tree c.in_ok-formula.formula;
-      store = c.in_ok-copy.field-0;
-    } in
-    copied_parts c.args.a.now new c.args.listed.now c.in_ok-copies.copies c.in_ok-owned.owned c.whole.ensures (record {
-      listed = c.requires.terms;
-      made = c.in_ok-copies.ensures;
-      names = c.in_ok-copy_names.ensures ∙ c.names.ensures;
-      starts = c.in_ok-copy_numbers.ensures ∙ c.starts.ensures;
-      states = λ i. (1 + c.len.ensures i) * c.states.ensures i;
-      store = c.in_ok-copy.ensures ∙ c.guards.ensures;
-      has = c.in_ok-links.ensures.has;
-      edges = c.in_ok-links.ensures.edges;
-      count = c.all_sets.ensures;
-      owned = c.in_ok-owned.ensures;
-      formula = c.in_ok-formula.ensures.tree;
-    })
+    let at = (goal.at.from_parts-requires c).After-all_sets in
+    copied_parts c.args.a.now (new at) c.args.listed.now c.in_ok-copies.copies c.in_ok-owned.owned c.whole.ensures (are at)
 
 pub returns : goal.returns
 returns c =
-    let new : Core = record {
-      names = c.in_ok-copy_names.field-0;
-      starts = c.in_ok-copy_numbers.field-0;
-      states = (1 + c.len.result) * c.states.result;
-      links = c.in_ok-links.links;
-      sets =
-          c.all_sets.result;
-      formula = formula_tree c.in_ok-formula.formula;
-      store = c.in_ok-copy.field-0;
-    } in
-    let same = are_copied c.args.a.now new c.args.listed.now c.in_ok-copies.copies c.in_ok-owned.owned (record {
-      listed = c.requires.terms;
-      made = c.in_ok-copies.ensures;
-      names = c.in_ok-copy_names.ensures ∙ c.names.ensures;
-      starts = c.in_ok-copy_numbers.ensures ∙ c.starts.ensures;
-      states = λ i. (1 + c.len.ensures i) * c.states.ensures i;
-      store = c.in_ok-copy.ensures ∙ c.guards.ensures;
-      has = c.in_ok-links.ensures.has;
-      edges = c.in_ok-links.ensures.edges;
-      count = c.all_sets.ensures;
-      owned = c.in_ok-owned.ensures;
-      formula = c.in_ok-formula.ensures.tree;
-    }) in
+    let at = (goal.at.returns c).After-all_sets in
+    let same = are_copied c.args.a.now (new at) c.args.listed.now c.in_ok-copies.copies c.in_ok-owned.owned (are at) in
     IfOk-weaker c.from_parts.result _ _ (λ made e. ap automaton_of e ∙ same) c.from_parts.ensures

@@ -1,16 +1,19 @@
-use Rattle.std.proofs.Common.{◌∙◌, All, ◌<◌, ap, map, subst, sym}
+use Rattle.std.proofs.Common.{◌≡◌, ◌∙◌, All, ◌<◌, ap, map, subst, sym}
 use Rattle.aut_base.proofs.Outcomes.{told_fault}
 use Rattle.aut_base.specs.declared.limit.TheConstants.{MOST_TREES}
 use Rattle.aut_core.proofs.Growth.{keeps_none}
 use Rattle.aut_core.specs.Core.{Core, automaton_of}
 use Rattle.exploration.specs.Explorations.{IsSound}
+use Rattle.exploration.specs.declared.fault.Fault.{Fault}
 use Rattle.exploration.specs.declared.fault.Fault.TheVariants as limit
 use Rattle.label_guards.specs.Store.{Keeps, Store}
 use Rattle.letter_classes.specs.SetClasses.{FitsStore, IsClassGuard}
 use Rattle.parity_det.specs.Systems.{IsClassEvent}
+use Rattle.parity_det.specs.Systems.{MeetsFirst}
 use Rattle.parity_det.proofs.Refused.{classes_fault, met_first, nodes_fault, trees_fault}
 use Rattle.safra_trees.specs.Trees.{first_tree, root_states}
 use Rattle.safra_trees.specs.View.{tree_of}
+use Rattle.parity_det.proofs.form.tree_form.Goals.{In_err-found}
 use Rattle.parity_det.proofs.form.tree_form.Goals as goal
 
 pub built-requires-clause-keeps : goal.built-requires-clause-keeps
@@ -33,23 +36,21 @@ built-requires-clause-sound c =
     (subst (λ (core : Core). IsSound (λ t. FitsStore core guards (root_states t)) (λ t k g. IsClassGuard core guards (root_states t) k g) (λ t k event. IsClassEvent b t k event) MOST_TREES
     (map tree_of found.things.keys) found.edges.items) c.in_ok-found.ensures.frame c.in_ok-found.ensures.sound)
 
-pub returns-in_err-found-clause-trees : goal.returns-in_err-found-clause-trees
-returns-in_err-found-clause-trees c = λ is.
+-- the fault of the exploration is met from the tree that the automaton leads to
+met : (c : In_err-found) (wanted : Fault) → c.in_err-found.field-0.0 ≡ wanted → (wanted ≡ limit.Memory → ⊥) → MeetsFirst (automaton_of c.args.b.now) wanted
+met c wanted is other =
     let b = c.args.b.now in
     let started = c.in_ok-first.ensures.tree ∙ ap (λ n. first_tree n c.starts.result.now) c.states.ensures ∙ ap (first_tree b.states) c.starts.ensures in
-    let fault = trees_fault c.in_err-found.field-0.0 (told_fault c.from_residual-in_err-found.result _ _ c.from_residual-in_err-found.ensures.1 is) in
-    met_first (automaton_of b) (tree_of c.in_ok-first.first) c.in_err-found.field-0.0 limit.Things started c.in_err-found.ensures.meets fault (λ other. cc)
+    met_first (automaton_of b) (tree_of c.in_ok-first.first) c.in_err-found.field-0.0 wanted started c.in_err-found.ensures.meets is other
+
+pub returns-in_err-found-clause-trees : goal.returns-in_err-found-clause-trees
+returns-in_err-found-clause-trees c = λ is. met (goal.at.returns-in_err-found-clause-trees c).In_err-found limit.Things
+    (trees_fault c.in_err-found.field-0.0 (told_fault c.from_residual-in_err-found.result _ _ c.from_residual-in_err-found.ensures.1 is)) (λ other. cc)
 
 pub returns-in_err-found-clause-nodes : goal.returns-in_err-found-clause-nodes
-returns-in_err-found-clause-nodes c = λ is.
-    let b = c.args.b.now in
-    let started = c.in_ok-first.ensures.tree ∙ ap (λ n. first_tree n c.starts.result.now) c.states.ensures ∙ ap (first_tree b.states) c.starts.ensures in
-    let fault = nodes_fault c.in_err-found.field-0.0 (told_fault c.from_residual-in_err-found.result _ _ c.from_residual-in_err-found.ensures.1 is) in
-    met_first (automaton_of b) (tree_of c.in_ok-first.first) c.in_err-found.field-0.0 limit.Nodes started c.in_err-found.ensures.meets fault (λ other. cc)
+returns-in_err-found-clause-nodes c = λ is. met (goal.at.returns-in_err-found-clause-nodes c).In_err-found limit.Nodes
+    (nodes_fault c.in_err-found.field-0.0 (told_fault c.from_residual-in_err-found.result _ _ c.from_residual-in_err-found.ensures.1 is)) (λ other. cc)
 
 pub returns-in_err-found-clause-classes : goal.returns-in_err-found-clause-classes
-returns-in_err-found-clause-classes c = λ is.
-    let b = c.args.b.now in
-    let started = c.in_ok-first.ensures.tree ∙ ap (λ n. first_tree n c.starts.result.now) c.states.ensures ∙ ap (first_tree b.states) c.starts.ensures in
-    let fault = classes_fault c.in_err-found.field-0.0 (told_fault c.from_residual-in_err-found.result _ _ c.from_residual-in_err-found.ensures.1 is) in
-    met_first (automaton_of b) (tree_of c.in_ok-first.first) c.in_err-found.field-0.0 limit.Classes started c.in_err-found.ensures.meets fault (λ other. cc)
+returns-in_err-found-clause-classes c = λ is. met (goal.at.returns-in_err-found-clause-classes c).In_err-found limit.Classes
+    (classes_fault c.in_err-found.field-0.0 (told_fault c.from_residual-in_err-found.result _ _ c.from_residual-in_err-found.ensures.1 is)) (λ other. cc)

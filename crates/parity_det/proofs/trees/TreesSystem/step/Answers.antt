@@ -1,4 +1,4 @@
-use Rattle.std.proofs.Common.{◌∙◌, ◌<◌, All, Err, ap, length, subst, sym}
+use Rattle.std.proofs.Common.{◌≡◌, ◌∙◌, ◌<◌, All, Err, ap, length, subst, sym}
 use Rattle.aut_base.specs.declared.limit.TheConstants.{MOST_NODES}
 use Rattle.aut_core.specs.Core.{automaton_of}
 use Rattle.letter_classes.proofs.ClassGuards.{met_number}
@@ -9,7 +9,14 @@ use Rattle.safra_trees.specs.Step.{grown, pruned}
 use Rattle.safra_trees.specs.Trees.{root_states}
 use Rattle.safra_trees.specs.View.{tree_of}
 use Rattle.safra_trees.specs.declared.event.Event.{Event}
+use Rattle.parity_det.proofs.trees.TreesSystem.step.Goals.{In_ok-moves}
 use Rattle.parity_det.proofs.trees.TreesSystem.step.Goals as goal
+
+-- the moves are those of the class
+taken : (c : In_ok-moves) → c.in_ok-moves.moves ≡ class_moves (automaton_of c.args.self.now.automaton.now) (tree_of c.args.thing.now) c.requires.class.valuation
+taken c = class_taken c.args.self.now.automaton.now c.whole.ensures c.args.self.now.guards (tree_of c.args.thing.now) c.args._number c.args.class c.requires.fits c.requires.class
+    c.root_states.result.now c.root_states.ensures c.in-Some.number
+    (met_number c.args.self.now.guards _ c.args.class _ c.in-Some.number c.guards.ensures c.in-Some.is c.meeting.ensures) c.in_ok-moves.moves c.in_ok-moves.ensures.moves
 
 pub step-requires-clause-moves : goal.step-requires-clause-moves
 step-requires-clause-moves c = subst (λ n. All (IsWithin n) c.in_ok-moves.moves) (sym c.states.ensures) c.in_ok-moves.ensures.within
@@ -19,9 +26,7 @@ returns-in-Ok-clause-step c =
     let a = c.args.self.now.automaton.now in
     let s = c.args.self.now.guards in
     let t = tree_of c.args.thing.now in
-    let number = c.in-Some.number in
-    let moves = class_taken a c.whole.ensures s t c.args._number c.args.class c.requires.fits c.requires.class c.root_states.result.now c.root_states.ensures number
-    (met_number s _ c.args.class _ number c.guards.ensures c.in-Some.is c.meeting.ensures) c.in_ok-moves.moves c.in_ok-moves.ensures.moves in
+    let moves = taken (goal.at.returns-in-Ok-clause-step c).In_ok-moves in
     step_gives a c.whole.ensures s t c.args._number c.args.class c.requires.fits c.requires.class c.in_ok-moves.moves moves (tree_of c.in-Ok.made.0)
     (c.in-Ok.ensures.tree ∙ ap (λ n. pruned (grown n c.in_ok-moves.moves t)) c.states.ensures) c.in-Ok.ensures.few
 
@@ -30,9 +35,7 @@ returns-in-Ok-clause-note c =
     let a = c.args.self.now.automaton.now in
     let s = c.args.self.now.guards in
     let t = tree_of c.args.thing.now in
-    let number = c.in-Some.number in
-    let moves = class_taken a c.whole.ensures s t c.args._number c.args.class c.requires.fits c.requires.class c.root_states.result.now c.root_states.ensures number
-    (met_number s _ c.args.class _ number c.guards.ensures c.in-Some.is c.meeting.ensures) c.in_ok-moves.moves c.in_ok-moves.ensures.moves in
+    let moves = taken (goal.at.returns-in-Ok-clause-note c).In_ok-moves in
     step_told a c.whole.ensures s t c.args._number c.args.class c.requires.fits c.requires.class c.in_ok-moves.moves moves c.in-Ok.made.1
     (c.in-Ok.ensures.event ∙ ap (λ n. event_of n c.in_ok-moves.moves t) c.states.ensures)
 
@@ -47,9 +50,7 @@ returns-in-Err-clause-step c =
     let a = c.args.self.now.automaton.now in
     let s = c.args.self.now.guards in
     let t = tree_of c.args.thing.now in
-    let number = c.in-Some.number in
-    let moves = class_taken a c.whole.ensures s t c.args._number c.args.class c.requires.fits c.requires.class c.root_states.result.now c.root_states.ensures number
-    (met_number s _ c.args.class _ number c.guards.ensures c.in-Some.is c.meeting.ensures) c.in_ok-moves.moves c.in_ok-moves.ensures.moves in
+    let moves = taken (goal.at.returns-in-Err-clause-step c).In_ok-moves in
     step_refused Event tree_of _ c.in-Err.fault c.step_fault.result c.step_fault.ensures (λ nodes.
     step_fails a c.whole.ensures s t c.args._number c.args.class c.requires.fits c.requires.class c.in_ok-moves.moves moves
     (subst (λ n. MOST_NODES < length (pruned (grown n c.in_ok-moves.moves t))) c.states.ensures (c.in-Err.ensures.nodes (ap Err nodes))))

@@ -6,10 +6,11 @@ use Rattle.unambiguous.proofs.growing.Rounds.{followed_more}
 use Rattle.unambiguous.proofs.growing.RowPlaces.{can_meet}
 use Rattle.unambiguous.proofs.growing.Stages.{grows_on, longer_at}
 use Rattle.unambiguous.specs.inner.Stages.{CanMeet, IsMet, row_of}
+use Rattle.unambiguous.proofs.square.Square.follow.Goals.{After-meet-arg-1}
 use Rattle.unambiguous.proofs.square.Square.follow.Goals as goal
 
 -- the link of the second state's row
-here : (c : goal.After-meet-arg-1) → slice_get (row_of c.args.a.now c.args.state.1) c.others.i ≡ Some c.index-others-i.result
+here : (c : After-meet-arg-1) → slice_get (row_of c.args.a.now c.args.state.1) c.others.i ≡ Some c.index-others-i.result
 here c = ap (λ (ls : List Link). slice_get ls c.others.i) (sym c.links_of-others.ensures) ∙ slice_get-at c.links_of-others.result.now c.others.i c.index-others-i.result c.others-test.true
     c.index-others-i.is
 
@@ -21,8 +22,7 @@ meet-requires-clause-meet c =
 
 pub others-preserved : goal.others-preserved
 others-preserved c =
-    let row = ap (λ (ls : List Link). slice_get ls c.others.i) (sym c.links_of-others.ensures) ∙ slice_get-at c.links_of-others.result.now c.others.i c.index-others-i.result c.others-test.true
-    c.index-others-i.is in
+    let row = here (goal.at.others-preserved c).After-meet-arg-1 in
     record {
       sound = c.in_ok-meet.ensures.sound;
       grows = grows_on c.args.self.now c.others.self c.meet.new.self c.others.invariant.grows c.in_ok-meet.ensures.grows;
