@@ -62,7 +62,8 @@ module _ (join : FormulaTree → FormulaTree → FormulaTree) (a b : Automaton) 
   -- an edge of the product that is gone from a pair is one of each, and both are gone
   record Gone (e : TreeEdge) (x : NameSet) (s t : ℕ) : Type 0 where
     of : EdgeOf a b pairs listed e
-    from : (s, t) ≡ (of.first.from, of.second.from)
+    first_from : s ≡ of.first.from
+    second_from : t ≡ of.second.from
     first_holds : truth (holds_at a.names x) of.first.label ≡ true
     second_holds : truth (holds_at b.names x) of.second.label ≡ true
 
@@ -71,9 +72,11 @@ module _ (join : FormulaTree → FormulaTree → FormulaTree) (a b : Automaton) 
       let of = edge_of a b pairs listed e there in
       let both = and_parts (truth (holds_at a.names x) of.first.label) (truth (holds_at b.names x) of.second.label) (sym (both_hold x of.first of.second of.in_first of.in_second)
       ∙ (ap (λ (l : LabelTree). truth (holds_at a.names x) l) of.label ∙ holds)) in
+      let same : (s, t) ≡ (of.first.from, of.second.from) = same_Some (s, t) (of.first.from, of.second.from) (sym stands ∙ (ap (slice_get pairs) at ∙ of.from)) in
       record {
         of = of;
-        from = same_Some (s, t) (of.first.from, of.second.from) (sym stands ∙ (ap (slice_get pairs) at ∙ of.from));
+        first_from = ap (λ (y : ℕ × ℕ). y.0) same;
+        second_from = ap (λ (y : ℕ × ℕ). y.1) same;
         first_holds = both.0;
         second_holds = both.1;
       }
@@ -86,7 +89,7 @@ module _ (join : FormulaTree → FormulaTree → FormulaTree) (a b : Automaton) 
         let of = both.of in
         record {
           edge = of.first;
-          from = ap (λ (y : ℕ × ℕ). y.0) both.from;
+          from = both.first_from;
           there = of.in_first;
           holds = both.first_holds;
           to = (of.second.to, of.to);
@@ -102,7 +105,7 @@ module _ (join : FormulaTree → FormulaTree → FormulaTree) (a b : Automaton) 
         let of = both.of in
         record {
           edge = of.second;
-          from = ap (λ (y : ℕ × ℕ). y.1) both.from;
+          from = both.second_from;
           there = of.in_second;
           holds = both.second_holds;
           to = (of.first.to, of.to);

@@ -1,4 +1,4 @@
-use Rattle.std.proofs.Common.{◌∙◌, ◌-◌, [], arith, subst, sym}
+use Rattle.std.proofs.Common.{◌∙◌, ◌+◌, ◌-◌, [], arith, subst, sym}
 use Rattle.aut_base.proofs.Outcomes.{passed_on}
 use Rattle.aut_base.specs.Formula.{SetsBelow, formula_tree}
 use Rattle.aut_core.specs.Core.{Core, automaton_of}

@@ -2,7 +2,7 @@ use Rattle.std.proofs.Common.{◌∙◌, ◌+◌, ◌++◌, ◌-◌, ap, arith, 
 use Rattle.std.proofs.lemmas.Result.{IfOk-weaker}
 use Rattle.aut_base.specs.Automaton.{Automaton}
 use Rattle.aut_base.specs.Formula.{SetsBelow, formula_tree}
-use Rattle.aut_core.specs.Core.{automaton_of}
+use Rattle.aut_core.specs.Core.{Core, automaton_of}
 use Rattle.acc_forms.proofs.FormulaSets.{sets_weaker}
 use Rattle.aut_ops.proofs.following.SumLinks.{IsSide, side}
 use Rattle.aut_ops.proofs.following.SumRuns.{sum_accepts}

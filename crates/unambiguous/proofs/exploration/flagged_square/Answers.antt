@@ -1,4 +1,4 @@
-use Rattle.std.proofs.Common.{◌∙◌, ap, arith, subst, sym}
+use Rattle.std.proofs.Common.{◌∙◌, ◌+◌, ap, arith, subst, sym}
 use Rattle.std.specs.List.{range_with_len}
 use Rattle.aut_base.specs.Formula.{formula_tree}
 use Rattle.aut_core.specs.Core.{Core, automaton_of}
