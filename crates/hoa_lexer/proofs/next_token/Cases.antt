@@ -13,7 +13,7 @@ use Rattle.hoa_lexer.specs.declared.token.Token.{Token}
 use Rattle.hoa_lexer.specs.declared.token.Token.TheVariants.{Str}
 use Rattle.hoa_lexer.specs.inner.Steps.{closing}
 use Rattle.hoa_lexer.proofs.next_token.Exclusive.{IsStuck, begins_slash, blanks_no_token, no_token_stuck, open_comment_stuck, open_string_stuck, open_token_stuck, stuck_no_blanks, stuck_no_token}
-use Rattle.hoa_lexer.proofs.next_token.Fronts.{blanks_append, front_of}
+use Rattle.hoa_lexer.proofs.next_token.Fronts.{at_once, blanks_append, front_of}
 use Rattle.hoa_lexer.proofs.next_token.StuckPlaces.{after_as, no_open_comment, no_open_string, no_open_token, stuck_place}
 use Rattle.hoa_lexer.proofs.next_token.Unique.{one_next_token}
 use Rattle.hoa_lexer.proofs.spelling.Comments.{closing_after, closing_sound}
@@ -135,9 +135,6 @@ settles_behind text before rest e b (blank k) = blank (subst IsBlanks (sym e) (b
 settles_behind text before rest e b (within a) = within (put_before text before rest e b a)
 settles_behind text before rest e b (solid a) = solid (put_before text before rest e b a)
 
-here : {P : List ℕ → Type 0} (text : List ℕ) → P text → AfterBlanks text P
-here text h = record { before = []; bytes = text; split = refl; blanks = nothing; holds = h }
-
 comment_opens : (text rest : List ℕ) → text ≡ 47 ∷ 42 ∷ rest → closing 1 rest ≡ None → IsOpenComment text
 comment_opens text rest e none = record {
   rest = rest;
@@ -147,7 +144,7 @@ comment_opens text rest e none = record {
 
 in_comment : (n : ℕ) → ((text : List ℕ) → length text ≤ n → Settles text) → (text rest : List ℕ) → length text ≤ suc n → text ≡ 47 ∷ 42 ∷ rest → (r : Option (List ℕ)) → closing 1 rest ≡ r
     → Settles text
-in_comment n settle text rest l e None k = within (here text (comment_opens text rest e k))
+in_comment n settle text rest l e None k = within (at_once text _ (comment_opens text rest e k))
 in_comment n settle text rest l e (Some more) k =
     let w = closing_sound 1 rest more k in
     let whole : text ≡ (47 ∷ 42 ∷ w.body) ++ more = e ∙ ap (λ v. 47 ∷ 42 ∷ v) w.split in
@@ -164,13 +161,13 @@ solid_at b c bytes s n = record {
 }
 
 settle_solid : (n : ℕ) → ((text : List ℕ) → length text ≤ n → Settles text) → (b : ℕ) (bs : List ℕ) → length (b ∷ bs) ≤ suc n → is_space b ≡ false → Settles (b ∷ bs)
-settle_solid n settle b [] l h = solid (here (b ∷ []) (record { first = b; rest = []; is = refl; no_space = h; no_comment = λ more e. (let whole : b ∷ [] ≡ 47 ∷ 42 ∷ more = e in cc) }))
+settle_solid n settle b [] l h = solid (at_once (b ∷ []) _ (record { first = b; rest = []; is = refl; no_space = h; no_comment = λ more e. (let whole : b ∷ [] ≡ 47 ∷ 42 ∷ more = e in cc) }))
 settle_solid n settle b (c ∷ cs) l h = elim (cases_eq b 47) [
   | inl slash ↦ elim (cases_eq c 42) [
     | inl star ↦ in_comment n settle (b ∷ c ∷ cs) cs l (cc) (closing 1 cs) refl
-    | inr other ↦ solid (here (b ∷ c ∷ cs) (solid_at b c cs h (λ e. other e.1)))
+    | inr other ↦ solid (at_once (b ∷ c ∷ cs) _ (solid_at b c cs h (λ e. other e.1)))
   ]
-  | inr other ↦ solid (here (b ∷ c ∷ cs) (solid_at b c cs h (λ e. other e.0)))
+  | inr other ↦ solid (at_once (b ∷ c ∷ cs) _ (solid_at b c cs h (λ e. other e.0)))
 ]
 
 settle : (n : ℕ) (text : List ℕ) → length text ≤ n → Settles text

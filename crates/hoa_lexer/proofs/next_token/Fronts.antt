@@ -37,6 +37,10 @@ front_slashes bs bytes e f = front_slash bs (along _ _ e f)
 pub space_no_slash : (b : ℕ) → is_space b ≡ true → b ≡ 47 → ⊥
 space_no_slash b h e = false≢true (ap is_space (sym e) ∙ h)
 
+-- behind no blanks
+pub at_once : (y : List ℕ) (P : List ℕ → Type 0) → P y → AfterBlanks y P
+at_once y P h = record { before = []; bytes = y; split = refl; blanks = nothing; holds = h }
+
 pub skips_none : (x : List ℕ) → Skips x x
 skips_none x = record { before = []; split = refl; blanks = nothing }
 
@@ -49,37 +53,52 @@ same_close body body' bs bs' xs xs' h k e =
     let same : Some (bs ++ xs) ≡ Some (bs' ++ xs') = sym here ∙ ap (closing 1) whole ∙ there in
     cc
 
--- Where blanks are passed, and a token stands after others, it stands after the rest of those.
-pub skips_rest : (before before' x y : List ℕ) → IsBlanks before → IsBlanks before' → before ++ x ≡ before' ++ y → HasFront y → Skips x y
-skips_rest before before' x y nothing k e f = record { before = before'; split = e; blanks = k }
-skips_rest (b ∷ bs) before' x y (space h r) nothing e f = absurd (front_spaces b (bs ++ x) y h (sym e) f)
-skips_rest (b ∷ bs) (c ∷ cs) x y (space h r) (space k s) e f = skips_rest bs cs x y r s (let whole : b ∷ (bs ++ x) ≡ c ∷ (cs ++ y) = e in cc) f
-skips_rest (b ∷ bs) before' x y (space h r) (comment body cs k s t) e f =
+-- no blank stands at the front
+pub record NoBlank (bytes : List ℕ) : Type 0 where
+  pub no_space : (b : ℕ) (rest : List ℕ) → bytes ≡ b ∷ rest → is_space b ≡ true → ⊥
+  pub no_comment : (body rest : List ℕ) → bytes ≡ 47 ∷ 42 ∷ (body ++ rest) → Closes 1 body → ⊥
+
+front_no_blank : (bytes : List ℕ) → HasFront bytes → NoBlank bytes
+front_no_blank bytes f = record {
+  no_space = λ b rest e h. front_spaces b rest bytes h e f;
+  no_comment = λ body rest e k. front_slashes (42 ∷ (body ++ rest)) bytes e f;
+}
+
+-- Where blanks are passed, and behind others stands none, there stands none behind the rest of those.
+skips_rest : (before before' x y : List ℕ) → IsBlanks before → IsBlanks before' → before ++ x ≡ before' ++ y → NoBlank y → Skips x y
+skips_rest before before' x y nothing k e n = record { before = before'; split = e; blanks = k }
+skips_rest (b ∷ bs) before' x y (space h r) nothing e n = absurd (n.no_space b (bs ++ x) (sym e) h)
+skips_rest (b ∷ bs) (c ∷ cs) x y (space h r) (space k s) e n = skips_rest bs cs x y r s (let whole : b ∷ (bs ++ x) ≡ c ∷ (cs ++ y) = e in cc) n
+skips_rest (b ∷ bs) before' x y (space h r) (comment body cs k s t) e n =
     absurd (space_no_slash b h (let whole : b ∷ (bs ++ x) ≡ 47 ∷ 42 ∷ ((body ++ cs) ++ y) = e ∙ ap (λ z. z ++ y) t in cc))
-skips_rest before before' x y (comment body bs h r t) nothing e f = absurd (front_slashes (42 ∷ ((body ++ bs) ++ x)) y (sym e ∙ ap (λ z. z ++ x) t) f)
-skips_rest before (c ∷ cs) x y (comment body bs h r t) (space k s) e f =
+skips_rest before before' x y (comment body bs h r t) nothing e n =
+    absurd (n.no_comment body (bs ++ x) (sym e ∙ ap (λ z. z ++ x) t ∙ ap (λ z. 47 ∷ 42 ∷ z) (append_assoc body bs x)) h)
+skips_rest before (c ∷ cs) x y (comment body bs h r t) (space k s) e n =
     absurd (space_no_slash c k (let whole : 47 ∷ 42 ∷ ((body ++ bs) ++ x) ≡ c ∷ (cs ++ y) = sym (ap (λ z. z ++ x) t) ∙ e in cc))
-skips_rest before before' x y (comment body bs h r t) (comment body' bs' k s u) e f =
+skips_rest before before' x y (comment body bs h r t) (comment body' bs' k s u) e n =
     skips_rest bs bs' x y r s
     (same_close body body' bs bs' x y h k
-    (let whole : 47 ∷ 42 ∷ ((body ++ bs) ++ x) ≡ 47 ∷ 42 ∷ ((body' ++ bs') ++ y) = sym (ap (λ z. z ++ x) t) ∙ e ∙ ap (λ z. z ++ y) u in cc)) f
+    (let whole : 47 ∷ 42 ∷ ((body ++ bs) ++ x) ≡ 47 ∷ 42 ∷ ((body' ++ bs') ++ y) = sym (ap (λ z. z ++ x) t) ∙ e ∙ ap (λ z. z ++ y) u in cc)) n
 
 pub front_after : (before before' x y : List ℕ) → IsBlanks before → IsBlanks before' → before ++ x ≡ before' ++ y → HasFront y → AfterBlanks x HasFront
 front_after before before' x y h k e f =
-    let s = skips_rest before before' x y h k e f in
+    let s = skips_rest before before' x y h k e (front_no_blank y f) in
     record { before = s.before; bytes = y; split = s.split; blanks = s.blanks; holds = f }
 
--- where a token stands, no blank does
-no_blank : (x y before : List ℕ) → HasFront x → x ≡ before ++ y → IsBlanks before → x ≡ y
-no_blank x y before f e nothing = e
-no_blank x y (b ∷ bs) f e (space h r) = absurd (front_spaces b (bs ++ y) x h e f)
-no_blank x y before f e (comment body bs h r t) = absurd (front_slashes (42 ∷ ((body ++ bs) ++ y)) x (e ∙ ap (λ z. z ++ y) t) f)
+nothing_before : (x y before : List ℕ) → NoBlank x → x ≡ before ++ y → IsBlanks before → x ≡ y
+nothing_before x y before n e nothing = e
+nothing_before x y (b ∷ bs) n e (space h r) = absurd (n.no_space b (bs ++ y) e h)
+nothing_before x y before n e (comment body bs h r t) = absurd (n.no_comment body (bs ++ y) (e ∙ ap (λ z. z ++ y) t ∙ ap (λ z. 47 ∷ 42 ∷ z) (append_assoc body bs y)) h)
 
--- a text has one place where its next token stands
+-- a text has one place behind its first blanks
+pub one_place : (before before' x y : List ℕ) → IsBlanks before → IsBlanks before' → before ++ x ≡ before' ++ y → NoBlank x → NoBlank y → x ≡ y
+one_place before before' x y h k e m n =
+    let s = skips_rest before before' x y h k e n in
+    nothing_before x y s.before m s.split s.blanks
+
+-- so one where its next token stands
 pub same_place : (before before' x y : List ℕ) → IsBlanks before → IsBlanks before' → before ++ x ≡ before' ++ y → HasFront x → HasFront y → x ≡ y
-same_place before before' x y h k e f g =
-    let s = skips_rest before before' x y h k e g in
-    no_blank x y s.before f s.split s.blanks
+same_place before before' x y h k e f g = one_place before before' x y h k e (front_no_blank x f) (front_no_blank y g)
 
 pub blanks_append : (a b : List ℕ) → IsBlanks a → IsBlanks b → IsBlanks (a ++ b)
 blanks_append a b nothing k = k
@@ -203,17 +222,11 @@ skip_closed (Ok done) start x y z e h =
       blanks = comment w.body [] w.closes nothing (ap (λ v. 47 ∷ 42 ∷ v) (sym (append-nil w.body)));
     }
 skip_closed (Err OpenComment) start x y z e h = (
-  record {
-    before = [];
-    bytes = 47 ∷ x;
-    split = refl;
-    blanks = nothing;
-    holds = record {
-      rest = y;
-      opens = ap (λ v. 47 ∷ v) e;
-      open_still = λ body more k w. let done : closing 1 y ≡ Some more = ap (closing 1) k ∙ closing_after 1 body more w in let none = h.0 in cc;
-    };
-  },
+  at_once (47 ∷ x) _ (record {
+    rest = y;
+    opens = ap (λ v. 47 ∷ v) e;
+    open_still = λ body more k w. let done : closing 1 y ≡ Some more = ap (closing 1) k ∙ closing_after 1 body more w in let none = h.0 in cc;
+  }),
   h.1,
 )
 skip_closed (Err Bytes) start x y z e h =
@@ -226,22 +239,16 @@ skip_closed (Err OpenToken) start x y z e h = absurd h
 skip_closed (Err Memory) start x y z e h = absurd h
 
 slash_no_comment : (k start b : ℕ) (x y : List ℕ) → k ≡ start → (b ≡ 42 → ⊥) → x ≡ b ∷ y → AfterBlanks (47 ∷ x) (λ bytes. (k + length bytes ≡ start + length (47 ∷ x)) × IsNoToken bytes)
-slash_no_comment k start b x y s n e = record {
-  before = [];
-  bytes = 47 ∷ x;
-  split = refl;
-  blanks = nothing;
-  holds = (
-    ap (λ v. v + length (47 ∷ x)) s,
-    record {
-      some = λ w. cc;
-      no_space = solid 47 x refl;
-      no_comment = λ rest w. n (let same : b ∷ y ≡ 42 ∷ rest = cc in cc);
-      no_slash = λ w. let same : b ∷ y ≡ [] = cc in cc;
-      no_token = λ w. front_slash (x ++ w.more) w.front;
-    },
-  );
-}
+slash_no_comment k start b x y s n e = at_once (47 ∷ x) _ (
+  ap (λ v. v + length (47 ∷ x)) s,
+  record {
+    some = λ w. cc;
+    no_space = solid 47 x refl;
+    no_comment = λ rest w. n (let same : b ∷ y ≡ 42 ∷ rest = cc in cc);
+    no_slash = λ w. let same : b ∷ y ≡ [] = cc in cc;
+    no_token = λ w. front_slash (x ++ w.more) w.front;
+  },
+)
 
 pub skip_bad : (k start b : ℕ) (x y : List ℕ) → k ≡ start → (b ≡ 42 → ⊥) → x ≡ b ∷ y → SkipsComment (Err (BadToken k)) start (47 ∷ x) y
 skip_bad k start b x y s n e = (
@@ -252,18 +259,12 @@ skip_bad k start b x y s n e = (
 
 pub skip_end : (h : Option ℕ) (start : ℕ) (x z : List ℕ) → h ≡ None → x ≡ [] → z ≡ [] → SkipsComment (Err OpenToken) start (47 ∷ x) (unread h z)
 skip_end h start x z n e k = (
-  record {
-    before = [];
-    bytes = 47 ∷ x;
-    split = refl;
-    blanks = nothing;
-    holds = record {
-      some = λ w. cc;
-      no_string = λ rest w. cc;
-      unclosed = front_slash x;
-      begins = inl (ap (λ v. 47 ∷ v) e);
-    };
-  },
+  at_once (47 ∷ x) _ (record {
+    some = λ w. cc;
+    no_string = λ rest w. cc;
+    unclosed = front_slash x;
+    begins = inl (ap (λ v. 47 ∷ v) e);
+  }),
   unheld h z n ∙ k,
 )
 
@@ -383,9 +384,6 @@ pauses_ask y z p = record {
   more = p.begins.more;
   closes = record { before = []; bytes = p.at_hand ++ p.begins.more; split = refl; blanks = nothing; holds = p.begins.front };
 }
-
-pub at_once : (y : List ℕ) (P : List ℕ → Type 0) → P y → AfterBlanks y P
-at_once y P h = record { before = []; bytes = y; split = refl; blanks = nothing; holds = h }
 
 asked_for_one : (y z : List ℕ) → Tries y z → AskedForOne y z
 asked_for_one y z t = ⊎_elim

@@ -1,47 +1,22 @@
 -- A text has one place where it is stuck, and at that place either no token can stand or one is open.
 use Rattle.std.proofs.Common.{◌≡◌, ◌≢◌, ℕ, ◌⊎◌, List, [], ◌∷◌, ◌++◌, inl, inr, refl, sym, ◌∙◌, ap}
 use Rattle.std.proofs.lemmas.Bool.{cases_eq}
-use Rattle.std.proofs.lemmas.List.{append_assoc, append-nil}
-use Rattle.hoa_lexer.specs.Blanks.{IsBlanks, IsOpenComment}
-use Rattle.hoa_lexer.specs.Blanks.IsBlanks.{nothing, space, comment}
+use Rattle.std.proofs.lemmas.List.{append-nil}
+use Rattle.hoa_lexer.specs.Blanks.{IsOpenComment}
 use Rattle.hoa_lexer.specs.Spelling.{Quotes}
 use Rattle.hoa_lexer.specs.Spelling.Quotes.{nothing as unquoted, escaped, plain}
 use Rattle.hoa_lexer.specs.Text.{AfterBlanks, Begins, IsNoToken, IsOpenString, IsOpenToken}
 use Rattle.hoa_lexer.specs.declared.token.Token.TheVariants.{Str}
 use Rattle.hoa_lexer.proofs.next_token.Exclusive.{IsStuck}
-use Rattle.hoa_lexer.proofs.next_token.Fronts.{same_close, space_no_slash}
+use Rattle.hoa_lexer.proofs.next_token.Fronts.{NoBlank, one_place}
 
--- blanks, and what stands behind them
-record Passes (x y : List ℕ) : Type 0 where
-  before : List ℕ
-  split : x ≡ before ++ y
-  blanks : IsBlanks before
-
-stuck_rest : (before before' x y : List ℕ) → IsBlanks before → IsBlanks before' → before ++ x ≡ before' ++ y → IsStuck y → Passes x y
-stuck_rest before before' x y nothing k e s = record { before = before'; split = e; blanks = k }
-stuck_rest (b ∷ bs) before' x y (space h r) nothing e s = absurd (s.no_space b (bs ++ x) (sym e) h)
-stuck_rest (b ∷ bs) (c ∷ cs) x y (space h r) (space k t) e s = stuck_rest bs cs x y r t (let whole : b ∷ (bs ++ x) ≡ c ∷ (cs ++ y) = e in cc) s
-stuck_rest (b ∷ bs) before' x y (space h r) (comment body cs k t u) e s =
-    absurd (space_no_slash b h (let whole : b ∷ (bs ++ x) ≡ 47 ∷ 42 ∷ ((body ++ cs) ++ y) = e ∙ ap (λ z. z ++ y) u in cc))
-stuck_rest before before' x y (comment body bs h r t) nothing e s =
-    absurd (s.no_comment body (bs ++ x) (sym e ∙ ap (λ z. z ++ x) t ∙ ap (λ z. 47 ∷ 42 ∷ z) (append_assoc body bs x)) h)
-stuck_rest before (c ∷ cs) x y (comment body bs h r t) (space k u) e s =
-    absurd (space_no_slash c k (let whole : 47 ∷ 42 ∷ ((body ++ bs) ++ x) ≡ c ∷ (cs ++ y) = sym (ap (λ z. z ++ x) t) ∙ e in cc))
-stuck_rest before before' x y (comment body bs h r t) (comment body' bs' k u v) e s =
-    stuck_rest bs bs' x y r u
-    (same_close body body' bs bs' x y h k
-    (let whole : 47 ∷ 42 ∷ ((body ++ bs) ++ x) ≡ 47 ∷ 42 ∷ ((body' ++ bs') ++ y) = sym (ap (λ z. z ++ x) t) ∙ e ∙ ap (λ z. z ++ y) v in cc)) s
-
-no_blank : (x y before : List ℕ) → IsStuck x → x ≡ before ++ y → IsBlanks before → x ≡ y
-no_blank x y before s e nothing = e
-no_blank x y (b ∷ bs) s e (space h r) = absurd (s.no_space b (bs ++ y) e h)
-no_blank x y before s e (comment body bs h r t) = absurd (s.no_comment body (bs ++ y) (e ∙ ap (λ z. z ++ y) t ∙ ap (λ z. 47 ∷ 42 ∷ z) (append_assoc body bs y)) h)
+stuck_no_blank : (bytes : List ℕ) → IsStuck bytes → NoBlank bytes
+stuck_no_blank bytes s = record { no_space = s.no_space; no_comment = s.no_comment }
 
 -- the bytes that are stuck are the same
 pub stuck_place : (input : List ℕ) (a b : AfterBlanks input IsStuck) → a.bytes ≡ b.bytes
 stuck_place input a b =
-    let p = stuck_rest a.before b.before a.bytes b.bytes a.blanks b.blanks (sym a.split ∙ b.split) b.holds in
-    no_blank a.bytes b.bytes p.before a.holds p.split p.blanks
+    one_place a.before b.before a.bytes b.bytes a.blanks b.blanks (sym a.split ∙ b.split) (stuck_no_blank a.bytes a.holds) (stuck_no_blank b.bytes b.holds)
 
 -- a string closes in the bytes, or behind more of them
 record IsClosed (bytes : List ℕ) : Type 0 where
