@@ -1,8 +1,11 @@
 -- The worked examples.
-use Rattle.std.proofs.Common.{◌≢◌, ℕ, [], ◌∷◌, codes, refl, lit<, arith}
+use Rattle.std.proofs.Common.{◌≢◌, ℕ, List, [], ◌∷◌, ◌++◌, codes, refl, lit<, arith}
 use Rattle.hoa_lexer.specs.Blanks.IsBlanks.{nothing, space, comment}
+use Rattle.hoa_lexer.specs.Spelling.{Ends, Spells}
 use Rattle.hoa_lexer.specs.Spelling.Quotes.{nothing as no_quote, escaped, plain}
 use Rattle.hoa_lexer.specs.TokenExamples.{TokenExamples}
+use Rattle.hoa_lexer.specs.Text.{IsNext}
+use Rattle.hoa_lexer.specs.declared.token.Token.{Token}
 use Rattle.hoa_lexer.specs.declared.token.Token.TheVariants.{HeaderName, Identifier, Str, Int, Alias, Amp, End}
 
 one_is_not_zero : ◌≢◌ {A = ℕ} 49 48
@@ -14,6 +17,17 @@ a_is_no_quote e = absurd (omega (arith, e))
 a_is_no_backslash : ◌≢◌ {A = ℕ} 97 92
 a_is_no_backslash e = absurd (omega (arith, e))
 
+-- the token stands at once
+at_front : (word rest : List ℕ) (token : Token) (start : ℕ) → Spells token word → Ends token rest → IsNext (word ++ rest) start token start rest
+at_front word rest token start spells ends = record {
+  before = [];
+  bytes = word ++ rest;
+  split = refl;
+  blanks = nothing;
+  place = omega arith;
+  front = record { word = word; split = refl; spells = spells; ends = ends };
+}
+
 pub token_examples : TokenExamples
 token_examples = record {
   header = record {
@@ -22,20 +36,8 @@ token_examples = record {
     tokens = refl;
     lexes = (
       codes "v1 ",
-      record { before = []; bytes = codes "HOA:v1 "; split = refl; blanks = nothing; place = refl; front = record { word = codes "HOA:"; split = refl; spells = ((refl, refl), refl); ends = tt } },
-      (
-        codes " ",
-        record {
-          before = [];
-          bytes = codes "v1 ";
-          split = refl;
-          blanks = nothing;
-          place = refl;
-          front =
-              record { word = codes "v1"; split = refl; spells = ((refl, refl), refl); ends = (refl, refl) };
-        },
-        refl,
-      ),
+      at_front (codes "HOA:") (codes "v1 ") (HeaderName (codes "HOA")) 0 ((refl, refl), refl) tt,
+      (codes " ", at_front (codes "v1") (codes " ") (Identifier (codes "v1")) 4 ((refl, refl), refl) (refl, refl), refl),
     );
     blanks = space refl nothing;
   };
@@ -45,20 +47,8 @@ token_examples = record {
     tokens = refl;
     lexes = (
       codes "10 ",
-      record { before = []; bytes = codes "010 "; split = refl; blanks = nothing; place = refl; front = record { word = codes "0"; split = refl; spells = (refl, refl, lit< tt); ends = tt } },
-      (
-        codes " ",
-        record {
-          before = [];
-          bytes = codes "10 ";
-          split = refl;
-          blanks = nothing;
-          place = refl;
-          front =
-              record { word = codes "10"; split = refl; spells = ((refl, one_is_not_zero, refl), refl, lit< tt); ends = refl };
-        },
-        refl,
-      ),
+      at_front (codes "0") (codes "10 ") (Int 0) 0 (refl, refl, lit< tt) tt,
+      (codes " ", at_front (codes "10") (codes " ") (Int 10) 1 ((refl, one_is_not_zero, refl), refl, lit< tt) refl, refl),
     );
     blanks = space refl nothing;
   };
@@ -68,15 +58,7 @@ token_examples = record {
     tokens = refl;
     lexes = (
       [],
-      record {
-        before = [];
-        bytes = 34 ∷ 97 ∷ 92 ∷ 34 ∷ 34 ∷ [];
-        split = refl;
-        blanks = nothing;
-        place = refl;
-        front =
-            record { word = 34 ∷ 97 ∷ 92 ∷ 34 ∷ 34 ∷ []; split = refl; spells = (97 ∷ 92 ∷ 34 ∷ [], plain a_is_no_quote a_is_no_backslash (escaped no_quote), refl); ends = tt };
-      },
+      at_front (34 ∷ 97 ∷ 92 ∷ 34 ∷ 34 ∷ []) [] (Str (97 ∷ 34 ∷ [])) 0 (97 ∷ 92 ∷ 34 ∷ [], plain a_is_no_quote a_is_no_backslash (escaped no_quote), refl) tt,
       refl,
     );
     blanks = nothing;
@@ -87,12 +69,8 @@ token_examples = record {
     tokens = refl;
     lexes = (
       codes "&",
-      record { before = []; bytes = codes "@x-1&"; split = refl; blanks = nothing; place = refl; front = record { word = codes "@x-1"; split = refl; spells = (refl, refl); ends = refl } },
-      (
-        [],
-        record { before = []; bytes = codes "&"; split = refl; blanks = nothing; place = refl; front = record { word = codes "&"; split = refl; spells = refl; ends = tt } },
-        refl,
-      ),
+      at_front (codes "@x-1") (codes "&") (Alias (codes "x-1")) 0 (refl, refl) refl,
+      ([], at_front (codes "&") [] Amp 4 refl tt, refl),
     );
     blanks = nothing;
   };
@@ -108,8 +86,7 @@ token_examples = record {
         split = refl;
         blanks = space refl nothing;
         place = refl;
-        front =
-            record { word = codes "--END--"; split = refl; spells = refl; ends = tt };
+        front = record { word = codes "--END--"; split = refl; spells = refl; ends = tt };
       },
       refl,
     );

@@ -201,48 +201,6 @@ fixed t b bs s s' rest rest' word h k e f =
     let same : s ≡ s' = cc in
     record { token = refl; after = append-cancel s rest rest' (sym e ∙ f ∙ ap (λ w. w ++ rest') (sym same)) }
 
-one_bang : (u : Token) (b : ℕ) (bs s s' rest rest' : List ℕ) → 33 ≡ token_kind u → Spells Bang (b ∷ s) → Spells u (b ∷ s') → bs ≡ s ++ rest → bs ≡ s' ++ rest' → IsSame Bang u rest rest'
-one_bang Bang b bs s s' rest rest' q h k e f = fixed Bang b bs s s' rest rest' _ h k e f
-one_bang _ b bs s s' rest rest' q h k e f = absurd (omega arith)
-
-one_amp : (u : Token) (b : ℕ) (bs s s' rest rest' : List ℕ) → 38 ≡ token_kind u → Spells Amp (b ∷ s) → Spells u (b ∷ s') → bs ≡ s ++ rest → bs ≡ s' ++ rest' → IsSame Amp u rest rest'
-one_amp Amp b bs s s' rest rest' q h k e f = fixed Amp b bs s s' rest rest' _ h k e f
-one_amp _ b bs s s' rest rest' q h k e f = absurd (omega arith)
-
-one_bar : (u : Token) (b : ℕ) (bs s s' rest rest' : List ℕ) → 124 ≡ token_kind u → Spells Bar (b ∷ s) → Spells u (b ∷ s') → bs ≡ s ++ rest → bs ≡ s' ++ rest' → IsSame Bar u rest rest'
-one_bar Bar b bs s s' rest rest' q h k e f = fixed Bar b bs s s' rest rest' _ h k e f
-one_bar _ b bs s s' rest rest' q h k e f = absurd (omega arith)
-
-one_left_paren : (u : Token) (b : ℕ) (bs s s' rest rest' : List ℕ) → 40 ≡ token_kind u → Spells LeftParen (b ∷ s) → Spells u (b ∷ s') → bs ≡ s ++ rest → bs ≡ s' ++ rest'
-    → IsSame LeftParen u rest rest'
-one_left_paren LeftParen b bs s s' rest rest' q h k e f = fixed LeftParen b bs s s' rest rest' _ h k e f
-one_left_paren _ b bs s s' rest rest' q h k e f = absurd (omega arith)
-
-one_right_paren : (u : Token) (b : ℕ) (bs s s' rest rest' : List ℕ) → 41 ≡ token_kind u → Spells RightParen (b ∷ s) → Spells u (b ∷ s') → bs ≡ s ++ rest → bs ≡ s' ++ rest'
-    → IsSame RightParen u rest rest'
-one_right_paren RightParen b bs s s' rest rest' q h k e f = fixed RightParen b bs s s' rest rest' _ h k e f
-one_right_paren _ b bs s s' rest rest' q h k e f = absurd (omega arith)
-
-one_left_brace : (u : Token) (b : ℕ) (bs s s' rest rest' : List ℕ) → 123 ≡ token_kind u → Spells LeftBrace (b ∷ s) → Spells u (b ∷ s') → bs ≡ s ++ rest → bs ≡ s' ++ rest'
-    → IsSame LeftBrace u rest rest'
-one_left_brace LeftBrace b bs s s' rest rest' q h k e f = fixed LeftBrace b bs s s' rest rest' _ h k e f
-one_left_brace _ b bs s s' rest rest' q h k e f = absurd (omega arith)
-
-one_right_brace : (u : Token) (b : ℕ) (bs s s' rest rest' : List ℕ) → 125 ≡ token_kind u → Spells RightBrace (b ∷ s) → Spells u (b ∷ s') → bs ≡ s ++ rest → bs ≡ s' ++ rest'
-    → IsSame RightBrace u rest rest'
-one_right_brace RightBrace b bs s s' rest rest' q h k e f = fixed RightBrace b bs s s' rest rest' _ h k e f
-one_right_brace _ b bs s s' rest rest' q h k e f = absurd (omega arith)
-
-one_left_bracket : (u : Token) (b : ℕ) (bs s s' rest rest' : List ℕ) → 91 ≡ token_kind u → Spells LeftBracket (b ∷ s) → Spells u (b ∷ s') → bs ≡ s ++ rest → bs ≡ s' ++ rest'
-    → IsSame LeftBracket u rest rest'
-one_left_bracket LeftBracket b bs s s' rest rest' q h k e f = fixed LeftBracket b bs s s' rest rest' _ h k e f
-one_left_bracket _ b bs s s' rest rest' q h k e f = absurd (omega arith)
-
-one_right_bracket : (u : Token) (b : ℕ) (bs s s' rest rest' : List ℕ) → 93 ≡ token_kind u → Spells RightBracket (b ∷ s) → Spells u (b ∷ s') → bs ≡ s ++ rest → bs ≡ s' ++ rest'
-    → IsSame RightBracket u rest rest'
-one_right_bracket RightBracket b bs s s' rest rest' q h k e f = fixed RightBracket b bs s s' rest rest' _ h k e f
-one_right_bracket _ b bs s s' rest rest' q h k e f = absurd (omega arith)
-
 dashed_second : (letter b : ℕ) (bs s rest more : List ℕ) → b ∷ s ≡ 45 ∷ 45 ∷ letter ∷ more → bs ≡ s ++ rest → bs ≡ 45 ∷ letter ∷ (more ++ rest)
 dashed_second letter b bs s rest more h e =
     let same : s ≡ 45 ∷ letter ∷ more = cc in
@@ -254,24 +212,6 @@ apart c d b bs s s' rest rest' more more' n h k e f =
     let whole = sym (dashed_second c b bs s rest more h e) ∙ dashed_second d b bs s' rest' more' k f in
     n (cons-head c d (more ++ rest) (more' ++ rest') (cons-tail 45 45 (c ∷ (more ++ rest)) (d ∷ (more' ++ rest')) whole))
 
-one_body : (u : Token) (b : ℕ) (bs s s' rest rest' : List ℕ) → 45 ≡ token_kind u → Spells Body (b ∷ s) → Spells u (b ∷ s') → bs ≡ s ++ rest → bs ≡ s' ++ rest' → IsSame Body u rest rest'
-one_body Body b bs s s' rest rest' q h k e f = fixed Body b bs s s' rest rest' _ h k e f
-one_body End b bs s s' rest rest' q h k e f = absurd (apart 66 69 b bs s s' rest rest' (codes "ODY--") (codes "ND--") (λ (w : 66 ≡ 69). omega arith) h k e f)
-one_body Abort b bs s s' rest rest' q h k e f = absurd (apart 66 65 b bs s s' rest rest' (codes "ODY--") (codes "BORT--") (λ (w : 66 ≡ 65). omega arith) h k e f)
-one_body _ b bs s s' rest rest' q h k e f = absurd (omega arith)
-
-one_end : (u : Token) (b : ℕ) (bs s s' rest rest' : List ℕ) → 45 ≡ token_kind u → Spells End (b ∷ s) → Spells u (b ∷ s') → bs ≡ s ++ rest → bs ≡ s' ++ rest' → IsSame End u rest rest'
-one_end Body b bs s s' rest rest' q h k e f = absurd (apart 69 66 b bs s s' rest rest' (codes "ND--") (codes "ODY--") (λ (w : 69 ≡ 66). omega arith) h k e f)
-one_end End b bs s s' rest rest' q h k e f = fixed End b bs s s' rest rest' _ h k e f
-one_end Abort b bs s s' rest rest' q h k e f = absurd (apart 69 65 b bs s s' rest rest' (codes "ND--") (codes "BORT--") (λ (w : 69 ≡ 65). omega arith) h k e f)
-one_end _ b bs s s' rest rest' q h k e f = absurd (omega arith)
-
-one_abort : (u : Token) (b : ℕ) (bs s s' rest rest' : List ℕ) → 45 ≡ token_kind u → Spells Abort (b ∷ s) → Spells u (b ∷ s') → bs ≡ s ++ rest → bs ≡ s' ++ rest' → IsSame Abort u rest rest'
-one_abort Body b bs s s' rest rest' q h k e f = absurd (apart 65 66 b bs s s' rest rest' (codes "BORT--") (codes "ODY--") (λ (w : 65 ≡ 66). omega arith) h k e f)
-one_abort End b bs s s' rest rest' q h k e f = absurd (apart 65 69 b bs s s' rest rest' (codes "BORT--") (codes "ND--") (λ (w : 65 ≡ 69). omega arith) h k e f)
-one_abort Abort b bs s s' rest rest' q h k e f = fixed Abort b bs s s' rest rest' _ h k e f
-one_abort _ b bs s s' rest rest' q h k e f = absurd (omega arith)
-
 one_front : (t u : Token) (b : ℕ) (bs s s' rest rest' : List ℕ) → token_kind t ≡ token_kind u → Spells t (b ∷ s) → Spells u (b ∷ s') → bs ≡ s ++ rest → bs ≡ s' ++ rest' → Ends t rest
     → Ends u rest' → IsSame t u rest rest'
 one_front (HeaderName name) u b bs s s' rest rest' q h k e f v w = one_header u b bs s s' rest rest' name q h k e f w
@@ -279,18 +219,25 @@ one_front (Identifier name) u b bs s s' rest rest' q h k e f v w = one_identifie
 one_front (Str text) u b bs s s' rest rest' q h k e f v w = one_string u b bs s s' rest rest' text q h k e f
 one_front (Int n) u b bs s s' rest rest' q h k e f v w = one_int u n b bs s s' rest rest' q h k e f v w
 one_front (Alias name) u b bs s s' rest rest' q h k e f v w = one_alias u b bs s s' rest rest' name q h k e f v w
-one_front Bang u b bs s s' rest rest' q h k e f v w = one_bang u b bs s s' rest rest' q h k e f
-one_front Amp u b bs s s' rest rest' q h k e f v w = one_amp u b bs s s' rest rest' q h k e f
-one_front Bar u b bs s s' rest rest' q h k e f v w = one_bar u b bs s s' rest rest' q h k e f
-one_front LeftParen u b bs s s' rest rest' q h k e f v w = one_left_paren u b bs s s' rest rest' q h k e f
-one_front RightParen u b bs s s' rest rest' q h k e f v w = one_right_paren u b bs s s' rest rest' q h k e f
-one_front LeftBrace u b bs s s' rest rest' q h k e f v w = one_left_brace u b bs s s' rest rest' q h k e f
-one_front RightBrace u b bs s s' rest rest' q h k e f v w = one_right_brace u b bs s s' rest rest' q h k e f
-one_front LeftBracket u b bs s s' rest rest' q h k e f v w = one_left_bracket u b bs s s' rest rest' q h k e f
-one_front RightBracket u b bs s s' rest rest' q h k e f v w = one_right_bracket u b bs s s' rest rest' q h k e f
-one_front Body u b bs s s' rest rest' q h k e f v w = one_body u b bs s s' rest rest' q h k e f
-one_front End u b bs s s' rest rest' q h k e f v w = one_end u b bs s s' rest rest' q h k e f
-one_front Abort u b bs s s' rest rest' q h k e f v w = one_abort u b bs s s' rest rest' q h k e f
+one_front Body Body b bs s s' rest rest' q h k e f v w = fixed Body b bs s s' rest rest' _ h k e f
+one_front Body End b bs s s' rest rest' q h k e f v w = absurd (apart 66 69 b bs s s' rest rest' (codes "ODY--") (codes "ND--") (λ (w : 66 ≡ 69). omega arith) h k e f)
+one_front Body Abort b bs s s' rest rest' q h k e f v w = absurd (apart 66 65 b bs s s' rest rest' (codes "ODY--") (codes "BORT--") (λ (w : 66 ≡ 65). omega arith) h k e f)
+one_front End Body b bs s s' rest rest' q h k e f v w = absurd (apart 69 66 b bs s s' rest rest' (codes "ND--") (codes "ODY--") (λ (w : 69 ≡ 66). omega arith) h k e f)
+one_front End End b bs s s' rest rest' q h k e f v w = fixed End b bs s s' rest rest' _ h k e f
+one_front End Abort b bs s s' rest rest' q h k e f v w = absurd (apart 69 65 b bs s s' rest rest' (codes "ND--") (codes "BORT--") (λ (w : 69 ≡ 65). omega arith) h k e f)
+one_front Abort Body b bs s s' rest rest' q h k e f v w = absurd (apart 65 66 b bs s s' rest rest' (codes "BORT--") (codes "ODY--") (λ (w : 65 ≡ 66). omega arith) h k e f)
+one_front Abort End b bs s s' rest rest' q h k e f v w = absurd (apart 65 69 b bs s s' rest rest' (codes "BORT--") (codes "ND--") (λ (w : 65 ≡ 69). omega arith) h k e f)
+one_front Abort Abort b bs s s' rest rest' q h k e f v w = fixed Abort b bs s s' rest rest' _ h k e f
+one_front Bang Bang b bs s s' rest rest' q h k e f v w = fixed Bang b bs s s' rest rest' _ h k e f
+one_front Amp Amp b bs s s' rest rest' q h k e f v w = fixed Amp b bs s s' rest rest' _ h k e f
+one_front Bar Bar b bs s s' rest rest' q h k e f v w = fixed Bar b bs s s' rest rest' _ h k e f
+one_front LeftParen LeftParen b bs s s' rest rest' q h k e f v w = fixed LeftParen b bs s s' rest rest' _ h k e f
+one_front RightParen RightParen b bs s s' rest rest' q h k e f v w = fixed RightParen b bs s s' rest rest' _ h k e f
+one_front LeftBrace LeftBrace b bs s s' rest rest' q h k e f v w = fixed LeftBrace b bs s s' rest rest' _ h k e f
+one_front RightBrace RightBrace b bs s s' rest rest' q h k e f v w = fixed RightBrace b bs s s' rest rest' _ h k e f
+one_front LeftBracket LeftBracket b bs s s' rest rest' q h k e f v w = fixed LeftBracket b bs s s' rest rest' _ h k e f
+one_front RightBracket RightBracket b bs s s' rest rest' q h k e f v w = fixed RightBracket b bs s s' rest rest' _ h k e f
+one_front _ _ b bs s s' rest rest' q h k e f v w = absurd (omega arith)
 
 same_front_at : (t u : Token) (bytes rest rest' : List ℕ) → IsFront bytes t rest → IsFront bytes u rest' → IsSame t u rest rest'
 same_front_at t u [] rest rest' f g = absurd (no_front (record { token = t; rest = rest; front = f }))

@@ -85,14 +85,15 @@ dash_end x e = subst (λ (w : List ℕ). IsOpenToken (45 ∷ w)) (sym e) (record
   begins = inr (record { more = codes "-END--"; front = end_front });
 })
 
+-- a read that fails behind bytes that close no token
+read_err : (front x z : List ℕ) (fault : LexFault) (h : Option ℕ) (offset : ℕ) → ((y : List ℕ) → x ≡ y → Pauses (front ++ x) y) → IsReadFault fault → h ≡ None → x ≡ z
+    → ReadsToken (Err fault) offset (front ++ x) (unread h z)
+read_err front x z Read h offset pauses r k e = pauses (unread h z) (e ∙ sym (unheld h z k))
+read_err front x z Bytes h offset pauses r k e = pauses (unread h z) (e ∙ sym (unheld h z k))
+read_err front x z _ h offset pauses r k e = absurd r
+
 pub dash_err : (fault : LexFault) (h : Option ℕ) (offset : ℕ) (x z : List ℕ) → IsReadFault fault → h ≡ None → x ≡ z → ReadsToken (Err fault) offset (45 ∷ x) (unread h z)
-dash_err Read h offset x z r k e = dash_pauses x (unread h z) (e ∙ sym (unheld h z k))
-dash_err Bytes h offset x z r k e = dash_pauses x (unread h z) (e ∙ sym (unheld h z k))
-dash_err (BadToken n) h offset x z r k e = absurd r
-dash_err OpenComment h offset x z r k e = absurd r
-dash_err OpenString h offset x z r k e = absurd r
-dash_err OpenToken h offset x z r k e = absurd r
-dash_err Memory h offset x z r k e = absurd r
+dash_err fault h offset x z r k e = read_err (45 ∷ []) x z fault h offset (dash_pauses x) r k e
 
 -- the second dash
 
@@ -145,13 +146,7 @@ dashes_end x e = subst (λ (w : List ℕ). IsOpenToken (45 ∷ 45 ∷ w)) (sym e
 })
 
 pub dashes_err : (fault : LexFault) (h : Option ℕ) (offset : ℕ) (x z : List ℕ) → IsReadFault fault → h ≡ None → x ≡ z → ReadsToken (Err fault) offset (45 ∷ 45 ∷ x) (unread h z)
-dashes_err Read h offset x z r k e = dashes_pauses x (unread h z) (e ∙ sym (unheld h z k))
-dashes_err Bytes h offset x z r k e = dashes_pauses x (unread h z) (e ∙ sym (unheld h z k))
-dashes_err (BadToken n) h offset x z r k e = absurd r
-dashes_err OpenComment h offset x z r k e = absurd r
-dashes_err OpenString h offset x z r k e = absurd r
-dashes_err OpenToken h offset x z r k e = absurd r
-dashes_err Memory h offset x z r k e = absurd r
+dashes_err fault h offset x z r k e = read_err (45 ∷ 45 ∷ []) x z fault h offset (dashes_pauses x) r k e
 
 -- the rest of the word
 

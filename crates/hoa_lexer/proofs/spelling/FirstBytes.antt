@@ -58,18 +58,7 @@ kind_spelled (Str text) b bs h = at_head _ _ _ _ h.2
 kind_spelled (Int n) b [] h = kind_digit b h.0
 kind_spelled (Int n) b (c ∷ bs) h = kind_digit b h.0.0
 kind_spelled (Alias name) b bs h = at_head _ _ _ _ h.1
-kind_spelled Bang b bs h = at_head _ _ _ _ h
-kind_spelled Amp b bs h = at_head _ _ _ _ h
-kind_spelled Bar b bs h = at_head _ _ _ _ h
-kind_spelled LeftParen b bs h = at_head _ _ _ _ h
-kind_spelled RightParen b bs h = at_head _ _ _ _ h
-kind_spelled LeftBrace b bs h = at_head _ _ _ _ h
-kind_spelled RightBrace b bs h = at_head _ _ _ _ h
-kind_spelled LeftBracket b bs h = at_head _ _ _ _ h
-kind_spelled RightBracket b bs h = at_head _ _ _ _ h
-kind_spelled Body b bs h = at_head _ _ _ _ h
-kind_spelled End b bs h = at_head _ _ _ _ h
-kind_spelled Abort b bs h = at_head _ _ _ _ h
+kind_spelled _ b bs h = at_head _ _ _ _ h
 
 pub spelled_some : (token : Token) → Spells token [] → ⊥
 spelled_some (HeaderName []) h = h.0
@@ -79,18 +68,7 @@ spelled_some (Identifier (n ∷ ns)) h = let e = h.1 in cc
 spelled_some (Str text) h = let e = h.2 in cc
 spelled_some (Int n) h = h.0
 spelled_some (Alias name) h = let e = h.1 in cc
-spelled_some Bang h = cc
-spelled_some Amp h = cc
-spelled_some Bar h = cc
-spelled_some LeftParen h = cc
-spelled_some RightParen h = cc
-spelled_some LeftBrace h = cc
-spelled_some RightBrace h = cc
-spelled_some LeftBracket h = cc
-spelled_some RightBracket h = cc
-spelled_some Body h = cc
-spelled_some End h = cc
-spelled_some Abort h = cc
+spelled_some _ h = cc
 
 -- the word of a front has the first byte
 pub record IsHead (b : ℕ) (bs : List ℕ) (token : Token) (rest : List ℕ) : Type 0 where
@@ -125,10 +103,6 @@ space_kind b h =
 
 low_kind : (token : Token) → 32 < token_kind token
 low_kind (HeaderName name) = omega arith
-low_kind (Identifier name) = omega arith
-low_kind (Str text) = omega arith
-low_kind (Int n) = omega arith
-low_kind (Alias name) = omega arith
 low_kind _ = omega arith
 
 -- a token's first byte is no space
@@ -140,7 +114,6 @@ no_space token b h s =
 -- nor `/`
 pub no_slash : (token : Token) → kind 47 ≡ token_kind token → ⊥
 no_slash (Str text) h = omega arith
-no_slash (Alias name) h = omega arith
 no_slash _ h = omega arith
 
 -- a byte of no kind begins no token
@@ -175,11 +148,6 @@ mark_front LeftBrace b x h = record { word = b ∷ []; split = refl; spells = ap
 mark_front RightBrace b x h = record { word = b ∷ []; split = refl; spells = ap (λ c. c ∷ []) h; ends = tt }
 mark_front LeftBracket b x h = record { word = b ∷ []; split = refl; spells = ap (λ c. c ∷ []) h; ends = tt }
 mark_front RightBracket b x h = record { word = b ∷ []; split = refl; spells = ap (λ c. c ∷ []) h; ends = tt }
-mark_front (HeaderName name) b x h = absurd h
-mark_front (Identifier name) b x h = absurd h
-mark_front (Str text) b x h = absurd h
-mark_front (Int n) b x h = absurd h
-mark_front (Alias name) b x h = absurd h
 mark_front _ b x h = absurd h
 
 -- the first byte is no space
