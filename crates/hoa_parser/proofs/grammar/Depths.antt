@@ -1,15 +1,12 @@
 -- Where more may be open, the same can stand.
-use Rattle.std.proofs.Common.{◌≡◌, ℕ, suc, ◌≤◌, Bool, true, false, cond, List, [], ◌∷◌, ◌++◌, Option, Some, None, refl, sym, ap, ◌∙◌, arith, leb}
+use Rattle.std.proofs.Common.{◌≡◌, ℕ, ◌≤◌, Bool, true, false, cond, List, [], ◌∷◌, ◌++◌, Option, Some, None, refl, sym, ap, ◌∙◌, arith, leb}
 use Rattle.std.proofs.lemmas.Bool.{leb-true}
 use Rattle.hoa_lexer.specs.declared.token.Token.{Token}
 use Rattle.hoa_parser.specs.inner.Expecting.{Part, Move, Takes, Passes, Refuses, after, after_some, behind, moved, move, open_at}
-use Rattle.hoa_parser.specs.Grammar.{Label, Lands, Lnots, Lnot, label, no_land, or_land, no_lnot, and_lnot, true_label, false_label, proposition}
-use Rattle.hoa_parser.specs.Grammar.{alias, negated, group, LabelWithin, LandsWithin, LnotsWithin, LnotWithin, Condition, Fands, Fatoms, Fatom}
-use Rattle.hoa_parser.specs.Grammar.{condition, no_fand, or_fand, no_fatom, and_fatom, true_condition, false_condition, infinitely, finitely}
-use Rattle.hoa_parser.specs.Grammar.{condition_group, ConditionWithin, FandsWithin, FatomsWithin, FatomWithin, ItemPhrase, alias_item}
-use Rattle.hoa_parser.specs.Grammar.{acceptance_item, states_item, start_item, names_item, acc_name_item, tool_item, name_item, properties_item}
-use Rattle.hoa_parser.specs.Grammar.{other_item, ItemWithin, OptionalWithin, EdgePhrase, StatePhrase, StateWithin, AutomatonPhrase, AutomatonWithin}
-use Rattle.hoa_parser.specs.Grammar.{IsViable}
+use Rattle.hoa_parser.specs.Grammar.{AutomatonPhrase, AutomatonWithin, EdgePhrase, IsViable, ItemPhrase, ItemWithin, Label, OptionalWithin, StatePhrase, StateWithin}
+use Rattle.hoa_parser.specs.Grammar.ItemPhrase.{acceptance_item, alias_item}
+use Rattle.hoa_parser.proofs.grammar.PlainConditions.{condition_laxer}
+use Rattle.hoa_parser.proofs.grammar.PlainDepths.{label_laxer}
 use Rattle.hoa_parser.proofs.grammar.AfterLabels.{opened}
 use Rattle.aut_base.proofs.lists.Lists.{none_some}
 use Rattle.aut_base.proofs.lists.AllByRecursion.{AllByRecursion-weaker}
@@ -42,60 +39,14 @@ after_more m n (t ∷ ts) ps left l e = step_more m n ps left t ts (behind m ps 
 
 -- what is written
 
-mutual
-  label_more : (m n depth : ℕ) (l : Label) → m ≤ n → LabelWithin m depth l → LabelWithin n depth l
-  label_more m n depth (label f fs ls) k w = (lnot_more m n depth f k w.0, lnots_more m n depth fs k w.1, lands_more m n depth ls k w.2)
-
-  lands_more : (m n depth : ℕ) (ls : Lands) → m ≤ n → LandsWithin m depth ls → LandsWithin n depth ls
-  lands_more m n depth no_land k w = tt
-  lands_more m n depth (or_land f fs ls) k w = (lnot_more m n depth f k w.0, lnots_more m n depth fs k w.1, lands_more m n depth ls k w.2)
-
-  lnots_more : (m n depth : ℕ) (fs : Lnots) → m ≤ n → LnotsWithin m depth fs → LnotsWithin n depth fs
-  lnots_more m n depth no_lnot k w = tt
-  lnots_more m n depth (and_lnot f fs) k w = (lnot_more m n depth f k w.0, lnots_more m n depth fs k w.1)
-
-  lnot_more : (m n depth : ℕ) (f : Lnot) → m ≤ n → LnotWithin m depth f → LnotWithin n depth f
-  lnot_more m n depth true_label k w = tt
-  lnot_more m n depth false_label k w = tt
-  lnot_more m n depth (proposition i) k w = tt
-  lnot_more m n depth (alias name) k w = tt
-  lnot_more m n depth (negated f) k w = (omega (arith, k, w.0), lnot_more m n (suc depth) f k w.1)
-  lnot_more m n depth (group l) k w = (omega (arith, k, w.0), label_more m n (suc depth) l k w.1)
-
-mutual
-  condition_more : (m n depth : ℕ) (l : Condition) → m ≤ n → ConditionWithin m depth l → ConditionWithin n depth l
-  condition_more m n depth (condition f fs ls) k w = (fatom_more m n depth f k w.0, fatoms_more m n depth fs k w.1, fands_more m n depth ls k w.2)
-
-  fands_more : (m n depth : ℕ) (ls : Fands) → m ≤ n → FandsWithin m depth ls → FandsWithin n depth ls
-  fands_more m n depth no_fand k w = tt
-  fands_more m n depth (or_fand f fs ls) k w = (fatom_more m n depth f k w.0, fatoms_more m n depth fs k w.1, fands_more m n depth ls k w.2)
-
-  fatoms_more : (m n depth : ℕ) (fs : Fatoms) → m ≤ n → FatomsWithin m depth fs → FatomsWithin n depth fs
-  fatoms_more m n depth no_fatom k w = tt
-  fatoms_more m n depth (and_fatom f fs) k w = (fatom_more m n depth f k w.0, fatoms_more m n depth fs k w.1)
-
-  fatom_more : (m n depth : ℕ) (f : Fatom) → m ≤ n → FatomWithin m depth f → FatomWithin n depth f
-  fatom_more m n depth true_condition k w = tt
-  fatom_more m n depth false_condition k w = tt
-  fatom_more m n depth (infinitely set neg) k w = tt
-  fatom_more m n depth (finitely set neg) k w = tt
-  fatom_more m n depth (condition_group l) k w = (omega (arith, k, w.0), condition_more m n (suc depth) l k w.1)
-
 item_more : (m n : ℕ) (i : ItemPhrase) → m ≤ n → ItemWithin m i → ItemWithin n i
-item_more m n (alias_item name l) k w = label_more m n 0 l k w
-item_more m n (acceptance_item count c) k w = condition_more m n 0 c k w
-item_more m n (states_item count) k w = tt
-item_more m n (start_item c) k w = tt
-item_more m n (names_item count names) k w = tt
-item_more m n (acc_name_item word values) k w = tt
-item_more m n (tool_item text other) k w = tt
-item_more m n (name_item text) k w = tt
-item_more m n (properties_item words) k w = tt
-item_more m n (other_item name is values) k w = tt
+item_more m n (alias_item name l) k w = label_laxer m n 0 0 l k (omega arith) w
+item_more m n (acceptance_item count c) k w = condition_laxer m n 0 0 c k (omega arith) w
+item_more m n _ k w = tt
 
 optional_more : (m n : ℕ) (l : Option Label) → m ≤ n → OptionalWithin m l → OptionalWithin n l
 optional_more m n None k w = tt
-optional_more m n (Some l) k w = label_more m n 0 l k w
+optional_more m n (Some l) k w = label_laxer m n 0 0 l k (omega arith) w
 
 state_more : (m n : ℕ) (s : StatePhrase) → m ≤ n → StateWithin m s → StateWithin n s
 state_more m n s k w = (

@@ -88,24 +88,17 @@ condition_spells (formula.Fin set neg) = append-nil (fatom_tokens (finitely set 
 condition_spells (formula.And t u ts) = and_line _ _ _ _ _ _ (fatom_spells t) (fatom_spells u) (fatoms_spells ts)
 condition_spells (formula.Or t u ts) = or_line _ _ _ _ _ _ _ _ (fand_spells t) (fand_spells u) (fands_spells ts)
 
--- what they mean
+-- what they mean, which is the same between `|` and alone as between `&`
+
+head_means : (t : FormulaTree) → all_of (fatom_meaning (plain_head t)) (fatoms_meaning (plain_tail t)) ≡ fatom_meaning (plain_fatom t)
+head_means formula.True = refl
+head_means _ = refl
 
 mutual
   fatom_means : (t : FormulaTree) → fatom_meaning (plain_fatom t) ≡ t
-  fatom_means formula.True = refl
-  fatom_means formula.False = refl
-  fatom_means (formula.Inf set neg) = refl
-  fatom_means (formula.Fin set neg) = refl
   fatom_means (formula.And t u ts) = ap₃ formula.And (fatom_means t) (fatom_means u) (fatoms_mean ts)
-  fatom_means (formula.Or t u ts) = ap₃ formula.Or (fand_means t) (fand_means u) (fands_mean ts)
-
-  fand_means : (t : FormulaTree) → all_of (fatom_meaning (plain_head t)) (fatoms_meaning (plain_tail t)) ≡ t
-  fand_means formula.True = refl
-  fand_means formula.False = refl
-  fand_means (formula.Inf set neg) = refl
-  fand_means (formula.Fin set neg) = refl
-  fand_means (formula.And t u ts) = ap₃ formula.And (fatom_means t) (fatom_means u) (fatoms_mean ts)
-  fand_means (formula.Or t u ts) = ap₃ formula.Or (fand_means t) (fand_means u) (fands_mean ts)
+  fatom_means (formula.Or t u ts) = ap₃ formula.Or (head_means t ∙ fatom_means t) (head_means u ∙ fatom_means u) (fands_mean ts)
+  fatom_means _ = refl
 
   fatoms_mean : (ts : FormulaTrees) → trees (fatoms_meaning (plain_fatoms ts)) ≡ ts
   fatoms_mean formula.none = refl
@@ -113,68 +106,51 @@ mutual
 
   fands_mean : (ts : FormulaTrees) → trees (fands_meaning (plain_fands ts)) ≡ ts
   fands_mean formula.none = refl
-  fands_mean (formula.more t ts) = ap₂ formula.more (fand_means t) (fands_mean ts)
+  fands_mean (formula.more t ts) = ap₂ formula.more (head_means t ∙ fatom_means t) (fands_mean ts)
 
 pub condition_means : (t : FormulaTree) → condition_meaning (plain_condition t) ≡ t
 condition_means formula.True = refl
-condition_means formula.False = refl
-condition_means (formula.Inf set neg) = refl
-condition_means (formula.Fin set neg) = refl
-condition_means (formula.And t u ts) = ap₃ formula.And (fatom_means t) (fatom_means u) (fatoms_mean ts)
-condition_means (formula.Or t u ts) = ap₃ formula.Or (fand_means t) (fand_means u) (fands_mean ts)
+condition_means t = fatom_means t
 
--- where fewer are open around it
+-- where more may be open, or fewer are open around it
 
 mutual
-  condition_less : (m d e : ℕ) (l : Condition) → e ≤ d → ConditionWithin m d l → ConditionWithin m e l
-  condition_less m d e (condition f fs ls) k h = (fatom_less m d e f k h.0, fatoms_less m d e fs k h.1, fands_less m d e ls k h.2)
+  pub condition_laxer : (m n d e : ℕ) (l : Condition) → m ≤ n → e ≤ d → ConditionWithin m d l → ConditionWithin n e l
+  condition_laxer m n d e (condition f fs ls) j k h = (fatom_laxer m n d e f j k h.0, fatoms_laxer m n d e fs j k h.1, fands_laxer m n d e ls j k h.2)
 
-  fands_less : (m d e : ℕ) (ls : Fands) → e ≤ d → FandsWithin m d ls → FandsWithin m e ls
-  fands_less m d e no_fand k h = tt
-  fands_less m d e (or_fand f fs ls) k h = (fatom_less m d e f k h.0, fatoms_less m d e fs k h.1, fands_less m d e ls k h.2)
+  fands_laxer : (m n d e : ℕ) (ls : Fands) → m ≤ n → e ≤ d → FandsWithin m d ls → FandsWithin n e ls
+  fands_laxer m n d e no_fand j k h = tt
+  fands_laxer m n d e (or_fand f fs ls) j k h = (fatom_laxer m n d e f j k h.0, fatoms_laxer m n d e fs j k h.1, fands_laxer m n d e ls j k h.2)
 
-  fatoms_less : (m d e : ℕ) (fs : Fatoms) → e ≤ d → FatomsWithin m d fs → FatomsWithin m e fs
-  fatoms_less m d e no_fatom k h = tt
-  fatoms_less m d e (and_fatom f fs) k h = (fatom_less m d e f k h.0, fatoms_less m d e fs k h.1)
+  fatoms_laxer : (m n d e : ℕ) (fs : Fatoms) → m ≤ n → e ≤ d → FatomsWithin m d fs → FatomsWithin n e fs
+  fatoms_laxer m n d e no_fatom j k h = tt
+  fatoms_laxer m n d e (and_fatom f fs) j k h = (fatom_laxer m n d e f j k h.0, fatoms_laxer m n d e fs j k h.1)
 
-  fatom_less : (m d e : ℕ) (f : Fatom) → e ≤ d → FatomWithin m d f → FatomWithin m e f
-  fatom_less m d e true_condition k h = tt
-  fatom_less m d e false_condition k h = tt
-  fatom_less m d e (infinitely set neg) k h = tt
-  fatom_less m d e (finitely set neg) k h = tt
-  fatom_less m d e (condition_group l) k h = (omega (arith, k, h.0), condition_less m (suc d) (suc e) l (omega (arith, k)) h.1)
+  fatom_laxer : (m n d e : ℕ) (f : Fatom) → m ≤ n → e ≤ d → FatomWithin m d f → FatomWithin n e f
+  fatom_laxer m n d e (condition_group l) j k h = (omega (arith, j, k, h.0), condition_laxer m n (suc d) (suc e) l j (omega (arith, k)) h.1)
+  fatom_laxer m n d e _ j k h = tt
 
 -- what is within between `&` is within alone, and between `|`
 
 alone_within : (m d : ℕ) (t : FormulaTree) → FatomWithin m d (plain_fatom t) → ConditionWithin m d (plain_condition t)
-alone_within m d formula.True h = (tt, tt, tt)
-alone_within m d formula.False h = (tt, tt, tt)
-alone_within m d (formula.Inf set neg) h = (tt, tt, tt)
-alone_within m d (formula.Fin set neg) h = (tt, tt, tt)
-alone_within m d (formula.And t u ts) h = condition_less m (suc d) d (plain_condition (formula.And t u ts)) (omega arith) h.1
-alone_within m d (formula.Or t u ts) h = condition_less m (suc d) d (plain_condition (formula.Or t u ts)) (omega arith) h.1
+alone_within m d (formula.And t u ts) h = condition_laxer m m (suc d) d (plain_condition (formula.And t u ts)) (omega arith) (omega arith) h.1
+alone_within m d (formula.Or t u ts) h = condition_laxer m m (suc d) d (plain_condition (formula.Or t u ts)) (omega arith) (omega arith) h.1
+alone_within m d _ h = (h, tt, tt)
 
 abbrev FandWithin : ℕ → ℕ → FormulaTree → Type 0
 FandWithin m d t = FatomWithin m d (plain_head t) × FatomsWithin m d (plain_tail t)
 
 fand_within : (m d : ℕ) (t : FormulaTree) → FatomWithin m d (plain_fatom t) → FandWithin m d t
-fand_within m d formula.True h = (tt, tt)
-fand_within m d formula.False h = (tt, tt)
-fand_within m d (formula.Inf set neg) h = (tt, tt)
-fand_within m d (formula.Fin set neg) h = (tt, tt)
 fand_within m d (formula.And t u ts) h =
-    let l = condition_less m (suc d) d (plain_condition (formula.And t u ts)) (omega arith) h.1 in
+    let l = condition_laxer m m (suc d) d (plain_condition (formula.And t u ts)) (omega arith) (omega arith) h.1 in
     (l.0, l.1)
-fand_within m d (formula.Or t u ts) h = (h, tt)
+fand_within m d _ h = (h, tt)
 
 -- what is within alone, behind one more `(`, is within between `&`
 grouped_within : (m d : ℕ) (t : FormulaTree) → suc d ≤ m → ConditionWithin m (suc d) (plain_condition t) → FatomWithin m d (plain_fatom t)
-grouped_within m d formula.True k h = tt
-grouped_within m d formula.False k h = tt
-grouped_within m d (formula.Inf set neg) k h = tt
-grouped_within m d (formula.Fin set neg) k h = tt
 grouped_within m d (formula.And t u ts) k h = (k, h)
 grouped_within m d (formula.Or t u ts) k h = (k, h)
+grouped_within m d _ k h = h.0
 
 -- the parts of a conjunction
 chain_within : (m d : ℕ) (f : Fatom) (fs : Fatoms) → FatomWithin m d (plain_fatom (fatom_meaning f)) → FatomsWithin m d (plain_fatoms (trees (fatoms_meaning fs)))
@@ -204,8 +180,5 @@ mutual
   fatoms_within m d (and_fatom f fs) h = (fatom_within m d f h.0, fatoms_within m d fs h.1)
 
   fatom_within : (m d : ℕ) (f : Fatom) → FatomWithin m d f → FatomWithin m d (plain_fatom (fatom_meaning f))
-  fatom_within m d true_condition h = tt
-  fatom_within m d false_condition h = tt
-  fatom_within m d (infinitely set neg) h = tt
-  fatom_within m d (finitely set neg) h = tt
   fatom_within m d (condition_group l) h = grouped_within m d (condition_meaning l) h.0 (condition_within m (suc d) l h.1)
+  fatom_within m d _ h = tt

@@ -4,67 +4,52 @@ use Rattle.hoa_parser.specs.Grammar.{Label, LabelWithin, Lands, LandsWithin, Lno
 use Rattle.hoa_parser.specs.Grammar.Label.{label}
 use Rattle.hoa_parser.specs.Grammar.Lands.{no_land, or_land}
 use Rattle.hoa_parser.specs.Grammar.Lnots.{no_lnot, and_lnot}
-use Rattle.hoa_parser.specs.Grammar.Lnot.{true_label, false_label, proposition, alias, negated, group}
+use Rattle.hoa_parser.specs.Grammar.Lnot.{negated, group}
 use Rattle.hoa_parser.specs.Raw as raw
 use Rattle.hoa_parser.specs.Raw.{RawTree, RawTrees, raw_trees}
 use Rattle.hoa_parser.proofs.grammar.PlainLabels.{plain_lnot, plain_first, plain_others, plain_lnots, plain_lands, plain_label}
 
--- where fewer are open around it
+-- where more may be open, or fewer are open around it
 
 mutual
-  label_less : (m d e : ℕ) (l : Label) → e ≤ d → LabelWithin m d l → LabelWithin m e l
-  label_less m d e (label f fs ls) k h = (lnot_less m d e f k h.0, lnots_less m d e fs k h.1, lands_less m d e ls k h.2)
+  pub label_laxer : (m n d e : ℕ) (l : Label) → m ≤ n → e ≤ d → LabelWithin m d l → LabelWithin n e l
+  label_laxer m n d e (label f fs ls) j k h = (lnot_laxer m n d e f j k h.0, lnots_laxer m n d e fs j k h.1, lands_laxer m n d e ls j k h.2)
 
-  lands_less : (m d e : ℕ) (ls : Lands) → e ≤ d → LandsWithin m d ls → LandsWithin m e ls
-  lands_less m d e no_land k h = tt
-  lands_less m d e (or_land f fs ls) k h = (lnot_less m d e f k h.0, lnots_less m d e fs k h.1, lands_less m d e ls k h.2)
+  lands_laxer : (m n d e : ℕ) (ls : Lands) → m ≤ n → e ≤ d → LandsWithin m d ls → LandsWithin n e ls
+  lands_laxer m n d e no_land j k h = tt
+  lands_laxer m n d e (or_land f fs ls) j k h = (lnot_laxer m n d e f j k h.0, lnots_laxer m n d e fs j k h.1, lands_laxer m n d e ls j k h.2)
 
-  lnots_less : (m d e : ℕ) (fs : Lnots) → e ≤ d → LnotsWithin m d fs → LnotsWithin m e fs
-  lnots_less m d e no_lnot k h = tt
-  lnots_less m d e (and_lnot f fs) k h = (lnot_less m d e f k h.0, lnots_less m d e fs k h.1)
+  lnots_laxer : (m n d e : ℕ) (fs : Lnots) → m ≤ n → e ≤ d → LnotsWithin m d fs → LnotsWithin n e fs
+  lnots_laxer m n d e no_lnot j k h = tt
+  lnots_laxer m n d e (and_lnot f fs) j k h = (lnot_laxer m n d e f j k h.0, lnots_laxer m n d e fs j k h.1)
 
-  lnot_less : (m d e : ℕ) (f : Lnot) → e ≤ d → LnotWithin m d f → LnotWithin m e f
-  lnot_less m d e true_label k h = tt
-  lnot_less m d e false_label k h = tt
-  lnot_less m d e (proposition i) k h = tt
-  lnot_less m d e (alias name) k h = tt
-  lnot_less m d e (negated f) k h = (omega (arith, k, h.0), lnot_less m (suc d) (suc e) f (omega (arith, k)) h.1)
-  lnot_less m d e (group l) k h = (omega (arith, k, h.0), label_less m (suc d) (suc e) l (omega (arith, k)) h.1)
+  lnot_laxer : (m n d e : ℕ) (f : Lnot) → m ≤ n → e ≤ d → LnotWithin m d f → LnotWithin n e f
+  lnot_laxer m n d e (negated f) j k h = (omega (arith, j, k, h.0), lnot_laxer m n (suc d) (suc e) f j (omega (arith, k)) h.1)
+  lnot_laxer m n d e (group l) j k h = (omega (arith, j, k, h.0), label_laxer m n (suc d) (suc e) l j (omega (arith, k)) h.1)
+  lnot_laxer m n d e _ j k h = tt
 
 -- what is within between `&` is within alone, and between `|`
 
 alone_within : (m d : ℕ) (t : RawTree) → LnotWithin m d (plain_lnot t) → LabelWithin m d (plain_label t)
-alone_within m d raw.True h = (tt, tt, tt)
-alone_within m d raw.False h = (tt, tt, tt)
-alone_within m d (raw.Prop i) h = (tt, tt, tt)
-alone_within m d (raw.Alias name) h = (tt, tt, tt)
-alone_within m d (raw.Not t) h = (h, tt, tt)
-alone_within m d (raw.And t u ts) h = label_less m (suc d) d (plain_label (raw.And t u ts)) (omega arith) h.1
-alone_within m d (raw.Or t u ts) h = label_less m (suc d) d (plain_label (raw.Or t u ts)) (omega arith) h.1
+alone_within m d (raw.And t u ts) h = label_laxer m m (suc d) d (plain_label (raw.And t u ts)) (omega arith) (omega arith) h.1
+alone_within m d (raw.Or t u ts) h = label_laxer m m (suc d) d (plain_label (raw.Or t u ts)) (omega arith) (omega arith) h.1
+alone_within m d _ h = (h, tt, tt)
 
 abbrev LandWithin : ℕ → ℕ → RawTree → Type 0
 LandWithin m d t = LnotWithin m d (plain_first t) × LnotsWithin m d (plain_others t)
 
 land_within : (m d : ℕ) (t : RawTree) → LnotWithin m d (plain_lnot t) → LandWithin m d t
-land_within m d raw.True h = (tt, tt)
-land_within m d raw.False h = (tt, tt)
-land_within m d (raw.Prop i) h = (tt, tt)
-land_within m d (raw.Alias name) h = (tt, tt)
-land_within m d (raw.Not t) h = (h, tt)
 land_within m d (raw.And t u ts) h =
-    let l = label_less m (suc d) d (plain_label (raw.And t u ts)) (omega arith) h.1 in
+    let l = label_laxer m m (suc d) d (plain_label (raw.And t u ts)) (omega arith) (omega arith) h.1 in
     (l.0, l.1)
-land_within m d (raw.Or t u ts) h = (h, tt)
+land_within m d _ h = (h, tt)
 
 -- what is within alone, behind one more `(`, is within between `&`
 grouped_within : (m d : ℕ) (t : RawTree) → suc d ≤ m → LabelWithin m (suc d) (plain_label t) → LnotWithin m d (plain_lnot t)
-grouped_within m d raw.True k h = tt
-grouped_within m d raw.False k h = tt
-grouped_within m d (raw.Prop i) k h = tt
-grouped_within m d (raw.Alias name) k h = tt
-grouped_within m d (raw.Not t) k h = lnot_less m (suc d) d (plain_lnot (raw.Not t)) (omega arith) h.0
+grouped_within m d (raw.Not t) k h = lnot_laxer m m (suc d) d (plain_lnot (raw.Not t)) (omega arith) (omega arith) h.0
 grouped_within m d (raw.And t u ts) k h = (k, h)
 grouped_within m d (raw.Or t u ts) k h = (k, h)
+grouped_within m d _ k h = h.0
 
 -- the parts of a conjunction
 chain_within : (m d : ℕ) (f : Lnot) (fs : Lnots) → LnotWithin m d (plain_lnot (lnot_meaning f)) → LnotsWithin m d (plain_lnots (raw_trees (lnots_meaning fs)))
@@ -94,9 +79,6 @@ mutual
   lnots_within m d (and_lnot f fs) h = (lnot_within m d f h.0, lnots_within m d fs h.1)
 
   lnot_within : (m d : ℕ) (f : Lnot) → LnotWithin m d f → LnotWithin m d (plain_lnot (lnot_meaning f))
-  lnot_within m d true_label h = tt
-  lnot_within m d false_label h = tt
-  lnot_within m d (proposition i) h = tt
-  lnot_within m d (alias name) h = tt
   lnot_within m d (negated f) h = (h.0, lnot_within m (suc d) f h.1)
   lnot_within m d (group l) h = grouped_within m d (label_meaning l) h.0 (plain_within m (suc d) l h.1)
+  lnot_within m d _ h = tt

@@ -105,26 +105,18 @@ label_spells (raw.Not t) = append-nil (Bang ∷ lnot_tokens (plain_lnot t)) ∙ 
 label_spells (raw.And t u ts) = and_line _ _ _ _ _ _ (lnot_spells t) (lnot_spells u) (lnots_spells ts)
 label_spells (raw.Or t u ts) = or_line _ _ _ _ _ _ _ _ (land_spells t) (land_spells u) (lands_spells ts)
 
--- what they mean
+-- what they mean, which is the same between `|` and alone as between `&`
+
+first_means : (t : RawTree) → conjunction (lnot_meaning (plain_first t)) (lnots_meaning (plain_others t)) ≡ lnot_meaning (plain_lnot t)
+first_means raw.True = refl
+first_means _ = refl
 
 mutual
   lnot_means : (t : RawTree) → lnot_meaning (plain_lnot t) ≡ t
-  lnot_means raw.True = refl
-  lnot_means raw.False = refl
-  lnot_means (raw.Prop i) = refl
-  lnot_means (raw.Alias name) = refl
   lnot_means (raw.Not t) = ap raw.Not (lnot_means t)
   lnot_means (raw.And t u ts) = ap₃ raw.And (lnot_means t) (lnot_means u) (lnots_mean ts)
-  lnot_means (raw.Or t u ts) = ap₃ raw.Or (land_means t) (land_means u) (lands_mean ts)
-
-  land_means : (t : RawTree) → conjunction (lnot_meaning (plain_first t)) (lnots_meaning (plain_others t)) ≡ t
-  land_means raw.True = refl
-  land_means raw.False = refl
-  land_means (raw.Prop i) = refl
-  land_means (raw.Alias name) = refl
-  land_means (raw.Not t) = ap raw.Not (lnot_means t)
-  land_means (raw.And t u ts) = ap₃ raw.And (lnot_means t) (lnot_means u) (lnots_mean ts)
-  land_means (raw.Or t u ts) = ap₃ raw.Or (land_means t) (land_means u) (lands_mean ts)
+  lnot_means (raw.Or t u ts) = ap₃ raw.Or (first_means t ∙ lnot_means t) (first_means u ∙ lnot_means u) (lands_mean ts)
+  lnot_means _ = refl
 
   lnots_mean : (ts : RawTrees) → raw_trees (lnots_meaning (plain_lnots ts)) ≡ ts
   lnots_mean raw.none = refl
@@ -132,13 +124,8 @@ mutual
 
   lands_mean : (ts : RawTrees) → raw_trees (lands_meaning (plain_lands ts)) ≡ ts
   lands_mean raw.none = refl
-  lands_mean (raw.more t ts) = ap₂ raw.more (land_means t) (lands_mean ts)
+  lands_mean (raw.more t ts) = ap₂ raw.more (first_means t ∙ lnot_means t) (lands_mean ts)
 
 pub label_means : (t : RawTree) → label_meaning (plain_label t) ≡ t
 label_means raw.True = refl
-label_means raw.False = refl
-label_means (raw.Prop i) = refl
-label_means (raw.Alias name) = refl
-label_means (raw.Not t) = ap raw.Not (lnot_means t)
-label_means (raw.And t u ts) = ap₃ raw.And (lnot_means t) (lnot_means u) (lnots_mean ts)
-label_means (raw.Or t u ts) = ap₃ raw.Or (land_means t) (land_means u) (lands_mean ts)
+label_means t = lnot_means t
