@@ -1,5 +1,5 @@
 -- A list of tokens spells at most one automaton, and nothing goes on behind one.
-use Rattle.std.proofs.Common.{◌≡◌, true, false, List, [], ◌∷◌, ◌++◌, map, flat_map, refl, sym, ◌∙◌, ap}
+use Rattle.std.proofs.Common.{◌≡◌, ℕ, Bool, true, false, List, [], ◌∷◌, ◌++◌, map, flat_map, refl, sym, ◌∙◌, ap}
 use Rattle.std.specs.Prelude.{codes}
 use Rattle.std.proofs.lemmas.List.{append_assoc, append-nil}
 use Rattle.hoa_lexer.specs.declared.token.Token.{Token}
@@ -11,19 +11,15 @@ use Rattle.hoa_parser.proofs.grammar.SameItems.{is_header, is_inner, item_begins
 use Rattle.hoa_parser.proofs.grammar.SameStates.{is_in_state, same_state}
 use Rattle.hoa_parser.proofs.grammar.Stops.{IsSame, first_token, later_tokens}
 
-header_not_inner : (t : Token) → is_header t ≡ true → is_inner t ≡ false
-header_not_inner (HeaderName name) e = refl
-header_not_inner _ e = cc
-
-header_not_in_state : (t : Token) → is_header t ≡ true → is_in_state t ≡ false
-header_not_in_state (HeaderName name) e = refl
-header_not_in_state _ e = cc
+header_no : (p : Token → Bool) → ((name : List ℕ) → p (HeaderName name) ≡ false) → (t : Token) → is_header t ≡ true → p t ≡ false
+header_no p header (HeaderName name) e = header name
+header_no p header _ e = cc
 
 same_items : IsClear (flat_map item_tokens) (map item_meaning) (either is_header is_inner)
-same_items = flat_clear item_tokens item_meaning is_inner is_header same_item item_begins header_not_inner
+same_items = flat_clear item_tokens item_meaning is_inner is_header same_item item_begins (header_no is_inner (λ n. refl))
 
 same_states : IsClear (flat_map state_tokens) (map state_meaning) (either is_header is_in_state)
-same_states = flat_clear state_tokens state_meaning is_in_state is_header same_state (λ s. refl) header_not_in_state
+same_states = flat_clear state_tokens state_meaning is_in_state is_header same_state (λ s. refl) (header_no is_in_state (λ n. refl))
 
 behind_items : (a : AutomatonPhrase) (c : List Token) → automaton_tokens a ++ c
     ≡ HeaderName (codes "HOA") ∷ Identifier a.version ∷ (flat_map item_tokens a.items ++ (Body ∷ (flat_map state_tokens a.states ++ (End ∷ c))))

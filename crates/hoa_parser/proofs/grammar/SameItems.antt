@@ -3,7 +3,7 @@ use Rattle.std.proofs.Common.{◌≡◌, ℕ, Bool, true, false, List, [], ◌�
 use Rattle.std.specs.Prelude.{codes}
 use Rattle.std.proofs.lemmas.List.{map-id}
 use Rattle.hoa_lexer.specs.declared.token.Token.{Token}
-use Rattle.hoa_lexer.specs.declared.token.Token.TheVariants.{HeaderName, Identifier, Str, Int, Alias, Amp, Bar, Body}
+use Rattle.hoa_lexer.specs.declared.token.Token.TheVariants.{HeaderName, Identifier, Str, Int, Alias, Amp, Body}
 use Rattle.hoa_parser.specs.Raw as raw
 use Rattle.hoa_parser.specs.Grammar.{AccValue, Conj, ItemPhrase, Value, acc_value_token, and_number, condition_tokens, conj_meaning, conj_tokens}
 use Rattle.hoa_parser.specs.Grammar.{header_of, item_meaning, item_tokens, label_tokens, optional_text, value_token}
@@ -12,7 +12,7 @@ use Rattle.hoa_parser.specs.Grammar.ItemPhrase.{states_item, start_item, names_i
 use Rattle.hoa_parser.specs.Grammar.Value.{number_value, text_value, word_value}
 use Rattle.hoa_parser.specs.declared.header.Header.{Header}
 use Rattle.hoa_parser.specs.declared.header.Header.TheVariants as header
-use Rattle.hoa_parser.proofs.grammar.ClearPhrases.{Begins, IsClear, map_clear, stops_less}
+use Rattle.hoa_parser.proofs.grammar.ClearPhrases.{Begins, IsClear, map_clear}
 use Rattle.hoa_parser.proofs.grammar.SameConditions.{same_condition}
 use Rattle.hoa_parser.proofs.grammar.SameLabels.{same_label}
 use Rattle.hoa_parser.proofs.grammar.Stops.{Stops, IsSame, is_amp, is_join, stops_not, first_token, later_tokens}
@@ -35,24 +35,12 @@ abbrev is_word : Token → Bool
 is_word (Identifier word) = true
 is_word _ = false
 
-inner_join : (t : Token) → is_inner t ≡ false → is_join t ≡ false
-inner_join (HeaderName name) e = refl
-inner_join Body e = refl
-inner_join Amp e = e
-inner_join Bar e = e
-inner_join _ e = refl
-
-inner_amp : (t : Token) → is_inner t ≡ false → is_amp t ≡ false
-inner_amp Amp e = e
-inner_amp _ e = refl
-
-inner_text : (t : Token) → is_inner t ≡ false → is_text t ≡ false
-inner_text (Str text) e = e
-inner_text _ e = refl
-
-inner_word : (t : Token) → is_inner t ≡ false → is_word t ≡ false
-inner_word (Identifier word) e = e
-inner_word _ e = refl
+-- behind an item stands the next one, the body, or nothing
+ends_item : (p : Token → Bool) (c : List Token) → ((name : List ℕ) → p (HeaderName name) ≡ false) → p Body ≡ false → Stops is_inner c → Stops p c
+ends_item p [] header body s = tt
+ends_item p (HeaderName name ∷ c) header body s = header name
+ends_item p (Body ∷ c) header body s = body
+ends_item p (_ ∷ c) header body s = cc
 
 -- INT ("&" INT)*
 same_others : (xs ys : List ℕ) (c d : List Token) → flat_map and_number xs ++ c ≡ flat_map and_number ys ++ d → Stops is_amp c → Stops is_amp d → IsSame xs ys c d
@@ -130,37 +118,33 @@ value_goes (word_value word) = refl
 one_item : (p q : ItemPhrase) (c d : List Token) → kind p ≡ kind q → item_tokens p ++ c ≡ item_tokens q ++ d → Stops is_inner c → Stops is_inner d → IsSame (item_meaning p) (item_meaning q) c d
 one_item (states_item m) (states_item n) c d h e s k = record { value = cc; rest = cc }
 one_item (start_item p) (start_item q) c d h e s k =
-    let a = same_conj p q c d (later_tokens _ _ _ _ e) (stops_less is_inner is_amp c inner_amp s) (stops_less is_inner is_amp d inner_amp k) in
+    let a = same_conj p q c d (later_tokens _ _ _ _ e) (ends_item is_amp c (λ n. refl) refl s) (ends_item is_amp d (λ n. refl) refl k) in
     record { value = ap raw.Start a.value; rest = a.rest }
 one_item (names_item m xs) (names_item n ys) c d h e s k =
     let f = later_tokens _ _ (Int m ∷ (map Str xs ++ c)) (Int n ∷ (map Str ys ++ d)) e in
-    let a = map_clear Str (λ x. x) is_text (λ x y w. cc) (λ x. refl) xs ys c d (later_tokens _ _ _ _ f) (stops_less is_inner is_text c inner_text s) (stops_less is_inner is_text d inner_text k) in
+    let a = map_clear Str (λ x. x) is_text (λ x y w. cc) (λ x. refl) xs ys c d (later_tokens _ _ _ _ f) (ends_item is_text c (λ n. refl) refl s) (ends_item is_text d (λ n. refl) refl k) in
     let count = first_token (Int m) (Int n) _ _ f in
     let names : xs ≡ ys = sym (map-id xs) ∙ a.value ∙ map-id ys in
     record { value = cc; rest = a.rest }
 one_item (alias_item a l) (alias_item b m) c d h e s k =
     let f = later_tokens _ _ (Alias a ∷ (label_tokens l ++ c)) (Alias b ∷ (label_tokens m ++ d)) e in
-    let x = same_label l m c d (later_tokens _ _ _ _ f) (stops_less is_inner is_join c inner_join s) (stops_less is_inner is_join d inner_join k) in
-    let name = first_token (Alias a) (Alias b) _ _ f in
-    let label = x.value in
-    record { value = cc; rest = x.rest }
+    let x = same_label l m c d (later_tokens _ _ _ _ f) (ends_item is_join c (λ n. refl) refl s) (ends_item is_join d (λ n. refl) refl k) in
+    record { value = cc (first_token (Alias a) (Alias b) _ _ f, x.value); rest = x.rest }
 one_item (acceptance_item m p) (acceptance_item n q) c d h e s k =
     let f = later_tokens _ _ (Int m ∷ (condition_tokens p ++ c)) (Int n ∷ (condition_tokens q ++ d)) e in
-    let x = same_condition p q c d (later_tokens _ _ _ _ f) (stops_less is_inner is_join c inner_join s) (stops_less is_inner is_join d inner_join k) in
-    let count = first_token (Int m) (Int n) _ _ f in
-    let condition = x.value in
-    record { value = cc; rest = x.rest }
+    let x = same_condition p q c d (later_tokens _ _ _ _ f) (ends_item is_join c (λ n. refl) refl s) (ends_item is_join d (λ n. refl) refl k) in
+    record { value = cc (first_token (Int m) (Int n) _ _ f, x.value); rest = x.rest }
 one_item (acc_name_item v xs) (acc_name_item w ys) c d h e s k =
     let f = later_tokens _ _ (Identifier v ∷ (map acc_value_token xs ++ c)) (Identifier w ∷ (map acc_value_token ys ++ d)) e in
     let a = map_clear {M = Unit {0}} acc_value_token (λ x. tt) is_inner (λ x y w. refl) acc_goes xs ys c d (later_tokens _ _ _ _ f) s k in
     record { value = refl; rest = a.rest }
 one_item (tool_item v x) (tool_item w y) c d h e s k =
     let f = later_tokens _ _ (Str v ∷ (optional_text x ++ c)) (Str w ∷ (optional_text y ++ d)) e in
-    record { value = refl; rest = same_text_end x y c d (later_tokens _ _ _ _ f) (stops_less is_inner is_text c inner_text s) (stops_less is_inner is_text d inner_text k) }
+    record { value = refl; rest = same_text_end x y c d (later_tokens _ _ _ _ f) (ends_item is_text c (λ n. refl) refl s) (ends_item is_text d (λ n. refl) refl k) }
 one_item (name_item v) (name_item w) c d h e s k = record { value = cc; rest = cc }
 one_item (properties_item xs) (properties_item ys) c d h e s k =
-    let a = map_clear Identifier (λ x. x) is_word (λ x y w. cc) (λ x. refl) xs ys c d (later_tokens _ _ _ _ e) (stops_less is_inner is_word c inner_word s)
-    (stops_less is_inner is_word d inner_word k) in
+    let a = map_clear Identifier (λ x. x) is_word (λ x y w. cc) (λ x. refl) xs ys c d (later_tokens _ _ _ _ e) (ends_item is_word c (λ n. refl) refl s)
+    (ends_item is_word d (λ n. refl) refl k) in
     let words : xs ≡ ys = sym (map-id xs) ∙ a.value ∙ map-id ys in
     record { value = ap raw.Properties words; rest = a.rest }
 one_item (other_item v is xs) (other_item w it ys) c d h e s k =
@@ -174,12 +158,4 @@ same_item p q c d e s k = one_item p q c d (one_kind p q c d e) e s k
 
 pub item_begins : (p : ItemPhrase) → Begins is_header (item_tokens p)
 item_begins (states_item n) = refl
-item_begins (start_item p) = refl
-item_begins (names_item n names) = refl
-item_begins (alias_item name l) = refl
-item_begins (acceptance_item n p) = refl
-item_begins (acc_name_item word values) = refl
-item_begins (tool_item text other) = refl
-item_begins (name_item text) = refl
-item_begins (properties_item words) = refl
-item_begins (other_item name is values) = refl
+item_begins _ = refl

@@ -4,7 +4,7 @@ use Rattle.std.specs.Prelude.{codes}
 use Rattle.std.specs.Option.{option_map}
 use Rattle.std.proofs.lemmas.List.{append_assoc, map-id}
 use Rattle.hoa_lexer.specs.declared.token.Token.{Token}
-use Rattle.hoa_lexer.specs.declared.token.Token.TheVariants.{HeaderName, Str, Int, Amp, LeftBrace, RightBrace, LeftBracket, RightBracket, End}
+use Rattle.hoa_lexer.specs.declared.token.Token.TheVariants.{HeaderName, Int, Amp, LeftBrace, RightBrace, LeftBracket, RightBracket, End}
 use Rattle.hoa_parser.specs.Grammar.{EdgePhrase, Label, StatePhrase, conj_tokens, edge_meaning, edge_tokens, label_meaning, label_tokens}
 use Rattle.hoa_parser.specs.Grammar.{marks_meaning, optional_label, optional_marks, optional_text, state_meaning, state_tokens}
 use Rattle.hoa_parser.proofs.grammar.ClearPhrases.{Begins, IsClear, either, flat_clear, flat_stops, map_clear, stops_less}
@@ -50,35 +50,17 @@ edge_brace : (t : Token) → is_in_edge t ≡ false → is_brace t ≡ false
 edge_brace LeftBrace e = e
 edge_brace _ e = refl
 
-opens_not_in : (t : Token) → opens_edge t ≡ true → is_in_edge t ≡ false
-opens_not_in Amp e = sym e
-opens_not_in LeftBrace e = sym e
-opens_not_in _ e = refl
+opens_no : (p : Token → Bool) → p LeftBracket ≡ false → ((n : ℕ) → p (Int n) ≡ false) → (t : Token) → opens_edge t ≡ true → p t ≡ false
+opens_no p bracket number LeftBracket e = bracket
+opens_no p bracket number (Int n) e = number n
+opens_no p bracket number _ e = cc
 
-opens_no_brace : (t : Token) → opens_edge t ≡ true → is_brace t ≡ false
-opens_no_brace LeftBrace e = sym e
-opens_no_brace _ e = refl
-
-opens_no_text : (t : Token) → opens_edge t ≡ true → is_text t ≡ false
-opens_no_text (Str text) e = sym e
-opens_no_text _ e = refl
-
-state_edges : (t : Token) → is_in_state t ≡ false → either opens_edge is_in_edge t ≡ false
-state_edges (HeaderName name) e = refl
-state_edges End e = refl
-state_edges LeftBracket e = e
-state_edges (Int n) e = e
-state_edges Amp e = e
-state_edges LeftBrace e = e
-state_edges _ e = refl
-
-state_brace : (t : Token) → is_in_state t ≡ false → is_brace t ≡ false
-state_brace LeftBrace e = e
-state_brace _ e = refl
-
-state_text : (t : Token) → is_in_state t ≡ false → is_text t ≡ false
-state_text (Str text) e = e
-state_text _ e = refl
+-- behind a state stands the next one, the end, or nothing
+ends_state : (p : Token → Bool) (c : List Token) → ((name : List ℕ) → p (HeaderName name) ≡ false) → p End ≡ false → Stops is_in_state c → Stops p c
+ends_state p [] header end s = tt
+ends_state p (HeaderName name ∷ c) header end s = header name
+ends_state p (End ∷ c) header end s = end
+ends_state p (_ ∷ c) header end s = cc
 
 -- ("[" label "]")?
 same_optional_label : (p q : Option Label) (c d : List Token) → optional_label p ++ c ≡ optional_label q ++ d → Stops is_bracket c → Stops is_bracket d
@@ -126,14 +108,14 @@ edge_begins : (e : EdgePhrase) → Begins opens_edge (edge_tokens e)
 edge_begins e = edge_begins_at e.label _ e.to.first
 
 same_edges : IsClear (flat_map edge_tokens) (map edge_meaning) (either opens_edge is_in_edge)
-same_edges = flat_clear edge_tokens edge_meaning is_in_edge opens_edge same_edge edge_begins opens_not_in
+same_edges = flat_clear edge_tokens edge_meaning is_in_edge opens_edge same_edge edge_begins (opens_no is_in_edge refl (λ n. refl))
 
 edges_no_text : (p : Option (List ℕ)) (es : List EdgePhrase) (c : List Token) → Stops is_in_state c → Stops is_text (optional_marks p ++ (flat_map edge_tokens es ++ c))
-edges_no_text None es c s = flat_stops edge_tokens is_text opens_edge edge_begins opens_no_text es c (stops_less is_in_state is_text c state_text s)
+edges_no_text None es c s = flat_stops edge_tokens is_text opens_edge edge_begins (opens_no is_text refl (λ n. refl)) es c (ends_state is_text c (λ n. refl) refl s)
 edges_no_text (Some ms) es c s = refl
 
 edges_no_brace : (es : List EdgePhrase) (c : List Token) → Stops is_in_state c → Stops is_brace (flat_map edge_tokens es ++ c)
-edges_no_brace es c s = flat_stops edge_tokens is_brace opens_edge edge_begins opens_no_brace es c (stops_less is_in_state is_brace c state_brace s)
+edges_no_brace es c s = flat_stops edge_tokens is_brace opens_edge edge_begins (opens_no is_brace refl (λ n. refl)) es c (ends_state is_brace c (λ n. refl) refl s)
 
 -- the tokens of a state, and what follows them, bracketed anew
 state_regroup : (s : StatePhrase) (c : List Token) → state_tokens s ++ c
@@ -148,7 +130,8 @@ same_state p q c d e s k =
     let number = first_token (Int p.number) (Int q.number) _ _ l.rest in
     let named = same_text_end p.name q.name _ _ (later_tokens (Int p.number) (Int q.number) _ _ l.rest) (edges_no_text p.marks p.edges c s) (edges_no_text q.marks q.edges d k) in
     let m = same_marks p.marks q.marks (flat_map edge_tokens p.edges ++ c) (flat_map edge_tokens q.edges ++ d) named (edges_no_brace p.edges c s) (edges_no_brace q.edges d k) in
-    let b = same_edges p.edges q.edges c d m.rest (stops_less is_in_state (either opens_edge is_in_edge) c state_edges s) (stops_less is_in_state (either opens_edge is_in_edge) d state_edges k) in
+    let b = same_edges p.edges q.edges c d m.rest (ends_state (either opens_edge is_in_edge) c (λ n. refl) refl s)
+    (ends_state (either opens_edge is_in_edge) d (λ n. refl) refl k) in
     let labels = l.value in
     let marks = m.value in
     let edges = b.value in
