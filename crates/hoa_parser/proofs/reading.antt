@@ -10,6 +10,7 @@ pub mod FrontParts
 pub mod ItemsRead
 pub mod LabelChains
 pub mod LabelReads
+pub mod Loops
 pub mod RuleParts
 pub mod Sets
 pub mod Steps

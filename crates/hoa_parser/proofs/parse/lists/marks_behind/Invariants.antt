@@ -1,14 +1,11 @@
-use Rattle.std.proofs.Common.{◌+◌, ◌-◌, [], ◌∷◌}
-use Rattle.hoa_lexer.specs.Reading.{held_count}
+use Rattle.hoa_parser.proofs.reading.Loops.{GoesOn, bytes_left}
 use Rattle.hoa_parser.specs.inner.Expecting as part
-use Rattle.hoa_parser.specs.inner.Parsing.{ReadsTo, state}
+use Rattle.hoa_parser.specs.inner.Parsing.{state}
 use Rattle.hoa_parser.proofs.grammar.Values.{AddsInts}
 use Rattle.hoa_parser.proofs.parse.lists.marks_behind.Given as goal
 
 abbrev pub invariant-marks : goal.invariant-marks
-invariant-marks g l =
-    ReadsTo (part.Marks ∷ []) (part.Marks ∷ []) (AddsInts l.fn.marks l.marks)
-    (state l.fn.lexer l.fn.ahead (g.I.Inputs.seen l.fn.inputs)) (state l.lexer l.ahead (g.I.Inputs.seen l.inputs))
+invariant-marks g l = GoesOn part.Marks (AddsInts l.fn.marks l.marks) (state l.fn.lexer l.fn.ahead (g.I.Inputs.seen l.fn.inputs)) (state l.lexer l.ahead (g.I.Inputs.seen l.inputs))
 
 abbrev pub decreases-marks : goal.decreases-marks
-decreases-marks g l = l.lexer.most + 1 - (l.lexer.taken - held_count l.lexer.held)
+decreases-marks g l = bytes_left l.lexer
