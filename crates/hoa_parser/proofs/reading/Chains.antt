@@ -11,35 +11,22 @@ use Rattle.hoa_parser.specs.inner.Chains.{Adds}
 use Rattle.hoa_parser.specs.inner.Expecting.{Part}
 use Rattle.hoa_parser.specs.inner.Parsing.{Cursor, IsWritten, ReadsTo, State}
 
--- A chain is none, or a part before a chain: what it has of tokens and of meaning is what its parts have.
-pub record IsChain {P C T : Type 0} (Within : P → Type 0) (tokens : P → List Token) (meaning : P → T) (AllWithin : C → Type 0) (all_tokens : C → List Token) (all_meaning : C → List T) : Type 0 where
-  pub none : C
-  pub none_within : AllWithin none
-  pub none_tokens : [] ≡ all_tokens none
-  pub none_meaning : [] ≡ all_meaning none
-  pub more : P → C → C
-  pub more_within : (p : P) (ps : C) → Within p → AllWithin ps → AllWithin (more p ps)
-  pub more_tokens : (p : P) (ps : C) → tokens p ++ all_tokens ps ≡ all_tokens (more p ps)
-  pub more_meaning : (p : P) (ps : C) → meaning p ∷ all_meaning ps ≡ all_meaning (more p ps)
+-- the chain of parts that have these tokens and these meanings
+pub record Chained {C T : Type 0} (AllWithin : C → Type 0) (all_tokens : C → List Token) (all_meaning : C → List T) (ts : List Token) (us : List T) : Type 0 where
+  pub chain : C
+  pub within : AllWithin chain
+  pub spelled : ts ≡ all_tokens chain
+  pub means : us ≡ all_meaning chain
 
--- the chain of these parts
-record Chained {C T : Type 0} (AllWithin : C → Type 0) (all_tokens : C → List Token) (all_meaning : C → List T) (ts : List Token) (us : List T) : Type 0 where
-  chain : C
-  within : AllWithin chain
-  spelled : ts ≡ all_tokens chain
-  means : us ≡ all_meaning chain
+-- A chain is none, or a part before a chain.
+pub record IsChain {P C T : Type 0} (Within : P → Type 0) (tokens : P → List Token) (meaning : P → T) (AllWithin : C → Type 0) (all_tokens : C → List Token) (all_meaning : C → List T) : Type 0 where
+  pub none : Chained AllWithin all_tokens all_meaning [] []
+  pub more : (p : P) (ts : List Token) (us : List T) → Within p → Chained AllWithin all_tokens all_meaning ts us → Chained AllWithin all_tokens all_meaning (tokens p ++ ts) (meaning p ∷ us)
 
 chained : {P C T : Type 0} {W : P → Type 0} {tokens : P → List Token} {meaning : P → T} {AllWithin : C → Type 0} {all_tokens : C → List Token} {all_meaning : C → List T}
     → IsChain W tokens meaning AllWithin all_tokens all_meaning → (ps : List P) → AllByRecursion W ps → Chained AllWithin all_tokens all_meaning (flat_map tokens ps) (map meaning ps)
-chained k [] h = record { chain = k.none; within = k.none_within; spelled = k.none_tokens; means = k.none_meaning }
-chained {tokens = tokens} {meaning = meaning} k (p ∷ ps) h =
-    let c = chained k ps h.1 in
-    record {
-      chain = k.more p c.chain;
-      within = k.more_within p c.chain h.0 c.within;
-      spelled = ap (λ ts. tokens p ++ ts) c.spelled ∙ k.more_tokens p c.chain;
-      means = ap (λ us. meaning p ∷ us) c.means ∙ k.more_meaning p c.chain;
-    }
+chained k [] h = k.none
+chained {tokens = tokens} {meaning = meaning} k (p ∷ ps) h = k.more p (flat_map tokens ps) (map meaning ps) h.0 (chained k ps h.1)
 
 -- all of the parts, as one
 pub chain_whole : {P C T : Type 0} {W : P → Type 0} {tokens : P → List Token} {meaning : P → T} {AllWithin : C → Type 0} {all_tokens : C → List Token} {all_meaning : C → List T}

@@ -1,7 +1,6 @@
 -- Chains of `&` and `|` in conditions, part by part.
-use Rattle.std.proofs.Common.{◌≡◌, ℕ, List, ◌∷◌, refl, ap, ◌∙◌}
+use Rattle.std.proofs.Common.{◌≡◌, ℕ, ◌∷◌, ◌++◌, refl, ap, ◌∙◌}
 use Rattle.std.proofs.lemmas.List.{append_assoc}
-use Rattle.hoa_lexer.specs.declared.token.Token.{Token}
 use Rattle.hoa_lexer.specs.declared.token.Token.TheVariants as token
 use Rattle.hoa_parser.proofs.reading.FrontParts.{passed_then, subst_tokens}
 use Rattle.hoa_parser.proofs.reading.Chains.{IsChain, chain_whole}
@@ -19,27 +18,24 @@ use Rattle.aut_base.specs.declared.formula.Formulas.{Formulas}
 -- what their chains are
 fatoms_chain : (depth : ℕ) → IsChain (FatomWithin most_depth depth) (λ f. token.Amp ∷ fatom_tokens f) fatom_meaning (FatomsWithin most_depth depth) fatoms_tokens fatoms_meaning
 fatoms_chain depth = record {
-  none = no_fatom;
-  none_within = tt;
-  none_tokens = refl;
-  none_meaning = refl;
-  more = and_fatom;
-  more_within = λ f fs h k. (h, k);
-  more_tokens =
-      λ f fs. refl;
-  more_meaning = λ f fs. refl;
+  none = record { chain = no_fatom; within = tt; spelled = refl; means = refl };
+  more = λ f ts us h c. record {
+    chain = and_fatom f c.chain;
+    within = (h, c.within);
+    spelled = ap (λ w. token.Amp ∷ (fatom_tokens f ++ w)) c.spelled;
+    means = ap (λ w. fatom_meaning f ∷ w) c.means;
+  };
 }
 
 fands_chain : (depth : ℕ) → IsChain (FandWithin depth) (λ p. token.Bar ∷ fand_tokens p) fand_meaning (FandsWithin most_depth depth) fands_tokens fands_meaning
 fands_chain depth = record {
-  none = no_fand;
-  none_within = tt;
-  none_tokens = refl;
-  none_meaning = refl;
-  more = λ p ls. or_fand p.first p.others ls;
-  more_within = λ p ls h k. (h.0, h.1, k);
-  more_tokens = λ p ls. ap (λ (ts : List Token). token.Bar ∷ ts) (append_assoc (fatom_tokens p.first) (fatoms_tokens p.others) (fands_tokens ls));
-  more_meaning = λ p ls. refl;
+  none = record { chain = no_fand; within = tt; spelled = refl; means = refl };
+  more = λ p ts us h c. record {
+    chain = or_fand p.first p.others c.chain;
+    within = (h.0, h.1, c.within);
+    spelled = ap (λ w. token.Bar ∷ (fand_tokens p ++ w)) c.spelled ∙ ap (λ w. token.Bar ∷ w) (append_assoc (fatom_tokens p.first) (fatoms_tokens p.others) (fands_tokens c.chain));
+    means = ap (λ w. fand_meaning p ∷ w) c.means;
+  };
 }
 
 -- all of the parts, as one condition

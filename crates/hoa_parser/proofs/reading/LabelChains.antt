@@ -1,7 +1,6 @@
 -- Chains of `&` and `|` in labels, part by part.
-use Rattle.std.proofs.Common.{◌≡◌, ℕ, List, ◌∷◌, refl, ap, ◌∙◌}
+use Rattle.std.proofs.Common.{◌≡◌, ℕ, ◌∷◌, ◌++◌, refl, ap, ◌∙◌}
 use Rattle.std.proofs.lemmas.List.{append_assoc}
-use Rattle.hoa_lexer.specs.declared.token.Token.{Token}
 use Rattle.hoa_lexer.specs.declared.token.Token.TheVariants as token
 use Rattle.hoa_parser.proofs.reading.FrontParts.{passed_then, subst_tokens}
 use Rattle.hoa_parser.proofs.reading.Chains.{IsChain, chain_whole}
@@ -19,27 +18,24 @@ use Rattle.hoa_parser.specs.declared.raw.RawLabels.{RawLabels}
 -- what their chains are
 lnots_chain : (depth : ℕ) → IsChain (LnotWithin most_depth depth) (λ f. token.Amp ∷ lnot_tokens f) lnot_meaning (LnotsWithin most_depth depth) lnots_tokens lnots_meaning
 lnots_chain depth = record {
-  none = no_lnot;
-  none_within = tt;
-  none_tokens = refl;
-  none_meaning = refl;
-  more = and_lnot;
-  more_within = λ f fs h k. (h, k);
-  more_tokens =
-      λ f fs. refl;
-  more_meaning = λ f fs. refl;
+  none = record { chain = no_lnot; within = tt; spelled = refl; means = refl };
+  more = λ f ts us h c. record {
+    chain = and_lnot f c.chain;
+    within = (h, c.within);
+    spelled = ap (λ w. token.Amp ∷ (lnot_tokens f ++ w)) c.spelled;
+    means = ap (λ w. lnot_meaning f ∷ w) c.means;
+  };
 }
 
 lands_chain : (depth : ℕ) → IsChain (LandWithin depth) (λ p. token.Bar ∷ land_tokens p) land_meaning (LandsWithin most_depth depth) lands_tokens lands_meaning
 lands_chain depth = record {
-  none = no_land;
-  none_within = tt;
-  none_tokens = refl;
-  none_meaning = refl;
-  more = λ p ls. or_land p.first p.others ls;
-  more_within = λ p ls h k. (h.0, h.1, k);
-  more_tokens = λ p ls. ap (λ (ts : List Token). token.Bar ∷ ts) (append_assoc (lnot_tokens p.first) (lnots_tokens p.others) (lands_tokens ls));
-  more_meaning = λ p ls. refl;
+  none = record { chain = no_land; within = tt; spelled = refl; means = refl };
+  more = λ p ts us h c. record {
+    chain = or_land p.first p.others c.chain;
+    within = (h.0, h.1, c.within);
+    spelled = ap (λ w. token.Bar ∷ (land_tokens p ++ w)) c.spelled ∙ ap (λ w. token.Bar ∷ w) (append_assoc (lnot_tokens p.first) (lnots_tokens p.others) (lands_tokens c.chain));
+    means = ap (λ w. land_meaning p ∷ w) c.means;
+  };
 }
 
 -- all of the parts, as one label
