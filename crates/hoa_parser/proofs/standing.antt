@@ -1,4 +1,5 @@
 -- What stands next in a text.
+pub mod Begun
 pub mod DeadEnds
 pub mod Halts
 pub mod Hopeless

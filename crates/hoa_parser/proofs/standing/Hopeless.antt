@@ -19,6 +19,7 @@ use Rattle.hoa_lexer.specs.declared.token.LexFault.TheVariants as lex
 use Rattle.hoa_lexer.specs.declared.token.Token.{Token}
 use Rattle.hoa_lexer.specs.declared.token.Token.TheVariants as token
 use Rattle.hoa_parser.proofs.reading.FrontParts.{refuses_behind}
+use Rattle.hoa_parser.proofs.standing.Begun.{bad_behind}
 use Rattle.hoa_parser.proofs.standing.DeadEnds.{dead}
 use Rattle.hoa_parser.proofs.standing.OpenEnds.{open_end_asks}
 use Rattle.hoa_parser.proofs.standing.Settled.{bad_is_hopeless, place_on}
@@ -28,7 +29,7 @@ use Rattle.hoa_parser.specs.inner.Expecting.{Part, move}
 use Rattle.hoa_parser.specs.inner.Faults.{read_fault}
 use Rattle.hoa_parser.specs.inner.Parsing.{Abandons, Cursor, Fails, FailsAt, Goes, Passed, Refuses, State, Unread, place}
 use Rattle.hoa_parser.specs.Reads.{AskedForLast, IsHopeless, Shows}
-use Rattle.hoa_parser.specs.Standing.{EndsOpen, IsBad, IsBegun, IsDead, IsMisplaced, IsNoTokenAt}
+use Rattle.hoa_parser.specs.Standing.{EndsOpen, IsBegun, IsDead, IsMisplaced, IsNoTokenAt}
 use Rattle.hoa_parser.specs.declared.fault.ReadFault.{ReadFault}
 use Rattle.hoa_parser.specs.declared.fault.ReadFault.TheVariants as fault
 use Rattle.hoa_parser.specs.declared.read.Front.{Front}
@@ -124,13 +125,7 @@ hopeless_so k start text left tokens used rest begun some why =
     let leaves = lexes_leaves begun.placed text start (rest ++ left) begun.lexes in
     let taken = leaves.before ++ rest in
     let split : text ≡ taken ++ left = leaves.split ∙ sym (append_assoc leaves.before rest left) in
-    let bad : IsBad start taken k = record {
-      tokens = tokens;
-      used = used;
-      rest = rest;
-      begun = begun_off start taken tokens used rest left some (subst (λ (w : List ℕ). IsBegun start w tokens used (rest ++ left)) split begun);
-      fault = why;
-    } in
+    let bad = bad_behind k (begun_off start taken tokens used rest left some (subst (λ (w : List ℕ). IsBegun start w tokens used (rest ++ left)) split begun)) why in
     record { used = taken; split = split; bad = bad; hopeless = λ more w behind whole. bad_is_hopeless start k taken more behind w bad whole }
 
 -- a token that cannot stand there

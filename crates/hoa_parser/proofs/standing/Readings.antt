@@ -26,6 +26,19 @@ lexes_shorter input start [] rest f = omega (arith, ap length f)
 lexes_shorter input start (t ∷ ts) rest f =
     omega (arith, next_shorter input start t.0 t.1 f.0 f.1, lexes_shorter f.0 (start + (length input - length f.0)) ts rest f.2)
 
+-- one token more
+pub lexes_more : (input : List ℕ) (start : ℕ) (ts : List (Token × ℕ)) (rest : List ℕ) (used : ℕ) (t : Token × ℕ) (next : List ℕ) → Lexes input start ts rest → length rest ≤ length input
+    → used ≡ start + (length input - length rest) → IsNext rest used t.0 t.1 next → Lexes input start (ts ++ t ∷ []) next
+lexes_more input start [] rest used t next l s e n = (
+  next,
+  subst (λ (m : ℕ). IsNext input m t.0 t.1 next) (let same : length input ≡ length rest = ap length l in omega (arith, same, e)) (subst (λ (w : List ℕ). IsNext w used t.0 t.1 next) (sym l) n),
+  refl,
+)
+lexes_more input start (u ∷ ts) rest used t next l s e n =
+    let first = next_shorter input start u.0 u.1 l.0 l.1 in
+    let others = lexes_shorter l.0 (start + (length input - length l.0)) ts rest l.2 in
+    (l.0, l.1, lexes_more l.0 (start + (length input - length l.0)) ts rest used t next l.2 others (omega (arith, first, others, e)) n)
+
 further_first : (t : Token × ℕ) (ps qs : List (Token × ℕ)) (used used' : ℕ) (rest : List ℕ) → used ≡ used' → IsFurther ps qs used rest → IsFurther (t ∷ ps) (t ∷ qs) used' rest
 further_first t ps qs used used' rest e f = record {
   token = f.token;

@@ -9,6 +9,7 @@ use Rattle.hoa_parser.specs.Raw.{Written}
 use Rattle.hoa_parser.specs.Standing.{IsAborted, IsBad, IsBegun, IsDeep, IsMisplaced, IsNoTokenAt, IsWhole}
 use Rattle.hoa_parser.specs.Standing.Standing.{Blank, Whole, Deep, Bad, Aborted, Cut}
 use Rattle.hoa_parser.specs.StandingLaws.{BadIsHopeless, SettledStays}
+use Rattle.hoa_parser.proofs.standing.Begun.{aborted_behind, bad_behind, deep_behind}
 use Rattle.hoa_parser.proofs.standing.OneStanding.{one_standing}
 
 pub front_on : (bytes rest more : List ℕ) (t : Token) → IsFront bytes t rest → IsFront (bytes ++ more) t (rest ++ more)
@@ -102,42 +103,19 @@ whole_on : (start : ℕ) (text more : List ℕ) (w : Written) (rest : List ℕ) 
 whole_on start text more w rest h = record { placed = h.placed; lexes = lexes_on text start h.placed rest more h.lexes; spells = h.spells }
 
 deep_on : (start : ℕ) (text more : List ℕ) → IsDeep start text → IsDeep start (text ++ more)
-deep_on start text more h = record {
-  tokens = h.tokens;
-  used = h.used;
-  rest = h.rest ++ more;
-  begun = begun_on start text h.tokens h.used h.rest more h.begun;
-  next_token = h.next_token;
-  offset = h.offset;
-  after = h.after ++ more;
-  next = next_on h.rest h.after more h.used h.offset h.next_token h.next;
-  most = h.most;
-  viable = h.viable;
-  too_deep = h.too_deep;
-}
+deep_on start text more h =
+    deep_behind h.most (begun_on start text h.tokens h.used h.rest more h.begun) (next_on h.rest h.after more h.used h.offset h.next_token h.next) h.viable h.too_deep
 
 bad_on : (start : ℕ) (text more : List ℕ) (k : ℕ) → IsBad start text k → IsBad start (text ++ more) k
-bad_on start text more k h = record {
-  tokens = h.tokens;
-  used = h.used;
-  rest = h.rest ++ more;
-  begun = begun_on start text h.tokens h.used h.rest more h.begun;
-  fault = elim h.fault [
-    | inl m ↦ inl (misplaced_on k h.tokens h.used h.rest more m)
-    | inr n ↦ inr (no_token_at_on k h.used h.rest more n)
-  ];
-}
+bad_on start text more k h =
+    bad_behind k (begun_on start text h.tokens h.used h.rest more h.begun) (elim h.fault [
+      | inl m ↦ inl (misplaced_on k h.tokens h.used h.rest more m)
+      | inr n ↦ inr (no_token_at_on k h.used h.rest more n)
+    ])
 
 aborted_on : (start : ℕ) (text after more : List ℕ) → IsAborted start text after → IsAborted start (text ++ more) (after ++ more)
-aborted_on start text after more h = record {
-  tokens = h.tokens;
-  used = h.used;
-  rest = h.rest ++ more;
-  begun = begun_on start text h.tokens h.used h.rest more h.begun;
-  some = h.some;
-  offset = h.offset;
-  next = next_on h.rest after more h.used h.offset _ h.next;
-}
+aborted_on start text after more h =
+    aborted_behind (begun_on start text h.tokens h.used h.rest more h.begun) h.some (next_on h.rest after more h.used h.offset _ h.next)
 
 pub settled_stays : SettledStays
 settled_stays Blank start text more i h = absurd i

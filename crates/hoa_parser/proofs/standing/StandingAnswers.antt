@@ -17,6 +17,7 @@ use Rattle.hoa_lexer.specs.declared.token.LexFault.TheVariants as lex
 use Rattle.hoa_lexer.specs.declared.token.Token.{Token}
 use Rattle.hoa_lexer.specs.declared.token.Token.TheVariants as token
 use Rattle.hoa_parser.proofs.reading.Automata.{opening}
+use Rattle.hoa_parser.proofs.standing.Begun.{aborted_behind, bad_behind, begun_with_tokens, cut_behind, deep_behind}
 use Rattle.hoa_parser.proofs.standing.DeadEnds.{after_next, dead, deep, nothing_unfinished, nothing_viable}
 use Rattle.hoa_parser.proofs.reading.FrontParts.{refuses_behind, unended_then}
 use Rattle.hoa_parser.proofs.standing.Readings.{next_shorter}
@@ -71,14 +72,7 @@ before start text a b target g starts =
     record {
       used = s.used;
       rest = s.rest;
-      begun = record {
-        placed = s.placed;
-        shown = s.shown;
-        lexes = s.lexes;
-        used_is = s.used_is;
-        viable = viable most_depth g.tokens (g.left ++ []) (g.leads.runs []);
-        unfinished = spells_nothing g.tokens g.unended;
-      };
+      begun = begun_with_tokens s.stand (viable most_depth g.tokens (g.left ++ []) (g.leads.runs [])) (spells_nothing g.tokens g.unended);
       next = s.next;
     }
 
@@ -87,15 +81,9 @@ pub begun_with : (f : ReadFault) (start : ℕ) (text : List ℕ) (a last : Curso
     → IsBegun start text (u.goes.tokens ++ u.b.token ∷ []) u.b.used u.b.rest
 begun_with f start text a last u starts =
     let g = u.goes in
-    let s = stand_with start text a u.b g.tokens starts.next starts.used g.passed in
-    record {
-      placed = s.placed;
-      shown = s.shown;
-      lexes = s.lexes;
-      used_is = s.used_is;
-      viable = viable most_depth (g.tokens ++ u.b.token ∷ []) (u.left ++ []) (after_next most_depth g.tokens (g.left ++ []) u.b.token (g.leads.runs []) ∙ g.over most_depth [] ∙ u.taken []);
-      unfinished = spells_nothing (g.tokens ++ u.b.token ∷ []) (unended_then g.tokens (u.b.token ∷ []) g.unended (u.unended, tt));
-    }
+    begun_with_tokens (stand_with start text a u.b g.tokens starts.next starts.used g.passed)
+    (viable most_depth (g.tokens ++ u.b.token ∷ []) (u.left ++ []) (after_next most_depth g.tokens (g.left ++ []) u.b.token (g.leads.runs []) ∙ g.over most_depth [] ∙ u.taken []))
+    (spells_nothing (g.tokens ++ u.b.token ∷ []) (unended_then g.tokens (u.b.token ∷ []) g.unended (u.unended, tt)))
 
 some_more : (ts : List Token) (z : Token) → ts ++ z ∷ [] ≢ []
 some_more [] z e = cc
@@ -112,52 +100,26 @@ misplaced : (start : ℕ) (text : List ℕ) (a b : Cursor) (k : ℕ) → Starts 
 misplaced start text a b k starts r at other =
     let g = r.goes in
     let s = before start text a b r.target g starts in
-    record {
-      tokens = g.tokens;
-      used = s.used;
-      rest = s.rest;
-      begun = s.begun;
-      fault = inl (record {
-        next_token = b.token;
-        after = b.rest;
-        next = subst (λ (n : ℕ). IsNext s.rest s.used b.token n b.rest) (sym at) s.next;
-        dead = dead g.tokens (g.left ++ []) b.token (g.leads.runs []) (λ most. g.over most [] ∙ r.refused most []);
-        no_abort = λ some. other;
-      });
-    }
+    bad_behind k s.begun (inl (record {
+      next_token = b.token;
+      after = b.rest;
+      next = subst (λ (n : ℕ). IsNext s.rest s.used b.token n b.rest) (sym at) s.next;
+      dead = dead g.tokens (g.left ++ []) b.token (g.leads.runs []) (λ most. g.over most [] ∙ r.refused most []);
+      no_abort = λ some. other;
+    }))
 
 aborted : (start : ℕ) (text : List ℕ) (a b : Cursor) → Starts start text a → a.token ≡ opening → Refuses (part.Whole ∷ []) a b → b.token ≡ token.Abort → IsAborted start text b.rest
 aborted start text a b starts is r abort =
     let g = r.goes in
     let s = before start text a b r.target g starts in
-    record {
-      tokens = g.tokens;
-      used = s.used;
-      rest = s.rest;
-      begun = s.begun;
-      some = some_before a b g.tokens g.passed is abort;
-      offset = b.offset;
-      next = subst (λ (z : Token). IsNext s.rest s.used z b.offset b.rest) abort s.next;
-    }
+    aborted_behind s.begun (some_before a b g.tokens g.passed is abort) (subst (λ (z : Token). IsNext s.rest s.used z b.offset b.rest) abort s.next)
 
 too_deep : (start : ℕ) (text : List ℕ) (a b : Cursor) → Starts start text a → TooDeep (part.Whole ∷ []) a b → IsDeep start text
 too_deep start text a b starts d =
     let g = d.goes in
     let s = before start text a b d.target g starts in
     let both = deep d.most g.tokens (g.left ++ []) (d.left ++ []) b.token (g.leads.runs []) (g.over most_depth [] ∙ d.refused []) (g.over d.most [] ∙ d.taken []) d.more in
-    record {
-      tokens = g.tokens;
-      used = s.used;
-      rest = s.rest;
-      begun = s.begun;
-      next_token = b.token;
-      offset = b.offset;
-      after = b.rest;
-      next = s.next;
-      most = d.most;
-      viable = both.0;
-      too_deep = both.1;
-    }
+    deep_behind d.most s.begun s.next both.0 both.1
 
 ends_so : (tokens : List Token) (rest : List ℕ) → tokens ≢ [] → IsBlanks rest ⊎ EndsOpen rest → (tokens ≢ []) × IsBlanks rest ⊎ EndsOpen rest
 ends_so tokens rest some (inl h) = inl (some, h)
@@ -165,15 +127,9 @@ ends_so tokens rest some (inr h) = inr h
 
 -- why the lexer gave no other token
 answers_unread : (f : ReadFault) (start : ℕ) (text : List ℕ) (a last : Cursor) → Starts start text a → Unread f (part.Whole ∷ []) a last → Answers (Err f) start text last.rest
-answers_unread (fault.Syntax k) start text a last starts u =
-    record { tokens = u.goes.tokens ++ u.b.token ∷ []; used = u.b.used; rest = u.b.rest; begun = begun_with _ start text a last u starts; fault = inr u.bytes.0 }
-answers_unread fault.Truncated start text a last starts u = record {
-  tokens = u.goes.tokens ++ u.b.token ∷ [];
-  used = u.b.used;
-  rest = u.b.rest;
-  begun = begun_with _ start text a last u starts;
-  ends = ends_so (u.goes.tokens ++ u.b.token ∷ []) u.b.rest (some_more u.goes.tokens u.b.token) u.bytes.0;
-}
+answers_unread (fault.Syntax k) start text a last starts u = bad_behind k (begun_with _ start text a last u starts) (inr u.bytes.0)
+answers_unread fault.Truncated start text a last starts u =
+    cut_behind (begun_with _ start text a last u starts) (ends_so (u.goes.tokens ++ u.b.token ∷ []) u.b.rest (some_more u.goes.tokens u.b.token) u.bytes.0)
 answers_unread fault.Depth start text a last starts u = absurd u.bytes
 answers_unread fault.Bytes start text a last starts u =
     record { tokens = u.goes.tokens ++ u.b.token ∷ []; used = u.b.used; rest = u.b.rest; begun = begun_with _ start text a last u starts; asks = u.bytes }
@@ -224,26 +180,21 @@ answers_whole raw start text a b starts is =
 
 -- an automaton begins with no other token
 pub answers_other : (start : ℕ) (text : List ℕ) (z : Token) (k : ℕ) (new : List ℕ) → IsNext text start z k new → move part.Whole z ≡ part.Refuses → IsBad start text k
-answers_other start text z k new next other = record {
-  tokens = [];
-  used = start;
-  rest = text;
-  begun = nothing_begun start text;
-  fault = inl (record {
-    next_token = z;
-    after = new;
-    next = next;
-    dead = dead [] (part.Whole ∷ []) z refl (λ most. refuses_behind most part.Whole [] z other);
-    no_abort = λ some. absurd (some refl);
-  });
-}
+answers_other start text z k new next other =
+    bad_behind k (nothing_begun start text) (inl (record {
+      next_token = z;
+      after = new;
+      next = next;
+      dead = dead [] (part.Whole ∷ []) z refl (λ most. refuses_behind most part.Whole [] z other);
+      no_abort = λ some. absurd (some refl);
+    }))
 
 -- no token was there
 pub answers_lexing : (f : LexFault) (start offset : ℕ) (old new : List ℕ) → lexing.Answers (Err f) start offset old new → Answers (Err (read_fault f)) start old new
-answers_lexing (lex.BadToken k) start offset old new h = record { tokens = []; used = start; rest = old; begun = nothing_begun start old; fault = inr h.0 }
-answers_lexing lex.OpenComment start offset old new h = record { tokens = []; used = start; rest = old; begun = nothing_begun start old; ends = inr (inl h.0) }
-answers_lexing lex.OpenString start offset old new h = record { tokens = []; used = start; rest = old; begun = nothing_begun start old; ends = inr (inr (inl h.0)) }
-answers_lexing lex.OpenToken start offset old new h = record { tokens = []; used = start; rest = old; begun = nothing_begun start old; ends = inr (inr (inr h.0)) }
+answers_lexing (lex.BadToken k) start offset old new h = bad_behind k (nothing_begun start old) (inr h.0)
+answers_lexing lex.OpenComment start offset old new h = cut_behind (nothing_begun start old) (inr (inl h.0))
+answers_lexing lex.OpenString start offset old new h = cut_behind (nothing_begun start old) (inr (inr (inl h.0)))
+answers_lexing lex.OpenToken start offset old new h = cut_behind (nothing_begun start old) (inr (inr (inr h.0)))
 answers_lexing lex.Read start offset old new h = record { tokens = []; used = start; rest = old; begun = nothing_begun start old; asks = h }
 answers_lexing lex.Bytes start offset old new h = record { tokens = []; used = start; rest = old; begun = nothing_begun start old; asks = h }
 answers_lexing lex.Memory start offset old new h = record { tokens = []; used = start; rest = old; begun = nothing_begun start old; behind = inl h }
