@@ -99,30 +99,11 @@ other_read name done a b p = record {
 pub header_takes : (h : Header) → h ≢ header.Opening → h ≢ header.State → header_move h ≡ Takes (header_parts h ++ Items ∷ [])
 header_takes header.Opening no_opening no_state = absurd (no_opening refl)
 header_takes header.State no_opening no_state = absurd (no_state refl)
-header_takes header.States no_opening no_state = refl
-header_takes header.Start no_opening no_state = refl
-header_takes header.Ap no_opening no_state = refl
-header_takes header.Alias no_opening no_state = refl
-header_takes header.Acceptance no_opening no_state = refl
-header_takes header.AccName no_opening no_state = refl
-header_takes header.Tool no_opening no_state = refl
-header_takes header.Name no_opening no_state = refl
-header_takes header.Properties no_opening no_state = refl
-header_takes header.Other no_opening no_state = refl
+header_takes _ no_opening no_state = refl
 
 pub header_opens : (h : Header) → nat_le (open_at (header_parts h ++ Items ∷ [])) most_depth ≡ true
 header_opens header.Opening = refl
-header_opens header.State = refl
-header_opens header.States = refl
-header_opens header.Start = refl
-header_opens header.Ap = refl
-header_opens header.Alias = refl
-header_opens header.Acceptance = refl
-header_opens header.AccName = refl
-header_opens header.Tool = refl
-header_opens header.Name = refl
-header_opens header.Properties = refl
-header_opens header.Other = refl
+header_opens _ = refl
 
 pub no_item : (h : Header) → (h ≡ header.Opening) ⊎ (h ≡ header.State) → header_move h ≡ expecting.Refuses
 no_item h (inl e) = ap header_move e

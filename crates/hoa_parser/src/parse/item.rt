@@ -111,93 +111,38 @@ fn known_item<I: Inputs>(
     match header {
         Header::States => Ok(Item::States(number(alloc, lexer, inputs, ahead)?)),
         Header::Start => Ok(Item::Start(conj(alloc, lexer, inputs, ahead)?)),
-        Header::Ap => names(alloc, lexer, inputs, ahead),
-        Header::Alias => alias(alloc, lexer, inputs, ahead),
-        Header::Acceptance => acceptance(alloc, lexer, inputs, ahead),
-        Header::AccName => acc_name(alloc, lexer, inputs, ahead),
-        Header::Tool => tool(alloc, lexer, inputs, ahead),
+        // INT STRING*
+        Header::Ap => {
+            let count = number(alloc, lexer, inputs, ahead)?;
+            let names = strings(alloc, lexer, inputs, ahead)?;
+            Ok(Item::Ap { count, names })
+        }
+        // ANAME label
+        Header::Alias => {
+            let name = alias_name(alloc, lexer, inputs, ahead)?;
+            let label = label(alloc, lexer, inputs, ahead, 0)?;
+            Ok(Item::Alias { name, label })
+        }
+        // INT formula
+        Header::Acceptance => {
+            let sets = number(alloc, lexer, inputs, ahead)?;
+            let formula = condition(alloc, lexer, inputs, ahead, 0)?;
+            Ok(Item::Acceptance { sets, formula })
+        }
+        // IDENTIFIER (INT | IDENTIFIER)*
+        Header::AccName => {
+            word(alloc, lexer, inputs, ahead)?;
+            acc_values(alloc, lexer, inputs, ahead)?;
+            Ok(Item::AccName)
+        }
+        // STRING STRING?
+        Header::Tool => {
+            quoted(alloc, lexer, inputs, ahead)?;
+            maybe_quoted(alloc, lexer, inputs, ahead)?;
+            Ok(Item::Tool)
+        }
         Header::Name => Ok(Item::Name(quoted(alloc, lexer, inputs, ahead)?)),
         Header::Properties => Ok(Item::Properties(words(alloc, lexer, inputs, ahead)?)),
         Header::Other | Header::Opening | Header::State => unreachable!(),
     }
-}
-
-/// "AP:" INT STRING*
-fn names<I: Inputs>(
-    alloc: Global,
-    lexer: &mut Lexer,
-    inputs: &mut I,
-    ahead: &mut Token,
-) -> Result<Item, ReadFault>
-    requires unspent { lexer.old.spent ≡ false }
-    ensures reads { Reads (header_parts Header.Ap) [] (IsItemWritten Header.Ap) result
-        (state lexer.old ahead.old (I.seen inputs.old)) (state lexer.new ahead.new (I.seen inputs.new)) }
-{
-    let count = number(alloc, lexer, inputs, ahead)?;
-    let names = strings(alloc, lexer, inputs, ahead)?;
-    Ok(Item::Ap { count, names })
-}
-
-/// "Alias:" ANAME label
-fn alias<I: Inputs>(
-    alloc: Global,
-    lexer: &mut Lexer,
-    inputs: &mut I,
-    ahead: &mut Token,
-) -> Result<Item, ReadFault>
-    requires unspent { lexer.old.spent ≡ false }
-    ensures reads { Reads (header_parts Header.Alias) [] (IsItemWritten Header.Alias) result
-        (state lexer.old ahead.old (I.seen inputs.old)) (state lexer.new ahead.new (I.seen inputs.new)) }
-{
-    let name = alias_name(alloc, lexer, inputs, ahead)?;
-    let label = label(alloc, lexer, inputs, ahead, 0)?;
-    Ok(Item::Alias { name, label })
-}
-
-/// "Acceptance:" INT formula
-fn acceptance<I: Inputs>(
-    alloc: Global,
-    lexer: &mut Lexer,
-    inputs: &mut I,
-    ahead: &mut Token,
-) -> Result<Item, ReadFault>
-    requires unspent { lexer.old.spent ≡ false }
-    ensures reads { Reads (header_parts Header.Acceptance) [] (IsItemWritten Header.Acceptance) result
-        (state lexer.old ahead.old (I.seen inputs.old)) (state lexer.new ahead.new (I.seen inputs.new)) }
-{
-    let sets = number(alloc, lexer, inputs, ahead)?;
-    let formula = condition(alloc, lexer, inputs, ahead, 0)?;
-    Ok(Item::Acceptance { sets, formula })
-}
-
-/// "acc-name:" IDENTIFIER (INT | IDENTIFIER)*
-fn acc_name<I: Inputs>(
-    alloc: Global,
-    lexer: &mut Lexer,
-    inputs: &mut I,
-    ahead: &mut Token,
-) -> Result<Item, ReadFault>
-    requires unspent { lexer.old.spent ≡ false }
-    ensures reads { Reads (header_parts Header.AccName) [] (IsItemWritten Header.AccName) result
-        (state lexer.old ahead.old (I.seen inputs.old)) (state lexer.new ahead.new (I.seen inputs.new)) }
-{
-    word(alloc, lexer, inputs, ahead)?;
-    acc_values(alloc, lexer, inputs, ahead)?;
-    Ok(Item::AccName)
-}
-
-/// "tool:" STRING STRING?
-fn tool<I: Inputs>(
-    alloc: Global,
-    lexer: &mut Lexer,
-    inputs: &mut I,
-    ahead: &mut Token,
-) -> Result<Item, ReadFault>
-    requires unspent { lexer.old.spent ≡ false }
-    ensures reads { Reads (header_parts Header.Tool) [] (IsItemWritten Header.Tool) result
-        (state lexer.old ahead.old (I.seen inputs.old)) (state lexer.new ahead.new (I.seen inputs.new)) }
-{
-    quoted(alloc, lexer, inputs, ahead)?;
-    maybe_quoted(alloc, lexer, inputs, ahead)?;
-    Ok(Item::Tool)
 }
