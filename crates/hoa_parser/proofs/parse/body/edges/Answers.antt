@@ -4,7 +4,7 @@ use Rattle.hoa_parser.specs.inner.Expecting as part
 use Rattle.hoa_parser.specs.Grammar.{OptionalWithin, edge_meaning, edge_tokens}
 use Rattle.hoa_parser.specs.Raw.{written_edge}
 use Rattle.hoa_parser.specs.Standing.{most_depth}
-use Rattle.hoa_parser.proofs.grammar.OtherTokens.{past_edges}
+use Rattle.hoa_parser.proofs.grammar.OtherTokens.{other}
 use Rattle.hoa_parser.proofs.parse.body.edges.Goals as goal
 
 pub edges-init : goal.edges-init
@@ -20,4 +20,4 @@ pub returns-in_err-push_edge : goal.returns-in_err-push_edge
 returns-in_err-push_edge g c = record { reads = handed_on _ _ _ c.from_residual-in_err-push_edge.ensures.1 (no_memory (reads_then c.edges.invariant c.in_ok-edge.ensures.reads)) }
 
 pub returns-in_default : goal.returns-in_default
-returns-in_default g c = record { reads = reads_end part.Edges (past_edges _ c.in_default.not-LeftBracket c.in_default.not-Int) c.edges.invariant }
+returns-in_default g c = record { reads = reads_end part.Edges (other part.Edges _ (c.in_default.not-LeftBracket, c.in_default.not-Int)) c.edges.invariant }

@@ -1,6 +1,6 @@
 use Rattle.std.proofs.Common.{[], None, refl}
 use Rattle.hoa_lexer.specs.declared.token.Token.TheVariants as token
-use Rattle.hoa_parser.proofs.grammar.OtherTokens.{past_label}
+use Rattle.hoa_parser.proofs.grammar.OtherTokens.{other}
 use Rattle.hoa_parser.proofs.reading.Bodies.{bracketed}
 use Rattle.hoa_parser.proofs.reading.Steps.{handed_on, next_fails, next_reads, reads_as, takes, takes_last, token_passed}
 use Rattle.hoa_parser.specs.inner.Expecting.{MaybeLabel}
@@ -9,7 +9,7 @@ use Rattle.hoa_parser.proofs.parse.body.maybe_label.Goals as goal
 
 pub returns-in_default : goal.returns-in_default
 returns-in_default g c = record {
-  reads = token_passed MaybeLabel (IsMaybeLabel None) _ c.requires.unspent (past_label _ c.in_default.not-LeftBracket)
+  reads = token_passed MaybeLabel (IsMaybeLabel None) _ c.requires.unspent (other MaybeLabel _ c.in_default.not-LeftBracket)
       (λ a. record { phrase = None; within = tt; passed = refl; means = refl });
 }
 

@@ -1,12 +1,12 @@
 use Rattle.std.proofs.Common.{[], refl, sym}
-use Rattle.hoa_parser.proofs.grammar.OtherTokens.{no_states}
+use Rattle.hoa_parser.proofs.grammar.OtherTokens.{other}
 use Rattle.hoa_parser.proofs.reading.Bodies.{is_state_name, no_state_name, state_is, state_name}
 use Rattle.hoa_parser.proofs.reading.Steps.{handed_on, next_fails, next_reads, reads_as, takes, takes_last, token_refused}
 use Rattle.hoa_parser.specs.inner.Expecting as part
 use Rattle.hoa_parser.proofs.parse.body.state_at.Goals as goal
 
 pub returns-in_default-clause-reads : goal.returns-in_default-clause-reads
-returns-in_default-clause-reads g c = token_refused part.States [] _ _ c.requires.unspent c.refused.ensures (no_states _ c.in_default.not-HeaderName c.requires.begins)
+returns-in_default-clause-reads g c = token_refused part.States [] _ _ c.requires.unspent c.refused.ensures (other part.States _ (c.in_default.not-HeaderName, c.requires.begins))
 
 pub returns-in_default-header-clause-reads : goal.returns-in_default-header-clause-reads
 returns-in_default-header-clause-reads g c =

@@ -5,7 +5,7 @@ use Rattle.hoa_parser.specs.inner.Expecting as part
 use Rattle.hoa_parser.specs.Grammar.{StateWithin, state_meaning, state_tokens}
 use Rattle.hoa_parser.specs.Raw.{written_state}
 use Rattle.hoa_parser.specs.Standing.{most_depth}
-use Rattle.hoa_parser.proofs.grammar.OtherTokens.{no_states}
+use Rattle.hoa_parser.proofs.grammar.OtherTokens.{other}
 use Rattle.hoa_lexer.specs.declared.token.Token.TheVariants as token
 use Rattle.hoa_parser.proofs.parse.body.states.Goals as goal
 
@@ -23,7 +23,7 @@ returns-in_err-push-clause-reads g c = handed_on _ _ _ c.from_residual-in_err-pu
 
 pub returns-in_default-clause-reads : goal.returns-in_default-clause-reads
 returns-in_default-clause-reads g c = fails_after c.states.invariant
-    (token_refused part.States [] _ _ c.states.invariant.spent c.refused.ensures (no_states _ c.in_default.not-HeaderName c.in_default.not-End))
+    (token_refused part.States [] _ _ c.states.invariant.spent c.refused.ensures (other part.States _ (c.in_default.not-HeaderName, c.in_default.not-End)))
 
 pub returns-in-End-clause-reads : goal.returns-in-End-clause-reads
 returns-in-End-clause-reads g c = reads_as (λ a b h. record { written = h.0; ends = h.1 }) (reads_at token.End c.in-End.is c.states.invariant)

@@ -15,7 +15,7 @@ use Rattle.hoa_parser.specs.inner.RuleReads.{IsAndFatom, IsAndFatoms, IsConditio
 use Rattle.aut_base.specs.Formula.{formula_tree}
 use Rattle.aut_base.specs.declared.formula.Formula.TheVariants as rust
 use Rattle.hoa_parser.specs.inner.Expecting.{Atom, Atoms, Conjunctions}
-use Rattle.hoa_parser.proofs.grammar.OtherTokens.{past_atoms, past_conjunctions}
+use Rattle.hoa_parser.proofs.grammar.OtherTokens.{other}
 use Rattle.hoa_parser.proofs.parse.condition.+condition.Goals as goal
 
 pub and_fatom-fatom-requires : goal.and_fatom-fatom-requires
@@ -50,7 +50,7 @@ pub and_fatoms-returns-in_default : goal.and_fatoms-returns-in_default
 and_fatoms-returns-in_default g t c =
     record {
       reads = token_passed (Atoms c.args.depth) (IsAndFatoms c.args.depth (formula_tree c.args.first) c.args.first) _ c.requires.unspent
-          (past_atoms c.args.depth _ c.in_default.not-Amp) (λ a. record { phrase = no_fatom; within = tt; passed = refl; means = refl });
+          (other (Atoms c.args.depth) _ c.in_default.not-Amp) (λ a. record { phrase = no_fatom; within = tt; passed = refl; means = refl });
     }
 
 pub and_fatoms-and_fatom-requires : goal.and_fatoms-and_fatom-requires
@@ -73,7 +73,7 @@ pub and_fatoms-returns-in_default-ahead : goal.and_fatoms-returns-in_default-ahe
 and_fatoms-returns-in_default-ahead g t c =
     record {
       reads = reads_as (λ a e h. fatoms_whole c.args.depth (formula_tree c.args.first) c.fatoms.parts (rust.And c.fatoms.parts) a e (formula_tree-And c.fatoms.parts) h)
-          (reads_end (Atoms c.args.depth) (past_atoms c.args.depth _ c.in_default-ahead.not-Amp) c.fatoms.invariant);
+          (reads_end (Atoms c.args.depth) (other (Atoms c.args.depth) _ c.in_default-ahead.not-Amp) c.fatoms.invariant);
     }
 
 pub and_fatoms-and_fatom-requires-in-fatoms : goal.and_fatoms-and_fatom-requires-in-fatoms
@@ -109,7 +109,7 @@ pub or_fands-returns-in_default : goal.or_fands-returns-in_default
 or_fands-returns-in_default g t c =
     record {
       reads = token_passed (Conjunctions c.args.depth) (IsOrFands c.args.depth (formula_tree c.args.first) c.args.first) _ c.requires.unspent
-          (past_conjunctions c.args.depth _ c.in_default.not-Bar) (λ a. record { phrase = no_fand; within = tt; passed = refl; means = refl });
+          (other (Conjunctions c.args.depth) _ c.in_default.not-Bar) (λ a. record { phrase = no_fand; within = tt; passed = refl; means = refl });
     }
 
 pub or_fands-or_fand-requires : goal.or_fands-or_fand-requires
@@ -132,7 +132,7 @@ pub or_fands-returns-in_default-ahead : goal.or_fands-returns-in_default-ahead
 or_fands-returns-in_default-ahead g t c =
     record {
       reads = reads_as (λ a e h. fands_whole c.args.depth (formula_tree c.args.first) c.fands.parts (rust.Or c.fands.parts) a e (formula_tree-Or c.fands.parts) h)
-          (reads_end (Conjunctions c.args.depth) (past_conjunctions c.args.depth _ c.in_default-ahead.not-Bar) c.fands.invariant);
+          (reads_end (Conjunctions c.args.depth) (other (Conjunctions c.args.depth) _ c.in_default-ahead.not-Bar) c.fands.invariant);
     }
 
 pub or_fands-or_fand-requires-in-fands : goal.or_fands-or_fand-requires-in-fands

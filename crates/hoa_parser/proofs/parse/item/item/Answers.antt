@@ -1,5 +1,5 @@
 use Rattle.std.proofs.Common.{[], refl, sym, ap, ◌∙◌}
-use Rattle.hoa_parser.proofs.grammar.OtherTokens.{no_items}
+use Rattle.hoa_parser.proofs.grammar.OtherTokens.{other}
 use Rattle.hoa_parser.proofs.reading.ItemsRead.{header_again, header_last, item_behind, no_item}
 use Rattle.hoa_parser.proofs.reading.RuleParts.{uses_then}
 use Rattle.hoa_parser.proofs.reading.Steps.{handed_on, token_refused}
@@ -7,7 +7,7 @@ use Rattle.hoa_parser.specs.inner.Expecting.{Items, header_move}
 use Rattle.hoa_parser.proofs.parse.item.item.Goals as goal
 
 pub returns-in_default-clause-reads : goal.returns-in_default-clause-reads
-returns-in_default-clause-reads g c = token_refused Items [] _ _ c.requires.unspent c.refused.ensures (no_items _ c.in_default.not-HeaderName c.requires.no_body)
+returns-in_default-clause-reads g c = token_refused Items [] _ _ c.requires.unspent c.refused.ensures (other Items _ (c.in_default.not-HeaderName, c.requires.no_body))
 
 pub returns-in-Opening-clause-reads : goal.returns-in-Opening-clause-reads
 returns-in-Opening-clause-reads g c =

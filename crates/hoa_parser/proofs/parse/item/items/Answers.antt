@@ -5,7 +5,7 @@ use Rattle.hoa_parser.specs.inner.Expecting as part
 use Rattle.hoa_parser.specs.Grammar.{ItemWithin, item_meaning, item_tokens}
 use Rattle.hoa_parser.specs.Raw.{written_item}
 use Rattle.hoa_parser.specs.Standing.{most_depth}
-use Rattle.hoa_parser.proofs.grammar.OtherTokens.{no_items}
+use Rattle.hoa_parser.proofs.grammar.OtherTokens.{other}
 use Rattle.hoa_parser.proofs.parse.item.items.Goals as goal
 
 pub items-init : goal.items-init
@@ -22,7 +22,7 @@ returns-in_err-push-clause-reads g c = handed_on _ _ _ c.from_residual-in_err-pu
 
 pub returns-in_default-clause-reads : goal.returns-in_default-clause-reads
 returns-in_default-clause-reads g c = fails_after c.items.invariant
-    (token_refused part.Items [] _ _ c.items.invariant.spent c.refused.ensures (no_items _ c.in_default.not-HeaderName c.in_default.not-Body))
+    (token_refused part.Items [] _ _ c.items.invariant.spent c.refused.ensures (other part.Items _ (c.in_default.not-HeaderName, c.in_default.not-Body)))
 
 pub returns-in-Body-clause-reads : goal.returns-in-Body-clause-reads
 returns-in-Body-clause-reads g c = c.items.invariant

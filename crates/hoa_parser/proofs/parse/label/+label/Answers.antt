@@ -15,7 +15,7 @@ use Rattle.hoa_parser.specs.inner.RuleReads.{IsAndLnot, IsAndLnots, IsLabel, IsL
 use Rattle.hoa_parser.specs.Raw.{RawTree, raw_parts, raw_tree, raw_trees}
 use Rattle.hoa_parser.specs.declared.raw.RawLabels.{RawLabels}
 use Rattle.hoa_parser.specs.inner.Expecting.{Factor, Factors, Products}
-use Rattle.hoa_parser.proofs.grammar.OtherTokens.{past_factors, past_products}
+use Rattle.hoa_parser.proofs.grammar.OtherTokens.{other}
 use Rattle.hoa_parser.proofs.parse.label.+label.Goals as goal
 
 pub and_lnot-lnot-requires : goal.and_lnot-lnot-requires
@@ -50,7 +50,7 @@ pub and_lnots-returns-in_default : goal.and_lnots-returns-in_default
 and_lnots-returns-in_default g t c =
     record {
       reads = token_passed (Factors c.args.depth) (IsAndLnots c.args.depth (raw_tree c.args.first) c.args.first) _ c.requires.unspent
-          (past_factors c.args.depth _ c.in_default.not-Amp) (λ a. record { phrase = no_lnot; within = tt; passed = refl; means = refl });
+          (other (Factors c.args.depth) _ c.in_default.not-Amp) (λ a. record { phrase = no_lnot; within = tt; passed = refl; means = refl });
     }
 
 pub more_lnots-and_lnot-requires : goal.more_lnots-and_lnot-requires
@@ -69,7 +69,7 @@ pub more_lnots-returns-in_err-new-in_default : goal.more_lnots-returns-in_err-ne
 more_lnots-returns-in_err-new-in_default g t c =
     record {
       reads = handed_on _ _ _ c.from_residual-in_err-new-in_default.ensures.1
-          (no_memory (reads_end (Factors c.args.depth) (past_factors c.args.depth _ c.in_default.not-Amp) c.lnots.invariant));
+          (no_memory (reads_end (Factors c.args.depth) (other (Factors c.args.depth) _ c.in_default.not-Amp) c.lnots.invariant));
     }
 
 pub more_lnots-returns-in_default : goal.more_lnots-returns-in_default
@@ -78,7 +78,7 @@ more_lnots-returns-in_default g t c =
       reads = reads_as (λ a e h. lnots_whole c.args.depth (raw_tree c.args.first) c.lnots.parts _ a e
           (raw_tree-And c.in_ok-new-in_default.field-0
           ∙ ap (λ (p : RawLabels). RawTree.And (raw_parts p).first (raw_parts p).second (raw_trees (raw_parts p).others)) c.in_ok-new-in_default.ensures.ok) h)
-          (reads_end (Factors c.args.depth) (past_factors c.args.depth _ c.in_default.not-Amp) c.lnots.invariant);
+          (reads_end (Factors c.args.depth) (other (Factors c.args.depth) _ c.in_default.not-Amp) c.lnots.invariant);
     }
 
 pub more_lnots-and_lnot-requires-in-lnots : goal.more_lnots-and_lnot-requires-in-lnots
@@ -114,7 +114,7 @@ pub or_lands-returns-in_default : goal.or_lands-returns-in_default
 or_lands-returns-in_default g t c =
     record {
       reads = token_passed (Products c.args.depth) (IsOrLands c.args.depth (raw_tree c.args.first) c.args.first) _ c.requires.unspent
-          (past_products c.args.depth _ c.in_default.not-Bar) (λ a. record { phrase = no_land; within = tt; passed = refl; means = refl });
+          (other (Products c.args.depth) _ c.in_default.not-Bar) (λ a. record { phrase = no_land; within = tt; passed = refl; means = refl });
     }
 
 pub more_lands-or_land-requires : goal.more_lands-or_land-requires
@@ -133,7 +133,7 @@ pub more_lands-returns-in_err-new-in_default : goal.more_lands-returns-in_err-ne
 more_lands-returns-in_err-new-in_default g t c =
     record {
       reads = handed_on _ _ _ c.from_residual-in_err-new-in_default.ensures.1
-          (no_memory (reads_end (Products c.args.depth) (past_products c.args.depth _ c.in_default.not-Bar) c.lands.invariant));
+          (no_memory (reads_end (Products c.args.depth) (other (Products c.args.depth) _ c.in_default.not-Bar) c.lands.invariant));
     }
 
 pub more_lands-returns-in_default : goal.more_lands-returns-in_default
@@ -142,7 +142,7 @@ more_lands-returns-in_default g t c =
       reads = reads_as (λ a e h. lands_whole c.args.depth (raw_tree c.args.first) c.lands.parts _ a e
           (raw_tree-Or c.in_ok-new-in_default.field-0
           ∙ ap (λ (p : RawLabels). RawTree.Or (raw_parts p).first (raw_parts p).second (raw_trees (raw_parts p).others)) c.in_ok-new-in_default.ensures.ok) h)
-          (reads_end (Products c.args.depth) (past_products c.args.depth _ c.in_default.not-Bar) c.lands.invariant);
+          (reads_end (Products c.args.depth) (other (Products c.args.depth) _ c.in_default.not-Bar) c.lands.invariant);
     }
 
 pub more_lands-or_land-requires-in-lands : goal.more_lands-or_land-requires-in-lands

@@ -1,7 +1,7 @@
 use Rattle.std.proofs.Common.{[], ◌∷◌, refl, sym}
 use Rattle.std.proofs.lemmas.List.{append-nil}
 use Rattle.hoa_lexer.specs.declared.token.Token.TheVariants as token
-use Rattle.hoa_parser.proofs.grammar.OtherTokens.{no_marks}
+use Rattle.hoa_parser.proofs.grammar.OtherTokens.{other}
 use Rattle.hoa_parser.proofs.grammar.Values.{ints_more, marks_closed}
 use Rattle.hoa_parser.proofs.reading.Steps.{fails_after, handed_on, no_memory, reads_as, reads_nothing, reads_then, takes, takes_last, token_refused}
 use Rattle.hoa_parser.specs.inner.Expecting.{Marks}
@@ -13,7 +13,7 @@ marks-init g c = reads_nothing (Marks ∷ []) _ _ c.requires.unspent (λ a. ([],
 pub returns-in_default : goal.returns-in_default
 returns-in_default g c = record {
   reads =
-      fails_after c.marks.invariant (token_refused Marks [] _ _ c.marks.invariant.spent c.refused.ensures (no_marks _ c.in_default.not-Int c.in_default.not-RightBrace));
+      fails_after c.marks.invariant (token_refused Marks [] _ _ c.marks.invariant.spent c.refused.ensures (other Marks _ (c.in_default.not-Int, c.in_default.not-RightBrace)));
 }
 
 pub returns-in_err-push-in-Int : goal.returns-in_err-push-in-Int

@@ -1,7 +1,7 @@
 use Rattle.std.proofs.Common.{[], ◌∷◌, refl, sym}
 use Rattle.std.proofs.lemmas.List.{append-nil}
 use Rattle.hoa_lexer.specs.declared.token.Token.TheVariants as token
-use Rattle.hoa_parser.proofs.grammar.OtherTokens.{past_numbers}
+use Rattle.hoa_parser.proofs.grammar.OtherTokens.{other}
 use Rattle.hoa_parser.proofs.grammar.Values.{numbers_amp, numbers_more}
 use Rattle.hoa_parser.proofs.reading.Steps.{fails_after, handed_on, next_fails, next_reads, no_memory, reads_as, reads_end, reads_nothing, reads_then, takes, takes_last}
 use Rattle.hoa_parser.specs.inner.Expecting.{MoreNumbers}
@@ -11,7 +11,7 @@ pub numbers-init : goal.numbers-init
 numbers-init g c = reads_nothing (MoreNumbers ∷ []) _ _ c.requires.unspent (λ a. ([], refl, sym (append-nil c.args.numbers)))
 
 pub returns-in_default : goal.returns-in_default
-returns-in_default g c = record { reads = reads_end MoreNumbers (past_numbers _ c.in_default.not-Amp) c.numbers.invariant }
+returns-in_default g c = record { reads = reads_end MoreNumbers (other MoreNumbers _ c.in_default.not-Amp) c.numbers.invariant }
 
 pub returns-in_err-advance : goal.returns-in_err-advance
 returns-in_err-advance g c = record {

@@ -1,7 +1,7 @@
 use Rattle.std.proofs.Common.{◌≡◌, ℕ, List, [], ◌∷◌, sym, ap, ◌∙◌}
 use Rattle.hoa_lexer.specs.declared.token.Token.TheVariants as token
 use Rattle.hoa_parser.proofs.reading.FrontParts.{spelled_more, spelled_none}
-use Rattle.hoa_parser.proofs.grammar.OtherTokens.{past_strings}
+use Rattle.hoa_parser.proofs.grammar.OtherTokens.{other}
 use Rattle.hoa_parser.proofs.reading.Steps.{fails_after, fails_for, handed_on, no_memory, reads_as, reads_end, reads_for, reads_nothing, reads_then}
 use Rattle.hoa_lexer.specs.declared.token.Token.{Token}
 use Rattle.hoa_parser.specs.inner.Expecting.{Part, Quoted, Strings, behind}
@@ -15,7 +15,7 @@ pub texts-init : goal.texts-init
 texts-init g c = reads_nothing (Strings ∷ []) _ _ c.requires.unspent (λ a. spelled_none token.Str c.new-texts.result a c.new-texts.ensures)
 
 pub returns-in_default : goal.returns-in_default
-returns-in_default g c = record { reads = reads_end Strings (past_strings _ c.in_default.not-Str) c.texts.invariant }
+returns-in_default g c = record { reads = reads_end Strings (other Strings _ c.in_default.not-Str) c.texts.invariant }
 
 pub returns-in_err-text : goal.returns-in_err-text
 returns-in_err-text g c = record {

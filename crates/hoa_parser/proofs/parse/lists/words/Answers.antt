@@ -1,7 +1,7 @@
 use Rattle.std.proofs.Common.{◌≡◌, ℕ, List, [], ◌∷◌, sym, ap, ◌∙◌}
 use Rattle.hoa_lexer.specs.declared.token.Token.TheVariants as token
 use Rattle.hoa_parser.proofs.reading.FrontParts.{spelled_more, spelled_none}
-use Rattle.hoa_parser.proofs.grammar.OtherTokens.{past_words}
+use Rattle.hoa_parser.proofs.grammar.OtherTokens.{other}
 use Rattle.hoa_parser.proofs.reading.Steps.{fails_after, fails_for, handed_on, no_memory, reads_as, reads_end, reads_for, reads_nothing, reads_then}
 use Rattle.hoa_lexer.specs.declared.token.Token.{Token}
 use Rattle.hoa_parser.specs.inner.Expecting.{Part, Word, Words, behind}
@@ -15,7 +15,7 @@ pub words-init : goal.words-init
 words-init g c = reads_nothing (Words ∷ []) _ _ c.requires.unspent (λ a. spelled_none token.Identifier c.new-words.result a c.new-words.ensures)
 
 pub returns-in_default : goal.returns-in_default
-returns-in_default g c = record { reads = reads_end Words (past_words _ c.in_default.not-Identifier) c.words.invariant }
+returns-in_default g c = record { reads = reads_end Words (other Words _ c.in_default.not-Identifier) c.words.invariant }
 
 pub returns-in_err-word : goal.returns-in_err-word
 returns-in_err-word g c = record {
