@@ -1,4 +1,4 @@
--- A token that is taken, and what is written behind it, write the part that takes it: values, numbers and items.
+-- A token that is taken, and what is written behind it, write the part that takes it: items.
 use Rattle.std.proofs.Common.{◌≡◌, ℕ, true, false, List, [], ◌∷◌, ◌++◌, map, Some, None, refl, sym, ap, ◌∙◌}
 use Rattle.std.specs.Prelude.{flat_map}
 use Rattle.std.proofs.lemmas.List.{append_assoc}
@@ -15,87 +15,6 @@ use Rattle.hoa_parser.specs.declared.header.Header.TheVariants as header
 use Rattle.hoa_parser.proofs.grammar.PartsWritten.{Fills, Derives, rest_tokens}
 use Rattle.hoa_parser.proofs.grammar.LabelsWritten.{Writes, joined, single, has_label, has_condition}
 use Rattle.hoa_parser.proofs.grammar.HeaderNames.{IsNamed, named}
-
--- single tokens and lists of them
-
-pub number_writes : (most : ℕ) (z : Token) → Writes most part.Number z (move part.Number z)
-number_writes most (token.Int n) = λ l u d. record { phrase = n; keeps = tt; spelled = ap (λ w. token.Int n ∷ w) d }
-number_writes most _ = tt
-
-pub more_numbers_write : (most : ℕ) (z : Token) → Writes most part.MoreNumbers z (move part.MoreNumbers z)
-more_numbers_write most token.Amp = λ l u (v, w, n, d, e).
-    let ns = single most part.MoreNumbers w d in
-    record {
-      phrase = n.phrase ∷ ns.phrase;
-      keeps = tt;
-      spelled = ap (λ x. token.Amp ∷ x) (joined u v w (token.Int n.phrase ∷ []) (flat_map and_number ns.phrase) e n.spelled ns.spelled);
-    }
-more_numbers_write most _ = record { phrase = []; keeps = tt; spelled = refl }
-
-pub quoted_writes : (most : ℕ) (z : Token) → Writes most part.Quoted z (move part.Quoted z)
-quoted_writes most (token.Str text) = λ l u d. record { phrase = text; keeps = tt; spelled = ap (λ w. token.Str text ∷ w) d }
-quoted_writes most _ = tt
-
-pub maybe_quoted_writes : (most : ℕ) (z : Token) → Writes most part.MaybeQuoted z (move part.MaybeQuoted z)
-maybe_quoted_writes most (token.Str text) = λ l u d. record { phrase = Some text; keeps = tt; spelled = ap (λ w. token.Str text ∷ w) d }
-maybe_quoted_writes most _ = record { phrase = None; keeps = tt; spelled = refl }
-
-pub strings_write : (most : ℕ) (z : Token) → Writes most part.Strings z (move part.Strings z)
-strings_write most (token.Str text) = λ l u d.
-    let f = single most part.Strings u d in
-    record { phrase = text ∷ f.phrase; keeps = tt; spelled = ap (λ w. token.Str text ∷ w) f.spelled }
-strings_write most _ = record { phrase = []; keeps = tt; spelled = refl }
-
-pub word_writes : (most : ℕ) (z : Token) → Writes most part.Word z (move part.Word z)
-word_writes most (token.Identifier word) = λ l u d. record { phrase = word; keeps = tt; spelled = ap (λ w. token.Identifier word ∷ w) d }
-word_writes most _ = tt
-
-pub words_write : (most : ℕ) (z : Token) → Writes most part.Words z (move part.Words z)
-words_write most (token.Identifier word) = λ l u d.
-    let f = single most part.Words u d in
-    record { phrase = word ∷ f.phrase; keeps = tt; spelled = ap (λ w. token.Identifier word ∷ w) f.spelled }
-words_write most _ = record { phrase = []; keeps = tt; spelled = refl }
-
-pub alias_name_writes : (most : ℕ) (z : Token) → Writes most part.AliasName z (move part.AliasName z)
-alias_name_writes most (token.Alias name) = λ l u d. record { phrase = name; keeps = tt; spelled = ap (λ w. token.Alias name ∷ w) d }
-alias_name_writes most _ = tt
-
-pub acc_values_write : (most : ℕ) (z : Token) → Writes most part.AccValues z (move part.AccValues z)
-acc_values_write most (token.Int n) = λ l u d.
-    let f = single most part.AccValues u d in
-    record { phrase = acc_number n ∷ f.phrase; keeps = tt; spelled = ap (λ w. token.Int n ∷ w) f.spelled }
-acc_values_write most (token.Identifier word) = λ l u d.
-    let f = single most part.AccValues u d in
-    record { phrase = acc_word word ∷ f.phrase; keeps = tt; spelled = ap (λ w. token.Identifier word ∷ w) f.spelled }
-acc_values_write most _ = record { phrase = []; keeps = tt; spelled = refl }
-
-pub values_write : (most : ℕ) (z : Token) → Writes most part.Values z (move part.Values z)
-values_write most (token.Int n) = λ l u d.
-    let f = single most part.Values u d in
-    record { phrase = number_value n ∷ f.phrase; keeps = tt; spelled = ap (λ w. token.Int n ∷ w) f.spelled }
-values_write most (token.Str text) = λ l u d.
-    let f = single most part.Values u d in
-    record { phrase = text_value text ∷ f.phrase; keeps = tt; spelled = ap (λ w. token.Str text ∷ w) f.spelled }
-values_write most (token.Identifier word) = λ l u d.
-    let f = single most part.Values u d in
-    record { phrase = word_value word ∷ f.phrase; keeps = tt; spelled = ap (λ w. token.Identifier word ∷ w) f.spelled }
-values_write most _ = record { phrase = []; keeps = tt; spelled = refl }
-
-pub opening_paren_writes : (most : ℕ) (z : Token) → Writes most part.OpeningParen z (move part.OpeningParen z)
-opening_paren_writes most token.LeftParen = λ l u d. ap (λ w. token.LeftParen ∷ w) d
-opening_paren_writes most _ = tt
-
-pub maybe_bang_writes : (most : ℕ) (z : Token) → Writes most part.MaybeBang z (move part.MaybeBang z)
-maybe_bang_writes most token.Bang = λ l u d. record { phrase = true; keeps = tt; spelled = ap (λ w. token.Bang ∷ w) d }
-maybe_bang_writes most _ = record { phrase = false; keeps = tt; spelled = refl }
-
-pub closing_paren_writes : (most : ℕ) (z : Token) → Writes most part.ClosingParen z (move part.ClosingParen z)
-closing_paren_writes most token.RightParen = λ l u d. ap (λ w. token.RightParen ∷ w) d
-closing_paren_writes most _ = tt
-
-pub closing_bracket_writes : (most : ℕ) (z : Token) → Writes most part.ClosingBracket z (move part.ClosingBracket z)
-closing_bracket_writes most token.RightBracket = λ l u d. ap (λ w. token.RightBracket ∷ w) d
-closing_bracket_writes most _ = tt
 
 -- an item before others
 one_more : (most : ℕ) (i : ItemPhrase) (name : List ℕ) (values u w : List Token) → item_tokens i ≡ token.HeaderName name ∷ values → ItemWithin most i → u ≡ values ++ w
@@ -127,13 +46,13 @@ item_writes most name header.Ap is n = λ l u (v, w, k, (v', w', ks, d, e'), e).
     (joined w v' w' (map token.Str ks.phrase) w' e' ks.spelled refl)) d
 item_writes most name header.Alias is n = λ l u (v, w, k, d, e).
     let x = has_label most 0 (part.Items ∷ []) w d in
-    let inner = label x.first x.others x.lands in
+    let inner = label x.first x.others x.more in
     one_more most (alias_item k.phrase inner) name (token.Alias k.phrase ∷ label_tokens inner) u x.rest
     (ap (λ y. token.HeaderName y ∷ token.Alias k.phrase ∷ label_tokens inner) (sym n)) x.within
     (joined u v w (token.Alias k.phrase ∷ []) (label_tokens inner ++ x.rest) e k.spelled x.split) x.behind
 item_writes most name header.Acceptance is n = λ l u (v, w, k, d, e).
     let x = has_condition most 0 (part.Items ∷ []) w d in
-    let inner = condition x.first x.others x.fands in
+    let inner = condition x.first x.others x.more in
     one_more most (acceptance_item k.phrase inner) name (token.Int k.phrase ∷ condition_tokens inner) u x.rest
     (ap (λ y. token.HeaderName y ∷ token.Int k.phrase ∷ condition_tokens inner) (sym n)) x.within
     (joined u v w (token.Int k.phrase ∷ []) (condition_tokens inner ++ x.rest) e k.spelled x.split) x.behind

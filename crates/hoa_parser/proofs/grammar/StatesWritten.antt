@@ -18,7 +18,7 @@ use Rattle.hoa_parser.proofs.grammar.HeaderNames.{IsNamed, named}
 pub maybe_label_writes : (most : ℕ) (z : Token) → Writes most part.MaybeLabel z (move part.MaybeLabel z)
 maybe_label_writes most token.LeftBracket = λ l u d.
     let x = has_label most 0 (part.ClosingBracket ∷ []) u d in
-    let inner = label x.first x.others x.lands in
+    let inner = label x.first x.others x.more in
     let close : x.rest ≡ token.RightBracket ∷ [] = single most part.ClosingBracket x.rest x.behind in
     record {
       phrase = Some inner;
@@ -65,7 +65,7 @@ has_goal most u (v, w, ns, (v', w', ms, d, e'), e) =
 pub edges_write : (most : ℕ) (z : Token) → Writes most part.Edges z (move part.Edges z)
 edges_write most token.LeftBracket = λ l u d.
     let x = has_label most 0 (part.ClosingBracket ∷ part.Number ∷ part.MoreNumbers ∷ part.MaybeMarks ∷ part.Edges ∷ []) u d in
-    let inner : Label = label x.first x.others x.lands in
+    let inner : Label = label x.first x.others x.more in
     let (v, w, close, (v', w', n, more, e'), e) = x.behind in
     let g = has_goal most w' more in
     let goal : List Token = flat_map and_number g.numbers ++ optional_marks g.marks in

@@ -1,48 +1,89 @@
 -- What can stand may go on to a whole automaton.
-use Rattle.std.proofs.Common.{◌≡◌, ℕ, Bool, true, false, cond, List, [], ◌∷◌, ◌++◌, Option, Some, None, refl, sym, ap, ◌∙◌, subst, leb}
+use Rattle.std.proofs.Common.{◌≡◌, ℕ, suc, Bool, true, false, cond, List, [], ◌∷◌, ◌++◌, Option, Some, None, refl, sym, ap, ◌∙◌, subst, leb}
 use Rattle.std.proofs.lemmas.Bool.{leb-true}
 use Rattle.std.proofs.lemmas.List.{append_assoc, append-nil}
 use Rattle.hoa_lexer.specs.declared.token.Token.{Token}
+use Rattle.hoa_lexer.specs.declared.token.Token.TheVariants as token
 use Rattle.hoa_parser.specs.inner.Expecting as part
 use Rattle.hoa_parser.specs.inner.Expecting.{Part, Move, Takes, Passes, Refuses, after, after_some, behind, moved, move, open_at}
-use Rattle.hoa_parser.specs.Grammar.{automaton_meaning, IsViable, Spells}
+use Rattle.hoa_parser.specs.Grammar.{IsViable, Spells, acc_value_token, automaton_meaning, value_token}
+use Rattle.hoa_parser.specs.Grammar.AccValue.{acc_number, acc_word}
+use Rattle.hoa_parser.specs.Grammar.Condition.{condition}
+use Rattle.hoa_parser.specs.Grammar.Fands.{no_fand, or_fand}
+use Rattle.hoa_parser.specs.Grammar.Fatom.{condition_group}
+use Rattle.hoa_parser.specs.Grammar.Fatoms.{and_fatom, no_fatom}
+use Rattle.hoa_parser.specs.Grammar.Label.{label}
+use Rattle.hoa_parser.specs.Grammar.Lands.{no_land, or_land}
+use Rattle.hoa_parser.specs.Grammar.Lnot.{alias, group, negated, proposition}
+use Rattle.hoa_parser.specs.Grammar.Lnots.{and_lnot, no_lnot}
+use Rattle.hoa_parser.specs.Grammar.Value.{number_value, text_value, word_value}
 use Rattle.hoa_parser.specs.Raw.{Written}
 use Rattle.hoa_parser.proofs.grammar.PartsWritten.{Derives, completable}
-use Rattle.hoa_parser.proofs.grammar.LabelsWritten.{Writes, single, factor_writes, factors_write, products_write, atom_writes, atoms_write, conjunctions_write}
-use Rattle.hoa_parser.proofs.grammar.ItemsWritten.{number_writes, more_numbers_write, quoted_writes, maybe_quoted_writes, strings_write, word_writes}
-use Rattle.hoa_parser.proofs.grammar.ItemsWritten.{words_write, alias_name_writes, acc_values_write, values_write, opening_paren_writes}
-use Rattle.hoa_parser.proofs.grammar.ItemsWritten.{maybe_bang_writes, closing_paren_writes, closing_bracket_writes, items_write}
+use Rattle.hoa_parser.proofs.grammar.LabelsWritten.{Writes, condition_word_writes, has_condition, has_label, label_word_writes, single}
+use Rattle.hoa_parser.proofs.grammar.LabelsWritten.{written_alone, written_amp, written_bar, written_group, written_more}
+use Rattle.hoa_parser.proofs.grammar.ItemsWritten.{items_write}
 use Rattle.hoa_parser.proofs.grammar.StatesWritten.{maybe_label_writes, maybe_marks_write, marks_write, edges_write, states_write, whole_writes}
 use Rattle.aut_base.proofs.lists.Lists.{none_some}
 
+-- what a token writes that begins no such part: nothing, where the part may be left out
+passed_writes : (most : ℕ) (p : Part) → Writes most p token.Abort (move p token.Abort)
+passed_writes most part.MoreNumbers = record { phrase = []; keeps = tt; spelled = refl }
+passed_writes most part.MaybeQuoted = record { phrase = None; keeps = tt; spelled = refl }
+passed_writes most part.Strings = record { phrase = []; keeps = tt; spelled = refl }
+passed_writes most part.Words = record { phrase = []; keeps = tt; spelled = refl }
+passed_writes most part.AccValues = record { phrase = []; keeps = tt; spelled = refl }
+passed_writes most part.Values = record { phrase = []; keeps = tt; spelled = refl }
+passed_writes most (part.Factors depth) = record { phrase = no_lnot; keeps = tt; spelled = refl }
+passed_writes most (part.Products depth) = record { phrase = no_land; keeps = tt; spelled = refl }
+passed_writes most (part.Atoms depth) = record { phrase = no_fatom; keeps = tt; spelled = refl }
+passed_writes most (part.Conjunctions depth) = record { phrase = no_fand; keeps = tt; spelled = refl }
+passed_writes most part.MaybeBang = record { phrase = false; keeps = tt; spelled = refl }
+passed_writes most part.MaybeLabel = record { phrase = None; keeps = tt; spelled = refl }
+passed_writes most part.MaybeMarks = record { phrase = None; keeps = tt; spelled = refl }
+passed_writes most part.Edges = record { phrase = []; keeps = tt; spelled = refl }
+passed_writes most _ = tt
+
 writes : (most : ℕ) (p : Part) (z : Token) → Writes most p z (move p z)
 writes most part.Whole z = whole_writes most z
-writes most part.Number z = number_writes most z
-writes most part.MoreNumbers z = more_numbers_write most z
-writes most part.Quoted z = quoted_writes most z
-writes most part.MaybeQuoted z = maybe_quoted_writes most z
-writes most part.Strings z = strings_write most z
-writes most part.Word z = word_writes most z
-writes most part.Words z = words_write most z
-writes most part.AliasName z = alias_name_writes most z
-writes most part.AccValues z = acc_values_write most z
-writes most part.Values z = values_write most z
-writes most (part.Factor depth) z = factor_writes most depth z
-writes most (part.Factors depth) z = factors_write most depth z
-writes most (part.Products depth) z = products_write most depth z
-writes most (part.Atom depth) z = atom_writes most depth z
-writes most (part.Atoms depth) z = atoms_write most depth z
-writes most (part.Conjunctions depth) z = conjunctions_write most depth z
-writes most part.OpeningParen z = opening_paren_writes most z
-writes most part.MaybeBang z = maybe_bang_writes most z
-writes most part.ClosingParen z = closing_paren_writes most z
-writes most part.ClosingBracket z = closing_bracket_writes most z
+writes most part.Number (token.Int n) = λ l u d. written_alone n (token.Int n) u refl d
+writes most part.MoreNumbers token.Amp = λ l u (v, w, n, d, e). written_amp u v w n (single most part.MoreNumbers w d) e (λ k ks. k ∷ ks) (λ k ks a b. tt) (λ k ks. refl)
+writes most part.Quoted (token.Str text) = λ l u d. written_alone text (token.Str text) u refl d
+writes most part.MaybeQuoted (token.Str text) = λ l u d. written_alone (Some text) (token.Str text) u refl d
+writes most part.Strings (token.Str text) = λ l u d. written_more token.Str text u (single most part.Strings u d)
+writes most part.Word (token.Identifier word) = λ l u d. written_alone word (token.Identifier word) u refl d
+writes most part.Words (token.Identifier word) = λ l u d. written_more token.Identifier word u (single most part.Words u d)
+writes most part.AliasName (token.Alias name) = λ l u d. written_alone name (token.Alias name) u refl d
+writes most part.AccValues (token.Int n) = λ l u d. written_more acc_value_token (acc_number n) u (single most part.AccValues u d)
+writes most part.AccValues (token.Identifier word) = λ l u d. written_more acc_value_token (acc_word word) u (single most part.AccValues u d)
+writes most part.Values (token.Int n) = λ l u d. written_more value_token (number_value n) u (single most part.Values u d)
+writes most part.Values (token.Str text) = λ l u d. written_more value_token (text_value text) u (single most part.Values u d)
+writes most part.Values (token.Identifier word) = λ l u d. written_more value_token (word_value word) u (single most part.Values u d)
+writes most (part.Factor depth) token.Bang = λ l u d.
+    let f = single most (part.Factor (suc depth)) u d in
+    record { phrase = negated f.phrase; keeps = (l, f.keeps); spelled = ap (λ w. token.Bang ∷ w) f.spelled }
+writes most (part.Factor depth) (token.Identifier word) = label_word_writes most depth word
+writes most (part.Factor depth) (token.Int n) = λ l u d. record { phrase = proposition n; keeps = tt; spelled = ap (λ w. token.Int n ∷ w) d }
+writes most (part.Factor depth) (token.Alias name) = λ l u d. record { phrase = alias name; keeps = tt; spelled = ap (λ w. token.Alias name ∷ w) d }
+writes most (part.Factor depth) token.LeftParen = λ l u d.
+    written_group most u (has_label most (suc depth) (part.ClosingParen ∷ []) u d) (λ f fs ls. group (label f fs ls)) (λ f fs ls h. (l, h)) (λ f fs ls. refl)
+writes most (part.Factors depth) token.Amp = λ l u (v, w, f, d, e). written_amp u v w f (single most (part.Factors depth) w d) e and_lnot (λ f fs h k. (h, k)) (λ f fs. refl)
+writes most (part.Products depth) token.Bar = λ l u d. written_bar most u (has_label most depth [] u d) or_land (λ f fs ls h. h) (λ f fs ls. refl)
+writes most (part.Atom depth) (token.Identifier word) = condition_word_writes most depth word
+writes most (part.Atom depth) token.LeftParen = λ l u d.
+    written_group most u (has_condition most (suc depth) (part.ClosingParen ∷ []) u d) (λ f fs ls. condition_group (condition f fs ls)) (λ f fs ls h. (l, h)) (λ f fs ls. refl)
+writes most (part.Atoms depth) token.Amp = λ l u (v, w, f, d, e). written_amp u v w f (single most (part.Atoms depth) w d) e and_fatom (λ f fs h k. (h, k)) (λ f fs. refl)
+writes most (part.Conjunctions depth) token.Bar = λ l u d. written_bar most u (has_condition most depth [] u d) or_fand (λ f fs ls h. h) (λ f fs ls. refl)
+writes most part.OpeningParen token.LeftParen = λ l u d. ap (λ w. token.LeftParen ∷ w) d
+writes most part.MaybeBang token.Bang = λ l u d. written_alone true token.Bang u refl d
+writes most part.ClosingParen token.RightParen = λ l u d. ap (λ w. token.RightParen ∷ w) d
+writes most part.ClosingBracket token.RightBracket = λ l u d. ap (λ w. token.RightBracket ∷ w) d
 writes most part.Items z = items_write most z
 writes most part.States z = states_write most z
 writes most part.MaybeLabel z = maybe_label_writes most z
 writes most part.MaybeMarks z = maybe_marks_write most z
 writes most part.Marks z = marks_write most z
 writes most part.Edges z = edges_write most z
+writes most p z = passed_writes most p
 
 -- the parts in front of others
 record IsSplit (most : ℕ) (ps others : List Part) (u : List Token) : Type 0 where
