@@ -1,5 +1,5 @@
 -- A token that is taken, and what is written behind it, write the part that takes it: labels and conditions.
-use Rattle.std.proofs.Common.{◌≡◌, ℕ, ◌≤◌, Bool, List, [], ◌∷◌, ◌++◌, map, refl, sym, ap, ◌∙◌, subst}
+use Rattle.std.proofs.Common.{◌≡◌, ℕ, ◌≤◌, Bool, List, [], ◌∷◌, ◌++◌, map, cond, refl, sym, ap, ◌∙◌, subst}
 use Rattle.std.specs.Prelude.{codes}
 use Rattle.std.proofs.lemmas.List.{append_assoc, append-nil}
 use Rattle.hoa_lexer.specs.declared.token.Token.{Token}
@@ -34,6 +34,13 @@ written_alone v z u same d = record { phrase = v; keeps = tt; spelled = ap (λ w
 -- a token before others of its list
 pub written_more : {V : Type 0} (spelled : V → Token) (v : V) (u : List Token) → IsPlain (List V) (map spelled) u → IsPlain (List V) (map spelled) (spelled v ∷ u)
 written_more spelled v u f = record { phrase = v ∷ f.phrase; keeps = tt; spelled = ap (λ w. spelled v ∷ w) f.spelled }
+
+-- a word that the part takes, or else another one
+word_or : (most : ℕ) (p : Part) (word known : List ℕ) (ps : List Part) (otherwise : Move) → ((u : List Token) → Derives most ps u → Fills most p (token.Identifier known ∷ u))
+    → Writes most p (token.Identifier word) otherwise → Writes most p (token.Identifier word) (cond (same_text word known) (Takes ps) otherwise)
+word_or most p word known ps otherwise one =
+    cond_either (Writes most p (token.Identifier word)) (same_text word known) (Takes ps) otherwise
+    (λ h l u d. subst (λ (w : List ℕ). Fills most p (token.Identifier w ∷ u)) (sym (same word known h)) (one u d))
 
 -- `&`, and a part before others of its chain
 pub written_amp : {X Y : Type 0} {P : X → Type 0} {Q : Y → Type 0} {f : X → List Token} {g : Y → List Token} (u v w : List Token) → IsWritten X P f v → IsWritten Y Q g w → u ≡ v ++ w
@@ -72,17 +79,16 @@ has_chain {f = f} {g = g} {h = h} u v w v' w' v'' w'' one e others e' more e'' b
       ∙ sym (append_assoc (f one.phrase) (g others.phrase ++ h more.phrase) w'');
 }
 
--- a chain in parentheses
+-- a chain in parentheses or in brackets
 pub written_group : {X Y Z F : Type 0} {P : X → Type 0} {Q : Y → Type 0} {R : Z → Type 0} {f : X → List Token} {g : Y → List Token} {h : Z → List Token} {K : F → Type 0} {tokens : F → List Token}
-    (most : ℕ) (u : List Token) → HasChain P Q R f g h (Derives most (part.ClosingParen ∷ [])) u → (group : X → Y → Z → F) → ((x : X) (y : Y) (z : Z) → P x × Q y × R z → K (group x y z))
-    → ((x : X) (y : Y) (z : Z) → token.LeftParen ∷ ((f x ++ (g y ++ h z)) ++ token.RightParen ∷ []) ≡ tokens (group x y z)) → IsWritten F K tokens (token.LeftParen ∷ u)
-written_group {f = f} {g = g} {h = h} most u x group keeps spells =
-    let close : x.rest ≡ token.RightParen ∷ [] = single most part.ClosingParen x.rest x.behind in
-    record {
-      phrase = group x.first x.others x.more;
-      keeps = keeps x.first x.others x.more x.within;
-      spelled = ap (λ w. token.LeftParen ∷ w) (x.split ∙ ap (λ w. (f x.first ++ (g x.others ++ h x.more)) ++ w) close) ∙ spells x.first x.others x.more;
-    }
+    {Behind : List Token → Type 0} (opening closing : Token) (u : List Token) → HasChain P Q R f g h Behind u → ((rest : List Token) → Behind rest → rest ≡ closing ∷ []) → (group : X → Y → Z → F)
+    → ((x : X) (y : Y) (z : Z) → P x × Q y × R z → K (group x y z)) → ((x : X) (y : Y) (z : Z) → opening ∷ ((f x ++ (g y ++ h z)) ++ closing ∷ []) ≡ tokens (group x y z))
+    → IsWritten F K tokens (opening ∷ u)
+written_group {f = f} {g = g} {h = h} opening closing u x closes group keeps spells = record {
+  phrase = group x.first x.others x.more;
+  keeps = keeps x.first x.others x.more x.within;
+  spelled = ap (λ w. opening ∷ w) (x.split ∙ ap (λ w. (f x.first ++ (g x.others ++ h x.more)) ++ w) (closes x.rest x.behind)) ∙ spells x.first x.others x.more;
+}
 
 -- `|`, and a chain that goes on to the end
 pub written_bar : {X Y Z : Type 0} {P : X → Type 0} {Q : Y → Type 0} {R : Z → Type 0} {f : X → List Token} {g : Y → List Token} {h : Z → List Token} (most : ℕ) (u : List Token)
@@ -106,11 +112,8 @@ has_label most depth ps u (v, w, f, (v', w', fs, (v'', w'', ls, d, e''), e'), e)
 
 pub label_word_writes : (most depth : ℕ) (word : List ℕ) → Writes most (part.Factor depth) (token.Identifier word) (label_word word)
 label_word_writes most depth word =
-    let P : Move → Type 0 = Writes most (part.Factor depth) (token.Identifier word) in
-    cond_either P (same_text word (codes "t")) (Takes []) _
-    (λ h l u d. record { phrase = true_label; keeps = tt; spelled = let w : word ≡ codes "t" = same word (codes "t") h in cc })
-    (cond_either P (same_text word (codes "f")) (Takes []) Refuses
-    (λ h l u d. record { phrase = false_label; keeps = tt; spelled = let w : word ≡ codes "f" = same word (codes "f") h in cc }) tt)
+    word_or most (part.Factor depth) word (codes "t") [] _ (λ u d. record { phrase = true_label; keeps = tt; spelled = ap (λ w. token.Identifier (codes "t") ∷ w) d })
+    (word_or most (part.Factor depth) word (codes "f") [] Refuses (λ u d. record { phrase = false_label; keeps = tt; spelled = ap (λ w. token.Identifier (codes "f") ∷ w) d }) tt)
 
 -- conditions
 
@@ -139,22 +142,9 @@ has_set most u (v, w, opening, (v', w', bang, (v'', w'', n, d, e''), e'), e) =
 
 pub condition_word_writes : (most depth : ℕ) (word : List ℕ) → Writes most (part.Atom depth) (token.Identifier word) (condition_word word)
 condition_word_writes most depth word =
-    let P : Move → Type 0 = Writes most (part.Atom depth) (token.Identifier word) in
-    cond_either P (same_text word (codes "t")) (Takes []) _
-    (λ h l u d. record { phrase = true_condition; keeps = tt; spelled = let w : word ≡ codes "t" = same word (codes "t") h in cc })
-    (cond_either P (same_text word (codes "f")) (Takes []) _
-    (λ h l u d. record { phrase = false_condition; keeps = tt; spelled = let w : word ≡ codes "f" = same word (codes "f") h in cc })
-    (cond_either P (same_text word (codes "Inf")) (Takes set_parts) _
-    (λ h l u d. let x = has_set most u d in record {
-      phrase = infinitely x.set x.neg;
-      keeps = tt;
-      spelled = ap (λ w. token.Identifier w ∷ u) (same word (codes "Inf") h)
-          ∙ ap (λ w. token.Identifier (codes "Inf") ∷ w) x.split;
-    })
-    (cond_either P (same_text word (codes "Fin")) (Takes set_parts) Refuses
-    (λ h l u d. let x = has_set most u d in record {
-      phrase = finitely x.set x.neg;
-      keeps = tt;
-      spelled = ap (λ w. token.Identifier w ∷ u) (same word (codes "Fin") h)
-          ∙ ap (λ w. token.Identifier (codes "Fin") ∷ w) x.split;
-    }) tt)))
+    word_or most (part.Atom depth) word (codes "t") [] _ (λ u d. record { phrase = true_condition; keeps = tt; spelled = ap (λ w. token.Identifier (codes "t") ∷ w) d })
+    (word_or most (part.Atom depth) word (codes "f") [] _ (λ u d. record { phrase = false_condition; keeps = tt; spelled = ap (λ w. token.Identifier (codes "f") ∷ w) d })
+    (word_or most (part.Atom depth) word (codes "Inf") set_parts _
+    (λ u d. let x = has_set most u d in record { phrase = infinitely x.set x.neg; keeps = tt; spelled = ap (λ w. token.Identifier (codes "Inf") ∷ w) x.split })
+    (word_or most (part.Atom depth) word (codes "Fin") set_parts Refuses
+    (λ u d. let x = has_set most u d in record { phrase = finitely x.set x.neg; keeps = tt; spelled = ap (λ w. token.Identifier (codes "Fin") ∷ w) x.split }) tt)))

@@ -15,31 +15,6 @@ use Rattle.hoa_parser.proofs.grammar.PartsWritten.{Derives, rest_tokens}
 use Rattle.hoa_parser.proofs.grammar.LabelsWritten.{Writes, joined, single, has_label}
 use Rattle.hoa_parser.proofs.grammar.HeaderNames.{IsNamed, named}
 
-pub maybe_label_writes : (most : ℕ) (z : Token) → Writes most part.MaybeLabel z (move part.MaybeLabel z)
-maybe_label_writes most token.LeftBracket = λ l u d.
-    let x = has_label most 0 (part.ClosingBracket ∷ []) u d in
-    let inner = label x.first x.others x.more in
-    let close : x.rest ≡ token.RightBracket ∷ [] = single most part.ClosingBracket x.rest x.behind in
-    record {
-      phrase = Some inner;
-      keeps = x.within;
-      spelled = ap (λ w. token.LeftBracket ∷ w) (x.split ∙ ap (λ w. label_tokens inner ++ w) close);
-    }
-maybe_label_writes most _ = record { phrase = None; keeps = tt; spelled = refl }
-
-pub maybe_marks_write : (most : ℕ) (z : Token) → Writes most part.MaybeMarks z (move part.MaybeMarks z)
-maybe_marks_write most token.LeftBrace = λ l u d.
-    let f = single most part.Marks u d in
-    record { phrase = Some f.phrase; keeps = tt; spelled = ap (λ w. token.LeftBrace ∷ w) f.spelled }
-maybe_marks_write most _ = record { phrase = None; keeps = tt; spelled = refl }
-
-pub marks_write : (most : ℕ) (z : Token) → Writes most part.Marks z (move part.Marks z)
-marks_write most (token.Int n) = λ l u d.
-    let f = single most part.Marks u d in
-    record { phrase = n ∷ f.phrase; keeps = tt; spelled = ap (λ w. token.Int n ∷ w) f.spelled }
-marks_write most token.RightBrace = λ l u d. record { phrase = []; keeps = tt; spelled = ap (λ w. token.RightBrace ∷ w) d }
-marks_write most _ = tt
-
 -- what is written behind the number that an edge leads to
 record HasGoal (most : ℕ) (u : List Token) : Type 0 where
   numbers : List ℕ

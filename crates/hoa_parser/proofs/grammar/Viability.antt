@@ -22,7 +22,7 @@ use Rattle.hoa_parser.proofs.grammar.PartsWritten.{Derives, completable}
 use Rattle.hoa_parser.proofs.grammar.LabelsWritten.{Writes, condition_word_writes, has_condition, has_label, label_word_writes, single}
 use Rattle.hoa_parser.proofs.grammar.LabelsWritten.{written_alone, written_amp, written_bar, written_group, written_more}
 use Rattle.hoa_parser.proofs.grammar.ItemsWritten.{items_write}
-use Rattle.hoa_parser.proofs.grammar.StatesWritten.{maybe_label_writes, maybe_marks_write, marks_write, edges_write, states_write, whole_writes}
+use Rattle.hoa_parser.proofs.grammar.StatesWritten.{edges_write, states_write, whole_writes}
 use Rattle.aut_base.proofs.lists.Lists.{none_some}
 
 -- what a token writes that begins no such part: nothing, where the part may be left out
@@ -65,12 +65,14 @@ writes most (part.Factor depth) (token.Identifier word) = label_word_writes most
 writes most (part.Factor depth) (token.Int n) = λ l u d. record { phrase = proposition n; keeps = tt; spelled = ap (λ w. token.Int n ∷ w) d }
 writes most (part.Factor depth) (token.Alias name) = λ l u d. record { phrase = alias name; keeps = tt; spelled = ap (λ w. token.Alias name ∷ w) d }
 writes most (part.Factor depth) token.LeftParen = λ l u d.
-    written_group most u (has_label most (suc depth) (part.ClosingParen ∷ []) u d) (λ f fs ls. group (label f fs ls)) (λ f fs ls h. (l, h)) (λ f fs ls. refl)
+    written_group token.LeftParen token.RightParen u (has_label most (suc depth) (part.ClosingParen ∷ []) u d) (single most part.ClosingParen) (λ f fs ls. group (label f fs ls)) (λ f fs ls h. (l, h))
+    (λ f fs ls. refl)
 writes most (part.Factors depth) token.Amp = λ l u (v, w, f, d, e). written_amp u v w f (single most (part.Factors depth) w d) e and_lnot (λ f fs h k. (h, k)) (λ f fs. refl)
 writes most (part.Products depth) token.Bar = λ l u d. written_bar most u (has_label most depth [] u d) or_land (λ f fs ls h. h) (λ f fs ls. refl)
 writes most (part.Atom depth) (token.Identifier word) = condition_word_writes most depth word
 writes most (part.Atom depth) token.LeftParen = λ l u d.
-    written_group most u (has_condition most (suc depth) (part.ClosingParen ∷ []) u d) (λ f fs ls. condition_group (condition f fs ls)) (λ f fs ls h. (l, h)) (λ f fs ls. refl)
+    written_group token.LeftParen token.RightParen u (has_condition most (suc depth) (part.ClosingParen ∷ []) u d) (single most part.ClosingParen) (λ f fs ls. condition_group (condition f fs ls))
+    (λ f fs ls h. (l, h)) (λ f fs ls. refl)
 writes most (part.Atoms depth) token.Amp = λ l u (v, w, f, d, e). written_amp u v w f (single most (part.Atoms depth) w d) e and_fatom (λ f fs h k. (h, k)) (λ f fs. refl)
 writes most (part.Conjunctions depth) token.Bar = λ l u d. written_bar most u (has_condition most depth [] u d) or_fand (λ f fs ls h. h) (λ f fs ls. refl)
 writes most part.OpeningParen token.LeftParen = λ l u d. ap (λ w. token.LeftParen ∷ w) d
@@ -79,9 +81,16 @@ writes most part.ClosingParen token.RightParen = λ l u d. ap (λ w. token.Right
 writes most part.ClosingBracket token.RightBracket = λ l u d. ap (λ w. token.RightBracket ∷ w) d
 writes most part.Items z = items_write most z
 writes most part.States z = states_write most z
-writes most part.MaybeLabel z = maybe_label_writes most z
-writes most part.MaybeMarks z = maybe_marks_write most z
-writes most part.Marks z = marks_write most z
+writes most part.MaybeLabel token.LeftBracket = λ l u d.
+    written_group token.LeftBracket token.RightBracket u (has_label most 0 (part.ClosingBracket ∷ []) u d) (single most part.ClosingBracket) (λ f fs ls. Some (label f fs ls)) (λ f fs ls h. h)
+    (λ f fs ls. refl)
+writes most part.MaybeMarks token.LeftBrace = λ l u d.
+    let f = single most part.Marks u d in
+    record { phrase = Some f.phrase; keeps = tt; spelled = ap (λ w. token.LeftBrace ∷ w) f.spelled }
+writes most part.Marks (token.Int n) = λ l u d.
+    let f = single most part.Marks u d in
+    record { phrase = n ∷ f.phrase; keeps = tt; spelled = ap (λ w. token.Int n ∷ w) f.spelled }
+writes most part.Marks token.RightBrace = λ l u d. written_alone [] token.RightBrace u refl d
 writes most part.Edges z = edges_write most z
 writes most p z = passed_writes most p
 
