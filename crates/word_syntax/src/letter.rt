@@ -56,17 +56,11 @@ impl Level {
     fn complete(self, alloc: Global, label: Label) -> Result<Level, Memory>
         ensures { IfOk result (λ new. level_tree new ≡ machine.complete_level (level_tree self) (label_tree label)) }
     {
-        let Level {
-            around,
-            ors,
-            ands,
-            nots,
-        } = self;
-        let label = negated(alloc, label, nots)?;
-        let ands = ands.add(alloc, label)?;
+        let label = negated(alloc, label, self.nots)?;
+        let ands = self.ands.add(alloc, label)?;
         Ok(Level {
-            around,
-            ors,
+            around: self.around,
+            ors: self.ors,
             ands,
             nots: 0,
         })
@@ -76,18 +70,12 @@ impl Level {
     fn or(self, alloc: Global) -> Result<Level, Memory>
         ensures { IfOk result (λ new. level_tree new ≡ machine.or_level (level_tree self)) }
     {
-        let Level {
-            around,
-            ors,
-            ands,
-            nots,
-        } = self;
-        let ors = ors.add(alloc, ands.all())?;
+        let ors = self.ors.add(alloc, self.ands.all())?;
         Ok(Level {
-            around,
+            around: self.around,
             ors,
             ands: Chain::Nothing,
-            nots,
+            nots: self.nots,
         })
     }
 
@@ -95,13 +83,7 @@ impl Level {
     fn label(self, alloc: Global) -> Result<Label, Memory>
         ensures { IfOk result (λ label. label_tree label ≡ machine.level_label (level_tree self)) }
     {
-        let Level {
-            around: _,
-            ors,
-            ands,
-            nots: _,
-        } = self;
-        let whole = ors.add(alloc, ands.all())?;
+        let whole = self.ors.add(alloc, self.ands.all())?;
         Ok(whole.one_of())
     }
 }
@@ -189,16 +171,11 @@ impl LetterReader {
     fn complete(self, alloc: Global, label: Label) -> Result<LetterReader, Memory>
         ensures { IfOk result (λ new. letter_state new ≡ machine.complete (letter_state self) (label_tree label)) }
     {
-        let LetterReader {
-            outer,
-            level,
-            ready: _,
-        } = self;
-        let level = level.complete(alloc, label)?;
+        let level = self.level.complete(alloc, label)?;
         Ok(LetterReader {
-            outer,
             level,
             ready: true,
+            ..self
         })
     }
 
@@ -206,30 +183,20 @@ impl LetterReader {
     fn not(self) -> Option<LetterReader>
         ensures { option_map letter_state result ≡ machine.maybe_negated (letter_state self) }
     {
-        let LetterReader {
-            outer,
-            level,
-            ready: _,
-        } = self;
-        let Level {
-            around,
-            ors,
-            ands,
-            nots,
-        } = level;
-        if around + nots >= MOST_DEPTH {
+        let level = self.level;
+        if level.around + level.nots >= MOST_DEPTH {
             return None;
         }
         let level = Level {
-            around,
-            ors,
-            ands,
-            nots: nots + 1,
+            around: level.around,
+            ors: level.ors,
+            ands: level.ands,
+            nots: level.nots + 1,
         };
         Some(LetterReader {
-            outer,
             level,
             ready: false,
+            ..self
         })
     }
 
@@ -258,15 +225,9 @@ impl LetterReader {
     fn and(self) -> LetterReader
         ensures { letter_state result ≡ machine.anded (letter_state self) }
     {
-        let LetterReader {
-            outer,
-            level,
-            ready: _,
-        } = self;
         LetterReader {
-            outer,
-            level,
             ready: false,
+            ..self
         }
     }
 
@@ -274,16 +235,11 @@ impl LetterReader {
     fn or(self, alloc: Global) -> Result<LetterReader, Memory>
         ensures { IfOk result (λ new. letter_state new ≡ machine.ored (letter_state self)) }
     {
-        let LetterReader {
-            outer,
-            level,
-            ready: _,
-        } = self;
-        let level = level.or(alloc)?;
+        let level = self.level.or(alloc)?;
         Ok(LetterReader {
-            outer,
             level,
             ready: false,
+            ..self
         })
     }
 

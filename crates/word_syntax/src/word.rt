@@ -9,6 +9,7 @@ use crate::stage::Stage;
 use crate::token::Token;
 use aut_base::{Memory, Names};
 use std::alloc::Global;
+use std::mem;
 
 /// A word as far as it is read.
 #[derive(Debug, Drop)]
@@ -81,67 +82,40 @@ impl WordReader {
     }
 
     // `;`
-    fn end_letter(self, alloc: Global) -> Result<Option<WordReader>, Memory>
+    fn end_letter(mut self, alloc: Global) -> Result<Option<WordReader>, Memory>
         ensures { IfOk result (λ next. Takes self Token.Semicolon next) }
     {
-        let WordReader {
-            names,
-            mut stem,
-            mut cycle,
-            stage,
-            letter,
-        } = self;
+        let letter = mem::replace(&mut self.letter, LetterReader::new(alloc));
         let Some(label) = letter.whole(alloc)? else {
             return Ok(None);
         };
-        match stage {
+        match self.stage {
             Stage::Stem => {
-                stem.push(label)?;
-                Ok(Some(WordReader {
-                    names,
-                    stem,
-                    cycle,
-                    stage,
-                    letter: LetterReader::new(alloc),
-                }))
+                self.stem.push(label)?;
+                Ok(Some(self))
             }
             Stage::Cycle => {
-                cycle.push(label)?;
-                Ok(Some(WordReader {
-                    names,
-                    stem,
-                    cycle,
-                    stage,
-                    letter: LetterReader::new(alloc),
-                }))
+                self.cycle.push(label)?;
+                Ok(Some(self))
             }
             _ => Ok(None),
         }
     }
 
     // `}`
-    fn end_word(self, alloc: Global) -> Result<Option<WordReader>, Memory>
+    fn end_word(mut self, alloc: Global) -> Result<Option<WordReader>, Memory>
         ensures { IfOk result (λ next. Takes self Token.RightBrace next) }
     {
-        let WordReader {
-            names,
-            stem,
-            mut cycle,
-            stage,
-            letter,
-        } = self;
-        let Some(label) = letter.whole(alloc)? else {
+        let Some(label) = self.letter.whole(alloc)? else {
             return Ok(None);
         };
-        match stage {
+        match self.stage {
             Stage::Cycle => {
-                cycle.push(label)?;
+                self.cycle.push(label)?;
                 Ok(Some(WordReader {
-                    names,
-                    stem,
-                    cycle,
                     stage: Stage::End,
                     letter: LetterReader::new(alloc),
+                    ..self
                 }))
             }
             _ => Ok(None),
@@ -152,24 +126,14 @@ impl WordReader {
     fn begin_cycle(self) -> Option<WordReader>
         ensures { Takes self Token.Cycle result }
     {
-        let WordReader {
-            names,
-            stem,
-            cycle,
-            stage,
-            letter,
-        } = self;
-        match stage {
+        match self.stage {
             Stage::Stem => {
-                if !letter.is_fresh() {
+                if !self.letter.is_fresh() {
                     return None;
                 }
                 Some(WordReader {
-                    names,
-                    stem,
-                    cycle,
                     stage: Stage::Brace,
-                    letter,
+                    ..self
                 })
             }
             _ => None,
@@ -180,20 +144,10 @@ impl WordReader {
     fn open_cycle(self) -> Option<WordReader>
         ensures { Takes self Token.LeftBrace result }
     {
-        let WordReader {
-            names,
-            stem,
-            cycle,
-            stage,
-            letter,
-        } = self;
-        match stage {
+        match self.stage {
             Stage::Brace => Some(WordReader {
-                names,
-                stem,
-                cycle,
                 stage: Stage::Cycle,
-                letter,
+                ..self
             }),
             _ => None,
         }
