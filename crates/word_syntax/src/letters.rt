@@ -3,6 +3,7 @@
 ghost use Rattle.std.specs.Prelude.{◌≡◌, ◌≤◌, length, take, drop, ◌↔◌, ◌++◌, IsTrue, IfOk, OnOk};
 ghost use Rattle.word_syntax.specs.inner.Periods.{IsWithin};
 
+use crate::over::holds_only;
 use aut_base::{Letter, Letters, Memory};
 use std::alloc::Global;
 
@@ -17,12 +18,7 @@ pub(crate) fn is_same(a: &Letter, b: &Letter) -> bool
 fn is_within(a: &Letter, b: &Letter) -> bool
     ensures { IsTrue result ↔ IsWithin a.now b.now }
 {
-    'names: for name in a.names().as_slice() {
-        if !b.has(name) {
-            return false;
-        }
-    }
-    true
+    holds_only(a, b.names())
 }
 
 // The letter, held apart.

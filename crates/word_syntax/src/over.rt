@@ -19,8 +19,8 @@ fn all_hold_only(letters: &[Letter], names: &Names) -> bool
     letters.iter().all(|letter| holds_only(letter, names))
 }
 
-// Whether the letter holds only these names.
-fn holds_only(letter: &Letter, names: &Names) -> bool
+/// Whether the letter holds only these names.
+pub(crate) fn holds_only(letter: &Letter, names: &Names) -> bool
     ensures { IsTrue result ↔ HoldsOnly names.now letter.now }
 {
     'names: for name in letter.names().as_slice() {
