@@ -8,7 +8,7 @@ use Rattle.std.specs.Option.{option_map}
 use Rattle.aut_base.specs.declared.limit.TheConstants.{MOST_DEPTH}
 use Rattle.aut_base.specs.Label.{LabelTree}
 use Rattle.word_syntax.proofs.grammar.LetterParts.{IsLevel, IsPart, Knows, Surrounds, level_letter, nots, part_fresh, part_step}
-use Rattle.word_syntax.specs.Grammar.{AreConjunctions, AreLetters, AreOperands, IsLetter, alternative, letter, no_conjunction, no_letter, no_operand, operand}
+use Rattle.word_syntax.specs.Grammar.{AreConjunctions, AreLetters, AreOperands, IsLetter, IsWord, alternative, distinct, letter, names_of, no_conjunction, no_letter, no_operand, operand}
 use Rattle.word_syntax.specs.inner.Machine as machine
 use Rattle.word_syntax.specs.inner.Machine.{LetterState, LevelTree, WordState, is_fresh, is_none, is_of_letter, letter_step, level_label, whole_letter, with_letter, word_step}
 use Rattle.word_syntax.specs.declared.stage.Stage.{Stage}
@@ -96,18 +96,9 @@ pub record CyclePart (names : List (List ℕ)) (s : WordState) (tokens : List To
   pub part : IsPart names s.letter letter_tokens
   pub spelled : tokens ≡ stem_tokens ++ (token.Cycle ∷ token.LeftBrace ∷ (cycle_tokens ++ letter_tokens))
 
--- behind the closing brace
-pub record EndPart (names : List (List ℕ)) (s : WordState) (tokens : List Token) : Type 0 where
-  pub stem_tokens : List Token
-  pub cycle_tokens : List Token
-  pub last_tokens : List Token
-  pub first : List LabelTree
-  pub last : LabelTree
-  pub stem : AreLetters names MOST_DEPTH stem_tokens s.stem
-  pub letters : AreLetters names MOST_DEPTH cycle_tokens first
-  pub last_letter : IsLetter names MOST_DEPTH last_tokens last
-  pub cycle : s.cycle ≡ first ++ last ∷ []
-  pub spelled : tokens ≡ stem_tokens ++ (token.Cycle ∷ token.LeftBrace ∷ (cycle_tokens ++ (last_tokens ++ token.RightBrace ∷ [])))
+-- behind the closing brace: a word, where the names are those of its tokens
+abbrev pub EndPart : List (List ℕ) → WordState → List Token → Type 0
+EndPart names s tokens = names ≡ distinct (names_of tokens) → IsWord tokens (record { names = names; stem = s.stem; cycle = s.cycle })
 
 abbrev pub PartAt : Stage → List (List ℕ) → WordState → List Token → Type 0
 PartAt Stem names s tokens = StemPart names s tokens
@@ -159,12 +150,13 @@ semicolon_part names stem cycle End l next t tokens p whole step = absurd (none-
 brace_part : (names : List (List ℕ)) (stem cycle : List LabelTree) (stage : Stage) (l : LetterState) (next : WordState) (t : LabelTree) (tokens : List Token)
     → IsWordPart names (word stem cycle stage l) tokens → whole_letter l ≡ Some t → machine.closed_at stage (word stem cycle stage l) t ≡ Some next
     → IsWordPart names next (tokens ++ token.RightBrace ∷ [])
-brace_part names stem cycle Cycle l next t tokens p whole step = part_at names _ next (tokens ++ token.RightBrace ∷ []) step (record {
+brace_part names stem cycle Cycle l next t tokens p whole step = part_at names _ next (tokens ++ token.RightBrace ∷ []) step (λ names_are. record {
   stem_tokens = p.stem_tokens;
   cycle_tokens = p.cycle_tokens;
   last_tokens = p.letter_tokens;
   first = cycle;
   last = t;
+  names = names_are;
   stem = p.stem;
   letters = p.cycle;
   last_letter = whole_part names l p.letter_tokens t p.part whole;

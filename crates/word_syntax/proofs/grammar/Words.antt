@@ -10,7 +10,7 @@ use Rattle.word_syntax.proofs.grammar.LetterRuns.{ended, letter_runs}
 use Rattle.word_syntax.proofs.grammar.NamePlaces.{agrees_front, distinct_differ, distinct_front, knows_all, names_of-append, place_in, places_agree}
 use Rattle.word_syntax.proofs.grammar.Runs.{runs_once, runs_over, runs_push, runs_stuck, runs_then, runs_to}
 use Rattle.word_syntax.specs.inner.Runs.{Runs}
-use Rattle.word_syntax.proofs.grammar.WordParts.{EndPart, IsWordPart, PartAt, word, word_part_start, word_part_step}
+use Rattle.word_syntax.proofs.grammar.WordParts.{IsWordPart, PartAt, word, word_part_start, word_part_step}
 use Rattle.word_syntax.specs.Grammar.{AreLetters, Begins, IsWord, WordPattern, distinct, letter, names_of, no_letter}
 use Rattle.word_syntax.specs.inner.Chains.{Agrees}
 use Rattle.word_syntax.specs.inner.Reading.{HasRead}
@@ -79,22 +79,6 @@ known_from : (all v w : List Token) → all ≡ v ++ w → AllByRecursion (Knows
 known_from all v [] e = tt
 known_from all v (t ∷ w) e = (knows_all v w t all e, known_from all (v ++ t ∷ []) w (e ∙ sym (append_assoc v (t ∷ []) w)))
 
-ended_word : (names : List (List ℕ)) (s : WordState) (tokens : List Token) → names ≡ distinct (names_of tokens) → EndPart names s tokens
-    → IsWord tokens (record { names = names; stem = s.stem; cycle = s.cycle })
-ended_word names s tokens e p = record {
-  stem_tokens = p.stem_tokens;
-  cycle_tokens = p.cycle_tokens;
-  last_tokens = p.last_tokens;
-  first = p.first;
-  last = p.last;
-  names = e;
-  stem = p.stem;
-  letters = p.letters;
-  last_letter = p.last_letter;
-  cycle = p.cycle;
-  spelled = p.spelled;
-}
-
 own_places : (tokens : List Token) → Agrees (place_in (distinct (names_of tokens))) (distinct (names_of tokens))
 own_places tokens = places_agree (distinct (names_of tokens)) (distinct_differ (names_of tokens))
 
@@ -104,7 +88,7 @@ ran_word tokens s runs is_end =
     let names = distinct (names_of tokens) in
     let part = run_part (place_in names) names word_start s [] tokens (known_from tokens [] tokens refl) (word_part_start names) runs in
     let P : Stage → Type 0 = λ x. PartAt x names s tokens in
-    ended_word names s tokens refl (subst P is_end part)
+    subst P is_end part refl
 
 pub whole_word : (tokens : List Token) (s : WordState) → HasRead tokens s → s.stage ≡ End → IsWord tokens (record { names = distinct (names_of tokens); stem = s.stem; cycle = s.cycle })
 whole_word tokens s read is_end = ran_word tokens s (read (place_in (distinct (names_of tokens))) (own_places tokens)) is_end
