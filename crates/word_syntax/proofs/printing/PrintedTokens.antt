@@ -19,10 +19,14 @@ use Rattle.word_syntax.specs.declared.token.Token.TheVariants as token
 abbrev pub literal_tokens : NameSet → List ℕ → List Token
 literal_tokens x n = cond (contains x n) (token.Name n ∷ []) (token.Not ∷ token.Name n ∷ [])
 
+-- the tokens of each, and this one between each two
+abbrev pub separated : {A : Type 0} → Token → (A → List Token) → List A → List Token
+separated sign tokens [] = []
+separated sign tokens (x ∷ []) = tokens x
+separated sign tokens (x ∷ y ∷ ys) = tokens x ++ (sign ∷ separated sign tokens (y ∷ ys))
+
 abbrev pub literals_tokens : NameSet → List (List ℕ) → List Token
-literals_tokens x [] = []
-literals_tokens x (n ∷ []) = literal_tokens x n
-literals_tokens x (n ∷ m ∷ ms) = literal_tokens x n ++ (token.And ∷ literals_tokens x (m ∷ ms))
+literals_tokens x ns = separated token.And (literal_tokens x) ns
 
 abbrev pub letter_tokens : List (List ℕ) → NameSet → List Token
 letter_tokens [] x = token.True ∷ []
@@ -33,9 +37,7 @@ stem_tokens names [] = []
 stem_tokens names (x ∷ xs) = letter_tokens names x ++ (token.Semicolon ∷ stem_tokens names xs)
 
 abbrev pub cycle_tokens : List (List ℕ) → List NameSet → List Token
-cycle_tokens names [] = []
-cycle_tokens names (x ∷ []) = letter_tokens names x
-cycle_tokens names (x ∷ y ∷ ys) = letter_tokens names x ++ (token.Semicolon ∷ cycle_tokens names (y ∷ ys))
+cycle_tokens names xs = separated token.Semicolon (letter_tokens names) xs
 
 abbrev pub word_tokens : List (List ℕ) → List NameSet → List NameSet → List Token
 word_tokens names u v = stem_tokens names u ++ (token.Cycle ∷ token.LeftBrace ∷ (cycle_tokens names v ++ token.RightBrace ∷ []))
@@ -115,73 +117,85 @@ spaced text ts end b = subst (λ (x : List Token). Lexes (32 ∷ text) x end) (s
 begun : (text : List ℕ) (first : Token) (others ts : List Token) (end : List ℕ) → ts ≡ first ∷ others → Lexes text ts end → Begun text ts end
 begun text first others ts end is l = record { first = first; others = others; is = is; lexes = subst (λ (x : List Token). Lexes text x end) is l }
 
-literal_begins : (x : NameSet) (n : List ℕ) (ts : List Token) → (first : Token) × (others : List Token) × (literal_tokens x n ++ ts ≡ first ∷ others)
-literal_begins x n ts = elim (cases_Bool (contains x n)) [
+abbrev Starts : List Token → Type 0
+Starts ts = (first : Token) × (others : List Token) × (ts ≡ first ∷ others)
+
+-- with a token and more behind
+starts_more : (v w ts : List Token) (t : Token) → ((us : List Token) → Starts (v ++ us)) → Starts ((v ++ t ∷ w) ++ ts)
+starts_more v w ts t starts = let b = starts (t ∷ w ++ ts) in (b.0, b.1, append_assoc v (t ∷ w) ts ∙ b.2)
+
+-- a text of each item, which ends where no word goes on, and its tokens
+record Item {A : Type 0} (text : A → List ℕ) (tokens : A → List Token) (x : A) : Type 0 where
+  starts : (ts : List Token) → Starts (tokens x ++ ts)
+  lexes : (rest : List ℕ) (ts : List Token) (end : List ℕ) → StopsAt is_word rest → Lexes rest ts end → Lexes (text x ++ rest) (tokens x ++ ts) end
+
+-- a sign between items, with a space behind it
+record Between (text : List ℕ) (sign : Token) : Type 0 where
+  stops : (more : List ℕ) → StopsAt is_word (text ++ more)
+  lexes : (more : List ℕ) (ts : List Token) (end : List ℕ) → Begun more ts end → Lexes (text ++ more) (sign ∷ ts) end
+
+separated_starts : {A : Type 0} (sign : Token) (text : A → List ℕ) (tokens : A → List Token) → ((x : A) → Item text tokens x) → (x : A) (xs : List A) (ts : List Token)
+    → Starts (separated sign tokens (x ∷ xs) ++ ts)
+separated_starts sign text tokens item x [] ts = (item x).starts ts
+separated_starts sign text tokens item x (y ∷ ys) ts = starts_more (tokens x) (separated sign tokens (y ∷ ys)) ts sign (item x).starts
+
+-- items with a sign between each two
+lex_separated : {A : Type 0} (between : List ℕ) (sign : Token) (text : A → List ℕ) (tokens : A → List Token) → Between between sign → ((x : A) → Item text tokens x)
+    → (x : A) (xs : List A) (rest : List ℕ) (ts : List Token) (end : List ℕ) → StopsAt is_word rest → Lexes rest ts end
+    → Lexes (joined between (map text (x ∷ xs)) ++ rest) (separated sign tokens (x ∷ xs) ++ ts) end
+lex_separated between sign text tokens b item x [] rest ts end stop lexes = (item x).lexes rest ts end stop lexes
+lex_separated between sign text tokens b item x (y ∷ ys) rest ts end stop lexes =
+    let others : List ℕ = joined between (map text (y ∷ ys)) in
+    let behind : List Token = separated sign tokens (y ∷ ys) in
+    let later = lex_separated between sign text tokens b item y ys rest ts end stop lexes in
+    let starts = separated_starts sign text tokens item y ys ts in
+    let next = b.lexes (others ++ rest) (behind ++ ts) end (begun (others ++ rest) starts.0 starts.1 (behind ++ ts) end starts.2 later) in
+    let whole = (item x).lexes (between ++ (others ++ rest)) (sign ∷ behind ++ ts) end (b.stops (others ++ rest)) next in
+    let spelled : (text x ++ (between ++ others)) ++ rest ≡ text x ++ (between ++ (others ++ rest)) =
+    append_assoc (text x) (between ++ others) rest ∙ ap (λ (w : List ℕ). text x ++ w) (append_assoc between others rest) in
+    subst (λ (w : List ℕ). Lexes w ((tokens x ++ (sign ∷ behind)) ++ ts) end) (sym spelled)
+    (subst (λ (w : List Token). Lexes (text x ++ (between ++ (others ++ rest))) w end) (sym (append_assoc (tokens x) (sign ∷ behind) ts)) whole)
+
+literal_starts : (x : NameSet) (n : List ℕ) (ts : List Token) → Starts (literal_tokens x n ++ ts)
+literal_starts x n ts = elim (cases_Bool (contains x n)) [
   | inl e ↦ (token.Name n, ts, ap (λ (w : List Token). w ++ ts) (cond-true _ _ _ e))
   | inr e ↦ (token.Not, token.Name n ∷ ts, ap (λ (w : List Token). w ++ ts) (cond-false _ _ _ e))
 ]
 
-literals_begin : (x : NameSet) (n : List ℕ) (ns : List (List ℕ)) (ts : List Token) → (first : Token) × (others : List Token) × (literals_tokens x (n ∷ ns) ++ ts ≡ first ∷ others)
-literals_begin x n [] ts = literal_begins x n ts
-literals_begin x n (m ∷ ms) ts = let b = literal_begins x n (token.And ∷ literals_tokens x (m ∷ ms) ++ ts) in
-    (b.0, b.1, append_assoc (literal_tokens x n) (token.And ∷ literals_tokens x (m ∷ ms)) ts ∙ b.2)
+-- a literal of a letter, and the sign between two
+literal_item : (x : NameSet) (n : List ℕ) → Item (literal_text x) (literal_tokens x) n
+literal_item x n = record { starts = literal_starts x n; lexes = lex_literal x n }
 
--- the literals of a letter
-lex_literals : (x : NameSet) (n : List ℕ) (ns : List (List ℕ)) (rest : List ℕ) (ts : List Token) (end : List ℕ) → StopsAt is_word rest → Lexes rest ts end
-    → Lexes (joined (codes " & ") (map (literal_text x) (n ∷ ns)) ++ rest) (literals_tokens x (n ∷ ns) ++ ts) end
-lex_literals x n [] rest ts end stop lexes = lex_literal x n rest ts end stop lexes
-lex_literals x n (m ∷ ms) rest ts end stop lexes =
-    let more : List ℕ = joined (codes " & ") (map (literal_text x) (m ∷ ms)) ++ rest in
-    let later = lex_literals x m ms rest ts end stop lexes in
-    let b = literals_begin x m ms ts in
-    let and = lex_space (codes "&" ++ (32 ∷ more)) token.And (literals_tokens x (m ∷ ms) ++ ts) end
-    (lex_cons token.And (codes "&") (32 ∷ more) (literals_tokens x (m ∷ ms) ++ ts) end (inl refl) refl
-    (spaced more (literals_tokens x (m ∷ ms) ++ ts) end (begun more b.0 b.1 (literals_tokens x (m ∷ ms) ++ ts) end b.2 later))) in
-    let whole = lex_literal x n (32 ∷ (codes "&" ++ (32 ∷ more))) (token.And ∷ literals_tokens x (m ∷ ms) ++ ts) end refl and in
-    let text : (literal_text x n ++ (codes " & " ++ joined (codes " & ") (map (literal_text x) (m ∷ ms)))) ++ rest ≡ literal_text x n ++ (32 ∷ (codes "&" ++ (32 ∷ more))) =
-    append_assoc (literal_text x n) (codes " & " ++ joined (codes " & ") (map (literal_text x) (m ∷ ms))) rest in
-    subst (λ (w : List ℕ). Lexes w ((literal_tokens x n ++ (token.And ∷ literals_tokens x (m ∷ ms))) ++ ts) end) (sym text)
-    (subst (λ (w : List Token). Lexes (literal_text x n ++ (32 ∷ (codes "&" ++ (32 ∷ more)))) w end) (sym (append_assoc (literal_tokens x n) (token.And ∷ literals_tokens x (m ∷ ms)) ts)) whole)
+between_literals : Between (codes " & ") token.And
+between_literals = record {
+  stops = λ more. refl;
+  lexes = λ more ts end b. lex_space (codes "&" ++ (32 ∷ more)) token.And ts end (lex_cons token.And (codes "&") (32 ∷ more) ts end (inl refl) refl (spaced more ts end b));
+}
+
+letter_starts : (names : List (List ℕ)) (x : NameSet) (ts : List Token) → Starts (letter_tokens names x ++ ts)
+letter_starts [] x ts = (token.True, ts, refl)
+letter_starts (n ∷ ns) x ts = separated_starts token.And (literal_text x) (literal_tokens x) (literal_item x) n ns ts
 
 lex_letter : (names : List (List ℕ)) (x : NameSet) (rest : List ℕ) (ts : List Token) (end : List ℕ) → StopsAt is_word rest → Lexes rest ts end
     → Lexes (letter_text names x ++ rest) (letter_tokens names x ++ ts) end
 lex_letter [] x rest ts end stop lexes = lex_cons token.True (codes "1") rest ts end (inl refl) (ends_anyhow (codes "1") rest (λ c. refl)) lexes
-lex_letter (n ∷ ns) x rest ts end stop lexes = lex_literals x n ns rest ts end stop lexes
+lex_letter (n ∷ ns) x rest ts end stop lexes =
+    lex_separated (codes " & ") token.And (literal_text x) (literal_tokens x) between_literals (literal_item x) n ns rest ts end stop lexes
 
-letter_begins : (names : List (List ℕ)) (x : NameSet) (ts : List Token) → (first : Token) × (others : List Token) × (letter_tokens names x ++ ts ≡ first ∷ others)
-letter_begins [] x ts = (token.True, ts, refl)
-letter_begins (n ∷ ns) x ts = literals_begin x n ns ts
+-- a letter of a word, and the sign between two
+letter_item : (names : List (List ℕ)) (x : NameSet) → Item (letter_text names) (letter_tokens names) x
+letter_item names x = record { starts = letter_starts names x; lexes = lex_letter names x }
 
--- `;` and a space
-lex_semicolon : (text : List ℕ) (ts : List Token) (end : List ℕ) → Begun text ts end → Lexes (59 ∷ 32 ∷ text) (token.Semicolon ∷ ts) end
-lex_semicolon text ts end b = lex_cons token.Semicolon (codes ";") (32 ∷ text) ts end refl refl (spaced text ts end b)
-
--- the letters of the cycle
-cycle_begins : (names : List (List ℕ)) (x : NameSet) (xs : List NameSet) (ts : List Token) → (first : Token) × (others : List Token) × (cycle_tokens names (x ∷ xs) ++ ts ≡ first ∷ others)
-cycle_begins names x [] ts = letter_begins names x ts
-cycle_begins names x (y ∷ ys) ts = let b = letter_begins names x (token.Semicolon ∷ cycle_tokens names (y ∷ ys) ++ ts) in
-    (b.0, b.1, append_assoc (letter_tokens names x) (token.Semicolon ∷ cycle_tokens names (y ∷ ys)) ts ∙ b.2)
-
-lex_cycle : (names : List (List ℕ)) (x : NameSet) (xs : List NameSet) (rest : List ℕ) (ts : List Token) (end : List ℕ) → StopsAt is_word rest → Lexes rest ts end
-    → Lexes (joined (codes "; ") (map (letter_text names) (x ∷ xs)) ++ rest) (cycle_tokens names (x ∷ xs) ++ ts) end
-lex_cycle names x [] rest ts end stop lexes = lex_letter names x rest ts end stop lexes
-lex_cycle names x (y ∷ ys) rest ts end stop lexes =
-    let more : List ℕ = joined (codes "; ") (map (letter_text names) (y ∷ ys)) ++ rest in
-    let later = lex_cycle names y ys rest ts end stop lexes in
-    let b = cycle_begins names y ys ts in
-    let next = lex_semicolon more (cycle_tokens names (y ∷ ys) ++ ts) end (begun more b.0 b.1 (cycle_tokens names (y ∷ ys) ++ ts) end b.2 later) in
-    let whole = lex_letter names x (59 ∷ 32 ∷ more) (token.Semicolon ∷ cycle_tokens names (y ∷ ys) ++ ts) end refl next in
-    let text : (letter_text names x ++ (codes "; " ++ joined (codes "; ") (map (letter_text names) (y ∷ ys)))) ++ rest ≡ letter_text names x ++ (59 ∷ 32 ∷ more) =
-    append_assoc (letter_text names x) (codes "; " ++ joined (codes "; ") (map (letter_text names) (y ∷ ys))) rest in
-    subst (λ (w : List ℕ). Lexes w ((letter_tokens names x ++ (token.Semicolon ∷ cycle_tokens names (y ∷ ys))) ++ ts) end) (sym text)
-    (subst (λ (w : List Token). Lexes (letter_text names x ++ (59 ∷ 32 ∷ more)) w end) (sym (append_assoc (letter_tokens names x) (token.Semicolon ∷ cycle_tokens names (y ∷ ys)) ts)) whole)
+between_letters : Between (codes "; ") token.Semicolon
+between_letters = record {
+  stops = λ more. refl;
+  lexes = λ more ts end b. lex_cons token.Semicolon (codes ";") (32 ∷ more) ts end refl refl (spaced more ts end b);
+}
 
 -- the letters of the stem
-stem_begins : (names : List (List ℕ)) (xs : List NameSet) (ts : List Token) (t : Token) (us : List Token) → ts ≡ t ∷ us
-    → (first : Token) × (others : List Token) × (stem_tokens names xs ++ ts ≡ first ∷ others)
-stem_begins names [] ts t us is = (t, us, is)
-stem_begins names (x ∷ xs) ts t us is = let b = letter_begins names x (token.Semicolon ∷ stem_tokens names xs ++ ts) in
-    (b.0, b.1, append_assoc (letter_tokens names x) (token.Semicolon ∷ stem_tokens names xs) ts ∙ b.2)
+stem_starts : (names : List (List ℕ)) (xs : List NameSet) (ts : List Token) → Starts ts → Starts (stem_tokens names xs ++ ts)
+stem_starts names [] ts starts = starts
+stem_starts names (x ∷ xs) ts starts = starts_more (letter_tokens names x) (stem_tokens names xs) ts token.Semicolon (letter_starts names x)
 
 lex_stem : (names : List (List ℕ)) (xs : List NameSet) (rest : List ℕ) (ts : List Token) (t : Token) (us : List Token) (end : List ℕ) → ts ≡ t ∷ us → Lexes rest ts end
     → Lexes (flat_map (λ letter. letter_text names letter ++ codes "; ") xs ++ rest) (stem_tokens names xs ++ ts) end
@@ -190,8 +204,8 @@ lex_stem names (x ∷ xs) rest ts t us end is lexes =
     let others : List ℕ = flat_map (λ letter. letter_text names letter ++ codes "; ") xs in
     let more : List ℕ = others ++ rest in
     let later = lex_stem names xs rest ts t us end is lexes in
-    let b = stem_begins names xs ts t us is in
-    let next = lex_semicolon more (stem_tokens names xs ++ ts) end (begun more b.0 b.1 (stem_tokens names xs ++ ts) end b.2 later) in
+    let b = stem_starts names xs ts (t, us, is) in
+    let next = between_letters.lexes more (stem_tokens names xs ++ ts) end (begun more b.0 b.1 (stem_tokens names xs ++ ts) end b.2 later) in
     let whole = lex_letter names x (59 ∷ 32 ∷ more) (token.Semicolon ∷ stem_tokens names xs ++ ts) end refl next in
     let text : ((letter_text names x ++ codes "; ") ++ others) ++ rest ≡ letter_text names x ++ (59 ∷ 32 ∷ more) = append_assoc (letter_text names x ++ codes "; ") others rest
     ∙ append_assoc (letter_text names x) (codes "; ") (others ++ rest) in
@@ -202,7 +216,7 @@ lex_stem names (x ∷ xs) rest ts t us end is lexes =
 lex_some : (names : List (List ℕ)) (u : List NameSet) (x : NameSet) (xs : List NameSet) → Lexes (word_text names u (x ∷ xs)) (word_tokens names u (x ∷ xs)) []
 lex_some names u x xs =
     let close = lex_cons token.RightBrace (codes "}") [] [] [] refl tt refl in
-    let cycle = lex_cycle names x xs (codes "}") (token.RightBrace ∷ []) [] refl close in
+    let cycle = lex_separated (codes "; ") token.Semicolon (letter_text names) (letter_tokens names) between_letters (letter_item names) x xs (codes "}") (token.RightBrace ∷ []) [] refl close in
     let brace = lex_cons token.LeftBrace (codes "{") (joined (codes "; ") (map (letter_text names) (x ∷ xs)) ++ codes "}") (cycle_tokens names (x ∷ xs) ++ token.RightBrace ∷ []) [] refl
     (ends_anyhow (codes "{") (joined (codes "; ") (map (letter_text names) (x ∷ xs)) ++ codes "}") (λ c. refl)) cycle in
     let word = lex_cons token.Cycle (codes "cycle") (codes "{" ++ (joined (codes "; ") (map (letter_text names) (x ∷ xs)) ++ codes "}"))
