@@ -123,35 +123,26 @@ signs_hold b bs =
     holds_map (b ∷ bs) (b == 125) _ _ (λ e. holds_sign b 125 bs token.RightBrace e (sign_front 125 bs token.RightBrace refl (λ c. refl))) (λ _. tt))))))))
 
 -- a sign that may double
-and_holds : (bs : List ℕ) → HasFront (38 ∷ bs) token.And (doubled 38 (38 ∷ bs))
-and_holds [] = record { some = omega arith; within = omega arith; front = record { word = codes "&"; split = refl; spells = inl refl; ends = tt } }
-and_holds (c ∷ cs) = elim (cases_Bool (c == 38)) [
-  | inl e ↦ (let long : nat_lt 1 (length (38 ∷ c ∷ cs)) ≡ true = lt-ltb 1 (length (38 ∷ c ∷ cs)) (omega arith) in
-      subst (λ (n : ℕ). HasFront (38 ∷ c ∷ cs) token.And n) (sym (cond-true _ _ _ (and_from _ _ long e)))
+sign_holds : (b : ℕ) (t : Token) → Spells t (b ∷ []) → Spells t (b ∷ b ∷ []) → ((c : ℕ) → (c == b) ≡ false → extends (b ∷ []) c ≡ false) → ((c : ℕ) → extends (b ∷ b ∷ []) c ≡ false)
+    → (bs : List ℕ) → HasFront (b ∷ bs) t (doubled b (b ∷ bs))
+sign_holds b t once twice alone both [] = record { some = omega arith; within = omega arith; front = record { word = b ∷ []; split = refl; spells = once; ends = tt } }
+sign_holds b t once twice alone both (c ∷ cs) = elim (cases_Bool (c == b)) [
+  | inl e ↦ (let long : nat_lt 1 (length (b ∷ c ∷ cs)) ≡ true = lt-ltb 1 (length (b ∷ c ∷ cs)) (omega arith) in
+      subst (λ (n : ℕ). HasFront (b ∷ c ∷ cs) t n) (sym (cond-true _ _ _ (and_from _ _ long e)))
       (record {
         some = omega arith;
         within = omega arith;
-        front =
-            record { word = codes "&&"; split = ap (λ (x : ℕ). 38 ∷ x ∷ cs) (eqb-true c 38 e); spells = inr refl; ends = ends_anyhow (codes "&&") cs (λ x. refl) };
+        front = record { word = b ∷ b ∷ []; split = ap (λ (x : ℕ). b ∷ x ∷ cs) (eqb-true c b e); spells = twice; ends = ends_anyhow (b ∷ b ∷ []) cs both };
       }))
-  | inr e ↦ subst (λ (n : ℕ). HasFront (38 ∷ c ∷ cs) token.And n) (sym (cond-false _ _ _ (and_right (nat_lt 1 (length (38 ∷ c ∷ cs))) _ e)))
-      (record { some = omega arith; within = omega arith; front = record { word = codes "&"; split = refl; spells = inl refl; ends = or_from _ _ e refl } })
+  | inr e ↦ subst (λ (n : ℕ). HasFront (b ∷ c ∷ cs) t n) (sym (cond-false _ _ _ (and_right (nat_lt 1 (length (b ∷ c ∷ cs))) _ e)))
+      (record { some = omega arith; within = omega arith; front = record { word = b ∷ []; split = refl; spells = once; ends = alone c e } })
 ]
 
+and_holds : (bs : List ℕ) → HasFront (38 ∷ bs) token.And (doubled 38 (38 ∷ bs))
+and_holds = sign_holds 38 token.And (inl refl) (inr refl) (λ c e. or_from _ _ e refl) (λ c. refl)
+
 or_holds : (bs : List ℕ) → HasFront (124 ∷ bs) token.Or (doubled 124 (124 ∷ bs))
-or_holds [] = record { some = omega arith; within = omega arith; front = record { word = codes "|"; split = refl; spells = inl refl; ends = tt } }
-or_holds (c ∷ cs) = elim (cases_Bool (c == 124)) [
-  | inl e ↦ (let long : nat_lt 1 (length (124 ∷ c ∷ cs)) ≡ true = lt-ltb 1 (length (124 ∷ c ∷ cs)) (omega arith) in
-      subst (λ (n : ℕ). HasFront (124 ∷ c ∷ cs) token.Or n) (sym (cond-true _ _ _ (and_from _ _ long e)))
-      (record {
-        some = omega arith;
-        within = omega arith;
-        front =
-            record { word = codes "||"; split = ap (λ (x : ℕ). 124 ∷ x ∷ cs) (eqb-true c 124 e); spells = inr refl; ends = ends_anyhow (codes "||") cs (λ x. refl) };
-      }))
-  | inr e ↦ subst (λ (n : ℕ). HasFront (124 ∷ c ∷ cs) token.Or n) (sym (cond-false _ _ _ (and_right (nat_lt 1 (length (124 ∷ c ∷ cs))) _ e)))
-      (record { some = omega arith; within = omega arith; front = record { word = codes "|"; split = refl; spells = inl refl; ends = e } })
-]
+or_holds = sign_holds 124 token.Or (inl refl) (inr refl) (λ c e. e) (λ c. refl)
 
 -- what stands up to the closing quote
 pub record IsUnquoted (bs text : List ℕ) (size : ℕ) : Type 0 where
