@@ -130,22 +130,25 @@ midway_more text at start end before after t m n taken =
       few_letters = omega (arith, longer, m.few_letters, n.later, n.some);
     }
 
-offset_of : (text : List ℕ) (k : ℕ) → k ≤ length text → k + length (drop k text) ≡ length text
-offset_of text k within = omega (arith, length-drop k text)
-
--- a token that can't stand there
-pub stopped_at_token : (text : List ℕ) (at start end : ℕ) (before : WordReader) (t : Token) → IsMidway text at before → IsNext text at t start end
-    → ((place : List ℕ → ℕ) → word_step place (word_state before) t ≡ None) → IsStoppedAt text start
-stopped_at_token text at start end before t m n stuck = record {
+-- it goes no further behind these blanks
+stopped : (text : List ℕ) (at start : ℕ) (before : WordReader) → (m : IsMidway text at before) → AfterBlanks (drop at text) (drop start text) → start ≤ length text
+    → Stops m.tokens (drop start text) → IsStoppedAt text start
+stopped text at start before m blanks within stops = record {
   tokens = m.tokens;
   rest = drop at text;
   bytes = drop start text;
   lexes = m.lexes;
   begins = begins m.tokens (word_state before) m.read;
-  after_blanks = n.blanks;
-  offset = offset_of text start (omega (arith, n.some, n.within));
-  stops = misplaced t n.front (begins_not m.tokens (word_state before) t m.read stuck);
+  after_blanks = blanks;
+  offset = omega (arith, length-drop start text);
+  stops = stops;
 }
+
+-- a token that can't stand there
+pub stopped_at_token : (text : List ℕ) (at start end : ℕ) (before : WordReader) (t : Token) → IsMidway text at before → IsNext text at t start end
+    → ((place : List ℕ → ℕ) → word_step place (word_state before) t ≡ None) → IsStoppedAt text start
+stopped_at_token text at start end before t m n stuck =
+    stopped text at start before m n.blanks (omega (arith, n.some, n.within)) (misplaced t n.front (begins_not m.tokens (word_state before) t m.read stuck))
 
 some_bytes : (bytes : List ℕ) (tokens : List Token) → 0 < length bytes → NoBlankFirst bytes → ((t : Token) (rest : List ℕ) → IsFront bytes t rest → ⊥) → Stops tokens bytes
 some_bytes [] tokens some first none = absurd (omega arith)
@@ -153,16 +156,8 @@ some_bytes (b ∷ bs) tokens some first none = no_token first none
 
 -- bytes that are no token
 pub stopped_at_bytes : (text : List ℕ) (at start : ℕ) (before : WordReader) → IsMidway text at before → IsNothing text at start → start < length text → IsStoppedAt text start
-stopped_at_bytes text at start before m n some = record {
-  tokens = m.tokens;
-  rest = drop at text;
-  bytes = drop start text;
-  lexes = m.lexes;
-  begins = begins m.tokens (word_state before) m.read;
-  after_blanks = n.blanks;
-  offset = offset_of text start n.within;
-  stops = some_bytes (drop start text) m.tokens (omega (arith, length-drop start text)) n.first n.none;
-}
+stopped_at_bytes text at start before m n some =
+    stopped text at start before m n.blanks n.within (some_bytes (drop start text) m.tokens (omega (arith, length-drop start text)) n.first n.none)
 
 -- the end of the text
 pub through : (text : List ℕ) (at start : ℕ) (r : WordReader) → IsMidway text at r → IsNothing text at start → length text ≤ start → IsThrough text r
