@@ -1,5 +1,5 @@
 -- Least periods of the fronts of a list, each from those before it (Knuth, Morris and Pratt 1977).
-use Rattle.std.proofs.Common.{◌∷◌, ◌++◌, ◌≡◌, ◌≢◌, ◌∙◌, ◌+◌, ◌-◌, ◌*◌, ◌/◌, ◌%◌, ◌<◌, ◌≤◌, List, ap, arith, inl, inr, length, slice_get, suc, sym, zero, ℕ}
+use Rattle.std.proofs.Common.{◌≡◌, ◌≢◌, ◌∙◌, ◌+◌, ◌-◌, ◌*◌, ◌/◌, ◌%◌, ◌<◌, ◌≤◌, List, ap, arith, inl, inr, length, slice_get, suc, sym, zero, ℕ}
 use Rattle.std.proofs.Math.Nat.{add-mod_right, mod-eq_of_lt, mod_self, mul-le-mul_right, mul-mod_right}
 use Rattle.std.proofs.lemmas.Bool.{cases_lt, cases_eq}
 use Rattle.std.proofs.lemmas.Nat.{div-add-mod', mul-mod}

@@ -1,5 +1,5 @@
 -- Texts that are put together piece by piece.
-use Rattle.std.proofs.Common.{◌≡◌, ◌==◌, ◌∙◌, ◌∷◌, ◌++◌, ◌+◌, ◌<◌, List, [], ap, arith, get_or, length, map, refl, sym, take, ℕ}
+use Rattle.std.proofs.Common.{◌≡◌, ◌∙◌, ◌∷◌, ◌++◌, ◌+◌, ◌<◌, List, [], ap, arith, get_or, length, map, refl, sym, take, ℕ}
 use Rattle.std.proofs.lemmas.List.{append_assoc, length-map, length-take-le, map-append}
 use Rattle.aut_base.proofs.lists.Lists.{take-push}
 use Rattle.aut_base.specs.LabelText.{joined}

@@ -1,5 +1,5 @@
 -- A printed word is a word of the grammar, and says what was printed.
-use Rattle.std.proofs.Common.{◌≡◌, ◌∙◌, ◌&&◌, ◌∷◌, ◌++◌, ◌+◌, ◌-◌, ◌*◌, ◌%◌, ◌<◌, ◌↔◌, Bool, List, Option, Some, [], ap, arith, cond, false, inl, inr}
+use Rattle.std.proofs.Common.{◌≡◌, ◌∙◌, ◌∷◌, ◌++◌, ◌+◌, ◌-◌, ◌*◌, ◌%◌, ◌<◌, ◌↔◌, Bool, List, Option, Some, [], ap, arith, cond, false, inl, inr}
 use Rattle.std.proofs.Common.{length, length-append, map, not, refl, slice_get, subst, suc, sym, true, zero, ℕ}
 use Rattle.std.proofs.Math.Nat.{add-mul-mod_self_left}
 use Rattle.std.proofs.lemmas.Bool.{and_from, and_parts, cases_Bool, cases_lt, cond-false, cond-true, not_from_false}
