@@ -7,7 +7,8 @@ use Rattle.aut_base.proofs.lists.ListTests.{any-longer}
 use Rattle.aut_base.specs.Formula.{FormulaTree, FormulaTrees, True, False, Inf, Fin, And, Or, none, more, met, all_met, some_met}
 use Rattle.aut_base.specs.Marks.{is_in}
 use Rattle.acc_forms.specs.Atoms.{has_fin, some_fin}
-use Rattle.aut_base.proofs.numbers.Truth.{and-true, and_alike, or-false, or_alike}
+use Rattle.aut_base.proofs.numbers.Truth.{and-true, or-false}
+use Rattle.std.proofs.Math.Bool.{and_self, or_self}
 
 module _ (cycle edges : List (List ℕ)) where
   mutual
@@ -51,20 +52,22 @@ module _ (cycle edges : List (List ℕ)) where
         (λ rest. or_right (met (cycle ++ edges) f) _ (some_met-longer fs parts.1 rest))
         (or_cases (met cycle f) (some_met cycle fs) holds)
 
--- a test on a list whose elements are all empty
+-- a test over a list whose elements are all empty, where it is that of its elements under an operation that takes two alike for one
+over-empty : (op : Bool → Bool → Bool) (over : List (List ℕ) → Bool) (p : List ℕ → Bool) → ((marks : List ℕ) (cycle : List (List ℕ)) → over (marks ∷ cycle) ≡ op (p marks) (over cycle))
+    → op (p []) (over []) ≡ p [] → op (p []) (p []) ≡ p [] → (cycle : List (List ℕ)) → 0 < length cycle → All (λ marks. marks ≡ []) cycle → over cycle ≡ p []
+over-empty op over p step once twice [] some empty = absurd (omega arith)
+over-empty op over p step once twice (m ∷ []) some empty = step m [] ∙ ap (λ marks. op (p marks) (over [])) (All-head (λ marks. marks ≡ []) m [] empty) ∙ once
+over-empty op over p step once twice (m ∷ n ∷ ms) some empty =
+    step m (n ∷ ms)
+    ∙ ap (λ marks. op (p marks) (over (n ∷ ms))) (All-head (λ marks. marks ≡ []) m (n ∷ ms) empty)
+    ∙ ap (op (p [])) (over-empty op over p step once twice (n ∷ ms) (omega arith) (All-tail (λ marks. marks ≡ []) m (n ∷ ms) empty))
+    ∙ twice
+
 any-empty : (p : List ℕ → Bool) (cycle : List (List ℕ)) → 0 < length cycle → All (λ marks. marks ≡ []) cycle → list_any p cycle ≡ p []
-any-empty p [] some empty = absurd (omega arith)
-any-empty p (m ∷ []) some empty = or-false (p m) ∙ ap p (All-head (λ marks. marks ≡ []) m [] empty)
-any-empty p (m ∷ n ∷ ms) some empty =
-    or_alike (p m) (list_any p (n ∷ ms)) (p []) (ap p (All-head (λ marks. marks ≡ []) m (n ∷ ms) empty))
-    (any-empty p (n ∷ ms) (omega arith) (All-tail (λ marks. marks ≡ []) m (n ∷ ms) empty))
+any-empty p = over-empty ◌||◌ (list_any p) p (λ _ _. refl) (or-false (p [])) (or_self (p []))
 
 all-empty : (p : List ℕ → Bool) (cycle : List (List ℕ)) → 0 < length cycle → All (λ marks. marks ≡ []) cycle → list_all p cycle ≡ p []
-all-empty p [] some empty = absurd (omega arith)
-all-empty p (m ∷ []) some empty = and-true (p m) ∙ ap p (All-head (λ marks. marks ≡ []) m [] empty)
-all-empty p (m ∷ n ∷ ms) some empty =
-    and_alike (p m) (list_all p (n ∷ ms)) (p []) (ap p (All-head (λ marks. marks ≡ []) m (n ∷ ms) empty))
-    (all-empty p (n ∷ ms) (omega arith) (All-tail (λ marks. marks ≡ []) m (n ∷ ms) empty))
+all-empty p = over-empty ◌&&◌ (list_all p) p (λ _ _. refl) (and-true (p [])) (and_self (p []))
 
 module _ (cycle : List (List ℕ)) (some : 0 < length cycle) (empty : All (λ marks. marks ≡ []) cycle) where
   mutual

@@ -1,5 +1,5 @@
 -- The dual holds exactly where the condition doesn't.
-use Rattle.std.proofs.Common.{◌≡◌, ◌∙◌, ℕ, true, false, not, ◌&&◌, ◌||◌, List, ◌∷◌, refl}
+use Rattle.std.proofs.Common.{◌≡◌, ℕ, true, false, not, ◌&&◌, ◌||◌, List, refl}
 use Rattle.aut_base.proofs.lists.ListTests.{all-not, any-not}
 use Rattle.aut_base.proofs.numbers.Truth.{not-and, not-or, not_twice}
 use Rattle.aut_base.specs.Formula.{FormulaTree, FormulaTrees, True, False, Inf, Fin, And, Or, none, more, met, all_met, some_met}

@@ -66,16 +66,16 @@ sets_disjuncts n (Fin set neg) below = (below, tt)
 sets_disjuncts n (And f g fs) below = (below, tt)
 sets_disjuncts n (Or f g fs) below = (below.0, (below.1, each_listed n fs below.2))
 
+sets_either : (n : ℕ) (b : Bool) (f g : FormulaTree) → SetsBelow n f → SetsBelow n g → SetsBelow n (cond b f g)
+sets_either n true f g one two = one
+sets_either n false f g one two = two
+
 pub sets_conj : (n : ℕ) (f g : FormulaTree) → SetsBelow n f → SetsBelow n g → SetsBelow n (conj f g)
-sets_conj n f g one two = either (is_false f || is_false g)
-  where
-    either : (b : Bool) → SetsBelow n (cond b False (all_of (conjuncts f ++ conjuncts g)))
-    either true = tt
-    either false = sets_all_of n (conjuncts f ++ conjuncts g) (AllByRecursion-append (SetsBelow n) (conjuncts f) (conjuncts g) (sets_conjuncts n f one) (sets_conjuncts n g two))
+sets_conj n f g one two =
+    let parts = AllByRecursion-append (SetsBelow n) (conjuncts f) (conjuncts g) (sets_conjuncts n f one) (sets_conjuncts n g two) in
+    sets_either n (is_false f || is_false g) False (all_of (conjuncts f ++ conjuncts g)) tt (sets_all_of n (conjuncts f ++ conjuncts g) parts)
 
 pub sets_disj : (n : ℕ) (f g : FormulaTree) → SetsBelow n f → SetsBelow n g → SetsBelow n (disj f g)
-sets_disj n f g one two = either (is_true f || is_true g)
-  where
-    either : (b : Bool) → SetsBelow n (cond b True (some_of (disjuncts f ++ disjuncts g)))
-    either true = tt
-    either false = sets_some_of n (disjuncts f ++ disjuncts g) (AllByRecursion-append (SetsBelow n) (disjuncts f) (disjuncts g) (sets_disjuncts n f one) (sets_disjuncts n g two))
+sets_disj n f g one two =
+    let parts = AllByRecursion-append (SetsBelow n) (disjuncts f) (disjuncts g) (sets_disjuncts n f one) (sets_disjuncts n g two) in
+    sets_either n (is_true f || is_true g) True (some_of (disjuncts f ++ disjuncts g)) tt (sets_some_of n (disjuncts f ++ disjuncts g) parts)

@@ -5,6 +5,7 @@ use Rattle.std.specs.List.{list_any, list_all}
 use Rattle.aut_base.specs.Formula.{FormulaTree, more, formula_tree, formula_parts, formula_list, trees, met, all_met, some_met, SetsBelow, EachSetsBelow}
 use Rattle.aut_base.specs.declared.formula.Formula.TheVariants.{And, Or}
 use Rattle.aut_base.specs.declared.formula.Formulas.{Formulas}
+use Rattle.aut_base.proofs.trees.FormulaSizes.{formula_size-at}
 use Rattle.aut_base.proofs.trees.FormulaTrees.{formula_tree-And, formula_tree-Or}
 use Rattle.acc_forms.specs.Atoms.{has_fin, some_fin}
 use Rattle.acc_forms.specs.Dual.{dual, duals}
@@ -77,3 +78,6 @@ pub below-at : (n : ℕ) (fs : List FormulaTree) (place : ℕ) (part : FormulaTr
 below-at n [] place part is below = absurd (none-some part is)
 below-at n (f ∷ fs) zero part is below = subst (SetsBelow n) (same_Some f part is) below.0
 below-at n (f ∷ fs) (suc place) part is below = below-at n fs place part is below.1
+
+-- by which a function that goes over parts ends
+pub ruleset part_sizes = (formula_size-at)

@@ -5,7 +5,9 @@ use Rattle.std.proofs.lemmas.List.{map-append, append-nil}
 use Rattle.std.proofs.lemmas.List.Concat.{flat_map-append}
 use Rattle.aut_base.specs.Formula.{FormulaTree}
 use Rattle.acc_forms.specs.Terms.{pairs, literals, choices, terms}
-use Rattle.acc_forms.specs.inner.Tally.{tally_of}
+use Rattle.acc_forms.specs.inner.Tally.{joined_terms, part_terms, tally_of}
+use Rattle.acc_forms.specs.declared.join.Join.{Join}
+use Rattle.acc_forms.specs.declared.join.Join.TheVariants.{All, Any}
 use Rattle.acc_forms.specs.declared.literal.Literal.{Literal}
 use Rattle.acc_forms.specs.declared.tally.Tally.{Tally}
 use Rattle.aut_base.proofs.lists.Lists.{take-slice_get}
@@ -51,3 +53,8 @@ terms_more fs place f is =
     ap (flat_map terms) (take-slice_get fs place f is)
     ∙ flat_map-append terms (take place fs) (f ∷ [])
     ∙ ap (λ ts. flat_map terms (take place fs) ++ ts) (append-nil (terms f))
+
+pub part_terms_more : (j : Join) (fs : List FormulaTree) (place : ℕ) (f : FormulaTree) → slice_get fs place ≡ Some f
+    → part_terms j (take (place + 1) fs) ≡ joined_terms j (part_terms j (take place fs)) (terms f)
+part_terms_more All = choices_more
+part_terms_more Any = terms_more

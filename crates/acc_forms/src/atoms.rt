@@ -1,10 +1,12 @@
 //! What the atoms of a condition tell.
 
 ghost use Rattle.std.specs.Prelude.{◌≡◌, ℕ, ◌<◌, List, [], ◌∷◌, ◌++◌, length, All, IsTrue, false};
-ghost use Rattle.std.specs.List.{list_all, list_any};
+ghost use Rattle.std.specs.List.{list_any};
 ghost use Rattle.aut_base.specs.Formula.{formula_tree, formula_list, met};
 ghost use Rattle.acc_forms.specs.Atoms.{has_fin};
+ghost use Rattle.acc_forms.specs.inner.Join.{parts_pass};
 
+use crate::join::Join;
 use aut_base::{Formula, Formulas};
 
 // Why so: 'What `has_fin` means is said of longer cycles' in docs/DECISIONS.md.
@@ -38,6 +40,7 @@ fn fin_stands_in(formula: &Formula) -> bool
 }
 
 #[cycle(fin)]
+#[tactic(auto, using(crate::proofs::Parts::part_sizes))]
 fn fin_stands_in_some(parts: &Formulas) -> bool
     ensures { result ≡ list_any has_fin (formula_list parts.now) }
 {
@@ -59,31 +62,21 @@ fn holds_without_sets(formula: &Formula) -> bool
         Formula::False => false,
         Formula::Inf { neg, .. } => *neg,
         Formula::Fin { neg, .. } => !*neg,
-        Formula::And(parts) => all_hold_without_sets(parts),
-        Formula::Or(parts) => some_hold_without_sets(parts),
+        Formula::And(parts) => parts_hold_without_sets(Join::All, parts),
+        Formula::Or(parts) => parts_hold_without_sets(Join::Any, parts),
     }
 }
 
 #[cycle(without_sets)]
-fn all_hold_without_sets(parts: &Formulas) -> bool
-    ensures { result ≡ list_all (met ([] ∷ [])) (formula_list parts.now) }
+#[tactic(auto, using(crate::proofs::Parts::part_sizes))]
+fn parts_hold_without_sets(join: Join, parts: &Formulas) -> bool
+    ensures { result ≡ parts_pass join (met ([] ∷ [])) (formula_list parts.now) }
 {
+    let all = join.is_all();
     'parts: for place in 0..parts.len() {
-        if !holds_without_sets(parts.at(place)) {
-            return false;
+        if holds_without_sets(parts.at(place)) != all {
+            return !all;
         }
     }
-    true
-}
-
-#[cycle(without_sets)]
-fn some_hold_without_sets(parts: &Formulas) -> bool
-    ensures { result ≡ list_any (met ([] ∷ [])) (formula_list parts.now) }
-{
-    'parts: for place in 0..parts.len() {
-        if holds_without_sets(parts.at(place)) {
-            return true;
-        }
-    }
-    false
+    all
 }

@@ -37,6 +37,7 @@ fn exchanged(alloc: Global, formula: &Formula) -> Result<Formula, Memory>
 }
 
 #[cycle(dual)]
+#[tactic(auto, using(crate::proofs::Parts::part_sizes))]
 fn exchanged_parts(alloc: Global, parts: &Formulas) -> Result<Formulas, Memory>
     ensures { IfOk result (λ new. formula_list new ≡ map dual (formula_list parts.now)) }
 {

@@ -3,7 +3,7 @@
 ghost use Rattle.std.specs.Prelude.{◌≡◌, ℕ, ◌<◌, ◌≤◌, ◌&&◌, ◌||◌, ◌++◌, List, drop, length, IfOk, OnOk, IfSome, IfNone, ◌∷◌, [], false};
 ghost use Rattle.aut_base.specs.Formula.{formula_tree, formula_list, met, trees};
 ghost use Rattle.acc_forms.specs.Joined.{conj, disj};
-ghost use Rattle.acc_forms.specs.inner.Join.{joined, outweighs, is_neutral, parts_under, node};
+ghost use Rattle.acc_forms.specs.inner.Join.{joined, outweighs, is_all, is_neutral, parts_under, node};
 
 use aut_base::{Formula, Formulas, Memory};
 use std::alloc::Global;
@@ -36,6 +36,13 @@ pub(crate) enum Join {
 }
 
 impl Join {
+    /// Whether it joins by And.
+    pub(crate) fn is_all(self) -> bool
+        ensures { result ≡ is_all self }
+    {
+        matches!(self, Join::All)
+    }
+
     /// Whether this condition, joined with any other, stays as it is.
     fn outweighs(self, formula: &Formula) -> bool
         ensures { result ≡ outweighs self (formula_tree formula.now) }

@@ -1,12 +1,12 @@
 //! How many terms a condition has, without making them.
 
-ghost use Rattle.std.specs.Prelude.{◌≡◌, ◌++◌, ◌-◌, ◌^◌, List, min, max, map};
+ghost use Rattle.std.specs.Prelude.{◌≡◌, ◌++◌, ◌-◌, ◌^◌, List, [], min, max};
 ghost use Rattle.std.specs.Int.{div_ceil};
-ghost use Rattle.std.specs.List.{flat_map};
 ghost use Rattle.aut_base.specs.Formula.{formula_tree, formula_list};
-ghost use Rattle.acc_forms.specs.Terms.{terms, choices, count};
-ghost use Rattle.acc_forms.specs.inner.Tally.{tally_of};
+ghost use Rattle.acc_forms.specs.Terms.{terms, count};
+ghost use Rattle.acc_forms.specs.inner.Tally.{part_terms, tally_of};
 
+use crate::join::Join;
 use aut_base::{Formula, Formulas};
 
 /// As many literals count as much as a term.
@@ -31,7 +31,7 @@ pub(crate) struct Tally {
 impl Tally {
     ghost use Rattle.acc_forms.specs.declared.literal.Literal.{Literal};
     ghost use Rattle.acc_forms.specs.Terms.{pairs};
-    ghost use Rattle.acc_forms.specs.inner.Tally.{tally_of};
+    ghost use Rattle.acc_forms.specs.inner.Tally.{joined_terms, part_terms, tally_of};
 
     /// What both count.
     fn count(self) -> u64
@@ -39,6 +39,32 @@ impl Tally {
     {
         let count = self.terms.max(self.literals.div_ceil(LITERALS_OF_ONE));
         count.min(u128::from(u64::MAX)) as u64
+    }
+
+    /// That of the terms of no conditions, joined in this way.
+    fn of_none(join: Join) -> Tally
+        ensures { result ≡ tally_of (part_terms join []) }
+    {
+        match join {
+            Join::All => Tally {
+                terms: 1,
+                literals: 0,
+            },
+            Join::Any => Tally {
+                terms: 0,
+                literals: 0,
+            },
+        }
+    }
+
+    /// That of the terms of two conditions, joined in this way.
+    fn joined(self, join: Join, other: Tally) -> Tally
+        ensures { (xs ys : List (List Literal)) → self ≡ tally_of xs → other ≡ tally_of ys → result ≡ tally_of (joined_terms join xs ys) }
+    {
+        match join {
+            Join::All => self.times(other),
+            Join::Any => self.plus(other),
+        }
     }
 
     /// That of the terms of both.
@@ -70,49 +96,26 @@ fn tally_of_formula(formula: &Formula) -> Tally
     ensures { result ≡ tally_of (terms (formula_tree formula.now)) }
 {
     match formula {
-        Formula::True => Tally {
-            terms: 1,
-            literals: 0,
-        },
-        Formula::False => Tally {
-            terms: 0,
-            literals: 0,
-        },
+        Formula::True => Tally::of_none(Join::All),
+        Formula::False => Tally::of_none(Join::Any),
         Formula::Inf { .. } | Formula::Fin { .. } => Tally {
             terms: 1,
             literals: 1,
         },
-        Formula::And(parts) => tally_of_all(parts),
-        Formula::Or(parts) => tally_of_some(parts),
+        Formula::And(parts) => tally_of_parts(Join::All, parts),
+        Formula::Or(parts) => tally_of_parts(Join::Any, parts),
     }
 }
 
-/// That of the terms of the conjunction of these.
+/// That of the terms of these, joined in this way.
 #[cycle(tally)]
-pub(crate) fn tally_of_all(parts: &Formulas) -> Tally
-    ensures { result ≡ tally_of (choices (map terms (formula_list parts.now))) }
+#[tactic(auto, using(crate::proofs::Parts::part_sizes))]
+pub(crate) fn tally_of_parts(join: Join, parts: &Formulas) -> Tally
+    ensures { result ≡ tally_of (part_terms join (formula_list parts.now)) }
 {
-    let mut all = Tally {
-        terms: 1,
-        literals: 0,
-    };
+    let mut all = Tally::of_none(join);
     'parts: for place in 0..parts.len() {
-        all = all.times(tally_of_formula(parts.at(place)));
-    }
-    all
-}
-
-/// That of the terms of the disjunction of these.
-#[cycle(tally)]
-fn tally_of_some(parts: &Formulas) -> Tally
-    ensures { result ≡ tally_of (flat_map terms (formula_list parts.now)) }
-{
-    let mut all = Tally {
-        terms: 0,
-        literals: 0,
-    };
-    'parts: for place in 0..parts.len() {
-        all = all.plus(tally_of_formula(parts.at(place)));
+        all = all.joined(join, tally_of_formula(parts.at(place)));
     }
     all
 }

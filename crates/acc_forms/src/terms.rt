@@ -8,7 +8,7 @@ ghost use Rattle.acc_forms.specs.Terms.{terms, choices, pairs, count, some_term_
 use crate::fault::FormFault;
 use crate::join::{Join, join_to};
 use crate::literal::{Literal, Literals, Terms};
-use crate::tally::{tally_of_all, terms_count};
+use crate::tally::{tally_of_parts, terms_count};
 use aut_base::{Formula, Formulas, MOST_TERMS, Memory};
 use std::alloc::Global;
 
@@ -83,10 +83,11 @@ fn terms_of(alloc: Global, formula: &Formula) -> Result<Terms, Memory>
 /// The terms of the conjunction of these. Where a part has none there are none, and the other parts are not looked
 /// into: theirs may be too many.
 #[cycle(terms)]
+#[tactic(auto, using(crate::proofs::Parts::part_sizes))]
 fn terms_of_all(alloc: Global, parts: &Formulas) -> Result<Terms, Memory>
     ensures { IfOk result (λ found. found ≡ choices (map terms (formula_list parts.now))) }
 {
-    if tally_of_all(parts).terms == 0 {
+    if tally_of_parts(Join::All, parts).terms == 0 {
         return Ok(Terms::new(alloc));
     }
     let mut found = one_term(alloc, Literals::new(alloc))?;
@@ -99,6 +100,7 @@ fn terms_of_all(alloc: Global, parts: &Formulas) -> Result<Terms, Memory>
 
 /// The terms of the disjunction of these.
 #[cycle(terms)]
+#[tactic(auto, using(crate::proofs::Parts::part_sizes))]
 fn terms_of_some(alloc: Global, parts: &Formulas) -> Result<Terms, Memory>
     ensures { IfOk result (λ found. found ≡ flat_map terms (formula_list parts.now)) }
 {

@@ -1,5 +1,6 @@
 -- What is alike in a conjunction and a disjunction.
-use Rattle.std.specs.Prelude.{Bool, List}
+use Rattle.std.specs.Prelude.{Bool, true, false, List}
+use Rattle.std.specs.List.{list_all, list_any}
 use Rattle.aut_base.specs.Formula.{FormulaTree}
 use Rattle.acc_forms.specs.Joined.{conj, disj, conjuncts, disjuncts, all_of, some_of, is_true, is_false}
 use Rattle.acc_forms.specs.declared.join.Join.{Join}
@@ -29,3 +30,13 @@ parts_under Any = disjuncts
 abbrev pub node : Join → List FormulaTree → FormulaTree
 node All = all_of
 node Any = some_of
+
+-- whether all parts are joined, and not one of them
+abbrev pub is_all : Join → Bool
+is_all All = true
+is_all Any = false
+
+-- whether all parts pass, or one does
+abbrev pub parts_pass : Join → (FormulaTree → Bool) → List FormulaTree → Bool
+parts_pass All = list_all
+parts_pass Any = list_any

@@ -1,6 +1,5 @@
-use Rattle.std.proofs.Common.{◌∙◌, ap, sym, arith}
+use Rattle.std.proofs.Common.{◌∙◌, ap, sym}
 use Rattle.aut_base.specs.Formula.{formula_tree, formula_list}
-use Rattle.aut_base.proofs.trees.FormulaSizes.{formula_size-at}
 use Rattle.acc_forms.specs.Atoms.{has_fin}
 use Rattle.aut_base.proofs.lists.Steps.{any_more, any_here}
 use Rattle.acc_forms.proofs.Parts.{has_fin-And, has_fin-Or}
@@ -13,11 +12,6 @@ fin_stands_in-returns-in-And t c =
 pub fin_stands_in-returns-in-Or : goal.fin_stands_in-returns-in-Or
 fin_stands_in-returns-in-Or t c =
     c.fin_stands_in_some-in-Or.ensures ∙ sym (ap (λ f. has_fin (formula_tree f)) c.in-Or.is ∙ has_fin-Or c.in-Or.parts)
-
-pub fin_stands_in_some-fin_stands_in-requires : goal.fin_stands_in_some-fin_stands_in-requires
-fin_stands_in_some-fin_stands_in-requires t c =
-    let smaller = formula_size-at (formula_list c.args.parts.now) c.parts.place (formula_tree c.at.result.now) c.at.ensures in
-    (omega arith, tt)
 
 pub fin_stands_in_some-returns-then-fin_stands_in : goal.fin_stands_in_some-returns-then-fin_stands_in
 fin_stands_in_some-returns-then-fin_stands_in t c =

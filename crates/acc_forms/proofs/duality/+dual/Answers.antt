@@ -1,6 +1,5 @@
-use Rattle.std.proofs.Common.{◌∙◌, ap, sym, arith}
+use Rattle.std.proofs.Common.{◌∙◌, ap, sym}
 use Rattle.aut_base.specs.Formula.{formula_tree, formula_list}
-use Rattle.aut_base.proofs.trees.FormulaSizes.{formula_size-at}
 use Rattle.acc_forms.specs.Dual.{dual}
 use Rattle.aut_base.proofs.lists.Steps.{map_more}
 use Rattle.acc_forms.proofs.Parts.{dual-And, dual-Or}
@@ -17,11 +16,6 @@ pub exchanged-returns-in_ok-exchanged_parts-in-Or :
 exchanged-returns-in_ok-exchanged_parts-in-Or t c =
     dual-Or c.in-Or.parts c.in_ok-exchanged_parts-in-Or.field-0 c.in_ok-exchanged_parts-in-Or.ensures
     ∙ sym (ap (λ f. dual (formula_tree f)) c.in-Or.is)
-
-pub exchanged_parts-exchanged-requires-in-parts : goal.exchanged_parts-exchanged-requires-in-parts
-exchanged_parts-exchanged-requires-in-parts t c =
-    let smaller = formula_size-at (formula_list c.args.parts.now) c.parts.place (formula_tree c.at-in-parts.result.now) c.at-in-parts.ensures in
-    (omega arith, tt)
 
 pub exchanged_parts-parts-preserved : goal.exchanged_parts-parts-preserved
 exchanged_parts-parts-preserved t c =

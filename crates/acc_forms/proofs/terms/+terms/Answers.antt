@@ -1,8 +1,7 @@
-use Rattle.std.proofs.Common.{◌≡◌, ◌∙◌, ◌++◌, ap, sym, arith, map, take}
+use Rattle.std.proofs.Common.{◌≡◌, ◌∙◌, ◌++◌, ap, sym, map, take}
 use Rattle.std.specs.List.{flat_map}
 use Rattle.std.proofs.lemmas.Result.{IfOk-weaker}
 use Rattle.aut_base.specs.Formula.{formula_tree, formula_list}
-use Rattle.aut_base.proofs.trees.FormulaSizes.{formula_size-at}
 use Rattle.acc_forms.specs.Terms.{terms, choices, pairs}
 use Rattle.acc_forms.proofs.Tallies.{choices_more, terms_more}
 use Rattle.acc_forms.proofs.TermLaws.{terms-And, terms-Or}
@@ -23,16 +22,6 @@ terms_of-returns-in-Or t c =
     (λ found. found ≡ terms (formula_tree c.args.formula.now))
     (λ found e. e ∙ sym (ap (λ f. terms (formula_tree f)) c.in-Or.is ∙ terms-Or c.in-Or.parts))
     c.terms_of_some.ensures
-
-pub terms_of_all-terms_of-requires : goal.terms_of_all-terms_of-requires
-terms_of_all-terms_of-requires t c =
-    let smaller = formula_size-at (formula_list c.args.parts.now) c.parts.place (formula_tree c.at.result.now) c.at.ensures in
-    (omega arith, tt)
-
-pub terms_of_some-terms_of-requires : goal.terms_of_some-terms_of-requires
-terms_of_some-terms_of-requires t c =
-    let smaller = formula_size-at (formula_list c.args.parts.now) c.parts.place (formula_tree c.at.result.now) c.at.ensures in
-    (omega arith, tt)
 
 pub terms_of_all-parts-preserved : goal.terms_of_all-parts-preserved
 terms_of_all-parts-preserved t c =
