@@ -10,12 +10,16 @@ use Rattle.aut_core.specs.Core.{Core, IsCore, IsLinkOf, automaton_of, edge_of}
 use Rattle.aut_core.specs.Surveys.{edges_from}
 use Rattle.aut_core.specs.declared.link.Link.{Link}
 use Rattle.aut_ops.proofs.links.Linked.{edges_filter}
-use Rattle.label_guards.specs.Store.{Has, label_in}
+use Rattle.label_guards.specs.Store.{Has, HasPlace, Store, label_in}
 use Rattle.letter_classes.specs.SetClasses.{guards_from, set_edges, set_labels}
 
 -- what holds of each link holds of the links of a state
 pub row_link : (c : Core) → IsCore c → (state i : ℕ) (row : List Link) (l : Link) → row ≡ filter (λ l. l.from == state) c.links → i < length row → l ≡ get_or row i l → IsLinkOf c l
 row_link c core state i row l e within at = read_has (IsLinkOf c) row i l (subst (All (IsLinkOf c)) (sym e) (All-filter (λ l. l.from == state) (IsLinkOf c) c.links core.parts.links)) within at
+
+pub row_guard : (c : Core) → IsCore c → (state i : ℕ) (row : List Link) (l : Link) (s : Store) → row ≡ filter (λ l. l.from == state) c.links → i < length row → l ≡ get_or row i l → s ≡ c.store
+    → HasPlace s l.guard.place
+row_guard c core state i row l s e within at same = subst (λ (t : Store). HasPlace t l.guard.place) (sym same) (row_link c core state i row l e within at).guard
 
 -- the edges of one state more
 pub set_edges_on : (b : Automaton) (set : List ℕ) (k state : ℕ) → slice_get set k ≡ Some state → set_edges b (take k set) ++ edges_from state b.edges ≡ set_edges b (take (k + 1) set)

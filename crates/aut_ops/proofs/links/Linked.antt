@@ -10,7 +10,9 @@ use Rattle.aut_base.specs.declared.limit.TheConstants.{MOST_NAMES}
 use Rattle.aut_base.specs.Label.{truth}
 use Rattle.aut_base.specs.Valuation.{holds_in, truth_on}
 use Rattle.aut_core.proofs.Made.{parts_from}
-use Rattle.aut_core.specs.Core.{AreParts, Core, automaton_of, edge_of}
+use Rattle.aut_base.specs.Formula.{FormulaTree, SetsBelow}
+use Rattle.acc_forms.proofs.FormulaSets.{sets_weaker}
+use Rattle.aut_core.specs.Core.{AreParts, Core, IsCore, automaton_of, edge_of}
 use Rattle.aut_core.specs.Surveys.{edges_from}
 use Rattle.aut_core.specs.declared.link.Link.{Link}
 use Rattle.label_guards.specs.Guards.{IsGuardOf, truth_in}
@@ -62,3 +64,7 @@ pub parts_for : (c : Core) (x : Automaton) → automaton_of c ≡ x → IsWellFo
 parts_for c x is formed few names has =
     let same : length c.names ≡ length x.names = ap (λ (y : Automaton). length y.names) is in
     parts_from c (subst IsWellFormed (sym is) formed) (omega (arith, few, same)) (names ∙ sym same) has
+
+-- the sets of an automaton's condition are below each number that is at least its number of sets
+pub sets_within : (c : Core) → IsCore c → (n : ℕ) (f : FormulaTree) → c.sets ≤ n → f ≡ c.formula → SetsBelow n f
+sets_within c core n f most is = subst (SetsBelow n) (sym is) (sets_weaker c.sets n most c.formula core.parts.formula)

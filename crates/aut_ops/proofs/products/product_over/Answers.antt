@@ -1,9 +1,9 @@
 use Rattle.std.proofs.Common.{◌∙◌, ◌+◌, ◌-◌, [], arith, subst, sym}
 use Rattle.aut_base.proofs.Outcomes.{passed_on}
-use Rattle.aut_base.specs.Formula.{SetsBelow, formula_tree}
+use Rattle.aut_base.specs.Formula.{formula_tree}
 use Rattle.aut_core.specs.Core.{Core, automaton_of}
 use Rattle.aut_ops.proofs.pairs.Explorations.{starts_beyond}
-use Rattle.acc_forms.proofs.FormulaSets.{sets_weaker}
+use Rattle.aut_ops.proofs.links.Linked.{sets_within}
 use Rattle.aut_ops.proofs.joint_runs.MadeProducts.{IsMade, made}
 use Rattle.aut_ops.specs.Products.{IsProduct, all_pairs}
 use Rattle.aut_base.specs.declared.limit.TheConstants.{MOST_PAIRS}
@@ -19,9 +19,8 @@ returns-in_err-starts-clause-pairs c is =
     (subst (AreBeyond MOST_PAIRS []) (λ i. all_pairs (c.starts.ensures i) (c.starts-2.ensures i)) many)
 
 pub condition-requires : goal.condition-requires
-condition-requires c =
-    subst (SetsBelow (4294967296 - c.sets-sets.result)) (sym c.formula-2.ensures)
-    (sets_weaker c.args.b.now.sets (4294967296 - c.sets-sets.result) (omega (arith, c.sets-sets.ensures, c.requires.sets)) c.args.b.now.formula c.whole-2.ensures.parts.formula)
+condition-requires c = sets_within c.args.b.now c.whole-2.ensures (4294967296 - c.sets-sets.result) (formula_tree c.formula-2.result.now)
+    (omega (arith, c.sets-sets.ensures, c.requires.sets)) c.formula-2.ensures
 
 -- the product as it is handed on
 abbrev core : After-sets → Core

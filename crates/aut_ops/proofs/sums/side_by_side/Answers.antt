@@ -1,9 +1,9 @@
 use Rattle.std.proofs.Common.{◌∙◌, ◌+◌, ◌++◌, ◌-◌, ap, arith, map, subst, sym}
 use Rattle.std.proofs.lemmas.Result.{IfOk-weaker}
 use Rattle.aut_base.specs.Automaton.{Automaton}
-use Rattle.aut_base.specs.Formula.{SetsBelow, formula_tree}
+use Rattle.aut_base.specs.Formula.{formula_tree}
 use Rattle.aut_core.specs.Core.{Core, automaton_of}
-use Rattle.acc_forms.proofs.FormulaSets.{sets_weaker}
+use Rattle.aut_ops.proofs.links.Linked.{sets_within}
 use Rattle.aut_ops.proofs.following.SumLinks.{IsSide, side}
 use Rattle.aut_ops.proofs.following.SumRuns.{sum_accepts}
 use Rattle.aut_ops.specs.Languages.{AcceptsEither}
@@ -11,9 +11,8 @@ use Rattle.aut_ops.proofs.sums.side_by_side.Goals.{After-states}
 use Rattle.aut_ops.proofs.sums.side_by_side.Goals as goal
 
 pub either_condition-requires : goal.either_condition-requires
-either_condition-requires c =
-    subst (SetsBelow (4294967296 - c.sets-sets.result)) (sym c.formula-2.ensures)
-    (sets_weaker c.args.b.now.sets (4294967296 - c.sets-sets.result) (omega (arith, c.sets-sets.ensures, c.requires.sets)) c.args.b.now.formula c.whole-2.ensures.parts.formula)
+either_condition-requires c = sets_within c.args.b.now c.whole-2.ensures (4294967296 - c.sets-sets.result) (formula_tree c.formula-2.result.now)
+    (omega (arith, c.sets-sets.ensures, c.requires.sets)) c.formula-2.ensures
 
 -- the sum as it is handed on
 abbrev core : After-states → Core

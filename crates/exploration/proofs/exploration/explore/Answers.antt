@@ -96,8 +96,7 @@ returns-clause-ends g c =
 
 pub returns-clause-explored : goal.returns-clause-explored
 returns-clause-explored g c =
-    let all = past_seen g.S.System.seen c.things.found.things.keys c.things.done (omega (arith, c.things-test.false, c.len.ensures.len)) in
-    let ended = exploring_all _ _ _ _ _ _ _ _ _ _ c.things.done c.things.sum _ _ c.things.invariant.exploring all in
+    let ended = returns-clause-ends g c in
     explored (rules_of g.S.System.same (g.S.System.moves c.args.system.now) c.args.limits)
     (λ a b. (g.met.S.System.same_tells a b).0) (λ a. (g.met.S.System.same_tells a a).1 refl) (g.S.System.seen c.args.start) _ ended.ends
 
@@ -114,7 +113,6 @@ returns-in_err-spread-clause-caused g c =
 
 pub returns-clause-classes : goal.returns-clause-classes
 returns-clause-classes g c =
-    let all = past_seen g.S.System.seen c.things.found.things.keys c.things.done (omega (arith, c.things-test.false, c.len.ensures.len)) in
-    let ended = exploring_all _ _ _ _ _ _ _ _ _ _ c.things.done c.things.sum _ _ c.things.invariant.exploring all in
+    let ended = returns-clause-ends g c in
     explored_within (rules_of g.S.System.same (g.S.System.moves c.args.system.now) c.args.limits)
     (λ a b. (g.met.S.System.same_tells a b).0) (λ a. (g.met.S.System.same_tells a a).1 refl) (g.S.System.seen c.args.start) _ ended.ends

@@ -9,7 +9,7 @@ use Rattle.safra_trees.specs.Step.{greens, grown, rank, reds}
 use Rattle.safra_trees.specs.View.{tree_of}
 use Rattle.safra_trees.specs.declared.event.Event.{Event}
 use Rattle.safra_trees.specs.inner.Passes.{ArePasses, flag}
-use Rattle.safra_trees.proofs.stepping.step.Goals.{After-from_vec-3, In_ok-found}
+use Rattle.safra_trees.proofs.stepping.step.Goals.{After-from_vec-3, In_ok-found, In_ok-names}
 use Rattle.safra_trees.proofs.stepping.step.Goals as goal
 
 -- what the passes over the names and places gave
@@ -21,6 +21,11 @@ passes c = subst (λ xs. ArePasses (grown c.args.states xs (tree_of c.args.tree.
 stay_size : (c : In_ok-found) → length c.in_ok-found.found.stay.items ≡ length c.args.tree.now.parents + length c.args.tree.now.parents
 stay_size c = stay_sized c.args.states c.args.moves.now c.args.tree.now.parents c.args.tree.now.states c.args.tree.now.places
     c.in_ok-found.found.claims.items c.in_ok-found.found.own.items c.in_ok-found.found.homes.items c.in_ok-found.found.stay.items (passes c)
+
+-- each name has a rank
+ranks_size : (c : In_ok-names) → length c.in_ok-names.names.ranks.items ≡ length c.deref.result.now
+ranks_size c = ap length c.in_ok-names.ensures.ranks
+    ∙ (length-map (range_with_len 0 (length c.deref.result.now)) (rank (flag c.deref.result.now)) ∙ length-range_with_len 0 (length c.deref.result.now))
 
 -- the new tree is what is finished of them
 finish : (c : After-from_vec-3) → IsFinish c.args.states c.args.moves.now c.args.tree.now.parents c.args.tree.now.states c.args.tree.now.places
@@ -66,16 +71,8 @@ new_parents-requires-clause-size c =
 
 pub new_parents-requires-clause-ranks : goal.new_parents-requires-clause-ranks
 new_parents-requires-clause-ranks c =
-    let ranks = ap length c.in_ok-names.ensures.ranks in
-    omega (
-      arith,
-      ap length c.deref-3.ensures.value,
-      ap length c.deref-2.ensures.value,
-      ap length c.deref.ensures.value,
-      ranks,
-      length-map (range_with_len 0 (length c.deref.result.now)) (rank (flag c.deref.result.now)),
-      length-range_with_len 0 (length c.deref.result.now),
-    )
+    let ranks = ranks_size (goal.at.new_parents-requires-clause-ranks c).In_ok-names in
+    omega (arith, ap length c.deref-3.ensures.value, ap length c.deref-2.ensures.value, ap length c.deref.ensures.value, ranks)
 
 pub new_places-requires-clause-few : goal.new_places-requires-clause-few
 new_places-requires-clause-few c =
@@ -89,18 +86,8 @@ new_places-requires-clause-size c =
     let sized = homes_sized c.args.states c.args.moves.now c.args.tree.now.parents c.args.tree.now.states c.args.tree.now.places
     c.in_ok-found.found.claims.items c.in_ok-found.found.own.items c.in_ok-found.found.homes.items c.in_ok-found.found.stay.items (passes at) in
     let stays = stay_size at in
-    let ranks = ap length c.in_ok-names.ensures.ranks in
-    omega (
-      arith,
-      ap length c.deref-6.ensures.value,
-      ap length c.deref-5.ensures.value,
-      ap length c.deref.ensures.value,
-      ranks,
-      sized,
-      stays,
-      length-map (range_with_len 0 (length c.deref.result.now)) (rank (flag c.deref.result.now)),
-      length-range_with_len 0 (length c.deref.result.now),
-    )
+    let ranks = ranks_size (goal.at.new_places-requires-clause-size c).In_ok-names in
+    omega (arith, ap length c.deref-6.ensures.value, ap length c.deref-5.ensures.value, ap length c.deref.ensures.value, ranks, sized, stays)
 
 pub least_covered-requires-clause-fit : goal.least_covered-requires-clause-fit
 least_covered-requires-clause-fit c =
