@@ -1,9 +1,10 @@
 -- What a token is to a part that does not begin with it: what `--ABORT--` is, which begins none.
-use Rattle.std.proofs.Common.{◌≡◌, ◌≢◌, ℕ, List, refl}
+use Rattle.std.proofs.Common.{◌≡◌, ◌≢◌, ℕ, false, List, refl}
 use Rattle.hoa_lexer.specs.declared.token.Token.{Token}
 use Rattle.hoa_lexer.specs.declared.token.Token.TheVariants as token
 use Rattle.hoa_parser.specs.inner.Expecting as part
 use Rattle.hoa_parser.specs.inner.Expecting.{Part, move}
+use Rattle.hoa_parser.specs.inner.RuleReads.{is_acc_value, is_value}
 
 -- The token is none that the part begins with. Of parts that begin with words or with names of headers of their own this tells nothing.
 abbrev pub IsOther : Part → Token → Type 0
@@ -15,6 +16,8 @@ IsOther part.Strings z = (text : List ℕ) → z ≢ token.Str text
 IsOther part.Word z = (word : List ℕ) → z ≢ token.Identifier word
 IsOther part.Words z = (word : List ℕ) → z ≢ token.Identifier word
 IsOther part.AliasName z = (name : List ℕ) → z ≢ token.Alias name
+IsOther part.AccValues z = is_acc_value z ≡ false
+IsOther part.Values z = is_value z ≡ false
 IsOther (part.Factors depth) z = z ≢ token.Amp
 IsOther (part.Products depth) z = z ≢ token.Bar
 IsOther (part.Atoms depth) z = z ≢ token.Amp
@@ -40,6 +43,11 @@ other part.Strings (token.Str text) h = absurd (h text refl)
 other part.Word (token.Identifier word) h = absurd (h word refl)
 other part.Words (token.Identifier word) h = absurd (h word refl)
 other part.AliasName (token.Alias name) h = absurd (h name refl)
+other part.AccValues (token.Int n) h = cc
+other part.AccValues (token.Identifier word) h = cc
+other part.Values (token.Int n) h = cc
+other part.Values (token.Str text) h = cc
+other part.Values (token.Identifier word) h = cc
 other (part.Factors depth) token.Amp h = absurd (h refl)
 other (part.Products depth) token.Bar h = absurd (h refl)
 other (part.Atoms depth) token.Amp h = absurd (h refl)
@@ -59,8 +67,6 @@ other part.Marks token.RightBrace h = absurd (h.1 refl)
 other part.Edges token.LeftBracket h = absurd (h.0 refl)
 other part.Edges (token.Int n) h = absurd (h.1 n refl)
 other part.Whole z h = absurd h
-other part.AccValues z h = absurd h
-other part.Values z h = absurd h
 other (part.Factor depth) z h = absurd h
 other (part.Atom depth) z h = absurd h
 other _ z h = refl

@@ -18,6 +18,19 @@ use Rattle.hoa_parser.specs.WrittenDown.{written_formula, written_atoms, written
 use Rattle.hoa_parser.specs.WrittenDown.Cursor.{Alone, InOr, InAnd}
 use Rattle.hoa_parser.proofs.grammar.PlainLabels.{and_line, or_line, more_line, in_group}
 
+-- the factors of a phrase, where a conjunction in parentheses is taken out of them, and the condition that it is alone
+abbrev head_of : Fatom → Fatom
+head_of (condition_group (condition f fs no_fand)) = f
+head_of f = f
+
+abbrev tail_of : Fatom → Fatoms
+tail_of (condition_group (condition f fs no_fand)) = fs
+tail_of f = no_fatom
+
+abbrev condition_of : Fatom → Condition
+condition_of (condition_group l) = l
+condition_of f = condition f no_fatom no_fand
+
 -- the phrases of a tree between `&`, between `|` (a first factor and more), and alone
 abbrev mutual
   pub plain_fatom : FormulaTree → Fatom
@@ -26,19 +39,8 @@ abbrev mutual
   plain_fatom (formula.Inf set neg) = infinitely set neg
   plain_fatom (formula.Fin set neg) = finitely set neg
   plain_fatom (formula.And t u ts) = condition_group (condition (plain_fatom t) (and_fatom (plain_fatom u) (plain_fatoms ts)) no_fand)
-  plain_fatom (formula.Or t u ts) = condition_group (condition (plain_head t) (plain_tail t) (or_fand (plain_head u) (plain_tail u) (plain_fands ts)))
-
-  pub plain_head : FormulaTree → Fatom
-  plain_head formula.True = true_condition
-  plain_head formula.False = false_condition
-  plain_head (formula.Inf set neg) = infinitely set neg
-  plain_head (formula.Fin set neg) = finitely set neg
-  plain_head (formula.And t u ts) = plain_fatom t
-  plain_head (formula.Or t u ts) = condition_group (condition (plain_head t) (plain_tail t) (or_fand (plain_head u) (plain_tail u) (plain_fands ts)))
-
-  pub plain_tail : FormulaTree → Fatoms
-  plain_tail (formula.And t u ts) = and_fatom (plain_fatom u) (plain_fatoms ts)
-  plain_tail _ = no_fatom
+  plain_fatom (formula.Or t u ts) =
+      condition_group (condition (head_of (plain_fatom t)) (tail_of (plain_fatom t)) (or_fand (head_of (plain_fatom u)) (tail_of (plain_fatom u)) (plain_fands ts)))
 
   pub plain_fatoms : FormulaTrees → Fatoms
   plain_fatoms formula.none = no_fatom
@@ -46,12 +48,16 @@ abbrev mutual
 
   pub plain_fands : FormulaTrees → Fands
   plain_fands formula.none = no_fand
-  plain_fands (formula.more t ts) = or_fand (plain_head t) (plain_tail t) (plain_fands ts)
+  plain_fands (formula.more t ts) = or_fand (head_of (plain_fatom t)) (tail_of (plain_fatom t)) (plain_fands ts)
+
+abbrev pub plain_head : FormulaTree → Fatom
+plain_head t = head_of (plain_fatom t)
+
+abbrev pub plain_tail : FormulaTree → Fatoms
+plain_tail t = tail_of (plain_fatom t)
 
 abbrev pub plain_condition : FormulaTree → Condition
-plain_condition (formula.And t u ts) = condition (plain_fatom t) (and_fatom (plain_fatom u) (plain_fatoms ts)) no_fand
-plain_condition (formula.Or t u ts) = condition (plain_head t) (plain_tail t) (or_fand (plain_head u) (plain_tail u) (plain_fands ts))
-plain_condition t = condition (plain_fatom t) no_fatom no_fand
+plain_condition t = condition_of (plain_fatom t)
 
 -- their tokens
 

@@ -15,6 +15,19 @@ use Rattle.hoa_parser.proofs.grammar.JoinedParts.{ap₃}
 use Rattle.hoa_parser.specs.WrittenDown.{written_label, written_factors, written_products}
 use Rattle.hoa_parser.specs.WrittenDown.Cursor.{Alone, InOr, InAnd}
 
+-- the factors of a phrase, where a product in parentheses is taken out of them, and the label that it is alone
+abbrev first_of : Lnot → Lnot
+first_of (group (label f fs no_land)) = f
+first_of f = f
+
+abbrev others_of : Lnot → Lnots
+others_of (group (label f fs no_land)) = fs
+others_of f = no_lnot
+
+abbrev label_of : Lnot → Label
+label_of (group l) = l
+label_of f = label f no_lnot no_land
+
 -- the phrases of a tree between `&`, between `|` (a first factor and more), and alone
 abbrev mutual
   pub plain_lnot : RawTree → Lnot
@@ -24,20 +37,7 @@ abbrev mutual
   plain_lnot (raw.Alias name) = alias name
   plain_lnot (raw.Not t) = negated (plain_lnot t)
   plain_lnot (raw.And t u ts) = group (label (plain_lnot t) (and_lnot (plain_lnot u) (plain_lnots ts)) no_land)
-  plain_lnot (raw.Or t u ts) = group (label (plain_first t) (plain_others t) (or_land (plain_first u) (plain_others u) (plain_lands ts)))
-
-  pub plain_first : RawTree → Lnot
-  plain_first raw.True = true_label
-  plain_first raw.False = false_label
-  plain_first (raw.Prop i) = proposition i
-  plain_first (raw.Alias name) = alias name
-  plain_first (raw.Not t) = negated (plain_lnot t)
-  plain_first (raw.And t u ts) = plain_lnot t
-  plain_first (raw.Or t u ts) = group (label (plain_first t) (plain_others t) (or_land (plain_first u) (plain_others u) (plain_lands ts)))
-
-  pub plain_others : RawTree → Lnots
-  plain_others (raw.And t u ts) = and_lnot (plain_lnot u) (plain_lnots ts)
-  plain_others _ = no_lnot
+  plain_lnot (raw.Or t u ts) = group (label (first_of (plain_lnot t)) (others_of (plain_lnot t)) (or_land (first_of (plain_lnot u)) (others_of (plain_lnot u)) (plain_lands ts)))
 
   pub plain_lnots : RawTrees → Lnots
   plain_lnots raw.none = no_lnot
@@ -45,12 +45,16 @@ abbrev mutual
 
   pub plain_lands : RawTrees → Lands
   plain_lands raw.none = no_land
-  plain_lands (raw.more t ts) = or_land (plain_first t) (plain_others t) (plain_lands ts)
+  plain_lands (raw.more t ts) = or_land (first_of (plain_lnot t)) (others_of (plain_lnot t)) (plain_lands ts)
+
+abbrev pub plain_first : RawTree → Lnot
+plain_first t = first_of (plain_lnot t)
+
+abbrev pub plain_others : RawTree → Lnots
+plain_others t = others_of (plain_lnot t)
 
 abbrev pub plain_label : RawTree → Label
-plain_label (raw.And t u ts) = label (plain_lnot t) (and_lnot (plain_lnot u) (plain_lnots ts)) no_land
-plain_label (raw.Or t u ts) = label (plain_first t) (plain_others t) (or_land (plain_first u) (plain_others u) (plain_lands ts))
-plain_label t = label (plain_lnot t) no_lnot no_land
+plain_label t = label_of (plain_lnot t)
 
 -- their tokens
 

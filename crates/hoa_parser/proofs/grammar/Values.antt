@@ -43,22 +43,11 @@ acc_value_at (token.Int n) h = record { value = acc_number n; is = refl; taken =
 acc_value_at (token.Identifier word) h = record { value = acc_word word; is = refl; taken = refl; unended = refl; room = refl }
 acc_value_at z h = absurd (false≢true h)
 
-pub no_acc_value : (z : Token) → is_acc_value z ≡ false → move AccValues z ≡ Passes
-no_acc_value (token.Int n) h = absurd (false≢true (sym h))
-no_acc_value (token.Identifier word) h = absurd (false≢true (sym h))
-no_acc_value z h = refl
-
 pub value_at : (z : Token) → is_value z ≡ true → IsOneOf Values value_token z
 value_at (token.Int n) h = record { value = number_value n; is = refl; taken = refl; unended = refl; room = refl }
 value_at (token.Str text) h = record { value = text_value text; is = refl; taken = refl; unended = refl; room = refl }
 value_at (token.Identifier word) h = record { value = word_value word; is = refl; taken = refl; unended = refl; room = refl }
 value_at z h = absurd (false≢true h)
-
-pub no_value : (z : Token) → is_value z ≡ false → move Values z ≡ Passes
-no_value (token.Int n) h = absurd (false≢true (sym h))
-no_value (token.Str text) h = absurd (false≢true (sym h))
-no_value (token.Identifier word) h = absurd (false≢true (sym h))
-no_value z h = refl
 
 -- the numbers that follow these
 abbrev pub AddsInts : List ℕ → List ℕ → Cursor → Cursor → Type 0
