@@ -1,13 +1,13 @@
 -- A token that is taken, and what is written behind it, write the part that takes it: items.
-use Rattle.std.proofs.Common.{◌≡◌, ℕ, true, false, List, [], ◌∷◌, ◌++◌, map, Some, None, refl, sym, ap, ◌∙◌}
+use Rattle.std.proofs.Common.{◌≡◌, ℕ, List, [], ◌∷◌, ◌++◌, refl, sym, ap, ◌∙◌}
 use Rattle.std.specs.Prelude.{flat_map}
 use Rattle.std.proofs.lemmas.List.{append_assoc}
 use Rattle.hoa_lexer.specs.declared.token.Token.{Token}
 use Rattle.hoa_lexer.specs.declared.token.Token.TheVariants as token
 use Rattle.hoa_parser.specs.inner.Expecting as part
 use Rattle.hoa_parser.specs.inner.Expecting.{Takes, header_move, move}
-use Rattle.hoa_parser.specs.Grammar.{label, label_tokens, condition, condition_tokens, and_number, acc_number, acc_word, acc_value_token}
-use Rattle.hoa_parser.specs.Grammar.{number_value, text_value, word_value, value_token, optional_text, header_of, ItemPhrase, states_item, start_item}
+use Rattle.hoa_parser.specs.Grammar.{label, condition}
+use Rattle.hoa_parser.specs.Grammar.{header_of, ItemPhrase, states_item, start_item}
 use Rattle.hoa_parser.specs.Grammar.{names_item, alias_item, acceptance_item, acc_name_item, tool_item, name_item, properties_item, other_item}
 use Rattle.hoa_parser.specs.Grammar.{item_tokens, ItemWithin}
 use Rattle.hoa_parser.specs.declared.header.Header.{Header}
