@@ -1,10 +1,10 @@
 -- What a token is to a part that does not begin with it: what `--ABORT--` is, which begins none.
-use Rattle.std.proofs.Common.{◌≡◌, ◌≢◌, ℕ, false, List, refl}
+use Rattle.std.proofs.Common.{◌≡◌, ◌≢◌, ℕ, Bool, true, false, List, refl}
 use Rattle.hoa_lexer.specs.declared.token.Token.{Token}
 use Rattle.hoa_lexer.specs.declared.token.Token.TheVariants as token
 use Rattle.hoa_parser.specs.inner.Expecting as part
 use Rattle.hoa_parser.specs.inner.Expecting.{Part, move}
-use Rattle.hoa_parser.specs.inner.RuleReads.{is_acc_value, is_value}
+use Rattle.hoa_parser.specs.inner.RuleReads.{is_value, values_part}
 
 -- The token is none that the part begins with. Of parts that begin with words or with names of headers of their own this tells nothing.
 abbrev pub IsOther : Part → Token → Type 0
@@ -16,8 +16,8 @@ IsOther part.Strings z = (text : List ℕ) → z ≢ token.Str text
 IsOther part.Word z = (word : List ℕ) → z ≢ token.Identifier word
 IsOther part.Words z = (word : List ℕ) → z ≢ token.Identifier word
 IsOther part.AliasName z = (name : List ℕ) → z ≢ token.Alias name
-IsOther part.AccValues z = is_acc_value z ≡ false
-IsOther part.Values z = is_value z ≡ false
+IsOther part.AccValues z = is_value false z ≡ false
+IsOther part.Values z = is_value true z ≡ false
 IsOther (part.Factors depth) z = z ≢ token.Amp
 IsOther (part.Products depth) z = z ≢ token.Bar
 IsOther (part.Atoms depth) z = z ≢ token.Amp
@@ -70,3 +70,7 @@ other part.Whole z h = absurd h
 other (part.Factor depth) z h = absurd h
 other (part.Atom depth) z h = absurd h
 other _ z h = refl
+
+pub other_value : (texts : Bool) (z : Token) → is_value texts z ≡ false → move (values_part texts) z ≡ part.Passes
+other_value false z h = other part.AccValues z h
+other_value true z h = other part.Values z h

@@ -1,5 +1,5 @@
 -- What is a value in a list of values.
-use Rattle.std.proofs.Common.{◌≡◌, ◌∷◌, ◌++◌, [], ℕ, true, false, List, map, flat_map, Some, None, refl, sym, ap, subst, ◌∙◌}
+use Rattle.std.proofs.Common.{◌≡◌, ◌∷◌, ◌++◌, [], ℕ, true, false, List, map, flat_map, Some, None, refl, sym, ap, subst, ◌∙◌, Bool}
 use Rattle.std.specs.Prelude.{nat_le}
 use Rattle.std.proofs.lemmas.Bool.{false≢true}
 use Rattle.std.proofs.lemmas.List.{append_assoc}
@@ -13,7 +13,7 @@ use Rattle.hoa_parser.proofs.reading.Steps.{fails_after, reads_as, reads_then, t
 use Rattle.hoa_parser.specs.inner.Parsing.{Advanced, Cursor, FailsAt, Passed, ReadsTo, State, Unadvanced, is_end}
 use Rattle.hoa_parser.specs.Standing.{most_depth}
 use Rattle.hoa_parser.specs.declared.fault.ReadFault.{ReadFault}
-use Rattle.hoa_parser.specs.inner.RuleReads.{AddsMarks, AddsNumbers, AreMarks, IsConj, IsNumber, is_acc_value, is_value}
+use Rattle.hoa_parser.specs.inner.RuleReads.{AddsMarks, AddsNumbers, AreMarks, IsConj, IsNumber, is_value, token_of, values_part}
 
 -- a list of what is spelled so
 abbrev pub AreSpelled : {V : Type 0} → (V → Token) → Cursor → Cursor → Type 0
@@ -38,16 +38,14 @@ pub no_more : {V : Type 0} {part : Part} {spelled : V → Token} {f : ReadFault}
     → Unadvanced f m s' → FailsAt f (part ∷ []) s s'
 no_more {part = part} {m = m} one before last = fails_after before (takes_last part [] m.ahead refl one.taken one.room one.unended last)
 
-pub acc_value_at : (z : Token) → is_acc_value z ≡ true → IsOneOf AccValues acc_value_token z
-acc_value_at (token.Int n) h = record { value = acc_number n; is = refl; taken = refl; unended = refl; room = refl }
-acc_value_at (token.Identifier word) h = record { value = acc_word word; is = refl; taken = refl; unended = refl; room = refl }
-acc_value_at z h = absurd (false≢true h)
-
-pub value_at : (z : Token) → is_value z ≡ true → IsOneOf Values value_token z
-value_at (token.Int n) h = record { value = number_value n; is = refl; taken = refl; unended = refl; room = refl }
-value_at (token.Str text) h = record { value = text_value text; is = refl; taken = refl; unended = refl; room = refl }
-value_at (token.Identifier word) h = record { value = word_value word; is = refl; taken = refl; unended = refl; room = refl }
-value_at z h = absurd (false≢true h)
+pub value_at : (texts : Bool) (z : Token) → is_value texts z ≡ true → IsOneOf (values_part texts) (token_of texts) z
+value_at false (token.Int n) h = record { value = acc_number n; is = refl; taken = refl; unended = refl; room = refl }
+value_at false (token.Identifier word) h = record { value = acc_word word; is = refl; taken = refl; unended = refl; room = refl }
+value_at true (token.Int n) h = record { value = number_value n; is = refl; taken = refl; unended = refl; room = refl }
+value_at true (token.Str text) h = record { value = text_value text; is = refl; taken = refl; unended = refl; room = refl }
+value_at true (token.Identifier word) h = record { value = word_value word; is = refl; taken = refl; unended = refl; room = refl }
+value_at false z h = absurd (false≢true h)
+value_at true z h = absurd (false≢true h)
 
 -- the numbers that follow these
 abbrev pub AddsInts : List ℕ → List ℕ → Cursor → Cursor → Type 0

@@ -1,5 +1,5 @@
 -- How the items of a header are read.
-use Rattle.std.proofs.Common.{◌≡◌, ◌≢◌, ◌⊎◌, inl, inr, ℕ, true, List, [], ◌∷◌, ◌++◌, map, Result, Ok, Err, refl, sym, ap, subst, ◌∙◌}
+use Rattle.std.proofs.Common.{◌≡◌, ◌≢◌, ◌⊎◌, inl, inr, ℕ, true, List, [], ◌∷◌, ◌++◌, map, Result, Ok, Err, refl, sym, ap, subst, ◌∙◌, false}
 use Rattle.std.proofs.lemmas.List.{append-nil}
 use Rattle.std.specs.Prelude.{codes, nat_le}
 use Rattle.aut_base.specs.declared.formula.Formula.{Formula}
@@ -16,7 +16,7 @@ use Rattle.hoa_parser.specs.Grammar.{name_item, names_item, other_item, properti
 use Rattle.hoa_parser.specs.Grammar.{conj_tokens, condition_tokens, label_tokens, optional_text, value_token}
 use Rattle.hoa_parser.specs.inner.Parsing.{Advanced, Cursor, FailsAt, Passed, Reads, ReadsTo, State, Unadvanced}
 use Rattle.hoa_parser.specs.inner.Expecting.{header_parts}
-use Rattle.hoa_parser.specs.inner.RuleReads.{AreAccValues, AreTexts, AreValues, AreWords, IsAliasName, IsCondition, IsConj, IsItem, IsItemOf}
+use Rattle.hoa_parser.specs.inner.RuleReads.{AreTexts, AreValues, AreWords, IsAliasName, IsCondition, IsConj, IsItem, IsItemOf}
 use Rattle.hoa_parser.specs.inner.RuleReads.{IsItemWritten, IsLabel, IsNumber, IsOptionalText, IsQuoted, IsWord, ItemRest}
 use Rattle.hoa_parser.specs.Raw as raw
 use Rattle.hoa_parser.specs.Raw.{WrittenItem, written_item}
@@ -57,7 +57,7 @@ acceptance_read sets f a b c p q = λ name.
     (λ e. name_of name header.Acceptance e) q.within refl
     (ap (raw.Acceptance sets) q.means) (passed_then a b c (token.Int sets ∷ []) (condition_tokens q.phrase) p q.passed)
 
-pub acc_name_read : (word : List ℕ) (done : Unit {0}) (a b c : Cursor) → IsWord word a b → AreAccValues done b c → IsItemWritten header.AccName item.AccName a c
+pub acc_name_read : (word : List ℕ) (done : Unit {0}) (a b c : Cursor) → IsWord word a b → AreValues false done b c → IsItemWritten header.AccName item.AccName a c
 acc_name_read word done a b c p q = λ name.
     rest_of name header.AccName (codes "acc-name") (token.Identifier word ∷ map acc_value_token q.0) (acc_name_item word q.0) raw.AccName a c (λ e. name_of name header.AccName e) tt refl refl
     (passed_then a b c (token.Identifier word ∷ []) (map acc_value_token q.0) p q.1)
@@ -88,7 +88,7 @@ is_other h no_opening no_state (inl e) = e
 is_other h no_opening no_state (inr (inl e)) = absurd (no_opening e)
 is_other h no_opening no_state (inr (inr e)) = absurd (no_state e)
 
-pub other_read : (name : List ℕ) (done : Unit {0}) (a b : Cursor) → AreValues done a b → IsItemOf header.Other name (item.Other name) a b
+pub other_read : (name : List ℕ) (done : Unit {0}) (a b : Cursor) → AreValues true done a b → IsItemOf header.Other name (item.Other name) a b
 other_read name done a b p = record {
   tokens = map value_token p.0;
   passed = p.1;

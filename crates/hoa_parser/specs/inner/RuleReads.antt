@@ -14,6 +14,8 @@ use Rattle.hoa_parser.specs.Grammar.{edge_meaning, edge_tokens, fands_meaning, f
 use Rattle.hoa_parser.specs.Grammar.{fatoms_tokens, item_meaning, item_tokens, label_meaning, label_tokens, lands_meaning, lands_tokens, lnot_meaning}
 use Rattle.hoa_parser.specs.Grammar.{lnot_tokens, lnots_meaning, lnots_tokens, marks_meaning, one_of, optional_label, optional_marks, optional_text}
 use Rattle.hoa_parser.specs.Grammar.{set_tokens, state_meaning, state_tokens, value_token}
+use Rattle.hoa_parser.specs.inner.Expecting as part
+use Rattle.hoa_parser.specs.inner.Expecting.{Part}
 use Rattle.hoa_parser.specs.inner.Parsing.{IsWritten, Passed, Cursor}
 use Rattle.hoa_parser.specs.Raw as raw
 use Rattle.hoa_parser.specs.Raw.{RawTree, WrittenEdge, WrittenItem, WrittenState, raw_tree, written, written_edge, written_item, written_state}
@@ -58,24 +60,27 @@ AreTexts texts a b = Passed a (map token.Str texts) b
 abbrev pub AreWords : List (List ℕ) → Cursor → Cursor → Type 0
 AreWords words a b = Passed a (map token.Identifier words) b
 
--- whether a token is a value behind the name of an acceptance
-abbrev pub is_acc_value : Token → Bool
-is_acc_value (token.Int n) = true
-is_acc_value (token.Identifier word) = true
-is_acc_value _ = false
+-- whether a token is a value, where texts are values too or not: behind the name of an acceptance they are none
+abbrev pub is_value : Bool → Token → Bool
+is_value texts (token.Int n) = true
+is_value texts (token.Str text) = texts
+is_value texts (token.Identifier word) = true
+is_value texts _ = false
 
-abbrev pub AreAccValues : Unit {0} → Cursor → Cursor → Type 0
-AreAccValues done a b = (values : List AccValue) × Passed a (map acc_value_token values) b
+abbrev pub values_part : Bool → Part
+values_part false = part.AccValues
+values_part true = part.Values
 
--- whether it is one behind the name of another header
-abbrev pub is_value : Token → Bool
-is_value (token.Int n) = true
-is_value (token.Str text) = true
-is_value (token.Identifier word) = true
-is_value _ = false
+abbrev pub ValueOf : Bool → Type 0
+ValueOf false = AccValue
+ValueOf true = Value
 
-abbrev pub AreValues : Unit {0} → Cursor → Cursor → Type 0
-AreValues done a b = (values : List Value) × Passed a (map value_token values) b
+abbrev pub token_of : (texts : Bool) → ValueOf texts → Token
+token_of false value = acc_value_token value
+token_of true value = value_token value
+
+abbrev pub AreValues : Bool → Unit {0} → Cursor → Cursor → Type 0
+AreValues texts done a b = (values : List (ValueOf texts)) × Passed a (map (token_of texts) values) b
 
 abbrev pub IsOptionalText : Unit {0} → Cursor → Cursor → Type 0
 IsOptionalText done a b = (text : Option (List ℕ)) × Passed a (optional_text text) b

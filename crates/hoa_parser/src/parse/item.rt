@@ -10,7 +10,7 @@ ghost use Rattle.hoa_parser.specs.inner.RuleReads.{AreItems, IsItem, IsItemOf, I
 
 use super::condition::condition;
 use super::label::label;
-use super::lists::{acc_values, conj, strings, values, words};
+use super::lists::{conj, strings, values, words};
 use super::tokens::{alias_name, maybe_quoted, number, quoted, refused, take, word};
 use crate::header::{Header, header_named};
 use crate::{Item, Items, ReadFault};
@@ -86,7 +86,7 @@ fn item_of<I: Inputs>(
 {
     match header {
         Header::Other | Header::Opening | Header::State => {
-            values(alloc, lexer, inputs, ahead)?;
+            values(alloc, lexer, inputs, ahead, true)?;
             Ok(Item::Other(name))
         }
         _ => known_item(alloc, lexer, inputs, ahead, header),
@@ -132,7 +132,7 @@ fn known_item<I: Inputs>(
         // IDENTIFIER (INT | IDENTIFIER)*
         Header::AccName => {
             word(alloc, lexer, inputs, ahead)?;
-            acc_values(alloc, lexer, inputs, ahead)?;
+            values(alloc, lexer, inputs, ahead, false)?;
             Ok(Item::AccName)
         }
         // STRING STRING?

@@ -6,7 +6,7 @@ ghost use Rattle.hoa_parser.specs.inner.Expecting as part;
 ghost use Rattle.hoa_parser.specs.inner.Expecting.{conj_parts};
 ghost use Rattle.hoa_parser.specs.inner.Parsing.{Reads, Uses, state};
 ghost use Rattle.hoa_parser.specs.inner.RuleReads as written;
-ghost use Rattle.hoa_parser.specs.inner.RuleReads.{AddsMarks, AddsNumbers, AreAccValues, AreMarks, AreTexts, AreValues, AreWords, IsConj};
+ghost use Rattle.hoa_parser.specs.inner.RuleReads.{AddsMarks, AddsNumbers, AreMarks, AreTexts, AreValues, AreWords, IsConj};
 
 use super::tokens::{advance, number, quoted, refused, word};
 use crate::ReadFault;
@@ -101,52 +101,31 @@ pub(super) fn words<I: Inputs>(
     }
 }
 
-/// INT | IDENTIFIER
-fn is_acc_value(token: &Token) -> bool
-    ensures { result ≡ written.is_acc_value token.now }
+/// INT | IDENTIFIER, and STRING where texts are values too
+fn is_value(token: &Token, texts: bool) -> bool
+    ensures { result ≡ written.is_value texts token.now }
 {
-    matches!(token, Token::Int(_) | Token::Identifier(_))
-}
-
-/// (INT | IDENTIFIER)*
-pub(super) fn acc_values<I: Inputs>(
-    alloc: Global,
-    lexer: &mut Lexer,
-    inputs: &mut I,
-    ahead: &mut Token,
-) -> Result<(), ReadFault>
-    requires unspent { lexer.old.spent ≡ false }
-    ensures reads { Reads (part.AccValues ∷ []) [] AreAccValues result
-        (state lexer.old ahead.old (I.seen inputs.old)) (state lexer.new ahead.new (I.seen inputs.new)) }
-{
-    'values: loop {
-        if !is_acc_value(ahead) {
-            return Ok(());
-        }
-        advance(alloc, lexer, inputs, ahead)?;
+    match token {
+        Token::Int(_) | Token::Identifier(_) => true,
+        Token::Str(_) => texts,
+        _ => false,
     }
 }
 
-/// INT | STRING | IDENTIFIER
-fn is_value(token: &Token) -> bool
-    ensures { result ≡ written.is_value token.now }
-{
-    matches!(token, Token::Int(_) | Token::Str(_) | Token::Identifier(_))
-}
-
-/// (INT | STRING | IDENTIFIER)*
+/// (INT | IDENTIFIER)*, with STRING among them where texts are values too
 pub(super) fn values<I: Inputs>(
     alloc: Global,
     lexer: &mut Lexer,
     inputs: &mut I,
     ahead: &mut Token,
+    texts: bool,
 ) -> Result<(), ReadFault>
     requires unspent { lexer.old.spent ≡ false }
-    ensures reads { Reads (part.Values ∷ []) [] AreValues result
+    ensures reads { Reads (written.values_part texts ∷ []) [] (AreValues texts) result
         (state lexer.old ahead.old (I.seen inputs.old)) (state lexer.new ahead.new (I.seen inputs.new)) }
 {
     'values: loop {
-        if !is_value(ahead) {
+        if !is_value(ahead, texts) {
             return Ok(());
         }
         advance(alloc, lexer, inputs, ahead)?;

@@ -72,16 +72,16 @@ returns-in_err-word-in-AccName g c = record {
   reads = handed_on _ _ _ c.from_residual-in_err-word-in-AccName.ensures.1 (rw c.in-AccName.is (fails_before (AccValues ∷ []) c.in_err-word-in-AccName.ensures.reads));
 }
 
-pub returns-in_err-acc_values-in-AccName : goal.returns-in_err-acc_values-in-AccName
-returns-in_err-acc_values-in-AccName g c = record {
-  reads = handed_on _ _ _ c.from_residual-in_err-acc_values-in-AccName.ensures.1
-      (rw c.in-AccName.is (next_fails _ (reads_before (AccValues ∷ []) c.in_ok-word-in-AccName.ensures.reads) c.in_err-acc_values-in-AccName.ensures.reads));
+pub returns-in_err-values-in-AccName : goal.returns-in_err-values-in-AccName
+returns-in_err-values-in-AccName g c = record {
+  reads = handed_on _ _ _ c.from_residual-in_err-values-in-AccName.ensures.1
+      (rw c.in-AccName.is (next_fails _ (reads_before (AccValues ∷ []) c.in_ok-word-in-AccName.ensures.reads) c.in_err-values-in-AccName.ensures.reads));
 }
 
-pub returns-in_ok-acc_values-in-AccName : goal.returns-in_ok-acc_values-in-AccName
-returns-in_ok-acc_values-in-AccName g c = record {
+pub returns-in_ok-values-in-AccName : goal.returns-in_ok-values-in-AccName
+returns-in_ok-values-in-AccName g c = record {
   reads = rw c.in-AccName.is (reads_as (λ a d h. acc_name_read _ _ a h.0 d h.1 h.2)
-      (next_reads (reads_before (AccValues ∷ []) c.in_ok-word-in-AccName.ensures.reads) c.in_ok-acc_values-in-AccName.ensures.reads));
+      (next_reads (reads_before (AccValues ∷ []) c.in_ok-word-in-AccName.ensures.reads) c.in_ok-values-in-AccName.ensures.reads));
 }
 
 pub returns-in_err-quoted-in-Tool : goal.returns-in_err-quoted-in-Tool
