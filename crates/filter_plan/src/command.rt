@@ -7,15 +7,16 @@ ghost use Rattle.filter_plan.specs.inner.Entries.{entry_rule};
 
 use crate::entry::Entry;
 use crate::table::TABLE;
+use aut_base::Memory;
 use clap::{Arg, ArgAction, Command};
-use std::alloc::{AllocError, Global};
+use std::alloc::Global;
 
 /// The command with all its options. `clap` adds none of its own.
 #[tactic(auto, unfolding(crate::specs::Words::autfilt, crate::specs::Table::table))]
-pub(crate) fn command<'a>(alloc: Global) -> Result<Command<'a>, AllocError>
+pub(crate) fn command<'a>(alloc: Global) -> Result<Command<'a>, Memory>
     ensures { IfOk result (λ c. app_of c ≡ autfilt) }
 {
-    with_options(alloc, bare(alloc), TABLE.as_slice())?.arg(files(alloc))
+    Ok(with_options(alloc, bare(alloc), TABLE.as_slice())?.arg(files(alloc))?)
 }
 
 /// The command without any option.
@@ -34,7 +35,7 @@ fn with_options<'a>(
     alloc: Global,
     command: Command<'a>,
     entries: &[Entry],
-) -> Result<Command<'a>, AllocError>
+) -> Result<Command<'a>, Memory>
     ensures { IfOk result (λ c. app_of c ≡ fold with_rule (app_of command.entry) (map entry_rule entries.now)) }
 {
     let mut command = command;

@@ -1,7 +1,6 @@
 //! Why there is no plan.
 
 use aut_base::Memory;
-use std::alloc::{AllocError, AllocFailed};
 
 /// Why the words have no plan.
 #[derive(Clone, Copy, Debug, PartialEq, Eq)]
@@ -10,17 +9,6 @@ pub enum UsageFault {
     Usage,
     /// Want of memory.
     Memory,
-}
-
-impl From<AllocError> for UsageFault {
-    ghost use Rattle.std.specs.Prelude.{◌≡◌};
-    ghost use Rattle.filter_plan.specs.declared.fault.UsageFault.TheVariants as fault;
-
-    ghost from_gives = { λ _ outcome. outcome ≡ fault.Memory };
-
-    fn from(_refused: AllocError) -> UsageFault {
-        UsageFault::Memory
-    }
 }
 
 impl From<Memory> for UsageFault {
