@@ -11,7 +11,7 @@ use Rattle.filter_plan.specs.declared.plan.Form.{Form}
 use Rattle.filter_plan.specs.declared.plan.Form.TheVariants.{AsIs, Deterministic, Parity, Buchi, RemoveFin, Dnf, Monitor}
 use Rattle.filter_plan.specs.declared.plan.Plan.{Plan}
 use Rattle.filter_plan.specs.inner.Forms.{IsForm}
-use Rattle.filter_plan.specs.inner.Given.{IsGiven}
+use Rattle.filter_plan.specs.inner.Given.{IsGiven, operands_of}
 
 -- what can be read in one way is
 pub same_value : {X : Type 0} (IsRead : List ℕ → X → Type 0) → ((t : List ℕ) (x y : X) → IsRead t x → IsRead t y → x ≡ y) → (values : List (List ℕ)) (x y : Option X) → Reads IsRead values x
@@ -36,10 +36,10 @@ same_presence IsRead (v ∷ []) (Some x) (Some y) h k = refl
 same_presence IsRead (v ∷ w ∷ ws) None y h k = absurd h
 same_presence IsRead (v ∷ w ∷ ws) (Some x) y h k = absurd h
 
-pub same_file : (values : List (List ℕ)) (x y : Option (List ℕ)) → Reads IsFile values x → Reads IsFile values y → x ≡ y
+same_file : (values : List (List ℕ)) (x y : Option (List ℕ)) → Reads IsFile values x → Reads IsFile values y → x ≡ y
 same_file = same_value IsFile (λ t x y h k. h ∙ sym k)
 
-pub same_made : (values : List (List ℕ)) (x y : Option ℕ) → Reads IsMadeCount values x → Reads IsMadeCount values y → x ≡ y
+same_made : (values : List (List ℕ)) (x y : Option ℕ) → Reads IsMadeCount values x → Reads IsMadeCount values y → x ≡ y
 same_made = same_value IsMadeCount (λ t x y h k. sym h.0.1 ∙ k.0.1)
 
 pub same_form : (rows : List Row) (f g : Form) → IsForm rows f → IsForm rows g → f ≡ g
@@ -63,6 +63,7 @@ pub record SameOutline (p q : Plan) : Type 0 where
   pub refuted : refuted p.output ≡ refuted q.output
   pub changes : changes p ≡ changes q
   pub made : p.made ≡ q.made
+  pub files : operands_of p ≡ operands_of q
 
 pub same_outline : (rows : List Row) (p q : Plan) → IsGiven rows p → IsGiven rows q → SameOutline p q
 same_outline rows p q h k =
@@ -87,6 +88,7 @@ same_outline rows p q h k =
       refuted = refute;
       changes = cc;
       made = made;
+      files = λ t. record { included_in = included t; equivalent_to = equivalent t; intersect = intersect t; product = product t; product_or = product_or t; sum = sum t };
     }
 
 pub rules_pass_on : (rows : List Row) (p q : Plan) → IsGiven rows p → IsGiven rows q → KeepsRules p → KeepsRules q

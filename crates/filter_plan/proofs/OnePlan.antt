@@ -1,7 +1,7 @@
 -- The words have one plan at most.
 use Rattle.std.proofs.Common.{◌≡◌, ◌∙◌, ℕ, List, sym}
 use Rattle.clap.specs.Words.{Row, matches_of}
-use Rattle.filter_plan.proofs.OneOutline.{same_file, same_form, same_made, same_outline, same_value}
+use Rattle.filter_plan.proofs.OneOutline.{same_form, same_outline, same_value}
 use Rattle.filter_plan.proofs.OneReading.{same_format, same_hidden, same_number, same_output, same_pattern, same_range}
 use Rattle.filter_plan.proofs.TableParts.{parts_of_table}
 use Rattle.filter_plan.specs.Formats.{IsFormat}
@@ -9,7 +9,7 @@ use Rattle.filter_plan.specs.Hiding.{IsHidden}
 use Rattle.filter_plan.specs.Laws.{SamePlan}
 use Rattle.filter_plan.specs.Numbers.{IsNumber}
 use Rattle.filter_plan.specs.Spans.{IsRange}
-use Rattle.filter_plan.specs.Table.{figures, refuted}
+use Rattle.filter_plan.specs.Table.{figures}
 use Rattle.filter_plan.specs.Words.{IsPlan, autfilt}
 use Rattle.filter_plan.specs.declared.plan.Plan.{Plan}
 use Rattle.filter_plan.specs.inner.Given.{IsGiven}
@@ -19,24 +19,16 @@ pub same_given : ((text : List ℕ) → OneReading text) → (rows : List Row) (
 same_given law rows p q h k =
     let a = parts_of_table rows p h.options in
     let b = parts_of_table rows q k.options in
-    let included : p.included_in ≡ q.included_in = same_file _ p.included_in q.included_in a.operands.included_in b.operands.included_in in
-    let equivalent : p.equivalent_to ≡ q.equivalent_to = same_file _ p.equivalent_to q.equivalent_to a.operands.equivalent_to b.operands.equivalent_to in
-    let intersect : p.intersect ≡ q.intersect = same_file _ p.intersect q.intersect a.operands.intersect b.operands.intersect in
-    let product : p.product ≡ q.product = same_file _ p.product q.product a.operands.product b.operands.product in
-    let product_or : p.product_or ≡ q.product_or = same_file _ p.product_or q.product_or a.operands.product_or b.operands.product_or in
-    let sum : p.sum ≡ q.sum = same_file _ p.sum q.sum a.operands.sum b.operands.sum in
+    let outline = same_outline rows p q h k in
     let states : p.states ≡ q.states = same_value IsRange same_range _ p.states q.states a.ranges.states b.ranges.states in
     let edges : p.edges ≡ q.edges = same_value IsRange same_range _ p.edges q.edges a.ranges.edges b.ranges.edges in
     let acc_sets : p.acc_sets ≡ q.acc_sets = same_value IsRange same_range _ p.acc_sets q.acc_sets a.ranges.acc_sets b.ranges.acc_sets in
     let ap : p.ap ≡ q.ap = same_value IsRange same_range _ p.ap q.ap a.ranges.ap b.ranges.ap in
     let most : p.most ≡ q.most = same_value IsNumber same_number _ p.most q.most a.most b.most in
-    let made : p.made ≡ q.made = same_made _ p.made q.made a.made b.made in
     let remove_ap : p.remove_ap ≡ q.remove_ap = same_value IsHidden same_hidden _ p.remove_ap q.remove_ap a.remove_ap b.remove_ap in
     let form : p.form ≡ q.form = same_form rows p.form q.form a.form b.form in
     let shown : figures p.output ≡ figures q.output = same_value IsFormat same_format _ (figures p.output) (figures q.output) a.output.stats b.output.stats in
-    let refute : refuted p.output ≡ refuted q.output = same_file _ (refuted p.output) (refuted q.output) a.output.refute b.output.refute in
-    let output : p.output ≡ q.output = same_output p.output q.output shown refute in
-    let streams : p.streams ≡ q.streams = (same_outline rows p q h k).streams in
+    let output : p.output ≡ q.output = same_output p.output q.output shown outline.refuted in
     let is_empty : p.is_empty ≡ q.is_empty = a.switches.is_empty ∙ sym b.switches.is_empty in
     let is_deterministic : p.is_deterministic ≡ q.is_deterministic = a.switches.is_deterministic ∙ sym b.switches.is_deterministic in
     let is_complete : p.is_complete ≡ q.is_complete = a.switches.is_complete ∙ sym b.switches.is_complete in
@@ -58,9 +50,6 @@ same_given law rows p q h k =
         quiet = quiet t;
         most = most t;
         is_empty = is_empty t;
-        included_in = included t;
-        equivalent_to = equivalent t;
-        intersect = intersect t;
         is_deterministic = is_deterministic t;
         is_complete = is_complete t;
         is_unambiguous = is_unambiguous t;
@@ -68,17 +57,20 @@ same_given law rows p q h k =
         edges = edges t;
         acc_sets = acc_sets t;
         ap = ap t;
-        product = product t;
-        product_or = product_or t;
-        sum = sum t;
         remove_ap = remove_ap t;
         trim = trim t;
         complement = complement t;
         form = form t;
         complete = complete t;
         output = output t;
-        streams = streams t;
-        made = made t;
+        included_in = (outline.files t).included_in;
+        equivalent_to = (outline.files t).equivalent_to;
+        intersect = (outline.files t).intersect;
+        product = (outline.files t).product;
+        product_or = (outline.files t).product_or;
+        sum = (outline.files t).sum;
+        streams = outline.streams t;
+        made = outline.made t;
       };
     }
 
