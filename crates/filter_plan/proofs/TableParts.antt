@@ -7,7 +7,7 @@ use Rattle.filter_plan.specs.Numbers.{IsMadeCount, IsNumber}
 use Rattle.filter_plan.specs.Table.{EachGives, Reads, table, values_of}
 use Rattle.filter_plan.specs.declared.plan.Plan.{Plan}
 use Rattle.filter_plan.specs.inner.Forms.{IsForm}
-use Rattle.filter_plan.specs.inner.Given.{operands_of, patterns_of, ranges_of, switches_of}
+use Rattle.filter_plan.specs.inner.Given.{operands_of, patterns_of, ranges_of}
 use Rattle.filter_plan.specs.inner.Groups.{AreOperands, ArePatterns, AreRanges, AreSwitches}
 use Rattle.filter_plan.specs.inner.Outputs.{IsOutput}
 
@@ -22,7 +22,7 @@ pub record AreParts (rows : List Row) (p : Plan) : Type 0 where
   pub most : Reads IsNumber (values_of (codes "max-count") rows) p.most
   pub made : Reads IsMadeCount (values_of (codes "made") rows) p.made
   pub first : length (values_of (codes "file") rows) ≤ 1
-  pub switches : AreSwitches rows (switches_of p)
+  pub switches : AreSwitches rows p
 
 pub parts_of_table : (rows : List Row) (p : Plan) → EachGives table rows p → AreParts rows p
 unfolding table

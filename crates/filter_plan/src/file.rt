@@ -1,27 +1,22 @@
 //! Names of files among the words.
 
-ghost use Rattle.std.specs.Prelude.{◌≡◌, ◌++◌, ℕ, List, IfErr, IfOk, IsErrOf, OnOk, Option, map};
+ghost use Rattle.std.specs.Prelude.{◌≡◌, ◌++◌, IfErr, OnOk, map};
 ghost use Rattle.clap.specs.Words.{found_of, rows_of};
-ghost use Rattle.filter_plan.specs.Table.{IsFile, Reads, values_of};
+ghost use Rattle.filter_plan.specs.Table.{IsFile, values_of};
 
 use crate::UsageFault;
-use crate::values::{value, values};
+use crate::reading::OptionValue;
+use crate::values::values;
 use aut_base::{Text, Words};
 use clap::ArgMatches;
 use std::alloc::Global;
 
-/// The file that the option has as its value.
-pub(crate) fn file_of(
-    alloc: Global,
-    matches: &ArgMatches,
-    id: &str,
-) -> Result<Option<Text>, UsageFault>
-    ensures reads { IfOk result (λ f. Reads IsFile (values_of id.now (rows_of (found_of matches.now))) f) }
-    ensures usage { IsErrOf result UsageFault.Usage → (f : Option (List ℕ)) → Reads IsFile (values_of id.now (rows_of (found_of matches.now))) f → ⊥ }
-{
-    match value(matches, id)? {
-        Some(name) => Ok(Some(Text::from_bytes(alloc, name.as_bytes())?)),
-        None => Ok(None),
+impl OptionValue for Text {
+    ghost is_read = { IsFile };
+
+    /// The name of a file, which the text is.
+    fn read(alloc: Global, text: &str) -> Result<Text, UsageFault> {
+        Ok(Text::from_bytes(alloc, text.as_bytes())?)
     }
 }
 

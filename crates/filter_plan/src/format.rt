@@ -1,17 +1,13 @@
 //! The format of a line of figures.
 
-ghost use Rattle.std.specs.Prelude.{◌≡◌, ◌++◌, ◌∷◌, [], ℕ, List, IfOk, IfSome, IsErrOf, Option};
+ghost use Rattle.std.specs.Prelude.{◌≡◌, ◌++◌, ◌∷◌, [], IfSome};
 ghost use Rattle.std.specs.Option.{option_map};
-ghost use Rattle.clap.specs.Words.{found_of, rows_of};
 ghost use Rattle.filter_plan.specs.Formats.{IsFormat, piece_text};
-ghost use Rattle.filter_plan.specs.Table.{Reads, values_of};
 ghost use Rattle.filter_plan.specs.inner.FormatPieces.{escape, first_piece};
-ghost use Rattle.filter_plan.specs.declared.format.Piece.{Piece};
 
 use crate::UsageFault;
-use crate::values::value;
+use crate::reading::OptionValue;
 use aut_base::Seq;
-use clap::ArgMatches;
 use std::alloc::Global;
 
 /// A piece of a format.
@@ -32,21 +28,22 @@ pub enum Piece {
 /// The pieces of a format, in order.
 pub type StatsText = Seq<Piece>;
 
-/// The pieces that the text writes, or `Usage` exactly where it writes none.
-fn read_format(alloc: Global, text: &str) -> Result<StatsText, UsageFault>
-    ensures pieces { IfOk result (IsFormat text.now) }
-    ensures usage { IsErrOf result UsageFault.Usage → (pieces : List Piece) → IsFormat text.now pieces → ⊥ }
-{
-    let mut pieces = StatsText::new(alloc);
-    let mut rest = text.as_bytes();
-    'pieces: while !rest.is_empty() {
-        let Some((piece, after)) = front(rest) else {
-            return Err(UsageFault::Usage);
-        };
-        pieces.push(piece)?;
-        rest = after;
+impl OptionValue for StatsText {
+    ghost is_read = { IsFormat };
+
+    /// The pieces that the text writes.
+    fn read(alloc: Global, text: &str) -> Result<StatsText, UsageFault> {
+        let mut pieces = StatsText::new(alloc);
+        let mut rest = text.as_bytes();
+        'pieces: while !rest.is_empty() {
+            let Some((piece, after)) = front(rest) else {
+                return Err(UsageFault::Usage);
+            };
+            pieces.push(piece)?;
+            rest = after;
+        }
+        Ok(pieces)
     }
-    Ok(pieces)
 }
 
 /// The first piece, and what stands behind it.
@@ -73,20 +70,5 @@ fn escape(letter: u8) -> Option<Piece>
         b'a' => Some(Piece::Sets),
         b'w' => Some(Piece::Word),
         _ => None,
-    }
-}
-
-/// The format that the option has as its value.
-pub(crate) fn format_of(
-    alloc: Global,
-    matches: &ArgMatches,
-    id: &str,
-) -> Result<Option<StatsText>, UsageFault>
-    ensures reads { IfOk result (λ f. Reads IsFormat (values_of id.now (rows_of (found_of matches.now))) f) }
-    ensures usage { IsErrOf result UsageFault.Usage → (f : Option (List Piece)) → Reads IsFormat (values_of id.now (rows_of (found_of matches.now))) f → ⊥ }
-{
-    match value(matches, id)? {
-        Some(text) => Ok(Some(read_format(alloc, text)?)),
-        None => Ok(None),
     }
 }

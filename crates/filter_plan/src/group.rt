@@ -2,35 +2,17 @@
 
 ghost use Rattle.std.specs.Prelude.{◌≡◌, IfOk, IsErrOf};
 ghost use Rattle.clap.specs.Words.{found_of, rows_of};
-ghost use Rattle.filter_plan.specs.inner.Groups.{AreOperands, ArePatterns, AreRanges, AreSwitches};
+ghost use Rattle.filter_plan.specs.inner.Groups.{AreOperands, ArePatterns, AreRanges};
 ghost use Rattle.filter_plan.specs.declared.group.Operands.{Operands};
 ghost use Rattle.filter_plan.specs.declared.group.Patterns.{Patterns};
 ghost use Rattle.filter_plan.specs.declared.group.Ranges.{Ranges};
 
-use crate::file::file_of;
-use crate::pattern::pattern_of;
-use crate::range::range_of;
-use crate::values::stands;
+use crate::reading::value_of;
 use crate::{Range, UsageFault};
 use aut_base::Text;
 use clap::ArgMatches;
 use std::alloc::Global;
 use word_syntax::Pattern;
-
-/// The flags, but for those of the forms.
-#[derive(Clone, Copy)]
-pub(crate) struct Switches {
-    pub(crate) is_empty: bool,
-    pub(crate) is_deterministic: bool,
-    pub(crate) is_complete: bool,
-    pub(crate) is_unambiguous: bool,
-    pub(crate) trim: bool,
-    pub(crate) complement: bool,
-    pub(crate) complete: bool,
-    pub(crate) invert: bool,
-    pub(crate) count: bool,
-    pub(crate) quiet: bool,
-}
 
 /// The patterns.
 #[derive(Drop)]
@@ -59,32 +41,14 @@ pub(crate) struct Ranges {
     pub(crate) ap: Option<Range>,
 }
 
-/// Which flags stand.
-pub(crate) fn read_switches(matches: &ArgMatches) -> Switches
-    ensures { AreSwitches (rows_of (found_of matches.now)) result }
-{
-    Switches {
-        is_empty: stands(matches, "is-empty"),
-        is_deterministic: stands(matches, "is-deterministic"),
-        is_complete: stands(matches, "is-complete"),
-        is_unambiguous: stands(matches, "is-unambiguous"),
-        trim: stands(matches, "remove-unreachable-states"),
-        complement: stands(matches, "complement"),
-        complete: stands(matches, "complete"),
-        invert: stands(matches, "invert-match"),
-        count: stands(matches, "count"),
-        quiet: stands(matches, "quiet"),
-    }
-}
-
 /// The patterns that stand.
 pub(crate) fn read_patterns(alloc: Global, matches: &ArgMatches) -> Result<Patterns, UsageFault>
     ensures reads { IfOk result (ArePatterns (rows_of (found_of matches.now))) }
     ensures usage { IsErrOf result UsageFault.Usage → (x : Patterns) → ArePatterns (rows_of (found_of matches.now)) x → ⊥ }
 {
     Ok(Patterns {
-        accept_word: pattern_of(alloc, matches, "accept-word")?,
-        reject_word: pattern_of(alloc, matches, "reject-word")?,
+        accept_word: value_of(alloc, matches, "accept-word")?,
+        reject_word: value_of(alloc, matches, "reject-word")?,
     })
 }
 
@@ -94,24 +58,24 @@ pub(crate) fn read_operands(alloc: Global, matches: &ArgMatches) -> Result<Opera
     ensures usage { IsErrOf result UsageFault.Usage → (x : Operands) → AreOperands (rows_of (found_of matches.now)) x → ⊥ }
 {
     Ok(Operands {
-        included_in: file_of(alloc, matches, "included-in")?,
-        equivalent_to: file_of(alloc, matches, "equivalent-to")?,
-        intersect: file_of(alloc, matches, "intersect")?,
-        product: file_of(alloc, matches, "product")?,
-        product_or: file_of(alloc, matches, "product-or")?,
-        sum: file_of(alloc, matches, "sum")?,
+        included_in: value_of(alloc, matches, "included-in")?,
+        equivalent_to: value_of(alloc, matches, "equivalent-to")?,
+        intersect: value_of(alloc, matches, "intersect")?,
+        product: value_of(alloc, matches, "product")?,
+        product_or: value_of(alloc, matches, "product-or")?,
+        sum: value_of(alloc, matches, "sum")?,
     })
 }
 
 /// The ranges that stand.
-pub(crate) fn read_ranges(matches: &ArgMatches) -> Result<Ranges, UsageFault>
+pub(crate) fn read_ranges(alloc: Global, matches: &ArgMatches) -> Result<Ranges, UsageFault>
     ensures reads { IfOk result (AreRanges (rows_of (found_of matches.now))) }
     ensures usage { IsErrOf result UsageFault.Usage → (x : Ranges) → AreRanges (rows_of (found_of matches.now)) x → ⊥ }
 {
     Ok(Ranges {
-        states: range_of(matches, "states")?,
-        edges: range_of(matches, "edges")?,
-        acc_sets: range_of(matches, "acc-sets")?,
-        ap: range_of(matches, "ap")?,
+        states: value_of(alloc, matches, "states")?,
+        edges: value_of(alloc, matches, "edges")?,
+        acc_sets: value_of(alloc, matches, "acc-sets")?,
+        ap: value_of(alloc, matches, "ap")?,
     })
 }

@@ -23,6 +23,7 @@ mod pattern;
 mod plan;
 mod range;
 mod read;
+mod reading;
 mod rules;
 mod streams;
 mod table;

@@ -6,8 +6,10 @@ ghost use Rattle.filter_plan.specs.Numbers.{IsMadeCount, IsNumber};
 ghost use Rattle.filter_plan.specs.Table.{Reads, values_of};
 
 use crate::UsageFault;
+use crate::reading::OptionValue;
 use crate::values::value;
 use clap::ArgMatches;
+use std::alloc::Global;
 
 /// The number that the digits write, or `None` exactly where they write none.
 pub(crate) fn number(text: &str) -> Option<u32>
@@ -29,17 +31,12 @@ fn made_count(text: &str) -> Option<u32>
     }
 }
 
-/// The number that the option has as its value.
-pub(crate) fn number_of(matches: &ArgMatches, id: &str) -> Result<Option<u32>, UsageFault>
-    ensures reads { IfOk result (λ n. Reads IsNumber (values_of id.now (rows_of (found_of matches.now))) n) }
-    ensures usage { IsErrOf result UsageFault.Usage → (n : Option ℕ) → Reads IsNumber (values_of id.now (rows_of (found_of matches.now))) n → ⊥ }
-{
-    match value(matches, id)? {
-        Some(text) => match number(text) {
-            Some(n) => Ok(Some(n)),
-            None => Err(UsageFault::Usage),
-        },
-        None => Ok(None),
+impl OptionValue for u32 {
+    ghost is_read = { IsNumber };
+
+    /// The number that the digits write.
+    fn read(_alloc: Global, text: &str) -> Result<u32, UsageFault> {
+        number(text).ok_or(UsageFault::Usage)
     }
 }
 

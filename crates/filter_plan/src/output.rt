@@ -5,9 +5,9 @@ ghost use Rattle.clap.specs.Words.{found_of, rows_of};
 ghost use Rattle.filter_plan.specs.inner.Outputs.{IsOutput};
 ghost use Rattle.filter_plan.specs.declared.plan.Output.{Output};
 
-use crate::file::file_of;
-use crate::format::format_of;
-use crate::{Output, UsageFault};
+use crate::reading::value_of;
+use crate::{Output, StatsText, UsageFault};
+use aut_base::Text;
 use clap::ArgMatches;
 use std::alloc::Global;
 
@@ -16,8 +16,8 @@ pub(crate) fn output_of(alloc: Global, matches: &ArgMatches) -> Result<Output, U
     ensures output { IfOk result (IsOutput (rows_of (found_of matches.now))) }
     ensures usage { IsErrOf result UsageFault.Usage → (output : Output) → IsOutput (rows_of (found_of matches.now)) output → ⊥ }
 {
-    let figures = format_of(alloc, matches, "stats")?;
-    let refuted = file_of(alloc, matches, "refute")?;
+    let figures = value_of::<StatsText>(alloc, matches, "stats")?;
+    let refuted = value_of::<Text>(alloc, matches, "refute")?;
     match (figures, refuted) {
         (None, None) => Ok(Output::Hoa),
         (Some(format), None) => Ok(Output::Stats(format)),

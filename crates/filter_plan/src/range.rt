@@ -1,18 +1,16 @@
 //! Ranges of numbers.
 
-ghost use Rattle.std.specs.Prelude.{◌≡◌, ◌++◌, ℕ, List, IsTrue, ◌↔◌, IfOk, IsErrOf, Option, MatchOption, codes};
+ghost use Rattle.std.specs.Prelude.{◌≡◌, ◌++◌, ℕ, List, IsTrue, ◌↔◌, Option, MatchOption, codes};
 ghost use Rattle.std.specs.Str.Parse.{AllDigits};
-ghost use Rattle.clap.specs.Words.{found_of, rows_of};
 ghost use Rattle.filter_plan.specs.Numbers.{IsNumber};
 ghost use Rattle.filter_plan.specs.Spans.{IsIn, IsRange};
-ghost use Rattle.filter_plan.specs.Table.{Reads, values_of};
 ghost use Rattle.filter_plan.specs.inner.Bounds.{IsBounds, IsHigh, IsLow};
 ghost use Rattle.filter_plan.specs.declared.range.Range.{Range};
 
 use crate::UsageFault;
 use crate::number::number;
-use crate::values::value;
-use clap::ArgMatches;
+use crate::reading::OptionValue;
+use std::alloc::Global;
 
 /// The numbers from `low` on, up to `high` where that is there. Both are in it.
 #[derive(Clone, Copy, Debug, PartialEq, Eq)]
@@ -31,6 +29,15 @@ impl Range {
             None => true,
         };
         self.low as u64 <= n && is_below
+    }
+}
+
+impl OptionValue for Range {
+    ghost is_read = { IsRange };
+
+    /// The range that the text writes.
+    fn read(_alloc: Global, text: &str) -> Result<Range, UsageFault> {
+        read_range(text).ok_or(UsageFault::Usage)
     }
 }
 
@@ -95,18 +102,4 @@ fn cut(text: &str) -> Option<(&str, &str)>
     let (before, rest) = text.split_once('.')?;
     let after = rest.strip_prefix('.')?;
     Some((before, after))
-}
-
-/// The range that the option has as its value.
-pub(crate) fn range_of(matches: &ArgMatches, id: &str) -> Result<Option<Range>, UsageFault>
-    ensures reads { IfOk result (λ r. Reads IsRange (values_of id.now (rows_of (found_of matches.now))) r) }
-    ensures usage { IsErrOf result UsageFault.Usage → (r : Option Range) → Reads IsRange (values_of id.now (rows_of (found_of matches.now))) r → ⊥ }
-{
-    match value(matches, id)? {
-        Some(text) => match read_range(text) {
-            Some(range) => Ok(Some(range)),
-            None => Err(UsageFault::Usage),
-        },
-        None => Ok(None),
-    }
 }

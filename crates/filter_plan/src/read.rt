@@ -7,14 +7,15 @@ ghost use Rattle.filter_plan.specs.inner.Given.{IsGiven};
 ghost use Rattle.filter_plan.specs.declared.plan.Plan.{Plan};
 
 use crate::form::form_of;
-use crate::group::{read_operands, read_patterns, read_ranges, read_switches};
-use crate::hidden::hidden_of;
+use crate::group::{read_operands, read_patterns, read_ranges};
 use crate::matching::{decoded, parsed};
-use crate::number::{made_count_of, number_of};
+use crate::number::made_count_of;
 use crate::output::output_of;
+use crate::reading::value_of;
 use crate::rules::keeps_rules;
 use crate::streams::read_streams;
-use crate::{Plan, UsageFault};
+use crate::values::stands;
+use crate::{Hidden, Plan, UsageFault};
 use aut_base::Words;
 use clap::ArgMatches;
 use std::alloc::Global;
@@ -39,29 +40,28 @@ fn read_options(alloc: Global, matches: &ArgMatches) -> Result<Plan, UsageFault>
     ensures usage { IsErrOf result UsageFault.Usage → (plan : Plan) → IsGiven (rows_of (found_of matches.now)) plan → ⊥ }
 {
     let form = form_of(matches)?;
-    let ranges = read_ranges(matches)?;
-    let most = number_of(matches, "max-count")?;
+    let ranges = read_ranges(alloc, matches)?;
+    let most = value_of::<u32>(alloc, matches, "max-count")?;
     let made = made_count_of(matches, "made")?;
     let streams = read_streams(alloc, matches, made)?;
     let output = output_of(alloc, matches)?;
-    let remove_ap = hidden_of(alloc, matches, "remove-ap")?;
+    let remove_ap = value_of::<Hidden>(alloc, matches, "remove-ap")?;
     let patterns = read_patterns(alloc, matches)?;
     let operands = read_operands(alloc, matches)?;
-    let switches = read_switches(matches);
     Ok(Plan {
-        invert: switches.invert,
-        count: switches.count,
-        quiet: switches.quiet,
+        invert: stands(matches, "invert-match"),
+        count: stands(matches, "count"),
+        quiet: stands(matches, "quiet"),
         most,
         accept_word: patterns.accept_word,
         reject_word: patterns.reject_word,
-        is_empty: switches.is_empty,
+        is_empty: stands(matches, "is-empty"),
         included_in: operands.included_in,
         equivalent_to: operands.equivalent_to,
         intersect: operands.intersect,
-        is_deterministic: switches.is_deterministic,
-        is_complete: switches.is_complete,
-        is_unambiguous: switches.is_unambiguous,
+        is_deterministic: stands(matches, "is-deterministic"),
+        is_complete: stands(matches, "is-complete"),
+        is_unambiguous: stands(matches, "is-unambiguous"),
         states: ranges.states,
         edges: ranges.edges,
         acc_sets: ranges.acc_sets,
@@ -70,10 +70,10 @@ fn read_options(alloc: Global, matches: &ArgMatches) -> Result<Plan, UsageFault>
         product_or: operands.product_or,
         sum: operands.sum,
         remove_ap,
-        trim: switches.trim,
-        complement: switches.complement,
+        trim: stands(matches, "remove-unreachable-states"),
+        complement: stands(matches, "complement"),
         form,
-        complete: switches.complete,
+        complete: stands(matches, "complete"),
         output,
         streams,
         made,

@@ -6,26 +6,11 @@ use Rattle.filter_plan.specs.Words.{named_streams, streams_of}
 use Rattle.filter_plan.specs.declared.group.Operands.{Operands}
 use Rattle.filter_plan.specs.declared.group.Patterns.{Patterns}
 use Rattle.filter_plan.specs.declared.group.Ranges.{Ranges}
-use Rattle.filter_plan.specs.declared.group.Switches.{Switches}
 use Rattle.filter_plan.specs.declared.plan.Plan.{Plan}
 
 pub record IsGiven (rows : List Row) (p : Plan) : Type 0 where
   pub options : EachGives table rows p
   pub streams : p.streams ≡ streams_of (named_streams rows) p.made
-
-abbrev pub switches_of : Plan → Switches
-switches_of p = record {
-  is_empty = p.is_empty;
-  is_deterministic = p.is_deterministic;
-  is_complete = p.is_complete;
-  is_unambiguous = p.is_unambiguous;
-  trim = p.trim;
-  complement = p.complement;
-  complete = p.complete;
-  invert = p.invert;
-  count = p.count;
-  quiet = p.quiet;
-}
 
 abbrev pub patterns_of : Plan → Patterns
 patterns_of p = record { accept_word = p.accept_word; reject_word = p.reject_word }

@@ -6,19 +6,7 @@ use Rattle.filter_plan.specs.Table.{IsFile, IsPattern, Reads, is_on, values_of}
 use Rattle.filter_plan.specs.declared.group.Operands.{Operands}
 use Rattle.filter_plan.specs.declared.group.Patterns.{Patterns}
 use Rattle.filter_plan.specs.declared.group.Ranges.{Ranges}
-use Rattle.filter_plan.specs.declared.group.Switches.{Switches}
-
-pub record AreSwitches (rows : List Row) (x : Switches) : Type 0 where
-  pub is_empty : x.is_empty ≡ is_on (values_of (codes "is-empty") rows)
-  pub is_deterministic : x.is_deterministic ≡ is_on (values_of (codes "is-deterministic") rows)
-  pub is_complete : x.is_complete ≡ is_on (values_of (codes "is-complete") rows)
-  pub is_unambiguous : x.is_unambiguous ≡ is_on (values_of (codes "is-unambiguous") rows)
-  pub trim : x.trim ≡ is_on (values_of (codes "remove-unreachable-states") rows)
-  pub complement : x.complement ≡ is_on (values_of (codes "complement") rows)
-  pub complete : x.complete ≡ is_on (values_of (codes "complete") rows)
-  pub invert : x.invert ≡ is_on (values_of (codes "invert-match") rows)
-  pub count : x.count ≡ is_on (values_of (codes "count") rows)
-  pub quiet : x.quiet ≡ is_on (values_of (codes "quiet") rows)
+use Rattle.filter_plan.specs.declared.plan.Plan.{Plan}
 
 pub record ArePatterns (rows : List Row) (x : Patterns) : Type 0 where
   pub accept_word : Reads IsPattern (values_of (codes "accept-word") rows) x.accept_word
@@ -37,3 +25,16 @@ pub record AreRanges (rows : List Row) (x : Ranges) : Type 0 where
   pub edges : Reads IsRange (values_of (codes "edges") rows) x.edges
   pub acc_sets : Reads IsRange (values_of (codes "acc-sets") rows) x.acc_sets
   pub ap : Reads IsRange (values_of (codes "ap") rows) x.ap
+
+-- the flags, but for those of the forms
+pub record AreSwitches (rows : List Row) (p : Plan) : Type 0 where
+  pub is_empty : p.is_empty ≡ is_on (values_of (codes "is-empty") rows)
+  pub is_deterministic : p.is_deterministic ≡ is_on (values_of (codes "is-deterministic") rows)
+  pub is_complete : p.is_complete ≡ is_on (values_of (codes "is-complete") rows)
+  pub is_unambiguous : p.is_unambiguous ≡ is_on (values_of (codes "is-unambiguous") rows)
+  pub trim : p.trim ≡ is_on (values_of (codes "remove-unreachable-states") rows)
+  pub complement : p.complement ≡ is_on (values_of (codes "complement") rows)
+  pub complete : p.complete ≡ is_on (values_of (codes "complete") rows)
+  pub invert : p.invert ≡ is_on (values_of (codes "invert-match") rows)
+  pub count : p.count ≡ is_on (values_of (codes "count") rows)
+  pub quiet : p.quiet ≡ is_on (values_of (codes "quiet") rows)

@@ -1,4 +1,4 @@
-use Rattle.std.proofs.Common.{List}
+use Rattle.std.proofs.Common.{List, rules}
 use Rattle.aut_base.proofs.Outcomes.{passed_on}
 use Rattle.clap.specs.Words.{Row, found_of, rows_of}
 use Rattle.filter_plan.proofs.TableParts.{AreParts, parts_of_table, table_of_parts}
@@ -48,7 +48,7 @@ returns-clause-given c = record {
     most = c.in_ok-most.ensures.reads;
     made = c.in_ok-made.ensures.reads;
     first = c.in_ok-streams.ensures.once;
-    switches = c.read_switches-switches.ensures;
+    switches = search rules;
   });
   streams = c.in_ok-streams.ensures.streams;
 }

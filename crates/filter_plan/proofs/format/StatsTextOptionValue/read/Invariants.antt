@@ -1,7 +1,7 @@
 use Rattle.std.proofs.Common.{◌≡◌, ◌++◌, ℕ, List, flat_map, length}
 use Rattle.filter_plan.specs.Formats.{piece_text}
 use Rattle.filter_plan.specs.declared.format.Piece.{Piece}
-use Rattle.filter_plan.proofs.format.read_format.Given as goal
+use Rattle.filter_plan.proofs.format.StatsTextOptionValue.read.Given as goal
 
 pub record IsMidway (text : List ℕ) (pieces : List Piece) (rest : List ℕ) : Type 0 where
   pub so_far : flat_map piece_text pieces ++ rest ≡ text

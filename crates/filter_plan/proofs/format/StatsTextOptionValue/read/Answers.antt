@@ -1,7 +1,7 @@
 use Rattle.std.proofs.Common.{◌≡◌, arith, length}
 use Rattle.std.proofs.lemmas.Bool.Decides.{nat_tests}
 use Rattle.filter_plan.proofs.FormatTexts.{format_more, no_format, step_of_format}
-use Rattle.filter_plan.proofs.format.read_format.Goals as goal
+use Rattle.filter_plan.proofs.format.StatsTextOptionValue.read.Goals as goal
 
 pub returns-in_default-clause-usage : goal.returns-in_default-clause-usage
 returns-in_default-clause-usage c _ whole is =

@@ -6,7 +6,7 @@ use Rattle.filter_plan.specs.declared.plan.Hidden.{Hidden}
 use Rattle.ap_project.specs.declared.hide.Hide.{Hide}
 use Rattle.word_syntax.specs.Writing.{IsNameAtFront, NoNameAtFront}
 use Rattle.word_syntax.specs.declared.token.Token.TheVariants.{Name}
-use Rattle.filter_plan.proofs.hidden.read_hidden.Goals as goal
+use Rattle.filter_plan.proofs.hidden.HiddenOptionValue.read.Goals as goal
 
 abbrev Answers : List ℕ → Option (List ℕ × ℕ) → Type 0
 Answers text found = MatchOption found (NoNameAtFront text) (λ name. IsNameAtFront text name.0 name.1)

@@ -4,7 +4,7 @@ use Rattle.word_syntax.specs.Writing.{AnswersWord, word_pattern}
 use Rattle.word_syntax.specs.declared.pattern.Pattern.{Pattern}
 use Rattle.word_syntax.specs.declared.pattern.WordFault.{WordFault}
 use Rattle.word_syntax.specs.declared.pattern.WordFault.TheVariants.{BadWord}
-use Rattle.filter_plan.proofs.pattern.read_pattern.Goals as goal
+use Rattle.filter_plan.proofs.pattern.PatternOptionValue.read.Goals as goal
 
 refused : (text spelled : List ℕ) (fault : WordFault) (k : ℕ) → spelled ≡ text → fault ≡ BadWord k → AnswersWord (Err fault) spelled → (p : Pattern) → IsPattern text p → ⊥
 refused text spelled fault k same is answers p writes = (subst (λ f. AnswersWord (Err f) text) is (subst (AnswersWord (Err fault)) same answers)).1 (word_pattern p) writes
