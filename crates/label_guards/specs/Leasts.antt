@@ -18,16 +18,6 @@ pub record IsLeastLetter (s : Store) (names : List (List ℕ)) (g : Guard) (lett
 abbrev pub IsNeverMetAt : Store → ℕ → Type 0
 IsNeverMetAt s place = (v : List Bool) → length v ≡ s.names → outcome s.nodes (holds_in v) place ≡ false
 
--- The number of the least valuation that meets the place. No proposition holds in it that comes before the first one
--- that is asked for.
-pub record IsLeastNumber (s : Store) (place number : ℕ) : Type 0 where
-  pub valuation : List Bool
-  pub size : length valuation ≡ s.names
-  pub is_number : number_of valuation ≡ number
-  pub truth : outcome s.nodes (holds_in valuation) place ≡ true
-  pub bare : (i : ℕ) → i < level s place → holds_in valuation i ≡ false
-  pub least : (w : List Bool) → length w ≡ s.names → outcome s.nodes (holds_in w) place ≡ true → number ≤ number_of w
-
 -- The number of some valuation that meets the place. No proposition holds in it that comes before the first one that is asked
 -- for.
 pub record IsMetAt (s : Store) (place number : ℕ) : Type 0 where
@@ -36,6 +26,11 @@ pub record IsMetAt (s : Store) (place number : ℕ) : Type 0 where
   pub is_number : number_of valuation ≡ number
   pub truth : outcome s.nodes (holds_in valuation) place ≡ true
   pub bare : (i : ℕ) → i < level s place → holds_in valuation i ≡ false
+
+-- the number of the least valuation that meets the place
+pub record IsLeastNumber (s : Store) (place number : ℕ) : Type 0 where
+  pub met : IsMetAt s place number
+  pub least : (w : List Bool) → length w ≡ s.names → outcome s.nodes (holds_in w) place ≡ true → number ≤ number_of w
 
 abbrev pub IsLeastAt : Store → ℕ → Option ℕ → Type 0
 IsLeastAt s place found = MatchOption found (IsNeverMetAt s place) (IsLeastNumber s place)

@@ -8,6 +8,7 @@ use crate::guard::Guard;
 use crate::guards::{Guards, Operation};
 use aut_base::Memory;
 
+#[tactic(auto, using(crate::proofs::labelled::LabelTruth::keeps))]
 impl Guards {
     /// Whether the store has a guard of this number.
     pub fn has(&self, g: Guard) -> bool

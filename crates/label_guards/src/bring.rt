@@ -57,14 +57,12 @@ impl Guards {
         ensures keeps { Keeps self.old self.new }
         ensures brought { IfOk result (IsGuardOf self.new (λ on. truth_in other.now g (λ k. on (slice_index_or to.now k 0)))) }
     {
-        other.reduced();
-        let mut done = Done::new(alloc);
-        let place = self.bring_with(&mut done, other, g.place, to)?;
-        self.reduced();
-        Ok(Guard { place })
+        let mut brought = Brought::new(alloc);
+        self.bring_more(&mut brought, other, g, to)
     }
 
     /// The same, beside other guards of that store which are here already.
+    #[tactic(auto, using(crate::proofs::labelled::LabelTruth::keeps))]
     pub fn bring_more(
         &mut self,
         brought: &mut Brought,

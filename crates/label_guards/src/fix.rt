@@ -14,6 +14,7 @@ use std::alloc::Global;
 
 impl Guards {
     /// The guard that is true exactly where this one is with the proposition set to the value.
+    #[tactic(auto, using(crate::proofs::labelled::LabelTruth::keeps))]
     pub fn fix(&mut self, alloc: Global, g: Guard, prop: u32, value: bool) -> Result<Guard, Memory>
         requires has { Has self.old g }
         requires within { prop < self.old.names }

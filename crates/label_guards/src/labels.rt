@@ -15,6 +15,7 @@ use aut_base::{Label, Labels, Memory};
 
 impl Guards {
     /// The guard with the truth of this label.
+    #[tactic(auto, using(crate::proofs::labelled::LabelTruth::keeps))]
     pub fn of_label(&mut self, label: &Label) -> Result<Guard, Memory>
         requires { AllBelow self.old.names (label_tree label.now) }
         ensures keeps { Keeps self.old self.new }

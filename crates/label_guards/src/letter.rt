@@ -18,6 +18,7 @@ use aut_base::Memory;
 impl Guards {
     /// The guard that is true at one valuation alone: that of this number, in which bit k says whether proposition k holds. It
     /// takes at most one node for each proposition, and no label is made.
+    #[tactic(auto, using(crate::proofs::labelled::LabelTruth::keeps))]
     pub fn of_number(&mut self, number: u64) -> Result<Guard, Memory>
         ensures keeps { Keeps self.old self.new }
         ensures guard { IfOk result (IsGuardOf self.new (is_at number self.old.names)) }

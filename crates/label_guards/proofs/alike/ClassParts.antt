@@ -20,25 +20,30 @@ use Rattle.label_guards.specs.declared.guard.Guard.{Guard}
 use Rattle.label_guards.specs.declared.guards.Operation.TheVariants.{And, Xor}
 use Rattle.label_guards.specs.ClassParts.{AreHalves, AreParts, HasSide, IsAlikeness, IsFirst, IsHalved, IsOneSided, IsPart, IsSplit, IsWhole, Test, also_by, side_of}
 use Rattle.label_guards.specs.Classes.{agree}
-use Rattle.label_guards.specs.Leasts.{IsLeastAt, IsLeastNumber, IsLeastOf, bits_of}
+use Rattle.label_guards.specs.Leasts.{IsLeastAt, IsLeastNumber, IsLeastOf, IsMetAt, bits_of}
 use Rattle.label_guards.specs.Nodes.{Grows, IsReduced}
 use Rattle.label_guards.specs.Operations.{IsJoin, IsPlaceOf, differs}
 use Rattle.label_guards.specs.Store.{Store, Has, HasPlace, outcome}
 use Rattle.label_guards.proofs.diagrams.Growth.{grows_none, grows_on, has_kept, level_kept, outcome_kept}
 use Rattle.label_guards.proofs.diagrams.Outcomes.{outcome-false, outcome-true}
 use Rattle.label_guards.proofs.diagrams.Unique.{outcome_firsts}
-use Rattle.label_guards.proofs.valuations.Leasts.{least_true}
+use Rattle.label_guards.proofs.valuations.Leasts.{met_true}
 use Rattle.label_guards.proofs.labelled.Parts.{place_kept, place_same, true_place}
 use Rattle.label_guards.proofs.valuations.Valuations.{bits_of-number, length-bits_of}
 
 -- what is found of a place stays so
+met_kept : {s t : Store} → Grows s t → (place m : ℕ) → HasPlace s place → IsMetAt s place m → IsMetAt t place m
+met_kept grows place m has met = record {
+  valuation = met.valuation;
+  size = met.size ∙ sym grows.names;
+  is_number = met.is_number;
+  truth = outcome_kept grows (holds_in met.valuation) place has ∙ met.truth;
+  bare = λ i h. let same = level_kept grows place has in met.bare i (omega arith);
+}
+
 number_kept : {s t : Store} → Grows s t → (place m : ℕ) → HasPlace s place → IsLeastNumber s place m → IsLeastNumber t place m
 number_kept grows place m has least = record {
-  valuation = least.valuation;
-  size = least.size ∙ sym grows.names;
-  is_number = least.is_number;
-  truth = outcome_kept grows (holds_in least.valuation) place has ∙ least.truth;
-  bare = λ i h. let same = level_kept grows place has in least.bare i (omega arith);
+  met = met_kept grows place m has least.met;
   least = λ w size h. least.least w (size ∙ grows.names) (sym (outcome_kept grows (holds_in w) place has) ∙ h);
 }
 
@@ -180,17 +185,18 @@ module _ {old s : Store} (first : Grows old s) (alike : Test) (by : ℕ) (has_by
     rest_part : IsAlikeness alike → (rest : Part) → IsPlaceOf t (λ on. outcome s.nodes on part.place && beq (not (side_of s part by)) (outcome s.nodes on by)) rest.place
         → IsLeastNumber t rest.place rest.number → IsPart t also rest
     rest_part likeness rest half least =
-        let w : ℕ → Bool = holds_in least.valuation in
-        let e : bits_of t.names rest.number ≡ least.valuation = ap (bits_of t.names) (sym least.is_number) ∙ bits_of-number least.valuation t.names least.size in
-        let meets = and_parts _ _ (sym (half.truth w) ∙ least.truth) in
+        let met = least.met in
+        let w : ℕ → Bool = holds_in met.valuation in
+        let e : bits_of t.names rest.number ≡ met.valuation = ap (bits_of t.names) (sym met.is_number) ∙ bits_of-number met.valuation t.names met.size in
+        let meets = and_parts _ _ (sym (half.truth w) ∙ met.truth) in
         let in_part : alike v w ≡ true = sym (is.is.truth w) ∙ meets.0 in
         let side : not (side_of s part by) ≡ outcome old.nodes w by = (booleans_Decides _ _).0 meets.1 ∙ by_was w in
         let piece : IsPlaceOf t (also w) rest.place =
         place_same t _ (also w) rest.place (λ on i. (is.is.truth on ∙ alike_left alike likeness v w in_part on) i && beq (side i) (by_was on i)) half in
         record {
-          number = ap number_of e ∙ least.is_number;
+          number = ap number_of e ∙ met.is_number;
           first = subst (IsFirst t.names also) (sym e)
-              (record { size = least.size; least = λ u size h. subst (λ (m : ℕ). m ≤ number_of u) (sym least.is_number) (least.least u size (piece.truth (holds_in u) ∙ h)) });
+              (record { size = met.size; least = λ u size h. subst (λ (m : ℕ). m ≤ number_of u) (sym met.is_number) (least.least u size (piece.truth (holds_in u) ∙ h)) });
           is = subst (λ (bits : List Bool). IsPlaceOf t (also (holds_in bits)) rest.place) (sym e) piece;
         }
 
@@ -369,16 +375,16 @@ whole_parts s parts e = subst (AreParts s (agree s [])) (sym e) (record {
   one = λ on. ap (λ (b : Bool). 0 + cond {A = ℕ} b 1 0) (outcome-true s.nodes on);
 })
   where
-    least : IsLeastNumber s 1 0
-    least = least_true s
+    met : IsMetAt s 1 0
+    met = met_true s
 
-    zeros : bits_of s.names 0 ≡ least.valuation
-    zeros = ap (bits_of s.names) (sym least.is_number) ∙ bits_of-number least.valuation s.names least.size
+    zeros : bits_of s.names 0 ≡ met.valuation
+    zeros = ap (bits_of s.names) (sym met.is_number) ∙ bits_of-number met.valuation s.names met.size
 
     one : IsPart s (agree s []) (record { number = 0; place = 1 })
     one = record {
-      number = ap number_of zeros ∙ least.is_number;
-      first = record { size = length-bits_of s.names 0; least = λ w size h. subst (λ (m : ℕ). m ≤ number_of w) (sym (ap number_of zeros ∙ least.is_number)) (omega arith) };
+      number = ap number_of zeros ∙ met.is_number;
+      first = record { size = length-bits_of s.names 0; least = λ w size h. subst (λ (m : ℕ). m ≤ number_of w) (sym (ap number_of zeros ∙ met.is_number)) (omega arith) };
       is = true_place s;
     }
 

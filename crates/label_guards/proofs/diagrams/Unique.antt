@@ -15,20 +15,36 @@ Same s p q = (on : ℕ → Bool) → outcome s.nodes on p ≡ outcome s.nodes on
 abbrev UniqueBelow : Store → ℕ → Type 0
 UniqueBelow s k = (p q : ℕ) → p + q < k → HasPlace s p → HasPlace s q → Same s p q → p ≡ q
 
--- a side of a place is the same as a place that doesn't ask for the proposition
-low_same : (s : Store) → IsReduced s.names s.nodes → (p q : ℕ) (n : Node) → HasPlace s q → StandsAt s p n → HasPlace s n.low → n.prop < level s q → Same s p q → Same s n.low q
-low_same s is p q n has at has_low later same on =
-    let off = fixed on n.prop false in
-    sym (outcome_fixed s is n.low has_low on n.prop false at.node.low_later)
-    ∙ (ap (λ b. if b then outcome s.nodes off n.high else outcome s.nodes off n.low) (sym (fixed-here on n.prop false))
-    ∙ (sym (at.truth off) ∙ (same off ∙ outcome_fixed s is q has on n.prop false later)))
+-- the side of a node to which a value of its proposition leads
+abbrev side : Bool → Node → ℕ
+side value n = if value then n.high else n.low
 
-high_same : (s : Store) → IsReduced s.names s.nodes → (p q : ℕ) (n : Node) → HasPlace s q → StandsAt s p n → HasPlace s n.high → n.prop < level s q → Same s p q → Same s n.high q
-high_same s is p q n has at has_high later same on =
-    let off = fixed on n.prop true in
-    sym (outcome_fixed s is n.high has_high on n.prop true at.node.high_later)
-    ∙ (ap (λ b. if b then outcome s.nodes off n.high else outcome s.nodes off n.low) (sym (fixed-here on n.prop true))
-    ∙ (sym (at.truth off) ∙ (same off ∙ outcome_fixed s is q has on n.prop true later)))
+has_side : (s : Store) (p : ℕ) (n : Node) (value : Bool) → StandsAt s p n → HasPlace s p → HasPlace s (side value n)
+has_side s p n true at has = let a = at.node.high in omega arith
+has_side s p n false at has = let a = at.node.low in omega arith
+
+side_later : (s : Store) (p : ℕ) (n : Node) (value : Bool) → StandsAt s p n → n.prop < level s (side value n)
+side_later s p n true at = at.node.high_later
+side_later s p n false at = at.node.low_later
+
+-- with the proposition set to the value, the place has the truth of that side
+to_side : (s : Store) → IsReduced s.names s.nodes → (p : ℕ) (n : Node) (value : Bool) → HasPlace s p → StandsAt s p n → (prop : ℕ) → prop ≡ n.prop → (on : ℕ → Bool)
+    → outcome s.nodes (fixed on prop value) p ≡ outcome s.nodes on (side value n)
+to_side s is p n value has at prop e on =
+    let later = side_later s p n value at in
+    at.truth (fixed on prop value) ∙ by value (ap (fixed on prop value) (sym e) ∙ fixed-here on prop value)
+    ∙ outcome_fixed s is (side value n) (has_side s p n value at has) on prop value (omega (arith, e, later))
+  where
+    by : (b : Bool) → fixed on prop value n.prop ≡ b
+        → (if fixed on prop value n.prop then outcome s.nodes (fixed on prop value) n.high else outcome s.nodes (fixed on prop value) n.low) ≡ outcome s.nodes (fixed on prop value) (side b n)
+    by true h = ap (λ b. if b then outcome s.nodes (fixed on prop value) n.high else outcome s.nodes (fixed on prop value) n.low) h
+    by false h = ap (λ b. if b then outcome s.nodes (fixed on prop value) n.high else outcome s.nodes (fixed on prop value) n.low) h
+
+-- a side of a place is the same as a place that doesn't ask for the proposition
+side_same : (s : Store) → IsReduced s.names s.nodes → (p q : ℕ) (n : Node) (value : Bool) → HasPlace s p → HasPlace s q → StandsAt s p n → n.prop < level s q → Same s p q
+    → Same s (side value n) q
+side_same s is p q n value has_p has_q at later same on =
+    sym (to_side s is p n value has_p at n.prop refl on) ∙ same (fixed on n.prop value) ∙ outcome_fixed s is q has_q on n.prop value later
 
 turned : (s : Store) (p q : ℕ) → Same s p q → Same s q p
 turned s p q same on = sym (same on)
@@ -42,39 +58,17 @@ other_levels s is k below p q sum inner has_p has_q later same =
     let l = at.level in
     let a = at.node.low in
     let b = at.node.high in
-    let low = below n.low q (omega arith) (omega arith) has_q (low_same s is p q n has_q at (omega arith) (omega arith) same) in
-    let high = below n.high q (omega arith) (omega arith) has_q (high_same s is p q n has_q at (omega arith) (omega arith) same) in
+    let low = below n.low q (omega arith) (omega arith) has_q (side_same s is p q n false has_p has_q at (omega arith) same) in
+    let high = below n.high q (omega arith) (omega arith) has_q (side_same s is p q n true has_p has_q at (omega arith) same) in
     at.node.differ (low ∙ sym high)
 
 -- two nodes with the same truth have the same sides
 same_sides : (s : Store) → IsReduced s.names s.nodes → (p q : ℕ) (n m : Node) → StandsAt s p n → StandsAt s q m → HasPlace s p → HasPlace s q → n.prop ≡ m.prop → Same s p q
     → Same s n.low m.low × Same s n.high m.high
-same_sides s is p q n m at bt has_p has_q e same =
-    let a = at.node.low in
-    let b = at.node.high in
-    let c = bt.node.low in
-    let d = bt.node.high in
-    let x = at.node.low_later in
-    let y = at.node.high_later in
-    let z = bt.node.low_later in
-    let w = bt.node.high_later in
-    let to_low : (on : ℕ → Bool) → outcome s.nodes on n.low ≡ outcome s.nodes on m.low = λ on.
-    let off = fixed on n.prop false in
-    let off_n : off n.prop ≡ false = fixed-here on n.prop false in
-    let off_m : off m.prop ≡ false = ap off (sym e) ∙ off_n in
-    sym (outcome_fixed s is n.low (omega arith) on n.prop false x)
-    ∙ (ap (λ b. if b then outcome s.nodes off n.high else outcome s.nodes off n.low) (sym off_n)
-    ∙ (sym (at.truth off) ∙ (same off ∙ (bt.truth off ∙ (ap (λ b. if b then outcome s.nodes off m.high else outcome s.nodes off m.low) off_m
-    ∙ outcome_fixed s is m.low (omega arith) on n.prop false (omega arith)))))) in
-    let to_high : (on : ℕ → Bool) → outcome s.nodes on n.high ≡ outcome s.nodes on m.high = λ on.
-    let off = fixed on n.prop true in
-    let off_n : off n.prop ≡ true = fixed-here on n.prop true in
-    let off_m : off m.prop ≡ true = ap off (sym e) ∙ off_n in
-    sym (outcome_fixed s is n.high (omega arith) on n.prop true y)
-    ∙ (ap (λ b. if b then outcome s.nodes off n.high else outcome s.nodes off n.low) (sym off_n)
-    ∙ (sym (at.truth off) ∙ (same off ∙ (bt.truth off ∙ (ap (λ b. if b then outcome s.nodes off m.high else outcome s.nodes off m.low) off_m
-    ∙ outcome_fixed s is m.high (omega arith) on n.prop true (omega arith)))))) in
-    (to_low, to_high)
+same_sides s is p q n m at bt has_p has_q e same = (by false, by true)
+  where
+    by : (value : Bool) → Same s (side value n) (side value m)
+    by value on = sym (to_side s is p n value has_p at n.prop refl on) ∙ same (fixed on n.prop value) ∙ to_side s is q m value has_q bt n.prop e on
 
 same_nodes : (s : Store) → IsReduced s.names s.nodes → (k : ℕ) → UniqueBelow s k → (p q : ℕ) → p + q < suc k → 2 ≤ p → 2 ≤ q → HasPlace s p → HasPlace s q → level s p ≡ level s q → Same s p q → p ≡ q
 same_nodes s is k below p q sum inner_p inner_q has_p has_q e same =

@@ -30,34 +30,25 @@ fixed_behind s is prop value p l has e later = record {
   truth = λ on. sym (outcome_fixed s is p has on prop value (omega arith));
 }
 
--- a node that asks for it
+-- a node that asks for it, and the side to which the value leads
+fixed_side : (s : Store) → IsReduced s.names s.nodes → (prop p l side : ℕ) (value : Bool) → HasPlace s p → l ≡ level s p → l ≡ prop → side ≤ p → l < level s side
+    → ((on : ℕ → Bool) → on l ≡ value → outcome s.nodes on p ≡ outcome s.nodes on side) → IsFixedAt s prop value p side
+fixed_side s is prop p l side value has e f bound later leads = record {
+  from = has;
+  has = omega arith;
+  later = omega arith;
+  truth = λ on.
+      let set = with_prop on prop value in
+      sym (leads set (ap set f ∙ fixed-here on prop value) ∙ outcome_fixed s is side (omega arith) on prop value (omega arith));
+}
+
 pub fixed_high : (s : Store) → IsReduced s.names s.nodes → (prop p l low high : ℕ) → HasPlace s p → l ≡ level s p → l ≡ prop → AreSides s l p low high → IsFixedAt s prop true p high
-fixed_high s is prop p l low high has e f sides =
-    let a = sides.high_bound in
-    let b = sides.high_later in
-    record {
-      from = has;
-      has = omega arith;
-      later = omega arith;
-      truth = λ on.
-          let set = with_prop on prop true in
-          let here : set l ≡ true = ap set f ∙ fixed-here on prop true in
-          sym (sides.truth set ∙ (ap (λ b. if b then outcome s.nodes set high else outcome s.nodes set low) here ∙ outcome_fixed s is high (omega arith) on prop true (omega arith)));
-    }
+fixed_high s is prop p l low high has e f sides = fixed_side s is prop p l high true has e f sides.high_bound sides.high_later
+    (λ set here. sides.truth set ∙ ap (λ b. if b then outcome s.nodes set high else outcome s.nodes set low) here)
 
 pub fixed_low : (s : Store) → IsReduced s.names s.nodes → (prop p l low high : ℕ) → HasPlace s p → l ≡ level s p → l ≡ prop → AreSides s l p low high → IsFixedAt s prop false p low
-fixed_low s is prop p l low high has e f sides =
-    let a = sides.low_bound in
-    let b = sides.low_later in
-    record {
-      from = has;
-      has = omega arith;
-      later = omega arith;
-      truth = λ on.
-          let set = with_prop on prop false in
-          let here : set l ≡ false = ap set f ∙ fixed-here on prop false in
-          sym (sides.truth set ∙ (ap (λ b. if b then outcome s.nodes set high else outcome s.nodes set low) here ∙ outcome_fixed s is low (omega arith) on prop false (omega arith)));
-    }
+fixed_low s is prop p l low high has e f sides = fixed_side s is prop p l low false has e f sides.low_bound sides.low_later
+    (λ set here. sides.truth set ∙ ap (λ b. if b then outcome s.nodes set high else outcome s.nodes set low) here)
 
 eq_before : (a b : ℕ) → a < b → nat_eq a b ≡ false
 eq_before a b h = grind arith

@@ -40,19 +40,17 @@ none_of-at (suc n) (suc i) = none_of-at n i
 pub least_false : (s : Store) → IsLeastAt s 0 None
 least_false s v size = outcome-false s.nodes (holds_in v)
 
-pub least_true : (s : Store) → IsLeastAt s 1 (Some 0)
-least_true s = record {
+pub met_true : (s : Store) → IsMetAt s 1 0
+met_true s = record {
   valuation = none_of s.names;
   size = length-none_of s.names;
   is_number = number-none_of s.names;
   truth = outcome-true s.nodes (holds_in (none_of s.names));
   bare = λ i h. none_of-at s.names i;
-  least = λ w size h. omega arith;
 }
 
-pub met_true : (s : Store) → IsMetAt s 1 0
-met_true s = let least = least_true s in
-    record { valuation = least.valuation; size = least.size; is_number = least.is_number; truth = least.truth; bare = least.bare }
+pub least_true : (s : Store) → IsLeastAt s 1 (Some 0)
+least_true s = record { met = met_true s; least = λ w size h. omega arith }
 
 module _ (s : Store) (is : IsReduced s.names s.nodes) (p : ℕ) (n : Node) (at : StandsAt s p n) (has : HasPlace s p) where
   choose : (on : ℕ → Bool) (b : Bool) → on n.prop ≡ b → outcome s.nodes on p ≡ (if b then outcome s.nodes on n.high else outcome s.nodes on n.low)
@@ -92,30 +90,15 @@ module _ (s : Store) (is : IsReduced s.names s.nodes) (p : ℕ) (n : Node) (at :
       let b = number-put_false w n.prop e in
       omega arith
 
-  -- the least valuation of a side, with the proposition set
-  by_low : (m : ℕ) → IsLeastNumber s n.low m → ((w : List Bool) → length w ≡ s.names → outcome s.nodes (holds_in w) p ≡ true → m ≤ number_of w) → IsLeastNumber s p m
-  by_low m low least = let a = at.node.low_later in let l = at.level in record {
+  -- a valuation that meets a side, with the proposition set
+  met_low : (m : ℕ) → IsMetAt s n.low m → IsMetAt s p m
+  met_low m low = let a = at.node.low_later in let l = at.level in record {
     valuation = low.valuation;
     size = low.size;
     is_number = low.is_number;
     truth = choose (holds_in low.valuation) false (low.bare n.prop a) ∙ low.truth;
     bare = λ i h. low.bare i (omega arith);
-    least = least;
   }
-
-  by_high : (m : ℕ) → IsLeastNumber s n.high m → ((w : List Bool) → length w ≡ s.names → outcome s.nodes (holds_in w) p ≡ true → m + 2 ^ n.prop ≤ number_of w) → IsLeastNumber s p (m + 2 ^ n.prop)
-  by_high m high least = let a = at.node.high_later in let l = at.level in
-      let v : List Bool = put high.valuation n.prop true in
-      let b = number-put_true high.valuation n.prop (within high.valuation high.size) (high.bare n.prop a) in
-      let c = high.is_number in
-      record {
-        valuation = v;
-        size = length-put high.valuation n.prop true ∙ high.size;
-        is_number = omega arith;
-        truth = choose (holds_in v) true (put-at high.valuation n.prop true (within high.valuation high.size)) ∙ (high_put high.valuation true ∙ high.truth);
-        bare = λ i h. put-other high.valuation n.prop true i (λ e. let f : i ≡ n.prop = e in absurd (omega arith)) ∙ high.bare i (omega arith);
-        least = least;
-      }
 
   pub met_high : (m : ℕ) → IsMetAt s n.high m → IsMetAt s p (m + 2 ^ n.prop)
   met_high m high = let a = at.node.high_later in let l = at.level in
@@ -129,6 +112,12 @@ module _ (s : Store) (is : IsReduced s.names s.nodes) (p : ℕ) (n : Node) (at :
         truth = choose (holds_in v) true (put-at high.valuation n.prop true (within high.valuation high.size)) ∙ (high_put high.valuation true ∙ high.truth);
         bare = λ i h. put-other high.valuation n.prop true i (λ e. let f : i ≡ n.prop = e in absurd (omega arith)) ∙ high.bare i (omega arith);
       }
+
+  by_low : (m : ℕ) → IsLeastNumber s n.low m → ((w : List Bool) → length w ≡ s.names → outcome s.nodes (holds_in w) p ≡ true → m ≤ number_of w) → IsLeastNumber s p m
+  by_low m low least = record { met = met_low m low.met; least = least }
+
+  by_high : (m : ℕ) → IsLeastNumber s n.high m → ((w : List Bool) → length w ≡ s.names → outcome s.nodes (holds_in w) p ≡ true → m + 2 ^ n.prop ≤ number_of w) → IsLeastNumber s p (m + 2 ^ n.prop)
+  by_high m high least = record { met = met_high m high.met; least = least }
 
   pub least_step : (a b : Option ℕ) → IsLeastAt s n.low a → IsLeastAt s n.high b → IsLeastAt s p (lesser_of (2 ^ n.prop) a b)
   least_step None None low high = λ v size. not_met _ (λ h. elim (either (holds_in v n.prop)) [
@@ -171,14 +160,14 @@ number_small s is v m size is_number =
     let c : 2 ^ length v ≤ 2 ^ MOST_NAMES = pow-le-pow_right f e in
     omega arith
 
--- the number of a least valuation is small
-pub least_small : (s : Store) → IsReduced s.names s.nodes → (p : ℕ) (found : Option ℕ) → IsLeastAt s p found → IfSome found (λ number. number < 2 ^ MOST_NAMES)
-least_small s is p None least = tt
-least_small s is p (Some m) least = number_small s is least.valuation m least.size least.is_number
-
 -- what the number of a valuation that meets a place is below
 pub met_small : (s : Store) → IsReduced s.names s.nodes → (p m : ℕ) → IsMetAt s p m → m < 2 ^ MOST_NAMES
 met_small s is p m met = number_small s is met.valuation m met.size met.is_number
+
+-- the number of a least valuation is small
+pub least_small : (s : Store) → IsReduced s.names s.nodes → (p : ℕ) (found : Option ℕ) → IsLeastAt s p found → IfSome found (λ number. number < 2 ^ MOST_NAMES)
+least_small s is p None least = tt
+least_small s is p (Some m) least = met_small s is p m least.met
 
 -- what is found of a place is found of its guard
 pub met_guard : (s : Store) → IsReduced s.names s.nodes → (g : Guard) → Has s g → (number : ℕ) → IsMetAt s g.place number → truth_on (label_in s g) (bits_of s.names number) ≡ true
@@ -193,11 +182,12 @@ never_met s is g has none v size = truth_is s is g has (holds_in v) ∙ none v s
 least_valuation : (s : Store) → IsReduced s.names s.nodes → (g : Guard) → Has s g → (number : ℕ) → IsLeastNumber s g.place number
     → IsLeast s.names (truth_on (label_in s g)) (bits_of s.names number)
 least_valuation s is g has number least =
-    let e : least.valuation ≡ bits_of s.names number = sym (bits_of-number least.valuation s.names least.size) ∙ ap (bits_of s.names) least.is_number in
+    let met = least.met in
+    let e : met.valuation ≡ bits_of s.names number = sym (bits_of-number met.valuation s.names met.size) ∙ ap (bits_of s.names) met.is_number in
     subst (IsLeast s.names (truth_on (label_in s g))) e (record {
-      size = least.size;
-      is_true = truth_is s is g has (holds_in least.valuation) ∙ least.truth;
-      least = λ w size h. subst (λ m. m ≤ number_of w) (sym least.is_number) (least.least w size (sym (truth_is s is g has (holds_in w)) ∙ h));
+      size = met.size;
+      is_true = truth_is s is g has (holds_in met.valuation) ∙ met.truth;
+      least = λ w size h. subst (λ m. m ≤ number_of w) (sym met.is_number) (least.least w size (sym (truth_is s is g has (holds_in w)) ∙ h));
     })
 
 pub least_of_label : (s : Store) → IsReduced s.names s.nodes → (g : Guard) → Has s g → (found : Option ℕ) → IsLeastAt s g.place found → IsLeastIn s g found

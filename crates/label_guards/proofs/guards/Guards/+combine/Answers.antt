@@ -13,21 +13,15 @@ pub combine_nodes-choice-requires-clause-low_later : goal.combine_nodes-choice-r
 combine_nodes-choice-requires-clause-low_later t c =
     let g = c.sides-g_low.ensures in
     let h = c.sides-h_low.ensures in
-    let a = g.low_bound in
-    let b = h.low_bound in
-    let x = c.requires.left in
-    let y = c.requires.right in
-    side_later c.combine.ensures.grows c.combine-2.ensures.grows c.args.operation _ _ _ _ (omega arith) (omega arith) g.low_later h.low_later c.in_ok-low.ensures.joined
+    side_later c.combine.ensures.grows c.combine-2.ensures.grows c.args.operation _ _ _ _ (omega (arith, c.requires.left, g.low_bound))
+    (omega (arith, c.requires.right, h.low_bound)) g.low_later h.low_later c.in_ok-low.ensures.joined
 
 pub combine_nodes-choice-requires-clause-high_later : goal.combine_nodes-choice-requires-clause-high_later
 combine_nodes-choice-requires-clause-high_later t c =
     let g = c.sides-g_low.ensures in
     let h = c.sides-h_low.ensures in
-    let a = g.high_bound in
-    let b = h.high_bound in
-    let x = c.requires.left in
-    let y = c.requires.right in
-    side_later (grows_on c.combine.ensures.grows c.combine-2.ensures.grows) (grows_none _) c.args.operation _ _ _ _ (omega arith) (omega arith) g.high_later h.high_later c.in_ok-high.ensures.joined
+    side_later (grows_on c.combine.ensures.grows c.combine-2.ensures.grows) (grows_none _) c.args.operation _ _ _ _ (omega (arith, c.requires.left, g.high_bound))
+    (omega (arith, c.requires.right, h.high_bound)) g.high_later h.high_later c.in_ok-high.ensures.joined
 
 pub combine_nodes-note-requires : goal.combine_nodes-note-requires
 combine_nodes-note-requires t c =

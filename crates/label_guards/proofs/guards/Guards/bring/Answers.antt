@@ -1,17 +1,4 @@
-use Rattle.std.proofs.Common.{get_or}
-use Rattle.label_guards.proofs.rebuilt.Brought.{brought_guard}
-use Rattle.label_guards.proofs.rebuilt.Dependence.{guard_goes_below}
-use Rattle.label_guards.proofs.labelled.LabelTruth.{keeps}
 use Rattle.label_guards.proofs.guards.Guards.bring.Goals as goal
 
-pub bring_with-requires-clause-within : goal.bring_with-requires-clause-within
-bring_with-requires-clause-within c = guard_goes_below _ (λ k. get_or c.args.to.now k 0) c.args.other.now c.args.g c.reduced.ensures c.requires.has c.requires.within
-
-pub returns-in_err-place-clause-keeps : goal.returns-in_err-place-clause-keeps
-returns-in_err-place-clause-keeps c = keeps c.bring_with.ensures.grows
-
-pub returns-clause-keeps : goal.returns-clause-keeps
-returns-clause-keeps c = keeps c.bring_with.ensures.grows
-
-pub returns-clause-brought : goal.returns-clause-brought
-returns-clause-brought c = brought_guard c.args.other.now c.reduced.ensures c.reduced-2.ensures (λ k. get_or c.args.to.now k 0) c.args.g _ c.requires.has c.in_ok-place.ensures.brought
+pub bring_more-requires-clause-before : goal.bring_more-requires-clause-before
+bring_more-requires-clause-before c = c.new-brought.ensures c.args.other.now c.args.self.now c.args.to.now

@@ -1,11 +1,5 @@
-use Rattle.label_guards.proofs.labelled.LabelTruth.{negated_guard, keeps}
+use Rattle.label_guards.proofs.labelled.LabelTruth.{negated_guard}
 use Rattle.label_guards.proofs.guards.Guards.not.Goals as goal
-
-pub returns-in_err-place-clause-keeps : goal.returns-in_err-place-clause-keeps
-returns-in_err-place-clause-keeps c = keeps c.combine.ensures.grows
-
-pub returns-clause-keeps : goal.returns-clause-keeps
-returns-clause-keeps c = keeps c.combine.ensures.grows
 
 pub returns-clause-not : goal.returns-clause-not
 returns-clause-not c = negated_guard c.reduced.ensures c.reduced-2.ensures c.combine.ensures.grows _ _ c.requires c.in_ok-place.ensures.joined

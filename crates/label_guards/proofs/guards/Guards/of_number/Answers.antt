@@ -1,14 +1,8 @@
 use Rattle.std.proofs.Common.{sym}
 use Rattle.label_guards.specs.Numbers.{is_at}
-use Rattle.label_guards.proofs.labelled.LabelTruth.{canonical_at, guard_of, keeps}
+use Rattle.label_guards.proofs.labelled.LabelTruth.{canonical_at, guard_of}
 use Rattle.label_guards.proofs.labelled.Parts.{place_same}
 use Rattle.label_guards.proofs.guards.Guards.of_number.Goals as goal
-
-pub returns-in_err-place-clause-keeps : goal.returns-in_err-place-clause-keeps
-returns-in_err-place-clause-keeps c = keeps c.place_of_number.ensures.grows
-
-pub returns-clause-keeps : goal.returns-clause-keeps
-returns-clause-keeps c = keeps c.place_of_number.ensures.grows
 
 pub returns-clause-guard : goal.returns-clause-guard
 returns-clause-guard c =
