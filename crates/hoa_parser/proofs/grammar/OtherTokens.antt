@@ -6,7 +6,7 @@ use Rattle.hoa_parser.specs.inner.Expecting as part
 use Rattle.hoa_parser.specs.inner.Expecting.{Part, move}
 use Rattle.hoa_parser.specs.inner.RuleReads.{is_value, values_part}
 
--- The token is none that the part begins with. Of parts that begin with words or with names of headers of their own this tells nothing.
+-- The token is none that the part begins with. Of a whole automaton, a factor and an atom this tells nothing.
 abbrev pub IsOther : Part → Token → Type 0
 IsOther part.Number z = (n : ℕ) → z ≢ token.Int n
 IsOther part.MoreNumbers z = z ≢ token.Amp

@@ -7,8 +7,8 @@ use Rattle.std.proofs.lemmas.List.Concat.{flat_map-append}
 use Rattle.hoa_lexer.specs.declared.token.Token.{Token}
 use Rattle.hoa_lexer.specs.declared.token.Token.TheVariants as token
 use Rattle.hoa_parser.proofs.reading.FrontParts.{passed_then, spelled_more}
-use Rattle.hoa_parser.specs.inner.Expecting.{AccValues, Part, Takes, Values, move, open_at}
-use Rattle.hoa_parser.specs.Grammar.{acc_number, acc_value_token, acc_word, and_number, number_value, text_value, value_token, word_value}
+use Rattle.hoa_parser.specs.inner.Expecting.{Part, Takes, move, open_at}
+use Rattle.hoa_parser.specs.Grammar.{acc_number, acc_word, and_number, number_value, text_value, word_value}
 use Rattle.hoa_parser.proofs.reading.Steps.{fails_after, reads_as, reads_then, takes, takes_last}
 use Rattle.hoa_parser.specs.inner.Parsing.{Advanced, Cursor, FailsAt, Passed, ReadsTo, State, Unadvanced, is_end}
 use Rattle.hoa_parser.specs.Standing.{most_depth}
