@@ -14,7 +14,8 @@ pub begun_with_tokens : {start used : ℕ} {text rest : List ℕ} {tokens : List
     → IsBegun start text tokens used rest
 begun_with_tokens s viable unfinished = record { placed = s.placed; shown = s.shown; lexes = s.lexes; used_is = s.used_is; viable = viable; unfinished = unfinished }
 
-pub bad_behind : {start used : ℕ} {text rest : List ℕ} {tokens : List Token} (k : ℕ) → IsBegun start text tokens used rest → IsMisplaced k tokens used rest ⊎ IsNoTokenAt k used rest → IsBad start text k
+pub bad_behind : {start used : ℕ} {text rest : List ℕ} {tokens : List Token} (k : ℕ) → IsBegun start text tokens used rest → IsMisplaced k tokens used rest ⊎ IsNoTokenAt k used rest
+    → IsBad start text k
 bad_behind {used = used} {rest = rest} {tokens = tokens} k begun fault = record { tokens = tokens; used = used; rest = rest; begun = begun; fault = fault }
 
 pub cut_behind : {start used : ℕ} {text rest : List ℕ} {tokens : List Token} → IsBegun start text tokens used rest → (tokens ≢ []) × IsBlanks rest ⊎ EndsOpen rest → IsCut start text
@@ -25,8 +26,8 @@ pub aborted_behind : {start used offset : ℕ} {text rest after : List ℕ} {tok
 aborted_behind {used = used} {offset = offset} {rest = rest} {tokens = tokens} begun some next =
     record { tokens = tokens; used = used; rest = rest; begun = begun; some = some; offset = offset; next = next }
 
-pub deep_behind : {start used offset : ℕ} {text rest after : List ℕ} {tokens : List Token} {next_token : Token} (most : ℕ) → IsBegun start text tokens used rest → IsNext rest used next_token offset after
-    → IsViable most (tokens ++ next_token ∷ []) → (IsViable most_depth (tokens ++ next_token ∷ []) → ⊥) → IsDeep start text
+pub deep_behind : {start used offset : ℕ} {text rest after : List ℕ} {tokens : List Token} {next_token : Token} (most : ℕ) → IsBegun start text tokens used rest
+    → IsNext rest used next_token offset after → IsViable most (tokens ++ next_token ∷ []) → (IsViable most_depth (tokens ++ next_token ∷ []) → ⊥) → IsDeep start text
 deep_behind {used = used} {offset = offset} {rest = rest} {after = after} {tokens = tokens} {next_token = next_token} most begun next viable too_deep = record {
   tokens = tokens;
   used = used;

@@ -138,4 +138,5 @@ reached (suc m) start text tokens used rest p ps none r l =
 
 pub some_standing : SomeStanding
 some_standing start text none =
-    reached (length text) start text [] start text part.Whole [] none (record { stand = record { placed = []; shown = refl; lexes = refl; used_is = omega arith }; shorter = omega arith; leads = refl }) (omega arith)
+    reached (length text) start text [] start text part.Whole [] none
+    (record { stand = record { placed = []; shown = refl; lexes = refl; used_is = omega arith }; shorter = omega arith; leads = refl }) (omega arith)

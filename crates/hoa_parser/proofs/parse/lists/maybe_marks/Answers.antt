@@ -9,7 +9,9 @@ use Rattle.hoa_parser.specs.inner.RuleReads.{AddsMarks, AreMarks}
 use Rattle.hoa_parser.proofs.parse.lists.maybe_marks.Goals as goal
 
 pub returns-in_default : goal.returns-in_default
-returns-in_default g c = record { reads = token_passed MaybeMarks _ _ c.requires.unspent (other MaybeMarks _ c.in_default.not-LeftBrace) (λ a. no_marks_there c.new-marks.result a c.new-marks.ensures) }
+returns-in_default g c = record {
+  reads = token_passed MaybeMarks _ _ c.requires.unspent (other MaybeMarks _ c.in_default.not-LeftBrace) (λ a. no_marks_there c.new-marks.result a c.new-marks.ensures);
+}
 
 pub returns-in_err-advance : goal.returns-in_err-advance
 returns-in_err-advance g c = record { reads = handed_on _ _ _ c.from_residual.ensures.1 (takes_last MaybeMarks [] token.LeftBrace c.in-LeftBrace.is refl refl refl c.in_err-advance.ensures) }
