@@ -17,13 +17,13 @@ use Rattle.graph_walk.proofs.WalkLemmas.{contains_place}
 
 -- an arc led to each node but the start
 pub led_back : (nodes : ℕ) (arcs : List (ℕ × ℕ)) (p q at : ℕ) (s : Search) (places : List ℕ) (back : LeadsBack nodes arcs p q s places at) → at ≢ p
-    → IsLedBy arcs back.searched.searching.depth s.seen.items at (get_or s.led.items at 0)
+    → IsLedBy arcs back.searched.searching.known.depth s.seen.items at (get_or s.led.items at 0)
 led_back nodes arcs p q at s places back other =
-    ⊎_elim (λ (h : (back.searched.searching.depth at ≡ 0) × Contains (p ∷ []) at).
+    ⊎_elim (λ (h : (back.searched.searching.known.depth at ≡ 0) × Contains (p ∷ []) at).
     let first : h.1.0 ≡ 0 = omega (arith, h.1.1) in
     absurd (other (sym (subst (λ k. get_or (p ∷ []) k at ≡ at) first h.1.2))))
-    (λ (h : IsLedBy arcs back.searched.searching.depth s.seen.items at (get_or s.led.items at 0)). h)
-    (back.searched.searching.is_led at back.marked)
+    (λ (h : IsLedBy arcs back.searched.searching.known.depth s.seen.items at (get_or s.led.items at 0)). h)
+    (back.searched.searching.known.is_led at back.marked)
 
 -- one arc back, from a node that is not the start
 pub back_goes_on : (nodes : ℕ) (arcs : List (ℕ × ℕ)) (p q at place : ℕ) (s : Search) (places : List ℕ) → LeadsBack nodes arcs p q s places at → at ≢ p → place ≡ get_or s.led.items at place
@@ -32,7 +32,7 @@ back_goes_on nodes arcs p q at place s places back other read =
     let seen = flag_within s.seen.items at back.marked in
     let fits : at < length s.led.items = omega (arith, back.searched.sized.led_size) in
     let same : get_or s.led.items at 0 ≡ place = sym (get_or_read s.led.items at place fits read 0) in
-    let led = subst (λ k. IsLedBy arcs back.searched.searching.depth s.seen.items at k) same (led_back nodes arcs p q at s places back other) in (
+    let led = subst (λ k. IsLedBy arcs back.searched.searching.known.depth s.seen.items at k) same (led_back nodes arcs p q at s places back other) in (
       led.placed,
       record {
         searched = back.searched;
@@ -49,14 +49,14 @@ back_ends nodes arcs p q s places back = record {
   placed = λ k d within. let inside : k < length places = omega (arith, length-reverse places) in rw (get_or-reverse places k d inside) (back.placed (length places - 1 - k) d (omega arith));
   walks = back.walks;
   least = λ walk leads.
-      let begun = back.searched.searching.begun 0 (omega arith) in
+      let begun = back.searched.searching.known.begun 0 (omega arith) in
       let near = walk_near arcs (p ∷ []) back.searched.done (length arcs) s back.searched.searching back.searched.all_done p q walk back.marked leads in
       omega (arith, length-reverse places, back.deep, begun.close, near.1);
 }
 
 pub not_reached : (nodes : ℕ) (arcs : List (ℕ × ℕ)) (p q : ℕ) (s : Search) → IsSearched nodes arcs (p ∷ []) s → Reaches arcs p q → flag s.seen.items q ≡ true
 not_reached nodes arcs p q s searched reaches =
-    let begun = searched.searching.begun 0 (omega arith) in
+    let begun = searched.searching.known.begun 0 (omega arith) in
     (walk_near arcs (p ∷ []) searched.done (length arcs) s searched.searching searched.all_done p q reaches.walk begun.marked reaches.leads).0
 
 -- a flag that was read, and is not set

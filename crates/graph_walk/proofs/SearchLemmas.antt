@@ -19,13 +19,15 @@ use Rattle.graph_walk.proofs.WalkLemmas.{reach_none, reach_then, reach_place, pl
 -- before any arc was looked at
 pub search_begins : (arcs : List (ℕ × ℕ)) (starts : List ℕ) (s : Search) → HasStarts starts (length starts) s → Searching arcs starts 0 (length arcs) s
 search_begins arcs starts s has = record {
-  depth = λ x. 0;
-  lists = has.lists;
-  begun = λ k within. record { marked = has.begun k within; close = omega arith };
-  is_led = λ x marked. inl (refl, has.within x marked);
-  rises = λ i j x y le here there. omega arith;
-  near = λ j x y here there. omega arith;
-  shallow = λ i x here. omega arith;
+  known = record {
+    depth = λ x. 0;
+    lists = has.lists;
+    begun = λ k within. record { marked = has.begun k within; close = omega arith };
+    is_led = λ x marked. inl (refl, has.within x marked);
+    rises = λ i j x y le here there. omega arith;
+    near = λ j x y here there. omega arith;
+    shallow = λ i x here. omega arith;
+  };
   closed = λ i x place past here within leaves. absurd (⊎_elim (λ (h : i < 0). omega arith) (λ (h : (i ≡ 0) × (length arcs ≤ place)). omega (arith, h.1)) past);
 }
 
@@ -45,17 +47,11 @@ closed_more arcs depth seen order done place closed now i x k past here within l
 add_same : (arcs : List (ℕ × ℕ)) (starts : List ℕ) (done place : ℕ) (s : Search) → Searching arcs starts done (place + 1) s → flag s.seen.items (head arcs place) ≡ true
     → Searching arcs starts done place s
 add_same arcs starts done place s old marked = record {
-  depth = old.depth;
-  lists = old.lists;
-  begun = old.begun;
-  is_led = old.is_led;
-  rises = old.rises;
-  near = old.near;
-  shallow = old.shallow;
-  closed = closed_more arcs old.depth s.seen.items s.order.items done place old.closed
+  known = old.known;
+  closed = closed_more arcs old.known.depth s.seen.items s.order.items done place old.closed
       (λ x here leaves.
-      let there = old.lists.listed (head arcs place) marked in
-      record { marked = marked; close = old.near there.0 x (head arcs place) here there.1 });
+      let there = old.known.lists.listed (head arcs place) marked in
+      record { marked = marked; close = old.known.near there.0 x (head arcs place) here there.1 });
 }
 
 -- the search in which a node was added, over the parts of the one before
@@ -63,33 +59,33 @@ module _ (arcs : List (ℕ × ℕ)) (starts : List ℕ) (done place w x : ℕ) (
     (leaves : tail arcs place ≡ x) (enters : head arcs place ≡ w) (within : place < length arcs) (fits : w < length s.seen.items) (led_fits : w < length s.led.items)
     (fresh : flag s.seen.items w ≡ false) where
   depth' : ℕ → ℕ
-  depth' = with_depth old.depth w (suc (old.depth x))
+  depth' = with_depth old.known.depth w (suc (old.known.depth x))
 
-  kept : (y : ℕ) → flag s.seen.items y ≡ true → depth' y ≡ old.depth y
+  kept : (y : ℕ) → flag s.seen.items y ≡ true → depth' y ≡ old.known.depth y
   unfolding depth'
-  kept y marked = depth_kept old.depth s.seen.items w (suc (old.depth x)) y fresh marked
+  kept y marked = depth_kept old.known.depth s.seen.items w (suc (old.known.depth x)) y fresh marked
 
-  kept_at : (i y : ℕ) → At s.order.items i y → depth' y ≡ old.depth y
-  kept_at i y at = kept y (old.lists.flagged i y at)
+  kept_at : (i y : ℕ) → At s.order.items i y → depth' y ≡ old.known.depth y
+  kept_at i y at = kept y (old.known.lists.flagged i y at)
 
-  there : (y : ℕ) → y ≡ w → depth' y ≡ suc (old.depth x)
+  there : (y : ℕ) → y ≡ w → depth' y ≡ suc (old.known.depth x)
   unfolding depth'
-  there y same = with_depth_there old.depth w (suc (old.depth x)) y same
+  there y same = with_depth_there old.known.depth w (suc (old.known.depth x)) y same
 
   still : (y : ℕ) → flag s.seen.items y ≡ true → flag (set s.seen.items w true) y ≡ true
   still y marked = flag_kept s.seen.items w y fits marked
 
-  near_kept : (y n : ℕ) → IsNear old.depth s.seen.items y n → IsNear depth' (set s.seen.items w true) y n
+  near_kept : (y n : ℕ) → IsNear old.known.depth s.seen.items y n → IsNear depth' (set s.seen.items w true) y n
   near_kept y n near = record { marked = still y near.marked; close = omega (arith, kept y near.marked, near.close) }
 
   lists' : (s' : Search) → s'.seen.items ≡ set s.seen.items w true → s'.order.items ≡ s.order.items ++ w ∷ [] → AreListed s'
   lists' s' seen order = record {
     flagged = λ i y at.
-        rw seen (⊎_elim (λ (before : At s.order.items i y). still y (old.lists.flagged i y before))
+        rw seen (⊎_elim (λ (before : At s.order.items i y). still y (old.known.lists.flagged i y before))
         (λ (h : (i ≡ length s.order.items) × (y ≡ w)). rw h.1 (flag_set s.seen.items w fits))
         (at_cases s.order.items w i y (rw order at at)));
     listed = λ y marked.
-        rw order (⊎_elim (λ (before : flag s.seen.items y ≡ true). let found = old.lists.listed y before in (found.0, at_kept s.order.items w found.0 y found.1))
+        rw order (⊎_elim (λ (before : flag s.seen.items y ≡ true). let found = old.known.lists.listed y before in (found.0, at_kept s.order.items w found.0 y found.1))
         (λ (same : y ≡ w). rw same (length s.order.items, at_end s.order.items w))
         (flag_cases s.seen.items w y (rw seen at marked)));
   }
@@ -98,13 +94,13 @@ module _ (arcs : List (ℕ × ℕ)) (starts : List ℕ) (done place w x : ℕ) (
   led' y marked =
       ⊎_elim (λ (same : y ≡ w).
       let at : get_or (set s.led.items w place) y 0 ≡ place = ap (λ k. get_or (set s.led.items w place) k 0) same ∙ get_or-set_same s.led.items w place 0 led_fits in
-      let before : flag s.seen.items x ≡ true = old.lists.flagged done x here in
+      let before : flag s.seen.items x ≡ true = old.known.lists.flagged done x here in
       inr (rw at (record { placed = within; enters = enters ∙ sym same; marked = rw leaves (still x before); deeper = rw leaves (there y same ∙ ap suc (sym (kept x before))) })))
       (λ (other : y ≢ w).
       let before : flag s.seen.items y ≡ true = sym (get_or-set_other s.seen.items w y true false other) ∙ marked in
       let at : get_or (set s.led.items w place) y 0 ≡ get_or s.led.items y 0 = get_or-set_other s.led.items w y place 0 other in
-      ⊎_elim (λ (h : (old.depth y ≡ 0) × Contains starts y). inl (kept y before ∙ h.0, h.1))
-      (λ (h : IsLedBy arcs old.depth s.seen.items y (get_or s.led.items y 0)).
+      ⊎_elim (λ (h : (old.known.depth y ≡ 0) × Contains starts y). inl (kept y before ∙ h.0, h.1))
+      (λ (h : IsLedBy arcs old.known.depth s.seen.items y (get_or s.led.items y 0)).
       inr (rw at (record {
         placed = h.placed;
         enters = h.enters;
@@ -112,16 +108,16 @@ module _ (arcs : List (ℕ × ℕ)) (starts : List ℕ) (done place w x : ℕ) (
         deeper = kept y before
             ∙ (h.deeper ∙ ap suc (sym (kept (tail arcs (get_or s.led.items y 0)) h.marked)));
       })))
-      (old.is_led y before))
+      (old.known.is_led y before))
       (cases_eq y w)
 
   rises' : (i j y z : ℕ) → i ≤ j → At (s.order.items ++ w ∷ []) i y → At (s.order.items ++ w ∷ []) j z → depth' y ≤ depth' z
   rises' i j y z le first second =
       ⊎_elim (λ (b : At s.order.items j z).
       let a : At s.order.items i y = at_before s.order.items w i y (omega (arith, b.0)) first in
-      omega (arith, kept_at i y a, kept_at j z b, old.rises i j y z le a b))
+      omega (arith, kept_at i y a, kept_at j z b, old.known.rises i j y z le a b))
       (λ (h : (j ≡ length s.order.items) × (z ≡ w)).
-      ⊎_elim (λ (a : At s.order.items i y). omega (arith, kept_at i y a, there z h.1, old.near i x y here a))
+      ⊎_elim (λ (a : At s.order.items i y). omega (arith, kept_at i y a, there z h.1, old.known.near i x y here a))
       (λ (g : (i ≡ length s.order.items) × (y ≡ w)). omega (arith, there y g.1, there z h.1))
       (at_cases s.order.items w i y first))
       (at_cases s.order.items w j z second)
@@ -129,15 +125,15 @@ module _ (arcs : List (ℕ × ℕ)) (starts : List ℕ) (done place w x : ℕ) (
   near' : (j y z : ℕ) → At (s.order.items ++ w ∷ []) done y → At (s.order.items ++ w ∷ []) j z → depth' z ≤ suc (depth' y)
   near' j y z first second =
       let a : At s.order.items done y = at_before s.order.items w done y here.0 first in
-      let same : old.depth x ≡ old.depth y = ap old.depth (at_same s.order.items done x y here a) in
-      ⊎_elim (λ (b : At s.order.items j z). omega (arith, kept_at done y a, kept_at j z b, old.near j y z a b))
+      let same : old.known.depth x ≡ old.known.depth y = ap old.known.depth (at_same s.order.items done x y here a) in
+      ⊎_elim (λ (b : At s.order.items j z). omega (arith, kept_at done y a, kept_at j z b, old.known.near j y z a b))
       (λ (h : (j ≡ length s.order.items) × (z ≡ w)). omega (arith, kept_at done y a, there z h.1, same))
       (at_cases s.order.items w j z second)
 
   shallow' : (i y : ℕ) → At (s.order.items ++ w ∷ []) i y → depth' y ≤ i
   shallow' i y at =
-      ⊎_elim (λ (a : At s.order.items i y). omega (arith, kept_at i y a, old.shallow i y a))
-      (λ (h : (i ≡ length s.order.items) × (y ≡ w)). omega (arith, there y h.1, h.0, here.0, old.shallow done x here))
+      ⊎_elim (λ (a : At s.order.items i y). omega (arith, kept_at i y a, old.known.shallow i y a))
+      (λ (h : (i ≡ length s.order.items) × (y ≡ w)). omega (arith, there y h.1, h.0, here.0, old.known.shallow done x here))
       (at_cases s.order.items w i y at)
 
   closed' : IsClosed arcs depth' (set s.seen.items w true) (s.order.items ++ w ∷ []) done place
@@ -145,24 +141,26 @@ module _ (arcs : List (ℕ × ℕ)) (starts : List ℕ) (done place w x : ℕ) (
       (λ i y k past at inside from.
       let low : i < length s.order.items = ⊎_elim (λ (lt : i < done). omega (arith, here.0)) (λ (h : (i ≡ done) × (place + 1 ≤ k)). omega (arith, here.0, h.0)) past in
       let before : At s.order.items i y = at_before s.order.items w i y low at in
-      let now = near_kept (head arcs k) (suc (old.depth y)) (old.closed i y k past before inside from) in
+      let now = near_kept (head arcs k) (suc (old.known.depth y)) (old.closed i y k past before inside from) in
       subst (λ n. IsNear depth' (set s.seen.items w true) (head arcs k) (suc n)) (sym (kept_at i y before)) now)
       (λ y at from.
       record {
         marked = rw enters (flag_set s.seen.items w fits);
         close =
-            omega (arith, there (head arcs place) enters, kept_at done y (at_before s.order.items w done y here.0 at), ap old.depth (sym leaves ∙ from));
+            omega (arith, there (head arcs place) enters, kept_at done y (at_before s.order.items w done y here.0 at), ap old.known.depth (sym leaves ∙ from));
       })
 
   add_fresh : (s' : Search) → s'.seen.items ≡ set s.seen.items w true → s'.order.items ≡ s.order.items ++ w ∷ [] → s'.led.items ≡ set s.led.items w place → Searching arcs starts done place s'
   add_fresh s' seen order led = record {
-    depth = depth';
-    lists = lists' s' seen order;
-    begun = λ k below. rw seen (near_kept (get_or starts k 0) 0 (old.begun k below));
-    is_led = rw (seen, led) led';
-    rises = rw order rises';
-    near = rw order near';
-    shallow = rw order shallow';
+    known = record {
+      depth = depth';
+      lists = lists' s' seen order;
+      begun = λ k below. rw seen (near_kept (get_or starts k 0) 0 (old.known.begun k below));
+      is_led = rw (seen, led) led';
+      rises = rw order rises';
+      near = rw order near';
+      shallow = rw order shallow';
+    };
     closed = rw (seen, order) closed';
   }
 
@@ -180,13 +178,7 @@ search_adds arcs starts done end place w x s s' sized fits old same here leaves 
 pub search_passes : (arcs : List (ℕ × ℕ)) (starts : List ℕ) (done end c x : ℕ) (s : Search) → Searching arcs starts done end s → At s.order.items done x → IsLast arcs x end c
     → Searching arcs starts done c s
 search_passes arcs starts done end c x s old here last = record {
-  depth = old.depth;
-  lists = old.lists;
-  begun = old.begun;
-  is_led = old.is_led;
-  rises = old.rises;
-  near = old.near;
-  shallow = old.shallow;
+  known = old.known;
   closed = λ i y k past at within leaves.
       ⊎_elim (λ (lt : i < done). old.closed i y k (inl lt) at within leaves)
       (λ (h : (i ≡ done) × (c ≤ k)).
@@ -199,16 +191,18 @@ search_passes arcs starts done end c x s old here last = record {
 -- all arcs of the node at `done` were looked at
 pub search_goes_on : (arcs : List (ℕ × ℕ)) (starts : List ℕ) (done : ℕ) (s : Search) → Searching arcs starts done 0 s → done < length s.order.items → Searching arcs starts (done + 1) (length arcs) s
 search_goes_on arcs starts done s old within = record {
-  depth = old.depth;
-  lists = old.lists;
-  begun = old.begun;
-  is_led = old.is_led;
-  rises = old.rises;
-  near = λ j x y here there.
-      let x0 = get_or s.order.items done 0 in
-      let first : At s.order.items done x0 = (within, refl) in
-      omega (arith, old.near j x0 y first there, old.rises done (done + 1) x0 x (omega arith) first here);
-  shallow = old.shallow;
+  known = record {
+    depth = old.known.depth;
+    lists = old.known.lists;
+    begun = old.known.begun;
+    is_led = old.known.is_led;
+    rises = old.known.rises;
+    near = λ j x y here there.
+        let x0 = get_or s.order.items done 0 in
+        let first : At s.order.items done x0 = (within, refl) in
+        omega (arith, old.known.near j x0 y first there, old.known.rises done (done + 1) x0 x (omega arith) first here);
+    shallow = old.known.shallow;
+  };
   closed = λ i x k past at inside leaves.
       ⊎_elim (λ (lt : i < done + 1).
       ⊎_elim (λ (h : i < done). old.closed i x k (inl h) at inside leaves)
@@ -220,31 +214,31 @@ search_goes_on arcs starts done s old within = record {
 
 -- what a node that was seen reaches was seen too, and is no deeper than the walk is long
 pub walk_near : (arcs : List (ℕ × ℕ)) (starts : List ℕ) (done end : ℕ) (s : Search) (old : Searching arcs starts done end s) → length s.order.items ≤ done → (p q : ℕ) (walk : List (ℕ × ℕ))
-    → flag s.seen.items p ≡ true → IsWalk arcs p walk q → (flag s.seen.items q ≡ true) × (old.depth q ≤ old.depth p + length walk)
-walk_near arcs starts done end s old all p q [] marked leads = (rw (sym leads) marked, omega (arith, ap old.depth leads))
+    → flag s.seen.items p ≡ true → IsWalk arcs p walk q → (flag s.seen.items q ≡ true) × (old.known.depth q ≤ old.known.depth p + length walk)
+walk_near arcs starts done end s old all p q [] marked leads = (rw (sym leads) marked, omega (arith, ap old.known.depth leads))
 walk_near arcs starts done end s old all p q (a ∷ walk) marked leads =
-    let found = old.lists.listed p marked in
+    let found = old.known.lists.listed p marked in
     let arc = placed arcs a leads.0 in
     let before : found.0 < done = omega (arith, found.1.0) in
     let near = old.closed found.0 p arc.0 (inl before) found.1 arc.1 (ap (λ (z : ℕ × ℕ). z.0) arc.2 ∙ leads.1) in
     let same : head arcs arc.0 ≡ a.1 = ap (λ (z : ℕ × ℕ). z.1) arc.2 in
     let rest = walk_near arcs starts done end s old all a.1 q walk (rw same at near.marked) leads.2 in
-    (rest.0, omega (arith, near.close, ap old.depth same, rest.1))
+    (rest.0, omega (arith, near.close, ap old.known.depth same, rest.1))
 
-pub reached_at : (arcs : List (ℕ × ℕ)) (starts : List ℕ) (done end : ℕ) (s : Search) (old : Searching arcs starts done end s) (n x : ℕ) → old.depth x ≡ n → flag s.seen.items x ≡ true
+pub reached_at : (arcs : List (ℕ × ℕ)) (starts : List ℕ) (done end : ℕ) (s : Search) (old : Searching arcs starts done end s) (n x : ℕ) → old.known.depth x ≡ n → flag s.seen.items x ≡ true
     → ReachedFrom arcs starts x
 reached_at arcs starts done end s old zero x deep marked =
-    ⊎_elim (λ (h : (old.depth x ≡ 0) × Contains starts x). record { start = x; listed = h.1; reached = reach_none arcs x })
-    (λ (h : IsLedBy arcs old.depth s.seen.items x (get_or s.led.items x 0)). absurd (omega (arith, h.deeper)))
-    (old.is_led x marked)
+    ⊎_elim (λ (h : (old.known.depth x ≡ 0) × Contains starts x). record { start = x; listed = h.1; reached = reach_none arcs x })
+    (λ (h : IsLedBy arcs old.known.depth s.seen.items x (get_or s.led.items x 0)). absurd (omega (arith, h.deeper)))
+    (old.known.is_led x marked)
 reached_at arcs starts done end s old (suc n) x deep marked =
-    ⊎_elim (λ (h : (old.depth x ≡ 0) × Contains starts x). absurd (omega (arith, h.0)))
-    (λ (h : IsLedBy arcs old.depth s.seen.items x (get_or s.led.items x 0)).
+    ⊎_elim (λ (h : (old.known.depth x ≡ 0) × Contains starts x). absurd (omega (arith, h.0)))
+    (λ (h : IsLedBy arcs old.known.depth s.seen.items x (get_or s.led.items x 0)).
     let place = get_or s.led.items x 0 in
-    let shallower : old.depth (tail arcs place) ≡ n = omega (arith, h.deeper) in
+    let shallower : old.known.depth (tail arcs place) ≡ n = omega (arith, h.deeper) in
     let first = reached_at arcs starts done end s old n (tail arcs place) shallower h.marked in
     record { start = first.start; listed = first.listed; reached = reach_then arcs first.start (tail arcs place) x first.reached (reach_place arcs place (tail arcs place) x h.placed refl h.enters) })
-    (old.is_led x marked)
+    (old.known.is_led x marked)
 
 pub size_added : (w place : ℕ) (s s' : Search) → IsSized s → w < length s.seen.items → IsAdded s w place s' → IsSized s'
 size_added w place s s' sized within added =
@@ -343,11 +337,11 @@ pub search_ends : (nodes : ℕ) (arcs : List (ℕ × ℕ)) (starts : List ℕ) (
 search_ends nodes arcs starts s searched = record {
   size = searched.size;
   exact = λ q below. (
-    λ marked. reached_at arcs starts searched.done (length arcs) s searched.searching (searched.searching.depth q) q refl marked,
+    λ marked. reached_at arcs starts searched.done (length arcs) s searched.searching (searched.searching.known.depth q) q refl marked,
     λ from.
         let found = from.listed in
         let is : get_or starts found.0 0 ≡ from.start = get_or_default starts found.0 0 from.start found.1 ∙ found.2 in
-        let begun = searched.searching.begun found.0 found.1 in
+        let begun = searched.searching.known.begun found.0 found.1 in
         (walk_near arcs starts searched.done (length arcs) s searched.searching searched.all_done from.start q from.reached.walk (rw is at begun.marked) from.reached.leads).0,
   );
 }

@@ -9,7 +9,7 @@ use Rattle.graph_walk.specs.declared.search.Search.{Search}
 pub record LeadsBack (nodes : ℕ) (arcs : List (ℕ × ℕ)) (p q : ℕ) (s : Search) (places : List ℕ) (at : ℕ) : Type 0 where
   pub searched : IsSearched nodes arcs (p ∷ []) s
   pub marked : flag s.seen.items at ≡ true
-  pub deep : searched.searching.depth at + length places ≡ searched.searching.depth q
+  pub deep : searched.searching.known.depth at + length places ≡ searched.searching.known.depth q
   pub reached : flag s.seen.items q ≡ true
   pub walks : IsWalk arcs at (map (arc_at arcs) (reverse places)) q
   pub placed : All (λ place. place < length arcs) places

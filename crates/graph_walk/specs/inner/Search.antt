@@ -66,9 +66,8 @@ abbrev pub IsClosed : List (ℕ × ℕ) → (ℕ → ℕ) → List Bool → List
 IsClosed arcs depth seen order done end =
     (i x place : ℕ) → IsPast done end i place → At order i x → place < length arcs → tail arcs place ≡ x → IsNear depth seen (head arcs place) (suc (depth x))
 
--- In the midst of a search: the arcs of the nodes before the place `done` were looked at, and of the node there those
--- from the place `end` on. The depth of a node is the number of arcs on which it was reached.
-pub record Searching (arcs : List (ℕ × ℕ)) (starts : List ℕ) (done end : ℕ) (s : Search) : Type 0 where
+-- what is known of the nodes that were seen, and how deep they are
+pub record AreSeen (arcs : List (ℕ × ℕ)) (starts : List ℕ) (done : ℕ) (s : Search) : Type 0 where
   pub depth : ℕ → ℕ
   pub lists : AreListed s
   pub begun : (k : ℕ) → k < length starts → IsNear depth s.seen.items (slice_index starts k) 0
@@ -76,7 +75,12 @@ pub record Searching (arcs : List (ℕ × ℕ)) (starts : List ℕ) (done end : 
   pub rises : (i j x y : ℕ) → i ≤ j → At s.order.items i x → At s.order.items j y → depth x ≤ depth y
   pub near : (j x y : ℕ) → At s.order.items done x → At s.order.items j y → depth y ≤ suc (depth x)
   pub shallow : (i x : ℕ) → At s.order.items i x → depth x ≤ i
-  pub closed : IsClosed arcs depth s.seen.items s.order.items done end
+
+-- In the midst of a search: the arcs of the nodes before the place `done` were looked at, and of the node there those
+-- from the place `end` on. The depth of a node is the number of arcs on which it was reached.
+pub record Searching (arcs : List (ℕ × ℕ)) (starts : List ℕ) (done end : ℕ) (s : Search) : Type 0 where
+  pub known : AreSeen arcs starts done s
+  pub closed : IsClosed arcs known.depth s.seen.items s.order.items done end
 
 -- the arcs of the node at `done` are looked at, from the last one on
 pub record Spreading (nodes : ℕ) (arcs : List (ℕ × ℕ)) (starts : List ℕ) (done end node : ℕ) (s : Search) : Type 0 where
