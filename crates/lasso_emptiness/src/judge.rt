@@ -70,6 +70,7 @@ fn judge_fin(links: &[Link], edges: &[LiveEdge], side: Side) -> Verdict
 
 /// All of these parts.
 #[cycle(judge)]
+#[tactic(auto, using(acc_forms::proofs::Parts::part_sizes))]
 fn judge_all(links: &[Link], edges: &[LiveEdge], parts: &Formulas) -> Verdict
     requires { All (λ e. e.link < length links.now) edges.now }
     ensures { AreAllJudged (map (marks_of links.now) edges.now) (formula_list parts.now) result }
@@ -90,6 +91,7 @@ fn judge_all(links: &[Link], edges: &[LiveEdge], parts: &Formulas) -> Verdict
 
 /// One of these parts.
 #[cycle(judge)]
+#[tactic(auto, using(acc_forms::proofs::Parts::part_sizes))]
 fn judge_some(links: &[Link], edges: &[LiveEdge], parts: &Formulas) -> Verdict
     requires { All (λ e. e.link < length links.now) edges.now }
     ensures { IsOneJudged (map (marks_of links.now) edges.now) (formula_list parts.now) result }

@@ -3,7 +3,7 @@
 ghost use Rattle.std.specs.Prelude.{◌≡◌, ◌<◌, ℕ, [], true, false, All, IfOk, length, map};
 ghost use Rattle.std.specs.List.{slice_index_or};
 ghost use Rattle.lasso_emptiness.specs.declared.live.LiveEdge.{LiveEdge};
-ghost use Rattle.lasso_emptiness.specs.inner.Edges.{arc_of, back_arc_of};
+ghost use Rattle.lasso_emptiness.specs.inner.Edges.{arc_of, back_arc_of, turned_arc};
 ghost use Rattle.lasso_emptiness.specs.inner.Live.{ArePassable, AreReachedEdges};
 ghost use Rattle.lasso_emptiness.specs.inner.Picked.{Picks};
 
@@ -77,14 +77,7 @@ pub(crate) fn graph_of(alloc: Global, states: u32, edges: &[LiveEdge]) -> Result
     ensures nodes { IfOk result (λ graph. graph.nodes ≡ states) }
     ensures arcs { IfOk result (λ graph. graph.arcs ≡ map arc_of edges.now) }
 {
-    let mut arcs = Arcs::from_vec(Vec::with_capacity(alloc, edges.len())?);
-    'edges: for edge in edges {
-        arcs.push((edge.from, edge.to))?;
-    }
-    Ok(Graph {
-        nodes: states,
-        arcs,
-    })
+    graph_turned(alloc, states, edges, false)
 }
 
 /// The graph of these edges, each turned around.
@@ -96,12 +89,36 @@ pub(crate) fn backward_graph_of(
     ensures nodes { IfOk result (λ graph. graph.nodes ≡ states) }
     ensures arcs { IfOk result (λ graph. graph.arcs ≡ map back_arc_of edges.now) }
 {
+    graph_turned(alloc, states, edges, true)
+}
+
+/// The graph of these edges, as they are or each turned around.
+fn graph_turned(
+    alloc: Global,
+    states: u32,
+    edges: &[LiveEdge],
+    turned: bool,
+) -> Result<Graph, Memory>
+    ensures nodes { IfOk result (λ graph. graph.nodes ≡ states) }
+    ensures arcs { IfOk result (λ graph. graph.arcs ≡ map (turned_arc turned) edges.now) }
+{
     let mut arcs = Arcs::from_vec(Vec::with_capacity(alloc, edges.len())?);
     'edges: for edge in edges {
-        arcs.push((edge.to, edge.from))?;
+        arcs.push(turned_arc(edge, turned))?;
     }
     Ok(Graph {
         nodes: states,
         arcs,
     })
+}
+
+/// The two ends of an edge, as they are or turned around.
+fn turned_arc(edge: &LiveEdge, turned: bool) -> (u32, u32)
+    ensures { result ≡ turned_arc turned edge.now }
+{
+    if turned {
+        (edge.to, edge.from)
+    } else {
+        (edge.from, edge.to)
+    }
 }

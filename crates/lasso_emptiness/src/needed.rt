@@ -5,7 +5,7 @@ ghost use Rattle.std.specs.List.{list_all, list_any};
 ghost use Rattle.aut_base.specs.Formula.{FormulaTree, formula_tree, formula_list, met};
 ghost use Rattle.lasso_emptiness.specs.declared.live.LiveEdge.{LiveEdge};
 ghost use Rattle.lasso_emptiness.specs.inner.Edges.{marks_of, met_along};
-ghost use Rattle.lasso_emptiness.specs.inner.Needed.{AddsOnce, AreNeeded, Serves, ServesAll, ServesOne};
+ghost use Rattle.lasso_emptiness.specs.inner.Needed.{AddsOnce, AreNeeded, IsPart, Serves, ServesAll};
 
 use crate::judge::judge;
 use crate::live::{LiveEdge, LiveEdges};
@@ -65,7 +65,7 @@ fn add_needed(
             needed,
         ),
         Formula::And(parts) => add_for_all(links, edges, parts, needed),
-        Formula::Or(parts) => add_for_one(links, edges, parts, needed),
+        Formula::Or(parts) => add_needed(links, edges, met_part(links, edges, parts), needed),
     }
 }
 
@@ -110,23 +110,18 @@ fn add_for_all(
     Ok(())
 }
 
-/// Adds what the first part needs that all edges meet.
-#[cycle(needed)]
-fn add_for_one(
-    links: &[Link],
-    edges: &[LiveEdge],
-    parts: &Formulas,
-    needed: &mut LiveEdges,
-) -> Result<(), Memory>
+/// The first part that all edges meet.
+fn met_part<'a>(links: &[Link], edges: &[LiveEdge], parts: &'a Formulas) -> &'a Formula
     requires within { All (λ e. e.link < length links.now) edges.now }
     requires met { list_any (met (map (marks_of links.now) edges.now)) (formula_list parts.now) ≡ true }
-    requires inside { All (Contains edges.now) needed.old }
-    ensures { OnOk result (ServesOne links.now edges.now (formula_list parts.now) needed.old needed.new) }
+    ensures met { met_along links.now edges.now (formula_tree result.now) ≡ true }
+    ensures part { IsPart (formula_list parts.now) (formula_tree result.now) }
 {
     'parts: for place in 0..parts.len() {
-        if let Verdict::Met = judge(links, edges, parts.at(place)) {
-            return add_needed(links, edges, parts.at(place), needed);
+        let part = parts.at(place);
+        if let Verdict::Met = judge(links, edges, part) {
+            return part;
         }
     }
-    Ok(())
+    unreachable!()
 }

@@ -46,6 +46,7 @@ fn take_fin(set: u32, neg: bool, side: Side, value: bool) -> Formula
 
 /// The parts, each in the same way.
 #[cycle(take)]
+#[tactic(auto, using(acc_forms::proofs::Parts::part_sizes))]
 fn take_parts(alloc: Global, parts: &Formulas, side: Side, value: bool) -> Result<Formulas, Memory>
     ensures { IfOk result (λ new. formula_list new ≡ map (taken side.set side.neg value) (formula_list parts.now)) }
 {

@@ -1,5 +1,5 @@
 -- What conditions say of cycles, with a `Fin` decided and on fewer edges.
-use Rattle.std.proofs.Common.{if◌then◌else◌, ◌≡◌, ◌∙◌, ℕ, ◌+◌, ◌<◌, ◌≤◌, Bool, true, false, not, ◌&&◌, ◌||◌, List, [], ◌∷◌, nat_eq, inl, inr, refl, sym, ap, arith, ⊎_elim}
+use Rattle.std.proofs.Common.{if◌then◌else◌, ◌≡◌, ◌∙◌, ℕ, ◌+◌, ◌<◌, ◌≤◌, Bool, true, false, not, ◌&&◌, ◌||◌, List, [], ◌∷◌, nat_eq, inl, inr, refl, sym, ap, subst, arith, ⊎_elim}
 use Rattle.std.proofs.lemmas.Bool.{true≢false, and_from, and_parts, eq-eqb, eqb-true, or_cases, or_left, or_right}
 use Rattle.std.specs.List.{list_all, list_any}
 use Rattle.aut_base.proofs.numbers.Truth.{not_not}
@@ -141,7 +141,7 @@ module _ (set : ℕ) (neg value : Bool) where
     all_fins-taken_most (more f fs) = let one = fins-taken_most f in let rest = all_fins-taken_most fs in omega arith
 
   mutual
-    pub fins-taken : (f : FormulaTree) → has_side set neg f ≡ true → fins (taken set neg value f) < fins f
+    fins-taken : (f : FormulaTree) → has_side set neg f ≡ true → fins (taken set neg value f) < fins f
     fins-taken True has = absurd (true≢false (sym has))
     fins-taken False has = absurd (true≢false (sym has))
     fins-taken (Inf other neg') has = absurd (true≢false (sym has))
@@ -161,6 +161,9 @@ module _ (set : ℕ) (neg value : Bool) where
           | inl first ↦ (let less = fins-taken f first in omega arith)
           | inr later ↦ (let less = all_fins-taken fs later in omega arith)
         ]
+
+  pub taken_fewer : (f new : FormulaTree) → new ≡ taken set neg value f → has_side set neg f ≡ true → fins new < fins f
+  taken_fewer f new is has = subst (λ g. fins g < fins f) (sym is) (fins-taken f has)
 
 pub has_side-Fin : (set : ℕ) (neg : Bool) → has_side set neg (Fin set neg) ≡ true
 has_side-Fin set true = and_from (nat_eq set set) true (eq-eqb set set refl) refl

@@ -11,7 +11,7 @@ use Rattle.acc_forms.proofs.Parts.{met-And, met-Or}
 use Rattle.aut_core.specs.declared.link.Link.{Link}
 use Rattle.lasso_emptiness.specs.declared.live.LiveEdge.{LiveEdge}
 use Rattle.lasso_emptiness.specs.inner.Edges.{marks_of, met_along, on_side}
-use Rattle.lasso_emptiness.specs.inner.Needed.{Serves, ServesAll, ServesOne, Suits}
+use Rattle.lasso_emptiness.specs.inner.Needed.{IsPart, Serves, ServesAll, Suits}
 use Rattle.lasso_emptiness.proofs.conditions.Conditions.{met-Fin}
 use Rattle.lasso_emptiness.proofs.conditions.Marked.{inf_met, one_on}
 
@@ -69,24 +69,18 @@ module _ (links : List Link) (edges : List LiveEdge) where
       suits_then (λ marks. list_all (met marks) (take place fs) ≡ true) (λ marks. met marks part ≡ true) (λ marks. list_all (met marks) (take (place + 1) fs) ≡ true) old mid new
       (λ marks so_far holds. all_take_more (met marks) fs place part is so_far holds) before here
 
-  pub suits_one : (fs : List FormulaTree) (place : ℕ) (part : FormulaTree) (old new : List LiveEdge) → slice_get fs place ≡ Some part → Serves links edges part old new
-      → ServesOne links edges fs old new
-  suits_one fs place part old new is here = record {
-    kept = here.kept;
-    inside = here.inside;
-    enough = λ cycle within has. any_at (met (marked cycle)) fs place part is (here.enough cycle within has);
+  -- what passes a test passes any that holds where that one does
+  suits_weaker : (P Q : List (List ℕ) → Type 0) (old new : List LiveEdge) → ((marks : List (List ℕ)) → P marks → Q marks) → Suits links edges P old new → Suits links edges Q old new
+  suits_weaker P Q old new weaker suits = record {
+    kept = suits.kept;
+    inside = suits.inside;
+    enough = λ cycle within has. weaker (marked cycle) (suits.enough cycle within has);
   }
 
   pub serves-And : (p : Formulas) (old new : List LiveEdge) → ServesAll links edges (formula_list p) old new → Serves links edges (formula_tree (And p)) old new
-  serves-And p old new parts = record {
-    kept = parts.kept;
-    inside = parts.inside;
-    enough = λ cycle within has. met-And (marked cycle) p ∙ parts.enough cycle within has;
-  }
+  serves-And p old new = suits_weaker (λ marks. list_all (met marks) (formula_list p) ≡ true) (λ marks. met marks (formula_tree (And p)) ≡ true) old new (λ marks holds. met-And marks p ∙ holds)
 
-  pub serves-Or : (p : Formulas) (old new : List LiveEdge) → ServesOne links edges (formula_list p) old new → Serves links edges (formula_tree (Or p)) old new
-  serves-Or p old new parts = record {
-    kept = parts.kept;
-    inside = parts.inside;
-    enough = λ cycle within has. met-Or (marked cycle) p ∙ parts.enough cycle within has;
-  }
+  pub serves-Or : (p : Formulas) (part : FormulaTree) (old new : List LiveEdge) → IsPart (formula_list p) part → Serves links edges part old new
+      → Serves links edges (formula_tree (Or p)) old new
+  serves-Or p part old new is = suits_weaker (λ marks. met marks part ≡ true) (λ marks. met marks (formula_tree (Or p)) ≡ true) old new
+      (λ marks holds. met-Or marks p ∙ any_at (met marks) (formula_list p) is.0 part is.1 holds)

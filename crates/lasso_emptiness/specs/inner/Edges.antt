@@ -33,3 +33,8 @@ arc_of e = (e.from, e.to)
 -- the same turned around
 abbrev pub back_arc_of : LiveEdge → ℕ × ℕ
 back_arc_of e = (e.to, e.from)
+
+-- the one or the other
+abbrev pub turned_arc : Bool → LiveEdge → ℕ × ℕ
+turned_arc false = arc_of
+turned_arc true = back_arc_of

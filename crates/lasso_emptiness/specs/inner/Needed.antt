@@ -1,5 +1,5 @@
 -- Edges that a closed path has to pass for a condition to be met.
-use Rattle.std.specs.Prelude.{◌≡◌, ◌⊎◌, ◌++◌, ◌∷◌, [], ℕ, ◌<◌, Bool, true, false, List, All, Contains, length, map}
+use Rattle.std.specs.Prelude.{◌≡◌, ◌⊎◌, ◌++◌, ◌∷◌, [], ℕ, ◌<◌, Bool, true, false, List, All, Contains, Some, length, map, slice_get}
 use Rattle.std.specs.List.{list_all, list_any}
 use Rattle.aut_base.specs.Formula.{FormulaTree, met}
 use Rattle.aut_core.specs.declared.link.Link.{Link}
@@ -19,8 +19,9 @@ Serves links edges f = Suits links edges (λ marks. met marks f ≡ true)
 abbrev pub ServesAll : List Link → List LiveEdge → List FormulaTree → List LiveEdge → List LiveEdge → Type 0
 ServesAll links edges fs = Suits links edges (λ marks. list_all (met marks) fs ≡ true)
 
-abbrev pub ServesOne : List Link → List LiveEdge → List FormulaTree → List LiveEdge → List LiveEdge → Type 0
-ServesOne links edges fs = Suits links edges (λ marks. list_any (met marks) fs ≡ true)
+-- one of these parts
+abbrev pub IsPart : List FormulaTree → FormulaTree → Type 0
+IsPart fs f = (place : ℕ) × (slice_get fs place ≡ Some f)
 
 -- nothing was added, or no edge was on the side and one was added
 abbrev pub AddsOnce : List Link → ℕ → Bool → List LiveEdge → List LiveEdge → Type 0

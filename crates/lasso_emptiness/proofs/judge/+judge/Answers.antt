@@ -2,7 +2,6 @@ use Rattle.std.proofs.Common.{arith, map, subst, sym}
 use Rattle.aut_base.proofs.lists.Members.{any_at}
 use Rattle.aut_base.specs.Formula.{formula_tree, formula_list}
 use Rattle.aut_base.specs.declared.formula.Formula.{Formula}
-use Rattle.aut_base.proofs.trees.FormulaSizes.{formula_size-at}
 use Rattle.lasso_emptiness.specs.inner.Edges.{marks_of}
 use Rattle.lasso_emptiness.specs.inner.Judged.{IsJudged}
 use Rattle.lasso_emptiness.proofs.conditions.Judgements.{all_never, all_open, all_so_far_more, one_so_far_never, one_so_far_open}
@@ -20,11 +19,6 @@ judge-returns-in-Or t c =
     let cycle = map (marks_of c.args.links.now) c.args.edges.now in
     subst (λ (f : Formula). IsJudged cycle (formula_tree f) c.judge_some.result) (sym c.in-Or.is) (judged-Or cycle c.in-Or.parts c.judge_some.result c.judge_some.ensures)
 
-pub judge_all-judge-requires : goal.judge_all-judge-requires
-judge_all-judge-requires t c =
-    let smaller = formula_size-at (formula_list c.args.parts.now) c.parts.place (formula_tree c.at.result.now) c.at.ensures in
-    (omega arith, c.requires)
-
 pub judge_all-parts-preserved-in-Met : goal.judge_all-parts-preserved-in-Met
 judge_all-parts-preserved-in-Met t c =
     all_so_far_more (map (marks_of c.args.links.now) c.args.edges.now) (formula_list c.args.parts.now) c.parts.place (formula_tree c.at.result.now) c.parts.undecided c.at.ensures
@@ -38,11 +32,6 @@ pub judge_all-parts-preserved : goal.judge_all-parts-preserved
 judge_all-parts-preserved t c =
     all_open (map (marks_of c.args.links.now) c.args.edges.now) (formula_list c.args.parts.now) c.parts.place (formula_tree c.at.result.now) c.in-Open.side c.at.ensures c.in-Open.ensures.0
     c.in-Open.ensures.1
-
-pub judge_some-judge-requires : goal.judge_some-judge-requires
-judge_some-judge-requires t c =
-    let smaller = formula_size-at (formula_list c.args.parts.now) c.parts.place (formula_tree c.at.result.now) c.at.ensures in
-    (omega arith, c.requires)
 
 pub judge_some-returns-in-Met : goal.judge_some-returns-in-Met
 judge_some-returns-in-Met t c =

@@ -1,20 +1,17 @@
 use Rattle.std.proofs.Common.{◌∙◌, List, ap, arith, map, subst, sym}
 use Rattle.std.specs.List.{All, Contains}
 use Rattle.std.specs.Prelude.{OnOk}
-use Rattle.std.proofs.lemmas.Option.{same_Some}
 use Rattle.aut_base.proofs.lists.Members.{all_passes_at}
 use Rattle.aut_base.proofs.Outcomes.{ok_weaker}
 use Rattle.aut_base.specs.Formula.{formula_list, formula_size, formula_tree, met}
 use Rattle.aut_base.specs.declared.formula.Formula.{Formula}
 use Rattle.aut_base.proofs.trees.FormulaSizes.{formula_size-And, formula_size-Or, formula_size-at}
 use Rattle.aut_base.proofs.trees.FormulaTrees.{formula_tree-Fin, formula_tree-True}
-use Rattle.aut_base.proofs.lists.Steps.{any_more}
 use Rattle.acc_forms.proofs.Parts.{met-And, met-Or}
 use Rattle.lasso_emptiness.specs.declared.live.LiveEdge.{LiveEdge}
 use Rattle.lasso_emptiness.specs.inner.Edges.{marks_of, met_along}
-use Rattle.lasso_emptiness.specs.inner.Needed.{Serves, ServesAll, ServesOne}
-use Rattle.lasso_emptiness.proofs.conditions.Judgements.{not_met}
-use Rattle.lasso_emptiness.proofs.conditions.Sufficient.{fin_fewer, serves-And, serves-Or, suits_all_more, suits_one, suits_same}
+use Rattle.lasso_emptiness.specs.inner.Needed.{Serves, ServesAll}
+use Rattle.lasso_emptiness.proofs.conditions.Sufficient.{fin_fewer, serves-And, serves-Or, suits_all_more, suits_same}
 use Rattle.lasso_emptiness.proofs.needed.+needed.Goals as goal
 
 pub add_for_all-add_needed-requires : goal.add_for_all-add_needed-requires
@@ -35,51 +32,26 @@ pub add_for_all-parts-preserved : goal.add_for_all-parts-preserved
 add_for_all-parts-preserved t c =
     suits_all_more c.args.links.now c.args.edges.now (formula_list c.args.parts.now) c.parts.place (formula_tree c.at.result.now) _ _ _ c.at.ensures c.parts.invariant c.in_ok-add_needed.ensures
 
-pub add_for_one-add_needed-requires : goal.add_for_one-add_needed-requires
-add_for_one-add_needed-requires t c =
-    let smaller = formula_size-at (formula_list c.args.parts.now) c.parts.place (formula_tree c.at-in-Met.result.now) c.at-in-Met.ensures in
-    let same = same_Some _ _ (sym c.at.ensures ∙ c.at-in-Met.ensures) in (
-      omega arith,
-      (
-        c.requires.within,
-        (
-          ap (met_along c.args.links.now c.args.edges.now) (sym same)
-              ∙ c.in-Met.ensures,
-          subst (All (Contains c.args.edges.now)) (sym c.parts.invariant.same) c.requires.inside,
-        ),
-      ),
-    )
-
-pub add_for_one-returns-in-Met : goal.add_for_one-returns-in-Met
-add_for_one-returns-in-Met t c =
-    let old = subst (λ (es : List LiveEdge). OnOk c.add_needed.result (Serves c.args.links.now c.args.edges.now (formula_tree c.at-in-Met.result.now) es c.add_needed.new.needed))
-    c.parts.invariant.same c.add_needed.ensures in
-    ok_weaker c.add_needed.result (Serves c.args.links.now c.args.edges.now (formula_tree c.at-in-Met.result.now) c.args.needed.now c.add_needed.new.needed)
-    (ServesOne c.args.links.now c.args.edges.now (formula_list c.args.parts.now) c.args.needed.now c.add_needed.new.needed)
-    (suits_one c.args.links.now c.args.edges.now (formula_list c.args.parts.now) c.parts.place (formula_tree c.at-in-Met.result.now) c.args.needed.now c.add_needed.new.needed c.at-in-Met.ensures)
-    old
-
-pub add_for_one-parts-preserved : goal.add_for_one-parts-preserved
-add_for_one-parts-preserved t c =
-    let cycle = map (marks_of c.args.links.now) c.args.edges.now in
-    let part = formula_tree c.at.result.now in
-    record {
-      same = c.parts.invariant.same;
-      none_met = any_more (met cycle) (formula_list c.args.parts.now) c.parts.place part c.at.ensures c.parts.invariant.none_met
-          (not_met cycle part c.judge.result c.judge.ensures c.in_default.not-Met);
-    }
-
 pub add_needed-add_for_all-requires : goal.add_needed-add_for_all-requires
 add_needed-add_for_all-requires t c =
     let smaller = ap (λ (f : Formula). formula_size (formula_tree f)) c.in-And.is ∙ formula_size-And c.in-And.parts in
     let parts = sym (ap (λ (f : Formula). met_along c.args.links.now c.args.edges.now (formula_tree f)) c.in-And.is ∙ met-And (map (marks_of c.args.links.now) c.args.edges.now) c.in-And.parts) in
     (omega arith, (c.requires.within, (parts ∙ c.requires.met, c.requires.inside)))
 
-pub add_needed-add_for_one-requires : goal.add_needed-add_for_one-requires
-add_needed-add_for_one-requires t c =
-    let smaller = ap (λ (f : Formula). formula_size (formula_tree f)) c.in-Or.is ∙ formula_size-Or c.in-Or.parts in
-    let parts = sym (ap (λ (f : Formula). met_along c.args.links.now c.args.edges.now (formula_tree f)) c.in-Or.is ∙ met-Or (map (marks_of c.args.links.now) c.args.edges.now) c.in-Or.parts) in
-    (omega arith, (c.requires.within, (parts ∙ c.requires.met, c.requires.inside)))
+pub add_needed-met_part-requires : goal.add_needed-met_part-requires
+add_needed-met_part-requires t c =
+    record {
+      within = c.requires.within;
+      met = sym (ap (λ (f : Formula). met_along c.args.links.now c.args.edges.now (formula_tree f)) c.in-Or.is ∙ met-Or (map (marks_of c.args.links.now) c.args.edges.now) c.in-Or.parts)
+          ∙ c.requires.met;
+    }
+
+pub add_needed-add_needed-requires : goal.add_needed-add_needed-requires
+add_needed-add_needed-requires t c =
+    let whole = ap (λ (f : Formula). formula_size (formula_tree f)) c.in-Or.is ∙ formula_size-Or c.in-Or.parts in
+    let part = c.met_part.ensures.part in
+    let smaller = formula_size-at (formula_list c.in-Or.parts) part.0 (formula_tree c.met_part.result.now) part.1 in
+    (omega arith, (c.requires.within, (c.met_part.ensures.met, c.requires.inside)))
 
 pub add_needed-returns-in-True : goal.add_needed-returns-in-True
 add_needed-returns-in-True t c =
@@ -107,8 +79,8 @@ pub add_needed-returns-in-Or : goal.add_needed-returns-in-Or
 add_needed-returns-in-Or t c =
     let links = c.args.links.now in
     let edges = c.args.edges.now in
-    ok_weaker c.add_for_one.result (ServesOne links edges (formula_list c.in-Or.parts) c.args.needed.now c.add_for_one.new.needed)
-    (Serves links edges (formula_tree c.args.condition.now) c.args.needed.now c.add_for_one.new.needed)
-    (λ parts. subst (λ (f : Formula). Serves links edges (formula_tree f) c.args.needed.now c.add_for_one.new.needed) (sym c.in-Or.is)
-    (serves-Or links edges c.in-Or.parts c.args.needed.now c.add_for_one.new.needed parts))
-    c.add_for_one.ensures
+    let part = formula_tree c.met_part.result.now in
+    ok_weaker c.add_needed.result (Serves links edges part c.args.needed.now c.add_needed.new.needed) (Serves links edges (formula_tree c.args.condition.now) c.args.needed.now c.add_needed.new.needed)
+    (λ served. subst (λ (f : Formula). Serves links edges (formula_tree f) c.args.needed.now c.add_needed.new.needed) (sym c.in-Or.is)
+    (serves-Or links edges c.in-Or.parts part c.args.needed.now c.add_needed.new.needed c.met_part.ensures.part served))
+    c.add_needed.ensures

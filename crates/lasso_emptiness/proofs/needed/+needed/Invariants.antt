@@ -1,8 +1,7 @@
--- Each part is smaller than the whole; the parts so far have what they need, or none so far is met.
-use Rattle.std.proofs.Common.{◌≡◌, ◌+◌, ◌*◌, true, drop, map, take}
-use Rattle.std.specs.List.{list_all, list_any}
+-- Each part is smaller than the whole; the parts so far have what they need.
+use Rattle.std.proofs.Common.{◌≡◌, ◌+◌, ◌*◌, true, take}
+use Rattle.std.specs.List.{list_all}
 use Rattle.aut_base.specs.Formula.{formula_tree, formula_list, formula_size, formulas_size, met, trees}
-use Rattle.lasso_emptiness.specs.inner.Edges.{marks_of}
 use Rattle.lasso_emptiness.specs.inner.Needed.{Suits}
 use Rattle.lasso_emptiness.proofs.needed.+needed.Given as goal
 
@@ -12,14 +11,5 @@ decreases-add_needed l = 2 * formula_size (formula_tree l.condition.now)
 abbrev pub decreases-add_for_all : goal.decreases-add_for_all
 decreases-add_for_all l = 2 * formulas_size (trees (formula_list l.parts.now)) + 1
 
-abbrev pub decreases-add_for_one : goal.decreases-add_for_one
-decreases-add_for_one l = 2 * formulas_size (trees (formula_list l.parts.now)) + 1
-
 abbrev pub invariant-add_for_all-parts : goal.invariant-add_for_all-parts
 invariant-add_for_all-parts l = Suits l.links l.edges (λ marks. list_all (met marks) (take l.place (formula_list l.parts)) ≡ true) l.fn.needed l.needed
-
-abbrev pub invariant-add_for_one-parts : goal.invariant-add_for_one-parts
-invariant-add_for_one-parts l = record {
-  same : l.needed ≡ l.fn.needed;
-  none_met : list_any (met (map (marks_of l.links) l.edges)) (drop l.place (formula_list l.parts)) ≡ list_any (met (map (marks_of l.links) l.edges)) (formula_list l.parts);
-}

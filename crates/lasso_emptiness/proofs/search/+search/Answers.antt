@@ -1,4 +1,4 @@
-use Rattle.std.proofs.Common.{◌<◌, List, ap, arith, false, length, subst, sym, true}
+use Rattle.std.proofs.Common.{◌<◌, List, arith, false, length, subst, sym, true}
 use Rattle.std.specs.List.{All, Contains}
 use Rattle.std.proofs.lemmas.List.Elements.{All-contains}
 use Rattle.std.proofs.lemmas.Result.{IfOk-weaker}
@@ -9,10 +9,9 @@ use Rattle.lasso_emptiness.specs.declared.live.LiveEdge.{LiveEdge}
 use Rattle.lasso_emptiness.specs.inner.Carriers.{Finds, FindsInAny, IsCarrier}
 use Rattle.lasso_emptiness.specs.inner.Edges.{IsWithin}
 use Rattle.lasso_emptiness.specs.inner.Groups.{IsJoined}
-use Rattle.lasso_emptiness.specs.inner.Judged.{fins}
 use Rattle.lasso_emptiness.specs.inner.Splits.{IsSurveyed}
 use Rattle.lasso_emptiness.specs.inner.Trails.{NoneAccepting}
-use Rattle.lasso_emptiness.proofs.conditions.Conditions.{fins-taken}
+use Rattle.lasso_emptiness.proofs.conditions.Conditions.{taken_fewer}
 use Rattle.lasso_emptiness.proofs.components.Searching.{finds_of_groups, finds_of_split, found_off, within_all}
 use Rattle.lasso_emptiness.proofs.search.+search.Goals as goal
 
@@ -44,10 +43,8 @@ search_in-divide-requires t c =
 
 pub search_in-search-requires : goal.search_in-search-requires
 search_in-search-requires t c =
-    let f = formula_tree c.args.condition.now in
-    let said = subst (IsSurveyed c.args.links.now c.args.groups.items f) c.in-Open.is c.in_ok-group.ensures in
-    let fewer = fins-taken c.in-Open.side.set c.in-Open.side.neg true f said.0 in
-    let same = ap fins c.in_ok-holds-in-Open.ensures in
+    let said = subst (IsSurveyed c.args.links.now c.args.groups.items (formula_tree c.args.condition.now)) c.in-Open.is c.in_ok-group.ensures in
+    let fewer = taken_fewer c.in-Open.side.set c.in-Open.side.neg true (formula_tree c.args.condition.now) _ c.in_ok-holds-in-Open.ensures said.0 in
     let Within = IsWithin (length c.args.links.now) c.args.states in (
       omega arith,
       subst (All Within) (sym c.as_slice.ensures) (each_there Within c.in_ok-parts-in-Open.parts.off (λ e here.
@@ -71,10 +68,8 @@ search_in-returns-in-Some t c =
 
 pub search_in-search_in-requires : goal.search_in-search_in-requires
 search_in-search_in-requires t c =
-    let f = formula_tree c.args.condition.now in
-    let said = subst (IsSurveyed c.args.links.now c.args.groups.items f) c.in-Open.is c.in_ok-group.ensures in
-    let fewer = fins-taken c.in-Open.side.set c.in-Open.side.neg false f said.0 in
-    let same = ap fins c.in_ok-fails-in-Open.ensures in
+    let said = subst (IsSurveyed c.args.links.now c.args.groups.items (formula_tree c.args.condition.now)) c.in-Open.is c.in_ok-group.ensures in
+    let fewer = taken_fewer c.in-Open.side.set c.in-Open.side.neg false (formula_tree c.args.condition.now) _ c.in_ok-fails-in-Open.ensures said.0 in
     let Within = IsWithin (length c.args.links.now) c.args.states in
     let crossed = c.in_ok-parts-in-Open.parts.crossed.items in (
       omega arith,

@@ -1,6 +1,5 @@
 use Rattle.std.proofs.Common.{◌∙◌, ap, sym, arith}
 use Rattle.aut_base.specs.Formula.{formula_tree, formula_list}
-use Rattle.aut_base.proofs.trees.FormulaSizes.{formula_size-at}
 use Rattle.aut_base.proofs.lists.Steps.{map_more}
 use Rattle.lasso_emptiness.specs.inner.Taken.{taken}
 use Rattle.lasso_emptiness.proofs.conditions.Parts.{taken-And, taken-Or}
@@ -15,11 +14,6 @@ pub take-returns-in_ok-take_parts-in-Or : goal.take-returns-in_ok-take_parts-in-
 take-returns-in_ok-take_parts-in-Or t c =
     taken-Or c.args.side.set c.args.side.neg c.args.value c.in-Or.parts c.in_ok-take_parts-in-Or.field-0 c.in_ok-take_parts-in-Or.ensures
     ∙ sym (ap (λ f. taken c.args.side.set c.args.side.neg c.args.value (formula_tree f)) c.in-Or.is)
-
-pub take_parts-take-requires-in-parts : goal.take_parts-take-requires-in-parts
-take_parts-take-requires-in-parts t c =
-    let smaller = formula_size-at (formula_list c.args.parts.now) c.parts.place (formula_tree c.at-in-parts.result.now) c.at-in-parts.ensures in
-    (omega arith, tt)
 
 pub take_parts-parts-preserved : goal.take_parts-parts-preserved
 take_parts-parts-preserved t c =
