@@ -4,18 +4,23 @@ use Rattle.std.specs.Prelude.{◌≤◌, codes, length}
 use Rattle.clap.specs.Words.{Row}
 use Rattle.filter_plan.specs.Hiding.{IsHidden}
 use Rattle.filter_plan.specs.Numbers.{IsMadeCount, IsNumber}
-use Rattle.filter_plan.specs.Table.{EachGives, Reads, table, values_of}
+use Rattle.filter_plan.specs.Spans.{IsRange}
+use Rattle.filter_plan.specs.Table.{EachGives, IsPattern, Reads, table, values_of}
 use Rattle.filter_plan.specs.declared.plan.Plan.{Plan}
 use Rattle.filter_plan.specs.inner.Forms.{IsForm}
-use Rattle.filter_plan.specs.inner.Given.{operands_of, patterns_of, ranges_of}
-use Rattle.filter_plan.specs.inner.Groups.{AreOperands, ArePatterns, AreRanges, AreSwitches}
+use Rattle.filter_plan.specs.inner.Given.{operands_of}
+use Rattle.filter_plan.specs.inner.Groups.{AreOperands, AreSwitches}
 use Rattle.filter_plan.specs.inner.Outputs.{IsOutput}
 
 -- all kinds together are the table
 pub record AreParts (rows : List Row) (p : Plan) : Type 0 where
-  pub patterns : ArePatterns rows (patterns_of p)
+  pub accept_word : Reads IsPattern (values_of (codes "accept-word") rows) p.accept_word
+  pub reject_word : Reads IsPattern (values_of (codes "reject-word") rows) p.reject_word
   pub operands : AreOperands rows (operands_of p)
-  pub ranges : AreRanges rows (ranges_of p)
+  pub states : Reads IsRange (values_of (codes "states") rows) p.states
+  pub edges : Reads IsRange (values_of (codes "edges") rows) p.edges
+  pub acc_sets : Reads IsRange (values_of (codes "acc-sets") rows) p.acc_sets
+  pub ap : Reads IsRange (values_of (codes "ap") rows) p.ap
   pub remove_ap : Reads IsHidden (values_of (codes "remove-ap") rows) p.remove_ap
   pub form : IsForm rows p.form
   pub output : IsOutput rows p.output
@@ -27,7 +32,8 @@ pub record AreParts (rows : List Row) (p : Plan) : Type 0 where
 pub parts_of_table : (rows : List Row) (p : Plan) → EachGives table rows p → AreParts rows p
 unfolding table
 parts_of_table rows p h = record {
-  patterns = record { accept_word = h.0; reject_word = h.1.0 };
+  accept_word = h.0;
+  reject_word = h.1.0;
   operands = record {
     included_in = h.1.1.1.0;
     equivalent_to = h.1.1.1.1.0;
@@ -36,7 +42,10 @@ parts_of_table rows p h = record {
     product_or = h.1.1.1.1.1.1.1.1.1.1.1.1.1.1.0;
     sum = h.1.1.1.1.1.1.1.1.1.1.1.1.1.1.1.0;
   };
-  ranges = record { states = h.1.1.1.1.1.1.1.1.1.0; edges = h.1.1.1.1.1.1.1.1.1.1.0; acc_sets = h.1.1.1.1.1.1.1.1.1.1.1.0; ap = h.1.1.1.1.1.1.1.1.1.1.1.1.0 };
+  states = h.1.1.1.1.1.1.1.1.1.0;
+  edges = h.1.1.1.1.1.1.1.1.1.1.0;
+  acc_sets = h.1.1.1.1.1.1.1.1.1.1.1.0;
+  ap = h.1.1.1.1.1.1.1.1.1.1.1.1.0;
   remove_ap = h.1.1.1.1.1.1.1.1.1.1.1.1.1.1.1.1.0;
   form = record {
     deterministic = h.1.1.1.1.1.1.1.1.1.1.1.1.1.1.1.1.1.1.1.0;
@@ -70,9 +79,9 @@ parts_of_table rows p h = record {
 pub table_of_parts : (rows : List Row) (p : Plan) → AreParts rows p → EachGives table rows p
 unfolding table
 table_of_parts rows p h = (
-  h.patterns.accept_word,
+  h.accept_word,
   (
-    h.patterns.reject_word,
+    h.reject_word,
     (
       h.switches.is_empty,
       (
@@ -88,13 +97,13 @@ table_of_parts rows p h = (
                 (
                   h.switches.is_unambiguous,
                   (
-                    h.ranges.states,
+                    h.states,
                     (
-                      h.ranges.edges,
+                      h.edges,
                       (
-                        h.ranges.acc_sets,
+                        h.acc_sets,
                         (
-                          h.ranges.ap,
+                          h.ap,
                           (
                             h.operands.product,
                             (
