@@ -23,7 +23,7 @@ use Rattle.aut_base.specs.Marks.{is_in}
 use Rattle.aut_base.specs.Word.{NameSet, copies, nth}
 use Rattle.aut_ops.proofs.following.CycleMarks.{AgreeBelow, AgreeRaised, met_below, met_raised}
 use Rattle.unambiguous.proofs.deciding.Flags.{flagged_first, flagged_second, flagged_top}
-use Rattle.unambiguous.proofs.tracks.Nth.{cycle_item, stem_item}
+use Rattle.aut_base.proofs.words.Spelled.{cycle_letter, stem_letter}
 use Rattle.unambiguous.proofs.tracks.Starts.{places_fix_start}
 use Rattle.unambiguous.proofs.tracks.Tracks.{Run, as_long, later, run_of, some_edges}
 use Rattle.lasso_emptiness.specs.Emptiness.{AcceptsNothing}
@@ -56,13 +56,13 @@ nth_apart xs ys us vs long size apart = elim (or_cases (differ xs ys) (differ us
   | inl first ↦
       (let at = apart_at xs ys long first in
       let within : at.0 < length xs = at.1 in
-      (at.0, λ same. at.2 (sym (stem_item xs us at.0 within) ∙ (same ∙ stem_item ys vs at.0 (omega (arith, within, long))))))
+      (at.0, λ same. at.2 (sym (stem_letter xs us at.0 within) ∙ (same ∙ stem_letter ys vs at.0 (omega (arith, within, long))))))
   | inr second ↦
       (let at = apart_at us vs size second in
       let within : at.0 < length us = at.1 in (
         length xs + at.0,
-        λ same. at.2 (sym (cycle_item xs us 0 at.0 (length xs + at.0) within (omega arith)) ∙
-            (same ∙ cycle_item ys vs 0 at.0 (length xs + at.0) (omega (arith, within, size)) (omega (arith, long)))),
+        λ same. at.2 (sym (cycle_letter xs us 0 at.0 (length xs + at.0) within (omega arith)) ∙
+            (same ∙ cycle_letter ys vs 0 at.0 (length xs + at.0) (omega (arith, within, size)) (omega (arith, long)))),
       ))
 ]
 

@@ -3,7 +3,7 @@ use Rattle.std.proofs.Common.{◌≡◌, ◌∙◌, ℕ, ◌<◌, List, [], ◌�
 use Rattle.std.proofs.lemmas.Option.{same_Some}
 use Rattle.aut_base.specs.Automaton.{Automaton, TreeEdge}
 use Rattle.aut_base.specs.Word.{NameSet, copies, nth}
-use Rattle.unambiguous.proofs.tracks.Nth.{item}
+use Rattle.aut_base.proofs.words.Spelled.{word_letter}
 use Rattle.unambiguous.proofs.tracks.Tracks.{some_edges}
 use Rattle.unambiguous.specs.Laws.{PlacesFixStart}
 use Rattle.unambiguous.specs.Runs.{AcceptingRun, IsTrack}
@@ -19,10 +19,10 @@ module _ (a : Automaton) where
   begins : (p q r : ℕ) (xs ys : List NameSet) (ms ns : List ℕ) → IsTrack a p xs ms q → IsTrack a q ys ns r → 0 < length ns → Begins p ms ns
   begins p q r xs ys ms [] one two some = absurd (omega (arith, some))
   begins p q r xs [] ms (n ∷ ns) one two some = absurd two
-  begins p q r [] (y ∷ ys) [] (n ∷ ns) one two some = record { place = n; edge = two.0; at = two.1; from = one ∙ two.2; is_first = item [] (n ∷ ns) 1 0 some (omega arith) }
+  begins p q r [] (y ∷ ys) [] (n ∷ ns) one two some = record { place = n; edge = two.0; at = two.1; from = one ∙ two.2; is_first = word_letter [] (n ∷ ns) 1 0 some (omega arith) }
   begins p q r [] (y ∷ ys) (m ∷ ms) (n ∷ ns) one two some = absurd one
   begins p q r (x ∷ xs) (y ∷ ys) [] (n ∷ ns) one two some = absurd one
-  begins p q r (x ∷ xs) (y ∷ ys) (m ∷ ms) (n ∷ ns) one two some = record { place = m; edge = one.0; at = one.1; from = one.2; is_first = item (m ∷ ms) (n ∷ ns) 1 0 some (omega arith) }
+  begins p q r (x ∷ xs) (y ∷ ys) (m ∷ ms) (n ∷ ns) one two some = record { place = m; edge = one.0; at = one.1; from = one.2; is_first = word_letter (m ∷ ms) (n ∷ ns) 1 0 some (omega arith) }
 
   begun : (u v : List NameSet) → 0 < length v → (r : AcceptingRun a u v) → Begins r.start r.way r.cycle
   begun u v endless r = begins r.start r.state r.state (u ++ copies r.turns v) (copies r.rounds v) r.way r.cycle r.leads r.returns
