@@ -1,4 +1,4 @@
-use Rattle.std.proofs.Common.{◌≡◌, ◌∙◌, ◌++◌, ◌==◌, ℕ, not, List, Contains, Some, ap, arith, get_or, inl, inr, length, slice_get, subst, sym}
+use Rattle.std.proofs.Common.{◌≡◌, ◌∙◌, ◌++◌, ◌==◌, ◌<◌, ℕ, not, List, Contains, Some, ap, arith, get_or, inl, inr, length, slice_get, subst, sym}
 use Rattle.std.proofs.lemmas.Bool.{cases_lt}
 use Rattle.std.proofs.lemmas.List.{get_or_default}
 use Rattle.std.proofs.lemmas.Option.{same_Some, slice_get_within}
@@ -11,19 +11,19 @@ use Rattle.unambiguous.proofs.exploration.list_row.Goals.{At-starts}
 use Rattle.unambiguous.proofs.exploration.list_row.Goals as goal
 
 -- the start at this place
-here : (c : At-starts) → slice_get c.args.a.now.starts c.starts.second-index ≡ Some (get_or c.as_slice-second-items.result.now c.starts.second-index 0)
-here c =
+here : (c : At-starts) → c.starts.second-index < length c.as_slice-second-items.result.now → slice_get c.args.a.now.starts c.starts.second-index ≡ Some (get_or c.as_slice-second-items.result.now c.starts.second-index 0)
+here c within =
     let items = c.as_slice-second-items.result.now in
     let i = c.starts.second-index in
     ap (λ (ls : List ℕ). slice_get ls i) (sym (c.as_slice-second-items.ensures ∙ c.starts-starts.ensures))
-    ∙ slice_get-at items i (get_or items i 0) c.starts-test.true (get_or_default items i 0 (get_or items i 0) c.starts-test.true)
+    ∙ slice_get-at items i (get_or items i 0) within (get_or_default items i 0 (get_or items i 0) within)
 
 pub returns-in_err-number-clause-many : goal.returns-in_err-number-clause-many
 returns-in_err-number-clause-many c is =
     let items = c.as_slice-second-items.result.now in
     let i = c.starts.second-index in
     let q : ℕ = get_or items i 0 in
-    let at = here (goal.at.returns-in_err-number-clause-many c).At-starts in
+    let at = here (goal.at.returns-in_err-number-clause-many c).At-starts c.starts-test.true in
     beyond c.args.a.now c.whole.ensures c.starts.square 0 (c.args.first, q) c.starts.invariant.sound
     (start_reached c.args.a.now c.whole.ensures c.args.first q c.requires.start (placed_there c.args.a.now.starts i q at))
     (c.in_err-number.ensures.many (passed_on c.from_residual.result _ _ c.from_residual.ensures.1 is))
@@ -33,7 +33,7 @@ starts-preserved c =
     let items = c.as_slice-second-items.result.now in
     let i = c.starts.second-index in
     let q : ℕ = get_or items i 0 in
-    let at = here (goal.at.starts-preserved c).At-starts in
+    let at = here (goal.at.starts-preserved c).At-starts c.starts-test.true in
     let old = c.starts.invariant in
     let ok = c.in_ok-number.ensures in
     let s = c.starts.square in
