@@ -24,6 +24,8 @@ pub enum Fault {
     SameName,
     /// The number of the last run is below that of the first.
     NoRun,
+    /// A call failed that should not.
+    Failed,
 }
 
 /// Where reading or running the rows ended before the last. Lines are counted from 1.

@@ -3,6 +3,7 @@
 ghost use Rattle.std.specs.Prelude.{◌<◌};
 
 use aut_base::Memory;
+use row_files::Sequence;
 use safra_trees::{Move, Moves};
 use std::alloc::Global;
 
@@ -51,30 +52,6 @@ pub(crate) fn every_letter(alloc: Global, states: u32) -> Result<Vec<Moves>, Mem
         letters.push(moves_by_digits(alloc, states, number)?)?;
     }
     Ok(letters)
-}
-
-/// Numbers that follow one another by a rule (a linear congruential generator).
-#[derive(Clone, Copy)]
-pub(crate) struct Sequence {
-    last: u32,
-}
-
-impl Sequence {
-    pub(crate) fn new(first: u32) -> Sequence {
-        Sequence { last: first }
-    }
-
-    /// The next number, below a bound that is not 0.
-    pub(crate) fn next(&mut self, bound: u32) -> u32
-        requires { 0 < bound }
-        ensures { result < bound }
-    {
-        self.last = self
-            .last
-            .wrapping_mul(1_664_525)
-            .wrapping_add(1_013_904_223);
-        (self.last >> 8) % bound
-    }
 }
 
 /// Moves that a sequence gives, each of the pairs with one chance in three.

@@ -3,11 +3,11 @@
 ghost use Rattle.std.specs.Prelude.{◌<◌, All, IsTrue};
 ghost use Rattle.safra_trees.specs.Events.{IsWithin};
 
-use crate::Stop;
-use crate::automata::{Sequence, every_letter, moves_by_chance};
+use crate::automata::{every_letter, moves_by_chance};
 use crate::plain::{PlainNode, is_set, plain_start, plain_step};
 use crate::stored::is_stored;
 use aut_base::Numbers;
+use row_files::{Fault, Sequence};
 use safra_trees::{Event, Move, Moves, Room, SafraTree, TreeFault, start, step};
 use std::alloc::Global;
 
@@ -54,7 +54,7 @@ struct Stepped {
 
 /// Every tree that so few states can have, stepped under every letter there can be among them. So every step is here that
 /// an automaton of so many states takes, however many letters it has. Answers how many trees there are, too.
-pub(crate) fn all_of(alloc: Global, states: u32, tally: &mut Tally) -> Result<usize, Stop> {
+pub(crate) fn all_of(alloc: Global, states: u32, tally: &mut Tally) -> Result<usize, Fault> {
     let letters = every_letter(alloc, states)?;
     let mut pairs = Vec::new(alloc);
     pairs.push(first(alloc, states)?)?;
@@ -70,7 +70,7 @@ pub(crate) fn all_of(alloc: Global, states: u32, tally: &mut Tally) -> Result<us
 }
 
 /// Automata of one to eight states by chance, and of each a walk.
-pub(crate) fn by_chance(alloc: Global) -> Result<Tally, Stop> {
+pub(crate) fn by_chance(alloc: Global) -> Result<Tally, Fault> {
     let mut tally = Tally::new();
     let mut sequence = Sequence::new(1);
     for _ in 0..400 {
@@ -92,12 +92,12 @@ fn visit(
     place: usize,
     moves: &Moves,
     tally: &mut Tally,
-) -> Result<(), Stop> {
+) -> Result<(), Fault> {
     let Some(pair) = pairs.get(place) else {
-        return Err(Stop::Row);
+        return Err(Fault::Failed);
     };
     let Some(stepped) = both(alloc, states, pair, moves)? else {
-        return Err(Stop::Row);
+        return Err(Fault::Failed);
     };
     tally.add(stepped.agrees && are_alike(pairs, &stepped.pair));
     if is_new(pairs, &stepped.pair) {
@@ -113,7 +113,7 @@ fn walk(
     letters: &[Moves],
     sequence: &mut Sequence,
     tally: &mut Tally,
-) -> Result<(), Stop> {
+) -> Result<(), Fault> {
     let mut pairs = Vec::new(alloc);
     let mut pair = first(alloc, states)?;
     for _ in 0..50 {
@@ -131,7 +131,7 @@ fn walk(
     Ok(())
 }
 
-fn first(alloc: Global, states: u32) -> Result<Pair, Stop> {
+fn first(alloc: Global, states: u32) -> Result<Pair, Fault> {
     let mut starts = Numbers::new(alloc);
     if states > 0 {
         starts.push(0)?;
@@ -142,23 +142,23 @@ fn first(alloc: Global, states: u32) -> Result<Pair, Stop> {
     })
 }
 
-/// The first tree, or `Stop::Row` where a start is no state.
-pub(crate) fn started(alloc: Global, states: u32, starts: &Numbers) -> Result<SafraTree, Stop> {
+/// The first tree, or `Fault::Failed` where a start is no state.
+pub(crate) fn started(alloc: Global, states: u32, starts: &Numbers) -> Result<SafraTree, Fault> {
     if !are_states(states, starts.as_slice()) {
-        return Err(Stop::Row);
+        return Err(Fault::Failed);
     }
     Ok(start(alloc, states, starts)?)
 }
 
-/// The step, or `Stop::Row` where an end of a move is no state.
+/// The step, or `Fault::Failed` where an end of a move is no state.
 pub(crate) fn next_tree(
     alloc: Global,
     states: u32,
     tree: &SafraTree,
     moves: &Moves,
-) -> Result<Result<(SafraTree, Event), TreeFault>, Stop> {
+) -> Result<Result<(SafraTree, Event), TreeFault>, Fault> {
     if !are_states(states, tree.root_states()) || !are_within(states, moves.as_slice()) {
-        return Err(Stop::Row);
+        return Err(Fault::Failed);
     }
     Ok(step(alloc, states, tree, moves, &mut Room::new(alloc)))
 }
@@ -188,7 +188,7 @@ fn are_within(states: u32, moves: &[Move]) -> bool
 }
 
 /// The step of a tree and of the plain one, and whether they agree; none where there are too many nodes.
-fn both(alloc: Global, states: u32, pair: &Pair, moves: &Moves) -> Result<Option<Stepped>, Stop> {
+fn both(alloc: Global, states: u32, pair: &Pair, moves: &Moves) -> Result<Option<Stepped>, Fault> {
     match next_tree(alloc, states, &pair.tree, moves)? {
         Ok((tree, event)) => {
             let told = plain_step(alloc, &pair.plain, moves.as_slice())?;
@@ -204,7 +204,7 @@ fn both(alloc: Global, states: u32, pair: &Pair, moves: &Moves) -> Result<Option
             Ok(Some(Stepped { pair, agrees }))
         }
         Err(TreeFault::Nodes) => Ok(None),
-        Err(TreeFault::Memory) => Err(Stop::Memory),
+        Err(TreeFault::Memory) => Err(Fault::Memory),
     }
 }
 

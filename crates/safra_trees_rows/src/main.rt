@@ -9,44 +9,9 @@ mod stored;
 mod worked;
 
 use crate::compared::Tally;
-use aut_base::Memory;
-use std::alloc::{AllocError, AllocFailed};
-use std::io;
+use row_files::Fault;
 
-/// Why a run ended early.
-#[derive(Debug, Drop)]
-pub(crate) enum Stop {
-    Io(io::Error),
-    Memory,
-    /// A row that makes no automaton.
-    Row,
-}
-
-impl From<io::Error> for Stop {
-    fn from(error: io::Error) -> Stop {
-        Stop::Io(error)
-    }
-}
-
-impl From<Memory> for Stop {
-    fn from(_want: Memory) -> Stop {
-        Stop::Memory
-    }
-}
-
-impl From<AllocError> for Stop {
-    fn from(_want: AllocError) -> Stop {
-        Stop::Memory
-    }
-}
-
-impl<T: Drop> From<AllocFailed<T>> for Stop {
-    fn from(_want: AllocFailed<T>) -> Stop {
-        Stop::Memory
-    }
-}
-
-fn main(rt: HostRuntime) -> Result<(), Stop> {
+fn main(rt: HostRuntime) -> Result<(), Fault> {
     let alloc = rt.alloc();
     let mut small = Tally::new();
     let one = compared::all_of(alloc, 1, &mut small)?;

@@ -1,8 +1,8 @@
 //! Plain trees as `safra_trees` stores its trees.
 
-use crate::Stop;
 use crate::plain::{PlainNode, is_set};
 use aut_base::Numbers;
+use row_files::Fault;
 use safra_trees::SafraTree;
 use std::alloc::Global;
 
@@ -19,14 +19,14 @@ pub(crate) fn is_stored(
     alloc: Global,
     tree: &SafraTree,
     plain: &[PlainNode],
-) -> Result<bool, Stop> {
+) -> Result<bool, Fault> {
     let expected = stored(alloc, plain)?;
     let text = format!(in alloc; "{expected:?}")?;
     let found = format!(in alloc; "{tree:?}")?;
     Ok(found.strip_prefix("Safra") == text.strip_prefix("Stored"))
 }
 
-fn stored(alloc: Global, plain: &[PlainNode]) -> Result<StoredTree, Stop> {
+fn stored(alloc: Global, plain: &[PlainNode]) -> Result<StoredTree, Fault> {
     let mut parents = Numbers::new(alloc);
     let mut states = Numbers::new(alloc);
     let mut places = Numbers::new(alloc);

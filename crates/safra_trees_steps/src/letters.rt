@@ -4,9 +4,8 @@ ghost use Rattle.std.specs.Prelude.{◌≡◌, ◌<◌, All, IfOk, OnOk, length}
 ghost use Rattle.safra_trees.specs.Events.{IsWithin};
 ghost use Rattle.safra_trees_steps.specs.declared.letters.TheConstants.{LETTERS, STATES};
 
-use crate::Stop;
-use crate::sequence::Sequence;
 use aut_base::Memory;
+use row_files::{Fault, Sequence};
 use safra_trees::{Move, Moves};
 use std::alloc::Global;
 
@@ -17,7 +16,7 @@ pub(crate) const STATES: u32 = 64;
 pub(crate) const LETTERS: u32 = 64;
 
 /// Letters by chance.
-pub(crate) fn letters(alloc: Global, sequence: &mut Sequence) -> Result<Vec<Moves>, Stop>
+pub(crate) fn letters(alloc: Global, sequence: &mut Sequence) -> Result<Vec<Moves>, Fault>
     ensures count { IfOk result (λ letters. length letters.items ≡ LETTERS) }
     ensures within { IfOk result (λ letters. All (λ letter. All (IsWithin STATES) letter) letters.items) }
 {

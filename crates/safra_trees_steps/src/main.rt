@@ -4,60 +4,12 @@
 #![tactic(auto)]
 
 mod letters;
-mod sequence;
 mod walk;
 
 use crate::letters::letters;
-use crate::sequence::Sequence;
 use crate::walk::walk;
-use aut_base::Memory;
-use safra_trees::TreeFault;
-use std::alloc::{AllocError, AllocFailed, Global};
-use std::{env, io};
-
-/// Why a run ended early.
-#[derive(Debug, Drop)]
-pub(crate) enum Stop {
-    Io(io::Error),
-    Memory,
-    /// A tree of more than 100 nodes, which 64 states can't have.
-    Nodes,
-    /// The arguments are not two numbers.
-    Arguments,
-}
-
-impl From<io::Error> for Stop {
-    fn from(error: io::Error) -> Stop {
-        Stop::Io(error)
-    }
-}
-
-impl From<Memory> for Stop {
-    fn from(_want: Memory) -> Stop {
-        Stop::Memory
-    }
-}
-
-impl From<AllocError> for Stop {
-    fn from(_want: AllocError) -> Stop {
-        Stop::Memory
-    }
-}
-
-impl<T: Drop> From<AllocFailed<T>> for Stop {
-    fn from(_want: AllocFailed<T>) -> Stop {
-        Stop::Memory
-    }
-}
-
-impl From<TreeFault> for Stop {
-    fn from(fault: TreeFault) -> Stop {
-        match fault {
-            TreeFault::Nodes => Stop::Nodes,
-            TreeFault::Memory => Stop::Memory,
-        }
-    }
-}
+use row_files::{Fault, Sequence, number};
+use std::env;
 
 /// What the arguments ask for.
 #[derive(Clone, Copy)]
@@ -66,12 +18,10 @@ struct Asked {
     steps: u32,
 }
 
-fn main(rt: HostRuntime) -> Result<(), Stop> {
+fn main(rt: HostRuntime) -> Result<(), Fault> {
     let alloc = rt.alloc();
     let arguments: Vec<String> = env::args(&rt)?.collect(alloc)?;
-    let Some(asked) = numbers_of(&arguments) else {
-        return Err(Stop::Arguments);
-    };
+    let asked = numbers_of(&arguments)?;
     let mut sequence = Sequence::new(asked.first);
     let letters = letters(alloc, &mut sequence)?;
     let seen = walk(alloc, &letters, &mut sequence, asked.steps)?;
@@ -87,12 +37,12 @@ fn main(rt: HostRuntime) -> Result<(), Stop> {
 }
 
 /// The two numbers behind the program's name.
-fn numbers_of(arguments: &[String]) -> Option<Asked> {
+fn numbers_of(arguments: &[String]) -> Result<Asked, Fault> {
     let [_, first, steps] = arguments else {
-        return None;
+        return Err(Fault::Missing);
     };
-    Some(Asked {
-        first: first.parse::<u32>().ok()?,
-        steps: steps.parse::<u32>().ok()?,
+    Ok(Asked {
+        first: number(first)?,
+        steps: number(steps)?,
     })
 }

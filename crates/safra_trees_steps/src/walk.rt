@@ -6,11 +6,10 @@ ghost use Rattle.safra_trees.specs.Trees.{root_states};
 ghost use Rattle.safra_trees.specs.View.{tree_of};
 ghost use Rattle.safra_trees_steps.specs.declared.letters.TheConstants.{LETTERS, STATES};
 
-use crate::Stop;
 use crate::letters::{LETTERS, STATES, growing_letter};
-use crate::sequence::Sequence;
 use aut_base::Numbers;
-use safra_trees::{Event, Moves, Room, SafraTree, start, step};
+use row_files::{Fault, Sequence};
+use safra_trees::{Event, Moves, Room, SafraTree, TreeFault, start, step};
 use std::alloc::Global;
 
 /// The sizes of the trees that are stepped.
@@ -51,7 +50,7 @@ pub(crate) fn walk(
     letters: &[Moves],
     sequence: &mut Sequence,
     steps: u32,
-) -> Result<Seen, Stop>
+) -> Result<Seen, Fault>
     requires count { length letters.now ≡ LETTERS }
     requires within { All (λ letter. All (IsWithin STATES) letter) letters.now }
 {
@@ -75,7 +74,7 @@ pub(crate) fn walk(
 }
 
 /// The first tree that is stepped: a chain of nodes.
-fn first(alloc: Global) -> Result<Standing, Stop> {
+fn first(alloc: Global) -> Result<Standing, Fault> {
     let mut standing = one_node(alloc)?;
     let moves = growing_letter(alloc)?;
     let mut room = Room::new(alloc);
@@ -86,7 +85,7 @@ fn first(alloc: Global) -> Result<Standing, Stop> {
 }
 
 /// The tree of the first state alone.
-fn one_node(alloc: Global) -> Result<Standing, Stop> {
+fn one_node(alloc: Global) -> Result<Standing, Fault> {
     let mut starts = Numbers::new(alloc);
     starts.push(0)?;
     let tree = start(alloc, STATES, &starts)?;
@@ -100,7 +99,7 @@ fn next_by_chance(
     letters: &[Moves],
     sequence: &mut Sequence,
     room: &mut Room,
-) -> Result<(Standing, Event), Stop>
+) -> Result<(Standing, Event), Fault>
     requires count { length letters.now ≡ LETTERS }
     requires within { All (λ letter. All (IsWithin STATES) letter) letters.now }
 {
@@ -114,11 +113,15 @@ fn next(
     standing: &Standing,
     moves: &Moves,
     room: &mut Room,
-) -> Result<(Standing, Event), Stop>
+) -> Result<(Standing, Event), Fault>
     requires { All (IsWithin STATES) moves.now }
 {
-    let (tree, event) = step(alloc, STATES, &standing.tree, moves, room)?;
-    Ok((Standing { tree }, event))
+    match step(alloc, STATES, &standing.tree, moves, room) {
+        Ok((tree, event)) => Ok((Standing { tree }, event)),
+        // 64 states can't have a tree of more than 100 nodes.
+        Err(TreeFault::Nodes) => Err(Fault::Failed),
+        Err(TreeFault::Memory) => Err(Fault::Memory),
+    }
 }
 
 /// Whether trees with so many nodes are stepped.

@@ -4,17 +4,17 @@ ghost use Rattle.std.specs.Prelude.{◌<◌};
 
 /// Numbers that follow one another by a rule (a linear congruential generator).
 #[derive(Clone, Copy)]
-pub(crate) struct Sequence {
+pub struct Sequence {
     last: u32,
 }
 
 impl Sequence {
-    pub(crate) fn new(first: u32) -> Sequence {
+    pub fn new(first: u32) -> Sequence {
         Sequence { last: first }
     }
 
     /// The next number, below a bound that is not 0.
-    pub(crate) fn next(&mut self, bound: u32) -> u32
+    pub fn next(&mut self, bound: u32) -> u32
         requires { 0 < bound }
         ensures { result < bound }
     {
