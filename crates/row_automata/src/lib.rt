@@ -3,7 +3,10 @@
 #![tactic(auto)]
 
 mod build;
+mod labels;
 mod runs;
+mod show;
 
-pub use build::{Written, built, shown};
+pub use build::{Written, automaton, built, first_states, named, read_edges};
 pub use runs::View;
+pub use show::shown;
