@@ -9,6 +9,7 @@ pub struct Sequence {
 }
 
 impl Sequence {
+    /// The numbers that follow this one.
     pub fn new(first: u32) -> Sequence {
         Sequence { last: first }
     }
