@@ -2,12 +2,11 @@
 use Rattle.std.proofs.Common.{◌≡◌, ◌∙◌, ◌+◌, ◌<◌, ◌≤◌, ◌||◌, ℕ, zero, suc, Bool, true, false, cond, [], ◌∷◌, None, Option, Some, ap, arith, inl, inr, leb, length, length-append, ltb, refl}
 use Rattle.std.proofs.Common.{slice_get, subst, sym}
 use Rattle.std.proofs.lemmas.Bool.{leb-false, ltb-false, ltb-true, true≢false}
-use Rattle.std.proofs.lemmas.Option.{none-some, same_Some}
 use Rattle.exploration.proofs.Lists.{new_cases}
 use Rattle.exploration.proofs.Midways.{Held, IsHeld, Midway, all_midway, begun, held_gives, meets_ends, meets_goes}
 use Rattle.exploration.specs.Moves.{Fails, Gives, Lacks, Move}
 use Rattle.exploration.specs.Explorations.{IsMet}
-use Rattle.exploration.specs.Reached.{AreReached, Excess, IsCaused, IsReached, count_of, counts}
+use Rattle.exploration.specs.Reached.{AreReached, Excess, IsCaused, count_of, counts}
 use Rattle.exploration.specs.Turns.{Comes, Ends, Goes, Meets, Rules, Stage, Turn, after, begin, go_on, has_room, stepped, taken, turn, turned, with_new}
 use Rattle.exploration.specs.declared.fault.Fault.{Fault}
 use Rattle.exploration.specs.declared.fault.Fault.TheVariants as fault

@@ -1,9 +1,9 @@
 -- The things in hand, one after another.
-use Rattle.std.proofs.Common.{◌≡◌, ◌∙◌, ◌+◌, ◌-◌, ◌<◌, ◌≤◌, ℕ, zero, suc, Bool, cond, List, [], ◌∷◌, None, Option, Some, ap, arith, get_or, inl, inr, leb, length, map, refl, slice_get, subst, sym}
+use Rattle.std.proofs.Common.{◌≡◌, ◌∙◌, ◌+◌, ◌-◌, ◌<◌, ◌≤◌, ℕ, Bool, cond, List, Option, Some, ap, arith, inl, inr, leb, length, map, refl, slice_get, subst, sym}
 use Rattle.std.proofs.lemmas.Bool.{le-leb, lt-leb}
 use Rattle.std.proofs.lemmas.Option.{same_Some, slice_get_past}
-use Rattle.exploration.proofs.Spreading.{keeps_none, keeps_then}
-use Rattle.exploration.proofs.Turning.{comes_none, comes_then, comes_turn, turn_take}
+use Rattle.exploration.proofs.Spreading.{keeps_then}
+use Rattle.exploration.proofs.Turning.{comes_then, comes_turn, turn_take}
 use Rattle.exploration.specs.Explorations.{IsMet, IsSound, Spreads, arrow_of, rules_of, stage_of}
 use Rattle.exploration.specs.Moves.{AreClasses, Keeps, Moves}
 use Rattle.exploration.specs.Turns.{Comes, Ends, EndsWith, Goes, Meets, Rules, Stage, begin, taken, turn}

@@ -5,7 +5,7 @@ use Rattle.std.proofs.lemmas.List.Elements.{All-push}
 use Rattle.std.proofs.lemmas.Option.{same_Some}
 use Rattle.std.specs.List.{position_or_len}
 use Rattle.exploration.proofs.Lists.{Longer, longer_at, longer_back, longer_none, longer_then, new_all, new_longer}
-use Rattle.exploration.proofs.Turning.{comes_none, comes_turn, turn_fails, turn_full, turn_gives, turn_lacks}
+use Rattle.exploration.proofs.Turning.{comes_turn, turn_fails, turn_full, turn_gives, turn_lacks}
 use Rattle.exploration.specs.Explorations.{IsClassed, IsMet, IsSound, Spreads, arrow_of, rules_of, stage_of}
 use Rattle.exploration.specs.Moves.{AreClasses, Fails, Gives, Keeps, Lacks, Moves}
 use Rattle.exploration.specs.Turns.{Arrow, Comes, Goes, Meets, has_room, with_new}
