@@ -20,6 +20,12 @@ pub record PassesLimit (which : Limit) (w : Written) : Type 0 where
   pub valid : IsValid w
   pub passes : PassesFirst count w
 
+-- why there is no answer
+abbrev pub Refuses : ElabFault → Written → Type 0
+Refuses (fault.Invalid rule) w = IsFirstBroken rule w
+Refuses (fault.Limit which) w = PassesLimit which w
+Refuses fault.Memory w = Unit {0}
+
 -- It is valid and within the limits, and this is what it describes.
 pub record IsDescribed (w : Written) (d : Description) : Type 0 where
   pub valid : IsValid w
@@ -29,9 +35,7 @@ pub record IsDescribed (w : Written) (d : Description) : Type 0 where
 
 abbrev pub Elaborates : Result Description ElabFault → Written → Type 0
 Elaborates (Ok d) w = IsDescribed w d
-Elaborates (Err (fault.Invalid rule)) w = IsFirstBroken rule w
-Elaborates (Err (fault.Limit which)) w = PassesLimit which w
-Elaborates (Err fault.Memory) w = Unit {0}
+Elaborates (Err why) w = Refuses why w
 
 -- It is valid and within the limits, and this is what it describes, with each label in its canonical form.
 pub record IsBuilt (w : Written) (a : Automaton) : Type 0 where
@@ -42,6 +46,4 @@ pub record IsBuilt (w : Written) (a : Automaton) : Type 0 where
 
 abbrev pub Builds : Result Core ElabFault → Written → Type 0
 Builds (Ok core) w = IsBuilt w (automaton_of core)
-Builds (Err (fault.Invalid rule)) w = IsFirstBroken rule w
-Builds (Err (fault.Limit which)) w = PassesLimit which w
-Builds (Err fault.Memory) w = Unit {0}
+Builds (Err why) w = Refuses why w

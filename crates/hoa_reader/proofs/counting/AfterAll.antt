@@ -12,6 +12,13 @@ pub after_all-append : (xs ys : List ℕ) → after_all (xs ++ ys) ≡ max (afte
 after_all-append [] ys = omega arith
 after_all-append (x ∷ xs) ys = let rest = after_all-append xs ys in omega (arith, rest)
 
+-- the least number above what is before, with the first part and then with the rest
+pub after_more : (own rest all : List ℕ) (before whole with_own : ℕ) → all ≡ own ++ rest → max before (after_all all) ≡ whole → with_own ≡ max before (after_all own)
+    → max with_own (after_all rest) ≡ whole
+after_more own rest all before whole with_own is so_far now =
+    let parts : after_all all ≡ max (after_all own) (after_all rest) = ap after_all is ∙ after_all-append own rest in
+    omega (arith, parts, so_far, now)
+
 split_test : (x n m : ℕ) (b : Bool) → b ≡ nat_le m n → (nat_lt x n && b) ≡ nat_le (max (x + 1) m) n
 split_test x n m b e = grind (arith, nat_tests)
 

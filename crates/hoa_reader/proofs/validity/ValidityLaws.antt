@@ -2,6 +2,7 @@
 use Rattle.std.proofs.Common.{◌≡◌, ℕ, zero, suc, ◌<◌, List, [], ◌∷◌, take, Some, None, refl, sym, ap, ◌∙◌, subst, arith}
 use Rattle.std.specs.Prelude.{slice_get}
 use Rattle.std.proofs.lemmas.Bool.{false≢true}
+use Rattle.std.proofs.lemmas.Option.{slice_get_within}
 use Rattle.hoa_parser.specs.Raw.{Written}
 use Rattle.hoa_reader.specs.Validity.{AreKept, IsFirstBroken, IsKept, IsValid, place_of, rules}
 use Rattle.hoa_reader.specs.declared.elaborate.Rule.{Rule}
@@ -22,18 +23,7 @@ placed V11 = refl
 placed V12 = refl
 
 before_all : (rule : Rule) → place_of rule < 12
-before_all V1 = omega arith
-before_all V2 = omega arith
-before_all V3 = omega arith
-before_all V4 = omega arith
-before_all V5 = omega arith
-before_all V6 = omega arith
-before_all V7 = omega arith
-before_all V8 = omega arith
-before_all V9 = omega arith
-before_all V10 = omega arith
-before_all V11 = omega arith
-before_all V12 = omega arith
+before_all rule = slice_get_within rules (place_of rule) rule (placed rule)
 
 -- the rule at a place before is kept
 kept_at : (rs : List Rule) (k n : ℕ) (rule : Rule) (w : Written) → k < n → slice_get rs k ≡ Some rule → AreKept (take n rs) w → IsKept rule w

@@ -4,10 +4,9 @@ use Rattle.aut_base.specs.Formula.{formula_tree}
 use Rattle.hoa_parser.specs.Raw.{Written}
 use Rattle.hoa_reader.specs.Counts.{PassesNone}
 use Rattle.hoa_reader.specs.Described.{meanings_of, starts_of, state_count}
-use Rattle.hoa_reader.specs.Elaborating.{PassesLimit}
-use Rattle.hoa_reader.specs.Validity.{IsFirstBroken, IsValid, acceptance_of, names_of}
+use Rattle.hoa_reader.specs.Elaborating.{Refuses}
+use Rattle.hoa_reader.specs.Validity.{IsValid, acceptance_of, names_of}
 use Rattle.hoa_reader.specs.declared.elaborate.ElabFault.{ElabFault}
-use Rattle.hoa_reader.specs.declared.elaborate.ElabFault.TheVariants as fault
 use Rattle.hoa_reader.specs.declared.elaborate.examined.Examined.{Examined}
 use Rattle.hoa_reader.specs.declared.elaborate.frame.Frame.{Frame}
 use Rattle.hoa_reader.specs.inner.Gathered.{ArePartsOf}
@@ -23,9 +22,7 @@ pub record IsExamined (w : Written) (e : Examined) : Type 0 where
 
 abbrev pub Examines : Result Examined ElabFault → Written → Type 0
 Examines (Ok e) w = IsExamined w e
-Examines (Err (fault.Invalid rule)) w = IsFirstBroken rule w
-Examines (Err (fault.Limit which)) w = PassesLimit which w
-Examines (Err fault.Memory) w = Unit {0}
+Examines (Err why) w = Refuses why w
 
 -- all that is described but for the edges, and what these share
 pub record IsFrameOf (w : Written) (f : Frame) : Type 0 where

@@ -15,35 +15,37 @@ use Rattle.hoa_reader.specs.declared.elaborate.places.Places.{Places}
 abbrev pub cap : ℕ → ℕ
 cap n = min n (2 ^ 64 - 1)
 
--- by the height of each alias
+-- by that of each alias, and that of two parts by those of each
 abbrev mutual
-  pub capped_height : (List ℕ → ℕ) → RawTree → ℕ
-  capped_height alias raw.True = 1
-  capped_height alias raw.False = 1
-  capped_height alias (raw.Prop i) = 1
-  capped_height alias (raw.Alias name) = alias name
-  capped_height alias (raw.Not t) = cap (capped_height alias t + 1)
-  capped_height alias (raw.And a b cs) = cap (max (capped_height alias a) (max (capped_height alias b) (capped_heights alias cs)) + 1)
-  capped_height alias (raw.Or a b cs) = cap (max (capped_height alias a) (max (capped_height alias b) (capped_heights alias cs)) + 1)
+  pub capped : (ℕ → ℕ → ℕ) → (List ℕ → ℕ) → RawTree → ℕ
+  capped both alias raw.True = 1
+  capped both alias raw.False = 1
+  capped both alias (raw.Prop i) = 1
+  capped both alias (raw.Alias name) = alias name
+  capped both alias (raw.Not t) = cap (capped both alias t + 1)
+  capped both alias (raw.And a b cs) = cap (both (capped both alias a) (both (capped both alias b) (all_capped both alias cs)) + 1)
+  capped both alias (raw.Or a b cs) = cap (both (capped both alias a) (both (capped both alias b) (all_capped both alias cs)) + 1)
 
-  pub capped_heights : (List ℕ → ℕ) → RawTrees → ℕ
-  capped_heights alias raw.none = 0
-  capped_heights alias (raw.more t ts) = max (capped_height alias t) (capped_heights alias ts)
+  pub all_capped : (ℕ → ℕ → ℕ) → (List ℕ → ℕ) → RawTrees → ℕ
+  all_capped both alias raw.none = 0
+  all_capped both alias (raw.more t ts) = both (capped both alias t) (all_capped both alias ts)
 
--- by the size of each alias
-abbrev mutual
-  pub capped_size : (List ℕ → ℕ) → RawTree → ℕ
-  capped_size alias raw.True = 1
-  capped_size alias raw.False = 1
-  capped_size alias (raw.Prop i) = 1
-  capped_size alias (raw.Alias name) = alias name
-  capped_size alias (raw.Not t) = cap (capped_size alias t + 1)
-  capped_size alias (raw.And a b cs) = cap (cap (capped_size alias a + cap (capped_size alias b + capped_sizes alias cs)) + 1)
-  capped_size alias (raw.Or a b cs) = cap (cap (capped_size alias a + cap (capped_size alias b + capped_sizes alias cs)) + 1)
+-- the height of the taller
+abbrev pub capped_height : (List ℕ → ℕ) → RawTree → ℕ
+capped_height = capped max
 
-  pub capped_sizes : (List ℕ → ℕ) → RawTrees → ℕ
-  capped_sizes alias raw.none = 0
-  capped_sizes alias (raw.more t ts) = cap (capped_size alias t + capped_sizes alias ts)
+abbrev pub capped_heights : (List ℕ → ℕ) → RawTrees → ℕ
+capped_heights = all_capped max
+
+-- the size of both together
+abbrev pub capped_sum : ℕ → ℕ → ℕ
+capped_sum a b = cap (a + b)
+
+abbrev pub capped_size : (List ℕ → ℕ) → RawTree → ℕ
+capped_size = capped capped_sum
+
+abbrev pub capped_sizes : (List ℕ → ℕ) → RawTrees → ℕ
+capped_sizes = all_capped capped_sum
 
 -- what is known of an alias; one that isn't defined stands for `f`
 abbrev pub known_height : Option Known → ℕ

@@ -68,6 +68,7 @@ pub(crate) fn acceptance_of(items: &[Item]) -> Option<AcceptanceDef<'_>>
 }
 
 /// The aliases, in order.
+#[tactic(auto, using(std::proofs::lemmas::Grind::common_steps))]
 pub(crate) fn aliases_of(alloc: Global, items: &[Item]) -> Result<Vec<AliasDef<'_>>, Memory>
     ensures { IfOk result (λ defs. map alias_def defs.items ≡ filter_map alias_item (map written_item items.now)) }
 {
@@ -82,6 +83,7 @@ pub(crate) fn aliases_of(alloc: Global, items: &[Item]) -> Result<Vec<AliasDef<'
 }
 
 /// What the `Start:` lines name, in order.
+#[tactic(auto, using(std::proofs::lemmas::Grind::common_steps))]
 pub(crate) fn starts_of(alloc: Global, items: &[Item]) -> Result<Vec<&FewNumbers>, Memory>
     ensures { IfOk result (λ starts. map (λ s. s.now) starts.items ≡ filter_map start_item (map written_item items.now)) }
 {

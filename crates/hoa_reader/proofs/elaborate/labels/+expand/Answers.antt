@@ -3,7 +3,7 @@ use Rattle.std.specs.Global.{Global}
 use Rattle.std.specs.declared.boxed.Box.{Box}
 use Rattle.aut_base.proofs.trees.LabelTrees.{label_tree-False}
 use Rattle.aut_base.specs.Label.{LabelTree, label_list, label_size, label_tree, labels_size}
-use Rattle.hoa_reader.proofs.labels.ExpandedLabels.{and_of, bit_small, or_of, part_size, parts_expanded, size_pos}
+use Rattle.hoa_reader.proofs.labels.ExpandedLabels.{and_of, bit_small, expanded_node, or_of, part_size, size_pos}
 use Rattle.hoa_parser.proofs.grammar.RawTrees.{raw_tree-Alias, raw_tree-And-fields, raw_tree-Or-fields}
 use Rattle.hoa_reader.proofs.labels.Meanings.{meaning_missing}
 use Rattle.hoa_reader.specs.Described.{each_expanded, expanded, meaning_of}
@@ -46,21 +46,15 @@ expand-returns-in-None t c =
 
 pub expand-returns-in_ok-new-in-And : goal.expand-returns-in_ok-new-in-And
 expand-returns-in_ok-new-in-And t c =
-    let ms = meanings_by c.args.defs.now in
-    let p = c.in-And.parts in
-    and_of c.in_ok-new-in-And.field-0 (expanded ms (raw_tree p.value.first)) (expanded ms (raw_tree p.value.second)) (map (λ x. expanded ms (raw_tree x)) p.value.others.items)
-    (ap label_list c.in_ok-new-in-And.ensures.ok ∙ (rw c.deref-in-And.ensures at c.in_ok-parts-in-And.ensures))
-    ∙ ap (LabelTree.And (expanded ms (raw_tree p.value.first)) (expanded ms (raw_tree p.value.second))) (sym (parts_expanded ms p.value.others.items))
-    ∙ sym (ap (λ l. expanded ms (raw_tree l)) c.in-And.is ∙ ap (expanded ms) (raw_tree-And-fields p))
+    expanded_node LabelTree.And (meanings_by c.args.defs.now) c.in-And.parts.value _ _
+    (and_of c.in_ok-new-in-And.field-0 _ _ _ (ap label_list c.in_ok-new-in-And.ensures.ok ∙ (rw c.deref-in-And.ensures at c.in_ok-parts-in-And.ensures)))
+    (ap (λ l. expanded (meanings_by c.args.defs.now) (raw_tree l)) c.in-And.is ∙ ap (expanded (meanings_by c.args.defs.now)) (raw_tree-And-fields c.in-And.parts))
 
 pub expand-returns-in_ok-new-in-Or : goal.expand-returns-in_ok-new-in-Or
 expand-returns-in_ok-new-in-Or t c =
-    let ms = meanings_by c.args.defs.now in
-    let p = c.in-Or.parts in
-    or_of c.in_ok-new-in-Or.field-0 (expanded ms (raw_tree p.value.first)) (expanded ms (raw_tree p.value.second)) (map (λ x. expanded ms (raw_tree x)) p.value.others.items)
-    (ap label_list c.in_ok-new-in-Or.ensures.ok ∙ (rw c.deref-in-Or.ensures at c.in_ok-parts-in-Or.ensures))
-    ∙ ap (LabelTree.Or (expanded ms (raw_tree p.value.first)) (expanded ms (raw_tree p.value.second))) (sym (parts_expanded ms p.value.others.items))
-    ∙ sym (ap (λ l. expanded ms (raw_tree l)) c.in-Or.is ∙ ap (expanded ms) (raw_tree-Or-fields p))
+    expanded_node LabelTree.Or (meanings_by c.args.defs.now) c.in-Or.parts.value _ _
+    (or_of c.in_ok-new-in-Or.field-0 _ _ _ (ap label_list c.in_ok-new-in-Or.ensures.ok ∙ (rw c.deref-in-Or.ensures at c.in_ok-parts-in-Or.ensures)))
+    (ap (λ l. expanded (meanings_by c.args.defs.now) (raw_tree l)) c.in-Or.is ∙ ap (expanded (meanings_by c.args.defs.now)) (raw_tree-Or-fields c.in-Or.parts))
 
 pub expand_parts-expand-requires : goal.expand_parts-expand-requires
 expand_parts-expand-requires t c =

@@ -9,41 +9,37 @@ use Rattle.hoa_reader.specs.Described.{edges_of, state_count}
 use Rattle.hoa_reader.specs.inner.Weighing.{all_edges}
 use Rattle.hoa_parser.specs.declared.raw.RawState.{RawState}
 use Rattle.hoa_reader.proofs.elaborate.limits.first_passed.Goals as goal
+use Rattle.hoa_reader.proofs.elaborate.limits.first_passed.Goals.{After-has_more_edges}
+
+-- what is known once the edges are counted: no limit before theirs is passed
+counted : (c : After-has_more_edges) → (nat_lt MOST_NAMES (length (names_of (written c.args.raw.now))) ≡ false) × (nat_lt MOST_SETS (acceptance_of (written c.args.raw.now)).sets ≡ false)
+    × (nat_lt MOST_STATES (state_count (written c.args.raw.now)) ≡ false) × (c.has_more_edges.result ≡ nat_lt MOST_EDGES (length (edges_of (written c.args.raw.now))))
+counted c =
+    let w = written c.args.raw.now in
+    let names : nat_lt MOST_NAMES (length (names_of w)) ≡ false = ap (λ (ns : List (List ℕ)). nat_lt MOST_NAMES (length ns)) (sym c.requires.parts.names) ∙ grind (arith, nat_tests) in
+    let sets : nat_lt MOST_SETS (acceptance_of w).sets ≡ false = ap (nat_lt MOST_SETS) (sym c.set_count.ensures) ∙ grind (arith, nat_tests) in
+    let states : nat_lt MOST_STATES (state_count w) ≡ false = ap (nat_lt MOST_STATES) (sym c.state_count.ensures) ∙ grind (arith, nat_tests) in
+    let edges : c.has_more_edges.result ≡ nat_lt MOST_EDGES (length (edges_of w)) =
+    c.has_more_edges.ensures ∙ ap (λ (ss : List RawState). nat_lt MOST_EDGES (length (all_edges (map written_state ss)))) c.as_slice.ensures
+    ∙ ap (nat_lt MOST_EDGES) (sym (edge_count w c.requires.below)) in
+    (names, sets, states, edges)
 
 pub returns-then-has_more_edges : goal.returns-then-has_more_edges
 returns-then-has_more_edges c =
-    let w = written c.args.raw.now in
-    let names : nat_lt MOST_NAMES (length (names_of w)) ≡ false = ap (λ (ns : List (List ℕ)). nat_lt MOST_NAMES (length ns)) (sym c.requires.parts.names) ∙ grind (arith, nat_tests) in
-    let sets : nat_lt MOST_SETS (acceptance_of w).sets ≡ false = ap (nat_lt MOST_SETS) (sym c.set_count.ensures) ∙ grind (arith, nat_tests) in
-    let states : nat_lt MOST_STATES (state_count w) ≡ false = ap (nat_lt MOST_STATES) (sym c.state_count.ensures) ∙ grind (arith, nat_tests) in
-    let edges : c.has_more_edges.result ≡ nat_lt MOST_EDGES (length (edges_of w)) =
-    c.has_more_edges.ensures ∙ ap (λ (ss : List RawState). nat_lt MOST_EDGES (length (all_edges (map written_state ss)))) c.as_slice.ensures
-    ∙ ap (nat_lt MOST_EDGES) (sym (edge_count w c.requires.below)) in
-    record { count = Edges; shown = refl; passes = record { passes = sym edges ∙ c.if-has_more_edges.true; earlier = (names, (sets, (states, tt))) } }
+    let at = counted (goal.at.returns-then-has_more_edges c).After-has_more_edges in
+    record { count = Edges; shown = refl; passes = record { passes = sym at.3 ∙ c.if-has_more_edges.true; earlier = (at.0, (at.1, (at.2, tt))) } }
 
 pub returns-then-grow_too_far : goal.returns-then-grow_too_far
 returns-then-grow_too_far c =
-    let w = written c.args.raw.now in
-    let names : nat_lt MOST_NAMES (length (names_of w)) ≡ false = ap (λ (ns : List (List ℕ)). nat_lt MOST_NAMES (length ns)) (sym c.requires.parts.names) ∙ grind (arith, nat_tests) in
-    let sets : nat_lt MOST_SETS (acceptance_of w).sets ≡ false = ap (nat_lt MOST_SETS) (sym c.set_count.ensures) ∙ grind (arith, nat_tests) in
-    let states : nat_lt MOST_STATES (state_count w) ≡ false = ap (nat_lt MOST_STATES) (sym c.state_count.ensures) ∙ grind (arith, nat_tests) in
-    let edges : c.has_more_edges.result ≡ nat_lt MOST_EDGES (length (edges_of w)) =
-    c.has_more_edges.ensures ∙ ap (λ (ss : List RawState). nat_lt MOST_EDGES (length (all_edges (map written_state ss)))) c.as_slice.ensures
-    ∙ ap (nat_lt MOST_EDGES) (sym (edge_count w c.requires.below)) in
+    let at = counted (goal.at.returns-then-grow_too_far c).After-has_more_edges in
     record {
       count = Aliases;
       shown = refl;
       passes =
-          record { passes = sym c.grow_too_far.ensures ∙ c.if-grow_too_far.true; earlier = (names, (sets, (states, (sym edges ∙ c.if-has_more_edges.false, tt)))) };
+          record { passes = sym c.grow_too_far.ensures ∙ c.if-grow_too_far.true; earlier = (at.0, (at.1, (at.2, (sym at.3 ∙ c.if-has_more_edges.false, tt)))) };
     }
 
 pub returns : goal.returns
 returns c =
-    let w = written c.args.raw.now in
-    let names : nat_lt MOST_NAMES (length (names_of w)) ≡ false = ap (λ (ns : List (List ℕ)). nat_lt MOST_NAMES (length ns)) (sym c.requires.parts.names) ∙ grind (arith, nat_tests) in
-    let sets : nat_lt MOST_SETS (acceptance_of w).sets ≡ false = ap (nat_lt MOST_SETS) (sym c.set_count.ensures) ∙ grind (arith, nat_tests) in
-    let states : nat_lt MOST_STATES (state_count w) ≡ false = ap (nat_lt MOST_STATES) (sym c.state_count.ensures) ∙ grind (arith, nat_tests) in
-    let edges : c.has_more_edges.result ≡ nat_lt MOST_EDGES (length (edges_of w)) =
-    c.has_more_edges.ensures ∙ ap (λ (ss : List RawState). nat_lt MOST_EDGES (length (all_edges (map written_state ss)))) c.as_slice.ensures
-    ∙ ap (nat_lt MOST_EDGES) (sym (edge_count w c.requires.below)) in
-    (names, (sets, (states, (sym edges ∙ c.if-has_more_edges.false, (sym c.grow_too_far.ensures ∙ c.if-grow_too_far.false, tt)))))
+    let at = counted (goal.at.returns c).After-has_more_edges in
+    (at.0, (at.1, (at.2, (sym at.3 ∙ c.if-has_more_edges.false, (sym c.grow_too_far.ensures ∙ c.if-grow_too_far.false, tt)))))

@@ -1,6 +1,6 @@
-use Rattle.std.proofs.Common.{◌≡◌, ◌+◌, max, map, drop, List, ℕ, arith, ap, ◌∙◌}
+use Rattle.std.proofs.Common.{◌+◌, max, map, drop, List, ℕ, ap, ◌∙◌}
 use Rattle.std.specs.Prelude.{flat_map}
-use Rattle.hoa_reader.proofs.counting.AfterAll.{after_all-append}
+use Rattle.hoa_reader.proofs.counting.AfterAll.{after_more}
 use Rattle.hoa_reader.specs.Described.{after_all}
 use Rattle.hoa_parser.specs.Raw.{WrittenEdge, written_edge}
 use Rattle.hoa_parser.specs.declared.raw.RawEdge.{RawEdge}
@@ -15,10 +15,6 @@ edges-preserved c =
     let edges = c.args.edges.now in
     let i = c.edges.edge-index in
     let edge = c.edge-item.result in
-    let here : after_all c.as_slice.result.now ≡ after_all edge.to = ap after_all c.as_slice.ensures in
-    let all : after_all (ends (drop i edges)) ≡ max (after_all edge.to) (after_all (ends (drop (i + 1) edges))) =
-    ap (λ es. after_all (ends es)) (drop-at edges i edge c.edges-test.true c.edge-item.is) ∙ after_all-append edge.to (ends (drop (i + 1) edges)) in
-    let before : max c.edges.after (after_all (ends (drop i edges))) ≡ max c.args.least (after_all (ends edges)) = c.edges.invariant in
-    let now : c.after_numbers-after.result ≡ max c.edges.after (after_all c.as_slice.result.now) = c.after_numbers-after.ensures in
-    let goal : max c.after_numbers-after.result (after_all (ends (drop (i + 1) edges))) ≡ max c.args.least (after_all (ends edges)) = omega (arith, here, all, before, now) in
-    goal
+    after_more edge.to (ends (drop (i + 1) edges)) (ends (drop i edges)) c.edges.after (max c.args.least (after_all (ends edges))) c.after_numbers-after.result
+    (ap ends (drop-at edges i edge c.edges-test.true c.edge-item.is)) c.edges.invariant
+    (c.after_numbers-after.ensures ∙ ap (λ (ns : List ℕ). max c.edges.after (after_all ns)) c.as_slice.ensures)

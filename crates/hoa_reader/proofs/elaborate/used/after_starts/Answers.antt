@@ -1,5 +1,5 @@
-use Rattle.std.proofs.Common.{◌≡◌, ◌+◌, max, drop, arith, ap, ◌∙◌}
-use Rattle.hoa_reader.proofs.counting.AfterAll.{after_all-append}
+use Rattle.std.proofs.Common.{◌+◌, max, drop, List, ℕ, ap, ◌∙◌}
+use Rattle.hoa_reader.proofs.counting.AfterAll.{after_more}
 use Rattle.hoa_reader.specs.Described.{after_all}
 use Rattle.hoa_reader.specs.inner.PickedOut.{starts_named}
 use Rattle.hoa_reader.proofs.elaborate.used.after_starts.Goals as goal
@@ -9,11 +9,7 @@ pub starts-preserved : goal.starts-preserved
 starts-preserved c =
     let starts = c.args.starts.now in
     let i = c.starts.states-index in
-    let states = c.states-item.result in
-    let here : after_all c.as_slice.result.now ≡ after_all states.now = ap after_all c.as_slice.ensures in
-    let all : after_all (starts_named (drop i starts)) ≡ max (after_all states.now) (after_all (starts_named (drop (i + 1) starts))) =
-    ap (λ ss. after_all (starts_named ss)) (drop-at starts i states c.starts-test.true c.states-item.is) ∙ after_all-append states.now (starts_named (drop (i + 1) starts)) in
-    let before : max c.starts.after (after_all (starts_named (drop i starts))) ≡ max c.args.least (after_all (starts_named starts)) = c.starts.invariant in
-    let now : c.after_numbers-after.result ≡ max c.starts.after (after_all c.as_slice.result.now) = c.after_numbers-after.ensures in
-    let goal : max c.after_numbers-after.result (after_all (starts_named (drop (i + 1) starts))) ≡ max c.args.least (after_all (starts_named starts)) = omega (arith, here, all, before, now) in
-    goal
+    after_more c.states-item.result.now (starts_named (drop (i + 1) starts)) (starts_named (drop i starts)) c.starts.after
+    (max c.args.least (after_all (starts_named starts))) c.after_numbers-after.result
+    (ap starts_named (drop-at starts i c.states-item.result c.starts-test.true c.states-item.is)) c.starts.invariant
+    (c.after_numbers-after.ensures ∙ ap (λ (ns : List ℕ). max c.starts.after (after_all ns)) c.as_slice.ensures)
