@@ -25,7 +25,8 @@ module _ {A : Type 0} (part : TreeEdge → A) (reads : TreeEdge → Bool) where
   all_links c state i row old new e all so = so ∙ ap (λ es. old ++ parts es) (ap (map (edge_of c.store)) (take_all i row all ∙ e) ∙ sym (edges_filter c.store state c.links))
 
   -- with the edges of one state more
-  pub state_more : (b : Automaton) (set : List ℕ) (k state : ℕ) (now new : List A) → slice_get set k ≡ Some state → now ≡ parts (set_edges b (take k set)) → new ≡ now ++ parts (edges_from state b.edges)
+  pub state_more : (b : Automaton) (set : List ℕ) (k state : ℕ) (now new : List A) → slice_get set k ≡ Some state → now ≡ parts (set_edges b (take k set))
+      → new ≡ now ++ parts (edges_from state b.edges)
       → new ≡ parts (set_edges b (take (k + 1) set))
   state_more b set k state now new at so e =
       e ∙ (ap (λ ps. ps ++ parts (edges_from state b.edges)) so ∙ (sym (parts_join (set_edges b (take k set)) (edges_from state b.edges)) ∙ ap parts (set_edges_on b set k state at)))

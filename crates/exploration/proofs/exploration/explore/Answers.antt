@@ -86,7 +86,8 @@ things-preserved g c =
       frame = c.in_ok-spread.ensures.frame ∙ (c.in_ok-classes.ensures.frame ∙ c.things.invariant.frame);
       exploring = exploring_more _ _ _ _ _ _ _ _ _ _ c.things.done c.things.sum _ _
           c.things.invariant.exploring (seen x) at (g.S.System.moves c.classes.new.self) _ _ c.in_ok-classes.ensures.keeps small _ _ _ c.len-in-things.result (map seen c.spread.new.found.things.keys)
-          c.spread.new.found.edges.items c.in_ok-spread.ensures.keeps (size ∙ classes.all) spreads sound (within_seen seen c.things.found.things.keys c.things.done within) c.in_ok-spread.ensures.longer;
+          c.spread.new.found.edges.items c.in_ok-spread.ensures.keeps (size ∙ classes.all) spreads sound (within_seen seen c.things.found.things.keys c.things.done within)
+          c.in_ok-spread.ensures.longer;
     }
 
 pub returns-clause-ends : goal.returns-clause-ends

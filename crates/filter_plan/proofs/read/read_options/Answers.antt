@@ -40,10 +40,12 @@ pub returns-in_err-remove_ap-clause-usage : goal.returns-in_err-remove_ap-clause
 returns-in_err-remove_ap-clause-usage c passed p is = c.in_err-remove_ap.ensures.usage (passed_on _ _ _ c.from_residual-in_err-remove_ap.ensures.1 passed) p.remove_ap (parts _ p is).remove_ap
 
 pub returns-in_err-accept_word-clause-usage : goal.returns-in_err-accept_word-clause-usage
-returns-in_err-accept_word-clause-usage c passed p is = c.in_err-accept_word.ensures.usage (passed_on _ _ _ c.from_residual-in_err-accept_word.ensures.1 passed) p.accept_word (parts _ p is).accept_word
+returns-in_err-accept_word-clause-usage c passed p is = c.in_err-accept_word.ensures.usage (passed_on _ _ _ c.from_residual-in_err-accept_word.ensures.1 passed) p.accept_word
+    (parts _ p is).accept_word
 
 pub returns-in_err-reject_word-clause-usage : goal.returns-in_err-reject_word-clause-usage
-returns-in_err-reject_word-clause-usage c passed p is = c.in_err-reject_word.ensures.usage (passed_on _ _ _ c.from_residual-in_err-reject_word.ensures.1 passed) p.reject_word (parts _ p is).reject_word
+returns-in_err-reject_word-clause-usage c passed p is = c.in_err-reject_word.ensures.usage (passed_on _ _ _ c.from_residual-in_err-reject_word.ensures.1 passed) p.reject_word
+    (parts _ p is).reject_word
 
 pub returns-in_err-operands-clause-usage : goal.returns-in_err-operands-clause-usage
 returns-in_err-operands-clause-usage c passed p is = c.in_err-operands.ensures.usage (passed_on _ _ _ c.from_residual-in_err-operands.ensures.1 passed) (operands_of p) (parts _ p is).operands

@@ -9,5 +9,6 @@ holds_at-requires c = row_guard c.args.a.now c.whole.ensures c.args.state c.link
     c.links-test.true c.link-item.is c.guards.ensures
 
 pub returns : goal.returns
-returns c = all_links (λ e. e.to) (reads_at c.args.a.now c.args.number) c.args.a.now c.args.state c.links.link-index c.links_of-link-items.result.now c.args.ends.now c.links.ends c.links_of-link-items.ensures
+returns c = all_links (λ e. e.to) (reads_at c.args.a.now c.args.number) c.args.a.now c.args.state c.links.link-index c.links_of-link-items.result.now c.args.ends.now c.links.ends
+    c.links_of-link-items.ensures
     (omega (arith, c.links-test.false)) c.links.invariant

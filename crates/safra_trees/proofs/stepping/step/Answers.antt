@@ -13,8 +13,10 @@ use Rattle.safra_trees.proofs.stepping.step.Goals.{After-from_vec-3, In_ok-found
 use Rattle.safra_trees.proofs.stepping.step.Goals as goal
 
 -- what the passes over the names and places gave
-passes : (c : In_ok-found) → ArePasses (grown c.args.states c.args.moves.now (tree_of c.args.tree.now)) c.in_ok-found.found.claims.items c.in_ok-found.found.own.items c.in_ok-found.found.homes.items c.in_ok-found.found.stay.items
-passes c = subst (λ xs. ArePasses (grown c.args.states xs (tree_of c.args.tree.now)) c.in_ok-found.found.claims.items c.in_ok-found.found.own.items c.in_ok-found.found.homes.items c.in_ok-found.found.stay.items)
+passes : (c : In_ok-found) → ArePasses (grown c.args.states c.args.moves.now (tree_of c.args.tree.now)) c.in_ok-found.found.claims.items c.in_ok-found.found.own.items
+    c.in_ok-found.found.homes.items c.in_ok-found.found.stay.items
+passes c = subst (λ xs. ArePasses (grown c.args.states xs (tree_of c.args.tree.now)) c.in_ok-found.found.claims.items c.in_ok-found.found.own.items c.in_ok-found.found.homes.items
+    c.in_ok-found.found.stay.items)
     c.as_slice.ensures c.in_ok-found.ensures
 
 -- each list of names has room for those of the tree and for as many new ones
@@ -76,7 +78,8 @@ new_parents-requires-clause-ranks c =
 
 pub new_places-requires-clause-few : goal.new_places-requires-clause-few
 new_places-requires-clause-few c =
-    let claimed = claims_length (grown c.args.states c.args.moves.now (tree_of c.args.tree.now)) c.in_ok-found.found.claims.items c.in_ok-found.found.own.items c.in_ok-found.found.homes.items c.in_ok-found.found.stay.items
+    let claimed = claims_length (grown c.args.states c.args.moves.now (tree_of c.args.tree.now)) c.in_ok-found.found.claims.items c.in_ok-found.found.own.items
+    c.in_ok-found.found.homes.items c.in_ok-found.found.stay.items
     (passes (goal.at.new_places-requires-clause-few c).In_ok-found) in
     omega (arith, ap length c.deref-4.ensures.value, claimed, c.ranges.states.fits)
 
@@ -119,7 +122,8 @@ pub returns-clause-few : goal.returns-clause-few
 returns-clause-few c =
     let counts = (finish (goal.at.returns-clause-few c).After-from_vec-3).counts in
     let many = finished_count c.args.states c.args.moves.now c.args.tree.now.parents c.args.tree.now.states c.args.tree.now.places
-    c.in_ok-found.found.claims.items c.in_ok-found.found.own.items c.in_ok-found.found.homes.items c.in_ok-found.found.stay.items c.in_ok-names.names.count (passes (goal.at.returns-clause-few c).In_ok-found) counts in
+    c.in_ok-found.found.claims.items c.in_ok-found.found.own.items c.in_ok-found.found.homes.items c.in_ok-found.found.stay.items c.in_ok-names.names.count
+    (passes (goal.at.returns-clause-few c).In_ok-found) counts in
     let is = returns-clause-tree c in
     omega (arith, ap length is, c.if-names-gt-MOST_NODES.false, many)
 
@@ -132,11 +136,13 @@ returns-clause-event c =
     let passed = passes (goal.at.returns-clause-event c).In_ok-found in
     let red : c.least_gone.result ≡ least (reds (grown n ms (tree_of tree)) (length (tree_of tree))) =
     c.least_gone.ensures ∙ (ap (λ (xs : List Bool). least (filter (λ y. not (flag xs y)) (range_with_len 0 c.nodes.result))) c.deref-7.ensures.value
-    ∙ finished_red n ms tree.parents tree.states tree.places c.in_ok-found.found.claims.items c.in_ok-found.found.own.items c.in_ok-found.found.homes.items c.in_ok-found.found.stay.items c.nodes.result passed c.nodes.ensures) in
+    ∙ finished_red n ms tree.parents tree.states tree.places c.in_ok-found.found.claims.items c.in_ok-found.found.own.items c.in_ok-found.found.homes.items c.in_ok-found.found.stay.items
+    c.nodes.result passed c.nodes.ensures) in
     let green : c.least_covered.result ≡ least (greens (grown n ms (tree_of tree))) =
     c.least_covered.ensures ∙ (ap (λ (xs : List Bool). least (filter (λ y. flag xs y && not (flag c.deref-9.result.now y)) (range_with_len 0 (length c.deref-9.result.now)))) c.deref-8.ensures.value
     ∙ (ap (λ (xs : List Bool). least (filter (λ y. flag stay y && not (flag xs y)) (range_with_len 0 (length xs)))) c.deref-9.ensures.value
-    ∙ finished_green n ms tree.parents tree.states tree.places c.in_ok-found.found.claims.items c.in_ok-found.found.own.items c.in_ok-found.found.homes.items c.in_ok-found.found.stay.items tree.stored passed)) in
+    ∙ finished_green n ms tree.parents tree.states tree.places c.in_ok-found.found.claims.items c.in_ok-found.found.own.items c.in_ok-found.found.homes.items c.in_ok-found.found.stay.items
+    tree.stored passed)) in
     let with_red : Option ℕ → Event = λ r. record { red = r; green = c.least_covered.result } in
     let with_green : Option ℕ → Event = λ g. record { red = least (reds (grown n ms (tree_of tree)) (length (tree_of tree))); green = g } in
     ap with_red red ∙ ap with_green green

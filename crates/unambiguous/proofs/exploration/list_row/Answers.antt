@@ -11,7 +11,8 @@ use Rattle.unambiguous.proofs.exploration.list_row.Goals.{At-starts}
 use Rattle.unambiguous.proofs.exploration.list_row.Goals as goal
 
 -- the start at this place
-here : (c : At-starts) → c.starts.second-index < length c.as_slice-second-items.result.now → slice_get c.args.a.now.starts c.starts.second-index ≡ Some (get_or c.as_slice-second-items.result.now c.starts.second-index 0)
+here : (c : At-starts) → c.starts.second-index < length c.as_slice-second-items.result.now
+    → slice_get c.args.a.now.starts c.starts.second-index ≡ Some (get_or c.as_slice-second-items.result.now c.starts.second-index 0)
 here c within =
     let items = c.as_slice-second-items.result.now in
     let i = c.starts.second-index in

@@ -18,7 +18,8 @@ pub meet-requires-clause-meet : goal.meet-requires-clause-meet
 meet-requires-clause-meet c =
     let stands = longer_at c.args.self.now.states c.others.self.states c.others.invariant.grows.states.0 c.args.at c.args.state c.others.invariant.grows.states.1 c.requires.stands in
     subst (CanMeet c.args.a.now c.others.self c.args.at c.args.link.now c.index-others-i.result) (sym c.has_differed-differ.ensures)
-    (can_meet c.args.a.now c.others.self c.args.at c.args.place c.others.i c.args.state c.args.link.now c.index-others-i.result stands c.requires.place (here (goal.at.meet-requires-clause-meet c).After-index-others-i))
+    (can_meet c.args.a.now c.others.self c.args.at c.args.place c.others.i c.args.state c.args.link.now c.index-others-i.result stands c.requires.place
+    (here (goal.at.meet-requires-clause-meet c).After-index-others-i))
 
 pub others-preserved : goal.others-preserved
 others-preserved c =
