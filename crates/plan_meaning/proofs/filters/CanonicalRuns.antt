@@ -11,7 +11,6 @@ use Rattle.aut_base.specs.LabelLaws.{LabelsBelow}
 use Rattle.aut_base.specs.Word.{NameSet}
 use Rattle.aut_core.specs.Deterministic.{is_met}
 use Rattle.plan_meaning.proofs.filters.CanonicalEdges.{same_met, settled}
-use Rattle.unambiguous.proofs.tracks.SamePlaces.{accepting_too}
 use Rattle.unambiguous.specs.Runs.{AcceptingRun, IsTrack, IsUnambiguous, marks_at}
 
 -- the edge at a place, in both
@@ -35,9 +34,6 @@ same_marks a m = ap (λ (o : Option TreeEdge). option_map_or (λ (e : TreeEdge).
 all_marks : (a : Automaton) (ms : List ℕ) → map (marks_at (canonical a)) ms ≡ map (marks_at a) ms
 all_marks a [] = refl
 all_marks a (m ∷ ms) = λ i. same_marks a m i ∷ all_marks a ms i
-
-met_alike : (a : Automaton) (ms : List ℕ) → met (map (marks_at (canonical a)) ms) a.formula ≡ met (map (marks_at a) ms) a.formula
-met_alike a ms = ap (λ (marks : List (List ℕ)). met marks a.formula) (all_marks a ms)
 
 module _ (a : Automaton) (below : LabelsBelow a) where
   track_to : (p q : ℕ) (xs : List NameSet) (ms : List ℕ) → IsTrack a p xs ms q → IsTrack (canonical a) p xs ms q
@@ -67,10 +63,34 @@ module _ (a : Automaton) (below : LabelsBelow a) where
 
   -- the same places make a run of both
   abbrev run_to : (u v : List NameSet) → AcceptingRun a u v → AcceptingRun (canonical a) u v
-  run_to u v r = accepting_too a (canonical a) u v r r.is_start (track_to r.start r.state _ r.way r.leads) (track_to r.state r.state _ r.cycle r.returns) (met_alike a r.cycle ∙ r.meets)
+  run_to u v r = record {
+    start = r.start;
+    state = r.state;
+    turns = r.turns;
+    rounds = r.rounds;
+    way = r.way;
+    cycle = r.cycle;
+    is_start = r.is_start;
+    leads = track_to r.start r.state _ r.way r.leads;
+    positive = r.positive;
+    returns = track_to r.state r.state _ r.cycle r.returns;
+    meets = ap (λ (ms : List (List ℕ)). met ms a.formula) (all_marks a r.cycle) ∙ r.meets;
+  }
 
   abbrev run_from : (u v : List NameSet) → AcceptingRun (canonical a) u v → AcceptingRun a u v
-  run_from u v r = accepting_too (canonical a) a u v r r.is_start (track_from r.start r.state _ r.way r.leads) (track_from r.state r.state _ r.cycle r.returns) (sym (met_alike a r.cycle) ∙ r.meets)
+  run_from u v r = record {
+    start = r.start;
+    state = r.state;
+    turns = r.turns;
+    rounds = r.rounds;
+    way = r.way;
+    cycle = r.cycle;
+    is_start = r.is_start;
+    leads = track_from r.start r.state _ r.way r.leads;
+    positive = r.positive;
+    returns = track_from r.state r.state _ r.cycle r.returns;
+    meets = sym (ap (λ (ms : List (List ℕ)). met ms a.formula) (all_marks a r.cycle)) ∙ r.meets;
+  }
 
   pub unambiguous_one : IsUnambiguous (canonical a) → IsUnambiguous a
   unambiguous_one h = λ u v some r t n. h u v some (run_to u v r) (run_to u v t) n
