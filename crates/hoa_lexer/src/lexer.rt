@@ -8,6 +8,7 @@ mod blanks;
 mod bytes;
 mod dashes;
 mod numbers;
+mod passing;
 mod reading;
 mod signs;
 mod strings;

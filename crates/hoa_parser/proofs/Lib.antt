@@ -1,3 +1,4 @@
 pub mod grammar
+pub mod plain
 pub mod reading
 pub mod standing

@@ -1,4 +1,5 @@
 -- Definitions that only inner functions speak in.
+pub mod AtHand
 pub mod Chains
 pub mod Expecting
 pub mod Faults

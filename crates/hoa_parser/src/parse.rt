@@ -14,6 +14,7 @@ mod condition;
 mod item;
 mod label;
 mod lists;
+mod plain;
 mod tokens;
 
 use self::body::states;

@@ -75,7 +75,7 @@ mutual
       ∙ lnot_follows most depth f (Factors depth ∷ others) (lnots_tokens fs ++ c) d w.0
       ∙ lnots_follow most depth fs others c d w.1 e
 
-  lnot_follows : (most depth : ℕ) (f : Lnot) (others : List Part) (c : List Token) → depth ≤ most → LnotWithin most depth f
+  pub lnot_follows : (most depth : ℕ) (f : Lnot) (others : List Part) (c : List Token) → depth ≤ most → LnotWithin most depth f
       → after most (Factor depth ∷ others) (lnot_tokens f ++ c) ≡ after most others c
   lnot_follows most depth true_label others c d w = taken most (Factor depth) [] others (token.Identifier (codes "t")) c refl (omega arith)
   lnot_follows most depth false_label others c d w = taken most (Factor depth) [] others (token.Identifier (codes "f")) c refl (omega arith)

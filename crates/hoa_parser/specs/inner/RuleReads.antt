@@ -224,6 +224,10 @@ IsItemOf header name item = ItemRest header name (written_item item)
 abbrev pub IsItemWritten : Header → Item → Cursor → Cursor → Type 0
 IsItemWritten header item a b = (name : List ℕ) → ItemRest header name (written_item item) a b
 
+-- "[" label
+abbrev pub IsOpened : RawLabel → Cursor → Cursor → Type 0
+IsOpened l a c = (b : Cursor) × Passed a (token.LeftBracket ∷ []) b × IsLabel 0 l b c
+
 -- a label in brackets, or none
 abbrev pub IsMaybeLabel : Option RawLabel → Cursor → Cursor → Type 0
 IsMaybeLabel label = IsWritten (OptionalWithin most_depth) optional_label (option_map label_meaning) (option_map raw_tree label)

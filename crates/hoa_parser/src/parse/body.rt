@@ -1,14 +1,15 @@
 //! The states of a body and their edges.
 
-ghost use Rattle.std.specs.Prelude.{◌≡◌, ◌≢◌, ◌∷◌, ◌++◌, [], false, OnOk};
+ghost use Rattle.std.specs.Prelude.{◌≡◌, ◌≢◌, ◌∷◌, ◌++◌, [], false, MatchOption, OnOk};
 ghost use Rattle.hoa_lexer.specs.declared.token.Token.{Token};
 ghost use Rattle.hoa_parser.specs.inner.Expecting as part;
 ghost use Rattle.hoa_parser.specs.inner.Expecting.{move};
-ghost use Rattle.hoa_parser.specs.inner.Parsing.{Reads, Uses, state};
-ghost use Rattle.hoa_parser.specs.inner.RuleReads.{AreEdges, AreStates, IsEdge, IsMaybeLabel, IsState};
+ghost use Rattle.hoa_parser.specs.inner.Parsing.{Reads, ReadsTo, Uses, state};
+ghost use Rattle.hoa_parser.specs.inner.RuleReads.{AreEdges, AreStates, IsEdge, IsMaybeLabel, IsOpened, IsState};
 
 use super::label::label;
 use super::lists::{conj, maybe_marks};
+use super::plain::{plain_edge, plain_label};
 use super::tokens::{advance, closing_bracket, maybe_quoted, number, refused};
 use crate::header::{Header, header_named};
 use crate::{RawEdge, RawEdges, RawLabel, RawState, RawStates, ReadFault};
@@ -76,6 +77,62 @@ fn state_at<I: Inputs>(
     })
 }
 
+/// A label whose bytes are at hand, with its `]`, which is at hand then. Where there is none such, nothing is read.
+fn label_at_hand<I: Inputs>(
+    alloc: Global,
+    lexer: &mut Lexer,
+    inputs: &mut I,
+    ahead: &mut Token,
+) -> Option<RawLabel>
+    requires unspent { lexer.old.spent ≡ false }
+    requires opens { ahead.old ≡ Token.LeftBracket }
+    ensures reads { MatchOption result (Unit {0}) (λ label. ReadsTo (part.MaybeLabel ∷ []) (part.ClosingBracket ∷ []) (IsOpened label)
+        (state lexer.old ahead.old (I.seen inputs.old)) (state lexer.new ahead.new (I.seen inputs.new))) }
+    ensures none { MatchOption result ((lexer.new ≡ lexer.old) × (inputs.new ≡ inputs.old) × (ahead.new ≡ ahead.old)) (λ label. Unit {0}) }
+{
+    let bytes = lexer.ahead(inputs);
+    let (label, next) = plain_label(alloc, bytes)?;
+    let count = bytes.len() - next.len();
+    lexer.pass(inputs, count);
+    *ahead = Token::RightBracket;
+    Some(label)
+}
+
+/// "[" label
+#[inline]
+fn opened_label<I: Inputs>(
+    alloc: Global,
+    lexer: &mut Lexer,
+    inputs: &mut I,
+    ahead: &mut Token,
+) -> Result<RawLabel, ReadFault>
+    requires unspent { lexer.old.spent ≡ false }
+    requires opens { ahead.old ≡ Token.LeftBracket }
+    ensures reads { Reads (part.MaybeLabel ∷ []) (part.ClosingBracket ∷ []) IsOpened result
+        (state lexer.old ahead.old (I.seen inputs.old)) (state lexer.new ahead.new (I.seen inputs.new)) }
+{
+    match label_at_hand(alloc, lexer, inputs, ahead) {
+        Some(label) => Ok(label),
+        None => label_of_tokens(alloc, lexer, inputs, ahead),
+    }
+}
+
+/// The same, token by token.
+fn label_of_tokens<I: Inputs>(
+    alloc: Global,
+    lexer: &mut Lexer,
+    inputs: &mut I,
+    ahead: &mut Token,
+) -> Result<RawLabel, ReadFault>
+    requires unspent { lexer.old.spent ≡ false }
+    requires opens { ahead.old ≡ Token.LeftBracket }
+    ensures reads { Reads (part.MaybeLabel ∷ []) (part.ClosingBracket ∷ []) IsOpened result
+        (state lexer.old ahead.old (I.seen inputs.old)) (state lexer.new ahead.new (I.seen inputs.new)) }
+{
+    advance(alloc, lexer, inputs, ahead)?;
+    label(alloc, lexer, inputs, ahead, 0)
+}
+
 /// ("[" label "]")?
 #[inline]
 fn maybe_label<I: Inputs>(
@@ -92,8 +149,7 @@ fn maybe_label<I: Inputs>(
         Token::LeftBracket => {}
         _ => return Ok(None),
     }
-    advance(alloc, lexer, inputs, ahead)?;
-    let label = label(alloc, lexer, inputs, ahead, 0)?;
+    let label = opened_label(alloc, lexer, inputs, ahead)?;
     closing_bracket(alloc, lexer, inputs, ahead)?;
     Ok(Some(label))
 }
@@ -130,8 +186,53 @@ fn push_edge(alloc: Global, edges: &mut RawEdges, edge: RawEdge) -> Result<(), M
     edges.push(edge)
 }
 
+// Why so: 'Plain edges are read from the bytes at hand' in docs/DECISIONS.md.
+/// An edge whose bytes are at hand, with those up to the `[` of the next one, which is at hand then. Where there is none such,
+/// nothing is read.
+fn edge_at_hand<I: Inputs>(
+    alloc: Global,
+    lexer: &mut Lexer,
+    inputs: &mut I,
+    ahead: &Token,
+) -> Option<RawEdge>
+    requires unspent { lexer.old.spent ≡ false }
+    ensures reads { MatchOption result (Unit {0}) (λ edge. ReadsTo (part.Edges ∷ []) (part.Edges ∷ []) (IsEdge edge)
+        (state lexer.old ahead.now (I.seen inputs.old)) (state lexer.new ahead.now (I.seen inputs.new))) }
+    ensures uses { MatchOption result (Unit {0}) (λ edge. Uses lexer.old lexer.new) }
+    ensures none { MatchOption result ((lexer.new ≡ lexer.old) × (inputs.new ≡ inputs.old)) (λ edge. Unit {0}) }
+{
+    match ahead {
+        Token::LeftBracket => {}
+        _ => return None,
+    }
+    let bytes = lexer.ahead(inputs);
+    let (edge, next) = plain_edge(alloc, bytes)?;
+    let count = bytes.len() - next.len();
+    lexer.pass(inputs, count);
+    Some(edge)
+}
+
 /// edge = ("[" label "]")? conj sig?
 fn edge<I: Inputs>(
+    alloc: Global,
+    lexer: &mut Lexer,
+    inputs: &mut I,
+    ahead: &mut Token,
+) -> Result<RawEdge, ReadFault>
+    requires unspent { lexer.old.spent ≡ false }
+    requires begins { move part.Edges ahead.old ≢ part.Passes }
+    ensures reads { Reads (part.Edges ∷ []) (part.Edges ∷ []) IsEdge result
+        (state lexer.old ahead.old (I.seen inputs.old)) (state lexer.new ahead.new (I.seen inputs.new)) }
+    ensures uses { OnOk result (Uses lexer.old lexer.new) }
+{
+    match edge_at_hand(alloc, lexer, inputs, ahead) {
+        Some(edge) => Ok(edge),
+        None => edge_of_tokens(alloc, lexer, inputs, ahead),
+    }
+}
+
+/// The same, token by token.
+fn edge_of_tokens<I: Inputs>(
     alloc: Global,
     lexer: &mut Lexer,
     inputs: &mut I,

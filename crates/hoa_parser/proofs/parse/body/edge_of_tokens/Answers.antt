@@ -2,7 +2,7 @@ use Rattle.std.proofs.Common.{[], ◌∷◌}
 use Rattle.hoa_parser.proofs.reading.Bodies.{edge_front, edge_is}
 use Rattle.hoa_parser.proofs.reading.Steps.{fails_for, handed_on, next_fails, next_reads, reads_as, reads_for}
 use Rattle.hoa_parser.specs.inner.Expecting as part
-use Rattle.hoa_parser.proofs.parse.body.edge.Goals as goal
+use Rattle.hoa_parser.proofs.parse.body.edge_of_tokens.Goals as goal
 
 pub returns-in_err-label-clause-reads : goal.returns-in_err-label-clause-reads
 returns-in_err-label-clause-reads g c = handed_on _ _ _ c.from_residual.ensures.1

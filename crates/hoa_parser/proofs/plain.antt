@@ -1,0 +1,7 @@
+pub mod Edges
+pub mod Going
+pub mod Here
+pub mod LabelHere
+pub mod Labels
+pub mod Passing
+pub mod Signs

@@ -1,0 +1,52 @@
+-- Edges in front of bytes.
+use Rattle.std.proofs.Common.{◌≡◌, ℕ, List, [], ◌∷◌, ◌++◌, map, Some, None, refl, sym, ap, subst, ◌∙◌}
+use Rattle.std.proofs.lemmas.List.{map-append}
+use Rattle.hoa_lexer.specs.inner.Steps.{Skips}
+use Rattle.hoa_lexer.specs.declared.token.Token.TheVariants as token
+use Rattle.hoa_lexer.proofs.next_token.Fronts.{skips_none}
+use Rattle.hoa_parser.specs.Grammar.{label_tokens, optional_marks}
+use Rattle.hoa_parser.specs.Raw.{RawTree, WrittenEdge}
+use Rattle.hoa_parser.specs.declared.raw.RawLabel.{RawLabel}
+use Rattle.hoa_parser.specs.inner.AtHand.{AreMarks, AreMaybeMarks, IsLabel, IsNumber, IsPlain, IsSigned, Spelled}
+use Rattle.hoa_parser.proofs.plain.Passing.{spelled_behind, spelled_then}
+use Rattle.hoa_parser.proofs.plain.Signs.{same_tokens, sign_alone, sign_then}
+
+pub marks_none : (ms : List ℕ) (x : List ℕ) → ms ≡ [] → Spelled x (map token.Int ms) x
+marks_none ms x is = subst (λ (ns : List ℕ). Spelled x (map token.Int ns) x) (sym is) (skips_none x)
+
+pub marks_push : (ms ns : List ℕ) (n : ℕ) (x y z : List ℕ) → ns ≡ ms ++ n ∷ [] → Spelled x (map token.Int ms) y → IsNumber n y z → Spelled x (map token.Int ns) z
+marks_push ms ns n x y z is s k =
+    same_tokens (map token.Int ms ++ token.Int n ∷ []) (map token.Int ns) x z (sym (map-append token.Int ms (n ∷ [])) ∙ ap (map token.Int) (sym is))
+    (spelled_then (map token.Int ms) (token.Int n ∷ []) x y z s k)
+
+pub marks_end : (ms : List ℕ) (x y z : List ℕ) → Spelled x (map token.Int ms) y → IsSigned 125 y z → AreMarks ms x z
+marks_end ms x y z s sign = spelled_then (map token.Int ms) (token.RightBrace ∷ []) x y z s (sign_alone token.RightBrace 125 y z refl sign)
+
+pub no_marks : (ms : List ℕ) (x : List ℕ) → ms ≡ [] → AreMaybeMarks ms x x
+no_marks ms x is = record { phrase = None; within = tt; spelled = skips_none x; means = is }
+
+pub some_marks : (ms : List ℕ) (x y z : List ℕ) → IsSigned 123 x y → AreMarks ms y z → AreMaybeMarks ms x z
+some_marks ms x y z sign s = record {
+  phrase = Some ms;
+  within = tt;
+  spelled = sign_then token.LeftBrace 123 (map token.Int ms ++ token.RightBrace ∷ []) x y z refl sign s;
+  means = refl;
+}
+
+edge_means : (l k : RawTree) (to to' marks marks' : List ℕ) → l ≡ k → to ≡ to' → marks ≡ marks'
+    → (let e : WrittenEdge = record { label = Some l; to = to; marks = marks } in e) ≡ record { label = Some k; to = to'; marks = marks' }
+edge_means l k to to' marks marks' same_label same_to same_marks = cc
+
+pub plain : (l : RawLabel) (to marks : List ℕ) (n b : ℕ) (x x' y z u w next : List ℕ) → Skips x x' → IsLabel l x' y → IsSigned 93 y z → IsNumber n z u → AreMaybeMarks marks u w → to ≡ n ∷ []
+    → w ≡ b ∷ next → b ≡ 91 → IsPlain (record { label = Some l; to = to; marks = marks }) x (91 ∷ next)
+plain l to marks n b x x' y z u w next blanks labelled sign goes marked is behind opens = subst (IsPlain (record { label = Some l; to = to; marks = marks }) x) (behind ∙ ap (λ c. c ∷ next) opens) (record {
+  label = labelled.phrase;
+  goal = n;
+  marks = marked.phrase;
+  within = labelled.within;
+  spelled = spelled_then (label_tokens labelled.phrase ++ token.RightBracket ∷ []) (token.Int n ∷ optional_marks marked.phrase) x z w
+      (spelled_behind (label_tokens labelled.phrase ++ token.RightBracket ∷ []) x x' z blanks
+      (spelled_then (label_tokens labelled.phrase) (token.RightBracket ∷ []) x' y z labelled.spelled (sign_alone token.RightBracket 93 y z refl sign)))
+      (spelled_then (token.Int n ∷ []) (optional_marks marked.phrase) z u w goes marked.spelled);
+  means = edge_means _ _ _ _ _ _ labelled.means is marked.means;
+})

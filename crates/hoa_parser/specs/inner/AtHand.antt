@@ -1,0 +1,94 @@
+-- What stands in front of bytes, token by token, with blanks before each and behind the last.
+use Rattle.std.specs.Prelude.{◌≡◌, ℕ, suc, ◌≤◌, List, [], ◌∷◌, ◌++◌, map, Option, Some}
+use Rattle.hoa_lexer.specs.Text.{IsFront}
+use Rattle.hoa_lexer.specs.inner.Steps.{Skips}
+use Rattle.hoa_lexer.specs.declared.token.Token.{Token}
+use Rattle.hoa_lexer.specs.declared.token.Token.TheVariants as token
+use Rattle.hoa_parser.specs.Grammar.{Label, Lnot, LabelWithin, LnotWithin, conjunction, disjunction, edge_meaning, label, label_meaning, label_tokens, lands_meaning, lnot_meaning, lnot_tokens, lnots_meaning, marks_meaning, optional_marks}
+use Rattle.hoa_parser.specs.inner.RuleReads.{LandPhrase, LandWithin, land_meaning, land_tokens}
+use Rattle.hoa_parser.specs.Raw.{RawTree, raw_tree, written_edge}
+use Rattle.hoa_parser.specs.Standing.{most_depth}
+use Rattle.hoa_parser.specs.declared.raw.RawEdge.{RawEdge}
+use Rattle.hoa_parser.specs.declared.raw.RawLabel.{RawLabel}
+
+-- these tokens stand in front, and `y` behind them and blanks
+abbrev pub Spelled : List ℕ → List Token → List ℕ → Type 0
+Spelled x [] y = Skips x y
+Spelled x (t ∷ ts) y = (at : List ℕ) × (behind : List ℕ) × Skips x at × IsFront at t behind × Spelled behind ts y
+
+-- It is written so in front of `x`.
+pub record IsSpelled {X Y : Type 0} (Within : X → Type 0) (tokens : X → List Token) (meaning : X → Y) (value : Y) (x y : List ℕ) : Type 0 where
+  pub phrase : X
+  pub within : Within phrase
+  pub spelled : Spelled x (tokens phrase) y
+  pub means : value ≡ meaning phrase
+
+abbrev pub IsNumber : ℕ → List ℕ → List ℕ → Type 0
+IsNumber n x y = Spelled x (token.Int n ∷ []) y
+
+-- this sign, and blanks
+abbrev pub IsSigned : ℕ → List ℕ → List ℕ → Type 0
+IsSigned sign x y = (left : List ℕ) × (x ≡ sign ∷ left) × Skips left y
+
+-- so wherever one more `(` or `!` may be open
+abbrev pub Anywhere : (ℕ → Type 0) → Type 0
+Anywhere Within = (depth : ℕ) → suc depth ≤ most_depth → Within depth
+
+abbrev pub Shallow : Lnot → Type 0
+Shallow f = Anywhere (λ d. LnotWithin most_depth d f)
+
+abbrev pub ShallowLand : LandPhrase → Type 0
+ShallowLand p = Anywhere (λ d. LandWithin d p)
+
+-- "t" | "f" | "!"? INT
+abbrev pub IsLiteral : RawLabel → List ℕ → List ℕ → Type 0
+IsLiteral l = IsSpelled Shallow lnot_tokens lnot_meaning (raw_tree l)
+
+-- literal ("&" literal)*, as parts, behind a first part, as a label of its own, and before ")"
+abbrev pub literals_meaning : LandPhrase → List RawTree
+literals_meaning p = lnot_meaning p.first ∷ lnots_meaning p.others
+
+abbrev pub AreLiterals : List RawTree → List ℕ → List ℕ → Type 0
+AreLiterals = IsSpelled ShallowLand land_tokens literals_meaning
+
+abbrev pub AreMoreLiterals : RawTree → RawLabel → List ℕ → List ℕ → Type 0
+AreMoreLiterals first l = IsSpelled ShallowLand land_tokens (λ p. conjunction first (literals_meaning p)) (raw_tree l)
+
+abbrev pub IsConjunction : RawLabel → List ℕ → List ℕ → Type 0
+IsConjunction l = IsSpelled ShallowLand land_tokens land_meaning (raw_tree l)
+
+abbrev pub IsGrouped : RawLabel → List ℕ → List ℕ → Type 0
+IsGrouped l = IsSpelled ShallowLand (λ p. land_tokens p ++ token.RightParen ∷ []) land_meaning (raw_tree l)
+
+-- conjunction | "(" conjunction ")"
+abbrev pub IsFactor : RawLabel → List ℕ → List ℕ → Type 0
+IsFactor l = IsSpelled (LandWithin 0) land_tokens land_meaning (raw_tree l)
+
+-- factor ("|" factor)*, as parts, behind a first part, and as a label
+abbrev pub factors_meaning : Label → List RawTree
+factors_meaning (label f fs ls) = conjunction (lnot_meaning f) (lnots_meaning fs) ∷ lands_meaning ls
+
+abbrev pub AreFactors : List RawTree → List ℕ → List ℕ → Type 0
+AreFactors = IsSpelled (LabelWithin most_depth 0) label_tokens factors_meaning
+
+abbrev pub AreMoreFactors : RawTree → RawLabel → List ℕ → List ℕ → Type 0
+AreMoreFactors first l = IsSpelled (LabelWithin most_depth 0) label_tokens (λ p. disjunction first (factors_meaning p)) (raw_tree l)
+
+abbrev pub IsLabel : RawLabel → List ℕ → List ℕ → Type 0
+IsLabel l = IsSpelled (LabelWithin most_depth 0) label_tokens label_meaning (raw_tree l)
+
+-- INT* "}", and sig?
+abbrev pub AreMarks : List ℕ → List ℕ → List ℕ → Type 0
+AreMarks marks x y = Spelled x (map token.Int marks ++ token.RightBrace ∷ []) y
+
+abbrev pub AreMaybeMarks : List ℕ → List ℕ → List ℕ → Type 0
+AreMaybeMarks = IsSpelled (λ (marks : Option (List ℕ)). Unit {0}) optional_marks marks_meaning
+
+-- An edge behind its `[`: label "]" INT sig?
+pub record IsPlain (edge : RawEdge) (x y : List ℕ) : Type 0 where
+  pub label : Label
+  pub goal : ℕ
+  pub marks : Option (List ℕ)
+  pub within : LabelWithin most_depth 0 label
+  pub spelled : Spelled x ((label_tokens label ++ token.RightBracket ∷ []) ++ (token.Int goal ∷ optional_marks marks)) y
+  pub means : written_edge edge ≡ edge_meaning (record { label = Some label; to = record { first = goal; others = [] }; marks = marks })
