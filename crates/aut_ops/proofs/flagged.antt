@@ -2,6 +2,7 @@
 pub mod Alone
 pub mod Between
 pub mod FlagLaws
+pub mod SomeFlags
 pub mod Ranks
 pub mod Renumbered
 pub mod Trimmed

@@ -1,5 +1,6 @@
 -- The pairs of a product, as they are reached, listed and numbered.
 pub mod BreadthFirst
+pub mod Existence
 pub mod Explorations
 pub mod Laws
 pub mod Listings

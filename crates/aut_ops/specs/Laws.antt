@@ -1,5 +1,5 @@
 -- What holds of the pairs of a product, and of automata with some of their states alone.
-use Rattle.std.specs.Prelude.{◌≡◌, ◌≢◌, ◌↔◌, ℕ, ◌≤◌, List, AllPairs, Contains}
+use Rattle.std.specs.Prelude.{◌≡◌, ◌≢◌, ◌↔◌, ◌⊎◌, ℕ, ◌≤◌, List, AllPairs, Contains, length}
 use Rattle.aut_base.specs.Acceptance.{IsPath}
 use Rattle.aut_base.specs.Automaton.{Automaton, IsWellFormed, TreeEdge}
 use Rattle.aut_base.specs.Formula.{FormulaTree}
@@ -49,3 +49,20 @@ TrimmedIsDetermined = (a made other : Automaton) → IsTrimmed a made → IsTrim
 -- An automaton has one pruned one.
 abbrev pub PrunedIsDetermined : Type 0
 PrunedIsDetermined = (a made other : Automaton) → IsPruned a made → IsPruned a other → made ≡ other
+
+-- Two automata have a list of at most so many pairs, or more pairs.
+abbrev pub PairsExist : Type 0
+PairsExist = (most : ℕ) (a b : Automaton) → ((pairs : List (ℕ × ℕ)) × ArePairs a b pairs × (length pairs ≤ most)) ⊎ HasMorePairs most a b
+
+-- So they have a product of at most so many states, or more pairs.
+abbrev pub ProductsExist : Type 0
+ProductsExist = (join : FormulaTree → FormulaTree → FormulaTree) (most : ℕ) (a b : Automaton)
+    → ((made : Automaton) × IsProduct join a b made × (made.states ≤ most)) ⊎ HasMorePairs most a b
+
+-- No automaton lacks a trimmed one,
+abbrev pub TrimmedExists : Type 0
+TrimmedExists = (a : Automaton) → ((made : Automaton) → IsTrimmed a made → ⊥) → ⊥
+
+-- and none a pruned one.
+abbrev pub PrunedExists : Type 0
+PrunedExists = (a : Automaton) → ((made : Automaton) → IsPruned a made → ⊥) → ⊥

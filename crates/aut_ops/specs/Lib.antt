@@ -3,6 +3,7 @@ pub mod Completion
 pub mod Labels
 pub mod Languages
 pub mod Laws
+pub mod Paired
 pub mod Passable
 pub mod Products
 pub mod Pruning

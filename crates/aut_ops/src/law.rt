@@ -1,6 +1,7 @@
 //! What holds of the pairs of a product, and of automata with some of their states alone.
 
-ghost use Rattle.aut_ops.specs.Laws.{FewPairsExcludeMore, PairsAreDetermined, ProductsAreDetermined, PrunedIsDetermined, ReachedByLetters, TrimmedIsDetermined};
+ghost use Rattle.aut_ops.specs.Laws.{FewPairsExcludeMore, PairsAreDetermined, PairsExist, ProductsAreDetermined, ProductsExist, PrunedExists, PrunedIsDetermined, ReachedByLetters};
+ghost use Rattle.aut_ops.specs.Laws.{TrimmedExists, TrimmedIsDetermined};
 
 /// Two automata have no more than one list of pairs, which are just those that are reached.
 pub fn pairs_are_determined()
@@ -30,4 +31,24 @@ pub fn trimmed_is_determined()
 /// An automaton has no more than one pruned one.
 pub fn pruned_is_determined()
     ensures { PrunedIsDetermined }
+{}
+
+/// Two automata have a list of their pairs, or more pairs than there may be.
+pub fn pairs_exist()
+    ensures { PairsExist }
+{}
+
+/// Two automata have a product under each join of their conditions, or more pairs than there may be.
+pub fn products_exist()
+    ensures { ProductsExist }
+{}
+
+/// No automaton lacks a trimmed one.
+pub fn trimmed_exists()
+    ensures { TrimmedExists }
+{}
+
+/// No automaton lacks a pruned one.
+pub fn pruned_exists()
+    ensures { PrunedExists }
 {}

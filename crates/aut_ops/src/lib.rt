@@ -22,10 +22,11 @@ pub use completion::complete;
 pub use edge_marks::joint_marks;
 pub use fault::PairFault;
 pub use law::{
-    few_pairs_exclude_more, pairs_are_determined, products_are_determined, pruned_is_determined,
-    reached_by_letters, trimmed_is_determined,
+    few_pairs_exclude_more, pairs_are_determined, pairs_exist, products_are_determined,
+    products_exist, pruned_exists, pruned_is_determined, reached_by_letters, trimmed_exists,
+    trimmed_is_determined,
 };
-pub use products::{product, product_or};
+pub use products::{Paired, product, product_or, square};
 pub use pruning::prune;
 pub use reached::{ReachedSize, reached_size};
 pub use sums::sum;

@@ -61,12 +61,13 @@ impl Pairing {
         self.pairs.as_slice()[place]
     }
 
-    /// The store and the links.
-    pub(crate) fn into_parts(self) -> (Guards, Links)
+    /// The store, the links and the pairs.
+    pub(crate) fn into_parts(self) -> (Guards, Links, IndexSet<(u32, u32)>)
         ensures store { result.0 ≡ self.store }
         ensures links { result.1 ≡ self.links }
+        ensures pairs { result.2.keys ≡ self.pairs }
     {
-        (self.guards, self.links)
+        (self.guards, self.links, self.pairs)
     }
 
     /// The number of the pair, which is its place. It is added unless it is there.

@@ -2,14 +2,15 @@
 
 ghost use Rattle.std.specs.Prelude.{◌≡◌, ◌+◌, ◌<◌, ◌≤◌, ◌^◌, IfOk, IsErrOf, OnOk, length};
 ghost use Rattle.aut_base.specs.declared.limit.TheConstants.{MOST_NAMES};
-ghost use Rattle.aut_core.specs.Core.{automaton_of};
+ghost use Rattle.aut_core.specs.Core.{AreParts, automaton_of};
 ghost use Rattle.aut_core.specs.OtherNames.{joined_names};
 ghost use Rattle.aut_ops.specs.Completion.{completed};
-ghost use Rattle.aut_ops.specs.Languages.{AcceptsBoth, AcceptsEither};
-ghost use Rattle.aut_ops.specs.Products.{HasMorePairs, IsEitherOf, IsProduct, IsProductOf, over_both};
+ghost use Rattle.aut_ops.specs.Languages.{AcceptsBoth, AcceptsEither, ArePairwise};
+ghost use Rattle.aut_ops.specs.Products.{ArePairs, HasMorePairs, IsEitherOf, IsProduct, IsProductOf, over_both};
 ghost use Rattle.aut_ops.specs.declared.fault.PairFault.{PairFault};
 ghost use Rattle.aut_base.specs.declared.limit.TheConstants.{MOST_PAIRS};
-ghost use Rattle.aut_ops.specs.inner.Joins.{JoinAccepts, join_of};
+ghost use Rattle.aut_ops.specs.inner.Joins.{IsMade, JoinAccepts, join_of};
+ghost use Rattle.aut_ops.specs.Paired.{core_of};
 ghost use Rattle.label_guards.specs.Store.{Keeps};
 
 use crate::completion::complete;
@@ -18,7 +19,10 @@ use crate::fault::PairFault;
 use crate::join::Join;
 use crate::pairing::Pairing;
 use crate::shared::share;
-use aut_core::{Automaton, copy_names, join_names};
+use aut_base::{Formula, Names, Numbers};
+use aut_core::{Automaton, Links, copy_names, join_names};
+use indexmap::IndexSet;
+use label_guards::Guards;
 use std::alloc::Global;
 
 /// The product: an automaton that accepts what both accept. Its states are the pairs of states that some letters lead to in
@@ -91,6 +95,21 @@ fn product_by(
     product_over(alloc, &both.first, both.second(b), join)
 }
 
+/// The product of an automaton with itself, not yet put together, and its pairs. Begun in one of its states it accepts the words
+/// that the automaton accepts begun in the one state of the pair and in the other.
+pub fn square(alloc: Global, a: &Automaton) -> Result<Paired, PairFault>
+    requires sets { a.now.sets + a.now.sets < 2 ^ 32 }
+    ensures parts { IfOk result (λ made. AreParts (core_of made)) }
+    ensures pairs { IfOk result (λ made. ArePairs (automaton_of a.now) (automaton_of a.now) made.pairs.keys) }
+    ensures accepts { IfOk result (λ made. ArePairwise (automaton_of (core_of made)) made.pairs.keys (automaton_of a.now) (automaton_of a.now)) }
+    ensures few { IfOk result (λ made. length made.pairs.keys ≤ MOST_PAIRS) }
+    ensures named { IsErrOf result PairFault.Names → ⊥ }
+    ensures many { IsErrOf result PairFault.Pairs → HasMorePairs MOST_PAIRS (automaton_of a.now) (automaton_of a.now) }
+{
+    a.whole();
+    product_parts(alloc, a, a, Join::All)
+}
+
 /// The product of two automata over the same names, where the first's store has the guards of the second.
 fn product_over(
     alloc: Global,
@@ -107,6 +126,48 @@ fn product_over(
     ensures named { IsErrOf result PairFault.Names → ⊥ }
     ensures pairs { IsErrOf result PairFault.Pairs → HasMorePairs MOST_PAIRS (automaton_of a.now) (automaton_of b.now) }
 {
+    let made = product_parts(alloc, a, b, join)?;
+    let states = made.pairs.len() as u32;
+    Ok(Automaton::from_parts(
+        alloc,
+        made.names,
+        made.guards,
+        states,
+        made.starts,
+        made.links,
+        made.sets,
+        made.formula,
+    )?)
+}
+
+/// The parts of a product, and the pairs of states that its states are.
+#[derive(Drop)]
+pub struct Paired {
+    pub names: Names,
+    pub guards: Guards,
+    pub starts: Numbers,
+    pub links: Links,
+    pub sets: u32,
+    pub formula: Formula,
+    pub pairs: IndexSet<(u32, u32)>,
+}
+
+/// The parts of the product, and its pairs.
+fn product_parts(
+    alloc: Global,
+    a: &Automaton,
+    b: &Automaton,
+    join: Join,
+) -> Result<Paired, PairFault>
+    requires names { b.now.names ≡ a.now.names }
+    requires store { Keeps b.now.store a.now.store }
+    requires sets { a.now.sets + b.now.sets < 2 ^ 32 }
+    ensures made { IfOk result (λ made. IsMade join a.now b.now made.pairs.keys (core_of made)) }
+    ensures pairs { IfOk result (λ made. ArePairs (automaton_of a.now) (automaton_of b.now) made.pairs.keys) }
+    ensures few { IfOk result (λ made. length made.pairs.keys ≤ MOST_PAIRS) }
+    ensures named { IsErrOf result PairFault.Names → ⊥ }
+    ensures many { IsErrOf result PairFault.Pairs → HasMorePairs MOST_PAIRS (automaton_of a.now) (automaton_of b.now) }
+{
     a.whole();
     b.whole();
     let sets = a.sets();
@@ -115,16 +176,14 @@ fn product_over(
     let mut pairing = Pairing::new(alloc, a.guards().copy(alloc)?);
     let starts = list_starts(alloc, &mut pairing, a.starts(), b.starts())?;
     explore(&mut pairing, a, b)?;
-    let states = pairing.len() as u32;
-    let (guards, links) = pairing.into_parts();
-    Ok(Automaton::from_parts(
-        alloc,
+    let (guards, links, pairs) = pairing.into_parts();
+    Ok(Paired {
         names,
         guards,
-        states,
         starts,
         links,
-        sets + b.sets(),
+        sets: sets + b.sets(),
         formula,
-    )?)
+        pairs,
+    })
 }

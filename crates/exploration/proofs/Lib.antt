@@ -6,6 +6,7 @@ pub mod Faults
 pub mod InOrder
 pub mod Lists
 pub mod Midways
+pub mod Outcomes
 pub mod Places
 pub mod Seeing
 pub mod Spreading

@@ -116,3 +116,12 @@ HasOneEnding X = (r : Rules X) (start : X) (things others : List X) (arrows more
 abbrev pub EndsOrMeets : (X : Type 0) → Type 0
 EndsOrMeets X = (r : Rules X) (start : X) (things : List X) (arrows : List Arrow) (f : Fault) →
     EndsWith r start things arrows → Comes r (begin start) (Meets f) → ⊥
+
+-- it ends, or it meets a limit
+pub data HasOutcome {X : Type 0} (r : Rules X) (start : X) : Type 0 where
+  has_end : (things : List X) (arrows : List Arrow) → EndsWith r start things arrows → HasOutcome r start
+  has_limit : (f : Fault) → (f ≡ fault.Memory → ⊥) → Comes r (begin start) (Meets f) → HasOutcome r start
+
+-- Each exploration ends or meets a limit.
+abbrev pub HasSomeOutcome : (X : Type 0) → Type 0
+HasSomeOutcome X = (r : Rules X) (start : X) → HasOutcome r start

@@ -1,6 +1,6 @@
 //! Laws of explorations.
 
-ghost use Rattle.exploration.specs.Turns.{EndsOrMeets, HasOneEnding, HasOneOutcome};
+ghost use Rattle.exploration.specs.Turns.{EndsOrMeets, HasOneEnding, HasOneOutcome, HasSomeOutcome};
 
 use crate::system::System;
 
@@ -17,4 +17,9 @@ pub fn ending_is_one<S: System>()
 /// An exploration that ends meets no limit.
 pub fn ends_or_meets<S: System>()
     ensures { EndsOrMeets S.Seen }
+{}
+
+/// Each exploration ends or meets a limit.
+pub fn outcome_exists<S: System>()
+    ensures { HasSomeOutcome S.Seen }
 {}

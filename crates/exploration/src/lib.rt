@@ -12,6 +12,6 @@ mod system;
 
 pub use exploration::{Edge, Explored, explore};
 pub use fault::{Fault, StepFault};
-pub use law::{ending_is_one, ends_or_meets, outcome_is_one};
+pub use law::{ending_is_one, ends_or_meets, outcome_exists, outcome_is_one};
 pub use limits::Limits;
 pub use system::System;

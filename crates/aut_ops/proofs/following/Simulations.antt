@@ -7,6 +7,7 @@ use Rattle.aut_base.specs.Label.{holds_at, truth}
 use Rattle.aut_base.specs.Word.{NameSet, copies}
 use Rattle.aut_base.proofs.runs.LassoRuns.{marks_of}
 use Rattle.aut_base.specs.Runs.{LassoRun}
+use Rattle.aut_ops.specs.Languages.{begun}
 
 -- an edge of the automaton that answers this one: it leaves the state q, and can be gone at the letter
 pub record Answer (b : Automaton) (Stands : ℕ → ℕ → Type 0) (Marked : List ℕ → List ℕ → Type 0) (x : NameSet) (q : ℕ) (e : TreeEdge) : Type 0 where
@@ -70,3 +71,12 @@ run_image a b Stands Marked sim u v turns rounds r start is_start stands =
       };
       marks = cycle.marks;
     }
+
+-- whatever state each is begun in
+pub begun_alike : (a b : Automaton) (p q : ℕ) (Stands : ℕ → ℕ → Type 0) (Marked : List ℕ → List ℕ → Type 0) → Simulates a b Stands Marked → Simulates (begun p a) (begun q b) Stands Marked
+begun_alike a b p q Stands Marked sim = record {
+  one = sim.one;
+  step = λ k l e x stands from there holds.
+      let answer = sim.step k l e x stands from there holds in
+      record { edge = answer.edge; from = answer.from; there = answer.there; holds = answer.holds; to = answer.to; marks = answer.marks };
+}

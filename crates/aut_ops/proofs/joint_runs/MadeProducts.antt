@@ -1,14 +1,13 @@
 -- The automaton of what was explored.
-use Rattle.std.proofs.Common.{◌≡◌, ◌≢◌, ◌∙◌, ◌+◌, ◌++◌, ◌∷◌, ℕ, List, [], AllPairs, Contains, ap, length, map, refl, subst, sym}
+use Rattle.std.proofs.Common.{◌≡◌, ◌≢◌, ◌∙◌, ◌+◌, ◌++◌, ◌∷◌, ℕ, List, [], AllPairs, ap, length, map, refl, subst, sym}
 use Rattle.std.specs.List.{AllZip, position_or_len}
 use Rattle.std.specs.Prelude.{flat_map}
 use Rattle.acc_forms.specs.Shift.{shift}
 use Rattle.aut_base.proofs.canonical.CanonicalAutomata.{labels_below}
 use Rattle.aut_base.specs.Automaton.{Automaton, IsWellFormed, TreeEdge}
 use Rattle.aut_base.specs.Formula.{FormulaTree, SetsBelow, True}
-use Rattle.aut_base.specs.Word.{NameSet, copies}
 use Rattle.aut_core.proofs.OtherNames.{AreAmong, over_accepts}
-use Rattle.aut_core.specs.Core.{AreParts, Core, IsCore, automaton_of, edge_of}
+use Rattle.aut_core.specs.Core.{Core, IsCore, automaton_of, edge_of}
 use Rattle.aut_core.specs.OtherNames.{AcceptTheSame, over_names}
 use Rattle.aut_core.specs.declared.link.Link.{Link}
 use Rattle.label_guards.specs.Store.{Keeps, Store}
@@ -22,12 +21,12 @@ use Rattle.aut_ops.proofs.pairs.Places.{pair_tells, place_is}
 use Rattle.aut_ops.proofs.joint_runs.ProductFormed.{product_formed}
 use Rattle.aut_ops.proofs.joint_runs.ProductLanguages.{product_accepts, product_or_accepts}
 use Rattle.aut_base.proofs.runs.OtherEdges.{run_wider}
-use Rattle.aut_ops.specs.Products.{ArePairs, IsProduct, JointEdge, joint_edges, numbered, product_on, same_pair, start_pairs}
+use Rattle.aut_ops.specs.Products.{ArePairs, JointEdge, joint_edges, numbered, product_on, same_pair, start_pairs}
 use Rattle.aut_ops.specs.declared.join.Join.{Join}
 use Rattle.aut_ops.specs.declared.join.Join.TheVariants as join
-use Rattle.aut_ops.specs.inner.Joins.{JoinAccepts, join_of}
+use Rattle.aut_ops.specs.inner.Joins.{IsMade, JoinAccepts, join_of}
 use Rattle.aut_ops.specs.inner.Pairings.{AreEdges, ArePlaces, IsNumbered, Stage}
-use Rattle.aut_base.specs.Runs.{HasRuns, LassoRun}
+use Rattle.aut_base.specs.Runs.{HasRuns}
 
 sets_join : (j : Join) (n : ℕ) (f g : FormulaTree) → SetsBelow n f → SetsBelow n g → SetsBelow n (join_of j f g)
 sets_join join.All n f g one two = sets_conj n f g one two
@@ -54,41 +53,35 @@ module _ (pairs : List (ℕ × ℕ)) (differ : AllPairs (λ p q. p ≢ q) pairs)
       let rest = places_are ks xs zip.1 in
       λ i. sym here i ∷ rest i
 
--- the parts of a product
-pub record IsMade (j : Join) (a b c : Core) : Type 0 where
-  pub shape : IsProduct (join_of j) (automaton_of a) (automaton_of b) (automaton_of c)
-  pub accepts : JoinAccepts j (automaton_of c) (automaton_of a) (automaton_of b)
-  pub parts : AreParts c
-
 accepts_by : (j : Join) (a b : Automaton) (names : b.names ≡ a.names) (formed : IsWellFormed a) (also : IsWellFormed b) (pairs : List (ℕ × ℕ)) → ArePairs a b pairs
     → JoinAccepts j (product_on (join_of j) pairs a b) a b
 accepts_by join.All a b names formed also pairs listed = product_accepts a b names formed also pairs listed
 accepts_by join.Any a b names formed also pairs listed = λ runs others. product_or_accepts a b names formed also pairs listed runs others
 
-pub made : (j : Join) (a b : Core) (stage : Stage) (begun : List (ℕ × ℕ)) (names : List (List ℕ)) (starts : List ℕ) (states sets seconds : ℕ) (formula f g : FormulaTree) (store : Store)
+pub made : (j : Join) (a b : Core) (stage : Stage) (begun : List (ℕ × ℕ)) (names : List (List ℕ)) (starts : List ℕ) (sets seconds : ℕ) (formula f g : FormulaTree) (store : Store)
     (links : List Link) → IsCore a → IsCore b → b.names ≡ a.names → Keeps b.store stage.store
     → ArePairs (automaton_of a) (automaton_of b) stage.pairs → AreEdges stage (flat_map (joint_edges (automaton_of a) (automaton_of b)) stage.pairs)
     → (rest : List (ℕ × ℕ)) × (stage.pairs ≡ begun ++ rest) → ArePlaces begun starts (start_pairs (automaton_of a) (automaton_of b))
-    → names ≡ a.names → states ≡ length stage.pairs → sets ≡ a.sets → seconds ≡ b.sets → f ≡ a.formula → g ≡ b.formula → formula ≡ join_of j f (shift sets g)
+    → names ≡ a.names → sets ≡ a.sets → seconds ≡ b.sets → f ≡ a.formula → g ≡ b.formula → formula ≡ join_of j f (shift sets g)
     → store ≡ stage.store → links ≡ stage.links
-    → IsMade j a b (record { names = names; starts = starts; states = states; links = links; sets = sets + seconds; formula = formula; store = store })
-made j a b stage begun names starts states sets seconds formula f g store links core_a core_b same keeps listed edges longer places same_names count at at_b f_is g_is joined store_is links_are =
+    → IsMade j a b stage.pairs (record { names = names; starts = starts; states = length stage.pairs; links = links; sets = sets + seconds; formula = formula; store = store })
+made j a b stage begun names starts sets seconds formula f g store links core_a core_b same keeps listed edges longer places same_names at at_b f_is g_is joined store_is links_are =
     let x = automaton_of a in
     let y = automaton_of b in
     let differ = pairs_differ x y stage.pairs listed in
-    let core : Core = record { names = names; starts = starts; states = states; links = stage.links; sets = sets + seconds; formula = formula; store = stage.store } in
+    let core : Core = record { names = names; starts = starts; states = length stage.pairs; links = stage.links; sets = sets + seconds; formula = formula; store = stage.store } in
     let is : automaton_of core ≡ product_on (join_of j) stage.pairs x y = λ i. record {
       names = same_names i;
       starts = places_are stage.pairs differ starts (start_pairs x y) (places_longer begun stage.pairs longer.0 starts (start_pairs x y) longer.1 places) i;
-      states = count i;
+      states = length stage.pairs;
       edges = edges_are stage.pairs differ (map (edge_of stage.store) stage.links) (flat_map (joint_edges x y) stage.pairs) edges.edges i;
       sets = at i + at_b i;
       formula = (joined ∙ (λ k. join_of j (f_is k) (shift (at k) (g_is k)))) i;
     } in
-    let last : Core = record { names = names; starts = starts; states = states; links = links; sets = sets + seconds; formula = formula; store = store } in
-    let whole : core ≡ last = λ i. record { names = names; starts = starts; states = states; links = sym links_are i; sets = sets + seconds; formula = formula; store = sym store_is i } in
-    subst (IsMade j a b) whole (record {
-      shape = record { pairs = stage.pairs; in_order = listed; is = is };
+    let last : Core = record { names = names; starts = starts; states = length stage.pairs; links = links; sets = sets + seconds; formula = formula; store = store } in
+    let whole : core ≡ last = λ i. record { names = names; starts = starts; states = length stage.pairs; links = sym links_are i; sets = sets + seconds; formula = formula; store = sym store_is i } in
+    subst (IsMade j a b stage.pairs) whole (record {
+      shape = is;
       accepts = subst (λ (m : Automaton). JoinAccepts j m x y) (sym is) (accepts_by j x y same core_a.well_formed core_b.well_formed stage.pairs listed);
       parts = parts_for core (product_on (join_of j) stage.pairs x y) is (product_formed (join_of j) x y same core_a.well_formed core_b.well_formed stage.pairs listed (sets_join j)) core_a.parts.few
           (keeps.names ∙ (core_b.parts.store_names ∙ ap (λ (ns : List (List ℕ)). length ns) same)) edges.has;

@@ -53,10 +53,10 @@ module _ (join : FormulaTree → FormulaTree → FormulaTree) (a b : Automaton) 
 
   -- the product follows each of the two
 
-  abbrev FirstOf : ℕ → ℕ → Type 0
+  abbrev pub FirstOf : ℕ → ℕ → Type 0
   FirstOf k q = (r : ℕ) × (slice_get pairs k ≡ Some (q, r))
 
-  abbrev SecondOf : ℕ → ℕ → Type 0
+  abbrev pub SecondOf : ℕ → ℕ → Type 0
   SecondOf k q = (r : ℕ) × (slice_get pairs k ≡ Some (r, q))
 
   -- an edge of the product that is gone from a pair is one of each, and both are gone
@@ -81,7 +81,7 @@ module _ (join : FormulaTree → FormulaTree → FormulaTree) (a b : Automaton) 
         second_holds = both.1;
       }
 
-  product_in_first : Simulates p a FirstOf (AgreeBelow a.sets)
+  pub product_in_first : Simulates p a FirstOf (AgreeBelow a.sets)
   product_in_first = record {
     one = λ k q r s t. ap (λ (x : ℕ × ℕ). x.0) (same_Some (q, s.0) (r, t.0) (sym s.1 ∙ t.1));
     step = λ k q e x stands at there holds.
@@ -97,7 +97,7 @@ module _ (join : FormulaTree → FormulaTree → FormulaTree) (a b : Automaton) 
         };
   }
 
-  product_in_second : Simulates p b SecondOf (AgreeRaised a.sets b.sets)
+  pub product_in_second : Simulates p b SecondOf (AgreeRaised a.sets b.sets)
   product_in_second = record {
     one = λ k q r s t. ap (λ (x : ℕ × ℕ). x.1) (same_Some (s.0, q) (t.0, r) (sym s.1 ∙ t.1));
     step = λ k q e x stands at there holds.
@@ -115,18 +115,18 @@ module _ (join : FormulaTree → FormulaTree → FormulaTree) (a b : Automaton) 
 
   -- and two paths that read the same are one of the product
 
-  record PairPath (k : ℕ) (xs : List NameSet) (es fs : List TreeEdge) (s t : ℕ) : Type 0 where
-    state : ℕ
-    edges : List TreeEdge
-    goes : IsPath p k xs edges state
-    to : slice_get pairs state ≡ Some (s, t)
-    firsts : AllZip (AgreeBelow a.sets) (marks_of edges) (marks_of es)
-    seconds : AllZip (AgreeRaised a.sets b.sets) (marks_of edges) (marks_of fs)
+  pub record PairPath (k : ℕ) (xs : List NameSet) (es fs : List TreeEdge) (s t : ℕ) : Type 0 where
+    pub state : ℕ
+    pub edges : List TreeEdge
+    pub goes : IsPath p k xs edges state
+    pub to : slice_get pairs state ≡ Some (s, t)
+    pub firsts : AllZip (AgreeBelow a.sets) (marks_of edges) (marks_of es)
+    pub seconds : AllZip (AgreeRaised a.sets b.sets) (marks_of edges) (marks_of fs)
 
   there_at : (k : ℕ) (x : ℕ × ℕ) → slice_get pairs k ≡ Some x → Contains pairs x
   there_at k x at = (k, slice_get_within pairs k x at, get_or_from_slice_get pairs k x x at)
 
-  pair_path : (k s t s' t' : ℕ) (xs : List NameSet) (es fs : List TreeEdge) → slice_get pairs k ≡ Some (s, t) → IsPath a s xs es s' → IsPath b t xs fs t' → PairPath k xs es fs s' t'
+  pub pair_path : (k s t s' t' : ℕ) (xs : List NameSet) (es fs : List TreeEdge) → slice_get pairs k ≡ Some (s, t) → IsPath a s xs es s' → IsPath b t xs fs t' → PairPath k xs es fs s' t'
   pair_path k s t s' t' [] [] [] at one two = record { state = k; edges = []; goes = refl; to = at ∙ (λ i. Some (one i, two i)); firsts = tt; seconds = tt }
   pair_path k s t s' t' [] (e ∷ es) fs at one two = absurd one
   pair_path k s t s' t' [] [] (f ∷ fs) at one two = absurd two

@@ -1,7 +1,10 @@
 -- The two ways in which the conditions of a product are joined.
+use Rattle.std.specs.Prelude.{◌≡◌, ℕ, List}
 use Rattle.acc_forms.specs.Joined.{conj, disj}
 use Rattle.aut_base.specs.Automaton.{Automaton}
 use Rattle.aut_base.specs.Formula.{FormulaTree}
+use Rattle.aut_core.specs.Core.{AreParts, Core, automaton_of}
+use Rattle.aut_ops.specs.Products.{product_on}
 use Rattle.aut_ops.specs.Languages.{AcceptsBoth, AcceptsEither}
 use Rattle.aut_ops.specs.declared.join.Join.{Join}
 use Rattle.aut_ops.specs.declared.join.Join.TheVariants.{All, Any}
@@ -15,3 +18,9 @@ join_of Any = disj
 abbrev pub JoinAccepts : Join → Automaton → Automaton → Automaton → Type 0
 JoinAccepts All made a b = AcceptsBoth made a b
 JoinAccepts Any made a b = HasRuns a → HasRuns b → AcceptsEither made a b
+
+-- the parts are those of the product on these pairs
+pub record IsMade (j : Join) (a b : Core) (pairs : List (ℕ × ℕ)) (c : Core) : Type 0 where
+  pub shape : automaton_of c ≡ product_on (join_of j) pairs (automaton_of a) (automaton_of b)
+  pub accepts : JoinAccepts j (automaton_of c) (automaton_of a) (automaton_of b)
+  pub parts : AreParts c
