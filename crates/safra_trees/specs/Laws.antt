@@ -1,6 +1,7 @@
 -- What holds of every tree, and a worked example.
-use Rattle.std.specs.Prelude.{◌≡◌, List, [], ◌∷◌, Some, None, true, false}
+use Rattle.std.specs.Prelude.{◌≡◌, ◌↔◌, List, [], ◌∷◌, Some, None, true, false}
 use Rattle.safra_trees.specs.Events.{event_of}
+use Rattle.safra_trees.specs.Same.{same_nodes}
 use Rattle.safra_trees.specs.Step.{IsTree, grown, pruned}
 use Rattle.safra_trees.specs.Trees.{Node, first_tree}
 use Rattle.safra_trees.specs.View.{tree_of}
@@ -14,6 +15,10 @@ StoredTreesAreTrees = (tree : SafraTree) → IsTree (tree_of tree)
 -- Two stored trees that are the same list of nodes are one.
 abbrev pub SameListSameTree : Type 0
 SameListSameTree = (one other : SafraTree) → tree_of one ≡ tree_of other → one ≡ other
+
+-- They compare as equal exactly where they are the same list of nodes.
+abbrev pub EqualTreesAreOneList : Type 0
+EqualTreesAreOneList = (one other : SafraTree) → (same_nodes (tree_of one) (tree_of other) ≡ true) ↔ (tree_of one ≡ tree_of other)
 
 -- An automaton that waits in state 0, where each letter keeps it, and moves on to state 1, where the letter `stay` alone
 -- keeps it, by accepting moves.

@@ -18,7 +18,9 @@ mod tree;
 
 pub use event::Event;
 pub use fault::TreeFault;
-pub use law::{same_list_same_tree, stored_trees_are_trees, worked_steps};
+pub use law::{
+    equal_trees_are_one_list, same_list_same_tree, stored_trees_are_trees, worked_steps,
+};
 pub use moves::{Move, Moves};
 pub use room::Room;
 pub use starting::start;

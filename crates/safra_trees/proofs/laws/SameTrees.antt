@@ -18,7 +18,7 @@ mapped : (f : Node → ℕ) (g : ℕ → Node) (xs : List ℕ) → map f (map g 
 mapped f g [] = refl
 mapped f g (x ∷ xs) = ap (λ ys. f (g x) ∷ ys) (mapped f g xs)
 
-parents_read : (parents states places : List ℕ) → map (λ (d : Node). d.parent) (nodes_of parents states places) ≡ parents
+pub parents_read : (parents states places : List ℕ) → map (λ (d : Node). d.parent) (nodes_of parents states places) ≡ parents
 parents_read parents states places =
     mapped (λ (d : Node). d.parent) (node_of parents states places) (range_with_len 0 (length parents))
     ∙ sym (listed_by parents (at parents) 0 (λ i less. (let e : i ≡ 0 + i = omega arith in ap (at parents) e)))
@@ -42,7 +42,7 @@ place_low parents states places others is also same p there =
     let other = stored_found parents states places is y p y_held in
     omega (arith, over_low (at parents) m is.lower x y y_in one.passes, over_low (at parents) m is.lower y x x_in other.passes)
 
-places_same : (none : ℕ) (states places others : List ℕ) → AllPairs (λ a b. a < b) states → length places ≡ length states → length others ≡ length states
+pub places_same : (none : ℕ) (states places others : List ℕ) → AllPairs (λ a b. a < b) states → length places ≡ length states → length others ≡ length states
     → ((p : ℕ) → has states p ≡ true → place_of none states places p ≡ place_of none states others p) → places ≡ others
 places_same none [] [] [] rising each too same = refl
 places_same none [] [] (y ∷ others) rising each too same = absurd (omega (arith, too))

@@ -1,8 +1,9 @@
 use Rattle.std.proofs.Common.{◌∙◌, sym}
-use Rattle.safra_trees.proofs.laws.EqualTrees.{trees_equal}
+use Rattle.safra_trees.specs.Same.{same_tells}
+use Rattle.safra_trees.specs.View.{tree_of}
 use Rattle.safra_trees.proofs.tree.SafraTree.is.Goals as goal
 
 pub returns : goal.returns
 returns c =
-    let equal = trees_equal c.args.self.now c.args.other.now in
-    (λ is. equal.0 (sym c.eq.ensures ∙ is), λ same. c.eq.ensures ∙ equal.1 same)
+    let tells = same_tells (tree_of c.args.self.now) (tree_of c.args.other.now) in
+    (λ is. tells.0 (sym c.eq.ensures ∙ is), λ same. c.eq.ensures ∙ tells.1 same)
