@@ -1,3 +1,2 @@
-mod deciding
-mod growing
-mod tracks
+mod parting
+pub mod tracks

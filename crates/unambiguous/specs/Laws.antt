@@ -1,22 +1,19 @@
 -- What holds of unambiguous automata.
 use Rattle.std.specs.Prelude.{◌≡◌, ◌↔◌, ℕ, ◌<◌, List, [], ◌∷◌, length}
 use Rattle.aut_base.specs.Acceptance.{Accepts}
-use Rattle.aut_base.specs.Automaton.{Automaton, IsWellFormed, TreeEdge}
+use Rattle.aut_base.specs.Automaton.{Automaton, TreeEdge}
+use Rattle.aut_core.specs.Core.{Core, IsCore, automaton_of}
 use Rattle.aut_base.specs.Formula.{FormulaTree}
 use Rattle.aut_base.specs.Label.{LabelTree}
 use Rattle.aut_base.specs.Word.{NameSet, nth}
 use Rattle.aut_core.specs.Deterministic.{IsDeterministic}
 use Rattle.lasso_emptiness.specs.Emptiness.{AcceptsNothing}
 use Rattle.unambiguous.specs.Runs.{AcceptingRun, IsUnambiguous}
-use Rattle.unambiguous.specs.Square.{IsFlaggedSquare, TwoRuns}
+use Rattle.unambiguous.specs.Parted.{IsParted}
 
--- The flagged square accepts no lasso word exactly where the automaton is unambiguous.
-abbrev pub SquareDecides : Type 0
-SquareDecides = (a s : Automaton) → IsWellFormed a → IsFlaggedSquare a s → AcceptsNothing s ↔ IsUnambiguous a
-
--- Word by word: the square accepts a lasso word exactly where two accepting runs over it differ.
-abbrev pub SquareAccepts : Type 0
-SquareAccepts = (a s : Automaton) → IsWellFormed a → IsFlaggedSquare a s → (u v : List NameSet) → Accepts s u v ↔ ((0 < length v) × TwoRuns a u v)
+-- The square begun where two runs may have parted accepts no lasso word exactly where the automaton is unambiguous.
+abbrev pub PartedDecides : Type 0
+PartedDecides = (a : Core) (s : Automaton) → IsCore a → IsParted a s → AcceptsNothing s ↔ IsUnambiguous (automaton_of a)
 
 -- Deterministic automata are unambiguous.
 abbrev pub DeterministicIsUnambiguous : Type 0

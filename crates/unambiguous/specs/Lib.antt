@@ -1,4 +1,4 @@
+pub mod Faults
 pub mod Laws
+pub mod Parted
 pub mod Runs
-pub mod Square
-pub mod inner

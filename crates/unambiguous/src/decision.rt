@@ -7,10 +7,10 @@ ghost use Rattle.aut_ops.specs.Products.{HasMorePairs};
 ghost use Rattle.unambiguous.specs.Runs.{IsUnambiguous};
 ghost use Rattle.unambiguous.specs.declared.fault.SquareFault.{SquareFault};
 
-use crate::exploration::flagged_square;
 use crate::fault::SquareFault;
+use crate::parted::parted_square;
 use aut_core::Automaton;
-use lasso_emptiness::accepted_word;
+use lasso_emptiness::accepts_some;
 use std::alloc::Global;
 
 /// Whether on no lasso word two accepting runs of the automaton differ in an edge. Edges are compared by their places, so two
@@ -23,7 +23,7 @@ pub fn is_unambiguous(alloc: Global, a: &Automaton) -> Result<bool, SquareFault>
     ensures many { IsErrOf result SquareFault.Pairs → HasMorePairs MOST_PAIRS (automaton_of a.now) (automaton_of a.now) }
 {
     a.whole();
-    let square = flagged_square(alloc, a)?;
-    let word = accepted_word(alloc, &square)?;
-    Ok(word.is_none())
+    let parted = parted_square(alloc, a)?;
+    let is_ambiguous = accepts_some(alloc, &parted)?;
+    Ok(!is_ambiguous)
 }

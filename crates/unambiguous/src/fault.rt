@@ -1,9 +1,12 @@
 //! Why it could not be said whether an automaton is unambiguous.
 
 ghost use Rattle.std.specs.Prelude.{◌≡◌};
+ghost use Rattle.aut_ops.specs.declared.fault.PairFault.{PairFault};
+ghost use Rattle.unambiguous.specs.Faults.{square_fault};
 ghost use Rattle.unambiguous.specs.declared.fault.SquareFault.{SquareFault};
 
 use aut_base::Memory;
+use aut_ops::PairFault;
 
 /// Why it could not be said whether an automaton is unambiguous.
 #[derive(Clone, Copy, Debug, PartialEq, Eq)]
@@ -19,5 +22,17 @@ impl From<Memory> for SquareFault {
 
     fn from(_want: Memory) -> SquareFault {
         SquareFault::Memory
+    }
+}
+
+impl From<PairFault> for SquareFault {
+    ghost from_gives = { λ came fault. fault ≡ square_fault came };
+
+    /// An automaton has the names of its square, so these are never too many.
+    fn from(came: PairFault) -> SquareFault {
+        match came {
+            PairFault::Pairs => SquareFault::Pairs,
+            PairFault::Names | PairFault::Memory => SquareFault::Memory,
+        }
     }
 }

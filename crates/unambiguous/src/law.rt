@@ -1,15 +1,10 @@
 //! What holds of unambiguous automata.
 
-ghost use Rattle.unambiguous.specs.Laws.{DeterministicIsUnambiguous, PlacesFixStart, RunsAreAcceptance, SquareAccepts, SquareDecides, TwiceIsAmbiguous};
+ghost use Rattle.unambiguous.specs.Laws.{DeterministicIsUnambiguous, PartedDecides, PlacesFixStart, RunsAreAcceptance, TwiceIsAmbiguous};
 
-/// The flagged square accepts no lasso word exactly where the automaton is unambiguous.
-pub fn square_decides()
-    ensures { SquareDecides }
-{}
-
-/// It accepts a lasso word exactly where two accepting runs over the word differ.
-pub fn square_accepts()
-    ensures { SquareAccepts }
+/// The square begun where two runs may have parted accepts no lasso word exactly where the automaton is unambiguous.
+pub fn parted_decides()
+    ensures { PartedDecides }
 {}
 
 /// Deterministic automata are unambiguous.

@@ -1,5 +1,6 @@
 -- Runs by places are the runs of acceptance.
-use Rattle.std.proofs.Common.{◌≡◌, ◌∙◌, ℕ, ◌<◌, List, [], ◌∷◌, ◌++◌, ap, length, map, refl, sym}
+use Rattle.std.proofs.Common.{◌≡◌, ◌∙◌, ℕ, ◌<◌, List, [], ◌∷◌, ◌++◌, Option, Some, ap, length, map, refl, slice_get, sym}
+use Rattle.std.specs.Option.{option_map_or}
 use Rattle.aut_base.proofs.lists.Members.{placed_there, there_at}
 use Rattle.aut_base.proofs.runs.LassoRuns.{accepts_of}
 use Rattle.aut_base.specs.Acceptance.{Accepts, IsPath}
@@ -7,17 +8,19 @@ use Rattle.aut_base.specs.Automaton.{Automaton, TreeEdge}
 use Rattle.aut_base.specs.Formula.{met}
 use Rattle.aut_base.specs.Runs.{LassoRun}
 use Rattle.aut_base.specs.Word.{NameSet, copies}
-use Rattle.unambiguous.proofs.deciding.Decided.{marks_here}
 use Rattle.unambiguous.specs.Laws.{RunsAreAcceptance}
 use Rattle.unambiguous.specs.Runs.{AcceptingRun, IsTrack, marks_at}
 
-module _ (a : Automaton) where
-  record Placed (p q : ℕ) (xs : List NameSet) (es : List TreeEdge) : Type 0 where
-    places : List ℕ
-    track : IsTrack a p xs places q
-    marks : map (marks_at a) places ≡ map (λ (e : TreeEdge). e.marks) es
+marks_here : (a : Automaton) (m : ℕ) (e : TreeEdge) → slice_get a.edges m ≡ Some e → e.marks ≡ marks_at a m
+marks_here a m e at = ap (λ (o : Option TreeEdge). option_map_or (λ (e : TreeEdge). e.marks) o []) (sym at)
 
-  placed : (p q : ℕ) (xs : List NameSet) (es : List TreeEdge) → IsPath a p xs es q → Placed p q xs es
+module _ (a : Automaton) where
+  pub record Placed (p q : ℕ) (xs : List NameSet) (es : List TreeEdge) : Type 0 where
+    pub places : List ℕ
+    pub track : IsTrack a p xs places q
+    pub marks : map (marks_at a) places ≡ map (λ (e : TreeEdge). e.marks) es
+
+  pub placed : (p q : ℕ) (xs : List NameSet) (es : List TreeEdge) → IsPath a p xs es q → Placed p q xs es
   placed p q [] [] path = record { places = []; track = path; marks = refl }
   placed p q [] (e ∷ es) path = absurd path
   placed p q (x ∷ xs) [] path = absurd path
@@ -30,12 +33,12 @@ module _ (a : Automaton) where
         marks = ap (λ ms. ms ∷ map (marks_at a) rest.places) (sym (marks_here a at.0 e at.1)) ∙ ap (λ cs. e.marks ∷ cs) rest.marks;
       }
 
-  record Gone (p q : ℕ) (xs : List NameSet) (ms : List ℕ) : Type 0 where
-    edges : List TreeEdge
-    path : IsPath a p xs edges q
-    marks : map (λ (e : TreeEdge). e.marks) edges ≡ map (marks_at a) ms
+  pub record Gone (p q : ℕ) (xs : List NameSet) (ms : List ℕ) : Type 0 where
+    pub edges : List TreeEdge
+    pub path : IsPath a p xs edges q
+    pub marks : map (λ (e : TreeEdge). e.marks) edges ≡ map (marks_at a) ms
 
-  gone : (p q : ℕ) (xs : List NameSet) (ms : List ℕ) → IsTrack a p xs ms q → Gone p q xs ms
+  pub gone : (p q : ℕ) (xs : List NameSet) (ms : List ℕ) → IsTrack a p xs ms q → Gone p q xs ms
   gone p q [] [] track = record { edges = []; path = track; marks = refl }
   gone p q [] (m ∷ ms) track = absurd track
   gone p q (x ∷ xs) [] track = absurd track

@@ -9,14 +9,14 @@ use Rattle.unambiguous.specs.Laws.{PlacesFixStart}
 use Rattle.unambiguous.specs.Runs.{AcceptingRun, IsTrack}
 
 module _ (a : Automaton) where
-  record Begins (p : ℕ) (ms ns : List ℕ) : Type 0 where
-    place : ℕ
-    edge : TreeEdge
-    at : slice_get a.edges place ≡ Some edge
-    from : p ≡ edge.from
-    is_first : nth ms ns 0 ≡ Some place
+  pub record Begins (p : ℕ) (ms ns : List ℕ) : Type 0 where
+    pub place : ℕ
+    pub edge : TreeEdge
+    pub at : slice_get a.edges place ≡ Some edge
+    pub from : p ≡ edge.from
+    pub is_first : nth ms ns 0 ≡ Some place
 
-  begins : (p q r : ℕ) (xs ys : List NameSet) (ms ns : List ℕ) → IsTrack a p xs ms q → IsTrack a q ys ns r → 0 < length ns → Begins p ms ns
+  pub begins : (p q r : ℕ) (xs ys : List NameSet) (ms ns : List ℕ) → IsTrack a p xs ms q → IsTrack a q ys ns r → 0 < length ns → Begins p ms ns
   begins p q r xs ys ms [] one two some = absurd (omega (arith, some))
   begins p q r xs [] ms (n ∷ ns) one two some = absurd two
   begins p q r [] (y ∷ ys) [] (n ∷ ns) one two some = record { place = n; edge = two.0; at = two.1; from = one ∙ two.2; is_first = word_letter [] (n ∷ ns) 1 0 some (omega arith) }

@@ -20,21 +20,21 @@ module _ (a : Automaton) where
   as_long p (x ∷ xs) [] q track = absurd track
   as_long p (x ∷ xs) (m ∷ ms) q track = ap suc (as_long track.0.to xs ms q track.4)
 
-  track_join : (p r q : ℕ) (xs ys : List NameSet) (ms ns : List ℕ) → IsTrack a p xs ms r → IsTrack a r ys ns q → IsTrack a p (xs ++ ys) (ms ++ ns) q
+  pub track_join : (p r q : ℕ) (xs ys : List NameSet) (ms ns : List ℕ) → IsTrack a p xs ms r → IsTrack a r ys ns q → IsTrack a p (xs ++ ys) (ms ++ ns) q
   track_join p r q [] ys [] ns first second = let P : ℕ → Type 0 = λ s. IsTrack a s ys ns q in subst P (sym first) second
   track_join p r q [] ys (m ∷ ms) ns first second = absurd first
   track_join p r q (x ∷ xs) ys [] ns first second = absurd first
   track_join p r q (x ∷ xs) ys (m ∷ ms) ns first second = (first.0, first.1, first.2, first.3, track_join first.0.to r q xs ys ms ns first.4 second)
 
-  record Halves (p q : ℕ) (xs ys : List NameSet) (ms : List ℕ) : Type 0 where
-    middle : ℕ
-    front : List ℕ
-    back : List ℕ
-    parts : ms ≡ front ++ back
-    first : IsTrack a p xs front middle
-    second : IsTrack a middle ys back q
+  pub record Halves (p q : ℕ) (xs ys : List NameSet) (ms : List ℕ) : Type 0 where
+    pub middle : ℕ
+    pub front : List ℕ
+    pub back : List ℕ
+    pub parts : ms ≡ front ++ back
+    pub first : IsTrack a p xs front middle
+    pub second : IsTrack a middle ys back q
 
-  track_split : (p q : ℕ) (xs ys : List NameSet) (ms : List ℕ) → IsTrack a p (xs ++ ys) ms q → Halves p q xs ys ms
+  pub track_split : (p q : ℕ) (xs ys : List NameSet) (ms : List ℕ) → IsTrack a p (xs ++ ys) ms q → Halves p q xs ys ms
   track_split p q [] ys ms track = record { middle = p; front = []; back = ms; parts = refl; first = refl; second = track }
   track_split p q (x ∷ xs) ys [] track = absurd track
   track_split p q (x ∷ xs) ys (m ∷ ms) track =

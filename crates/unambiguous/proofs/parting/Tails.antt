@@ -1,0 +1,147 @@
+-- What is left of an accepting run from a state on.
+use Rattle.std.proofs.Common.{◌≡◌, ◌∙◌, ℕ, suc, ◌+◌, ◌*◌, ◌<◌, ◌≤◌, true, List, [], ◌∷◌, ◌++◌, Contains, Some, ap, append_assoc, arith, inl, inr, length}
+use Rattle.std.proofs.Common.{length-append, map, refl, slice_get, subst, sym}
+use Rattle.std.proofs.Math.Nat.{le-mul_of_pos_right}
+use Rattle.std.proofs.lemmas.Option.{same_Some}
+use Rattle.aut_base.proofs.lists.Lists.{slice_get-append_right}
+use Rattle.aut_base.proofs.lists.Members.{first_there, none_there, there_cases}
+use Rattle.aut_base.proofs.runs.LassoRuns.{accepts_of}
+use Rattle.aut_base.proofs.runs.OtherEdges.{path_wider}
+use Rattle.aut_base.proofs.words.Spelled.{stem_letter, word_letter}
+use Rattle.aut_base.specs.Acceptance.{Accepts}
+use Rattle.aut_base.specs.Automaton.{Automaton, TreeEdge}
+use Rattle.aut_base.specs.Formula.{met}
+use Rattle.aut_base.specs.Label.{holds_at, truth}
+use Rattle.aut_base.specs.Word.{NameSet, copies, nth}
+use Rattle.aut_ops.specs.Languages.{begun}
+use Rattle.unambiguous.proofs.tracks.Accepted.{gone, placed}
+use Rattle.unambiguous.proofs.tracks.Starts.{Begins, begins}
+use Rattle.unambiguous.proofs.tracks.Tracks.{as_long, some_edges, track_join}
+use Rattle.unambiguous.specs.Runs.{AcceptingRun, IsTrack, IsUnambiguous, marks_at}
+
+-- behind a front the list goes on as without it
+pub nth_behind : (front way cycle : List ℕ) (n : ℕ) → 0 < length cycle → nth (front ++ way) cycle (length front + n) ≡ nth way cycle n
+nth_behind front way cycle n some =
+    let i = suc n in
+    let wide : suc n ≤ suc n * length cycle = le-mul_of_pos_right (suc n) some in
+    word_letter (front ++ way) cycle i (length front + n) some (omega (arith, length-append front way, wide))
+    ∙ (ap (λ (ms : List ℕ). slice_get ms (length front + n)) (append_assoc front way (copies i cycle))
+    ∙ (slice_get-append_right front (way ++ copies i cycle) n (length front + n) refl ∙ sym (word_letter way cycle i n some (omega (arith, wide)))))
+
+module _ (a : Automaton) where
+  -- an accepting run begun in this state
+  pub record Tail (p : ℕ) (u v : List NameSet) : Type 0 where
+    pub state : ℕ
+    pub turns : ℕ
+    pub rounds : ℕ
+    pub way : List ℕ
+    pub cycle : List ℕ
+    pub leads : IsTrack a p (u ++ copies turns v) way state
+    pub positive : 0 < rounds
+    pub returns : IsTrack a state (copies rounds v) cycle state
+    pub meets : met (map (marks_at a) cycle) a.formula ≡ true
+
+  pub to_tail : (p : ℕ) (u v : List NameSet) → Accepts (begun p a) u v → Tail p u v
+  to_tail p u v r =
+      let start : p ≡ r.start = elim (there_cases p [] r.start r.is_start) [ inl is ↦ is | inr none ↦ absurd (none_there r.start none) ] in
+      let leads = path_wider (begun p a) a refl (λ e there. there) r.start r.state (u ++ copies r.turns v) r.way r.leads in
+      let returns = path_wider (begun p a) a refl (λ e there. there) r.state r.state (copies r.rounds v) r.cycle r.returns in
+      let way = placed a r.start r.state (u ++ copies r.turns v) r.way leads in
+      let cycle = placed a r.state r.state (copies r.rounds v) r.cycle returns in
+      record {
+        state = r.state;
+        turns = r.turns;
+        rounds = r.rounds;
+        way = way.places;
+        cycle = cycle.places;
+        leads = subst (λ s. IsTrack a s (u ++ copies r.turns v) way.places r.state) (sym start) way.track;
+        positive = r.positive;
+        returns = cycle.track;
+        meets = ap (λ cs. met cs a.formula) cycle.marks ∙ r.meets;
+      }
+
+  pub from_tail : (p : ℕ) (u v : List NameSet) → 0 < length v → Tail p u v → Accepts (begun p a) u v
+  from_tail p u v endless t =
+      let way = gone a p t.state (u ++ copies t.turns v) t.way t.leads in
+      let cycle = gone a t.state t.state (copies t.rounds v) t.cycle t.returns in
+      accepts_of (begun p a) u v t.turns t.rounds (record {
+        start = p;
+        state = t.state;
+        way = way.edges;
+        cycle = cycle.edges;
+        is_start = first_there p [];
+        leads = path_wider a (begun p a) refl (λ e there. there) p t.state (u ++ copies t.turns v) way.edges way.path;
+        returns = path_wider a (begun p a) refl (λ e there. there) t.state t.state (copies t.rounds v) cycle.edges cycle.path;
+      }) endless t.positive (ap (λ cs. met cs a.formula) cycle.marks ∙ t.meets)
+
+  -- one edge before it
+  abbrev pub tail_before : (p m : ℕ) (x : NameSet) (e : TreeEdge) (u v : List NameSet) → slice_get a.edges m ≡ Some e → p ≡ e.from → truth (holds_at a.names x) e.label ≡ true
+      → Tail e.to u v → Tail p (x ∷ u) v
+  tail_before p m x e u v at from holds t = record {
+    state = t.state;
+    turns = t.turns;
+    rounds = t.rounds;
+    way = m ∷ t.way;
+    cycle = t.cycle;
+    leads = (e, at, from, holds, t.leads);
+    positive = t.positive;
+    returns = t.returns;
+    meets = t.meets;
+  }
+
+  -- and a track from a start
+  abbrev pub run_before : (start p : ℕ) (xs u v : List NameSet) (front : List ℕ) → Contains a.starts start → IsTrack a start xs front p → Tail p u v → AcceptingRun a (xs ++ u) v
+  run_before start p xs u v front is_start leads t = record {
+    start = start;
+    state = t.state;
+    turns = t.turns;
+    rounds = t.rounds;
+    way = front ++ t.way;
+    cycle = t.cycle;
+    is_start = is_start;
+    leads = subst (λ w. IsTrack a start w (front ++ t.way) t.state) (sym (append_assoc xs u (copies t.turns v))) (track_join a start p t.state xs (u ++ copies t.turns v) front t.way leads t.leads);
+    positive = t.positive;
+    returns = t.returns;
+    meets = t.meets;
+  }
+
+  -- two tracks from starts that read the same
+  pub record AreLed (p q : ℕ) : Type 0 where
+    pub letters : List NameSet
+    pub first : ℕ
+    pub second : ℕ
+    pub is_first : Contains a.starts first
+    pub is_second : Contains a.starts second
+    pub way : List ℕ
+    pub other : List ℕ
+    pub leads : IsTrack a first letters way p
+    pub leads_too : IsTrack a second letters other q
+
+  module _ (u v : List NameSet) (endless : 0 < length v) where
+    pub some_cycle : (p : ℕ) (t : Tail p u v) → 0 < length t.cycle
+    some_cycle p t = some_edges a u v endless t.state t.state t.rounds t.cycle t.positive t.returns
+
+    -- of an unambiguous automaton the rests begin alike
+    pub begin_alike : IsUnambiguous a → (p q : ℕ) → AreLed p q → (t : Tail p u v) (s : Tail q u v) → nth t.way t.cycle 0 ≡ nth s.way s.cycle 0
+    begin_alike alone p q led t s =
+        let one = run_before led.first p led.letters u v led.way led.is_first led.leads t in
+        let two = run_before led.second q led.letters u v led.other led.is_second led.leads_too s in
+        let long : length led.way ≡ length led.letters = as_long a led.first led.letters led.way p led.leads in
+        let long_too : length led.other ≡ length led.letters = as_long a led.second led.letters led.other q led.leads_too in
+        let n : length led.way + 0 ≡ length led.other + 0 = omega (arith, long, long_too) in
+        sym (nth_behind led.way t.way t.cycle 0 (some_cycle p t))
+        ∙ (alone (led.letters ++ u) v endless one two (length led.way + 0)
+        ∙ (ap (nth (led.other ++ s.way) s.cycle) n ∙ nth_behind led.other s.way s.cycle 0 (some_cycle q s)))
+
+    -- so they are begun in one state
+    pub from_one : (p q : ℕ) (t : Tail p u v) (s : Tail q u v) → nth t.way t.cycle 0 ≡ nth s.way s.cycle 0 → p ≡ q
+    from_one p q t s same =
+        let mine : Begins a p t.way t.cycle = begins a p t.state t.state (u ++ copies t.turns v) (copies t.rounds v) t.way t.cycle t.leads t.returns (some_cycle p t) in
+        let his : Begins a q s.way s.cycle = begins a q s.state s.state (u ++ copies s.turns v) (copies s.rounds v) s.way s.cycle s.leads s.returns (some_cycle q s) in
+        let place : mine.place ≡ his.place = same_Some mine.place his.place (sym mine.is_first ∙ (same ∙ his.is_first)) in
+        let edge : mine.edge ≡ his.edge = same_Some mine.edge his.edge (sym mine.at ∙ (ap (slice_get a.edges) place ∙ his.at)) in
+        mine.from ∙ (ap (λ (e : TreeEdge). e.from) edge ∙ sym his.from)
+
+-- what stands first in a list that isn't empty
+pub nth_first : (m : ℕ) (way cycle : List ℕ) → nth (m ∷ way) cycle 0 ≡ Some m
+nth_first m way cycle = stem_letter (m ∷ way) cycle 0 (omega arith)
