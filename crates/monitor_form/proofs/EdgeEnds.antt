@@ -1,20 +1,16 @@
 -- The goals of a set are the states to which edges that are read lead, in rising order.
-use Rattle.std.proofs.Common.{◌≡◌, ◌∙◌, ◌+◌, ◌<◌, ◌≤◌, ◌==◌, ◌&&◌, ℕ, Bool, true, false, cond, Contains, List, [], ◌∷◌, ◌++◌, Some, ap, eq-eqb}
-use Rattle.std.proofs.Common.{filter, get_or, length, map, refl, slice_get, subst, sym, take}
+use Rattle.std.proofs.Common.{◌≡◌, ◌∙◌, ◌<◌, ◌≤◌, ◌==◌, ◌&&◌, ℕ, Bool, true, Contains, List, ap, eq-eqb}
+use Rattle.std.proofs.Common.{filter, length, refl, subst, sym, take}
 use Rattle.std.proofs.lemmas.Bool.{and_from, and_parts, eqb-true}
-use Rattle.std.proofs.lemmas.List.{append-nil, append_assoc, map-append, take_all}
-use Rattle.std.proofs.lemmas.List.Elements.{All-contains, filter-append}
+use Rattle.std.proofs.lemmas.List.{take_all}
+use Rattle.std.proofs.lemmas.List.Elements.{All-contains}
 use Rattle.std.specs.List.{list_any}
 use Rattle.std.specs.List.Sorted.{IsStrictlyIncreasing}
 use Rattle.aut_base.proofs.lists.Members.{any_found, any_from, from_filter, from_flat_map, from_map, there_filter, there_map}
-use Rattle.aut_base.proofs.lists.Steps.{map_on}
 use Rattle.aut_base.specs.Automaton.{Automaton, IsEdgeOf, TreeEdge}
 use Rattle.aut_base.specs.Valuation.{truth_on}
-use Rattle.aut_core.specs.Core.{Core, IsCore, automaton_of, edge_of}
+use Rattle.aut_core.specs.Core.{Core, IsCore, automaton_of}
 use Rattle.aut_core.specs.Surveys.{edges_from}
-use Rattle.aut_core.specs.declared.link.Link.{Link}
-use Rattle.aut_ops.proofs.links.Linked.{edges_filter}
-use Rattle.letter_classes.proofs.SetGuards.{set_edges_on}
 use Rattle.letter_classes.specs.SetClasses.{set_edges}
 use Rattle.monitor_form.proofs.RisingLists.{kept_of_range}
 use Rattle.monitor_form.specs.Subsets.{goals, is_goal, start_set}

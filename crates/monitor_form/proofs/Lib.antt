@@ -7,4 +7,5 @@ pub mod MonitorLaws
 pub mod Prefixed
 pub mod RisingLists
 pub mod SetSteps
+pub mod SomeMonitors
 pub mod Stops

@@ -16,7 +16,8 @@ use Rattle.monitor_form.proofs.Formed.{formed_of}
 use Rattle.monitor_form.proofs.LivePaths.{pruned_are_live}
 use Rattle.monitor_form.proofs.Prefixed.{monitor_accepts}
 use Rattle.monitor_form.specs.Prefixes.{AcceptsPrefixes, HasPrefix}
-use Rattle.monitor_form.specs.Subsets.{IsExploredFrom, IsMonitor, IsSubsetForm, MeetsLimit, MeetsSubsetLimit, MonitorExcludesLimits, MonitorIsDetermined, monitor_on, start_set, subset_rules}
+use Rattle.monitor_form.specs.Subsets.{IsExploredFrom, IsMonitor, IsSubsetForm, MeetsLimit, MeetsSubsetLimit, MonitorExcludesLimits, MonitorIsDetermined, SubsetFormIsDetermined}
+use Rattle.monitor_form.specs.Subsets.{monitor_on, start_set, subset_rules}
 
 forms_same : (b made other : Automaton) → IsSubsetForm b made → IsSubsetForm b other → made ≡ other
 forms_same b made other f g = by b.starts f.explored g.explored
@@ -46,6 +47,9 @@ fault_in d (Meets f) = f
 
 one_limit : (b : Automaton) (f g : Fault) → MeetsSubsetLimit b f → MeetsSubsetLimit b g → f ≡ g
 one_limit b f g x y = ap (fault_in f) (has_one_outcome (List ℕ) (subset_rules b) (begin (start_set b)) (Meets f) (Meets g) tt tt x.meets y.meets)
+
+pub subset_form_is_determined : SubsetFormIsDetermined
+subset_form_is_determined b = record { one = forms_same b; limit = one_limit b; either = form_excludes b }
 
 pub monitor_excludes_limits : MonitorExcludesLimits
 monitor_excludes_limits a = record {

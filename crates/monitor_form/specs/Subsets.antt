@@ -12,6 +12,7 @@ use Rattle.degeneralise.specs.Buchi.{buchi, buchi_states}
 use Rattle.exploration.specs.Moves.{Gives, Lacks, Move, Moves}
 use Rattle.exploration.specs.Turns.{Arrow, Comes, EndsWith, Meets, Rules, begin}
 use Rattle.exploration.specs.declared.fault.Fault.{Fault}
+use Rattle.exploration.specs.declared.fault.Fault.TheVariants as limit
 use Rattle.letter_classes.specs.SetClasses.{class_label, set_classes, set_edges, set_labels}
 use Rattle.monitor_form.specs.Monitors.{first_places, set_at}
 
@@ -93,6 +94,15 @@ pub record MeetsLimit (a : Automaton) (f : Fault) : Type 0 where
   pub is_pruned : IsPruned (buchi a) pruned
   pub meets : MeetsSubsetLimit pruned f
 
+-- Of each automaton the subset construction makes at most one automaton, or meets at most one limit first, and never both.
+pub record SubsetLaw (b : Automaton) : Type 0 where
+  pub one : (made other : Automaton) → IsSubsetForm b made → IsSubsetForm b other → made ≡ other
+  pub limit : (f g : Fault) → MeetsSubsetLimit b f → MeetsSubsetLimit b g → f ≡ g
+  pub either : (made : Automaton) (f : Fault) → IsSubsetForm b made → MeetsSubsetLimit b f → ⊥
+
+abbrev pub SubsetFormIsDetermined : Type 0
+SubsetFormIsDetermined = (b : Automaton) → SubsetLaw b
+
 -- An automaton has one monitor.
 abbrev pub MonitorIsDetermined : Type 0
 MonitorIsDetermined = (a made other : Automaton) → IsMonitor a made → IsMonitor a other → made ≡ other
@@ -104,3 +114,9 @@ pub record LimitsExclude (a : Automaton) : Type 0 where
 
 abbrev pub MonitorExcludesLimits : Type 0
 MonitorExcludesLimits = (a : Automaton) → LimitsExclude a
+
+-- An automaton whose Büchi form has no more states than it may, and whose subset construction meets neither limit, can't lack
+-- a monitor.
+abbrev pub MonitorExists : Type 0
+MonitorExists = (a : Automaton) → buchi_states a ≤ MOST_BUCHI_STATES → (MeetsLimit a limit.Classes → ⊥) → (MeetsLimit a limit.Things → ⊥)
+    → ((made : Automaton) → IsMonitor a made → ⊥) → ⊥

@@ -11,4 +11,7 @@ mod subsets;
 
 pub use fault::MonFault;
 pub use form::monitor;
-pub use law::{monitor_accepts, monitor_excludes_limits, monitor_is_determined, pruned_are_live};
+pub use law::{
+    monitor_accepts, monitor_excludes_limits, monitor_exists, monitor_is_determined,
+    pruned_are_live, subset_form_is_determined,
+};

@@ -20,7 +20,8 @@ use Rattle.label_guards.specs.declared.guard.Guard.{Guard}
 use Rattle.letter_classes.specs.SetClasses.{FitsStore, IsClassGuard, class_label, set_labels}
 use Rattle.parity_det.proofs.Explored.{is_tree, within_width}
 use Rattle.parity_det.proofs.Widths.{few_nodes, parity_below}
-use Rattle.parity_det.specs.Determinisation.{class_moves, parity_edge, parity_on, same_tree, start_tree, tree_classes, tree_moves, width}
+use Rattle.parity_det.specs.Determinisation.{class_moves, parity_edge, parity_on, start_tree, tree_classes, tree_moves, width}
+use Rattle.safra_trees.specs.Same.{same_nodes}
 use Rattle.parity_det.specs.Systems.{IsClassEvent, link_of, mark_of}
 use Rattle.parity_laws.specs.Determinised.{tree_at}
 use Rattle.safra_laws.proofs.parity.First.{priority_by_first}
@@ -31,7 +32,7 @@ use Rattle.safra_trees.specs.Trees.{Node, root_states}
 use Rattle.safra_trees.specs.declared.event.Event.{Event}
 
 module _ (b : Core) (core : IsCore b) (s : Store) (keeps : Keeps b.store s) (trees : List (List Node)) (edges : List (Edge Guard Event))
-    (is : IsExplored same_tree (tree_moves (automaton_of b)) (start_tree (automaton_of b)) trees (map arrow_of edges))
+    (is : IsExplored same_nodes (tree_moves (automaton_of b)) (start_tree (automaton_of b)) trees (map arrow_of edges))
     (sound : IsSound (λ t. FitsStore b s (root_states t)) (λ t k g. IsClassGuard b s (root_states t) k g) (λ t k event. IsClassEvent b t k event) MOST_TREES trees edges) where
   abbrev most : ℕ
   most = width trees
@@ -99,7 +100,7 @@ module _ (b : Core) (core : IsCore b) (s : Store) (keeps : Keeps b.store s) (tre
 
   ends : (a : Arrow) → Contains (map arrow_of edges) a → a.to < length trees
   ends a among =
-      let f = edge_from (tree_moves (automaton_of b)) same_tree (start_tree (automaton_of b)) trees (map arrow_of edges) is a (there_at (map arrow_of edges) a among) in
+      let f = edge_from (tree_moves (automaton_of b)) same_nodes (start_tree (automaton_of b)) trees (map arrow_of edges) is a (there_at (map arrow_of edges) a among) in
       slice_get_within trees a.to f.1 f.5
 
   link_is : (e : Edge Guard Event) → Contains edges e → IsLinkOf made (link_of most e)
@@ -120,7 +121,7 @@ module _ (b : Core) (core : IsCore b) (s : Store) (keeps : Keeps b.store s) (tre
     starts_differ = λ i j d less within. absurd (omega (arith, less, within));
     starts = first_only;
     in_order = subst IsNonDecreasing (map-map (λ (a : Arrow). a.from) arrow_of edges ∙ sym (map-map (λ (l : Link). l.from) (link_of most) edges))
-        (froms_rise (map arrow_of edges) (arrows_rise (tree_moves (automaton_of b)) same_tree (start_tree (automaton_of b)) trees (map arrow_of edges) is));
+        (froms_rise (map arrow_of edges) (arrows_rise (tree_moves (automaton_of b)) same_nodes (start_tree (automaton_of b)) trees (map arrow_of edges) is));
     links = All-map (IsLinkOf made) (link_of most) edges (each_there (λ e. IsLinkOf made (link_of most e)) edges link_is);
     formula = parity_below sets (omega arith);
   }

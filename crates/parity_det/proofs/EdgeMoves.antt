@@ -1,21 +1,15 @@
 -- The moves of the edges from a set of states go between states of the automaton.
-use Rattle.std.proofs.Common.{◌≡◌, ◌∙◌, ◌+◌, ◌<◌, ◌≤◌, ◌==◌, ℕ, All, Bool, true, false, cond, Contains, List, [], ◌∷◌, ◌++◌, Some, ap, filter}
-use Rattle.std.proofs.Common.{get_or, length, map, nat_eq, refl, slice_get, subst, sym, take}
-use Rattle.std.proofs.lemmas.Bool.{eqb-true}
-use Rattle.std.proofs.lemmas.List.{append-nil, append_assoc, map-append, take_all}
-use Rattle.std.proofs.lemmas.List.Elements.{All-contains, filter-append}
-use Rattle.aut_base.proofs.lists.Members.{each_there, from_filter, from_flat_map, from_map, placed_there}
-use Rattle.aut_base.specs.Automaton.{Automaton, IsEdgeOf, TreeEdge}
-use Rattle.aut_core.specs.Core.{Core, IsCore, automaton_of, edge_of}
+use Rattle.std.proofs.Common.{◌==◌, ℕ, All, Bool, List, filter}
+use Rattle.std.proofs.Common.{subst}
+use Rattle.std.proofs.lemmas.List.Elements.{All-contains}
+use Rattle.aut_base.proofs.lists.Members.{each_there, from_filter, from_flat_map, from_map}
+use Rattle.aut_base.specs.Automaton.{IsEdgeOf, TreeEdge}
+use Rattle.aut_core.specs.Core.{Core, IsCore, automaton_of}
 use Rattle.aut_core.specs.Surveys.{edges_from}
-use Rattle.aut_core.specs.declared.link.Link.{Link}
-use Rattle.aut_ops.proofs.links.Linked.{edges_filter}
-use Rattle.letter_classes.proofs.SetGuards.{set_edges_on}
 use Rattle.letter_classes.specs.SetClasses.{set_edges}
 use Rattle.parity_det.specs.Systems.{moves_of}
 use Rattle.parity_laws.specs.Buchi.{move_of}
 use Rattle.safra_trees.specs.Events.{IsWithin}
-use Rattle.safra_trees.specs.declared.moves.Move.{Move}
 
 pub moves_within : (c : Core) → IsCore c → (set : List ℕ) (reads : TreeEdge → Bool) → All (IsWithin c.states) (moves_of reads (set_edges (automaton_of c) set))
 moves_within c core set reads = each_there (IsWithin c.states) (moves_of reads (set_edges (automaton_of c) set)) (λ m there.

@@ -17,7 +17,8 @@ use Rattle.exploration.specs.Turns.{Arrow}
 use Rattle.label_guards.proofs.alike.ClassLeastLaws.{alike_each}
 use Rattle.label_guards.specs.ClassLeasts.{are_alike}
 use Rattle.letter_classes.specs.SetClasses.{set_edges, set_labels}
-use Rattle.parity_det.specs.Determinisation.{class_moves, same_tree, start_tree, step_at, tree_classes, tree_moves, unless_large, width}
+use Rattle.parity_det.specs.Determinisation.{class_moves, start_tree, step_at, tree_classes, tree_moves, unless_large, width}
+use Rattle.safra_trees.specs.Same.{same_nodes}
 use Rattle.parity_laws.proofs.letters.Moves.{edge_of, move_there}
 use Rattle.parity_laws.specs.Buchi.{move_of, moves_at}
 use Rattle.parity_laws.specs.Determinised.{tree_at}
@@ -119,7 +120,7 @@ module _ (b : Automaton) where
   pub reached_tree : (y : List Node) → IsReached (tree_moves b) (start_tree b) y → IsTree y
   reached_tree y reached = leads_tree reached.word (start_tree b) y (first_is_tree b.states b.starts) reached.leads
 
-  module _ (trees : List (List Node)) (arrows : List Arrow) (is : IsExplored same_tree (tree_moves b) (start_tree b) trees arrows) where
+  module _ (trees : List (List Node)) (arrows : List Arrow) (is : IsExplored same_nodes (tree_moves b) (start_tree b) trees arrows) where
     pub is_tree : (i : ℕ) → i < length trees → IsTree (tree_at trees i)
     is_tree i inside = reached_tree (tree_at trees i) (is.reached i (tree_at trees i) (slice_get-get_or trees i [] inside))
 
@@ -138,7 +139,7 @@ module _ (b : Automaton) where
 
     pub step_of : (a : Arrow) → Contains arrows a → StepOf a
     step_of a there =
-        let e = edge_from (tree_moves b) same_tree (start_tree b) trees arrows is a (there_at arrows a there) in
+        let e = edge_from (tree_moves b) same_nodes (start_tree b) trees arrows is a (there_at arrows a there) in
         let here : get_or trees a.from [] ≡ e.0 = get_or_from_slice_get trees a.from e.0 [] e.2 in
         let goes : get_or trees a.to [] ≡ e.1 = get_or_from_slice_get trees a.to e.1 [] e.5 in
         let gives : step_at b (tree_at trees a.from) (slice_get (classes_at a.from) a.class) ≡ Gives e.1 =

@@ -1,18 +1,19 @@
 -- A tree has no more nodes than there are useful states: each node has a useful state of its own.
-use Rattle.std.proofs.Common.{◌≡◌, ◌⊎◌, ◌∙◌, ◌+◌, ◌-◌, ◌<◌, ◌≤◌, ◌==◌, ◌&&◌, ℕ, zero, suc, Bool, true, false, Contains, List, [], ◌∷◌, ap, arith, inl, inr, length, max, refl, slice_get, subst, sym}
+use Rattle.std.proofs.Common.{◌≡◌, ◌∙◌, ◌-◌, ◌≤◌, ◌==◌, ◌&&◌, ℕ, zero, suc, Bool, true, false, Contains, List, [], ◌∷◌, ap, arith, inl, inr, length, max, slice_get, subst, sym}
 use Rattle.std.proofs.lemmas.Bool.{and_parts, cases_lt, eqb-true}
 use Rattle.std.specs.List.{list_any, range_with_len}
 use Rattle.aut_base.proofs.lists.Members.{any_found, first_there, from_filter, from_flat_map, from_map, later_there, there_at}
 use Rattle.aut_base.specs.Automaton.{Automaton, TreeEdge}
 use Rattle.aut_base.specs.Valuation.{truth_on}
 use Rattle.aut_core.specs.Surveys.{edges_from}
-use Rattle.aut_ops.specs.Passable.{between, is_flagged, stays}
+use Rattle.aut_ops.specs.Passable.{is_flagged, stays}
 use Rattle.aut_ops.specs.Pruning.{IsPruned}
 use Rattle.exploration.specs.Reached.{IsExplored, Leads}
 use Rattle.exploration.specs.Turns.{Arrow}
 use Rattle.letter_classes.specs.SetClasses.{set_edges}
 use Rattle.parity_det.proofs.Explored.{reached_tree, step_given}
-use Rattle.parity_det.specs.Determinisation.{class_moves, same_tree, start_tree, tree_classes, tree_moves, width}
+use Rattle.parity_det.specs.Determinisation.{class_moves, start_tree, tree_classes, tree_moves, width}
+use Rattle.safra_trees.specs.Same.{same_nodes}
 use Rattle.parity_laws.specs.Buchi.{move_of}
 use Rattle.safra_laws.proofs.TreesAfter.{held_below, holds_within}
 use Rattle.safra_laws.proofs.invariant.FewNames.{HoldsOnly, few_passing}
@@ -22,7 +23,7 @@ use Rattle.safra_trees.proofs.list_step.Pruned.{has_parts, new_holds, old_holds,
 use Rattle.safra_trees.proofs.list_step.Ranks.{rank_back}
 use Rattle.safra_trees.specs.Step as step
 use Rattle.safra_trees.specs.Step.{grown, pruned, rank}
-use Rattle.safra_trees.specs.Trees.{Node, first_tree, has, holds, root_states}
+use Rattle.safra_trees.specs.Trees.{Node, has, holds, root_states}
 use Rattle.safra_trees.specs.declared.moves.Move as moves
 
 -- some move leads to what a tree holds after a step
@@ -87,14 +88,14 @@ module _ (b : Automaton) (p : ℕ → Bool) (starts : (s : ℕ) → Contains b.s
       let rest = width_passing ts (λ u there. each u (later_there t ts u there)) in
       omega (arith, here, rest)
 
-  pub few_widths : (trees : List (List Node)) (arrows : List Arrow) → IsExplored same_tree (tree_moves b) (start_tree b) trees arrows → width trees ≤ max 1 (rank p b.states)
+  pub few_widths : (trees : List (List Node)) (arrows : List Arrow) → IsExplored same_nodes (tree_moves b) (start_tree b) trees arrows → width trees ≤ max 1 (rank p b.states)
   few_widths trees arrows is = width_passing trees (λ t there.
       let at = there_at trees t there in
       let reached = is.reached at.0 t at.1 in
       few_passing p b.states t (reached_tree b t reached) (leads_only reached.word (start_tree b) t first_only reached.leads))
 
 -- the same of a pruned automaton, by its useful states
-pub pruned_widths : (a b : Automaton) (is : IsPruned a b) (trees : List (List Node)) (arrows : List Arrow) → IsExplored same_tree (tree_moves b) (start_tree b) trees arrows
+pub pruned_widths : (a b : Automaton) (is : IsPruned a b) (trees : List (List Node)) (arrows : List Arrow) → IsExplored same_nodes (tree_moves b) (start_tree b) trees arrows
     → width trees ≤ max 1 (rank (is_flagged is.flags) a.states)
 pruned_widths a b is trees arrows found =
     let flags = is.flags in

@@ -21,10 +21,11 @@ use Rattle.label_guards.proofs.alike.ClassLeastLaws.{alike_on, alike_turned, lea
 use Rattle.label_guards.specs.ClassLeasts.{are_alike}
 use Rattle.letter_classes.proofs.ClassTruths.{at_letter, class_truth, valuation_long}
 use Rattle.letter_classes.specs.SetClasses.{class_label, set_labels}
+use Rattle.parity_det.proofs.Widths.{wide}
 use Rattle.parity_det.proofs.Explored.{class_at, is_tree, large_fails, same_root_moves, small_given, step_of, within_width}
-use Rattle.parity_det.specs.TreeTells.{same_tells}
-use Rattle.parity_det.specs.Determinisation.{class_moves, parity_edge, parity_on, same_tree, start_tree, step_at, tree_classes, tree_moves, tree_rules, unless_large, width}
-use Rattle.parity_det.specs.Shapes.{IsParity}
+use Rattle.parity_det.specs.Determinisation.{class_moves, parity_edge, parity_on, start_tree, step_at, tree_classes, tree_moves, tree_rules, unless_large, width}
+use Rattle.safra_trees.specs.Same.{same_nodes, same_tells}
+use Rattle.parity_det.specs.Shapes.{IsParityMinOdd}
 use Rattle.parity_laws.specs.Buchi.{moves_at}
 use Rattle.parity_laws.specs.Determinised.{IsDeterminised, IsStepEdge, tree_at}
 use Rattle.safra_laws.proofs.invariant.RootMoves.{root_moves_are_enough}
@@ -40,7 +41,7 @@ gives_of b t v sure = by (next_tree b.states (class_moves b t v) t) sure
       | inr few ↦ small_given y few
     ]
 
-module _ (b : Automaton) (trees : List (List Node)) (arrows : List Arrow) (is : IsExplored same_tree (tree_moves b) (start_tree b) trees arrows) where
+module _ (b : Automaton) (trees : List (List Node)) (arrows : List Arrow) (is : IsExplored same_nodes (tree_moves b) (start_tree b) trees arrows) where
   abbrev n : ℕ
   n = length b.names
 
@@ -76,7 +77,7 @@ module _ (b : Automaton) (trees : List (List Node)) (arrows : List Arrow) (is : 
       let counted = slice_get_within (tree_classes b t) at.0 w at.1 in
       let step : step_at b t (slice_get (tree_classes b t) at.0) ≡ step_at b t (Some w) = ap (step_at b t) at.1 in
       let gives = step ∙ gives_of b t w (λ failing. is.sure i at.0 t here counted (step ∙ failing)) in
-      let edge = edge_for (tree_moves b) same_tree (start_tree b) trees arrows is i at.0 t (next_tree b.states (class_moves b t w) t) here counted gives in
+      let edge = edge_for (tree_moves b) same_nodes (start_tree b) trees arrows is i at.0 t (next_tree b.states (class_moves b t w) t) here counted gives in
       let a = edge.0 in
       let same : (parity_edge b trees (width trees) a).label ≡ class_label n labels w =
       (λ j. class_label n (labels_at (edge.2 j)) (get_or (tree_classes b (tree_at trees (edge.2 j))) (edge.3 j) []))
@@ -107,7 +108,7 @@ module _ (b : Automaton) (trees : List (List Node)) (arrows : List Arrow) (is : 
     start = omega arith;
     edges = pairs_map (λ (d e : TreeEdge). d.from ≡ e.from → AreApart b.names d e) (parity_edge b trees (width trees)) arrows (λ i j d less within.
         arrows_apart (get_or arrows i d) (get_or arrows j d) (Contains-get_or arrows i d (omega (arith, less, within))) (Contains-get_or arrows j d within)
-        (arrows_rise (tree_moves b) same_tree (start_tree b) trees arrows is i j d less within));
+        (arrows_rise (tree_moves b) same_nodes (start_tree b) trees arrows is i j d less within));
   }
 
   complete : IsComplete made
@@ -129,11 +130,12 @@ module _ (b : Automaton) (trees : List (List Node)) (arrows : List Arrow) (is : 
     formula = refl;
   }
 
-  pub is_parity : IsParity made
+  pub is_parity : IsParityMinOdd made
   is_parity = record {
     deterministic = deterministic;
     complete = complete;
     half = width trees;
+    some = omega (arith, wide trees);
     sets = refl;
     formula = refl;
     marked = each_there (λ (e : TreeEdge). length e.marks ≡ 1) made.edges (λ e there. (
@@ -142,6 +144,6 @@ module _ (b : Automaton) (trees : List (List Node)) (arrows : List Arrow) (is : 
   }
 
 pub explored_trees : (b : Automaton) (trees : List (List Node)) (arrows : List Arrow) → EndsWith (tree_rules b) (start_tree b) trees arrows
-    → IsExplored same_tree (tree_moves b) (start_tree b) trees arrows
+    → IsExplored same_nodes (tree_moves b) (start_tree b) trees arrows
 explored_trees b trees arrows e = explored (tree_rules b) (λ x y is. (same_tells x y).0 is) (λ x. (same_tells x x).1 refl) (start_tree b)
     (record { things = trees; sum = e.sum; next = e.next; hand = e.hand; arrows = arrows }) e.ends

@@ -6,5 +6,6 @@ pub mod FewNodes
 pub mod Formed
 pub mod ParityLaws
 pub mod Refused
+pub mod SomeForms
 pub mod TreeSteps
 pub mod Widths

@@ -13,9 +13,11 @@ use Rattle.exploration.specs.declared.fault.Fault.{Fault}
 use Rattle.exploration.specs.declared.fault.Fault.TheVariants as limit
 use Rattle.parity_det.proofs.FewNodes.{pruned_widths}
 use Rattle.parity_det.proofs.Formed.{explored_trees, is_determinised, is_parity}
+use Rattle.parity_det.proofs.Widths.{wide}
 use Rattle.parity_det.specs.Complements.{ComplementIsDetermined, IsDeterministicForm, IsWithinParity, ParityExcludesLimits, PassesParity, by_completion, by_determinisation}
-use Rattle.parity_det.specs.Determinisation.{IsDeterminisation, IsParityOf, IsTreeForm, MeetsParityLimit, MeetsTreeLimit, ParityIsDetermined, parity_on, start_tree, tree_rules, width}
-use Rattle.parity_det.specs.Shapes.{HasFewSets, IsParity}
+use Rattle.parity_det.specs.Determinisation.{DeterminisationIsDetermined, IsDeterminisation, IsParityOf, IsTreeForm, MeetsParityLimit, MeetsTreeLimit, ParityIsDetermined, parity_on}
+use Rattle.parity_det.specs.Determinisation.{start_tree, tree_rules, width}
+use Rattle.parity_det.specs.Shapes.{HasFewSets, IsParityMinOdd, ParityHasFewSets}
 use Rattle.parity_det.specs.Systems.{MeetsFirst}
 use Rattle.parity_det.specs.declared.fault.CompFault.{CompFault}
 use Rattle.parity_det.specs.declared.fault.CompFault.TheVariants as fault
@@ -31,8 +33,8 @@ form_accepts b made formed formula form = subst (λ d. AcceptTheSame d b) (sym f
     (accepts_the_same b (parity_on form.trees form.arrows b) form.trees (width form.trees) (well_formed_is_buchi b formed formula)
     (is_determinised b form.trees form.arrows (explored_trees b form.trees form.arrows form.explored)))
 
-pub form_parity : (b made : Automaton) → IsTreeForm b made → IsParity made
-form_parity b made form = subst IsParity (sym form.is) (is_parity b form.trees form.arrows (explored_trees b form.trees form.arrows form.explored))
+pub form_parity : (b made : Automaton) → IsTreeForm b made → IsParityMinOdd made
+form_parity b made form = subst IsParityMinOdd (sym form.is) (is_parity b form.trees form.arrows (explored_trees b form.trees form.arrows form.explored))
 
 pub same_through : (a b c : Automaton) → AcceptTheSame a b → AcceptTheSame b c → AcceptTheSame a c
 same_through a b c first second u v = (λ x. (second u v).0 ((first u v).0 x), λ x. (first u v).1 ((second u v).1 x))
@@ -45,9 +47,13 @@ form_few a b made is form = record {
   useful = is.flags;
   are = is.useful;
   half = width form.trees;
+  some = omega (arith, wide form.trees);
   sets = ap (λ (x : Automaton). x.sets) form.is;
   few = pruned_widths a b is form.trees form.arrows (explored_trees b form.trees form.arrows form.explored);
 }
+
+pub parity_has_few_sets : ParityHasFewSets
+parity_has_few_sets a made m = (form_parity m.pruned made m.is, form_few (buchi a) m.pruned made m.is_pruned m.is)
 
 -- ---- there is one
 
@@ -93,6 +99,13 @@ limits_same a f g x y =
     let same : y.pruned ≡ x.pruned = pruned_is_determined a y.pruned x.pruned y.is_pruned x.is_pruned in
     let e = has_one_outcome (List Node) (tree_rules x.pruned) (begin (start_tree x.pruned)) (Meets f) (Meets g) tt tt x.meets (subst (λ b. MeetsFirst b g) same y.meets) in
     ap (limit_of f) e
+
+pub determinisation_is_determined : DeterminisationIsDetermined
+determinisation_is_determined b = record {
+  one = determinisations_same b;
+  limit = limits_same b;
+  either = determinisation_excludes b;
+}
 
 within_parity : (a : Automaton) → buchi_states a ≤ MOST_BUCHI_STATES → (NeedsTooManyTerms a.formula → ⊥) → ((f : Fault) → MeetsParityLimit a f → ⊥) → IsWithinParity a
 within_parity a few terms none fault.Terms p = terms p

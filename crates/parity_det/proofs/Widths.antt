@@ -9,7 +9,8 @@ use Rattle.aut_base.specs.declared.limit.TheConstants.{MOST_NODES}
 use Rattle.exploration.specs.Reached.{IsExplored, Leads}
 use Rattle.exploration.specs.Turns.{Arrow}
 use Rattle.parity_det.proofs.Explored.{step_given}
-use Rattle.parity_det.specs.Determinisation.{same_tree, start_tree, tree_classes, tree_moves, width}
+use Rattle.parity_det.specs.Determinisation.{start_tree, tree_classes, tree_moves, width}
+use Rattle.safra_trees.specs.Same.{same_nodes}
 use Rattle.safra_laws.proofs.invariant.FirstTree.{tree_if}
 use Rattle.safra_trees.specs.Trees.{Node, has}
 
@@ -28,7 +29,7 @@ width_few (t ∷ ts) all =
     let rest = width_few ts (λ k d within. all (suc k) d (omega (arith, within))) in
     omega (arith, here, rest)
 
-pub few_nodes : (b : Automaton) (trees : List (List Node)) (arrows : List Arrow) → IsExplored same_tree (tree_moves b) (start_tree b) trees arrows → width trees ≤ MOST_NODES
+pub few_nodes : (b : Automaton) (trees : List (List Node)) (arrows : List Arrow) → IsExplored same_nodes (tree_moves b) (start_tree b) trees arrows → width trees ≤ MOST_NODES
 few_nodes b trees arrows is = width_few trees (each_there (λ (t : List Node). length t ≤ MOST_NODES) trees (λ t there.
     let at = there_at trees t there in
     let reached = is.reached at.0 t at.1 in

@@ -57,3 +57,11 @@ pub record LimitsExclude (a : Automaton) : Type 0 where
 
 abbrev pub ParityExcludesLimits : Type 0
 ParityExcludesLimits = (a : Automaton) → LimitsExclude a
+
+-- An automaton that passes no limit can't lack a parity automaton,
+abbrev pub ParityExists : Type 0
+ParityExists = (a : Automaton) → IsWithinParity a → ((made : Automaton) → IsParityOf a made → ⊥) → ⊥
+
+-- and one that is deterministic or passes none can't lack a complement.
+abbrev pub ComplementExists : Type 0
+ComplementExists = (a : Automaton) → ((IsDeterministic a → ⊥) → IsWithinParity a) → ((made : Automaton) → IsComplementOf a made → ⊥) → ⊥

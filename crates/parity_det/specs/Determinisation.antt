@@ -1,7 +1,6 @@
 -- Determinisation, as a system that is explored (Safra 1988, Piterman 2007): things are trees, as lists of nodes, and classes
 -- are those of the letters that the edges from the root's states tell apart.
-use Rattle.std.specs.Prelude.{◌≡◌, ◌+◌, ◌≤◌, ◌==◌, ◌&&◌, ℕ, Bool, if◌then◌else◌, List, [], ◌∷◌, Option, None, Some, filter, leb, length, map, max, nat_eq, slice_get}
-use Rattle.std.specs.Cmp.Lexicographic.{pointwise}
+use Rattle.std.specs.Prelude.{◌≡◌, ◌+◌, ◌≤◌, ℕ, Bool, if◌then◌else◌, List, [], ◌∷◌, Option, None, Some, filter, leb, length, map, max, slice_get}
 use Rattle.std.specs.List.{slice_index_or}
 use Rattle.acc_forms.specs.Parity.{parity_min_odd}
 use Rattle.aut_base.specs.Automaton.{Automaton, TreeEdge}
@@ -17,6 +16,7 @@ use Rattle.parity_laws.specs.Buchi.{move_of}
 use Rattle.parity_laws.specs.Determinised.{tree_at}
 use Rattle.safra_laws.specs.Priorities.{priority}
 use Rattle.safra_laws.specs.Rounds.{next_tree}
+use Rattle.safra_trees.specs.Same.{same_nodes}
 use Rattle.safra_trees.specs.Trees.{Node, first_tree, root_states}
 use Rattle.safra_trees.specs.declared.moves.Move as moves
 
@@ -39,19 +39,13 @@ step_at b t (Some v) = unless_large (next_tree b.states (class_moves b t v) t)
 abbrev pub tree_moves : Automaton → Moves (List Node)
 tree_moves b = record { count = λ t. length (tree_classes b t); step = λ t k. step_at b t (slice_get (tree_classes b t) k) }
 
-abbrev pub same_node : Node → Node → Bool
-same_node m n = (m.parent == n.parent) && pointwise nat_eq m.states n.states
-
-abbrev pub same_tree : List Node → List Node → Bool
-same_tree = pointwise same_node
-
 -- the tree of the starts
 abbrev pub start_tree : Automaton → List Node
 start_tree b = first_tree b.states b.starts
 
 -- the exploration of what that tree leads to
 abbrev pub tree_rules : Automaton → Rules (List Node)
-tree_rules b = record { same = same_tree; moves = tree_moves b; most_things = MOST_TREES; most_classes = MOST_CLASSES }
+tree_rules b = record { same = same_nodes; moves = tree_moves b; most_things = MOST_TREES; most_classes = MOST_CLASSES }
 
 -- the greatest number of nodes, and at least 1
 abbrev pub width : List (List Node) → ℕ
@@ -109,3 +103,12 @@ pub record MeetsParityLimit (a : Automaton) (f : Fault) : Type 0 where
 -- An automaton has one parity automaton.
 abbrev pub ParityIsDetermined : Type 0
 ParityIsDetermined = (a made other : Automaton) → IsParityOf a made → IsParityOf a other → made ≡ other
+
+-- Of each Büchi automaton there is at most one determinised automaton, or at most one limit is met first, and never both.
+pub record DeterminisationLaw (b : Automaton) : Type 0 where
+  pub one : (made other : Automaton) → IsDeterminisation b made → IsDeterminisation b other → made ≡ other
+  pub limit : (f g : Fault) → MeetsTreeLimit b f → MeetsTreeLimit b g → f ≡ g
+  pub either : (made : Automaton) (f : Fault) → IsDeterminisation b made → MeetsTreeLimit b f → ⊥
+
+abbrev pub DeterminisationIsDetermined : Type 0
+DeterminisationIsDetermined = (b : Automaton) → DeterminisationLaw b

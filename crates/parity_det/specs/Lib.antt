@@ -3,4 +3,3 @@ pub mod Determinisation
 pub mod Faults
 pub mod Shapes
 pub mod Systems
-pub mod TreeTells

@@ -1,12 +1,14 @@
 //! Complements.
 
-ghost use Rattle.std.specs.Prelude.{◌≡◌, ◌+◌, ◌*◌, ◌<◌, ◌≤◌, ◌^◌, IfErr, IfOk, OnOk};
+ghost use Rattle.std.specs.Prelude.{◌≡◌, ◌+◌, ◌*◌, ◌<◌, ◌≤◌, ◌^◌, Err, IfErr, IfOk, OnOk};
 ghost use Rattle.aut_base.specs.declared.limit.TheConstants.{MOST_NODES, MOST_TREES};
 ghost use Rattle.aut_core.specs.Core.{automaton_of};
 ghost use Rattle.aut_core.specs.Deterministic.{IsComplete, IsDeterministic};
 ghost use Rattle.aut_core.specs.OtherNames.{AcceptTheSame};
 ghost use Rattle.aut_ops.specs.Completion.{completed};
 ghost use Rattle.parity_det.specs.Complements.{IsComplementOf, IsDeterministicForm, IsRefusal, IsWithinParity};
+ghost use Rattle.degeneralise.specs.Buchi.{NeedsTooManyTerms};
+ghost use Rattle.parity_det.specs.declared.fault.CompFault.{CompFault};
 ghost use Rattle.parity_laws.specs.Complement.{AreComplements};
 
 use crate::fault::CompFault;
@@ -20,14 +22,15 @@ use std::alloc::Global;
 /// and its condition dualised. Of any other it is the parity automaton under the dual condition, and refused where `parity`
 /// refuses.
 pub fn complement(alloc: Global, a: &Automaton) -> Result<Automaton, CompFault>
-    requires states { (completed (automaton_of a.now)).states < 2 ^ 32 }
-    requires sets { (completed (automaton_of a.now)).sets < 2 ^ 32 }
+    requires states { IsDeterministic (automaton_of a.now) → (completed (automaton_of a.now)).states < 2 ^ 32 }
+    requires sets { IsDeterministic (automaton_of a.now) → (completed (automaton_of a.now)).sets < 2 ^ 32 }
     ensures complements { IfOk result (λ made. AreComplements (automaton_of a.now) (automaton_of made)) }
     ensures shape { IfOk result (λ made. IsComplementOf (automaton_of a.now) (automaton_of made)) }
     ensures names { IfOk result (λ made. made.names ≡ a.now.names) }
     ensures size { IfOk result (λ made. (made.states ≤ a.now.states + MOST_TREES) × (made.sets ≤ a.now.sets + (2 * MOST_NODES + 1))) }
     ensures refused { IfErr result (IsRefusal (automaton_of a.now)) }
     ensures within { (IsDeterministic (automaton_of a.now) → ⊥) → OnOk result (IsWithinParity (automaton_of a.now)) }
+    ensures passed_terms { (IsDeterministic (automaton_of a.now) → ⊥) → NeedsTooManyTerms a.now.formula → result ≡ Err CompFault.Terms }
 {
     a.whole();
     let own = deterministic_form(alloc, a)?;
@@ -38,8 +41,8 @@ pub fn complement(alloc: Global, a: &Automaton) -> Result<Automaton, CompFault>
 
 /// A complete deterministic automaton that accepts the same: a deterministic one made complete, else the parity automaton.
 fn deterministic_form(alloc: Global, a: &Automaton) -> Result<Automaton, CompFault>
-    requires states { (completed (automaton_of a.now)).states < 2 ^ 32 }
-    requires sets { (completed (automaton_of a.now)).sets < 2 ^ 32 }
+    requires states { IsDeterministic (automaton_of a.now) → (completed (automaton_of a.now)).states < 2 ^ 32 }
+    requires sets { IsDeterministic (automaton_of a.now) → (completed (automaton_of a.now)).sets < 2 ^ 32 }
     ensures accepts { IfOk result (λ made. AcceptTheSame (automaton_of made) (automaton_of a.now)) }
     ensures deterministic { IfOk result (λ made. IsDeterministic (automaton_of made)) }
     ensures complete { IfOk result (λ made. IsComplete (automaton_of made)) }
@@ -48,6 +51,7 @@ fn deterministic_form(alloc: Global, a: &Automaton) -> Result<Automaton, CompFau
     ensures size { IfOk result (λ made. (made.states ≤ a.now.states + MOST_TREES) × (made.sets ≤ a.now.sets + (2 * MOST_NODES + 1))) }
     ensures refused { IfErr result (IsRefusal (automaton_of a.now)) }
     ensures within { (IsDeterministic (automaton_of a.now) → ⊥) → OnOk result (IsWithinParity (automaton_of a.now)) }
+    ensures passed_terms { (IsDeterministic (automaton_of a.now) → ⊥) → NeedsTooManyTerms a.now.formula → result ≡ Err CompFault.Terms }
 {
     a.whole();
     if a.is_deterministic() {

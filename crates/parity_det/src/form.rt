@@ -12,8 +12,9 @@ ghost use Rattle.exploration.specs.declared.fault.Fault.{Fault};
 ghost use Rattle.label_guards.specs.Store.{Keeps};
 ghost use Rattle.letter_classes.specs.SetClasses.{FitsStore, IsClassGuard};
 ghost use Rattle.parity_det.specs.Complements.{IsParityRefusal, IsWithinParity};
-ghost use Rattle.parity_det.specs.Determinisation.{IsDeterminisation, IsParityOf, IsTreeForm, MeetsTreeLimit, parity_on, same_tree, start_tree, tree_moves};
-ghost use Rattle.parity_det.specs.Shapes.{HasFewSets, IsParity};
+ghost use Rattle.parity_det.specs.Determinisation.{IsDeterminisation, IsParityOf, IsTreeForm, MeetsTreeLimit, parity_on, start_tree, tree_moves};
+ghost use Rattle.safra_trees.specs.Same.{same_nodes};
+ghost use Rattle.parity_det.specs.Shapes.{HasFewSets, IsParityMinOdd};
 ghost use Rattle.parity_det.specs.Systems.{IsClassEvent, MeetsFirst};
 ghost use Rattle.parity_det.specs.declared.fault.CompFault.{CompFault};
 ghost use Rattle.parity_det.specs.declared.fault.DetFault.{DetFault};
@@ -48,7 +49,7 @@ pub fn determinise(alloc: Global, b: &Automaton) -> Result<Automaton, DetFault>
     requires formula { b.now.formula ≡ Inf 0 false }
     ensures accepts { IfOk result (λ made. AcceptTheSame (automaton_of made) (automaton_of b.now)) }
     ensures shape { IfOk result (λ made. IsDeterminisation (automaton_of b.now) (automaton_of made)) }
-    ensures parity { IfOk result (λ made. IsParity (automaton_of made)) }
+    ensures parity { IfOk result (λ made. IsParityMinOdd (automaton_of made)) }
     ensures few { IfOk result (λ made. HasFewSets (automaton_of b.now) (automaton_of made)) }
     ensures names { IfOk result (λ made. made.names ≡ b.now.names) }
     ensures states { IfOk result (λ made. made.states ≤ MOST_TREES) }
@@ -69,7 +70,7 @@ pub fn determinise(alloc: Global, b: &Automaton) -> Result<Automaton, DetFault>
 pub fn parity(alloc: Global, a: &Automaton) -> Result<Automaton, CompFault>
     ensures accepts { IfOk result (λ made. AcceptTheSame (automaton_of made) (automaton_of a.now)) }
     ensures shape { IfOk result (λ made. IsParityOf (automaton_of a.now) (automaton_of made)) }
-    ensures parity { IfOk result (λ made. IsParity (automaton_of made)) }
+    ensures parity { IfOk result (λ made. IsParityMinOdd (automaton_of made)) }
     ensures few { IfOk result (λ made. HasFewSets (buchi (automaton_of a.now)) (automaton_of made)) }
     ensures names { IfOk result (λ made. made.names ≡ a.now.names) }
     ensures states { IfOk result (λ made. made.states ≤ MOST_TREES) }
@@ -118,7 +119,7 @@ fn built(
     found: &Explored<SafraTree, Guard, Event>,
 ) -> Result<Automaton, Memory>
     requires keeps { Keeps b.now.store guards }
-    requires explored { IsExplored same_tree (tree_moves (automaton_of b.now)) (start_tree (automaton_of b.now)) (map tree_of found.now.things.keys) (map arrow_of found.now.edges.items) }
+    requires explored { IsExplored same_nodes (tree_moves (automaton_of b.now)) (start_tree (automaton_of b.now)) (map tree_of found.now.things.keys) (map arrow_of found.now.edges.items) }
     requires sound { IsSound (λ t. FitsStore b.now guards (root_states t)) (λ t k g. IsClassGuard b.now guards (root_states t) k g)
         (λ t k event. IsClassEvent b.now t k event) MOST_TREES (map tree_of found.now.things.keys) found.now.edges.items }
     ensures few { IfOk result (λ made. made.sets ≤ 2 * MOST_NODES + 1) }

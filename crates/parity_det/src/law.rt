@@ -1,7 +1,13 @@
 //! What holds of deterministic parity automata and of complements.
 
-ghost use Rattle.parity_det.specs.Complements.{ComplementIsDetermined, ParityExcludesLimits};
-ghost use Rattle.parity_det.specs.Determinisation.{ParityIsDetermined};
+ghost use Rattle.parity_det.specs.Complements.{ComplementExists, ComplementIsDetermined, ParityExcludesLimits, ParityExists};
+ghost use Rattle.parity_det.specs.Determinisation.{DeterminisationIsDetermined, ParityIsDetermined};
+ghost use Rattle.parity_det.specs.Shapes.{ParityHasFewSets};
+
+/// A Büchi automaton has at most one determinised automaton, or meets at most one limit, and never both.
+pub fn determinisation_is_determined()
+    ensures { DeterminisationIsDetermined }
+{}
 
 /// An automaton has one parity automaton.
 pub fn parity_is_determined()
@@ -16,4 +22,19 @@ pub fn complement_is_determined()
 /// An automaton passes at most one limit on the way to its parity automaton, and where there is one it passes none.
 pub fn parity_excludes_limits()
     ensures { ParityExcludesLimits }
+{}
+
+/// An automaton that passes no limit has a parity automaton.
+pub fn parity_exists()
+    ensures { ParityExists }
+{}
+
+/// An automaton that is deterministic or passes no limit has a complement.
+pub fn complement_exists()
+    ensures { ComplementExists }
+{}
+
+/// The parity automaton of an automaton has no more sets than the useful states of its Büchi form ask for.
+pub fn parity_has_few_sets()
+    ensures { ParityHasFewSets }
 {}

@@ -16,4 +16,7 @@ mod trees;
 pub use complements::complement;
 pub use fault::{CompFault, DetFault};
 pub use form::{determinise, parity};
-pub use law::{complement_is_determined, parity_excludes_limits, parity_is_determined};
+pub use law::{
+    complement_exists, complement_is_determined, determinisation_is_determined,
+    parity_excludes_limits, parity_exists, parity_has_few_sets, parity_is_determined,
+};

@@ -27,9 +27,9 @@ pub(crate) struct Trees<'a> {
 impl<'a> System for Trees<'a> {
     ghost use Rattle.aut_core.specs.Core.{Core, automaton_of};
     ghost use Rattle.letter_classes.specs.SetClasses.{FitsStore, IsClassGuard};
-    ghost use Rattle.parity_det.specs.Determinisation.{same_tree, tree_moves};
+    ghost use Rattle.parity_det.specs.Determinisation.{tree_moves};
     ghost use Rattle.parity_det.specs.Systems.{IsClassEvent};
-    ghost use Rattle.parity_det.specs.TreeTells as tells;
+    ghost use Rattle.safra_trees.specs.Same as lists;
     ghost use Rattle.safra_trees.specs.Trees.{Node, root_states};
     ghost use Rattle.safra_trees.specs.View.{tree_of};
     ghost use Rattle.std.specs.Prelude.{List};
@@ -45,7 +45,7 @@ impl<'a> System for Trees<'a> {
 
     ghost seen = { tree_of };
 
-    ghost same = { same_tree };
+    ghost same = { lists.same_nodes };
 
     ghost Frame = { Core };
 
@@ -59,9 +59,9 @@ impl<'a> System for Trees<'a> {
 
     ghost is_note = { λ c t k event. IsClassEvent c t k event };
 
-    ghost tells = { tells.tree_tells };
+    ghost tells = { λ a b. lists.same_tells (tree_of a) (tree_of b) };
 
-    ghost same_tells = { tells.same_tells };
+    ghost same_tells = { lists.same_tells };
 
     fn classes(
         &mut self,

@@ -7,4 +7,5 @@ pub mod DisjunctiveForm
 pub mod Monitored
 pub mod Promised
 pub mod Shapings
+pub mod SomeChanges
 pub mod Stepping

@@ -1,5 +1,5 @@
 -- What is kept of complements, each of the operand of its option.
-use Rattle.std.specs.Prelude.{◌≡◌, ◌+◌, ◌*◌, ◌≤◌, List, Option, IfSome}
+use Rattle.std.specs.Prelude.{◌≡◌, ◌+◌, ◌*◌, ◌≤◌, List, Option, IfSome, is_some, true}
 use Rattle.aut_base.specs.Automaton.{Automaton}
 use Rattle.aut_base.specs.declared.limit.Limit.{Limit}
 use Rattle.aut_base.specs.declared.limit.TheConstants.{MOST_NODES}
@@ -28,6 +28,15 @@ pub record AreKept (p : Plan) (ops : List Automaton) (cs : Complements) : Type 0
   pub included_in : IfSome (operand_at p.included_in place_of_included_in ops) (λ b. KeepsOf b cs.included_in)
   pub equivalent_to : IfSome (operand_at p.equivalent_to (place_of_equivalent_to p) ops) (λ b. KeepsOf b cs.equivalent_to)
   pub refuted : IfSome (refuted_operand p ops) (λ b. KeepsOf b cs.refuted)
+
+-- What was kept is kept still, and is the same.
+abbrev pub StaysKept : Option Core → Option Core → Type 0
+StaysKept old new = is_some old ≡ true → new ≡ old
+
+pub record StayKept (old new : Complements) : Type 0 where
+  pub included_in : StaysKept old.included_in new.included_in
+  pub equivalent_to : StaysKept old.equivalent_to new.equivalent_to
+  pub refuted : StaysKept old.refuted new.refuted
 
 -- nothing is kept yet, so that it is true of any operands
 abbrev pub AreFresh : Complements → Type 0

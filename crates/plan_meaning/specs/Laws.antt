@@ -3,7 +3,7 @@ use Rattle.std.specs.Prelude.{◌≡◌, List}
 use Rattle.aut_base.specs.Automaton.{Automaton}
 use Rattle.aut_base.specs.declared.limit.Limit.{Limit}
 use Rattle.filter_plan.specs.declared.plan.Plan.{Plan}
-use Rattle.plan_meaning.specs.Changes.{Change, MakesAll, StopsIn}
+use Rattle.plan_meaning.specs.Changes.{Change, MakesAll, StopsIn, changes_of}
 use Rattle.plan_meaning.specs.Filters.{IsDropped, IsKept, IsOverFilters}
 use Rattle.plan_meaning.specs.Limits.{PassesOfInclusion}
 
@@ -38,3 +38,8 @@ pub record AreDetermined (cs : List Change) (a : Automaton) : Type 0 where
 
 abbrev pub ChangesAreDetermined : Type 0
 ChangesAreDetermined = (cs : List Change) (a : Automaton) → AreDetermined cs a
+
+-- It isn't so that the changes of a plan neither make anything of an automaton nor pass a limit.
+abbrev pub ChangesExist : Type 0
+ChangesExist = (p : Plan) (ops : List Automaton) (a : Automaton) → ((made : Automaton) → MakesAll (changes_of p ops) a made → ⊥)
+    → ((which : Limit) → StopsIn which (changes_of p ops) a → ⊥) → ⊥

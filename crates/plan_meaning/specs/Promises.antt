@@ -1,5 +1,5 @@
 -- What the form of a plan promises of the automaton that is made.
-use Rattle.std.specs.Prelude.{◌≡◌, ◌⊎◌, ◌+◌, Bool, true, false, List}
+use Rattle.std.specs.Prelude.{◌≡◌, ◌⊎◌, ◌+◌, Bool, true, false, List, take}
 use Rattle.acc_forms.specs.Atoms.{has_fin}
 use Rattle.acc_forms.specs.Joined.{conj}
 use Rattle.acc_forms.specs.Terms.{of_terms}
@@ -7,10 +7,13 @@ use Rattle.acc_forms.specs.declared.literal.Literal.{Literal}
 use Rattle.aut_base.specs.Automaton.{Automaton}
 use Rattle.aut_base.specs.Formula.{FormulaTree}
 use Rattle.aut_core.specs.Deterministic.{IsComplete, IsDeterministic}
-use Rattle.parity_det.specs.Shapes.{IsParity}
+use Rattle.degeneralise.specs.Buchi.{buchi}
+use Rattle.parity_det.specs.Shapes.{HasFewSets, IsParityMinOdd}
 use Rattle.filter_plan.specs.declared.plan.Form.{Form}
 use Rattle.filter_plan.specs.declared.plan.Form.TheVariants as form
 use Rattle.filter_plan.specs.declared.plan.Plan.{Plan}
+use Rattle.plan_meaning.specs.Changes.{Change, MakesAll, change_options}
+use Rattle.plan_meaning.specs.Standing.{those_standing}
 
 -- one set, to be met again and again
 pub record IsBuchi (a : Automaton) : Type 0 where
@@ -32,7 +35,7 @@ pub record IsDeterministicSafety (a : Automaton) : Type 0 where
 abbrev pub IsOfForm : Form → Automaton → Type 0
 IsOfForm form.AsIs a = Unit {0}
 IsOfForm form.Deterministic a = IsDeterministic a
-IsOfForm form.Parity a = IsParity a
+IsOfForm form.Parity a = IsParityMinOdd a
 IsOfForm form.Buchi a = IsBuchi a
 IsOfForm form.RemoveFin a = has_fin a.formula ≡ false
 IsOfForm form.Dnf a = IsDisjunctive a.formula
@@ -54,7 +57,7 @@ OrHasSinkSet f true made = IsOfForm f made ⊎ HasSinkSet f made
 abbrev pub KeepsForm : Form → Bool → Automaton → Type 0
 KeepsForm form.AsIs complete made = Unit {0}
 KeepsForm form.Deterministic complete made = IsDeterministic made
-KeepsForm form.Parity complete made = IsParity made
+KeepsForm form.Parity complete made = IsParityMinOdd made
 KeepsForm form.Buchi complete made = IsBuchi made
 KeepsForm form.RemoveFin complete made = OrHasSinkSet form.RemoveFin complete made
 KeepsForm form.Dnf complete made = OrHasSinkSet form.Dnf complete made
@@ -62,3 +65,14 @@ KeepsForm form.Monitor complete made = IsDeterministic made × OrHasSinkSet form
 
 abbrev pub KeepsPromises : Plan → Automaton → Type 0
 KeepsPromises p made = KeepsForm p.form p.complete made × (p.complete ≡ true → IsComplete made)
+
+-- the changes that stand before the form
+abbrev pub changes_before_form : Plan → List Automaton → List Change
+changes_before_form p ops = those_standing (take 6 (change_options p ops))
+
+-- A parity automaton has 2N + 1 sets, where N is at least 1, and at most the greater of 1 and the number of useful states of the
+-- Büchi form of what the changes before the form make.
+pub record HasFewSetsUnder (p : Plan) (ops : List Automaton) (a made : Automaton) : Type 0 where
+  pub before : Automaton
+  pub makes : MakesAll (changes_before_form p ops) a before
+  pub few : HasFewSets (buchi before) made

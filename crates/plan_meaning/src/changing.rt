@@ -1,13 +1,14 @@
 //! What a plan makes of an automaton.
 
-ghost use Rattle.std.specs.Prelude.{◌<◌, ◌≤◌, ◌^◌, [], ◌∷◌, IfOk, length, map, suc};
+ghost use Rattle.std.specs.Prelude.{◌≡◌, ◌<◌, ◌≤◌, ◌^◌, [], ◌∷◌, IfOk, length, map, suc};
 ghost use Rattle.ap_project.specs.Laws.{SayTheSame};
 ghost use Rattle.aut_base.specs.Acceptance.{Accepts};
 ghost use Rattle.aut_base.specs.declared.limit.TheConstants.{MOST_NAMES};
 ghost use Rattle.aut_core.specs.Core.{automaton_of};
 ghost use Rattle.plan_meaning.specs.Changes.{ChangedTo, changes_of, set_operation};
 ghost use Rattle.plan_meaning.specs.Operands.{AreOperands, IsOfReadSize};
-ghost use Rattle.plan_meaning.specs.Promises.{KeepsPromises};
+ghost use Rattle.filter_plan.specs.declared.plan.Form.{Form};
+ghost use Rattle.plan_meaning.specs.Promises.{HasFewSetsUnder, KeepsPromises};
 ghost use Rattle.plan_meaning.specs.inner.Stepping.{AreInOrder, IsOfSizeAt, IsPossible, Steps, change_of, changes_asked, place_of};
 
 mod combining;
@@ -42,6 +43,7 @@ pub fn change(
     ensures changed { ChangedTo result (changes_of plan.now (map automaton_of operands.now)) (automaton_of a) }
     ensures says { IfOk result (λ made. SayTheSame (λ u v. Accepts (automaton_of made) u v) (set_operation plan.now (map automaton_of operands.now) (automaton_of a))) }
     ensures promises { IfOk result (λ made. KeepsPromises plan.now (automaton_of made)) }
+    ensures few_sets { IfOk result (λ made. plan.now.form ≡ Form.Parity → HasFewSetsUnder plan.now (map automaton_of operands.now) (automaton_of a) (automaton_of made)) }
     ensures sized { IfOk result (λ made. (made.states < 2 ^ 32) × (made.sets < 2 ^ 32) × (length made.names ≤ MOST_NAMES)) }
 {
     let made = make_all(alloc, &changes(plan, operands), a)?;

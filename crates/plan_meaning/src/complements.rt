@@ -2,7 +2,7 @@
 
 ghost use Rattle.std.specs.Prelude.{◌≡◌, IfErr, OnOk, is_some, true};
 ghost use Rattle.aut_core.specs.Core.{automaton_of};
-ghost use Rattle.plan_meaning.specs.Complements.{AreFresh, KeepsOf};
+ghost use Rattle.plan_meaning.specs.Complements.{AreFresh, KeepsOf, StaysKept};
 ghost use Rattle.plan_meaning.specs.Operands.{IsOfReadSize};
 ghost use Rattle.plan_meaning.specs.inner.Beside.{FindsBeside};
 ghost use Rattle.parity_det.specs.Complements.{IsRefusal};
@@ -50,6 +50,7 @@ pub(crate) fn word_beside(
     requires kept { KeepsOf (automaton_of b.now) kept.old }
     ensures finds { FindsBeside result (automaton_of a.now) (automaton_of b.now) }
     ensures kept { KeepsOf (automaton_of b.now) kept.new }
+    ensures stays { StaysKept kept.old kept.new }
 {
     keep_complement(alloc, b, kept)?;
     match kept {
@@ -67,6 +68,7 @@ pub(crate) fn keep_complement(
     requires size { IsOfReadSize (automaton_of b.now) }
     requires kept { KeepsOf (automaton_of b.now) kept.old }
     ensures kept { KeepsOf (automaton_of b.now) kept.new }
+    ensures stays { StaysKept kept.old kept.new }
     ensures made { OnOk result (is_some kept.new ≡ true) }
     ensures refused { IfErr result (IsRefusal (automaton_of b.now)) }
 {

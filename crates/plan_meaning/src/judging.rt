@@ -7,7 +7,7 @@ mod square;
 
 ghost use Rattle.std.specs.Prelude.{map};
 ghost use Rattle.aut_core.specs.Core.{automaton_of};
-ghost use Rattle.plan_meaning.specs.Complements.{AreKept};
+ghost use Rattle.plan_meaning.specs.Complements.{AreKept, StayKept};
 ghost use Rattle.plan_meaning.specs.Filters.{Judged, filters};
 ghost use Rattle.plan_meaning.specs.Operands.{AreOperands, IsOfReadSize};
 ghost use Rattle.plan_meaning.specs.inner.Judging.{Examines, IsReady, JudgesWithin, LeavesOthers, filter_of};
@@ -39,6 +39,7 @@ pub fn judge(
     requires kept { AreKept plan.now (map automaton_of operands.now) complements.old }
     ensures judged { Judged result plan.now (map automaton_of operands.now) (automaton_of a.now) }
     ensures kept { AreKept plan.now (map automaton_of operands.now) complements.new }
+    ensures stay { StayKept complements.old complements.new }
 {
     let holds = hold_all(alloc, plan, operands, complements, a)?;
     if plan.invert { Ok(!holds) } else { Ok(holds) }
@@ -57,6 +58,7 @@ fn hold_all(
     requires kept { AreKept plan.now (map automaton_of operands.now) complements.old }
     ensures judges { JudgesWithin result (filters plan.now (map automaton_of operands.now)) (automaton_of a.now) }
     ensures kept { AreKept plan.now (map automaton_of operands.now) complements.new }
+    ensures stay { StayKept complements.old complements.new }
 {
     let asked = filters(plan, operands);
     'filters: for filter in &asked {
@@ -81,6 +83,7 @@ fn holds(
     ensures examines { Examines result (filter_of filter.now) (automaton_of a.now) }
     ensures ready { IsReady filter.now complements.new }
     ensures others { LeavesOthers filter.now complements.old complements.new }
+    ensures stay { StayKept complements.old complements.new }
 {
     match filter {
         Filter::AcceptsWord(pattern) => accepts_word(alloc, pattern, a),

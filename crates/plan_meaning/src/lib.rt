@@ -16,7 +16,7 @@ mod laws;
 mod operands;
 mod refuting;
 
-pub use change_laws::changes_are_determined;
+pub use change_laws::{changes_are_determined, changes_exist};
 pub use changing::change;
 pub use complements::Complements;
 pub use fault::PlanFault;

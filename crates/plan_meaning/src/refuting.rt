@@ -3,7 +3,7 @@
 ghost use Rattle.std.specs.Prelude.{◌≡◌, is_some, map, true, MatchOption};
 ghost use Rattle.aut_core.specs.Core.{automaton_of};
 ghost use Rattle.filter_plan.specs.Table.{refuted};
-ghost use Rattle.plan_meaning.specs.Complements.{AreKept, KeepsOf};
+ghost use Rattle.plan_meaning.specs.Complements.{AreKept, KeepsOf, StayKept, StaysKept};
 ghost use Rattle.plan_meaning.specs.Operands.{AreOperands, IsOfReadSize, refuted_operand};
 ghost use Rattle.plan_meaning.specs.Refutations.{Refuted};
 
@@ -39,6 +39,7 @@ pub fn refute(
     requires kept { AreKept plan.now (map automaton_of operands.now) complements.old }
     ensures refuted { MatchOption (refuted_operand plan.now (map automaton_of operands.now)) ⊥ (λ b. Refuted result (automaton_of a.now) b) }
     ensures kept { AreKept plan.now (map automaton_of operands.now) complements.new }
+    ensures stay { StayKept complements.old complements.new }
 {
     match refuted_operand(plan, operands) {
         Some(other) => refuted_by(alloc, a, other, &mut complements.refuted),
@@ -58,6 +59,7 @@ fn refuted_by(
     requires kept { KeepsOf (automaton_of other.now) kept.old }
     ensures refuted { Refuted result (automaton_of a.now) (automaton_of other.now) }
     ensures kept { KeepsOf (automaton_of other.now) kept.new }
+    ensures stays { StaysKept kept.old kept.new }
 {
     match word_beside(alloc, a, other, kept)? {
         Some(word) => {

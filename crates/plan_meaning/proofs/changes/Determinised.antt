@@ -8,7 +8,7 @@ use Rattle.aut_core.specs.OtherNames.{AcceptTheSame}
 use Rattle.filter_plan.specs.declared.plan.Form.TheVariants as form
 use Rattle.parity_det.specs.Complements.{IsComplementOf, IsRefusal, IsWithinParity}
 use Rattle.parity_det.specs.Determinisation.{IsParityOf}
-use Rattle.parity_det.specs.Shapes.{IsParity}
+use Rattle.parity_det.specs.Shapes.{IsParityMinOdd}
 use Rattle.parity_det.specs.declared.fault.CompFault.{CompFault}
 use Rattle.parity_det.specs.declared.fault.CompFault.TheVariants as comp
 use Rattle.parity_laws.specs.Complement.{AreComplements}
@@ -27,10 +27,11 @@ module _ (a : Automaton) where
   within none limit.Classes h = none comp.Classes h
   within none _ h = h
 
-  pub parity_made : (made : Automaton) → IsWithinParity a → IsParityOf a made → IsParity made → AcceptTheSame made a → IsMade (Bring form.Parity ∷ []) a made
+  pub parity_made : (made : Automaton) → IsWithinParity a → IsParityOf a made → IsParityMinOdd made → AcceptTheSame made a → IsMade (Bring form.Parity ∷ []) a made
   parity_made made none is parity accepts = changed_once (Bring form.Parity) a made (within none) is parity accepts
 
-  pub deterministic_made : (made : Automaton) → (IsDeterministic a → ⊥) → IsWithinParity a → IsParityOf a made → IsParity made → AcceptTheSame made a → IsMade (Bring form.Deterministic ∷ []) a made
+  pub deterministic_made : (made : Automaton) → (IsDeterministic a → ⊥) → IsWithinParity a → IsParityOf a made → IsParityMinOdd made → AcceptTheSame made a
+      → IsMade (Bring form.Deterministic ∷ []) a made
   deterministic_made made other none is parity accepts =
       changed_once (Bring form.Deterministic) a made (λ which h. within none which h.1) (inr (other, is)) parity.deterministic accepts
 

@@ -16,9 +16,11 @@ use Rattle.filter_plan.specs.declared.plan.Form.{Form}
 use Rattle.filter_plan.specs.declared.plan.Form.TheVariants as form
 use Rattle.filter_plan.specs.declared.plan.Plan.{Plan}
 use Rattle.monitor_form.specs.Subsets.{IsMonitor}
-use Rattle.plan_meaning.specs.Changes.{Change, Complete, IsInForm, change_options, changes_of, form_change}
-use Rattle.parity_det.specs.Shapes.{IsParity}
-use Rattle.plan_meaning.specs.Promises.{IsBuchi, IsDeterministicSafety, IsDisjunctive, IsOfForm, KeepsForm, KeepsPromises, OrHasSinkSet}
+use Rattle.plan_meaning.specs.Changes.{Bring, Change, Complete, IsInForm, MakesAll, change_options, changes_of, form_change}
+use Rattle.degeneralise.specs.Buchi.{buchi}
+use Rattle.parity_det.proofs.ParityLaws.{parity_has_few_sets}
+use Rattle.parity_det.specs.Shapes.{HasFewSets, IsParityMinOdd}
+use Rattle.plan_meaning.specs.Promises.{HasFewSetsUnder, IsBuchi, IsDeterministicSafety, IsDisjunctive, IsOfForm, KeepsForm, KeepsPromises, OrHasSinkSet}
 use Rattle.plan_meaning.specs.Standing.{those_standing}
 use Rattle.plan_meaning.specs.inner.Stepping.{MakesAsPromised, PromisesForm}
 
@@ -113,8 +115,8 @@ keeps : (f : Form) (complete : Bool) (a made : Automaton) → IsOfForm f a → M
 keeps form.AsIs complete a made is h = tt
 keeps form.Deterministic false a made is (Left same) = subst IsDeterministic (sym same) is
 keeps form.Deterministic true a made is (Completed same deterministic stays) = deterministic is
-keeps form.Parity false a made is (Left same) = subst IsParity (sym same) is
-keeps form.Parity true a made is (Completed same deterministic stays) = subst IsParity (sym (stays is.complete)) is
+keeps form.Parity false a made is (Left same) = subst IsParityMinOdd (sym same) is
+keeps form.Parity true a made is (Completed same deterministic stays) = subst IsParityMinOdd (sym (stays is.complete)) is
 keeps form.Buchi false a made is (Left same) = subst IsBuchi (sym same) is
 keeps form.Buchi true a made is (Completed same deterministic stays) = subst IsBuchi (sym same) (completed_buchi a is)
 keeps form.RemoveFin false a made is (Left same) = subst (OrHasSinkSet form.RemoveFin false) (sym same) is
@@ -131,6 +133,13 @@ behind : (os rest : List (Option Change)) (a made : Automaton) → MakesAsPromis
 behind [] rest a made h = (a, h)
 behind (None ∷ os) rest a made h = behind os rest a made h
 behind (Some c ∷ os) rest a made h = behind os rest h.0 made h.3
+
+-- the changes before these and what they make
+between : (os rest : List (Option Change)) (a made : Automaton) → MakesAsPromised (those_standing (os ++ rest)) a made
+    → (b : Automaton) × MakesAll (those_standing os) a b × MakesAsPromised (those_standing rest) b made
+between [] rest a made h = (a, refl, h)
+between (None ∷ os) rest a made h = between os rest a made h
+between (Some c ∷ os) rest a made h = (let k = between os rest h.0 made h.3 in (k.0, (h.0, h.1, k.1), k.2))
 
 -- what completion makes, where it is asked for
 last_made : (complete : Bool) (a made : Automaton) → MakesAsPromised (those_standing (then_some complete Complete ∷ [])) a made → MayBeCompleted a made complete × (complete ≡ true → IsComplete made)
@@ -161,3 +170,25 @@ promises_kept p ops a made h =
     let os = change_options p ops in
     let shaped = behind (take 6 os) (drop 6 os) a made (subst (λ (xs : List (Option Change)). MakesAsPromised (those_standing xs) a made) (sym (take-append-drop 6 os)) h) in
     formed p shaped.0 made shaped.1
+
+-- ---- the sets of a parity automaton
+
+parity_few : (complete : Bool) (b made : Automaton) → MakesAsPromised (Bring form.Parity ∷ those_standing (then_some complete Complete ∷ [])) b made → HasFewSets (buchi b) made
+parity_few complete b made h = subst (HasFewSets (buchi b)) (sym (left complete (last_made complete h.0 made h.3).0)) shape.1
+  where
+    shape : IsParityMinOdd h.0 × HasFewSets (buchi b) h.0
+    shape = parity_has_few_sets b h.0 h.1.makes
+
+    left : (on : Bool) → MayBeCompleted h.0 made on → made ≡ h.0
+    left false (Left same) = same
+    left true (Completed same deterministic stays) = stays shape.0.complete
+
+pub few_sets_kept : (p : Plan) (ops : List Automaton) (a made : Automaton) → MakesAsPromised (changes_of p ops) a made → p.form ≡ form.Parity → HasFewSetsUnder p ops a made
+few_sets_kept p ops a made h is =
+    let os = change_options p ops in
+    let shaped = between (take 6 os) (drop 6 os) a made (subst (λ (xs : List (Option Change)). MakesAsPromised (those_standing xs) a made) (sym (take-append-drop 6 os)) h) in
+    record {
+      before = shaped.0;
+      makes = shaped.1;
+      few = parity_few p.complete shaped.0 made (subst (λ (f : Form). MakesAsPromised (those_standing (form_change f ∷ then_some p.complete Complete ∷ [])) shaped.0 made) is shaped.2);
+    }

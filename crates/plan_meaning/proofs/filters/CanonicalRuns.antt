@@ -11,6 +11,7 @@ use Rattle.aut_base.specs.LabelLaws.{LabelsBelow}
 use Rattle.aut_base.specs.Word.{NameSet}
 use Rattle.aut_core.specs.Deterministic.{is_met}
 use Rattle.plan_meaning.proofs.filters.CanonicalEdges.{same_met, settled}
+use Rattle.unambiguous.proofs.tracks.SamePlaces.{accepting_too}
 use Rattle.unambiguous.specs.Runs.{AcceptingRun, IsTrack, IsUnambiguous, marks_at}
 
 -- the edge at a place, in both
@@ -63,34 +64,12 @@ module _ (a : Automaton) (below : LabelsBelow a) where
 
   -- the same places make a run of both
   abbrev run_to : (u v : List NameSet) → AcceptingRun a u v → AcceptingRun (canonical a) u v
-  run_to u v r = record {
-    start = r.start;
-    state = r.state;
-    turns = r.turns;
-    rounds = r.rounds;
-    way = r.way;
-    cycle = r.cycle;
-    is_start = r.is_start;
-    leads = track_to r.start r.state _ r.way r.leads;
-    positive = r.positive;
-    returns = track_to r.state r.state _ r.cycle r.returns;
-    meets = ap (λ (ms : List (List ℕ)). met ms a.formula) (all_marks a r.cycle) ∙ r.meets;
-  }
+  run_to u v r = accepting_too a (canonical a) u v r r.is_start (track_to r.start r.state _ r.way r.leads) (track_to r.state r.state _ r.cycle r.returns)
+      (ap (λ (ms : List (List ℕ)). met ms a.formula) (all_marks a r.cycle) ∙ r.meets)
 
   abbrev run_from : (u v : List NameSet) → AcceptingRun (canonical a) u v → AcceptingRun a u v
-  run_from u v r = record {
-    start = r.start;
-    state = r.state;
-    turns = r.turns;
-    rounds = r.rounds;
-    way = r.way;
-    cycle = r.cycle;
-    is_start = r.is_start;
-    leads = track_from r.start r.state _ r.way r.leads;
-    positive = r.positive;
-    returns = track_from r.state r.state _ r.cycle r.returns;
-    meets = sym (ap (λ (ms : List (List ℕ)). met ms a.formula) (all_marks a r.cycle)) ∙ r.meets;
-  }
+  run_from u v r = accepting_too (canonical a) a u v r r.is_start (track_from r.start r.state _ r.way r.leads) (track_from r.state r.state _ r.cycle r.returns)
+      (sym (ap (λ (ms : List (List ℕ)). met ms a.formula) (all_marks a r.cycle)) ∙ r.meets)
 
   pub unambiguous_one : IsUnambiguous (canonical a) → IsUnambiguous a
   unambiguous_one h = λ u v some r t n. h u v some (run_to u v r) (run_to u v t) n

@@ -1,12 +1,12 @@
 -- What is kept of complements, while filters are examined one after the other.
-use Rattle.std.proofs.Common.{◌≡◌, ◌<◌, ℕ, get_or, length, List, [], ◌∷◌, Option, Some, IfSome, None, subst, sym}
+use Rattle.std.proofs.Common.{◌≡◌, ◌∙◌, ◌<◌, ℕ, get_or, is_some, true, length, List, [], ◌∷◌, Option, Some, IfSome, None, subst, sym}
 use Rattle.std.specs.Option.{option_map}
 use Rattle.std.specs.List.{AllByRecursion}
 use Rattle.std.proofs.lemmas.List.Elements.{All-cons, All-nil}
 use Rattle.aut_base.specs.Automaton.{Automaton}
 use Rattle.aut_core.specs.Core.{Core}
 use Rattle.filter_plan.specs.declared.plan.Plan.{Plan}
-use Rattle.plan_meaning.specs.Complements.{AreKept, KeepsOf}
+use Rattle.plan_meaning.specs.Complements.{AreKept, KeepsOf, StayKept, StaysKept}
 use Rattle.plan_meaning.specs.declared.complements.Complements.{Complements}
 use Rattle.plan_meaning.specs.declared.judging.filter.Filter as coded
 use Rattle.plan_meaning.specs.declared.judging.filter.Filter.TheVariants as code
@@ -21,6 +21,18 @@ keeps_on o b slot is h = subst (λ (x : Option Automaton). IfSome x (λ y. Keeps
 
 stays : (o : Option Automaton) (old new : Option Core) → new ≡ old → IfSome o (λ x. KeepsOf x old) → IfSome o (λ x. KeepsOf x new)
 stays o old new same h = subst (λ (slot : Option Core). IfSome o (λ x. KeepsOf x slot)) (sym same) h
+
+-- ---- what is kept stays, over one call and the next
+
+stays_kept_on : (x y z : Option Core) → StaysKept x y → StaysKept y z → StaysKept x z
+stays_kept_on x y z first next some = next (subst (λ (s : Option Core). is_some s ≡ true) (sym (first some)) some) ∙ first some
+
+pub stay_kept_on : {a b c : Complements} → StayKept a b → StayKept b c → StayKept a c
+stay_kept_on first next = record {
+  included_in = stays_kept_on _ _ _ first.included_in next.included_in;
+  equivalent_to = stays_kept_on _ _ _ first.equivalent_to next.equivalent_to;
+  refuted = stays_kept_on _ _ _ first.refuted next.refuted;
+}
 
 module _ (p : Plan) (ops : List Automaton) where
   pub ready : (f : coded.Filter) (cs : Complements) → IsFrom p ops f → AreKept p ops cs → IsReady f cs

@@ -10,7 +10,7 @@ use Rattle.aut_core.specs.Deterministic.{IsComplete, IsDeterministic}
 use Rattle.filter_plan.specs.declared.plan.Form.{Form}
 use Rattle.filter_plan.specs.declared.plan.Form.TheVariants as form
 use Rattle.plan_meaning.specs.Changes.{Bring, Change, Complement, Complete, MakesWithin, Product, ProductOr, RemoveAp, StopsIn, Sum, Trim, said_by_all}
-use Rattle.parity_det.specs.Shapes.{IsParity}
+use Rattle.parity_det.specs.Shapes.{IsParityMinOdd}
 use Rattle.plan_meaning.specs.Operands.{IsOfReadSize}
 use Rattle.plan_meaning.specs.declared.changing.list.Change as coded
 use Rattle.plan_meaning.specs.declared.changing.list.Change.TheVariants as code
@@ -21,7 +21,7 @@ use Rattle.plan_meaning.specs.declared.fault.PlanFault.TheVariants as fault
 abbrev pub PromisesForm : Form → Automaton → Type 0
 PromisesForm form.AsIs made = Unit {0}
 PromisesForm form.Deterministic made = IsDeterministic made
-PromisesForm form.Parity made = IsParity made
+PromisesForm form.Parity made = IsParityMinOdd made
 PromisesForm form.Buchi made = Unit {0}
 PromisesForm form.RemoveFin made = Unit {0}
 PromisesForm form.Dnf made = Unit {0}

@@ -1,7 +1,7 @@
 //! Whether an automaton is included in another, or accepts the same.
 
 ghost use Rattle.aut_core.specs.Core.{automaton_of};
-ghost use Rattle.plan_meaning.specs.Complements.{KeepsOf};
+ghost use Rattle.plan_meaning.specs.Complements.{KeepsOf, StaysKept};
 ghost use Rattle.plan_meaning.specs.Filters as asked;
 ghost use Rattle.plan_meaning.specs.Operands.{IsOfReadSize};
 ghost use Rattle.plan_meaning.specs.inner.Judging.{ComparesInclusion, Examines};
@@ -24,6 +24,7 @@ pub(crate) fn is_included(
     requires kept { KeepsOf (automaton_of other.now) kept.old }
     ensures examines { Examines result (asked.IncludedIn (automaton_of other.now)) (automaton_of a.now) }
     ensures kept { KeepsOf (automaton_of other.now) kept.new }
+    ensures stays { StaysKept kept.old kept.new }
 {
     a.whole();
     has_no_word_beside(alloc, a, other, kept)
@@ -42,6 +43,7 @@ pub(crate) fn is_equivalent(
     requires kept { KeepsOf (automaton_of other.now) kept.old }
     ensures examines { Examines result (asked.EquivalentTo (automaton_of other.now)) (automaton_of a.now) }
     ensures kept { KeepsOf (automaton_of other.now) kept.new }
+    ensures stays { StaysKept kept.old kept.new }
 {
     a.whole();
     let is_included = has_no_word_beside(alloc, a, other, kept)?;
@@ -65,6 +67,7 @@ fn has_no_word_beside(
     requires kept { KeepsOf (automaton_of b.now) kept.old }
     ensures compares { ComparesInclusion result (automaton_of a.now) (automaton_of b.now) }
     ensures kept { KeepsOf (automaton_of b.now) kept.new }
+    ensures stays { StaysKept kept.old kept.new }
 {
     keep_complement(alloc, b, kept)?;
     match kept {

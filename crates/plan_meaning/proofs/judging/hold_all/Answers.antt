@@ -1,8 +1,8 @@
 use Rattle.std.proofs.Common.{◌≡◌, ◌<◌, Bool, true, false, List, Ok, Err, Result, map, refl, subst, sym}
 use Rattle.aut_core.specs.Core.{automaton_of}
 use Rattle.plan_meaning.proofs.filters.FilterLists.{ends, goes_on, passed_on}
-use Rattle.plan_meaning.proofs.filters.Kept.{from_at, kept_on}
-use Rattle.plan_meaning.specs.Complements.{AreKept}
+use Rattle.plan_meaning.proofs.filters.Kept.{from_at, kept_on, stay_kept_on}
+use Rattle.plan_meaning.specs.Complements.{AreKept, StayKept}
 use Rattle.plan_meaning.specs.Filters.{Filter}
 use Rattle.plan_meaning.specs.declared.fault.PlanFault.{PlanFault}
 use Rattle.plan_meaning.specs.inner.Judging.{Examines, JudgesWithin, filter_of}
@@ -27,6 +27,12 @@ returns-in_err-holds-clause-kept c =
     let ops = map automaton_of c.args.operands.now in
     let from = from_at p ops c.filters-asked.result c.filters.filter-index _ c.in-Some.filter c.filters-asked.ensures.from within c.in-Some.is in
     kept_on p ops c.in-Some.filter c.filters.complements c.holds.new.complements from c.filters.invariant.1 c.in_err-holds.ensures.ready c.in_err-holds.ensures.others
+
+pub returns-in_err-holds-clause-stay : goal.returns-in_err-holds-clause-stay
+returns-in_err-holds-clause-stay c = stay_kept_on c.filters.invariant.3 c.in_err-holds.ensures.stay
+
+pub returns-then-not-branch-clause-stay : goal.returns-then-not-branch-clause-stay
+returns-then-not-branch-clause-stay c = stay_kept_on c.filters.invariant.3 c.in_ok-holds.ensures.stay
 
 pub returns-then-not-branch-clause-judges : goal.returns-then-not-branch-clause-judges
 returns-then-not-branch-clause-judges c =
@@ -53,10 +59,12 @@ filters-preserved c =
             subst (AreKept p ops) (sym w.complements-is)
                 (kept_on p ops w.in-Some.filter c.filters.complements w.holds.new.complements from c.filters.invariant.1 w.in_ok-holds.ensures.ready w.in_ok-holds.ensures.others),
             c.filters.invariant.2,
+            subst (StayKept c.args.complements.now) (sym w.complements-is) (stay_kept_on c.filters.invariant.3 w.in_ok-holds.ensures.stay),
           ))
       | in_default w ↦ (
         goes_on xs c.filters.filter-index _ _ a within w.in_default.is c.filters.invariant.0 tt,
         subst (AreKept p ops) (sym w.complements-is) c.filters.invariant.1,
         c.filters.invariant.2,
+        subst (StayKept c.args.complements.now) (sym w.complements-is) c.filters.invariant.3,
       )
     ]

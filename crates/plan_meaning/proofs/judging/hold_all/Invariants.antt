@@ -1,6 +1,6 @@
 use Rattle.std.proofs.Common.{◌≡◌, length, map, take}
 use Rattle.aut_core.specs.Core.{automaton_of}
-use Rattle.plan_meaning.specs.Complements.{AreKept}
+use Rattle.plan_meaning.specs.Complements.{AreKept, StayKept}
 use Rattle.plan_meaning.specs.Filters.{AllHold}
 use Rattle.plan_meaning.specs.inner.Judging.{asked_for}
 use Rattle.plan_meaning.proofs.judging.hold_all.Given as goal
@@ -8,3 +8,4 @@ use Rattle.plan_meaning.proofs.judging.hold_all.Given as goal
 -- all filters that were looked at hold, what is kept is right, and there are so many filters
 abbrev pub invariant-filters : goal.invariant-filters
 invariant-filters l = AllHold (asked_for (take l.filter-index l.filter-items)) (automaton_of l.a) × AreKept l.plan (map automaton_of l.operands) l.complements × (length l.filter-items ≡ 13)
+    × StayKept l.fn.complements l.complements

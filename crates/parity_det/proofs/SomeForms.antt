@@ -1,0 +1,45 @@
+-- Where no limit is passed there is a parity automaton, and a complement.
+use Rattle.std.proofs.Common.{◌≡◌, ◌≤◌, List, inl, inr, refl}
+use Rattle.std.proofs.lemmas.Bool.{cases_lt}
+use Rattle.aut_base.specs.Automaton.{Automaton}
+use Rattle.aut_base.specs.declared.limit.TheConstants.{MOST_BUCHI_STATES}
+use Rattle.aut_core.specs.Deterministic.{IsDeterministic}
+use Rattle.aut_ops.proofs.flagged.SomeFlags.{pruned_exists}
+use Rattle.aut_ops.specs.Completion.{completed}
+use Rattle.aut_ops.specs.Pruning.{IsPruned}
+use Rattle.degeneralise.specs.Buchi.{buchi, buchi_states}
+use Rattle.exploration.proofs.Outcomes.{has_some_outcome}
+use Rattle.exploration.specs.Turns.{HasOutcome, has_end, has_limit}
+use Rattle.exploration.specs.declared.fault.Fault.{Fault}
+use Rattle.exploration.specs.declared.fault.Fault.TheVariants as limit
+use Rattle.parity_det.specs.Complements.{ComplementExists, IsWithinParity, ParityExists, by_completion, by_determinisation}
+use Rattle.parity_det.specs.Determinisation.{IsParityOf, MeetsTreeLimit, parity_on, start_tree, tree_rules}
+use Rattle.parity_det.specs.declared.fault.CompFault.TheVariants as fault
+use Rattle.parity_laws.specs.Complement.{dualised}
+use Rattle.safra_trees.specs.Trees.{Node}
+
+module _ (a : Automaton) (within : IsWithinParity a) where
+  few_states : buchi_states a ≤ MOST_BUCHI_STATES
+  few_states = elim (cases_lt MOST_BUCHI_STATES (buchi_states a)) [
+    | inl more ↦ absurd (within fault.BuchiStates (within fault.Terms, more))
+    | inr few ↦ few
+  ]
+
+  meets_none : (f : Fault) → (f ≡ limit.Memory → ⊥) → MeetsTreeLimit (buchi a) f → ⊥
+  meets_none limit.Classes other meets = within fault.Classes (within fault.Terms, record { few = few_states; meets = meets })
+  meets_none limit.Nodes other meets = within fault.Nodes (within fault.Terms, record { few = few_states; meets = meets })
+  meets_none limit.Things other meets = within fault.Trees (within fault.Terms, record { few = few_states; meets = meets })
+  meets_none limit.Memory other meets = other refl
+
+  pruned_has_form : ((made : Automaton) → IsParityOf a made → ⊥) → (pruned : Automaton) → IsPruned (buchi a) pruned → HasOutcome (tree_rules pruned) (start_tree pruned) → ⊥
+  pruned_has_form none pruned is (has_end trees arrows ends) =
+      none (parity_on trees arrows pruned) (record { pruned = pruned; is_pruned = is; is = record { trees = trees; arrows = arrows; explored = ends; is = refl } })
+  pruned_has_form none pruned is (has_limit f other meets) = meets_none f other (record { pruned = pruned; is_pruned = is; meets = meets })
+
+pub parity_exists : ParityExists
+parity_exists a within none = pruned_exists (buchi a) (λ pruned is. pruned_has_form a within none pruned is (has_some_outcome (List Node) (tree_rules pruned) (start_tree pruned)))
+
+pub complement_exists : ComplementExists
+complement_exists a within none =
+    let other : IsDeterministic a → ⊥ = λ is. none (dualised (completed a)) (record { form = completed a; is_form = by_completion is refl; is = refl }) in
+    parity_exists a (within other) (λ made m. none (dualised made) (record { form = made; is_form = by_determinisation other m; is = refl }))
