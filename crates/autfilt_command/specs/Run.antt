@@ -191,4 +191,11 @@ abbrev pub EndsBecause : Ended → Seen → Seen → SinkSeen → SinkSeen → T
 EndsBecause ended.CannotOpen seen seen' out out' = Rose seen.open_faults seen'.open_faults × (seen'.read_faults ≡ seen.read_faults) × (out'.faults ≡ out.faults)
 EndsBecause ended.ReadFault seen seen' out out' = (seen'.open_faults ≡ seen.open_faults) × Rose seen.read_faults seen'.read_faults × (out'.faults ≡ out.faults)
 EndsBecause ended.WriteFault seen seen' out out' = (seen'.open_faults ≡ seen.open_faults) × (seen'.read_faults ≡ seen.read_faults) × Rose out.faults out'.faults
-EndsBecause _ seen seen' out out' = AreCalm seen seen' out out'
+EndsBecause ended.Output seen seen' out out' = AreCalm seen seen' out out'
+EndsBecause ended.NoneOutput seen seen' out out' = AreCalm seen seen' out out'
+EndsBecause ended.Aborts seen seen' out out' = AreCalm seen seen' out out'
+EndsBecause ended.Usage seen seen' out out' = AreCalm seen seen' out out'
+EndsBecause ended.Syntax seen seen' out out' = AreCalm seen seen' out out'
+EndsBecause ended.Invalid seen seen' out out' = AreCalm seen seen' out out'
+EndsBecause (ended.Limit which) seen seen' out out' = AreCalm seen seen' out out'
+EndsBecause ended.Memory seen seen' out out' = AreCalm seen seen' out out'

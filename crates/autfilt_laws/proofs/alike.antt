@@ -1,14 +1,18 @@
 -- What stands in the texts decides which events happen, and how the run ends.
+pub mod Answers
+pub mod Asking
+mod BadPlaces
+pub mod EndPlaces
+pub mod Ends
+pub mod Faults
+pub mod LeftBehind
 pub mod Like
 mod Limits
 pub mod Looks
-mod BadPlaces
-pub mod EndPlaces
-pub mod Verdicts
-pub mod Steps
-pub mod Operands
-pub mod Faults
-pub mod Ends
 pub mod OperandEnds
-pub mod Runs
+pub mod Operands
 pub mod Readable
+pub mod Runs
+pub mod SamePlans
+pub mod Steps
+pub mod Verdicts

@@ -37,12 +37,28 @@ abbrev pub IsByText : End → Type 0
 IsByText end.Output = Unit {0}
 IsByText end.NoneOutput = Unit {0}
 IsByText end.Aborts = Unit {0}
+IsByText end.Usage = ⊥
 IsByText (end.Fault (fault.SyntaxAt k)) = Unit {0}
 IsByText (end.Fault fault.Truncated) = Unit {0}
 IsByText (end.Fault (fault.Invalid rule)) = Unit {0}
+IsByText (end.Fault (fault.Limit limit.Names)) = Unit {0}
+IsByText (end.Fault (fault.Limit limit.Sets)) = Unit {0}
+IsByText (end.Fault (fault.Limit limit.States)) = Unit {0}
+IsByText (end.Fault (fault.Limit limit.Edges)) = Unit {0}
+IsByText (end.Fault (fault.Limit limit.Aliases)) = Unit {0}
+IsByText (end.Fault (fault.Limit limit.Depth)) = Unit {0}
 IsByText (end.Fault (fault.Limit limit.Bytes)) = ⊥
-IsByText (end.Fault (fault.Limit which)) = Unit {0}
-IsByText _ = ⊥
+IsByText (end.Fault (fault.Limit limit.Terms)) = Unit {0}
+IsByText (end.Fault (fault.Limit limit.BuchiStates)) = Unit {0}
+IsByText (end.Fault (fault.Limit limit.Trees)) = Unit {0}
+IsByText (end.Fault (fault.Limit limit.Nodes)) = Unit {0}
+IsByText (end.Fault (fault.Limit limit.Classes)) = Unit {0}
+IsByText (end.Fault (fault.Limit limit.Subsets)) = Unit {0}
+IsByText (end.Fault (fault.Limit limit.Pairs)) = Unit {0}
+IsByText (end.Fault fault.CannotOpen) = ⊥
+IsByText (end.Fault fault.ReadFault) = ⊥
+IsByText (end.Fault fault.WriteFault) = ⊥
+IsByText (end.Fault fault.Memory) = ⊥
 
 -- ---- a run over texts
 
@@ -118,13 +134,39 @@ AreLike plan (e ∷ es) (f ∷ fs) = IsLike plan e f × AreLike plan es fs
 -- The name in hand is told where a fault ended the run. (No line is written about another end.)
 abbrev pub TellsName : End → Type 0
 TellsName (end.Fault f) = Unit {0}
-TellsName _ = ⊥
+TellsName end.Output = ⊥
+TellsName end.NoneOutput = ⊥
+TellsName end.Aborts = ⊥
+TellsName end.Usage = ⊥
 
 -- What is left is told at each end but one. (Where a token opens one more than may be open, no more is said of the place at which
 -- a reader stops than that the last byte that it took was asked for, and that is so of earlier bytes, too.)
 abbrev pub TellsLeft : End → Type 0
 TellsLeft (end.Fault (fault.Limit limit.Depth)) = ⊥
-TellsLeft _ = Unit {0}
+TellsLeft (end.Fault (fault.Limit limit.Names)) = Unit {0}
+TellsLeft (end.Fault (fault.Limit limit.Sets)) = Unit {0}
+TellsLeft (end.Fault (fault.Limit limit.States)) = Unit {0}
+TellsLeft (end.Fault (fault.Limit limit.Edges)) = Unit {0}
+TellsLeft (end.Fault (fault.Limit limit.Aliases)) = Unit {0}
+TellsLeft (end.Fault (fault.Limit limit.Bytes)) = Unit {0}
+TellsLeft (end.Fault (fault.Limit limit.Terms)) = Unit {0}
+TellsLeft (end.Fault (fault.Limit limit.BuchiStates)) = Unit {0}
+TellsLeft (end.Fault (fault.Limit limit.Trees)) = Unit {0}
+TellsLeft (end.Fault (fault.Limit limit.Nodes)) = Unit {0}
+TellsLeft (end.Fault (fault.Limit limit.Classes)) = Unit {0}
+TellsLeft (end.Fault (fault.Limit limit.Subsets)) = Unit {0}
+TellsLeft (end.Fault (fault.Limit limit.Pairs)) = Unit {0}
+TellsLeft (end.Fault (fault.SyntaxAt k)) = Unit {0}
+TellsLeft (end.Fault fault.Truncated) = Unit {0}
+TellsLeft (end.Fault (fault.Invalid rule)) = Unit {0}
+TellsLeft (end.Fault fault.CannotOpen) = Unit {0}
+TellsLeft (end.Fault fault.ReadFault) = Unit {0}
+TellsLeft (end.Fault fault.WriteFault) = Unit {0}
+TellsLeft (end.Fault fault.Memory) = Unit {0}
+TellsLeft end.Output = Unit {0}
+TellsLeft end.NoneOutput = Unit {0}
+TellsLeft end.Aborts = Unit {0}
+TellsLeft end.Usage = Unit {0}
 
 pub record AreSame (plan : Plan) (a b : Outcome) : Type 0 where
   pub operands : a.taken ≡ b.taken

@@ -3,8 +3,10 @@
 //! Each is the contract of a public function that does nothing else, and stands in `specs`.
 #![tactic(auto)]
 
+mod answers;
 mod places;
 mod runs;
 
-pub use places::refusals_are_shown;
+pub use answers::{answer_completes, one_answer};
+pub use places::{none_asks_behind, refusals_are_shown};
 pub use runs::{good_texts_are_read, one_end, one_front, some_end};

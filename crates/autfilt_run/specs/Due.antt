@@ -9,6 +9,7 @@ use Rattle.autfilt_run.specs.Plans.{prints_each}
 use Rattle.autfilt_run.specs.RefutationLine.{IsRefutationLine}
 use Rattle.filter_plan.specs.Words.{changes}
 use Rattle.filter_plan.specs.declared.format.Piece.{Piece}
+use Rattle.filter_plan.specs.declared.plan.Form.TheVariants as form
 use Rattle.filter_plan.specs.declared.plan.Output.{Output}
 use Rattle.filter_plan.specs.declared.plan.Output.TheVariants.{Hoa, Stats, Refute}
 use Rattle.filter_plan.specs.declared.plan.Plan.{Plan}
@@ -22,7 +23,7 @@ use Rattle.hoa_reader.specs.Validity.{IsValid}
 use Rattle.hoa_writer.specs.CanonicalText.{canonical_text}
 use Rattle.plan_meaning.specs.Changes.{Language, MakesAll, changes_of, set_operation}
 use Rattle.plan_meaning.specs.Operands.{refuted_operand}
-use Rattle.plan_meaning.specs.Promises.{KeepsPromises}
+use Rattle.plan_meaning.specs.Promises.{HasFewSetsUnder, KeepsPromises}
 
 -- The text's tokens spell one automaton and no other. It is valid, and accepts exactly the lasso words of which this is said.
 pub record ReadsAs (text : List ℕ) (says : Language) : Type 0 where
@@ -40,6 +41,7 @@ pub record ReadsAs (text : List ℕ) (says : Language) : Type 0 where
 pub record IsMade (p : Plan) (ops : List Automaton) (w : Written) (made : Automaton) : Type 0 where
   pub makes : MakesAll (changes_of p ops) (canonical (described w)) made
   pub promises : KeepsPromises p made
+  pub few_sets : p.form ≡ form.Parity → HasFewSetsUnder p ops (canonical (described w)) made
   pub accepts : SayTheSame (λ u v. Accepts made u v) (set_operation p ops (described w))
 
 -- the name that is printed: that of the automaton that was read, where the plan changes nothing

@@ -81,6 +81,9 @@ pub struct Session {
     ghost tried_within: { tried ≤ length (files_of plan) },
     ghost read_within: { length operands ≤ length (words.operands plan) },
     ghost next_within: { stage ≡ Stage.New → is_open ≡ true → length operands < length (words.operands plan) },
+    // While operands are read, the file that was tried last is the open one, or that of the last operand.
+    ghost tried_open: { stage ≡ Stage.New → is_open ≡ true → tried ≡ length operands + 1 },
+    ghost tried_closed: { stage ≡ Stage.New → is_open ≡ false → tried ≡ length operands },
     ghost sized: { All IsOfReadSize (map automaton_of operands) },
     ghost all_read: { stage ≡ Stage.Prepared → length operands ≡ length (words.operands plan) },
     ghost most_is: { lexer.most ≡ MOST_BYTES },
@@ -139,6 +142,9 @@ impl Session {
         // What may be done with it next.
         ensures ready { IfOk result (λ p. p ≡ prep.Ready → self.new.stage ≡ Stage.Prepared) }
         ensures closed { IfOk result (λ p. p ≡ prep.Ready → self.new.is_open ≡ false) }
+
+        // The name in hand is that of the last operand then, or nothing where there is none.
+        ensures named { IfOk result (λ p. p ≡ prep.Ready → self.new.tried ≡ length (words.operands self.new.plan)) }
         ensures skipped { IfOk result (λ p. p ≡ prep.Skipped → self.new.stage ≡ Stage.New) }
         ensures over { OnErr result (self.new.stage ≡ Stage.Over) }
     {

@@ -123,7 +123,7 @@ module _ (p : Plan) (ops : List Automaton) (w : Written) (n : ChangesNothing p) 
       (λ u v some. canonical_accepts_the_same (described w) (labels_below (described w) formed) u v)
 
   is_made : IsMade p ops w made
-  is_made = record { makes = subst (λ (cs : List Change). MakesAll cs made made) (sym (no_changes p ops n)) refl; promises = promises; accepts = says }
+  is_made = record { makes = subst (λ (cs : List Change). MakesAll cs made made) (sym (no_changes p ops n)) refl; promises = promises; few_sets = λ is. (let as_is = n.form in absurd cc); accepts = says }
 
   back : CanonicalTextReadsBack → ReadsBack (canonical_text made (name_due p w)) made (name_due p w)
   back reads = reads made (name_due p w) (canonical_is_well_formed (described w) formed)

@@ -32,6 +32,7 @@ use Rattle.plan_meaning.specs.Changes.{MakesAll, changes_of, set_operation}
 use Rattle.plan_meaning.specs.Filters.{IsKept, Judged}
 use Rattle.plan_meaning.specs.Limits.{IsWithinInclusion}
 use Rattle.plan_meaning.specs.Operands.{refuted_operand}
+use Rattle.plan_meaning.specs.Promises.{HasFewSetsUnder}
 use Rattle.plan_meaning.specs.Refutations.{Refutes}
 use Rattle.plan_meaning.specs.declared.fault.PlanFault.{PlanFault}
 use Rattle.plan_meaning.specs.declared.fault.PlanFault.TheVariants as asked
@@ -63,6 +64,7 @@ made_of p ops w core r h =
     record {
       makes = subst (λ (x : Automaton). MakesAll (changes_of p ops) x h.made) (core_is w core r) h.makes;
       promises = h.promises;
+      few_sets = λ is. subst (λ (x : Automaton). HasFewSetsUnder p ops x h.made) (core_is w core r) (h.few_sets is);
       accepts =
           made_as p ops core (reader.described w) h.made (accepts_read w core r) h.says;
     }

@@ -11,6 +11,7 @@ use Rattle.autfilt_run.specs.Over.{IsOver, StopsPrinting}
 use Rattle.autfilt_run.specs.Plans.{prints_each}
 use Rattle.autfilt_run.specs.RefutationLine.{SaysOfInclusion}
 use Rattle.filter_plan.specs.Words.{changes}
+use Rattle.filter_plan.specs.declared.plan.Form.TheVariants as form
 use Rattle.filter_plan.specs.declared.plan.Output.{Output}
 use Rattle.filter_plan.specs.declared.plan.Output.TheVariants.{Hoa, Stats, Refute}
 use Rattle.hoa_writer.specs.CanonicalText.{canonical_text}
@@ -27,7 +28,7 @@ use Rattle.plan_meaning.specs.Changes.{MakesAll, changes_of, set_operation}
 use Rattle.plan_meaning.specs.Filters.{IsDropped, IsKept}
 use Rattle.plan_meaning.specs.Limits.{IsWithinInclusion, PassesOfInclusion}
 use Rattle.plan_meaning.specs.Operands.{refuted_operand}
-use Rattle.plan_meaning.specs.Promises.{KeepsPromises}
+use Rattle.plan_meaning.specs.Promises.{HasFewSetsUnder, KeepsPromises}
 use Rattle.plan_meaning.specs.declared.fault.PlanFault.{PlanFault}
 use Rattle.plan_meaning.specs.declared.fault.PlanFault.TheVariants as plan_fault
 
@@ -58,6 +59,7 @@ pub record ShowsMade (p : Plan) (ops : List Automaton) (a : Automaton) (Shown : 
   pub made : Automaton
   pub makes : MakesAll (changes_of p ops) a made
   pub promises : KeepsPromises p made
+  pub few_sets : p.form ≡ form.Parity → HasFewSetsUnder p ops a made
   pub says : SayTheSame (λ u v. Accepts made u v) (set_operation p ops a)
   pub shown : Shown made
 

@@ -1,6 +1,7 @@
 //! The operands are read, one after the other.
 
-ghost use Rattle.std.specs.Prelude.{◌≡◌, ◌<◌, All, IfOk, None, OnErr, OnOk, false, length, true};
+ghost use Rattle.std.specs.Prelude.{◌≡◌, ◌+◌, ◌<◌, All, IfOk, None, OnErr, OnOk, false, length, true};
+ghost use Rattle.autfilt_run.specs.Points.{open_count};
 ghost use Rattle.autfilt_run.specs.Preparing.{Prepares};
 ghost use Rattle.autfilt_run.specs.declared.session.Prep.TheVariants as prep;
 ghost use Rattle.autfilt_run.specs.declared.session.Stage.{Stage};
@@ -40,6 +41,7 @@ impl Session {
         requires held { self.old.lexer.held ≡ None }
         requires stage { self.old.stage ≡ Stage.Over }
         requires room { self.old.is_open ≡ true → length self.old.operands < length (operands self.old.plan) }
+        requires tried { self.old.tried ≡ length self.old.operands + open_count self.old.is_open }
         requires names { All I.may_open (operands self.old.plan) }
         ensures prepares { Prepares result self.old self.new (I.seen inputs.old) (I.seen inputs.new) }
         ensures plan { self.new.plan ≡ self.old.plan }
@@ -51,6 +53,7 @@ impl Session {
         ensures spent { OnOk result (self.new.lexer.spent ≡ false) }
         ensures held { OnOk result (self.new.lexer.held ≡ None) }
         ensures room { OnOk result (self.new.is_open ≡ true → length self.new.operands < length (operands self.new.plan)) }
+        ensures tried { OnOk result (self.new.tried ≡ length self.new.operands + open_count self.new.is_open) }
     {
         'operands: loop {
             match self.operand_turn(alloc, inputs)? {
@@ -72,11 +75,13 @@ impl Session {
         requires held { self.old.lexer.held ≡ None }
         requires stage { self.old.stage ≡ Stage.Over }
         requires room { self.old.is_open ≡ true → length self.old.operands < length (operands self.old.plan) }
+        requires tried { self.old.tried ≡ length self.old.operands + open_count self.old.is_open }
         requires names { All I.may_open (operands self.old.plan) }
         ensures turns { TurnsOperands result self.old self.new (I.seen inputs.old) (I.seen inputs.new) }
         ensures spent { OnOk result (self.new.lexer.spent ≡ false) }
         ensures held { OnOk result (self.new.lexer.held ≡ None) }
         ensures room { OnOk result (self.new.is_open ≡ true → length self.new.operands < length (operands self.new.plan)) }
+        ensures tried { OnOk result (self.new.tried ≡ length self.new.operands + open_count self.new.is_open) }
     {
         if self.is_open {
             self.take_operand(alloc, inputs)
@@ -91,11 +96,13 @@ impl Session {
         requires spent { self.old.lexer.spent ≡ false }
         requires held { self.old.lexer.held ≡ None }
         requires stage { self.old.stage ≡ Stage.Over }
+        requires tried { self.old.tried ≡ length self.old.operands + open_count self.old.is_open }
         requires names { All I.may_open (operands self.old.plan) }
         ensures turns { TurnsOperands result self.old self.new (I.seen inputs.old) (I.seen inputs.new) }
         ensures spent { OnOk result (self.new.lexer.spent ≡ false) }
         ensures held { OnOk result (self.new.lexer.held ≡ None) }
         ensures room { OnOk result (self.new.is_open ≡ true → length self.new.operands < length (operands self.new.plan)) }
+        ensures tried { OnOk result (self.new.tried ≡ length self.new.operands + open_count self.new.is_open) }
     {
         if self.operands.len() == operand_count(&self.plan) {
             return Ok(OperandTurn::Done);
@@ -118,10 +125,12 @@ impl Session {
         requires held { self.old.lexer.held ≡ None }
         requires stage { self.old.stage ≡ Stage.Over }
         requires room { length self.old.operands < length (operands self.old.plan) }
+        requires tried { self.old.tried ≡ length self.old.operands + open_count self.old.is_open }
         ensures turns { TurnsOperands result self.old self.new (I.seen inputs.old) (I.seen inputs.new) }
         ensures spent { OnOk result (self.new.lexer.spent ≡ false) }
         ensures held { OnOk result (self.new.lexer.held ≡ None) }
         ensures room { OnOk result (self.new.is_open ≡ true → length self.new.operands < length (operands self.new.plan)) }
+        ensures tried { OnOk result (self.new.tried ≡ length self.new.operands + open_count self.new.is_open) }
     {
         match read_raw(alloc, &mut self.lexer, inputs)? {
             Front::Blank => Err(RunFault::Truncated),

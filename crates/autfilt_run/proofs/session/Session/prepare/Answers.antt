@@ -35,6 +35,8 @@ invariant_of-self-in-Ready g c =
       tried_within = x.tried_within;
       read_within = x.read_within;
       next_within = λ stage opened. let none : stages.Prepared ≡ stages.New = stage in cc;
+      tried_open = λ stage opened. let none : stages.Prepared ≡ stages.New = stage in cc;
+      tried_closed = λ stage closed. let none : stages.Prepared ≡ stages.New = stage in cc;
       sized = x.sized;
       all_read = λ stage. ready.all;
       most_is = x.most_is;

@@ -7,6 +7,7 @@ use Rattle.autfilt_run.proofs.session.Session.read_operands.Given as goal
 abbrev pub invariant-operands : goal.invariant-operands
 invariant-operands g l = IsPreparing l.fn.self l.self (g.I.Inputs.seen l.fn.inputs) (g.I.Inputs.seen l.inputs)
     × (l.self.lexer.spent ≡ false) × (l.self.lexer.held ≡ None) × (l.self.is_open ≡ true → length l.self.operands < length (operands l.self.plan))
+    × (l.self.tried ≡ length l.self.operands + open_count l.self.is_open)
 
 -- A turn opens a file, or takes an operand of it.
 abbrev pub decreases-operands : goal.decreases-operands

@@ -89,6 +89,8 @@ invariant_of-self-in-Whole g c =
       tried_within = old.tried_within;
       read_within = omega (arith, longer, c.requires.room);
       next_within = λ stage opened. absurd (false≢true opened);
+      tried_open = λ stage opened. absurd (false≢true opened);
+      tried_closed = λ stage closed. omega (arith, longer, c.requires.tried, c.requires.is_open);
       sized = subst (All IsOfReadSize) (sym all) (All-push IsOfReadSize (map automaton_of old.operands) (automaton_of core) old.sized c.in_ok-automaton-in-Whole.ensures.size);
       all_read = λ stage. let none : stages.Over ≡ stages.Prepared = sym c.requires.stage ∙ stage in cc;
       most_is = c.in_ok-read_raw.ensures.moves.most ∙ old.most_is;

@@ -1,0 +1,103 @@
+-- What the texts alone decide of the answer of the command.
+use Rattle.std.specs.Prelude.{◌≡◌, ◌⊎◌, ℕ, List, Option, Some}
+use Rattle.aut_base.specs.declared.limit.Limit.TheVariants as limit
+use Rattle.aut_io.specs.Outside.{Gains, Texts}
+use Rattle.aut_io.specs.Seen.{Seen, SinkSeen}
+use Rattle.autfilt_command.specs.Noted.{Notes}
+use Rattle.autfilt_command.specs.Run.{EndsBy}
+use Rattle.autfilt_command.specs.declared.ended.Ended.{Ended}
+use Rattle.autfilt_command.specs.declared.ended.Ended.TheVariants as ended
+use Rattle.autfilt_laws.specs.Runs.{AreReadable, DecidesTexts}
+use Rattle.filter_plan.specs.Words.{IsPlan}
+use Rattle.filter_plan.specs.declared.plan.Plan.{Plan}
+
+-- an answer, and what the inputs and the sinks told before and after it
+pub record Answered : Type 0 where
+  pub answer : Ended
+  pub inputs : Seen
+  pub inputs' : Seen
+  pub out : SinkSeen
+  pub out' : SinkSeen
+  pub notes : SinkSeen
+  pub notes' : SinkSeen
+
+-- the command came to the answer by a run of the words
+abbrev pub IsOf : List (List ℕ) → Answered → Type 0
+IsOf words r = EndsBy words r.answer r.inputs r.inputs' r.out r.out' r.notes r.notes'
+
+-- The texts decided the answer: no call failed, memory was not wanting, and not too many bytes were taken.
+abbrev pub IsByTexts : Ended → Type 0
+IsByTexts ended.Output = Unit {0}
+IsByTexts ended.NoneOutput = Unit {0}
+IsByTexts ended.Aborts = Unit {0}
+IsByTexts ended.Syntax = Unit {0}
+IsByTexts ended.Invalid = Unit {0}
+IsByTexts (ended.Limit limit.Names) = Unit {0}
+IsByTexts (ended.Limit limit.Sets) = Unit {0}
+IsByTexts (ended.Limit limit.States) = Unit {0}
+IsByTexts (ended.Limit limit.Edges) = Unit {0}
+IsByTexts (ended.Limit limit.Aliases) = Unit {0}
+IsByTexts (ended.Limit limit.Depth) = Unit {0}
+IsByTexts (ended.Limit limit.Bytes) = ⊥
+IsByTexts (ended.Limit limit.Terms) = Unit {0}
+IsByTexts (ended.Limit limit.BuchiStates) = Unit {0}
+IsByTexts (ended.Limit limit.Trees) = Unit {0}
+IsByTexts (ended.Limit limit.Nodes) = Unit {0}
+IsByTexts (ended.Limit limit.Classes) = Unit {0}
+IsByTexts (ended.Limit limit.Subsets) = Unit {0}
+IsByTexts (ended.Limit limit.Pairs) = Unit {0}
+IsByTexts ended.Usage = ⊥
+IsByTexts ended.CannotOpen = ⊥
+IsByTexts ended.ReadFault = ⊥
+IsByTexts ended.WriteFault = ⊥
+IsByTexts ended.Memory = ⊥
+
+-- What is left is told after each answer but one: where a token nests too deep.
+abbrev pub TellsLeftAfter : Ended → Type 0
+TellsLeftAfter (ended.Limit limit.Depth) = ⊥
+TellsLeftAfter (ended.Limit limit.Names) = Unit {0}
+TellsLeftAfter (ended.Limit limit.Sets) = Unit {0}
+TellsLeftAfter (ended.Limit limit.States) = Unit {0}
+TellsLeftAfter (ended.Limit limit.Edges) = Unit {0}
+TellsLeftAfter (ended.Limit limit.Aliases) = Unit {0}
+TellsLeftAfter (ended.Limit limit.Bytes) = Unit {0}
+TellsLeftAfter (ended.Limit limit.Terms) = Unit {0}
+TellsLeftAfter (ended.Limit limit.BuchiStates) = Unit {0}
+TellsLeftAfter (ended.Limit limit.Trees) = Unit {0}
+TellsLeftAfter (ended.Limit limit.Nodes) = Unit {0}
+TellsLeftAfter (ended.Limit limit.Classes) = Unit {0}
+TellsLeftAfter (ended.Limit limit.Subsets) = Unit {0}
+TellsLeftAfter (ended.Limit limit.Pairs) = Unit {0}
+TellsLeftAfter ended.Output = Unit {0}
+TellsLeftAfter ended.NoneOutput = Unit {0}
+TellsLeftAfter ended.Aborts = Unit {0}
+TellsLeftAfter ended.Usage = Unit {0}
+TellsLeftAfter ended.CannotOpen = Unit {0}
+TellsLeftAfter ended.ReadFault = Unit {0}
+TellsLeftAfter ended.Syntax = Unit {0}
+TellsLeftAfter ended.Invalid = Unit {0}
+TellsLeftAfter ended.WriteFault = Unit {0}
+TellsLeftAfter ended.Memory = Unit {0}
+
+-- a run of a plan over these texts that these decided
+pub record IsDecided (words : List (List ℕ)) (texts : Texts) (r : Answered) : Type 0 where
+  pub of : IsOf words r
+  pub told : r.inputs.texts ≡ Some texts
+  pub by_texts : IsByTexts r.answer
+
+-- the same answer, the same notes, the same left in the inputs, and the same output where the plan decides its texts
+pub record AreAlike (plan : Plan) (a b : Answered) : Type 0 where
+  pub answer : a.answer ≡ b.answer
+  pub noted : (text : List ℕ) × Notes text a.notes a.notes' × Notes text b.notes b.notes'
+  pub left : TellsLeftAfter a.answer → a.inputs'.left ≡ b.inputs'.left
+  pub written : DecidesTexts plan → (text : List ℕ) × Gains a.out.written a.out'.written text × Gains b.out.written b.out'.written text
+
+-- Two runs of the same words over the same texts that these decided.
+abbrev pub OneAnswer : Type 0
+OneAnswer = (words : List (List ℕ)) (plan : Plan) (texts : Texts) (a b : Answered) → IsPlan words plan → a.inputs.left ≡ b.inputs.left
+    → IsDecided words texts a → IsDecided words texts b → AreAlike plan a b
+
+-- A run over texts that can be read everywhere, and that these decided.
+abbrev pub AnswerCompletes : Type 0
+AnswerCompletes = (words : List (List ℕ)) (plan : Plan) (texts : Texts) (a : Answered) → IsPlan words plan → AreReadable plan texts a.inputs.left
+    → IsDecided words texts a → (a.answer ≡ ended.Output) ⊎ ((a.answer ≡ ended.NoneOutput) ⊎ (a.answer ≡ ended.Aborts))

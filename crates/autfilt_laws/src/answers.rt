@@ -1,0 +1,25 @@
+//! What the texts decide of the answer of the command.
+
+ghost use Rattle.autfilt_laws.specs.Answers.{AnswerCompletes, OneAnswer};
+
+use crate::runs::{good_texts_are_read, one_end};
+use filter_plan::one_plan;
+use hoa_reader::one_standing;
+
+/// Two runs of the same words over the same texts that these decided have the same answer, note the same, and write the same
+/// where the plan decides what is printed.
+pub fn one_answer()
+    ensures { OneAnswer }
+{
+    one_standing();
+    one_end();
+    one_plan();
+}
+
+/// A run over texts that can be read everywhere, and that these decided, read all that was asked for.
+pub fn answer_completes()
+    ensures { AnswerCompletes }
+{
+    good_texts_are_read();
+    one_plan();
+}
