@@ -1,4 +1,4 @@
-//! What a run is called with.
+//! The words that a run is called with.
 
 ghost use Rattle.std.specs.Prelude.{◌≡◌, length, map, Err, IfErr, IfOk};
 ghost use Rattle.std.specs.IoError.{error_kind};
@@ -9,29 +9,12 @@ ghost use Rattle.autfilt_system.specs.Words.{end_without, words_in};
 
 use aut_base::{Memory, Text, Words};
 use autfilt_command::End;
-use real_io::{Opener, RealInputs};
 use std::alloc::Global;
 use std::env::Args;
 use std::io::{self, ErrorKind};
-use std::rt::Stdin;
-
-/// The words behind the program's name, and the inputs. Arguments of which one is no text make no plan.
-pub(crate) fn called<O: Opener + Drop>(
-    alloc: Global,
-    args: io::Result<Args<Global>>,
-    stdin: Stdin,
-    files: O,
-) -> Result<(Words, RealInputs<Stdin, O>), End>
-    ensures words { IfOk args (λ list. into_iter_len list ≡ length (into_iter_items list) → IfOk result (λ called. called.0 ≡ words_in (into_iter_items list))) }
-    ensures only { IfOk args (λ list. IfErr result (λ end. end ≡ End.Fault RunFault.Memory)) }
-    ensures none { IfErr args (λ error. result ≡ Err (end_without (error_kind error))) }
-{
-    let words = words_of(alloc, args)?;
-    Ok((words, RealInputs::new(alloc, stdin, files)?))
-}
 
 /// The words behind the program's name, byte for byte.
-fn words_of(alloc: Global, args: io::Result<Args<Global>>) -> Result<Words, End>
+pub(crate) fn words_of(alloc: Global, args: io::Result<Args<Global>>) -> Result<Words, End>
     ensures words { IfOk args (λ list. into_iter_len list ≡ length (into_iter_items list) → IfOk result (λ words. words ≡ words_in (into_iter_items list))) }
     ensures only { IfOk args (λ list. IfErr result (λ end. end ≡ End.Fault RunFault.Memory)) }
     ensures none { IfErr args (λ error. result ≡ Err (end_without (error_kind error))) }

@@ -115,6 +115,9 @@ impl<R: Read + Drop, O: Opener + Drop> Inputs for RealInputs<R, O> {
         ensures gives { GivesFirst (unread R.remaining O.File.remaining self.old) (unread R.remaining O.File.remaining self.new) result }
         ensures closed { self.old.origin ≡ Origin.Nothing → result ≡ Ok None }
 
+        // At its end a text is let go, so it is not asked for more behind it.
+        ensures ended { result ≡ Ok None → self.new.origin ≡ Origin.Nothing }
+
         // The same of standard input where it is open. A read takes nothing of it where it isn't.
         ensures standard { self.old.origin ≡ Origin.Standard → GivesFirst (unread_standard R.remaining self.old) (unread_standard R.remaining self.new) result }
         ensures kept { self.old.origin ≢ Origin.Standard → KeepsStandard self.old self.new }

@@ -1,6 +1,6 @@
 //! A sink over a writer.
 
-ghost use Rattle.std.specs.Prelude.{◌≡◌, ◌≢◌, ◌≤◌, IfErr, None, OnErr, OnOk, length, take};
+ghost use Rattle.std.specs.Prelude.{◌≡◌, ◌≢◌, ◌≤◌, [], IfErr, None, OnErr, OnOk, length, take};
 ghost use Rattle.std.specs.IoError.{error_kind};
 ghost use Rattle.std.specs.Io.KnownBytes.{Appends};
 ghost use Rattle.aut_io.specs.Seen.{Writes};
@@ -36,7 +36,13 @@ impl<W: Write> Sink for RealSink<W> {
         // The writer holds the piece more, or a front of it where the write failed: no byte is written twice or out of its turn.
         ensures gains { OnOk result (Appends (W.contents self.old.writer) (W.contents self.new.writer) piece.now) }
         ensures front { OnErr result (AppendsFront (W.contents self.old.writer) (W.contents self.new.writer) piece.now) }
+
+        // Of an empty piece nothing can fail, so what stands behind it in a line is written as well.
+        ensures nothing { piece.now ≡ [] → OnErr result ⊥ }
     {
+        if piece.is_empty() {
+            return Ok(());
+        }
         match send(&mut self.writer, piece) {
             (_, Ok(())) => Ok(()),
             (_, Err(_)) => {
