@@ -1,6 +1,9 @@
 //! What came out of a run.
 
+use aut_base::Words;
 use aut_io::{Inputs, MemInputs, MemSink};
+use autfilt_command::{Ended, autfilt};
+use std::alloc::Global;
 use std::fmt;
 
 /// The status, what was written and noted, and how many bytes were left of the text that was opened.
@@ -10,6 +13,17 @@ pub(crate) struct Ran {
     pub(crate) out: MemSink,
     pub(crate) notes: MemSink,
     pub(crate) left: u32,
+}
+
+/// How a run of the command ends. It stands apart so that no other function carries the command's contract.
+pub(crate) fn ended(
+    alloc: Global,
+    words: &Words,
+    inputs: &mut MemInputs,
+    out: &mut MemSink,
+    notes: &mut MemSink,
+) -> Ended {
+    autfilt(alloc, words, inputs, out, notes)
 }
 
 /// How many bytes are left of the open text. They are taken, past reads that fail.

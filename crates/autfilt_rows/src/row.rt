@@ -1,11 +1,10 @@
 //! One row: what a run is over, and what is wanted of it.
 
 use crate::inputs::Texts;
-use crate::ran::{Ran, bytes_left};
+use crate::ran::{Ran, bytes_left, ended};
 use aut_base::{Memory, Numbers, Text, Words};
 use aut_io::{MemInputs, MemSink};
-use autfilt_command::autfilt;
-use row_files::{Fault, add, add_escaped, copied, kind_and_rest, number, numbers, range};
+use row_files::{Fault, Row, add, add_escaped, copied, kind_and_rest, number, numbers, range};
 use std::alloc::Global;
 
 /// How many bytes the sinks take, where a row doesn't say otherwise.
@@ -30,7 +29,7 @@ enum Each {
 
 /// What a run is over and what is wanted of it, as far as the lines were read.
 #[derive(Drop)]
-pub(crate) struct Row {
+pub(crate) struct CommandRow {
     name: String,
     words: Words,
     texts: Vec<Named>,
@@ -47,10 +46,10 @@ pub(crate) struct Row {
     left: Option<u32>,
 }
 
-impl Row {
+impl CommandRow {
     /// No line was read yet.
-    pub(crate) fn new(alloc: Global) -> Row {
-        Row {
+    pub(crate) fn new(alloc: Global) -> CommandRow {
+        CommandRow {
             name: String::new(alloc),
             words: Words::new(alloc),
             texts: Vec::new(alloc),
@@ -68,41 +67,14 @@ impl Row {
         }
     }
 
-    pub(crate) fn name(&self) -> &str {
-        self.name.as_str()
-    }
-
-    /// Whether no line was read.
-    pub(crate) fn is_empty(&self) -> bool {
+    /// Whether no line was read. The first line of a row is its name.
+    fn is_empty(&self) -> bool {
         self.name.as_str().is_empty()
     }
 
-    /// The numbers of the first run and the last.
-    pub(crate) fn runs(&self) -> (u32, u32) {
-        (self.first, self.last)
-    }
-
     /// Whether something must be noted, and no write of it is said to fail.
-    pub(crate) fn notes_freely(&self) -> bool {
+    fn notes_freely(&self) -> bool {
         !self.note.as_bytes().is_empty() && self.failing_notes.is_empty()
-    }
-
-    /// Takes what a line says. The first line of a row is its name.
-    pub(crate) fn add(&mut self, rt: &HostRuntime, line: &str) -> Result<(), Fault> {
-        let (kind, rest) = kind_and_rest(line);
-        if self.is_empty() != (kind == "=") {
-            return Err(Fault::Misplaced);
-        }
-        if let Some(form) = kind.strip_prefix('<') {
-            return self.add_input(rt, form, rest);
-        }
-        if let Some(form) = kind.strip_prefix('>') {
-            return add(rt, &mut self.output, form, rest);
-        }
-        if let Some(form) = kind.strip_prefix('!') {
-            return add(rt, &mut self.note, form, rest);
-        }
-        self.add_other(rt.alloc(), kind, rest)
     }
 
     /// Takes the name of the row. Its first text is that of standard input.
@@ -185,11 +157,11 @@ impl Row {
     }
 
     /// What comes out of the run of this number. Where `is_mute`, the first write of the note fails.
-    pub(crate) fn run(&self, alloc: Global, run: u32, is_mute: bool) -> Result<Ran, Memory> {
+    fn ran(&self, alloc: Global, run: u32, is_mute: bool) -> Result<Ran, Memory> {
         let mut out = MemSink::new(alloc, self.capacity, copied(alloc, &self.failing_writes)?)?;
         let mut notes = self.notes(alloc, is_mute)?;
         let mut inputs = self.inputs(alloc, run)?;
-        let ended = autfilt(alloc, &self.words, &mut inputs, &mut out, &mut notes);
+        let ended = ended(alloc, &self.words, &mut inputs, &mut out, &mut notes);
         Ok(Ran {
             status: ended.status(),
             out,
@@ -238,20 +210,91 @@ impl Row {
     }
 
     /// Whether a run ends, writes and leaves what is wanted, whatever it notes.
-    pub(crate) fn is_met_but_for_the_note(&self, ran: &Ran) -> Result<bool, Fault> {
-        let Some(status) = self.status else {
-            return Err(Fault::Missing);
-        };
-        Ok(
-            ran.status == status
-                && ran.out.bytes() == self.output.as_bytes()
-                && self.left.is_none_or(|left| left == ran.left),
-        )
+    fn is_met_but_for_the_note(&self, ran: &Ran) -> bool {
+        self.status == Some(ran.status)
+            && ran.out.bytes() == self.output.as_bytes()
+            && self.left.is_none_or(|left| left == ran.left)
     }
 
     /// Whether a run notes what is wanted.
-    pub(crate) fn is_noted(&self, ran: &Ran) -> bool {
+    fn is_noted(&self, ran: &Ran) -> bool {
         ran.notes.bytes() == self.note.as_bytes()
+    }
+
+    /// Adds the run of this number to what is printed, where it comes out otherwise. Where something must be noted and the row
+    /// doesn't say which writes of that fail, it is made once more with a failing first write of it, which changes nothing else.
+    fn add_different(&self, alloc: Global, shown: &mut String, run: u32) -> Result<(), Fault> {
+        let ran = self.ran(alloc, run, false)?;
+        if !self.is_met_but_for_the_note(&ran) || !self.is_noted(&ran) {
+            return self.show(alloc, shown, run, "", &ran);
+        }
+        if !self.notes_freely() {
+            return Ok(());
+        }
+        let ran = self.ran(alloc, run, true)?;
+        if self.is_met_but_for_the_note(&ran) {
+            return Ok(());
+        }
+        self.show(
+            alloc,
+            shown,
+            run,
+            ", with a failing write of the note",
+            &ran,
+        )
+    }
+
+    /// Adds what came out of a run, in the notation of rows.
+    fn show(
+        &self,
+        alloc: Global,
+        shown: &mut String,
+        run: u32,
+        how: &str,
+        ran: &Ran,
+    ) -> Result<(), Fault> {
+        let name = self.name.as_str();
+        let text = format!(in alloc; "= {name}\n# run {run}{how}\n{ran}")?;
+        shown.push_str(text.as_str())?;
+        Ok(())
+    }
+}
+
+impl Row for CommandRow {
+    fn add(&mut self, rt: &HostRuntime, line: &str) -> Result<bool, Fault> {
+        let (kind, rest) = kind_and_rest(line);
+        if self.is_empty() != (kind == "=") {
+            return Err(Fault::Misplaced);
+        }
+        if let Some(form) = kind.strip_prefix('<') {
+            self.add_input(rt, form, rest)?;
+        } else if let Some(form) = kind.strip_prefix('>') {
+            add(rt, &mut self.output, form, rest)?;
+        } else if let Some(form) = kind.strip_prefix('!') {
+            add(rt, &mut self.note, form, rest)?;
+        } else {
+            self.add_other(rt.alloc(), kind, rest)?;
+        }
+        Ok(false)
+    }
+
+    fn is_whole(&self) -> Result<bool, Fault> {
+        Ok(!self.is_empty())
+    }
+
+    fn different(&self, rt: &HostRuntime) -> Result<Option<String>, Fault> {
+        if self.status.is_none() {
+            return Err(Fault::Missing);
+        }
+        let mut shown = String::new(rt.alloc());
+        for run in self.first..=self.last {
+            self.add_different(rt.alloc(), &mut shown, run)?;
+        }
+        Ok(Some(shown).filter(|shown| !shown.as_str().is_empty()))
+    }
+
+    fn clear(&mut self, alloc: Global) {
+        *self = CommandRow::new(alloc);
     }
 }
 

@@ -3,7 +3,26 @@
 use aut_base::{Limit, Memory, Names, Text, Words};
 use aut_io::{SureInputs, SureSink};
 use autfilt_command::{Ended, autfilt};
+use row_files::{Count, Fault};
 use std::alloc::Global;
+
+/// Texts, and how a run over each ends.
+const ROWS: [(&[u8], Ended); 5] = [
+    (b"", Ended::NoneOutput),
+    (
+        b"HOA: v1 Acceptance: 0 t --BODY-- State: 0 [t] 0 --END--",
+        Ended::Output,
+    ),
+    (b"HOA: v1 Start 0", Ended::Syntax),
+    (
+        b"HOA: v1 Acceptance: 1 Inf(1) --BODY-- --END--",
+        Ended::Invalid,
+    ),
+    (
+        b"HOA: v1 Acceptance: 513 t --BODY-- --END--",
+        Ended::Limit(Limit::Sets),
+    ),
+];
 
 /// How a run without words over this standard input ends.
 fn ended(alloc: Global, text: &[u8]) -> Result<Ended, Memory> {
@@ -18,28 +37,16 @@ fn ended(alloc: Global, text: &[u8]) -> Result<Ended, Memory> {
     Ok(autfilt(alloc, &words, &mut inputs, &mut out, &mut notes))
 }
 
-/// Whether these runs end as their text alone says.
-pub(crate) fn end_by_the_text(alloc: Global) -> Result<bool, Memory> {
-    let rows: [(&[u8], Ended); 5] = [
-        (b"", Ended::NoneOutput),
-        (
-            b"HOA: v1 Acceptance: 0 t --BODY-- State: 0 [t] 0 --END--",
-            Ended::Output,
-        ),
-        (b"HOA: v1 Start 0", Ended::Syntax),
-        (
-            b"HOA: v1 Acceptance: 1 Inf(1) --BODY-- --END--",
-            Ended::Invalid,
-        ),
-        (
-            b"HOA: v1 Acceptance: 513 t --BODY-- --END--",
-            Ended::Limit(Limit::Sets),
-        ),
-    ];
-    for (text, wanted) in rows.iter() {
-        if ended(alloc, text)? != *wanted {
-            return Ok(false);
-        }
+/// Counts these runs, and those that don't end as their text alone says.
+pub(crate) fn count_all(rt: &HostRuntime, count: &mut Count) -> Result<(), Fault> {
+    for (text, wanted) in ROWS.iter() {
+        let ended = ended(rt.alloc(), text)?;
+        let different = if ended == *wanted {
+            None
+        } else {
+            Some(format!(in rt.alloc(); "a sure run: {ended:?} in place of {wanted:?}")?)
+        };
+        count.take(rt, different)?;
     }
-    Ok(true)
+    Ok(())
 }

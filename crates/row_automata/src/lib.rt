@@ -1,12 +1,21 @@
-//! Small automata for programs of rows: they are written down edge by edge, shown, and searched for the words that they
-//! accept.
+//! Small automata for programs of rows: they are read, shown, chosen part by part, and searched for the words that they
+//! accept, in two ways that share nothing.
 #![tactic(auto)]
 
 mod build;
-mod labels;
-mod runs;
+mod choices;
+mod conditions;
+mod notation;
+mod paths;
+mod product;
 mod show;
+mod words;
 
-pub use build::{Written, automaton, built, first_states, named, read_edges};
-pub use runs::View;
-pub use show::shown;
+pub use build::{automaton, marks, named};
+pub use choices::{Choices, chosen};
+pub use conditions::{CONDITIONS, condition};
+pub use notation::read;
+pub use paths::Paths;
+pub use product::accepts;
+pub use show::{push_number, shown};
+pub use words::{Word, Words};

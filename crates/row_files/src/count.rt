@@ -26,8 +26,26 @@ impl Count {
         }
     }
 
+    /// One row more. What came out otherwise is printed.
+    pub fn take(&mut self, rt: &HostRuntime, different: Option<String>) -> Result<(), Fault> {
+        self.add(different.is_some());
+        if let Some(text) = different {
+            println!(rt; "{text}")?;
+        }
+        Ok(())
+    }
+
+    /// Ends a program of rows: writes its last line to standard output, and fails where some row came out otherwise.
+    pub fn end(&self, rt: &HostRuntime) -> Result<(), Stop> {
+        self.print(rt)?;
+        if self.different > 0 {
+            return Err(Stop::from(Fault::Different));
+        }
+        Ok(())
+    }
+
     /// Writes the last line of a program of rows to standard output.
-    pub fn print(&self, rt: &HostRuntime) -> Result<(), Stop> {
+    fn print(&self, rt: &HostRuntime) -> Result<(), Stop> {
         let rows = self.rows;
         let different = self.different;
         match println!(rt; "rows={rows} different={different}") {

@@ -1,0 +1,84 @@
+//! Numbers that are doubled.
+
+use aut_base::{Memory, Numbers};
+use exploration::{StepFault, System};
+use std::alloc::Global;
+
+/// A number.
+#[derive(Clone, Copy, Debug, PartialEq, Eq, Hash)]
+pub(crate) struct Number {
+    pub(crate) n: u32,
+}
+
+/// Numbers below 7, each of which leads to its double and one more modulo 7, and notes whether 7 was taken off. A step fails
+/// above the bound. A class is a place in a list that grows, as a guard is in a store.
+#[derive(Drop)]
+pub(crate) struct Doubling {
+    pub(crate) bound: u32,
+    pub(crate) made: Numbers,
+}
+
+impl System for Doubling {
+    ghost use Rattle.std.specs.Prelude.{◌≡◌, ◌+◌, ◌*◌, ◌<◌, ℕ, Some, leb, nat_eq, slice_get};
+    ghost use Rattle.base_rows.specs.Systems.{doubling_moves, number_tells, same_numbers};
+
+    type Thing = Number;
+
+    type Class = usize;
+
+    type Note = bool;
+
+    ghost Seen = { ℕ };
+
+    ghost seen = { λ x. x.n };
+
+    ghost same = { nat_eq };
+
+    ghost Frame = { ℕ };
+
+    ghost frame = { λ s. s.bound };
+
+    ghost moves = { λ s. doubling_moves s.bound };
+
+    ghost fits = { λ s n. n < 7 };
+
+    ghost is_class = { λ s n k c. slice_get s.made c ≡ Some k };
+
+    ghost is_note = { λ _ n k taken. taken ≡ leb 7 (2 * n + k) };
+
+    ghost tells = { number_tells };
+
+    ghost same_tells = { same_numbers };
+
+    fn classes(
+        &mut self,
+        alloc: Global,
+        _thing: &Number,
+        most: u32,
+    ) -> Result<Option<Vec<usize>>, Memory> {
+        if most < 2 {
+            return Ok(None);
+        }
+        let mut classes = Vec::new(alloc);
+        classes.push(self.made.len())?;
+        self.made.push(0)?;
+        classes.push(self.made.len())?;
+        self.made.push(1)?;
+        Ok(Some(classes))
+    }
+
+    fn step(
+        &mut self,
+        _alloc: Global,
+        thing: &Number,
+        _number: u32,
+        class: usize,
+    ) -> Result<Option<(Number, bool)>, StepFault> {
+        let sum = 2 * thing.n + *self.made.at(class);
+        let n = sum % 7;
+        if n > self.bound {
+            return Err(StepFault::Nodes);
+        }
+        Ok(Some((Number { n }, sum >= 7)))
+    }
+}

@@ -1,0 +1,120 @@
+//! What the calls make of a condition, against the truth of that condition.
+
+use crate::conditions::{Node, pair, shown};
+use crate::forms::calls::{
+    RAISED, both, count, either, holds_without_marks, opposite, raised, spread, terms,
+};
+use crate::forms::holds::truths;
+use crate::forms::shape::{ATOMS, SHAPES, atom};
+use aut_base::{Formula, Memory};
+use row_files::{Count, Fault};
+use std::alloc::Global;
+
+/// Counts all conditions, and those of which a call makes what it shouldn't.
+pub(crate) fn count_all(rt: &HostRuntime, count: &mut Count) -> Result<(), Fault> {
+    for shape in SHAPES.iter() {
+        for first in ATOMS.iter() {
+            for second in shape.seconds() {
+                for third in shape.thirds() {
+                    let formula = shape.formula(rt.alloc(), *first, *second, *third)?;
+                    count.take(rt, different(rt.alloc(), &formula)?)?;
+                }
+            }
+        }
+    }
+    Ok(())
+}
+
+/// The text of the condition, if a call makes of it what it shouldn't.
+fn different(alloc: Global, formula: &Formula) -> Result<Option<String>, Fault> {
+    if is_right(alloc, formula)? {
+        return Ok(None);
+    }
+    let text = shown(alloc, formula)?;
+    let text = std::str::from_utf8(text.as_bytes()).unwrap_or("(no text)");
+    Ok(Some(format!(in alloc; "condition {text}")?))
+}
+
+/// Whether every call makes of the condition what its truth asks for.
+fn is_right(alloc: Global, formula: &Formula) -> Result<bool, Memory> {
+    let own = truths(alloc, formula, 0)?;
+    if own.first() != Some(&holds_without_marks(formula)) {
+        return Ok(false);
+    }
+    Ok(
+        is_turned_rightly(alloc, formula, &own)?
+            && is_raised_rightly(alloc, formula, &own)?
+            && is_spread_rightly(alloc, formula, &own)?
+            && is_joined_rightly(alloc, formula, &own)?,
+    )
+}
+
+fn is_turned_rightly(alloc: Global, formula: &Formula, own: &[bool]) -> Result<bool, Memory> {
+    let opposites = truths(alloc, &opposite(alloc, formula)?, 0)?;
+    Ok(own.len() == opposites.len() && own.iter().zip(opposites.iter()).all(|(a, b)| *a != *b))
+}
+
+fn is_raised_rightly(alloc: Global, formula: &Formula, own: &[bool]) -> Result<bool, Memory> {
+    match raised(alloc, formula)? {
+        Some(higher) => Ok(truths(alloc, &higher, RAISED)?.as_slice() == own),
+        None => Ok(false),
+    }
+}
+
+fn is_spread_rightly(alloc: Global, formula: &Formula, own: &[bool]) -> Result<bool, Memory> {
+    let Some(found) = terms(alloc, formula)? else {
+        return Ok(false);
+    };
+    let truths = truths(alloc, &spread(alloc, &found)?, 0)?;
+    Ok(truths.as_slice() == own && found.len() as u64 == count(formula))
+}
+
+/// Whether the joins with some other conditions have the truths that they should.
+fn is_joined_rightly(alloc: Global, formula: &Formula, own: &[bool]) -> Result<bool, Memory> {
+    let and = pair(alloc, Node::And, atom(ATOMS[0]), atom(ATOMS[6]))?;
+    let or = pair(alloc, Node::Or, atom(ATOMS[1]), atom(ATOMS[4]))?;
+    are_joined_with_each(
+        alloc,
+        formula,
+        own,
+        &[&Formula::True, &Formula::False, &and, &or],
+    )
+}
+
+fn are_joined_with_each(
+    alloc: Global,
+    formula: &Formula,
+    own: &[bool],
+    others: &[&Formula],
+) -> Result<bool, Memory> {
+    for other in others {
+        let all = truths_of_both(alloc, formula, other)?;
+        let some = truths_of_either(alloc, other, formula)?;
+        if !are_joined(own, &truths(alloc, other, 0)?, &all, &some) {
+            return Ok(false);
+        }
+    }
+    Ok(true)
+}
+
+fn truths_of_both(alloc: Global, f: &Formula, g: &Formula) -> Result<Vec<bool>, Memory> {
+    truths(alloc, &both(alloc, f, g)?, 0)
+}
+
+fn truths_of_either(alloc: Global, f: &Formula, g: &Formula) -> Result<Vec<bool>, Memory> {
+    truths(alloc, &either(alloc, f, g)?, 0)
+}
+
+fn are_joined(own: &[bool], others: &[bool], all: &[bool], some: &[bool]) -> bool {
+    if own.len() != others.len() || own.len() != all.len() || own.len() != some.len() {
+        return false;
+    }
+    for place in 0..own.len() {
+        if all[place] != (own[place] && others[place])
+            || some[place] != (own[place] || others[place])
+        {
+            return false;
+        }
+    }
+    true
+}

@@ -1,0 +1,50 @@
+//! Labels, as rows write them.
+
+use aut_base::{Label, Labels, Memory};
+use row_files::{Fault, number};
+use std::alloc::Global;
+
+/// A label. Its words stand behind the words of their parts: `t`, `f`, a number for a proposition, `!` for the negation of the
+/// last part, `&` and `|` for the conjunction and the disjunction of the last two, `&&` and `||` for those of three.
+pub(crate) fn label(alloc: Global, text: &str) -> Result<Label, Fault> {
+    let mut parts = Vec::new(alloc);
+    for word in text.split(' ') {
+        let part = written(alloc, word, &mut parts)?;
+        parts.push(part)?;
+    }
+    Ok(last(&mut parts))
+}
+
+fn written(alloc: Global, word: &str, parts: &mut Vec<Label>) -> Result<Label, Fault> {
+    match word {
+        "t" => Ok(Label::True),
+        "f" => Ok(Label::False),
+        "!" => Ok(Label::Not(Box::new(alloc, last(parts))?)),
+        "&" => Ok(Label::And(Box::new(alloc, last_two(alloc, parts))?)),
+        "|" => Ok(Label::Or(Box::new(alloc, last_two(alloc, parts))?)),
+        "&&" => Ok(Label::And(Box::new(alloc, last_three(alloc, parts)?)?)),
+        "||" => Ok(Label::Or(Box::new(alloc, last_three(alloc, parts)?)?)),
+        _ => Ok(Label::Prop(number(word)?)),
+    }
+}
+
+fn last_two(alloc: Global, parts: &mut Vec<Label>) -> Labels {
+    let second = last(parts);
+    let first = last(parts);
+    Labels::pair(alloc, first, second)
+}
+
+fn last_three(alloc: Global, parts: &mut Vec<Label>) -> Result<Labels, Memory> {
+    let third = last(parts);
+    let mut all = last_two(alloc, parts);
+    all.push(third)?;
+    Ok(all)
+}
+
+/// The last part. It is `f` where there is none.
+fn last(parts: &mut Vec<Label>) -> Label {
+    match parts.pop() {
+        Some(part) => part,
+        None => Label::False,
+    }
+}

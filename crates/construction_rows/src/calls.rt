@@ -1,0 +1,114 @@
+//! What rows ask for by name.
+
+use crate::made::{Double, Made, Single, hidden, make, make_of_two};
+use crate::rings::{choices, ring};
+use ap_project::Hide;
+use aut_base::{Memory, Text};
+use aut_core::Automaton;
+use aut_ops::{ReachedSize, reached_size};
+use row_automata::{push_number, read, shown};
+use row_files::{Answers, Fault, kind_and_rest, number};
+use std::alloc::Global;
+
+/// Answers each call with what is made, in the notation of automata, or with why nothing is.
+#[derive(Drop)]
+pub(crate) struct Constructions;
+
+impl Answers for Constructions {
+    fn answer(&self, rt: &HostRuntime, call: &str, text: &Text) -> Result<Text, Fault> {
+        let alloc = rt.alloc();
+        let lines = std::str::from_utf8(text.as_bytes()).unwrap_or("");
+        let (first, others) = lines.split_once('\n').unwrap_or((lines, ""));
+        let (second, _) = others.split_once('\n').unwrap_or((others, ""));
+        if let Some(call) = single_call(call) {
+            return answer_to(alloc, make(alloc, call, &read(alloc, first)?)?);
+        }
+        if let Some(call) = double_call(call) {
+            let (a, b) = (read(alloc, first)?, read(alloc, second)?);
+            return answer_to(alloc, make_of_two(alloc, call, &a, &b)?);
+        }
+        other_answer(alloc, call, first)
+    }
+}
+
+fn single_call(name: &str) -> Option<Single> {
+    match name {
+        "complete" => Some(Single::Complete),
+        "trim" => Some(Single::Trim),
+        "prune" => Some(Single::Prune),
+        "remove_fin" => Some(Single::WithoutFin),
+        "to_buchi" => Some(Single::Buchi),
+        "monitor" => Some(Single::Monitor),
+        "parity" => Some(Single::Parity),
+        _ => None,
+    }
+}
+
+fn double_call(name: &str) -> Option<Double> {
+    match name {
+        "sum" => Some(Double::Sum),
+        "product" => Some(Double::Product),
+        "product_or" => Some(Double::ProductOr),
+        _ => None,
+    }
+}
+
+/// The calls with other inputs or answers.
+fn other_answer(alloc: Global, call: &str, line: &str) -> Result<Text, Fault> {
+    let (call, rest) = kind_and_rest(call);
+    match call {
+        "reached_size" => Ok(reached(alloc, &read(alloc, line)?)?),
+        "any" => hiding_answer(alloc, rest, Hide::Any, line),
+        "absent" => hiding_answer(alloc, rest, Hide::Absent, line),
+        "present" => hiding_answer(alloc, rest, Hide::Present, line),
+        "to_buchi_of_ring" => {
+            let ring = ring(alloc, number(line)?)?;
+            size_answer(alloc, make(alloc, Single::Buchi, &ring)?)
+        }
+        "to_buchi_of_choices" => {
+            let a = choices(alloc, number(line)?)?;
+            size_answer(alloc, make(alloc, Single::Buchi, &a)?)
+        }
+        "copies_of_choices" => {
+            let a = choices(alloc, number(line)?)?;
+            size_answer(alloc, make(alloc, Single::Copies, &a)?)
+        }
+        _ => Err(Fault::UnknownKind),
+    }
+}
+
+/// The automaton of a line with a name hidden.
+fn hiding_answer(alloc: Global, name: &str, how: Hide, line: &str) -> Result<Text, Fault> {
+    let a = read(alloc, line)?;
+    let name = Text::from_bytes(alloc, name.as_bytes())?;
+    Ok(shown(alloc, &hidden(alloc, &a, &name, how)?)?)
+}
+
+fn answer_to(alloc: Global, made: Made) -> Result<Text, Fault> {
+    match made {
+        Made::Automaton(a) => Ok(shown(alloc, &a)?),
+        Made::Refused(why) => Ok(Text::from_bytes(alloc, why.as_bytes())?),
+    }
+}
+
+/// The numbers of states and sets alone.
+fn size_answer(alloc: Global, made: Made) -> Result<Text, Fault> {
+    match made {
+        Made::Automaton(a) => Ok(pair(alloc, a.states(), a.sets())?),
+        Made::Refused(why) => Ok(Text::from_bytes(alloc, why.as_bytes())?),
+    }
+}
+
+/// How many states are reached, and how many edges leave them.
+fn reached(alloc: Global, a: &Automaton) -> Result<Text, Memory> {
+    let ReachedSize { states, edges } = reached_size(alloc, a)?;
+    pair(alloc, states, u32::try_from(edges).unwrap_or(u32::MAX))
+}
+
+fn pair(alloc: Global, first: u32, second: u32) -> Result<Text, Memory> {
+    let mut text = Text::new(alloc);
+    push_number(alloc, &mut text, first)?;
+    text.push(b' ')?;
+    push_number(alloc, &mut text, second)?;
+    Ok(text)
+}

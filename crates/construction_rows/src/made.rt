@@ -1,0 +1,235 @@
+//! The constructions, each called in one place.
+
+ghost use Rattle.std.specs.Prelude.{◌≡◌, ◌<◌, IsTrue, false};
+ghost use Rattle.aut_base.specs.Formula.{Inf, formula_tree};
+ghost use Rattle.construction_rows.specs.Small.{AreSmall, HasOneSet};
+
+use acc_forms::FormFault;
+use ap_project::{Hide, remove_ap};
+use aut_base::{Formula, Memory, Text};
+use aut_core::{Automaton, NameFault};
+use aut_ops::{PairFault, complete, product, product_or, prune, sum, trim};
+use degeneralise::{BuchiFault, to_buchi};
+use fin_removal::{copies, remove_fin};
+use monitor_form::{MonFault, monitor};
+use parity_det::{CompFault, complement, parity};
+use row_files::Fault;
+use std::alloc::Global;
+
+/// The numbers of states and sets of the automata that are made complete.
+const MOST: u32 = 1000;
+
+/// Copies of any automaton with so many states can be numbered.
+const MOST_STATES: u32 = 4_190_211;
+
+/// What is made, or the word for what refuses it.
+#[derive(Drop)]
+pub(crate) enum Made {
+    Automaton(Automaton),
+    Refused(&'static str),
+}
+
+/// What is made of one automaton.
+#[derive(Clone, Copy)]
+pub(crate) enum Single {
+    Complete,
+    Trim,
+    Prune,
+    Copies,
+    WithoutFin,
+    Buchi,
+    Monitor,
+    Parity,
+    Complement,
+}
+
+/// What is made of two automata.
+#[derive(Clone, Copy)]
+pub(crate) enum Double {
+    Sum,
+    Product,
+    ProductOr,
+}
+
+pub(crate) fn make(alloc: Global, call: Single, a: &Automaton) -> Result<Made, Fault> {
+    match call {
+        Single::Complete => completed(alloc, a),
+        Single::Trim => trimmed(alloc, a),
+        Single::Prune => pruned(alloc, a),
+        Single::Copies => copied(alloc, a),
+        Single::WithoutFin => without_fin(alloc, a),
+        Single::Buchi => buchi(alloc, a),
+        Single::Monitor => monitored(alloc, a),
+        Single::Parity => parity_of(alloc, a),
+        Single::Complement => complemented(alloc, a),
+    }
+}
+
+pub(crate) fn make_of_two(
+    alloc: Global,
+    call: Double,
+    a: &Automaton,
+    b: &Automaton,
+) -> Result<Made, Fault> {
+    if !are_small(a, b) {
+        return Ok(Made::Refused("large"));
+    }
+    match call {
+        Double::Sum => summed(alloc, a, b),
+        Double::Product => paired(both(alloc, a, b)),
+        Double::ProductOr => paired(either(alloc, a, b)),
+    }
+}
+
+pub(crate) fn hidden(
+    alloc: Global,
+    a: &Automaton,
+    name: &Text,
+    how: Hide,
+) -> Result<Automaton, Memory> {
+    remove_ap(alloc, a, name, how)
+}
+
+/// Whether the numbers of states and sets are far below the last of their type.
+fn are_small(a: &Automaton, b: &Automaton) -> bool
+    ensures { IsTrue result → AreSmall a.now b.now }
+{
+    a.states() < MOST && a.sets() < MOST && b.states() < MOST && b.sets() < MOST
+}
+
+fn completed(alloc: Global, a: &Automaton) -> Result<Made, Fault> {
+    if !are_small(a, a) {
+        return Ok(Made::Refused("large"));
+    }
+    Ok(Made::Automaton(complete_small(alloc, a)?))
+}
+
+fn complete_small(alloc: Global, a: &Automaton) -> Result<Automaton, Memory>
+    requires { AreSmall a.now a.now }
+{
+    complete(alloc, a)
+}
+
+fn trimmed(alloc: Global, a: &Automaton) -> Result<Made, Fault> {
+    Ok(Made::Automaton(trim(alloc, a)?))
+}
+
+fn pruned(alloc: Global, a: &Automaton) -> Result<Made, Fault> {
+    if !has_one_set(a) {
+        return Ok(Made::Refused("condition"));
+    }
+    Ok(Made::Automaton(prune_one(alloc, a)?))
+}
+
+fn prune_one(alloc: Global, a: &Automaton) -> Result<Automaton, Memory>
+    requires { HasOneSet a.now }
+{
+    prune(alloc, a)
+}
+
+/// Whether the condition is that set 0 comes again and again.
+#[tactic(auto, using(aut_base::proofs::trees::FormulaTrees::formula_trees))]
+fn is_again(condition: &Formula) -> bool
+    ensures { IsTrue result → formula_tree condition.now ≡ Inf 0 false }
+{
+    match condition {
+        Formula::Inf { set: 0, neg: false } => true,
+        _ => false,
+    }
+}
+
+/// Whether there is one set, and the condition is that it comes again and again.
+fn has_one_set(a: &Automaton) -> bool
+    ensures { IsTrue result → HasOneSet a.now }
+{
+    a.sets() == 1 && is_again(a.formula())
+}
+
+fn summed(alloc: Global, a: &Automaton, b: &Automaton) -> Result<Made, Fault>
+    requires { AreSmall a.now b.now }
+{
+    match sum(alloc, a, b) {
+        Ok(made) => Ok(Made::Automaton(made)),
+        Err(NameFault::Memory) => Err(Fault::Memory),
+        Err(NameFault::Names) => Ok(Made::Refused("names")),
+    }
+}
+
+fn both(alloc: Global, a: &Automaton, b: &Automaton) -> Result<Automaton, PairFault>
+    requires { AreSmall a.now b.now }
+{
+    product(alloc, a, b)
+}
+
+fn either(alloc: Global, a: &Automaton, b: &Automaton) -> Result<Automaton, PairFault>
+    requires { AreSmall a.now b.now }
+{
+    product_or(alloc, a, b)
+}
+
+fn paired(made: Result<Automaton, PairFault>) -> Result<Made, Fault> {
+    match made {
+        Ok(made) => Ok(Made::Automaton(made)),
+        Err(PairFault::Memory) => Err(Fault::Memory),
+        Err(PairFault::Names) => Ok(Made::Refused("names")),
+        Err(PairFault::Pairs) => Ok(Made::Refused("pairs")),
+    }
+}
+
+fn copied(alloc: Global, a: &Automaton) -> Result<Made, Fault> {
+    if a.states() > MOST_STATES {
+        return Ok(Made::Refused("large"));
+    }
+    without_terms(copies(alloc, a))
+}
+
+fn without_fin(alloc: Global, a: &Automaton) -> Result<Made, Fault> {
+    if a.states() > MOST_STATES {
+        return Ok(Made::Refused("large"));
+    }
+    without_terms(remove_fin(alloc, a))
+}
+
+fn without_terms(made: Result<Automaton, FormFault>) -> Result<Made, Fault> {
+    match made {
+        Ok(made) => Ok(Made::Automaton(made)),
+        Err(FormFault::Terms) => Ok(Made::Refused("terms")),
+        Err(FormFault::Memory) => Err(Fault::Memory),
+    }
+}
+
+fn buchi(alloc: Global, a: &Automaton) -> Result<Made, Fault> {
+    match to_buchi(alloc, a) {
+        Ok(made) => Ok(Made::Automaton(made)),
+        Err(BuchiFault::Terms) => Ok(Made::Refused("terms")),
+        Err(BuchiFault::BuchiStates) => Ok(Made::Refused("states")),
+        Err(BuchiFault::Memory) => Err(Fault::Memory),
+    }
+}
+
+fn monitored(alloc: Global, a: &Automaton) -> Result<Made, Fault> {
+    match monitor(alloc, a) {
+        Ok(made) => Ok(Made::Automaton(made)),
+        Err(MonFault::Memory) => Err(Fault::Memory),
+        Err(_) => Ok(Made::Refused("limit")),
+    }
+}
+
+fn parity_of(alloc: Global, a: &Automaton) -> Result<Made, Fault> {
+    determinised(parity(alloc, a))
+}
+
+fn complemented(alloc: Global, a: &Automaton) -> Result<Made, Fault> {
+    if a.states() > MOST || a.sets() > MOST {
+        return Ok(Made::Refused("large"));
+    }
+    determinised(complement(alloc, a))
+}
+
+fn determinised(made: Result<Automaton, CompFault>) -> Result<Made, Fault> {
+    match made {
+        Ok(made) => Ok(Made::Automaton(made)),
+        Err(CompFault::Memory) => Err(Fault::Memory),
+        Err(_) => Ok(Made::Refused("limit")),
+    }
+}

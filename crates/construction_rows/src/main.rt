@@ -1,0 +1,41 @@
+//! Tells whether what constructions make of automata is what was worked out by hand, and whether what they make of small
+//! automata accepts the words that it should.
+#![tactic(auto)]
+
+mod calls;
+mod compared;
+mod hiding;
+mod made;
+mod monitors;
+mod oracles;
+mod rings;
+
+use calls::Constructions;
+use row_files::{Count, Stop, ask};
+
+/// The files of rows, in the folder where the program runs.
+const FILES: [&str; 5] = [
+    "operations.rows",
+    "hiding.rows",
+    "forms.rows",
+    "monitors.rows",
+    "parity.rows",
+];
+
+fn main(rt: HostRuntime) -> Result<(), Stop> {
+    let mut count = Count::new();
+    ask(&rt, &FILES, Constructions, &mut count)?;
+    try_small(&rt, &mut count)?;
+    count.end(&rt)
+}
+
+/// The rows that stand in no file: automata by chance.
+fn try_small(rt: &HostRuntime, count: &mut Count) -> Result<(), Stop> {
+    oracles::agree(rt, count)?;
+    compared::operations(rt, count)?;
+    compared::forms(rt, count)?;
+    compared::parities(rt, count)?;
+    hiding::compared(rt, count)?;
+    monitors::compared(rt, count)?;
+    Ok(())
+}

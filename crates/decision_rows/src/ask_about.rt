@@ -1,0 +1,85 @@
+//! The decisions, each called in one place.
+
+ghost use Rattle.std.specs.Prelude.{◌+◌, ◌<◌, ◌^◌};
+
+use aut_base::{Lasso, Memory};
+use aut_core::Automaton;
+use aut_ops::PairFault;
+use inclusion::{accept_together, counterexample};
+use lasso_emptiness::{accepted_word, accepts_some};
+use row_files::Fault;
+use std::alloc::Global;
+use unambiguous::{SquareFault, is_unambiguous};
+
+/// More sets than the automata of rows have.
+const MOST: u32 = 1000;
+
+/// What is found, or the word for what refuses it.
+#[derive(Drop)]
+pub(crate) enum Found {
+    Word(Lasso),
+    Nothing,
+    Refused(&'static str),
+    /// Two calls that should agree don't.
+    Apart,
+}
+
+/// A word that the automaton accepts. What is said without a word has to agree.
+pub(crate) fn word_of(alloc: Global, a: &Automaton) -> Result<Found, Memory> {
+    let found = found_word(alloc, a)?;
+    if accepts_some(alloc, a)? != found.is_some() {
+        return Ok(Found::Apart);
+    }
+    match found {
+        Some(word) => Ok(Found::Word(word)),
+        None => Ok(Found::Nothing),
+    }
+}
+
+fn found_word(alloc: Global, a: &Automaton) -> Result<Option<Lasso>, Memory> {
+    accepted_word(alloc, a)
+}
+
+/// A word that both accept. What is said without a word has to agree.
+pub(crate) fn word_of_both(alloc: Global, a: &Automaton, b: &Automaton) -> Result<Found, Fault> {
+    if a.sets() > MOST || b.sets() > MOST {
+        return Ok(Found::Refused("large"));
+    }
+    match (found_word_of_both(alloc, a, b), said_of_both(alloc, a, b)) {
+        (Err(PairFault::Memory), _) | (_, Err(PairFault::Memory)) => Err(Fault::Memory),
+        (Ok(Some(word)), Ok(true)) => Ok(Found::Word(word)),
+        (Ok(None), Ok(false)) => Ok(Found::Nothing),
+        (Err(PairFault::Names), Err(PairFault::Names)) => Ok(Found::Refused("names")),
+        (Err(PairFault::Pairs), Err(PairFault::Pairs)) => Ok(Found::Refused("pairs")),
+        _ => Ok(Found::Apart),
+    }
+}
+
+fn found_word_of_both(
+    alloc: Global,
+    a: &Automaton,
+    b: &Automaton,
+) -> Result<Option<Lasso>, PairFault>
+    requires { a.now.sets + b.now.sets < 2 ^ 32 }
+{
+    counterexample(alloc, a, b)
+}
+
+fn said_of_both(alloc: Global, a: &Automaton, b: &Automaton) -> Result<bool, PairFault>
+    requires { a.now.sets + b.now.sets < 2 ^ 32 }
+{
+    accept_together(alloc, a, b)
+}
+
+/// What is said of the runs of an automaton.
+pub(crate) fn verdict(alloc: Global, a: &Automaton) -> Result<&'static str, Fault> {
+    if a.sets() > MOST {
+        return Ok("large");
+    }
+    match is_unambiguous(alloc, a) {
+        Ok(true) => Ok("unambiguous"),
+        Ok(false) => Ok("ambiguous"),
+        Err(SquareFault::Pairs) => Ok("pairs"),
+        Err(SquareFault::Memory) => Err(Fault::Memory),
+    }
+}

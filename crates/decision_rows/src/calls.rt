@@ -1,0 +1,102 @@
+//! What rows ask for by name.
+
+use crate::ask_about::{Found, verdict, word_of, word_of_both};
+use crate::runs::{is_reduced, read_word};
+use crate::shapes::{line, ring};
+use aut_base::{Lasso, Memory, Text};
+use aut_core::Automaton;
+use row_automata::{accepts, push_number, read};
+use row_files::{Answers, Fault, kind_and_rest, number};
+use std::alloc::Global;
+
+/// Answers whether there is a word, and how long it is where the automaton is large, or what is said of the runs.
+#[derive(Drop)]
+pub(crate) struct Decisions;
+
+impl Answers for Decisions {
+    fn answer(&self, rt: &HostRuntime, call: &str, text: &Text) -> Result<Text, Fault> {
+        let alloc = rt.alloc();
+        let lines = std::str::from_utf8(text.as_bytes()).unwrap_or("");
+        let (first, others) = lines.split_once('\n').unwrap_or((lines, ""));
+        let (second, _) = others.split_once('\n').unwrap_or((others, ""));
+        match call {
+            "accepted_word" => {
+                let a = read(alloc, first)?;
+                word_answer(alloc, &word_of(alloc, &a)?, &a, &a)
+            }
+            "word_of_both" => {
+                let (a, b) = (read(alloc, first)?, read(alloc, second)?);
+                word_answer(alloc, &word_of_both(alloc, &a, &b)?, &a, &b)
+            }
+            "is_unambiguous" => said(alloc, verdict(alloc, &read(alloc, first)?)?),
+            _ => large_answer(alloc, call, first),
+        }
+    }
+}
+
+/// The calls on large automata, which aren't written out.
+fn large_answer(alloc: Global, call: &str, line: &str) -> Result<Text, Fault> {
+    match call {
+        "word_of_line" => length_answer(alloc, &word_of(alloc, &self::line(alloc, line)?)?),
+        "word_of_rings" => {
+            let (first, second) = kind_and_rest(line);
+            let a = ring(alloc, number(first)?, 1, true)?;
+            let b = ring(alloc, number(second)?, 1, true)?;
+            length_answer(alloc, &word_of_both(alloc, &a, &b)?)
+        }
+        "is_unambiguous_ring" => {
+            let states = number(line)?;
+            let a = ring(alloc, states, states, states % 2 == 1)?;
+            said(alloc, verdict(alloc, &a)?)
+        }
+        _ => Err(Fault::UnknownKind),
+    }
+}
+
+/// Whether there is a word. One that is found has to be accepted by both and to be reduced.
+fn word_answer(alloc: Global, found: &Found, a: &Automaton, b: &Automaton) -> Result<Text, Fault> {
+    match found {
+        Found::Word(word) => {
+            if is_right(alloc, word, a, b)? {
+                return said(alloc, "word");
+            }
+            said(alloc, "wrong word")
+        }
+        Found::Nothing => said(alloc, "none"),
+        Found::Refused(why) => said(alloc, why),
+        Found::Apart => said(alloc, "apart"),
+    }
+}
+
+/// Whether both accept the word, and it is reduced.
+pub(crate) fn is_right(
+    alloc: Global,
+    word: &Lasso,
+    a: &Automaton,
+    b: &Automaton,
+) -> Result<bool, Memory> {
+    let read = read_word(alloc, word)?;
+    Ok(is_reduced(&read) && accepts(alloc, a, &read)? && accepts(alloc, b, &read)?)
+}
+
+/// The lengths of the stem and the cycle of the word that is found.
+fn length_answer(alloc: Global, found: &Found) -> Result<Text, Fault> {
+    match found {
+        Found::Word(word) => Ok(pair(alloc, word.stem.len(), word.cycle.len())?),
+        Found::Nothing => said(alloc, "none"),
+        Found::Refused(why) => said(alloc, why),
+        Found::Apart => said(alloc, "apart"),
+    }
+}
+
+fn pair(alloc: Global, first: usize, second: usize) -> Result<Text, Memory> {
+    let mut text = Text::new(alloc);
+    push_number(alloc, &mut text, u32::try_from(first).unwrap_or(u32::MAX))?;
+    text.push(b' ')?;
+    push_number(alloc, &mut text, u32::try_from(second).unwrap_or(u32::MAX))?;
+    Ok(text)
+}
+
+fn said(alloc: Global, word: &str) -> Result<Text, Fault> {
+    Ok(Text::from_bytes(alloc, word.as_bytes())?)
+}

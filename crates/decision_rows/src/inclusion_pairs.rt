@@ -1,0 +1,56 @@
+//! Pairs of automata by chance, and whether a word is found where both accept some short word.
+
+use crate::ask_about::{Found, word_of_both};
+use crate::calls::is_right;
+use crate::emptiness::{accepted, told};
+use aut_base::Memory;
+use aut_core::Automaton;
+use row_automata::{Choices, Words, chosen, condition};
+use row_files::{Count, Fault};
+use std::alloc::Global;
+
+/// Pairs of automata of three states, with two edges from each, over one or both of the names.
+pub(crate) fn compared(rt: &HostRuntime, count: &mut Count) -> Result<(), Fault> {
+    let alloc = rt.alloc();
+    let words = Words::new(alloc, 4, 2, 3)?;
+    let mut choices = Choices::chance();
+    for number in 0..500u32 {
+        let a = three_states(alloc, &mut choices, number)?;
+        let b = three_states(alloc, &mut choices, number.wrapping_mul(3))?;
+        let is_right = match word_of_both(alloc, &a, &b)? {
+            Found::Word(word) => is_right(alloc, &word, &a, &b)?,
+            Found::Nothing => are_apart(alloc, &a, &b, &words)?,
+            _ => false,
+        };
+        let different = if is_right {
+            None
+        } else {
+            Some(told(alloc, "word_of_both", &a, &b)?)
+        };
+        count.take(rt, different)?;
+    }
+    Ok(())
+}
+
+fn three_states(alloc: Global, choices: &mut Choices, number: u32) -> Result<Automaton, Fault> {
+    let condition = condition(alloc, number.wrapping_mul(5))?;
+    let names: &[u8] = match number % 4 {
+        0 => b"a",
+        1 => b"b",
+        2 => b"ab",
+        _ => b"ba",
+    };
+    chosen(alloc, choices, names, 3, &[0, 0, 1, 1, 2, 2], condition)
+}
+
+/// Whether no word of a list is accepted by both.
+fn are_apart(alloc: Global, a: &Automaton, b: &Automaton, words: &Words) -> Result<bool, Memory> {
+    let first = accepted(alloc, a, words)?;
+    let second = accepted(alloc, b, words)?;
+    Ok(
+        !first
+            .iter()
+            .zip(second.iter())
+            .any(|(first, second)| *first && *second),
+    )
+}

@@ -1,0 +1,60 @@
+//! Words that are found, as the oracles take them.
+
+use aut_base::{Lasso, Letter, Memory, Text};
+use row_automata::Word;
+use std::alloc::Global;
+
+/// The word over `a` and `b`. A letter with another name stands as none, which no edge reads.
+pub(crate) fn read_word(alloc: Global, word: &Lasso) -> Result<Word, Memory> {
+    Ok(Word {
+        stem: letters(alloc, word.stem.as_slice())?,
+        cycle: letters(alloc, word.cycle.as_slice())?,
+    })
+}
+
+fn letters(alloc: Global, letters: &[Letter]) -> Result<Vec<u32>, Memory> {
+    let a = Text::from_bytes(alloc, b"a")?;
+    let b = Text::from_bytes(alloc, b"b")?;
+    let mut bits = Vec::new(alloc);
+    for letter in letters {
+        let (has_a, has_b) = (letter.has(&a), letter.has(&b));
+        let known = usize::from(has_a).saturating_add(usize::from(has_b));
+        bits.push(if letter.names().len() == known {
+            bit(has_a, has_b)
+        } else {
+            0
+        })?;
+    }
+    Ok(bits)
+}
+
+fn bit(has_a: bool, has_b: bool) -> u32 {
+    match (has_a, has_b) {
+        (false, false) => 1,
+        (true, false) => 2,
+        (false, true) => 4,
+        (true, true) => 8,
+    }
+}
+
+/// Whether the cycle is no repetition, and the stem ends in another letter.
+pub(crate) fn is_reduced(word: &Word) -> bool {
+    if !word.stem.is_empty() && word.stem.last() == word.cycle.last() {
+        return false;
+    }
+    for part in 1..word.cycle.len() {
+        if word.cycle.len() % part == 0 && repeats(&word.cycle, part) {
+            return false;
+        }
+    }
+    !word.cycle.is_empty()
+}
+
+/// Whether each letter is the one so many places before it.
+fn repeats(cycle: &[u32], part: usize) -> bool {
+    cycle
+        .iter()
+        .skip(part)
+        .zip(cycle.iter())
+        .all(|(letter, before)| *letter == *before)
+}

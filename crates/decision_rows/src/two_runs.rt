@@ -1,0 +1,181 @@
+//! Automata by chance, and whether two runs over one word differ, by the definition: pairs of paths of few edges are tried.
+
+use crate::ask_about::verdict;
+use crate::emptiness::told;
+use aut_base::{Formula, Memory};
+use aut_core::{Automaton, Link};
+use row_automata::{Choices, chosen, condition, marks};
+use row_files::{Count, Fault};
+use std::alloc::Global;
+
+/// The most edges of a run, those of its cycle gone once.
+const LENGTH: usize = 5;
+
+/// An edge, with a bit for each letter at which it can be gone, where the name fails and where it holds, and for each of its
+/// sets.
+#[derive(Clone, Copy)]
+struct Way {
+    from: u32,
+    to: u32,
+    letters: u32,
+    sets: u32,
+}
+
+/// A path, or no edge where it has ended.
+type Path = [Option<Way>; LENGTH];
+
+/// Automata of two states with three edges, under one condition after the other.
+pub(crate) fn compared(rt: &HostRuntime, count: &mut Count) -> Result<(), Fault> {
+    let alloc = rt.alloc();
+    let mut choices = Choices::chance();
+    for number in 0..300u32 {
+        let condition = condition(alloc, number.wrapping_mul(7))?;
+        let from: &[u32] = if number % 2 == 0 {
+            &[0, 0, 1]
+        } else {
+            &[0, 1, 1]
+        };
+        let a = chosen(alloc, &mut choices, b"a", 2, from, condition)?;
+        let said = verdict(alloc, &a)?;
+        let wanted = if has_two_runs(alloc, &a)? {
+            "ambiguous"
+        } else {
+            "unambiguous"
+        };
+        let different = if said == wanted {
+            None
+        } else {
+            Some(told(alloc, "is_unambiguous", &a, &a)?)
+        };
+        count.take(rt, different)?;
+    }
+    Ok(())
+}
+
+/// Whether over some word of few letters two accepting runs differ. Two runs over one word close together where they go
+/// round more often, so it is enough to try paths of one length whose cycles have one length.
+fn has_two_runs(alloc: Global, a: &Automaton) -> Result<bool, Memory> {
+    let ways = ways(alloc, a)?;
+    let runs = runs(alloc, a, &ways)?;
+    for (place, run) in runs.iter().enumerate() {
+        for other in runs.iter().take(place) {
+            if read_alike(run, other) && both_accept(alloc, a.formula(), run, other)? {
+                return Ok(true);
+            }
+        }
+    }
+    Ok(false)
+}
+
+/// The edges that can be gone at some letter.
+fn ways(alloc: Global, a: &Automaton) -> Result<Vec<Way>, Memory> {
+    let mut ways = Vec::new(alloc);
+    for link in a.links() {
+        ways.push(Way {
+            from: link.from,
+            to: link.to,
+            letters: letters(a, link),
+            sets: u32::from(link.marks.has(0)) + 2 * u32::from(link.marks.has(1)),
+        })?;
+    }
+    Ok(ways)
+}
+
+/// The letters of an edge, by the numbers of valuations of the only name.
+fn letters(a: &Automaton, link: &Link) -> u32 {
+    if !a.guards().has(link.guard) {
+        return 0;
+    }
+    let off = u32::from(a.guards().holds_at(link.guard, 0));
+    let on = u32::from(a.guards().holds_at(link.guard, 1));
+    off | on << 1
+}
+
+/// All paths of few edges from a start. An edge has the number of its place, and the end of a path that behind the last.
+fn runs(alloc: Global, a: &Automaton, ways: &[Way]) -> Result<Vec<Path>, Memory> {
+    let mut runs = Vec::new(alloc);
+    for number in 0..1024u32 {
+        let path = path(ways, number);
+        if is_run(a, &path) {
+            runs.push(path)?;
+        }
+    }
+    Ok(runs)
+}
+
+/// The path of the digits of a number to the base four.
+fn path(ways: &[Way], number: u32) -> Path {
+    let mut rest = number;
+    let mut path = [None; LENGTH];
+    for way in path.iter_mut() {
+        *way = ways.get((rest % 4) as usize).copied();
+        rest /= 4;
+    }
+    path
+}
+
+/// Whether the path begins at a start, and each edge where the one before it ends. Behind its end there is no edge.
+fn is_run(a: &Automaton, path: &Path) -> bool {
+    let mut state = None;
+    let mut is_over = false;
+    for way in path.iter() {
+        match way {
+            None => is_over = true,
+            Some(way) => {
+                let begins = match state {
+                    None => a.starts().as_slice().contains(&way.from),
+                    Some(state) => way.from == state,
+                };
+                if is_over || !begins || way.letters == 0 {
+                    return false;
+                }
+                state = Some(way.to);
+            }
+        }
+    }
+    state.is_some()
+}
+
+/// Whether the paths have one length and at each place some letter meets both edges.
+fn read_alike(path: &Path, other: &Path) -> bool {
+    path.iter().zip(other.iter()).all(|(first, second)| match (first, second) {
+        (None, None) => true,
+        (Some(first), Some(second)) => first.letters & second.letters != 0,
+        _ => false,
+    })
+}
+
+/// Whether from some place on both are cycles that meet the condition.
+fn both_accept(
+    alloc: Global,
+    formula: &Formula,
+    path: &Path,
+    other: &Path,
+) -> Result<bool, Memory> {
+    for place in 0..LENGTH {
+        if accepts_from(alloc, formula, path, place)?
+            && accepts_from(alloc, formula, other, place)?
+        {
+            return Ok(true);
+        }
+    }
+    Ok(false)
+}
+
+/// Whether the path from this place on is a cycle that meets the condition.
+fn accepts_from(
+    alloc: Global,
+    formula: &Formula,
+    path: &Path,
+    place: usize,
+) -> Result<bool, Memory> {
+    let mut begin = None;
+    let mut end = None;
+    let mut cycle = Vec::new(alloc);
+    for way in path.iter().skip(place).flatten() {
+        begin = begin.or(Some(way.from));
+        end = Some(way.to);
+        cycle.push(marks(alloc, way.sets)?)?;
+    }
+    Ok(begin == end && !cycle.is_empty() && formula.met_by(&cycle))
+}

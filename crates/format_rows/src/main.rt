@@ -1,0 +1,38 @@
+//! Makes the calls of the lexer, the reader and `word_syntax` on each row of the files of rows, and prints which rows came
+//! out otherwise.
+#![tactic(auto)]
+
+mod automata;
+mod conditions;
+mod descriptions;
+mod lassos;
+mod parts;
+mod patterns;
+mod reading;
+mod row;
+mod tokens;
+mod word_calls;
+
+use row::TextRow;
+use row_files::{Count, Stop, run};
+
+/// The files of rows, in the folder where the program runs.
+const FILES: [&str; 11] = [
+    "tokens.rows",
+    "items.rows",
+    "labels.rows",
+    "states.rows",
+    "ends.rows",
+    "refused.rows",
+    "nested.rows",
+    "described.rows",
+    "patterns.rows",
+    "names.rows",
+    "lassos.rows",
+];
+
+fn main(rt: HostRuntime) -> Result<(), Stop> {
+    let mut count = Count::new();
+    run(&rt, &FILES, &mut TextRow::new(rt.alloc()), &mut count)?;
+    count.end(&rt)
+}

@@ -1,4 +1,0 @@
-use Rattle.label_guards_rows.proofs.calls.bring.Goals as goal
-
-pub bring_more-requires-clause-before : goal.bring_more-requires-clause-before
-bring_more-requires-clause-before c = c.new-brought.ensures c.args.other.now c.args.store.now c.args.to.now

@@ -1,0 +1,23 @@
+//! Reads the plan of the words of each row, and prints each that came out otherwise.
+#![tactic(auto)]
+
+mod row;
+mod shown;
+mod values;
+
+use row::PlanRow;
+use row_files::{Count, Stop, run};
+
+/// The files of rows, in the folder where the program runs.
+const FILES: [&str; 4] = [
+    "options.rows",
+    "values.rows",
+    "spellings.rows",
+    "together.rows",
+];
+
+fn main(rt: HostRuntime) -> Result<(), Stop> {
+    let mut count = Count::new();
+    run(&rt, &FILES, &mut PlanRow::new(rt.alloc()), &mut count)?;
+    count.end(&rt)
+}

@@ -1,0 +1,127 @@
+//! One row: the words, and what is wanted of them.
+
+use crate::shown::show;
+use aut_base::{Memory, Text, Words};
+use filter_plan::{Plan, UsageFault, read_plan};
+use row_files::{Fault, Row, add, add_escaped, kind_and_rest, number};
+use std::alloc::Global;
+
+/// The words and what is wanted of them, as far as the lines were read.
+#[derive(Drop)]
+pub(crate) struct PlanRow {
+    name: String,
+    has_words: bool,
+    words: Words,
+    wanted: Text,
+}
+
+impl PlanRow {
+    /// No line was read yet.
+    pub(crate) fn new(alloc: Global) -> PlanRow {
+        PlanRow {
+            name: String::new(alloc),
+            has_words: false,
+            words: Words::new(alloc),
+            wanted: Text::new(alloc),
+        }
+    }
+
+    /// Whether no line was read. The first line of a row is its name.
+    fn is_empty(&self) -> bool {
+        self.name.as_str().is_empty()
+    }
+
+    /// Takes the name of the row.
+    fn begin(&mut self, name: &str) -> Result<(), Fault> {
+        if name.is_empty() {
+            return Err(Fault::Missing);
+        }
+        self.name.push_str(name)?;
+        Ok(())
+    }
+
+    /// Adds the words that have a space between any two, or none.
+    fn add_words(&mut self, alloc: Global, rest: &str) -> Result<(), Fault> {
+        self.has_words = true;
+        if rest.is_empty() {
+            return Ok(());
+        }
+        for word in rest.split(' ') {
+            self.add_word(alloc, word, 0)?;
+        }
+        Ok(())
+    }
+
+    /// Adds a word as often as the number before it says.
+    fn add_repeated(&mut self, alloc: Global, rest: &str) -> Result<(), Fault> {
+        self.has_words = true;
+        let (count, word) = kind_and_rest(rest);
+        for number in 0..number(count)? {
+            self.add_word(alloc, word, number)?;
+        }
+        Ok(())
+    }
+
+    /// Adds a word with escapes. The number is that of the repetition, from 0.
+    fn add_word(&mut self, alloc: Global, word: &str, number: u32) -> Result<(), Fault> {
+        let mut text = Text::new(alloc);
+        add_escaped(alloc, &mut text, word, number)?;
+        self.words.push(text)?;
+        Ok(())
+    }
+
+    /// What comes out of the words, as a text.
+    fn shown(&self, alloc: Global) -> Result<Text, Memory> {
+        match plan_of(alloc, &self.words) {
+            Ok(plan) => show(alloc, &plan),
+            Err(UsageFault::Usage) => Text::from_bytes(alloc, b"usage\n"),
+            Err(UsageFault::Memory) => Err(Memory),
+        }
+    }
+}
+
+impl Row for PlanRow {
+    fn add(&mut self, rt: &HostRuntime, line: &str) -> Result<bool, Fault> {
+        let (kind, rest) = kind_and_rest(line);
+        if self.is_empty() != (kind == "=") {
+            return Err(Fault::Misplaced);
+        }
+        if let Some(form) = kind.strip_prefix('>') {
+            add(rt, &mut self.wanted, form, rest)?;
+            return Ok(false);
+        }
+        match kind {
+            "=" => self.begin(rest)?,
+            "?" => self.add_words(rt.alloc(), rest)?,
+            "?*" => self.add_repeated(rt.alloc(), rest)?,
+            _ => return Err(Fault::UnknownKind),
+        }
+        Ok(false)
+    }
+
+    fn is_whole(&self) -> Result<bool, Fault> {
+        Ok(!self.is_empty())
+    }
+
+    fn different(&self, rt: &HostRuntime) -> Result<Option<String>, Fault> {
+        if !self.has_words || self.wanted.is_empty() {
+            return Err(Fault::Missing);
+        }
+        let shown = self.shown(rt.alloc())?;
+        if shown.is(self.wanted.as_bytes()) {
+            return Ok(None);
+        }
+        let name = self.name.as_str();
+        let text = String::from_utf8_lossy(rt.alloc(), shown.as_bytes())?;
+        Ok(Some(format!(in rt.alloc(); "= {name}\n{text}")?))
+    }
+
+    fn clear(&mut self, alloc: Global) {
+        *self = PlanRow::new(alloc);
+    }
+}
+
+/// The plan of the words.
+fn plan_of(alloc: Global, words: &Words) -> Result<Plan, UsageFault> {
+    read_plan(alloc, words)
+}

@@ -1,0 +1,123 @@
+//! Automata of few states over two sets, each of whose parts is a choice.
+
+ghost use Rattle.std.specs.Prelude.{◌<◌};
+
+use crate::build::{automaton, marks};
+use aut_base::{Edge, Edges, Formula, Label, Labels, Memory, Numbers};
+use aut_core::Automaton;
+use row_files::{Fault, Sequence};
+use std::alloc::Global;
+
+/// What makes choices: chance, or the digits of a number, which may go through all that there are.
+#[derive(Clone, Copy)]
+pub enum Choices {
+    Chance(Sequence),
+    Digits(u64),
+}
+
+impl Choices {
+    /// Chance, the same each time.
+    pub fn chance() -> Choices {
+        Choices::Chance(Sequence::new(1))
+    }
+
+    /// The next choice, below a bound that is not 0.
+    pub fn next(&mut self, bound: u32) -> u32
+        requires { 0 < bound }
+        ensures { result < bound }
+    {
+        match self {
+            Choices::Chance(sequence) => sequence.next(bound),
+            Choices::Digits(number) => {
+                let digit = (*number % u64::from(bound)) as u32;
+                *number /= u64::from(bound);
+                digit
+            }
+        }
+    }
+}
+
+/// An automaton of so many states over one name or two, with an edge from each of these states in turn. The first state is
+/// a start, and any other with one chance in four.
+pub fn chosen(
+    alloc: Global,
+    choices: &mut Choices,
+    names: &[u8],
+    states: u32,
+    from: &[u32],
+    formula: Formula,
+) -> Result<Automaton, Fault> {
+    if states == 0 {
+        return Err(Fault::Missing);
+    }
+    let mut starts = Numbers::new(alloc);
+    starts.push(0)?;
+    for state in 1..states {
+        if choices.next(4) == 0 {
+            starts.push(state)?;
+        }
+    }
+    let mut edges = Edges::new(alloc);
+    for state in from {
+        edges.push(edge(alloc, choices, names.len(), states, *state)?)?;
+    }
+    match automaton(alloc, names, states, starts, edges, 2, formula)? {
+        Some(a) => Ok(a),
+        None => Err(Fault::Failed),
+    }
+}
+
+/// An edge for any set of letters to any state, in any of the sets.
+fn edge(
+    alloc: Global,
+    choices: &mut Choices,
+    names: usize,
+    states: u32,
+    from: u32,
+) -> Result<Edge, Memory>
+    requires { 0 < states }
+{
+    let letters = if names > 1 {
+        choices.next(16)
+    } else {
+        choices.next(4)
+    };
+    Ok(Edge {
+        from,
+        label: label(alloc, names, letters)?,
+        to: choices.next(states),
+        marks: marks(alloc, choices.next(4))?,
+    })
+}
+
+/// The label that is true at the letters whose bits are set.
+fn label(alloc: Global, names: usize, letters: u32) -> Result<Label, Memory> {
+    let mut label = Label::False;
+    let mut rest = letters;
+    for letter in 0..4 {
+        if rest % 2 == 1 {
+            let cube = cube(alloc, names, letter)?;
+            label = Label::Or(Box::new(alloc, Labels::pair(alloc, label, cube))?);
+        }
+        rest /= 2;
+    }
+    Ok(label)
+}
+
+/// The label that is true at one letter: the first name holds where its number is odd, the second where it is 2 or 3.
+fn cube(alloc: Global, names: usize, letter: u32) -> Result<Label, Memory> {
+    let first = literal(alloc, 0, letter % 2 == 1)?;
+    if names < 2 {
+        return Ok(first);
+    }
+    let second = literal(alloc, 1, letter >= 2)?;
+    let parts = Labels::pair(alloc, first, second);
+    Ok(Label::And(Box::new(alloc, parts)?))
+}
+
+fn literal(alloc: Global, prop: u32, holds: bool) -> Result<Label, Memory> {
+    if holds {
+        return Ok(Label::Prop(prop));
+    }
+    Ok(Label::Not(Box::new(alloc, Label::Prop(prop))?))
+}

@@ -1,0 +1,54 @@
+//! Conditions of up to three atoms over two sets, by number.
+
+use aut_base::{Formula, Formulas, Memory};
+use std::alloc::Global;
+
+/// How many there are: of one atom, of two under one sign, of three under one sign, and of three under both.
+pub const CONDITIONS: u32 = 8 + 2 * 64 + 4 * 512;
+
+/// The condition of a number, which counts on from the first again where it is too great.
+pub fn condition(alloc: Global, number: u32) -> Result<Formula, Memory> {
+    let number = number % CONDITIONS;
+    if number < 8 {
+        return Ok(atom(number));
+    }
+    let rest = number - 8;
+    if rest < 128 {
+        return of_two(alloc, rest / 64, atom(rest / 8), atom(rest));
+    }
+    of_three(alloc, (rest - 128) / 512, (rest - 128) % 512)
+}
+
+/// An atom, by the last digit of a number to the base eight.
+fn atom(number: u32) -> Formula {
+    let set = number / 4 % 2;
+    let neg = number % 2 == 1;
+    if number / 2 % 2 == 0 {
+        Formula::Inf { set, neg }
+    } else {
+        Formula::Fin { set, neg }
+    }
+}
+
+fn of_two(alloc: Global, shape: u32, first: Formula, second: Formula) -> Result<Formula, Memory> {
+    let parts = Formulas::pair(alloc, first, second)?;
+    if shape == 0 {
+        return Ok(Formula::And(parts));
+    }
+    Ok(Formula::Or(parts))
+}
+
+/// Three atoms under an And or an Or; the first, and one of the others; the first, or both others.
+fn of_three(alloc: Global, shape: u32, atoms: u32) -> Result<Formula, Memory> {
+    let (first, second, third) = (atom(atoms / 64), atom(atoms / 8), atom(atoms));
+    if shape >= 2 {
+        let others = of_two(alloc, 3 - shape.min(3), second, third)?;
+        return of_two(alloc, shape - 2, first, others);
+    }
+    let mut parts = Formulas::pair(alloc, first, second)?;
+    parts.push(third)?;
+    if shape == 0 {
+        return Ok(Formula::And(parts));
+    }
+    Ok(Formula::Or(parts))
+}

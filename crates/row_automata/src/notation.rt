@@ -1,0 +1,173 @@
+//! Automata as rows write them.
+
+use crate::build::{automaton, marks};
+use aut_base::{Edge, Edges, Formula, Formulas, Label, Labels, Marks, Memory, Numbers};
+use aut_core::Automaton;
+use row_files::{Fault, kind_and_rest, number};
+use std::alloc::Global;
+
+/// The automaton of a line: `STATES/STARTS/NAMES/SETS/CONDITION EDGE EDGE ..`. Each start is a digit, each name a byte.
+pub fn read(alloc: Global, line: &str) -> Result<Automaton, Fault> {
+    let (head, written) = kind_and_rest(line);
+    let edges = edges(alloc, written)?;
+    match described(alloc, head, edges)? {
+        Some(a) => Ok(a),
+        None => Err(Fault::Failed),
+    }
+}
+
+fn described(alloc: Global, head: &str, edges: Edges) -> Result<Option<Automaton>, Fault> {
+    let states = number(part(head, 0))?;
+    let starts = digits(alloc, part(head, 1))?;
+    let sets = number(part(head, 3))?;
+    let formula = formula(alloc, part(head, 4))?;
+    Ok(automaton(
+        alloc,
+        part(head, 2).as_bytes(),
+        states,
+        starts,
+        edges,
+        sets,
+        formula,
+    )?)
+}
+
+/// What stands between the slashes at this place, and nothing where there are fewer.
+fn part(head: &str, place: usize) -> &str {
+    head.split('/').nth(place).unwrap_or("")
+}
+
+fn digits(alloc: Global, written: &str) -> Result<Numbers, Memory> {
+    let mut numbers = Numbers::new(alloc);
+    for byte in written.bytes() {
+        numbers.push(u32::from(byte.saturating_sub(b'0')))?;
+    }
+    Ok(numbers)
+}
+
+fn edges(alloc: Global, written: &str) -> Result<Edges, Fault> {
+    let mut edges = Edges::new(alloc);
+    for word in written.split(' ') {
+        if !word.is_empty() {
+            edges.push(edge(alloc, word)?)?;
+        }
+    }
+    Ok(edges)
+}
+
+/// `FROM[LABEL]TO`, and a `+SET` for each set.
+fn edge(alloc: Global, word: &str) -> Result<Edge, Fault> {
+    let (from, rest) = halves(word, '[')?;
+    let (written, end) = halves(rest, ']')?;
+    let (to, sets) = end.split_once('+').unwrap_or((end, ""));
+    Ok(Edge {
+        from: number(from)?,
+        label: label(alloc, written)?,
+        to: number(to)?,
+        marks: marks_of(alloc, sets)?,
+    })
+}
+
+fn halves(word: &str, sign: char) -> Result<(&str, &str), Fault> {
+    match word.split_once(sign) {
+        Some(parts) => Ok(parts),
+        None => Err(Fault::Missing),
+    }
+}
+
+/// Numbers of sets with a `+` between any two, or none.
+fn marks_of(alloc: Global, sets: &str) -> Result<Marks, Fault> {
+    let mut bits = 0;
+    if !sets.is_empty() {
+        for set in sets.split('+') {
+            bits |= 1u32 << number(set)?.min(31);
+        }
+    }
+    Ok(marks(alloc, bits)?)
+}
+
+/// Cubes with a `|` between any two.
+fn label(alloc: Global, written: &str) -> Result<Label, Fault> {
+    let (first, others) = written.split_once('|').unwrap_or((written, ""));
+    let mut label = cube(alloc, first)?;
+    if !others.is_empty() {
+        for other in others.split('|') {
+            let other = cube(alloc, other)?;
+            label = Label::Or(Box::new(alloc, Labels::pair(alloc, label, other))?);
+        }
+    }
+    Ok(label)
+}
+
+/// Literals with a `&` between any two.
+fn cube(alloc: Global, written: &str) -> Result<Label, Fault> {
+    let (first, others) = written.split_once('&').unwrap_or((written, ""));
+    let mut cube = literal(alloc, first)?;
+    if !others.is_empty() {
+        for other in others.split('&') {
+            let other = literal(alloc, other)?;
+            cube = Label::And(Box::new(alloc, Labels::pair(alloc, cube, other))?);
+        }
+    }
+    Ok(cube)
+}
+
+/// `t`, `f` or the number of a name, behind some `!`.
+fn literal(alloc: Global, written: &str) -> Result<Label, Fault> {
+    let atom = written.trim_start_matches('!');
+    let mut literal = match atom {
+        "t" => Label::True,
+        "f" => Label::False,
+        _ => Label::Prop(number(atom)?),
+    };
+    for byte in written.bytes() {
+        if byte == b'!' {
+            literal = Label::Not(Box::new(alloc, literal)?);
+        }
+    }
+    Ok(literal)
+}
+
+/// Conjunctions with a `|` between any two.
+fn formula(alloc: Global, written: &str) -> Result<Formula, Fault> {
+    let (first, others) = written.split_once('|').unwrap_or((written, ""));
+    let mut formula = conjunction(alloc, first)?;
+    if !others.is_empty() {
+        for other in others.split('|') {
+            let other = conjunction(alloc, other)?;
+            formula = Formula::Or(Formulas::pair(alloc, formula, other)?);
+        }
+    }
+    Ok(formula)
+}
+
+/// Atoms with a `&` between any two.
+fn conjunction(alloc: Global, written: &str) -> Result<Formula, Fault> {
+    let (first, others) = written.split_once('&').unwrap_or((written, ""));
+    let mut formula = atom(first)?;
+    if !others.is_empty() {
+        for other in others.split('&') {
+            formula = Formula::And(Formulas::pair(alloc, formula, atom(other)?)?);
+        }
+    }
+    Ok(formula)
+}
+
+/// `t`, `f`, or `I` or `F` before a set, or before a `!` and a set.
+fn atom(written: &str) -> Result<Formula, Fault> {
+    let set = written.trim_start_matches(['I', 'F', '!'].as_slice());
+    let neg = written.contains('!');
+    match written.bytes().next() {
+        Some(b't') => Ok(Formula::True),
+        Some(b'f') => Ok(Formula::False),
+        Some(b'I') => Ok(Formula::Inf {
+            set: number(set)?,
+            neg,
+        }),
+        Some(b'F') => Ok(Formula::Fin {
+            set: number(set)?,
+            neg,
+        }),
+        _ => Err(Fault::UnknownKind),
+    }
+}

@@ -1,0 +1,67 @@
+//! Lasso words over the names `a` and `b`.
+
+use aut_base::Memory;
+use std::alloc::Global;
+
+/// A stem, and a cycle that follows it again and again. A letter is known by a set of letters that it is one of, as bits:
+/// letter 0 has no name, letter 1 has `a`, letter 2 has `b`, and letter 3 has both. Over `a` alone there are the first two.
+#[derive(Drop)]
+pub struct Word {
+    pub stem: Vec<u32>,
+    pub cycle: Vec<u32>,
+}
+
+/// All words of these stems and cycles.
+#[derive(Drop)]
+pub struct Words {
+    pub stems: Vec<Vec<u32>>,
+    pub cycles: Vec<Vec<u32>>,
+}
+
+impl Words {
+    /// All words whose stems and cycles have at most so many letters, each of which is one of so many.
+    pub fn new(alloc: Global, letters: u32, stem: u32, cycle: u32) -> Result<Words, Memory> {
+        Ok(Words {
+            stems: lists(alloc, letters, 0, stem)?,
+            cycles: lists(alloc, letters, 1, cycle)?,
+        })
+    }
+
+    /// How many words there are.
+    pub fn len(&self) -> usize {
+        self.stems.len().saturating_mul(self.cycles.len())
+    }
+
+    pub fn is_empty(&self) -> bool {
+        self.stems.is_empty() || self.cycles.is_empty()
+    }
+}
+
+/// All lists of so many letters.
+fn lists(
+    alloc: Global,
+    letters: u32,
+    shortest: u32,
+    longest: u32,
+) -> Result<Vec<Vec<u32>>, Memory> {
+    let base = letters.max(1);
+    let mut lists = Vec::new(alloc);
+    for length in shortest..longest.saturating_add(1) {
+        for number in 0..base.saturating_pow(length) {
+            lists.push(list(alloc, base, length, number)?)?;
+        }
+    }
+    Ok(lists)
+}
+
+/// The list of the digits of a number.
+fn list(alloc: Global, base: u32, length: u32, number: u32) -> Result<Vec<u32>, Memory> {
+    let mut rest = number;
+    let mut list = Vec::new(alloc);
+    for _ in 0..length {
+        let digit = rest.checked_rem(base).unwrap_or(0);
+        list.push(1u32 << digit.min(31))?;
+        rest = rest.checked_div(base).unwrap_or(0);
+    }
+    Ok(list)
+}

@@ -1,0 +1,102 @@
+//! Rows that ask a call by its name for the answer to a text.
+
+use crate::row::{Row, run};
+use crate::{Count, Fault, Stop, add, add_escaped, kind_and_rest};
+use aut_base::Text;
+use std::alloc::Global;
+
+/// What answers calls.
+pub trait Answers {
+    /// The answer of the call of this name to the text, or that there is no such call.
+    fn answer(&self, rt: &HostRuntime, call: &str, text: &Text) -> Result<Text, Fault>;
+}
+
+/// Runs the rows of these files, whose lines are `? CALL`, the input's lines with the mark `<`, `>\ PIECE`, which adds to the
+/// answer, and `> ANSWER`, which ends a row. The call stays for the rows behind it.
+pub fn ask<A: Answers + Drop>(
+    rt: &HostRuntime,
+    files: &[&'static str],
+    answers: A,
+    count: &mut Count,
+) -> Result<(), Stop> {
+    let mut row = Asked {
+        answers,
+        call: String::new(rt.alloc()),
+        lines: String::new(rt.alloc()),
+        text: Text::new(rt.alloc()),
+        wanted: Text::new(rt.alloc()),
+    };
+    run(rt, files, &mut row, count)
+}
+
+/// A row, as far as its lines were read.
+#[derive(Drop)]
+struct Asked<A> {
+    answers: A,
+    call: String,
+    /// The lines of the input as they stand.
+    lines: String,
+    text: Text,
+    wanted: Text,
+}
+
+impl<A: Answers> Row for Asked<A> {
+    fn add(&mut self, rt: &HostRuntime, line: &str) -> Result<bool, Fault> {
+        let (kind, rest) = kind_and_rest(line);
+        if kind == ">" {
+            self.wanted.extend(rest.as_bytes())?;
+            return Ok(true);
+        }
+        if kind == "?" {
+            self.set_call(rest)?;
+            return Ok(false);
+        }
+        if kind == ">\\" {
+            add_escaped(rt.alloc(), &mut self.wanted, rest, 0)?;
+            return Ok(false);
+        }
+        self.lines.push_str(line)?;
+        self.lines.push('\n')?;
+        match kind.strip_prefix('<') {
+            Some(form) => add(rt, &mut self.text, form, rest)?,
+            None => return Err(Fault::UnknownKind),
+        }
+        Ok(false)
+    }
+
+    fn is_whole(&self) -> Result<bool, Fault> {
+        if self.lines.as_str().is_empty() {
+            return Ok(false);
+        }
+        Err(Fault::Missing)
+    }
+
+    fn different(&self, rt: &HostRuntime) -> Result<Option<String>, Fault> {
+        let call = self.call.as_str();
+        let answer = self.answers.answer(rt, call, &self.text)?;
+        if answer.as_bytes() == self.wanted.as_bytes() {
+            return Ok(None);
+        }
+        let lines = self.lines.as_str();
+        let shown = std::str::from_utf8(answer.as_bytes()).unwrap_or("(no text)");
+        Ok(Some(format!(in rt.alloc(); "? {call}\n{lines}> {shown}")?))
+    }
+
+    fn clear(&mut self, alloc: Global) {
+        self.lines = String::new(alloc);
+        self.text = Text::new(alloc);
+        self.wanted = Text::new(alloc);
+    }
+}
+
+impl<A> Asked<A> {
+    /// Takes the name of the call, for this row and those behind it.
+    fn set_call(&mut self, name: &str) -> Result<(), Fault> {
+        if !self.lines.as_str().is_empty() {
+            return Err(Fault::Misplaced);
+        }
+        self.call.clear();
+        self.call.push_str(name)?;
+        Ok(())
+    }
+}

@@ -1,5 +1,0 @@
-use Rattle.std.proofs.Common.{◌<◌, ℕ, get_or}
-use Rattle.safra_trees_rows.proofs.compared.are_states.Given as goal
-
-abbrev pub invariant-states : goal.invariant-states
-invariant-states l = (k d : ℕ) → k < l.state-index → get_or l.listed k d < l.states

@@ -1,0 +1,167 @@
+//! What rows ask for by name.
+
+use crate::automata::{back, chain};
+use crate::compared::{next_tree, started};
+use crate::long_letters::letters;
+use crate::long_walk::long_walk;
+use aut_base::{Numbers, Text};
+use row_files::{Answers, Fault, Sequence, kind_and_rest, number, numbers, range};
+use safra_trees::{Event, Move, Moves, SafraTree, TreeFault};
+use std::alloc::Global;
+
+/// Answers with what trees are reached.
+#[derive(Drop)]
+pub(crate) struct Trees;
+
+impl Answers for Trees {
+    fn answer(&self, rt: &HostRuntime, call: &str, text: &Text) -> Result<Text, Fault> {
+        let alloc = rt.alloc();
+        let lines = std::str::from_utf8(text.as_bytes()).unwrap_or("");
+        let answer = match call {
+            "walk" => walk(alloc, lines)?,
+            "chain" => chained(alloc, lines, false)?,
+            "chain_and_back" => chained(alloc, lines, true)?,
+            "steps" => {
+                let (first, steps) = kind_and_rest(lines);
+                steps_told(alloc, number(first)?, number(steps)?)?
+            }
+            _ => return Err(Fault::UnknownKind),
+        };
+        Ok(Text::from_bytes(alloc, answer.as_bytes())?)
+    }
+}
+
+/// The first tree's nodes, and behind a comma what each step gives: the nodes, the least names that were red and green, and the
+/// first earlier tree that the new one equals. The first line has the states and the starts, each further one the moves of a
+/// letter.
+fn walk(alloc: Global, lines: &str) -> Result<String, Fault> {
+    let (first, letters) = lines.split_once('\n').unwrap_or((lines, ""));
+    let (states, starts) = kind_and_rest(first);
+    let states = number(states)?;
+    let starts = if starts.is_empty() {
+        Numbers::new(alloc)
+    } else {
+        numbers(alloc, starts)?
+    };
+    let tree = started(alloc, states, &starts)?;
+    let mut answer = format!(in alloc; "{}", tree.nodes())?;
+    let mut trees = Vec::new(alloc);
+    trees.push(tree)?;
+    for line in letters.lines() {
+        take(alloc, states, &mut trees, &moves(alloc, line)?, &mut answer)?;
+    }
+    Ok(answer)
+}
+
+/// A step of the last tree, which is told of and goes behind it.
+fn take(
+    alloc: Global,
+    states: u32,
+    trees: &mut Vec<SafraTree>,
+    moves: &Moves,
+    answer: &mut String,
+) -> Result<(), Fault> {
+    let Some(last) = trees.last() else {
+        return Err(Fault::Missing);
+    };
+    let Some((tree, event)) = next(alloc, states, last, moves)? else {
+        answer.push_str(", too many")?;
+        return Ok(());
+    };
+    let told = told(alloc, &tree, &event)?;
+    answer.push_str(", ")?;
+    answer.push_str(told.as_str())?;
+    for (place, earlier) in trees.iter().enumerate() {
+        if *earlier == tree {
+            let same = format!(in alloc; " ={place}")?;
+            answer.push_str(same.as_str())?;
+            break;
+        }
+    }
+    trees.push(tree)?;
+    Ok(())
+}
+
+/// How many nodes a tree has, and the least names that were red and green.
+fn told(alloc: Global, tree: &SafraTree, event: &Event) -> Result<String, Fault> {
+    let red = name(alloc, event.red)?;
+    let green = name(alloc, event.green)?;
+    Ok(format!(in alloc; "{} {red} {green}", tree.nodes())?)
+}
+
+fn name(alloc: Global, name: Option<u32>) -> Result<String, Fault> {
+    match name {
+        Some(name) => Ok(format!(in alloc; "{name}")?),
+        None => Ok(String::from_str(alloc, "-")?),
+    }
+}
+
+/// The moves of a line: `FROM>TO`, or `FROM*TO` for an accepting one, with a space between any two; or `-`.
+fn moves(alloc: Global, line: &str) -> Result<Moves, Fault> {
+    let mut moves = Moves::new(alloc);
+    for word in line.split(' ') {
+        if word == "-" {
+            continue;
+        }
+        let accepting = word.contains('*');
+        let sign = if accepting { '*' } else { '>' };
+        let Some((from, to)) = word.split_once(sign) else {
+            return Err(Fault::Missing);
+        };
+        moves.push(Move {
+            from: number(from)?,
+            to: number(to)?,
+            accepting,
+        })?;
+    }
+    Ok(moves)
+}
+
+/// How many nodes the tree of a chain of so many states has after so many steps; or what a step gives that leads from it back to
+/// the first state.
+fn chained(alloc: Global, line: &str, goes_back: bool) -> Result<String, Fault> {
+    let (states, steps) = range(line)?;
+    let moves = chain(alloc, states)?;
+    let mut starts = Numbers::new(alloc);
+    starts.push(0)?;
+    let mut tree = started(alloc, states, &starts)?;
+    for _ in 0..steps {
+        match next(alloc, states, &tree, &moves)? {
+            Some((after, _)) => tree = after,
+            None => return Ok(String::from_str(alloc, "too many")?),
+        }
+    }
+    if !goes_back || states == 0 {
+        return Ok(format!(in alloc; "{}", tree.nodes())?);
+    }
+    match next(alloc, states, &tree, &back(alloc, states)?)? {
+        Some((after, event)) => told(alloc, &after, &event),
+        None => Err(Fault::Failed),
+    }
+}
+
+/// The step, or none where there are too many nodes.
+fn next(
+    alloc: Global,
+    states: u32,
+    tree: &SafraTree,
+    moves: &Moves,
+) -> Result<Option<(SafraTree, Event)>, Fault> {
+    match next_tree(alloc, states, tree, moves)? {
+        Ok(made) => Ok(Some(made)),
+        Err(TreeFault::Nodes) => Ok(None),
+        Err(TreeFault::Memory) => Err(Fault::Memory),
+    }
+}
+
+/// What a long walk sees, in two lines. The first number is that of a sequence.
+pub(crate) fn steps_told(alloc: Global, first: u32, steps: u32) -> Result<String, Fault> {
+    let mut sequence = Sequence::new(first);
+    let letters = letters(alloc, &mut sequence)?;
+    let seen = long_walk(alloc, &letters, &mut sequence, steps)?;
+    let (least, most) = (seen.least, seen.most);
+    let (red, green, checksum) = (seen.red, seen.green, seen.checksum);
+    Ok(format!(in alloc;
+        "steps={steps} of trees of {least} to {most} nodes\nred={red} green={green} checksum={checksum}"
+    )?)
+}

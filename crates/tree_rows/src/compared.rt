@@ -1,0 +1,216 @@
+//! Trees beside plain ones.
+
+ghost use Rattle.std.specs.Prelude.{◌<◌, All, IsTrue};
+ghost use Rattle.safra_trees.specs.Events.{IsWithin};
+
+use crate::automata::{every_letter, moves_by_chance};
+use crate::plain::{PlainNode, is_set, plain_start, plain_step};
+use crate::stored::is_stored;
+use aut_base::Numbers;
+use row_files::{Count, Fault, Sequence};
+use safra_trees::{Event, Move, Moves, Room, SafraTree, TreeFault, start, step};
+use std::alloc::Global;
+
+/// More trees than three states can have.
+const MOST_TREES: usize = 100;
+
+/// A tree and the plain one that it should be.
+#[derive(Drop)]
+struct Pair {
+    tree: SafraTree,
+    plain: Vec<PlainNode>,
+}
+
+/// A step of each.
+#[derive(Drop)]
+struct Stepped {
+    pair: Pair,
+    agrees: bool,
+}
+
+/// Every tree that so few states can have, stepped under every letter there can be among them. So every step is here that
+/// an automaton of so many states takes, however many letters it has. Answers how many trees there are, too.
+pub(crate) fn all_of(alloc: Global, states: u32, count: &mut Count) -> Result<usize, Fault> {
+    let letters = every_letter(alloc, states)?;
+    let mut pairs = Vec::new(alloc);
+    pairs.push(first(alloc, states)?)?;
+    for place in 0..MOST_TREES {
+        if place >= pairs.len() {
+            break;
+        }
+        for moves in &letters {
+            visit(alloc, states, &mut pairs, place, moves, count)?;
+        }
+    }
+    Ok(pairs.len())
+}
+
+/// Automata of one to eight states by chance, and of each a walk.
+pub(crate) fn by_chance(alloc: Global, count: &mut Count) -> Result<(), Fault> {
+    let mut sequence = Sequence::new(1);
+    for _ in 0..400 {
+        let states = sequence.next(8) + 1;
+        let letters = [
+            moves_by_chance(alloc, states, &mut sequence)?,
+            moves_by_chance(alloc, states, &mut sequence)?,
+        ];
+        walk(alloc, states, &letters, &mut sequence, count)?;
+    }
+    Ok(())
+}
+
+/// The tree at a place under a letter. Where the next tree is new, it goes behind the others.
+fn visit(
+    alloc: Global,
+    states: u32,
+    pairs: &mut Vec<Pair>,
+    place: usize,
+    moves: &Moves,
+    count: &mut Count,
+) -> Result<(), Fault> {
+    let Some(pair) = pairs.get(place) else {
+        return Err(Fault::Failed);
+    };
+    let Some(stepped) = both(alloc, states, pair, moves)? else {
+        return Err(Fault::Failed);
+    };
+    count.add(!stepped.agrees || !are_alike(pairs, &stepped.pair));
+    if is_new(pairs, &stepped.pair) {
+        pairs.push(stepped.pair)?;
+    }
+    Ok(())
+}
+
+/// A walk of some steps under letters by chance.
+fn walk(
+    alloc: Global,
+    states: u32,
+    letters: &[Moves],
+    sequence: &mut Sequence,
+    count: &mut Count,
+) -> Result<(), Fault> {
+    let mut pairs = Vec::new(alloc);
+    let mut pair = first(alloc, states)?;
+    for _ in 0..50 {
+        let choice = sequence.next(2) as usize;
+        let Some(moves) = letters.get(choice) else {
+            return Ok(());
+        };
+        let Some(stepped) = both(alloc, states, &pair, moves)? else {
+            return Ok(());
+        };
+        count.add(!stepped.agrees || !are_alike(&pairs, &stepped.pair));
+        pairs.push(pair)?;
+        pair = stepped.pair;
+    }
+    Ok(())
+}
+
+fn first(alloc: Global, states: u32) -> Result<Pair, Fault> {
+    let mut starts = Numbers::new(alloc);
+    if states > 0 {
+        starts.push(0)?;
+    }
+    Ok(Pair {
+        tree: started(alloc, states, &starts)?,
+        plain: plain_start(alloc, states, starts.as_slice())?,
+    })
+}
+
+/// The first tree, or `Fault::Failed` where a start is no state.
+pub(crate) fn started(alloc: Global, states: u32, starts: &Numbers) -> Result<SafraTree, Fault> {
+    if !are_states(states, starts.as_slice()) {
+        return Err(Fault::Failed);
+    }
+    Ok(start(alloc, states, starts)?)
+}
+
+/// The step, or `Fault::Failed` where an end of a move is no state.
+pub(crate) fn next_tree(
+    alloc: Global,
+    states: u32,
+    tree: &SafraTree,
+    moves: &Moves,
+) -> Result<Result<(SafraTree, Event), TreeFault>, Fault> {
+    if !are_states(states, tree.root_states()) || !are_within(states, moves.as_slice()) {
+        return Err(Fault::Failed);
+    }
+    Ok(step(alloc, states, tree, moves, &mut Room::new(alloc)))
+}
+
+/// Whether all are states.
+fn are_states(states: u32, listed: &[u32]) -> bool
+    ensures { IsTrue result → All (λ s. s < states) listed.now }
+{
+    'states: for state in listed {
+        if *state >= states {
+            return false;
+        }
+    }
+    true
+}
+
+/// Whether both ends of all moves are states.
+fn are_within(states: u32, moves: &[Move]) -> bool
+    ensures { IsTrue result → All (IsWithin states) moves.now }
+{
+    'moves: for one in moves {
+        if one.from >= states || one.to >= states {
+            return false;
+        }
+    }
+    true
+}
+
+/// The step of a tree and of the plain one, and whether they agree; none where there are too many nodes.
+fn both(alloc: Global, states: u32, pair: &Pair, moves: &Moves) -> Result<Option<Stepped>, Fault> {
+    match next_tree(alloc, states, &pair.tree, moves)? {
+        Ok((tree, event)) => {
+            let told = plain_step(alloc, &pair.plain, moves.as_slice())?;
+            let same = event.red == told.red && event.green == told.green;
+            let agrees = same
+                && is_same_size(&tree, &told.tree)
+                && has_root(&tree, &told.tree)
+                && is_stored(alloc, &tree, &told.tree)?;
+            let pair = Pair {
+                tree,
+                plain: told.tree,
+            };
+            Ok(Some(Stepped { pair, agrees }))
+        }
+        Err(TreeFault::Nodes) => Ok(None),
+        Err(TreeFault::Memory) => Err(Fault::Memory),
+    }
+}
+
+fn is_same_size(tree: &SafraTree, plain: &[PlainNode]) -> bool {
+    tree.nodes() as usize == plain.len()
+}
+
+/// Whether the states of the root are those of the plain root.
+fn has_root(tree: &SafraTree, plain: &[PlainNode]) -> bool {
+    let Some(root) = plain.first() else {
+        return tree.root_states().len() == 0;
+    };
+    let held = root.holds.iter().filter(|held| **held).count();
+    let all = tree
+        .root_states()
+        .iter()
+        .all(|state| is_set(&root.holds, *state as usize));
+    all && held == tree.root_states().len()
+}
+
+/// Whether the tree equals just those of earlier ones whose plain tree equals the plain one.
+fn are_alike(pairs: &[Pair], pair: &Pair) -> bool {
+    for earlier in pairs {
+        let same = earlier.plain == pair.plain;
+        if same != (earlier.tree == pair.tree) || same != earlier.tree.is(&pair.tree) {
+            return false;
+        }
+    }
+    true
+}
+
+fn is_new(pairs: &[Pair], pair: &Pair) -> bool {
+    pairs.iter().all(|earlier| earlier.tree != pair.tree)
+}

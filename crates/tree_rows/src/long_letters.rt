@@ -1,0 +1,75 @@
+//! Letters by chance: almost all states stay, and few go on or elsewhere.
+
+ghost use Rattle.std.specs.Prelude.{◌≡◌, ◌<◌, All, IfOk, OnOk, length};
+ghost use Rattle.safra_trees.specs.Events.{IsWithin};
+ghost use Rattle.tree_rows.specs.declared.long_letters.TheConstants.{LETTERS, STATES};
+
+use aut_base::Memory;
+use row_files::{Fault, Sequence};
+use safra_trees::{Move, Moves};
+use std::alloc::Global;
+
+/// The number of states, all of which a letter may have moves of.
+pub(crate) const STATES: u32 = 64;
+
+/// The number of letters.
+pub(crate) const LETTERS: u32 = 64;
+
+/// Letters by chance.
+pub(crate) fn letters(alloc: Global, sequence: &mut Sequence) -> Result<Vec<Moves>, Fault>
+    ensures count { IfOk result (λ letters. length letters.items ≡ LETTERS) }
+    ensures within { IfOk result (λ letters. All (λ letter. All (IsWithin STATES) letter) letters.items) }
+{
+    let mut letters = Vec::new(alloc);
+    'letters: for _ in 0..LETTERS {
+        letters.push(letter_by_chance(alloc, sequence)?)?;
+    }
+    Ok(letters)
+}
+
+/// Each state stays with 97 chances in 100, goes on to the next by an accepting move with five, and with three to some state.
+fn letter_by_chance(alloc: Global, sequence: &mut Sequence) -> Result<Moves, Memory>
+    ensures { IfOk result (λ moves. All (IsWithin STATES) moves) }
+{
+    let mut moves = Moves::new(alloc);
+    'states: for from in 0..STATES {
+        if sequence.next(100) < 97 {
+            add(&mut moves, from, from, false)?;
+        }
+        if sequence.next(100) < 5 {
+            add(&mut moves, from, (from + 1) % STATES, true)?;
+        }
+        if sequence.next(100) < 3 {
+            let to = sequence.next(STATES);
+            let accepting = sequence.next(5) == 0;
+            add(&mut moves, from, to, accepting)?;
+        }
+    }
+    Ok(moves)
+}
+
+/// Each state stays, and all but the last go on to the next by an accepting move.
+pub(crate) fn growing_letter(alloc: Global) -> Result<Moves, Memory>
+    ensures { IfOk result (λ moves. All (IsWithin STATES) moves) }
+{
+    let mut moves = Moves::new(alloc);
+    'states: for from in 0..STATES - 1 {
+        add(&mut moves, from, from, false)?;
+        add(&mut moves, from, from + 1, true)?;
+    }
+    Ok(moves)
+}
+
+/// One move more.
+fn add(moves: &mut Moves, from: u32, to: u32, accepting: bool) -> Result<(), Memory>
+    requires from { from < STATES }
+    requires to { to < STATES }
+    requires within { All (IsWithin STATES) moves.old }
+    ensures { OnOk result (All (IsWithin STATES) moves.new) }
+{
+    moves.push(Move {
+        from,
+        to,
+        accepting,
+    })
+}

@@ -1,0 +1,171 @@
+//! A long walk from tree to tree, to count what a step costs.
+
+ghost use Rattle.std.specs.Prelude.{◌≡◌, ◌<◌, All, length};
+ghost use Rattle.safra_trees.specs.Events.{IsWithin};
+ghost use Rattle.safra_trees.specs.Trees.{root_states};
+ghost use Rattle.safra_trees.specs.View.{tree_of};
+ghost use Rattle.tree_rows.specs.declared.long_letters.TheConstants.{LETTERS, STATES};
+
+use crate::long_letters::{LETTERS, STATES, growing_letter};
+use aut_base::Numbers;
+use row_files::{Fault, Sequence};
+use safra_trees::{Event, Moves, Room, SafraTree, TreeFault, start, step};
+use std::alloc::Global;
+
+/// The sizes of the trees that are stepped.
+const LEAST_NODES: u32 = 10;
+
+const MOST_NODES: u32 = 40;
+
+/// How many nodes the first of them has.
+const FIRST_NODES: u32 = 31;
+
+/// More than any priority.
+const NO_PRIORITY: u32 = 1000;
+
+/// A tree whose states are states of the letters.
+#[derive(Drop)]
+struct Standing {
+    tree: SafraTree,
+    ghost states: { All (λ s. s < STATES) (root_states (tree_of tree)) },
+}
+
+/// What a walk has seen.
+#[derive(Clone, Copy)]
+pub(crate) struct Seen {
+    /// The least and the greatest number of nodes of the trees that were stepped.
+    pub(crate) least: u32,
+    pub(crate) most: u32,
+    /// How many steps had a least name that was red, and how many one that was green.
+    pub(crate) red: u32,
+    pub(crate) green: u32,
+    /// Of the numbers of nodes and states of all trees that the steps gave, and of their least names.
+    pub(crate) checksum: u32,
+}
+
+/// Takes so many steps under letters by chance. A tree that has too few nodes or too many isn't stepped; then the same one is
+/// taken again.
+pub(crate) fn long_walk(
+    alloc: Global,
+    letters: &[Moves],
+    sequence: &mut Sequence,
+    steps: u32,
+) -> Result<Seen, Fault>
+    requires count { length letters.now ≡ LETTERS }
+    requires within { All (λ letter. All (IsWithin STATES) letter) letters.now }
+{
+    let mut standing = first(alloc)?;
+    let mut room = Room::new(alloc);
+    let mut seen = Seen {
+        least: standing.tree.nodes(),
+        most: standing.tree.nodes(),
+        red: 0,
+        green: 0,
+        checksum: 0,
+    };
+    'steps: for _ in 0..steps {
+        let (next, event) = next_by_chance(alloc, &standing, letters, sequence, &mut room)?;
+        seen.add(&next.tree, &event);
+        if is_stepped(next.tree.nodes()) {
+            standing = next;
+        }
+    }
+    Ok(seen)
+}
+
+/// The first tree that is stepped: a chain of nodes.
+fn first(alloc: Global) -> Result<Standing, Fault> {
+    let mut standing = one_node(alloc)?;
+    let moves = growing_letter(alloc)?;
+    let mut room = Room::new(alloc);
+    'steps: for _ in 1..FIRST_NODES {
+        standing = next(alloc, &standing, &moves, &mut room)?.0;
+    }
+    Ok(standing)
+}
+
+/// The tree of the first state alone.
+fn one_node(alloc: Global) -> Result<Standing, Fault> {
+    let mut starts = Numbers::new(alloc);
+    starts.push(0)?;
+    let tree = start(alloc, STATES, &starts)?;
+    Ok(Standing { tree })
+}
+
+/// The step of a tree under one of the letters.
+fn next_by_chance(
+    alloc: Global,
+    standing: &Standing,
+    letters: &[Moves],
+    sequence: &mut Sequence,
+    room: &mut Room,
+) -> Result<(Standing, Event), Fault>
+    requires count { length letters.now ≡ LETTERS }
+    requires within { All (λ letter. All (IsWithin STATES) letter) letters.now }
+{
+    let choice = sequence.next(LETTERS) as usize;
+    next(alloc, standing, &letters[choice], room)
+}
+
+/// The step of a tree.
+fn next(
+    alloc: Global,
+    standing: &Standing,
+    moves: &Moves,
+    room: &mut Room,
+) -> Result<(Standing, Event), Fault>
+    requires { All (IsWithin STATES) moves.now }
+{
+    match step(alloc, STATES, &standing.tree, moves, room) {
+        Ok((tree, event)) => Ok((Standing { tree }, event)),
+        // 64 states can't have a tree of more than 100 nodes.
+        Err(TreeFault::Nodes) => Err(Fault::Failed),
+        Err(TreeFault::Memory) => Err(Fault::Memory),
+    }
+}
+
+/// Whether trees with so many nodes are stepped.
+fn is_stepped(nodes: u32) -> bool {
+    LEAST_NODES <= nodes && nodes <= MOST_NODES
+}
+
+/// The least of 2f and 2g + 1, for the names f that was red and g that was green; `NO_PRIORITY` where neither was.
+fn priority(event: &Event) -> u32 {
+    let red = match event.red {
+        Some(name) => name.saturating_mul(2),
+        None => NO_PRIORITY,
+    };
+    let green = match event.green {
+        Some(name) => name.saturating_mul(2).saturating_add(1),
+        None => NO_PRIORITY,
+    };
+    red.min(green)
+}
+
+impl Seen {
+    /// One step more: the tree that it gave, and its event.
+    fn add(&mut self, tree: &SafraTree, event: &Event) {
+        let nodes = tree.nodes();
+        if is_stepped(nodes) {
+            self.least = self.least.min(nodes);
+            self.most = self.most.max(nodes);
+        }
+        let priority = priority(event);
+        if priority < NO_PRIORITY {
+            let counted = if priority % 2 == 0 {
+                &mut self.red
+            } else {
+                &mut self.green
+            };
+            *counted = counted.saturating_add(1);
+        }
+        let states = u32::try_from(tree.root_states().len());
+        self.mix(nodes);
+        self.mix(states.unwrap_or(u32::MAX));
+        self.mix(priority);
+    }
+
+    fn mix(&mut self, number: u32) {
+        self.checksum = self.checksum.wrapping_mul(31).wrapping_add(number);
+    }
+}

@@ -1,8 +1,0 @@
-use Rattle.std.proofs.Common.{◌*◌, ◌+◌}
-use Rattle.word_syntax_rows.proofs.shown.+shown.Given as goal
-
-abbrev pub decreases-add_label : goal.decreases-add_label
-decreases-add_label l = 2 * l.depth
-
-abbrev pub decreases-add_labels : goal.decreases-add_labels
-decreases-add_labels l = 2 * l.depth + 1
