@@ -1,4 +1,4 @@
-//! Steps one tree after the other, as the program of `crates/safra_trees_steps` does, with the same output. Its arguments are
+//! Steps one tree after the other, as `crates/tree_rows` does when it is given two numbers, with the same output. Its arguments are
 //! the first number of a sequence, and how many steps are taken.
 
 /// What the trees need of the module of this name.
