@@ -148,7 +148,7 @@ wanting plan s o = record {
   no_write = λ x. cc;
   happened = λ texts told. record { point = start_of (operands plan) s.left 0; read = refl; stops = inl refl; counted = record { few = omega arith; within = tt } };
   named = (0, refl);
-  openings = tried_none fault.Memory s s (omega arith) refl;
+  openings = tried_none fault.Memory _ s s (omega arith) refl;
   none = refl;
   output = refl;
 }

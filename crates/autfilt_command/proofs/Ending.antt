@@ -1,8 +1,9 @@
 -- Runs that a fault ends, and runs that read all.
-use Rattle.std.proofs.Common.{◌≡◌, ◌≢◌, ℕ, ◌+◌, ◌≤◌, ◌==◌, Bool, true, false, not, ◌&&◌, ◌||◌, if◌then◌else◌, List, [], ◌∷◌, ◌++◌, length, take, drop}
+use Rattle.std.proofs.Common.{◌≡◌, ◌≢◌, ℕ, ◌+◌, ◌<◌, ◌≤◌, ◌==◌, Bool, true, false, not, ◌&&◌, ◌||◌, if◌then◌else◌, List, [], ◌∷◌, ◌++◌, length, take, drop}
 use Rattle.std.proofs.Common.{Option, Some, None, Err, refl, sym, ap, ◌∙◌, subst, inl, inr, append_assoc, append-nil, arith}
 use Rattle.std.proofs.lemmas.Bool.{false≢true}
 use Rattle.std.proofs.lemmas.List.{drop_all}
+use Rattle.std.proofs.lemmas.Option.{slice_get_within}
 use Rattle.aut_base.proofs.lists.AllByRecursion.{AllByRecursion-push}
 use Rattle.aut_base.specs.Automaton.{Automaton}
 use Rattle.aut_base.specs.declared.fault.OpenFail.TheVariants as opening
@@ -17,24 +18,24 @@ use Rattle.autfilt_command.proofs.Stepping.{happen_push, wants_stream}
 use Rattle.autfilt_command.specs.Ends.{ended_of}
 use Rattle.autfilt_command.specs.Noted.{HasNoted, Notes}
 use Rattle.autfilt_command.specs.Notes.{line_of}
-use Rattle.autfilt_command.specs.Run.{AreCalm, BreaksOff, EndsAt, EndsBecause, EndsByTally, EndsOpened, Prints, all_noted, end_of, tally_after}
+use Rattle.autfilt_command.specs.Run.{AreCalm, BreaksOff, EndsAt, EndsBecause, EndsByTally, EndsOpened, Prints, WantsStreamFile, all_noted, end_of, tally_after}
 use Rattle.autfilt_command.specs.declared.ended.End.{End}
 use Rattle.autfilt_command.specs.declared.ended.End.TheVariants as end
 use Rattle.autfilt_command.specs.inner.Running.{Carries, Finishes, FinishesWell, HasRun}
 use Rattle.autfilt_run.proofs.printing.Gains.{both}
-use Rattle.autfilt_run.proofs.turns.Openings.{opened_as, opened_then, tried_behind, tried_none}
+use Rattle.autfilt_run.proofs.turns.Openings.{opened_as, opened_then, tried_behind, tried_for, tried_none, wants_next}
 use Rattle.autfilt_run.proofs.turns.Preparing.{calm_limit, taken_few, untold_closed}
 use Rattle.autfilt_run.proofs.turns.Stepping.{closed_counted, is_closed, name_as, reads_on, stops_at, stops_named, stream_counted}
 use Rattle.autfilt_run.proofs.printing.Writing.{rose_from}
 use Rattle.autfilt_run.specs.Events.{Dropped, Ended, Event, IsGood, IsJudged, Kept, Opened, Point, ReadsOn, Skipped, Stream, Tally, all_written}
-use Rattle.autfilt_run.specs.Events.{counted, opened_stream, opened_streams, place, read_on, start_of, tally, tally_from}
+use Rattle.autfilt_run.specs.Events.{counted, open_after, opened_stream, opened_streams, place, read_on, start_of, tally, tally_from}
 use Rattle.autfilt_run.specs.Faults.{stop_of_fault}
-use Rattle.autfilt_run.specs.Openings.{AreOpened, AreTried, MayEnd}
+use Rattle.autfilt_run.specs.Openings.{AreOpened, AreTried, MayEnd, WantsFile}
 use Rattle.autfilt_run.specs.Over.{IsOver}
 use Rattle.autfilt_run.specs.Plans.{asks_on, count_text, prints_count, prints_each, streams_of}
 use Rattle.autfilt_run.specs.Points.{IsIn, StandsAt, name_in, operands_in}
 use Rattle.autfilt_run.specs.Runs.{AtNamed, AtStream, IsCounted, IsDone, LacksMemory, Stops, StopsAt, WantsMemory, WantsStream, taken_in, taken_of}
-use Rattle.autfilt_run.specs.Turns.{Fails, IsDoneWith, IsStill, KeepsInPart, OpensNext, Reads, Tries, progress}
+use Rattle.autfilt_run.specs.Turns.{Fails, IsDoneWith, IsOpening, IsStill, KeepsInPart, OpensNext, Reads, Tries, progress}
 use Rattle.autfilt_run.specs.declared.fault.RunFault.{RunFault}
 use Rattle.autfilt_run.specs.declared.fault.RunFault.TheVariants as fault
 use Rattle.autfilt_run.specs.declared.session.Session.{Session}
@@ -75,7 +76,7 @@ record HaltsAt (f : RunFault) (old : Session) (name : List ℕ) (m t : Seen) (p 
   output : q ≡ p
   prints : (plan : Plan) (events : List Event) (a b : Option (List ℕ)) → Gains a b (all_written events) → Prints plan (end.Fault f) events a b
   causes : (s : Seen) (o : SinkSeen) → AreCalm s m o p → EndsBecause (ended_of (end.Fault f)) s t o q
-  tried : AreTried f 0 m t
+  tried : AreTried f (WantsFile old.is_open old.opened (length (streams_of old.plan))) 0 m t
   texts : t.texts ≡ m.texts
 
 fault_in : {f g : RunFault} → end.Fault f ≡ end.Fault g → f ≡ g
@@ -84,6 +85,13 @@ fault_in e = ap fault_or_memory e
     fault_or_memory : End → RunFault
     fault_or_memory (end.Fault f) = f
     fault_or_memory _ = fault.Memory
+
+-- what is to be opened, told by the events
+wants_stream_file : (fresh old : Session) (s m : Seen) (o p k l : SinkSeen) (first noting : Bool) (h : HasRun fresh old s m o p k l first noting)
+    → WantsFile old.is_open old.opened (length (streams_of old.plan)) → WantsStreamFile fresh.plan h.events
+wants_stream_file fresh old s m o p k l first noting h wants =
+    let within : old.opened < length (streams_of fresh.plan) = subst (λ (x : Plan). old.opened < length (streams_of x)) h.same_plan wants.more in
+    wants_next (open_after false h.events) (streams_of fresh.plan) old.opened (opened_streams h.events) (sym h.still ∙ wants.closed) within h.named
 
 run_halted : (f : RunFault) → f ≢ fault.WriteFault → (name : List ℕ) (fresh old : Session) (s m t : Seen) (o p q k l j : SinkSeen) (first noting : Bool)
     → HasRun fresh old s m o p k l first noting → HaltsAt f old name m t p q
@@ -103,7 +111,7 @@ run_halted f other name fresh old s m t o p q k l j first noting h at closes = r
         };
     tallied = tt;
     named = (old.opened, h.named);
-    openings = tried_behind f (length (opened_streams h.events)) s m t h.openings at.tried;
+    openings = tried_for f _ _ _ s t (wants_stream_file fresh old s m o p k l first noting h) (tried_behind f _ (length (opened_streams h.events)) s m t h.openings at.tried);
     prints = at.prints fresh.plan h.events o.written q.written (subst (λ (x : SinkSeen). Gains o.written x.written (all_written h.events)) (sym at.output) h.gains);
   };
   noted = closed fresh old s m o p k l j first noting (line_of (end.Fault f) name) h closes;
@@ -153,7 +161,7 @@ calm_halt f name old new m t p q steady is calm stops prints causes may h = reco
   output = h.output;
   prints = prints;
   causes = λ s o before. causes s o (calm_then s m t o p q before (record { opens = h.moves.opens; reads = calm; writes = still_writes p q h.output }));
-  tried = tried_none f m t may h.moves.openings;
+  tried = tried_none f _ m t may h.moves.openings;
   texts = h.moves.texts;
 }
 
@@ -169,6 +177,9 @@ unopened_counted f old left left' at stands closed_so stop = record {
   few = subst (λ (n : ℕ). n ≤ MOST_BYTES) (sym (closed_counted old left left' at stands.at closed_so)) (taken_few old);
   within = subst (λ (x : Stop). IsWithin x (taken_of at left') MOST_BYTES) (sym stop) tt;
 }
+
+wants_one : (old : Session) (name : List ℕ) → IsOpening old name → WantsFile old.is_open old.opened (length (streams_of old.plan))
+wants_one old name opening = record { closed = opening.is_closed; more = slice_get_within (streams_of old.plan) old.opened name opening.named }
 
 unopened : (name : List ℕ) (old new : Session) (m t : Seen) (p q : SinkSeen) → (h : Tries (Err opening.Failed) old new m t p q) → name ≡ h.name → HaltsAt fault.CannotOpen old name m t p q
 unopened name old new m t p q h same = record {
@@ -186,7 +197,7 @@ unopened name old new m t p q h same = record {
     h.opens.reads ∙ calm.reads,
     still_writes p q h.output ∙ calm.writes,
   );
-  tried = record { tried = 1; may = refl; opened = h.opens.counted };
+  tried = record { tried = 1; may = refl; wanted = λ one. wants_one old h.name h.opening; opened = h.opens.counted };
   texts = h.opens.texts;
 }
 
@@ -208,9 +219,10 @@ opening_calm : (m t : Seen) (name : List ℕ) → OpensNext m name (Err opening.
 opening_calm m t name (inl same) = record { opens = ap (λ (x : Seen). x.open_faults) same; reads = ap (λ (x : Seen). x.read_faults) same; texts = ap (λ (x : Seen). x.texts) same }
 opening_calm m t name (inr h) = record { opens = h.memory refl; reads = h.reads; texts = h.texts }
 
-opening_tried : (m t : Seen) (name : List ℕ) → OpensNext m name (Err opening.Memory) t → AreTried fault.Memory 0 m t
-opening_tried m t name (inl same) = tried_none fault.Memory m t (omega arith) (ap (λ (x : Seen). x.openings) same)
-opening_tried m t name (inr h) = record { tried = 1; may = omega arith; opened = h.counted }
+opening_tried : (old : Session) (m t : Seen) (name : List ℕ) → IsOpening old name → OpensNext m name (Err opening.Memory) t
+    → AreTried fault.Memory (WantsFile old.is_open old.opened (length (streams_of old.plan))) 0 m t
+opening_tried old m t name wants (inl same) = tried_none fault.Memory _ m t (omega arith) (ap (λ (x : Seen). x.openings) same)
+opening_tried old m t name wants (inr h) = record { tried = 1; may = omega arith; wanted = λ one. wants_one old name wants; opened = h.counted }
 
 lacking : (name : List ℕ) (old new : Session) (m t : Seen) (p q : SinkSeen) → StepsAs old new → Fails fault.Memory old new m t p q → HaltsAt fault.Memory old name m t p q
 lacking name old new m t p q steady (inl h) =
@@ -223,7 +235,7 @@ lacking name old new m t p q steady (inl h) =
       output = h.output;
       prints = λ plan events a b g. g;
       causes = λ s o before. calm_then s m t o p q before (record { opens = calm.opens; reads = calm.reads; writes = still_writes p q h.output });
-      tried = opening_tried m t h.name h.opens;
+      tried = opening_tried old m t h.name h.opening h.opens;
       texts = calm.texts;
     }
 lacking name old new m t p q steady (inr h) = record {
@@ -231,7 +243,7 @@ lacking name old new m t p q steady (inr h) = record {
   output = h.output;
   prints = λ plan events a b g. g;
   causes = λ s o before. calm_then s m t o p q before (record { opens = h.moves.opens; reads = h.moves.reads; writes = still_writes p q h.output });
-  tried = tried_none fault.Memory m t (omega arith) h.moves.openings;
+  tried = tried_none fault.Memory _ m t (omega arith) h.moves.openings;
   texts = h.moves.texts;
 }
 
@@ -247,7 +259,7 @@ halted fault.ReadFault name old new m t p q n steady h is = record {
   output = h.output;
   prints = λ plan events a b g. g;
   causes = λ s o before. (h.moves.opens ∙ before.opens, rose_from s.read_faults m.read_faults t.read_faults before.reads h.moves.reads, still_writes p q h.output ∙ before.writes);
-  tried = tried_none fault.ReadFault m t refl h.moves.openings;
+  tried = tried_none fault.ReadFault _ m t refl h.moves.openings;
   texts = h.moves.texts;
 }
 halted (fault.SyntaxAt k) name old new m t p q n steady h is = calm_halt (fault.SyntaxAt k) name old new m t p q steady is h.moves.reads (λ x s. s) (λ plan events a b g. g) (λ s o calm. calm) refl h
@@ -326,9 +338,9 @@ write_failed fresh old new s m t o p q k l j first noting name steady same h par
             };
         tallied = tt;
         named = (old.opened, opened_streams_push h.events event ∙ (append-nil (opened_streams h.events) ∙ h.named));
-        openings = tried_behind fault.WriteFault (length (opened_streams (h.events ++ event ∷ []))) s t t
+        openings = tried_behind fault.WriteFault _ (length (opened_streams (h.events ++ event ∷ []))) s t t
             (opened_as _ _ s t (opened_push h.events event) (opened_then (length (opened_streams h.events)) (length (opened_stream event)) s m t h.openings part.moves.openings))
-            (tried_none fault.WriteFault t t refl refl);
+            (tried_none fault.WriteFault _ t t refl refl);
         prints = inl (broken_off fresh.plan on h.events part.automaton part.text o.written p.written q.written h.gains part.gains);
       };
       noted = λ sink text before.
@@ -406,7 +418,7 @@ all_read : (e : End) (name : List ℕ) (fresh old : Session) (s m : Seen) (o p q
     → ((events : List Event) → e ≡ end_of (tally_after fresh.skipped events) → EndsByTally e fresh.skipped events)
     → ((at : Point) → IsDone fresh.plan at → m.left ≡ at.left → EndsAt fresh.plan (operands_in fresh) e name at m.left)
     → ((events : List Event) (a b : Option (List ℕ)) → Gains a b (all_written events ++ count_text fresh.plan (tally events).kept) → Prints fresh.plan e events a b)
-    → (AreCalm s m o q → EndsBecause (ended_of e) s m o q) → ((n : ℕ) → AreOpened n s m → EndsOpened e n s m) → (e ≢ end.Usage)
+    → (AreCalm s m o q → EndsBecause (ended_of e) s m o q) → ((wants : Type 0) (n : ℕ) → AreOpened n s m → EndsOpened e wants n s m) → (e ≢ end.Usage)
     → FinishesWell e (count_text old.plan old.kept) (record { kept = old.kept; skipped = old.skipped }) p q
     → Closes (line_of e name) noting l j → Carries fresh first e s m o q k j
 all_read e name fresh old s m o p q k l j first noting h done tallied ends prints because opens asked f closes = record {
@@ -424,7 +436,7 @@ all_read e name fresh old s m o p q k l j first noting h done tallied ends print
         };
     tallied = tallied h.events (f.end ∙ ap end_of (sym h.tallied));
     named = (old.opened, h.named);
-    openings = opens (length (opened_streams h.events)) h.openings;
+    openings = opens _ (length (opened_streams h.events)) h.openings;
     prints = prints h.events o.written q.written
         (both o.written p.written q.written (all_written h.events) (count_text fresh.plan (tally h.events).kept) h.gains
         (gains_as p.written q.written _ _ (count_of fresh old h.events h.same_plan h.tallied) f.gains));
@@ -464,7 +476,7 @@ count_failed name fresh old s m o p q k l j first noting h done counts gains ros
             };
         tallied = tt;
         named = (old.opened, h.named);
-        openings = tried_behind fault.WriteFault (length (opened_streams h.events)) s m m h.openings (tried_none fault.WriteFault m m refl refl);
+        openings = tried_behind fault.WriteFault _ (length (opened_streams h.events)) s m m h.openings (tried_none fault.WriteFault _ m m refl refl);
         prints = inr (record { prints = subst (λ (x : Plan). prints_count x ≡ true) h.same_plan counts; part = part.0; gains = part.1 });
       };
       noted = closed fresh old s m o p k l j first noting (line_of (end.Fault fault.WriteFault) name) h closes;
@@ -481,9 +493,9 @@ finished e name fresh old s m o p q k l j first noting h done due (inl f) closes
     → Carries fresh first x s m o q k j in
     subst C (sym f.end)
     (end_is C
-    (λ g n. all_read end.Output name fresh old s m o p q k l j first noting h done (λ events x. x) (λ at d x. (d, x)) (λ events a b x. x) (λ x. x) (λ n x. x) (λ x. cc) g n)
-    (λ g n. all_read end.NoneOutput name fresh old s m o p q k l j first noting h done (λ events x. x) (λ at d x. (d, x)) (λ events a b x. x) (λ x. x) (λ n x. x) (λ x. cc) g n)
-    (λ g n. all_read end.Aborts name fresh old s m o p q k l j first noting h done (λ events x. x) (λ at d x. (d, x)) (λ events a b x. x) (λ x. x) (λ n x. x) (λ x. cc) g n)
+    (λ g n. all_read end.Output name fresh old s m o p q k l j first noting h done (λ events x. x) (λ at d x. (d, x)) (λ events a b x. x) (λ x. x) (λ wants n x. x) (λ x. cc) g n)
+    (λ g n. all_read end.NoneOutput name fresh old s m o p q k l j first noting h done (λ events x. x) (λ at d x. (d, x)) (λ events a b x. x) (λ x. x) (λ wants n x. x) (λ x. cc) g n)
+    (λ g n. all_read end.Aborts name fresh old s m o p q k l j first noting h done (λ events x. x) (λ at d x. (d, x)) (λ events a b x. x) (λ x. x) (λ wants n x. x) (λ x. cc) g n)
     (old.skipped == 0) (old.kept == 0)) f closes
 finished e name fresh old s m o p q k l j first noting h done due (inr f) closes =
     let C : End → Type 0 = λ x. Closes (line_of x name) noting l j → Carries fresh first x s m o q k j in

@@ -10,17 +10,17 @@ use Rattle.autfilt_command.proofs.Ending.{Closes}
 use Rattle.autfilt_command.proofs.Running.{Adds}
 use Rattle.autfilt_command.specs.Noted.{HasNoted, Notes}
 use Rattle.autfilt_command.specs.Notes.{aborted_line, line_of}
-use Rattle.autfilt_command.specs.Run.{passed_noted}
+use Rattle.autfilt_command.specs.Run.{WantsOperandFile, passed_noted}
 use Rattle.autfilt_command.specs.declared.ended.End.{End}
 use Rattle.autfilt_command.specs.declared.ended.End.TheVariants as end
 use Rattle.autfilt_command.specs.inner.Running.{FailsPreparing, HasPrepared, IsNew, IsPrepared}
 use Rattle.autfilt_run.proofs.printing.Gains.{nothing}
-use Rattle.autfilt_run.proofs.turns.Openings.{opened_as, opened_then, tried_as, tried_then}
-use Rattle.autfilt_run.proofs.turns.Preparing.{counts_then, passed_push}
+use Rattle.autfilt_run.proofs.turns.Openings.{opened_as, opened_then, tried_as, tried_for, tried_then}
+use Rattle.autfilt_run.proofs.turns.Preparing.{counts_then, file_open_then, passed_push}
 use Rattle.autfilt_run.specs.Events.{Point, start_of}
-use Rattle.autfilt_run.specs.OperandEvents.{AreRead, OperandEvent, PassedOver, all_passed, opened_file, opened_files, operand_of, operands_of, passed_of}
+use Rattle.autfilt_run.specs.OperandEvents.{AreRead, OperandEvent, PassedOver, all_passed, file_open_after, opened_file, opened_files, operand_of, operands_of, passed_of}
 use Rattle.autfilt_run.specs.Points.{StandsIn, name_in, open_count}
-use Rattle.autfilt_run.specs.Preparing.{FailsToPrepare, HasRead, HasSkipped, IsReady}
+use Rattle.autfilt_run.specs.Preparing.{FailsToPrepare, HasRead, HasSkipped, IsReady, WantsOperand, opened_names}
 use Rattle.autfilt_run.specs.declared.fault.RunFault.{RunFault}
 use Rattle.autfilt_run.specs.declared.fault.RunFault.TheVariants as fault
 use Rattle.autfilt_run.specs.declared.session.Session.{Session}
@@ -89,6 +89,7 @@ prepared_none s seen k is = record {
   happened = λ texts told. (start_of (operands s.plan) seen.left 0, refl, starts_in s seen is);
   noted = (nothing k.written, refl);
   named = ap (λ (n : ℕ). take n (operands s.plan)) (none_counted s is);
+  still = is.is_closed;
   openings = refl;
   calm = record { opens = refl; reads = refl };
   texts = refl;
@@ -111,6 +112,7 @@ more events plan old new s m t k l j noting noting' h keeps read skipped noted =
       (b.0, are_read_then texts h.taken events (start_of (operands plan) s.left 0) a.0 b.0 a.1 b.1, b.2);
   noted = noted;
   named = read.named ∙ (ap (λ x. x ++ opened_files events) h.named ∙ sym (flat_map-append opened_file h.taken events));
+  still = read.still ∙ (ap (λ (b : Bool). file_open_after b events) h.still ∙ sym (file_open_then false h.taken events));
   openings = opened_as _ _ s t (opened_files_then h.taken events) (opened_then (length (opened_files h.taken)) (length (opened_files events)) s m t h.openings read.openings);
   calm = record { opens = read.opens ∙ h.calm.opens; reads = read.reads ∙ h.calm.reads };
   texts = read.texts ∙ h.texts;
@@ -144,6 +146,18 @@ prepared_all plan old new s m t k l noting h keeps did stage closed = record {
 
 -- ---- faults
 
+-- what is to be opened, told by all events
+wants_operand : (f : RunFault) (plan : Plan) (old new : Session) (s m t : Seen) (k l : SinkSeen) (noting : Bool) (h : HasPrepared plan old s m k l noting) (failed : FailsToPrepare f old new m t)
+    → WantsOperand old failed.events → WantsOperandFile plan (h.taken ++ failed.events)
+wants_operand f plan old new s m t k l noting h failed wants =
+    let names : opened_names old ++ opened_files failed.events ≡ opened_files (h.taken ++ failed.events) =
+        ap (λ x. x ++ opened_files failed.events) h.named ∙ sym (flat_map-append opened_file h.taken failed.events) in
+    let still : file_open_after false (h.taken ++ failed.events) ≡ file_open_after old.is_open failed.events =
+        file_open_then false h.taken failed.events ∙ ap (λ (b : Bool). file_open_after b failed.events) (sym h.still) in
+    let number = ap length names in
+    let all = ap (λ (p : Plan). length (operands p)) h.same_plan in
+    record { closed = still ∙ wants.closed; more = omega (arith, wants.more, number, all) }
+
 pub prepared_fails : (f : RunFault) (e : End) (plan : Plan) (old new : Session) (s m t : Seen) (k l j : SinkSeen) (noting : Bool) → e ≡ end.Fault f → HasPrepared plan old s m k l noting
     → FailsToPrepare f old new m t
     → Closes (line_of (end.Fault f) (name_in new)) noting l j → FailsPreparing plan e s t k j
@@ -165,5 +179,6 @@ prepared_fails f e plan old new s m t k l j noting is h failed closes = record {
     flat_map-append opened_file h.taken failed.events ∙ (ap (λ x. x ++ opened_files failed.events) (sym h.named)
         ∙ (failed.named.1 ∙ ap (λ (p : Plan). take failed.named.0 (operands p)) h.same_plan)),
   );
-  openings = tried_as f _ _ s t (opened_files_then h.taken failed.events) (tried_then f (length (opened_files h.taken)) (length (opened_files failed.events)) s m t h.openings failed.openings);
+  openings = tried_for f _ _ _ s t (wants_operand f plan old new s m t k l noting h failed)
+      (tried_as f _ _ _ s t (opened_files_then h.taken failed.events) (tried_then f _ (length (opened_files h.taken)) (length (opened_files failed.events)) s m t h.openings failed.openings));
 }

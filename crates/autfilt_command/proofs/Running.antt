@@ -1,5 +1,5 @@
 -- Runs: the events so far and one more, and the end.
-use Rattle.std.proofs.Common.{◌≡◌, ℕ, ◌+◌, Bool, true, List, [], ◌∷◌, ◌++◌, drop, length, take, Option, refl, sym, ap, ◌∙◌, subst, append_assoc, append-nil}
+use Rattle.std.proofs.Common.{◌≡◌, ℕ, ◌+◌, Bool, true, false, List, [], ◌∷◌, ◌++◌, drop, length, take, Option, refl, sym, ap, ◌∙◌, subst, append_assoc, append-nil}
 use Rattle.std.proofs.lemmas.List.{length-append}
 use Rattle.std.specs.Prelude.{map}
 use Rattle.aut_base.proofs.lists.AllByRecursion.{AllByRecursion-push}
@@ -16,7 +16,7 @@ use Rattle.autfilt_command.specs.declared.ended.End.{End}
 use Rattle.autfilt_command.specs.inner.Running.{Carries, Finishes, HasRun, IsFresh}
 use Rattle.autfilt_run.proofs.printing.Gains.{both, nothing}
 use Rattle.autfilt_run.proofs.turns.Openings.{opened_as, opened_then}
-use Rattle.autfilt_run.specs.Events.{Event, Tally, IsJudged, Point, all_written, counted, opened_stream, opened_streams, start_of, tally_from, written_of}
+use Rattle.autfilt_run.specs.Events.{Event, Tally, IsJudged, Point, all_written, counted, open_after, open_by, opened_stream, opened_streams, start_of, tally_from, written_of}
 use Rattle.autfilt_run.specs.Plans.{asks_on, count_text, streams_of}
 use Rattle.autfilt_run.specs.Points.{StandsAt, operands_in}
 use Rattle.autfilt_run.specs.Turns.{Progress, progress}
@@ -70,6 +70,10 @@ Adds added noting noting' k j = (sink : SinkSeen) (text : List ℕ) → HasNoted
 pub adds_nothing : (noting : Bool) (k : SinkSeen) → Adds [] noting noting k k
 adds_nothing noting k sink text h = notes_nothing sink k text noting h
 
+open_then : (before : Bool) (events others : List Event) → open_after before (events ++ others) ≡ open_after (open_after before events) others
+open_then before [] others = refl
+open_then before (e ∷ es) others = open_then (open_by before e) es others
+
 -- one more event
 pub run_more : (event : Event) (fresh old new : Session) (s m t : Seen) (o p q k l j : SinkSeen) (first noting noting' : Bool) → new.plan ≡ old.plan → new.operands ≡ old.operands
     → asks_on old.plan old.kept ≡ true
@@ -94,6 +98,7 @@ run_more event fresh old new s m t o p q k l j first noting noting' plan operand
       (notes sink (text ++ all_noted h.events) (h.noted sink text before));
   named = opened_streams_push h.events event ∙ (ap (λ xs. xs ++ opened_stream event) h.named
       ∙ sym (subst (λ (p : Plan). take new.opened (streams_of p) ≡ take old.opened (streams_of p) ++ opened_stream event) h.same_plan step.named));
+  still = step.still ∙ (ap (λ (b : Bool). open_by b event) h.still ∙ sym (open_then false h.events (event ∷ [])));
   openings = opened_as _ _ s t (opened_push h.events event) (opened_then (length (opened_streams h.events)) (length (opened_stream event)) s m t h.openings step.openings);
   tallied = tally_push _ h.events event ∙ ap (λ (x : Tally). counted x event) h.tallied ∙ step.tallied;
   calm = calm_then s m t o p q h.calm step.calm;
@@ -119,6 +124,7 @@ run_none fresh s o k first is = record {
   noted = adds_nothing first k;
   tallied = ap (λ (n : ℕ). record { kept = n; skipped = fresh.skipped }) (sym is.kept);
   named = ap (λ (n : ℕ). take n (streams_of fresh.plan)) (sym is.opened);
+  still = is.is_closed;
   openings = refl;
   calm = record { opens = refl; reads = refl; writes = refl };
   texts = refl;

@@ -8,7 +8,7 @@ use Rattle.autfilt_command.specs.Run.{AreCalm}
 use Rattle.autfilt_run.proofs.printing.Gains.{nothing}
 use Rattle.autfilt_run.proofs.turns.Preparing.{taken_few, take_named}
 use Rattle.autfilt_run.proofs.turns.Stepping.{KeepsOn, ends_stream, is_open, name_as, one_name, reads_on}
-use Rattle.autfilt_run.specs.Events.{Dropped, EndsStream, Ended, Event, Goes, IsGood, IsJudged, Kept, Opened, Point, ReadsOn, Skipped, Tally, counted, opened_stream, written_of}
+use Rattle.autfilt_run.specs.Events.{Dropped, EndsStream, Ended, Event, Goes, IsGood, IsJudged, Kept, Opened, Point, ReadsOn, Skipped, Tally, counted, open_by, opened_stream, written_of}
 use Rattle.autfilt_run.specs.Openings.{AreOpened}
 use Rattle.autfilt_run.specs.Plans.{streams_of}
 use Rattle.autfilt_run.specs.Points.{StandsAt, name_in, operands_in}
@@ -27,6 +27,7 @@ pub record Stepped (event : Event) (old new : Session) (m t : Seen) (p q : SinkS
   pub gains : Gains p.written q.written (written_of event)
   pub tallied : counted (record { kept = old.kept; skipped = old.skipped }) event ≡ record { kept = new.kept; skipped = new.skipped }
   pub named : take new.opened (streams_of old.plan) ≡ take old.opened (streams_of old.plan) ++ opened_stream event
+  pub still : new.is_open ≡ open_by old.is_open event
   pub openings : AreOpened (length (opened_stream event)) m t
   pub calm : AreCalm m t p q
   pub texts : t.texts ≡ m.texts
@@ -95,6 +96,7 @@ opened old new m t p q steady done h =
       gains = still_gains p q h.output;
       tallied = tally_as old.kept old.skipped new.kept new.skipped x.kept x.skipped;
       named = ap (λ (n : ℕ). take n (streams_of old.plan)) x.opened ∙ take_named (streams_of old.plan) old.opened h.name h.opening.named;
+      still = x.is_open;
       openings = h.opens.counted;
       calm = record { opens = h.opens.calm; reads = h.opens.reads; writes = still_writes p q h.output };
       texts = h.opens.texts;
@@ -112,6 +114,7 @@ ended old new m t p q steady done h =
       gains = still_gains p q h.output;
       tallied = tally_as old.kept old.skipped new.kept new.skipped x.kept x.skipped;
       named = none_named old new x.opened;
+      still = x.is_open;
       openings = h.moves.openings;
       calm = record { opens = h.moves.opens; reads = h.moves.reads; writes = still_writes p q h.output };
       texts = h.moves.texts;
@@ -134,6 +137,7 @@ dropped old new m t p q steady done h =
       gains = still_gains p q h.reads.output;
       tallied = tally_as old.kept old.skipped new.kept new.skipped x.kept x.skipped;
       named = none_named old new x.opened;
+      still = x.is_open;
       openings = h.reads.moves.openings;
       calm = record { opens = h.reads.moves.opens; reads = h.reads.moves.reads; writes = still_writes p q h.reads.output };
       texts = h.reads.moves.texts;
@@ -155,6 +159,7 @@ kept old new m t p q steady done h =
       gains = h.gains;
       tallied = tally_as (old.kept + 1) old.skipped new.kept new.skipped x.kept x.skipped;
       named = none_named old new x.opened;
+      still = x.is_open;
       openings = h.moves.openings;
       calm = record { opens = h.moves.opens; reads = h.moves.reads; writes = h.writes };
       texts = h.moves.texts;
@@ -179,6 +184,7 @@ skipped old new m t p q steady done h =
       gains = still_gains p q h.output;
       tallied = tally_as old.kept (old.skipped + 1) new.kept new.skipped x.kept x.skipped;
       named = none_named old new x.opened;
+      still = x.is_open;
       openings = h.moves.openings;
       calm = record { opens = h.moves.opens; reads = h.moves.reads; writes = still_writes p q h.output };
       texts = h.moves.texts;

@@ -1,5 +1,5 @@
 -- The run of autfilt: what was read of the streams and written, and what ended it.
-use Rattle.std.specs.Prelude.{◌≡◌, ◌≢◌, ℕ, ◌==◌, ◌⊎◌, if◌then◌else◌, List, [], ◌∷◌, ◌++◌, length, flat_map, take, true, Option, Some, None}
+use Rattle.std.specs.Prelude.{◌≡◌, ◌≢◌, ℕ, ◌==◌, ◌⊎◌, if◌then◌else◌, List, [], ◌∷◌, ◌++◌, length, flat_map, take, true, false, Option, Some, None}
 use Rattle.aut_base.specs.Automaton.{Automaton}
 use Rattle.aut_io.specs.Outside.{Gains, Rose, Texts}
 use Rattle.aut_io.specs.Seen.{Seen, SinkSeen}
@@ -11,10 +11,10 @@ use Rattle.autfilt_command.specs.declared.ended.End.{End}
 use Rattle.autfilt_command.specs.declared.ended.End.TheVariants as end
 use Rattle.autfilt_command.specs.declared.ended.Ended.{Ended}
 use Rattle.autfilt_command.specs.declared.ended.Ended.TheVariants as ended
-use Rattle.autfilt_run.specs.Events.{AreJudged, Event, Happen, Kept, Point, Skipped, Tally, all_written, opened_streams, start_of, tally, tally_from}
+use Rattle.autfilt_run.specs.Events.{AreJudged, Event, Happen, Kept, Point, Skipped, Tally, all_written, open_after, opened_streams, start_of, tally, tally_from}
 use Rattle.made_stream.specs.Made.{seen_of_made}
-use Rattle.autfilt_run.specs.Openings.{AreOpened, AreTried}
-use Rattle.autfilt_run.specs.OperandEvents.{AreRead, OperandEvent, all_passed, opened_files, operands_of}
+use Rattle.autfilt_run.specs.Openings.{AreOpened, AreTried, WantsFile}
+use Rattle.autfilt_run.specs.OperandEvents.{AreRead, OperandEvent, all_passed, file_open_after, opened_files, operands_of}
 use Rattle.autfilt_run.specs.Plans.{count_text, prints_count, prints_each, streams_of}
 use Rattle.autfilt_run.specs.Runs.{IsCounted, IsDone, Stops, StopsInOperands}
 use Rattle.autfilt_run.specs.declared.fault.RunFault.{RunFault}
@@ -59,13 +59,21 @@ EndsAt plan ops (end.Fault f) name p left = Stops plan ops f name p left × IsCo
 EndsAt plan ops end.Usage name p left = ⊥
 EndsAt plan ops e name p left = IsDone plan p × (left ≡ p.left)
 
--- Each of so many streams was opened once, and maybe one more was tried, where that ended the run.
-abbrev pub EndsOpened : End → ℕ → Seen → Seen → Type 0
-EndsOpened (end.Fault f) count seen seen' = AreTried f count seen seen'
-EndsOpened end.Usage count seen seen' = ⊥
-EndsOpened end.Output count seen seen' = AreOpened count seen seen'
-EndsOpened end.NoneOutput count seen seen' = AreOpened count seen seen'
-EndsOpened end.Aborts count seen seen' = AreOpened count seen seen'
+-- a stream of the plan is to be opened after these events
+abbrev pub WantsStreamFile : Plan → List Event → Type 0
+WantsStreamFile plan events = WantsFile (open_after false events) (length (opened_streams events)) (length (streams_of plan))
+
+-- the file of an operand of the plan is to be opened after these events
+abbrev pub WantsOperandFile : Plan → List OperandEvent → Type 0
+WantsOperandFile plan taken = WantsFile (file_open_after false taken) (length (opened_files taken)) (length (operands plan))
+
+-- Each of so many streams was opened once, and maybe one more was tried, where one was to be opened and that ended the run.
+abbrev pub EndsOpened : End → Type 0 → ℕ → Seen → Seen → Type 0
+EndsOpened (end.Fault f) wanting count seen seen' = AreTried f wanting count seen seen'
+EndsOpened end.Usage wanting count seen seen' = ⊥
+EndsOpened end.Output wanting count seen seen' = AreOpened count seen seen'
+EndsOpened end.NoneOutput wanting count seen seen' = AreOpened count seen seen'
+EndsOpened end.Aborts wanting count seen seen' = AreOpened count seen seen'
 
 -- The events happened over these texts, from this point on, and the run ended so.
 pub record RunsTo (plan : Plan) (ops : List Automaton) (texts : Texts) (first : Point) (left' : Option (List ℕ)) (events : List Event) (e : End) (name : List ℕ) : Type 0 where
@@ -123,7 +131,7 @@ pub record Runs (plan : Plan) (ops : List Automaton) (passed before : ℕ) (e : 
   pub tallied : EndsByTally e passed events
   -- each stream that was opened is the next of the plan, and was opened once, also where the inputs don't tell their texts
   pub named : (k : ℕ) × (opened_streams events ≡ take k (streams_of plan))
-  pub openings : EndsOpened e (length (opened_streams events)) seen seen'
+  pub openings : EndsOpened e (WantsStreamFile plan events) (length (opened_streams events)) seen seen'
   pub prints : Prints plan e events out.written out'.written
 
 -- The run over the generated stream, which leaves the inputs as they were.
@@ -157,7 +165,7 @@ pub record FailsInOperands (plan : Plan) (e : End) (taken : List OperandEvent) (
   pub no_write : fault ≢ run.WriteFault
   pub happened : (texts : Texts) → seen.texts ≡ Some texts → EndsInOperands plan texts seen.left seen'.left taken fault name
   pub named : (k : ℕ) × (opened_files taken ≡ take k (operands plan))
-  pub openings : AreTried fault (length (opened_files taken)) seen seen'
+  pub openings : AreTried fault (WantsOperandFile plan taken) (length (opened_files taken)) seen seen'
   pub none : events ≡ []
   pub output : out' ≡ out
 

@@ -1,5 +1,5 @@
 -- What happens in a run over streams, one after the other, and where the run stands then.
-use Rattle.std.specs.Prelude.{◌≡◌, ℕ, ◌+◌, ◌-◌, ◌<◌, ◌≤◌, true, List, [], ◌∷◌, length, flat_map, Option, Some, None}
+use Rattle.std.specs.Prelude.{◌≡◌, ℕ, ◌+◌, ◌-◌, ◌<◌, ◌≤◌, Bool, true, false, List, [], ◌∷◌, length, flat_map, Option, Some, None}
 use Rattle.std.specs.List.{AllByRecursion}
 use Rattle.aut_base.specs.Automaton.{Automaton}
 use Rattle.aut_base.specs.declared.limit.TheConstants.{MOST_BYTES}
@@ -156,6 +156,18 @@ opened_stream Ended = []
 
 abbrev pub opened_streams : List Event → List (List ℕ)
 opened_streams = flat_map opened_stream
+
+-- whether a stream is open after an event, where one was before or not
+abbrev pub open_by : Bool → Event → Bool
+open_by before (Opened name) = true
+open_by before (Kept w text) = before
+open_by before (Dropped w) = before
+open_by before (Skipped name) = before
+open_by before Ended = false
+
+abbrev pub open_after : Bool → List Event → Bool
+open_after before [] = before
+open_after before (event ∷ events) = open_after (open_by before event) events
 
 -- how many automata were kept, and how many were skipped
 pub record Tally : Type 0 where

@@ -1,5 +1,5 @@
 -- How many times texts are opened: once for each file or stream that a run comes to, and no more.
-use Rattle.std.specs.Prelude.{◌≡◌, ℕ, ◌+◌, ◌≤◌}
+use Rattle.std.specs.Prelude.{◌≡◌, ℕ, ◌+◌, ◌<◌, ◌≤◌, Bool, false}
 use Rattle.aut_io.specs.Outside.{raised_by}
 use Rattle.aut_io.specs.Seen.{Seen}
 use Rattle.autfilt_run.specs.declared.fault.RunFault.{RunFault}
@@ -21,8 +21,14 @@ MayEnd (fault.Invalid rule) tried = tried ≡ 0
 MayEnd (fault.Limit which) tried = tried ≡ 0
 MayEnd fault.WriteFault tried = tried ≡ 0
 
--- `open` was called so many times, and maybe once more where the fault came
-pub record AreTried (f : RunFault) (count : ℕ) (seen seen' : Seen) : Type 0 where
+-- A file is to be opened: none is open, and fewer were opened than there are names.
+pub record WantsFile (is_open : Bool) (opened all : ℕ) : Type 0 where
+  pub closed : is_open ≡ false
+  pub more : opened < all
+
+-- `open` was called so many times, and maybe once more where the fault came: only where a file was to be opened
+pub record AreTried (f : RunFault) (wanting : Type 0) (count : ℕ) (seen seen' : Seen) : Type 0 where
   pub tried : ℕ
   pub may : MayEnd f tried
+  pub wanted : tried ≡ 1 → wanting
   pub opened : AreOpened (count + tried) seen seen'

@@ -1,6 +1,6 @@
 -- How operands are read: each from the file of its name, the first automaton that isn't abandoned. The rest of the file is
 -- left.
-use Rattle.std.specs.Prelude.{◌≡◌, ℕ, ◌+◌, ◌≤◌, List, [], ◌∷◌, flat_map, Some, None}
+use Rattle.std.specs.Prelude.{◌≡◌, ℕ, ◌+◌, ◌≤◌, Bool, true, false, List, [], ◌∷◌, flat_map, Some, None}
 use Rattle.aut_base.specs.Automaton.{Automaton}
 use Rattle.aut_base.specs.CanonicalLabel.{canonical}
 use Rattle.aut_base.specs.declared.limit.TheConstants.{MOST_BYTES}
@@ -57,6 +57,16 @@ opened_file (PassedOver name) = []
 
 abbrev pub opened_files : List OperandEvent → List (List ℕ)
 opened_files = flat_map opened_file
+
+-- whether a file is open after an event, where one was before or not
+abbrev pub file_open_by : Bool → OperandEvent → Bool
+file_open_by before (FileOpened name) = true
+file_open_by before (Taken w) = false
+file_open_by before (PassedOver name) = before
+
+abbrev pub file_open_after : Bool → List OperandEvent → Bool
+file_open_after before [] = before
+file_open_after before (event ∷ events) = file_open_after (file_open_by before event) events
 
 -- the names of the files whose abandoned automata were passed over
 abbrev pub passed_of : OperandEvent → List (List ℕ)

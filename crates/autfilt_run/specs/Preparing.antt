@@ -3,8 +3,8 @@ use Rattle.std.specs.Prelude.{◌≡◌, ◌≢◌, ℕ, ◌+◌, ◌<◌, true,
 use Rattle.aut_io.specs.Outside.{Rose, Texts}
 use Rattle.aut_io.specs.Seen.{Seen}
 use Rattle.autfilt_run.specs.Events.{Point}
-use Rattle.autfilt_run.specs.Openings.{AreOpened, AreTried}
-use Rattle.autfilt_run.specs.OperandEvents.{AreRead, OperandEvent, PassedOver, all_passed, opened_files, operands_of}
+use Rattle.autfilt_run.specs.Openings.{AreOpened, AreTried, WantsFile}
+use Rattle.autfilt_run.specs.OperandEvents.{AreRead, OperandEvent, PassedOver, all_passed, file_open_after, opened_files, operands_of}
 use Rattle.autfilt_run.specs.Points.{StandsIn, name_in, open_count, operands_in}
 use Rattle.autfilt_run.specs.Runs.{IsCounted, StopsInOperands}
 use Rattle.autfilt_run.specs.declared.fault.RunFault.{RunFault}
@@ -24,6 +24,7 @@ pub record HasRead (events : List OperandEvent) (old new : Session) (seen seen' 
   -- where the inputs tell their texts
   pub happened : (texts : Texts) → seen.texts ≡ Some texts → (p : Point) → StandsIn old seen.left p → (q : Point) × AreRead texts events p q × StandsIn new seen'.left q
   pub named : opened_names new ≡ opened_names old ++ opened_files events
+  pub still : new.is_open ≡ file_open_after old.is_open events
   pub openings : AreOpened (length (opened_files events)) seen seen'
   pub opens : seen'.open_faults ≡ seen.open_faults
   pub reads : seen'.read_faults ≡ seen.read_faults
@@ -53,6 +54,10 @@ CountsAt fault.CannotOpen seen seen' = Rose seen.open_faults seen'.open_faults �
 CountsAt fault.ReadFault seen seen' = (seen'.open_faults ≡ seen.open_faults) × Rose seen.read_faults seen'.read_faults
 CountsAt _ seen seen' = (seen'.open_faults ≡ seen.open_faults) × (seen'.read_faults ≡ seen.read_faults)
 
+-- A file is to be opened after these events.
+abbrev pub WantsOperand : Session → List OperandEvent → Type 0
+WantsOperand old events = WantsFile (file_open_after old.is_open events) (length (opened_names old ++ opened_files events)) (length (operands old.plan))
+
 -- Events happened, and then the fault came.
 pub record FailsToPrepare (f : RunFault) (old new : Session) (seen seen' : Seen) : Type 0 where
   pub events : List OperandEvent
@@ -63,7 +68,7 @@ pub record FailsToPrepare (f : RunFault) (old new : Session) (seen seen' : Seen)
   pub no_write : f ≢ fault.WriteFault
   pub counts : CountsAt f seen seen'
   pub named : (k : ℕ) × (opened_names old ++ opened_files events ≡ take k (operands old.plan))
-  pub openings : AreTried f (length (opened_files events)) seen seen'
+  pub openings : AreTried f (WantsOperand old events) (length (opened_files events)) seen seen'
 
 abbrev pub Prepares : Result Prep RunFault → Session → Session → Seen → Seen → Type 0
 Prepares (Ok Ready) = IsReady

@@ -5,12 +5,12 @@ use Rattle.aut_io.specs.Seen.{Seen, SinkSeen}
 use Rattle.autfilt_command.specs.Ends.{ended_of}
 use Rattle.autfilt_command.specs.Noted.{HasNoted, Notes}
 use Rattle.autfilt_command.specs.Notes.{line_of}
-use Rattle.autfilt_command.specs.Run.{AreCalm, EndsBecause, EndsInOperands, Runs, all_noted, end_of, passed_noted, tally_after}
+use Rattle.autfilt_command.specs.Run.{AreCalm, EndsBecause, EndsInOperands, Runs, WantsOperandFile, all_noted, end_of, passed_noted, tally_after}
 use Rattle.autfilt_command.specs.declared.ended.End.{End}
 use Rattle.autfilt_command.specs.declared.ended.End.TheVariants as end
-use Rattle.autfilt_run.specs.Events.{AreJudged, Event, Happen, Point, Tally, all_written, opened_streams, start_of}
+use Rattle.autfilt_run.specs.Events.{AreJudged, Event, Happen, Point, Tally, all_written, open_after, opened_streams, start_of}
 use Rattle.autfilt_run.specs.Openings.{AreOpened, AreTried}
-use Rattle.autfilt_run.specs.OperandEvents.{AreRead, OperandEvent, all_passed, opened_files, operands_of}
+use Rattle.autfilt_run.specs.OperandEvents.{AreRead, OperandEvent, all_passed, file_open_after, opened_files, operands_of}
 use Rattle.autfilt_run.specs.Plans.{streams_of}
 use Rattle.autfilt_run.specs.Points.{StandsAt, StandsIn, operands_in}
 use Rattle.autfilt_run.specs.Preparing.{CountsAt, opened_names}
@@ -47,6 +47,7 @@ pub record HasPrepared (plan : Plan) (s : Session) (seen seen' : Seen) (notes no
   pub happened : (texts : Texts) → seen.texts ≡ Some texts → (p : Point) × AreRead texts taken (start_of (operands plan) seen.left 0) p × StandsIn s seen'.left p
   pub noted : HasNoted (passed_noted (all_passed taken)) noting notes notes'
   pub named : opened_names s ≡ opened_files taken
+  pub still : s.is_open ≡ file_open_after false taken
   pub openings : AreOpened (length (opened_files taken)) seen seen'
   pub calm : AreCalmInputs seen seen'
   pub texts : seen'.texts ≡ seen.texts
@@ -75,7 +76,7 @@ pub record FailsPreparing (plan : Plan) (e : End) (seen seen' : Seen) (notes not
   pub noted : Notes (passed_noted (all_passed taken) ++ line_of e name) notes notes'
   pub counts : CountsAt fault seen seen'
   pub named : (k : ℕ) × (opened_files taken ≡ take k (operands plan))
-  pub openings : AreTried fault (length (opened_files taken)) seen seen'
+  pub openings : AreTried fault (WantsOperandFile plan taken) (length (opened_files taken)) seen seen'
 
 -- what preparing answers: whether notes are taken still, or how the run ended
 abbrev pub Preparing : Result Bool End → Plan → Session → Seen → Seen → SinkSeen → SinkSeen → Type 0
@@ -108,6 +109,7 @@ pub record HasRun (fresh s : Session) (seen seen' : Seen) (out out' notes notes'
   pub noted : (sink : SinkSeen) (text : List ℕ) → HasNoted text first sink notes → HasNoted (text ++ all_noted events) noting sink notes'
   pub tallied : tally_after fresh.skipped events ≡ record { kept = s.kept; skipped = s.skipped }
   pub named : opened_streams events ≡ take s.opened (streams_of fresh.plan)
+  pub still : s.is_open ≡ open_after false events
   pub openings : AreOpened (length (opened_streams events)) seen seen'
   pub calm : AreCalm seen seen' out out'
   pub texts : seen'.texts ≡ seen.texts

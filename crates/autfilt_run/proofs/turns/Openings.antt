@@ -1,8 +1,9 @@
 -- Openings are counted, one after the other.
-use Rattle.std.proofs.Common.{◌≡◌, ℕ, suc, zero, ◌+◌, refl, sym, ap, ◌∙◌, subst, arith}
+use Rattle.std.proofs.Common.{◌≡◌, ℕ, suc, zero, ◌+◌, ◌<◌, Bool, false, List, length, take, refl, sym, ap, ◌∙◌, subst, arith}
+use Rattle.std.proofs.lemmas.List.{length-take-le}
 use Rattle.aut_io.specs.Outside.{raised, raised_by}
 use Rattle.aut_io.specs.Seen.{Seen}
-use Rattle.autfilt_run.specs.Openings.{AreOpened, AreTried, MayEnd}
+use Rattle.autfilt_run.specs.Openings.{AreOpened, AreTried, MayEnd, WantsFile}
 use Rattle.autfilt_run.specs.declared.fault.RunFault.{RunFault}
 
 raised_then : (a b n : ℕ) → raised_by b (raised_by a n) ≡ raised_by (a + b) n
@@ -23,20 +24,31 @@ pub opened_as : (a b : ℕ) (s t : Seen) → a ≡ b → AreOpened a s t → Are
 opened_as a b s t e h = subst (λ k. AreOpened k s t) e h
 
 -- a fault, after more was opened
-pub tried_then : (f : RunFault) (a b : ℕ) (s m t : Seen) → AreOpened a s m → AreTried f b m t → AreTried f (a + b) s t
-tried_then f a b s m t one two = record {
+pub tried_then : (f : RunFault) (wants : Type 0) (a b : ℕ) (s m t : Seen) → AreOpened a s m → AreTried f wants b m t → AreTried f wants (a + b) s t
+tried_then f wants a b s m t one two = record {
   tried = two.tried;
   may = two.may;
+  wanted = two.wanted;
   opened = opened_as (a + (b + two.tried)) (a + b + two.tried) s t (omega arith) (opened_then a (b + two.tried) s m t one two.opened);
 }
 
-pub tried_as : (f : RunFault) (a b : ℕ) (s t : Seen) → a ≡ b → AreTried f a s t → AreTried f b s t
-tried_as f a b s t e h = subst (λ k. AreTried f k s t) e h
+pub tried_as : (f : RunFault) (wants : Type 0) (a b : ℕ) (s t : Seen) → a ≡ b → AreTried f wants a s t → AreTried f wants b s t
+tried_as f wants a b s t e h = subst (λ k. AreTried f wants k s t) e h
+
+-- the same, where the file that is to be opened is told otherwise
+pub tried_for : (f : RunFault) (wants wants' : Type 0) (a : ℕ) (s t : Seen) → (wants → wants') → AreTried f wants a s t → AreTried f wants' a s t
+tried_for f wants wants' a s t to h = record { tried = h.tried; may = h.may; wanted = λ one. to (h.wanted one); opened = h.opened }
 
 -- a fault where nothing was opened since
-pub tried_behind : (f : RunFault) (a : ℕ) (s m t : Seen) → AreOpened a s m → AreTried f 0 m t → AreTried f a s t
-tried_behind f a s m t one two = tried_as f (a + 0) a s t (omega arith) (tried_then f a 0 s m t one two)
+pub tried_behind : (f : RunFault) (wants : Type 0) (a : ℕ) (s m t : Seen) → AreOpened a s m → AreTried f wants 0 m t → AreTried f wants a s t
+tried_behind f wants a s m t one two = tried_as f wants (a + 0) a s t (omega arith) (tried_then f wants a 0 s m t one two)
 
 -- a fault while nothing is opened
-pub tried_none : (f : RunFault) (s t : Seen) → MayEnd f 0 → t.openings ≡ s.openings → AreTried f 0 s t
-tried_none f s t may same = record { tried = 0; may = may; opened = same }
+pub tried_none : (f : RunFault) (wants : Type 0) (s t : Seen) → MayEnd f 0 → t.openings ≡ s.openings → AreTried f wants 0 s t
+tried_none f wants s t may same = record { tried = 0; may = may; wanted = λ one. let none : 0 ≡ 1 = one in cc; opened = same }
+
+-- so many names of a list were opened, and one stands behind them
+pub wants_next : {A : Type 0} (is_open : Bool) (xs : List A) (n : ℕ) (ys : List A) → is_open ≡ false → n < length xs → ys ≡ take n xs → WantsFile is_open (length ys) (length xs)
+wants_next is_open xs n ys closed within front =
+    let short : length ys ≡ n = ap length front ∙ length-take-le n xs (omega (arith, within)) in
+    record { closed = closed; more = omega (arith, short, within) }

@@ -15,15 +15,15 @@ use Rattle.aut_base.specs.declared.limit.TheConstants.{MOST_BYTES}
 use Rattle.aut_core.specs.Core.{automaton_of}
 use Rattle.aut_io.specs.Outside.{Closed, Texts}
 use Rattle.aut_io.specs.Seen.{Seen}
-use Rattle.autfilt_run.proofs.turns.Openings.{opened_as, opened_then, tried_behind, tried_none}
+use Rattle.autfilt_run.proofs.turns.Openings.{opened_as, opened_then, tried_behind, tried_for, tried_none, wants_next}
 use Rattle.autfilt_run.proofs.turns.Stepping.{KeepsOn, closed_counted, is_closed, name_as, one_name, opens_stream, reads_on, rest_from, stops_at, stops_named, stream_counted, takes_operand}
 use Rattle.autfilt_run.proofs.printing.Writing.{rose_from}
 use Rattle.autfilt_run.specs.Events.{Point, ReadsOn}
 use Rattle.autfilt_run.specs.Faults.{stop_of_fault}
-use Rattle.autfilt_run.specs.Openings.{AreOpened, AreTried, MayEnd}
-use Rattle.autfilt_run.specs.OperandEvents.{AreRead, FileOpened, OperandEvent, PassedOver, Proceeds, Taken, all_passed, opened_file, opened_files, operand_of, operands_of, passed_of}
+use Rattle.autfilt_run.specs.Openings.{AreOpened, AreTried, MayEnd, WantsFile}
+use Rattle.autfilt_run.specs.OperandEvents.{AreRead, FileOpened, OperandEvent, PassedOver, Proceeds, Taken, all_passed, file_open_after, file_open_by, opened_file, opened_files, operand_of, operands_of, passed_of}
 use Rattle.autfilt_run.specs.Points.{IsAt, StandsIn, name_in, open_count, operands_in}
-use Rattle.autfilt_run.specs.Preparing.{CountsAt, FailsToPrepare, HasRead, HasSkipped, IsReady, Prepares, opened_names}
+use Rattle.autfilt_run.specs.Preparing.{CountsAt, FailsToPrepare, HasRead, HasSkipped, IsReady, Prepares, WantsOperand, opened_names}
 use Rattle.autfilt_run.specs.Runs.{AtNamed, IsCounted, StopsAtOperand, StopsInOperands, WantsMemory, WantsStream, taken_of}
 use Rattle.autfilt_run.specs.declared.fault.RunFault.{RunFault}
 use Rattle.autfilt_run.specs.declared.fault.RunFault.TheVariants as fault
@@ -59,6 +59,10 @@ opened_files_push (e ∷ es) event = ap (λ x. opened_file e ++ x) (opened_files
 opened_push : (events : List OperandEvent) (event : OperandEvent) → length (opened_files events) + length (opened_file event) ≡ length (opened_files (events ++ event ∷ []))
 opened_push events event = sym (length-append (opened_files events) (opened_file event)) ∙ ap length (sym (opened_files_push events event))
 
+pub file_open_then : (before : Bool) (events others : List OperandEvent) → file_open_after before (events ++ others) ≡ file_open_after (file_open_after before events) others
+file_open_then before [] others = refl
+file_open_then before (e ∷ es) others = open_then (file_open_by before e) es others
+
 -- ---- one turn
 
 -- A turn was this event.
@@ -66,6 +70,7 @@ pub record Turned (event : OperandEvent) (old new : Session) (s t : Seen) : Type
   pub goes : (texts : Texts) → s.texts ≡ Some texts → (p : Point) → StandsIn old s.left p → (q : Point) × Proceeds texts event p q × StandsIn new t.left q
   pub operands : operands_in new ≡ operands_in old ++ operand_of event
   pub named : opened_names new ≡ opened_names old ++ opened_file event
+  pub still : new.is_open ≡ file_open_by old.is_open event
   pub openings : AreOpened (length (opened_file event)) s t
   pub opens : t.open_faults ≡ s.open_faults
   pub reads : t.read_faults ≡ s.read_faults
@@ -124,6 +129,7 @@ opened old new s t keeps h =
       named = names_of new old.plan (k + 1) keeps.plan (counted_open new k h.now_open (ap length h.tries.operands_same))
           ∙ (take_named (operands old.plan) k h.tries.name h.tries.next
           ∙ ap (λ xs. xs ++ h.tries.name ∷ []) (sym (names_of old old.plan k refl (counted_closed old k h.tries.closed refl))));
+      still = h.now_open;
       openings = h.tries.opens.counted;
       opens = h.tries.opens.calm;
       reads = h.tries.opens.reads;
@@ -150,6 +156,7 @@ taken old new s t keeps few h =
       operands = h.taken;
       named = names_of new old.plan (k + 1) keeps.plan (counted_closed new (k + 1) h.closed h.one_more)
           ∙ (sym (names_of old old.plan (k + 1) refl (counted_open old k h.reads.was_open refl)) ∙ sym (append-nil (opened_names old)));
+      still = h.closed;
       openings = h.reads.moves.openings;
       opens = h.reads.moves.opens;
       reads = h.reads.moves.reads;
@@ -178,6 +185,7 @@ passed old new s t keeps few h =
       operands = same_operands old new h.operands_same;
       named = names_of new old.plan (k + 1) keeps.plan (counted_open new k h.still_open (ap length h.operands_same))
           ∙ (sym (names_of old old.plan (k + 1) refl (counted_open old k h.reads.was_open refl)) ∙ sym (append-nil (opened_names old)));
+      still = h.still_open ∙ sym h.reads.was_open;
       openings = h.reads.moves.openings;
       opens = h.reads.moves.opens;
       reads = h.reads.moves.reads;
@@ -192,6 +200,7 @@ read_none old s = record {
   operands = sym (append-nil (operands_in old));
   happened = λ texts told p stands. (p, refl, stands);
   named = sym (append-nil (opened_names old));
+  still = refl;
   openings = refl;
   opens = refl;
   reads = refl;
@@ -210,6 +219,7 @@ read_more events event first old new s m t h turned = record {
       (b.0, are_read_push texts events event p a.0 b.0 a.1 b.1, b.2);
   named = turned.named ∙ (ap (λ x. x ++ opened_file event) h.named ∙ (append_assoc (opened_names first) (opened_files events) (opened_file event)
       ∙ ap (λ x. opened_names first ++ x) (sym (opened_files_push events event))));
+  still = turned.still ∙ (ap (λ (b : Bool). file_open_by b event) h.still ∙ sym (file_open_then first.is_open events (event ∷ [])));
   openings = opened_as _ _ s t (opened_push events event) (opened_then (length (opened_files events)) (length (opened_file event)) s m t h.openings turned.openings);
   opens = turned.opens ∙ h.opens;
   reads = turned.reads ∙ h.reads;
@@ -281,7 +291,7 @@ record HaltsAt (f : RunFault) (old new : Session) (m t : Seen) : Type 0 where
   halts : (texts : Texts) → m.texts ≡ Some texts → (q : Point) → StandsIn old m.left q → StopsInOperands f (name_in new) q t.left × IsCounted f q t.left
   skipped : new.skipped ≡ old.skipped
   counts : CountsAt f m t
-  tried : AreTried f 0 m t
+  tried : AreTried f (WantsFile old.is_open (length old.operands) (length (operands old.plan))) 0 m t
 
 pub untold_closed : (texts : Option Texts) (left : Option (List ℕ)) (t : Texts) → texts ≡ Some t → Closed texts left → left ≡ Some []
 untold_closed None left t e h = cc
@@ -303,6 +313,10 @@ wants old new left q name stands closed next = record {
   next = next_is old left q name stands closed next;
 }
 
+wants_one : (old : Session) (name : List ℕ) → old.is_open ≡ false → slice_get (operands old.plan) (length old.operands) ≡ Some name
+    → WantsFile old.is_open (length old.operands) (length (operands old.plan))
+wants_one old name closed next = record { closed = closed; more = slice_get_within (operands old.plan) (length old.operands) name next }
+
 unopened : (old new : Session) (m t : Seen) → old.lexer.taken ≤ MOST_BYTES → TriesFile (Err opening.Failed) old new m t → HaltsAt fault.CannotOpen old new m t
 unopened old new m t few h = record {
   halts = λ texts told q stands. (
@@ -311,7 +325,7 @@ unopened old new m t few h = record {
   );
   skipped = h.skipped;
   counts = (h.opens.failed refl, h.opens.reads);
-  tried = record { tried = 1; may = refl; opened = h.opens.counted };
+  tried = record { tried = 1; may = refl; wanted = λ one. wants_one old h.name h.closed h.next; opened = h.opens.counted };
 }
 
 unopened_for_memory : (old new : Session) (m t : Seen) → old.lexer.taken ≤ MOST_BYTES → TriesFile (Err opening.Memory) old new m t → HaltsAt fault.Memory old new m t
@@ -322,7 +336,7 @@ unopened_for_memory old new m t few h = record {
   );
   skipped = h.skipped;
   counts = (h.opens.memory refl, h.opens.reads);
-  tried = record { tried = 1; may = omega arith; opened = h.opens.counted };
+  tried = record { tried = 1; may = omega arith; wanted = λ one. wants_one old h.name h.closed h.next; opened = h.opens.counted };
 }
 
 file_counted : (f : RunFault) (old new : Session) (m t : Seen) (q : Point) → new.lexer.most ≡ MOST_BYTES → new.lexer.taken ≤ MOST_BYTES → old.is_open ≡ true → IsAt old m.left q
@@ -345,7 +359,7 @@ named f old new m t keeps most few stops counts may h = record {
   );
   skipped = h.skipped;
   counts = counts;
-  tried = tried_none f m t may h.reads.moves.openings;
+  tried = tried_none f _ m t may h.reads.moves.openings;
 }
 
 pub calm_limit : (which : Limit) (a b : ℕ) → CountsReads (stop_of_fault (fault.Limit which)) a b → b ≡ a
@@ -376,7 +390,7 @@ halted fault.Memory old new m t keeps most few few' (inr h) = record {
   );
   skipped = h.skipped;
   counts = (h.reads.moves.opens, h.reads.moves.reads);
-  tried = tried_none fault.Memory m t (omega arith) h.reads.moves.openings;
+  tried = tried_none fault.Memory _ m t (omega arith) h.reads.moves.openings;
 }
 halted fault.ReadFault old new m t keeps most few few' h = named fault.ReadFault old new m t keeps most few' (λ q x. x) (h.reads.moves.opens, h.reads.moves.reads) refl h
 halted (fault.SyntaxAt k) old new m t keeps most few few' h = named (fault.SyntaxAt k) old new m t keeps most few' (λ q x. x) (h.reads.moves.opens, h.reads.moves.reads) refl h
@@ -397,6 +411,14 @@ counts_then (fault.Limit which) s m t a b h = (h.0 ∙ a, h.1 ∙ b)
 no_write : (f : RunFault) (old new : Session) (m t : Seen) → FailsOperand f old new m t → f ≢ fault.WriteFault
 no_write f old new m t h is = let x = subst (λ (g : RunFault). FailsOperand g old new m t) is h in absurd x
 
+-- what is to be opened, told by the events
+wants_operand : (first old : Session) (s m : Seen) (h : IsPreparing first old s m) → WantsFile old.is_open (length old.operands) (length (operands old.plan)) → WantsOperand first h.events
+wants_operand first old s m h wants =
+    let k = length old.operands in
+    let front = sym h.read.named ∙ (names_of old first.plan k h.keeps.plan (counted_closed old k wants.closed refl)) in
+    let within : k < length (operands first.plan) = subst (λ (p : Plan). k < length (operands p)) h.keeps.plan wants.more in
+    wants_next (file_open_after first.is_open h.events) (operands first.plan) k (opened_names first ++ opened_files h.events) (sym h.read.still ∙ wants.closed) within front
+
 pub fails : (f : RunFault) (first old new : Session) (s m t : Seen) → first.lexer.most ≡ MOST_BYTES → old.lexer.taken ≤ MOST_BYTES → new.lexer.taken ≤ MOST_BYTES → IsPreparing first old s m
     → KeepsAll old new → FailsOperand f old new m t
     → FailsToPrepare f first new s t
@@ -416,7 +438,7 @@ fails f first old new s m t most few few' h keeps failed =
         length old.operands + open_count old.is_open,
         sym h.read.named ∙ ap (λ (p : Plan). take (length old.operands + open_count old.is_open) (operands p)) h.keeps.plan,
       );
-      openings = tried_behind f (length (opened_files h.events)) s m t h.read.openings at.tried;
+      openings = tried_for f _ _ _ s t (wants_operand first old s m h) (tried_behind f _ (length (opened_files h.events)) s m t h.read.openings at.tried);
     }
 
 -- a fault that `?` hands on
