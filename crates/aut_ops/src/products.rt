@@ -28,7 +28,7 @@ use std::alloc::Global;
 /// The product: an automaton that accepts what both accept. Its states are the pairs of states that some letters lead to in
 /// both from their starts, in breadth-first order.
 pub fn product(alloc: Global, a: &Automaton, b: &Automaton) -> Result<Automaton, PairFault>
-    requires sets { a.now.sets + b.now.sets < 2 ^ 32 }
+    requires sets { length (joined_names a.now.names b.now.names) ≤ MOST_NAMES → a.now.sets + b.now.sets < 2 ^ 32 }
     ensures shape { IfOk result (λ made. IsProductOf (automaton_of a.now) (automaton_of b.now) (automaton_of made)) }
     ensures accepts { IfOk result (λ made. AcceptsBoth (automaton_of made) (automaton_of a.now) (automaton_of b.now)) }
     ensures within { OnOk result (length (joined_names a.now.names b.now.names) ≤ MOST_NAMES) }
@@ -47,7 +47,7 @@ pub fn product(alloc: Global, a: &Automaton, b: &Automaton) -> Result<Automaton,
 pub fn product_or(alloc: Global, a: &Automaton, b: &Automaton) -> Result<Automaton, PairFault>
     requires states { (completed (automaton_of a.now)).states < 2 ^ 32 }
     requires other_states { (completed (automaton_of b.now)).states < 2 ^ 32 }
-    requires sets { (completed (automaton_of a.now)).sets + (completed (automaton_of b.now)).sets < 2 ^ 32 }
+    requires sets { length (joined_names a.now.names b.now.names) ≤ MOST_NAMES → (completed (automaton_of a.now)).sets + (completed (automaton_of b.now)).sets < 2 ^ 32 }
     ensures shape { IfOk result (λ made. IsEitherOf (automaton_of a.now) (automaton_of b.now) (automaton_of made)) }
     ensures accepts { IfOk result (λ made. AcceptsEither (automaton_of made) (automaton_of a.now) (automaton_of b.now)) }
     ensures within { OnOk result (length (joined_names a.now.names b.now.names) ≤ MOST_NAMES) }
@@ -74,7 +74,7 @@ fn product_by(
     b: &Automaton,
     join: Join,
 ) -> Result<Automaton, PairFault>
-    requires sets { a.now.sets + b.now.sets < 2 ^ 32 }
+    requires sets { length (joined_names a.now.names b.now.names) ≤ MOST_NAMES → a.now.sets + b.now.sets < 2 ^ 32 }
     ensures shape { IfOk result (λ made. IsProduct (join_of join)
         (over_both (automaton_of a.now) (automaton_of b.now) (automaton_of a.now))
         (over_both (automaton_of a.now) (automaton_of b.now) (automaton_of b.now)) (automaton_of made)) }

@@ -17,7 +17,7 @@ use std::alloc::Global;
 
 /// Whether some lasso word is accepted by both automata. No word is made.
 pub fn accept_together(alloc: Global, a: &Automaton, b: &Automaton) -> Result<bool, PairFault>
-    requires sets { a.now.sets + b.now.sets < 2 ^ 32 }
+    requires sets { length (joined_names a.now.names b.now.names) ≤ MOST_NAMES → a.now.sets + b.now.sets < 2 ^ 32 }
     ensures some { IfOk result (λ some. IsTrue some ↔ AcceptTogether (automaton_of a.now) (automaton_of b.now)) }
     ensures within { OnOk result (length (joined_names a.now.names b.now.names) ≤ MOST_NAMES) }
     ensures few { OnOk result (HasMorePairs MOST_PAIRS
@@ -42,7 +42,7 @@ pub fn counterexample(
     a: &Automaton,
     co_b: &Automaton,
 ) -> Result<Option<Lasso>, PairFault>
-    requires sets { a.now.sets + co_b.now.sets < 2 ^ 32 }
+    requires sets { length (joined_names a.now.names co_b.now.names) ≤ MOST_NAMES → a.now.sets + co_b.now.sets < 2 ^ 32 }
     ensures word { IfOk result (λ found. MatchOption found (AcceptNoneTogether (automaton_of a.now) (automaton_of co_b.now)) (IsWordOfBoth (automaton_of a.now) (automaton_of co_b.now))) }
     ensures within { OnOk result (length (joined_names a.now.names co_b.now.names) ≤ MOST_NAMES) }
     ensures few { OnOk result (HasMorePairs MOST_PAIRS

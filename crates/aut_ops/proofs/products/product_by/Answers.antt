@@ -1,4 +1,4 @@
-use Rattle.std.proofs.Common.{◌≡◌, ◌∙◌, ◌≤◌, List, ℕ, All, Contains, ap, length, subst, sym}
+use Rattle.std.proofs.Common.{◌≡◌, ◌∙◌, ◌≤◌, List, ℕ, All, Contains, ap, arith, length, subst, sym}
 use Rattle.std.proofs.lemmas.Result.{IfOk-weaker}
 use Rattle.aut_base.proofs.Outcomes.{ok_always}
 use Rattle.aut_base.specs.Automaton.{Automaton}
@@ -10,6 +10,13 @@ use Rattle.aut_ops.specs.Products.{HasMorePairs, IsProduct, over_both}
 use Rattle.aut_base.specs.declared.limit.TheConstants.{MOST_PAIRS}
 use Rattle.aut_ops.specs.inner.Joins.{join_of}
 use Rattle.aut_ops.proofs.products.product_by.Goals as goal
+
+pub product_over-requires-clause-sets : goal.product_over-requires-clause-sets
+product_over-requires-clause-sets c =
+    let within = subst (λ (ns : List (List ℕ)). length ns ≤ MOST_NAMES) (λ i. joined_names (c.names.ensures i) (c.names-2.ensures i)) c.in_ok-names.ensures.within in
+    let first = ap (λ (x : Automaton). x.sets) c.in_ok-both.ensures.first in
+    let second = ap (λ (x : Automaton). x.sets) (ap automaton_of c.second.ensures ∙ c.in_ok-both.ensures.second) in
+    omega (arith, c.requires within, first, second)
 
 pub returns-clause-shape : goal.returns-clause-shape
 returns-clause-shape c =
