@@ -8,6 +8,7 @@ mod descriptions;
 mod lassos;
 mod parts;
 mod patterns;
+mod pieces;
 mod reading;
 mod row;
 mod tokens;

@@ -62,11 +62,11 @@ pub(crate) fn opened(alloc: Global, text: &[u8], failing: Numbers) -> Result<Mem
 }
 
 /// What comes out of the calls that a script tells.
-pub(crate) fn carry_out(
+pub(crate) fn carry_out<I: Inputs>(
     alloc: Global,
     script: Script,
     mut lexer: Lexer,
-    mut inputs: MemInputs,
+    mut inputs: I,
 ) -> Result<Ran, Memory> {
     let mut answer = Text::new(alloc);
     ask_all_times(alloc, &mut answer, script, &mut lexer, &mut inputs)?;
@@ -78,12 +78,12 @@ pub(crate) fn carry_out(
 }
 
 /// Adds the answers of the calls of a script, and a line feed.
-fn ask_all_times(
+fn ask_all_times<I: Inputs>(
     alloc: Global,
     answer: &mut Text,
     script: Script,
     lexer: &mut Lexer,
-    inputs: &mut MemInputs,
+    inputs: &mut I,
 ) -> Result<(), Memory> {
     for time in 0..script.times {
         if lexer.is_spent() {
@@ -106,7 +106,7 @@ fn ask_all_times(
 }
 
 /// How many bytes are left of the open text. They are taken, past reads that fail.
-fn bytes_left(inputs: &mut MemInputs) -> u32 {
+fn bytes_left<I: Inputs>(inputs: &mut I) -> u32 {
     let mut left = 0u32;
     for _ in 0..u32::MAX {
         match inputs.next() {
@@ -119,12 +119,12 @@ fn bytes_left(inputs: &mut MemInputs) -> u32 {
 }
 
 /// Adds the answer of one call, and answers whether there may be another.
-fn ask(
+fn ask<I: Inputs>(
     alloc: Global,
     answer: &mut Text,
     call: Call,
     lexer: &mut Lexer,
-    inputs: &mut MemInputs,
+    inputs: &mut I,
 ) -> Result<bool, Memory>
     requires { lexer.old.spent ≡ false }
 {
@@ -138,12 +138,12 @@ fn ask(
 }
 
 /// Adds the next automaton, or what is answered of it.
-fn ask_automaton(
+fn ask_automaton<I: Inputs>(
     alloc: Global,
     answer: &mut Text,
     call: Call,
     lexer: &mut Lexer,
-    inputs: &mut MemInputs,
+    inputs: &mut I,
 ) -> Result<bool, Memory>
     requires { lexer.old.spent ≡ false }
 {
@@ -167,11 +167,11 @@ fn ask_automaton(
 }
 
 /// Adds the next token.
-fn ask_next(
+fn ask_next<I: Inputs>(
     alloc: Global,
     answer: &mut Text,
     lexer: &mut Lexer,
-    inputs: &mut MemInputs,
+    inputs: &mut I,
 ) -> Result<bool, Memory>
     requires { lexer.old.spent ≡ false }
 {
@@ -187,11 +187,11 @@ fn ask_next(
 }
 
 /// Adds all tokens.
-fn ask_all(
+fn ask_all<I: Inputs>(
     alloc: Global,
     answer: &mut Text,
     lexer: &mut Lexer,
-    inputs: &mut MemInputs,
+    inputs: &mut I,
 ) -> Result<bool, Memory>
     requires { lexer.old.spent ≡ false }
 {

@@ -1,5 +1,6 @@
 //! One row: what a call is made on, and what it must answer.
 
+use crate::pieces::cut;
 use crate::reading::{self, Script, opened};
 use crate::word_calls;
 use aut_base::{Numbers, Text};
@@ -46,6 +47,9 @@ enum Each {
     /// How many bytes the lexer may take.
     Most,
 }
+
+/// The last place at which a text is cut in two.
+const MOST_CUTS: usize = 2_000;
 
 /// What a call is made on and what it must answer, as far as the lines were read.
 #[derive(Drop)]
@@ -190,6 +194,18 @@ impl TextRow {
         Ok(reading::carry_out(alloc, self.script(call), lexer, inputs)?)
     }
 
+    /// What comes out of the lexer or the reader where the text comes in two pieces, each of which is at hand at once.
+    fn read_in_pieces(
+        &self,
+        alloc: Global,
+        call: reading::Call,
+        place: usize,
+    ) -> Result<Ran, Fault> {
+        let inputs = cut(alloc, self.text.as_bytes(), place)?;
+        let lexer = Lexer::new(u64::from(self.most));
+        Ok(reading::carry_out(alloc, self.script(call), lexer, inputs)?)
+    }
+
     /// How often this call is made, and where a new text begins.
     fn script(&self, call: reading::Call) -> Script {
         let times = match (self.times, call) {
@@ -214,14 +230,42 @@ impl TextRow {
     /// Adds to what is printed what came out of the run of this number, where it isn't what is wanted.
     fn add_different(&self, alloc: Global, shown: &mut String, run: u32) -> Result<(), Fault> {
         let ran = self.ran(alloc, run)?;
-        if !self.is_met(&ran) {
-            if !shown.as_str().is_empty() {
-                shown.push('\n')?;
-            }
-            let lines = self.lines.as_str();
-            let more = format!(in alloc; "# run {run}\n{lines}{ran}")?;
-            shown.push_str(more.as_str())?;
+        self.compare(alloc, shown, "run", run as usize, &ran)
+    }
+
+    /// Does the same of a run over the text in two pieces, cut at each place, where the row has one run and none of its calls fails.
+    fn add_pieces(&self, alloc: Global, shown: &mut String) -> Result<(), Fault> {
+        let (Some(Call::Reading(call)), Each::Nothing) = (self.call, self.each) else {
+            return Ok(());
+        };
+        if !self.failing.is_empty() {
+            return Ok(());
         }
+        for place in 0..=self.text.len().min(MOST_CUTS) {
+            let ran = self.read_in_pieces(alloc, call, place)?;
+            self.compare(alloc, shown, "cut at", place, &ran)?;
+        }
+        Ok(())
+    }
+
+    /// Adds to what is printed what came out, where it isn't what is wanted.
+    fn compare(
+        &self,
+        alloc: Global,
+        shown: &mut String,
+        what: &str,
+        number: usize,
+        ran: &Ran,
+    ) -> Result<(), Fault> {
+        if self.is_met(ran) {
+            return Ok(());
+        }
+        if !shown.as_str().is_empty() {
+            shown.push('\n')?;
+        }
+        let lines = self.lines.as_str();
+        let more = format!(in alloc; "# {what} {number}\n{lines}{ran}")?;
+        shown.push_str(more.as_str())?;
         Ok(())
     }
 }
@@ -264,6 +308,7 @@ impl Row for TextRow {
         for run in self.first..=self.last {
             self.add_different(rt.alloc(), &mut shown, run)?;
         }
+        self.add_pieces(rt.alloc(), &mut shown)?;
         Ok(Some(shown).filter(|shown| !shown.as_str().is_empty()))
     }
 
