@@ -1,6 +1,6 @@
 //! Words of a text.
 
-ghost use Rattle.std.specs.Prelude.{◌≡◌, ◌==◌, ◌↔◌, [], ◌∷◌, ◌++◌, length, IsTrue, OnOk, OnErr};
+ghost use Rattle.std.specs.Prelude.{◌≡◌, ◌==◌, ◌↔◌, [], ◌∷◌, ◌++◌, length, IfOk, IsTrue, OnOk, OnErr};
 ghost use Rattle.aut_base.specs.Text.{same_text};
 
 use aut_base::Memory;
@@ -32,6 +32,16 @@ impl Name {
         Name {
             bytes: SmallVec::new(alloc),
         }
+    }
+
+    /// The name of these bytes.
+    #[inline]
+    pub fn from_bytes(alloc: Global, bytes: &[u8]) -> Result<Name, Memory>
+        ensures { IfOk result (λ name. name ≡ bytes.now) }
+    {
+        let mut name = Name::new(alloc);
+        name.extend(bytes)?;
+        Ok(name)
     }
 
     /// Adds a byte at the end. Refused for want of memory, it leaves the name as it was.

@@ -39,9 +39,28 @@ impl Lexer {
         ensures taken { self.new.taken ≡ self.old.taken + count }
         ensures moves { Moves Elsewhere self.old self.new (I.seen inputs.old) (I.seen inputs.new) }
     {
+        self.pass_token(inputs, count, 1);
+    }
+
+    /// The same, where the last `size` of them are a token.
+    #[inline]
+    pub fn pass_token<I: Inputs>(&mut self, inputs: &mut I, count: usize, size: usize)
+        requires some { 0 < count }
+        requires hand { count ≤ length (I.at_hand inputs.old) }
+        requires within { self.old.taken + count ≤ self.old.most }
+        requires held { self.old.held ≡ None }
+        requires last { size ≤ count }
+        ensures passes { Tells (I.seen inputs.old) (I.seen inputs.new) (λ old new. old ≡ take count (I.at_hand inputs.old) ++ new) }
+        ensures held { self.new.held ≡ None }
+        ensures spent { self.new.spent ≡ self.old.spent }
+        ensures offset { self.new.offset + size ≡ self.new.since }
+        ensures since { self.new.since ≡ self.old.since + count }
+        ensures taken { self.new.taken ≡ self.old.taken + count }
+        ensures moves { Moves Elsewhere self.old self.new (I.seen inputs.old) (I.seen inputs.new) }
+    {
         inputs.skip(count);
         self.taken += count as u64;
         self.since += count as u64;
-        self.offset = self.since - 1;
+        self.offset = self.since - size as u64;
     }
 }

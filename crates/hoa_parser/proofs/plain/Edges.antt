@@ -1,5 +1,5 @@
 -- Edges in front of bytes.
-use Rattle.std.proofs.Common.{◌≡◌, ℕ, List, [], ◌∷◌, ◌++◌, map, Some, None, refl, sym, ap, subst, ◌∙◌}
+use Rattle.std.proofs.Common.{◌≡◌, ℕ, List, [], ◌∷◌, ◌++◌, map, Option, Some, None, refl, sym, ap, subst, ◌∙◌}
 use Rattle.std.proofs.lemmas.List.{map-append}
 use Rattle.hoa_lexer.specs.inner.Steps.{Skips}
 use Rattle.hoa_lexer.specs.declared.token.Token.TheVariants as token
@@ -7,7 +7,8 @@ use Rattle.hoa_lexer.proofs.next_token.Fronts.{skips_none}
 use Rattle.hoa_parser.specs.Grammar.{label_tokens, optional_marks}
 use Rattle.hoa_parser.specs.Raw.{RawTree, WrittenEdge}
 use Rattle.hoa_parser.specs.declared.raw.RawLabel.{RawLabel}
-use Rattle.hoa_parser.specs.inner.AtHand.{AreMarks, AreMaybeMarks, IsLabel, IsNumber, IsPlain, IsSigned, Spelled}
+use Rattle.hoa_parser.specs.inner.AtHand.{AreMarks, AreMaybeMarks, IsLabel, IsNumber, IsPlain, IsPlainHead, IsSigned, Spelled}
+use Rattle.hoa_parser.specs.inner.RuleReads.{WrittenHead}
 use Rattle.hoa_parser.proofs.plain.Passing.{spelled_behind, spelled_then}
 use Rattle.hoa_parser.proofs.plain.Signs.{same_tokens, sign_alone, sign_then}
 
@@ -37,9 +38,9 @@ edge_means : (l k : RawTree) (to to' marks marks' : List ℕ) → l ≡ k → to
     → (let e : WrittenEdge = record { label = Some l; to = to; marks = marks } in e) ≡ record { label = Some k; to = to'; marks = marks' }
 edge_means l k to to' marks marks' same_label same_to same_marks = cc
 
-pub plain : (l : RawLabel) (to marks : List ℕ) (n b : ℕ) (x x' y z u w next : List ℕ) → Skips x x' → IsLabel l x' y → IsSigned 93 y z → IsNumber n z u → AreMaybeMarks marks u w → to ≡ n ∷ []
-    → w ≡ b ∷ next → b ≡ 91 → IsPlain (record { label = Some l; to = to; marks = marks }) x (91 ∷ next)
-plain l to marks n b x x' y z u w next blanks labelled sign goes marked is behind opens = subst (IsPlain (record { label = Some l; to = to; marks = marks }) x) (behind ∙ ap (λ c. c ∷ next) opens) (record {
+pub plain : (l : RawLabel) (to marks : List ℕ) (n : ℕ) (x x' y z u w next : List ℕ) → Skips x x' → IsLabel l x' y → IsSigned 93 y z → IsNumber n z u → AreMaybeMarks marks u w → to ≡ n ∷ []
+    → w ≡ next → IsPlain (record { label = Some l; to = to; marks = marks }) x next
+plain l to marks n x x' y z u w next blanks labelled sign goes marked is behind = subst (IsPlain (record { label = Some l; to = to; marks = marks }) x) behind (record {
   label = labelled.phrase;
   goal = n;
   marks = marked.phrase;
@@ -49,4 +50,15 @@ plain l to marks n b x x' y z u w next blanks labelled sign goes marked is behin
       (spelled_then (label_tokens labelled.phrase) (token.RightBracket ∷ []) x' y z labelled.spelled (sign_alone token.RightBracket 93 y z refl sign)))
       (spelled_then (token.Int n ∷ []) (optional_marks marked.phrase) z u w goes marked.spelled);
   means = edge_means _ _ _ _ _ _ labelled.means is marked.means;
+})
+
+head_means : (l : Option RawTree) (n : ℕ) (marks marks' : List ℕ) → marks ≡ marks'
+    → (let e : WrittenHead = record { label = l; number = n; marks = marks } in e) ≡ record { label = l; number = n; marks = marks' }
+head_means l n marks marks' same = cc
+
+pub plain_state : (n : ℕ) (marks : List ℕ) (x y z next : List ℕ) → IsNumber n x y → AreMaybeMarks marks y z → z ≡ next → IsPlainHead (record { label = None; number = n; marks = marks }) x next
+plain_state n marks x y z next numbered marked behind = subst (IsPlainHead (record { label = None; number = n; marks = marks }) x) behind (record {
+  marks = marked.phrase;
+  spelled = spelled_then (token.Int n ∷ []) (optional_marks marked.phrase) x y z numbered marked.spelled;
+  means = head_means _ n _ _ marked.means;
 })

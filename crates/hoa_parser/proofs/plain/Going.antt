@@ -1,13 +1,17 @@
--- An edge that was passed leads on to the next one.
+-- An edge that was passed leads on to what begins behind it, and so does a state up to its edges.
 use Rattle.std.proofs.Common.{◌≡◌, ℕ, List, [], ◌∷◌, ◌++◌, map, Option, Some, None, refl, sym, subst, ◌∙◌, arith}
 use Rattle.hoa_lexer.specs.declared.token.Token.{Token}
 use Rattle.hoa_lexer.specs.declared.token.Token.TheVariants as token
 use Rattle.hoa_parser.specs.Grammar.{Label, Lands, Lnot, Lnots, LabelWithin, label, no_land, or_land, no_lnot, and_lnot, true_label, false_label, proposition, alias, negated, group}
 use Rattle.hoa_parser.specs.Grammar.{label_tokens, lands_tokens, lnots_tokens, lnot_tokens, optional_label, optional_marks}
-use Rattle.hoa_parser.specs.inner.Expecting.{Part, Number, MoreNumbers, ClosingBracket, MaybeMarks, Marks, Edges, after, behind, conj_parts, label_parts}
+use Rattle.hoa_parser.specs.declared.parse.plain.Next.{Next}
+use Rattle.hoa_parser.specs.declared.parse.plain.Next.TheVariants as next
+use Rattle.hoa_parser.specs.inner.AtHand.{next_token}
+use Rattle.hoa_parser.specs.inner.Expecting.{Part, Number, MoreNumbers, ClosingBracket, MaybeLabel, MaybeMarks, MaybeQuoted, Marks, Edges, States, after, behind, conj_parts, label_parts}
 use Rattle.hoa_parser.specs.inner.Parsing.{Cursor, Goes, Passed, Unended}
 use Rattle.hoa_parser.specs.Standing.{most_depth}
 use Rattle.hoa_parser.proofs.grammar.AfterLabels.{taken, left, regrouped, label_follows}
+use Rattle.hoa_parser.proofs.reading.Bodies.{state_name, state_rest}
 use Rattle.hoa_parser.proofs.reading.FrontParts.{unended_then}
 
 -- no token of an edge is `--END--`
@@ -62,7 +66,8 @@ goal_goes (Some marks) others =
 abbrev pub plain_tokens : Label → ℕ → Option (List ℕ) → List Token
 plain_tokens l n marks = optional_label (Some l) ++ (token.Int n ∷ optional_marks marks)
 
-leads_edge : (l : Label) (n : ℕ) (marks : Option (List ℕ)) (others : List Part) → LabelWithin most_depth 0 l → after most_depth (Edges ∷ others) (plain_tokens l n marks) ≡ Some (behind_marks marks ++ others)
+leads_edge : (l : Label) (n : ℕ) (marks : Option (List ℕ)) (others : List Part) → LabelWithin most_depth 0 l
+    → after most_depth (Edges ∷ others) (plain_tokens l n marks) ≡ Some (behind_marks marks ++ others)
 leads_edge l n marks others w =
     let c : List Token = token.Int n ∷ optional_marks marks in
     let parts : List Part = conj_parts ++ MaybeMarks ∷ Edges ∷ others in
@@ -73,19 +78,61 @@ leads_edge l n marks others w =
     ∙ taken most_depth Number [] (MoreNumbers ∷ MaybeMarks ∷ Edges ∷ others) (token.Int n) (optional_marks marks) refl (omega arith)
     ∙ goal_goes marks others
 
-over_marks : (marks : Option (List ℕ)) (z : Token) (most : ℕ) (others : List Part) → z ≡ token.LeftBracket → behind most (behind_marks marks ++ others) z ≡ behind most (Edges ∷ others) z
-over_marks None z most others e = subst (λ (t : Token). behind most (behind_marks None ++ others) t ≡ behind most (Edges ∷ others) t) (sym e) refl
-over_marks (Some marks) z most others e = refl
+over_marks : (n : Next) (marks : Option (List ℕ)) (z : Token) (most : ℕ) (others : List Part) → z ≡ next_token n → behind most (behind_marks marks ++ others) z ≡ behind most (Edges ∷ others) z
+over_marks next.Edge None z most others e = subst (λ (t : Token). behind most (behind_marks None ++ others) t ≡ behind most (Edges ∷ others) t) (sym e) refl
+over_marks next.State None z most others e = subst (λ (t : Token). behind most (behind_marks None ++ others) t ≡ behind most (Edges ∷ others) t) (sym e) refl
+over_marks n (Some marks) z most others e = refl
 
--- An edge with a label was passed, and the next one is at hand.
-pub edge_goes : (l : Label) (n : ℕ) (marks : Option (List ℕ)) (a b : Cursor) → LabelWithin most_depth 0 l → Passed a (plain_tokens l n marks) b → b.token ≡ token.LeftBracket
+-- An edge with a label was passed, and what begins behind it is at hand.
+pub edge_goes : (k : Next) (l : Label) (n : ℕ) (marks : Option (List ℕ)) (a b : Cursor) → LabelWithin most_depth 0 l → Passed a (plain_tokens l n marks) b → b.token ≡ next_token k
     → Goes (Edges ∷ []) a (Edges ∷ []) b
-edge_goes l n marks a b w passed next = record {
+edge_goes k l n marks a b w passed at = record {
   tokens = plain_tokens l n marks;
   passed = passed;
   left = behind_marks marks;
   leads = record { runs = λ others. leads_edge l n marks others w };
   unended = unended_then (optional_label (Some l)) (token.Int n ∷ optional_marks marks)
       (refl, unended_then (label_tokens l) (token.RightBracket ∷ []) (label_unended l) (refl, tt)) (refl, marks_unended marks);
-  over = λ most others. over_marks marks b.token most others next;
+  over = λ most others. over_marks k marks b.token most others at;
+}
+
+-- what is expected behind the number and the marks of a state
+abbrev behind_head : Option (List ℕ) → List Part
+behind_head None = MaybeQuoted ∷ MaybeMarks ∷ Edges ∷ States ∷ []
+behind_head (Some marks) = Edges ∷ States ∷ []
+
+number_goes : (marks : Option (List ℕ)) (others : List Part) → after most_depth (MaybeQuoted ∷ MaybeMarks ∷ Edges ∷ States ∷ others) (optional_marks marks) ≡ Some (behind_head marks ++ others)
+number_goes None others = refl
+number_goes (Some marks) others =
+    left most_depth MaybeQuoted (MaybeMarks ∷ Edges ∷ States ∷ others) (optional_marks (Some marks)) refl
+    ∙ taken most_depth MaybeMarks (Marks ∷ []) (Edges ∷ States ∷ others) token.LeftBrace (map token.Int marks ++ token.RightBrace ∷ []) refl (omega arith)
+    ∙ marks_go marks (Edges ∷ States ∷ others)
+
+-- the tokens of a state without a label, up to its edges
+abbrev pub plain_head_tokens : ℕ → Option (List ℕ) → List Token
+plain_head_tokens n marks = state_name ∷ token.Int n ∷ optional_marks marks
+
+leads_head : (n : ℕ) (marks : Option (List ℕ)) (others : List Part) → after most_depth (States ∷ others) (plain_head_tokens n marks) ≡ Some (behind_head marks ++ others)
+leads_head n marks others =
+    let c : List Token = token.Int n ∷ optional_marks marks in
+    let parts : List Part = Number ∷ MaybeQuoted ∷ MaybeMarks ∷ Edges ∷ States ∷ others in
+    taken most_depth States state_rest others state_name c refl (omega arith)
+    ∙ left most_depth MaybeLabel parts c refl
+    ∙ taken most_depth Number [] (MaybeQuoted ∷ MaybeMarks ∷ Edges ∷ States ∷ others) (token.Int n) (optional_marks marks) refl (omega arith)
+    ∙ number_goes marks others
+
+over_head : (n : Next) (marks : Option (List ℕ)) (z : Token) (most : ℕ) (others : List Part) → z ≡ next_token n → behind most (behind_head marks ++ others) z ≡ behind most (Edges ∷ States ∷ others) z
+over_head next.Edge None z most others e = subst (λ (t : Token). behind most (behind_head None ++ others) t ≡ behind most (Edges ∷ States ∷ others) t) (sym e) refl
+over_head next.State None z most others e = subst (λ (t : Token). behind most (behind_head None ++ others) t ≡ behind most (Edges ∷ States ∷ others) t) (sym e) refl
+over_head n (Some marks) z most others e = refl
+
+-- A state was passed up to its edges, and what begins behind it is at hand.
+pub head_goes : (k : Next) (n : ℕ) (marks : Option (List ℕ)) (a b : Cursor) → Passed a (plain_head_tokens n marks) b → b.token ≡ next_token k → Goes (States ∷ []) a (Edges ∷ States ∷ []) b
+head_goes k n marks a b passed at = record {
+  tokens = plain_head_tokens n marks;
+  passed = passed;
+  left = behind_head marks;
+  leads = record { runs = λ others. leads_head n marks others };
+  unended = (refl, (refl, marks_unended marks));
+  over = λ most others. over_head k marks b.token most others at;
 }

@@ -53,7 +53,10 @@ label_goes l a b w passed closes = record {
   tokens = token.LeftBracket ∷ label_tokens l;
   passed = passed;
   left = Factors 0 ∷ Products 0 ∷ ClosingBracket ∷ [];
-  leads = record { runs = λ others. taken most_depth MaybeLabel (label_parts 0 ++ ClosingBracket ∷ []) others token.LeftBracket (label_tokens l) refl (omega arith) ∙ label_left l (ClosingBracket ∷ others) w };
+  leads = record {
+    runs = λ others. taken most_depth MaybeLabel (label_parts 0 ++ ClosingBracket ∷ []) others token.LeftBracket (label_tokens l) refl (omega arith)
+        ∙ label_left l (ClosingBracket ∷ others) w;
+  };
   unended = (refl, label_unended l);
   over = λ most others. subst (λ (t : Token). behind most (Factors 0 ∷ Products 0 ∷ ClosingBracket ∷ others) t ≡ behind most (ClosingBracket ∷ others) t) (sym closes) refl;
 }
@@ -70,10 +73,12 @@ opened_goes l bytes next a b p first second none taken o u =
     let to_cursor : Passed a (a.token ∷ ts) (cursor token.RightBracket b.offset b.used None y) =
     passed_spelled ts a token.RightBracket b.offset b.used None (93 ∷ y) y spelled (mark_front token.RightBracket 93 y refl) o u refl in
     let passed : Passed a (token.LeftBracket ∷ ts) b =
-    subst (λ (c : Cursor). Passed a (token.LeftBracket ∷ ts) c) (cursor_at token.RightBracket b second none) (subst (λ (t : Token). Passed a (t ∷ ts) (cursor token.RightBracket b.offset b.used None y)) first to_cursor) in
+    subst (λ (c : Cursor). Passed a (token.LeftBracket ∷ ts) c) (cursor_at token.RightBracket b second none)
+    (subst (λ (t : Token). Passed a (t ∷ ts) (cursor token.RightBracket b.offset b.used None y)) first to_cursor) in
     ((passed.0, (passed.0, passed.1, passed.2, refl), record { phrase = p.phrase; within = p.within; passed = passed.3; means = p.means }), label_goes p.phrase a b p.within passed second)
 
-pub opened_reads : (l : RawLabel) (bytes next hand : List ℕ) (count : ℕ) (z z' : Token) (x x' : Lexer) (seen seen' : Seen) → IsLabel l bytes (93 ∷ next) → z ≡ token.LeftBracket → z' ≡ token.RightBracket → x.held ≡ None
+pub opened_reads : (l : RawLabel) (bytes next hand : List ℕ) (count : ℕ) (z z' : Token) (x x' : Lexer) (seen seen' : Seen) → IsLabel l bytes (93 ∷ next) → z ≡ token.LeftBracket
+    → z' ≡ token.RightBracket → x.held ≡ None
     → x'.held ≡ None → bytes ≡ take (length bytes) hand → count ≡ length bytes - length next → Tells seen seen' (λ u v. u ≡ take count hand ++ v) → x'.offset + 1 ≡ x'.since
     → Moves Elsewhere x x' seen seen' → x'.spent ≡ false → ReadsTo (MaybeLabel ∷ []) (ClosingBracket ∷ []) (IsOpened l) (state x z seen) (state x' z' seen')
 opened_reads l bytes next hand count z z' x x' seen seen' p opens closes none none' front is passes last moves unspent = record {

@@ -1,6 +1,7 @@
 -- What was read of the states of a body and their edges.
 use Rattle.std.proofs.Common.{◌≡◌, ◌≢◌, ℕ, List, [], ◌∷◌, ◌++◌, Option, Some, refl, ap, subst, ◌∙◌}
-use Rattle.std.specs.Prelude.{codes, flat_map}
+use Rattle.std.proofs.lemmas.List.{append_assoc}
+use Rattle.std.specs.Prelude.{codes, flat_map, map}
 use Rattle.hoa_lexer.specs.declared.token.Token.{Token}
 use Rattle.hoa_lexer.specs.declared.token.Token.TheVariants as token
 use Rattle.hoa_parser.proofs.grammar.HeaderNames.{IsNamed, named}
@@ -9,11 +10,12 @@ use Rattle.hoa_parser.proofs.reading.Steps.{Read}
 use Rattle.hoa_parser.specs.inner.Expecting as part
 use Rattle.hoa_parser.specs.inner.Expecting.{Part, behind, if_header, move}
 use Rattle.hoa_parser.specs.Grammar.{conj_tokens, edge_tokens, header_of, label_tokens, optional_label, optional_marks, optional_text}
-use Rattle.hoa_parser.specs.inner.Parsing.{Cursor}
-use Rattle.hoa_parser.specs.inner.RuleReads.{AreEdges, AreMarks, IsConj, IsEdge, IsLabel, IsMaybeLabel, IsNumber, IsOptionalText, IsState}
-use Rattle.hoa_parser.specs.Raw.{RawTree, WrittenEdge, WrittenState}
+use Rattle.hoa_parser.specs.inner.Parsing.{Cursor, Passed}
+use Rattle.hoa_parser.specs.inner.RuleReads.{AreEdges, AreMarks, HeadPhrase, IsConj, IsEdge, IsHead, IsLabel, IsMaybeLabel, IsNumber, IsOptionalText, IsState, WrittenHead, head_meaning, head_tokens}
+use Rattle.hoa_parser.specs.Raw.{RawTree, WrittenEdge, WrittenState, written_edge}
 use Rattle.hoa_parser.specs.declared.header.Header.{Header}
 use Rattle.hoa_parser.specs.declared.header.Header.TheVariants as header
+use Rattle.hoa_parser.specs.declared.parse.body.StateHead.{StateHead}
 use Rattle.hoa_parser.specs.declared.raw.RawEdge.{RawEdge}
 use Rattle.hoa_parser.specs.declared.raw.RawLabel.{RawLabel}
 
@@ -57,20 +59,42 @@ state_rest = part.MaybeLabel ∷ part.Number ∷ part.MaybeQuoted ∷ part.Maybe
 pub is_state_name : (z : Token) (name : List ℕ) → z ≡ token.HeaderName name → header_of name ≡ header.State → z ≡ state_name
 is_state_name z name is kind = is ∙ ap token.HeaderName (subst (IsNamed name) kind (named name))
 
-state_means : (l k : Option RawTree) (n : ℕ) (marks marks' : List ℕ) (edges edges' : List WrittenEdge) → l ≡ k → marks ≡ marks' → edges ≡ edges'
-    → (let e : WrittenState = record { label = l; number = n; marks = marks; edges = edges } in e) ≡ record { label = k; number = n; marks = marks'; edges = edges' }
-state_means l k n marks marks' edges edges' same_label same_marks same_edges = cc
+head_means : (l k : Option RawTree) (n : ℕ) (marks marks' : List ℕ) → l ≡ k → marks ≡ marks'
+    → (let e : WrittenHead = record { label = l; number = n; marks = marks } in e) ≡ record { label = k; number = n; marks = marks' }
+head_means l k n marks marks' same_label same_marks = cc
 
-pub state_is : (l : Option RawLabel) (n : ℕ) (marks : List ℕ) (edges : List RawEdge) (a b c d e f g : Cursor) → Read state_name a b → IsMaybeLabel l b c → IsNumber n c d
-    → IsOptionalText tt d e → AreMarks marks e f → AreEdges edges f g
-    → IsState (record { label = l; number = n; marks = marks; edges = edges }) a g
-state_is l n marks edges a b c d e f g opens labelled numbered texts marked goes = record {
-  phrase = record { label = labelled.phrase; number = n; name = texts.0; marks = marked.phrase; edges = goes.phrase };
-  within = (labelled.within, goes.within);
-  passed = passed_then a b g (state_name ∷ []) _ opens (passed_then b c g (optional_label labelled.phrase) _ labelled.passed (passed_then c d g (token.Int n ∷ []) _ numbered
-      (passed_then d e g (optional_text texts.0) _ texts.1 (passed_then e f g (optional_marks marked.phrase) (flat_map edge_tokens goes.phrase) marked.passed goes.passed))));
-  means = state_means _ _ n _ _ _ _ labelled.means marked.means goes.means;
+-- a state up to its edges
+pub head_is : (l : Option RawLabel) (n : ℕ) (marks : List ℕ) (a b c d e f : Cursor) → Read state_name a b → IsMaybeLabel l b c → IsNumber n c d → IsOptionalText tt d e → AreMarks marks e f
+    → IsHead (record { label = l; number = n; marks = marks }) a f
+head_is l n marks a b c d e f opens labelled numbered texts marked = record {
+  phrase = record { label = labelled.phrase; number = n; name = texts.0; marks = marked.phrase };
+  within = labelled.within;
+  passed = passed_then a b f (state_name ∷ []) _ opens (passed_then b c f (optional_label labelled.phrase) _ labelled.passed (passed_then c d f (token.Int n ∷ []) _ numbered
+      (passed_then d e f (optional_text texts.0) (optional_marks marked.phrase) texts.1 marked.passed)));
+  means = head_means _ _ n _ _ labelled.means marked.means;
 }
+
+-- and with them
+abbrev with_edges : WrittenHead → List WrittenEdge → WrittenState
+with_edges h edges = record { label = h.label; number = h.number; marks = h.marks; edges = edges }
+
+state_grouped : (h : HeadPhrase) (edges : List Token)
+    → head_tokens h ++ edges ≡ state_name ∷ (optional_label h.label ++ (token.Int h.number ∷ (optional_text h.name ++ (optional_marks h.marks ++ edges))))
+state_grouped h edges = ap (λ ts. state_name ∷ ts)
+    (append_assoc (optional_label h.label) (token.Int h.number ∷ (optional_text h.name ++ optional_marks h.marks)) edges
+    ∙ ap (λ ts. optional_label h.label ++ (token.Int h.number ∷ ts)) (append_assoc (optional_text h.name) (optional_marks h.marks) edges))
+
+pub state_is : (head : StateHead) (edges : List RawEdge) (a b c : Cursor) → IsHead head a b → AreEdges edges b c
+    → IsState (record { label = head.label; number = head.number; marks = head.marks; edges = edges }) a c
+state_is head edges a b c begins goes =
+    let h : HeadPhrase = begins.phrase in
+    let ts : List Token = flat_map edge_tokens goes.phrase in
+    record {
+      phrase = record { label = h.label; number = h.number; name = h.name; marks = h.marks; edges = goes.phrase };
+      within = (begins.within, goes.within);
+      passed = subst (λ (us : List Token). Passed a us c) (state_grouped h ts) (passed_then a b c (head_tokens h) ts begins.passed goes.passed);
+      means = ap (λ w. with_edges w (map written_edge edges)) begins.means ∙ ap (with_edges (head_meaning h)) goes.means;
+    }
 
 no_state : (kind : Header) (parts : List Part) → kind ≢ header.State → if_header header.State kind parts ≡ part.Refuses
 no_state header.State parts other = absurd (other refl)

@@ -1,11 +1,15 @@
 -- What stands in front of bytes, token by token, with blanks before each and behind the last.
-use Rattle.std.specs.Prelude.{◌≡◌, ℕ, suc, ◌≤◌, List, [], ◌∷◌, ◌++◌, map, Option, Some}
+use Rattle.std.specs.Prelude.{◌≡◌, ℕ, suc, ◌≤◌, List, [], ◌∷◌, ◌++◌, codes, map, Option, Some, None}
 use Rattle.hoa_lexer.specs.Text.{IsFront}
 use Rattle.hoa_lexer.specs.inner.Steps.{Skips}
 use Rattle.hoa_lexer.specs.declared.token.Token.{Token}
 use Rattle.hoa_lexer.specs.declared.token.Token.TheVariants as token
-use Rattle.hoa_parser.specs.Grammar.{Label, Lnot, LabelWithin, LnotWithin, conjunction, disjunction, edge_meaning, label, label_meaning, label_tokens, lands_meaning, lnot_meaning, lnot_tokens, lnots_meaning, marks_meaning, optional_marks}
-use Rattle.hoa_parser.specs.inner.RuleReads.{LandPhrase, LandWithin, land_meaning, land_tokens}
+use Rattle.hoa_parser.specs.Grammar.{Label, Lnot, LabelWithin, LnotWithin, conjunction, disjunction, edge_meaning, label, label_meaning, label_tokens}
+use Rattle.hoa_parser.specs.Grammar.{lands_meaning, lnot_meaning, lnot_tokens, lnots_meaning, marks_meaning, optional_marks}
+use Rattle.hoa_parser.specs.declared.parse.body.StateHead.{StateHead}
+use Rattle.hoa_parser.specs.declared.parse.plain.Next.{Next}
+use Rattle.hoa_parser.specs.declared.parse.plain.Next.TheVariants as next
+use Rattle.hoa_parser.specs.inner.RuleReads.{LandPhrase, LandWithin, head_meaning, land_meaning, land_tokens, written_head}
 use Rattle.hoa_parser.specs.Raw.{RawTree, raw_tree, written_edge}
 use Rattle.hoa_parser.specs.Standing.{most_depth}
 use Rattle.hoa_parser.specs.declared.raw.RawEdge.{RawEdge}
@@ -84,6 +88,15 @@ AreMarks marks x y = Spelled x (map token.Int marks ++ token.RightBrace ∷ []) 
 abbrev pub AreMaybeMarks : List ℕ → List ℕ → List ℕ → Type 0
 AreMaybeMarks = IsSpelled (λ (marks : Option (List ℕ)). Unit {0}) optional_marks marks_meaning
 
+-- how an edge with a label begins, and a state
+abbrev pub next_word : Next → List ℕ
+next_word next.Edge = codes "["
+next_word next.State = codes "State:"
+
+abbrev pub next_token : Next → Token
+next_token next.Edge = token.LeftBracket
+next_token next.State = token.HeaderName (codes "State")
+
 -- An edge behind its `[`: label "]" INT sig?
 pub record IsPlain (edge : RawEdge) (x y : List ℕ) : Type 0 where
   pub label : Label
@@ -92,3 +105,9 @@ pub record IsPlain (edge : RawEdge) (x y : List ℕ) : Type 0 where
   pub within : LabelWithin most_depth 0 label
   pub spelled : Spelled x ((label_tokens label ++ token.RightBracket ∷ []) ++ (token.Int goal ∷ optional_marks marks)) y
   pub means : written_edge edge ≡ edge_meaning (record { label = Some label; to = record { first = goal; others = [] }; marks = marks })
+
+-- A state without its edges, behind its `State:`: INT sig?
+pub record IsPlainHead (head : StateHead) (x y : List ℕ) : Type 0 where
+  pub marks : Option (List ℕ)
+  pub spelled : Spelled x (token.Int head.number ∷ optional_marks marks) y
+  pub means : written_head head ≡ head_meaning (record { label = None; number = head.number; name = None; marks = marks })

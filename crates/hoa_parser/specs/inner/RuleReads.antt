@@ -7,7 +7,7 @@ use Rattle.aut_base.specs.declared.formula.Formula.{Formula}
 use Rattle.hoa_lexer.specs.declared.token.Token.{Token}
 use Rattle.hoa_lexer.specs.declared.token.Token.TheVariants as token
 use Rattle.hoa_parser.specs.Grammar.{AccValue, AutomatonPhrase, AutomatonWithin, ConditionWithin, Conj, FandsWithin, Fatom, FatomWithin, Fatoms}
-use Rattle.hoa_parser.specs.Grammar.{FatomsWithin, ItemPhrase, ItemWithin, LabelWithin, LandsWithin, Lnot, LnotWithin, Lnots, LnotsWithin}
+use Rattle.hoa_parser.specs.Grammar.{FatomsWithin, ItemPhrase, ItemWithin, Label, LabelWithin, LandsWithin, Lnot, LnotWithin, Lnots, LnotsWithin}
 use Rattle.hoa_parser.specs.Grammar.{OptionalWithin, StateWithin, Value, acc_value_token, all_of, and_number, automaton_meaning, bang_tokens}
 use Rattle.hoa_parser.specs.Grammar.{header_of, condition_meaning, condition_tokens, conj_meaning, conj_tokens, conjunction, disjunction}
 use Rattle.hoa_parser.specs.Grammar.{edge_meaning, edge_tokens, fands_meaning, fands_tokens, fatom_meaning, fatom_tokens, fatoms_meaning}
@@ -22,6 +22,7 @@ use Rattle.hoa_parser.specs.Raw.{RawTree, WrittenEdge, WrittenItem, WrittenState
 use Rattle.hoa_parser.specs.Standing.{most_depth}
 use Rattle.hoa_parser.specs.declared.header.Header.{Header}
 use Rattle.aut_base.specs.Text.{same_text}
+use Rattle.hoa_parser.specs.declared.parse.body.StateHead.{StateHead}
 use Rattle.hoa_parser.specs.declared.parse.condition.SetAt.{SetAt}
 use Rattle.hoa_parser.specs.declared.parse.condition.Sign.{Sign}
 use Rattle.hoa_parser.specs.declared.parse.condition.Sign.TheVariants as sign
@@ -237,6 +238,30 @@ IsEdge edge = IsWritten (λ e. OptionalWithin most_depth e.label) edge_tokens ed
 
 abbrev pub AreEdges : List RawEdge → Cursor → Cursor → Type 0
 AreEdges edges = IsWritten (AllByRecursion (λ e. OptionalWithin most_depth e.label)) (flat_map edge_tokens) (map edge_meaning) (map written_edge edges)
+
+-- a state without its edges
+pub record HeadPhrase : Type 0 where
+  pub label : Option Label
+  pub number : ℕ
+  pub name : Option (List ℕ)
+  pub marks : Option (List ℕ)
+
+abbrev pub head_tokens : HeadPhrase → List Token
+head_tokens h = token.HeaderName (codes "State") ∷ (optional_label h.label ++ (token.Int h.number ∷ (optional_text h.name ++ optional_marks h.marks)))
+
+pub record WrittenHead : Type 0 where
+  pub label : Option RawTree
+  pub number : ℕ
+  pub marks : List ℕ
+
+abbrev pub head_meaning : HeadPhrase → WrittenHead
+head_meaning h = record { label = option_map label_meaning h.label; number = h.number; marks = marks_meaning h.marks }
+
+abbrev pub written_head : StateHead → WrittenHead
+written_head h = record { label = option_map raw_tree h.label; number = h.number; marks = h.marks }
+
+abbrev pub IsHead : StateHead → Cursor → Cursor → Type 0
+IsHead head = IsWritten (λ h. OptionalWithin most_depth h.label) head_tokens head_meaning (written_head head)
 
 abbrev pub IsState : RawState → Cursor → Cursor → Type 0
 IsState state = IsWritten (StateWithin most_depth) state_tokens state_meaning (written_state state)

@@ -1,22 +1,31 @@
 //! The states of a body and their edges.
 
-ghost use Rattle.std.specs.Prelude.{◌≡◌, ◌≢◌, ◌∷◌, ◌++◌, [], false, MatchOption, OnOk};
+ghost use Rattle.std.specs.Prelude.{◌≡◌, ◌≢◌, ◌∷◌, ◌++◌, [], codes, false, MatchOption, OnOk};
 ghost use Rattle.hoa_lexer.specs.declared.token.Token.{Token};
+ghost use Rattle.hoa_parser.specs.inner.AtHand.{next_token};
 ghost use Rattle.hoa_parser.specs.inner.Expecting as part;
 ghost use Rattle.hoa_parser.specs.inner.Expecting.{move};
 ghost use Rattle.hoa_parser.specs.inner.Parsing.{Reads, ReadsTo, Uses, state};
-ghost use Rattle.hoa_parser.specs.inner.RuleReads.{AreEdges, AreStates, IsEdge, IsMaybeLabel, IsOpened, IsState};
+ghost use Rattle.hoa_parser.specs.inner.RuleReads.{AreEdges, AreStates, IsEdge, IsHead, IsMaybeLabel, IsOpened, IsState};
 
 use super::label::label;
 use super::lists::{conj, maybe_marks};
-use super::plain::{plain_edge, plain_label};
+use super::plain::{Next, plain_edge, plain_head, plain_label, size_of};
 use super::tokens::{advance, closing_bracket, maybe_quoted, number, refused};
 use crate::header::{Header, header_named};
 use crate::{RawEdge, RawEdges, RawLabel, RawState, RawStates, ReadFault};
-use aut_base::Memory;
+use aut_base::{FewNumbers, Memory};
 use aut_io::Inputs;
-use hoa_lexer::{Lexer, Token};
+use hoa_lexer::{Lexer, Name, Token};
 use std::alloc::Global;
+
+/// A state without its edges.
+#[derive(Drop)]
+pub(super) struct StateHead {
+    pub label: Option<RawLabel>,
+    pub number: u32,
+    pub marks: FewNumbers,
+}
 
 /// state*, up to `--END--`
 pub(super) fn states<I: Inputs>(
@@ -63,17 +72,94 @@ fn state_at<I: Inputs>(
         Header::State => {}
         _ => return Err(refused(lexer)),
     }
+    let head = head(alloc, lexer, inputs, ahead)?;
+    let edges = edges(alloc, lexer, inputs, ahead)?;
+    Ok(RawState {
+        label: head.label,
+        number: head.number,
+        marks: head.marks,
+        edges,
+    })
+}
+
+/// "State:" ("[" label "]")? INT STRING? sig?
+#[inline]
+fn head<I: Inputs>(
+    alloc: Global,
+    lexer: &mut Lexer,
+    inputs: &mut I,
+    ahead: &mut Token,
+) -> Result<StateHead, ReadFault>
+    requires unspent { lexer.old.spent ≡ false }
+    requires begins { ahead.old ≡ Token.HeaderName (codes "State") }
+    ensures reads { Reads (part.States ∷ []) (part.Edges ∷ part.States ∷ []) IsHead result
+        (state lexer.old ahead.old (I.seen inputs.old)) (state lexer.new ahead.new (I.seen inputs.new)) }
+    ensures uses { OnOk result (Uses lexer.old lexer.new) }
+{
+    match head_at_hand(alloc, lexer, inputs, ahead) {
+        Some(head) => Ok(head),
+        None => head_of_tokens(alloc, lexer, inputs, ahead),
+    }
+}
+
+/// The same where its bytes are at hand, with those up to what begins behind it, whose token is at hand then. Where there is none
+/// such, nothing is read.
+fn head_at_hand<I: Inputs>(
+    alloc: Global,
+    lexer: &mut Lexer,
+    inputs: &mut I,
+    ahead: &mut Token,
+) -> Option<StateHead>
+    requires unspent { lexer.old.spent ≡ false }
+    requires begins { ahead.old ≡ Token.HeaderName (codes "State") }
+    ensures reads { MatchOption result (Unit {0}) (λ head. ReadsTo (part.States ∷ []) (part.Edges ∷ part.States ∷ []) (IsHead head)
+        (state lexer.old ahead.old (I.seen inputs.old)) (state lexer.new ahead.new (I.seen inputs.new))) }
+    ensures uses { MatchOption result (Unit {0}) (λ head. Uses lexer.old lexer.new) }
+    ensures none { MatchOption result ((lexer.new ≡ lexer.old) × (inputs.new ≡ inputs.old) × (ahead.new ≡ ahead.old)) (λ head. Unit {0}) }
+{
+    let bytes = lexer.ahead(inputs);
+    let (head, next, left) = plain_head(alloc, bytes)?;
+    let count = bytes.len() - left.len();
+    put(alloc, ahead, next)?;
+    lexer.pass_token(inputs, count, size_of(next));
+    Some(head)
+}
+
+/// Puts the token with which that begins in the place of this one, or leaves this one where memory is wanting.
+#[inline(always)]
+fn put(alloc: Global, token: &mut Token, next: Next) -> Option<()>
+    ensures { MatchOption result (token.new ≡ token.old) (λ done. token.new ≡ next_token next) }
+{
+    match (next, &*token) {
+        (Next::Edge, Token::LeftBracket) => {}
+        (Next::Edge, _) => *token = Token::LeftBracket,
+        (Next::State, _) => *token = Token::HeaderName(Name::from_bytes(alloc, b"State").ok()?),
+    }
+    Some(())
+}
+
+/// The same as `head`, token by token.
+fn head_of_tokens<I: Inputs>(
+    alloc: Global,
+    lexer: &mut Lexer,
+    inputs: &mut I,
+    ahead: &mut Token,
+) -> Result<StateHead, ReadFault>
+    requires unspent { lexer.old.spent ≡ false }
+    requires begins { ahead.old ≡ Token.HeaderName (codes "State") }
+    ensures reads { Reads (part.States ∷ []) (part.Edges ∷ part.States ∷ []) IsHead result
+        (state lexer.old ahead.old (I.seen inputs.old)) (state lexer.new ahead.new (I.seen inputs.new)) }
+    ensures uses { OnOk result (Uses lexer.old lexer.new) }
+{
     advance(alloc, lexer, inputs, ahead)?;
     let label = maybe_label(alloc, lexer, inputs, ahead)?;
     let number = number(alloc, lexer, inputs, ahead)?;
     maybe_quoted(alloc, lexer, inputs, ahead)?;
     let marks = maybe_marks(alloc, lexer, inputs, ahead)?;
-    let edges = edges(alloc, lexer, inputs, ahead)?;
-    Ok(RawState {
+    Ok(StateHead {
         label,
         number,
         marks,
-        edges,
     })
 }
 
@@ -186,29 +272,30 @@ fn push_edge(alloc: Global, edges: &mut RawEdges, edge: RawEdge) -> Result<(), M
     edges.push(edge)
 }
 
-// Why so: 'Plain edges are read from the bytes at hand' in docs/DECISIONS.md.
-/// An edge whose bytes are at hand, with those up to the `[` of the next one, which is at hand then. Where there is none such,
+// Why so: 'Plain edges and states are read from the bytes at hand' in docs/DECISIONS.md.
+/// An edge whose bytes are at hand, with those up to what begins behind it, whose token is at hand then. Where there is none such,
 /// nothing is read.
 fn edge_at_hand<I: Inputs>(
     alloc: Global,
     lexer: &mut Lexer,
     inputs: &mut I,
-    ahead: &Token,
+    ahead: &mut Token,
 ) -> Option<RawEdge>
     requires unspent { lexer.old.spent ≡ false }
     ensures reads { MatchOption result (Unit {0}) (λ edge. ReadsTo (part.Edges ∷ []) (part.Edges ∷ []) (IsEdge edge)
-        (state lexer.old ahead.now (I.seen inputs.old)) (state lexer.new ahead.now (I.seen inputs.new))) }
+        (state lexer.old ahead.old (I.seen inputs.old)) (state lexer.new ahead.new (I.seen inputs.new))) }
     ensures uses { MatchOption result (Unit {0}) (λ edge. Uses lexer.old lexer.new) }
-    ensures none { MatchOption result ((lexer.new ≡ lexer.old) × (inputs.new ≡ inputs.old)) (λ edge. Unit {0}) }
+    ensures none { MatchOption result ((lexer.new ≡ lexer.old) × (inputs.new ≡ inputs.old) × (ahead.new ≡ ahead.old)) (λ edge. Unit {0}) }
 {
     match ahead {
         Token::LeftBracket => {}
         _ => return None,
     }
     let bytes = lexer.ahead(inputs);
-    let (edge, next) = plain_edge(alloc, bytes)?;
-    let count = bytes.len() - next.len();
-    lexer.pass(inputs, count);
+    let (edge, next, left) = plain_edge(alloc, bytes)?;
+    let count = bytes.len() - left.len();
+    put(alloc, ahead, next)?;
+    lexer.pass_token(inputs, count, size_of(next));
     Some(edge)
 }
 

@@ -1,17 +1,39 @@
-//! Edges that are at hand as a whole: read from a slice, with no tokens in between.
+//! Edges, and states up to their edges, that are at hand as a whole: read from a slice, with no tokens in between.
 
-ghost use Rattle.std.specs.Prelude.{◌≡◌, ◌-◌, ◌<◌, ◌∷◌, ℕ, List, [], true, codes, MatchOption};
+ghost use Rattle.std.specs.Prelude.{◌≡◌, ◌-◌, ◌<◌, ◌∷◌, ◌++◌, ℕ, List, [], true, codes, length, MatchOption};
 ghost use Rattle.hoa_lexer.specs.Bytes as kinds;
 ghost use Rattle.hoa_lexer.specs.Spelling.{Ends};
 ghost use Rattle.hoa_lexer.specs.Text.{IsFront};
 ghost use Rattle.hoa_lexer.specs.inner.Steps.{Skips};
 ghost use Rattle.hoa_lexer.specs.declared.token.Token.TheVariants as token;
 ghost use Rattle.hoa_parser.specs.Raw.{raw_tree};
-ghost use Rattle.hoa_parser.specs.inner.AtHand.{AreMarks, AreMaybeMarks, AreMoreFactors, AreMoreLiterals, IsConjunction, IsFactor, IsGrouped, IsLabel, IsLiteral, IsNumber, IsPlain, IsSigned};
+ghost use Rattle.hoa_parser.specs.inner.AtHand.{AreMarks, AreMaybeMarks, AreMoreFactors, AreMoreLiterals, IsConjunction, IsFactor, IsGrouped, IsLabel};
+ghost use Rattle.hoa_parser.specs.inner.AtHand.{IsLiteral, IsNumber, IsPlain, IsPlainHead, IsSigned, next_word};
 
+use super::body::StateHead;
 use crate::{RawEdge, RawLabel, RawLabels};
 use aut_base::FewNumbers;
 use std::alloc::Global;
+
+/// What begins behind an edge, or behind a state up to its edges.
+#[derive(Clone, Copy)]
+pub(super) enum Next {
+    /// An edge with a label: `[`.
+    Edge,
+    /// A state: `State:`.
+    State,
+}
+
+/// How many bytes that begins with.
+#[inline(always)]
+pub(super) fn size_of(next: Next) -> usize
+    ensures { result ≡ length (next_word next) }
+{
+    match next {
+        Next::Edge => 1,
+        Next::State => 6,
+    }
+}
 
 /// Space, tab, line feed or carriage return.
 #[inline(always)]
@@ -294,21 +316,49 @@ fn alone(alloc: Global, number: u32) -> Option<FewNumbers>
     Some(numbers)
 }
 
-/// An edge behind its `[`, up to the `[` of the next one, and what stands behind that.
-pub(super) fn plain_edge(alloc: Global, bytes: &[u8]) -> Option<(RawEdge, &[u8])>
-    ensures { MatchOption result (Unit {0}) (λ found. IsPlain found.0 bytes.now (91 ∷ found.1.now)) }
+/// What begins here, and what stands behind its first token.
+#[inline(always)]
+fn next_up(bytes: &[u8]) -> Option<(Next, &[u8])>
+    ensures { MatchOption result (Unit {0}) (λ found. bytes.now ≡ next_word found.0 ++ found.1.now) }
+{
+    match bytes {
+        [b'[', rest @ ..] => Some((Next::Edge, rest)),
+        [b'S', b't', b'a', b't', b'e', b':', rest @ ..] => Some((Next::State, rest)),
+        _ => None,
+    }
+}
+
+/// An edge behind its `[`, up to what begins behind it, and what stands behind the first token of that.
+pub(super) fn plain_edge(alloc: Global, bytes: &[u8]) -> Option<(RawEdge, Next, &[u8])>
+    ensures { MatchOption result (Unit {0}) (λ found. IsPlain found.0 bytes.now (next_word found.1 ++ found.2.now)) }
 {
     let (label, rest) = label(alloc, solid(bytes))?;
     let rest = behind_sign(b']', rest)?;
     let (goal, rest) = next_number(rest)?;
     let (marks, rest) = maybe_marks(alloc, rest)?;
-    let (sign, next) = front(rest)?;
-    if sign != b'[' {
-        return None;
-    }
+    let (next, left) = next_up(rest)?;
     let to = alone(alloc, goal)?;
     let label = Some(label);
-    Some((RawEdge { label, to, marks }, next))
+    Some((RawEdge { label, to, marks }, next, left))
+}
+
+/// INT sig?: a state behind its `State:`, up to what begins behind that, and what stands behind the first token of it.
+pub(super) fn plain_head(alloc: Global, bytes: &[u8]) -> Option<(StateHead, Next, &[u8])>
+    ensures { MatchOption result (Unit {0}) (λ found. IsPlainHead found.0 bytes.now (next_word found.1 ++ found.2.now)) }
+{
+    let (number, rest) = next_number(bytes)?;
+    let (marks, rest) = maybe_marks(alloc, rest)?;
+    let (next, left) = next_up(rest)?;
+    let label = None;
+    Some((
+        StateHead {
+            label,
+            number,
+            marks,
+        },
+        next,
+        left,
+    ))
 }
 
 /// A label behind its `[`, up to its `]`, and what stands behind that.

@@ -1,7 +1,7 @@
 use Rattle.std.proofs.Common.{[], refl, sym}
 use Rattle.hoa_parser.proofs.grammar.OtherTokens.{other}
-use Rattle.hoa_parser.proofs.reading.Bodies.{is_state_name, no_state_name, state_is, state_name}
-use Rattle.hoa_parser.proofs.reading.Steps.{handed_on, next_fails, next_reads, reads_as, takes, takes_last, token_refused}
+use Rattle.hoa_parser.proofs.reading.Bodies.{is_state_name, no_state_name, state_is}
+use Rattle.hoa_parser.proofs.reading.Steps.{handed_on, next_fails, next_reads, reads_as, token_refused}
 use Rattle.hoa_parser.specs.inner.Expecting as part
 use Rattle.hoa_parser.proofs.parse.body.state_at.Goals as goal
 
@@ -13,45 +13,15 @@ returns-in_default-header-clause-reads g c =
     rw c.in-HeaderName.is (token_refused part.States [] _ _ c.requires.unspent c.refused-in_default-header.ensures
     (no_state_name c.in-HeaderName.name _ c.header_named-header.ensures c.in_default-header.not-State))
 
-pub returns-in_err-advance-clause-reads : goal.returns-in_err-advance-clause-reads
-returns-in_err-advance-clause-reads g c =
-    handed_on _ _ _ c.from_residual.ensures.1
-    (rw c.in-HeaderName.is (takes_last part.States [] state_name (is_state_name _ c.in-HeaderName.name refl (sym c.in-State.ensures)) refl refl refl c.in_err-advance.ensures))
+pub head-requires-clause-begins : goal.head-requires-clause-begins
+head-requires-clause-begins g c = is_state_name _ c.in-HeaderName.name refl (sym c.in-State.ensures)
 
-pub returns-in_err-label-clause-reads : goal.returns-in_err-label-clause-reads
-returns-in_err-label-clause-reads g c = handed_on _ _ _ c.from_residual-in_err-label.ensures.1
-    (rw c.in-HeaderName.is (next_fails _ (takes part.States [] state_name (is_state_name _ c.in-HeaderName.name refl (sym c.in-State.ensures)) refl refl refl c.in_ok-advance.ensures)
-    c.in_err-label.ensures.reads))
-
-pub returns-in_err-number-clause-reads : goal.returns-in_err-number-clause-reads
-returns-in_err-number-clause-reads g c = handed_on _ _ _ c.from_residual-in_err-number.ensures.1
-    (rw c.in-HeaderName.is (next_fails _ (next_reads
-    (takes part.States [] state_name (is_state_name _ c.in-HeaderName.name refl (sym c.in-State.ensures)) refl refl refl c.in_ok-advance.ensures) c.in_ok-label.ensures.reads)
-    c.in_err-number.ensures.reads))
-
-pub returns-in_err-maybe_quoted-clause-reads : goal.returns-in_err-maybe_quoted-clause-reads
-returns-in_err-maybe_quoted-clause-reads g c =
-    handed_on _ _ _ c.from_residual-in_err-maybe_quoted.ensures.1
-    (rw c.in-HeaderName.is (next_fails _ (next_reads
-    (next_reads (takes part.States [] state_name (is_state_name _ c.in-HeaderName.name refl (sym c.in-State.ensures)) refl refl refl c.in_ok-advance.ensures) c.in_ok-label.ensures.reads)
-    c.in_ok-number.ensures.reads) c.in_err-maybe_quoted.ensures.reads))
-
-pub returns-in_err-marks-clause-reads : goal.returns-in_err-marks-clause-reads
-returns-in_err-marks-clause-reads g c = handed_on _ _ _ c.from_residual-in_err-marks.ensures.1
-    (rw c.in-HeaderName.is (next_fails _ (next_reads
-    (next_reads (next_reads (takes part.States [] state_name (is_state_name _ c.in-HeaderName.name refl (sym c.in-State.ensures)) refl refl refl c.in_ok-advance.ensures)
-    c.in_ok-label.ensures.reads) c.in_ok-number.ensures.reads) c.in_ok-maybe_quoted.ensures.reads) c.in_err-marks.ensures.reads))
+pub returns-in_err-head-clause-reads : goal.returns-in_err-head-clause-reads
+returns-in_err-head-clause-reads g c = rw c.in-HeaderName.is (handed_on _ _ _ c.from_residual.ensures.1 c.in_err-head.ensures.reads)
 
 pub returns-in_err-edges-clause-reads : goal.returns-in_err-edges-clause-reads
-returns-in_err-edges-clause-reads g c = handed_on _ _ _ c.from_residual-in_err-edges.ensures.1
-    (rw c.in-HeaderName.is (next_fails _ (next_reads
-    (next_reads (next_reads (next_reads (takes part.States [] state_name (is_state_name _ c.in-HeaderName.name refl (sym c.in-State.ensures)) refl refl refl c.in_ok-advance.ensures)
-    c.in_ok-label.ensures.reads) c.in_ok-number.ensures.reads) c.in_ok-maybe_quoted.ensures.reads) c.in_ok-marks.ensures.reads) c.in_err-edges.ensures.reads))
+returns-in_err-edges-clause-reads g c =
+    rw c.in-HeaderName.is (handed_on _ _ _ c.from_residual-in_err-edges.ensures.1 (next_fails _ c.in_ok-head.ensures.reads c.in_err-edges.ensures.reads))
 
 pub returns-clause-reads : goal.returns-clause-reads
-returns-clause-reads g c =
-    rw c.in-HeaderName.is
-    (reads_as (λ a g h. state_is _ _ _ _ a _ _ _ _ _ g h.1.1.1.1.1 h.1.1.1.1.2 h.1.1.1.2 h.1.1.2 h.1.2 h.2)
-    (next_reads (next_reads (next_reads (next_reads
-    (next_reads (takes part.States [] state_name (is_state_name _ c.in-HeaderName.name refl (sym c.in-State.ensures)) refl refl refl c.in_ok-advance.ensures) c.in_ok-label.ensures.reads)
-    c.in_ok-number.ensures.reads) c.in_ok-maybe_quoted.ensures.reads) c.in_ok-marks.ensures.reads) c.in_ok-edges.ensures.reads))
+returns-clause-reads g c = rw c.in-HeaderName.is (reads_as (λ a e h. state_is _ _ a _ e h.1 h.2) (next_reads c.in_ok-head.ensures.reads c.in_ok-edges.ensures.reads))
