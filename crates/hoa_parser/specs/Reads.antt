@@ -1,10 +1,12 @@
 -- What a reader answers, of what it has not read yet.
-use Rattle.std.specs.Prelude.{◌≡◌, ℕ, ◌⊎◌, List, [], ◌∷◌, ◌++◌, Option, None, Result, Ok, Err}
+use Rattle.std.specs.Prelude.{◌≡◌, ℕ, ◌⊎◌, List, [], ◌∷◌, ◌++◌, Option, None, Result, Ok, Err, is_some, not}
 use Rattle.hoa_lexer.specs.Moves.{Stop, AtEnd, AtFault, AtMost, Elsewhere}
+use Rattle.hoa_lexer.specs.Reading.{unread}
+use Rattle.hoa_lexer.specs.Spelling.{closes_itself}
 use Rattle.hoa_lexer.specs.Text.{AsksPast, IsNext}
 use Rattle.hoa_lexer.specs.declared.token.Token.{Token}
 use Rattle.hoa_parser.specs.Raw.{Written, written}
-use Rattle.hoa_parser.specs.Standing.{IsBad, IsBegun, IsWhole, Stands, Blank, Whole, Deep, Bad, Aborted, Cut}
+use Rattle.hoa_parser.specs.Standing.{IsBad, IsBegun, IsDeep, IsWhole, Stands, Blank, Whole, Deep, Bad, Aborted, Cut}
 use Rattle.hoa_parser.specs.declared.fault.ReadFault.{ReadFault}
 use Rattle.hoa_parser.specs.declared.fault.ReadFault.TheVariants as fault
 use Rattle.hoa_parser.specs.declared.read.Front.{Front}
@@ -58,10 +60,18 @@ pub record IsHopeless (k start : ℕ) (old left : List ℕ) : Type 0 where
   pub bad : IsBad start used k
   pub hopeless : (more : List ℕ) (w : Written) (rest : List ℕ) → IsWhole start (used ++ more) w rest → ⊥
 
+-- A token opens one more than may be open, and `left` follows it, or the byte that closes it, where it needs one (`(` and `!` need
+-- none): nothing is taken past that.
+pub record EndsDeep (start : ℕ) (old left : List ℕ) : Type 0 where
+  pub deep : IsDeep start old
+  pub held : Option ℕ
+  pub behind : deep.after ≡ unread held left
+  pub needed : is_some held ≡ not (closes_itself deep.next_token)
+
 -- What the bytes that were taken show. `left` is what is left in the inputs, behind a byte that is held.
 abbrev pub Shows : Result Front ReadFault → ℕ → List ℕ → List ℕ → Type 0
 Shows (Err (fault.Syntax k)) start old left = IsHopeless k start old left × AskedForLast start old left
-Shows (Err fault.Depth) start old left = AskedForLast start old left
+Shows (Err fault.Depth) start old left = EndsDeep start old left × AskedForLast start old left
 Shows (Ok front.Aborted) start old left = AskedForLast start old left
 Shows (Err fault.Truncated) start old left = (left ≡ []) × AsksOn start old left
 Shows _ start old left = Unit {0}

@@ -26,7 +26,7 @@ pub aborted_behind : {start used offset : ℕ} {text rest after : List ℕ} {tok
 aborted_behind {used = used} {offset = offset} {rest = rest} {tokens = tokens} begun some next =
     record { tokens = tokens; used = used; rest = rest; begun = begun; some = some; offset = offset; next = next }
 
-pub deep_behind : {start used offset : ℕ} {text rest after : List ℕ} {tokens : List Token} {next_token : Token} (most : ℕ) → IsBegun start text tokens used rest
+abbrev pub deep_behind : {start used offset : ℕ} {text rest after : List ℕ} {tokens : List Token} {next_token : Token} (most : ℕ) → IsBegun start text tokens used rest
     → IsNext rest used next_token offset after → IsViable most (tokens ++ next_token ∷ []) → (IsViable most_depth (tokens ++ next_token ∷ []) → ⊥) → IsDeep start text
 deep_behind {used = used} {offset = offset} {rest = rest} {after = after} {tokens = tokens} {next_token = next_token} most begun next viable too_deep = record {
   tokens = tokens;

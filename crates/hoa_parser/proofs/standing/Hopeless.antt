@@ -23,12 +23,12 @@ use Rattle.hoa_parser.proofs.standing.Begun.{bad_behind}
 use Rattle.hoa_parser.proofs.standing.DeadEnds.{dead}
 use Rattle.hoa_parser.proofs.standing.OpenEnds.{open_end_asks}
 use Rattle.hoa_parser.proofs.standing.Settled.{bad_is_hopeless, place_on}
-use Rattle.hoa_parser.proofs.standing.StandingAnswers.{Opened, Starts, before, begun_with, nothing_begun, said_then}
+use Rattle.hoa_parser.proofs.standing.StandingAnswers.{Opened, Starts, before, begun_with, nothing_begun, said_then, too_deep}
 use Rattle.hoa_parser.specs.inner.Expecting as part
 use Rattle.hoa_parser.specs.inner.Expecting.{Part, move}
 use Rattle.hoa_parser.specs.inner.Faults.{read_fault}
-use Rattle.hoa_parser.specs.inner.Parsing.{Abandons, Cursor, Fails, FailsAt, Goes, Passed, Refuses, State, Unread, place}
-use Rattle.hoa_parser.specs.Reads.{AskedForLast, IsHopeless, Shows}
+use Rattle.hoa_parser.specs.inner.Parsing.{Abandons, Cursor, Fails, FailsAt, Goes, Passed, Refuses, State, TooDeep, Unread, place}
+use Rattle.hoa_parser.specs.Reads.{AskedForLast, EndsDeep, IsHopeless, Shows}
 use Rattle.hoa_parser.specs.Standing.{EndsOpen, IsBegun, IsDead, IsMisplaced, IsNoTokenAt}
 use Rattle.hoa_parser.specs.declared.fault.ReadFault.{ReadFault}
 use Rattle.hoa_parser.specs.declared.fault.ReadFault.TheVariants as fault
@@ -214,13 +214,19 @@ shows_unread fault.Bytes start text left a last starts u ends = tt
 shows_unread fault.Read start text left a last starts u ends = tt
 shows_unread fault.Memory start text left a last starts u ends = tt
 
+-- a token that opens one more than may be open
+deep_shown : (start : ℕ) (text left : List ℕ) (a b : Cursor) → Starts start text a → TooDeep (part.Whole ∷ []) a b → b.rest ≡ unread b.held left → EndsDeep start text left
+deep_shown start text left a b starts d ends =
+    record { deep = too_deep start text a b starts d; held = b.held; behind = ends; needed = passed_holds a b d.goes.tokens d.goes.passed starts.holds }
+
 -- why no automaton was read
 pub shows_fault : (f : ReadFault) (start : ℕ) (text left : List ℕ) (a last : Cursor) → (Abandons f last.token → ⊥) → Starts start text a → Fails f (part.Whole ∷ []) a last
     → last.rest ≡ unread last.held left → Shows (Err f) start text left
 shows_fault f start text left a last other starts (inr u) ends = shows_unread f start text left a last starts u (ends ∙ unheld last.held left u.held)
 shows_fault (fault.Syntax k) start text left a last other starts (inl h) ends =
     (misplaced_shown k start text left a last starts h.0 h.1 other ends, asked_for_token start text left a last h.0.target starts h.0.goes ends)
-shows_fault fault.Depth start text left a last other starts (inl h) ends = asked_for_token start text left a last h.target starts h.goes ends
+shows_fault fault.Depth start text left a last other starts (inl h) ends =
+    (deep_shown start text left a last starts h ends, asked_for_token start text left a last h.target starts h.goes ends)
 shows_fault fault.Truncated start text left a last other starts (inl h) ends = absurd h
 shows_fault fault.Bytes start text left a last other starts (inl h) ends = tt
 shows_fault fault.Read start text left a last other starts (inl h) ends = tt

@@ -1,14 +1,18 @@
 -- One thing stands next in a text.
-use Rattle.std.proofs.Common.{◌≡◌, ◌≢◌, ℕ, ◌⊎◌, List, [], ◌∷◌, ◌++◌, inl, inr, refl, sym, subst, ◌∙◌, ap}
+use Rattle.std.proofs.Common.{◌≡◌, ◌≢◌, ℕ, ◌⊎◌, true, false, not, is_some, Option, Some, None, List, [], ◌∷◌, ◌++◌, inl, inr, refl, sym, subst, ◌∙◌, ap}
 use Rattle.std.proofs.lemmas.List.{map-append}
 use Rattle.hoa_lexer.specs.Blanks.{IsBlanks}
+use Rattle.hoa_lexer.specs.Reading.{unread}
+use Rattle.hoa_lexer.specs.Spelling.{closes_itself}
+use Rattle.hoa_lexer.specs.Text.{IsNext}
 use Rattle.hoa_lexer.specs.declared.token.Token.{Token}
 use Rattle.hoa_lexer.specs.declared.token.Token.TheVariants as token
 use Rattle.hoa_lexer.specs.Laws.Next.{NoMore, NoToken}
 use Rattle.hoa_lexer.proofs.next_token.Unique.{one_next_token}
 use Rattle.hoa_parser.specs.Grammar.{IsViable, Spells}
 use Rattle.hoa_parser.specs.Raw.{Written}
-use Rattle.hoa_parser.specs.Standing.{EndsOpen, IsMisplaced, IsNoTokenAt, OneStanding, Standing, most_depth}
+use Rattle.hoa_parser.specs.Reads.{EndsDeep}
+use Rattle.hoa_parser.specs.Standing.{EndsOpen, IsDeep, IsMisplaced, IsNoTokenAt, OneStanding, Standing, most_depth}
 use Rattle.hoa_parser.specs.Standing.Standing.{Blank, Whole, Deep, Bad, Aborted, Cut}
 use Rattle.hoa_parser.proofs.standing.Halts.{Halts, abandons, halts_here, halts_viable, misplaced_next, reading, shown}
 use Rattle.hoa_parser.proofs.grammar.NoAbort.{no_abort_inside}
@@ -123,3 +127,48 @@ one_standing start text a b f g =
       | inr (inl h) ↦ absurd (not_further a b p.placed q.placed (place start text p.rest) (place start text q.rest) p.rest q.rest p.halts q.halts h)
       | inr (inr h) ↦ absurd (not_further b a q.placed p.placed (place start text q.rest) (place start text p.rest) q.rest p.rest q.halts p.halts h)
     ]
+
+-- ---- the token that opens one more than may be open is one, and so is what follows it
+
+deep_halts : (start : ℕ) (text : List ℕ) (d : IsDeep start text) → Halts Deep (shown d.begun.placed) (place start text d.rest) d.rest
+deep_halts start text d =
+    subst (λ (n : ℕ). Halts Deep (shown d.begun.placed) n d.rest) d.begun.used_is
+    (subst (λ (ts : List Token). Halts Deep ts d.used d.rest) (sym d.begun.shown) (
+      record { viable = d.begun.viable; unfinished = d.begun.unfinished },
+      record {
+        token = d.next_token;
+        next = record { offset = d.offset; after = d.after; next = d.next };
+        most = d.most;
+        viable = d.viable;
+        too_deep = d.too_deep;
+      },
+    ))
+
+abbrev IsOneDeep : (start : ℕ) (text : List ℕ) (d e : IsDeep start text) → Type 0
+IsOneDeep start text d e = (d.next_token ≡ e.next_token) × (d.after ≡ e.after)
+
+one_deep_here : (start : ℕ) (text : List ℕ) (d e : IsDeep start text) → d.rest ≡ e.rest → IsOneDeep start text d e
+one_deep_here start text d e same =
+    let used : e.used ≡ d.used = e.begun.used_is ∙ ap (place start text) (sym same) ∙ sym d.begun.used_is in
+    let there : IsNext d.rest d.used e.next_token e.offset e.after =
+    subst (λ (n : ℕ). IsNext d.rest n e.next_token e.offset e.after) used (subst (λ (r : List ℕ). IsNext r e.used e.next_token e.offset e.after) (sym same) e.next) in
+    let one = one_next_token d.rest d.used d.next_token e.next_token d.offset e.offset d.after e.after d.next there in
+    (one.0, one.2)
+
+one_deep : (start : ℕ) (text : List ℕ) (d e : IsDeep start text) → IsOneDeep start text d e
+one_deep start text d e = elim (compared text start d.begun.placed e.begun.placed d.rest e.rest d.begun.lexes e.begun.lexes) [
+  | inl same ↦ one_deep_here start text d e same.1
+  | inr (inl h) ↦ absurd (not_further Deep Deep d.begun.placed e.begun.placed (place start text d.rest) (place start text e.rest) d.rest e.rest (deep_halts start text d) (deep_halts start text e) h)
+  | inr (inr h) ↦ absurd (not_further Deep Deep e.begun.placed d.begun.placed (place start text e.rest) (place start text d.rest) e.rest d.rest (deep_halts start text e) (deep_halts start text d) h)
+]
+
+behind_held : (h k : Option ℕ) (x y : List ℕ) → is_some h ≡ is_some k → unread h x ≡ unread k y → x ≡ y
+behind_held None None x y s e = e
+behind_held None (Some c) x y s e = absurd (let no : false ≡ true = s in cc)
+behind_held (Some b) None x y s e = absurd (let no : true ≡ false = s in cc)
+behind_held (Some b) (Some c) x y s e = cc
+
+pub one_deep_end : (start : ℕ) (text x y : List ℕ) → EndsDeep start text x → EndsDeep start text y → x ≡ y
+one_deep_end start text x y f g =
+    let one = one_deep start text f.deep g.deep in
+    behind_held f.held g.held x y (f.needed ∙ ap (λ t. not (closes_itself t)) one.0 ∙ sym g.needed) (sym f.behind ∙ one.1 ∙ g.behind)

@@ -114,7 +114,7 @@ aborted start text a b starts is r abort =
     let s = before start text a b r.target g starts in
     aborted_behind s.begun (some_before a b g.tokens g.passed is abort) (subst (λ (z : Token). IsNext s.rest s.used z b.offset b.rest) abort s.next)
 
-too_deep : (start : ℕ) (text : List ℕ) (a b : Cursor) → Starts start text a → TooDeep (part.Whole ∷ []) a b → IsDeep start text
+abbrev pub too_deep : (start : ℕ) (text : List ℕ) (a b : Cursor) → Starts start text a → TooDeep (part.Whole ∷ []) a b → IsDeep start text
 too_deep start text a b starts d =
     let g = d.goes in
     let s = before start text a b d.target g starts in
