@@ -1,3 +1,5 @@
+pub mod ClassEdges
+pub mod ClassForms
 pub mod ClassGuards
 pub mod ClassTruths
 pub mod KnownLists

@@ -9,7 +9,7 @@ use Rattle.aut_base.specs.Automaton.{Automaton, TreeEdge}
 use Rattle.aut_core.specs.Core.{Core, IsCore, IsLinkOf, automaton_of, edge_of}
 use Rattle.aut_core.specs.Surveys.{edges_from}
 use Rattle.aut_core.specs.declared.link.Link.{Link}
-use Rattle.aut_ops.proofs.links.Linked.{edges_filter}
+use Rattle.aut_base.proofs.order.Ordered.{filter_map_of}
 use Rattle.label_guards.specs.Store.{Has, HasPlace, Store, label_in}
 use Rattle.letter_classes.specs.SetClasses.{guards_from, set_edges, set_labels}
 
@@ -34,7 +34,7 @@ guards_labels c [] = refl
 guards_labels c (q ∷ qs) =
     let row : List Link = filter (λ l. l.from == q) c.links in
     let first : map (label_in c.store) (map (λ (l : Link). l.guard) row) ≡ map (λ (e : TreeEdge). e.label) (edges_from q (automaton_of c).edges) =
-    row_labels c row ∙ ap (map (λ (e : TreeEdge). e.label)) (sym (edges_filter c.store q c.links)) in
+    row_labels c row ∙ ap (map (λ (e : TreeEdge). e.label)) (sym (filter_map_of (λ (e : TreeEdge). e.from == q) (edge_of c.store) c.links)) in
     map-append (label_in c.store) (map (λ (l : Link). l.guard) row) (guards_from c qs)
     ∙ (ap (λ ts. ts ++ map (label_in c.store) (guards_from c qs)) first ∙ (ap (λ ts. map (λ (e : TreeEdge). e.label) (edges_from q (automaton_of c).edges) ++ ts) (guards_labels c qs)
     ∙ sym (map-append (λ (e : TreeEdge). e.label) (edges_from q (automaton_of c).edges) (set_edges (automaton_of c) qs))))

@@ -1,2 +1,4 @@
+pub mod ClassForms
 pub mod Known
 pub mod SetClasses
+pub mod Taken

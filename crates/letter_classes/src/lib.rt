@@ -6,9 +6,13 @@
 #![tactic(auto)]
 
 mod classes;
+mod form;
 mod guards;
 mod known;
 mod store;
+mod taken;
 
 pub use classes::classes_of_set;
+pub use form::{Marking, class_form};
 pub use store::ClassStore;
+pub use taken::{Taking, taken_at};

@@ -1,8 +1,7 @@
 -- The goals of a set are the states to which edges that are read lead, in rising order.
-use Rattle.std.proofs.Common.{◌≡◌, ◌∙◌, ◌<◌, ◌≤◌, ◌==◌, ◌&&◌, ℕ, Bool, true, Contains, List, ap, eq-eqb}
-use Rattle.std.proofs.Common.{filter, length, refl, subst, sym, take}
+use Rattle.std.proofs.Common.{◌≡◌, ◌<◌, ◌==◌, ◌&&◌, ℕ, Bool, true, Contains, List, eq-eqb}
+use Rattle.std.proofs.Common.{filter, refl, subst, sym}
 use Rattle.std.proofs.lemmas.Bool.{and_from, and_parts, eqb-true}
-use Rattle.std.proofs.lemmas.List.{take_all}
 use Rattle.std.proofs.lemmas.List.Elements.{All-contains}
 use Rattle.std.specs.List.{list_any}
 use Rattle.std.specs.List.Sorted.{IsStrictlyIncreasing}
@@ -12,9 +11,9 @@ use Rattle.aut_base.specs.Valuation.{truth_on}
 use Rattle.aut_core.specs.Core.{Core, IsCore, automaton_of}
 use Rattle.aut_core.specs.Surveys.{edges_from}
 use Rattle.letter_classes.specs.SetClasses.{set_edges}
+use Rattle.letter_classes.specs.Taken.{taken_of}
 use Rattle.monitor_form.proofs.RisingLists.{kept_of_range}
 use Rattle.monitor_form.specs.Subsets.{goals, is_goal, start_set}
-use Rattle.monitor_form.specs.Systems.{ends_of}
 
 abbrev end_of : TreeEdge → ℕ
 end_of e = e.to
@@ -28,7 +27,7 @@ module _ (c : Core) (core : IsCore c) (v : List Bool) (set ends found : List ℕ
   abbrev reads : TreeEdge → Bool
   reads e = truth_on e.label v
 
-  to_goal : ends ≡ ends_of reads (set_edges a set) → (q : ℕ) → Contains found q → (q < c.states) × (is_goal reads (set_edges a set) q ≡ true)
+  to_goal : ends ≡ taken_of end_of reads (set_edges a set) → (q : ℕ) → Contains found q → (q < c.states) × (is_goal reads (set_edges a set) q ≡ true)
   to_goal is q there =
       let end = from_map end_of (filter reads (set_edges a set)) q (subst (λ (qs : List ℕ). Contains qs q) is (adds_none q there)) in
       let kept = from_filter reads (set_edges a set) end.0 end.1 in
@@ -39,17 +38,15 @@ module _ (c : Core) (core : IsCore c) (v : List Bool) (set ends found : List ℕ
         any_from (λ e. (e.to == q) && reads e) (set_edges a set) end.0 kept.0 (and_from (end.0.to == q) (reads end.0) (eq-eqb end.0.to q end.2) kept.1),
       )
 
-  from_goal : ends ≡ ends_of reads (set_edges a set) → (q : ℕ) → q < c.states → is_goal reads (set_edges a set) q ≡ true → Contains found q
+  from_goal : ends ≡ taken_of end_of reads (set_edges a set) → (q : ℕ) → q < c.states → is_goal reads (set_edges a set) q ≡ true → Contains found q
   from_goal is q less passes =
       let e = any_found (λ d. (d.to == q) && reads d) (set_edges a set) passes in
       let parts = and_parts (e.0.to == q) (reads e.0) e.2 in
       let there = there_map end_of (filter reads (set_edges a set)) e.0 (there_filter reads (set_edges a set) e.0 e.1 parts.1) in
-      keeps q (subst (λ (qs : List ℕ). Contains qs q) (sym is) (subst (Contains (ends_of reads (set_edges a set))) (eqb-true e.0.to q parts.0) there))
+      keeps q (subst (λ (qs : List ℕ). Contains qs q) (sym is) (subst (Contains (taken_of end_of reads (set_edges a set))) (eqb-true e.0.to q parts.0) there))
 
-  pub goals_are : (k : ℕ) → length set ≤ k → ends ≡ ends_of reads (set_edges a (take k set)) → found ≡ goals a set v
-  goals_are k all so =
-      let is : ends ≡ ends_of reads (set_edges a set) = so ∙ ap (λ qs. ends_of reads (set_edges a qs)) (take_all k set all) in
-      kept_of_range (is_goal reads (set_edges a set)) c.states found rises (to_goal is) (from_goal is)
+  pub goals_are : ends ≡ taken_of end_of reads (set_edges a set) → found ≡ goals a set v
+  goals_are is = kept_of_range (is_goal reads (set_edges a set)) c.states found rises (to_goal is) (from_goal is)
 
 -- the starts in rising order
 pub starts_are : (c : Core) → IsCore c → (starts found : List ℕ) → starts ≡ c.starts → IsStrictlyIncreasing found → ((q : ℕ) → Contains starts q → Contains found q)

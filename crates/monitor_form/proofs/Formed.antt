@@ -1,32 +1,30 @@
 -- The subset construction makes a monitor, and a deterministic automaton.
-use Rattle.std.proofs.Common.{◌≡◌, ◌∙◌, ◌<◌, ◌≤◌, ◌==◌, ◌&&◌, ℕ, Bool, true, false, Contains, List, [], ◌∷◌, Some, ap, arith, eq-eqb, get_or, inl, inr, length, refl, slice_get, subst, sym}
+use Rattle.std.proofs.Common.{◌≡◌, ◌∙◌, ◌<◌, ◌≤◌, ◌==◌, ◌&&◌, ℕ, Bool, true, false, Contains, List, [], ◌∷◌, Some, ap, arith, eq-eqb, get_or, length, refl, slice_get, subst, sym}
 use Rattle.std.proofs.lemmas.Bool.{and_from, and_parts, eqb-true, true≢false}
-use Rattle.std.proofs.lemmas.List.Elements.{All-contains, Contains-get_or}
+use Rattle.std.proofs.lemmas.List.Elements.{All-contains}
 use Rattle.std.proofs.lemmas.Option.{get_or_from_slice_get, slice_get-get_or, slice_get_within}
 use Rattle.std.specs.List.{list_any, range_with_len}
 use Rattle.aut_base.proofs.lists.Members.{any_found, any_from, first_there, from_filter, from_flat_map, from_map, none_there, placed_there, there_at, there_filter, there_flat_map, there_map}
 use Rattle.aut_base.proofs.lists.Members.{there_range_zero}
-use Rattle.aut_base.proofs.canonical.ValuationLetters.{valuation_at}
 use Rattle.aut_base.specs.Automaton.{Automaton, IsEdgeOf, IsWellFormed, TreeEdge}
 use Rattle.aut_base.specs.Label.{holds_at, truth}
 use Rattle.aut_base.specs.Valuation.{holds_in, truth_on}
 use Rattle.aut_base.specs.Word.{NameSet}
-use Rattle.aut_core.specs.Deterministic.{AreApart, IsDeterministic}
+use Rattle.aut_core.specs.Deterministic.{IsDeterministic}
 use Rattle.aut_core.specs.Surveys.{edges_from}
-use Rattle.exploration.proofs.Edges.{ArrowBefore, arrows_rise, edge_for, edge_from}
+use Rattle.exploration.proofs.Edges.{arrows_rise, edge_for, edge_from}
 use Rattle.exploration.specs.Moves.{Fails, Gives, Lacks, Move}
 use Rattle.exploration.specs.Reached.{IsExplored}
 use Rattle.exploration.specs.Turns.{Arrow, EndsWith}
-use Rattle.label_guards.proofs.alike.ClassLeastLaws.{alike_each, alike_on, alike_turned, least_alike, leasts_apart}
+use Rattle.label_guards.proofs.alike.ClassLeastLaws.{alike_each}
 use Rattle.label_guards.specs.ClassLeasts.{are_alike}
-use Rattle.letter_classes.proofs.ClassTruths.{at_letter, class_truth, valuation_long}
-use Rattle.letter_classes.specs.SetClasses.{class_label, set_classes, set_edges, set_labels}
+use Rattle.letter_classes.proofs.ClassEdges.{all_apart, class_meets, class_of, edge_alike}
+use Rattle.letter_classes.specs.SetClasses.{set_classes, set_edges, set_labels}
 use Rattle.monitor_form.specs.Monitors.{HasEdge, IsGoal, IsMonitorOf, IsMove, first_places, set_at}
 use Rattle.monitor_form.specs.Subsets.{goals, is_goal, monitor_edge, monitor_on, start_set, step_at, subset_moves, subset_rules, unless_empty}
 use Rattle.exploration.proofs.Ends.{explored}
 use Rattle.std.specs.Cmp.Lexicographic.{bytes_decides, pointwise}
 use Rattle.std.specs.Prelude.{nat_eq}
-use Rattle.aut_base.proofs.order.AllPairsOf.{pairs_map}
 use Rattle.monitor_form.specs.Subsets.{IsExploredFrom, IsSubsetForm}
 
 -- steps that give a set
@@ -131,15 +129,14 @@ module _ (b : Automaton) (formed : IsWellFormed b) where
           there = subst (λ (s : List ℕ). Contains s found.1.0) (sym goes) found.1.1;
         }
 
-    arrow_alike : (a : Arrow) (x : NameSet) → truth (holds_at b.names x) (monitor_edge b sets a).label ≡ true
-        → are_alike (set_labels b (set_at sets a.from)) (holds_in (get_or (classes_at a.from) a.class [])) (holds_at b.names x) ≡ true
-    arrow_alike a x e = sym (class_truth b.names (set_labels b (set_at sets a.from)) (get_or (classes_at a.from) a.class []) x) ∙ e
+    abbrev no_marks : ℕ → List Bool → List ℕ
+    no_marks place v = []
 
     arrow_moves : (a : Arrow) (x : NameSet) → Contains arrows a → truth (holds_at b.names x) (monitor_edge b sets a).label ≡ true → IsMove b sets x a.from a.to
     arrow_moves a x there e =
         let step = step_of a there in
         let v = get_or (classes_at a.from) a.class [] in
-        let alike = arrow_alike a x e in
+        let alike = edge_alike b (set_at sets) no_marks a x e in
         record {
           below = step.below;
           goals = λ q. (
@@ -152,24 +149,19 @@ module _ (b : Automaton) (formed : IsWellFormed b) where
 
     goes_on : (i : ℕ) (x : NameSet) (q : ℕ) → i < length sets → IsGoal b (set_at sets i) x q → HasEdge (monitor_on sets arrows b) i x
     goes_on i x q inside goal =
-        let labels = set_labels b (set_at sets i) in
-        let least = least_alike n labels (valuation_at b.names x) (valuation_long b.names x) in
-        let w = least.0 in
-        let alike : are_alike labels (holds_in w) (holds_at b.names x) ≡ true = ap (are_alike labels (holds_in w)) (at_letter b.names x) ∙ least.2 in
-        let at = there_at (classes_at i) w least.1 in
-        let among = from_goal (set_at sets i) w x alike q goal in
-        let gives : step_at b (set_at sets i) (slice_get (classes_at i) at.0) ≡ Gives (goals b (set_at sets i) w) = ap (step_at b (set_at sets i)) at.1 ∙ some_given (goals b (set_at sets i) w) q
-        among in
-        let edge = edge_for (subset_moves b) (pointwise nat_eq) (start_set b) sets arrows is i at.0 (set_at sets i) (goals b (set_at sets i) w) (slice_get-get_or sets i [] inside)
-        (slice_get_within (classes_at i) at.0 w at.1) gives in
+        let class = class_of b (set_at sets) no_marks i x in
+        let w = class.valuation in
+        let among = from_goal (set_at sets i) w x class.alike q goal in
+        let gives : step_at b (set_at sets i) (slice_get (classes_at i) class.number) ≡ Gives (goals b (set_at sets i) w) = ap (step_at b (set_at sets i)) class.at
+        ∙ some_given (goals b (set_at sets i) w) q among in
+        let edge = edge_for (subset_moves b) (pointwise nat_eq) (start_set b) sets arrows is i class.number (set_at sets i) (goals b (set_at sets i) w) (slice_get-get_or sets i [] inside)
+        (slice_get_within (classes_at i) class.number w class.at) gives in
         let a = edge.0 in
-        let same : (monitor_edge b sets a).label ≡ class_label n labels w = (λ j. class_label n (set_labels b (set_at sets (edge.2 j))) (get_or (classes_at (edge.2 j)) (edge.3 j) [])) ∙ ap
-        (class_label n labels) (get_or_from_slice_get (classes_at i) at.0 w [] at.1) in
         record {
           edge = monitor_edge b sets a;
           there = there_map (monitor_edge b sets) arrows a (placed_there arrows edge.1.0 a edge.1.1);
           from = edge.2;
-          allowed = ap (truth (holds_at b.names x)) same ∙ (class_truth b.names labels w x ∙ alike);
+          allowed = class_meets b (set_at sets) no_marks i x class a edge.2 edge.3;
         }
 
     pub is_monitor : IsMonitorOf b (monitor_on sets arrows b) sets
@@ -190,19 +182,6 @@ module _ (b : Automaton) (formed : IsWellFormed b) where
         start_at : set_at sets 0 ≡ start_set b
         start_at = get_or_from_slice_get sets 0 (start_set b) [] is.first
 
-    -- no letter meets two edges that leave one set
-    arrows_apart : (a d : Arrow) → Contains arrows a → Contains arrows d → ArrowBefore a d → a.from ≡ d.from → AreApart b.names (monitor_edge b sets a) (monitor_edge b sets d)
-    arrows_apart a d there also (inl less) same x h k = absurd (omega (arith, less, same))
-    arrows_apart a d there also (inr later) same x h k =
-        let labels = set_labels b (set_at sets a.from) in
-        let first = step_of a there in
-        let second : slice_get (classes_at a.from) d.class ≡ Some (get_or (classes_at a.from) d.class []) = subst (λ p. slice_get (classes_at p) d.class ≡ Some (get_or (classes_at p) d.class []))
-        (sym same) (step_of d also).at in
-        let one = arrow_alike a x h in
-        let other : are_alike labels (holds_in (get_or (classes_at a.from) d.class [])) (holds_at b.names x) ≡ true = subst
-        (λ p. are_alike (set_labels b (set_at sets p)) (holds_in (get_or (classes_at p) d.class [])) (holds_at b.names x) ≡ true) (sym same) (arrow_alike d x k) in
-        leasts_apart n labels a.class d.class _ _ first.at second later.1 (alike_on labels _ (holds_at b.names x) _ one (alike_turned labels _ (holds_at b.names x) other))
-
     few_places : (ss : List ℕ) → length (first_places ss) ≤ 1
     few_places [] = omega arith
     few_places (s ∷ ss) = omega arith
@@ -210,9 +189,8 @@ module _ (b : Automaton) (formed : IsWellFormed b) where
     pub is_deterministic : IsDeterministic (monitor_on sets arrows b)
     is_deterministic = record {
       start = few_places b.starts;
-      edges = pairs_map (λ (d e : TreeEdge). d.from ≡ e.from → AreApart b.names d e) (monitor_edge b sets) arrows (λ i j d less within.
-          arrows_apart (get_or arrows i d) (get_or arrows j d) (Contains-get_or arrows i d (omega (arith, less, within))) (Contains-get_or arrows j d within)
-          (arrows_rise (subset_moves b) (pointwise nat_eq) (start_set b) sets arrows is i j d less within));
+      edges = all_apart b (set_at sets) no_marks arrows (arrows_rise (subset_moves b) (pointwise nat_eq) (start_set b) sets arrows is)
+          (λ a there. slice_get_within (classes_at a.from) a.class (get_or (classes_at a.from) a.class []) (step_of a there).at);
     }
 
 pub explored_sets : (b : Automaton) (sets : List (List ℕ)) (arrows : List Arrow) → EndsWith (subset_rules b) (start_set b) sets arrows

@@ -2,4 +2,3 @@ pub mod Faults
 pub mod Monitors
 pub mod Prefixes
 pub mod Subsets
-pub mod Systems

@@ -2,7 +2,7 @@
 -- and classes are those of the letters that the edges from a set tell apart.
 use Rattle.std.specs.Prelude.{◌≡◌, ◌≤◌, ℕ, ◌<◌, ◌==◌, ◌&&◌, Bool, List, [], ◌∷◌, Option, None, Some, filter, length, map, nat_eq, slice_get}
 use Rattle.std.specs.Cmp.Lexicographic.{pointwise}
-use Rattle.std.specs.List.{list_any, range_with_len, slice_index_or}
+use Rattle.std.specs.List.{list_any, range_with_len}
 use Rattle.aut_base.specs.Automaton.{Automaton, TreeEdge}
 use Rattle.aut_base.specs.Formula.{FormulaTree}
 use Rattle.aut_base.specs.Valuation.{truth_on}
@@ -13,7 +13,8 @@ use Rattle.exploration.specs.Moves.{Gives, Lacks, Move, Moves}
 use Rattle.exploration.specs.Turns.{Arrow, Comes, EndsWith, Meets, Rules, begin}
 use Rattle.exploration.specs.declared.fault.Fault.{Fault}
 use Rattle.exploration.specs.declared.fault.Fault.TheVariants as limit
-use Rattle.letter_classes.specs.SetClasses.{class_label, set_classes, set_edges, set_labels}
+use Rattle.letter_classes.specs.ClassForms.{class_edge}
+use Rattle.letter_classes.specs.SetClasses.{set_classes, set_edges}
 use Rattle.monitor_form.specs.Monitors.{first_places, set_at}
 
 -- an edge leads from the set to this state where `reads` says that it does
@@ -46,12 +47,7 @@ subset_rules b = record { same = pointwise nat_eq; moves = subset_moves b; most_
 
 -- the edge between the places of two sets, under its class
 abbrev pub monitor_edge : Automaton → List (List ℕ) → Arrow → TreeEdge
-monitor_edge b sets arrow = record {
-  from = arrow.from;
-  label = class_label (length b.names) (set_labels b (set_at sets arrow.from)) (slice_index_or (set_classes b (set_at sets arrow.from)) arrow.class []);
-  to = arrow.to;
-  marks = [];
-}
+monitor_edge b sets = class_edge b (set_at sets) (λ place v. [])
 
 -- the automaton whose states are the places of these sets, without acceptance sets
 abbrev pub monitor_on : List (List ℕ) → List Arrow → Automaton → Automaton

@@ -14,19 +14,18 @@ ghost use Rattle.label_guards.specs.Store.{Keeps};
 ghost use Rattle.letter_classes.specs.SetClasses.{FitsStore, IsClassGuard};
 ghost use Rattle.monitor_form.specs.Prefixes.{AcceptsPrefixes};
 ghost use Rattle.monitor_form.specs.Subsets.{IsMonitor, IsSubsetForm, MeetsLimit, MeetsSubsetLimit, monitor_on, start_set, subset_moves};
-ghost use Rattle.monitor_form.specs.Systems.{link_of};
 ghost use Rattle.monitor_form.specs.declared.fault.MonFault.{MonFault};
 
 use crate::fault::{MonFault, limit_met};
 use crate::goals::start_set;
 use crate::subsets::Subsets;
 use aut_base::{Formula, MOST_CLASSES, MOST_SUBSETS, Marks, Memory, Numbers};
-use aut_core::{Automaton, Link, Links, copy_names};
+use aut_core::{Automaton, Links, copy_names};
 use aut_ops::prune;
 use degeneralise::to_buchi;
-use exploration::{Edge, Explored, Limits, explore};
+use exploration::{Explored, Limits, explore};
 use label_guards::{Guard, Guards};
-use letter_classes::ClassStore;
+use letter_classes::{ClassStore, Marking, class_form};
 use std::alloc::Global;
 
 /// The monitor: a deterministic automaton without acceptance sets, which accepts just the words whose first n letters, for
@@ -121,34 +120,22 @@ fn built(
     ensures { IfOk result (λ made. automaton_of made ≡ monitor_on found.now.things.keys (map arrow_of found.now.edges.items) (automaton_of b.now)) }
 {
     b.whole();
-    let names = copy_names(b.names())?;
-    let links = links_of(alloc, found.edges.as_slice())?;
-    let mut starts = Numbers::new(alloc);
-    starts.push(0)?;
-    Automaton::from_parts(
-        alloc,
-        names,
-        guards,
-        found.things.len() as u32,
-        starts,
-        links,
-        0,
-        Formula::True,
-    )
+    class_form(alloc, b, guards, found, &WithoutMarks, 0, Formula::True)
 }
 
-/// The links of the edges that were found.
-fn links_of(alloc: Global, edges: &[Edge<Guard, ()>]) -> Result<Links, Memory>
-    ensures { IfOk result (λ links. links ≡ map link_of edges.now) }
-{
-    let mut links = Links::new(alloc);
-    'edges: for edge in edges {
-        links.push(Link {
-            from: edge.from,
-            guard: edge.class,
-            to: edge.to,
-            marks: Marks::new(alloc),
-        })?;
+/// Edges without marks.
+struct WithoutMarks;
+
+impl Marking for WithoutMarks {
+    ghost use Rattle.std.specs.Prelude.{[], ⊤};
+
+    type Note = ();
+
+    ghost fits = { λ _ _. ⊤ };
+
+    ghost marked = { λ _ _. [] };
+
+    fn marks(&self, alloc: Global, _note: ()) -> Result<Marks, Memory> {
+        Ok(Marks::new(alloc))
     }
-    Ok(links)
 }

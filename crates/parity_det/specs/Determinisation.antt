@@ -1,7 +1,6 @@
 -- Determinisation, as a system that is explored (Safra 1988, Piterman 2007): things are trees, as lists of nodes, and classes
 -- are those of the letters that the edges from the root's states tell apart.
 use Rattle.std.specs.Prelude.{◌≡◌, ◌+◌, ◌≤◌, ℕ, Bool, if◌then◌else◌, List, [], ◌∷◌, Option, None, Some, filter, leb, length, map, max, slice_get}
-use Rattle.std.specs.List.{slice_index_or}
 use Rattle.acc_forms.specs.Parity.{parity_min_odd}
 use Rattle.aut_base.specs.Automaton.{Automaton, TreeEdge}
 use Rattle.aut_base.specs.Valuation.{truth_on}
@@ -11,7 +10,8 @@ use Rattle.degeneralise.specs.Buchi.{buchi, buchi_states}
 use Rattle.exploration.specs.Moves.{Fails, Gives, Lacks, Move, Moves}
 use Rattle.exploration.specs.Turns.{Arrow, Comes, EndsWith, Meets, Rules, begin}
 use Rattle.exploration.specs.declared.fault.Fault.{Fault}
-use Rattle.letter_classes.specs.SetClasses.{class_label, set_classes, set_edges, set_labels}
+use Rattle.letter_classes.specs.ClassForms.{class_edge}
+use Rattle.letter_classes.specs.SetClasses.{set_classes, set_edges}
 use Rattle.parity_laws.specs.Buchi.{move_of}
 use Rattle.parity_laws.specs.Determinised.{tree_at}
 use Rattle.safra_laws.specs.Priorities.{priority}
@@ -54,12 +54,7 @@ width (t ∷ ts) = max (length t) (width ts)
 
 -- the edge between the places of two trees, under its class, with the priority of its step as its one mark
 abbrev pub parity_edge : Automaton → List (List Node) → ℕ → Arrow → TreeEdge
-parity_edge b trees most arrow = record {
-  from = arrow.from;
-  label = class_label (length b.names) (set_labels b (root_states (tree_at trees arrow.from))) (slice_index_or (tree_classes b (tree_at trees arrow.from)) arrow.class []);
-  to = arrow.to;
-  marks = priority b.states most (class_moves b (tree_at trees arrow.from) (slice_index_or (tree_classes b (tree_at trees arrow.from)) arrow.class [])) (tree_at trees arrow.from) ∷ [];
-}
+parity_edge b trees most = class_edge b (λ place. root_states (tree_at trees place)) (λ place v. priority b.states most (class_moves b (tree_at trees place) v) (tree_at trees place) ∷ [])
 
 -- the automaton whose states are the places of these trees
 abbrev pub parity_on : List (List Node) → List Arrow → Automaton → Automaton

@@ -1,14 +1,10 @@
 -- What the functions of the construction say to one another.
-use Rattle.std.specs.Prelude.{◌≡◌, ◌∷◌, [], ℕ, Bool, List, Some, filter, map, slice_get}
+use Rattle.std.specs.Prelude.{◌≡◌, ℕ, Bool, List, Some, slice_get}
 use Rattle.aut_base.specs.Automaton.{Automaton, TreeEdge}
-use Rattle.aut_base.specs.Valuation.{truth_on}
 use Rattle.aut_core.specs.Core.{Core, automaton_of}
-use Rattle.aut_core.specs.declared.link.Link.{Link}
 use Rattle.exploration.specs.Turns.{Comes, Meets, begin}
-use Rattle.exploration.specs.declared.exploration.Edge.{Edge}
 use Rattle.exploration.specs.declared.fault.Fault.{Fault}
-use Rattle.label_guards.specs.Leasts.{bits_of}
-use Rattle.label_guards.specs.declared.guard.Guard.{Guard}
+use Rattle.letter_classes.specs.Taken.{taken_of}
 use Rattle.parity_det.specs.Determinisation.{class_moves, start_tree, tree_classes, tree_rules}
 use Rattle.parity_laws.specs.Buchi.{move_of}
 use Rattle.safra_laws.specs.Priorities.{priority_by}
@@ -17,13 +13,9 @@ use Rattle.safra_trees.specs.Trees.{Node}
 use Rattle.safra_trees.specs.declared.event.Event.{Event}
 use Rattle.safra_trees.specs.declared.moves.Move.{Move}
 
--- the edge is read at the valuation of this number
-abbrev pub reads_at : Core → ℕ → TreeEdge → Bool
-reads_at c number e = truth_on e.label (bits_of c.store.names number)
-
 -- the moves of those of the edges that are read
 abbrev pub moves_of : (TreeEdge → Bool) → List TreeEdge → List Move
-moves_of reads es = map move_of (filter reads es)
+moves_of = taken_of move_of
 
 -- the event is that of the step for the class of this number
 abbrev pub IsClassEvent : Core → List Node → ℕ → Event → Type 0
@@ -32,10 +24,6 @@ IsClassEvent c t k event = (v : List Bool) → slice_get (tree_classes (automato
 -- the mark of the step of an event, among those of trees with at most so many nodes
 abbrev pub mark_of : ℕ → Event → ℕ
 mark_of most event = priority_by most event.red event.green
-
--- the link of an edge that was found
-abbrev pub link_of : ℕ → Edge Guard Event → Link
-link_of most e = record { from = e.from; guard = e.class; to = e.to; marks = mark_of most e.note ∷ [] }
 
 -- the exploration of the trees of b meets this limit first
 abbrev pub MeetsFirst : Automaton → Fault → Type 0

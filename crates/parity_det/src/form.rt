@@ -22,16 +22,16 @@ ghost use Rattle.safra_trees.specs.Trees.{root_states};
 ghost use Rattle.safra_trees.specs.View.{tree_of};
 
 use crate::fault::{CompFault, DetFault};
-use crate::marks::{marked_links, width};
+use crate::marks::{EventMarks, width};
 use crate::trees::Trees;
 use acc_forms::parity_min_odd;
-use aut_base::{MOST_CLASSES, MOST_TREES, Memory, Numbers};
-use aut_core::{Automaton, copy_names};
+use aut_base::{MOST_CLASSES, MOST_TREES, Memory};
+use aut_core::Automaton;
 use aut_ops::prune;
 use degeneralise::to_buchi;
 use exploration::{Explored, Limits, explore};
 use label_guards::{Guard, Guards};
-use letter_classes::ClassStore;
+use letter_classes::{ClassStore, class_form};
 use safra_trees::{Event, Moves, Room, SafraTree, start};
 use std::alloc::Global;
 
@@ -127,19 +127,7 @@ fn built(
 {
     b.whole();
     let most = width(found.things.as_slice());
-    let links = marked_links(alloc, found.edges.as_slice(), most)?;
     let sets = most + most + 1;
     let formula = parity_min_odd(alloc, sets)?;
-    let mut starts = Numbers::new(alloc);
-    starts.push(0)?;
-    Automaton::from_parts(
-        alloc,
-        copy_names(b.names())?,
-        guards,
-        found.things.len() as u32,
-        starts,
-        links,
-        sets,
-        formula,
-    )
+    class_form(alloc, b, guards, found, &EventMarks { most }, sets, formula)
 }

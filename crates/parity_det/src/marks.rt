@@ -1,15 +1,12 @@
 //! The marks of steps.
 
-ghost use Rattle.std.specs.Prelude.{◌≡◌, ◌+◌, ◌≤◌, ◌<◌, ◌^◌, All, IfOk, map};
-ghost use Rattle.aut_base.specs.declared.limit.TheConstants.{MOST_NODES};
+ghost use Rattle.std.specs.Prelude.{◌≡◌, ◌+◌, ◌<◌, ◌^◌, map};
 ghost use Rattle.parity_det.specs.Determinisation.{width};
-ghost use Rattle.parity_det.specs.Systems.{link_of, mark_of};
+ghost use Rattle.parity_det.specs.Systems.{mark_of};
 ghost use Rattle.safra_trees.specs.View.{tree_of};
 
 use aut_base::{Marks, Memory};
-use aut_core::{Link, Links};
-use exploration::Edge;
-use label_guards::Guard;
+use letter_classes::Marking;
 use safra_trees::{Event, SafraTree};
 use std::alloc::Global;
 
@@ -24,28 +21,27 @@ pub(crate) fn width(trees: &[SafraTree]) -> u32
     most
 }
 
-/// The links of the edges that were found, each with its mark.
-pub(crate) fn marked_links(
-    alloc: Global,
-    edges: &[Edge<Guard, Event>],
-    most: u32,
-) -> Result<Links, Memory>
-    requires marks { All (λ e. mark_of most e.note < most + most + 1) edges.now }
-    requires few { most ≤ MOST_NODES }
-    ensures { IfOk result (λ links. links ≡ map (link_of most) edges.now) }
-{
-    let mut links = Links::from_vec(Vec::with_capacity(alloc, edges.len())?);
-    'edges: for edge in edges {
+/// Marks by the events of steps, among trees with at most so many nodes.
+#[derive(Drop)]
+pub(crate) struct EventMarks {
+    pub(crate) most: u32,
+}
+
+impl Marking for EventMarks {
+    ghost use Rattle.std.specs.Prelude.{[], ◌∷◌, ◌<◌, ◌^◌};
+    ghost use Rattle.parity_det.specs.Systems.{mark_of};
+
+    type Note = Event;
+
+    ghost fits = { λ s event. mark_of s.most event < 2 ^ 32 };
+
+    ghost marked = { λ s event. mark_of s.most event ∷ [] };
+
+    fn marks(&self, alloc: Global, event: Event) -> Result<Marks, Memory> {
         let mut marks = Marks::new(alloc);
-        marks.push(mark(edge.note, most) as u32)?;
-        links.push(Link {
-            from: edge.from,
-            guard: edge.class,
-            to: edge.to,
-            marks,
-        })?;
+        marks.push(mark(event, self.most) as u32)?;
+        Ok(marks)
     }
-    Ok(links)
 }
 
 /// The least of 2f for the least red f and 2g + 1 for the least green g, or twice the number of nodes where there is neither.

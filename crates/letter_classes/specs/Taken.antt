@@ -1,0 +1,14 @@
+-- What is taken of the edges that are read at a letter.
+use Rattle.std.specs.Prelude.{ℕ, Bool, List, filter, map}
+use Rattle.aut_base.specs.Automaton.{TreeEdge}
+use Rattle.aut_base.specs.Valuation.{truth_on}
+use Rattle.aut_core.specs.Core.{Core}
+use Rattle.label_guards.specs.Leasts.{bits_of}
+
+-- the edge is read at the valuation of this number
+abbrev pub reads_at : Core → ℕ → TreeEdge → Bool
+reads_at c number e = truth_on e.label (bits_of c.store.names number)
+
+-- what is taken of those of the edges that are read, edge by edge
+abbrev pub taken_of : {A : Type 0} → (TreeEdge → A) → (TreeEdge → Bool) → List TreeEdge → List A
+taken_of part reads es = map part (filter reads es)

@@ -1,0 +1,81 @@
+//! Automata of the things and edges that were found class by class.
+
+ghost use Rattle.std.specs.Prelude.{◌≡◌, ◌<◌, ◌^◌, ℕ, List, All, IfOk, length, map};
+ghost use Rattle.aut_base.specs.Formula.{formula_tree};
+ghost use Rattle.aut_core.specs.Core.{AreParts};
+ghost use Rattle.letter_classes.specs.ClassForms.{form_of, link_of};
+
+use aut_base::{Formula, Marks, Memory, Numbers};
+use aut_core::{Automaton, Link, Links, copy_names};
+use exploration::{Edge, Explored};
+use label_guards::{Guard, Guards};
+use std::alloc::Global;
+use std::hash::Hash;
+
+/// The marks of edges, by the notes that their steps tell.
+pub trait Marking {
+    type Note: Copy;
+
+    // what may be asked of a note
+    ghost fits: { Self → Self.Note → Type 0 };
+
+    ghost marked: { Self → Self.Note → List ℕ };
+
+    /// The marks of an edge with this note.
+    fn marks(&self, alloc: Global, note: Self::Note) -> Result<Marks, Memory>
+        requires { fits self.now note }
+        ensures { IfOk result (λ marks. marks ≡ marked self.now note) };
+}
+
+/// The automaton over the names of `b` whose states are the places of the things that were found, the first of which is the
+/// start, and whose edges are those that were found, under their classes.
+pub fn class_form<T: Eq + Hash, M: Marking>(
+    alloc: Global,
+    b: &Automaton,
+    guards: Guards,
+    found: &Explored<T, Guard, M::Note>,
+    marking: &M,
+    sets: u32,
+    formula: Formula,
+) -> Result<Automaton, Memory>
+    requires few { length found.now.things.keys < 2 ^ 32 }
+    requires notes { All (λ e. M.fits marking.now e.note) found.now.edges.items }
+    requires parts { AreParts (form_of b.now guards (length found.now.things.keys) (map (link_of (M.marked marking.now)) found.now.edges.items) sets (formula_tree formula)) }
+    ensures { IfOk result (λ made. made ≡ form_of b.now guards (length found.now.things.keys) (map (link_of (M.marked marking.now)) found.now.edges.items) sets (formula_tree formula)) }
+{
+    let names = copy_names(b.names())?;
+    let links = links_of(alloc, found.edges.as_slice(), marking)?;
+    let mut starts = Numbers::new(alloc);
+    starts.push(0)?;
+    Automaton::from_parts(
+        alloc,
+        names,
+        guards,
+        found.things.len() as u32,
+        starts,
+        links,
+        sets,
+        formula,
+    )
+}
+
+/// The links of the edges that were found, each with its marks.
+fn links_of<M: Marking>(
+    alloc: Global,
+    edges: &[Edge<Guard, M::Note>],
+    marking: &M,
+) -> Result<Links, Memory>
+    requires { All (λ e. M.fits marking.now e.note) edges.now }
+    ensures { IfOk result (λ links. links ≡ map (link_of (M.marked marking.now)) edges.now) }
+{
+    let mut links = Links::from_vec(Vec::with_capacity(alloc, edges.len())?);
+    'edges: for edge in edges {
+        links.push(Link {
+            from: edge.from,
+            guard: edge.class,
+            to: edge.to,
+            marks: marking.marks(alloc, edge.note)?,
+        })?;
+    }
+    Ok(links)
+}
