@@ -15,7 +15,7 @@ use Rattle.hoa_lexer.specs.Blanks.{IsBlanks}
 use Rattle.hoa_lexer.specs.Moves.{IsWithin}
 use Rattle.hoa_lexer.specs.Reading.{unread}
 use Rattle.hoa_parser.specs.Raw.{Written}
-use Rattle.hoa_parser.specs.Reads.{AskedForLast, AsksOn, IsHopeless, MayHaveBegun}
+use Rattle.hoa_parser.specs.Reads.{AskedForLast, AsksOn, EndsDeep, IsHopeless, MayHaveBegun}
 use Rattle.hoa_parser.specs.Standing.{Stands, Whole, Deep, Bad, Cut}
 use Rattle.hoa_reader.specs.Elaborating.{PassesLimit}
 use Rattle.hoa_reader.specs.Validity.{IsFirstBroken}
@@ -41,9 +41,10 @@ pub record IsTruncated (start : ℕ) (rest left : List ℕ) : Type 0 where
   pub nothing : left ≡ []
   pub asks : AsksOn start rest left
 
--- A token opens one more than may be open, and nothing is taken past it.
+-- A token opens one more than may be open, and what is left is what follows it.
 pub record IsTooDeep (start : ℕ) (rest left : List ℕ) : Type 0 where
   pub deep : Stands Deep start rest
+  pub ends : EndsDeep start rest left
   pub last : AskedForLast start rest left
 
 -- Memory was wanting for an automaton that may have begun, or for one that was read whole. A byte may be held.

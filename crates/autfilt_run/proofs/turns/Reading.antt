@@ -53,7 +53,7 @@ stops_reading : (over : Limit → Written → Type 0) (f : ReadFault) (start : �
     → StopsAt over (fault_of_reading f) start old new
 stops_reading over (fault.Syntax k) start held' old new n h = record { bad = h.0; shown = h.1.0; last = h.1.1 }
 stops_reading over fault.Truncated start held' old new n h = record { cut = h.0; nothing = h.1.0; asks = h.1.1 }
-stops_reading over fault.Depth start held' old new n h = record { deep = h.0; last = h.1.1 }
+stops_reading over fault.Depth start held' old new n h = record { deep = h.0; ends = h.1.0; last = h.1.1 }
 stops_reading over fault.Bytes start held' old new n h = subst (λ (x : Option ℕ). StopsAt over (fault_of_reading fault.Bytes) start old (unread x new)) n h.0
 stops_reading over fault.Read start held' old new n h = subst (λ (x : Option ℕ). StopsAt over run.ReadFault start old (unread x new)) n h.0
 stops_reading over fault.Memory start held' old new n h = inl (held', h.0)
