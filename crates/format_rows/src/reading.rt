@@ -62,7 +62,7 @@ pub(crate) fn opened(alloc: Global, text: &[u8], failing: Numbers) -> Result<Mem
 }
 
 /// What comes out of the calls that a script tells.
-pub(crate) fn carry_out<I: Inputs>(
+pub(crate) fn carry_out<I: Inputs + Drop>(
     alloc: Global,
     script: Script,
     mut lexer: Lexer,
