@@ -1,6 +1,6 @@
 -- Lists in breadth-first order.
-use Rattle.std.specs.Prelude.{◌≡◌, Bool, if◌then◌else◌, List, [], ◌∷◌, ◌++◌, All, Contains, flat_map, fold}
-use Rattle.std.specs.List.{list_any}
+use Rattle.std.specs.Prelude.{◌≡◌, Bool, List, [], ◌∷◌, ◌++◌, All, Contains, flat_map, fold}
+use Rattle.exploration.specs.Turns.{with_new}
 
 -- steps that lead from one item to another by way of these
 abbrev pub Leads : {X : Type 0} → (X → List X) → X → List X → X → Type 0
@@ -13,10 +13,6 @@ pub record IsReached {X : Type 0} (starts : List X) (next : X → List X) (y : X
   pub is_start : Contains starts start
   pub way : List X
   pub leads : Leads next start way y
-
--- the list, and the item behind it unless it is there
-abbrev pub with_new : {X : Type 0} → (X → X → Bool) → List X → X → List X
-with_new same seen x = if list_any (same x) seen then seen else seen ++ x ∷ []
 
 -- the items in order, each where it first stands
 abbrev pub once : {X : Type 0} → (X → X → Bool) → List X → List X

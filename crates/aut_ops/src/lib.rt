@@ -1,10 +1,10 @@
 //! Automata made of automata: complete ones, sums and products, and automata with some of their states alone.
 #![tactic(auto)]
 
+mod breadth_first;
 mod completion;
 mod copies;
 mod edge_marks;
-mod exploration;
 mod fault;
 mod join;
 mod law;

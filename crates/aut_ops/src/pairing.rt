@@ -1,10 +1,10 @@
 //! The pairs of states that two automata reach together, and the links between them.
 
 ghost use Rattle.std.specs.Prelude.{◌≡◌, ◌<◌, ◌≤◌, [], All, IfOk, IsErrOf, OnOk, Some, flat_map, length, map, slice_get};
-ghost use Rattle.aut_ops.specs.BreadthFirst.{with_new};
 ghost use Rattle.aut_ops.specs.Products.{same_pair};
 ghost use Rattle.aut_ops.specs.declared.fault.PairFault.{PairFault};
 ghost use Rattle.aut_base.specs.declared.limit.TheConstants.{MOST_PAIRS};
+ghost use Rattle.exploration.specs.Turns.{with_new};
 ghost use Rattle.aut_ops.specs.inner.Pairings.{Adds, AreBeyond, CanMeet, followed, meeting};
 
 use crate::edge_marks::joint_marks;

@@ -13,8 +13,8 @@ ghost use Rattle.aut_ops.specs.inner.Joins.{IsMade, JoinAccepts, join_of};
 ghost use Rattle.aut_ops.specs.Paired.{core_of};
 ghost use Rattle.label_guards.specs.Store.{Keeps};
 
+use crate::breadth_first::{explore, list_starts};
 use crate::completion::complete;
-use crate::exploration::{explore, list_starts};
 use crate::fault::PairFault;
 use crate::join::Join;
 use crate::pairing::Pairing;

@@ -1,5 +1,5 @@
 -- Links that stand for edges, and the guards that are made of theirs.
-use Rattle.std.proofs.Common.{◌≡◌, ◌∙◌, ◌==◌, ◌<◌, ◌≤◌, ◌+◌, ◌||◌, ℕ, Bool, true, false, cond, not, List, [], ◌∷◌, ◌++◌, All, ap, arith, filter, get_or, length, map, refl, subst, sym, take}
+use Rattle.std.proofs.Common.{◌≡◌, ◌∙◌, ◌<◌, ◌≤◌, ◌+◌, ◌||◌, ℕ, Bool, true, not, List, [], ◌∷◌, ◌++◌, All, ap, arith, get_or, length, map, subst, sym, take}
 use Rattle.std.proofs.lemmas.List.{map-append, take_all}
 use Rattle.std.proofs.lemmas.List.Folds.{list_any-append}
 use Rattle.std.specs.List.{list_any}
@@ -13,24 +13,12 @@ use Rattle.aut_core.proofs.Made.{parts_from}
 use Rattle.aut_base.specs.Formula.{FormulaTree, SetsBelow}
 use Rattle.acc_forms.proofs.FormulaSets.{sets_weaker}
 use Rattle.aut_core.specs.Core.{AreParts, Core, IsCore, automaton_of, edge_of}
-use Rattle.aut_core.specs.Surveys.{edges_from}
 use Rattle.aut_core.specs.declared.link.Link.{Link}
 use Rattle.label_guards.specs.Guards.{IsGuardOf, truth_in}
 use Rattle.label_guards.specs.Store.{Has, Keeps, Store, label_in}
 use Rattle.label_guards.specs.declared.guard.Guard.{Guard}
 use Rattle.aut_ops.proofs.links.Labels.{label_from}
 use Rattle.aut_ops.specs.Labels.{no_label}
-
--- the links of a state are its edges
-pub edges_filter : (s : Store) (q : ℕ) (links : List Link) → edges_from q (map (edge_of s) links) ≡ map (edge_of s) (filter (λ l. l.from == q) links)
-edges_filter s q [] = refl
-edges_filter s q (l ∷ ls) = by (edges_filter s q ls) (l.from == q)
-  where
-    by : edges_from q (map (edge_of s) ls) ≡ map (edge_of s) (filter (λ (m : Link). m.from == q) ls) → (b : Bool)
-        → cond b (edge_of s l ∷ edges_from q (map (edge_of s) ls)) (edges_from q (map (edge_of s) ls)) ≡ map (edge_of s)
-        (cond b (l ∷ filter (λ (m : Link). m.from == q) ls) (filter (λ (m : Link). m.from == q) ls))
-    by rest true = ap (λ es. edge_of s l ∷ es) rest
-    by rest false = rest
 
 -- whether one of the edges is met
 abbrev pub some_met : List TreeEdge → (ℕ → Bool) → Bool

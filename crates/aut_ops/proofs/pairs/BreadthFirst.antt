@@ -1,16 +1,17 @@
 -- What holds of lists in breadth-first order.
-use Rattle.std.proofs.Common.{◌≡◌, ◌≢◌, ◌∙◌, ◌↔◌, ◌⊎◌, ◌<◌, ◌≤◌, ℕ, zero, suc, Bool, true, false, cond, List, [], ◌∷◌, ◌++◌, All, AllPairs, Contains}
+use Rattle.std.proofs.Common.{◌≡◌, ◌≢◌, ◌∙◌, ◌↔◌, ◌⊎◌, ◌<◌, ◌≤◌, ℕ, zero, suc, Bool, List, [], ◌∷◌, ◌++◌, All, AllPairs, Contains}
 use Rattle.std.proofs.Common.{ap, append_assoc, arith, drop, fold, get_or, inl, inr, length, length-append, refl, subst, sym, take}
 use Rattle.std.proofs.lemmas.Bool.{cases_lt}
 use Rattle.std.proofs.lemmas.List.{append-nil, get_or-take, length-take-le, take-append-drop, take-append-le, take_all}
-use Rattle.std.proofs.lemmas.List.Elements.{All-contains, All-push, Contains-append_left, Contains-append_right, Contains-get_or, Contains-push}
+use Rattle.std.proofs.lemmas.List.Elements.{All-contains, Contains-append_left, Contains-append_right, Contains-get_or, Contains-push}
 use Rattle.std.proofs.lemmas.List.Quantifiers.{all_pairs_push}
 use Rattle.std.proofs.lemmas.List.Sums.{fold-append}
 use Rattle.std.proofs.lemmas.Grind.{flat_map-append}
-use Rattle.std.specs.List.{list_any}
 use Rattle.std.specs.Prelude.{flat_map}
 use Rattle.aut_base.proofs.lists.Members.{Tells, found_there, item_at, none_there, there_cases, there_flat_map, there_found}
-use Rattle.aut_ops.specs.BreadthFirst.{IsBreadthFirst, IsReached, Leads, once, with_new}
+use Rattle.aut_ops.specs.BreadthFirst.{IsBreadthFirst, IsReached, Leads, once}
+use Rattle.exploration.proofs.Lists.{new_all, new_cases, new_longer}
+use Rattle.exploration.specs.Turns.{with_new}
 
 -- what is reached
 
@@ -38,16 +39,9 @@ reached_keeps P starts next first step y r = leads_keeps P next step r.start y r
 module _ {X : Type 0} (same : X → X → Bool) (tells : Tells same) where
   -- an item that is there, and one that isn't
   pub with_new_cases : (seen : List X) (x : X) → (Contains seen x × (with_new same seen x ≡ seen)) ⊎ ((Contains seen x → ⊥) × (with_new same seen x ≡ seen ++ x ∷ []))
-  with_new_cases seen x = by (list_any (same x) seen) refl
-    where
-      by : (b : Bool) → list_any (same x) seen ≡ b → (Contains seen x × (with_new same seen x ≡ seen)) ⊎ ((Contains seen x → ⊥) × (with_new same seen x ≡ seen ++ x ∷ []))
-      by true e = inl (found_there same tells x seen e, ap (λ (c : Bool). cond c seen (seen ++ x ∷ [])) e)
-      by false e = inr (λ there. let f = there_found same tells x seen there in cc, ap (λ (c : Bool). cond c seen (seen ++ x ∷ [])) e)
-
-  pub with_new_longer : (seen : List X) (x : X) → (rest : List X) × (with_new same seen x ≡ seen ++ rest)
-  with_new_longer seen x = elim (with_new_cases seen x) [
-    | inl old ↦ ([], old.1 ∙ sym (append-nil seen))
-    | inr new ↦ (x ∷ [], new.1)
+  with_new_cases seen x = elim (new_cases same seen x) [
+    | inl old ↦ inl (found_there same tells x seen old.0, old.1)
+    | inr new ↦ inr (λ there. let f = there_found same tells x seen there in let none = new.0 in cc, new.1)
   ]
 
   pub with_new_there : (seen : List X) (x : X) → Contains (with_new same seen x) x
@@ -60,7 +54,7 @@ module _ {X : Type 0} (same : X → X → Bool) (tells : Tells same) where
   pub added : (seen xs : List X) → (rest : List X) × (fold (with_new same) seen xs ≡ seen ++ rest)
   added seen [] = ([], sym (append-nil seen))
   added seen (x ∷ xs) =
-      let here = with_new_longer seen x in
+      let here = new_longer same seen x in
       let later = added (with_new same seen x) xs in
       (here.0 ++ later.0, later.1 ∙ (ap (λ ys. ys ++ later.0) here.1 ∙ append_assoc seen here.0 later.0))
 
@@ -83,12 +77,7 @@ module _ {X : Type 0} (same : X → X → Bool) (tells : Tells same) where
 
   pub added_each : (P : X → Type 0) (seen xs : List X) → All P seen → All P xs → All P (fold (with_new same) seen xs)
   added_each P seen [] old new = old
-  added_each P seen (x ∷ xs) old new =
-      let first : P x = new 0 x (omega arith) in
-      added_each P (with_new same seen x) xs (elim (with_new_cases seen x) [
-        | inl known ↦ subst (All P) (sym known.1) old
-        | inr fresh ↦ subst (All P) (sym fresh.1) (All-push P seen x old first)
-      ]) (λ k d within. new (suc k) d (omega (arith, within)))
+  added_each P seen (x ∷ xs) old new = added_each P (with_new same seen x) xs (new_all P same seen x old (new 0 x (omega arith))) (λ k d within. new (suc k) d (omega (arith, within)))
 
   pub once_differ : (xs : List X) → AllPairs (λ x y. x ≢ y) (once same xs)
   once_differ xs = added_differ [] xs (λ i j d l m. absurd (omega (arith, m)))

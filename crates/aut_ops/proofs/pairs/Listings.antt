@@ -7,10 +7,9 @@ use Rattle.std.proofs.lemmas.List.Sums.{fold-append}
 use Rattle.std.specs.Prelude.{flat_map}
 use Rattle.aut_base.proofs.lists.ListTests.{zip_append}
 use Rattle.aut_base.proofs.lists.Lists.{split-at, take-push}
-use Rattle.aut_ops.proofs.pairs.BreadthFirst.{with_new_longer}
+use Rattle.exploration.proofs.Lists.{new_longer}
 use Rattle.aut_ops.proofs.pairs.Pairings.{beyond_then, beyond_wider, longer_at}
-use Rattle.aut_ops.proofs.pairs.Places.{pair_tells}
-use Rattle.aut_ops.specs.BreadthFirst.{with_new}
+use Rattle.exploration.specs.Turns.{with_new}
 use Rattle.aut_ops.specs.Products.{same_pair}
 use Rattle.aut_ops.specs.inner.Pairings.{AreBeyond, AreListed, ArePlaces, with_pairs}
 
@@ -26,7 +25,7 @@ listed_none pairs starts = record { pairs = refl; places = λ before are. subst 
 pub listed_one : (old new : List (ℕ × ℕ)) (starts more : List ℕ) (place : ℕ) (x : ℕ × ℕ) → new ≡ with_new same_pair old x → slice_get new place ≡ Some x → more ≡ starts ++ place ∷ []
     → AreListed old new starts more (x ∷ [])
 listed_one old new starts more place x is at pushed =
-    let long = with_new_longer same_pair pair_tells old x in
+    let long = new_longer same_pair old x in
     record {
       pairs = is;
       places = λ before are. subst (λ ks. ArePlaces new ks (before ++ x ∷ [])) (sym pushed)

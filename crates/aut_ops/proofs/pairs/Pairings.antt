@@ -18,11 +18,12 @@ use Rattle.aut_core.specs.declared.link.Link.{Link}
 use Rattle.label_guards.specs.Guards.{IsGuardOf, IsNeverMet, truth_in}
 use Rattle.label_guards.specs.Store.{Has, Keeps, Store, label_in}
 use Rattle.label_guards.specs.declared.guard.Guard.{Guard}
-use Rattle.aut_ops.proofs.pairs.BreadthFirst.{added, with_new_longer}
+use Rattle.aut_ops.proofs.pairs.BreadthFirst.{added}
 use Rattle.aut_ops.proofs.joint_runs.JointEdges.{joined}
 use Rattle.aut_ops.proofs.links.Labels.{label_both, never_is}
 use Rattle.aut_ops.proofs.pairs.Places.{pair_tells}
-use Rattle.aut_ops.specs.BreadthFirst.{with_new}
+use Rattle.exploration.proofs.Lists.{new_longer}
+use Rattle.exploration.specs.Turns.{with_new}
 use Rattle.aut_ops.specs.Labels.{both_labels, is_never}
 use Rattle.aut_ops.specs.Products.{JointEdge, joint_edge, same_pair}
 use Rattle.aut_ops.specs.inner.Pairings.{Adds, AreBeyond, AreEdges, CanMeet, IsNumbered, Stage, followed, meeting, with_pairs}
@@ -60,7 +61,7 @@ pub adds_one : (s t : Store) (pairs more : List (ℕ × ℕ)) (links new : List 
     → Has t l.guard → slice_get pairs l.from ≡ Some j.from → slice_get more l.to ≡ Some j.to → label_in t l.guard ≡ j.label → l.marks ≡ j.marks
     → Adds (record { store = s; pairs = pairs; links = links }) (record { store = t; pairs = more; links = new }) (j ∷ [])
 adds_one s t pairs more links new l j keeps listed pushed has from to label marks =
-    let long = with_new_longer same_pair pair_tells pairs j.to in
+    let long = new_longer same_pair pairs j.to in
     let is : more ≡ pairs ++ long.0 = listed ∙ long.1 in
     record {
       keeps = keeps;

@@ -17,7 +17,7 @@ use Rattle.label_guards.specs.Guards.{IsGuardOf, IsNeverMet}
 use Rattle.label_guards.specs.Store.{Has, Keeps, Store, label_in}
 use Rattle.label_guards.specs.declared.guard.Guard.{Guard}
 use Rattle.aut_ops.proofs.links.Labels.{label_always, never_is}
-use Rattle.aut_ops.proofs.links.Linked.{edges_filter}
+use Rattle.aut_base.proofs.order.Ordered.{filter_map_of}
 use Rattle.aut_ops.specs.Completion.{filled_edges, gap_edges, sink_marks, with_sink}
 use Rattle.aut_ops.specs.Labels.{is_never, no_label}
 
@@ -59,7 +59,7 @@ row_have a s q row core keeps is =
 
 pub row_edges : (a : Core) (s : Store) (q : ℕ) (row : List Link) → IsCore a → Keeps a.store s → row ≡ filter (λ l. l.from == q) a.links → map (edge_of s) row ≡ edges_from q (automaton_of a).edges
 row_edges a s q row core keeps is =
-    ap (map (edge_of s)) is ∙ (sym (edges_filter s q a.links) ∙ ap (edges_from q) (kept_edges a.links keeps (links_have a core)))
+    ap (map (edge_of s)) is ∙ (sym (filter_map_of (λ (e : TreeEdge). e.from == q) (edge_of s) a.links) ∙ ap (edges_from q) (kept_edges a.links keeps (links_have a core)))
 
 -- one state more
 pub state_more : (a : Core) (s t : Store) (links new row : List Link) (q sink : ℕ) → sink ≡ a.states → IsCore a → Keeps a.store s → row ≡ filter (λ l. l.from == q) a.links

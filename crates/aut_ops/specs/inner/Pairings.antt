@@ -5,7 +5,7 @@ use Rattle.aut_base.specs.Automaton.{TreeEdge}
 use Rattle.aut_core.specs.Core.{edge_of}
 use Rattle.aut_core.specs.declared.link.Link.{Link}
 use Rattle.label_guards.specs.Store.{Has, Keeps, Store}
-use Rattle.aut_ops.specs.BreadthFirst.{with_new}
+use Rattle.exploration.specs.Turns.{with_new}
 use Rattle.aut_ops.specs.Products.{JointEdge, joint_edge, same_pair}
 
 -- the pairs in the order in which they were met, and the links between their places, with guards of the store

@@ -2,7 +2,7 @@ use Rattle.std.proofs.Common.{arith}
 use Rattle.aut_ops.proofs.pairs.Explorations.{explored_all, explored_beyond, explored_more, explored_none, pair_within, row_steps, rows_can}
 use Rattle.aut_base.proofs.Outcomes.{passed_on}
 use Rattle.aut_base.specs.declared.limit.TheConstants.{MOST_PAIRS}
-use Rattle.aut_ops.proofs.exploration.explore.Goals as goal
+use Rattle.aut_ops.proofs.breadth_first.explore.Goals as goal
 
 pub pairs-init : goal.pairs-init
 pairs-init c = explored_none MOST_PAIRS c.args.a.now c.args.b.now c.whole.ensures c.whole-2.ensures c.requires.names c.requires.sets c.args.pairing.now c.requires.first c.requires.second

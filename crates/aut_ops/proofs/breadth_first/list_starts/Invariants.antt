@@ -2,7 +2,7 @@ use Rattle.std.proofs.Common.{◌≡◌, ◌≤◌, [], length, take}
 use Rattle.aut_ops.specs.Products.{all_pairs}
 use Rattle.aut_base.specs.declared.limit.TheConstants.{MOST_PAIRS}
 use Rattle.aut_ops.specs.inner.Pairings.{AreListed}
-use Rattle.aut_ops.proofs.exploration.list_starts.Given as goal
+use Rattle.aut_ops.proofs.breadth_first.list_starts.Given as goal
 
 abbrev pub invariant-firsts : goal.invariant-firsts
 invariant-firsts l = record {

@@ -5,8 +5,8 @@ use Rattle.aut_ops.specs.Products.{all_pairs}
 use Rattle.aut_base.proofs.Outcomes.{passed_on}
 use Rattle.aut_base.specs.declared.limit.TheConstants.{MOST_PAIRS}
 use Rattle.aut_ops.specs.inner.Pairings.{AreBeyond, AreListed, ArePlaces, with_pairs}
-use Rattle.aut_ops.proofs.exploration.list_starts.Goals.{After-as_slice}
-use Rattle.aut_ops.proofs.exploration.list_starts.Goals as goal
+use Rattle.aut_ops.proofs.breadth_first.list_starts.Goals.{After-as_slice}
+use Rattle.aut_ops.proofs.breadth_first.list_starts.Goals as goal
 
 pub firsts-init : goal.firsts-init
 firsts-init c = record {

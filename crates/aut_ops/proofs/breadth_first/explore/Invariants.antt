@@ -1,7 +1,7 @@
 use Rattle.std.proofs.Common.{◌-◌}
 use Rattle.aut_base.specs.declared.limit.TheConstants.{MOST_PAIRS}
 use Rattle.aut_ops.proofs.pairs.Explorations.{IsExplored}
-use Rattle.aut_ops.proofs.exploration.explore.Given as goal
+use Rattle.aut_ops.proofs.breadth_first.explore.Given as goal
 
 abbrev pub invariant-pairs : goal.invariant-pairs
 invariant-pairs l = IsExplored MOST_PAIRS l.a l.b l.fn.pairing l.pairing l.done

@@ -5,7 +5,7 @@ use Rattle.aut_ops.proofs.pairs.Pairings.{beyond_one}
 use Rattle.aut_base.proofs.Outcomes.{passed_on}
 use Rattle.aut_base.specs.declared.limit.TheConstants.{MOST_PAIRS}
 use Rattle.aut_ops.specs.inner.Pairings.{AreListed}
-use Rattle.aut_ops.proofs.exploration.list_row.Goals as goal
+use Rattle.aut_ops.proofs.breadth_first.list_row.Goals as goal
 
 pub returns-in_err-place-clause-many : goal.returns-in_err-place-clause-many
 returns-in_err-place-clause-many c is =

@@ -1,7 +1,7 @@
 use Rattle.std.proofs.Common.{◌≡◌, ◌≤◌, length, map, take}
 use Rattle.aut_base.specs.declared.limit.TheConstants.{MOST_PAIRS}
 use Rattle.aut_ops.specs.inner.Pairings.{AreListed}
-use Rattle.aut_ops.proofs.exploration.list_row.Given as goal
+use Rattle.aut_ops.proofs.breadth_first.list_row.Given as goal
 
 abbrev pub invariant-seconds : goal.invariant-seconds
 invariant-seconds l = record {
