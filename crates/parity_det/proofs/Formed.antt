@@ -54,7 +54,8 @@ module _ (b : Automaton) (trees : List (List Node)) (arrows : List Arrow) (is : 
       let step = step_of b trees arrows is a there in
       let t = tree_at trees a.from in
       let v = class_at b trees arrows is a in
-      let same = root_moves_are_enough b.states (width trees) (moves_at b x) (class_moves b t v) t (is_tree b trees arrows is a.from step.inside) (same_root_moves b t v x (edge_alike b set_of marks_of a x e)) in
+      let same = root_moves_are_enough b.states (width trees) (moves_at b x) (class_moves b t v) t
+      (is_tree b trees arrows is a.from step.inside) (same_root_moves b t v x (edge_alike b set_of marks_of a x e)) in
       record { to = step.below; tree = sym step.leads ∙ sym same.0; marks = ap (λ (m : ℕ). m ∷ []) (sym same.1) }
 
   goes_on : (i : ℕ) → i < length trees → (x : NameSet) → GoesOn made i x
