@@ -9,8 +9,9 @@ use Rattle.std.proofs.lemmas.List.Kept.{AllPairs-cons, AllPairs-filter}
 use Rattle.std.specs.List.{list_any}
 use Rattle.aut_base.specs.Automaton.{Automaton, TreeEdge}
 use Rattle.aut_base.specs.Word.{NameSet}
-use Rattle.aut_core.specs.Deterministic.{AreApart, GoesOn, IsComplete, IsDeterministic, is_met}
-use Rattle.aut_core.specs.Surveys.{AreAllApart, IsFilled, edges_from}
+use Rattle.aut_core.specs.Deterministic.{AreApart, GoesOn, GoesOneWay, IsComplete, IsDeterministic, is_met}
+use Rattle.aut_core.specs.Surveys.{AreAllApart, AreSurveyed, IsFilled, edges_from}
+use Rattle.aut_core.specs.declared.survey.Survey.{Survey}
 
 -- the edges with this start, of a list that begins with e
 abbrev from_or : ℕ → TreeEdge → List TreeEdge → Bool → List TreeEdge
@@ -72,3 +73,10 @@ complete_if a b some is = (
 
 pub not_complete : (a : Automaton) (b : Bool) → (length a.starts == 0) ≡ true → b ≡ not (length a.starts == 0) → IsTrue b ↔ IsComplete a
 not_complete a b none is = (λ e. absurd (false≢true (sym (ap not none) ∙ (sym is ∙ e))), λ d. absurd (omega (arith, d.start, eqb-true (length a.starts) 0 none)))
+
+-- Where each letter meets just one edge of every state, both are so.
+pub one_way_surveyed : (a : Automaton) (found : Survey) → GoesOneWay a → found.apart ≡ true → found.filled ≡ true → AreSurveyed a.names a.edges a.states found
+one_way_surveyed a found one apart filled = record {
+  apart = (λ e q l. state_by_apart a.names a.edges one.apart q, λ h. apart);
+  filled = (λ e q l letter. met_at a q letter (one.on q l letter), λ h. filled);
+}

@@ -1,49 +1,49 @@
--- What the guards of links tell, link by link.
+-- What the guards of links tell, by halves.
 use Rattle.aut_base.proofs.numbers.Truth.{or-false}
-use Rattle.std.proofs.Common.{◌≡◌, ◌∙◌, ◌↔◌, ◌+◌, ◌<◌, ◌≤◌, ℕ, Bool, true, false, ◌&&◌, ◌||◌, IsTrue, List, [], ◌∷◌, ◌++◌, All, ap, arith, get_or, length, length-append, map, refl, subst, sym}
-use Rattle.std.proofs.lemmas.Bool.{and_from, and_parts, false≢true}
-use Rattle.std.proofs.lemmas.List.{get_or_append_left, get_or-append-add, map-append}
+use Rattle.std.proofs.Common.{◌≡◌, ◌∙◌, ◌↔◌, ◌+◌, ◌-◌, ◌/◌, ◌<◌, ◌≤◌, ℕ, Bool, true, false, ◌&&◌, ◌||◌, IfOk, IsTrue, List, [], ◌∷◌, ◌++◌, All, Err, Ok, Result, ap, arith, drop, get_or, length, length-append, map, refl, subst, sym, take}
+use Rattle.std.proofs.lemmas.Bool.{and_from, false≢true, or_from, or_left}
+use Rattle.std.proofs.lemmas.List.{get_or_append_left, get_or-append-add, get_or_default, length-drop, length-take, take-append-drop, take_all}
+use Rattle.std.proofs.lemmas.List.Elements.{All-drop, All-take, All-weaker}
 use Rattle.std.proofs.lemmas.List.Folds.{Any-from_list_any, list_any-append, list_any_at}
-use Rattle.std.proofs.lemmas.List.Quantifiers.{all_pairs_push}
+use Rattle.aut_base.proofs.order.AllPairsOf.{pairs_append}
 use Rattle.std.specs.List.{list_any}
 use Rattle.aut_base.specs.Automaton.{TreeEdge}
 use Rattle.aut_base.specs.Label.{holds_at, truth}
 use Rattle.aut_base.specs.Word.{NameSet}
-use Rattle.label_guards.specs.Guards.{IsGuardOf, IsMetByTheSame, truth_in}
-use Rattle.label_guards.specs.Store.{Has, Keeps, Store, label_in}
+use Rattle.label_guards.specs.Guards.{IsGuardOf, truth_in}
+use Rattle.label_guards.specs.Store.{Has, Keeps, Store}
 use Rattle.label_guards.specs.declared.guard.Guard.{Guard}
 use Rattle.aut_core.specs.Core.{edge_of}
-use Rattle.aut_core.specs.Surveys.{AreAllApart, AreMetApart, IsMetAlways, IsSurvey}
+use Rattle.aut_core.specs.Surveys.{AreAllApart, AreMetApart, IsMet, IsMetAlways, IsSurvey}
 use Rattle.aut_core.specs.Deterministic.{AreApart, is_met}
 use Rattle.aut_core.specs.declared.link.Link.{Link}
+use Rattle.aut_core.specs.declared.survey.Met.{Met}
 use Rattle.aut_core.specs.declared.survey.Survey.{Survey}
-use Rattle.aut_core.proofs.Growth.{keeps_none, keeps_on, kept_edges}
-
--- what is known after these links: the guard that is true where one of theirs is, and whether they are apart, if that is asked
-pub record IsLooked (names : List (List ℕ)) (old now : Store) (links : List Link) (met : Guard) (asked are_apart : Bool) : Type 0 where
-  pub keeps : Keeps old now
-  pub has : Has now met
-  pub truth : (on : ℕ → Bool) → truth_in now met on ≡ list_any (λ e. truth on e.label) (map (edge_of old) links)
-  pub apart : IsTrue are_apart ↔ (IsTrue asked × AreAllApart names (map (edge_of old) links))
-
-pub looked_none : (names : List (List ℕ)) (s : Store) (met : Guard) (asked : Bool) → IsGuardOf s (λ on. false) met → IsLooked names s s [] met asked asked
-looked_none names s met asked never = record {
-  keeps = keeps_none s;
-  has = never.has;
-  truth = never.truth;
-  apart = (λ e. (e, λ i j d less within. absurd (omega (arith, within))), λ h. h.0);
-}
+use Rattle.aut_core.proofs.Growth.{kept_edges}
 
 false_true : (b : Bool) → b ≡ false → b ≡ true → ⊥
 false_true b e f = cc
 
--- no letter meets one of the edges and the next
-abbrev IsApartFrom : List (List ℕ) → List TreeEdge → TreeEdge → Type 0
-IsApartFrom names es e = (letter : NameSet) → (list_any (is_met names letter) es && is_met names letter e) ≡ false
+both_false : (p q : Bool) → (p ≡ true → q ≡ true → ⊥) → (p && q) ≡ false
+both_false false q h = refl
+both_false true false h = refl
+both_false true true h = absurd (h refl refl)
 
-apart_push : (names : List (List ℕ)) (es : List TreeEdge) (e : TreeEdge) → AreAllApart names es → IsApartFrom names es e → AreAllApart names (es ++ e ∷ [])
-apart_push names es e all next = all_pairs_push (AreApart names) es e all
-    (λ k d within letter first second. false_true _ (next letter) (and_from _ _ (list_any_at (is_met names letter) es k d within first) second))
+or_right : (a b : Bool) → b ≡ true → (a || b) ≡ true
+or_right true b e = refl
+or_right false b e = e
+
+weaker : (a b c : Bool) → (a ≡ true → b ≡ true) → (a || c) ≡ true → (b || c) ≡ true
+weaker true b c f e = or_left b c (f refl)
+weaker false b c f e = or_right b c e
+
+-- no letter meets one of the edges and one of the others
+abbrev IsApartFrom : List (List ℕ) → List TreeEdge → List TreeEdge → Type 0
+IsApartFrom names es fs = (letter : NameSet) → (list_any (is_met names letter) es && list_any (is_met names letter) fs) ≡ false
+
+apart_both : (names : List (List ℕ)) (es fs : List TreeEdge) → AreAllApart names es → AreAllApart names fs → IsApartFrom names es fs → AreAllApart names (es ++ fs)
+apart_both names es fs first second across = pairs_append (AreApart names) es fs first second
+    (λ k d within m e there letter here other. false_true _ (across letter) (and_from _ _ (list_any_at (is_met names letter) es k d within here) (list_any_at (is_met names letter) fs m e there other)))
 
 apart_front : (names : List (List ℕ)) (es more : List TreeEdge) → AreAllApart names (es ++ more) → AreAllApart names es
 apart_front names es more all i j d less within letter first second =
@@ -52,78 +52,83 @@ apart_front names es more all i j d less within letter first second =
     let right = get_or_append_left es more d j within in
     all i j d less (omega (arith, size)) letter (ap (is_met names letter) left ∙ first) (ap (is_met names letter) right ∙ second)
 
-both_false : (p q : Bool) → (p ≡ true → q ≡ true → ⊥) → (p && q) ≡ false
-both_false false q h = refl
-both_false true false h = refl
-both_false true true h = absurd (h refl refl)
+apart_back : (names : List (List ℕ)) (es more : List TreeEdge) → AreAllApart names (es ++ more) → AreAllApart names more
+apart_back names es more all i j d less within letter first second =
+    let size = length-append es more in
+    let left = get_or-append-add es more i d in
+    let right = get_or-append-add es more j d in
+    all (length es + i) (length es + j) d (omega (arith, less)) (omega (arith, size, within)) letter (ap (is_met names letter) left ∙ first) (ap (is_met names letter) right ∙ second)
 
-apart_last : (names : List (List ℕ)) (es : List TreeEdge) (e : TreeEdge) → AreAllApart names (es ++ e ∷ []) → IsApartFrom names es e
-apart_last names es e all letter =
-    both_false _ _ (λ some here.
+apart_from : (names : List (List ℕ)) (es fs : List TreeEdge) → AreAllApart names (es ++ fs) → IsApartFrom names es fs
+apart_from names es fs all letter =
+    both_false _ _ (λ some other.
     let found = Any-from_list_any (is_met names letter) es some in
-    let size = length-append es (e ∷ []) in
-    let left = get_or_append_left es (e ∷ []) found.1 found.0 found.2 in
-    let right = get_or-append-add es (e ∷ []) 0 found.1 in
-    let at : get_or (es ++ e ∷ []) found.0 found.1 ≡ found.1 = left ∙ found.3 in
-    all found.0 (length es + 0) found.1 (omega (arith, found.2)) (omega (arith, size)) letter (ap (is_met names letter) at ∙ found.4) (ap (is_met names letter) right ∙ here))
+    let next = Any-from_list_any (is_met names letter) fs other in
+    let size = length-append es fs in
+    let left = get_or_append_left es fs found.1 found.0 found.2 ∙ found.3 in
+    let right = get_or-append-add es fs next.0 found.1 ∙ (get_or_default fs next.0 found.1 next.1 next.2 ∙ next.3) in
+    all found.0 (length es + next.0) found.1 (omega (arith, found.2)) (omega (arith, size, next.2)) letter (ap (is_met names letter) left ∙ found.4) (ap (is_met names letter) right ∙ next.4))
 
-apart_more : (names : List (List ℕ)) (es : List TreeEdge) (e : TreeEdge) (asked are more : Bool) → IsTrue are ↔ (IsTrue asked × AreAllApart names es)
-    → IsTrue more ↔ (IsTrue are × IsApartFrom names es e) → IsTrue more ↔ (IsTrue asked × AreAllApart names (es ++ e ∷ []))
-apart_more names es e asked are more f g = (
-  λ h. (let parts = g.0 h in let both = f.0 parts.0 in (both.0, apart_push names es e both.1 parts.1)),
-  λ h. g.1 (f.1 (h.0, apart_front names es (e ∷ []) h.1), apart_last names es e h.1),
-)
-
--- A link more. Its guard was compared with the disjunction, and then joined to it.
-pub looked_more : (names : List (List ℕ)) (old s t now : Store) (links : List Link) (x : Link) (met next : Guard) (asked are more : Bool) → Has old x.guard → IsLooked names old s links met asked are
-    → Keeps s t → (IsTrue more ↔ (IsTrue are × AreMetApart s names met x.guard)) → Keeps t now → IsGuardOf now (λ on. truth_in t met on || truth_in t x.guard on) next
-    → IsLooked names old now (links ++ x ∷ []) next asked more
-looked_more names old s t now links x met next asked are more has looked first is_more second is_next =
-    let whole : map (edge_of old) (links ++ x ∷ []) ≡ map (edge_of old) links ++ edge_of old x ∷ [] = map-append (edge_of old) links (x ∷ []) in
-    let in_s : (on : ℕ → Bool) → truth_in s x.guard on ≡ truth on (label_in old x.guard) = λ on. ap (truth on) (looked.keeps.labels x.guard has) in
-    let in_t : (on : ℕ → Bool) → truth_in t x.guard on ≡ truth on (label_in old x.guard) = λ on. ap (truth on) (first.labels x.guard (looked.keeps.has x.guard has)) ∙ in_s on in
-    let met_in_t : (on : ℕ → Bool) → truth_in t met on ≡ list_any (λ (e : TreeEdge). truth on e.label) (map (edge_of old) links) = λ on. ap (truth on) (first.labels met looked.has)
-    ∙ looked.truth on in
-    let here : (on : ℕ → Bool) → (truth_in s met on && truth_in s x.guard on) ≡ (list_any (λ (e : TreeEdge). truth on e.label) (map (edge_of old) links) && truth on (label_in old x.guard)) =
-    λ on i. looked.truth on i && in_s on i in
-    record {
-      keeps = keeps_on looked.keeps (keeps_on first second);
-      has = is_next.has;
-      truth = λ on. is_next.truth on ∙ (ap (λ b. b || truth_in t x.guard on) (met_in_t on)
-          ∙ (ap (λ b. list_any (λ (e : TreeEdge). truth on e.label) (map (edge_of old) links) || b) (in_t on ∙ sym (or-false (truth on (label_in old x.guard))))
-          ∙ (sym (list_any-append (λ (e : TreeEdge). truth on e.label) (map (edge_of old) links) (edge_of old x ∷ [])) ∙ sym (ap (list_any (λ (e : TreeEdge). truth on e.label)) whole))));
-      apart = subst (λ (es : List TreeEdge). IsTrue more ↔ (IsTrue asked × AreAllApart names es)) (sym whole)
-          (apart_more names (map (edge_of old) links) (edge_of old x) asked are more looked.apart (
-            (λ e. (let parts = is_more.0 e in (parts.0, λ letter. sym (here (holds_at names letter)) ∙ parts.1 letter))),
-            (λ h. is_more.1 (h.0, λ letter. here (holds_at names letter) ∙ h.1 letter)),
-          ));
-    }
-
-pub looked_all : (names : List (List ℕ)) (old s : Store) (links : List Link) (met always : Guard) (known : Survey) (are filled all : Bool) → IsLooked names old s links met known.apart are
-    → IsGuardOf s (λ on. true) always → (IsTrue filled ↔ IsMetByTheSame s names met always) → all ≡ (known.filled && filled)
-    → IsSurvey names (map (edge_of old) links) known (record { apart = are; filled = all })
-looked_all names old s links met always known are filled all looked is_always same is = record {
-  apart = looked.apart;
-  filled = (
-    (λ e. (let parts = and_parts known.filled filled (sym is ∙ e) in
-        (parts.0, λ letter. sym (looked.truth (holds_at names letter)) ∙ (same.0 parts.1 letter ∙ is_always.truth (holds_at names letter))))),
-    (λ h. is ∙ and_from known.filled filled h.0 (same.1 (λ letter. looked.truth (holds_at names letter) ∙ (h.1 letter ∙ sym (is_always.truth (holds_at names letter)))))),
-  );
+-- one link alone
+pub alone_met : (names : List (List ℕ)) (s : Store) (x : Link) (known : Survey) → Has s x.guard → IsMet names s (edge_of s x ∷ []) known (record { guard = x.guard; apart = known.apart })
+alone_met names s x known has = record {
+  has = has;
+  truth = λ asked on. sym (or-false (truth_in s x.guard on));
+  apart = (λ e. (e, λ i j d less within. absurd (omega (arith, less, within))), λ h. h.0);
 }
 
--- Nothing is left to be learnt from the links behind these.
-pub looked_enough : (names : List (List ℕ)) (old s : Store) (links more all : List Link) (met : Guard) (known : Survey) (are : Bool) → all ≡ links ++ more → are ≡ false → known.filled ≡ false
-    → IsLooked names old s links met known.apart are → IsSurvey names (map (edge_of old) all) known (record { apart = false; filled = false })
-looked_enough names old s links more all met known are parted not_apart not_filled looked = record {
+-- Where nothing is left to be learnt, any guard will do.
+pub unasked_met : (names : List (List ℕ)) (s : Store) (es : List TreeEdge) (g : Guard) (known : Survey) → known.apart ≡ false → known.filled ≡ false → Has s g
+    → IsMet names s es known (record { guard = g; apart = known.apart })
+unasked_met names s es g known not_apart not_filled has = record {
+  has = has;
+  truth = λ asked. absurd (false≢true (sym (or_from known.apart known.filled not_apart not_filled) ∙ asked));
+  apart = (λ e. absurd (false≢true (sym not_apart ∙ e)), λ h. h.0);
+}
+
+-- Two halves, of which the second was told with the first.
+pub halves_met : (names : List (List ℕ)) (s t now : Store) (es fs : List TreeEdge) (known : Survey) (first second met : Met) → IsMet names s es known first → Keeps s t
+    → IsMet names t fs (record { apart = first.apart; filled = known.filled }) second → Has now met.guard
+    → (IsTrue (second.apart || known.filled) → IsGuardOf now (λ on. truth_in t first.guard on || truth_in t second.guard on) met.guard)
+    → (IsTrue met.apart ↔ (IsTrue second.apart × AreMetApart t names first.guard second.guard)) → IsMet names now (es ++ fs) known met
+halves_met names s t now es fs known first second met is_first keeps is_second has guard apart = record {
+  has = has;
+  truth = λ asked on.
+      let more = weaker met.apart second.apart known.filled (λ e. (apart.0 e).0) asked in
+      let most = weaker second.apart first.apart known.filled (λ e. (is_second.apart.0 e).0) more in
+      (guard more).truth on ∙ ((λ i. first_there most on i || is_second.truth more on i) ∙ sym (list_any-append (λ (e : TreeEdge). truth on e.label) es fs));
   apart = (
-    (λ e. absurd (false≢true e)),
-    (λ h. sym not_apart ∙ looked.apart.1 (
-      h.0,
-      apart_front names (map (edge_of old) links) (map (edge_of old) more)
-          (subst (AreAllApart names) (ap (map (edge_of old)) parted ∙ map-append (edge_of old) links more) h.1),
-    )),
+    (λ e.
+        let parts = apart.0 e in
+        let later = is_second.apart.0 parts.0 in
+        let earlier = is_first.apart.0 later.0 in
+        (earlier.0, apart_both names es fs earlier.1 later.1 (λ letter. sym (here later.0 parts.0 letter) ∙ parts.1 letter))),
+    (λ h.
+        let earlier = is_first.apart.1 (h.0, apart_front names es fs h.1) in
+        let later = is_second.apart.1 (earlier, apart_back names es fs h.1) in
+        apart.1 (later, λ letter. here earlier later letter ∙ apart_from names es fs h.1 letter)),
   );
-  filled = ((λ e. absurd (false≢true e)), (λ h. sym not_filled ∙ h.0));
+}
+  where
+    first_there : IsTrue (first.apart || known.filled) → (on : ℕ → Bool) → truth_in t first.guard on ≡ list_any (λ (e : TreeEdge). truth on e.label) es
+    first_there asked on = ap (truth on) (keeps.labels first.guard is_first.has) ∙ is_first.truth asked on
+
+    here : IsTrue first.apart → IsTrue second.apart → (letter : NameSet)
+        → (truth_in t first.guard (holds_at names letter) && truth_in t second.guard (holds_at names letter)) ≡ (list_any (is_met names letter) es && list_any (is_met names letter) fs)
+    here e f letter i =
+        first_there (or_left first.apart known.filled e) (holds_at names letter) i && is_second.truth (or_left second.apart known.filled f) (holds_at names letter) i
+
+-- What links of one state tell, by the guard that is true where one of them is met.
+pub met_survey : (names : List (List ℕ)) (s : Store) (es : List TreeEdge) (known found : Survey) (met : Met) → IsMet names s es known met → found.apart ≡ met.apart
+    → (IsTrue found.filled ↔ (IsTrue known.filled × IsMetAlways s names met.guard)) → IsSurvey names es known found
+met_survey names s es known found met is apart filled = record {
+  apart = (λ e. is.apart.0 (sym apart ∙ e), λ h. apart ∙ is.apart.1 h);
+  filled = (
+    (λ e.
+        let parts = filled.0 e in
+        (parts.0, λ letter. sym (is.truth (or_right met.apart known.filled parts.0) (holds_at names letter)) ∙ parts.1 letter)),
+    (λ h. filled.1 (h.0, λ letter. is.truth (or_right met.apart known.filled h.0) (holds_at names letter) ∙ h.1 letter)),
+  );
 }
 
 pub no_link : (xs : List Link) → length xs < 1 → [] ≡ xs
@@ -149,21 +154,32 @@ none_surveyed names s never known found is apart filled = record {
   );
 }
 
--- One link alone is met where its guard is, and none twice.
-pub one_surveyed : (names : List (List ℕ)) (s : Store) (x : Link) (known found : Survey) → found.apart ≡ known.apart
-    → (IsTrue found.filled ↔ (IsTrue known.filled × IsMetAlways s names x.guard)) → IsSurvey names (edge_of s x ∷ []) known found
-one_surveyed names s x known found apart filled = record {
-  apart = (
-    (λ e. (sym apart ∙ e, λ i j d less within. absurd (omega (arith, less, within)))),
-    (λ h. apart ∙ h.0),
-  );
-  filled = (
-    (λ e. (let parts = filled.0 e in (parts.0, λ letter. or-false (truth_in s x.guard (holds_at names letter)) ∙ parts.1 letter))),
-    (λ h. filled.1 (h.0, λ letter. sym (or-false (truth_in s x.guard (holds_at names letter))) ∙ h.1 letter)),
-  );
-}
-
 -- What is said of edges in a store that keeps the labels.
 pub kept_survey : (names : List (List ℕ)) (s t : Store) (links : List Link) (known found : Survey) → Keeps s t → All (λ l. Has s l.guard) links
     → IsSurvey names (map (edge_of t) links) known found → IsSurvey names (map (edge_of s) links) known found
 kept_survey names s t links known found keeps has = subst (λ (es : List TreeEdge). IsSurvey names es known found) (kept_edges links keeps has)
+
+-- the second half of the links
+abbrev pub rest_of : List Link → List Link
+rest_of links = take (length links - length links / 2) (drop (length links / 2) links)
+
+pub length-rest_of : (links : List Link) → length (rest_of links) ≡ length links - length links / 2
+length-rest_of links =
+    let whole = length-drop (length links / 2) links in
+    let part = length-take (length links - length links / 2) (drop (length links / 2) links) in
+    omega (arith, whole, part)
+
+pub both_halves : (links : List Link) → take (length links / 2) links ++ rest_of links ≡ links
+both_halves links =
+    let whole = length-drop (length links / 2) links in
+    ap (λ ls. take (length links / 2) links ++ ls) (take_all (length links - length links / 2) (drop (length links / 2) links) (omega (arith, whole))) ∙ take-append-drop (length links / 2) links
+
+pub rest_has : {s t : Store} (links : List Link) → Keeps s t → All (λ l. Has s l.guard) links → All (λ l. Has t l.guard) (rest_of links)
+rest_has {s} {t} links keeps has =
+    All-weaker (λ (l : Link). Has s l.guard) (λ (l : Link). Has t l.guard) (λ l h. keeps.has l.guard h) (rest_of links)
+    (All-take (λ (l : Link). Has s l.guard) (length links - length links / 2) (drop (length links / 2) links) (All-drop (λ (l : Link). Has s l.guard) (length links / 2) links has))
+
+-- what follows of an answer of which three things are known
+pub of_three : {E : Type 0} {P Q R T : Met → Type 0} (r : Result Met E) → ((m : Met) → P m → Q m → R m → T m) → IfOk r P → IfOk r Q → IfOk r R → IfOk r T
+of_three (Ok m) f p q r = f m p q r
+of_three (Err e) f p q r = tt

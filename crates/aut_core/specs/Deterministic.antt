@@ -28,3 +28,8 @@ pub record GoesOn (a : Automaton) (state : ℕ) (letter : NameSet) : Type 0 wher
 pub record IsComplete (a : Automaton) : Type 0 where
   pub start : 0 < length a.starts
   pub edges : (state : ℕ) → state < a.states → (letter : NameSet) → GoesOn a state letter
+
+-- At every state each letter meets just one edge, as it is with implicit labels (HOA v1, implicit labels).
+pub record GoesOneWay (a : Automaton) : Type 0 where
+  pub apart : AllPairs (λ d e. d.from ≡ e.from → AreApart a.names d e) a.edges
+  pub on : (state : ℕ) → state < a.states → (letter : NameSet) → GoesOn a state letter

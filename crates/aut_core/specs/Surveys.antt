@@ -1,13 +1,14 @@
 -- What the links of one state tell together. Only inner functions speak in these words.
-use Rattle.std.specs.Prelude.{◌≡◌, ◌↔◌, ℕ, ◌==◌, ◌<◌, ◌&&◌, false, true, IsTrue, List, filter, AllPairs}
+use Rattle.std.specs.Prelude.{◌≡◌, ◌↔◌, ℕ, ◌==◌, ◌<◌, ◌&&◌, ◌||◌, Bool, false, true, IsTrue, List, filter, AllPairs}
 use Rattle.std.specs.List.{list_any}
 use Rattle.aut_base.specs.Automaton.{TreeEdge}
-use Rattle.aut_base.specs.Label.{holds_at}
+use Rattle.aut_base.specs.Label.{holds_at, truth}
 use Rattle.aut_base.specs.Word.{NameSet}
 use Rattle.aut_core.specs.Deterministic.{AreApart, is_met}
+use Rattle.aut_core.specs.declared.survey.Met.{Met}
 use Rattle.aut_core.specs.declared.survey.Survey.{Survey}
 use Rattle.label_guards.specs.Guards.{truth_in}
-use Rattle.label_guards.specs.Store.{Store}
+use Rattle.label_guards.specs.Store.{Has, Store}
 use Rattle.label_guards.specs.declared.guard.Guard.{Guard}
 
 -- no letter meets two of the edges
@@ -26,6 +27,13 @@ edges_from state = filter (λ e. e.from == state)
 pub record IsSurvey (names : List (List ℕ)) (es : List TreeEdge) (known found : Survey) : Type 0 where
   pub apart : IsTrue found.apart ↔ (IsTrue known.apart × AreAllApart names es)
   pub filled : IsTrue found.filled ↔ (IsTrue known.filled × IsFilled names es)
+
+-- Where one of the edges is met, as long as there is anything to learn; and whether no letter meets two of them, if nothing else was
+-- known before.
+pub record IsMet (names : List (List ℕ)) (s : Store) (es : List TreeEdge) (known : Survey) (met : Met) : Type 0 where
+  pub has : Has s met.guard
+  pub truth : IsTrue (met.apart || known.filled) → (on : ℕ → Bool) → truth_in s met.guard on ≡ list_any (λ e. truth on e.label) es
+  pub apart : IsTrue met.apart ↔ (IsTrue known.apart × AreAllApart names es)
 
 -- no letter meets both guards
 abbrev pub AreMetApart : Store → List (List ℕ) → Guard → Guard → Type 0

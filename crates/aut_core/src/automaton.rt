@@ -1,18 +1,20 @@
 //! Automata whose labels are guards.
 
-ghost use Rattle.std.specs.Prelude.{◌≡◌, ◌==◌, ◌<◌, ◌≤◌, ◌↔◌, ℕ, All, Contains, filter, IfOk, IsTrue, length};
+ghost use Rattle.std.specs.Prelude.{◌≡◌, ◌==◌, ◌<◌, ◌≤◌, ◌↔◌, ℕ, All, Contains, filter, IfOk, IsTrue, length, map};
 ghost use Rattle.aut_base.specs.Formula.{SetsBelow, formula_tree};
 ghost use Rattle.aut_base.specs.declared.limit.TheConstants.{MOST_NAMES};
-ghost use Rattle.aut_core.specs.Core.{AreParts, IsCore, automaton_of};
-ghost use Rattle.aut_core.specs.Deterministic.{IsComplete, IsDeterministic};
+ghost use Rattle.aut_core.specs.Core.{AreParts, IsCore, automaton_of, edge_of};
+ghost use Rattle.aut_core.specs.Deterministic.{GoesOneWay, IsComplete, IsDeterministic};
+ghost use Rattle.aut_core.specs.Index.{IsIndex};
 ghost use Rattle.aut_core.specs.Links.{StandFor};
 ghost use Rattle.aut_core.specs.OtherNames.{over_names};
+ghost use Rattle.aut_core.specs.Surveys.{AreSurveyed};
 
 use crate::copies::{copy_links, copy_names, copy_numbers, copy_places};
-use crate::link::{Link, Links, marks_rise};
-use crate::survey::survey_states;
+use crate::link::{Link, Links, marks_rise, rows_of};
+use crate::survey::{Survey, survey_states};
 use aut_base::{Formula, Memory, Names, Numbers, Places};
-use label_guards::Guards;
+use label_guards::{Draft, Guards};
 use std::alloc::Global;
 use std::marker::Model;
 
@@ -87,19 +89,72 @@ impl Automaton {
         requires { AreParts (record { names = names; starts = starts; states = states; links = links; sets = sets; formula = formula_tree formula; store = guards }) }
         ensures { IfOk result (λ made. made ≡ record { names = names; starts = starts; states = states; links = links; sets = sets; formula = formula_tree formula; store = guards }) }
     {
+        let rows = rows_of(alloc, links.as_slice(), states)?;
+        let mut draft = Draft::new(alloc, guards);
+        let found = survey_states(&mut draft, &names, links.as_slice(), &rows, states)?;
+        let guards = draft.into_guards();
+        Automaton::surveyed(
+            alloc, names, guards, states, starts, links, rows, sets, formula, found,
+        )
+    }
+
+    /// The automaton of these parts, where each letter meets just one edge of every state, as it is with implicit labels (HOA v1).
+    /// So no guard is looked at. Refused for want of memory, it drops them.
+    pub fn from_letters(
+        alloc: Global,
+        names: Names,
+        guards: Guards,
+        states: u32,
+        starts: Numbers,
+        links: Links,
+        sets: u32,
+        formula: Formula,
+    ) -> Result<Automaton, Memory>
+        requires parts { AreParts (record { names = names; starts = starts; states = states; links = links; sets = sets; formula = formula_tree formula; store = guards }) }
+        requires letters { GoesOneWay (automaton_of (record { names = names; starts = starts; states = states; links = links; sets = sets; formula = formula_tree formula; store = guards })) }
+        ensures { IfOk result (λ made. made ≡ record { names = names; starts = starts; states = states; links = links; sets = sets; formula = formula_tree formula; store = guards }) }
+    {
+        let rows = rows_of(alloc, links.as_slice(), states)?;
+        let found = Survey {
+            apart: true,
+            filled: true,
+        };
+        Automaton::surveyed(
+            alloc, names, guards, states, starts, links, rows, sets, formula, found,
+        )
+    }
+
+    /// The automaton of these parts, with what its guards tell and where the links of each state begin.
+    fn surveyed(
+        alloc: Global,
+        names: Names,
+        guards: Guards,
+        states: u32,
+        starts: Numbers,
+        links: Links,
+        rows: Places,
+        sets: u32,
+        formula: Formula,
+        found: Survey,
+    ) -> Result<Automaton, Memory>
+        requires parts { AreParts (record { names = names; starts = starts; states = states; links = links; sets = sets; formula = formula_tree formula; store = guards }) }
+        requires rows { IsIndex links states rows }
+        requires found { AreSurveyed names (map (edge_of guards) links) states found }
+        ensures { IfOk result (λ made. made ≡ record { names = names; starts = starts; states = states; links = links; sets = sets; formula = formula_tree formula; store = guards }) }
+    {
         marks_rise(links.as_slice());
-        let all = survey_states(alloc, &guards, &names, links.as_slice(), states)?;
+        let _names = names.as_slice();
         let is_single = starts.len() <= 1;
-        let is_deterministic = is_single && all.found.apart;
+        let is_deterministic = is_single && found.apart;
         let has_start = !starts.is_empty();
-        let is_complete = has_start && all.found.filled;
+        let is_complete = has_start && found.filled;
         let fields = Fields {
             names,
             guards,
             states,
             starts,
             links,
-            rows: all.rows,
+            rows,
             sets,
             formula,
             is_deterministic,

@@ -1,11 +1,12 @@
 //! The edges of an automaton, under guards.
 
-ghost use Rattle.std.specs.Prelude.{◌+◌, ◌<◌, ◌≤◌, All, AllPairs, map};
+ghost use Rattle.std.specs.Prelude.{◌+◌, ◌<◌, ◌≤◌, All, AllPairs, IfOk, map};
 ghost use Rattle.std.specs.List.Sorted.{IsNonDecreasing};
-ghost use Rattle.aut_core.specs.Index.{Begins};
+ghost use Rattle.aut_core.specs.Index.{Begins, IsIndex};
 
-use aut_base::{Marks, Seq};
+use aut_base::{Marks, Memory, Places, Seq};
 use label_guards::Guard;
+use std::alloc::Global;
 
 /// Links, in order.
 pub type Links = Seq<Link>;
@@ -17,6 +18,22 @@ pub struct Link {
     pub guard: Guard,
     pub to: u32,
     pub marks: Marks,
+}
+
+/// Where the links of each state begin, and behind them the number of links.
+pub(crate) fn rows_of(alloc: Global, links: &[Link], states: u32) -> Result<Places, Memory>
+    requires { IsNonDecreasing (map (λ l. l.from) links.now) }
+    ensures { IfOk result (IsIndex links.now states) }
+{
+    let mut rows = Vec::with_capacity(alloc, states as usize + 1)?;
+    let mut start = 0usize;
+    rows.push(start)?;
+    'states: for state in 0..states {
+        let end = row_end(links, start, state);
+        rows.push(end)?;
+        start = end;
+    }
+    Ok(Places::from_vec(rows))
 }
 
 /// The end of the links that leave this state, which begin at this place.

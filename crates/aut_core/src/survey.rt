@@ -1,17 +1,15 @@
 //! What the guards of each state's links tell together.
 
-ghost use Rattle.std.specs.Prelude.{◌≡◌, ◌↔◌, ℕ, List, All, IfOk, IfSome, IsSome, IsTrue, OnOk, map};
-ghost use Rattle.std.specs.List.Sorted.{IsNonDecreasing};
+ghost use Rattle.std.specs.Prelude.{◌≡◌, ◌↔◌, ◌<◌, ◌||◌, ℕ, Bool, List, All, IfOk, IsTrue, length, map};
 ghost use Rattle.aut_core.specs.Core.{edge_of};
 ghost use Rattle.aut_core.specs.Index.{IsIndex};
-ghost use Rattle.aut_core.specs.Surveys.{AreMetApart, AreSurveyed, IsMetAlways, IsSurvey};
-ghost use Rattle.label_guards.specs.Guards.{AreNames};
+ghost use Rattle.aut_core.specs.Surveys.{AreMetApart, AreSurveyed, IsMet, IsMetAlways, IsSurvey};
+ghost use Rattle.label_guards.specs.Guards.{AreNames, IsGuardOf, truth_in};
 ghost use Rattle.label_guards.specs.Store.{Has, Keeps};
 
-use crate::link::{Link, row_end};
+use crate::link::Link;
 use aut_base::{Memory, Names, Places};
-use label_guards::{Guard, Guards};
-use std::alloc::Global;
+use label_guards::{Draft, Guard, Guards};
 
 /// Whether no letter meets two links, and whether each letter meets one, of one state or of several.
 #[derive(Clone, Copy, Debug)]
@@ -20,89 +18,65 @@ pub(crate) struct Survey {
     pub(crate) filled: bool,
 }
 
-/// What is true at every state, and where the links of each begin.
-#[derive(Drop)]
-pub(crate) struct Surveyed {
-    pub(crate) found: Survey,
-    pub(crate) rows: Places,
+/// Where one of some links is met, as long as that is asked, and whether no letter meets two of them.
+#[derive(Clone, Copy, Debug)]
+struct Met {
+    guard: Guard,
+    apart: bool,
 }
 
-/// What is true at every state, with an index of the links, in one pass.
+/// What is true at every state, where the links of each begin at its row.
 pub(crate) fn survey_states(
-    alloc: Global,
-    guards: &Guards,
+    draft: &mut Draft,
     names: &Names,
     links: &[Link],
+    rows: &Places,
     states: u32,
-) -> Result<Surveyed, Memory>
-    requires names { AreNames guards.now names.now }
-    requires has { All (λ l. Has guards.now l.guard) links.now }
-    requires in_order { IsNonDecreasing (map (λ l. l.from) links.now) }
-    ensures found { IfOk result (λ all. AreSurveyed names.now (map (edge_of guards.now) links.now) states all.found) }
-    ensures rows { IfOk result (λ all. IsIndex links.now states all.rows) }
+) -> Result<Survey, Memory>
+    requires names { AreNames draft.old.now names.now }
+    requires has { All (λ l. Has draft.old.now l.guard) links.now }
+    requires rows { IsIndex links.now states rows.now }
+    ensures kept { draft.new.kept ≡ draft.old.kept }
+    ensures found { IfOk result (AreSurveyed names.now (map (edge_of draft.old.now) links.now) states) }
 {
-    let mut rows = Vec::with_capacity(alloc, states as usize + 1)?;
-    let mut room = None;
-    let mut start = 0usize;
     let mut found = Survey {
         apart: true,
         filled: true,
     };
-    rows.push(start)?;
     'states: for state in 0..states {
-        let end = row_end(links, start, state);
-        found = survey_state(alloc, guards, &mut room, names, &links[start..end], found)?;
-        rows.push(end)?;
-        start = end;
+        let start = *rows.at(state as usize);
+        let end = *rows.at(state as usize + 1);
+        found = survey_state(draft, names, &links[start..end], found)?;
     }
-    Ok(Surveyed {
-        found,
-        rows: Places::from_vec(rows),
-    })
+    Ok(found)
 }
 
-/// What is still true with the links of one state more. Where there are several, their disjunctions go into a store that is let
-/// go: a copy of this one, which is made at the first such state.
+/// What is still true with the links of one state more. Of one link alone its guard tells it.
 fn survey_state(
-    alloc: Global,
-    guards: &Guards,
-    room: &mut Option<Guards>,
+    draft: &mut Draft,
     names: &Names,
     links: &[Link],
     known: Survey,
 ) -> Result<Survey, Memory>
-    requires names { AreNames guards.now names.now }
-    requires has { All (λ l. Has guards.now l.guard) links.now }
-    requires room { IfSome room.old (Keeps guards.now) }
-    ensures room { IfSome room.new (Keeps guards.now) }
-    ensures found { IfOk result (IsSurvey names.now (map (edge_of guards.now) links.now) known) }
+    requires names { AreNames draft.old.now names.now }
+    requires has { All (λ l. Has draft.old.now l.guard) links.now }
+    ensures kept { draft.new.kept ≡ draft.old.kept }
+    ensures keeps { Keeps draft.old.now draft.new.now }
+    ensures found { IfOk result (IsSurvey names.now (map (edge_of draft.old.now) links.now) known) }
 {
-    match links {
-        [] => Ok(survey_met(guards, known, guards.never())),
-        [link] => Ok(survey_met(guards, known, link.guard)),
-        _ => {
-            make_room(alloc, guards, room)?;
-            match room {
-                Some(store) => survey_links(store, names, links, known),
-                None => unreachable!(),
-            }
-        }
+    if links.is_empty() {
+        let never = draft.guards().never();
+        return Ok(survey_met(draft.guards(), known, never));
     }
+    let met = meet(draft, names, links, known)?;
+    let known = Survey {
+        apart: met.apart,
+        filled: known.filled,
+    };
+    Ok(survey_met(draft.guards(), known, met.guard))
 }
 
-/// Makes the copy of the store, if there is none yet.
-fn make_room(alloc: Global, guards: &Guards, room: &mut Option<Guards>) -> Result<(), Memory>
-    requires { IfSome room.old (Keeps guards.now) }
-    ensures keeps { IfSome room.new (Keeps guards.now) }
-    ensures some { OnOk result (IsSome room.new) }
-{
-    if room.is_none() {
-        *room = Some(guards.copy(alloc)?);
-    }
-    Ok(())
-}
-
-/// What is still true with links of one state, no two of which are met by one letter, where one is met where this guard is.
+/// What is still true with links of one state, where one is met where this guard is.
 fn survey_met(guards: &Guards, known: Survey, met: Guard) -> Survey
     requires { Has guards.now met }
     ensures apart { result.apart ≡ known.apart }
@@ -114,55 +88,80 @@ fn survey_met(guards: &Guards, known: Survey, met: Guard) -> Survey
     }
 }
 
-/// What is still true with these links. Each is compared with the disjunction of those before it, as long as there is anything to
-/// learn.
-fn survey_links(
-    store: &mut Guards,
-    names: &Names,
-    links: &[Link],
-    known: Survey,
-) -> Result<Survey, Memory>
-    requires names { AreNames store.old names.now }
-    requires has { All (λ l. Has store.old l.guard) links.now }
-    ensures keeps { Keeps store.old store.new }
-    ensures found { IfOk result (IsSurvey names.now (map (edge_of store.old) links.now) known) }
+/// Where one of the links is met, and whether no letter meets two, beside what is known. By halves, so that neighbours are joined
+/// first, and only as long as there is anything to learn.
+fn meet(draft: &mut Draft, names: &Names, links: &[Link], known: Survey) -> Result<Met, Memory>
+    requires names { AreNames draft.old.now names.now }
+    requires has { All (λ l. Has draft.old.now l.guard) links.now }
+    requires some { 0 < length links.now }
+    ensures kept { draft.new.kept ≡ draft.old.kept }
+    ensures keeps { Keeps draft.old.now draft.new.now }
+    ensures met { IfOk result (IsMet names.now draft.new.now (map (edge_of draft.old.now) links.now) known) }
 {
-    let mut met = store.never();
-    let mut apart = known.apart;
-    'links: for link in links {
-        if !apart && !known.filled {
-            return Ok(Survey {
-                apart: false,
-                filled: false,
-            });
-        }
-        apart = still_apart(store, names, apart, met, link.guard)?;
-        met = store.or(met, link.guard)?;
+    let alone = Met {
+        guard: links[0].guard,
+        apart: known.apart,
+    };
+    if links.len() == 1 {
+        return Ok(alone);
     }
-    let filled = store.same(met, store.always());
-    Ok(Survey {
-        apart,
-        filled: known.filled && filled,
-    })
+    if !known.apart && !known.filled {
+        return Ok(alone);
+    }
+    let half = links.len() / 2;
+    let first = meet(draft, names, &links[..half], known)?;
+    let asked = Survey {
+        apart: first.apart,
+        filled: known.filled,
+    };
+    let second = meet(draft, names, &links[half..], asked)?;
+    meet_both(draft, names, first.guard, second, known.filled)
+}
+
+/// The same of both halves, where the second was told with the first.
+fn meet_both(
+    draft: &mut Draft,
+    names: &Names,
+    first: Guard,
+    second: Met,
+    filled: bool,
+) -> Result<Met, Memory>
+    requires names { AreNames draft.old.now names.now }
+    requires first { Has draft.old.now first }
+    requires second { Has draft.old.now second.guard }
+    ensures kept { draft.new.kept ≡ draft.old.kept }
+    ensures keeps { Keeps draft.old.now draft.new.now }
+    ensures has { IfOk result (λ met. Has draft.new.now met.guard) }
+    ensures guard { IfOk result (λ met. IsTrue (second.apart || filled)
+        → IsGuardOf draft.new.now (λ on. truth_in draft.old.now first on || truth_in draft.old.now second.guard on) met.guard) }
+    ensures apart { IfOk result (λ met. IsTrue met.apart ↔ (IsTrue second.apart × AreMetApart draft.old.now names.now first second.guard)) }
+{
+    if !second.apart && !filled {
+        return Ok(second);
+    }
+    let apart = still_apart(draft, names, second.apart, first, second.guard)?;
+    let guard = draft.or(first, second.guard)?;
+    Ok(Met { guard, apart })
 }
 
 /// Whether no letter meets both guards, if that is still asked.
 fn still_apart(
-    store: &mut Guards,
+    draft: &mut Draft,
     names: &Names,
     asked: bool,
     g: Guard,
     h: Guard,
 ) -> Result<bool, Memory>
-    requires names { AreNames store.old names.now }
-    requires left { Has store.old g }
-    requires right { Has store.old h }
-    ensures keeps { Keeps store.old store.new }
-    ensures apart { IfOk result (λ apart. IsTrue apart ↔ (IsTrue asked × AreMetApart store.old names.now g h)) }
+    requires names { AreNames draft.old.now names.now }
+    requires left { Has draft.old.now g }
+    requires right { Has draft.old.now h }
+    ensures kept { draft.new.kept ≡ draft.old.kept }
+    ensures keeps { Keeps draft.old.now draft.new.now }
+    ensures apart { IfOk result (λ apart. IsTrue apart ↔ (IsTrue asked × AreMetApart draft.old.now names.now g h)) }
 {
     if !asked {
         return Ok(false);
     }
-    let both = store.and(g, h)?;
-    Ok(store.is_false(both))
+    let both = draft.and(g, h)?;
+    Ok(draft.guards().is_false(both))
 }

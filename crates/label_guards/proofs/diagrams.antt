@@ -5,4 +5,5 @@ pub mod Joins
 pub mod Outcomes
 pub mod Reduced
 pub mod Tables
+pub mod Taken
 pub mod Unique

@@ -1,8 +1,10 @@
 pub mod ClassLeasts
 pub mod ClassParts
 pub mod Classes
+pub mod Drafts
 pub mod Guards
 pub mod Leasts
+pub mod Letters
 pub mod Nodes
 pub mod Numbers
 pub mod Operations

@@ -1,5 +1,5 @@
 -- Valuations by their numbers, where labels are implicit (HOA v1, implicit labels).
-use Rattle.std.specs.Prelude.{ℕ, zero, suc, ◌/◌, ◌%◌, ◌^◌, ◌==◌, Bool, true, ◌&&◌}
+use Rattle.std.specs.Prelude.{ℕ, zero, suc, ◌-◌, ◌/◌, ◌%◌, ◌^◌, ◌==◌, Bool, true, ◌&&◌}
 use Rattle.std.specs.Bool.{beq}
 
 -- bit k of the number
@@ -10,3 +10,8 @@ is_set number k = (number / (2 ^ k)) % 2 == 1
 abbrev pub is_at : ℕ → ℕ → (ℕ → Bool) → Bool
 is_at number zero on = true
 is_at number (suc n) on = is_at number n on && beq (on n) (is_set number n)
+
+-- whether of the first n propositions the last `count` are as their bits say
+abbrev pub last_at : ℕ → ℕ → ℕ → (ℕ → Bool) → Bool
+last_at number n zero on = true
+last_at number n (suc count) on = beq (on (n - suc count)) (is_set number (n - suc count)) && last_at number n count on

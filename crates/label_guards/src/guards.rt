@@ -1,6 +1,6 @@
 //! The store of guards: its operations, and the table of their results.
 
-ghost use Rattle.std.specs.Prelude.{◌≡◌, ◌⊎◌, ◌<◌, ◌≤◌, ℕ, [], true, false, length, IfNone, IfOk, IfSome, Some};
+ghost use Rattle.std.specs.Prelude.{◌≡◌, ◌⊎◌, ◌<◌, ◌≤◌, ℕ, [], true, false, length, take, IfNone, IfOk, IfSome, Some};
 ghost use Rattle.std.specs.Map.{lookup};
 ghost use Rattle.aut_base.specs.declared.limit.TheConstants.{MOST_NAMES};
 ghost use Rattle.label_guards.specs.declared.guard.Guard.{Guard};
@@ -14,6 +14,7 @@ use aut_base::Memory;
 use indexmap::IndexMap;
 use std::alloc::Global;
 use std::marker::Model;
+use std::mem;
 
 /// An operation on two guards.
 #[derive(Clone, Copy, Debug, PartialEq, Eq, Hash)]
@@ -24,7 +25,7 @@ pub(crate) enum Operation {
 }
 
 /// The place of a result, by the operation and the two places that it was asked for.
-type Results = IndexMap<(Operation, usize, usize), usize>;
+pub(crate) type Results = IndexMap<(Operation, usize, usize), usize>;
 
 /// A store of guards.
 #[derive(Drop)]
@@ -94,6 +95,31 @@ impl Guards {
         ensures { result ≡ places self.now }
     {
         self.fields.nodes.places()
+    }
+
+    /// The number of nodes.
+    pub(crate) fn count(&self) -> usize
+        ensures { result ≡ length self.now.nodes }
+    {
+        self.fields.nodes.places() - 2
+    }
+
+    /// The results so far. The store remembers none of them any more.
+    pub(crate) fn take_results(&mut self, alloc: Global) -> Results
+        ensures same { self.new ≡ self.old }
+        ensures results { AreJoins self.old result.entries }
+    {
+        mem::replace(&mut self.fields.results, Results::new(alloc))
+    }
+
+    /// Takes back the nodes behind the first ones, and remembers these results of those that stay.
+    pub(crate) fn cut(&mut self, count: usize, results: Results)
+        requires { AreJoins (record self.old { nodes = take count self.old.nodes }) results.entries }
+        ensures { self.new ≡ record self.old { nodes = take count self.old.nodes } }
+    {
+        let fields: &mut Fields = &mut self.fields;
+        fields.nodes.cut(count);
+        fields.results = results;
     }
 
     /// Tells a proof that the diagrams are reduced.

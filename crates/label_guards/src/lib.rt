@@ -5,22 +5,25 @@ mod boolean;
 mod bring;
 mod classes;
 mod cubes;
+mod draft;
 mod fix;
 mod guard;
 mod guards;
 mod holds;
 mod labels;
 mod law;
-mod letter;
+mod letters;
 mod nodes;
 mod numbers;
 mod pick;
 mod table;
 
 pub use bring::Brought;
+pub use draft::Draft;
 pub use guard::{Guard, GuardList};
 pub use guards::Guards;
 pub use law::{
     classes_are_determined, classes_by_leasts, classes_exclude_more, more_classes_by_leasts,
     one_class_under_none,
 };
+pub use letters::Letters;

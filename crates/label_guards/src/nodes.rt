@@ -1,6 +1,6 @@
 //! The nodes of reduced ordered binary decision diagrams (Bryant 1986), each kept once.
 
-ghost use Rattle.std.specs.Prelude.{◌≡◌, ◌<◌, ◌≤◌, ℕ, [], slice_get, IfOk, Some};
+ghost use Rattle.std.specs.Prelude.{◌≡◌, ◌<◌, ◌≤◌, ℕ, [], slice_get, take, IfOk, Some};
 ghost use Rattle.aut_base.specs.declared.limit.TheConstants.{MOST_NAMES};
 ghost use Rattle.label_guards.specs.Nodes.{Adds, AreSides, Grows, IsChoice, IsReduced, StandsAt, level};
 ghost use Rattle.label_guards.specs.Store.{HasPlace, places};
@@ -140,6 +140,13 @@ impl Nodes {
             Some(place) => Ok(place),
             None => Err(Memory),
         }
+    }
+
+    /// Takes back the nodes behind the first ones.
+    pub(crate) fn cut(&mut self, count: usize)
+        ensures { self.new ≡ record self.old { nodes = take count self.old.nodes } }
+    {
+        self.set.truncate(count);
     }
 }
 

@@ -10,6 +10,7 @@ ghost use Rattle.hoa_parser.specs.Raw.{written_edge, written_state};
 ghost use Rattle.hoa_reader.specs.Validity.{all_differ, marks_below, numbers_below};
 ghost use Rattle.hoa_reader.specs.inner.PickedOut.{numbers};
 ghost use Rattle.hoa_reader.specs.inner.TreeEdges.{HasKnown, HasLabelsBelow, edges_for, label_for, settled, tree_edge_for, tree_edges_for};
+ghost use Rattle.label_guards.specs.Letters.{AreLetters};
 ghost use Rattle.label_guards.specs.Store.{Has, Keeps, label_in};
 
 use crate::elaborate::edges::{Shared, label_of, label_written, marks_of, places_of};
@@ -18,7 +19,7 @@ use crate::elaborate::starts::only_state;
 use aut_base::{Label, Memory};
 use aut_core::{Link, Links};
 use hoa_parser::{RawEdge, RawState};
-use label_guards::{Guard, Guards};
+use label_guards::{Guard, Guards, Letters};
 use std::alloc::Global;
 
 /// The guard of this label, which is let go.
@@ -32,10 +33,11 @@ fn guard_taken(guards: &mut Guards, label: Label) -> Result<Guard, Memory>
 }
 
 /// The guard of the edge that stands at this place in its state. Where no label is written it is made from the letter's number,
-/// without a label.
+/// without a label and beside that of the letter before.
 fn guard_of<'a>(
     alloc: Global,
     guards: &mut Guards,
+    letters: &mut Letters,
     shared: &Shared<'a>,
     state: &'a RawState,
     edge: &'a RawEdge,
@@ -44,12 +46,14 @@ fn guard_of<'a>(
     requires known { HasKnown shared.now }
     requires names { guards.old.names ≡ shared.now.names }
     requires below { AllBelow guards.old.names (label_for shared.now (written_state state.now) letter (written_edge edge.now)) }
+    requires letters { AreLetters guards.old letters.old }
     ensures keeps { Keeps guards.old guards.new }
+    ensures letters { AreLetters guards.new letters.new }
     ensures has { IfOk result (Has guards.new) }
     ensures label { IfOk result (λ new. label_in guards.new new ≡ canonical_label guards.old.names (label_for shared.now (written_state state.now) letter (written_edge edge.now))) }
 {
     if label_written(state, edge).is_none() {
-        return guards.of_number(letter);
+        return letters.guard(guards, letter);
     }
     let label = label_of(alloc, shared, state, edge, letter)?;
     guard_taken(guards, label)
@@ -59,6 +63,7 @@ fn guard_of<'a>(
 fn link_of<'a>(
     alloc: Global,
     guards: &mut Guards,
+    letters: &mut Letters,
     shared: &Shared<'a>,
     state: &'a RawState,
     edge: &'a RawEdge,
@@ -69,13 +74,15 @@ fn link_of<'a>(
     requires below { AllBelow guards.old.names (label_for shared.now (written_state state.now) letter (written_edge edge.now)) }
     requires own { numbers_below shared.now.sets state.now.marks ≡ true }
     requires marks { numbers_below shared.now.sets edge.now.marks ≡ true }
+    requires letters { AreLetters guards.old letters.old }
     ensures keeps { Keeps guards.old guards.new }
+    ensures letters { AreLetters guards.new letters.new }
     ensures has { IfOk result (λ new. Has guards.new new.guard) }
     ensures edge { IfOk result (λ new. edge_of guards.new new ≡ settled guards.old.names (tree_edge_for shared.now (written_state state.now) letter (written_edge edge.now))) }
 {
     Ok(Link {
         from: state.number,
-        guard: guard_of(alloc, guards, shared, state, edge, letter)?,
+        guard: guard_of(alloc, guards, letters, shared, state, edge, letter)?,
         to: only_state(&edge.to),
         marks: marks_of(alloc, shared.sets, state, edge)?,
     })
@@ -85,6 +92,7 @@ fn link_of<'a>(
 fn add_links<'a>(
     alloc: Global,
     guards: &mut Guards,
+    letters: &mut Letters,
     links: &mut Links,
     shared: &Shared<'a>,
     state: &'a RawState,
@@ -94,12 +102,14 @@ fn add_links<'a>(
     requires marks { marks_below shared.now.sets (written_state state.now) ≡ true }
     requires below { HasLabelsBelow shared.now guards.old.names (written_state state.now) }
     requires has { All (λ l. Has guards.old l.guard) links.old }
+    requires letters { AreLetters guards.old letters.old }
     ensures names { guards.new.names ≡ guards.old.names }
+    ensures letters { AreLetters guards.new letters.new }
     ensures stand { OnOk result (StandFor guards.new links.new (map (edge_of guards.old) links.old ++ map (settled guards.old.names) (tree_edges_for shared.now (written_state state.now)))) }
 {
     let mut letter = 0;
     'written: for edge in state.edges.as_slice() {
-        let new = link_of(alloc, guards, shared, state, edge, letter)?;
+        let new = link_of(alloc, guards, letters, shared, state, edge, letter)?;
         links.push(new)?;
         letter += 1;
     }
@@ -124,11 +134,19 @@ pub(crate) fn links_of<'a>(
 {
     let places = places_of(alloc, states, count)?;
     let mut links = Links::from_vec(Vec::with_capacity(alloc, count_of_edges(states))?);
+    let mut letters = Letters::new(alloc);
     'numbers: for number in 0..places.len() {
         let Some(place) = places[number] else {
             continue;
         };
-        add_links(alloc, guards, &mut links, shared, &states[place])?;
+        add_links(
+            alloc,
+            guards,
+            &mut letters,
+            &mut links,
+            shared,
+            &states[place],
+        )?;
     }
     Ok(links)
 }

@@ -1,27 +1,29 @@
-use Rattle.std.proofs.Common.{IfSome, Option, List, map, subst}
-use Rattle.std.proofs.lemmas.Result.{IfOk-weaker}
-use Rattle.label_guards.specs.Store.{Keeps, Store}
+use Rattle.std.proofs.Common.{◌≡◌, ◌∙◌, ◌↔◌, IsTrue, List, arith, false, length, map, subst, sym}
+use Rattle.std.proofs.lemmas.Bool.{eqb-true}
+use Rattle.label_guards.specs.Guards.{AreNames, IsGuardOf}
+use Rattle.label_guards.specs.Store.{Store}
 use Rattle.aut_core.specs.Core.{edge_of}
-use Rattle.aut_core.specs.Surveys.{IsSurvey}
+use Rattle.aut_core.specs.Surveys.{IsMetAlways, IsSurvey}
 use Rattle.aut_core.specs.declared.link.Link.{Link}
-use Rattle.aut_core.proofs.Surveys.{kept_survey, no_link, none_surveyed, one_link, one_surveyed}
+use Rattle.aut_core.proofs.Surveys.{met_survey, no_link, none_surveyed}
 use Rattle.aut_core.proofs.survey.survey_state.Goals as goal
 
-pub returns-in-empty-clause-found : goal.returns-in-empty-clause-found
-returns-in-empty-clause-found c =
-    subst (λ (ls : List Link). IsSurvey c.args.names.now (map (edge_of c.args.guards.now) ls) c.args.known c.survey_met.result) (no_link c.args.links.now c.in-empty.len_below)
-    (none_surveyed c.args.names.now c.args.guards.now c.never.result c.args.known c.survey_met.result c.never.ensures c.survey_met.ensures.apart
-    (c.survey_met.ensures.filled c.args.names.now c.requires.names))
+pub returns-then-is_empty-clause-found : goal.returns-then-is_empty-clause-found
+returns-then-is_empty-clause-found c =
+    let s : Store = c.args.draft.now.now in
+    let none : length c.args.links.now ≡ 0 = eqb-true (length c.args.links.now) 0 (sym c.is_empty.ensures ∙ c.if-is_empty.true) in
+    let never = subst (λ (t : Store). IsGuardOf t (λ on. false) c.never-never.result) c.guards.ensures c.never-never.ensures in
+    let names = subst (λ (t : Store). AreNames t c.args.names.now) (sym c.guards-then-is_empty.ensures) c.requires.names in
+    let filled = subst (λ (t : Store). IsTrue c.survey_met.result.filled ↔ (IsTrue c.args.known.filled × IsMetAlways t c.args.names.now c.never-never.result)) c.guards-then-is_empty.ensures
+    (c.survey_met.ensures.filled c.args.names.now names) in
+    subst (λ (ls : List Link). IsSurvey c.args.names.now (map (edge_of s) ls) c.args.known c.survey_met.result) (no_link c.args.links.now (omega (arith, none)))
+    (none_surveyed c.args.names.now s c.never-never.result c.args.known c.survey_met.result never c.survey_met.ensures.apart filled)
 
-pub returns-in-len1-clause-found : goal.returns-in-len1-clause-found
-returns-in-len1-clause-found c =
-    subst (λ (ls : List Link). IsSurvey c.args.names.now (map (edge_of c.args.guards.now) ls) c.args.known c.survey_met-in-len1.result)
-    (one_link c.args.links.now c.link-item.result c.in-len1.len_at_least c.in-len1.len_below c.link-item.is)
-    (one_surveyed c.args.names.now c.args.guards.now c.link-item.result c.args.known c.survey_met-in-len1.result c.survey_met-in-len1.ensures.apart
-    (c.survey_met-in-len1.ensures.filled c.args.names.now c.requires.names))
-
-pub returns-in-Some-clause-found : goal.returns-in-Some-clause-found
-returns-in-Some-clause-found c =
-    let keeps = subst (λ (o : Option Store). IfSome o (Keeps c.args.guards.now)) c.in-Some.is c.make_room.ensures.keeps in
-    IfOk-weaker c.survey_links.result _ _
-    (λ found survey. kept_survey c.args.names.now c.args.guards.now c.in-Some.store c.args.links.now c.args.known found keeps c.requires.has survey) c.survey_links.ensures.found
+pub returns-clause-found : goal.returns-clause-found
+returns-clause-found c =
+    let t : Store = c.meet.new.draft.now in
+    let met = c.in_ok-met.met in
+    let names = subst (λ (s : Store). AreNames s c.args.names.now) (sym c.guards-2.ensures) (c.requires.names.0 ∙ sym c.meet.ensures.keeps.names, c.requires.names.1) in
+    let filled = subst (λ (s : Store). IsTrue c.survey_met-2.result.filled ↔ (IsTrue c.args.known.filled × IsMetAlways s c.args.names.now met.guard)) c.guards-2.ensures
+    (c.survey_met-2.ensures.filled c.args.names.now names) in
+    met_survey c.args.names.now t (map (edge_of c.args.draft.now.now) c.args.links.now) c.args.known c.survey_met-2.result met c.in_ok-met.ensures.met c.survey_met-2.ensures.apart filled

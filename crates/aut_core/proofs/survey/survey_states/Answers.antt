@@ -1,29 +1,42 @@
-use Rattle.std.proofs.Common.{◌==◌, List, All, arith, map, sym, subst}
-use Rattle.std.proofs.lemmas.List.Elements.{All-filter}
-use Rattle.label_guards.specs.Store.{Has}
+use Rattle.std.proofs.Common.{◌≡◌, ◌∙◌, ◌+◌, ◌==◌, ◌≤◌, List, All, filter, map, subst, sym}
+use Rattle.std.specs.List.{slice_range}
+use Rattle.std.proofs.lemmas.List.Elements.{All-filter, All-weaker}
+use Rattle.label_guards.specs.Store.{Has, Keeps}
 use Rattle.aut_core.specs.Surveys.{AreSurveyed, IsSurvey}
 use Rattle.aut_core.specs.Core.{edge_of}
 use Rattle.aut_core.specs.declared.link.Link.{Link}
-use Rattle.aut_core.proofs.Rows.{index_more, row_between}
+use Rattle.aut_core.proofs.Growth.{keeps_on}
+use Rattle.aut_core.proofs.Rows.{row_indexed}
 use Rattle.aut_core.proofs.SurveyedStates.{surveyed_more}
+use Rattle.aut_core.proofs.Surveys.{kept_survey}
 use Rattle.aut_core.proofs.survey.survey_states.Goals as goal
+
+pub slice_bounds-survey_state-count : goal.slice_bounds-survey_state-count
+slice_bounds-survey_state-count c = (row_indexed c.states.state c.at-start.result.now c.at-end.result.now c.requires.rows c.states-test.true (c.at-start.ensures.item 0) (c.at-end.ensures.item 0)).0
+
+pub slice_bounds-survey_state-start : goal.slice_bounds-survey_state-start
+slice_bounds-survey_state-start c = (row_indexed c.states.state c.at-start.result.now c.at-end.result.now c.requires.rows c.states-test.true (c.at-start.ensures.item 0) (c.at-end.ensures.item 0)).0
 
 pub survey_state-requires-clause-has : goal.survey_state-requires-clause-has
 survey_state-requires-clause-has c =
-    let kept = All-filter (λ (l : Link). l.from == c.states.state) (λ (l : Link). Has c.args.guards.now l.guard) c.args.links.now c.requires.has in
-    subst (λ (ls : List Link). All (λ l. Has c.args.guards.now l.guard) ls) (sym (row_between c.states.invariant.begins c.row_end-end.ensures.begins)) kept
+    let links = c.args.links.now in
+    let row = row_indexed c.states.state c.at-start.result.now c.at-end.result.now c.requires.rows c.states-test.true (c.at-start.ensures.item 0) (c.at-end.ensures.item 0) in
+    let kept = All-filter (λ (l : Link). l.from == c.states.state) (λ (l : Link). Has c.args.draft.now.now l.guard) links c.requires.has in
+    subst (λ (ls : List Link). All (λ l. Has c.states.draft.now l.guard) ls) (sym row.1)
+    (All-weaker (λ (l : Link). Has c.args.draft.now.now l.guard) (λ (l : Link). Has c.states.draft.now l.guard) (λ l h. c.states.invariant.keeps.has l.guard h)
+    (filter (λ (l : Link). l.from == c.states.state) links) kept)
 
 pub states-preserved : goal.states-preserved
 states-preserved c =
-    let row = row_between c.states.invariant.begins c.row_end-end.ensures.begins in
+    let links = c.args.links.now in
+    let old = c.args.draft.now.now in
+    let row = row_indexed c.states.state c.at-start.result.now c.at-end.result.now c.requires.rows c.states-test.true (c.at-start.ensures.item 0) (c.at-end.ensures.item 0) in
+    let mine = filter (λ (l : Link). l.from == c.states.state) links in
+    let has = All-filter (λ (l : Link). l.from == c.states.state) (λ (l : Link). Has old l.guard) links c.requires.has in
     record {
-      room = c.survey_state.ensures.room;
-      surveyed = surveyed_more c.args.names.now c.args.guards.now c.args.links.now c.states.state c.states.found c.in_ok-found.found c.states.invariant.surveyed
-          (subst (λ (ls : List Link). IsSurvey c.args.names.now (map (edge_of c.args.guards.now) ls) c.states.found c.in_ok-found.found) row c.in_ok-found.ensures.found);
-      begins = c.row_end-end.ensures.begins;
-      rows = index_more c.args.links.now c.states.state c.row_end-end.result c.states.rows.items c.push-in-states.new.self.items c.states.invariant.rows c.row_end-end.ensures.begins
-          c.in_ok-push-2.ensures.items;
+      kept = c.survey_state.ensures.kept ∙ c.states.invariant.kept;
+      keeps = keeps_on c.states.invariant.keeps c.survey_state.ensures.keeps;
+      surveyed = surveyed_more c.args.names.now old links c.states.state c.states.found c.in_ok-found.found c.states.invariant.surveyed
+          (kept_survey c.args.names.now old c.states.draft.now mine c.states.found c.in_ok-found.found c.states.invariant.keeps has
+          (subst (λ (ls : List Link). IsSurvey c.args.names.now (map (edge_of c.states.draft.now) ls) c.states.found c.in_ok-found.found) row.1 c.in_ok-found.ensures.found));
     }
-
-pub returns-clause-found : goal.returns-clause-found
-returns-clause-found c = subst (λ n. AreSurveyed c.args.names.now (map (edge_of c.args.guards.now) c.args.links.now) n c.states.found) (omega arith) c.states.invariant.surveyed

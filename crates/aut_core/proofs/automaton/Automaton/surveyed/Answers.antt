@@ -11,8 +11,8 @@ use Rattle.aut_core.specs.declared.automaton.Fields.{Fields}
 use Rattle.aut_core.specs.declared.link.Link.{Link}
 use Rattle.aut_core.proofs.Deterministic.{complete_if, deterministic_if, not_complete, not_deterministic}
 use Rattle.aut_core.proofs.Made.{made}
-use Rattle.aut_core.proofs.automaton.Automaton.from_parts.Goals as goal
-use Rattle.aut_core.proofs.automaton.Automaton.from_parts.Goals.{then-is_single, else-is_single, then-has_start, else-has_start}
+use Rattle.aut_core.proofs.automaton.Automaton.surveyed.Goals as goal
+use Rattle.aut_core.proofs.automaton.Automaton.surveyed.Goals.{then-is_single, else-is_single, then-has_start, else-has_start}
 
 pub invariant_of-result : goal.invariant_of-result
 invariant_of-result c =
@@ -27,24 +27,22 @@ invariant_of-result c =
           c.args.guards;
     } in
     let within : All (λ (e : TreeEdge). e.from < c.args.states) (map (edge_of c.args.guards) c.args.links) =
-    All-map (λ (e : TreeEdge). e.from < c.args.states) (edge_of c.args.guards) c.args.links (λ k d w. (c.requires.links k d w).from) in
-    let found : AreSurveyed c.args.names (map (edge_of c.args.guards) c.args.links) c.args.states c.in_ok-all.all.found =
-    subst (λ (ls : List Link). AreSurveyed c.args.names (map (edge_of c.args.guards) ls) c.args.states c.in_ok-all.all.found) c.as_slice-2.ensures c.in_ok-all.ensures.found in
-    let differ : AllPairs (λ (a b : List ℕ). a ≢ b) c.args.names = subst (λ (ns : List (List ℕ)). AllPairs (λ a b. a ≢ b) ns) c.names.view_is c.names.invariant in
+    All-map (λ (e : TreeEdge). e.from < c.args.states) (edge_of c.args.guards) c.args.links (λ k d w. (c.requires.parts.links k d w).from) in
+    let differ : AllPairs (λ (a b : List ℕ). a ≢ b) c.args.names = c.as_slice-names.ensures.distinct in
     let rise : All (λ (l : Link). AllPairs (λ m n. m < n) l.marks) c.args.links = subst (λ (ls : List Link). All (λ (l : Link). AllPairs (λ m n. m < n) l.marks) ls) c.as_slice.ensures
     c.marks_rise.ensures in
-    let kept : IsKept core c.in_ok-all.all.rows c.if-is_single.is_deterministic c.if-has_start.is_complete = record {
-      core = made core c.requires differ rise;
-      index = subst (λ (ls : List Link). IsIndex ls c.args.states c.in_ok-all.all.rows) c.as_slice-2.ensures c.in_ok-all.ensures.rows;
+    let kept : IsKept core c.args.rows c.if-is_single.is_deterministic c.if-has_start.is_complete = record {
+      core = made core c.requires.parts differ rise;
+      index = c.requires.rows;
       deterministic = elim c.if-is_single.branch [
         | then-is_single w ↦ subst (λ b. IsTrue b ↔ IsDeterministic (automaton_of core)) (sym w.is_deterministic-is)
-            (deterministic_if (automaton_of core) c.in_ok-all.all.found.apart within (omega (arith, c.len-is_single.ensures, w.if-is_single.true)) found.apart)
+            (deterministic_if (automaton_of core) c.args.found.apart within (omega (arith, c.len-is_single.ensures, w.if-is_single.true)) c.requires.found.apart)
         | else-is_single w ↦ not_deterministic (automaton_of core) c.if-is_single.is_deterministic (omega (arith, c.len-is_single.ensures, w.if-is_single.false))
             (w.is_deterministic-is ∙ ap (λ n. leb n 1) c.len-is_single.ensures)
       ];
       complete = elim c.if-has_start.branch [
         | then-has_start w ↦ subst (λ b. IsTrue b ↔ IsComplete (automaton_of core)) (sym w.is_complete-is)
-            (complete_if (automaton_of core) c.in_ok-all.all.found.filled (sym c.is_empty-has_start.ensures ∙ w.if-has_start.true) found.filled)
+            (complete_if (automaton_of core) c.args.found.filled (sym c.is_empty-has_start.ensures ∙ w.if-has_start.true) c.requires.found.filled)
         | else-has_start w ↦ not_complete (automaton_of core) c.if-has_start.is_complete (sym c.is_empty-has_start.ensures ∙ w.if-has_start.false)
             (w.is_complete-is ∙ ap not c.is_empty-has_start.ensures)
       ];
