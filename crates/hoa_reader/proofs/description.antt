@@ -4,6 +4,7 @@ pub mod DescribingExamples
 pub mod Framed
 pub mod LabelsInRange
 pub mod OneMore
+pub mod OneWay
 pub mod Refusals
 pub mod StatesInRange
 pub mod WellFormed

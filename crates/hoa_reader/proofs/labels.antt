@@ -2,6 +2,7 @@
 pub mod AliasNames
 pub mod ExpandedLabels
 pub mod LetterTruth
+pub mod LettersApart
 pub mod LinkedEdges
 pub mod MarksBelow
 pub mod Meanings

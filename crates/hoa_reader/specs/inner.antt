@@ -2,6 +2,7 @@
 pub mod Examined
 pub mod Gathered
 pub mod Growing
+pub mod Implicit
 pub mod PickedOut
 pub mod Places
 pub mod Rising

@@ -17,6 +17,7 @@ mod counts;
 mod edges;
 mod examined;
 mod frame;
+mod implicit;
 mod labels;
 mod leaves;
 mod limits;
@@ -35,6 +36,7 @@ use edges::edges_of;
 use examined::{Examined, examine};
 use frame::frame_of;
 use hoa_parser::Raw;
+use implicit::are_implicit;
 use label_guards::Guards;
 use links::links_of;
 use std::alloc::Global;
@@ -126,6 +128,18 @@ fn automaton<'a>(alloc: Global, raw: &'a Raw, examined: Examined<'a>) -> Result<
     let mut guards = Guards::new(alloc, frame.shared.names)?;
     let states = raw.states.as_slice();
     let links = links_of(alloc, &mut guards, &frame.shared, states, frame.states)?;
+    if are_implicit(states, frame.states, frame.shared.names) {
+        return Automaton::from_letters(
+            alloc,
+            frame.names,
+            guards,
+            frame.states,
+            frame.starts,
+            links,
+            frame.shared.sets,
+            frame.formula,
+        );
+    }
     Automaton::from_parts(
         alloc,
         frame.names,

@@ -282,7 +282,7 @@ fn all_labelled(edges: &[RawEdge]) -> bool
 }
 
 /// Whether none of these edges has a label.
-fn none_labelled(edges: &[RawEdge]) -> bool
+pub(crate) fn none_labelled(edges: &[RawEdge]) -> bool
     ensures { result ≡ list_all (λ e. is_none e.label) (map written_edge edges.now) }
 {
     'edges: for edge in edges {
@@ -314,7 +314,7 @@ pub(crate) fn are_labelled_one_way(states: &[RawState]) -> bool
 }
 
 /// Whether the number is 2 to the power of the other.
-fn is_power(number: usize, exponent: usize) -> bool
+pub(crate) fn is_power(number: usize, exponent: usize) -> bool
     ensures { result ≡ (number == 2 ^ exponent) }
 {
     if exponent >= 64 {
