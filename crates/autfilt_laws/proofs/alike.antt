@@ -5,6 +5,7 @@ mod BadPlaces
 pub mod EndPlaces
 pub mod Ends
 pub mod Faults
+mod Full
 pub mod LeftBehind
 pub mod Like
 mod Limits

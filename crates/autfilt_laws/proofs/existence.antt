@@ -5,7 +5,9 @@ pub mod Stopping
 pub mod PlanLimits
 pub mod Found
 mod GoodOperands
+mod Openings
 pub mod InOperands
 pub mod InStreams
 pub mod Runs
-pub mod Unchanged
+pub mod Silent
+pub mod SomeAnswers

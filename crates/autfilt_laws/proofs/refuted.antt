@@ -5,5 +5,5 @@ mod Shortening
 mod Deciding
 mod Respelling
 mod Restricting
-mod Refuting
+pub mod Refuting
 pub mod Due

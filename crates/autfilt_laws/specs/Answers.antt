@@ -1,14 +1,16 @@
 -- What the texts alone decide of the answer of the command.
-use Rattle.std.specs.Prelude.{◌≡◌, ◌⊎◌, ℕ, List, Option, Some}
+use Rattle.std.specs.Prelude.{◌≡◌, ◌≢◌, ◌⊎◌, ◌+◌, ◌<◌, ℕ, List, Option, Some}
 use Rattle.aut_base.specs.declared.limit.Limit.TheVariants as limit
+use Rattle.aut_base.specs.declared.limit.TheConstants.{MOST_BYTES}
 use Rattle.aut_io.specs.Outside.{Gains, Texts}
 use Rattle.aut_io.specs.Seen.{Seen, SinkSeen}
 use Rattle.autfilt_command.specs.Noted.{Notes}
-use Rattle.autfilt_command.specs.Run.{EndsBy}
+use Rattle.autfilt_command.specs.Run.{EndsBecause, EndsBy}
 use Rattle.autfilt_command.specs.declared.ended.Ended.{Ended}
 use Rattle.autfilt_command.specs.declared.ended.Ended.TheVariants as ended
-use Rattle.autfilt_laws.specs.Runs.{AreReadable, DecidesTexts}
-use Rattle.filter_plan.specs.Words.{IsPlan}
+use Rattle.autfilt_laws.specs.Runs.{AreReadable, DecidesTexts, size_of, texts_or}
+use Rattle.autfilt_run.specs.Plans.{streams_of}
+use Rattle.filter_plan.specs.Words.{IsPlan, operands}
 use Rattle.filter_plan.specs.declared.plan.Plan.{Plan}
 
 -- an answer, and what the inputs and the sinks told before and after it
@@ -25,7 +27,7 @@ pub record Answered : Type 0 where
 abbrev pub IsOf : List (List ℕ) → Answered → Type 0
 IsOf words r = EndsBy words r.answer r.inputs r.inputs' r.out r.out' r.notes r.notes'
 
--- The texts decided the answer: no call failed, memory was not wanting, and not too many bytes were taken.
+-- The texts decided the answer: no call failed, and memory was not wanting.
 abbrev pub IsByTexts : Ended → Type 0
 IsByTexts ended.Output = Unit {0}
 IsByTexts ended.NoneOutput = Unit {0}
@@ -38,7 +40,7 @@ IsByTexts (ended.Limit limit.States) = Unit {0}
 IsByTexts (ended.Limit limit.Edges) = Unit {0}
 IsByTexts (ended.Limit limit.Aliases) = Unit {0}
 IsByTexts (ended.Limit limit.Depth) = Unit {0}
-IsByTexts (ended.Limit limit.Bytes) = ⊥
+IsByTexts (ended.Limit limit.Bytes) = Unit {0}
 IsByTexts (ended.Limit limit.Terms) = Unit {0}
 IsByTexts (ended.Limit limit.BuchiStates) = Unit {0}
 IsByTexts (ended.Limit limit.Trees) = Unit {0}
@@ -92,12 +94,30 @@ pub record AreAlike (plan : Plan) (a b : Answered) : Type 0 where
   pub left : TellsLeftAfter a.answer → a.inputs'.left ≡ b.inputs'.left
   pub written : DecidesTexts plan → (text : List ℕ) × Gains a.out.written a.out'.written text × Gains b.out.written b.out'.written text
 
+-- The one answer is that a token nests too deep, the other that of the limit of bytes.
+abbrev pub MayPartAt : Ended → Ended → Type 0
+MayPartAt r s = (r ≡ ended.Limit limit.Depth) × (s ≡ ended.Limit limit.Bytes)
+
 -- Two runs of the same words over the same texts that these decided.
 abbrev pub OneAnswer : Type 0
 OneAnswer = (words : List (List ℕ)) (plan : Plan) (texts : Texts) (a b : Answered) → IsPlan words plan → a.inputs.left ≡ b.inputs.left
-    → IsDecided words texts a → IsDecided words texts b → AreAlike plan a b
+    → IsDecided words texts a → IsDecided words texts b → (MayPartAt a.answer b.answer → ⊥) → (MayPartAt b.answer a.answer → ⊥) → AreAlike plan a b
 
--- A run over texts that can be read everywhere, and that these decided.
+-- A run over texts that can be read everywhere, and that these decided, where the limit of bytes isn't the answer.
 abbrev pub AnswerCompletes : Type 0
 AnswerCompletes = (words : List (List ℕ)) (plan : Plan) (texts : Texts) (a : Answered) → IsPlan words plan → AreReadable plan texts a.inputs.left
-    → IsDecided words texts a → (a.answer ≡ ended.Output) ⊎ ((a.answer ≡ ended.NoneOutput) ⊎ (a.answer ≡ ended.Aborts))
+    → a.answer ≢ ended.Limit limit.Bytes → IsDecided words texts a → (a.answer ≡ ended.Output) ⊎ ((a.answer ≡ ended.NoneOutput) ⊎ (a.answer ≡ ended.Aborts))
+
+-- An answer of the words over these inputs and sinks, which the texts decided.
+pub record IsRun (words : List (List ℕ)) (texts : Texts) (inputs : Seen) (out notes : SinkSeen) (r : Answered) : Type 0 where
+  pub over : r.inputs ≡ inputs
+  pub into : r.out ≡ out
+  pub noting : r.notes ≡ notes
+  pub decided : IsDecided words texts r
+  pub because : EndsBecause r.answer r.inputs r.inputs' r.out r.out'
+
+-- It isn't so that there is no such answer of words that are a plan, over texts that together have fewer bytes than may be taken.
+abbrev pub SomeAnswer : Type 0
+SomeAnswer = (words : List (List ℕ)) (plan : Plan) (texts : Texts) (inputs : Seen) (out notes : SinkSeen) → IsPlan words plan → inputs.texts ≡ Some texts
+    → size_of texts (operands plan) + size_of (texts_or plan.made texts) (streams_of plan) < MOST_BYTES
+    → ((r : Answered) → IsRun words texts inputs out notes r → ⊥) → ⊥

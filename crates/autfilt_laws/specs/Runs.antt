@@ -18,7 +18,7 @@ use Rattle.autfilt_run.specs.Over.{IsOver}
 use Rattle.autfilt_run.specs.Plans.{asks_on, prints_each, streams_of}
 use Rattle.autfilt_run.specs.declared.fault.RunFault.{RunFault}
 use Rattle.autfilt_run.specs.declared.fault.RunFault.TheVariants as fault
-use Rattle.filter_plan.specs.Words.{changes, operands}
+use Rattle.filter_plan.specs.Words.{operands}
 use Rattle.filter_plan.specs.declared.format.Piece.{Piece}
 use Rattle.filter_plan.specs.declared.format.Piece.TheVariants.{Word}
 use Rattle.filter_plan.specs.declared.plan.Output.{Output}
@@ -32,7 +32,7 @@ use Rattle.hoa_reader.specs.Described.{described}
 use Rattle.hoa_reader.specs.Validity.{IsValid}
 use Rattle.plan_meaning.specs.Filters.{IsKept}
 
--- The texts decided the end: no call failed, memory was not wanting, and not too many bytes were taken.
+-- The texts decided the end: no call failed, and memory was not wanting.
 abbrev pub IsByText : End → Type 0
 IsByText end.Output = Unit {0}
 IsByText end.NoneOutput = Unit {0}
@@ -47,7 +47,7 @@ IsByText (end.Fault (fault.Limit limit.States)) = Unit {0}
 IsByText (end.Fault (fault.Limit limit.Edges)) = Unit {0}
 IsByText (end.Fault (fault.Limit limit.Aliases)) = Unit {0}
 IsByText (end.Fault (fault.Limit limit.Depth)) = Unit {0}
-IsByText (end.Fault (fault.Limit limit.Bytes)) = ⊥
+IsByText (end.Fault (fault.Limit limit.Bytes)) = Unit {0}
 IsByText (end.Fault (fault.Limit limit.Terms)) = Unit {0}
 IsByText (end.Fault (fault.Limit limit.BuchiStates)) = Unit {0}
 IsByText (end.Fault (fault.Limit limit.Trees)) = Unit {0}
@@ -178,11 +178,16 @@ pub record AreSame (plan : Plan) (a b : Outcome) : Type 0 where
   pub line : line_of a.end a.name ≡ line_of b.end b.name
   pub left : TellsLeft a.end → a.left ≡ b.left
 
+-- The one ended where a token opens one more than may be open, and the other at the limit of bytes. (Since no more is said of the
+-- place where the one stops than that the last byte that it took was asked for, the token may stand behind the limit of bytes.)
+abbrev pub MayPart : End → End → Type 0
+MayPart e d = (e ≡ end.Fault (fault.Limit limit.Depth)) × (d ≡ end.Fault (fault.Limit limit.Bytes))
+
 -- Two runs over the same texts of one plan that the texts ended: the same happened, and they end alike.
 abbrev pub OneEnd : Type 0
 OneEnd =
-    (plan : Plan) (texts : Texts) (left : Option (List ℕ)) (a b : Outcome)
-    → IsEnded plan texts left a → IsEnded plan texts left b → AreSame plan a b
+    (plan : Plan) (texts : Texts) (left : Option (List ℕ)) (a b : Outcome) → IsEnded plan texts left a → IsEnded plan texts left b
+    → (MayPart a.end b.end → ⊥) → (MayPart b.end a.end → ⊥) → AreSame plan a b
 
 -- the one are the first of the others
 pub record AreFirst (plan : Plan) (events others : List Event) : Type 0 where
@@ -226,7 +231,7 @@ pub record AreReadable (plan : Plan) (texts : Texts) (left : Option (List ℕ)) 
 -- that was asked for.
 abbrev pub Completes : Type 0
 Completes =
-    (plan : Plan) (texts : Texts) (left : Option (List ℕ)) (o : Outcome) → AreReadable plan texts left
+    (plan : Plan) (texts : Texts) (left : Option (List ℕ)) (o : Outcome) → AreReadable plan texts left → o.end ≢ end.Fault (fault.Limit limit.Bytes)
     → IsEnded plan texts left o → o.end ≡ end_of (tally_after (length (all_passed o.taken)) o.events)
 
 -- ---- existence
@@ -246,28 +251,19 @@ pub record AreGoodOperands (plan : Plan) (taken : List OperandEvent) : Type 0 wh
   pub number : length (operands_of taken) ≡ length (operands plan)
   pub good : AllByRecursion IsGoodOperand taken
 
--- Of each automaton that may be read and is kept, with operands that were read, either something is due under the plan or a
--- limit is passed.
+-- Of each automaton that may be read and is kept, with operands that were read, it isn't so that nothing is due under the plan and
+-- no limit is passed.
 abbrev pub IsAlwaysDue : Plan → Type 0
 IsAlwaysDue plan =
     (taken : List OperandEvent) → AreGoodOperands plan taken → (w : Written) → IsValid w → PassesNone w → IsKept plan (operands_of taken) (described w)
     → (((text : List ℕ) × IsDue plan (operands_of taken) w text) ⊎ ((which : Limit) × IsOver which plan (operands_of taken) w) → ⊥) → ⊥
 
--- Under such a plan there is a run over all texts that together have fewer bytes than may be taken.
+-- So it is under each plan.
+abbrev pub EachIsDue : Type 0
+EachIsDue = (plan : Plan) → IsAlwaysDue plan
+
+-- It isn't so that there is no run of a plan over texts that together have fewer bytes than may be taken.
 abbrev pub SomeEnd : Type 0
 SomeEnd =
-    (plan : Plan) → IsAlwaysDue plan → (texts : Texts) (left : Option (List ℕ))
-    → size_of texts (operands plan) + size_of (texts_or plan.made texts) (streams_of plan) < MOST_BYTES
+    (plan : Plan) (texts : Texts) (left : Option (List ℕ)) → size_of texts (operands plan) + size_of (texts_or plan.made texts) (streams_of plan) < MOST_BYTES
     → ((o : Outcome) → IsEnded plan texts left o → ⊥) → ⊥
-
--- A plan that changes nothing, and prints canonical texts, is one,
-abbrev pub UnchangedIsDue : Type 0
-UnchangedIsDue = (plan : Plan) → changes plan ≡ false → plan.output ≡ Hoa → IsAlwaysDue plan
-
--- so is each that prints nothing of an automaton,
-abbrev pub SilentIsDue : Type 0
-SilentIsDue = (plan : Plan) → prints_each plan ≡ false → IsAlwaysDue plan
-
--- and each that refutes: a word that the automaton accepts and the operand doesn't can be shown, or there is none.
-abbrev pub RefutedIsDue : Type 0
-RefutedIsDue = (plan : Plan) (file : List ℕ) → plan.output ≡ Refute file → IsAlwaysDue plan

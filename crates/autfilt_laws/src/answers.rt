@@ -1,8 +1,8 @@
 //! What the texts decide of the answer of the command.
 
-ghost use Rattle.autfilt_laws.specs.Answers.{AnswerCompletes, OneAnswer};
+ghost use Rattle.autfilt_laws.specs.Answers.{AnswerCompletes, OneAnswer, SomeAnswer};
 
-use crate::runs::{good_texts_are_read, one_end};
+use crate::runs::{good_texts_are_read, one_end, some_end};
 use filter_plan::one_plan;
 use hoa_reader::one_standing;
 
@@ -16,10 +16,18 @@ pub fn one_answer()
     one_plan();
 }
 
-/// A run over texts that can be read everywhere, and that these decided, read all that was asked for.
+/// A run over texts that can be read everywhere, and that these decided, read all that was asked for, or was ended by the limit
+/// of bytes.
 pub fn answer_completes()
     ensures { AnswerCompletes }
 {
     good_texts_are_read();
     one_plan();
+}
+
+/// Words that are a plan have an answer that the texts decide, over all texts of few bytes.
+pub fn some_answer()
+    ensures { SomeAnswer }
+{
+    some_end();
 }

@@ -1,6 +1,6 @@
 //! Laws of runs: there is one, and no other.
 
-ghost use Rattle.autfilt_laws.specs.Runs.{Completes, OneEnd, OneFront, OneOperandFront, RefutedIsDue, SilentIsDue, SomeEnd, UnchangedIsDue};
+ghost use Rattle.autfilt_laws.specs.Runs.{Completes, EachIsDue, OneEnd, OneFront, OneOperandFront, SomeEnd};
 
 use crate::places::refusals_are_shown;
 use aut_ops::trimmed_is_determined;
@@ -37,15 +37,19 @@ pub fn good_texts_are_read()
     one_standing();
 }
 
-/// There is a run over all texts of few bytes, where what is due exists.
+/// Under each plan something is due of an automaton that is kept, or a limit is passed.
+pub fn each_is_due()
+    ensures { EachIsDue }
+{
+    canonical_text_reads_back();
+}
+
+/// There is a run of each plan over all texts of few bytes.
 pub fn some_end()
-    ensures end { SomeEnd }
-    ensures unchanged { UnchangedIsDue }
-    ensures silent { SilentIsDue }
-    ensures refuted { RefutedIsDue }
+    ensures { SomeEnd }
 {
     some_standing();
     some_verdict();
     refusals_are_shown();
-    canonical_text_reads_back();
+    each_is_due();
 }

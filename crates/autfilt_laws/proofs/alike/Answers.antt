@@ -32,7 +32,7 @@ use Rattle.made_stream.specs.Made.{made_texts, seen_of_made}
 -- ---- the end, by the answer
 
 by_limit : (which : Limit) → IsByTexts (ended.Limit which) → IsByText (end.Fault (fault.Limit which))
-by_limit limit.Bytes h = absurd h
+by_limit limit.Bytes h = tt
 by_limit _ h = tt
 
 by_end : (e : End) → IsByTexts (ended_of e) → IsByText e
@@ -132,7 +132,7 @@ module _ (p : Plan) (texts : Texts) (e : End) (taken : List OperandEvent) (event
 
 -- ---- what is written
 
-abbrev text_due : Plan → End → List Event → List ℕ
+abbrev pub text_due : Plan → End → List Event → List ℕ
 text_due p (end.Fault f) events = all_written events
 text_due p e events = all_written events ++ count_text p (tally events).kept
 
@@ -222,10 +222,11 @@ came one words plan texts r is d =
     }
 
 pub one_answer : OneStanding → OnePlan → OneEnd → OneAnswer
-one_answer one plans ends words plan texts a b is left x y =
+one_answer one plans ends words plan texts a b is left x y free also =
     let c = came plans words plan texts a is x in
     let d = came plans words plan texts b is y in
-    let s = ends plan texts a.inputs.left c.o d.o c.is (subst (λ (l : Option (List ℕ)). IsEnded plan texts l d.o) (sym left) d.is) in
+    let s = ends plan texts a.inputs.left c.o d.o c.is (subst (λ (l : Option (List ℕ)). IsEnded plan texts l d.o) (sym left) d.is)
+    (λ z. free (c.shown ∙ ap ended_of z.0, d.shown ∙ ap ended_of z.1)) (λ z. also (d.shown ∙ ap ended_of z.0, c.shown ∙ ap ended_of z.1)) in
     let events = all_noted_like plan c.o.events d.o.events s.streams in
     let notes : passed_noted (all_passed d.o.taken) ++ (all_noted d.o.events ++ line_of d.o.end d.o.name) ≡ passed_noted (all_passed c.o.taken) ++ (all_noted c.o.events ++ line_of c.o.end c.o.name) =
     λ i. passed_noted (all_passed (sym s.operands i)) ++ (sym events i ++ sym s.line i) in
@@ -254,7 +255,7 @@ all_read t = by (t.skipped == 0) (t.kept == 0)
     by false k = inr (inr refl)
 
 pub answer_completes : OnePlan → Completes → AnswerCompletes
-answer_completes plans completes words plan texts a is readable d =
+answer_completes plans completes words plan texts a is readable other d =
     let c = came plans words plan texts a is d in
-    let whole : a.answer ≡ ended_of (end_of (tally_after (length (all_passed c.o.taken)) c.o.events)) = c.shown ∙ ap ended_of (completes plan texts a.inputs.left c.o readable c.is) in
+    let whole : a.answer ≡ ended_of (end_of (tally_after (length (all_passed c.o.taken)) c.o.events)) = c.shown ∙ ap ended_of (completes plan texts a.inputs.left c.o readable (λ e. other (c.shown ∙ ap ended_of e)) c.is) in
     subst (λ (r : Ended). (r ≡ ended.Output) ⊎ ((r ≡ ended.NoneOutput) ⊎ (r ≡ ended.Aborts))) (sym whole) (all_read (tally_after (length (all_passed c.o.taken)) c.o.events))

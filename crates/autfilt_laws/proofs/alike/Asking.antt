@@ -1,5 +1,6 @@
 -- What asks for more holds nothing whole.
-use Rattle.std.proofs.Common.{◌≡◌, ◌≢◌, ◌∙◌, ◌+◌, ◌-◌, ◌<◌, ◌≤◌, ℕ, Bool, true, List, [], ◌∷◌, ◌++◌, ap, append-nil, append_assoc, arith, length, length-append, refl, subst, sym}
+use Rattle.std.proofs.Common.{◌≡◌, ◌≢◌, ◌∙◌, ◌+◌, ◌-◌, ◌<◌, ◌≤◌, ℕ, true, List, [], ◌∷◌, ◌++◌, ap, append-nil, append_assoc, arith, length, length-append, refl, subst, sym}
+use Rattle.std.proofs.lemmas.List.{map-append}
 use Rattle.autfilt_laws.specs.Places.{NoneAsksBehind}
 use Rattle.hoa_lexer.proofs.next_token.Fronts.{front_of}
 use Rattle.hoa_lexer.proofs.next_token.Unique.{one_next_token}
@@ -9,15 +10,15 @@ use Rattle.hoa_lexer.specs.Spelling.{closes_itself}
 use Rattle.hoa_lexer.specs.Text.{AsksForMore, IsNext, Lexes}
 use Rattle.hoa_lexer.specs.declared.token.Token.{Token}
 use Rattle.hoa_lexer.specs.declared.token.Token.TheVariants as token
-use Rattle.hoa_parser.proofs.standing.Halts.{halts_here, shown}
+use Rattle.hoa_parser.proofs.grammar.NoAbort.{no_abort_inside}
+use Rattle.hoa_parser.proofs.grammar.OneRaw.{whole_goes_no_further}
+use Rattle.hoa_parser.proofs.standing.Halts.{shown}
 use Rattle.hoa_parser.proofs.standing.Hopeless.{next_leaves, next_off}
-use Rattle.hoa_parser.proofs.standing.NextCases.{HasNext}
-use Rattle.hoa_parser.proofs.standing.Readings.{lexes_shorter, next_shorter}
+use Rattle.hoa_parser.proofs.standing.Readings.{lexes_more, lexes_shorter}
 use Rattle.hoa_parser.specs.Grammar.{AutomatonPhrase, IsViable, Spells, automaton_tokens, item_tokens, state_tokens}
 use Rattle.hoa_parser.specs.Raw.{Written}
 use Rattle.hoa_parser.specs.Reads.{AsksOn}
-use Rattle.hoa_parser.specs.Standing as standing
-use Rattle.hoa_parser.specs.Standing.{IsWhole, SpellsNothing, most_depth}
+use Rattle.hoa_parser.specs.Standing.{IsAborted, IsBegun, SpellsNothing, most_depth}
 use Rattle.std.specs.Prelude.{codes, flat_map}
 
 -- ---- lists
@@ -26,12 +27,12 @@ some_length : (xs : List ℕ) → xs ≢ [] → 0 < length xs
 some_length [] some = absurd (some refl)
 some_length (x ∷ xs) some = omega arith
 
-record Between (a x b y : List ℕ) : Type 0 where
-  mid : List ℕ
-  behind : x ≡ mid ++ y
-  before : b ≡ a ++ mid
+pub record Between (a x b y : List ℕ) : Type 0 where
+  pub mid : List ℕ
+  pub behind : x ≡ mid ++ y
+  pub before : b ≡ a ++ mid
 
-split_longer : (a x b y : List ℕ) → a ++ x ≡ b ++ y → length y ≤ length x → Between a x b y
+pub split_longer : (a x b y : List ℕ) → a ++ x ≡ b ++ y → length y ≤ length x → Between a x b y
 split_longer [] x b y e long = record { mid = b; behind = e; before = refl }
 split_longer (d ∷ a) x [] y e long = absurd (omega (arith, long, simp length-append at (ap length e)))
 split_longer (d ∷ a) x (f ∷ b) y e long =
@@ -64,9 +65,15 @@ last_is_end p done t e =
 
 -- ---- two readings of one text
 
-module _ (tokens whole : List Token) (w : Written) (spelled : Spells most_depth whole w) (viable : IsViable most_depth tokens) (unfinished : SpellsNothing tokens)
-    (at_hand new rest : List ℕ) (asks : AsksForMore at_hand) (short : length new ≤ length rest) where
-  -- a token of the automaton that stands next is closed by what is at hand
+-- One asks for more with these tokens, and the other goes on to the end of others, at `rest`.
+record IsApart (tokens whole : List Token) (new rest : List ℕ) : Type 0 where
+  -- the last of the others closes itself, if it ends where more is asked for
+  closing : (done : List Token) (t : Token) → whole ≡ done ++ t ∷ [] → length rest ≡ length new → closes_itself t ≡ true
+  -- the one goes no further than the other
+  beyond : (us : List Token) → tokens ≡ whole ++ us → ⊥
+
+module _ (tokens whole : List Token) (at_hand new rest : List ℕ) (are : IsApart tokens whole new rest) (asks : AsksForMore at_hand) (short : length new ≤ length rest) where
+  -- a token of the other is closed by what is at hand
   closed : (q : Token × ℕ) (qs : List (Token × ℕ)) (done : List Token) (start : ℕ) (after : List ℕ) → whole ≡ done ++ q.0 ∷ shown qs → IsNext (at_hand ++ new) start q.0 q.1 after
       → Lexes after (start + (length (at_hand ++ new) - length after)) qs rest → ⊥
   closed q qs done start after is n lexes =
@@ -79,7 +86,7 @@ module _ (tokens whole : List Token) (w : Written) (spelled : Spells most_depth 
     where
       last : (others : List (Token × ℕ)) → whole ≡ done ++ q.0 ∷ shown others → Lexes after (start + (length (at_hand ++ new) - length after)) others rest → length after ≡ length new
           → closes_itself q.0 ≡ true
-      last [] same l size = ap closes_itself (last_is_end spelled.phrase done q.0 (sym same ∙ spelled.spelled))
+      last [] same l size = are.closing done q.0 same (sym (ap length l) ∙ size)
       last (o ∷ os) same l size =
           let less = next_strictly after (start + (length (at_hand ++ new) - length after)) o.0 o.1 l.0 l.1 in
           let more = lexes_shorter l.0 ((start + (length (at_hand ++ new) - length after)) + (length after - length l.0)) os rest l.2 in
@@ -87,11 +94,7 @@ module _ (tokens whole : List Token) (w : Written) (spelled : Spells most_depth 
 
   apart : (ps qs : List (Token × ℕ)) (done : List Token) (input : List ℕ) (start : ℕ) (behind : List ℕ) → tokens ≡ done ++ shown ps → whole ≡ done ++ shown qs
       → Lexes input start ps behind → Lexes input start qs rest → behind ≡ at_hand ++ new → ⊥
-  apart [] [] done input start behind a b f g e = unfinished most_depth w (subst (λ (ts : List Token). Spells most_depth ts w) (b ∙ sym a) spelled)
-  apart (p ∷ ps) [] done input start behind a b f g e =
-      let next : HasNext start rest p.0 = record { offset = p.1; after = f.0; next = subst (λ (r : List ℕ). IsNext r start p.0 p.1 f.0) g f.1 } in
-      halts_here (standing.Whole w rest) done (shown ps) p.0 start rest (subst (λ (ts : List Token). Spells most_depth ts w) (b ∙ append-nil done) spelled, refl) next
-      (subst (λ (ts : List Token). IsViable most_depth ts) a viable)
+  apart ps [] done input start behind a b f g e = are.beyond (shown ps) (a ∙ ap (λ (ts : List Token). ts ++ shown ps) (sym (b ∙ append-nil done)))
   apart [] (q ∷ qs) done input start behind a b f g e =
       let here : input ≡ at_hand ++ new = f ∙ e in
       closed q qs done start g.0 b (subst (λ (r : List ℕ). IsNext r start q.0 q.1 g.0) here g.1)
@@ -103,7 +106,52 @@ module _ (tokens whole : List Token) (w : Written) (spelled : Spells most_depth 
       (b ∙ ap (λ (t : Token). done ++ t ∷ shown qs) (sym same.0) ∙ sym (append_assoc done (p.0 ∷ []) (shown qs)))
       f.2 (subst (λ (r : List ℕ). Lexes r (start + (length input - length r)) qs rest) (sym same.2) g.2) e
 
+-- so there is no such text
+none_asks : (start : ℕ) (text new rest : List ℕ) (placed : List (Token × ℕ)) (a : AsksOn start text new) → IsApart a.tokens (shown placed) new rest → Lexes text start placed rest
+    → length new ≤ length rest → ⊥
+none_asks start text new rest placed a are lexes short =
+    apart a.tokens (shown placed) a.asks.at_hand new rest are a.asks.asks short a.begun.placed placed [] text start a.rest (sym a.begun.shown) refl a.begun.lexes lexes a.asks.split
+
+-- ---- where an automaton stands whole
+
+-- nothing begun is an automaton, or goes on behind one
+beyond_whole : (tokens whole us : List Token) (w : Written) → IsViable most_depth tokens → SpellsNothing tokens → Spells most_depth whole w → tokens ≡ whole ++ us → ⊥
+beyond_whole tokens whole [] w viable unfinished spelled e = unfinished most_depth w (subst (λ (ts : List Token). Spells most_depth ts w) (sym (e ∙ append-nil whole)) spelled)
+beyond_whole tokens whole (u ∷ us) w viable unfinished spelled e =
+    let none : u ∷ us ≡ [] = whole_goes_no_further most_depth most_depth whole (u ∷ us) w spelled (subst (λ (ts : List Token). IsViable most_depth ts) e viable) in
+    cc
+
 pub none_asks_behind : NoneAsksBehind
 none_asks_behind start text w rest new whole asks short =
-    apart asks.tokens (shown whole.placed) w whole.spells asks.begun.viable asks.begun.unfinished asks.asks.at_hand new rest asks.asks.asks short
-    asks.begun.placed whole.placed [] text start asks.rest (sym asks.begun.shown) refl asks.begun.lexes whole.lexes asks.asks.split
+    none_asks start text new rest whole.placed asks (record {
+      closing = λ done t is size. ap closes_itself (last_is_end whole.spells.phrase done t (sym is ∙ whole.spells.spelled));
+      beyond = λ us. beyond_whole asks.tokens (shown whole.placed) us w asks.begun.viable asks.begun.unfinished whole.spells;
+    }) whole.lexes short
+
+-- ---- where a token stands next, behind what was begun
+
+module _ (start : ℕ) (text : List ℕ) (tokens : List Token) (used : ℕ) (rest : List ℕ) (t : Token) (offset : ℕ) (after new : List ℕ) (begun : IsBegun start text tokens used rest)
+    (next : IsNext rest used t offset after) where
+  abbrev with_it : List (Token × ℕ)
+  with_it = begun.placed ++ (t, offset) ∷ []
+
+  with_it_shown : shown with_it ≡ tokens ++ t ∷ []
+  with_it_shown = map-append (λ (p : Token × ℕ). p.0) begun.placed ((t, offset) ∷ []) ∙ ap (λ (ts : List Token). ts ++ t ∷ []) begun.shown
+
+  with_it_read : Lexes text start with_it after
+  with_it_read =
+      lexes_more text start begun.placed rest used (t, offset) after begun.lexes (lexes_shorter text start begun.placed rest begun.lexes) begun.used_is next
+
+  pub none_asks_behind_token : (a : AsksOn start text new) → (length after ≡ length new → closes_itself t ≡ true) → ((us : List Token) → a.tokens ≡ tokens ++ t ∷ us → ⊥)
+      → length new ≤ length after → ⊥
+  none_asks_behind_token a closes beyond =
+      none_asks start text new after with_it a (record {
+        closing = λ done u is size. subst (λ (x : Token). closes_itself x ≡ true) (last_same tokens done t u (sym with_it_shown ∙ is)) (closes size);
+        beyond = λ us is. beyond us (is ∙ ap (λ (ts : List Token). ts ++ us) with_it_shown ∙ append_assoc tokens (t ∷ []) us);
+      }) with_it_read
+
+-- where it is abandoned
+pub none_asks_behind_abort : (start : ℕ) (text after new : List ℕ) → IsAborted start text after → AsksOn start text new → length new ≤ length after → ⊥
+none_asks_behind_abort start text after new h a =
+    none_asks_behind_token start text h.tokens h.used h.rest token.Abort h.offset after new h.begun h.next a (λ size. refl)
+    (λ us is. no_abort_inside most_depth h.tokens us (subst (λ (ts : List Token). IsViable most_depth ts) is a.begun.viable))

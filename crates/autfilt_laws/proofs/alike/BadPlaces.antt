@@ -107,7 +107,7 @@ module _ (k used : ℕ) (tokens others : List Token) (rest extra new at_hand : L
       f.2 there e
 
 -- what asks for more has not all bytes of what shows a bad token
-no_earlier : (k start : ℕ) (bytes extra new : List ℕ) → IsBad start bytes k → AsksOn start (bytes ++ (extra ++ new)) new → ⊥
+pub no_earlier : (k start : ℕ) (bytes extra new : List ℕ) → IsBad start bytes k → AsksOn start (bytes ++ (extra ++ new)) new → ⊥
 no_earlier k start bytes extra new bad a =
     let r = reading (standing.Bad k) start bytes bad in
     let viable = subst (λ (ts : List Token). IsViable most_depth ts) (sym a.begun.shown) a.begun.viable in
@@ -117,7 +117,7 @@ no_earlier k start bytes extra new bad a =
 
 -- ---- two ends of one text
 
-asked_leaves : (start : ℕ) (text new : List ℕ) → AsksOn start text new → Leaves text new
+pub asked_leaves : (start : ℕ) (text new : List ℕ) → AsksOn start text new → Leaves text new
 asked_leaves start text new a =
     let l = lexes_leaves a.begun.placed text start a.rest a.begun.lexes in
     record { before = l.before ++ a.asks.at_hand; split = l.split ∙ ap (λ w. l.before ++ w) a.asks.split ∙ sym (append_assoc l.before a.asks.at_hand new) }

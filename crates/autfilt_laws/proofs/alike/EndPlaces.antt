@@ -8,16 +8,18 @@ use Rattle.autfilt_command.specs.Run.{EndsAt}
 use Rattle.autfilt_command.specs.declared.ended.End.{End}
 use Rattle.autfilt_command.specs.declared.ended.End.TheVariants as end
 use Rattle.autfilt_laws.proofs.alike.BadPlaces.{one_bad_place}
+use Rattle.autfilt_laws.proofs.alike.Full.{IsFitted, full_same}
 use Rattle.autfilt_laws.proofs.alike.Looks.{one_stream, whole_is}
 use Rattle.autfilt_laws.specs.Runs.{IsByText, TellsLeft, TellsName}
 use Rattle.autfilt_run.specs.Events.{Point, Stream, place}
 use Rattle.autfilt_run.specs.Over.{IsOver}
 use Rattle.autfilt_run.specs.Plans.{asks_on}
-use Rattle.autfilt_run.specs.Runs.{AtNamed, StandsWith, StopsAt, StopsAtOperand, StopsInOperands, StopsWhere}
+use Rattle.autfilt_run.specs.Runs.{AtNamed, IsCounted, StandsWith, StopsAt, StopsAtOperand, StopsInOperands, StopsWhere}
 use Rattle.autfilt_run.specs.declared.fault.RunFault.{RunFault}
 use Rattle.autfilt_run.specs.declared.fault.RunFault.TheVariants as fault
 use Rattle.filter_plan.specs.declared.plan.Plan.{Plan}
 use Rattle.hoa_parser.specs.Raw.{Written}
+use Rattle.hoa_parser.specs.Reads.{AsksOn}
 use Rattle.hoa_parser.specs.Standing as standing
 use Rattle.hoa_parser.specs.Standing.{OneStanding}
 
@@ -44,44 +46,44 @@ one_behind one P start rest x y a b =
 -- how a run may stop at this fault, of one text
 abbrev IsOneLeft : (RunFault → ℕ → List ℕ → List ℕ → Type 0) → RunFault → Type 0
 IsOneLeft stops f =
-    IsByText (end.Fault f) → TellsLeft (end.Fault f) → (start : ℕ) (rest x y : List ℕ) → stops f start rest x → stops f start rest y → x ≡ y
+    IsByText (end.Fault f) → TellsLeft (end.Fault f) → (start : ℕ) (rest x y : List ℕ) → (f ≡ fault.Limit limit.Bytes → x ≡ y) → stops f start rest x → stops f start rest y → x ≡ y
 
 one_left : OneStanding → (over : Limit → Written → Type 0) (f : RunFault) → IsOneLeft (StopsAt over) f
-one_left one over (fault.SyntaxAt k) by tells start rest x y a b = one_bad_place k start rest x y a b
-one_left one over fault.Truncated by tells start rest x y a b = a.nothing ∙ sym b.nothing
-one_left one over (fault.Invalid rule) by tells start rest x y a b = one_behind one _ start rest x y a b
-one_left one over (fault.Limit limit.Depth) by tells start rest x y a b = absurd tells
-one_left one over (fault.Limit limit.Bytes) by tells start rest x y a b = absurd by
-one_left one over (fault.Limit limit.Names) by tells start rest x y a b = one_behind one _ start rest x y a b
-one_left one over (fault.Limit limit.Sets) by tells start rest x y a b = one_behind one _ start rest x y a b
-one_left one over (fault.Limit limit.States) by tells start rest x y a b = one_behind one _ start rest x y a b
-one_left one over (fault.Limit limit.Edges) by tells start rest x y a b = one_behind one _ start rest x y a b
-one_left one over (fault.Limit limit.Aliases) by tells start rest x y a b = one_behind one _ start rest x y a b
-one_left one over (fault.Limit limit.Terms) by tells start rest x y a b = one_behind one _ start rest x y a b
-one_left one over (fault.Limit limit.BuchiStates) by tells start rest x y a b = one_behind one _ start rest x y a b
-one_left one over (fault.Limit limit.Trees) by tells start rest x y a b = one_behind one _ start rest x y a b
-one_left one over (fault.Limit limit.Nodes) by tells start rest x y a b = one_behind one _ start rest x y a b
-one_left one over (fault.Limit limit.Classes) by tells start rest x y a b = one_behind one _ start rest x y a b
-one_left one over (fault.Limit limit.Subsets) by tells start rest x y a b = one_behind one _ start rest x y a b
-one_left one over (fault.Limit limit.Pairs) by tells start rest x y a b = one_behind one _ start rest x y a b
-one_left one over fault.CannotOpen by tells start rest x y a b = absurd by
-one_left one over fault.ReadFault by tells start rest x y a b = absurd by
-one_left one over fault.WriteFault by tells start rest x y a b = absurd by
-one_left one over fault.Memory by tells start rest x y a b = absurd by
+one_left one over (fault.SyntaxAt k) by tells start rest x y full a b = one_bad_place k start rest x y a b
+one_left one over fault.Truncated by tells start rest x y full a b = a.nothing ∙ sym b.nothing
+one_left one over (fault.Invalid rule) by tells start rest x y full a b = one_behind one _ start rest x y a b
+one_left one over (fault.Limit limit.Depth) by tells start rest x y full a b = absurd tells
+one_left one over (fault.Limit limit.Bytes) by tells start rest x y full a b = full refl
+one_left one over (fault.Limit limit.Names) by tells start rest x y full a b = one_behind one _ start rest x y a b
+one_left one over (fault.Limit limit.Sets) by tells start rest x y full a b = one_behind one _ start rest x y a b
+one_left one over (fault.Limit limit.States) by tells start rest x y full a b = one_behind one _ start rest x y a b
+one_left one over (fault.Limit limit.Edges) by tells start rest x y full a b = one_behind one _ start rest x y a b
+one_left one over (fault.Limit limit.Aliases) by tells start rest x y full a b = one_behind one _ start rest x y a b
+one_left one over (fault.Limit limit.Terms) by tells start rest x y full a b = one_behind one _ start rest x y a b
+one_left one over (fault.Limit limit.BuchiStates) by tells start rest x y full a b = one_behind one _ start rest x y a b
+one_left one over (fault.Limit limit.Trees) by tells start rest x y full a b = one_behind one _ start rest x y a b
+one_left one over (fault.Limit limit.Nodes) by tells start rest x y full a b = one_behind one _ start rest x y a b
+one_left one over (fault.Limit limit.Classes) by tells start rest x y full a b = one_behind one _ start rest x y a b
+one_left one over (fault.Limit limit.Subsets) by tells start rest x y full a b = one_behind one _ start rest x y a b
+one_left one over (fault.Limit limit.Pairs) by tells start rest x y full a b = one_behind one _ start rest x y a b
+one_left one over fault.CannotOpen by tells start rest x y full a b = absurd by
+one_left one over fault.ReadFault by tells start rest x y full a b = absurd by
+one_left one over fault.WriteFault by tells start rest x y full a b = absurd by
+one_left one over fault.Memory by tells start rest x y full a b = absurd by
 
 none_left : (start : ℕ) (rest x : List ℕ) → StopsAtOperand fault.Truncated start rest x → x ≡ []
 none_left start rest x (inl h) = h.nothing
 none_left start rest x (inr h) = h.1
 
 one_left_in_operand : OneStanding → (f : RunFault) → IsOneLeft StopsAtOperand f
-one_left_in_operand one fault.Truncated by tells start rest x y a b = none_left start rest x a ∙ sym (none_left start rest y b)
-one_left_in_operand one (fault.SyntaxAt k) by tells start rest x y a b = one_left one (λ which w. ⊥) (fault.SyntaxAt k) by tells start rest x y a b
-one_left_in_operand one (fault.Invalid rule) by tells start rest x y a b = one_left one (λ which w. ⊥) (fault.Invalid rule) by tells start rest x y a b
-one_left_in_operand one (fault.Limit which) by tells start rest x y a b = one_left one (λ which w. ⊥) (fault.Limit which) by tells start rest x y a b
-one_left_in_operand one fault.CannotOpen by tells start rest x y a b = absurd by
-one_left_in_operand one fault.ReadFault by tells start rest x y a b = absurd by
-one_left_in_operand one fault.WriteFault by tells start rest x y a b = absurd by
-one_left_in_operand one fault.Memory by tells start rest x y a b = absurd by
+one_left_in_operand one fault.Truncated by tells start rest x y full a b = none_left start rest x a ∙ sym (none_left start rest y b)
+one_left_in_operand one (fault.SyntaxAt k) by tells start rest x y full a b = one_left one (λ which w. ⊥) (fault.SyntaxAt k) by tells start rest x y full a b
+one_left_in_operand one (fault.Invalid rule) by tells start rest x y full a b = one_left one (λ which w. ⊥) (fault.Invalid rule) by tells start rest x y full a b
+one_left_in_operand one (fault.Limit which) by tells start rest x y full a b = one_left one (λ which w. ⊥) (fault.Limit which) by tells start rest x y full a b
+one_left_in_operand one fault.CannotOpen by tells start rest x y full a b = absurd by
+one_left_in_operand one fault.ReadFault by tells start rest x y full a b = absurd by
+one_left_in_operand one fault.WriteFault by tells start rest x y full a b = absurd by
+one_left_in_operand one fault.Memory by tells start rest x y full a b = absurd by
 
 -- ---- two runs that end alike at one point
 
@@ -89,9 +91,14 @@ pub record IsOnePlace (e : End) (n m : List ℕ) (l k : Option (List ℕ)) : Typ
   pub name : TellsName e → n ≡ m
   pub left : TellsLeft e → l ≡ k
 
+-- at the limit of bytes more is asked for
+abbrev AreAsking : (RunFault → ℕ → List ℕ → List ℕ → Type 0) → Type 0
+AreAsking stops = (start : ℕ) (rest now : List ℕ) → stops (fault.Limit limit.Bytes) start rest now → AsksOn start rest now
+
 one_place : (on : Type 0) (stops : RunFault → ℕ → List ℕ → List ℕ → Type 0) (f : RunFault) (p : Point) (n m : List ℕ) (l k : Option (List ℕ))
-    → IsByText (end.Fault f) → IsOneLeft stops f → StopsWhere on stops f n p l → StopsWhere on stops f m p k → IsOnePlace (end.Fault f) n m l k
-one_place on stops f p n m l k by one x y =
+    → IsByText (end.Fault f) → IsFitted p → AreAsking stops → IsOneLeft stops f → StopsWhere on stops f n p l → IsCounted f p l → StopsWhere on stops f m p k → IsCounted f p k
+    → IsOnePlace (end.Fault f) n m l k
+one_place on stops f p n m l k by fitted asking one x c y d =
     let a = at_named on stops f n p l by x in
     let b = at_named on stops f m p k by y in
     let s = a.at.stream in
@@ -99,27 +106,36 @@ one_place on stops f p n m l k by one x y =
     let there = subst (λ (z : Stream). stops f (place z.text z.rest) z.rest b.at.now) (sym same) b.at.stands in
     record {
       name = λ tells. sym a.named ∙ ap (λ (z : Stream). z.name) same ∙ b.named;
-      left = λ tells. a.at.told ∙ ap Some (one by tells (place s.text s.rest) s.rest a.at.now b.at.now a.at.stands there) ∙ sym b.at.told;
+      left = λ tells. a.at.told ∙ ap Some (one by tells (place s.text s.rest) s.rest a.at.now b.at.now (λ is. full is s a.at.now b.at.now a.at.is_open a.at.told b.at.told a.at.stands there) a.at.stands there) ∙ sym b.at.told;
     }
+  where
+    full : f ≡ fault.Limit limit.Bytes → (s : Stream) (x y : List ℕ) → p.stream ≡ Some s → l ≡ Some x → k ≡ Some y → stops f (place s.text s.rest) s.rest x
+        → stops f (place s.text s.rest) s.rest y → x ≡ y
+    full is s x y open_here left left' a b =
+        let P : List ℕ → RunFault → Type 0 = λ now g. stops g (place s.text s.rest) s.rest now in
+        full_same p s l k x y fitted open_here left left' (asking (place s.text s.rest) s.rest x (subst (P x) is a)) (asking (place s.text s.rest) s.rest y (subst (P y) is b))
+        (subst (λ (g : RunFault). IsCounted g p l) is c) (subst (λ (g : RunFault). IsCounted g p k) is d)
 
 -- in the files of operands
-pub one_place_before : OneStanding → (f : RunFault) (p : Point) (n m : List ℕ) (l k : Option (List ℕ)) → IsByText (end.Fault f)
-    → StopsInOperands f n p l → StopsInOperands f m p k → IsOnePlace (end.Fault f) n m l k
-one_place_before one f p n m l k by x y = one_place (Unit {0}) StopsAtOperand f p n m l k by (one_left_in_operand one f) x y
+pub one_place_before : OneStanding → (f : RunFault) (p : Point) (n m : List ℕ) (l k : Option (List ℕ)) → IsByText (end.Fault f) → IsFitted p
+    → StopsInOperands f n p l → IsCounted f p l → StopsInOperands f m p k → IsCounted f p k → IsOnePlace (end.Fault f) n m l k
+one_place_before one f p n m l k by fitted x c y d =
+    one_place (Unit {0}) StopsAtOperand f p n m l k by fitted (λ start rest now h. h) (one_left_in_operand one f) x c y d
 
 -- where all was read
 place_behind : (e : End) (n m : List ℕ) (l k : Option (List ℕ)) → (TellsName e → ⊥) → l ≡ k → IsOnePlace e n m l k
 place_behind e n m l k none same = record { name = λ tells. absurd (none tells); left = λ tells. same }
 
 -- in the streams
-pub one_place_in_streams : OneStanding → (plan : Plan) (ops : List Automaton) (e : End) (p : Point) (n m : List ℕ) (l k : Option (List ℕ)) → IsByText e
+pub one_place_in_streams : OneStanding → (plan : Plan) (ops : List Automaton) (e : End) (p : Point) (n m : List ℕ) (l k : Option (List ℕ)) → IsByText e → IsFitted p
     → EndsAt plan ops e n p l → EndsAt plan ops e m p k → IsOnePlace e n m l k
-one_place_in_streams one plan ops (end.Fault f) p n m l k by x y =
-    one_place (asks_on plan p.kept ≡ true) (StopsAt (λ which w. IsOver which plan ops w)) f p n m l k by (one_left one (λ which w. IsOver which plan ops w) f) x.0 y.0
-one_place_in_streams one plan ops end.Output p n m l k by x y = place_behind end.Output n m l k (λ tells. tells) (x.1 ∙ sym y.1)
-one_place_in_streams one plan ops end.NoneOutput p n m l k by x y = place_behind end.NoneOutput n m l k (λ tells. tells) (x.1 ∙ sym y.1)
-one_place_in_streams one plan ops end.Aborts p n m l k by x y = place_behind end.Aborts n m l k (λ tells. tells) (x.1 ∙ sym y.1)
-one_place_in_streams one plan ops end.Usage p n m l k by x y = absurd by
+one_place_in_streams one plan ops (end.Fault f) p n m l k by fitted x y =
+    one_place (asks_on plan p.kept ≡ true) (StopsAt (λ which w. IsOver which plan ops w)) f p n m l k by fitted (λ start rest now h. h)
+    (one_left one (λ which w. IsOver which plan ops w) f) x.0 x.1 y.0 y.1
+one_place_in_streams one plan ops end.Output p n m l k by fitted x y = place_behind end.Output n m l k (λ tells. tells) (x.1 ∙ sym y.1)
+one_place_in_streams one plan ops end.NoneOutput p n m l k by fitted x y = place_behind end.NoneOutput n m l k (λ tells. tells) (x.1 ∙ sym y.1)
+one_place_in_streams one plan ops end.Aborts p n m l k by fitted x y = place_behind end.Aborts n m l k (λ tells. tells) (x.1 ∙ sym y.1)
+one_place_in_streams one plan ops end.Usage p n m l k by fitted x y = absurd by
 
 -- ---- the line about the end
 

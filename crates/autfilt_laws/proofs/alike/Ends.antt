@@ -7,12 +7,13 @@ use Rattle.autfilt_command.specs.Run.{EndsAt, EndsByTally, end_of, tally_after}
 use Rattle.autfilt_command.specs.declared.ended.End.{End}
 use Rattle.autfilt_command.specs.declared.ended.End.TheVariants as end
 use Rattle.autfilt_laws.proofs.alike.EndPlaces.{at_named}
-use Rattle.autfilt_laws.proofs.alike.Faults.{Asking, Halted, IsOneAsking, both_halted, halted, halted_look, unfit_whole}
+use Rattle.autfilt_laws.proofs.alike.Faults.{Asking, Halted, IsOneAsking, Stopped, asks_there, both_stopped, halted_look, open_there, stopped, unfit_whole}
+use Rattle.autfilt_laws.proofs.alike.Full.{IsFitted, fitted_goes, full_goes}
 use Rattle.autfilt_laws.proofs.alike.Like.{tally_like}
 use Rattle.autfilt_laws.proofs.alike.Looks.{look_at, look_behind, look_over}
 use Rattle.autfilt_laws.proofs.alike.Steps.{one_next}
 use Rattle.autfilt_laws.proofs.alike.Verdicts.{AreOne, dropped_is_within, kept_is_within, one_over}
-use Rattle.autfilt_laws.specs.Runs.{AreLike, IsByText}
+use Rattle.autfilt_laws.specs.Runs.{AreLike, IsByText, MayPart}
 use Rattle.autfilt_run.specs.Events.{AreJudged, Dropped, Ended, Event, Goes, Happen, IsJudged, Kept, Opened, Point, Skipped}
 use Rattle.autfilt_run.specs.Over.{IsOver}
 use Rattle.autfilt_run.specs.Plans.{asks_on}
@@ -33,36 +34,41 @@ one_in_streams plain plan ops = record {
   within = λ which w h. h.within;
 }
 
-abbrev pub IsHalted : Plan → List Automaton → Point → RunFault → Type 0
-IsHalted plan ops p f = Halted (asks_on plan p.kept ≡ true) (in_streams plan ops) p f
+abbrev pub IsStopped : Plan → List Automaton → Point → RunFault → Type 0
+IsStopped plan ops p f = Stopped (asks_on plan p.kept ≡ true) (in_streams plan ops) p f
 
 -- a run of which all was read, or that something in a stream ended
 abbrev pub Ends : Plan → List Automaton → ℕ → Point → List Event → End → Type 0
-Ends plan ops passed p events (end.Fault f) = IsHalted plan ops p f
+Ends plan ops passed p events (end.Fault f) = IsStopped plan ops p f
 Ends plan ops passed p events e = IsDone plan p × (e ≡ end_of (tally_after passed events))
 
 pub ends_at : (plan : Plan) (ops : List Automaton) (passed : ℕ) (e : End) (events : List Event) (name : List ℕ) (p : Point) (left : Option (List ℕ))
-    → IsByText e → EndsByTally e passed events → EndsAt plan ops e name p left → Ends plan ops passed p events e
-ends_at plan ops passed end.Output events name p left by t h = (h.0, t)
-ends_at plan ops passed end.NoneOutput events name p left by t h = (h.0, t)
-ends_at plan ops passed end.Aborts events name p left by t h = (h.0, t)
-ends_at plan ops passed end.Usage events name p left by t h = absurd by
-ends_at plan ops passed (end.Fault f) events name p left by t h =
+    → IsByText e → IsFitted p → EndsByTally e passed events → EndsAt plan ops e name p left → Ends plan ops passed p events e
+ends_at plan ops passed end.Output events name p left by fitted t h = (h.0, t)
+ends_at plan ops passed end.NoneOutput events name p left by fitted t h = (h.0, t)
+ends_at plan ops passed end.Aborts events name p left by fitted t h = (h.0, t)
+ends_at plan ops passed end.Usage events name p left by fitted t h = absurd by
+ends_at plan ops passed (end.Fault f) events name p left by fitted t h =
     let named = at_named (asks_on plan p.kept ≡ true) (StopsAt (λ which w. IsOver which plan ops w)) f name p left by h.0 in
-    halted (asks_on plan p.kept ≡ true) (in_streams plan ops) f p left by named.at
+    stopped (asks_on plan p.kept ≡ true) (in_streams plan ops) f p left by fitted named.at h.1
 
 -- ---- nothing happens where the run has ended
 
-no_more : OneStanding → AreOne → (plan : Plan) (ops : List Automaton) (texts : Texts) (f : RunFault) (e : Event) (p q : Point) → IsHalted plan ops p f → IsJudged plan ops e → Goes texts e p q → ⊥
-no_more one plain plan ops texts f (Opened n) p q h j g = let none : None ≡ Some h.stream = sym g.closed ∙ h.is_open in cc
-no_more one plain plan ops texts f (Kept w t) p q h j g =
+none_behind : OneStanding → AreOne → (plan : Plan) (ops : List Automaton) (texts : Texts) (f : RunFault) (e : Event) (p q : Point) → Halted (asks_on plan p.kept ≡ true) (in_streams plan ops) p f → IsJudged plan ops e → Goes texts e p q → ⊥
+none_behind one plain plan ops texts f (Opened n) p q h j g = let none : None ≡ Some h.stream = sym g.closed ∙ h.is_open in cc
+none_behind one plain plan ops texts f (Kept w t) p q h j g =
     unfit_whole (in_streams plan ops) w g.next f (halted_look one (asks_on plan p.kept ≡ true) (in_streams plan ops) p q f _ _ h (look_at p q w (p.kept + 1) g)) g.stands.valid g.stands.within
     (λ which. kept_is_within plain which plan ops w t j.0 j.1)
-no_more one plain plan ops texts f (Dropped w) p q h j g =
+none_behind one plain plan ops texts f (Dropped w) p q h j g =
     unfit_whole (in_streams plan ops) w g.next f (halted_look one (asks_on plan p.kept ≡ true) (in_streams plan ops) p q f _ _ h (look_at p q w p.kept g)) g.stands.valid g.stands.within
     (λ which. dropped_is_within plain which plan ops w j)
-no_more one plain plan ops texts f (Skipped n) p q h j g = halted_look one (asks_on plan p.kept ≡ true) (in_streams plan ops) p q f _ _ h (look_over p q n g)
-no_more one plain plan ops texts f Ended p q h j g = halted_look one (asks_on plan p.kept ≡ true) (in_streams plan ops) p q f _ _ h (look_behind p q g)
+none_behind one plain plan ops texts f (Skipped n) p q h j g = halted_look one (asks_on plan p.kept ≡ true) (in_streams plan ops) p q f _ _ h (look_over p q n g)
+none_behind one plain plan ops texts f Ended p q h j g = halted_look one (asks_on plan p.kept ≡ true) (in_streams plan ops) p q f _ _ h (look_behind p q g)
+
+no_more : OneStanding → AreOne → (plan : Plan) (ops : List Automaton) (texts : Texts) (f : RunFault) (e : Event) (p q : Point) → IsFitted p → IsStopped plan ops p f → IsJudged plan ops e → Goes texts e p q
+    → ⊥
+no_more one plain plan ops texts f e p q fitted (inl h) j g = none_behind one plain plan ops texts f e p q h.halted j g
+no_more one plain plan ops texts f e p q fitted (inr h) j g = full_goes texts e p q fitted h.full g
 
 closed_goes : (texts : Texts) (e : Event) (p q : Point) → p.stream ≡ None → p.coming ≡ [] → Goes texts e p q → ⊥
 closed_goes texts (Opened n) p q closed none g = let all : (n ∷ g.others) ≡ [] = sym g.next ∙ none in cc
@@ -76,25 +82,25 @@ done_goes plan texts e p q (inl reached) asks g = false≢true (sym reached ∙ 
 done_goes plan texts e p q (inr h) asks g = closed_goes texts e p q h.0 h.1 g
 
 nothing_more : OneStanding → AreOne → (plan : Plan) (ops : List Automaton) (passed : ℕ) (texts : Texts) (events : List Event) (d : End) (e : Event) (p q : Point)
-    → Ends plan ops passed p events d → IsJudged plan ops e → asks_on plan p.kept ≡ true → Goes texts e p q → ⊥
-nothing_more one plain plan ops passed texts events (end.Fault f) e p q h j asks g = no_more one plain plan ops texts f e p q h j g
-nothing_more one plain plan ops passed texts events end.Output e p q h j asks g = done_goes plan texts e p q h.0 asks g
-nothing_more one plain plan ops passed texts events end.NoneOutput e p q h j asks g = done_goes plan texts e p q h.0 asks g
-nothing_more one plain plan ops passed texts events end.Aborts e p q h j asks g = done_goes plan texts e p q h.0 asks g
-nothing_more one plain plan ops passed texts events end.Usage e p q h j asks g = done_goes plan texts e p q h.0 asks g
+    → IsFitted p → Ends plan ops passed p events d → IsJudged plan ops e → asks_on plan p.kept ≡ true → Goes texts e p q → ⊥
+nothing_more one plain plan ops passed texts events (end.Fault f) e p q fitted h j asks g = no_more one plain plan ops texts f e p q fitted h j g
+nothing_more one plain plan ops passed texts events end.Output e p q fitted h j asks g = done_goes plan texts e p q h.0 asks g
+nothing_more one plain plan ops passed texts events end.NoneOutput e p q fitted h j asks g = done_goes plan texts e p q h.0 asks g
+nothing_more one plain plan ops passed texts events end.Aborts e p q fitted h j asks g = done_goes plan texts e p q h.0 asks g
+nothing_more one plain plan ops passed texts events end.Usage e p q fitted h j asks g = done_goes plan texts e p q h.0 asks g
 
 -- the events of two runs that ended
 pub same_events : OneStanding → AreOne → (plan : Plan) (ops : List Automaton) (passed : ℕ) (texts : Texts) (es fs all all' : List Event) (e d : End) (p q r : Point)
-    → AreJudged plan ops es → AreJudged plan ops fs
+    → IsFitted p → AreJudged plan ops es → AreJudged plan ops fs
     → Happen plan texts es p q → Happen plan texts fs p r → Ends plan ops passed q all e → Ends plan ops passed r all' d → AreLike plan es fs × (q ≡ r)
-same_events one plain plan ops passed texts [] [] all all' e d p q r j i a b x y = (tt, sym a ∙ b)
-same_events one plain plan ops passed texts [] (f ∷ fs) all all' e d p q r j i a b x y =
-    absurd (nothing_more one plain plan ops passed texts all e f p b.1 (subst (λ (z : Point). Ends plan ops passed z all e) (sym a) x) i.0 b.0 b.2)
-same_events one plain plan ops passed texts (e' ∷ es) [] all all' e d p q r j i a b x y =
-    absurd (nothing_more one plain plan ops passed texts all' d e' p a.1 (subst (λ (z : Point). Ends plan ops passed z all' d) (sym b) y) j.0 a.0 a.2)
-same_events one plain plan ops passed texts (e' ∷ es) (f ∷ fs) all all' e d p q r j i a b x y =
+same_events one plain plan ops passed texts [] [] all all' e d p q r fitted j i a b x y = (tt, sym a ∙ b)
+same_events one plain plan ops passed texts [] (f ∷ fs) all all' e d p q r fitted j i a b x y =
+    absurd (nothing_more one plain plan ops passed texts all e f p b.1 fitted (subst (λ (z : Point). Ends plan ops passed z all e) (sym a) x) i.0 b.0 b.2)
+same_events one plain plan ops passed texts (e' ∷ es) [] all all' e d p q r fitted j i a b x y =
+    absurd (nothing_more one plain plan ops passed texts all' d e' p a.1 fitted (subst (λ (z : Point). Ends plan ops passed z all' d) (sym b) y) j.0 a.0 a.2)
+same_events one plain plan ops passed texts (e' ∷ es) (f ∷ fs) all all' e d p q r fitted j i a b x y =
     let same = one_next one plain plan ops texts e' f p a.1 b.1 j.0 i.0 a.2 b.2 in
-    let rest = same_events one plain plan ops passed texts es fs all all' e d a.1 q r j.1 i.1 a.3 (subst (λ (z : Point). Happen plan texts fs z r) (sym same.1) b.3) x y in
+    let rest = same_events one plain plan ops passed texts es fs all all' e d a.1 q r (fitted_goes texts e' p a.1 fitted a.2) j.1 i.1 a.3 (subst (λ (z : Point). Happen plan texts fs z r) (sym same.1) b.3) x y in
     ((same.0, rest.0), rest.1)
 
 -- an end of the one is one of the other
@@ -107,31 +113,32 @@ ends_like plan ops passed p es fs end.Usage like h = (h.0, h.1 ∙ ap end_of (ta
 
 -- ---- two ends at one point
 
-not_done : (plan : Plan) (ops : List Automaton) (p : Point) (f : RunFault) → IsHalted plan ops p f → IsDone plan p → ⊥
-not_done plan ops p f h (inl reached) = false≢true (sym reached ∙ h.asks)
-not_done plan ops p f h (inr done) = let some : None ≡ Some h.stream = sym done.0 ∙ h.is_open in cc
+not_done : (plan : Plan) (ops : List Automaton) (p : Point) (f : RunFault) → IsStopped plan ops p f → IsDone plan p → ⊥
+not_done plan ops p f h (inl reached) = false≢true (sym reached ∙ asks_there _ (in_streams plan ops) p f h)
+not_done plan ops p f h (inr done) = open_there _ (in_streams plan ops) p f h done.0
 
-pub alike : OneStanding → AreOne → (plan : Plan) (ops : List Automaton) (passed : ℕ) (p : Point) (events : List Event) (e d : End) → IsByText e → IsByText d
+pub alike : OneStanding → AreOne → (plan : Plan) (ops : List Automaton) (passed : ℕ) (p : Point) (events : List Event) (e d : End) → IsByText e → IsByText d → (MayPart e d → ⊥) → (MayPart d e → ⊥)
     → Ends plan ops passed p events e → Ends plan ops passed p events d → e ≡ d
-alike one plain plan ops passed p events (end.Fault f) (end.Fault g) x y a b =
-    ap end.Fault (both_halted one (asks_on plan p.kept ≡ true) (in_streams plan ops) (one_in_streams plain plan ops) p f g a b)
-alike one plain plan ops passed p events (end.Fault f) end.Output x y a b = absurd (not_done plan ops p f a b.0)
-alike one plain plan ops passed p events (end.Fault f) end.NoneOutput x y a b = absurd (not_done plan ops p f a b.0)
-alike one plain plan ops passed p events (end.Fault f) end.Aborts x y a b = absurd (not_done plan ops p f a b.0)
-alike one plain plan ops passed p events (end.Fault f) end.Usage x y a b = absurd y
-alike one plain plan ops passed p events end.Output (end.Fault g) x y a b = absurd (not_done plan ops p g b a.0)
-alike one plain plan ops passed p events end.Output end.Output x y a b = a.1 ∙ sym b.1
-alike one plain plan ops passed p events end.Output end.NoneOutput x y a b = a.1 ∙ sym b.1
-alike one plain plan ops passed p events end.Output end.Aborts x y a b = a.1 ∙ sym b.1
-alike one plain plan ops passed p events end.Output end.Usage x y a b = absurd y
-alike one plain plan ops passed p events end.NoneOutput (end.Fault g) x y a b = absurd (not_done plan ops p g b a.0)
-alike one plain plan ops passed p events end.NoneOutput end.Output x y a b = a.1 ∙ sym b.1
-alike one plain plan ops passed p events end.NoneOutput end.NoneOutput x y a b = a.1 ∙ sym b.1
-alike one plain plan ops passed p events end.NoneOutput end.Aborts x y a b = a.1 ∙ sym b.1
-alike one plain plan ops passed p events end.NoneOutput end.Usage x y a b = absurd y
-alike one plain plan ops passed p events end.Aborts (end.Fault g) x y a b = absurd (not_done plan ops p g b a.0)
-alike one plain plan ops passed p events end.Aborts end.Output x y a b = a.1 ∙ sym b.1
-alike one plain plan ops passed p events end.Aborts end.NoneOutput x y a b = a.1 ∙ sym b.1
-alike one plain plan ops passed p events end.Aborts end.Aborts x y a b = a.1 ∙ sym b.1
-alike one plain plan ops passed p events end.Aborts end.Usage x y a b = absurd y
-alike one plain plan ops passed p events end.Usage d x y a b = absurd x
+alike one plain plan ops passed p events (end.Fault f) (end.Fault g) x y free also a b =
+    ap end.Fault (both_stopped one (asks_on plan p.kept ≡ true) (in_streams plan ops) (one_in_streams plain plan ops) p f g (λ h. free (ap end.Fault h.0, ap end.Fault h.1))
+    (λ h. also (ap end.Fault h.0, ap end.Fault h.1)) a b)
+alike one plain plan ops passed p events (end.Fault f) end.Output x y free also a b = absurd (not_done plan ops p f a b.0)
+alike one plain plan ops passed p events (end.Fault f) end.NoneOutput x y free also a b = absurd (not_done plan ops p f a b.0)
+alike one plain plan ops passed p events (end.Fault f) end.Aborts x y free also a b = absurd (not_done plan ops p f a b.0)
+alike one plain plan ops passed p events (end.Fault f) end.Usage x y free also a b = absurd y
+alike one plain plan ops passed p events end.Output (end.Fault g) x y free also a b = absurd (not_done plan ops p g b a.0)
+alike one plain plan ops passed p events end.Output end.Output x y free also a b = a.1 ∙ sym b.1
+alike one plain plan ops passed p events end.Output end.NoneOutput x y free also a b = a.1 ∙ sym b.1
+alike one plain plan ops passed p events end.Output end.Aborts x y free also a b = a.1 ∙ sym b.1
+alike one plain plan ops passed p events end.Output end.Usage x y free also a b = absurd y
+alike one plain plan ops passed p events end.NoneOutput (end.Fault g) x y free also a b = absurd (not_done plan ops p g b a.0)
+alike one plain plan ops passed p events end.NoneOutput end.Output x y free also a b = a.1 ∙ sym b.1
+alike one plain plan ops passed p events end.NoneOutput end.NoneOutput x y free also a b = a.1 ∙ sym b.1
+alike one plain plan ops passed p events end.NoneOutput end.Aborts x y free also a b = a.1 ∙ sym b.1
+alike one plain plan ops passed p events end.NoneOutput end.Usage x y free also a b = absurd y
+alike one plain plan ops passed p events end.Aborts (end.Fault g) x y free also a b = absurd (not_done plan ops p g b a.0)
+alike one plain plan ops passed p events end.Aborts end.Output x y free also a b = a.1 ∙ sym b.1
+alike one plain plan ops passed p events end.Aborts end.NoneOutput x y free also a b = a.1 ∙ sym b.1
+alike one plain plan ops passed p events end.Aborts end.Aborts x y free also a b = a.1 ∙ sym b.1
+alike one plain plan ops passed p events end.Aborts end.Usage x y free also a b = absurd y
+alike one plain plan ops passed p events end.Usage d x y free also a b = absurd x

@@ -1,17 +1,19 @@
 -- Which faults fit what stands at the rest of a file. `over` tells which limits are passed behind the reader, and `blank` which
 -- faults come where only blanks are left.
-use Rattle.std.proofs.Common.{◌≡◌, ◌⊎◌, ℕ, List, Option, Some, refl, sym, ap, ◌∙◌, subst, inl, inr}
+use Rattle.std.proofs.Common.{◌≡◌, ◌⊎◌, ℕ, List, Option, Some, None, refl, sym, ap, ◌∙◌, subst, inl, inr}
 use Rattle.aut_base.specs.declared.limit.Limit.{Limit}
 use Rattle.aut_base.specs.declared.limit.Limit.TheVariants as limit
 use Rattle.autfilt_command.specs.declared.ended.End.TheVariants as end
+use Rattle.autfilt_laws.proofs.alike.Full.{IsFitted, IsFull, full_apart, full_apart_there, one_full}
 use Rattle.autfilt_laws.proofs.alike.Limits.{no_count, one_limit}
 use Rattle.autfilt_laws.proofs.alike.Looks.{Look, one_standing_in}
 use Rattle.autfilt_laws.specs.Runs.{IsByText}
 use Rattle.autfilt_run.specs.Events.{Point, Stream, place}
-use Rattle.autfilt_run.specs.Runs.{AtStream, StandsWith, StopsAt, StopsAtOperand}
+use Rattle.autfilt_run.specs.Runs.{AtStream, IsCounted, StandsWith, StopsAt, StopsAtOperand}
 use Rattle.autfilt_run.specs.declared.fault.RunFault.{RunFault}
 use Rattle.autfilt_run.specs.declared.fault.RunFault.TheVariants as fault
 use Rattle.hoa_parser.specs.Raw.{Written}
+use Rattle.hoa_parser.specs.Reads.{AsksOn}
 use Rattle.hoa_parser.specs.Standing as standing
 use Rattle.hoa_parser.specs.Standing.{OneStanding, Standing, Stands}
 use Rattle.hoa_reader.proofs.validity.ValidityLaws.{none_first, one_first}
@@ -102,33 +104,90 @@ record Shown (a : Asking) (start : ℕ) (rest : List ℕ) (f : RunFault) : Type 
 past : (a : Asking) (which : Limit) (start : ℕ) (rest left : List ℕ) → StandsWith (λ w. PassesLimit which w ⊎ a.over which w) start rest left → Shown a start rest (fault.Limit which)
 past a which start rest left h = record { what = standing.Whole h.automaton left; stands = h.whole; fits = inr (which, refl, h.holds) }
 
-shown : (a : Asking) (f : RunFault) (start : ℕ) (rest left : List ℕ) → IsByText (end.Fault f) → StopsAt (λ which w. a.over which w) f start rest left → Shown a start rest f
-shown a (fault.SyntaxAt k) start rest left by h = record { what = standing.Bad k; stands = h.bad; fits = refl }
-shown a fault.Truncated start rest left by h = record { what = standing.Cut; stands = h.cut; fits = refl }
-shown a (fault.Invalid rule) start rest left by h = record { what = standing.Whole h.automaton left; stands = h.whole; fits = inl (rule, refl, h.holds) }
-shown a (fault.Limit limit.Depth) start rest left by h = record { what = standing.Deep; stands = h.deep; fits = refl }
-shown a (fault.Limit limit.Bytes) start rest left by h = absurd by
-shown a (fault.Limit limit.Names) start rest left by h = past a limit.Names start rest left h
-shown a (fault.Limit limit.Sets) start rest left by h = past a limit.Sets start rest left h
-shown a (fault.Limit limit.States) start rest left by h = past a limit.States start rest left h
-shown a (fault.Limit limit.Edges) start rest left by h = past a limit.Edges start rest left h
-shown a (fault.Limit limit.Aliases) start rest left by h = past a limit.Aliases start rest left h
-shown a (fault.Limit limit.Terms) start rest left by h = past a limit.Terms start rest left h
-shown a (fault.Limit limit.BuchiStates) start rest left by h = past a limit.BuchiStates start rest left h
-shown a (fault.Limit limit.Trees) start rest left by h = past a limit.Trees start rest left h
-shown a (fault.Limit limit.Nodes) start rest left by h = past a limit.Nodes start rest left h
-shown a (fault.Limit limit.Classes) start rest left by h = past a limit.Classes start rest left h
-shown a (fault.Limit limit.Subsets) start rest left by h = past a limit.Subsets start rest left h
-shown a (fault.Limit limit.Pairs) start rest left by h = past a limit.Pairs start rest left h
-shown a fault.CannotOpen start rest left by h = absurd by
-shown a fault.ReadFault start rest left by h = absurd by
-shown a fault.WriteFault start rest left by h = absurd by
-shown a fault.Memory start rest left by h = absurd by
+shown : (a : Asking) (f : RunFault) (start : ℕ) (rest left : List ℕ) → IsByText (end.Fault f) → (f ≡ fault.Limit limit.Bytes → ⊥) → StopsAt (λ which w. a.over which w) f start rest left → Shown a start rest f
+shown a (fault.SyntaxAt k) start rest left by other h = record { what = standing.Bad k; stands = h.bad; fits = refl }
+shown a fault.Truncated start rest left by other h = record { what = standing.Cut; stands = h.cut; fits = refl }
+shown a (fault.Invalid rule) start rest left by other h = record { what = standing.Whole h.automaton left; stands = h.whole; fits = inl (rule, refl, h.holds) }
+shown a (fault.Limit limit.Depth) start rest left by other h = record { what = standing.Deep; stands = h.deep; fits = refl }
+shown a (fault.Limit limit.Bytes) start rest left by other h = absurd (other refl)
+shown a (fault.Limit limit.Names) start rest left by other h = past a limit.Names start rest left h
+shown a (fault.Limit limit.Sets) start rest left by other h = past a limit.Sets start rest left h
+shown a (fault.Limit limit.States) start rest left by other h = past a limit.States start rest left h
+shown a (fault.Limit limit.Edges) start rest left by other h = past a limit.Edges start rest left h
+shown a (fault.Limit limit.Aliases) start rest left by other h = past a limit.Aliases start rest left h
+shown a (fault.Limit limit.Terms) start rest left by other h = past a limit.Terms start rest left h
+shown a (fault.Limit limit.BuchiStates) start rest left by other h = past a limit.BuchiStates start rest left h
+shown a (fault.Limit limit.Trees) start rest left by other h = past a limit.Trees start rest left h
+shown a (fault.Limit limit.Nodes) start rest left by other h = past a limit.Nodes start rest left h
+shown a (fault.Limit limit.Classes) start rest left by other h = past a limit.Classes start rest left h
+shown a (fault.Limit limit.Subsets) start rest left by other h = past a limit.Subsets start rest left h
+shown a (fault.Limit limit.Pairs) start rest left by other h = past a limit.Pairs start rest left h
+shown a fault.CannotOpen start rest left by other h = absurd by
+shown a fault.ReadFault start rest left by other h = absurd by
+shown a fault.WriteFault start rest left by other h = absurd by
+shown a fault.Memory start rest left by other h = absurd by
 
-pub halted : (on : Type 0) (a : Asking) (f : RunFault) (p : Point) (left : Option (List ℕ)) → IsByText (end.Fault f) → AtStream on p left (StopsAt (λ which w. a.over which w) f) → Halted on a p f
-halted on a f p left by h =
-    let x = shown a f (place h.stream.text h.stream.rest) h.stream.rest h.now by h.stands in
+halted : (on : Type 0) (a : Asking) (f : RunFault) (p : Point) (left : Option (List ℕ)) → IsByText (end.Fault f) → (f ≡ fault.Limit limit.Bytes → ⊥)
+    → AtStream on p left (StopsAt (λ which w. a.over which w) f) → Halted on a p f
+halted on a f p left by other h =
+    let x = shown a f (place h.stream.text h.stream.rest) h.stream.rest h.now by other h.stands in
     record { asks = h.asks; stream = h.stream; is_open = h.is_open; what = x.what; stands = x.stands; fits = x.fits }
+
+-- ---- or the limit of bytes ended it
+
+-- what stands next ended it; and no bytes were wanting but maybe where a token nests too deep
+pub record HaltedWithin (on : Type 0) (a : Asking) (p : Point) (f : RunFault) : Type 0 where
+  pub halted : Halted on a p f
+  pub within : IsFull p → f ≡ fault.Limit limit.Depth
+
+-- as many bytes were taken as may be
+pub record HaltedFull (on : Type 0) (p : Point) (f : RunFault) : Type 0 where
+  pub asks : on
+  pub is : f ≡ fault.Limit limit.Bytes
+  pub full : IsFull p
+
+abbrev pub Stopped : Type 0 → Asking → Point → RunFault → Type 0
+Stopped on a p f = HaltedWithin on a p f ⊎ HaltedFull on p f
+
+-- one ended where a token nests too deep, and the other at the limit of bytes
+abbrev pub ArePart : RunFault → RunFault → Type 0
+ArePart f g = (f ≡ fault.Limit limit.Depth) × (g ≡ fault.Limit limit.Bytes)
+
+pub both_stopped : OneStanding → (on : Type 0) (a : Asking) → IsOneAsking a → (p : Point) (f g : RunFault) → (ArePart f g → ⊥) → (ArePart g f → ⊥) → Stopped on a p f → Stopped on a p g → f ≡ g
+both_stopped one on a plain p f g free also (inl x) (inl y) = both_halted one on a plain p f g x.halted y.halted
+both_stopped one on a plain p f g free also (inl x) (inr y) = absurd (free (x.within y.full, y.is))
+both_stopped one on a plain p f g free also (inr x) (inl y) = absurd (also (y.within x.full, x.is))
+both_stopped one on a plain p f g free also (inr x) (inr y) = x.is ∙ sym y.is
+
+pub asks_there : (on : Type 0) (a : Asking) (p : Point) (f : RunFault) → Stopped on a p f → on
+asks_there on a p f (inl h) = h.halted.asks
+asks_there on a p f (inr h) = h.asks
+
+-- a file is open
+pub open_there : (on : Type 0) (a : Asking) (p : Point) (f : RunFault) → Stopped on a p f → p.stream ≡ None → ⊥
+open_there on a p f (inl h) none = let some : None ≡ Some h.halted.stream = sym none ∙ h.halted.is_open in cc
+open_there on a p f (inr h) none = let some : None ≡ Some h.full.stream = sym none ∙ h.full.is_open in cc
+
+-- whether it is the limit of bytes
+is_bytes : (f : RunFault) → (f ≡ fault.Limit limit.Bytes) ⊎ (f ≡ fault.Limit limit.Bytes → ⊥)
+is_bytes (fault.Limit limit.Bytes) = inl refl
+is_bytes _ = inr (λ e. cc)
+
+asking_bytes : (over : Limit → Written → Type 0) (f : RunFault) → f ≡ fault.Limit limit.Bytes → (start : ℕ) (rest now : List ℕ) → StopsAt over f start rest now → AsksOn start rest now
+asking_bytes over f is start rest now h = subst (λ (g : RunFault). StopsAt over g start rest now) is h
+
+pub stopped : (on : Type 0) (a : Asking) (f : RunFault) (p : Point) (left : Option (List ℕ)) → IsByText (end.Fault f) → IsFitted p → AtStream on p left (StopsAt (λ which w. a.over which w) f)
+    → IsCounted f p left → Stopped on a p f
+stopped on a f p left by fitted h c = go (is_bytes f)
+  where
+    go : (f ≡ fault.Limit limit.Bytes) ⊎ (f ≡ fault.Limit limit.Bytes → ⊥) → Stopped on a p f
+    go (inr other) = inl (record { halted = halted on a f p left by other h; within = full_apart on (λ which w. a.over which w) p left fitted f by h c other })
+    go (inl is) =
+        inr (record {
+          asks = h.asks;
+          is = is;
+          full = one_full on (StopsAt (λ which w. a.over which w) f) p left (asking_bytes (λ which w. a.over which w) f is) h (subst (λ (g : RunFault). IsCounted g p left) is c);
+        })
 
 -- ---- where an operand is read
 
@@ -144,18 +203,34 @@ one_in_operands = record {
   within = λ which w h. absurd h;
 }
 
-shown_in_operand : (f : RunFault) (start : ℕ) (rest left : List ℕ) → IsByText (end.Fault f) → StopsAtOperand f start rest left → Shown in_operands start rest f
-shown_in_operand fault.Truncated start rest left by (inl h) = record { what = standing.Cut; stands = h.cut; fits = refl }
-shown_in_operand fault.Truncated start rest left by (inr h) = record { what = standing.Blank; stands = h.0; fits = refl }
-shown_in_operand (fault.SyntaxAt k) start rest left by h = shown in_operands (fault.SyntaxAt k) start rest left by h
-shown_in_operand (fault.Invalid rule) start rest left by h = shown in_operands (fault.Invalid rule) start rest left by h
-shown_in_operand (fault.Limit which) start rest left by h = shown in_operands (fault.Limit which) start rest left by h
-shown_in_operand fault.CannotOpen start rest left by h = absurd by
-shown_in_operand fault.ReadFault start rest left by h = absurd by
-shown_in_operand fault.WriteFault start rest left by h = absurd by
-shown_in_operand fault.Memory start rest left by h = absurd by
+shown_in_operand : (f : RunFault) (start : ℕ) (rest left : List ℕ) → IsByText (end.Fault f) → (f ≡ fault.Limit limit.Bytes → ⊥) → StopsAtOperand f start rest left → Shown in_operands start rest f
+shown_in_operand fault.Truncated start rest left by other (inl h) = record { what = standing.Cut; stands = h.cut; fits = refl }
+shown_in_operand fault.Truncated start rest left by other (inr h) = record { what = standing.Blank; stands = h.0; fits = refl }
+shown_in_operand (fault.SyntaxAt k) start rest left by other h = shown in_operands (fault.SyntaxAt k) start rest left by other h
+shown_in_operand (fault.Invalid rule) start rest left by other h = shown in_operands (fault.Invalid rule) start rest left by other h
+shown_in_operand (fault.Limit which) start rest left by other h = shown in_operands (fault.Limit which) start rest left by other h
+shown_in_operand fault.CannotOpen start rest left by other h = absurd by
+shown_in_operand fault.ReadFault start rest left by other h = absurd by
+shown_in_operand fault.WriteFault start rest left by other h = absurd by
+shown_in_operand fault.Memory start rest left by other h = absurd by
 
-pub halted_in_operand : (f : RunFault) (p : Point) (left : Option (List ℕ)) → IsByText (end.Fault f) → AtStream (Unit {0}) p left (StopsAtOperand f) → Halted (Unit {0}) in_operands p f
-halted_in_operand f p left by h =
-    let x = shown_in_operand f (place h.stream.text h.stream.rest) h.stream.rest h.now by h.stands in
-    record { asks = h.asks; stream = h.stream; is_open = h.is_open; what = x.what; stands = x.stands; fits = x.fits }
+asking_there : (f : RunFault) → f ≡ fault.Limit limit.Bytes → (start : ℕ) (rest now : List ℕ) → StopsAtOperand f start rest now → AsksOn start rest now
+asking_there f is start rest now h = subst (λ (g : RunFault). StopsAtOperand g start rest now) is h
+
+pub stopped_in_operand : (f : RunFault) (p : Point) (left : Option (List ℕ)) → IsByText (end.Fault f) → IsFitted p → AtStream (Unit {0}) p left (StopsAtOperand f) → IsCounted f p left
+    → Stopped (Unit {0}) in_operands p f
+stopped_in_operand f p left by fitted h c = go (is_bytes f)
+  where
+    go : (f ≡ fault.Limit limit.Bytes) ⊎ (f ≡ fault.Limit limit.Bytes → ⊥) → Stopped (Unit {0}) in_operands p f
+    go (inr other) =
+        let x = shown_in_operand f (place h.stream.text h.stream.rest) h.stream.rest h.now by other h.stands in
+        inl (record {
+          halted = record { asks = h.asks; stream = h.stream; is_open = h.is_open; what = x.what; stands = x.stands; fits = x.fits };
+          within = full_apart_there (Unit {0}) p left fitted f by h c other;
+        })
+    go (inl is) =
+        inr (record {
+          asks = h.asks;
+          is = is;
+          full = one_full (Unit {0}) (StopsAtOperand f) p left (asking_there f is) h (subst (λ (g : RunFault). IsCounted g p left) is c);
+        })

@@ -3,7 +3,8 @@ use Rattle.std.proofs.Common.{◌≡◌, ◌∙◌, ◌⊎◌, ℕ, List, Option
 use Rattle.aut_io.specs.Outside.{Texts}
 use Rattle.autfilt_command.specs.Run.{AreAllRead}
 use Rattle.autfilt_command.specs.declared.ended.End.TheVariants as end
-use Rattle.autfilt_laws.proofs.alike.OperandEnds.{IsThrough, halted_there, not_through, same_operands}
+use Rattle.autfilt_laws.proofs.alike.Full.{fitted_read, fitted_start}
+use Rattle.autfilt_laws.proofs.alike.OperandEnds.{IsThrough, not_through, same_operands, stopped_there}
 use Rattle.autfilt_laws.specs.Runs.{EndsBefore, IsByText, Outcome}
 use Rattle.autfilt_run.specs.Events.{Point, start_of}
 use Rattle.autfilt_run.specs.OperandEvents.{AreRead, OperandEvent}
@@ -23,10 +24,12 @@ through p texts left taken point h = record { closed = h.none_open; none = h.non
 not_both : OneStanding → (p : Plan) (texts : Texts) (left : Option (List ℕ)) (a b : Outcome) → IsByText a.end → EndsBefore p texts left a
     → (point : Point) → AreAllRead p texts left b.taken point → ⊥
 not_both one p texts left a b by h point read =
-    let halted = halted_there h.fault a.name h.stops.point a.left (subst IsByText h.ends by) h.stops.stops in
+    let begins = fitted_start (operands p) left 0 in
+    let fitted = fitted_read texts a.taken (start_of (operands p) left 0) h.stops.point begins h.stops.read in
+    let stopped = stopped_there h.fault a.name h.stops.point a.left (subst IsByText h.ends by) fitted h.stops.stops h.stops.counted in
     let through_it = through p texts left b.taken point read in
-    let same = same_operands one texts a.taken b.taken (start_of (operands p) left 0) h.stops.point point h.stops.read read.read (inl (h.fault, halted)) (inr through_it) in
-    not_through h.stops.point h.fault halted (subst IsThrough (sym same.1) through_it)
+    let same = same_operands one texts a.taken b.taken (start_of (operands p) left 0) h.stops.point point begins h.stops.read read.read (inl (h.fault, stopped)) (inr through_it) in
+    not_through h.stops.point h.fault stopped (subst IsThrough (sym same.1) through_it)
 
 mixed : OneStanding → (p : Plan) (texts : Texts) (left : Option (List ℕ)) (a b : Outcome) → IsByText a.end → (n : ℕ) → p.made ≡ Some n
     → (p.made ≡ None) ⊎ EndsBefore p texts left a → (point : Point) → AreAllRead p texts left b.taken point → ⊥
@@ -40,6 +43,6 @@ one_left_behind one p texts left a b x y by_a by_b taken same (inl h) (inl k) = 
 one_left_behind one p texts left a b x y by_a by_b taken same (inl h) (inr k) = absurd (mixed one p texts left a b by_a k.0.0 k.0.1 h.1 k.1 k.2)
 one_left_behind one p texts left a b x y by_a by_b taken same (inr h) (inl k) = absurd (mixed one p texts left b a by_b h.0.0 h.0.1 k.1 h.1 h.2)
 one_left_behind one p texts left a b x y by_a by_b taken same (inr h) (inr k) =
-    let there = same_operands one texts a.taken b.taken (start_of (operands p) left 0) h.1 k.1 h.2.read k.2.read
+    let there = same_operands one texts a.taken b.taken (start_of (operands p) left 0) h.1 k.1 (fitted_start (operands p) left 0) h.2.read k.2.read
     (inr (through p texts left a.taken h.1 h.2)) (inr (through p texts left b.taken k.1 k.2)) in
     h.3 ∙ (ap (λ (z : Point). z.left) there.1 ∙ sym k.3)

@@ -1,19 +1,23 @@
 -- Texts that can be read everywhere: the run reads all.
-use Rattle.std.proofs.Common.{◌≡◌, ◌⊎◌, ℕ, List, Option, Some, true, length, subst, inl, inr}
+use Rattle.std.proofs.Common.{◌≡◌, ◌≢◌, ◌⊎◌, ◌∙◌, ℕ, List, Option, Some, ap, true, length, subst, inl, inr}
 use Rattle.aut_base.specs.Automaton.{Automaton}
+use Rattle.aut_base.specs.declared.limit.Limit.TheVariants as limit
 use Rattle.aut_io.specs.Outside.{Texts}
 use Rattle.autfilt_command.specs.Run.{end_of, tally_after}
 use Rattle.autfilt_command.specs.declared.ended.End.{End}
 use Rattle.autfilt_command.specs.declared.ended.End.TheVariants as end
-use Rattle.autfilt_laws.proofs.alike.Ends.{Ends, IsHalted, ends_at, in_streams}
+use Rattle.autfilt_laws.proofs.alike.Ends.{Ends, IsStopped, ends_at, in_streams}
 use Rattle.autfilt_laws.proofs.alike.Faults.{Asking, Fits, Halted, in_operands, unfit_whole}
-use Rattle.autfilt_laws.proofs.alike.OperandEnds.{halted_there}
-use Rattle.autfilt_laws.specs.Runs.{AreReadable, Completes, EndsBefore, EndsInStreams, IsByText, IsReadable, Outcome}
+use Rattle.autfilt_laws.proofs.alike.Full.{fitted_happen, fitted_start}
+use Rattle.autfilt_laws.proofs.alike.OperandEnds.{IsStoppedIn}
+use Rattle.autfilt_laws.proofs.alike.Runs.{is_stopped}
+use Rattle.autfilt_laws.specs.Runs.{AreReadable, Completes, EndsBefore, EndsInStreams, IsByText, IsReadable, Outcome, left_or, streams_from, texts_or}
 use Rattle.autfilt_run.specs.Events.{Event, Point, Stream, place}
 use Rattle.autfilt_run.specs.OperandEvents.{all_passed, operands_of}
 use Rattle.autfilt_run.specs.Over.{IsOver}
-use Rattle.autfilt_run.specs.Plans.{asks_on}
+use Rattle.autfilt_run.specs.Plans.{asks_on, streams_of}
 use Rattle.autfilt_run.specs.declared.fault.RunFault.{RunFault}
+use Rattle.autfilt_run.specs.declared.fault.RunFault.TheVariants as fault
 use Rattle.filter_plan.specs.declared.plan.Plan.{Plan}
 use Rattle.hoa_lexer.specs.Blanks.{IsBlanks}
 use Rattle.hoa_parser.specs.Standing as standing
@@ -33,40 +37,52 @@ abbrev IsFair : Plan → List Automaton → Stream → Type 0
 IsFair plan ops s = IsBlanks s.rest ⊎ IsReadable (λ which w. IsOver which plan ops w) (place s.text s.rest) s.rest
 
 not_halted_here : OneStanding → (plan : Plan) (ops : List Automaton) (p : Point) (f : RunFault)
-    → (asks_on plan p.kept ≡ true → (s : Stream) → p.stream ≡ Some s → IsFair plan ops s) → IsHalted plan ops p f → ⊥
+    → (asks_on plan p.kept ≡ true → (s : Stream) → p.stream ≡ Some s → IsFair plan ops s) → Halted (asks_on plan p.kept ≡ true) (in_streams plan ops) p f → ⊥
 not_halted_here one plan ops p f readable h = go (readable h.asks h.stream h.is_open)
   where
     go : IsFair plan ops h.stream → ⊥
     go (inl blank) = subst (λ (x : Standing). Fits (in_streams plan ops) x f) (one (place h.stream.text h.stream.rest) h.stream.rest h.what standing.Blank h.stands blank) h.fits
     go (inr good) = not_halted one _ (in_streams plan ops) p f h good
 
-read_all : OneStanding → (plan : Plan) (ops : List Automaton) (passed : ℕ) (p : Point) (events : List Event) (e : End) → IsByText e
+not_stopped : OneStanding → (plan : Plan) (ops : List Automaton) (p : Point) (f : RunFault) → (f ≡ fault.Limit limit.Bytes → ⊥)
+    → (asks_on plan p.kept ≡ true → (s : Stream) → p.stream ≡ Some s → IsFair plan ops s) → IsStopped plan ops p f → ⊥
+not_stopped one plan ops p f other readable (inl h) = not_halted_here one plan ops p f readable h.halted
+not_stopped one plan ops p f other readable (inr h) = other h.is
+
+-- it isn't the limit of bytes
+abbrev IsOther : End → Type 0
+IsOther e = e ≢ end.Fault (fault.Limit limit.Bytes)
+
+read_all : OneStanding → (plan : Plan) (ops : List Automaton) (passed : ℕ) (p : Point) (events : List Event) (e : End) → IsOther e
     → (asks_on plan p.kept ≡ true → (s : Stream) → p.stream ≡ Some s → IsFair plan ops s) → Ends plan ops passed p events e → e ≡ end_of (tally_after passed events)
-read_all one plan ops passed p events end.Output by readable h = h.1
-read_all one plan ops passed p events end.NoneOutput by readable h = h.1
-read_all one plan ops passed p events end.Aborts by readable h = h.1
-read_all one plan ops passed p events end.Usage by readable h = h.1
-read_all one plan ops passed p events (end.Fault f) by readable h = absurd (not_halted_here one plan ops p f readable h)
+read_all one plan ops passed p events end.Output other readable h = h.1
+read_all one plan ops passed p events end.NoneOutput other readable h = h.1
+read_all one plan ops passed p events end.Aborts other readable h = h.1
+read_all one plan ops passed p events end.Usage other readable h = h.1
+read_all one plan ops passed p events (end.Fault f) other readable h = absurd (not_stopped one plan ops p f (λ is. other (ap end.Fault is)) readable h)
 
-not_before : OneStanding → (plan : Plan) (texts : Texts) (left : Option (List ℕ)) (o : Outcome) → AreReadable plan texts left → IsByText o.end
+not_before : OneStanding → (plan : Plan) (texts : Texts) (left : Option (List ℕ)) (o : Outcome) → AreReadable plan texts left → IsByText o.end → IsOther o.end
     → EndsBefore plan texts left o → ⊥
-not_before one plan texts left o readable by h =
-    let p = h.stops.point in
-    let k = halted_there h.fault o.name p o.left (subst IsByText h.ends by) h.stops.stops in
-    not_halted one (Unit {0}) in_operands p h.fault k (readable.operands o.taken p k.stream h.stops.read k.is_open)
+not_before one plan texts left o readable by other h = go (is_stopped plan texts left o by h)
+  where
+    go : IsStoppedIn h.stops.point h.fault → ⊥
+    go (inl k) = not_halted one (Unit {0}) in_operands h.stops.point h.fault k.halted (readable.operands o.taken h.stops.point k.halted.stream h.stops.read k.halted.is_open)
+    go (inr k) = other (h.ends ∙ ap end.Fault k.is)
 
-behind : OneStanding → (plan : Plan) (texts : Texts) (left : Option (List ℕ)) (o : Outcome) → AreReadable plan texts left → IsByText o.end
+behind : OneStanding → (plan : Plan) (texts : Texts) (left : Option (List ℕ)) (o : Outcome) → AreReadable plan texts left → IsByText o.end → IsOther o.end
     → EndsInStreams plan texts left o → o.end ≡ end_of (tally_after (length (all_passed o.taken)) o.events)
-behind one plan texts left o readable by h =
+behind one plan texts left o readable by other h =
     let ops = operands_of o.taken in
     let passed = length (all_passed o.taken) in
-    read_all one plan ops passed h.runs.point o.events o.end by
+    let begins = fitted_start (streams_of plan) (left_or plan.made h.point.left) h.point.before in
+    let fitted = fitted_happen plan (texts_or plan.made texts) o.events (streams_from plan h.point) h.runs.point begins h.runs.happen in
+    read_all one plan ops passed h.runs.point o.events o.end other
     (λ asks s is. readable.streams o.taken h.point h.read o.events h.runs.point s h.judged h.runs.happen asks is)
-    (ends_at plan ops passed o.end o.events o.name h.runs.point o.left by h.tallied h.runs.ends)
+    (ends_at plan ops passed o.end o.events o.name h.runs.point o.left by fitted h.tallied h.runs.ends)
 
 pub completes : OneStanding → Completes
-completes one plan texts left o readable a = go a.ran
+completes one plan texts left o readable other a = go a.ran
   where
     go : EndsBefore plan texts left o ⊎ EndsInStreams plan texts left o → o.end ≡ end_of (tally_after (length (all_passed o.taken)) o.events)
-    go (inl h) = absurd (not_before one plan texts left o readable a.by_text h)
-    go (inr h) = behind one plan texts left o readable a.by_text h
+    go (inl h) = absurd (not_before one plan texts left o readable a.by_text other h)
+    go (inr h) = behind one plan texts left o readable a.by_text other h

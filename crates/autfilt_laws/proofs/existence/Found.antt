@@ -1,16 +1,16 @@
 -- What is found at the rest of a text.
-use Rattle.std.proofs.Common.{◌⊎◌, ℕ, List, [], refl, inl, inr}
+use Rattle.std.proofs.Common.{◌≡◌, ◌⊎◌, ℕ, List, [], refl, inl, inr}
 use Rattle.aut_base.specs.declared.limit.Limit.{Limit}
 use Rattle.aut_base.specs.declared.limit.Limit.TheVariants as limit
 use Rattle.autfilt_command.specs.declared.ended.End.TheVariants as end
 use Rattle.autfilt_laws.proofs.existence.Examined.{keeps_or_breaks, within_or_passes}
-use Rattle.autfilt_laws.proofs.existence.Stopping.{of_count, passed_by_text, passed_stops}
+use Rattle.autfilt_laws.proofs.existence.Stopping.{of_count, passed_by_text, passed_other, passed_stops}
 use Rattle.autfilt_laws.specs.Places.{BadIsShown, CutIsShown, DeepIsShown}
 use Rattle.autfilt_laws.specs.Runs.{IsByText}
 use Rattle.autfilt_run.specs.Events.{IsGood}
 use Rattle.autfilt_run.specs.Runs.{StopsAt}
 use Rattle.autfilt_run.specs.declared.fault.RunFault.{RunFault}
-use Rattle.autfilt_run.specs.declared.fault.RunFault.TheVariants as fault
+use Rattle.autfilt_run.specs.declared.fault.RunFault.TheVariants as run
 use Rattle.hoa_lexer.specs.Blanks.{IsBlanks}
 use Rattle.hoa_parser.specs.Raw.{Written}
 use Rattle.hoa_parser.specs.Standing as standing
@@ -31,6 +31,7 @@ pub record AreShown : Type 0 where
 pub record IsRefused (over : Limit → Written → Type 0) (start : ℕ) (rest : List ℕ) : Type 0 where
   pub fault : RunFault
   pub by_text : IsByText (end.Fault fault)
+  pub other : fault ≡ run.Limit limit.Bytes → ⊥
   pub left : List ℕ
   pub stops : StopsAt over fault start rest left
 
@@ -46,27 +47,28 @@ module _ (over : Limit → Written → Type 0) (start : ℕ) (rest : List ℕ) w
   within w next whole valid (inr h) =
       let passed : PassesLimit (limit_of h.0) w = record { count = h.0; shown = refl; valid = valid; passes = h.1 } in
       OneRefused (record {
-        fault = fault.Limit (limit_of h.0);
+        fault = run.Limit (limit_of h.0);
         by_text = passed_by_text (limit_of h.0) (of_count h.0);
+        other = passed_other (limit_of h.0) (of_count h.0);
         left = next;
         stops = passed_stops over (limit_of h.0) start rest next (of_count h.0) (record { automaton = w; whole = whole; holds = inl passed });
       })
 
   whole_found : (w : Written) (next : List ℕ) → IsWhole start rest w next → IsValid w ⊎ ((rule : Rule) × IsFirstBroken rule w) → Found over start rest
   whole_found w next whole (inl h) = within w next whole h (within_or_passes w)
-  whole_found w next whole (inr h) = OneRefused (record { fault = fault.Invalid h.0; by_text = tt; left = next; stops = record { automaton = w; whole = whole; holds = h.1 } })
+  whole_found w next whole (inr h) = OneRefused (record { fault = run.Invalid h.0; by_text = tt; other = λ e. cc; left = next; stops = record { automaton = w; whole = whole; holds = h.1 } })
 
   found_so : AreShown → (s : Standing) → Stands s start rest → Found over start rest
   found_so shown standing.Blank h = OnlyBlanks h
   found_so shown (standing.Whole w next) h = whole_found w next h (keeps_or_breaks w)
   found_so shown standing.Deep h =
       let place = shown.deep start rest h in
-      OneRefused (record { fault = fault.Limit limit.Depth; by_text = tt; left = place.0; stops = record { deep = h; last = place.1 } })
+      OneRefused (record { fault = run.Limit limit.Depth; by_text = tt; other = λ e. cc; left = place.0; stops = record { deep = h; last = place.1 } })
   found_so shown (standing.Bad k) h =
       let place = shown.bad start k rest h in
-      OneRefused (record { fault = fault.SyntaxAt k; by_text = tt; left = place.0; stops = record { bad = h; shown = place.1; last = place.2 } })
+      OneRefused (record { fault = run.SyntaxAt k; by_text = tt; other = λ e. cc; left = place.0; stops = record { bad = h; shown = place.1; last = place.2 } })
   found_so shown (standing.Aborted next) h = OneAborted next h
-  found_so shown standing.Cut h = OneRefused (record { fault = fault.Truncated; by_text = tt; left = []; stops = record { cut = h; nothing = refl; asks = shown.cut start rest h } })
+  found_so shown standing.Cut h = OneRefused (record { fault = run.Truncated; by_text = tt; other = λ e. cc; left = []; stops = record { cut = h; nothing = refl; asks = shown.cut start rest h } })
 
   pub something_found : SomeStanding → AreShown → (Found over start rest → ⊥) → ⊥
   something_found some shown none = some start rest (λ s h. none (found_so shown s h))

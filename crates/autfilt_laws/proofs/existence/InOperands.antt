@@ -1,6 +1,7 @@
 -- There is a run over the files of operands.
 use Rattle.std.proofs.Common.{◌≡◌, ◌⊎◌, ℕ, zero, suc, ◌+◌, ◌<◌, ◌≤◌, List, [], ◌∷◌, length, Option, Some, None, refl, inl, inr, arith}
 use Rattle.std.proofs.lemmas.List.Sums.{sum_by-cons}
+use Rattle.aut_base.specs.declared.limit.Limit.TheVariants as limit
 use Rattle.aut_base.specs.declared.limit.TheConstants.{MOST_BYTES}
 use Rattle.aut_io.specs.Outside.{Texts, text_of}
 use Rattle.autfilt_command.specs.declared.ended.End.TheVariants as end
@@ -40,8 +41,8 @@ module _ (some : SomeStanding) (shown : AreShown) (texts : Texts) (spare : ℕ) 
   behind_one e p q goes r = record { taken = e ∷ r.taken; point = r.point; read = (q, goes, r.read); ends = r.ends }
 
   stopped : (p : Point) (s : Stream) (more : ℕ) → p.stream ≡ Some s → p.before + (length s.text + more) < MOST_BYTES
-      → (f : RunFault) (left : List ℕ) → IsByText (end.Fault f) → StopsAtOperand f (place s.text s.rest) s.rest left → ReadsThere texts spare p
-  stopped p s more is few f left by h =
+      → (f : RunFault) (left : List ℕ) → IsByText (end.Fault f) → (f ≡ fault.Limit limit.Bytes → ⊥) → StopsAtOperand f (place s.text s.rest) s.rest left → ReadsThere texts spare p
+  stopped p s more is few f left by other h =
       let at : AtNamed (Unit {0}) p s.name (Some left) (StopsAtOperand f) = record { at = record { asks = tt; stream = s; is_open = is; now = left; told = refl; stands = h }; named = refl } in
       let here : IsStoppedThere p = record {
         fault = f;
@@ -49,7 +50,7 @@ module _ (some : SomeStanding) (shown : AreShown) (texts : Texts) (spare : ℕ) 
         name = s.name;
         left = Some left;
         stops = stops_where (Unit {0}) StopsAtOperand f s.name p (Some left) by at;
-        counted = is_counted f p s left more by is few;
+        counted = is_counted f p s left more by other is few;
       } in
       record { taken = []; point = p; read = refl; ends = inr here }
 
@@ -61,14 +62,14 @@ module _ (some : SomeStanding) (shown : AreShown) (texts : Texts) (spare : ℕ) 
   at_rest p s more is few deeper behind none = something_found (λ which w. ⊥) (place s.text s.rest) s.rest some shown go
     where
       go : Found (λ which w. ⊥) (place s.text s.rest) s.rest → ⊥
-      go (OnlyBlanks h) = none (stopped p s more is few fault.Truncated [] tt (inr (h, refl)))
+      go (OnlyBlanks h) = none (stopped p s more is few fault.Truncated [] tt (λ e. cc) (inr (h, refl)))
       go (OneGood w next h) =
           behind next (λ r. none (behind_one (Taken w) p (taken_at p s next) (record { stream = s; is_open = is; next = next; good = h; few = omega (arith, few); to = refl }) r))
       go (OneAborted next h) =
           deeper next (aborted_less (place s.text s.rest) s.rest next h)
           (λ r. none (behind_one (PassedOver s.name) p (read_on p s next p.kept)
           (record { reads = record { stream = s; is_open = is; next = next; stands = h; few = omega (arith, few); to = refl }; named = refl }) r))
-      go (OneRefused h) = none (stopped p s more is few h.fault h.left h.by_text (stops_operand h.fault (place s.text s.rest) s.rest h.left h.stops))
+      go (OneRefused h) = none (stopped p s more is few h.fault h.left h.by_text h.other (stops_operand h.fault (place s.text s.rest) s.rest h.left h.stops))
 
   -- what follows the file
   abbrev Behind : List (List ℕ) → ℕ → Type 0

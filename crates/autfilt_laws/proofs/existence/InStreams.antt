@@ -3,6 +3,7 @@ use Rattle.std.proofs.Common.{◌≡◌, ◌⊎◌, ℕ, zero, suc, ◌+◌, ◌
 use Rattle.std.proofs.lemmas.List.Sums.{sum_by-cons}
 use Rattle.aut_base.specs.Automaton.{Automaton}
 use Rattle.aut_base.specs.declared.limit.Limit.{Limit}
+use Rattle.aut_base.specs.declared.limit.Limit.TheVariants as limit
 use Rattle.aut_base.specs.declared.limit.TheConstants.{MOST_BYTES}
 use Rattle.aut_io.specs.Outside.{Texts, text_of}
 use Rattle.autfilt_command.specs.declared.ended.End.TheVariants as end
@@ -10,7 +11,7 @@ use Rattle.autfilt_laws.proofs.existence.Found.{AreShown, Found, OneAborted, One
 use Rattle.autfilt_laws.proofs.existence.InOperands.{NotNone}
 use Rattle.autfilt_laws.proofs.existence.PlanLimits.{of_plan}
 use Rattle.autfilt_laws.proofs.existence.Shorter.{aborted_less, whole_less}
-use Rattle.autfilt_laws.proofs.existence.Stopping.{is_counted, passed_by_text, passed_stops, stops_where}
+use Rattle.autfilt_laws.proofs.existence.Stopping.{is_counted, passed_by_text, passed_other, passed_stops, stops_where}
 use Rattle.autfilt_laws.specs.Runs.{IsByText, size_of}
 use Rattle.autfilt_run.specs.Due.{IsDue}
 use Rattle.autfilt_run.specs.Events.{AreJudged, Dropped, Ended, Event, Goes, Happen, IsGood, IsJudged, Kept, Opened, Point, Skipped, Stream, ended_at, opened_at, place, read_on}
@@ -61,8 +62,8 @@ module _ (plan : Plan) (ops : List Automaton) (on : Existing plan ops) (texts : 
   behind_one e p q asks judged goes r = record { events = e ∷ r.events; judged = (judged, r.judged); point = r.point; happen = (asks, q, goes, r.happen); ends = r.ends }
 
   stopped : (p : Point) (s : Stream) (more : ℕ) → asks_on plan p.kept ≡ true → p.stream ≡ Some s → p.before + (length s.text + more) < MOST_BYTES
-      → (f : RunFault) (left : List ℕ) → IsByText (end.Fault f) → StopsAt (λ which w. IsOver which plan ops w) f (place s.text s.rest) s.rest left → Reads plan ops texts p
-  stopped p s more asks is few f left by h =
+      → (f : RunFault) (left : List ℕ) → IsByText (end.Fault f) → (f ≡ fault.Limit limit.Bytes → ⊥) → StopsAt (λ which w. IsOver which plan ops w) f (place s.text s.rest) s.rest left → Reads plan ops texts p
+  stopped p s more asks is few f left by other h =
       let at : AtNamed (asks_on plan p.kept ≡ true) p s.name (Some left) (StopsAt (λ which w. IsOver which plan ops w) f) =
       record { at = record { asks = asks; stream = s; is_open = is; now = left; told = refl; stands = h }; named = refl } in
       let here : IsStopped plan ops p = record {
@@ -71,7 +72,7 @@ module _ (plan : Plan) (ops : List Automaton) (on : Existing plan ops) (texts : 
         name = s.name;
         left = Some left;
         stops = stops_where (asks_on plan p.kept ≡ true) (StopsAt (λ which w. IsOver which plan ops w)) f s.name p (Some left) by at;
-        counted = is_counted f p s left more by is few;
+        counted = is_counted f p s left more by other is few;
       } in
       record { events = []; judged = tt; point = p; happen = refl; ends = inr here }
 
@@ -80,7 +81,7 @@ module _ (plan : Plan) (ops : List Automaton) (on : Existing plan ops) (texts : 
       → (which : Limit) (w : Written) (next : List ℕ) → IsGood (place s.text s.rest) s.rest w next → IsOver which plan ops w → Reads plan ops texts p
   passed p s more asks is few which w next good h =
       let whole = of_plan which plan ops w h in
-      stopped p s more asks is few (fault.Limit which) next (passed_by_text which whole)
+      stopped p s more asks is few (fault.Limit which) next (passed_by_text which whole) (passed_other which whole)
       (passed_stops (λ x v. IsOver x plan ops v) which (place s.text s.rest) s.rest next whole (record { automaton = w; whole = good.whole; holds = inr h }))
 
   -- an automaton that is good
@@ -117,7 +118,7 @@ module _ (plan : Plan) (ops : List Automaton) (on : Existing plan ops) (texts : 
           deeper next p.kept (aborted_less (place s.text s.rest) s.rest next h)
           (λ r. none (behind_one (Skipped s.name) p (read_on p s next p.kept) asks tt
           (record { reads = record { stream = s; is_open = is; next = next; stands = h; few = omega (arith, few); to = refl }; named = refl }) r))
-      go (OneRefused h) = none (stopped p s more asks is few h.fault h.left h.by_text h.stops)
+      go (OneRefused h) = none (stopped p s more asks is few h.fault h.left h.by_text h.other h.stops)
 
   -- no more is asked for, or more is
   asked_or_done : (p : Point) (b : Bool) → asks_on plan p.kept ≡ b → (asks_on plan p.kept ≡ true → NotNone (Reads plan ops texts p)) → NotNone (Reads plan ops texts p)

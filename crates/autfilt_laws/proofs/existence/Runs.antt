@@ -10,7 +10,7 @@ use Rattle.autfilt_laws.proofs.existence.Found.{AreShown}
 use Rattle.autfilt_laws.proofs.existence.GoodOperands.{good_operands}
 use Rattle.autfilt_laws.proofs.existence.InOperands.{IsStoppedThere, ReadsThere, in_files}
 use Rattle.autfilt_laws.proofs.existence.InStreams.{Existing, IsStopped, Reads, in_streams}
-use Rattle.autfilt_laws.specs.Runs.{IsByText, IsEnded, Outcome, SomeEnd, size_of, streams_from, texts_or}
+use Rattle.autfilt_laws.specs.Runs.{EachIsDue, IsByText, IsEnded, Outcome, SomeEnd, size_of, streams_from, texts_or}
 use Rattle.autfilt_run.specs.Events.{Point, Tally, start_of}
 use Rattle.autfilt_run.specs.OperandEvents.{AreRead, OperandEvent, all_passed, operands_of}
 use Rattle.autfilt_run.specs.Plans.{streams_of}
@@ -82,15 +82,15 @@ stopped_before plan texts left taken p read h = record {
 abbrev spare : Plan → Texts → ℕ
 spare plan texts = size_of (texts_or plan.made texts) (streams_of plan)
 
-pub some_end : SomeStanding → AreShown → SomeVerdict → SomeEnd
-some_end some shown verdict plan due texts left few none =
+pub some_end : SomeStanding → AreShown → SomeVerdict → EachIsDue → SomeEnd
+some_end some shown verdict due plan texts left few none =
     in_files some shown texts (spare plan texts) (operands plan) (start_of (operands plan) left 0) refl refl (omega (arith, few)) (λ r. go r r.ends)
   where
     go : (r : ReadsThere texts (spare plan texts) (start_of (operands plan) left 0))
         → (IsThrough r.point × (r.point.before + spare plan texts < MOST_BYTES)) ⊎ IsStoppedThere r.point → ⊥
     go r (inl h) =
         let read : AreAllRead plan texts left r.taken r.point = record { read = r.read; none_coming = h.0.none; none_open = h.0.closed } in
-        let exists : Existing plan (operands_of r.taken) = record { some = some; shown = shown; verdict = verdict; due = due r.taken (good_operands plan texts left r.taken r.point read) } in
+        let exists : Existing plan (operands_of r.taken) = record { some = some; shown = shown; verdict = verdict; due = due plan r.taken (good_operands plan texts left r.taken r.point read) } in
         in_streams plan (operands_of r.taken) exists (texts_or plan.made texts) (streams_of plan) (streams_from plan r.point) refl refl h.1
         (λ x. let found = some_end_of plan texts left r.taken r.point read x x.ends in none found.0 found.1)
     go r (inr h) = none _ (stopped_before plan texts left r.taken r.point r.read h)

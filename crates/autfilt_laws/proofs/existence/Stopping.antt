@@ -1,5 +1,5 @@
 -- Which faults come by what stands in a text, and that no more bytes are taken then than may be.
-use Rattle.std.proofs.Common.{◌≡◌, ◌⊎◌, ℕ, ◌+◌, ◌<◌, List, length, Option, Some, sym, ap, subst, inl, arith}
+use Rattle.std.proofs.Common.{◌≡◌, ◌⊎◌, ℕ, ◌+◌, ◌<◌, List, length, Option, Some, refl, sym, ap, subst, inl, arith}
 use Rattle.aut_base.specs.declared.limit.Limit.{Limit}
 use Rattle.aut_base.specs.declared.limit.Limit.TheVariants as limit
 use Rattle.aut_base.specs.declared.limit.TheConstants.{MOST_BYTES}
@@ -45,6 +45,9 @@ passed_by_text limit.Classes h = tt
 passed_by_text limit.Subsets h = tt
 passed_by_text limit.Pairs h = tt
 
+pub passed_other : (which : Limit) → IsOfWhole which → fault.Limit which ≡ fault.Limit limit.Bytes → ⊥
+passed_other which h e = let same : which ≡ limit.Bytes = cc in subst IsOfWhole same h
+
 pub passed_stops : (over : Limit → Written → Type 0) (which : Limit) (start : ℕ) (rest left : List ℕ) → IsOfWhole which → StandsWith (λ w. PassesLimit which w ⊎ over which w) start rest left
     → StopsAt over (fault.Limit which) start rest left
 passed_stops over limit.Depth start rest left of h = absurd of
@@ -87,36 +90,36 @@ stops_operand fault.Memory start rest left h = h
 
 -- ---- the bytes that were taken
 
-within_limit : (which : Limit) (taken : ℕ) → IsByText (end.Fault (fault.Limit which)) → IsWithin (stop_of_fault (fault.Limit which)) taken MOST_BYTES
-within_limit limit.Bytes taken by = absurd by
-within_limit limit.Depth taken by = tt
-within_limit limit.Names taken by = tt
-within_limit limit.Sets taken by = tt
-within_limit limit.States taken by = tt
-within_limit limit.Edges taken by = tt
-within_limit limit.Aliases taken by = tt
-within_limit limit.Terms taken by = tt
-within_limit limit.BuchiStates taken by = tt
-within_limit limit.Trees taken by = tt
-within_limit limit.Nodes taken by = tt
-within_limit limit.Classes taken by = tt
-within_limit limit.Subsets taken by = tt
-within_limit limit.Pairs taken by = tt
+within_limit : (which : Limit) (taken : ℕ) → (fault.Limit which ≡ fault.Limit limit.Bytes → ⊥) → IsWithin (stop_of_fault (fault.Limit which)) taken MOST_BYTES
+within_limit limit.Bytes taken other = absurd (other refl)
+within_limit limit.Depth taken other = tt
+within_limit limit.Names taken other = tt
+within_limit limit.Sets taken other = tt
+within_limit limit.States taken other = tt
+within_limit limit.Edges taken other = tt
+within_limit limit.Aliases taken other = tt
+within_limit limit.Terms taken other = tt
+within_limit limit.BuchiStates taken other = tt
+within_limit limit.Trees taken other = tt
+within_limit limit.Nodes taken other = tt
+within_limit limit.Classes taken other = tt
+within_limit limit.Subsets taken other = tt
+within_limit limit.Pairs taken other = tt
 
-is_within : (f : RunFault) (taken : ℕ) → IsByText (end.Fault f) → taken < MOST_BYTES → IsWithin (stop_of_fault f) taken MOST_BYTES
-is_within (fault.SyntaxAt k) taken by few = tt
-is_within fault.Truncated taken by few = few
-is_within (fault.Invalid rule) taken by few = tt
-is_within (fault.Limit which) taken by few = within_limit which taken by
-is_within fault.CannotOpen taken by few = absurd by
-is_within fault.ReadFault taken by few = absurd by
-is_within fault.WriteFault taken by few = absurd by
-is_within fault.Memory taken by few = absurd by
+is_within : (f : RunFault) (taken : ℕ) → IsByText (end.Fault f) → (f ≡ fault.Limit limit.Bytes → ⊥) → taken < MOST_BYTES → IsWithin (stop_of_fault f) taken MOST_BYTES
+is_within (fault.SyntaxAt k) taken by other few = tt
+is_within fault.Truncated taken by other few = few
+is_within (fault.Invalid rule) taken by other few = tt
+is_within (fault.Limit which) taken by other few = within_limit which taken other
+is_within fault.CannotOpen taken by other few = absurd by
+is_within fault.ReadFault taken by other few = absurd by
+is_within fault.WriteFault taken by other few = absurd by
+is_within fault.Memory taken by other few = absurd by
 
-pub is_counted : (f : RunFault) (p : Point) (s : Stream) (now : List ℕ) (more : ℕ) → IsByText (end.Fault f) → p.stream ≡ Some s → p.before + (length s.text + more) < MOST_BYTES
+pub is_counted : (f : RunFault) (p : Point) (s : Stream) (now : List ℕ) (more : ℕ) → IsByText (end.Fault f) → (f ≡ fault.Limit limit.Bytes → ⊥) → p.stream ≡ Some s → p.before + (length s.text + more) < MOST_BYTES
     → IsCounted f p (Some now)
-is_counted f p s now more by is few =
+is_counted f p s now more by other is few =
     let same : taken_of p (Some now) ≡ p.before + place s.text now = ap (λ o. p.before + taken_in o (Some now)) is in
     let less : p.before + place s.text now < MOST_BYTES = omega (arith, few) in
     let taken : taken_of p (Some now) < MOST_BYTES = subst (λ (n : ℕ). n < MOST_BYTES) (sym same) less in
-    record { few = omega (arith, taken); within = is_within f (taken_of p (Some now)) by taken }
+    record { few = omega (arith, taken); within = is_within f (taken_of p (Some now)) by other taken }

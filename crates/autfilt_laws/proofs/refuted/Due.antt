@@ -11,9 +11,9 @@ use Rattle.aut_base.specs.CanonicalLabel.{canonical}
 use Rattle.aut_base.specs.declared.letter.Lasso.{Lasso}
 use Rattle.aut_base.specs.declared.limit.Limit.{Limit}
 use Rattle.aut_core.specs.OtherNames.{joined_names}
-use Rattle.autfilt_laws.proofs.existence.Unchanged.{silent}
+use Rattle.autfilt_laws.proofs.existence.Silent.{silent}
 use Rattle.autfilt_laws.proofs.refuted.Refuting.{included}
-use Rattle.autfilt_laws.specs.Runs.{IsGoodOperand, RefutedIsDue}
+use Rattle.autfilt_laws.specs.Runs.{IsAlwaysDue, IsGoodOperand}
 use Rattle.autfilt_run.specs.Due.{IsDue, IsDueWhere, IsPrinted}
 use Rattle.autfilt_run.specs.OperandEvents.{FileOpened, OperandEvent, PassedOver, Taken, operands_of}
 use Rattle.autfilt_run.specs.Over.{IsOver, IsOverPrinting, StopsPrinting}
@@ -113,7 +113,7 @@ module _ (p : Plan) (file : List ℕ) (output : p.output ≡ Refute file) (on : 
       λ word refutes. never (word_text names word.stem word.cycle ++ codes "\n") (inl (record { word = word; refutes = refutes; shown = refl })) in
       never (codes "included\n") (inr (included a r.operand formed no_word, refl))
 
-pub refuted_is_due : RefutedIsDue
+pub refuted_is_due : (p : Plan) (file : List ℕ) → p.output ≡ Refute file → IsAlwaysDue p
 refuted_is_due p file output taken good w valid within kept none = go (prints_each p) refl
   where
     go : (b : Bool) → prints_each p ≡ b → ⊥

@@ -1,0 +1,11 @@
+-- Under each plan something is due of an automaton that is kept, unless a limit is passed.
+mod Combined
+mod Determined
+mod FewThings
+mod Formed
+mod Lines
+mod Names
+mod Shaped
+mod Sizes
+pub mod Changed
+pub mod Due
