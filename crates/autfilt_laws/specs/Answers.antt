@@ -54,33 +54,6 @@ IsByTexts ended.ReadFault = ⊥
 IsByTexts ended.WriteFault = ⊥
 IsByTexts ended.Memory = ⊥
 
--- What is left is told after each answer but one: where a token nests too deep.
-abbrev pub TellsLeftAfter : Ended → Type 0
-TellsLeftAfter (ended.Limit limit.Depth) = ⊥
-TellsLeftAfter (ended.Limit limit.Names) = Unit {0}
-TellsLeftAfter (ended.Limit limit.Sets) = Unit {0}
-TellsLeftAfter (ended.Limit limit.States) = Unit {0}
-TellsLeftAfter (ended.Limit limit.Edges) = Unit {0}
-TellsLeftAfter (ended.Limit limit.Aliases) = Unit {0}
-TellsLeftAfter (ended.Limit limit.Bytes) = Unit {0}
-TellsLeftAfter (ended.Limit limit.Terms) = Unit {0}
-TellsLeftAfter (ended.Limit limit.BuchiStates) = Unit {0}
-TellsLeftAfter (ended.Limit limit.Trees) = Unit {0}
-TellsLeftAfter (ended.Limit limit.Nodes) = Unit {0}
-TellsLeftAfter (ended.Limit limit.Classes) = Unit {0}
-TellsLeftAfter (ended.Limit limit.Subsets) = Unit {0}
-TellsLeftAfter (ended.Limit limit.Pairs) = Unit {0}
-TellsLeftAfter ended.Output = Unit {0}
-TellsLeftAfter ended.NoneOutput = Unit {0}
-TellsLeftAfter ended.Aborts = Unit {0}
-TellsLeftAfter ended.Usage = Unit {0}
-TellsLeftAfter ended.CannotOpen = Unit {0}
-TellsLeftAfter ended.ReadFault = Unit {0}
-TellsLeftAfter ended.Syntax = Unit {0}
-TellsLeftAfter ended.Invalid = Unit {0}
-TellsLeftAfter ended.WriteFault = Unit {0}
-TellsLeftAfter ended.Memory = Unit {0}
-
 -- a run of a plan over these texts that these decided
 pub record IsDecided (words : List (List ℕ)) (texts : Texts) (r : Answered) : Type 0 where
   pub of : IsOf words r
@@ -91,7 +64,7 @@ pub record IsDecided (words : List (List ℕ)) (texts : Texts) (r : Answered) : 
 pub record AreAlike (plan : Plan) (a b : Answered) : Type 0 where
   pub answer : a.answer ≡ b.answer
   pub noted : (text : List ℕ) × Notes text a.notes a.notes' × Notes text b.notes b.notes'
-  pub left : TellsLeftAfter a.answer → a.inputs'.left ≡ b.inputs'.left
+  pub left : a.inputs'.left ≡ b.inputs'.left
   pub written : DecidesTexts plan → (text : List ℕ) × Gains a.out.written a.out'.written text × Gains b.out.written b.out'.written text
 
 -- The one answer is that a token nests too deep, the other that of the limit of bytes.

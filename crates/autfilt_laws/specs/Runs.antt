@@ -139,35 +139,6 @@ TellsName end.NoneOutput = ⊥
 TellsName end.Aborts = ⊥
 TellsName end.Usage = ⊥
 
--- What is left is told at each end but one. (Where a token opens one more than may be open, no more is said of the place at which
--- a reader stops than that the last byte that it took was asked for, and that is so of earlier bytes, too.)
-abbrev pub TellsLeft : End → Type 0
-TellsLeft (end.Fault (fault.Limit limit.Depth)) = ⊥
-TellsLeft (end.Fault (fault.Limit limit.Names)) = Unit {0}
-TellsLeft (end.Fault (fault.Limit limit.Sets)) = Unit {0}
-TellsLeft (end.Fault (fault.Limit limit.States)) = Unit {0}
-TellsLeft (end.Fault (fault.Limit limit.Edges)) = Unit {0}
-TellsLeft (end.Fault (fault.Limit limit.Aliases)) = Unit {0}
-TellsLeft (end.Fault (fault.Limit limit.Bytes)) = Unit {0}
-TellsLeft (end.Fault (fault.Limit limit.Terms)) = Unit {0}
-TellsLeft (end.Fault (fault.Limit limit.BuchiStates)) = Unit {0}
-TellsLeft (end.Fault (fault.Limit limit.Trees)) = Unit {0}
-TellsLeft (end.Fault (fault.Limit limit.Nodes)) = Unit {0}
-TellsLeft (end.Fault (fault.Limit limit.Classes)) = Unit {0}
-TellsLeft (end.Fault (fault.Limit limit.Subsets)) = Unit {0}
-TellsLeft (end.Fault (fault.Limit limit.Pairs)) = Unit {0}
-TellsLeft (end.Fault (fault.SyntaxAt k)) = Unit {0}
-TellsLeft (end.Fault fault.Truncated) = Unit {0}
-TellsLeft (end.Fault (fault.Invalid rule)) = Unit {0}
-TellsLeft (end.Fault fault.CannotOpen) = Unit {0}
-TellsLeft (end.Fault fault.ReadFault) = Unit {0}
-TellsLeft (end.Fault fault.WriteFault) = Unit {0}
-TellsLeft (end.Fault fault.Memory) = Unit {0}
-TellsLeft end.Output = Unit {0}
-TellsLeft end.NoneOutput = Unit {0}
-TellsLeft end.Aborts = Unit {0}
-TellsLeft end.Usage = Unit {0}
-
 pub record AreSame (plan : Plan) (a b : Outcome) : Type 0 where
   pub operands : a.taken ≡ b.taken
   pub streams : AreLike plan a.events b.events
@@ -176,7 +147,7 @@ pub record AreSame (plan : Plan) (a b : Outcome) : Type 0 where
   pub name : TellsName a.end → a.name ≡ b.name
   -- the line that is noted about the end
   pub line : line_of a.end a.name ≡ line_of b.end b.name
-  pub left : TellsLeft a.end → a.left ≡ b.left
+  pub left : a.left ≡ b.left
 
 -- The one ended where a token opens one more than may be open, and the other at the limit of bytes. (Since no more is said of the
 -- place where the one stops than that the last byte that it took was asked for, the token may stand behind the limit of bytes.)

@@ -2,7 +2,7 @@
 use Rattle.std.proofs.Common.{◌≡◌, ◌∙◌, ◌⊎◌, ◌==◌, ℕ, Bool, true, false, cond, List, [], ◌∷◌, ◌++◌, Option, Some, None, ap, append-nil, inl, inr, length, refl, subst, sym}
 use Rattle.autfilt_laws.proofs.alike.LeftBehind.{IsLeftBehind, one_left_behind}
 use Rattle.autfilt_laws.proofs.alike.SamePlans.{same_plan_ended, same_plan_left}
-use Rattle.autfilt_laws.specs.Answers.{AnswerCompletes, Answered, AreAlike, IsByTexts, IsDecided, IsOf, OneAnswer, TellsLeftAfter}
+use Rattle.autfilt_laws.specs.Answers.{AnswerCompletes, Answered, AreAlike, IsByTexts, IsDecided, IsOf, OneAnswer}
 use Rattle.aut_base.specs.Automaton.{Automaton}
 use Rattle.aut_base.specs.declared.limit.Limit.{Limit}
 use Rattle.aut_base.specs.declared.limit.Limit.TheVariants as limit
@@ -16,7 +16,7 @@ use Rattle.autfilt_command.specs.declared.ended.End.{End}
 use Rattle.autfilt_command.specs.declared.ended.End.TheVariants as end
 use Rattle.autfilt_command.specs.declared.ended.Ended.{Ended}
 use Rattle.autfilt_command.specs.declared.ended.Ended.TheVariants as ended
-use Rattle.autfilt_laws.specs.Runs.{AreLike, AreReadable, AreSame, Completes, DecidesTexts, EndsBefore, EndsInStreams, IsByText, IsEnded, IsLike, OneEnd, Outcome, TellsLeft, left_or, streams_from, texts_or}
+use Rattle.autfilt_laws.specs.Runs.{AreLike, AreReadable, AreSame, Completes, DecidesTexts, EndsBefore, EndsInStreams, IsByText, IsEnded, IsLike, OneEnd, Outcome, left_or, streams_from, texts_or}
 use Rattle.autfilt_run.specs.Events.{Dropped, Event, Kept, Opened, Point, Skipped, Tally, all_written, start_of, tally}
 use Rattle.autfilt_run.specs.Events as event
 use Rattle.autfilt_run.specs.OperandEvents.{OperandEvent, all_passed, operands_of}
@@ -48,21 +48,6 @@ by_end (end.Fault fault.CannotOpen) h = absurd h
 by_end (end.Fault fault.ReadFault) h = absurd h
 by_end (end.Fault fault.WriteFault) h = absurd h
 by_end (end.Fault fault.Memory) h = absurd h
-
-tells_end : (e : End) → TellsLeftAfter (ended_of e) → TellsLeft e
-tells_end end.Output h = tt
-tells_end end.NoneOutput h = tt
-tells_end end.Aborts h = tt
-tells_end end.Usage h = tt
-tells_end (end.Fault (fault.SyntaxAt k)) h = tt
-tells_end (end.Fault fault.Truncated) h = tt
-tells_end (end.Fault (fault.Invalid rule)) h = tt
-tells_end (end.Fault (fault.Limit limit.Depth)) h = absurd h
-tells_end (end.Fault (fault.Limit _)) h = tt
-tells_end (end.Fault fault.CannotOpen) h = tt
-tells_end (end.Fault fault.ReadFault) h = tt
-tells_end (end.Fault fault.WriteFault) h = tt
-tells_end (end.Fault fault.Memory) h = tt
 
 -- ---- a run of a plan, as one that the texts ended
 
@@ -233,8 +218,8 @@ one_answer one plans ends words plan texts a b is left x y free also =
     record {
       answer = c.shown ∙ (ap ended_of s.ends ∙ sym d.shown);
       noted = (_, c.noted, subst (λ (text : List ℕ). Notes text b.notes b.notes') notes d.noted);
-      left = λ tells. one_left_behind one plan texts a.inputs.left c.o d.o a.inputs'.left b.inputs'.left c.is.by_text d.is.by_text s.operands
-          (s.left (tells_end c.o.end (subst TellsLeftAfter c.shown tells))) c.left
+      left = one_left_behind one plan texts a.inputs.left c.o d.o a.inputs'.left b.inputs'.left c.is.by_text d.is.by_text s.operands
+          s.left c.left
           (subst (λ (l : Option (List ℕ)). IsLeftBehind plan texts l d.o b.inputs'.left) (sym left) d.left);
       written = λ decides. (
           let same : text_due plan d.o.end d.o.events ≡ text_due plan c.o.end c.o.events = ap (λ (z : End). text_due plan z d.o.events) (sym s.ends) ∙ ap (text_due plan c.o.end) (s.texts decides) in

@@ -10,7 +10,7 @@ use Rattle.autfilt_command.specs.declared.ended.End.TheVariants as end
 use Rattle.autfilt_laws.proofs.alike.BadPlaces.{one_bad_place}
 use Rattle.autfilt_laws.proofs.alike.Full.{IsFitted, full_same}
 use Rattle.autfilt_laws.proofs.alike.Looks.{one_stream, whole_is}
-use Rattle.autfilt_laws.specs.Runs.{IsByText, TellsLeft, TellsName}
+use Rattle.autfilt_laws.specs.Runs.{IsByText, TellsName}
 use Rattle.autfilt_run.specs.Events.{Point, Stream, place}
 use Rattle.autfilt_run.specs.Over.{IsOver}
 use Rattle.autfilt_run.specs.Plans.{asks_on}
@@ -18,6 +18,7 @@ use Rattle.autfilt_run.specs.Runs.{AtNamed, IsCounted, StandsWith, StopsAt, Stop
 use Rattle.autfilt_run.specs.declared.fault.RunFault.{RunFault}
 use Rattle.autfilt_run.specs.declared.fault.RunFault.TheVariants as fault
 use Rattle.filter_plan.specs.declared.plan.Plan.{Plan}
+use Rattle.hoa_parser.proofs.standing.OneStanding.{one_deep_end}
 use Rattle.hoa_parser.specs.Raw.{Written}
 use Rattle.hoa_parser.specs.Reads.{AsksOn}
 use Rattle.hoa_parser.specs.Standing as standing
@@ -46,50 +47,50 @@ one_behind one P start rest x y a b =
 -- how a run may stop at this fault, of one text
 abbrev IsOneLeft : (RunFault → ℕ → List ℕ → List ℕ → Type 0) → RunFault → Type 0
 IsOneLeft stops f =
-    IsByText (end.Fault f) → TellsLeft (end.Fault f) → (start : ℕ) (rest x y : List ℕ) → (f ≡ fault.Limit limit.Bytes → x ≡ y) → stops f start rest x → stops f start rest y → x ≡ y
+    IsByText (end.Fault f) → (start : ℕ) (rest x y : List ℕ) → (f ≡ fault.Limit limit.Bytes → x ≡ y) → stops f start rest x → stops f start rest y → x ≡ y
 
 one_left : OneStanding → (over : Limit → Written → Type 0) (f : RunFault) → IsOneLeft (StopsAt over) f
-one_left one over (fault.SyntaxAt k) by tells start rest x y full a b = one_bad_place k start rest x y a b
-one_left one over fault.Truncated by tells start rest x y full a b = a.nothing ∙ sym b.nothing
-one_left one over (fault.Invalid rule) by tells start rest x y full a b = one_behind one _ start rest x y a b
-one_left one over (fault.Limit limit.Depth) by tells start rest x y full a b = absurd tells
-one_left one over (fault.Limit limit.Bytes) by tells start rest x y full a b = full refl
-one_left one over (fault.Limit limit.Names) by tells start rest x y full a b = one_behind one _ start rest x y a b
-one_left one over (fault.Limit limit.Sets) by tells start rest x y full a b = one_behind one _ start rest x y a b
-one_left one over (fault.Limit limit.States) by tells start rest x y full a b = one_behind one _ start rest x y a b
-one_left one over (fault.Limit limit.Edges) by tells start rest x y full a b = one_behind one _ start rest x y a b
-one_left one over (fault.Limit limit.Aliases) by tells start rest x y full a b = one_behind one _ start rest x y a b
-one_left one over (fault.Limit limit.Terms) by tells start rest x y full a b = one_behind one _ start rest x y a b
-one_left one over (fault.Limit limit.BuchiStates) by tells start rest x y full a b = one_behind one _ start rest x y a b
-one_left one over (fault.Limit limit.Trees) by tells start rest x y full a b = one_behind one _ start rest x y a b
-one_left one over (fault.Limit limit.Nodes) by tells start rest x y full a b = one_behind one _ start rest x y a b
-one_left one over (fault.Limit limit.Classes) by tells start rest x y full a b = one_behind one _ start rest x y a b
-one_left one over (fault.Limit limit.Subsets) by tells start rest x y full a b = one_behind one _ start rest x y a b
-one_left one over (fault.Limit limit.Pairs) by tells start rest x y full a b = one_behind one _ start rest x y a b
-one_left one over fault.CannotOpen by tells start rest x y full a b = absurd by
-one_left one over fault.ReadFault by tells start rest x y full a b = absurd by
-one_left one over fault.WriteFault by tells start rest x y full a b = absurd by
-one_left one over fault.Memory by tells start rest x y full a b = absurd by
+one_left one over (fault.SyntaxAt k) by start rest x y full a b = one_bad_place k start rest x y a b
+one_left one over fault.Truncated by start rest x y full a b = a.nothing ∙ sym b.nothing
+one_left one over (fault.Invalid rule) by start rest x y full a b = one_behind one _ start rest x y a b
+one_left one over (fault.Limit limit.Depth) by start rest x y full a b = one_deep_end start rest x y a.ends b.ends
+one_left one over (fault.Limit limit.Bytes) by start rest x y full a b = full refl
+one_left one over (fault.Limit limit.Names) by start rest x y full a b = one_behind one _ start rest x y a b
+one_left one over (fault.Limit limit.Sets) by start rest x y full a b = one_behind one _ start rest x y a b
+one_left one over (fault.Limit limit.States) by start rest x y full a b = one_behind one _ start rest x y a b
+one_left one over (fault.Limit limit.Edges) by start rest x y full a b = one_behind one _ start rest x y a b
+one_left one over (fault.Limit limit.Aliases) by start rest x y full a b = one_behind one _ start rest x y a b
+one_left one over (fault.Limit limit.Terms) by start rest x y full a b = one_behind one _ start rest x y a b
+one_left one over (fault.Limit limit.BuchiStates) by start rest x y full a b = one_behind one _ start rest x y a b
+one_left one over (fault.Limit limit.Trees) by start rest x y full a b = one_behind one _ start rest x y a b
+one_left one over (fault.Limit limit.Nodes) by start rest x y full a b = one_behind one _ start rest x y a b
+one_left one over (fault.Limit limit.Classes) by start rest x y full a b = one_behind one _ start rest x y a b
+one_left one over (fault.Limit limit.Subsets) by start rest x y full a b = one_behind one _ start rest x y a b
+one_left one over (fault.Limit limit.Pairs) by start rest x y full a b = one_behind one _ start rest x y a b
+one_left one over fault.CannotOpen by start rest x y full a b = absurd by
+one_left one over fault.ReadFault by start rest x y full a b = absurd by
+one_left one over fault.WriteFault by start rest x y full a b = absurd by
+one_left one over fault.Memory by start rest x y full a b = absurd by
 
 none_left : (start : ℕ) (rest x : List ℕ) → StopsAtOperand fault.Truncated start rest x → x ≡ []
 none_left start rest x (inl h) = h.nothing
 none_left start rest x (inr h) = h.1
 
 one_left_in_operand : OneStanding → (f : RunFault) → IsOneLeft StopsAtOperand f
-one_left_in_operand one fault.Truncated by tells start rest x y full a b = none_left start rest x a ∙ sym (none_left start rest y b)
-one_left_in_operand one (fault.SyntaxAt k) by tells start rest x y full a b = one_left one (λ which w. ⊥) (fault.SyntaxAt k) by tells start rest x y full a b
-one_left_in_operand one (fault.Invalid rule) by tells start rest x y full a b = one_left one (λ which w. ⊥) (fault.Invalid rule) by tells start rest x y full a b
-one_left_in_operand one (fault.Limit which) by tells start rest x y full a b = one_left one (λ which w. ⊥) (fault.Limit which) by tells start rest x y full a b
-one_left_in_operand one fault.CannotOpen by tells start rest x y full a b = absurd by
-one_left_in_operand one fault.ReadFault by tells start rest x y full a b = absurd by
-one_left_in_operand one fault.WriteFault by tells start rest x y full a b = absurd by
-one_left_in_operand one fault.Memory by tells start rest x y full a b = absurd by
+one_left_in_operand one fault.Truncated by start rest x y full a b = none_left start rest x a ∙ sym (none_left start rest y b)
+one_left_in_operand one (fault.SyntaxAt k) by start rest x y full a b = one_left one (λ which w. ⊥) (fault.SyntaxAt k) by start rest x y full a b
+one_left_in_operand one (fault.Invalid rule) by start rest x y full a b = one_left one (λ which w. ⊥) (fault.Invalid rule) by start rest x y full a b
+one_left_in_operand one (fault.Limit which) by start rest x y full a b = one_left one (λ which w. ⊥) (fault.Limit which) by start rest x y full a b
+one_left_in_operand one fault.CannotOpen by start rest x y full a b = absurd by
+one_left_in_operand one fault.ReadFault by start rest x y full a b = absurd by
+one_left_in_operand one fault.WriteFault by start rest x y full a b = absurd by
+one_left_in_operand one fault.Memory by start rest x y full a b = absurd by
 
 -- ---- two runs that end alike at one point
 
 pub record IsOnePlace (e : End) (n m : List ℕ) (l k : Option (List ℕ)) : Type 0 where
   pub name : TellsName e → n ≡ m
-  pub left : TellsLeft e → l ≡ k
+  pub left : l ≡ k
 
 -- at the limit of bytes more is asked for
 abbrev AreAsking : (RunFault → ℕ → List ℕ → List ℕ → Type 0) → Type 0
@@ -106,7 +107,7 @@ one_place on stops f p n m l k by fitted asking one x c y d =
     let there = subst (λ (z : Stream). stops f (place z.text z.rest) z.rest b.at.now) (sym same) b.at.stands in
     record {
       name = λ tells. sym a.named ∙ ap (λ (z : Stream). z.name) same ∙ b.named;
-      left = λ tells. a.at.told ∙ ap Some (one by tells (place s.text s.rest) s.rest a.at.now b.at.now (λ is. full is s a.at.now b.at.now a.at.is_open a.at.told b.at.told a.at.stands there) a.at.stands there) ∙ sym b.at.told;
+      left = a.at.told ∙ ap Some (one by (place s.text s.rest) s.rest a.at.now b.at.now (λ is. full is s a.at.now b.at.now a.at.is_open a.at.told b.at.told a.at.stands there) a.at.stands there) ∙ sym b.at.told;
     }
   where
     full : f ≡ fault.Limit limit.Bytes → (s : Stream) (x y : List ℕ) → p.stream ≡ Some s → l ≡ Some x → k ≡ Some y → stops f (place s.text s.rest) s.rest x
@@ -124,7 +125,7 @@ one_place_before one f p n m l k by fitted x c y d =
 
 -- where all was read
 place_behind : (e : End) (n m : List ℕ) (l k : Option (List ℕ)) → (TellsName e → ⊥) → l ≡ k → IsOnePlace e n m l k
-place_behind e n m l k none same = record { name = λ tells. absurd (none tells); left = λ tells. same }
+place_behind e n m l k none same = record { name = λ tells. absurd (none tells); left = same }
 
 -- in the streams
 pub one_place_in_streams : OneStanding → (plan : Plan) (ops : List Automaton) (e : End) (p : Point) (n m : List ℕ) (l k : Option (List ℕ)) → IsByText e → IsFitted p
