@@ -1,5 +1,5 @@
 -- What is said of the guards of a store, by their labels alone.
-use Rattle.std.specs.Prelude.{◌≡◌, ◌≢◌, ◌⊎◌, ℕ, ◌<◌, Bool, true, false, List, length, AllPairs, if◌then◌else◌, nat_eq}
+use Rattle.std.specs.Prelude.{◌≡◌, ◌≢◌, ◌⊎◌, ℕ, ◌<◌, Bool, true, false, not, List, length, AllPairs, if◌then◌else◌, nat_eq}
 use Rattle.aut_base.specs.Label.{truth, holds_at}
 use Rattle.aut_base.specs.Valuation.{truth_on}
 use Rattle.aut_base.specs.Word.{NameSet}
@@ -14,6 +14,10 @@ truth_in s g on = truth on (label_in s g)
 pub record IsGuardOf (s : Store) (says : (ℕ → Bool) → Bool) (g : Guard) : Type 0 where
   pub has : Has s g
   pub truth : (on : ℕ → Bool) → truth_in s g on ≡ says on
+
+-- the proposition holds, or it is one that should fail and does
+abbrev pub literal_truth : ℕ → Bool → (ℕ → Bool) → Bool
+literal_truth prop holds on = if holds then on prop else not (on prop)
 
 -- no valuation of the store's propositions meets the guard
 abbrev pub IsNeverMet : Store → Guard → Type 0

@@ -13,6 +13,7 @@ mod holds;
 mod labels;
 mod law;
 mod letters;
+mod literals;
 mod nodes;
 mod numbers;
 mod pick;

@@ -61,7 +61,7 @@ part_below n (t ∷ ts) zero part below is = subst (AllBelow n) (same_Some t par
 part_below n (t ∷ ts) (suc i) part below is = part_below n ts i part below.1 is
 
 -- What is left of the parts begins with the part that is next, from the last to the first.
-next_left : (parts : List LabelTree) (i left : ℕ) (part : LabelTree) → left ≡ i + 1 → slice_get parts i ≡ Some part → drop i parts ≡ part ∷ drop left parts
+pub next_left : (parts : List LabelTree) (i left : ℕ) (part : LabelTree) → left ≡ i + 1 → slice_get parts i ≡ Some part → drop i parts ≡ part ∷ drop left parts
 next_left parts i left part e at = drop_more parts i part (slice_get_within parts i part at) ∙ (λ j. get_or_from_slice_get parts i part part at j ∷ drop (sym e j) parts)
 
 pub all_none : (s : Store) (parts : List LabelTree) (n : ℕ) → n ≡ length parts → IsPlaceOf s (λ on. all_true on (trees (drop n parts))) 1

@@ -1,0 +1,14 @@
+use Rattle.std.proofs.lemmas.Result.{IfOk-weaker}
+use Rattle.label_guards.specs.declared.guards.Operation.TheVariants.{Or}
+use Rattle.label_guards.proofs.labelled.Literals.{joined_beside, joined_above}
+use Rattle.label_guards.proofs.guards.Guards.join_literal.Goals as goal
+
+pub returns-then-literal-level-clause-joined : goal.returns-then-literal-level-clause-joined
+returns-then-literal-level-clause-joined c =
+    IfOk-weaker c.branch-self.result _ _ (λ place is. joined_above c.args.self.now _ c.args.literal c.args.place place is) c.branch-self.ensures.place
+
+pub returns-clause-joined : goal.returns-clause-joined
+returns-clause-joined c =
+    IfOk-weaker c.combine.result _ _
+    (λ place is. joined_beside c.branch-self-2.ensures.grows c.combine.ensures.grows Or c.args.literal _ c.args.place place c.requires.has c.in_ok-own.ensures.place is)
+    c.combine.ensures.joined
