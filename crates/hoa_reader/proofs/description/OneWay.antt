@@ -1,5 +1,5 @@
 -- Where labels are implicit at every state, each letter meets just one edge of every state.
-use Rattle.std.proofs.Common.{◌≡◌, ◌≢◌, ◌∙◌, ◌+◌, ◌^◌, ◌==◌, ◌<◌, ◌≤◌, ◌&&◌, ⊎_elim, ℕ, zero, suc, Bool, true, false, cond, is_none, List, [], ◌∷◌, ◌++◌, All, AllPairs, Contains, None, Option, Some, ap, arith, filter, get_or, length, map, refl, subst, sym}
+use Rattle.std.proofs.Common.{◌≡◌, ◌∙◌, ◌+◌, ◌^◌, ◌==◌, ◌<◌, ◌≤◌, ◌&&◌, ⊎_elim, ℕ, zero, suc, Bool, true, cond, is_none, List, [], ◌∷◌, ◌++◌, All, AllPairs, Contains, None, Option, Some, ap, arith, filter, length, map, refl, subst, sym}
 use Rattle.std.proofs.lemmas.Bool.{and_parts, cases_lt, eq-eqb, eqb-true, false≢true, ne_eqb}
 use Rattle.std.proofs.lemmas.Grind.{flat_map-append}
 use Rattle.std.proofs.lemmas.List.{append-nil, get_or-map, length-map}
@@ -14,7 +14,7 @@ use Rattle.aut_base.specs.Automaton.{TreeEdge}
 use Rattle.aut_base.specs.CanonicalLabel.{canonical, canonical_label}
 use Rattle.aut_base.specs.Label.{LabelTree, holds_at, truth}
 use Rattle.aut_base.specs.Word.{NameSet}
-use Rattle.aut_core.specs.Deterministic.{AreApart, GoesOn, GoesOneWay, is_met}
+use Rattle.aut_core.specs.Deterministic.{AreApart, GoesOneWay, is_met}
 use Rattle.hoa_parser.specs.Raw.{RawTree, Written, WrittenEdge, WrittenState}
 use Rattle.hoa_reader.proofs.labels.LettersApart.{letter_of_all, number_small, number_there, one_number, settled_letter}
 use Rattle.hoa_reader.specs.Described.{below, described, edges_of, expanded, label_of, letter_label, meanings_of, state_count, tree_edge_of, tree_edges_from, tree_edges_of}
