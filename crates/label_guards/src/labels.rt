@@ -144,7 +144,12 @@ impl Guards {
     }
 
     /// The place that goes on at `holds` where the literal is true, and at `fails` elsewhere.
-    pub(crate) fn branch(&mut self, literal: Literal, fails: usize, holds: usize) -> Result<usize, Memory>
+    pub(crate) fn branch(
+        &mut self,
+        literal: Literal,
+        fails: usize,
+        holds: usize,
+    ) -> Result<usize, Memory>
         requires fails { HasPlace self.old fails }
         requires holds { HasPlace self.old holds }
         requires fails_later { literal.prop < level self.old fails }
