@@ -1,6 +1,6 @@
 -- A label over other names.
 use Rattle.std.proofs.Common.{◌≡◌, ◌≢◌, ◌∙◌, ◌<◌, ◌≤◌, ◌+◌, ⊎_elim, ℕ, Bool, false, List, [], ◌∷◌, ◌++◌, All, AllPairs, Contains, Some, ap, arith}
-use Rattle.std.proofs.Common.{get_or, length, length-append, map, refl, slice_get, subst, sym}
+use Rattle.std.proofs.Common.{get_or, length, length-append, map, slice_get, subst, sym}
 use Rattle.std.proofs.lemmas.Bool.{cases_lt}
 use Rattle.std.proofs.lemmas.List.{get_or_append_left, get_or-append-add}
 use Rattle.std.proofs.lemmas.List.Elements.{All-contains, All-map, All-push, All-weaker}

@@ -4,7 +4,6 @@ use Rattle.aut_base.specs.Automaton.{TreeEdge}
 use Rattle.label_guards.specs.Store.{Store}
 use Rattle.aut_core.specs.Core.{edge_of}
 use Rattle.aut_core.specs.Surveys.{IsMet}
-use Rattle.aut_core.specs.declared.link.Link.{Link}
 use Rattle.aut_core.specs.declared.survey.Survey.{Survey}
 use Rattle.aut_core.proofs.Growth.{kept_edges, keeps_none, keeps_on}
 use Rattle.aut_core.proofs.Surveys.{both_halves, halves_met, length-rest_of, of_three, rest_has, rest_of}

@@ -1,8 +1,7 @@
-use Rattle.std.proofs.Common.{◌≡◌, ◌∙◌, ◌+◌, ◌==◌, ◌≤◌, List, All, filter, map, subst, sym}
-use Rattle.std.specs.List.{slice_range}
+use Rattle.std.proofs.Common.{◌∙◌, ◌==◌, List, All, filter, map, subst, sym}
 use Rattle.std.proofs.lemmas.List.Elements.{All-filter, All-weaker}
-use Rattle.label_guards.specs.Store.{Has, Keeps}
-use Rattle.aut_core.specs.Surveys.{AreSurveyed, IsSurvey}
+use Rattle.label_guards.specs.Store.{Has}
+use Rattle.aut_core.specs.Surveys.{IsSurvey}
 use Rattle.aut_core.specs.Core.{edge_of}
 use Rattle.aut_core.specs.declared.link.Link.{Link}
 use Rattle.aut_core.proofs.Growth.{keeps_on}

@@ -4,9 +4,7 @@ use Rattle.aut_base.specs.Automaton.{TreeEdge}
 use Rattle.aut_base.specs.Formula.{formula_tree}
 use Rattle.aut_core.specs.Core.{Core, automaton_of, edge_of}
 use Rattle.aut_core.specs.Deterministic.{IsComplete, IsDeterministic}
-use Rattle.aut_core.specs.Index.{IsIndex}
 use Rattle.aut_core.specs.Kept.{IsKept}
-use Rattle.aut_core.specs.Surveys.{AreSurveyed}
 use Rattle.aut_core.specs.declared.automaton.Fields.{Fields}
 use Rattle.aut_core.specs.declared.link.Link.{Link}
 use Rattle.aut_core.proofs.Deterministic.{complete_if, deterministic_if, not_complete, not_deterministic}
