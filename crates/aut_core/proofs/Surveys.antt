@@ -1,6 +1,7 @@
 -- What the guards of links tell, by halves.
 use Rattle.aut_base.proofs.numbers.Truth.{or-false}
-use Rattle.std.proofs.Common.{◌≡◌, ◌∙◌, ◌↔◌, ◌+◌, ◌-◌, ◌/◌, ◌<◌, ◌≤◌, ℕ, Bool, true, false, ◌&&◌, ◌||◌, IfOk, IsTrue, List, [], ◌∷◌, ◌++◌, All, Err, Ok, Result, ap, arith, drop, get_or, length, length-append, map, refl, subst, sym, take}
+use Rattle.std.proofs.Common.{◌≡◌, ◌∙◌, ◌↔◌, ◌+◌, ◌-◌, ◌/◌, ◌<◌, ◌≤◌, ℕ, Bool, true, false, ◌&&◌, ◌||◌, IfOk, IsTrue, List, [], ◌∷◌, ◌++◌, All, Err}
+use Rattle.std.proofs.Common.{Ok, Result, ap, arith, drop, get_or, length, length-append, map, refl, subst, sym, take}
 use Rattle.std.proofs.lemmas.Bool.{and_from, false≢true, or_from, or_left}
 use Rattle.std.proofs.lemmas.List.{get_or_append_left, get_or-append-add, get_or_default, length-drop, length-take, take-append-drop, take_all}
 use Rattle.std.proofs.lemmas.List.Elements.{All-drop, All-take, All-weaker}
@@ -43,7 +44,8 @@ IsApartFrom names es fs = (letter : NameSet) → (list_any (is_met names letter)
 
 apart_both : (names : List (List ℕ)) (es fs : List TreeEdge) → AreAllApart names es → AreAllApart names fs → IsApartFrom names es fs → AreAllApart names (es ++ fs)
 apart_both names es fs first second across = pairs_append (AreApart names) es fs first second
-    (λ k d within m e there letter here other. false_true _ (across letter) (and_from _ _ (list_any_at (is_met names letter) es k d within here) (list_any_at (is_met names letter) fs m e there other)))
+    (λ k d within m e there letter here other.
+    false_true _ (across letter) (and_from _ _ (list_any_at (is_met names letter) es k d within here) (list_any_at (is_met names letter) fs m e there other)))
 
 apart_front : (names : List (List ℕ)) (es more : List TreeEdge) → AreAllApart names (es ++ more) → AreAllApart names es
 apart_front names es more all i j d less within letter first second =

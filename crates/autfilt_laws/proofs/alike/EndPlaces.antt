@@ -107,7 +107,8 @@ one_place on stops f p n m l k by fitted asking one x c y d =
     let there = subst (λ (z : Stream). stops f (place z.text z.rest) z.rest b.at.now) (sym same) b.at.stands in
     record {
       name = λ tells. sym a.named ∙ ap (λ (z : Stream). z.name) same ∙ b.named;
-      left = a.at.told ∙ ap Some (one by (place s.text s.rest) s.rest a.at.now b.at.now (λ is. full is s a.at.now b.at.now a.at.is_open a.at.told b.at.told a.at.stands there) a.at.stands there) ∙ sym b.at.told;
+      left = a.at.told ∙ ap Some (one by (place s.text s.rest) s.rest a.at.now b.at.now (λ is. full is s a.at.now b.at.now a.at.is_open a.at.told b.at.told a.at.stands there) a.at.stands
+          there) ∙ sym b.at.told;
     }
   where
     full : f ≡ fault.Limit limit.Bytes → (s : Stream) (x y : List ℕ) → p.stream ≡ Some s → l ≡ Some x → k ≡ Some y → stops f (place s.text s.rest) s.rest x

@@ -54,7 +54,8 @@ ends_at plan ops passed (end.Fault f) events name p left by fitted t h =
 
 -- ---- nothing happens where the run has ended
 
-none_behind : OneStanding → AreOne → (plan : Plan) (ops : List Automaton) (texts : Texts) (f : RunFault) (e : Event) (p q : Point) → Halted (asks_on plan p.kept ≡ true) (in_streams plan ops) p f → IsJudged plan ops e → Goes texts e p q → ⊥
+none_behind : OneStanding → AreOne → (plan : Plan) (ops : List Automaton) (texts : Texts) (f : RunFault) (e : Event) (p q : Point)
+    → Halted (asks_on plan p.kept ≡ true) (in_streams plan ops) p f → IsJudged plan ops e → Goes texts e p q → ⊥
 none_behind one plain plan ops texts f (Opened n) p q h j g = let none : None ≡ Some h.stream = sym g.closed ∙ h.is_open in cc
 none_behind one plain plan ops texts f (Kept w t) p q h j g =
     unfit_whole (in_streams plan ops) w g.next f (halted_look one (asks_on plan p.kept ≡ true) (in_streams plan ops) p q f _ _ h (look_at p q w (p.kept + 1) g)) g.stands.valid g.stands.within
@@ -65,7 +66,8 @@ none_behind one plain plan ops texts f (Dropped w) p q h j g =
 none_behind one plain plan ops texts f (Skipped n) p q h j g = halted_look one (asks_on plan p.kept ≡ true) (in_streams plan ops) p q f _ _ h (look_over p q n g)
 none_behind one plain plan ops texts f Ended p q h j g = halted_look one (asks_on plan p.kept ≡ true) (in_streams plan ops) p q f _ _ h (look_behind p q g)
 
-no_more : OneStanding → AreOne → (plan : Plan) (ops : List Automaton) (texts : Texts) (f : RunFault) (e : Event) (p q : Point) → IsFitted p → IsStopped plan ops p f → IsJudged plan ops e → Goes texts e p q
+no_more : OneStanding → AreOne → (plan : Plan) (ops : List Automaton) (texts : Texts) (f : RunFault) (e : Event) (p q : Point) → IsFitted p → IsStopped plan ops p f → IsJudged plan ops e
+    → Goes texts e p q
     → ⊥
 no_more one plain plan ops texts f e p q fitted (inl h) j g = none_behind one plain plan ops texts f e p q h.halted j g
 no_more one plain plan ops texts f e p q fitted (inr h) j g = full_goes texts e p q fitted h.full g
@@ -100,7 +102,8 @@ same_events one plain plan ops passed texts (e' ∷ es) [] all all' e d p q r fi
     absurd (nothing_more one plain plan ops passed texts all' d e' p a.1 fitted (subst (λ (z : Point). Ends plan ops passed z all' d) (sym b) y) j.0 a.0 a.2)
 same_events one plain plan ops passed texts (e' ∷ es) (f ∷ fs) all all' e d p q r fitted j i a b x y =
     let same = one_next one plain plan ops texts e' f p a.1 b.1 j.0 i.0 a.2 b.2 in
-    let rest = same_events one plain plan ops passed texts es fs all all' e d a.1 q r (fitted_goes texts e' p a.1 fitted a.2) j.1 i.1 a.3 (subst (λ (z : Point). Happen plan texts fs z r) (sym same.1) b.3) x y in
+    let rest = same_events one plain plan ops passed texts es fs all all' e d a.1 q r (fitted_goes texts e' p a.1 fitted a.2) j.1 i.1 a.3
+        (subst (λ (z : Point). Happen plan texts fs z r) (sym same.1) b.3) x y in
     ((same.0, rest.0), rest.1)
 
 -- an end of the one is one of the other

@@ -104,7 +104,8 @@ record Shown (a : Asking) (start : ℕ) (rest : List ℕ) (f : RunFault) : Type 
 past : (a : Asking) (which : Limit) (start : ℕ) (rest left : List ℕ) → StandsWith (λ w. PassesLimit which w ⊎ a.over which w) start rest left → Shown a start rest (fault.Limit which)
 past a which start rest left h = record { what = standing.Whole h.automaton left; stands = h.whole; fits = inr (which, refl, h.holds) }
 
-shown : (a : Asking) (f : RunFault) (start : ℕ) (rest left : List ℕ) → IsByText (end.Fault f) → (f ≡ fault.Limit limit.Bytes → ⊥) → StopsAt (λ which w. a.over which w) f start rest left → Shown a start rest f
+shown : (a : Asking) (f : RunFault) (start : ℕ) (rest left : List ℕ) → IsByText (end.Fault f) → (f ≡ fault.Limit limit.Bytes → ⊥) → StopsAt (λ which w. a.over which w) f start rest left
+    → Shown a start rest f
 shown a (fault.SyntaxAt k) start rest left by other h = record { what = standing.Bad k; stands = h.bad; fits = refl }
 shown a fault.Truncated start rest left by other h = record { what = standing.Cut; stands = h.cut; fits = refl }
 shown a (fault.Invalid rule) start rest left by other h = record { what = standing.Whole h.automaton left; stands = h.whole; fits = inl (rule, refl, h.holds) }

@@ -48,7 +48,8 @@ nothing_more : OneStanding → (texts : Texts) (e : OperandEvent) (p q : Point) 
 nothing_more one texts e p q fitted (inl h) g = no_more one texts h.0 e p q fitted h.1 g
 nothing_more one texts e p q fitted (inr h) g = closed_proceeds texts e p q h g
 
-pub same_operands : OneStanding → (texts : Texts) (es fs : List OperandEvent) (p q r : Point) → IsFitted p → AreRead texts es p q → AreRead texts fs p r → EndsThere q → EndsThere r → (es ≡ fs) × (q ≡ r)
+pub same_operands : OneStanding → (texts : Texts) (es fs : List OperandEvent) (p q r : Point) → IsFitted p → AreRead texts es p q → AreRead texts fs p r → EndsThere q → EndsThere r
+    → (es ≡ fs) × (q ≡ r)
 same_operands one texts [] [] p q r fitted a b x y = (refl, sym a ∙ b)
 same_operands one texts [] (f ∷ fs) p q r fitted a b x y = absurd (nothing_more one texts f p b.0 fitted (subst EndsThere (sym a) x) b.1)
 same_operands one texts (e ∷ es) [] p q r fitted a b x y = absurd (nothing_more one texts e p a.0 fitted (subst EndsThere (sym b) y) a.1)

@@ -1,5 +1,6 @@
 -- An exploration that ends has listed no more things than may be.
-use Rattle.std.proofs.Common.{◌≡◌, ◌∙◌, ◌+◌, ◌<◌, ◌≤◌, ◌||◌, ℕ, zero, suc, Bool, true, false, cond, List, [], ◌∷◌, None, Option, Some, ap, arith, inl, inr, length, length-append, leb, ltb, refl, slice_get, subst, sym}
+use Rattle.std.proofs.Common.{◌≡◌, ◌∙◌, ◌+◌, ◌<◌, ◌≤◌, ◌||◌, ℕ, zero, suc, Bool, true, false, cond, List, [], ◌∷◌, None, Option, Some, ap, arith, inl}
+use Rattle.std.proofs.Common.{inr, length, length-append, leb, ltb, refl, slice_get, subst, sym}
 use Rattle.std.proofs.lemmas.Bool.{ltb-true}
 use Rattle.exploration.proofs.Lists.{new_cases}
 use Rattle.exploration.specs.Moves.{Fails, Gives, Lacks, Move}

@@ -97,7 +97,8 @@ disjunctive_formed a formed = record {
   starts_differ = formed.starts_differ;
   starts = formed.starts;
   in_order = formed.in_order;
-  edges = All-weaker (IsEdgeOf a) (IsEdgeOf (in_disjunctive_form a)) (λ e is. record { from = is.from; to = is.to; label = is.label; marks = is.marks; marks_rise = is.marks_rise }) a.edges formed.edges;
+  edges = All-weaker (IsEdgeOf a) (IsEdgeOf (in_disjunctive_form a)) (λ e is. record { from = is.from; to = is.to; label = is.label; marks = is.marks; marks_rise = is.marks_rise }) a.edges
+      formed.edges;
   formula = of_terms_holds (SetsBelow a.sets) (below_parts a.sets) (terms a.formula) (terms_below a.sets a.formula formed.formula);
 }
 

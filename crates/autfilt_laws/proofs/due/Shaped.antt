@@ -35,7 +35,8 @@ use Rattle.plan_meaning.specs.Changes.{Bring, Complete, MakesWithin, RemoveAp, T
 hidden_names : (how : Hide) (name : List ℕ) (a : Automaton) → length (hidden how name a).names ≤ length a.names
 hidden_names how name a = by (is_among a.names name)
   where
-    by : (b : Bool) → length (if b then record a { names = names_without name a.names; edges = map (λ (e : TreeEdge). record e { label = hidden_label how name a.names e.label }) a.edges } else a).names
+    by : (b : Bool) → length (if b then record a { names = names_without name a.names; edges = map (λ (e : TreeEdge). record e { label = hidden_label how name a.names e.label }) a.edges }
+        else a).names
         ≤ length a.names
     by true = fewer name a.names
     by false = omega arith

@@ -116,7 +116,8 @@ is_within fault.ReadFault taken by other few = absurd by
 is_within fault.WriteFault taken by other few = absurd by
 is_within fault.Memory taken by other few = absurd by
 
-pub is_counted : (f : RunFault) (p : Point) (s : Stream) (now : List ℕ) (more : ℕ) → IsByText (end.Fault f) → (f ≡ fault.Limit limit.Bytes → ⊥) → p.stream ≡ Some s → p.before + (length s.text + more) < MOST_BYTES
+pub is_counted : (f : RunFault) (p : Point) (s : Stream) (now : List ℕ) (more : ℕ) → IsByText (end.Fault f) → (f ≡ fault.Limit limit.Bytes → ⊥) → p.stream ≡ Some s
+    → p.before + (length s.text + more) < MOST_BYTES
     → IsCounted f p (Some now)
 is_counted f p s now more by other is few =
     let same : taken_of p (Some now) ≡ p.before + place s.text now = ap (λ o. p.before + taken_in o (Some now)) is in

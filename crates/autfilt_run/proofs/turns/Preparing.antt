@@ -21,7 +21,8 @@ use Rattle.autfilt_run.proofs.printing.Writing.{rose_from}
 use Rattle.autfilt_run.specs.Events.{Point, ReadsOn}
 use Rattle.autfilt_run.specs.Faults.{stop_of_fault}
 use Rattle.autfilt_run.specs.Openings.{AreOpened, AreTried, MayEnd, WantsFile}
-use Rattle.autfilt_run.specs.OperandEvents.{AreRead, FileOpened, OperandEvent, PassedOver, Proceeds, Taken, all_passed, file_open_after, file_open_by, opened_file, opened_files, operand_of, operands_of, passed_of}
+use Rattle.autfilt_run.specs.OperandEvents.{AreRead, FileOpened, OperandEvent, PassedOver, Proceeds, Taken, all_passed, file_open_after, file_open_by}
+use Rattle.autfilt_run.specs.OperandEvents.{opened_file, opened_files, operand_of, operands_of, passed_of}
 use Rattle.autfilt_run.specs.Points.{IsAt, StandsIn, name_in, open_count, operands_in}
 use Rattle.autfilt_run.specs.Preparing.{CountsAt, FailsToPrepare, HasRead, HasSkipped, IsReady, Prepares, WantsOperand, opened_names}
 use Rattle.autfilt_run.specs.Runs.{AtNamed, IsCounted, StopsAtOperand, StopsInOperands, WantsMemory, WantsStream, taken_of}

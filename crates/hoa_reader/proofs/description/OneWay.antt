@@ -1,5 +1,6 @@
 -- Where labels are implicit at every state, each letter meets just one edge of every state.
-use Rattle.std.proofs.Common.{◌≡◌, ◌∙◌, ◌+◌, ◌^◌, ◌==◌, ◌<◌, ◌≤◌, ◌&&◌, ⊎_elim, ℕ, zero, suc, Bool, true, cond, is_none, List, [], ◌∷◌, ◌++◌, All, AllPairs, Contains, None, Option, Some, ap, arith, filter, length, map, refl, subst, sym}
+use Rattle.std.proofs.Common.{◌≡◌, ◌∙◌, ◌+◌, ◌^◌, ◌==◌, ◌<◌, ◌≤◌, ◌&&◌, ⊎_elim, ℕ, zero, suc, Bool, true, cond, is_none, List, [], ◌∷◌, ◌++◌, All}
+use Rattle.std.proofs.Common.{AllPairs, Contains, None, Option, Some, ap, arith, filter, length, map, refl, subst, sym}
 use Rattle.std.proofs.lemmas.Bool.{and_parts, cases_lt, eq-eqb, eqb-true, false≢true, ne_eqb}
 use Rattle.std.proofs.lemmas.Grind.{flat_map-append}
 use Rattle.std.proofs.lemmas.List.{append-nil, get_or-map, length-map}
@@ -164,7 +165,9 @@ one_state w q are within =
       met = λ letter.
           let on = holds_at (names_of w) letter in
           let small = number_small (width w) on in
-          subst (λ n. IsMetAmong w n letter (tree_edges_from w q)) found.number (subst (IsMetAmong w s.number letter) (sym edges) (one_met w s 0 (letter_of_all (width w) on) s.edges letter own none.1 (omega arith) (omega (arith, small, count)) (number_there (width w) on)));
+          subst (λ n. IsMetAmong w n letter (tree_edges_from w q)) found.number
+              (subst (IsMetAmong w s.number letter) (sym edges)
+              (one_met w s 0 (letter_of_all (width w) on) s.edges letter own none.1 (omega arith) (omega (arith, small, count)) (number_there (width w) on)));
     }
 
 -- the edges of the states below a number

@@ -34,7 +34,8 @@ returns-clause-met t c =
     let rest = rest_of links in
     let asked : Survey = record { apart = c.in_ok-first.first.apart; filled = c.args.known.filled } in
     let whole : map (edge_of old) front ++ map (edge_of old) rest ≡ map (edge_of old) links = sym (map-append (edge_of old) front rest) ∙ ap (map (edge_of old)) (both_halves links) in
-    let second = subst (λ (es : List TreeEdge). IsMet names c.meet-2.new.draft.now es asked c.in_ok-second.second) (kept_edges rest c.meet.ensures.keeps (rest_has links (keeps_none old) c.requires.has))
+    let second = subst (λ (es : List TreeEdge). IsMet names c.meet-2.new.draft.now es asked c.in_ok-second.second)
+    (kept_edges rest c.meet.ensures.keeps (rest_has links (keeps_none old) c.requires.has))
     c.in_ok-second.ensures.met in
     of_three c.meet_both.result (λ met has guard apart. subst (λ (es : List TreeEdge). IsMet names now es c.args.known met) whole
     (halves_met names s c.meet-2.new.draft.now now (map (edge_of old) front) (map (edge_of old) rest) c.args.known c.in_ok-first.first c.in_ok-second.second met c.in_ok-first.ensures.met
