@@ -151,9 +151,9 @@ wants_operand : (f : RunFault) (plan : Plan) (old new : Session) (s m t : Seen) 
     → WantsOperand old failed.events → WantsOperandFile plan (h.taken ++ failed.events)
 wants_operand f plan old new s m t k l noting h failed wants =
     let names : opened_names old ++ opened_files failed.events ≡ opened_files (h.taken ++ failed.events) =
-        ap (λ x. x ++ opened_files failed.events) h.named ∙ sym (flat_map-append opened_file h.taken failed.events) in
+    ap (λ x. x ++ opened_files failed.events) h.named ∙ sym (flat_map-append opened_file h.taken failed.events) in
     let still : file_open_after false (h.taken ++ failed.events) ≡ file_open_after old.is_open failed.events =
-        file_open_then false h.taken failed.events ∙ ap (λ (b : Bool). file_open_after b failed.events) (sym h.still) in
+    file_open_then false h.taken failed.events ∙ ap (λ (b : Bool). file_open_after b failed.events) (sym h.still) in
     let number = ap length names in
     let all = ap (λ (p : Plan). length (operands p)) h.same_plan in
     record { closed = still ∙ wants.closed; more = omega (arith, wants.more, number, all) }

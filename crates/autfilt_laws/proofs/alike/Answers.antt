@@ -243,5 +243,5 @@ pub answer_completes : OnePlan → Completes → AnswerCompletes
 answer_completes plans completes words plan texts a is readable other d =
     let c = came plans words plan texts a is d in
     let whole : a.answer ≡ ended_of (end_of (tally_after (length (all_passed c.o.taken)) c.o.events)) = c.shown
-        ∙ ap ended_of (completes plan texts a.inputs.left c.o readable (λ e. other (c.shown ∙ ap ended_of e)) c.is) in
+    ∙ ap ended_of (completes plan texts a.inputs.left c.o readable (λ e. other (c.shown ∙ ap ended_of e)) c.is) in
     subst (λ (r : Ended). (r ≡ ended.Output) ⊎ ((r ≡ ended.NoneOutput) ⊎ (r ≡ ended.Aborts))) (sym whole) (all_read (tally_after (length (all_passed c.o.taken)) c.o.events))

@@ -103,7 +103,7 @@ same_events one plain plan ops passed texts (e' ∷ es) [] all all' e d p q r fi
 same_events one plain plan ops passed texts (e' ∷ es) (f ∷ fs) all all' e d p q r fitted j i a b x y =
     let same = one_next one plain plan ops texts e' f p a.1 b.1 j.0 i.0 a.2 b.2 in
     let rest = same_events one plain plan ops passed texts es fs all all' e d a.1 q r (fitted_goes texts e' p a.1 fitted a.2) j.1 i.1 a.3
-        (subst (λ (z : Point). Happen plan texts fs z r) (sym same.1) b.3) x y in
+    (subst (λ (z : Point). Happen plan texts fs z r) (sym same.1) b.3) x y in
     ((same.0, rest.0), rest.1)
 
 -- an end of the one is one of the other

@@ -57,7 +57,7 @@ both_before one plan texts left a b x y free also s t =
     let start = start_of (operands plan) left 0 in
     let same = same_operands one texts a.taken b.taken start p q (fitted_start (operands plan) left 0) s.stops.read t.stops.read (inl (s.fault, h)) (inl (t.fault, k)) in
     let fault = one_fault one p s.fault t.fault (λ z. free (s.ends ∙ ap end.Fault z.0, t.ends ∙ ap end.Fault z.1)) (λ z. also (t.ends ∙ ap end.Fault z.0, s.ends ∙ ap end.Fault z.1)) h
-        (subst (λ (z : Point). IsStoppedIn z t.fault) (sym same.1) k) in
+    (subst (λ (z : Point). IsStoppedIn z t.fault) (sym same.1) k) in
     let here = subst (λ (z : Point). StopsInOperands t.fault b.name z b.left) (sym same.1) t.stops.stops in
     let stops = subst (λ (f : RunFault). StopsInOperands f b.name p b.left) (sym fault) here in
     let count = subst (λ (f : RunFault). IsCounted f p b.left) (sym fault) (subst (λ (z : Point). IsCounted t.fault z b.left) (sym same.1) t.stops.counted) in

@@ -63,7 +63,7 @@ module _ (plan : Plan) (ops : List Automaton) (on : Existing plan ops) (texts : 
 
   stopped : (p : Point) (s : Stream) (more : ℕ) → asks_on plan p.kept ≡ true → p.stream ≡ Some s → p.before + (length s.text + more) < MOST_BYTES
       → (f : RunFault) (left : List ℕ) → IsByText (end.Fault f) → (f ≡ fault.Limit limit.Bytes → ⊥) → StopsAt (λ which w. IsOver which plan ops w) f (place s.text s.rest) s.rest left
-          → Reads plan ops texts p
+      → Reads plan ops texts p
   stopped p s more asks is few f left by other h =
       let at : AtNamed (asks_on plan p.kept ≡ true) p s.name (Some left) (StopsAt (λ which w. IsOver which plan ops w) f) =
       record { at = record { asks = asks; stream = s; is_open = is; now = left; told = refl; stands = h }; named = refl } in

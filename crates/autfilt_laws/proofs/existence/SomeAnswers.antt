@@ -193,7 +193,7 @@ module _ (plan : Plan) (texts : Texts) (inputs : Seen) (told : inputs.texts ≡ 
     streams None made =
         let seen' = behind mid o.left (length (opened_streams o.events)) in
         let told_so : (other : Texts) → inputs.texts ≡ Some other → texts_or plan.made texts ≡ other = λ other is. ap (λ (m : Option ℕ). texts_or m texts) made
-            ∙ told_once texts other inputs.texts told is in
+        ∙ told_once texts other inputs.texts told is in
         let left_there : left_or plan.made h.point.left ≡ h.point.left = ap (λ (m : Option ℕ). left_or m h.point.left) made in
         record {
           seen' = seen';

@@ -47,9 +47,13 @@ operands-preserved g c =
     let first = g.I.Inputs.seen c.args.inputs.now in
     let s = g.I.Inputs.seen c.operands.inputs in
     let t = g.I.Inputs.seen c.operand_turn.new.inputs in
-    let did = subst (λ (x : OperandTurn). TurnsAs (Ok x) c.operands.self c.operand_turn.new.self s t) c.in-Taken.is said.turns.turns in
-    (more_taken c.args.self.now c.operands.self c.operand_turn.new.self first s t c.operands.invariant.0 said.turns.keeps (taken_few c.operand_turn.new.self) did, said.spent, said.held,
-        said.room, said.tried)
+    let did = subst (λ (x : OperandTurn). TurnsAs (Ok x) c.operands.self c.operand_turn.new.self s t) c.in-Taken.is said.turns.turns in (
+      more_taken c.args.self.now c.operands.self c.operand_turn.new.self first s t c.operands.invariant.0 said.turns.keeps (taken_few c.operand_turn.new.self) did,
+      said.spent,
+      said.held,
+      said.room,
+      said.tried,
+    )
 
 pub returns-in-Skipped-clause-prepares : goal.returns-in-Skipped-clause-prepares
 returns-in-Skipped-clause-prepares g c =

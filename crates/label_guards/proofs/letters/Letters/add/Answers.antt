@@ -27,11 +27,11 @@ returns-clause-letters c =
     let place : IsLast c.args.guards.now c.self.inside.number (length c.self.inside.places.items) c.args.place =
     subst (λ (l : LastLetter). IsLast c.args.guards.now l.number (length l.places) c.args.place) (sym c.self.view_is) c.requires.place in
     let next : c.args.prop + (length c.self.inside.places.items + 1) ≡ c.args.guards.now.names = subst (λ (l : LastLetter). c.args.prop + (length l.places + 1) ≡ c.args.guards.now.names)
-        (sym c.self.view_is) c.requires.next in
+    (sym c.self.view_is) c.requires.next in
     let names = c.decided.ensures.grows.names in
     letters_pushed c.decided.new.self c.self.inside.number c.in_ok-place.place c.self.inside.places.items c.push.new.self.items old (omega (arith, next, names))
     (last_more c.reduced.ensures c.reduced-2.ensures c.decided.ensures.grows c.self.inside.number (length c.self.inside.places.items) c.args.prop c.args.place c.in_ok-place.place _
-        c.is_set.ensures next place
+    c.is_set.ensures next place
     c.in_ok-place.ensures.has c.in_ok-place.ensures.truth) c.in_ok-push.ensures.items
 
 pub returns-clause-place : goal.returns-clause-place
