@@ -1,4 +1,6 @@
 -- What is counted.
 pub mod AfterAll
+pub mod BodySums
 pub mod EdgeCounts
+pub mod PlainLabels
 pub mod Weights

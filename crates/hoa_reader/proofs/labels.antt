@@ -7,6 +7,8 @@ pub mod LinkedEdges
 pub mod MarksBelow
 pub mod Meanings
 pub mod MergedMarks
+pub mod RisingStates
 pub mod StartsAndMarks
 pub mod StatePlaces
+pub mod WrittenGuards
 pub mod WrittenLabels

@@ -6,5 +6,6 @@ pub mod Implicit
 pub mod PickedOut
 pub mod Places
 pub mod Rising
+pub mod Sums
 pub mod TreeEdges
 pub mod Weighing

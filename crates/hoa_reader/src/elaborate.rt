@@ -26,9 +26,12 @@ mod marks;
 mod parts;
 mod places;
 mod rules;
+mod shape;
 mod sizes;
 mod starts;
+mod sums;
 mod used;
+mod written;
 
 use aut_base::{Description, Limit, Memory};
 use aut_core::Automaton;

@@ -71,12 +71,16 @@ all_below n (s ∷ ss) all =
     let sum = length-append s.edges (all_edges ss) in
     omega (arith, here, rest, sum)
 
-pub edge_count : (w : Written) → IsKept V6 w → length (edges_of w) ≡ length (all_edges w.states)
-edge_count w kept =
+-- the states that are defined are below their number
+pub states_below : (w : Written) → IsKept V6 w → AllByRecursion (λ (s : WrittenState). s.number < state_count w) w.states
+states_below w kept =
     let n = state_count w in
     let P : ℕ → Type 0 = λ q. q < n in
     let numbers = map (λ (s : WrittenState). s.number) w.states in
     let goals = flat_map (λ (e : WrittenEdge). e.to) (edges_written w) in
     let used : AreBelow n (used_states w) = used_are_below (used_states w) (filter_map states_item w.items) kept in
     let others = AllByRecursion-right P (flat_map (λ (q : List ℕ). q) (starts_written w)) (numbers ++ goals) used in
-    counted_below w n ∙ all_below n w.states (AllByRecursion-from_map P (λ (s : WrittenState). s.number) w.states (AllByRecursion-left P numbers goals others))
+    AllByRecursion-from_map P (λ (s : WrittenState). s.number) w.states (AllByRecursion-left P numbers goals others)
+
+pub edge_count : (w : Written) → IsKept V6 w → length (edges_of w) ≡ length (all_edges w.states)
+edge_count w kept = counted_below w (state_count w) ∙ all_below (state_count w) w.states (states_below w kept)

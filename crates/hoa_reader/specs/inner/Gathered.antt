@@ -1,5 +1,5 @@
 -- What the rules speak of, picked out of what was written.
-use Rattle.std.specs.Prelude.{◌≡◌, map}
+use Rattle.std.specs.Prelude.{◌≡◌, false, length, map}
 use Rattle.std.specs.Option.{option_map_or}
 use Rattle.aut_base.specs.declared.limit.Limit.{Limit}
 use Rattle.aut_base.specs.declared.limit.Limit.TheVariants as limit
@@ -9,13 +9,15 @@ use Rattle.hoa_reader.specs.inner.PickedOut.{acceptance_def, alias_def, label_re
 use Rattle.hoa_parser.specs.Raw.{Written}
 use Rattle.hoa_reader.specs.Validity.{acceptance_of, alias_lines, body_labels, names_of, no_acceptance, starts_written, used_states}
 use Rattle.hoa_reader.specs.declared.elaborate.parts.Parts.{Parts}
+use Rattle.hoa_reader.specs.inner.Sums.{body_sums}
 
 pub record ArePartsOf (w : Written) (p : Parts) : Type 0 where
   pub names : p.names.now ≡ names_of w
   pub acceptance : option_map_or acceptance_def p.acceptance no_acceptance ≡ acceptance_of w
   pub defs : map alias_def p.defs.items ≡ alias_lines w
   pub starts : map (λ s. s.now) p.starts.items ≡ starts_written w
-  pub labels : map label_refs p.labels.items ≡ body_labels w
+  pub sums : p.sums ≡ body_sums (length (names_of w)) w.states
+  pub labels : p.sums.plain ≡ false → map label_refs p.labels.items ≡ body_labels w
   pub after : p.after ≡ after_all (used_states w)
 
 -- the limit on a count

@@ -4,14 +4,22 @@ use Rattle.std.specs.List.{AllByRecursion, enumerate_from}
 use Rattle.std.specs.Option.{option_map_or}
 use Rattle.aut_base.specs.Automaton.{TreeEdge}
 use Rattle.aut_base.specs.CanonicalLabel.{canonical_label}
-use Rattle.aut_base.specs.Label.{AllBelow, LabelTree}
+use Rattle.aut_base.specs.Label.{AllBelow, LabelTree, LabelTrees, trees}
 use Rattle.hoa_reader.specs.Described.{below, expanded, letter_label, marks_in_order, only_state}
 use Rattle.hoa_reader.specs.inner.Growing.{AreKnown, meanings_by}
-use Rattle.hoa_parser.specs.Raw.{RawTree, WrittenEdge, WrittenState}
+use Rattle.hoa_parser.specs.Raw.{RawTree, WrittenEdge, WrittenState, raw_list}
+use Rattle.hoa_parser.specs.declared.raw.RawLabels.{RawLabels}
 use Rattle.hoa_reader.specs.declared.elaborate.edges.Shared.{Shared}
 
 abbrev pub HasKnown : Shared → Type 0
 HasKnown x = AreKnown (meanings_by x.defs.items) x.defs.items x.known
+
+-- the label with its aliases replaced, and those of the parts of a conjunction or disjunction
+abbrev pub replaced : Shared → RawTree → LabelTree
+replaced x t = expanded (meanings_by x.defs.items) t
+
+abbrev pub parts_replaced : Shared → RawLabels → LabelTrees
+parts_replaced x parts = trees (map (replaced x) (raw_list parts))
 
 -- the label that is written for an edge
 abbrev pub label_due : Option RawTree → Option RawTree → Option RawTree

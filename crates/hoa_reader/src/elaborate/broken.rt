@@ -1,9 +1,10 @@
 //! The first rule that is broken.
 
 ghost use Rattle.std.specs.Prelude.{◌≡◌, IfOk, MatchOption};
+ghost use Rattle.std.specs.List.{list_all};
 ghost use Rattle.hoa_reader.specs.inner.Gathered.{ArePartsOf};
 ghost use Rattle.hoa_parser.specs.Raw.{written};
-ghost use Rattle.hoa_reader.specs.Validity.{IsFirstBroken, IsValid, keeps, names_single_states, propositions_have_names, sets_are_below};
+ghost use Rattle.hoa_reader.specs.Validity.{IsFirstBroken, IsValid, defines_its_aliases, keeps, marks_below, names_single_states, propositions_have_names, sets_are_below};
 
 use crate::Rule;
 use crate::elaborate::parts::Parts;
@@ -33,8 +34,19 @@ fn names_single_states(raw: &Raw, parts: &Parts<'_>) -> bool
     requires { ArePartsOf (written raw.now) parts.now }
     ensures { result ≡ names_single_states (written raw.now) }
 {
-    rules::start_in_single_states(&parts.starts)
-        && rules::all_lead_to_single_states(raw.states.as_slice())
+    rules::start_in_single_states(&parts.starts) && parts.sums.single
+}
+
+/// Whether no alias is defined twice, and each that is used is defined where it may be used. Where the body uses none, its labels
+/// aren't asked.
+fn defines_its_aliases<'a>(alloc: Global, raw: &'a Raw, parts: &Parts<'a>) -> Result<bool, Memory>
+    requires { ArePartsOf (written raw.now) parts.now }
+    ensures { IfOk result (λ kept. kept ≡ defines_its_aliases (written raw.now)) }
+{
+    if parts.sums.plain {
+        return leaves::are_defined(alloc, &parts.defs);
+    }
+    leaves::defines_aliases(alloc, &parts.defs, &parts.labels)
 }
 
 /// Whether every proposition has a name.
@@ -43,8 +55,15 @@ fn propositions_have_names(raw: &Raw, parts: &Parts<'_>) -> bool
     ensures { result ≡ propositions_have_names (written raw.now) }
 {
     let names = parts.names.len();
-    leaves::aliases_props_below(&parts.defs, names)
-        && leaves::labels_props_below(&parts.labels, names)
+    leaves::aliases_props_below(&parts.defs, names) && parts.sums.props <= names as u64
+}
+
+/// Whether the sets of each state and of its edges are below this number.
+fn marks_are_below(raw: &Raw, parts: &Parts<'_>, sets: u32) -> bool
+    requires { ArePartsOf (written raw.now) parts.now }
+    ensures { result ≡ list_all (marks_below sets) (written raw.now).states }
+{
+    parts.sums.marks <= u64::from(sets)
 }
 
 /// Whether every set is below their number.
@@ -55,9 +74,9 @@ fn sets_are_below(raw: &Raw, parts: &Parts<'_>) -> bool
     match &parts.acceptance {
         Some(acceptance) => {
             leaves::sets_below(acceptance.formula, acceptance.sets)
-                && rules::all_marks_are_below(raw.states.as_slice(), acceptance.sets)
+                && marks_are_below(raw, parts, acceptance.sets)
         }
-        None => rules::all_marks_are_below(raw.states.as_slice(), 0),
+        None => marks_are_below(raw, parts, 0),
     }
 }
 
@@ -75,12 +94,12 @@ fn keeps<'a>(alloc: Global, rule: Rule, raw: &'a Raw, parts: &Parts<'a>) -> Resu
         Rule::V4 => rules::all_names_agree(alloc, items),
         Rule::V5 => Ok(names_single_states(raw, parts)),
         Rule::V6 => Ok(rules::are_counted(items, parts.after)),
-        Rule::V7 => leaves::defines_aliases(alloc, &parts.defs, &parts.labels),
+        Rule::V7 => defines_its_aliases(alloc, raw, parts),
         Rule::V8 => Ok(propositions_have_names(raw, parts)),
         Rule::V9 => Ok(sets_are_below(raw, parts)),
         Rule::V10 => rules::numbers_differ(alloc, states),
-        Rule::V11 => Ok(rules::are_labelled_one_way(states)),
-        Rule::V12 => Ok(rules::have_edges_for_letters(states, parts.names.len())),
+        Rule::V11 => Ok(parts.sums.one_way),
+        Rule::V12 => Ok(parts.sums.letters),
     }
 }
 

@@ -1,33 +1,17 @@
 //! What the limits count.
 
-ghost use Rattle.std.specs.Prelude.{◌≡◌, ◌<◌, ◌+◌, nat_lt, length, map, MatchOption};
+ghost use Rattle.std.specs.Prelude.{◌≡◌, ◌<◌, ◌+◌, nat_lt, map, MatchOption};
 ghost use Rattle.std.specs.Option.{option_map, option_map_or};
 ghost use Rattle.hoa_reader.specs.inner.Growing.{capped_size, sizes_in};
 ghost use Rattle.hoa_reader.specs.inner.PickedOut.{label_refs};
 ghost use Rattle.hoa_parser.specs.Raw.{WrittenState, written_edge, written_state};
-ghost use Rattle.hoa_reader.specs.inner.Weighing.{all_edges, are_tall, counted, edge_counted, own_counted, state_counted};
+ghost use Rattle.hoa_reader.specs.inner.Weighing.{are_tall, counted, edge_counted, own_counted, state_counted};
 
 use crate::elaborate::aliases::{Known, growth_of};
 use crate::elaborate::leaves::has_no_alias;
 use crate::elaborate::places::Places;
 use aut_base::MOST_ALIASES;
 use hoa_parser::{RawEdge, RawLabel, RawState};
-
-/// Whether there are more edges than this.
-#[tactic(auto, using(crate::proofs::counting::Weights::edges_counted))]
-pub(crate) fn has_more_edges(states: &[RawState], most: usize) -> bool
-    ensures { result ≡ nat_lt most (length (all_edges (map written_state states.now))) }
-{
-    let mut left = most;
-    'states: for state in states {
-        let edges = state.edges.len();
-        if edges > left {
-            return true;
-        }
-        left -= edges;
-    }
-    false
-}
 
 /// Whether one of the labels is taller than may be once its aliases are replaced.
 pub(crate) fn are_tall<'a>(labels: &[&'a RawLabel], known: &Places<'a, Known>) -> bool

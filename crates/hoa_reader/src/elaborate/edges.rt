@@ -16,17 +16,17 @@ use crate::elaborate::labels::{expand, letter_label};
 use crate::elaborate::marks::marks_of_both;
 use crate::elaborate::parts::AliasDef;
 use crate::elaborate::places::Places;
-use crate::elaborate::sizes::count_of_edges;
 use crate::elaborate::starts::only_state;
 use aut_base::{Edge, Edges, Label, Marks, Memory};
 use hoa_parser::{RawEdge, RawLabel, RawState};
 use std::alloc::Global;
 
-/// What all edges share: the numbers of names and sets, and the aliases with what is known of each.
+/// What all edges share: the numbers of names, of sets and of edges, and the aliases with what is known of each.
 #[derive(Drop)]
 pub(crate) struct Shared<'a> {
     pub(crate) names: u32,
     pub(crate) sets: u32,
+    pub(crate) edges: usize,
     pub(crate) defs: Vec<AliasDef<'a>>,
     pub(crate) known: Places<'a, Known>,
 }
@@ -158,7 +158,7 @@ pub(crate) fn edges_of<'a>(
     ensures { IfOk result (λ edges. map tree_edge edges ≡ edges_for shared.now (map written_state states.now) count) }
 {
     let places = places_of(alloc, states, count)?;
-    let mut edges = Edges::from_vec(Vec::with_capacity(alloc, count_of_edges(states))?);
+    let mut edges = Edges::from_vec(Vec::with_capacity(alloc, shared.edges)?);
     'numbers: for number in 0..places.len() {
         let Some(place) = places[number] else {
             continue;

@@ -44,6 +44,7 @@ pub(crate) fn frame_of<'a>(
     let shared = Shared {
         names: parts.names.len() as u32,
         sets,
+        edges: parts.sums.edges,
         defs: parts.defs,
         known: examined.known,
     };

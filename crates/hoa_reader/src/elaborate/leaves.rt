@@ -141,18 +141,6 @@ fn have_no_alias(parts: &[RawLabel]) -> bool
     true
 }
 
-/// Whether each proposition of each label is below the number of names.
-pub(crate) fn labels_props_below(labels: &[&RawLabel], names: usize) -> bool
-    ensures { result ≡ list_all (props_below names) (map label_refs labels.now) }
-{
-    'labels: for label in labels {
-        if !props_below(label, names) {
-            return false;
-        }
-    }
-    true
-}
-
 /// Whether each proposition of each alias is below the number of names.
 pub(crate) fn aliases_props_below(defs: &[AliasDef<'_>], names: usize) -> bool
     ensures { result ≡ list_all (λ line. props_below names line.label) (map alias_def defs.now) }
@@ -179,6 +167,14 @@ fn defined<'a>(alloc: Global, defs: &[AliasDef<'a>]) -> Result<Option<Places<'a,
         }
     }
     Ok(Some(names))
+}
+
+/// Whether no alias is defined twice, and each that another uses is defined before.
+pub(crate) fn are_defined(alloc: Global, defs: &[AliasDef<'_>]) -> Result<bool, Memory>
+    ensures { IfOk result (λ kept. kept ≡ are_defined (map alias_def defs.now)) }
+{
+    let found = defined(alloc, defs)?;
+    Ok(found.is_some())
 }
 
 /// Whether no alias is defined twice, and each that is used is defined where it may be used.

@@ -1,41 +1,31 @@
 //! The edges of the described automaton, with guards in place of labels.
 
-ghost use Rattle.std.specs.Prelude.{◌≡◌, ◌==◌, ◌++◌, All, true, map, IfOk, OnOk};
-ghost use Rattle.std.specs.List.{list_all};
+ghost use Rattle.std.specs.Prelude.{◌≡◌, ◌<◌, ◌==◌, ◌++◌, All, true, flat_map, map, IfOk, OnOk};
+ghost use Rattle.std.specs.List.{AllByRecursion, list_all};
 ghost use Rattle.aut_base.specs.CanonicalLabel.{canonical_label};
-ghost use Rattle.aut_base.specs.Label.{AllBelow, label_tree};
+ghost use Rattle.aut_base.specs.Label.{AllBelow};
 ghost use Rattle.aut_core.specs.Core.{edge_of};
 ghost use Rattle.aut_core.specs.Links.{StandFor};
-ghost use Rattle.hoa_parser.specs.Raw.{written_edge, written_state};
+ghost use Rattle.hoa_parser.specs.Raw.{WrittenState, written_edge, written_state};
 ghost use Rattle.hoa_reader.specs.Validity.{all_differ, marks_below, numbers_below};
 ghost use Rattle.hoa_reader.specs.inner.PickedOut.{numbers};
 ghost use Rattle.hoa_reader.specs.inner.TreeEdges.{HasKnown, HasLabelsBelow, edges_for, label_for, settled, tree_edge_for, tree_edges_for};
 ghost use Rattle.label_guards.specs.Letters.{AreLetters};
 ghost use Rattle.label_guards.specs.Store.{Has, Keeps, label_in};
 
-use crate::elaborate::edges::{Shared, label_of, label_written, marks_of, places_of};
-use crate::elaborate::sizes::count_of_edges;
+use crate::elaborate::edges::{Shared, label_written, marks_of, places_of};
+use crate::elaborate::rules::numbers_rise;
 use crate::elaborate::starts::only_state;
-use aut_base::{Label, Memory};
+use crate::elaborate::written::guard_written;
+use aut_base::Memory;
 use aut_core::{Link, Links};
 use hoa_parser::{RawEdge, RawState};
 use label_guards::{Guard, Guards, Letters};
 use std::alloc::Global;
 
-/// The guard of this label, which is let go.
-fn guard_taken(guards: &mut Guards, label: Label) -> Result<Guard, Memory>
-    requires { AllBelow guards.old.names (label_tree label) }
-    ensures keeps { Keeps guards.old guards.new }
-    ensures has { IfOk result (Has guards.new) }
-    ensures label { IfOk result (λ new. label_in guards.new new ≡ canonical_label guards.old.names (label_tree label)) }
-{
-    guards.of_label(&label)
-}
-
 /// The guard of the edge that stands at this place in its state. Where no label is written it is made from the letter's number,
-/// without a label and beside that of the letter before.
+/// beside that of the letter before.
 fn guard_of<'a>(
-    alloc: Global,
     guards: &mut Guards,
     letters: &mut Letters,
     shared: &Shared<'a>,
@@ -52,11 +42,10 @@ fn guard_of<'a>(
     ensures has { IfOk result (Has guards.new) }
     ensures label { IfOk result (λ new. label_in guards.new new ≡ canonical_label guards.old.names (label_for shared.now (written_state state.now) letter (written_edge edge.now))) }
 {
-    if label_written(state, edge).is_none() {
-        return letters.guard(guards, letter);
+    match label_written(state, edge) {
+        Some(label) => guard_written(guards, shared, label),
+        None => letters.guard(guards, letter),
     }
-    let label = label_of(alloc, shared, state, edge, letter)?;
-    guard_taken(guards, label)
 }
 
 /// The edge that stands at this place in its state, under its guard.
@@ -82,7 +71,7 @@ fn link_of<'a>(
 {
     Ok(Link {
         from: state.number,
-        guard: guard_of(alloc, guards, letters, shared, state, edge, letter)?,
+        guard: guard_of(guards, letters, shared, state, edge, letter)?,
         to: only_state(&edge.to),
         marks: marks_of(alloc, shared.sets, state, edge)?,
     })
@@ -116,8 +105,53 @@ fn add_links<'a>(
     Ok(())
 }
 
-/// The edges, in the order of the states that they leave.
+/// The edges of the states, in the order in which these stand.
+fn links_in_turn<'a>(
+    alloc: Global,
+    guards: &mut Guards,
+    shared: &Shared<'a>,
+    states: &'a [RawState],
+) -> Result<Links, Memory>
+    requires known { HasKnown shared.now }
+    requires names { guards.old.names ≡ shared.now.names }
+    requires marks { list_all (marks_below shared.now.sets) (map written_state states.now) ≡ true }
+    requires below { All (HasLabelsBelow shared.now guards.old.names) (map written_state states.now) }
+    ensures names { guards.new.names ≡ guards.old.names }
+    ensures stand { IfOk result (λ links. StandFor guards.new links (map (settled guards.old.names) (flat_map (tree_edges_for shared.now) (map written_state states.now)))) }
+{
+    let mut links = Links::from_vec(Vec::with_capacity(alloc, shared.edges)?);
+    let mut letters = Letters::new(alloc);
+    'states: for state in states {
+        add_links(alloc, guards, &mut letters, &mut links, shared, state)?;
+    }
+    Ok(links)
+}
+
+/// The edges, in the order of the states that they leave. Numbers mostly rise, so that no place of a state is looked for.
 pub(crate) fn links_of<'a>(
+    alloc: Global,
+    guards: &mut Guards,
+    shared: &Shared<'a>,
+    states: &'a [RawState],
+    count: u32,
+) -> Result<Links, Memory>
+    requires known { HasKnown shared.now }
+    requires names { guards.old.names ≡ shared.now.names }
+    requires differ { all_differ ◌==◌ (numbers (map written_state states.now)) ≡ true }
+    requires within { AllByRecursion (λ (s : WrittenState). s.number < count) (map written_state states.now) }
+    requires marks { list_all (marks_below shared.now.sets) (map written_state states.now) ≡ true }
+    requires below { All (HasLabelsBelow shared.now guards.old.names) (map written_state states.now) }
+    ensures names { guards.new.names ≡ guards.old.names }
+    ensures stand { IfOk result (λ links. StandFor guards.new links (map (settled guards.old.names) (edges_for shared.now (map written_state states.now) count))) }
+{
+    if numbers_rise(states) {
+        return links_in_turn(alloc, guards, shared, states);
+    }
+    links_by_places(alloc, guards, shared, states, count)
+}
+
+/// The same, whatever order the states stand in.
+fn links_by_places<'a>(
     alloc: Global,
     guards: &mut Guards,
     shared: &Shared<'a>,
@@ -133,7 +167,7 @@ pub(crate) fn links_of<'a>(
     ensures stand { IfOk result (λ links. StandFor guards.new links (map (settled guards.old.names) (edges_for shared.now (map written_state states.now) count))) }
 {
     let places = places_of(alloc, states, count)?;
-    let mut links = Links::from_vec(Vec::with_capacity(alloc, count_of_edges(states))?);
+    let mut links = Links::from_vec(Vec::with_capacity(alloc, shared.edges)?);
     let mut letters = Letters::new(alloc);
     'numbers: for number in 0..places.len() {
         let Some(place) = places[number] else {

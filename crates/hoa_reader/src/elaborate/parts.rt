@@ -1,14 +1,14 @@
 //! What the rules speak of, picked out of what was read.
 
-ghost use Rattle.std.specs.Prelude.{◌≡◌, [], ◌++◌, map, flat_map, filter_map, get_or, option_to_list, IfOk, OnOk};
+ghost use Rattle.std.specs.Prelude.{◌≡◌, [], ◌++◌, false, map, flat_map, filter_map, get_or, option_to_list, IfOk, OnOk};
 ghost use Rattle.std.specs.Option.{option_map, option_map_or};
 ghost use Rattle.hoa_reader.specs.inner.Gathered.{ArePartsOf};
 ghost use Rattle.hoa_parser.specs.Raw.{raw_tree, written, written_edge, written_item, written_state};
 ghost use Rattle.hoa_reader.specs.Validity.{acceptance_item, alias_item, names_item, no_acceptance, start_item, states_item, state_labels};
 ghost use Rattle.hoa_reader.specs.inner.PickedOut.{alias_def, acceptance_def, label_refs, list_of};
 
-use crate::elaborate::sizes::count_of_edges;
-use crate::elaborate::used::after_used;
+use crate::elaborate::sums::{Sums, body_sums};
+use crate::elaborate::used::after_starts;
 use aut_base::{FewNumbers, Formula, Memory, Text};
 use hoa_lexer::Name;
 use hoa_parser::{Item, Raw, RawEdge, RawLabel, RawState};
@@ -101,12 +101,26 @@ pub(crate) fn starts_of(alloc: Global, items: &[Item]) -> Result<Vec<&FewNumbers
 pub(crate) fn labels_of(alloc: Global, states: &[RawState]) -> Result<Vec<&RawLabel>, Memory>
     ensures { IfOk result (λ labels. map label_refs labels.items ≡ flat_map state_labels (map written_state states.now)) }
 {
-    let mut labels = Vec::with_capacity(alloc, count_of_edges(states))?;
+    let mut labels = Vec::new(alloc);
     'states: for state in states {
         add_label(&mut labels, &state.label)?;
         add_labels(&mut labels, state.edges.as_slice())?;
     }
     Ok(labels)
+}
+
+/// The labels of states and edges, in order, but none where no alias stands in them: nothing asks for these.
+fn labels_with_aliases(
+    alloc: Global,
+    states: &[RawState],
+    plain: bool,
+) -> Result<Vec<&RawLabel>, Memory>
+    ensures { IfOk result (λ labels. plain ≡ false → map label_refs labels.items ≡ flat_map state_labels (map written_state states.now)) }
+{
+    if plain {
+        return Ok(Vec::new(alloc));
+    }
+    labels_of(alloc, states)
 }
 
 /// Adds the labels of these edges.
@@ -137,7 +151,9 @@ pub(crate) struct Parts<'a> {
     pub(crate) acceptance: Option<AcceptanceDef<'a>>,
     pub(crate) defs: Vec<AliasDef<'a>>,
     pub(crate) starts: Vec<&'a FewNumbers>,
-    /// The labels of states and edges.
+    /// What one pass over the body tells.
+    pub(crate) sums: Sums,
+    /// The labels of states and edges, where an alias stands in one.
     pub(crate) labels: Vec<&'a RawLabel>,
     /// The least number that is above every number of a state.
     pub(crate) after: u64,
@@ -148,14 +164,18 @@ pub(crate) fn parts_of(alloc: Global, raw: &Raw) -> Result<Parts<'_>, Memory>
     ensures { IfOk result (ArePartsOf (written raw.now)) }
 {
     let items = raw.items.as_slice();
+    let states = raw.states.as_slice();
+    let names = names_of(items);
     let starts = starts_of(alloc, items)?;
-    let after = after_used(starts.as_slice(), raw.states.as_slice());
+    let sums = body_sums(states, names.len());
+    let after = after_starts(starts.as_slice(), sums.after);
     Ok(Parts {
-        names: names_of(items),
+        names,
         acceptance: acceptance_of(items),
         defs: aliases_of(alloc, items)?,
         starts,
-        labels: labels_of(alloc, raw.states.as_slice())?,
+        sums,
+        labels: labels_with_aliases(alloc, states, sums.plain)?,
         after,
     })
 }

@@ -1,18 +1,17 @@
-//! The rules that speak of a few lines, or of one state at a time.
+//! The rules that speak of a few lines, or of the numbers of states.
 
-ghost use Rattle.std.specs.Prelude.{◌≡◌, ℕ, ◌==◌, ◌^◌, codes, count_by, filter_map, is_none, is_some, nat_le, not, map, IfOk};
+ghost use Rattle.std.specs.Prelude.{◌≡◌, ℕ, ◌==◌, ◌^◌, codes, count_by, filter_map, nat_le, not, map, IfOk};
 ghost use Rattle.std.specs.List.{list_all};
 ghost use Rattle.hoa_reader.specs.inner.PickedOut.{is_line, lines_once, numbers};
 ghost use Rattle.hoa_reader.specs.inner.Rising.{rises_from};
-ghost use Rattle.hoa_parser.specs.Raw.{written_edge, written_item, written_state};
+ghost use Rattle.hoa_parser.specs.Raw.{written_item, written_state};
 ghost use Rattle.aut_base.specs.Text.{same_text};
-ghost use Rattle.hoa_reader.specs.Validity.{all_differ, begins_with_capital, has_edge_per_letter, is_one_state, labels_one_way};
-ghost use Rattle.hoa_reader.specs.Validity.{marks_below, may_be_passed_over, names_agree, numbers_below, states_item};
+ghost use Rattle.hoa_reader.specs.Validity.{all_differ, begins_with_capital, is_one_state, may_be_passed_over, names_agree, states_item};
 
 use crate::elaborate::places::Places;
 use aut_base::{FewNumbers, Memory, Text};
 use hoa_lexer::Name;
-use hoa_parser::{Item, RawEdge, RawState};
+use hoa_parser::{Item, RawState};
 use std::alloc::Global;
 use std::collections::BTreeSet;
 
@@ -135,7 +134,7 @@ pub(crate) fn texts_differ(alloc: Global, texts: &[Text]) -> Result<bool, Memory
 }
 
 /// Whether the numbers of the states rise.
-fn numbers_rise(states: &[RawState]) -> bool
+pub(crate) fn numbers_rise(states: &[RawState]) -> bool
     ensures { result ≡ rises_from 0 (numbers (map written_state states.now)) }
 {
     let mut least = 0;
@@ -211,108 +210,6 @@ pub(crate) fn start_in_single_states(starts: &[&FewNumbers]) -> bool
     true
 }
 
-/// Whether each edge of the state leads to one state.
-fn lead_to_single_states(edges: &[RawEdge]) -> bool
-    ensures { result ≡ list_all (λ e. is_one_state e.to) (map written_edge edges.now) }
-{
-    'edges: for edge in edges {
-        if edge.to.len() != 1 {
-            return false;
-        }
-    }
-    true
-}
-
-/// Whether each edge of each state leads to one state.
-pub(crate) fn all_lead_to_single_states(states: &[RawState]) -> bool
-    ensures { result ≡ list_all (λ s. list_all (λ e. is_one_state e.to) s.edges) (map written_state states.now) }
-{
-    'states: for state in states {
-        if !lead_to_single_states(state.edges.as_slice()) {
-            return false;
-        }
-    }
-    true
-}
-
-/// Whether all of these are below the number.
-fn are_below(numbers: &[u32], count: u32) -> bool
-    ensures { result ≡ numbers_below count numbers.now }
-{
-    numbers.iter().all(|number| *number < count)
-}
-
-/// Whether the sets of the state and of its edges are below their number.
-fn marks_are_below(state: &RawState, sets: u32) -> bool
-    ensures { result ≡ marks_below sets (written_state state.now) }
-{
-    if !are_below(state.marks.as_slice(), sets) {
-        return false;
-    }
-    'edges: for edge in state.edges.as_slice() {
-        if !are_below(edge.marks.as_slice(), sets) {
-            return false;
-        }
-    }
-    true
-}
-
-/// Whether the sets of each state and of its edges are below their number.
-pub(crate) fn all_marks_are_below(states: &[RawState], sets: u32) -> bool
-    ensures { result ≡ list_all (marks_below sets) (map written_state states.now) }
-{
-    'states: for state in states {
-        if !marks_are_below(state, sets) {
-            return false;
-        }
-    }
-    true
-}
-
-/// Whether each of these edges has a label.
-fn all_labelled(edges: &[RawEdge]) -> bool
-    ensures { result ≡ list_all (λ e. is_some e.label) (map written_edge edges.now) }
-{
-    'edges: for edge in edges {
-        if edge.label.is_none() {
-            return false;
-        }
-    }
-    true
-}
-
-/// Whether none of these edges has a label.
-pub(crate) fn none_labelled(edges: &[RawEdge]) -> bool
-    ensures { result ≡ list_all (λ e. is_none e.label) (map written_edge edges.now) }
-{
-    'edges: for edge in edges {
-        if edge.label.is_some() {
-            return false;
-        }
-    }
-    true
-}
-
-/// Whether the state or all of its edges have labels, and not both.
-fn is_labelled_one_way(state: &RawState) -> bool
-    ensures { result ≡ labels_one_way (written_state state.now) }
-{
-    none_labelled(state.edges.as_slice())
-        || (state.label.is_none() && all_labelled(state.edges.as_slice()))
-}
-
-/// Whether each state is labelled one way.
-pub(crate) fn are_labelled_one_way(states: &[RawState]) -> bool
-    ensures { result ≡ list_all labels_one_way (map written_state states.now) }
-{
-    'states: for state in states {
-        if !is_labelled_one_way(state) {
-            return false;
-        }
-    }
-    true
-}
-
 /// Whether the number is 2 to the power of the other.
 pub(crate) fn is_power(number: usize, exponent: usize) -> bool
     ensures { result ≡ (number == 2 ^ exponent) }
@@ -321,29 +218,6 @@ pub(crate) fn is_power(number: usize, exponent: usize) -> bool
         return false;
     }
     number as u64 == 1 << exponent
-}
-
-/// Whether the state has a label, no edges, or one for each letter over this many names.
-fn has_edges_for_letters(state: &RawState, names: usize) -> bool
-    ensures { result ≡ has_edge_per_letter names (written_state state.now) }
-{
-    let edges = state.edges.len();
-    edges == 0
-        || (is_power(edges, names)
-            || !(state.label.is_none() && none_labelled(state.edges.as_slice())))
-}
-
-// Why so: 'V12 compares with the true 2^n' in docs/DECISIONS.md.
-/// Whether each state has a label, no edges, or one for each letter over this many names.
-pub(crate) fn have_edges_for_letters(states: &[RawState], names: usize) -> bool
-    ensures { result ≡ list_all (has_edge_per_letter names) (map written_state states.now) }
-{
-    'states: for state in states {
-        if !has_edges_for_letters(state, names) {
-            return false;
-        }
-    }
-    true
 }
 
 /// Whether each `States:` line has this number or a greater one.

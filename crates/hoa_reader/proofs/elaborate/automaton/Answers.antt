@@ -1,13 +1,15 @@
-use Rattle.std.proofs.Common.{◌∙◌, All, List, ap, arith, length, map, subst, sym}
+use Rattle.std.proofs.Common.{◌∙◌, ◌<◌, All, List, ap, arith, length, map, subst, sym}
 use Rattle.std.proofs.lemmas.Result.{IfOk-weaker}
-use Rattle.std.specs.List.{list_all}
+use Rattle.std.specs.List.{AllByRecursion, list_all}
 use Rattle.aut_core.specs.Core.{automaton_of}
 use Rattle.aut_core.specs.Deterministic.{GoesOneWay}
-use Rattle.hoa_parser.specs.Raw.{written, written_state}
+use Rattle.hoa_parser.specs.Raw.{WrittenState, written, written_state}
 use Rattle.hoa_parser.specs.declared.raw.RawState.{RawState}
+use Rattle.hoa_reader.proofs.counting.EdgeCounts.{states_below}
 use Rattle.hoa_reader.proofs.description.Built.{are_links, built, built_parts, few_names}
 use Rattle.hoa_reader.proofs.description.Framed.{framed_labels, framed_marks}
 use Rattle.hoa_reader.proofs.description.OneWay.{implicit_in, one_way}
+use Rattle.hoa_reader.specs.Described.{state_count}
 use Rattle.hoa_reader.specs.Validity.{marks_below, names_of}
 use Rattle.hoa_reader.specs.inner.TreeEdges.{HasLabelsBelow}
 use Rattle.hoa_reader.proofs.elaborate.automaton.Goals as goal
@@ -20,6 +22,14 @@ new-requires c =
 
 pub links_of-requires-clause-names : goal.links_of-requires-clause-names
 links_of-requires-clause-names c = c.in_ok-guards.ensures.names
+
+pub links_of-requires-clause-within : goal.links_of-requires-clause-within
+links_of-requires-clause-within c =
+    let w = written c.args.raw.now in
+    let frame = c.in_ok-frame.frame in
+    subst (λ n. AllByRecursion (λ (s : WrittenState). s.number < n) (map written_state c.as_slice-states.result.now)) (sym c.in_ok-frame.ensures.states)
+    (subst (λ (ss : List RawState). AllByRecursion (λ (s : WrittenState). s.number < state_count w) (map written_state ss)) (sym c.as_slice-states.ensures)
+    (states_below w c.requires.valid.1.1.1.1.1.0))
 
 pub links_of-requires-clause-marks : goal.links_of-requires-clause-marks
 links_of-requires-clause-marks c =

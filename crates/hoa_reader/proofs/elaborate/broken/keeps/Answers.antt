@@ -2,6 +2,8 @@ use Rattle.std.proofs.Common.{map, List, ap, sym, ◌∙◌, nat_le}
 use Rattle.std.specs.Prelude.{filter_map}
 use Rattle.std.specs.List.{list_all}
 use Rattle.hoa_reader.proofs.counting.AfterAll.{numbers_below-after}
+use Rattle.hoa_reader.proofs.counting.BodySums.{body_letters, body_one_way}
+use Rattle.hoa_reader.specs.declared.elaborate.sums.Sums.{Sums}
 use Rattle.hoa_parser.specs.Raw.{written, written_item}
 use Rattle.hoa_reader.specs.Validity.{keeps, numbers_below, states_item, used_states}
 use Rattle.hoa_reader.specs.declared.elaborate.Rule.{Rule}
@@ -17,3 +19,13 @@ returns-in-V6 c =
     ∙ ap (λ n. list_all (nat_le n) (filter_map states_item w.items)) c.requires.after
     ∙ list_all-same (nat_le _) (λ n. numbers_below n (used_states w)) (λ n. sym (numbers_below-after n (used_states w))) (filter_map states_item w.items)
     ∙ ap (λ (r : Rule). keeps r w) (sym c.in-V6.is)
+
+pub returns-in-V11 : goal.returns-in-V11
+returns-in-V11 c =
+    let w = written c.args.raw.now in
+    ap (λ (s : Sums). s.one_way) c.requires.sums ∙ sym (body_one_way _ w.states) ∙ ap (λ (r : Rule). keeps r w) (sym c.in-V11.is)
+
+pub returns-in-V12 : goal.returns-in-V12
+returns-in-V12 c =
+    let w = written c.args.raw.now in
+    ap (λ (s : Sums). s.letters) c.requires.sums ∙ sym (body_letters _ w.states) ∙ ap (λ (r : Rule). keeps r w) (sym c.in-V12.is)

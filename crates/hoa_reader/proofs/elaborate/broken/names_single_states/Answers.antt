@@ -1,9 +1,10 @@
 use Rattle.std.proofs.Common.{◌≡◌, ◌&&◌, true, map, List, ℕ, ap, sym, ◌∙◌}
 use Rattle.std.specs.Borrow.{Bor}
 use Rattle.std.specs.List.{list_all}
-use Rattle.hoa_parser.specs.Raw.{WrittenEdge, WrittenState, written, written_state}
+use Rattle.hoa_parser.specs.Raw.{WrittenEdge, WrittenState, written}
 use Rattle.hoa_reader.specs.Validity.{edges_written, is_one_state, starts_written}
-use Rattle.hoa_parser.specs.declared.raw.RawState.{RawState}
+use Rattle.hoa_reader.proofs.counting.BodySums.{body_single}
+use Rattle.hoa_reader.specs.declared.elaborate.sums.Sums.{Sums}
 use Rattle.hoa_reader.proofs.elaborate.broken.names_single_states.Goals as goal
 use Rattle.aut_base.proofs.lists.Lists.{list_all-flat_map}
 
@@ -12,7 +13,7 @@ returns-then-start_in_single_states c =
     let w = written c.args.raw.now in
     let starts : list_all is_one_state (starts_written w) ≡ true =
     ap (list_all is_one_state) (sym (ap (map (λ (s : Bor (List ℕ)). s.now)) c.deref.ensures.value ∙ c.requires.starts)) ∙ sym c.start_in_single_states.ensures ∙ c.if-start_in_single_states.true in
-    c.all_lead_to_single_states.ensures
-    ∙ ap (λ (ss : List RawState). list_all (λ (s : WrittenState). list_all (λ (e : WrittenEdge). is_one_state e.to) s.edges) (map written_state ss)) c.as_slice.ensures
+    ap (λ (s : Sums). s.single) c.requires.sums
+    ∙ sym (body_single _ w.states)
     ∙ sym (list_all-flat_map (λ (e : WrittenEdge). is_one_state e.to) (λ (s : WrittenState). s.edges) w.states)
     ∙ ap (λ b. b && list_all (λ (e : WrittenEdge). is_one_state e.to) (edges_written w)) (sym starts)

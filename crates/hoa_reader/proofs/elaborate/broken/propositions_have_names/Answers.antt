@@ -1,7 +1,9 @@
-use Rattle.std.proofs.Common.{◌≡◌, ◌&&◌, true, map, List, ap, sym, ◌∙◌, length}
+use Rattle.std.proofs.Common.{◌≡◌, ◌&&◌, true, map, ap, sym, ◌∙◌, length, nat_le}
 use Rattle.std.specs.List.{list_all}
-use Rattle.hoa_reader.specs.inner.PickedOut.{alias_def, label_refs}
-use Rattle.hoa_parser.specs.Raw.{RawTree, written}
+use Rattle.hoa_reader.proofs.counting.BodySums.{body_props}
+use Rattle.hoa_reader.specs.declared.elaborate.sums.Sums.{Sums}
+use Rattle.hoa_reader.specs.inner.PickedOut.{alias_def}
+use Rattle.hoa_parser.specs.Raw.{written}
 use Rattle.hoa_reader.specs.Validity.{AliasLine, alias_lines, body_labels, names_of, props_below}
 use Rattle.hoa_reader.proofs.elaborate.broken.propositions_have_names.Goals as goal
 
@@ -13,7 +15,7 @@ returns-then-aliases_props_below c =
     let aliases : list_all (λ (line : AliasLine). props_below n line.label) (alias_lines w) ≡ true =
     ap (list_all (λ (line : AliasLine). props_below n line.label)) (sym (ap (map alias_def) c.deref.ensures.value ∙ c.requires.defs)) ∙ sym c.aliases_props_below.ensures
     ∙ c.if-aliases_props_below.true in
-    c.labels_props_below.ensures
-    ∙ ap (λ (ts : List RawTree). list_all (props_below n) ts) (ap (map label_refs) c.deref-then-aliases_props_below.ensures.value ∙ c.requires.labels)
+    ap (λ (s : Sums). nat_le s.props n) c.requires.sums
+    ∙ sym (body_props _ n w.states)
     ∙ ap (λ b. b && list_all (props_below n) (body_labels w)) (sym aliases)
     ∙ ap (λ m. list_all (λ (line : AliasLine). props_below m line.label) (alias_lines w) && list_all (props_below m) (body_labels w)) count

@@ -1,13 +1,11 @@
-use Rattle.std.proofs.Common.{◌≡◌, ◌∙◌, ℕ, false, nat_lt, length, map, List, refl, sym, ap, arith}
+use Rattle.std.proofs.Common.{◌≡◌, ◌∙◌, ℕ, false, nat_lt, length, List, refl, sym, ap, arith}
 use Rattle.std.proofs.lemmas.Bool.Decides.{nat_tests}
 use Rattle.aut_base.specs.declared.limit.TheConstants.{MOST_NAMES, MOST_SETS, MOST_EDGES, MOST_STATES}
 use Rattle.hoa_reader.proofs.counting.EdgeCounts.{edge_count}
 use Rattle.hoa_reader.specs.Counts.{Edges, Aliases}
-use Rattle.hoa_parser.specs.Raw.{written, written_state}
+use Rattle.hoa_parser.specs.Raw.{written}
 use Rattle.hoa_reader.specs.Validity.{acceptance_of, names_of}
 use Rattle.hoa_reader.specs.Described.{edges_of, state_count}
-use Rattle.hoa_reader.specs.inner.Weighing.{all_edges}
-use Rattle.hoa_parser.specs.declared.raw.RawState.{RawState}
 use Rattle.hoa_reader.proofs.elaborate.limits.first_passed.Goals as goal
 use Rattle.hoa_reader.proofs.elaborate.limits.first_passed.Goals.{After-has_more_edges}
 
@@ -20,8 +18,7 @@ counted c =
     let sets : nat_lt MOST_SETS (acceptance_of w).sets ≡ false = ap (nat_lt MOST_SETS) (sym c.set_count.ensures) ∙ grind (arith, nat_tests) in
     let states : nat_lt MOST_STATES (state_count w) ≡ false = ap (nat_lt MOST_STATES) (sym c.state_count.ensures) ∙ grind (arith, nat_tests) in
     let edges : c.has_more_edges.result ≡ nat_lt MOST_EDGES (length (edges_of w)) =
-    c.has_more_edges.ensures ∙ ap (λ (ss : List RawState). nat_lt MOST_EDGES (length (all_edges (map written_state ss)))) c.as_slice.ensures
-    ∙ ap (nat_lt MOST_EDGES) (sym (edge_count w c.requires.below)) in
+    c.has_more_edges.ensures ∙ ap (nat_lt MOST_EDGES) (sym (edge_count w c.requires.below)) in
     (names, sets, states, edges)
 
 pub returns-then-has_more_edges : goal.returns-then-has_more_edges

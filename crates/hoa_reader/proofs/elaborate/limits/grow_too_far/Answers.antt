@@ -6,14 +6,12 @@ use Rattle.hoa_reader.specs.Counts.{Aliases, count_of, greatest, height, weight}
 use Rattle.hoa_reader.specs.Described.{Meaning, expanded, meanings_after, meanings_of}
 use Rattle.hoa_reader.specs.inner.Gathered.{ArePartsOf}
 use Rattle.hoa_reader.specs.inner.Growing.{AreKnown, cap, meanings_by}
-use Rattle.hoa_reader.specs.inner.PickedOut.{label_refs}
-use Rattle.hoa_parser.specs.Raw.{RawTree, Written, WrittenState, written, written_state}
+use Rattle.hoa_parser.specs.Raw.{RawTree, Written, WrittenState, written}
 use Rattle.hoa_reader.specs.Validity.{body_labels}
 use Rattle.hoa_reader.specs.inner.Weighing.{are_tall, counted}
 use Rattle.hoa_reader.specs.declared.elaborate.aliases.Known.{Known}
 use Rattle.hoa_reader.specs.declared.elaborate.parts.Parts.{Parts}
 use Rattle.hoa_reader.specs.declared.elaborate.places.Places.{Places}
-use Rattle.hoa_parser.specs.declared.raw.RawState.{RawState}
 use Rattle.hoa_reader.proofs.elaborate.limits.grow_too_far.Goals as goal
 
 grows : (w : Written) (p : Parts) (known : Places Known) (tall heavy : Bool) → ArePartsOf w p → AreKnown (meanings_by p.defs.items) p.defs.items known → tall ≡ are_tall known (body_labels w)
@@ -26,20 +24,18 @@ grows w p known tall heavy parts all t h =
     either_passes (greatest (map (λ (t : RawTree). height (expanded (meanings_of w) t)) (body_labels w))) (weight w) (counted known w.states) tall heavy
     (t ∙ tall_law ms p.defs.items known all (body_labels w) ∙ ap (λ ms. nat_lt MOST_ALIASES (greatest (map (λ (t : RawTree). height (expanded ms t)) (body_labels w)))) same) h law
 
-pub returns-then-are_tall : goal.returns-then-are_tall
-returns-then-are_tall c =
+pub returns-then-is_tall : goal.returns-then-is_tall
+returns-then-is_tall c =
     let w = written c.args.raw.now in
     let known = c.args.known.now in
-    let tall : true ≡ are_tall known (body_labels w) = sym c.if-are_tall.true ∙ c.are_tall.ensures ∙ ap (are_tall known) (ap (map label_refs) c.deref.ensures.value ∙ c.requires.parts.labels) in
+    let tall : true ≡ are_tall known (body_labels w) = sym c.if-is_tall.true ∙ c.is_tall.ensures in
     grows w c.args.parts.now known true (nat_lt 16785407 (counted known w.states)) c.requires.parts c.requires.known tall refl
 
 pub returns : goal.returns
 returns c =
     let w = written c.args.raw.now in
     let known = c.args.known.now in
-    let tall : false ≡ are_tall known (body_labels w) = sym c.if-are_tall.false ∙ c.are_tall.ensures ∙ ap (are_tall known) (ap (map label_refs) c.deref.ensures.value ∙ c.requires.parts.labels) in
+    let tall : false ≡ are_tall known (body_labels w) = sym c.if-is_tall.false ∙ c.is_tall.ensures in
     let most : (c.from.result + 1) * 8192 - 1 ≡ 16785407 = omega (arith, c.from.ensures) in
-    let heavy : c.are_heavy.result ≡ nat_lt 16785407 (counted known w.states) =
-    c.are_heavy.ensures ∙ ap (λ n. nat_lt n (counted known (map written_state c.as_slice.result.now))) most
-    ∙ ap (λ (ss : List RawState). nat_lt 16785407 (counted known (map written_state ss))) c.as_slice.ensures in
-    grows w c.args.parts.now known false c.are_heavy.result c.requires.parts c.requires.known tall heavy
+    let heavy : c.is_heavy.result ≡ nat_lt 16785407 (counted known w.states) = c.is_heavy.ensures ∙ ap (λ n. nat_lt n (counted known w.states)) most in
+    grows w c.args.parts.now known false c.is_heavy.result c.requires.parts c.requires.known tall heavy

@@ -1,44 +1,50 @@
-use Rattle.std.proofs.Common.{◌≡◌, ◌∙◌, Option, None, Some, ap, false, not, refl, subst, sym}
-use Rattle.std.proofs.lemmas.Bool.{true≢false}
+use Rattle.std.proofs.Common.{◌≡◌, ◌∙◌, ap, subst, sym}
 use Rattle.std.proofs.lemmas.Result.{IfOk-weaker}
 use Rattle.std.specs.Option.{option_map}
-use Rattle.std.specs.Prelude.{is_some}
 use Rattle.aut_base.specs.CanonicalLabel.{canonical_label}
-use Rattle.aut_base.specs.Label.{AllBelow, truth}
+use Rattle.aut_base.specs.Label.{AllBelow, LabelTree, truth}
 use Rattle.hoa_parser.specs.Raw.{written_edge, written_state}
 use Rattle.hoa_reader.proofs.labels.LetterTruth.{letter_truth}
-use Rattle.hoa_reader.proofs.labels.WrittenLabels.{has_none}
+use Rattle.hoa_reader.proofs.labels.WrittenGuards.{canonical_guard}
+use Rattle.hoa_reader.proofs.labels.WrittenLabels.{has_none, has_written}
 use Rattle.hoa_reader.specs.inner.PickedOut.{label_refs}
-use Rattle.hoa_reader.specs.inner.TreeEdges.{label_for}
+use Rattle.hoa_reader.specs.inner.TreeEdges.{label_for, replaced}
 use Rattle.label_guards.specs.Numbers.{is_at}
 use Rattle.label_guards.proofs.labelled.Lasts.{letters_kept}
 use Rattle.hoa_reader.proofs.elaborate.links.guard_of.Goals as goal
 
-nothing : {A : Type 0} (o : Option A) → is_some o ≡ false → o ≡ None
-nothing None is = refl
-nothing (Some x) is = absurd (true≢false is)
+pub guard_written-requires-clause-below : goal.guard_written-requires-clause-below
+guard_written-requires-clause-below c =
+    let x = c.args.shared.now in
+    let due : replaced x (label_refs c.in-Some.label) ≡ label_for x (written_state c.args.state.now) c.args.letter (written_edge c.args.edge.now) =
+    has_written x (written_state c.args.state.now) c.args.letter (written_edge c.args.edge.now) (label_refs c.in-Some.label)
+    (sym c.label_written.ensures ∙ ap (option_map label_refs) c.in-Some.is) in
+    subst (AllBelow c.args.guards.now.names) (sym due) c.requires.below
 
-pub returns-then-is_none-clause-has : goal.returns-then-is_none-clause-has
-returns-then-is_none-clause-has c = IfOk-weaker c.guard.result _ _ (λ g is. is.has) c.guard.ensures.guard
+pub returns-in-Some-clause-has : goal.returns-in-Some-clause-has
+returns-in-Some-clause-has c = IfOk-weaker c.guard_written.result _ _ (λ g is. is.has) c.guard_written.ensures.guard
 
-pub returns-then-is_none-clause-label : goal.returns-then-is_none-clause-label
-returns-then-is_none-clause-label c =
+pub returns-in-Some-clause-label : goal.returns-in-Some-clause-label
+returns-in-Some-clause-label c =
+    let x = c.args.shared.now in
+    let due : replaced x (label_refs c.in-Some.label) ≡ label_for x (written_state c.args.state.now) c.args.letter (written_edge c.args.edge.now) =
+    has_written x (written_state c.args.state.now) c.args.letter (written_edge c.args.edge.now) (label_refs c.in-Some.label)
+    (sym c.label_written.ensures ∙ ap (option_map label_refs) c.in-Some.is) in
+    IfOk-weaker c.guard_written.result _ _
+    (λ g is. canonical_guard _ (replaced x (label_refs c.in-Some.label)) g is ∙ (λ i. canonical_label (c.guard_written.ensures.keeps.names i) (due i))) c.guard_written.ensures.guard
+
+pub returns-in-None-clause-has : goal.returns-in-None-clause-has
+returns-in-None-clause-has c = IfOk-weaker c.guard.result _ _ (λ g is. is.has) c.guard.ensures.guard
+
+pub returns-in-None-clause-label : goal.returns-in-None-clause-label
+returns-in-None-clause-label c =
     let x = c.args.shared.now in
     let s = written_state c.args.state.now in
     let e = written_edge c.args.edge.now in
-    let none = nothing c.label_written.result (c.is_none.ensures ∙ ap not c.if-is_none.true) in
-    let due = has_none x s c.args.letter e (sym c.label_written.ensures ∙ ap (option_map label_refs) none) in
+    let due = has_none x s c.args.letter e (sym c.label_written.ensures ∙ ap (option_map label_refs) c.in-None.is) in
     IfOk-weaker c.guard.result _ _
     (λ g is. is (label_for x s c.args.letter e)
     (λ on. ap (truth on) (sym due) ∙ (letter_truth c.args.letter x.names on ∙ ap (λ n. is_at c.args.letter n on) (sym c.requires.names)))) c.guard.ensures.label
 
-pub guard_taken-requires : goal.guard_taken-requires
-guard_taken-requires c = subst (AllBelow c.args.guards.now.names) (sym c.in_ok-label.ensures) c.requires.below
-
-pub returns-clause-label : goal.returns-clause-label
-returns-clause-label c =
-    IfOk-weaker c.guard_taken.result _ _ (λ g is. is ∙ ap (canonical_label c.args.guards.now.names) c.in_ok-label.ensures)
-    c.guard_taken.ensures.label
-
-pub returns-clause-letters : goal.returns-clause-letters
-returns-clause-letters c = letters_kept c.guard_taken.ensures.keeps c.args.letters.now c.requires.letters
+pub returns-in-Some-clause-letters : goal.returns-in-Some-clause-letters
+returns-in-Some-clause-letters c = letters_kept c.guard_written.ensures.keeps c.args.letters.now c.requires.letters
