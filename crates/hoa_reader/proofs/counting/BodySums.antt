@@ -1,27 +1,21 @@
 -- What one pass over the body tells, in the words of the rules and limits.
-use Rattle.std.proofs.Common.{◌≡◌, ◌∙◌, ◌+◌, ◌*◌, ◌^◌, ◌-◌, ◌<◌, ◌≤◌, ◌==◌, ◌&&◌, ◌||◌, ℕ, zero, suc, Bool, true, false, not, cond, max, List, [], ◌∷◌, ◌++◌, length, map, Option, None, Some, ap, arith, nat_le, nat_lt, refl, sym}
+use Rattle.std.proofs.Common.{◌≡◌, ◌∙◌, ◌+◌, ◌^◌, ◌-◌, ◌<◌, ◌≤◌, ◌==◌, ◌&&◌, ◌||◌, ℕ, Bool, true, false, not, max, List, [], ◌∷◌, length, Option, None, Some, ap, arith, nat_le, nat_lt, refl}
 use Rattle.std.proofs.lemmas.Bool.Decides.{nat_tests}
-use Rattle.std.proofs.lemmas.List.{length-append}
-use Rattle.std.proofs.lemmas.List.Folds.{list_all-append, list_any-append}
-use Rattle.std.proofs.lemmas.List.Sums.{sum_by-cons}
-use Rattle.std.specs.List.{list_all, list_any}
-use Rattle.std.specs.Option.{option_map_or}
-use Rattle.std.specs.Prelude.{flat_map, is_none, is_some, option_to_list, sum_by}
+use Rattle.std.proofs.lemmas.List.Folds.{list_all-append}
+use Rattle.std.specs.List.{list_all}
+use Rattle.std.specs.Prelude.{flat_map, is_none, is_some, option_to_list}
 use Rattle.aut_base.proofs.lists.Lists.{list_all-flat_map}
-use Rattle.aut_base.specs.declared.limit.TheConstants.{MOST_ALIASES}
 use Rattle.hoa_parser.specs.Raw as raw
 use Rattle.hoa_parser.specs.Raw.{RawTree, RawTrees, WrittenEdge, WrittenState}
 use Rattle.hoa_reader.proofs.counting.AfterAll.{after_all-append, goals-cons, numbers_below-after}
 use Rattle.hoa_reader.proofs.counting.Weights.{edges-cons}
 use Rattle.hoa_reader.specs.Described.{after_all}
-use Rattle.hoa_reader.specs.Validity.{aliases_among, all_edges_labelled, all_leaves_pass, has_edge_per_letter, is_listed, is_one_state, labels_one_way, leaves_pass, marks_below, no_edge_labelled, numbers_below, props_below, state_labels}
-use Rattle.hoa_reader.specs.declared.elaborate.aliases.Known.{Known}
-use Rattle.hoa_reader.specs.declared.elaborate.places.Places.{Places}
+use Rattle.hoa_reader.specs.Validity.{aliases_among, all_leaves_pass, has_edge_per_letter, is_one_state, labels_one_way, marks_below, numbers_below, props_below, state_labels}
 use Rattle.hoa_reader.specs.declared.elaborate.sums.Sums.{Sums}
-use Rattle.hoa_reader.specs.inner.Growing.{all_capped, cap, capped, capped_height, capped_size, capped_sum, heights_in, sizes_in}
+use Rattle.hoa_reader.specs.inner.Growing.{cap}
 use Rattle.hoa_reader.specs.inner.PickedOut.{goals, numbers}
-use Rattle.hoa_reader.specs.inner.Sums.{all_props_after, beside, body_sums, edge_sums, edges_sums, nothing, one_sign, option_height, option_plain, option_props, option_size, props_after, state_sums}
-use Rattle.hoa_reader.specs.inner.Weighing.{all_edges, are_tall, counted, edge_counted, state_counted}
+use Rattle.hoa_reader.specs.inner.Sums.{all_props_after, beside, body_sums, edge_sums, edges_sums, nothing, option_plain, option_props, props_after, state_sums}
+use Rattle.hoa_reader.specs.inner.Weighing.{all_edges}
 
 pub and_in_turn : (a b c : Bool) → ((a && b) && c) ≡ (a && (b && c))
 and_in_turn true b c = refl

@@ -1,22 +1,21 @@
 -- Labels without aliases count the same whatever is known of aliases.
-use Rattle.std.proofs.Common.{◌≡◌, ◌∙◌, ◌+◌, ◌*◌, ◌^◌, ◌-◌, ◌<◌, ◌&&◌, ◌||◌, ℕ, Bool, true, false, not, cond, max, List, [], ◌∷◌, ◌++◌, length, map, Option, None, Some, ap, arith, nat_lt, refl, sym}
+use Rattle.std.proofs.Common.{◌≡◌, ◌∙◌, ◌+◌, ◌*◌, ◌&&◌, ◌||◌, ℕ, Bool, true, false, not, cond, max, List, [], ◌∷◌, ◌++◌, length, Option, None, Some, ap, arith, nat_lt, refl, sym}
 use Rattle.std.proofs.Math.Nat.{mul-suc, mul-zero, zero-mul}
 use Rattle.std.proofs.lemmas.Bool.{and_parts, false≢true}
 use Rattle.std.proofs.lemmas.Bool.Decides.{nat_tests}
 use Rattle.std.proofs.lemmas.List.Folds.{list_any-append}
 use Rattle.std.proofs.lemmas.List.Sums.{sum_by-cons}
-use Rattle.std.specs.List.{list_all, list_any}
+use Rattle.std.specs.List.{list_all}
 use Rattle.std.specs.Option.{option_map_or}
 use Rattle.std.specs.Prelude.{flat_map, option_to_list, sum_by}
 use Rattle.aut_base.specs.declared.limit.TheConstants.{MOST_ALIASES}
 use Rattle.hoa_parser.specs.Raw as raw
 use Rattle.hoa_parser.specs.Raw.{RawTree, RawTrees, WrittenEdge, WrittenState}
-use Rattle.hoa_reader.specs.Counts.{holds_alias}
-use Rattle.hoa_reader.specs.Validity.{aliases_among, all_leaves_pass, is_listed, leaves_pass, state_labels}
+use Rattle.hoa_reader.specs.Validity.{aliases_among, all_leaves_pass, is_listed, state_labels}
 use Rattle.hoa_reader.specs.declared.elaborate.aliases.Known.{Known}
 use Rattle.hoa_reader.specs.declared.elaborate.places.Places.{Places}
 use Rattle.hoa_reader.specs.inner.Growing.{all_capped, cap, capped, capped_height, capped_size, capped_sum, heights_in, sizes_in}
-use Rattle.hoa_reader.specs.inner.Sums.{body_sums, edges_sums, one_sign, option_height, option_plain, option_size, state_sums}
+use Rattle.hoa_reader.specs.inner.Sums.{body_sums, edges_sums, one_sign, option_height, option_plain, option_size}
 use Rattle.hoa_reader.specs.inner.Weighing.{are_tall, counted, edge_counted, own_counted, state_counted}
 
 false_true : {A : Type 0} → false ≡ true → A

@@ -1,5 +1,5 @@
 -- Guards of labels as they are written, by the guards of their parts.
-use Rattle.std.proofs.Common.{◌≡◌, ◌∙◌, ◌+◌, ◌≤◌, ◌&&◌, ◌||◌, ℕ, suc, Bool, true, false, not, List, [], ◌∷◌, ap, drop, length, map, refl, subst, sym, arith, Some, slice_get}
+use Rattle.std.proofs.Common.{◌≡◌, ◌∙◌, ◌+◌, ◌≤◌, ◌&&◌, ◌||◌, ℕ, suc, Bool, true, false, not, List, [], ◌∷◌, ap, drop, length, map, refl, sym, arith, Some, slice_get}
 use Rattle.std.proofs.lemmas.List.{drop_all}
 use Rattle.std.proofs.lemmas.Option.{slice_get-map}
 use Rattle.std.specs.Global.{Global}
@@ -11,10 +11,9 @@ use Rattle.aut_base.specs.CanonicalLabel.{canonical_label}
 use Rattle.aut_base.specs.Label.{AllBelow, EachBelow, LabelTree, LabelTrees, all_true, label_size, labels_size, some_true, trees, truth}
 use Rattle.aut_base.specs.Valuation.{holds_in, truth_on}
 use Rattle.hoa_parser.proofs.grammar.RawTrees.{raw_tree-And, raw_tree-Or}
-use Rattle.hoa_parser.specs.Raw.{RawTree, RawTrees, raw_list, raw_parts, raw_tree, raw_trees}
+use Rattle.hoa_parser.specs.Raw.{RawTree, raw_list, raw_parts, raw_tree, raw_trees}
 use Rattle.hoa_parser.specs.declared.raw.RawLabel.TheVariants as raw_label
 use Rattle.hoa_parser.specs.declared.raw.RawLabels.{RawLabels}
-use Rattle.hoa_parser.specs.Raw as raw
 use Rattle.hoa_reader.specs.Described.{Meaning, each_expanded, expanded}
 use Rattle.hoa_reader.specs.declared.elaborate.edges.Shared.{Shared}
 use Rattle.hoa_reader.specs.inner.Growing.{meanings_by}

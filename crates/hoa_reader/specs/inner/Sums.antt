@@ -1,5 +1,5 @@
 -- What one pass over the body tells.
-use Rattle.std.specs.Prelude.{◌+◌, ◌*◌, ◌^◌, ◌==◌, ◌&&◌, ◌||◌, max, ℕ, Bool, true, false, not, is_none, is_some, List, [], ◌∷◌, length, Option}
+use Rattle.std.specs.Prelude.{◌+◌, ◌*◌, ◌^◌, ◌==◌, ◌&&◌, ◌||◌, max, ℕ, Bool, true, not, is_none, is_some, List, [], ◌∷◌, length, Option}
 use Rattle.std.specs.Option.{option_map_or}
 use Rattle.hoa_parser.specs.Raw as raw
 use Rattle.hoa_parser.specs.Raw.{RawTree, RawTrees, WrittenEdge, WrittenState}

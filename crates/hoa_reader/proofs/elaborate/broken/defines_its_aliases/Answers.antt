@@ -1,13 +1,11 @@
-use Rattle.std.proofs.Common.{◌≡◌, ◌∙◌, ◌&&◌, ℕ, Bool, true, false, List, [], ◌∷◌, ap, map, refl, sym}
-use Rattle.std.proofs.lemmas.Bool.{and_parts}
+use Rattle.std.proofs.Common.{◌≡◌, ◌∙◌, ◌&&◌, Bool, true, false, List, [], ap, map, refl, sym}
 use Rattle.std.proofs.lemmas.Result.{IfOk-weaker}
 use Rattle.std.specs.List.{list_all}
 use Rattle.aut_base.specs.Text.{same_text}
 use Rattle.hoa_parser.specs.Raw.{RawTree, written}
 use Rattle.hoa_reader.proofs.counting.BodySums.{and_in_turn, body_plain}
 use Rattle.hoa_reader.proofs.counting.PlainLabels.{plain_among}
-use Rattle.hoa_reader.specs.Validity.{AliasLine, alias_lines, aliases_among, all_differ, body_labels, defines_its_aliases, names_of, uses_earlier}
-use Rattle.hoa_reader.specs.declared.elaborate.parts.AliasDef.{AliasDef}
+use Rattle.hoa_reader.specs.Validity.{AliasLine, alias_lines, aliases_among, all_differ, body_labels, uses_earlier}
 use Rattle.hoa_reader.specs.declared.elaborate.sums.Sums.{Sums}
 use Rattle.hoa_reader.specs.inner.PickedOut.{alias_def, are_defined, label_refs, line_names}
 use Rattle.hoa_reader.proofs.elaborate.broken.defines_its_aliases.Goals as goal

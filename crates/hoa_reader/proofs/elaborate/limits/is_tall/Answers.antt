@@ -1,11 +1,9 @@
-use Rattle.std.proofs.Common.{◌≡◌, ◌∙◌, List, Bool, ap, map, nat_lt, sym, true}
+use Rattle.std.proofs.Common.{◌∙◌, ap, map, nat_lt, sym}
 use Rattle.aut_base.specs.declared.limit.TheConstants.{MOST_ALIASES}
 use Rattle.hoa_parser.specs.Raw.{written}
 use Rattle.hoa_reader.proofs.counting.PlainLabels.{body_tall}
-use Rattle.hoa_reader.specs.Validity.{names_of}
 use Rattle.hoa_reader.specs.declared.elaborate.sums.Sums.{Sums}
 use Rattle.hoa_reader.specs.inner.PickedOut.{label_refs}
-use Rattle.hoa_reader.specs.inner.Sums.{body_sums}
 use Rattle.hoa_reader.specs.inner.Weighing.{are_tall}
 use Rattle.hoa_reader.proofs.elaborate.limits.is_tall.Goals as goal
 

@@ -2,7 +2,7 @@ use Rattle.std.proofs.Common.{◌≡◌, ◌∙◌, ap, subst, sym}
 use Rattle.std.proofs.lemmas.Result.{IfOk-weaker}
 use Rattle.std.specs.Option.{option_map}
 use Rattle.aut_base.specs.CanonicalLabel.{canonical_label}
-use Rattle.aut_base.specs.Label.{AllBelow, LabelTree, truth}
+use Rattle.aut_base.specs.Label.{AllBelow, truth}
 use Rattle.hoa_parser.specs.Raw.{written_edge, written_state}
 use Rattle.hoa_reader.proofs.labels.LetterTruth.{letter_truth}
 use Rattle.hoa_reader.proofs.labels.WrittenGuards.{canonical_guard}

@@ -6,7 +6,7 @@ use Rattle.hoa_parser.specs.declared.raw.RawState.{RawState}
 use Rattle.hoa_reader.proofs.counting.AfterAll.{after_all-append}
 use Rattle.hoa_reader.proofs.counting.BodySums.{body_after}
 use Rattle.hoa_reader.specs.Described.{after_all}
-use Rattle.hoa_reader.specs.Validity.{acceptance_item, alias_item, names_item, names_of, no_acceptance, start_item, starts_written, state_labels, used_states}
+use Rattle.hoa_reader.specs.Validity.{acceptance_item, alias_item, names_item, names_of, no_acceptance, start_item, starts_written, state_labels}
 use Rattle.hoa_reader.specs.declared.elaborate.sums.Sums.{Sums}
 use Rattle.hoa_reader.specs.inner.PickedOut.{goals, numbers, starts_named}
 use Rattle.hoa_reader.specs.inner.Sums.{body_sums}

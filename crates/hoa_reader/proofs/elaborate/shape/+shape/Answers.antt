@@ -1,7 +1,7 @@
-use Rattle.std.proofs.Common.{◌≡◌, ◌∙◌, ◌+◌, ◌&&◌, Bool, List, [], true, false, max, map, drop, arith, ap, refl, sym}
+use Rattle.std.proofs.Common.{◌≡◌, ◌∙◌, ◌+◌, ◌&&◌, Bool, List, [], true, max, map, drop, arith, ap, sym}
 use Rattle.std.proofs.lemmas.List.{drop_all}
 use Rattle.aut_base.proofs.lists.Lists.{drop-at}
-use Rattle.hoa_parser.specs.Raw.{RawTree, RawTrees, raw_tree, raw_trees}
+use Rattle.hoa_parser.specs.Raw.{RawTrees, raw_tree, raw_trees}
 use Rattle.hoa_parser.specs.declared.raw.RawLabel.{RawLabel}
 use Rattle.hoa_reader.proofs.counting.BodySums.{and_in_turn, and_true}
 use Rattle.hoa_reader.proofs.labels.Meanings.{sizes_fit}

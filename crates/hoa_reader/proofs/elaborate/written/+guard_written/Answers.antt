@@ -1,25 +1,24 @@
-use Rattle.std.proofs.Common.{◌≡◌, ◌∙◌, ◌+◌, ◌-◌, ◌*◌, ◌<◌, ◌≤◌, ◌&&◌, ◌||◌, ℕ, Bool, List, Option, Some, IfOk, map, false, ap, arith, get_or, refl, subst, sym}
+use Rattle.std.proofs.Common.{◌≡◌, ◌∙◌, ◌+◌, ◌-◌, ◌&&◌, ◌||◌, ℕ, List, Option, Some, map, false, ap, arith, subst, sym}
 use Rattle.std.proofs.lemmas.Option.{get_or_from_slice_get}
 use Rattle.std.proofs.lemmas.Result.{IfOk-weaker}
 use Rattle.std.specs.Global.{Global}
 use Rattle.std.specs.declared.boxed.Box.{Box}
 use Rattle.aut_base.specs.Label.{AllBelow, EachBelow, LabelTree, all_true, label_size, labels_size, some_true, trees, truth}
 use Rattle.aut_core.proofs.Growth.{keeps_none, keeps_on}
-use Rattle.hoa_parser.proofs.grammar.RawTrees.{raw_tree-Alias, raw_tree-False, raw_tree-Negated, raw_tree-Not, raw_tree-Prop, raw_tree-True}
-use Rattle.hoa_parser.specs.Raw.{RawTree, raw_list, raw_parts, raw_tree}
-use Rattle.hoa_parser.specs.Raw as raw
+use Rattle.hoa_parser.proofs.grammar.RawTrees.{raw_tree-Alias}
+use Rattle.hoa_parser.specs.Raw.{raw_parts, raw_tree}
 use Rattle.hoa_parser.specs.declared.raw.RawLabel.{RawLabel}
 use Rattle.hoa_parser.specs.declared.raw.RawLabel.TheVariants as raw_label
 use Rattle.hoa_parser.specs.declared.raw.RawLabels.{RawLabels}
 use Rattle.hoa_reader.proofs.labels.ExpandedLabels.{bit_small}
 use Rattle.hoa_reader.proofs.labels.Meanings.{meaning_missing}
-use Rattle.hoa_reader.proofs.labels.WrittenGuards.{all_more, all_none, and_replaced, guard_beside, guard_of_label, guard_same, guard_turned, literal_alone, or_replaced, part_is_below, part_is_smaller, some_more, some_none}
+use Rattle.hoa_reader.proofs.labels.WrittenGuards.{all_more, all_none, and_replaced, guard_beside, guard_of_label, guard_same, or_replaced, part_is_below, part_is_smaller, some_more, some_none}
 use Rattle.hoa_reader.specs.Described.{meaning_of}
 use Rattle.hoa_reader.specs.Validity.{is_listed}
 use Rattle.hoa_reader.specs.declared.elaborate.aliases.Known.{Known}
 use Rattle.hoa_reader.specs.declared.elaborate.edges.Shared.{Shared}
 use Rattle.hoa_reader.specs.declared.elaborate.parts.AliasDef.{AliasDef}
-use Rattle.hoa_reader.specs.inner.Growing.{IsKnownBy, IsKnownOne, alias_bit, alias_name, meaning_names, meanings_by}
+use Rattle.hoa_reader.specs.inner.Growing.{IsKnownBy, IsKnownOne, alias_name, meaning_names, meanings_by}
 use Rattle.hoa_reader.specs.inner.Places.{place_in}
 use Rattle.hoa_reader.specs.inner.TreeEdges.{HasKnown, parts_replaced, replaced}
 use Rattle.hoa_reader.proofs.elaborate.written.+guard_written.Goals as goal
