@@ -4,14 +4,12 @@ use Rattle.aut_base.specs.CanonicalLabel.{literal_tree}
 use Rattle.aut_base.specs.Label.{Prop, Not, truth}
 use Rattle.label_guards.specs.declared.cubes.Literal.{Literal}
 use Rattle.label_guards.specs.declared.guards.Operation.{Operation}
-use Rattle.label_guards.specs.declared.guards.Operation.TheVariants.{And, Or}
 use Rattle.label_guards.specs.Guards.{IsGuardOf, literal_truth, truth_in}
 use Rattle.label_guards.specs.Nodes.{Grows, IsReduced}
 use Rattle.label_guards.specs.Operations.{IsJoin, IsPlaceOf, joins}
 use Rattle.label_guards.specs.Pieces.{literal_of}
 use Rattle.label_guards.specs.Store.{Has, HasPlace, Store, outcome}
 use Rattle.label_guards.specs.declared.guard.Guard.{Guard}
-use Rattle.label_guards.proofs.diagrams.Growth.{grows_on, outcome_kept}
 use Rattle.label_guards.proofs.diagrams.Outcomes.{outcome-false, outcome-true}
 use Rattle.label_guards.proofs.labelled.LabelTruth.{at, guard_of, truth_is}
 use Rattle.label_guards.proofs.labelled.Parts.{IsBranch, joined_branch, joined_place, met_branch, place_same}

@@ -8,7 +8,7 @@ use Rattle.std.specs.Prelude.{codes}
 use Rattle.aut_base.proofs.lists.Members.{map_alike}
 use Rattle.aut_base.specs.CanonicalLabel as canonical
 use Rattle.aut_base.specs.LabelText.{joined, literal_text}
-use Rattle.label_guards.specs.Pieces.{Gains, each_after, pieces_after, cube_piece, literal_of, is_any, WritesCubes}
+use Rattle.label_guards.specs.Pieces.{each_after, pieces_after, cube_piece, literal_of, is_any, WritesCubes}
 use Rattle.label_guards.specs.declared.cubes.Literal.{Literal}
 
 -- after the first piece, each stands after the separator
