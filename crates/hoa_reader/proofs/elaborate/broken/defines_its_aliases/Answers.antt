@@ -13,7 +13,8 @@ use Rattle.hoa_reader.proofs.elaborate.broken.defines_its_aliases.Goals as goal
 -- labels without aliases ask for none
 plain_defines : (lines : List AliasLine) (ts : List RawTree) → list_all (aliases_among []) ts ≡ true
     → are_defined lines ≡ (all_differ same_text (line_names lines) && (uses_earlier [] lines && list_all (aliases_among (line_names lines)) ts))
-plain_defines lines ts plain = ap (λ b. all_differ same_text (line_names lines) && b) (sym (ap (λ b. uses_earlier [] lines && b) (plain_among (line_names lines) ts plain) ∙ end (uses_earlier [] lines)))
+plain_defines lines ts plain =
+    ap (λ b. all_differ same_text (line_names lines) && b) (sym (ap (λ b. uses_earlier [] lines && b) (plain_among (line_names lines) ts plain) ∙ end (uses_earlier [] lines)))
   where
     end : (b : Bool) → (b && true) ≡ b
     end true = refl

@@ -55,7 +55,8 @@ shape_of_all-labels-preserved t c =
 
 pub shape_of_all-returns-clause-props : goal.shape_of_all-returns-clause-props
 shape_of_all-returns-clause-props t c =
-    let gone : all_props_after (trees_of (drop c.labels.label-index c.args.labels.now)) ≡ 0 = ap (λ ls. all_props_after (trees_of ls)) (drop_all c.labels.label-index c.args.labels.now c.labels-test.false) in
+    let gone : all_props_after (trees_of (drop c.labels.label-index c.args.labels.now)) ≡ 0 =
+    ap (λ ls. all_props_after (trees_of ls)) (drop_all c.labels.label-index c.args.labels.now c.labels-test.false) in
     omega (arith, gone, c.labels.invariant.props)
 
 pub shape_of_all-returns-clause-plain : goal.shape_of_all-returns-clause-plain
@@ -65,10 +66,12 @@ shape_of_all-returns-clause-plain t c =
 
 pub shape_of_all-returns-clause-height : goal.shape_of_all-returns-clause-height
 shape_of_all-returns-clause-height t c =
-    let gone : capped_heights one_sign (trees_of (drop c.labels.label-index c.args.labels.now)) ≡ 0 = ap (λ ls. capped_heights one_sign (trees_of ls)) (drop_all c.labels.label-index c.args.labels.now c.labels-test.false) in
+    let gone : capped_heights one_sign (trees_of (drop c.labels.label-index c.args.labels.now)) ≡ 0 =
+    ap (λ ls. capped_heights one_sign (trees_of ls)) (drop_all c.labels.label-index c.args.labels.now c.labels-test.false) in
     omega (arith, gone, c.labels.invariant.height)
 
 pub shape_of_all-returns-clause-size : goal.shape_of_all-returns-clause-size
 shape_of_all-returns-clause-size t c =
-    let gone : capped_sizes one_sign (trees_of (drop c.labels.label-index c.args.labels.now)) ≡ 0 = ap (λ ls. capped_sizes one_sign (trees_of ls)) (drop_all c.labels.label-index c.args.labels.now c.labels-test.false) in
+    let gone : capped_sizes one_sign (trees_of (drop c.labels.label-index c.args.labels.now)) ≡ 0 =
+    ap (λ ls. capped_sizes one_sign (trees_of ls)) (drop_all c.labels.label-index c.args.labels.now c.labels-test.false) in
     omega (arith, gone, c.labels.invariant.size, c.labels.invariant.fits)

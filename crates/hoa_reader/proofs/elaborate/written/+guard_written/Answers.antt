@@ -48,7 +48,8 @@ pub guard_of_some-parts-preserved : goal.guard_of_some-parts-preserved
 guard_of_some-parts-preserved t c = record {
   keeps = keeps_on c.parts.invariant.keeps c.joined.ensures.keeps;
   left = omega arith;
-  guard = some_more c.args.shared.now _ _ c.args.parts.now (c.parts.left - 1) c.parts.left (raw_tree c.at.result.now) _ _ (omega arith) c.at.ensures c.parts.invariant.guard c.in_ok-some.ensures.joined;
+  guard = some_more c.args.shared.now _ _ c.args.parts.now (c.parts.left - 1) c.parts.left (raw_tree c.at.result.now) _ _ (omega arith) c.at.ensures
+      c.parts.invariant.guard c.in_ok-some.ensures.joined;
 }
 
 pub guard_of_all-met-requires : goal.guard_of_all-met-requires
