@@ -67,14 +67,10 @@ pub record AreAlike (plan : Plan) (a b : Answered) : Type 0 where
   pub left : a.inputs'.left ≡ b.inputs'.left
   pub written : DecidesTexts plan → (text : List ℕ) × Gains a.out.written a.out'.written text × Gains b.out.written b.out'.written text
 
--- The one answer is that a token nests too deep, the other that of the limit of bytes.
-abbrev pub MayPartAt : Ended → Ended → Type 0
-MayPartAt r s = (r ≡ ended.Limit limit.Depth) × (s ≡ ended.Limit limit.Bytes)
-
 -- Two runs of the same words over the same texts that these decided.
 abbrev pub OneAnswer : Type 0
 OneAnswer = (words : List (List ℕ)) (plan : Plan) (texts : Texts) (a b : Answered) → IsPlan words plan → a.inputs.left ≡ b.inputs.left
-    → IsDecided words texts a → IsDecided words texts b → (MayPartAt a.answer b.answer → ⊥) → (MayPartAt b.answer a.answer → ⊥) → AreAlike plan a b
+    → IsDecided words texts a → IsDecided words texts b → AreAlike plan a b
 
 -- A run over texts that can be read everywhere, and that these decided, where the limit of bytes isn't the answer.
 abbrev pub AnswerCompletes : Type 0

@@ -149,16 +149,11 @@ pub record AreSame (plan : Plan) (a b : Outcome) : Type 0 where
   pub line : line_of a.end a.name ≡ line_of b.end b.name
   pub left : a.left ≡ b.left
 
--- The one ended where a token opens one more than may be open, and the other at the limit of bytes. (Since no more is said of the
--- place where the one stops than that the last byte that it took was asked for, the token may stand behind the limit of bytes.)
-abbrev pub MayPart : End → End → Type 0
-MayPart e d = (e ≡ end.Fault (fault.Limit limit.Depth)) × (d ≡ end.Fault (fault.Limit limit.Bytes))
-
 -- Two runs over the same texts of one plan that the texts ended: the same happened, and they end alike.
 abbrev pub OneEnd : Type 0
 OneEnd =
     (plan : Plan) (texts : Texts) (left : Option (List ℕ)) (a b : Outcome) → IsEnded plan texts left a → IsEnded plan texts left b
-    → (MayPart a.end b.end → ⊥) → (MayPart b.end a.end → ⊥) → AreSame plan a b
+    → AreSame plan a b
 
 -- the one are the first of the others
 pub record AreFirst (plan : Plan) (events others : List Event) : Type 0 where

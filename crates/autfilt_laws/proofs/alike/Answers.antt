@@ -207,11 +207,10 @@ came one words plan texts r is d =
     }
 
 pub one_answer : OneStanding → OnePlan → OneEnd → OneAnswer
-one_answer one plans ends words plan texts a b is left x y free also =
+one_answer one plans ends words plan texts a b is left x y =
     let c = came plans words plan texts a is x in
     let d = came plans words plan texts b is y in
-    let s = ends plan texts a.inputs.left c.o d.o c.is (subst (λ (l : Option (List ℕ)). IsEnded plan texts l d.o) (sym left) d.is)
-    (λ z. free (c.shown ∙ ap ended_of z.0, d.shown ∙ ap ended_of z.1)) (λ z. also (d.shown ∙ ap ended_of z.0, c.shown ∙ ap ended_of z.1)) in
+    let s = ends plan texts a.inputs.left c.o d.o c.is (subst (λ (l : Option (List ℕ)). IsEnded plan texts l d.o) (sym left) d.is) in
     let events = all_noted_like plan c.o.events d.o.events s.streams in
     let notes : passed_noted (all_passed d.o.taken) ++ (all_noted d.o.events ++ line_of d.o.end d.o.name) ≡ passed_noted (all_passed c.o.taken) ++ (all_noted c.o.events ++ line_of c.o.end c.o.name) =
     λ i. passed_noted (all_passed (sym s.operands i)) ++ (sym events i ++ sym s.line i) in

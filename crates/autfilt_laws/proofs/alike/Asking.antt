@@ -1,11 +1,12 @@
 -- What asks for more holds nothing whole.
-use Rattle.std.proofs.Common.{◌≡◌, ◌≢◌, ◌∙◌, ◌+◌, ◌-◌, ◌<◌, ◌≤◌, ℕ, true, List, [], ◌∷◌, ◌++◌, ap, append-nil, append_assoc, arith, length, length-append, refl, subst, sym}
+use Rattle.std.proofs.Common.{◌≡◌, ◌≢◌, ◌∙◌, ◌+◌, ◌-◌, ◌<◌, ◌≤◌, ℕ, Bool, true, false, not, is_some, Option, Some, None, List, [], ◌∷◌, ◌++◌, ap, append-nil, append_assoc, arith, length, length-append, refl, subst, sym}
 use Rattle.std.proofs.lemmas.List.{map-append}
 use Rattle.autfilt_laws.specs.Places.{NoneAsksBehind}
 use Rattle.hoa_lexer.proofs.next_token.Fronts.{front_of}
 use Rattle.hoa_lexer.proofs.next_token.Unique.{one_next_token}
 use Rattle.hoa_lexer.proofs.spelling.FirstBytes.{spelled_some}
 use Rattle.hoa_lexer.specs.Spelling as spelling
+use Rattle.hoa_lexer.specs.Reading.{unread}
 use Rattle.hoa_lexer.specs.Spelling.{closes_itself}
 use Rattle.hoa_lexer.specs.Text.{AsksForMore, IsNext, Lexes}
 use Rattle.hoa_lexer.specs.declared.token.Token.{Token}
@@ -17,7 +18,7 @@ use Rattle.hoa_parser.proofs.standing.Hopeless.{next_leaves, next_off}
 use Rattle.hoa_parser.proofs.standing.Readings.{lexes_more, lexes_shorter}
 use Rattle.hoa_parser.specs.Grammar.{AutomatonPhrase, IsViable, Spells, automaton_tokens, item_tokens, state_tokens}
 use Rattle.hoa_parser.specs.Raw.{Written}
-use Rattle.hoa_parser.specs.Reads.{AsksOn}
+use Rattle.hoa_parser.specs.Reads.{AsksOn, EndsDeep}
 use Rattle.hoa_parser.specs.Standing.{IsAborted, IsBegun, SpellsNothing, most_depth}
 use Rattle.std.specs.Prelude.{codes, flat_map}
 
@@ -149,6 +150,44 @@ module _ (start : ℕ) (text : List ℕ) (tokens : List Token) (used : ℕ) (res
         closing = λ done u is size. subst (λ (x : Token). closes_itself x ≡ true) (last_same tokens done t u (sym with_it_shown ∙ is)) (closes size);
         beyond = λ us is. beyond us (is ∙ ap (λ (ts : List Token). ts ++ us) with_it_shown ∙ append_assoc tokens (t ∷ []) us);
       }) with_it_read
+
+-- where it opens one more than may be open
+pub deep_fewer : (start : ℕ) (text left : List ℕ) → EndsDeep start text left → length left ≤ length text
+deep_fewer start text left h =
+    let d = h.deep in
+    let begun = lexes_shorter text start d.begun.placed d.rest d.begun.lexes in
+    let less = next_strictly d.rest d.used d.next_token d.offset d.after d.next in
+    omega (arith, begun, less, held_fewer h.held left d.after h.behind)
+  where
+    held_fewer : (held : Option ℕ) (left after : List ℕ) → after ≡ unread held left → length left ≤ length after
+    held_fewer None left after is = omega (arith, ap length is)
+    held_fewer (Some b) left after is = omega (arith, ap length is)
+
+pub none_asks_behind_deep : (start : ℕ) (text left new : List ℕ) → EndsDeep start text left → AsksOn start text new → length new ≤ length left → ⊥
+none_asks_behind_deep start text left new h a short =
+    let d = h.deep in
+    none_asks_behind_token start text d.tokens d.used d.rest d.next_token d.offset d.after new d.begun d.next a
+    (λ size. closed_there h.held d.next_token left new d.after h.behind h.needed short size)
+    (λ us is. d.too_deep (viable_front (d.tokens ++ d.next_token ∷ []) us
+    (subst (λ (ts : List Token). IsViable most_depth ts) (is ∙ sym (append_assoc d.tokens (d.next_token ∷ []) us)) a.begun.viable)))
+    (behind_no_shorter h.held left new d.after h.behind short)
+  where
+    viable_front : (ts us : List Token) → IsViable most_depth (ts ++ us) → IsViable most_depth ts
+    viable_front ts us v =
+        record { more = us ++ v.more; whole = v.whole; spelled = subst (λ (ws : List Token). Spells most_depth ws v.whole) (append_assoc ts us v.more) v.spelled }
+
+    behind_no_shorter : (held : Option ℕ) (left new after : List ℕ) → after ≡ unread held left → length new ≤ length left → length new ≤ length after
+    behind_no_shorter None left new after is short = omega (arith, short, ap length is)
+    behind_no_shorter (Some b) left new after is short = omega (arith, short, ap length is)
+
+    closed_there : (held : Option ℕ) (t : Token) (left new after : List ℕ) → after ≡ unread held left → is_some held ≡ not (closes_itself t) → length new ≤ length left → length after ≡ length new
+        → closes_itself t ≡ true
+    closed_there None t left new after is needed short size = open_no (closes_itself t) needed
+      where
+        open_no : (b : Bool) → false ≡ not b → b ≡ true
+        open_no true e = refl
+        open_no false e = absurd (let no : false ≡ true = e in cc)
+    closed_there (Some b) t left new after is needed short size = absurd (omega (arith, short, size, ap length is))
 
 -- where it is abandoned
 pub none_asks_behind_abort : (start : ℕ) (text after new : List ℕ) → IsAborted start text after → AsksOn start text new → length new ≤ length after → ⊥

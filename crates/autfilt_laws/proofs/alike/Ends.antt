@@ -13,7 +13,7 @@ use Rattle.autfilt_laws.proofs.alike.Like.{tally_like}
 use Rattle.autfilt_laws.proofs.alike.Looks.{look_at, look_behind, look_over}
 use Rattle.autfilt_laws.proofs.alike.Steps.{one_next}
 use Rattle.autfilt_laws.proofs.alike.Verdicts.{AreOne, dropped_is_within, kept_is_within, one_over}
-use Rattle.autfilt_laws.specs.Runs.{AreLike, IsByText, MayPart}
+use Rattle.autfilt_laws.specs.Runs.{AreLike, IsByText}
 use Rattle.autfilt_run.specs.Events.{AreJudged, Dropped, Ended, Event, Goes, Happen, IsJudged, Kept, Opened, Point, Skipped}
 use Rattle.autfilt_run.specs.Over.{IsOver}
 use Rattle.autfilt_run.specs.Plans.{asks_on}
@@ -120,28 +120,27 @@ not_done : (plan : Plan) (ops : List Automaton) (p : Point) (f : RunFault) → I
 not_done plan ops p f h (inl reached) = false≢true (sym reached ∙ asks_there _ (in_streams plan ops) p f h)
 not_done plan ops p f h (inr done) = open_there _ (in_streams plan ops) p f h done.0
 
-pub alike : OneStanding → AreOne → (plan : Plan) (ops : List Automaton) (passed : ℕ) (p : Point) (events : List Event) (e d : End) → IsByText e → IsByText d → (MayPart e d → ⊥) → (MayPart d e → ⊥)
+pub alike : OneStanding → AreOne → (plan : Plan) (ops : List Automaton) (passed : ℕ) (p : Point) (events : List Event) (e d : End) → IsByText e → IsByText d
     → Ends plan ops passed p events e → Ends plan ops passed p events d → e ≡ d
-alike one plain plan ops passed p events (end.Fault f) (end.Fault g) x y free also a b =
-    ap end.Fault (both_stopped one (asks_on plan p.kept ≡ true) (in_streams plan ops) (one_in_streams plain plan ops) p f g (λ h. free (ap end.Fault h.0, ap end.Fault h.1))
-    (λ h. also (ap end.Fault h.0, ap end.Fault h.1)) a b)
-alike one plain plan ops passed p events (end.Fault f) end.Output x y free also a b = absurd (not_done plan ops p f a b.0)
-alike one plain plan ops passed p events (end.Fault f) end.NoneOutput x y free also a b = absurd (not_done plan ops p f a b.0)
-alike one plain plan ops passed p events (end.Fault f) end.Aborts x y free also a b = absurd (not_done plan ops p f a b.0)
-alike one plain plan ops passed p events (end.Fault f) end.Usage x y free also a b = absurd y
-alike one plain plan ops passed p events end.Output (end.Fault g) x y free also a b = absurd (not_done plan ops p g b a.0)
-alike one plain plan ops passed p events end.Output end.Output x y free also a b = a.1 ∙ sym b.1
-alike one plain plan ops passed p events end.Output end.NoneOutput x y free also a b = a.1 ∙ sym b.1
-alike one plain plan ops passed p events end.Output end.Aborts x y free also a b = a.1 ∙ sym b.1
-alike one plain plan ops passed p events end.Output end.Usage x y free also a b = absurd y
-alike one plain plan ops passed p events end.NoneOutput (end.Fault g) x y free also a b = absurd (not_done plan ops p g b a.0)
-alike one plain plan ops passed p events end.NoneOutput end.Output x y free also a b = a.1 ∙ sym b.1
-alike one plain plan ops passed p events end.NoneOutput end.NoneOutput x y free also a b = a.1 ∙ sym b.1
-alike one plain plan ops passed p events end.NoneOutput end.Aborts x y free also a b = a.1 ∙ sym b.1
-alike one plain plan ops passed p events end.NoneOutput end.Usage x y free also a b = absurd y
-alike one plain plan ops passed p events end.Aborts (end.Fault g) x y free also a b = absurd (not_done plan ops p g b a.0)
-alike one plain plan ops passed p events end.Aborts end.Output x y free also a b = a.1 ∙ sym b.1
-alike one plain plan ops passed p events end.Aborts end.NoneOutput x y free also a b = a.1 ∙ sym b.1
-alike one plain plan ops passed p events end.Aborts end.Aborts x y free also a b = a.1 ∙ sym b.1
-alike one plain plan ops passed p events end.Aborts end.Usage x y free also a b = absurd y
-alike one plain plan ops passed p events end.Usage d x y free also a b = absurd x
+alike one plain plan ops passed p events (end.Fault f) (end.Fault g) x y a b =
+    ap end.Fault (both_stopped one (asks_on plan p.kept ≡ true) (in_streams plan ops) (one_in_streams plain plan ops) p f g a b)
+alike one plain plan ops passed p events (end.Fault f) end.Output x y a b = absurd (not_done plan ops p f a b.0)
+alike one plain plan ops passed p events (end.Fault f) end.NoneOutput x y a b = absurd (not_done plan ops p f a b.0)
+alike one plain plan ops passed p events (end.Fault f) end.Aborts x y a b = absurd (not_done plan ops p f a b.0)
+alike one plain plan ops passed p events (end.Fault f) end.Usage x y a b = absurd y
+alike one plain plan ops passed p events end.Output (end.Fault g) x y a b = absurd (not_done plan ops p g b a.0)
+alike one plain plan ops passed p events end.Output end.Output x y a b = a.1 ∙ sym b.1
+alike one plain plan ops passed p events end.Output end.NoneOutput x y a b = a.1 ∙ sym b.1
+alike one plain plan ops passed p events end.Output end.Aborts x y a b = a.1 ∙ sym b.1
+alike one plain plan ops passed p events end.Output end.Usage x y a b = absurd y
+alike one plain plan ops passed p events end.NoneOutput (end.Fault g) x y a b = absurd (not_done plan ops p g b a.0)
+alike one plain plan ops passed p events end.NoneOutput end.Output x y a b = a.1 ∙ sym b.1
+alike one plain plan ops passed p events end.NoneOutput end.NoneOutput x y a b = a.1 ∙ sym b.1
+alike one plain plan ops passed p events end.NoneOutput end.Aborts x y a b = a.1 ∙ sym b.1
+alike one plain plan ops passed p events end.NoneOutput end.Usage x y a b = absurd y
+alike one plain plan ops passed p events end.Aborts (end.Fault g) x y a b = absurd (not_done plan ops p g b a.0)
+alike one plain plan ops passed p events end.Aborts end.Output x y a b = a.1 ∙ sym b.1
+alike one plain plan ops passed p events end.Aborts end.NoneOutput x y a b = a.1 ∙ sym b.1
+alike one plain plan ops passed p events end.Aborts end.Aborts x y a b = a.1 ∙ sym b.1
+alike one plain plan ops passed p events end.Aborts end.Usage x y a b = absurd y
+alike one plain plan ops passed p events end.Usage d x y a b = absurd x

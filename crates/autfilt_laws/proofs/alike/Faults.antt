@@ -136,10 +136,10 @@ halted on a f p left by other h =
 
 -- ---- or the limit of bytes ended it
 
--- what stands next ended it; and no bytes were wanting but maybe where a token nests too deep
+-- what stands next ended it, and no bytes were wanting
 pub record HaltedWithin (on : Type 0) (a : Asking) (p : Point) (f : RunFault) : Type 0 where
   pub halted : Halted on a p f
-  pub within : IsFull p → f ≡ fault.Limit limit.Depth
+  pub within : IsFull p → ⊥
 
 -- as many bytes were taken as may be
 pub record HaltedFull (on : Type 0) (p : Point) (f : RunFault) : Type 0 where
@@ -150,15 +150,11 @@ pub record HaltedFull (on : Type 0) (p : Point) (f : RunFault) : Type 0 where
 abbrev pub Stopped : Type 0 → Asking → Point → RunFault → Type 0
 Stopped on a p f = HaltedWithin on a p f ⊎ HaltedFull on p f
 
--- one ended where a token nests too deep, and the other at the limit of bytes
-abbrev pub ArePart : RunFault → RunFault → Type 0
-ArePart f g = (f ≡ fault.Limit limit.Depth) × (g ≡ fault.Limit limit.Bytes)
-
-pub both_stopped : OneStanding → (on : Type 0) (a : Asking) → IsOneAsking a → (p : Point) (f g : RunFault) → (ArePart f g → ⊥) → (ArePart g f → ⊥) → Stopped on a p f → Stopped on a p g → f ≡ g
-both_stopped one on a plain p f g free also (inl x) (inl y) = both_halted one on a plain p f g x.halted y.halted
-both_stopped one on a plain p f g free also (inl x) (inr y) = absurd (free (x.within y.full, y.is))
-both_stopped one on a plain p f g free also (inr x) (inl y) = absurd (also (y.within x.full, x.is))
-both_stopped one on a plain p f g free also (inr x) (inr y) = x.is ∙ sym y.is
+pub both_stopped : OneStanding → (on : Type 0) (a : Asking) → IsOneAsking a → (p : Point) (f g : RunFault) → Stopped on a p f → Stopped on a p g → f ≡ g
+both_stopped one on a plain p f g (inl x) (inl y) = both_halted one on a plain p f g x.halted y.halted
+both_stopped one on a plain p f g (inl x) (inr y) = absurd (x.within y.full)
+both_stopped one on a plain p f g (inr x) (inl y) = absurd (y.within x.full)
+both_stopped one on a plain p f g (inr x) (inr y) = x.is ∙ sym y.is
 
 pub asks_there : (on : Type 0) (a : Asking) (p : Point) (f : RunFault) → Stopped on a p f → on
 asks_there on a p f (inl h) = h.halted.asks

@@ -5,7 +5,7 @@ use Rattle.aut_base.specs.declared.limit.Limit.TheVariants as limit
 use Rattle.aut_base.specs.declared.limit.TheConstants.{MOST_BYTES}
 use Rattle.aut_io.specs.Outside.{Texts, text_of}
 use Rattle.autfilt_command.specs.declared.ended.End.TheVariants as end
-use Rattle.autfilt_laws.proofs.alike.Asking.{none_asks_behind, none_asks_behind_abort, split_longer}
+use Rattle.autfilt_laws.proofs.alike.Asking.{deep_fewer, none_asks_behind, none_asks_behind_abort, none_asks_behind_deep, split_longer}
 use Rattle.autfilt_laws.proofs.alike.BadPlaces.{asked_leaves, no_earlier}
 use Rattle.autfilt_laws.proofs.alike.Looks.{one_stream}
 use Rattle.autfilt_laws.proofs.existence.Shorter.{aborted_less, whole_less}
@@ -17,7 +17,7 @@ use Rattle.autfilt_run.specs.declared.fault.RunFault.{RunFault}
 use Rattle.autfilt_run.specs.declared.fault.RunFault.TheVariants as fault
 use Rattle.filter_plan.specs.declared.plan.Plan.{Plan}
 use Rattle.hoa_parser.specs.Raw.{Written}
-use Rattle.hoa_parser.specs.Reads.{AsksOn, IsHopeless}
+use Rattle.hoa_parser.specs.Reads.{AsksOn, EndsDeep, IsHopeless}
 use Rattle.hoa_parser.specs.Standing.{IsAborted, IsWhole}
 
 -- as many bytes were taken as may be, and one more is asked for
@@ -104,6 +104,9 @@ module _ (p : Point) (fitted : IsFitted p) (h : IsFull p) where
       let all : h.stream.rest ≡ bad.used ++ (parts.mid ++ h.new) = bad.split ∙ ap (λ (w : List ℕ). bad.used ++ w) parts.behind in
       no_earlier k from bad.used parts.mid h.new bad.bad (subst (λ (w : List ℕ). AsksOn from w h.new) all h.asks)
 
+  no_deep : (left : List ℕ) → EndsDeep from h.stream.rest left → p.before + place h.stream.text left ≤ MOST_BYTES → ⊥
+  no_deep left deep few = none_asks_behind_deep from h.stream.rest left h.new deep h.asks (no_further left (deep_fewer from h.stream.rest left deep) few)
+
   no_end : p.before + length h.stream.text < MOST_BYTES → ⊥
   no_end few = omega (arith, few, h.full)
 
@@ -123,6 +126,9 @@ module _ (p : Point) (fitted : IsFitted p) (h : IsFull p) (s : Stream) (is_open 
 
   pub not_bad : (k : ℕ) (left : List ℕ) → IsHopeless k (place s.text s.rest) s.rest left → p.before + place s.text left ≤ MOST_BYTES → ⊥
   not_bad k left bad few = no_bad p fitted h k left (subst (λ (z : Stream). IsHopeless k (place z.text z.rest) z.rest left) same bad) (few_there left few)
+
+  pub not_deep : (left : List ℕ) → EndsDeep (place s.text s.rest) s.rest left → p.before + place s.text left ≤ MOST_BYTES → ⊥
+  not_deep left deep few = no_deep p fitted h left (subst (λ (z : Stream). EndsDeep (place z.text z.rest) z.rest left) same deep) (few_there left few)
 
   pub not_ended : p.before + length s.text < MOST_BYTES → ⊥
   not_ended few = no_end p fitted h (subst (λ (z : Stream). p.before + length z.text < MOST_BYTES) same few)
@@ -158,27 +164,27 @@ module _ (on : Type 0) (over : Limit → Written → Type 0) (p : Point) (left :
       let less : p.before + place a.stream.text [] < MOST_BYTES = subst (λ (n : ℕ). n < MOST_BYTES) taken c.within in
       omega (arith, less)
 
-  limit_apart : (which : Limit) → AtStream on p left (StopsAt over (fault.Limit which)) → IsCounted (fault.Limit which) p left → (which ≡ limit.Bytes → ⊥) → IsFull p → which ≡ limit.Depth
-  limit_apart limit.Depth a c other h = refl
-  limit_apart limit.Bytes a c other h = absurd (other refl)
-  limit_apart limit.Names a c other h = absurd (not_whole p fitted h a.stream a.is_open a.stands.automaton a.now a.stands.whole (few_taken _ _ c a))
-  limit_apart limit.Sets a c other h = absurd (not_whole p fitted h a.stream a.is_open a.stands.automaton a.now a.stands.whole (few_taken _ _ c a))
-  limit_apart limit.States a c other h = absurd (not_whole p fitted h a.stream a.is_open a.stands.automaton a.now a.stands.whole (few_taken _ _ c a))
-  limit_apart limit.Edges a c other h = absurd (not_whole p fitted h a.stream a.is_open a.stands.automaton a.now a.stands.whole (few_taken _ _ c a))
-  limit_apart limit.Aliases a c other h = absurd (not_whole p fitted h a.stream a.is_open a.stands.automaton a.now a.stands.whole (few_taken _ _ c a))
-  limit_apart limit.Terms a c other h = absurd (not_whole p fitted h a.stream a.is_open a.stands.automaton a.now a.stands.whole (few_taken _ _ c a))
-  limit_apart limit.BuchiStates a c other h = absurd (not_whole p fitted h a.stream a.is_open a.stands.automaton a.now a.stands.whole (few_taken _ _ c a))
-  limit_apart limit.Trees a c other h = absurd (not_whole p fitted h a.stream a.is_open a.stands.automaton a.now a.stands.whole (few_taken _ _ c a))
-  limit_apart limit.Nodes a c other h = absurd (not_whole p fitted h a.stream a.is_open a.stands.automaton a.now a.stands.whole (few_taken _ _ c a))
-  limit_apart limit.Classes a c other h = absurd (not_whole p fitted h a.stream a.is_open a.stands.automaton a.now a.stands.whole (few_taken _ _ c a))
-  limit_apart limit.Subsets a c other h = absurd (not_whole p fitted h a.stream a.is_open a.stands.automaton a.now a.stands.whole (few_taken _ _ c a))
-  limit_apart limit.Pairs a c other h = absurd (not_whole p fitted h a.stream a.is_open a.stands.automaton a.now a.stands.whole (few_taken _ _ c a))
+  limit_apart : (which : Limit) → AtStream on p left (StopsAt over (fault.Limit which)) → IsCounted (fault.Limit which) p left → (which ≡ limit.Bytes → ⊥) → IsFull p → ⊥
+  limit_apart limit.Depth a c other h = not_deep p fitted h a.stream a.is_open a.now a.stands.ends (few_taken _ _ c a)
+  limit_apart limit.Bytes a c other h = other refl
+  limit_apart limit.Names a c other h = not_whole p fitted h a.stream a.is_open a.stands.automaton a.now a.stands.whole (few_taken _ _ c a)
+  limit_apart limit.Sets a c other h = not_whole p fitted h a.stream a.is_open a.stands.automaton a.now a.stands.whole (few_taken _ _ c a)
+  limit_apart limit.States a c other h = not_whole p fitted h a.stream a.is_open a.stands.automaton a.now a.stands.whole (few_taken _ _ c a)
+  limit_apart limit.Edges a c other h = not_whole p fitted h a.stream a.is_open a.stands.automaton a.now a.stands.whole (few_taken _ _ c a)
+  limit_apart limit.Aliases a c other h = not_whole p fitted h a.stream a.is_open a.stands.automaton a.now a.stands.whole (few_taken _ _ c a)
+  limit_apart limit.Terms a c other h = not_whole p fitted h a.stream a.is_open a.stands.automaton a.now a.stands.whole (few_taken _ _ c a)
+  limit_apart limit.BuchiStates a c other h = not_whole p fitted h a.stream a.is_open a.stands.automaton a.now a.stands.whole (few_taken _ _ c a)
+  limit_apart limit.Trees a c other h = not_whole p fitted h a.stream a.is_open a.stands.automaton a.now a.stands.whole (few_taken _ _ c a)
+  limit_apart limit.Nodes a c other h = not_whole p fitted h a.stream a.is_open a.stands.automaton a.now a.stands.whole (few_taken _ _ c a)
+  limit_apart limit.Classes a c other h = not_whole p fitted h a.stream a.is_open a.stands.automaton a.now a.stands.whole (few_taken _ _ c a)
+  limit_apart limit.Subsets a c other h = not_whole p fitted h a.stream a.is_open a.stands.automaton a.now a.stands.whole (few_taken _ _ c a)
+  limit_apart limit.Pairs a c other h = not_whole p fitted h a.stream a.is_open a.stands.automaton a.now a.stands.whole (few_taken _ _ c a)
 
-  pub full_apart : (f : RunFault) → IsByText (end.Fault f) → AtStream on p left (StopsAt over f) → IsCounted f p left → (f ≡ fault.Limit limit.Bytes → ⊥) → IsFull p → f ≡ fault.Limit limit.Depth
-  full_apart (fault.SyntaxAt k) by a c other h = absurd (not_bad p fitted h a.stream a.is_open k a.now a.stands.shown (few_taken _ _ c a))
-  full_apart fault.Truncated by a c other h = absurd (not_ended p fitted h a.stream a.is_open (all_taken _ c a a.stands.nothing))
-  full_apart (fault.Invalid rule) by a c other h = absurd (not_whole p fitted h a.stream a.is_open a.stands.automaton a.now a.stands.whole (few_taken _ _ c a))
-  full_apart (fault.Limit which) by a c other h = ap fault.Limit (limit_apart which a c (λ e. other (ap fault.Limit e)) h)
+  pub full_apart : (f : RunFault) → IsByText (end.Fault f) → AtStream on p left (StopsAt over f) → IsCounted f p left → (f ≡ fault.Limit limit.Bytes → ⊥) → IsFull p → ⊥
+  full_apart (fault.SyntaxAt k) by a c other h = not_bad p fitted h a.stream a.is_open k a.now a.stands.shown (few_taken _ _ c a)
+  full_apart fault.Truncated by a c other h = not_ended p fitted h a.stream a.is_open (all_taken _ c a a.stands.nothing)
+  full_apart (fault.Invalid rule) by a c other h = not_whole p fitted h a.stream a.is_open a.stands.automaton a.now a.stands.whole (few_taken _ _ c a)
+  full_apart (fault.Limit which) by a c other h = limit_apart which a c (λ e. other (ap fault.Limit e)) h
   full_apart fault.CannotOpen by a c other h = absurd by
   full_apart fault.ReadFault by a c other h = absurd by
   full_apart fault.WriteFault by a c other h = absurd by
@@ -191,9 +197,9 @@ none_now start rest now (inl h) = h.nothing
 none_now start rest now (inr h) = h.1
 
 pub full_apart_there : (on : Type 0) (p : Point) (left : Option (List ℕ)) → IsFitted p → (f : RunFault) → IsByText (end.Fault f) → AtStream on p left (StopsAtOperand f) → IsCounted f p left
-    → (f ≡ fault.Limit limit.Bytes → ⊥) → IsFull p → f ≡ fault.Limit limit.Depth
+    → (f ≡ fault.Limit limit.Bytes → ⊥) → IsFull p → ⊥
 full_apart_there on p left fitted fault.Truncated by a c other h =
-    absurd (not_ended p fitted h a.stream a.is_open (all_taken on (λ which w. ⊥) p left fitted _ c a (none_now (place a.stream.text a.stream.rest) a.stream.rest a.now a.stands)))
+    not_ended p fitted h a.stream a.is_open (all_taken on (λ which w. ⊥) p left fitted _ c a (none_now (place a.stream.text a.stream.rest) a.stream.rest a.now a.stands))
 full_apart_there on p left fitted (fault.SyntaxAt k) by a c other h = full_apart on (λ which w. ⊥) p left fitted (fault.SyntaxAt k) by a c other h
 full_apart_there on p left fitted (fault.Invalid rule) by a c other h = full_apart on (λ which w. ⊥) p left fitted (fault.Invalid rule) by a c other h
 full_apart_there on p left fitted (fault.Limit which) by a c other h = full_apart on (λ which w. ⊥) p left fitted (fault.Limit which) by a c other h

@@ -3,7 +3,7 @@ use Rattle.std.proofs.Common.{◌≡◌, ◌⊎◌, ℕ, List, [], ◌∷◌, Op
 use Rattle.aut_io.specs.Outside.{Texts}
 use Rattle.autfilt_command.specs.declared.ended.End.TheVariants as end
 use Rattle.autfilt_laws.proofs.alike.EndPlaces.{at_named}
-use Rattle.autfilt_laws.proofs.alike.Faults.{ArePart, Halted, Stopped, both_stopped, halted_look, in_operands, one_in_operands, open_there, stopped_in_operand, unfit_whole}
+use Rattle.autfilt_laws.proofs.alike.Faults.{Halted, Stopped, both_stopped, halted_look, in_operands, one_in_operands, open_there, stopped_in_operand, unfit_whole}
 use Rattle.autfilt_laws.proofs.alike.Full.{IsFitted, fitted_proceeds, full_proceeds}
 use Rattle.autfilt_laws.proofs.alike.Looks.{look_over, look_taken}
 use Rattle.autfilt_laws.proofs.alike.Operands.{one_proceeds}
@@ -61,8 +61,8 @@ same_operands one texts (e ∷ es) (f ∷ fs) p q r fitted a b x y =
     let whole : (e ∷ es) ≡ (f ∷ fs) = cc in
     (whole, rest.1)
 
-pub one_fault : OneStanding → (p : Point) (f g : RunFault) → (ArePart f g → ⊥) → (ArePart g f → ⊥) → IsStoppedIn p f → IsStoppedIn p g → f ≡ g
-one_fault one p f g free also a b = both_stopped one (Unit {0}) in_operands one_in_operands p f g free also a b
+pub one_fault : OneStanding → (p : Point) (f g : RunFault) → IsStoppedIn p f → IsStoppedIn p g → f ≡ g
+one_fault one p f g a b = both_stopped one (Unit {0}) in_operands one_in_operands p f g a b
 
 pub not_through : (p : Point) (f : RunFault) → IsStoppedIn p f → IsThrough p → ⊥
 not_through p f h t = open_there (Unit {0}) in_operands p f h t.closed

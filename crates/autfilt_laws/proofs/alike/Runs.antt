@@ -11,7 +11,7 @@ use Rattle.autfilt_laws.proofs.alike.Full.{IsFitted, fitted_happen, fitted_read,
 use Rattle.autfilt_laws.proofs.alike.Like.{are_same, none_like}
 use Rattle.autfilt_laws.proofs.alike.OperandEnds.{IsStoppedIn, IsThrough, not_through, one_fault, same_operands, stopped_there}
 use Rattle.autfilt_laws.proofs.alike.Verdicts.{AreOne}
-use Rattle.autfilt_laws.specs.Runs.{AreLike, AreSame, EndsBefore, EndsInStreams, IsByText, MayPart, OneEnd, Outcome, left_or, streams_from, texts_or}
+use Rattle.autfilt_laws.specs.Runs.{AreLike, AreSame, EndsBefore, EndsInStreams, IsByText, OneEnd, Outcome, left_or, streams_from, texts_or}
 use Rattle.autfilt_run.specs.Events.{AreJudged, Happen, Point, start_of}
 use Rattle.autfilt_run.specs.OperandEvents.{OperandEvent, all_passed, operands_of}
 use Rattle.autfilt_run.specs.Plans.{streams_of}
@@ -48,15 +48,15 @@ all_same plan a b taken like ends place = record {
 -- ---- both in the files of operands
 
 both_before : OneStanding → (plan : Plan) (texts : Texts) (left : Option (List ℕ)) (a b : Outcome) → IsByText a.end → IsByText b.end
-    → (MayPart a.end b.end → ⊥) → (MayPart b.end a.end → ⊥) → EndsBefore plan texts left a → EndsBefore plan texts left b → AreSame plan a b
-both_before one plan texts left a b x y free also s t =
+    → EndsBefore plan texts left a → EndsBefore plan texts left b → AreSame plan a b
+both_before one plan texts left a b x y s t =
     let p = s.stops.point in
     let q = t.stops.point in
     let h = is_stopped plan texts left a x s in
     let k = is_stopped plan texts left b y t in
     let start = start_of (operands plan) left 0 in
     let same = same_operands one texts a.taken b.taken start p q (fitted_start (operands plan) left 0) s.stops.read t.stops.read (inl (s.fault, h)) (inl (t.fault, k)) in
-    let fault = one_fault one p s.fault t.fault (λ z. free (s.ends ∙ ap end.Fault z.0, t.ends ∙ ap end.Fault z.1)) (λ z. also (t.ends ∙ ap end.Fault z.0, s.ends ∙ ap end.Fault z.1)) h
+    let fault = one_fault one p s.fault t.fault h
     (subst (λ (z : Point). IsStoppedIn z t.fault) (sym same.1) k) in
     let here = subst (λ (z : Point). StopsInOperands t.fault b.name z b.left) (sym same.1) t.stops.stops in
     let stops = subst (λ (f : RunFault). StopsInOperands f b.name p b.left) (sym fault) here in
@@ -107,8 +107,8 @@ record EndsAlike (plan : Plan) (a b : Outcome) : Type 0 where
   place : IsOnePlace a.end a.name b.name a.left b.left
 
 one_streams_end : OneStanding → AreOne → (plan : Plan) (texts : Texts) (taken : List OperandEvent) (first : Point) (a b : Outcome) → IsByText a.end → IsByText b.end
-    → (MayPart a.end b.end → ⊥) → (MayPart b.end a.end → ⊥) → StreamsEnd plan texts taken first a → StreamsEnd plan texts taken first b → EndsAlike plan a b
-one_streams_end one plain plan texts taken first a b x y free also s t =
+    → StreamsEnd plan texts taken first a → StreamsEnd plan texts taken first b → EndsAlike plan a b
+one_streams_end one plain plan texts taken first a b x y s t =
     let ops = operands_of taken in
     let passed = length (all_passed taken) in
     let over = texts_or plan.made texts in
@@ -119,28 +119,28 @@ one_streams_end one plain plan texts taken first a b x y free also s t =
     same_events one plain plan ops passed over a.events b.events a.events b.events a.end b.end start s.point t.point
     (fitted_start (streams_of plan) (left_or plan.made first.left) first.before) s.judged t.judged s.happen t.happen e d in
     let there = subst (λ (z : Point). Ends plan ops passed z b.events b.end) (sym same.1) d in
-    let ends = alike one plain plan ops passed s.point a.events a.end b.end x y free also e (ends_like plan ops passed s.point a.events b.events b.end same.0 there) in
+    let ends = alike one plain plan ops passed s.point a.events a.end b.end x y e (ends_like plan ops passed s.point a.events b.events b.end same.0 there) in
     let here = subst (λ (z : Point). EndsAt plan ops b.end b.name z b.left) (sym same.1) t.ends in
     let other = subst (λ (f : End). EndsAt plan ops f b.name s.point b.left) (sym ends) here in
     record { like = same.0; ends = ends; place = one_place_in_streams one plan ops a.end s.point a.name b.name a.left b.left x (fitted_behind plan texts taken first a s) s.ends other }
 
 both_behind : OneStanding → AreOne → (plan : Plan) (texts : Texts) (left : Option (List ℕ)) (a b : Outcome) → IsByText a.end → IsByText b.end
-    → (MayPart a.end b.end → ⊥) → (MayPart b.end a.end → ⊥) → EndsInStreams plan texts left a → EndsInStreams plan texts left b → AreSame plan a b
-both_behind one plain plan texts left a b x y free also s t =
+    → EndsInStreams plan texts left a → EndsInStreams plan texts left b → AreSame plan a b
+both_behind one plain plan texts left a b x y s t =
     let h = through plan texts left a.taken s.point s.read in
     let k = through plan texts left b.taken t.point t.read in
     let start = start_of (operands plan) left 0 in
     let same = same_operands one texts a.taken b.taken start s.point t.point (fitted_start (operands plan) left 0) s.read.read t.read.read (inr h) (inr k) in
     let there = subst (λ (z : Point). StreamsEnd plan texts b.taken z b) (sym same.1) (streams_end plan texts left b t) in
     let here = subst (λ (z : List OperandEvent). StreamsEnd plan texts z s.point b) (sym same.0) there in
-    let alike = one_streams_end one plain plan texts a.taken s.point a b x y free also (streams_end plan texts left a s) here in
+    let alike = one_streams_end one plain plan texts a.taken s.point a b x y (streams_end plan texts left a s) here in
     all_same plan a b same.0 alike.like alike.ends alike.place
 
 pub one_end : OneStanding → AreOne → OneEnd
-one_end one plain plan texts left a b x y free also = go x.ran y.ran
+one_end one plain plan texts left a b x y = go x.ran y.ran
   where
     go : EndsBefore plan texts left a ⊎ EndsInStreams plan texts left a → EndsBefore plan texts left b ⊎ EndsInStreams plan texts left b → AreSame plan a b
-    go (inl s) (inl t) = both_before one plan texts left a b x.by_text y.by_text free also s t
+    go (inl s) (inl t) = both_before one plan texts left a b x.by_text y.by_text s t
     go (inl s) (inr t) = absurd (not_mixed one plan texts left a b x.by_text s t)
     go (inr s) (inl t) = absurd (not_mixed one plan texts left b a y.by_text t s)
-    go (inr s) (inr t) = both_behind one plain plan texts left a b x.by_text y.by_text free also s t
+    go (inr s) (inr t) = both_behind one plain plan texts left a b x.by_text y.by_text s t

@@ -60,7 +60,7 @@ bad_is_shown start k text h = fault_is_shown start k text h.tokens h.used h.rest
 pub deep_is_shown : DeepIsShown
 deep_is_shown start text h =
     let c = closing h.next_token h.after h.next.front.ends in
-    (c.left, asked_for_token start text h.tokens h.used h.rest h.next_token h.offset h.after h.begun h.next c)
+    (c.left, record { deep = h; held = c.held; behind = c.follows; needed = c.needed }, asked_for_token start text h.tokens h.used h.rest h.next_token h.offset h.after h.begun h.next c)
 
 ends_so : (some : Type 0) (rest : List ℕ) → some × IsBlanks rest ⊎ EndsOpen rest → IsBlanks rest ⊎ EndsOpen rest
 ends_so some rest (inl h) = inl h.1
