@@ -112,12 +112,13 @@ prints p (end.Fault fault.Memory) events old by = gains old _
 as_many : (n m count : ℕ) → m ≡ raised_by count n → m ≡ raised_by (count + 0) n
 as_many n m count is = let same : count ≡ count + 0 = omega arith in is ∙ ap (λ k. raised_by k n) same
 
-opened : (e : End) (count : ℕ) (seen seen' : Seen) → IsByText e → seen'.openings ≡ raised_by count seen.openings → EndsOpened e count seen seen'
-opened end.Output count seen seen' by is = is
-opened end.NoneOutput count seen seen' by is = is
-opened end.Aborts count seen seen' by is = is
-opened end.Usage count seen seen' by is = absurd by
-opened (end.Fault f) count seen seen' by is = record { tried = 0; may = may_end f by; opened = as_many seen.openings seen'.openings count is }
+opened : (e : End) (wants : Type 0) (count : ℕ) (seen seen' : Seen) → IsByText e → seen'.openings ≡ raised_by count seen.openings → EndsOpened e wants count seen seen'
+opened end.Output wants count seen seen' by is = is
+opened end.NoneOutput wants count seen seen' by is = is
+opened end.Aborts wants count seen seen' by is = is
+opened end.Usage wants count seen seen' by is = absurd by
+opened (end.Fault f) wants count seen seen' by is =
+    record { tried = 0; may = may_end f by; wanted = λ one. let none : 0 ≡ 1 = one in cc; opened = as_many seen.openings seen'.openings count is }
 
 -- ---- the run
 
@@ -147,7 +148,7 @@ module _ (plan : Plan) (texts : Texts) (inputs : Seen) (told : inputs.texts ≡ 
           no_write = no_write h.fault by_fault;
           happened = λ other is. subst (λ (t : Texts). EndsInOperands plan t inputs.left o.left o.taken h.fault o.name) (told_once texts other inputs.texts told is) h.stops;
           named = front_of (opened_files o.taken) (operands plan) h.stops.point.coming (files_opened texts o.taken (start_of (operands plan) inputs.left 0) h.stops.point h.stops.read);
-          openings = record { tried = 0; may = may_end h.fault by_fault; opened = as_many inputs.openings _ count refl };
+          openings = record { tried = 0; may = may_end h.fault by_fault; wanted = λ one. let none : 0 ≡ 1 = one in cc; opened = as_many inputs.openings _ count refl };
           none = h.none;
           output = refl;
         });
@@ -179,7 +180,7 @@ module _ (plan : Plan) (texts : Texts) (inputs : Seen) (told : inputs.texts ≡ 
       happened = happened;
       tallied = h.tallied;
       named = streams_named;
-      openings = opened o.end (length (opened_streams o.events)) seen seen' by openings;
+      openings = opened o.end _ (length (opened_streams o.events)) seen seen' by openings;
       prints = prints plan o.end o.events out.written by;
     }
 
