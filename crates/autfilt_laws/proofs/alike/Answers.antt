@@ -2,7 +2,7 @@
 use Rattle.std.proofs.Common.{◌≡◌, ◌∙◌, ◌⊎◌, ◌==◌, ℕ, Bool, true, false, cond, List, [], ◌∷◌, ◌++◌, Option, Some, None, ap, append-nil, inl, inr, length, refl, subst, sym}
 use Rattle.autfilt_laws.proofs.alike.LeftBehind.{IsLeftBehind, one_left_behind}
 use Rattle.autfilt_laws.proofs.alike.SamePlans.{same_plan_ended, same_plan_left}
-use Rattle.autfilt_laws.specs.Answers.{AnswerCompletes, Answered, AreAlike, IsByTexts, IsDecided, IsOf, OneAnswer}
+use Rattle.autfilt_laws.specs.Answers.{AnswerCompletes, Answered, IsByTexts, IsDecided, OneAnswer}
 use Rattle.aut_base.specs.Automaton.{Automaton}
 use Rattle.aut_base.specs.declared.limit.Limit.{Limit}
 use Rattle.aut_base.specs.declared.limit.Limit.TheVariants as limit
@@ -11,23 +11,22 @@ use Rattle.aut_io.specs.Seen.{Seen, SinkSeen}
 use Rattle.autfilt_command.specs.Ends.{ended_of}
 use Rattle.autfilt_command.specs.Noted.{Notes}
 use Rattle.autfilt_command.specs.Notes.{line_of}
-use Rattle.autfilt_command.specs.Run.{AreAllRead, EndsBy, FailsInOperands, GoesOverAll, Prints, Runs, RunsOver, RunsOverAs, RunsTo, all_noted, end_of, noted, passed_noted, tally_after}
+use Rattle.autfilt_command.specs.Run.{AreAllRead, FailsInOperands, GoesOverAll, Prints, RunsOver, RunsOverAs, RunsTo, all_noted, end_of, noted, passed_noted, tally_after}
 use Rattle.autfilt_command.specs.declared.ended.End.{End}
 use Rattle.autfilt_command.specs.declared.ended.End.TheVariants as end
 use Rattle.autfilt_command.specs.declared.ended.Ended.{Ended}
 use Rattle.autfilt_command.specs.declared.ended.Ended.TheVariants as ended
-use Rattle.autfilt_laws.specs.Runs.{AreLike, AreReadable, AreSame, Completes, DecidesTexts, EndsBefore, EndsInStreams, IsByText, IsEnded, IsLike, OneEnd, Outcome, left_or, streams_from, texts_or}
+use Rattle.autfilt_laws.specs.Runs.{AreLike, Completes, EndsBefore, IsByText, IsEnded, IsLike, OneEnd, Outcome, left_or, streams_from, texts_or}
 use Rattle.autfilt_run.specs.Events.{Dropped, Event, Kept, Opened, Point, Skipped, Tally, all_written, start_of, tally}
 use Rattle.autfilt_run.specs.Events as event
 use Rattle.autfilt_run.specs.OperandEvents.{OperandEvent, all_passed, operands_of}
 use Rattle.autfilt_run.specs.Plans.{count_text, streams_of}
-use Rattle.autfilt_run.specs.declared.fault.RunFault.{RunFault}
 use Rattle.autfilt_run.specs.declared.fault.RunFault.TheVariants as fault
 use Rattle.filter_plan.specs.Laws.{OnePlan, SamePlan}
 use Rattle.filter_plan.specs.Words.{IsPlan}
 use Rattle.filter_plan.specs.declared.plan.Plan.{Plan}
 use Rattle.hoa_parser.specs.Standing.{OneStanding}
-use Rattle.made_stream.specs.Made.{made_texts, seen_of_made}
+use Rattle.made_stream.specs.Made.{made_texts}
 
 -- ---- the end, by the answer
 

@@ -2,12 +2,11 @@
 use Rattle.std.proofs.Common.{◌≡◌, ◌∙◌, ◌⊎◌, ℕ, List, Option, Some, None, ap, inl, inr, subst, sym}
 use Rattle.aut_io.specs.Outside.{Texts}
 use Rattle.autfilt_command.specs.Run.{AreAllRead}
-use Rattle.autfilt_command.specs.declared.ended.End.TheVariants as end
 use Rattle.autfilt_laws.proofs.alike.Full.{fitted_read, fitted_start}
 use Rattle.autfilt_laws.proofs.alike.OperandEnds.{IsThrough, not_through, same_operands, stopped_there}
 use Rattle.autfilt_laws.specs.Runs.{EndsBefore, IsByText, Outcome}
 use Rattle.autfilt_run.specs.Events.{Point, start_of}
-use Rattle.autfilt_run.specs.OperandEvents.{AreRead, OperandEvent}
+use Rattle.autfilt_run.specs.OperandEvents.{OperandEvent}
 use Rattle.filter_plan.specs.Words.{operands}
 use Rattle.filter_plan.specs.declared.plan.Plan.{Plan}
 use Rattle.hoa_parser.specs.Standing.{OneStanding}

@@ -7,17 +7,17 @@ use Rattle.aut_base.specs.Automaton.{Automaton}
 use Rattle.aut_base.specs.declared.limit.Limit.{Limit}
 use Rattle.aut_base.specs.declared.limit.Limit.TheVariants as limit
 use Rattle.aut_io.specs.Outside.{Texts}
-use Rattle.autfilt_command.specs.Run.{AreAllRead, EndsAt, EndsInOperands, RunsTo}
+use Rattle.autfilt_command.specs.Run.{AreAllRead, EndsAt, RunsTo}
 use Rattle.autfilt_command.specs.declared.ended.End.{End}
 use Rattle.autfilt_command.specs.declared.ended.End.TheVariants as end
 use Rattle.autfilt_laws.proofs.alike.LeftBehind.{IsLeftBehind}
 use Rattle.autfilt_laws.specs.Runs.{EndsBefore, EndsInStreams, IsEnded, Outcome, streams_from, texts_or}
-use Rattle.autfilt_run.specs.Due.{IsCanonical, IsDue, IsDueWhere, IsFigures, IsMade, IsPrinted}
+use Rattle.autfilt_run.specs.Due.{IsDueWhere, IsMade, IsPrinted}
 use Rattle.autfilt_run.specs.Events.{AreJudged, Dropped, Ended, Event, IsJudged, Kept, Opened, Point, Skipped}
 use Rattle.autfilt_run.specs.OperandEvents.{OperandEvent, operands_of}
 use Rattle.autfilt_run.specs.Over.{IsOver, IsOverPrinting, StopsPrinting}
-use Rattle.autfilt_run.specs.Plans.{asks_on, prints_each}
-use Rattle.autfilt_run.specs.Runs.{AtNamed, AtStream, StandsWith, Stops, StopsAt}
+use Rattle.autfilt_run.specs.Plans.{prints_each}
+use Rattle.autfilt_run.specs.Runs.{AtNamed, StandsWith, Stops, StopsAt}
 use Rattle.autfilt_run.specs.declared.fault.RunFault.{RunFault}
 use Rattle.autfilt_run.specs.declared.fault.RunFault.TheVariants as fault
 use Rattle.filter_plan.specs.Laws.{SamePlan}
