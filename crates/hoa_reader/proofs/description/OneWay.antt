@@ -166,8 +166,8 @@ one_state w q are within =
           let on = holds_at (names_of w) letter in
           let small = number_small (width w) on in
           subst (λ n. IsMetAmong w n letter (tree_edges_from w q)) found.number
-              (subst (IsMetAmong w s.number letter) (sym edges)
-              (one_met w s 0 (letter_of_all (width w) on) s.edges letter own none.1 (omega arith) (omega (arith, small, count)) (number_there (width w) on)));
+          (subst (IsMetAmong w s.number letter) (sym edges)
+          (one_met w s 0 (letter_of_all (width w) on) s.edges letter own none.1 (omega arith) (omega (arith, small, count)) (number_there (width w) on)));
     }
 
 -- the edges of the states below a number
