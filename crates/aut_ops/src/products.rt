@@ -47,7 +47,7 @@ pub fn product(alloc: Global, a: &Automaton, b: &Automaton) -> Result<Automaton,
 pub fn product_or(alloc: Global, a: &Automaton, b: &Automaton) -> Result<Automaton, PairFault>
     requires states { (completed (automaton_of a.now)).states < 2 ^ 32 }
     requires other_states { (completed (automaton_of b.now)).states < 2 ^ 32 }
-    requires sets { length (joined_names a.now.names b.now.names) ≤ MOST_NAMES → (completed (automaton_of a.now)).sets + (completed (automaton_of b.now)).sets < 2 ^ 32 }
+    requires sets { (completed (automaton_of a.now)).sets + (completed (automaton_of b.now)).sets < 2 ^ 32 }
     ensures shape { IfOk result (λ made. IsEitherOf (automaton_of a.now) (automaton_of b.now) (automaton_of made)) }
     ensures accepts { IfOk result (λ made. AcceptsEither (automaton_of made) (automaton_of a.now) (automaton_of b.now)) }
     ensures within { OnOk result (length (joined_names a.now.names b.now.names) ≤ MOST_NAMES) }

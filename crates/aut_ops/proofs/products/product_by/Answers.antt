@@ -16,7 +16,7 @@ product_over-requires-clause-sets c =
     let within = subst (λ (ns : List (List ℕ)). length ns ≤ MOST_NAMES) (λ i. joined_names (c.names.ensures i) (c.names-2.ensures i)) c.in_ok-names.ensures.within in
     let first = ap (λ (x : Automaton). x.sets) c.in_ok-both.ensures.first in
     let second = ap (λ (x : Automaton). x.sets) (ap automaton_of c.second.ensures ∙ c.in_ok-both.ensures.second) in
-    omega (arith, c.requires within, first, second)
+    omega (arith, c.requires.sets within, first, second)
 
 pub returns-clause-shape : goal.returns-clause-shape
 returns-clause-shape c =

@@ -14,17 +14,10 @@ use Rattle.aut_base.specs.declared.limit.TheConstants.{MOST_PAIRS}
 use Rattle.aut_ops.proofs.products.product_or.Goals as goal
 
 pub product_by-requires : goal.product_by-requires
-product_by-requires c = λ within.
-    let a = automaton_of c.args.a.now in
-    let b = automaton_of c.args.b.now in
-    let one = automaton_of c.in_ok-first.first in
-    let two = automaton_of c.in_ok-second.second in
-    let names : joined_names one.names two.names ≡ joined_names a.names b.names =
-    λ i. joined_names ((ap (λ (x : Automaton). x.names) c.in_ok-first.ensures.shape ∙ completed_names a c.whole.ensures.well_formed) i)
-    ((ap (λ (x : Automaton). x.names) c.in_ok-second.ensures.shape ∙ completed_names b c.whole-2.ensures.well_formed) i) in
+product_by-requires c =
     let first = ap (λ (x : Automaton). x.sets) c.in_ok-first.ensures.shape in
     let second = ap (λ (x : Automaton). x.sets) c.in_ok-second.ensures.shape in
-    omega (arith, c.requires.sets (subst (λ (ns : List (List ℕ)). length ns ≤ MOST_NAMES) names within), first, second)
+    record { sets = λ within. omega (arith, c.requires.sets, first, second) }
 
 pub returns : goal.returns
 returns c =
