@@ -62,7 +62,7 @@ opened_push events event = sym (length-append (opened_files events) (opened_file
 
 pub file_open_then : (before : Bool) (events others : List OperandEvent) → file_open_after before (events ++ others) ≡ file_open_after (file_open_after before events) others
 file_open_then before [] others = refl
-file_open_then before (e ∷ es) others = open_then (file_open_by before e) es others
+file_open_then before (e ∷ es) others = file_open_then (file_open_by before e) es others
 
 -- ---- one turn
 
