@@ -48,8 +48,8 @@ enum Each {
     Most,
 }
 
-/// The last place at which a text is cut in two.
-const MOST_CUTS: usize = 2_000;
+/// How many bytes a text has at most that is cut in two at each place.
+const LONGEST: usize = 400;
 
 /// What a call is made on and what it must answer, as far as the lines were read.
 #[derive(Drop)]
@@ -233,15 +233,16 @@ impl TextRow {
         self.compare(alloc, shown, "run", run as usize, &ran)
     }
 
-    /// Does the same of a run over the text in two pieces, cut at each place, where the row has one run and none of its calls fails.
+    /// Does the same of runs over the text in two pieces, cut at each place, where the row has one run, none of its calls fails and
+    /// the text isn't long.
     fn add_pieces(&self, alloc: Global, shown: &mut String) -> Result<(), Fault> {
         let (Some(Call::Reading(call)), Each::Nothing) = (self.call, self.each) else {
             return Ok(());
         };
-        if !self.failing.is_empty() {
+        if !self.failing.is_empty() || self.text.len() > LONGEST {
             return Ok(());
         }
-        for place in 0..=self.text.len().min(MOST_CUTS) {
+        for place in 0..=self.text.len() {
             let ran = self.read_in_pieces(alloc, call, place)?;
             self.compare(alloc, shown, "cut at", place, &ran)?;
         }
