@@ -6,6 +6,7 @@ use Rattle.std.proofs.lemmas.Bool.{and_from, false≢true, or_from, or_left}
 use Rattle.std.proofs.lemmas.List.{get_or_append_left, get_or-append-add, get_or_default, length-drop, length-take, take-append-drop, take_all}
 use Rattle.std.proofs.lemmas.List.Elements.{All-drop, All-take, All-weaker}
 use Rattle.std.proofs.lemmas.List.Folds.{Any-from_list_any, list_any-append, list_any_at}
+use Rattle.aut_base.proofs.lists.Lists.{list_any-map}
 use Rattle.aut_base.proofs.order.AllPairsOf.{pairs_append}
 use Rattle.std.specs.List.{list_any}
 use Rattle.aut_base.specs.Automaton.{TreeEdge}
@@ -86,6 +87,15 @@ unasked_met names s es g known not_apart not_filled has = record {
   has = has;
   truth = λ asked. absurd (false≢true (sym (or_from known.apart known.filled not_apart not_filled) ∙ asked));
   apart = (λ e. absurd (false≢true (sym not_apart ∙ e)), λ h. h.0);
+}
+
+-- Where two edges were met together before, only the guard is asked.
+pub in_turn_met : (names : List (List ℕ)) (s now : Store) (links : List Link) (known : Survey) (met : Met) → known.apart ≡ false → met.apart ≡ false
+    → IsGuardOf now (λ on. list_any (λ l. truth_in s l.guard on) links) met.guard → IsMet names now (map (edge_of s) links) known met
+in_turn_met names s now links known met before apart guard = record {
+  has = guard.has;
+  truth = λ asked on. guard.truth on ∙ sym (list_any-map (λ (e : TreeEdge). truth on e.label) (edge_of s) links);
+  apart = (λ e. absurd (false≢true (sym apart ∙ e)), λ h. absurd (false≢true (sym before ∙ h.0)));
 }
 
 -- Two halves, of which the second was told with the first.
@@ -180,6 +190,11 @@ pub rest_has : {s t : Store} (links : List Link) → Keeps s t → All (λ l. Ha
 rest_has {s} {t} links keeps has =
     All-weaker (λ (l : Link). Has s l.guard) (λ (l : Link). Has t l.guard) (λ l h. keeps.has l.guard h) (rest_of links)
     (All-take (λ (l : Link). Has s l.guard) (length links - length links / 2) (drop (length links / 2) links) (All-drop (λ (l : Link). Has s l.guard) (length links / 2) links has))
+
+-- what follows of an answer of which two things are known
+pub of_two : {E : Type 0} {P Q R : Met → Type 0} (r : Result Met E) → ((m : Met) → P m → Q m → R m) → IfOk r P → IfOk r Q → IfOk r R
+of_two (Ok m) f p q = f m p q
+of_two (Err e) f p q = tt
 
 -- what follows of an answer of which three things are known
 pub of_three : {E : Type 0} {P Q R T : Met → Type 0} (r : Result Met E) → ((m : Met) → P m → Q m → R m → T m) → IfOk r P → IfOk r Q → IfOk r R → IfOk r T

@@ -1,6 +1,7 @@
 //! What the guards of each state's links tell together.
 
-ghost use Rattle.std.specs.Prelude.{◌≡◌, ◌↔◌, ◌<◌, ◌||◌, ℕ, Bool, List, All, IfOk, IsTrue, length, map};
+ghost use Rattle.std.specs.List.{list_any};
+ghost use Rattle.std.specs.Prelude.{◌≡◌, ◌↔◌, ◌<◌, ◌||◌, ℕ, Bool, List, All, IfOk, IsTrue, false, length, map};
 ghost use Rattle.aut_core.specs.Core.{edge_of};
 ghost use Rattle.aut_core.specs.Index.{IsIndex};
 ghost use Rattle.aut_core.specs.Surveys.{AreMetApart, AreSurveyed, IsMet, IsMetAlways, IsSurvey};
@@ -89,7 +90,7 @@ fn survey_met(guards: &Guards, known: Survey, met: Guard) -> Survey
 }
 
 /// Where one of the links is met, and whether no letter meets two, beside what is known. By halves, so that neighbours are joined
-/// first, and only as long as there is anything to learn.
+/// first, and only as long as there is anything to learn. Once two were met together, one after the other, since labels may repeat.
 fn meet(draft: &mut Draft, names: &Names, links: &[Link], known: Survey) -> Result<Met, Memory>
     requires names { AreNames draft.old.now names.now }
     requires has { All (λ l. Has draft.old.now l.guard) links.now }
@@ -108,6 +109,9 @@ fn meet(draft: &mut Draft, names: &Names, links: &[Link], known: Survey) -> Resu
     if !known.apart && !known.filled {
         return Ok(alone);
     }
+    if !known.apart {
+        return meet_in_turn(draft, links);
+    }
     let half = links.len() / 2;
     let first = meet(draft, names, &links[..half], known)?;
     let asked = Survey {
@@ -116,6 +120,24 @@ fn meet(draft: &mut Draft, names: &Names, links: &[Link], known: Survey) -> Resu
     };
     let second = meet(draft, names, &links[half..], asked)?;
     meet_both(draft, names, first.guard, second, known.filled)
+}
+
+/// The same where two links were met together before. What is joined soon holds each label that comes again, and stays.
+fn meet_in_turn(draft: &mut Draft, links: &[Link]) -> Result<Met, Memory>
+    requires has { All (λ l. Has draft.old.now l.guard) links.now }
+    ensures kept { draft.new.kept ≡ draft.old.kept }
+    ensures keeps { Keeps draft.old.now draft.new.now }
+    ensures apart { IfOk result (λ met. met.apart ≡ false) }
+    ensures guard { IfOk result (λ met. IsGuardOf draft.new.now (λ on. list_any (λ l. truth_in draft.old.now l.guard on) links.now) met.guard) }
+{
+    let mut guard = draft.guards().never();
+    'links: for link in links {
+        guard = draft.or(guard, link.guard)?;
+    }
+    Ok(Met {
+        guard,
+        apart: false,
+    })
 }
 
 /// The same of both halves, where the second was told with the first.

@@ -6,7 +6,8 @@ use Rattle.aut_core.specs.Core.{edge_of}
 use Rattle.aut_core.specs.Surveys.{IsMet}
 use Rattle.aut_core.specs.declared.survey.Survey.{Survey}
 use Rattle.aut_core.proofs.Growth.{kept_edges, keeps_none, keeps_on}
-use Rattle.aut_core.proofs.Surveys.{both_halves, halves_met, length-rest_of, of_three, rest_has, rest_of}
+use Rattle.std.proofs.lemmas.Bool.{not-true}
+use Rattle.aut_core.proofs.Surveys.{both_halves, halves_met, in_turn_met, length-rest_of, of_three, of_two, rest_has, rest_of}
 use Rattle.aut_core.proofs.survey.+meet.Goals as goal
 
 pub meet-requires-2 : goal.meet-requires-2
@@ -16,6 +17,12 @@ meet-requires-2 t c =
       omega (arith, size, c.decreases, c.requires.some, c.if-links-eq1.false),
       ((c.requires.names.0 ∙ sym keeps.names, c.requires.names.1), (rest_has c.args.links.now keeps c.requires.has, omega (arith, size, c.requires.some))),
     )
+
+pub returns-then-not-known-3-clause-met : goal.returns-then-not-known-3-clause-met
+returns-then-not-known-3-clause-met t c =
+    let before = not-true c.args.known.apart c.if-not-known-3.true in
+    of_two c.meet_in_turn.result (λ met. in_turn_met c.args.names.now c.args.draft.now.now c.meet_in_turn.new.draft.now c.args.links.now c.args.known met before) c.meet_in_turn.ensures.apart
+    c.meet_in_turn.ensures.guard
 
 pub returns-in_err-second-clause-keeps : goal.returns-in_err-second-clause-keeps
 returns-in_err-second-clause-keeps t c = keeps_on c.meet.ensures.keeps c.meet-2.ensures.keeps
