@@ -1,2 +1,3 @@
 -- Definitions that only inner functions speak in.
+pub mod Names
 pub mod Steps
