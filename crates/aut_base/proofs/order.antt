@@ -3,4 +3,5 @@ pub mod AllPairsOf
 pub mod Climbing
 pub mod Ordered
 pub mod Rising
+pub mod RisingLists
 pub mod WellFormed

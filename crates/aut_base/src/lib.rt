@@ -16,6 +16,7 @@ mod letter;
 mod limit;
 mod marks;
 mod names;
+mod rising;
 mod seq;
 mod well_formed;
 
@@ -36,4 +37,5 @@ pub use limit::{
 };
 pub use marks::Marks;
 pub use names::Names;
+pub use rising::in_order;
 pub use seq::{Arcs, Flags, Numbers, Places, Seq, Text, Words};

@@ -3,7 +3,7 @@
 ghost use Rattle.std.specs.Prelude.{◌≡◌, ◌≢◌, ◌==◌, ◌<◌, ℕ, List, [], ◌∷◌, ◌++◌, length, All, AllPairs, Contains, MatchBool, MatchOption, ◌≤◌, ◌^◌, OnOk, OnErr, slice_get};
 ghost use Rattle.std.specs.List.{slice_index_or};
 
-use crate::{Memory, Text};
+use crate::{Memory, Text, Words};
 use std::alloc::Global;
 use std::marker::Model;
 
@@ -30,6 +30,16 @@ impl Names {
     {
         Names {
             items: Vec::new(alloc),
+        }
+    }
+
+    /// These names, without a copy.
+    pub fn from_texts(texts: Words) -> Self
+        requires { AllPairs (λ a b. a ≢ b) texts }
+        ensures { result ≡ texts }
+    {
+        Names {
+            items: texts.into_vec(),
         }
     }
 

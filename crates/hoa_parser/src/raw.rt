@@ -143,16 +143,4 @@ impl Raw {
         }
         None
     }
-
-    /// The same by value: all else that was written is let go.
-    pub fn into_name(self) -> Option<Text>
-        ensures { result ≡ name_of (written self) }
-    {
-        'items: for item in self.items.into_vec() {
-            if let Item::Name(text) = item {
-                return Some(text);
-            }
-        }
-        None
-    }
 }
