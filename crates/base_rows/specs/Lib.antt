@@ -1,1 +1,1 @@
-pub mod Systems
+pub mod inner

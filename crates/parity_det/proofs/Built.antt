@@ -17,7 +17,7 @@ use Rattle.parity_det.proofs.Explored.{is_tree, within_width}
 use Rattle.parity_det.proofs.Widths.{few_nodes, parity_below}
 use Rattle.parity_det.specs.Determinisation.{class_moves, parity_on, start_tree, tree_moves, width}
 use Rattle.safra_trees.specs.Same.{same_nodes}
-use Rattle.parity_det.specs.Systems.{IsClassEvent, mark_of}
+use Rattle.parity_det.specs.inner.Systems.{IsClassEvent, mark_of}
 use Rattle.parity_laws.specs.Determinised.{tree_at}
 use Rattle.safra_laws.proofs.parity.First.{priority_by_first}
 use Rattle.safra_laws.proofs.parity.Least.{priorities_are_below}

@@ -7,7 +7,7 @@ use Rattle.aut_base.specs.Automaton.{IsEdgeOf, TreeEdge}
 use Rattle.aut_core.specs.Core.{Core, IsCore, automaton_of}
 use Rattle.aut_core.specs.Surveys.{edges_from}
 use Rattle.letter_classes.specs.SetClasses.{set_edges}
-use Rattle.parity_det.specs.Systems.{moves_of}
+use Rattle.parity_det.specs.inner.Systems.{moves_of}
 use Rattle.parity_laws.specs.Buchi.{move_of}
 use Rattle.safra_trees.specs.Events.{IsWithin}
 

@@ -17,7 +17,7 @@ use Rattle.parity_det.proofs.Widths.{wide}
 use Rattle.parity_det.proofs.Explored.{class_at, is_tree, large_fails, same_root_moves, small_given, step_of, within_width}
 use Rattle.parity_det.specs.Determinisation.{class_moves, parity_edge, parity_on, start_tree, step_at, tree_classes, tree_moves, tree_rules, unless_large, width}
 use Rattle.safra_trees.specs.Same.{same_nodes, same_tells}
-use Rattle.parity_det.specs.Shapes.{IsParityMinOdd}
+use Rattle.parity_det.specs.Promises.{IsParityMinOdd}
 use Rattle.parity_laws.specs.Buchi.{moves_at}
 use Rattle.parity_laws.specs.Determinised.{IsDeterminised, IsStepEdge, tree_at}
 use Rattle.safra_laws.proofs.invariant.RootMoves.{root_moves_are_enough}

@@ -17,8 +17,8 @@ use Rattle.parity_det.proofs.Widths.{wide}
 use Rattle.parity_det.specs.Complements.{ComplementIsDetermined, IsDeterministicForm, IsWithinParity, ParityExcludesLimits, PassesParity, by_completion, by_determinisation}
 use Rattle.parity_det.specs.Determinisation.{DeterminisationIsDetermined, IsDeterminisation, IsParityOf, IsTreeForm, MeetsParityLimit, MeetsTreeLimit, ParityIsDetermined, parity_on}
 use Rattle.parity_det.specs.Determinisation.{start_tree, tree_rules, width}
-use Rattle.parity_det.specs.Shapes.{HasFewSets, IsParityMinOdd, ParityHasFewSets}
-use Rattle.parity_det.specs.Systems.{MeetsFirst}
+use Rattle.parity_det.specs.Promises.{HasFewSets, IsParityMinOdd, ParityHasFewSets}
+use Rattle.parity_det.specs.inner.Systems.{MeetsFirst}
 use Rattle.parity_det.specs.declared.fault.CompFault.{CompFault}
 use Rattle.parity_det.specs.declared.fault.CompFault.TheVariants as fault
 use Rattle.parity_laws.proofs.directions.Both.{accepts_the_same}

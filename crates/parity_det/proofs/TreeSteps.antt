@@ -17,7 +17,7 @@ use Rattle.parity_det.proofs.Explored.{large_fails, small_given}
 use Rattle.parity_det.specs.Determinisation.{class_moves, step_at, tree_classes, tree_moves, unless_large}
 use Rattle.parity_det.specs.Faults.{step_fault}
 use Rattle.letter_classes.specs.Taken.{reads_at}
-use Rattle.parity_det.specs.Systems.{IsClassEvent, moves_of}
+use Rattle.parity_det.specs.inner.Systems.{IsClassEvent, moves_of}
 use Rattle.parity_laws.specs.Buchi.{move_of}
 use Rattle.safra_laws.specs.Rounds.{next_tree}
 use Rattle.safra_trees.specs.Events.{event_of}

@@ -1,5 +1,5 @@
 pub mod Complements
 pub mod Determinisation
 pub mod Faults
-pub mod Shapes
-pub mod Systems
+pub mod Promises
+pub mod inner

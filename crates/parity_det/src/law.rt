@@ -2,7 +2,7 @@
 
 ghost use Rattle.parity_det.specs.Complements.{ComplementExists, ComplementIsDetermined, ParityExcludesLimits, ParityExists};
 ghost use Rattle.parity_det.specs.Determinisation.{DeterminisationIsDetermined, ParityIsDetermined};
-ghost use Rattle.parity_det.specs.Shapes.{ParityHasFewSets};
+ghost use Rattle.parity_det.specs.Promises.{ParityHasFewSets};
 
 /// A Büchi automaton has at most one determinised automaton, or meets at most one limit, and never both.
 pub fn determinisation_is_determined()

@@ -2,7 +2,7 @@
 
 ghost use Rattle.std.specs.Prelude.{◌≡◌, ◌+◌, ◌<◌, ◌^◌, map};
 ghost use Rattle.parity_det.specs.Determinisation.{width};
-ghost use Rattle.parity_det.specs.Systems.{mark_of};
+ghost use Rattle.parity_det.specs.inner.Systems.{mark_of};
 ghost use Rattle.safra_trees.specs.View.{tree_of};
 
 use aut_base::{Marks, Memory};
@@ -29,7 +29,7 @@ pub(crate) struct EventMarks {
 
 impl Marking for EventMarks {
     ghost use Rattle.std.specs.Prelude.{[], ◌∷◌, ◌<◌, ◌^◌};
-    ghost use Rattle.parity_det.specs.Systems.{mark_of};
+    ghost use Rattle.parity_det.specs.inner.Systems.{mark_of};
 
     type Note = Event;
 

@@ -4,7 +4,7 @@ ghost use Rattle.std.specs.Prelude.{◌≡◌, ◌<◌, All, IfOk};
 ghost use Rattle.aut_core.specs.Core.{automaton_of};
 ghost use Rattle.letter_classes.specs.SetClasses.{set_edges};
 ghost use Rattle.letter_classes.specs.Taken.{reads_at};
-ghost use Rattle.parity_det.specs.Systems.{moves_of};
+ghost use Rattle.parity_det.specs.inner.Systems.{moves_of};
 ghost use Rattle.safra_trees.specs.Events.{IsWithin};
 
 use aut_base::Memory;

@@ -28,7 +28,7 @@ impl<'a> System for Trees<'a> {
     ghost use Rattle.aut_core.specs.Core.{Core, automaton_of};
     ghost use Rattle.letter_classes.specs.SetClasses.{FitsStore, IsClassGuard};
     ghost use Rattle.parity_det.specs.Determinisation.{tree_moves};
-    ghost use Rattle.parity_det.specs.Systems.{IsClassEvent};
+    ghost use Rattle.parity_det.specs.inner.Systems.{IsClassEvent};
     ghost use Rattle.safra_trees.specs.Same as lists;
     ghost use Rattle.safra_trees.specs.Trees.{Node, root_states};
     ghost use Rattle.safra_trees.specs.View.{tree_of};

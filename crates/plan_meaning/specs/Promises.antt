@@ -8,7 +8,7 @@ use Rattle.aut_base.specs.Automaton.{Automaton}
 use Rattle.aut_base.specs.Formula.{FormulaTree}
 use Rattle.aut_core.specs.Deterministic.{IsComplete, IsDeterministic}
 use Rattle.degeneralise.specs.Buchi.{buchi}
-use Rattle.parity_det.specs.Shapes.{HasFewSets, IsParityMinOdd}
+use Rattle.parity_det.specs.Promises.{HasFewSets, IsParityMinOdd}
 use Rattle.filter_plan.specs.declared.plan.Form.{Form}
 use Rattle.filter_plan.specs.declared.plan.Form.TheVariants as form
 use Rattle.filter_plan.specs.declared.plan.Plan.{Plan}

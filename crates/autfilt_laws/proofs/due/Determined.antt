@@ -26,7 +26,7 @@ use Rattle.parity_det.proofs.ParityLaws.{form_accepts, form_parity, pruned_formu
 use Rattle.parity_det.proofs.Widths.{few_nodes}
 use Rattle.parity_det.specs.Complements.{IsDeterministicForm, by_completion, by_determinisation}
 use Rattle.parity_det.specs.Determinisation.{IsParityOf, start_tree, tree_rules}
-use Rattle.parity_det.specs.Shapes.{IsParityMinOdd}
+use Rattle.parity_det.specs.Promises.{IsParityMinOdd}
 use Rattle.parity_laws.proofs.complements.Dual.{complements_of_the_same, dual_is_complement}
 use Rattle.parity_laws.specs.Complement.{AreComplements, dualised}
 use Rattle.plan_meaning.proofs.changes.Determinised.{complement_made, deterministic_itself, deterministic_made, parity_made}

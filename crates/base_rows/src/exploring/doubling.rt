@@ -20,7 +20,7 @@ pub(crate) struct Doubling {
 
 impl System for Doubling {
     ghost use Rattle.std.specs.Prelude.{◌≡◌, ◌+◌, ◌*◌, ◌<◌, ℕ, Some, leb, nat_eq, slice_get};
-    ghost use Rattle.base_rows.specs.Systems.{doubling_moves, number_tells, same_numbers};
+    ghost use Rattle.base_rows.specs.inner.Systems.{doubling_moves, number_tells, same_numbers};
 
     type Thing = Number;
 

@@ -15,7 +15,7 @@ pub(crate) struct Rising {
 impl System for Rising {
     ghost use Rattle.std.specs.Prelude.{◌≡◌, ℕ, List, nat_eq, ⊤};
     ghost use Rattle.std.specs.Cmp.Lexicographic.{bytes_decides, pointwise};
-    ghost use Rattle.base_rows.specs.Systems.{rising_moves};
+    ghost use Rattle.base_rows.specs.inner.Systems.{rising_moves};
 
     type Thing = Numbers;
 

@@ -8,7 +8,7 @@ use Rattle.aut_core.specs.OtherNames.{AcceptTheSame}
 use Rattle.filter_plan.specs.declared.plan.Form.TheVariants as form
 use Rattle.parity_det.specs.Complements.{IsComplementOf, IsRefusal, IsWithinParity}
 use Rattle.parity_det.specs.Determinisation.{IsParityOf}
-use Rattle.parity_det.specs.Shapes.{IsParityMinOdd}
+use Rattle.parity_det.specs.Promises.{IsParityMinOdd}
 use Rattle.parity_det.specs.declared.fault.CompFault.{CompFault}
 use Rattle.parity_det.specs.declared.fault.CompFault.TheVariants as comp
 use Rattle.parity_laws.specs.Complement.{AreComplements}

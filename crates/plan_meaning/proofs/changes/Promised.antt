@@ -19,7 +19,7 @@ use Rattle.monitor_form.specs.Subsets.{IsMonitor}
 use Rattle.plan_meaning.specs.Changes.{Bring, Change, Complete, IsInForm, MakesAll, change_options, changes_of, form_change}
 use Rattle.degeneralise.specs.Buchi.{buchi}
 use Rattle.parity_det.proofs.ParityLaws.{parity_has_few_sets}
-use Rattle.parity_det.specs.Shapes.{HasFewSets, IsParityMinOdd}
+use Rattle.parity_det.specs.Promises.{HasFewSets, IsParityMinOdd}
 use Rattle.plan_meaning.specs.Promises.{HasFewSetsUnder, IsBuchi, IsDeterministicSafety, IsDisjunctive, IsOfForm, KeepsForm, KeepsPromises, OrHasSinkSet}
 use Rattle.plan_meaning.specs.Standing.{those_standing}
 use Rattle.plan_meaning.specs.inner.Stepping.{MakesAsPromised, PromisesForm}

@@ -10,7 +10,7 @@ use Rattle.aut_core.specs.Deterministic.{IsComplete, IsDeterministic}
 use Rattle.filter_plan.specs.declared.plan.Form.{Form}
 use Rattle.filter_plan.specs.declared.plan.Form.TheVariants as form
 use Rattle.plan_meaning.specs.Changes.{Bring, Change, Complement, Complete, MakesWithin, Product, ProductOr, RemoveAp, StopsIn, Sum, Trim, said_by_all}
-use Rattle.parity_det.specs.Shapes.{IsParityMinOdd}
+use Rattle.parity_det.specs.Promises.{IsParityMinOdd}
 use Rattle.plan_meaning.specs.Operands.{IsOfReadSize}
 use Rattle.plan_meaning.specs.declared.changing.list.Change as coded
 use Rattle.plan_meaning.specs.declared.changing.list.Change.TheVariants as code

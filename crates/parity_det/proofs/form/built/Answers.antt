@@ -7,7 +7,7 @@ use Rattle.aut_core.specs.Core.{AreParts, Core, automaton_of}
 use Rattle.letter_classes.specs.ClassForms.{form_of, link_of}
 use Rattle.parity_det.proofs.Built.{are_parts, few_found, is_made, made, marks_fit}
 use Rattle.parity_det.specs.Determinisation.{width}
-use Rattle.parity_det.specs.Systems.{mark_of}
+use Rattle.parity_det.specs.inner.Systems.{mark_of}
 use Rattle.safra_trees.specs.View.{tree_of}
 use Rattle.safra_trees.specs.declared.tree.SafraTree.{SafraTree}
 use Rattle.parity_det.proofs.form.built.Goals.{After-width-most, In_ok-formula}

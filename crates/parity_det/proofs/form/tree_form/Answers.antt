@@ -8,8 +8,8 @@ use Rattle.exploration.specs.declared.fault.Fault.{Fault}
 use Rattle.exploration.specs.declared.fault.Fault.TheVariants as limit
 use Rattle.label_guards.specs.Store.{Keeps, Store}
 use Rattle.letter_classes.specs.SetClasses.{FitsStore, IsClassGuard}
-use Rattle.parity_det.specs.Systems.{IsClassEvent}
-use Rattle.parity_det.specs.Systems.{MeetsFirst}
+use Rattle.parity_det.specs.inner.Systems.{IsClassEvent}
+use Rattle.parity_det.specs.inner.Systems.{MeetsFirst}
 use Rattle.parity_det.proofs.Refused.{classes_fault, met_first, nodes_fault, trees_fault}
 use Rattle.safra_trees.specs.Trees.{first_tree, root_states}
 use Rattle.safra_trees.specs.View.{tree_of}

@@ -1,0 +1,2 @@
+-- Definitions that only inner functions speak in.
+pub mod Systems
