@@ -12,7 +12,7 @@ use Rattle.aut_core.specs.Core.{Core, IsCore, automaton_of}
 use Rattle.aut_core.specs.Surveys.{edges_from}
 use Rattle.letter_classes.specs.SetClasses.{set_edges}
 use Rattle.letter_classes.specs.Taken.{taken_of}
-use Rattle.monitor_form.proofs.RisingLists.{kept_of_range}
+use Rattle.aut_base.proofs.order.RisingLists.{kept_of_range}
 use Rattle.monitor_form.specs.Subsets.{goals, is_goal, start_set}
 
 abbrev end_of : TreeEdge → ℕ

@@ -5,7 +5,6 @@ pub mod LivePaths
 pub mod LongPaths
 pub mod MonitorLaws
 pub mod Prefixed
-pub mod RisingLists
 pub mod SetSteps
 pub mod SomeMonitors
 pub mod Stops
