@@ -2,6 +2,7 @@
 pub mod BreadthFirst
 pub mod Existence
 pub mod Explorations
+pub mod Faults
 pub mod Laws
 pub mod Listings
 pub mod Pairings

@@ -4,12 +4,12 @@ ghost use Rattle.std.specs.Prelude.{◌≡◌, ◌+◌, ◌<◌, ◌≤◌, ◌^
 ghost use Rattle.aut_core.specs.Core.{automaton_of};
 ghost use Rattle.aut_ops.specs.BreadthFirst.{once};
 ghost use Rattle.aut_ops.specs.Products.{ArePairs, HasMorePairs, all_pairs, joint_edges, same_pair, start_pairs};
-ghost use Rattle.aut_ops.specs.declared.fault.PairFault.{PairFault};
+ghost use Rattle.aut_ops.specs.declared.fault.ExploreFault.{ExploreFault};
 ghost use Rattle.aut_base.specs.declared.limit.TheConstants.{MOST_PAIRS};
 ghost use Rattle.aut_ops.specs.inner.Pairings.{AreBeyond, AreEdges, AreListed, ArePlaces};
 ghost use Rattle.label_guards.specs.Store.{Keeps};
 
-use crate::fault::PairFault;
+use crate::fault::ExploreFault;
 use crate::pairing::Pairing;
 use aut_base::Numbers;
 use aut_core::Automaton;
@@ -21,15 +21,14 @@ pub(crate) fn list_starts(
     pairing: &mut Pairing,
     firsts: &Numbers,
     seconds: &Numbers,
-) -> Result<Numbers, PairFault>
+) -> Result<Numbers, ExploreFault>
     requires { pairing.old.pairs ≡ [] }
     ensures store { pairing.new.store ≡ pairing.old.store }
     ensures links { pairing.new.links ≡ pairing.old.links }
     ensures pairs { OnOk result (pairing.new.pairs ≡ once same_pair (all_pairs firsts.now seconds.now)) }
     ensures places { IfOk result (λ starts. ArePlaces pairing.new.pairs starts (all_pairs firsts.now seconds.now)) }
     ensures few { OnOk result (length pairing.new.pairs ≤ MOST_PAIRS) }
-    ensures many { IsErrOf result PairFault.Pairs → AreBeyond MOST_PAIRS [] (all_pairs firsts.now seconds.now) }
-    ensures named { IsErrOf result PairFault.Names → ⊥ }
+    ensures many { IsErrOf result ExploreFault.Pairs → AreBeyond MOST_PAIRS [] (all_pairs firsts.now seconds.now) }
 {
     let mut starts = Numbers::new(alloc);
     'firsts: for first in firsts.as_slice() {
@@ -44,14 +43,13 @@ fn list_row(
     starts: &mut Numbers,
     first: u32,
     seconds: &[u32],
-) -> Result<(), PairFault>
+) -> Result<(), ExploreFault>
     requires { length pairing.old.pairs ≤ MOST_PAIRS }
     ensures store { pairing.new.store ≡ pairing.old.store }
     ensures links { pairing.new.links ≡ pairing.old.links }
     ensures listed { OnOk result (AreListed pairing.old.pairs pairing.new.pairs starts.old starts.new (map (λ second. (first, second)) seconds.now)) }
     ensures few { OnOk result (length pairing.new.pairs ≤ MOST_PAIRS) }
-    ensures many { IsErrOf result PairFault.Pairs → AreBeyond MOST_PAIRS pairing.old.pairs (map (λ second. (first, second)) seconds.now) }
-    ensures named { IsErrOf result PairFault.Names → ⊥ }
+    ensures many { IsErrOf result ExploreFault.Pairs → AreBeyond MOST_PAIRS pairing.old.pairs (map (λ second. (first, second)) seconds.now) }
 {
     'seconds: for second in seconds {
         let place = pairing.number((first, *second))?;
@@ -61,7 +59,11 @@ fn list_row(
 }
 
 /// Goes on from each pair in turn, and so lists all pairs that are reached and the links between them.
-pub(crate) fn explore(pairing: &mut Pairing, a: &Automaton, b: &Automaton) -> Result<(), PairFault>
+pub(crate) fn explore(
+    pairing: &mut Pairing,
+    a: &Automaton,
+    b: &Automaton,
+) -> Result<(), ExploreFault>
     requires names { b.now.names ≡ a.now.names }
     requires first { Keeps a.now.store pairing.old.store }
     requires second { Keeps b.now.store pairing.old.store }
@@ -74,8 +76,7 @@ pub(crate) fn explore(pairing: &mut Pairing, a: &Automaton, b: &Automaton) -> Re
     ensures longer { OnOk result ((rest : List (ℕ × ℕ)) × (pairing.new.pairs ≡ pairing.old.pairs ++ rest)) }
     ensures keeps { OnOk result (Keeps b.now.store pairing.new.store) }
     ensures few { OnOk result (length pairing.new.pairs ≤ MOST_PAIRS) }
-    ensures many { IsErrOf result PairFault.Pairs → HasMorePairs MOST_PAIRS (automaton_of a.now) (automaton_of b.now) }
-    ensures named { IsErrOf result PairFault.Names → ⊥ }
+    ensures many { IsErrOf result ExploreFault.Pairs → HasMorePairs MOST_PAIRS (automaton_of a.now) (automaton_of b.now) }
 {
     a.whole();
     b.whole();

@@ -2,13 +2,13 @@
 
 ghost use Rattle.std.specs.Prelude.{◌≡◌, ◌<◌, ◌≤◌, [], All, IfOk, IsErrOf, OnOk, Some, flat_map, length, map, slice_get};
 ghost use Rattle.aut_ops.specs.Products.{same_pair};
-ghost use Rattle.aut_ops.specs.declared.fault.PairFault.{PairFault};
+ghost use Rattle.aut_ops.specs.declared.fault.ExploreFault.{ExploreFault};
 ghost use Rattle.aut_base.specs.declared.limit.TheConstants.{MOST_PAIRS};
 ghost use Rattle.exploration.specs.Turns.{with_new};
 ghost use Rattle.aut_ops.specs.inner.Pairings.{Adds, AreBeyond, CanMeet, followed, meeting};
 
 use crate::edge_marks::joint_marks;
-use crate::fault::PairFault;
+use crate::fault::ExploreFault;
 use aut_base::{MOST_PAIRS, Memory};
 use aut_core::{Link, Links};
 use indexmap::IndexSet;
@@ -71,30 +71,28 @@ impl Pairing {
     }
 
     /// The number of the pair, which is its place. It is added unless it is there.
-    pub(crate) fn number(&mut self, pair: (u32, u32)) -> Result<u32, PairFault>
+    pub(crate) fn number(&mut self, pair: (u32, u32)) -> Result<u32, ExploreFault>
         ensures store { self.new.store ≡ self.old.store }
         ensures links { self.new.links ≡ self.old.links }
         ensures pairs { OnOk result (self.new.pairs ≡ with_new same_pair self.old.pairs pair) }
         ensures place { IfOk result (λ place. slice_get self.new.pairs place ≡ Some pair) }
         ensures few { OnOk result (length self.new.pairs ≤ MOST_PAIRS) }
-        ensures many { IsErrOf result PairFault.Pairs → MOST_PAIRS < length (with_new same_pair self.old.pairs pair) }
-        ensures named { IsErrOf result PairFault.Names → ⊥ }
+        ensures many { IsErrOf result ExploreFault.Pairs → MOST_PAIRS < length (with_new same_pair self.old.pairs pair) }
     {
         let place = put(&mut self.pairs, pair)?;
         if self.pairs.len() > MOST_PAIRS as usize {
-            return Err(PairFault::Pairs);
+            return Err(ExploreFault::Pairs);
         }
         Ok(place as u32)
     }
 
     /// Adds the link that goes both of these at once, from the pair at this place, unless no letter meets both.
-    fn meet(&mut self, at: u32, link: &Link, other: &Link, sets: u32) -> Result<(), PairFault>
+    fn meet(&mut self, at: u32, link: &Link, other: &Link, sets: u32) -> Result<(), ExploreFault>
         requires meet { CanMeet self.old at sets link.now other.now }
         requires few { length self.old.pairs ≤ MOST_PAIRS }
         ensures adds { OnOk result (Adds self.old self.new (meeting self.old.store sets link.now other.now)) }
         ensures few { OnOk result (length self.new.pairs ≤ MOST_PAIRS) }
-        ensures many { IsErrOf result PairFault.Pairs → AreBeyond MOST_PAIRS self.old.pairs (map (λ j. j.to) (meeting self.old.store sets link.now other.now)) }
-        ensures named { IsErrOf result PairFault.Names → ⊥ }
+        ensures many { IsErrOf result ExploreFault.Pairs → AreBeyond MOST_PAIRS self.old.pairs (map (λ j. j.to) (meeting self.old.store sets link.now other.now)) }
     {
         let guard = self.guards.and(link.guard, other.guard)?;
         if self.guards.is_false(guard) {
@@ -112,13 +110,18 @@ impl Pairing {
     }
 
     /// Adds the links that go this one and one of the others at once.
-    fn follow(&mut self, at: u32, link: &Link, others: &[Link], sets: u32) -> Result<(), PairFault>
+    fn follow(
+        &mut self,
+        at: u32,
+        link: &Link,
+        others: &[Link],
+        sets: u32,
+    ) -> Result<(), ExploreFault>
         requires meet { All (CanMeet self.old at sets link.now) others.now }
         requires few { length self.old.pairs ≤ MOST_PAIRS }
         ensures adds { OnOk result (Adds self.old self.new (followed self.old.store sets others.now link.now)) }
         ensures few { OnOk result (length self.new.pairs ≤ MOST_PAIRS) }
-        ensures many { IsErrOf result PairFault.Pairs → AreBeyond MOST_PAIRS self.old.pairs (map (λ j. j.to) (followed self.old.store sets others.now link.now)) }
-        ensures named { IsErrOf result PairFault.Names → ⊥ }
+        ensures many { IsErrOf result ExploreFault.Pairs → AreBeyond MOST_PAIRS self.old.pairs (map (λ j. j.to) (followed self.old.store sets others.now link.now)) }
     {
         'others: for other in others {
             self.meet(at, link, other, sets)?;
@@ -133,13 +136,12 @@ impl Pairing {
         links: &[Link],
         others: &[Link],
         sets: u32,
-    ) -> Result<(), PairFault>
+    ) -> Result<(), ExploreFault>
         requires meet { All (λ l. All (CanMeet self.old at sets l) others.now) links.now }
         requires few { length self.old.pairs ≤ MOST_PAIRS }
         ensures adds { OnOk result (Adds self.old self.new (flat_map (followed self.old.store sets others.now) links.now)) }
         ensures few { OnOk result (length self.new.pairs ≤ MOST_PAIRS) }
-        ensures many { IsErrOf result PairFault.Pairs → AreBeyond MOST_PAIRS self.old.pairs (map (λ j. j.to) (flat_map (followed self.old.store sets others.now) links.now)) }
-        ensures named { IsErrOf result PairFault.Names → ⊥ }
+        ensures many { IsErrOf result ExploreFault.Pairs → AreBeyond MOST_PAIRS self.old.pairs (map (λ j. j.to) (flat_map (followed self.old.store sets others.now) links.now)) }
     {
         'links: for link in links {
             self.follow(at, link, others, sets)?;

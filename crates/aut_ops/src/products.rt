@@ -7,6 +7,7 @@ ghost use Rattle.aut_core.specs.OtherNames.{joined_names};
 ghost use Rattle.aut_ops.specs.Completion.{completed};
 ghost use Rattle.aut_ops.specs.Languages.{AcceptsBoth, AcceptsEither, ArePairwise};
 ghost use Rattle.aut_ops.specs.Products.{ArePairs, HasMorePairs, IsEitherOf, IsProduct, IsProductOf, over_both};
+ghost use Rattle.aut_ops.specs.declared.fault.ExploreFault.{ExploreFault};
 ghost use Rattle.aut_ops.specs.declared.fault.PairFault.{PairFault};
 ghost use Rattle.aut_base.specs.declared.limit.TheConstants.{MOST_PAIRS};
 ghost use Rattle.aut_ops.specs.inner.Joins.{IsMade, JoinAccepts, join_of};
@@ -15,7 +16,7 @@ ghost use Rattle.label_guards.specs.Store.{Keeps};
 
 use crate::breadth_first::{explore, list_starts};
 use crate::completion::complete;
-use crate::fault::PairFault;
+use crate::fault::{ExploreFault, PairFault};
 use crate::join::Join;
 use crate::pairing::Pairing;
 use crate::shared::share;
@@ -92,7 +93,7 @@ fn product_by(
     let names = join_names(alloc, a.names(), b.names())?;
     let _distinct = names.as_slice();
     let both = share(alloc, a, b, &names)?;
-    product_over(alloc, &both.first, both.second(b), join)
+    Ok(product_over(alloc, &both.first, both.second(b), join)?)
 }
 
 /// The product of an automaton with itself, not yet put together, and its pairs. Begun in one of its states it accepts the words
@@ -107,7 +108,7 @@ pub fn square(alloc: Global, a: &Automaton) -> Result<Paired, PairFault>
     ensures many { IsErrOf result PairFault.Pairs → HasMorePairs MOST_PAIRS (automaton_of a.now) (automaton_of a.now) }
 {
     a.whole();
-    product_parts(alloc, a, a, Join::All)
+    Ok(product_parts(alloc, a, a, Join::All)?)
 }
 
 /// The product of two automata over the same names, where the first's store has the guards of the second.
@@ -116,15 +117,14 @@ fn product_over(
     a: &Automaton,
     b: &Automaton,
     join: Join,
-) -> Result<Automaton, PairFault>
+) -> Result<Automaton, ExploreFault>
     requires names { b.now.names ≡ a.now.names }
     requires store { Keeps b.now.store a.now.store }
     requires sets { a.now.sets + b.now.sets < 2 ^ 32 }
     ensures shape { IfOk result (λ made. IsProduct (join_of join) (automaton_of a.now) (automaton_of b.now) (automaton_of made)) }
     ensures accepts { IfOk result (λ made. JoinAccepts join (automaton_of made) (automaton_of a.now) (automaton_of b.now)) }
     ensures few { IfOk result (λ made. made.states ≤ MOST_PAIRS) }
-    ensures named { IsErrOf result PairFault.Names → ⊥ }
-    ensures pairs { IsErrOf result PairFault.Pairs → HasMorePairs MOST_PAIRS (automaton_of a.now) (automaton_of b.now) }
+    ensures pairs { IsErrOf result ExploreFault.Pairs → HasMorePairs MOST_PAIRS (automaton_of a.now) (automaton_of b.now) }
 {
     let made = product_parts(alloc, a, b, join)?;
     let states = made.pairs.len() as u32;
@@ -158,15 +158,14 @@ fn product_parts(
     a: &Automaton,
     b: &Automaton,
     join: Join,
-) -> Result<Paired, PairFault>
+) -> Result<Paired, ExploreFault>
     requires names { b.now.names ≡ a.now.names }
     requires store { Keeps b.now.store a.now.store }
     requires sets { a.now.sets + b.now.sets < 2 ^ 32 }
     ensures made { IfOk result (λ made. IsMade join a.now b.now made.pairs.keys (core_of made)) }
     ensures pairs { IfOk result (λ made. ArePairs (automaton_of a.now) (automaton_of b.now) made.pairs.keys) }
     ensures few { IfOk result (λ made. length made.pairs.keys ≤ MOST_PAIRS) }
-    ensures named { IsErrOf result PairFault.Names → ⊥ }
-    ensures many { IsErrOf result PairFault.Pairs → HasMorePairs MOST_PAIRS (automaton_of a.now) (automaton_of b.now) }
+    ensures many { IsErrOf result ExploreFault.Pairs → HasMorePairs MOST_PAIRS (automaton_of a.now) (automaton_of b.now) }
 {
     a.whole();
     b.whole();

@@ -1,11 +1,11 @@
-use Rattle.std.proofs.Common.{◌≡◌, ◌∙◌, ◌≤◌, List, ℕ, All, Contains, ap, arith, length, subst, sym}
-use Rattle.std.proofs.lemmas.Result.{IfOk-weaker}
-use Rattle.aut_base.proofs.Outcomes.{ok_always}
+use Rattle.std.proofs.Common.{◌≡◌, ◌∙◌, ◌≤◌, Err, List, ℕ, All, Contains, ap, arith, length, subst, sym}
+use Rattle.aut_base.proofs.Outcomes.{told_fault}
 use Rattle.aut_base.specs.Automaton.{Automaton}
 use Rattle.aut_base.specs.declared.limit.TheConstants.{MOST_NAMES}
 use Rattle.aut_core.specs.Core.{Core, automaton_of}
 use Rattle.aut_core.specs.OtherNames.{AcceptTheSame, joined_names, over_names}
 use Rattle.aut_ops.proofs.joint_runs.MadeProducts.{accepts_over}
+use Rattle.aut_ops.proofs.pairs.Faults.{never_names, pairs_fault}
 use Rattle.aut_ops.specs.Products.{HasMorePairs, IsProduct, over_both}
 use Rattle.aut_base.specs.declared.limit.TheConstants.{MOST_PAIRS}
 use Rattle.aut_ops.specs.inner.Joins.{join_of}
@@ -25,8 +25,9 @@ returns-clause-shape c =
     let names : c.in_ok-names.names ≡ joined_names a.names b.names = c.in_ok-names.ensures.joined ∙ (λ i. joined_names (c.names.ensures i) (c.names-2.ensures i)) in
     let first : automaton_of c.in_ok-both.both.first ≡ over_both a b a = c.in_ok-both.ensures.first ∙ (λ i. over_names (names i) a) in
     let second : automaton_of c.second.result.now ≡ over_both a b b = ap automaton_of c.second.ensures ∙ (c.in_ok-both.ensures.second ∙ (λ i. over_names (names i) b)) in
-    IfOk-weaker c.product_over.result _ _ (λ made is. subst (λ (x : Automaton). IsProduct (join_of c.args.join) x (over_both a b b) (automaton_of made)) first
-    (subst (λ (y : Automaton). IsProduct (join_of c.args.join) (automaton_of c.in_ok-both.both.first) y (automaton_of made)) second is)) c.product_over.ensures.shape
+    let made = automaton_of c.in_ok-product_over.field-0 in
+    subst (λ (x : Automaton). IsProduct (join_of c.args.join) x (over_both a b b) made) first
+    (subst (λ (y : Automaton). IsProduct (join_of c.args.join) (automaton_of c.in_ok-both.both.first) y made) second c.in_ok-product_over.ensures.shape)
 
 pub returns-clause-accepts : goal.returns-clause-accepts
 returns-clause-accepts c =
@@ -36,21 +37,25 @@ returns-clause-accepts c =
     let has : All (Contains c.in_ok-names.names) c.args.a.now.names = subst (λ (ns : List (List ℕ)). All (Contains names) ns) c.names.ensures c.in_ok-names.ensures.both.first in
     let has_too : All (Contains c.in_ok-names.names) c.args.b.now.names = subst (λ (ns : List (List ℕ)). All (Contains names) ns) c.names-2.ensures c.in_ok-names.ensures.both.second in
     let differ = c.as_slice-distinct.ensures.distinct in
-    IfOk-weaker c.product_over.result _ _ (λ made is. accepts_over c.args.join (automaton_of made) a b (automaton_of c.in_ok-both.both.first) (automaton_of c.second.result.now) names
+    accepts_over c.args.join (automaton_of c.in_ok-product_over.field-0) a b (automaton_of c.in_ok-both.both.first) (automaton_of c.second.result.now) names
     (record { differ = differ; has = has }) (record { differ = differ; has = has_too }) c.whole.ensures.well_formed c.whole-2.ensures.well_formed c.in_ok-both.ensures.first
     (ap automaton_of c.second.ensures ∙ c.in_ok-both.ensures.second) c.in_ok-both.ensures.first_accepts
-    (subst (λ (x : Core). AcceptTheSame (automaton_of x) b) (sym c.second.ensures) c.in_ok-both.ensures.second_accepts) is) c.product_over.ensures.accepts
+    (subst (λ (x : Core). AcceptTheSame (automaton_of x) b) (sym c.second.ensures) c.in_ok-both.ensures.second_accepts) c.in_ok-product_over.ensures.accepts
 
 pub returns-clause-within : goal.returns-clause-within
-returns-clause-within c = ok_always c.product_over.result
-    (subst (λ (ns : List (List ℕ)). length ns ≤ MOST_NAMES) (λ i. joined_names (c.names.ensures i) (c.names-2.ensures i)) c.in_ok-names.ensures.within)
+returns-clause-within c = subst (λ (ns : List (List ℕ)). length ns ≤ MOST_NAMES) (λ i. joined_names (c.names.ensures i) (c.names-2.ensures i)) c.in_ok-names.ensures.within
 
-pub returns-clause-pairs : goal.returns-clause-pairs
-returns-clause-pairs c is =
+pub returns-in_err-product_over-clause-names : goal.returns-in_err-product_over-clause-names
+returns-in_err-product_over-clause-names c is = absurd (never_names c.in_err-product_over.field-0.0
+    (told_fault c.from_residual-in_err-product_over.result _ _ c.from_residual-in_err-product_over.ensures.1 is))
+
+pub returns-in_err-product_over-clause-pairs : goal.returns-in_err-product_over-clause-pairs
+returns-in_err-product_over-clause-pairs c is =
+    let told = pairs_fault c.in_err-product_over.field-0.0 (told_fault c.from_residual-in_err-product_over.result _ _ c.from_residual-in_err-product_over.ensures.1 is) in
     let a = automaton_of c.args.a.now in
     let b = automaton_of c.args.b.now in
     let names : c.in_ok-names.names ≡ joined_names a.names b.names = c.in_ok-names.ensures.joined ∙ (λ i. joined_names (c.names.ensures i) (c.names-2.ensures i)) in
     let first : automaton_of c.in_ok-both.both.first ≡ over_both a b a = c.in_ok-both.ensures.first ∙ (λ i. over_names (names i) a) in
     let second : automaton_of c.second.result.now ≡ over_both a b b = ap automaton_of c.second.ensures ∙ (c.in_ok-both.ensures.second ∙ (λ i. over_names (names i) b)) in
     subst (λ (x : Automaton). HasMorePairs MOST_PAIRS x (over_both a b b)) first
-    (subst (λ (y : Automaton). HasMorePairs MOST_PAIRS (automaton_of c.in_ok-both.both.first) y) second (c.product_over.ensures.pairs is))
+    (subst (λ (y : Automaton). HasMorePairs MOST_PAIRS (automaton_of c.in_ok-both.both.first) y) second (c.in_err-product_over.ensures.pairs (ap Err told)))
