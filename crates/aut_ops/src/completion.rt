@@ -1,6 +1,6 @@
 //! An automaton made complete.
 
-ghost use Rattle.std.specs.Prelude.{◌≡◌, ◌+◌, ◌<◌, ◌^◌, ◌==◌, ◌∷◌, ◌++◌, [], All, IfOk, OnOk, flat_map, if◌then◌else◌, length, map};
+ghost use Rattle.std.specs.Prelude.{◌≡◌, ◌+◌, ◌<◌, ◌^◌, ◌==◌, ◌∷◌, ◌++◌, [], All, IfOk, OnOk, flat_map, if◌then◌else◌, length, map, unwrap_or};
 ghost use Rattle.std.specs.List.{range_with_len};
 ghost use Rattle.aut_base.specs.Formula.{formula_tree};
 ghost use Rattle.aut_core.specs.Core.{automaton_of, edge_of};
@@ -35,6 +35,21 @@ pub fn complete(alloc: Global, a: &Automaton) -> Result<Automaton, Memory>
         return a.copy(alloc);
     }
     complete_with_sink(alloc, a)
+}
+
+/// The automaton made complete, or nothing where it is complete, so that it isn't copied.
+pub(crate) fn made_complete(alloc: Global, a: &Automaton) -> Result<Option<Automaton>, Memory>
+    requires states { (completed (automaton_of a.now)).states < 2 ^ 32 }
+    requires sets { (completed (automaton_of a.now)).sets < 2 ^ 32 }
+    ensures shape { IfOk result (λ made. automaton_of (unwrap_or made a.now) ≡ completed (automaton_of a.now)) }
+    ensures accepts { IfOk result (λ made. AcceptTheSame (automaton_of (unwrap_or made a.now)) (automaton_of a.now)) }
+    ensures complete { IfOk result (λ made. IsComplete (automaton_of (unwrap_or made a.now))) }
+{
+    a.whole();
+    if a.is_complete() {
+        return Ok(None);
+    }
+    Ok(Some(complete(alloc, a)?))
 }
 
 /// The automaton with a sink.

@@ -15,11 +15,11 @@ ghost use Rattle.aut_ops.specs.Paired.{core_of};
 ghost use Rattle.label_guards.specs.Store.{Keeps};
 
 use crate::breadth_first::{explore, list_starts};
-use crate::completion::complete;
+use crate::completion::made_complete;
 use crate::fault::{ExploreFault, PairFault};
 use crate::join::Join;
 use crate::pairing::Pairing;
-use crate::shared::share;
+use crate::shared::{made_or, share};
 use aut_base::{Formula, Names, Numbers};
 use aut_core::{Automaton, Links, copy_names, join_names};
 use indexmap::IndexSet;
@@ -61,11 +61,13 @@ pub fn product_or(alloc: Global, a: &Automaton, b: &Automaton) -> Result<Automat
 {
     a.whole();
     b.whole();
-    let first = complete(alloc, a)?;
-    let second = complete(alloc, b)?;
+    let made_first = made_complete(alloc, a)?;
+    let made_second = made_complete(alloc, b)?;
+    let first = made_or(&made_first, a);
+    let second = made_or(&made_second, b);
     first.whole();
     second.whole();
-    product_by(alloc, &first, &second, Join::Any)
+    product_by(alloc, first, second, Join::Any)
 }
 
 /// The product over the names of both, under this join of their conditions.

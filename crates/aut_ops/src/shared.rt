@@ -23,10 +23,17 @@ impl Shared {
     pub(crate) fn second<'a>(&'a self, given: &'a Automaton) -> &'a Automaton
         ensures { result.now ≡ unwrap_or self.now.made given.now }
     {
-        match &self.made {
-            Some(made) => made,
-            None => given,
-        }
+        made_or(&self.made, given)
+    }
+}
+
+/// What was made, or what was given where nothing was.
+pub(crate) fn made_or<'a>(made: &'a Option<Automaton>, given: &'a Automaton) -> &'a Automaton
+    ensures { result.now ≡ unwrap_or made.now given.now }
+{
+    match made {
+        Some(made) => made,
+        None => given,
     }
 }
 
