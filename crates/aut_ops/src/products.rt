@@ -106,6 +106,7 @@ pub fn square(alloc: Global, a: &Automaton) -> Result<Paired, PairFault>
     ensures pairs { IfOk result (λ made. ArePairs (automaton_of a.now) (automaton_of a.now) made.pairs.keys) }
     ensures accepts { IfOk result (λ made. ArePairwise (automaton_of (core_of made)) made.pairs.keys (automaton_of a.now) (automaton_of a.now)) }
     ensures few { IfOk result (λ made. length made.pairs.keys ≤ MOST_PAIRS) }
+    ensures keeps { IfOk result (λ made. Keeps a.now.store made.guards) }
     ensures named { IsErrOf result PairFault.Names → ⊥ }
     ensures many { IsErrOf result PairFault.Pairs → HasMorePairs MOST_PAIRS (automaton_of a.now) (automaton_of a.now) }
 {
@@ -167,6 +168,7 @@ fn product_parts(
     ensures made { IfOk result (λ made. IsMade join a.now b.now made.pairs.keys (core_of made)) }
     ensures pairs { IfOk result (λ made. ArePairs (automaton_of a.now) (automaton_of b.now) made.pairs.keys) }
     ensures few { IfOk result (λ made. length made.pairs.keys ≤ MOST_PAIRS) }
+    ensures keeps { IfOk result (λ made. Keeps b.now.store made.guards) }
     ensures many { IsErrOf result ExploreFault.Pairs → HasMorePairs MOST_PAIRS (automaton_of a.now) (automaton_of b.now) }
 {
     a.whole();

@@ -25,13 +25,14 @@ pub(crate) fn parted_square(alloc: Global, a: &Automaton) -> Result<Automaton, S
 {
     a.whole();
     let made = square(alloc, a)?;
-    let flags = twin_ends(alloc, a, &made.pairs)?;
+    let mut guards = made.guards;
+    let flags = twin_ends(alloc, &mut guards, a, &made.pairs)?;
     let starts = partings(alloc, &made.pairs, flags.as_slice())?;
     let states = made.pairs.len() as u32;
     Ok(Automaton::from_parts(
         alloc,
         made.names,
-        made.guards,
+        guards,
         states,
         starts,
         made.links,

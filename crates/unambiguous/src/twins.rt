@@ -11,20 +11,23 @@ use label_guards::Guards;
 use std::alloc::Global;
 
 /// For each state whether two edges at different places lead there at one letter from one state, which is paired with itself.
+/// The store of the pairs knows already what two such edges have in common.
 pub(crate) fn twin_ends(
     alloc: Global,
+    guards: &mut Guards,
     a: &Automaton,
     pairs: &IndexSet<(u32, u32)>,
 ) -> Result<Vec<bool>, Memory>
+    requires { Keeps a.now.store guards.old }
+    ensures keeps { Keeps guards.old guards.new }
     ensures ends { IfOk result (λ flags. AreEnds a.now pairs.now.keys flags.items) }
     ensures flagged { IfOk result (λ flags. AreFlagged a.now pairs.now.keys flags.items (length a.now.links)) }
 {
     a.whole();
-    let mut guards = a.guards().copy(alloc)?;
     let mut flags = vec![in alloc; false; a.states() as usize]?;
     let links = a.links();
     'links: for place in 0..links.len() {
-        if !has_twin(&mut guards, a, pairs, place)? {
+        if !has_twin(guards, a, pairs, place)? {
             continue;
         }
         let link = link_at(links, place);
@@ -42,7 +45,7 @@ fn has_twin(
 ) -> Result<bool, Memory>
     requires place { place < length a.now.links }
     requires keeps { Keeps a.now.store guards.old }
-    ensures keeps { Keeps a.now.store guards.new }
+    ensures keeps { Keeps guards.old guards.new }
     ensures twin { IfOk result (λ found. IsTrue found ↔ HasTwin a.now pairs.now.keys place) }
 {
     a.whole();

@@ -6,11 +6,14 @@ use Rattle.std.proofs.lemmas.List.Quantifiers.{all_pairs_push}
 use Rattle.std.proofs.lemmas.Option.{same_Some}
 use Rattle.aut_base.proofs.lists.Members.{each_there, none_there, there_cases}
 use Rattle.aut_base.specs.declared.limit.TheConstants.{MOST_PAIRS}
+use Rattle.aut_base.specs.Automaton.{Automaton, TreeEdge}
+use Rattle.aut_core.proofs.Growth.{kept_edges}
 use Rattle.aut_core.specs.Core.{AreParts, Core, IsCore, automaton_of}
 use Rattle.aut_ops.proofs.joint_runs.JointEdges.{reached_within}
 use Rattle.aut_ops.proofs.pairs.Laws.{few_pairs_exclude_more}
 use Rattle.aut_ops.specs.BreadthFirst.{IsReached}
 use Rattle.aut_ops.specs.Products.{ArePairs, HasMorePairs, next_pairs, product_on, start_pairs}
+use Rattle.label_guards.specs.Store.{Keeps, Store}
 use Rattle.unambiguous.specs.Parted.{ArePartings, parts}
 
 pub no_partings : (flags : List Bool) (pairs : List (ℕ × ℕ)) → ArePartings flags pairs 0 []
@@ -62,6 +65,23 @@ begun_parts m flags pairs starts states are begin = record {
   links = λ k d within. let was = are.links k d within in record { from = was.from; guard = was.guard; to = was.to; marks = was.marks };
   formula = are.formula;
 }
+
+-- with a store that has grown they make the same automaton
+pub grown_parts : (m : Core) (t : Store) → Keeps m.store t → AreParts m → AreParts (record m { store = t })
+grown_parts m t keeps are = record {
+  few = are.few;
+  store_names = keeps.names ∙ are.store_names;
+  starts_differ = are.starts_differ;
+  starts = are.starts;
+  in_order = are.in_order;
+  links = λ k d within. let was = are.links k d within in record { from = was.from; guard = keeps.has (get_or m.links k d).guard was.guard; to = was.to; marks = was.marks };
+  formula = are.formula;
+}
+
+pub grown_same : (m : Core) (t : Store) → Keeps m.store t → AreParts m → automaton_of (record m { store = t }) ≡ automaton_of m
+grown_same m t keeps are =
+    let made : List TreeEdge → Automaton = λ es. record { names = m.names; starts = m.starts; states = m.states; edges = es; sets = m.sets; formula = m.formula } in
+    ap made (kept_edges m.links keeps (λ k d within. (are.links k d within).guard))
 
 -- where the pairs are few, more aren't reached
 pub no_more_pairs : (a : Core) (pairs : List (ℕ × ℕ)) → ArePairs (automaton_of a) (automaton_of a) pairs → length pairs ≤ MOST_PAIRS → HasMorePairs MOST_PAIRS (automaton_of a) (automaton_of a) → ⊥

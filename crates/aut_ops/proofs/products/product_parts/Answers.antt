@@ -9,6 +9,7 @@ use Rattle.aut_ops.specs.Products.{ArePairs, all_pairs}
 use Rattle.aut_base.specs.declared.limit.TheConstants.{MOST_PAIRS}
 use Rattle.aut_ops.specs.inner.Joins.{IsMade}
 use Rattle.aut_ops.specs.inner.Pairings.{AreBeyond, ArePlaces}
+use Rattle.label_guards.specs.Store.{Keeps}
 use Rattle.aut_ops.proofs.products.product_parts.Goals as goal
 
 pub returns-in_err-starts-clause-many : goal.returns-in_err-starts-clause-many
@@ -46,3 +47,6 @@ returns-clause-made c =
 
 pub returns-clause-pairs : goal.returns-clause-pairs
 returns-clause-pairs c = subst (ArePairs (automaton_of c.args.a.now) (automaton_of c.args.b.now)) (sym c.into_parts-guards.ensures.pairs) c.in_ok-explore.ensures.pairs
+
+pub returns-clause-keeps : goal.returns-clause-keeps
+returns-clause-keeps c = subst (Keeps c.args.b.now.store) (sym c.into_parts-guards.ensures.store) c.in_ok-explore.ensures.keeps

@@ -5,6 +5,6 @@ use Rattle.unambiguous.proofs.twins.has_twin.Given as goal
 
 abbrev pub invariant-others : goal.invariant-others
 invariant-others l = record {
-  keeps : Keeps l.a.store l.guards;
+  keeps : Keeps l.fn.guards l.guards;
   none : (n q : ℕ) → n < l.other_place → AreTwins l.a l.pairs.keys l.place n q → ⊥;
 }

@@ -4,7 +4,7 @@ use Rattle.unambiguous.proofs.twins.twin_ends.Given as goal
 
 abbrev pub invariant-links : goal.invariant-links
 invariant-links l = record {
-  keeps : Keeps l.a.store l.guards;
+  keeps : Keeps l.fn.guards l.guards;
   ends : AreEnds l.a l.pairs.keys l.flags.items;
   flagged : AreFlagged l.a l.pairs.keys l.flags.items l.place;
 }
