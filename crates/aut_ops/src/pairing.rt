@@ -16,6 +16,9 @@ use label_guards::Guards;
 use std::alloc::Global;
 use std::marker::Model;
 
+/// For how many pairs and links room is made at the start at most, as few may be reached.
+const MOST_ROOM: usize = 1_000;
+
 /// A product as far as it is made: the pairs in the order in which they were met, and the links between their places.
 #[derive(Drop)]
 pub(crate) struct Pairing {
@@ -33,17 +36,24 @@ impl Model for Pairing {
 }
 
 impl Pairing {
-    /// No pair yet, and this store.
-    pub(crate) fn new(alloc: Global, guards: Guards) -> Pairing
-        ensures store { result.store ≡ guards }
-        ensures pairs { result.pairs ≡ [] }
-        ensures links { result.links ≡ [] }
+    /// No pair yet, and this store. There is room for so many pairs and links, but for `MOST_ROOM` of each at most.
+    pub(crate) fn new(
+        alloc: Global,
+        guards: Guards,
+        pairs: usize,
+        links: usize,
+    ) -> Result<Pairing, Memory>
+        ensures store { IfOk result (λ p. p.store ≡ guards) }
+        ensures pairs { IfOk result (λ p. p.pairs ≡ []) }
+        ensures links { IfOk result (λ p. p.links ≡ []) }
     {
-        Pairing {
+        let pairs = IndexSet::with_capacity(alloc, pairs.min(MOST_ROOM))?;
+        let links = Links::from_vec(Vec::with_capacity(alloc, links.min(MOST_ROOM))?);
+        Ok(Pairing {
             guards,
-            pairs: IndexSet::new(alloc),
-            links: Links::new(alloc),
-        }
+            pairs,
+            links,
+        })
     }
 
     /// The number of pairs.

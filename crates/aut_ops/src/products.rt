@@ -176,7 +176,8 @@ fn product_parts(
     let sets = a.sets();
     let names = copy_names(a.names())?;
     let formula = join.condition(alloc, a.formula(), b.formula(), sets)?;
-    let mut pairing = Pairing::new(alloc, a.guards().copy(alloc)?);
+    let guards = a.guards().copy(alloc)?;
+    let mut pairing = Pairing::new(alloc, guards, a.states() as usize, a.links().len())?;
     let starts = list_starts(alloc, &mut pairing, a.starts(), b.starts())?;
     explore(&mut pairing, a, b)?;
     let (guards, links, pairs) = pairing.into_parts();
