@@ -1,14 +1,15 @@
 //! The line of figures of an automaton.
 
-ghost use Rattle.std.specs.Prelude.{◌≡◌, ◌++◌, IfOk, OnOk, length};
+ghost use Rattle.std.specs.Prelude.{◌≡◌, ◌++◌, IfOk, IfSome, OnOk, length};
 ghost use Rattle.std.specs.Fmt.{decimal};
 ghost use Rattle.aut_core.specs.Core.{automaton_of};
+ghost use Rattle.aut_ops.specs.Trimming.{IsReachedSize};
 ghost use Rattle.autfilt_run.specs.Figures.{IsLine, IsShownAs, ShowsReached};
 ghost use Rattle.filter_plan.specs.declared.format.Piece.TheVariants as piece;
 
 use aut_base::{Memory, Text};
 use aut_core::Automaton;
-use aut_ops::reached_size;
+use aut_ops::{ReachedSize, reached_size};
 use filter_plan::{Piece, StatsText};
 use lasso_emptiness::accepted_word;
 use std::alloc::Global;
@@ -19,41 +20,79 @@ pub(crate) fn line_of(alloc: Global, format: &StatsText, a: &Automaton) -> Resul
     ensures { IfOk result (IsLine format.now (automaton_of a.now)) }
 {
     let mut line = Text::new(alloc);
+    let mut counted = None;
     'pieces: for piece in format.as_slice() {
-        let shown = piece_text(alloc, *piece, a)?;
+        let shown = piece_text(alloc, *piece, a, &mut counted)?;
         line.extend(shown.as_bytes())?;
     }
     line.push(b'\n')?;
     Ok(line)
 }
 
-/// What stands for a piece of the format.
-fn piece_text(alloc: Global, piece: Piece, a: &Automaton) -> Result<Text, Memory>
-    ensures { IfOk result (IsShownAs piece (automaton_of a.now)) }
+/// What stands for a piece of the format. What is reached is counted once for a line.
+fn piece_text(
+    alloc: Global,
+    piece: Piece,
+    a: &Automaton,
+    counted: &mut Option<ReachedSize>,
+) -> Result<Text, Memory>
+    requires { IfSome counted.old (IsReachedSize (automaton_of a.now)) }
+    ensures counted { IfSome counted.new (IsReachedSize (automaton_of a.now)) }
+    ensures shown { IfOk result (IsShownAs piece (automaton_of a.now)) }
 {
     match piece {
         Piece::Byte(byte) => Text::from_bytes(alloc, &[byte]),
-        Piece::States => states_text(alloc, a),
-        Piece::Edges => edges_text(alloc, a),
+        Piece::States => states_text(alloc, a, counted),
+        Piece::Edges => edges_text(alloc, a, counted),
         Piece::Sets => number_text(alloc, u64::from(a.sets())),
         Piece::Word => accepted_text(alloc, a),
     }
 }
 
 /// The number of states that are reached.
-fn states_text(alloc: Global, a: &Automaton) -> Result<Text, Memory>
-    ensures { IfOk result (ShowsReached (λ t. t.states) (automaton_of a.now)) }
+fn states_text(
+    alloc: Global,
+    a: &Automaton,
+    counted: &mut Option<ReachedSize>,
+) -> Result<Text, Memory>
+    requires { IfSome counted.old (IsReachedSize (automaton_of a.now)) }
+    ensures counted { IfSome counted.new (IsReachedSize (automaton_of a.now)) }
+    ensures shown { IfOk result (ShowsReached (λ t. t.states) (automaton_of a.now)) }
 {
-    let size = reached_size(alloc, a)?;
+    let size = size_of(alloc, a, counted)?;
     number_text(alloc, u64::from(size.states))
 }
 
 /// The number of edges of the states that are reached, without those whose labels are false.
-fn edges_text(alloc: Global, a: &Automaton) -> Result<Text, Memory>
-    ensures { IfOk result (ShowsReached (λ t. length t.edges) (automaton_of a.now)) }
+fn edges_text(
+    alloc: Global,
+    a: &Automaton,
+    counted: &mut Option<ReachedSize>,
+) -> Result<Text, Memory>
+    requires { IfSome counted.old (IsReachedSize (automaton_of a.now)) }
+    ensures counted { IfSome counted.new (IsReachedSize (automaton_of a.now)) }
+    ensures shown { IfOk result (ShowsReached (λ t. length t.edges) (automaton_of a.now)) }
 {
-    let size = reached_size(alloc, a)?;
+    let size = size_of(alloc, a, counted)?;
     number_text(alloc, size.edges as u64)
+}
+
+/// How much of the automaton is reached, which is counted unless it is known.
+fn size_of(
+    alloc: Global,
+    a: &Automaton,
+    counted: &mut Option<ReachedSize>,
+) -> Result<ReachedSize, Memory>
+    requires { IfSome counted.old (IsReachedSize (automaton_of a.now)) }
+    ensures counted { IfSome counted.new (IsReachedSize (automaton_of a.now)) }
+    ensures size { IfOk result (IsReachedSize (automaton_of a.now)) }
+{
+    if let Some(size) = *counted {
+        return Ok(size);
+    }
+    let size = reached_size(alloc, a)?;
+    *counted = Some(size);
+    Ok(size)
 }
 
 /// A word that is accepted, or nothing where none is.

@@ -9,7 +9,10 @@ pub pieces-preserved : goal.pieces-preserved
 pieces-preserved c =
     let i = c.pieces.piece-index in
     let pieces = c.as_slice-piece-items.ensures in
-    piece_more c.args.format.now i (Byte 0) _ (automaton_of c.args.a.now) c.pieces.line c.in_ok-shown.shown _
-    (omega (arith, ap length pieces)) (ap (λ (ps : List Piece). get_or ps i (Byte 0)) pieces)
-    (c.in_ok-extend.ensures.ok ∙ ap (λ (xs : List ℕ). c.pieces.line ++ xs) c.as_bytes.ensures) c.in_ok-shown.ensures
-    c.pieces.invariant
+    record {
+      begun = piece_more c.args.format.now i (Byte 0) _ (automaton_of c.args.a.now) c.pieces.line c.in_ok-shown.shown _
+          (omega (arith, ap length pieces)) (ap (λ (ps : List Piece). get_or ps i (Byte 0)) pieces)
+          (c.in_ok-extend.ensures.ok ∙ ap (λ (xs : List ℕ). c.pieces.line ++ xs) c.as_bytes.ensures) c.in_ok-shown.ensures.shown
+          c.pieces.invariant.begun;
+      counted = c.piece_text.ensures.counted;
+    }
