@@ -95,7 +95,7 @@ fn tree_form(alloc: Global, b: &Automaton) -> Result<Automaton, DetFault>
     ensures classes { result ≡ Err DetFault.Classes → MeetsFirst (automaton_of b.now) Fault.Classes }
 {
     b.whole();
-    let first = start(alloc, b.states(), b.starts())?;
+    let first = start(alloc, b.starts())?;
     let store = ClassStore::new(alloc, b.guards().copy(alloc)?);
     let mut system = Trees {
         automaton: b,

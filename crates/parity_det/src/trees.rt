@@ -86,7 +86,7 @@ impl<'a> System for Trees<'a> {
         };
         let list = mem::replace(&mut self.moves, Moves::new(alloc));
         let moves = moves_at(list, self.automaton, thing.root_states(), number)?;
-        match safra_trees::step(
+        match safra_trees::step_in_room(
             alloc,
             self.automaton.states(),
             thing,

@@ -11,4 +11,5 @@ pub mod Loops
 pub mod OrderSteps
 pub mod Orders
 pub mod Placed
+pub mod Sight
 pub mod Survey

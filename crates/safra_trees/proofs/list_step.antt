@@ -2,6 +2,7 @@
 pub mod Forests
 pub mod KeptPlaces
 pub mod Local
+pub mod Moved
 pub mod Over
 pub mod Places
 pub mod Pruned

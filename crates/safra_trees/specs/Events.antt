@@ -1,7 +1,7 @@
 -- What a step tells besides the tree: the least name that went, and the least that gave its children up.
-use Rattle.std.specs.Prelude.{◌<◌, ℕ, List, Option, length, slice_get}
+use Rattle.std.specs.Prelude.{◌<◌, ℕ, All, List, Option, length, slice_get}
 use Rattle.safra_trees.specs.Step.{greens, grown, reds}
-use Rattle.safra_trees.specs.Trees.{Node}
+use Rattle.safra_trees.specs.Trees.{Node, root_states}
 use Rattle.safra_trees.specs.declared.event.Event.{Event}
 use Rattle.safra_trees.specs.declared.moves.Move.{Move}
 
@@ -9,6 +9,11 @@ use Rattle.safra_trees.specs.declared.moves.Move.{Move}
 pub record IsWithin (n : ℕ) (move : Move) : Type 0 where
   pub from : move.from < n
   pub to : move.to < n
+
+-- an automaton of n states may have the states of the tree and the ends of the moves
+pub record AreStates (n : ℕ) (ms : List Move) (t : List Node) : Type 0 where
+  pub states : All (λ s. s < n) (root_states t)
+  pub moves : All (IsWithin n) ms
 
 -- the first of rising numbers
 abbrev pub least : List ℕ → Option ℕ

@@ -3,3 +3,4 @@ pub mod Claims
 pub mod Free
 pub mod Order
 pub mod Passes
+pub mod Sight

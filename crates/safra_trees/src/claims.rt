@@ -12,7 +12,7 @@ use std::alloc::AllocError;
 /// For each of so many states its place, `none` where it has none.
 pub(crate) fn places_by_state(
     room: Vec<u32>,
-    count: u32,
+    count: usize,
     none: u32,
     states: &[u32],
     places: &[u32],
@@ -26,7 +26,7 @@ pub(crate) fn places_by_state(
 {
     let mut found = room;
     found.clear();
-    found.resize(count as usize, none)?;
+    found.resize(count, none)?;
     'states: for place in 0..states.len() {
         found[states[place] as usize] = places[place];
     }

@@ -12,6 +12,7 @@ mod moves;
 mod order;
 mod passes;
 mod room;
+mod sight;
 mod starting;
 mod stepping;
 mod tree;
@@ -24,5 +25,5 @@ pub use law::{
 pub use moves::{Move, Moves};
 pub use room::Room;
 pub use starting::start;
-pub use stepping::step;
+pub use stepping::{step, step_in_room};
 pub use tree::SafraTree;

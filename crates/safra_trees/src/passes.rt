@@ -200,7 +200,7 @@ pub(crate) fn new_places(
     homes: &[u32],
     ranks: &[u32],
 ) -> Result<NewPlaces, AllocError>
-    requires few { length claims.now < 2 ^ 32 }
+    requires few { length claims.now ≤ 2 ^ 32 }
     requires size { length ranks.now ≡ length homes.now }
     requires low { (x : ℕ) → x < length homes.now → at homes.now x ≤ x }
     ensures states { IfOk result (λ made. made.states.items ≡ names (λ s. nat_lt (at claims.now s) (length homes.now)) (length claims.now)) }

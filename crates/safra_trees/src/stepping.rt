@@ -1,35 +1,118 @@
 //! The step of a tree.
 
-ghost use Rattle.std.specs.Prelude.{◌≡◌, ◌<◌, ◌≤◌, All, IfOk, IsErrOf, length};
+ghost use Rattle.std.specs.Prelude.{◌≡◌, ◌^◌, ◌<◌, ◌≤◌, ℕ, All, Contains, IfOk, IsErrOf, length, map};
+ghost use Rattle.std.specs.List.Sorted.{IsStrictlyIncreasing};
 ghost use Rattle.aut_base.specs.declared.limit.TheConstants.{MOST_NODES};
-ghost use Rattle.safra_trees.specs.Events.{IsWithin, event_of};
+ghost use Rattle.safra_trees.specs.Events.{AreStates, IsWithin, event_of};
+ghost use Rattle.safra_trees.specs.Flat.{at};
 ghost use Rattle.safra_trees.specs.Step.{grown, pruned};
 ghost use Rattle.safra_trees.specs.Trees.{root_states};
 ghost use Rattle.safra_trees.specs.View.{tree_of};
 ghost use Rattle.safra_trees.specs.inner.Passes.{ArePasses};
+ghost use Rattle.safra_trees.specs.inner.Sight.{node_by};
 
 use crate::claims::{claims, places_by_state};
 use crate::order::claiming_order;
 use crate::passes::{
     claiming, homes, least_covered, least_gone, new_names, new_parents, new_places, staying,
 };
+use crate::sight::{count_of, in_sight, moves_in, places_in, states_at};
 use crate::{Event, Move, Moves, Room, SafraTree, TreeFault};
 use aut_base::{MOST_NODES, Numbers};
 use std::alloc::{AllocError, Global};
 use std::mem;
 
-/// The step of a tree of an automaton with so many states, under the moves of a letter: the new tree, and the least names
-/// that were red and green. `Nodes` comes exactly where the new tree has more than `aut_base::MOST_NODES` nodes.
+/// The step of a tree under the moves of a letter: the new tree, and the least names that were red and green. It is that of any
+/// automaton that has the states of the tree and of the moves, however many states it has. `Nodes` comes exactly where the new tree
+/// has more than `aut_base::MOST_NODES` nodes.
 ///
-/// It takes time in the moves, the states, and the square of the nodes. Lists on its way are filled in the room, whose lists are
-/// empty again after a fault.
-pub fn step(
+/// It takes memory and, but for the logarithm of a sort, time in the states of the tree, the moves, and the square of the nodes,
+/// however great their numbers are.
+pub fn step(alloc: Global, tree: &SafraTree, moves: &Moves) -> Result<(SafraTree, Event), TreeFault>
+    ensures tree { IfOk result (λ made. (n : ℕ) → AreStates n moves.now (tree_of tree.now) → tree_of made.0 ≡ pruned (grown n moves.now (tree_of tree.now))) }
+    ensures states { IfOk result (λ made. (n : ℕ) → AreStates n moves.now (tree_of tree.now) → All (λ s. s < n) (root_states (tree_of made.0))) }
+    ensures event { IfOk result (λ made. (n : ℕ) → AreStates n moves.now (tree_of tree.now) → made.1 ≡ event_of n moves.now (tree_of tree.now)) }
+    ensures few { IfOk result (λ made. length (tree_of made.0) ≤ MOST_NODES) }
+    ensures nodes { IsErrOf result TreeFault.Nodes → (n : ℕ) → AreStates n moves.now (tree_of tree.now) → MOST_NODES < length (pruned (grown n moves.now (tree_of tree.now))) }
+{
+    let sight = in_sight(alloc, tree.states.as_slice(), moves.as_slice())?;
+    let seen = sight.as_slice();
+    let small = small_tree(alloc, seen, tree)?;
+    let few = moves_in(alloc, seen, moves.as_slice())?;
+    let mut room = Room::new(alloc);
+    match stepped(alloc, count_of(seen), &small, &few, &mut room) {
+        Ok(found) => {
+            let named = named_tree(alloc, seen, &found.0)?;
+            Ok((named, found.1))
+        }
+        Err(fault) => Err(fault),
+    }
+}
+
+/// The tree with the places of its states in their stead.
+fn small_tree(alloc: Global, sight: &[u32], tree: &SafraTree) -> Result<SafraTree, AllocError>
+    requires rises { IsStrictlyIncreasing sight.now }
+    requires there { All (λ s. Contains sight.now s) (root_states (tree_of tree.now)) }
+    ensures below { IfOk result (λ small. All (λ x. x < length sight.now) (root_states (tree_of small))) }
+    ensures are { IfOk result (λ small. map (node_by (at sight.now)) (tree_of small) ≡ tree_of tree.now) }
+{
+    let states = places_in(alloc, sight, tree.states.as_slice())?;
+    let parents = Vec::from_slice(alloc, tree.parents.as_slice())?;
+    let places = Vec::from_slice(alloc, tree.places.as_slice())?;
+    Ok(SafraTree {
+        parents: Numbers::from_vec(parents),
+        states: Numbers::from_vec(states),
+        places: Numbers::from_vec(places),
+    })
+}
+
+/// The tree with the states at its places.
+fn named_tree(alloc: Global, sight: &[u32], small: &SafraTree) -> Result<SafraTree, AllocError>
+    requires rises { IsStrictlyIncreasing sight.now }
+    requires below { All (λ x. x < length sight.now) (root_states (tree_of small.now)) }
+    ensures { IfOk result (λ tree. tree_of tree ≡ map (node_by (at sight.now)) (tree_of small.now)) }
+{
+    let states = states_at(alloc, sight, small.states.as_slice())?;
+    let parents = Vec::from_slice(alloc, small.parents.as_slice())?;
+    let places = Vec::from_slice(alloc, small.places.as_slice())?;
+    Ok(SafraTree {
+        parents: Numbers::from_vec(parents),
+        states: Numbers::from_vec(states),
+        places: Numbers::from_vec(places),
+    })
+}
+
+/// The step of a tree of an automaton with so many states, for whoever takes many: the new tree and the event that `step` gives.
+///
+/// It takes time in the moves, the states of the automaton, and the square of the nodes. Lists on its way are filled in the room,
+/// whose lists are empty again after a fault.
+pub fn step_in_room(
     alloc: Global,
     states: u32,
     tree: &SafraTree,
     moves: &Moves,
     room: &mut Room,
 ) -> Result<(SafraTree, Event), TreeFault>
+    requires states { All (λ s. s < states) (root_states (tree_of tree.now)) }
+    requires moves { All (IsWithin states) moves.now }
+    ensures tree { IfOk result (λ made. tree_of made.0 ≡ pruned (grown states moves.now (tree_of tree.now))) }
+    ensures states { IfOk result (λ made. All (λ s. s < states) (root_states (tree_of made.0))) }
+    ensures event { IfOk result (λ made. made.1 ≡ event_of states moves.now (tree_of tree.now)) }
+    ensures few { IfOk result (λ made. length (tree_of made.0) ≤ MOST_NODES) }
+    ensures nodes { IsErrOf result TreeFault.Nodes → MOST_NODES < length (pruned (grown states moves.now (tree_of tree.now))) }
+{
+    stepped(alloc, states as usize, tree, moves, room)
+}
+
+/// The same of so many states as there are numbers, at most.
+fn stepped(
+    alloc: Global,
+    states: usize,
+    tree: &SafraTree,
+    moves: &Moves,
+    room: &mut Room,
+) -> Result<(SafraTree, Event), TreeFault>
+    requires numbers { states ≤ 2 ^ 32 }
     requires states { All (λ s. s < states) (root_states (tree_of tree.now)) }
     requires moves { All (IsWithin states) moves.now }
     ensures tree { IfOk result (λ made. tree_of made.0 ≡ pruned (grown states moves.now (tree_of tree.now))) }
@@ -69,7 +152,7 @@ pub fn step(
 }
 
 /// Which names claim states, and which stay.
-fn passes(states: u32, tree: &SafraTree, moves: &[Move], room: Room) -> Result<Room, AllocError>
+fn passes(states: usize, tree: &SafraTree, moves: &[Move], room: Room) -> Result<Room, AllocError>
     requires states { All (λ s. s < states) (root_states (tree_of tree.now)) }
     requires moves { All (IsWithin states) moves.now }
     ensures { IfOk result (λ found. ArePasses (grown states moves.now (tree_of tree.now)) found.claims.items found.own.items found.homes.items found.stay.items) }

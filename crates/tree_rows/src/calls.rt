@@ -1,12 +1,11 @@
 //! What rows ask for by name.
 
 use crate::automata::{back, chain};
-use crate::compared::{next_tree, started};
 use crate::long_letters::letters;
 use crate::long_walk::long_walk;
 use aut_base::{Numbers, Text};
 use row_files::{Answers, Fault, Sequence, kind_and_rest, number, numbers, range};
-use safra_trees::{Event, Move, Moves, SafraTree, TreeFault};
+use safra_trees::{Event, Move, Moves, SafraTree, TreeFault, start, step};
 use std::alloc::Global;
 
 /// Answers with what trees are reached.
@@ -32,23 +31,20 @@ impl Answers for Trees {
 }
 
 /// The first tree's nodes, and behind a comma what each step gives: the nodes, the least names that were red and green, and the
-/// first earlier tree that the new one equals. The first line has the states and the starts, each further one the moves of a
-/// letter.
+/// first earlier tree that the new one equals. The first line has the starts, or `-`, each further one the moves of a letter.
 fn walk(alloc: Global, lines: &str) -> Result<String, Fault> {
     let (first, letters) = lines.split_once('\n').unwrap_or((lines, ""));
-    let (states, starts) = kind_and_rest(first);
-    let states = number(states)?;
-    let starts = if starts.is_empty() {
+    let starts = if first == "-" {
         Numbers::new(alloc)
     } else {
-        numbers(alloc, starts)?
+        numbers(alloc, first)?
     };
-    let tree = started(alloc, states, &starts)?;
+    let tree = start(alloc, &starts)?;
     let mut answer = format!(in alloc; "{}", tree.nodes())?;
     let mut trees = Vec::new(alloc);
     trees.push(tree)?;
     for line in letters.lines() {
-        take(alloc, states, &mut trees, &moves(alloc, line)?, &mut answer)?;
+        take(alloc, &mut trees, &moves(alloc, line)?, &mut answer)?;
     }
     Ok(answer)
 }
@@ -56,7 +52,6 @@ fn walk(alloc: Global, lines: &str) -> Result<String, Fault> {
 /// A step of the last tree, which is told of and goes behind it.
 fn take(
     alloc: Global,
-    states: u32,
     trees: &mut Vec<SafraTree>,
     moves: &Moves,
     answer: &mut String,
@@ -64,7 +59,7 @@ fn take(
     let Some(last) = trees.last() else {
         return Err(Fault::Missing);
     };
-    let Some((tree, event)) = next(alloc, states, last, moves)? else {
+    let Some((tree, event)) = next(alloc, last, moves)? else {
         answer.push_str(", too many")?;
         return Ok(());
     };
@@ -124,9 +119,9 @@ fn chained(alloc: Global, line: &str, goes_back: bool) -> Result<String, Fault> 
     let moves = chain(alloc, states)?;
     let mut starts = Numbers::new(alloc);
     starts.push(0)?;
-    let mut tree = started(alloc, states, &starts)?;
+    let mut tree = start(alloc, &starts)?;
     for _ in 0..steps {
-        match next(alloc, states, &tree, &moves)? {
+        match next(alloc, &tree, &moves)? {
             Some((after, _)) => tree = after,
             None => return Ok(String::from_str(alloc, "too many")?),
         }
@@ -134,7 +129,7 @@ fn chained(alloc: Global, line: &str, goes_back: bool) -> Result<String, Fault> 
     if !goes_back || states == 0 {
         return Ok(format!(in alloc; "{}", tree.nodes())?);
     }
-    match next(alloc, states, &tree, &back(alloc, states)?)? {
+    match next(alloc, &tree, &back(alloc, states)?)? {
         Some((after, event)) => told(alloc, &after, &event),
         None => Err(Fault::Failed),
     }
@@ -143,11 +138,10 @@ fn chained(alloc: Global, line: &str, goes_back: bool) -> Result<String, Fault> 
 /// The step, or none where there are too many nodes.
 fn next(
     alloc: Global,
-    states: u32,
     tree: &SafraTree,
     moves: &Moves,
 ) -> Result<Option<(SafraTree, Event)>, Fault> {
-    match next_tree(alloc, states, tree, moves)? {
+    match step(alloc, tree, moves) {
         Ok(made) => Ok(Some(made)),
         Err(TreeFault::Nodes) => Ok(None),
         Err(TreeFault::Memory) => Err(Fault::Memory),

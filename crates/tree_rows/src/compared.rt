@@ -8,7 +8,7 @@ use crate::plain::{PlainNode, is_set, plain_start, plain_step};
 use crate::stored::is_stored;
 use aut_base::Numbers;
 use row_files::{Count, Fault, Sequence};
-use safra_trees::{Event, Move, Moves, Room, SafraTree, TreeFault, start, step};
+use safra_trees::{Event, Move, Moves, Room, SafraTree, TreeFault, start, step, step_in_room};
 use std::alloc::Global;
 
 /// More trees than three states can have.
@@ -112,21 +112,13 @@ fn first(alloc: Global, states: u32) -> Result<Pair, Fault> {
         starts.push(0)?;
     }
     Ok(Pair {
-        tree: started(alloc, states, &starts)?,
+        tree: start(alloc, &starts)?,
         plain: plain_start(alloc, states, starts.as_slice())?,
     })
 }
 
-/// The first tree, or `Fault::Failed` where a start is no state.
-pub(crate) fn started(alloc: Global, states: u32, starts: &Numbers) -> Result<SafraTree, Fault> {
-    if !are_states(states, starts.as_slice()) {
-        return Err(Fault::Failed);
-    }
-    Ok(start(alloc, states, starts)?)
-}
-
 /// The step, or `Fault::Failed` where an end of a move is no state.
-pub(crate) fn next_tree(
+fn next_tree(
     alloc: Global,
     states: u32,
     tree: &SafraTree,
@@ -135,7 +127,7 @@ pub(crate) fn next_tree(
     if !are_states(states, tree.root_states()) || !are_within(states, moves.as_slice()) {
         return Err(Fault::Failed);
     }
-    Ok(step(alloc, states, tree, moves, &mut Room::new(alloc)))
+    Ok(step_in_room(alloc, states, tree, moves, &mut Room::new(alloc)))
 }
 
 /// Whether all are states.
@@ -169,6 +161,7 @@ fn both(alloc: Global, states: u32, pair: &Pair, moves: &Moves) -> Result<Option
             let told = plain_step(alloc, &pair.plain, moves.as_slice())?;
             let same = event.red == told.red && event.green == told.green;
             let agrees = same
+                && gives_the_same(alloc, &pair.tree, moves, &tree, &event)?
                 && is_same_size(&tree, &told.tree)
                 && has_root(&tree, &told.tree)
                 && is_stored(alloc, &tree, &told.tree)?;
@@ -179,6 +172,21 @@ fn both(alloc: Global, states: u32, pair: &Pair, moves: &Moves) -> Result<Option
             Ok(Some(Stepped { pair, agrees }))
         }
         Err(TreeFault::Nodes) => Ok(None),
+        Err(TreeFault::Memory) => Err(Fault::Memory),
+    }
+}
+
+/// Whether the step that is told no number of states gives the same.
+fn gives_the_same(
+    alloc: Global,
+    tree: &SafraTree,
+    moves: &Moves,
+    made: &SafraTree,
+    event: &Event,
+) -> Result<bool, Fault> {
+    match step(alloc, tree, moves) {
+        Ok((other, told)) => Ok(other == *made && told == *event),
+        Err(TreeFault::Nodes) => Ok(false),
         Err(TreeFault::Memory) => Err(Fault::Memory),
     }
 }

@@ -9,7 +9,7 @@ ghost use Rattle.tree_rows.specs.declared.long_letters.TheConstants.{LETTERS, ST
 use crate::long_letters::{LETTERS, STATES, growing_letter};
 use aut_base::Numbers;
 use row_files::{Fault, Sequence};
-use safra_trees::{Event, Moves, Room, SafraTree, TreeFault, start, step};
+use safra_trees::{Event, Moves, Room, SafraTree, TreeFault, start, step_in_room};
 use std::alloc::Global;
 
 /// The sizes of the trees that are stepped.
@@ -88,7 +88,7 @@ fn first(alloc: Global) -> Result<Standing, Fault> {
 fn one_node(alloc: Global) -> Result<Standing, Fault> {
     let mut starts = Numbers::new(alloc);
     starts.push(0)?;
-    let tree = start(alloc, STATES, &starts)?;
+    let tree = start(alloc, &starts)?;
     Ok(Standing { tree })
 }
 
@@ -116,7 +116,7 @@ fn next(
 ) -> Result<(Standing, Event), Fault>
     requires { All (IsWithin STATES) moves.now }
 {
-    match step(alloc, STATES, &standing.tree, moves, room) {
+    match step_in_room(alloc, STATES, &standing.tree, moves, room) {
         Ok((tree, event)) => Ok((Standing { tree }, event)),
         // 64 states can't have a tree of more than 100 nodes.
         Err(TreeFault::Nodes) => Err(Fault::Failed),

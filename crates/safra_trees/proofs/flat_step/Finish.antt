@@ -6,13 +6,13 @@ use Rattle.std.proofs.lemmas.Bool.{cases_Bool, cases_eq, cases_lt, ltb-true}
 use Rattle.std.proofs.lemmas.List.{length-map}
 use Rattle.std.proofs.lemmas.List.FromFn.{length-range_with_len}
 use Rattle.std.specs.List.{range_with_len}
-use Rattle.aut_base.proofs.lists.Members.{from_filter, from_range, each_there, map_alike}
+use Rattle.aut_base.proofs.lists.Members.{from_filter, from_range, map_alike}
 use Rattle.safra_trees.proofs.flat_step.Gathered.{gathered, gathered_stored, new_parents, new_places, new_states}
 use Rattle.safra_trees.proofs.flat_step.Grown.{grown_by, grown_forest_of, grown_same}
 use Rattle.safra_trees.proofs.flat_step.Homes.{IsPassed, green_flag}
 use Rattle.safra_trees.proofs.flat_step.Placed.{nodes_length, range_at, stored_root}
 use Rattle.safra_trees.proofs.list_step.Pruned.{pruned_length}
-use Rattle.safra_trees.proofs.list_step.Ranks.{index_map, names_kept, names_left}
+use Rattle.safra_trees.proofs.list_step.Ranks.{index_map, names_below, names_kept, names_left}
 use Rattle.safra_trees.specs.Events.{least}
 use Rattle.safra_trees.specs.Flat.{IsStored, at, nodes_of}
 use Rattle.safra_trees.specs.Step.{Forest, covered, greens, grown, names, pruned, rank, reds, stays}
@@ -222,9 +222,6 @@ finish_of n ms parents states places claims own homes stay count ranks new_p new
       ∙ (ap (λ xs. map (λ s. at ranks (at homes_1 (at xs s))) (names (λ s. nat_lt (at xs s) (length homes_1)) (length xs))) is.claims_one
       ∙ ap (λ xs. map (λ s. at ranks (at xs (at claims s))) (names (λ s. nat_lt (at claims s) (length xs)) (length claims))) is.homes_one));
 }
-
-pub names_below : (p : ℕ → Bool) (n : ℕ) → All (λ s. s < n) (names p n)
-names_below p n = each_there (λ s. s < n) (names p n) (λ s there. omega (arith, (from_range 0 n s (from_filter p (range_with_len 0 n) s there).0).1))
 
 -- the states of the new tree are states of the automaton
 pub finished_below : (n : ℕ) (ms : List Move) (parents states places claims : List ℕ) (own : List Bool) (homes : List ℕ) (stay : List Bool) (count : ℕ) (ranks new_p new_s new_o : List ℕ)

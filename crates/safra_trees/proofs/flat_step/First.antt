@@ -1,11 +1,13 @@
 -- The tree before a word.
 use Rattle.std.proofs.Common.{◌≡◌, ◌∙◌, ◌<◌, ◌==◌, ℕ, suc, Bool, true, cond, List, [], ◌∷◌, AllPairs, Contains, ap, arith, filter, inl, inr, length, min, refl, replicate, subst, sym, All}
 use Rattle.std.proofs.lemmas.Bool.{cases_Bool, cond-false, cond-true, eq-eqb, eqb-true, or_left}
+use Rattle.std.proofs.lemmas.List.Elements.{All-contains}
+use Rattle.std.proofs.lemmas.List.Kept.{AllPairs-from_increasing}
 use Rattle.std.specs.List.{list_any, range_with_len}
+use Rattle.std.specs.List.Sorted.{IsStrictlyIncreasing}
 use Rattle.aut_base.proofs.lists.Members.{any_found, any_from, each_there, first_there, from_filter, none_there, there_cases, there_filter}
-use Rattle.safra_trees.proofs.flat_step.Finish.{names_alike, names_below}
-use Rattle.safra_trees.proofs.flat_step.Gathered.{rising_names}
-use Rattle.safra_trees.specs.inner.Passes.{flag}
+use Rattle.aut_base.proofs.order.RisingLists.{kept_of_range}
+use Rattle.safra_trees.proofs.list_step.Ranks.{names_below}
 use Rattle.safra_trees.proofs.flat_step.Placed.{placed_all, stored_root}
 use Rattle.safra_trees.proofs.list_step.Over.{over_self}
 use Rattle.safra_trees.specs.Flat.{IsStored, at, is_over, nodes_of, placed}
@@ -80,10 +82,21 @@ nodes_first p xs (s ∷ found) is =
     ap made all
     ∙ sym (cond-true (list_any p xs) (record { parent = 0; states = filter p xs } ∷ []) [] some)
 
-pub started_stored : (n : ℕ) (starts found parents places : List ℕ) → found ≡ names (has starts) n → parents ≡ replicate (min (length found) 1) 0 → places ≡ replicate (length found) 0
+-- the starts in their order are those of the states below n that are starts
+pub started_names : (n : ℕ) (starts found : List ℕ) → IsStrictlyIncreasing found → ((q : ℕ) → Contains starts q → Contains found q) → ((q : ℕ) → Contains found q → Contains starts q)
+    → All (λ s. s < n) starts → found ≡ names (has starts) n
+started_names n starts found rises keeps adds_none all = kept_of_range (has starts) n found rises
+    (λ q there. (
+    let start = adds_none q there in
+    (All-contains (λ s. s < n) starts q all start, any_from (λ x. x == q) starts q start (eq-eqb q q refl))))
+    (λ q less is. (
+    let got = any_found (λ x. x == q) starts is in
+    keeps q (subst (λ x. Contains starts x) (eqb-true got.0 q got.2) got.1)))
+
+pub started_stored : (found parents places : List ℕ) → IsStrictlyIncreasing found → parents ≡ replicate (min (length found) 1) 0 → places ≡ replicate (length found) 0
     → IsStored parents found places
-started_stored n starts found parents places is one other =
-    let made = stored_first found (subst (λ xs. AllPairs (λ a b. a < b) xs) (sym is) (rising_names (has starts) n)) in
+started_stored found parents places rises one other =
+    let made = stored_first found (AllPairs-from_increasing found rises) in
     let first = subst (λ xs. IsStored xs found (zeros found)) (sym (one ∙ parents_are found)) made in
     subst (λ xs. IsStored parents found xs) (sym (other ∙ zeros_are found)) first
 
@@ -93,13 +106,6 @@ started_tree n starts found parents places is one other =
     ap (λ xs. nodes_of xs found places) (one ∙ parents_are found)
     ∙ (ap (nodes_of (first_parents found) found) (other ∙ zeros_are found) ∙ nodes_first (has starts) (range_with_len 0 n) found is)
 
-pub found_names : (n : ℕ) (starts slice found : List ℕ) (flags back : List Bool) → found ≡ names (flag back) (length back) → back ≡ flags → length flags ≡ n
-    → ((s : ℕ) → s < n → flag flags s ≡ has slice s) → slice ≡ starts → found ≡ names (has starts) n
-found_names n starts slice found flags back is same size each one =
-    is ∙ (ap (λ xs. names (flag xs) (length xs)) same ∙ (ap (names (flag flags)) size
-    ∙ names_alike (flag flags) (has starts) n (λ s less. each s less ∙ ap (λ xs. has xs s) one)))
-
-pub started_below : (n : ℕ) (starts found parents places : List ℕ) → found ≡ names (has starts) n → parents ≡ replicate (min (length found) 1) 0 → places ≡ replicate (length found) 0 → All
-    (λ s. s < n) (root_states (nodes_of parents found places))
-started_below n starts found parents places is one other =
-    subst (λ xs. All (λ s. s < n) xs) (sym (stored_root parents found places (started_stored n starts found parents places is one other) ∙ is)) (names_below (has starts) n)
+pub started_below : (n : ℕ) (starts found parents places : List ℕ) → IsStored parents found places → found ≡ names (has starts) n → All (λ s. s < n) (root_states (nodes_of parents found places))
+started_below n starts found parents places stored is =
+    subst (λ xs. All (λ s. s < n) xs) (sym (stored_root parents found places stored ∙ is)) (names_below (has starts) n)

@@ -1,9 +1,8 @@
 -- The lists of the names that stay are the stored tree that the step gives.
 use Rattle.std.proofs.Common.{◌≡◌, ◌∙◌, ◌+◌, ◌<◌, ◌≤◌, ◌==◌, ◌&&◌, ℕ, zero, suc, Bool, true, false, cond, List, []}
-use Rattle.std.proofs.Common.{◌∷◌, AllPairs, Contains, Some, ap, arith, filter, inl, inr, length, map, nat_lt, refl, slice_get, subst, sym}
+use Rattle.std.proofs.Common.{◌∷◌, Contains, Some, ap, arith, filter, inl, inr, length, map, nat_lt, refl, slice_get, subst, sym}
 use Rattle.std.proofs.lemmas.Bool.{and_from, and_parts, cases_eq, cond-false, eq-eqb, lt-ltb, ltb-true}
 use Rattle.std.proofs.lemmas.List.{length-map}
-use Rattle.std.proofs.lemmas.List.Kept.{AllPairs-cons, AllPairs-filter}
 use Rattle.std.proofs.lemmas.Option.{same_Some}
 use Rattle.std.specs.List.{range_with_len}
 use Rattle.aut_base.proofs.lists.Members.{any_from, each_there, first_there, from_filter, from_map, from_range, later_there, placed_there, there_filter, there_map, there_range_zero}
@@ -14,7 +13,7 @@ use Rattle.safra_trees.proofs.list_step.Forests.{IsForest, stays_up}
 use Rattle.safra_trees.specs.inner.Free.{place}
 use Rattle.safra_trees.proofs.list_step.KeptPlaces.{kept_under, under_kept}
 use Rattle.safra_trees.proofs.list_step.Over.{IsLower, over_cases, over_chain, over_from, over_root, over_self, over_then}
-use Rattle.safra_trees.proofs.list_step.Ranks.{index_map, rank_at, rank_back, rank_rises, rank_same}
+use Rattle.safra_trees.proofs.list_step.Ranks.{index_map, rank_at, rank_back, rank_rises, rank_same, rising_names}
 use Rattle.safra_trees.specs.Flat.{IsStored, at, is_over, node_of, nodes_of, placed}
 use Rattle.safra_trees.specs.Step.{Forest, keeps, names, pruned, rank, renamed, stays}
 use Rattle.safra_trees.specs.Trees.{Node}
@@ -160,14 +159,6 @@ gathered f claims own homes is =
     let found = name_at (stays f) f.size i y at_i in
     let e : 0 + i ≡ rank (stays f) y = omega (arith, found.2) in
     ap (node_of (new_parents f) (new_states f) (new_places f homes)) e ∙ node_renamed f claims own homes is y found.0 found.1))
-
-rising_range : (a n : ℕ) → AllPairs (λ x y. x < y) (range_with_len a n)
-rising_range a zero = λ i j d less within. absurd (omega (arith, within))
-rising_range a (suc n) = AllPairs-cons (λ x y. x < y) a (range_with_len (a + 1) n)
-    (each_there (λ y. a < y) (range_with_len (a + 1) n) (λ y there. omega (arith, (from_range (a + 1) n y there).0))) (rising_range (a + 1) n)
-
-pub rising_names : (p : ℕ → Bool) (n : ℕ) → AllPairs (λ x y. x < y) (names p n)
-rising_names p n = AllPairs-filter (λ x y. x < y) p (range_with_len 0 n) (rising_range 0 n)
 
 nothing : (xs : List ℕ) → length xs ≡ 0 → at xs 0 ≡ 0
 nothing [] e = refl

@@ -101,7 +101,7 @@ placed f is (suc y) s less = placed_more f is y s (omega (arith, less)) (placed 
 pub keeps_takes : (f : Forest) → IsForest f → (y s : ℕ) → y < f.size → keeps f y s ≡ takes f y s
 keeps_takes f is y s less = takes_of f is y s less (placed f is y s (omega (arith, less)))
 
-any_same : (p q : ℕ → Bool) → ((x : ℕ) → p x ≡ q x) → (xs : List ℕ) → list_any p xs ≡ list_any q xs
+pub any_same : (p q : ℕ → Bool) → ((x : ℕ) → p x ≡ q x) → (xs : List ℕ) → list_any p xs ≡ list_any q xs
 any_same p q same [] = refl
 any_same p q same (x ∷ xs) = ap (λ b. b || list_any p xs) (same x) ∙ ap (λ b. q x || b) (any_same p q same xs)
 

@@ -1,12 +1,14 @@
 -- Names that stay, and how they are renumbered.
-use Rattle.std.proofs.Common.{◌≡◌, ◌∙◌, ◌+◌, ◌<◌, ◌≤◌, ℕ, zero, suc, Bool, true, false, cond, List, []}
+use Rattle.std.proofs.Common.{◌≡◌, ◌∙◌, ◌+◌, ◌<◌, ◌≤◌, ℕ, zero, suc, All, AllPairs, Bool, true, false, cond, List, []}
 use Rattle.std.proofs.Common.{◌∷◌, ◌++◌, Some, ap, arith, filter, inl, inr, length, map, refl, slice_get, slice_index_or, sym}
 use Rattle.std.proofs.lemmas.Bool.{cases_Bool, cases_eq, cases_lt, cond-true, cond-false}
 use Rattle.std.proofs.lemmas.List.{append-nil, length-append}
+use Rattle.std.proofs.lemmas.List.Kept.{AllPairs-cons, AllPairs-filter}
 use Rattle.std.proofs.lemmas.List.Elements.{filter-append}
 use Rattle.std.proofs.lemmas.Option.{none-some, same_Some}
 use Rattle.std.specs.List.{range_with_len}
 use Rattle.aut_base.proofs.lists.Lists.{range_more, slice_get-append_left, slice_get-push_last}
+use Rattle.aut_base.proofs.lists.Members.{each_there, from_filter, from_range}
 use Rattle.safra_trees.specs.Step.{names, rank}
 
 -- one name more
@@ -121,3 +123,15 @@ rank_order p y z is less = elim (cases_lt y z) [
     | inr other ↦ absurd (omega (arith, rank_rises p z y (omega (arith, high, other)) is, less))
   ])
 ]
+
+-- names that pass are below the bound, and rise
+pub names_below : (p : ℕ → Bool) (n : ℕ) → All (λ s. s < n) (names p n)
+names_below p n = each_there (λ s. s < n) (names p n) (λ s there. omega (arith, (from_range 0 n s (from_filter p (range_with_len 0 n) s there).0).1))
+
+rising_range : (a n : ℕ) → AllPairs (λ x y. x < y) (range_with_len a n)
+rising_range a zero = λ i j d less within. absurd (omega (arith, within))
+rising_range a (suc n) = AllPairs-cons (λ x y. x < y) a (range_with_len (a + 1) n)
+    (each_there (λ y. a < y) (range_with_len (a + 1) n) (λ y there. omega (arith, (from_range (a + 1) n y there).0))) (rising_range (a + 1) n)
+
+pub rising_names : (p : ℕ → Bool) (n : ℕ) → AllPairs (λ x y. x < y) (names p n)
+rising_names p n = AllPairs-filter (λ x y. x < y) p (range_with_len 0 n) (rising_range 0 n)

@@ -1,8 +1,8 @@
-use Rattle.std.proofs.Common.{◌≡◌, ◌∙◌, All, ◌<◌, ap, map, subst, sym}
+use Rattle.std.proofs.Common.{◌≡◌, ◌∙◌, All, List, ℕ, ◌<◌, ap, map, subst, sym}
 use Rattle.aut_base.proofs.Outcomes.{told_fault}
 use Rattle.aut_base.specs.declared.limit.TheConstants.{MOST_TREES}
 use Rattle.aut_core.proofs.Growth.{keeps_none}
-use Rattle.aut_core.specs.Core.{Core, automaton_of}
+use Rattle.aut_core.specs.Core.{Core, IsCore, automaton_of}
 use Rattle.exploration.specs.Explorations.{IsSound}
 use Rattle.exploration.specs.declared.fault.Fault.{Fault}
 use Rattle.exploration.specs.declared.fault.Fault.TheVariants as limit
@@ -16,11 +16,15 @@ use Rattle.safra_trees.specs.View.{tree_of}
 use Rattle.parity_det.proofs.form.tree_form.Goals.{In_err-found}
 use Rattle.parity_det.proofs.form.tree_form.Goals as goal
 
+-- the starts are states
+starts_below : (b : Core) → IsCore b → (starts : List ℕ) → starts ≡ b.starts → All (λ s. s < b.states) starts
+starts_below b is starts same = subst (λ xs. All (λ s. s < b.states) xs) (sym same) is.well_formed.starts
+
 pub built-requires-clause-keeps : goal.built-requires-clause-keeps
 built-requires-clause-keeps c =
     let first = tree_of c.in_ok-first.first in
     let fits : FitsStore c.args.b.now c.new-store.result (root_states first) = record {
-      states = subst (λ n. All (λ s. s < n) (root_states first)) c.states.ensures c.in_ok-first.ensures.states;
+      states = c.in_ok-first.ensures.states c.args.b.now.states (starts_below c.args.b.now c.whole.ensures c.starts.result.now c.starts.ensures);
       keeps = subst (Keeps c.args.b.now.store) (sym (c.new-store.ensures ∙ (c.in_ok-copy.ensures ∙ c.guards.ensures))) (keeps_none c.args.b.now.store);
     } in
     let kept : FitsStore c.explore.new.system.automaton.now c.explore.new.system.guards (root_states first) = c.in_ok-found.ensures.keeps.fits first fits in
@@ -40,7 +44,7 @@ built-requires-clause-sound c =
 met : (c : In_err-found) (wanted : Fault) → c.in_err-found.field-0.0 ≡ wanted → (wanted ≡ limit.Memory → ⊥) → MeetsFirst (automaton_of c.args.b.now) wanted
 met c wanted is other =
     let b = c.args.b.now in
-    let started = c.in_ok-first.ensures.tree ∙ ap (λ n. first_tree n c.starts.result.now) c.states.ensures ∙ ap (first_tree b.states) c.starts.ensures in
+    let started = c.in_ok-first.ensures.tree b.states (starts_below b c.whole.ensures c.starts.result.now c.starts.ensures) ∙ ap (first_tree b.states) c.starts.ensures in
     met_first (automaton_of b) (tree_of c.in_ok-first.first) c.in_err-found.field-0.0 wanted started c.in_err-found.ensures.meets is other
 
 pub returns-in_err-found-clause-trees : goal.returns-in_err-found-clause-trees

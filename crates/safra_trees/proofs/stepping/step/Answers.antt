@@ -1,148 +1,90 @@
-use Rattle.std.proofs.Common.{◌≡◌, ◌∙◌, ◌+◌, Bool, List, Option, ap, arith, filter, length, not, subst, ℕ, ◌&&◌}
+use Rattle.std.proofs.Common.{◌∙◌, ◌<◌, All, List, ap, arith, length, map, subst, sym}
 use Rattle.std.proofs.lemmas.List.{length-map}
-use Rattle.std.proofs.lemmas.List.FromFn.{length-range_with_len}
-use Rattle.std.specs.List.{range_with_len}
-use Rattle.safra_trees.proofs.flat_step.Finish.{IsFinish, claims_length, finish_of, finished_below, finished_count, finished_green}
-use Rattle.safra_trees.proofs.flat_step.Finish.{finished_red, finished_stored, finished_tree, homes_sized, own_sized, stay_sized}
-use Rattle.safra_trees.specs.Events.{least}
-use Rattle.safra_trees.specs.Step.{greens, grown, rank, reds}
+use Rattle.std.specs.List.Sorted.{IsStrictlyIncreasing}
+use Rattle.aut_base.specs.declared.limit.TheConstants.{MOST_NODES}
+use Rattle.safra_trees.proofs.flat_step.Placed.{stored_root}
+use Rattle.safra_trees.proofs.flat_step.Sight.{IsSmall, is_sight, moves_seen, pruned_below, small_event, small_of, small_step, states_seen}
+use Rattle.safra_trees.specs.Events.{IsWithin, event_of}
+use Rattle.safra_trees.specs.Flat.{at}
+use Rattle.safra_trees.specs.Step.{grown, pruned}
+use Rattle.safra_trees.specs.Trees.{root_states}
 use Rattle.safra_trees.specs.View.{tree_of}
-use Rattle.safra_trees.specs.declared.event.Event.{Event}
-use Rattle.safra_trees.specs.inner.Passes.{ArePasses, flag}
-use Rattle.safra_trees.proofs.stepping.step.Goals.{After-from_vec-3, In_ok-found, In_ok-names}
+use Rattle.safra_trees.specs.declared.moves.Move.{Move}
+use Rattle.safra_trees.specs.inner.Sight.{IsSeen, node_by}
+use Rattle.safra_trees.proofs.stepping.step.Goals.{In_ok-few}
 use Rattle.safra_trees.proofs.stepping.step.Goals as goal
 
--- what the passes over the names and places gave
-passes : (c : In_ok-found) → ArePasses (grown c.args.states c.args.moves.now (tree_of c.args.tree.now)) c.in_ok-found.found.claims.items c.in_ok-found.found.own.items
-    c.in_ok-found.found.homes.items c.in_ok-found.found.stay.items
-passes c = subst (λ xs. ArePasses (grown c.args.states xs (tree_of c.args.tree.now)) c.in_ok-found.found.claims.items c.in_ok-found.found.own.items c.in_ok-found.found.homes.items
-    c.in_ok-found.found.stay.items)
-    c.as_slice.ensures c.in_ok-found.ensures
+pub small_tree-requires-clause-rises : goal.small_tree-requires-clause-rises
+small_tree-requires-clause-rises c = subst IsStrictlyIncreasing (sym c.as_slice-seen.ensures) c.in_ok-sight.ensures.rises
 
--- each list of names has room for those of the tree and for as many new ones
-stay_size : (c : In_ok-found) → length c.in_ok-found.found.stay.items ≡ length c.args.tree.now.parents + length c.args.tree.now.parents
-stay_size c = stay_sized c.args.states c.args.moves.now c.args.tree.now.parents c.args.tree.now.states c.args.tree.now.places
-    c.in_ok-found.found.claims.items c.in_ok-found.found.own.items c.in_ok-found.found.homes.items c.in_ok-found.found.stay.items (passes c)
-
--- each name has a rank
-ranks_size : (c : In_ok-names) → length c.in_ok-names.names.ranks.items ≡ length c.deref.result.now
-ranks_size c = ap length c.in_ok-names.ensures.ranks
-    ∙ (length-map (range_with_len 0 (length c.deref.result.now)) (rank (flag c.deref.result.now)) ∙ length-range_with_len 0 (length c.deref.result.now))
-
--- the new tree is what is finished of them
-finish : (c : After-from_vec-3) → IsFinish c.args.states c.args.moves.now c.args.tree.now.parents c.args.tree.now.states c.args.tree.now.places
-    c.in_ok-found.found.claims.items c.in_ok-found.found.own.items c.in_ok-found.found.homes.items c.in_ok-found.found.stay.items
-    c.in_ok-names.names.count c.in_ok-names.names.ranks.items c.from_vec.result c.from_vec-2.result c.from_vec-3.result
-finish c =
-    let found = c.in_ok-found.found in
-    let passes : ArePasses (grown c.args.states c.args.moves.now (tree_of c.args.tree.now)) found.claims.items found.own.items found.homes.items found.stay.items =
-    subst (λ xs. ArePasses (grown c.args.states xs (tree_of c.args.tree.now)) found.claims.items found.own.items found.homes.items found.stay.items) c.as_slice.ensures c.in_ok-found.ensures in
-    finish_of c.args.states c.args.moves.now c.args.tree.now.parents c.args.tree.now.states c.args.tree.now.places
-    c.in_ok-found.found.claims.items c.in_ok-found.found.own.items c.in_ok-found.found.homes.items c.in_ok-found.found.stay.items
-    c.in_ok-names.names.count c.in_ok-names.names.ranks.items c.from_vec.result c.from_vec-2.result c.from_vec-3.result
-    c.deref.result.now c.deref-2.result.now c.deref-3.result.now c.as_slice-2.result.now c.deref-4.result.now c.deref-5.result.now c.deref-6.result.now passes (record {
-      stay_one = c.deref.ensures.value;
-      stay_two = c.deref-2.ensures.value;
-      ranks_one = c.deref-3.ensures.value;
-      ranks_two = c.deref-6.ensures.value;
-      parents_one = c.as_slice-2.ensures;
-      claims_one = c.deref-4.ensures.value;
-      homes_one = c.deref-5.ensures.value;
-      counts = c.in_ok-names.ensures.count;
-      ranked = c.in_ok-names.ensures.ranks;
-      parents_are = c.from_vec.ensures ∙ c.in_ok-parents.ensures;
-      states_are = c.from_vec-2.ensures ∙ c.in_ok-made.ensures.states;
-      places_are = c.from_vec-3.ensures ∙ c.in_ok-made.ensures.places;
-    })
-
-pub new_names-requires : goal.new_names-requires
-new_names-requires c = let sized = stay_size (goal.at.new_names-requires c).In_ok-found in omega (arith, ap length c.deref.ensures.value, sized, c.args.tree.now.stored.few)
-
-pub returns-then-names-gt-MOST_NODES-clause-nodes : goal.returns-then-names-gt-MOST_NODES-clause-nodes
-returns-then-names-gt-MOST_NODES-clause-nodes c =
-    let counts = c.in_ok-names.ensures.count ∙ ap (λ xs. rank (flag xs) (length xs)) c.deref.ensures.value in
-    let many = finished_count c.args.states c.args.moves.now c.args.tree.now.parents c.args.tree.now.states c.args.tree.now.places
-    c.in_ok-found.found.claims.items c.in_ok-found.found.own.items c.in_ok-found.found.homes.items c.in_ok-found.found.stay.items c.in_ok-names.names.count
-    (passes (goal.at.returns-then-names-gt-MOST_NODES-clause-nodes c).In_ok-found) counts in
-    λ is. omega (arith, c.if-names-gt-MOST_NODES.true, many)
-
-pub new_parents-requires-clause-size : goal.new_parents-requires-clause-size
-new_parents-requires-clause-size c =
-    let sized = stay_size (goal.at.new_parents-requires-clause-size c).In_ok-found in
-    omega (arith, ap length c.deref-2.ensures.value, sized, ap length c.as_slice-2.ensures)
-
-pub new_parents-requires-clause-ranks : goal.new_parents-requires-clause-ranks
-new_parents-requires-clause-ranks c =
-    let ranks = ranks_size (goal.at.new_parents-requires-clause-ranks c).In_ok-names in
-    omega (arith, ap length c.deref-3.ensures.value, ap length c.deref-2.ensures.value, ap length c.deref.ensures.value, ranks)
-
-pub new_places-requires-clause-few : goal.new_places-requires-clause-few
-new_places-requires-clause-few c =
-    let claimed = claims_length (grown c.args.states c.args.moves.now (tree_of c.args.tree.now)) c.in_ok-found.found.claims.items c.in_ok-found.found.own.items
-    c.in_ok-found.found.homes.items c.in_ok-found.found.stay.items
-    (passes (goal.at.new_places-requires-clause-few c).In_ok-found) in
-    omega (arith, ap length c.deref-4.ensures.value, claimed, c.ranges.states.fits)
-
-pub new_places-requires-clause-size : goal.new_places-requires-clause-size
-new_places-requires-clause-size c =
-    let at = (goal.at.new_places-requires-clause-size c).In_ok-found in
-    let sized = homes_sized c.args.states c.args.moves.now c.args.tree.now.parents c.args.tree.now.states c.args.tree.now.places
-    c.in_ok-found.found.claims.items c.in_ok-found.found.own.items c.in_ok-found.found.homes.items c.in_ok-found.found.stay.items (passes at) in
-    let stays = stay_size at in
-    let ranks = ranks_size (goal.at.new_places-requires-clause-size c).In_ok-names in
-    omega (arith, ap length c.deref-6.ensures.value, ap length c.deref-5.ensures.value, ap length c.deref.ensures.value, ranks, sized, stays)
-
-pub least_covered-requires-clause-fit : goal.least_covered-requires-clause-fit
-least_covered-requires-clause-fit c =
-    let sized = own_sized c.args.states c.args.moves.now c.args.tree.now.parents c.args.tree.now.states c.args.tree.now.places
-    c.in_ok-found.found.claims.items c.in_ok-found.found.own.items c.in_ok-found.found.homes.items c.in_ok-found.found.stay.items (passes (goal.at.least_covered-requires-clause-fit c).In_ok-found) in
-    omega (arith, ap length c.deref-9.ensures.value, sized, c.args.tree.now.stored.few)
-
-pub invariant_of-new : goal.invariant_of-new
-invariant_of-new c = record {
-  stored = finished_stored c.args.states c.args.moves.now c.args.tree.now.parents c.args.tree.now.states c.args.tree.now.places
-      c.in_ok-found.found.claims.items c.in_ok-found.found.own.items c.in_ok-found.found.homes.items c.in_ok-found.found.stay.items
-      c.in_ok-names.names.count c.in_ok-names.names.ranks.items c.from_vec.result c.from_vec-2.result c.from_vec-3.result
-      c.args.tree.now.stored (finish (goal.at.invariant_of-new c).After-from_vec-3) c.if-names-gt-MOST_NODES.false;
-}
-
-pub returns-clause-tree : goal.returns-clause-tree
-returns-clause-tree c = finished_tree c.args.states c.args.moves.now c.args.tree.now.parents c.args.tree.now.states c.args.tree.now.places
-    c.in_ok-found.found.claims.items c.in_ok-found.found.own.items c.in_ok-found.found.homes.items c.in_ok-found.found.stay.items
-    c.in_ok-names.names.count c.in_ok-names.names.ranks.items c.from_vec.result c.from_vec-2.result c.from_vec-3.result
-    c.args.tree.now.stored (finish (goal.at.returns-clause-tree c).After-from_vec-3)
-
-pub returns-clause-states : goal.returns-clause-states
-returns-clause-states c = finished_below c.args.states c.args.moves.now c.args.tree.now.parents c.args.tree.now.states c.args.tree.now.places
-    c.in_ok-found.found.claims.items c.in_ok-found.found.own.items c.in_ok-found.found.homes.items c.in_ok-found.found.stay.items
-    c.in_ok-names.names.count c.in_ok-names.names.ranks.items c.from_vec.result c.from_vec-2.result c.from_vec-3.result
-    c.args.tree.now.stored (finish (goal.at.returns-clause-states c).After-from_vec-3) c.if-names-gt-MOST_NODES.false
-
-pub returns-clause-few : goal.returns-clause-few
-returns-clause-few c =
-    let counts = (finish (goal.at.returns-clause-few c).After-from_vec-3).counts in
-    let many = finished_count c.args.states c.args.moves.now c.args.tree.now.parents c.args.tree.now.states c.args.tree.now.places
-    c.in_ok-found.found.claims.items c.in_ok-found.found.own.items c.in_ok-found.found.homes.items c.in_ok-found.found.stay.items c.in_ok-names.names.count
-    (passes (goal.at.returns-clause-few c).In_ok-found) counts in
-    let is = returns-clause-tree c in
-    omega (arith, ap length is, c.if-names-gt-MOST_NODES.false, many)
-
-pub returns-clause-event : goal.returns-clause-event
-returns-clause-event c =
+pub small_tree-requires-clause-there : goal.small_tree-requires-clause-there
+small_tree-requires-clause-there c =
     let tree = c.args.tree.now in
-    let n = c.args.states in
-    let ms = c.args.moves.now in
-    let stay = c.in_ok-found.found.stay.items in
-    let passed = passes (goal.at.returns-clause-event c).In_ok-found in
-    let red : c.least_gone.result ≡ least (reds (grown n ms (tree_of tree)) (length (tree_of tree))) =
-    c.least_gone.ensures ∙ (ap (λ (xs : List Bool). least (filter (λ y. not (flag xs y)) (range_with_len 0 c.nodes.result))) c.deref-7.ensures.value
-    ∙ finished_red n ms tree.parents tree.states tree.places c.in_ok-found.found.claims.items c.in_ok-found.found.own.items c.in_ok-found.found.homes.items c.in_ok-found.found.stay.items
-    c.nodes.result passed c.nodes.ensures) in
-    let green : c.least_covered.result ≡ least (greens (grown n ms (tree_of tree))) =
-    c.least_covered.ensures ∙ (ap (λ (xs : List Bool). least (filter (λ y. flag xs y && not (flag c.deref-9.result.now y)) (range_with_len 0 (length c.deref-9.result.now)))) c.deref-8.ensures.value
-    ∙ (ap (λ (xs : List Bool). least (filter (λ y. flag stay y && not (flag xs y)) (range_with_len 0 (length xs)))) c.deref-9.ensures.value
-    ∙ finished_green n ms tree.parents tree.states tree.places c.in_ok-found.found.claims.items c.in_ok-found.found.own.items c.in_ok-found.found.homes.items c.in_ok-found.found.stay.items
-    tree.stored passed)) in
-    let with_red : Option ℕ → Event = λ r. record { red = r; green = c.least_covered.result } in
-    let with_green : Option ℕ → Event = λ g. record { red = least (reds (grown n ms (tree_of tree)) (length (tree_of tree))); green = g } in
-    ap with_red red ∙ ap with_green green
+    let seen = is_sight c.as_slice.result.now (root_states (tree_of tree)) c.as_slice-2.result.now c.args.moves.now c.in_ok-sight.sight c.as_slice-seen.result.now c.in_ok-sight.ensures
+    (c.as_slice.ensures ∙ sym (stored_root tree.parents tree.states tree.places tree.stored)) c.as_slice-2.ensures c.as_slice-seen.ensures in
+    states_seen (root_states (tree_of tree)) c.as_slice-seen.result.now c.args.moves.now seen.keeps
+
+pub moves_in-requires-clause-rises : goal.moves_in-requires-clause-rises
+moves_in-requires-clause-rises c = subst IsStrictlyIncreasing (sym c.as_slice-seen.ensures) c.in_ok-sight.ensures.rises
+
+pub moves_in-requires-clause-there : goal.moves_in-requires-clause-there
+moves_in-requires-clause-there c =
+    let tree = c.args.tree.now in
+    let seen = is_sight c.as_slice.result.now (root_states (tree_of tree)) c.as_slice-2.result.now c.args.moves.now c.in_ok-sight.sight c.as_slice-seen.result.now c.in_ok-sight.ensures
+    (c.as_slice.ensures ∙ sym (stored_root tree.parents tree.states tree.places tree.stored)) c.as_slice-2.ensures c.as_slice-seen.ensures in
+    subst (λ (ms : List Move). All (λ e. IsSeen c.as_slice-seen.result.now e) ms) (sym c.as_slice-3.ensures)
+    (moves_seen (root_states (tree_of tree)) c.as_slice-seen.result.now c.args.moves.now seen.keeps)
+
+pub count_of-requires : goal.count_of-requires
+count_of-requires c = subst IsStrictlyIncreasing (sym c.as_slice-seen.ensures) c.in_ok-sight.ensures.rises
+
+pub stepped-requires-clause-states : goal.stepped-requires-clause-states
+stepped-requires-clause-states c = subst (λ n. All (λ s. s < n) (root_states (tree_of c.in_ok-small.small))) (sym c.count_of.ensures.is) c.in_ok-small.ensures.below
+
+pub stepped-requires-clause-moves : goal.stepped-requires-clause-moves
+stepped-requires-clause-moves c = subst (λ n. All (IsWithin n) c.in_ok-few.few) (sym c.count_of.ensures.is) c.in_ok-few.ensures.within
+
+pub named_tree-requires-clause-rises : goal.named_tree-requires-clause-rises
+named_tree-requires-clause-rises c = subst IsStrictlyIncreasing (sym c.as_slice-seen.ensures) c.in_ok-sight.ensures.rises
+
+pub named_tree-requires-clause-below : goal.named_tree-requires-clause-below
+named_tree-requires-clause-below c = subst (λ n. All (λ s. s < n) (root_states (tree_of c.in-Ok.found.0))) c.count_of.ensures.is c.in-Ok.ensures.states
+
+-- what is stepped stands for the tree and the moves
+small : (c : In_ok-few) → IsSmall c.as_slice-seen.result.now c.args.moves.now (tree_of c.args.tree.now) c.in_ok-few.few (tree_of c.in_ok-small.small)
+small c =
+    let tree = c.args.tree.now in
+    let few = c.in_ok-small.small in
+    small_of tree.parents tree.states tree.places c.as_slice.result.now c.in_ok-sight.sight c.as_slice-seen.result.now c.args.moves.now c.as_slice-2.result.now c.as_slice-3.result.now
+    c.in_ok-few.few few.parents few.states few.places tree.stored few.stored c.in_ok-sight.ensures c.as_slice.ensures c.as_slice-2.ensures c.as_slice-seen.ensures c.in_ok-few.ensures.within
+    c.in_ok-few.ensures.are c.as_slice-3.ensures c.in_ok-small.ensures.below c.in_ok-small.ensures.are
+
+pub returns-in-Ok-clause-tree : goal.returns-in-Ok-clause-tree
+returns-in-Ok-clause-tree c = λ n are. (
+    let sight = c.as_slice-seen.result.now in
+    let t = tree_of c.in_ok-small.small in
+    c.in_ok-named.ensures ∙ (ap (map (node_by (at sight))) (c.in-Ok.ensures.tree ∙ ap (λ k. pruned (grown k c.in_ok-few.few t)) c.count_of.ensures.is)
+    ∙ sym (small_step sight c.args.moves.now (tree_of c.args.tree.now) c.in_ok-few.few t (small (goal.at.returns-in-Ok-clause-tree c).In_ok-few) n are)))
+
+pub returns-in-Ok-clause-states : goal.returns-in-Ok-clause-states
+returns-in-Ok-clause-states c = λ n are. (
+    let is = returns-in-Ok-clause-tree c n are in
+    subst (λ t. All (λ s. s < n) (root_states t)) (sym is) (pruned_below (grown n c.args.moves.now (tree_of c.args.tree.now))))
+
+pub returns-in-Ok-clause-event : goal.returns-in-Ok-clause-event
+returns-in-Ok-clause-event c = λ n are. (
+    let t = tree_of c.in_ok-small.small in
+    c.in-Ok.ensures.event ∙ (ap (λ k. event_of k c.in_ok-few.few t) c.count_of.ensures.is
+    ∙ sym (small_event c.as_slice-seen.result.now c.args.moves.now (tree_of c.args.tree.now) c.in_ok-few.few t (small (goal.at.returns-in-Ok-clause-event c).In_ok-few) n are)))
+
+pub returns-in-Ok-clause-few : goal.returns-in-Ok-clause-few
+returns-in-Ok-clause-few c = omega (arith, ap length c.in_ok-named.ensures, length-map (tree_of c.in-Ok.found.0) (node_by (at c.as_slice-seen.result.now)), c.in-Ok.ensures.few)
+
+pub returns-in-Err-clause-nodes : goal.returns-in-Err-clause-nodes
+returns-in-Err-clause-nodes c = λ is n are. (
+    let sight = c.as_slice-seen.result.now in
+    let t = tree_of c.in_ok-small.small in
+    let left = pruned (grown (length sight) c.in_ok-few.few t) in
+    let many : MOST_NODES < length left = subst (λ k. MOST_NODES < length (pruned (grown k c.in_ok-few.few t))) c.count_of.ensures.is (c.in-Err.ensures.nodes is) in
+    let same = small_step sight c.args.moves.now (tree_of c.args.tree.now) c.in_ok-few.few t (small (goal.at.returns-in-Err-clause-nodes c).In_ok-few) n are in
+    omega (arith, many, ap length same, length-map left (node_by (at sight))))

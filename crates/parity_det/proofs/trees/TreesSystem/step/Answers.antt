@@ -18,8 +18,8 @@ taken c = class_taken c.args.self.now.automaton.now c.whole.ensures c.args.self.
     c.root_states.result.now c.root_states.ensures c.in-Some.number
     (met_number c.args.self.now.guards _ c.args.class _ c.in-Some.number c.guards.ensures c.in-Some.is c.meeting.ensures) c.in_ok-moves.moves c.in_ok-moves.ensures.moves
 
-pub step-requires-clause-moves : goal.step-requires-clause-moves
-step-requires-clause-moves c = subst (λ n. All (IsWithin n) c.in_ok-moves.moves) (sym c.states.ensures) c.in_ok-moves.ensures.within
+pub step_in_room-requires-clause-moves : goal.step_in_room-requires-clause-moves
+step_in_room-requires-clause-moves c = subst (λ n. All (IsWithin n) c.in_ok-moves.moves) (sym c.states.ensures) c.in_ok-moves.ensures.within
 
 pub returns-in-Ok-clause-step : goal.returns-in-Ok-clause-step
 returns-in-Ok-clause-step c =
