@@ -20,8 +20,6 @@ use Rattle.hoa_reader.specs.declared.elaborate.places.Places.{Places}
 pub edges-cons : (s : WrittenState) (states : List WrittenState) → length (all_edges (s ∷ states)) ≡ length s.edges + length (all_edges states)
 edges-cons s states = length-append s.edges (all_edges states)
 
-pub ruleset edges_counted = (edges-cons)
-
 tall_cons : (n h c m : ℕ) (b : Bool) → c ≡ cap h → n < 2 ^ 64 - 1 → b ≡ nat_lt n m → (nat_lt n c || b) ≡ nat_lt n (max h m)
 tall_cons n h c m b e l f = grind (arith, nat_tests)
 
