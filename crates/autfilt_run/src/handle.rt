@@ -23,8 +23,8 @@ use hoa_writer::write_text;
 use plan_meaning::{Automata, Complements, PlanFault, change, judge};
 use std::alloc::Global;
 
-/// Judges an automaton that was read, writes its text where one is due, and answers whether it is kept. Of what was read only
-/// the name stays once the automaton is built, so its text takes no memory while it is judged and changed.
+/// Judges an automaton that was read, writes its text where one is due, and answers whether it is kept. Of what was read nothing
+/// is left once the automaton is built, so it takes no memory while that is judged and changed.
 pub(crate) fn handle<W: Sink>(
     alloc: Global,
     plan: &Plan,
@@ -38,15 +38,15 @@ pub(crate) fn handle<W: Sink>(
     ensures handles { Handles result plan.now (map automaton_of operands.now) (written raw) (W.seen out.old) (W.seen out.new) }
     ensures kept { AreKept plan.now (map automaton_of operands.now) complements.new }
 {
-    let automaton = automaton_taken(alloc, &raw)?;
-    let name = raw.into_name();
-    if !judge(alloc, plan, operands, complements, &automaton)? {
+    let read = automaton_taken(alloc, raw)?;
+    if !judge(alloc, plan, operands, complements, &read.automaton)? {
         return Ok(false);
     }
     if !prints_each(plan) {
         return Ok(true);
     }
-    let text = printed(alloc, plan, operands, complements, automaton, name.as_ref())?;
+    let name = read.name.as_ref();
+    let text = printed(alloc, plan, operands, complements, read.automaton, name)?;
     match out.write(text.as_bytes()) {
         Ok(()) => Ok(true),
         Err(Failed) => Err(RunFault::WriteFault),

@@ -2,6 +2,7 @@
 pub mod Built
 pub mod DescribingExamples
 pub mod Framed
+pub mod Headers
 pub mod LabelsInRange
 pub mod OneMore
 pub mod OneWay

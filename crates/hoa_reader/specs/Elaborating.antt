@@ -1,17 +1,19 @@
 -- What is answered of an automaton that was read.
 use Rattle.std.specs.Prelude.{◌≡◌, Result, Ok, Err}
-use Rattle.aut_base.specs.Automaton.{Automaton, IsWellFormed, automaton}
+use Rattle.aut_base.specs.Automaton.{IsWellFormed, automaton}
 use Rattle.aut_base.specs.CanonicalLabel.{canonical}
 use Rattle.aut_base.specs.declared.description.Description.{Description}
 use Rattle.aut_base.specs.declared.limit.Limit.{Limit}
-use Rattle.aut_core.specs.Core.{Core, automaton_of}
+use Rattle.aut_core.specs.Core.{automaton_of}
 use Rattle.hoa_reader.specs.Counts.{Count, PassesFirst, PassesNone}
 use Rattle.hoa_reader.specs.Described.{described}
 use Rattle.hoa_reader.specs.inner.Gathered.{limit_of}
+use Rattle.hoa_parser.specs.Naming.{name_of}
 use Rattle.hoa_parser.specs.Raw.{Written}
 use Rattle.hoa_reader.specs.Validity.{IsFirstBroken, IsValid}
 use Rattle.hoa_reader.specs.declared.elaborate.ElabFault.{ElabFault}
 use Rattle.hoa_reader.specs.declared.elaborate.ElabFault.TheVariants as fault
+use Rattle.hoa_reader.specs.declared.elaborate.Named.{Named}
 
 -- It is valid, and this limit is the first that one of its counts passes.
 pub record PassesLimit (which : Limit) (w : Written) : Type 0 where
@@ -37,13 +39,14 @@ abbrev pub Elaborates : Result Description ElabFault → Written → Type 0
 Elaborates (Ok d) w = IsDescribed w d
 Elaborates (Err why) w = Refuses why w
 
--- It is valid and within the limits, and this is what it describes, with each label in its canonical form.
-pub record IsBuilt (w : Written) (a : Automaton) : Type 0 where
+-- It is valid and within the limits, and this is what it describes, with each label in its canonical form, and the name that is written.
+pub record IsBuilt (w : Written) (n : Named) : Type 0 where
   pub valid : IsValid w
   pub within : PassesNone w
-  pub same : a ≡ canonical (described w)
+  pub same : automaton_of n.automaton ≡ canonical (described w)
   pub formed : IsWellFormed (described w)
+  pub named : n.name ≡ name_of w
 
-abbrev pub Builds : Result Core ElabFault → Written → Type 0
-Builds (Ok core) w = IsBuilt w (automaton_of core)
+abbrev pub Builds : Result Named ElabFault → Written → Type 0
+Builds (Ok named) w = IsBuilt w named
 Builds (Err why) w = Refuses why w

@@ -1,7 +1,9 @@
 -- Definitions that only inner functions speak in.
+pub mod Built
 pub mod Examined
 pub mod Gathered
 pub mod Growing
+pub mod Headers
 pub mod Implicit
 pub mod PickedOut
 pub mod Places

@@ -2,21 +2,20 @@
 
 ghost use Rattle.std.specs.Prelude.{◌≡◌, IfOk};
 ghost use Rattle.aut_base.specs.Automaton.{automaton};
-ghost use Rattle.aut_base.specs.CanonicalLabel.{canonical};
-ghost use Rattle.aut_core.specs.Core.{automaton_of};
 ghost use Rattle.hoa_parser.specs.Raw.{written};
-ghost use Rattle.hoa_reader.specs.Counts.{PassesNone};
 ghost use Rattle.hoa_reader.specs.Described.{described};
 ghost use Rattle.hoa_reader.specs.Elaborating.{Builds, Elaborates};
-ghost use Rattle.hoa_reader.specs.Validity.{IsValid};
+ghost use Rattle.hoa_reader.specs.inner.Built.{BuildsBody};
 ghost use Rattle.hoa_reader.specs.inner.Examined.{IsExamined};
 
 mod aliases;
+mod body;
 mod broken;
 mod counts;
 mod edges;
 mod examined;
 mod frame;
+mod header;
 mod implicit;
 mod labels;
 mod leaves;
@@ -33,15 +32,15 @@ mod sums;
 mod used;
 mod written;
 
-use aut_base::{Description, Limit, Memory};
+use aut_base::{Description, Limit, Memory, Text};
 use aut_core::Automaton;
+use body::{Body, automaton, body_of};
 use edges::edges_of;
 use examined::{Examined, examine};
-use frame::frame_of;
+use frame::{condition, frame_of};
+use header::header_of;
 use hoa_parser::Raw;
-use implicit::are_implicit;
-use label_guards::Guards;
-use links::links_of;
+use starts::names_of;
 use std::alloc::Global;
 
 /// The rules that an automaton has to keep, in the order in which they are examined.
@@ -83,6 +82,13 @@ impl From<Memory> for ElabFault {
     }
 }
 
+/// An automaton, with the name that is written for it.
+#[derive(Drop)]
+pub struct Named {
+    pub automaton: Automaton,
+    pub name: Option<Text>,
+}
+
 /// The automaton that is described by what was read.
 pub fn describe(alloc: Global, raw: &Raw) -> Result<Description, ElabFault>
     ensures { Elaborates result (written raw.now) }
@@ -92,13 +98,19 @@ pub fn describe(alloc: Global, raw: &Raw) -> Result<Description, ElabFault>
 }
 
 // Why so: 'An automaton can be built straight from what was read' in docs/DECISIONS.md.
-/// The automaton that is described by what was read, with guards in place of labels. The same as `Automaton::from_description`
-/// of what `describe` answers, but no description is made.
-pub fn build(alloc: Global, raw: &Raw) -> Result<Automaton, ElabFault>
-    ensures { Builds result (written raw.now) }
+/// The automaton that is described by what was read, with guards in place of labels, and its name. The automaton is the same as
+/// `Automaton::from_description` of what `describe` answers, but no description is made. Names and condition are moved, and all else
+/// that was read is let go, also where it is refused.
+pub fn build(alloc: Global, raw: Raw) -> Result<Named, ElabFault>
+    ensures { Builds result (written raw) }
 {
-    let examined = examine(alloc, raw)?;
-    Ok(automaton(alloc, raw, examined)?)
+    let body = examined_body(alloc, &raw)?;
+    let header = header_of(alloc, raw);
+    let automaton = automaton(alloc, header.names, header.formula, body)?;
+    Ok(Named {
+        automaton,
+        name: header.name,
+    })
 }
 
 /// The description, where no rule is broken and no limit passed.
@@ -110,47 +122,24 @@ fn description<'a>(
     requires { IsExamined (written raw.now) examined }
     ensures { IfOk result (λ d. automaton d ≡ described (written raw.now)) }
 {
+    let names = names_of(alloc, examined.parts.names)?;
+    let formula = condition(alloc, raw, &examined.parts)?;
     let frame = frame_of(alloc, raw, examined)?;
     let edges = edges_of(alloc, &frame.shared, raw.states.as_slice(), frame.states)?;
     Ok(Description {
-        names: frame.names,
+        names,
         starts: frame.starts,
         states: frame.states,
         edges,
         sets: frame.shared.sets,
-        formula: frame.formula,
+        formula,
     })
 }
 
-/// The automaton, where no rule is broken and no limit passed.
-fn automaton<'a>(alloc: Global, raw: &'a Raw, examined: Examined<'a>) -> Result<Automaton, Memory>
-    requires { IsExamined (written raw.now) examined }
-    ensures { IfOk result (λ core. automaton_of core ≡ canonical (described (written raw.now))) }
+/// What is built beside names and condition, where no rule is broken and no limit passed.
+fn examined_body(alloc: Global, raw: &Raw) -> Result<Body, ElabFault>
+    ensures { BuildsBody result (written raw.now) }
 {
-    let frame = frame_of(alloc, raw, examined)?;
-    let mut guards = Guards::new(alloc, frame.shared.names)?;
-    let states = raw.states.as_slice();
-    let links = links_of(alloc, &mut guards, &frame.shared, states, frame.states)?;
-    if are_implicit(states, frame.states, frame.shared.names) {
-        return Automaton::from_letters(
-            alloc,
-            frame.names,
-            guards,
-            frame.states,
-            frame.starts,
-            links,
-            frame.shared.sets,
-            frame.formula,
-        );
-    }
-    Automaton::from_parts(
-        alloc,
-        frame.names,
-        guards,
-        frame.states,
-        frame.starts,
-        links,
-        frame.shared.sets,
-        frame.formula,
-    )
+    let examined = examine(alloc, raw)?;
+    Ok(body_of(alloc, raw, examined)?)
 }

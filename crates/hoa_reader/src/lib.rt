@@ -9,7 +9,7 @@
 mod elaborate;
 mod laws;
 
-pub use elaborate::{ElabFault, Rule, build, describe};
+pub use elaborate::{ElabFault, Named, Rule, build, describe};
 pub use hoa_parser::{
     Front, Item, Items, Raw, RawEdge, RawEdges, RawLabel, RawLabels, RawState, RawStates,
     ReadFault, bad_is_hopeless, can_be_written_down, grammar_examples, one_raw, one_standing,

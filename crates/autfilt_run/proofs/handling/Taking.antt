@@ -8,16 +8,18 @@ use Rattle.aut_base.specs.Automaton.{Automaton}
 use Rattle.aut_base.specs.CanonicalLabel.{canonical}
 use Rattle.aut_base.specs.Word.{NameSet}
 use Rattle.aut_base.specs.declared.limit.TheConstants.{MOST_SETS, MOST_STATES}
+use Rattle.aut_core.specs.Core.{automaton_of}
 use Rattle.autfilt_run.specs.inner.Taking.{IsReadAs}
 use Rattle.hoa_parser.specs.Raw.{Written}
 use Rattle.hoa_reader.specs.Counts.{Sets, States, count_of}
 use Rattle.hoa_reader.specs.Described as reader
 use Rattle.hoa_reader.specs.Elaborating.{IsBuilt}
+use Rattle.hoa_reader.specs.declared.elaborate.Named.{Named}
 use Rattle.plan_meaning.specs.Operands.{IsOfReadSize}
 
 -- the one that is built is the one that is read
-pub read_as : (w : Written) (core : Automaton) → IsBuilt w core → IsReadAs w core
-read_as w core built = record {
+pub read_as : (w : Written) (n : Named) → IsBuilt w n → IsReadAs w (automaton_of n.automaton)
+read_as w n built = record {
   valid = built.valid;
   within = built.within;
   described = reader.described w;

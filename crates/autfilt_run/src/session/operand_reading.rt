@@ -139,8 +139,8 @@ impl Session {
                 Ok(OperandTurn::Skipped)
             }
             Front::Whole(raw) => {
-                let automaton = automaton_taken(alloc, &raw)?;
-                self.operands.push(automaton)?;
+                let read = automaton_taken(alloc, raw)?;
+                self.operands.push(read.automaton)?;
                 self.is_open = false;
                 Ok(OperandTurn::Taken)
             }

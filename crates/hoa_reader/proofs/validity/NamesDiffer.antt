@@ -6,9 +6,9 @@ use Rattle.std.specs.Prelude.{filter_map}
 use Rattle.std.specs.List.{AllByRecursion, list_all, list_any}
 use Rattle.hoa_reader.proofs.labels.Meanings.{same_texts}
 use Rattle.hoa_parser.specs.Raw as raw
-use Rattle.hoa_parser.specs.Raw.{WrittenItem}
+use Rattle.hoa_parser.specs.Raw.{Written, WrittenItem}
 use Rattle.aut_base.specs.Text.{same_text}
-use Rattle.hoa_reader.specs.Validity.{all_differ, names_agree, names_item}
+use Rattle.hoa_reader.specs.Validity.{IsValid, all_differ, names_agree, names_item, names_of}
 use Rattle.aut_base.proofs.numbers.Truth.{neither}
 use Rattle.std.proofs.lemmas.List.Elements.{All-from_recursion}
 
@@ -36,3 +36,6 @@ names_differ (raw.Tool ∷ items) e = names_differ items e
 names_differ (raw.Name text ∷ items) e = names_differ items e
 names_differ (raw.Properties words ∷ items) e = names_differ items e
 names_differ (raw.Other name ∷ items) e = names_differ items e
+
+pub valid_names : (w : Written) → IsValid w → AllPairs (λ a b. a ≢ b) (names_of w)
+valid_names w valid = pairs_differ (names_of w) (names_differ w.items valid.1.1.1.0)

@@ -1,6 +1,5 @@
--- What was read, once it is known to keep the rules and to be within the limits, and what of it is no edge.
+-- What was read, once it is known to keep the rules and to be within the limits, and what of it isn't edges, names or condition.
 use Rattle.std.specs.Prelude.{◌≡◌, length, Result, Ok, Err}
-use Rattle.aut_base.specs.Formula.{formula_tree}
 use Rattle.hoa_parser.specs.Raw.{Written}
 use Rattle.hoa_reader.specs.Counts.{PassesNone}
 use Rattle.hoa_reader.specs.Described.{meanings_of, starts_of, state_count}
@@ -11,6 +10,8 @@ use Rattle.hoa_reader.specs.declared.elaborate.examined.Examined.{Examined}
 use Rattle.hoa_reader.specs.declared.elaborate.frame.Frame.{Frame}
 use Rattle.hoa_reader.specs.inner.Gathered.{ArePartsOf}
 use Rattle.hoa_reader.specs.inner.Growing.{AreKnown, meanings_by}
+use Rattle.hoa_reader.specs.inner.PickedOut.{numbers}
+use Rattle.hoa_reader.specs.inner.Rising.{rises_from}
 use Rattle.hoa_reader.specs.inner.TreeEdges.{HasKnown}
 
 -- It is valid and within the limits, and these are its parts.
@@ -24,12 +25,11 @@ abbrev pub Examines : Result Examined ElabFault → Written → Type 0
 Examines (Ok e) w = IsExamined w e
 Examines (Err why) w = Refuses why w
 
--- all that is described but for the edges, and what these share
+-- all that is described but for edges, names and condition, and what edges share
 pub record IsFrameOf (w : Written) (f : Frame) : Type 0 where
-  pub names : f.names ≡ names_of w
   pub starts : f.starts ≡ starts_of w
   pub states : f.states ≡ state_count w
-  pub formula : formula_tree f.formula ≡ (acceptance_of w).formula
+  pub rising : f.rising ≡ rises_from 0 (numbers w.states)
   pub count : f.shared.names ≡ length (names_of w)
   pub sets : f.shared.sets ≡ (acceptance_of w).sets
   pub meanings : meanings_by f.shared.defs.items ≡ meanings_of w

@@ -5,7 +5,8 @@ use Rattle.aut_base.specs.declared.limit.Limit.{Limit}
 use Rattle.aut_base.specs.declared.limit.Limit.TheVariants as limit
 use Rattle.hoa_reader.specs.Counts.{Count, Names, Sets, States, Edges, Aliases, PassesFirst}
 use Rattle.hoa_reader.specs.Described.{after_all}
-use Rattle.hoa_reader.specs.inner.PickedOut.{acceptance_def, alias_def, label_refs}
+use Rattle.hoa_reader.specs.inner.PickedOut.{acceptance_def, alias_def, label_refs, numbers}
+use Rattle.hoa_reader.specs.inner.Rising.{rises_from}
 use Rattle.hoa_parser.specs.Raw.{Written}
 use Rattle.hoa_reader.specs.Validity.{acceptance_of, alias_lines, body_labels, names_of, no_acceptance, starts_written, used_states}
 use Rattle.hoa_reader.specs.declared.elaborate.parts.Parts.{Parts}
@@ -19,6 +20,7 @@ pub record ArePartsOf (w : Written) (p : Parts) : Type 0 where
   pub sums : p.sums ≡ body_sums (length (names_of w)) w.states
   pub labels : p.sums.plain ≡ false → map label_refs p.labels.items ≡ body_labels w
   pub after : p.after ≡ after_all (used_states w)
+  pub rising : p.rising ≡ rises_from 0 (numbers w.states)
 
 -- the limit on a count
 abbrev pub limit_of : Count → Limit

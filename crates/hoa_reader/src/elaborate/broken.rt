@@ -97,7 +97,7 @@ fn keeps<'a>(alloc: Global, rule: Rule, raw: &'a Raw, parts: &Parts<'a>) -> Resu
         Rule::V7 => defines_its_aliases(alloc, raw, parts),
         Rule::V8 => Ok(propositions_have_names(raw, parts)),
         Rule::V9 => Ok(sets_are_below(raw, parts)),
-        Rule::V10 => rules::numbers_differ(alloc, states),
+        Rule::V10 => rules::numbers_differ(alloc, states, parts.rising),
         Rule::V11 => Ok(parts.sums.one_way),
         Rule::V12 => Ok(parts.sums.letters),
     }

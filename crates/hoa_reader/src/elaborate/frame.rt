@@ -1,4 +1,4 @@
-//! What is described but for the edges.
+//! What is described but for edges, names and condition, and the condition held apart.
 
 ghost use Rattle.std.specs.Prelude.{◌≡◌, IfOk};
 ghost use Rattle.aut_base.specs.Formula.{formula_tree};
@@ -11,22 +11,22 @@ use crate::elaborate::edges::Shared;
 use crate::elaborate::examined::Examined;
 use crate::elaborate::parts::Parts;
 use crate::elaborate::sizes::{set_count, state_count};
-use crate::elaborate::starts::{names_of, starts_of};
-use aut_base::{Formula, Memory, Names, Numbers};
+use crate::elaborate::starts::starts_of;
+use aut_base::{Formula, Memory, Numbers};
 use hoa_parser::Raw;
 use std::alloc::Global;
 
-/// What is described but for the edges, and what these share.
+/// What is described but for edges, names and condition, and what edges share.
 #[derive(Drop)]
 pub(crate) struct Frame<'a> {
-    pub(crate) names: Names,
     pub(crate) starts: Numbers,
     pub(crate) states: u32,
-    pub(crate) formula: Formula,
+    /// Whether the numbers of the states rise.
+    pub(crate) rising: bool,
     pub(crate) shared: Shared<'a>,
 }
 
-/// What is described but for the edges. What only the rules speak of is let go.
+/// What is described but for edges, names and condition. What only the rules speak of is let go.
 pub(crate) fn frame_of<'a>(
     alloc: Global,
     raw: &'a Raw,
@@ -38,9 +38,7 @@ pub(crate) fn frame_of<'a>(
     let parts = examined.parts;
     let sets = set_count(raw, &parts);
     let states = state_count(raw, &parts) as u32;
-    let names = names_of(alloc, parts.names)?;
     let starts = starts_of(alloc, &parts.starts)?;
-    let formula = condition(alloc, raw, &parts)?;
     let shared = Shared {
         names: parts.names.len() as u32,
         sets,
@@ -49,17 +47,16 @@ pub(crate) fn frame_of<'a>(
         known: examined.known,
     };
     Ok(Frame {
-        names,
         starts,
         states,
-        formula,
+        rising: parts.rising,
         shared,
     })
 }
 
 /// The acceptance condition, held apart.
 #[tactic(auto, using(aut_base::proofs::trees::FormulaTrees::formula_trees))]
-fn condition(alloc: Global, raw: &Raw, parts: &Parts<'_>) -> Result<Formula, Memory>
+pub(crate) fn condition(alloc: Global, raw: &Raw, parts: &Parts<'_>) -> Result<Formula, Memory>
     requires { ArePartsOf (written raw.now) parts.now }
     ensures { IfOk result (λ formula. formula_tree formula ≡ (acceptance_of (written raw.now)).formula) }
 {

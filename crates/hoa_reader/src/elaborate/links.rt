@@ -9,12 +9,12 @@ ghost use Rattle.aut_core.specs.Links.{StandFor};
 ghost use Rattle.hoa_parser.specs.Raw.{WrittenState, written_edge, written_state};
 ghost use Rattle.hoa_reader.specs.Validity.{all_differ, marks_below, numbers_below};
 ghost use Rattle.hoa_reader.specs.inner.PickedOut.{numbers};
+ghost use Rattle.hoa_reader.specs.inner.Rising.{rises_from};
 ghost use Rattle.hoa_reader.specs.inner.TreeEdges.{HasKnown, HasLabelsBelow, edges_for, label_for, settled, tree_edge_for, tree_edges_for};
 ghost use Rattle.label_guards.specs.Letters.{AreLetters};
 ghost use Rattle.label_guards.specs.Store.{Has, Keeps, label_in};
 
 use crate::elaborate::edges::{Shared, label_written, marks_of, places_of};
-use crate::elaborate::rules::numbers_rise;
 use crate::elaborate::starts::only_state;
 use crate::elaborate::written::guard_written;
 use aut_base::Memory;
@@ -134,9 +134,11 @@ pub(crate) fn links_of<'a>(
     shared: &Shared<'a>,
     states: &'a [RawState],
     count: u32,
+    rising: bool,
 ) -> Result<Links, Memory>
     requires known { HasKnown shared.now }
     requires names { guards.old.names ≡ shared.now.names }
+    requires rising { rising ≡ rises_from 0 (numbers (map written_state states.now)) }
     requires differ { all_differ ◌==◌ (numbers (map written_state states.now)) ≡ true }
     requires within { AllByRecursion (λ (s : WrittenState). s.number < count) (map written_state states.now) }
     requires marks { list_all (marks_below shared.now.sets) (map written_state states.now) ≡ true }
@@ -144,7 +146,7 @@ pub(crate) fn links_of<'a>(
     ensures names { guards.new.names ≡ guards.old.names }
     ensures stand { IfOk result (λ links. StandFor guards.new links (map (settled guards.old.names) (edges_for shared.now (map written_state states.now) count))) }
 {
-    if numbers_rise(states) {
+    if rising {
         return links_in_turn(alloc, guards, shared, states);
     }
     links_by_places(alloc, guards, shared, states, count)

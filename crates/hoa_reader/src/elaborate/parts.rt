@@ -7,6 +7,7 @@ ghost use Rattle.hoa_parser.specs.Raw.{raw_tree, written, written_edge, written_
 ghost use Rattle.hoa_reader.specs.Validity.{acceptance_item, alias_item, names_item, no_acceptance, start_item, states_item, state_labels};
 ghost use Rattle.hoa_reader.specs.inner.PickedOut.{alias_def, acceptance_def, label_refs, list_of};
 
+use crate::elaborate::rules::numbers_rise;
 use crate::elaborate::sums::{Sums, body_sums};
 use crate::elaborate::used::after_starts;
 use aut_base::{FewNumbers, Formula, Memory, Text};
@@ -157,6 +158,8 @@ pub(crate) struct Parts<'a> {
     pub(crate) labels: Vec<&'a RawLabel>,
     /// The least number that is above every number of a state.
     pub(crate) after: u64,
+    /// Whether the numbers of the states rise.
+    pub(crate) rising: bool,
 }
 
 /// What the rules speak of in what was read.
@@ -177,5 +180,6 @@ pub(crate) fn parts_of(alloc: Global, raw: &Raw) -> Result<Parts<'_>, Memory>
         sums,
         labels: labels_with_aliases(alloc, states, sums.plain)?,
         after,
+        rising: numbers_rise(states),
     })
 }

@@ -162,10 +162,15 @@ fn none_repeats(alloc: Global, states: &[RawState]) -> Result<bool, Memory>
 
 // Why so: 'Numbers that rise are looked at first' in docs/DECISIONS.md.
 /// Whether all of these differ. Numbers that rise do, which takes no set to see.
-pub(crate) fn numbers_differ(alloc: Global, states: &[RawState]) -> Result<bool, Memory>
+pub(crate) fn numbers_differ(
+    alloc: Global,
+    states: &[RawState],
+    rising: bool,
+) -> Result<bool, Memory>
+    requires { rising ≡ rises_from 0 (numbers (map written_state states.now)) }
     ensures { IfOk result (λ differ. differ ≡ all_differ ◌==◌ (numbers (map written_state states.now))) }
 {
-    if numbers_rise(states) {
+    if rising {
         return Ok(true);
     }
     none_repeats(alloc, states)

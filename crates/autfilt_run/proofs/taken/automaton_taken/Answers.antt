@@ -1,7 +1,6 @@
-use Rattle.aut_core.specs.Core.{automaton_of}
 use Rattle.hoa_parser.specs.Raw.{written}
 use Rattle.autfilt_run.proofs.handling.Taking.{read_as}
 use Rattle.autfilt_run.proofs.taken.automaton_taken.Goals as goal
 
 pub returns : goal.returns
-returns c = read_as (written c.args.raw.now) (automaton_of c.in_ok-build.field-0) c.in_ok-build.ensures
+returns c = (read_as (written c.args.raw) c.in_ok-build.field-0 c.in_ok-build.ensures, c.in_ok-build.ensures.named)

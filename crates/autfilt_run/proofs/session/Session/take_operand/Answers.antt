@@ -81,7 +81,7 @@ pub invariant_of-self-in-Whole : goal.invariant_of-self-in-Whole
 invariant_of-self-in-Whole g c =
     let old = c.args.self.now in
     let pushed = c.in_ok-push-in-Whole.ensures.ok in
-    let core = c.in_ok-automaton-in-Whole.automaton in
+    let core = c.in_ok-read-in-Whole.read.automaton in
     let longer : length c.push.new.self ≡ length old.operands + 1 = ap length pushed ∙ length_push old.operands core in
     let all = one_more old.operands c.push.new.self core (automaton_of core) pushed refl in
     record {
@@ -91,7 +91,7 @@ invariant_of-self-in-Whole g c =
       next_within = λ stage opened. absurd (false≢true opened);
       tried_open = λ stage opened. absurd (false≢true opened);
       tried_closed = λ stage closed. omega (arith, longer, c.requires.tried, c.requires.is_open);
-      sized = subst (All IsOfReadSize) (sym all) (All-push IsOfReadSize (map automaton_of old.operands) (automaton_of core) old.sized c.in_ok-automaton-in-Whole.ensures.size);
+      sized = subst (All IsOfReadSize) (sym all) (All-push IsOfReadSize (map automaton_of old.operands) (automaton_of core) old.sized c.in_ok-read-in-Whole.ensures.0.size);
       all_read = λ stage. let none : stages.Over ≡ stages.Prepared = sym c.requires.stage ∙ stage in cc;
       most_is = c.in_ok-read_raw.ensures.moves.most ∙ old.most_is;
       counted = omega (arith, old.counted, c.in_ok-read_raw.ensures.moves.later);
@@ -109,8 +109,8 @@ returns-in_ok-push-in-Whole-clause-turns g c =
     let at = read_at (Ok c.in_ok-read_raw.field-0) old.lexer.since old.lexer.held c.read_raw.new.lexer.held s.left t.left c.requires.held said.answers said.shown in
     let whole = is_whole c.in_ok-read_raw.field-0 c.in-Whole.raw old.lexer.since c.read_raw.new.lexer.held s.left t.left c.in-Whole.is said.held at in
     let pushed = c.in_ok-push-in-Whole.ensures.ok in
-    let core = c.in_ok-automaton-in-Whole.automaton in
-    let read = c.in_ok-automaton-in-Whole.ensures in
+    let core = c.in_ok-read-in-Whole.read.automaton in
+    let read = c.in_ok-read-in-Whole.ensures.0 in
     record {
       turns = record {
         automaton = written c.in-Whole.raw;

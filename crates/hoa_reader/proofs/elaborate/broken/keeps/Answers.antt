@@ -4,10 +4,13 @@ use Rattle.std.specs.List.{list_all}
 use Rattle.hoa_reader.proofs.counting.AfterAll.{numbers_below-after}
 use Rattle.hoa_reader.proofs.counting.BodySums.{body_letters, body_one_way}
 use Rattle.hoa_reader.specs.declared.elaborate.sums.Sums.{Sums}
-use Rattle.hoa_parser.specs.Raw.{written, written_item}
+use Rattle.hoa_parser.specs.Raw.{written, written_item, written_state}
 use Rattle.hoa_reader.specs.Validity.{keeps, numbers_below, states_item, used_states}
 use Rattle.hoa_reader.specs.declared.elaborate.Rule.{Rule}
 use Rattle.hoa_parser.specs.declared.raw.Item.{Item}
+use Rattle.hoa_parser.specs.declared.raw.RawState.{RawState}
+use Rattle.hoa_reader.specs.inner.PickedOut.{numbers}
+use Rattle.hoa_reader.specs.inner.Rising.{rises_from}
 use Rattle.hoa_reader.proofs.elaborate.broken.keeps.Goals as goal
 use Rattle.aut_base.proofs.lists.Lists.{list_all-same}
 
@@ -19,6 +22,9 @@ returns-in-V6 c =
     ∙ ap (λ n. list_all (nat_le n) (filter_map states_item w.items)) c.requires.after
     ∙ list_all-same (nat_le _) (λ n. numbers_below n (used_states w)) (λ n. sym (numbers_below-after n (used_states w))) (filter_map states_item w.items)
     ∙ ap (λ (r : Rule). keeps r w) (sym c.in-V6.is)
+
+pub numbers_differ-requires : goal.numbers_differ-requires
+numbers_differ-requires c = c.requires.rising ∙ sym (ap (λ (ss : List RawState). rises_from 0 (numbers (map written_state ss))) c.as_slice-states.ensures)
 
 pub returns-in-V11 : goal.returns-in-V11
 returns-in-V11 c =

@@ -9,6 +9,7 @@ use Rattle.hoa_reader.specs.Described.{after_all}
 use Rattle.hoa_reader.specs.Validity.{acceptance_item, alias_item, names_item, names_of, no_acceptance, start_item, starts_written, state_labels}
 use Rattle.hoa_reader.specs.declared.elaborate.sums.Sums.{Sums}
 use Rattle.hoa_reader.specs.inner.PickedOut.{goals, numbers, starts_named}
+use Rattle.hoa_reader.specs.inner.Rising.{rises_from}
 use Rattle.hoa_reader.specs.inner.Sums.{body_sums}
 use Rattle.hoa_reader.proofs.elaborate.parts.parts_of.Goals as goal
 
@@ -36,4 +37,5 @@ returns c =
       sums = sums;
       labels = λ some. c.in_ok-labels_with_aliases.ensures some ∙ ap (λ (ss : List RawState). flat_map state_labels (map written_state ss)) states;
       after = omega (arith, c.after_starts-after.ensures, started, body, first, second);
+      rising = c.numbers_rise.ensures ∙ ap (λ (ss : List RawState). rises_from 0 (numbers (map written_state ss))) states;
     }

@@ -4,5 +4,5 @@ use Rattle.hoa_reader.specs.inner.PickedOut.{numbers}
 use Rattle.hoa_parser.specs.Raw.{written_state}
 use Rattle.hoa_reader.proofs.elaborate.rules.numbers_differ.Goals as goal
 
-pub returns-then-numbers_rise : goal.returns-then-numbers_rise
-returns-then-numbers_rise c = sym (rising_differ 0 (numbers (map written_state c.args.states.now)) (sym c.numbers_rise.ensures ∙ c.if-numbers_rise.true))
+pub returns-then-rising : goal.returns-then-rising
+returns-then-rising c = sym (rising_differ 0 (numbers (map written_state c.args.states.now)) (sym c.requires ∙ c.if-rising.true))
