@@ -1,8 +1,8 @@
 -- How many automata are made.
-use Rattle.std.proofs.Common.{◌≡◌, ℕ, ◌≤◌, List, [], ◌∷◌, Option, Some, subst}
-use Rattle.filter_plan.proofs.TableParts.{parts_of_table}
+use Rattle.std.proofs.Common.{◌≡◌, ℕ, ◌≤◌, List, [], ◌∷◌, Option, Some, codes, refl, subst}
+use Rattle.filter_plan.proofs.TableRows.{given}
 use Rattle.filter_plan.specs.Numbers.{IsMadeCount}
-use Rattle.filter_plan.specs.Table.{Reads}
+use Rattle.filter_plan.specs.Table.{MadeCount, Reads, table}
 use Rattle.filter_plan.specs.Words.{IsPlan}
 use Rattle.filter_plan.specs.declared.plan.Plan.{Plan}
 
@@ -15,4 +15,5 @@ read_as : (values : List (List ℕ)) (o : Option ℕ) (n : ℕ) → Reads IsMade
 read_as values o n h is = read_of values n (subst (λ (x : Option ℕ). Reads IsMadeCount values x) is h)
 
 pub made_within : (words : List (List ℕ)) (p : Plan) (n : ℕ) → IsPlan words p → p.made ≡ Some n → (1 ≤ n) × (n ≤ 10000)
-made_within words p n plan is = read_as _ p.made n (parts_of_table _ p plan.options).made is
+unfolding table
+made_within words p n plan is = read_as _ p.made n (given _ p plan.options (codes "made") (MadeCount (λ x. x.made)) refl) is

@@ -1,12 +1,12 @@
+pub mod Alike
 pub mod Decoding
 pub mod FormFlags
 pub mod FormatTexts
 pub mod FoundValues
-pub mod OneOutline
 pub mod OnePlan
 pub mod OneReading
 pub mod RangeCut
 pub mod RangeTexts
 pub mod Readings
 pub mod Simple
-pub mod TableParts
+pub mod TableRows

@@ -1,72 +1,112 @@
-use Rattle.std.proofs.Common.{List, rules}
+use Rattle.std.proofs.Common.{List, codes, refl, rules}
 use Rattle.aut_base.proofs.Outcomes.{passed_on}
-use Rattle.clap.specs.Words.{Row, found_of, rows_of}
-use Rattle.filter_plan.proofs.TableParts.{AreParts, parts_of_table, table_of_parts}
+use Rattle.clap.specs.Words.{Row}
+use Rattle.filter_plan.proofs.TableRows.{given}
+use Rattle.filter_plan.specs.Table.{EachGives, File, Format, FormFlag, Hiding, MadeCount, Number, Span, Stream, Word, figures, refuted, table}
+use Rattle.filter_plan.specs.declared.plan.Form.TheVariants.{Deterministic, Parity, Buchi, RemoveFin, Dnf, Monitor}
 use Rattle.filter_plan.specs.declared.plan.Plan.{Plan}
-use Rattle.filter_plan.specs.inner.Given.{IsGiven, operands_of}
+use Rattle.filter_plan.specs.inner.Forms.{IsForm}
+use Rattle.filter_plan.specs.inner.Given.{operands_of}
+use Rattle.filter_plan.specs.inner.Groups.{AreOperands}
+use Rattle.filter_plan.specs.inner.Outputs.{IsOutput}
 use Rattle.filter_plan.proofs.read.read_options.Goals as goal
 
-parts : (rows : List Row) (p : Plan) → IsGiven rows p → AreParts rows p
-parts rows p is = parts_of_table rows p is.options
+-- ---- what is read together
+
+form_given : (rows : List Row) (p : Plan) → EachGives table rows p → IsForm rows p.form
+unfolding table
+form_given rows p is = record {
+  deterministic = given rows p is (codes "deterministic") (FormFlag Deterministic) refl;
+  parity = given rows p is (codes "parity") (FormFlag Parity) refl;
+  buchi = given rows p is (codes "buchi") (FormFlag Buchi) refl;
+  remove_fin = given rows p is (codes "remove-fin") (FormFlag RemoveFin) refl;
+  dnf = given rows p is (codes "dnf-acceptance") (FormFlag Dnf) refl;
+  monitor = given rows p is (codes "monitor") (FormFlag Monitor) refl;
+}
+
+operands_given : (rows : List Row) (p : Plan) → EachGives table rows p → AreOperands rows (operands_of p)
+unfolding table
+operands_given rows p is = record {
+  included_in = given rows p is (codes "included-in") (File (λ x. x.included_in)) refl;
+  equivalent_to = given rows p is (codes "equivalent-to") (File (λ x. x.equivalent_to)) refl;
+  intersect = given rows p is (codes "intersect") (File (λ x. x.intersect)) refl;
+  product = given rows p is (codes "product") (File (λ x. x.product)) refl;
+  product_or = given rows p is (codes "product-or") (File (λ x. x.product_or)) refl;
+  sum = given rows p is (codes "sum") (File (λ x. x.sum)) refl;
+}
+
+output_given : (rows : List Row) (p : Plan) → EachGives table rows p → IsOutput rows p.output
+unfolding table
+output_given rows p is = record {
+  stats = given rows p is (codes "stats") (Format (λ x. figures x.output)) refl;
+  refute = given rows p is (codes "refute") (File (λ x. refuted x.output)) refl;
+}
+
+-- ---- no plan
 
 pub returns-in_err-form-clause-usage : goal.returns-in_err-form-clause-usage
-returns-in_err-form-clause-usage c passed p is = c.in_err-form.ensures.usage (passed_on _ _ _ c.from_residual.ensures.1 passed) p.form (parts _ p is).form
+unfolding table
+returns-in_err-form-clause-usage c passed p is = c.in_err-form.ensures.usage (passed_on _ _ _ c.from_residual.ensures.1 passed) p.form (form_given _ p is.options)
 
 pub returns-in_err-states-clause-usage : goal.returns-in_err-states-clause-usage
-returns-in_err-states-clause-usage c passed p is = c.in_err-states.ensures.usage (passed_on _ _ _ c.from_residual-in_err-states.ensures.1 passed) p.states (parts _ p is).states
+unfolding table
+returns-in_err-states-clause-usage c passed p is = c.in_err-states.ensures.usage (passed_on _ _ _ c.from_residual-in_err-states.ensures.1 passed) p.states
+    (given _ p is.options (codes "states") (Span (λ x. x.states)) refl)
 
 pub returns-in_err-edges-clause-usage : goal.returns-in_err-edges-clause-usage
-returns-in_err-edges-clause-usage c passed p is = c.in_err-edges.ensures.usage (passed_on _ _ _ c.from_residual-in_err-edges.ensures.1 passed) p.edges (parts _ p is).edges
+unfolding table
+returns-in_err-edges-clause-usage c passed p is = c.in_err-edges.ensures.usage (passed_on _ _ _ c.from_residual-in_err-edges.ensures.1 passed) p.edges
+    (given _ p is.options (codes "edges") (Span (λ x. x.edges)) refl)
 
 pub returns-in_err-acc_sets-clause-usage : goal.returns-in_err-acc_sets-clause-usage
-returns-in_err-acc_sets-clause-usage c passed p is = c.in_err-acc_sets.ensures.usage (passed_on _ _ _ c.from_residual-in_err-acc_sets.ensures.1 passed) p.acc_sets (parts _ p is).acc_sets
+unfolding table
+returns-in_err-acc_sets-clause-usage c passed p is = c.in_err-acc_sets.ensures.usage (passed_on _ _ _ c.from_residual-in_err-acc_sets.ensures.1 passed) p.acc_sets
+    (given _ p is.options (codes "acc-sets") (Span (λ x. x.acc_sets)) refl)
 
 pub returns-in_err-ap-clause-usage : goal.returns-in_err-ap-clause-usage
-returns-in_err-ap-clause-usage c passed p is = c.in_err-ap.ensures.usage (passed_on _ _ _ c.from_residual-in_err-ap.ensures.1 passed) p.ap (parts _ p is).ap
+unfolding table
+returns-in_err-ap-clause-usage c passed p is = c.in_err-ap.ensures.usage (passed_on _ _ _ c.from_residual-in_err-ap.ensures.1 passed) p.ap
+    (given _ p is.options (codes "ap") (Span (λ x. x.ap)) refl)
 
 pub returns-in_err-most-clause-usage : goal.returns-in_err-most-clause-usage
-returns-in_err-most-clause-usage c passed p is = c.in_err-most.ensures.usage (passed_on _ _ _ c.from_residual-in_err-most.ensures.1 passed) p.most (parts _ p is).most
+unfolding table
+returns-in_err-most-clause-usage c passed p is = c.in_err-most.ensures.usage (passed_on _ _ _ c.from_residual-in_err-most.ensures.1 passed) p.most
+    (given _ p is.options (codes "max-count") (Number (λ x. x.most)) refl)
 
 pub returns-in_err-made-clause-usage : goal.returns-in_err-made-clause-usage
-returns-in_err-made-clause-usage c passed p is = c.in_err-made.ensures.usage (passed_on _ _ _ c.from_residual-in_err-made.ensures.1 passed) p.made (parts _ p is).made
+unfolding table
+returns-in_err-made-clause-usage c passed p is = c.in_err-made.ensures.usage (passed_on _ _ _ c.from_residual-in_err-made.ensures.1 passed) p.made
+    (given _ p is.options (codes "made") (MadeCount (λ x. x.made)) refl)
 
 pub returns-in_err-streams-clause-usage : goal.returns-in_err-streams-clause-usage
-returns-in_err-streams-clause-usage c passed p is = c.in_err-streams.ensures.usage (passed_on _ _ _ c.from_residual-in_err-streams.ensures.1 passed) (parts _ p is).first
+unfolding table
+returns-in_err-streams-clause-usage c passed p is = c.in_err-streams.ensures.usage (passed_on _ _ _ c.from_residual-in_err-streams.ensures.1 passed) (given _ p is.options (codes "file") Stream refl)
 
 pub returns-in_err-output-clause-usage : goal.returns-in_err-output-clause-usage
-returns-in_err-output-clause-usage c passed p is = c.in_err-output.ensures.usage (passed_on _ _ _ c.from_residual-in_err-output.ensures.1 passed) p.output (parts _ p is).output
+unfolding table
+returns-in_err-output-clause-usage c passed p is = c.in_err-output.ensures.usage (passed_on _ _ _ c.from_residual-in_err-output.ensures.1 passed) p.output (output_given _ p is.options)
 
 pub returns-in_err-remove_ap-clause-usage : goal.returns-in_err-remove_ap-clause-usage
-returns-in_err-remove_ap-clause-usage c passed p is = c.in_err-remove_ap.ensures.usage (passed_on _ _ _ c.from_residual-in_err-remove_ap.ensures.1 passed) p.remove_ap (parts _ p is).remove_ap
+unfolding table
+returns-in_err-remove_ap-clause-usage c passed p is = c.in_err-remove_ap.ensures.usage (passed_on _ _ _ c.from_residual-in_err-remove_ap.ensures.1 passed) p.remove_ap
+    (given _ p is.options (codes "remove-ap") (Hiding (λ x. x.remove_ap)) refl)
 
 pub returns-in_err-accept_word-clause-usage : goal.returns-in_err-accept_word-clause-usage
+unfolding table
 returns-in_err-accept_word-clause-usage c passed p is = c.in_err-accept_word.ensures.usage (passed_on _ _ _ c.from_residual-in_err-accept_word.ensures.1 passed) p.accept_word
-    (parts _ p is).accept_word
+    (given _ p is.options (codes "accept-word") (Word (λ x. x.accept_word)) refl)
 
 pub returns-in_err-reject_word-clause-usage : goal.returns-in_err-reject_word-clause-usage
+unfolding table
 returns-in_err-reject_word-clause-usage c passed p is = c.in_err-reject_word.ensures.usage (passed_on _ _ _ c.from_residual-in_err-reject_word.ensures.1 passed) p.reject_word
-    (parts _ p is).reject_word
+    (given _ p is.options (codes "reject-word") (Word (λ x. x.reject_word)) refl)
 
 pub returns-in_err-operands-clause-usage : goal.returns-in_err-operands-clause-usage
-returns-in_err-operands-clause-usage c passed p is = c.in_err-operands.ensures.usage (passed_on _ _ _ c.from_residual-in_err-operands.ensures.1 passed) (operands_of p) (parts _ p is).operands
+unfolding table
+returns-in_err-operands-clause-usage c passed p is = c.in_err-operands.ensures.usage (passed_on _ _ _ c.from_residual-in_err-operands.ensures.1 passed) (operands_of p) (operands_given _ p is.options)
+
+-- ---- the plan
 
 pub returns-clause-given : goal.returns-clause-given
-returns-clause-given c = record {
-  options = table_of_parts (rows_of (found_of c.args.matches.now)) _ (record {
-    accept_word = c.in_ok-accept_word.ensures.reads;
-    reject_word = c.in_ok-reject_word.ensures.reads;
-    operands = c.in_ok-operands.ensures.reads;
-    states = c.in_ok-states.ensures.reads;
-    edges = c.in_ok-edges.ensures.reads;
-    acc_sets = c.in_ok-acc_sets.ensures.reads;
-    ap = c.in_ok-ap.ensures.reads;
-    remove_ap = c.in_ok-remove_ap.ensures.reads;
-    form = c.in_ok-form.ensures.form;
-    output = c.in_ok-output.ensures.output;
-    most = c.in_ok-most.ensures.reads;
-    made = c.in_ok-made.ensures.reads;
-    first = c.in_ok-streams.ensures.once;
-    switches = search rules;
-  });
-  streams = c.in_ok-streams.ensures.streams;
-}
+unfolding table
+returns-clause-given c = record { options = search rules; streams = c.in_ok-streams.ensures.streams }

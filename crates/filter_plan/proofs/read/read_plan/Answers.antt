@@ -1,6 +1,6 @@
 use Rattle.std.proofs.Common.{◌≡◌, ◌∙◌, rules, subst, sym, true≢false}
 use Rattle.clap.specs.Words.{found_of, matches_of, rows_of}
-use Rattle.filter_plan.proofs.OneOutline.{rules_pass_on}
+use Rattle.filter_plan.proofs.OnePlan.{rules_pass_on}
 use Rattle.filter_plan.specs.Words.{KeepsRules, autfilt}
 use Rattle.filter_plan.specs.inner.Given.{IsGiven}
 use Rattle.filter_plan.proofs.read.read_plan.Goals as goal
