@@ -10,17 +10,14 @@ ghost use Rattle.aut_core.specs.Core.{automaton_of};
 ghost use Rattle.plan_meaning.specs.Complements.{AreKept, StayKept};
 ghost use Rattle.plan_meaning.specs.Filters.{Judged, filters};
 ghost use Rattle.plan_meaning.specs.Operands.{AreOperands, IsOfReadSize};
-ghost use Rattle.plan_meaning.specs.inner.Judging.{Examines, IsReady, JudgesWithin, LeavesOthers, filter_of};
+ghost use Rattle.plan_meaning.specs.inner.Judging.{JudgesWithin};
 
 use crate::complements::Complements;
 use crate::fault::PlanFault;
 use crate::operands::Automata;
 use aut_core::Automaton;
-use comparing::{is_equivalent, is_included};
-use filter::{Filter, filters};
+use filter::{filters, holds};
 use filter_plan::Plan;
-use meeting::{accepts_nothing, accepts_word, intersects, rejects_word};
-use square::is_unambiguous;
 use std::alloc::Global;
 
 // Why so: 'A filter is examined within limits, whatever comes out' in docs/DECISIONS.md.
@@ -69,37 +66,4 @@ fn hold_all(
         }
     }
     Ok(true)
-}
-
-/// Whether the automaton is as the filter asks.
-fn holds(
-    alloc: Global,
-    filter: &Filter,
-    complements: &mut Complements,
-    a: &Automaton,
-) -> Result<bool, PlanFault>
-    requires size { IsOfReadSize (automaton_of a.now) }
-    requires ready { IsReady filter.now complements.old }
-    ensures examines { Examines result (filter_of filter.now) (automaton_of a.now) }
-    ensures ready { IsReady filter.now complements.new }
-    ensures others { LeavesOthers filter.now complements.old complements.new }
-    ensures stay { StayKept complements.old complements.new }
-{
-    match filter {
-        Filter::AcceptsWord(pattern) => accepts_word(alloc, pattern, a),
-        Filter::RejectsWord(pattern) => rejects_word(alloc, pattern, a),
-        Filter::IsEmpty => accepts_nothing(alloc, a),
-        Filter::IncludedIn(other) => is_included(alloc, a, other, &mut complements.included_in),
-        Filter::EquivalentTo(other) => {
-            is_equivalent(alloc, a, other, &mut complements.equivalent_to)
-        }
-        Filter::Intersects(other) => intersects(alloc, a, other),
-        Filter::IsDeterministic => Ok(a.is_deterministic()),
-        Filter::IsComplete => Ok(a.is_complete()),
-        Filter::IsUnambiguous => is_unambiguous(alloc, a),
-        Filter::States(range) => Ok(range.has(u64::from(a.states()))),
-        Filter::Edges(range) => Ok(range.has(a.links().len() as u64)),
-        Filter::Sets(range) => Ok(range.has(u64::from(a.sets()))),
-        Filter::Names(range) => Ok(range.has(a.names().len() as u64)),
-    }
 }

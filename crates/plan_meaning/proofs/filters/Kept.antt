@@ -39,16 +39,7 @@ module _ (p : Plan) (ops : List Automaton) where
   ready (code.IncludedIn other) cs from kept = (from.0, kept_of _ _ cs.included_in from.1 kept.included_in)
   ready (code.EquivalentTo other) cs from kept = (from.0, kept_of _ _ cs.equivalent_to from.1 kept.equivalent_to)
   ready (code.Intersects other) cs from kept = from
-  ready (code.AcceptsWord pattern) cs from kept = tt
-  ready (code.RejectsWord pattern) cs from kept = tt
-  ready code.IsEmpty cs from kept = tt
-  ready code.IsDeterministic cs from kept = tt
-  ready code.IsComplete cs from kept = tt
-  ready code.IsUnambiguous cs from kept = tt
-  ready (code.States range) cs from kept = tt
-  ready (code.Edges range) cs from kept = tt
-  ready (code.Sets range) cs from kept = tt
-  ready (code.Names range) cs from kept = tt
+  ready _ cs from kept = tt
 
   pub kept_on : (f : coded.Filter) (old new : Complements) → IsFrom p ops f → AreKept p ops old → IsReady f new → LeavesOthers f old new → AreKept p ops new
   kept_on (code.IncludedIn other) old new from kept now others = record {
