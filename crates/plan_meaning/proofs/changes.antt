@@ -5,6 +5,7 @@ pub mod Combinations
 pub mod Determinised
 pub mod DisjunctiveForm
 pub mod Monitored
+pub mod PlanChanges
 pub mod Promised
 pub mod Shapings
 pub mod SomeChanges

@@ -1,5 +1,5 @@
 -- What a plan makes of an automaton: operations, at most one form, and completion, one after the other.
-use Rattle.std.specs.Prelude.{◌≡◌, ◌⊎◌, ◌<◌, ℕ, true, List, [], ◌∷◌, length, Option, Some, None, Result, Ok, Err}
+use Rattle.std.specs.Prelude.{◌≡◌, ◌⊎◌, ◌<◌, ℕ, true, List, [], ◌∷◌, ◌++◌, length, Option, Some, None, Result, Ok, Err}
 use Rattle.std.specs.Bool.{then_some}
 use Rattle.std.specs.Option.{option_map}
 use Rattle.std.specs.Result.{result_map_both}
@@ -119,17 +119,19 @@ abbrev pub form_change : Form → Option Change
 form_change form.AsIs = None
 form_change f = Some (Bring f)
 
--- the changes in the order in which they are made, each where its option stands
-abbrev pub change_options : Plan → List Automaton → List (Option Change)
-change_options p ops = option_map Product (operand_at p.product (place_of_product p) ops)
+-- the operations in the order in which they are made, each where its option stands,
+abbrev pub operation_options : Plan → List Automaton → List (Option Change)
+operation_options p ops = option_map Product (operand_at p.product (place_of_product p) ops)
     ∷ option_map ProductOr (operand_at p.product_or (place_of_product_or p) ops)
     ∷ option_map Sum (operand_at p.sum (place_of_sum p) ops)
     ∷ option_map RemoveAp p.remove_ap
     ∷ then_some p.trim Trim
     ∷ then_some p.complement Complement
-    ∷ form_change p.form
-    ∷ then_some p.complete Complete
     ∷ []
+
+-- and behind them the form and completion
+abbrev pub change_options : Plan → List Automaton → List (Option Change)
+change_options p ops = operation_options p ops ++ (form_change p.form ∷ then_some p.complete Complete ∷ [])
 
 abbrev pub changes_of : Plan → List Automaton → List Change
 changes_of p ops = those_standing (change_options p ops)

@@ -1,5 +1,5 @@
 -- What the form of a plan promises of the automaton that is made.
-use Rattle.std.specs.Prelude.{◌≡◌, ◌⊎◌, ◌+◌, Bool, true, false, List, take}
+use Rattle.std.specs.Prelude.{◌≡◌, ◌⊎◌, ◌+◌, Bool, true, false, List}
 use Rattle.acc_forms.specs.Atoms.{has_fin}
 use Rattle.acc_forms.specs.Joined.{conj}
 use Rattle.acc_forms.specs.Terms.{of_terms}
@@ -12,7 +12,7 @@ use Rattle.parity_det.specs.Promises.{HasFewSets, IsParityMinOdd}
 use Rattle.filter_plan.specs.declared.plan.Form.{Form}
 use Rattle.filter_plan.specs.declared.plan.Form.TheVariants as form
 use Rattle.filter_plan.specs.declared.plan.Plan.{Plan}
-use Rattle.plan_meaning.specs.Changes.{Change, MakesAll, change_options}
+use Rattle.plan_meaning.specs.Changes.{Change, MakesAll, operation_options}
 use Rattle.plan_meaning.specs.Standing.{those_standing}
 
 -- one set, to be met again and again
@@ -66,9 +66,9 @@ KeepsForm form.Monitor complete made = IsDeterministic made × OrHasSinkSet form
 abbrev pub KeepsPromises : Plan → Automaton → Type 0
 KeepsPromises p made = KeepsForm p.form p.complete made × (p.complete ≡ true → IsComplete made)
 
--- the changes that stand before the form
+-- the operations, which stand before the form
 abbrev pub changes_before_form : Plan → List Automaton → List Change
-changes_before_form p ops = those_standing (take 6 (change_options p ops))
+changes_before_form p ops = those_standing (operation_options p ops)
 
 -- A parity automaton has 2N + 1 sets, where N is at least 1, and at most the greater of 1 and the number of useful states of the
 -- Büchi form of what the changes before the form make.

@@ -1,6 +1,6 @@
 //! What a plan makes of an automaton.
 
-ghost use Rattle.std.specs.Prelude.{◌≡◌, ◌<◌, ◌≤◌, ◌^◌, [], ◌∷◌, IfOk, length, map, suc};
+ghost use Rattle.std.specs.Prelude.{◌≡◌, ◌<◌, ◌≤◌, ◌^◌, IfOk, length, map};
 ghost use Rattle.ap_project.specs.Laws.{SayTheSame};
 ghost use Rattle.aut_base.specs.Acceptance.{Accepts};
 ghost use Rattle.aut_base.specs.declared.limit.TheConstants.{MOST_NAMES};
@@ -9,7 +9,7 @@ ghost use Rattle.plan_meaning.specs.Changes.{ChangedTo, changes_of, set_operatio
 ghost use Rattle.plan_meaning.specs.Operands.{AreOperands, IsOfReadSize};
 ghost use Rattle.filter_plan.specs.declared.plan.Form.{Form};
 ghost use Rattle.plan_meaning.specs.Promises.{HasFewSetsUnder, KeepsPromises};
-ghost use Rattle.plan_meaning.specs.inner.Stepping.{AreInOrder, IsOfSizeAt, IsPossible, Steps, change_of, changes_asked, place_of};
+ghost use Rattle.plan_meaning.specs.inner.Stepping.{IsOfLastSize, IsOfSizeFor, Steps, changes_asked};
 
 mod combining;
 mod determinising;
@@ -20,11 +20,8 @@ mod shaping;
 use crate::fault::PlanFault;
 use crate::operands::Automata;
 use aut_core::Automaton;
-use combining::{product_or_with, product_with, sum_with};
-use determinising::complemented;
 use filter_plan::Plan;
-use list::{Change, changes};
-use shaping::{bring, complete, hide, trimmed};
+use list::{Change, changes, make};
 use std::alloc::Global;
 
 // Why so: 'What is made is one automaton, said twice' in docs/DECISIONS.md.
@@ -53,10 +50,9 @@ pub fn change(
 
 /// Makes the changes that are asked for, one after the other.
 fn make_all(alloc: Global, changes: &[Option<Change>], a: Automaton) -> Result<Automaton, PlanFault>
-    requires size { IsOfReadSize (automaton_of a) }
-    requires order { AreInOrder 0 changes.now }
+    requires { IsOfSizeFor (changes_asked changes.now) (automaton_of a) }
     ensures steps { Steps (changes_asked changes.now) (automaton_of a) result }
-    ensures size { IfOk result (λ made. IsOfSizeAt (length changes.now) (automaton_of made)) }
+    ensures size { IfOk result (λ made. IsOfLastSize (automaton_of made)) }
 {
     let mut made = a;
     'changes: for change in changes {
@@ -65,23 +61,4 @@ fn make_all(alloc: Global, changes: &[Option<Change>], a: Automaton) -> Result<A
         }
     }
     Ok(made)
-}
-
-/// Makes one change.
-fn make(alloc: Global, change: &Change, a: Automaton) -> Result<Automaton, PlanFault>
-    requires size { IsOfSizeAt (place_of change.now) (automaton_of a) }
-    requires possible { IsPossible change.now }
-    ensures steps { Steps (change_of change.now ∷ []) (automaton_of a) result }
-    ensures size { IfOk result (λ made. IsOfSizeAt (suc (place_of change.now)) (automaton_of made)) }
-{
-    match change {
-        Change::Product(b) => product_with(alloc, &a, b),
-        Change::ProductOr(b) => product_or_with(alloc, &a, b),
-        Change::Sum(b) => sum_with(alloc, &a, b),
-        Change::RemoveAp(hidden) => hide(alloc, &a, hidden),
-        Change::Trim => trimmed(alloc, &a),
-        Change::Complement => complemented(alloc, &a),
-        Change::Bring(form) => bring(alloc, *form, a),
-        Change::Complete => complete(alloc, a),
-    }
 }

@@ -22,9 +22,11 @@ use Rattle.autfilt_laws.proofs.due.Sizes.{IsFine, IsOperand, Step, few_names, fe
 use Rattle.parity_det.proofs.ParityLaws.{same_through}
 use Rattle.plan_meaning.proofs.changes.Combinations.{product_made, product_or_made, product_or_size, sum_made}
 use Rattle.plan_meaning.specs.Changes.{MakesWithin, Product, ProductOr, Sum}
+use Rattle.plan_meaning.specs.inner.Stepping.{IsOfProductOrSize, IsOfProductSize}
+use Rattle.plan_meaning.specs.Operands.{IsOfReadSize}
 
 module _ (a b made : Automaton) (operand : IsOperand b) where
-  pub product_step : IsFine 0 a → MakesWithin (Product b) a made → Step (Product b) 0 a made
+  pub product_step : IsFine IsOfReadSize a → MakesWithin (Product b) a made → Step (Product b) a made
   product_step f m =
       let names = joined_names a.names b.names in
       let among = one_among a b f.formed operand.formed in
@@ -48,7 +50,7 @@ module _ (a b made : Automaton) (operand : IsOperand b) where
         };
       }
 
-  pub product_or_step : IsFine 1 a → MakesWithin (ProductOr b) a made → Step (ProductOr b) 1 a made
+  pub product_or_step : IsFine IsOfProductSize a → MakesWithin (ProductOr b) a made → Step (ProductOr b) a made
   product_or_step f m =
       let names = joined_names a.names b.names in
       let among = one_among a b f.formed operand.formed in
@@ -78,7 +80,7 @@ module _ (a b made : Automaton) (operand : IsOperand b) where
         };
       }
 
-  pub sum_step : IsFine 2 a → MakesWithin (Sum b) a made → Step (Sum b) 2 a made
+  pub sum_step : IsFine IsOfProductOrSize a → MakesWithin (Sum b) a made → Step (Sum b) a made
   sum_step f m =
       let names = joined_names a.names b.names in
       let among = one_among a b f.formed operand.formed in

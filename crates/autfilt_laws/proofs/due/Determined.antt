@@ -32,6 +32,7 @@ use Rattle.parity_laws.specs.Complement.{AreComplements, dualised}
 use Rattle.plan_meaning.proofs.changes.Determinised.{complement_made, deterministic_itself, deterministic_made, parity_made}
 use Rattle.plan_meaning.proofs.changes.Monitored.{monitor_made}
 use Rattle.plan_meaning.specs.Changes.{Bring, Complement, MakesWithin}
+use Rattle.plan_meaning.specs.inner.Stepping.{HasRoom, IsOfComplementSize, IsOfSumSize}
 
 -- ---- Büchi forms
 
@@ -139,7 +140,7 @@ dual_formed a formed = record {
   formula = dual_below a.sets a.formula formed.formula;
 }
 
-pub complement_step : (a made : Automaton) → IsFine 5 a → MakesWithin Complement a made → Step Complement 5 a made
+pub complement_step : (a made : Automaton) → IsFine IsOfSumSize a → MakesWithin Complement a made → Step Complement a made
 complement_step a made f m =
     let s = sized_form a m.makes.form f.formed m.makes.is_form in
     let g = s.form in
@@ -159,24 +160,24 @@ complement_step a made f m =
 
 -- ---- forms
 
-parity_fine : (a made : Automaton) → IsFine 6 a → IsParityForm a made → IsFine 7 made
+parity_fine : (a made : Automaton) → IsFine IsOfComplementSize a → IsParityForm a made → IsFine HasRoom made
 parity_fine a made f p = record {
   formed = p.form.formed;
   names = few_names_in a made p.form.names f.names;
   size = record { states = omega (arith, p.states); sets = omega (arith, p.sets) };
 }
 
-pub parity_step : (a made : Automaton) → IsFine 6 a → MakesWithin (Bring form.Parity) a made → Step (Bring form.Parity) 6 a made
+pub parity_step : (a made : Automaton) → IsFine IsOfComplementSize a → MakesWithin (Bring form.Parity) a made → Step (Bring form.Parity) a made
 parity_step a made f m =
     let p = parity_form a made f.formed m.makes in
     record { is = parity_made a made (within_parity a m.within) m.makes p.shape p.form.accepts; fine = parity_fine a made f p }
 
-pub itself_fine : (a : Automaton) → IsFine 6 a → IsFine 7 a
+pub itself_fine : (a : Automaton) → IsFine IsOfComplementSize a → IsFine HasRoom a
 itself_fine a f = record { formed = f.formed; names = f.names; size = record { states = omega (arith, f.size.states); sets = omega (arith, f.size.sets) } }
 
-pub deterministic_step : (a made : Automaton) → IsFine 6 a → MakesWithin (Bring form.Deterministic) a made → Step (Bring form.Deterministic) 6 a made
+pub deterministic_step : (a made : Automaton) → IsFine IsOfComplementSize a → MakesWithin (Bring form.Deterministic) a made → Step (Bring form.Deterministic) a made
 deterministic_step a made f m = elim m.makes [
-  | inl itself ↦ subst (Step (Bring form.Deterministic) 6 a) (sym itself.1) (record { is = deterministic_itself a itself.0; fine = itself_fine a f })
+  | inl itself ↦ subst (Step (Bring form.Deterministic) a) (sym itself.1) (record { is = deterministic_itself a itself.0; fine = itself_fine a f })
   | inr other ↦ (
       let p = parity_form a made f.formed other.1 in
       record {
@@ -191,7 +192,7 @@ few_sets : (b : Automaton) (ss : List ℕ) (sets : List (List ℕ)) (arrows : Li
 few_sets b [] sets arrows are = subst (λ (xs : List (List ℕ)). length xs ≤ MOST_SUBSETS) (sym are.0) (omega arith)
 few_sets b (s ∷ ss) sets arrows ends = let some : 1 ≤ MOST_SUBSETS = omega arith in few_things (subset_rules b) (start_set b) sets arrows some ends
 
-pub monitor_step : (a made : Automaton) → IsFine 6 a → MakesWithin (Bring form.Monitor) a made → Step (Bring form.Monitor) 6 a made
+pub monitor_step : (a made : Automaton) → IsFine IsOfComplementSize a → MakesWithin (Bring form.Monitor) a made → Step (Bring form.Monitor) a made
 monitor_step a made f m =
     let l = left_of a m.makes.pruned f.formed m.makes.is_pruned in
     let is : IsSubsetForm m.makes.pruned made = m.makes.is in

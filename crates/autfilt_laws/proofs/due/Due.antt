@@ -1,11 +1,10 @@
 -- Under each plan a text is due of an automaton that is kept, or a limit is passed.
-use Rattle.std.proofs.Common.{◌≡◌, ◌≤◌, ◌⊎◌, ℕ, Bool, true, false, List, [], ◌∷◌, Contains, Option, Some, None, arith, inl, inr, length, refl, subst, sym}
+use Rattle.std.proofs.Common.{◌≡◌, ◌≤◌, ◌⊎◌, ℕ, Bool, true, false, List, [], ◌∷◌, Contains, arith, inl, inr, length, refl, subst, sym}
 use Rattle.std.proofs.lemmas.Bool.{ltb-false}
-use Rattle.std.proofs.lemmas.Option.{none-some}
 use Rattle.std.specs.List.{AllByRecursion}
 use Rattle.ap_project.specs.Laws.{SayTheSame}
 use Rattle.aut_base.proofs.canonical.CanonicalAutomata.{canonical_accepts_the_same, canonical_is_well_formed, labels_below}
-use Rattle.aut_base.proofs.lists.Members.{none_there, placed_there, there_cases}
+use Rattle.aut_base.proofs.lists.Members.{none_there, there_cases}
 use Rattle.aut_base.specs.Acceptance.{Accepts}
 use Rattle.aut_base.specs.Automaton.{Automaton}
 use Rattle.aut_base.specs.CanonicalLabel.{canonical}
@@ -38,11 +37,11 @@ use Rattle.plan_meaning.proofs.changes.SomeChanges.{changes_exist}
 use Rattle.plan_meaning.proofs.changes.Stepping.{all_alike}
 use Rattle.plan_meaning.specs.Changes.{MakesAll, changes_of, set_operation}
 use Rattle.plan_meaning.specs.Filters.{IsKept}
-use Rattle.plan_meaning.specs.Operands.{operand_at}
+use Rattle.plan_meaning.specs.Operands.{IsOfReadSize}
 
 -- ---- automata that were read
 
-read_fine : (w : Written) → IsValid w → PassesNone w → IsFine 0 (canonical (described w))
+read_fine : (w : Written) → IsValid w → PassesNone w → IsFine IsOfReadSize (canonical (described w))
 read_fine w valid within = record {
   formed = canonical_is_well_formed (described w) (valid_is_well_formed w valid);
   names = omega (arith, ltb-false MOST_NAMES (count_of Names w) within.0);
@@ -61,10 +60,6 @@ operands_fine (Taken w ∷ taken) good b there = elim (there_cases (canonical (d
   | inr later ↦ operands_fine taken good.1 b later
 ]
 
-operand_there : (o : Option (List ℕ)) (place : ℕ) (ops : List Automaton) (b : Automaton) → operand_at o place ops ≡ Some b → Contains ops b
-operand_there None place ops b is = absurd (none-some b is)
-operand_there (Some name) place ops b is = placed_there ops place b is
-
 -- ---- what is printed of what is made
 
 module _ (p : Plan) (ops : List Automaton) (operands : (b : Automaton) → Contains ops b → IsOperand b) (w : Written) (valid : IsValid w) (within : PassesNone w) where
@@ -74,8 +69,8 @@ module _ (p : Plan) (ops : List Automaton) (operands : (b : Automaton) → Conta
   abbrev IsMadeOf : Automaton → Type 0
   IsMadeOf made = MakesAll (changes_of p ops) read made
 
-  all_made : (made : Automaton) → IsMadeOf made → AllMade (changes_of p ops) 8 read made
-  all_made made m = changes_made p ops (λ o place b is. operands b (operand_there o place ops b is)) read made (read_fine w valid within) m
+  all_made : (made : Automaton) → IsMadeOf made → AllMade (changes_of p ops) read made
+  all_made made m = changes_made ops operands p read made (read_fine w valid within) m
 
   says : (made : Automaton) → IsMadeOf made → SayTheSame (λ u v. Accepts made u v) (set_operation p ops (described w))
   says made m u v some =

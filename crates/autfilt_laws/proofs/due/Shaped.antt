@@ -29,6 +29,7 @@ use Rattle.plan_meaning.proofs.changes.DisjunctiveForm.{disjunctive_accepts}
 use Rattle.plan_meaning.proofs.changes.Shapings.{buchi_made, complete_made, copies_made, dnf_made, fin_itself, fin_room, trim_made, trim_within}
 use Rattle.plan_meaning.proofs.changes.Stepping.{hidden_made}
 use Rattle.plan_meaning.specs.Changes.{Bring, Complete, MakesWithin, RemoveAp, Trim, in_disjunctive_form}
+use Rattle.plan_meaning.specs.inner.Stepping.{HasRoom, IsOfComplementSize, IsOfSumSize}
 
 -- ---- before the form
 
@@ -41,7 +42,7 @@ hidden_names how name a = by (is_among a.names name)
     by true = fewer name a.names
     by false = omega arith
 
-pub hidden_step : (h : Hidden) (a made : Automaton) → IsFine 3 a → MakesWithin (RemoveAp h) a made → Step (RemoveAp h) 3 a made
+pub hidden_step : (h : Hidden) (a made : Automaton) → IsFine IsOfSumSize a → MakesWithin (RemoveAp h) a made → Step (RemoveAp h) a made
 hidden_step h a made f m =
     let is : made ≡ hidden h.how h.name a = m.makes in
     let names : length made.names ≡ length (hidden h.how h.name a).names = ap (λ (z : Automaton). length z.names) is in
@@ -56,7 +57,7 @@ hidden_step h a made f m =
       };
     }
 
-pub trim_step : (a made : Automaton) → IsFine 4 a → MakesWithin Trim a made → Step Trim 4 a made
+pub trim_step : (a made : Automaton) → IsFine IsOfSumSize a → MakesWithin Trim a made → Step Trim a made
 trim_step a made f m =
     let is = m.makes in
     record {
@@ -70,7 +71,7 @@ trim_step a made f m =
 
 -- ---- forms
 
-pub buchi_step : (a made : Automaton) → IsFine 6 a → MakesWithin (Bring form.Buchi) a made → Step (Bring form.Buchi) 6 a made
+pub buchi_step : (a made : Automaton) → IsFine IsOfComplementSize a → MakesWithin (Bring form.Buchi) a made → Step (Bring form.Buchi) a made
 buchi_step a made f m =
     let is : made ≡ buchi a = m.makes in
     let few = few_states a (m.within limit.Terms) (m.within limit.BuchiStates) in
@@ -85,7 +86,7 @@ buchi_step a made f m =
       };
     }
 
-pub fin_step : (a made : Automaton) → IsFine 6 a → MakesWithin (Bring form.RemoveFin) a made → Step (Bring form.RemoveFin) 6 a made
+pub fin_step : (a made : Automaton) → IsFine IsOfComplementSize a → MakesWithin (Bring form.RemoveFin) a made → Step (Bring form.RemoveFin) a made
 fin_step a made f m = elim (cases_Bool (has_fin a.formula)) [
   | inl has ↦ (
       let is : made ≡ copied a = m.makes ∙ ap (λ (b : Bool). cond b (copied a) a) has in
@@ -101,17 +102,17 @@ fin_step a made f m = elim (cases_Bool (has_fin a.formula)) [
       )
   | inr none ↦ (
       let is : made ≡ a = m.makes ∙ ap (λ (b : Bool). cond b (copied a) a) none in
-      subst (Step (Bring form.RemoveFin) 6 a) (sym is) (record { is = fin_itself a none; fine = itself_fine a f })
+      subst (Step (Bring form.RemoveFin) a) (sym is) (record { is = fin_itself a none; fine = itself_fine a f })
       )
 ]
 
-pub dnf_step : (a made : Automaton) → IsFine 6 a → MakesWithin (Bring form.Dnf) a made → Step (Bring form.Dnf) 6 a made
+pub dnf_step : (a made : Automaton) → IsFine IsOfComplementSize a → MakesWithin (Bring form.Dnf) a made → Step (Bring form.Dnf) a made
 dnf_step a made f m =
     let is : made ≡ in_disjunctive_form a = m.makes in
     let whole = itself_fine a f in
     record {
       is = dnf_made a made (m.within limit.Terms) is (subst (λ (z : Automaton). AcceptTheSame z a) (sym is) (disjunctive_accepts a));
-      fine = subst (IsFine 7) (sym is) (record {
+      fine = subst (IsFine HasRoom) (sym is) (record {
         formed = disjunctive_formed a f.formed;
         names = f.names;
         size = record { states = whole.size.states; sets = whole.size.sets };
@@ -120,7 +121,7 @@ dnf_step a made f m =
 
 -- ---- completion
 
-pub complete_step : (a made : Automaton) → IsFine 7 a → MakesWithin Complete a made → Step Complete 7 a made
+pub complete_step : (a made : Automaton) → IsFine HasRoom a → MakesWithin Complete a made → Step Complete a made
 complete_step a made f m =
     let is : made ≡ completed a = m.makes in
     let states : made.states ≡ (completed a).states = ap (λ (z : Automaton). z.states) is in

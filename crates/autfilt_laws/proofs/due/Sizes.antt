@@ -1,5 +1,5 @@
 -- What is known of an automaton before and behind each change.
-use Rattle.std.proofs.Common.{◌≤◌, ℕ, suc, [], ◌∷◌, inl, inr, length, subst}
+use Rattle.std.proofs.Common.{◌≤◌, [], ◌∷◌, inl, inr, length, subst}
 use Rattle.std.proofs.lemmas.Bool.{cases_lt}
 use Rattle.aut_base.specs.Automaton.{Automaton, IsWellFormed}
 use Rattle.aut_base.specs.Formula.{FormulaTree}
@@ -16,23 +16,23 @@ use Rattle.parity_det.specs.declared.fault.CompFault.TheVariants as comp
 use Rattle.plan_meaning.specs.Changes.{Change, PassesBuchi}
 use Rattle.plan_meaning.specs.Limits.{HaveFewNames, HaveManyNames, PassesParity}
 use Rattle.plan_meaning.specs.Operands.{IsOfReadSize}
-use Rattle.plan_meaning.specs.inner.Stepping.{IsMade, IsOfSizeAt}
+use Rattle.plan_meaning.specs.inner.Stepping.{IsMade, IsOfSizeBehind}
 
--- It may be changed by the change at this place.
-pub record IsFine (n : ℕ) (a : Automaton) : Type 0 where
+-- It is well-formed and of this size.
+pub record IsFine (Size : Automaton → Type 0) (a : Automaton) : Type 0 where
   pub formed : IsWellFormed a
   pub names : length a.names ≤ MOST_NAMES
-  pub size : IsOfSizeAt n a
+  pub size : Size a
 
 -- it may be combined with others
 pub record IsOperand (b : Automaton) : Type 0 where
   pub formed : IsWellFormed b
   pub size : IsOfReadSize b
 
--- The change at this place makes this of it, as is promised, and the next change may be made.
-pub record Step (c : Change) (n : ℕ) (a made : Automaton) : Type 0 where
+-- The change makes this of it, as is promised, and of the size that stands behind it.
+pub record Step (c : Change) (a made : Automaton) : Type 0 where
   pub is : IsMade (c ∷ []) a made
-  pub fine : IsFine (suc n) made
+  pub fine : IsFine (IsOfSizeBehind c) made
 
 -- ---- limits that aren't passed
 

@@ -1,9 +1,8 @@
 -- The changes of a plan as a list.
-use Rattle.std.proofs.Common.{◌≡◌, ◌<◌, ◌+◌, ℕ, zero, suc, List, [], ◌∷◌, ◌++◌, Option, Some, Result, Err, IfSome, refl, sym, ap, ◌∙◌, arith, subst, take, drop, get_or, length}
-use Rattle.std.proofs.Math.Numerals.{suc-eq-add-one}
+use Rattle.std.proofs.Common.{◌≡◌, ◌<◌, ◌+◌, ℕ, List, [], ◌∷◌, ◌++◌, Option, Some, None, Result, Err, refl, sym, ap, ◌∙◌, subst, take, drop, get_or, length}
 use Rattle.std.specs.Option.{option_map}
 use Rattle.std.specs.Result.{IsErrAnd}
-use Rattle.std.proofs.lemmas.List.{take-append-drop}
+use Rattle.std.proofs.lemmas.List.{drop_more, take-append-drop}
 use Rattle.std.proofs.lemmas.List.Elements.{filter_map-append}
 use Rattle.aut_base.specs.Automaton.{Automaton}
 use Rattle.aut_core.specs.Core.{Core}
@@ -12,9 +11,7 @@ use Rattle.plan_meaning.proofs.changes.Stepping.{made_then, steps_end, steps_the
 use Rattle.plan_meaning.specs.Changes.{Change}
 use Rattle.plan_meaning.specs.declared.changing.list.Change as coded
 use Rattle.plan_meaning.specs.declared.fault.PlanFault.{PlanFault}
-use Rattle.plan_meaning.specs.inner.Stepping.{AreInOrder, IsMade, IsOfSizeAt, IsPossible, Steps, change_of, changes_asked, place_of}
-
--- ---- one after the other
+use Rattle.plan_meaning.specs.inner.Stepping.{IsMade, IsOfSizeBefore, IsOfSizeBehind, IsOfSizeFor, IsPossible, Steps, change_of, changes_asked}
 
 pub none_made : (a : Automaton) → IsMade [] a a
 none_made a = record { all = refl; says = λ u v some. ((λ x. x), (λ x. x)) }
@@ -33,31 +30,17 @@ module _ (xs : List (Option coded.Change)) (i : ℕ) (d o : Option coded.Change)
       subst (λ (cs : List Change). Steps cs a r) whole (steps_end start after a came r passed
       (subst (λ (cs : List Change). Steps cs a stop) (sym (one_more change_of xs i d o lt is)) (steps_then (changes_asked (take i xs)) (changes_asked (o ∷ [])) a b stop before this)))
 
--- ---- places and sizes
+-- ---- sizes of what is asked for from a place on
 
-pub at_place : (n : ℕ) (xs : List (Option coded.Change)) (i : ℕ) (d : Option coded.Change) (c : coded.Change) → AreInOrder n xs → i < length xs → get_or xs i d ≡ Some c
-    → (place_of c ≡ n + i) × IsPossible c
-at_place n [] i d c order lt is = absurd (omega (arith, lt))
-at_place n (o ∷ os) zero d c order lt is = let there = subst (λ (x : Option coded.Change). IfSome x (λ y. (place_of y ≡ n) × IsPossible y)) is order.0 in (omega (arith, there.0), there.1)
-at_place n (o ∷ os) (suc i) d c order lt is = let there = at_place (suc n) os i d c order.1 (omega (arith, lt)) is in (omega (arith, there.0), there.1)
+module _ (xs : List (Option coded.Change)) (i : ℕ) (d : Option coded.Change) (a : Automaton) (lt : i < length xs) (sizes : IsOfSizeFor (changes_asked (drop i xs)) a) where
+  opened : (o : Option coded.Change) → get_or xs i d ≡ o → IsOfSizeFor (changes_asked (o ∷ drop (i + 1) xs)) a
+  opened o is = subst (λ (os : List (Option coded.Change)). IsOfSizeFor (changes_asked os) a) (drop_more xs i d lt ∙ ap (λ x. x ∷ drop (i + 1) xs) is) sizes
 
-grows_by_one : (n : ℕ) (a : Automaton) → IsOfSizeAt n a → IsOfSizeAt (suc n) a
-grows_by_one zero a h = record { states = omega (arith, h.states); sets = omega (arith, h.sets) }
-grows_by_one (suc zero) a h = record { states = omega (arith, h.states); sets = omega (arith, h.sets) }
-grows_by_one (suc (suc zero)) a h = record { states = omega (arith, h.states); sets = omega (arith, h.sets) }
-grows_by_one (suc (suc (suc zero))) a h = h
-grows_by_one (suc (suc (suc (suc zero)))) a h = h
-grows_by_one (suc (suc (suc (suc (suc zero))))) a h = record { states = omega (arith, h.states); sets = omega (arith, h.sets) }
-grows_by_one (suc (suc (suc (suc (suc (suc zero)))))) a h = record { states = omega (arith, h.states); sets = omega (arith, h.sets) }
-grows_by_one (suc (suc (suc (suc (suc (suc (suc zero))))))) a h = record { states = omega (arith, h.states); sets = omega (arith, h.sets) }
-grows_by_one (suc (suc (suc (suc (suc (suc (suc (suc n)))))))) a h = h
+  -- this one can be made
+  pub can_be_made : (c : coded.Change) → get_or xs i d ≡ Some c
+      → IsPossible (change_of c) × IsOfSizeBefore (change_of c) a × ((made : Automaton) → IsOfSizeBehind (change_of c) made → IsOfSizeFor (changes_asked (drop (i + 1) xs)) made)
+  can_be_made c is = opened (Some c) is
 
--- where nothing is asked for
-pub grows : (n : ℕ) (a : Automaton) → IsOfSizeAt n a → IsOfSizeAt (n + 1) a
-grows n a h = subst (λ (k : ℕ). IsOfSizeAt k a) (suc-eq-add-one n) (grows_by_one n a h)
-
-pub grown : (n place : ℕ) (a : Automaton) → place ≡ 0 + n → IsOfSizeAt (suc place) a → IsOfSizeAt (n + 1) a
-grown n place a is h = let same : suc place ≡ n + 1 = omega (arith, is) in subst (λ (k : ℕ). IsOfSizeAt k a) same h
-
-pub sized_at : (n place : ℕ) (a : Automaton) → place ≡ 0 + n → IsOfSizeAt n a → IsOfSizeAt place a
-sized_at n place a is h = let same : n ≡ place = omega (arith, is) in subst (λ (k : ℕ). IsOfSizeAt k a) same h
+  -- this one isn't asked for
+  pub left_out : get_or xs i d ≡ None → IsOfSizeFor (changes_asked (drop (i + 1) xs)) a
+  left_out is = opened None is

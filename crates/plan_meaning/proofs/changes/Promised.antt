@@ -1,8 +1,7 @@
 -- What is promised of what the changes of a plan make.
-use Rattle.std.proofs.Common.{◌≡◌, ◌∙◌, ◌+◌, Bool, true, false, cond, List, [], ◌∷◌, ◌++◌, Option, Some, None, refl, ap, drop, subst, sym, take, inl, inr}
+use Rattle.std.proofs.Common.{◌≡◌, ◌∙◌, ◌+◌, Bool, true, false, cond, List, [], ◌∷◌, ◌++◌, Option, Some, None, refl, ap, subst, sym, inl, inr}
 use Rattle.std.specs.Bool.{then_some}
 use Rattle.std.proofs.lemmas.Bool.{false≢true}
-use Rattle.std.proofs.lemmas.List.{take-append-drop}
 use Rattle.acc_forms.specs.Atoms.{has_fin}
 use Rattle.acc_forms.specs.Joined.{conj}
 use Rattle.acc_forms.specs.Terms.{terms}
@@ -16,7 +15,7 @@ use Rattle.filter_plan.specs.declared.plan.Form.{Form}
 use Rattle.filter_plan.specs.declared.plan.Form.TheVariants as form
 use Rattle.filter_plan.specs.declared.plan.Plan.{Plan}
 use Rattle.monitor_form.specs.Subsets.{IsMonitor}
-use Rattle.plan_meaning.specs.Changes.{Bring, Change, Complete, IsInForm, MakesAll, change_options, changes_of, form_change}
+use Rattle.plan_meaning.specs.Changes.{Bring, Change, Complete, IsInForm, MakesAll, changes_of, form_change, operation_options}
 use Rattle.degeneralise.specs.Buchi.{buchi}
 use Rattle.parity_det.proofs.ParityLaws.{parity_has_few_sets}
 use Rattle.parity_det.specs.Promises.{HasFewSets, IsParityMinOdd}
@@ -167,8 +166,7 @@ formed p a made h = by p.form h
 
 pub promises_kept : (p : Plan) (ops : List Automaton) (a made : Automaton) → MakesAsPromised (changes_of p ops) a made → KeepsPromises p made
 promises_kept p ops a made h =
-    let os = change_options p ops in
-    let shaped = behind (take 6 os) (drop 6 os) a made (subst (λ (xs : List (Option Change)). MakesAsPromised (those_standing xs) a made) (sym (take-append-drop 6 os)) h) in
+    let shaped = behind (operation_options p ops) (form_change p.form ∷ then_some p.complete Complete ∷ []) a made h in
     formed p shaped.0 made shaped.1
 
 -- ---- the sets of a parity automaton
@@ -185,8 +183,7 @@ parity_few complete b made h = subst (HasFewSets (buchi b)) (sym (left complete 
 
 pub few_sets_kept : (p : Plan) (ops : List Automaton) (a made : Automaton) → MakesAsPromised (changes_of p ops) a made → p.form ≡ form.Parity → HasFewSetsUnder p ops a made
 few_sets_kept p ops a made h is =
-    let os = change_options p ops in
-    let shaped = between (take 6 os) (drop 6 os) a made (subst (λ (xs : List (Option Change)). MakesAsPromised (those_standing xs) a made) (sym (take-append-drop 6 os)) h) in
+    let shaped = between (operation_options p ops) (form_change p.form ∷ then_some p.complete Complete ∷ []) a made h in
     record {
       before = shaped.0;
       makes = shaped.1;

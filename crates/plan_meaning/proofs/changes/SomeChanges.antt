@@ -1,9 +1,7 @@
 -- The changes of a plan make something of an automaton, or pass a limit.
-use Rattle.std.proofs.Common.{◌≡◌, ◌<◌, ◌≤◌, Bool, true, false, List, [], ◌∷◌, Option, Some, None, inl, inr, length, refl}
+use Rattle.std.proofs.Common.{◌≡◌, ◌≤◌, List, [], ◌∷◌, inl, inr, length, refl}
 use Rattle.std.proofs.lemmas.Bool.{cases_lt}
-use Rattle.std.specs.Bool.{then_some}
 use Rattle.std.specs.List.{AllByRecursion}
-use Rattle.std.specs.Option.{option_map}
 use Rattle.acc_forms.specs.Joined.{conj, disj}
 use Rattle.ap_project.specs.Hiding.{hidden}
 use Rattle.aut_base.specs.Automaton.{Automaton}
@@ -20,18 +18,16 @@ use Rattle.aut_ops.proofs.pairs.Existence.{products_exist}
 use Rattle.aut_ops.proofs.flagged.SomeFlags.{trimmed_exists}
 use Rattle.parity_det.proofs.SomeForms.{complement_exists, parity_exists}
 use Rattle.monitor_form.proofs.SomeMonitors.{monitor_exists}
+use Rattle.plan_meaning.proofs.changes.PlanChanges.{IsOfPlan, each_of_plan}
 use Rattle.plan_meaning.specs.Laws.{ChangesExist}
 use Rattle.filter_plan.specs.declared.plan.Form.{Form}
 use Rattle.filter_plan.specs.declared.plan.Form.TheVariants as form
-use Rattle.filter_plan.specs.declared.plan.Plan.{Plan}
 use Rattle.fin_removal.specs.Copies.{without_fin}
 use Rattle.parity_det.specs.Complements.{IsWithinParity}
 use Rattle.parity_det.specs.declared.fault.CompFault.TheVariants as comp
 use Rattle.plan_meaning.specs.Changes.{Bring, Change, Complement, Complete, IsInForm, Makes, MakesAll, MakesWithin, PassesForm, PassesIn}
-use Rattle.plan_meaning.specs.Changes.{Product, ProductOr, RemoveAp, StopsIn, Sum, Trim, change_options, changes_of, form_change, in_disjunctive_form}
+use Rattle.plan_meaning.specs.Changes.{Product, ProductOr, RemoveAp, StopsIn, Sum, Trim, changes_of, in_disjunctive_form}
 use Rattle.plan_meaning.specs.Limits.{HaveFewNames, HaveManyNames, PassesParity}
-use Rattle.plan_meaning.specs.Operands.{operand_at, place_of_product, place_of_product_or, place_of_sum}
-use Rattle.plan_meaning.specs.Standing.{those_standing}
 
 -- ---- one change
 
@@ -67,85 +63,38 @@ some_form form.Dnf a asked within none = none (in_disjunctive_form a) refl
 some_form form.Monitor a asked within none =
     monitor_exists a (few_states a within) (λ meets. within limit.Classes (within limit.Terms, meets)) (λ meets. within limit.Subsets (within limit.Terms, meets)) none
 
--- no form is brought as it is
-abbrev IsAsked : Change → Type 0
-IsAsked (Bring f) = f ≡ form.AsIs → ⊥
-IsAsked _ = Unit {0}
-
-some_made : (c : Change) (a : Automaton) → IsAsked c → ((which : Limit) → PassesIn which c a → ⊥) → ((made : Automaton) → Makes c a made → ⊥) → ⊥
-some_made (Product b) a asked within none =
+some_made : (ops : List Automaton) (c : Change) (a : Automaton) → IsOfPlan ops c → ((which : Limit) → PassesIn which c a → ⊥) → ((made : Automaton) → Makes c a made → ⊥) → ⊥
+some_made ops (Product b) a asked within none =
     let found = products_exist conj MOST_PAIRS (over_both a b a) (over_both a b b) in
     elim found [
       | inl made ↦ none made.0 made.1
       | inr more ↦ within limit.Pairs (few_names a b (within limit.Names), more)
     ]
-some_made (ProductOr b) a asked within none =
+some_made ops (ProductOr b) a asked within none =
     let found = products_exist disj MOST_PAIRS (over_both a b (completed a)) (over_both a b (completed b)) in
     elim found [
       | inl made ↦ none made.0 made.1
       | inr more ↦ within limit.Pairs (few_names a b (within limit.Names), more)
     ]
-some_made (Sum b) a asked within none = none (summed a b) refl
-some_made (RemoveAp h) a asked within none = none (hidden h.how h.name a) refl
-some_made Trim a asked within none = trimmed_exists a none
-some_made Complement a asked within none = complement_exists a (λ other. within_parity a (λ which passes. within which (other, passes))) none
-some_made (Bring f) a asked within none = some_form f a asked within none
-some_made Complete a asked within none = none (completed a) refl
+some_made ops (Sum b) a asked within none = none (summed a b) refl
+some_made ops (RemoveAp h) a asked within none = none (hidden h.how h.name a) refl
+some_made ops Trim a asked within none = trimmed_exists a none
+some_made ops Complement a asked within none = complement_exists a (λ other. within_parity a (λ which passes. within which (other, passes))) none
+some_made ops (Bring f) a asked within none = some_form f a asked within none
+some_made ops Complete a asked within none = none (completed a) refl
 
-some_change : (c : Change) (a : Automaton) → IsAsked c → ((made : Automaton) → MakesWithin c a made → ⊥) → ((which : Limit) → PassesIn which c a → ⊥) → ⊥
-some_change c a asked none within = some_made c a asked within (λ made m. none made (record { within = within; makes = m }))
+some_change : (ops : List Automaton) (c : Change) (a : Automaton) → IsOfPlan ops c → ((made : Automaton) → MakesWithin c a made → ⊥) → ((which : Limit) → PassesIn which c a → ⊥) → ⊥
+some_change ops c a asked none within = some_made ops c a asked within (λ made m. none made (record { within = within; makes = m }))
 
 -- ---- all of them
 
-some_changes : (cs : List Change) (a : Automaton) → AllByRecursion IsAsked cs → ((made : Automaton) → MakesAll cs a made → ⊥) → ((which : Limit) → StopsIn which cs a → ⊥) → ⊥
-some_changes [] a asked none stops = none a refl
-some_changes (c ∷ cs) a asked none stops =
-    some_change c a asked.0
-    (λ next m. some_changes cs next asked.1 (λ made all. none made (next, m, all)) (λ which s. stops which (inr (next, m, s))))
+some_changes : (ops : List Automaton) (cs : List Change) (a : Automaton) → AllByRecursion (IsOfPlan ops) cs → ((made : Automaton) → MakesAll cs a made → ⊥)
+    → ((which : Limit) → StopsIn which cs a → ⊥) → ⊥
+some_changes ops [] a asked none stops = none a refl
+some_changes ops (c ∷ cs) a asked none stops =
+    some_change ops c a asked.0
+    (λ next m. some_changes ops cs next asked.1 (λ made all. none made (next, m, all)) (λ which s. stops which (inr (next, m, s))))
     (λ which passes. stops which (inl passes))
 
--- ---- those of a plan
-
-abbrev IsAskedFor : Option Change → Type 0
-IsAskedFor None = Unit {0}
-IsAskedFor (Some c) = IsAsked c
-
-those_asked : (os : List (Option Change)) → AllByRecursion IsAskedFor os → AllByRecursion IsAsked (those_standing os)
-those_asked [] all = tt
-those_asked (None ∷ os) all = those_asked os all.1
-those_asked (Some c ∷ os) all = (all.0, those_asked os all.1)
-
-asked_map : {X : Type 0} (c : X → Change) → ((x : X) → IsAsked (c x)) → (o : Option X) → IsAskedFor (option_map c o)
-asked_map c asked None = tt
-asked_map c asked (Some x) = asked x
-
-asked_then : (b : Bool) (c : Change) → IsAsked c → IsAskedFor (then_some b c)
-asked_then false c asked = tt
-asked_then true c asked = asked
-
-asked_form : (f : Form) → IsAskedFor (form_change f)
-asked_form form.AsIs = tt
-asked_form form.Deterministic = λ e. cc
-asked_form form.Parity = λ e. cc
-asked_form form.Buchi = λ e. cc
-asked_form form.RemoveFin = λ e. cc
-asked_form form.Dnf = λ e. cc
-asked_form form.Monitor = λ e. cc
-
-all_asked : (p : Plan) (ops : List Automaton) → AllByRecursion IsAsked (changes_of p ops)
-all_asked p ops = those_asked (change_options p ops) (
-  asked_map Product (λ b. tt) (operand_at p.product (place_of_product p) ops),
-  (
-    asked_map ProductOr (λ b. tt) (operand_at p.product_or (place_of_product_or p) ops),
-    (
-      asked_map Sum (λ b. tt) (operand_at p.sum (place_of_sum p) ops),
-      (
-        asked_map RemoveAp (λ h. tt) p.remove_ap,
-        (asked_then p.trim Trim tt, (asked_then p.complement Complement tt, (asked_form p.form, (asked_then p.complete Complete tt, tt)))),
-      ),
-    ),
-  ),
-)
-
 pub changes_exist : ChangesExist
-changes_exist p ops a none stops = some_changes (changes_of p ops) a (all_asked p ops) none stops
+changes_exist p ops a none stops = some_changes ops (changes_of p ops) a (each_of_plan p ops) none stops

@@ -1,5 +1,5 @@
 -- What single steps answer, of which each is to make some changes.
-use Rattle.std.specs.Prelude.{◌≡◌, ◌≢◌, ℕ, zero, suc, ◌+◌, ◌-◌, ◌*◌, ◌^◌, ◌≤◌, List, [], ◌∷◌, filter_map, Option, IfSome, Result, Ok, Err}
+use Rattle.std.specs.Prelude.{◌≡◌, ◌≢◌, ℕ, ◌+◌, ◌-◌, ◌*◌, ◌^◌, ◌≤◌, List, [], ◌∷◌, filter_map, Option, Result, Ok, Err}
 use Rattle.std.specs.Option.{option_map}
 use Rattle.ap_project.specs.Laws.{SayTheSame}
 use Rattle.aut_base.specs.Acceptance.{Accepts}
@@ -77,6 +77,47 @@ IsOfComplementSize = IsWithin (MOST_PAIRS + MOST_STATES + MOST_TREES) (MOST_SETS
 abbrev pub HasRoom : Automaton → Type 0
 HasRoom = IsWithin (2 ^ 32 - 2) (2 ^ 32 - 2)
 
+abbrev pub IsOfLastSize : Automaton → Type 0
+IsOfLastSize = IsWithin (2 ^ 32 - 1) (2 ^ 32 - 1)
+
+-- what a change takes from a plan can be made
+abbrev pub IsPossible : Change → Type 0
+IsPossible (Product b) = IsOfReadSize b
+IsPossible (ProductOr b) = IsOfReadSize b
+IsPossible (Sum b) = IsOfReadSize b
+IsPossible (RemoveAp h) = Unit {0}
+IsPossible Trim = Unit {0}
+IsPossible Complement = Unit {0}
+IsPossible (Bring f) = f ≢ form.AsIs
+IsPossible Complete = Unit {0}
+
+-- the size that an automaton may have before a change,
+abbrev pub IsOfSizeBefore : Change → Automaton → Type 0
+IsOfSizeBefore (Product b) = IsOfReadSize
+IsOfSizeBefore (ProductOr b) = IsOfProductSize
+IsOfSizeBefore (Sum b) = IsOfProductOrSize
+IsOfSizeBefore (RemoveAp h) = IsOfSumSize
+IsOfSizeBefore Trim = IsOfSumSize
+IsOfSizeBefore Complement = IsOfSumSize
+IsOfSizeBefore (Bring f) = IsOfComplementSize
+IsOfSizeBefore Complete = HasRoom
+
+-- and has behind it
+abbrev pub IsOfSizeBehind : Change → Automaton → Type 0
+IsOfSizeBehind (Product b) = IsOfProductSize
+IsOfSizeBehind (ProductOr b) = IsOfProductOrSize
+IsOfSizeBehind (Sum b) = IsOfSumSize
+IsOfSizeBehind (RemoveAp h) = IsOfSumSize
+IsOfSizeBehind Trim = IsOfSumSize
+IsOfSizeBehind Complement = IsOfComplementSize
+IsOfSizeBehind (Bring f) = HasRoom
+IsOfSizeBehind Complete = IsOfLastSize
+
+-- the changes can be made of the automaton, one after the other
+abbrev pub IsOfSizeFor : List Change → Automaton → Type 0
+IsOfSizeFor [] a = IsOfLastSize a
+IsOfSizeFor (c ∷ cs) a = IsPossible c × IsOfSizeBefore c a × ((made : Automaton) → IsOfSizeBehind c made → IsOfSizeFor cs made)
+
 -- ---- the changes of code
 
 abbrev pub change_of : coded.Change → Change
@@ -92,42 +133,3 @@ change_of code.Complete = Complete
 -- those that are asked for
 abbrev pub changes_asked : List (Option coded.Change) → List Change
 changes_asked = filter_map (option_map change_of)
-
--- the place of a change in the order in which they are made
-abbrev pub place_of : coded.Change → ℕ
-place_of (code.Product b) = 0
-place_of (code.ProductOr b) = 1
-place_of (code.Sum b) = 2
-place_of (code.RemoveAp h) = 3
-place_of code.Trim = 4
-place_of code.Complement = 5
-place_of (code.Bring f) = 6
-place_of code.Complete = 7
-
--- what a change takes from a plan can be made
-abbrev pub IsPossible : coded.Change → Type 0
-IsPossible (code.Product b) = IsOfReadSize (automaton_of b.now)
-IsPossible (code.ProductOr b) = IsOfReadSize (automaton_of b.now)
-IsPossible (code.Sum b) = IsOfReadSize (automaton_of b.now)
-IsPossible (code.RemoveAp h) = Unit {0}
-IsPossible code.Trim = Unit {0}
-IsPossible code.Complement = Unit {0}
-IsPossible (code.Bring f) = f ≢ form.AsIs
-IsPossible code.Complete = Unit {0}
-
--- each change stands at its place, from this one on
-abbrev pub AreInOrder : ℕ → List (Option coded.Change) → Type 0
-AreInOrder n [] = Unit {0}
-AreInOrder n (o ∷ os) = IfSome o (λ c. (place_of c ≡ n) × IsPossible c) × AreInOrder (suc n) os
-
--- the size that an automaton may have before the change at this place
-abbrev pub IsOfSizeAt : ℕ → Automaton → Type 0
-IsOfSizeAt zero a = IsOfReadSize a
-IsOfSizeAt (suc zero) a = IsOfProductSize a
-IsOfSizeAt (suc (suc zero)) a = IsOfProductOrSize a
-IsOfSizeAt (suc (suc (suc zero))) a = IsOfSumSize a
-IsOfSizeAt (suc (suc (suc (suc zero)))) a = IsOfSumSize a
-IsOfSizeAt (suc (suc (suc (suc (suc zero))))) a = IsOfSumSize a
-IsOfSizeAt (suc (suc (suc (suc (suc (suc zero)))))) a = IsOfComplementSize a
-IsOfSizeAt (suc (suc (suc (suc (suc (suc (suc zero))))))) a = HasRoom a
-IsOfSizeAt (suc (suc (suc (suc (suc (suc (suc (suc n)))))))) a = IsWithin (2 ^ 32 - 1) (2 ^ 32 - 1) a

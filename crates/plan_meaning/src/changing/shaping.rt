@@ -2,13 +2,12 @@
 //!
 //! Where nothing is asked, the automaton is handed on.
 
-ghost use Rattle.std.specs.Prelude.{◌-◌, ◌^◌, ◌≡◌, ◌≢◌, [], ◌∷◌, IfOk, false, true};
+ghost use Rattle.std.specs.Prelude.{◌≡◌, ◌≢◌, [], ◌∷◌, IfOk, true};
 ghost use Rattle.acc_forms.specs.Atoms.{has_fin};
 ghost use Rattle.aut_core.specs.Core.{automaton_of};
 ghost use Rattle.filter_plan.specs.declared.plan.Form.{Form};
 ghost use Rattle.plan_meaning.specs.Changes.{Bring, Complete, RemoveAp, Trim};
-ghost use Rattle.plan_meaning.specs.Promises.{KeepsForm, KeepsPromises};
-ghost use Rattle.plan_meaning.specs.inner.Stepping.{HasRoom, IsOfComplementSize, IsOfSumSize, IsWithin, Steps};
+ghost use Rattle.plan_meaning.specs.inner.Stepping.{HasRoom, IsOfComplementSize, IsOfLastSize, IsOfSumSize, Steps};
 
 use super::determinising::{deterministic, parity_of};
 use super::disjunctive::with_disjuncts;
@@ -105,7 +104,7 @@ fn disjunctive(alloc: Global, a: Automaton) -> Result<Automaton, PlanFault>
 pub(crate) fn complete(alloc: Global, a: Automaton) -> Result<Automaton, PlanFault>
     requires size { HasRoom (automaton_of a) }
     ensures steps { Steps (Complete ∷ []) (automaton_of a) result }
-    ensures size { IfOk result (λ made. IsWithin (2 ^ 32 - 1) (2 ^ 32 - 1) (automaton_of made)) }
+    ensures size { IfOk result (λ made. IsOfLastSize (automaton_of made)) }
 {
     a.whole();
     if a.is_complete() {
@@ -117,7 +116,7 @@ pub(crate) fn complete(alloc: Global, a: Automaton) -> Result<Automaton, PlanFau
 fn completed(alloc: Global, a: &Automaton) -> Result<Automaton, PlanFault>
     requires size { HasRoom (automaton_of a.now) }
     ensures steps { Steps (Complete ∷ []) (automaton_of a.now) result }
-    ensures size { IfOk result (λ made. IsWithin (2 ^ 32 - 1) (2 ^ 32 - 1) (automaton_of made)) }
+    ensures size { IfOk result (λ made. IsOfLastSize (automaton_of made)) }
 {
     a.whole();
     Ok(aut_ops::complete(alloc, a)?)
