@@ -40,13 +40,9 @@ pub fn step(alloc: Global, tree: &SafraTree, moves: &Moves) -> Result<(SafraTree
     let small = small_tree(alloc, seen, tree)?;
     let few = moves_in(alloc, seen, moves.as_slice())?;
     let mut room = Room::new(alloc);
-    match stepped(alloc, count_of(seen), &small, &few, &mut room) {
-        Ok(found) => {
-            let named = named_tree(alloc, seen, &found.0)?;
-            Ok((named, found.1))
-        }
-        Err(fault) => Err(fault),
-    }
+    let found = stepped(alloc, count_of(seen), &small, &few, &mut room)?;
+    let named = named_tree(alloc, seen, &found.0)?;
+    Ok((named, found.1))
 }
 
 /// The tree with the places of its states in their stead.

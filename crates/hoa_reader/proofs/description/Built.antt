@@ -51,4 +51,4 @@ built_parts w h b head of =
 
 -- each letter meets just one edge of every state where labels are implicit
 pub built_one_way : (w : Written) (h : Header) (b : Body) → IsHeaderOf w h → IsBodyOf w b → b.implicit ≡ true → GoesOneWay (automaton_of (core_of h.names h.formula b))
-built_one_way w h b head of yes = subst GoesOneWay (sym (built w h b head of)) (one_way w (of.implicit yes))
+built_one_way w h b head of implicit = subst GoesOneWay (sym (built w h b head of)) (one_way w (of.implicit implicit))

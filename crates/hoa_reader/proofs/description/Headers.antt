@@ -37,7 +37,7 @@ first_there (x ∷ xs) = refl
 -- the condition of the first that has one
 pub first_formula : (is : List WrittenItem) → option_map_or (λ x. x) (list_of (filter_map formula_item is)) formula.True ≡ (get_or (filter_map acceptance_item is) 0 no_acceptance).formula
 first_formula [] = refl
-first_formula (raw.Acceptance sets tree ∷ is) = refl
+first_formula (raw.Acceptance sets condition ∷ is) = refl
 first_formula (raw.States n ∷ is) = first_formula is
 first_formula (raw.Start states ∷ is) = first_formula is
 first_formula (raw.Ap count names ∷ is) = first_formula is

@@ -11,8 +11,8 @@ pub returns-in_err-body : goal.returns-in_err-body
 returns-in_err-body c =
     builds_none c.from_residual.result c.in_err-body.field-0.0 (written c.args.raw) c.from_residual.ensures.1 c.in_err-body.ensures
 
-pub header_of-requires : goal.header_of-requires
-header_of-requires c = c.in_ok-body.ensures.valid
+pub header_of-header-requires : goal.header_of-header-requires
+header_of-header-requires c = c.in_ok-body.ensures.valid
 
 pub automaton-requires-clause-parts : goal.automaton-requires-clause-parts
 automaton-requires-clause-parts c = built_parts (written c.args.raw) c.header_of-header.result c.in_ok-body.body c.header_of-header.ensures c.in_ok-body.ensures

@@ -1,6 +1,7 @@
 use Rattle.std.proofs.Common.{◌∙◌, ◌<◌, All, List, ap, arith, length, map, subst, sym}
 use Rattle.std.proofs.lemmas.List.{length-map}
 use Rattle.std.specs.List.Sorted.{IsStrictlyIncreasing}
+use Rattle.aut_base.proofs.Outcomes.{passed_on}
 use Rattle.aut_base.specs.declared.limit.TheConstants.{MOST_NODES}
 use Rattle.safra_trees.proofs.flat_step.Placed.{stored_root}
 use Rattle.safra_trees.proofs.flat_step.Sight.{IsSmall, is_sight, moves_seen, pruned_below, small_event, small_of, small_step, states_seen}
@@ -48,7 +49,7 @@ pub named_tree-requires-clause-rises : goal.named_tree-requires-clause-rises
 named_tree-requires-clause-rises c = subst IsStrictlyIncreasing (sym c.as_slice-seen.ensures) c.in_ok-sight.ensures.rises
 
 pub named_tree-requires-clause-below : goal.named_tree-requires-clause-below
-named_tree-requires-clause-below c = subst (λ n. All (λ s. s < n) (root_states (tree_of c.in-Ok.found.0))) c.count_of.ensures.is c.in-Ok.ensures.states
+named_tree-requires-clause-below c = subst (λ n. All (λ s. s < n) (root_states (tree_of c.in_ok-found.found.0))) c.count_of.ensures.is c.in_ok-found.ensures.states
 
 -- what is stepped stands for the tree and the moves
 small : (c : In_ok-few) → IsSmall c.as_slice-seen.result.now c.args.moves.now (tree_of c.args.tree.now) c.in_ok-few.few (tree_of c.in_ok-small.small)
@@ -59,32 +60,32 @@ small c =
     c.in_ok-few.few few.parents few.states few.places tree.stored few.stored c.in_ok-sight.ensures c.as_slice.ensures c.as_slice-2.ensures c.as_slice-seen.ensures c.in_ok-few.ensures.within
     c.in_ok-few.ensures.are c.as_slice-3.ensures c.in_ok-small.ensures.below c.in_ok-small.ensures.are
 
-pub returns-in-Ok-clause-tree : goal.returns-in-Ok-clause-tree
-returns-in-Ok-clause-tree c = λ n are. (
+pub returns-clause-tree : goal.returns-clause-tree
+returns-clause-tree c = λ n are. (
     let sight = c.as_slice-seen.result.now in
     let t = tree_of c.in_ok-small.small in
-    c.in_ok-named.ensures ∙ (ap (map (node_by (at sight))) (c.in-Ok.ensures.tree ∙ ap (λ k. pruned (grown k c.in_ok-few.few t)) c.count_of.ensures.is)
-    ∙ sym (small_step sight c.args.moves.now (tree_of c.args.tree.now) c.in_ok-few.few t (small (goal.at.returns-in-Ok-clause-tree c).In_ok-few) n are)))
+    c.in_ok-named.ensures ∙ (ap (map (node_by (at sight))) (c.in_ok-found.ensures.tree ∙ ap (λ k. pruned (grown k c.in_ok-few.few t)) c.count_of.ensures.is)
+    ∙ sym (small_step sight c.args.moves.now (tree_of c.args.tree.now) c.in_ok-few.few t (small (goal.at.returns-clause-tree c).In_ok-few) n are)))
 
-pub returns-in-Ok-clause-states : goal.returns-in-Ok-clause-states
-returns-in-Ok-clause-states c = λ n are. (
-    let is = returns-in-Ok-clause-tree c n are in
+pub returns-clause-states : goal.returns-clause-states
+returns-clause-states c = λ n are. (
+    let is = returns-clause-tree c n are in
     subst (λ t. All (λ s. s < n) (root_states t)) (sym is) (pruned_below (grown n c.args.moves.now (tree_of c.args.tree.now))))
 
-pub returns-in-Ok-clause-event : goal.returns-in-Ok-clause-event
-returns-in-Ok-clause-event c = λ n are. (
+pub returns-clause-event : goal.returns-clause-event
+returns-clause-event c = λ n are. (
     let t = tree_of c.in_ok-small.small in
-    c.in-Ok.ensures.event ∙ (ap (λ k. event_of k c.in_ok-few.few t) c.count_of.ensures.is
-    ∙ sym (small_event c.as_slice-seen.result.now c.args.moves.now (tree_of c.args.tree.now) c.in_ok-few.few t (small (goal.at.returns-in-Ok-clause-event c).In_ok-few) n are)))
+    c.in_ok-found.ensures.event ∙ (ap (λ k. event_of k c.in_ok-few.few t) c.count_of.ensures.is
+    ∙ sym (small_event c.as_slice-seen.result.now c.args.moves.now (tree_of c.args.tree.now) c.in_ok-few.few t (small (goal.at.returns-clause-event c).In_ok-few) n are)))
 
-pub returns-in-Ok-clause-few : goal.returns-in-Ok-clause-few
-returns-in-Ok-clause-few c = omega (arith, ap length c.in_ok-named.ensures, length-map (tree_of c.in-Ok.found.0) (node_by (at c.as_slice-seen.result.now)), c.in-Ok.ensures.few)
+pub returns-clause-few : goal.returns-clause-few
+returns-clause-few c = omega (arith, ap length c.in_ok-named.ensures, length-map (tree_of c.in_ok-found.found.0) (node_by (at c.as_slice-seen.result.now)), c.in_ok-found.ensures.few)
 
-pub returns-in-Err-clause-nodes : goal.returns-in-Err-clause-nodes
-returns-in-Err-clause-nodes c = λ is n are. (
+pub returns-in_err-found-clause-nodes : goal.returns-in_err-found-clause-nodes
+returns-in_err-found-clause-nodes c = λ is n are. (
     let sight = c.as_slice-seen.result.now in
     let t = tree_of c.in_ok-small.small in
     let left = pruned (grown (length sight) c.in_ok-few.few t) in
-    let many : MOST_NODES < length left = subst (λ k. MOST_NODES < length (pruned (grown k c.in_ok-few.few t))) c.count_of.ensures.is (c.in-Err.ensures.nodes is) in
-    let same = small_step sight c.args.moves.now (tree_of c.args.tree.now) c.in_ok-few.few t (small (goal.at.returns-in-Err-clause-nodes c).In_ok-few) n are in
+    let many : MOST_NODES < length left = subst (λ k. MOST_NODES < length (pruned (grown k c.in_ok-few.few t))) c.count_of.ensures.is (c.in_err-found.ensures.nodes (passed_on c.from_residual-in_err-found.result _ _ c.from_residual-in_err-found.ensures.1 is)) in
+    let same = small_step sight c.args.moves.now (tree_of c.args.tree.now) c.in_ok-few.few t (small (goal.at.returns-in_err-found-clause-nodes c).In_ok-few) n are in
     omega (arith, many, ap length same, length-map left (node_by (at sight))))
