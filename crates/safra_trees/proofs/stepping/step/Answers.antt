@@ -86,6 +86,7 @@ returns-in_err-found-clause-nodes c = λ is n are. (
     let sight = c.as_slice-seen.result.now in
     let t = tree_of c.in_ok-small.small in
     let left = pruned (grown (length sight) c.in_ok-few.few t) in
-    let many : MOST_NODES < length left = subst (λ k. MOST_NODES < length (pruned (grown k c.in_ok-few.few t))) c.count_of.ensures.is (c.in_err-found.ensures.nodes (passed_on c.from_residual-in_err-found.result _ _ c.from_residual-in_err-found.ensures.1 is)) in
+    let told = passed_on c.from_residual-in_err-found.result _ _ c.from_residual-in_err-found.ensures.1 is in
+    let many : MOST_NODES < length left = subst (λ k. MOST_NODES < length (pruned (grown k c.in_ok-few.few t))) c.count_of.ensures.is (c.in_err-found.ensures.nodes told) in
     let same = small_step sight c.args.moves.now (tree_of c.args.tree.now) c.in_ok-few.few t (small (goal.at.returns-in_err-found-clause-nodes c).In_ok-few) n are in
     omega (arith, many, ap length same, length-map left (node_by (at sight))))
