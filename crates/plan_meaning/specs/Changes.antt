@@ -28,7 +28,7 @@ use Rattle.fin_removal.specs.Copies.{HasTooManyTerms, without_fin}
 use Rattle.monitor_form.specs.Subsets.{IsMonitor, MeetsLimit}
 use Rattle.parity_det.specs.Complements.{IsComplementOf}
 use Rattle.parity_det.specs.Determinisation.{IsParityOf}
-use Rattle.plan_meaning.specs.Limits.{PassesOfBoth, PassesOfEither, PassesOfSum, PassesParity, PassesUnlessDeterministic}
+use Rattle.plan_meaning.specs.Limits.{PassesOfBoth, PassesOfEither, PassesOfSum, PassesParity, PassesUnlessDeterministic, limits_of_parity, limits_of_product}
 use Rattle.plan_meaning.specs.Operands.{operand_at, place_of_product, place_of_product_or, place_of_sum}
 use Rattle.plan_meaning.specs.Standing.{those_standing}
 use Rattle.plan_meaning.specs.declared.fault.PlanFault.{PlanFault}
@@ -111,6 +111,26 @@ PassesIn which Trim a = ⊥
 PassesIn which Complement a = PassesUnlessDeterministic which a
 PassesIn which (Bring f) a = PassesForm which f a
 PassesIn which Complete a = ⊥
+
+-- the limits that a change may pass: it passes none of the others
+abbrev pub limits_of_form : Form → List Limit
+limits_of_form form.AsIs = []
+limits_of_form form.Deterministic = limits_of_parity
+limits_of_form form.Parity = limits_of_parity
+limits_of_form form.Buchi = limit.Terms ∷ limit.BuchiStates ∷ []
+limits_of_form form.RemoveFin = limit.Terms ∷ []
+limits_of_form form.Dnf = limit.Terms ∷ []
+limits_of_form form.Monitor = limit.Terms ∷ limit.BuchiStates ∷ limit.Classes ∷ limit.Subsets ∷ []
+
+abbrev pub limits_of_change : Change → List Limit
+limits_of_change (Product b) = limits_of_product
+limits_of_change (ProductOr b) = limits_of_product
+limits_of_change (Sum b) = limit.Names ∷ []
+limits_of_change (RemoveAp h) = []
+limits_of_change Trim = []
+limits_of_change Complement = limits_of_parity
+limits_of_change (Bring f) = limits_of_form f
+limits_of_change Complete = []
 
 -- ---- the changes of a plan
 

@@ -6,13 +6,14 @@ use Rattle.std.specs.Option.{option_map}
 use Rattle.aut_base.specs.Automaton.{Automaton}
 use Rattle.aut_base.specs.CanonicalLabel.{canonical}
 use Rattle.aut_base.specs.declared.limit.Limit.{Limit}
+use Rattle.aut_base.specs.declared.limit.Limit.TheVariants as limit
 use Rattle.aut_core.specs.Deterministic as core
 use Rattle.aut_core.specs.OtherNames.{AcceptTheSame}
 use Rattle.filter_plan.specs.Spans.{IsIn}
 use Rattle.filter_plan.specs.declared.plan.Plan.{Plan}
 use Rattle.filter_plan.specs.declared.range.Range.{Range}
 use Rattle.lasso_emptiness.specs.Emptiness.{AcceptsNothing}
-use Rattle.plan_meaning.specs.Limits.{IsIncluded, PassesOfBoth, PassesOfEquivalence, PassesOfInclusion, PassesOfSquare, PassesOfWord}
+use Rattle.plan_meaning.specs.Limits.{IsIncluded, PassesOfBoth, PassesOfEquivalence, PassesOfInclusion, PassesOfSquare, PassesOfWord, limits_of_inclusion, limits_of_product}
 use Rattle.plan_meaning.specs.Operands.{operand_at, place_of_equivalent_to, place_of_included_in, place_of_intersect}
 use Rattle.plan_meaning.specs.Standing.{those_standing}
 use Rattle.plan_meaning.specs.declared.fault.PlanFault.{PlanFault}
@@ -69,6 +70,22 @@ Passes which (States r) a = ⊥
 Passes which (Edges r) a = ⊥
 Passes which (Sets r) a = ⊥
 Passes which (Names r) a = ⊥
+
+-- the limits that a filter may pass: it passes none of the others
+abbrev pub limits_of_filter : Filter → List Limit
+limits_of_filter (AcceptsWord p) = limits_of_product
+limits_of_filter (RejectsWord p) = limits_of_product
+limits_of_filter IsEmpty = []
+limits_of_filter (IncludedIn b) = limits_of_inclusion
+limits_of_filter (EquivalentTo b) = limits_of_inclusion
+limits_of_filter (Intersects b) = limits_of_product
+limits_of_filter IsDeterministic = []
+limits_of_filter IsComplete = []
+limits_of_filter IsUnambiguous = limit.Pairs ∷ []
+limits_of_filter (States r) = []
+limits_of_filter (Edges r) = []
+limits_of_filter (Sets r) = []
+limits_of_filter (Names r) = []
 
 -- The filter is examined within all limits, and it holds, or doesn't.
 pub record HoldsWithin (f : Filter) (a : Automaton) : Type 0 where

@@ -1,11 +1,11 @@
 -- What the definitions amount to: a plan says one thing of each automaton.
-use Rattle.std.specs.Prelude.{◌≡◌, List}
+use Rattle.std.specs.Prelude.{◌≡◌, List, Contains}
 use Rattle.aut_base.specs.Automaton.{Automaton}
 use Rattle.aut_base.specs.declared.limit.Limit.{Limit}
 use Rattle.filter_plan.specs.declared.plan.Plan.{Plan}
-use Rattle.plan_meaning.specs.Changes.{Change, MakesAll, StopsIn, changes_of}
-use Rattle.plan_meaning.specs.Filters.{IsDropped, IsKept, IsOverFilters}
-use Rattle.plan_meaning.specs.Limits.{PassesOfInclusion}
+use Rattle.plan_meaning.specs.Changes.{Change, MakesAll, PassesIn, StopsIn, changes_of, limits_of_change}
+use Rattle.plan_meaning.specs.Filters.{Filter, IsDropped, IsKept, IsOverFilters, Passes, limits_of_filter}
+use Rattle.plan_meaning.specs.Limits.{PassesOfInclusion, limits_of_inclusion}
 
 -- the verdict on an automaton
 pub data Verdict : Type 0 where
@@ -29,6 +29,12 @@ SomeVerdict = (p : Plan) (ops : List Automaton) (a : Automaton) → ((v : Verdic
 -- Where two automata are compared, no more than one limit is passed.
 abbrev pub OneLimitOfInclusion : Type 0
 OneLimitOfInclusion = (which other : Limit) (a b : Automaton) → PassesOfInclusion which a b → PassesOfInclusion other a b → which ≡ other
+
+-- A filter passes no limits but those of its list, and neither does a change, nor the comparison of two automata.
+pub record PassTheirOwn : Type 0 where
+  pub filter : (f : Filter) (which : Limit) (a : Automaton) → Passes which f a → Contains (limits_of_filter f) which
+  pub change : (c : Change) (which : Limit) (a : Automaton) → PassesIn which c a → Contains (limits_of_change c) which
+  pub inclusion : (which : Limit) (a b : Automaton) → PassesOfInclusion which a b → Contains limits_of_inclusion which
 
 -- Changes make no more than one automaton, or else pass no more than one limit.
 pub record AreDetermined (cs : List Change) (a : Automaton) : Type 0 where

@@ -1,6 +1,6 @@
 -- Which limit is passed where an automaton is determinised, and where two are put together or compared: the first of these
 -- whose count is more than its number.
-use Rattle.std.specs.Prelude.{◌≡◌, ◌⊎◌, ◌<◌, ◌≤◌, List, length}
+use Rattle.std.specs.Prelude.{◌≡◌, ◌⊎◌, ◌<◌, ◌≤◌, List, [], ◌∷◌, ◌++◌, length}
 use Rattle.aut_base.specs.Acceptance.{Accepts}
 use Rattle.aut_base.specs.Automaton.{Automaton}
 use Rattle.aut_base.specs.CanonicalLabel.{canonical}
@@ -17,6 +17,19 @@ use Rattle.parity_det.specs.Complements.{IsComplementOf}
 use Rattle.parity_det.specs.declared.fault.CompFault.TheVariants as comp
 use Rattle.word_syntax.specs.Grammar.{WordPattern}
 use Rattle.word_syntax.specs.Matching.{word_automaton}
+
+-- ---- the limits that there are: of two automata put together, of one determinised, and of two compared
+
+abbrev pub limits_of_product : List Limit
+limits_of_product = limit.Names ∷ limit.Pairs ∷ []
+
+abbrev pub limits_of_parity : List Limit
+limits_of_parity = limit.Terms ∷ limit.BuchiStates ∷ limit.Trees ∷ limit.Nodes ∷ limit.Classes ∷ []
+
+abbrev pub limits_of_inclusion : List Limit
+limits_of_inclusion = limits_of_parity ++ limits_of_product
+
+-- ---- when one is passed
 
 -- together they have more names than an automaton may have
 abbrev pub HaveManyNames : Automaton → Automaton → Type 0

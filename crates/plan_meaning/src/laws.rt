@@ -1,6 +1,6 @@
 //! What holds of the verdict on an automaton.
 
-ghost use Rattle.plan_meaning.specs.Laws.{OneLimitOfInclusion, OneVerdict, SomeVerdict};
+ghost use Rattle.plan_meaning.specs.Laws.{OneLimitOfInclusion, OneVerdict, PassTheirOwn, SomeVerdict};
 
 /// There is no more than one verdict on an automaton, and where it is compared with another no more than one limit is passed.
 pub fn one_verdict()
@@ -11,4 +11,9 @@ pub fn one_verdict()
 /// There is no automaton on which there is no verdict.
 pub fn some_verdict()
     ensures { SomeVerdict }
+{}
+
+/// No limits are passed but those that are listed for a filter, a change and the comparison of two automata.
+pub fn only_own_limits()
+    ensures { PassTheirOwn }
 {}

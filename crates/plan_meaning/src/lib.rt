@@ -21,6 +21,6 @@ pub use changing::change;
 pub use complements::Complements;
 pub use fault::PlanFault;
 pub use judging::judge;
-pub use laws::{one_verdict, some_verdict};
+pub use laws::{one_verdict, only_own_limits, some_verdict};
 pub use operands::Automata;
 pub use refuting::{Refutation, refute};
