@@ -2,7 +2,6 @@
 pub mod Shorter
 pub mod Examined
 pub mod Stopping
-pub mod PlanLimits
 pub mod Found
 mod GoodOperands
 mod Openings

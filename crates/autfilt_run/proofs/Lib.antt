@@ -1,3 +1,3 @@
-mod handling
+pub mod handling
 pub mod printing
 pub mod turns

@@ -1,6 +1,7 @@
 -- What ends a session but its work: which fault of a crate below becomes which.
 use Rattle.aut_base.specs.declared.fault.OpenFail.{OpenFail}
 use Rattle.aut_base.specs.declared.fault.OpenFail.TheVariants as opening
+use Rattle.aut_base.specs.declared.limit.Limit.{Limit}
 use Rattle.aut_base.specs.declared.limit.Limit.TheVariants as limit
 use Rattle.autfilt_run.specs.declared.fault.RunFault.{RunFault}
 use Rattle.autfilt_run.specs.declared.fault.RunFault.TheVariants as fault
@@ -35,25 +36,40 @@ abbrev pub fault_of_plan : PlanFault → RunFault
 fault_of_plan (asked.Limit which) = fault.Limit which
 fault_of_plan asked.Memory = fault.Memory
 
+-- When a limit is told: at a token that opens one more than may be open, where one byte more is asked for than may be taken, or of
+-- an automaton that was read whole.
+pub data Told : Type 0 where
+  AtToken : Told
+  AtByte : Told
+  OfWhole : Told
+
+abbrev pub when_told : Limit → Told
+when_told limit.Names = OfWhole
+when_told limit.Sets = OfWhole
+when_told limit.States = OfWhole
+when_told limit.Edges = OfWhole
+when_told limit.Aliases = OfWhole
+when_told limit.Depth = AtToken
+when_told limit.Bytes = AtByte
+when_told limit.Terms = OfWhole
+when_told limit.BuchiStates = OfWhole
+when_told limit.Trees = OfWhole
+when_told limit.Nodes = OfWhole
+when_told limit.Classes = OfWhole
+when_told limit.Subsets = OfWhole
+when_told limit.Pairs = OfWhole
+
 -- Where a fault comes, as to the limit of bytes: it is told exactly where one byte more is asked for when that many were
 -- taken, and the end of a text is met by asking, too.
+abbrev pub stop_of_limit : Told → Stop
+stop_of_limit AtToken = Elsewhere
+stop_of_limit AtByte = AtMost
+stop_of_limit OfWhole = Elsewhere
+
 abbrev pub stop_of_fault : RunFault → Stop
 stop_of_fault fault.Truncated = AtEnd
 stop_of_fault fault.ReadFault = AtFault
-stop_of_fault (fault.Limit limit.Names) = Elsewhere
-stop_of_fault (fault.Limit limit.Sets) = Elsewhere
-stop_of_fault (fault.Limit limit.States) = Elsewhere
-stop_of_fault (fault.Limit limit.Edges) = Elsewhere
-stop_of_fault (fault.Limit limit.Aliases) = Elsewhere
-stop_of_fault (fault.Limit limit.Depth) = Elsewhere
-stop_of_fault (fault.Limit limit.Bytes) = AtMost
-stop_of_fault (fault.Limit limit.Terms) = Elsewhere
-stop_of_fault (fault.Limit limit.BuchiStates) = Elsewhere
-stop_of_fault (fault.Limit limit.Trees) = Elsewhere
-stop_of_fault (fault.Limit limit.Nodes) = Elsewhere
-stop_of_fault (fault.Limit limit.Classes) = Elsewhere
-stop_of_fault (fault.Limit limit.Subsets) = Elsewhere
-stop_of_fault (fault.Limit limit.Pairs) = Elsewhere
+stop_of_fault (fault.Limit which) = stop_of_limit (when_told which)
 stop_of_fault (fault.SyntaxAt k) = Elsewhere
 stop_of_fault (fault.Invalid rule) = Elsewhere
 stop_of_fault fault.CannotOpen = Elsewhere

@@ -2,10 +2,9 @@
 use Rattle.std.specs.Prelude.{◌≡◌, ℕ, ◌+◌, ◌≤◌, ◌⊎◌, true, false, List, [], ◌∷◌, Option, Some, None}
 use Rattle.aut_base.specs.Automaton.{Automaton}
 use Rattle.aut_base.specs.declared.limit.Limit.{Limit}
-use Rattle.aut_base.specs.declared.limit.Limit.TheVariants as limit
 use Rattle.aut_base.specs.declared.limit.TheConstants.{MOST_BYTES}
 use Rattle.autfilt_run.specs.Events.{Point, Stream, place}
-use Rattle.autfilt_run.specs.Faults.{stop_of_fault}
+use Rattle.autfilt_run.specs.Faults.{Told, AtToken, AtByte, OfWhole, stop_of_fault, when_told}
 use Rattle.autfilt_run.specs.Over.{IsOver}
 use Rattle.autfilt_run.specs.Plans.{asks_on}
 use Rattle.autfilt_run.specs.declared.fault.RunFault.{RunFault}
@@ -55,14 +54,18 @@ WantsMemory start rest left = ((held : Option ℕ) × MayHaveBegun start rest (u
 abbrev pub IsAllRead : List ℕ → List ℕ → Type 0
 IsAllRead rest left = IsBlanks rest × (left ≡ [])
 
+-- A limit is passed that is told then. `passes` is what there is to say of an automaton that was read whole.
+abbrev pub StopsAtLimit : Told → (Written → Type 0) → ℕ → List ℕ → List ℕ → Type 0
+StopsAtLimit AtToken passes start rest left = IsTooDeep start rest left
+StopsAtLimit AtByte passes start rest left = AsksOn start rest left
+StopsAtLimit OfWhole passes start rest left = StandsWith passes start rest left
+
 -- `over` tells which limits are passed behind the reader.
 abbrev pub StopsAt : (Limit → Written → Type 0) → RunFault → ℕ → List ℕ → List ℕ → Type 0
 StopsAt over (fault.SyntaxAt k) start rest left = IsSyntaxFault k start rest left
 StopsAt over fault.Truncated start rest left = IsTruncated start rest left
 StopsAt over (fault.Invalid rule) start rest left = StandsWith (IsFirstBroken rule) start rest left
-StopsAt over (fault.Limit limit.Depth) start rest left = IsTooDeep start rest left
-StopsAt over (fault.Limit limit.Bytes) start rest left = AsksOn start rest left
-StopsAt over (fault.Limit which) start rest left = StandsWith (λ w. PassesLimit which w ⊎ over which w) start rest left
+StopsAt over (fault.Limit which) start rest left = StopsAtLimit (when_told which) (λ w. PassesLimit which w ⊎ over which w) start rest left
 StopsAt over fault.ReadFault start rest left = AsksOn start rest left
 StopsAt over fault.Memory start rest left = WantsMemory start rest left
 StopsAt over fault.CannotOpen start rest left = ⊥

@@ -1,5 +1,5 @@
 -- No limits are passed but those that are listed.
-use Rattle.std.proofs.Common.{◌≡◌, ◌⊎◌, Contains, inl, inr, refl, sym, arith}
+use Rattle.std.proofs.Common.{Contains, inl, inr, refl, sym, arith}
 use Rattle.std.proofs.lemmas.List.Elements.{Contains-append_left, Contains-append_right}
 use Rattle.aut_base.specs.Automaton.{Automaton}
 use Rattle.aut_base.specs.CanonicalLabel.{canonical}
@@ -61,17 +61,11 @@ of_equivalence which a b (inr h) = of_inclusion which b a h.2
 of_filter : (f : Filter) (which : Limit) (a : Automaton) → Passes which f a → Contains (limits_of_filter f) which
 of_filter (filter.AcceptsWord p) which a h = of_word which (canonical a) p h
 of_filter (filter.RejectsWord p) which a h = of_word which (canonical a) p h
-of_filter filter.IsEmpty which a h = absurd h
 of_filter (filter.IncludedIn b) which a h = of_inclusion which (canonical a) b h
 of_filter (filter.EquivalentTo b) which a h = of_equivalence which (canonical a) b h
 of_filter (filter.Intersects b) which a h = of_both which (canonical a) b h
-of_filter filter.IsDeterministic which a h = absurd h
-of_filter filter.IsComplete which a h = absurd h
 of_filter filter.IsUnambiguous which a h = of_square which (canonical a) h
-of_filter (filter.States r) which a h = absurd h
-of_filter (filter.Edges r) which a h = absurd h
-of_filter (filter.Sets r) which a h = absurd h
-of_filter (filter.Names r) which a h = absurd h
+of_filter _ which a h = absurd h
 
 -- ---- of a change
 
@@ -96,23 +90,21 @@ of_monitor limit.Subsets a h = (3, omega arith, refl)
 of_monitor _ a h = absurd h
 
 of_form : (f : Form) (which : Limit) (a : Automaton) → PassesForm which f a → Contains (limits_of_form f) which
-of_form form.AsIs which a h = absurd h
 of_form form.Deterministic which a h = of_parity which a h.1
 of_form form.Parity which a h = of_parity which a h
 of_form form.Buchi which a h = of_buchi which a h
 of_form form.RemoveFin which a h = of_fin which a h
 of_form form.Dnf which a h = of_dnf which a h
 of_form form.Monitor which a h = of_monitor which a h
+of_form _ which a h = absurd h
 
 of_change : (c : Change) (which : Limit) (a : Automaton) → PassesIn which c a → Contains (limits_of_change c) which
 of_change (change.Product b) which a h = of_both which a b h
 of_change (change.ProductOr b) which a h = of_either which a b h
 of_change (change.Sum b) which a h = of_sum which a b h
-of_change (change.RemoveAp x) which a h = absurd h
-of_change change.Trim which a h = absurd h
 of_change change.Complement which a h = of_parity which a h.1
 of_change (change.Bring f) which a h = of_form f which a h
-of_change change.Complete which a h = absurd h
+of_change _ which a h = absurd h
 
 pub only_own_limits : PassTheirOwn
 only_own_limits = record { filter = of_filter; change = of_change; inclusion = of_inclusion }

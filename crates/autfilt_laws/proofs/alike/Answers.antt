@@ -4,8 +4,6 @@ use Rattle.autfilt_laws.proofs.alike.LeftBehind.{IsLeftBehind, one_left_behind}
 use Rattle.autfilt_laws.proofs.alike.SamePlans.{same_plan_ended, same_plan_left}
 use Rattle.autfilt_laws.specs.Answers.{AnswerCompletes, Answered, IsByTexts, IsDecided, OneAnswer}
 use Rattle.aut_base.specs.Automaton.{Automaton}
-use Rattle.aut_base.specs.declared.limit.Limit.{Limit}
-use Rattle.aut_base.specs.declared.limit.Limit.TheVariants as limit
 use Rattle.aut_io.specs.Outside.{Gains, Texts}
 use Rattle.aut_io.specs.Seen.{Seen, SinkSeen}
 use Rattle.autfilt_command.specs.Ends.{ended_of}
@@ -30,10 +28,6 @@ use Rattle.made_stream.specs.Made.{made_texts}
 
 -- ---- the end, by the answer
 
-by_limit : (which : Limit) → IsByTexts (ended.Limit which) → IsByText (end.Fault (fault.Limit which))
-by_limit limit.Bytes h = tt
-by_limit _ h = tt
-
 by_end : (e : End) → IsByTexts (ended_of e) → IsByText e
 by_end end.Output h = tt
 by_end end.NoneOutput h = tt
@@ -42,7 +36,7 @@ by_end end.Usage h = absurd h
 by_end (end.Fault (fault.SyntaxAt k)) h = tt
 by_end (end.Fault fault.Truncated) h = tt
 by_end (end.Fault (fault.Invalid rule)) h = tt
-by_end (end.Fault (fault.Limit which)) h = by_limit which h
+by_end (end.Fault (fault.Limit which)) h = tt
 by_end (end.Fault fault.CannotOpen) h = absurd h
 by_end (end.Fault fault.ReadFault) h = absurd h
 by_end (end.Fault fault.WriteFault) h = absurd h

@@ -1,5 +1,5 @@
 -- Where what stands in a text ended a run, the name in hand is one, and so is what is left.
-use Rattle.std.proofs.Common.{◌≡◌, ℕ, true, List, [], Option, Some, refl, sym, ap, ◌∙◌, subst, inl, inr}
+use Rattle.std.proofs.Common.{◌≡◌, ◌⊎◌, ℕ, true, List, [], Option, Some, refl, sym, ap, ◌∙◌, subst, inl, inr}
 use Rattle.aut_base.specs.Automaton.{Automaton}
 use Rattle.aut_base.specs.declared.limit.Limit.{Limit}
 use Rattle.aut_base.specs.declared.limit.Limit.TheVariants as limit
@@ -11,10 +11,12 @@ use Rattle.autfilt_laws.proofs.alike.BadPlaces.{one_bad_place}
 use Rattle.autfilt_laws.proofs.alike.Full.{IsFitted, full_same}
 use Rattle.autfilt_laws.proofs.alike.Looks.{one_stream, whole_is}
 use Rattle.autfilt_laws.specs.Runs.{IsByText, TellsName}
+use Rattle.autfilt_run.proofs.handling.PassedLimits.{told_bytes}
 use Rattle.autfilt_run.specs.Events.{Point, Stream, place}
+use Rattle.autfilt_run.specs.Faults.{Told, AtToken, AtByte, OfWhole, when_told}
 use Rattle.autfilt_run.specs.Over.{IsOver}
 use Rattle.autfilt_run.specs.Plans.{asks_on}
-use Rattle.autfilt_run.specs.Runs.{AtNamed, IsCounted, StandsWith, StopsAt, StopsAtOperand, StopsInOperands, StopsWhere}
+use Rattle.autfilt_run.specs.Runs.{AtNamed, IsCounted, StandsWith, StopsAt, StopsAtLimit, StopsAtOperand, StopsInOperands, StopsWhere}
 use Rattle.autfilt_run.specs.declared.fault.RunFault.{RunFault}
 use Rattle.autfilt_run.specs.declared.fault.RunFault.TheVariants as fault
 use Rattle.filter_plan.specs.declared.plan.Plan.{Plan}
@@ -23,6 +25,7 @@ use Rattle.hoa_parser.specs.Raw.{Written}
 use Rattle.hoa_parser.specs.Reads.{AsksOn}
 use Rattle.hoa_parser.specs.Standing as standing
 use Rattle.hoa_parser.specs.Standing.{OneStanding}
+use Rattle.hoa_reader.specs.Elaborating.{PassesLimit}
 
 -- the run stands in the file of the name in hand
 pub at_named : (on : Type 0) (stops : RunFault → ℕ → List ℕ → List ℕ → Type 0) (f : RunFault) (name : List ℕ) (p : Point) (left : Option (List ℕ))
@@ -44,6 +47,12 @@ one_behind one P start rest x y a b =
     let is = one start rest (standing.Whole a.automaton x) (standing.Whole b.automaton y) a.whole b.whole in
     (whole_is a.automaton b.automaton x y is).1
 
+-- where a limit is told
+one_at_limit : OneStanding → (P : Written → Type 0) (t : Told) (start : ℕ) (rest x y : List ℕ) → (t ≡ AtByte → x ≡ y) → StopsAtLimit t P start rest x → StopsAtLimit t P start rest y → x ≡ y
+one_at_limit one P AtToken start rest x y full a b = one_deep_end start rest x y a.ends b.ends
+one_at_limit one P AtByte start rest x y full a b = full refl
+one_at_limit one P OfWhole start rest x y full a b = one_behind one P start rest x y a b
+
 -- how a run may stop at this fault, of one text
 abbrev IsOneLeft : (RunFault → ℕ → List ℕ → List ℕ → Type 0) → RunFault → Type 0
 IsOneLeft stops f =
@@ -53,20 +62,8 @@ one_left : OneStanding → (over : Limit → Written → Type 0) (f : RunFault) 
 one_left one over (fault.SyntaxAt k) by start rest x y full a b = one_bad_place k start rest x y a b
 one_left one over fault.Truncated by start rest x y full a b = a.nothing ∙ sym b.nothing
 one_left one over (fault.Invalid rule) by start rest x y full a b = one_behind one _ start rest x y a b
-one_left one over (fault.Limit limit.Depth) by start rest x y full a b = one_deep_end start rest x y a.ends b.ends
-one_left one over (fault.Limit limit.Bytes) by start rest x y full a b = full refl
-one_left one over (fault.Limit limit.Names) by start rest x y full a b = one_behind one _ start rest x y a b
-one_left one over (fault.Limit limit.Sets) by start rest x y full a b = one_behind one _ start rest x y a b
-one_left one over (fault.Limit limit.States) by start rest x y full a b = one_behind one _ start rest x y a b
-one_left one over (fault.Limit limit.Edges) by start rest x y full a b = one_behind one _ start rest x y a b
-one_left one over (fault.Limit limit.Aliases) by start rest x y full a b = one_behind one _ start rest x y a b
-one_left one over (fault.Limit limit.Terms) by start rest x y full a b = one_behind one _ start rest x y a b
-one_left one over (fault.Limit limit.BuchiStates) by start rest x y full a b = one_behind one _ start rest x y a b
-one_left one over (fault.Limit limit.Trees) by start rest x y full a b = one_behind one _ start rest x y a b
-one_left one over (fault.Limit limit.Nodes) by start rest x y full a b = one_behind one _ start rest x y a b
-one_left one over (fault.Limit limit.Classes) by start rest x y full a b = one_behind one _ start rest x y a b
-one_left one over (fault.Limit limit.Subsets) by start rest x y full a b = one_behind one _ start rest x y a b
-one_left one over (fault.Limit limit.Pairs) by start rest x y full a b = one_behind one _ start rest x y a b
+one_left one over (fault.Limit which) by start rest x y full a b =
+    one_at_limit one (λ w. PassesLimit which w ⊎ over which w) (when_told which) start rest x y (λ is. full (ap fault.Limit (told_bytes which is))) a b
 one_left one over fault.CannotOpen by start rest x y full a b = absurd by
 one_left one over fault.ReadFault by start rest x y full a b = absurd by
 one_left one over fault.WriteFault by start rest x y full a b = absurd by

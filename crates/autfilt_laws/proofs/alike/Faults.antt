@@ -8,8 +8,10 @@ use Rattle.autfilt_laws.proofs.alike.Full.{IsFitted, IsFull, full_apart, full_ap
 use Rattle.autfilt_laws.proofs.alike.Limits.{no_count, one_limit}
 use Rattle.autfilt_laws.proofs.alike.Looks.{Look, one_standing_in}
 use Rattle.autfilt_laws.specs.Runs.{IsByText}
+use Rattle.autfilt_run.proofs.handling.PassedLimits.{told_bytes, told_depth}
 use Rattle.autfilt_run.specs.Events.{Point, Stream, place}
-use Rattle.autfilt_run.specs.Runs.{AtStream, IsCounted, StandsWith, StopsAt, StopsAtOperand}
+use Rattle.autfilt_run.specs.Faults.{Told, AtToken, AtByte, OfWhole, when_told}
+use Rattle.autfilt_run.specs.Runs.{AtStream, IsCounted, StandsWith, StopsAt, StopsAtLimit, StopsAtOperand}
 use Rattle.autfilt_run.specs.declared.fault.RunFault.{RunFault}
 use Rattle.autfilt_run.specs.declared.fault.RunFault.TheVariants as fault
 use Rattle.hoa_parser.specs.Raw.{Written}
@@ -104,25 +106,19 @@ record Shown (a : Asking) (start : ℕ) (rest : List ℕ) (f : RunFault) : Type 
 past : (a : Asking) (which : Limit) (start : ℕ) (rest left : List ℕ) → StandsWith (λ w. PassesLimit which w ⊎ a.over which w) start rest left → Shown a start rest (fault.Limit which)
 past a which start rest left h = record { what = standing.Whole h.automaton left; stands = h.whole; fits = inr (which, refl, h.holds) }
 
+-- at a limit
+shown_at : (a : Asking) (which : Limit) (t : Told) (start : ℕ) (rest left : List ℕ) → when_told which ≡ t → (t ≡ AtByte → ⊥)
+    → StopsAtLimit t (λ w. PassesLimit which w ⊎ a.over which w) start rest left → Shown a start rest (fault.Limit which)
+shown_at a which AtToken start rest left is none h = record { what = standing.Deep; stands = h.deep; fits = ap fault.Limit (told_depth which is) }
+shown_at a which AtByte start rest left is none h = absurd (none refl)
+shown_at a which OfWhole start rest left is none h = past a which start rest left h
+
 shown : (a : Asking) (f : RunFault) (start : ℕ) (rest left : List ℕ) → IsByText (end.Fault f) → (f ≡ fault.Limit limit.Bytes → ⊥) → StopsAt (λ which w. a.over which w) f start rest left
     → Shown a start rest f
 shown a (fault.SyntaxAt k) start rest left by other h = record { what = standing.Bad k; stands = h.bad; fits = refl }
 shown a fault.Truncated start rest left by other h = record { what = standing.Cut; stands = h.cut; fits = refl }
 shown a (fault.Invalid rule) start rest left by other h = record { what = standing.Whole h.automaton left; stands = h.whole; fits = inl (rule, refl, h.holds) }
-shown a (fault.Limit limit.Depth) start rest left by other h = record { what = standing.Deep; stands = h.deep; fits = refl }
-shown a (fault.Limit limit.Bytes) start rest left by other h = absurd (other refl)
-shown a (fault.Limit limit.Names) start rest left by other h = past a limit.Names start rest left h
-shown a (fault.Limit limit.Sets) start rest left by other h = past a limit.Sets start rest left h
-shown a (fault.Limit limit.States) start rest left by other h = past a limit.States start rest left h
-shown a (fault.Limit limit.Edges) start rest left by other h = past a limit.Edges start rest left h
-shown a (fault.Limit limit.Aliases) start rest left by other h = past a limit.Aliases start rest left h
-shown a (fault.Limit limit.Terms) start rest left by other h = past a limit.Terms start rest left h
-shown a (fault.Limit limit.BuchiStates) start rest left by other h = past a limit.BuchiStates start rest left h
-shown a (fault.Limit limit.Trees) start rest left by other h = past a limit.Trees start rest left h
-shown a (fault.Limit limit.Nodes) start rest left by other h = past a limit.Nodes start rest left h
-shown a (fault.Limit limit.Classes) start rest left by other h = past a limit.Classes start rest left h
-shown a (fault.Limit limit.Subsets) start rest left by other h = past a limit.Subsets start rest left h
-shown a (fault.Limit limit.Pairs) start rest left by other h = past a limit.Pairs start rest left h
+shown a (fault.Limit which) start rest left by other h = shown_at a which (when_told which) start rest left refl (λ is. other (ap fault.Limit (told_bytes which is))) h
 shown a fault.CannotOpen start rest left by other h = absurd by
 shown a fault.ReadFault start rest left by other h = absurd by
 shown a fault.WriteFault start rest left by other h = absurd by

@@ -1,5 +1,5 @@
 -- Where as many bytes were taken as may be and one more is asked for, nothing else ends a run, and nothing more happens.
-use Rattle.std.proofs.Common.{◌≡◌, ◌∙◌, ℕ, ◌+◌, ◌<◌, ◌≤◌, List, [], ◌∷◌, ◌++◌, length, Option, Some, None, ap, arith, inl, inr, length-append, refl, subst, sym}
+use Rattle.std.proofs.Common.{◌≡◌, ◌∙◌, ◌⊎◌, ℕ, ◌+◌, ◌<◌, ◌≤◌, List, [], ◌∷◌, ◌++◌, length, Option, Some, None, ap, arith, inl, inr, length-append, refl, subst, sym}
 use Rattle.aut_base.specs.declared.limit.Limit.{Limit}
 use Rattle.aut_base.specs.declared.limit.Limit.TheVariants as limit
 use Rattle.aut_base.specs.declared.limit.TheConstants.{MOST_BYTES}
@@ -10,15 +10,18 @@ use Rattle.autfilt_laws.proofs.alike.BadPlaces.{asked_leaves, no_earlier}
 use Rattle.autfilt_laws.proofs.alike.Looks.{one_stream}
 use Rattle.autfilt_laws.proofs.existence.Shorter.{aborted_less, whole_less}
 use Rattle.autfilt_laws.specs.Runs.{IsByText}
+use Rattle.autfilt_run.proofs.handling.PassedLimits.{told_bytes}
 use Rattle.autfilt_run.specs.Events.{Dropped, Ended, Event, Goes, Happen, Kept, Opened, Point, Skipped, Stream, place, read_on, start_of}
+use Rattle.autfilt_run.specs.Faults.{Told, AtToken, AtByte, OfWhole, when_told}
 use Rattle.autfilt_run.specs.OperandEvents.{AreRead, FileOpened, OperandEvent, PassedOver, Proceeds, Taken}
-use Rattle.autfilt_run.specs.Runs.{AtStream, IsCounted, StopsAt, StopsAtOperand, taken_in, taken_of}
+use Rattle.autfilt_run.specs.Runs.{AtStream, IsCounted, StopsAt, StopsAtLimit, StopsAtOperand, taken_in, taken_of}
 use Rattle.autfilt_run.specs.declared.fault.RunFault.{RunFault}
 use Rattle.autfilt_run.specs.declared.fault.RunFault.TheVariants as fault
 use Rattle.filter_plan.specs.declared.plan.Plan.{Plan}
 use Rattle.hoa_parser.specs.Raw.{Written}
 use Rattle.hoa_parser.specs.Reads.{AsksOn, EndsDeep, IsHopeless}
 use Rattle.hoa_parser.specs.Standing.{IsAborted, IsWhole}
+use Rattle.hoa_reader.specs.Elaborating.{PassesLimit}
 
 -- as many bytes were taken as may be, and one more is asked for
 pub record IsFull (p : Point) : Type 0 where
@@ -165,20 +168,12 @@ module _ (on : Type 0) (over : Limit → Written → Type 0) (p : Point) (left :
       omega (arith, less)
 
   limit_apart : (which : Limit) → AtStream on p left (StopsAt over (fault.Limit which)) → IsCounted (fault.Limit which) p left → (which ≡ limit.Bytes → ⊥) → IsFull p → ⊥
-  limit_apart limit.Depth a c other h = not_deep p fitted h a.stream a.is_open a.now a.stands.ends (few_taken _ _ c a)
-  limit_apart limit.Bytes a c other h = other refl
-  limit_apart limit.Names a c other h = not_whole p fitted h a.stream a.is_open a.stands.automaton a.now a.stands.whole (few_taken _ _ c a)
-  limit_apart limit.Sets a c other h = not_whole p fitted h a.stream a.is_open a.stands.automaton a.now a.stands.whole (few_taken _ _ c a)
-  limit_apart limit.States a c other h = not_whole p fitted h a.stream a.is_open a.stands.automaton a.now a.stands.whole (few_taken _ _ c a)
-  limit_apart limit.Edges a c other h = not_whole p fitted h a.stream a.is_open a.stands.automaton a.now a.stands.whole (few_taken _ _ c a)
-  limit_apart limit.Aliases a c other h = not_whole p fitted h a.stream a.is_open a.stands.automaton a.now a.stands.whole (few_taken _ _ c a)
-  limit_apart limit.Terms a c other h = not_whole p fitted h a.stream a.is_open a.stands.automaton a.now a.stands.whole (few_taken _ _ c a)
-  limit_apart limit.BuchiStates a c other h = not_whole p fitted h a.stream a.is_open a.stands.automaton a.now a.stands.whole (few_taken _ _ c a)
-  limit_apart limit.Trees a c other h = not_whole p fitted h a.stream a.is_open a.stands.automaton a.now a.stands.whole (few_taken _ _ c a)
-  limit_apart limit.Nodes a c other h = not_whole p fitted h a.stream a.is_open a.stands.automaton a.now a.stands.whole (few_taken _ _ c a)
-  limit_apart limit.Classes a c other h = not_whole p fitted h a.stream a.is_open a.stands.automaton a.now a.stands.whole (few_taken _ _ c a)
-  limit_apart limit.Subsets a c other h = not_whole p fitted h a.stream a.is_open a.stands.automaton a.now a.stands.whole (few_taken _ _ c a)
-  limit_apart limit.Pairs a c other h = not_whole p fitted h a.stream a.is_open a.stands.automaton a.now a.stands.whole (few_taken _ _ c a)
+  limit_apart which a c other h = by (when_told which) (λ is. other (told_bytes which is)) a.stands
+    where
+      by : (t : Told) → (t ≡ AtByte → ⊥) → StopsAtLimit t (λ w. PassesLimit which w ⊎ over which w) (place a.stream.text a.stream.rest) a.stream.rest a.now → ⊥
+      by AtToken none s = not_deep p fitted h a.stream a.is_open a.now s.ends (few_taken _ _ c a)
+      by AtByte none s = none refl
+      by OfWhole none s = not_whole p fitted h a.stream a.is_open s.automaton a.now s.whole (few_taken _ _ c a)
 
   pub full_apart : (f : RunFault) → IsByText (end.Fault f) → AtStream on p left (StopsAt over f) → IsCounted f p left → (f ≡ fault.Limit limit.Bytes → ⊥) → IsFull p → ⊥
   full_apart (fault.SyntaxAt k) by a c other h = not_bad p fitted h a.stream a.is_open k a.now a.stands.shown (few_taken _ _ c a)

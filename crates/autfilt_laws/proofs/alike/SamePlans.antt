@@ -5,7 +5,6 @@ use Rattle.std.specs.Option.{option_map}
 use Rattle.aut_base.specs.CanonicalLabel.{canonical}
 use Rattle.aut_base.specs.Automaton.{Automaton}
 use Rattle.aut_base.specs.declared.limit.Limit.{Limit}
-use Rattle.aut_base.specs.declared.limit.Limit.TheVariants as limit
 use Rattle.aut_io.specs.Outside.{Texts}
 use Rattle.autfilt_command.specs.Run.{AreAllRead, EndsAt, RunsTo}
 use Rattle.autfilt_command.specs.declared.ended.End.{End}
@@ -14,10 +13,11 @@ use Rattle.autfilt_laws.proofs.alike.LeftBehind.{IsLeftBehind}
 use Rattle.autfilt_laws.specs.Runs.{EndsBefore, EndsInStreams, IsEnded, Outcome, streams_from, texts_or}
 use Rattle.autfilt_run.specs.Due.{IsDueWhere, IsMade, IsPrinted}
 use Rattle.autfilt_run.specs.Events.{AreJudged, Dropped, Ended, Event, IsJudged, Kept, Opened, Point, Skipped}
+use Rattle.autfilt_run.specs.Faults.{Told, AtToken, AtByte, OfWhole, when_told}
 use Rattle.autfilt_run.specs.OperandEvents.{OperandEvent, operands_of}
 use Rattle.autfilt_run.specs.Over.{IsOver, IsOverPrinting, StopsPrinting}
 use Rattle.autfilt_run.specs.Plans.{prints_each}
-use Rattle.autfilt_run.specs.Runs.{AtNamed, StandsWith, Stops, StopsAt}
+use Rattle.autfilt_run.specs.Runs.{AtNamed, StandsWith, Stops, StopsAt, StopsAtLimit}
 use Rattle.autfilt_run.specs.declared.fault.RunFault.{RunFault}
 use Rattle.autfilt_run.specs.declared.fault.RunFault.TheVariants as fault
 use Rattle.filter_plan.specs.Laws.{SamePlan}
@@ -45,20 +45,12 @@ module _ (over more : Limit → Written → Type 0) (wider : (which : Limit) (w 
   either which w (inr o) = inr (wider which w o)
 
   at_limit : (which : Limit) (start : ℕ) (rest left : List ℕ) → StopsAt over (fault.Limit which) start rest left → StopsAt more (fault.Limit which) start rest left
-  at_limit limit.Depth start rest left h = h
-  at_limit limit.Bytes start rest left h = h
-  at_limit limit.Names start rest left h = stands_with _ _ start rest left (either limit.Names) h
-  at_limit limit.Sets start rest left h = stands_with _ _ start rest left (either limit.Sets) h
-  at_limit limit.States start rest left h = stands_with _ _ start rest left (either limit.States) h
-  at_limit limit.Edges start rest left h = stands_with _ _ start rest left (either limit.Edges) h
-  at_limit limit.Aliases start rest left h = stands_with _ _ start rest left (either limit.Aliases) h
-  at_limit limit.Terms start rest left h = stands_with _ _ start rest left (either limit.Terms) h
-  at_limit limit.BuchiStates start rest left h = stands_with _ _ start rest left (either limit.BuchiStates) h
-  at_limit limit.Trees start rest left h = stands_with _ _ start rest left (either limit.Trees) h
-  at_limit limit.Nodes start rest left h = stands_with _ _ start rest left (either limit.Nodes) h
-  at_limit limit.Classes start rest left h = stands_with _ _ start rest left (either limit.Classes) h
-  at_limit limit.Subsets start rest left h = stands_with _ _ start rest left (either limit.Subsets) h
-  at_limit limit.Pairs start rest left h = stands_with _ _ start rest left (either limit.Pairs) h
+  at_limit which start rest left h = by (when_told which) h
+    where
+      by : (t : Told) → StopsAtLimit t (λ w. PassesLimit which w ⊎ over which w) start rest left → StopsAtLimit t (λ w. PassesLimit which w ⊎ more which w) start rest left
+      by AtToken h = h
+      by AtByte h = h
+      by OfWhole h = stands_with _ _ start rest left (either which) h
 
   at_fault : (f : RunFault) (start : ℕ) (rest left : List ℕ) → StopsAt over f start rest left → StopsAt more f start rest left
   at_fault (fault.SyntaxAt k) start rest left h = h

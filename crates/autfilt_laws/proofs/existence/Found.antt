@@ -4,9 +4,11 @@ use Rattle.aut_base.specs.declared.limit.Limit.{Limit}
 use Rattle.aut_base.specs.declared.limit.Limit.TheVariants as limit
 use Rattle.autfilt_command.specs.declared.ended.End.TheVariants as end
 use Rattle.autfilt_laws.proofs.existence.Examined.{keeps_or_breaks, within_or_passes}
-use Rattle.autfilt_laws.proofs.existence.Stopping.{of_count, passed_by_text, passed_other, passed_stops}
+use Rattle.autfilt_laws.proofs.existence.Stopping.{passed_other}
 use Rattle.autfilt_laws.specs.Places.{BadIsShown, CutIsShown, DeepIsShown}
 use Rattle.autfilt_laws.specs.Runs.{IsByText}
+use Rattle.autfilt_run.proofs.handling.PassedLimits.{of_count}
+use Rattle.autfilt_run.proofs.turns.Reading.{past}
 use Rattle.autfilt_run.specs.Events.{IsGood}
 use Rattle.autfilt_run.specs.Runs.{StopsAt}
 use Rattle.autfilt_run.specs.declared.fault.RunFault.{RunFault}
@@ -48,10 +50,10 @@ module _ (over : Limit → Written → Type 0) (start : ℕ) (rest : List ℕ) w
       let passed : PassesLimit (limit_of h.0) w = record { count = h.0; shown = refl; valid = valid; passes = h.1 } in
       OneRefused (record {
         fault = run.Limit (limit_of h.0);
-        by_text = passed_by_text (limit_of h.0) (of_count h.0);
+        by_text = tt;
         other = passed_other (limit_of h.0) (of_count h.0);
         left = next;
-        stops = passed_stops over (limit_of h.0) start rest next (of_count h.0) (record { automaton = w; whole = whole; holds = inl passed });
+        stops = past over (limit_of h.0) start rest next (of_count h.0) (record { automaton = w; whole = whole; holds = inl passed });
       })
 
   whole_found : (w : Written) (next : List ℕ) → IsWhole start rest w next → IsValid w ⊎ ((rule : Rule) × IsFirstBroken rule w) → Found over start rest

@@ -9,10 +9,11 @@ use Rattle.aut_io.specs.Outside.{Texts, text_of}
 use Rattle.autfilt_command.specs.declared.ended.End.TheVariants as end
 use Rattle.autfilt_laws.proofs.existence.Found.{AreShown, Found, OneAborted, OneGood, OneRefused, OnlyBlanks, something_found}
 use Rattle.autfilt_laws.proofs.existence.InOperands.{NotNone}
-use Rattle.autfilt_laws.proofs.existence.PlanLimits.{of_plan}
 use Rattle.autfilt_laws.proofs.existence.Shorter.{aborted_less, whole_less}
-use Rattle.autfilt_laws.proofs.existence.Stopping.{is_counted, passed_by_text, passed_other, passed_stops, stops_where}
+use Rattle.autfilt_laws.proofs.existence.Stopping.{is_counted, passed_other, stops_where}
 use Rattle.autfilt_laws.specs.Runs.{IsByText, size_of}
+use Rattle.autfilt_run.proofs.handling.PassedLimits.{plan_passes}
+use Rattle.autfilt_run.proofs.turns.Reading.{past}
 use Rattle.autfilt_run.specs.Due.{IsDue}
 use Rattle.autfilt_run.specs.Events.{AreJudged, Dropped, Ended, Event, Goes, Happen, IsGood, IsJudged, Kept, Opened, Point, Skipped, Stream, ended_at, opened_at, place, read_on}
 use Rattle.autfilt_run.specs.Over.{IsOver}
@@ -81,9 +82,9 @@ module _ (plan : Plan) (ops : List Automaton) (on : Existing plan ops) (texts : 
   passed : (p : Point) (s : Stream) (more : ℕ) → asks_on plan p.kept ≡ true → p.stream ≡ Some s → p.before + (length s.text + more) < MOST_BYTES
       → (which : Limit) (w : Written) (next : List ℕ) → IsGood (place s.text s.rest) s.rest w next → IsOver which plan ops w → Reads plan ops texts p
   passed p s more asks is few which w next good h =
-      let whole = of_plan which plan ops w h in
-      stopped p s more asks is few (fault.Limit which) next (passed_by_text which whole) (passed_other which whole)
-      (passed_stops (λ x v. IsOver x plan ops v) which (place s.text s.rest) s.rest next whole (record { automaton = w; whole = good.whole; holds = inr h }))
+      let whole = plan_passes which plan ops w h in
+      stopped p s more asks is few (fault.Limit which) next tt (passed_other which whole)
+      (past (λ x v. IsOver x plan ops v) which (place s.text s.rest) s.rest next whole (record { automaton = w; whole = good.whole; holds = inr h }))
 
   -- an automaton that is good
   at_good : (p : Point) (s : Stream) (more : ℕ) → asks_on plan p.kept ≡ true → p.stream ≡ Some s → p.before + (length s.text + more) < MOST_BYTES

@@ -1,8 +1,6 @@
 -- A run that the texts ended, as the command answers it.
 use Rattle.std.proofs.Common.{◌≡◌, ◌≢◌, ◌∙◌, ◌⊎◌, ◌+◌, ℕ, List, [], ◌++◌, Option, Some, None, ap, arith, inl, inr, length, refl, subst, sym, take, true}
 use Rattle.aut_base.specs.Automaton.{Automaton}
-use Rattle.aut_base.specs.declared.limit.Limit.{Limit}
-use Rattle.aut_base.specs.declared.limit.Limit.TheVariants as limit
 use Rattle.aut_io.specs.Outside.{Gains, Texts, raised_by}
 use Rattle.aut_io.specs.Seen.{Seen, SinkSeen}
 use Rattle.autfilt_command.specs.Ends.{ended_of}
@@ -10,7 +8,6 @@ use Rattle.autfilt_command.specs.Notes.{line_of}
 use Rattle.autfilt_command.specs.Run.{AreAllRead, EndsBecause, EndsInOperands, EndsOpened, Prints, Runs, RunsOver, RunsOverAs, RunsTo, all_noted, passed_noted}
 use Rattle.autfilt_command.specs.declared.ended.End.{End}
 use Rattle.autfilt_command.specs.declared.ended.End.TheVariants as end
-use Rattle.autfilt_command.specs.declared.ended.Ended.TheVariants as ended
 use Rattle.autfilt_laws.proofs.alike.Answers.{text_due}
 use Rattle.autfilt_laws.proofs.existence.GoodOperands.{good_operands}
 use Rattle.autfilt_laws.proofs.existence.Openings.{all_of, files_opened, front_of, streams_opened}
@@ -61,10 +58,6 @@ may_end fault.Memory by = absurd by
 no_write : (f : RunFault) → IsByText (end.Fault f) → f ≢ fault.WriteFault
 no_write f by is = subst (λ (g : RunFault). IsByText (end.Fault g)) is by
 
-by_limit : (which : Limit) → IsByTexts (ended.Limit which)
-by_limit limit.Bytes = tt
-by_limit _ = tt
-
 by_texts : (e : End) → IsByText e → IsByTexts (ended_of e)
 by_texts end.Output by = tt
 by_texts end.NoneOutput by = tt
@@ -73,7 +66,7 @@ by_texts end.Usage by = absurd by
 by_texts (end.Fault (fault.SyntaxAt k)) by = tt
 by_texts (end.Fault fault.Truncated) by = tt
 by_texts (end.Fault (fault.Invalid rule)) by = tt
-by_texts (end.Fault (fault.Limit which)) by = by_limit which
+by_texts (end.Fault (fault.Limit which)) by = tt
 by_texts (end.Fault fault.CannotOpen) by = absurd by
 by_texts (end.Fault fault.ReadFault) by = absurd by
 by_texts (end.Fault fault.WriteFault) by = absurd by

@@ -1,15 +1,17 @@
--- Which limits are passed behind the reader: neither that of depth nor that of bytes.
-use Rattle.std.proofs.Common.{◌≡◌, ◌⊎◌, List, [], ◌∷◌, Option, Some, None, inl, inr, refl, subst}
+-- Limits that are passed behind the reader are told of an automaton that was read whole.
+use Rattle.std.proofs.Common.{◌≡◌, ◌⊎◌, ◌∙◌, Bool, false, true, List, [], ◌∷◌, Option, Some, None, Contains, ap, inl, inr, refl}
 use Rattle.std.specs.Prelude.{MatchOption}
+use Rattle.std.specs.List.{list_all}
+use Rattle.std.proofs.lemmas.Bool.{false≢true}
+use Rattle.std.proofs.lemmas.List.Elements.{All-contains}
+use Rattle.std.proofs.lemmas.List.Sums.{AllPass-from_list_all}
 use Rattle.aut_base.specs.Automaton.{Automaton}
-use Rattle.aut_base.specs.CanonicalLabel.{canonical}
 use Rattle.aut_base.specs.declared.limit.Limit.{Limit}
 use Rattle.aut_base.specs.declared.limit.Limit.TheVariants as limit
-use Rattle.autfilt_run.specs.Faults.{stop_of_fault}
+use Rattle.autfilt_run.specs.Faults.{Told, AtToken, AtByte, OfWhole, stop_of_fault, stop_of_limit, when_told}
 use Rattle.autfilt_run.specs.Over.{IsOver, IsOverPrinting, StopsPrinting}
 use Rattle.autfilt_run.specs.declared.fault.RunFault.TheVariants as fault
 use Rattle.filter_plan.specs.declared.plan.Form.{Form}
-use Rattle.filter_plan.specs.declared.plan.Form.TheVariants as form
 use Rattle.filter_plan.specs.declared.plan.Output.{Output}
 use Rattle.filter_plan.specs.declared.plan.Output.TheVariants.{Hoa, Stats, Refute}
 use Rattle.filter_plan.specs.declared.plan.Plan.{Plan}
@@ -19,163 +21,95 @@ use Rattle.hoa_reader.specs.Described.{described}
 use Rattle.hoa_reader.specs.Counts.{Count, Names, Sets, States, Edges, Aliases}
 use Rattle.hoa_reader.specs.Elaborating.{PassesLimit}
 use Rattle.hoa_reader.specs.inner.Gathered.{limit_of}
-use Rattle.plan_meaning.specs.Changes.{Change, PassesBuchi, PassesDnf, PassesForm, PassesIn, PassesMonitor, PassesWithoutFin, StopsIn, changes_of}
+use Rattle.plan_meaning.proofs.OwnLimits.{only_own_limits}
 use Rattle.plan_meaning.specs.Changes as change
-use Rattle.plan_meaning.specs.Filters.{Filter, IsOverFilters, Passes}
-use Rattle.plan_meaning.specs.Filters as filter
-use Rattle.plan_meaning.specs.Limits.{PassesOfBoth, PassesOfEither, PassesOfEquivalence, PassesOfInclusion, PassesOfSquare, PassesOfSum, PassesOfWord, PassesParity}
+use Rattle.plan_meaning.specs.Changes.{Change, StopsIn, changes_of, limits_of_change, limits_of_form}
+use Rattle.plan_meaning.specs.Filters.{Filter, IsOverFilters, limits_of_filter}
+use Rattle.plan_meaning.specs.Limits.{PassesOfInclusion, limits_of_inclusion}
 use Rattle.plan_meaning.specs.Operands.{refuted_operand}
-use Rattle.word_syntax.specs.Grammar.{WordPattern}
 
--- the reader tells it
-abbrev pub IsOfReader : Limit → Type 0
-IsOfReader limit.Depth = Unit {0}
-IsOfReader limit.Bytes = Unit {0}
-IsOfReader _ = ⊥
+abbrev pub IsOfWhole : Limit → Type 0
+IsOfWhole which = when_told which ≡ OfWhole
 
-of_count : (count : Count) → IsOfReader (limit_of count) → ⊥
-of_count Names r = r
-of_count Sets r = r
-of_count States r = r
-of_count Edges r = r
-of_count Aliases r = r
+-- while a text is read these two are told
+pub told_bytes : (which : Limit) → when_told which ≡ AtByte → which ≡ limit.Bytes
+told_bytes limit.Bytes e = refl
+told_bytes limit.Depth e = absurd (let none : AtToken ≡ AtByte = e in cc)
+told_bytes _ e = absurd (let none : OfWhole ≡ AtByte = e in cc)
 
-pub counts_pass : (which : Limit) (w : Written) → PassesLimit which w → IsOfReader which → ⊥
-counts_pass which w h r = of_count h.count (subst IsOfReader h.shown r)
+pub told_depth : (which : Limit) → when_told which ≡ AtToken → which ≡ limit.Depth
+told_depth limit.Depth e = refl
+told_depth limit.Bytes e = absurd (let none : AtByte ≡ AtToken = e in cc)
+told_depth _ e = absurd (let none : OfWhole ≡ AtToken = e in cc)
 
--- ---- of two automata put together
+-- ---- the limits of reading
 
-both_pass : (which : Limit) (a b : Automaton) → IsOfReader which → PassesOfBoth which a b → ⊥
-both_pass limit.Depth a b r h = h
-both_pass limit.Bytes a b r h = h
-both_pass _ a b r h = absurd r
+pub of_count : (count : Count) → IsOfWhole (limit_of count)
+of_count Names = refl
+of_count Sets = refl
+of_count States = refl
+of_count Edges = refl
+of_count Aliases = refl
 
-either_pass : (which : Limit) (a b : Automaton) → IsOfReader which → PassesOfEither which a b → ⊥
-either_pass limit.Depth a b r h = h
-either_pass limit.Bytes a b r h = h
-either_pass _ a b r h = absurd r
+pub counts_pass : (which : Limit) (w : Written) → PassesLimit which w → IsOfWhole which
+counts_pass which w h = ap when_told h.shown ∙ of_count h.count
 
-sum_pass : (which : Limit) (a b : Automaton) → IsOfReader which → PassesOfSum which a b → ⊥
-sum_pass limit.Depth a b r h = h
-sum_pass limit.Bytes a b r h = h
-sum_pass _ a b r h = absurd r
+-- ---- those of filters and changes
 
-word_pass : (which : Limit) (a : Automaton) (p : WordPattern) → IsOfReader which → PassesOfWord which a p → ⊥
-word_pass which a p r (inl h) = subst IsOfReader h.0 r
-word_pass which a p r (inr h) = both_pass which a _ r h.1
+abbrev is_whole : Told → Bool
+is_whole AtToken = false
+is_whole AtByte = false
+is_whole OfWhole = true
 
-square_pass : (which : Limit) (a : Automaton) → IsOfReader which → PassesOfSquare which a → ⊥
-square_pass limit.Depth a r h = h
-square_pass limit.Bytes a r h = h
-square_pass _ a r h = absurd r
+whole_is : (t : Told) → is_whole t ≡ true → t ≡ OfWhole
+whole_is AtToken e = absurd (false≢true e)
+whole_is AtByte e = absurd (false≢true e)
+whole_is OfWhole e = refl
 
-parity_pass : (which : Limit) (a : Automaton) → IsOfReader which → PassesParity which a → ⊥
-parity_pass limit.Depth a r h = h
-parity_pass limit.Bytes a r h = h
-parity_pass _ a r h = absurd r
+abbrev told_whole : Limit → Bool
+told_whole which = is_whole (when_told which)
 
-inclusion_pass : (which : Limit) (a b : Automaton) → IsOfReader which → PassesOfInclusion which a b → ⊥
-inclusion_pass which a b r (inl h) = parity_pass which b r h.1
-inclusion_pass which a b r (inr h) = both_pass which a h.1.co r h.1.passes
+abbrev AreOfWhole : List Limit → Type 0
+AreOfWhole limits = list_all told_whole limits ≡ true
 
-equivalence_pass : (which : Limit) (a b : Automaton) → IsOfReader which → PassesOfEquivalence which a b → ⊥
-equivalence_pass which a b r (inl h) = inclusion_pass which a b r h
-equivalence_pass which a b r (inr h) = inclusion_pass which b a r h.2
+one_of : (limits : List Limit) (which : Limit) → AreOfWhole limits → Contains limits which → IsOfWhole which
+one_of limits which all h = whole_is (when_told which) (All-contains (λ x. told_whole x ≡ true) limits which (AllPass-from_list_all told_whole limits all) h)
 
--- ---- of a filter, and of a change
+of_filter : (f : Filter) → AreOfWhole (limits_of_filter f)
+of_filter _ = refl
 
-filter_pass : (which : Limit) (f : Filter) (a : Automaton) → IsOfReader which → Passes which f a → ⊥
-filter_pass which (filter.AcceptsWord p) a r h = word_pass which (canonical a) p r h
-filter_pass which (filter.RejectsWord p) a r h = word_pass which (canonical a) p r h
-filter_pass which filter.IsEmpty a r h = h
-filter_pass which (filter.IncludedIn b) a r h = inclusion_pass which (canonical a) b r h
-filter_pass which (filter.EquivalentTo b) a r h = equivalence_pass which (canonical a) b r h
-filter_pass which (filter.Intersects b) a r h = both_pass which (canonical a) b r h
-filter_pass which filter.IsDeterministic a r h = h
-filter_pass which filter.IsComplete a r h = h
-filter_pass which filter.IsUnambiguous a r h = square_pass which (canonical a) r h
-filter_pass which (filter.States range) a r h = h
-filter_pass which (filter.Edges range) a r h = h
-filter_pass which (filter.Sets range) a r h = h
-filter_pass which (filter.Names range) a r h = h
+of_form : (f : Form) → AreOfWhole (limits_of_form f)
+of_form _ = refl
 
-buchi_pass : (which : Limit) (a : Automaton) → IsOfReader which → PassesBuchi which a → ⊥
-buchi_pass limit.Depth a r h = h
-buchi_pass limit.Bytes a r h = h
-buchi_pass _ a r h = absurd r
+of_change : (c : Change) → AreOfWhole (limits_of_change c)
+of_change (change.Bring f) = of_form f
+of_change _ = refl
 
-fin_pass : (which : Limit) (a : Automaton) → IsOfReader which → PassesWithoutFin which a → ⊥
-fin_pass limit.Depth a r h = h
-fin_pass limit.Bytes a r h = h
-fin_pass _ a r h = absurd r
+changes_pass : (which : Limit) (cs : List Change) (a : Automaton) → StopsIn which cs a → IsOfWhole which
+changes_pass which [] a h = absurd h
+changes_pass which (c ∷ cs) a (inl h) = one_of (limits_of_change c) which (of_change c) (only_own_limits.change c which a h)
+changes_pass which (c ∷ cs) a (inr h) = changes_pass which cs h.0 h.2
 
-dnf_pass : (which : Limit) (a : Automaton) → IsOfReader which → PassesDnf which a → ⊥
-dnf_pass limit.Depth a r h = h
-dnf_pass limit.Bytes a r h = h
-dnf_pass _ a r h = absurd r
+refuted_pass : (which : Limit) (operand : Option Automaton) (a : Automaton) → MatchOption operand ⊥ (λ b. PassesOfInclusion which a b) → IsOfWhole which
+refuted_pass which None a h = absurd h
+refuted_pass which (Some b) a h = one_of limits_of_inclusion which refl (only_own_limits.inclusion which a b h)
 
-monitor_pass : (which : Limit) (a : Automaton) → IsOfReader which → PassesMonitor which a → ⊥
-monitor_pass limit.Depth a r h = h
-monitor_pass limit.Bytes a r h = h
-monitor_pass _ a r h = absurd r
+printing_pass : (which : Limit) (o : Output) (p : Plan) (ops : List Automaton) (a : Automaton) → StopsPrinting o which p ops a → IsOfWhole which
+printing_pass which Hoa p ops a h = changes_pass which (changes_of p ops) a h
+printing_pass which (Stats pieces) p ops a h = changes_pass which (changes_of p ops) a h
+printing_pass which (Refute file) p ops a h = refuted_pass which (refuted_operand p ops) a h
 
-form_pass : (which : Limit) (f : Form) (a : Automaton) → IsOfReader which → PassesForm which f a → ⊥
-form_pass which form.AsIs a r h = h
-form_pass which form.Deterministic a r h = parity_pass which a r h.1
-form_pass which form.Parity a r h = parity_pass which a r h
-form_pass which form.Buchi a r h = buchi_pass which a r h
-form_pass which form.RemoveFin a r h = fin_pass which a r h
-form_pass which form.Dnf a r h = dnf_pass which a r h
-form_pass which form.Monitor a r h = monitor_pass which a r h
-
-change_pass : (which : Limit) (c : Change) (a : Automaton) → IsOfReader which → PassesIn which c a → ⊥
-change_pass which (change.Product b) a r h = both_pass which a b r h
-change_pass which (change.ProductOr b) a r h = either_pass which a b r h
-change_pass which (change.Sum b) a r h = sum_pass which a b r h
-change_pass which (change.RemoveAp x) a r h = h
-change_pass which change.Trim a r h = h
-change_pass which change.Complement a r h = parity_pass which a r h.1
-change_pass which (change.Bring f) a r h = form_pass which f a r h
-change_pass which change.Complete a r h = h
-
-changes_pass : (which : Limit) (cs : List Change) (a : Automaton) → IsOfReader which → StopsIn which cs a → ⊥
-changes_pass which [] a r h = h
-changes_pass which (c ∷ cs) a r (inl h) = change_pass which c a r h
-changes_pass which (c ∷ cs) a r (inr h) = changes_pass which cs h.0 r h.2
-
-refuted_pass : (which : Limit) (operand : Option Automaton) (a : Automaton) → IsOfReader which → MatchOption operand ⊥ (λ b. PassesOfInclusion which a b) → ⊥
-refuted_pass which None a r h = h
-refuted_pass which (Some b) a r h = inclusion_pass which a b r h
-
-printing_pass : (which : Limit) (o : Output) (p : Plan) (ops : List Automaton) (a : Automaton) → IsOfReader which → StopsPrinting o which p ops a → ⊥
-printing_pass which Hoa p ops a r h = changes_pass which (changes_of p ops) a r h
-printing_pass which (Stats pieces) p ops a r h = changes_pass which (changes_of p ops) a r h
-printing_pass which (Refute file) p ops a r h = refuted_pass which (refuted_operand p ops) a r h
-
-pub plan_passes : (which : Limit) (p : Plan) (ops : List Automaton) (w : Written) → IsOver which p ops w → IsOfReader which → ⊥
-plan_passes which p ops w h r = by h.over
+pub plan_passes : (which : Limit) (p : Plan) (ops : List Automaton) (w : Written) → IsOver which p ops w → IsOfWhole which
+plan_passes which p ops w h = by h.over
   where
-    by : IsOverFilters which p ops (described w) ⊎ IsOverPrinting which p ops w → ⊥
-    by (inl f) = filter_pass which f.filter _ r f.passes
-    by (inr c) = printing_pass which p.output p ops _ r c.stops
+    by : IsOverFilters which p ops (described w) ⊎ IsOverPrinting which p ops w → IsOfWhole which
+    by (inl f) = one_of (limits_of_filter f.filter) which (of_filter f.filter) (only_own_limits.filter f.filter which (described w) f.passes)
+    by (inr c) = printing_pass which p.output p ops _ c.stops
 
-pub both_ways : (which : Limit) (p : Plan) (ops : List Automaton) (w : Written) → PassesLimit which w ⊎ IsOver which p ops w → IsOfReader which → ⊥
-both_ways which p ops w (inl h) r = counts_pass which w h r
-both_ways which p ops w (inr h) r = plan_passes which p ops w h r
+pub both_ways : (which : Limit) (p : Plan) (ops : List Automaton) (w : Written) → PassesLimit which w ⊎ IsOver which p ops w → IsOfWhole which
+both_ways which p ops w (inl h) = counts_pass which w h
+both_ways which p ops w (inr h) = plan_passes which p ops w h
 
 -- so they stop nowhere in particular
-pub elsewhere : (which : Limit) → (IsOfReader which → ⊥) → stop_of_fault (fault.Limit which) ≡ Elsewhere
-elsewhere limit.Names n = refl
-elsewhere limit.Sets n = refl
-elsewhere limit.States n = refl
-elsewhere limit.Edges n = refl
-elsewhere limit.Aliases n = refl
-elsewhere limit.Depth n = refl
-elsewhere limit.Bytes n = absurd (n tt)
-elsewhere limit.Terms n = refl
-elsewhere limit.BuchiStates n = refl
-elsewhere limit.Trees n = refl
-elsewhere limit.Nodes n = refl
-elsewhere limit.Classes n = refl
-elsewhere limit.Subsets n = refl
-elsewhere limit.Pairs n = refl
+pub elsewhere : (which : Limit) → IsOfWhole which → stop_of_fault (fault.Limit which) ≡ Elsewhere
+elsewhere which whole = ap stop_of_limit whole

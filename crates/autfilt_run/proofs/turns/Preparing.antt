@@ -10,7 +10,6 @@ use Rattle.std.specs.Prelude.{map, slice_get}
 use Rattle.std.specs.Result.{IsErrAnd}
 use Rattle.aut_base.specs.declared.fault.OpenFail.TheVariants as opening
 use Rattle.aut_base.specs.declared.limit.Limit.{Limit}
-use Rattle.aut_base.specs.declared.limit.Limit.TheVariants as limit
 use Rattle.aut_base.specs.declared.limit.TheConstants.{MOST_BYTES}
 use Rattle.aut_core.specs.Core.{automaton_of}
 use Rattle.aut_io.specs.Outside.{Closed, Texts}
@@ -19,7 +18,7 @@ use Rattle.autfilt_run.proofs.turns.Openings.{opened_as, opened_then, tried_behi
 use Rattle.autfilt_run.proofs.turns.Stepping.{KeepsOn, closed_counted, is_closed, name_as, one_name, opens_stream, reads_on, rest_from, stops_at, stops_named, stream_counted, takes_operand}
 use Rattle.autfilt_run.proofs.printing.Writing.{rose_from}
 use Rattle.autfilt_run.specs.Events.{Point, ReadsOn}
-use Rattle.autfilt_run.specs.Faults.{stop_of_fault}
+use Rattle.autfilt_run.specs.Faults.{Told, AtToken, AtByte, OfWhole, stop_of_fault, stop_of_limit, when_told}
 use Rattle.autfilt_run.specs.Openings.{AreOpened, AreTried, MayEnd, WantsFile}
 use Rattle.autfilt_run.specs.OperandEvents.{AreRead, FileOpened, OperandEvent, PassedOver, Proceeds, Taken, all_passed, file_open_after, file_open_by}
 use Rattle.autfilt_run.specs.OperandEvents.{opened_file, opened_files, operand_of, operands_of, passed_of}
@@ -364,20 +363,12 @@ named f old new m t keeps most few stops counts may h = record {
 }
 
 pub calm_limit : (which : Limit) (a b : ℕ) → CountsReads (stop_of_fault (fault.Limit which)) a b → b ≡ a
-calm_limit limit.Names a b h = h
-calm_limit limit.Sets a b h = h
-calm_limit limit.States a b h = h
-calm_limit limit.Edges a b h = h
-calm_limit limit.Aliases a b h = h
-calm_limit limit.Depth a b h = h
-calm_limit limit.Bytes a b h = h
-calm_limit limit.Terms a b h = h
-calm_limit limit.BuchiStates a b h = h
-calm_limit limit.Trees a b h = h
-calm_limit limit.Nodes a b h = h
-calm_limit limit.Classes a b h = h
-calm_limit limit.Subsets a b h = h
-calm_limit limit.Pairs a b h = h
+calm_limit which a b h = by (when_told which) h
+  where
+    by : (t : Told) → CountsReads (stop_of_limit t) a b → b ≡ a
+    by AtToken h = h
+    by AtByte h = h
+    by OfWhole h = h
 
 halted : (f : RunFault) (old new : Session) (m t : Seen) → KeepsAll old new → new.lexer.most ≡ MOST_BYTES → old.lexer.taken ≤ MOST_BYTES → new.lexer.taken ≤ MOST_BYTES
     → FailsOperand f old new m t → HaltsAt f old new m t

@@ -1,11 +1,10 @@
 -- What the reader answers, in the words of a session.
 use Rattle.std.proofs.Common.{◌≡◌, ◌⊎◌, ℕ, ◌-◌, List, Option, None, Result, Ok, Err, sym, subst, inl, inr, arith}
 use Rattle.aut_base.specs.declared.limit.Limit.{Limit}
-use Rattle.aut_base.specs.declared.limit.Limit.TheVariants as limit
-use Rattle.autfilt_run.proofs.handling.PassedLimits.{IsOfReader}
+use Rattle.autfilt_run.proofs.handling.PassedLimits.{IsOfWhole}
 use Rattle.autfilt_run.specs.Events.{IsGood}
-use Rattle.autfilt_run.specs.Faults.{fault_of_reading}
-use Rattle.autfilt_run.specs.Runs.{IsAllRead, StandsWith, StopsAt, WantsMemory}
+use Rattle.autfilt_run.specs.Faults.{Told, fault_of_reading}
+use Rattle.autfilt_run.specs.Runs.{IsAllRead, StandsWith, StopsAt, StopsAtLimit, WantsMemory}
 use Rattle.autfilt_run.specs.declared.fault.RunFault.TheVariants as run
 use Rattle.hoa_lexer.proofs.next_token.Between.{between_as, between_both}
 use Rattle.hoa_lexer.specs.Reading.{Between, held_count, unread}
@@ -97,30 +96,17 @@ is_good w start left left' valid within h =
     between_as left left' (λ old new. Stands (Whole w new) start old) (λ old new. IsGood start old w new)
     (λ old new whole. record { whole = whole; valid = valid; within = within }) h
 
--- a limit that the reader doesn't tell
-past : (over : Limit → Written → Type 0) (which : Limit) (start : ℕ) (old new : List ℕ) → (IsOfReader which → ⊥) → StandsWith (λ w. PassesLimit which w ⊎ over which w) start old new
+-- a limit that is told of an automaton that was read whole
+pub past : (over : Limit → Written → Type 0) (which : Limit) (start : ℕ) (old new : List ℕ) → IsOfWhole which → StandsWith (λ w. PassesLimit which w ⊎ over which w) start old new
     → StopsAt over (run.Limit which) start old new
-past over limit.Names start old new n h = h
-past over limit.Sets start old new n h = h
-past over limit.States start old new n h = h
-past over limit.Edges start old new n h = h
-past over limit.Aliases start old new n h = h
-past over limit.Depth start old new n h = absurd (n tt)
-past over limit.Bytes start old new n h = absurd (n tt)
-past over limit.Terms start old new n h = h
-past over limit.BuchiStates start old new n h = h
-past over limit.Trees start old new n h = h
-past over limit.Nodes start old new n h = h
-past over limit.Classes start old new n h = h
-past over limit.Subsets start old new n h = h
-past over limit.Pairs start old new n h = h
+past over which start old new whole h = subst (λ (t : Told). StopsAtLimit t (λ w. PassesLimit which w ⊎ over which w) start old new) (sym whole) h
 
 -- it was read whole, and is not valid, passes a limit, or memory was wanting for it
 pub is_broken : (over : Limit → Written → Type 0) (rule : Rule) (w : Written) (start : ℕ) (left left' : Option (List ℕ)) → IsFirstBroken rule w
     → Between left left' (λ old new. Stands (Whole w new) start old) → Between left left' (StopsAt over (run.Invalid rule) start)
 is_broken over rule w start left left' broken h = between_as left left' _ (StopsAt over (run.Invalid rule) start) (λ old new s. record { automaton = w; whole = s; holds = broken }) h
 
-pub is_past : (over : Limit → Written → Type 0) (which : Limit) (w : Written) (start : ℕ) (left left' : Option (List ℕ)) → (IsOfReader which → ⊥) → PassesLimit which w ⊎ over which w
+pub is_past : (over : Limit → Written → Type 0) (which : Limit) (w : Written) (start : ℕ) (left left' : Option (List ℕ)) → IsOfWhole which → PassesLimit which w ⊎ over which w
     → Between left left' (λ old new. Stands (Whole w new) start old) → Between left left' (StopsAt over (run.Limit which) start)
 is_past over which w start left left' n p h =
     between_as left left' _ (StopsAt over (run.Limit which) start) (λ old new s. past over which start old new n (record { automaton = w; whole = s; holds = p })) h
