@@ -1,5 +1,5 @@
 -- What one step of a session does.
-use Rattle.std.specs.Prelude.{◌≡◌, ℕ, ◌+◌, ◌<◌, ◌⊎◌, Bool, true, false, List, length, slice_get, Some, Result, Ok, Err}
+use Rattle.std.specs.Prelude.{◌≡◌, ℕ, ◌+◌, ◌<◌, ◌⊎◌, Bool, true, false, List, length, slice_get, Some, None, Result, Ok, Err, IfOk, OnErr, OnOk}
 use Rattle.aut_base.specs.declared.fault.OpenFail.{OpenFail}
 use Rattle.aut_base.specs.declared.fault.OpenFail.TheVariants as opening
 use Rattle.aut_io.specs.Outside.{Gains, GainsPrefix, Rose}
@@ -160,6 +160,18 @@ after turn.StreamEnd p = record p { is_open = false }
 after turn.Kept p = record p { kept = p.kept + 1 }
 after turn.Dropped p = p
 after turn.Skipped p = record p { skipped = p.skipped + 1 }
+
+-- One step, whatever it answers: what happened, and what is so of the session behind it. A fault changes no count.
+pub record IsStep (r : Result Turn RunFault) (old new : Session) (seen seen' : Seen) (out out' : SinkSeen) : Type 0 where
+  pub steps : Steps r old new seen seen' out out'
+  pub plan : new.plan ≡ old.plan
+  pub operands : new.operands ≡ old.operands
+  pub most : new.lexer.most ≡ old.lexer.most
+  pub rises : IfOk r (λ turn. Rises turn old.lexer.taken new.lexer.taken)
+  pub counts : IfOk r (λ turn. progress new ≡ after turn (progress old))
+  pub failed : OnErr r (progress new ≡ progress old)
+  pub spent : OnOk r (new.lexer.spent ≡ false)
+  pub held : OnOk r (new.lexer.held ≡ None)
 
 -- The text of the count, where it is due, was written, or a part of it.
 abbrev pub Finishes : Result (Unit {0}) RunFault → List ℕ → SinkSeen → SinkSeen → Type 0

@@ -98,7 +98,7 @@ impl Session {
     ghost use Rattle.autfilt_run.specs.Plans.{count_text, prints_count};
     ghost use Rattle.autfilt_run.specs.Points.{name_in, operands_in};
     ghost use Rattle.autfilt_run.specs.Preparing.{Prepares};
-    ghost use Rattle.autfilt_run.specs.Turns.{Finishes, Rises, Steps, after, progress};
+    ghost use Rattle.autfilt_run.specs.Turns.{Finishes, IsStep, progress};
     ghost use Rattle.autfilt_run.specs.declared.fault.RunFault.TheVariants as run_fault;
     ghost use Rattle.plan_meaning.specs.Complements.{AreKept};
     ghost use Rattle.autfilt_run.specs.declared.session.Prep.TheVariants as prep;
@@ -174,19 +174,11 @@ impl Session {
         requires names { All I.may_open (streams_of self.old.plan) }
         requires kept { AreKept self.old.plan (operands_in self.old) complements.old }
 
-        // What happened, outside and to the lexer.
-        ensures steps { Steps result self.old self.new (I.seen inputs.old) (I.seen inputs.new) (W.seen out.old) (W.seen out.new) }
-        ensures plan { self.new.plan ≡ self.old.plan }
-        ensures operands { self.new.operands ≡ self.old.operands }
+        // What happened, outside and to the session.
+        ensures step { IsStep result self.old self.new (I.seen inputs.old) (I.seen inputs.new) (W.seen out.old) (W.seen out.new) }
         ensures kept { AreKept self.old.plan (operands_in self.old) complements.new }
 
-        // The lexer of the session may take as many bytes as before, and takes some for each automaton.
-        ensures most { self.new.lexer.most ≡ self.old.lexer.most }
-        ensures rises { IfOk result (λ turn. Rises turn self.old.lexer.taken self.new.lexer.taken) }
-
-        // How far the session has come, and what may be done with it next. A fault changes no count.
-        ensures progress { IfOk result (λ turn. progress self.new ≡ after turn (progress self.old)) }
-        ensures failed { OnErr result (progress self.new ≡ progress self.old) }
+        // What may be done with it next.
         ensures prepared { IfOk result (λ turn. turn ≢ Turn.Done → self.new.stage ≡ Stage.Prepared) }
         ensures done { IfOk result (λ turn. turn ≡ Turn.Done → self.new.stage ≡ Stage.Done) }
         ensures over { OnErr result (self.new.stage ≡ Stage.Over) }

@@ -1,5 +1,5 @@
 -- What a step answers where something was read.
-use Rattle.std.proofs.Common.{◌≡◌, ℕ, Option, Result, Err, refl, sym, subst, inr}
+use Rattle.std.proofs.Common.{◌≡◌, ◌≢◌, ℕ, ◌+◌, ◌<◌, Option, None, Result, Ok, Err, refl, sym, ap, ◌∙◌, subst, inr, arith}
 use Rattle.std.specs.Result.{IsErrAnd}
 use Rattle.aut_base.proofs.Outcomes.{hands_on}
 use Rattle.aut_base.specs.declared.limit.Limit.{Limit}
@@ -9,20 +9,24 @@ use Rattle.autfilt_run.proofs.turns.Reading.{AnswersAt, is_broken, is_good, is_p
 use Rattle.autfilt_run.specs.Faults.{fault_of_reading}
 use Rattle.autfilt_run.specs.Over.{IsOver}
 use Rattle.autfilt_run.specs.Points.{operands_in}
-use Rattle.autfilt_run.specs.Turns.{Fails, IsReading, Steps}
+use Rattle.autfilt_run.specs.Turns.{Fails, IsReading, IsStep, progress}
 use Rattle.autfilt_run.specs.inner.Handling.{Handles}
 use Rattle.autfilt_run.specs.declared.fault.RunFault.{RunFault}
 use Rattle.autfilt_run.specs.declared.fault.RunFault.TheVariants as fault
 use Rattle.autfilt_run.specs.declared.session.Session.{Session}
 use Rattle.autfilt_run.specs.declared.session.Turn.{Turn}
 use Rattle.hoa_lexer.specs.Moves.{Elsewhere, Moves, Stop}
-use Rattle.hoa_lexer.specs.Reading.{Between}
+use Rattle.hoa_lexer.specs.Reading.{Between, held_count}
+use Rattle.hoa_lexer.specs.declared.lexer.Lexer.{Lexer}
 use Rattle.hoa_parser.specs.Raw.{Written}
 use Rattle.hoa_parser.specs.Reads as reads
 use Rattle.hoa_parser.specs.Reads.{HoldsBehind}
 use Rattle.hoa_parser.specs.Standing.{Stands, Whole}
 use Rattle.hoa_parser.specs.declared.fault.ReadFault.{ReadFault}
 use Rattle.hoa_parser.specs.declared.fault.ReadFault.TheVariants as reading
+use Rattle.hoa_parser.specs.declared.raw.Raw.{Raw}
+use Rattle.hoa_parser.specs.declared.read.Front.{Front}
+use Rattle.hoa_parser.specs.declared.read.Front.TheVariants as front
 
 -- the limits that are passed behind the reader
 abbrev pub over_in : Session → Limit → Written → Type 0
@@ -74,6 +78,31 @@ not_handled (fault.Limit which) w old new s t o o' r hand whole moves h = record
 not_handled fault.Memory w old new s t o o' r hand whole moves h = inr (record { reading = r; in_hand = hand; read = is_wanting w old.lexer.since s.left t.left whole; moves = moves; output = h })
 not_handled _ w old new s t o o' r hand whole moves h = absurd h
 
+-- what no fault changes
+pub record IsUnmoved (old new : Session) : Type 0 where
+  pub plan : new.plan ≡ old.plan
+  pub operands : new.operands ≡ old.operands
+  pub most : new.lexer.most ≡ old.lexer.most
+  pub counts : progress new ≡ progress old
+
 -- a fault that `?` hands on
-pub steps_on : (r : Result Turn RunFault) (f : RunFault) (old new : Session) (s t : Seen) (o o' : SinkSeen) → IsErrAnd r (λ y. y ≡ f) → Fails f old new s t o o' → Steps r old new s t o o'
-steps_on r f old new s t o o' h fails = hands_on r f (λ x. Steps x old new s t o o') h fails
+pub steps_on : (r : Result Turn RunFault) (f : RunFault) (old new : Session) (s t : Seen) (o o' : SinkSeen) → IsErrAnd r (λ y. y ≡ f) → Fails f old new s t o o' → IsUnmoved old new
+    → IsStep r old new s t o o'
+steps_on r f old new s t o o' h fails same = hands_on r f (λ x. IsStep x old new s t o o') h (record {
+  steps = fails;
+  plan = same.plan;
+  operands = same.operands;
+  most = same.most;
+  rises = tt;
+  counts = tt;
+  failed = same.counts;
+  spent = tt;
+  held = tt;
+})
+
+-- an automaton that was read whole used a byte
+pub rises_whole : (field : Front) (raw : Raw) (old new : Lexer) → field ≡ front.Whole raw → old.held ≡ None → HoldsBehind (Ok field) new.held
+    → (field ≢ front.Blank → old.taken + held_count new.held < new.taken + held_count old.held) → old.taken < new.taken
+rises_whole field raw old new is none after used =
+    let more = used (λ e. let same : front.Whole raw ≡ front.Blank = sym is ∙ e in cc) in
+    omega (arith, more, ap held_count after, ap held_count none)

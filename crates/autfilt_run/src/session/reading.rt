@@ -1,9 +1,9 @@
 //! One step: the next stream is opened, or what stands next in the open one is read.
 
-ghost use Rattle.std.specs.Prelude.{◌≡◌, All, IfOk, None, OnErr, OnOk, false, length, true};
+ghost use Rattle.std.specs.Prelude.{◌≡◌, All, None, false, length, true};
 ghost use Rattle.aut_io.specs.Seen.{SinkSeen};
 ghost use Rattle.autfilt_run.specs.Plans.{streams_of};
-ghost use Rattle.autfilt_run.specs.Turns.{Rises, Steps, after, asks, progress};
+ghost use Rattle.autfilt_run.specs.Turns.{IsStep, asks};
 ghost use Rattle.autfilt_run.specs.declared.session.Stage.{Stage};
 ghost use Rattle.autfilt_run.specs.Points.{operands_in};
 ghost use Rattle.filter_plan.specs.Words.{operands};
@@ -34,16 +34,8 @@ impl Session {
         requires stage { self.old.stage ≡ Stage.Over }
         requires all_read { length self.old.operands ≡ length (operands self.old.plan) }
         requires names { All I.may_open (streams_of self.old.plan) }
-        ensures steps { Steps result self.old self.new (I.seen inputs.old) (I.seen inputs.new) (W.seen out.old) (W.seen out.new) }
-        ensures plan { self.new.plan ≡ self.old.plan }
-        ensures operands { self.new.operands ≡ self.old.operands }
-        ensures most { self.new.lexer.most ≡ self.old.lexer.most }
-        ensures rises { IfOk result (λ turn. Rises turn self.old.lexer.taken self.new.lexer.taken) }
+        ensures step { IsStep result self.old self.new (I.seen inputs.old) (I.seen inputs.new) (W.seen out.old) (W.seen out.new) }
         ensures stage { self.new.stage ≡ Stage.Over }
-        ensures progress { IfOk result (λ turn. progress self.new ≡ after turn (progress self.old)) }
-        ensures failed { OnErr result (progress self.new ≡ progress self.old) }
-        ensures spent { OnOk result (self.new.lexer.spent ≡ false) }
-        ensures held { OnOk result (self.new.lexer.held ≡ None) }
         ensures kept { AreKept self.old.plan (operands_in self.old) complements.new }
     {
         if !self.asks_on() {
@@ -75,16 +67,8 @@ impl Session {
         requires stage { self.old.stage ≡ Stage.Over }
         requires all_read { length self.old.operands ≡ length (operands self.old.plan) }
         requires names { All I.may_open (streams_of self.old.plan) }
-        ensures steps { (out : SinkSeen) → Steps result self.old self.new (I.seen inputs.old) (I.seen inputs.new) out out }
-        ensures plan { self.new.plan ≡ self.old.plan }
-        ensures operands { self.new.operands ≡ self.old.operands }
-        ensures most { self.new.lexer.most ≡ self.old.lexer.most }
-        ensures rises { IfOk result (λ turn. Rises turn self.old.lexer.taken self.new.lexer.taken) }
+        ensures step { (out : SinkSeen) → IsStep result self.old self.new (I.seen inputs.old) (I.seen inputs.new) out out }
         ensures stage { self.new.stage ≡ Stage.Over }
-        ensures progress { IfOk result (λ turn. progress self.new ≡ after turn (progress self.old)) }
-        ensures failed { OnErr result (progress self.new ≡ progress self.old) }
-        ensures spent { OnOk result (self.new.lexer.spent ≡ false) }
-        ensures held { OnOk result (self.new.lexer.held ≡ None) }
     {
         if self.opened == stream_count(&self.plan) {
             return Ok(Turn::Done);
@@ -112,16 +96,8 @@ impl Session {
         requires held { self.old.lexer.held ≡ None }
         requires stage { self.old.stage ≡ Stage.Over }
         requires all_read { length self.old.operands ≡ length (operands self.old.plan) }
-        ensures steps { Steps result self.old self.new (I.seen inputs.old) (I.seen inputs.new) (W.seen out.old) (W.seen out.new) }
-        ensures plan { self.new.plan ≡ self.old.plan }
-        ensures operands { self.new.operands ≡ self.old.operands }
-        ensures most { self.new.lexer.most ≡ self.old.lexer.most }
-        ensures rises { IfOk result (λ turn. Rises turn self.old.lexer.taken self.new.lexer.taken) }
+        ensures step { IsStep result self.old self.new (I.seen inputs.old) (I.seen inputs.new) (W.seen out.old) (W.seen out.new) }
         ensures stage { self.new.stage ≡ Stage.Over }
-        ensures progress { IfOk result (λ turn. progress self.new ≡ after turn (progress self.old)) }
-        ensures failed { OnErr result (progress self.new ≡ progress self.old) }
-        ensures spent { OnOk result (self.new.lexer.spent ≡ false) }
-        ensures held { OnOk result (self.new.lexer.held ≡ None) }
         ensures kept { AreKept self.old.plan (operands_in self.old) complements.new }
     {
         match read_raw(alloc, &mut self.lexer, inputs)? {
