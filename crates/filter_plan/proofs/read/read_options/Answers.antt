@@ -1,12 +1,12 @@
-use Rattle.std.proofs.Common.{List, codes, refl, rules}
+use Rattle.std.proofs.Common.{◌≡◌, ℕ, List, Some, codes, refl, rules}
 use Rattle.aut_base.proofs.Outcomes.{passed_on}
 use Rattle.clap.specs.Words.{Row}
-use Rattle.filter_plan.proofs.TableRows.{given}
-use Rattle.filter_plan.specs.Table.{EachGives, File, Format, FormFlag, Hiding, MadeCount, Number, Span, Stream, Word, figures, refuted, table}
+use Rattle.filter_plan.proofs.TableRows.{given, place_in}
+use Rattle.filter_plan.specs.Table.{EachGives, File, Format, FormFlag, Gives, Hiding, MadeCount, Number, Place, Span, Stream, Word, figures, refuted, table, values_of}
 use Rattle.filter_plan.specs.declared.plan.Form.TheVariants.{Deterministic, Parity, Buchi, RemoveFin, Dnf, Monitor}
 use Rattle.filter_plan.specs.declared.plan.Plan.{Plan}
 use Rattle.filter_plan.specs.inner.Forms.{IsForm}
-use Rattle.filter_plan.specs.inner.Given.{operands_of}
+use Rattle.filter_plan.specs.inner.Given.{IsGiven, operands_of}
 use Rattle.filter_plan.specs.inner.Groups.{AreOperands}
 use Rattle.filter_plan.specs.inner.Outputs.{IsOutput}
 use Rattle.filter_plan.proofs.read.read_options.Goals as goal
@@ -44,6 +44,10 @@ output_given rows p is = record {
 
 -- ---- no plan
 
+-- what the row of this option gives a plan
+field : (rows : List Row) (p : Plan) → IsGiven rows p → (name : List ℕ) (place : Place) → place_in table name ≡ Some place → Gives place (values_of name rows) p
+field rows p is = given rows p is.options
+
 pub returns-in_err-form-clause-usage : goal.returns-in_err-form-clause-usage
 unfolding table
 returns-in_err-form-clause-usage c passed p is = c.in_err-form.ensures.usage (passed_on _ _ _ c.from_residual.ensures.1 passed) p.form (form_given _ p is.options)
@@ -51,36 +55,36 @@ returns-in_err-form-clause-usage c passed p is = c.in_err-form.ensures.usage (pa
 pub returns-in_err-states-clause-usage : goal.returns-in_err-states-clause-usage
 unfolding table
 returns-in_err-states-clause-usage c passed p is = c.in_err-states.ensures.usage (passed_on _ _ _ c.from_residual-in_err-states.ensures.1 passed) p.states
-    (given _ p is.options (codes "states") (Span (λ x. x.states)) refl)
+    (field _ p is (codes "states") (Span (λ x. x.states)) refl)
 
 pub returns-in_err-edges-clause-usage : goal.returns-in_err-edges-clause-usage
 unfolding table
 returns-in_err-edges-clause-usage c passed p is = c.in_err-edges.ensures.usage (passed_on _ _ _ c.from_residual-in_err-edges.ensures.1 passed) p.edges
-    (given _ p is.options (codes "edges") (Span (λ x. x.edges)) refl)
+    (field _ p is (codes "edges") (Span (λ x. x.edges)) refl)
 
 pub returns-in_err-acc_sets-clause-usage : goal.returns-in_err-acc_sets-clause-usage
 unfolding table
 returns-in_err-acc_sets-clause-usage c passed p is = c.in_err-acc_sets.ensures.usage (passed_on _ _ _ c.from_residual-in_err-acc_sets.ensures.1 passed) p.acc_sets
-    (given _ p is.options (codes "acc-sets") (Span (λ x. x.acc_sets)) refl)
+    (field _ p is (codes "acc-sets") (Span (λ x. x.acc_sets)) refl)
 
 pub returns-in_err-ap-clause-usage : goal.returns-in_err-ap-clause-usage
 unfolding table
 returns-in_err-ap-clause-usage c passed p is = c.in_err-ap.ensures.usage (passed_on _ _ _ c.from_residual-in_err-ap.ensures.1 passed) p.ap
-    (given _ p is.options (codes "ap") (Span (λ x. x.ap)) refl)
+    (field _ p is (codes "ap") (Span (λ x. x.ap)) refl)
 
 pub returns-in_err-most-clause-usage : goal.returns-in_err-most-clause-usage
 unfolding table
 returns-in_err-most-clause-usage c passed p is = c.in_err-most.ensures.usage (passed_on _ _ _ c.from_residual-in_err-most.ensures.1 passed) p.most
-    (given _ p is.options (codes "max-count") (Number (λ x. x.most)) refl)
+    (field _ p is (codes "max-count") (Number (λ x. x.most)) refl)
 
 pub returns-in_err-made-clause-usage : goal.returns-in_err-made-clause-usage
 unfolding table
 returns-in_err-made-clause-usage c passed p is = c.in_err-made.ensures.usage (passed_on _ _ _ c.from_residual-in_err-made.ensures.1 passed) p.made
-    (given _ p is.options (codes "made") (MadeCount (λ x. x.made)) refl)
+    (field _ p is (codes "made") (MadeCount (λ x. x.made)) refl)
 
 pub returns-in_err-streams-clause-usage : goal.returns-in_err-streams-clause-usage
 unfolding table
-returns-in_err-streams-clause-usage c passed p is = c.in_err-streams.ensures.usage (passed_on _ _ _ c.from_residual-in_err-streams.ensures.1 passed) (given _ p is.options (codes "file") Stream refl)
+returns-in_err-streams-clause-usage c passed p is = c.in_err-streams.ensures.usage (passed_on _ _ _ c.from_residual-in_err-streams.ensures.1 passed) (field _ p is (codes "file") Stream refl)
 
 pub returns-in_err-output-clause-usage : goal.returns-in_err-output-clause-usage
 unfolding table
@@ -89,17 +93,17 @@ returns-in_err-output-clause-usage c passed p is = c.in_err-output.ensures.usage
 pub returns-in_err-remove_ap-clause-usage : goal.returns-in_err-remove_ap-clause-usage
 unfolding table
 returns-in_err-remove_ap-clause-usage c passed p is = c.in_err-remove_ap.ensures.usage (passed_on _ _ _ c.from_residual-in_err-remove_ap.ensures.1 passed) p.remove_ap
-    (given _ p is.options (codes "remove-ap") (Hiding (λ x. x.remove_ap)) refl)
+    (field _ p is (codes "remove-ap") (Hiding (λ x. x.remove_ap)) refl)
 
 pub returns-in_err-accept_word-clause-usage : goal.returns-in_err-accept_word-clause-usage
 unfolding table
 returns-in_err-accept_word-clause-usage c passed p is = c.in_err-accept_word.ensures.usage (passed_on _ _ _ c.from_residual-in_err-accept_word.ensures.1 passed) p.accept_word
-    (given _ p is.options (codes "accept-word") (Word (λ x. x.accept_word)) refl)
+    (field _ p is (codes "accept-word") (Word (λ x. x.accept_word)) refl)
 
 pub returns-in_err-reject_word-clause-usage : goal.returns-in_err-reject_word-clause-usage
 unfolding table
 returns-in_err-reject_word-clause-usage c passed p is = c.in_err-reject_word.ensures.usage (passed_on _ _ _ c.from_residual-in_err-reject_word.ensures.1 passed) p.reject_word
-    (given _ p is.options (codes "reject-word") (Word (λ x. x.reject_word)) refl)
+    (field _ p is (codes "reject-word") (Word (λ x. x.reject_word)) refl)
 
 pub returns-in_err-operands-clause-usage : goal.returns-in_err-operands-clause-usage
 unfolding table

@@ -15,7 +15,7 @@ from_parts-requires c =
     let begun = begun_parts m c.as_slice.result.now c.in_ok-made.made.pairs.keys c.in_ok-starts.starts refl c.in_ok-made.ensures.parts c.in_ok-starts.ensures in
     let store = c.twin_ends.new.guards in
     subst (λ n. AreParts (record m { starts = c.in_ok-starts.starts; states = n; store = store })) (sym c.len-states.ensures.len)
-    (grown_parts (record m { starts = c.in_ok-starts.starts }) store c.twin_ends.ensures begun)
+    (grown_parts (record m { starts = c.in_ok-starts.starts }) store c.twin_ends.ensures.keeps begun)
 
 pub returns-clause-parted : goal.returns-clause-parted
 returns-clause-parted c =
@@ -27,7 +27,7 @@ returns-clause-parted c =
     let begin = subst (λ fs. ArePartings fs pairs (length pairs) starts) c.as_slice.ensures.value c.in_ok-starts.ensures in
     let is : c.in_ok-from_parts.field-0 ≡ record m { starts = starts; store = store } =
     c.in_ok-from_parts.ensures ∙ (λ i. record m { starts = starts; states = c.len-states.ensures.len i; store = store }) in
-    subst (IsParted c.args.a.now) (sym (ap automaton_of is ∙ grown_same (record m { starts = starts }) store c.twin_ends.ensures begun)) (record {
+    subst (IsParted c.args.a.now) (sym (ap automaton_of is ∙ grown_same (record m { starts = starts }) store c.twin_ends.ensures.keeps begun)) (record {
       pairs = pairs;
       listed = c.in_ok-made.ensures.pairs;
       pairwise = c.in_ok-made.ensures.accepts;
