@@ -39,14 +39,15 @@ pub(crate) fn handle<W: Sink>(
     ensures kept { AreKept plan.now (map automaton_of operands.now) complements.new }
 {
     let read = automaton_taken(alloc, raw)?;
-    if !judge(alloc, plan, operands, complements, &read.automaton)? {
+    let automaton = read.automaton;
+    let name = read.name;
+    if !judge(alloc, plan, operands, complements, &automaton)? {
         return Ok(false);
     }
     if !prints_each(plan) {
         return Ok(true);
     }
-    let name = read.name.as_ref();
-    let text = printed(alloc, plan, operands, complements, read.automaton, name)?;
+    let text = printed(alloc, plan, operands, complements, automaton, name.as_ref())?;
     match out.write(text.as_bytes()) {
         Ok(()) => Ok(true),
         Err(Failed) => Err(RunFault::WriteFault),

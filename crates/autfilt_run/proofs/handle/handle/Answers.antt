@@ -43,16 +43,16 @@ returns-in_err-text-clause-handles g c =
     let w = written c.args.raw in
     let f = c.in_err-text.field-0.0 in
     hands_on c.from_residual-in_err-text.result (fault_of_plan f) (λ r. Handles r c.args.plan.now ops w o o) c.from_residual-in_err-text.ensures.1
-    (not_printed f c.in_ok-judge.field-0 c.prints_each.result c.args.plan.now ops w (automaton_of c.in_ok-read.read.automaton) (option_copied c.as_ref-name.result) o c.in_ok-read.ensures.0
+    (not_printed f c.in_ok-judge.field-0 c.prints_each.result c.args.plan.now ops w (automaton_of c.in_ok-read.read.automaton) (option_copied c.as_ref.result) o c.in_ok-read.ensures.0
     c.if-not-branch.false c.in_ok-judge.ensures.judged c.prints_each.ensures c.if-not-prints_each.false c.in_err-text.ensures.prints)
 
 pub returns-in-Ok-clause-handles : goal.returns-in-Ok-clause-handles
 returns-in-Ok-clause-handles g c = (
   c.as_bytes.result.now,
   is_wanted c.in_ok-judge.field-0 c.prints_each.result c.args.plan.now (map automaton_of c.args.operands.now) (written c.args.raw) (automaton_of c.in_ok-read.read.automaton)
-      (option_copied c.as_ref-name.result) c.in_ok-text.text c.as_bytes.result.now
+      (option_copied c.as_ref.result) c.in_ok-text.text c.as_bytes.result.now
       c.in_ok-read.ensures.0 c.if-not-branch.false c.in_ok-judge.ensures.judged c.prints_each.ensures c.if-not-prints_each.false c.as_bytes.ensures c.in_ok-text.ensures.prints
-      (c.as_ref-name.ensures.value ∙ c.in_ok-read.ensures.1),
+      (c.as_ref.ensures.value ∙ c.in_ok-read.ensures.1),
   c.in-Ok.ensures.ok,
   c.in-Ok.ensures.calm,
 )
@@ -62,9 +62,9 @@ returns-clause-handles g c = (
   c.as_bytes.result.now,
   sym c.prints_each.ensures ∙ c.if-not-prints_each.false,
   is_wanted c.in_ok-judge.field-0 c.prints_each.result c.args.plan.now (map automaton_of c.args.operands.now) (written c.args.raw) (automaton_of c.in_ok-read.read.automaton)
-      (option_copied c.as_ref-name.result) c.in_ok-text.text c.as_bytes.result.now
+      (option_copied c.as_ref.result) c.in_ok-text.text c.as_bytes.result.now
       c.in_ok-read.ensures.0 c.if-not-branch.false c.in_ok-judge.ensures.judged c.prints_each.ensures c.if-not-prints_each.false c.as_bytes.ensures c.in_ok-text.ensures.prints
-      (c.as_ref-name.ensures.value ∙ c.in_ok-read.ensures.1),
+      (c.as_ref.ensures.value ∙ c.in_ok-read.ensures.1),
   c.in-Err.ensures.err,
   c.in-Err.ensures.failed,
 )
