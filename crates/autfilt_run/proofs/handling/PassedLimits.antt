@@ -12,6 +12,7 @@ use Rattle.autfilt_run.specs.Faults.{Told, AtToken, AtByte, OfWhole, stop_of_fau
 use Rattle.autfilt_run.specs.Over.{IsOver, IsOverPrinting, StopsPrinting}
 use Rattle.autfilt_run.specs.declared.fault.RunFault.TheVariants as fault
 use Rattle.filter_plan.specs.declared.plan.Form.{Form}
+use Rattle.filter_plan.specs.declared.plan.Form.TheVariants as form
 use Rattle.filter_plan.specs.declared.plan.Output.{Output}
 use Rattle.filter_plan.specs.declared.plan.Output.TheVariants.{Hoa, Stats, Refute}
 use Rattle.filter_plan.specs.declared.plan.Plan.{Plan}
@@ -24,6 +25,7 @@ use Rattle.hoa_reader.specs.inner.Gathered.{limit_of}
 use Rattle.plan_meaning.proofs.OwnLimits.{only_own_limits}
 use Rattle.plan_meaning.specs.Changes as change
 use Rattle.plan_meaning.specs.Changes.{Change, StopsIn, changes_of, limits_of_change, limits_of_form}
+use Rattle.plan_meaning.specs.Filters as filter
 use Rattle.plan_meaning.specs.Filters.{Filter, IsOverFilters, limits_of_filter}
 use Rattle.plan_meaning.specs.Limits.{PassesOfInclusion, limits_of_inclusion}
 use Rattle.plan_meaning.specs.Operands.{refuted_operand}
@@ -76,9 +78,11 @@ one_of : (limits : List Limit) (which : Limit) → AreOfWhole limits → Contain
 one_of limits which all h = whole_is (when_told which) (All-contains (λ x. told_whole x ≡ true) limits which (AllPass-from_list_all told_whole limits all) h)
 
 of_filter : (f : Filter) → AreOfWhole (limits_of_filter f)
+of_filter filter.IsEmpty = refl
 of_filter _ = refl
 
 of_form : (f : Form) → AreOfWhole (limits_of_form f)
+of_form form.AsIs = refl
 of_form _ = refl
 
 of_change : (c : Change) → AreOfWhole (limits_of_change c)

@@ -3,22 +3,31 @@ use Rattle.aut_base.proofs.Outcomes.{told_fault}
 use Rattle.aut_base.specs.declared.limit.TheConstants.{MOST_TREES}
 use Rattle.aut_core.proofs.Growth.{keeps_none}
 use Rattle.aut_core.specs.Core.{Core, IsCore, automaton_of}
-use Rattle.exploration.specs.Explorations.{IsSound}
+use Rattle.exploration.specs.Explorations.{IsSound, arrow_of}
+use Rattle.exploration.specs.Reached.{IsExplored}
+use Rattle.exploration.specs.Turns.{EndsWith}
 use Rattle.exploration.specs.declared.fault.Fault.{Fault}
 use Rattle.exploration.specs.declared.fault.Fault.TheVariants as limit
 use Rattle.label_guards.specs.Store.{Keeps, Store}
 use Rattle.letter_classes.specs.SetClasses.{FitsStore, IsClassGuard}
-use Rattle.parity_det.specs.inner.Systems.{IsClassEvent}
-use Rattle.parity_det.specs.inner.Systems.{MeetsFirst}
+use Rattle.parity_det.specs.Determinisation.{start_tree, tree_moves, tree_rules}
+use Rattle.parity_det.specs.inner.Systems.{IsClassEvent, MeetsFirst}
 use Rattle.parity_det.proofs.Refused.{classes_fault, met_first, nodes_fault, trees_fault}
-use Rattle.safra_trees.specs.Trees.{first_tree, root_states}
+use Rattle.safra_trees.specs.Same.{same_nodes}
+use Rattle.safra_trees.specs.Trees.{Node, first_tree, root_states}
 use Rattle.safra_trees.specs.View.{tree_of}
-use Rattle.parity_det.proofs.form.tree_form.Goals.{In_err-found}
+use Rattle.parity_det.proofs.form.tree_form.Goals.{In_err-found, In_ok-first}
 use Rattle.parity_det.proofs.form.tree_form.Goals as goal
 
 -- the starts are states
 starts_below : (b : Core) → IsCore b → (starts : List ℕ) → starts ≡ b.starts → All (λ s. s < b.states) starts
 starts_below b is starts same = subst (λ xs. All (λ s. s < b.states) xs) (sym same) is.well_formed.starts
+
+pub explore-requires-clause-fits : goal.explore-requires-clause-fits
+explore-requires-clause-fits c = record {
+  states = c.in_ok-first.ensures.states c.args.b.now.states (starts_below c.args.b.now c.whole.ensures c.starts.result.now c.starts.ensures);
+  keeps = subst (Keeps c.args.b.now.store) (sym (c.new-store.ensures ∙ (c.in_ok-copy.ensures ∙ c.guards.ensures))) (keeps_none c.args.b.now.store);
+}
 
 pub built-requires-clause-keeps : goal.built-requires-clause-keeps
 built-requires-clause-keeps c =
@@ -29,6 +38,30 @@ built-requires-clause-keeps c =
     } in
     let kept : FitsStore c.explore.new.system.automaton.now c.explore.new.system.guards (root_states first) = c.in_ok-found.ensures.keeps.fits first fits in
     subst (Keeps c.args.b.now.store) (sym c.into_guards.ensures) (subst (λ (core : Core). Keeps core.store c.explore.new.system.guards) c.in_ok-found.ensures.frame kept.keeps)
+
+-- the first tree is that of the automaton
+started : (c : In_ok-first) → tree_of c.in_ok-first.first ≡ start_tree (automaton_of c.args.b.now)
+started c =
+    let b = c.args.b.now in
+    c.in_ok-first.ensures.tree b.states (starts_below b c.whole.ensures c.starts.result.now c.starts.ensures) ∙ ap (first_tree b.states) c.starts.ensures
+
+pub built-requires-clause-explored : goal.built-requires-clause-explored
+built-requires-clause-explored c =
+    let found = c.in_ok-found.found in
+    subst (λ (t : List Node). IsExplored same_nodes (tree_moves (automaton_of c.args.b.now)) t (map tree_of found.things.keys) (map arrow_of found.edges.items))
+    (started (goal.at.built-requires-clause-explored c).In_ok-first) c.in_ok-found.ensures.explored
+
+pub returns-clause-shape : goal.returns-clause-shape
+returns-clause-shape c =
+    let b = automaton_of c.args.b.now in
+    let found = c.in_ok-found.found in
+    record {
+      trees = map tree_of found.things.keys;
+      arrows = map arrow_of found.edges.items;
+      explored = subst (λ (t : List Node). EndsWith (tree_rules b) t (map tree_of found.things.keys) (map arrow_of found.edges.items)) (started (goal.at.returns-clause-shape c).In_ok-first)
+          c.in_ok-found.ensures.ends;
+      is = c.in_ok-built.ensures.is;
+    }
 
 pub built-requires-clause-sound : goal.built-requires-clause-sound
 built-requires-clause-sound c =
@@ -44,8 +77,7 @@ built-requires-clause-sound c =
 met : (c : In_err-found) (wanted : Fault) → c.in_err-found.field-0.0 ≡ wanted → (wanted ≡ limit.Memory → ⊥) → MeetsFirst (automaton_of c.args.b.now) wanted
 met c wanted is other =
     let b = c.args.b.now in
-    let started = c.in_ok-first.ensures.tree b.states (starts_below b c.whole.ensures c.starts.result.now c.starts.ensures) ∙ ap (first_tree b.states) c.starts.ensures in
-    met_first (automaton_of b) (tree_of c.in_ok-first.first) c.in_err-found.field-0.0 wanted started c.in_err-found.ensures.meets is other
+    met_first (automaton_of b) (tree_of c.in_ok-first.first) c.in_err-found.field-0.0 wanted (started (goal.at.In_err-found c).In_ok-first) c.in_err-found.ensures.meets is other
 
 pub returns-in_err-found-clause-trees : goal.returns-in_err-found-clause-trees
 returns-in_err-found-clause-trees c = λ is. met (goal.at.returns-in_err-found-clause-trees c).In_err-found limit.Things
