@@ -9,7 +9,8 @@ use Rattle.plan_meaning.proofs.changing.list.make.Goals as goal
 before : (x y : coded.Change) → x ≡ y → (a : Automaton) → IsOfSizeBefore (change_of x) a → IsOfSizeBefore (change_of y) a
 before x y is a = subst (λ (z : coded.Change). IsOfSizeBefore (change_of z) a) is
 
-behind : {E : Type 0} (x y : coded.Change) → x ≡ y → (r : Result Core E) → IfOk r (λ made. IsOfSizeBehind (change_of y) (automaton_of made)) → IfOk r (λ made. IsOfSizeBehind (change_of x) (automaton_of made))
+behind : {E : Type 0} (x y : coded.Change) → x ≡ y → (r : Result Core E) → IfOk r (λ made. IsOfSizeBehind (change_of y) (automaton_of made))
+    → IfOk r (λ made. IsOfSizeBehind (change_of x) (automaton_of made))
 behind x y is r = subst (λ (z : coded.Change). IfOk r (λ made. IsOfSizeBehind (change_of z) (automaton_of made))) (sym is)
 
 pub product_with-requires-clause-size : goal.product_with-requires-clause-size
