@@ -1,13 +1,14 @@
 //! Bytes of a reader, which are read by blocks.
 
 ghost use Rattle.std.specs.Prelude.{◌≡◌, ◌≢◌, ◌≤◌, ◌<◌, ◌∷◌, [], None, drop, length, IfErr, IfOk, OnErr, OnOk};
-ghost use Rattle.std.specs.IoError.{error_kind};
 ghost use Rattle.std.specs.Io.KnownBytes.{Consumes, IsAtEnd, Keeps, prepend_known};
+ghost use Rattle.aut_io.specs.Outside.{Rose};
 ghost use Rattle.real_io.specs.Unread.{GivesFirst, held};
 
+use crate::refusals::Refusals;
 use aut_base::{Failed, Memory};
 use std::alloc::Global;
-use std::io::{self, ErrorKind, Read};
+use std::io::{ErrorKind, Read};
 use std::marker::Model;
 
 /// How many bytes are read at once.
@@ -56,14 +57,21 @@ impl Block {
     /// The next byte, or `None` at the end of the reader: the first of those that the block still holds, followed by
     /// those that the reader has left.
     #[inline(always)]
-    pub(crate) fn next<R: Read>(&mut self, reader: &mut R) -> Result<Option<u8>, Failed>
+    pub(crate) fn next<R: Read>(
+        &mut self,
+        reader: &mut R,
+        refusals: &mut Refusals,
+    ) -> Result<Option<u8>, Failed>
         ensures gives { GivesFirst (prepend_known self.old (R.remaining reader.old)) (prepend_known self.new (R.remaining reader.new)) result }
         ensures end { IfOk result (λ byte. byte ≡ None → self.new ≡ []) }
+        ensures failed { OnErr result (Rose refusals.old refusals.new) }
+        ensures calm { OnOk result (refusals.new ≡ refusals.old) }
+        ensures later { refusals.old ≤ refusals.new }
     {
         if self.place < self.end {
             return Ok(Some(self.give()));
         }
-        self.fill(reader)?;
+        self.fill(reader, refusals)?;
         if self.place == self.end {
             return Ok(None);
         }
@@ -101,16 +109,19 @@ impl Block {
     /// Reads the next block. It holds nothing only at the end of the reader.
     #[cold]
     #[inline(never)]
-    fn fill<R: Read>(&mut self, reader: &mut R) -> Result<(), Failed>
+    fn fill<R: Read>(&mut self, reader: &mut R, refusals: &mut Refusals) -> Result<(), Failed>
         requires { self.old ≡ [] }
         ensures takes { OnOk result (Consumes (R.remaining reader.old) (R.remaining reader.new) self.new) }
         ensures end { OnOk result (self.new ≡ [] → IsAtEnd (R.remaining reader.new)) }
         ensures keeps { OnErr result (Keeps (R.remaining reader.old) (R.remaining reader.new)) }
         ensures empty { OnErr result (self.new ≡ []) }
+        ensures failed { OnErr result (Rose refusals.old refusals.new) }
+        ensures calm { OnOk result (refusals.new ≡ refusals.old) }
+        ensures later { refusals.old ≤ refusals.new }
     {
         self.place = 0;
         self.end = 0;
-        match read_block(reader, &mut self.bytes) {
+        match read_block(reader, refusals, &mut self.bytes) {
             Ok(count) => {
                 self.end = count;
                 Ok(())
@@ -123,24 +134,28 @@ impl Block {
 /// Reads into the block, once more where a signal came between, and answers how many bytes were read. The turns are counted so
 /// that the loop is proved to end.
 #[cold]
-fn read_block<R: Read>(reader: &mut R, block: &mut [u8]) -> io::Result<usize>
+fn read_block<R: Read>(
+    reader: &mut R,
+    refusals: &mut Refusals,
+    block: &mut [u8],
+) -> Result<usize, ErrorKind>
     requires { 0 < length block.old }
     ensures size { length block.new ≡ length block.old }
     ensures within { IfOk result (λ count. count ≤ length block.new) }
     ensures takes { IfOk result (λ count. Consumes (R.remaining reader.old) (R.remaining reader.new) (held block.new 0 count)) }
     ensures end { IfOk result (λ count. count ≡ 0 → IsAtEnd (R.remaining reader.new)) }
     ensures keeps { OnErr result (Keeps (R.remaining reader.old) (R.remaining reader.new)) }
-    ensures retried { IfErr result (λ error. error_kind error ≢ ErrorKind.Interrupted) }
+    ensures retried { IfErr result (λ kind. kind ≢ ErrorKind.Interrupted) }
+    ensures failed { OnErr result (Rose refusals.old refusals.new) }
+    ensures calm { OnOk result (refusals.new ≡ refusals.old) }
+    ensures later { refusals.old ≤ refusals.new }
 {
-    'tries: for _ in 0..u64::MAX {
-        match reader.read(block) {
-            Ok(count) => return Ok(count),
-            Err(error) => {
-                if error.kind() != ErrorKind::Interrupted {
-                    return Err(error);
-                }
-            }
+    let mut turns = 0;
+    'tries: while turns < u64::MAX {
+        match refusals.read(reader, block)? {
+            Some(count) => return Ok(count),
+            None => turns += 1,
         }
     }
-    Err(io::Error::from(ErrorKind::TimedOut))
+    Err(refusals.give_up(turns))
 }

@@ -10,6 +10,7 @@ ghost use Rattle.real_io.specs.Unread.{GivesFirst};
 
 use crate::block::Block;
 use crate::opener::Opener;
+use crate::refusals::Refusals;
 use aut_base::{Failed, Memory, OpenFail, Text};
 use aut_io::Inputs;
 use std::alloc::Global;
@@ -37,7 +38,7 @@ pub struct RealInputs<R, O: Opener> {
     block: Block,
     openings: u64,
     open_faults: u64,
-    read_faults: u64,
+    read_faults: Refusals,
 }
 
 impl<R: Read + Drop, O: Opener + Drop> RealInputs<R, O> {
@@ -55,7 +56,7 @@ impl<R: Read + Drop, O: Opener + Drop> RealInputs<R, O> {
             block: Block::new(alloc)?,
             openings: 0,
             open_faults: 0,
-            read_faults: 0,
+            read_faults: Refusals::new(),
         })
     }
 }
@@ -125,8 +126,8 @@ impl<R: Read + Drop, O: Opener + Drop> Inputs for RealInputs<R, O> {
     {
         let read = match &mut self.origin {
             Origin::Nothing => return Ok(None),
-            Origin::Standard => self.block.next(&mut self.standard),
-            Origin::File(file) => self.block.next(file),
+            Origin::Standard => self.block.next(&mut self.standard, &mut self.read_faults),
+            Origin::File(file) => self.block.next(file, &mut self.read_faults),
         };
         match read {
             Ok(Some(byte)) => Ok(Some(byte)),
@@ -134,10 +135,7 @@ impl<R: Read + Drop, O: Opener + Drop> Inputs for RealInputs<R, O> {
                 self.origin = Origin::Nothing;
                 Ok(None)
             }
-            Err(fault) => {
-                self.read_faults = self.read_faults.saturating_add(1);
-                Err(fault)
-            }
+            Err(fault) => Err(fault),
         }
     }
 

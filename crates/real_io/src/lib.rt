@@ -7,6 +7,7 @@
 mod block;
 mod inputs;
 mod opener;
+mod refusals;
 mod sink;
 
 pub use inputs::RealInputs;

@@ -1,20 +1,21 @@
 //! A sink over a writer.
 
 ghost use Rattle.std.specs.Prelude.{◌≡◌, ◌≢◌, ◌≤◌, [], IfErr, None, OnErr, OnOk, length, take};
-ghost use Rattle.std.specs.IoError.{error_kind};
 ghost use Rattle.std.specs.Io.KnownBytes.{Appends};
+ghost use Rattle.aut_io.specs.Outside.{Rose};
 ghost use Rattle.aut_io.specs.Seen.{Writes};
 ghost use Rattle.real_io.specs.Sent.{AppendsFront};
 
+use crate::refusals::Refusals;
 use aut_base::Failed;
 use aut_io::Sink;
-use std::io::{self, ErrorKind, Write};
+use std::io::{ErrorKind, Write};
 
 /// Writes each piece at once, by as many calls of the system as it takes.
 #[derive(Drop)]
 pub struct RealSink<W> {
     writer: W,
-    faults: u64,
+    faults: Refusals,
 }
 
 impl<W> RealSink<W> {
@@ -23,7 +24,10 @@ impl<W> RealSink<W> {
         ensures writer { result.writer ≡ writer }
         ensures faults { result.faults ≡ 0 }
     {
-        RealSink { writer, faults: 0 }
+        RealSink {
+            writer,
+            faults: Refusals::new(),
+        }
     }
 }
 
@@ -43,39 +47,39 @@ impl<W: Write> Sink for RealSink<W> {
         if piece.is_empty() {
             return Ok(());
         }
-        match send(&mut self.writer, piece) {
+        match send(&mut self.writer, &mut self.faults, piece) {
             (_, Ok(())) => Ok(()),
-            (_, Err(_)) => {
-                self.faults = self.faults.saturating_add(1);
-                Err(Failed)
-            }
+            (_, Err(_)) => Err(Failed),
         }
     }
 }
 
 /// Writes the bytes by as many calls as it takes, once more where a signal came between, and answers how many the writer took.
-/// A writer that takes none of them has failed, as for std's `write_all`, which doesn't say what it took before it failed. The
-/// turns are counted so that the loop is proved to end.
-fn send<W: Write>(writer: &mut W, bytes: &[u8]) -> (usize, io::Result<()>)
+/// (std's `write_all` doesn't say what it took before it failed.) The turns are counted so that the loop is proved to end.
+fn send<W: Write>(
+    writer: &mut W,
+    refusals: &mut Refusals,
+    bytes: &[u8],
+) -> (usize, Result<(), ErrorKind>)
     ensures bound { result.0 ≤ length bytes.now }
     ensures taken { Appends (W.contents writer.old) (W.contents writer.new) (take result.0 bytes.now) }
     ensures all { OnOk result.1 (result.0 ≡ length bytes.now) }
-    ensures retried { IfErr result.1 (λ error. error_kind error ≢ ErrorKind.Interrupted) }
+    ensures retried { IfErr result.1 (λ kind. kind ≢ ErrorKind.Interrupted) }
+    ensures failed { OnErr result.1 (Rose refusals.old refusals.new) }
+    ensures calm { OnOk result.1 (refusals.new ≡ refusals.old) }
+    ensures later { refusals.old ≤ refusals.new }
 {
     let mut sent = 0;
-    'writes: for _ in 0..u64::MAX {
+    let mut turns = 0;
+    'writes: while turns < u64::MAX {
         if sent >= bytes.len() {
             return (sent, Ok(()));
         }
-        match writer.write(&bytes[sent..]) {
-            Ok(0) => return (sent, Err(io::Error::from(ErrorKind::WriteZero))),
+        match refusals.write(writer, &bytes[sent..]) {
             Ok(count) => sent += count,
-            Err(error) => {
-                if error.kind() != ErrorKind::Interrupted {
-                    return (sent, Err(error));
-                }
-            }
+            Err(kind) => return (sent, Err(kind)),
         }
+        turns += 1;
     }
-    (sent, Err(io::Error::from(ErrorKind::TimedOut)))
+    (sent, Err(refusals.give_up(turns)))
 }
