@@ -22,6 +22,9 @@ pub record Runs (words : List (List ℕ)) (code : ExitCode) (seen seen' : Seen) 
   pub run : EndsBy words answer seen seen' out out' notes notes'
   pub causes : EndsBecause answer seen seen' out out'
   pub usage : answer ≡ ended.Usage → AreRefused words
+  -- Words that are no plan are refused, and nothing is opened, read or written then.
+  pub refused : AreRefused words → (answer ≡ ended.Usage) ⊎ (answer ≡ ended.Memory)
+  pub untouched : AreRefused words → (seen' ≡ seen) × (out' ≡ out)
 
 -- No run began: nothing was opened, read or written, but for the line that says why.
 pub record Refuses (why : End) (code : ExitCode) (seen seen' : Seen) (out out' notes notes' : SinkSeen) : Type 0 where

@@ -18,4 +18,6 @@ returns-in-Ok-clause-ran g c =
       run = c.autfilt.ensures.run;
       causes = c.autfilt.ensures.causes;
       usage = c.autfilt.ensures.usage;
+      refused = c.autfilt.ensures.refused;
+      untouched = c.autfilt.ensures.untouched;
     }))
