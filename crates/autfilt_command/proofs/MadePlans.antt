@@ -2,7 +2,7 @@
 use Rattle.std.proofs.Common.{◌≡◌, ℕ, ◌≤◌, List, [], ◌∷◌, Option, Some, codes, refl, subst}
 use Rattle.filter_plan.proofs.TableRows.{given}
 use Rattle.filter_plan.specs.Numbers.{IsMadeCount}
-use Rattle.filter_plan.specs.Table.{MadeCount, Reads, table}
+use Rattle.filter_plan.specs.Table.{EachGives, MadeCount, Reads, table, values_of}
 use Rattle.filter_plan.specs.Words.{IsPlan}
 use Rattle.filter_plan.specs.declared.plan.Plan.{Plan}
 
@@ -14,6 +14,10 @@ read_of (value ∷ other ∷ values) n h = absurd h
 read_as : (values : List (List ℕ)) (o : Option ℕ) (n : ℕ) → Reads IsMadeCount values o → o ≡ Some n → (1 ≤ n) × (n ≤ 10000)
 read_as values o n h is = read_of values n (subst (λ (x : Option ℕ). Reads IsMadeCount values x) is h)
 
-pub made_within : (words : List (List ℕ)) (p : Plan) (n : ℕ) → IsPlan words p → p.made ≡ Some n → (1 ≤ n) × (n ≤ 10000)
+-- what its row gives a plan
+of_row : (rows : _) (p : Plan) → EachGives table rows p → Reads IsMadeCount (values_of (codes "made") rows) p.made
 unfolding table
-made_within words p n plan is = read_as _ p.made n (given _ p plan.options (codes "made") (MadeCount (λ x. x.made)) refl) is
+of_row rows p gives = given rows p gives (codes "made") (MadeCount (λ x. x.made)) refl
+
+pub made_within : (words : List (List ℕ)) (p : Plan) (n : ℕ) → IsPlan words p → p.made ≡ Some n → (1 ≤ n) × (n ≤ 10000)
+made_within words p n plan is = read_as _ p.made n (of_row _ p plan.options) is
